@@ -1,0 +1,79 @@
+//! Laws of meeting and of motion. Each is the contract of a function that does nothing.
+
+ghost use Rattle.std.specs.Prelude.{ℕ, Bool, ◌≡◌, ◌<◌, ◌↔◌, IsTrue};
+ghost use Rattle.grid_base.specs.declared.grid.Point.{Point};
+ghost use Rattle.grid_base.specs.declared.grid.Shift.{Shift};
+ghost use Rattle.grid_base.specs.declared.TheConstants.{BOX, SHIFT_MAX};
+ghost use Rattle.grid_base.specs.Triples.{Triple, IsWithin};
+ghost use Rattle.grid_base.specs.Points.{position_of, displacement_of, point_at, shift_by};
+ghost use Rattle.grid_base.specs.Meeting.{Positions, MeetAt};
+ghost use Rattle.grid_base.specs.Motion.{NeverMeet, NeverMeetAfterStart, NeverMeetBeforeEnd};
+ghost use Rattle.grid_base.specs.Separation.{IsBelow, MoveTogether, AreSeparated, Passes, Opens, Closes, multiple};
+ghost use Rattle.grid_base.specs.SeparationTests.{IsExact, are_separated, passes, opens, closes};
+
+/// A point is at its position; the position of a point within the box is the one asked for.
+pub fn points_are_positions()
+    ensures of_point { (p : Point) → point_at (position_of p) ≡ p }
+    ensures within { (t : Triple) → IsWithin BOX t → position_of (point_at t) ≡ t }
+{}
+
+/// A shift is by its displacement; the displacement of a shift within its limit is the one asked for.
+pub fn shifts_are_displacements()
+    ensures of_shift { (s : Shift) → shift_by (displacement_of s) ≡ s }
+    ensures within { (t : Triple) → IsWithin SHIFT_MAX t → displacement_of (shift_by t) ≡ t }
+{}
+
+/// A direction that has both ends of an edge below all corners of a triangle keeps them from meeting.
+pub fn below_never_meets()
+    ensures { (n : Triple) (f : Positions) → IsBelow n f → ¬ (MeetAt f) }
+{}
+
+/// Positions multiplied by one positive number meet exactly where they meet before.
+pub fn multiples_meet_alike()
+    ensures { (n : ℕ) (f : Positions) → 0 < n → (MeetAt (multiple n f) ↔ MeetAt f) }
+{}
+
+/// Positions that move together and do not meet at the start meet at no fraction.
+pub fn together_never_meets()
+    ensures { (s t : Positions) → MoveTogether s t → ¬ (MeetAt s) → NeverMeet s t }
+{}
+
+/// A separated pair meets at no fraction.
+pub fn separated_never_meets()
+    ensures { (depth : ℕ) (s t : Positions) → AreSeparated depth s t → NeverMeet s t }
+{}
+
+/// A pair that passes meets at no fraction.
+pub fn passing_never_meets()
+    ensures { (depth : ℕ) (s t : Positions) → Passes depth s t → NeverMeet s t }
+{}
+
+/// A pair that opens meets at no fraction above zero.
+pub fn opening_never_meets_after_start()
+    ensures { (depth : ℕ) (s t : Positions) → Opens depth s t → NeverMeetAfterStart s t }
+{}
+
+/// A pair that closes meets at no fraction below one.
+pub fn closing_never_meets_before_end()
+    ensures { (depth : ℕ) (s t : Positions) → Closes depth s t → NeverMeetBeforeEnd s t }
+{}
+
+/// The test of separation is true exactly where the definition holds.
+pub fn separation_is_tested()
+    ensures { (depth : ℕ) (s t : Positions) → (IsTrue (are_separated depth s t) ↔ AreSeparated depth s t) }
+{}
+
+/// The test of passing is true exactly where the definition holds, by any exact test of meeting.
+pub fn passing_is_tested()
+    ensures { (meets : Positions → Bool) → IsExact meets → (depth : ℕ) (s t : Positions) → (IsTrue (passes meets depth s t) ↔ Passes depth s t) }
+{}
+
+/// The test of opening is true exactly where the definition holds.
+pub fn opening_is_tested()
+    ensures { (depth : ℕ) (s t : Positions) → (IsTrue (opens depth s t) ↔ Opens depth s t) }
+{}
+
+/// The test of closing is true exactly where the definition holds.
+pub fn closing_is_tested()
+    ensures { (depth : ℕ) (s t : Positions) → (IsTrue (closes depth s t) ↔ Closes depth s t) }
+{}

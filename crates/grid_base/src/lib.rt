@@ -1,0 +1,48 @@
+//! Points and shifts on the integer grid, wide vectors, and the definitions of meeting and of motion.
+#![tactic(auto)]
+
+mod grid;
+pub mod laws;
+mod memory;
+mod moving;
+mod pair_positions;
+mod vector;
+
+pub use grid::{Point, Shift};
+pub use memory::NoMemory;
+pub use moving::{floor_mid, halved, moved};
+pub use pair_positions::Positions;
+pub use vector::{Wide, orient};
+
+/// The greatest size of a point's coordinate.
+pub const BOX: u32 = 67_108_864;
+/// The greatest size of a shift's component.
+pub const SHIFT_MAX: u32 = 134_217_728;
+/// The greatest size of a position in half units.
+pub const HALF_MAX: u32 = 134_217_728;
+/// The greatest size of a corner of an extent, in half units.
+pub const EXTENT_MAX: u32 = 268_435_456;
+/// The greatest length that a pass over edges may be given.
+pub const LENGTH_MAX: u32 = 268_435_456;
+/// The greatest depth of time halving.
+pub const DEPTH_MAX: u8 = 12;
+/// The greatest number of halvings of a shift. That many leave nothing of the greatest one but its sign.
+pub const HALVINGS_MAX: u8 = 27;
+
+/// The greatest number of live vertices.
+pub const VERTICES_MAX: u32 = 65_536;
+/// The greatest number of live faces.
+pub const FACES_MAX: u32 = 131_072;
+/// The greatest id of a vertex or a face.
+pub const ID_MAX: u32 = 2_147_483_648;
+/// The greatest length of a text in bytes.
+pub const TEXT_MAX: usize = 67_108_864;
+
+/// The greatest size of a position that time halving makes.
+pub const WIDE_MAX: u64 = (HALF_MAX as u64) << (DEPTH_MAX as u32);
+/// The greatest size of a difference of two such positions.
+pub const DIFFERENCE_MAX: u64 = 2 * WIDE_MAX;
+/// The greatest size of a direction.
+pub const DIRECTION_MAX: u128 = 2 * ((DIFFERENCE_MAX as u128) * (DIFFERENCE_MAX as u128));
+/// The greatest size of a product of a direction's component and a difference's.
+const PRODUCT_MAX: u128 = DIRECTION_MAX * (DIFFERENCE_MAX as u128);

@@ -1,0 +1,11 @@
+use crate::Wide;
+
+/// The positions of an edge from `a` to `b`, and of a triangle with the corners `c`, `d` and `e`.
+#[derive(Clone, Copy, Debug, PartialEq, Eq)]
+pub struct Positions {
+    pub a: Wide,
+    pub b: Wide,
+    pub c: Wide,
+    pub d: Wide,
+    pub e: Wide,
+}
