@@ -93,19 +93,19 @@ pub data Place : Type 0 where
   same : Place
   after : Place
 
-abbrev pub position_of : List ℕ → List ℕ → Place
-position_of [] [] = same
-position_of [] (j ∷ m) = before
-position_of (i ∷ l) [] = after
-position_of (i ∷ l) (j ∷ m) = cond (ltb i j) before (cond (ltb j i) after (position_of l m))
+abbrev pub place_of : List ℕ → List ℕ → Place
+place_of [] [] = same
+place_of [] (j ∷ m) = before
+place_of (i ∷ l) [] = after
+place_of (i ∷ l) (j ∷ m) = cond (ltb i j) before (cond (ltb j i) after (place_of l m))
 
-place-same : (xs : List ℤ) (l m : List ℕ) → position_of l m ≡ same → product_of xs l ≡ product_of xs m
+place-same : (xs : List ℤ) (l m : List ℕ) → place_of l m ≡ same → product_of xs l ≡ product_of xs m
 place-same xs [] [] e = refl
 place-same xs [] (j ∷ m) e = absurd cc
 place-same xs (i ∷ l) [] e = absurd cc
 place-same xs (i ∷ l) (j ∷ m) e = heads (place-same xs l m) (ltb i j) (ltb j i) refl refl e
   where
-    heads : (position_of l m ≡ same → product_of xs l ≡ product_of xs m) → (s t : Bool) → ltb i j ≡ s → ltb j i ≡ t → cond s before (cond t after (position_of l m)) ≡ same → at xs i *ℤ product_of xs l ≡ at xs j *ℤ product_of xs m
+    heads : (place_of l m ≡ same → product_of xs l ≡ product_of xs m) → (s t : Bool) → ltb i j ≡ s → ltb j i ≡ t → cond s before (cond t after (place_of l m)) ≡ same → at xs i *ℤ product_of xs l ≡ at xs j *ℤ product_of xs m
     heads tails true t p q r = absurd cc
     heads tails false true p q r = absurd cc
     heads tails false false p q r =
@@ -115,7 +115,7 @@ place-same xs (i ∷ l) (j ∷ m) e = heads (place-same xs l m) (ltb i j) (ltb j
 
 abbrev pub with_part : ℤ → List ℕ → List Part → List Part
 with_part n l [] = record { by = n; of = l } ∷ []
-with_part n l (p ∷ ps) = elim (position_of l p.of) [
+with_part n l (p ∷ ps) = elim (place_of l p.of) [
   | before ↦ record { by = n; of = l } ∷ p ∷ ps
   | same ↦ record { by = n +ℤ p.by; of = p.of } ∷ ps
   | after ↦ p ∷ with_part n l ps
@@ -129,9 +129,9 @@ passed p q s = omega (arith, ints)
 
 sum-with_part : (xs : List ℤ) (n : ℤ) (l : List ℕ) (ps : List Part) → sum_of xs (with_part n l ps) ≡ n *ℤ product_of xs l +ℤ sum_of xs ps
 sum-with_part xs n l [] = refl
-sum-with_part xs n l (p ∷ ps) = by_place (sum-with_part xs n l ps) (position_of l p.of) refl
+sum-with_part xs n l (p ∷ ps) = by_place (sum-with_part xs n l ps) (place_of l p.of) refl
   where
-    by_place : sum_of xs (with_part n l ps) ≡ n *ℤ product_of xs l +ℤ sum_of xs ps → (q : Place) → position_of l p.of ≡ q →
+    by_place : sum_of xs (with_part n l ps) ≡ n *ℤ product_of xs l +ℤ sum_of xs ps → (q : Place) → place_of l p.of ≡ q →
         sum_of xs (elim q [ before ↦ record { by = n; of = l } ∷ p ∷ ps | same ↦ record { by = n +ℤ p.by; of = p.of } ∷ ps | after ↦ p ∷ with_part n l ps ])
         ≡ n *ℤ product_of xs l +ℤ (p.by *ℤ product_of xs p.of +ℤ sum_of xs ps)
     by_place rest before e = refl

@@ -6,7 +6,7 @@ use Rattle.grid_base.specs.declared.pair_positions.Positions.{Positions}
 use Rattle.grid_base.specs.Meeting.{MeetAt}
 use Rattle.grid_base.specs.Separation.{directions, double, middle}
 
--- the test is right for all places
+-- the test is right for all positions
 abbrev pub IsExact : (Positions → Bool) → Type 0
 IsExact meets = (f : Positions) → IsTrue (meets f) ↔ MeetAt f
 

@@ -37,7 +37,7 @@ cross a b = record {
   z = a.x *ℤ b.y -ℤ a.y *ℤ b.x;
 }
 
--- six times the signed orientation of the tetrahedron a b c d
+-- the determinant of b - a, c - a and d - a: six times the signed volume of the tetrahedron a b c d
 abbrev pub orientation : Triple → Triple → Triple → Triple → ℤ
 orientation a b c d = dot (cross (minus b a) (minus c a)) (minus d a)
 

@@ -3,12 +3,14 @@
 
 mod grid;
 pub mod laws;
+mod list;
 mod memory;
 mod moving;
 mod pair_positions;
 mod vector;
 
 pub use grid::{Point, Shift};
+pub use list::Items;
 pub use memory::NoMemory;
 pub use moving::{floor_mid, halved, moved};
 pub use pair_positions::Positions;

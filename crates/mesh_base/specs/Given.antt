@@ -1,0 +1,20 @@
+-- The mesh that lists give.
+use Rattle.std.specs.Prelude.{ℕ, ◌+◌, List, length, map}
+use Rattle.std.specs.List.{enumerate_from}
+use Rattle.std.specs.FinMap as finite
+use Rattle.grid_base.specs.declared.Point.{Point}
+use Rattle.mesh_base.specs.Mesh.{Mesh}
+use Rattle.mesh_base.specs.Changes.{corners_of}
+
+-- faces, each by the numbers of its three corners
+abbrev pub Faces : Type 0
+Faces = List (List ℕ)
+
+-- the points and the faces, numbered from 1
+abbrev pub mesh_of : List Point → Faces → Mesh
+mesh_of points faces = record {
+  points = finite.from_entries (enumerate_from 1 points);
+  faces = finite.from_entries (enumerate_from 1 (map corners_of faces));
+  next_vertex = length points + 1;
+  next_face = length faces + 1;
+}

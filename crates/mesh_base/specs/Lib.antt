@@ -1,0 +1,10 @@
+pub mod Mesh
+pub mod Sides
+pub mod Changes
+pub mod Kept
+pub mod Pairs
+pub mod Placements
+pub mod Shifts
+pub mod Failing
+pub mod Given
+pub mod Limits

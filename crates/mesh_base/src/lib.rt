@@ -1,0 +1,21 @@
+//! What a mesh of triangles is: its value as contracts see it, when it is closed and clear, what each change makes of
+//! it, and the calls that every mesh has, however it is kept. The types that texts, steps and edits share stand here too.
+#![tactic(auto)]
+
+mod faults;
+mod ids;
+mod lists;
+mod marks;
+mod refusals;
+mod steps;
+mod surface;
+mod walk;
+
+pub use faults::{AddFault, ShapeFault, ShapeRefusal};
+pub use ids::{Corners, FaceId, PairName, VertexId};
+pub use lists::{FaceIds, Ids, MeshLists, Points, Shifts, Triangles};
+pub use marks::Mark;
+pub use refusals::{FileWord, UseWhy};
+pub use steps::{How, ShiftOf};
+pub use surface::Surface;
+pub use walk::{live_faces, live_vertices};

@@ -1,0 +1,15 @@
+/// Which of the two files of a job.
+#[derive(Clone, Copy, Debug, PartialEq, Eq)]
+pub enum FileWord {
+    Mesh,
+    Steps,
+}
+
+/// Why a directive is refused, with the least vertex that it is refused for.
+#[derive(Clone, Copy, Debug, PartialEq, Eq)]
+pub enum UseWhy {
+    /// The summed shift has a component above its limit.
+    ShiftRange { v: u32 },
+    /// The asked end of a step is outside the box.
+    Box { v: u32 },
+}

@@ -1,0 +1,128 @@
+ghost use Rattle.std.specs.Prelude.{◌≡◌, ◌≤◌, ◌<◌, ◌+◌, ℕ, List, [], length, take, slice_get, IfOk, IsOk, IsNone, OnOk, OnErr, IsErrOf, All};
+ghost use Rattle.std.specs.Option.{option_map};
+ghost use Rattle.std.specs.FinMap as map;
+ghost use Rattle.mesh_base.specs.Mesh.{Mesh, IsSound, IsLiveVertex, IsLiveFace};
+ghost use Rattle.mesh_base.specs.Sides.{above, runs, faces_running, faces_at};
+ghost use Rattle.mesh_base.specs.Changes.{corners_of, corner_list, with_vertex, with_face, without_face, without_vertex, with_point, IsFresh, IsFullOfVertices, IsFullOfFaces};
+ghost use Rattle.mesh_base.specs.Kept.{BeginsWith, MarkHolds, StandsFor};
+
+use crate::faults::AddFault;
+use crate::ids::{FaceId, VertexId};
+use crate::marks::Mark;
+use grid_base::{NoMemory, Point};
+
+/// A mesh, with a list of kept meshes to which it can go back.
+pub trait Surface {
+    /// The mesh.
+    ghost mesh: { Self → Mesh };
+
+    /// The kept meshes, the oldest first.
+    ghost kept: { Self → List Mesh };
+
+    /// How far a mark's `under` may lie beyond its `place`.
+    ghost beyond: { ℕ };
+
+    /// How many vertices are live.
+    fn vertices(&self) -> u32
+        ensures { result ≡ map.len (mesh self.now).points };
+
+    fn faces(&self) -> u32
+        ensures { result ≡ map.len (mesh self.now).faces };
+
+    fn next_vertex(&self) -> u32
+        ensures { result ≡ (mesh self.now).next_vertex };
+
+    fn next_face(&self) -> u32
+        ensures { result ≡ (mesh self.now).next_face };
+
+    /// The least live vertex above the number.
+    fn vertex_after(&self, v: u32) -> Option<VertexId>
+        ensures { result ≡ slice_get (above v (map.keys (mesh self.now).points)) 0 };
+
+    /// The least live face above the number.
+    fn face_after(&self, f: u32) -> Option<FaceId>
+        ensures { result ≡ slice_get (above f (map.keys (mesh self.now).faces)) 0 };
+
+    fn point(&self, v: VertexId) -> Option<Point>
+        ensures { result ≡ map.get (mesh self.now).points v };
+
+    fn corners(&self, f: FaceId) -> Option<[VertexId; 3]>
+        ensures { result ≡ option_map corner_list (map.get (mesh self.now).faces f) };
+
+    /// In how many faces `v` follows `u`.
+    fn runs(&self, u: VertexId, v: VertexId) -> u32
+        ensures { result ≡ runs (mesh self.now) u v };
+
+    /// The `nth` of the faces in which `v` follows `u`, from 0, by rising id.
+    fn run_face(&self, u: VertexId, v: VertexId, nth: u32) -> Option<FaceId>
+        ensures { result ≡ slice_get (faces_running (mesh self.now) u v) nth };
+
+    /// Sets `into` to the faces at `v`, rising.
+    fn faces_at(&self, v: VertexId, into: &mut Vec<FaceId>) -> Result<(), NoMemory>
+        ensures ok { OnOk result (into.new.items ≡ faces_at (mesh self.now) v) }
+        ensures err { OnErr result (into.new.items ≡ []) };
+
+    fn add_vertex(&mut self, p: Point) -> Result<VertexId, AddFault>
+        ensures id { IfOk result (λ v. v ≡ (mesh self.old).next_vertex) }
+        ensures ok { OnOk result (mesh self.new ≡ with_vertex (mesh self.old) p) }
+        ensures full { IsErrOf result AddFault.Full → IsFullOfVertices (mesh self.old) }
+        ensures room { IsOk result → ¬ IsFullOfVertices (mesh self.old) }
+
+        // What was kept stays, and a refusal changes nothing.
+        ensures marks { BeginsWith (kept self.new) (kept self.old) }
+        ensures err { OnErr result ((mesh self.new ≡ mesh self.old) × (kept self.new ≡ kept self.old)) };
+
+    fn add_face(&mut self, c: [VertexId; 3]) -> Result<FaceId, AddFault>
+        requires { IsFresh (mesh self.old) (corners_of c) }
+        ensures id { IfOk result (λ f. f ≡ (mesh self.old).next_face) }
+        ensures ok { OnOk result (mesh self.new ≡ with_face (mesh self.old) (corners_of c)) }
+        ensures full { IsErrOf result AddFault.Full → IsFullOfFaces (mesh self.old) }
+        ensures room { IsOk result → ¬ IsFullOfFaces (mesh self.old) }
+        ensures marks { BeginsWith (kept self.new) (kept self.old) }
+        ensures err { OnErr result ((mesh self.new ≡ mesh self.old) × (kept self.new ≡ kept self.old)) };
+
+    fn drop_face(&mut self, f: FaceId) -> Result<(), NoMemory>
+        requires { IsLiveFace (mesh self.old) f }
+        ensures ok { OnOk result (mesh self.new ≡ without_face (mesh self.old) f) }
+        ensures marks { BeginsWith (kept self.new) (kept self.old) }
+        ensures err { OnErr result ((mesh self.new ≡ mesh self.old) × (kept self.new ≡ kept self.old)) };
+
+    /// Drops a vertex that has no face.
+    fn drop_vertex(&mut self, v: VertexId) -> Result<(), NoMemory>
+        requires live { IsLiveVertex (mesh self.old) v }
+        requires bare { faces_at (mesh self.old) v ≡ [] }
+        ensures ok { OnOk result (mesh self.new ≡ without_vertex (mesh self.old) v) }
+        ensures marks { BeginsWith (kept self.new) (kept self.old) }
+        ensures err { OnErr result ((mesh self.new ≡ mesh self.old) × (kept self.new ≡ kept self.old)) };
+
+    fn place(&mut self, v: VertexId, p: Point) -> Result<(), NoMemory>
+        requires { IsLiveVertex (mesh self.old) v }
+        ensures ok { OnOk result (mesh self.new ≡ with_point (mesh self.old) v p) }
+        ensures marks { BeginsWith (kept self.new) (kept self.old) }
+        ensures err { OnErr result ((mesh self.new ≡ mesh self.old) × (kept self.new ≡ kept self.old)) };
+
+    /// Keeps the mesh as it is. The mark stands for it.
+    fn mark(&mut self) -> Result<Mark, NoMemory>
+        ensures holds { IfOk result (MarkHolds beyond (kept self.new)) }
+        ensures stands { IfOk result (λ m. StandsFor (kept self.new) m (mesh self.old)) }
+        ensures under { IfOk result (λ m. m.under ≡ length (kept self.old)) }
+        ensures mesh { mesh self.new ≡ mesh self.old }
+        ensures marks { BeginsWith (kept self.new) (kept self.old) }
+        ensures err { OnErr result (kept self.new ≡ kept self.old) };
+
+    /// Goes back to the mesh for which the mark stands. Takes no memory.
+    fn back_to(&mut self, m: Mark)
+        requires { MarkHolds beyond (kept self.old) m }
+        ensures mesh { StandsFor (kept self.old) m (mesh self.new) }
+        ensures marks { BeginsWith (kept self.new) (take m.under (kept self.old)) };
+
+    /// Gives up what is kept. Takes no memory.
+    fn settle(&mut self)
+        ensures { mesh self.new ≡ mesh self.old };
+
+    /// The laws of a mesh, and its limits, hold at any time.
+    ghost sound: { (s : Self) → IsSound (mesh s) };
+
+    /// And so do those of each kept mesh.
+    ghost kept_sound: { (s : Self) → All IsSound (kept s) };
+}

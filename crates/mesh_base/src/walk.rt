@@ -1,0 +1,33 @@
+ghost use Rattle.std.specs.Prelude.{◌≡◌, IfOk};
+ghost use Rattle.std.specs.FinMap as map;
+
+use crate::lists::{FaceIds, Ids};
+use crate::surface::Surface;
+use grid_base::NoMemory;
+use std::alloc::Global;
+
+/// The live vertices, by rising id.
+pub fn live_vertices<S: Surface>(alloc: Global, mesh: &S) -> Result<Ids, NoMemory>
+    ensures { IfOk result (λ ids. ids ≡ map.keys (S.mesh mesh.now).points) }
+{
+    let mut ids = Ids::new(alloc);
+    let mut last = 0;
+    while let Some(v) = mesh.vertex_after(last) {
+        ids.push(v)?;
+        last = v.0;
+    }
+    Ok(ids)
+}
+
+/// The live faces, by rising id.
+pub fn live_faces<S: Surface>(alloc: Global, mesh: &S) -> Result<FaceIds, NoMemory>
+    ensures { IfOk result (λ ids. ids ≡ map.keys (S.mesh mesh.now).faces) }
+{
+    let mut ids = FaceIds::new(alloc);
+    let mut last = 0;
+    while let Some(f) = mesh.face_after(last) {
+        ids.push(f)?;
+        last = f.0;
+    }
+    Ok(ids)
+}
