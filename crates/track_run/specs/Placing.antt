@@ -1,0 +1,12 @@
+-- When vertices can be moved one after another.
+use Rattle.std.specs.Prelude.{◌≡◌, true, List, [], ◌∷◌, if◌then◌else◌}
+use Rattle.grid_base.specs.declared.TheConstants.{BOX}
+use Rattle.grid_base.specs.Triples.{IsWithin}
+use Rattle.mesh_base.specs.Mesh.{Mesh, IsLiveVertex}
+use Rattle.mesh_base.specs.Shifts.{Shifts, with_move}
+use Rattle.track_run.specs.Turns.{moves, end_of}
+
+-- each that moves is live and ends in the box, in the mesh in which those before it have been moved
+abbrev pub CanPlace : Mesh → Shifts → Type 0
+CanPlace m [] = Unit {0}
+CanPlace m (s ∷ shifts) = (moves s ≡ true → IsLiveVertex m s.v × IsWithin BOX (end_of m s)) × CanPlace (if moves s then with_move m s else m) shifts
