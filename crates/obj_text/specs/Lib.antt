@@ -1,0 +1,2 @@
+pub mod Obj
+pub mod Views
