@@ -15,9 +15,13 @@ pub record State : Type 0 where
   pub steps : ℕ
   pub saved : ℕ
 
+-- the vertex and no shift
+abbrev pub still_at : ℕ → ShiftOf
+still_at v = record { v = v; by = no_shift }
+
 -- no vertex is asked to move
 abbrev pub no_shifts : Mesh → Shifts
-no_shifts m = map (λ v. record { v = v; by = no_shift }) (finite.keys m.points)
+no_shifts m = map still_at (finite.keys m.points)
 
 -- where the directives begin: mesh 0 is saved
 abbrev pub start : Mesh → State

@@ -6,7 +6,7 @@ use Rattle.std.specs.FinMap as finite
 use Rattle.grid_base.specs.declared.TheConstants.{BOX, SHIFT_MAX}
 use Rattle.grid_base.specs.declared.Shift.{Shift}
 use Rattle.grid_base.specs.Triples.{Triple, plus}
-use Rattle.grid_base.specs.Points.{displacement_of, is_within, no_shift}
+use Rattle.grid_base.specs.Points.{displacement_of, is_within}
 use Rattle.mesh_base.specs.declared.ShiftOf.{ShiftOf}
 use Rattle.mesh_base.specs.declared.How.TheVariants.{Whole}
 use Rattle.mesh_base.specs.declared.UseWhy.{UseWhy}
@@ -21,7 +21,7 @@ use Rattle.log_text.specs.declared.Refusal.{Refusal}
 use Rattle.log_text.specs.declared.Refusal.TheVariants.{StepUse}
 use Rattle.log_text.specs.declared.LogLine.{LogLine}
 use Rattle.log_text.specs.declared.LogLine.TheVariants.{Step, Move, Moved, Mesh as MeshLine, End, Refused}
-use Rattle.track_run.specs.State.{State}
+use Rattle.track_run.specs.State.{State, still_at}
 
 -- ---- shifts that are asked
 
@@ -65,7 +65,7 @@ moved_mesh m shifts = fold with_move m (moving shifts)
 
 -- no vertex is asked to move any more
 abbrev pub all_still : Shifts → Shifts
-all_still shifts = map (λ s. record s { by = no_shift }) shifts
+all_still shifts = map (λ s. still_at s.v) shifts
 
 -- the lines of a step that takes the asked shifts unaltered
 abbrev pub step_lines : State → List LogLine
