@@ -1,5 +1,5 @@
 -- Lines that are written one after another.
-use Rattle.std.proofs.Common.{Bool, true, false, cond, map, get_or, ◌≡◌, ℕ, ◌<◌, List, [], ◌∷◌, ◌++◌, subst, refl, ap, sym, ◌∙◌, append_assoc, append-nil, length, take, drop, ◌+◌, pos, add-one, length-append, arith, Result, Ok, Err}
+use Rattle.std.proofs.Common.{suc, Bool, true, false, cond, map, get_or, ◌≡◌, ℕ, ◌<◌, List, [], ◌∷◌, ◌++◌, subst, refl, ap, sym, ◌∙◌, append_assoc, append-nil, length, take, drop, ◌+◌, pos, add-one, length-append, arith, Result, Ok, Err}
 use Rattle.std.proofs.Math.Seq.{drop-cons}
 use Rattle.std.specs.List.{filter}
 use Rattle.std.specs.declared.option.Option.{Option}
@@ -97,28 +97,51 @@ so_far_part old now new line left all s part =
 pub part_none : (old new : Option (List ℕ)) (line : LogLine) → new ≡ old → AppendsPart old new (text_of_line line)
 part_none old new line same = (0, some_text line, same ∙ sym (appended-nil old))
 
--- the moves that are left, where a shift is
-moves_left : (asked : List ShiftOf) (i : ℕ) (d : ShiftOf) (b : Bool) → i < length asked → moves (get_or asked i d) ≡ b → move_lines (drop i asked) ≡ cond b (Move (get_or asked i d) ∷ move_lines (drop (i + 1) asked)) (move_lines (drop (i + 1) asked))
-moves_left asked i d b h e =
-    ap move_lines (drop-cons asked i d h)
-    ∙ ap (λ n. move_lines (get_or asked i d ∷ drop n asked)) (sym (add-one i))
-    ∙ by_test b e
+-- more lines
+pub so_far_lines : (old now new : Option (List ℕ)) (xs left all : List LogLine) → SaidSoFar old now (xs ++ left) all → new ≡ appended now (text_of_lines xs) → SaidSoFar old new left all
+so_far_lines old now new xs left all s p = record {
+  done = s.done ++ xs;
+  whole = append_assoc s.done xs left ∙ s.whole;
+  written = said_then old now new s.done xs s.written p;
+}
+
+-- the next lines are written in part
+pub so_far_lines_part : (old now new : Option (List ℕ)) (xs left all : List LogLine) → SaidSoFar old now (xs ++ left) all → SaidInPart now new xs → SaidInPart old new all
+so_far_lines_part old now new xs left all s part =
+    let P : List LogLine → Type 0 = λ l. SaidInPart old new l in
+    subst P s.whole (part_then old now new s.done (xs ++ left) s.written (part_more now new xs left part))
+
+-- the line of a shift that is not zero, and none of another
+pub move_line : (s : ShiftOf) (b : Bool) → moves s ≡ b → move_lines (s ∷ []) ≡ cond b (Move s ∷ []) []
+move_line s b e = ap (λ t. map (λ (r : ShiftOf). Move r) (cond t (s ∷ []) [])) e ∙ by_test b
   where
-    by_test : (b : Bool) → moves (get_or asked i d) ≡ b → move_lines (get_or asked i d ∷ drop (i + 1) asked) ≡ cond b (Move (get_or asked i d) ∷ move_lines (drop (i + 1) asked)) (move_lines (drop (i + 1) asked))
-    by_test true e = ap (λ t. map (λ s. Move s) (cond t (get_or asked i d ∷ filter moves (drop (i + 1) asked)) (filter moves (drop (i + 1) asked)))) e
-    by_test false e = ap (λ t. map (λ s. Move s) (cond t (get_or asked i d ∷ filter moves (drop (i + 1) asked)) (filter moves (drop (i + 1) asked)))) e
+    by_test : (b : Bool) → map (λ (r : ShiftOf). Move r) (cond b (s ∷ []) []) ≡ cond b (Move s ∷ []) []
+    by_test true = refl
+    by_test false = refl
 
-pub moves_more : (old now new : Option (List ℕ)) (asked : List ShiftOf) (i : ℕ) (d : ShiftOf) (all : List LogLine) → i < length asked → moves (get_or asked i d) ≡ true
-    → SaidSoFar old now (move_lines (drop i asked)) all → new ≡ appended now (text_of_lines (Move (get_or asked i d) ∷ [])) → SaidSoFar old new (move_lines (drop (i + 1) asked)) all
-moves_more old now new asked i d all h e s p =
-    let P : List LogLine → Type 0 = λ l. SaidSoFar old now l all in so_far_more old now new (Move (get_or asked i d)) _ all (subst P (moves_left asked i d true h e) s) p
+module _ (old now new : Option (List ℕ)) (asked : List ShiftOf) (i : ℕ) (s : ShiftOf) (all : List LogLine) (h : i < length asked) (at : s ≡ get_or asked i s) where
+  moves_left : move_lines (drop i asked) ≡ move_lines (s ∷ []) ++ move_lines (drop (i + 1) asked)
+  moves_left =
+      ap move_lines (drop-cons asked i s h)
+      ∙ ap (λ t. move_lines (t ∷ drop (suc i) asked)) (sym at)
+      ∙ ap (λ n. move_lines (s ∷ drop n asked)) (sym (add-one i))
+      ∙ by_test (moves s)
+    where
+      by_test : (b : Bool) → map (λ (r : ShiftOf). Move r) (cond b (s ∷ filter moves (drop (i + 1) asked)) (filter moves (drop (i + 1) asked))) ≡ map (λ (r : ShiftOf). Move r) (cond b (s ∷ []) []) ++ move_lines (drop (i + 1) asked)
+      by_test true = refl
+      by_test false = refl
 
-pub moves_skip : (old now : Option (List ℕ)) (asked : List ShiftOf) (i : ℕ) (d : ShiftOf) (all : List LogLine) → i < length asked → moves (get_or asked i d) ≡ false
-    → SaidSoFar old now (move_lines (drop i asked)) all → SaidSoFar old now (move_lines (drop (i + 1) asked)) all
-moves_skip old now asked i d all h e s =
-    let P : List LogLine → Type 0 = λ l. SaidSoFar old now l all in subst P (moves_left asked i d false h e) s
+  here : SaidSoFar old now (move_lines (drop i asked)) all → SaidSoFar old now (move_lines (s ∷ []) ++ move_lines (drop (i + 1) asked)) all
+  here said = let P : List LogLine → Type 0 = λ l. SaidSoFar old now l all in subst P moves_left said
 
-pub moves_part : (old now new : Option (List ℕ)) (asked : List ShiftOf) (i : ℕ) (d : ShiftOf) (all : List LogLine) → i < length asked → moves (get_or asked i d) ≡ true
-    → SaidSoFar old now (move_lines (drop i asked)) all → SaidInPart now new (Move (get_or asked i d) ∷ []) → SaidInPart old new all
-moves_part old now new asked i d all h e s p =
-    let P : List LogLine → Type 0 = λ l. SaidSoFar old now l all in so_far_part old now new (Move (get_or asked i d)) _ all (subst P (moves_left asked i d true h e) s) p
+  pub moves_more : SaidSoFar old now (move_lines (drop i asked)) all → new ≡ appended now (text_of_lines (move_lines (s ∷ []))) → SaidSoFar old new (move_lines (drop (i + 1) asked)) all
+  moves_more said p = so_far_lines old now new (move_lines (s ∷ [])) _ all (here said) p
+
+  pub moves_part : SaidSoFar old now (move_lines (drop i asked)) all → SaidInPart now new (move_lines (s ∷ [])) → SaidInPart old new all
+  moves_part said p = so_far_lines_part old now new (move_lines (s ∷ [])) _ all (here said) p
+
+pub none_said : (old : Option (List ℕ)) (s : ShiftOf) → moves s ≡ false → old ≡ appended old (text_of_lines (move_lines (s ∷ [])))
+none_said old s e = sym (appended-nil old) ∙ ap (λ l. appended old (text_of_lines l)) (sym (move_line s false e))
+
+pub move_said : {T : Type 0} (old new : Option (List ℕ)) (s : ShiftOf) (r : Result T Stop) → moves s ≡ true → Said old new (Move s ∷ []) r → Said old new (move_lines (s ∷ [])) r
+move_said {T} old new s r e said = let P : List LogLine → Type 0 = λ l. Said old new l r in subst P (sym (move_line s true e)) said

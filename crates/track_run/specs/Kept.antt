@@ -10,8 +10,8 @@ use Rattle.log_text.specs.Replay.{Replay, replayed}
 
 -- a mesh that is saved has these live numbers, is closed, and no edge meets a face that shares no vertex with it
 pub record IsSavedWell (r : Replay) (vertices faces : ℕ) : Type 0 where
-  pub vertices : vertices ≡ finite.len r.mesh.points
-  pub faces : faces ≡ finite.len r.mesh.faces
+  pub vertex_count : vertices ≡ finite.len r.mesh.points
+  pub face_count : faces ≡ finite.len r.mesh.faces
   pub closed : IsClosed r.mesh
   pub clear : IsClearMesh r.mesh
 

@@ -1,5 +1,5 @@
 -- Where a run stands between two directives.
-use Rattle.std.specs.Prelude.{ℕ, map}
+use Rattle.std.specs.Prelude.{ℕ, [], map}
 use Rattle.std.specs.FinMap as finite
 use Rattle.grid_base.specs.Points.{no_shift}
 use Rattle.mesh_base.specs.declared.ShiftOf.{ShiftOf}

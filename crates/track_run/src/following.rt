@@ -26,7 +26,7 @@ pub(crate) fn follow<S: Surface, D: Desk, K: Sink>(
     desk: &mut D,
     out: &mut K,
 ) -> Result<Option<Refusal>, Stop>
-    requires few { names.entry.decimals ≤ 6 }
+    requires few { names.decimals ≤ 6 }
     requires asked { NameLive (S.mesh mesh.old) course.old.asked }
     requires count { length steps.now < 2 ^ 31 }
     requires steps_made { course.old.steps ≡ 0 }

@@ -53,7 +53,7 @@ pub(crate) fn prepare<D: Desk>(
     names: Names<'_>,
     desk: &mut D,
 ) -> Result<Ready, Stop>
-    requires few { names.entry.decimals ≤ 6 }
+    requires few { names.decimals ≤ 6 }
     ensures prepares { IfOk result (Prepares (D.files desk.old) (named_by names.entry)) }
     ensures kept { D.files desk.new ≡ D.files desk.old }
     ensures later { D.faults desk.old ≤ D.faults desk.new }

@@ -52,7 +52,7 @@ pub(crate) fn save<S: Surface, D: Desk, K: Sink>(
     desk: &mut D,
     out: &mut K,
 ) -> Result<(), Stop>
-    requires { names.entry.decimals ≤ 6 }
+    requires { names.decimals ≤ 6 }
     ensures saves { Saves (target_of names.entry) k (S.mesh mesh.now) (world D.files K.written desk.old out.old) (world D.files K.written desk.new out.new) result }
     ensures causes { HasCauses (D.faults desk.old) (D.faults desk.new) (K.faults out.old) (K.faults out.new) result }
 {

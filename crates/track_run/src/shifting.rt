@@ -1,8 +1,8 @@
-ghost use Rattle.std.specs.Prelude.{◌≡◌, ◌↔◌, ◌≤◌, ◌+ℤ◌, unsigned_abs, IsSome, IfSome, IfOk};
+ghost use Rattle.std.specs.Prelude.{◌≡◌, ◌↔◌, ◌≤◌, ◌+ℤ◌, unsigned_abs, map, IsSome, IfSome, IfOk};
 ghost use Rattle.grid_base.specs.declared.TheConstants.{SHIFT_MAX};
 ghost use Rattle.grid_base.specs.Triples.{IsWithin, plus};
 ghost use Rattle.grid_base.specs.Points.{displacement_of};
-ghost use Rattle.track_run.specs.State.{no_shifts};
+ghost use Rattle.track_run.specs.State.{no_shifts, still_at};
 ghost use Rattle.track_run.specs.Turns.{moves, all_still};
 ghost use Rattle.track_run.specs.Shifting.{Sums};
 
@@ -17,8 +17,16 @@ pub(crate) fn no_shifts<S: Surface>(alloc: Global, mesh: &S) -> Result<Shifts, N
     ensures { IfOk result (λ shifts. shifts ≡ no_shifts (S.mesh mesh.now)) }
 {
     let ids = live_vertices(alloc, mesh)?;
+    let shifts = all_at_rest(alloc, ids.as_slice())?;
+    Ok(shifts)
+}
+
+// No shift for each of the vertices.
+fn all_at_rest(alloc: Global, ids: &[VertexId]) -> Result<Shifts, NoMemory>
+    ensures { IfOk result (λ shifts. shifts ≡ map still_at ids.now) }
+{
     let mut shifts = Shifts::new(alloc);
-    for v in ids.as_slice() {
+    for v in ids {
         shifts.push(ShiftOf {
             v: *v,
             by: NO_SHIFT,

@@ -13,6 +13,19 @@ use mesh_plain::{How, ShiftOf};
 use outside_io::Sink;
 use std::alloc::Global;
 
+// The line of a shift, where it is not zero.
+fn say_move<K: Sink>(alloc: Global, s: &ShiftOf, out: &mut K) -> Result<(), Stop>
+    ensures said { Said (K.written out.old) (K.written out.new) (move_lines (s.now ∷ [])) result }
+    ensures later { K.faults out.old ≤ K.faults out.new }
+    ensures cause { IsErrOf result Stop.SinkFault → Rose (K.faults out.old) (K.faults out.new) }
+    ensures desk { IsErrOf result Stop.DeskFault → ⊥ }
+{
+    if !moves(s) {
+        return Ok(());
+    }
+    say(alloc, out, LogLine::Move(*s))
+}
+
 // A line for each shift that is not zero.
 fn say_moves<K: Sink>(alloc: Global, asked: &[ShiftOf], out: &mut K) -> Result<(), Stop>
     ensures said { Said (K.written out.old) (K.written out.new) (move_lines asked.now) result }
@@ -21,9 +34,7 @@ fn say_moves<K: Sink>(alloc: Global, asked: &[ShiftOf], out: &mut K) -> Result<(
     ensures desk { IsErrOf result Stop.DeskFault → ⊥ }
 {
     for s in asked {
-        if moves(s) {
-            say(alloc, out, LogLine::Move(*s))?;
-        }
+        say_move(alloc, s, out)?;
     }
     Ok(())
 }

@@ -47,7 +47,7 @@ fn begin<S: Surface, D: Desk, K: Sink>(
     desk: &mut D,
     out: &mut K,
 ) -> Result<Option<Refusal>, Stop>
-    requires few { names.entry.decimals ≤ 6 }
+    requires few { names.decimals ≤ 6 }
     requires count { length steps.now < 2 ^ 31 }
     ensures follows { Follows (target_of names.entry) (at_mesh (S.mesh mesh.old)) (told_of (S.mesh mesh.old) steps.now)
         (world D.files K.written desk.old out.old) (world D.files K.written desk.new out.new) result }
@@ -73,7 +73,7 @@ fn track<D: Desk, K: Sink>(
     desk: &mut D,
     out: &mut K,
 ) -> Result<Option<Refusal>, Stop>
-    requires { names.entry.decimals ≤ 6 }
+    requires { names.decimals ≤ 6 }
     ensures tracks { TracksJob (named_by names.entry) (world D.files K.written desk.old out.old) (world D.files K.written desk.new out.new) result }
     ensures causes { HasCauses (D.faults desk.old) (D.faults desk.new) (K.faults out.old) (K.faults out.new) result }
 {

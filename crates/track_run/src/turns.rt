@@ -78,7 +78,7 @@ pub(crate) fn advance<S: Surface, D: Desk, K: Sink>(
     desk: &mut D,
     out: &mut K,
 ) -> Result<Option<UseWhy>, Stop>
-    requires few { names.entry.decimals ≤ 6 }
+    requires few { names.decimals ≤ 6 }
     requires asked { NameLive (S.mesh mesh.old) course.old.asked }
     requires steps { course.old.steps + 1 < 2 ^ 32 }
     requires saved { course.old.saved + 1 < 2 ^ 32 }

@@ -1,4 +1,4 @@
-use Rattle.std.proofs.Common.{refl, ap, sym, ◌∙◌, ◌≡◌, subst, List, ℕ}
+use Rattle.std.proofs.Common.{refl, ◌∙◌, ◌≡◌, ◌++◌, subst, List, ℕ, ap}
 use Rattle.outside_io.specs.Sink.{AppendsPart}
 use Rattle.log_text.specs.Lines.{text_of_line}
 use Rattle.track_run.proofs.Saying.{said_nothing, said_part, part_none}
@@ -13,4 +13,5 @@ returns-in-Err-clause-part g c = part_none _ _ c.args.line refl
 pub returns-clause-said : goal.returns-clause-said
 returns-clause-said g c =
     let P : List ℕ → Type 0 = λ t. AppendsPart (g.K.Sink.written c.args.out.now) (g.K.Sink.written c.put_all.new.sink) t in
-    said_part _ _ _ (subst P (c.deref.ensures.value ∙ c.in-Ok.ensures) c.in-Err-put_all.ensures.failed)
+    let whole : c.print_line.new.into.items ≡ text_of_line c.args.line = c.in-Ok.ensures.ok ∙ ap (λ l. l ++ text_of_line c.args.line) c.new-text.ensures.items in
+    said_part _ _ _ (subst P (c.deref.ensures.value ∙ whole) c.in-Err-put_all.ensures.failed)
