@@ -1,7 +1,7 @@
-ghost use Rattle.std.specs.Prelude.{◌≡◌, ◌↔◌, ◌≤◌, IsTrue, unsigned_abs, neg_ℤ, ◌<ℤ◌, ◌≤ℤ◌};
-ghost use Rattle.grid_base.specs.Triples.{IsWithin, opposite};
+ghost use Rattle.std.specs.Prelude.{◌↔◌, IsTrue, ◌<ℤ◌, ◌≤ℤ◌};
+ghost use Rattle.grid_base.specs.Triples.{IsWithin};
 ghost use Rattle.grid_base.specs.Meeting.{AreWithin};
-ghost use Rattle.grid_base.specs.Separation.{IsBelow, IsWeaklyBelow, KeepsApart, TakesApart, BringsTogether};
+ghost use Rattle.grid_base.specs.Separation.{IsBelow, IsAbove, IsWeaklyBelow, IsWeaklyAbove, KeepsApart, TakesApart, BringsTogether};
 
 use grid_base::{DIRECTION_MAX, Positions, WIDE_MAX, Wide};
 
@@ -12,11 +12,13 @@ pub fn keeps_apart(n: Wide, s: &Positions, t: &Positions) -> bool
     requires t_fits { AreWithin WIDE_MAX t.now }
     ensures { IsTrue result ↔ KeepsApart s.now t.now n }
 {
-    if is_below(n, s) && is_below(n, t) {
-        return true;
+    if is_below(n, s) {
+        return is_below(n, t);
     }
-    let m = opposite(n);
-    is_below(m, s) && is_below(m, t)
+    if is_above(n, s) {
+        return is_above(n, t);
+    }
+    false
 }
 
 /// Whether the direction takes the edge to one side: weakly at the start, and strictly at the end.
@@ -26,11 +28,13 @@ pub fn takes_apart(n: Wide, s: &Positions, t: &Positions) -> bool
     requires t_fits { AreWithin WIDE_MAX t.now }
     ensures { IsTrue result ↔ TakesApart s.now t.now n }
 {
-    if is_weakly_below(n, s) && is_below(n, t) {
-        return true;
+    if is_below(n, t) {
+        return is_weakly_below(n, s);
     }
-    let m = opposite(n);
-    is_weakly_below(m, s) && is_below(m, t)
+    if is_above(n, t) {
+        return is_weakly_above(n, s);
+    }
+    false
 }
 
 /// Whether the direction brings the edge to the triangle: strictly on one side at the start, and weakly at the end.
@@ -52,16 +56,35 @@ fn is_below(n: Wide, f: &Positions) -> bool
     let a = n.dot(f.a);
     let b = n.dot(f.b);
     let c = n.dot(f.c);
+    if !both_below(a, b, c) {
+        return false;
+    }
     let d = n.dot(f.d);
+    if !both_below(a, b, d) {
+        return false;
+    }
     let e = n.dot(f.e);
-    is_least(a, c, d, e) && is_least(b, c, d, e)
+    both_below(a, b, e)
 }
 
-// Whether the first number is below the others.
-fn is_least(a: i128, c: i128, d: i128, e: i128) -> bool
-    ensures { IsTrue result ↔ ((a <ℤ c) × (a <ℤ d) × (a <ℤ e)) }
+// Whether both edge ends are strictly above all corners.
+fn is_above(n: Wide, f: &Positions) -> bool
+    requires n_fits { IsWithin DIRECTION_MAX n }
+    requires f_fits { AreWithin WIDE_MAX f.now }
+    ensures { IsTrue result ↔ IsAbove n f.now }
 {
-    a < c && a < d && a < e
+    let a = n.dot(f.a);
+    let b = n.dot(f.b);
+    let c = n.dot(f.c);
+    if !both_above(a, b, c) {
+        return false;
+    }
+    let d = n.dot(f.d);
+    if !both_above(a, b, d) {
+        return false;
+    }
+    let e = n.dot(f.e);
+    both_above(a, b, e)
 }
 
 // Whether both edge ends are at or below all corners.
@@ -73,35 +96,61 @@ fn is_weakly_below(n: Wide, f: &Positions) -> bool
     let a = n.dot(f.a);
     let b = n.dot(f.b);
     let c = n.dot(f.c);
-    let d = n.dot(f.d);
-    let e = n.dot(f.e);
-    is_lowest(a, c, d, e) && is_lowest(b, c, d, e)
-}
-
-// Whether the first number is at or below the others.
-fn is_lowest(a: i128, c: i128, d: i128, e: i128) -> bool
-    ensures { IsTrue result ↔ ((a ≤ℤ c) × (a ≤ℤ d) × (a ≤ℤ e)) }
-{
-    a <= c && a <= d && a <= e
-}
-
-// The direction the other way.
-fn opposite(n: Wide) -> Wide
-    requires { IsWithin DIRECTION_MAX n }
-    ensures value { result ≡ opposite n }
-    ensures within { IsWithin DIRECTION_MAX result }
-{
-    Wide {
-        x: negated(n.x),
-        y: negated(n.y),
-        z: negated(n.z),
+    if !both_at_most(a, b, c) {
+        return false;
     }
+    let d = n.dot(f.d);
+    if !both_at_most(a, b, d) {
+        return false;
+    }
+    let e = n.dot(f.e);
+    both_at_most(a, b, e)
 }
 
-fn negated(a: i128) -> i128
-    requires { unsigned_abs a ≤ DIRECTION_MAX }
-    ensures value { result ≡ neg_ℤ a }
-    ensures within { unsigned_abs result ≤ DIRECTION_MAX }
+// Whether both edge ends are at or above all corners.
+fn is_weakly_above(n: Wide, f: &Positions) -> bool
+    requires n_fits { IsWithin DIRECTION_MAX n }
+    requires f_fits { AreWithin WIDE_MAX f.now }
+    ensures { IsTrue result ↔ IsWeaklyAbove n f.now }
 {
-    -a
+    let a = n.dot(f.a);
+    let b = n.dot(f.b);
+    let c = n.dot(f.c);
+    if !both_at_least(a, b, c) {
+        return false;
+    }
+    let d = n.dot(f.d);
+    if !both_at_least(a, b, d) {
+        return false;
+    }
+    let e = n.dot(f.e);
+    both_at_least(a, b, e)
+}
+
+// Whether the first two numbers are below the third.
+fn both_below(a: i128, b: i128, c: i128) -> bool
+    ensures { IsTrue result ↔ ((a <ℤ c) × (b <ℤ c)) }
+{
+    a < c && b < c
+}
+
+// Whether the first two numbers are above the third.
+fn both_above(a: i128, b: i128, c: i128) -> bool
+    ensures { IsTrue result ↔ ((c <ℤ a) × (c <ℤ b)) }
+{
+    c < a && c < b
+}
+
+// Whether the first two numbers are at most the third.
+fn both_at_most(a: i128, b: i128, c: i128) -> bool
+    ensures { IsTrue result ↔ ((a ≤ℤ c) × (b ≤ℤ c)) }
+{
+    a <= c && b <= c
+}
+
+// Whether the first two numbers are at least the third.
+fn both_at_least(a: i128, b: i128, c: i128) -> bool
+    ensures { IsTrue result ↔ ((c ≤ℤ a) × (c ≤ℤ b)) }
+{
+    c <= a && c <= b
 }
