@@ -51,7 +51,8 @@ pub trait Desk {
         ensures refused { OnErr result (into.new.items ≡ []) }
         ensures kept { files self.new ≡ files self.old }
         ensures long { (seen : ℕ) → IsErrOf result (FetchFault.TooLong seen) → limit < seen }
-        ensures seen { (seen : ℕ) → IsErrOf result (FetchFault.TooLong seen) → HoldsAtLeast (files self.old) name.now seen }
+        ensures seen { (seen : ℕ) → IsErrOf result (FetchFault.TooLong seen) →
+            HoldsAtLeast (files self.old) name.now seen }
         ensures missing { IsErrOf result FetchFault.Missing → HoldsNoFile (files self.old) name.now }
         ensures calm { IsErrOf result FetchFault.Missing → faults self.new ≡ faults self.old }
         ensures later { faults self.old ≤ faults self.new }

@@ -15,3 +15,6 @@ pub use memory_desk::MemoryDesk;
 pub use memory_sink::MemorySink;
 pub use real::{FileDesk, StdSink};
 pub use sink::{Failed, Sink, put_all};
+
+#[cfg(test)]
+mod tests;

@@ -84,9 +84,13 @@ impl Desk for MemoryDesk {
         ensures kept { files_in self.new ≡ files_in self.old }
         ensures exactly { IsErrOf result FetchFault.Failed ↔ RefusesFetch self.old }
         ensures long { (seen : ℕ) → IsErrOf result (FetchFault.TooLong seen) → limit < seen }
-        ensures seen { (seen : ℕ) → IsErrOf result (FetchFault.TooLong seen) → HoldsAtLeast (Some (files_in self.old)) name.now seen }
-        ensures missing { IsErrOf result FetchFault.Missing ↔ (¬ RefusesFetch self.old × (get (files_in self.old) name.now ≡ None)) }
-        ensures whole { (seen : ℕ) → IsErrOf result (FetchFault.TooLong seen) ↔ (¬ RefusesFetch self.old × IsSomeAnd (get (files_in self.old) name.now) (λ bytes. (seen ≡ length bytes) × (limit < seen))) }
+        ensures seen { (seen : ℕ) → IsErrOf result (FetchFault.TooLong seen) →
+            HoldsAtLeast (Some (files_in self.old)) name.now seen }
+        ensures missing { IsErrOf result FetchFault.Missing ↔
+            (¬ RefusesFetch self.old × (get (files_in self.old) name.now ≡ None)) }
+        ensures whole { (seen : ℕ) → IsErrOf result (FetchFault.TooLong seen) ↔
+            (¬ RefusesFetch self.old
+            × IsSomeAnd (get (files_in self.old) name.now) (λ bytes. (seen ≡ length bytes) × (limit < seen))) }
         ensures fetches { fetches_of self.new ≡ next_count (fetches_of self.old) }
         ensures stores { stores_of self.new ≡ stores_of self.old }
         ensures failing_fetches { failing_fetches_of self.new ≡ failing_fetches_of self.old }

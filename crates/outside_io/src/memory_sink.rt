@@ -62,7 +62,8 @@ impl Sink for MemorySink {
     /// Takes the piece whole, or fails: exactly where the list names the write, or the room left is too small.
     fn write(&mut self, bytes: &[u8]) -> Result<usize, Failed>
         ensures within { IfOk result (λ n. n ≤ length bytes.now) }
-        ensures taken { IfOk result (λ n. Some (bytes_in self.new) ≡ appended (Some (bytes_in self.old)) (take n bytes.now)) }
+        ensures taken { IfOk result (λ n.
+            Some (bytes_in self.new) ≡ appended (Some (bytes_in self.old)) (take n bytes.now)) }
         ensures some { IfOk result (λ n. 0 < length bytes.now → 0 < n) }
         ensures refused { OnErr result (bytes_in self.new ≡ bytes_in self.old) }
         ensures cause { HasCause (faults_of self.old) (faults_of self.new) result }

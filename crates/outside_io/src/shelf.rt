@@ -40,7 +40,8 @@ pub(crate) fn copy_into(bytes: &[u8], limit: usize, into: &mut Vec<u8>) -> Resul
     ensures found { OnOk result (into.new.items ≡ bytes.now) }
     ensures within { OnOk result (length bytes.now ≤ limit) }
     ensures refused { OnErr result (into.new.items ≡ []) }
-    ensures long { (seen : ℕ) → IsErrOf result (FetchFault.TooLong seen) ↔ ((seen ≡ length bytes.now) × (limit < length bytes.now)) }
+    ensures long { (seen : ℕ) → IsErrOf result (FetchFault.TooLong seen) ↔
+        ((seen ≡ length bytes.now) × (limit < length bytes.now)) }
     ensures failed { IsErrOf result FetchFault.Failed → ⊥ }
     ensures missing { IsErrOf result FetchFault.Missing → ⊥ }
 {
