@@ -17,12 +17,12 @@ use Rattle.mesh_plain.specs.Shape.{doubled_from, repeats, repeated_from, no_vert
 use Rattle.mesh_base.specs.declared.faults.ShapeFault.TheVariants.{Doubled}
 use Rattle.mesh_plain.specs.Turned.{least_first, key_of, same_key, doubled_by_key}
 
-tied_then : (o p : Ordering) → is_eq (ordering_then o p) ≡ (is_eq o && is_eq p)
+pub tied_then : (o p : Ordering) → is_eq (ordering_then o p) ≡ (is_eq o && is_eq p)
 tied_then Less p = refl
 tied_then Equal p = refl
 tied_then Greater p = refl
 
-last_one : (b : Bool) → (b && true) ≡ b
+pub last_one : (b : Bool) → (b && true) ≡ b
 last_one true = refl
 last_one false = refl
 

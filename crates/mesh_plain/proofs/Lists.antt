@@ -70,11 +70,11 @@ below_numbers j k (x ∷ xs) h =
     let low : nat_lt j k ≡ true = grind (arith, nat_tests) in
     both_true _ _ (subst (λ b. T (is_lt (cond b Less (cond (j == k) Equal Greater)))) (sym low) tt) (below_numbers j (k + 1) xs (omega arith))
 
-sorted_numbers : {A : Type 0} (k : ℕ) (xs : List A) → T (is_sorted nat_cmp (enumerate_from k xs))
+pub sorted_numbers : {A : Type 0} (k : ℕ) (xs : List A) → T (is_sorted nat_cmp (enumerate_from k xs))
 sorted_numbers k [] = tt
 sorted_numbers k (x ∷ xs) = both_true _ _ (below_numbers k (k + 1) xs (omega arith)) (sorted_numbers (k + 1) xs)
 
-len_numbered : {A : Type 0} (xs : List A) → finite.len (finite.from_entries {R = nat_cmp} (enumerate_from 1 xs)) ≡ length xs
+pub len_numbered : {A : Type 0} (xs : List A) → finite.len (finite.from_entries {R = nat_cmp} (enumerate_from 1 xs)) ≡ length xs
 len_numbered xs = len-entries _ ∙ ap length (entries-of_sorted (enumerate_from 1 xs) (sorted_numbers 1 xs)) ∙ length-enumerate_from 1 xs
 
 -- what the map of a numbered list has
@@ -91,14 +91,14 @@ live_numbered : {A : Type 0} (xs : List A) (q : ℕ) → 1 ≤ q → q ≤ lengt
 live_numbered xs zero h h' = absurd (omega arith)
 live_numbered xs (suc i) h h' = ap is_some (get-from_entries nat_cmp_total (enumerate_from 1 xs) (suc i) ∙ numbered 1 i (suc i) xs (omega arith)) ∙ is_there xs i (omega arith)
 
-of_live : {A : Type 0} (xs : List A) (q : ℕ) → IsSome (finite.get (finite.from_entries {R = nat_cmp} (enumerate_from 1 xs)) q) → (1 ≤ q) × (q < length xs + 1)
+pub of_live : {A : Type 0} (xs : List A) (q : ℕ) → IsSome (finite.get (finite.from_entries {R = nat_cmp} (enumerate_from 1 xs)) q) → (1 ≤ q) × (q < length xs + 1)
 of_live xs q h = seen (finite.get (finite.from_entries {R = nat_cmp} (enumerate_from 1 xs)) q) refl h
   where
     seen : (o : Option _) → finite.get (finite.from_entries {R = nat_cmp} (enumerate_from 1 xs)) q ≡ o → is_some o ≡ true → (1 ≤ q) × (q < length xs + 1)
     seen None is e = cc
     seen (Some x) is e = let at = got_numbered xs q x is in let inside = slice_get_within xs at.0 x at.2 in omega (arith, at.1, inside)
 
-get_map : {A B : Type 0} (g : A → B) (xs : List A) (i : ℕ) (y : B) → slice_get (map g xs) i ≡ Some y → (x : A) × (slice_get xs i ≡ Some x) × (y ≡ g x)
+pub get_map : {A B : Type 0} (g : A → B) (xs : List A) (i : ℕ) (y : B) → slice_get (map g xs) i ≡ Some y → (x : A) × (slice_get xs i ≡ Some x) × (y ≡ g x)
 get_map g [] i y h = cc
 get_map g (x ∷ xs) zero y h = (x, refl, cc)
 get_map g (x ∷ xs) (suc i) y h = get_map g xs i y h
@@ -110,22 +110,22 @@ face_of ps fs f c h =
     let from = get_map corners_of fs at.0 c at.2 in
     (at.0, from.0, at.1, from.1, from.2)
 
-none_of : {A : Type 0} (x y : Option A) → option_or x y ≡ None → (x ≡ None) × (y ≡ None)
+pub none_of : {A : Type 0} (x y : Option A) → option_or x y ≡ None → (x ≡ None) × (y ≡ None)
 none_of None y h = (refl, h)
 none_of (Some x) y h = cc
 
-none_mapped : {A B : Type 0} (g : A → B) (o : Option A) → option_map g o ≡ None → o ≡ None
+pub none_mapped : {A B : Type 0} (g : A → B) (o : Option A) → option_map g o ≡ None → o ≡ None
 none_mapped g None h = refl
 none_mapped g (Some x) h = cc
 
-not_tested : {A : Type 0} (b : Bool) (x : A) → (if b then Some x else None) ≡ None → b ≡ false
+pub not_tested : {A : Type 0} (b : Bool) (x : A) → (if b then Some x else None) ≡ None → b ≡ false
 not_tested true x h = cc
 not_tested false x h = refl
 
-abbrev first_false : Bool → Bool → Bool → Option ℕ
+abbrev pub first_false : Bool → Bool → Bool → Option ℕ
 first_false p q r = if p then (if q then (if r then None else Some 3) else Some 2) else Some 1
 
-all_vertices : (n : ℕ) (c : Corners) → bad_corner n c ≡ None → (is_vertex n c.first ≡ true) × (is_vertex n c.second ≡ true) × (is_vertex n c.third ≡ true)
+pub all_vertices : (n : ℕ) (c : Corners) → bad_corner n c ≡ None → (is_vertex n c.first ≡ true) × (is_vertex n c.second ≡ true) × (is_vertex n c.third ≡ true)
 all_vertices n c h = tests (is_vertex n c.first) (is_vertex n c.second) (is_vertex n c.third) h
   where
     tests : (p q r : Bool) → first_false p q r ≡ None → (p ≡ true) × (q ≡ true) × (r ≡ true)
@@ -139,11 +139,11 @@ no_bad_corner n k [] i l h e = cc
 no_bad_corner n k (f ∷ fs) zero l h e = let same : f ≡ l = cc in subst (λ x. bad_corner n (corners_of x) ≡ None) same (none_mapped _ _ (none_of _ (no_vertex_from n (k + 1) fs) h).0)
 no_bad_corner n k (f ∷ fs) (suc i) l h e = no_bad_corner n (k + 1) fs i l (none_of (option_map (λ corner. (k, corner)) (bad_corner n (corners_of f))) _ h).1 e
 
-none_here : (b : Bool) (k : ℕ) (r : Option ℕ) → cond b (Some k) r ≡ None → (b ≡ false) × (r ≡ None)
+pub none_here : (b : Bool) (k : ℕ) (r : Option ℕ) → cond b (Some k) r ≡ None → (b ≡ false) × (r ≡ None)
 none_here true k r h = cc
 none_here false k r h = (refl, h)
 
-nowhere : (p : List ℕ → Bool) (k : ℕ) (fs : Faces) (i : ℕ) (l : List ℕ) → position_from p k fs ≡ None → slice_get fs i ≡ Some l → p l ≡ false
+pub nowhere : (p : List ℕ → Bool) (k : ℕ) (fs : Faces) (i : ℕ) (l : List ℕ) → position_from p k fs ≡ None → slice_get fs i ≡ Some l → p l ≡ false
 nowhere p k [] i l h e = cc
 nowhere p k (f ∷ fs) zero l h e = let same : f ≡ l = cc in subst (λ x. p x ≡ false) same (none_here (p f) k (position_from p (k + 1) fs) h).0
 nowhere p k (f ∷ fs) (suc i) l h e = nowhere p (k + 1) fs i l (none_here (p f) k (position_from p (k + 1) fs) h).1 e
@@ -166,13 +166,17 @@ different c h = let apart = three c.first c.second c.third h in record { first_s
     three : (a b c : ℕ) → ((a == b) || (b == c) || (c == a)) ≡ false → (a ≢ b) × (b ≢ c) × (c ≢ a)
     three a b c h = (λ e. grind (arith, nat_tests), λ e. grind (arith, nat_tests), λ e. grind (arith, nat_tests))
 
-is_live : (ps : List Point) (v : ℕ) → is_vertex (length ps) v ≡ true → IsSome (finite.get (finite.from_entries {R = nat_cmp} (enumerate_from 1 ps)) v)
-is_live ps v h = let bounds = between (length ps) v h in live_numbered ps v bounds.0 bounds.1
+-- a vertex is numbered from 1
+pub between : (n v : ℕ) → is_vertex n v ≡ true → (1 ≤ v) × (v ≤ n)
+between n v h = two n v h
   where
-    between : (n v : ℕ) → (nat_le 1 v && nat_le v n) ≡ true → (1 ≤ v) × (v ≤ n)
-    between n v h = (grind (arith, nat_tests), grind (arith, nat_tests))
+    two : (n v : ℕ) → (nat_le 1 v && nat_le v n) ≡ true → (1 ≤ v) × (v ≤ n)
+    two n v h = (grind (arith, nat_tests), grind (arith, nat_tests))
 
-few : (limit n : ℕ) → nat_lt limit n ≡ false → n ≤ limit
+pub is_live : (ps : List Point) (v : ℕ) → is_vertex (length ps) v ≡ true → IsSome (finite.get (finite.from_entries {R = nat_cmp} (enumerate_from 1 ps)) v)
+is_live ps v h = let bounds = between (length ps) v h in live_numbered ps v bounds.0 bounds.1
+
+pub few : (limit n : ℕ) → nat_lt limit n ≡ false → n ≤ limit
 few limit n h = grind (arith, nat_tests)
 
 -- lists of good shape make a sound mesh

@@ -1,7 +1,7 @@
 -- What is wrong with lists of points and faces, and where first. Faces, corners and vertices are numbered from 1.
-use Rattle.std.specs.Prelude.{◌≡◌, ℕ, ◌+◌, ◌==◌, ◌&&◌, ◌||◌, ⊤, not, Bool, List, [], ◌∷◌, map, length, nat_lt, nat_le, if◌then◌else◌, count_by, find, zero, suc}
+use Rattle.std.specs.Prelude.{◌≡◌, ◌≤◌, ℕ, ◌+◌, ◌==◌, ◌&&◌, ◌||◌, ⊤, not, Bool, List, [], ◌∷◌, map, length, nat_lt, nat_le, if◌then◌else◌, count_by, find, IsTrue}
 use Rattle.std.specs.Option.{option_or, option_map}
-use Rattle.std.specs.List.{position_from, flat_map}
+use Rattle.std.specs.List.{position_from, flat_map, range_with_len}
 use Rattle.std.proofs.Common.{Option, Some, None}
 use Rattle.grid_base.specs.declared.TheConstants.{VERTICES_MAX, FACES_MAX}
 use Rattle.mesh_base.specs.declared.ids.Corners.{Corners}
@@ -9,8 +9,9 @@ use Rattle.mesh_base.specs.declared.faults.ShapeFault.{ShapeFault}
 use Rattle.mesh_base.specs.declared.faults.ShapeFault.TheVariants.{TooManyVertices, TooManyFaces, NoVertex, Repeated, Doubled, Unbalanced}
 use Rattle.mesh_base.specs.declared.faults.ShapeRefusal.{ShapeRefusal}
 use Rattle.mesh_base.specs.declared.faults.ShapeRefusal.TheVariants.{NoMemory, Shape}
-use Rattle.mesh_base.specs.Mesh.{equal_up_to_rotation}
-use Rattle.mesh_base.specs.Sides.{follows}
+use Rattle.std.specs.FinMap as finite
+use Rattle.mesh_base.specs.Mesh.{Mesh, HasCorners, AreLive, AreDifferent, equal_up_to_rotation}
+use Rattle.mesh_base.specs.Sides.{follows, IsClosed}
 use Rattle.mesh_base.specs.Changes.{corners_of}
 use Rattle.mesh_base.specs.Given.{Faces}
 
@@ -43,14 +44,9 @@ doubled_from k (f ∷ fs) = option_or (option_map (λ second. (k, second)) (posi
 abbrev pub runs_in : Faces → ℕ → ℕ → ℕ
 runs_in fs u v = count_by (λ f. follows (corners_of f) u v) fs
 
--- n numbers, from k
-abbrev pub numbers_from : ℕ → ℕ → List ℕ
-numbers_from k zero = []
-numbers_from k (suc n) = k ∷ numbers_from (k + 1) n
-
 -- 1 to n
 abbrev pub numbers_to : ℕ → List ℕ
-numbers_to n = numbers_from 1 n
+numbers_to n = range_with_len 1 n
 
 -- the first two vertices, of n, between which the faces do not run as often one way as the other
 abbrev pub first_unbalanced : ℕ → Faces → Option (ℕ × ℕ)
@@ -73,3 +69,17 @@ shape_fault n fs = option_or (fault_but_balance n fs) (option_map (λ p. Unbalan
 abbrev pub IsRefusal : Option ShapeFault → ShapeRefusal → Type 0
 IsRefusal fault NoMemory = ⊤
 IsRefusal fault (Shape f) = fault ≡ Some f
+
+-- the part of the laws, the limits and the balance that a fault denies
+abbrev pub Denied : ShapeFault → Mesh → Type 0
+Denied (TooManyVertices count) m = finite.len m.points ≤ VERTICES_MAX
+Denied (TooManyFaces count) m = finite.len m.faces ≤ FACES_MAX
+Denied (NoVertex face corner) m = (f : ℕ) (c : Corners) → HasCorners m f c → AreLive m c
+Denied (Repeated face) m = (f : ℕ) (c : Corners) → HasCorners m f c → AreDifferent c
+Denied (Doubled first second) m = (f g : ℕ) (c d : Corners) → HasCorners m f c → HasCorners m g d → IsTrue (equal_up_to_rotation c d) → f ≡ g
+Denied (Unbalanced from to) m = IsClosed m
+
+-- a refusal that names a fault denies what does not hold
+abbrev pub IsJust : Mesh → ShapeRefusal → Type 0
+IsJust m NoMemory = ⊤
+IsJust m (Shape f) = ¬ (Denied f m)

@@ -2,10 +2,13 @@
 //! mesh_base, so that a user needs this crate alone.
 #![tactic(auto)]
 
+mod balance;
+mod good_shape;
+pub mod laws;
 mod plain;
-mod shape;
 mod tables;
 
+pub use good_shape::shape;
 pub use mesh_base::{
     AddFault, Corners, FaceId, FaceIds, FileWord, How, Ids, Mark, MeshLists, PairName, Points,
     ShapeFault, ShapeRefusal, ShiftOf, Shifts, Surface, Triangles, UseWhy, VertexId, live_faces,

@@ -36,6 +36,7 @@ impl PlainMesh {
 
 impl Surface for PlainMesh {
     ghost use Rattle.std.specs.Prelude.{[], ◌∷◌, ◌++◌, length, IfOk, OnErr};
+    ghost use Rattle.std.proofs.Common.{lit≤};
     ghost use Rattle.mesh_base.specs.Kept.{BeginsWith, MarkHolds, StandsFor};
 
     ghost mesh = { λ s. s.now };
@@ -43,6 +44,8 @@ impl Surface for PlainMesh {
     ghost kept = { λ s. s.before.items };
 
     ghost beyond = { 0 };
+
+    ghost beyond_small = { lit≤ tt };
 
     ghost sound = { λ s. s.now_sound };
 

@@ -1,13 +1,49 @@
-ghost use Rattle.std.specs.Prelude.{◌≡◌, ◌^◌, ◌<◌, ◌≤◌, ◌+◌, length, IfOk, None, All, false};
+ghost use Rattle.std.specs.Prelude.{◌≡◌, ◌^◌, ◌<◌, ◌≤◌, ◌+◌, length, IsOk, IfOk, IfErr, None, All, false};
 ghost use Rattle.grid_base.specs.declared.TheConstants.{VERTICES_MAX, FACES_MAX};
+ghost use Rattle.mesh_base.specs.Mesh.{IsSound};
+ghost use Rattle.mesh_base.specs.Sides.{IsClosed};
 ghost use Rattle.mesh_base.specs.Changes.{corners_of};
+ghost use Rattle.mesh_base.specs.Given.{mesh_of};
 ghost use Rattle.mesh_plain.specs.Turned.{key_of, doubled_by_key};
-ghost use Rattle.mesh_plain.specs.Shape.{bad_corner, no_vertex_from, repeats, repeated_from, fault_but_balance};
+ghost use Rattle.mesh_plain.specs.Shape.{bad_corner, no_vertex_from, repeats, repeated_from, fault_but_balance, shape_fault, IsRefusal, IsJust};
 
+use crate::balance::first_unbalanced;
 use grid_base::{FACES_MAX, NoMemory, VERTICES_MAX};
 use mesh_base::{MeshLists, ShapeFault, ShapeRefusal};
 use std::alloc::Global;
 use std::collections::BTreeMap;
+
+/// Whether lists make a closed mesh within the limits. If not, the first fault, in the order of `ShapeFault`, at its
+/// least place: the least face, then corner, or the least two numbers, the first compared first.
+pub fn shape(alloc: Global, lists: &MeshLists) -> Result<(), ShapeRefusal>
+    // Ok: no fault, which is to say a mesh within its limits, and closed.
+    ensures none { IsOk result → shape_fault (length lists.now.points) lists.now.faces ≡ None }
+    ensures sound { IsOk result → IsSound (mesh_of lists.now.points lists.now.faces) }
+    ensures closed { IsOk result → IsClosed (mesh_of lists.now.points lists.now.faces) }
+
+    // A fault: the first, and what it denies does not hold.
+    ensures first { IfErr result (IsRefusal (shape_fault (length lists.now.points) lists.now.faces)) }
+    ensures just { IfErr result (IsJust (mesh_of lists.now.points lists.now.faces)) }
+{
+    match fault_of(alloc, lists) {
+        Ok(None) => Ok(()),
+        Ok(Some(fault)) => Err(ShapeRefusal::Shape(fault)),
+        Err(_) => Err(ShapeRefusal::NoMemory),
+    }
+}
+
+/// What is wrong with lists.
+fn fault_of(alloc: Global, lists: &MeshLists) -> Result<Option<ShapeFault>, NoMemory>
+    ensures { IfOk result (λ fault. fault ≡ shape_fault (length lists.now.points) lists.now.faces) }
+{
+    if let Some(fault) = fault_but_balance(alloc, lists)? {
+        return Ok(Some(fault));
+    }
+    match first_unbalanced(alloc, lists.points.len() as u32, lists.faces.as_slice())? {
+        Some((from, to)) => Ok(Some(ShapeFault::Unbalanced { from, to })),
+        None => Ok(None),
+    }
+}
 
 fn bad_corner(n: u32, f: &[u32; 3]) -> Option<u8>
     ensures { result ≡ bad_corner n (corners_of f.now) }

@@ -3,7 +3,7 @@ use Rattle.mesh_base.specs.declared.faults.ShapeFault.TheVariants.{Doubled}
 use Rattle.mesh_base.specs.Given.{Faces}
 use Rattle.mesh_plain.specs.Shape.{fault_but_balance}
 use Rattle.mesh_plain.proofs.DoubledKeys.{fault_doubled}
-use Rattle.mesh_plain.proofs.shape.fault_but_balance.Goals as goal
+use Rattle.mesh_plain.proofs.good_shape.fault_but_balance.Goals as goal
 
 pub returns-in-Some-2 : goal.returns-in-Some-2
 returns-in-Some-2 c =
