@@ -1,2 +1,4 @@
 pub mod Cuts
 pub mod Fans
+pub mod Ranks
+pub mod Lookups

@@ -3,5 +3,7 @@
 
 mod corner;
 mod reading;
+mod writing;
 
 pub use reading::read_obj;
+pub use writing::obj_of;
