@@ -2,3 +2,5 @@ pub mod Cuts
 pub mod Fans
 pub mod Ranks
 pub mod Lookups
+pub mod RankBounds
+pub mod Again
