@@ -2,6 +2,10 @@
 #![tactic(auto)]
 
 mod corner;
+mod law;
 mod reading;
+mod writing;
 
+pub use law::written_is_read;
 pub use reading::read_obj;
+pub use writing::obj_of;
