@@ -3,6 +3,8 @@
 
 mod log_line;
 mod printing;
+#[cfg(test)]
+mod tests;
 
 pub use log_line::{LogLine, Refusal};
 pub use printing::print_line;

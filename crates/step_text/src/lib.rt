@@ -3,6 +3,8 @@
 
 mod directive;
 mod reading;
+#[cfg(test)]
+mod tests;
 
 pub use directive::{Directive, Directives, Placed};
 pub use reading::read_steps;
