@@ -5,7 +5,7 @@ ghost use Rattle.grid_base.specs.declared.TheConstants.{HALF_MAX, DIRECTION_MAX}
 ghost use Rattle.motion_test.specs.Pairs.{positions_of};
 
 use crate::{
-    Pair, brings_together, closes, directions, five, keeps_apart, opens, passes, separated,
+    Pair, brings_together, closes, directions, keeps_apart, opens, passes, positions, separated,
     takes_apart,
 };
 use grid_base::{DEPTH_MAX, HALF_MAX, Positions, Wide};
@@ -49,8 +49,8 @@ fn pair(rt: &impl Abort, start: &Place, end: &Place) -> Pair
 {
     let start = all_at(start);
     let end = all_at(end);
-    assert!(rt; are_within(&five(&start)));
-    assert!(rt; are_within(&five(&end)));
+    assert!(rt; are_within(&positions(&start)));
+    assert!(rt; are_within(&positions(&end)));
     Pair { start, end }
 }
 
@@ -93,8 +93,8 @@ fn a_pair_that_leaves_a_touch_only_opens(rt: HostRuntime) {
 #[test]
 fn directions_stand_in_their_order(rt: HostRuntime) {
     let p = pair(&rt, &TOUCHING, &MOVED_AWAY);
-    let s = five(&p.start);
-    let t = five(&p.end);
+    let s = positions(&p.start);
+    let t = positions(&p.end);
     let all = directions(&s, &t);
     assert_eq!(rt; all[0], at([1, 0, 0]));
     assert_eq!(rt; all[1], at([0, 1, 0]));
@@ -173,8 +173,8 @@ fn is_clear_at_both_ends(p: &Pair) -> bool
     requires start_fits { AreWithin HALF_MAX (positions_of p.now.start) }
     requires end_fits { AreWithin HALF_MAX (positions_of p.now.end) }
 {
-    let s = five(&p.start);
-    let t = five(&p.end);
+    let s = positions(&p.start);
+    let t = positions(&p.end);
     !meets(s.a, s.b, s.c, s.d, s.e) && !meets(t.a, t.b, t.c, t.d, t.e)
 }
 
