@@ -5,7 +5,7 @@ use grid_base::Wide;
 
 /// A box along the axes, from its least corner to its greatest, both of which belong to it. Each of its sides may have
 /// length zero, and its coordinates are at most `EXTENT_MAX` in size.
-#[derive(Clone, Copy)]
+#[derive(Clone, Copy, Debug, PartialEq, Eq)]
 pub struct Extent {
     /// The least corner.
     pub low: Wide,

@@ -14,3 +14,6 @@ pub use grid::Grid;
 
 // An extent that touches more cells than this is looked at by every question.
 pub(crate) const CELLS_MAX: u32 = 64;
+
+#[cfg(test)]
+mod tests;
