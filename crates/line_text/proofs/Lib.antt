@@ -1,0 +1,10 @@
+pub mod Digits
+pub mod LineCuts
+pub mod WordCuts
+pub mod Rounding
+pub mod Places
+pub mod Cuts
+pub mod Decimals
+pub mod FixedAgain
+pub mod WordPuts
+pub mod WrittenAgain

@@ -1,0 +1,7 @@
+-- A fixed text is read as the value that it was written of.
+use Rattle.std.specs.Prelude.{◌≡◌, ℕ, ◌≤◌, Ok, ℤ, unsigned_abs}
+use Rattle.grid_base.specs.declared.TheConstants.{BOX}
+use Rattle.line_text.specs.Numbers.{grid_number_of, fixed_text}
+
+abbrev pub FixedIsRead : Type 0
+FixedIsRead = (decimals : ℕ) (value : ℤ) → decimals ≤ 6 → unsigned_abs value ≤ BOX → grid_number_of decimals (fixed_text decimals value) ≡ Ok value

@@ -1,0 +1,9 @@
+pub mod Texts
+pub mod Numbers
+pub mod DecimalViews
+pub mod Remaining
+pub mod Faults
+pub mod Pieces
+pub mod Fields
+pub mod WrittenLines
+pub mod Laws

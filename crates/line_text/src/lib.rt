@@ -1,0 +1,26 @@
+//! The lines of a text, the words of a line, the numbers that words write, and lines that are written word by word.
+#![tactic(auto)]
+
+mod blank_words;
+mod cut;
+mod fault;
+mod fixed_text;
+mod grid;
+mod law;
+mod number;
+mod pieces;
+mod putting;
+mod taking;
+mod text_lines;
+
+pub use blank_words::Words;
+pub use cut::words;
+pub use fault::{ReadFault, TextFault, TextWhy};
+pub use fixed_text::fixed;
+pub use grid::grid_number;
+pub use law::fixed_is_read;
+pub use number::{NumberWhy, number_within, whole, whole_parts};
+pub use pieces::{Parts, cut_at};
+pub use putting::{Field, put_line};
+pub use taking::{coordinate, count_is, count_up_to, is_word, number_at, signed_at};
+pub use text_lines::{Line, Lines};

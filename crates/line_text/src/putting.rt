@@ -1,0 +1,49 @@
+ghost use Rattle.std.specs.Prelude.{◌≡◌, ◌++◌, ◌∷◌, [], length, take, map, OnOk, OnErr};
+ghost use Rattle.line_text.specs.WrittenLines.{word_of, line_of_words, Keeps};
+
+use grid_base::NoMemory;
+use itoa::Buffer;
+
+/// A word of a line that is written: a text as it stands, or the decimal digits of a number, behind `-` where it is
+/// negative.
+#[derive(Clone, Copy)]
+pub enum Field<'a> {
+    Text(&'a [u8]),
+    Number(u64),
+    Signed(i32),
+}
+
+// Appends a word and the byte behind it. On refusal the bytes from before still stand in front.
+fn put_field(field: &Field<'_>, end: u8, into: &mut Vec<u8>) -> Result<(), NoMemory>
+    ensures ok { OnOk result (into.new.items ≡ into.old.items ++ word_of field.now ++ end ∷ []) }
+    ensures err { OnErr result (Keeps into.old.items into.new.items) }
+{
+    let mut buffer = Buffer::new();
+    match field {
+        Field::Text(text) => into.extend_from_slice(text)?,
+        Field::Number(n) => into.extend_from_slice(buffer.format(*n).as_bytes())?,
+        Field::Signed(n) => into.extend_from_slice(buffer.format(*n).as_bytes())?,
+    }
+    into.push(end)?;
+    Ok(())
+}
+
+/// Appends a line of these words, with one space between them and LF behind the last; nothing where there is no word.
+/// On refusal `into` is as before.
+pub fn put_line(fields: &[Field<'_>], into: &mut Vec<u8>) -> Result<(), NoMemory>
+    ensures ok { OnOk result (into.new.items ≡ into.old.items ++ line_of_words (map word_of fields.now)) }
+    ensures err { OnErr result (into.new.items ≡ into.old.items) }
+{
+    let start = into.len();
+    for (i, field) in fields.iter().enumerate() {
+        let end = if i + 1 == fields.len() { b'\n' } else { b' ' };
+        match put_field(field, end, into) {
+            Ok(()) => {}
+            Err(NoMemory) => {
+                into.truncate(start);
+                return Err(NoMemory);
+            }
+        }
+    }
+    Ok(())
+}
