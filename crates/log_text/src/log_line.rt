@@ -1,0 +1,42 @@
+use line_text::TextFault;
+use mesh_base::{FileWord, How, PairName, ShapeFault, ShiftOf, UseWhy};
+
+/// Why a run ended before its directives were all run.
+#[derive(Clone, Copy, Debug, PartialEq, Eq)]
+pub enum Refusal {
+    /// A file has more bytes than may be read, `seen` or more of them.
+    Long { file: FileWord, seen: u64 },
+    /// A file isn't there.
+    Missing { file: FileWord },
+    /// A line of the mesh file is outside its grammar.
+    Mesh(TextFault),
+    /// The mesh file's points and faces are no closed mesh.
+    Shape(ShapeFault),
+    /// The mesh isn't clear; its first pair that meets.
+    Meets(PairName),
+    /// A line of the step file is outside its grammar.
+    Steps(TextFault),
+    /// A directive, by its line, can't be run.
+    StepUse { line: u32, why: UseWhy },
+}
+
+/// A line of a log.
+#[derive(Clone, Copy, Debug, PartialEq, Eq)]
+pub enum LogLine {
+    /// The first line, with the version of the lines' spelling.
+    First { version: u8 },
+    /// Mesh `k`, with so many vertices and faces, is stored next.
+    Mesh { k: u32, vertices: u32, faces: u32 },
+    /// Step `k` begins, counted from 1.
+    Step { k: u32 },
+    /// A pair of the asked step that doesn't pass.
+    Hit(PairName),
+    /// A shift of the step that is taken.
+    Move(ShiftOf),
+    /// The step takes effect.
+    Moved(How),
+    /// The run ended before its directives were all run.
+    Refused(Refusal),
+    /// The directives were all run.
+    End,
+}

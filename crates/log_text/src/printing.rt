@@ -1,0 +1,300 @@
+ghost use Rattle.std.specs.Prelude.{◌≡◌, ◌++◌, ◌∷◌, [], ◌<◌, length, map, OnOk, OnErr};
+ghost use Rattle.line_text.specs.WrittenLines.{word_of};
+ghost use Rattle.log_text.specs.Lines.{joined};
+ghost use Rattle.log_text.specs.Lines as spec;
+
+use crate::log_line::{LogLine, Refusal};
+use grid_base::NoMemory;
+use line_text::{Field, TextFault, TextWhy, put_line};
+use mesh_base::{FileWord, How, PairName, ShapeFault, ShiftOf, UseWhy};
+
+// Appends the words with one space between them and LF behind them, or changes nothing.
+fn put_words(fields: &[Field<'_>], into: &mut Vec<u8>) -> Result<(), NoMemory>
+    requires { 0 < length fields.now }
+    ensures ok { OnOk result (into.new.items ≡ into.old.items ++ (joined (map word_of fields.now) ++ 10 ∷ [])) }
+    ensures err { OnErr result (into.new.items ≡ into.old.items) }
+{
+    put_line(fields, into)
+}
+
+fn file_word(file: FileWord) -> &'static [u8]
+    ensures { result.now ≡ spec.file_word file }
+{
+    match file {
+        FileWord::Mesh => b"mesh",
+        FileWord::Steps => b"steps",
+    }
+}
+
+fn why_word(why: TextWhy) -> &'static [u8]
+    ensures { result.now ≡ spec.why_word why }
+{
+    match why {
+        TextWhy::Number => b"number",
+        TextWhy::Corner => b"corner",
+        TextWhy::Range => b"range",
+        TextWhy::Short => b"short",
+        TextWhy::Long => b"long",
+        TextWhy::Unknown => b"unknown",
+        TextWhy::Continuation => b"continuation",
+    }
+}
+
+fn print_first(version: u8, into: &mut Vec<u8>) -> Result<(), NoMemory>
+    ensures ok { OnOk result (into.new.items ≡ into.old.items ++ spec.text_of_line (LogLine.First version)) }
+    ensures err { OnErr result (into.new.items ≡ into.old.items) }
+{
+    put_words(
+        &[
+            Field::Text(b"topo"),
+            Field::Text(b"log"),
+            Field::Number(u64::from(version)),
+        ],
+        into,
+    )
+}
+
+fn print_mesh(k: u32, vertices: u32, faces: u32, into: &mut Vec<u8>) -> Result<(), NoMemory>
+    ensures ok { OnOk result (into.new.items ≡ into.old.items ++ spec.text_of_line (LogLine.Mesh k vertices faces)) }
+    ensures err { OnErr result (into.new.items ≡ into.old.items) }
+{
+    put_words(
+        &[
+            Field::Text(b"mesh"),
+            Field::Number(u64::from(k)),
+            Field::Number(u64::from(vertices)),
+            Field::Number(u64::from(faces)),
+        ],
+        into,
+    )
+}
+
+fn print_step(k: u32, into: &mut Vec<u8>) -> Result<(), NoMemory>
+    ensures ok { OnOk result (into.new.items ≡ into.old.items ++ spec.text_of_line (LogLine.Step k)) }
+    ensures err { OnErr result (into.new.items ≡ into.old.items) }
+{
+    put_words(&[Field::Text(b"step"), Field::Number(u64::from(k))], into)
+}
+
+fn print_hit(pair: PairName, into: &mut Vec<u8>) -> Result<(), NoMemory>
+    ensures ok { OnOk result (into.new.items ≡ into.old.items ++ spec.text_of_line (LogLine.Hit pair)) }
+    ensures err { OnErr result (into.new.items ≡ into.old.items) }
+{
+    put_words(
+        &[
+            Field::Text(b"hit"),
+            Field::Number(u64::from(pair.a.0)),
+            Field::Number(u64::from(pair.b.0)),
+            Field::Number(u64::from(pair.face.0)),
+        ],
+        into,
+    )
+}
+
+fn print_move(s: ShiftOf, into: &mut Vec<u8>) -> Result<(), NoMemory>
+    ensures ok { OnOk result (into.new.items ≡ into.old.items ++ spec.text_of_line (LogLine.Move s)) }
+    ensures err { OnErr result (into.new.items ≡ into.old.items) }
+{
+    put_words(
+        &[
+            Field::Text(b"move"),
+            Field::Number(u64::from(s.v.0)),
+            Field::Signed(s.by.x),
+            Field::Signed(s.by.y),
+            Field::Signed(s.by.z),
+        ],
+        into,
+    )
+}
+
+fn print_moved(how: How, into: &mut Vec<u8>) -> Result<(), NoMemory>
+    ensures ok { OnOk result (into.new.items ≡ into.old.items ++ spec.text_of_line (LogLine.Moved how)) }
+    ensures err { OnErr result (into.new.items ≡ into.old.items) }
+{
+    let moved = Field::Text(b"moved");
+    match how {
+        How::Whole => put_words(&[moved, Field::Text(b"whole")], into),
+        How::Impulse { passes } => put_words(
+            &[
+                moved,
+                Field::Text(b"impulse"),
+                Field::Number(u64::from(passes)),
+            ],
+            into,
+        ),
+        How::Zones { rounds } => put_words(
+            &[
+                moved,
+                Field::Text(b"zones"),
+                Field::Number(u64::from(rounds)),
+            ],
+            into,
+        ),
+        How::Halved { times } => put_words(
+            &[
+                moved,
+                Field::Text(b"halved"),
+                Field::Number(u64::from(times)),
+            ],
+            into,
+        ),
+        How::Zero => put_words(&[moved, Field::Text(b"zero")], into),
+    }
+}
+
+// Appends the line that refuses the points and faces of a mesh file.
+fn print_shape(fault: ShapeFault, into: &mut Vec<u8>) -> Result<(), NoMemory>
+    ensures ok { OnOk result (into.new.items ≡ into.old.items ++ spec.text_of_line (LogLine.Refused (Refusal.Shape fault))) }
+    ensures err { OnErr result (into.new.items ≡ into.old.items) }
+{
+    let refused = Field::Text(b"refused");
+    let shape = Field::Text(b"shape");
+    match fault {
+        ShapeFault::TooManyVertices { count } => put_words(
+            &[
+                refused,
+                shape,
+                Field::Text(b"vertices"),
+                Field::Number(count),
+            ],
+            into,
+        ),
+        ShapeFault::TooManyFaces { count } => put_words(
+            &[refused, shape, Field::Text(b"faces"), Field::Number(count)],
+            into,
+        ),
+        ShapeFault::NoVertex { face, corner } => put_words(
+            &[
+                refused,
+                shape,
+                Field::Text(b"corner"),
+                Field::Number(u64::from(face)),
+                Field::Number(u64::from(corner)),
+            ],
+            into,
+        ),
+        ShapeFault::Repeated { face } => put_words(
+            &[
+                refused,
+                shape,
+                Field::Text(b"repeated"),
+                Field::Number(u64::from(face)),
+            ],
+            into,
+        ),
+        ShapeFault::Doubled { first, second } => put_words(
+            &[
+                refused,
+                shape,
+                Field::Text(b"doubled"),
+                Field::Number(u64::from(first)),
+                Field::Number(u64::from(second)),
+            ],
+            into,
+        ),
+        ShapeFault::Unbalanced { from, to } => put_words(
+            &[
+                refused,
+                shape,
+                Field::Text(b"unbalanced"),
+                Field::Number(u64::from(from)),
+                Field::Number(u64::from(to)),
+            ],
+            into,
+        ),
+    }
+}
+
+// Appends the line that refuses a directive.
+fn print_use(at: u32, why: UseWhy, into: &mut Vec<u8>) -> Result<(), NoMemory>
+    ensures ok { OnOk result (into.new.items ≡ into.old.items ++ spec.text_of_line (LogLine.Refused (Refusal.StepUse at why))) }
+    ensures err { OnErr result (into.new.items ≡ into.old.items) }
+{
+    let (word, v) = match why {
+        UseWhy::ShiftRange { v } => (Field::Text(b"range"), v),
+        UseWhy::Box { v } => (Field::Text(b"box"), v),
+    };
+    put_words(
+        &[
+            Field::Text(b"refused"),
+            Field::Text(b"use"),
+            Field::Number(u64::from(at)),
+            word,
+            Field::Number(u64::from(v)),
+        ],
+        into,
+    )
+}
+
+fn print_refused(why: Refusal, into: &mut Vec<u8>) -> Result<(), NoMemory>
+    ensures ok { OnOk result (into.new.items ≡ into.old.items ++ spec.text_of_line (LogLine.Refused why)) }
+    ensures err { OnErr result (into.new.items ≡ into.old.items) }
+{
+    let refused = Field::Text(b"refused");
+    match why {
+        Refusal::Long { file, seen } => put_words(
+            &[
+                refused,
+                Field::Text(b"long"),
+                Field::Text(file_word(file)),
+                Field::Number(seen),
+            ],
+            into,
+        ),
+        Refusal::Missing { file } => put_words(
+            &[
+                refused,
+                Field::Text(b"missing"),
+                Field::Text(file_word(file)),
+            ],
+            into,
+        ),
+        Refusal::Mesh(TextFault { line, why }) => put_words(
+            &[
+                refused,
+                Field::Text(b"mesh"),
+                Field::Number(u64::from(line)),
+                Field::Text(why_word(why)),
+            ],
+            into,
+        ),
+        Refusal::Shape(fault) => print_shape(fault, into),
+        Refusal::Meets(pair) => put_words(
+            &[
+                refused,
+                Field::Text(b"meets"),
+                Field::Number(u64::from(pair.a.0)),
+                Field::Number(u64::from(pair.b.0)),
+                Field::Number(u64::from(pair.face.0)),
+            ],
+            into,
+        ),
+        Refusal::Steps(TextFault { line, why }) => put_words(
+            &[
+                refused,
+                Field::Text(b"steps"),
+                Field::Number(u64::from(line)),
+                Field::Text(why_word(why)),
+            ],
+            into,
+        ),
+        Refusal::StepUse { line, why } => print_use(line, why, into),
+    }
+}
+
+/// Appends the one spelling of the line, with LF at its end, or changes nothing.
+pub fn print_line(line: &LogLine, into: &mut Vec<u8>) -> Result<(), NoMemory>
+    ensures ok { OnOk result (into.new.items ≡ into.old.items ++ spec.text_of_line line.now) }
+    ensures err { OnErr result (into.new.items ≡ into.old.items) }
+{
+    match *line {
+        LogLine::First { version } => print_first(version, into),
+        LogLine::Mesh { k, vertices, faces } => print_mesh(k, vertices, faces, into),
+        LogLine::Step { k } => print_step(k, into),
+        LogLine::Hit(pair) => print_hit(pair, into),
+        LogLine::Move(s) => print_move(s, into),
+        LogLine::Moved(how) => print_moved(how, into),
+        LogLine::Refused(why) => print_refused(why, into),
+        LogLine::End => put_words(&[Field::Text(b"end")], into),
+    }
+}

@@ -1,0 +1,22 @@
+use grid_base::{Items, Shift};
+
+/// What one line of a step text asks for.
+#[derive(Clone, Copy, Debug, PartialEq, Eq)]
+pub enum Directive {
+    /// Add the shift to the asked shift of every live vertex.
+    ShiftAll { by: Shift },
+    /// Take the asked shifts.
+    Step,
+    /// Store the mesh as it is.
+    Save,
+}
+
+/// A directive and its line, counted from 1.
+#[derive(Clone, Copy, Debug, PartialEq, Eq)]
+pub struct Placed {
+    pub line: u32,
+    pub what: Directive,
+}
+
+/// The directives of a step text, in the order of their lines.
+pub type Directives = Items<Placed>;

@@ -1,0 +1,106 @@
+ghost use Rattle.std.specs.Prelude.{◌≡◌, ◌≤◌, ◌+◌, length, IfOk};
+ghost use Rattle.grid_base.specs.declared.TheConstants.{SHIFT_MAX, TEXT_MAX};
+ghost use Rattle.grid_base.specs.Components.{FitWithin};
+ghost use Rattle.grid_base.specs.Points.{shift_by};
+ghost use Rattle.line_text.specs.Faults.{Gives, Leaves, at_line};
+ghost use Rattle.line_text.specs.Remaining.{words_left};
+ghost use Rattle.step_text.specs.Steps as spec;
+
+use crate::directive::{Directive, Directives, Placed};
+use grid_base::{SHIFT_MAX, Shift};
+use line_text::{Lines, ReadFault, TextFault, TextWhy, Words, count_is, is_word, signed_at, words};
+use std::alloc::Global;
+
+fn shift_with(x: i32, y: i32, z: i32) -> Shift
+    requires { FitWithin SHIFT_MAX x y z }
+    ensures { result ≡ shift_by (record { x = x; y = y; z = z }) }
+{
+    Shift { x, y, z }
+}
+
+#[tactic(auto, unfolding(crate::specs::Steps::shift_all_of))]
+fn shift_all(words: Words<'_>) -> Result<Directive, TextWhy>
+    ensures { result ≡ spec.shift_all_of (words_left words.entry) }
+{
+    let mut words = words;
+    count_is(3, words)?;
+    let x = signed_at(&mut words, SHIFT_MAX)?;
+    let y = signed_at(&mut words, SHIFT_MAX)?;
+    let z = signed_at(&mut words, SHIFT_MAX)?;
+    Ok(Directive::ShiftAll {
+        by: shift_with(x, y, z),
+    })
+}
+
+#[tactic(auto, unfolding(crate::specs::Steps::shift_of))]
+fn shift(words: Words<'_>) -> Result<Directive, TextWhy>
+    ensures { result ≡ spec.shift_of (words_left words.entry) }
+{
+    let mut words = words;
+    let Some(who) = words.next() else {
+        return Err(TextWhy::Short);
+    };
+    if is_word(who, b"all") {
+        return shift_all(words);
+    }
+    Err(TextWhy::Unknown)
+}
+
+#[tactic(auto, unfolding(crate::specs::Steps::alone))]
+fn alone(directive: Directive, words: Words<'_>) -> Result<Directive, TextWhy>
+    ensures { result ≡ spec.alone directive (words_left words.entry) }
+{
+    count_is(0, words)?;
+    Ok(directive)
+}
+
+#[tactic(auto, unfolding(crate::specs::Steps::directive_of))]
+fn directive(first: &[u8], words: Words<'_>) -> Result<Directive, TextWhy>
+    ensures { result ≡ spec.directive_of first.now (words_left words.entry) }
+{
+    if is_word(first, b"shift") {
+        return shift(words);
+    }
+    if is_word(first, b"step") {
+        return alone(Directive::Step, words);
+    }
+    if is_word(first, b"save") {
+        return alone(Directive::Save, words);
+    }
+    Err(TextWhy::Unknown)
+}
+
+// Adds the directive of a line of these words, if it has any.
+#[tactic(auto, unfolding(crate::specs::Steps::words_add))]
+fn add_words(directives: &mut Directives, words: Words<'_>, line: u32) -> Result<(), ReadFault>
+    ensures value { Leaves directives.new result (at_line line (spec.words_add line directives.old (words_left words.entry))) }
+    ensures more { length directives.new ≤ length directives.old + 1 }
+{
+    let mut words = words;
+    let Some(first) = words.next() else {
+        return Ok(());
+    };
+    match directive(first, words) {
+        Ok(what) => {
+            directives.push(Placed { line, what })?;
+            Ok(())
+        }
+        Err(_) => Err(ReadFault::Text(TextFault {
+            line,
+            why: TextWhy::Unknown,
+        })),
+    }
+}
+
+/// The directives of a step text, or the first line outside its grammar with the reason.
+pub fn read_steps(alloc: Global, bytes: &[u8]) -> Result<Directives, ReadFault>
+    requires { length bytes.now ≤ TEXT_MAX }
+    ensures value { Gives (λ d. d) result (spec.steps_of bytes.now) }
+    ensures few { IfOk result (λ d. length d ≤ TEXT_MAX) }
+{
+    let mut directives = Directives::new(alloc);
+    for line in Lines::new(bytes) {
+        add_words(&mut directives, words(line.bytes), line.number)?;
+    }
+    Ok(directives)
+}
