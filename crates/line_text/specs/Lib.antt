@@ -5,5 +5,6 @@ pub mod Remaining
 pub mod Faults
 pub mod Pieces
 pub mod Fields
+pub mod Spellings
 pub mod WrittenLines
 pub mod Laws

@@ -74,7 +74,7 @@ fn exponent(word: &[u8]) -> Option<(u64, u64)>
             if *first != b'e' && *first != b'E' {
                 return None;
             }
-            let size = number_within(3, without_sign(rest))?;
+            let size = number_within(3, without_sign(rest))? as u64;
             if begins_with(b'-', rest) {
                 Some((0, size))
             } else {

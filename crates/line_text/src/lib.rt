@@ -10,7 +10,10 @@ mod law;
 mod number;
 mod pieces;
 mod putting;
+mod spelling;
 mod taking;
+#[cfg(test)]
+mod tests;
 mod text_lines;
 
 pub use blank_words::Words;
@@ -19,8 +22,12 @@ pub use fault::{ReadFault, TextFault, TextWhy};
 pub use fixed_text::fixed;
 pub use grid::grid_number;
 pub use law::fixed_is_read;
-pub use number::{NumberWhy, number_within, whole, whole_parts};
+pub use number::{DIGITS_MAX, NumberWhy, number_within, whole, whole_parts};
 pub use pieces::{Parts, cut_at};
 pub use putting::{Field, put_line};
+pub use spelling::{
+    count_parts_up_to, count_with_end, spelled_at, spelled_number, spelled_parts,
+    spelled_signed_at, spelled_wide_at,
+};
 pub use taking::{coordinate, count_is, count_up_to, is_word, number_at, signed_at};
 pub use text_lines::{Line, Lines};

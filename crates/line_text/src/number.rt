@@ -1,4 +1,5 @@
 ghost use Rattle.std.specs.Prelude.{◌≡◌, ◌≤◌, ◌<◌, ◌^◌, IfSome, option_map};
+ghost use Rattle.line_text.specs.declared.number.TheConstants.{DIGITS_MAX};
 ghost use Rattle.line_text.specs.Numbers as spec;
 
 /// Why a decimal word gives no number on the grid.
@@ -26,21 +27,24 @@ pub(crate) fn with_sign(negative: bool, size: u64) -> i64
     if negative { -size } else { size }
 }
 
+/// The most digits of a number that is read.
+pub const DIGITS_MAX: usize = 38;
+
 /// The number that one to `most` digits write; None where the word is anything else.
-pub fn number_within(most: usize, word: &[u8]) -> Option<u64>
-    requires { most ≤ 19 }
+pub fn number_within(most: usize, word: &[u8]) -> Option<u128>
+    requires { most ≤ DIGITS_MAX }
     ensures value { result ≡ spec.number_within most word.now }
     ensures below { IfSome result (λ n. n < 10 ^ most) }
 {
     if word.is_empty() || word.len() > most {
         return None;
     }
-    let mut n: u64 = 0;
+    let mut n: u128 = 0;
     for b in word {
         if *b < b'0' || *b > b'9' {
             return None;
         }
-        n = 10 * n + u64::from(*b - b'0');
+        n = 10 * n + u128::from(*b - b'0');
     }
     Some(n)
 }
@@ -54,7 +58,7 @@ pub fn whole_parts(word: &[u8]) -> Option<(bool, u64)>
     let negative = begins_with(b'-', word);
     let digits = if negative { word.split_at(1).1 } else { word };
     let size = number_within(10, digits)?;
-    Some((negative, size))
+    Some((negative, size as u64))
 }
 
 /// The number that a whole word writes, an optional `-` and one to ten digits. None where the word is anything else.

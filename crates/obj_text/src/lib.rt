@@ -4,6 +4,8 @@
 mod corner;
 mod law;
 mod reading;
+#[cfg(test)]
+mod tests;
 mod writing;
 
 pub use law::written_is_read;
