@@ -35,7 +35,7 @@ dot-corners n k l m c d e = rw (dot-plus n (plus (times k c) (times l d)) (times
 
 -- ---- a direction with the edge below excludes weights
 -- the same of numbers: no mean of smaller numbers is a mean of greater ones
-no_mean_below : (i j k l m : ℕ) (a b c d e : ℤ) → 0 < i + j → i + j ≡ k + l + m → (top : ℤ) → a ≤ℤ top → b ≤ℤ top → top <ℤ c → top <ℤ d → top <ℤ e →
+pub no_mean_below : (i j k l m : ℕ) (a b c d e : ℤ) → 0 < i + j → i + j ≡ k + l + m → (top : ℤ) → a ≤ℤ top → b ≤ℤ top → top <ℤ c → top <ℤ d → top <ℤ e →
     pos i *ℤ a +ℤ pos j *ℤ b ≡ pos k *ℤ c +ℤ pos l *ℤ d +ℤ pos m *ℤ e → ⊥
 no_mean_below i j k l m a b c d e some same top at bt tc td te mean =
     let above : ℤ = top +ℤ pos 1 in

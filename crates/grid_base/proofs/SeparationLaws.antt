@@ -1,12 +1,12 @@
 -- What a passed test says of every fraction of the motion.
-use Rattle.std.proofs.Common.{◌≡◌, ℕ, zero, suc, ◌+◌, ◌-◌, ◌<◌, ◌≤◌, ℤ, pos, ◌+ℤ◌, ◌*ℤ◌, ◌<ℤ◌, ◌≤ℤ◌, ◌⊎◌, ⊎_elim, inl, inr, List, [], ◌∷◌, refl, subst, arith}
+use Rattle.std.proofs.Common.{◌≡◌, ℕ, zero, suc, ◌+◌, ◌-◌, ◌<◌, ◌≤◌, ℤ, pos, ◌+ℤ◌, ◌-ℤ◌, ◌*ℤ◌, ◌<ℤ◌, ◌≤ℤ◌, ◌⊎◌, ⊎_elim, inl, inr, List, [], ◌∷◌, refl, sym, subst, arith}
 use Rattle.std.proofs.lemmas.Int.{ints}
 use Rattle.std.specs.List.{Any}
 use Rattle.std.proofs.Math.IntN.{+ℤ_comm}
-use Rattle.grid_base.specs.Triples.{Triple, plus, times, opposite, dot}
+use Rattle.grid_base.specs.Triples.{Triple, plus, minus, times, opposite, dot}
 use Rattle.grid_base.specs.Meeting.{Positions, MeetAt}
 use Rattle.grid_base.specs.Motion.{position_at, positions_at, NeverMeet, NeverMeetAfterStart, NeverMeetBeforeEnd}
-use Rattle.grid_base.specs.Separation.{IsBelow, IsWeaklyBelow, KeepsApart, TakesApart, AreSeparated, Passes, Opens, Closes, directions, double, middle}
+use Rattle.grid_base.specs.Separation.{IsBelow, IsWeaklyBelow, KeepsApart, TakesApart, BringsTogether, AreSeparated, MoveTogether, Passes, Opens, Closes, directions, double, middle}
 use Rattle.grid_base.proofs.Polynomials.{var, num, add, mul, same_polynomial}
 use Rattle.grid_base.proofs.Order.{times-mono, times-strict}
 use Rattle.grid_base.proofs.MeetingLaws.{same_triple, dot-plus, dot-times, Meets-not_below, Meets-multiple, MoveTogether-never_meet}
@@ -165,3 +165,68 @@ exchanged p q s t h = same_five _ _ (one s.a t.a) (one s.b t.b) (one s.c t.c) (o
 pub Closes-never_meet : (depth : ℕ) (start end : Positions) → Closes depth start end → NeverMeetBeforeEnd start end
 Closes-never_meet depth s t h p q below w =
     Opens-never_meet depth t s h (q - p) q (omega arith) (omega arith) (subst MeetAt (exchanged p q s t (omega arith)) w)
+
+-- ---- motions backwards
+pub brought_backwards : (start end : Positions) (n : Triple) → BringsTogether start end n → TakesApart end start n
+brought_backwards s t n (inl h) = inl (h.1, h.0)
+brought_backwards s t n (inr h) = inr (h.1, h.0)
+
+pub taken_backwards : (start end : Positions) (n : Triple) → TakesApart start end n → BringsTogether end start n
+taken_backwards s t n (inl h) = inl (h.1, h.0)
+taken_backwards s t n (inr h) = inr (h.1, h.0)
+
+-- ---- one direction serves at each depth
+pub AreSeparated-at_once : (depth : ℕ) (start end : Positions) → Any (KeepsApart start end) (directions start end) → AreSeparated depth start end
+AreSeparated-at_once zero s t h = h
+AreSeparated-at_once (suc depth) s t h = inl h
+
+pub Opens-at_once : (depth : ℕ) (start end : Positions) → Any (TakesApart start end) (directions start end) → Opens depth start end
+Opens-at_once zero s t h = h
+Opens-at_once (suc depth) s t h = inl h
+
+-- ---- the ends of a motion
+all_start : (s t : Positions) → positions_at 0 1 s t ≡ s
+all_start s t = same_five _ _ (one s.a t.a) (one s.b t.b) (one s.c t.c) (one s.d t.d) (one s.e t.e)
+  where
+    number : (x y : ℤ) → pos 1 *ℤ x +ℤ pos 0 *ℤ y ≡ x
+    number x y = same_polynomial (x ∷ y ∷ []) (add (mul (num (pos 1)) (var 0)) (mul (num (pos 0)) (var 1))) (var 0) refl
+
+    one : (a b : Triple) → position_at 0 1 a b ≡ a
+    one a b = same_triple _ _ (number a.x b.x) (number a.y b.y) (number a.z b.z)
+
+all_end : (s t : Positions) → positions_at 1 1 s t ≡ t
+all_end s t = same_five _ _ (one s.a t.a) (one s.b t.b) (one s.c t.c) (one s.d t.d) (one s.e t.e)
+  where
+    number : (x y : ℤ) → pos 0 *ℤ x +ℤ pos 1 *ℤ y ≡ y
+    number x y = same_polynomial (x ∷ y ∷ []) (add (mul (num (pos 0)) (var 0)) (mul (num (pos 1)) (var 1))) (var 1) refl
+
+    one : (a b : Triple) → position_at 1 1 a b ≡ b
+    one a b = same_triple _ _ (number a.x b.x) (number a.y b.y) (number a.z b.z)
+
+pub NeverMeet-at_start : (start end : Positions) → NeverMeet start end → ¬ (MeetAt start)
+NeverMeet-at_start s t never w = never 0 1 (omega arith) (omega arith) (subst MeetAt (sym (all_start s t)) w)
+
+pub NeverMeet-at_end : (start end : Positions) → NeverMeet start end → ¬ (MeetAt end)
+NeverMeet-at_end s t never w = never 1 1 (omega arith) (omega arith) (subst MeetAt (sym (all_end s t)) w)
+
+pub NeverMeetAfterStart-at_end : (start end : Positions) → NeverMeetAfterStart start end → ¬ (MeetAt end)
+NeverMeetAfterStart-at_end s t never w = never 1 1 (omega arith) (omega arith) (subst MeetAt (sym (all_end s t)) w)
+
+pub NeverMeetBeforeEnd-at_start : (start end : Positions) → NeverMeetBeforeEnd start end → ¬ (MeetAt start)
+NeverMeetBeforeEnd-at_start s t never w = never 0 1 (omega arith) (subst MeetAt (sym (all_start s t)) w)
+
+-- ---- five positions that stay
+MoveTogether-still : (f : Positions) → MoveTogether f f
+MoveTogether-still f = record { b = same f.b f.a; c = same f.c f.a; d = same f.d f.a; e = same f.e f.a }
+  where
+    none : (x y : ℤ) → x -ℤ x ≡ y -ℤ y
+    none x y = omega (arith, ints)
+
+    same : (p q : Triple) → minus p p ≡ minus q q
+    same p q = same_triple _ _ (none p.x q.x) (none p.y q.y) (none p.z q.z)
+
+pub Passes-still : (depth : ℕ) (f : Positions) → ¬ (MeetAt f) → Passes depth f f
+Passes-still depth f apart = inr (MoveTogether-still f, apart)
+
+pub still-Passes : (depth : ℕ) (f : Positions) → Passes depth f f → ¬ (MeetAt f)
+still-Passes depth f passes = NeverMeet-at_start f f (Passes-never_meet depth f f passes)

@@ -22,9 +22,11 @@ pub record IsWeaklyBelow (n : Triple) (f : Positions) : Type 0 where
   pub bd : dot n f.b ≤ℤ dot n f.d
   pub be : dot n f.b ≤ℤ dot n f.e
 
+-- both edge ends are strictly above all three corners
 abbrev pub IsAbove : Triple → Positions → Type 0
 IsAbove n f = IsBelow (opposite n) f
 
+-- both edge ends are at or above all three corners
 abbrev pub IsWeaklyAbove : Triple → Positions → Type 0
 IsWeaklyAbove n f = IsWeaklyBelow (opposite n) f
 
@@ -35,6 +37,10 @@ KeepsApart start end n = (IsBelow n start × IsBelow n end) ⊎ (IsAbove n start
 -- the edge is weakly below at the start and below at the end, or weakly above and then above
 abbrev pub TakesApart : Positions → Positions → Triple → Type 0
 TakesApart start end n = (IsWeaklyBelow n start × IsBelow n end) ⊎ (IsWeaklyAbove n start × IsAbove n end)
+
+-- the edge is below at the start and weakly below at the end, or above and then weakly above
+abbrev pub BringsTogether : Positions → Positions → Triple → Type 0
+BringsTogether start end n = (IsBelow n start × IsWeaklyBelow n end) ⊎ (IsAbove n start × IsWeaklyAbove n end)
 
 -- the ten directions that five positions give
 abbrev pub ten_directions : Positions → List Triple

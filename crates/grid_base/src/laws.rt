@@ -1,6 +1,7 @@
 //! Laws of meeting and of motion. Each is the contract of a function that does nothing.
 
 ghost use Rattle.std.specs.Prelude.{ℕ, Bool, ◌≡◌, ◌<◌, ◌↔◌, IsTrue};
+ghost use Rattle.std.specs.List.{Any};
 ghost use Rattle.grid_base.specs.declared.grid.Point.{Point};
 ghost use Rattle.grid_base.specs.declared.grid.Shift.{Shift};
 ghost use Rattle.grid_base.specs.declared.TheConstants.{BOX, SHIFT_MAX};
@@ -8,7 +9,7 @@ ghost use Rattle.grid_base.specs.Triples.{Triple, IsWithin};
 ghost use Rattle.grid_base.specs.Points.{position_of, displacement_of, point_at, shift_by};
 ghost use Rattle.grid_base.specs.Meeting.{Positions, MeetAt};
 ghost use Rattle.grid_base.specs.Motion.{NeverMeet, NeverMeetAfterStart, NeverMeetBeforeEnd};
-ghost use Rattle.grid_base.specs.Separation.{IsBelow, MoveTogether, AreSeparated, Passes, Opens, Closes, multiple};
+ghost use Rattle.grid_base.specs.Separation.{IsBelow, KeepsApart, TakesApart, BringsTogether, MoveTogether, AreSeparated, Passes, Opens, Closes, directions, multiple};
 ghost use Rattle.grid_base.specs.SeparationTests.{IsExact, are_separated, passes, opens, closes};
 
 /// A point is at its position; the position of a point within the box is the one asked for.
@@ -56,6 +57,34 @@ pub fn opening_never_meets_after_start()
 /// A pair that closes meets at no fraction below one.
 pub fn closing_never_meets_before_end()
     ensures { (depth : ℕ) (s t : Positions) → Closes depth s t → NeverMeetBeforeEnd s t }
+{}
+
+/// A pair that one of the 23 directions keeps apart at both ends is separated at each depth.
+pub fn kept_apart_is_separated()
+    ensures { (depth : ℕ) (s t : Positions) → Any (KeepsApart s t) (directions s t) → AreSeparated depth s t }
+{}
+
+/// A pair that one of the 23 directions takes apart opens at each depth.
+pub fn taken_apart_opens()
+    ensures { (depth : ℕ) (s t : Positions) → Any (TakesApart s t) (directions s t) → Opens depth s t }
+{}
+
+/// A direction brings a pair together where it takes the motion backwards apart.
+pub fn bringing_together_is_taking_apart_backwards()
+    ensures { (s t : Positions) (n : Triple) → (BringsTogether s t n ↔ TakesApart t s n) }
+{}
+
+/// A pair that stands still passes exactly where it does not meet.
+pub fn still_pairs_pass_where_apart()
+    ensures { (depth : ℕ) (f : Positions) → (Passes depth f f ↔ ¬ (MeetAt f)) }
+{}
+
+/// What a motion without a meeting says of its ends.
+pub fn ends_are_apart()
+    ensures start { (s t : Positions) → NeverMeet s t → ¬ (MeetAt s) }
+    ensures end { (s t : Positions) → NeverMeet s t → ¬ (MeetAt t) }
+    ensures end_after_start { (s t : Positions) → NeverMeetAfterStart s t → ¬ (MeetAt t) }
+    ensures start_before_end { (s t : Positions) → NeverMeetBeforeEnd s t → ¬ (MeetAt s) }
 {}
 
 /// The test of separation is true exactly where the definition holds.

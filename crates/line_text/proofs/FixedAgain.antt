@@ -164,12 +164,12 @@ unfolding grid_number_of
 fixed_is_read_lem decimals (pos n) places small = let h = size_is decimals n places small in rw (unsigned decimals n (size_text decimals n) places h) (read_again decimals n (size_text decimals n) places h false small)
 fixed_is_read_lem decimals (negsuc n) places small = let h = size_is decimals (suc n) places small in rw (negated decimals (suc n) (size_text decimals (suc n)) places h) (read_again decimals (suc n) (size_text decimals (suc n)) places h true small)
 
--- ---- the bytes of a fixed text: digits, a point and a sign
+-- ---- words of digits, a point and a sign
 
 abbrev pub is_number_byte : ℕ → Bool
 is_number_byte b = leb 45 b && leb b 57
 
-pub record IsFixedWord (word : List ℕ) : Type 0 where
+pub record IsNumberWord (word : List ℕ) : Type 0 where
   pub some : 0 < length word
   pub bytes : list_all is_number_byte word ≡ true
   pub plain : IsPlain word
@@ -191,7 +191,7 @@ byte_bounds word k h lt =
     let p = and_parts (leb 45 (get_or word k 0)) (leb (get_or word k 0) 57) here in
     (leb-true _ _ p.0, leb-true _ _ p.1)
 
-made : (word : List ℕ) → 0 < length word → list_all is_number_byte word ≡ true → IsFixedWord word
+made : (word : List ℕ) → 0 < length word → list_all is_number_byte word ≡ true → IsNumberWord word
 made word some h = record {
   some = some;
   bytes = h;
@@ -210,6 +210,9 @@ size_word (suc k) n small =
     let lt : front < 2 ^ 64 = omega (arith, div-le_self n (10 ^ suc k)) in
     rw other (omega (arith, length-append (decimal front) (46 ∷ last_digits (suc k) n)), bytes-append (decimal front) (46 ∷ last_digits (suc k) n) (digits_bytes (decimal front) (Writes-decimal front lt).digits) (digits_bytes (last_digits (suc k) n) (last_digits_are (suc k) n)))
 
-pub fixed_is_word : (decimals : ℕ) (value : ℤ) → unsigned_abs value ≤ BOX → IsFixedWord (fixed_text decimals value)
+pub fixed_is_word : (decimals : ℕ) (value : ℤ) → unsigned_abs value ≤ BOX → IsNumberWord (fixed_text decimals value)
 fixed_is_word decimals (pos n) small = let h = size_word decimals n small in made (size_text decimals n) h.0 h.1
 fixed_is_word decimals (negsuc n) small = let h = size_word decimals (suc n) small in made (45 ∷ size_text decimals (suc n)) (omega arith) h.1
+
+pub decimal_is_word : (n : ℕ) → n < 2 ^ 64 → IsNumberWord (decimal n)
+decimal_is_word n lt = made (decimal n) (decimal_nonempty n lt) (digits_bytes (decimal n) (Writes-decimal n lt).digits)

@@ -7,3 +7,4 @@ pub mod Cuts
 pub mod Decimals
 pub mod FixedAgain
 pub mod WordPuts
+pub mod WrittenAgain

@@ -1,5 +1,5 @@
 -- Decimal words as the code takes them apart.
-use Rattle.std.specs.Prelude.{◌≡◌, ℕ, ◌+◌, ◌*◌, ◌/◌, ◌^◌, ◌<◌, ◌≤◌, List, ◌++◌, length, true}
+use Rattle.std.specs.Prelude.{◌≡◌, ℕ, ◌+◌, ◌*◌, ◌/◌, ◌^◌, ◌<◌, ◌≤◌, ◌++◌, length, true}
 use Rattle.std.specs.List.{list_all}
 use Rattle.line_text.specs.declared.grid.Decimal as code
 use Rattle.line_text.specs.Numbers.{Decimal, is_digit, number}

@@ -10,6 +10,12 @@ line_of_words [] = []
 line_of_words (word ∷ []) = word ++ 10 ∷ []
 line_of_words (word ∷ next ∷ words) = word ++ 32 ∷ line_of_words (next ∷ words)
 
+-- the same without the LF
+abbrev pub body_of_words : List (List ℕ) → List ℕ
+body_of_words [] = []
+body_of_words (word ∷ []) = word
+body_of_words (word ∷ next ∷ words) = word ++ 32 ∷ body_of_words (next ∷ words)
+
 -- the bytes of a field
 abbrev pub word_of : Field → List ℕ
 word_of (Text text) = text.now

@@ -5,3 +5,6 @@ pub mod MeshLaws
 pub mod MarksHold
 pub mod Listed
 pub mod Ordered
+pub mod Moves
+pub mod ListedPairs
+pub mod MovesNamed

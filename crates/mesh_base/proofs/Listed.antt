@@ -18,19 +18,19 @@ use Rattle.mesh_base.specs.Sides.{follows, has_corner, ids_where, runs, IsEdge}
 use Rattle.mesh_base.specs.Pairs.{Pair, IsPair, is_edge, twos, edges, pairs_of, pairs}
 
 -- ---- lists
-all_front : {X : Type 0} (P : X → Type 0) (xs ys : List X) → AllByRecursion P (xs ++ ys) → AllByRecursion P xs × AllByRecursion P ys
+pub all_front : {X : Type 0} (P : X → Type 0) (xs ys : List X) → AllByRecursion P (xs ++ ys) → AllByRecursion P xs × AllByRecursion P ys
 all_front P [] ys h = (tt, h)
 all_front P (x ∷ xs) ys h = let rest = all_front P xs ys h.1 in ((h.0, rest.0), rest.1)
 
-all_flat_map : {X Y : Type 0} (P : Y → Type 0) (f : X → List Y) (xs : List X) → AllByRecursion P (flat_map f xs) → AllByRecursion (λ x. AllByRecursion P (f x)) xs
+pub all_flat_map : {X Y : Type 0} (P : Y → Type 0) (f : X → List Y) (xs : List X) → AllByRecursion P (flat_map f xs) → AllByRecursion (λ x. AllByRecursion P (f x)) xs
 all_flat_map P f [] h = tt
 all_flat_map P f (x ∷ xs) h = let two = all_front P (f x) (flat_map f xs) h in (two.0, all_flat_map P f xs two.1)
 
-all_map : {X Y : Type 0} (P : Y → Type 0) (f : X → Y) (xs : List X) → AllByRecursion P (map f xs) → AllByRecursion (λ x. P (f x)) xs
+pub all_map : {X Y : Type 0} (P : Y → Type 0) (f : X → Y) (xs : List X) → AllByRecursion P (map f xs) → AllByRecursion (λ x. P (f x)) xs
 all_map P f [] h = tt
 all_map P f (x ∷ xs) h = (h.0, all_map P f xs h.1)
 
-all_filter : {X : Type 0} (P : X → Type 0) (test : X → Bool) (xs : List X) → AllByRecursion P (filter test xs) → AllByRecursion (λ x. test x ≡ true → P x) xs
+pub all_filter : {X : Type 0} (P : X → Type 0) (test : X → Bool) (xs : List X) → AllByRecursion P (filter test xs) → AllByRecursion (λ x. test x ≡ true → P x) xs
 all_filter P test [] h = tt
 all_filter P test (x ∷ xs) h = by_test (all_filter P test xs) (test x) refl h
   where
@@ -49,10 +49,10 @@ all_found P k v (x ∷ es) h e = by_test (all_found P k v es h.1) (eq_by_cmp nat
         subst (λ j. P (j, v)) (sym (tells_apart exact_unsigned k x.0 t)) (subst (λ w. P (x.0, w)) same h.0)
     by_test rest false t e = rest e
 
-at_key : {X : Type 0} (P : ℕ × X → Type 0) (m : FinMap nat_cmp X) (k : ℕ) (v : X) → AllByRecursion P (finite.entries m) → finite.get m k ≡ Some v → P (k, v)
+pub at_key : {X : Type 0} (P : ℕ × X → Type 0) (m : FinMap nat_cmp X) (k : ℕ) (v : X) → AllByRecursion P (finite.entries m) → finite.get m k ≡ Some v → P (k, v)
 at_key P m k v h e = all_found P k v (finite.entries m) h (sym (get-entries m k) ∙ e)
 
-at_live : {X : Type 0} (P : ℕ → Type 0) (m : FinMap nat_cmp X) (k : ℕ) → AllByRecursion P (finite.keys m) → IsSome (finite.get m k) → P k
+pub at_live : {X : Type 0} (P : ℕ → Type 0) (m : FinMap nat_cmp X) (k : ℕ) → AllByRecursion P (finite.keys m) → IsSome (finite.get m k) → P k
 at_live {X} P m k h live = by_answer (finite.get m k) refl live
   where
     by_answer : (o : Option X) → finite.get m k ≡ o → IsSome o → P k
@@ -72,7 +72,7 @@ apart_from k x h = unsigned_tied x k ∙ untied (less h)
     untied : nat_lt k x ≡ true → (x == k) ≡ false
     untied h = grind (arith, nat_tests)
 
-both_of : (a b : Bool) → T (a && b) → T a × T b
+pub both_of : (a b : Bool) → T (a && b) → T a × T b
 both_of true b h = (tt, h)
 both_of false b h = absurd h
 
@@ -108,15 +108,15 @@ running_face m u v some =
     let found = some_running (λ e. find nat_cmp e.0 (finite.entries m.faces) ≡ Some e.1) (λ c. follows c u v) (finite.entries m.faces) (each_found (finite.entries m.faces) (entries_sorted m.faces)) some in
     (found.0, found.1, get-entries m.faces (found.0).0 ∙ found.2)
 
-and_first : (a b : Bool) → (a && b) ≡ true → a ≡ true
+pub and_first : (a b : Bool) → (a && b) ≡ true → a ≡ true
 and_first true b e = refl
 and_first false b e = e
 
-and_second : (a b : Bool) → (a && b) ≡ true → b ≡ true
+pub and_second : (a b : Bool) → (a && b) ≡ true → b ≡ true
 and_second true b e = e
 and_second false b e = absurd (false≢true e)
 
-or_either : (a b : Bool) → (a || b) ≡ true → (a ≡ true) ⊎ (b ≡ true)
+pub or_either : (a b : Bool) → (a || b) ≡ true → (a ≡ true) ⊎ (b ≡ true)
 or_either true b e = inl refl
 or_either false b e = inr e
 
@@ -148,10 +148,10 @@ edge_live m u v sound edge = ⊎_elim
     either (suc a) b h = inl (omega arith)
 
 -- ---- pairs
-less_true : (a b : ℕ) → a < b → nat_lt a b ≡ true
+pub less_true : (a b : ℕ) → a < b → nat_lt a b ≡ true
 less_true a b h = grind (arith, nat_tests)
 
-neither : (a b : Bool) → a ≡ false → b ≡ false → not (a || b) ≡ true
+pub neither : (a b : Bool) → a ≡ false → b ≡ false → not (a || b) ≡ true
 neither a b e f = cc
 
 -- what holds of each listed pair holds of every pair

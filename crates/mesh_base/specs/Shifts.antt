@@ -1,14 +1,15 @@
 -- Shifts of the vertices of a mesh.
-use Rattle.std.specs.Prelude.{◌≡◌, ℕ, ◌==◌, Bool, List, map}
+use Rattle.std.specs.Prelude.{◌≡◌, ℕ, ◌==◌, Bool, eqb, List, map}
 use Rattle.std.specs.Option.{option_map, unwrap_or}
-use Rattle.std.specs.List.{find, list_all}
+use Rattle.std.specs.List.{find, list_all, fold, All, IsDistinct}
 use Rattle.std.specs.FinMap as finite
 use Rattle.grid_base.specs.declared.TheConstants.{BOX}
 use Rattle.grid_base.specs.Triples.{Triple, plus}
 use Rattle.grid_base.specs.Points.{displacement_of}
 use Rattle.mesh_base.specs.declared.steps.ShiftOf.{ShiftOf}
-use Rattle.mesh_base.specs.Mesh.{Mesh}
-use Rattle.grid_base.specs.Points.{is_within, shift_by}
+use Rattle.mesh_base.specs.Mesh.{Mesh, IsLiveVertex}
+use Rattle.grid_base.specs.Points.{is_within, point_at, shift_by}
+use Rattle.mesh_base.specs.Changes.{with_point}
 use Rattle.mesh_base.specs.Placements.{Motion, origin, own_points}
 
 abbrev pub Shifts : Type 0
@@ -33,3 +34,16 @@ moved_by m shifts = record { start = own_points m; end = λ v. plus (own_points 
 -- no shift takes its vertex out of the box
 abbrev pub end_in_box : Mesh → Shifts → Bool
 end_in_box m shifts = list_all (λ s. is_within BOX (plus (own_points m s.v) (displacement_of s.by))) shifts
+
+-- the vertex at its point and its shift together
+abbrev pub with_move : Mesh → ShiftOf → Mesh
+with_move m s = with_point m s.v (point_at (plus (own_points m s.v) (displacement_of s.by)))
+
+-- the mesh after moves, one after the other
+abbrev pub with_moves : Mesh → Shifts → Mesh
+with_moves m moves = fold with_move m moves
+
+-- they name live vertices, and none twice
+pub record NameOnce (m : Mesh) (moves : Shifts) : Type 0 where
+  pub live : All (λ s. IsLiveVertex m s.v) moves
+  pub once : IsDistinct eqb (map (λ s. s.v) moves)

@@ -4,6 +4,7 @@
 
 mod faults;
 mod ids;
+pub mod laws;
 mod lists;
 mod marks;
 mod refusals;

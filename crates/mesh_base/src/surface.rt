@@ -11,7 +11,11 @@ use crate::ids::{FaceId, VertexId};
 use crate::marks::Mark;
 use grid_base::{NoMemory, Point};
 
-/// A mesh, with a list of kept meshes to which it can go back.
+/// A mesh, however it is kept, with a list of kept meshes to which it can go back.
+///
+/// The mesh and each kept mesh meet the laws of a mesh and its limits at any time. Each call but `back_to` and `settle`
+/// leaves a list that begins with the list before, so earlier marks hold; and a refused call leaves the mesh and the
+/// list as they were. Calls with no `Result` take no memory, and neither do `back_to` and `settle`.
 pub trait Surface {
     /// The mesh.
     ghost mesh: { Self → Mesh };
@@ -19,49 +23,57 @@ pub trait Surface {
     /// The kept meshes, the oldest first.
     ghost kept: { Self → List Mesh };
 
-    /// How far a mark's `under` may lie beyond its `place`.
+    /// How far a mark's `under` may lie beyond its `place`: 0, or 1 where a mark stands for the last kept mesh itself.
     ghost beyond: { ℕ };
 
     /// How many vertices are live.
     fn vertices(&self) -> u32
         ensures { result ≡ map.len (mesh self.now).points };
 
+    /// How many faces are live.
     fn faces(&self) -> u32
         ensures { result ≡ map.len (mesh self.now).faces };
 
+    /// The id that the next vertex gets, 1 at first. It is one above the greatest id made.
     fn next_vertex(&self) -> u32
         ensures { result ≡ (mesh self.now).next_vertex };
 
+    /// The id that the next face gets, 1 at first.
     fn next_face(&self) -> u32
         ensures { result ≡ (mesh self.now).next_face };
 
-    /// The least live vertex above the number.
+    /// The least live vertex above the number; None exactly where there is none.
     fn vertex_after(&self, v: u32) -> Option<VertexId>
         ensures { result ≡ slice_get (above v (map.keys (mesh self.now).points)) 0 };
 
-    /// The least live face above the number.
+    /// The least live face above the number; None exactly where there is none.
     fn face_after(&self, f: u32) -> Option<FaceId>
         ensures { result ≡ slice_get (above f (map.keys (mesh self.now).faces)) 0 };
 
+    /// Where a vertex stands; None exactly where it is not live.
     fn point(&self, v: VertexId) -> Option<Point>
         ensures { result ≡ map.get (mesh self.now).points v };
 
+    /// The corners of a face, in order; None exactly where it is not live.
     fn corners(&self, f: FaceId) -> Option<[VertexId; 3]>
         ensures { result ≡ option_map corner_list (map.get (mesh self.now).faces f) };
 
-    /// In how many faces `v` follows `u`.
+    /// In how many live faces `v` follows `u`: how many run from `u` to `v`. Two faces or more make the edge crowded.
     fn runs(&self, u: VertexId, v: VertexId) -> u32
         ensures { result ≡ runs (mesh self.now) u v };
 
-    /// The `nth` of the faces in which `v` follows `u`, from 0, by rising id.
+    /// The `nth`, from 0, of the faces that run from `u` to `v`, by rising id; None exactly where `nth` is not below
+    /// `runs`.
     fn run_face(&self, u: VertexId, v: VertexId, nth: u32) -> Option<FaceId>
         ensures { result ≡ slice_get (faces_running (mesh self.now) u v) nth };
 
-    /// Sets `into` to the faces at `v`, rising.
+    /// Sets `into` to the faces that have `v` as a corner, by rising id. Where memory is wanting, `into` is empty.
     fn faces_at(&self, v: VertexId, into: &mut Vec<FaceId>) -> Result<(), NoMemory>
         ensures ok { OnOk result (into.new.items ≡ faces_at (mesh self.now) v) }
         ensures err { OnErr result (into.new.items ≡ []) };
 
+    /// Makes a vertex that has no face, and answers its id, the next. Full exactly where `VERTICES_MAX` vertices are live
+    /// or the id `ID_MAX` is given; an answer that is not Ok leaves all as it was.
     fn add_vertex(&mut self, p: Point) -> Result<VertexId, AddFault>
         ensures id { IfOk result (λ v. v ≡ (mesh self.old).next_vertex) }
         ensures ok { OnOk result (mesh self.new ≡ with_vertex (mesh self.old) p) }
@@ -72,6 +84,8 @@ pub trait Surface {
         ensures marks { BeginsWith (kept self.new) (kept self.old) }
         ensures err { OnErr result ((mesh self.new ≡ mesh self.old) × (kept self.new ≡ kept self.old)) };
 
+    /// Makes a face of three different live vertices which no live face equals up to rotation, and answers its id, the
+    /// next. Full exactly where `FACES_MAX` faces are live or the id `ID_MAX` is given.
     fn add_face(&mut self, c: [VertexId; 3]) -> Result<FaceId, AddFault>
         requires { IsFresh (mesh self.old) (corners_of c) }
         ensures id { IfOk result (λ f. f ≡ (mesh self.old).next_face) }
@@ -81,13 +95,14 @@ pub trait Surface {
         ensures marks { BeginsWith (kept self.new) (kept self.old) }
         ensures err { OnErr result ((mesh self.new ≡ mesh self.old) × (kept self.new ≡ kept self.old)) };
 
+    /// Drops a live face. Its vertices stay, and its id is not given again.
     fn drop_face(&mut self, f: FaceId) -> Result<(), NoMemory>
         requires { IsLiveFace (mesh self.old) f }
         ensures ok { OnOk result (mesh self.new ≡ without_face (mesh self.old) f) }
         ensures marks { BeginsWith (kept self.new) (kept self.old) }
         ensures err { OnErr result ((mesh self.new ≡ mesh self.old) × (kept self.new ≡ kept self.old)) };
 
-    /// Drops a vertex that has no face.
+    /// Drops a live vertex that has no face. Its id is not given again.
     fn drop_vertex(&mut self, v: VertexId) -> Result<(), NoMemory>
         requires live { IsLiveVertex (mesh self.old) v }
         requires bare { faces_at (mesh self.old) v ≡ [] }
@@ -95,13 +110,14 @@ pub trait Surface {
         ensures marks { BeginsWith (kept self.new) (kept self.old) }
         ensures err { OnErr result ((mesh self.new ≡ mesh self.old) × (kept self.new ≡ kept self.old)) };
 
+    /// Puts a live vertex at a point.
     fn place(&mut self, v: VertexId, p: Point) -> Result<(), NoMemory>
         requires { IsLiveVertex (mesh self.old) v }
         ensures ok { OnOk result (mesh self.new ≡ with_point (mesh self.old) v p) }
         ensures marks { BeginsWith (kept self.new) (kept self.old) }
         ensures err { OnErr result ((mesh self.new ≡ mesh self.old) × (kept self.new ≡ kept self.old)) };
 
-    /// Keeps the mesh as it is. The mark stands for it.
+    /// Keeps the mesh as it is. The mark stands for it, and a return to it leaves what is kept before this call.
     fn mark(&mut self) -> Result<Mark, NoMemory>
         ensures holds { IfOk result (MarkHolds beyond (kept self.new)) }
         ensures stands { IfOk result (λ m. StandsFor (kept self.new) m (mesh self.old)) }
@@ -110,15 +126,19 @@ pub trait Surface {
         ensures marks { BeginsWith (kept self.new) (kept self.old) }
         ensures err { OnErr result (kept self.new ≡ kept self.old) };
 
-    /// Goes back to the mesh for which the mark stands. Takes no memory.
+    /// Goes back to the mesh for which the mark stands, next ids included. The kept meshes then begin with those that a
+    /// mark's `under` counts, so marks that held when this one was made hold. Takes no memory.
     fn back_to(&mut self, m: Mark)
         requires { MarkHolds beyond (kept self.old) m }
         ensures mesh { StandsFor (kept self.old) m (mesh self.new) }
         ensures marks { BeginsWith (kept self.new) (take m.under (kept self.old)) };
 
-    /// Gives up what is kept. Takes no memory.
+    /// Gives up what is kept: nothing is said of marks made before. The mesh stays. Takes no memory.
     fn settle(&mut self)
         ensures { mesh self.new ≡ mesh self.old };
+
+    /// A mark's `under` lies at most one beyond its `place`.
+    ghost beyond_small: { beyond ≤ 1 };
 
     /// The laws of a mesh, and its limits, hold at any time.
     ghost sound: { (s : Self) → IsSound (mesh s) };

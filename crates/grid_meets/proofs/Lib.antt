@@ -1,0 +1,11 @@
+pub mod Crossing
+pub mod Comparisons
+pub mod Weights
+pub mod Plane
+pub mod Sides
+pub mod Segments
+pub mod OnOneLine
+pub mod Flat
+pub mod CrossSize
+pub mod Swaps
+pub mod BeyondLaws

@@ -1,0 +1,7 @@
+use Rattle.mesh_base.proofs.Ordered.{entries-made}
+use Rattle.mesh_plain.proofs.tables.Tables.run_face.Goals as goal
+
+pub loop-id-init : goal.loop-id-init
+loop-id-init c =
+    let e = c.into_iter-id-iterator.ensures.into_iter_gives in
+    rw (← c.self.view_is, entries-made c.self.inside.faces.entries e.5, e.0)

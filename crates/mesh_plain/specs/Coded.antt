@@ -1,0 +1,16 @@
+-- How a mesh is stored, by which a proof tells meshes apart.
+use Rattle.std.specs.Prelude.{ℕ, refl}
+use Rattle.std.specs.Ordering.{nat_cmp}
+use Rattle.std.specs.FinMap as map
+use Rattle.std.specs.Coded.{Coded, code_by, coded×, coded_ℕ}
+use Rattle.grid_base.specs.declared.Point.{Point}
+use Rattle.mesh_base.specs.declared.ids.Corners.{Corners}
+use Rattle.mesh_base.specs.Mesh.{Mesh}
+
+abbrev pub mesh_code : Coded Point → Coded Corners → Coded Mesh
+mesh_code point corners =
+    code_by (map.FinMap nat_cmp Point × (map.FinMap nat_cmp Corners × (ℕ × ℕ)))
+    (coded× (map.code coded_ℕ point) (coded× (map.code coded_ℕ corners) (coded× coded_ℕ coded_ℕ)))
+    (λ m. (m.points, (m.faces, (m.next_vertex, m.next_face))))
+    (λ p. record { points = p.0; faces = p.1.0; next_vertex = p.1.1.0; next_face = p.1.1.1 })
+    (λ _. refl)

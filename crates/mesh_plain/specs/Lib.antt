@@ -1,0 +1,4 @@
+pub mod Shape
+pub mod Turned
+pub mod Coded
+pub mod Balance

@@ -1,0 +1,17 @@
+//! A mesh of triangles in ordered maps, and whether lists of points and faces are of good shape. Passes on all of
+//! mesh_base, so that a user needs this crate alone.
+#![tactic(auto)]
+
+mod balance;
+mod good_shape;
+pub mod laws;
+mod plain;
+mod tables;
+
+pub use good_shape::shape;
+pub use mesh_base::{
+    AddFault, Corners, FaceId, FaceIds, FileWord, How, Ids, Mark, MeshLists, PairName, Points,
+    ShapeFault, ShapeRefusal, ShiftOf, Shifts, Surface, Triangles, UseWhy, VertexId, live_faces,
+    live_vertices,
+};
+pub use plain::PlainMesh;

@@ -1,0 +1,168 @@
+ghost use Rattle.std.specs.Prelude.{◌≡◌, All};
+ghost use Rattle.mesh_base.specs.Mesh.{IsSound};
+
+use crate::tables::Tables;
+use grid_base::{FACES_MAX, ID_MAX, NoMemory, Point, VERTICES_MAX};
+use mesh_base::{AddFault, Corners, FaceId, Mark, MeshLists, Surface, VertexId};
+use std::alloc::Global;
+
+/// A mesh in ordered maps from ids. It keeps a copy of the mesh for each mark.
+#[derive(Drop)]
+pub struct PlainMesh {
+    now: Tables,
+    before: Vec<Tables>,
+    ghost now_sound: { IsSound now },
+    ghost before_sound: { All IsSound before.items },
+}
+
+impl PlainMesh {
+    ghost use Rattle.mesh_plain.specs.Shape.{shape_fault};
+    ghost use Rattle.mesh_base.specs.Given.{mesh_of};
+    ghost use Rattle.std.specs.Prelude.{None, [], IfOk, length};
+
+    /// The mesh that lists of good shape give, with nothing kept.
+    pub fn of(alloc: Global, lists: &MeshLists) -> Result<PlainMesh, NoMemory>
+        requires { shape_fault (length lists.now.points) lists.now.faces ≡ None }
+        ensures mesh { IfOk result (λ s. ⟦<PlainMesh as Surface>⟧.mesh s ≡ mesh_of lists.now.points lists.now.faces) }
+        ensures kept { IfOk result (λ s. ⟦<PlainMesh as Surface>⟧.kept s ≡ []) }
+    {
+        let now = Tables::of(alloc, lists)?;
+        Ok(PlainMesh {
+            now,
+            before: Vec::new(alloc),
+        })
+    }
+}
+
+impl Surface for PlainMesh {
+    ghost use Rattle.std.specs.Prelude.{[], ◌∷◌, ◌++◌, length, IfOk, OnErr};
+    ghost use Rattle.std.proofs.Common.{lit≤};
+    ghost use Rattle.mesh_base.specs.Kept.{BeginsWith, MarkHolds, StandsFor};
+
+    ghost mesh = { λ s. s.now };
+
+    ghost kept = { λ s. s.before.items };
+
+    ghost beyond = { 0 };
+
+    ghost beyond_small = { lit≤ tt };
+
+    ghost sound = { λ s. s.now_sound };
+
+    ghost kept_sound = { λ s. s.before_sound };
+
+    fn vertices(&self) -> u32 {
+        self.now.vertices() as u32
+    }
+
+    fn faces(&self) -> u32 {
+        self.now.faces() as u32
+    }
+
+    fn next_vertex(&self) -> u32 {
+        self.now.next_vertex()
+    }
+
+    fn next_face(&self) -> u32 {
+        self.now.next_face()
+    }
+
+    fn vertex_after(&self, v: u32) -> Option<VertexId> {
+        self.now.vertex_after(v)
+    }
+
+    fn face_after(&self, f: u32) -> Option<FaceId> {
+        self.now.face_after(f)
+    }
+
+    fn point(&self, v: VertexId) -> Option<Point> {
+        self.now.point(v)
+    }
+
+    fn corners(&self, f: FaceId) -> Option<[VertexId; 3]> {
+        self.now.corners(f)
+    }
+
+    /// Looks at each live face.
+    fn runs(&self, u: VertexId, v: VertexId) -> u32 {
+        self.now.runs(u, v) as u32
+    }
+
+    /// Looks at the live faces by rising id until it is found.
+    fn run_face(&self, u: VertexId, v: VertexId, nth: u32) -> Option<FaceId> {
+        self.now.run_face(u, v, nth)
+    }
+
+    /// Looks at each live face.
+    fn faces_at(&self, v: VertexId, into: &mut Vec<FaceId>) -> Result<(), NoMemory> {
+        self.now.faces_at(v, into)
+    }
+
+    fn add_vertex(&mut self, p: Point) -> Result<VertexId, AddFault> {
+        if self.now.vertices() >= VERTICES_MAX as usize || self.now.next_vertex() > ID_MAX {
+            return Err(AddFault::Full);
+        }
+        match self.now.add_vertex(p) {
+            Ok(v) => Ok(v),
+            Err(_) => Err(AddFault::NoMemory),
+        }
+    }
+
+    fn add_face(&mut self, c: [VertexId; 3]) -> Result<FaceId, AddFault> {
+        if self.now.faces() >= FACES_MAX as usize || self.now.next_face() > ID_MAX {
+            return Err(AddFault::Full);
+        }
+        match self.now.add_face(Corners::of(c)) {
+            Ok(f) => Ok(f),
+            Err(_) => Err(AddFault::NoMemory),
+        }
+    }
+
+    fn drop_face(&mut self, f: FaceId) -> Result<(), NoMemory> {
+        self.now.drop_face(f);
+        Ok(())
+    }
+
+    fn drop_vertex(&mut self, v: VertexId) -> Result<(), NoMemory> {
+        self.now.drop_vertex(v);
+        Ok(())
+    }
+
+    fn place(&mut self, v: VertexId, p: Point) -> Result<(), NoMemory> {
+        self.now.place(v, p)
+    }
+
+    /// Keeps a copy of the mesh. The mark's `place` is its `under`.
+    fn mark(&mut self) -> Result<Mark, NoMemory>
+        ensures holds { IfOk result (MarkHolds 0 (⟦<PlainMesh as Surface>⟧.kept self.new)) }
+        ensures stands { IfOk result (λ m. StandsFor (⟦<PlainMesh as Surface>⟧.kept self.new) m (⟦<PlainMesh as Surface>⟧.mesh self.old)) }
+        ensures under { IfOk result (λ m. m.under ≡ length (⟦<PlainMesh as Surface>⟧.kept self.old)) }
+        ensures place { IfOk result (λ m. m.place ≡ m.under) }
+        ensures kept { IfOk result (λ m. ⟦<PlainMesh as Surface>⟧.kept self.new ≡ ⟦<PlainMesh as Surface>⟧.kept self.old ++ ⟦<PlainMesh as Surface>⟧.mesh self.old ∷ []) }
+        ensures mesh { ⟦<PlainMesh as Surface>⟧.mesh self.new ≡ ⟦<PlainMesh as Surface>⟧.mesh self.old }
+        ensures marks { BeginsWith (⟦<PlainMesh as Surface>⟧.kept self.new) (⟦<PlainMesh as Surface>⟧.kept self.old) }
+        ensures err { OnErr result (⟦<PlainMesh as Surface>⟧.kept self.new ≡ ⟦<PlainMesh as Surface>⟧.kept self.old) }
+    {
+        let copy = self.now.copy()?;
+        let place = self.before.len();
+        self.before.push(copy)?;
+        Ok(Mark {
+            place,
+            under: place,
+        })
+    }
+
+    fn back_to(&mut self, m: Mark) {
+        self.before.truncate(m.place + 1);
+        self.now = self.before.pop().unwrap();
+        self.before.truncate(m.under);
+    }
+
+    /// Gives up all that is kept.
+    fn settle(&mut self)
+        ensures mesh { ⟦<PlainMesh as Surface>⟧.mesh self.new ≡ ⟦<PlainMesh as Surface>⟧.mesh self.old }
+        ensures kept { ⟦<PlainMesh as Surface>⟧.kept self.new ≡ [] }
+    {
+        self.before.clear();
+    }
+}

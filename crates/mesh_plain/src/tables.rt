@@ -1,0 +1,232 @@
+//! The ordered maps of one mesh.
+ghost use Rattle.grid_base.specs.declared.TheConstants.{VERTICES_MAX, FACES_MAX};
+ghost use Rattle.mesh_base.specs.Given.{mesh_of};
+ghost use Rattle.std.specs.Prelude.{◌≤◌, ◌≡◌, ◌<◌, ◌+◌, ◌^◌, IfOk, OnOk, OnErr, IsNone, slice_get, length, []};
+ghost use Rattle.std.specs.Option.{option_map};
+ghost use Rattle.std.specs.FinMap as map;
+ghost use Rattle.mesh_base.specs.Changes.{corner_list, with_vertex, with_face, without_face, without_vertex, with_point};
+ghost use Rattle.mesh_base.specs.Sides.{above, faces_at, faces_running, runs};
+
+use grid_base::{NoMemory, Point};
+use mesh_base::{Corners, FaceId, MeshLists, VertexId};
+use std::alloc::Global;
+use std::collections::BTreeMap;
+use std::marker::Model;
+use std::ops::Bound;
+
+/// A mesh in ordered maps. A contract sees it as the mesh.
+#[derive(Drop)]
+pub(crate) struct Tables {
+    points: BTreeMap<u32, Point>,
+    faces: BTreeMap<u32, Corners>,
+    next_vertex: u32,
+    next_face: u32,
+}
+
+impl Model for Tables {
+    ghost use Rattle.mesh_base.specs.Mesh.{Mesh};
+
+    ghost Value = { Mesh };
+
+    ghost use Rattle.mesh_plain.specs.Coded.{mesh_code};
+    ghost use Rattle.grid_base.specs.contracts.Point as point;
+    ghost use Rattle.mesh_base.specs.contracts.ids.Corners as corners;
+
+    ghost coded = { mesh_code point.the_row.coded corners.the_row.coded };
+
+    ghost use Rattle.std.specs.FinMap as map;
+
+    ghost view = { λ t. record { points = map.from_entries t.points.entries; faces = map.from_entries t.faces.entries; next_vertex = t.next_vertex; next_face = t.next_face } };
+}
+
+impl Tables {
+    pub(crate) fn new(alloc: Global) -> Tables
+        ensures { result ≡ record { points = map.empty; faces = map.empty; next_vertex = 1; next_face = 1 } }
+    {
+        Tables {
+            points: BTreeMap::new(alloc),
+            faces: BTreeMap::new(alloc),
+            next_vertex: 1,
+            next_face: 1,
+        }
+    }
+
+    /// The tables of lists, numbered from 1.
+    pub(crate) fn of(alloc: Global, lists: &MeshLists) -> Result<Tables, NoMemory>
+        requires points { length lists.now.points ≤ VERTICES_MAX }
+        requires faces { length lists.now.faces ≤ FACES_MAX }
+        ensures { IfOk result (λ t. t ≡ mesh_of lists.now.points lists.now.faces) }
+    {
+        let mut tables = Tables::new(alloc);
+        for p in lists.points.as_slice() {
+            tables.add_vertex(*p)?;
+        }
+        for f in lists.faces.as_slice() {
+            tables.add_face(Corners::of([VertexId(f[0]), VertexId(f[1]), VertexId(f[2])]))?;
+        }
+        Ok(tables)
+    }
+
+    pub(crate) fn vertices(&self) -> usize
+        ensures { result ≡ map.len self.now.points }
+    {
+        self.points.len()
+    }
+
+    pub(crate) fn faces(&self) -> usize
+        ensures { result ≡ map.len self.now.faces }
+    {
+        self.faces.len()
+    }
+
+    pub(crate) fn next_vertex(&self) -> u32
+        ensures { result ≡ self.now.next_vertex }
+    {
+        self.next_vertex
+    }
+
+    pub(crate) fn next_face(&self) -> u32
+        ensures { result ≡ self.now.next_face }
+    {
+        self.next_face
+    }
+
+    pub(crate) fn vertex_after(&self, v: u32) -> Option<VertexId>
+        ensures { result ≡ slice_get (above v (map.keys self.now.points)) 0 }
+    {
+        match self
+            .points
+            .range((Bound::Excluded(v), Bound::Unbounded))
+            .next()
+        {
+            Some((&id, _)) => Some(VertexId(id)),
+            None => None,
+        }
+    }
+
+    pub(crate) fn face_after(&self, f: u32) -> Option<FaceId>
+        ensures { result ≡ slice_get (above f (map.keys self.now.faces)) 0 }
+    {
+        match self
+            .faces
+            .range((Bound::Excluded(f), Bound::Unbounded))
+            .next()
+        {
+            Some((&id, _)) => Some(FaceId(id)),
+            None => None,
+        }
+    }
+
+    pub(crate) fn point(&self, v: VertexId) -> Option<Point>
+        ensures { result ≡ map.get self.now.points v }
+    {
+        self.points.get(&v.0).copied()
+    }
+
+    pub(crate) fn corners(&self, f: FaceId) -> Option<[VertexId; 3]>
+        ensures { result ≡ option_map corner_list (map.get self.now.faces f) }
+    {
+        match self.faces.get(&f.0) {
+            Some(corners) => Some(corners.list()),
+            None => None,
+        }
+    }
+
+    pub(crate) fn runs(&self, u: VertexId, v: VertexId) -> usize
+        ensures { result ≡ runs self.now u v }
+    {
+        let mut count: usize = 0;
+        for (_, corners) in &self.faces {
+            if corners.follows(u, v) {
+                count += 1;
+            }
+        }
+        count
+    }
+
+    pub(crate) fn run_face(&self, u: VertexId, v: VertexId, nth: u32) -> Option<FaceId>
+        ensures { result ≡ slice_get (faces_running self.now u v) nth }
+    {
+        let mut left = nth;
+        for (id, corners) in &self.faces {
+            if corners.follows(u, v) {
+                if left == 0 {
+                    return Some(FaceId(*id));
+                }
+                left -= 1;
+            }
+        }
+        None
+    }
+
+    pub(crate) fn faces_at(&self, v: VertexId, into: &mut Vec<FaceId>) -> Result<(), NoMemory>
+        ensures ok { OnOk result (into.new.items ≡ faces_at self.now v) }
+        ensures err { OnErr result (into.new.items ≡ []) }
+    {
+        into.clear();
+        for (id, corners) in &self.faces {
+            if corners.has_corner(v) {
+                if into.push(FaceId(*id)).is_err() {
+                    into.clear();
+                    return Err(NoMemory);
+                }
+            }
+        }
+        Ok(())
+    }
+
+    pub(crate) fn add_vertex(&mut self, p: Point) -> Result<VertexId, NoMemory>
+        requires { self.old.next_vertex + 1 < 2 ^ 32 }
+        ensures id { IfOk result (λ v. v ≡ self.old.next_vertex) }
+        ensures ok { OnOk result (self.new ≡ with_vertex self.old p) }
+        ensures err { OnErr result (self.new ≡ self.old) }
+    {
+        let id = self.next_vertex;
+        self.points.insert(id, p)?;
+        self.next_vertex = id + 1;
+        Ok(VertexId(id))
+    }
+
+    pub(crate) fn add_face(&mut self, c: Corners) -> Result<FaceId, NoMemory>
+        requires { self.old.next_face + 1 < 2 ^ 32 }
+        ensures id { IfOk result (λ f. f ≡ self.old.next_face) }
+        ensures ok { OnOk result (self.new ≡ with_face self.old c) }
+        ensures err { OnErr result (self.new ≡ self.old) }
+    {
+        let id = self.next_face;
+        self.faces.insert(id, c)?;
+        self.next_face = id + 1;
+        Ok(FaceId(id))
+    }
+
+    pub(crate) fn drop_face(&mut self, f: FaceId)
+        ensures { self.new ≡ without_face self.old f }
+    {
+        self.faces.remove(&f.0);
+    }
+
+    pub(crate) fn drop_vertex(&mut self, v: VertexId)
+        ensures { self.new ≡ without_vertex self.old v }
+    {
+        self.points.remove(&v.0);
+    }
+
+    pub(crate) fn place(&mut self, v: VertexId, p: Point) -> Result<(), NoMemory>
+        ensures ok { OnOk result (self.new ≡ with_point self.old v p) }
+        ensures err { OnErr result (self.new ≡ self.old) }
+    {
+        self.points.insert(v.0, p)?;
+        Ok(())
+    }
+
+    pub(crate) fn copy(&self) -> Result<Tables, NoMemory>
+        ensures { IfOk result (λ copy. copy ≡ self.now) }
+    {
+        Ok(Tables {
+            points: self.points.clone()?,
+            faces: self.faces.clone()?,
+            next_vertex: self.next_vertex,
+            next_face: self.next_face,
+        })
+    }
+}

@@ -1,0 +1,131 @@
+//! The written test of a motion: directions that keep an edge and a triangle apart, and halves of the time.
+#![tactic(auto)]
+
+mod direction_list;
+mod halving;
+mod one_direction;
+mod some_direction;
+
+ghost use Rattle.std.specs.Prelude.{◌≡◌, ◌↔◌, ◌≤◌, IsTrue};
+ghost use Rattle.grid_base.specs.Meeting.{AreWithin};
+ghost use Rattle.grid_base.specs.Motion.{NeverMeet, NeverMeetAfterStart, NeverMeetBeforeEnd};
+ghost use Rattle.grid_base.specs.Separation.{AreSeparated, MoveTogether, Passes, Opens, Closes};
+ghost use Rattle.motion_test.specs.Pairs.{positions_of};
+
+pub use direction_list::directions;
+use grid_base::{DEPTH_MAX, HALF_MAX, Positions, WIDE_MAX, Wide};
+use grid_meets::meets;
+use halving::{opens_at, separated_at};
+pub use one_direction::{brings_together, keeps_apart, takes_apart};
+
+/// An edge and a triangle that move in straight lines. At the start and at the end it has five positions:
+/// the edge's two ends, and then the triangle's three corners. They are in half units, up to `HALF_MAX`.
+#[derive(Clone, Copy, Debug, PartialEq, Eq)]
+pub struct Pair {
+    pub start: [Wide; 5],
+    pub end: [Wide; 5],
+}
+
+/// Whether the pair is separated: one of the 23 directions keeps the edge strictly on one side of the triangle
+/// at the start and at the end; or, where depth is left, both halves of the motion are separated with one depth
+/// less. Then it meets at no fraction of the motion. Separating axes after El Topo (Brochu and Bridson 2009).
+pub fn separated(p: &Pair, depth: u8) -> bool
+    requires depth_fits { depth ≤ DEPTH_MAX }
+    requires start_fits { AreWithin HALF_MAX (positions_of p.now.start) }
+    requires end_fits { AreWithin HALF_MAX (positions_of p.now.end) }
+    ensures exact { IsTrue result ↔ AreSeparated depth (positions_of p.now.start) (positions_of p.now.end) }
+    ensures clear { IsTrue result → NeverMeet (positions_of p.now.start) (positions_of p.now.end) }
+{
+    separated_at(&five(&p.start), &five(&p.end), depth)
+}
+
+/// Whether the pair passes: it is separated to the depth, or its five positions move by one shift and do not
+/// meet at the start. Then it meets at no fraction of the motion.
+pub fn passes(p: &Pair, depth: u8) -> bool
+    requires depth_fits { depth ≤ DEPTH_MAX }
+    requires start_fits { AreWithin HALF_MAX (positions_of p.now.start) }
+    requires end_fits { AreWithin HALF_MAX (positions_of p.now.end) }
+    ensures exact { IsTrue result ↔ Passes depth (positions_of p.now.start) (positions_of p.now.end) }
+    ensures clear { IsTrue result → NeverMeet (positions_of p.now.start) (positions_of p.now.end) }
+{
+    passes_at(p, depth)
+}
+
+/// Whether the pair opens: one of the 23 directions has the edge weakly on one side at the start and strictly
+/// there at the end; or, where depth is left, the first half opens and the second is separated, with one depth
+/// less. Then it meets at no fraction above zero.
+pub fn opens(p: &Pair, depth: u8) -> bool
+    requires depth_fits { depth ≤ DEPTH_MAX }
+    requires start_fits { AreWithin HALF_MAX (positions_of p.now.start) }
+    requires end_fits { AreWithin HALF_MAX (positions_of p.now.end) }
+    ensures exact { IsTrue result ↔ Opens depth (positions_of p.now.start) (positions_of p.now.end) }
+    ensures clear { IsTrue result → NeverMeetAfterStart (positions_of p.now.start) (positions_of p.now.end) }
+{
+    opens_at(&five(&p.start), &five(&p.end), depth)
+}
+
+/// Whether the pair closes: with its start and its end exchanged it opens. Then it meets at no fraction below one.
+pub fn closes(p: &Pair, depth: u8) -> bool
+    requires depth_fits { depth ≤ DEPTH_MAX }
+    requires start_fits { AreWithin HALF_MAX (positions_of p.now.start) }
+    requires end_fits { AreWithin HALF_MAX (positions_of p.now.end) }
+    ensures exact { IsTrue result ↔ Closes depth (positions_of p.now.start) (positions_of p.now.end) }
+    ensures clear { IsTrue result → NeverMeetBeforeEnd (positions_of p.now.start) (positions_of p.now.end) }
+{
+    opens_at(&five(&p.end), &five(&p.start), depth)
+}
+
+// Whether the pair passes to the depth: it is separated, or moves as one and does not meet at the start.
+fn passes_at(p: &Pair, depth: u8) -> bool
+    requires depth_fits { depth ≤ DEPTH_MAX }
+    requires start_fits { AreWithin HALF_MAX (positions_of p.now.start) }
+    requires end_fits { AreWithin HALF_MAX (positions_of p.now.end) }
+    ensures { IsTrue result ↔ Passes depth (positions_of p.now.start) (positions_of p.now.end) }
+{
+    if separated(p, depth) {
+        return true;
+    }
+    let s = five(&p.start);
+    if !moves_together(&s, &five(&p.end)) {
+        return false;
+    }
+    !meets(s.a, s.b, s.c, s.d, s.e)
+}
+
+// Whether the five positions move by one shift.
+fn moves_together(s: &Positions, t: &Positions) -> bool
+    requires s_fits { AreWithin WIDE_MAX s.now }
+    requires t_fits { AreWithin WIDE_MAX t.now }
+    ensures { IsTrue result ↔ MoveTogether s.now t.now }
+{
+    let shift = t.a.minus(s.a);
+    if !same(t.b.minus(s.b), shift) {
+        return false;
+    }
+    if !same(t.c.minus(s.c), shift) {
+        return false;
+    }
+    if !same(t.d.minus(s.d), shift) {
+        return false;
+    }
+    same(t.e.minus(s.e), shift)
+}
+
+fn same(a: Wide, b: Wide) -> bool
+    ensures { IsTrue result ↔ (a ≡ b) }
+{
+    a == b
+}
+
+// The five positions of a list.
+fn five(p: &[Wide; 5]) -> Positions
+    ensures { result ≡ positions_of p.now }
+{
+    Positions {
+        a: p[0],
+        b: p[1],
+        c: p[2],
+        d: p[3],
+        e: p[4],
+    }
+}

@@ -1,0 +1,6 @@
+pub mod Cuts
+pub mod Fans
+pub mod Ranks
+pub mod Lookups
+pub mod RankBounds
+pub mod Again

@@ -1,0 +1,4 @@
+pub mod Obj
+pub mod Views
+pub mod Written
+pub mod Laws

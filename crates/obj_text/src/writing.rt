@@ -1,0 +1,115 @@
+ghost use Rattle.std.specs.Prelude.{◌≡◌, ◌≤◌, ◌++◌, ◌∷◌, [], length, map, nat_le, codes, decimal, OnOk, IfOk};
+ghost use Rattle.std.specs.List.Sorted.{IsNonDecreasing};
+ghost use Rattle.std.specs.FinMap as finite;
+ghost use Rattle.grid_base.specs.declared.TheConstants.{VERTICES_MAX};
+ghost use Rattle.line_text.specs.Numbers.{fixed_text};
+ghost use Rattle.line_text.specs.WrittenLines.{line_of_words};
+ghost use Rattle.obj_text.specs.Written.{rank_among, vertex_line, vertices_text, faces_text, mesh_text};
+
+use grid_base::{NoMemory, Point};
+use line_text::{Field, fixed, put_line};
+use mesh_base::{FaceId, Surface, VertexId, live_faces, live_vertices};
+use std::alloc::Global;
+
+// Appends a coordinate and the byte behind it.
+fn put_coordinate(out: &mut Vec<u8>, value: i32, decimals: u8, end: u8) -> Result<(), NoMemory>
+    requires { decimals ≤ 6 }
+    ensures { OnOk result (out.new.items ≡ out.old.items ++ fixed_text decimals value ++ end ∷ []) }
+{
+    fixed(value, decimals, out)?;
+    out.push(end)?;
+    Ok(())
+}
+
+// Appends the line of a vertex.
+fn put_vertex(out: &mut Vec<u8>, p: Point, decimals: u8) -> Result<(), NoMemory>
+    requires { decimals ≤ 6 }
+    ensures { OnOk result (out.new.items ≡ out.old.items ++ vertex_line decimals p) }
+{
+    out.extend_from_slice(b"v ")?;
+    put_coordinate(out, p.x, decimals, b' ')?;
+    put_coordinate(out, p.y, decimals, b' ')?;
+    put_coordinate(out, p.z, decimals, b'\n')?;
+    Ok(())
+}
+
+// How many of the rising ids there are up to `v`.
+fn rank(ids: &[VertexId], v: VertexId) -> u64
+    requires rising { IsNonDecreasing ids.now }
+    ensures { result ≡ rank_among ids.now v }
+{
+    let last = v.0;
+    ids.partition_point(
+        |u: &VertexId| -> bool
+            ensures { result ≡ nat_le u.now last }
+        { u.0 <= last },
+    ) as u64
+}
+
+// Appends the line of a face with these corners.
+fn put_face(out: &mut Vec<u8>, ids: &[VertexId], corners: [VertexId; 3]) -> Result<(), NoMemory>
+    requires rising { IsNonDecreasing ids.now }
+    ensures { OnOk result (out.new.items ≡ out.old.items ++ line_of_words (codes "f" ∷ map decimal (map (rank_among ids.now) corners))) }
+{
+    let [a, b, c] = corners;
+    put_line(
+        &[
+            Field::Text(b"f"),
+            Field::Number(rank(ids, a)),
+            Field::Number(rank(ids, b)),
+            Field::Number(rank(ids, c)),
+        ],
+        out,
+    )
+}
+
+// Appends the lines of the live vertices.
+fn put_vertices<S: Surface>(
+    out: &mut Vec<u8>,
+    mesh: &S,
+    ids: &[VertexId],
+    decimals: u8,
+) -> Result<(), NoMemory>
+    requires places { decimals ≤ 6 }
+    requires live { ids.now ≡ finite.keys (S.mesh mesh.now).points }
+    ensures { OnOk result (out.new.items ≡ out.old.items ++ vertices_text decimals (S.mesh mesh.now)) }
+{
+    for v in ids {
+        let p = mesh.point(*v).unwrap();
+        put_vertex(out, p, decimals)?;
+    }
+    Ok(())
+}
+
+// Appends the lines of the live faces.
+fn put_faces<S: Surface>(
+    out: &mut Vec<u8>,
+    mesh: &S,
+    ids: &[VertexId],
+    faces: &[FaceId],
+) -> Result<(), NoMemory>
+    requires live { ids.now ≡ finite.keys (S.mesh mesh.now).points }
+    requires live_faces { faces.now ≡ finite.keys (S.mesh mesh.now).faces }
+    ensures { OnOk result (out.new.items ≡ out.old.items ++ faces_text (S.mesh mesh.now)) }
+{
+    for f in faces {
+        let corners = mesh.corners(*f).unwrap();
+        put_face(out, ids, corners)?;
+    }
+    Ok(())
+}
+
+/// The Wavefront OBJ text of a mesh on a grid of so many decimals: a line `v X Y Z` for each live vertex by rising id, its
+/// coordinates divided by 10 ^ decimals, and then a line `f I J K` for each live face by rising id, its corners in order
+/// by their ranks from 1 among the live vertices. The empty mesh has the empty text.
+pub fn obj_of<S: Surface>(alloc: Global, mesh: &S, decimals: u8) -> Result<Vec<u8>, NoMemory>
+    requires { decimals ≤ 6 }
+    ensures { IfOk result (λ text. text.items ≡ mesh_text decimals (S.mesh mesh.now)) }
+{
+    let vertices = live_vertices(alloc, mesh)?;
+    let faces = live_faces(alloc, mesh)?;
+    let mut out = Vec::new(alloc);
+    put_vertices(&mut out, mesh, vertices.as_slice(), decimals)?;
+    put_faces(&mut out, mesh, vertices.as_slice(), faces.as_slice())?;
+    Ok(out)
+}

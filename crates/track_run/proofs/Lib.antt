@@ -1,0 +1,9 @@
+pub mod ShiftLemmas
+pub mod PlaceLemmas
+pub mod Saying
+pub mod Worlds
+pub mod NoFiles
+pub mod SoFars
+pub mod Sources
+pub mod Keeping
+pub mod TopLemmas

@@ -1,0 +1,105 @@
+-- Lines that name no file, and the replay of a step's lines.
+use Rattle.std.proofs.Common.{◌≡◌, ℕ, ◌+◌, List, [], ◌∷◌, ◌++◌, map, refl, ap, sym, ◌∙◌, subst, append_assoc, append-nil, inl, inr, Ok, Err, Result}
+use Rattle.std.specs.List.{fold}
+use Rattle.std.specs.declared.option.Option.{Option}
+use Rattle.std.specs.declared.option.Option.TheVariants.{None, Some}
+use Rattle.mesh_base.specs.declared.ShiftOf.{ShiftOf}
+use Rattle.mesh_base.specs.declared.How.TheVariants.{Whole}
+use Rattle.mesh_base.specs.declared.UseWhy.{UseWhy}
+use Rattle.mesh_base.specs.Shifts.{with_move}
+use Rattle.log_text.specs.Lines.{text_of_lines}
+use Rattle.log_text.specs.declared.LogLine.{LogLine}
+use Rattle.log_text.specs.declared.LogLine.TheVariants.{First, Step, Hit, Move, Moved, Mesh as MeshLine, End, Refused}
+use Rattle.log_text.specs.Replay.{Replay, after, replayed}
+use Rattle.step_text.specs.declared.Directive.TheVariants as directive
+use Rattle.outside_io.specs.Desk.{Files}
+use Rattle.outside_io.specs.Sink.{appended}
+use Rattle.track_run.specs.declared.outcome.Stop.{Stop}
+use Rattle.track_run.specs.State.{State, standing}
+use Rattle.track_run.specs.Turns.{turn, Goes, moving, move_lines, moved_mesh, step_lines, after_step}
+use Rattle.track_run.specs.Said.{SaidInPart}
+use Rattle.track_run.specs.Saved.{Target, files_of, stored}
+use Rattle.track_run.specs.Parts.{StepTakes, Advances, Takes}
+use Rattle.track_run.specs.World.{World, Logs, StopsIn}
+use Rattle.track_run.proofs.Worlds.{after-append}
+
+abbrev pub NoFiles : List LogLine → Type 0
+NoFiles [] = Unit {0}
+NoFiles (MeshLine k v f ∷ lines) = ⊥
+NoFiles (line ∷ lines) = NoFiles lines
+
+pub files_of-none : (to : Target) (lines : List LogLine) (from : Replay) → NoFiles lines → files_of to from lines ≡ []
+files_of-none to [] from none = refl
+files_of-none to (MeshLine k v f ∷ lines) from none = absurd none
+files_of-none to (First version ∷ lines) from none = files_of-none to lines (replayed from (First version)) none
+files_of-none to (Step k ∷ lines) from none = files_of-none to lines (replayed from (Step k)) none
+files_of-none to (Hit p ∷ lines) from none = files_of-none to lines (replayed from (Hit p)) none
+files_of-none to (Move s ∷ lines) from none = files_of-none to lines (replayed from (Move s)) none
+files_of-none to (Moved how ∷ lines) from none = files_of-none to lines (replayed from (Moved how)) none
+files_of-none to (End ∷ lines) from none = files_of-none to lines (replayed from End) none
+files_of-none to (Refused why ∷ lines) from none = files_of-none to lines (replayed from (Refused why)) none
+
+front_none : (xs ys : List LogLine) → NoFiles (xs ++ ys) → NoFiles xs
+front_none [] ys none = tt
+front_none (MeshLine k v f ∷ xs) ys none = absurd none
+front_none (First version ∷ xs) ys none = front_none xs ys none
+front_none (Step k ∷ xs) ys none = front_none xs ys none
+front_none (Hit p ∷ xs) ys none = front_none xs ys none
+front_none (Move s ∷ xs) ys none = front_none xs ys none
+front_none (Moved how ∷ xs) ys none = front_none xs ys none
+front_none (End ∷ xs) ys none = front_none xs ys none
+front_none (Refused why ∷ xs) ys none = front_none xs ys none
+
+moves_none : (shifts : List ShiftOf) (rest : List LogLine) → NoFiles rest → NoFiles (map (λ s. Move s) shifts ++ rest)
+moves_none [] rest none = none
+moves_none (s ∷ shifts) rest none = moves_none shifts rest none
+
+step_none : (s : State) → NoFiles (step_lines s)
+step_none s = moves_none (moving s.asked) (Moved Whole ∷ []) tt
+
+-- lines that name no file leave the files
+pub logs_from_said : (to : Target) (from : Replay) (lines : List LogLine) (files : Option Files) (old new : Option (List ℕ)) → files_of to from lines ≡ [] → new ≡ appended old (text_of_lines lines) → Logs to from lines (record { files = files; written = old }) (record { files = files; written = new })
+logs_from_said to from lines files old new none said = record { written = said; files = ap (λ l. stored l files) (sym none) }
+
+pub stops_from_said : (stop : Stop) (to : Target) (from : Replay) (lines : List LogLine) (files : Option Files) (old new : Option (List ℕ)) → NoFiles lines → SaidInPart old new lines → StopsIn stop to from lines (record { files = files; written = old }) (record { files = files; written = new })
+stops_from_said stop to from lines files old new none said = record {
+  done = said.done;
+  rest = said.rest;
+  split = said.split;
+  part = said.part;
+  begun = said.begun;
+  written = said.written;
+  files = inl (ap (λ l. stored l files) (sym (files_of-none to said.done from (front_none said.done said.rest (subst NoFiles said.split none)))));
+}
+
+logs_step : (to : Target) (s : State) (files : Option Files) (old new : Option (List ℕ)) → new ≡ appended old (text_of_lines (step_lines s)) → Logs to (standing s) (step_lines s) (record { files = files; written = old }) (record { files = files; written = new })
+logs_step to s files old new said = logs_from_said to (standing s) (step_lines s) files old new (files_of-none to (step_lines s) (standing s) (step_none s)) said
+
+stops_step : (stop : Stop) (to : Target) (s : State) (files : Option Files) (old new : Option (List ℕ)) → SaidInPart old new (step_lines s) → StopsIn stop to (standing s) (step_lines s) (record { files = files; written = old }) (record { files = files; written = new })
+stops_step stop to s files old new said = stops_from_said stop to (standing s) (step_lines s) files old new (step_none s) said
+
+-- `move` lines gather their shifts
+pub after-moves : (from : Replay) (shifts : List ShiftOf) → after from (map (λ s. Move s) shifts) ≡ record { mesh = from.mesh; moves = from.moves ++ shifts }
+after-moves from [] = ap (λ (m : List ShiftOf). record { mesh = from.mesh; moves = m }) (sym (append-nil from.moves))
+after-moves from (s ∷ shifts) = after-moves (replayed from (Move s)) shifts ∙ ap (λ (m : List ShiftOf). record { mesh = from.mesh; moves = m }) (append_assoc from.moves (s ∷ []) shifts)
+
+-- the replay of a step's lines is the state after it
+pub after-step_lines : (s : State) → after (standing s) (step_lines s) ≡ standing (after_step s)
+after-step_lines s = after-append (standing s) (move_lines s.asked) (Moved Whole ∷ []) ∙ ap (λ r. replayed r (Moved Whole)) (after-moves (standing s) (moving s.asked))
+
+takes_step : (to : Target) (s t : State) (files : Option Files) (old new : Option (List ℕ)) → turn directive.Step s ≡ Goes (step_lines s) t → t ≡ after_step s → new ≡ appended old (text_of_lines (step_lines s))
+    → Takes to (turn directive.Step s) s t (record { files = files; written = old }) (record { files = files; written = new })
+takes_step to s t files old new goes is said = record {
+  lines = step_lines s;
+  goes = goes;
+  logs = logs_step to s files old new said;
+  replay = after-step_lines s ∙ ap standing (sym is);
+}
+
+-- a step, as a turn
+pub advances_step : (to : Target) (s t : State) (files : Option Files) (old new : Option (List ℕ)) (r : Result (Option UseWhy) Stop) → StepTakes s t old new r
+    → Advances to (turn directive.Step s) s t (record { files = files; written = old }) (record { files = files; written = new }) r
+advances_step to s t files old new (Ok None) takes = takes_step to s t files old new takes.0 takes.1 takes.2
+advances_step to s t files old new (Ok (Some why)) takes = (takes.0, ap (λ (w : Option (List ℕ)). record { files = files; written = w }) takes.1)
+advances_step to s t files old new (Err stop) (inl same) = inl (ap (λ (w : Option (List ℕ)). record { files = files; written = w }) same)
+advances_step to s t files old new (Err stop) (inr part) = inr (record { lines = step_lines s; next = after_step s; goes = part.0; stops = stops_step stop to s files old new part.1 })

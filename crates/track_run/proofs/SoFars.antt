@@ -1,0 +1,149 @@
+-- The directives, one after another.
+use Rattle.std.proofs.Common.{◌≡◌, ℕ, List, [], ◌∷◌, ◌++◌, refl, ap, sym, ◌∙◌, ◌⊎◌, inl, inr, ◌+◌, ◌<◌, ◌≤◌, length, get_or, drop, add-one, suc, subst, append_assoc, append-nil, Ok, Err}
+use Rattle.std.proofs.Math.Seq.{drop-cons}
+use Rattle.std.proofs.lemmas.List.{drop_all}
+use Rattle.std.specs.declared.option.Option.TheVariants.{None, Some}
+use Rattle.std.specs.declared.option.Option.{Option}
+use Rattle.log_text.specs.Lines.{text_of_lines}
+use Rattle.log_text.specs.declared.LogLine.{LogLine}
+use Rattle.log_text.specs.declared.LogLine.TheVariants.{Refused, End}
+use Rattle.mesh_base.specs.declared.UseWhy.{UseWhy}
+use Rattle.log_text.specs.declared.Refusal.TheVariants.{StepUse}
+use Rattle.step_text.specs.declared.Placed.{Placed}
+use Rattle.log_text.specs.Lines.{text_of_line}
+use Rattle.outside_io.specs.Desk.{Files}
+use Rattle.outside_io.specs.Sink.{appended, AppendsPart}
+use Rattle.outside_io.proofs.Written.{appended-nil}
+use Rattle.track_run.specs.declared.outcome.Stop.{Stop}
+use Rattle.log_text.specs.declared.Refusal.{Refusal}
+use Rattle.track_run.specs.State.{State, standing}
+use Rattle.track_run.specs.Turns.{Told, Turn, Goes, Stops, turn, and_then, told_from, refused}
+use Rattle.log_text.specs.Replay.{Replay, after}
+use Rattle.track_run.specs.Saved.{Target, files_of, stored}
+use Rattle.track_run.specs.Said.{SaidInPart}
+use Rattle.track_run.specs.Parts.{Takes, TakesInPart, Advances}
+use Rattle.track_run.specs.World.{World, Logs, StopsIn}
+use Rattle.track_run.proofs.Worlds.{after-append, logs_then, stops_then, stops_more, stops_nothing, stops_line}
+use Rattle.track_run.proofs.NoFiles.{logs_from_said, stops_from_said}
+
+-- The lines so far are written, and with those that are left they are all. The replay stands at the state.
+pub record SoFar (to : Target) (all left : Told) (first now : State) (old new : World) : Type 0 where
+  pub done : List LogLine
+  pub whole : done ++ left.lines ≡ all.lines
+  pub ending : left.ending ≡ all.ending
+  pub logs : Logs to (standing first) done old new
+  pub replay : after (standing first) done ≡ standing now
+
+pub so_far_none : (to : Target) (all : Told) (first : State) (old : World) → SoFar to all all first first old old
+so_far_none to all first old = record {
+  done = [];
+  whole = refl;
+  ending = refl;
+  logs = record { written = sym (appended-nil old.written); files = refl };
+  replay = refl;
+}
+
+-- the lines of a turn, and then the others
+and_then-goes : (line : ℕ) (t : Turn) (lines : List LogLine) (s : State) (next : State → Told) → t ≡ Goes lines s → and_then line t next ≡ record { lines = lines ++ (next s).lines; ending = (next s).ending }
+and_then-goes line t lines s next e = ap (λ t. and_then line t next) e
+
+and_then-stops : (line : ℕ) (t : Turn) (why : UseWhy) (next : State → Told) → t ≡ Stops why → and_then line t next ≡ refused (StepUse line why)
+and_then-stops line t why next e = ap (λ t. and_then line t next) e
+
+-- one more turn
+pub so_far_more : (to : Target) (all : Told) (line : ℕ) (t : Turn) (next : State → Told) (first now then : State) (old mid new : World)
+    → SoFar to all (and_then line t next) first now old mid → Takes to t now then mid new → SoFar to all (next then) first then old new
+so_far_more to all line t next first now then old mid new s takes =
+    let e = and_then-goes line t takes.lines then next takes.goes in
+    let P : Replay → Type 0 = λ r. Logs to r takes.lines mid new in
+    record {
+      done = s.done ++ takes.lines;
+      whole = append_assoc s.done takes.lines (next then).lines ∙ ap (λ (t : Told). s.done ++ t.lines) (sym e) ∙ s.whole;
+      ending = ap (λ (t : Told). t.ending) (sym e) ∙ s.ending;
+      logs = logs_then to (standing first) s.done takes.lines old mid new s.logs (subst P (sym s.replay) takes.logs);
+      replay = after-append (standing first) s.done takes.lines ∙ ap (λ r. after r takes.lines) s.replay ∙ takes.replay;
+    }
+
+-- a turn that stops in its lines
+pub so_far_part : (to : Target) (all : Told) (line : ℕ) (t : Turn) (next : State → Told) (first now : State) (old mid new : World) (stop : Stop)
+    → SoFar to all (and_then line t next) first now old mid → TakesInPart stop to t now mid new → StopsIn stop to (standing first) all.lines old new
+so_far_part to all line t next first now old mid new stop s takes =
+    let e = and_then-goes line t takes.lines takes.next next takes.goes in
+    let P : Replay → Type 0 = λ r. StopsIn stop to r takes.lines mid new in
+    let Q : List LogLine → Type 0 = λ l. StopsIn stop to (standing first) l old new in
+    subst Q (ap (λ (t : Told). s.done ++ t.lines) (sym e) ∙ s.whole)
+    (stops_then stop to (standing first) s.done (takes.lines ++ (next takes.next).lines) old mid new s.logs
+    (stops_more stop to (after (standing first) s.done) takes.lines (next takes.next).lines mid new (subst P (sym s.replay) takes.stops)))
+
+-- the last line is written
+pub so_far_last : (to : Target) (all : Told) (line : LogLine) (ending : Option Refusal) (first now : State) (old mid new : World)
+    → SoFar to all (record { lines = line ∷ []; ending = ending }) first now old mid → ((r : Replay) → Logs to r (line ∷ []) mid new) → Logs to (standing first) all.lines old new × (ending ≡ all.ending)
+so_far_last to all line ending first now old mid new s logs =
+    let Q : List LogLine → Type 0 = λ l. Logs to (standing first) l old new in
+    (subst Q s.whole (logs_then to (standing first) s.done (line ∷ []) old mid new s.logs (logs _)), s.ending)
+
+pub so_far_last_part : (to : Target) (all : Told) (line : LogLine) (ending : Option Refusal) (first now : State) (old mid new : World) (stop : Stop)
+    → SoFar to all (record { lines = line ∷ []; ending = ending }) first now old mid → ((r : Replay) → StopsIn stop to r (line ∷ []) mid new) → StopsIn stop to (standing first) all.lines old new
+so_far_last_part to all line ending first now old mid new stop s stops =
+    let Q : List LogLine → Type 0 = λ l. StopsIn stop to (standing first) l old new in
+    subst Q s.whole (stops_then stop to (standing first) s.done (line ∷ []) old mid new s.logs (stops _))
+
+-- a refused directive
+pub so_far_refused : (to : Target) (all : Told) (line : ℕ) (t : Turn) (why : UseWhy) (next : State → Told) (first now : State) (old mid : World)
+    → SoFar to all (and_then line t next) first now old mid → t ≡ Stops why → SoFar to all (refused (StepUse line why)) first now old mid
+so_far_refused to all line t why next first now old mid s e =
+    let P : Told → Type 0 = λ left. SoFar to all left first now old mid in subst P (and_then-stops line t why next e) s
+
+-- nothing more is written
+so_far_nothing : (to : Target) (all left : Told) (first now : State) (old mid new : World) (stop : Stop) → SoFar to all left first now old mid → new ≡ mid → StopsIn stop to (standing first) all.lines old new
+so_far_nothing to all left first now old mid new stop s same =
+    let Q : List LogLine → Type 0 = λ l. StopsIn stop to (standing first) l old new in
+    let P : World → Type 0 = λ w. StopsIn stop to (after (standing first) s.done) left.lines mid w in
+    subst Q s.whole (stops_then stop to (standing first) s.done left.lines old mid new s.logs (subst P (sym same) (stops_nothing stop to _ left.lines mid)))
+
+-- what is left, where a directive is
+left_is : (steps : List Placed) (i : ℕ) (d : Placed) (s : State) → i < length steps → told_from (drop i steps) s ≡ and_then (get_or steps i d).line (turn (get_or steps i d).what s) (told_from (drop (i + 1) steps))
+left_is steps i d s h = ap (λ l. told_from l s) (drop-cons steps i d h) ∙ ap (λ n. and_then (get_or steps i d).line (turn (get_or steps i d).what s) (told_from (drop n steps))) (sym (add-one i))
+
+module _ (to : Target) (all : Told) (steps : List Placed) (i : ℕ) (d : Placed) (h : i < length steps) (first now : State) (old mid new : World) where
+  here : SoFar to all (told_from (drop i steps) now) first now old mid → SoFar to all (and_then (get_or steps i d).line (turn (get_or steps i d).what now) (told_from (drop (i + 1) steps))) first now old mid
+  here s = let P : Told → Type 0 = λ left. SoFar to all left first now old mid in subst P (left_is steps i d now h) s
+
+  pub turn_more : (then : State) → SoFar to all (told_from (drop i steps) now) first now old mid → Takes to (turn (get_or steps i d).what now) now then mid new → SoFar to all (told_from (drop (i + 1) steps) then) first then old new
+  turn_more then s takes = so_far_more to all (get_or steps i d).line (turn (get_or steps i d).what now) (told_from (drop (i + 1) steps)) first now then old mid new (here s) takes
+
+  pub turn_part : (stop : Stop) → SoFar to all (told_from (drop i steps) now) first now old mid → (new ≡ mid) ⊎ TakesInPart stop to (turn (get_or steps i d).what now) now mid new → StopsIn stop to (standing first) all.lines old new
+  turn_part stop s (inl same) = so_far_nothing to all _ first now old mid new stop s same
+  turn_part stop s (inr takes) = so_far_part to all (get_or steps i d).line (turn (get_or steps i d).what now) (told_from (drop (i + 1) steps)) first now old mid new stop (here s) takes
+
+  pub turn_refused : (why : UseWhy) → SoFar to all (told_from (drop i steps) now) first now old mid → turn (get_or steps i d).what now ≡ Stops why → new ≡ mid
+      → SoFar to all (refused (StepUse (get_or steps i d).line why)) first now old new
+  turn_refused why s e same =
+      let P : World → Type 0 = λ w. SoFar to all (refused (StepUse (get_or steps i d).line why)) first now old w in
+      subst P (sym same) (so_far_refused to all (get_or steps i d).line (turn (get_or steps i d).what now) why (told_from (drop (i + 1) steps)) first now old mid (here s) e)
+
+-- the last line, where no file is named by it
+pub last_said : (to : Target) (all : Told) (line : LogLine) (ending : Option Refusal) (first now : State) (old : World) (files : Option Files) (mid new : Option (List ℕ)) → ((r : Replay) → stored (files_of to r (line ∷ [])) files ≡ files)
+    → SoFar to all (record { lines = line ∷ []; ending = ending }) first now old (record { files = files; written = mid }) → new ≡ appended mid (text_of_lines (line ∷ []))
+    → Logs to (standing first) all.lines old (record { files = files; written = new }) × (ending ≡ all.ending)
+last_said to all line ending first now old files mid new none s said = so_far_last to all line ending first now old _ _ s (λ r. record { written = said; files = sym (none r) })
+
+pub last_part : (to : Target) (all : Told) (line : LogLine) (ending : Option Refusal) (first now : State) (old : World) (files : Option Files) (mid new : Option (List ℕ)) (stop : Stop)
+    → SoFar to all (record { lines = line ∷ []; ending = ending }) first now old (record { files = files; written = mid }) → AppendsPart mid new (text_of_line line)
+    → StopsIn stop to (standing first) all.lines old (record { files = files; written = new })
+last_part to all line ending first now old files mid new stop s part = so_far_last_part to all line ending first now old _ _ stop s (λ r. stops_line stop to r line [] files mid new part)
+
+module _ (to : Target) (all : Told) (steps : List Placed) (i : ℕ) (d : Placed) (h : i < length steps) (first now : State) (old mid new : World) (then : State) (o : Option UseWhy)
+    (s : SoFar to all (told_from (drop i steps) now) first now old mid) (advances : Advances to (turn (get_or steps i d).what now) now then mid new (Ok o)) where
+  said_as : (o' : Option UseWhy) → o ≡ o' → Advances to (turn (get_or steps i d).what now) now then mid new (Ok o')
+  said_as o' e = let P : Option UseWhy → Type 0 = λ o. Advances to (turn (get_or steps i d).what now) now then mid new (Ok o) in subst P e advances
+
+  pub goes_on : o ≡ None → SoFar to all (told_from (drop (i + 1) steps) then) first then old new
+  goes_on e = turn_more to all steps i d h first now old mid new then s (said_as None e)
+
+  pub is_refused : (why : UseWhy) → o ≡ Some why → SoFar to all (refused (StepUse (get_or steps i d).line why)) first now old new
+  is_refused why e = let refused = said_as (Some why) e in turn_refused to all steps i d h first now old mid new why s refused.0 refused.1
+
+-- no directive is left
+pub at_end : (to : Target) (all : Told) (steps : List Placed) (i : ℕ) (first now : State) (old mid : World) → length steps ≤ i → SoFar to all (told_from (drop i steps) now) first now old mid → SoFar to all (record { lines = End ∷ []; ending = None }) first now old mid
+at_end to all steps i first now old mid h s = let P : List Placed → Type 0 = λ l. SoFar to all (told_from l now) first now old mid in subst P (drop_all i steps h) s

@@ -1,0 +1,14 @@
+pub mod Status
+pub mod Words
+pub mod State
+pub mod Turns
+pub mod Job
+pub mod Saved
+pub mod Said
+pub mod Kept
+pub mod World
+pub mod Names
+pub mod Fetched
+pub mod Shifting
+pub mod Placing
+pub mod Parts

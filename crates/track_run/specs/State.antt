@@ -1,0 +1,39 @@
+-- Where a run stands between two directives.
+use Rattle.std.specs.Prelude.{ℕ, [], map}
+use Rattle.std.specs.FinMap as finite
+use Rattle.grid_base.specs.Points.{no_shift}
+use Rattle.mesh_base.specs.declared.ShiftOf.{ShiftOf}
+use Rattle.mesh_base.specs.Mesh.{Mesh}
+use Rattle.mesh_base.specs.Shifts.{Shifts}
+use Rattle.log_text.specs.Replay.{Replay}
+use Rattle.track_run.specs.declared.course.Course.{Course}
+
+-- the mesh, the asked shifts, and the numbers of steps taken and of meshes saved so far
+pub record State : Type 0 where
+  pub mesh : Mesh
+  pub asked : Shifts
+  pub steps : ℕ
+  pub saved : ℕ
+
+-- the vertex and no shift
+abbrev pub still_at : ℕ → ShiftOf
+still_at v = record { v = v; by = no_shift }
+
+-- no vertex is asked to move
+abbrev pub no_shifts : Mesh → Shifts
+no_shifts m = map still_at (finite.keys m.points)
+
+-- where the directives begin: mesh 0 is saved
+abbrev pub start : Mesh → State
+start m = record { mesh = m; asked = no_shifts m; steps = 0; saved = 1 }
+
+-- a run's state, without where it lies in memory
+abbrev pub state_of : Mesh → Course → State
+state_of m course = record { mesh = m; asked = course.asked; steps = course.steps; saved = course.saved }
+
+-- the replay of a log that led to the mesh, between two steps
+abbrev pub at_mesh : Mesh → Replay
+at_mesh m = record { mesh = m; moves = [] }
+
+abbrev pub standing : State → Replay
+standing s = at_mesh s.mesh

@@ -1,0 +1,113 @@
+-- What a run does to a sink and a desk, and the headline.
+use Rattle.std.specs.Prelude.{◌≡◌, ◌≤◌, ◌⊎◌, ℕ, List, [], ◌∷◌, ◌++◌, Option, Some, None, Result, Ok, Err, IsErrOf}
+use Rattle.mesh_base.specs.Placements.{IsClearMesh}
+use Rattle.log_text.specs.Lines.{text_of_lines}
+use Rattle.log_text.specs.declared.LogLine.{LogLine}
+use Rattle.log_text.specs.declared.LogLine.TheVariants.{Mesh as MeshLine}
+use Rattle.log_text.specs.declared.Refusal.{Refusal}
+use Rattle.log_text.specs.declared.Refusal.TheVariants as refusal
+use Rattle.log_text.specs.Replay.{Replay}
+use Rattle.outside_io.specs.Causes.{Rose}
+use Rattle.outside_io.specs.Sink.{appended}
+use Rattle.outside_io.specs.Desk.{Files, SameBut}
+use Rattle.track_run.specs.declared.outcome.Outcome.{Outcome}
+use Rattle.track_run.specs.declared.outcome.Outcome.TheVariants as outcome
+use Rattle.track_run.specs.declared.outcome.Stop.{Stop}
+use Rattle.track_run.specs.declared.outcome.Stop.TheVariants.{NoMemory, DeskFault, SinkFault}
+use Rattle.track_run.specs.Said.{IsBegun}
+use Rattle.track_run.specs.Saved.{Target, files_of, file_name, stored}
+use Rattle.track_run.specs.Kept.{Keeps}
+use Rattle.track_run.specs.Turns.{Told}
+use Rattle.track_run.specs.Words.{Named}
+use Rattle.track_run.specs.Job.{Job, IsJob, log_of, replay_of}
+
+-- what a desk holds and what a sink was given, where they tell
+pub record World : Type 0 where
+  pub files : Option Files
+  pub written : Option (List ℕ)
+
+abbrev pub world : {D K : Type 0} → (D → Option Files) → (K → Option (List ℕ)) → D → K → World
+world files written desk out = record { files = files desk; written = written out }
+
+-- From old to new these lines were written, and the meshes that they name were stored.
+pub record Logs (to : Target) (from : Replay) (lines : List LogLine) (old new : World) : Type 0 where
+  pub written : new.written ≡ appended old.written (text_of_lines lines)
+  pub files : new.files ≡ stored (files_of to from lines) old.files
+
+-- what a file may hold whose line is written and whose store was not done
+abbrev pub IsOpen : Stop → List ℕ → Option Files → Option Files → Type 0
+IsOpen NoMemory name before now = now ≡ before
+IsOpen DeskFault name before now = SameBut name before now
+IsOpen SinkFault name before now = ⊥
+
+-- the last line names a mesh whose store was not done
+pub record LastIsOpen (stop : Stop) (to : Target) (from : Replay) (done : List LogLine) (old new : Option Files) : Type 0 where
+  pub front : List LogLine
+  pub k : ℕ
+  pub vertices : ℕ
+  pub faces : ℕ
+  pub last : done ≡ front ++ MeshLine k vertices faces ∷ []
+  pub open_file : IsOpen stop (file_name to.prefix k) (stored (files_of to from front) old) new
+
+-- The first of these lines were written, in order, and perhaps a part of the next. The meshes that they name were
+-- stored, but perhaps for the last.
+pub record StopsIn (stop : Stop) (to : Target) (from : Replay) (lines : List LogLine) (old new : World) : Type 0 where
+  pub done : List LogLine
+  pub rest : List LogLine
+  pub split : lines ≡ done ++ rest
+  pub part : List ℕ
+  pub begun : IsBegun part rest
+  pub written : new.written ≡ appended old.written (text_of_lines done ++ part)
+  pub files : (new.files ≡ stored (files_of to from done) old.files) ⊎ LastIsOpen stop to from done old.files new.files
+
+-- the counts have not fallen, and at a fault the one has risen
+pub record HasCauses {T : Type 0} (desk_old desk_new out_old out_new : ℕ) (result : Result T Stop) : Type 0 where
+  pub desk : desk_old ≤ desk_new
+  pub out : out_old ≤ out_new
+  pub desk_fault : IsErrOf result DeskFault → Rose desk_old desk_new
+  pub sink_fault : IsErrOf result SinkFault → Rose out_old out_new
+
+-- the outcome that the last line of a whole log tells
+abbrev pub outcome_of : Option Refusal → Outcome
+outcome_of None = outcome.Done
+outcome_of (Some (refusal.Long file seen)) = outcome.TooLong file seen
+outcome_of (Some (refusal.Missing file)) = outcome.Missing file
+outcome_of (Some (refusal.Mesh fault)) = outcome.MeshText fault
+outcome_of (Some (refusal.Shape fault)) = outcome.MeshShape fault
+outcome_of (Some (refusal.Meets pair)) = outcome.MeshMeets pair
+outcome_of (Some (refusal.Steps fault)) = outcome.StepText fault
+outcome_of (Some (refusal.StepUse line why)) = outcome.StepUse line why
+
+-- the outcome of a stop before the log's end
+abbrev pub outcome_at : Stop → Outcome
+outcome_at NoMemory = outcome.NoMemory
+outcome_at DeskFault = outcome.DeskFault
+outcome_at SinkFault = outcome.SinkFault
+
+-- A part of a run writes the lines that are told and stores their meshes, or the first of them.
+abbrev pub Follows : Target → Replay → Told → World → World → Result (Option Refusal) Stop → Type 0
+Follows to from told old new (Ok ending) = Logs to from told.lines old new × (ending ≡ told.ending)
+Follows to from told old new (Err stop) = StopsIn stop to from told.lines old new
+
+-- how a run of a job ended: with its whole log, or stopped before the log's end
+abbrev pub outcome_from : Result (Option Refusal) Stop → Outcome
+outcome_from (Ok ending) = outcome_of ending
+outcome_from (Err stop) = outcome_at stop
+
+-- how meshes are saved for these words
+abbrev pub target : Named → Target
+target named = record { prefix = named.prefix; decimals = named.decimals }
+
+-- THE HEADLINE, of a job. What the run did is the job's log, or the first of it. Where no edge of the job's mesh meets a face that shares
+-- no vertex with it, every mesh that the log saves is closed and so again, with the live numbers that its line tells, and every motion
+-- that the log tells keeps it so at every fraction.
+pub record Tracks (job : Job) (named : Named) (result : Outcome) (old new : World) : Type 0 where
+  pub ended : Result (Option Refusal) Stop
+  pub outcome : result ≡ outcome_from ended
+  pub log : Follows (target named) (replay_of job) (log_of job) old new ended
+  pub kept : IsClearMesh (replay_of job).mesh → Keeps (replay_of job) (log_of job).lines
+
+-- A run for these words: no job, or the one that the desk held at entry.
+abbrev pub Runs : Option Named → Outcome → World → World → Type 0
+Runs None result old new = (result ≡ outcome.Usage) × (new ≡ old)
+Runs (Some named) result old new = (job : Job) × IsJob old.files named job × Tracks job named result old new
