@@ -4,7 +4,7 @@
 use outside_io::{FileDesk, StdSink};
 use std::io::ErrorKind;
 use std::process::ExitCode;
-use std::rt::{Env, Print};
+use std::rt::Env;
 use std::{env, io};
 use track_run::{Outcome, run};
 

@@ -1,5 +1,6 @@
 -- The whole of a run from its parts.
-use Rattle.std.proofs.Common.{◌≡◌, ℕ, ◌<◌, ◌^◌, List, [], ◌∷◌, ◌++◌, refl, ap, sym, ◌∙◌, subst, length, IfOk, OnErr, Result, Ok, Err}
+use Rattle.std.proofs.Common.{◌≡◌, ℕ, ◌<◌, ◌^◌, List, [], ◌∷◌, ◌++◌, refl, ap, sym, ◌∙◌, subst, length, IfOk, OnErr, Result, Ok, Err, inl, inr}
+use Rattle.std.specs.Prelude.{◌⊎◌}
 use Rattle.std.specs.declared.option.Option.{Option}
 use Rattle.std.specs.declared.option.Option.TheVariants.{None, Some}
 use Rattle.mesh_base.specs.declared.FileWord.TheVariants as file
@@ -22,6 +23,7 @@ use Rattle.track_run.specs.declared.reading.Ready.{Ready}
 use Rattle.track_run.specs.declared.reading.Ready.TheVariants as ready
 use Rattle.track_run.specs.declared.outcome.Outcome.{Outcome}
 use Rattle.track_run.specs.declared.outcome.Stop.{Stop}
+use Rattle.track_run.specs.declared.outcome.Stop.TheVariants as stop
 use Rattle.track_run.specs.Fetched.{source_of}
 use Rattle.track_run.specs.State.{start, at_mesh, no_shifts}
 use Rattle.track_run.specs.Turns.{Told, told_from, refused, mesh_line}
@@ -29,11 +31,13 @@ use Rattle.track_run.specs.Words.{Named}
 use Rattle.track_run.specs.Job.{Job, Source, Bytes, Absent, TooLong, IsSource, IsJob, log_of, told_of, told_of_files, told_of_lists, mesh_in, mesh_read, replay_of}
 use Rattle.track_run.specs.Saved.{Target}
 use Rattle.track_run.specs.Said.{Said}
-use Rattle.track_run.specs.World.{World, Logs, StopsIn, Follows, Runs, target, outcome_from}
+use Rattle.track_run.specs.World.{World, Logs, StopsIn, Follows, Runs, target, outcome_from, outcome_of, outcome_at}
+use Rattle.track_run.specs.Causes.{Cause, IsStopped}
 use Rattle.track_run.specs.Parts.{Prepares, Reads, TracksJob, told_of_ready, IsMeshOf, given, AreGood}
 use Rattle.track_run.proofs.Sources.{some_source}
 use Rattle.track_run.proofs.Worlds.{logs_then, stops_then, stops_more, stops_nothing, stops_line}
 use Rattle.track_run.proofs.Keeping.{keeps_log}
+use Rattle.track_run.proofs.CauseLemmas.{log_cause, cause_ends}
 
 -- ---- what is read
 
@@ -198,5 +202,41 @@ ready_is_good files named found lists steps is p = let q = prepared_at files nam
 
 -- ---- the headline
 
+-- where the whole log is written, the job's cause is the outcome's
+whole_cause : (job : Job) (result : Outcome) (ending : Option Refusal) → result ≡ outcome_of ending → ending ≡ (log_of job).ending → Cause job result
+whole_cause job result ending e same = let P : Outcome → Type 0 = λ o. Cause job o in subst P (sym (e ∙ ap outcome_of same)) (log_cause job)
+
+whole_alone : (job : Job) (result : Outcome) (ending : Option Refusal) → result ≡ outcome_of ending → ending ≡ (log_of job).ending → (other : Outcome) → Cause job other → (result ≡ other) ⊎ IsStopped other ⊎ IsStopped result
+whole_alone job result ending e same other h = by_end (cause_ends job other h)
+  where
+    by_end : (outcome_of (log_of job).ending ≡ other) ⊎ IsStopped other → (result ≡ other) ⊎ IsStopped other ⊎ IsStopped result
+    by_end (inl is) = inl (e ∙ ap outcome_of same ∙ is)
+    by_end (inr stopped) = inr (inl stopped)
+
+stop_cause : (job : Job) (stop : Stop) → Cause job (outcome_at stop)
+stop_cause job stop.NoMemory = tt
+stop_cause job stop.DeskFault = tt
+stop_cause job stop.SinkFault = tt
+
+stop_stops : (stop : Stop) → IsStopped (outcome_at stop)
+stop_stops stop.NoMemory = tt
+stop_stops stop.DeskFault = tt
+stop_stops stop.SinkFault = tt
+
 pub run_ends : (named : Named) (old new : World) (result : Outcome) (ended : Result (Option Refusal) Stop) → result ≡ outcome_from ended → TracksJob named old new ended → Runs (Some named) result old new
-run_ends named old new result ended e t = (t.job, t.is_job, record { ended = ended; outcome = e; log = t.follows; kept = keeps_log t.job })
+run_ends named old new result (Ok ending) e t = (t.job, t.is_job, record {
+  ended = Ok ending;
+  outcome = e;
+  log = t.follows;
+  kept = keeps_log t.job;
+  cause = whole_cause t.job result ending e t.follows.1;
+  no_other = whole_alone t.job result ending e t.follows.1;
+})
+run_ends named old new result (Err stop) e t = (t.job, t.is_job, record {
+  ended = Err stop;
+  outcome = e;
+  log = t.follows;
+  kept = keeps_log t.job;
+  cause = (let P : Outcome → Type 0 = λ o. Cause t.job o in subst P (sym e) (stop_cause t.job stop));
+  no_other = λ other h. inr (inr (let P : Outcome → Type 0 = λ o. IsStopped o in subst P (sym e) (stop_stops stop)));
+})
