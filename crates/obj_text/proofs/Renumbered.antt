@@ -1,8 +1,8 @@
 -- The mesh that a written text gives is closed and clear where the mesh is that was written.
-use Rattle.std.proofs.Common.{◌≡◌, ◌≢◌, ℕ, zero, suc, ◌+◌, ◌-◌, ◌<◌, ◌≤◌, ◌⊎◌, ⊎_elim, Bool, true, false, cond, eqb, ◌==◌, ◌&&◌, ◌||◌, T, List, [], ◌∷◌, length, map, Option, Some, None, Ok, IsSome, is_some, inl, inr, refl, sym, ap, subst, ◌∙◌, arith}
-use Rattle.std.specs.Prelude.{nat_le, slice_get, count_by}
+use Rattle.std.proofs.Common.{◌≡◌, ◌≢◌, ℕ, suc, ◌+◌, ◌<◌, ◌≤◌, ◌⊎◌, ⊎_elim, Bool, true, false, cond, ◌==◌, ◌&&◌, ◌||◌, T, List, [], ◌∷◌, length, map, Some, IsSome, is_some, inl, inr, refl, sym, ap, subst, ◌∙◌, arith}
+use Rattle.std.specs.Prelude.{nat_le, slice_get}
 use Rattle.std.specs.List.{filter, enumerate_from, AllByRecursion}
-use Rattle.std.specs.Ordering.{nat_cmp, eq_by_cmp}
+use Rattle.std.specs.Ordering.{nat_cmp}
 use Rattle.std.specs.Cmp.{unsigned_tied, nat_cmp_total}
 use Rattle.std.specs.FinMap as finite
 use Rattle.std.specs.FinMap.{get-entries, get-from_entries, entries_sorted}
@@ -11,7 +11,6 @@ use Rattle.std.proofs.lemmas.Bool.{cases_Bool, cases_lt, eqb-true, eq-eqb, ne_eq
 use Rattle.std.proofs.lemmas.List.{length-map}
 use Rattle.std.proofs.lemmas.List.Sums.{length-filter}
 use Rattle.grid_base.specs.declared.Point.{Point}
-use Rattle.grid_base.specs.Triples.{Triple}
 use Rattle.grid_base.specs.declared.Positions.{Positions}
 use Rattle.grid_base.specs.Meeting.{MeetAt}
 use Rattle.grid_base.specs.Points.{position_of, point_at}
@@ -25,7 +24,6 @@ use Rattle.mesh_base.specs.Pairs.{Pair, IsPair}
 use Rattle.mesh_base.specs.Placements.{own_points, position_or_origin, positions, IsClearMesh}
 use Rattle.mesh_base.proofs.Listed.{each_found, at_key}
 use Rattle.mesh_base.proofs.WalkSteps.{both_of, less_true}
-use Rattle.mesh_base.proofs.Counts.{runs-without_face}
 use Rattle.mesh_base.proofs.Ordered.{entries-of_sorted}
 use Rattle.mesh_plain.proofs.Lists.{numbered, sorted_numbers}
 use Rattle.mesh_plain.proofs.Faults.{runs_given}
@@ -33,7 +31,6 @@ use Rattle.obj_text.specs.Obj.{Lists}
 use Rattle.obj_text.specs.Written.{rank, ranks, ranked_lists}
 use Rattle.obj_text.specs.Laws.{renumbered, ListsGiveRenumbered, StaysClosed, StaysClear}
 use Rattle.obj_text.proofs.Again.{written_is_read_lem}
-use Rattle.obj_text.proofs.RankBounds.{rank_is_some}
 
 -- ---- ranks in a list of entries
 
