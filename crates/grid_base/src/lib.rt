@@ -7,6 +7,8 @@ mod list;
 mod memory;
 mod moving;
 mod pair_positions;
+#[cfg(test)]
+mod tests;
 mod vector;
 
 pub use grid::{Point, Shift};

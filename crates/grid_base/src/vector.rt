@@ -4,6 +4,7 @@ ghost use Rattle.grid_base.specs.Triples.{IsWithin, minus, cross, dot, orientati
 use crate::{DIFFERENCE_MAX, DIRECTION_MAX, HALF_MAX, PRODUCT_MAX, WIDE_MAX};
 
 /// Three whole numbers.
+// It has no ghost field: definitions speak of it as of three whole numbers of any size.
 #[derive(Clone, Copy, Debug, PartialEq, Eq)]
 pub struct Wide {
     pub x: i128,

@@ -1,14 +1,15 @@
 -- Texts of lines: none is empty, and lists of lines are written one after another.
 use Rattle.std.proofs.Common.{◌≡◌, ℕ, ◌<◌, List, [], ◌∷◌, ◌++◌, length, refl, sym, ap, ◌∙◌, arith, append_assoc, length-append}
 use Rattle.log_text.specs.declared.log_line.LogLine.{LogLine}
+use Rattle.std.specs.List.{join_with_byte}
 use Rattle.line_text.specs.WrittenLines.{line_of_words}
-use Rattle.log_text.specs.Lines.{joined, body_of, text_of_line, text_of_lines}
+use Rattle.log_text.specs.Lines.{body_of, text_of_line, text_of_lines}
 
 -- a line of words is the words with one space between them, and LF
-pub line_of_words-joined : (words : List (List ℕ)) → 0 < length words → line_of_words words ≡ joined words ++ 10 ∷ []
-line_of_words-joined [] h = absurd (omega arith)
-line_of_words-joined (word ∷ []) h = refl
-line_of_words-joined (word ∷ next ∷ words) h = ap (λ (t : List ℕ). word ++ 32 ∷ t) (line_of_words-joined (next ∷ words) (omega arith)) ∙ sym (append_assoc word (32 ∷ joined (next ∷ words)) (10 ∷ []))
+pub line_of_words-join : (words : List (List ℕ)) → 0 < length words → line_of_words words ≡ join_with_byte 32 words ++ 10 ∷ []
+line_of_words-join [] h = absurd (omega arith)
+line_of_words-join (word ∷ []) h = refl
+line_of_words-join (word ∷ next ∷ words) h = ap (λ (t : List ℕ). word ++ 32 ∷ t) (line_of_words-join (next ∷ words) (omega arith)) ∙ sym (append_assoc word (32 ∷ join_with_byte 32 (next ∷ words)) (10 ∷ []))
 
 -- no line's text is empty
 pub text_of_line-some : (l : LogLine) → 0 < length (text_of_line l)

@@ -1,6 +1,7 @@
 -- The one spelling of each line.
 use Rattle.std.specs.Prelude.{ℕ, List, [], ◌∷◌, ◌++◌, codes, decimal}
 use Rattle.std.specs.Fmt.{signed_decimal}
+use Rattle.std.specs.List.{join_with_byte}
 use Rattle.line_text.specs.declared.TextWhy.{TextWhy}
 use Rattle.line_text.specs.declared.TextWhy.TheVariants as why
 use Rattle.mesh_base.specs.declared.FileWord.{FileWord}
@@ -16,12 +17,6 @@ use Rattle.log_text.specs.declared.log_line.LogLine.{LogLine}
 use Rattle.log_text.specs.declared.log_line.LogLine.TheVariants as line
 use Rattle.log_text.specs.declared.log_line.Refusal.{Refusal}
 use Rattle.log_text.specs.declared.log_line.Refusal.TheVariants as refusal
-
--- words with one space between them
-abbrev pub joined : List (List ℕ) → List ℕ
-joined [] = []
-joined (word ∷ []) = word
-joined (word ∷ next ∷ words) = word ++ 32 ∷ joined (next ∷ words)
 
 abbrev pub file_word : FileWord → List ℕ
 file_word file.Mesh = codes "mesh"
@@ -81,7 +76,7 @@ line_words line.End = codes "end" ∷ []
 
 -- a line without its end: one space between its words
 abbrev pub body_of : LogLine → List ℕ
-body_of l = joined (line_words l)
+body_of l = join_with_byte 32 (line_words l)
 
 -- a line with the LF at its end
 abbrev pub text_of_line : LogLine → List ℕ

@@ -1,9 +1,8 @@
 -- What a list of log lines makes of a mesh.
 use Rattle.std.specs.Prelude.{List, [], ◌∷◌, ◌++◌}
-use Rattle.std.specs.List.{fold}
 use Rattle.mesh_base.specs.declared.ShiftOf.{ShiftOf}
 use Rattle.mesh_base.specs.Mesh.{Mesh}
-use Rattle.mesh_base.specs.Shifts.{with_move}
+use Rattle.mesh_base.specs.Shifts.{with_moves}
 use Rattle.log_text.specs.declared.log_line.LogLine.{LogLine}
 use Rattle.log_text.specs.declared.log_line.LogLine.TheVariants.{Step, Move, Moved}
 
@@ -16,7 +15,7 @@ pub record Replay : Type 0 where
 abbrev pub replayed : Replay → LogLine → Replay
 replayed r (Step k) = record r { moves = [] }
 replayed r (Move s) = record r { moves = r.moves ++ s ∷ [] }
-replayed r (Moved how) = record { mesh = fold with_move r.mesh r.moves; moves = [] }
+replayed r (Moved how) = record { mesh = with_moves r.mesh r.moves; moves = [] }
 replayed r _ = r
 
 -- what the lines make, in order

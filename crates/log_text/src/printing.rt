@@ -1,6 +1,6 @@
 ghost use Rattle.std.specs.Prelude.{◌≡◌, ◌++◌, ◌∷◌, [], ◌<◌, length, map, OnOk, OnErr};
+ghost use Rattle.std.specs.List.{join_with_byte};
 ghost use Rattle.line_text.specs.WrittenLines.{word_of};
-ghost use Rattle.log_text.specs.Lines.{joined};
 ghost use Rattle.log_text.specs.Lines as spec;
 
 use crate::log_line::{LogLine, Refusal};
@@ -11,7 +11,7 @@ use mesh_base::{FileWord, How, PairName, ShapeFault, ShiftOf, UseWhy};
 // Appends the words with one space between them and LF behind them, or changes nothing.
 fn put_words(fields: &[Field<'_>], into: &mut Vec<u8>) -> Result<(), NoMemory>
     requires { 0 < length fields.now }
-    ensures ok { OnOk result (into.new.items ≡ into.old.items ++ (joined (map word_of fields.now) ++ 10 ∷ [])) }
+    ensures ok { OnOk result (into.new.items ≡ into.old.items ++ (join_with_byte 32 (map word_of fields.now) ++ 10 ∷ [])) }
     ensures err { OnErr result (into.new.items ≡ into.old.items) }
 {
     put_line(fields, into)

@@ -8,3 +8,4 @@ pub mod Ordered
 pub mod Moves
 pub mod ListedPairs
 pub mod MovesNamed
+pub mod KeysKept

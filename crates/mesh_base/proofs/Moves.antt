@@ -86,7 +86,7 @@ unnamed v moves h = ap (λ o. unwrap_or (option_map (λ s. displacement_of s.by)
     none [] h = refl
     none (s ∷ rest) h = ap (λ t. cond t (Some s) (find (λ x. x.v == v) rest)) (turned_test v s.v h.0) ∙ none rest h.1
 
-same_ends : (m : Mesh) (s : ShiftOf) (rest : Shifts) → AllByRecursion (λ u. eqb s.v u ≡ false) (map (λ x. x.v) rest) → end_in_box (with_move m s) rest ≡ end_in_box m rest
+pub same_ends : (m : Mesh) (s : ShiftOf) (rest : Shifts) → AllByRecursion (λ u. eqb s.v u ≡ false) (map (λ x. x.v) rest) → end_in_box (with_move m s) rest ≡ end_in_box m rest
 same_ends m s [] h = refl
 same_ends m s (x ∷ rest) h =
     ap (λ at. is_within BOX (plus at (displacement_of x.by)) && end_in_box (with_move m s) rest) (own-unmoved m s x.v h.0)
@@ -123,7 +123,7 @@ next_face-with_moves m [] = refl
 next_face-with_moves m (s ∷ rest) = next_face-with_moves (with_move m s) rest
 
 -- moves that name live vertices name live ones after the first
-still_live : (m : Mesh) (s : ShiftOf) (rest : Shifts) → IsLiveVertex m s.v → All (λ x. IsLiveVertex m x.v) rest → All (λ x. IsLiveVertex (with_move m s) x.v) rest
+pub still_live : (m : Mesh) (s : ShiftOf) (rest : Shifts) → IsLiveVertex m s.v → All (λ x. IsLiveVertex m x.v) rest → All (λ x. IsLiveVertex (with_move m s) x.v) rest
 still_live m s rest live others = All-weaker (λ x. IsLiveVertex m x.v) (λ x. IsLiveVertex (with_move m s) x.v) (λ x h. live-moved m s x.v live ∙ h) rest others
 
 -- the same vertices are live

@@ -15,3 +15,6 @@ pub use mesh_base::{
     live_vertices,
 };
 pub use plain::PlainMesh;
+
+#[cfg(test)]
+mod tests;

@@ -39,11 +39,11 @@ pub(crate) fn opens_at(s: &Positions, t: &Positions, depth: u8) -> bool
     if depth == 0 {
         return false;
     }
-    let m = middle(s, t);
-    if !opens_at(&double(s), &m, depth - 1) {
+    let halfway = middle(s, t);
+    if !opens_at(&double(s), &halfway, depth - 1) {
         return false;
     }
-    separated_at(&m, &double(t), depth - 1)
+    separated_at(&halfway, &double(t), depth - 1)
 }
 
 // The middle of an interval, double.

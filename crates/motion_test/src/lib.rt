@@ -5,6 +5,8 @@ mod direction_list;
 mod halving;
 mod one_direction;
 mod some_direction;
+#[cfg(test)]
+mod tests;
 
 ghost use Rattle.std.specs.Prelude.{◌≡◌, ◌↔◌, ◌≤◌, IsTrue};
 ghost use Rattle.grid_base.specs.Meeting.{AreWithin};
@@ -36,7 +38,7 @@ pub fn separated(p: &Pair, depth: u8) -> bool
     ensures exact { IsTrue result ↔ AreSeparated depth (positions_of p.now.start) (positions_of p.now.end) }
     ensures clear { IsTrue result → NeverMeet (positions_of p.now.start) (positions_of p.now.end) }
 {
-    separated_at(&five(&p.start), &five(&p.end), depth)
+    separated_at(&positions(&p.start), &positions(&p.end), depth)
 }
 
 /// Whether the pair passes: it is separated to the depth, or its five positions move by one shift and do not
@@ -61,7 +63,7 @@ pub fn opens(p: &Pair, depth: u8) -> bool
     ensures exact { IsTrue result ↔ Opens depth (positions_of p.now.start) (positions_of p.now.end) }
     ensures clear { IsTrue result → NeverMeetAfterStart (positions_of p.now.start) (positions_of p.now.end) }
 {
-    opens_at(&five(&p.start), &five(&p.end), depth)
+    opens_at(&positions(&p.start), &positions(&p.end), depth)
 }
 
 /// Whether the pair closes: with its start and its end exchanged it opens. Then it meets at no fraction below one.
@@ -72,7 +74,7 @@ pub fn closes(p: &Pair, depth: u8) -> bool
     ensures exact { IsTrue result ↔ Closes depth (positions_of p.now.start) (positions_of p.now.end) }
     ensures clear { IsTrue result → NeverMeetBeforeEnd (positions_of p.now.start) (positions_of p.now.end) }
 {
-    opens_at(&five(&p.end), &five(&p.start), depth)
+    opens_at(&positions(&p.end), &positions(&p.start), depth)
 }
 
 // Whether the pair passes to the depth: it is separated, or moves as one and does not meet at the start.
@@ -85,8 +87,8 @@ fn passes_at(p: &Pair, depth: u8) -> bool
     if separated(p, depth) {
         return true;
     }
-    let s = five(&p.start);
-    if !moves_together(&s, &five(&p.end)) {
+    let s = positions(&p.start);
+    if !moves_together(&s, &positions(&p.end)) {
         return false;
     }
     !meets(s.a, s.b, s.c, s.d, s.e)
@@ -118,7 +120,7 @@ fn same(a: Wide, b: Wide) -> bool
 }
 
 // The five positions of a list.
-fn five(p: &[Wide; 5]) -> Positions
+fn positions(p: &[Wide; 5]) -> Positions
     ensures { result ≡ positions_of p.now }
 {
     Positions {

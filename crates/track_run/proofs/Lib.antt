@@ -1,5 +1,8 @@
 pub mod ShiftLemmas
 pub mod PlaceLemmas
+pub mod StepLemmas
+pub mod TurnLemmas
+pub mod ReadLemmas
 pub mod Saying
 pub mod Worlds
 pub mod NoFiles

@@ -1,5 +1,5 @@
 -- The directives, one after another.
-use Rattle.std.proofs.Common.{◌≡◌, ℕ, List, [], ◌∷◌, ◌++◌, refl, ap, sym, ◌∙◌, ◌⊎◌, inl, inr, ◌+◌, ◌<◌, ◌≤◌, length, get_or, drop, add-one, suc, subst, append_assoc, append-nil, Ok, Err}
+use Rattle.std.proofs.Common.{◌≡◌, ℕ, List, [], ◌∷◌, ◌++◌, refl, ap, sym, ◌∙◌, ◌⊎◌, inl, inr, ◌+◌, ◌<◌, ◌≤◌, length, get_or, drop, add-one, suc, subst, append_assoc, append-nil, Ok, Err, Result, IfOk, OnErr}
 use Rattle.std.proofs.Math.Seq.{drop-cons}
 use Rattle.std.proofs.lemmas.List.{drop_all}
 use Rattle.std.specs.declared.option.Option.TheVariants.{None, Some}
@@ -20,9 +20,9 @@ use Rattle.track_run.specs.State.{State, standing}
 use Rattle.track_run.specs.Turns.{Told, Turn, Goes, Stops, turn, and_then, told_from, refused}
 use Rattle.log_text.specs.Replay.{Replay, after}
 use Rattle.track_run.specs.Saved.{Target, files_of, stored}
-use Rattle.track_run.specs.Said.{SaidInPart}
+use Rattle.track_run.specs.Said.{Said}
 use Rattle.track_run.specs.Parts.{Takes, TakesInPart, Advances}
-use Rattle.track_run.specs.World.{World, Logs, StopsIn}
+use Rattle.track_run.specs.World.{World, Logs, StopsIn, Follows}
 use Rattle.track_run.proofs.Worlds.{after-append, logs_then, stops_then, stops_more, stops_nothing, stops_line}
 use Rattle.track_run.proofs.NoFiles.{logs_from_said, stops_from_said}
 
@@ -102,48 +102,45 @@ so_far_nothing to all left first now old mid new stop s same =
     subst Q s.whole (stops_then stop to (standing first) s.done left.lines old mid new s.logs (subst P (sym same) (stops_nothing stop to _ left.lines mid)))
 
 -- what is left, where a directive is
-left_is : (steps : List Placed) (i : ℕ) (d : Placed) (s : State) → i < length steps → told_from (drop i steps) s ≡ and_then (get_or steps i d).line (turn (get_or steps i d).what s) (told_from (drop (i + 1) steps))
-left_is steps i d s h = ap (λ l. told_from l s) (drop-cons steps i d h) ∙ ap (λ n. and_then (get_or steps i d).line (turn (get_or steps i d).what s) (told_from (drop n steps))) (sym (add-one i))
+left_is : (steps : List Placed) (i : ℕ) (p : Placed) (s : State) → i < length steps → p ≡ get_or steps i p → told_from (drop i steps) s ≡ and_then p.line (turn p.what s) (told_from (drop (i + 1) steps))
+left_is steps i p s h at =
+    ap (λ l. told_from l s) (drop-cons steps i p h)
+    ∙ ap (λ q. and_then q.line (turn q.what s) (told_from (drop (suc i) steps))) (sym at)
+    ∙ ap (λ n. and_then p.line (turn p.what s) (told_from (drop n steps))) (sym (add-one i))
 
-module _ (to : Target) (all : Told) (steps : List Placed) (i : ℕ) (d : Placed) (h : i < length steps) (first now : State) (old mid new : World) where
-  here : SoFar to all (told_from (drop i steps) now) first now old mid → SoFar to all (and_then (get_or steps i d).line (turn (get_or steps i d).what now) (told_from (drop (i + 1) steps))) first now old mid
-  here s = let P : Told → Type 0 = λ left. SoFar to all left first now old mid in subst P (left_is steps i d now h) s
+module _ (to : Target) (all : Told) (steps : List Placed) (i : ℕ) (p : Placed) (h : i < length steps) (at : p ≡ get_or steps i p) (first now : State) (old mid new : World) (so_far : SoFar to all (told_from (drop i steps) now) first now old mid) where
+  here : SoFar to all (and_then p.line (turn p.what now) (told_from (drop (i + 1) steps))) first now old mid
+  here = let P : Told → Type 0 = λ left. SoFar to all left first now old mid in subst P (left_is steps i p now h at) so_far
 
-  pub turn_more : (then : State) → SoFar to all (told_from (drop i steps) now) first now old mid → Takes to (turn (get_or steps i d).what now) now then mid new → SoFar to all (told_from (drop (i + 1) steps) then) first then old new
-  turn_more then s takes = so_far_more to all (get_or steps i d).line (turn (get_or steps i d).what now) (told_from (drop (i + 1) steps)) first now then old mid new (here s) takes
+  -- a turn is taken
+  pub goes_on : (then : State) (o : Option UseWhy) → o ≡ None → Advances to (turn p.what now) now then mid new (Ok o) → SoFar to all (told_from (drop (i + 1) steps) then) first then old new
+  goes_on then o e advances =
+      let P : Option UseWhy → Type 0 = λ o. Advances to (turn p.what now) now then mid new (Ok o) in
+      so_far_more to all p.line (turn p.what now) (told_from (drop (i + 1) steps)) first now then old mid new here (subst P e advances)
 
-  pub turn_part : (stop : Stop) → SoFar to all (told_from (drop i steps) now) first now old mid → (new ≡ mid) ⊎ TakesInPart stop to (turn (get_or steps i d).what now) now mid new → StopsIn stop to (standing first) all.lines old new
-  turn_part stop s (inl same) = so_far_nothing to all _ first now old mid new stop s same
-  turn_part stop s (inr takes) = so_far_part to all (get_or steps i d).line (turn (get_or steps i d).what now) (told_from (drop (i + 1) steps)) first now old mid new stop (here s) takes
+  -- it stops in its lines, or before them
+  pub turn_part : (stop : Stop) → (new ≡ mid) ⊎ TakesInPart stop to (turn p.what now) now mid new → StopsIn stop to (standing first) all.lines old new
+  turn_part stop (inl same) = so_far_nothing to all _ first now old mid new stop so_far same
+  turn_part stop (inr takes) = so_far_part to all p.line (turn p.what now) (told_from (drop (i + 1) steps)) first now old mid new stop here takes
 
-  pub turn_refused : (why : UseWhy) → SoFar to all (told_from (drop i steps) now) first now old mid → turn (get_or steps i d).what now ≡ Stops why → new ≡ mid
-      → SoFar to all (refused (StepUse (get_or steps i d).line why)) first now old new
-  turn_refused why s e same =
-      let P : World → Type 0 = λ w. SoFar to all (refused (StepUse (get_or steps i d).line why)) first now old w in
-      subst P (sym same) (so_far_refused to all (get_or steps i d).line (turn (get_or steps i d).what now) why (told_from (drop (i + 1) steps)) first now old mid (here s) e)
-
--- the last line, where no file is named by it
-pub last_said : (to : Target) (all : Told) (line : LogLine) (ending : Option Refusal) (first now : State) (old : World) (files : Option Files) (mid new : Option (List ℕ)) → ((r : Replay) → stored (files_of to r (line ∷ [])) files ≡ files)
-    → SoFar to all (record { lines = line ∷ []; ending = ending }) first now old (record { files = files; written = mid }) → new ≡ appended mid (text_of_lines (line ∷ []))
-    → Logs to (standing first) all.lines old (record { files = files; written = new }) × (ending ≡ all.ending)
-last_said to all line ending first now old files mid new none s said = so_far_last to all line ending first now old _ _ s (λ r. record { written = said; files = sym (none r) })
-
-pub last_part : (to : Target) (all : Told) (line : LogLine) (ending : Option Refusal) (first now : State) (old : World) (files : Option Files) (mid new : Option (List ℕ)) (stop : Stop)
-    → SoFar to all (record { lines = line ∷ []; ending = ending }) first now old (record { files = files; written = mid }) → AppendsPart mid new (text_of_line line)
-    → StopsIn stop to (standing first) all.lines old (record { files = files; written = new })
-last_part to all line ending first now old files mid new stop s part = so_far_last_part to all line ending first now old _ _ stop s (λ r. stops_line stop to r line [] files mid new part)
-
-module _ (to : Target) (all : Told) (steps : List Placed) (i : ℕ) (d : Placed) (h : i < length steps) (first now : State) (old mid new : World) (then : State) (o : Option UseWhy)
-    (s : SoFar to all (told_from (drop i steps) now) first now old mid) (advances : Advances to (turn (get_or steps i d).what now) now then mid new (Ok o)) where
-  said_as : (o' : Option UseWhy) → o ≡ o' → Advances to (turn (get_or steps i d).what now) now then mid new (Ok o')
-  said_as o' e = let P : Option UseWhy → Type 0 = λ o. Advances to (turn (get_or steps i d).what now) now then mid new (Ok o) in subst P e advances
-
-  pub goes_on : o ≡ None → SoFar to all (told_from (drop (i + 1) steps) then) first then old new
-  goes_on e = turn_more to all steps i d h first now old mid new then s (said_as None e)
-
-  pub is_refused : (why : UseWhy) → o ≡ Some why → SoFar to all (refused (StepUse (get_or steps i d).line why)) first now old new
-  is_refused why e = let refused = said_as (Some why) e in turn_refused to all steps i d h first now old mid new why s refused.0 refused.1
+  -- it is refused
+  pub is_refused : (then : State) (o : Option UseWhy) (why : UseWhy) → o ≡ Some why → Advances to (turn p.what now) now then mid new (Ok o) → SoFar to all (refused (StepUse p.line why)) first now old new
+  is_refused then o why e advances =
+      let P : Option UseWhy → Type 0 = λ o. Advances to (turn p.what now) now then mid new (Ok o) in
+      let stopped = subst P e advances in
+      let Q : World → Type 0 = λ w. SoFar to all (refused (StepUse p.line why)) first now old w in
+      subst Q (sym stopped.1) (so_far_refused to all p.line (turn p.what now) why (told_from (drop (i + 1) steps)) first now old mid here stopped.0)
 
 -- no directive is left
 pub at_end : (to : Target) (all : Told) (steps : List Placed) (i : ℕ) (first now : State) (old mid : World) → length steps ≤ i → SoFar to all (told_from (drop i steps) now) first now old mid → SoFar to all (record { lines = End ∷ []; ending = None }) first now old mid
 at_end to all steps i first now old mid h s = let P : List Placed → Type 0 = λ l. SoFar to all (told_from l now) first now old mid in subst P (drop_all i steps h) s
+
+-- the last line, which names no file
+pub finished : (to : Target) (all : Told) (line : LogLine) (ending : Option Refusal) (first now : State) (old : World) (files : Option Files) (mid new : Option (List ℕ)) (r : Result (Option Refusal) Stop) → ((from : Replay) → stored (files_of to from (line ∷ [])) files ≡ files)
+    → SoFar to all (record { lines = line ∷ []; ending = ending }) first now old (record { files = files; written = mid }) → Said mid new (line ∷ []) r → OnErr r (AppendsPart mid new (text_of_line line)) → IfOk r (λ e. e ≡ ending)
+    → Follows to (standing first) all old (record { files = files; written = new }) r
+finished to all line ending first now old files mid new (Ok e) none s said part is =
+    let last = so_far_last to all line ending first now old _ (record { files = files; written = new }) s (λ from. record { written = said; files = sym (none from) }) in
+    (last.0, is ∙ last.1)
+finished to all line ending first now old files mid new (Err stop) none s said part is =
+    so_far_last_part to all line ending first now old _ (record { files = files; written = new }) stop s (λ from. stops_line stop to from line [] files mid new part)

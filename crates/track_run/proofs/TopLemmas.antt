@@ -4,6 +4,7 @@ use Rattle.std.specs.declared.option.Option.{Option}
 use Rattle.std.specs.declared.option.Option.TheVariants.{None, Some}
 use Rattle.mesh_base.specs.declared.FileWord.TheVariants as file
 use Rattle.mesh_base.specs.Mesh.{Mesh}
+use Rattle.mesh_base.specs.Shifts.{Shifts}
 use Rattle.mesh_base.specs.declared.MeshLists.{MeshLists}
 use Rattle.obj_text.specs.Obj.{lists_of}
 use Rattle.step_text.specs.declared.Placed.{Placed}
@@ -22,7 +23,7 @@ use Rattle.track_run.specs.declared.reading.Ready.TheVariants as ready
 use Rattle.track_run.specs.declared.outcome.Outcome.{Outcome}
 use Rattle.track_run.specs.declared.outcome.Stop.{Stop}
 use Rattle.track_run.specs.Fetched.{source_of}
-use Rattle.track_run.specs.State.{State, start, at_mesh}
+use Rattle.track_run.specs.State.{start, at_mesh, no_shifts}
 use Rattle.track_run.specs.Turns.{Told, told_from, refused, mesh_line}
 use Rattle.track_run.specs.Words.{Named}
 use Rattle.track_run.specs.Job.{Job, Source, Bytes, Absent, TooLong, IsSource, IsJob, log_of, told_of, told_of_files, told_of_lists, mesh_in, mesh_read, replay_of}
@@ -105,6 +106,18 @@ begin_part to m steps a b stop s = stops_more stop to (at_mesh m) (mesh_line 0 m
 pub begin_follows : (to : Target) (m : Mesh) (steps : List Placed) (a b c : World) (r : Result (Option Refusal) Stop) → Logs to (at_mesh m) (mesh_line 0 m ∷ []) a b → Follows to (at_mesh m) (told_from steps (start m)) b c r → Follows to (at_mesh m) (told_of m steps) a c r
 begin_follows to m steps a b c (Ok ending) l f = (logs_then to (at_mesh m) (mesh_line 0 m ∷ []) (told_from steps (start m)).lines a b c l f.0, f.1)
 begin_follows to m steps a b c (Err stop) l f = stops_then stop to (at_mesh m) (mesh_line 0 m ∷ []) (told_from steps (start m)).lines a b c l f
+
+-- the directives begin with no vertex asked to move
+pub begin_at : (to : Target) (m : Mesh) (asked : Shifts) (given_steps steps : List Placed) (a b c : World) (r : Result (Option Refusal) Stop) → asked ≡ no_shifts m → given_steps ≡ steps → Logs to (at_mesh m) (mesh_line 0 m ∷ []) a b
+    → Follows to (at_mesh m) (told_from given_steps (record { mesh = m; asked = asked; steps = 0; saved = 1 })) b c r → Follows to (at_mesh m) (told_of m steps) a c r
+begin_at to m asked given_steps steps a b c r none same l f =
+    let P : Shifts → Type 0 = λ asked. Follows to (at_mesh m) (told_from given_steps (record { mesh = m; asked = asked; steps = 0; saved = 1 })) b c r in
+    let Q : List Placed → Type 0 = λ steps. Follows to (at_mesh m) (told_from steps (start m)) b c r in
+    begin_follows to m steps a b c r l (subst Q same (subst P none f))
+
+-- nothing after the first mesh
+pub begin_nothing : (to : Target) (m : Mesh) (steps : List Placed) (a b : World) (stop : Stop) → Logs to (at_mesh m) (mesh_line 0 m ∷ []) a b → StopsIn stop to (at_mesh m) (told_of m steps).lines a b
+begin_nothing to m steps a b stop l = stops_then stop to (at_mesh m) (mesh_line 0 m ∷ []) (told_from steps (start m)).lines a b b l (stops_nothing stop to _ _ b)
 
 -- ---- the whole log
 

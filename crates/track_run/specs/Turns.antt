@@ -1,7 +1,7 @@
 -- What each directive does, and the log of all of them.
 use Rattle.std.specs.Prelude.{ℕ, ◌+◌, Bool, not, List, [], ◌∷◌, ◌++◌, map, Option, Some, None}
 use Rattle.std.specs.Option.{option_map}
-use Rattle.std.specs.List.{find, filter, fold}
+use Rattle.std.specs.List.{find, filter}
 use Rattle.std.specs.FinMap as finite
 use Rattle.grid_base.specs.declared.TheConstants.{BOX, SHIFT_MAX}
 use Rattle.grid_base.specs.declared.Shift.{Shift}
@@ -13,7 +13,7 @@ use Rattle.mesh_base.specs.declared.UseWhy.{UseWhy}
 use Rattle.mesh_base.specs.declared.UseWhy.TheVariants.{ShiftRange, Box}
 use Rattle.mesh_base.specs.Mesh.{Mesh}
 use Rattle.mesh_base.specs.Placements.{own_points}
-use Rattle.mesh_base.specs.Shifts.{Shifts, with_shift, with_move}
+use Rattle.mesh_base.specs.Shifts.{Shifts, with_shift, with_moves}
 use Rattle.step_text.specs.declared.Directive.{Directive}
 use Rattle.step_text.specs.declared.Directive.TheVariants as directive
 use Rattle.step_text.specs.declared.Placed.{Placed}
@@ -61,7 +61,7 @@ move_lines shifts = map (λ s. Move s) (moving shifts)
 
 -- the mesh after the shifts
 abbrev pub moved_mesh : Mesh → Shifts → Mesh
-moved_mesh m shifts = fold with_move m (moving shifts)
+moved_mesh m shifts = with_moves m (moving shifts)
 
 -- no vertex is asked to move any more
 abbrev pub all_still : Shifts → Shifts
@@ -104,6 +104,11 @@ turn directive.Save s = Goes (mesh_line s.saved s.mesh ∷ []) (record s { saved
 pub record Told : Type 0 where
   pub lines : List LogLine
   pub ending : Option Refusal
+
+-- the refusal that a last line tells
+abbrev pub ending_of : LogLine → Option Refusal
+ending_of (Refused why) = Some why
+ending_of _ = None
 
 -- a log whose last line is a refusal
 abbrev pub refused : Refusal → Told

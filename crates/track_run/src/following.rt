@@ -6,7 +6,7 @@ ghost use Rattle.track_run.specs.Names.{target_of};
 ghost use Rattle.track_run.specs.World.{world, HasCauses, Follows};
 
 use crate::course::Course;
-use crate::lines::say;
+use crate::lines::finish;
 use crate::outcome::Stop;
 use crate::turns::advance;
 use crate::words::Names;
@@ -39,15 +39,10 @@ pub(crate) fn follow<S: Surface, D: Desk, K: Sink>(
         match advance(alloc, placed.what, names, mesh, course, desk, out)? {
             None => {}
             Some(why) => {
-                let refusal = Refusal::StepUse {
-                    line: placed.line,
-                    why,
-                };
-                say(alloc, out, LogLine::Refused(refusal))?;
-                return Ok(Some(refusal));
+                let line = placed.line;
+                return finish(alloc, out, LogLine::Refused(Refusal::StepUse { line, why }));
             }
         }
     }
-    say(alloc, out, LogLine::End)?;
-    Ok(None)
+    finish(alloc, out, LogLine::End)
 }

@@ -69,7 +69,7 @@ pub(crate) fn save<S: Surface, D: Desk, K: Sink>(
         vertices: mesh.vertices(),
         faces: mesh.faces(),
     };
-    say(alloc, out, line)?;
+    say(alloc, out, &line)?;
     match desk.store(&name, &text) {
         Ok(()) => Ok(()),
         Err(StoreFault::NoMemory) => Err(Stop::NoMemory),

@@ -23,7 +23,7 @@ fn say_move<K: Sink>(alloc: Global, s: &ShiftOf, out: &mut K) -> Result<(), Stop
     if !moves(s) {
         return Ok(());
     }
-    say(alloc, out, LogLine::Move(*s))
+    say(alloc, out, &LogLine::Move(*s))
 }
 
 // A line for each shift that is not zero.
@@ -51,8 +51,8 @@ pub(crate) fn say_step<K: Sink>(
     ensures cause { IsErrOf result Stop.SinkFault → Rose (K.faults out.old) (K.faults out.new) }
     ensures desk { IsErrOf result Stop.DeskFault → ⊥ }
 {
-    say(alloc, out, LogLine::Step { k })?;
+    say(alloc, out, &LogLine::Step { k })?;
     say_moves(alloc, asked, out)?;
-    say(alloc, out, LogLine::Moved(How::Whole))?;
+    say(alloc, out, &LogLine::Moved(How::Whole))?;
     Ok(())
 }

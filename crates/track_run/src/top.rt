@@ -10,7 +10,7 @@ ghost use Rattle.track_run.specs.Parts.{TracksJob};
 
 use crate::course::Course;
 use crate::following::follow;
-use crate::lines::say;
+use crate::lines::{finish, say};
 use crate::outcome::{Outcome, Stop};
 use crate::reading::{Ready, prepare};
 use crate::saving::save;
@@ -77,12 +77,9 @@ fn track<D: Desk, K: Sink>(
     ensures tracks { TracksJob (named_by names.entry) (world D.files K.written desk.old out.old) (world D.files K.written desk.new out.new) result }
     ensures causes { HasCauses (D.faults desk.old) (D.faults desk.new) (K.faults out.old) (K.faults out.new) result }
 {
-    say(alloc, out, LogLine::First { version: 1 })?;
+    say(alloc, out, &LogLine::First { version: 1 })?;
     match prepare(alloc, names, desk)? {
-        Ready::No(why) => {
-            say(alloc, out, LogLine::Refused(why))?;
-            Ok(Some(why))
-        }
+        Ready::No(why) => finish(alloc, out, LogLine::Refused(why)),
         Ready::Yes(lists, steps) => match PlainMesh::of(alloc, &lists) {
             Ok(mut mesh) => begin(alloc, names, &mut mesh, &steps, desk, out),
             Err(_) => Err(Stop::NoMemory),

@@ -1,4 +1,4 @@
-ghost use Rattle.std.specs.Prelude.{◌≡◌, ◌≤◌, ◌<◌, ◌+◌, ◌^◌, IsOk, IfOk, IfErr, IsErrOf};
+ghost use Rattle.std.specs.Prelude.{◌≡◌, ◌≤◌, ◌<◌, ◌+◌, ◌^◌, IfOk, IfErr, IsErrOf};
 ghost use Rattle.mesh_base.specs.Shifts.{NameLive};
 ghost use Rattle.outside_io.specs.Causes.{Rose};
 ghost use Rattle.track_run.specs.State.{state_of};
@@ -84,7 +84,7 @@ pub(crate) fn advance<S: Surface, D: Desk, K: Sink>(
     requires saved { course.old.saved + 1 < 2 ^ 32 }
     ensures advances { Advances (target_of names.entry) (turn what (state_of (S.mesh mesh.old) course.old)) (state_of (S.mesh mesh.old) course.old) (state_of (S.mesh mesh.new) course.new)
         (world D.files K.written desk.old out.old) (world D.files K.written desk.new out.new) result }
-    ensures asked { IsOk result → NameLive (S.mesh mesh.new) course.new.asked }
+    ensures asked { result ≡ Ok None → NameLive (S.mesh mesh.new) course.new.asked }
     ensures steps_count { course.new.steps ≤ course.old.steps + 1 }
     ensures saved_count { course.new.saved ≤ course.old.saved + 1 }
     ensures causes { HasCauses (D.faults desk.old) (D.faults desk.new) (K.faults out.old) (K.faults out.new) result }

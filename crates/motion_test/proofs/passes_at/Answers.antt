@@ -15,13 +15,13 @@ returns-then-separated c = (λ yes. inl (c.if-separated.ensures.exact.0 refl), �
 
 pub returns-then-not-moves_together : goal.returns-then-not-moves_together
 returns-then-not-moves_together c =
-    let together = rw (c.five-s.ensures, c.five.ensures) at c.if-not-moves_together.ensures in
+    let together = rw (c.positions-s.ensures, c.positions.ensures) at c.if-not-moves_together.ensures in
     (λ fails. absurd (false≢true fails), λ w. ⊎_elim (λ apart. c.if-separated.ensures.exact.1 apart) (λ as_one. together.1 as_one.0) w)
 
 pub returns : goal.returns
 returns c =
-    let together = rw (c.five-s.ensures, c.five.ensures) at c.if-not-moves_together.ensures in
-    let starts = rw c.five-s.ensures at c.meets.ensures in (
+    let together = rw (c.positions-s.ensures, c.positions.ensures) at c.if-not-moves_together.ensures in
+    let starts = rw c.positions-s.ensures at c.meets.ensures in (
       λ yes. inr (together.0 refl, λ w. not_both c.meets.result yes (starts.1 w)),
       λ w. ⊎_elim (λ apart. absurd (false≢true (c.if-separated.ensures.exact.1 apart))) (λ as_one. not_from c.meets.result (λ r. as_one.1 (starts.0 r))) w,
     )

@@ -15,11 +15,11 @@ direction_takes_apart-requires-clause-t_fits t c = AreWithin-weaker _ _ c.args.t
 pub returns-then-direction_takes_apart : goal.returns-then-direction_takes_apart
 returns-then-direction_takes_apart t c = (λ _. Opens-at_once _ _ _ (c.if-direction_takes_apart.ensures.0 refl), λ _. refl)
 
-pub middle-m-requires-clause-s_fits : goal.middle-m-requires-clause-s_fits
-middle-m-requires-clause-s_fits t c = AreWithin-weaker _ _ c.args.s.now (room_now c.args.depth) c.requires.s_fits
+pub middle-halfway-requires-clause-s_fits : goal.middle-halfway-requires-clause-s_fits
+middle-halfway-requires-clause-s_fits t c = AreWithin-weaker _ _ c.args.s.now (room_now c.args.depth) c.requires.s_fits
 
-pub middle-m-requires-clause-t_fits : goal.middle-m-requires-clause-t_fits
-middle-m-requires-clause-t_fits t c = AreWithin-weaker _ _ c.args.t.now (room_now c.args.depth) c.requires.t_fits
+pub middle-halfway-requires-clause-t_fits : goal.middle-halfway-requires-clause-t_fits
+middle-halfway-requires-clause-t_fits t c = AreWithin-weaker _ _ c.args.t.now (room_now c.args.depth) c.requires.t_fits
 
 pub double-requires : goal.double-requires
 double-requires t c = AreWithin-weaker _ _ c.args.s.now (room_now c.args.depth) c.requires.s_fits
@@ -36,7 +36,7 @@ opens_at-requires t c =
         omega arith,
         (
           rw c.double.ensures (doubled_within _ _ c.args.s.now room c.requires.s_fits),
-          rw c.middle-m.ensures (middle_within _ _ c.args.s.now c.args.t.now room c.requires.s_fits c.requires.t_fits),
+          rw c.middle-halfway.ensures (middle_within _ _ c.args.s.now c.args.t.now room c.requires.s_fits c.requires.t_fits),
         ),
       ),
     )
@@ -47,21 +47,21 @@ separated_at-requires t c =
     let room = room_for_halves c.args.depth some c.requires.depth_fits in
     record {
       depth_fits = omega arith;
-      s_fits = rw c.middle-m.ensures (middle_within _ _ c.args.s.now c.args.t.now room c.requires.s_fits c.requires.t_fits);
+      s_fits = rw c.middle-halfway.ensures (middle_within _ _ c.args.s.now c.args.t.now room c.requires.s_fits c.requires.t_fits);
       t_fits = rw c.double-2.ensures (doubled_within _ _ c.args.t.now room c.requires.t_fits);
     }
 
 pub returns-then-not-opens_at : goal.returns-then-not-opens_at
 returns-then-not-opens_at t c =
     let some : 0 < c.args.depth = omega arith in
-    let first = rw (c.double.ensures, c.middle-m.ensures) at c.if-not-opens_at.ensures in
+    let first = rw (c.double.ensures, c.middle-halfway.ensures) at c.if-not-opens_at.ensures in
     (λ no. absurd (false≢true no), λ yes. ⊎_elim (λ at_once. c.if-direction_takes_apart.ensures.1 at_once) (λ halves. first.1 halves.0) (Opens-open c.args.depth c.args.s.now c.args.t.now some yes))
 
 pub returns : goal.returns
 returns t c =
     let some : 0 < c.args.depth = omega arith in
-    let first = rw (c.double.ensures, c.middle-m.ensures) at c.if-not-opens_at.ensures in
-    let second = rw (c.middle-m.ensures, c.double-2.ensures) at c.separated_at.ensures in (
+    let first = rw (c.double.ensures, c.middle-halfway.ensures) at c.if-not-opens_at.ensures in
+    let second = rw (c.middle-halfway.ensures, c.double-2.ensures) at c.separated_at.ensures in (
       λ yes. Opens-in_halves c.args.depth c.args.s.now c.args.t.now some (first.0 refl, second.0 yes),
       λ yes. ⊎_elim (λ at_once. absurd (false≢true (c.if-direction_takes_apart.ensures.1 at_once))) (λ halves. second.1 halves.1) (Opens-open c.args.depth c.args.s.now c.args.t.now some yes),
     )

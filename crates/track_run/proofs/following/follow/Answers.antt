@@ -1,22 +1,18 @@
-use Rattle.std.proofs.Common.{◌≡◌, arith, Some, refl, pos, ◌∙◌}
+use Rattle.std.proofs.Common.{arith, None, refl, ap, Ok}
 use Rattle.std.proofs.lemmas.Result.{err_from_is_err_and}
-use Rattle.step_text.specs.declared.Placed.{Placed}
-use Rattle.step_text.specs.declared.Directive.TheVariants.{ShiftAll}
-use Rattle.log_text.specs.declared.LogLine.TheVariants.{Refused, End}
 use Rattle.log_text.specs.declared.Refusal.TheVariants.{StepUse}
-use Rattle.std.proofs.Common.{get_or}
-use Rattle.track_run.specs.declared.outcome.Outcome.TheVariants as outcome
+use Rattle.log_text.specs.declared.LogLine.TheVariants.{Refused, End}
+use Rattle.track_run.specs.State.{state_of}
 use Rattle.track_run.specs.Turns.{told_from}
-use Rattle.track_run.specs.STEPS.{state_of}
+use Rattle.track_run.specs.Names.{target_of}
 use Rattle.track_run.specs.World.{world}
-use Rattle.track_run.proofs.SoFars.{so_far_none, goes_on, is_refused, turn_part, at_end, last_said, last_part}
+use Rattle.track_run.proofs.SoFars.{so_far_none, goes_on, is_refused, turn_part, at_end, finished}
 use Rattle.track_run.proofs.following.follow.Goals as goal
 
 pub loop-placed-init : goal.loop-placed-init
 loop-placed-init g c = record {
   so_far = so_far_none _ _ _ _;
-  points = refl;
-  faces = refl;
+  asked = c.requires.asked;
   steps = omega (arith, c.requires.steps_made);
   saved = omega (arith, c.requires.saved);
   desk = omega arith;
@@ -25,83 +21,36 @@ loop-placed-init g c = record {
 
 pub returns-in_err-advance-clause-follows : goal.returns-in_err-advance-clause-follows
 returns-in_err-advance-clause-follows g c =
-    let d : Placed = record { line = 0; what = ShiftAll (record { x = pos 0; y = pos 0; z = pos 0 }) } in
-    let all = told_from c.args.steps.now (state_of c.args.course.now) in
-    let first = state_of c.args.course.now in
-    let now = state_of c.loop-placed.course in
-    let old = world g.D.Desk.files g.K.Sink.written c.args.desk.now c.args.out.now in
-    let mid = world g.D.Desk.files g.K.Sink.written c.loop-placed.desk c.loop-placed.out in
-    let new = world g.D.Desk.files g.K.Sink.written c.advance.new.desk c.advance.new.out in
     let p = err_from_is_err_and c.from_residual.result c.from_residual.ensures.1 in
-    rw (p.1, p.2) (turn_part (target_of c.args.names) all c.args.steps.now c.loop-placed.placed-index d c.loop-placed-test.true first now old mid new _ c.loop-placed.invariant.so_far c.in_err-advance.ensures.advances)
-
-pub returns-in_err-say-in-Some-clause-follows : goal.returns-in_err-say-in-Some-clause-follows
-returns-in_err-say-in-Some-clause-follows g c =
-    let d : Placed = record { line = 0; what = ShiftAll (record { x = pos 0; y = pos 0; z = pos 0 }) } in
-    let all = told_from c.args.steps.now (state_of c.args.course.now) in
-    let first = state_of c.args.course.now in
-    let now = state_of c.loop-placed.course in
-    let old = world g.D.Desk.files g.K.Sink.written c.args.desk.now c.args.out.now in
-    let mid = world g.D.Desk.files g.K.Sink.written c.loop-placed.desk c.loop-placed.out in
-    let new = world g.D.Desk.files g.K.Sink.written c.advance.new.desk c.advance.new.out in
-    let p = err_from_is_err_and c.from_residual-in_err-say-in-Some.result c.from_residual-in_err-say-in-Some.ensures.1 in
-    rw p.1 (last_part (target_of c.args.names) all (Refused (StepUse (get_or c.args.steps.now c.loop-placed.placed-index d).line c.in-Some.why)) _ first now old (g.D.Desk.files c.advance.new.desk) _ _ _
-    (is_refused (target_of c.args.names) all c.args.steps.now c.loop-placed.placed-index d c.loop-placed-test.true first now old mid new (state_of c.advance.new.course) c.in_ok-advance.field-0 c.loop-placed.invariant.so_far c.in_ok-advance.ensures.advances c.in-Some.why c.in-Some.is)
-    c.in_err-say-in-Some.ensures.part)
+    rw (p.1, p.2) (turn_part (target_of c.args.names) _ c.args.steps.now c.loop-placed.placed-index c.placed-item.result c.loop-placed-test.true c.placed-item.is _ _ _ _ _ c.loop-placed.invariant.so_far _ c.in_err-advance.ensures.advances)
 
 pub returns-in-Some-clause-follows : goal.returns-in-Some-clause-follows
 returns-in-Some-clause-follows g c =
-    let d : Placed = record { line = 0; what = ShiftAll (record { x = pos 0; y = pos 0; z = pos 0 }) } in
-    let all = told_from c.args.steps.now (state_of c.args.course.now) in
-    let first = state_of c.args.course.now in
-    let now = state_of c.loop-placed.course in
+    let first = state_of (g.S.Surface.mesh c.args.mesh.now) c.args.course.now in
+    let all = told_from c.args.steps.now first in
     let old = world g.D.Desk.files g.K.Sink.written c.args.desk.now c.args.out.now in
-    let mid = world g.D.Desk.files g.K.Sink.written c.loop-placed.desk c.loop-placed.out in
     let new = world g.D.Desk.files g.K.Sink.written c.advance.new.desk c.advance.new.out in
-    last_said (target_of c.args.names) all (Refused (StepUse (get_or c.args.steps.now c.loop-placed.placed-index d).line c.in-Some.why)) _ first now old (g.D.Desk.files c.advance.new.desk) _ _ (λ r. refl)
-    (is_refused (target_of c.args.names) all c.args.steps.now c.loop-placed.placed-index d c.loop-placed-test.true first now old mid new (state_of c.advance.new.course) c.in_ok-advance.field-0 c.loop-placed.invariant.so_far c.in_ok-advance.ensures.advances c.in-Some.why c.in-Some.is)
-    c.in_ok-say-in-Some.ensures.said
+    finished (target_of c.args.names) all (Refused (StepUse c.placed-item.result.line c.in-Some.why)) _ first (state_of (g.S.Surface.mesh c.loop-placed.mesh) c.loop-placed.course) old (g.D.Desk.files c.advance.new.desk) _ _ c.finish.result (λ r. refl)
+    (is_refused (target_of c.args.names) all c.args.steps.now c.loop-placed.placed-index c.placed-item.result c.loop-placed-test.true c.placed-item.is first _ old _ new c.loop-placed.invariant.so_far (state_of (g.S.Surface.mesh c.advance.new.mesh) c.advance.new.course) c.in_ok-advance.field-0 c.in-Some.why c.in-Some.is c.in_ok-advance.ensures.advances)
+    c.finish.ensures.said c.finish.ensures.part c.finish.ensures.ending
 
 pub loop-placed-preserved : goal.loop-placed-preserved
-loop-placed-preserved g c =
-    let d : Placed = record { line = 0; what = ShiftAll (record { x = pos 0; y = pos 0; z = pos 0 }) } in
-    let all = told_from c.args.steps.now (state_of c.args.course.now) in
-    let first = state_of c.args.course.now in
-    let now = state_of c.loop-placed.course in
-    let old = world g.D.Desk.files g.K.Sink.written c.args.desk.now c.args.out.now in
-    let mid = world g.D.Desk.files g.K.Sink.written c.loop-placed.desk c.loop-placed.out in
-    let new = world g.D.Desk.files g.K.Sink.written c.advance.new.desk c.advance.new.out in
-    record {
-      so_far = goes_on (target_of c.args.names) all c.args.steps.now c.loop-placed.placed-index d c.loop-placed-test.true first now old mid new (state_of c.advance.new.course) c.in_ok-advance.field-0 c.loop-placed.invariant.so_far c.in_ok-advance.ensures.advances c.in-None.is;
-      points = c.in_ok-advance.ensures.count ∙ c.loop-placed.invariant.points;
-      faces = c.in_ok-advance.ensures.faces_count ∙ c.loop-placed.invariant.faces;
-      steps = omega (arith, c.in_ok-advance.ensures.steps_count);
-      saved = omega (arith, c.in_ok-advance.ensures.saved_count);
-      desk = omega (arith, c.in_ok-advance.ensures.causes.desk);
-      out = omega (arith, c.in_ok-advance.ensures.causes.out);
-    }
-
-pub returns-in_err-say-clause-follows : goal.returns-in_err-say-clause-follows
-returns-in_err-say-clause-follows g c =
-    let d : Placed = record { line = 0; what = ShiftAll (record { x = pos 0; y = pos 0; z = pos 0 }) } in
-    let all = told_from c.args.steps.now (state_of c.args.course.now) in
-    let first = state_of c.args.course.now in
-    let now = state_of c.loop-placed.course in
-    let old = world g.D.Desk.files g.K.Sink.written c.args.desk.now c.args.out.now in
-    let mid = world g.D.Desk.files g.K.Sink.written c.loop-placed.desk c.loop-placed.out in
-    let p = err_from_is_err_and c.from_residual-in_err-say.result c.from_residual-in_err-say.ensures.1 in
-    rw p.1 (last_part (target_of c.args.names) all End outcome.Done first now old (g.D.Desk.files c.loop-placed.desk) _ _ _
-    (at_end (target_of c.args.names) all c.args.steps.now c.loop-placed.placed-index first now old mid c.loop-placed-test.false c.loop-placed.invariant.so_far)
-    c.in_err-say.ensures.part)
+loop-placed-preserved g c = record {
+  so_far = goes_on (target_of c.args.names) _ c.args.steps.now c.loop-placed.placed-index c.placed-item.result c.loop-placed-test.true c.placed-item.is _ _ _ _ _ c.loop-placed.invariant.so_far _ c.in_ok-advance.field-0 c.in-None.is c.in_ok-advance.ensures.advances;
+  asked = c.in_ok-advance.ensures.asked (ap Ok c.in-None.is);
+  steps = omega (arith, c.in_ok-advance.ensures.steps_count);
+  saved = omega (arith, c.in_ok-advance.ensures.saved_count);
+  desk = omega (arith, c.in_ok-advance.ensures.causes.desk);
+  out = omega (arith, c.in_ok-advance.ensures.causes.out);
+}
 
 pub returns-clause-follows : goal.returns-clause-follows
 returns-clause-follows g c =
-    let d : Placed = record { line = 0; what = ShiftAll (record { x = pos 0; y = pos 0; z = pos 0 }) } in
-    let all = told_from c.args.steps.now (state_of c.args.course.now) in
-    let first = state_of c.args.course.now in
-    let now = state_of c.loop-placed.course in
+    let first = state_of (g.S.Surface.mesh c.args.mesh.now) c.args.course.now in
+    let all = told_from c.args.steps.now first in
+    let now = state_of (g.S.Surface.mesh c.loop-placed.mesh) c.loop-placed.course in
     let old = world g.D.Desk.files g.K.Sink.written c.args.desk.now c.args.out.now in
     let mid = world g.D.Desk.files g.K.Sink.written c.loop-placed.desk c.loop-placed.out in
-    last_said (target_of c.args.names) all End outcome.Done first now old (g.D.Desk.files c.loop-placed.desk) _ _ (λ r. refl)
+    finished (target_of c.args.names) all End None first now old (g.D.Desk.files c.loop-placed.desk) _ _ c.finish-2.result (λ r. refl)
     (at_end (target_of c.args.names) all c.args.steps.now c.loop-placed.placed-index first now old mid c.loop-placed-test.false c.loop-placed.invariant.so_far)
-    c.in_ok-say.ensures.said
+    c.finish-2.ensures.said c.finish-2.ensures.part c.finish-2.ensures.ending

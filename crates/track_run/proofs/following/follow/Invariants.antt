@@ -1,6 +1,8 @@
-use Rattle.std.proofs.Common.{◌≡◌, ◌≤◌, ◌+◌, drop, length}
+use Rattle.std.proofs.Common.{◌≤◌, ◌+◌, drop}
+use Rattle.mesh_base.specs.Shifts.{NameLive}
+use Rattle.track_run.specs.State.{state_of}
 use Rattle.track_run.specs.Turns.{told_from}
-use Rattle.track_run.specs.STEPS.{state_of, standing}
+use Rattle.track_run.specs.Names.{target_of}
 use Rattle.track_run.specs.World.{world}
 use Rattle.track_run.proofs.SoFars.{SoFar}
 use Rattle.track_run.proofs.following.follow.Given as goal
@@ -9,11 +11,11 @@ abbrev pub invariant-loop-placed : goal.invariant-loop-placed
 invariant-loop-placed g l =
     let desk = g.D.Desk in
     let sink = g.K.Sink in
+    let mesh = g.S.Surface.mesh in
     record {
-      so_far : SoFar (target_of l.names) (told_from l.steps (state_of l.fn.course)) (told_from (drop l.placed-index l.steps) (state_of l.course)) (state_of l.fn.course) (state_of l.course)
+      so_far : SoFar (target_of l.names) (told_from l.steps (state_of (mesh l.fn.mesh) l.fn.course)) (told_from (drop l.placed-index l.steps) (state_of (mesh l.mesh) l.course)) (state_of (mesh l.fn.mesh) l.fn.course) (state_of (mesh l.mesh) l.course)
           (world desk.files sink.written l.fn.desk l.fn.out) (world desk.files sink.written l.desk l.out);
-      points : length l.course.mesh.points.items ≡ length l.fn.course.mesh.points.items;
-      faces : length l.course.mesh.faces.items ≡ length l.fn.course.mesh.faces.items;
+      asked : NameLive (mesh l.mesh) l.course.asked;
       steps : l.course.steps ≤ l.placed-index;
       saved : l.course.saved ≤ l.placed-index + 1;
       desk : desk.faults l.fn.desk ≤ desk.faults l.desk;

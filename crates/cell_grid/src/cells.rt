@@ -1,0 +1,29 @@
+// The cells that an extent touches.
+ghost use Rattle.std.specs.Prelude.{◌≡◌, ◌<◌, ◌≤◌, IfSome, unsigned_abs};
+ghost use Rattle.cell_grid.specs.Usable.{IsUsable};
+
+use crate::{CELLS_MAX, Extent};
+use grid_base::EXTENT_MAX;
+
+/// A cell, by its place along each axis.
+#[derive(Clone, Copy, PartialEq, Eq, Hash)]
+pub(crate) struct Cell {
+    pub x: u32,
+    pub y: u32,
+    pub z: u32,
+}
+
+/// A few cells: so many along each axis, from the first one on.
+#[derive(Clone, Copy)]
+pub(crate) struct Span {
+    pub first: Cell,
+    pub wide: u32,
+    pub deep: u32,
+    pub tall: u32,
+    pub count: u32,
+    ghost usable: { IsUsable first.x first.y first.z wide deep tall count },
+}
+
+mod places;
+
+pub(crate) use places::{nth_cell, span_of, touches};

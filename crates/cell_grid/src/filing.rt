@@ -1,0 +1,182 @@
+// Where items stand: in the lists of the cells, or in the list of the large ones.
+ghost use Rattle.std.specs.Prelude.{◌≡◌, ◌≢◌, ℕ, ◌<◌, ◌++◌, [], ◌∷◌, not, ◌==◌, ◌||◌, IsTrue, OnOk, OnErr, IfOk};
+ghost use Rattle.std.specs.List.{filter};
+ghost use Rattle.cell_grid.specs.declared.cells.Cell.{Cell as CellAt};
+ghost use Rattle.cell_grid.specs.Cells.{nth_cell, Touches};
+ghost use Rattle.cell_grid.specs.Filed.{has, held, is_seen};
+
+use crate::Extent;
+use crate::cells::{Cell, Span, nth_cell, span_of, touches};
+use grid_base::NoMemory;
+use std::alloc::Global;
+use std::collections::HashMap;
+
+// Puts the item into the list, if it is not there.
+fn put(list: &mut Vec<u64>, item: u64) -> Result<(), NoMemory>
+    ensures ok { OnOk result (IsTrue (has item list.new.items)) }
+    ensures keeps { (i : ℕ) → IsTrue (has i list.old.items) → IsTrue (has i list.new.items) }
+{
+    if !list.contains(&item) {
+        list.push(item)?;
+    }
+    Ok(())
+}
+
+// Takes the item out of the list.
+fn take_out(list: &mut Vec<u64>, item: u64)
+    ensures { list.new.items ≡ filter (λ i. not (i == item)) list.old.items }
+{
+    list.retain(|i| *i != item);
+}
+
+// Puts the item into a cell's list.
+fn put_at(
+    alloc: Global,
+    cells: &mut HashMap<Cell, Vec<u64>>,
+    at: Cell,
+    item: u64,
+) -> Result<(), NoMemory>
+    ensures ok { OnOk result (IsTrue (has item (held cells.new at))) }
+    ensures keeps { (c : CellAt) (i : ℕ) → IsTrue (has i (held cells.old c)) → IsTrue (has i (held cells.new c)) }
+{
+    if let Some(list) = cells.get_mut(&at) {
+        put(list, item)?;
+        return Ok(());
+    }
+    let mut list = Vec::new(alloc);
+    list.push(item)?;
+    cells.insert(at, list)?;
+    Ok(())
+}
+
+// Takes the item out of a cell's list.
+fn take_out_at(cells: &mut HashMap<Cell, Vec<u64>>, at: Cell, item: u64)
+    ensures keeps { (c : CellAt) (i : ℕ) → i ≢ item → IsTrue (has i (held cells.old c)) → IsTrue (has i (held cells.new c)) }
+    ensures elsewhere { (c : CellAt) (i : ℕ) → c ≢ at → IsTrue (has i (held cells.old c)) → IsTrue (has i (held cells.new c)) }
+{
+    take_out_within(cells, at, item);
+    drop_empty(cells, at);
+}
+
+// Takes the item out of a cell's list, and leaves the list.
+fn take_out_within(cells: &mut HashMap<Cell, Vec<u64>>, at: Cell, item: u64)
+    ensures keeps { (c : CellAt) (i : ℕ) → i ≢ item → IsTrue (has i (held cells.old c)) → IsTrue (has i (held cells.new c)) }
+    ensures elsewhere { (c : CellAt) (i : ℕ) → c ≢ at → IsTrue (has i (held cells.old c)) → IsTrue (has i (held cells.new c)) }
+{
+    if let Some(list) = cells.get_mut(&at) {
+        take_out(list, item);
+    }
+}
+
+// Whether the cell has an empty list.
+fn is_empty_at(cells: &HashMap<Cell, Vec<u64>>, at: Cell) -> bool
+    ensures { IsTrue result → held cells.now at ≡ [] }
+{
+    match cells.get(&at) {
+        Some(list) => list.is_empty(),
+        None => false,
+    }
+}
+
+// Takes the cell's list out of the map, if it is empty.
+fn drop_empty(cells: &mut HashMap<Cell, Vec<u64>>, at: Cell)
+    ensures { (c : CellAt) → held cells.new c ≡ held cells.old c }
+{
+    if is_empty_at(cells, at) {
+        let _ = cells.remove(&at);
+    }
+}
+
+// Puts the item into the list of each cell of the span.
+fn put_along(
+    alloc: Global,
+    cells: &mut HashMap<Cell, Vec<u64>>,
+    s: &Span,
+    item: u64,
+) -> Result<(), NoMemory>
+    ensures ok { OnOk result ((n : ℕ) → n < s.now.count → IsTrue (has item (held cells.new (nth_cell s.now n)))) }
+    ensures keeps { (c : CellAt) (i : ℕ) → IsTrue (has i (held cells.old c)) → IsTrue (has i (held cells.new c)) }
+{
+    for n in 0..s.count {
+        put_at(alloc, cells, nth_cell(s, n), item)?;
+    }
+    Ok(())
+}
+
+/// Files the item under each cell that its extent touches, or among the large ones.
+/// What was filed stays, also where memory runs out.
+pub(crate) fn file(
+    alloc: Global,
+    cell: u32,
+    large: &mut Vec<u64>,
+    cells: &mut HashMap<Cell, Vec<u64>>,
+    item: u64,
+    at: &Extent,
+) -> Result<(), NoMemory>
+    requires { 0 < cell }
+    ensures ok { OnOk result ((c : CellAt) → Touches cell at.now c → IsTrue (is_seen large.new.items cells.new c item)) }
+    ensures keeps { (c : CellAt) (i : ℕ) → IsTrue (is_seen large.old.items cells.old c i) → IsTrue (is_seen large.new.items cells.new c i) }
+{
+    match span_of(at, cell) {
+        Some(span) => put_along(alloc, cells, &span, item),
+        None => put(large, item),
+    }
+}
+
+// Takes the item out of the list of each cell of the span, but for those that the other extent touches.
+fn take_out_along(cell: u32, cells: &mut HashMap<Cell, Vec<u64>>, s: &Span, item: u64, but: &Extent)
+    requires { 0 < cell }
+    ensures others { (c : CellAt) (i : ℕ) → i ≢ item → IsTrue (has i (held cells.old c)) → IsTrue (has i (held cells.new c)) }
+    ensures spared { (c : CellAt) (i : ℕ) → Touches cell but.now c → IsTrue (has i (held cells.old c)) → IsTrue (has i (held cells.new c)) }
+{
+    for n in 0..s.count {
+        let c = nth_cell(s, n);
+        if !touches(but, cell, c) {
+            take_out_at(cells, c, item);
+        }
+    }
+}
+
+// Takes the item out of the list of each cell of the span.
+fn take_out_all(cells: &mut HashMap<Cell, Vec<u64>>, s: &Span, item: u64)
+    ensures { (c : CellAt) (i : ℕ) → i ≢ item → IsTrue (has i (held cells.old c)) → IsTrue (has i (held cells.new c)) }
+{
+    for n in 0..s.count {
+        take_out_at(cells, nth_cell(s, n), item);
+    }
+}
+
+/// Takes the item out of the lists of the cells that an extent touches, but for those that the other extent touches.
+/// Among the large ones it stays.
+pub(crate) fn unfile_but(
+    cell: u32,
+    cells: &mut HashMap<Cell, Vec<u64>>,
+    item: u64,
+    was: &Extent,
+    but: &Extent,
+)
+    requires { 0 < cell }
+    ensures others { (c : CellAt) (i : ℕ) → i ≢ item → IsTrue (has i (held cells.old c)) → IsTrue (has i (held cells.new c)) }
+    ensures spared { (c : CellAt) (i : ℕ) → Touches cell but.now c → IsTrue (has i (held cells.old c)) → IsTrue (has i (held cells.new c)) }
+{
+    if let Some(span) = span_of(was, cell) {
+        take_out_along(cell, cells, &span, item, but);
+    }
+}
+
+/// Takes the item out of the lists where an extent had it filed, and out of the large ones.
+pub(crate) fn unfile(
+    cell: u32,
+    large: &mut Vec<u64>,
+    cells: &mut HashMap<Cell, Vec<u64>>,
+    item: u64,
+    was: &Extent,
+)
+    requires { 0 < cell }
+    ensures { (c : CellAt) (i : ℕ) → i ≢ item → IsTrue (is_seen large.old.items cells.old c i) → IsTrue (is_seen large.new.items cells.new c i) }
+{
+    take_out(large, item);
+    if let Some(span) = span_of(was, cell) {
+        take_out_all(cells, &span, item);
+    }
+}

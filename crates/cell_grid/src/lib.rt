@@ -1,0 +1,19 @@
+//! A map from items to extents that finds the items near an extent by the cells that they touch.
+#![tactic(auto)]
+
+mod cells;
+mod extent;
+mod filing;
+mod grid;
+pub mod laws;
+mod looking;
+mod setting;
+
+pub use extent::Extent;
+pub use grid::Grid;
+
+// An extent that touches more cells than this is looked at by every question.
+pub(crate) const CELLS_MAX: u32 = 64;
+
+#[cfg(test)]
+mod tests;

@@ -1,0 +1,40 @@
+-- What two texts give that are read without a fault.
+use Rattle.std.proofs.Common.{◌≡◌, ℕ, ◌<◌, ◌^◌, List, [], ◌∷◌, map, length, None, Ok, refl, ap, sym, ◌∙◌}
+use Rattle.std.proofs.lemmas.List.{length-map}
+use Rattle.grid_base.specs.declared.Point.{Point}
+use Rattle.grid_base.specs.Points.{position_of, point_at}
+use Rattle.grid_base.proofs.PointLaws.{point_at-position_of}
+use Rattle.mesh_base.specs.declared.MeshLists.{MeshLists}
+use Rattle.mesh_base.specs.Given.{mesh_of}
+use Rattle.mesh_plain.specs.Shape.{shape_fault}
+use Rattle.obj_text.specs.Obj.{lists_of}
+use Rattle.obj_text.specs.Views.{lists_view}
+use Rattle.step_text.specs.declared.Placed.{Placed}
+use Rattle.step_text.specs.Steps.{steps_of}
+use Rattle.track_run.specs.declared.reading.Ready.TheVariants as ready
+use Rattle.track_run.specs.Job.{told_of_lists, told_of_shape, told_of_steps, mesh_of_lists, mesh_read}
+use Rattle.track_run.specs.Parts.{Reads, given, AreGood}
+
+same_points : (points : List Point) → map point_at (map position_of points) ≡ points
+same_points [] = refl
+same_points (p ∷ points) = ap (λ q. q ∷ map point_at (map position_of points)) (point_at-position_of p) ∙ ap (λ l. p ∷ l) (same_points points)
+
+-- the mesh of the lists, seen as triples, is theirs
+pub same_mesh : (lists : MeshLists) → mesh_of_lists (lists_view lists) ≡ given lists
+same_mesh lists = ap (λ points. mesh_of points lists.faces) (same_points lists.points)
+
+-- as many points, seen as triples
+pub same_shape : (lists : MeshLists) → shape_fault (length (lists_view lists).points) (lists_view lists).faces ≡ shape_fault (length lists.points) lists.faces
+same_shape lists = ap (λ n. shape_fault n lists.faces) (length-map position_of lists.points)
+
+pub reads_yes : (decimals : ℕ) (mesh steps : List ℕ) (lists : MeshLists) (directives : List Placed) → lists_of decimals mesh ≡ Ok (lists_view lists) → AreGood lists → steps_of steps ≡ Ok directives → length directives < 2 ^ 31
+    → Reads decimals mesh steps (ready.Yes lists directives)
+reads_yes decimals mesh steps lists directives read good told few = (
+  ap (λ r. told_of_lists r steps) read
+  ∙ ap (λ o. told_of_shape (lists_view lists) o steps) (same_shape lists ∙ good)
+  ∙ ap (told_of_steps (mesh_of_lists (lists_view lists))) told
+  ∙ ap (λ m. told_of_steps m (Ok directives)) (same_mesh lists),
+  sym (same_mesh lists) ∙ sym (ap mesh_read read),
+  good,
+  few
+)
