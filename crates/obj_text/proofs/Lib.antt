@@ -4,3 +4,4 @@ pub mod Ranks
 pub mod Lookups
 pub mod RankBounds
 pub mod Again
+pub mod Renumbered

@@ -1,7 +1,15 @@
-ghost use Rattle.obj_text.specs.Laws.{WrittenIsRead};
+ghost use Rattle.obj_text.specs.Laws.{WrittenIsRead, ListsGiveRenumbered, StaysClosed, StaysClear};
 
 /// A mesh that is written is read again: on a grid of as many decimals the text gives its live points and its live faces,
 /// in order, each corner by its rank.
 pub fn written_is_read()
     ensures { WrittenIsRead }
+{}
+
+/// What a written mesh gives when it is read again is the mesh with its vertices and faces numbered anew, which is closed
+/// where the mesh is, and clear where it is.
+pub fn written_stays_good()
+    ensures renumbered { ListsGiveRenumbered }
+    ensures closed { StaysClosed }
+    ensures clear { StaysClear }
 {}

@@ -8,6 +8,6 @@ mod reading;
 mod tests;
 mod writing;
 
-pub use law::written_is_read;
+pub use law::{written_is_read, written_stays_good};
 pub use reading::read_obj;
 pub use writing::obj_of;
