@@ -26,12 +26,22 @@ fn print_help(rt: &impl Print) -> io::Result<()> {
     println!(rt; "{USAGE}")?;
     println!(rt; "       topo --help | --version")?;
     println!(rt;)?;
-    println!(rt; "Reads the Wavefront OBJ mesh MESH and the steps STEPS, moves the closed triangle surface by")?;
-    println!(rt; "them, writes the log to standard output and stores the meshes PREFIX-000000.obj and so on.")?;
-    println!(rt; "--decimals N    a unit of the grid is 10 to the power -N (N from 0 to 6; 0 if left out)")?;
+    println!(rt;
+        "Reads the Wavefront OBJ mesh MESH and the steps STEPS, moves the closed triangle surface by"
+    )?;
+    println!(rt;
+        "them, writes the log to standard output and stores the meshes PREFIX-000000.obj and so on."
+    )?;
+    println!(rt;
+        "--decimals N    a unit of the grid is 10 to the power -N (N from 0 to 6; 0 if left out)"
+    )?;
     println!(rt;)?;
-    println!(rt; "Exit status: 0 done, 1 no memory, 2 wrong words, 3 files failed, 4 standard output failed,")?;
-    println!(rt; "5 a file is too long, 6 the mesh's text, 7 the mesh's shape, 8 the mesh meets itself,")?;
+    println!(rt;
+        "Exit status: 0 done, 1 no memory, 2 wrong words, 3 files failed, 4 standard output failed,"
+    )?;
+    println!(rt;
+        "5 a file is too long, 6 the mesh's text, 7 the mesh's shape, 8 the mesh meets itself,"
+    )?;
     println!(rt; "9 the steps' text, 10 a step that is refused, 11 a file is missing.")
 }
 

@@ -119,6 +119,7 @@ no_move s e =
     not_false : (b : Bool) → not b ≡ false → b ≡ true
     not_false true e = refl
     not_false false e = absurd cc
+
     zero_of : (x : ℤ) → unsigned_abs x ≤ 0 → x ≡ pos 0
     zero_of x h = omega (arith, ints)
 

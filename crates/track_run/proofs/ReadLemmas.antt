@@ -31,10 +31,10 @@ pub reads_yes : (decimals : ℕ) (mesh steps : List ℕ) (lists : MeshLists) (di
     → Reads decimals mesh steps (ready.Yes lists directives)
 reads_yes decimals mesh steps lists directives read good told few = (
   ap (λ r. told_of_lists r steps) read
-  ∙ ap (λ o. told_of_shape (lists_view lists) o steps) (same_shape lists ∙ good)
-  ∙ ap (told_of_steps (mesh_of_lists (lists_view lists))) told
-  ∙ ap (λ m. told_of_steps m (Ok directives)) (same_mesh lists),
+      ∙ ap (λ o. told_of_shape (lists_view lists) o steps) (same_shape lists ∙ good)
+      ∙ ap (told_of_steps (mesh_of_lists (lists_view lists))) told
+      ∙ ap (λ m. told_of_steps m (Ok directives)) (same_mesh lists),
   sym (same_mesh lists) ∙ sym (ap mesh_read read),
   good,
-  few
+  few,
 )

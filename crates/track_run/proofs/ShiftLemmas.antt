@@ -33,7 +33,7 @@ mapped_more f xs i x before after y all h at pushed is whole =
 pub as_triple : (o : Option Shift) (t : Triple) → (IsSome o ↔ FitWithin SHIFT_MAX t.x t.y t.z) → (IsSome o ↔ IsWithin SHIFT_MAX t)
 as_triple o t h = (
   λ some. let fits = h.0 some in record { x_fits = fits.x_fits; y_fits = fits.y_fits; z_fits = fits.z_fits },
-  λ within. h.1 (record { x_fits = within.x_fits; y_fits = within.y_fits; z_fits = within.z_fits })
+  λ within. h.1 (record { x_fits = within.x_fits; y_fits = within.y_fits; z_fits = within.z_fits }),
 )
 
 pub moves_as : (o : Option Shift) (t : Triple) → IfSome o (λ s. (s.x ≡ t.x) × (s.y ≡ t.y) × (s.z ≡ t.z)) → IfSome o (λ s. displacement_of s ≡ t)

@@ -45,11 +45,12 @@ placeable m (s ∷ rest) live once inside =
     let here = All-head (λ x. IsLiveVertex m x.v) s rest live in
     let others = All-tail (λ x. IsLiveVertex m x.v) s rest live in
     let ends = both_true (is_within BOX (end_of m s)) (end_in_box m rest) inside in
-    let apart = IsDistinct-tail eqb s.v (map (λ x. x.v) rest) once in
-    (λ t. (here, within_of BOX (end_of m s) ends.0),
-     by_test (placeable m rest others apart ends.1)
-     (placeable (with_move m s) rest (still_live m s rest here others) apart (same_ends m s rest (IsDistinct-head eqb s.v (map (λ x. x.v) rest) once) ∙ ends.1))
-     (moves s))
+    let apart = IsDistinct-tail eqb s.v (map (λ x. x.v) rest) once in (
+      λ t. (here, within_of BOX (end_of m s) ends.0),
+      by_test (placeable m rest others apart ends.1)
+          (placeable (with_move m s) rest (still_live m s rest here others) apart (same_ends m s rest (IsDistinct-head eqb s.v (map (λ x. x.v) rest) once) ∙ ends.1))
+          (moves s),
+    )
   where
     by_test : CanPlace m rest → CanPlace (with_move m s) rest → (b : Bool) → CanPlace (cond b (with_move m s) m) rest
     by_test kept moved true = moved

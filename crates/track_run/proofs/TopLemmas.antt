@@ -224,19 +224,27 @@ stop_stops stop.DeskFault = tt
 stop_stops stop.SinkFault = tt
 
 pub run_ends : (named : Named) (old new : World) (result : Outcome) (ended : Result (Option Refusal) Stop) → result ≡ outcome_from ended → TracksJob named old new ended → Runs (Some named) result old new
-run_ends named old new result (Ok ending) e t = (t.job, t.is_job, record {
-  ended = Ok ending;
-  outcome = e;
-  log = t.follows;
-  kept = keeps_log t.job;
-  cause = whole_cause t.job result ending e t.follows.1;
-  no_other = whole_alone t.job result ending e t.follows.1;
-})
-run_ends named old new result (Err stop) e t = (t.job, t.is_job, record {
-  ended = Err stop;
-  outcome = e;
-  log = t.follows;
-  kept = keeps_log t.job;
-  cause = (let P : Outcome → Type 0 = λ o. Cause t.job o in subst P (sym e) (stop_cause t.job stop));
-  no_other = λ other h. inr (inr (let P : Outcome → Type 0 = λ o. IsStopped o in subst P (sym e) (stop_stops stop)));
-})
+run_ends named old new result (Ok ending) e t = (
+  t.job,
+  t.is_job,
+  record {
+    ended = Ok ending;
+    outcome = e;
+    log = t.follows;
+    kept = keeps_log t.job;
+    cause = whole_cause t.job result ending e t.follows.1;
+    no_other = whole_alone t.job result ending e t.follows.1;
+  },
+)
+run_ends named old new result (Err stop) e t = (
+  t.job,
+  t.is_job,
+  record {
+    ended = Err stop;
+    outcome = e;
+    log = t.follows;
+    kept = keeps_log t.job;
+    cause = (let P : Outcome → Type 0 = λ o. Cause t.job o in subst P (sym e) (stop_cause t.job stop));
+    no_other = λ other h. inr (inr (let P : Outcome → Type 0 = λ o. IsStopped o in subst P (sym e) (stop_stops stop)));
+  },
+)

@@ -33,5 +33,5 @@ abbrev pub named_in : List (List ℕ) → Option Named
 named_in words =
     if is_track words
     then (if length words == 4 then Some (named_with words 0)
-      else (if length words == 6 && (bytes_eq (word_at words 4) (codes "--decimals") && is_decimals (word_at words 5)) then Some (named_with words (slice_index (word_at words 5) 0 - 48) ) else None))
+    else (if length words == 6 && (bytes_eq (word_at words 4) (codes "--decimals") && is_decimals (word_at words 5)) then Some (named_with words (slice_index (word_at words 5) 0 - 48)) else None))
     else None

@@ -17,11 +17,7 @@ pub(crate) enum Fetched {
 }
 
 /// Fetches a file of at most the greatest length of a text.
-pub(crate) fn fetch_file<D: Desk>(
-    alloc: Global,
-    desk: &mut D,
-    name: &str,
-) -> Result<Fetched, Stop>
+pub(crate) fn fetch_file<D: Desk>(alloc: Global, desk: &mut D, name: &str) -> Result<Fetched, Stop>
     ensures source { IfOk result (λ found. IsSource (D.files desk.old) name.now (source_of found)) }
     ensures kept { D.files desk.new ≡ D.files desk.old }
     ensures later { D.faults desk.old ≤ D.faults desk.new }

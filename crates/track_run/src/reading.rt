@@ -48,11 +48,7 @@ fn read_all(alloc: Global, decimals: u8, mesh: &[u8], steps: &[u8]) -> Result<Re
 }
 
 /// Fetches and reads both files.
-pub(crate) fn prepare<D: Desk>(
-    alloc: Global,
-    names: Names<'_>,
-    desk: &mut D,
-) -> Result<Ready, Stop>
+pub(crate) fn prepare<D: Desk>(alloc: Global, names: Names<'_>, desk: &mut D) -> Result<Ready, Stop>
     requires few { names.decimals ≤ 6 }
     ensures prepares { IfOk result (Prepares (D.files desk.old) (named_by names.entry)) }
     ensures kept { D.files desk.new ≡ D.files desk.old }
