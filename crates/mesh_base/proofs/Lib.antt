@@ -9,3 +9,4 @@ pub mod Moves
 pub mod ListedPairs
 pub mod MovesNamed
 pub mod KeysKept
+pub mod EdgesInOrder

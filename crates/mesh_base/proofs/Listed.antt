@@ -103,7 +103,7 @@ some_running Q test (e ∷ es) h some = by_test (some_running Q test es h.1) (te
     by_test rest true t some = (e, t, h.0)
     by_test rest false t some = rest some
 
-running_face : (m : Mesh) (u v : ℕ) → 0 < runs m u v → (e : ℕ × Corners) × (follows e.1 u v ≡ true) × HasCorners m e.0 e.1
+pub running_face : (m : Mesh) (u v : ℕ) → 0 < runs m u v → (e : ℕ × Corners) × (follows e.1 u v ≡ true) × HasCorners m e.0 e.1
 running_face m u v some =
     let found = some_running (λ e. find nat_cmp e.0 (finite.entries m.faces) ≡ Some e.1) (λ c. follows c u v) (finite.entries m.faces) (each_found (finite.entries m.faces) (entries_sorted m.faces)) some in
     (found.0, found.1, get-entries m.faces (found.0).0 ∙ found.2)

@@ -8,3 +8,4 @@ pub mod Shifts
 pub mod Failing
 pub mod Given
 pub mod Limits
+pub mod SideSet

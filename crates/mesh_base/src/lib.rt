@@ -2,6 +2,7 @@
 //! it, and the calls that every mesh has, however it is kept. The types that texts, steps and edits share stand here too.
 #![tactic(auto)]
 
+mod edges;
 mod faults;
 mod ids;
 pub mod laws;
@@ -12,9 +13,10 @@ mod steps;
 mod surface;
 mod walk;
 
+pub use edges::edges_in_order;
 pub use faults::{AddFault, ShapeFault, ShapeRefusal};
 pub use ids::{Corners, FaceId, PairName, VertexId};
-pub use lists::{FaceIds, Ids, MeshLists, Points, Shifts, Triangles};
+pub use lists::{Edges, FaceIds, Ids, MeshLists, Points, Shifts, Triangles};
 pub use marks::Mark;
 pub use refusals::{FileWord, UseWhy};
 pub use steps::{How, ShiftOf};

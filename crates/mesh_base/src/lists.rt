@@ -10,6 +10,8 @@ pub type Triangles = Items<[u32; 3]>;
 pub type Ids = Items<VertexId>;
 /// Ids of faces, in order.
 pub type FaceIds = Items<FaceId>;
+/// Edges by their ends, the smaller id first, in order.
+pub type Edges = Items<(VertexId, VertexId)>;
 /// Shifts of the live vertices of a mesh, by rising id.
 pub type Shifts = Items<ShiftOf>;
 

@@ -10,9 +10,9 @@ mod tables;
 
 pub use good_shape::shape;
 pub use mesh_base::{
-    AddFault, Corners, FaceId, FaceIds, FileWord, How, Ids, Mark, MeshLists, PairName, Points,
-    ShapeFault, ShapeRefusal, ShiftOf, Shifts, Surface, Triangles, UseWhy, VertexId, live_faces,
-    live_vertices,
+    AddFault, Corners, Edges, FaceId, FaceIds, FileWord, How, Ids, Mark, MeshLists, PairName,
+    Points, ShapeFault, ShapeRefusal, ShiftOf, Shifts, Surface, Triangles, UseWhy, VertexId,
+    edges_in_order, live_faces, live_vertices,
 };
 pub use plain::PlainMesh;
 

@@ -19,8 +19,8 @@ use std::ops::Bound;
 pub(crate) struct Tables {
     points: BTreeMap<u32, Point>,
     faces: BTreeMap<u32, Corners>,
-    next_vertex: u32,
-    next_face: u32,
+    pub(crate) next_vertex: u32,
+    pub(crate) next_face: u32,
 }
 
 impl Model for Tables {

@@ -5,7 +5,7 @@ ghost use Rattle.mesh_base.specs.Kept.{BeginsWith};
 
 use crate::{
     AddFault, FaceId, MeshLists, PlainMesh, Points, ShapeFault, ShapeRefusal, Surface, Triangles,
-    VertexId, live_faces, live_vertices, shape,
+    VertexId, edges_in_order, live_faces, live_vertices, shape,
 };
 use grid_base::{NoMemory, Point};
 use std::alloc::Global;
@@ -227,6 +227,12 @@ fn faces_at_a_vertex_rise(rt: HostRuntime) -> Result<(), Fail> {
     assert_eq!(rt; mesh.runs(VertexId(1), VertexId(3)), 1);
     assert_eq!(rt; mesh.run_face(VertexId(3), VertexId(1), 0), Some(FaceId(4)));
     assert_eq!(rt; mesh.run_face(VertexId(3), VertexId(1), 1), None);
+    let edges = edges_in_order(rt.alloc(), &mesh)?;
+    let pairs = [(1, 2), (1, 3), (1, 4), (2, 3), (2, 4), (3, 4)];
+    assert_eq!(rt; edges.len(), pairs.len());
+    for (i, (a, b)) in pairs.iter().enumerate() {
+        assert_eq!(rt; edges.get(i), Some(&(VertexId(*a), VertexId(*b))));
+    }
     Ok(())
 }
 

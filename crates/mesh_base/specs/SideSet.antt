@@ -1,0 +1,26 @@
+-- The sides of faces as a set of pairs of ids, the smaller first.
+use Rattle.std.specs.Prelude.{ℕ, ◌||◌, Bool, false}
+use Rattle.std.specs.BTreeSet as sorted
+use Rattle.std.specs.BTreeSet.{BTreeSet}
+use Rattle.std.specs.Ordering.{nat_cmp, ordering_then}
+use Rattle.std.specs.declared.cmp.Ordering.{Ordering}
+use Rattle.std.proofs.Common.{Option, Some, None}
+use Rattle.mesh_base.specs.declared.ids.Corners.{Corners}
+use Rattle.mesh_base.specs.Sides.{follows}
+
+-- pairs in order of the first and then of the second
+abbrev pub pair_cmp : ℕ × ℕ → ℕ × ℕ → Ordering
+pair_cmp x y = ordering_then (nat_cmp x.0 y.0) (nat_cmp x.1 y.1)
+
+-- whether the set has the pair
+abbrev pub has_side : BTreeSet (ℕ × ℕ) → ℕ → ℕ → Bool
+has_side sides u v = sorted.contains pair_cmp sides (u, v)
+
+-- whether the one follows the other in the corners
+abbrev pub are_neighbours : Corners → ℕ → ℕ → Bool
+are_neighbours c u v = follows c u v || follows c v u
+
+-- the same of a face that may not live
+abbrev pub neighbours_in : Option Corners → ℕ → ℕ → Bool
+neighbours_in (Some c) u v = are_neighbours c u v
+neighbours_in None u v = false
