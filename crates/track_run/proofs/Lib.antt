@@ -10,3 +10,4 @@ pub mod SoFars
 pub mod Sources
 pub mod Keeping
 pub mod TopLemmas
+mod CauseLemmas

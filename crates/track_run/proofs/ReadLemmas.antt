@@ -25,7 +25,7 @@ same_mesh lists = ap (λ points. mesh_of points lists.faces) (same_points lists.
 
 -- as many points, seen as triples
 pub same_shape : (lists : MeshLists) → shape_fault (length (lists_view lists).points) (lists_view lists).faces ≡ shape_fault (length lists.points) lists.faces
-same_shape lists = ap (λ n. shape_fault n lists.faces) (length-map position_of lists.points)
+same_shape lists = ap (λ n. shape_fault n lists.faces) (length-map lists.points position_of)
 
 pub reads_yes : (decimals : ℕ) (mesh steps : List ℕ) (lists : MeshLists) (directives : List Placed) → lists_of decimals mesh ≡ Ok (lists_view lists) → AreGood lists → steps_of steps ≡ Ok directives → length directives < 2 ^ 31
     → Reads decimals mesh steps (ready.Yes lists directives)

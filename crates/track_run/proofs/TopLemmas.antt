@@ -1,5 +1,6 @@
 -- The whole of a run from its parts.
-use Rattle.std.proofs.Common.{◌≡◌, ℕ, ◌<◌, ◌^◌, List, [], ◌∷◌, ◌++◌, refl, ap, sym, ◌∙◌, subst, length, IfOk, Result, Ok, Err}
+use Rattle.std.proofs.Common.{◌≡◌, ℕ, ◌<◌, ◌^◌, List, [], ◌∷◌, ◌++◌, refl, ap, sym, ◌∙◌, subst, length, IfOk, OnErr, Result, Ok, Err, inl, inr}
+use Rattle.std.specs.Prelude.{◌⊎◌}
 use Rattle.std.specs.declared.option.Option.{Option}
 use Rattle.std.specs.declared.option.Option.TheVariants.{None, Some}
 use Rattle.mesh_base.specs.declared.FileWord.TheVariants as file
@@ -22,17 +23,21 @@ use Rattle.track_run.specs.declared.reading.Ready.{Ready}
 use Rattle.track_run.specs.declared.reading.Ready.TheVariants as ready
 use Rattle.track_run.specs.declared.outcome.Outcome.{Outcome}
 use Rattle.track_run.specs.declared.outcome.Stop.{Stop}
+use Rattle.track_run.specs.declared.outcome.Stop.TheVariants as stop
 use Rattle.track_run.specs.Fetched.{source_of}
 use Rattle.track_run.specs.State.{start, at_mesh, no_shifts}
 use Rattle.track_run.specs.Turns.{Told, told_from, refused, mesh_line}
 use Rattle.track_run.specs.Words.{Named}
 use Rattle.track_run.specs.Job.{Job, Source, Bytes, Absent, TooLong, IsSource, IsJob, log_of, told_of, told_of_files, told_of_lists, mesh_in, mesh_read, replay_of}
 use Rattle.track_run.specs.Saved.{Target}
-use Rattle.track_run.specs.World.{World, Logs, StopsIn, Follows, Runs, target, outcome_from}
+use Rattle.track_run.specs.Said.{Said}
+use Rattle.track_run.specs.World.{World, Logs, StopsIn, Follows, Runs, target, outcome_from, outcome_of, outcome_at}
+use Rattle.track_run.specs.Causes.{Cause, IsStopped}
 use Rattle.track_run.specs.Parts.{Prepares, Reads, TracksJob, told_of_ready, IsMeshOf, given, AreGood}
 use Rattle.track_run.proofs.Sources.{some_source}
 use Rattle.track_run.proofs.Worlds.{logs_then, stops_then, stops_more, stops_nothing, stops_line}
 use Rattle.track_run.proofs.Keeping.{keeps_log}
+use Rattle.track_run.proofs.CauseLemmas.{log_cause, cause_ends}
 
 -- ---- what is read
 
@@ -163,16 +168,24 @@ tracks_then named files w0 w1 r0 p new r e f =
 prepared_at : (files : Option Files) (named : Named) (a b : Ready) → a ≡ b → Prepares files named a → Prepares files named b
 prepared_at files named a b e p = let P : Ready → Type 0 = λ x. Prepares files named x in subst P e p
 
--- a refusal, whole or in part
-pub tracks_refused : (named : Named) (files : Option Files) (w0 w1 w2 : Option (List ℕ)) (found : Ready) (why : Refusal) → found ≡ ready.No why → Prepares files named found → w1 ≡ appended w0 (text_of_lines (First 1 ∷ [])) → w2 ≡ appended w1 (text_of_lines (Refused why ∷ []))
-    → TracksJob named (record { files = files; written = w0 }) (record { files = files; written = w2 }) (Ok (Some why))
-tracks_refused named files w0 w1 w2 found why is p e said =
-    tracks_then named files w0 w1 (ready.No why) (prepared_at files named found (ready.No why) is p) _ (Ok (Some why)) e (record { written = said; files = refl }, refl)
-
-pub tracks_refused_part : (named : Named) (files : Option Files) (w0 w1 w2 : Option (List ℕ)) (found : Ready) (why : Refusal) (stop : Stop) → found ≡ ready.No why → Prepares files named found → w1 ≡ appended w0 (text_of_lines (First 1 ∷ [])) → AppendsPart w1 w2 (text_of_line (Refused why))
+-- a refusal in part
+tracks_refused_part : (named : Named) (files : Option Files) (w0 w1 w2 : Option (List ℕ)) (found : Ready) (why : Refusal) (stop : Stop) → found ≡ ready.No why → Prepares files named found → w1 ≡ appended w0 (text_of_lines (First 1 ∷ [])) → AppendsPart w1 w2 (text_of_line (Refused why))
     → TracksJob named (record { files = files; written = w0 }) (record { files = files; written = w2 }) (Err stop)
 tracks_refused_part named files w0 w1 w2 found why stop is p e part =
     tracks_then named files w0 w1 (ready.No why) (prepared_at files named found (ready.No why) is p) _ (Err stop) e (stops_line stop (target named) _ (Refused why) [] files w1 w2 part)
+
+-- the refusal that was read is written, as far as it goes
+pub tracks_no : (named : Named) (files : Option Files) (w0 w1 w2 : Option (List ℕ)) (found : Ready) (why : Refusal) (r : Result (Option Refusal) Stop) → found ≡ ready.No why → Prepares files named found → w1 ≡ appended w0 (text_of_lines (First 1 ∷ []))
+    → Said w1 w2 (Refused why ∷ []) r → OnErr r (AppendsPart w1 w2 (text_of_line (Refused why))) → IfOk r (λ e. e ≡ Some why) → TracksJob named (record { files = files; written = w0 }) (record { files = files; written = w2 }) r
+tracks_no named files w0 w1 w2 found why (Ok e) is p first said part ending =
+    tracks_then named files w0 w1 (ready.No why) (prepared_at files named found (ready.No why) is p) _ (Ok e) first (record { written = said; files = refl }, ending)
+tracks_no named files w0 w1 w2 found why (Err stop) is p first said part ending = tracks_refused_part named files w0 w1 w2 found why stop is p first part
+
+-- a mesh and directives, and nothing is done with them
+pub tracks_third : (named : Named) (files : Option Files) (w0 w1 : Option (List ℕ)) (found : Ready) (lists : MeshLists) (steps : List Placed) (stop : Stop) → found ≡ ready.Yes lists steps → Prepares files named found → w1 ≡ appended w0 (text_of_lines (First 1 ∷ []))
+    → TracksJob named (record { files = files; written = w0 }) (record { files = files; written = w1 }) (Err stop)
+tracks_third named files w0 w1 found lists steps stop is p first =
+    tracks_then named files w0 w1 (ready.Yes lists steps) (prepared_at files named found (ready.Yes lists steps) is p) _ (Err stop) first (stops_nothing stop (target named) _ _ _)
 
 -- a mesh and directives
 pub tracks_ready : (named : Named) (files : Option Files) (w0 w1 : Option (List ℕ)) (found : Ready) (lists : MeshLists) (steps : List Placed) (m : Mesh) (new : World) (r : Result (Option Refusal) Stop) → found ≡ ready.Yes lists steps → Prepares files named found → w1 ≡ appended w0 (text_of_lines (First 1 ∷ []))
@@ -189,5 +202,41 @@ ready_is_good files named found lists steps is p = let q = prepared_at files nam
 
 -- ---- the headline
 
+-- where the whole log is written, the job's cause is the outcome's
+whole_cause : (job : Job) (result : Outcome) (ending : Option Refusal) → result ≡ outcome_of ending → ending ≡ (log_of job).ending → Cause job result
+whole_cause job result ending e same = let P : Outcome → Type 0 = λ o. Cause job o in subst P (sym (e ∙ ap outcome_of same)) (log_cause job)
+
+whole_alone : (job : Job) (result : Outcome) (ending : Option Refusal) → result ≡ outcome_of ending → ending ≡ (log_of job).ending → (other : Outcome) → Cause job other → (result ≡ other) ⊎ IsStopped other ⊎ IsStopped result
+whole_alone job result ending e same other h = by_end (cause_ends job other h)
+  where
+    by_end : (outcome_of (log_of job).ending ≡ other) ⊎ IsStopped other → (result ≡ other) ⊎ IsStopped other ⊎ IsStopped result
+    by_end (inl is) = inl (e ∙ ap outcome_of same ∙ is)
+    by_end (inr stopped) = inr (inl stopped)
+
+stop_cause : (job : Job) (stop : Stop) → Cause job (outcome_at stop)
+stop_cause job stop.NoMemory = tt
+stop_cause job stop.DeskFault = tt
+stop_cause job stop.SinkFault = tt
+
+stop_stops : (stop : Stop) → IsStopped (outcome_at stop)
+stop_stops stop.NoMemory = tt
+stop_stops stop.DeskFault = tt
+stop_stops stop.SinkFault = tt
+
 pub run_ends : (named : Named) (old new : World) (result : Outcome) (ended : Result (Option Refusal) Stop) → result ≡ outcome_from ended → TracksJob named old new ended → Runs (Some named) result old new
-run_ends named old new result ended e t = (t.job, t.is_job, record { ended = ended; outcome = e; log = t.follows; kept = keeps_log t.job })
+run_ends named old new result (Ok ending) e t = (t.job, t.is_job, record {
+  ended = Ok ending;
+  outcome = e;
+  log = t.follows;
+  kept = keeps_log t.job;
+  cause = whole_cause t.job result ending e t.follows.1;
+  no_other = whole_alone t.job result ending e t.follows.1;
+})
+run_ends named old new result (Err stop) e t = (t.job, t.is_job, record {
+  ended = Err stop;
+  outcome = e;
+  log = t.follows;
+  kept = keeps_log t.job;
+  cause = (let P : Outcome → Type 0 = λ o. Cause t.job o in subst P (sym e) (stop_cause t.job stop));
+  no_other = λ other h. inr (inr (let P : Outcome → Type 0 = λ o. IsStopped o in subst P (sym e) (stop_stops stop)));
+})

@@ -16,7 +16,7 @@ use Rattle.track_run.specs.World.{World, StopsIn}
 use Rattle.track_run.specs.Parts.{TurnsTo, StepTakes, Advances}
 use Rattle.track_run.proofs.StepLemmas.{names_after_step}
 
-ids_of_sums : (by : Shift) (asked : Shifts) → map (λ s. s.v) (all_summed by asked) ≡ map (λ s. s.v) asked
+pub ids_of_sums : (by : Shift) (asked : Shifts) → map (λ s. s.v) (all_summed by asked) ≡ map (λ s. s.v) asked
 ids_of_sums by [] = refl
 ids_of_sums by (s ∷ rest) = ap (λ l. s.v ∷ l) (ids_of_sums by rest)
 

@@ -12,3 +12,4 @@ pub mod Fetched
 pub mod Shifting
 pub mod Placing
 pub mod Parts
+pub mod Causes

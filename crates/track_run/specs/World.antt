@@ -19,6 +19,7 @@ use Rattle.track_run.specs.Saved.{Target, files_of, file_name, stored}
 use Rattle.track_run.specs.Kept.{Keeps}
 use Rattle.track_run.specs.Turns.{Told}
 use Rattle.track_run.specs.Words.{Named}
+use Rattle.track_run.specs.Causes.{Cause, IsStopped}
 use Rattle.track_run.specs.Job.{Job, IsJob, log_of, replay_of}
 
 -- what a desk holds and what a sink was given, where they tell
@@ -100,12 +101,15 @@ target named = record { prefix = named.prefix; decimals = named.decimals }
 
 -- THE HEADLINE, of a job. What the run did is the job's log, or the first of it. Where no edge of the job's mesh meets a face that shares
 -- no vertex with it, every mesh that the log saves is closed and so again, with the live numbers that its line tells, and every motion
--- that the log tells keeps it so at every fraction.
+-- that the log tells keeps it so at every fraction. The outcome has its cause in the job, and the job has a cause for no other outcome but
+-- those that stop a run.
 pub record Tracks (job : Job) (named : Named) (result : Outcome) (old new : World) : Type 0 where
   pub ended : Result (Option Refusal) Stop
   pub outcome : result ≡ outcome_from ended
   pub log : Follows (target named) (replay_of job) (log_of job) old new ended
   pub kept : IsClearMesh (replay_of job).mesh → Keeps (replay_of job) (log_of job).lines
+  pub cause : Cause job result
+  pub no_other : (other : Outcome) → Cause job other → (result ≡ other) ⊎ IsStopped other ⊎ IsStopped result
 
 -- A run for these words: no job, or the one that the desk held at entry.
 abbrev pub Runs : Option Named → Outcome → World → World → Type 0

@@ -20,7 +20,7 @@ returns-in-Step-clause-advances g c =
 pub returns-in_err-save-in-Save-clause-advances : goal.returns-in_err-save-in-Save-clause-advances
 returns-in_err-save-in-Save-clause-advances g c =
     let p = err_from_is_err_and c.from_residual.result c.from_residual.ensures.1 in
-    rw (p.1, p.2) (save_part _ (target_of c.args.names) c.args.what (state_of (g.S.Surface.mesh c.args.mesh.now) c.args.course.now) _ _ _ c.in-Save.is c.in_err-save-in-Save.ensures.saves)
+    rw (p.1, p.2) (save_part _ (target_of c.args.names) c.args.what (state_of (g.S.Surface.mesh c.args.mesh.now) c.args.course.now) (state_of (g.S.Surface.mesh c.args.mesh.now) c.args.course.now) _ _ c.in-Save.is c.in_err-save-in-Save.ensures.saves)
 
 pub returns-in-ShiftAll-clause-asked : goal.returns-in-ShiftAll-clause-asked
 returns-in-ShiftAll-clause-asked g c = names_after_shift (g.S.Surface.mesh c.args.mesh.now) c.in-ShiftAll.by c.args.course.now c.add_shift.new.course c.add_shift.result c.requires.asked c.add_shift.ensures.turns

@@ -8,7 +8,7 @@ use Rattle.track_run.proofs.turns.take_step.Goals as goal
 pub first_outside-requires : goal.first_outside-requires
 first_outside-requires g c =
     let P : Shifts → Type 0 = λ asked. AreLive (g.S.Surface.mesh c.args.mesh.now) asked in
-    subst P (sym c.as_slice.ensures) (asked_are_live _ c.args.course.now.asked c.requires.asked)
+    subst P (sym c.as_slice.ensures) (asked_are_live (g.S.Surface.mesh c.args.mesh.now) c.args.course.now.asked c.requires.asked)
 
 pub place_all-requires : goal.place_all-requires
 place_all-requires g c =

@@ -1,0 +1,79 @@
+-- Why a run ends as it does.
+use Rattle.std.specs.Prelude.{◌≡◌, ℕ, List, [], ◌∷◌, ◌++◌, length, Option, Some, None, Ok, Err}
+use Rattle.mesh_base.specs.declared.UseWhy.{UseWhy}
+use Rattle.mesh_base.specs.declared.FileWord.TheVariants as file
+use Rattle.mesh_plain.specs.Shape.{shape_fault}
+use Rattle.obj_text.specs.Obj.{Lists, lists_of}
+use Rattle.step_text.specs.declared.Placed.{Placed}
+use Rattle.step_text.specs.Steps.{steps_of}
+use Rattle.log_text.specs.declared.LogLine.{LogLine}
+use Rattle.track_run.specs.declared.outcome.Outcome.{Outcome}
+use Rattle.track_run.specs.declared.outcome.Outcome.TheVariants as outcome
+use Rattle.track_run.specs.State.{State, start}
+use Rattle.track_run.specs.Turns.{Goes, Stops, turn}
+use Rattle.track_run.specs.Job.{Job, Source, Bytes, Absent, TooLong, mesh_of_lists}
+
+-- the file is there, and no longer than a text may be
+abbrev pub IsThere : Source → Type 0
+IsThere source = (bytes : List ℕ) × (source ≡ Bytes bytes)
+
+-- both files are there, and these lists are what the mesh file's text gives
+pub record HasLists (job : Job) (lists : Lists) (steps : List ℕ) : Type 0 where
+  pub mesh : List ℕ
+  pub mesh_file : job.mesh_file ≡ Bytes mesh
+  pub step_file : job.step_file ≡ Bytes steps
+  pub read : lists_of job.decimals mesh ≡ Ok lists
+
+-- the lists are of good shape too
+pub record HasMesh (job : Job) (lists : Lists) (steps : List ℕ) : Type 0 where
+  pub lists_read : HasLists job lists steps
+  pub good : shape_fault (length lists.points) lists.faces ≡ None
+
+-- and both texts are read without a fault
+pub record HasSteps (job : Job) (lists : Lists) (directives : List Placed) : Type 0 where
+  pub steps : List ℕ
+  pub mesh_read : HasMesh job lists steps
+  pub read : steps_of steps ≡ Ok directives
+
+-- all of these directives are taken, from one state to the other
+abbrev pub Reaches : State → List Placed → State → Type 0
+Reaches s [] t = s ≡ t
+Reaches s (placed ∷ more) t = (lines : List LogLine) × (next : State) × (turn placed.what s ≡ Goes lines next) × Reaches next more t
+
+-- the directives before one are all taken, and that one, at this line of the step file, is refused
+pub record IsRefusedAt (s : State) (directives : List Placed) (line : ℕ) (why : UseWhy) : Type 0 where
+  pub front : List Placed
+  pub placed : Placed
+  pub rest : List Placed
+  pub split : directives ≡ front ++ placed ∷ rest
+  pub state : State
+  pub reached : Reaches s front state
+  pub refused : turn placed.what state ≡ Stops why
+  pub line_is : line ≡ placed.line
+
+-- Why a job has an outcome. Each cause holds what must have gone well before it, so no job has two.
+abbrev pub Cause : Job → Outcome → Type 0
+Cause job outcome.Done = (lists : Lists) × (directives : List Placed) × HasSteps job lists directives × (end : State) × Reaches (start (mesh_of_lists lists)) directives end
+Cause job (outcome.TooLong file.Mesh seen) = job.mesh_file ≡ TooLong seen
+Cause job (outcome.TooLong file.Steps seen) = IsThere job.mesh_file × (job.step_file ≡ TooLong seen)
+Cause job (outcome.Missing file.Mesh) = job.mesh_file ≡ Absent
+Cause job (outcome.Missing file.Steps) = IsThere job.mesh_file × (job.step_file ≡ Absent)
+Cause job (outcome.MeshText fault) = (bytes : List ℕ) × (job.mesh_file ≡ Bytes bytes) × IsThere job.step_file × (lists_of job.decimals bytes ≡ Err fault)
+Cause job (outcome.MeshShape fault) = (lists : Lists) × (steps : List ℕ) × HasLists job lists steps × (shape_fault (length lists.points) lists.faces ≡ Some fault)
+Cause job (outcome.StepText fault) = (lists : Lists) × (steps : List ℕ) × HasMesh job lists steps × (steps_of steps ≡ Err fault)
+Cause job (outcome.StepUse line why) = (lists : Lists) × (directives : List Placed) × HasSteps job lists directives × IsRefusedAt (start (mesh_of_lists lists)) directives line why
+-- that a mesh meets itself is not tested yet
+Cause job (outcome.MeshMeets pair) = ⊥
+-- no job is of words that name none
+Cause job outcome.Usage = ⊥
+-- these stop a run, whatever its job
+Cause job outcome.NoMemory = Unit {0}
+Cause job outcome.DeskFault = Unit {0}
+Cause job outcome.SinkFault = Unit {0}
+
+-- the run was stopped before the end of its log
+abbrev pub IsStopped : Outcome → Type 0
+IsStopped outcome.NoMemory = Unit {0}
+IsStopped outcome.DeskFault = Unit {0}
+IsStopped outcome.SinkFault = Unit {0}
+IsStopped _ = ⊥
