@@ -5,44 +5,6 @@ use Rattle.std.specs.Option.{option_map, option_or}
 use Rattle.std.proofs.Math.Seq.{drop-cons}
 use Rattle.std.proofs.lemmas.List.Folds.{find-append}
 
--- ---- filters of lists made of lists
-filter-append : {X : Type 0} (p : X → Bool) (xs ys : List X) → filter p (xs ++ ys) ≡ filter p xs ++ filter p ys
-filter-append p [] ys = refl
-filter-append p (x ∷ xs) ys = elim (p x) as (λ b. cond b (x ∷ filter p (xs ++ ys)) (filter p (xs ++ ys)) ≡ cond b (x ∷ filter p xs) (filter p xs) ++ filter p ys) [
-  | true ↦ ap (λ zs. x ∷ zs) (filter-append p xs ys)
-  | false ↦ filter-append p xs ys
-]
-
-pub filter-flat_map : {X Y : Type 0} (p : Y → Bool) (f : X → List Y) (xs : List X) → filter p (flat_map f xs) ≡ flat_map (λ x. filter p (f x)) xs
-filter-flat_map p f [] = refl
-filter-flat_map p f (x ∷ xs) = filter-append p (f x) (flat_map f xs) ∙ ap (λ ys. filter p (f x) ++ ys) (filter-flat_map p f xs)
-
-pub filter-map : {X Y : Type 0} (p : Y → Bool) (f : X → Y) (xs : List X) → filter p (map f xs) ≡ map f (filter (λ x. p (f x)) xs)
-filter-map p f [] = refl
-filter-map p f (x ∷ xs) = elim (p (f x)) as (λ b. cond b (f x ∷ filter p (map f xs)) (filter p (map f xs)) ≡ map f (cond b (x ∷ filter (λ z. p (f z)) xs) (filter (λ z. p (f z)) xs))) [
-  | true ↦ ap (λ zs. f x ∷ zs) (filter-map p f xs)
-  | false ↦ filter-map p f xs
-]
-
-pub filter-filter : {X : Type 0} (p q : X → Bool) (xs : List X) → filter p (filter q xs) ≡ filter (λ x. q x && p x) xs
-filter-filter p q [] = refl
-filter-filter p q (x ∷ xs) = elim (q x) as (λ b. filter p (cond b (x ∷ filter q xs) (filter q xs)) ≡ cond (b && p x) (x ∷ filter (λ z. q z && p z) xs) (filter (λ z. q z && p z) xs)) [
-  | true ↦ ap (λ zs. cond (p x) (x ∷ zs) zs) (filter-filter p q xs)
-  | false ↦ filter-filter p q xs
-]
-
-flat_map-append : {X Y : Type 0} (f : X → List Y) (xs ys : List X) → flat_map f (xs ++ ys) ≡ flat_map f xs ++ flat_map f ys
-flat_map-append f [] ys = refl
-flat_map-append f (x ∷ xs) ys = ap (λ zs. f x ++ zs) (flat_map-append f xs ys) ∙ sym (append_assoc (f x) (flat_map f xs) (flat_map f ys))
-
-pub flat_map-flat_map : {X Y Z : Type 0} (g : Y → List Z) (f : X → List Y) (xs : List X) → flat_map g (flat_map f xs) ≡ flat_map (λ x. flat_map g (f x)) xs
-flat_map-flat_map g f [] = refl
-flat_map-flat_map g f (x ∷ xs) = flat_map-append g (f x) (flat_map f xs) ∙ ap (λ zs. flat_map g (f x) ++ zs) (flat_map-flat_map g f xs)
-
-pub flat_map-alike : {X Y : Type 0} (f g : X → List Y) → ((x : X) → f x ≡ g x) → (xs : List X) → flat_map f xs ≡ flat_map g xs
-flat_map-alike f g same [] = refl
-flat_map-alike f g same (x ∷ xs) = ap (λ ys. ys ++ flat_map f xs) (same x) ∙ ap (λ ys. g x ++ ys) (flat_map-alike f g same xs)
-
 -- ---- the first that passes
 pub find-map : {X Y : Type 0} (p : Y → Bool) (f : X → Y) (xs : List X) → find p (map f xs) ≡ option_map f (find (λ x. p (f x)) xs)
 find-map p f [] = refl
@@ -80,17 +42,6 @@ ended [] (suc i) h = refl
 ended (x ∷ xs) zero h = absurd (omega arith)
 ended (x ∷ xs) (suc i) h = ended xs i (omega arith)
 
-module _ {X : Type 0} (p : X → Bool) (xs : List X) (i : ℕ) (d : X) (inside : i < length xs) where
-  -- one that does not pass is passed over
-  pub find_behind : p (get_or xs i d) ≡ false → find p (drop i xs) ≡ find p (drop (i + 1) xs)
-  find_behind fails = ap (find p) (rest_at xs i d inside) ∙ ap (λ b. cond b (Some (get_or xs i d)) (find p (drop (i + 1) xs))) fails
-
-  pub find_here : p (get_or xs i d) ≡ true → find p (drop i xs) ≡ Some (get_or xs i d)
-  find_here passes = ap (find p) (rest_at xs i d inside) ∙ ap (λ b. cond b (Some (get_or xs i d)) (find p (drop (i + 1) xs))) passes
-
-pub find_ended : {X : Type 0} (p : X → Bool) (xs : List X) (i : ℕ) → length xs ≤ i → find p (drop i xs) ≡ None
-find_ended p xs i h = ap (find p) (ended xs i h)
-
 -- the name of the first that passes, in a list made of lists
 module _ {X Y Z : Type 0} (name : Y → Z) (p : Y → Bool) (f : X → List Y) where
   abbrev pub first_in : List Y → Option Z
@@ -111,21 +62,6 @@ module _ {X Y Z : Type 0} (name : Y → Z) (p : Y → Bool) (f : X → List Y) w
   pub first_ended : (xs : List X) (i : ℕ) → length xs ≤ i → first_in (flat_map f (drop i xs)) ≡ None
   first_ended xs i h = ap (λ zs. first_in (flat_map f zs)) (ended xs i h)
 
--- what is made so far, and what the rest makes
-pub made_more : {X Y : Type 0} (f : X → List Y) (xs : List X) (i : ℕ) (d : X) (made : List Y) → i < length xs → (made ++ f (get_or xs i d)) ++ flat_map f (drop (i + 1) xs) ≡ made ++ flat_map f (drop i xs)
-made_more f xs i d made h = append_assoc made (f (get_or xs i d)) (flat_map f (drop (i + 1) xs)) ∙ ap (λ zs. made ++ flat_map f zs) (sym (rest_at xs i d h))
-
+-- what is made at the end
 pub made_all : {X Y : Type 0} (f : X → List Y) (xs : List X) (i : ℕ) (made : List Y) → length xs ≤ i → made ++ flat_map f (drop i xs) ≡ made
 made_all f xs i made h = ap (λ zs. made ++ flat_map f zs) (ended xs i h) ∙ append-nil made
-
--- ---- whether some element passes
-pub any-filter : {X : Type 0} (p q : X → Bool) (xs : List X) → list_any p (filter q xs) ≡ list_any (λ x. q x && p x) xs
-any-filter p q [] = refl
-any-filter p q (x ∷ xs) = elim (q x) as (λ b. list_any p (cond b (x ∷ filter q xs) (filter q xs)) ≡ ((b && p x) || list_any (λ z. q z && p z) xs)) [
-  | true ↦ ap (λ b. p x || b) (any-filter p q xs)
-  | false ↦ any-filter p q xs
-]
-
-pub any-alike : {X : Type 0} (p q : X → Bool) → ((x : X) → p x ≡ q x) → (xs : List X) → list_any p xs ≡ list_any q xs
-any-alike p q same [] = refl
-any-alike p q same (x ∷ xs) = ap (λ b. b || list_any p xs) (same x) ∙ ap (λ b. q x || b) (any-alike p q same xs)

@@ -1,5 +1,5 @@
 -- The first pair that meets, edge by edge.
-use Rattle.std.proofs.Common.{◌≡◌, ◌↔◌, ℕ, Bool, false, ◌&&◌, ◌||◌, not, nat_lt, List, map, Option, Some, None, refl, sym, ap, ◌∙◌, IsTrue}
+use Rattle.std.proofs.Common.{◌≡◌, ◌↔◌, ℕ, Bool, true, false, cond, ◌&&◌, ◌||◌, not, List, Option, Some, None, refl, sym, ap, ◌∙◌, IsTrue}
 use Rattle.std.specs.List.{filter, flat_map, find}
 use Rattle.std.specs.Option.{option_map}
 use Rattle.std.specs.FinMap as finite
@@ -16,11 +16,14 @@ use Rattle.mesh_base.specs.Changes.{corner_list, corners_of}
 use Rattle.mesh_base.specs.Sides.{has_corner}
 use Rattle.mesh_base.specs.Pairs.{Pair, is_edge, edges, pairs_of, pairs}
 use Rattle.mesh_base.specs.Placements.{own_points, position_or_origin, positions}
-use Rattle.cell_grid.proofs.Found.{both_ways}
 use Rattle.pair_scan.specs.Placed.{placed_at, placed, placed_faces}
-use Rattle.pair_scan.specs.Neighbours.{neighbours_above}
 use Rattle.pair_scan.specs.Scan.{meets_face, name_with, placed_edge, first_of}
-use Rattle.pair_scan.proofs.Lists.{filter-flat_map, filter-map, flat_map-flat_map, flat_map-alike, find-map, find-filter, find-alike, option_map-option_map}
+use Rattle.pair_scan.proofs.Lists.{find-map, find-filter, find-alike, option_map-option_map}
+
+both_ways : (a b : Bool) → (a ≡ true → b ≡ true) → (b ≡ true → a ≡ true) → a ≡ b
+both_ways true b f g = sym (f refl)
+both_ways false true f g = g refl
+both_ways false false f g = refl
 
 -- a test that is true exactly where they meet is the exact test
 pub is_exact : (b : Bool) (f : Positions) → (IsTrue b ↔ MeetAt f) → b ≡ meets_exactly f
@@ -65,20 +68,3 @@ first_of_edge m a b =
     ap (option_map (λ p. p.name)) (find-map meets pair (filter apart es) ∙ ap (option_map pair) (find-filter (λ f. meets (pair f)) apart es))
     ∙ option_map-option_map (λ p. p.name) pair (find (λ f. apart f && meets (pair f)) es)
     )
-
--- ---- the pairs, vertex by vertex
-edges_from : (m : Mesh) → edges m ≡ flat_map (λ u. map (λ v. (u, v)) (neighbours_above m u)) (finite.keys m.points)
-edges_from m =
-    let ids = finite.keys m.points in
-    let test : ℕ × ℕ → Bool = λ e. is_edge m e.0 e.1 in
-    filter-flat_map test (λ u. map (λ v. (u, v)) (filter (λ v. nat_lt u v) ids)) ids
-    ∙ flat_map-alike (λ u. filter test (map (λ v. (u, v)) (filter (λ v. nat_lt u v) ids))) (λ u. map (λ v. (u, v)) (neighbours_above m u))
-    (λ u. filter-map test (λ v. (u, v)) (filter (λ v. nat_lt u v) ids)) ids
-
-pub pairs_from : (m : Mesh) → pairs m ≡ flat_map (λ u. flat_map (λ v. pairs_of m (u, v)) (neighbours_above m u)) (finite.keys m.points)
-pairs_from m =
-    let ids = finite.keys m.points in
-    ap (flat_map (λ e. pairs_of m e)) (edges_from m)
-    ∙ flat_map-flat_map (λ e. pairs_of m e) (λ u. map (λ v. (u, v)) (neighbours_above m u)) ids
-    ∙ flat_map-alike (λ u. flat_map (λ e. pairs_of m e) (map (λ v. (u, v)) (neighbours_above m u))) (λ u. flat_map (λ v. pairs_of m (u, v)) (neighbours_above m u))
-    (λ u. flat_map-map (λ e. pairs_of m e) (λ v. (u, v)) (neighbours_above m u)) ids

@@ -1,6 +1,6 @@
 -- A test of an edge against faces.
 use Rattle.std.specs.Prelude.{ℕ, Bool, ◌||◌, ◌&&◌, not, List}
-use Rattle.std.specs.List.{find, flat_map}
+use Rattle.std.specs.List.{find}
 use Rattle.std.specs.Option.{option_map}
 use Rattle.std.proofs.Common.{Option}
 use Rattle.grid_base.specs.Points.{position_of}
@@ -15,7 +15,6 @@ use Rattle.mesh_base.specs.Placements.{own_points, positions}
 use Rattle.pair_scan.specs.declared.placed.PlacedFace.{PlacedFace}
 use Rattle.pair_scan.specs.declared.meeting.PlacedEdge.{PlacedEdge}
 use Rattle.pair_scan.specs.Placed.{placed_at}
-use Rattle.pair_scan.specs.Neighbours.{neighbours_above}
 
 -- whether the edge and the face are a pair and meet
 abbrev pub meets_face : PlacedEdge → PlacedFace → Bool
@@ -34,10 +33,6 @@ placed_edge m a b = record { a = a; b = b; from = placed_at m a; to = placed_at 
 -- the name of the first of these pairs that meets
 abbrev pub first_of : Mesh → List Pair → Option PairName
 first_of m ps = option_map (λ p. p.name) (find (λ p. meets_exactly (positions (own_points m) p)) ps)
-
--- the first pair that meets of the edges from a
-abbrev pub first_from : Mesh → ℕ → Option PairName
-first_from m a = first_of m (flat_map (λ b. pairs_of m (a, b)) (neighbours_above m a))
 
 -- the name is that of a pair of the mesh, and the pair meets
 abbrev pub IsMeeting : Mesh → PairName → Type 0

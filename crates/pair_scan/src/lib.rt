@@ -2,7 +2,9 @@
 #![tactic(auto)]
 
 mod meeting;
-mod neighbours;
 mod placed;
 
 pub use meeting::first_meeting;
+
+#[cfg(test)]
+mod tests;

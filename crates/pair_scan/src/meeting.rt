@@ -7,13 +7,12 @@ ghost use Rattle.mesh_base.specs.Pairs.{pairs_of};
 ghost use Rattle.mesh_base.specs.Placements.{own_points, IsClearMesh};
 ghost use Rattle.mesh_base.specs.Failing.{first_meeting};
 ghost use Rattle.pair_scan.specs.Placed.{placed_faces};
-ghost use Rattle.pair_scan.specs.Scan.{meets_face, name_with, placed_edge, first_of, first_from, IsMeeting};
+ghost use Rattle.pair_scan.specs.Scan.{meets_face, name_with, placed_edge, first_of, IsMeeting};
 
-use crate::neighbours::neighbours_above;
 use crate::placed::{PlacedFace, placed_faces, point_of, wide};
 use grid_base::{NoMemory, Point};
 use grid_meets::meets;
-use mesh_base::{PairName, Surface, VertexId, live_vertices};
+use mesh_base::{PairName, Surface, VertexId, edges_in_order};
 use std::alloc::Global;
 
 /// An edge, and the points of its ends.
@@ -75,25 +74,6 @@ fn first_of_edge<S: Surface>(
     first_met(&placed_edge(mesh, a, b), faces)
 }
 
-/// The first pair that meets of the edges from `a` to a vertex above it.
-fn first_from<S: Surface>(
-    alloc: Global,
-    mesh: &S,
-    faces: &[PlacedFace],
-    a: VertexId,
-) -> Result<Option<PairName>, NoMemory>
-    requires { faces.now ≡ placed_faces (S.mesh mesh.now) }
-    ensures { IfOk result (λ r. r ≡ first_from (S.mesh mesh.now) a) }
-{
-    let ends = neighbours_above(alloc, mesh, a)?;
-    for b in ends.as_slice() {
-        if let Some(found) = first_of_edge(mesh, faces, a, *b) {
-            return Ok(Some(found));
-        }
-    }
-    Ok(None)
-}
-
 /// The first pair of a mesh that meets, in order of the edge and then of the face, where its vertices stand; None exactly
 /// where the mesh is clear. Refuses only where there is no memory.
 pub fn first_meeting<S: Surface>(alloc: Global, mesh: &S) -> Result<Option<PairName>, NoMemory>
@@ -103,9 +83,9 @@ pub fn first_meeting<S: Surface>(alloc: Global, mesh: &S) -> Result<Option<PairN
     ensures meets { IfOk result (λ r. IfSome r (IsMeeting (S.mesh mesh.now))) }
 {
     let faces = placed_faces(alloc, mesh)?;
-    let ids = live_vertices(alloc, mesh)?;
-    for a in ids.as_slice() {
-        if let Some(found) = first_from(alloc, mesh, faces.as_slice(), *a)? {
+    let edges = edges_in_order(alloc, mesh)?;
+    for (a, b) in edges.as_slice() {
+        if let Some(found) = first_of_edge(mesh, faces.as_slice(), *a, *b) {
             return Ok(Some(found));
         }
     }

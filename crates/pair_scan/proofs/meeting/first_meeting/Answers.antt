@@ -1,14 +1,11 @@
 use Rattle.std.proofs.Common.{◌≡◌, ℕ, Bool, List, Some, None, get_or, ap, sym, ◌∙◌}
 use Rattle.std.specs.List.{flat_map}
-use Rattle.std.specs.FinMap as finite
 use Rattle.grid_decided.specs.Decided.{meets_exactly}
 use Rattle.mesh_base.specs.declared.ids.PairName.{PairName}
-use Rattle.mesh_base.specs.Pairs.{Pair, pairs_of}
+use Rattle.mesh_base.specs.Pairs.{Pair, edges, pairs_of}
 use Rattle.mesh_base.specs.Placements.{own_points, positions}
-use Rattle.pair_scan.specs.Neighbours.{neighbours_above}
-use Rattle.pair_scan.specs.Scan.{first_of, first_from}
+use Rattle.pair_scan.specs.Scan.{first_of}
 use Rattle.pair_scan.proofs.Lists.{first_behind, first_here, first_ended}
-use Rattle.pair_scan.proofs.Scans.{pairs_from}
 use Rattle.pair_scan.proofs.Clear.{clear_exactly, answer_meets}
 use Rattle.pair_scan.proofs.meeting.first_meeting.Goals as goal
 
@@ -16,22 +13,22 @@ pub loop-a-preserved : goal.loop-a-preserved
 loop-a-preserved g c =
     let m = g.S.Surface.mesh c.args.mesh.now in
     let items = c.as_slice-a-items.result.now in
-    let of : ℕ → List Pair = λ a. flat_map (λ b. pairs_of m (a, b)) (neighbours_above m a) in
+    let of : ℕ × ℕ → List Pair = λ e. pairs_of m e in
     let name : Pair → PairName = λ p. p.name in
     let met : Pair → Bool = λ p. meets_exactly (positions (own_points m) p) in
-    let none : first_from m (get_or items c.loop-a.a-index c.a-item.result) ≡ None = ap (first_from m) (sym c.a-item.is) ∙ sym c.in_ok-found.ensures ∙ c.in_default.is in
-    sym (first_behind name met of items c.loop-a.a-index c.a-item.result c.loop-a-test.true none) ∙ c.loop-a.invariant
+    let none : first_of m (of (get_or items c.loop-a.a-index c.loop-a-item.result)) ≡ None = ap (λ e. first_of m (of e)) (sym c.loop-a-item.is) ∙ sym c.first_of_edge.ensures ∙ c.in_default.is in
+    sym (first_behind name met of items c.loop-a.a-index c.loop-a-item.result c.loop-a-test.true none) ∙ c.loop-a.invariant
 
 pub returns-in-Some-clause-first : goal.returns-in-Some-clause-first
 returns-in-Some-clause-first g c =
     let m = g.S.Surface.mesh c.args.mesh.now in
     let items = c.as_slice-a-items.result.now in
-    let of : ℕ → List Pair = λ a. flat_map (λ b. pairs_of m (a, b)) (neighbours_above m a) in
+    let of : ℕ × ℕ → List Pair = λ e. pairs_of m e in
     let name : Pair → PairName = λ p. p.name in
     let met : Pair → Bool = λ p. meets_exactly (positions (own_points m) p) in
-    let all : items ≡ finite.keys m.points = c.as_slice-a-items.ensures ∙ c.in_ok-ids.ensures in
-    let some : first_from m (get_or items c.loop-a.a-index c.a-item.result) ≡ Some c.in-Some.found = ap (first_from m) (sym c.a-item.is) ∙ sym c.in_ok-found.ensures ∙ c.in-Some.is in
-    sym (first_here name met of items c.loop-a.a-index c.a-item.result c.in-Some.found c.loop-a-test.true some) ∙ c.loop-a.invariant ∙ ap (λ ids. first_of m (flat_map of ids)) all ∙ sym (ap (first_of m) (pairs_from m))
+    let all : items ≡ edges m = c.as_slice-a-items.ensures ∙ c.in_ok-edges.ensures in
+    let some : first_of m (of (get_or items c.loop-a.a-index c.loop-a-item.result)) ≡ Some c.in-Some.found = ap (λ e. first_of m (of e)) (sym c.loop-a-item.is) ∙ sym c.in-Some.ensures in
+    sym (first_here name met of items c.loop-a.a-index c.loop-a-item.result c.in-Some.found c.loop-a-test.true some) ∙ c.loop-a.invariant ∙ ap (λ es. first_of m (flat_map of es)) all
 
 pub returns-in-Some-clause-clear : goal.returns-in-Some-clause-clear
 returns-in-Some-clause-clear g c = clear_exactly (g.S.Surface.mesh c.args.mesh.now) (Some c.in-Some.found) (g.met.S.Surface.sound c.args.mesh.now) (returns-in-Some-clause-first g c)
@@ -43,11 +40,11 @@ pub returns-clause-first : goal.returns-clause-first
 returns-clause-first g c =
     let m = g.S.Surface.mesh c.args.mesh.now in
     let items = c.as_slice-a-items.result.now in
-    let of : ℕ → List Pair = λ a. flat_map (λ b. pairs_of m (a, b)) (neighbours_above m a) in
+    let of : ℕ × ℕ → List Pair = λ e. pairs_of m e in
     let name : Pair → PairName = λ p. p.name in
     let met : Pair → Bool = λ p. meets_exactly (positions (own_points m) p) in
-    let all : items ≡ finite.keys m.points = c.as_slice-a-items.ensures ∙ c.in_ok-ids.ensures in
-    sym (first_ended name met of items c.loop-a.a-index c.loop-a-test.false) ∙ c.loop-a.invariant ∙ ap (λ ids. first_of m (flat_map of ids)) all ∙ sym (ap (first_of m) (pairs_from m))
+    let all : items ≡ edges m = c.as_slice-a-items.ensures ∙ c.in_ok-edges.ensures in
+    sym (first_ended name met of items c.loop-a.a-index c.loop-a-test.false) ∙ c.loop-a.invariant ∙ ap (λ es. first_of m (flat_map of es)) all
 
 pub returns-clause-clear : goal.returns-clause-clear
 returns-clause-clear g c = clear_exactly (g.S.Surface.mesh c.args.mesh.now) None (g.met.S.Surface.sound c.args.mesh.now) (returns-clause-first g c)

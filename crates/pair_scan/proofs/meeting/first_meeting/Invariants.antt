@@ -1,13 +1,11 @@
 use Rattle.std.proofs.Common.{◌≡◌, drop}
 use Rattle.std.specs.List.{flat_map}
 use Rattle.mesh_base.specs.Pairs.{pairs_of}
-use Rattle.pair_scan.specs.Neighbours.{neighbours_above}
 use Rattle.pair_scan.specs.Scan.{first_of}
 use Rattle.pair_scan.proofs.meeting.first_meeting.Given as goal
 
--- the first pair that meets is among those that are left
+-- the first pair that meets is among those of the edges that are left
 abbrev pub invariant-loop-a : goal.invariant-loop-a
 invariant-loop-a g l =
     let m = g.S.Surface.mesh l.mesh in
-    first_of m (flat_map (λ a. flat_map (λ b. pairs_of m (a, b)) (neighbours_above m a)) (drop l.a-index l.a-items))
-    ≡ first_of m (flat_map (λ a. flat_map (λ b. pairs_of m (a, b)) (neighbours_above m a)) l.a-items)
+    first_of m (flat_map (λ e. pairs_of m e) (drop l.a-index l.a-items)) ≡ first_of m (flat_map (λ e. pairs_of m e) l.a-items)
