@@ -2,6 +2,7 @@
 use Rattle.std.proofs.Common.{◌≡◌, ℕ, List, [], ◌∷◌, ◌++◌, length, Option, Some, None, Result, Ok, Err, refl, ap, sym, ◌∙◌, subst, inl, inr}
 use Rattle.std.specs.Prelude.{◌⊎◌}
 use Rattle.mesh_base.specs.declared.UseWhy.{UseWhy}
+use Rattle.mesh_base.specs.declared.PairName.{PairName}
 use Rattle.mesh_base.specs.declared.ShapeFault.{ShapeFault}
 use Rattle.mesh_base.specs.declared.FileWord.TheVariants as file
 use Rattle.mesh_plain.specs.Shape.{shape_fault}
@@ -16,9 +17,9 @@ use Rattle.track_run.specs.declared.outcome.Outcome.{Outcome}
 use Rattle.track_run.specs.declared.outcome.Outcome.TheVariants as outcome
 use Rattle.track_run.specs.State.{State, start}
 use Rattle.track_run.specs.Turns.{Turn, Goes, Stops, Told, turn, and_then, told_from, refused}
-use Rattle.track_run.specs.Job.{Job, Source, Bytes, Absent, TooLong, log_of, told_of, told_of_files, told_of_lists, told_of_shape, told_of_steps, mesh_of_lists}
+use Rattle.track_run.specs.Job.{Job, Source, Bytes, Absent, TooLong, log_of, told_of, told_of_files, told_of_lists, told_of_shape, told_of_steps, told_of_meeting, met_first, mesh_of_lists}
 use Rattle.track_run.specs.World.{outcome_of}
-use Rattle.track_run.specs.Causes.{Cause, IsThere, HasLists, HasMesh, HasSteps, Reaches, IsRefusedAt, IsStopped}
+use Rattle.track_run.specs.Causes.{Cause, IsThere, HasLists, HasMesh, HasSteps, HasClear, Reaches, IsRefusedAt, IsStopped}
 
 -- ---- the directives
 
@@ -57,7 +58,7 @@ told_ends (p ∷ more) s = by_turn p s more (λ n. told_ends more n) (turn p.wha
 
 -- ---- the files
 
-use_cause : (job : Job) (lists : Lists) (directives : List Placed) (o : Option Refusal) → HasSteps job lists directives → Ends (start (mesh_of_lists lists)) directives o → Cause job (outcome_of o)
+use_cause : (job : Job) (lists : Lists) (directives : List Placed) (o : Option Refusal) → HasClear job lists directives → Ends (start (mesh_of_lists lists)) directives o → Cause job (outcome_of o)
 use_cause job lists directives None read h = (lists, directives, read, h.0, h.1)
 use_cause job lists directives (Some (refusal.StepUse line why)) read h = (lists, directives, read, h)
 use_cause job lists directives (Some (refusal.Long f seen)) read h = absurd h
@@ -67,10 +68,15 @@ use_cause job lists directives (Some (refusal.Shape f)) read h = absurd h
 use_cause job lists directives (Some (refusal.Meets f)) read h = absurd h
 use_cause job lists directives (Some (refusal.Steps f)) read h = absurd h
 
+meeting_cause : (job : Job) (lists : Lists) (directives : List Placed) (o : Option PairName) → HasSteps job lists directives → met_first (mesh_of_lists lists) ≡ o → Cause job (outcome_of (told_of_meeting (mesh_of_lists lists) directives o).ending)
+meeting_cause job lists directives (Some pair) h e = (lists, directives, h, e)
+meeting_cause job lists directives None h e =
+    use_cause job lists directives (told_of (mesh_of_lists lists) directives).ending (record { steps_read = h; clear = e }) (told_ends directives (start (mesh_of_lists lists)))
+
 steps_cause : (job : Job) (lists : Lists) (steps : List ℕ) (r : Result (List Placed) TextFault) → HasMesh job lists steps → steps_of steps ≡ r → Cause job (outcome_of (told_of_steps (mesh_of_lists lists) r).ending)
 steps_cause job lists steps (Err fault) h e = (lists, steps, h, e)
 steps_cause job lists steps (Ok directives) h e =
-    use_cause job lists directives (told_of (mesh_of_lists lists) directives).ending (record { steps = steps; mesh_read = h; read = e }) (told_ends directives (start (mesh_of_lists lists)))
+    meeting_cause job lists directives (met_first (mesh_of_lists lists)) (record { steps = steps; mesh_read = h; read = e }) refl
 
 shape_cause : (job : Job) (lists : Lists) (steps : List ℕ) (o : Option ShapeFault) → HasLists job lists steps → shape_fault (length lists.points) lists.faces ≡ o → Cause job (outcome_of (told_of_shape lists o steps).ending)
 shape_cause job lists steps (Some fault) h e = (lists, steps, h, e)
@@ -117,15 +123,18 @@ module _ (job : Job) where
   mesh_good : (lists : Lists) (steps : List ℕ) → HasMesh job lists steps → told_of_files job.decimals job.mesh_file job.step_file ≡ told_of_steps (mesh_of_lists lists) (steps_of steps)
   mesh_good lists steps h = lists_told lists steps h.lists_read ∙ ap (λ o. told_of_shape lists o steps) h.good
 
-  steps_told : (lists : Lists) (directives : List Placed) → HasSteps job lists directives → told_of_files job.decimals job.mesh_file job.step_file ≡ told_of (mesh_of_lists lists) directives
+  steps_told : (lists : Lists) (directives : List Placed) → HasSteps job lists directives → told_of_files job.decimals job.mesh_file job.step_file ≡ told_of_meeting (mesh_of_lists lists) directives (met_first (mesh_of_lists lists))
   steps_told lists directives h = mesh_good lists h.steps h.mesh_read ∙ ap (told_of_steps (mesh_of_lists lists)) h.read
+
+  clear_told : (lists : Lists) (directives : List Placed) → HasClear job lists directives → told_of_files job.decimals job.mesh_file job.step_file ≡ told_of (mesh_of_lists lists) directives
+  clear_told lists directives h = steps_told lists directives h.steps_read ∙ ap (told_of_meeting (mesh_of_lists lists) directives) h.clear
 
   ended : (told : Told) → told_of_files job.decimals job.mesh_file job.step_file ≡ told → outcome_of (log_of job).ending ≡ outcome_of told.ending
   ended told e = ap (λ (t : Told). outcome_of t.ending) e
 
   -- a job with a cause ends so, or is stopped
   pub cause_ends : (o : Outcome) → Cause job o → (outcome_of (log_of job).ending ≡ o) ⊎ IsStopped o
-  cause_ends outcome.Done h = inl (ended (told_of (mesh_of_lists h.0) h.1) (steps_told h.0 h.1 h.2) ∙ ap outcome_of (ends_reached h.1 (start (mesh_of_lists h.0)) h.3 h.4))
+  cause_ends outcome.Done h = inl (ended (told_of (mesh_of_lists h.0) h.1) (clear_told h.0 h.1 h.2) ∙ ap outcome_of (ends_reached h.1 (start (mesh_of_lists h.0)) h.3 h.4))
   cause_ends (outcome.TooLong file.Mesh seen) h = inl (ended (refused (refusal.Long file.Mesh seen)) (mesh_told (TooLong seen) h))
   cause_ends (outcome.TooLong file.Steps seen) h = inl (ended (refused (refusal.Long file.Steps seen)) (both_told h.0.0 (TooLong seen) h.0.1 h.1))
   cause_ends (outcome.Missing file.Mesh) h = inl (ended (refused (refusal.Missing file.Mesh)) (mesh_told Absent h))
@@ -136,11 +145,11 @@ module _ (job : Job) where
   cause_ends (outcome.StepUse line why) h =
       let at = h.3 in
       let m = mesh_of_lists h.0 in
-      inl (ended (told_of m h.1) (steps_told h.0 h.1 h.2)
+      inl (ended (told_of m h.1) (clear_told h.0 h.1 h.2)
       ∙ ap (λ l. outcome_of (told_from l (start m)).ending) at.split
       ∙ ap outcome_of (ends_refused at.front at.rest at.placed (start m) at.state why at.reached at.refused)
       ∙ ap (λ n. outcome.StepUse n why) (sym at.line_is))
-  cause_ends (outcome.MeshMeets pair) h = absurd h
+  cause_ends (outcome.MeshMeets pair) h = inl (ended (refused (refusal.Meets pair)) (steps_told h.0 h.1 h.2 ∙ ap (told_of_meeting (mesh_of_lists h.0) h.1) h.3))
   cause_ends outcome.Usage h = absurd h
   cause_ends outcome.NoMemory h = inr tt
   cause_ends outcome.DeskFault h = inr tt

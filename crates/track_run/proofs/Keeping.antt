@@ -1,4 +1,4 @@
--- A log of a clear mesh keeps it clear.
+-- Every mesh and motion of a log keeps its promise.
 use Rattle.std.proofs.Common.{◌≡◌, ℕ, ◌+◌, Bool, true, false, cond, not, eqb, List, [], ◌∷◌, ◌++◌, map, length, Option, Some, None, Result, Ok, Err, refl, ap, sym, ◌∙◌, subst, inl, inr, ℤ, pos, unsigned_abs, ◌≤◌, arith}
 use Rattle.std.specs.Prelude.{◌⊎◌}
 use Rattle.std.specs.Option.{option_map, unwrap_or}
@@ -24,6 +24,8 @@ use Rattle.mesh_base.specs.Given.{mesh_of}
 use Rattle.mesh_base.proofs.Listed.{at_live}
 use Rattle.mesh_base.proofs.Moves.{sound-with_moves, closed-with_moves, clear_after_moves, translation_clear_along}
 use Rattle.mesh_base.proofs.MovesNamed.{name_once, name_once_filtered, shift_filtered, end_filtered}
+use Rattle.mesh_base.specs.declared.PairName.{PairName}
+use Rattle.pair_scan.proofs.Clear.{clear_exactly}
 use Rattle.mesh_plain.specs.Shape.{shape_fault}
 use Rattle.mesh_plain.proofs.Lists.{sound-mesh_of}
 use Rattle.mesh_plain.proofs.Faults.{closed-mesh_of}
@@ -39,7 +41,7 @@ use Rattle.log_text.specs.Replay.{Replay, after, replayed}
 use Rattle.track_run.specs.Kept.{Keeps, KeepsAt, IsSavedWell}
 use Rattle.track_run.specs.State.{State, start, standing, at_mesh, no_shifts, still_at}
 use Rattle.track_run.specs.Turns.{Turn, Goes, Stops, Told, turn, shift_turn, step_turn, summed, first_beyond, all_summed, first_outside, moves, moving, move_lines, all_still, step_lines, after_step, mesh_line, and_then, told_from, refused}
-use Rattle.track_run.specs.Job.{Job, Source, Bytes, Absent, TooLong, log_of, told_of, told_of_files, told_of_lists, told_of_shape, told_of_steps, mesh_of_lists, mesh_read, mesh_in, replay_of}
+use Rattle.track_run.specs.Job.{Job, Source, Bytes, Absent, TooLong, log_of, told_of, told_of_files, told_of_lists, told_of_shape, told_of_steps, told_of_meeting, met_first, mesh_of_lists, mesh_read, mesh_in, replay_of}
 use Rattle.track_run.proofs.Worlds.{after-append}
 use Rattle.track_run.proofs.NoFiles.{after-step_lines, after-moves}
 use Rattle.track_run.proofs.StepLemmas.{all_inside, names_after_step}
@@ -192,27 +194,33 @@ keeps_told (p ∷ steps) s kept = keeps_and_then p.line s (turn p.what s) (told_
 kept_start : (m : Mesh) → IsGood m → IsKept (start m)
 kept_start m good = record { good = good; names = names_at_first m (no_shifts m) refl; together = origin; alike = rests_alike (finite.keys m.points) }
 
-keeps_steps : (m : Mesh) (r : Result (List Placed) TextFault) → IsGood m → Keeps (at_mesh m) (told_of_steps m r).lines
-keeps_steps m (Ok steps) good = (saved_well m good, keeps_told steps (start m) (kept_start m good))
-keeps_steps m (Err fault) good = (tt, tt)
+keeps_meeting : (m : Mesh) (steps : List Placed) (o : Option PairName) → met_first m ≡ o → IsSound m → IsClosed m → Keeps (at_mesh m) (told_of_meeting m steps o).lines
+keeps_meeting m steps (Some pair) e sound closed = (tt, tt)
+keeps_meeting m steps None e sound closed =
+    let good : IsGood m = record { sound = sound; closed = closed; clear = (clear_exactly m None sound (sym e)).0 refl } in
+    (saved_well m good, keeps_told steps (start m) (kept_start m good))
 
-keeps_shape : (lists : Lists) (o : Option ShapeFault) (steps : List ℕ) → shape_fault (length lists.points) lists.faces ≡ o → IsClearMesh (mesh_of_lists lists) → Keeps (at_mesh (mesh_of_lists lists)) (told_of_shape lists o steps).lines
-keeps_shape lists (Some fault) steps e clear = (tt, tt)
-keeps_shape lists None steps e clear =
+keeps_steps : (m : Mesh) (r : Result (List Placed) TextFault) → IsSound m → IsClosed m → Keeps (at_mesh m) (told_of_steps m r).lines
+keeps_steps m (Ok steps) sound closed = keeps_meeting m steps (met_first m) refl sound closed
+keeps_steps m (Err fault) sound closed = (tt, tt)
+
+keeps_shape : (lists : Lists) (o : Option ShapeFault) (steps : List ℕ) → shape_fault (length lists.points) lists.faces ≡ o → Keeps (at_mesh (mesh_of_lists lists)) (told_of_shape lists o steps).lines
+keeps_shape lists (Some fault) steps e = (tt, tt)
+keeps_shape lists None steps e =
     let points = map point_at lists.points in
     let none : shape_fault (length points) lists.faces ≡ None = ap (λ n. shape_fault n lists.faces) (length-map lists.points point_at) ∙ e in
-    keeps_steps (mesh_of_lists lists) (steps_of steps) (record { sound = sound-mesh_of points lists.faces none; closed = closed-mesh_of points lists.faces none; clear = clear })
+    keeps_steps (mesh_of_lists lists) (steps_of steps) (sound-mesh_of points lists.faces none) (closed-mesh_of points lists.faces none)
 
-keeps_lists : (r : Result Lists TextFault) (steps : List ℕ) → IsClearMesh (mesh_read r) → Keeps (at_mesh (mesh_read r)) (told_of_lists r steps).lines
-keeps_lists (Err fault) steps clear = (tt, tt)
-keeps_lists (Ok lists) steps clear = keeps_shape lists (shape_fault (length lists.points) lists.faces) steps refl clear
+keeps_lists : (r : Result Lists TextFault) (steps : List ℕ) → Keeps (at_mesh (mesh_read r)) (told_of_lists r steps).lines
+keeps_lists (Err fault) steps = (tt, tt)
+keeps_lists (Ok lists) steps = keeps_shape lists (shape_fault (length lists.points) lists.faces) steps refl
 
-keeps_files : (decimals : ℕ) (mesh steps : Source) → IsClearMesh (mesh_in decimals mesh) → Keeps (at_mesh (mesh_in decimals mesh)) (told_of_files decimals mesh steps).lines
-keeps_files decimals (TooLong seen) steps clear = (tt, tt)
-keeps_files decimals Absent steps clear = (tt, tt)
-keeps_files decimals (Bytes mesh) (TooLong seen) clear = (tt, tt)
-keeps_files decimals (Bytes mesh) Absent clear = (tt, tt)
-keeps_files decimals (Bytes mesh) (Bytes steps) clear = keeps_lists (lists_of decimals mesh) steps clear
+keeps_files : (decimals : ℕ) (mesh steps : Source) → Keeps (at_mesh (mesh_in decimals mesh)) (told_of_files decimals mesh steps).lines
+keeps_files decimals (TooLong seen) steps = (tt, tt)
+keeps_files decimals Absent steps = (tt, tt)
+keeps_files decimals (Bytes mesh) (TooLong seen) = (tt, tt)
+keeps_files decimals (Bytes mesh) Absent = (tt, tt)
+keeps_files decimals (Bytes mesh) (Bytes steps) = keeps_lists (lists_of decimals mesh) steps
 
-pub keeps_log : (job : Job) → IsClearMesh (replay_of job).mesh → Keeps (replay_of job) (log_of job).lines
-keeps_log job clear = (tt, keeps_files job.decimals job.mesh_file job.step_file clear)
+pub keeps_log : (job : Job) → Keeps (replay_of job) (log_of job).lines
+keeps_log job = (tt, keeps_files job.decimals job.mesh_file job.step_file)

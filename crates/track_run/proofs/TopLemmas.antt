@@ -4,6 +4,7 @@ use Rattle.std.specs.Prelude.{◌⊎◌}
 use Rattle.std.specs.declared.option.Option.{Option}
 use Rattle.std.specs.declared.option.Option.TheVariants.{None, Some}
 use Rattle.mesh_base.specs.declared.FileWord.TheVariants as file
+use Rattle.mesh_base.specs.declared.PairName.{PairName}
 use Rattle.mesh_base.specs.Mesh.{Mesh}
 use Rattle.mesh_base.specs.Shifts.{Shifts}
 use Rattle.mesh_base.specs.declared.MeshLists.{MeshLists}
@@ -28,7 +29,7 @@ use Rattle.track_run.specs.Fetched.{source_of}
 use Rattle.track_run.specs.State.{start, at_mesh, no_shifts}
 use Rattle.track_run.specs.Turns.{Told, told_from, refused, mesh_line}
 use Rattle.track_run.specs.Words.{Named}
-use Rattle.track_run.specs.Job.{Job, Source, Bytes, Absent, TooLong, IsSource, IsJob, log_of, told_of, told_of_files, told_of_lists, mesh_in, mesh_read, replay_of}
+use Rattle.track_run.specs.Job.{Job, Source, Bytes, Absent, TooLong, IsSource, IsJob, log_of, told_of, told_of_meeting, met_first, told_of_files, told_of_lists, mesh_in, mesh_read, replay_of}
 use Rattle.track_run.specs.Saved.{Target}
 use Rattle.track_run.specs.Said.{Said}
 use Rattle.track_run.specs.World.{World, Logs, StopsIn, Follows, Runs, target, outcome_from, outcome_of, outcome_at}
@@ -189,12 +190,31 @@ tracks_third named files w0 w1 found lists steps stop is p first =
 
 -- a mesh and directives
 pub tracks_ready : (named : Named) (files : Option Files) (w0 w1 : Option (List ℕ)) (found : Ready) (lists : MeshLists) (steps : List Placed) (m : Mesh) (new : World) (r : Result (Option Refusal) Stop) → found ≡ ready.Yes lists steps → Prepares files named found → w1 ≡ appended w0 (text_of_lines (First 1 ∷ []))
-    → m ≡ given lists → Follows (target named) (at_mesh m) (told_of m steps) (record { files = files; written = w1 }) new r → TracksJob named (record { files = files; written = w0 }) new r
+    → m ≡ given lists → Follows (target named) (at_mesh m) (told_of_meeting m steps (met_first m)) (record { files = files; written = w1 }) new r → TracksJob named (record { files = files; written = w0 }) new r
 tracks_ready named files w0 w1 found lists steps m new r is p e same f =
     let q = prepared_at files named found (ready.Yes lists steps) is p in
-    let P : Mesh → Type 0 = λ n. Follows (target named) (at_mesh n) (told_of (given lists) steps) (record { files = files; written = w1 }) new r in
-    let Q : Mesh → Type 0 = λ n. Follows (target named) (at_mesh n) (told_of n steps) (record { files = files; written = w1 }) new r in
+    let P : Mesh → Type 0 = λ n. Follows (target named) (at_mesh n) (told_of_meeting (given lists) steps (met_first (given lists))) (record { files = files; written = w1 }) new r in
+    let Q : Mesh → Type 0 = λ n. Follows (target named) (at_mesh n) (told_of_meeting n steps (met_first n)) (record { files = files; written = w1 }) new r in
     tracks_then named files w0 w1 (ready.Yes lists steps) q new r e (subst P q.is_mesh.0 (subst Q same f))
+
+-- ---- the mesh is tested
+
+-- no pair meets
+pub tested_clear : (to : Target) (m : Mesh) (steps : List Placed) (a b : World) (r : Result (Option Refusal) Stop) (o : Option PairName) → o ≡ met_first m → o ≡ None → Follows to (at_mesh m) (told_of m steps) a b r → Follows to (at_mesh m) (told_of_meeting m steps (met_first m)) a b r
+tested_clear to m steps a b r o first none f = let P : Option PairName → Type 0 = λ o. Follows to (at_mesh m) (told_of_meeting m steps o) a b r in subst P (sym none ∙ first) f
+
+meets_at_first : (to : Target) (m : Mesh) (steps : List Placed) (files : Option Files) (old new : Option (List ℕ)) (pair : PairName) (r : Result (Option Refusal) Stop) → Said old new (Refused (refusal.Meets pair) ∷ []) r → OnErr r (AppendsPart old new (text_of_line (Refused (refusal.Meets pair)))) → IfOk r (λ e. e ≡ Some (refusal.Meets pair))
+    → Follows to (at_mesh m) (told_of_meeting m steps (Some pair)) (record { files = files; written = old }) (record { files = files; written = new }) r
+meets_at_first to m steps files old new pair (Ok e) said part ending = (record { written = said; files = refl }, ending)
+meets_at_first to m steps files old new pair (Err stop) said part ending = stops_line stop to (at_mesh m) (Refused (refusal.Meets pair)) [] files old new part
+
+-- a pair meets, and is told
+pub tested_meets : (to : Target) (m : Mesh) (steps : List Placed) (files : Option Files) (old new : Option (List ℕ)) (pair : PairName) (r : Result (Option Refusal) Stop) (o : Option PairName) → o ≡ met_first m → o ≡ Some pair
+    → Said old new (Refused (refusal.Meets pair) ∷ []) r → OnErr r (AppendsPart old new (text_of_line (Refused (refusal.Meets pair)))) → IfOk r (λ e. e ≡ Some (refusal.Meets pair))
+    → Follows to (at_mesh m) (told_of_meeting m steps (met_first m)) (record { files = files; written = old }) (record { files = files; written = new }) r
+tested_meets to m steps files old new pair r o first some said part ending =
+    let P : Option PairName → Type 0 = λ o. Follows to (at_mesh m) (told_of_meeting m steps o) (record { files = files; written = old }) (record { files = files; written = new }) r in
+    subst P (sym some ∙ first) (meets_at_first to m steps files old new pair r said part ending)
 
 -- what was read is of good shape
 pub ready_is_good : (files : Option Files) (named : Named) (found : Ready) (lists : MeshLists) (steps : List Placed) → found ≡ ready.Yes lists steps → Prepares files named found → AreGood lists × (length steps < 2 ^ 31)

@@ -11,7 +11,7 @@ use Rattle.track_run.specs.declared.outcome.Outcome.{Outcome}
 use Rattle.track_run.specs.declared.outcome.Outcome.TheVariants as outcome
 use Rattle.track_run.specs.State.{State, start}
 use Rattle.track_run.specs.Turns.{Goes, Stops, turn}
-use Rattle.track_run.specs.Job.{Job, Source, Bytes, Absent, TooLong, mesh_of_lists}
+use Rattle.track_run.specs.Job.{Job, Source, Bytes, Absent, TooLong, mesh_of_lists, met_first}
 
 -- the file is there, and no longer than a text may be
 abbrev pub IsThere : Source → Type 0
@@ -35,6 +35,11 @@ pub record HasSteps (job : Job) (lists : Lists) (directives : List Placed) : Typ
   pub mesh_read : HasMesh job lists steps
   pub read : steps_of steps ≡ Ok directives
 
+-- and no edge of the mesh meets a face that shares no vertex with it
+pub record HasClear (job : Job) (lists : Lists) (directives : List Placed) : Type 0 where
+  pub steps_read : HasSteps job lists directives
+  pub clear : met_first (mesh_of_lists lists) ≡ None
+
 -- all of these directives are taken, from one state to the other
 abbrev pub Reaches : State → List Placed → State → Type 0
 Reaches s [] t = s ≡ t
@@ -53,7 +58,7 @@ pub record IsRefusedAt (s : State) (directives : List Placed) (line : ℕ) (why 
 
 -- Why a job has an outcome. Each cause holds what must have gone well before it, so no job has two.
 abbrev pub Cause : Job → Outcome → Type 0
-Cause job outcome.Done = (lists : Lists) × (directives : List Placed) × HasSteps job lists directives × (end : State) × Reaches (start (mesh_of_lists lists)) directives end
+Cause job outcome.Done = (lists : Lists) × (directives : List Placed) × HasClear job lists directives × (end : State) × Reaches (start (mesh_of_lists lists)) directives end
 Cause job (outcome.TooLong file.Mesh seen) = job.mesh_file ≡ TooLong seen
 Cause job (outcome.TooLong file.Steps seen) = IsThere job.mesh_file × (job.step_file ≡ TooLong seen)
 Cause job (outcome.Missing file.Mesh) = job.mesh_file ≡ Absent
@@ -61,9 +66,8 @@ Cause job (outcome.Missing file.Steps) = IsThere job.mesh_file × (job.step_file
 Cause job (outcome.MeshText fault) = (bytes : List ℕ) × (job.mesh_file ≡ Bytes bytes) × IsThere job.step_file × (lists_of job.decimals bytes ≡ Err fault)
 Cause job (outcome.MeshShape fault) = (lists : Lists) × (steps : List ℕ) × HasLists job lists steps × (shape_fault (length lists.points) lists.faces ≡ Some fault)
 Cause job (outcome.StepText fault) = (lists : Lists) × (steps : List ℕ) × HasMesh job lists steps × (steps_of steps ≡ Err fault)
-Cause job (outcome.StepUse line why) = (lists : Lists) × (directives : List Placed) × HasSteps job lists directives × IsRefusedAt (start (mesh_of_lists lists)) directives line why
--- that a mesh meets itself is not tested yet
-Cause job (outcome.MeshMeets pair) = ⊥
+Cause job (outcome.StepUse line why) = (lists : Lists) × (directives : List Placed) × HasClear job lists directives × IsRefusedAt (start (mesh_of_lists lists)) directives line why
+Cause job (outcome.MeshMeets pair) = (lists : Lists) × (directives : List Placed) × HasSteps job lists directives × (met_first (mesh_of_lists lists) ≡ Some pair)
 -- no job is of words that name none
 Cause job outcome.Usage = ⊥
 -- these stop a run, whatever its job

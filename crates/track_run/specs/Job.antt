@@ -4,7 +4,11 @@ use Rattle.grid_base.specs.declared.TheConstants.{TEXT_MAX}
 use Rattle.grid_base.specs.Points.{point_at}
 use Rattle.mesh_base.specs.declared.ShapeFault.{ShapeFault}
 use Rattle.mesh_base.specs.declared.FileWord.TheVariants as file
+use Rattle.grid_decided.specs.Decided.{meets_exactly}
+use Rattle.mesh_base.specs.declared.PairName.{PairName}
 use Rattle.mesh_base.specs.Mesh.{Mesh}
+use Rattle.mesh_base.specs.Placements.{own_points}
+use Rattle.mesh_base.specs.Failing.{first_meeting}
 use Rattle.mesh_base.specs.Given.{mesh_of}
 use Rattle.mesh_plain.specs.Shape.{shape_fault}
 use Rattle.line_text.specs.declared.TextFault.{TextFault}
@@ -47,15 +51,24 @@ pub record IsJob (files : Option Files) (named : Named) (job : Job) : Type 0 whe
 abbrev pub mesh_of_lists : Lists → Mesh
 mesh_of_lists lists = mesh_of (map point_at lists.points) lists.faces
 
--- the log from the mesh on
+-- the first edge and face of a mesh that meet where its vertices stand
+abbrev pub met_first : Mesh → Option PairName
+met_first m = first_meeting meets_exactly m (own_points m)
+
+-- the log from the first mesh that is saved on
 abbrev pub told_of : Mesh → List Placed → Told
 told_of m steps =
     let rest = told_from steps (start m) in
     record { lines = mesh_line 0 m ∷ rest.lines; ending = rest.ending }
 
+-- the log from the test of the mesh on
+abbrev pub told_of_meeting : Mesh → List Placed → Option PairName → Told
+told_of_meeting m steps (Some pair) = refused (refusal.Meets pair)
+told_of_meeting m steps None = told_of m steps
+
 abbrev pub told_of_steps : Mesh → Result (List Placed) TextFault → Told
 told_of_steps m (Err fault) = refused (refusal.Steps fault)
-told_of_steps m (Ok steps) = told_of m steps
+told_of_steps m (Ok steps) = told_of_meeting m steps (met_first m)
 
 abbrev pub told_of_shape : Lists → Option ShapeFault → List ℕ → Told
 told_of_shape lists (Some fault) steps = refused (refusal.Shape fault)

@@ -21,7 +21,7 @@ use Rattle.track_run.specs.declared.reading.Ready.TheVariants as ready
 use Rattle.track_run.specs.State.{State, standing, at_mesh}
 use Rattle.track_run.specs.Turns.{Turn, Goes, Stops, Told, turn, first_beyond, all_summed, step_lines, after_step, mesh_line, refused}
 use Rattle.track_run.specs.Words.{Named}
-use Rattle.track_run.specs.Job.{Job, IsJob, told_of_files, told_of_lists, told_of, log_of, mesh_in, mesh_read, replay_of}
+use Rattle.track_run.specs.Job.{Job, IsJob, told_of_files, told_of_lists, told_of_meeting, met_first, log_of, mesh_in, mesh_read, replay_of}
 use Rattle.track_run.specs.Said.{SaidInPart}
 use Rattle.track_run.specs.Saved.{Target}
 use Rattle.track_run.specs.World.{World, Logs, StopsIn, Follows, target}
@@ -74,13 +74,13 @@ AreGood lists = shape_fault (length lists.points) lists.faces ≡ None
 -- the log after the first line, from what was read
 abbrev pub told_of_ready : Ready → Told
 told_of_ready (ready.No why) = refused why
-told_of_ready (ready.Yes lists steps) = told_of (given lists) steps
+told_of_ready (ready.Yes lists steps) = told_of_meeting (given lists) steps (met_first (given lists))
 
 -- what two texts give
 abbrev pub Reads : ℕ → List ℕ → List ℕ → Ready → Type 0
 Reads decimals mesh steps (ready.No why) = told_of_lists (lists_of decimals mesh) steps ≡ refused why
 Reads decimals mesh steps (ready.Yes lists directives) =
-    (told_of_lists (lists_of decimals mesh) steps ≡ told_of (given lists) directives) × (given lists ≡ mesh_read (lists_of decimals mesh)) × AreGood lists × (length directives < 2 ^ 31)
+    (told_of_lists (lists_of decimals mesh) steps ≡ told_of_ready (ready.Yes lists directives)) × (given lists ≡ mesh_read (lists_of decimals mesh)) × AreGood lists × (length directives < 2 ^ 31)
 
 -- the mesh that was read is the job's
 abbrev pub IsMeshOf : Job → Ready → Type 0

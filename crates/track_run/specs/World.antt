@@ -1,6 +1,5 @@
 -- What a run does to a sink and a desk, and the headline.
 use Rattle.std.specs.Prelude.{◌≡◌, ◌≤◌, ◌⊎◌, ℕ, List, [], ◌∷◌, ◌++◌, Option, Some, None, Result, Ok, Err, IsErrOf}
-use Rattle.mesh_base.specs.Placements.{IsClearMesh}
 use Rattle.log_text.specs.Lines.{text_of_lines}
 use Rattle.log_text.specs.declared.LogLine.{LogLine}
 use Rattle.log_text.specs.declared.LogLine.TheVariants.{Mesh as MeshLine}
@@ -99,15 +98,15 @@ outcome_from (Err stop) = outcome_at stop
 abbrev pub target : Named → Target
 target named = record { prefix = named.prefix; decimals = named.decimals }
 
--- THE HEADLINE, of a job. What the run did is the job's log, or the first of it. Where no edge of the job's mesh meets a face that shares
--- no vertex with it, every mesh that the log saves is closed and so again, with the live numbers that its line tells, and every motion
--- that the log tells keeps it so at every fraction. The outcome has its cause in the job, and the job has a cause for no other outcome but
+-- THE HEADLINE, of a job. What the run did is the job's log, or the first of it. In every mesh that the log saves no edge meets a face that
+-- shares no vertex with it, and the mesh is closed, with the live numbers that its line tells. Every motion that the log tells keeps it so
+-- at every fraction. The outcome has its cause in the job, and the job has a cause for no other outcome but
 -- those that stop a run.
 pub record Tracks (job : Job) (named : Named) (result : Outcome) (old new : World) : Type 0 where
   pub ended : Result (Option Refusal) Stop
   pub outcome : result ≡ outcome_from ended
   pub log : Follows (target named) (replay_of job) (log_of job) old new ended
-  pub kept : IsClearMesh (replay_of job).mesh → Keeps (replay_of job) (log_of job).lines
+  pub kept : Keeps (replay_of job) (log_of job).lines
   pub cause : Cause job result
   pub no_other : (other : Outcome) → Cause job other → (result ≡ other) ⊎ IsStopped other ⊎ IsStopped result
 

@@ -1,6 +1,6 @@
 use crate::{Outcome, run};
 use line_text::{TextFault, TextWhy};
-use mesh_plain::{FileWord, UseWhy};
+use mesh_plain::{FaceId, FileWord, PairName, UseWhy, VertexId};
 use outside_io::{MemoryDesk, MemorySink};
 use std::alloc::Global;
 use std::test::Fail;
@@ -111,6 +111,28 @@ fn directives_are_refused_at_their_line(rt: HostRuntime) -> Result<(), Fail> {
         why: UseWhy::ShiftRange { v: 1 },
     };
     assert_eq!(rt; track(&mut desk, &mut out, alloc)?, beyond);
+    Ok(())
+}
+
+// Two tetrahedra of which one stands with a corner in the other.
+const CROSSING: &[u8] =
+    b"v 0 0 0\nv 4 0 0\nv 0 4 0\nv 0 0 4\nv 1 1 1\nv 5 1 1\nv 1 5 1\nv 1 1 5\nf 1 3 2\nf 1 2 4\nf 2 3 4\nf 1 4 3\nf 5 7 6\nf 5 6 8\nf 6 7 8\nf 5 8 7\n";
+
+#[test]
+fn a_mesh_that_meets_itself_is_refused(rt: HostRuntime) -> Result<(), Fail> {
+    let alloc = rt.alloc();
+    let mut desk = desk_of(alloc, CROSSING, STEPS)?;
+    let mut out = sink_of(alloc)?;
+    let meets = Outcome::MeshMeets(PairName {
+        a: VertexId(5),
+        b: VertexId(6),
+        face: FaceId(3),
+    });
+    assert_eq!(rt; track(&mut desk, &mut out, alloc)?, meets);
+    assert_eq!(rt;
+        out.bytes(),
+        b"topo log 1\nrefused meets 5 6 3\n".as_slice()
+    );
     Ok(())
 }
 

@@ -2,7 +2,7 @@ ghost use Rattle.std.specs.Prelude.{◌≡◌, ◌≤◌, ◌<◌, ◌^◌, leng
 ghost use Rattle.grid_base.specs.declared.TheConstants.{TEXT_MAX};
 ghost use Rattle.outside_io.specs.Causes.{Rose};
 ghost use Rattle.track_run.specs.State.{at_mesh};
-ghost use Rattle.track_run.specs.Job.{told_of};
+ghost use Rattle.track_run.specs.Job.{told_of, told_of_meeting, met_first};
 ghost use Rattle.track_run.specs.Words.{named_in};
 ghost use Rattle.track_run.specs.Names.{named_by, target_of};
 ghost use Rattle.track_run.specs.World.{world, HasCauses, Follows, Runs, outcome_of};
@@ -19,6 +19,7 @@ use crate::words::{Names, named};
 use log_text::{LogLine, Refusal};
 use mesh_plain::{PlainMesh, Surface};
 use outside_io::{Desk, Sink};
+use pair_scan::first_meeting;
 use std::alloc::Global;
 use step_text::Directives;
 
@@ -66,6 +67,28 @@ fn begin<S: Surface, D: Desk, K: Sink>(
     follow(alloc, names, steps.as_slice(), mesh, &mut course, desk, out)
 }
 
+// The mesh is tested, and begun with where no edge meets a face that shares no vertex with it.
+fn test_and_begin<S: Surface, D: Desk, K: Sink>(
+    alloc: Global,
+    names: Names<'_>,
+    mesh: &mut S,
+    steps: &Directives,
+    desk: &mut D,
+    out: &mut K,
+) -> Result<Option<Refusal>, Stop>
+    requires few { names.decimals ≤ 6 }
+    requires count { length steps.now < 2 ^ 31 }
+    ensures follows { Follows (target_of names.entry) (at_mesh (S.mesh mesh.old)) (told_of_meeting (S.mesh mesh.old) steps.now (met_first (S.mesh mesh.old)))
+        (world D.files K.written desk.old out.old) (world D.files K.written desk.new out.new) result }
+    ensures causes { HasCauses (D.faults desk.old) (D.faults desk.new) (K.faults out.old) (K.faults out.new) result }
+{
+    match first_meeting(alloc, mesh) {
+        Ok(None) => begin(alloc, names, mesh, steps, desk, out),
+        Ok(Some(pair)) => finish(alloc, out, LogLine::Refused(Refusal::Meets(pair))),
+        Err(_) => Err(Stop::NoMemory),
+    }
+}
+
 // The whole log of a job.
 fn track<D: Desk, K: Sink>(
     alloc: Global,
@@ -81,7 +104,7 @@ fn track<D: Desk, K: Sink>(
     match prepare(alloc, names, desk)? {
         Ready::No(why) => finish(alloc, out, LogLine::Refused(why)),
         Ready::Yes(lists, steps) => match PlainMesh::of(alloc, &lists) {
-            Ok(mut mesh) => begin(alloc, names, &mut mesh, &steps, desk, out),
+            Ok(mut mesh) => test_and_begin(alloc, names, &mut mesh, &steps, desk, out),
             Err(_) => Err(Stop::NoMemory),
         },
     }

@@ -5,7 +5,7 @@ use Rattle.outside_io.specs.Desk.{Files}
 use Rattle.mesh_base.specs.Mesh.{Mesh}
 use Rattle.track_run.specs.declared.outcome.Stop.TheVariants.{NoMemory}
 use Rattle.track_run.specs.State.{at_mesh}
-use Rattle.track_run.specs.Job.{told_of}
+use Rattle.track_run.specs.Job.{told_of_meeting, met_first}
 use Rattle.track_run.specs.Names.{named_by, target_of}
 use Rattle.track_run.specs.World.{world, Follows}
 use Rattle.track_run.specs.Parts.{TracksJob, AreGood}
@@ -32,10 +32,10 @@ returns-in-No-clause-tracks g c =
 
 pub returns-in-Ok-clause-tracks : goal.returns-in-Ok-clause-tracks
 returns-in-Ok-clause-tracks g c =
-    let new = world g.D.Desk.files g.K.Sink.written c.begin.new.desk c.begin.new.out in
-    let P : Option Files → Type 0 = λ files. Follows (target_of c.args.names) (at_mesh c.in-Ok.mesh.now) (told_of c.in-Ok.mesh.now c.in-Yes.steps) (record { files = files; written = g.K.Sink.written c.say.new.out }) new c.begin.result in
-    tracks_ready (named_by c.args.names) (g.D.Desk.files c.args.desk.now) (g.K.Sink.written c.args.out.now) (g.K.Sink.written c.say.new.out) c.in_ok-why.field-0 c.in-Yes.lists c.in-Yes.steps c.in-Ok.mesh.now new c.begin.result
-    c.in-Yes.is c.in_ok-why.ensures.prepares c.in_ok-say.ensures.said c.in-Ok.ensures.mesh (subst P c.in_ok-why.ensures.kept c.begin.ensures.follows)
+    let new = world g.D.Desk.files g.K.Sink.written c.test_and_begin.new.desk c.test_and_begin.new.out in
+    let P : Option Files → Type 0 = λ files. Follows (target_of c.args.names) (at_mesh c.in-Ok.mesh.now) (told_of_meeting c.in-Ok.mesh.now c.in-Yes.steps (met_first c.in-Ok.mesh.now)) (record { files = files; written = g.K.Sink.written c.say.new.out }) new c.test_and_begin.result in
+    tracks_ready (named_by c.args.names) (g.D.Desk.files c.args.desk.now) (g.K.Sink.written c.args.out.now) (g.K.Sink.written c.say.new.out) c.in_ok-why.field-0 c.in-Yes.lists c.in-Yes.steps c.in-Ok.mesh.now new c.test_and_begin.result
+    c.in-Yes.is c.in_ok-why.ensures.prepares c.in_ok-say.ensures.said c.in-Ok.ensures.mesh (subst P c.in_ok-why.ensures.kept c.test_and_begin.ensures.follows)
 
 pub returns-clause-tracks : goal.returns-clause-tracks
 returns-clause-tracks g c =
