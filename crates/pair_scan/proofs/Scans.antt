@@ -1,9 +1,8 @@
 -- The first pair that meets, edge by edge.
-use Rattle.std.proofs.Common.{◌≡◌, ◌↔◌, ℕ, Bool, true, false, cond, ◌&&◌, ◌||◌, not, List, Option, Some, None, refl, sym, ap, ◌∙◌, IsTrue}
-use Rattle.std.specs.List.{filter, flat_map, find}
+use Rattle.std.proofs.Common.{◌≡◌, ◌↔◌, ℕ, Bool, true, false, ◌&&◌, ◌||◌, not, List, Option, Some, None, refl, sym, ap, ◌∙◌, IsTrue}
+use Rattle.std.specs.List.{filter, find}
 use Rattle.std.specs.Option.{option_map}
 use Rattle.std.specs.FinMap as finite
-use Rattle.std.proofs.lemmas.List.Folds.{flat_map-map}
 use Rattle.grid_base.specs.declared.Positions.{Positions}
 use Rattle.grid_base.specs.declared.Point.{Point}
 use Rattle.grid_base.specs.Meeting.{MeetAt}
@@ -14,7 +13,7 @@ use Rattle.mesh_base.specs.declared.ids.Corners.{Corners}
 use Rattle.mesh_base.specs.Mesh.{Mesh}
 use Rattle.mesh_base.specs.Changes.{corner_list, corners_of}
 use Rattle.mesh_base.specs.Sides.{has_corner}
-use Rattle.mesh_base.specs.Pairs.{Pair, is_edge, edges, pairs_of, pairs}
+use Rattle.mesh_base.specs.Pairs.{Pair, pairs_of}
 use Rattle.mesh_base.specs.Placements.{own_points, position_or_origin, positions}
 use Rattle.pair_scan.specs.Placed.{placed_at, placed, placed_faces}
 use Rattle.pair_scan.specs.Scan.{meets_face, name_with, placed_edge, first_of}

@@ -9,7 +9,7 @@ use Rattle.mesh_base.specs.declared.ids.PairName.{PairName}
 use Rattle.mesh_base.specs.Mesh.{Mesh}
 use Rattle.mesh_base.specs.Sides.{has_corner}
 use Rattle.mesh_base.specs.declared.ids.Corners.{Corners}
-use Rattle.mesh_base.specs.Pairs.{Pair, IsPair, pairs_of}
+use Rattle.mesh_base.specs.Pairs.{Pair, IsPair}
 use Rattle.grid_base.specs.Meeting.{MeetAt}
 use Rattle.mesh_base.specs.Placements.{own_points, positions}
 use Rattle.pair_scan.specs.declared.placed.PlacedFace.{PlacedFace}
