@@ -1,5 +1,5 @@
 -- The whole log of a job ends as its cause says.
-use Rattle.std.proofs.Common.{◌≡◌, ℕ, List, [], ◌∷◌, ◌++◌, length, Option, Some, None, Result, Ok, Err, refl, ap, sym, ◌∙◌, subst, inl, inr}
+use Rattle.std.proofs.Common.{◌≡◌, ℕ, List, [], ◌∷◌, ◌++◌, length, Option, Some, None, Result, Ok, Err, refl, ap, sym, ◌∙◌, inl, inr}
 use Rattle.std.specs.Prelude.{◌⊎◌}
 use Rattle.mesh_base.specs.declared.UseWhy.{UseWhy}
 use Rattle.mesh_base.specs.declared.PairName.{PairName}
@@ -19,7 +19,7 @@ use Rattle.track_run.specs.State.{State, start}
 use Rattle.track_run.specs.Turns.{Turn, Goes, Stops, Told, turn, and_then, told_from, refused}
 use Rattle.track_run.specs.Job.{Job, Source, Bytes, Absent, TooLong, log_of, told_of, told_of_files, told_of_lists, told_of_shape, told_of_steps, told_of_meeting, met_first, mesh_of_lists}
 use Rattle.track_run.specs.World.{outcome_of}
-use Rattle.track_run.specs.Causes.{Cause, IsThere, HasLists, HasMesh, HasSteps, HasClear, Reaches, IsRefusedAt, IsStopped}
+use Rattle.track_run.specs.Causes.{Cause, HasLists, HasMesh, HasSteps, HasClear, Reaches, IsRefusedAt, IsStopped}
 
 -- ---- the directives
 

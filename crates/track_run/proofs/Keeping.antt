@@ -19,7 +19,7 @@ use Rattle.mesh_base.specs.declared.How.TheVariants.{Whole}
 use Rattle.mesh_base.specs.Mesh.{Mesh, IsSound, IsLiveVertex}
 use Rattle.mesh_base.specs.Sides.{IsClosed}
 use Rattle.mesh_base.specs.Placements.{origin, IsClearMesh, IsClearAlong}
-use Rattle.mesh_base.specs.Shifts.{Shifts, NameLive, NameOnce, shift_at, moved_by, end_in_box}
+use Rattle.mesh_base.specs.Shifts.{Shifts, NameLive, NameOnce, shift_at, moved_by}
 use Rattle.mesh_base.specs.Given.{mesh_of}
 use Rattle.mesh_base.proofs.Listed.{at_live}
 use Rattle.mesh_base.proofs.Moves.{sound-with_moves, closed-with_moves, clear_after_moves, translation_clear_along}
@@ -36,13 +36,12 @@ use Rattle.step_text.specs.declared.Directive.{Directive}
 use Rattle.step_text.specs.declared.Directive.TheVariants as directive
 use Rattle.step_text.specs.Steps.{steps_of}
 use Rattle.log_text.specs.declared.LogLine.{LogLine}
-use Rattle.log_text.specs.declared.LogLine.TheVariants.{Step, Move, Moved, Mesh as MeshLine}
+use Rattle.log_text.specs.declared.LogLine.TheVariants.{Step, Move, Moved}
 use Rattle.log_text.specs.Replay.{Replay, after, replayed}
-use Rattle.track_run.specs.Kept.{Keeps, KeepsAt, IsSavedWell}
+use Rattle.track_run.specs.Kept.{Keeps, IsSavedWell}
 use Rattle.track_run.specs.State.{State, start, standing, at_mesh, no_shifts, still_at}
-use Rattle.track_run.specs.Turns.{Turn, Goes, Stops, Told, turn, shift_turn, step_turn, summed, first_beyond, all_summed, first_outside, moves, moving, move_lines, all_still, step_lines, after_step, mesh_line, and_then, told_from, refused}
-use Rattle.track_run.specs.Job.{Job, Source, Bytes, Absent, TooLong, log_of, told_of, told_of_files, told_of_lists, told_of_shape, told_of_steps, told_of_meeting, met_first, mesh_of_lists, mesh_read, mesh_in, replay_of}
-use Rattle.track_run.proofs.Worlds.{after-append}
+use Rattle.track_run.specs.Turns.{Turn, Goes, Stops, Told, turn, shift_turn, step_turn, summed, first_beyond, all_summed, first_outside, moves, moving, move_lines, all_still, step_lines, after_step, and_then, told_from}
+use Rattle.track_run.specs.Job.{Job, Source, Bytes, Absent, TooLong, log_of, told_of_files, told_of_lists, told_of_shape, told_of_steps, told_of_meeting, met_first, mesh_of_lists, mesh_read, mesh_in, replay_of}
 use Rattle.track_run.proofs.NoFiles.{after-step_lines, after-moves}
 use Rattle.track_run.proofs.StepLemmas.{all_inside, names_after_step}
 use Rattle.track_run.proofs.TurnLemmas.{ids_of_sums, names_at_first}

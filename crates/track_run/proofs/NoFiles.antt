@@ -1,12 +1,10 @@
 -- Lines that name no file, and the replay of a step's lines.
 use Rattle.std.proofs.Common.{◌≡◌, ℕ, ◌+◌, List, [], ◌∷◌, ◌++◌, map, refl, ap, sym, ◌∙◌, subst, append_assoc, append-nil, inl, inr, Ok, Err, Result}
-use Rattle.std.specs.List.{fold}
 use Rattle.std.specs.declared.option.Option.{Option}
 use Rattle.std.specs.declared.option.Option.TheVariants.{None, Some}
 use Rattle.mesh_base.specs.declared.ShiftOf.{ShiftOf}
 use Rattle.mesh_base.specs.declared.How.TheVariants.{Whole}
 use Rattle.mesh_base.specs.declared.UseWhy.{UseWhy}
-use Rattle.mesh_base.specs.Shifts.{with_move}
 use Rattle.log_text.specs.Lines.{text_of_lines}
 use Rattle.log_text.specs.declared.LogLine.{LogLine}
 use Rattle.log_text.specs.declared.LogLine.TheVariants.{First, Step, Hit, Move, Moved, Mesh as MeshLine, End, Refused}
@@ -16,11 +14,11 @@ use Rattle.outside_io.specs.Desk.{Files}
 use Rattle.outside_io.specs.Sink.{appended}
 use Rattle.track_run.specs.declared.outcome.Stop.{Stop}
 use Rattle.track_run.specs.State.{State, standing}
-use Rattle.track_run.specs.Turns.{turn, Goes, moving, move_lines, moved_mesh, step_lines, after_step}
+use Rattle.track_run.specs.Turns.{turn, Goes, moving, move_lines, step_lines, after_step}
 use Rattle.track_run.specs.Said.{SaidInPart}
 use Rattle.track_run.specs.Saved.{Target, files_of, stored}
 use Rattle.track_run.specs.Parts.{StepTakes, Advances, Takes}
-use Rattle.track_run.specs.World.{World, Logs, StopsIn}
+use Rattle.track_run.specs.World.{Logs, StopsIn}
 use Rattle.track_run.proofs.Worlds.{after-append}
 
 abbrev pub NoFiles : List LogLine → Type 0

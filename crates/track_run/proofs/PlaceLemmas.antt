@@ -1,5 +1,5 @@
 -- Vertices that are moved one after another.
-use Rattle.std.proofs.Common.{◌≡◌, ℕ, ◌<◌, ◌+◌, Bool, true, false, cond, List, [], ◌∷◌, length, drop, get_or, suc, add-one, refl, ap, sym, ◌∙◌, subst, Option, Some}
+use Rattle.std.proofs.Common.{◌≡◌, ℕ, ◌<◌, ◌+◌, Bool, true, false, cond, ◌∷◌, length, drop, get_or, suc, add-one, refl, ap, sym, ◌∙◌, subst, Some}
 use Rattle.std.specs.List.{fold, filter}
 use Rattle.std.specs.FinMap as finite
 use Rattle.std.proofs.Math.Seq.{drop-cons}

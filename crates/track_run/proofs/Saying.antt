@@ -1,5 +1,5 @@
 -- Lines that are written one after another.
-use Rattle.std.proofs.Common.{suc, Bool, true, false, cond, map, get_or, ◌≡◌, ℕ, ◌<◌, List, [], ◌∷◌, ◌++◌, subst, refl, ap, sym, ◌∙◌, append_assoc, append-nil, length, take, drop, ◌+◌, pos, add-one, length-append, arith, Result, Ok, Err}
+use Rattle.std.proofs.Common.{suc, Bool, true, false, cond, map, get_or, ◌≡◌, ℕ, ◌<◌, List, [], ◌∷◌, ◌++◌, subst, refl, ap, sym, ◌∙◌, append_assoc, append-nil, length, take, drop, ◌+◌, add-one, length-append, arith, Result}
 use Rattle.std.proofs.Math.Seq.{drop-cons}
 use Rattle.std.specs.List.{filter}
 use Rattle.std.specs.declared.option.Option.{Option}

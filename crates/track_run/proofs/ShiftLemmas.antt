@@ -1,21 +1,20 @@
 -- Lists that are built item by item, and shifts that are summed.
-use Rattle.std.proofs.Common.{◌≡◌, ℕ, ◌<◌, ◌+◌, Bool, true, false, cond, not, List, [], ◌∷◌, ◌++◌, map, length, drop, get_or, suc, add-one, append_assoc, refl, ap, sym, ◌∙◌, subst, pos, Option, Some, None, IsSome}
+use Rattle.std.proofs.Common.{◌≡◌, ℕ, ◌<◌, ◌+◌, Bool, true, false, cond, not, List, [], ◌∷◌, ◌++◌, map, length, drop, get_or, suc, add-one, append_assoc, refl, ap, sym, ◌∙◌, pos, Option, Some, None, IsSome}
 use Rattle.std.specs.Prelude.{◌↔◌}
 use Rattle.std.specs.Option.{IfSome, option_map}
 use Rattle.std.specs.List.{find}
 use Rattle.std.proofs.Math.Seq.{drop-cons}
-use Rattle.std.proofs.lemmas.Bool.{false≢true}
 use Rattle.grid_base.specs.declared.TheConstants.{SHIFT_MAX}
 use Rattle.grid_base.specs.declared.Shift.{Shift}
 use Rattle.grid_base.specs.Components.{FitWithin}
-use Rattle.grid_base.specs.Triples.{Triple, IsWithin, plus}
+use Rattle.grid_base.specs.Triples.{Triple, IsWithin}
 use Rattle.grid_base.specs.Points.{displacement_of, is_within, shift_by, no_shift}
 use Rattle.grid_base.proofs.PointLaws.{shift_by-displacement_of, same_shift, within_of, of_within}
 use Rattle.grid_base.proofs.MeetingLaws.{same_triple}
 use Rattle.mesh_base.specs.declared.ShiftOf.{ShiftOf}
 use Rattle.mesh_base.specs.Shifts.{Shifts, with_shift}
 use Rattle.track_run.specs.State.{still_at}
-use Rattle.track_run.specs.Turns.{summed, first_beyond, all_summed}
+use Rattle.track_run.specs.Turns.{summed, first_beyond}
 
 -- one more item of a list that another is made of
 pub mapped_more : {X Y : Type 0} (f : X → Y) (xs : List X) (i : ℕ) (x : X) (before after : List Y) (y : Y) (all : List Y) → i < length xs → x ≡ get_or xs i x → after ≡ before ++ y ∷ [] → y ≡ f x

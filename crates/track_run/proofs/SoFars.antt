@@ -1,12 +1,11 @@
 -- The directives, one after another.
-use Rattle.std.proofs.Common.{◌≡◌, ℕ, List, [], ◌∷◌, ◌++◌, refl, ap, sym, ◌∙◌, ◌⊎◌, inl, inr, ◌+◌, ◌<◌, ◌≤◌, length, get_or, drop, add-one, suc, subst, append_assoc, append-nil, Ok, Err, Result, IfOk, OnErr}
+use Rattle.std.proofs.Common.{◌≡◌, ℕ, List, [], ◌∷◌, ◌++◌, refl, ap, sym, ◌∙◌, ◌⊎◌, inl, inr, ◌+◌, ◌<◌, ◌≤◌, length, get_or, drop, add-one, suc, subst, append_assoc, Ok, Err, Result, IfOk, OnErr}
 use Rattle.std.proofs.Math.Seq.{drop-cons}
 use Rattle.std.proofs.lemmas.List.{drop_all}
 use Rattle.std.specs.declared.option.Option.TheVariants.{None, Some}
 use Rattle.std.specs.declared.option.Option.{Option}
-use Rattle.log_text.specs.Lines.{text_of_lines}
 use Rattle.log_text.specs.declared.LogLine.{LogLine}
-use Rattle.log_text.specs.declared.LogLine.TheVariants.{Refused, End}
+use Rattle.log_text.specs.declared.LogLine.TheVariants.{End}
 use Rattle.mesh_base.specs.declared.UseWhy.{UseWhy}
 use Rattle.log_text.specs.declared.Refusal.TheVariants.{StepUse}
 use Rattle.step_text.specs.declared.Placed.{Placed}
@@ -24,7 +23,6 @@ use Rattle.track_run.specs.Said.{Said}
 use Rattle.track_run.specs.Parts.{Takes, TakesInPart, Advances}
 use Rattle.track_run.specs.World.{World, Logs, StopsIn, Follows}
 use Rattle.track_run.proofs.Worlds.{after-append, logs_then, stops_then, stops_more, stops_nothing, stops_line}
-use Rattle.track_run.proofs.NoFiles.{logs_from_said, stops_from_said}
 
 -- The lines so far are written, and with those that are left they are all. The replay stands at the state.
 pub record SoFar (to : Target) (all left : Told) (first now : State) (old new : World) : Type 0 where

@@ -1,25 +1,20 @@
 -- A step of asked shifts of the live vertices that all end in the box.
-use Rattle.std.proofs.Common.{◌≡◌, ℕ, Bool, true, false, cond, ◌&&◌, not, List, [], ◌∷◌, map, eqb, Option, Some, None, IsSome, refl, sym, ap, subst, ◌∙◌}
+use Rattle.std.proofs.Common.{◌≡◌, Bool, true, false, cond, ◌&&◌, not, List, [], ◌∷◌, map, eqb, Some, None, refl, sym, ap, ◌∙◌}
 use Rattle.std.specs.Option.{option_map}
-use Rattle.std.specs.List.{find, list_all, All, AllByRecursion, IsDistinct}
-use Rattle.std.specs.FinMap as finite
+use Rattle.std.specs.List.{find, All, AllByRecursion, IsDistinct}
 use Rattle.std.proofs.lemmas.List.Elements.{All-head, All-tail}
 use Rattle.std.proofs.lemmas.Map.Keys.{IsDistinct-head, IsDistinct-tail}
-use Rattle.std.proofs.lemmas.Bool.{false≢true}
 use Rattle.grid_base.specs.declared.TheConstants.{BOX}
-use Rattle.grid_base.specs.Triples.{plus}
-use Rattle.grid_base.specs.Points.{displacement_of, is_within}
+use Rattle.grid_base.specs.Points.{is_within}
 use Rattle.grid_base.proofs.PointLaws.{within_of}
 use Rattle.mesh_base.specs.declared.ShiftOf.{ShiftOf}
 use Rattle.mesh_base.specs.Mesh.{Mesh, IsLiveVertex}
-use Rattle.mesh_base.specs.Placements.{own_points}
 use Rattle.mesh_base.specs.Shifts.{Shifts, NameLive, end_in_box, with_move, with_moves}
 use Rattle.mesh_base.proofs.Moves.{both_true, still_live, same_ends}
 use Rattle.mesh_base.proofs.MovesNamed.{name_once, name_once_filtered}
 use Rattle.mesh_base.proofs.KeysKept.{keys-with_moves}
-use Rattle.track_run.specs.State.{still_at}
 use Rattle.track_run.specs.Turns.{end_of, first_outside, moves, moving, moved_mesh, all_still}
-use Rattle.track_run.specs.Placing.{AreLive, CanPlace, moved_one}
+use Rattle.track_run.specs.Placing.{AreLive, CanPlace}
 
 -- what holds of all holds of each in turn
 by_recursion : {X : Type 0} (P : X → Type 0) (xs : List X) → All P xs → AllByRecursion P xs

@@ -1,5 +1,5 @@
 -- The whole of a run from its parts.
-use Rattle.std.proofs.Common.{◌≡◌, ℕ, ◌<◌, ◌^◌, List, [], ◌∷◌, ◌++◌, refl, ap, sym, ◌∙◌, subst, length, IfOk, OnErr, Result, Ok, Err, inl, inr}
+use Rattle.std.proofs.Common.{◌≡◌, ℕ, ◌<◌, ◌^◌, List, [], ◌∷◌, refl, ap, sym, ◌∙◌, subst, length, IfOk, OnErr, Result, Ok, Err, inl, inr}
 use Rattle.std.specs.Prelude.{◌⊎◌}
 use Rattle.std.specs.declared.option.Option.{Option}
 use Rattle.std.specs.declared.option.Option.TheVariants.{None, Some}
@@ -8,12 +8,10 @@ use Rattle.mesh_base.specs.declared.PairName.{PairName}
 use Rattle.mesh_base.specs.Mesh.{Mesh}
 use Rattle.mesh_base.specs.Shifts.{Shifts}
 use Rattle.mesh_base.specs.declared.MeshLists.{MeshLists}
-use Rattle.obj_text.specs.Obj.{lists_of}
 use Rattle.step_text.specs.declared.Placed.{Placed}
 use Rattle.log_text.specs.Lines.{text_of_lines, text_of_line}
 use Rattle.log_text.specs.declared.Refusal.{Refusal}
 use Rattle.log_text.specs.declared.Refusal.TheVariants as refusal
-use Rattle.log_text.specs.declared.LogLine.{LogLine}
 use Rattle.log_text.specs.declared.LogLine.TheVariants.{First, Refused}
 use Rattle.log_text.specs.Replay.{Replay}
 use Rattle.outside_io.specs.Desk.{Files}
@@ -27,14 +25,14 @@ use Rattle.track_run.specs.declared.outcome.Stop.{Stop}
 use Rattle.track_run.specs.declared.outcome.Stop.TheVariants as stop
 use Rattle.track_run.specs.Fetched.{source_of}
 use Rattle.track_run.specs.State.{start, at_mesh, no_shifts}
-use Rattle.track_run.specs.Turns.{Told, told_from, refused, mesh_line}
+use Rattle.track_run.specs.Turns.{Told, told_from, mesh_line}
 use Rattle.track_run.specs.Words.{Named}
-use Rattle.track_run.specs.Job.{Job, Source, Bytes, Absent, TooLong, IsSource, IsJob, log_of, told_of, told_of_meeting, met_first, told_of_files, told_of_lists, mesh_in, mesh_read, replay_of}
+use Rattle.track_run.specs.Job.{Job, Source, Bytes, Absent, TooLong, IsSource, IsJob, log_of, told_of, told_of_meeting, met_first, told_of_files, replay_of}
 use Rattle.track_run.specs.Saved.{Target}
 use Rattle.track_run.specs.Said.{Said}
 use Rattle.track_run.specs.World.{World, Logs, StopsIn, Follows, Runs, target, outcome_from, outcome_of, outcome_at}
 use Rattle.track_run.specs.Causes.{Cause, IsStopped}
-use Rattle.track_run.specs.Parts.{Prepares, Reads, TracksJob, told_of_ready, IsMeshOf, given, AreGood}
+use Rattle.track_run.specs.Parts.{Prepares, Reads, TracksJob, told_of_ready, given, AreGood}
 use Rattle.track_run.proofs.Sources.{some_source}
 use Rattle.track_run.proofs.Worlds.{logs_then, stops_then, stops_more, stops_nothing, stops_line}
 use Rattle.track_run.proofs.Keeping.{keeps_log}

@@ -1,5 +1,5 @@
 -- What directives leave of the names of the asked shifts, and a save that stops.
-use Rattle.std.proofs.Common.{◌≡◌, ℕ, ◌+◌, List, [], ◌∷◌, map, Option, Some, None, Result, Ok, Err, IfOk, refl, ap, sym, ◌∙◌, subst, inr}
+use Rattle.std.proofs.Common.{◌≡◌, ℕ, ◌+◌, List, [], ◌∷◌, map, Option, None, Result, Ok, Err, IfOk, refl, ap, sym, ◌∙◌, subst, inr}
 use Rattle.std.specs.FinMap as finite
 use Rattle.grid_base.specs.declared.Shift.{Shift}
 use Rattle.mesh_base.specs.declared.UseWhy.{UseWhy}
@@ -10,7 +10,7 @@ use Rattle.step_text.specs.declared.Directive.TheVariants as directive
 use Rattle.track_run.specs.declared.outcome.Stop.{Stop}
 use Rattle.track_run.specs.declared.course.Course.{Course}
 use Rattle.track_run.specs.State.{State, state_of, at_mesh, no_shifts, still_at}
-use Rattle.track_run.specs.Turns.{turn, mesh_line, all_summed, all_still, moved_mesh, after_step}
+use Rattle.track_run.specs.Turns.{turn, mesh_line, all_summed}
 use Rattle.track_run.specs.Saved.{Target}
 use Rattle.track_run.specs.World.{World, StopsIn}
 use Rattle.track_run.specs.Parts.{TurnsTo, StepTakes, Advances}

@@ -1,5 +1,5 @@
 -- What parts of a run do, one after another.
-use Rattle.std.proofs.Common.{◌≡◌, ℕ, ◌<◌, List, [], ◌∷◌, ◌++◌, ◌⊎◌, inl, inr, refl, ap, sym, ◌∙◌, subst, append_assoc, append-nil, length, take}
+use Rattle.std.proofs.Common.{◌≡◌, ℕ, List, [], ◌∷◌, ◌++◌, ◌⊎◌, inl, inr, refl, ap, sym, ◌∙◌, subst, append_assoc, append-nil, take}
 use Rattle.std.specs.declared.option.Option.{Option}
 use Rattle.log_text.specs.Lines.{text_of_lines, text_of_line}
 use Rattle.log_text.specs.declared.LogLine.{LogLine}

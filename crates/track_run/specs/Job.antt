@@ -19,7 +19,7 @@ use Rattle.log_text.specs.declared.Refusal.TheVariants as refusal
 use Rattle.log_text.specs.declared.LogLine.TheVariants.{First}
 use Rattle.log_text.specs.Replay.{Replay}
 use Rattle.outside_io.specs.Desk.{Files, HoldsFile, HoldsNoFile, HoldsAtLeast}
-use Rattle.track_run.specs.State.{State, start, at_mesh}
+use Rattle.track_run.specs.State.{start, at_mesh}
 use Rattle.track_run.specs.Turns.{Told, told_from, refused, mesh_line}
 use Rattle.track_run.specs.Words.{Named}
 

@@ -1,5 +1,5 @@
 -- When vertices can be moved one after another.
-use Rattle.std.specs.Prelude.{◌≡◌, true, List, [], ◌∷◌, if◌then◌else◌}
+use Rattle.std.specs.Prelude.{◌≡◌, true, [], ◌∷◌, if◌then◌else◌}
 use Rattle.std.specs.List.{AllByRecursion}
 use Rattle.grid_base.specs.declared.TheConstants.{BOX}
 use Rattle.grid_base.specs.Triples.{IsWithin}

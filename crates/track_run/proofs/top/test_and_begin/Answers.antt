@@ -1,4 +1,3 @@
-use Rattle.std.proofs.Common.{◌∙◌, sym, subst}
 use Rattle.track_run.specs.Names.{target_of}
 use Rattle.track_run.specs.World.{world}
 use Rattle.track_run.proofs.TopLemmas.{tested_clear, tested_meets}

@@ -1,15 +1,14 @@
-use Rattle.std.proofs.Common.{◌≡◌, List, Err, ap, sym, subst}
+use Rattle.std.proofs.Common.{Err, sym, subst}
 use Rattle.std.proofs.lemmas.Result.{err_from_is_err_and}
 use Rattle.std.specs.declared.option.Option.{Option}
 use Rattle.outside_io.specs.Desk.{Files}
-use Rattle.mesh_base.specs.Mesh.{Mesh}
 use Rattle.track_run.specs.declared.outcome.Stop.TheVariants.{NoMemory}
 use Rattle.track_run.specs.State.{at_mesh}
 use Rattle.track_run.specs.Job.{told_of_meeting, met_first}
 use Rattle.track_run.specs.Names.{named_by, target_of}
 use Rattle.track_run.specs.World.{world, Follows}
-use Rattle.track_run.specs.Parts.{TracksJob, AreGood}
-use Rattle.track_run.proofs.TopLemmas.{tracks_first, tracks_second, tracks_no, tracks_third, tracks_ready, ready_is_good}
+use Rattle.track_run.specs.Parts.{TracksJob}
+use Rattle.track_run.proofs.TopLemmas.{tracks_first, tracks_second, tracks_no, tracks_third, tracks_ready}
 use Rattle.track_run.proofs.top.track.Goals as goal
 
 pub returns-in_err-say-clause-tracks : goal.returns-in_err-say-clause-tracks
