@@ -44,7 +44,7 @@ nothing f (Some x) e = cc
 every_pair : (m : Mesh) → IsSound m → AllByRecursion (IsPair m) (pairs m)
 every_pair m sound = all_weaker (Contains (pairs m)) (IsPair m) (pairs m) (λ p h. (pair_listed m sound p).0 h) (recursion_from_All (Contains (pairs m)) (pairs m) (All-contains_itself (pairs m)))
 
-apart : (f : Positions) → ¬ (MeetAt f) → meets_exactly f ≡ false
+pub apart : (f : Positions) → ¬ (MeetAt f) → meets_exactly f ≡ false
 apart f never = by_test (meets_exactly f) refl
   where
     by_test : (b : Bool) → meets_exactly f ≡ b → b ≡ false

@@ -9,7 +9,7 @@ use Rattle.mesh_base.proofs.Listed.{each_found}
 use Rattle.mesh_base.proofs.ListedPairs.{all_weaker, all_filtered}
 
 -- each entry is found at its key
-found_entries : {X : Type 0} (m : FinMap nat_cmp X) → AllByRecursion (λ e. finite.get m e.0 ≡ Some e.1) (finite.entries m)
+pub found_entries : {X : Type 0} (m : FinMap nat_cmp X) → AllByRecursion (λ e. finite.get m e.0 ≡ Some e.1) (finite.entries m)
 found_entries m = all_weaker (λ e. find nat_cmp e.0 (finite.entries m) ≡ Some e.1) (λ e. finite.get m e.0 ≡ Some e.1) (finite.entries m) (λ e h. get-entries m e.0 ∙ h) (each_found (finite.entries m) (entries_sorted m))
 
 -- what is found, in a list of one, or nothing

@@ -33,10 +33,10 @@ option_map-option_or f None r = refl
 option_map-option_or f (Some x) r = refl
 
 -- ---- a walk over a list
-rest_at : {X : Type 0} (xs : List X) (i : ℕ) (d : X) → i < length xs → drop i xs ≡ get_or xs i d ∷ drop (i + 1) xs
+pub rest_at : {X : Type 0} (xs : List X) (i : ℕ) (d : X) → i < length xs → drop i xs ≡ get_or xs i d ∷ drop (i + 1) xs
 rest_at xs i d h = rw add-one (drop-cons xs i d h)
 
-ended : {X : Type 0} (xs : List X) (i : ℕ) → length xs ≤ i → drop i xs ≡ []
+pub ended : {X : Type 0} (xs : List X) (i : ℕ) → length xs ≤ i → drop i xs ≡ []
 ended [] zero h = refl
 ended [] (suc i) h = refl
 ended (x ∷ xs) zero h = absurd (omega arith)

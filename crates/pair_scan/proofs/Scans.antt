@@ -15,8 +15,8 @@ use Rattle.mesh_base.specs.Changes.{corner_list, corners_of}
 use Rattle.mesh_base.specs.Sides.{has_corner}
 use Rattle.mesh_base.specs.Pairs.{Pair, pairs_of}
 use Rattle.mesh_base.specs.Placements.{own_points, position_or_origin, positions}
-use Rattle.pair_scan.specs.Placed.{placed_at, placed, placed_faces}
-use Rattle.pair_scan.specs.Scan.{meets_face, name_with, placed_edge, first_of}
+use Rattle.pair_scan.specs.Placed.{placed_at, placed, placed_faces, placed_edge}
+use Rattle.pair_scan.specs.Scan.{meets_face, name_with, first_of}
 use Rattle.pair_scan.proofs.Lists.{find-map, find-filter, find-alike, option_map-option_map}
 
 both_ways : (a b : Bool) → (a ≡ true → b ≡ true) → (b ≡ true → a ≡ true) → a ≡ b

@@ -1,2 +1,4 @@
 pub mod Placed
+pub mod Under
+pub mod Boxes
 pub mod Scan

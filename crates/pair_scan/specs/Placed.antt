@@ -6,6 +6,7 @@ use Rattle.grid_base.specs.Points.{point_at}
 use Rattle.mesh_base.specs.declared.ids.Corners.{Corners}
 use Rattle.mesh_base.specs.Mesh.{Mesh}
 use Rattle.mesh_base.specs.Placements.{own_points}
+use Rattle.pair_scan.specs.declared.placed.PlacedEdge.{PlacedEdge}
 use Rattle.pair_scan.specs.declared.placed.PlacedFace.{PlacedFace}
 
 -- the point of a vertex, and the origin where it is not live
@@ -19,3 +20,7 @@ placed m f = record { face = f.0; corners = f.1; c = placed_at m f.1.first; d = 
 -- the faces, rising
 abbrev pub placed_faces : Mesh → List PlacedFace
 placed_faces m = map (placed m) (finite.entries m.faces)
+
+-- an edge with the points of its ends
+abbrev pub placed_edge : Mesh → ℕ → ℕ → PlacedEdge
+placed_edge m a b = record { a = a; b = b; from = placed_at m a; to = placed_at m b }

@@ -1,8 +1,8 @@
 -- A test of an edge against faces.
-use Rattle.std.specs.Prelude.{ℕ, Bool, ◌||◌, ◌&&◌, not, List}
+use Rattle.std.specs.Prelude.{ℕ, Bool, cond, ◌||◌, ◌&&◌, not, List, [], ◌∷◌}
 use Rattle.std.specs.List.{find}
-use Rattle.std.specs.Option.{option_map}
-use Rattle.std.proofs.Common.{Option}
+use Rattle.std.specs.Option.{option_map, option_or}
+use Rattle.std.proofs.Common.{Option, Some, None}
 use Rattle.grid_base.specs.Points.{position_of}
 use Rattle.grid_decided.specs.Decided.{meets_exactly}
 use Rattle.mesh_base.specs.declared.ids.PairName.{PairName}
@@ -13,8 +13,7 @@ use Rattle.mesh_base.specs.Pairs.{Pair, IsPair}
 use Rattle.grid_base.specs.Meeting.{MeetAt}
 use Rattle.mesh_base.specs.Placements.{own_points, positions}
 use Rattle.pair_scan.specs.declared.placed.PlacedFace.{PlacedFace}
-use Rattle.pair_scan.specs.declared.meeting.PlacedEdge.{PlacedEdge}
-use Rattle.pair_scan.specs.Placed.{placed_at}
+use Rattle.pair_scan.specs.declared.placed.PlacedEdge.{PlacedEdge}
 
 -- whether the edge and the face are a pair and meet
 abbrev pub meets_face : PlacedEdge → PlacedFace → Bool
@@ -26,9 +25,15 @@ meets_face e f =
 abbrev pub name_with : ℕ → ℕ → ℕ → PairName
 name_with a b face = record { a = a; b = b; face = face }
 
--- an edge with the points of its ends
-abbrev pub placed_edge : Mesh → ℕ → ℕ → PlacedEdge
-placed_edge m a b = record { a = a; b = b; from = placed_at m a; to = placed_at m b }
+-- the name of the edge with a face, where there is one, they are a pair, and they meet
+abbrev pub met_with : PlacedEdge → Option PlacedFace → Option PairName
+met_with e None = None
+met_with e (Some f) = cond (meets_face e f) (Some (name_with e.a e.b f.face)) None
+
+-- the first answer that there is
+abbrev pub first_some : {X Y : Type 0} → (X → Option Y) → List X → Option Y
+first_some answer [] = None
+first_some answer (x ∷ xs) = option_or (answer x) (first_some answer xs)
 
 -- the name of the first of these pairs that meets
 abbrev pub first_of : Mesh → List Pair → Option PairName

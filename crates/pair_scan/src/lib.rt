@@ -1,6 +1,7 @@
 //! The pairs of a mesh that meet.
 #![tactic(auto)]
 
+mod boxes;
 mod meeting;
 mod placed;
 

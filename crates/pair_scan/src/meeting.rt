@@ -1,39 +1,20 @@
 //! The first pair that meets.
-ghost use Rattle.std.specs.Prelude.{◌≡◌, ◌↔◌, IfOk, IfSome, IsNone};
-ghost use Rattle.std.specs.List.{find};
-ghost use Rattle.std.specs.Option.{option_map};
+ghost use Rattle.std.specs.Prelude.{◌≡◌, ◌↔◌, IfOk, IfSome, IsNone, slice_get};
 ghost use Rattle.grid_decided.specs.Decided.{meets_exactly};
 ghost use Rattle.mesh_base.specs.Pairs.{pairs_of};
 ghost use Rattle.mesh_base.specs.Placements.{own_points, IsClearMesh};
 ghost use Rattle.mesh_base.specs.Failing.{first_meeting};
 ghost use Rattle.pair_scan.specs.Placed.{placed_faces};
-ghost use Rattle.pair_scan.specs.Scan.{meets_face, name_with, placed_edge, first_of, IsMeeting};
+ghost use Rattle.pair_scan.specs.Boxes.{AreBoxes};
+ghost use Rattle.pair_scan.specs.Scan.{meets_face, met_with, first_some, first_of, IsMeeting};
 
-use crate::placed::{PlacedFace, placed_faces, point_of, wide};
-use grid_base::{NoMemory, Point};
+use crate::boxes::{box_of_edge, boxes_of};
+use crate::placed::{PlacedEdge, PlacedFace, placed_edge, placed_faces, wide};
+use cell_grid::Grid;
+use grid_base::NoMemory;
 use grid_meets::meets;
 use mesh_base::{PairName, Surface, VertexId, edges_in_order};
 use std::alloc::Global;
-
-/// An edge, and the points of its ends.
-#[derive(Clone, Copy)]
-pub(crate) struct PlacedEdge {
-    pub(crate) a: VertexId,
-    pub(crate) b: VertexId,
-    pub(crate) from: Point,
-    pub(crate) to: Point,
-}
-
-fn placed_edge<S: Surface>(mesh: &S, a: VertexId, b: VertexId) -> PlacedEdge
-    ensures { result ≡ placed_edge (S.mesh mesh.now) a b }
-{
-    PlacedEdge {
-        a,
-        b,
-        from: point_of(mesh, a),
-        to: point_of(mesh, b),
-    }
-}
 
 /// Whether the edge and the face are a pair and meet.
 fn meets_face(e: &PlacedEdge, f: &PlacedFace) -> bool
@@ -45,33 +26,59 @@ fn meets_face(e: &PlacedEdge, f: &PlacedFace) -> bool
     meets(wide(e.from), wide(e.to), wide(f.c), wide(f.d), wide(f.e))
 }
 
-/// The first of the faces that the edge meets, with the edge.
-fn first_met(e: &PlacedEdge, faces: &[PlacedFace]) -> Option<PairName>
-    ensures { result ≡ option_map (λ f. name_with e.now.a e.now.b f.face) (find (meets_face e.now) faces.now) }
+/// The edge with the face, where they are a pair and meet.
+fn met_with(e: &PlacedEdge, f: &PlacedFace) -> Option<PairName>
+    ensures { result ≡ met_with e.now (Some f.now) }
 {
-    for f in faces {
-        if meets_face(e, f) {
-            return Some(PairName {
-                a: e.a,
-                b: e.b,
-                face: f.face,
-            });
+    if meets_face(e, f) {
+        Some(PairName {
+            a: e.a,
+            b: e.b,
+            face: f.face,
+        })
+    } else {
+        None
+    }
+}
+
+/// The same of the face of this number.
+fn met_at(e: &PlacedEdge, faces: &[PlacedFace], k: u64) -> Option<PairName>
+    ensures { result ≡ met_with e.now (slice_get faces.now k) }
+{
+    match faces.get(k as usize) {
+        Some(f) => met_with(e, f),
+        None => None,
+    }
+}
+
+/// The first of the faces of these numbers that the edge meets, with the edge.
+fn first_near(e: &PlacedEdge, faces: &[PlacedFace], near: &[u64]) -> Option<PairName>
+    ensures { result ≡ first_some (λ k. met_with e.now (slice_get faces.now k)) near.now }
+{
+    for k in near {
+        if let Some(found) = met_at(e, faces, *k) {
+            return Some(found);
         }
     }
     None
 }
 
-/// The first pair of an edge that meets.
+/// The first pair of an edge that meets. Sets `near` to the numbers of the faces whose boxes meet the edge's.
 fn first_of_edge<S: Surface>(
     mesh: &S,
     faces: &[PlacedFace],
+    boxes: &Grid,
+    near: &mut Vec<u64>,
     a: VertexId,
     b: VertexId,
-) -> Option<PairName>
-    requires { faces.now ≡ placed_faces (S.mesh mesh.now) }
-    ensures { result ≡ first_of (S.mesh mesh.now) (pairs_of (S.mesh mesh.now) (a, b)) }
+) -> Result<Option<PairName>, NoMemory>
+    requires faces { faces.now ≡ placed_faces (S.mesh mesh.now) }
+    requires boxes { AreBoxes faces.now boxes.now }
+    ensures { IfOk result (λ r. r ≡ first_of (S.mesh mesh.now) (pairs_of (S.mesh mesh.now) (a, b))) }
 {
-    first_met(&placed_edge(mesh, a, b), faces)
+    let e = placed_edge(mesh, a, b);
+    boxes.overlapping(box_of_edge(&e), near)?;
+    Ok(first_near(&e, faces, near))
 }
 
 /// The first pair of a mesh that meets, in order of the edge and then of the face, where its vertices stand; None exactly
@@ -83,9 +90,11 @@ pub fn first_meeting<S: Surface>(alloc: Global, mesh: &S) -> Result<Option<PairN
     ensures meets { IfOk result (λ r. IfSome r (IsMeeting (S.mesh mesh.now))) }
 {
     let faces = placed_faces(alloc, mesh)?;
+    let boxes = boxes_of(alloc, faces.as_slice())?;
+    let mut near = Vec::new(alloc);
     let edges = edges_in_order(alloc, mesh)?;
     for (a, b) in edges.as_slice() {
-        if let Some(found) = first_of_edge(mesh, faces.as_slice(), *a, *b) {
+        if let Some(found) = first_of_edge(mesh, faces.as_slice(), &boxes, &mut near, *a, *b)? {
             return Ok(Some(found));
         }
     }

@@ -5,7 +5,7 @@ ghost use Rattle.std.specs.FinMap as finite;
 ghost use Rattle.grid_base.specs.Points.{position_of};
 ghost use Rattle.grid_base.specs.Triples.{IsWithin};
 ghost use Rattle.grid_base.specs.declared.TheConstants.{HALF_MAX};
-ghost use Rattle.pair_scan.specs.Placed.{placed_at, placed, placed_faces};
+ghost use Rattle.pair_scan.specs.Placed.{placed_at, placed, placed_faces, placed_edge};
 
 use grid_base::{Items, NoMemory, Point, Wide};
 use mesh_base::{Corners, FaceId, Surface, VertexId, live_faces};
@@ -19,6 +19,15 @@ pub(crate) struct PlacedFace {
     pub(crate) c: Point,
     pub(crate) d: Point,
     pub(crate) e: Point,
+}
+
+/// An edge, and the points of its ends.
+#[derive(Clone, Copy)]
+pub(crate) struct PlacedEdge {
+    pub(crate) a: VertexId,
+    pub(crate) b: VertexId,
+    pub(crate) from: Point,
+    pub(crate) to: Point,
 }
 
 /// The position of a point, as the test of meeting takes it.
@@ -40,6 +49,17 @@ pub(crate) fn point_of<S: Surface>(mesh: &S, v: VertexId) -> Point
     match mesh.point(v) {
         Some(p) => p,
         None => Point { x: 0, y: 0, z: 0 },
+    }
+}
+
+pub(crate) fn placed_edge<S: Surface>(mesh: &S, a: VertexId, b: VertexId) -> PlacedEdge
+    ensures { result ≡ placed_edge (S.mesh mesh.now) a b }
+{
+    PlacedEdge {
+        a,
+        b,
+        from: point_of(mesh, a),
+        to: point_of(mesh, b),
     }
 }
 

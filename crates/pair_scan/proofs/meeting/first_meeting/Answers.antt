@@ -16,7 +16,7 @@ loop-a-preserved g c =
     let of : ℕ × ℕ → List Pair = λ e. pairs_of m e in
     let name : Pair → PairName = λ p. p.name in
     let met : Pair → Bool = λ p. meets_exactly (positions (own_points m) p) in
-    let none : first_of m (of (get_or items c.loop-a.a-index c.loop-a-item.result)) ≡ None = ap (λ e. first_of m (of e)) (sym c.loop-a-item.is) ∙ sym c.first_of_edge.ensures ∙ c.in_default.is in
+    let none : first_of m (of (get_or items c.loop-a.a-index c.loop-a-item.result)) ≡ None = ap (λ e. first_of m (of e)) (sym c.loop-a-item.is) ∙ sym c.in_ok-found.ensures ∙ c.in_default.is in
     sym (first_behind name met of items c.loop-a.a-index c.loop-a-item.result c.loop-a-test.true none) ∙ c.loop-a.invariant
 
 pub returns-in-Some-clause-first : goal.returns-in-Some-clause-first
@@ -27,7 +27,7 @@ returns-in-Some-clause-first g c =
     let name : Pair → PairName = λ p. p.name in
     let met : Pair → Bool = λ p. meets_exactly (positions (own_points m) p) in
     let all : items ≡ edges m = c.as_slice-a-items.ensures ∙ c.in_ok-edges.ensures in
-    let some : first_of m (of (get_or items c.loop-a.a-index c.loop-a-item.result)) ≡ Some c.in-Some.found = ap (λ e. first_of m (of e)) (sym c.loop-a-item.is) ∙ sym c.in-Some.ensures in
+    let some : first_of m (of (get_or items c.loop-a.a-index c.loop-a-item.result)) ≡ Some c.in-Some.found = ap (λ e. first_of m (of e)) (sym c.loop-a-item.is) ∙ sym c.in_ok-found.ensures ∙ c.in-Some.is in
     sym (first_here name met of items c.loop-a.a-index c.loop-a-item.result c.in-Some.found c.loop-a-test.true some) ∙ c.loop-a.invariant ∙ ap (λ es. first_of m (flat_map of es)) all
 
 pub returns-in-Some-clause-clear : goal.returns-in-Some-clause-clear

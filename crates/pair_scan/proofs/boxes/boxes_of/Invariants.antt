@@ -1,0 +1,13 @@
+use Rattle.std.proofs.Common.{◌≡◌, ℕ, ◌<◌, ◌≤◌, Some, None}
+use Rattle.std.specs.Prelude.{slice_get}
+use Rattle.std.specs.FinMap as map
+use Rattle.cell_grid.specs.declared.Extent.{Extent}
+use Rattle.pair_scan.specs.declared.placed.PlacedFace.{PlacedFace}
+use Rattle.pair_scan.specs.Boxes.{HoldsFace}
+use Rattle.pair_scan.proofs.boxes.boxes_of.Given as goal
+
+abbrev pub invariant-loop-k : goal.invariant-loop-k
+invariant-loop-k l = record {
+  boxed : (k : ℕ) (f : PlacedFace) → k < l.k → slice_get l.faces k ≡ Some f → (box : Extent) × ((map.get l.grid k ≡ Some box) × HoldsFace f box);
+  no_others : (k : ℕ) → l.k ≤ k → map.get l.grid k ≡ None;
+}
