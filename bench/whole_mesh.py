@@ -55,4 +55,5 @@ def main():
         print(f"{len(points)} vertices, {len(faces)} faces: status {ended.returncode}, {seconds:.2f} s, {most:.0f} MiB at most (the build's counted, if it was built)")
 
 
-main()
+if __name__ == "__main__":
+    main()
