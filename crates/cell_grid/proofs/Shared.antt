@@ -5,8 +5,8 @@ use Rattle.std.proofs.lemmas.Nat.{le-div, div-mul-add, mod-mul-add, mul-add-lt}
 use Rattle.std.proofs.lemmas.Bool.{and_parts, and_from, cases_lt}
 use Rattle.std.proofs.Math.Nat.{div-mul-le_self}
 use Rattle.grid_base.specs.declared.TheConstants.{EXTENT_MAX}
-use Rattle.cell_grid.specs.Extents.{meet_along, overlaps, HaveCommonPoint}
-use Rattle.cell_grid.specs.declared.extent.Extent.{Extent}
+use Rattle.grid_base.specs.Extents.{meet_along, overlaps, HaveCommonPoint}
+use Rattle.grid_base.specs.declared.Extent.{Extent}
 use Rattle.cell_grid.specs.declared.cells.Cell.{Cell}
 use Rattle.cell_grid.specs.declared.cells.Span.{Span}
 use Rattle.cell_grid.specs.Cells.{place_along, Touches, Covers, nth_cell}

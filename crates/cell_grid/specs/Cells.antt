@@ -2,7 +2,7 @@
 use Rattle.std.specs.Prelude.{◌≡◌, ℕ, ◌+◌, ◌/◌, ◌%◌, ◌<◌, ◌≤◌, ◌&&◌, Bool, nat_eq, ℤ, pos, ◌+ℤ◌, unsigned_abs}
 use Rattle.grid_base.specs.Triples.{Triple}
 use Rattle.grid_base.specs.declared.TheConstants.{EXTENT_MAX}
-use Rattle.cell_grid.specs.declared.extent.Extent.{Extent}
+use Rattle.grid_base.specs.declared.Extent.{Extent}
 use Rattle.cell_grid.specs.declared.cells.Cell.{Cell}
 use Rattle.cell_grid.specs.declared.cells.Span.{Span}
 

@@ -1,6 +1,6 @@
 ghost use Rattle.std.specs.Prelude.{◌≡◌, ◌<◌, IsOk, OnOk, OnErr, IfOk, []};
 ghost use Rattle.std.specs.FinMap as map;
-ghost use Rattle.cell_grid.specs.Extents.{overlapping};
+ghost use Rattle.cell_grid.specs.Overlapping.{overlapping};
 
 use crate::Extent;
 use crate::cells::Cell;
@@ -28,11 +28,11 @@ impl Model for Grid {
     ghost use Rattle.std.specs.Ordering.{nat_cmp};
     ghost use Rattle.std.specs.Coded.{coded_ℕ};
     ghost use Rattle.std.specs.FinMap as map;
-    ghost use Rattle.cell_grid.specs.declared.extent.Extent.{Extent};
+    ghost use Rattle.grid_base.specs.declared.Extent.{Extent};
 
     ghost Value = { map.FinMap nat_cmp Extent };
 
-    ghost use Rattle.cell_grid.specs.contracts.extent.Extent as extent;
+    ghost use Rattle.grid_base.specs.contracts.Extent as extent;
 
     ghost coded = { map.code coded_ℕ extent.the_row.coded };
 

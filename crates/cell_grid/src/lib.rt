@@ -2,15 +2,14 @@
 #![tactic(auto)]
 
 mod cells;
-mod extent;
 mod filing;
 mod grid;
 pub mod laws;
 mod looking;
 mod setting;
 
-pub use extent::Extent;
 pub use grid::Grid;
+pub use grid_base::Extent;
 
 // An extent that touches more cells than this is looked at by every question.
 pub(crate) const CELLS_MAX: u32 = 64;

@@ -5,7 +5,7 @@ ghost use Rattle.std.specs.Map.{keys_of};
 ghost use Rattle.std.specs.Prelude.{◌||◌, nat_eq};
 ghost use Rattle.std.specs.HashMap.{IsUnique};
 ghost use Rattle.cell_grid.specs.Cells.{nth_cell};
-ghost use Rattle.cell_grid.specs.Extents.{overlaps};
+ghost use Rattle.grid_base.specs.Extents.{overlaps};
 ghost use Rattle.cell_grid.specs.Filed.{has, held, is_met, AreFiled};
 
 use crate::Extent;

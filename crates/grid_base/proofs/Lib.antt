@@ -6,3 +6,4 @@ pub mod PointLaws
 pub mod MeetingLaws
 pub mod SeparationLaws
 pub mod Reflected
+pub mod ExtentReading

@@ -5,3 +5,5 @@ pub mod Motion
 pub mod Separation
 pub mod SeparationTests
 pub mod Points
+pub mod Ordered
+pub mod Extents

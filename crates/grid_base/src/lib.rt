@@ -1,6 +1,7 @@
-//! Points and shifts on the integer grid, wide vectors, and the definitions of meeting and of motion.
+//! Points, shifts and boxes on the integer grid, wide vectors, and the definitions of meeting and of motion.
 #![tactic(auto)]
 
+mod extent;
 mod grid;
 pub mod laws;
 mod list;
@@ -11,6 +12,7 @@ mod pair_positions;
 mod tests;
 mod vector;
 
+pub use extent::Extent;
 pub use grid::{Point, Shift};
 pub use list::Items;
 pub use memory::NoMemory;

@@ -1,1 +1,10 @@
 pub mod LineLaws
+pub mod Parts
+pub mod LogParts
+pub mod Steps
+pub mod CanonicalDigits
+pub mod Exactness
+pub mod Spellings
+pub mod LineSpellings
+pub mod GraphicWords
+pub mod LogLaws

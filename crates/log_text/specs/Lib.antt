@@ -1,2 +1,5 @@
+pub mod Fields
 pub mod Lines
 pub mod Replay
+pub mod Reading
+pub mod Laws

@@ -12,7 +12,7 @@ use Rattle.mesh_base.specs.declared.PairName.{PairName}
 use Rattle.mesh_base.specs.declared.ShapeFault.{ShapeFault}
 use Rattle.mesh_base.specs.declared.ShapeFault.TheVariants.{TooManyVertices, TooManyFaces, NoVertex, Repeated, Doubled, Unbalanced}
 use Rattle.mesh_base.specs.declared.UseWhy.{UseWhy}
-use Rattle.mesh_base.specs.declared.UseWhy.TheVariants.{ShiftRange, Box}
+use Rattle.mesh_base.specs.declared.UseWhy.TheVariants as using
 use Rattle.log_text.specs.declared.log_line.LogLine.{LogLine}
 use Rattle.log_text.specs.declared.log_line.LogLine.TheVariants as line
 use Rattle.log_text.specs.declared.log_line.Refusal.{Refusal}
@@ -51,8 +51,9 @@ shape_words (Doubled first second) = codes "doubled" ∷ decimal first ∷ decim
 shape_words (Unbalanced from to) = codes "unbalanced" ∷ decimal from ∷ decimal to ∷ []
 
 abbrev pub use_words : UseWhy → List (List ℕ)
-use_words (ShiftRange v) = codes "range" ∷ decimal v ∷ []
-use_words (Box v) = codes "box" ∷ decimal v ∷ []
+use_words (using.NoVertex v) = codes "vertex" ∷ decimal v ∷ []
+use_words (using.ShiftRange v) = codes "range" ∷ decimal v ∷ []
+use_words (using.Box v) = codes "box" ∷ decimal v ∷ []
 
 abbrev pub refusal_words : Refusal → List (List ℕ)
 refusal_words (refusal.Long file seen) = codes "long" ∷ file_word file ∷ decimal seen ∷ []

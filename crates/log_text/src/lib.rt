@@ -1,10 +1,29 @@
-//! The lines of a log, the one spelling of each, and what the lines make of a mesh.
+//! The lines of a log, the one spelling of each, how they are read, and what the lines make of a mesh.
 #![tactic(auto)]
 
+pub mod laws;
+mod lines;
 mod log_line;
 mod printing;
+mod reading;
+mod refusals;
 #[cfg(test)]
 mod tests;
+mod values;
 
-pub use log_line::{LogLine, Refusal};
+pub use log_line::{Log, LogLine, Refusal};
 pub use printing::print_line;
+pub use reading::read_log;
+
+/// The version by which a log is read.
+pub const VERSION: u8 = 1;
+/// The greatest count of meshes, steps, lines and faces.
+pub const COUNT_MAX: u32 = u32::MAX;
+/// The greatest count of what a refused file has too many of.
+pub const SEEN_MAX: u64 = u64::MAX;
+/// The corners of a face.
+pub const CORNER_MAX: u8 = 3;
+/// The greatest number of impulse passes.
+pub const PASSES_MAX: u8 = 100;
+/// The greatest number of rounds of impact zones: fewer than vertices may live.
+pub const ROUNDS_MAX: u32 = grid_base::VERTICES_MAX - 1;

@@ -1,3 +1,4 @@
+use grid_base::Items;
 use line_text::TextFault;
 use mesh_base::{FileWord, How, PairName, ShapeFault, ShiftOf, UseWhy};
 
@@ -40,3 +41,6 @@ pub enum LogLine {
     /// The directives were all run.
     End,
 }
+
+/// The lines of a log, in order.
+pub type Log = Items<LogLine>;

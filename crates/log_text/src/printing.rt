@@ -211,6 +211,7 @@ fn print_use(at: u32, why: UseWhy, into: &mut Vec<u8>) -> Result<(), NoMemory>
     ensures err { OnErr result (into.new.items ≡ into.old.items) }
 {
     let (word, v) = match why {
+        UseWhy::NoVertex { v } => (Field::Text(b"vertex"), v),
         UseWhy::ShiftRange { v } => (Field::Text(b"range"), v),
         UseWhy::Box { v } => (Field::Text(b"box"), v),
     };

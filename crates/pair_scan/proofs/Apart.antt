@@ -7,8 +7,8 @@ use Rattle.grid_base.specs.Meeting.{Meets}
 use Rattle.grid_meets.specs.Beyond.{LieBeyond}
 use Rattle.grid_meets.proofs.BeyondLaws.{beyond_x, beyond_y, beyond_z}
 use Rattle.mesh_base.specs.Sides.{has_corner}
-use Rattle.cell_grid.specs.declared.Extent.{Extent}
-use Rattle.cell_grid.specs.Extents.{overlaps, meet_along}
+use Rattle.grid_base.specs.declared.Extent.{Extent}
+use Rattle.grid_base.specs.Extents.{overlaps, meet_along}
 use Rattle.pair_scan.specs.declared.placed.PlacedEdge.{PlacedEdge}
 use Rattle.pair_scan.specs.declared.placed.PlacedFace.{PlacedFace}
 use Rattle.pair_scan.specs.Boxes.{HoldsEdge, HoldsFace}

@@ -2,10 +2,10 @@
 use Rattle.std.proofs.Common.{ℤ, ◌≤ℤ◌, arith}
 use Rattle.std.proofs.lemmas.Int.{ints}
 use Rattle.grid_base.specs.Triples.{Triple, IsWithin}
-use Rattle.cell_grid.specs.declared.Extent.{Extent}
+use Rattle.grid_base.specs.declared.Extent.{Extent}
 use Rattle.grid_base.specs.declared.TheConstants.{HALF_MAX, EXTENT_MAX}
-use Rattle.cell_grid.specs.Ordered.{AreOrdered}
-use Rattle.cell_grid.specs.Extents.{IsIn}
+use Rattle.grid_base.specs.Ordered.{AreOrdered}
+use Rattle.grid_base.specs.Extents.{IsIn}
 use Rattle.pair_scan.specs.Under.{IsUnder}
 
 pub weaker : (a : Triple) → IsWithin HALF_MAX a → IsWithin EXTENT_MAX a

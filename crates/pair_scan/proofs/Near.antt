@@ -8,8 +8,9 @@ use Rattle.std.specs.Map.{keys_of}
 use Rattle.std.specs.FinMap as finite
 use Rattle.mesh_base.specs.declared.ids.PairName.{PairName}
 use Rattle.mesh_base.proofs.ListedPairs.{all_weaker}
-use Rattle.cell_grid.specs.declared.Extent.{Extent}
-use Rattle.cell_grid.specs.Extents.{overlaps, overlapping}
+use Rattle.grid_base.specs.declared.Extent.{Extent}
+use Rattle.grid_base.specs.Extents.{overlaps}
+use Rattle.cell_grid.specs.Overlapping.{overlapping}
 use Rattle.pair_scan.specs.declared.placed.PlacedEdge.{PlacedEdge}
 use Rattle.pair_scan.specs.declared.placed.PlacedFace.{PlacedFace}
 use Rattle.pair_scan.specs.Boxes.{HoldsEdge, AreBoxes}

@@ -12,7 +12,7 @@ use Rattle.std.specs.FinMap.{get-entries, entries_sorted, get-insert}
 use Rattle.std.proofs.lemmas.Bool.{false≢true, eq-eqb, eqb-true, or_left, or_right, or_cases, cases_order, cases_lt, ne_eqb}
 use Rattle.std.proofs.lemmas.Option.{slice_get_cases, slice_get_within}
 use Rattle.std.proofs.lemmas.Map.Made.{is_some-lookup}
-use Rattle.cell_grid.specs.declared.Extent.{Extent}
+use Rattle.grid_base.specs.declared.Extent.{Extent}
 use Rattle.cell_grid.specs.Filed.{has}
 use Rattle.cell_grid.proofs.Found.{both_ways}
 use Rattle.cell_grid.proofs.Listed.{find_is_lookup, same_rising}

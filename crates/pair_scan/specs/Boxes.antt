@@ -3,8 +3,8 @@ use Rattle.std.specs.Prelude.{◌≡◌, ℕ, ◌≤◌, List, length, Some, Non
 use Rattle.std.specs.Ordering.{nat_cmp}
 use Rattle.std.specs.FinMap as finite
 use Rattle.grid_base.specs.Points.{position_of}
-use Rattle.cell_grid.specs.declared.Extent.{Extent}
-use Rattle.cell_grid.specs.Extents.{IsIn}
+use Rattle.grid_base.specs.declared.Extent.{Extent}
+use Rattle.grid_base.specs.Extents.{IsIn}
 use Rattle.pair_scan.specs.declared.placed.PlacedEdge.{PlacedEdge}
 use Rattle.pair_scan.specs.declared.placed.PlacedFace.{PlacedFace}
 

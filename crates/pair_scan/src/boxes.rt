@@ -2,7 +2,7 @@
 ghost use Rattle.std.specs.Prelude.{◌≡◌, ◌<◌, ◌≤◌, ◌≤ℤ◌, unsigned_abs, IfOk};
 ghost use Rattle.grid_base.specs.declared.TheConstants.{EXTENT_MAX};
 ghost use Rattle.grid_base.specs.Triples.{Triple, IsWithin};
-ghost use Rattle.cell_grid.specs.Extents.{IsIn};
+ghost use Rattle.grid_base.specs.Extents.{IsIn};
 ghost use Rattle.pair_scan.specs.Under.{IsUnder};
 ghost use Rattle.pair_scan.specs.Boxes.{HoldsEdge, HoldsFace, AreBoxes};
 

@@ -3,6 +3,16 @@ use grid_base::{Items, Shift};
 /// What one line of a step text asks for.
 #[derive(Clone, Copy, Debug, PartialEq, Eq)]
 pub enum Directive {
+    /// Test motions to this depth of time halving from here on.
+    SetDepth(u8),
+    /// Try so many impulse passes in each step from here on.
+    SetPasses(u8),
+    /// Whether impact zones are tried in each step from here on.
+    SetZones(bool),
+    /// Try so many halvings of the asked shifts in each step from here on.
+    SetHalvings(u8),
+    /// Add the shift to the asked shift of one vertex.
+    ShiftOne { v: u32, by: Shift },
     /// Add the shift to the asked shift of every live vertex.
     ShiftAll { by: Shift },
     /// Take the asked shifts.

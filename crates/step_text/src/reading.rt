@@ -7,8 +7,11 @@ ghost use Rattle.line_text.specs.Remaining.{words_left};
 ghost use Rattle.step_text.specs.Steps as spec;
 
 use crate::directive::{Directive, Directives, Placed};
-use grid_base::{SHIFT_MAX, Shift};
-use line_text::{Lines, ReadFault, TextFault, TextWhy, Words, count_is, is_word, signed_at, words};
+use crate::{PASSES_TAKEN, ZONES_TAKEN};
+use grid_base::{DEPTH_MAX, HALVINGS_MAX, ID_MAX, SHIFT_MAX, Shift};
+use line_text::{
+    Lines, ReadFault, TextFault, TextWhy, Words, count_is, is_word, number_at, signed_at, words,
+};
 use std::alloc::Global;
 
 fn shift_with(x: i32, y: i32, z: i32) -> Shift
@@ -18,32 +21,72 @@ fn shift_with(x: i32, y: i32, z: i32) -> Shift
     Shift { x, y, z }
 }
 
-#[tactic(auto, unfolding(crate::specs::Steps::shift_all_of))]
-fn shift_all(words: Words<'_>) -> Result<Directive, TextWhy>
-    ensures { result ≡ spec.shift_all_of (words_left words.entry) }
+#[tactic(auto, unfolding(crate::specs::Steps::set_of))]
+fn set(words: Words<'_>) -> Result<Directive, TextWhy>
+    ensures { result ≡ spec.set_of (words_left words.entry) }
 {
     let mut words = words;
-    count_is(3, words)?;
+    let Some(name) = words.next() else {
+        return Err(TextWhy::Short);
+    };
+    if is_word(name, b"depth") {
+        count_is(1, words)?;
+        let depth = number_at(&mut words, 0, u32::from(DEPTH_MAX))?;
+        return Ok(Directive::SetDepth(depth as u8));
+    }
+    if is_word(name, b"passes") {
+        count_is(1, words)?;
+        let passes = number_at(&mut words, 0, PASSES_TAKEN)?;
+        return Ok(Directive::SetPasses(passes as u8));
+    }
+    if is_word(name, b"zones") {
+        count_is(1, words)?;
+        let zones = number_at(&mut words, 0, ZONES_TAKEN)?;
+        return Ok(Directive::SetZones(zones == 1));
+    }
+    if is_word(name, b"halvings") {
+        count_is(1, words)?;
+        let halvings = number_at(&mut words, 0, u32::from(HALVINGS_MAX))?;
+        return Ok(Directive::SetHalvings(halvings as u8));
+    }
+    Err(TextWhy::Unknown)
+}
+
+#[tactic(auto, unfolding(crate::specs::Steps::shift_at))]
+fn shift_at(words: Words<'_>) -> Result<Shift, TextWhy>
+    ensures { result ≡ spec.shift_at (words_left words.entry) }
+{
+    let mut words = words;
     let x = signed_at(&mut words, SHIFT_MAX)?;
     let y = signed_at(&mut words, SHIFT_MAX)?;
     let z = signed_at(&mut words, SHIFT_MAX)?;
-    Ok(Directive::ShiftAll {
-        by: shift_with(x, y, z),
-    })
+    Ok(shift_with(x, y, z))
+}
+
+#[tactic(auto, unfolding(crate::specs::Steps::shift_one_of))]
+fn shift_one(words: Words<'_>) -> Result<Directive, TextWhy>
+    ensures { result ≡ spec.shift_one_of (words_left words.entry) }
+{
+    let mut words = words;
+    let v = number_at(&mut words, 1, ID_MAX)?;
+    let by = shift_at(words)?;
+    Ok(Directive::ShiftOne { v, by })
 }
 
 #[tactic(auto, unfolding(crate::specs::Steps::shift_of))]
 fn shift(words: Words<'_>) -> Result<Directive, TextWhy>
     ensures { result ≡ spec.shift_of (words_left words.entry) }
 {
-    let mut words = words;
-    let Some(who) = words.next() else {
+    let mut behind = words;
+    let Some(who) = behind.next() else {
         return Err(TextWhy::Short);
     };
+    count_is(3, behind)?;
     if is_word(who, b"all") {
-        return shift_all(words);
+        let by = shift_at(behind)?;
+        return Ok(Directive::ShiftAll { by });
     }
-    Err(TextWhy::Unknown)
+    shift_one(words)
 }
 
 #[tactic(auto, unfolding(crate::specs::Steps::alone))]
@@ -58,6 +101,9 @@ fn alone(directive: Directive, words: Words<'_>) -> Result<Directive, TextWhy>
 fn directive(first: &[u8], words: Words<'_>) -> Result<Directive, TextWhy>
     ensures { result ≡ spec.directive_of first.now (words_left words.entry) }
 {
+    if is_word(first, b"set") {
+        return set(words);
+    }
     if is_word(first, b"shift") {
         return shift(words);
     }
@@ -85,10 +131,7 @@ fn add_words(directives: &mut Directives, words: Words<'_>, line: u32) -> Result
             directives.push(Placed { line, what })?;
             Ok(())
         }
-        Err(_) => Err(ReadFault::Text(TextFault {
-            line,
-            why: TextWhy::Unknown,
-        })),
+        Err(why) => Err(ReadFault::Text(TextFault { line, why })),
     }
 }
 

@@ -7,44 +7,60 @@ use line_text::{ReadFault, TextFault, TextWhy};
 use std::test::Fail;
 
 #[test]
-fn one_step_is_read(rt: HostRuntime) -> Result<(), Fail> {
-    let found = read_steps(rt.alloc(), b"shift all 1 2 3\nstep\nsave\n")?;
+fn each_form_is_read(rt: HostRuntime) -> Result<(), Fail> {
+    let by = Shift::new(-40, 0, 7).ok_or("a shift")?;
+    let text =
+        b"set depth 0\nset passes 0\nset zones 0\n\n# slower\r\nset halvings 27\n\tshift all -40 0 7 # all\nshift 2147483648 -40 -0 07\nstep\nsave";
+    let found = read_steps(rt.alloc(), text)?;
     let want = [
-        Placed {
-            line: 1,
-            what: Directive::ShiftAll {
-                by: Shift::new(1, 2, 3).ok_or("a shift")?,
+        (1, Directive::SetDepth(0)),
+        (2, Directive::SetPasses(0)),
+        (3, Directive::SetZones(false)),
+        (6, Directive::SetHalvings(27)),
+        (7, Directive::ShiftAll { by }),
+        (
+            8,
+            Directive::ShiftOne {
+                v: 2_147_483_648,
+                by,
             },
-        },
-        Placed {
-            line: 2,
-            what: Directive::Step,
-        },
-        Placed {
-            line: 3,
-            what: Directive::Save,
-        },
+        ),
+        (9, Directive::Step),
+        (10, Directive::Save),
     ];
-    assert_eq!(rt; found.as_slice(), want.as_slice());
+    assert_eq!(rt; found.len(), want.len());
+    for (found, (line, what)) in found.as_slice().iter().zip(want) {
+        assert_eq!(rt; *found, Placed { line, what });
+    }
     Ok(())
 }
 
-// The faults stand in the third line, behind a directive and a line without words.
 #[test]
-fn other_lines_are_unknown(rt: HostRuntime) -> Result<(), Fail> {
-    let texts: [&[u8]; 5] = [
-        b"step\n\nshift al",
-        b"step\n\t# step\nshift all 1 2\n",
-        b"step\r\n\r\nsave now\r\n",
-        b"step\n\njump\n",
-        b"step\n\nshift all 0 0 134217729\n",
+fn each_reason_is_told(rt: HostRuntime) -> Result<(), Fail> {
+    let cases: [(&[u8], TextWhy); 19] = [
+        (b"set", TextWhy::Short),
+        (b"set speed", TextWhy::Unknown),
+        (b"set depth", TextWhy::Short),
+        (b"set depth 1 2", TextWhy::Long),
+        (b"set depth 13", TextWhy::Range),
+        (b"set halvings 28", TextWhy::Range),
+        (b"set passes 1", TextWhy::Range),
+        (b"set zones 1", TextWhy::Range),
+        (b"shift all 1 2", TextWhy::Short),
+        (b"shift all 1 2 3 4", TextWhy::Long),
+        (b"shift every 1 2 3", TextWhy::Number),
+        (b"shift 0 1 1 1", TextWhy::Range),
+        (b"shift 0 x 1 1", TextWhy::Range),
+        (b"shift 1 x 1 999999999", TextWhy::Number),
+        (b"shift 1 0 0 134217729", TextWhy::Range),
+        (b"save now", TextWhy::Long),
+        (b"jump", TextWhy::Unknown),
+        (b"split x", TextWhy::Unknown),
+        (b"drive", TextWhy::Unknown),
     ];
-    for text in texts {
+    for (text, why) in cases {
         assert!(rt; text.len() < 100);
-        let fault = TextFault {
-            line: 3,
-            why: TextWhy::Unknown,
-        };
+        let fault = TextFault { line: 1, why };
         assert_eq!(rt;
             read_steps(rt.alloc(), text).err(),
             Some(ReadFault::Text(fault))

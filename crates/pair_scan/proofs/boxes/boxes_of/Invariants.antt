@@ -1,7 +1,7 @@
 use Rattle.std.proofs.Common.{◌≡◌, ℕ, ◌<◌, ◌≤◌, Some, None}
 use Rattle.std.specs.Prelude.{slice_get}
 use Rattle.std.specs.FinMap as map
-use Rattle.cell_grid.specs.declared.Extent.{Extent}
+use Rattle.grid_base.specs.declared.Extent.{Extent}
 use Rattle.pair_scan.specs.declared.placed.PlacedFace.{PlacedFace}
 use Rattle.pair_scan.specs.Boxes.{HoldsFace}
 use Rattle.pair_scan.proofs.boxes.boxes_of.Given as goal

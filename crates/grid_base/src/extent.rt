@@ -1,7 +1,7 @@
 ghost use Rattle.std.specs.Prelude.{◌≡◌};
-ghost use Rattle.cell_grid.specs.Ordered.{AreOrdered};
+ghost use Rattle.grid_base.specs.Ordered.{AreOrdered};
 
-use grid_base::Wide;
+use crate::Wide;
 
 /// A box along the axes, from its least corner to its greatest, both of which belong to it. Each of its sides may have
 /// length zero, and its coordinates are at most `EXTENT_MAX` in size.
@@ -15,7 +15,7 @@ pub struct Extent {
 }
 
 impl Extent {
-    ghost use Rattle.cell_grid.specs.Extents.{overlaps};
+    ghost use Rattle.grid_base.specs.Extents.{overlaps};
 
     /// Whether the two have a common point.
     pub fn overlaps(&self, other: &Extent) -> bool

@@ -3,8 +3,8 @@ use Rattle.std.proofs.Common.{◌≡◌, ◌≤◌, ◌∙◌, refl, Bool, true,
 use Rattle.std.specs.Int.{w128}
 use Rattle.std.proofs.lemmas.Int.{ints, to_z-of_z}
 use Rattle.grid_base.specs.declared.TheConstants.{EXTENT_MAX}
-use Rattle.cell_grid.specs.Extents.{meet_along, overlaps}
-use Rattle.cell_grid.specs.declared.extent.Extent.{Extent}
+use Rattle.grid_base.specs.Extents.{meet_along, overlaps}
+use Rattle.grid_base.specs.declared.extent.Extent.{Extent}
 
 pub fits : (z : ℤ) → unsigned_abs z ≤ EXTENT_MAX → SFits w128 z
 fits z h = omega (arith, ints)

@@ -1,12 +1,12 @@
 use Rattle.std.proofs.Common.{rules, FitsSigned, w32}
 use Rattle.std.proofs.lemmas.Int.{to_z-of_z}
-use Rattle.step_text.specs.Steps.{shift_all_of}
-use Rattle.step_text.proofs.reading.shift_all.Goals as goal
+use Rattle.log_text.specs.Reading.{shift_of_at}
+use Rattle.log_text.proofs.values.shift_of_at.Goals as goal
 
 pub returns : goal.returns
-unfolding shift_all_of
+unfolding shift_of_at
 returns c =
     let x : FitsSigned w32 c.in_ok-x.x = search rules in
     let y : FitsSigned w32 c.in_ok-y.y = search rules in
     let z : FitsSigned w32 c.in_ok-z.z = search rules in
-    rw (c.shift_with.ensures, ← c.in_ok-count_is.ensures, c.in_ok-x.ensures.value, c.in_ok-y.ensures.value, c.in_ok-z.ensures.value) (simp to_z-of_z)
+    rw (c.in_ok-v.ensures.value, c.in_ok-x.ensures.value, c.in_ok-y.ensures.value, c.in_ok-z.ensures.value, c.shift_with.ensures) (simp to_z-of_z)

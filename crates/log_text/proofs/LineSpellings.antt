@@ -1,0 +1,343 @@
+-- Each line is read exactly from its words.
+use Rattle.std.proofs.Common.{◌≡◌, ℕ, ◌<◌, ◌≤◌, ◌^◌, Bool, true, false, List, [], ◌∷◌, ◌++◌, length, Option, Some, None, Result, Ok, Err, refl, sym, ap, subst, ◌∙◌, arith, lit<}
+use Rattle.std.specs.Prelude.{decimal, codes, if◌then◌else◌}
+use Rattle.grid_base.specs.declared.TheConstants.{VERTICES_MAX, FACES_MAX, ID_MAX, HALVINGS_MAX}
+use Rattle.line_text.specs.declared.TextWhy.{TextWhy}
+use Rattle.line_text.specs.declared.TextWhy.TheVariants as why
+use Rattle.line_text.specs.declared.TextFault.{TextFault}
+use Rattle.line_text.specs.Faults.{◌>>=◌}
+use Rattle.mesh_base.specs.declared.FileWord.{FileWord}
+use Rattle.mesh_base.specs.declared.How.{How}
+use Rattle.mesh_base.specs.declared.How.TheVariants.{Whole, Impulse, Zones, Halved, Zero}
+use Rattle.mesh_base.specs.declared.PairName.{PairName}
+use Rattle.mesh_base.specs.declared.ShapeFault.{ShapeFault}
+use Rattle.mesh_base.specs.declared.ShapeFault.TheVariants as shape
+use Rattle.mesh_base.specs.declared.UseWhy.{UseWhy}
+use Rattle.mesh_base.specs.declared.UseWhy.TheVariants as using
+use Rattle.log_text.specs.declared.TheConstants.{COUNT_MAX, SEEN_MAX, CORNER_MAX, PASSES_MAX, ROUNDS_MAX}
+use Rattle.log_text.specs.declared.log_line.LogLine.{LogLine}
+use Rattle.log_text.specs.declared.log_line.LogLine.TheVariants as line
+use Rattle.log_text.specs.declared.log_line.Refusal.{Refusal}
+use Rattle.log_text.specs.declared.log_line.Refusal.TheVariants as refusal
+use Rattle.line_text.specs.Spellings.{spelled_number, spelled_from, spelled_at, count_with_end}
+use Rattle.log_text.specs.Fields.{Reader, both}
+use Rattle.log_text.specs.Lines.{line_words, file_word, pair_words, how_words, shape_words, use_words, refusal_words}
+use Rattle.log_text.specs.Reading.{whole, alone, first_of, mesh_of, step_of, hit_of, move_of, moved_of, or_unknown, file_of, refused, long_of, missing_of, shape_of, use_numbers, use_of, refused_of, line_of, pair_at, shift_of_at, fault_at}
+use Rattle.log_text.specs.Laws.{IsFrom, IsPairInRange, IsUseInRange, IsInRange, IsOfVersion}
+use Rattle.log_text.proofs.Steps.{bound, ok_same, picked, fault_value}
+use Rattle.log_text.proofs.Exactness.{IsExact, count_with_end-length, count_with_end-back, whole-forth, whole-back, spelled_at-exact, word_number-decimal, word_number-some}
+use Rattle.log_text.proofs.Spellings.{two_numbers, three_numbers, pair_at-exact, shift_of_at-exact, shift_of_words, fault_at-exact, fault_words, file_of-word, file_of-some}
+
+-- the words are those of a line in range, and LF stands behind them
+pub record IsSpelling (version : ℕ) (ended : Bool) (words : List (List ℕ)) (l : LogLine) : Type 0 where
+  pub has_end : ended ≡ true
+  pub same : line_words l ≡ words
+  pub fits : IsInRange l
+  pub of_version : IsOfVersion version l
+
+-- a line that is made of the value that its last words give
+abbrev Makes : {A : Type 0} → ℕ → List (List ℕ) → (A → List (List ℕ)) → (A → Type 0) → (A → LogLine) → Type 0
+Makes {A} version front wa R make = (a : A) → R a → (line_words (make a) ≡ front ++ wa a) × IsInRange (make a) × IsOfVersion version (make a)
+
+module _ {A : Type 0} (read : Reader A) (wa : A → List (List ℕ)) (R : A → Type 0) (f : IsExact read wa R) (count : ℕ) (long : (a : A) → length (wa a) ≡ count) (make : A → LogLine) where
+  pub again : (a : A) → R a → (whole true count read (wa a) >>= λ a. Ok (make a)) ≡ Ok (make a)
+  again a r = ap (λ (found : Result A TextWhy). found >>= λ a. Ok (make a)) (whole-forth read wa R f count long a r)
+
+  pub spelled : (version : ℕ) (front : List (List ℕ)) → Makes version front wa R make → (ended : Bool) (words : List (List ℕ)) (l : LogLine) → (whole ended count read words >>= λ a. Ok (make a)) ≡ Ok l → IsSpelling version ended (front ++ words) l
+  spelled version front makes ended words l h =
+      let b = bound (whole ended count read words) (λ (a : A). Ok (make a)) l h in
+      let w = whole-back read wa R f count long ended words b.value b.first in
+      let m = makes b.value w.2 in
+      let here : IsSpelling version ended (front ++ words) (make b.value) = record { has_end = w.0; same = m.0 ∙ ap (λ (t : List (List ℕ)). front ++ t) (sym w.1); fits = m.1; of_version = m.2 } in
+      subst (IsSpelling version ended (front ++ words)) (ok_same (make b.value) l b.after) here
+
+-- a line with no further word
+alone_again : (l : LogLine) → alone true l [] ≡ Ok l
+alone_again l = ap (λ (found : Result (Unit {0}) TextWhy). found >>= λ u. Ok l) (count_with_end-length 0 [] refl)
+
+alone_spelled : (version : ℕ) (front : List (List ℕ)) (ended : Bool) (k : LogLine) (words : List (List ℕ)) (l : LogLine) → line_words k ≡ front ++ [] → IsInRange k → IsOfVersion version k → alone ended k words ≡ Ok l → IsSpelling version ended (front ++ words) l
+alone_spelled version front ended k words l same range of h =
+    let b = bound (count_with_end ended 0 words) (λ (u : Unit {0}). Ok k) l h in
+    let n = count_with_end-back ended 0 words b.value b.first in
+    let here : IsSpelling version ended (front ++ words) k = record { has_end = n.0; same = same ∙ ap (λ (t : List (List ℕ)). front ++ t) (sym (none words n.1)); fits = range; of_version = of } in
+    subst (IsSpelling version ended (front ++ words)) (ok_same k l b.after) here
+  where
+    none : (words : List (List ℕ)) → length words ≡ 0 → words ≡ []
+    none [] e = refl
+    none (w ∷ ws) e = absurd (omega (arith, e))
+
+abbrev one : ℕ → List (List ℕ)
+one n = decimal n ∷ []
+
+number_of : (low high : ℕ) → high < 2 ^ 64 → IsExact (spelled_at low high) one (IsFrom low high)
+number_of low high small = spelled_at-exact low high small
+
+one_long : (n : ℕ) → length (one n) ≡ 1
+one_long n = refl
+
+-- a line with one number
+one_again : (low high : ℕ) → high < 2 ^ 64 → (make : ℕ → LogLine) (n : ℕ) → IsFrom low high n → (whole true 1 (spelled_at low high) (decimal n ∷ []) >>= λ n. Ok (make n)) ≡ Ok (make n)
+one_again low high small make n r = again (spelled_at low high) one (IsFrom low high) (number_of low high small) 1 one_long make n r
+
+one_spelled : (version low high : ℕ) → high < 2 ^ 64 → (make : ℕ → LogLine) (front : List (List ℕ)) → Makes version front one (IsFrom low high) make → (ended : Bool) (words : List (List ℕ)) (l : LogLine) → (whole ended 1 (spelled_at low high) words >>= λ n. Ok (make n)) ≡ Ok l → IsSpelling version ended (front ++ words) l
+one_spelled version low high small make front makes ended words l h = spelled (spelled_at low high) one (IsFrom low high) (number_of low high small) 1 one_long make version front makes ended words l h
+
+-- a line with two numbers
+abbrev Two : Type 0
+Two = ℕ × ℕ
+
+abbrev two : Two → List (List ℕ)
+two p = decimal p.0 ∷ decimal p.1 ∷ []
+
+abbrev AreFrom : ℕ → ℕ → ℕ → ℕ → Two → Type 0
+AreFrom a b c d p = IsFrom a b p.0 × IsFrom c d p.1
+
+two_again : (a b c d : ℕ) → b < 2 ^ 64 → d < 2 ^ 64 → (make : Two → LogLine) (p : Two) → AreFrom a b c d p → (whole true 2 (both (spelled_at a b) (spelled_at c d)) (two p) >>= λ p. Ok (make p)) ≡ Ok (make p)
+two_again a b c d x y make p r = again (both (spelled_at a b) (spelled_at c d)) two (AreFrom a b c d) (two_numbers a b c d x y) 2 (λ p. refl) make p r
+
+two_spelled : (version a b c d : ℕ) → b < 2 ^ 64 → d < 2 ^ 64 → (make : Two → LogLine) (front : List (List ℕ)) → Makes version front two (AreFrom a b c d) make → (ended : Bool) (words : List (List ℕ)) (l : LogLine) → (whole ended 2 (both (spelled_at a b) (spelled_at c d)) words >>= λ p. Ok (make p)) ≡ Ok l → IsSpelling version ended (front ++ words) l
+two_spelled version a b c d x y make front makes ended words l h = spelled (both (spelled_at a b) (spelled_at c d)) two (AreFrom a b c d) (two_numbers a b c d x y) 2 (λ p. refl) make version front makes ended words l h
+
+-- lines with a pair, and with a fault
+pair_again : (make : PairName → LogLine) (p : PairName) → IsPairInRange p → (whole true 3 pair_at (pair_words p) >>= λ p. Ok (make p)) ≡ Ok (make p)
+pair_again make p r = again pair_at pair_words IsPairInRange pair_at-exact 3 (λ p. refl) make p r
+
+pair_spelled : (version : ℕ) (make : PairName → LogLine) (front : List (List ℕ)) → Makes version front pair_words IsPairInRange make → (ended : Bool) (words : List (List ℕ)) (l : LogLine) → (whole ended 3 pair_at words >>= λ p. Ok (make p)) ≡ Ok l → IsSpelling version ended (front ++ words) l
+pair_spelled version make front makes ended words l h = spelled pair_at pair_words IsPairInRange pair_at-exact 3 (λ p. refl) make version front makes ended words l h
+
+abbrev FaultFits : TextFault → Type 0
+FaultFits f = IsFrom 1 COUNT_MAX f.line
+
+fault_again : (make : TextFault → LogLine) (f : TextFault) → FaultFits f → (whole true 2 fault_at (fault_words f) >>= λ f. Ok (make f)) ≡ Ok (make f)
+fault_again make f r = again fault_at fault_words FaultFits fault_at-exact 2 (λ p. refl) make f r
+
+fault_spelled : (version : ℕ) (make : TextFault → LogLine) (front : List (List ℕ)) → Makes version front fault_words FaultFits make → (ended : Bool) (words : List (List ℕ)) (l : LogLine) → (whole ended 2 fault_at words >>= λ f. Ok (make f)) ≡ Ok l → IsSpelling version ended (front ++ words) l
+fault_spelled version make front makes ended words l h = spelled fault_at fault_words FaultFits fault_at-exact 2 (λ p. refl) make version front makes ended words l h
+
+-- ---- what is printed is read
+
+use_again : (make : ℕ → UseWhy) (at v : ℕ) → IsFrom 1 COUNT_MAX at → IsFrom 1 ID_MAX v → (use_numbers true (decimal at) (decimal v ∷ []) >>= λ n. refused (refusal.StepUse n.0 (make n.1))) ≡ Ok (line.Refused (refusal.StepUse at (make v)))
+unfolding use_numbers
+use_again make at v a b =
+    let c = count_with_end-length 1 (decimal v ∷ []) refl in
+    let n = word_number-decimal 1 COUNT_MAX at a.0 a.1 (lit< tt) in
+    let m = (number_of 1 ID_MAX (lit< tt)).forth v [] b in
+    rw (c, n, m) refl
+
+moved_again : (how : How) → IsInRange (line.Moved how) → moved_of true (how_words how) ≡ Ok (line.Moved how)
+unfolding moved_of
+moved_again Whole r = alone_again (line.Moved Whole)
+moved_again (Impulse n) r = one_again 1 PASSES_MAX (lit< tt) (λ n. line.Moved (Impulse n)) n r
+moved_again (Zones n) r = one_again 1 ROUNDS_MAX (lit< tt) (λ n. line.Moved (Zones n)) n r
+moved_again (Halved n) r = one_again 1 HALVINGS_MAX (lit< tt) (λ n. line.Moved (Halved n)) n r
+moved_again Zero r = alone_again (line.Moved Zero)
+
+shape_again : (fault : ShapeFault) → IsInRange (line.Refused (refusal.Shape fault)) → shape_of true (shape_words fault) ≡ Ok (line.Refused (refusal.Shape fault))
+unfolding shape_of
+shape_again (shape.TooManyVertices n) r = one_again 0 SEEN_MAX (lit< tt) (λ n. line.Refused (refusal.Shape (shape.TooManyVertices n))) n (omega arith, r)
+shape_again (shape.TooManyFaces n) r = one_again 0 SEEN_MAX (lit< tt) (λ n. line.Refused (refusal.Shape (shape.TooManyFaces n))) n (omega arith, r)
+shape_again (shape.NoVertex face corner) r = two_again 1 COUNT_MAX 1 CORNER_MAX (lit< tt) (lit< tt) (λ n. line.Refused (refusal.Shape (shape.NoVertex n.0 n.1))) (face, corner) r
+shape_again (shape.Repeated face) r = one_again 1 COUNT_MAX (lit< tt) (λ n. line.Refused (refusal.Shape (shape.Repeated n))) face r
+shape_again (shape.Doubled first second) r = two_again 1 COUNT_MAX 1 COUNT_MAX (lit< tt) (lit< tt) (λ n. line.Refused (refusal.Shape (shape.Doubled n.0 n.1))) (first, second) r
+shape_again (shape.Unbalanced from to) r = two_again 1 COUNT_MAX 1 COUNT_MAX (lit< tt) (lit< tt) (λ n. line.Refused (refusal.Shape (shape.Unbalanced n.0 n.1))) (from, to) r
+
+long_again : (name : FileWord) (seen : ℕ) → seen ≤ SEEN_MAX → long_of true (file_word name ∷ decimal seen ∷ []) ≡ Ok (line.Refused (refusal.Long name seen))
+unfolding long_of
+long_again name seen r = rw (file_of-word name) (one_again 0 SEEN_MAX (lit< tt) (λ n. line.Refused (refusal.Long name n)) seen (omega arith, r))
+
+missing_again : (name : FileWord) → missing_of true (file_word name ∷ []) ≡ Ok (line.Refused (refusal.Missing name))
+unfolding missing_of
+missing_again name = rw (file_of-word name) (alone_again (line.Refused (refusal.Missing name)))
+
+used_again : (at : ℕ) (w : UseWhy) → IsInRange (line.Refused (refusal.StepUse at w)) → use_of true (decimal at ∷ use_words w) ≡ Ok (line.Refused (refusal.StepUse at w))
+unfolding use_of
+used_again at (using.NoVertex v) r = use_again using.NoVertex at v r.0 r.1
+used_again at (using.ShiftRange v) r = use_again using.ShiftRange at v r.0 r.1
+used_again at (using.Box v) r = use_again using.Box at v r.0 r.1
+
+refused_again : (w : Refusal) → IsInRange (line.Refused w) → refused_of true (refusal_words w) ≡ Ok (line.Refused w)
+unfolding refused_of
+refused_again (refusal.Long name seen) r = long_again name seen r
+refused_again (refusal.Missing name) r = missing_again name
+refused_again (refusal.Mesh fault) r = fault_again (λ f. line.Refused (refusal.Mesh f)) fault r
+refused_again (refusal.Shape fault) r = shape_again fault r
+refused_again (refusal.Meets pair) r = pair_again (λ p. line.Refused (refusal.Meets p)) pair r
+refused_again (refusal.Steps fault) r = fault_again (λ f. line.Refused (refusal.Steps f)) fault r
+refused_again (refusal.StepUse at w) r = used_again at w r
+
+abbrev Three : Type 0
+Three = ℕ × (ℕ × ℕ)
+
+abbrev three : Three → List (List ℕ)
+three p = decimal p.0 ∷ decimal p.1.0 ∷ decimal p.1.1 ∷ []
+
+abbrev MeshFits : Three → Type 0
+MeshFits p = IsFrom 0 COUNT_MAX p.0 × (IsFrom 0 VERTICES_MAX p.1.0 × IsFrom 0 FACES_MAX p.1.1)
+
+abbrev mesh_reader : Reader Three
+mesh_reader = both (spelled_at 0 COUNT_MAX) (both (spelled_at 0 VERTICES_MAX) (spelled_at 0 FACES_MAX))
+
+mesh_exact : IsExact mesh_reader three MeshFits
+mesh_exact = three_numbers 0 COUNT_MAX 0 VERTICES_MAX 0 FACES_MAX (lit< tt) (lit< tt) (lit< tt)
+
+abbrev mesh_made : Three → LogLine
+mesh_made p = line.Mesh p.0 p.1.0 p.1.1
+
+mesh_again : (k v f : ℕ) → IsInRange (line.Mesh k v f) → mesh_of true (decimal k ∷ decimal v ∷ decimal f ∷ []) ≡ Ok (line.Mesh k v f)
+unfolding mesh_of
+mesh_again k v f r = again mesh_reader three MeshFits mesh_exact 3 (λ p. refl) mesh_made (k, (v, f)) ((omega arith, r.0), ((omega arith, r.1), (omega arith, r.2)))
+
+-- the words of a line in range are read as the line
+pub printed_is_read : (version : ℕ) → version < 2 ^ 8 → (l : LogLine) → IsInRange l → IsOfVersion version l → line_of version true (line_words l) ≡ Ok l
+unfolding line_of first_of step_of hit_of move_of
+printed_is_read version small (line.First v) r e = one_again version version (omega arith) line.First v (omega (arith, e), omega (arith, e))
+printed_is_read version small (line.Mesh k v f) r e = mesh_again k v f r
+printed_is_read version small (line.Step k) r e = one_again 1 COUNT_MAX (lit< tt) line.Step k r
+printed_is_read version small (line.Hit pair) r e = pair_again line.Hit pair r
+printed_is_read version small (line.Move s) r e = again shift_of_at shift_of_words (λ s. IsFrom 1 ID_MAX s.v) shift_of_at-exact 4 (λ s. refl) line.Move s r
+printed_is_read version small (line.Moved how) r e = moved_again how r
+printed_is_read version small (line.Refused w) r e = refused_again w r
+printed_is_read version small line.End r e = alone_again line.End
+
+-- ---- what is read is spelled so
+
+first_back : (version : ℕ) → version < 2 ^ 8 → (ended : Bool) (words : List (List ℕ)) (l : LogLine) → first_of version ended words ≡ Ok l → IsSpelling version ended (codes "topo" ∷ words) l
+unfolding first_of
+first_back version small ended [] l h = fault_value why.Short l h
+first_back version small ended (name ∷ words) l h = picked (λ w. IsSpelling version ended (codes "topo" ∷ w ∷ words) l) name (codes "log") _ _ (Ok l) (one_spelled version version version (omega (arith, small)) line.First (codes "topo" ∷ codes "log" ∷ []) (λ v r. (refl, tt, omega (arith, r))) ended words l) (fault_value why.Unknown l) h
+
+moved_back : (version : ℕ) (ended : Bool) (words : List (List ℕ)) (l : LogLine) → moved_of ended words ≡ Ok l → IsSpelling version ended (codes "moved" ∷ words) l
+unfolding moved_of
+moved_back version ended [] l h = fault_value why.Short l h
+moved_back version ended (how ∷ words) l h =
+    let P : List ℕ → Type 0 = λ w. IsSpelling version ended (codes "moved" ∷ w ∷ words) l in
+    picked P how (codes "whole") _ _ (Ok l) (alone_spelled version (codes "moved" ∷ codes "whole" ∷ []) ended (line.Moved Whole) words l refl tt tt)
+    (picked P how (codes "impulse") _ _ (Ok l) (one_spelled version 1 PASSES_MAX (lit< tt) (λ n. line.Moved (Impulse n)) (codes "moved" ∷ codes "impulse" ∷ []) (λ n r. (refl, r, tt)) ended words l)
+    (picked P how (codes "zones") _ _ (Ok l) (one_spelled version 1 ROUNDS_MAX (lit< tt) (λ n. line.Moved (Zones n)) (codes "moved" ∷ codes "zones" ∷ []) (λ n r. (refl, r, tt)) ended words l)
+    (picked P how (codes "halved") _ _ (Ok l) (one_spelled version 1 HALVINGS_MAX (lit< tt) (λ n. line.Moved (Halved n)) (codes "moved" ∷ codes "halved" ∷ []) (λ n r. (refl, r, tt)) ended words l)
+    (picked P how (codes "zero") _ _ (Ok l) (alone_spelled version (codes "moved" ∷ codes "zero" ∷ []) ended (line.Moved Zero) words l refl tt tt)
+    (fault_value why.Unknown l)))))
+    h
+
+or_unknown-some : {A : Type 0} (o : Option A) (a : A) → or_unknown o ≡ Ok a → o ≡ Some a
+or_unknown-some None a h = fault_value why.Unknown a h
+or_unknown-some (Some b) a h = ap Some (ok_same b a h)
+
+long_back : (version : ℕ) (ended : Bool) (words : List (List ℕ)) (l : LogLine) → long_of ended words ≡ Ok l → IsSpelling version ended (codes "refused" ∷ codes "long" ∷ words) l
+unfolding long_of
+long_back version ended [] l h = fault_value why.Short l h
+long_back version ended (word ∷ words) l h =
+    let b = bound (or_unknown (file_of word)) (λ (name : FileWord). whole ended 1 (spelled_at 0 SEEN_MAX) words >>= λ seen. refused (refusal.Long name seen)) l h in
+    let same : word ≡ file_word b.value = file_of-some word b.value (or_unknown-some (file_of word) b.value b.first) in
+    subst (λ (w : List ℕ). IsSpelling version ended (codes "refused" ∷ codes "long" ∷ w ∷ words) l) (sym same)
+    (one_spelled version 0 SEEN_MAX (lit< tt) (λ n. line.Refused (refusal.Long b.value n)) (codes "refused" ∷ codes "long" ∷ file_word b.value ∷ []) (λ n r. (refl, r.1, tt)) ended words l b.after)
+
+missing_back : (version : ℕ) (ended : Bool) (words : List (List ℕ)) (l : LogLine) → missing_of ended words ≡ Ok l → IsSpelling version ended (codes "refused" ∷ codes "missing" ∷ words) l
+unfolding missing_of
+missing_back version ended [] l h = fault_value why.Short l h
+missing_back version ended (word ∷ words) l h =
+    let b = bound (or_unknown (file_of word)) (λ (name : FileWord). alone ended (line.Refused (refusal.Missing name)) words) l h in
+    let same : word ≡ file_word b.value = file_of-some word b.value (or_unknown-some (file_of word) b.value b.first) in
+    subst (λ (w : List ℕ). IsSpelling version ended (codes "refused" ∷ codes "missing" ∷ w ∷ words) l) (sym same)
+    (alone_spelled version (codes "refused" ∷ codes "missing" ∷ file_word b.value ∷ []) ended (line.Refused (refusal.Missing b.value)) words l refl tt tt b.after)
+
+shape_back : (version : ℕ) (ended : Bool) (words : List (List ℕ)) (l : LogLine) → shape_of ended words ≡ Ok l → IsSpelling version ended (codes "refused" ∷ codes "shape" ∷ words) l
+unfolding shape_of
+shape_back version ended [] l h = fault_value why.Short l h
+shape_back version ended (word ∷ words) l h =
+    let P : List ℕ → Type 0 = λ w. IsSpelling version ended (codes "refused" ∷ codes "shape" ∷ w ∷ words) l in
+    let front : List ℕ → List (List ℕ) = λ w. codes "refused" ∷ codes "shape" ∷ w ∷ [] in
+    picked P word (codes "vertices") _ _ (Ok l) (one_spelled version 0 SEEN_MAX (lit< tt) (λ n. line.Refused (refusal.Shape (shape.TooManyVertices n))) (front (codes "vertices")) (λ n r. (refl, r.1, tt)) ended words l)
+    (picked P word (codes "faces") _ _ (Ok l) (one_spelled version 0 SEEN_MAX (lit< tt) (λ n. line.Refused (refusal.Shape (shape.TooManyFaces n))) (front (codes "faces")) (λ n r. (refl, r.1, tt)) ended words l)
+    (picked P word (codes "corner") _ _ (Ok l) (two_spelled version 1 COUNT_MAX 1 CORNER_MAX (lit< tt) (lit< tt) (λ n. line.Refused (refusal.Shape (shape.NoVertex n.0 n.1))) (front (codes "corner")) (λ n r. (refl, r, tt)) ended words l)
+    (picked P word (codes "repeated") _ _ (Ok l) (one_spelled version 1 COUNT_MAX (lit< tt) (λ n. line.Refused (refusal.Shape (shape.Repeated n))) (front (codes "repeated")) (λ n r. (refl, r, tt)) ended words l)
+    (picked P word (codes "doubled") _ _ (Ok l) (two_spelled version 1 COUNT_MAX 1 COUNT_MAX (lit< tt) (lit< tt) (λ n. line.Refused (refusal.Shape (shape.Doubled n.0 n.1))) (front (codes "doubled")) (λ n r. (refl, r, tt)) ended words l)
+    (picked P word (codes "unbalanced") _ _ (Ok l) (two_spelled version 1 COUNT_MAX 1 COUNT_MAX (lit< tt) (lit< tt) (λ n. line.Refused (refusal.Shape (shape.Unbalanced n.0 n.1))) (front (codes "unbalanced")) (λ n r. (refl, r, tt)) ended words l)
+    (fault_value why.Unknown l))))))
+    h
+
+-- the words of a refused directive, whose line's number stands before the reason
+record UseSpelled (ended : Bool) (at : List ℕ) (words : List (List ℕ)) (n : Two) : Type 0 where
+  has_end : ended ≡ true
+  at_is : at ≡ decimal n.0
+  words_are : words ≡ decimal n.1 ∷ []
+  at_fits : IsFrom 1 COUNT_MAX n.0
+  fits : IsFrom 1 ID_MAX n.1
+
+use_numbers-back : (ended : Bool) (at : List ℕ) (words : List (List ℕ)) (n : Two) → use_numbers ended at words ≡ Ok n → UseSpelled ended at words n
+unfolding use_numbers
+use_numbers-back ended at words n h =
+    let c = bound (count_with_end ended 1 words) (λ (u : Unit {0}). spelled_from 1 COUNT_MAX (spelled_number at) >>= λ number. spelled_at 1 ID_MAX words >>= λ v. Ok (number, v.0)) n h in
+    let k = bound (spelled_from 1 COUNT_MAX (spelled_number at)) (λ (number : ℕ). spelled_at 1 ID_MAX words >>= λ v. Ok (number, v.0)) n c.after in
+    let v = bound (spelled_at 1 ID_MAX words) (λ (v : ℕ × List (List ℕ)). Ok (k.value, v.0)) n k.after in
+    let counted = count_with_end-back ended 1 words c.value c.first in
+    let at_is = word_number-some 1 COUNT_MAX k.value at (lit< tt) k.first in
+    let found = (number_of 1 ID_MAX (lit< tt)).back words v.value.0 v.value.1 v.first in
+    let rest : v.value.1 ≡ [] = nothing v.value.1 (omega (arith, ap length found.0, counted.1)) in
+    let here : UseSpelled ended at words (k.value, v.value.0) = record { has_end = counted.0; at_is = at_is.0; words_are = found.0 ∙ ap (λ (t : List (List ℕ)). decimal v.value.0 ∷ t) rest; at_fits = (at_is.1, at_is.2); fits = found.1 } in
+    subst (UseSpelled ended at words) (ok_same (k.value, v.value.0) n v.after) here
+  where
+    nothing : (ws : List (List ℕ)) → length ws ≡ 0 → ws ≡ []
+    nothing [] e = refl
+    nothing (w ∷ ws) e = absurd (omega (arith, e))
+
+use_spelled : (version : ℕ) (make : ℕ → UseWhy) (word : List ℕ) → ((v : ℕ) → use_words (make v) ≡ word ∷ decimal v ∷ []) → ((v : ℕ) → IsFrom 1 ID_MAX v → IsUseInRange (make v)) → (ended : Bool) (at : List ℕ) (words : List (List ℕ)) (l : LogLine) → (use_numbers ended at words >>= λ n. refused (refusal.StepUse n.0 (make n.1))) ≡ Ok l → IsSpelling version ended (codes "refused" ∷ codes "use" ∷ at ∷ word ∷ words) l
+use_spelled version make word same fits ended at words l h =
+    let b = bound (use_numbers ended at words) (λ (n : Two). refused (refusal.StepUse n.0 (make n.1))) l h in
+    let u = use_numbers-back ended at words b.value b.first in
+    let ws : line_words (line.Refused (refusal.StepUse b.value.0 (make b.value.1))) ≡ codes "refused" ∷ codes "use" ∷ at ∷ word ∷ words =
+    ap (λ (t : List (List ℕ)). codes "refused" ∷ codes "use" ∷ decimal b.value.0 ∷ t) (same b.value.1) ∙ ap (λ (t : List (List ℕ)). codes "refused" ∷ codes "use" ∷ decimal b.value.0 ∷ word ∷ t) (sym u.words_are) ∙ ap (λ (t : List ℕ). codes "refused" ∷ codes "use" ∷ t ∷ word ∷ words) (sym u.at_is) in
+    let here : IsSpelling version ended (codes "refused" ∷ codes "use" ∷ at ∷ word ∷ words) (line.Refused (refusal.StepUse b.value.0 (make b.value.1))) = record { has_end = u.has_end; same = ws; fits = (u.at_fits, fits b.value.1 u.fits); of_version = tt } in
+    subst (IsSpelling version ended (codes "refused" ∷ codes "use" ∷ at ∷ word ∷ words)) (ok_same (line.Refused (refusal.StepUse b.value.0 (make b.value.1))) l b.after) here
+
+misspelt : {P : Type 0} (ended : Bool) (l : LogLine) → ◌≡◌ {A = Result LogLine TextWhy} (if ended then Err why.Number else Err why.Short) (Ok l) → P
+misspelt true l h = fault_value why.Number l h
+misspelt false l h = fault_value why.Short l h
+
+use_back : (version : ℕ) (ended : Bool) (words : List (List ℕ)) (l : LogLine) → use_of ended words ≡ Ok l → IsSpelling version ended (codes "refused" ∷ codes "use" ∷ words) l
+unfolding use_of
+use_back version ended [] l h = fault_value why.Short l h
+use_back version ended (at ∷ []) l h = fault_value why.Short l h
+use_back version ended (at ∷ word ∷ words) l h =
+    let P : List ℕ → Type 0 = λ w. IsSpelling version ended (codes "refused" ∷ codes "use" ∷ at ∷ w ∷ words) l in
+    picked P word (codes "vertex") _ _ (Ok l) (use_spelled version using.NoVertex (codes "vertex") (λ v. refl) (λ v r. r) ended at words l)
+    (picked P word (codes "range") _ _ (Ok l) (use_spelled version using.ShiftRange (codes "range") (λ v. refl) (λ v r. r) ended at words l)
+    (picked P word (codes "box") _ _ (Ok l) (use_spelled version using.Box (codes "box") (λ v. refl) (λ v r. r) ended at words l)
+    (misspelt ended l)))
+    h
+
+refused_back : (version : ℕ) (ended : Bool) (words : List (List ℕ)) (l : LogLine) → refused_of ended words ≡ Ok l → IsSpelling version ended (codes "refused" ∷ words) l
+unfolding refused_of
+refused_back version ended [] l h = fault_value why.Short l h
+refused_back version ended (word ∷ words) l h =
+    let P : List ℕ → Type 0 = λ w. IsSpelling version ended (codes "refused" ∷ w ∷ words) l in
+    picked P word (codes "long") _ _ (Ok l) (long_back version ended words l)
+    (picked P word (codes "missing") _ _ (Ok l) (missing_back version ended words l)
+    (picked P word (codes "mesh") _ _ (Ok l) (fault_spelled version (λ f. line.Refused (refusal.Mesh f)) (codes "refused" ∷ codes "mesh" ∷ []) (λ f r. (refl, r, tt)) ended words l)
+    (picked P word (codes "shape") _ _ (Ok l) (shape_back version ended words l)
+    (picked P word (codes "meets") _ _ (Ok l) (pair_spelled version (λ p. line.Refused (refusal.Meets p)) (codes "refused" ∷ codes "meets" ∷ []) (λ p r. (refl, r, tt)) ended words l)
+    (picked P word (codes "steps") _ _ (Ok l) (fault_spelled version (λ f. line.Refused (refusal.Steps f)) (codes "refused" ∷ codes "steps" ∷ []) (λ f r. (refl, r, tt)) ended words l)
+    (picked P word (codes "use") _ _ (Ok l) (use_back version ended words l)
+    (fault_value why.Unknown l)))))))
+    h
+
+mesh_back : (version : ℕ) (ended : Bool) (words : List (List ℕ)) (l : LogLine) → mesh_of ended words ≡ Ok l → IsSpelling version ended (codes "mesh" ∷ words) l
+unfolding mesh_of
+mesh_back version ended words l h = spelled mesh_reader three MeshFits mesh_exact 3 (λ p. refl) mesh_made version (codes "mesh" ∷ []) (λ p r. (refl, (r.0.1, r.1.0.1, r.1.1.1), tt)) ended words l h
+
+-- what words are read as is the line that they spell
+pub read_is_spelled : (version : ℕ) → version < 2 ^ 8 → (ended : Bool) (words : List (List ℕ)) (l : LogLine) → line_of version ended words ≡ Ok l → IsSpelling version ended words l
+unfolding line_of step_of hit_of move_of
+read_is_spelled version small ended [] l h = fault_value why.Unknown l h
+read_is_spelled version small ended (first ∷ words) l h =
+    let P : List ℕ → Type 0 = λ w. IsSpelling version ended (w ∷ words) l in
+    picked P first (codes "topo") _ _ (Ok l) (first_back version small ended words l)
+    (picked P first (codes "mesh") _ _ (Ok l) (mesh_back version ended words l)
+    (picked P first (codes "step") _ _ (Ok l) (one_spelled version 1 COUNT_MAX (lit< tt) line.Step (codes "step" ∷ []) (λ n r. (refl, r, tt)) ended words l)
+    (picked P first (codes "hit") _ _ (Ok l) (pair_spelled version line.Hit (codes "hit" ∷ []) (λ p r. (refl, r, tt)) ended words l)
+    (picked P first (codes "move") _ _ (Ok l) (spelled shift_of_at shift_of_words (λ s. IsFrom 1 ID_MAX s.v) shift_of_at-exact 4 (λ s. refl) line.Move version (codes "move" ∷ []) (λ s r. (refl, r, tt)) ended words l)
+    (picked P first (codes "moved") _ _ (Ok l) (moved_back version ended words l)
+    (picked P first (codes "refused") _ _ (Ok l) (refused_back version ended words l)
+    (picked P first (codes "end") _ _ (Ok l) (alone_spelled version (codes "end" ∷ []) ended line.End words l refl tt tt)
+    (fault_value why.Unknown l))))))))
+    h

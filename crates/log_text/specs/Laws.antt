@@ -1,0 +1,86 @@
+-- When the values of a line are in their ranges, and that a line is read exactly from its spelling.
+use Rattle.std.specs.Prelude.{◌≡◌, ◌↔◌, ℕ, ◌<◌, ◌≤◌, ◌^◌, List, Ok, All, true}
+use Rattle.grid_base.specs.declared.TheConstants.{VERTICES_MAX, FACES_MAX, ID_MAX, HALVINGS_MAX}
+use Rattle.mesh_base.specs.declared.How.{How}
+use Rattle.mesh_base.specs.declared.How.TheVariants.{Whole, Impulse, Zones, Halved, Zero}
+use Rattle.mesh_base.specs.declared.PairName.{PairName}
+use Rattle.mesh_base.specs.declared.ShapeFault.{ShapeFault}
+use Rattle.mesh_base.specs.declared.ShapeFault.TheVariants as shape
+use Rattle.mesh_base.specs.declared.UseWhy.{UseWhy}
+use Rattle.mesh_base.specs.declared.UseWhy.TheVariants as using
+use Rattle.log_text.specs.declared.TheConstants.{COUNT_MAX, SEEN_MAX, CORNER_MAX, PASSES_MAX, ROUNDS_MAX, VERSION}
+use Rattle.log_text.specs.declared.log_line.LogLine.{LogLine}
+use Rattle.log_text.specs.declared.log_line.LogLine.TheVariants as line
+use Rattle.log_text.specs.declared.log_line.Refusal.{Refusal}
+use Rattle.log_text.specs.declared.log_line.Refusal.TheVariants as refusal
+use Rattle.log_text.specs.Lines.{body_of, text_of_lines}
+use Rattle.line_text.specs.Spellings.{spaced_words}
+use Rattle.log_text.specs.Reading.{line_of, log_of}
+
+-- from low to high
+abbrev pub IsFrom : ℕ → ℕ → ℕ → Type 0
+IsFrom low high n = (low ≤ n) × (n ≤ high)
+
+-- ids from 1 up to the greatest, and the smaller end first
+pub record IsPairInRange (p : PairName) : Type 0 where
+  pub a : IsFrom 1 ID_MAX p.a
+  pub b : IsFrom 1 ID_MAX p.b
+  pub face : IsFrom 1 ID_MAX p.face
+  pub rising : p.a < p.b
+
+abbrev pub IsHowInRange : How → Type 0
+IsHowInRange Whole = Unit {0}
+IsHowInRange (Impulse passes) = IsFrom 1 PASSES_MAX passes
+IsHowInRange (Zones rounds) = IsFrom 1 ROUNDS_MAX rounds
+IsHowInRange (Halved times) = IsFrom 1 HALVINGS_MAX times
+IsHowInRange Zero = Unit {0}
+
+abbrev pub IsShapeInRange : ShapeFault → Type 0
+IsShapeInRange (shape.TooManyVertices count) = count ≤ SEEN_MAX
+IsShapeInRange (shape.TooManyFaces count) = count ≤ SEEN_MAX
+IsShapeInRange (shape.NoVertex face corner) = IsFrom 1 COUNT_MAX face × IsFrom 1 CORNER_MAX corner
+IsShapeInRange (shape.Repeated face) = IsFrom 1 COUNT_MAX face
+IsShapeInRange (shape.Doubled first second) = IsFrom 1 COUNT_MAX first × IsFrom 1 COUNT_MAX second
+IsShapeInRange (shape.Unbalanced from to) = IsFrom 1 COUNT_MAX from × IsFrom 1 COUNT_MAX to
+
+abbrev pub IsUseInRange : UseWhy → Type 0
+IsUseInRange (using.NoVertex v) = IsFrom 1 ID_MAX v
+IsUseInRange (using.ShiftRange v) = IsFrom 1 ID_MAX v
+IsUseInRange (using.Box v) = IsFrom 1 ID_MAX v
+
+abbrev pub IsRefusalInRange : Refusal → Type 0
+IsRefusalInRange (refusal.Long name seen) = seen ≤ SEEN_MAX
+IsRefusalInRange (refusal.Missing name) = Unit {0}
+IsRefusalInRange (refusal.Mesh fault) = IsFrom 1 COUNT_MAX fault.line
+IsRefusalInRange (refusal.Shape fault) = IsShapeInRange fault
+IsRefusalInRange (refusal.Meets pair) = IsPairInRange pair
+IsRefusalInRange (refusal.Steps fault) = IsFrom 1 COUNT_MAX fault.line
+IsRefusalInRange (refusal.StepUse at why) = IsFrom 1 COUNT_MAX at × IsUseInRange why
+
+-- the values of a line are in their ranges
+abbrev pub IsInRange : LogLine → Type 0
+IsInRange (line.First version) = Unit {0}
+IsInRange (line.Mesh k vertices faces) = (k ≤ COUNT_MAX) × (vertices ≤ VERTICES_MAX) × (faces ≤ FACES_MAX)
+IsInRange (line.Step k) = IsFrom 1 COUNT_MAX k
+IsInRange (line.Hit pair) = IsPairInRange pair
+IsInRange (line.Move s) = IsFrom 1 ID_MAX s.v
+IsInRange (line.Moved how) = IsHowInRange how
+IsInRange (line.Refused why) = IsRefusalInRange why
+IsInRange line.End = Unit {0}
+
+-- the line is one of this version's lines
+abbrev pub IsOfVersion : ℕ → LogLine → Type 0
+IsOfVersion version (line.First v) = v ≡ version
+IsOfVersion version _ = Unit {0}
+
+-- bytes are read as a line exactly where they are its body and it is in range
+abbrev pub LinesAreTheirSpellings : Type 0
+LinesAreTheirSpellings = (version : ℕ) → version < 2 ^ 8 → (body : List ℕ) (l : LogLine) → (line_of version true (spaced_words body) ≡ Ok l) ↔ (IsInRange l × IsOfVersion version l × (body_of l ≡ body))
+
+-- no body has LF in it
+abbrev pub BodiesHaveNoEnd : Type 0
+BodiesHaveNoEnd = (version : ℕ) → version < 2 ^ 8 → (l : LogLine) → IsInRange l → IsOfVersion version l → All (λ b. ¬ (b ≡ 10)) (body_of l)
+
+-- a text is read as lines exactly where it is their text and each is in range
+abbrev pub LogsAreTheirLines : Type 0
+LogsAreTheirLines = (bytes : List ℕ) (ls : List LogLine) → (log_of bytes ≡ Ok ls) ↔ (All (λ l. IsInRange l × IsOfVersion VERSION l) ls × (text_of_lines ls ≡ bytes))

@@ -1,0 +1,197 @@
+-- The reader's grammar: the line that words spell, or the reason.
+use Rattle.std.specs.Prelude.{ℕ, ◌+◌, Bool, ◌==◌, if◌then◌else◌, List, [], ◌∷◌, ◌++◌, length, Option, Some, None, Result, Ok, Err, codes, true, false}
+use Rattle.std.specs.List.{slice_split}
+use Rattle.std.specs.Str.{bytes_eq}
+use Rattle.grid_base.specs.declared.TheConstants.{VERTICES_MAX, FACES_MAX, ID_MAX, SHIFT_MAX, HALVINGS_MAX}
+use Rattle.grid_base.specs.Points.{shift_by}
+use Rattle.line_text.specs.declared.TextWhy.{TextWhy}
+use Rattle.line_text.specs.declared.TextWhy.TheVariants as why
+use Rattle.line_text.specs.declared.TextFault.{TextFault}
+use Rattle.line_text.specs.Faults.{◌>>=◌, at_line}
+use Rattle.mesh_base.specs.declared.FileWord.{FileWord}
+use Rattle.mesh_base.specs.declared.FileWord.TheVariants as file
+use Rattle.mesh_base.specs.declared.How.TheVariants.{Whole, Impulse, Zones, Halved, Zero}
+use Rattle.mesh_base.specs.declared.PairName.{PairName}
+use Rattle.mesh_base.specs.declared.ShiftOf.{ShiftOf}
+use Rattle.mesh_base.specs.declared.ShapeFault.TheVariants as shape
+use Rattle.mesh_base.specs.declared.UseWhy.TheVariants as using
+use Rattle.log_text.specs.declared.TheConstants.{COUNT_MAX, SEEN_MAX, CORNER_MAX, PASSES_MAX, ROUNDS_MAX, VERSION}
+use Rattle.log_text.specs.declared.log_line.LogLine.{LogLine}
+use Rattle.log_text.specs.declared.log_line.LogLine.TheVariants as line
+use Rattle.log_text.specs.declared.log_line.Refusal.{Refusal}
+use Rattle.log_text.specs.declared.log_line.Refusal.TheVariants as refusal
+use Rattle.line_text.specs.Spellings.{spaced_words, spelled_number, spelled_from, spelled_at, spelled_signed_at, count_with_end}
+use Rattle.log_text.specs.Fields.{Reader, or_number, in_turn, both}
+
+-- ---- values of one word or more
+
+-- the smaller end of an edge, its larger end, and a face
+unfoldable pub pair_at : Reader PairName
+pair_at words = do
+  found ← in_turn (spelled_at 1 ID_MAX) (λ a. both (spelled_at (a + 1) ID_MAX) (spelled_at 1 ID_MAX)) words
+  Ok (record { a = found.0.0; b = found.0.1.0; face = found.0.1.1 }, found.1)
+
+-- a vertex and its shift
+unfoldable pub shift_of_at : Reader ShiftOf
+shift_of_at words = do
+  found ← both (spelled_at 1 ID_MAX) (both (spelled_signed_at SHIFT_MAX) (both (spelled_signed_at SHIFT_MAX) (spelled_signed_at SHIFT_MAX))) words
+  Ok (record { v = found.0.0; by = shift_by (record { x = found.0.1.0; y = found.0.1.1.0; z = found.0.1.1.1 }) }, found.1)
+
+-- the reason that a word names
+unfoldable pub why_of : List ℕ → Option TextWhy
+why_of word =
+    if bytes_eq word (codes "number") then Some why.Number
+    else if bytes_eq word (codes "corner") then Some why.Corner
+    else if bytes_eq word (codes "range") then Some why.Range
+    else if bytes_eq word (codes "short") then Some why.Short
+    else if bytes_eq word (codes "long") then Some why.Long
+    else if bytes_eq word (codes "unknown") then Some why.Unknown
+    else if bytes_eq word (codes "continuation") then Some why.Continuation
+    else None
+
+unfoldable pub why_at : Reader TextWhy
+why_at [] = Err why.Short
+why_at (word ∷ words) = or_number (why_of word) >>= λ found. Ok (found, words)
+
+-- the number of a line and the reason why it can't be read
+unfoldable pub fault_at : Reader TextFault
+fault_at words = do
+  found ← both (spelled_at 1 COUNT_MAX) why_at words
+  Ok (record { line = found.0.0; why = found.0.1 }, found.1)
+
+-- ---- lines
+
+-- exactly so many words, and the value that they give
+abbrev pub whole : {A : Type 0} → Bool → ℕ → Reader A → List (List ℕ) → Result A TextWhy
+whole ended count read words = count_with_end ended count words >>= λ counted. read words >>= λ found. Ok found.0
+
+-- a line with no further word
+abbrev pub alone : Bool → LogLine → List (List ℕ) → Result LogLine TextWhy
+alone ended l words = count_with_end ended 0 words >>= λ counted. Ok l
+
+-- `log` and the version
+unfoldable pub first_of : ℕ → Bool → List (List ℕ) → Result LogLine TextWhy
+first_of version ended [] = Err why.Short
+first_of version ended (name ∷ words) =
+    if bytes_eq name (codes "log") then (whole ended 1 (spelled_at version version) words >>= λ v. Ok (line.First v)) else Err why.Unknown
+
+unfoldable pub mesh_of : Bool → List (List ℕ) → Result LogLine TextWhy
+mesh_of ended words = whole ended 3 (both (spelled_at 0 COUNT_MAX) (both (spelled_at 0 VERTICES_MAX) (spelled_at 0 FACES_MAX))) words >>= λ found. Ok (line.Mesh found.0 found.1.0 found.1.1)
+
+unfoldable pub step_of : Bool → List (List ℕ) → Result LogLine TextWhy
+step_of ended words = whole ended 1 (spelled_at 1 COUNT_MAX) words >>= λ k. Ok (line.Step k)
+
+unfoldable pub hit_of : Bool → List (List ℕ) → Result LogLine TextWhy
+hit_of ended words = whole ended 3 pair_at words >>= λ pair. Ok (line.Hit pair)
+
+unfoldable pub move_of : Bool → List (List ℕ) → Result LogLine TextWhy
+move_of ended words = whole ended 4 shift_of_at words >>= λ s. Ok (line.Move s)
+
+unfoldable pub moved_of : Bool → List (List ℕ) → Result LogLine TextWhy
+moved_of ended [] = Err why.Short
+moved_of ended (how ∷ words) =
+    if bytes_eq how (codes "whole") then alone ended (line.Moved Whole) words
+    else if bytes_eq how (codes "impulse") then (whole ended 1 (spelled_at 1 PASSES_MAX) words >>= λ n. Ok (line.Moved (Impulse n)))
+    else if bytes_eq how (codes "zones") then (whole ended 1 (spelled_at 1 ROUNDS_MAX) words >>= λ n. Ok (line.Moved (Zones n)))
+    else if bytes_eq how (codes "halved") then (whole ended 1 (spelled_at 1 HALVINGS_MAX) words >>= λ n. Ok (line.Moved (Halved n)))
+    else if bytes_eq how (codes "zero") then alone ended (line.Moved Zero) words
+    else Err why.Unknown
+
+-- the file that a word names
+unfoldable pub file_of : List ℕ → Option FileWord
+file_of word =
+    if bytes_eq word (codes "mesh") then Some file.Mesh
+    else if bytes_eq word (codes "steps") then Some file.Steps
+    else None
+
+-- a word that leads to no form
+abbrev pub or_unknown : {A : Type 0} → Option A → Result A TextWhy
+or_unknown None = Err why.Unknown
+or_unknown (Some a) = Ok a
+
+abbrev pub refused : Refusal → Result LogLine TextWhy
+refused why = Ok (line.Refused why)
+
+unfoldable pub long_of : Bool → List (List ℕ) → Result LogLine TextWhy
+long_of ended [] = Err why.Short
+long_of ended (word ∷ words) = do
+  name ← or_unknown (file_of word)
+  seen ← whole ended 1 (spelled_at 0 SEEN_MAX) words
+  refused (refusal.Long name seen)
+
+unfoldable pub missing_of : Bool → List (List ℕ) → Result LogLine TextWhy
+missing_of ended [] = Err why.Short
+missing_of ended (word ∷ words) = or_unknown (file_of word) >>= λ name. alone ended (line.Refused (refusal.Missing name)) words
+
+unfoldable pub shape_of : Bool → List (List ℕ) → Result LogLine TextWhy
+shape_of ended [] = Err why.Short
+shape_of ended (word ∷ words) =
+    if bytes_eq word (codes "vertices") then (whole ended 1 (spelled_at 0 SEEN_MAX) words >>= λ n. refused (refusal.Shape (shape.TooManyVertices n)))
+    else if bytes_eq word (codes "faces") then (whole ended 1 (spelled_at 0 SEEN_MAX) words >>= λ n. refused (refusal.Shape (shape.TooManyFaces n)))
+    else if bytes_eq word (codes "corner") then (whole ended 2 (both (spelled_at 1 COUNT_MAX) (spelled_at 1 CORNER_MAX)) words >>= λ n. refused (refusal.Shape (shape.NoVertex n.0 n.1)))
+    else if bytes_eq word (codes "repeated") then (whole ended 1 (spelled_at 1 COUNT_MAX) words >>= λ n. refused (refusal.Shape (shape.Repeated n)))
+    else if bytes_eq word (codes "doubled") then (whole ended 2 (both (spelled_at 1 COUNT_MAX) (spelled_at 1 COUNT_MAX)) words >>= λ n. refused (refusal.Shape (shape.Doubled n.0 n.1)))
+    else if bytes_eq word (codes "unbalanced") then (whole ended 2 (both (spelled_at 1 COUNT_MAX) (spelled_at 1 COUNT_MAX)) words >>= λ n. refused (refusal.Shape (shape.Unbalanced n.0 n.1)))
+    else Err why.Unknown
+
+-- the number of a directive's line, and behind the reason a vertex
+unfoldable pub use_numbers : Bool → List ℕ → List (List ℕ) → Result (ℕ × ℕ) TextWhy
+use_numbers ended at words = do
+  counted ← count_with_end ended 1 words
+  number ← spelled_from 1 COUNT_MAX (spelled_number at)
+  v ← spelled_at 1 ID_MAX words
+  Ok (number, v.0)
+
+-- The word behind the line's number says how many follow; a misspelt one asks for as many as follow.
+unfoldable pub use_of : Bool → List (List ℕ) → Result LogLine TextWhy
+use_of ended [] = Err why.Short
+use_of ended (at ∷ []) = Err why.Short
+use_of ended (at ∷ word ∷ words) =
+    if bytes_eq word (codes "vertex") then (use_numbers ended at words >>= λ n. refused (refusal.StepUse n.0 (using.NoVertex n.1)))
+    else if bytes_eq word (codes "range") then (use_numbers ended at words >>= λ n. refused (refusal.StepUse n.0 (using.ShiftRange n.1)))
+    else if bytes_eq word (codes "box") then (use_numbers ended at words >>= λ n. refused (refusal.StepUse n.0 (using.Box n.1)))
+    else if ended then Err why.Number
+    else Err why.Short
+
+unfoldable pub refused_of : Bool → List (List ℕ) → Result LogLine TextWhy
+refused_of ended [] = Err why.Short
+refused_of ended (word ∷ words) =
+    if bytes_eq word (codes "long") then long_of ended words
+    else if bytes_eq word (codes "missing") then missing_of ended words
+    else if bytes_eq word (codes "mesh") then (whole ended 2 fault_at words >>= λ fault. refused (refusal.Mesh fault))
+    else if bytes_eq word (codes "shape") then shape_of ended words
+    else if bytes_eq word (codes "meets") then (whole ended 3 pair_at words >>= λ pair. refused (refusal.Meets pair))
+    else if bytes_eq word (codes "steps") then (whole ended 2 fault_at words >>= λ fault. refused (refusal.Steps fault))
+    else if bytes_eq word (codes "use") then use_of ended words
+    else Err why.Unknown
+
+-- the line that the words spell by a version, where ended says that LF stands behind them
+unfoldable pub line_of : ℕ → Bool → List (List ℕ) → Result LogLine TextWhy
+line_of version ended [] = Err why.Unknown
+line_of version ended (first ∷ words) =
+    if bytes_eq first (codes "topo") then first_of version ended words
+    else if bytes_eq first (codes "mesh") then mesh_of ended words
+    else if bytes_eq first (codes "step") then step_of ended words
+    else if bytes_eq first (codes "hit") then hit_of ended words
+    else if bytes_eq first (codes "move") then move_of ended words
+    else if bytes_eq first (codes "moved") then moved_of ended words
+    else if bytes_eq first (codes "refused") then refused_of ended words
+    else if bytes_eq first (codes "end") then alone ended line.End words
+    else Err why.Unknown
+
+-- ---- texts
+
+-- the lines so far and the one that a part of a text spells
+abbrev pub line_adds : ℕ → List LogLine → Bool → List ℕ → Result (List LogLine) TextWhy
+line_adds version lines ended text = line_of version ended (spaced_words text) >>= λ l. Ok (lines ++ l ∷ [])
+
+-- the lines so far and then those of the parts between LFs, numbered on: each but the last is ended, and an empty last one
+-- is no line
+abbrev pub parts_add : ℕ → List LogLine → ℕ → List (List ℕ) → Result (List LogLine) TextFault
+parts_add version lines number [] = Ok lines
+parts_add version lines number (last ∷ []) = if length last == 0 then Ok lines else at_line number (line_adds version lines false last)
+parts_add version lines number (part ∷ next ∷ parts) = at_line number (line_adds version lines true part) >>= λ more. parts_add version more (number + 1) (next ∷ parts)
+
+-- the lines of a text, or the first that is no spelling
+abbrev pub log_of : List ℕ → Result (List LogLine) TextFault
+log_of bytes = parts_add VERSION [] 1 (slice_split (λ b. b == 10) bytes)

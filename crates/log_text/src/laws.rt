@@ -1,0 +1,20 @@
+//! What holds of the texts of lines and of their reading.
+
+ghost use Rattle.log_text.specs.Laws.{LinesAreTheirSpellings, BodiesHaveNoEnd, LogsAreTheirLines};
+
+/// Bytes are read as a line exactly where they are its one spelling, its values are in their ranges, and the line is one of
+/// the version's.
+pub fn lines_are_their_spellings()
+    ensures { LinesAreTheirSpellings }
+{}
+
+/// No line's spelling has LF in it.
+pub fn bodies_have_no_end()
+    ensures { BodiesHaveNoEnd }
+{}
+
+/// A text is read as a log exactly where it is the text of the log's lines, and each of them is in range. So what is printed
+/// is read again, and what is read is printed again.
+pub fn logs_are_their_lines()
+    ensures { LogsAreTheirLines }
+{}

@@ -1,0 +1,139 @@
+ghost use Rattle.std.specs.Prelude.{◌≡◌};
+ghost use Rattle.line_text.specs.Remaining.{parts_left};
+ghost use Rattle.line_text.specs.Spellings.{spaced_words};
+ghost use Rattle.log_text.specs.Reading as spec;
+
+use crate::log_line::LogLine;
+use crate::refusals::refused;
+use crate::values::{alone, count_at, pair_at, shift_of_at};
+use crate::{COUNT_MAX, PASSES_MAX, ROUNDS_MAX};
+use grid_base::{FACES_MAX, HALVINGS_MAX, VERTICES_MAX};
+use line_text::{Parts, TextWhy, count_with_end, is_word};
+use mesh_base::How;
+
+#[tactic(auto, unfolding(crate::specs::Reading::first_of))]
+fn first(version: u8, ended: bool, words: Parts<'_>) -> Result<LogLine, TextWhy>
+    ensures { result ≡ spec.first_of version ended (parts_left words.entry) }
+{
+    let mut words = words;
+    let Some(name) = words.next() else {
+        return Err(TextWhy::Short);
+    };
+    if is_word(name, b"log") {
+        count_with_end(ended, 1, words)?;
+        let version = count_at(&mut words, u32::from(version), u32::from(version))?;
+        return Ok(LogLine::First {
+            version: version as u8,
+        });
+    }
+    Err(TextWhy::Unknown)
+}
+
+#[tactic(auto, unfolding(crate::specs::Reading::mesh_of))]
+fn mesh(ended: bool, words: Parts<'_>) -> Result<LogLine, TextWhy>
+    ensures { result ≡ spec.mesh_of ended (parts_left words.entry) }
+{
+    let mut words = words;
+    count_with_end(ended, 3, words)?;
+    let k = count_at(&mut words, 0, COUNT_MAX)?;
+    let vertices = count_at(&mut words, 0, VERTICES_MAX)?;
+    let faces = count_at(&mut words, 0, FACES_MAX)?;
+    Ok(LogLine::Mesh { k, vertices, faces })
+}
+
+#[tactic(auto, unfolding(crate::specs::Reading::step_of))]
+fn step(ended: bool, words: Parts<'_>) -> Result<LogLine, TextWhy>
+    ensures { result ≡ spec.step_of ended (parts_left words.entry) }
+{
+    let mut words = words;
+    count_with_end(ended, 1, words)?;
+    let k = count_at(&mut words, 1, COUNT_MAX)?;
+    Ok(LogLine::Step { k })
+}
+
+#[tactic(auto, unfolding(crate::specs::Reading::hit_of))]
+fn hit(ended: bool, words: Parts<'_>) -> Result<LogLine, TextWhy>
+    ensures { result ≡ spec.hit_of ended (parts_left words.entry) }
+{
+    let mut words = words;
+    count_with_end(ended, 3, words)?;
+    let pair = pair_at(&mut words)?;
+    Ok(LogLine::Hit(pair))
+}
+
+#[tactic(auto, unfolding(crate::specs::Reading::move_of))]
+fn move_line(ended: bool, words: Parts<'_>) -> Result<LogLine, TextWhy>
+    ensures { result ≡ spec.move_of ended (parts_left words.entry) }
+{
+    let mut words = words;
+    count_with_end(ended, 4, words)?;
+    let s = shift_of_at(&mut words)?;
+    Ok(LogLine::Move(s))
+}
+
+#[tactic(auto, unfolding(crate::specs::Reading::moved_of))]
+fn moved(ended: bool, words: Parts<'_>) -> Result<LogLine, TextWhy>
+    ensures { result ≡ spec.moved_of ended (parts_left words.entry) }
+{
+    let mut words = words;
+    let Some(how) = words.next() else {
+        return Err(TextWhy::Short);
+    };
+    if is_word(how, b"whole") {
+        return alone(ended, LogLine::Moved(How::Whole), words);
+    }
+    if is_word(how, b"impulse") {
+        count_with_end(ended, 1, words)?;
+        let n = count_at(&mut words, 1, u32::from(PASSES_MAX))?;
+        return Ok(LogLine::Moved(How::Impulse { passes: n as u8 }));
+    }
+    if is_word(how, b"zones") {
+        count_with_end(ended, 1, words)?;
+        let rounds = count_at(&mut words, 1, ROUNDS_MAX)?;
+        return Ok(LogLine::Moved(How::Zones { rounds }));
+    }
+    if is_word(how, b"halved") {
+        count_with_end(ended, 1, words)?;
+        let n = count_at(&mut words, 1, u32::from(HALVINGS_MAX))?;
+        return Ok(LogLine::Moved(How::Halved { times: n as u8 }));
+    }
+    if is_word(how, b"zero") {
+        return alone(ended, LogLine::Moved(How::Zero), words);
+    }
+    Err(TextWhy::Unknown)
+}
+
+#[tactic(auto, unfolding(crate::specs::Reading::line_of))]
+pub(crate) fn read_line(version: u8, ended: bool, text: &[u8]) -> Result<LogLine, TextWhy>
+    ensures { result ≡ spec.line_of version ended (spaced_words text.now) }
+{
+    let mut words = Parts::new(b' ', text);
+    let Some(form) = words.next() else {
+        return Err(TextWhy::Unknown);
+    };
+    if is_word(form, b"topo") {
+        return first(version, ended, words);
+    }
+    if is_word(form, b"mesh") {
+        return mesh(ended, words);
+    }
+    if is_word(form, b"step") {
+        return step(ended, words);
+    }
+    if is_word(form, b"hit") {
+        return hit(ended, words);
+    }
+    if is_word(form, b"move") {
+        return move_line(ended, words);
+    }
+    if is_word(form, b"moved") {
+        return moved(ended, words);
+    }
+    if is_word(form, b"refused") {
+        return refused(ended, words);
+    }
+    if is_word(form, b"end") {
+        return alone(ended, LogLine::End, words);
+    }
+    Err(TextWhy::Unknown)
+}

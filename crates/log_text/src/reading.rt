@@ -1,0 +1,72 @@
+ghost use Rattle.std.specs.Prelude.{◌≡◌, ◌≤◌, length, ◌++◌, ◌∷◌, [], OnOk, OnErr};
+ghost use Rattle.grid_base.specs.declared.TheConstants.{TEXT_MAX};
+ghost use Rattle.line_text.specs.Faults.{Gives, Leaves, at_line};
+ghost use Rattle.log_text.specs.Reading as spec;
+
+use crate::VERSION;
+use crate::lines::read_line;
+use crate::log_line::{Log, LogLine};
+use grid_base::NoMemory;
+use line_text::{ReadFault, TextFault, cut_at};
+use std::alloc::Global;
+
+// Puts the line at the end, or changes nothing. The refusal is put together again, since the checker wants its type named
+// where lines are passed to a list.
+fn push_line(log: &mut Log, line: LogLine) -> Result<(), NoMemory>
+    ensures ok { OnOk result (log.new ≡ log.old ++ line ∷ []) }
+    ensures err { OnErr result (log.new ≡ log.old) }
+{
+    match line {
+        LogLine::Refused(why) => log.push(LogLine::Refused(why)),
+        other => log.push(other),
+    }
+}
+
+// Adds the line that a part of a text spells.
+fn add_line(log: &mut Log, ended: bool, text: &[u8], number: u32) -> Result<(), ReadFault>
+    ensures { Leaves log.new result (at_line number (spec.line_adds VERSION log.old ended text.now)) }
+{
+    match read_line(VERSION, ended, text) {
+        Ok(line) => {
+            push_line(log, line)?;
+            Ok(())
+        }
+        Err(why) => Err(ReadFault::Text(TextFault { line: number, why })),
+    }
+}
+
+// The log with what stands behind its last LF, which is no line where it is empty.
+fn with_last(log: Log, last: &[u8], number: u32) -> Result<Log, ReadFault>
+    ensures { Gives (λ log. log) result (spec.parts_add VERSION log number (last.now ∷ [])) }
+{
+    let mut log = log;
+    if last.is_empty() {
+        return Ok(log);
+    }
+    add_line(&mut log, false, last, number)?;
+    Ok(log)
+}
+
+/// The lines of a log, or the first of its lines that is no spelling, with the reason. Each line ends with LF.
+pub fn read_log(alloc: Global, bytes: &[u8]) -> Result<Log, ReadFault>
+    requires { length bytes.now ≤ TEXT_MAX }
+    ensures { Gives (λ log. log) result (spec.log_of bytes.now) }
+{
+    let mut log = Log::new(alloc);
+    let mut rest = bytes;
+    let mut number = 1;
+    'lines: loop {
+        let (part, more) = cut_at(b'\n', rest);
+        match more {
+            None => return with_last(log, part, number),
+            Some(next) => {
+                match add_line(&mut log, true, part, number) {
+                    Ok(()) => {}
+                    Err(fault) => return Err(fault),
+                }
+                number += 1;
+                rest = next;
+            }
+        }
+    }
+}

@@ -1,0 +1,131 @@
+ghost use Rattle.std.specs.Prelude.{◌≡◌, ◌≤◌, IfOk};
+ghost use Rattle.grid_base.specs.declared.TheConstants.{SHIFT_MAX};
+ghost use Rattle.grid_base.specs.Components.{FitWithin};
+ghost use Rattle.grid_base.specs.Points.{shift_by};
+ghost use Rattle.line_text.specs.Fields.{Takes};
+ghost use Rattle.line_text.specs.Remaining.{parts_left};
+ghost use Rattle.line_text.specs.Spellings.{spelled_at};
+ghost use Rattle.log_text.specs.Reading as spec;
+
+use crate::COUNT_MAX;
+use crate::log_line::LogLine;
+use grid_base::{ID_MAX, SHIFT_MAX, Shift};
+use line_text::{
+    Parts, TextFault, TextWhy, count_with_end, is_word, spelled_at, spelled_signed_at,
+};
+use mesh_base::{FaceId, FileWord, PairName, ShiftOf, VertexId};
+
+// The number that the next word spells, from low to high.
+pub(crate) fn count_at(words: &mut Parts<'_>, low: u32, high: u32) -> Result<u32, TextWhy>
+    ensures value { Takes (parts_left words.new) result (spelled_at low high (parts_left words.old)) }
+    ensures above { IfOk result (λ n. low ≤ n) }
+    ensures below { IfOk result (λ n. n ≤ high) }
+{
+    let n = spelled_at(words, u64::from(low), u64::from(high))?;
+    Ok(n as u32)
+}
+
+fn shift_with(x: i32, y: i32, z: i32) -> Shift
+    requires { FitWithin SHIFT_MAX x y z }
+    ensures { result ≡ shift_by (record { x = x; y = y; z = z }) }
+{
+    Shift { x, y, z }
+}
+
+#[tactic(auto, unfolding(crate::specs::Reading::pair_at))]
+pub(crate) fn pair_at(words: &mut Parts<'_>) -> Result<PairName, TextWhy>
+    ensures { Takes (parts_left words.new) result (spec.pair_at (parts_left words.old)) }
+{
+    let a = count_at(words, 1, ID_MAX)?;
+    let b = count_at(words, a + 1, ID_MAX)?;
+    let face = count_at(words, 1, ID_MAX)?;
+    Ok(PairName {
+        a: VertexId(a),
+        b: VertexId(b),
+        face: FaceId(face),
+    })
+}
+
+#[tactic(auto, unfolding(crate::specs::Reading::shift_of_at))]
+pub(crate) fn shift_of_at(words: &mut Parts<'_>) -> Result<ShiftOf, TextWhy>
+    ensures { Takes (parts_left words.new) result (spec.shift_of_at (parts_left words.old)) }
+{
+    let v = count_at(words, 1, ID_MAX)?;
+    let x = spelled_signed_at(words, SHIFT_MAX)?;
+    let y = spelled_signed_at(words, SHIFT_MAX)?;
+    let z = spelled_signed_at(words, SHIFT_MAX)?;
+    Ok(ShiftOf {
+        v: VertexId(v),
+        by: shift_with(x, y, z),
+    })
+}
+
+#[tactic(auto, unfolding(crate::specs::Reading::why_of))]
+fn why_of(word: &[u8]) -> Option<TextWhy>
+    ensures { result ≡ spec.why_of word.now }
+{
+    if is_word(word, b"number") {
+        return Some(TextWhy::Number);
+    }
+    if is_word(word, b"corner") {
+        return Some(TextWhy::Corner);
+    }
+    if is_word(word, b"range") {
+        return Some(TextWhy::Range);
+    }
+    if is_word(word, b"short") {
+        return Some(TextWhy::Short);
+    }
+    if is_word(word, b"long") {
+        return Some(TextWhy::Long);
+    }
+    if is_word(word, b"unknown") {
+        return Some(TextWhy::Unknown);
+    }
+    if is_word(word, b"continuation") {
+        return Some(TextWhy::Continuation);
+    }
+    None
+}
+
+#[tactic(auto, unfolding(crate::specs::Reading::why_at))]
+fn why_at(words: &mut Parts<'_>) -> Result<TextWhy, TextWhy>
+    ensures { Takes (parts_left words.new) result (spec.why_at (parts_left words.old)) }
+{
+    let Some(word) = words.next() else {
+        return Err(TextWhy::Short);
+    };
+    match why_of(word) {
+        Some(why) => Ok(why),
+        None => Err(TextWhy::Number),
+    }
+}
+
+#[tactic(auto, unfolding(crate::specs::Reading::fault_at))]
+pub(crate) fn fault_at(words: &mut Parts<'_>) -> Result<TextFault, TextWhy>
+    ensures { Takes (parts_left words.new) result (spec.fault_at (parts_left words.old)) }
+{
+    let line = count_at(words, 1, COUNT_MAX)?;
+    let why = why_at(words)?;
+    Ok(TextFault { line, why })
+}
+
+pub(crate) fn alone(ended: bool, line: LogLine, words: Parts<'_>) -> Result<LogLine, TextWhy>
+    ensures { result ≡ spec.alone ended line (parts_left words.entry) }
+{
+    count_with_end(ended, 0, words)?;
+    Ok(line)
+}
+
+#[tactic(auto, unfolding(crate::specs::Reading::file_of))]
+pub(crate) fn file_of(word: &[u8]) -> Option<FileWord>
+    ensures { result ≡ spec.file_of word.now }
+{
+    if is_word(word, b"mesh") {
+        return Some(FileWord::Mesh);
+    }
+    if is_word(word, b"steps") {
+        return Some(FileWord::Steps);
+    }
+    None
+}
