@@ -1,0 +1,11 @@
+pub mod Scaffold
+pub mod Edges
+pub mod Classes
+pub mod Reasons
+pub mod Split
+pub mod Flip
+pub mod Collapse
+pub mod Zip
+pub mod Pinch
+pub mod Answers
+pub mod Clauses

@@ -43,7 +43,10 @@ pub enum Change {
         at: Point,
     },
     /// The edge is exchanged for that between the third corners of the faces beside it.
-    Flip { a: VertexId, b: VertexId },
+    Flip {
+        a: VertexId,
+        b: VertexId,
+    },
     /// The edge is drawn together into `a`, which stands at a point if it is left.
     Collapse {
         a: VertexId,

@@ -1,0 +1,91 @@
+-- An edge with the two faces beside it, and changes that edits share.
+use Rattle.std.specs.Prelude.{ℕ, ◌==◌, ◌||◌, Bool, false, List, [], ◌∷◌, min, max, slice_index, if◌then◌else◌}
+use Rattle.std.specs.Option.{unwrap_or}
+use Rattle.std.specs.List.{fold, list_any}
+use Rattle.std.specs.FinMap as finite
+use Rattle.grid_base.specs.declared.Point.{Point}
+use Rattle.grid_base.specs.Triples.{Triple, plus, floor_mid_of}
+use Rattle.mesh_base.specs.declared.ids.Corners.{Corners}
+use Rattle.mesh_base.specs.Mesh.{Mesh, equal_up_to_rotation}
+use Rattle.mesh_base.specs.Sides.{faces_running}
+use Rattle.mesh_base.specs.Changes.{with_face, without_face}
+use Rattle.grid_base.specs.Points.{position_of, point_at}
+use Rattle.mesh_base.specs.Placements.{own_points}
+
+-- the corners of a face
+abbrev pub corners_at : Mesh → ℕ → Corners
+corners_at m f = unwrap_or (finite.get m.faces f) (record { first = 0; second = 0; third = 0 })
+
+-- the point of a vertex
+abbrev pub point_of : Mesh → ℕ → Point
+point_of m v = point_at (own_points m v)
+
+-- the corner that is neither u nor v, where v follows u
+abbrev pub third_corner : Corners → ℕ → ℕ → ℕ
+third_corner c u v = if c.first == u then c.third else (if c.second == u then c.first else c.second)
+
+-- An edge that is not crowded: its ends, the face that runs a to b with its third corner c, and the face that runs b to a with its third corner d.
+pub record Edge : Type 0 where
+  pub a : ℕ
+  pub b : ℕ
+  pub c : ℕ
+  pub d : ℕ
+  pub forth : ℕ
+  pub back : ℕ
+
+-- the face that runs u to v
+abbrev pub face_running : Mesh → ℕ → ℕ → ℕ
+face_running m u v = slice_index (faces_running m u v) 0
+
+-- the edge of two ids in any order
+abbrev pub edge_of : Mesh → ℕ → ℕ → Edge
+edge_of m u v =
+    let a = min u v in
+    let b = max u v in
+    let forth = face_running m a b in
+    let back = face_running m b a in
+    record { a = a; b = b; c = third_corner (corners_at m forth) a b; d = third_corner (corners_at m back) b a; forth = forth; back = back }
+
+-- the midpoint, each component rounded down
+abbrev pub floor_mid : Point → Point → Point
+floor_mid p q = point_at (floor_mid_of (position_of p) (position_of q))
+
+-- the midpoint, in half units
+abbrev pub exact_mid : Mesh → ℕ → ℕ → Triple
+exact_mid m u v = plus (own_points m u) (own_points m v)
+
+abbrev pub corners_from : ℕ → ℕ → ℕ → Corners
+corners_from u v w = record { first = u; second = v; third = w }
+
+-- the faces are dropped
+abbrev pub without_faces : Mesh → List ℕ → Mesh
+without_faces m faces = fold without_face m faces
+
+-- faces of these corners are made, in order
+abbrev pub with_faces : Mesh → List Corners → Mesh
+with_faces m corners = fold with_face m corners
+
+-- the corners with one vertex in another's place
+abbrev pub renamed : ℕ → ℕ → Corners → Corners
+renamed from to c = record {
+  first = (if c.first == from then to else c.first);
+  second = (if c.second == from then to else c.second);
+  third = (if c.third == from then to else c.third);
+}
+
+-- a face is dropped, and made again with one vertex in another's place
+abbrev pub with_renamed : ℕ → ℕ → Mesh → ℕ → Mesh
+with_renamed from to m f = with_face (without_face m f) (renamed from to (corners_at m f))
+
+-- the same of several faces, in order
+abbrev pub with_all_renamed : ℕ → ℕ → Mesh → List ℕ → Mesh
+with_all_renamed from to m faces = fold (with_renamed from to) m faces
+
+-- two corners of the list are equal up to rotation
+abbrev pub has_equal : List Corners → Bool
+has_equal [] = false
+has_equal (c ∷ cs) = list_any (λ d. equal_up_to_rotation c d) cs || has_equal cs
+
+-- two faces are equal up to rotation
+abbrev pub doubles_a_face : Mesh → Bool
+doubles_a_face m = has_equal (finite.values m.faces)
