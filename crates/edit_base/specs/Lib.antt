@@ -9,3 +9,4 @@ pub mod Zip
 pub mod Pinch
 pub mod Answers
 pub mod Clauses
+pub mod Laws

@@ -3,6 +3,7 @@
 
 mod answers;
 mod asked;
+pub mod laws;
 mod scaffold;
 
 pub use answers::{Change, Copies, CopyAt, Edit, Why};
