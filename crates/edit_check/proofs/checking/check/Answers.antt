@@ -1,0 +1,63 @@
+use Rattle.std.proofs.Common.{◌≡◌, ℕ, Bool, List, Some, None, get_or, not, ap, sym, ◌∙◌}
+use Rattle.std.specs.List.{flat_map}
+use Rattle.grid_decided.specs.Decided.{meets_exactly, meets_exactly-is_exact}
+use Rattle.mesh_base.specs.declared.ids.PairName.{PairName}
+use Rattle.mesh_base.specs.Pairs.{Pair, edges, pairs_of}
+use Rattle.edit_base.specs.Scaffold.{Scaffold, is_as_required}
+use Rattle.edit_base.proofs.Clear.{none_lacking_is_clear}
+use Rattle.edit_check.specs.Checking.{scaffold_by, first_of}
+use Rattle.edit_check.proofs.Lists.{first_behind, first_here, first_ended}
+use Rattle.edit_check.proofs.Edges.{edge_at}
+use Rattle.edit_check.proofs.checking.check.Goals as goal
+
+pub first_of_edge-requires-clause-ordered : goal.first_of_edge-requires-clause-ordered
+first_of_edge-requires-clause-ordered g c =
+    (edge_at (g.S.Surface.mesh c.args.mesh.now) (g.met.S.Surface.sound c.args.mesh.now) c.as_slice-a-items.result.now c.loop-a.a-index c.loop-a-item.result c.loop-a-item.result
+    (c.as_slice-a-items.ensures ∙ c.in_ok-edges.ensures) c.loop-a-test.true c.loop-a-item.is).0
+
+pub first_of_edge-requires-clause-edge : goal.first_of_edge-requires-clause-edge
+first_of_edge-requires-clause-edge g c =
+    (edge_at (g.S.Surface.mesh c.args.mesh.now) (g.met.S.Surface.sound c.args.mesh.now) c.as_slice-a-items.result.now c.loop-a.a-index c.loop-a-item.result c.loop-a-item.result
+    (c.as_slice-a-items.ensures ∙ c.in_ok-edges.ensures) c.loop-a-test.true c.loop-a-item.is).1
+
+pub loop-a-preserved : goal.loop-a-preserved
+loop-a-preserved g c =
+    let m = g.S.Surface.mesh c.args.mesh.now in
+    let s : Scaffold = scaffold_by m c.args.moves.now c.args.touch c.args.together.now in
+    let depth = c.args.depth in
+    let items = c.as_slice-a-items.result.now in
+    let of : ℕ × ℕ → List Pair = λ e. pairs_of m e in
+    let name : Pair → PairName = λ p. p.name in
+    let bad : Pair → Bool = λ p. not (is_as_required meets_exactly s depth p) in
+    let none : first_of s depth (of (get_or items c.loop-a.a-index c.loop-a-item.result)) ≡ None = ap (λ e. first_of s depth (of e)) (sym c.loop-a-item.is) ∙ sym c.first_of_edge.ensures ∙ c.in_default.is in
+    sym (first_behind name bad of items c.loop-a.a-index c.loop-a-item.result c.loop-a-test.true none) ∙ c.loop-a.invariant
+
+pub returns-in-Some-clause-first : goal.returns-in-Some-clause-first
+returns-in-Some-clause-first g c =
+    let m = g.S.Surface.mesh c.args.mesh.now in
+    let s : Scaffold = scaffold_by m c.args.moves.now c.args.touch c.args.together.now in
+    let depth = c.args.depth in
+    let items = c.as_slice-a-items.result.now in
+    let of : ℕ × ℕ → List Pair = λ e. pairs_of m e in
+    let name : Pair → PairName = λ p. p.name in
+    let bad : Pair → Bool = λ p. not (is_as_required meets_exactly s depth p) in
+    let all : items ≡ edges m = c.as_slice-a-items.ensures ∙ c.in_ok-edges.ensures in
+    let some : first_of s depth (of (get_or items c.loop-a.a-index c.loop-a-item.result)) ≡ Some c.in-Some.found = ap (λ e. first_of s depth (of e)) (sym c.loop-a-item.is) ∙ sym c.first_of_edge.ensures ∙ c.in-Some.is in
+    sym (first_here name bad of items c.loop-a.a-index c.loop-a-item.result c.in-Some.found c.loop-a-test.true some) ∙ c.loop-a.invariant ∙ ap (λ es. first_of s depth (flat_map of es)) all
+
+pub returns-clause-first : goal.returns-clause-first
+returns-clause-first g c =
+    let m = g.S.Surface.mesh c.args.mesh.now in
+    let s : Scaffold = scaffold_by m c.args.moves.now c.args.touch c.args.together.now in
+    let depth = c.args.depth in
+    let items = c.as_slice-a-items.result.now in
+    let of : ℕ × ℕ → List Pair = λ e. pairs_of m e in
+    let name : Pair → PairName = λ p. p.name in
+    let bad : Pair → Bool = λ p. not (is_as_required meets_exactly s depth p) in
+    let all : items ≡ edges m = c.as_slice-a-items.ensures ∙ c.in_ok-edges.ensures in
+    sym (first_ended name bad of items c.loop-a.a-index c.loop-a-test.false) ∙ c.loop-a.invariant ∙ ap (λ es. first_of s depth (flat_map of es)) all
+
+pub returns-clause-clear : goal.returns-clause-clear
+returns-clause-clear g c none =
+    let m = g.S.Surface.mesh c.args.mesh.now in
+    none_lacking_is_clear meets_exactly meets_exactly-is_exact (scaffold_by m c.args.moves.now c.args.touch c.args.together.now) c.args.depth (g.met.S.Surface.sound c.args.mesh.now) (sym (returns-clause-first g c))

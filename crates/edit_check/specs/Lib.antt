@@ -1,0 +1,4 @@
+pub mod Untouched
+pub mod Moving
+pub mod Lacking
+pub mod Checking

@@ -1,0 +1,99 @@
+//! The first pair that is not as required.
+ghost use Rattle.std.specs.Prelude.{◌≡◌, ◌≤◌, ◌<◌, IfOk, IsNone};
+ghost use Rattle.std.specs.List.{filter, All};
+ghost use Rattle.grid_decided.specs.Decided.{meets_exactly};
+ghost use Rattle.mesh_base.specs.Sides.{IsEdge};
+ghost use Rattle.mesh_base.specs.Pairs.{pairs_of};
+ghost use Rattle.edit_base.specs.Scaffold.{first_lacking, motion_by, IsClearBut};
+ghost use Rattle.edit_check.specs.Untouched.{IsClearWhereUntouched, MoveFits, AreMoved};
+ghost use Rattle.edit_check.specs.Moving.{moving_faces};
+ghost use Rattle.edit_check.specs.Checking.{scaffold_by, first_of};
+
+use crate::lacking::{first_lacking_among, is_side_of_some};
+use crate::moving::{MovingFace, moving_edge, moving_faces, touched_of};
+use edit_base::{Move, Touch};
+use grid_base::{DEPTH_MAX, NoMemory};
+use mesh_base::{PairName, Surface, VertexId, edges_in_order};
+use std::alloc::Global;
+
+/// The moves, what is required of the pairs, and from which id on faces are new.
+#[derive(Clone, Copy)]
+struct Terms<'a> {
+    moves: &'a [Move],
+    touch: Touch,
+    together: &'a [VertexId],
+    fresh_from: u32,
+    depth: u8,
+}
+
+/// The first pair of an edge that is not as required. An edge that is a side of a touched face is tested with all faces,
+/// and any other one with the touched faces only.
+fn first_of_edge<S: Surface>(
+    mesh: &S,
+    t: Terms,
+    faces: &[MovingFace],
+    touched: &[MovingFace],
+    a: VertexId,
+    b: VertexId,
+) -> Option<PairName>
+    requires depth { t.depth ≤ DEPTH_MAX }
+    requires fits { All MoveFits t.moves.now }
+    requires moved { AreMoved t.moves.now t.together.now }
+    requires clear { IsClearWhereUntouched (S.mesh mesh.now) t.moves.now t.fresh_from }
+    requires faces { faces.now ≡ moving_faces (S.mesh mesh.now) t.moves.now t.fresh_from }
+    requires touched { touched.now ≡ filter (λ f. f.touched) faces.now }
+    requires ordered { a < b }
+    requires edge { IsEdge (S.mesh mesh.now) a b }
+    ensures { result ≡ first_of (scaffold_by (S.mesh mesh.now) t.entry.moves.now t.entry.touch t.entry.together.now) t.entry.depth (pairs_of (S.mesh mesh.now) (a, b)) }
+{
+    let e = moving_edge(mesh, t.moves, a, b);
+    if is_side_of_some(a, b, touched) {
+        first_lacking_among(t.touch, t.together, t.depth, &e, faces)
+    } else {
+        first_lacking_among(t.touch, t.together, t.depth, &e, touched)
+    }
+}
+
+/// The first pair, in order of the edge and then of the face, over all pairs of the mesh, that is not as required in a
+/// motion in which the vertices of the moves go from their starts to their ends, in half units, and all others stay. A
+/// pair of which the edge has one of the vertices of `together` and the face another does as `touch` says; any other one
+/// passes, to the depth. None exactly where each pair is as required; then no pair meets at any fraction of the motion,
+/// but at the start, or the end, where two may touch there.
+///
+/// Faces from the id `fresh_from` on are new. Pairs of an old edge and an old face, of which no vertex moves, are not
+/// tested: they are not to meet where they stand. Each vertex of `together` is to be named by a move. Refuses only where
+/// there is no memory. After the test of edits in El Topo (Brochu and Bridson 2009).
+pub fn check<S: Surface>(
+    alloc: Global,
+    mesh: &S,
+    moves: &[Move],
+    touch: Touch,
+    together: &[VertexId],
+    fresh_from: u32,
+    depth: u8,
+) -> Result<Option<PairName>, NoMemory>
+    requires depth { depth ≤ DEPTH_MAX }
+    requires fits { All MoveFits moves.now }
+    requires moved { AreMoved moves.now together.now }
+    requires clear { IsClearWhereUntouched (S.mesh mesh.now) moves.now fresh_from }
+    ensures first { IfOk result (λ found. found ≡ first_lacking meets_exactly (scaffold_by (S.mesh mesh.now) moves.now touch together.now) depth) }
+    // None: the motion is clear.
+    ensures clear { IfOk result (λ found. IsNone found → IsClearBut touch (S.mesh mesh.now) (motion_by (S.mesh mesh.now) moves.now)) }
+{
+    let t = Terms {
+        moves,
+        touch,
+        together,
+        fresh_from,
+        depth,
+    };
+    let faces = moving_faces(alloc, mesh, moves, fresh_from)?;
+    let touched = touched_of(alloc, faces.as_slice())?;
+    let edges = edges_in_order(alloc, mesh)?;
+    for (a, b) in edges.as_slice() {
+        if let Some(found) = first_of_edge(mesh, t, faces.as_slice(), touched.as_slice(), *a, *b) {
+            return Ok(Some(found));
+        }
+    }
+    Ok(None)
+}

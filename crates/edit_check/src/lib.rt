@@ -1,0 +1,9 @@
+//! The test of a motion of a mesh, as an edit makes one: a few vertices move, and a few faces are new.
+#![tactic(auto)]
+
+mod checking;
+mod lacking;
+mod moving;
+
+pub use checking::check;
+pub use edit_base::{Move, Touch};
