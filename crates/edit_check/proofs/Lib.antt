@@ -2,7 +2,8 @@ pub mod Still
 pub mod Untouched
 pub mod Lists
 pub mod Faces
-pub mod Tests
+pub mod Exact
 pub mod Fits
 pub mod Scans
 pub mod Edges
+pub mod Premise

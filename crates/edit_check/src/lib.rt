@@ -7,3 +7,6 @@ mod moving;
 
 pub use checking::check;
 pub use edit_base::{Move, Touch};
+
+#[cfg(test)]
+mod tests;

@@ -1,5 +1,5 @@
 use Rattle.motion_test.specs.Pairs.{positions_of}
-use Rattle.edit_check.proofs.Tests.{is_passes}
+use Rattle.edit_check.proofs.Exact.{is_passes}
 use Rattle.edit_check.proofs.lacking.pair_passes.Goals as goal
 
 pub returns : goal.returns
