@@ -46,17 +46,17 @@ path_fits m moves v fit = by_answer (move_of moves v) refl
 pub edge_fits : (m : Mesh) (moves : List Move) (a b : ℕ) → All MoveFits moves → EdgeFits (moving_edge m moves a b)
 edge_fits m moves a b fit = record { from = path_fits m moves a fit; to = path_fits m moves b fit }
 
-fit_by_recursion : (m : Mesh) (moves : List Move) (fresh_from : ℕ) → All MoveFits moves → AllByRecursion FaceFits (moving_faces m moves fresh_from)
-fit_by_recursion m moves fresh_from fit =
-    all_mapped FaceFits (moving_face m moves fresh_from) (finite.entries m.faces)
-    (all_always (λ f. FaceFits (moving_face m moves fresh_from f)) (finite.entries m.faces)
+fit_by_recursion : (m : Mesh) (moves : List Move) (together : List ℕ) (fresh_from : ℕ) → All MoveFits moves → AllByRecursion FaceFits (moving_faces m moves together fresh_from)
+fit_by_recursion m moves together fresh_from fit =
+    all_mapped FaceFits (moving_face m moves together fresh_from) (finite.entries m.faces)
+    (all_always (λ f. FaceFits (moving_face m moves together fresh_from f)) (finite.entries m.faces)
     (λ f. record { c = path_fits m moves f.1.first fit; d = path_fits m moves f.1.second fit; e = path_fits m moves f.1.third fit }))
 
-pub faces_fit : (m : Mesh) (moves : List Move) (fresh_from : ℕ) → All MoveFits moves → All FaceFits (moving_faces m moves fresh_from)
-faces_fit m moves fresh_from fit = All-from_recursion FaceFits (moving_faces m moves fresh_from) (fit_by_recursion m moves fresh_from fit)
+pub faces_fit : (m : Mesh) (moves : List Move) (together : List ℕ) (fresh_from : ℕ) → All MoveFits moves → All FaceFits (moving_faces m moves together fresh_from)
+faces_fit m moves together fresh_from fit = All-from_recursion FaceFits (moving_faces m moves together fresh_from) (fit_by_recursion m moves together fresh_from fit)
 
-pub kept_fit : (m : Mesh) (moves : List Move) (fresh_from : ℕ) (keep : MovingFace → Bool) → All MoveFits moves → All FaceFits (filter keep (moving_faces m moves fresh_from))
-kept_fit m moves fresh_from keep fit =
-    let faces = moving_faces m moves fresh_from in
+pub kept_fit : (m : Mesh) (moves : List Move) (together : List ℕ) (fresh_from : ℕ) (keep : MovingFace → Bool) → All MoveFits moves → All FaceFits (filter keep (moving_faces m moves together fresh_from))
+kept_fit m moves together fresh_from keep fit =
+    let faces = moving_faces m moves together fresh_from in
     All-from_recursion FaceFits (filter keep faces)
-    (all_filtered FaceFits keep faces (all_weaker FaceFits (λ f. keep f ≡ true → FaceFits f) faces (λ f h _. h) (fit_by_recursion m moves fresh_from fit)))
+    (all_filtered FaceFits keep faces (all_weaker FaceFits (λ f. keep f ≡ true → FaceFits f) faces (λ f h _. h) (fit_by_recursion m moves together fresh_from fit)))

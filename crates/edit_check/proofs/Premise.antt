@@ -1,5 +1,5 @@
 -- When a mesh is clear where it is untouched.
-use Rattle.std.proofs.Common.{◌≡◌, ℕ, ◌<◌, ◌≤◌, List, is_some, ap, arith}
+use Rattle.std.proofs.Common.{ℕ, ◌<◌, ◌≤◌, List, is_some, ap, arith}
 use Rattle.grid_base.proofs.MeetingLaws.{Meets-unmultiple}
 use Rattle.mesh_base.specs.Mesh.{Mesh, IsSound}
 use Rattle.mesh_base.specs.Placements.{own_points, positions, IsClearMesh}

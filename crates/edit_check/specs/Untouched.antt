@@ -1,5 +1,5 @@
 -- Which pairs a check need not look at: those of an old edge and an old face of which no vertex moves.
-use Rattle.std.specs.Prelude.{◌≡◌, ℕ, ◌<◌, ◌⊎◌, IsTrue, IsSome, List}
+use Rattle.std.specs.Prelude.{◌≡◌, ℕ, ◌<◌, ◌⊎◌, IsTrue, List}
 use Rattle.std.specs.List.{All}
 use Rattle.std.proofs.Common.{None}
 use Rattle.grid_base.specs.declared.TheConstants.{HALF_MAX}
@@ -36,7 +36,3 @@ IsClearWhereUntouched m moves fresh_from = (p : Pair) → IsUntouched m moves fr
 pub record MoveFits (move : Move) : Type 0 where
   pub start : IsWithin HALF_MAX move.start
   pub end : IsWithin HALF_MAX move.end
-
--- each of the vertices is named by a move
-abbrev pub AreMoved : List Move → List ℕ → Type 0
-AreMoved moves vs = All (λ v. IsSome (move_of moves v)) vs

@@ -5,7 +5,7 @@ ghost use Rattle.grid_decided.specs.Decided.{meets_exactly};
 ghost use Rattle.mesh_base.specs.Sides.{IsEdge};
 ghost use Rattle.mesh_base.specs.Pairs.{pairs_of};
 ghost use Rattle.edit_base.specs.Scaffold.{first_lacking, motion_by, IsClearBut};
-ghost use Rattle.edit_check.specs.Untouched.{IsClearWhereUntouched, MoveFits, AreMoved};
+ghost use Rattle.edit_check.specs.Untouched.{IsClearWhereUntouched, MoveFits};
 ghost use Rattle.edit_check.specs.Moving.{moving_faces};
 ghost use Rattle.edit_check.specs.Checking.{scaffold_by, first_of};
 
@@ -38,9 +38,8 @@ fn first_of_edge<S: Surface>(
 ) -> Option<PairName>
     requires depth { t.depth ≤ DEPTH_MAX }
     requires fits { All MoveFits t.moves.now }
-    requires moved { AreMoved t.moves.now t.together.now }
     requires clear { IsClearWhereUntouched (S.mesh mesh.now) t.moves.now t.fresh_from }
-    requires faces { faces.now ≡ moving_faces (S.mesh mesh.now) t.moves.now t.fresh_from }
+    requires faces { faces.now ≡ moving_faces (S.mesh mesh.now) t.moves.now t.together.now t.fresh_from }
     requires touched { touched.now ≡ filter (λ f. f.touched) faces.now }
     requires ordered { a < b }
     requires edge { IsEdge (S.mesh mesh.now) a b }
@@ -61,8 +60,7 @@ fn first_of_edge<S: Surface>(
 /// but at the start, or the end, where two may touch there.
 ///
 /// Faces from the id `fresh_from` on are new. Pairs of an old edge and an old face, of which no vertex moves, are not
-/// tested: they are not to meet where they stand. Each vertex of `together` is to be named by a move. Refuses only where
-/// there is no memory. After the test of edits in El Topo (Brochu and Bridson 2009).
+/// tested: they are not to meet where they stand. Refuses only where there is no memory. After the test of edits in El Topo (Brochu and Bridson 2009).
 pub fn check<S: Surface>(
     alloc: Global,
     mesh: &S,
@@ -74,7 +72,6 @@ pub fn check<S: Surface>(
 ) -> Result<Option<PairName>, NoMemory>
     requires depth { depth ≤ DEPTH_MAX }
     requires fits { All MoveFits moves.now }
-    requires moved { AreMoved moves.now together.now }
     requires clear { IsClearWhereUntouched (S.mesh mesh.now) moves.now fresh_from }
     ensures first { IfOk result (λ found. found ≡ first_lacking meets_exactly (scaffold_by (S.mesh mesh.now) moves.now touch together.now) depth) }
     // None: the motion is clear.
@@ -87,7 +84,7 @@ pub fn check<S: Surface>(
         fresh_from,
         depth,
     };
-    let faces = moving_faces(alloc, mesh, moves, fresh_from)?;
+    let faces = moving_faces(alloc, mesh, moves, together, fresh_from)?;
     let touched = touched_of(alloc, faces.as_slice())?;
     let edges = edges_in_order(alloc, mesh)?;
     for (a, b) in edges.as_slice() {

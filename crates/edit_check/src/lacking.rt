@@ -5,15 +5,14 @@ ghost use Rattle.grid_base.specs.Meeting.{AreWithin};
 ghost use Rattle.grid_base.specs.SeparationTests.{passes, opens, closes};
 ghost use Rattle.grid_decided.specs.Decided.{meets_exactly};
 ghost use Rattle.motion_test.specs.Pairs.{positions_of};
-ghost use Rattle.mesh_base.specs.Sides.{has_corner};
 ghost use Rattle.edit_base.specs.Scaffold.{holds_two, touches_well};
 ghost use Rattle.edit_check.specs.Moving.{EdgeFits, FaceFits};
 ghost use Rattle.edit_check.specs.Lacking.{start_of, end_of, pair_with, do_as_required, lack, first_lacking_among, is_side_of_some};
 
-use crate::moving::{MovingEdge, MovingFace};
+use crate::moving::{MovingEdge, MovingFace, has_a_corner};
 use edit_base::Touch;
 use grid_base::{DEPTH_MAX, HALF_MAX};
-use mesh_base::{Corners, PairName, VertexId};
+use mesh_base::{PairName, VertexId};
 use motion_test::Pair;
 
 /// The edge and the face at their starts and ends, as the test of a motion takes them.
@@ -74,18 +73,6 @@ fn has_an_end(together: &[VertexId], a: VertexId, b: VertexId) -> bool
 {
     for v in together {
         if a == *v || b == *v {
-            return true;
-        }
-    }
-    false
-}
-
-/// Whether one of the vertices is a corner.
-fn has_a_corner(together: &[VertexId], c: Corners) -> bool
-    ensures { result ≡ list_any (λ v. has_corner c v) together.now }
-{
-    for v in together {
-        if c.has_corner(*v) {
             return true;
         }
     }

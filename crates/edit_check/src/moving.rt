@@ -1,10 +1,11 @@
 //! Edges and faces with where their vertices go.
 ghost use Rattle.std.specs.Prelude.{◌≡◌, ◌≤◌, ◌*ℤ◌, pos, unsigned_abs, IfOk, is_some};
-ghost use Rattle.std.specs.List.{filter};
+ghost use Rattle.std.specs.List.{filter, list_any};
 ghost use Rattle.std.specs.Option.{option_map};
 ghost use Rattle.std.specs.FinMap as finite;
 ghost use Rattle.grid_base.specs.Points.{position_of};
 ghost use Rattle.grid_base.specs.Triples.{times};
+ghost use Rattle.mesh_base.specs.Sides.{has_corner};
 ghost use Rattle.mesh_base.specs.Placements.{own_points_doubled};
 ghost use Rattle.edit_base.specs.Scaffold.{move_of};
 ghost use Rattle.edit_check.specs.Moving.{path_of, is_moved, is_touched, moving_edge, moving_face, moving_faces};
@@ -30,7 +31,8 @@ pub(crate) struct MovingEdge {
     pub(crate) to: Path,
 }
 
-/// A face, and where its corners go. It is touched where it is new, or a corner of it moves.
+/// A face, and where its corners go. It is touched where it is new, or a corner of it moves or is one of those that may
+/// touch each other.
 #[derive(Clone, Copy)]
 pub(crate) struct MovingFace {
     pub(crate) face: FaceId,
@@ -105,14 +107,27 @@ fn is_moved(moves: &[Move], v: VertexId) -> bool
     move_of(moves, v).is_some()
 }
 
-/// Whether the face is new, or a corner of it moves.
-fn is_touched(moves: &[Move], fresh_from: u32, f: FaceId, c: Corners) -> bool
-    ensures { result ≡ is_touched moves.now fresh_from (f, c) }
+/// Whether one of the vertices is a corner.
+pub(crate) fn has_a_corner(together: &[VertexId], c: Corners) -> bool
+    ensures { result ≡ list_any (λ v. has_corner c v) together.now }
+{
+    for v in together {
+        if c.has_corner(*v) {
+            return true;
+        }
+    }
+    false
+}
+
+/// Whether the face is new, or a corner of it moves or is one of those that may touch each other.
+fn is_touched(moves: &[Move], together: &[VertexId], fresh_from: u32, f: FaceId, c: Corners) -> bool
+    ensures { result ≡ is_touched moves.now together.now fresh_from (f, c) }
 {
     f.0 >= fresh_from
         || is_moved(moves, c.first)
         || is_moved(moves, c.second)
         || is_moved(moves, c.third)
+        || has_a_corner(together, c)
 }
 
 pub(crate) fn moving_edge<S: Surface>(
@@ -134,14 +149,15 @@ pub(crate) fn moving_edge<S: Surface>(
 fn with_paths<S: Surface>(
     mesh: &S,
     moves: &[Move],
+    together: &[VertexId],
     fresh_from: u32,
     face: FaceId,
     corners: Corners,
 ) -> MovingFace
-    ensures { result ≡ moving_face (S.mesh mesh.now) moves.now fresh_from (face, corners) }
+    ensures { result ≡ moving_face (S.mesh mesh.now) moves.now together.now fresh_from (face, corners) }
 {
     let [first, second, third] = corners.list();
-    let touched = is_touched(moves, fresh_from, face, corners);
+    let touched = is_touched(moves, together, fresh_from, face, corners);
     let c = path_of(mesh, moves, first);
     let d = path_of(mesh, moves, second);
     let e = path_of(mesh, moves, third);
@@ -158,13 +174,14 @@ fn with_paths<S: Surface>(
 fn moving_face<S: Surface>(
     mesh: &S,
     moves: &[Move],
+    together: &[VertexId],
     fresh_from: u32,
     f: FaceId,
 ) -> Option<MovingFace>
-    ensures { result ≡ option_map (λ c. moving_face (S.mesh mesh.now) moves.now fresh_from (f, c)) (finite.get (S.mesh mesh.now).faces f) }
+    ensures { result ≡ option_map (λ c. moving_face (S.mesh mesh.now) moves.now together.now fresh_from (f, c)) (finite.get (S.mesh mesh.now).faces f) }
 {
     match mesh.corners(f) {
-        Some(ids) => Some(with_paths(mesh, moves, fresh_from, f, Corners::of(ids))),
+        Some(ids) => Some(with_paths(mesh, moves, together, fresh_from, f, Corners::of(ids))),
         None => None,
     }
 }
@@ -174,14 +191,15 @@ pub(crate) fn moving_faces<S: Surface>(
     alloc: Global,
     mesh: &S,
     moves: &[Move],
+    together: &[VertexId],
     fresh_from: u32,
 ) -> Result<Items<MovingFace>, NoMemory>
-    ensures { IfOk result (λ faces. faces ≡ moving_faces (S.mesh mesh.now) moves.now fresh_from) }
+    ensures { IfOk result (λ faces. faces ≡ moving_faces (S.mesh mesh.now) moves.now together.now fresh_from) }
 {
     let ids = live_faces(alloc, mesh)?;
     let mut faces = Items::new(alloc);
     for f in ids.as_slice() {
-        if let Some(face) = moving_face(mesh, moves, fresh_from, *f) {
+        if let Some(face) = moving_face(mesh, moves, together, fresh_from, *f) {
             faces.push(face)?;
         }
     }

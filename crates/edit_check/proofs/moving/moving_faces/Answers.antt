@@ -11,6 +11,6 @@ pub returns : goal.returns
 returns g c =
     let m = g.S.Surface.mesh c.args.mesh.now in
     let items = c.as_slice-f-items.result.now in
-    let one : ℕ → List MovingFace = λ f. listed (λ k. moving_face m c.args.moves.now c.args.fresh_from (f, k) ∷ []) (finite.get m.faces f) in
+    let one : ℕ → List MovingFace = λ f. listed (λ k. moving_face m c.args.moves.now c.args.together.now c.args.fresh_from (f, k) ∷ []) (finite.get m.faces f) in
     let all : items ≡ finite.keys m.faces = c.as_slice-f-items.ensures ∙ c.in_ok-ids.ensures in
-    sym (made_all one items c.loop-f.f-index c.loop-f.faces c.loop-f-test.false) ∙ c.loop-f.invariant ∙ ap (flat_map one) all ∙ made_each m.faces (moving_face m c.args.moves.now c.args.fresh_from)
+    sym (made_all one items c.loop-f.f-index c.loop-f.faces c.loop-f-test.false) ∙ c.loop-f.invariant ∙ ap (flat_map one) all ∙ made_each m.faces (moving_face m c.args.moves.now c.args.together.now c.args.fresh_from)

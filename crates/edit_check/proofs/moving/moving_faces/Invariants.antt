@@ -8,5 +8,5 @@ use Rattle.edit_check.proofs.moving.moving_faces.Given as goal
 -- the faces so far, and those that are left, are all
 abbrev pub invariant-loop-f : goal.invariant-loop-f
 invariant-loop-f g l =
-    l.faces ++ flat_map (λ f. listed (λ c. moving_face (g.S.Surface.mesh l.mesh) l.moves l.fresh_from (f, c) ∷ []) (finite.get (g.S.Surface.mesh l.mesh).faces f)) (drop l.f-index l.f-items)
-    ≡ flat_map (λ f. listed (λ c. moving_face (g.S.Surface.mesh l.mesh) l.moves l.fresh_from (f, c) ∷ []) (finite.get (g.S.Surface.mesh l.mesh).faces f)) l.f-items
+    l.faces ++ flat_map (λ f. listed (λ c. moving_face (g.S.Surface.mesh l.mesh) l.moves l.together l.fresh_from (f, c) ∷ []) (finite.get (g.S.Surface.mesh l.mesh).faces f)) (drop l.f-index l.f-items)
+    ≡ flat_map (λ f. listed (λ c. moving_face (g.S.Surface.mesh l.mesh) l.moves l.together l.fresh_from (f, c) ∷ []) (finite.get (g.S.Surface.mesh l.mesh).faces f)) l.f-items

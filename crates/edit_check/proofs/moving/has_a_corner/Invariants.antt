@@ -1,7 +1,7 @@
 use Rattle.std.proofs.Common.{◌≡◌, drop}
 use Rattle.std.specs.List.{list_any}
 use Rattle.mesh_base.specs.Sides.{has_corner}
-use Rattle.edit_check.proofs.lacking.has_a_corner.Given as goal
+use Rattle.edit_check.proofs.moving.has_a_corner.Given as goal
 
 -- one is a corner where one of those that are left is
 abbrev pub invariant-loop-v : goal.invariant-loop-v
