@@ -58,7 +58,7 @@ clear_where_it_ends m w same clear = clear_undoubled m (λ p is_pair meet. clear
     alike p = λ i. record { a = same p.name.a i; b = same p.name.b i; c = same p.corners.first i; d = same p.corners.second i; e = same p.corners.third i }
 
 -- ---- the split
-new_point : (m : Mesh) (s : Edge) (at : Point) (v : ℕ) → own_points (split_mesh m s at) v ≡ cond (m.next_vertex == v) (position_of at) (own_points m v)
+pub new_point : (m : Mesh) (s : Edge) (at : Point) (v : ℕ) → own_points (split_mesh m s at) v ≡ cond (m.next_vertex == v) (position_of at) (own_points m v)
 new_point m s at v = ap position_or_origin (get-insert nat_cmp_total m.points m.next_vertex at v) ∙ by_test (eq_by_cmp nat_cmp v m.next_vertex) (m.next_vertex == v) (unsigned_tied v m.next_vertex ∙ turned v m.next_vertex)
   where
     turned : (x y : ℕ) → (x == y) ≡ (y == x)

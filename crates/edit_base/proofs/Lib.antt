@@ -5,4 +5,7 @@ pub mod Ends
 pub mod Beside
 pub mod Sound
 pub mod SplitSound
+pub mod FlipSound
+pub mod FlipFaces
+pub mod FlipClear
 pub mod Done

@@ -139,11 +139,11 @@ edge_first c d x y z w n same = record {
       (edge_way w.i w.j w.k w.l w.m n c.z d.z x.z y.z z.z same (at_z w.same_position));
 }
 
-plus_comm : (s t : Triple) → plus s t ≡ plus t s
+pub plus_comm : (s t : Triple) → plus s t ≡ plus t s
 plus_comm s t = same_triple _ _ (+ℤ_comm s.x t.x) (+ℤ_comm s.y t.y) (+ℤ_comm s.z t.z)
 
 -- the ends of the edge the other way round
-abbrev Meets-exchanged : (a b c d e : Triple) → Meets a b c d e → Meets b a c d e
+abbrev pub Meets-exchanged : (a b c d e : Triple) → Meets a b c d e → Meets b a c d e
 Meets-exchanged a b c d e w = record {
   i = w.j;
   j = w.i;
