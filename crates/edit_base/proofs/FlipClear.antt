@@ -1,19 +1,18 @@
 -- A flip whose motion is clear leaves a clear mesh.
-use Rattle.std.proofs.Common.{◌≡◌, ◌≢◌, ◌⊎◌, ℕ, zero, suc, ◌+◌, ◌<◌, Bool, true, false, ◌&&◌, ◌||◌, ◌==◌, [], ◌∷◌, is_some, inl, inr, ⊎_elim, refl, sym, ap, subst, ◌∙◌, arith}
+use Rattle.std.proofs.Common.{◌≡◌, ◌≢◌, ◌⊎◌, ℕ, zero, suc, ◌+◌, ◌<◌, true, false, ◌&&◌, ◌||◌, ◌==◌, is_some, inl, inr, ⊎_elim, refl, sym, ap, subst, ◌∙◌, arith}
 use Rattle.std.proofs.lemmas.Bool.{eqb-true}
 use Rattle.std.proofs.lemmas.Bool.Decides.{nat_tests}
-use Rattle.grid_base.specs.Triples.{Triple, plus, times}
+use Rattle.grid_base.specs.Triples.{Triple, plus}
 use Rattle.grid_base.specs.Meeting.{Meets, MeetAt}
 use Rattle.grid_base.proofs.MeetingLaws.{Meets-multiple}
 use Rattle.mesh_base.specs.declared.ids.Corners.{Corners}
 use Rattle.mesh_base.specs.Mesh.{Mesh, IsSound, IsLiveVertex, HasCorners}
 use Rattle.mesh_base.specs.Sides.{follows, has_corner, runs, IsEdge}
-use Rattle.mesh_base.specs.Pairs.{Pair, IsPair}
-use Rattle.mesh_base.specs.Placements.{positions, own_points, IsClear, IsClearMesh, IsClearAlong}
+use Rattle.mesh_base.specs.Placements.{own_points, IsClear, IsClearMesh, IsClearAlong}
 use Rattle.mesh_base.proofs.Listed.{running_face, edge_live, and_first, and_second, or_either}
 use Rattle.edit_base.specs.Scaffold.{motion_of}
 use Rattle.edit_base.specs.Edges.{Edge, corners_from}
-use Rattle.edit_base.specs.Flip.{flip_mesh, flip_scaffold}
+use Rattle.edit_base.specs.Flip.{flip_scaffold}
 use Rattle.edit_base.proofs.Closed.{IsBeside}
 use Rattle.edit_base.proofs.Ends.{clear_at_end, clear_after_along}
 use Rattle.edit_base.proofs.Midway.{face_is_two_faces, edge_is_two_edges, Meets-exchanged, plus_comm}

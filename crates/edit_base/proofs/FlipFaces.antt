@@ -1,22 +1,21 @@
 -- The faces of a flip's scaffold and of its result, and where the scaffold's motion ends.
-use Rattle.std.proofs.Common.{◌≡◌, ◌≢◌, ◌⊎◌, ℕ, ◌+◌, ◌<◌, Bool, true, false, cond, ◌==◌, [], ◌∷◌, Option, Some, None, inl, inr, ⊎_elim, refl, sym, ap, ◌∙◌, arith}
+use Rattle.std.proofs.Common.{◌≡◌, ◌⊎◌, ℕ, ◌+◌, ◌<◌, Bool, true, false, cond, ◌==◌, [], ◌∷◌, Some, None, inl, inr, ⊎_elim, ap, ◌∙◌, arith}
 use Rattle.std.proofs.lemmas.Bool.{ne_eqb}
 use Rattle.std.proofs.lemmas.Bool.Decides.{nat_tests}
 use Rattle.std.specs.Option.{option_map, unwrap_or}
-use Rattle.std.specs.Ordering.{nat_cmp}
 use Rattle.std.specs.Cmp.{nat_cmp_total, eq_by_cmp_equiv, unsigned_tied}
 use Rattle.std.specs.FinMap as finite
 use Rattle.std.specs.FinMap.{get-insert}
 use Rattle.grid_base.specs.Triples.{Triple, plus, times}
 use Rattle.grid_base.specs.Points.{position_of}
 use Rattle.mesh_base.specs.declared.ids.Corners.{Corners}
-use Rattle.mesh_base.specs.Mesh.{Mesh, IsSound, HasCorners}
+use Rattle.mesh_base.specs.Mesh.{Mesh, HasCorners}
 use Rattle.mesh_base.specs.Changes.{with_vertex, with_face, without_face}
 use Rattle.mesh_base.specs.Placements.{Placement, own_points, own_points_doubled}
 use Rattle.mesh_base.proofs.Finite.{got_after_insert, got_after_remove}
 use Rattle.edit_base.specs.declared.scaffold.Move.{Move}
 use Rattle.edit_base.specs.Scaffold.{motion_of}
-use Rattle.edit_base.specs.Edges.{Edge, corners_from, exact_mid, without_faces}
+use Rattle.edit_base.specs.Edges.{Edge, corners_from, without_faces}
 use Rattle.edit_base.specs.Split.{split_mesh, split_point}
 use Rattle.edit_base.specs.Flip.{flip_mesh, flip_scaffold}
 use Rattle.edit_base.proofs.Ends.{new_point}

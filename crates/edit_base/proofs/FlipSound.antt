@@ -1,16 +1,16 @@
 -- A flip that passes no limit leaves a sound mesh.
-use Rattle.std.proofs.Common.{◌≡◌, ◌≢◌, ℕ, zero, suc, ◌+◌, ◌<◌, ◌≤◌, Bool, true, false, cond, ◌&&◌, ◌||◌, ◌==◌, nat_lt, [], ◌∷◌, inl, inr, refl, sym, ap, subst, ◌∙◌, arith}
+use Rattle.std.proofs.Common.{◌≡◌, ◌≢◌, ℕ, ◌+◌, ◌<◌, Bool, true, false, cond, nat_lt, [], ◌∷◌, inl, refl, sym, ap, ◌∙◌, arith}
 use Rattle.std.proofs.lemmas.Bool.{false≢true}
 use Rattle.std.proofs.lemmas.Bool.Decides.{nat_tests}
 use Rattle.mesh_base.specs.declared.ids.Corners.{Corners}
-use Rattle.mesh_base.specs.Mesh.{Mesh, IsMesh, IsSound, IsLiveVertex, HasCorners, equal_up_to_rotation}
+use Rattle.mesh_base.specs.Mesh.{Mesh, IsMesh, IsSound, HasCorners, equal_up_to_rotation}
 use Rattle.mesh_base.specs.Sides.{follows, runs}
 use Rattle.mesh_base.specs.Pairs.{is_edge}
-use Rattle.mesh_base.specs.Changes.{with_face, without_face, IsFresh}
+use Rattle.mesh_base.specs.Changes.{without_face, IsFresh}
 use Rattle.mesh_base.specs.Limits.{is_over_limits}
 use Rattle.mesh_base.proofs.Counts.{runs-without_face}
 use Rattle.mesh_base.proofs.Finite.{got_after_remove}
-use Rattle.edit_base.specs.Edges.{Edge, corners_from, without_faces, with_faces}
+use Rattle.edit_base.specs.Edges.{Edge, corners_from, without_faces}
 use Rattle.edit_base.specs.Flip.{flip_mesh}
 use Rattle.edit_base.proofs.Closed.{IsBeside}
 use Rattle.edit_base.proofs.Sound.{mesh-without_face, mesh-with_faces, still_fresh, not_over, next_face-with_faces, not_rotated}

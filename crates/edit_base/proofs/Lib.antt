@@ -8,4 +8,7 @@ pub mod SplitSound
 pub mod FlipSound
 pub mod FlipFaces
 pub mod FlipClear
-pub mod Done
+pub mod ReasonLaws
+pub mod SplitDone
+pub mod FlipDone
+pub mod CollapseDone

@@ -1,17 +1,17 @@
 -- The laws of a mesh after faces are dropped and made, and its limits at the end alone.
-use Rattle.std.proofs.Common.{◌≡◌, ◌≢◌, ◌⊎◌, ℕ, ◌+◌, ◌<◌, ◌≤◌, Bool, true, false, ◌||◌, ◌&&◌, ◌==◌, nat_lt, List, [], ◌∷◌, Some, is_some, refl, sym, ap, subst, ◌∙◌, inl, inr, ⊎_elim, arith}
+use Rattle.std.proofs.Common.{◌≡◌, ◌≢◌, ◌⊎◌, ℕ, ◌+◌, ◌≤◌, Bool, true, false, ◌||◌, ◌&&◌, ◌==◌, nat_lt, List, [], ◌∷◌, refl, sym, subst, ◌∙◌, ⊎_elim, arith}
 use Rattle.std.specs.Prelude.{⊤}
 use Rattle.std.proofs.lemmas.Bool.Decides.{nat_tests}
 use Rattle.std.specs.FinMap as map
 use Rattle.grid_base.specs.declared.TheConstants.{VERTICES_MAX, FACES_MAX, ID_MAX}
 use Rattle.grid_base.specs.declared.Point.{Point}
 use Rattle.mesh_base.specs.declared.ids.Corners.{Corners}
-use Rattle.mesh_base.specs.Mesh.{Mesh, IsMesh, IsWithinLimits, IsSound, AreLive, AreDifferent, IsLiveVertex, HasCorners, equal_up_to_rotation}
+use Rattle.mesh_base.specs.Mesh.{Mesh, IsMesh, IsWithinLimits, AreLive, AreDifferent, equal_up_to_rotation}
 use Rattle.mesh_base.specs.Changes.{with_vertex, with_face, without_face, IsFresh}
 use Rattle.mesh_base.specs.Limits.{is_over_limits}
-use Rattle.mesh_base.proofs.Finite.{got_after_insert, live_after_insert, live_stays, got_after_remove, live_after_remove, live_inserted}
-use Rattle.mesh_base.proofs.MeshLaws.{equal_symmetric, next_is_new}
-use Rattle.edit_base.specs.Edges.{corners_from, without_faces, with_faces}
+use Rattle.mesh_base.proofs.Finite.{got_after_insert, live_after_insert, live_stays, got_after_remove, live_after_remove}
+use Rattle.mesh_base.proofs.MeshLaws.{equal_symmetric}
+use Rattle.edit_base.specs.Edges.{corners_from, with_faces}
 
 not_both : {b : Bool} → b ≡ true → b ≡ false → ⊥
 not_both h h' = cc

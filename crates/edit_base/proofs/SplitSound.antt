@@ -1,16 +1,16 @@
 -- A split that passes no limit leaves a sound mesh.
-use Rattle.std.proofs.Common.{◌≡◌, ◌≢◌, ℕ, ◌+◌, ◌<◌, ◌≤◌, false, [], ◌∷◌, inl, inr, sym, subst, arith}
+use Rattle.std.proofs.Common.{◌≡◌, ◌≢◌, ℕ, ◌+◌, ◌<◌, ◌≤◌, false, [], ◌∷◌, inl, inr, sym, arith}
 use Rattle.grid_base.specs.declared.Point.{Point}
 use Rattle.mesh_base.specs.declared.ids.Corners.{Corners}
-use Rattle.mesh_base.specs.Mesh.{Mesh, IsMesh, IsSound, AreDifferent, IsLiveVertex, HasCorners, equal_up_to_rotation}
+use Rattle.mesh_base.specs.Mesh.{Mesh, IsMesh, IsSound, IsLiveVertex}
 use Rattle.mesh_base.specs.Changes.{with_vertex, with_face, without_face, IsFresh}
 use Rattle.mesh_base.specs.Limits.{is_over_limits}
 use Rattle.mesh_base.proofs.Finite.{live_stays, live_inserted}
 use Rattle.mesh_base.proofs.MeshLaws.{next_is_new}
-use Rattle.edit_base.specs.Edges.{Edge, corners_from, without_faces, with_faces}
+use Rattle.edit_base.specs.Edges.{Edge, corners_from, without_faces}
 use Rattle.edit_base.specs.Split.{split_mesh}
 use Rattle.edit_base.proofs.Closed.{IsBeside}
-use Rattle.edit_base.proofs.Sound.{mesh-without_face, mesh-with_vertex, mesh-with_faces, still_fresh, AreFresh, not_over, next_face-with_faces, next_vertex-with_faces, not_rotated}
+use Rattle.edit_base.proofs.Sound.{mesh-without_face, mesh-with_vertex, mesh-with_faces, still_fresh, AreFresh, not_over, next_face-with_faces, not_rotated}
 
 module _ (m : Mesh) (p : Point) (mesh : IsMesh m) where
   below : (u : ℕ) → IsLiveVertex m u → u < m.next_vertex
