@@ -7,3 +7,4 @@ pub mod Fits
 pub mod Scans
 pub mod Edges
 pub mod Premise
+pub mod Resting

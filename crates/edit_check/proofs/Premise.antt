@@ -1,10 +1,27 @@
 -- When a mesh is clear where it is untouched.
-use Rattle.std.proofs.Common.{ℕ, ◌<◌, ◌≤◌, List, is_some, ap, arith}
+use Rattle.std.proofs.Common.{◌≡◌, ℕ, ◌+◌, ◌<◌, ◌≤◌, true, false, cond, ◌==◌, List, [], ◌∷◌, None, is_some, ⊎_elim, refl, sym, ap, subst, ◌∙◌, arith}
+use Rattle.std.proofs.lemmas.Bool.Decides.{nat_tests}
+use Rattle.grid_base.specs.declared.Point.{Point}
+use Rattle.grid_base.specs.Meeting.{MeetAt}
+use Rattle.grid_base.specs.Triples.{times}
+use Rattle.grid_base.specs.Points.{position_of}
 use Rattle.grid_base.proofs.MeetingLaws.{Meets-unmultiple}
-use Rattle.mesh_base.specs.Mesh.{Mesh, IsSound}
-use Rattle.mesh_base.specs.Placements.{own_points, positions, IsClearMesh}
+use Rattle.mesh_base.specs.declared.ids.Corners.{Corners}
+use Rattle.mesh_base.specs.Mesh.{Mesh, IsSound, IsLiveVertex, HasCorners}
+use Rattle.mesh_base.specs.Sides.{follows, IsEdge}
+use Rattle.mesh_base.specs.Pairs.{Pair, IsPair}
+use Rattle.mesh_base.specs.Changes.{with_face, without_face, with_vertex}
+use Rattle.mesh_base.specs.Placements.{own_points, own_points_doubled, positions, IsClearMesh}
+use Rattle.mesh_base.proofs.Finite.{got_after_insert, got_after_remove}
+use Rattle.mesh_base.proofs.Listed.{edge_live}
 use Rattle.edit_base.specs.declared.Move.{Move}
-use Rattle.edit_check.specs.Untouched.{IsClearWhereUntouched}
+use Rattle.edit_base.specs.Scaffold.{move_of}
+use Rattle.edit_base.specs.Edges.{Edge, corners_from, with_faces, without_faces}
+use Rattle.edit_base.specs.Split.{split_mesh}
+use Rattle.edit_base.proofs.Ends.{new_point}
+use Rattle.edit_base.proofs.FlipSound.{runs_there}
+use Rattle.edit_check.specs.Untouched.{IsUntouched, IsClearWhereUntouched}
+use Rattle.edit_check.specs.Agreeing.{AgreesWhereOld}
 
 -- a clear mesh is
 pub clear_mesh_is : (m : Mesh) (moves : List Move) (fresh_from : ℕ) → IsClearMesh m → IsClearWhereUntouched m moves fresh_from
@@ -16,3 +33,91 @@ all_new_is m moves sound p untouched meet =
     let first : 1 ≤ p.name.face = (sound.is_mesh.face_ids p.name.face (ap is_some untouched.is_pair.face)).0 in
     let old : p.name.face < 1 = untouched.old_face in
     absurd (omega arith)
+
+-- ---- a mesh that is another one but for new and moved parts
+edge_forth : (m : Mesh) (f : ℕ) (c : Corners) (u v : ℕ) → HasCorners m f c → follows c u v ≡ true → IsEdge m u v
+edge_forth m f c u v there step = let some = runs_there m f c u v there step in omega arith
+
+edge_back : (m : Mesh) (u v : ℕ) → IsEdge m u v → IsEdge m v u
+edge_back m u v h = omega arith
+
+module _ (old new : Mesh) (moves : List Move) (sound : IsSound old) (agrees : AgreesWhereOld old new moves) (p : Pair) (untouched : IsUntouched new moves old.next_face p) where
+  was_edge : IsEdge old p.name.a p.name.b
+  was_edge =
+      let side = untouched.old_edge in
+      let there = agrees.faces side.face side.corners side.is_face side.is_old in
+      ⊎_elim
+      (λ e. edge_forth old side.face side.corners p.name.a p.name.b there e)
+      (λ e. edge_back old p.name.b p.name.a (edge_forth old side.face side.corners p.name.b p.name.a there e))
+      side.side
+
+  was_face : HasCorners old p.name.face p.corners
+  was_face = agrees.faces p.name.face p.corners untouched.is_pair.face untouched.old_face
+
+  was_pair : IsPair old p
+  was_pair = record { ordered = untouched.is_pair.ordered; edge = was_edge; face = was_face; not_first = untouched.is_pair.not_first; not_second = untouched.is_pair.not_second }
+
+  stood : (v : ℕ) → IsLiveVertex old v → move_of moves v ≡ None → own_points_doubled new v ≡ own_points_doubled old v
+  stood v live rests = ap (times 2) (agrees.points v (sound.is_mesh.vertex_ids v live).1 rests)
+
+  stood_all : positions (own_points_doubled new) p ≡ positions (own_points_doubled old) p
+  stood_all =
+      let ends = edge_live old p.name.a p.name.b sound was_edge in
+      let corners = sound.is_mesh.live_corners p.name.face p.corners was_face in
+      λ i. record {
+        a = stood p.name.a ends.0 (untouched.still 0 0 (omega arith)) i;
+        b = stood p.name.b ends.1 (untouched.still 1 0 (omega arith)) i;
+        c = stood p.corners.first corners.0 (untouched.still 2 0 (omega arith)) i;
+        d = stood p.corners.second corners.1 (untouched.still 3 0 (omega arith)) i;
+        e = stood p.corners.third corners.2 (untouched.still 4 0 (omega arith)) i;
+      }
+
+pub agreeing_is : (old new : Mesh) (moves : List Move) → IsSound old → IsClearMesh old → AgreesWhereOld old new moves → IsClearWhereUntouched new moves old.next_face
+agreeing_is old new moves sound clear agrees p untouched meet =
+    clear p (was_pair old new moves sound agrees p untouched)
+    (Meets-unmultiple 2 (positions (own_points old) p) (omega arith) (subst MeetAt (stood_all old new moves sound agrees p untouched) meet))
+
+-- ---- after faces are dropped and made
+old_of_made : (m : Mesh) (cs : List Corners) (f : ℕ) (c : Corners) → HasCorners (with_faces m cs) f c → f < m.next_face → HasCorners m f c
+old_of_made m [] f c there below = there
+old_of_made m (k ∷ ks) f c there below = ⊎_elim
+    (λ e. let same : f ≡ m.next_face = e.0 in absurd (omega arith))
+    (λ old. old)
+    (got_after_insert m.faces m.next_face k f c (old_of_made (with_face m k) ks f c there (let h : f < m.next_face + 1 = omega arith in h)))
+
+old_of_dropped : (m : Mesh) (fs : List ℕ) (f : ℕ) (c : Corners) → HasCorners (without_faces m fs) f c → HasCorners m f c
+old_of_dropped m [] f c there = there
+old_of_dropped m (g ∷ gs) f c there = (got_after_remove m.faces g f c (old_of_dropped (without_face m g) gs f c there)).1
+
+next_face-dropped : (m : Mesh) (fs : List ℕ) → (without_faces m fs).next_face ≡ m.next_face
+next_face-dropped m [] = refl
+next_face-dropped m (g ∷ gs) = next_face-dropped (without_face m g) gs
+
+points-dropped : (m : Mesh) (fs : List ℕ) → (without_faces m fs).points ≡ m.points
+points-dropped m [] = refl
+points-dropped m (g ∷ gs) = points-dropped (without_face m g) gs
+
+points-made : (m : Mesh) (cs : List Corners) → (with_faces m cs).points ≡ m.points
+points-made m [] = refl
+points-made m (c ∷ cs) = points-made (with_face m c) cs
+
+-- a mesh of which faces are dropped and others made
+pub faces_changed : (m : Mesh) (fs : List ℕ) (cs : List Corners) (moves : List Move) → AgreesWhereOld m (with_faces (without_faces m fs) cs) moves
+faces_changed m fs cs moves = record {
+  faces = λ f c there below. old_of_dropped m fs f c (old_of_made (without_faces m fs) cs f c there (subst (λ n. f < n) (sym (next_face-dropped m fs)) below));
+  points = λ v below rests. ap (λ ps. own_points (record m { points = ps }) v) (points-made (without_faces m fs) cs ∙ points-dropped m fs);
+}
+
+-- a mesh whose edge is split
+pub split_changed : (m : Mesh) (s : Edge) (at : Point) (moves : List Move) → AgreesWhereOld m (split_mesh m s at) moves
+split_changed m s at moves =
+    let drops = s.forth ∷ s.back ∷ [] in
+    let w = m.next_vertex in
+    let four : List Corners = corners_from s.a w s.c ∷ corners_from w s.b s.c ∷ corners_from s.b w s.d ∷ corners_from w s.a s.d ∷ [] in
+    record {
+      faces = λ f c there below. old_of_dropped m drops f c (old_of_made (with_vertex (without_faces m drops) at) four f c there below);
+      points = λ v below rests. new_point m s at v ∙ ap (λ b. cond b (position_of at) (own_points m v)) (apart v below);
+    }
+  where
+    apart : (v : ℕ) → v < m.next_vertex → (m.next_vertex == v) ≡ false
+    apart v below = grind (arith, nat_tests)

@@ -2,3 +2,4 @@ pub mod Untouched
 pub mod Moving
 pub mod Lacking
 pub mod Checking
+pub mod Agreeing

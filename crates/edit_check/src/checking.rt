@@ -1,9 +1,11 @@
 //! The first pair that is not as required.
-ghost use Rattle.std.specs.Prelude.{◌≡◌, ◌≤◌, ◌<◌, IfOk, IsNone};
+ghost use Rattle.std.specs.Prelude.{◌≡◌, ◌≤◌, ◌<◌, [], IfOk, IsNone};
 ghost use Rattle.std.specs.List.{filter, All};
 ghost use Rattle.grid_decided.specs.Decided.{meets_exactly};
 ghost use Rattle.mesh_base.specs.Sides.{IsEdge};
 ghost use Rattle.mesh_base.specs.Pairs.{pairs_of};
+ghost use Rattle.mesh_base.specs.Placements.{own_points, IsClearMesh};
+ghost use Rattle.mesh_base.specs.Failing.{first_meeting};
 ghost use Rattle.edit_base.specs.Scaffold.{first_lacking, motion_by, IsClearBut};
 ghost use Rattle.edit_check.specs.Untouched.{IsClearWhereUntouched, MoveFits};
 ghost use Rattle.edit_check.specs.Moving.{moving_faces};
@@ -93,4 +95,21 @@ pub fn check<S: Surface>(
         }
     }
     Ok(None)
+}
+
+/// The first pair that meets, in order of the edge and then of the face, over all pairs of the mesh, where its vertices
+/// stand; None exactly where the mesh is clear. Faces from the id `fresh_from` on are new. Pairs of an old edge and an old
+/// face are not tested: they are not to meet. Refuses only where there is no memory.
+pub fn check_still<S: Surface>(
+    alloc: Global,
+    mesh: &S,
+    fresh_from: u32,
+) -> Result<Option<PairName>, NoMemory>
+    requires { IsClearWhereUntouched (S.mesh mesh.now) [] fresh_from }
+    ensures first { IfOk result (λ found. found ≡ first_meeting meets_exactly (S.mesh mesh.now) (own_points (S.mesh mesh.now))) }
+    // None: the mesh is clear.
+    ensures clear { IfOk result (λ found. IsNone found → IsClearMesh (S.mesh mesh.now)) }
+{
+    let found = check(alloc, mesh, &[], Touch::Never, &[], fresh_from, 0)?;
+    Ok(found)
 }

@@ -3,9 +3,10 @@
 
 mod checking;
 mod lacking;
+pub mod laws;
 mod moving;
 
-pub use checking::check;
+pub use checking::{check, check_still};
 pub use edit_base::{Move, Touch};
 
 #[cfg(test)]

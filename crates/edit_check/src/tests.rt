@@ -4,7 +4,7 @@ ghost use Rattle.grid_base.specs.declared.TheConstants.{HALF_MAX};
 ghost use Rattle.grid_base.specs.Triples.{IsWithin};
 ghost use Rattle.edit_check.specs.Untouched.{MoveFits};
 
-use crate::{Move, Touch, check};
+use crate::{Move, Touch, check, check_still};
 use grid_base::{NoMemory, Point, Wide};
 use mesh_plain::{FaceId, MeshLists, PairName, PlainMesh, Points, Triangles, VertexId, shape};
 use pair_scan::first_meeting;
@@ -196,5 +196,14 @@ fn two_that_touch_may_part_or_come_together(rt: HostRuntime) -> Result<(), Fail>
         let found = first_of_two(rt.alloc(), ones, fives, touch, &rt)?;
         assert_eq!(rt; found, joining);
     }
+    Ok(())
+}
+
+#[test]
+fn bodies_that_stand_still_meet_where_they_touch(rt: HostRuntime) -> Result<(), Fail> {
+    let apart = mesh_at(rt.alloc(), &APART, &rt)?;
+    assert_eq!(rt; check_still(rt.alloc(), &apart, 1)?, None);
+    let touching_mesh = mesh_at(rt.alloc(), &TOUCHING, &rt)?;
+    assert_eq!(rt; check_still(rt.alloc(), &touching_mesh, 1)?, touching());
     Ok(())
 }
