@@ -80,6 +80,7 @@ directive_of first words =
     else if bytes_eq first (codes "shift") then shift_of words
     else if bytes_eq first (codes "step") then alone Step words
     else if bytes_eq first (codes "split") then split_of words
+    else if bytes_eq first (codes "flip") then alone (Pass pass.Flip) words
     else if bytes_eq first (codes "save") then alone Save words
     else Err Unknown
 

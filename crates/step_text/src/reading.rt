@@ -124,6 +124,9 @@ fn directive(first: &[u8], words: Words<'_>) -> Result<Directive, TextWhy>
     if is_word(first, b"split") {
         return split(words);
     }
+    if is_word(first, b"flip") {
+        return alone(Directive::Pass(PassKind::Flip), words);
+    }
     if is_word(first, b"save") {
         return alone(Directive::Save, words);
     }
