@@ -22,7 +22,8 @@ use Rattle.log_text.specs.declared.log_line.Refusal.TheVariants as refusal
 use Rattle.line_text.specs.Spellings.{spelled_number, spelled_from, spelled_at, count_with_end}
 use Rattle.log_text.specs.Fields.{Reader, both}
 use Rattle.log_text.specs.Lines.{line_words, file_word, pair_words, how_words, shape_words, use_words, refusal_words}
-use Rattle.log_text.specs.Reading.{whole, alone, first_of, mesh_of, step_of, hit_of, move_of, moved_of, or_unknown, file_of, refused, long_of, missing_of, shape_of, use_numbers, use_of, refused_of, line_of, pair_at, shift_of_at, fault_at}
+use Rattle.log_text.specs.Values.{whole, alone, pair_at, shift_of_at, fault_at}
+use Rattle.log_text.specs.Reading.{first_of, mesh_of, step_of, hit_of, move_of, moved_of, or_unknown, file_of, refused, long_of, missing_of, shape_of, use_numbers, use_of, refused_of, plain_of, line_of}
 use Rattle.log_text.specs.Laws.{IsFrom, IsPairInRange, IsUseInRange, IsInRange, IsOfVersion}
 use Rattle.log_text.proofs.Steps.{bound, ok_same, picked, fault_value}
 use Rattle.log_text.proofs.Exactness.{IsExact, count_with_end-length, count_with_end-back, whole-forth, whole-back, spelled_at-exact, word_number-decimal, word_number-some}
