@@ -8,6 +8,8 @@ pub mod Exactness
 pub mod Spellings
 pub mod EditSpellings
 pub mod Lists
+pub mod LineForms
+pub mod EditLineSpellings
 pub mod LineSpellings
 pub mod GraphicWords
 pub mod LogLaws

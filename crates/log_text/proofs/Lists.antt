@@ -1,8 +1,9 @@
 -- Lists of ids, and of vertices with their points, are read exactly.
-use Rattle.std.proofs.Common.{◌≡◌, ℕ, ◌+◌, ◌<◌, ◌≤◌, ◌^◌, Bool, true, List, [], ◌∷◌, ◌++◌, length, drop, map, Result, Ok, Err, refl, sym, ap, subst, ◌∙◌, arith, lit<, append_assoc}
-use Rattle.std.specs.Prelude.{decimal}
+use Rattle.std.proofs.Common.{◌≡◌, ℕ, ◌+◌, ◌<◌, ◌≤◌, ◌^◌, Bool, true, ltb, List, [], ◌∷◌, ◌++◌, length, drop, map, Result, Ok, Err, refl, sym, ap, subst, ◌∙◌, arith, lit<, append_assoc}
+use Rattle.std.specs.Prelude.{decimal, if◌then◌else◌}
 use Rattle.std.specs.List.{AllByRecursion}
-use Rattle.std.proofs.lemmas.List.{append-nil}
+use Rattle.std.proofs.lemmas.Bool.{le-ltb, ltb-false}
+use Rattle.std.proofs.lemmas.List.{append-nil, length-append}
 use Rattle.edit_base.specs.declared.CopyAt.{CopyAt}
 use Rattle.grid_base.specs.declared.TheConstants.{ID_MAX}
 use Rattle.line_text.specs.declared.TextWhy.{TextWhy}
@@ -11,11 +12,25 @@ use Rattle.line_text.specs.Faults.{◌>>=◌}
 use Rattle.line_text.specs.Spellings.{spelled_number, spelled_from}
 use Rattle.log_text.specs.Lines.{place_words, places_words}
 use Rattle.log_text.specs.Values.{place_at}
-use Rattle.log_text.specs.EditLines.{ids_add, four_by_four, places_add}
+use Rattle.log_text.specs.EditLines.{at_least, ids_add, four_by_four, places_add, first_place}
 use Rattle.log_text.specs.Laws.{IsFrom, AreRising}
-use Rattle.log_text.proofs.Steps.{bound, ok_same, fault_value}
+use Rattle.log_text.proofs.Steps.{bound, ok_same, by_test, fault_value}
 use Rattle.log_text.proofs.Exactness.{IsExact, word_number-some, word_number-decimal}
 use Rattle.log_text.proofs.EditSpellings.{PlaceFits, place_at-exact}
+
+-- ---- how many words there are
+
+pub at_least-length : (count : ℕ) (words : List (List ℕ)) → count ≤ length words → at_least true count words ≡ Ok tt
+unfolding at_least
+at_least-length count words le = rw (le-ltb (length words) count le) refl
+
+pub at_least-back : (ended : Bool) (count : ℕ) (words : List (List ℕ)) (u : Unit {0}) → at_least ended count words ≡ Ok u → (ended ≡ true) × (count ≤ length words)
+unfolding at_least
+at_least-back ended count words u h =
+    by_test (ltb (length words) count) (Err Short) (if ended then Ok tt else Err Short) (Ok u)
+    (λ t e. fault_value Short u e)
+    (λ t e. by_test ended (Ok tt) (Err Short) (Ok u) (λ s g. (s, ltb-false (length words) count t)) (λ s g. fault_value Short u g) e)
+    h
 
 -- ---- ids
 
@@ -92,6 +107,38 @@ places_add-forth before (place ∷ places) r =
 pub four_by_four-places : (places : List CopyAt) → four_by_four (places_words places) ≡ Ok tt
 four_by_four-places [] = refl
 four_by_four-places (place ∷ places) = four_by_four-places places
+
+-- the first place of a pinch, with the words of its copies behind it
+pub record FirstPlace (ended : Bool) (words : List (List ℕ)) (place : CopyAt) (rest : List (List ℕ)) : Type 0 where
+  pub has_end : ended ≡ true
+  pub same : words ≡ place_words place ++ rest
+  pub some : 0 < length rest
+  pub whole : four_by_four rest ≡ Ok tt
+  pub fits : PlaceFits place
+
+pub first_place-back : (ended : Bool) (words : List (List ℕ)) (place : CopyAt) (rest : List (List ℕ)) → first_place ended words ≡ Ok (place, rest) → FirstPlace ended words place rest
+unfolding first_place
+first_place-back ended words place rest h =
+    let c = bound (at_least ended 8 words) (λ (u : Unit {0}). four_by_four words >>= λ whole. place_at words) (place, rest) h in
+    let f = bound (four_by_four words) (λ (u : Unit {0}). place_at words) (place, rest) c.after in
+    let n = at_least-back ended 8 words c.value c.first in
+    let p = place_at-exact.back words place rest f.after in
+    record {
+      has_end = n.0;
+      same = p.0;
+      some = omega (arith, ap length p.0, n.1);
+      whole = sym (ap four_by_four p.0) ∙ f.first;
+      fits = p.1;
+    }
+
+pub first_place-forth : (place : CopyAt) (copies : List CopyAt) → PlaceFits place → 0 < length copies → first_place true (place_words place ++ places_words copies) ≡ Ok (place, places_words copies)
+unfolding first_place
+first_place-forth place copies r some =
+    rw (at_least-length 8 (place_words place ++ places_words copies) (long copies some), four_by_four-places copies) (place_at-exact.forth place (places_words copies) r)
+  where
+    long : (copies : List CopyAt) → 0 < length copies → 8 ≤ length (place_words place ++ places_words copies)
+    long [] some = absurd (omega arith)
+    long (copy ∷ copies) some = omega arith
 
 -- ---- places that are read one after the other
 
