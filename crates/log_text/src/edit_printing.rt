@@ -15,29 +15,24 @@ pub(crate) fn print_pass(pass: PassKind, into: &mut Vec<u8>) -> Result<(), NoMem
 {
     let name = Field::Text(b"pass");
     match pass {
-        PassKind::Split { over } => put_words(&[
-            name,
-            Field::Text(b"split"),
-            Field::Number(u64::from(over)),
-        ], into),
-        PassKind::Collapse { under } => put_words(&[
-            name,
-            Field::Text(b"collapse"),
-            Field::Number(u64::from(under)),
-        ], into),
-        PassKind::Flip => put_words(&[
-            name,
-            Field::Text(b"flip"),
-        ], into),
-        PassKind::Zip { within } => put_words(&[
-            name,
-            Field::Text(b"zip"),
-            Field::Number(u64::from(within)),
-        ], into),
-        PassKind::Pinch => put_words(&[
-            name,
-            Field::Text(b"pinch"),
-        ], into),
+        PassKind::Split { over } => put_words(
+            &[name, Field::Text(b"split"), Field::Number(u64::from(over))],
+            into,
+        ),
+        PassKind::Collapse { under } => put_words(
+            &[
+                name,
+                Field::Text(b"collapse"),
+                Field::Number(u64::from(under)),
+            ],
+            into,
+        ),
+        PassKind::Flip => put_words(&[name, Field::Text(b"flip")], into),
+        PassKind::Zip { within } => put_words(
+            &[name, Field::Text(b"zip"), Field::Number(u64::from(within))],
+            into,
+        ),
+        PassKind::Pinch => put_words(&[name, Field::Text(b"pinch")], into),
     }
 }
 
@@ -65,36 +60,48 @@ pub(crate) fn print_change(change: &Change, into: &mut Vec<u8>) -> Result<(), No
     ensures err { OnErr result (Keeps into.old.items into.new.items) }
 {
     match change {
-        Change::Split { a, b, w, at } => put_words(&[
-            Field::Text(b"split"),
-            Field::Number(u64::from(a.0)),
-            Field::Number(u64::from(b.0)),
-            Field::Number(u64::from(w.0)),
-            Field::Signed(at.x),
-            Field::Signed(at.y),
-            Field::Signed(at.z),
-        ], into),
-        Change::Flip { a, b } => put_words(&[
-            Field::Text(b"flip"),
-            Field::Number(u64::from(a.0)),
-            Field::Number(u64::from(b.0)),
-        ], into),
-        Change::Collapse { a, b, at } => put_words(&[
-            Field::Text(b"collapse"),
-            Field::Number(u64::from(a.0)),
-            Field::Number(u64::from(b.0)),
-            Field::Signed(at.x),
-            Field::Signed(at.y),
-            Field::Signed(at.z),
-        ], into),
-        Change::Zip { a, b, e, f, turn } => put_words(&[
-            Field::Text(b"zip"),
-            Field::Number(u64::from(a.0)),
-            Field::Number(u64::from(b.0)),
-            Field::Number(u64::from(e.0)),
-            Field::Number(u64::from(f.0)),
-            Field::Number(u64::from(*turn)),
-        ], into),
+        Change::Split { a, b, w, at } => put_words(
+            &[
+                Field::Text(b"split"),
+                Field::Number(u64::from(a.0)),
+                Field::Number(u64::from(b.0)),
+                Field::Number(u64::from(w.0)),
+                Field::Signed(at.x),
+                Field::Signed(at.y),
+                Field::Signed(at.z),
+            ],
+            into,
+        ),
+        Change::Flip { a, b } => put_words(
+            &[
+                Field::Text(b"flip"),
+                Field::Number(u64::from(a.0)),
+                Field::Number(u64::from(b.0)),
+            ],
+            into,
+        ),
+        Change::Collapse { a, b, at } => put_words(
+            &[
+                Field::Text(b"collapse"),
+                Field::Number(u64::from(a.0)),
+                Field::Number(u64::from(b.0)),
+                Field::Signed(at.x),
+                Field::Signed(at.y),
+                Field::Signed(at.z),
+            ],
+            into,
+        ),
+        Change::Zip { a, b, e, f, turn } => put_words(
+            &[
+                Field::Text(b"zip"),
+                Field::Number(u64::from(a.0)),
+                Field::Number(u64::from(b.0)),
+                Field::Number(u64::from(e.0)),
+                Field::Number(u64::from(f.0)),
+                Field::Number(u64::from(*turn)),
+            ],
+            into,
+        ),
         Change::Pinch { v, at, copies } => print_pinch(*v, *at, copies, into),
     }
 }
@@ -105,32 +112,44 @@ fn put_asked(what: Asked, into: &mut Vec<u8>) -> Result<(), NoMemory>
     ensures err { OnErr result (Keeps into.old.items into.new.items) }
 {
     match what {
-        Asked::Split { a, b } => put_spaced(&[
-            Field::Text(b"split"),
-            Field::Number(u64::from(a.0)),
-            Field::Number(u64::from(b.0)),
-        ], into),
-        Asked::Flip { a, b } => put_spaced(&[
-            Field::Text(b"flip"),
-            Field::Number(u64::from(a.0)),
-            Field::Number(u64::from(b.0)),
-        ], into),
-        Asked::Collapse { a, b } => put_spaced(&[
-            Field::Text(b"collapse"),
-            Field::Number(u64::from(a.0)),
-            Field::Number(u64::from(b.0)),
-        ], into),
-        Asked::Zip { a, b, e, f } => put_spaced(&[
-            Field::Text(b"zip"),
-            Field::Number(u64::from(a.0)),
-            Field::Number(u64::from(b.0)),
-            Field::Number(u64::from(e.0)),
-            Field::Number(u64::from(f.0)),
-        ], into),
-        Asked::Pinch { v } => put_spaced(&[
-            Field::Text(b"pinch"),
-            Field::Number(u64::from(v.0)),
-        ], into),
+        Asked::Split { a, b } => put_spaced(
+            &[
+                Field::Text(b"split"),
+                Field::Number(u64::from(a.0)),
+                Field::Number(u64::from(b.0)),
+            ],
+            into,
+        ),
+        Asked::Flip { a, b } => put_spaced(
+            &[
+                Field::Text(b"flip"),
+                Field::Number(u64::from(a.0)),
+                Field::Number(u64::from(b.0)),
+            ],
+            into,
+        ),
+        Asked::Collapse { a, b } => put_spaced(
+            &[
+                Field::Text(b"collapse"),
+                Field::Number(u64::from(a.0)),
+                Field::Number(u64::from(b.0)),
+            ],
+            into,
+        ),
+        Asked::Zip { a, b, e, f } => put_spaced(
+            &[
+                Field::Text(b"zip"),
+                Field::Number(u64::from(a.0)),
+                Field::Number(u64::from(b.0)),
+                Field::Number(u64::from(e.0)),
+                Field::Number(u64::from(f.0)),
+            ],
+            into,
+        ),
+        Asked::Pinch { v } => put_spaced(
+            &[Field::Text(b"pinch"), Field::Number(u64::from(v.0))],
+            into,
+        ),
     }
 }
 
@@ -147,12 +166,15 @@ fn put_reason(why: Why, into: &mut Vec<u8>) -> Result<(), NoMemory>
         Why::Full => put_spaced(&[Field::Text(b"full")], into),
         Why::Doubled => put_spaced(&[Field::Text(b"doubled")], into),
         Why::OneFan => put_spaced(&[Field::Text(b"onefan")], into),
-        Why::Hit(pair) => put_spaced(&[
-            Field::Text(b"hit"),
-            Field::Number(u64::from(pair.a.0)),
-            Field::Number(u64::from(pair.b.0)),
-            Field::Number(u64::from(pair.face.0)),
-        ], into),
+        Why::Hit(pair) => put_spaced(
+            &[
+                Field::Text(b"hit"),
+                Field::Number(u64::from(pair.a.0)),
+                Field::Number(u64::from(pair.b.0)),
+                Field::Number(u64::from(pair.face.0)),
+            ],
+            into,
+        ),
     }
 }
 

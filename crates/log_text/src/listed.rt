@@ -42,7 +42,12 @@ fn ids(alloc: Global, words: Parts<'_>, number: u32) -> Result<Ids, ReadFault>
 }
 
 #[tactic(auto, unfolding(crate::specs::EditLines::block_of))]
-pub(crate) fn block(alloc: Global, ended: bool, words: Parts<'_>, number: u32) -> Result<LogLine, ReadFault>
+pub(crate) fn block(
+    alloc: Global,
+    ended: bool,
+    words: Parts<'_>,
+    number: u32,
+) -> Result<LogLine, ReadFault>
     ensures { Gives (λ l. l) result (at_line number (spec.block_of ended (parts_left words.entry))) }
 {
     match at_least(ended, 2, words) {
@@ -103,7 +108,12 @@ fn first_place(ended: bool, words: &mut Parts<'_>) -> Result<CopyAt, TextWhy>
 }
 
 #[tactic(auto, unfolding(crate::specs::EditLines::pinch_of))]
-pub(crate) fn pinch(alloc: Global, ended: bool, words: Parts<'_>, number: u32) -> Result<LogLine, ReadFault>
+pub(crate) fn pinch(
+    alloc: Global,
+    ended: bool,
+    words: Parts<'_>,
+    number: u32,
+) -> Result<LogLine, ReadFault>
     ensures { Gives (λ l. l) result (at_line number (spec.pinch_of ended (parts_left words.entry))) }
 {
     let mut words = words;

@@ -12,7 +12,8 @@ use crate::COUNT_MAX;
 use crate::log_line::LogLine;
 use grid_base::{ID_MAX, SHIFT_MAX, Shift};
 use line_text::{
-    Parts, TextFault, TextWhy, count_with_end, is_word, spelled_at, spelled_number, spelled_signed_at,
+    Parts, TextFault, TextWhy, count_with_end, is_word, spelled_at, spelled_number,
+    spelled_signed_at,
 };
 use mesh_base::{FaceId, FileWord, PairName, ShiftOf, VertexId};
 
