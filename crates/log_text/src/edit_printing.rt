@@ -80,14 +80,14 @@ pub(crate) fn print_change(change: &Change, into: &mut Vec<u8>) -> Result<(), No
             ],
             into,
         ),
-        Change::Collapse { a, b, at } => put_words(
+        Change::Collapse { a, b, at: end } => put_words(
             &[
                 Field::Text(b"collapse"),
                 Field::Number(u64::from(a.0)),
                 Field::Number(u64::from(b.0)),
-                Field::Signed(at.x),
-                Field::Signed(at.y),
-                Field::Signed(at.z),
+                Field::Signed(end.x),
+                Field::Signed(end.y),
+                Field::Signed(end.z),
             ],
             into,
         ),
