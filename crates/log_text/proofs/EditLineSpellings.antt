@@ -1,13 +1,10 @@
 -- The lines that tell of blocks, passes and edits are read exactly from their words.
-use Rattle.std.proofs.Common.{◌≡◌, ℕ, ◌+◌, ◌<◌, ◌≤◌, ◌^◌, Bool, true, false, List, [], ◌∷◌, ◌++◌, length, drop, map, Option, Some, None, Result, Ok, Err, refl, sym, ap, subst, ◌∙◌, arith, lit<, append_assoc}
-use Rattle.std.specs.Prelude.{All, decimal, codes, is_some, if◌then◌else◌}
-use Rattle.std.specs.List.{AllByRecursion}
-use Rattle.std.specs.Str.{bytes_eq}
-use Rattle.std.proofs.lemmas.List.{append-nil, length-append, length-map}
+use Rattle.std.proofs.Common.{◌≡◌, ℕ, ◌<◌, ◌≤◌, Bool, true, List, [], ◌∷◌, ◌++◌, length, drop, map, Result, Ok, refl, sym, ap, subst, ◌∙◌, arith, lit<, append_assoc}
+use Rattle.std.specs.Prelude.{decimal, codes}
+use Rattle.std.proofs.lemmas.List.{append-nil, length-map}
 use Rattle.std.proofs.lemmas.List.Elements.{All-from_recursion, recursion_from_All}
 use Rattle.edit_base.specs.declared.Asked.{Asked}
 use Rattle.edit_base.specs.declared.Asked.TheVariants as asked
-use Rattle.edit_base.specs.declared.Change.{Change}
 use Rattle.edit_base.specs.declared.Change.TheVariants as change
 use Rattle.edit_base.specs.declared.CopyAt.{CopyAt}
 use Rattle.edit_base.specs.declared.PassKind.{PassKind}
@@ -24,16 +21,16 @@ use Rattle.log_text.specs.declared.TheConstants.{TURN_MAX}
 use Rattle.log_text.specs.declared.log_line.LogLine.{LogLine}
 use Rattle.log_text.specs.declared.log_line.LogLine.TheVariants as line
 use Rattle.log_text.specs.Fields.{Reader, both}
-use Rattle.log_text.specs.Lines.{line_words, pair_words, point_words, place_words, places_words, pass_words, change_words, asked_words, reason_words}
+use Rattle.log_text.specs.Lines.{line_words, pair_words, point_words, place_words, places_words, pass_words, asked_words, reason_words}
 use Rattle.log_text.specs.Values.{edge_at, position_at, place_at, reason_of, reason_at}
 use Rattle.log_text.specs.EditLines.{pass_of, split_of, flip_of, collapse_of, zip_of, reason_with_end, asked_of, no_of, edit_of, at_least, ids_add, block_of, places_add, first_place, pinch_of}
-use Rattle.log_text.specs.Laws.{IsFrom, IsEdgeInRange, IsPassInRange, IsChangeInRange, IsAskedInRange, IsReasonInRange, IsInRange, IsOfVersion}
-use Rattle.log_text.proofs.Steps.{bound, ok_same, by_test, picked, fault_value}
+use Rattle.log_text.specs.Laws.{IsFrom, IsEdgeInRange, IsPassInRange, IsChangeInRange, IsAskedInRange, IsReasonInRange, IsInRange}
+use Rattle.log_text.proofs.Steps.{bound, ok_same, picked, fault_value}
 use Rattle.log_text.proofs.Exactness.{IsExact, count_with_end-length, count_with_end-back, spelled_at-exact}
 use Rattle.log_text.proofs.Spellings.{both-exact, one}
 use Rattle.log_text.proofs.EditSpellings.{Edge, edge_words, EdgeFits, edge_at-exact, position_at-exact, PlaceFits, place_at-exact, reason_at-exact}
-use Rattle.log_text.proofs.Lists.{at_least-length, at_least-back, IdsAdded, ids_add-back, ids_add-forth, PlacesAdded, places_add-back, places_add-forth, first_place-back, first_place-forth}
-use Rattle.log_text.proofs.LineForms.{IsSpelling, again, spelled, alone_again, alone_spelled, number_of, one_again, one_spelled}
+use Rattle.log_text.proofs.Lists.{at_least-length, at_least-back, ids_add-back, ids_add-forth, places_add-back, places_add-forth, first_place-back, first_place-forth}
+use Rattle.log_text.proofs.LineForms.{IsSpelling, again, spelled, alone_again, alone_spelled, one_again, one_spelled}
 
 -- ---- passes
 

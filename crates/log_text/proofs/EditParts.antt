@@ -1,7 +1,6 @@
 -- A point is by its three coordinates.
 use Rattle.std.proofs.Common.{◌≡◌, ℤ, sym, ap, ◌∙◌}
 use Rattle.grid_base.specs.declared.grid.Point.{Point}
-use Rattle.grid_base.specs.Triples.{Triple}
 use Rattle.grid_base.specs.Points.{point_at}
 use Rattle.grid_base.proofs.PointLaws.{point_at-position_of}
 use Rattle.log_text.proofs.Parts.{same_triple}

@@ -1,6 +1,6 @@
 -- The values of the lines that tell of edits are read exactly.
-use Rattle.std.proofs.Common.{◌≡◌, ℕ, ◌+◌, ◌<◌, ◌≤◌, ◌^◌, List, [], ◌∷◌, ◌++◌, Option, Some, None, Result, Ok, Err, ℤ, refl, sym, ap, subst, ◌∙◌, arith, lit<}
-use Rattle.std.specs.Prelude.{decimal, codes, unsigned_abs, if◌then◌else◌}
+use Rattle.std.proofs.Common.{◌≡◌, ℕ, ◌+◌, List, [], ◌∷◌, ◌++◌, Option, Some, None, Result, Ok, ℤ, refl, ap, subst, lit<}
+use Rattle.std.specs.Prelude.{decimal, codes}
 use Rattle.std.specs.Fmt.{signed_decimal}
 use Rattle.edit_base.specs.declared.CopyAt.{CopyAt}
 use Rattle.edit_base.specs.declared.Why.{Why}
@@ -14,11 +14,11 @@ use Rattle.line_text.specs.declared.TextWhy.{TextWhy}
 use Rattle.line_text.specs.Faults.{◌>>=◌}
 use Rattle.line_text.specs.Spellings.{spelled_at, spelled_signed_at}
 use Rattle.mesh_base.specs.declared.PairName.{PairName}
-use Rattle.log_text.specs.Fields.{Reader, both, or_number}
+use Rattle.log_text.specs.Fields.{both, or_number}
 use Rattle.log_text.specs.Lines.{point_words, place_words, reason_words}
 use Rattle.log_text.specs.Values.{pair_at, edge_at, position_at, place_at, reason_of, reason_at}
 use Rattle.log_text.specs.Laws.{IsFrom, IsEdgeInRange, IsReasonInRange}
-use Rattle.log_text.proofs.Steps.{bound, ok_same, some_same, picked, fault_value}
+use Rattle.log_text.proofs.Steps.{bound, ok_same, some_same, picked}
 use Rattle.log_text.proofs.Exactness.{IsExact, or_number-some, spelled_at-exact, in_turn-exact, made-exact}
 use Rattle.log_text.proofs.Spellings.{one, both-exact, components, AreWithin, pair_at-exact}
 

@@ -1,15 +1,13 @@
 -- Each line is read exactly from its words.
-use Rattle.std.proofs.Common.{◌≡◌, ℕ, ◌<◌, ◌≤◌, ◌^◌, Bool, true, false, List, [], ◌∷◌, ◌++◌, length, Option, Some, None, Result, Ok, Err, refl, sym, ap, subst, ◌∙◌, arith, lit<}
+use Rattle.std.proofs.Common.{◌≡◌, ℕ, ◌<◌, ◌≤◌, ◌^◌, Bool, true, false, List, [], ◌∷◌, length, Option, Some, None, Result, Ok, Err, refl, sym, ap, subst, ◌∙◌, arith, lit<}
 use Rattle.std.specs.Prelude.{decimal, codes, if◌then◌else◌}
 use Rattle.grid_base.specs.declared.TheConstants.{VERTICES_MAX, FACES_MAX, ID_MAX, HALVINGS_MAX}
 use Rattle.line_text.specs.declared.TextWhy.{TextWhy}
 use Rattle.line_text.specs.declared.TextWhy.TheVariants as why
-use Rattle.line_text.specs.declared.TextFault.{TextFault}
 use Rattle.line_text.specs.Faults.{◌>>=◌}
 use Rattle.mesh_base.specs.declared.FileWord.{FileWord}
 use Rattle.mesh_base.specs.declared.How.{How}
 use Rattle.mesh_base.specs.declared.How.TheVariants.{Whole, Impulse, Zones, Halved, Zero}
-use Rattle.mesh_base.specs.declared.PairName.{PairName}
 use Rattle.mesh_base.specs.declared.ShapeFault.{ShapeFault}
 use Rattle.mesh_base.specs.declared.ShapeFault.TheVariants as shape
 use Rattle.mesh_base.specs.declared.UseWhy.{UseWhy}
@@ -21,17 +19,17 @@ use Rattle.log_text.specs.declared.log_line.Refusal.{Refusal}
 use Rattle.log_text.specs.declared.log_line.Refusal.TheVariants as refusal
 use Rattle.line_text.specs.Spellings.{spelled_number, spelled_from, spelled_at, count_with_end}
 use Rattle.log_text.specs.Fields.{Reader, both}
-use Rattle.log_text.specs.Lines.{line_words, file_word, pair_words, how_words, shape_words, use_words, refusal_words}
-use Rattle.log_text.specs.Values.{whole, alone, pair_at, shift_of_at, fault_at}
+use Rattle.log_text.specs.Lines.{line_words, file_word, how_words, shape_words, use_words, refusal_words}
+use Rattle.log_text.specs.Values.{whole, alone, shift_of_at}
 use Rattle.log_text.specs.Reading.{first_of, mesh_of, step_of, hit_of, move_of, moved_of, or_unknown, file_of, refused, long_of, missing_of, shape_of, use_numbers, use_of, refused_of, plain_of, line_of}
 use Rattle.log_text.specs.EditLines.{edit_of}
 use Rattle.edit_base.specs.declared.Change.TheVariants as change
-use Rattle.log_text.specs.Laws.{IsFrom, IsPairInRange, IsUseInRange, IsInRange, IsOfVersion}
+use Rattle.log_text.specs.Laws.{IsFrom, IsUseInRange, IsInRange, IsOfVersion}
 use Rattle.log_text.proofs.Steps.{bound, ok_same, picked, fault_value}
-use Rattle.log_text.proofs.LineForms.{IsSpelling, again, spelled, alone_again, alone_spelled, one, number_of, one_again, one_spelled, Two, two_again, two_spelled, pair_again, pair_spelled, FaultFits, fault_again, fault_spelled}
+use Rattle.log_text.proofs.LineForms.{IsSpelling, again, spelled, alone_again, alone_spelled, number_of, one_again, one_spelled, Two, two_again, two_spelled, pair_again, pair_spelled, fault_again, fault_spelled}
 use Rattle.log_text.proofs.EditLineSpellings.{pass_again, split_again, flip_again, collapse_again, zip_again, no_again, block_again, pinch_again, edit_back, block_back, pinch_back}
 use Rattle.log_text.proofs.Exactness.{IsExact, count_with_end-length, count_with_end-back, word_number-decimal, word_number-some}
-use Rattle.log_text.proofs.Spellings.{three_numbers, pair_at-exact, shift_of_at-exact, shift_of_words, fault_at-exact, fault_words, file_of-word, file_of-some}
+use Rattle.log_text.proofs.Spellings.{three_numbers, shift_of_at-exact, shift_of_words, file_of-word, file_of-some}
 
 -- ---- what is printed is read
 

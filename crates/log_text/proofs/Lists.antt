@@ -1,9 +1,9 @@
 -- Lists of ids, and of vertices with their points, are read exactly.
-use Rattle.std.proofs.Common.{◌≡◌, ℕ, ◌+◌, ◌<◌, ◌≤◌, ◌^◌, Bool, true, ltb, List, [], ◌∷◌, ◌++◌, length, drop, map, Result, Ok, Err, refl, sym, ap, subst, ◌∙◌, arith, lit<, append_assoc}
+use Rattle.std.proofs.Common.{◌≡◌, ℕ, ◌+◌, ◌<◌, ◌≤◌, Bool, true, ltb, List, [], ◌∷◌, ◌++◌, length, drop, map, Result, Ok, Err, refl, sym, ap, ◌∙◌, arith, lit<, append_assoc}
 use Rattle.std.specs.Prelude.{decimal, if◌then◌else◌}
 use Rattle.std.specs.List.{AllByRecursion}
 use Rattle.std.proofs.lemmas.Bool.{le-ltb, ltb-false}
-use Rattle.std.proofs.lemmas.List.{append-nil, length-append}
+use Rattle.std.proofs.lemmas.List.{append-nil}
 use Rattle.edit_base.specs.declared.CopyAt.{CopyAt}
 use Rattle.grid_base.specs.declared.TheConstants.{ID_MAX}
 use Rattle.line_text.specs.declared.TextWhy.{TextWhy}
@@ -13,9 +13,9 @@ use Rattle.line_text.specs.Spellings.{spelled_number, spelled_from}
 use Rattle.log_text.specs.Lines.{place_words, places_words}
 use Rattle.log_text.specs.Values.{place_at}
 use Rattle.log_text.specs.EditLines.{at_least, ids_add, four_by_four, places_add, first_place}
-use Rattle.log_text.specs.Laws.{IsFrom, AreRising}
+use Rattle.log_text.specs.Laws.{AreRising}
 use Rattle.log_text.proofs.Steps.{bound, ok_same, by_test, fault_value}
-use Rattle.log_text.proofs.Exactness.{IsExact, word_number-some, word_number-decimal}
+use Rattle.log_text.proofs.Exactness.{word_number-some, word_number-decimal}
 use Rattle.log_text.proofs.EditSpellings.{PlaceFits, place_at-exact}
 
 -- ---- how many words there are

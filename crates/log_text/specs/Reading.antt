@@ -2,8 +2,7 @@
 use Rattle.std.specs.Prelude.{ℕ, ◌+◌, Bool, ◌==◌, if◌then◌else◌, List, [], ◌∷◌, ◌++◌, length, Option, Some, None, Result, Ok, Err, codes, true, false}
 use Rattle.std.specs.List.{slice_split}
 use Rattle.std.specs.Str.{bytes_eq}
-use Rattle.grid_base.specs.declared.TheConstants.{VERTICES_MAX, FACES_MAX, ID_MAX, SHIFT_MAX, HALVINGS_MAX}
-use Rattle.grid_base.specs.Points.{shift_by}
+use Rattle.grid_base.specs.declared.TheConstants.{VERTICES_MAX, FACES_MAX, ID_MAX, HALVINGS_MAX}
 use Rattle.line_text.specs.declared.TextWhy.{TextWhy}
 use Rattle.line_text.specs.declared.TextWhy.TheVariants as why
 use Rattle.line_text.specs.declared.TextFault.{TextFault}
@@ -11,8 +10,6 @@ use Rattle.line_text.specs.Faults.{◌>>=◌, at_line}
 use Rattle.mesh_base.specs.declared.FileWord.{FileWord}
 use Rattle.mesh_base.specs.declared.FileWord.TheVariants as file
 use Rattle.mesh_base.specs.declared.How.TheVariants.{Whole, Impulse, Zones, Halved, Zero}
-use Rattle.mesh_base.specs.declared.PairName.{PairName}
-use Rattle.mesh_base.specs.declared.ShiftOf.{ShiftOf}
 use Rattle.mesh_base.specs.declared.ShapeFault.TheVariants as shape
 use Rattle.mesh_base.specs.declared.UseWhy.TheVariants as using
 use Rattle.log_text.specs.declared.TheConstants.{COUNT_MAX, SEEN_MAX, CORNER_MAX, PASSES_MAX, ROUNDS_MAX, VERSION}
@@ -20,7 +17,7 @@ use Rattle.log_text.specs.declared.log_line.LogLine.{LogLine}
 use Rattle.log_text.specs.declared.log_line.LogLine.TheVariants as line
 use Rattle.log_text.specs.declared.log_line.Refusal.{Refusal}
 use Rattle.log_text.specs.declared.log_line.Refusal.TheVariants as refusal
-use Rattle.line_text.specs.Spellings.{spaced_words, spelled_number, spelled_from, spelled_at, spelled_signed_at, count_with_end}
+use Rattle.line_text.specs.Spellings.{spaced_words, spelled_number, spelled_from, spelled_at, count_with_end}
 use Rattle.log_text.specs.Fields.{both}
 use Rattle.log_text.specs.Values.{pair_at, shift_of_at, fault_at, whole, alone}
 use Rattle.log_text.specs.EditLines.{block_of, pinch_of, edit_of}

@@ -1,5 +1,5 @@
 -- Values of a log's lines, as words spell them.
-use Rattle.std.specs.Prelude.{ℕ, ◌+◌, Bool, if◌then◌else◌, List, [], ◌∷◌, length, nat_lt, Option, Some, None, option_map, is_some, Result, Ok, Err, codes}
+use Rattle.std.specs.Prelude.{ℕ, ◌+◌, Bool, if◌then◌else◌, List, [], ◌∷◌, Option, Some, None, Result, Ok, Err, codes}
 use Rattle.std.specs.Str.{bytes_eq}
 use Rattle.edit_base.specs.declared.CopyAt.{CopyAt}
 use Rattle.edit_base.specs.declared.Why.{Why}
@@ -11,7 +11,7 @@ use Rattle.line_text.specs.declared.TextWhy.{TextWhy}
 use Rattle.line_text.specs.declared.TextWhy.TheVariants as why
 use Rattle.line_text.specs.declared.TextFault.{TextFault}
 use Rattle.line_text.specs.Faults.{◌>>=◌}
-use Rattle.line_text.specs.Spellings.{spelled_number, spelled_from, spelled_at, spelled_signed_at, count_with_end}
+use Rattle.line_text.specs.Spellings.{spelled_at, spelled_signed_at, count_with_end}
 use Rattle.mesh_base.specs.declared.PairName.{PairName}
 use Rattle.mesh_base.specs.declared.ShiftOf.{ShiftOf}
 use Rattle.log_text.specs.declared.TheConstants.{COUNT_MAX}

@@ -1,4 +1,4 @@
-use Rattle.std.proofs.Common.{rules, ◌≡◌, ◌+◌, ◌<◌, ap, length, arith}
+use Rattle.std.proofs.Common.{rules, ◌<◌, ap, length, arith}
 use Rattle.line_text.specs.Faults.{at_line}
 use Rattle.line_text.specs.Remaining.{parts_left}
 use Rattle.log_text.proofs.Lists.{place_cut, PlacesLeft-more, PlacesLeft-fault}
