@@ -1,12 +1,22 @@
 -- The words of a line hold no space and no LF, so a line is cut into them again.
-use Rattle.std.proofs.Common.{◌≡◌, ℕ, ◌<◌, ◌≤◌, ◌^◌, true, false, eqb, leb, ltb, List, [], ◌∷◌, ◌++◌, length, ℤ, pos, negsuc, suc, refl, ap, ◌∙◌, arith, lit<}
-use Rattle.std.specs.Prelude.{decimal, codes, unsigned_abs, All}
+use Rattle.std.proofs.Common.{◌≡◌, ℕ, ◌+◌, ◌<◌, ◌≤◌, ◌^◌, true, false, eqb, leb, ltb, List, [], ◌∷◌, ◌++◌, length, ℤ, pos, negsuc, suc, refl, ap, ◌∙◌, arith, lit<}
+use Rattle.std.specs.Prelude.{decimal, codes, map, unsigned_abs, All}
 use Rattle.std.specs.Fmt.{signed_decimal}
 use Rattle.std.specs.List.{list_all, AllByRecursion, join_with_byte}
 use Rattle.std.proofs.lemmas.Bool.{and_parts, leb-true, ltb-true, ne_eqb}
-use Rattle.std.proofs.lemmas.List.Elements.{All-from_recursion}
+use Rattle.std.proofs.lemmas.List.Elements.{All-from_recursion, recursion_from_All}
 use Rattle.std.proofs.lemmas.List.Splits.{slice_split_at, slice_split_none}
-use Rattle.grid_base.specs.declared.TheConstants.{ID_MAX, SHIFT_MAX, HALVINGS_MAX}
+use Rattle.edit_base.specs.declared.Asked.{Asked}
+use Rattle.edit_base.specs.declared.Asked.TheVariants as asked
+use Rattle.edit_base.specs.declared.Change.{Change}
+use Rattle.edit_base.specs.declared.Change.TheVariants as change
+use Rattle.edit_base.specs.declared.CopyAt.{CopyAt}
+use Rattle.edit_base.specs.declared.PassKind.{PassKind}
+use Rattle.edit_base.specs.declared.PassKind.TheVariants as pass
+use Rattle.edit_base.specs.declared.Why.{Why}
+use Rattle.edit_base.specs.declared.Why.TheVariants as reason
+use Rattle.grid_base.specs.declared.TheConstants.{BOX, ID_MAX, SHIFT_MAX, HALVINGS_MAX, LENGTH_MAX}
+use Rattle.grid_base.specs.declared.grid.Point.{Point}
 use Rattle.line_text.specs.declared.TextWhy.{TextWhy}
 use Rattle.line_text.specs.declared.TextWhy.TheVariants as why
 use Rattle.line_text.specs.Numbers.{is_digit}
@@ -25,9 +35,9 @@ use Rattle.log_text.specs.declared.log_line.LogLine.{LogLine}
 use Rattle.log_text.specs.declared.log_line.LogLine.TheVariants as line
 use Rattle.log_text.specs.declared.log_line.Refusal.{Refusal}
 use Rattle.log_text.specs.declared.log_line.Refusal.TheVariants as refusal
-use Rattle.log_text.specs.Lines.{line_words, file_word, why_word, pair_words, how_words, shape_words, use_words, refusal_words}
+use Rattle.log_text.specs.Lines.{line_words, file_word, why_word, pair_words, how_words, shape_words, use_words, refusal_words, pass_words, point_words, place_words, places_words, change_words, asked_words, reason_words}
 use Rattle.line_text.specs.Spellings.{spaced_words}
-use Rattle.log_text.specs.Laws.{IsFrom, IsPairInRange, IsHowInRange, IsShapeInRange, IsUseInRange, IsRefusalInRange, IsInRange, IsOfVersion}
+use Rattle.log_text.specs.Laws.{IsFrom, IsPairInRange, IsHowInRange, IsShapeInRange, IsUseInRange, IsRefusalInRange, IsEdgeInRange, AreRising, IsPassInRange, IsChangeInRange, IsAskedInRange, IsReasonInRange, IsInRange, IsOfVersion}
 
 -- each byte is above that of a space
 abbrev pub IsGraphic : List ℕ → Type 0
@@ -54,9 +64,15 @@ number n lt = digits (decimal n) (Writes-decimal n lt).digits
 up_to : (low high n : ℕ) → high < 2 ^ 64 → IsFrom low high n → IsGraphic (decimal n)
 up_to low high n small r = number n (omega (arith, r.1))
 
-component : (z : ℤ) → unsigned_abs z ≤ SHIFT_MAX → IsGraphic (signed_decimal z)
-component (pos n) h = number n (omega (arith, h))
-component (negsuc n) h = (omega arith, number (suc n) (omega (arith, h)))
+component : (most : ℕ) (z : ℤ) → most < 2 ^ 32 → unsigned_abs z ≤ most → IsGraphic (signed_decimal z)
+component most (pos n) small h = number n (omega (arith, h, small))
+component most (negsuc n) small h = (omega arith, number (suc n) (omega (arith, h, small)))
+
+shift_part : (z : ℤ) → unsigned_abs z ≤ SHIFT_MAX → IsGraphic (signed_decimal z)
+shift_part z h = component SHIFT_MAX z (lit< tt) h
+
+coordinate : (z : ℤ) → unsigned_abs z ≤ BOX → IsGraphic (signed_decimal z)
+coordinate z h = component BOX z (lit< tt) h
 
 id : (n : ℕ) → IsFrom 1 ID_MAX n → IsGraphic (decimal n)
 id n r = up_to 1 ID_MAX n (lit< tt) r
@@ -112,13 +128,69 @@ refusal_graphic (refusal.Meets pair) r = (text (codes "meets") refl, pair_graphi
 refusal_graphic (refusal.Steps fault) r = (text (codes "steps") refl, (count fault.line r, (why_graphic fault.why, tt)))
 refusal_graphic (refusal.StepUse at w) r = (text (codes "use") refl, (count at r.0, use_graphic w r.1))
 
+graphic-append : (xs ys : List (List ℕ)) → AreGraphic xs → AreGraphic ys → AreGraphic (xs ++ ys)
+graphic-append [] ys p q = q
+graphic-append (x ∷ xs) ys p q = (p.0, graphic-append xs ys p.1 q)
+
+ids_graphic : (low : ℕ) (ids : List ℕ) → AreRising low ids → AreGraphic (map decimal ids)
+ids_graphic low [] r = tt
+ids_graphic low (v ∷ ids) r = (up_to low ID_MAX v (lit< tt) r.0, ids_graphic (v + 1) ids r.1)
+
+length_graphic : (n : ℕ) → n ≤ LENGTH_MAX → IsGraphic (decimal n)
+length_graphic n r = number n (omega (arith, r))
+
+pass_graphic : (kind : PassKind) → IsPassInRange kind → AreGraphic (pass_words kind)
+pass_graphic (pass.Split n) r = (text (codes "split") refl, (length_graphic n r, tt))
+pass_graphic (pass.Collapse n) r = (text (codes "collapse") refl, (length_graphic n r, tt))
+pass_graphic pass.Flip r = (text (codes "flip") refl, tt)
+pass_graphic (pass.Zip n) r = (text (codes "zip") refl, (length_graphic n r, tt))
+pass_graphic pass.Pinch r = (text (codes "pinch") refl, tt)
+
+point_graphic : (p : Point) → AreGraphic (point_words p)
+point_graphic p = (coordinate p.x p.in_box.x_fits, (coordinate p.y p.in_box.y_fits, (coordinate p.z p.in_box.z_fits, tt)))
+
+places_graphic : (places : List CopyAt) → AllByRecursion (λ c. IsFrom 1 ID_MAX c.w) places → AreGraphic (places_words places)
+places_graphic [] r = tt
+places_graphic (c ∷ cs) r = graphic-append (place_words c) (places_words cs) (id c.w r.0, point_graphic c.at) (places_graphic cs r.1)
+
+larger : (a b : ℕ) → IsEdgeInRange a b → IsGraphic (decimal b)
+larger a b r = up_to (a + 1) ID_MAX b (lit< tt) r.1
+
+change_graphic : (done : Change) → IsChangeInRange done → AreGraphic (change_words done)
+change_graphic (change.Split a b w at) r = (text (codes "split") refl, (id a r.0.0, (larger a b r.0, (id w r.1, point_graphic at))))
+change_graphic (change.Flip a b) r = (text (codes "flip") refl, (id a r.0, (larger a b r, tt)))
+change_graphic (change.Collapse a b at) r = (text (codes "collapse") refl, (id a r.0, (larger a b r, point_graphic at)))
+change_graphic (change.Zip a b e f turn) r = (text (codes "zip") refl, (id a r.0.0, (larger a b r.0, (id e r.1.0, (larger e f r.1, (number turn (omega (arith, r.2)), tt))))))
+change_graphic (change.Pinch v at copies) r = (text (codes "pinch") refl, places_graphic (record { w = v; at = at } ∷ copies) (r.0, recursion_from_All (λ c. IsFrom 1 ID_MAX c.w) copies r.2))
+
+asked_graphic : (what : Asked) → IsAskedInRange what → AreGraphic (asked_words what)
+asked_graphic (asked.Split a b) r = (text (codes "split") refl, (id a r.0, (larger a b r, tt)))
+asked_graphic (asked.Flip a b) r = (text (codes "flip") refl, (id a r.0, (larger a b r, tt)))
+asked_graphic (asked.Collapse a b) r = (text (codes "collapse") refl, (id a r.0, (larger a b r, tt)))
+asked_graphic (asked.Zip a b e f) r = (text (codes "zip") refl, (id a r.0.0, (larger a b r.0, (id e r.1.0, (larger e f r.1, tt)))))
+asked_graphic (asked.Pinch v) r = (text (codes "pinch") refl, (id v r, tt))
+
+reason_graphic : (w : Why) → IsReasonInRange w → AreGraphic (reason_words w)
+reason_graphic reason.NoEdge r = (text (codes "noedge") refl, tt)
+reason_graphic reason.Crowded r = (text (codes "crowded") refl, tt)
+reason_graphic reason.Edge r = (text (codes "edge") refl, tt)
+reason_graphic reason.Shared r = (text (codes "shared") refl, tt)
+reason_graphic reason.Full r = (text (codes "full") refl, tt)
+reason_graphic reason.Doubled r = (text (codes "doubled") refl, tt)
+reason_graphic reason.OneFan r = (text (codes "onefan") refl, tt)
+reason_graphic (reason.Hit pair) r = (text (codes "hit") refl, pair_graphic pair r)
+
 pub line_graphic : (version : ℕ) → version < 2 ^ 8 → (l : LogLine) → IsInRange l → IsOfVersion version l → AreGraphic (line_words l)
 line_graphic version small (line.First v) r e = (text (codes "topo") refl, (text (codes "log") refl, (number v (omega (arith, e)), tt)))
 line_graphic version small (line.Mesh k v f) r e = (text (codes "mesh") refl, (number k (omega (arith, r.0)), (number v (omega (arith, r.1)), (number f (omega (arith, r.2)), tt))))
 line_graphic version small (line.Step k) r e = (text (codes "step") refl, (count k r, tt))
 line_graphic version small (line.Hit pair) r e = (text (codes "hit") refl, pair_graphic pair r)
-line_graphic version small (line.Move s) r e = (text (codes "move") refl, (id s.v r, (component s.by.x s.by.in_range.x_fits, (component s.by.y s.by.in_range.y_fits, (component s.by.z s.by.in_range.z_fits, tt)))))
+line_graphic version small (line.Block ids) r e = (text (codes "block") refl, ids_graphic 1 ids r.1)
+line_graphic version small (line.Move s) r e = (text (codes "move") refl, (id s.v r, (shift_part s.by.x s.by.in_range.x_fits, (shift_part s.by.y s.by.in_range.y_fits, (shift_part s.by.z s.by.in_range.z_fits, tt)))))
 line_graphic version small (line.Moved how) r e = (text (codes "moved") refl, how_graphic how r)
+line_graphic version small (line.Pass kind) r e = (text (codes "pass") refl, pass_graphic kind r)
+line_graphic version small (line.Did done) r e = change_graphic done r
+line_graphic version small (line.No what w) r e = (text (codes "no") refl, graphic-append (asked_words what) (reason_words w) (asked_graphic what r.0) (reason_graphic w r.1))
 line_graphic version small (line.Refused w) r e = (text (codes "refused") refl, refusal_graphic w r)
 line_graphic version small line.End r e = (text (codes "end") refl, tt)
 
@@ -136,13 +208,24 @@ pub words_again : (words : List (List ℕ)) → 0 < length words → AreGraphic 
 words_again [] some h = absurd (omega arith)
 words_again (word ∷ words) some h = cut_again word words h
 
+some_change : (done : Change) → 0 < length (change_words done)
+some_change (change.Split a b w at) = omega arith
+some_change (change.Flip a b) = omega arith
+some_change (change.Collapse a b at) = omega arith
+some_change (change.Zip a b e f turn) = omega arith
+some_change (change.Pinch v at copies) = omega arith
+
 pub some_words : (l : LogLine) → 0 < length (line_words l)
 some_words (line.First v) = omega arith
 some_words (line.Mesh k v f) = omega arith
 some_words (line.Step k) = omega arith
 some_words (line.Hit pair) = omega arith
+some_words (line.Block ids) = omega arith
 some_words (line.Move s) = omega arith
 some_words (line.Moved how) = omega arith
+some_words (line.Pass kind) = omega arith
+some_words (line.Did done) = some_change done
+some_words (line.No what w) = omega arith
 some_words (line.Refused w) = omega arith
 some_words line.End = omega arith
 

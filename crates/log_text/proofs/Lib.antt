@@ -1,10 +1,16 @@
 pub mod LineLaws
 pub mod Parts
+pub mod EditParts
 pub mod LogParts
 pub mod Steps
 pub mod CanonicalDigits
 pub mod Exactness
 pub mod Spellings
+pub mod EditSpellings
+pub mod Lists
+pub mod LineForms
+pub mod EditLineSpellings
 pub mod LineSpellings
 pub mod GraphicWords
 pub mod LogLaws
+pub mod Spaced

@@ -1,15 +1,13 @@
 -- Each line is read exactly from its words.
-use Rattle.std.proofs.Common.{◌≡◌, ℕ, ◌<◌, ◌≤◌, ◌^◌, Bool, true, false, List, [], ◌∷◌, ◌++◌, length, Option, Some, None, Result, Ok, Err, refl, sym, ap, subst, ◌∙◌, arith, lit<}
+use Rattle.std.proofs.Common.{◌≡◌, ℕ, ◌<◌, ◌≤◌, ◌^◌, Bool, true, false, List, [], ◌∷◌, length, Option, Some, None, Result, Ok, Err, refl, sym, ap, subst, ◌∙◌, arith, lit<}
 use Rattle.std.specs.Prelude.{decimal, codes, if◌then◌else◌}
 use Rattle.grid_base.specs.declared.TheConstants.{VERTICES_MAX, FACES_MAX, ID_MAX, HALVINGS_MAX}
 use Rattle.line_text.specs.declared.TextWhy.{TextWhy}
 use Rattle.line_text.specs.declared.TextWhy.TheVariants as why
-use Rattle.line_text.specs.declared.TextFault.{TextFault}
 use Rattle.line_text.specs.Faults.{◌>>=◌}
 use Rattle.mesh_base.specs.declared.FileWord.{FileWord}
 use Rattle.mesh_base.specs.declared.How.{How}
 use Rattle.mesh_base.specs.declared.How.TheVariants.{Whole, Impulse, Zones, Halved, Zero}
-use Rattle.mesh_base.specs.declared.PairName.{PairName}
 use Rattle.mesh_base.specs.declared.ShapeFault.{ShapeFault}
 use Rattle.mesh_base.specs.declared.ShapeFault.TheVariants as shape
 use Rattle.mesh_base.specs.declared.UseWhy.{UseWhy}
@@ -21,98 +19,17 @@ use Rattle.log_text.specs.declared.log_line.Refusal.{Refusal}
 use Rattle.log_text.specs.declared.log_line.Refusal.TheVariants as refusal
 use Rattle.line_text.specs.Spellings.{spelled_number, spelled_from, spelled_at, count_with_end}
 use Rattle.log_text.specs.Fields.{Reader, both}
-use Rattle.log_text.specs.Lines.{line_words, file_word, pair_words, how_words, shape_words, use_words, refusal_words}
-use Rattle.log_text.specs.Reading.{whole, alone, first_of, mesh_of, step_of, hit_of, move_of, moved_of, or_unknown, file_of, refused, long_of, missing_of, shape_of, use_numbers, use_of, refused_of, line_of, pair_at, shift_of_at, fault_at}
-use Rattle.log_text.specs.Laws.{IsFrom, IsPairInRange, IsUseInRange, IsInRange, IsOfVersion}
+use Rattle.log_text.specs.Lines.{line_words, file_word, how_words, shape_words, use_words, refusal_words}
+use Rattle.log_text.specs.Values.{whole, alone, shift_of_at}
+use Rattle.log_text.specs.Reading.{first_of, mesh_of, step_of, hit_of, move_of, moved_of, or_unknown, file_of, refused, long_of, missing_of, shape_of, use_numbers, use_of, refused_of, plain_of, line_of}
+use Rattle.log_text.specs.EditLines.{edit_of}
+use Rattle.edit_base.specs.declared.Change.TheVariants as change
+use Rattle.log_text.specs.Laws.{IsFrom, IsUseInRange, IsInRange, IsOfVersion}
 use Rattle.log_text.proofs.Steps.{bound, ok_same, picked, fault_value}
-use Rattle.log_text.proofs.Exactness.{IsExact, count_with_end-length, count_with_end-back, whole-forth, whole-back, spelled_at-exact, word_number-decimal, word_number-some}
-use Rattle.log_text.proofs.Spellings.{two_numbers, three_numbers, pair_at-exact, shift_of_at-exact, shift_of_words, fault_at-exact, fault_words, file_of-word, file_of-some}
-
--- the words are those of a line in range, and LF stands behind them
-pub record IsSpelling (version : ℕ) (ended : Bool) (words : List (List ℕ)) (l : LogLine) : Type 0 where
-  pub has_end : ended ≡ true
-  pub same : line_words l ≡ words
-  pub fits : IsInRange l
-  pub of_version : IsOfVersion version l
-
--- a line that is made of the value that its last words give
-abbrev Makes : {A : Type 0} → ℕ → List (List ℕ) → (A → List (List ℕ)) → (A → Type 0) → (A → LogLine) → Type 0
-Makes {A} version front wa R make = (a : A) → R a → (line_words (make a) ≡ front ++ wa a) × IsInRange (make a) × IsOfVersion version (make a)
-
-module _ {A : Type 0} (read : Reader A) (wa : A → List (List ℕ)) (R : A → Type 0) (f : IsExact read wa R) (count : ℕ) (long : (a : A) → length (wa a) ≡ count) (make : A → LogLine) where
-  pub again : (a : A) → R a → (whole true count read (wa a) >>= λ a. Ok (make a)) ≡ Ok (make a)
-  again a r = ap (λ (found : Result A TextWhy). found >>= λ a. Ok (make a)) (whole-forth read wa R f count long a r)
-
-  pub spelled : (version : ℕ) (front : List (List ℕ)) → Makes version front wa R make → (ended : Bool) (words : List (List ℕ)) (l : LogLine) → (whole ended count read words >>= λ a. Ok (make a)) ≡ Ok l → IsSpelling version ended (front ++ words) l
-  spelled version front makes ended words l h =
-      let b = bound (whole ended count read words) (λ (a : A). Ok (make a)) l h in
-      let w = whole-back read wa R f count long ended words b.value b.first in
-      let m = makes b.value w.2 in
-      let here : IsSpelling version ended (front ++ words) (make b.value) = record { has_end = w.0; same = m.0 ∙ ap (λ (t : List (List ℕ)). front ++ t) (sym w.1); fits = m.1; of_version = m.2 } in
-      subst (IsSpelling version ended (front ++ words)) (ok_same (make b.value) l b.after) here
-
--- a line with no further word
-alone_again : (l : LogLine) → alone true l [] ≡ Ok l
-alone_again l = ap (λ (found : Result (Unit {0}) TextWhy). found >>= λ u. Ok l) (count_with_end-length 0 [] refl)
-
-alone_spelled : (version : ℕ) (front : List (List ℕ)) (ended : Bool) (k : LogLine) (words : List (List ℕ)) (l : LogLine) → line_words k ≡ front ++ [] → IsInRange k → IsOfVersion version k → alone ended k words ≡ Ok l → IsSpelling version ended (front ++ words) l
-alone_spelled version front ended k words l same range of h =
-    let b = bound (count_with_end ended 0 words) (λ (u : Unit {0}). Ok k) l h in
-    let n = count_with_end-back ended 0 words b.value b.first in
-    let here : IsSpelling version ended (front ++ words) k = record { has_end = n.0; same = same ∙ ap (λ (t : List (List ℕ)). front ++ t) (sym (none words n.1)); fits = range; of_version = of } in
-    subst (IsSpelling version ended (front ++ words)) (ok_same k l b.after) here
-  where
-    none : (words : List (List ℕ)) → length words ≡ 0 → words ≡ []
-    none [] e = refl
-    none (w ∷ ws) e = absurd (omega (arith, e))
-
-abbrev one : ℕ → List (List ℕ)
-one n = decimal n ∷ []
-
-number_of : (low high : ℕ) → high < 2 ^ 64 → IsExact (spelled_at low high) one (IsFrom low high)
-number_of low high small = spelled_at-exact low high small
-
-one_long : (n : ℕ) → length (one n) ≡ 1
-one_long n = refl
-
--- a line with one number
-one_again : (low high : ℕ) → high < 2 ^ 64 → (make : ℕ → LogLine) (n : ℕ) → IsFrom low high n → (whole true 1 (spelled_at low high) (decimal n ∷ []) >>= λ n. Ok (make n)) ≡ Ok (make n)
-one_again low high small make n r = again (spelled_at low high) one (IsFrom low high) (number_of low high small) 1 one_long make n r
-
-one_spelled : (version low high : ℕ) → high < 2 ^ 64 → (make : ℕ → LogLine) (front : List (List ℕ)) → Makes version front one (IsFrom low high) make → (ended : Bool) (words : List (List ℕ)) (l : LogLine) → (whole ended 1 (spelled_at low high) words >>= λ n. Ok (make n)) ≡ Ok l → IsSpelling version ended (front ++ words) l
-one_spelled version low high small make front makes ended words l h = spelled (spelled_at low high) one (IsFrom low high) (number_of low high small) 1 one_long make version front makes ended words l h
-
--- a line with two numbers
-abbrev Two : Type 0
-Two = ℕ × ℕ
-
-abbrev two : Two → List (List ℕ)
-two p = decimal p.0 ∷ decimal p.1 ∷ []
-
-abbrev AreFrom : ℕ → ℕ → ℕ → ℕ → Two → Type 0
-AreFrom a b c d p = IsFrom a b p.0 × IsFrom c d p.1
-
-two_again : (a b c d : ℕ) → b < 2 ^ 64 → d < 2 ^ 64 → (make : Two → LogLine) (p : Two) → AreFrom a b c d p → (whole true 2 (both (spelled_at a b) (spelled_at c d)) (two p) >>= λ p. Ok (make p)) ≡ Ok (make p)
-two_again a b c d x y make p r = again (both (spelled_at a b) (spelled_at c d)) two (AreFrom a b c d) (two_numbers a b c d x y) 2 (λ p. refl) make p r
-
-two_spelled : (version a b c d : ℕ) → b < 2 ^ 64 → d < 2 ^ 64 → (make : Two → LogLine) (front : List (List ℕ)) → Makes version front two (AreFrom a b c d) make → (ended : Bool) (words : List (List ℕ)) (l : LogLine) → (whole ended 2 (both (spelled_at a b) (spelled_at c d)) words >>= λ p. Ok (make p)) ≡ Ok l → IsSpelling version ended (front ++ words) l
-two_spelled version a b c d x y make front makes ended words l h = spelled (both (spelled_at a b) (spelled_at c d)) two (AreFrom a b c d) (two_numbers a b c d x y) 2 (λ p. refl) make version front makes ended words l h
-
--- lines with a pair, and with a fault
-pair_again : (make : PairName → LogLine) (p : PairName) → IsPairInRange p → (whole true 3 pair_at (pair_words p) >>= λ p. Ok (make p)) ≡ Ok (make p)
-pair_again make p r = again pair_at pair_words IsPairInRange pair_at-exact 3 (λ p. refl) make p r
-
-pair_spelled : (version : ℕ) (make : PairName → LogLine) (front : List (List ℕ)) → Makes version front pair_words IsPairInRange make → (ended : Bool) (words : List (List ℕ)) (l : LogLine) → (whole ended 3 pair_at words >>= λ p. Ok (make p)) ≡ Ok l → IsSpelling version ended (front ++ words) l
-pair_spelled version make front makes ended words l h = spelled pair_at pair_words IsPairInRange pair_at-exact 3 (λ p. refl) make version front makes ended words l h
-
-abbrev FaultFits : TextFault → Type 0
-FaultFits f = IsFrom 1 COUNT_MAX f.line
-
-fault_again : (make : TextFault → LogLine) (f : TextFault) → FaultFits f → (whole true 2 fault_at (fault_words f) >>= λ f. Ok (make f)) ≡ Ok (make f)
-fault_again make f r = again fault_at fault_words FaultFits fault_at-exact 2 (λ p. refl) make f r
-
-fault_spelled : (version : ℕ) (make : TextFault → LogLine) (front : List (List ℕ)) → Makes version front fault_words FaultFits make → (ended : Bool) (words : List (List ℕ)) (l : LogLine) → (whole ended 2 fault_at words >>= λ f. Ok (make f)) ≡ Ok l → IsSpelling version ended (front ++ words) l
-fault_spelled version make front makes ended words l h = spelled fault_at fault_words FaultFits fault_at-exact 2 (λ p. refl) make version front makes ended words l h
+use Rattle.log_text.proofs.LineForms.{IsSpelling, again, spelled, alone_again, alone_spelled, number_of, one_again, one_spelled, Two, two_again, two_spelled, pair_again, pair_spelled, fault_again, fault_spelled}
+use Rattle.log_text.proofs.EditLineSpellings.{pass_again, split_again, flip_again, collapse_again, zip_again, no_again, block_again, pinch_again, edit_back, block_back, pinch_back}
+use Rattle.log_text.proofs.Exactness.{IsExact, count_with_end-length, count_with_end-back, word_number-decimal, word_number-some}
+use Rattle.log_text.proofs.Spellings.{three_numbers, shift_of_at-exact, shift_of_words, file_of-word, file_of-some}
 
 -- ---- what is printed is read
 
@@ -189,13 +106,21 @@ mesh_again k v f r = again mesh_reader three MeshFits mesh_exact 3 (λ p. refl) 
 
 -- the words of a line in range are read as the line
 pub printed_is_read : (version : ℕ) → version < 2 ^ 8 → (l : LogLine) → IsInRange l → IsOfVersion version l → line_of version true (line_words l) ≡ Ok l
-unfolding line_of first_of step_of hit_of move_of
+unfolding line_of plain_of first_of step_of hit_of move_of edit_of
 printed_is_read version small (line.First v) r e = one_again version version (omega arith) line.First v (omega (arith, e), omega (arith, e))
 printed_is_read version small (line.Mesh k v f) r e = mesh_again k v f r
 printed_is_read version small (line.Step k) r e = one_again 1 COUNT_MAX (lit< tt) line.Step k r
 printed_is_read version small (line.Hit pair) r e = pair_again line.Hit pair r
+printed_is_read version small (line.Block ids) r e = block_again ids r
 printed_is_read version small (line.Move s) r e = again shift_of_at shift_of_words (λ s. IsFrom 1 ID_MAX s.v) shift_of_at-exact 4 (λ s. refl) line.Move s r
 printed_is_read version small (line.Moved how) r e = moved_again how r
+printed_is_read version small (line.Pass kind) r e = pass_again kind r
+printed_is_read version small (line.Did (change.Split a b w at)) r e = split_again a b w at r
+printed_is_read version small (line.Did (change.Flip a b)) r e = flip_again a b r
+printed_is_read version small (line.Did (change.Collapse a b at)) r e = collapse_again a b at r
+printed_is_read version small (line.Did (change.Zip a b e f turn)) r h = zip_again a b e f turn r
+printed_is_read version small (line.Did (change.Pinch v at copies)) r e = pinch_again v at copies r
+printed_is_read version small (line.No what w) r e = no_again what w r
 printed_is_read version small (line.Refused w) r e = refused_again w r
 printed_is_read version small line.End r e = alone_again line.End
 
@@ -325,11 +250,9 @@ mesh_back : (version : ℕ) (ended : Bool) (words : List (List ℕ)) (l : LogLin
 unfolding mesh_of
 mesh_back version ended words l h = spelled mesh_reader three MeshFits mesh_exact 3 (λ p. refl) mesh_made version (codes "mesh" ∷ []) (λ p r. (refl, (r.0.1, r.1.0.1, r.1.1.1), tt)) ended words l h
 
--- what words are read as is the line that they spell
-pub read_is_spelled : (version : ℕ) → version < 2 ^ 8 → (ended : Bool) (words : List (List ℕ)) (l : LogLine) → line_of version ended words ≡ Ok l → IsSpelling version ended words l
-unfolding line_of step_of hit_of move_of
-read_is_spelled version small ended [] l h = fault_value why.Unknown l h
-read_is_spelled version small ended (first ∷ words) l h =
+plain_back : (version : ℕ) → version < 2 ^ 8 → (ended : Bool) (first : List ℕ) (words : List (List ℕ)) (l : LogLine) → plain_of version ended first words ≡ Ok l → IsSpelling version ended (first ∷ words) l
+unfolding plain_of step_of hit_of move_of
+plain_back version small ended first words l h =
     let P : List ℕ → Type 0 = λ w. IsSpelling version ended (w ∷ words) l in
     picked P first (codes "topo") _ _ (Ok l) (first_back version small ended words l)
     (picked P first (codes "mesh") _ _ (Ok l) (mesh_back version ended words l)
@@ -339,5 +262,16 @@ read_is_spelled version small ended (first ∷ words) l h =
     (picked P first (codes "moved") _ _ (Ok l) (moved_back version ended words l)
     (picked P first (codes "refused") _ _ (Ok l) (refused_back version ended words l)
     (picked P first (codes "end") _ _ (Ok l) (alone_spelled version (codes "end" ∷ []) ended line.End words l refl tt tt)
-    (fault_value why.Unknown l))))))))
+    (edit_back version ended first words l))))))))
+    h
+
+-- what words are read as is the line that they spell
+pub read_is_spelled : (version : ℕ) → version < 2 ^ 8 → (ended : Bool) (words : List (List ℕ)) (l : LogLine) → line_of version ended words ≡ Ok l → IsSpelling version ended words l
+unfolding line_of
+read_is_spelled version small ended [] l h = fault_value why.Unknown l h
+read_is_spelled version small ended (first ∷ words) l h =
+    let P : List ℕ → Type 0 = λ w. IsSpelling version ended (w ∷ words) l in
+    picked P first (codes "block") _ _ (Ok l) (block_back version ended words l)
+    (picked P first (codes "pinch") _ _ (Ok l) (pinch_back version ended words l)
+    (plain_back version small ended first words l))
     h

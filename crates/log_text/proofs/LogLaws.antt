@@ -15,7 +15,8 @@ use Rattle.log_text.specs.Lines.{line_words, body_of, text_of_lines}
 use Rattle.log_text.specs.Reading.{line_of, line_adds, parts_add, log_of}
 use Rattle.log_text.specs.Laws.{IsInRange, IsOfVersion, LinesAreTheirSpellings, BodiesHaveNoEnd, LogsAreTheirLines}
 use Rattle.log_text.proofs.Steps.{bound, ok_same, by_test, fault_value}
-use Rattle.log_text.proofs.LineSpellings.{IsSpelling, printed_is_read, read_is_spelled}
+use Rattle.log_text.proofs.LineForms.{IsSpelling}
+use Rattle.log_text.proofs.LineSpellings.{printed_is_read, read_is_spelled}
 use Rattle.log_text.proofs.GraphicWords.{line_graphic, words_again, some_words, has_no_end, is_no_end}
 use Rattle.log_text.proofs.LogParts.{parts_of_text, some_parts, parts_more}
 

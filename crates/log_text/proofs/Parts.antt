@@ -5,7 +5,7 @@ use Rattle.grid_base.specs.Triples.{Triple}
 use Rattle.grid_base.specs.Points.{shift_by}
 use Rattle.grid_base.proofs.PointLaws.{shift_by-displacement_of}
 
-same_triple : (a b c x y z : ℤ) → a ≡ x → b ≡ y → c ≡ z → ◌≡◌ {A = Triple} (record { x = a; y = b; z = c }) (record { x = x; y = y; z = z })
+pub same_triple : (a b c x y z : ℤ) → a ≡ x → b ≡ y → c ≡ z → ◌≡◌ {A = Triple} (record { x = a; y = b; z = c }) (record { x = x; y = y; z = z })
 same_triple a b c x y z d e f = cc
 
 pub shift_of_parts : (s : Shift) (x y z : ℤ) → s.x ≡ x → s.y ≡ y → s.z ≡ z → s ≡ shift_by (record { x = x; y = y; z = z })

@@ -19,7 +19,8 @@ use Rattle.log_text.specs.declared.TheConstants.{COUNT_MAX}
 use Rattle.line_text.specs.Spellings.{spelled_at, spelled_signed_at}
 use Rattle.log_text.specs.Fields.{Reader, in_turn, both, or_number}
 use Rattle.log_text.specs.Lines.{file_word, why_word, pair_words}
-use Rattle.log_text.specs.Reading.{pair_at, shift_of_at, why_of, why_at, fault_at, file_of}
+use Rattle.log_text.specs.Values.{pair_at, shift_of_at, why_of, why_at, fault_at}
+use Rattle.log_text.specs.Reading.{file_of}
 use Rattle.log_text.specs.Laws.{IsFrom, IsPairInRange}
 use Rattle.log_text.proofs.Steps.{bound, ok_same, some_same, picked}
 use Rattle.log_text.proofs.Exactness.{IsExact, or_number-some, spelled_at-exact, spelled_signed_at-exact, in_turn-exact, made-exact}
@@ -29,7 +30,7 @@ use Rattle.log_text.proofs.Exactness.{IsExact, or_number-some, spelled_at-exact,
 pub both-exact : {A B : Type 0} (first : Reader A) (second : Reader B) (wa : A → List (List ℕ)) (wb : B → List (List ℕ)) (R : A → Type 0) (S : B → Type 0) → IsExact first wa R → IsExact second wb S → IsExact (both first second) (λ p. wa p.0 ++ wb p.1) (λ p. R p.0 × S p.1)
 both-exact first second wa wb R S f g = in_turn-exact first (λ a. second) wa (λ a. wb) R (λ a. S) f (λ a. g)
 
-abbrev one : ℕ → List (List ℕ)
+abbrev pub one : ℕ → List (List ℕ)
 one n = decimal n ∷ []
 
 abbrev signed_one : ℤ → List (List ℕ)
@@ -79,17 +80,18 @@ ShiftFits p = IsFrom 1 ID_MAX p.0 × ((unsigned_abs p.1.0 ≤ SHIFT_MAX) × ((un
 abbrev shift_parts_words : ShiftParts → List (List ℕ)
 shift_parts_words p = decimal p.0 ∷ signed_decimal p.1.0 ∷ signed_decimal p.1.1.0 ∷ signed_decimal p.1.1.1 ∷ []
 
-abbrev Within : ℤ → Type 0
-Within z = unsigned_abs z ≤ SHIFT_MAX
+abbrev pub AreWithin : ℕ → ℤ × (ℤ × ℤ) → Type 0
+AreWithin most p = (unsigned_abs p.0 ≤ most) × ((unsigned_abs p.1.0 ≤ most) × (unsigned_abs p.1.1 ≤ most))
 
-component : IsExact (spelled_signed_at SHIFT_MAX) signed_one Within
-component = spelled_signed_at-exact SHIFT_MAX (lit< tt)
-
-components : IsExact (both (spelled_signed_at SHIFT_MAX) (both (spelled_signed_at SHIFT_MAX) (spelled_signed_at SHIFT_MAX))) (λ p. signed_decimal p.0 ∷ signed_decimal p.1.0 ∷ signed_decimal p.1.1 ∷ []) (λ p. Within p.0 × (Within p.1.0 × Within p.1.1))
-components = both-exact (spelled_signed_at SHIFT_MAX) (both (spelled_signed_at SHIFT_MAX) (spelled_signed_at SHIFT_MAX)) signed_one (λ p. signed_decimal p.0 ∷ signed_decimal p.1 ∷ []) Within (λ p. Within p.0 × Within p.1) component (both-exact (spelled_signed_at SHIFT_MAX) (spelled_signed_at SHIFT_MAX) signed_one signed_one Within Within component component)
+-- three numbers of a size up to most
+pub components : (most : ℕ) → most < 2 ^ 32 → IsExact (both (spelled_signed_at most) (both (spelled_signed_at most) (spelled_signed_at most))) (λ p. signed_decimal p.0 ∷ signed_decimal p.1.0 ∷ signed_decimal p.1.1 ∷ []) (AreWithin most)
+components most small =
+    let Within : ℤ → Type 0 = λ z. unsigned_abs z ≤ most in
+    let one_of = spelled_signed_at-exact most small in
+    both-exact (spelled_signed_at most) (both (spelled_signed_at most) (spelled_signed_at most)) signed_one (λ p. signed_decimal p.0 ∷ signed_decimal p.1 ∷ []) Within (λ p. Within p.0 × Within p.1) one_of (both-exact (spelled_signed_at most) (spelled_signed_at most) signed_one signed_one Within Within one_of one_of)
 
 shift_parts-exact : IsExact (both (spelled_at 1 ID_MAX) (both (spelled_signed_at SHIFT_MAX) (both (spelled_signed_at SHIFT_MAX) (spelled_signed_at SHIFT_MAX)))) shift_parts_words ShiftFits
-shift_parts-exact = both-exact (spelled_at 1 ID_MAX) (both (spelled_signed_at SHIFT_MAX) (both (spelled_signed_at SHIFT_MAX) (spelled_signed_at SHIFT_MAX))) one (λ p. signed_decimal p.0 ∷ signed_decimal p.1.0 ∷ signed_decimal p.1.1 ∷ []) (IsFrom 1 ID_MAX) (λ p. Within p.0 × (Within p.1.0 × Within p.1.1)) (spelled_at-exact 1 ID_MAX (lit< tt)) components
+shift_parts-exact = both-exact (spelled_at 1 ID_MAX) (both (spelled_signed_at SHIFT_MAX) (both (spelled_signed_at SHIFT_MAX) (spelled_signed_at SHIFT_MAX))) one (λ p. signed_decimal p.0 ∷ signed_decimal p.1.0 ∷ signed_decimal p.1.1 ∷ []) (IsFrom 1 ID_MAX) (AreWithin SHIFT_MAX) (spelled_at-exact 1 ID_MAX (lit< tt)) (components SHIFT_MAX (lit< tt))
 
 abbrev shift_made : ShiftParts → ShiftOf
 shift_made p = record { v = p.0; by = shift_by (record { x = p.1.0; y = p.1.1.0; z = p.1.1.1 }) }

@@ -1,6 +1,14 @@
 -- When the values of a line are in their ranges, and that a line is read exactly from its spelling.
-use Rattle.std.specs.Prelude.{◌≡◌, ◌↔◌, ℕ, ◌<◌, ◌≤◌, ◌^◌, List, Ok, All, true}
-use Rattle.grid_base.specs.declared.TheConstants.{VERTICES_MAX, FACES_MAX, ID_MAX, HALVINGS_MAX}
+use Rattle.std.specs.Prelude.{◌≡◌, ◌↔◌, ℕ, ◌+◌, ◌<◌, ◌≤◌, ◌^◌, List, [], ◌∷◌, length, Ok, All, true}
+use Rattle.grid_base.specs.declared.TheConstants.{VERTICES_MAX, FACES_MAX, ID_MAX, HALVINGS_MAX, LENGTH_MAX}
+use Rattle.edit_base.specs.declared.Asked.{Asked}
+use Rattle.edit_base.specs.declared.Asked.TheVariants as asked
+use Rattle.edit_base.specs.declared.Change.{Change}
+use Rattle.edit_base.specs.declared.Change.TheVariants as change
+use Rattle.edit_base.specs.declared.PassKind.{PassKind}
+use Rattle.edit_base.specs.declared.PassKind.TheVariants as pass
+use Rattle.edit_base.specs.declared.Why.{Why}
+use Rattle.edit_base.specs.declared.Why.TheVariants as reason
 use Rattle.mesh_base.specs.declared.How.{How}
 use Rattle.mesh_base.specs.declared.How.TheVariants.{Whole, Impulse, Zones, Halved, Zero}
 use Rattle.mesh_base.specs.declared.PairName.{PairName}
@@ -8,7 +16,7 @@ use Rattle.mesh_base.specs.declared.ShapeFault.{ShapeFault}
 use Rattle.mesh_base.specs.declared.ShapeFault.TheVariants as shape
 use Rattle.mesh_base.specs.declared.UseWhy.{UseWhy}
 use Rattle.mesh_base.specs.declared.UseWhy.TheVariants as using
-use Rattle.log_text.specs.declared.TheConstants.{COUNT_MAX, SEEN_MAX, CORNER_MAX, PASSES_MAX, ROUNDS_MAX, VERSION}
+use Rattle.log_text.specs.declared.TheConstants.{COUNT_MAX, SEEN_MAX, CORNER_MAX, PASSES_MAX, ROUNDS_MAX, TURN_MAX, VERSION}
 use Rattle.log_text.specs.declared.log_line.LogLine.{LogLine}
 use Rattle.log_text.specs.declared.log_line.LogLine.TheVariants as line
 use Rattle.log_text.specs.declared.log_line.Refusal.{Refusal}
@@ -57,14 +65,53 @@ IsRefusalInRange (refusal.Meets pair) = IsPairInRange pair
 IsRefusalInRange (refusal.Steps fault) = IsFrom 1 COUNT_MAX fault.line
 IsRefusalInRange (refusal.StepUse at why) = IsFrom 1 COUNT_MAX at × IsUseInRange why
 
+-- ids up to the greatest: the smaller end from 1 on, and the larger above it
+abbrev pub IsEdgeInRange : ℕ → ℕ → Type 0
+IsEdgeInRange a b = IsFrom 1 ID_MAX a × IsFrom (a + 1) ID_MAX b
+
+-- ids from low up to the greatest, each above the one before
+abbrev pub AreRising : ℕ → List ℕ → Type 0
+AreRising low [] = Unit {0}
+AreRising low (v ∷ vs) = IsFrom low ID_MAX v × AreRising (v + 1) vs
+
+abbrev pub IsPassInRange : PassKind → Type 0
+IsPassInRange (pass.Split over) = over ≤ LENGTH_MAX
+IsPassInRange (pass.Collapse under) = under ≤ LENGTH_MAX
+IsPassInRange pass.Flip = Unit {0}
+IsPassInRange (pass.Zip within) = within ≤ LENGTH_MAX
+IsPassInRange pass.Pinch = Unit {0}
+
+-- Points are in the box by their type.
+abbrev pub IsChangeInRange : Change → Type 0
+IsChangeInRange (change.Split a b w at) = IsEdgeInRange a b × IsFrom 1 ID_MAX w
+IsChangeInRange (change.Flip a b) = IsEdgeInRange a b
+IsChangeInRange (change.Collapse a b at) = IsEdgeInRange a b
+IsChangeInRange (change.Zip a b e f turn) = IsEdgeInRange a b × IsEdgeInRange e f × (turn ≤ TURN_MAX)
+IsChangeInRange (change.Pinch v at copies) = IsFrom 1 ID_MAX v × (0 < length copies) × All (λ c. IsFrom 1 ID_MAX c.w) copies
+
+abbrev pub IsAskedInRange : Asked → Type 0
+IsAskedInRange (asked.Split a b) = IsEdgeInRange a b
+IsAskedInRange (asked.Flip a b) = IsEdgeInRange a b
+IsAskedInRange (asked.Collapse a b) = IsEdgeInRange a b
+IsAskedInRange (asked.Zip a b e f) = IsEdgeInRange a b × IsEdgeInRange e f
+IsAskedInRange (asked.Pinch v) = IsFrom 1 ID_MAX v
+
+abbrev pub IsReasonInRange : Why → Type 0
+IsReasonInRange (reason.Hit pair) = IsPairInRange pair
+IsReasonInRange _ = Unit {0}
+
 -- the values of a line are in their ranges
 abbrev pub IsInRange : LogLine → Type 0
 IsInRange (line.First version) = Unit {0}
 IsInRange (line.Mesh k vertices faces) = (k ≤ COUNT_MAX) × (vertices ≤ VERTICES_MAX) × (faces ≤ FACES_MAX)
 IsInRange (line.Step k) = IsFrom 1 COUNT_MAX k
 IsInRange (line.Hit pair) = IsPairInRange pair
+IsInRange (line.Block ids) = (2 ≤ length ids) × AreRising 1 ids
 IsInRange (line.Move s) = IsFrom 1 ID_MAX s.v
 IsInRange (line.Moved how) = IsHowInRange how
+IsInRange (line.Pass kind) = IsPassInRange kind
+IsInRange (line.Did done) = IsChangeInRange done
+IsInRange (line.No what why) = IsAskedInRange what × IsReasonInRange why
 IsInRange (line.Refused why) = IsRefusalInRange why
 IsInRange line.End = Unit {0}
 

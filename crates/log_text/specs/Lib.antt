@@ -1,5 +1,7 @@
 pub mod Fields
 pub mod Lines
 pub mod Replay
+pub mod Values
+pub mod EditLines
 pub mod Reading
 pub mod Laws

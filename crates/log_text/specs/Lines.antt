@@ -1,7 +1,17 @@
 -- The one spelling of each line.
-use Rattle.std.specs.Prelude.{ℕ, List, [], ◌∷◌, ◌++◌, codes, decimal}
+use Rattle.std.specs.Prelude.{ℕ, List, [], ◌∷◌, ◌++◌, codes, decimal, map}
 use Rattle.std.specs.Fmt.{signed_decimal}
 use Rattle.std.specs.List.{join_with_byte}
+use Rattle.edit_base.specs.declared.Asked.{Asked}
+use Rattle.edit_base.specs.declared.Asked.TheVariants as asked
+use Rattle.edit_base.specs.declared.Change.{Change}
+use Rattle.edit_base.specs.declared.Change.TheVariants as change
+use Rattle.edit_base.specs.declared.CopyAt.{CopyAt}
+use Rattle.edit_base.specs.declared.PassKind.{PassKind}
+use Rattle.edit_base.specs.declared.PassKind.TheVariants as pass
+use Rattle.edit_base.specs.declared.Why.{Why}
+use Rattle.edit_base.specs.declared.Why.TheVariants as reason
+use Rattle.grid_base.specs.declared.grid.Point.{Point}
 use Rattle.line_text.specs.declared.TextWhy.{TextWhy}
 use Rattle.line_text.specs.declared.TextWhy.TheVariants as why
 use Rattle.mesh_base.specs.declared.FileWord.{FileWord}
@@ -64,16 +74,71 @@ refusal_words (refusal.Meets pair) = codes "meets" ∷ pair_words pair
 refusal_words (refusal.Steps fault) = codes "steps" ∷ decimal fault.line ∷ why_word fault.why ∷ []
 refusal_words (refusal.StepUse at why) = codes "use" ∷ decimal at ∷ use_words why
 
+-- ---- passes and edits
+
+abbrev pub pass_words : PassKind → List (List ℕ)
+pass_words (pass.Split over) = codes "split" ∷ decimal over ∷ []
+pass_words (pass.Collapse under) = codes "collapse" ∷ decimal under ∷ []
+pass_words pass.Flip = codes "flip" ∷ []
+pass_words (pass.Zip within) = codes "zip" ∷ decimal within ∷ []
+pass_words pass.Pinch = codes "pinch" ∷ []
+
+abbrev pub point_words : Point → List (List ℕ)
+point_words p = signed_decimal p.x ∷ signed_decimal p.y ∷ signed_decimal p.z ∷ []
+
+-- a vertex, and the point where it stands
+abbrev pub place_words : CopyAt → List (List ℕ)
+place_words c = decimal c.w ∷ point_words c.at
+
+abbrev pub places_words : List CopyAt → List (List ℕ)
+places_words [] = []
+places_words (c ∷ cs) = place_words c ++ places_words cs
+
+abbrev pub change_words : Change → List (List ℕ)
+change_words (change.Split a b w at) = codes "split" ∷ decimal a ∷ decimal b ∷ decimal w ∷ point_words at
+change_words (change.Flip a b) = codes "flip" ∷ decimal a ∷ decimal b ∷ []
+change_words (change.Collapse a b at) = codes "collapse" ∷ decimal a ∷ decimal b ∷ point_words at
+change_words (change.Zip a b e f turn) = codes "zip" ∷ decimal a ∷ decimal b ∷ decimal e ∷ decimal f ∷ decimal turn ∷ []
+change_words (change.Pinch v at copies) = codes "pinch" ∷ places_words (record { w = v; at = at } ∷ copies)
+
+abbrev pub asked_words : Asked → List (List ℕ)
+asked_words (asked.Split a b) = codes "split" ∷ decimal a ∷ decimal b ∷ []
+asked_words (asked.Flip a b) = codes "flip" ∷ decimal a ∷ decimal b ∷ []
+asked_words (asked.Collapse a b) = codes "collapse" ∷ decimal a ∷ decimal b ∷ []
+asked_words (asked.Zip a b e f) = codes "zip" ∷ decimal a ∷ decimal b ∷ decimal e ∷ decimal f ∷ []
+asked_words (asked.Pinch v) = codes "pinch" ∷ decimal v ∷ []
+
+abbrev pub reason_words : Why → List (List ℕ)
+reason_words reason.NoEdge = codes "noedge" ∷ []
+reason_words reason.Crowded = codes "crowded" ∷ []
+reason_words reason.Edge = codes "edge" ∷ []
+reason_words reason.Shared = codes "shared" ∷ []
+reason_words reason.Full = codes "full" ∷ []
+reason_words reason.Doubled = codes "doubled" ∷ []
+reason_words reason.OneFan = codes "onefan" ∷ []
+reason_words (reason.Hit pair) = codes "hit" ∷ pair_words pair
+
+-- ---- lines
+
 -- the words of a line
 abbrev pub line_words : LogLine → List (List ℕ)
 line_words (line.First version) = codes "topo" ∷ codes "log" ∷ decimal version ∷ []
 line_words (line.Mesh k vertices faces) = codes "mesh" ∷ decimal k ∷ decimal vertices ∷ decimal faces ∷ []
 line_words (line.Step k) = codes "step" ∷ decimal k ∷ []
 line_words (line.Hit pair) = codes "hit" ∷ pair_words pair
+line_words (line.Block ids) = codes "block" ∷ map decimal ids
 line_words (line.Move s) = codes "move" ∷ decimal s.v ∷ signed_decimal s.by.x ∷ signed_decimal s.by.y ∷ signed_decimal s.by.z ∷ []
 line_words (line.Moved how) = codes "moved" ∷ how_words how
+line_words (line.Pass kind) = codes "pass" ∷ pass_words kind
+line_words (line.Did done) = change_words done
+line_words (line.No what why) = codes "no" ∷ asked_words what ++ reason_words why
 line_words (line.Refused why) = codes "refused" ∷ refusal_words why
 line_words line.End = codes "end" ∷ []
+
+-- a space in front of each word
+abbrev pub spaced : List (List ℕ) → List ℕ
+spaced [] = []
+spaced (word ∷ words) = 32 ∷ word ++ spaced words
 
 -- a line without its end: one space between its words
 abbrev pub body_of : LogLine → List ℕ

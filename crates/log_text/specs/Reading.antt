@@ -2,8 +2,7 @@
 use Rattle.std.specs.Prelude.{ℕ, ◌+◌, Bool, ◌==◌, if◌then◌else◌, List, [], ◌∷◌, ◌++◌, length, Option, Some, None, Result, Ok, Err, codes, true, false}
 use Rattle.std.specs.List.{slice_split}
 use Rattle.std.specs.Str.{bytes_eq}
-use Rattle.grid_base.specs.declared.TheConstants.{VERTICES_MAX, FACES_MAX, ID_MAX, SHIFT_MAX, HALVINGS_MAX}
-use Rattle.grid_base.specs.Points.{shift_by}
+use Rattle.grid_base.specs.declared.TheConstants.{VERTICES_MAX, FACES_MAX, ID_MAX, HALVINGS_MAX}
 use Rattle.line_text.specs.declared.TextWhy.{TextWhy}
 use Rattle.line_text.specs.declared.TextWhy.TheVariants as why
 use Rattle.line_text.specs.declared.TextFault.{TextFault}
@@ -11,8 +10,6 @@ use Rattle.line_text.specs.Faults.{◌>>=◌, at_line}
 use Rattle.mesh_base.specs.declared.FileWord.{FileWord}
 use Rattle.mesh_base.specs.declared.FileWord.TheVariants as file
 use Rattle.mesh_base.specs.declared.How.TheVariants.{Whole, Impulse, Zones, Halved, Zero}
-use Rattle.mesh_base.specs.declared.PairName.{PairName}
-use Rattle.mesh_base.specs.declared.ShiftOf.{ShiftOf}
 use Rattle.mesh_base.specs.declared.ShapeFault.TheVariants as shape
 use Rattle.mesh_base.specs.declared.UseWhy.TheVariants as using
 use Rattle.log_text.specs.declared.TheConstants.{COUNT_MAX, SEEN_MAX, CORNER_MAX, PASSES_MAX, ROUNDS_MAX, VERSION}
@@ -20,54 +17,12 @@ use Rattle.log_text.specs.declared.log_line.LogLine.{LogLine}
 use Rattle.log_text.specs.declared.log_line.LogLine.TheVariants as line
 use Rattle.log_text.specs.declared.log_line.Refusal.{Refusal}
 use Rattle.log_text.specs.declared.log_line.Refusal.TheVariants as refusal
-use Rattle.line_text.specs.Spellings.{spaced_words, spelled_number, spelled_from, spelled_at, spelled_signed_at, count_with_end}
-use Rattle.log_text.specs.Fields.{Reader, or_number, in_turn, both}
-
--- ---- values of one word or more
-
--- the smaller end of an edge, its larger end, and a face
-unfoldable pub pair_at : Reader PairName
-pair_at words = do
-  found ← in_turn (spelled_at 1 ID_MAX) (λ a. both (spelled_at (a + 1) ID_MAX) (spelled_at 1 ID_MAX)) words
-  Ok (record { a = found.0.0; b = found.0.1.0; face = found.0.1.1 }, found.1)
-
--- a vertex and its shift
-unfoldable pub shift_of_at : Reader ShiftOf
-shift_of_at words = do
-  found ← both (spelled_at 1 ID_MAX) (both (spelled_signed_at SHIFT_MAX) (both (spelled_signed_at SHIFT_MAX) (spelled_signed_at SHIFT_MAX))) words
-  Ok (record { v = found.0.0; by = shift_by (record { x = found.0.1.0; y = found.0.1.1.0; z = found.0.1.1.1 }) }, found.1)
-
--- the reason that a word names
-unfoldable pub why_of : List ℕ → Option TextWhy
-why_of word =
-    if bytes_eq word (codes "number") then Some why.Number
-    else if bytes_eq word (codes "corner") then Some why.Corner
-    else if bytes_eq word (codes "range") then Some why.Range
-    else if bytes_eq word (codes "short") then Some why.Short
-    else if bytes_eq word (codes "long") then Some why.Long
-    else if bytes_eq word (codes "unknown") then Some why.Unknown
-    else if bytes_eq word (codes "continuation") then Some why.Continuation
-    else None
-
-unfoldable pub why_at : Reader TextWhy
-why_at [] = Err why.Short
-why_at (word ∷ words) = or_number (why_of word) >>= λ found. Ok (found, words)
-
--- the number of a line and the reason why it can't be read
-unfoldable pub fault_at : Reader TextFault
-fault_at words = do
-  found ← both (spelled_at 1 COUNT_MAX) why_at words
-  Ok (record { line = found.0.0; why = found.0.1 }, found.1)
+use Rattle.line_text.specs.Spellings.{spaced_words, spelled_number, spelled_from, spelled_at, count_with_end}
+use Rattle.log_text.specs.Fields.{both}
+use Rattle.log_text.specs.Values.{pair_at, shift_of_at, fault_at, whole, alone}
+use Rattle.log_text.specs.EditLines.{block_of, pinch_of, edit_of}
 
 -- ---- lines
-
--- exactly so many words, and the value that they give
-abbrev pub whole : {A : Type 0} → Bool → ℕ → Reader A → List (List ℕ) → Result A TextWhy
-whole ended count read words = count_with_end ended count words >>= λ counted. read words >>= λ found. Ok found.0
-
--- a line with no further word
-abbrev pub alone : Bool → LogLine → List (List ℕ) → Result LogLine TextWhy
-alone ended l words = count_with_end ended 0 words >>= λ counted. Ok l
 
 -- `log` and the version
 unfoldable pub first_of : ℕ → Bool → List (List ℕ) → Result LogLine TextWhy
@@ -165,10 +120,9 @@ refused_of ended (word ∷ words) =
     else if bytes_eq word (codes "use") then use_of ended words
     else Err why.Unknown
 
--- the line that the words spell by a version, where ended says that LF stands behind them
-unfoldable pub line_of : ℕ → Bool → List (List ℕ) → Result LogLine TextWhy
-line_of version ended [] = Err why.Unknown
-line_of version ended (first ∷ words) =
+-- the line of any other form than those that end in a list
+unfoldable pub plain_of : ℕ → Bool → List ℕ → List (List ℕ) → Result LogLine TextWhy
+plain_of version ended first words =
     if bytes_eq first (codes "topo") then first_of version ended words
     else if bytes_eq first (codes "mesh") then mesh_of ended words
     else if bytes_eq first (codes "step") then step_of ended words
@@ -177,7 +131,15 @@ line_of version ended (first ∷ words) =
     else if bytes_eq first (codes "moved") then moved_of ended words
     else if bytes_eq first (codes "refused") then refused_of ended words
     else if bytes_eq first (codes "end") then alone ended line.End words
-    else Err why.Unknown
+    else edit_of ended first words
+
+-- the line that the words spell by a version, where ended says that LF stands behind them
+unfoldable pub line_of : ℕ → Bool → List (List ℕ) → Result LogLine TextWhy
+line_of version ended [] = Err why.Unknown
+line_of version ended (first ∷ words) =
+    if bytes_eq first (codes "block") then block_of ended words
+    else if bytes_eq first (codes "pinch") then pinch_of ended words
+    else plain_of version ended first words
 
 -- ---- texts
 

@@ -1,10 +1,17 @@
 //! The lines of a log, the one spelling of each, how they are read, and what the lines make of a mesh.
 #![tactic(auto)]
 
+mod edit_lines;
+mod edit_printing;
+#[cfg(test)]
+mod edit_tests;
+mod edit_values;
 pub mod laws;
 mod lines;
+mod listed;
 mod log_line;
 mod printing;
+mod putting;
 mod reading;
 mod refusals;
 #[cfg(test)]
@@ -27,3 +34,5 @@ pub const CORNER_MAX: u8 = 3;
 pub const PASSES_MAX: u8 = 100;
 /// The greatest number of rounds of impact zones: fewer than vertices may live.
 pub const ROUNDS_MAX: u32 = grid_base::VERTICES_MAX - 1;
+/// The greatest number of a turn in which two edges are zipped.
+pub const TURN_MAX: u8 = 3;

@@ -1,15 +1,19 @@
 ghost use Rattle.std.specs.Prelude.{◌≡◌};
+ghost use Rattle.line_text.specs.Faults.{Gives, at_line};
 ghost use Rattle.line_text.specs.Remaining.{parts_left};
 ghost use Rattle.line_text.specs.Spellings.{spaced_words};
 ghost use Rattle.log_text.specs.Reading as spec;
 
+use crate::edit_lines::edit;
+use crate::listed::{block, pinch};
 use crate::log_line::LogLine;
 use crate::refusals::refused;
 use crate::values::{alone, count_at, pair_at, shift_of_at};
 use crate::{COUNT_MAX, PASSES_MAX, ROUNDS_MAX};
 use grid_base::{FACES_MAX, HALVINGS_MAX, VERTICES_MAX};
-use line_text::{Parts, TextWhy, count_with_end, is_word};
+use line_text::{Parts, ReadFault, TextFault, TextWhy, count_with_end, is_word};
 use mesh_base::How;
+use std::alloc::Global;
 
 #[tactic(auto, unfolding(crate::specs::Reading::first_of))]
 fn first(version: u8, ended: bool, words: Parts<'_>) -> Result<LogLine, TextWhy>
@@ -103,14 +107,10 @@ fn moved(ended: bool, words: Parts<'_>) -> Result<LogLine, TextWhy>
     Err(TextWhy::Unknown)
 }
 
-#[tactic(auto, unfolding(crate::specs::Reading::line_of))]
-pub(crate) fn read_line(version: u8, ended: bool, text: &[u8]) -> Result<LogLine, TextWhy>
-    ensures { result ≡ spec.line_of version ended (spaced_words text.now) }
+#[tactic(auto, unfolding(crate::specs::Reading::plain_of))]
+fn plain(version: u8, ended: bool, form: &[u8], words: Parts<'_>) -> Result<LogLine, TextWhy>
+    ensures { result ≡ spec.plain_of version ended form.now (parts_left words.entry) }
 {
-    let mut words = Parts::new(b' ', text);
-    let Some(form) = words.next() else {
-        return Err(TextWhy::Unknown);
-    };
     if is_word(form, b"topo") {
         return first(version, ended, words);
     }
@@ -135,5 +135,38 @@ pub(crate) fn read_line(version: u8, ended: bool, text: &[u8]) -> Result<LogLine
     if is_word(form, b"end") {
         return alone(ended, LogLine::End, words);
     }
-    Err(TextWhy::Unknown)
+    edit(ended, form, words)
+}
+
+// What was read of a line, with its number at a fault.
+fn placed(read: Result<LogLine, TextWhy>, number: u32) -> Result<LogLine, ReadFault>
+    ensures { Gives (λ l. l) result (at_line number read) }
+{
+    match read {
+        Ok(line) => Ok(line),
+        Err(why) => Err(ReadFault::Text(TextFault { line: number, why })),
+    }
+}
+
+#[tactic(auto, unfolding(crate::specs::Reading::line_of))]
+pub(crate) fn read_line(
+    alloc: Global,
+    version: u8,
+    ended: bool,
+    text: &[u8],
+    number: u32,
+) -> Result<LogLine, ReadFault>
+    ensures { Gives (λ l. l) result (at_line number (spec.line_of version ended (spaced_words text.now))) }
+{
+    let mut words = Parts::new(b' ', text);
+    let Some(form) = words.next() else {
+        return placed(Err(TextWhy::Unknown), number);
+    };
+    if is_word(form, b"block") {
+        return block(alloc, ended, words, number);
+    }
+    if is_word(form, b"pinch") {
+        return pinch(alloc, ended, words, number);
+    }
+    placed(plain(version, ended, form, words), number)
 }

@@ -1,6 +1,7 @@
+use edit_base::{Asked, Change, PassKind, Why};
 use grid_base::Items;
 use line_text::TextFault;
-use mesh_base::{FileWord, How, PairName, ShapeFault, ShiftOf, UseWhy};
+use mesh_base::{FileWord, How, Ids, PairName, ShapeFault, ShiftOf, UseWhy};
 
 /// Why a run ended before its directives were all run.
 #[derive(Clone, Copy, Debug, PartialEq, Eq)]
@@ -22,7 +23,7 @@ pub enum Refusal {
 }
 
 /// A line of a log.
-#[derive(Clone, Copy, Debug, PartialEq, Eq)]
+#[derive(Drop)]
 pub enum LogLine {
     /// The first line, with the version of the lines' spelling.
     First { version: u8 },
@@ -32,10 +33,18 @@ pub enum LogLine {
     Step { k: u32 },
     /// A pair of the asked step that doesn't pass.
     Hit(PairName),
+    /// The vertices of a block of the round of impact zones that is taken, by rising id.
+    Block(Ids),
     /// A shift of the step that is taken.
     Move(ShiftOf),
     /// The step takes effect.
     Moved(How),
+    /// A pass begins.
+    Pass(PassKind),
+    /// An edit is done.
+    Did(Change),
+    /// An edit that was asked for isn't done.
+    No { what: Asked, why: Why },
     /// The run ended before its directives were all run.
     Refused(Refusal),
     /// The directives were all run.

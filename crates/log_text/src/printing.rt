@@ -1,21 +1,13 @@
-ghost use Rattle.std.specs.Prelude.{◌≡◌, ◌++◌, ◌∷◌, [], ◌<◌, length, map, OnOk, OnErr};
-ghost use Rattle.std.specs.List.{join_with_byte};
-ghost use Rattle.line_text.specs.WrittenLines.{word_of};
+ghost use Rattle.std.specs.Prelude.{◌≡◌, ◌++◌, OnOk, OnErr};
+ghost use Rattle.line_text.specs.WrittenLines.{Keeps};
 ghost use Rattle.log_text.specs.Lines as spec;
 
+use crate::edit_printing::{print_change, print_no, print_pass};
 use crate::log_line::{LogLine, Refusal};
+use crate::putting::{print_block, put_words};
 use grid_base::NoMemory;
-use line_text::{Field, TextFault, TextWhy, put_line};
+use line_text::{Field, TextFault, TextWhy};
 use mesh_base::{FileWord, How, PairName, ShapeFault, ShiftOf, UseWhy};
-
-// Appends the words with one space between them and LF behind them, or changes nothing.
-fn put_words(fields: &[Field<'_>], into: &mut Vec<u8>) -> Result<(), NoMemory>
-    requires { 0 < length fields.now }
-    ensures ok { OnOk result (into.new.items ≡ into.old.items ++ (join_with_byte 32 (map word_of fields.now) ++ 10 ∷ [])) }
-    ensures err { OnErr result (into.new.items ≡ into.old.items) }
-{
-    put_line(fields, into)
-}
 
 fn file_word(file: FileWord) -> &'static [u8]
     ensures { result.now ≡ spec.file_word file }
@@ -42,7 +34,7 @@ fn why_word(why: TextWhy) -> &'static [u8]
 
 fn print_first(version: u8, into: &mut Vec<u8>) -> Result<(), NoMemory>
     ensures ok { OnOk result (into.new.items ≡ into.old.items ++ spec.text_of_line (LogLine.First version)) }
-    ensures err { OnErr result (into.new.items ≡ into.old.items) }
+    ensures err { OnErr result (Keeps into.old.items into.new.items) }
 {
     put_words(
         &[
@@ -56,7 +48,7 @@ fn print_first(version: u8, into: &mut Vec<u8>) -> Result<(), NoMemory>
 
 fn print_mesh(k: u32, vertices: u32, faces: u32, into: &mut Vec<u8>) -> Result<(), NoMemory>
     ensures ok { OnOk result (into.new.items ≡ into.old.items ++ spec.text_of_line (LogLine.Mesh k vertices faces)) }
-    ensures err { OnErr result (into.new.items ≡ into.old.items) }
+    ensures err { OnErr result (Keeps into.old.items into.new.items) }
 {
     put_words(
         &[
@@ -71,14 +63,14 @@ fn print_mesh(k: u32, vertices: u32, faces: u32, into: &mut Vec<u8>) -> Result<(
 
 fn print_step(k: u32, into: &mut Vec<u8>) -> Result<(), NoMemory>
     ensures ok { OnOk result (into.new.items ≡ into.old.items ++ spec.text_of_line (LogLine.Step k)) }
-    ensures err { OnErr result (into.new.items ≡ into.old.items) }
+    ensures err { OnErr result (Keeps into.old.items into.new.items) }
 {
     put_words(&[Field::Text(b"step"), Field::Number(u64::from(k))], into)
 }
 
 fn print_hit(pair: PairName, into: &mut Vec<u8>) -> Result<(), NoMemory>
     ensures ok { OnOk result (into.new.items ≡ into.old.items ++ spec.text_of_line (LogLine.Hit pair)) }
-    ensures err { OnErr result (into.new.items ≡ into.old.items) }
+    ensures err { OnErr result (Keeps into.old.items into.new.items) }
 {
     put_words(
         &[
@@ -93,7 +85,7 @@ fn print_hit(pair: PairName, into: &mut Vec<u8>) -> Result<(), NoMemory>
 
 fn print_move(s: ShiftOf, into: &mut Vec<u8>) -> Result<(), NoMemory>
     ensures ok { OnOk result (into.new.items ≡ into.old.items ++ spec.text_of_line (LogLine.Move s)) }
-    ensures err { OnErr result (into.new.items ≡ into.old.items) }
+    ensures err { OnErr result (Keeps into.old.items into.new.items) }
 {
     put_words(
         &[
@@ -109,7 +101,7 @@ fn print_move(s: ShiftOf, into: &mut Vec<u8>) -> Result<(), NoMemory>
 
 fn print_moved(how: How, into: &mut Vec<u8>) -> Result<(), NoMemory>
     ensures ok { OnOk result (into.new.items ≡ into.old.items ++ spec.text_of_line (LogLine.Moved how)) }
-    ensures err { OnErr result (into.new.items ≡ into.old.items) }
+    ensures err { OnErr result (Keeps into.old.items into.new.items) }
 {
     let moved = Field::Text(b"moved");
     match how {
@@ -145,7 +137,7 @@ fn print_moved(how: How, into: &mut Vec<u8>) -> Result<(), NoMemory>
 // Appends the line that refuses the points and faces of a mesh file.
 fn print_shape(fault: ShapeFault, into: &mut Vec<u8>) -> Result<(), NoMemory>
     ensures ok { OnOk result (into.new.items ≡ into.old.items ++ spec.text_of_line (LogLine.Refused (Refusal.Shape fault))) }
-    ensures err { OnErr result (into.new.items ≡ into.old.items) }
+    ensures err { OnErr result (Keeps into.old.items into.new.items) }
 {
     let refused = Field::Text(b"refused");
     let shape = Field::Text(b"shape");
@@ -208,7 +200,7 @@ fn print_shape(fault: ShapeFault, into: &mut Vec<u8>) -> Result<(), NoMemory>
 // Appends the line that refuses a directive.
 fn print_use(at: u32, why: UseWhy, into: &mut Vec<u8>) -> Result<(), NoMemory>
     ensures ok { OnOk result (into.new.items ≡ into.old.items ++ spec.text_of_line (LogLine.Refused (Refusal.StepUse at why))) }
-    ensures err { OnErr result (into.new.items ≡ into.old.items) }
+    ensures err { OnErr result (Keeps into.old.items into.new.items) }
 {
     let (word, v) = match why {
         UseWhy::NoVertex { v } => (Field::Text(b"vertex"), v),
@@ -229,7 +221,7 @@ fn print_use(at: u32, why: UseWhy, into: &mut Vec<u8>) -> Result<(), NoMemory>
 
 fn print_refused(why: Refusal, into: &mut Vec<u8>) -> Result<(), NoMemory>
     ensures ok { OnOk result (into.new.items ≡ into.old.items ++ spec.text_of_line (LogLine.Refused why)) }
-    ensures err { OnErr result (into.new.items ≡ into.old.items) }
+    ensures err { OnErr result (Keeps into.old.items into.new.items) }
 {
     let refused = Field::Text(b"refused");
     match why {
@@ -283,19 +275,38 @@ fn print_refused(why: Refusal, into: &mut Vec<u8>) -> Result<(), NoMemory>
     }
 }
 
+// Appends the line. On refusal the bytes from before still stand in front.
+fn put_any(line: &LogLine, into: &mut Vec<u8>) -> Result<(), NoMemory>
+    ensures ok { OnOk result (into.new.items ≡ into.old.items ++ spec.text_of_line line.now) }
+    ensures err { OnErr result (Keeps into.old.items into.new.items) }
+{
+    match line {
+        LogLine::First { version } => print_first(*version, into),
+        LogLine::Mesh { k, vertices, faces } => print_mesh(*k, *vertices, *faces, into),
+        LogLine::Step { k } => print_step(*k, into),
+        LogLine::Hit(pair) => print_hit(*pair, into),
+        LogLine::Block(ids) => print_block(ids, into),
+        LogLine::Move(s) => print_move(*s, into),
+        LogLine::Moved(how) => print_moved(*how, into),
+        LogLine::Pass(pass) => print_pass(*pass, into),
+        LogLine::Did(change) => print_change(change, into),
+        LogLine::No { what, why } => print_no(*what, *why, into),
+        LogLine::Refused(why) => print_refused(*why, into),
+        LogLine::End => put_words(&[Field::Text(b"end")], into),
+    }
+}
+
 /// Appends the one spelling of the line, with LF at its end, or changes nothing.
 pub fn print_line(line: &LogLine, into: &mut Vec<u8>) -> Result<(), NoMemory>
     ensures ok { OnOk result (into.new.items ≡ into.old.items ++ spec.text_of_line line.now) }
     ensures err { OnErr result (into.new.items ≡ into.old.items) }
 {
-    match *line {
-        LogLine::First { version } => print_first(version, into),
-        LogLine::Mesh { k, vertices, faces } => print_mesh(k, vertices, faces, into),
-        LogLine::Step { k } => print_step(k, into),
-        LogLine::Hit(pair) => print_hit(pair, into),
-        LogLine::Move(s) => print_move(s, into),
-        LogLine::Moved(how) => print_moved(how, into),
-        LogLine::Refused(why) => print_refused(why, into),
-        LogLine::End => put_words(&[Field::Text(b"end")], into),
+    let start = into.len();
+    match put_any(line, into) {
+        Ok(()) => Ok(()),
+        Err(NoMemory) => {
+            into.truncate(start);
+            Err(NoMemory)
+        }
     }
 }

@@ -7,7 +7,7 @@ use crate::VERSION;
 use crate::lines::read_line;
 use crate::log_line::{Log, LogLine};
 use grid_base::NoMemory;
-use line_text::{ReadFault, TextFault, cut_at};
+use line_text::{ReadFault, cut_at};
 use std::alloc::Global;
 
 // Puts the line at the end, or changes nothing. The refusal is put together again, since the checker wants its type named
@@ -23,27 +23,29 @@ fn push_line(log: &mut Log, line: LogLine) -> Result<(), NoMemory>
 }
 
 // Adds the line that a part of a text spells.
-fn add_line(log: &mut Log, ended: bool, text: &[u8], number: u32) -> Result<(), ReadFault>
+fn add_line(
+    alloc: Global,
+    log: &mut Log,
+    ended: bool,
+    text: &[u8],
+    number: u32,
+) -> Result<(), ReadFault>
     ensures { Leaves log.new result (at_line number (spec.line_adds VERSION log.old ended text.now)) }
 {
-    match read_line(VERSION, ended, text) {
-        Ok(line) => {
-            push_line(log, line)?;
-            Ok(())
-        }
-        Err(why) => Err(ReadFault::Text(TextFault { line: number, why })),
-    }
+    let line = read_line(alloc, VERSION, ended, text, number)?;
+    push_line(log, line)?;
+    Ok(())
 }
 
 // The log with what stands behind its last LF, which is no line where it is empty.
-fn with_last(log: Log, last: &[u8], number: u32) -> Result<Log, ReadFault>
+fn with_last(alloc: Global, log: Log, last: &[u8], number: u32) -> Result<Log, ReadFault>
     ensures { Gives (λ log. log) result (spec.parts_add VERSION log number (last.now ∷ [])) }
 {
     let mut log = log;
     if last.is_empty() {
         return Ok(log);
     }
-    add_line(&mut log, false, last, number)?;
+    add_line(alloc, &mut log, false, last, number)?;
     Ok(log)
 }
 
@@ -58,9 +60,9 @@ pub fn read_log(alloc: Global, bytes: &[u8]) -> Result<Log, ReadFault>
     'lines: loop {
         let (part, more) = cut_at(b'\n', rest);
         match more {
-            None => return with_last(log, part, number),
+            None => return with_last(alloc, log, part, number),
             Some(next) => {
-                match add_line(&mut log, true, part, number) {
+                match add_line(alloc, &mut log, true, part, number) {
                     Ok(()) => {}
                     Err(fault) => return Err(fault),
                 }

@@ -6,7 +6,7 @@ use std::alloc::Global;
 use std::process::Abort;
 use std::test::Fail;
 
-fn pair(a: u32, b: u32, face: u32) -> PairName {
+pub(crate) fn pair(a: u32, b: u32, face: u32) -> PairName {
     PairName {
         a: VertexId(a),
         b: VertexId(b),
@@ -27,7 +27,7 @@ fn refused_use(line: u32, why: UseWhy) -> LogLine {
     LogLine::Refused(Refusal::StepUse { line, why })
 }
 
-fn printed(alloc: Global, lines: &[LogLine]) -> Result<Vec<u8>, NoMemory> {
+pub(crate) fn printed(alloc: Global, lines: &[LogLine]) -> Result<Vec<u8>, NoMemory> {
     let mut into = Vec::new(alloc);
     for line in lines {
         print_line(line, &mut into)?;
@@ -133,7 +133,11 @@ fn refused_shapes_and_directives_are_printed(rt: HostRuntime) -> Result<(), Fail
 const HALVED: &[u8] =
     b"topo log 1\nmesh 0 8 8\nstep 1\nhit 5 6 1\nhit 5 7 1\nhit 5 8 1\nmove 5 -4 0 0\nmoved halved 1\nend\n";
 
-fn read_and_printed(rt: &impl Abort, alloc: Global, text: &[u8]) -> Result<Vec<u8>, ReadFault> {
+pub(crate) fn read_and_printed(
+    rt: &impl Abort,
+    alloc: Global,
+    text: &[u8],
+) -> Result<Vec<u8>, ReadFault> {
     assert!(rt; text.len() < 1000);
     let log = read_log(alloc, text)?;
     Ok(printed(alloc, log.as_slice())?)
@@ -166,8 +170,12 @@ fn each_refusal_is_read(rt: HostRuntime) -> Result<(), Fail> {
     ];
     assert_eq!(rt; log.len(), 21);
     for (line, (number, why)) in log.as_slice()[4..8].iter().zip(faults) {
-        let fault = TextFault { line: number, why };
-        assert_eq!(rt; *line, LogLine::Refused(Refusal::Mesh(fault)));
+        match line {
+            LogLine::Refused(found) => {
+                assert_eq!(rt; *found, Refusal::Mesh(TextFault { line: number, why }));
+            }
+            _ => assert!(rt; false),
+        }
     }
     let uses = [
         (1, UseWhy::NoVertex { v: 9 }),
@@ -175,20 +183,24 @@ fn each_refusal_is_read(rt: HostRuntime) -> Result<(), Fail> {
         (3, UseWhy::Box { v: 4 }),
     ];
     for (line, (number, why)) in log.as_slice()[18..].iter().zip(uses) {
-        assert_eq!(rt; *line, refused_use(number, why));
+        match line {
+            LogLine::Refused(found) => {
+                assert_eq!(rt; *found, Refusal::StepUse { line: number, why });
+            }
+            _ => assert!(rt; false),
+        }
     }
     Ok(())
 }
 
 // A log that is cut where a line ends is the log of its lines; one that is cut elsewhere is at fault in its last line.
-#[test]
-fn each_prefix_of_a_log_is_read(rt: HostRuntime) -> Result<(), Fail> {
-    for i in 0..HALVED.len() {
-        let prefix = &HALVED[..i];
+pub(crate) fn each_prefix(rt: &impl Abort, alloc: Global, text: &[u8]) {
+    for i in 0..text.len() {
+        let prefix = &text[..i];
         let ends = prefix.iter().filter(|b| **b == b'\n').count();
         let ended = matches!(prefix.last(), None | Some(b'\n'));
         assert!(rt; prefix.len() < 1000);
-        match read_log(rt.alloc(), prefix) {
+        match read_log(alloc, prefix) {
             Ok(log) => {
                 assert!(rt; ended);
                 assert_eq!(rt; log.len(), ends);
@@ -201,7 +213,20 @@ fn each_prefix_of_a_log_is_read(rt: HostRuntime) -> Result<(), Fail> {
             Err(ReadFault::NoMemory) => assert!(rt; false),
         }
     }
+}
+
+#[test]
+fn each_prefix_of_a_log_is_read(rt: HostRuntime) -> Result<(), Fail> {
+    each_prefix(&rt, rt.alloc(), HALVED);
     Ok(())
+}
+
+pub(crate) fn each_reason(rt: &impl Abort, alloc: Global, cases: &[(&[u8], TextWhy)]) {
+    for (text, why) in cases {
+        assert!(rt; text.len() < 100);
+        let fault = TextFault { line: 1, why: *why };
+        assert_eq!(rt; read_log(alloc, text).err(), Some(ReadFault::Text(fault)));
+    }
 }
 
 #[test]
@@ -242,13 +267,6 @@ fn each_reason_is_told(rt: HostRuntime) -> Result<(), Fail> {
         (b"move 1 -0 0 0\n", TextWhy::Number),
         (b"moved impulse 101\n", TextWhy::Number),
     ];
-    for (text, why) in cases {
-        assert!(rt; text.len() < 100);
-        let fault = TextFault { line: 1, why };
-        assert_eq!(rt;
-            read_log(rt.alloc(), text).err(),
-            Some(ReadFault::Text(fault))
-        );
-    }
+    each_reason(&rt, rt.alloc(), &cases);
     Ok(())
 }

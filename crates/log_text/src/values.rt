@@ -4,16 +4,32 @@ ghost use Rattle.grid_base.specs.Components.{FitWithin};
 ghost use Rattle.grid_base.specs.Points.{shift_by};
 ghost use Rattle.line_text.specs.Fields.{Takes};
 ghost use Rattle.line_text.specs.Remaining.{parts_left};
-ghost use Rattle.line_text.specs.Spellings.{spelled_at};
-ghost use Rattle.log_text.specs.Reading as spec;
+ghost use Rattle.line_text.specs.Spellings.{spelled_number, spelled_from, spelled_at};
+ghost use Rattle.log_text.specs.Reading as reading;
+ghost use Rattle.log_text.specs.Values as spec;
 
 use crate::COUNT_MAX;
 use crate::log_line::LogLine;
 use grid_base::{ID_MAX, SHIFT_MAX, Shift};
 use line_text::{
-    Parts, TextFault, TextWhy, count_with_end, is_word, spelled_at, spelled_signed_at,
+    Parts, TextFault, TextWhy, count_with_end, is_word, spelled_at, spelled_number,
+    spelled_signed_at,
 };
 use mesh_base::{FaceId, FileWord, PairName, ShiftOf, VertexId};
+
+// The number that a word spells, from low to high.
+pub(crate) fn number_of(word: &[u8], low: u32, high: u32) -> Result<u32, TextWhy>
+    ensures value { result ≡ spelled_from low high (spelled_number word.now) }
+    ensures below { IfOk result (λ n. n ≤ high) }
+{
+    let Some(n) = spelled_number(word) else {
+        return Err(TextWhy::Number);
+    };
+    if n < u128::from(low) || n > u128::from(high) {
+        return Err(TextWhy::Number);
+    }
+    Ok(n as u32)
+}
 
 // The number that the next word spells, from low to high.
 pub(crate) fn count_at(words: &mut Parts<'_>, low: u32, high: u32) -> Result<u32, TextWhy>
@@ -32,7 +48,7 @@ fn shift_with(x: i32, y: i32, z: i32) -> Shift
     Shift { x, y, z }
 }
 
-#[tactic(auto, unfolding(crate::specs::Reading::pair_at))]
+#[tactic(auto, unfolding(crate::specs::Values::pair_at))]
 pub(crate) fn pair_at(words: &mut Parts<'_>) -> Result<PairName, TextWhy>
     ensures { Takes (parts_left words.new) result (spec.pair_at (parts_left words.old)) }
 {
@@ -46,7 +62,7 @@ pub(crate) fn pair_at(words: &mut Parts<'_>) -> Result<PairName, TextWhy>
     })
 }
 
-#[tactic(auto, unfolding(crate::specs::Reading::shift_of_at))]
+#[tactic(auto, unfolding(crate::specs::Values::shift_of_at))]
 pub(crate) fn shift_of_at(words: &mut Parts<'_>) -> Result<ShiftOf, TextWhy>
     ensures { Takes (parts_left words.new) result (spec.shift_of_at (parts_left words.old)) }
 {
@@ -60,7 +76,7 @@ pub(crate) fn shift_of_at(words: &mut Parts<'_>) -> Result<ShiftOf, TextWhy>
     })
 }
 
-#[tactic(auto, unfolding(crate::specs::Reading::why_of))]
+#[tactic(auto, unfolding(crate::specs::Values::why_of))]
 fn why_of(word: &[u8]) -> Option<TextWhy>
     ensures { result ≡ spec.why_of word.now }
 {
@@ -88,7 +104,7 @@ fn why_of(word: &[u8]) -> Option<TextWhy>
     None
 }
 
-#[tactic(auto, unfolding(crate::specs::Reading::why_at))]
+#[tactic(auto, unfolding(crate::specs::Values::why_at))]
 fn why_at(words: &mut Parts<'_>) -> Result<TextWhy, TextWhy>
     ensures { Takes (parts_left words.new) result (spec.why_at (parts_left words.old)) }
 {
@@ -101,7 +117,7 @@ fn why_at(words: &mut Parts<'_>) -> Result<TextWhy, TextWhy>
     }
 }
 
-#[tactic(auto, unfolding(crate::specs::Reading::fault_at))]
+#[tactic(auto, unfolding(crate::specs::Values::fault_at))]
 pub(crate) fn fault_at(words: &mut Parts<'_>) -> Result<TextFault, TextWhy>
     ensures { Takes (parts_left words.new) result (spec.fault_at (parts_left words.old)) }
 {
@@ -119,7 +135,7 @@ pub(crate) fn alone(ended: bool, line: LogLine, words: Parts<'_>) -> Result<LogL
 
 #[tactic(auto, unfolding(crate::specs::Reading::file_of))]
 pub(crate) fn file_of(word: &[u8]) -> Option<FileWord>
-    ensures { result ≡ spec.file_of word.now }
+    ensures { result ≡ reading.file_of word.now }
 {
     if is_word(word, b"mesh") {
         return Some(FileWord::Mesh);

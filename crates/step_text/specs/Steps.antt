@@ -1,7 +1,7 @@
 -- The grammar of steps: the directives that the lines give, or the first line outside it.
 use Rattle.std.specs.Prelude.{ℕ, ◌==◌, if◌then◌else◌, List, [], ◌∷◌, ◌++◌, Result, Ok, Err, codes}
 use Rattle.std.specs.Str.{bytes_eq}
-use Rattle.grid_base.specs.declared.TheConstants.{SHIFT_MAX, DEPTH_MAX, HALVINGS_MAX, ID_MAX}
+use Rattle.grid_base.specs.declared.TheConstants.{SHIFT_MAX, DEPTH_MAX, HALVINGS_MAX, ID_MAX, LENGTH_MAX}
 use Rattle.grid_base.specs.declared.grid.Shift.{Shift}
 use Rattle.grid_base.specs.Points.{shift_by}
 use Rattle.line_text.specs.declared.TextWhy.{TextWhy}
@@ -9,9 +9,10 @@ use Rattle.line_text.specs.declared.TextWhy.TheVariants.{Short, Unknown}
 use Rattle.line_text.specs.declared.TextFault.{TextFault}
 use Rattle.line_text.specs.Faults.{◌>>=◌, at_line}
 use Rattle.line_text.specs.Texts.{words_of, numbered_lines}
+use Rattle.edit_base.specs.declared.PassKind.TheVariants as pass
 use Rattle.step_text.specs.declared.TheConstants.{PASSES_TAKEN, ZONES_TAKEN}
 use Rattle.step_text.specs.declared.directive.Directive.{Directive}
-use Rattle.step_text.specs.declared.directive.Directive.TheVariants.{SetDepth, SetPasses, SetZones, SetHalvings, ShiftOne, ShiftAll, Step, Save}
+use Rattle.step_text.specs.declared.directive.Directive.TheVariants.{SetDepth, SetPasses, SetZones, SetHalvings, ShiftOne, ShiftAll, Step, Pass, Save}
 use Rattle.step_text.specs.declared.directive.Placed.{Placed}
 use Rattle.line_text.specs.Fields.{count_is, number_at, signed_at}
 
@@ -59,6 +60,13 @@ shift_of (who ∷ words) = do
   counted ← count_is 3 words
   (if bytes_eq who (codes "all") then (shift_at words >>= λ by. Ok (ShiftAll by)) else shift_one_of (who ∷ words))
 
+-- the length above which edges are split
+unfoldable pub split_of : List (List ℕ) → Result Directive TextWhy
+split_of words = do
+  counted ← count_is 1 words
+  over ← number_at 0 LENGTH_MAX words
+  Ok (Pass (pass.Split over.0))
+
 -- a directive with no further word
 unfoldable pub alone : Directive → List (List ℕ) → Result Directive TextWhy
 alone directive words = do
@@ -71,6 +79,8 @@ directive_of first words =
     if bytes_eq first (codes "set") then set_of words
     else if bytes_eq first (codes "shift") then shift_of words
     else if bytes_eq first (codes "step") then alone Step words
+    else if bytes_eq first (codes "split") then split_of words
+    else if bytes_eq first (codes "flip") then alone (Pass pass.Flip) words
     else if bytes_eq first (codes "save") then alone Save words
     else Err Unknown
 

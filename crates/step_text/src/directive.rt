@@ -1,3 +1,4 @@
+use edit_base::PassKind;
 use grid_base::{Items, Shift};
 
 /// What one line of a step text asks for.
@@ -17,6 +18,8 @@ pub enum Directive {
     ShiftAll { by: Shift },
     /// Take the asked shifts.
     Step,
+    /// Make a pass over the edges or the vertices of the mesh.
+    Pass(PassKind),
     /// Store the mesh as it is.
     Save,
 }

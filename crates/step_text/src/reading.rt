@@ -8,7 +8,8 @@ ghost use Rattle.step_text.specs.Steps as spec;
 
 use crate::directive::{Directive, Directives, Placed};
 use crate::{PASSES_TAKEN, ZONES_TAKEN};
-use grid_base::{DEPTH_MAX, HALVINGS_MAX, ID_MAX, SHIFT_MAX, Shift};
+use edit_base::PassKind;
+use grid_base::{DEPTH_MAX, HALVINGS_MAX, ID_MAX, LENGTH_MAX, SHIFT_MAX, Shift};
 use line_text::{
     Lines, ReadFault, TextFault, TextWhy, Words, count_is, is_word, number_at, signed_at, words,
 };
@@ -89,6 +90,16 @@ fn shift(words: Words<'_>) -> Result<Directive, TextWhy>
     shift_one(words)
 }
 
+#[tactic(auto, unfolding(crate::specs::Steps::split_of))]
+fn split(words: Words<'_>) -> Result<Directive, TextWhy>
+    ensures { result ≡ spec.split_of (words_left words.entry) }
+{
+    let mut words = words;
+    count_is(1, words)?;
+    let over = number_at(&mut words, 0, LENGTH_MAX)?;
+    Ok(Directive::Pass(PassKind::Split { over }))
+}
+
 #[tactic(auto, unfolding(crate::specs::Steps::alone))]
 fn alone(directive: Directive, words: Words<'_>) -> Result<Directive, TextWhy>
     ensures { result ≡ spec.alone directive (words_left words.entry) }
@@ -109,6 +120,12 @@ fn directive(first: &[u8], words: Words<'_>) -> Result<Directive, TextWhy>
     }
     if is_word(first, b"step") {
         return alone(Directive::Step, words);
+    }
+    if is_word(first, b"split") {
+        return split(words);
+    }
+    if is_word(first, b"flip") {
+        return alone(Directive::Pass(PassKind::Flip), words);
     }
     if is_word(first, b"save") {
         return alone(Directive::Save, words);

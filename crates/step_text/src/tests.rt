@@ -2,6 +2,7 @@ ghost use Rattle.std.specs.Prelude.{◌≤◌, length};
 ghost use Rattle.grid_base.specs.declared.TheConstants.{TEXT_MAX};
 
 use crate::{Directive, Placed, read_steps};
+use edit_base::PassKind;
 use grid_base::Shift;
 use line_text::{ReadFault, TextFault, TextWhy};
 use std::test::Fail;
@@ -10,7 +11,7 @@ use std::test::Fail;
 fn each_form_is_read(rt: HostRuntime) -> Result<(), Fail> {
     let by = Shift::new(-40, 0, 7).ok_or("a shift")?;
     let text =
-        b"set depth 0\nset passes 0\nset zones 0\n\n# slower\r\nset halvings 27\n\tshift all -40 0 7 # all\nshift 2147483648 -40 -0 07\nstep\nsave";
+        b"set depth 0\nset passes 0\nset zones 0\n\n# slower\r\nset halvings 27\n\tshift all -40 0 7 # all\nshift 2147483648 -40 -0 07\nstep\nsplit 0\nsplit 268435456\nflip # edges\nsave";
     let found = read_steps(rt.alloc(), text)?;
     let want = [
         (1, Directive::SetDepth(0)),
@@ -26,7 +27,10 @@ fn each_form_is_read(rt: HostRuntime) -> Result<(), Fail> {
             },
         ),
         (9, Directive::Step),
-        (10, Directive::Save),
+        (10, Directive::Pass(PassKind::Split { over: 0 })),
+        (11, Directive::Pass(PassKind::Split { over: 268_435_456 })),
+        (12, Directive::Pass(PassKind::Flip)),
+        (13, Directive::Save),
     ];
     assert_eq!(rt; found.len(), want.len());
     for (found, (line, what)) in found.as_slice().iter().zip(want) {
@@ -37,7 +41,7 @@ fn each_form_is_read(rt: HostRuntime) -> Result<(), Fail> {
 
 #[test]
 fn each_reason_is_told(rt: HostRuntime) -> Result<(), Fail> {
-    let cases: [(&[u8], TextWhy); 19] = [
+    let cases: [(&[u8], TextWhy); 29] = [
         (b"set", TextWhy::Short),
         (b"set speed", TextWhy::Unknown),
         (b"set depth", TextWhy::Short),
@@ -55,7 +59,17 @@ fn each_reason_is_told(rt: HostRuntime) -> Result<(), Fail> {
         (b"shift 1 0 0 134217729", TextWhy::Range),
         (b"save now", TextWhy::Long),
         (b"jump", TextWhy::Unknown),
-        (b"split x", TextWhy::Unknown),
+        (b"split", TextWhy::Short),
+        (b"split 50 50", TextWhy::Long),
+        (b"split x", TextWhy::Number),
+        (b"split 12345678901", TextWhy::Number),
+        (b"split -1", TextWhy::Range),
+        (b"split 268435457", TextWhy::Range),
+        (b"flip 5", TextWhy::Long),
+        (b"flips", TextWhy::Unknown),
+        (b"collapse 5", TextWhy::Unknown),
+        (b"zip 5", TextWhy::Unknown),
+        (b"pinch", TextWhy::Unknown),
         (b"drive", TextWhy::Unknown),
     ];
     for (text, why) in cases {

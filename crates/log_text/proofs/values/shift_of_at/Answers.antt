@@ -1,6 +1,6 @@
 use Rattle.std.proofs.Common.{rules, FitsSigned, w32}
 use Rattle.std.proofs.lemmas.Int.{to_z-of_z}
-use Rattle.log_text.specs.Reading.{shift_of_at}
+use Rattle.log_text.specs.Values.{shift_of_at}
 use Rattle.log_text.proofs.values.shift_of_at.Goals as goal
 
 pub returns : goal.returns

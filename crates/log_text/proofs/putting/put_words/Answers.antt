@@ -2,7 +2,7 @@ use Rattle.std.proofs.Common.{◌<◌, map, length, arith}
 use Rattle.std.proofs.lemmas.List.{length-map}
 use Rattle.line_text.specs.WrittenLines.{word_of}
 use Rattle.log_text.proofs.LineLaws.{line_of_words-join}
-use Rattle.log_text.proofs.printing.put_words.Goals as goal
+use Rattle.log_text.proofs.putting.put_words.Goals as goal
 
 pub returns-clause-ok : goal.returns-clause-ok
 returns-clause-ok c =

@@ -1,0 +1,120 @@
+-- The values of the lines that tell of edits are read exactly.
+use Rattle.std.proofs.Common.{◌≡◌, ℕ, ◌+◌, List, [], ◌∷◌, ◌++◌, Option, Some, None, Result, Ok, ℤ, refl, ap, subst, lit<}
+use Rattle.std.specs.Prelude.{decimal, codes}
+use Rattle.std.specs.Fmt.{signed_decimal}
+use Rattle.edit_base.specs.declared.CopyAt.{CopyAt}
+use Rattle.edit_base.specs.declared.Why.{Why}
+use Rattle.edit_base.specs.declared.Why.TheVariants as reason
+use Rattle.grid_base.specs.declared.TheConstants.{BOX, ID_MAX}
+use Rattle.grid_base.specs.declared.grid.Point.{Point}
+use Rattle.grid_base.specs.Triples.{Triple}
+use Rattle.grid_base.specs.Points.{point_at}
+use Rattle.grid_base.proofs.PointLaws.{point_at-position_of, position_of-point_at}
+use Rattle.line_text.specs.declared.TextWhy.{TextWhy}
+use Rattle.line_text.specs.Faults.{◌>>=◌}
+use Rattle.line_text.specs.Spellings.{spelled_at, spelled_signed_at}
+use Rattle.mesh_base.specs.declared.PairName.{PairName}
+use Rattle.log_text.specs.Fields.{both, or_number}
+use Rattle.log_text.specs.Lines.{point_words, place_words, reason_words}
+use Rattle.log_text.specs.Values.{pair_at, edge_at, position_at, place_at, reason_of, reason_at}
+use Rattle.log_text.specs.Laws.{IsFrom, IsEdgeInRange, IsReasonInRange}
+use Rattle.log_text.proofs.Steps.{bound, ok_same, some_same, picked}
+use Rattle.log_text.proofs.Exactness.{IsExact, or_number-some, spelled_at-exact, in_turn-exact, made-exact}
+use Rattle.log_text.proofs.Spellings.{one, both-exact, components, AreWithin, pair_at-exact}
+
+-- ---- edges
+
+abbrev pub Edge : Type 0
+Edge = ℕ × ℕ
+
+abbrev pub edge_words : Edge → List (List ℕ)
+edge_words e = decimal e.0 ∷ decimal e.1 ∷ []
+
+abbrev pub EdgeFits : Edge → Type 0
+EdgeFits e = IsEdgeInRange e.0 e.1
+
+pub edge_at-exact : IsExact edge_at edge_words EdgeFits
+unfolding edge_at
+edge_at-exact = in_turn-exact (spelled_at 1 ID_MAX) (λ a. spelled_at (a + 1) ID_MAX) one (λ a. one) (IsFrom 1 ID_MAX) (λ a. IsFrom (a + 1) ID_MAX) (spelled_at-exact 1 ID_MAX (lit< tt)) (λ a. spelled_at-exact (a + 1) ID_MAX (lit< tt))
+
+-- ---- points
+
+abbrev triple_of : ℤ × (ℤ × ℤ) → Triple
+triple_of p = record { x = p.0; y = p.1.0; z = p.1.1 }
+
+abbrev triple_words : Triple → List (List ℕ)
+triple_words t = signed_decimal t.x ∷ signed_decimal t.y ∷ signed_decimal t.z ∷ []
+
+abbrev parts_of_point : Point → ℤ × (ℤ × ℤ)
+parts_of_point p = (p.x, (p.y, p.z))
+
+pub position_at-exact : IsExact position_at point_words (λ p. Unit {0})
+unfolding position_at
+position_at-exact = made-exact (both (spelled_signed_at BOX) (both (spelled_signed_at BOX) (spelled_signed_at BOX))) (λ p. signed_decimal p.0 ∷ signed_decimal p.1.0 ∷ signed_decimal p.1.1 ∷ []) (AreWithin BOX) point_words (λ p. Unit {0}) (λ p. point_at (triple_of p)) parts_of_point (components BOX (lit< tt))
+    (λ p h. (ap triple_words (position_of-point_at (triple_of p) (record { x_fits = h.0; y_fits = h.1.0; z_fits = h.1.1 })), tt))
+    (λ p u. (point_at-position_of p, (p.in_box.x_fits, (p.in_box.y_fits, p.in_box.z_fits))))
+
+abbrev pub PlaceFits : CopyAt → Type 0
+PlaceFits c = IsFrom 1 ID_MAX c.w
+
+pub place_at-exact : IsExact place_at place_words PlaceFits
+unfolding place_at
+place_at-exact = made-exact (both (spelled_at 1 ID_MAX) position_at) (λ p. decimal p.0 ∷ point_words p.1) (λ p. IsFrom 1 ID_MAX p.0 × Unit {0}) place_words PlaceFits (λ (p : ℕ × Point). record { w = p.0; at = p.1 }) (λ c. (c.w, c.at)) (both-exact (spelled_at 1 ID_MAX) position_at one point_words (IsFrom 1 ID_MAX) (λ p. Unit {0}) (spelled_at-exact 1 ID_MAX (lit< tt)) position_at-exact)
+    (λ p h. (refl, h.0))
+    (λ c h. (refl, (h, tt)))
+
+-- ---- reasons
+
+-- a reason of one word
+pub reason_of-some : (word : List ℕ) (w : Why) → reason_of word ≡ Some w → (word ∷ [] ≡ reason_words w) × IsReasonInRange w
+unfolding reason_of
+reason_of-some word w h =
+    let P : List ℕ → Type 0 = λ t. (t ∷ [] ≡ reason_words w) × IsReasonInRange w in
+    let Q : List ℕ → Why → Type 0 = λ t v. (t ∷ [] ≡ reason_words v) × IsReasonInRange v in
+    let here : (v : Why) (t : List ℕ) → Q t v → ◌≡◌ {A = Option Why} (Some v) (Some w) → P t = λ v t q e. subst (Q t) (some_same v w e) q in
+    picked P word (codes "noedge") (Some reason.NoEdge) _ (Some w) (here reason.NoEdge (codes "noedge") (refl, tt))
+    (picked P word (codes "crowded") (Some reason.Crowded) _ (Some w) (here reason.Crowded (codes "crowded") (refl, tt))
+    (picked P word (codes "edge") (Some reason.Edge) _ (Some w) (here reason.Edge (codes "edge") (refl, tt))
+    (picked P word (codes "shared") (Some reason.Shared) _ (Some w) (here reason.Shared (codes "shared") (refl, tt))
+    (picked P word (codes "full") (Some reason.Full) _ (Some w) (here reason.Full (codes "full") (refl, tt))
+    (picked P word (codes "doubled") (Some reason.Doubled) _ (Some w) (here reason.Doubled (codes "doubled") (refl, tt))
+    (picked P word (codes "onefan") (Some reason.OneFan) None (Some w) (here reason.OneFan (codes "onefan") (refl, tt))
+    (λ e. absurd (let no : ⊥ = cc in no))))))))
+    h
+
+abbrev Found : Type 0
+Found = Why × List (List ℕ)
+
+reason_at-back : (words : List (List ℕ)) (w : Why) (rest : List (List ℕ)) → reason_at words ≡ Ok (w, rest) → (words ≡ reason_words w ++ rest) × IsReasonInRange w
+unfolding reason_at
+reason_at-back [] w rest h = absurd (let no : ⊥ = cc in no)
+reason_at-back (word ∷ words) w rest h =
+    let P : List ℕ → Type 0 = λ t. (t ∷ words ≡ reason_words w ++ rest) × IsReasonInRange w in
+    picked P word (codes "hit") (pair_at words >>= λ pair. Ok (reason.Hit pair.0, pair.1)) (or_number (reason_of word) >>= λ found. Ok (found, words)) (Ok (w, rest))
+    (λ e.
+    let b = bound (pair_at words) (λ (pair : PairName × List (List ℕ)). Ok (reason.Hit pair.0, pair.1)) (w, rest) e in
+    let same : ◌≡◌ {A = Found} (reason.Hit b.value.0, b.value.1) (w, rest) = ok_same (reason.Hit b.value.0, b.value.1) (w, rest) b.after in
+    let back = pair_at-exact.back words b.value.0 b.value.1 b.first in
+    let Q : Found → Type 0 = λ f. (codes "hit" ∷ words ≡ reason_words f.0 ++ f.1) × IsReasonInRange f.0 in
+    subst Q same (ap (λ (t : List (List ℕ)). codes "hit" ∷ t) back.0, back.1))
+    (λ e.
+    let b = bound (or_number (reason_of word)) (λ (found : Why). Ok (found, words)) (w, rest) e in
+    let same : ◌≡◌ {A = Found} (b.value, words) (w, rest) = ok_same (b.value, words) (w, rest) b.after in
+    let some = reason_of-some word b.value (or_number-some (reason_of word) b.value b.first) in
+    let Q : Found → Type 0 = λ f. (word ∷ words ≡ reason_words f.0 ++ f.1) × IsReasonInRange f.0 in
+    subst Q same (ap (λ (t : List (List ℕ)). t ++ words) some.0, some.1))
+    h
+
+reason_at-forth : (w : Why) (words : List (List ℕ)) → IsReasonInRange w → reason_at (reason_words w ++ words) ≡ Ok (w, words)
+unfolding reason_at reason_of
+reason_at-forth reason.NoEdge words r = refl
+reason_at-forth reason.Crowded words r = refl
+reason_at-forth reason.Edge words r = refl
+reason_at-forth reason.Shared words r = refl
+reason_at-forth reason.Full words r = refl
+reason_at-forth reason.Doubled words r = refl
+reason_at-forth reason.OneFan words r = refl
+reason_at-forth (reason.Hit pair) words r = ap (λ (found : Result (PairName × List (List ℕ)) TextWhy). found >>= λ pair. Ok (reason.Hit pair.0, pair.1)) (pair_at-exact.forth pair words r)
+
+pub reason_at-exact : IsExact reason_at reason_words IsReasonInRange
+reason_at-exact = record { forth = reason_at-forth; back = reason_at-back }

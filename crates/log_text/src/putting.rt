@@ -1,0 +1,103 @@
+ghost use Rattle.std.specs.Prelude.{◌≡◌, ◌++◌, ◌∷◌, [], ◌<◌, length, map, decimal, OnOk, OnErr};
+ghost use Rattle.std.specs.List.{join_with_byte};
+ghost use Rattle.line_text.specs.WrittenLines.{word_of, Keeps};
+ghost use Rattle.log_text.specs.Lines.{spaced, place_words, places_words, text_of_line};
+
+use crate::log_line::LogLine;
+use edit_base::CopyAt;
+use grid_base::NoMemory;
+use itoa::Buffer;
+use line_text::{Field, put_line};
+use mesh_base::{Ids, VertexId};
+
+// Appends the words with one space between them and LF behind them.
+pub(crate) fn put_words(fields: &[Field<'_>], into: &mut Vec<u8>) -> Result<(), NoMemory>
+    requires { 0 < length fields.now }
+    ensures ok { OnOk result (into.new.items ≡ into.old.items ++ (join_with_byte 32 (map word_of fields.now) ++ 10 ∷ [])) }
+    ensures err { OnErr result (Keeps into.old.items into.new.items) }
+{
+    put_line(fields, into)
+}
+
+// Appends a space and a word.
+fn put_word(field: &Field<'_>, into: &mut Vec<u8>) -> Result<(), NoMemory>
+    ensures ok { OnOk result (into.new.items ≡ into.old.items ++ 32 ∷ word_of field.now) }
+    ensures err { OnErr result (Keeps into.old.items into.new.items) }
+{
+    let mut buffer = Buffer::new();
+    into.push(b' ')?;
+    match field {
+        Field::Text(text) => into.extend_from_slice(text)?,
+        Field::Number(n) => into.extend_from_slice(buffer.format(*n).as_bytes())?,
+        Field::Signed(n) => into.extend_from_slice(buffer.format(*n).as_bytes())?,
+    }
+    Ok(())
+}
+
+// Appends each word with a space in front.
+pub(crate) fn put_spaced(fields: &[Field<'_>], into: &mut Vec<u8>) -> Result<(), NoMemory>
+    ensures ok { OnOk result (into.new.items ≡ into.old.items ++ spaced (map word_of fields.now)) }
+    ensures err { OnErr result (Keeps into.old.items into.new.items) }
+{
+    for field in fields {
+        match put_word(field, into) {
+            Ok(()) => {}
+            Err(NoMemory) => return Err(NoMemory),
+        }
+    }
+    Ok(())
+}
+
+// Appends each id with a space in front.
+fn put_ids(ids: &[VertexId], into: &mut Vec<u8>) -> Result<(), NoMemory>
+    ensures ok { OnOk result (into.new.items ≡ into.old.items ++ spaced (map decimal ids.now)) }
+    ensures err { OnErr result (Keeps into.old.items into.new.items) }
+{
+    for v in ids {
+        match put_word(&Field::Number(u64::from(v.0)), into) {
+            Ok(()) => {}
+            Err(NoMemory) => return Err(NoMemory),
+        }
+    }
+    Ok(())
+}
+
+// Appends a vertex and the point where it stands, each word with a space in front.
+pub(crate) fn put_place(place: CopyAt, into: &mut Vec<u8>) -> Result<(), NoMemory>
+    ensures ok { OnOk result (into.new.items ≡ into.old.items ++ spaced (place_words place)) }
+    ensures err { OnErr result (Keeps into.old.items into.new.items) }
+{
+    put_spaced(
+        &[
+            Field::Number(u64::from(place.w.0)),
+            Field::Signed(place.at.x),
+            Field::Signed(place.at.y),
+            Field::Signed(place.at.z),
+        ],
+        into,
+    )
+}
+
+// Appends each vertex and the point where it stands, each word with a space in front.
+pub(crate) fn put_places(places: &[CopyAt], into: &mut Vec<u8>) -> Result<(), NoMemory>
+    ensures ok { OnOk result (into.new.items ≡ into.old.items ++ spaced (places_words places.now)) }
+    ensures err { OnErr result (Keeps into.old.items into.new.items) }
+{
+    for place in places {
+        match put_place(*place, into) {
+            Ok(()) => {}
+            Err(NoMemory) => return Err(NoMemory),
+        }
+    }
+    Ok(())
+}
+
+pub(crate) fn print_block(ids: &Ids, into: &mut Vec<u8>) -> Result<(), NoMemory>
+    ensures ok { OnOk result (into.new.items ≡ into.old.items ++ text_of_line (LogLine.Block ids.now)) }
+    ensures err { OnErr result (Keeps into.old.items into.new.items) }
+{
+    into.extend_from_slice(b"block")?;
+    put_ids(ids.as_slice(), into)?;
+    into.push(b'\n')?;
+    Ok(())
+}
