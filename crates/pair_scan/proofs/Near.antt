@@ -13,7 +13,7 @@ use Rattle.grid_base.specs.Extents.{overlaps}
 use Rattle.cell_grid.specs.Overlapping.{overlapping}
 use Rattle.pair_scan.specs.declared.placed.PlacedEdge.{PlacedEdge}
 use Rattle.pair_scan.specs.declared.placed.PlacedFace.{PlacedFace}
-use Rattle.pair_scan.specs.Boxes.{HoldsEdge, AreBoxes}
+use Rattle.pair_scan.specs.Boxes.{HoldsEdge, HoldsFace, AreBoxes}
 use Rattle.pair_scan.specs.Scan.{meets_face, name_with, met_with, first_some}
 use Rattle.pair_scan.proofs.Apart.{meets_none}
 use Rattle.pair_scan.proofs.Faces.{found_entries}
@@ -63,7 +63,7 @@ all_numbers e all (f ∷ fs) i h =
     by_test false = refl
 
 -- ---- a face whose box is apart answers nothing
-none_apart : (e : PlacedEdge) (faces : List PlacedFace) (m : finite.FinMap nat_cmp Extent) (edge : Extent) → AreBoxes faces m → HoldsEdge e edge
+none_apart : (e : PlacedEdge) (faces : List PlacedFace) (m : finite.FinMap nat_cmp Extent) (edge : Extent) → AreBoxes HoldsFace faces m → HoldsEdge e edge
     → (k : ℕ) (v : Extent) → finite.get m k ≡ Some v → overlaps v edge ≡ false → met_with e (slice_get faces k) ≡ None
 none_apart e faces m edge boxes E k v found off = by_answer (slice_get faces k) refl
   where
@@ -74,13 +74,13 @@ none_apart e faces m edge boxes E k v found off = by_answer (slice_get faces k) 
         let same : its.0 ≡ v = same_some its.0 v (sym its.1.0 ∙ found) in
         ap (λ b. cond b (Some (name_with e.a e.b f.face)) None) (meets_none e f its.0 edge E its.1.1 (ap (λ w. overlaps w edge) same ∙ off))
 
-pub near_is_all : (e : PlacedEdge) (faces : List PlacedFace) (m : finite.FinMap nat_cmp Extent) (edge : Extent) (near : List ℕ) → AreBoxes faces m → HoldsEdge e edge → near ≡ overlapping m edge
+pub near_is_all : (e : PlacedEdge) (faces : List PlacedFace) (m : finite.FinMap nat_cmp Extent) (edge : Extent) (near : List ℕ) → AreBoxes HoldsFace faces m → HoldsEdge e edge → near ≡ overlapping m edge
     → first_some (λ k. met_with e (slice_get faces k)) near ≡ option_map (λ f. name_with e.a e.b f.face) (find (meets_face e) faces)
 near_is_all e faces m edge near boxes E is =
     let answer : ℕ → Option PairName = λ k. met_with e (slice_get faces k) in
     ap (first_some answer) is
     ∙ left_out answer (λ v. overlaps v edge) (finite.entries m) (all_weaker (λ y. finite.get m y.0 ≡ Some y.1) (λ y. overlaps y.1 edge ≡ false → answer y.0 ≡ None) (finite.entries m) (λ y found off. none_apart e faces m edge boxes E y.0 y.1 found off) (found_entries m))
-    ∙ ap (first_some answer) (sym (keys_are_numbers faces m boxes))
+    ∙ ap (first_some answer) (sym (keys_are_numbers HoldsFace faces m boxes))
     ∙ all_numbers e faces faces 0 (λ k. ap (slice_get faces) (from_zero k))
   where
     from_zero : (k : ℕ) → 0 + k ≡ k
