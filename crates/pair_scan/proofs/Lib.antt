@@ -6,3 +6,5 @@ pub mod Boxed
 pub mod Numbered
 pub mod Apart
 pub mod Near
+pub mod ShiftSearch
+pub mod Ways

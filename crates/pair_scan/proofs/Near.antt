@@ -1,5 +1,5 @@
 -- The first of the near faces that an edge meets is the first of all.
-use Rattle.std.proofs.Common.{◌≡◌, ℕ, zero, suc, ◌+◌, ◌<◌, Bool, true, false, cond, List, [], ◌∷◌, length, drop, get_or, Option, Some, None, refl, sym, ap, ◌∙◌, arith}
+use Rattle.std.proofs.Common.{◌≡◌, ℕ, zero, suc, ◌+◌, ◌<◌, Bool, true, false, ◌&&◌, ◌||◌, not, cond, List, [], ◌∷◌, length, drop, get_or, Option, Some, None, refl, sym, ap, ◌∙◌, arith}
 use Rattle.std.specs.Prelude.{slice_get}
 use Rattle.std.specs.List.{filter, find, AllByRecursion}
 use Rattle.std.specs.Option.{option_map, option_or}
@@ -8,6 +8,9 @@ use Rattle.std.specs.Map.{keys_of}
 use Rattle.std.specs.FinMap as finite
 use Rattle.mesh_base.specs.declared.ids.PairName.{PairName}
 use Rattle.mesh_base.proofs.ListedPairs.{all_weaker}
+use Rattle.mesh_base.specs.Sides.{has_corner}
+use Rattle.grid_base.specs.Points.{position_of}
+use Rattle.grid_base.specs.declared.Positions.{Positions}
 use Rattle.grid_base.specs.declared.Extent.{Extent}
 use Rattle.grid_base.specs.Extents.{overlaps}
 use Rattle.cell_grid.specs.Overlapping.{overlapping}
@@ -15,7 +18,8 @@ use Rattle.pair_scan.specs.declared.placed.PlacedEdge.{PlacedEdge}
 use Rattle.pair_scan.specs.declared.placed.PlacedFace.{PlacedFace}
 use Rattle.pair_scan.specs.Boxes.{HoldsEdge, HoldsFace, AreBoxes}
 use Rattle.pair_scan.specs.Scan.{meets_face, name_with, met_with, first_some}
-use Rattle.pair_scan.proofs.Apart.{meets_none}
+use Rattle.pair_scan.proofs.Apart.{never_meet}
+use Rattle.pair_scan.proofs.Clear.{apart}
 use Rattle.pair_scan.proofs.Faces.{found_entries}
 use Rattle.pair_scan.proofs.Lists.{rest_at}
 use Rattle.pair_scan.proofs.Numbered.{numbers, keys_are_numbers, same_some}
@@ -63,6 +67,16 @@ all_numbers e all (f ∷ fs) i h =
     by_test false = refl
 
 -- ---- a face whose box is apart answers nothing
+and_false : (a : Bool) → (a && false) ≡ false
+and_false true = refl
+and_false false = refl
+
+meets_none : (e : PlacedEdge) (f : PlacedFace) (its edge : Extent) → HoldsEdge e edge → HoldsFace f its → overlaps its edge ≡ false → meets_face e f ≡ false
+meets_none e f its edge E F off =
+    let other = not (has_corner f.corners e.a || has_corner f.corners e.b) in
+    let five : Positions = record { a = position_of e.from; b = position_of e.to; c = position_of f.c; d = position_of f.d; e = position_of f.e } in
+    ap (λ b. other && b) (apart five (never_meet edge its five (record { a = E.from; b = E.to; c = F.c; d = F.d; e = F.e }) off)) ∙ and_false other
+
 none_apart : (e : PlacedEdge) (faces : List PlacedFace) (m : finite.FinMap nat_cmp Extent) (edge : Extent) → AreBoxes HoldsFace faces m → HoldsEdge e edge
     → (k : ℕ) (v : Extent) → finite.get m k ≡ Some v → overlaps v edge ≡ false → met_with e (slice_get faces k) ≡ None
 none_apart e faces m edge boxes E k v found off = by_answer (slice_get faces k) refl

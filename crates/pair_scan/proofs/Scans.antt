@@ -38,7 +38,7 @@ looked_up None ids e = cc
 looked_up (Some c) ids e = let same : ids ≡ corner_list c = cc in ap Some (sym (ap corners_of same))
 
 -- a vertex's point stands where the vertex does
-position : (m : Mesh) (v : ℕ) → position_of (placed_at m v) ≡ own_points m v
+pub position : (m : Mesh) (v : ℕ) → position_of (placed_at m v) ≡ own_points m v
 position m v = by_answer (finite.get m.points v)
   where
     by_answer : (o : Option Point) → position_of (point_at (position_or_origin o)) ≡ position_or_origin o

@@ -1,11 +1,16 @@
 -- A test of an edge that moves against faces that move.
-use Rattle.std.specs.Prelude.{ℕ, Bool, cond, ◌||◌, ◌&&◌, not, List, [], ◌∷◌}
+use Rattle.std.specs.Prelude.{ℕ, Bool, cond, ◌||◌, ◌&&◌, not, List, [], ◌∷◌, map}
+use Rattle.std.specs.List.{filter}
 use Rattle.std.proofs.Common.{Option, Some, None}
 use Rattle.grid_base.specs.Points.{position_of}
 use Rattle.grid_base.specs.declared.Positions.{Positions}
 use Rattle.grid_base.specs.SeparationTests.{passes}
 use Rattle.grid_decided.specs.Decided.{meets_exactly}
 use Rattle.mesh_base.specs.declared.ids.PairName.{PairName}
+use Rattle.mesh_base.specs.Failing.{pair_passes}
+use Rattle.mesh_base.specs.Mesh.{Mesh}
+use Rattle.mesh_base.specs.Pairs.{Pair}
+use Rattle.mesh_base.specs.Shifts.{Shifts, moved_by}
 use Rattle.mesh_base.specs.Sides.{has_corner}
 use Rattle.pair_scan.specs.declared.moving.MovingEdge.{MovingEdge}
 use Rattle.pair_scan.specs.declared.moving.MovingFace.{MovingFace}
@@ -36,3 +41,7 @@ one_or_none (Some x) = x ∷ []
 -- the same name, in a list
 abbrev pub failed : ℕ → MovingEdge → Option MovingFace → List PairName
 failed depth e f = one_or_none (failed_with depth e f)
+
+-- the names of those of these pairs that do not pass
+abbrev pub failing_of : Mesh → Shifts → ℕ → List Pair → List PairName
+failing_of m by depth ps = map (λ p. p.name) (filter (λ p. not (pair_passes meets_exactly depth (moved_by m by) p)) ps)

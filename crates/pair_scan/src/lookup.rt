@@ -20,11 +20,11 @@ pub(crate) fn shift_of(by: &[ShiftOf], v: VertexId) -> Option<Shift>
     requires rising { IsStrictlySortedBy nat_cmp (map (λ s. s.v) by.now) }
     ensures { result ≡ option_map (λ s. s.by) (find (λ s. s.v == v) by.now) }
 {
-    let Ok(place) = place_of(by, v) else {
-        return None;
-    };
-    match by.get(place) {
-        Some(s) => Some(s.by),
-        None => None,
+    match place_of(by, v) {
+        Ok(place) => match by.get(place) {
+            Some(s) => Some(s.by),
+            None => None,
+        },
+        Err(_) => None,
     }
 }
