@@ -8,3 +8,6 @@ pub mod Apart
 pub mod Near
 pub mod ShiftSearch
 pub mod Ways
+pub mod Widened
+pub mod Kept
+pub mod Fails
