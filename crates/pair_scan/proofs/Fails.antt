@@ -1,6 +1,6 @@
 -- The pairs that do not pass, edge by edge; and where there is none, the motion is clear.
-use Rattle.std.proofs.Common.{◌≡◌, ◌↔◌, inl, ℕ, Bool, true, false, cond, ◌&&◌, ◌||◌, not, List, [], ◌∷◌, map, Some, None, refl, sym, ap, ◌∙◌, IsTrue}
-use Rattle.std.specs.List.{filter, flat_map}
+use Rattle.std.proofs.Common.{◌≡◌, ◌↔◌, inl, ℕ, Bool, true, false, cond, ◌&&◌, ◌||◌, not, [], Some, None, refl, sym, ap, ◌∙◌, IsTrue}
+use Rattle.std.specs.List.{flat_map}
 use Rattle.std.specs.FinMap as finite
 use Rattle.std.proofs.lemmas.Bool.{false≢true}
 use Rattle.std.proofs.lemmas.List.Elements.{All-from_recursion, All-contains}
@@ -9,10 +9,8 @@ use Rattle.cell_grid.proofs.Found.{both_ways}
 use Rattle.grid_base.specs.declared.Extent.{Extent}
 use Rattle.grid_base.specs.declared.Positions.{Positions}
 use Rattle.grid_base.specs.Extents.{overlaps}
-use Rattle.grid_base.specs.Points.{position_of}
 use Rattle.grid_base.specs.Separation.{Passes}
 use Rattle.grid_base.specs.SeparationTests.{passes}
-use Rattle.grid_base.specs.Triples.{Triple}
 use Rattle.grid_base.proofs.Reflected.{passes_of, of_passes}
 use Rattle.grid_base.proofs.SeparationLaws.{Passes-never_meet}
 use Rattle.grid_decided.specs.Decided.{meets_exactly, meets_exactly-is_exact}
@@ -20,21 +18,19 @@ use Rattle.mesh_base.specs.declared.ids.Corners.{Corners}
 use Rattle.mesh_base.specs.Failing.{failing, pair_passes}
 use Rattle.mesh_base.specs.Mesh.{Mesh, IsSound}
 use Rattle.mesh_base.specs.Pairs.{Pair, edges, pairs, pairs_of}
-use Rattle.mesh_base.specs.Placements.{Motion, positions, IsClearAlong}
+use Rattle.mesh_base.specs.Placements.{positions, IsClearAlong}
 use Rattle.mesh_base.specs.Shifts.{Shifts, moved_by, end_in_box}
 use Rattle.mesh_base.specs.Sides.{has_corner}
 use Rattle.mesh_base.proofs.ListedPairs.{pair_listed}
 use Rattle.pair_scan.specs.declared.moving.MovingEdge.{MovingEdge}
 use Rattle.pair_scan.specs.declared.moving.MovingFace.{MovingFace}
-use Rattle.pair_scan.specs.declared.moving.Way.{Way}
-use Rattle.pair_scan.specs.Failed.{starts, ends, one_or_none, failed, failing_of}
-use Rattle.pair_scan.specs.Moving.{end_at, moving, moving_faces, moving_edge}
-use Rattle.pair_scan.specs.Placed.{placed_at}
-use Rattle.pair_scan.specs.Scan.{name_with}
+use Rattle.pair_scan.specs.Failed.{starts, ends, failed, failing_of}
+use Rattle.pair_scan.specs.Moving.{moving, moving_faces, moving_edge}
+use Rattle.pair_scan.specs.Scan.{name_with, one_or_none}
 use Rattle.pair_scan.specs.Swept.{HoldsMovingEdge, HoldsMovingFace}
 use Rattle.pair_scan.proofs.Apart.{separated}
 use Rattle.pair_scan.proofs.Kept.{kept_by_list, kept_of_taken, nothing_kept}
-use Rattle.pair_scan.proofs.Scans.{position}
+use Rattle.pair_scan.proofs.Scans.{and_false, position}
 use Rattle.pair_scan.proofs.Ways.{end_position}
 
 -- a test that is true exactly where the pair passes is the written test
@@ -42,10 +38,6 @@ pub is_passes : (b : Bool) (depth : ℕ) (s t : Positions) → (IsTrue b ↔ Pas
 is_passes b depth s t h = both_ways b (passes meets_exactly depth s t) (λ e. of_passes meets_exactly meets_exactly-is_exact depth s t (h.0 e)) (λ e. h.1 (passes_of meets_exactly meets_exactly-is_exact depth s t e))
 
 -- ---- a pair whose boxes are apart passes
-and_false : (a : Bool) → (a && false) ≡ false
-and_false true = refl
-and_false false = refl
-
 pub passed_apart : (depth : ℕ) (e : MovingEdge) (f : MovingFace) (its edge : Extent) → HoldsMovingEdge e edge → HoldsMovingFace f its → overlaps its edge ≡ false → failed depth e (Some f) ≡ []
 passed_apart depth e f its edge E F off =
     let pass = of_passes meets_exactly meets_exactly-is_exact depth (starts e f) (ends e f) (inl (separated depth edge its (starts e f) (ends e f)

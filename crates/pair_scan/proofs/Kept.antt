@@ -1,5 +1,5 @@
 -- What is kept of lists made of lists, and what the near things of a list keep of all.
-use Rattle.std.proofs.Common.{◌≡◌, ℕ, zero, suc, ◌+◌, ◌<◌, Bool, true, false, cond, ◌&&◌, List, [], ◌∷◌, ◌++◌, map, length, Option, Some, None, refl, sym, ap, ◌∙◌, arith}
+use Rattle.std.proofs.Common.{◌≡◌, ℕ, zero, suc, ◌+◌, Bool, true, false, cond, ◌&&◌, List, [], ◌∷◌, ◌++◌, map, length, Option, Some, None, refl, sym, ap, ◌∙◌, arith}
 use Rattle.std.specs.Prelude.{slice_get}
 use Rattle.std.specs.List.{filter, flat_map, AllByRecursion}
 use Rattle.std.specs.Ordering.{nat_cmp}
@@ -11,7 +11,7 @@ use Rattle.grid_base.specs.Extents.{overlaps}
 use Rattle.cell_grid.specs.Overlapping.{overlapping}
 use Rattle.mesh_base.proofs.ListedPairs.{all_weaker}
 use Rattle.pair_scan.specs.Boxes.{AreBoxes}
-use Rattle.pair_scan.specs.Failed.{one_or_none}
+use Rattle.pair_scan.specs.Scan.{one_or_none}
 use Rattle.pair_scan.proofs.Faces.{found_entries}
 use Rattle.pair_scan.proofs.Numbered.{numbers, keys_are_numbers, same_some}
 

@@ -28,6 +28,10 @@ both_ways false false f g = refl
 pub is_exact : (b : Bool) (f : Positions) → (IsTrue b ↔ MeetAt f) → b ≡ meets_exactly f
 is_exact b f h = let exact = meets_exactly-is_exact f in both_ways b (meets_exactly f) (λ e. exact.1 (h.0 e)) (λ e. h.1 (exact.0 e))
 
+pub and_false : (a : Bool) → (a && false) ≡ false
+and_false true = refl
+and_false false = refl
+
 -- a pair that shares no vertex meets as its positions do
 pub not_corners : (x y meets : Bool) → x ≡ false → y ≡ false → (not (x || y) && meets) ≡ meets
 not_corners x y meets e f = ap (λ z. not (z || y) && meets) e ∙ ap (λ z. not z && meets) f

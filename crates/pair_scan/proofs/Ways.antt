@@ -1,7 +1,7 @@
 -- Where vertices end, and the shifts that say so.
-use Rattle.std.proofs.Common.{◌≡◌, ℕ, ◌==◌, ◌&&◌, Bool, true, false, cond, T, List, [], ◌∷◌, map, Option, Some, None, unsigned_abs, nat_le, ◌≤◌, lit≤, refl, sym, ap, subst, ◌∙◌, arith}
+use Rattle.std.proofs.Common.{◌≡◌, ℕ, ◌==◌, Bool, true, false, cond, T, List, [], ◌∷◌, map, Option, Some, None, lit≤, refl, sym, ap, subst, ◌∙◌}
 use Rattle.std.specs.Option.{option_map, unwrap_or}
-use Rattle.std.specs.List.{find, list_all, AllByRecursion}
+use Rattle.std.specs.List.{find, AllByRecursion}
 use Rattle.std.specs.List.Sorted.{IsStrictlySortedBy}
 use Rattle.std.specs.Ordering.{nat_cmp, is_lt}
 use Rattle.std.specs.declared.cmp.Ordering.{Ordering}
@@ -12,13 +12,13 @@ use Rattle.std.specs.FinMap.Entries.{is_sorted, below_all}
 use Rattle.std.proofs.lemmas.Bool.{eqb-true}
 use Rattle.grid_base.specs.declared.TheConstants.{BOX}
 use Rattle.grid_base.specs.declared.Point.{Point}
-use Rattle.grid_base.specs.Triples.{Triple, IsWithin, plus}
-use Rattle.grid_base.specs.Points.{position_of, displacement_of, is_within, point_at}
+use Rattle.grid_base.specs.Triples.{IsWithin, plus}
+use Rattle.grid_base.specs.Points.{position_of, displacement_of, is_within}
 use Rattle.grid_base.proofs.PointLaws.{position_of-point_at, within_of, of_within}
 use Rattle.mesh_base.specs.declared.steps.ShiftOf.{ShiftOf}
 use Rattle.mesh_base.specs.Mesh.{Mesh}
 use Rattle.mesh_base.specs.Placements.{origin, own_points, position_or_origin}
-use Rattle.mesh_base.specs.Shifts.{Shifts, NameLive, shift_at, moved_by, end_in_box}
+use Rattle.mesh_base.specs.Shifts.{Shifts, NameLive, shift_at, end_in_box}
 use Rattle.mesh_base.proofs.Moves.{plus-origin, both_true}
 use Rattle.mesh_base.proofs.WalkSteps.{both_of}
 use Rattle.pair_scan.specs.Moving.{end_at}

@@ -1,5 +1,5 @@
 -- A test of an edge that moves against faces that move.
-use Rattle.std.specs.Prelude.{ℕ, Bool, cond, ◌||◌, ◌&&◌, not, List, [], ◌∷◌, map}
+use Rattle.std.specs.Prelude.{ℕ, Bool, cond, ◌||◌, ◌&&◌, not, List, map}
 use Rattle.std.specs.List.{filter}
 use Rattle.std.proofs.Common.{Option, Some, None}
 use Rattle.grid_base.specs.Points.{position_of}
@@ -14,7 +14,7 @@ use Rattle.mesh_base.specs.Shifts.{Shifts, moved_by}
 use Rattle.mesh_base.specs.Sides.{has_corner}
 use Rattle.pair_scan.specs.declared.moving.MovingEdge.{MovingEdge}
 use Rattle.pair_scan.specs.declared.moving.MovingFace.{MovingFace}
-use Rattle.pair_scan.specs.Scan.{name_with}
+use Rattle.pair_scan.specs.Scan.{name_with, one_or_none}
 
 -- where the edge and the face begin
 abbrev pub starts : MovingEdge → MovingFace → Positions
@@ -32,11 +32,6 @@ fails_with depth e f = not (has_corner f.corners e.a || has_corner f.corners e.b
 abbrev pub failed_with : ℕ → MovingEdge → Option MovingFace → Option PairName
 failed_with depth e None = None
 failed_with depth e (Some f) = cond (fails_with depth e f) (Some (name_with e.a e.b f.face)) None
-
--- what there is, as a list
-abbrev pub one_or_none : {X : Type 0} → Option X → List X
-one_or_none None = []
-one_or_none (Some x) = x ∷ []
 
 -- the same name, in a list
 abbrev pub failed : ℕ → MovingEdge → Option MovingFace → List PairName

@@ -1,9 +1,7 @@
-use Rattle.std.proofs.Common.{◌≡◌, ℕ, List, Some, ◌++◌, get_or, ap, sym, ◌∙◌}
+use Rattle.std.proofs.Common.{◌≡◌, ℕ, List, Some, ◌++◌, ap, sym, ◌∙◌}
 use Rattle.std.specs.List.{flat_map}
-use Rattle.grid_decided.specs.Decided.{meets_exactly}
 use Rattle.mesh_base.specs.declared.ids.PairName.{PairName}
 use Rattle.mesh_base.specs.Pairs.{edges, pairs_of}
-use Rattle.mesh_base.specs.Failing.{failing}
 use Rattle.pair_scan.specs.Failed.{failed, failing_of}
 use Rattle.pair_scan.specs.Moving.{moving_edge, moving_faces}
 use Rattle.pair_scan.proofs.Lists.{made_all, made_more}

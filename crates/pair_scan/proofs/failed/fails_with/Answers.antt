@@ -3,7 +3,7 @@ use Rattle.grid_decided.specs.Decided.{meets_exactly}
 use Rattle.grid_base.specs.SeparationTests.{passes}
 use Rattle.motion_test.specs.Pairs.{positions_of}
 use Rattle.mesh_base.specs.Sides.{has_corner}
-use Rattle.pair_scan.specs.Failed.{starts, ends}
+use Rattle.pair_scan.specs.Failed.{starts}
 use Rattle.pair_scan.proofs.Scans.{not_corners}
 use Rattle.pair_scan.proofs.Fails.{is_passes}
 use Rattle.pair_scan.proofs.failed.fails_with.Goals as goal

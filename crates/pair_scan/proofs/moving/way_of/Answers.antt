@@ -17,6 +17,6 @@ returns g c =
     let from = c.point_of-from.ensures in
     let by = ap (λ o. unwrap_or (option_map displacement_of o) origin) c.shift_of.ensures ∙ displaced c.args.by.now c.args.v in
     let to = c.end_of.ensures
-      ∙ ap (λ t. point_at (plus (position_of c.point_of-from.result) t)) by
-      ∙ ap (λ t. point_at (plus t (shift_at c.args.by.now c.args.v))) (ap position_of from ∙ position m c.args.v) in
+    ∙ ap (λ t. point_at (plus (position_of c.point_of-from.result) t)) by
+    ∙ ap (λ t. point_at (plus t (shift_at c.args.by.now c.args.v))) (ap position_of from ∙ position m c.args.v) in
     λ i. record { from = from i; to = to i }
