@@ -145,8 +145,8 @@ const PLANS: [[u32; 5]; 16] = [
 fn the_scans_find_what_a_loop_over_all_pairs_does(rt: HostRuntime) -> Result<(), Fail> {
     let alloc = rt.alloc();
     let mut numbers = Numbers::new(2009);
-    let mut none = 0;
-    let mut some = 0;
+    let mut none: u32 = 0;
+    let mut some: u32 = 0;
     for round in 0..2 {
         for [bodies, spread, size, step, depth] in PLANS {
             let plan = Plan {
@@ -165,9 +165,9 @@ fn the_scans_find_what_a_loop_over_all_pairs_does(rt: HostRuntime) -> Result<(),
             let first = first_meeting(alloc, &mesh)?;
             assert_eq!(rt; first, plain.meeting.get(0).copied(), "round {round}");
             if found.len() == 0 {
-                none += 1;
+                none = none.wrapping_add(1);
             } else {
-                some += 1;
+                some = some.wrapping_add(1);
             }
         }
     }

@@ -1,5 +1,5 @@
 //! Meshes and shifts that a small generator makes.
-ghost use Rattle.std.specs.Prelude.{◌≡◌, IsTrue, IfOk};
+ghost use Rattle.std.specs.Prelude.{◌≡◌, true, IsTrue, IfOk};
 ghost use Rattle.grid_base.specs.declared.TheConstants.{BOX};
 ghost use Rattle.grid_base.specs.Points.{position_of, displacement_of, is_within};
 ghost use Rattle.grid_base.specs.Triples.{plus};
@@ -36,7 +36,9 @@ impl Numbers {
     /// A coordinate at most this far from another, and in the box.
     fn near(&mut self, c: i32, most: u32) -> i32 {
         let limit = i64::from(BOX);
-        i64::from(c).wrapping_add(self.within(most)).clamp(-limit, limit) as i32
+        i64::from(c)
+            .wrapping_add(self.within(most))
+            .clamp(-limit, limit) as i32
     }
 
     /// A point at most this far from another along each axis.
@@ -68,7 +70,9 @@ fn put_body(
     let origin = Point::new(0, 0, 0).expect(rt, "the origin");
     let middle = numbers.point_near(origin, plan.spread, rt);
     for _ in 0..4 {
-        lists.points.push(numbers.point_near(middle, plan.size, rt))?;
+        lists
+            .points
+            .push(numbers.point_near(middle, plan.size, rt))?;
     }
     let first = body.wrapping_mul(4);
     let [a, b, c, d] = [1, 2, 3, 4].map(|k: u32| first.wrapping_add(k));
