@@ -5,3 +5,4 @@ pub mod Boxes
 pub mod Swept
 pub mod Scan
 pub mod Failed
+pub mod Lookup

@@ -11,6 +11,7 @@ mod placed;
 mod swept;
 
 pub use failed::{Pairs, failing};
+pub use lookup::place_of;
 pub use meeting::first_meeting;
 
 #[cfg(test)]
