@@ -116,7 +116,9 @@ fn items_keep_their_order(rt: HostRuntime) -> Result<(), Fail> {
     assert_eq!(rt; items.get(2), None);
     let taken = items.into_vec();
     assert_eq!(rt; taken.as_slice(), [5, 7].as_slice());
-    let again = Items::from_vec(taken);
+    let mut again = Items::from_vec(taken);
     assert_eq!(rt; again.as_slice(), [5, 7].as_slice());
+    again.set(0, 9);
+    assert_eq!(rt; again.as_slice(), [9, 7].as_slice());
     Ok(())
 }

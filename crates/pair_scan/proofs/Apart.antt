@@ -1,19 +1,15 @@
 -- Boxes that are apart keep an edge and a face apart.
-use Rattle.std.proofs.Common.{◌≡◌, ⊎_elim, inl, inr, ◌∙◌, sym, refl, ap, Bool, true, false, ◌&&◌, ◌||◌, not, ℤ, ◌≤ℤ◌, ◌<ℤ◌, arith, int_le, T}
+use Rattle.std.proofs.Common.{◌≡◌, ⊎_elim, inl, inr, ℕ, ◌∙◌, sym, refl, Bool, true, false, ◌&&◌, ℤ, pos, ◌+ℤ◌, ◌*ℤ◌, ◌≤ℤ◌, ◌<ℤ◌, neg_ℤ, arith, int_le, T, lit<}
 use Rattle.std.proofs.lemmas.Int.{ints, by_lt_z}
 use Rattle.std.proofs.lemmas.Bool.{and_cases, false≢true}
-use Rattle.grid_base.specs.Points.{position_of}
-use Rattle.grid_base.specs.Meeting.{Meets}
-use Rattle.grid_meets.specs.Beyond.{LieBeyond}
-use Rattle.grid_meets.proofs.BeyondLaws.{beyond_x, beyond_y, beyond_z}
-use Rattle.mesh_base.specs.Sides.{has_corner}
+use Rattle.std.specs.List.{Any}
 use Rattle.grid_base.specs.declared.Extent.{Extent}
-use Rattle.grid_base.specs.Extents.{overlaps, meet_along}
-use Rattle.pair_scan.specs.declared.placed.PlacedEdge.{PlacedEdge}
-use Rattle.pair_scan.specs.declared.placed.PlacedFace.{PlacedFace}
-use Rattle.pair_scan.specs.Boxes.{HoldsEdge, HoldsFace}
-use Rattle.pair_scan.specs.Scan.{meets_face}
-use Rattle.pair_scan.proofs.Clear.{apart}
+use Rattle.grid_base.specs.declared.Positions.{Positions}
+use Rattle.grid_base.specs.Extents.{IsIn, overlaps, meet_along}
+use Rattle.grid_base.specs.Meeting.{MeetAt}
+use Rattle.grid_base.specs.Separation.{IsBelow, IsAbove, KeepsApart, AreSeparated, directions}
+use Rattle.grid_base.specs.Triples.{Triple, dot, opposite}
+use Rattle.grid_base.proofs.SeparationLaws.{AreSeparated-at_once, AreSeparated-never_meet, NeverMeet-at_start}
 
 true_of : (b : Bool) → T b → b ≡ true
 true_of true t = refl
@@ -27,45 +23,98 @@ above_from a b h = by_lt_z b a (λ lt. lt) (λ le. absurd (false≢true (sym h �
 between : (p high low q : ℤ) → p ≤ℤ high → high <ℤ low → low ≤ℤ q → p <ℤ q
 between p high low q h i j = omega (arith, ints)
 
--- the box of c, d and e begins after the other ends, or ends before it begins
-beyond_along : (low high other_low other_high a b c d e : ℤ)
-    → (low ≤ℤ c) × (low ≤ℤ d) × (low ≤ℤ e) → (c ≤ℤ high) × (d ≤ℤ high) × (e ≤ℤ high) → (other_low ≤ℤ a) × (other_low ≤ℤ b) → (a ≤ℤ other_high) × (b ≤ℤ other_high)
-    → meet_along low high other_low other_high ≡ false → LieBeyond a b c d e
-beyond_along low high other_low other_high a b c d e from to other_from other_to h =
-    ⊎_elim
-    (λ after.
-    let gap = above_from low other_high after in
-    inl ((between a other_high low c other_to.0 gap from.0, between a other_high low d other_to.0 gap from.1, between a other_high low e other_to.0 gap from.2), (between b other_high low c other_to.1 gap from.0, between b other_high low d other_to.1 gap from.1, between b other_high low e other_to.1 gap from.2)))
-    (λ before.
-    let gap = above_from other_low high before in
-    inr ((between c high other_low a to.0 gap other_from.0, between d high other_low a to.1 gap other_from.0, between e high other_low a to.2 gap other_from.0), (between c high other_low b to.0 gap other_from.1, between d high other_low b to.1 gap other_from.1, between e high other_low b to.2 gap other_from.1)))
-    (and_cases (int_le low other_high) (int_le other_low high) h)
+neg_less : (a b : ℤ) → b <ℤ a → neg_ℤ a <ℤ neg_ℤ b
+neg_less a b h = omega (arith, ints)
 
-never_meet : (e : PlacedEdge) (f : PlacedFace) (its edge : Extent) → HoldsEdge e edge → HoldsFace f its → overlaps its edge ≡ false
-    → ¬ (Meets (position_of e.from) (position_of e.to) (position_of f.c) (position_of f.d) (position_of f.e))
-never_meet e f its edge E F h =
-    let a = position_of e.from in
-    let b = position_of e.to in
-    let c = position_of f.c in
-    let d = position_of f.d in
-    let g = position_of f.e in
-    let x = meet_along its.low.x its.high.x edge.low.x edge.high.x in
-    let y = meet_along its.low.y its.high.y edge.low.y edge.high.y in
-    let z = meet_along its.low.z its.high.z edge.low.z edge.high.z in
+-- the one box has the edge's ends, and the other the face's corners
+pub record Hold (edge face : Extent) (f : Positions) : Type 0 where
+  pub a : IsIn edge f.a
+  pub b : IsIn edge f.b
+  pub c : IsIn face f.c
+  pub d : IsIn face f.d
+  pub e : IsIn face f.e
+
+-- ---- along a direction n that reads one coordinate
+module _ (n : Triple) (at : Triple → ℤ) (low high : Extent → ℤ) (along : (p : Triple) → dot n p ≡ at p) (against : (p : Triple) → dot (opposite n) p ≡ neg_ℤ (at p))
+    (from : (box : Extent) (p : Triple) → IsIn box p → low box ≤ℤ at p) (to : (box : Extent) (p : Triple) → IsIn box p → at p ≤ℤ high box) where
+  less : (box other : Extent) (p q : Triple) → IsIn box p → IsIn other q → high box <ℤ low other → dot n p <ℤ dot n q
+  less box other p q h i gap = rw (along p, along q) (between (at p) (high box) (low other) (at q) (to box p h) gap (from other q i))
+
+  more : (box other : Extent) (p q : Triple) → IsIn box p → IsIn other q → high other <ℤ low box → dot (opposite n) p <ℤ dot (opposite n) q
+  more box other p q h i gap = rw (against p, against q) (neg_less (at p) (at q) (between (at q) (high other) (low box) (at p) (to other q i) gap (from box p h)))
+
+  below : (edge face : Extent) (f : Positions) → Hold edge face f → high edge <ℤ low face → IsBelow n f
+  below edge face f h gap = record {
+    ac = less edge face f.a f.c h.a h.c gap;
+    ad = less edge face f.a f.d h.a h.d gap;
+    ae = less edge face f.a f.e h.a h.e gap;
+    bc = less edge face f.b f.c h.b h.c gap;
+    bd = less edge face f.b f.d h.b h.d gap;
+    be = less edge face f.b f.e h.b h.e gap;
+  }
+
+  above : (edge face : Extent) (f : Positions) → Hold edge face f → high face <ℤ low edge → IsAbove n f
+  above edge face f h gap = record {
+    ac = more edge face f.a f.c h.a h.c gap;
+    ad = more edge face f.a f.d h.a h.d gap;
+    ae = more edge face f.a f.e h.a h.e gap;
+    bc = more edge face f.b f.c h.b h.c gap;
+    bd = more edge face f.b f.d h.b h.d gap;
+    be = more edge face f.b f.e h.b h.e gap;
+  }
+
+  keeps_apart : (edge face : Extent) (s t : Positions) → Hold edge face s → Hold edge face t → meet_along (low face) (high face) (low edge) (high edge) ≡ false → KeepsApart s t n
+  keeps_apart edge face s t h i off = ⊎_elim
+      (λ after. let gap = above_from (low face) (high edge) after in inl (below edge face s h gap, below edge face t i gap))
+      (λ before. let gap = above_from (low edge) (high face) before in inr (above edge face s h gap, above edge face t i gap))
+      (and_cases (int_le (low face) (high edge)) (int_le (low edge) (high face)) off)
+
+-- ---- the axes
+abbrev along_x : Triple
+along_x = record { x = pos 1; y = pos 0; z = pos 0 }
+
+abbrev along_y : Triple
+along_y = record { x = pos 0; y = pos 1; z = pos 0 }
+
+abbrev along_z : Triple
+along_z = record { x = pos 0; y = pos 0; z = pos 1 }
+
+read_x : (x y z : ℤ) → pos 1 *ℤ x +ℤ pos 0 *ℤ y +ℤ pos 0 *ℤ z ≡ x
+read_x x y z = omega (arith, ints)
+
+read_y : (x y z : ℤ) → pos 0 *ℤ x +ℤ pos 1 *ℤ y +ℤ pos 0 *ℤ z ≡ y
+read_y x y z = omega (arith, ints)
+
+read_z : (x y z : ℤ) → pos 0 *ℤ x +ℤ pos 0 *ℤ y +ℤ pos 1 *ℤ z ≡ z
+read_z x y z = omega (arith, ints)
+
+minus_x : (x y z : ℤ) → neg_ℤ (pos 1) *ℤ x +ℤ neg_ℤ (pos 0) *ℤ y +ℤ neg_ℤ (pos 0) *ℤ z ≡ neg_ℤ x
+minus_x x y z = omega (arith, ints)
+
+minus_y : (x y z : ℤ) → neg_ℤ (pos 0) *ℤ x +ℤ neg_ℤ (pos 1) *ℤ y +ℤ neg_ℤ (pos 0) *ℤ z ≡ neg_ℤ y
+minus_y x y z = omega (arith, ints)
+
+minus_z : (x y z : ℤ) → neg_ℤ (pos 0) *ℤ x +ℤ neg_ℤ (pos 0) *ℤ y +ℤ neg_ℤ (pos 1) *ℤ z ≡ neg_ℤ z
+minus_z x y z = omega (arith, ints)
+
+-- the directions begin with the axes
+some_axis : (edge face : Extent) (s t : Positions) → Hold edge face s → Hold edge face t → overlaps face edge ≡ false → Any (KeepsApart s t) (directions s t)
+some_axis edge face s t h i off =
+    let x = meet_along face.low.x face.high.x edge.low.x edge.high.x in
+    let y = meet_along face.low.y face.high.y edge.low.y edge.high.y in
+    let z = meet_along face.low.z face.high.z edge.low.z edge.high.z in
     ⊎_elim
     (λ xy. ⊎_elim
-    (λ off. beyond_x a b c d g (beyond_along its.low.x its.high.x edge.low.x edge.high.x a.x b.x c.x d.x g.x (F.c.x_low, F.d.x_low, F.e.x_low) (F.c.x_high, F.d.x_high, F.e.x_high) (E.from.x_low, E.to.x_low) (E.from.x_high, E.to.x_high) off))
-    (λ off. beyond_y a b c d g (beyond_along its.low.y its.high.y edge.low.y edge.high.y a.y b.y c.y d.y g.y (F.c.y_low, F.d.y_low, F.e.y_low) (F.c.y_high, F.d.y_high, F.e.y_high) (E.from.y_low, E.to.y_low) (E.from.y_high, E.to.y_high) off))
+    (λ off_x. (0, along_x, lit< tt, refl, keeps_apart along_x (λ p. p.x) (λ b. b.low.x) (λ b. b.high.x) (λ p. read_x p.x p.y p.z) (λ p. minus_x p.x p.y p.z) (λ b p k. k.x_low) (λ b p k. k.x_high) edge face s t h i off_x))
+    (λ off_y. (1, along_y, lit< tt, refl, keeps_apart along_y (λ p. p.y) (λ b. b.low.y) (λ b. b.high.y) (λ p. read_y p.x p.y p.z) (λ p. minus_y p.x p.y p.z) (λ b p k. k.y_low) (λ b p k. k.y_high) edge face s t h i off_y))
     (and_cases x y xy))
-    (λ off. beyond_z a b c d g (beyond_along its.low.z its.high.z edge.low.z edge.high.z a.z b.z c.z d.z g.z (F.c.z_low, F.d.z_low, F.e.z_low) (F.c.z_high, F.d.z_high, F.e.z_high) (E.from.z_low, E.to.z_low) (E.from.z_high, E.to.z_high) off))
-    (and_cases (x && y) z h)
+    (λ off_z. (2, along_z, lit< tt, refl, keeps_apart along_z (λ p. p.z) (λ b. b.low.z) (λ b. b.high.z) (λ p. read_z p.x p.y p.z) (λ p. minus_z p.x p.y p.z) (λ b p k. k.z_low) (λ b p k. k.z_high) edge face s t h i off_z))
+    (and_cases (x && y) z off)
 
-and_false : (a : Bool) → (a && false) ≡ false
-and_false true = refl
-and_false false = refl
+-- Boxes with no common point keep what they hold at the start and at the end separated, to any depth.
+pub separated : (depth : ℕ) (edge face : Extent) (s t : Positions) → Hold edge face s → Hold edge face t → overlaps face edge ≡ false → AreSeparated depth s t
+separated depth edge face s t h i off = AreSeparated-at_once depth s t (some_axis edge face s t h i off)
 
--- a face whose box is apart from the edge's does not meet the edge
-pub meets_none : (e : PlacedEdge) (f : PlacedFace) (its edge : Extent) → HoldsEdge e edge → HoldsFace f its → overlaps its edge ≡ false → meets_face e f ≡ false
-meets_none e f its edge E F h =
-    let other = not (has_corner f.corners e.a || has_corner f.corners e.b) in
-    ap (λ b. other && b) (apart (record { a = position_of e.from; b = position_of e.to; c = position_of f.c; d = position_of f.d; e = position_of f.e }) (never_meet e f its edge E F h)) ∙ and_false other
+-- Boxes with no common point keep what they hold from meeting.
+pub never_meet : (edge face : Extent) (f : Positions) → Hold edge face f → overlaps face edge ≡ false → ¬ (MeetAt f)
+never_meet edge face f h off = NeverMeet-at_start f f (AreSeparated-never_meet 0 f f (separated 0 edge face f f h h off))

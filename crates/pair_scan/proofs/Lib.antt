@@ -6,3 +6,8 @@ pub mod Boxed
 pub mod Numbered
 pub mod Apart
 pub mod Near
+pub mod ShiftSearch
+pub mod Ways
+pub mod Widened
+pub mod Kept
+pub mod Fails

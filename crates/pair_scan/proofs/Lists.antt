@@ -1,5 +1,5 @@
 -- What is found in lists made of lists, and walks over them.
-use Rattle.std.proofs.Common.{◌≡◌, ℕ, zero, suc, ◌+◌, ◌<◌, ◌≤◌, Bool, true, false, cond, ◌&&◌, List, [], ◌∷◌, ◌++◌, map, length, get_or, drop, Option, Some, None, refl, ap, ◌∙◌, append-nil, add-one, arith}
+use Rattle.std.proofs.Common.{◌≡◌, ℕ, zero, suc, ◌+◌, ◌<◌, ◌≤◌, Bool, true, false, cond, ◌&&◌, List, [], ◌∷◌, ◌++◌, map, length, get_or, drop, Option, Some, None, refl, sym, ap, ◌∙◌, append-nil, append_assoc, add-one, arith}
 use Rattle.std.specs.List.{filter, flat_map, find}
 use Rattle.std.specs.Option.{option_map, option_or}
 use Rattle.std.proofs.Math.Seq.{drop-cons}
@@ -65,3 +65,11 @@ module _ {X Y Z : Type 0} (name : Y → Z) (p : Y → Bool) (f : X → List Y) w
 -- what is made at the end
 pub made_all : {X Y : Type 0} (f : X → List Y) (xs : List X) (i : ℕ) (made : List Y) → length xs ≤ i → made ++ flat_map f (drop i xs) ≡ made
 made_all f xs i made h = ap (λ zs. made ++ flat_map f zs) (ended xs i h) ∙ append-nil made
+
+-- what is made after one more
+pub made_more : {X Y : Type 0} (f : X → List Y) (xs : List X) (i : ℕ) (d : X) (made more all : List Y) → i < length xs → more ≡ made ++ f (get_or xs i d) → made ++ flat_map f (drop i xs) ≡ all → more ++ flat_map f (drop (i + 1) xs) ≡ all
+made_more f xs i d made more all inside one before =
+    ap (λ ys. ys ++ flat_map f (drop (i + 1) xs)) one
+    ∙ append_assoc made (f (get_or xs i d)) (flat_map f (drop (i + 1) xs))
+    ∙ ap (λ zs. made ++ flat_map f zs) (sym (rest_at xs i d inside))
+    ∙ before

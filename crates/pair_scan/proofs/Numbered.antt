@@ -1,4 +1,4 @@
--- The boxes of faces are numbered as the faces are.
+-- The boxes of things in a list are numbered as the things are.
 use Rattle.std.proofs.Common.{◌≡◌, ⊎_elim, ℕ, zero, suc, ◌+◌, ◌<◌, ◌≤◌, ◌∙◌, sym, ap, subst, true, cond, nat_eq, List, [], ◌∷◌, length, Some, None, Option, arith}
 use Rattle.std.specs.Prelude.{slice_get, is_some}
 use Rattle.std.specs.Ordering.{nat_cmp, eq_by_cmp}
@@ -16,8 +16,7 @@ use Rattle.grid_base.specs.declared.Extent.{Extent}
 use Rattle.cell_grid.specs.Filed.{has}
 use Rattle.cell_grid.proofs.Found.{both_ways}
 use Rattle.cell_grid.proofs.Listed.{find_is_lookup, same_rising}
-use Rattle.pair_scan.specs.declared.placed.PlacedFace.{PlacedFace}
-use Rattle.pair_scan.specs.Boxes.{HoldsFace, AreBoxes}
+use Rattle.pair_scan.specs.Boxes.{AreBoxes}
 
 module _ {V : Type 0} where
   has_key : (m : fin.FinMap nat_cmp V) (q : ℕ) → has q (keys_of (fin.entries m)) ≡ is_some (fin.get m q)
@@ -49,12 +48,12 @@ number_has q from (suc n) h i = ⊎_elim
     (λ rest. ⊎_elim (λ lt. absurd (omega arith)) (λ lt. or_right (nat_eq q from) _ (number_has q (from + 1) n (omega arith) (omega arith))) rest)
     (cases_order q from)
 
--- ---- the boxes of the faces are numbered as the faces are
+-- ---- the boxes are numbered as the things in the list are
 some_is : {A : Type 0} (o : Option A) (v : A) → o ≡ Some v → is_some o ≡ true
 some_is o v h = ap is_some h
 
-pub keys_are_numbers : (faces : List PlacedFace) (m : fin.FinMap nat_cmp Extent) → AreBoxes faces m → numbers 0 (length faces) ≡ keys_of (fin.entries m)
-keys_are_numbers faces m boxes = same_rising (numbers 0 (length faces)) (fin.entries m) (sorted_numbers 0 (length faces)) (entries_sorted m)
+pub keys_are_numbers : {X : Type 0} (holds : X → Extent → Type 0) (faces : List X) (m : fin.FinMap nat_cmp Extent) → AreBoxes holds faces m → numbers 0 (length faces) ≡ keys_of (fin.entries m)
+keys_are_numbers holds faces m boxes = same_rising (numbers 0 (length faces)) (fin.entries m) (sorted_numbers 0 (length faces)) (entries_sorted m)
     (λ q. both_ways _ _
     (λ h. has_key m q ∙ ⊎_elim
     (λ there. let box = boxes.boxed q there.0 there.2 in some_is (fin.get m q) box.0 box.1.0)
@@ -69,13 +68,13 @@ pub same_some : {A : Type 0} (a b : A) → Some a ≡ Some b → a ≡ b
 same_some a b h = cc
 
 -- ---- the loop that makes the boxes
--- the boxes of the first i faces are in the map
-pub record AreBoxesTo (faces : List PlacedFace) (i : ℕ) (m : fin.FinMap nat_cmp Extent) : Type 0 where
-  pub boxed : (k : ℕ) (f : PlacedFace) → k < i → slice_get faces k ≡ Some f → (box : Extent) × ((fin.get m k ≡ Some box) × HoldsFace f box)
+-- the boxes of the first i things are in the map
+pub record AreBoxesTo {X : Type 0} (holds : X → Extent → Type 0) (faces : List X) (i : ℕ) (m : fin.FinMap nat_cmp Extent) : Type 0 where
+  pub boxed : (k : ℕ) (f : X) → k < i → slice_get faces k ≡ Some f → (box : Extent) × ((fin.get m k ≡ Some box) × holds f box)
   pub no_others : (k : ℕ) → i ≤ k → fin.get m k ≡ None
 
-module _ (faces : List PlacedFace) (i : ℕ) (m n : fin.FinMap nat_cmp Extent) (face : PlacedFace) (box : Extent) (there : slice_get faces i ≡ Some face) (holds : HoldsFace face box) (is : n ≡ fin.insert m i box)
-    (before : AreBoxesTo faces i m) where
+module _ {X : Type 0} (holds : X → Extent → Type 0) (faces : List X) (i : ℕ) (m n : fin.FinMap nat_cmp Extent) (face : X) (box : Extent) (there : slice_get faces i ≡ Some face) (held : holds face box) (is : n ≡ fin.insert m i box)
+    (before : AreBoxesTo holds faces i m) where
   at_key : (k : ℕ) → fin.get n k ≡ cond (eq_by_cmp nat_cmp k i) (Some box) (fin.get m k)
   at_key k = ap (λ map. fin.get map k) is ∙ get-insert nat_cmp_total m i box k
 
@@ -85,17 +84,17 @@ module _ (faces : List PlacedFace) (i : ℕ) (m n : fin.FinMap nat_cmp Extent) (
   new_key : (k : ℕ) → k ≡ i → fin.get n k ≡ Some box
   new_key k e = at_key k ∙ ap (λ b. cond b (Some box) (fin.get m k)) (unsigned_tied k i ∙ eq-eqb k i e)
 
-  pub boxed_more : (k : ℕ) (f : PlacedFace) → k < i + 1 → slice_get faces k ≡ Some f → (b : Extent) × ((fin.get n k ≡ Some b) × HoldsFace f b)
+  pub boxed_more : (k : ℕ) (f : X) → k < i + 1 → slice_get faces k ≡ Some f → (b : Extent) × ((fin.get n k ≡ Some b) × holds f b)
   boxed_more k f lt h = ⊎_elim
       (λ below. let old = before.boxed k f below h in (old.0, (kept_key k (λ e. omega arith) ∙ old.1.0, old.1.1)))
-      (λ le. let e : k ≡ i = omega arith in (box, (new_key k e, subst (λ g. HoldsFace g box) (same_some face f (sym there ∙ ap (slice_get faces) (sym e) ∙ h)) holds)))
+      (λ le. let e : k ≡ i = omega arith in (box, (new_key k e, subst (λ g. holds g box) (same_some face f (sym there ∙ ap (slice_get faces) (sym e) ∙ h)) held)))
       (cases_lt k i)
 
   pub no_others_more : (k : ℕ) → i + 1 ≤ k → fin.get n k ≡ None
   no_others_more k le = kept_key k (λ e. omega arith) ∙ before.no_others k (omega arith)
 
-pub all_boxed : (faces : List PlacedFace) (i : ℕ) (m : fin.FinMap nat_cmp Extent) → i ≡ length faces → AreBoxesTo faces i m → AreBoxes faces m
-all_boxed faces i m e h = record {
+pub all_boxed : {X : Type 0} (holds : X → Extent → Type 0) (faces : List X) (i : ℕ) (m : fin.FinMap nat_cmp Extent) → i ≡ length faces → AreBoxesTo holds faces i m → AreBoxes holds faces m
+all_boxed holds faces i m e h = record {
   boxed = λ k f found. h.boxed k f (let within : k < length faces = slice_get_within faces k f found in omega arith) found;
   no_others = λ k le. h.no_others k (omega arith);
 }

@@ -28,6 +28,10 @@ both_ways false false f g = refl
 pub is_exact : (b : Bool) (f : Positions) → (IsTrue b ↔ MeetAt f) → b ≡ meets_exactly f
 is_exact b f h = let exact = meets_exactly-is_exact f in both_ways b (meets_exactly f) (λ e. exact.1 (h.0 e)) (λ e. h.1 (exact.0 e))
 
+pub and_false : (a : Bool) → (a && false) ≡ false
+and_false true = refl
+and_false false = refl
+
 -- a pair that shares no vertex meets as its positions do
 pub not_corners : (x y meets : Bool) → x ≡ false → y ≡ false → (not (x || y) && meets) ≡ meets
 not_corners x y meets e f = ap (λ z. not (z || y) && meets) e ∙ ap (λ z. not z && meets) f
@@ -38,7 +42,7 @@ looked_up None ids e = cc
 looked_up (Some c) ids e = let same : ids ≡ corner_list c = cc in ap Some (sym (ap corners_of same))
 
 -- a vertex's point stands where the vertex does
-position : (m : Mesh) (v : ℕ) → position_of (placed_at m v) ≡ own_points m v
+pub position : (m : Mesh) (v : ℕ) → position_of (placed_at m v) ≡ own_points m v
 position m v = by_answer (finite.get m.points v)
   where
     by_answer : (o : Option Point) → position_of (point_at (position_or_origin o)) ≡ position_or_origin o

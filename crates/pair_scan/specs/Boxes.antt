@@ -19,7 +19,7 @@ pub record HoldsFace (f : PlacedFace) (box : Extent) : Type 0 where
   pub d : IsIn box (position_of f.d)
   pub e : IsIn box (position_of f.e)
 
--- the map has a box of each face, by the face's place in the list, and nothing else
-pub record AreBoxes (faces : List PlacedFace) (m : finite.FinMap nat_cmp Extent) : Type 0 where
-  pub boxed : (k : ℕ) (f : PlacedFace) → slice_get faces k ≡ Some f → (box : Extent) × ((finite.get m k ≡ Some box) × HoldsFace f box)
-  pub no_others : (k : ℕ) → length faces ≤ k → finite.get m k ≡ None
+-- the map has a box of each thing in the list, by its place there, and nothing else
+pub record AreBoxes {X : Type 0} (holds : X → Extent → Type 0) (xs : List X) (m : finite.FinMap nat_cmp Extent) : Type 0 where
+  pub boxed : (k : ℕ) (x : X) → slice_get xs k ≡ Some x → (box : Extent) × ((finite.get m k ≡ Some box) × holds x box)
+  pub no_others : (k : ℕ) → length xs ≤ k → finite.get m k ≡ None

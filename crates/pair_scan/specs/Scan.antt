@@ -35,6 +35,11 @@ abbrev pub first_some : {X Y : Type 0} → (X → Option Y) → List X → Optio
 first_some answer [] = None
 first_some answer (x ∷ xs) = option_or (answer x) (first_some answer xs)
 
+-- what there is, as a list
+abbrev pub one_or_none : {X : Type 0} → Option X → List X
+one_or_none None = []
+one_or_none (Some x) = x ∷ []
+
 -- the name of the first of these pairs that meets
 abbrev pub first_of : Mesh → List Pair → Option PairName
 first_of m ps = option_map (λ p. p.name) (find (λ p. meets_exactly (positions (own_points m) p)) ps)

@@ -1,15 +1,14 @@
-//! Boxes of edges and of faces, and a grid of the faces' boxes.
-ghost use Rattle.std.specs.Prelude.{◌≡◌, ◌<◌, ◌≤◌, ◌≤ℤ◌, unsigned_abs, IfOk};
+//! Boxes of positions, and those of an edge and of a face where they stand.
+ghost use Rattle.std.specs.Prelude.{◌≤◌, ◌≤ℤ◌, unsigned_abs};
 ghost use Rattle.grid_base.specs.declared.TheConstants.{EXTENT_MAX};
 ghost use Rattle.grid_base.specs.Triples.{Triple, IsWithin};
 ghost use Rattle.grid_base.specs.Extents.{IsIn};
 ghost use Rattle.pair_scan.specs.Under.{IsUnder};
-ghost use Rattle.pair_scan.specs.Boxes.{HoldsEdge, HoldsFace, AreBoxes};
+ghost use Rattle.pair_scan.specs.Boxes.{HoldsEdge, HoldsFace};
 
+use crate::filed::Boxed;
 use crate::placed::{PlacedEdge, PlacedFace, wide};
-use cell_grid::{Extent, Grid};
-use grid_base::{EXTENT_MAX, NoMemory, Wide};
-use std::alloc::Global;
+use grid_base::{EXTENT_MAX, Extent, Wide};
 
 fn least(a: i128, b: i128) -> i128
     requires a_fits { unsigned_abs a ≤ EXTENT_MAX }
@@ -62,7 +61,7 @@ fn upper(a: Wide, b: Wide) -> Wide
 }
 
 /// The box of two positions.
-fn around(a: Wide, b: Wide) -> Extent
+pub(crate) fn around(a: Wide, b: Wide) -> Extent
     requires a_fits { IsWithin EXTENT_MAX a }
     requires b_fits { IsWithin EXTENT_MAX b }
     ensures first { IsIn result a }
@@ -75,7 +74,7 @@ fn around(a: Wide, b: Wide) -> Extent
 }
 
 /// A box that has both.
-fn united(e: &Extent, f: &Extent) -> Extent
+pub(crate) fn united(e: &Extent, f: &Extent) -> Extent
     ensures first { (p : Triple) → IsIn e.now p → IsIn result p }
     ensures second { (p : Triple) → IsIn f.now p → IsIn result p }
 {
@@ -92,42 +91,11 @@ pub(crate) fn box_of_edge(e: &PlacedEdge) -> Extent
     around(wide(e.from), wide(e.to))
 }
 
-/// The box of a face.
-fn box_of_face(f: &PlacedFace) -> Extent
-    ensures { HoldsFace f.now result }
-{
-    let third = wide(f.e);
-    united(&around(wide(f.c), wide(f.d)), &around(third, third))
-}
+impl Boxed for PlacedFace {
+    ghost holds = { HoldsFace };
 
-/// The length of a box's longest side, or a greater number where that is not below 2^32.
-fn longest_side(e: &Extent) -> u32 {
-    let x = e.high.x.wrapping_sub(e.low.x);
-    let y = e.high.y.wrapping_sub(e.low.y);
-    let z = e.high.z.wrapping_sub(e.low.z);
-    u32::try_from(x.max(y).max(z)).unwrap_or(u32::MAX)
-}
-
-/// A size of cells that suits the faces: about twice the mean of their boxes' longest sides.
-fn cell_for(faces: &[PlacedFace]) -> u32
-    ensures { 0 < result }
-{
-    let mut total: u64 = 0;
-    for f in faces {
-        total = total.saturating_add(u64::from(longest_side(&box_of_face(f))));
+    fn extent(&self) -> Extent {
+        let third = wide(self.e);
+        united(&around(wide(self.c), wide(self.d)), &around(third, third))
     }
-    let count = (faces.len() as u64).max(1);
-    let twice = (total / count).saturating_mul(2);
-    twice.clamp(1, u64::from(EXTENT_MAX)) as u32
-}
-
-/// A grid of the faces' boxes, by their places in the list.
-pub(crate) fn boxes_of(alloc: Global, faces: &[PlacedFace]) -> Result<Grid, NoMemory>
-    ensures { IfOk result (AreBoxes faces.now) }
-{
-    let mut grid = Grid::new(alloc, cell_for(faces))?;
-    for (k, f) in faces.iter().enumerate() {
-        grid.insert(k as u64, box_of_face(f))?;
-    }
-    Ok(grid)
 }

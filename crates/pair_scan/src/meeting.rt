@@ -5,10 +5,11 @@ ghost use Rattle.mesh_base.specs.Pairs.{pairs_of};
 ghost use Rattle.mesh_base.specs.Placements.{own_points, IsClearMesh};
 ghost use Rattle.mesh_base.specs.Failing.{first_meeting};
 ghost use Rattle.pair_scan.specs.Placed.{placed_faces};
-ghost use Rattle.pair_scan.specs.Boxes.{AreBoxes};
+ghost use Rattle.pair_scan.specs.Boxes.{HoldsFace, AreBoxes};
 ghost use Rattle.pair_scan.specs.Scan.{meets_face, met_with, first_some, first_of, IsMeeting};
 
-use crate::boxes::{box_of_edge, boxes_of};
+use crate::boxes::box_of_edge;
+use crate::filed::boxes_of;
 use crate::placed::{PlacedEdge, PlacedFace, placed_edge, placed_faces, wide};
 use cell_grid::Grid;
 use grid_base::NoMemory;
@@ -73,7 +74,7 @@ fn first_of_edge<S: Surface>(
     b: VertexId,
 ) -> Result<Option<PairName>, NoMemory>
     requires faces { faces.now ≡ placed_faces (S.mesh mesh.now) }
-    requires boxes { AreBoxes faces.now boxes.now }
+    requires boxes { AreBoxes HoldsFace faces.now boxes.now }
     ensures { IfOk result (λ r. r ≡ first_of (S.mesh mesh.now) (pairs_of (S.mesh mesh.now) (a, b))) }
 {
     let e = placed_edge(mesh, a, b);

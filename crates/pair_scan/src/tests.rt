@@ -1,4 +1,7 @@
 //! Worked examples.
+mod all_pairs;
+mod generated;
+
 use crate::first_meeting;
 use grid_base::{NoMemory, Point};
 use mesh_plain::{FaceId, MeshLists, PairName, PlainMesh, Points, Triangles, VertexId, shape};

@@ -5,6 +5,7 @@ ghost use Rattle.grid_base.specs.Points.{shift_by};
 ghost use Rattle.line_text.specs.Faults.{Gives, Leaves, at_line};
 ghost use Rattle.line_text.specs.Remaining.{words_left};
 ghost use Rattle.step_text.specs.Steps as spec;
+ghost use Rattle.step_text.specs.Ranges.{IsInRange, AreInRange};
 
 use crate::directive::{Directive, Directives, Placed};
 use crate::{PASSES_TAKEN, ZONES_TAKEN};
@@ -24,7 +25,8 @@ fn shift_with(x: i32, y: i32, z: i32) -> Shift
 
 #[tactic(auto, unfolding(crate::specs::Steps::set_of))]
 fn set(words: Words<'_>) -> Result<Directive, TextWhy>
-    ensures { result ≡ spec.set_of (words_left words.entry) }
+    ensures value { result ≡ spec.set_of (words_left words.entry) }
+    ensures range { IfOk result IsInRange }
 {
     let mut words = words;
     let Some(name) = words.next() else {
@@ -66,7 +68,8 @@ fn shift_at(words: Words<'_>) -> Result<Shift, TextWhy>
 
 #[tactic(auto, unfolding(crate::specs::Steps::shift_one_of))]
 fn shift_one(words: Words<'_>) -> Result<Directive, TextWhy>
-    ensures { result ≡ spec.shift_one_of (words_left words.entry) }
+    ensures value { result ≡ spec.shift_one_of (words_left words.entry) }
+    ensures range { IfOk result IsInRange }
 {
     let mut words = words;
     let v = number_at(&mut words, 1, ID_MAX)?;
@@ -76,7 +79,8 @@ fn shift_one(words: Words<'_>) -> Result<Directive, TextWhy>
 
 #[tactic(auto, unfolding(crate::specs::Steps::shift_of))]
 fn shift(words: Words<'_>) -> Result<Directive, TextWhy>
-    ensures { result ≡ spec.shift_of (words_left words.entry) }
+    ensures value { result ≡ spec.shift_of (words_left words.entry) }
+    ensures range { IfOk result IsInRange }
 {
     let mut behind = words;
     let Some(who) = behind.next() else {
@@ -102,7 +106,9 @@ fn split(words: Words<'_>) -> Result<Directive, TextWhy>
 
 #[tactic(auto, unfolding(crate::specs::Steps::alone))]
 fn alone(directive: Directive, words: Words<'_>) -> Result<Directive, TextWhy>
-    ensures { result ≡ spec.alone directive (words_left words.entry) }
+    requires { IsInRange directive }
+    ensures value { result ≡ spec.alone directive (words_left words.entry) }
+    ensures range { IfOk result IsInRange }
 {
     count_is(0, words)?;
     Ok(directive)
@@ -110,7 +116,8 @@ fn alone(directive: Directive, words: Words<'_>) -> Result<Directive, TextWhy>
 
 #[tactic(auto, unfolding(crate::specs::Steps::directive_of))]
 fn directive(first: &[u8], words: Words<'_>) -> Result<Directive, TextWhy>
-    ensures { result ≡ spec.directive_of first.now (words_left words.entry) }
+    ensures value { result ≡ spec.directive_of first.now (words_left words.entry) }
+    ensures range { IfOk result IsInRange }
 {
     if is_word(first, b"set") {
         return set(words);
@@ -138,6 +145,7 @@ fn directive(first: &[u8], words: Words<'_>) -> Result<Directive, TextWhy>
 fn add_words(directives: &mut Directives, words: Words<'_>, line: u32) -> Result<(), ReadFault>
     ensures value { Leaves directives.new result (at_line line (spec.words_add line directives.old (words_left words.entry))) }
     ensures more { length directives.new ≤ length directives.old + 1 }
+    ensures ranges { AreInRange directives.old → AreInRange directives.new }
 {
     let mut words = words;
     let Some(first) = words.next() else {
@@ -157,6 +165,8 @@ pub fn read_steps(alloc: Global, bytes: &[u8]) -> Result<Directives, ReadFault>
     requires { length bytes.now ≤ TEXT_MAX }
     ensures value { Gives (λ d. d) result (spec.steps_of bytes.now) }
     ensures few { IfOk result (λ d. length d ≤ TEXT_MAX) }
+    // A depth or a number of halvings that is set is within its limit.
+    ensures ranges { IfOk result AreInRange }
 {
     let mut directives = Directives::new(alloc);
     for line in Lines::new(bytes) {

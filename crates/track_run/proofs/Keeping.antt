@@ -1,5 +1,5 @@
 -- Every mesh and motion of a log keeps its promise.
-use Rattle.std.proofs.Common.{◌≡◌, ℕ, ◌+◌, Bool, true, false, cond, not, eqb, List, [], ◌∷◌, ◌++◌, map, length, Option, Some, None, Result, Ok, Err, refl, ap, sym, ◌∙◌, subst, inl, inr, ℤ, pos, unsigned_abs, ◌≤◌, arith}
+use Rattle.std.proofs.Common.{◌≡◌, ℕ, ◌+◌, ◌==◌, Bool, true, false, cond, not, eqb, List, [], ◌∷◌, ◌++◌, map, length, Option, Some, None, Result, Ok, Err, IfOk, refl, ap, sym, ◌∙◌, subst, inl, inr, ℤ, pos, unsigned_abs, ◌≤◌, arith}
 use Rattle.std.specs.Prelude.{◌⊎◌}
 use Rattle.std.specs.Option.{option_map, unwrap_or}
 use Rattle.std.specs.List.{AllByRecursion, find}
@@ -15,17 +15,23 @@ use Rattle.grid_base.specs.Points.{displacement_of, is_within, point_at}
 use Rattle.grid_base.proofs.PointLaws.{displacement_of-shift_by, within_of}
 use Rattle.mesh_base.specs.declared.ShiftOf.{ShiftOf}
 use Rattle.mesh_base.specs.declared.ShapeFault.{ShapeFault}
-use Rattle.mesh_base.specs.declared.How.TheVariants.{Whole}
+use Rattle.mesh_base.specs.declared.UseWhy.{UseWhy}
+use Rattle.mesh_base.specs.declared.UseWhy.TheVariants.{ShiftRange}
 use Rattle.mesh_base.specs.Mesh.{Mesh, IsSound, IsLiveVertex}
 use Rattle.mesh_base.specs.Sides.{IsClosed}
-use Rattle.mesh_base.specs.Placements.{origin, IsClearMesh, IsClearAlong}
-use Rattle.mesh_base.specs.Shifts.{Shifts, NameLive, NameOnce, shift_at, moved_by}
+use Rattle.grid_base.specs.Meeting.{MeetAt}
+use Rattle.grid_base.specs.Motion.{position_at}
+use Rattle.mesh_base.specs.Placements.{origin, own_points, at_fraction, IsClearMesh, IsClearAlong}
+use Rattle.mesh_base.specs.Shifts.{Shifts, NameLive, NameOnce, with_shift, shift_at, moved_by}
 use Rattle.mesh_base.specs.Given.{mesh_of}
-use Rattle.mesh_base.proofs.Listed.{at_live}
-use Rattle.mesh_base.proofs.Moves.{sound-with_moves, closed-with_moves, clear_after_moves, translation_clear_along}
+use Rattle.mesh_base.proofs.Moves.{same_positions, sound-with_moves, closed-with_moves, clear_after_moves}
+use Rattle.mesh_base.proofs.KeysKept.{keys-with_moves}
 use Rattle.mesh_base.proofs.MovesNamed.{name_once, name_once_filtered, shift_filtered, end_filtered}
 use Rattle.mesh_base.specs.declared.PairName.{PairName}
 use Rattle.pair_scan.proofs.Clear.{clear_exactly}
+use Rattle.step_choose.specs.declared.Settings.{Settings}
+use Rattle.step_choose.specs.Choice.{Way}
+use Rattle.step_choose.proofs.Taken.{GoesWell, taken_well}
 use Rattle.mesh_plain.specs.Shape.{shape_fault}
 use Rattle.mesh_plain.proofs.Lists.{sound-mesh_of}
 use Rattle.mesh_plain.proofs.Faults.{closed-mesh_of}
@@ -36,32 +42,19 @@ use Rattle.step_text.specs.declared.Directive.{Directive}
 use Rattle.step_text.specs.declared.Directive.TheVariants as directive
 use Rattle.step_text.specs.Steps.{steps_of}
 use Rattle.log_text.specs.declared.LogLine.{LogLine}
-use Rattle.log_text.specs.declared.LogLine.TheVariants.{Step, Move, Moved}
+use Rattle.log_text.specs.declared.LogLine.TheVariants.{Step, Hit, Move, Moved}
 use Rattle.log_text.specs.Replay.{Replay, after, replayed}
+use Rattle.track_run.specs.declared.outcome.Stop.{Stop}
+use Rattle.track_run.specs.Shifting.{AsksNow}
+use Rattle.track_run.specs.Parts.{StepTakes}
 use Rattle.track_run.specs.Kept.{Keeps, IsSavedWell}
-use Rattle.track_run.specs.State.{State, start, standing, at_mesh, no_shifts, still_at}
-use Rattle.track_run.specs.Turns.{Turn, Goes, Stops, Told, turn, shift_turn, step_turn, summed, first_beyond, all_summed, first_outside, moves, moving, move_lines, all_still, step_lines, after_step, and_then, told_from}
+use Rattle.track_run.specs.State.{State, start, standing, at_mesh, no_shifts}
+use Rattle.track_run.specs.Standing.{IsGood, IsKept}
+use Rattle.track_run.specs.Turns.{Turn, Goes, Stops, Told, turn, shift_turn, set_turn, step_turn, summed, first_beyond, all_summed, sum_or_range, sum_of_all, asked_of, one_summed, sum_at, sum_of_one, first_outside, hits, taken, moves, moving, moved_mesh, hit_lines, move_lines, lines_of_step, all_still, step_lines, after_step, and_then, told_from}
 use Rattle.track_run.specs.Job.{Job, Source, Bytes, Absent, TooLong, log_of, told_of_files, told_of_lists, told_of_shape, told_of_steps, told_of_meeting, met_first, mesh_of_lists, mesh_read, mesh_in, replay_of}
-use Rattle.track_run.proofs.NoFiles.{after-step_lines, after-moves}
-use Rattle.track_run.proofs.StepLemmas.{all_inside, names_after_step}
+use Rattle.track_run.proofs.NoFiles.{after-step_lines, after-moves, after-hits}
+use Rattle.track_run.proofs.StepLemmas.{all_inside, ids_of_still}
 use Rattle.track_run.proofs.TurnLemmas.{ids_of_sums, names_at_first}
-
--- a mesh that is within its limits, closed and clear
-record IsGood (m : Mesh) : Type 0 where
-  sound : IsSound m
-  closed : IsClosed m
-  clear : IsClearMesh m
-
--- every vertex is asked the same shift
-abbrev AreAlike : Triple → Shifts → Type 0
-AreAlike t asked = AllByRecursion (λ s. displacement_of s.by ≡ t) asked
-
--- a good mesh whose vertices are asked to move together
-record IsKept (s : State) : Type 0 where
-  good : IsGood s.mesh
-  names : NameLive s.mesh s.asked
-  together : Triple
-  alike : AreAlike together s.asked
 
 -- ---- lines one after the other
 
@@ -73,42 +66,9 @@ keeps_moves : (shifts : Shifts) (from : Replay) → Keeps from (map (λ s. Move 
 keeps_moves [] from = tt
 keeps_moves (s ∷ rest) from = (tt, keeps_moves rest (replayed from (Move s)))
 
--- ---- a shift of all
-
-rests_alike : (ids : List ℕ) → AreAlike origin (map still_at ids)
-rests_alike [] = tt
-rests_alike (v ∷ ids) = (refl, rests_alike ids)
-
-stills_alike : (asked : Shifts) → AreAlike origin (all_still asked)
-stills_alike [] = tt
-stills_alike (s ∷ rest) = (refl, stills_alike rest)
-
-sums_alike : (by : Shift) (t : Triple) (asked : Shifts) → AreAlike t asked → first_beyond by asked ≡ None → AreAlike (plus t (displacement_of by)) (all_summed by asked)
-sums_alike by t [] h e = tt
-sums_alike by t (s ∷ rest) h e = by_test (sums_alike by t rest h.1) (is_within SHIFT_MAX (summed by s)) refl e
-  where
-    by_test : (first_beyond by rest ≡ None → AreAlike (plus t (displacement_of by)) (all_summed by rest)) → (b : Bool) → is_within SHIFT_MAX (summed by s) ≡ b → option_map (λ (x : ShiftOf). x.v) (cond (not b) (Some s) (find (λ x. not (is_within SHIFT_MAX (summed by x))) rest)) ≡ None → AreAlike (plus t (displacement_of by)) (all_summed by (s ∷ rest))
-    by_test others true w n = (displacement_of-shift_by (summed by s) (within_of SHIFT_MAX (summed by s) w) ∙ ap (λ d. plus d (displacement_of by)) h.0, others n)
-    by_test others false w n = absurd cc
-
--- what a named vertex is asked
-asked_at : (t : Triple) (v : ℕ) (asked : Shifts) → AreAlike t asked → (shift_at asked v ≡ t) ⊎ AllByRecursion (λ u. eqb u v ≡ false) (map (λ s. s.v) asked)
-asked_at t v [] h = inr tt
-asked_at t v (s ∷ rest) h = by_test (eqb s.v v) refl (asked_at t v rest h.1)
-  where
-    by_test : (b : Bool) → eqb s.v v ≡ b → (shift_at rest v ≡ t) ⊎ AllByRecursion (λ u. eqb u v ≡ false) (map (λ x. x.v) rest) → (unwrap_or (option_map (λ (x : ShiftOf). displacement_of x.by) (cond b (Some s) (find (λ x. eqb x.v v) rest))) origin ≡ t) ⊎ ((eqb s.v v ≡ false) × AllByRecursion (λ u. eqb u v ≡ false) (map (λ x. x.v) rest))
-    by_test true e others = inl h.0
-    by_test false e (inl is) = inl is
-    by_test false e (inr none) = inr (e, none)
-
-live_at : (m : Mesh) (t : Triple) (asked : Shifts) → NameLive m asked → AreAlike t asked → (v : ℕ) → IsLiveVertex m v → shift_at asked v ≡ t
-live_at m t asked named h v live = by_name (asked_at t v asked h)
-  where
-    by_name : (shift_at asked v ≡ t) ⊎ AllByRecursion (λ u. eqb u v ≡ false) (map (λ s. s.v) asked) → shift_at asked v ≡ t
-    by_name (inl is) = is
-    by_name (inr none) =
-        let P : List ℕ → Type 0 = λ ids. AllByRecursion (λ u. eqb u v ≡ false) ids in
-        absurd (false≢true (sym (at_live (λ u. eqb u v ≡ false) m.points v (subst P named none) live) ∙ eq-eqb v v refl))
+keeps_hits : (pairs : List PairName) (from : Replay) → Keeps from (hit_lines pairs)
+keeps_hits [] from = tt
+keeps_hits (p ∷ pairs) from = (tt, keeps_hits pairs from)
 
 -- ---- a step
 
@@ -124,30 +84,58 @@ no_move s e =
     zero_of : (x : ℤ) → unsigned_abs x ≤ 0 → x ≡ pos 0
     zero_of x h = omega (arith, ints)
 
-module _ (s : State) (kept : IsKept s) (inside : first_outside s.mesh s.asked ≡ None) where
-  once : NameOnce s.mesh (moving s.asked)
-  once = name_once_filtered s.mesh moves s.asked (name_once s.mesh s.asked kept.names)
+-- shifts that are each vertex's are clear along alike
+clear_alike : (m : Mesh) (xs ys : Shifts) → ((v : ℕ) → shift_at xs v ≡ shift_at ys v) → IsClearAlong m (moved_by m ys) → IsClearAlong m (moved_by m xs)
+clear_alike m xs ys same along p q some within pair is meet =
+    along p q some within pair is
+    (subst MeetAt (same_positions (at_fraction p q (moved_by m xs)) (at_fraction p q (moved_by m ys)) pair (λ v. ap (λ t. position_at p q (own_points m v) (plus (own_points m v) t)) (same v))) meet)
 
-  clear_along : IsClearAlong s.mesh (moved_by s.mesh (moving s.asked))
-  clear_along = translation_clear_along s.mesh (moving s.asked) kept.together kept.good.sound kept.good.clear
-      (λ v live. shift_filtered moves s.asked v no_move (name_once s.mesh s.asked kept.names).once ∙ live_at s.mesh kept.together s.asked kept.names kept.alike v live)
+-- the lines of a step that goes well, and the mesh after it
+module _ (m : Mesh) (good : IsGood m) (k : ℕ) (pairs : List PairName) (way : Way) (well : GoesWell m way.taken) where
+  names : NameOnce m way.taken
+  names = name_once m way.taken well.named
 
-  keeps_step : Keeps (standing s) (step_lines s)
-  keeps_step =
-      let P : Replay → Type 0 = λ r. Keeps r (Moved Whole ∷ []) in
-      (tt, keeps_append (move_lines s.asked) (Moved Whole ∷ []) (standing s) (keeps_moves (moving s.asked) (standing s)) (subst P (sym (after-moves (standing s) (moving s.asked))) (clear_along, tt)))
+  once : NameOnce m (moving way.taken)
+  once = name_once_filtered m moves way.taken names
 
-  kept_after : IsKept (after_step s)
-  kept_after = record {
-    good = record {
-      sound = sound-with_moves s.mesh (moving s.asked) kept.good.sound once.live;
-      closed = closed-with_moves s.mesh (moving s.asked) kept.good.closed;
-      clear = clear_after_moves s.mesh (moving s.asked) once.once (end_filtered s.mesh moves s.asked (all_inside s.mesh s.asked inside)) clear_along;
-    };
-    names = names_after_step s.mesh s.asked kept.names;
-    together = origin;
-    alike = stills_alike s.asked;
+  clear_along : IsClearAlong m (moved_by m (moving way.taken))
+  clear_along = clear_alike m (moving way.taken) way.taken (λ v. shift_filtered moves way.taken v no_move names.once) well.clear
+
+  keeps_lines : Keeps (at_mesh m) (lines_of_step k pairs way)
+  keeps_lines =
+      let begun : Replay = at_mesh m in
+      let moved : List LogLine = Moved way.how ∷ [] in
+      let P : Replay → Type 0 = λ r. Keeps r moved in
+      let Q : Replay → Type 0 = λ r. Keeps r (move_lines way.taken ++ moved) in
+      (tt, keeps_append (hit_lines pairs) (move_lines way.taken ++ moved) begun (keeps_hits pairs begun)
+      (subst Q (sym (after-hits begun pairs)) (keeps_append (move_lines way.taken) moved begun (keeps_moves (moving way.taken) begun) (subst P (sym (after-moves begun (moving way.taken))) (clear_along, tt)))))
+
+  good_after : IsGood (moved_mesh m way.taken)
+  good_after = record {
+    sound = sound-with_moves m (moving way.taken) good.sound once.live;
+    closed = closed-with_moves m (moving way.taken) good.closed;
+    clear = clear_after_moves m (moving way.taken) once.once (end_filtered m moves way.taken well.ends) clear_along;
   }
+
+  -- the same vertices live
+  keys_after : (asked : Shifts) → NameLive m asked → NameLive (moved_mesh m way.taken) (all_still asked)
+  keys_after asked named = ids_of_still asked ∙ named ∙ sym (keys-with_moves m (moving way.taken) once.live)
+
+-- the way that is taken goes well
+well_taken : (s : State) → IsKept s → first_outside s.mesh s.asked ≡ None → GoesWell s.mesh (taken s).taken
+unfolding taken
+well_taken s kept inside = taken_well s.mesh s.asked s.set kept.good.sound kept.good.clear kept.names (all_inside s.mesh s.asked inside)
+
+kept_after : (s : State) → IsKept s → first_outside s.mesh s.asked ≡ None → IsKept (after_step s)
+kept_after s kept inside =
+    let well = well_taken s kept inside in
+    record {
+      good = good_after s.mesh kept.good (s.steps + 1) (hits s) (taken s) well;
+      names = keys_after s.mesh kept.good (s.steps + 1) (hits s) (taken s) well s.asked kept.names;
+    }
+
+keeps_step : (s : State) → IsKept s → first_outside s.mesh s.asked ≡ None → Keeps (standing s) (step_lines s)
+keeps_step s kept inside = keeps_lines s.mesh kept.good (s.steps + 1) (hits s) (taken s) (well_taken s kept inside)
 
 -- ---- a directive
 
@@ -155,17 +143,46 @@ abbrev KeepsTurn : State → Turn → Type 0
 KeepsTurn s (Goes lines next) = Keeps (standing s) lines × (after (standing s) lines ≡ standing next) × IsKept next
 KeepsTurn s (Stops why) = Unit {0}
 
-kept_shifted : (by : Shift) (s : State) → IsKept s → first_beyond by s.asked ≡ None → IsKept (record s { asked = all_summed by s.asked })
-kept_shifted by s kept e = record {
-  good = kept.good;
-  names = ids_of_sums by s.asked ∙ kept.names;
-  together = plus kept.together (displacement_of by);
-  alike = sums_alike by kept.together s.asked kept.alike e;
-}
+ids_of_one : (v : ℕ) (by : Shift) (asked : Shifts) → map (λ s. s.v) (one_summed v by asked) ≡ map (λ s. s.v) asked
+ids_of_one v by [] = refl
+ids_of_one v by (s ∷ rest) = ap (λ id. id ∷ map (λ x. x.v) (one_summed v by rest)) (by_test (s.v == v)) ∙ ap (λ ids. s.v ∷ ids) (ids_of_one v by rest)
+  where
+    by_test : (b : Bool) → (cond b (with_shift s (summed by s)) s).v ≡ s.v
+    by_test true = refl
+    by_test false = refl
 
-keeps_shift : (by : Shift) (s : State) → IsKept s → (o : Option ℕ) → first_beyond by s.asked ≡ o → KeepsTurn s (shift_turn o by s)
-keeps_shift by s kept None e = (tt, refl, kept_shifted by s kept e)
-keeps_shift by s kept (Some v) e = tt
+-- what is asked from here on names the same vertices
+names_of_all : (by : Shift) (asked now : Shifts) (o : Option ℕ) → sum_or_range o by asked ≡ Ok now → map (λ s. s.v) now ≡ map (λ s. s.v) asked
+names_of_all by asked now None e = let same : all_summed by asked ≡ now = cc in ap (λ (l : Shifts). map (λ s. s.v) l) (sym same) ∙ ids_of_sums by asked
+names_of_all by asked now (Some v) e = absurd cc
+
+names_of_one : (v : ℕ) (by : Shift) (asked now : Shifts) (o : Option ShiftOf) → sum_at o v by asked ≡ Ok now → map (λ s. s.v) now ≡ map (λ s. s.v) asked
+names_of_one v by asked now None e = absurd cc
+names_of_one v by asked now (Some s) e = by_test (is_within SHIFT_MAX (summed by s)) e
+  where
+    by_test : (b : Bool) → cond b (Ok (one_summed v by asked)) (Err (ShiftRange v)) ≡ Ok now → map (λ s. s.v) now ≡ map (λ s. s.v) asked
+    by_test true e = let same : one_summed v by asked ≡ now = cc in ap (λ (l : Shifts). map (λ s. s.v) l) (sym same) ∙ ids_of_one v by asked
+    by_test false e = absurd cc
+
+keeps_shift : (s : State) → IsKept s → (r : Result Shifts UseWhy) → ((now : Shifts) → r ≡ Ok now → map (λ s. s.v) now ≡ map (λ s. s.v) s.asked) → KeepsTurn s (shift_turn r s)
+keeps_shift s kept (Ok asked) same = (tt, refl, record { good = kept.good; names = same asked refl ∙ kept.names })
+keeps_shift s kept (Err why) same = tt
+
+-- what is asked from here on is asked of the same vertices
+kept_asked : (s : State) (sum : Result Shifts UseWhy) (now : Shifts) (o : Option UseWhy) → IsKept s → ((n : Shifts) → sum ≡ Ok n → map (λ t. t.v) n ≡ map (λ t. t.v) s.asked) → AsksNow sum now o → o ≡ None → IsKept (record s { asked = now })
+kept_asked s sum now None kept same asks e = record { good = kept.good; names = same now asks ∙ kept.names }
+kept_asked s sum now (Some why) kept same asks e = absurd cc
+
+pub kept_by_one : (v : ℕ) (by : Shift) (s : State) (now : Shifts) (o : Option UseWhy) → IsKept s → AsksNow (sum_of_one v by s.asked) now o → o ≡ None → IsKept (record s { asked = now })
+kept_by_one v by s now o kept asks e = kept_asked s (sum_of_one v by s.asked) now o kept (λ n same. names_of_one v by s.asked n (asked_of v s.asked) same) asks e
+
+pub kept_by_all : (by : Shift) (s : State) (now : Shifts) (r : Result (Option UseWhy) Stop) → IsKept s → IfOk r (AsksNow (sum_of_all by s.asked) now) → r ≡ Ok None → IsKept (record s { asked = now })
+kept_by_all by s now r kept asks e =
+    let P : Result (Option UseWhy) Stop → Type 0 = λ x. IfOk x (AsksNow (sum_of_all by s.asked) now) in
+    kept_asked s (sum_of_all by s.asked) now None kept (λ n same. names_of_all by s.asked n (first_beyond by s.asked) same) (subst P e asks) refl
+
+keeps_set : (s : State) (set : Settings) → IsKept s → KeepsTurn s (set_turn set s)
+keeps_set s set kept = (tt, refl, record { good = kept.good; names = kept.names })
 
 keeps_step_turn : (s : State) → IsKept s → (o : Option ℕ) → first_outside s.mesh s.asked ≡ o → KeepsTurn s (step_turn o s)
 keeps_step_turn s kept None e = (keeps_step s kept e, after-step_lines s, kept_after s kept e)
@@ -175,9 +192,23 @@ saved_well : (m : Mesh) → IsGood m → IsSavedWell (at_mesh m) (finite.len m.p
 saved_well m good = record { vertex_count = refl; face_count = refl; closed = good.closed; clear = good.clear }
 
 keeps_turn : (what : Directive) (s : State) → IsKept s → KeepsTurn s (turn what s)
-keeps_turn (directive.ShiftAll by) s kept = keeps_shift by s kept (first_beyond by s.asked) refl
+keeps_turn (directive.SetDepth depth) s kept = keeps_set s (record s.set { depth = depth }) kept
+keeps_turn (directive.SetPasses passes) s kept = keeps_set s (record s.set { passes = passes }) kept
+keeps_turn (directive.SetZones zones) s kept = keeps_set s (record s.set { zones = zones }) kept
+keeps_turn (directive.SetHalvings halvings) s kept = keeps_set s (record s.set { halvings = halvings }) kept
+keeps_turn (directive.ShiftOne v by) s kept = keeps_shift s kept (sum_of_one v by s.asked) (λ now e. names_of_one v by s.asked now (asked_of v s.asked) e)
+keeps_turn (directive.ShiftAll by) s kept = keeps_shift s kept (sum_of_all by s.asked) (λ now e. names_of_all by s.asked now (first_beyond by s.asked) e)
 keeps_turn directive.Step s kept = keeps_step_turn s kept (first_outside s.mesh s.asked) refl
-keeps_turn directive.Save s kept = ((saved_well s.mesh kept.good, tt), refl, record { good = kept.good; names = kept.names; together = kept.together; alike = kept.alike })
+keeps_turn directive.Save s kept = ((saved_well s.mesh kept.good, tt), refl, record { good = kept.good; names = kept.names })
+
+-- a turn that is taken leads to where a run stands well
+pub kept_next : (what : Directive) (s next : State) (lines : List LogLine) → IsKept s → turn what s ≡ Goes lines next → IsKept next
+kept_next what s next lines kept goes = let P : Turn → Type 0 = λ t. KeepsTurn s t in (subst P goes (keeps_turn what s kept)).2
+
+pub kept_stepped : (s t : State) (a b : Option (List ℕ)) (r : Result (Option UseWhy) Stop) → IsKept s → StepTakes s t a b r → r ≡ Ok None → IsKept t
+kept_stepped s t a b r kept takes e =
+    let P : Result (Option UseWhy) Stop → Type 0 = λ x. StepTakes s t a b x in
+    kept_next directive.Step s t (step_lines s) kept (subst P e takes).0
 
 keeps_and_then : (line : ℕ) (s : State) (t : Turn) (next : State → Told) → KeepsTurn s t → ((n : State) → IsKept n → Keeps (standing n) (next n).lines) → Keeps (standing s) (and_then line t next).lines
 keeps_and_then line s (Goes lines n) next k h =
@@ -190,8 +221,8 @@ keeps_told (p ∷ steps) s kept = keeps_and_then p.line s (turn p.what s) (told_
 
 -- ---- a job
 
-kept_start : (m : Mesh) → IsGood m → IsKept (start m)
-kept_start m good = record { good = good; names = names_at_first m (no_shifts m) refl; together = origin; alike = rests_alike (finite.keys m.points) }
+pub kept_start : (m : Mesh) → IsGood m → IsKept (start m)
+kept_start m good = record { good = good; names = names_at_first m (no_shifts m) refl }
 
 keeps_meeting : (m : Mesh) (steps : List Placed) (o : Option PairName) → met_first m ≡ o → IsSound m → IsClosed m → Keeps (at_mesh m) (told_of_meeting m steps o).lines
 keeps_meeting m steps (Some pair) e sound closed = (tt, tt)

@@ -9,5 +9,7 @@ pub mod NoFiles
 pub mod SoFars
 pub mod Sources
 pub mod Keeping
+pub mod StepTaken
+pub mod Promises
 pub mod TopLemmas
 mod CauseLemmas

@@ -3,7 +3,8 @@ use Rattle.std.proofs.Common.{◌≡◌, ℕ, ◌+◌, List, [], ◌∷◌, ◌+
 use Rattle.std.specs.declared.option.Option.{Option}
 use Rattle.std.specs.declared.option.Option.TheVariants.{None, Some}
 use Rattle.mesh_base.specs.declared.ShiftOf.{ShiftOf}
-use Rattle.mesh_base.specs.declared.How.TheVariants.{Whole}
+use Rattle.mesh_base.specs.declared.PairName.{PairName}
+use Rattle.step_choose.specs.Choice.{Way}
 use Rattle.mesh_base.specs.declared.UseWhy.{UseWhy}
 use Rattle.log_text.specs.Lines.{text_of_lines}
 use Rattle.log_text.specs.declared.LogLine.{LogLine}
@@ -13,8 +14,8 @@ use Rattle.step_text.specs.declared.Directive.TheVariants as directive
 use Rattle.outside_io.specs.Desk.{Files}
 use Rattle.outside_io.specs.Sink.{appended}
 use Rattle.track_run.specs.declared.outcome.Stop.{Stop}
-use Rattle.track_run.specs.State.{State, standing}
-use Rattle.track_run.specs.Turns.{turn, Goes, moving, move_lines, step_lines, after_step}
+use Rattle.track_run.specs.State.{State, standing, at_mesh}
+use Rattle.track_run.specs.Turns.{turn, Goes, hits, taken, moving, moved_mesh, hit_lines, move_lines, lines_of_step, step_lines, after_step}
 use Rattle.track_run.specs.Said.{SaidInPart}
 use Rattle.track_run.specs.Saved.{Target, files_of, stored}
 use Rattle.track_run.specs.Parts.{StepTakes, Advances, Takes}
@@ -52,8 +53,15 @@ moves_none : (shifts : List ShiftOf) (rest : List LogLine) → NoFiles rest → 
 moves_none [] rest none = none
 moves_none (s ∷ shifts) rest none = moves_none shifts rest none
 
+hits_none : (pairs : List PairName) (rest : List LogLine) → NoFiles rest → NoFiles (hit_lines pairs ++ rest)
+hits_none [] rest none = none
+hits_none (p ∷ pairs) rest none = hits_none pairs rest none
+
+lines_none : (k : ℕ) (pairs : List PairName) (way : Way) → NoFiles (lines_of_step k pairs way)
+lines_none k pairs way = hits_none pairs (move_lines way.taken ++ Moved way.how ∷ []) (moves_none (moving way.taken) (Moved way.how ∷ []) tt)
+
 step_none : (s : State) → NoFiles (step_lines s)
-step_none s = moves_none (moving s.asked) (Moved Whole ∷ []) tt
+step_none s = lines_none (s.steps + 1) (hits s) (taken s)
 
 -- lines that name no file leave the files
 pub logs_from_said : (to : Target) (from : Replay) (lines : List LogLine) (files : Option Files) (old new : Option (List ℕ)) → files_of to from lines ≡ [] → new ≡ appended old (text_of_lines lines) → Logs to from lines (record { files = files; written = old }) (record { files = files; written = new })
@@ -81,9 +89,23 @@ pub after-moves : (from : Replay) (shifts : List ShiftOf) → after from (map (�
 after-moves from [] = ap (λ (m : List ShiftOf). record { mesh = from.mesh; moves = m }) (sym (append-nil from.moves))
 after-moves from (s ∷ shifts) = after-moves (replayed from (Move s)) shifts ∙ ap (λ (m : List ShiftOf). record { mesh = from.mesh; moves = m }) (append_assoc from.moves (s ∷ []) shifts)
 
+-- `hit` lines change nothing
+pub after-hits : (from : Replay) (pairs : List PairName) → after from (hit_lines pairs) ≡ from
+after-hits from [] = refl
+after-hits from (p ∷ pairs) = after-hits from pairs
+
+-- the lines of a step move the mesh by the shifts that are taken
+pub after-lines_of_step : (from : Replay) (k : ℕ) (pairs : List PairName) (way : Way) → after from (lines_of_step k pairs way) ≡ at_mesh (moved_mesh from.mesh way.taken)
+after-lines_of_step from k pairs way =
+    let begun : Replay = at_mesh from.mesh in
+    after-append begun (hit_lines pairs) (move_lines way.taken ++ Moved way.how ∷ [])
+    ∙ ap (λ r. after r (move_lines way.taken ++ Moved way.how ∷ [])) (after-hits begun pairs)
+    ∙ after-append begun (move_lines way.taken) (Moved way.how ∷ [])
+    ∙ ap (λ r. replayed r (Moved way.how)) (after-moves begun (moving way.taken))
+
 -- the replay of a step's lines is the state after it
 pub after-step_lines : (s : State) → after (standing s) (step_lines s) ≡ standing (after_step s)
-after-step_lines s = after-append (standing s) (move_lines s.asked) (Moved Whole ∷ []) ∙ ap (λ r. replayed r (Moved Whole)) (after-moves (standing s) (moving s.asked))
+after-step_lines s = after-lines_of_step (standing s) (s.steps + 1) (hits s) (taken s)
 
 takes_step : (to : Target) (s t : State) (files : Option Files) (old new : Option (List ℕ)) → turn directive.Step s ≡ Goes (step_lines s) t → t ≡ after_step s → new ≡ appended old (text_of_lines (step_lines s))
     → Takes to (turn directive.Step s) s t (record { files = files; written = old }) (record { files = files; written = new })

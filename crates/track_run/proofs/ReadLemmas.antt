@@ -10,6 +10,7 @@ use Rattle.mesh_plain.specs.Shape.{shape_fault}
 use Rattle.obj_text.specs.Obj.{lists_of}
 use Rattle.obj_text.specs.Views.{lists_view}
 use Rattle.step_text.specs.declared.Placed.{Placed}
+use Rattle.step_text.specs.Ranges.{AreInRange}
 use Rattle.step_text.specs.Steps.{steps_of}
 use Rattle.track_run.specs.declared.reading.Ready.TheVariants as ready
 use Rattle.track_run.specs.Job.{told_of_lists, told_of_shape, told_of_steps, mesh_of_lists, mesh_read}
@@ -27,9 +28,9 @@ same_mesh lists = ap (λ points. mesh_of points lists.faces) (same_points lists.
 pub same_shape : (lists : MeshLists) → shape_fault (length (lists_view lists).points) (lists_view lists).faces ≡ shape_fault (length lists.points) lists.faces
 same_shape lists = ap (λ n. shape_fault n lists.faces) (length-map lists.points position_of)
 
-pub reads_yes : (decimals : ℕ) (mesh steps : List ℕ) (lists : MeshLists) (directives : List Placed) → lists_of decimals mesh ≡ Ok (lists_view lists) → AreGood lists → steps_of steps ≡ Ok directives → length directives < 2 ^ 31
+pub reads_yes : (decimals : ℕ) (mesh steps : List ℕ) (lists : MeshLists) (directives : List Placed) → lists_of decimals mesh ≡ Ok (lists_view lists) → AreGood lists → steps_of steps ≡ Ok directives → length directives < 2 ^ 31 → AreInRange directives
     → Reads decimals mesh steps (ready.Yes lists directives)
-reads_yes decimals mesh steps lists directives read good told few = (
+reads_yes decimals mesh steps lists directives read good told few ranges = (
   ap (λ r. told_of_lists r steps) read
       ∙ ap (λ o. told_of_shape (lists_view lists) o steps) (same_shape lists ∙ good)
       ∙ ap (told_of_steps (mesh_of_lists (lists_view lists))) told
@@ -37,4 +38,5 @@ reads_yes decimals mesh steps lists directives read good told few = (
   sym (same_mesh lists) ∙ sym (ap mesh_read read),
   good,
   few,
+  ranges,
 )

@@ -4,8 +4,9 @@ use Rattle.std.proofs.Math.Seq.{drop-cons}
 use Rattle.std.specs.List.{filter}
 use Rattle.std.specs.declared.option.Option.{Option}
 use Rattle.mesh_base.specs.declared.ShiftOf.{ShiftOf}
-use Rattle.log_text.specs.declared.LogLine.TheVariants.{Move}
-use Rattle.track_run.specs.Turns.{moves, move_lines}
+use Rattle.mesh_base.specs.declared.PairName.{PairName}
+use Rattle.log_text.specs.declared.LogLine.TheVariants.{Hit, Move}
+use Rattle.track_run.specs.Turns.{moves, move_lines, hit_lines}
 use Rattle.log_text.specs.Lines.{text_of_lines, text_of_line, body_of}
 use Rattle.log_text.specs.declared.LogLine.{LogLine}
 use Rattle.outside_io.specs.Sink.{appended, AppendsPart}
@@ -145,3 +146,20 @@ none_said old s e = sym (appended-nil old) ∙ ap (λ l. appended old (text_of_l
 
 pub move_said : {T : Type 0} (old new : Option (List ℕ)) (s : ShiftOf) (r : Result T Stop) → moves s ≡ true → Said old new (Move s ∷ []) r → Said old new (move_lines (s ∷ [])) r
 move_said {T} old new s r e said = let P : List LogLine → Type 0 = λ l. Said old new l r in subst P (sym (move_line s true e)) said
+
+-- ---- the lines of pairs
+module _ (old now new : Option (List ℕ)) (pairs : List PairName) (i : ℕ) (p : PairName) (all : List LogLine) (h : i < length pairs) (at : p ≡ get_or pairs i p) where
+  hits_left : hit_lines (drop i pairs) ≡ Hit p ∷ hit_lines (drop (i + 1) pairs)
+  hits_left =
+      ap hit_lines (drop-cons pairs i p h)
+      ∙ ap (λ t. hit_lines (t ∷ drop (suc i) pairs)) (sym at)
+      ∙ ap (λ n. hit_lines (p ∷ drop n pairs)) (sym (add-one i))
+
+  hit_next : SaidSoFar old now (hit_lines (drop i pairs)) all → SaidSoFar old now (Hit p ∷ hit_lines (drop (i + 1) pairs)) all
+  hit_next said = let P : List LogLine → Type 0 = λ l. SaidSoFar old now l all in subst P hits_left said
+
+  pub hits_more : SaidSoFar old now (hit_lines (drop i pairs)) all → new ≡ appended now (text_of_lines (Hit p ∷ [])) → SaidSoFar old new (hit_lines (drop (i + 1) pairs)) all
+  hits_more said w = so_far_more old now new (Hit p) (hit_lines (drop (i + 1) pairs)) all (hit_next said) w
+
+  pub hits_part : SaidSoFar old now (hit_lines (drop i pairs)) all → SaidInPart now new (Hit p ∷ []) → SaidInPart old new all
+  hits_part said part = so_far_part old now new (Hit p) (hit_lines (drop (i + 1) pairs)) all (hit_next said) part

@@ -1,8 +1,14 @@
 -- Lists that are built item by item, and shifts that are summed.
-use Rattle.std.proofs.Common.{◌≡◌, ℕ, ◌<◌, ◌+◌, Bool, true, false, cond, not, List, [], ◌∷◌, ◌++◌, map, length, drop, get_or, suc, add-one, append_assoc, refl, ap, sym, ◌∙◌, pos, Option, Some, None, IsSome}
-use Rattle.std.specs.Prelude.{◌↔◌}
+use Rattle.std.proofs.Common.{◌≡◌, ℕ, ◌<◌, ◌+◌, Bool, true, false, cond, not, List, [], ◌∷◌, ◌++◌, map, length, drop, get_or, suc, add-one, append_assoc, refl, ap, sym, ◌∙◌, pos, Option, Some, None, IsSome, zero, subst, arith, Ok, Err}
+use Rattle.std.specs.Prelude.{◌↔◌, ◌==◌, slice_get, slice_set}
 use Rattle.std.specs.Option.{IfSome, option_map}
-use Rattle.std.specs.List.{find}
+use Rattle.std.specs.List.{find, AllByRecursion}
+use Rattle.std.specs.List.Sorted.{IsStrictlySortedBy}
+use Rattle.std.specs.Ordering.{nat_cmp}
+use Rattle.std.specs.declared.cmp.Ordering.TheVariants.{Less}
+use Rattle.std.proofs.lemmas.Bool.{eq-eqb, eqb-true}
+use Rattle.std.proofs.lemmas.Bool.Decides.{nat_tests}
+use Rattle.std.proofs.lemmas.Map.Keys.{sorted_head, sorted_tail}
 use Rattle.std.proofs.Math.Seq.{drop-cons}
 use Rattle.grid_base.specs.declared.TheConstants.{SHIFT_MAX}
 use Rattle.grid_base.specs.declared.Shift.{Shift}
@@ -14,7 +20,9 @@ use Rattle.grid_base.proofs.MeetingLaws.{same_triple}
 use Rattle.mesh_base.specs.declared.ShiftOf.{ShiftOf}
 use Rattle.mesh_base.specs.Shifts.{Shifts, with_shift}
 use Rattle.track_run.specs.State.{still_at}
-use Rattle.track_run.specs.Turns.{summed, first_beyond}
+use Rattle.mesh_base.specs.declared.UseWhy.TheVariants.{ShiftRange}
+use Rattle.pair_scan.specs.Lookup.{IsPlaceOf}
+use Rattle.track_run.specs.Turns.{summed, first_beyond, one_summed, sum_at, sum_of_one}
 
 -- one more item of a list that another is made of
 pub mapped_more : {X Y : Type 0} (f : X → Y) (xs : List X) (i : ℕ) (x : X) (before after : List Y) (y : Y) (all : List Y) → i < length xs → x ≡ get_or xs i x → after ≡ before ++ y ∷ [] → y ≡ f x
@@ -72,3 +80,55 @@ beyond_here by asked i s all h at out e =
 -- a vertex that is asked nothing
 pub at_rest : (v : ℕ) (h : FitWithin SHIFT_MAX (pos 0) (pos 0) (pos 0)) → ◌≡◌ {A = ShiftOf} (record { v = v; by = record { x = pos 0; y = pos 0; z = pos 0; in_range = h } }) (still_at v)
 at_rest v h = ap (λ (b : Shift). record { v = v; by = b }) (same_shift no_shift h)
+
+-- ---- the shift of one vertex
+
+not_later : (k y v : ℕ) → k ≡ v → nat_cmp k y ≡ Less → (y == v) ≡ false
+not_later k y v e h = grind (arith, nat_tests)
+
+not_earlier : (k y v : ℕ) → y ≡ v → nat_cmp k y ≡ Less → (k == v) ≡ false
+not_earlier k y v e h = grind (arith, nat_tests)
+
+-- those after it stay as they are
+others_stay : (v k : ℕ) (by : Shift) (asked : Shifts) → k ≡ v → AllByRecursion (λ y. nat_cmp k y ≡ Less) (map (λ s. s.v) asked) → one_summed v by asked ≡ asked
+others_stay v k by [] e h = refl
+others_stay v k by (s ∷ rest) e h =
+    ap (λ b. cond b (with_shift s (summed by s)) s ∷ one_summed v by rest) (not_later k s.v v e h.0) ∙ ap (λ l. s ∷ l) (others_stay v k by rest e h.1)
+
+below_at : (k : ℕ) (asked : Shifts) (i : ℕ) (s : ShiftOf) → AllByRecursion (λ y. nat_cmp k y ≡ Less) (map (λ t. t.v) asked) → slice_get asked i ≡ Some s → nat_cmp k s.v ≡ Less
+below_at k [] i s h e = cc
+below_at k (t ∷ rest) zero s h e = let is : t ≡ s = cc in subst (λ (u : ShiftOf). nat_cmp k u.v ≡ Less) is h.0
+below_at k (t ∷ rest) (suc i) s h e = below_at k rest i s h.1 e
+
+-- the sum is set in its place
+set_in_place : (v : ℕ) (by r : Shift) (asked : Shifts) (i : ℕ) (s : ShiftOf) → IsStrictlySortedBy nat_cmp (map (λ t. t.v) asked) → slice_get asked i ≡ Some s → s.v ≡ v → displacement_of r ≡ summed by s
+    → one_summed v by asked ≡ slice_set asked i (record { v = s.v; by = r })
+set_in_place v by r [] i s sorted at is e = cc
+set_in_place v by r (t ∷ rest) zero s sorted at is e =
+    let this : t ≡ s = cc in
+    let named : t.v ≡ v = ap (λ (u : ShiftOf). u.v) this ∙ is in
+    ap (λ b. cond b (with_shift t (summed by t)) t ∷ one_summed v by rest) (eq-eqb t.v v named)
+    ∙ ap (λ l. with_shift t (summed by t) ∷ l) (others_stay v t.v by rest named (sorted_head nat_cmp t.v (map (λ u. u.v) rest) sorted))
+    ∙ ap (λ u. with_shift u (summed by u) ∷ rest) this
+    ∙ ap (λ u. u ∷ rest) (sym (summed_as by r s e))
+set_in_place v by r (t ∷ rest) (suc i) s sorted at is e =
+    ap (λ b. cond b (with_shift t (summed by t)) t ∷ one_summed v by rest) (not_earlier t.v s.v v is (below_at t.v rest i s (sorted_head nat_cmp t.v (map (λ u. u.v) rest) sorted) at))
+    ∙ ap (λ l. t ∷ l) (set_in_place v by r rest i s (sorted_tail nat_cmp t.v (map (λ u. u.v) rest) sorted) at is e)
+
+found_named : (v : ℕ) (asked : Shifts) (s : ShiftOf) → find (λ t. t.v == v) asked ≡ Some s → s.v ≡ v
+found_named v [] s e = cc
+found_named v (t ∷ rest) s e = by_test (found_named v rest s) (t.v == v) refl e
+  where
+    by_test : (find (λ u. u.v == v) rest ≡ Some s → s.v ≡ v) → (b : Bool) → (t.v == v) ≡ b → cond b (Some t) (find (λ u. u.v == v) rest) ≡ Some s → s.v ≡ v
+    by_test others true h e = let this : t ≡ s = cc in ap (λ (u : ShiftOf). u.v) (sym this) ∙ eqb-true t.v v h
+    by_test others false h e = others e
+
+-- what is asked of one vertex, with the sum
+pub one_is_summed : (v : ℕ) (by r : Shift) (asked : Shifts) (place : ℕ) (s : ShiftOf) → IsStrictlySortedBy nat_cmp (map (λ t. t.v) asked) → IsPlaceOf asked v (Some place) → Some s ≡ slice_get asked place → displacement_of r ≡ summed by s → IsWithin SHIFT_MAX (summed by s)
+    → sum_of_one v by asked ≡ Ok (slice_set asked place (record { v = s.v; by = r }))
+one_is_summed v by r asked place s sorted found at e within =
+    let same : found.0 ≡ s = cc in
+    let is : find (λ t. t.v == v) asked ≡ Some s = found.2 ∙ ap Some same in
+    ap (λ o. sum_at o v by asked) is
+    ∙ ap (λ b. cond b (Ok (one_summed v by asked)) (Err (ShiftRange v))) (of_within SHIFT_MAX (summed by s) within)
+    ∙ ap Ok (set_in_place v by r asked place s sorted (sym at) (found_named v asked s is) e)

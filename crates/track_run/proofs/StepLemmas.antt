@@ -11,9 +11,8 @@ use Rattle.mesh_base.specs.declared.ShiftOf.{ShiftOf}
 use Rattle.mesh_base.specs.Mesh.{Mesh, IsLiveVertex}
 use Rattle.mesh_base.specs.Shifts.{Shifts, NameLive, end_in_box, with_move, with_moves}
 use Rattle.mesh_base.proofs.Moves.{both_true, still_live, same_ends}
-use Rattle.mesh_base.proofs.MovesNamed.{name_once, name_once_filtered}
-use Rattle.mesh_base.proofs.KeysKept.{keys-with_moves}
-use Rattle.track_run.specs.Turns.{end_of, first_outside, moves, moving, moved_mesh, all_still}
+use Rattle.mesh_base.proofs.MovesNamed.{name_once}
+use Rattle.track_run.specs.Turns.{end_of, first_outside, moves, all_still}
 use Rattle.track_run.specs.Placing.{AreLive, CanPlace}
 
 -- what holds of all holds of each in turn
@@ -51,15 +50,10 @@ placeable m (s ∷ rest) live once inside =
     by_test kept moved true = moved
     by_test kept moved false = kept
 
-pub can_place_asked : (m : Mesh) (asked : Shifts) → NameLive m asked → first_outside m asked ≡ None → CanPlace m asked
-can_place_asked m asked named inside = let names = name_once m asked named in placeable m asked names.live names.once (all_inside m asked inside)
+pub can_place_taken : (m : Mesh) (taken : Shifts) → NameLive m taken → end_in_box m taken ≡ true → CanPlace m taken
+can_place_taken m taken named inside = let names = name_once m taken named in placeable m taken names.live names.once inside
 
--- the same vertices are live after a step, and none is asked anything
-ids_of_still : (asked : Shifts) → map (λ s. s.v) (all_still asked) ≡ map (λ s. s.v) asked
+-- the same vertices are named
+pub ids_of_still : (asked : Shifts) → map (λ s. s.v) (all_still asked) ≡ map (λ s. s.v) asked
 ids_of_still [] = refl
 ids_of_still (s ∷ rest) = ap (λ l. s.v ∷ l) (ids_of_still rest)
-
-pub names_after_step : (m : Mesh) (asked : Shifts) → NameLive m asked → NameLive (moved_mesh m asked) (all_still asked)
-names_after_step m asked named =
-    let names = name_once_filtered m moves asked (name_once m asked named) in
-    ids_of_still asked ∙ named ∙ sym (keys-with_moves m (moving asked) names.live)

@@ -9,6 +9,9 @@ use Rattle.mesh_base.specs.Mesh.{Mesh}
 use Rattle.mesh_base.specs.Shifts.{Shifts}
 use Rattle.mesh_base.specs.declared.MeshLists.{MeshLists}
 use Rattle.step_text.specs.declared.Placed.{Placed}
+use Rattle.step_text.specs.Ranges.{AreInRange}
+use Rattle.step_choose.specs.declared.Settings.{Settings}
+use Rattle.step_choose.specs.Settings.{at_first}
 use Rattle.log_text.specs.Lines.{text_of_lines, text_of_line}
 use Rattle.log_text.specs.declared.Refusal.{Refusal}
 use Rattle.log_text.specs.declared.Refusal.TheVariants as refusal
@@ -36,6 +39,7 @@ use Rattle.track_run.specs.Parts.{Prepares, Reads, TracksJob, told_of_ready, giv
 use Rattle.track_run.proofs.Sources.{some_source}
 use Rattle.track_run.proofs.Worlds.{logs_then, stops_then, stops_more, stops_nothing, stops_line}
 use Rattle.track_run.proofs.Keeping.{keeps_log}
+use Rattle.track_run.proofs.Promises.{step_is_told}
 use Rattle.track_run.proofs.CauseLemmas.{log_cause, cause_ends}
 
 -- ---- what is read
@@ -90,7 +94,7 @@ module _ (files : Option Files) (named : Named) (f g : Fetched) (bytes : List �
     job = record { decimals = named.decimals; mesh_file = Bytes bytes; step_file = Bytes steps };
     is_job = record { decimals = refl; mesh = mesh_source; steps = (let P : Source → Type 0 = λ x. IsSource files named.steps x in subst P ge gs) };
     told = reads.0;
-    is_mesh = (reads.1, reads.2, reads.3);
+    is_mesh = (reads.1, reads.2, reads.3, reads.4);
   }
 
   pub prepares_read : (steps : List ℕ) → source_of g ≡ Bytes steps → (r : Ready) → Reads named.decimals bytes steps r → Prepares files named r
@@ -112,12 +116,13 @@ begin_follows to m steps a b c (Ok ending) l f = (logs_then to (at_mesh m) (mesh
 begin_follows to m steps a b c (Err stop) l f = stops_then stop to (at_mesh m) (mesh_line 0 m ∷ []) (told_from steps (start m)).lines a b c l f
 
 -- the directives begin with no vertex asked to move
-pub begin_at : (to : Target) (m : Mesh) (asked : Shifts) (given_steps steps : List Placed) (a b c : World) (r : Result (Option Refusal) Stop) → asked ≡ no_shifts m → given_steps ≡ steps → Logs to (at_mesh m) (mesh_line 0 m ∷ []) a b
-    → Follows to (at_mesh m) (told_from given_steps (record { mesh = m; asked = asked; steps = 0; saved = 1 })) b c r → Follows to (at_mesh m) (told_of m steps) a c r
-begin_at to m asked given_steps steps a b c r none same l f =
-    let P : Shifts → Type 0 = λ asked. Follows to (at_mesh m) (told_from given_steps (record { mesh = m; asked = asked; steps = 0; saved = 1 })) b c r in
+pub begin_at : (to : Target) (m : Mesh) (asked : Shifts) (set : Settings) (given_steps steps : List Placed) (a b c : World) (r : Result (Option Refusal) Stop) → asked ≡ no_shifts m → set ≡ at_first → given_steps ≡ steps → Logs to (at_mesh m) (mesh_line 0 m ∷ []) a b
+    → Follows to (at_mesh m) (told_from given_steps (record { mesh = m; asked = asked; set = set; steps = 0; saved = 1 })) b c r → Follows to (at_mesh m) (told_of m steps) a c r
+begin_at to m asked set given_steps steps a b c r none first same l f =
+    let P : Shifts → Type 0 = λ asked. Follows to (at_mesh m) (told_from given_steps (record { mesh = m; asked = asked; set = set; steps = 0; saved = 1 })) b c r in
+    let R : Settings → Type 0 = λ set. Follows to (at_mesh m) (told_from given_steps (record { mesh = m; asked = no_shifts m; set = set; steps = 0; saved = 1 })) b c r in
     let Q : List Placed → Type 0 = λ steps. Follows to (at_mesh m) (told_from steps (start m)) b c r in
-    begin_follows to m steps a b c r l (subst Q same (subst P none f))
+    begin_follows to m steps a b c r l (subst Q same (subst R first (subst P none f)))
 
 -- nothing after the first mesh
 pub begin_nothing : (to : Target) (m : Mesh) (steps : List Placed) (a b : World) (stop : Stop) → Logs to (at_mesh m) (mesh_line 0 m ∷ []) a b → StopsIn stop to (at_mesh m) (told_of m steps).lines a b
@@ -214,9 +219,9 @@ tested_meets to m steps files old new pair r o first some said part ending =
     let P : Option PairName → Type 0 = λ o. Follows to (at_mesh m) (told_of_meeting m steps o) (record { files = files; written = old }) (record { files = files; written = new }) r in
     subst P (sym some ∙ first) (meets_at_first to m steps files old new pair r said part ending)
 
--- what was read is of good shape
-pub ready_is_good : (files : Option Files) (named : Named) (found : Ready) (lists : MeshLists) (steps : List Placed) → found ≡ ready.Yes lists steps → Prepares files named found → AreGood lists × (length steps < 2 ^ 31)
-ready_is_good files named found lists steps is p = let q = prepared_at files named found (ready.Yes lists steps) is p in (q.is_mesh.1, q.is_mesh.2)
+-- what was read is of good shape, and what its directives set is within the limits
+pub ready_is_good : (files : Option Files) (named : Named) (found : Ready) (lists : MeshLists) (steps : List Placed) → found ≡ ready.Yes lists steps → Prepares files named found → AreGood lists × (length steps < 2 ^ 31) × AreInRange steps
+ready_is_good files named found lists steps is p = let q = prepared_at files named found (ready.Yes lists steps) is p in (q.is_mesh.1, q.is_mesh.2, q.is_mesh.3)
 
 -- ---- the headline
 
@@ -250,6 +255,7 @@ run_ends named old new result (Ok ending) e t = (
     outcome = e;
     log = t.follows;
     kept = keeps_log t.job;
+    steps = step_is_told;
     cause = whole_cause t.job result ending e t.follows.1;
     no_other = whole_alone t.job result ending e t.follows.1;
   },
@@ -262,6 +268,7 @@ run_ends named old new result (Err stop) e t = (
     outcome = e;
     log = t.follows;
     kept = keeps_log t.job;
+    steps = step_is_told;
     cause = (let P : Outcome → Type 0 = λ o. Cause t.job o in subst P (sym e) (stop_cause t.job stop));
     no_other = λ other h. inr (inr (let P : Outcome → Type 0 = λ o. IsStopped o in subst P (sym e) (stop_stops stop)));
   },

@@ -1,10 +1,13 @@
--- What directives leave of the names of the asked shifts, and a save that stops.
-use Rattle.std.proofs.Common.{◌≡◌, ℕ, ◌+◌, List, [], ◌∷◌, map, Option, None, Result, Ok, Err, IfOk, refl, ap, sym, ◌∙◌, subst, inr}
+-- The names of asked shifts, and a save that stops.
+use Rattle.std.proofs.Common.{◌≡◌, ℕ, ◌+◌, ◌<◌, suc, length, drop, get_or, add-one, List, [], ◌∷◌, map, Option, None, Result, Ok, Err, IfOk, refl, ap, sym, ◌∙◌, subst, inr}
 use Rattle.std.specs.FinMap as finite
 use Rattle.grid_base.specs.declared.Shift.{Shift}
 use Rattle.mesh_base.specs.declared.UseWhy.{UseWhy}
 use Rattle.mesh_base.specs.Mesh.{Mesh}
 use Rattle.mesh_base.specs.Shifts.{Shifts, NameLive}
+use Rattle.std.proofs.Math.Seq.{drop-cons}
+use Rattle.step_text.specs.declared.Placed.{Placed}
+use Rattle.step_text.specs.Ranges.{IsInRange, AreInRange}
 use Rattle.step_text.specs.declared.Directive.{Directive}
 use Rattle.step_text.specs.declared.Directive.TheVariants as directive
 use Rattle.track_run.specs.declared.outcome.Stop.{Stop}
@@ -13,27 +16,11 @@ use Rattle.track_run.specs.State.{State, state_of, at_mesh, no_shifts, still_at}
 use Rattle.track_run.specs.Turns.{turn, mesh_line, all_summed}
 use Rattle.track_run.specs.Saved.{Target}
 use Rattle.track_run.specs.World.{World, StopsIn}
-use Rattle.track_run.specs.Parts.{TurnsTo, StepTakes, Advances}
-use Rattle.track_run.proofs.StepLemmas.{names_after_step}
+use Rattle.track_run.specs.Parts.{Advances}
 
 pub ids_of_sums : (by : Shift) (asked : Shifts) → map (λ s. s.v) (all_summed by asked) ≡ map (λ s. s.v) asked
 ids_of_sums by [] = refl
 ids_of_sums by (s ∷ rest) = ap (λ l. s.v ∷ l) (ids_of_sums by rest)
-
--- a shift that is added keeps the names
-pub names_after_shift : (m : Mesh) (by : Shift) (old new : Course) (r : Result (Option UseWhy) Stop) → NameLive m old.asked → IfOk r (TurnsTo by old new) → r ≡ Ok None → NameLive m new.asked
-names_after_shift m by old new r named turns e =
-    let P : Result (Option UseWhy) Stop → Type 0 = λ r. IfOk r (TurnsTo by old new) in
-    let sums = subst P e turns in
-    ap (λ (asked : Shifts). map (λ s. s.v) asked) sums.1 ∙ ids_of_sums by old.asked ∙ named
-
--- and so does a step
-pub names_after_taken : (m after : Mesh) (old new : Course) (a b : Option (List ℕ)) (r : Result (Option UseWhy) Stop) → NameLive m old.asked → StepTakes (state_of m old) (state_of after new) a b r → r ≡ Ok None → NameLive after new.asked
-names_after_taken m after old new a b r named takes e =
-    let P : Result (Option UseWhy) Stop → Type 0 = λ r. StepTakes (state_of m old) (state_of after new) a b r in
-    let taken = subst P e takes in
-    let Q : State → Type 0 = λ s. NameLive s.mesh s.asked in
-    subst Q (sym taken.1) (names_after_step m old.asked named)
 
 -- a save that stops in its line, or before its mesh is stored
 pub save_part : (stop : Stop) (to : Target) (what : Directive) (s t : State) (old new : World) → what ≡ directive.Save → StopsIn stop to (at_mesh s.mesh) (mesh_line s.saved s.mesh ∷ []) old new → Advances to (turn what s) s t old new (Err stop)
@@ -48,3 +35,9 @@ ids_at_rest (v ∷ ids) = ap (λ l. v ∷ l) (ids_at_rest ids)
 
 pub names_at_first : (m : Mesh) (asked : Shifts) → asked ≡ no_shifts m → NameLive m asked
 names_at_first m asked e = ap (λ (l : Shifts). map (λ s. s.v) l) e ∙ ids_at_rest (finite.keys m.points)
+
+-- the next directive and those after it are in range
+pub range_here : (steps : List Placed) (i : ℕ) (placed : Placed) → i < length steps → placed ≡ get_or steps i placed → AreInRange (drop i steps) → IsInRange placed.what × AreInRange (drop (i + 1) steps)
+range_here steps i placed h at ranges =
+    let P : List Placed → Type 0 = λ l. AreInRange l in
+    subst P (drop-cons steps i placed h ∙ ap (λ t. t ∷ drop (suc i) steps) (sym at) ∙ ap (λ n. placed ∷ drop n steps) (sym (add-one i))) ranges

@@ -2,6 +2,8 @@ pub mod Status
 pub mod Words
 pub mod State
 pub mod Turns
+pub mod Standing
+pub mod Promise
 pub mod Job
 pub mod Saved
 pub mod Said

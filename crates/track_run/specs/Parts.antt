@@ -1,10 +1,10 @@
 -- What the parts of a run say.
 use Rattle.std.specs.Prelude.{◌≡◌, ◌<◌, ◌⊎◌, ℕ, ◌^◌, List, [], ◌∷◌, length, Option, Some, None, Result, Ok, Err}
-use Rattle.grid_base.specs.declared.Shift.{Shift}
 use Rattle.mesh_base.specs.declared.UseWhy.{UseWhy}
 use Rattle.mesh_base.specs.Mesh.{Mesh}
 use Rattle.obj_text.specs.Obj.{lists_of}
 use Rattle.step_text.specs.declared.Directive.TheVariants.{Step}
+use Rattle.step_text.specs.Ranges.{AreInRange}
 use Rattle.log_text.specs.Lines.{text_of_lines}
 use Rattle.log_text.specs.declared.LogLine.{LogLine}
 use Rattle.log_text.specs.declared.Refusal.{Refusal}
@@ -15,11 +15,10 @@ use Rattle.mesh_base.specs.declared.MeshLists.{MeshLists}
 use Rattle.mesh_base.specs.Given.{mesh_of}
 use Rattle.mesh_plain.specs.Shape.{shape_fault}
 use Rattle.track_run.specs.declared.outcome.Stop.{Stop}
-use Rattle.track_run.specs.declared.course.Course.{Course}
 use Rattle.track_run.specs.declared.reading.Ready.{Ready}
 use Rattle.track_run.specs.declared.reading.Ready.TheVariants as ready
 use Rattle.track_run.specs.State.{State, standing, at_mesh}
-use Rattle.track_run.specs.Turns.{Turn, Goes, Stops, Told, turn, first_beyond, all_summed, step_lines, after_step, mesh_line, refused}
+use Rattle.track_run.specs.Turns.{Turn, Goes, Stops, Told, turn, step_lines, after_step, mesh_line, refused}
 use Rattle.track_run.specs.Words.{Named}
 use Rattle.track_run.specs.Job.{Job, IsJob, told_of_files, told_of_lists, told_of_meeting, met_first, log_of, mesh_in, mesh_read, replay_of}
 use Rattle.track_run.specs.Said.{SaidInPart}
@@ -57,12 +56,6 @@ StepTakes old_state new_state old new (Ok None) = (turn Step old_state ≡ Goes 
 StepTakes old_state new_state old new (Ok (Some why)) = (turn Step old_state ≡ Stops why) × (new ≡ old)
 StepTakes old_state new_state old new (Err stop) = (new ≡ old) ⊎ ((turn Step old_state ≡ Goes (step_lines old_state) (after_step old_state)) × SaidInPart old new (step_lines old_state))
 
--- a shift is added, or the first vertex is named for which it can't be
-abbrev pub TurnsTo : Shift → Course → Course → Option UseWhy → Type 0
-TurnsTo by old new None = (first_beyond by old.asked ≡ None) × (new.asked ≡ all_summed by old.asked)
-TurnsTo by old new (Some (UseWhy.ShiftRange v)) = (first_beyond by old.asked ≡ Some v)
-TurnsTo by old new (Some (UseWhy.Box v)) = ⊥
-
 -- the mesh of lists that were read
 abbrev pub given : MeshLists → Mesh
 given lists = mesh_of lists.points lists.faces
@@ -80,12 +73,12 @@ told_of_ready (ready.Yes lists steps) = told_of_meeting (given lists) steps (met
 abbrev pub Reads : ℕ → List ℕ → List ℕ → Ready → Type 0
 Reads decimals mesh steps (ready.No why) = told_of_lists (lists_of decimals mesh) steps ≡ refused why
 Reads decimals mesh steps (ready.Yes lists directives) =
-    (told_of_lists (lists_of decimals mesh) steps ≡ told_of_ready (ready.Yes lists directives)) × (given lists ≡ mesh_read (lists_of decimals mesh)) × AreGood lists × (length directives < 2 ^ 31)
+    (told_of_lists (lists_of decimals mesh) steps ≡ told_of_ready (ready.Yes lists directives)) × (given lists ≡ mesh_read (lists_of decimals mesh)) × AreGood lists × (length directives < 2 ^ 31) × AreInRange directives
 
 -- the mesh that was read is the job's
 abbrev pub IsMeshOf : Job → Ready → Type 0
 IsMeshOf job (ready.No why) = Unit {0}
-IsMeshOf job (ready.Yes lists directives) = (given lists ≡ mesh_in job.decimals job.mesh_file) × AreGood lists × (length directives < 2 ^ 31)
+IsMeshOf job (ready.Yes lists directives) = (given lists ≡ mesh_in job.decimals job.mesh_file) × AreGood lists × (length directives < 2 ^ 31) × AreInRange directives
 
 -- what the words' files give
 pub record Prepares (files : Option Files) (named : Named) (found : Ready) : Type 0 where

@@ -5,13 +5,16 @@ use Rattle.grid_base.specs.Points.{no_shift}
 use Rattle.mesh_base.specs.declared.ShiftOf.{ShiftOf}
 use Rattle.mesh_base.specs.Mesh.{Mesh}
 use Rattle.mesh_base.specs.Shifts.{Shifts}
+use Rattle.step_choose.specs.declared.Settings.{Settings}
+use Rattle.step_choose.specs.Settings.{at_first}
 use Rattle.log_text.specs.Replay.{Replay}
 use Rattle.track_run.specs.declared.course.Course.{Course}
 
--- the mesh, the asked shifts, and the numbers of steps taken and of meshes saved so far
+-- the mesh, the asked shifts, the settings, and the numbers of steps taken and of meshes saved so far
 pub record State : Type 0 where
   pub mesh : Mesh
   pub asked : Shifts
+  pub set : Settings
   pub steps : ℕ
   pub saved : ℕ
 
@@ -25,11 +28,11 @@ no_shifts m = map still_at (finite.keys m.points)
 
 -- where the directives begin: mesh 0 is saved
 abbrev pub start : Mesh → State
-start m = record { mesh = m; asked = no_shifts m; steps = 0; saved = 1 }
+start m = record { mesh = m; asked = no_shifts m; set = at_first; steps = 0; saved = 1 }
 
 -- a run's state, without where it lies in memory
 abbrev pub state_of : Mesh → Course → State
-state_of m course = record { mesh = m; asked = course.asked; steps = course.steps; saved = course.saved }
+state_of m course = record { mesh = m; asked = course.asked; set = course.set; steps = course.steps; saved = course.saved }
 
 -- the replay of a log that led to the mesh, between two steps
 abbrev pub at_mesh : Mesh → Replay

@@ -1,5 +1,5 @@
 -- What each directive does, and the log of all of them.
-use Rattle.std.specs.Prelude.{ℕ, ◌+◌, Bool, not, List, [], ◌∷◌, ◌++◌, map, Option, Some, None}
+use Rattle.std.specs.Prelude.{ℕ, ◌+◌, ◌==◌, Bool, not, List, [], ◌∷◌, ◌++◌, map, Option, Some, None, Result, Ok, Err, if◌then◌else◌}
 use Rattle.std.specs.Option.{option_map}
 use Rattle.std.specs.List.{find, filter}
 use Rattle.std.specs.FinMap as finite
@@ -8,19 +8,23 @@ use Rattle.grid_base.specs.declared.Shift.{Shift}
 use Rattle.grid_base.specs.Triples.{Triple, plus}
 use Rattle.grid_base.specs.Points.{displacement_of, is_within}
 use Rattle.mesh_base.specs.declared.ShiftOf.{ShiftOf}
-use Rattle.mesh_base.specs.declared.How.TheVariants.{Whole}
+use Rattle.mesh_base.specs.declared.PairName.{PairName}
 use Rattle.mesh_base.specs.declared.UseWhy.{UseWhy}
-use Rattle.mesh_base.specs.declared.UseWhy.TheVariants.{ShiftRange, Box}
+use Rattle.mesh_base.specs.declared.UseWhy.TheVariants.{NoVertex, ShiftRange, Box}
 use Rattle.mesh_base.specs.Mesh.{Mesh}
 use Rattle.mesh_base.specs.Placements.{own_points}
 use Rattle.mesh_base.specs.Shifts.{Shifts, with_shift, with_moves}
+use Rattle.mesh_base.specs.Failing.{failing}
+use Rattle.grid_decided.specs.Decided.{meets_exactly}
+use Rattle.step_choose.specs.declared.Settings.{Settings}
+use Rattle.step_choose.specs.Choice.{Way, way_taken}
 use Rattle.step_text.specs.declared.Directive.{Directive}
 use Rattle.step_text.specs.declared.Directive.TheVariants as directive
 use Rattle.step_text.specs.declared.Placed.{Placed}
 use Rattle.log_text.specs.declared.Refusal.{Refusal}
 use Rattle.log_text.specs.declared.Refusal.TheVariants.{StepUse}
 use Rattle.log_text.specs.declared.LogLine.{LogLine}
-use Rattle.log_text.specs.declared.LogLine.TheVariants.{Step, Move, Moved, Mesh as MeshLine, End, Refused}
+use Rattle.log_text.specs.declared.LogLine.TheVariants.{Step, Hit, Move, Moved, Mesh as MeshLine, End, Refused}
 use Rattle.track_run.specs.State.{State, still_at}
 
 -- ---- shifts that are asked
@@ -36,6 +40,30 @@ first_beyond by asked = option_map (λ s. s.v) (find (λ s. not (is_within SHIFT
 -- the shift is added to what is asked of each vertex
 abbrev pub all_summed : Shift → Shifts → Shifts
 all_summed by asked = map (λ s. with_shift s (summed by s)) asked
+
+-- the same, or the first vertex whose summed shift is above the limit
+abbrev pub sum_or_range : Option ℕ → Shift → Shifts → Result Shifts UseWhy
+sum_or_range None by asked = Ok (all_summed by asked)
+sum_or_range (Some v) by asked = Err (ShiftRange v)
+
+abbrev pub sum_of_all : Shift → Shifts → Result Shifts UseWhy
+sum_of_all by asked = sum_or_range (first_beyond by asked) by asked
+
+-- what is asked of a vertex; something is asked of each that lives, if only to stay
+abbrev pub asked_of : ℕ → Shifts → Option ShiftOf
+asked_of v asked = find (λ s. s.v == v) asked
+
+-- the shift is added to what is asked of one vertex
+abbrev pub one_summed : ℕ → Shift → Shifts → Shifts
+one_summed v by asked = map (λ s. if s.v == v then with_shift s (summed by s) else s) asked
+
+-- the same, or why not: no such vertex lives, or its summed shift is above the limit
+abbrev pub sum_at : Option ShiftOf → ℕ → Shift → Shifts → Result Shifts UseWhy
+sum_at None v by asked = Err (NoVertex v)
+sum_at (Some s) v by asked = if is_within SHIFT_MAX (summed by s) then Ok (one_summed v by asked) else Err (ShiftRange v)
+
+abbrev pub sum_of_one : ℕ → Shift → Shifts → Result Shifts UseWhy
+sum_of_one v by asked = sum_at (asked_of v asked) v by asked
 
 -- ---- a step
 
@@ -67,12 +95,27 @@ moved_mesh m shifts = with_moves m (moving shifts)
 abbrev pub all_still : Shifts → Shifts
 all_still shifts = map (λ s. still_at s.v) shifts
 
--- the lines of a step that takes the asked shifts unaltered
+-- the pairs that do not pass in the asked step, in order
+unfoldable pub hits : State → List PairName
+hits s = failing meets_exactly s.mesh s.asked s.set.depth
+
+-- how the step is taken: by the asked shifts, where all pairs pass, and otherwise by the first way that applies
+unfoldable pub taken : State → Way
+taken s = way_taken meets_exactly s.mesh s.asked s.set
+
+-- a `hit` line for each pair
+abbrev pub hit_lines : List PairName → List LogLine
+hit_lines pairs = map (λ p. Hit p) pairs
+
+-- the lines of a step: its hits, its moves, and how it was taken
+abbrev pub lines_of_step : ℕ → List PairName → Way → List LogLine
+lines_of_step k pairs way = Step k ∷ (hit_lines pairs ++ (move_lines way.taken ++ Moved way.how ∷ []))
+
 abbrev pub step_lines : State → List LogLine
-step_lines s = Step (s.steps + 1) ∷ (move_lines s.asked ++ Moved Whole ∷ [])
+step_lines s = lines_of_step (s.steps + 1) (hits s) (taken s)
 
 abbrev pub after_step : State → State
-after_step s = record { mesh = moved_mesh s.mesh s.asked; asked = all_still s.asked; steps = s.steps + 1; saved = s.saved }
+after_step s = record { mesh = moved_mesh s.mesh (taken s).taken; asked = all_still s.asked; set = s.set; steps = s.steps + 1; saved = s.saved }
 
 -- ---- a directive
 
@@ -81,9 +124,13 @@ pub data Turn : Type 0 where
   Goes : (lines : List LogLine) (next : State) → Turn
   Stops : (why : UseWhy) → Turn
 
-abbrev pub shift_turn : Option ℕ → Shift → State → Turn
-shift_turn (Some v) by s = Stops (ShiftRange v)
-shift_turn None by s = Goes [] (record s { asked = all_summed by s.asked })
+abbrev pub shift_turn : Result Shifts UseWhy → State → Turn
+shift_turn (Ok asked) s = Goes [] (record s { asked = asked })
+shift_turn (Err why) s = Stops why
+
+-- from here on the settings are these
+abbrev pub set_turn : Settings → State → Turn
+set_turn set s = Goes [] (record s { set = set })
 
 abbrev pub step_turn : Option ℕ → State → Turn
 step_turn (Some v) s = Stops (Box v)
@@ -94,7 +141,12 @@ abbrev pub mesh_line : ℕ → Mesh → LogLine
 mesh_line k m = MeshLine k (finite.len m.points) (finite.len m.faces)
 
 abbrev pub turn : Directive → State → Turn
-turn (directive.ShiftAll by) s = shift_turn (first_beyond by s.asked) by s
+turn (directive.SetDepth depth) s = set_turn (record s.set { depth = depth }) s
+turn (directive.SetPasses passes) s = set_turn (record s.set { passes = passes }) s
+turn (directive.SetZones zones) s = set_turn (record s.set { zones = zones }) s
+turn (directive.SetHalvings halvings) s = set_turn (record s.set { halvings = halvings }) s
+turn (directive.ShiftOne v by) s = shift_turn (sum_of_one v by s.asked) s
+turn (directive.ShiftAll by) s = shift_turn (sum_of_all by s.asked) s
 turn directive.Step s = step_turn (first_outside s.mesh s.asked) s
 turn directive.Save s = Goes (mesh_line s.saved s.mesh ∷ []) (record s { saved = s.saved + 1 })
 

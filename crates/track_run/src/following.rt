@@ -1,7 +1,9 @@
 ghost use Rattle.std.specs.Prelude.{◌≡◌, ◌≤◌, ◌<◌, ◌+◌, ◌^◌, length};
-ghost use Rattle.mesh_base.specs.Shifts.{NameLive};
+ghost use Rattle.step_text.specs.Ranges.{AreInRange};
+ghost use Rattle.step_choose.specs.Settings.{AreWithinLimits};
 ghost use Rattle.track_run.specs.State.{state_of, standing};
 ghost use Rattle.track_run.specs.Turns.{told_from};
+ghost use Rattle.track_run.specs.Standing.{IsKept};
 ghost use Rattle.track_run.specs.Names.{target_of};
 ghost use Rattle.track_run.specs.World.{world, HasCauses, Follows};
 
@@ -27,7 +29,9 @@ pub(crate) fn follow<S: Surface, D: Desk, K: Sink>(
     out: &mut K,
 ) -> Result<Option<Refusal>, Stop>
     requires few { names.decimals ≤ 6 }
-    requires asked { NameLive (S.mesh mesh.old) course.old.asked }
+    requires ranges { AreInRange steps.now }
+    requires kept { IsKept (state_of (S.mesh mesh.old) course.old) }
+    requires limits { AreWithinLimits course.old.set }
     requires count { length steps.now < 2 ^ 31 }
     requires steps_made { course.old.steps ≡ 0 }
     requires saved { course.old.saved ≡ 1 }

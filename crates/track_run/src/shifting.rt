@@ -4,10 +4,14 @@ ghost use Rattle.grid_base.specs.Triples.{IsWithin, plus};
 ghost use Rattle.grid_base.specs.Points.{displacement_of};
 ghost use Rattle.track_run.specs.State.{no_shifts, still_at};
 ghost use Rattle.track_run.specs.Turns.{moves, all_still};
-ghost use Rattle.track_run.specs.Shifting.{Sums};
+ghost use Rattle.std.specs.List.Sorted.{IsStrictlySortedBy};
+ghost use Rattle.std.specs.Ordering.{nat_cmp};
+ghost use Rattle.track_run.specs.Turns.{sum_of_one};
+ghost use Rattle.track_run.specs.Shifting.{Sums, AsksNow};
 
 use grid_base::{NoMemory, SHIFT_MAX, Shift};
-use mesh_plain::{ShiftOf, Shifts, Surface, VertexId, live_vertices};
+use mesh_plain::{ShiftOf, Shifts, Surface, UseWhy, VertexId, live_vertices};
+use pair_scan::place_of;
 use std::alloc::Global;
 
 const NO_SHIFT: Shift = Shift { x: 0, y: 0, z: 0 };
@@ -86,6 +90,25 @@ pub(crate) fn all_summed(
         }
     }
     Ok(Ok(shifts))
+}
+
+/// Adds a shift to what is asked of one vertex, or answers why it can't be added. Takes no memory.
+pub(crate) fn sum_one(asked: &mut Shifts, v: u32, by: Shift) -> Option<UseWhy>
+    requires { IsStrictlySortedBy nat_cmp (map (λ s. s.v) asked.old) }
+    ensures { AsksNow (sum_of_one v by asked.old) asked.new result }
+{
+    let Some(place) = place_of(asked.as_slice(), VertexId(v)) else {
+        return Some(UseWhy::NoVertex { v });
+    };
+    let Some(s) = asked.get(place) else {
+        unreachable!()
+    };
+    let s = *s;
+    let Some(by) = sum(s.by, by) else {
+        return Some(UseWhy::ShiftRange { v });
+    };
+    asked.set(place, ShiftOf { v: s.v, by });
+    None
 }
 
 /// Whether the shift moves its vertex.

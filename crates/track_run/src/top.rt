@@ -1,7 +1,10 @@
 ghost use Rattle.std.specs.Prelude.{◌≡◌, ◌≤◌, ◌<◌, ◌^◌, length, map, string_bytes};
 ghost use Rattle.grid_base.specs.declared.TheConstants.{TEXT_MAX};
+ghost use Rattle.mesh_base.specs.Sides.{IsClosed};
+ghost use Rattle.step_text.specs.Ranges.{AreInRange};
 ghost use Rattle.outside_io.specs.Causes.{Rose};
 ghost use Rattle.track_run.specs.State.{at_mesh};
+ghost use Rattle.track_run.specs.Standing.{IsGood};
 ghost use Rattle.track_run.specs.Job.{told_of, told_of_meeting, met_first};
 ghost use Rattle.track_run.specs.Words.{named_in};
 ghost use Rattle.track_run.specs.Names.{named_by, target_of};
@@ -21,6 +24,7 @@ use mesh_plain::{PlainMesh, Surface};
 use outside_io::{Desk, Sink};
 use pair_scan::first_meeting;
 use std::alloc::Global;
+use step_choose::Settings;
 use step_text::Directives;
 
 // The outcome that the last line of a whole log tells.
@@ -39,7 +43,7 @@ fn outcome_of(ending: Option<Refusal>) -> Outcome
     }
 }
 
-// The first mesh is saved, and then the directives are followed.
+// The first mesh, which is good, is saved, and then the directives are followed.
 fn begin<S: Surface, D: Desk, K: Sink>(
     alloc: Global,
     names: Names<'_>,
@@ -49,6 +53,8 @@ fn begin<S: Surface, D: Desk, K: Sink>(
     out: &mut K,
 ) -> Result<Option<Refusal>, Stop>
     requires few { names.decimals ≤ 6 }
+    requires good { IsGood (S.mesh mesh.old) }
+    requires ranges { AreInRange steps.now }
     requires count { length steps.now < 2 ^ 31 }
     ensures follows { Follows (target_of names.entry) (at_mesh (S.mesh mesh.old)) (told_of (S.mesh mesh.old) steps.now)
         (world D.files K.written desk.old out.old) (world D.files K.written desk.new out.new) result }
@@ -61,6 +67,7 @@ fn begin<S: Surface, D: Desk, K: Sink>(
     };
     let mut course = Course {
         asked,
+        set: Settings::at_first(),
         steps: 0,
         saved: 1,
     };
@@ -77,6 +84,8 @@ fn test_and_begin<S: Surface, D: Desk, K: Sink>(
     out: &mut K,
 ) -> Result<Option<Refusal>, Stop>
     requires few { names.decimals ≤ 6 }
+    requires closed { IsClosed (S.mesh mesh.old) }
+    requires ranges { AreInRange steps.now }
     requires count { length steps.now < 2 ^ 31 }
     ensures follows { Follows (target_of names.entry) (at_mesh (S.mesh mesh.old)) (told_of_meeting (S.mesh mesh.old) steps.now (met_first (S.mesh mesh.old)))
         (world D.files K.written desk.old out.old) (world D.files K.written desk.new out.new) result }

@@ -1,29 +1,33 @@
 ghost use Rattle.std.specs.Prelude.{◌≡◌, ◌≤◌, ◌<◌, ◌+◌, ◌^◌, IfOk, IfErr, IsErrOf};
-ghost use Rattle.mesh_base.specs.Shifts.{NameLive};
+ghost use Rattle.step_text.specs.Ranges.{IsInRange};
+ghost use Rattle.step_choose.specs.Settings.{AreWithinLimits};
 ghost use Rattle.outside_io.specs.Causes.{Rose};
 ghost use Rattle.track_run.specs.State.{state_of};
-ghost use Rattle.track_run.specs.Turns.{turn, shift_turn, first_beyond};
+ghost use Rattle.track_run.specs.Turns.{turn, sum_of_all};
 ghost use Rattle.track_run.specs.Names.{target_of};
 ghost use Rattle.track_run.specs.World.{world, HasCauses};
-ghost use Rattle.track_run.specs.Parts.{Advances, TurnsTo, StepTakes};
+ghost use Rattle.track_run.specs.Parts.{Advances, StepTakes};
+ghost use Rattle.track_run.specs.Shifting.{AsksNow};
+ghost use Rattle.track_run.specs.Standing.{IsKept};
 
 use crate::course::Course;
 use crate::outcome::Stop;
 use crate::placing::{first_outside, place_all};
 use crate::saving::save;
-use crate::shifting::{all_still, all_summed};
+use crate::shifting::{all_still, all_summed, sum_one};
 use crate::stepping::say_step;
 use crate::words::Names;
 use grid_base::Shift;
 use mesh_plain::{Surface, UseWhy};
 use outside_io::{Desk, Sink};
 use std::alloc::Global;
+use step_choose::choose;
 use step_text::Directive;
 
 // A shift is added to what is asked of each vertex. No line is written.
-fn add_shift(alloc: Global, course: &mut Course, by: Shift) -> Result<Option<UseWhy>, Stop>
-    ensures turns { IfOk result (TurnsTo by course.old course.new) }
-    ensures counts { (course.new.steps ≡ course.old.steps) × (course.new.saved ≡ course.old.saved) }
+fn add_to_all(alloc: Global, course: &mut Course, by: Shift) -> Result<Option<UseWhy>, Stop>
+    ensures asks { IfOk result (AsksNow (sum_of_all by course.old.asked) course.new.asked) }
+    ensures rest { course.new ≡ record course.old { asked = course.new.asked } }
     ensures stops { IfErr result (λ stop. stop ≡ Stop.NoMemory) }
 {
     match all_summed(alloc, course.asked.as_slice(), by) {
@@ -43,10 +47,12 @@ fn take_step<S: Surface, K: Sink>(
     course: &mut Course,
     out: &mut K,
 ) -> Result<Option<UseWhy>, Stop>
-    requires asked { NameLive (S.mesh mesh.old) course.old.asked }
+    requires kept { IsKept (state_of (S.mesh mesh.old) course.old) }
+    requires limits { AreWithinLimits course.old.set }
     requires steps { course.old.steps + 1 < 2 ^ 32 }
     ensures takes { StepTakes (state_of (S.mesh mesh.old) course.old) (state_of (S.mesh mesh.new) course.new) (K.written out.old) (K.written out.new) result }
     ensures saved { course.new.saved ≡ course.old.saved }
+    ensures set { course.new.set ≡ course.old.set }
     ensures steps { course.new.steps ≤ course.old.steps + 1 }
     ensures later { K.faults out.old ≤ K.faults out.new }
     ensures cause { IsErrOf result Stop.SinkFault → Rose (K.faults out.old) (K.faults out.new) }
@@ -55,14 +61,16 @@ fn take_step<S: Surface, K: Sink>(
     if let Some(v) = first_outside(mesh, course.asked.as_slice()) {
         return Ok(Some(UseWhy::Box { v: v.0 }));
     }
-    let still = match all_still(alloc, course.asked.as_slice()) {
-        Ok(still) => still,
-        Err(_) => return Err(Stop::NoMemory),
+    let Ok(choice) = choose(alloc, mesh, &course.asked, course.set) else {
+        return Err(Stop::NoMemory);
     };
-    if place_all(mesh, course.asked.as_slice()).is_err() {
+    let Ok(still) = all_still(alloc, course.asked.as_slice()) else {
+        return Err(Stop::NoMemory);
+    };
+    if place_all(mesh, choice.taken.as_slice()).is_err() {
         return Err(Stop::NoMemory);
     }
-    say_step(alloc, course.steps + 1, course.asked.as_slice(), out)?;
+    say_step(alloc, course.steps + 1, &choice, out)?;
     course.asked = still;
     course.steps += 1;
     Ok(None)
@@ -79,18 +87,38 @@ pub(crate) fn advance<S: Surface, D: Desk, K: Sink>(
     out: &mut K,
 ) -> Result<Option<UseWhy>, Stop>
     requires few { names.decimals ≤ 6 }
-    requires asked { NameLive (S.mesh mesh.old) course.old.asked }
+    requires range { IsInRange what }
+    requires kept { IsKept (state_of (S.mesh mesh.old) course.old) }
+    requires limits { AreWithinLimits course.old.set }
     requires steps { course.old.steps + 1 < 2 ^ 32 }
     requires saved { course.old.saved + 1 < 2 ^ 32 }
     ensures advances { Advances (target_of names.entry) (turn what (state_of (S.mesh mesh.old) course.old)) (state_of (S.mesh mesh.old) course.old) (state_of (S.mesh mesh.new) course.new)
         (world D.files K.written desk.old out.old) (world D.files K.written desk.new out.new) result }
-    ensures asked { result ≡ Ok None → NameLive (S.mesh mesh.new) course.new.asked }
+    ensures kept { result ≡ Ok None → IsKept (state_of (S.mesh mesh.new) course.new) }
+    ensures limits { AreWithinLimits course.new.set }
     ensures steps_count { course.new.steps ≤ course.old.steps + 1 }
     ensures saved_count { course.new.saved ≤ course.old.saved + 1 }
     ensures causes { HasCauses (D.faults desk.old) (D.faults desk.new) (K.faults out.old) (K.faults out.new) result }
 {
     match what {
-        Directive::ShiftAll { by } => add_shift(alloc, course, by),
+        Directive::SetDepth(depth) => {
+            course.set.depth = depth;
+            Ok(None)
+        }
+        Directive::SetPasses(passes) => {
+            course.set.passes = passes;
+            Ok(None)
+        }
+        Directive::SetZones(zones) => {
+            course.set.zones = zones;
+            Ok(None)
+        }
+        Directive::SetHalvings(halvings) => {
+            course.set.halvings = halvings;
+            Ok(None)
+        }
+        Directive::ShiftOne { v, by } => Ok(sum_one(&mut course.asked, v, by)),
+        Directive::ShiftAll { by } => add_to_all(alloc, course, by),
         Directive::Step => take_step(alloc, mesh, course, out),
         Directive::Save => {
             save(alloc, names, course.saved, mesh, desk, out)?;

@@ -7,17 +7,23 @@ use Rattle.track_run.specs.Turns.{told_from}
 use Rattle.track_run.specs.Names.{target_of}
 use Rattle.track_run.specs.World.{world}
 use Rattle.track_run.proofs.SoFars.{so_far_none, goes_on, is_refused, turn_part, at_end, finished}
+use Rattle.track_run.proofs.TurnLemmas.{range_here}
 use Rattle.track_run.proofs.following.follow.Goals as goal
 
 pub loop-placed-init : goal.loop-placed-init
 loop-placed-init g c = record {
   so_far = so_far_none _ _ _ _;
-  asked = c.requires.asked;
+  kept = c.requires.kept;
+  limits = c.requires.limits;
+  ranges = c.requires.ranges;
   steps = omega (arith, c.requires.steps_made);
   saved = omega (arith, c.requires.saved);
   desk = omega arith;
   out = omega arith;
 }
+
+pub advance-requires-clause-range : goal.advance-requires-clause-range
+advance-requires-clause-range g c = (range_here c.args.steps.now c.loop-placed.placed-index c.placed-item.result c.loop-placed-test.true c.placed-item.is c.loop-placed.invariant.ranges).0
 
 pub returns-in_err-advance-clause-follows : goal.returns-in_err-advance-clause-follows
 returns-in_err-advance-clause-follows g c =
@@ -37,7 +43,9 @@ returns-in-Some-clause-follows g c =
 pub loop-placed-preserved : goal.loop-placed-preserved
 loop-placed-preserved g c = record {
   so_far = goes_on (target_of c.args.names) _ c.args.steps.now c.loop-placed.placed-index c.placed-item.result c.loop-placed-test.true c.placed-item.is _ _ _ _ _ c.loop-placed.invariant.so_far _ c.in_ok-advance.field-0 c.in-None.is c.in_ok-advance.ensures.advances;
-  asked = c.in_ok-advance.ensures.asked (ap Ok c.in-None.is);
+  kept = c.in_ok-advance.ensures.kept (ap Ok c.in-None.is);
+  limits = c.in_ok-advance.ensures.limits;
+  ranges = (range_here c.args.steps.now c.loop-placed.placed-index c.placed-item.result c.loop-placed-test.true c.placed-item.is c.loop-placed.invariant.ranges).1;
   steps = omega (arith, c.in_ok-advance.ensures.steps_count);
   saved = omega (arith, c.in_ok-advance.ensures.saved_count);
   desk = omega (arith, c.in_ok-advance.ensures.causes.desk);

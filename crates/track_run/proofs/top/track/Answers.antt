@@ -1,6 +1,8 @@
 use Rattle.std.proofs.Common.{Err, sym, subst}
 use Rattle.std.proofs.lemmas.Result.{err_from_is_err_and}
 use Rattle.std.specs.declared.option.Option.{Option}
+use Rattle.mesh_base.specs.Sides.{IsClosed}
+use Rattle.mesh_plain.proofs.Faults.{closed-mesh_of}
 use Rattle.outside_io.specs.Desk.{Files}
 use Rattle.track_run.specs.declared.outcome.Stop.TheVariants.{NoMemory}
 use Rattle.track_run.specs.State.{at_mesh}
@@ -8,7 +10,7 @@ use Rattle.track_run.specs.Job.{told_of_meeting, met_first}
 use Rattle.track_run.specs.Names.{named_by, target_of}
 use Rattle.track_run.specs.World.{world, Follows}
 use Rattle.track_run.specs.Parts.{TracksJob}
-use Rattle.track_run.proofs.TopLemmas.{tracks_first, tracks_second, tracks_no, tracks_third, tracks_ready}
+use Rattle.track_run.proofs.TopLemmas.{tracks_first, tracks_second, tracks_no, tracks_third, tracks_ready, ready_is_good}
 use Rattle.track_run.proofs.top.track.Goals as goal
 
 pub returns-in_err-say-clause-tracks : goal.returns-in_err-say-clause-tracks
@@ -35,6 +37,11 @@ returns-in-Ok-clause-tracks g c =
     let P : Option Files → Type 0 = λ files. Follows (target_of c.args.names) (at_mesh c.in-Ok.mesh.now) (told_of_meeting c.in-Ok.mesh.now c.in-Yes.steps (met_first c.in-Ok.mesh.now)) (record { files = files; written = g.K.Sink.written c.say.new.out }) new c.test_and_begin.result in
     tracks_ready (named_by c.args.names) (g.D.Desk.files c.args.desk.now) (g.K.Sink.written c.args.out.now) (g.K.Sink.written c.say.new.out) c.in_ok-why.field-0 c.in-Yes.lists c.in-Yes.steps c.in-Ok.mesh.now new c.test_and_begin.result
     c.in-Yes.is c.in_ok-why.ensures.prepares c.in_ok-say.ensures.said c.in-Ok.ensures.mesh (subst P c.in_ok-why.ensures.kept c.test_and_begin.ensures.follows)
+
+pub test_and_begin-requires-clause-closed : goal.test_and_begin-requires-clause-closed
+test_and_begin-requires-clause-closed g c =
+    let good = ready_is_good (g.D.Desk.files c.args.desk.now) (named_by c.args.names) c.in_ok-why.field-0 c.in-Yes.lists c.in-Yes.steps c.in-Yes.is c.in_ok-why.ensures.prepares in
+    subst IsClosed (sym c.in-Ok.ensures.mesh) (closed-mesh_of c.in-Yes.lists.points c.in-Yes.lists.faces good.0)
 
 pub returns-clause-tracks : goal.returns-clause-tracks
 returns-clause-tracks g c =

@@ -2,12 +2,16 @@ use Rattle.std.proofs.Common.{sym, subst}
 use Rattle.std.proofs.lemmas.Result.{err_from_is_err_and}
 use Rattle.step_text.specs.declared.Directive.{Directive}
 use Rattle.track_run.specs.State.{state_of}
+use Rattle.track_run.specs.declared.course.Course.{Course}
+use Rattle.track_run.specs.Standing.{IsKept}
 use Rattle.track_run.specs.Turns.{turn}
 use Rattle.track_run.specs.Names.{target_of}
 use Rattle.track_run.specs.Parts.{Advances}
 use Rattle.track_run.specs.World.{world}
 use Rattle.track_run.proofs.NoFiles.{advances_step}
-use Rattle.track_run.proofs.TurnLemmas.{save_part, names_after_shift, names_after_taken}
+use Rattle.pair_scan.proofs.Ways.{ids_sorted}
+use Rattle.track_run.proofs.Keeping.{kept_by_one, kept_by_all, kept_stepped}
+use Rattle.track_run.proofs.TurnLemmas.{save_part}
 use Rattle.track_run.proofs.turns.advance.Goals as goal
 
 pub returns-in-Step-clause-advances : goal.returns-in-Step-clause-advances
@@ -22,8 +26,16 @@ returns-in_err-save-in-Save-clause-advances g c =
     let p = err_from_is_err_and c.from_residual.result c.from_residual.ensures.1 in
     rw (p.1, p.2) (save_part _ (target_of c.args.names) c.args.what (state_of (g.S.Surface.mesh c.args.mesh.now) c.args.course.now) (state_of (g.S.Surface.mesh c.args.mesh.now) c.args.course.now) _ _ c.in-Save.is c.in_err-save-in-Save.ensures.saves)
 
-pub returns-in-ShiftAll-clause-asked : goal.returns-in-ShiftAll-clause-asked
-returns-in-ShiftAll-clause-asked g c = names_after_shift (g.S.Surface.mesh c.args.mesh.now) c.in-ShiftAll.by c.args.course.now c.add_shift.new.course c.add_shift.result c.requires.asked c.add_shift.ensures.turns
+pub sum_one-requires : goal.sum_one-requires
+sum_one-requires g c = ids_sorted (g.S.Surface.mesh c.args.mesh.now) c.args.course.now.asked c.requires.kept.names
 
-pub returns-in-Step-clause-asked : goal.returns-in-Step-clause-asked
-returns-in-Step-clause-asked g c = names_after_taken (g.S.Surface.mesh c.args.mesh.now) (g.S.Surface.mesh c.take_step.new.mesh) c.args.course.now c.take_step.new.course _ _ c.take_step.result c.requires.asked c.take_step.ensures.takes
+pub returns-in-ShiftOne-clause-kept : goal.returns-in-ShiftOne-clause-kept
+returns-in-ShiftOne-clause-kept g c = λ e. kept_by_one c.in-ShiftOne.v c.in-ShiftOne.by (state_of (g.S.Surface.mesh c.args.mesh.now) c.args.course.now) c.sum_one.new.asked c.sum_one.result c.requires.kept c.sum_one.ensures (cc)
+
+pub returns-in-ShiftAll-clause-kept : goal.returns-in-ShiftAll-clause-kept
+returns-in-ShiftAll-clause-kept g c = λ e.
+    let P : Course → Type 0 = λ course. IsKept (state_of (g.S.Surface.mesh c.args.mesh.now) course) in
+    subst P (sym c.add_to_all.ensures.rest) (kept_by_all c.in-ShiftAll.by (state_of (g.S.Surface.mesh c.args.mesh.now) c.args.course.now) c.add_to_all.new.course.asked c.add_to_all.result c.requires.kept c.add_to_all.ensures.asks e)
+
+pub returns-in-Step-clause-kept : goal.returns-in-Step-clause-kept
+returns-in-Step-clause-kept g c = kept_stepped (state_of (g.S.Surface.mesh c.args.mesh.now) c.args.course.now) (state_of (g.S.Surface.mesh c.take_step.new.mesh) c.take_step.new.course) _ _ c.take_step.result c.requires.kept c.take_step.ensures.takes

@@ -1,0 +1,42 @@
+-- A test of an edge that moves against faces that move.
+use Rattle.std.specs.Prelude.{ℕ, Bool, cond, ◌||◌, ◌&&◌, not, List, map}
+use Rattle.std.specs.List.{filter}
+use Rattle.std.proofs.Common.{Option, Some, None}
+use Rattle.grid_base.specs.Points.{position_of}
+use Rattle.grid_base.specs.declared.Positions.{Positions}
+use Rattle.grid_base.specs.SeparationTests.{passes}
+use Rattle.grid_decided.specs.Decided.{meets_exactly}
+use Rattle.mesh_base.specs.declared.ids.PairName.{PairName}
+use Rattle.mesh_base.specs.Failing.{pair_passes}
+use Rattle.mesh_base.specs.Mesh.{Mesh}
+use Rattle.mesh_base.specs.Pairs.{Pair}
+use Rattle.mesh_base.specs.Shifts.{Shifts, moved_by}
+use Rattle.mesh_base.specs.Sides.{has_corner}
+use Rattle.pair_scan.specs.declared.moving.MovingEdge.{MovingEdge}
+use Rattle.pair_scan.specs.declared.moving.MovingFace.{MovingFace}
+use Rattle.pair_scan.specs.Scan.{name_with, one_or_none}
+
+-- where the edge and the face begin
+abbrev pub starts : MovingEdge → MovingFace → Positions
+starts e f = record { a = position_of e.first.from; b = position_of e.second.from; c = position_of f.c.from; d = position_of f.d.from; e = position_of f.e.from }
+
+-- where they end
+abbrev pub ends : MovingEdge → MovingFace → Positions
+ends e f = record { a = position_of e.first.to; b = position_of e.second.to; c = position_of f.c.to; d = position_of f.d.to; e = position_of f.e.to }
+
+-- whether the edge and the face are a pair and do not pass
+abbrev pub fails_with : ℕ → MovingEdge → MovingFace → Bool
+fails_with depth e f = not (has_corner f.corners e.a || has_corner f.corners e.b) && not (passes meets_exactly depth (starts e f) (ends e f))
+
+-- the name of the edge with a face, where there is one, they are a pair, and they do not pass
+abbrev pub failed_with : ℕ → MovingEdge → Option MovingFace → Option PairName
+failed_with depth e None = None
+failed_with depth e (Some f) = cond (fails_with depth e f) (Some (name_with e.a e.b f.face)) None
+
+-- the same name, in a list
+abbrev pub failed : ℕ → MovingEdge → Option MovingFace → List PairName
+failed depth e f = one_or_none (failed_with depth e f)
+
+-- the names of those of these pairs that do not pass
+abbrev pub failing_of : Mesh → Shifts → ℕ → List Pair → List PairName
+failing_of m by depth ps = map (λ p. p.name) (filter (λ p. not (pair_passes meets_exactly depth (moved_by m by) p)) ps)

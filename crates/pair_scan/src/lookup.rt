@@ -1,0 +1,46 @@
+//! The shift of a vertex, looked up among shifts by rising id.
+ghost use Rattle.std.specs.Prelude.{◌≡◌, ◌==◌, map};
+ghost use Rattle.std.specs.List.{find};
+ghost use Rattle.std.specs.List.Sorted.{IsStrictlySortedBy, IsSearchInRange, IsBinarySearchResult};
+ghost use Rattle.std.specs.Ordering.{nat_cmp};
+ghost use Rattle.std.specs.Option.{option_map};
+ghost use Rattle.pair_scan.specs.Lookup.{IsPlaceOf};
+
+use grid_base::Shift;
+use mesh_base::{ShiftOf, VertexId};
+
+// The place of a vertex among the shifts, or where it would stand.
+fn search(by: &[ShiftOf], v: VertexId) -> Result<usize, usize>
+    ensures { IsBinarySearchResult (λ s. nat_cmp s.v v) by.now result }
+{
+    by.binary_search_by_key(&v.0, |s| s.v.0)
+}
+
+/// The shift of a vertex; None where none is named.
+pub(crate) fn shift_of(by: &[ShiftOf], v: VertexId) -> Option<Shift>
+    requires rising { IsStrictlySortedBy nat_cmp (map (λ s. s.v) by.now) }
+    ensures { result ≡ option_map (λ s. s.by) (find (λ s. s.v == v) by.now) }
+{
+    match search(by, v) {
+        Ok(place) => match by.get(place) {
+            Some(s) => Some(s.by),
+            None => None,
+        },
+        Err(_) => None,
+    }
+}
+
+/// The place of a vertex among shifts by rising id; None where none is named. Takes time in proportion to the logarithm of
+/// their number.
+pub fn place_of(by: &[ShiftOf], v: VertexId) -> Option<usize>
+    requires { IsStrictlySortedBy nat_cmp (map (λ s. s.v) by.now) }
+    ensures { IsPlaceOf by.now v result }
+{
+    match search(by, v) {
+        Ok(place) => match by.get(place) {
+            Some(_s) => Some(place),
+            None => None,
+        },
+        Err(_) => None,
+    }
+}

@@ -1,0 +1,5 @@
+pub mod Passing
+pub mod Shortened
+pub mod Taken
+pub mod Listing
+pub mod Searching

@@ -1,0 +1,6 @@
+-- The way that a choice tells.
+use Rattle.step_choose.specs.declared.choosing.Choice.{Choice}
+use Rattle.step_choose.specs.Choice.{Way}
+
+abbrev pub way_of : Choice → Way
+way_of c = record { how = c.how; taken = c.taken }

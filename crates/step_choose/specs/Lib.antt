@@ -1,0 +1,4 @@
+pub mod Settings
+pub mod Choice
+pub mod Chosen
+pub mod Halvings

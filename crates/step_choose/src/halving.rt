@@ -1,0 +1,74 @@
+ghost use Rattle.std.specs.Prelude.{◌≡◌, ◌≤◌, IsTrue, IfOk};
+ghost use Rattle.std.specs.Option.{option_map};
+ghost use Rattle.grid_base.specs.declared.TheConstants.{HALVINGS_MAX};
+ghost use Rattle.grid_decided.specs.Decided.{meets_exactly};
+ghost use Rattle.mesh_base.specs.Shifts.{NameLive, end_in_box};
+ghost use Rattle.step_choose.specs.Settings.{AreWithinLimits};
+ghost use Rattle.step_choose.specs.Choice.{halved_times, all_at_rest, halved_way};
+ghost use Rattle.step_choose.specs.Halvings.{way_by};
+
+use crate::settings::Settings;
+use grid_base::{NoMemory, Shift, halved};
+use mesh_base::{ShiftOf, Shifts, Surface};
+use pair_scan::failing;
+use std::alloc::Global;
+
+const NO_SHIFT: Shift = Shift { x: 0, y: 0, z: 0 };
+
+/// So many halvings of shifts, and what they leave of the shifts.
+#[derive(Drop)]
+pub(crate) struct Halving {
+    pub times: u8,
+    pub taken: Shifts,
+}
+
+// Each shift halved so many times.
+fn halved_times(alloc: Global, asked: &[ShiftOf], times: u8) -> Result<Shifts, NoMemory>
+    requires { times ≤ HALVINGS_MAX }
+    ensures { IfOk result (λ shifts. shifts ≡ halved_times times asked.now) }
+{
+    let mut shifts = Shifts::new(alloc);
+    for s in asked {
+        shifts.push(ShiftOf {
+            v: s.v,
+            by: halved(s.by, times),
+        })?;
+    }
+    Ok(shifts)
+}
+
+/// No shift for each of the vertices.
+pub(crate) fn all_at_rest(alloc: Global, asked: &[ShiftOf]) -> Result<Shifts, NoMemory>
+    ensures { IfOk result (λ shifts. shifts ≡ all_at_rest asked.now) }
+{
+    let mut shifts = Shifts::new(alloc);
+    for s in asked {
+        shifts.push(ShiftOf {
+            v: s.v,
+            by: NO_SHIFT,
+        })?;
+    }
+    Ok(shifts)
+}
+
+/// The fewest halvings of the asked shifts with which all pairs pass.
+pub(crate) fn fewest_halvings<S: Surface>(
+    alloc: Global,
+    mesh: &S,
+    asked: &Shifts,
+    set: Settings,
+) -> Result<Option<Halving>, NoMemory>
+    requires named { NameLive (S.mesh mesh.now) asked.now }
+    requires in_box { IsTrue (end_in_box (S.mesh mesh.now) asked.now) }
+    requires limits { AreWithinLimits set }
+    ensures { IfOk result (λ found. option_map way_by found ≡ halved_way meets_exactly (S.mesh mesh.now) asked.now set.depth set.halvings) }
+{
+    for k in 0..set.halvings {
+        let times = k + 1;
+        let taken = halved_times(alloc, asked.as_slice(), times)?;
+        if failing(alloc, mesh, &taken, set.depth)?.len() == 0 {
+            return Ok(Some(Halving { times, taken }));
+        }
+    }
+    Ok(None)
+}
