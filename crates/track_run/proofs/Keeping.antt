@@ -106,9 +106,11 @@ module _ (m : Mesh) (good : IsGood m) (k : ℕ) (pairs : List PairName) (way : W
       let begun : Replay = at_mesh m in
       let moved : List LogLine = Moved way.how ∷ [] in
       let P : Replay → Type 0 = λ r. Keeps r moved in
-      let Q : Replay → Type 0 = λ r. Keeps r (move_lines way.taken ++ moved) in
-      (tt, keeps_append (hit_lines pairs) (move_lines way.taken ++ moved) begun (keeps_hits pairs begun)
-      (subst Q (sym (after-hits begun pairs)) (keeps_append (move_lines way.taken) moved begun (keeps_moves (moving way.taken) begun) (subst P (sym (after-moves begun (moving way.taken))) (clear_along, tt)))))
+      let Q : Replay → Type 0 = λ r. Keeps r (move_lines way.taken ++ moved) in (
+        tt,
+        keeps_append (hit_lines pairs) (move_lines way.taken ++ moved) begun (keeps_hits pairs begun)
+            (subst Q (sym (after-hits begun pairs)) (keeps_append (move_lines way.taken) moved begun (keeps_moves (moving way.taken) begun) (subst P (sym (after-moves begun (moving way.taken))) (clear_along, tt)))),
+      )
 
   good_after : IsGood (moved_mesh m way.taken)
   good_after = record {

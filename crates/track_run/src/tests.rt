@@ -1,3 +1,6 @@
+mod each_its_way;
+mod there_and_back;
+
 use crate::{Outcome, run};
 use line_text::{TextFault, TextWhy};
 use mesh_plain::{FaceId, FileWord, PairName, UseWhy, VertexId};
@@ -6,7 +9,8 @@ use std::alloc::Global;
 use std::test::Fail;
 
 // A tetrahedron.
-const MESH: &[u8] = b"v 0 0 0\nv 4 0 0\nv 0 4 0\nv 0 0 4\nf 1 3 2\nf 1 2 4\nf 2 3 4\nf 1 4 3\n";
+pub(crate) const MESH: &[u8] =
+    b"v 0 0 0\nv 4 0 0\nv 0 4 0\nv 0 0 4\nf 1 3 2\nf 1 2 4\nf 2 3 4\nf 1 4 3\n";
 
 // It is moved as a whole by one step, and saved.
 const STEPS: &[u8] = b"shift all 1 2 3\nstep\nsave\n";
@@ -37,7 +41,7 @@ fn first_lines(alloc: Global, count: usize) -> Result<Vec<u8>, Fail> {
     Ok(text)
 }
 
-fn words_of(alloc: Global, words: &[&str]) -> Result<Vec<String>, Fail> {
+pub(crate) fn words_of(alloc: Global, words: &[&str]) -> Result<Vec<String>, Fail> {
     let mut all = Vec::new(alloc);
     for word in words {
         all.push(String::from_str(alloc, word)?)?;
@@ -45,19 +49,23 @@ fn words_of(alloc: Global, words: &[&str]) -> Result<Vec<String>, Fail> {
     Ok(all)
 }
 
-fn desk_of(alloc: Global, mesh: &[u8], steps: &[u8]) -> Result<MemoryDesk, Fail> {
+pub(crate) fn desk_of(alloc: Global, mesh: &[u8], steps: &[u8]) -> Result<MemoryDesk, Fail> {
     let mut desk = MemoryDesk::new(alloc, Vec::new(alloc), Vec::new(alloc));
     desk.put("mesh.obj", mesh)?;
     desk.put("steps.txt", steps)?;
     Ok(desk)
 }
 
-fn sink_of(alloc: Global) -> Result<MemorySink, Fail> {
-    Ok(MemorySink::new(alloc, 1_000, Vec::new(alloc))?)
+pub(crate) fn sink_of(alloc: Global) -> Result<MemorySink, Fail> {
+    Ok(MemorySink::new(alloc, 2_000, Vec::new(alloc))?)
 }
 
 // The run of the two files.
-fn track(desk: &mut MemoryDesk, out: &mut MemorySink, alloc: Global) -> Result<Outcome, Fail> {
+pub(crate) fn track(
+    desk: &mut MemoryDesk,
+    out: &mut MemorySink,
+    alloc: Global,
+) -> Result<Outcome, Fail> {
     let words = words_of(alloc, &["track", "mesh.obj", "steps.txt", "t"])?;
     Ok(run(alloc, &words, desk, out))
 }

@@ -28,7 +28,7 @@ returns-then-len-eq0 g c =
     let test : ℕ → Bool = λ n. all_pass meets_exactly m (halved_times n asked) depth in
     let taken : c.in_ok-taken.taken ≡ halved_times (c.loop-k.k + 1) asked = c.in_ok-taken.ensures ∙ ap (halved_times (c.loop-k.k + 1)) c.as_slice.ensures in
     let none : length (failing meets_exactly m (halved_times (c.loop-k.k + 1) asked) depth) ≡ 0 =
-        ap (λ shifts. length (failing meets_exactly m shifts depth)) (sym taken) ∙ sym (ap length c.in_ok-failing.ensures.failing) ∙ sym c.len-in-loop-k.ensures ∙ c.if-len-eq0.true in
+    ap (λ shifts. length (failing meets_exactly m shifts depth)) (sym taken) ∙ sym (ap length c.in_ok-failing.ensures.failing) ∙ sym c.len-in-loop-k.ensures ∙ c.if-len-eq0.true in
     let found : find test (range_with_len 1 most) ≡ Some (c.loop-k.k + 1) = here test c.loop-k.k most _ c.loop-k-test.true (none_is _ none) c.loop-k.invariant in
     ap (λ shifts. Some (way (How.Halved (c.loop-k.k + 1)) shifts)) taken ∙ sym (ap (option_map (halving asked)) found)
 
@@ -40,5 +40,5 @@ loop-k-preserved g c =
     let test : ℕ → Bool = λ n. all_pass meets_exactly m (halved_times n asked) depth in
     let taken : c.in_ok-taken.taken ≡ halved_times (c.loop-k.k + 1) asked = c.in_ok-taken.ensures ∙ ap (halved_times (c.loop-k.k + 1)) c.as_slice.ensures in
     let same : c.len-in-loop-k.result ≡ length (failing meets_exactly m (halved_times (c.loop-k.k + 1) asked) depth) =
-        c.len-in-loop-k.ensures ∙ ap length c.in_ok-failing.ensures.failing ∙ ap (λ shifts. length (failing meets_exactly m shifts depth)) taken in
+    c.len-in-loop-k.ensures ∙ ap length c.in_ok-failing.ensures.failing ∙ ap (λ shifts. length (failing meets_exactly m shifts depth)) taken in
     later test c.loop-k.k c.args.set.halvings _ c.loop-k-test.true (some_is _ _ same c.if-len-eq0.false) c.loop-k.invariant

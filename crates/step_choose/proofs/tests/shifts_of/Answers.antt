@@ -1,0 +1,15 @@
+use Rattle.std.proofs.Common.{◌≡◌, ℕ, List, [], ◌∷◌, map, refl, sym, ap, ◌∙◌}
+use Rattle.std.specs.List.{flat_map}
+use Rattle.std.specs.FinMap as finite
+use Rattle.pair_scan.proofs.Lists.{made_all}
+use Rattle.step_choose.proofs.tests.shifts_of.Goals as goal
+
+each_once : (xs : List ℕ) → flat_map (λ x. x ∷ []) xs ≡ xs
+each_once [] = refl
+each_once (x ∷ xs) = ap (λ ys. x ∷ ys) (each_once xs)
+
+pub returns-clause-named : goal.returns-clause-named
+returns-clause-named g c =
+    let items = c.as_slice-v-items.result.now in
+    let all : items ≡ finite.keys (g.S.Surface.mesh c.args.mesh.now).points = c.as_slice-v-items.ensures ∙ c.in_ok-ids.ensures in
+    sym (made_all (λ v. v ∷ []) items c.loop-v.v-index (map (λ s. s.v) c.loop-v.by) c.loop-v-test.false) ∙ c.loop-v.invariant.named ∙ each_once items ∙ all
