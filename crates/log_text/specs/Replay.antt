@@ -4,7 +4,8 @@ use Rattle.mesh_base.specs.declared.ShiftOf.{ShiftOf}
 use Rattle.mesh_base.specs.Mesh.{Mesh}
 use Rattle.mesh_base.specs.Shifts.{with_moves}
 use Rattle.log_text.specs.declared.log_line.LogLine.{LogLine}
-use Rattle.log_text.specs.declared.log_line.LogLine.TheVariants.{Step, Move, Moved}
+use Rattle.edit_base.specs.Answers.{edited}
+use Rattle.log_text.specs.declared.log_line.LogLine.TheVariants.{Step, Move, Moved, Did}
 
 -- the mesh, and the shifts of the `move` lines since the last `step` line that no `moved` line has used up
 pub record Replay : Type 0 where
@@ -16,6 +17,7 @@ abbrev pub replayed : Replay → LogLine → Replay
 replayed r (Step k) = record r { moves = [] }
 replayed r (Move s) = record r { moves = r.moves ++ s ∷ [] }
 replayed r (Moved how) = record { mesh = with_moves r.mesh r.moves; moves = [] }
+replayed r (Did change) = record r { mesh = edited r.mesh change }
 replayed r _ = r
 
 -- what the lines make, in order

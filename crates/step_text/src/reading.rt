@@ -96,7 +96,8 @@ fn shift(words: Words<'_>) -> Result<Directive, TextWhy>
 
 #[tactic(auto, unfolding(crate::specs::Steps::split_of))]
 fn split(words: Words<'_>) -> Result<Directive, TextWhy>
-    ensures { result ≡ spec.split_of (words_left words.entry) }
+    ensures value { result ≡ spec.split_of (words_left words.entry) }
+    ensures range { IfOk result IsInRange }
 {
     let mut words = words;
     count_is(1, words)?;

@@ -8,6 +8,8 @@ pub mod Worlds
 pub mod NoFiles
 pub mod SoFars
 pub mod Sources
+pub mod Passing
+pub mod PassTaken
 pub mod Keeping
 pub mod StepTaken
 pub mod Promises

@@ -8,7 +8,7 @@ use Rattle.step_choose.specs.Choice.{Way}
 use Rattle.mesh_base.specs.declared.UseWhy.{UseWhy}
 use Rattle.log_text.specs.Lines.{text_of_lines}
 use Rattle.log_text.specs.declared.LogLine.{LogLine}
-use Rattle.log_text.specs.declared.LogLine.TheVariants.{First, Step, Hit, Move, Moved, Mesh as MeshLine, End, Refused}
+use Rattle.log_text.specs.declared.LogLine.TheVariants.{First, Step, Hit, Block, Move, Moved, Pass, Did, No, Mesh as MeshLine, End, Refused}
 use Rattle.log_text.specs.Replay.{Replay, after, replayed}
 use Rattle.step_text.specs.declared.Directive.TheVariants as directive
 use Rattle.outside_io.specs.Desk.{Files}
@@ -33,6 +33,10 @@ files_of-none to (MeshLine k v f ∷ lines) from none = absurd none
 files_of-none to (First version ∷ lines) from none = files_of-none to lines (replayed from (First version)) none
 files_of-none to (Step k ∷ lines) from none = files_of-none to lines (replayed from (Step k)) none
 files_of-none to (Hit p ∷ lines) from none = files_of-none to lines (replayed from (Hit p)) none
+files_of-none to (Block ids ∷ lines) from none = files_of-none to lines (replayed from (Block ids)) none
+files_of-none to (Pass kind ∷ lines) from none = files_of-none to lines (replayed from (Pass kind)) none
+files_of-none to (Did change ∷ lines) from none = files_of-none to lines (replayed from (Did change)) none
+files_of-none to (No what why ∷ lines) from none = files_of-none to lines (replayed from (No what why)) none
 files_of-none to (Move s ∷ lines) from none = files_of-none to lines (replayed from (Move s)) none
 files_of-none to (Moved how ∷ lines) from none = files_of-none to lines (replayed from (Moved how)) none
 files_of-none to (End ∷ lines) from none = files_of-none to lines (replayed from End) none
@@ -44,6 +48,10 @@ front_none (MeshLine k v f ∷ xs) ys none = absurd none
 front_none (First version ∷ xs) ys none = front_none xs ys none
 front_none (Step k ∷ xs) ys none = front_none xs ys none
 front_none (Hit p ∷ xs) ys none = front_none xs ys none
+front_none (Block ids ∷ xs) ys none = front_none xs ys none
+front_none (Pass kind ∷ xs) ys none = front_none xs ys none
+front_none (Did change ∷ xs) ys none = front_none xs ys none
+front_none (No what why ∷ xs) ys none = front_none xs ys none
 front_none (Move s ∷ xs) ys none = front_none xs ys none
 front_none (Moved how ∷ xs) ys none = front_none xs ys none
 front_none (End ∷ xs) ys none = front_none xs ys none

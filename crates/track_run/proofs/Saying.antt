@@ -12,7 +12,8 @@ use Rattle.log_text.specs.declared.LogLine.{LogLine}
 use Rattle.outside_io.specs.Sink.{appended, AppendsPart}
 use Rattle.outside_io.proofs.Written.{appended-nil, appended-appended}
 use Rattle.track_run.specs.declared.outcome.Stop.{Stop}
-use Rattle.track_run.specs.Said.{IsBegun, SaidInPart, Said}
+use Rattle.pass_run.specs.Said.{IsBegun}
+use Rattle.track_run.specs.Said.{SaidInPart, Said}
 
 pub text_of_lines-append : (xs ys : List LogLine) → text_of_lines (xs ++ ys) ≡ text_of_lines xs ++ text_of_lines ys
 text_of_lines-append [] ys = refl

@@ -6,8 +6,9 @@ use Rattle.mesh_base.specs.declared.UseWhy.{UseWhy}
 use Rattle.mesh_base.specs.Mesh.{Mesh}
 use Rattle.mesh_base.specs.Shifts.{Shifts, NameLive}
 use Rattle.std.proofs.Math.Seq.{drop-cons}
+use Rattle.std.specs.List.{AllByRecursion}
 use Rattle.step_text.specs.declared.Placed.{Placed}
-use Rattle.step_text.specs.Ranges.{IsInRange, AreInRange}
+use Rattle.step_text.specs.Ranges.{IsInRange, AreInRange, AsksTaken, AskTaken}
 use Rattle.step_text.specs.declared.Directive.{Directive}
 use Rattle.step_text.specs.declared.Directive.TheVariants as directive
 use Rattle.track_run.specs.declared.outcome.Stop.{Stop}
@@ -36,8 +37,13 @@ ids_at_rest (v ∷ ids) = ap (λ l. v ∷ l) (ids_at_rest ids)
 pub names_at_first : (m : Mesh) (asked : Shifts) → asked ≡ no_shifts m → NameLive m asked
 names_at_first m asked e = ap (λ (l : Shifts). map (λ s. s.v) l) e ∙ ids_at_rest (finite.keys m.points)
 
--- the next directive and those after it are in range
+-- what holds of each to come holds of the next and of those after it
+pub next_one : {X : Type 0} (P : X → Type 0) (xs : List X) (i : ℕ) (x : X) → i < length xs → x ≡ get_or xs i x → AllByRecursion P (drop i xs) → P x × AllByRecursion P (drop (i + 1) xs)
+next_one P xs i x h at all =
+    subst (AllByRecursion P) (drop-cons xs i x h ∙ ap (λ t. t ∷ drop (suc i) xs) (sym at) ∙ ap (λ n. x ∷ drop n xs) (sym (add-one i))) all
+
 pub range_here : (steps : List Placed) (i : ℕ) (placed : Placed) → i < length steps → placed ≡ get_or steps i placed → AreInRange (drop i steps) → IsInRange placed.what × AreInRange (drop (i + 1) steps)
-range_here steps i placed h at ranges =
-    let P : List Placed → Type 0 = λ l. AreInRange l in
-    subst P (drop-cons steps i placed h ∙ ap (λ t. t ∷ drop (suc i) steps) (sym at) ∙ ap (λ n. placed ∷ drop n steps) (sym (add-one i))) ranges
+range_here steps i placed h at ranges = next_one (λ p. IsInRange p.what) steps i placed h at ranges
+
+pub taken_here : (steps : List Placed) (i : ℕ) (placed : Placed) → i < length steps → placed ≡ get_or steps i placed → AskTaken (drop i steps) → AsksTaken placed.what × AskTaken (drop (i + 1) steps)
+taken_here steps i placed h at taken = next_one (λ p. AsksTaken p.what) steps i placed h at taken

@@ -4,7 +4,8 @@ use Rattle.mesh_base.specs.declared.UseWhy.{UseWhy}
 use Rattle.mesh_base.specs.Mesh.{Mesh}
 use Rattle.obj_text.specs.Obj.{lists_of}
 use Rattle.step_text.specs.declared.Directive.TheVariants.{Step}
-use Rattle.step_text.specs.Ranges.{AreInRange}
+use Rattle.edit_base.specs.declared.PassKind.{PassKind}
+use Rattle.step_text.specs.Ranges.{AreInRange, AskTaken}
 use Rattle.log_text.specs.Lines.{text_of_lines}
 use Rattle.log_text.specs.declared.LogLine.{LogLine}
 use Rattle.log_text.specs.declared.Refusal.{Refusal}
@@ -18,7 +19,7 @@ use Rattle.track_run.specs.declared.outcome.Stop.{Stop}
 use Rattle.track_run.specs.declared.reading.Ready.{Ready}
 use Rattle.track_run.specs.declared.reading.Ready.TheVariants as ready
 use Rattle.track_run.specs.State.{State, standing, at_mesh}
-use Rattle.track_run.specs.Turns.{Turn, Goes, Stops, Told, turn, step_lines, after_step, mesh_line, refused}
+use Rattle.track_run.specs.Turns.{Turn, Goes, Stops, Told, turn, step_lines, after_step, passed_lines, after_pass, mesh_line, refused}
 use Rattle.track_run.specs.Words.{Named}
 use Rattle.track_run.specs.Job.{Job, IsJob, told_of_files, told_of_lists, told_of_meeting, met_first, log_of, mesh_in, mesh_read, replay_of}
 use Rattle.track_run.specs.Said.{SaidInPart}
@@ -56,6 +57,12 @@ StepTakes old_state new_state old new (Ok None) = (turn Step old_state ≡ Goes 
 StepTakes old_state new_state old new (Ok (Some why)) = (turn Step old_state ≡ Stops why) × (new ≡ old)
 StepTakes old_state new_state old new (Err stop) = (new ≡ old) ⊎ ((turn Step old_state ≡ Goes (step_lines old_state) (after_step old_state)) × SaidInPart old new (step_lines old_state))
 
+-- a pass, by what it writes
+abbrev pub PassTakes : PassKind → State → State → Option (List ℕ) → Option (List ℕ) → Result (Option UseWhy) Stop → Type 0
+PassTakes kind old_state new_state old new (Ok None) = (new_state ≡ after_pass kind old_state) × (new ≡ appended old (text_of_lines (passed_lines kind old_state)))
+PassTakes kind old_state new_state old new (Ok (Some why)) = ⊥
+PassTakes kind old_state new_state old new (Err stop) = SaidInPart old new (passed_lines kind old_state)
+
 -- the mesh of lists that were read
 abbrev pub given : MeshLists → Mesh
 given lists = mesh_of lists.points lists.faces
@@ -73,12 +80,12 @@ told_of_ready (ready.Yes lists steps) = told_of_meeting (given lists) steps (met
 abbrev pub Reads : ℕ → List ℕ → List ℕ → Ready → Type 0
 Reads decimals mesh steps (ready.No why) = told_of_lists (lists_of decimals mesh) steps ≡ refused why
 Reads decimals mesh steps (ready.Yes lists directives) =
-    (told_of_lists (lists_of decimals mesh) steps ≡ told_of_ready (ready.Yes lists directives)) × (given lists ≡ mesh_read (lists_of decimals mesh)) × AreGood lists × (length directives < 2 ^ 31) × AreInRange directives
+    (told_of_lists (lists_of decimals mesh) steps ≡ told_of_ready (ready.Yes lists directives)) × (given lists ≡ mesh_read (lists_of decimals mesh)) × AreGood lists × (length directives < 2 ^ 31) × AreInRange directives × AskTaken directives
 
 -- the mesh that was read is the job's
 abbrev pub IsMeshOf : Job → Ready → Type 0
 IsMeshOf job (ready.No why) = Unit {0}
-IsMeshOf job (ready.Yes lists directives) = (given lists ≡ mesh_in job.decimals job.mesh_file) × AreGood lists × (length directives < 2 ^ 31) × AreInRange directives
+IsMeshOf job (ready.Yes lists directives) = (given lists ≡ mesh_in job.decimals job.mesh_file) × AreGood lists × (length directives < 2 ^ 31) × AreInRange directives × AskTaken directives
 
 -- what the words' files give
 pub record Prepares (files : Option Files) (named : Named) (found : Ready) : Type 0 where

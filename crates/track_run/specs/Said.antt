@@ -1,14 +1,10 @@
 -- What writing some lines does to a sink.
-use Rattle.std.specs.Prelude.{◌≡◌, ℕ, ◌<◌, List, [], ◌∷◌, ◌++◌, length, take, Option, Result, Ok, Err}
-use Rattle.log_text.specs.Lines.{text_of_line, text_of_lines}
+use Rattle.std.specs.Prelude.{◌≡◌, ℕ, List, ◌++◌, Option, Result, Ok, Err}
+use Rattle.log_text.specs.Lines.{text_of_lines}
 use Rattle.log_text.specs.declared.LogLine.{LogLine}
 use Rattle.outside_io.specs.Sink.{appended}
+use Rattle.pass_run.specs.Said.{IsBegun}
 use Rattle.track_run.specs.declared.outcome.Stop.{Stop}
-
--- nothing, or a part of the first line that is not all of it
-abbrev pub IsBegun : List ℕ → List LogLine → Type 0
-IsBegun part [] = part ≡ []
-IsBegun part (line ∷ lines) = (n : ℕ) × (n < length (text_of_line line)) × (part ≡ take n (text_of_line line))
 
 -- the first of these lines were written, in order, and perhaps a part of the next
 pub record SaidInPart (old new : Option (List ℕ)) (lines : List LogLine) : Type 0 where

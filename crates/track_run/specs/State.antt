@@ -1,5 +1,7 @@
 -- Where a run stands between two directives.
-use Rattle.std.specs.Prelude.{ℕ, [], map}
+use Rattle.std.specs.Prelude.{ℕ, ◌==◌, [], map, Option}
+use Rattle.std.specs.Option.{unwrap_or}
+use Rattle.std.specs.List.{find}
 use Rattle.std.specs.FinMap as finite
 use Rattle.grid_base.specs.Points.{no_shift}
 use Rattle.mesh_base.specs.declared.ShiftOf.{ShiftOf}
@@ -25,6 +27,14 @@ still_at v = record { v = v; by = no_shift }
 -- no vertex is asked to move
 abbrev pub no_shifts : Mesh → Shifts
 no_shifts m = map still_at (finite.keys m.points)
+
+-- what is asked of a vertex; something is asked of each that lives, if only to stay
+abbrev pub asked_of : ℕ → Shifts → Option ShiftOf
+asked_of v asked = find (λ s. s.v == v) asked
+
+-- the same of each live vertex of a mesh that was changed: what was asked of it, and nothing of one that is new
+abbrev pub asked_in : Mesh → Shifts → Shifts
+asked_in m asked = map (λ v. unwrap_or (asked_of v asked) (still_at v)) (finite.keys m.points)
 
 -- where the directives begin: mesh 0 is saved
 abbrev pub start : Mesh → State

@@ -25,7 +25,9 @@ use Rattle.log_text.specs.declared.Refusal.{Refusal}
 use Rattle.log_text.specs.declared.Refusal.TheVariants.{StepUse}
 use Rattle.log_text.specs.declared.LogLine.{LogLine}
 use Rattle.log_text.specs.declared.LogLine.TheVariants.{Step, Hit, Move, Moved, Mesh as MeshLine, End, Refused}
-use Rattle.track_run.specs.State.{State, still_at}
+use Rattle.edit_base.specs.declared.PassKind.{PassKind}
+use Rattle.pass_run.specs.PassLines.{pass_lines, mesh_after_pass}
+use Rattle.track_run.specs.State.{State, still_at, asked_of, asked_in}
 
 -- ---- shifts that are asked
 
@@ -48,10 +50,6 @@ sum_or_range (Some v) by asked = Err (ShiftRange v)
 
 abbrev pub sum_of_all : Shift → Shifts → Result Shifts UseWhy
 sum_of_all by asked = sum_or_range (first_beyond by asked) by asked
-
--- what is asked of a vertex; something is asked of each that lives, if only to stay
-abbrev pub asked_of : ℕ → Shifts → Option ShiftOf
-asked_of v asked = find (λ s. s.v == v) asked
 
 -- the shift is added to what is asked of one vertex
 abbrev pub one_summed : ℕ → Shift → Shifts → Shifts
@@ -117,6 +115,20 @@ step_lines s = lines_of_step (s.steps + 1) (hits s) (taken s)
 abbrev pub after_step : State → State
 after_step s = record { mesh = moved_mesh s.mesh (taken s).taken; asked = all_still s.asked; set = s.set; steps = s.steps + 1; saved = s.saved }
 
+-- ---- a pass
+
+-- the lines of a pass over the mesh
+unfoldable pub passed_lines : PassKind → State → List LogLine
+passed_lines kind s = pass_lines meets_exactly s.mesh kind s.set.depth
+
+-- the mesh that it leaves
+unfoldable pub passed_mesh : PassKind → State → Mesh
+passed_mesh kind s = mesh_after_pass meets_exactly s.mesh kind s.set.depth
+
+-- a vertex that is kept keeps what is asked of it, a new one is asked nothing
+abbrev pub after_pass : PassKind → State → State
+after_pass kind s = record s { mesh = passed_mesh kind s; asked = asked_in (passed_mesh kind s) s.asked }
+
 -- ---- a directive
 
 -- what a directive gives: its lines and the state after it, or a reason against it
@@ -148,6 +160,7 @@ turn (directive.SetHalvings halvings) s = set_turn (record s.set { halvings = ha
 turn (directive.ShiftOne v by) s = shift_turn (sum_of_one v by s.asked) s
 turn (directive.ShiftAll by) s = shift_turn (sum_of_all by s.asked) s
 turn directive.Step s = step_turn (first_outside s.mesh s.asked) s
+turn (directive.Pass kind) s = Goes (passed_lines kind s) (after_pass kind s)
 turn directive.Save s = Goes (mesh_line s.saved s.mesh ∷ []) (record s { saved = s.saved + 1 })
 
 -- ---- all directives

@@ -14,7 +14,7 @@ use Rattle.track_run.specs.declared.outcome.Outcome.{Outcome}
 use Rattle.track_run.specs.declared.outcome.Outcome.TheVariants as outcome
 use Rattle.track_run.specs.declared.outcome.Stop.{Stop}
 use Rattle.track_run.specs.declared.outcome.Stop.TheVariants.{NoMemory, DeskFault, SinkFault}
-use Rattle.track_run.specs.Said.{IsBegun}
+use Rattle.pass_run.specs.Said.{IsBegun}
 use Rattle.track_run.specs.Saved.{Target, files_of, file_name, stored}
 use Rattle.track_run.specs.Kept.{Keeps}
 use Rattle.track_run.specs.State.{State}

@@ -30,11 +30,11 @@ pub(crate) fn say<K: Sink>(alloc: Global, out: &mut K, line: &LogLine) -> Result
 }
 
 // The refusal that a last line tells, if it tells one.
-fn ending_of(last: LogLine) -> Option<Refusal>
-    ensures { result ≡ ending_of last }
+fn ending_of(last: &LogLine) -> Option<Refusal>
+    ensures { result ≡ ending_of last.now }
 {
     match last {
-        LogLine::Refused(why) => Some(why),
+        LogLine::Refused(why) => Some(*why),
         _ => None,
     }
 }
@@ -53,5 +53,5 @@ pub(crate) fn finish<K: Sink>(
     ensures desk { IsErrOf result Stop.DeskFault → ⊥ }
 {
     say(alloc, out, &last)?;
-    Ok(ending_of(last))
+    Ok(ending_of(&last))
 }

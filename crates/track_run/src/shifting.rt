@@ -2,7 +2,8 @@ ghost use Rattle.std.specs.Prelude.{◌≡◌, ◌↔◌, ◌≤◌, ◌+ℤ◌,
 ghost use Rattle.grid_base.specs.declared.TheConstants.{SHIFT_MAX};
 ghost use Rattle.grid_base.specs.Triples.{IsWithin, plus};
 ghost use Rattle.grid_base.specs.Points.{displacement_of};
-ghost use Rattle.track_run.specs.State.{no_shifts, still_at};
+ghost use Rattle.track_run.specs.State.{no_shifts, still_at, asked_of, asked_in};
+ghost use Rattle.std.specs.Option.{unwrap_or};
 ghost use Rattle.track_run.specs.Turns.{moves, all_still};
 ghost use Rattle.std.specs.List.Sorted.{IsStrictlySortedBy};
 ghost use Rattle.std.specs.Ordering.{nat_cmp};
@@ -90,6 +91,38 @@ pub(crate) fn all_summed(
         }
     }
     Ok(Ok(shifts))
+}
+
+// What is asked of a vertex, by rising id; nothing, where none is named.
+fn asked_of(asked: &[ShiftOf], v: VertexId) -> ShiftOf
+    requires { IsStrictlySortedBy nat_cmp (map (λ s. s.v) asked.now) }
+    ensures { result ≡ unwrap_or (asked_of v asked.now) (still_at v) }
+{
+    let still = ShiftOf { v, by: NO_SHIFT };
+    match place_of(asked, v) {
+        Some(place) => match asked.get(place) {
+            Some(s) => *s,
+            None => still,
+        },
+        None => still,
+    }
+}
+
+/// What is asked of each live vertex of a mesh that was changed: what was asked of it, and nothing of one that is new.
+pub(crate) fn asked_in<S: Surface>(
+    alloc: Global,
+    mesh: &S,
+    asked: &[ShiftOf],
+) -> Result<Shifts, NoMemory>
+    requires { IsStrictlySortedBy nat_cmp (map (λ s. s.v) asked.now) }
+    ensures { IfOk result (λ shifts. shifts ≡ asked_in (S.mesh mesh.now) asked.now) }
+{
+    let ids = live_vertices(alloc, mesh)?;
+    let mut shifts = Shifts::new(alloc);
+    for v in ids.as_slice() {
+        shifts.push(asked_of(asked, *v))?;
+    }
+    Ok(shifts)
 }
 
 /// Adds a shift to what is asked of one vertex, or answers why it can't be added. Takes no memory.

@@ -1,12 +1,12 @@
 ghost use Rattle.std.specs.Prelude.{◌≡◌, ◌≤◌, ◌<◌, ◌+◌, ◌^◌, IfOk, IfErr, IsErrOf};
-ghost use Rattle.step_text.specs.Ranges.{IsInRange};
+ghost use Rattle.step_text.specs.Ranges.{IsInRange, IsTaken, AsksTaken};
 ghost use Rattle.step_choose.specs.Settings.{AreWithinLimits};
 ghost use Rattle.outside_io.specs.Causes.{Rose};
 ghost use Rattle.track_run.specs.State.{state_of};
 ghost use Rattle.track_run.specs.Turns.{turn, sum_of_all};
 ghost use Rattle.track_run.specs.Names.{target_of};
 ghost use Rattle.track_run.specs.World.{world, HasCauses};
-ghost use Rattle.track_run.specs.Parts.{Advances, StepTakes};
+ghost use Rattle.track_run.specs.Parts.{Advances, StepTakes, PassTakes};
 ghost use Rattle.track_run.specs.Shifting.{AsksNow};
 ghost use Rattle.track_run.specs.Standing.{IsKept};
 
@@ -14,12 +14,14 @@ use crate::course::Course;
 use crate::outcome::Stop;
 use crate::placing::{first_outside, place_all};
 use crate::saving::save;
-use crate::shifting::{all_still, all_summed, sum_one};
+use crate::shifting::{all_still, all_summed, asked_in, sum_one};
 use crate::stepping::say_step;
 use crate::words::Names;
 use grid_base::Shift;
+use edit_base::PassKind;
 use mesh_plain::{Surface, UseWhy};
 use outside_io::{Desk, Sink};
+use pass_run::{PassFault, pass};
 use std::alloc::Global;
 use step_choose::choose;
 use step_text::Directive;
@@ -76,6 +78,35 @@ fn take_step<S: Surface, K: Sink>(
     Ok(None)
 }
 
+// A pass over the mesh is made, each line of it written.
+fn take_pass<S: Surface, K: Sink>(
+    alloc: Global,
+    mesh: &mut S,
+    course: &mut Course,
+    kind: PassKind,
+    out: &mut K,
+) -> Result<Option<UseWhy>, Stop>
+    requires kept { IsKept (state_of (S.mesh mesh.old) course.old) }
+    requires limits { AreWithinLimits course.old.set }
+    requires taken { IsTaken kind }
+    ensures passes { PassTakes kind (state_of (S.mesh mesh.old) course.old) (state_of (S.mesh mesh.new) course.new) (K.written out.old) (K.written out.new) result }
+    ensures rest { course.new ≡ record course.old { asked = course.new.asked } }
+    ensures later { K.faults out.old ≤ K.faults out.new }
+    ensures cause { IsErrOf result Stop.SinkFault → Rose (K.faults out.old) (K.faults out.new) }
+    ensures desk { IsErrOf result Stop.DeskFault → ⊥ }
+{
+    match pass(alloc, mesh, kind, course.set.depth, out) {
+        Ok(_count) => {}
+        Err(PassFault::NoMemory) => return Err(Stop::NoMemory),
+        Err(PassFault::SinkFault) => return Err(Stop::SinkFault),
+    }
+    let Ok(asked) = asked_in(alloc, mesh, course.asked.as_slice()) else {
+        return Err(Stop::NoMemory);
+    };
+    course.asked = asked;
+    Ok(None)
+}
+
 /// Does one directive: its lines are written, or it is refused.
 pub(crate) fn advance<S: Surface, D: Desk, K: Sink>(
     alloc: Global,
@@ -88,6 +119,7 @@ pub(crate) fn advance<S: Surface, D: Desk, K: Sink>(
 ) -> Result<Option<UseWhy>, Stop>
     requires few { names.decimals ≤ 6 }
     requires range { IsInRange what }
+    requires taken { AsksTaken what }
     requires kept { IsKept (state_of (S.mesh mesh.old) course.old) }
     requires limits { AreWithinLimits course.old.set }
     requires steps { course.old.steps + 1 < 2 ^ 32 }
@@ -120,6 +152,7 @@ pub(crate) fn advance<S: Surface, D: Desk, K: Sink>(
         Directive::ShiftOne { v, by } => Ok(sum_one(&mut course.asked, v, by)),
         Directive::ShiftAll { by } => add_to_all(alloc, course, by),
         Directive::Step => take_step(alloc, mesh, course, out),
+        Directive::Pass(kind) => take_pass(alloc, mesh, course, kind, out),
         Directive::Save => {
             save(alloc, names, course.saved, mesh, desk, out)?;
             course.saved += 1;

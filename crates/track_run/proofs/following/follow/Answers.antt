@@ -1,4 +1,6 @@
-use Rattle.std.proofs.Common.{arith, None, refl, ap, Ok}
+use Rattle.std.proofs.Common.{arith, None, refl, ap, Ok, ◌+◌, drop, sym, subst}
+use Rattle.mesh_base.specs.Mesh.{Mesh}
+use Rattle.track_run.specs.Standing.{IsKept}
 use Rattle.std.proofs.lemmas.Result.{err_from_is_err_and}
 use Rattle.log_text.specs.declared.Refusal.TheVariants.{StepUse}
 use Rattle.log_text.specs.declared.LogLine.TheVariants.{Refused, End}
@@ -6,8 +8,8 @@ use Rattle.track_run.specs.State.{state_of}
 use Rattle.track_run.specs.Turns.{told_from}
 use Rattle.track_run.specs.Names.{target_of}
 use Rattle.track_run.specs.World.{world}
-use Rattle.track_run.proofs.SoFars.{so_far_none, goes_on, is_refused, turn_part, at_end, finished}
-use Rattle.track_run.proofs.TurnLemmas.{range_here}
+use Rattle.track_run.proofs.SoFars.{SoFar, so_far_none, goes_on, is_refused, turn_part, at_end, finished}
+use Rattle.track_run.proofs.TurnLemmas.{range_here, taken_here}
 use Rattle.track_run.proofs.following.follow.Goals as goal
 
 pub loop-placed-init : goal.loop-placed-init
@@ -16,6 +18,7 @@ loop-placed-init g c = record {
   kept = c.requires.kept;
   limits = c.requires.limits;
   ranges = c.requires.ranges;
+  taken = c.requires.taken;
   steps = omega (arith, c.requires.steps_made);
   saved = omega (arith, c.requires.saved);
   desk = omega arith;
@@ -24,6 +27,9 @@ loop-placed-init g c = record {
 
 pub advance-requires-clause-range : goal.advance-requires-clause-range
 advance-requires-clause-range g c = (range_here c.args.steps.now c.loop-placed.placed-index c.placed-item.result c.loop-placed-test.true c.placed-item.is c.loop-placed.invariant.ranges).0
+
+pub advance-requires-clause-taken : goal.advance-requires-clause-taken
+advance-requires-clause-taken g c = (taken_here c.args.steps.now c.loop-placed.placed-index c.placed-item.result c.loop-placed-test.true c.placed-item.is c.loop-placed.invariant.taken).0
 
 pub returns-in_err-advance-clause-follows : goal.returns-in_err-advance-clause-follows
 returns-in_err-advance-clause-follows g c =
@@ -41,16 +47,25 @@ returns-in-Some-clause-follows g c =
     c.finish.ensures.said c.finish.ensures.part c.finish.ensures.ending
 
 pub loop-placed-preserved : goal.loop-placed-preserved
-loop-placed-preserved g c = record {
-  so_far = goes_on (target_of c.args.names) _ c.args.steps.now c.loop-placed.placed-index c.placed-item.result c.loop-placed-test.true c.placed-item.is _ _ _ _ _ c.loop-placed.invariant.so_far _ c.in_ok-advance.field-0 c.in-None.is c.in_ok-advance.ensures.advances;
-  kept = c.in_ok-advance.ensures.kept (ap Ok c.in-None.is);
-  limits = c.in_ok-advance.ensures.limits;
-  ranges = (range_here c.args.steps.now c.loop-placed.placed-index c.placed-item.result c.loop-placed-test.true c.placed-item.is c.loop-placed.invariant.ranges).1;
-  steps = omega (arith, c.in_ok-advance.ensures.steps_count);
-  saved = omega (arith, c.in_ok-advance.ensures.saved_count);
-  desk = omega (arith, c.in_ok-advance.ensures.causes.desk);
-  out = omega (arith, c.in_ok-advance.ensures.causes.out);
-}
+loop-placed-preserved g c =
+    let first = state_of (g.S.Surface.mesh c.args.mesh.now) c.args.course.now in
+    let all = told_from c.args.steps.now first in
+    let left = drop (c.loop-placed.placed-index + 1) c.args.steps.now in
+    let old = world g.D.Desk.files g.K.Sink.written c.args.desk.now c.args.out.now in
+    let new = world g.D.Desk.files g.K.Sink.written c.advance.new.desk c.advance.new.out in
+    let P : Mesh → Type 0 = λ m. SoFar (target_of c.args.names) all (told_from left (state_of m c.advance.new.course)) first (state_of m c.advance.new.course) old new in
+    let Q : Mesh → Type 0 = λ m. IsKept (state_of m c.advance.new.course) in
+    record {
+      so_far = subst P (sym c.settle.ensures) (goes_on (target_of c.args.names) _ c.args.steps.now c.loop-placed.placed-index c.placed-item.result c.loop-placed-test.true c.placed-item.is _ _ _ _ _ c.loop-placed.invariant.so_far _ c.in_ok-advance.field-0 c.in-None.is c.in_ok-advance.ensures.advances);
+      kept = subst Q (sym c.settle.ensures) (c.in_ok-advance.ensures.kept (ap Ok c.in-None.is));
+      limits = c.in_ok-advance.ensures.limits;
+      ranges = (range_here c.args.steps.now c.loop-placed.placed-index c.placed-item.result c.loop-placed-test.true c.placed-item.is c.loop-placed.invariant.ranges).1;
+      taken = (taken_here c.args.steps.now c.loop-placed.placed-index c.placed-item.result c.loop-placed-test.true c.placed-item.is c.loop-placed.invariant.taken).1;
+      steps = omega (arith, c.in_ok-advance.ensures.steps_count);
+      saved = omega (arith, c.in_ok-advance.ensures.saved_count);
+      desk = omega (arith, c.in_ok-advance.ensures.causes.desk);
+      out = omega (arith, c.in_ok-advance.ensures.causes.out);
+    }
 
 pub returns-clause-follows : goal.returns-clause-follows
 returns-clause-follows g c =

@@ -10,7 +10,9 @@ use Rattle.track_run.specs.Parts.{Advances}
 use Rattle.track_run.specs.World.{world}
 use Rattle.track_run.proofs.NoFiles.{advances_step}
 use Rattle.pair_scan.proofs.Ways.{ids_sorted}
-use Rattle.track_run.proofs.Keeping.{kept_by_one, kept_by_all, kept_stepped}
+use Rattle.track_run.proofs.Keeping.{kept_by_one, kept_by_all, kept_stepped, kept_passed}
+use Rattle.track_run.proofs.PassTaken.{advances_pass}
+use Rattle.step_text.specs.Ranges.{AsksTaken}
 use Rattle.track_run.proofs.TurnLemmas.{save_part}
 use Rattle.track_run.proofs.turns.advance.Goals as goal
 
@@ -39,3 +41,15 @@ returns-in-ShiftAll-clause-kept g c = λ e.
 
 pub returns-in-Step-clause-kept : goal.returns-in-Step-clause-kept
 returns-in-Step-clause-kept g c = kept_stepped (state_of (g.S.Surface.mesh c.args.mesh.now) c.args.course.now) (state_of (g.S.Surface.mesh c.take_step.new.mesh) c.take_step.new.course) _ _ c.take_step.result c.requires.kept c.take_step.ensures.takes
+
+pub returns-in-Pass-clause-advances : goal.returns-in-Pass-clause-advances
+returns-in-Pass-clause-advances g c =
+    let mesh = g.S.Surface.mesh in
+    let P : Directive → Type 0 = λ what. Advances (target_of c.args.names) (turn what (state_of (mesh c.args.mesh.now) c.args.course.now)) (state_of (mesh c.args.mesh.now) c.args.course.now) (state_of (mesh c.take_pass.new.mesh) c.take_pass.new.course)
+    (world g.D.Desk.files g.K.Sink.written c.args.desk.now c.args.out.now) (world g.D.Desk.files g.K.Sink.written c.args.desk.now c.take_pass.new.out) c.take_pass.result in
+    subst P (sym c.in-Pass.is) (advances_pass (target_of c.args.names) c.in-Pass.kind (state_of (mesh c.args.mesh.now) c.args.course.now) (state_of (mesh c.take_pass.new.mesh) c.take_pass.new.course) (g.D.Desk.files c.args.desk.now) (g.K.Sink.written c.args.out.now) (g.K.Sink.written c.take_pass.new.out) c.take_pass.result c.take_pass.ensures.passes)
+
+pub returns-in-Pass-clause-kept : goal.returns-in-Pass-clause-kept
+returns-in-Pass-clause-kept g c =
+    let P : Directive → Type 0 = λ what. AsksTaken what in
+    kept_passed c.in-Pass.kind (state_of (g.S.Surface.mesh c.args.mesh.now) c.args.course.now) (state_of (g.S.Surface.mesh c.take_pass.new.mesh) c.take_pass.new.course) _ _ c.take_pass.result (subst P c.in-Pass.is c.requires.taken) c.requires.kept c.take_pass.ensures.passes
