@@ -1,0 +1,4 @@
+pub mod SaidLines
+pub mod Turning
+pub mod Keeping
+pub mod EdgesOrdered

@@ -1,0 +1,70 @@
+-- What a pass asks, in order, and when what is asked is due.
+use Rattle.std.specs.Prelude.{⊤, ℕ, ◌*◌, ◌&&◌, not, Bool, List, [], ◌∷◌, ◌++◌, map, length, nat_le, ℤ, pos, ◌*ℤ◌, int_lt, int_le}
+use Rattle.std.specs.FinMap as finite
+use Rattle.grid_base.specs.Triples.{minus}
+use Rattle.edit_base.specs.declared.Asked.{Asked}
+use Rattle.edit_base.specs.declared.Asked.TheVariants as asked
+use Rattle.edit_base.specs.declared.PassKind.{PassKind}
+use Rattle.edit_base.specs.declared.PassKind.TheVariants.{Split, Collapse, Flip, Zip, Pinch}
+use Rattle.mesh_base.specs.Mesh.{Mesh}
+use Rattle.mesh_base.specs.Pairs.{edges, is_edge, is_crowded}
+use Rattle.mesh_base.specs.Placements.{own_points}
+use Rattle.edit_base.specs.Edges.{edge_of, exact_mid}
+use Rattle.edit_base.specs.Zip.{square}
+use Rattle.edit_base.specs.Pinch.{fans}
+use Rattle.edit_base.specs.Answers.{is_zip_ready}
+
+-- the kinds of pass that are built so far
+abbrev pub IsBuilt : PassKind → Type 0
+IsBuilt (Split over) = ⊤
+IsBuilt (Collapse under) = ⊥
+IsBuilt Flip = ⊤
+IsBuilt (Zip within) = ⊥
+IsBuilt Pinch = ⊥
+
+-- each two of the list, the earlier one first, in order
+abbrev pub with_later : List (ℕ × ℕ) → List ((ℕ × ℕ) × (ℕ × ℕ))
+with_later [] = []
+with_later (e ∷ es) = map (λ f. (e, f)) es ++ with_later es
+
+-- what a pass over edges asks of an edge; the passes that do not go over single edges have candidates of their own
+abbrev pub asked_of : PassKind → ℕ × ℕ → Asked
+asked_of (Split over) e = asked.Split e.0 e.1
+asked_of (Collapse under) e = asked.Collapse e.0 e.1
+asked_of Flip e = asked.Flip e.0 e.1
+asked_of (Zip within) e = asked.Zip e.0 e.1 e.0 e.1
+asked_of Pinch e = asked.Pinch e.0
+
+-- what is asked, in order: of each edge of the opening mesh, of each two of them, or of each vertex
+abbrev pub candidates : Mesh → PassKind → List Asked
+candidates m (Split over) = map (asked_of (Split over)) (edges m)
+candidates m (Collapse under) = map (asked_of (Collapse under)) (edges m)
+candidates m Flip = map (asked_of Flip) (edges m)
+candidates m (Zip within) = map (λ two. asked.Zip (two.0).0 (two.0).1 (two.1).0 (two.1).1) (with_later (edges m))
+candidates m Pinch = map (λ v. asked.Pinch v) (finite.keys m.points)
+
+-- the square of the length from one vertex to another
+abbrev pub length_squared : Mesh → ℕ → ℕ → ℤ
+length_squared m u v = square (minus (own_points m u) (own_points m v))
+
+abbrev pub squared : ℕ → ℤ
+squared n = pos n *ℤ pos n
+
+-- the length that a pass goes by
+abbrev pub limit_of : PassKind → ℕ
+limit_of (Split over) = over
+limit_of (Collapse under) = under
+limit_of Flip = 0
+limit_of (Zip within) = within
+limit_of Pinch = 0
+
+-- What is asked still stands, and the condition of the pass holds. Midpoints are compared in half units.
+abbrev pub is_due : Mesh → PassKind → Asked → Bool
+is_due m kind (asked.Split a b) = is_edge m a b && int_lt (squared (limit_of kind)) (length_squared m a b)
+is_due m kind (asked.Collapse a b) = is_edge m a b && int_lt (length_squared m a b) (squared (limit_of kind))
+is_due m kind (asked.Flip a b) =
+    let s = edge_of m a b in
+    is_edge m a b && not (is_crowded m a b) && int_lt (length_squared m s.c s.d) (length_squared m a b)
+is_due m kind (asked.Zip a b e f) =
+    is_zip_ready m a b e f && int_le (square (minus (exact_mid m a b) (exact_mid m e f))) (squared (2 * limit_of kind))
+is_due m kind (asked.Pinch v) = nat_le 2 (length (fans m v))

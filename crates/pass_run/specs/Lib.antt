@@ -1,0 +1,5 @@
+pub mod Candidates
+pub mod PassLines
+pub mod Turns
+pub mod Said
+pub mod Promises

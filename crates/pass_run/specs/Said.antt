@@ -1,0 +1,29 @@
+-- What lines of a pass do to a sink and to a mesh.
+use Rattle.std.specs.Prelude.{◌≡◌, ℕ, ◌<◌, ◌⊎◌, List, [], ◌∷◌, ◌++◌, length, take, Option, Result, Ok, Err}
+use Rattle.mesh_base.specs.Mesh.{Mesh}
+use Rattle.log_text.specs.Lines.{text_of_line, text_of_lines}
+use Rattle.log_text.specs.declared.LogLine.{LogLine}
+use Rattle.outside_io.specs.Sink.{appended}
+use Rattle.pass_run.specs.declared.faults.PassFault.{PassFault}
+use Rattle.pass_run.specs.PassLines.{mesh_by_lines}
+
+-- nothing, or a part of the first line that is not all of it
+abbrev pub IsBegun : List ℕ → List LogLine → Type 0
+IsBegun part [] = part ≡ []
+IsBegun part (line ∷ lines) = (n : ℕ) × (n < length (text_of_line line)) × (part ≡ take n (text_of_line line))
+
+-- The first of these lines were written, in order, and perhaps a part of the next. The mesh is what the lines written make of
+-- it, or what they and the next one make.
+pub record SaidInPart (from to : Mesh) (old new : Option (List ℕ)) (lines : List LogLine) : Type 0 where
+  pub done : List LogLine
+  pub rest : List LogLine
+  pub split : lines ≡ done ++ rest
+  pub part : List ℕ
+  pub begun : IsBegun part rest
+  pub written : new ≡ appended old (text_of_lines done ++ part)
+  pub mesh : (to ≡ mesh_by_lines from done) ⊎ (to ≡ mesh_by_lines from (done ++ take 1 rest))
+
+-- these lines were written and the mesh is what they make, or the first of them
+abbrev pub Said : {T : Type 0} → Mesh → Mesh → Option (List ℕ) → Option (List ℕ) → List LogLine → Result T PassFault → Type 0
+Said from to old new lines (Ok x) = (to ≡ mesh_by_lines from lines) × (new ≡ appended old (text_of_lines lines))
+Said from to old new lines (Err fault) = SaidInPart from to old new lines
