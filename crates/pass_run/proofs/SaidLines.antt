@@ -41,7 +41,11 @@ part_none old new line same = (0, some_text line, same ∙ sym (appended-nil old
 -- nothing of some lines, and the mesh as it was
 pub said_nothing : (from to : Mesh) (old new : Option (List ℕ)) (lines : List LogLine) → to ≡ from → new ≡ old → SaidInPart from to old new lines
 said_nothing from to old new lines kept same = record {
-  done = []; rest = lines; split = refl; part = []; begun = begun_nothing lines;
+  done = [];
+  rest = lines;
+  split = refl;
+  part = [];
+  begun = begun_nothing lines;
   written = same ∙ sym (appended-nil old);
   mesh = inl kept;
 }
@@ -49,7 +53,11 @@ said_nothing from to old new lines kept same = record {
 -- a part of one line, and the mesh as the line makes it
 pub said_part : (from to : Mesh) (old new : Option (List ℕ)) (line : LogLine) → to ≡ mesh_by from line → AppendsPart old new (text_of_line line) → SaidInPart from to old new (line ∷ [])
 said_part from to old new line made part = record {
-  done = []; rest = line ∷ []; split = refl; part = take part.0 (text_of_line line); begun = (part.0, part.1, refl);
+  done = [];
+  rest = line ∷ [];
+  split = refl;
+  part = take part.0 (text_of_line line);
+  begun = (part.0, part.1, refl);
   written = part.2;
   mesh = inr made;
 }
@@ -143,8 +151,7 @@ pub so_far_all : (from now : Mesh) (old new : Option (List ℕ)) (left all : Lis
     → SoFar from now old new left all count → left ≡ []
     → (now ≡ mesh_by_lines from all) × (new ≡ appended old (text_of_lines all)) × (count.done ≡ done_in all) × (count.refused ≡ refused_in all)
 so_far_all from now old new left all count s e =
-    let same : s.said ≡ all = sym (append-nil s.said) ∙ ap (λ l. s.said ++ l) (sym e) ∙ s.whole in
-    (
+    let same : s.said ≡ all = sym (append-nil s.said) ∙ ap (λ l. s.said ++ l) (sym e) ∙ s.whole in (
       s.mesh ∙ ap (mesh_by_lines from) same,
       s.written ∙ ap (λ l. appended old (text_of_lines l)) same,
       s.done ∙ ap done_in same,

@@ -2,11 +2,14 @@
 #![tactic(auto)]
 
 mod faults;
+pub mod laws;
 mod lengths;
 mod passing;
 mod saying;
 mod turns;
-pub mod laws;
 
 pub use faults::PassFault;
 pub use passing::{PassCount, pass};
+
+#[cfg(test)]
+mod tests;
