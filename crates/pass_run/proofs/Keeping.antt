@@ -25,6 +25,11 @@ each_then : (m : Mesh) (xs ys : List LogLine) → EachMovesClear m xs → EachMo
 each_then m [] ys h k = k
 each_then m (x ∷ xs) ys h k = (h.0, h.1, each_then (mesh_by m x) xs ys h.2 k)
 
+-- the first lines
+pub front_moves_clear : (m : Mesh) (xs ys : List LogLine) → EachMovesClear m (xs ++ ys) → EachMovesClear m xs
+front_moves_clear m [] ys h = tt
+front_moves_clear m (x ∷ xs) ys h = (h.0, h.1, front_moves_clear (mesh_by m x) xs ys h.2)
+
 -- an answer with the laws of an edit
 answer_keeps : (answer : Answer) → StaysSound answer → StaysClosed answer → StaysClear answer → MotionIsClear answer
     → (m : Mesh) (what : Asked) → IsGood m → (edit : Edit) → answer m ≡ edit → EachMovesClear m (line_of what edit ∷ []) × IsGood (mesh_after m edit)

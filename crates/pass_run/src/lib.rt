@@ -10,3 +10,6 @@ mod turns;
 
 pub use faults::PassFault;
 pub use passing::{PassCount, pass};
+
+#[cfg(test)]
+mod tests;

@@ -1,0 +1,160 @@
+//! Worked examples.
+ghost use Rattle.pass_run.specs.Candidates.{IsBuilt};
+
+use crate::{PassCount, PassFault, pass};
+use edit_base::PassKind;
+use grid_base::{NoMemory, Point};
+use mesh_plain::{MeshLists, PlainMesh, Points, Surface, Triangles, shape};
+use outside_io::MemorySink;
+use pair_scan::first_meeting;
+use std::alloc::Global;
+use std::process::Abort;
+use std::test::Fail;
+
+// A tetrahedron.
+const FOUR: [[u32; 3]; 4] = [[1, 3, 2], [1, 2, 4], [2, 3, 4], [1, 4, 3]];
+const EVEN: [[i32; 3]; 4] = [[0, 0, 0], [4, 0, 0], [0, 4, 0], [0, 0, 4]];
+const LONG: [[i32; 3]; 4] = [[0, 0, 0], [40, 0, 0], [0, 4, 0], [0, 0, 4]];
+
+// A flat double pyramid over a triangle.
+const SIX: [[u32; 3]; 6] = [
+    [1, 2, 4],
+    [2, 3, 4],
+    [3, 1, 4],
+    [2, 1, 5],
+    [3, 2, 5],
+    [1, 3, 5],
+];
+const FLAT: [[i32; 3]; 5] = [
+    [0, 0, 0],
+    [24, 0, 0],
+    [12, 20, 0],
+    [12, 6, 4],
+    [12, 6, -4],
+];
+
+// The lines of the splits of all edges of the even tetrahedron.
+const SPLITS: [&[u8]; 7] = [
+    b"pass split 3\n",
+    b"split 1 2 5 2 0 0\n",
+    b"split 1 3 6 0 2 0\n",
+    b"split 1 4 7 0 0 2\n",
+    b"split 2 3 8 2 2 0\n",
+    b"split 2 4 9 2 0 2\n",
+    b"split 3 4 10 0 2 2\n",
+];
+
+fn first_splits(alloc: Global, count: usize) -> Result<Vec<u8>, NoMemory> {
+    let mut text = Vec::new(alloc);
+    for (i, line) in SPLITS.iter().enumerate() {
+        if i < count {
+            text.extend_from_slice(line)?;
+        }
+    }
+    Ok(text)
+}
+
+fn mesh_at(
+    alloc: Global,
+    points: &[[i32; 3]],
+    faces: &[[u32; 3]],
+    rt: &impl Abort,
+) -> Result<MeshLists, NoMemory> {
+    let mut lists = MeshLists {
+        points: Points::new(alloc),
+        faces: Triangles::new(alloc),
+    };
+    for p in points {
+        lists.points.push(Point::new(p[0], p[1], p[2]).expect(rt, "a point in the box"))?;
+    }
+    for f in faces {
+        lists.faces.push(*f)?;
+    }
+    Ok(lists)
+}
+
+// What a pass over a mesh of good shape that is clear does: how it ended, and how many vertices and faces there are then.
+fn done(
+    alloc: Global,
+    lists: &MeshLists,
+    kind: PassKind,
+    out: &mut MemorySink,
+    rt: &impl Abort,
+) -> Result<(Result<PassCount, PassFault>, u32, u32), NoMemory>
+    requires { IsBuilt kind }
+{
+    let shaped = shape(alloc, lists);
+    assert!(rt; shaped.is_ok());
+    let mut mesh = PlainMesh::of(alloc, lists)?;
+    let meeting = first_meeting(alloc, &mesh)?;
+    assert!(rt; meeting.is_none());
+    let count = pass(alloc, &mut mesh, kind, 6, out);
+    Ok((count, mesh.vertices(), mesh.faces()))
+}
+
+fn sink_of(alloc: Global, failing: &[u64]) -> Result<MemorySink, NoMemory> {
+    let mut numbers = Vec::new(alloc);
+    numbers.extend_from_slice(failing)?;
+    MemorySink::new(alloc, 1_000, numbers)
+}
+
+#[test]
+fn each_edge_of_a_tetrahedron_is_split(rt: HostRuntime) -> Result<(), Fail> {
+    let alloc = rt.alloc();
+    let lists = mesh_at(alloc, &EVEN, &FOUR, &rt)?;
+    let mut out = sink_of(alloc, &[])?;
+    let found = done(alloc, &lists, PassKind::Split { over: 3 }, &mut out, &rt)?;
+    let all = PassCount {
+        done: 6,
+        refused: 0,
+    };
+    assert_eq!(rt; found, (Ok(all), 10, 16));
+    assert_eq!(rt; out.bytes(), first_splits(alloc, 7)?.as_slice());
+    Ok(())
+}
+
+#[test]
+fn a_write_that_fails_leaves_whole_lines_and_one_more_edit(rt: HostRuntime) -> Result<(), Fail> {
+    let alloc = rt.alloc();
+    let lists = mesh_at(alloc, &EVEN, &FOUR, &rt)?;
+    // The write that fails, and how many vertices and faces are left: the edit of its line is done.
+    for (write, vertices, faces) in [(1, 4, 4), (2, 5, 6), (4, 7, 10), (7, 10, 16)] {
+        let mut out = sink_of(alloc, &[write])?;
+        let found = done(alloc, &lists, PassKind::Split { over: 3 }, &mut out, &rt)?;
+        assert_eq!(rt; found, (Err(PassFault::SinkFault), vertices, faces));
+        assert_eq!(rt; out.bytes(), first_splits(alloc, write as usize - 1)?.as_slice());
+    }
+    Ok(())
+}
+
+#[test]
+fn edges_that_are_there_already_are_not_made_by_a_flip(rt: HostRuntime) -> Result<(), Fail> {
+    let alloc = rt.alloc();
+    let lists = mesh_at(alloc, &LONG, &FOUR, &rt)?;
+    let mut out = sink_of(alloc, &[])?;
+    let found = done(alloc, &lists, PassKind::Flip, &mut out, &rt)?;
+    let none = PassCount {
+        done: 0,
+        refused: 3,
+    };
+    assert_eq!(rt; found, (Ok(none), 4, 4));
+    let text = b"pass flip\nno flip 1 2 edge\nno flip 2 3 edge\nno flip 2 4 edge\n";
+    assert_eq!(rt; out.bytes(), text.as_slice());
+    Ok(())
+}
+
+#[test]
+fn a_pass_goes_on_after_an_edge_that_is_not_flipped(rt: HostRuntime) -> Result<(), Fail> {
+    let alloc = rt.alloc();
+    let lists = mesh_at(alloc, &FLAT, &SIX, &rt)?;
+    let mut out = sink_of(alloc, &[])?;
+    let found = done(alloc, &lists, PassKind::Flip, &mut out, &rt)?;
+    let count = PassCount {
+        done: 1,
+        refused: 2,
+    };
+    assert_eq!(rt; found, (Ok(count), 5, 6));
+    let text = b"pass flip\nflip 1 2\nno flip 1 3 edge\nno flip 2 3 edge\n";
+    assert_eq!(rt; out.bytes(), text.as_slice());
+    Ok(())
+}
