@@ -9,6 +9,7 @@ pub mod FlipSound
 pub mod FlipFaces
 pub mod FlipClear
 pub mod ReasonLaws
+pub mod Counting
 pub mod SplitDone
 pub mod FlipDone
 pub mod CollapseDone
