@@ -7,9 +7,10 @@ use Rattle.std.specs.FinMap as finite
 use Rattle.std.specs.FinMap.{get-insert, get-remove}
 use Rattle.grid_base.specs.declared.Point.{Point}
 use Rattle.mesh_base.specs.declared.ids.Corners.{Corners}
-use Rattle.mesh_base.specs.Mesh.{Mesh, IsLiveVertex, IsLiveFace, HasCorners, AreDifferent}
+use Rattle.mesh_base.specs.Mesh.{Mesh, IsLiveFace, HasCorners, AreDifferent}
 use Rattle.mesh_base.specs.Sides.{follows, runs, IsClosed}
 use Rattle.mesh_base.specs.Changes.{with_face, without_face, with_vertex}
+use Rattle.edit_base.specs.Beside.{IsBeside}
 use Rattle.edit_base.specs.Edges.{Edge, third_corner, corners_from, without_faces, with_faces}
 use Rattle.edit_base.specs.Split.{split_mesh}
 use Rattle.edit_base.specs.Flip.{flip_mesh}
@@ -145,33 +146,6 @@ pub still_there : (m : Mesh) (f g : ℕ) (c : Corners) → f ≢ g → HasCorner
 still_there m f g c apart h = get-remove nat_cmp_total m.faces f g ∙ ap (λ b. cond b None (finite.get m.faces g)) (unsigned_tied g f ∙ is_not (g == f) (λ e. apart (sym (eqb-true g f e)))) ∙ h
 
 -- ---- the split
--- an edge that is not crowded, as a sound mesh has it
-pub record IsBeside (m : Mesh) (s : Edge) : Type 0 where
-  pub forth_corners : Corners
-  pub back_corners : Corners
-  pub forth : HasCorners m s.forth forth_corners
-  pub back : HasCorners m s.back back_corners
-  pub runs_forth : follows forth_corners s.a s.b ≡ true
-  pub runs_back : follows back_corners s.b s.a ≡ true
-  pub third : third_corner forth_corners s.a s.b ≡ s.c
-  pub fourth : third_corner back_corners s.b s.a ≡ s.d
-  pub forth_different : AreDifferent forth_corners
-  pub back_different : AreDifferent back_corners
-  pub two_faces : s.forth ≢ s.back
-  pub a_below : s.a < m.next_vertex
-  pub b_below : s.b < m.next_vertex
-  pub c_below : s.c < m.next_vertex
-  pub d_below : s.d < m.next_vertex
-  pub a_live : IsLiveVertex m s.a
-  pub b_live : IsLiveVertex m s.b
-  pub c_live : IsLiveVertex m s.c
-  pub d_live : IsLiveVertex m s.d
-  pub a_b : s.a ≢ s.b
-  pub b_c : s.b ≢ s.c
-  pub c_a : s.c ≢ s.a
-  pub a_d : s.a ≢ s.d
-  pub d_b : s.d ≢ s.b
-
 less_apart : (x y : ℕ) → x < y → x ≢ y
 less_apart x y h e = omega arith
 

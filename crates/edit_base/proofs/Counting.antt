@@ -8,8 +8,8 @@ use Rattle.std.specs.FinMap.{FinMap, len-insert, len-remove}
 use Rattle.grid_base.specs.declared.TheConstants.{VERTICES_MAX, FACES_MAX, ID_MAX}
 use Rattle.grid_base.specs.declared.Point.{Point}
 use Rattle.mesh_base.specs.declared.ids.Corners.{Corners}
-use Rattle.mesh_base.specs.Mesh.{Mesh, IsSound, IsLiveVertex, HasCorners}
-use Rattle.mesh_base.specs.Sides.{follows, runs}
+use Rattle.mesh_base.specs.Mesh.{Mesh, IsSound, HasCorners}
+use Rattle.mesh_base.specs.Sides.{follows}
 use Rattle.mesh_base.specs.Changes.{with_face, without_face, with_vertex}
 use Rattle.mesh_base.specs.Limits.{is_over_limits}
 use Rattle.mesh_base.proofs.Ordered.{runs-le}
@@ -17,7 +17,8 @@ use Rattle.edit_base.specs.Edges.{Edge, without_faces, with_faces}
 use Rattle.edit_base.specs.Split.{split_faces, split_mesh, split_is_over}
 use Rattle.edit_base.specs.Flip.{flip_faces, flip_mesh}
 use Rattle.edit_base.specs.Answers.{is_full}
-use Rattle.edit_base.proofs.Closed.{IsBeside, AreBelow, not_live, below-with, below-without, still_there}
+use Rattle.edit_base.specs.Beside.{IsBeside}
+use Rattle.edit_base.proofs.Closed.{AreBelow, not_live, below-with, below-without, still_there}
 use Rattle.edit_base.proofs.FlipSound.{runs_there}
 use Rattle.edit_base.proofs.ReasonLaws.{below_next}
 

@@ -12,7 +12,7 @@ use Rattle.mesh_base.proofs.Counts.{runs-without_face}
 use Rattle.mesh_base.proofs.Finite.{got_after_remove}
 use Rattle.edit_base.specs.Edges.{AreFresh, Edge, corners_from, without_faces}
 use Rattle.edit_base.specs.Flip.{flip_mesh}
-use Rattle.edit_base.proofs.Closed.{IsBeside}
+use Rattle.edit_base.specs.Beside.{IsBeside}
 use Rattle.edit_base.proofs.Sound.{mesh-without_face, mesh-with_faces, still_fresh, not_over, next_face-with_faces, not_rotated}
 
 -- a face that has the step counts in it

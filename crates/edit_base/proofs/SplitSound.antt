@@ -9,7 +9,7 @@ use Rattle.mesh_base.proofs.Finite.{live_stays, live_inserted}
 use Rattle.mesh_base.proofs.MeshLaws.{next_is_new}
 use Rattle.edit_base.specs.Edges.{AreFresh, Edge, corners_from, without_faces}
 use Rattle.edit_base.specs.Split.{split_mesh}
-use Rattle.edit_base.proofs.Closed.{IsBeside}
+use Rattle.edit_base.specs.Beside.{IsBeside}
 use Rattle.edit_base.proofs.Sound.{mesh-without_face, mesh-with_vertex, mesh-with_faces, still_fresh, not_over, next_face-with_faces, not_rotated}
 
 module _ (m : Mesh) (p : Point) (mesh : IsMesh m) where

@@ -13,8 +13,8 @@ use Rattle.edit_base.specs.Edges.{Edge, point_of, floor_mid, exact_mid, corners_
 use Rattle.edit_base.specs.Scaffold.{Scaffold}
 
 -- the two faces beside the edge
-abbrev pub beside : Edge → List ℕ
-beside s = s.forth ∷ s.back ∷ []
+abbrev pub faces_beside : Edge → List ℕ
+faces_beside s = s.forth ∷ s.back ∷ []
 
 -- the four faces round a new vertex w
 abbrev pub split_faces : Edge → ℕ → List Corners
@@ -22,7 +22,7 @@ split_faces s w = corners_from s.a w s.c ∷ corners_from w s.b s.c ∷ corners_
 
 -- the two faces beside the edge are dropped, and four are made round a new vertex at a point
 abbrev pub split_mesh : Mesh → Edge → Point → Mesh
-split_mesh m s at = with_faces (with_vertex (without_faces m (beside s)) at) (split_faces s m.next_vertex)
+split_mesh m s at = with_faces (with_vertex (without_faces m (faces_beside s)) at) (split_faces s m.next_vertex)
 
 -- a split would pass a limit: it takes room for one vertex and two faces, and the ids of one vertex and four faces
 abbrev pub split_is_over : Mesh → Bool
