@@ -9,6 +9,8 @@ pub mod FlipSound
 pub mod FlipFaces
 pub mod FlipClear
 pub mod ReasonLaws
+pub mod Undoubled
+pub mod Changed
 pub mod Counting
 pub mod SplitDone
 pub mod FlipDone
