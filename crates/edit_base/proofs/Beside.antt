@@ -80,7 +80,7 @@ third_live m C a b live d e =
     (or_either ((C.first == a && C.second == b) || (C.second == a && C.third == b)) _ e)
 
 -- ---- a face does not run both ways
-none_of : (x y u v : ℕ) → (x ≢ u) ⊎ (y ≢ v) → arc x y u v ≡ 0
+pub none_of : (x y u v : ℕ) → (x ≢ u) ⊎ (y ≢ v) → arc x y u v ≡ 0
 none_of x y u v apart = by_tests (x == u) (y == v) refl refl
   where
     by_tests : (a b : Bool) → (x == u) ≡ a → (y == v) ≡ b → ◌≡◌ {A = ℕ} (cond (a && b) 1 0) 0

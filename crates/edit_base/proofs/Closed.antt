@@ -42,7 +42,7 @@ pub three_arcs : (c : Corners) (u v : ℕ) → AreDifferent c → cond (follows 
 three_arcs c u v different = one_of_three (c.first == u) (c.second == u) (c.third == u) (c.first == v) (c.second == v) (c.third == v)
     (not_both c.first c.second u different.first_second) (not_both c.second c.third u different.second_third) (not_both c.third c.first u different.third_first)
 
-other_way : (x y u v : ℕ) → arc x y u v ≡ arc y x v u
+pub other_way : (x y u v : ℕ) → arc x y u v ≡ arc y x v u
 other_way x y u v = swapped (x == u) (y == v)
   where
     swapped : (a b : Bool) → ◌≡◌ {A = ℕ} (cond (a && b) 1 0) (cond (b && a) 1 0)

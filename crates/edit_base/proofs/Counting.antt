@@ -38,6 +38,13 @@ len-dropped m f c u v there step =
 len-made : (m : Mesh) (c : Corners) → AreBelow m → finite.len (with_face m c).faces ≡ finite.len m.faces + 1
 len-made m c below = len-new m.faces m.next_face c (not_live m below)
 
+pub made_many : (n : Mesh) (cs : List Corners) → AreBelow n → finite.len (with_faces n cs).faces ≡ finite.len n.faces + length cs
+made_many n [] below = omega arith
+made_many n (c ∷ cs) below =
+    let rest = made_many (with_face n c) cs (below-with n c below) in
+    let one = len-made n c below in
+    omega (arith, rest, one)
+
 module _ (m : Mesh) (s : Edge) (sound : IsSound m) (beside : IsBeside m s) where
   abbrev bare : Mesh
   bare = without_faces m (s.forth ∷ s.back ∷ [])
@@ -53,13 +60,6 @@ module _ (m : Mesh) (s : Edge) (sound : IsSound m) (beside : IsBeside m s) where
     where
       both : (bare less all : ℕ) → less + 1 ≡ all → bare + 1 ≡ less → bare + 2 ≡ all
       both bare less all e g = omega arith
-
-  made_many : (n : Mesh) (cs : List Corners) → AreBelow n → finite.len (with_faces n cs).faces ≡ finite.len n.faces + length cs
-  made_many n [] below = omega arith
-  made_many n (c ∷ cs) below =
-      let rest = made_many (with_face n c) cs (below-with n c below) in
-      let one = len-made n c below in
-      omega (arith, rest, one)
 
   no_vertex : finite.get m.points m.next_vertex ≡ None
   no_vertex = by_answer (finite.get m.points m.next_vertex) refl

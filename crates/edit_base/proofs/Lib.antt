@@ -12,6 +12,7 @@ pub mod ReasonLaws
 pub mod Undoubled
 pub mod Changed
 pub mod Counting
+pub mod Tunnel
 pub mod SplitDone
 pub mod FlipDone
 pub mod CollapseDone
