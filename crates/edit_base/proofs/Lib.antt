@@ -13,6 +13,7 @@ pub mod Undoubled
 pub mod Changed
 pub mod Counting
 pub mod Tunnel
+pub mod ZipClosed
 pub mod SplitDone
 pub mod FlipDone
 pub mod CollapseDone
