@@ -14,6 +14,7 @@ pub mod Changed
 pub mod Counting
 pub mod Tunnel
 pub mod ZipClosed
+pub mod ZipTurns
 pub mod SplitDone
 pub mod FlipDone
 pub mod CollapseDone

@@ -91,7 +91,7 @@ module _ (m : Mesh) (s t : Edge) (sound : IsSound m) (beside_s : IsBeside m s) (
       total : (r r1 r2 r3 r4 f g h k f' g' h' k' : ℕ) → r1 + f ≡ r → r2 + g ≡ r1 → r3 + h ≡ r2 → r4 + k ≡ r3 → f ≡ f' → g ≡ g' → h ≡ h' → k ≡ k' → r4 + ((f' + g') + (h' + k')) ≡ r
       total r r1 r2 r3 r4 f g h k f' g' h' k' a b c d e i j l = omega arith
 
-  bare_below : AreBelow bare
+  pub bare_below : AreBelow bare
   bare_below = below-without m3 t.back (below-without m2 t.forth (below-without m1 s.back (below-without m s.forth (below_next m sound))))
 
   -- the rims, whatever the turn
