@@ -1,9 +1,9 @@
 -- A mesh of which faces are dropped and others made, where no two are equal in the end.
-use Rattle.std.proofs.Common.{◌≡◌, ℕ, ◌+◌, ◌<◌, ◌≤◌, Bool, true, false, List, [], ◌∷◌, Some, is_some, refl, ap, subst, sym, ◌∙◌, ⊎_elim, arith}
+use Rattle.std.proofs.Common.{◌≡◌, ℕ, ◌+◌, ◌<◌, ◌≤◌, true, false, List, [], ◌∷◌, is_some, refl, subst, sym, ⊎_elim, arith}
 use Rattle.std.specs.List.{AllByRecursion}
 use Rattle.std.specs.FinMap as finite
 use Rattle.mesh_base.specs.declared.ids.Corners.{Corners}
-use Rattle.mesh_base.specs.Mesh.{Mesh, IsMesh, IsLiveVertex, IsLiveFace, AreLive, AreDifferent, HasCorners}
+use Rattle.mesh_base.specs.Mesh.{Mesh, IsMesh, IsLiveFace, AreLive, AreDifferent, HasCorners}
 use Rattle.mesh_base.specs.Changes.{with_face, without_face}
 use Rattle.mesh_base.proofs.Finite.{got_after_insert, live_after_insert}
 use Rattle.edit_base.specs.Edges.{with_faces, without_faces, doubles_a_face}

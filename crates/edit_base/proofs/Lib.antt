@@ -15,6 +15,7 @@ pub mod Counting
 pub mod Tunnel
 pub mod ZipClosed
 pub mod ZipTurns
+pub mod ZipDone
 pub mod SplitDone
 pub mod FlipDone
 pub mod CollapseDone

@@ -1,6 +1,5 @@
 -- A zip leaves a closed mesh closed.
-use Rattle.std.proofs.Common.{◌≡◌, ◌≢◌, ℕ, ◌+◌, Bool, true, false, cond, [], ◌∷◌, Some, inl, refl, sym, ap, subst, ◌∙◌, arith}
-use Rattle.std.specs.FinMap as finite
+use Rattle.std.proofs.Common.{◌≡◌, ◌≢◌, ℕ, ◌+◌, true, cond, [], ◌∷◌, Some, inl, refl, sym, ap, subst, ◌∙◌, arith}
 use Rattle.mesh_base.specs.declared.ids.Corners.{Corners}
 use Rattle.mesh_base.specs.Mesh.{Mesh, IsSound, HasCorners, AreDifferent}
 use Rattle.mesh_base.specs.Sides.{follows, runs, IsClosed}
@@ -8,7 +7,7 @@ use Rattle.mesh_base.specs.Changes.{without_face}
 use Rattle.mesh_base.proofs.Counts.{runs-without_face}
 use Rattle.edit_base.specs.Beside.{IsBeside}
 use Rattle.edit_base.specs.Edges.{Edge, third_corner, without_faces, with_faces}
-use Rattle.edit_base.proofs.Closed.{AreBelow, arc, other_way, round, round_of, same_arcs, flow, runs-with_faces, below-without, still_there}
+use Rattle.edit_base.proofs.Closed.{AreBelow, arc, other_way, round, round_of, same_arcs, runs-with_faces, below-without, still_there}
 use Rattle.edit_base.proofs.Beside.{none_of}
 use Rattle.edit_base.proofs.ReasonLaws.{below_next}
 use Rattle.edit_base.proofs.Tunnel.{tunnel, IsRim, AreFar, rims, tunnel_balance}

@@ -1,10 +1,10 @@
 -- The four turns of a zip: each leaves a closed mesh, and a sound one where no face is doubled.
-use Rattle.std.proofs.Common.{◌≡◌, ◌≢◌, ℕ, ◌+◌, ◌<◌, ◌≤◌, Bool, true, false, ◌||◌, ◌==◌, nat_lt, List, [], ◌∷◌, ◌++◌, length, refl, sym, ap, subst, ◌∙◌, arith}
+use Rattle.std.proofs.Common.{◌≡◌, ◌≢◌, ℕ, ◌+◌, ◌≤◌, Bool, true, false, ◌||◌, ◌==◌, nat_lt, List, [], ◌∷◌, ◌++◌, refl, sym, ap, ◌∙◌, arith}
 use Rattle.std.proofs.lemmas.Bool.Decides.{nat_tests}
 use Rattle.std.specs.List.{AllByRecursion}
 use Rattle.std.specs.FinMap as finite
 use Rattle.grid_base.specs.declared.TheConstants.{VERTICES_MAX, FACES_MAX, ID_MAX}
-use Rattle.mesh_base.specs.Mesh.{Mesh, IsMesh, IsSound}
+use Rattle.mesh_base.specs.Mesh.{Mesh, IsSound}
 use Rattle.mesh_base.specs.Sides.{IsClosed}
 use Rattle.mesh_base.specs.Limits.{is_over_limits}
 use Rattle.edit_base.specs.Beside.{IsBeside}
@@ -17,7 +17,7 @@ use Rattle.edit_base.proofs.Sound.{not_over}
 use Rattle.edit_base.proofs.Changed.{mesh-without_faces, mesh-with_many}
 use Rattle.edit_base.proofs.Counting.{made_many}
 use Rattle.edit_base.proofs.Tunnel.{tunnel, IsRim, AreFar, AreAllLive, may_be_made}
-use Rattle.edit_base.proofs.ZipClosed.{AreDisjoint, bare, bare_below, turn_is_closed}
+use Rattle.edit_base.proofs.ZipClosed.{AreDisjoint, bare_below, turn_is_closed}
 
 -- ---- eight different ids
 neither : (a b : Bool) → (a || b) ≡ false → (a ≡ false) × (b ≡ false)

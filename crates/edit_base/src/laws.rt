@@ -13,7 +13,7 @@ ghost use Rattle.edit_base.specs.Edges.{edge_of, without_faces, AreFresh};
 ghost use Rattle.edit_base.specs.Beside.{IsBeside};
 ghost use Rattle.edit_base.specs.Split.{faces_beside, split_faces, split_mesh, split_is_over};
 ghost use Rattle.edit_base.specs.Flip.{flip_faces, flip_mesh};
-ghost use Rattle.edit_base.specs.Answers.{is_full, split_answer, flip_answer, collapse_answer};
+ghost use Rattle.edit_base.specs.Answers.{is_full, split_answer, flip_answer, collapse_answer, zip_answer};
 ghost use Rattle.edit_base.specs.Laws.{NoneLackingIsClear, StaysSound, StaysClosed, StaysClear, MotionIsClear};
 
 /// Where no pair of a scaffold lacks what is required of it, by an exact test of meeting, no pair meets at any fraction of
@@ -61,4 +61,11 @@ pub fn flips_keep_the_mesh()
 /// The motion of a done collapse, in which the two ends of the edge come together, is clear.
 pub fn collapses_move_clear()
     ensures { (meets : Positions → Bool) → IsExact meets → (u v depth : ℕ) → MotionIsClear (λ m. collapse_answer meets m u v depth) }
+{}
+
+/// A done zip of a sound, closed and clear mesh leaves one. It moves nothing.
+pub fn zips_keep_the_mesh()
+    ensures sound { (meets : Positions → Bool) (u v x y : ℕ) → StaysSound (λ m. zip_answer meets m u v x y) }
+    ensures closed { (meets : Positions → Bool) (u v x y : ℕ) → StaysClosed (λ m. zip_answer meets m u v x y) }
+    ensures clear { (meets : Positions → Bool) → IsExact meets → (u v x y : ℕ) → StaysClear (λ m. zip_answer meets m u v x y) }
 {}
