@@ -14,7 +14,8 @@ use Rattle.mesh_base.specs.Sides.{follows, runs, ids_where, IsClosed}
 use Rattle.mesh_base.specs.Pairs.{is_edge}
 use Rattle.edit_base.specs.Edges.{edge_of, corners_at, third_corner, face_running}
 use Rattle.mesh_base.proofs.Listed.{each_found, edge_live}
-use Rattle.edit_base.proofs.Closed.{IsBeside, arc, round_of, first_way, second_way, third_way}
+use Rattle.edit_base.specs.Beside.{IsBeside}
+use Rattle.edit_base.proofs.Closed.{arc, round_of, first_way, second_way, third_way}
 
 -- ---- the first face that runs one way
 first_running : (Q : ℕ × Corners → Type 0) (test : Corners → Bool) (es : List (ℕ × Corners)) → AllByRecursion Q es → 0 < length (ids_where test es) → (c : Corners) × (test c ≡ true) × Q (slice_index (ids_where test es) 0, c)
@@ -79,7 +80,7 @@ third_live m C a b live d e =
     (or_either ((C.first == a && C.second == b) || (C.second == a && C.third == b)) _ e)
 
 -- ---- a face does not run both ways
-none_of : (x y u v : ℕ) → (x ≢ u) ⊎ (y ≢ v) → arc x y u v ≡ 0
+pub none_of : (x y u v : ℕ) → (x ≢ u) ⊎ (y ≢ v) → arc x y u v ≡ 0
 none_of x y u v apart = by_tests (x == u) (y == v) refl refl
   where
     by_tests : (a b : Bool) → (x == u) ≡ a → (y == v) ≡ b → ◌≡◌ {A = ℕ} (cond (a && b) 1 0) 0

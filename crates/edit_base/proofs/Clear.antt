@@ -17,7 +17,7 @@ use Rattle.edit_base.specs.Laws.{NoneLackingIsClear}
 use Rattle.grid_base.proofs.Reflected.{passes_of, opens_of}
 use Rattle.mesh_base.proofs.Listed.{listed}
 
-not_found : {X : Type 0} (test : X → Bool) (xs : List X) → find test xs ≡ None → AllByRecursion (λ x. test x ≡ false) xs
+pub not_found : {X : Type 0} (test : X → Bool) (xs : List X) → find test xs ≡ None → AllByRecursion (λ x. test x ≡ false) xs
 not_found test [] e = tt
 not_found {X} test (x ∷ xs) e = by_test (not_found test xs) (test x) refl e
   where

@@ -7,9 +7,10 @@ use Rattle.std.specs.FinMap as finite
 use Rattle.std.specs.FinMap.{get-insert, get-remove}
 use Rattle.grid_base.specs.declared.Point.{Point}
 use Rattle.mesh_base.specs.declared.ids.Corners.{Corners}
-use Rattle.mesh_base.specs.Mesh.{Mesh, IsLiveVertex, IsLiveFace, HasCorners, AreDifferent}
+use Rattle.mesh_base.specs.Mesh.{Mesh, IsLiveFace, HasCorners, AreDifferent}
 use Rattle.mesh_base.specs.Sides.{follows, runs, IsClosed}
 use Rattle.mesh_base.specs.Changes.{with_face, without_face, with_vertex}
+use Rattle.edit_base.specs.Beside.{IsBeside}
 use Rattle.edit_base.specs.Edges.{Edge, third_corner, corners_from, without_faces, with_faces}
 use Rattle.edit_base.specs.Split.{split_mesh}
 use Rattle.edit_base.specs.Flip.{flip_mesh}
@@ -41,7 +42,7 @@ pub three_arcs : (c : Corners) (u v : ℕ) → AreDifferent c → cond (follows 
 three_arcs c u v different = one_of_three (c.first == u) (c.second == u) (c.third == u) (c.first == v) (c.second == v) (c.third == v)
     (not_both c.first c.second u different.first_second) (not_both c.second c.third u different.second_third) (not_both c.third c.first u different.third_first)
 
-other_way : (x y u v : ℕ) → arc x y u v ≡ arc y x v u
+pub other_way : (x y u v : ℕ) → arc x y u v ≡ arc y x v u
 other_way x y u v = swapped (x == u) (y == v)
   where
     swapped : (a b : Bool) → ◌≡◌ {A = ℕ} (cond (a && b) 1 0) (cond (b && a) 1 0)
@@ -108,21 +109,21 @@ round_of C a b u v different e =
 abbrev pub AreBelow : Mesh → Type 0
 AreBelow m = (f : ℕ) → IsLiveFace m f → f < m.next_face
 
-not_live : (m : Mesh) → AreBelow m → finite.get m.faces m.next_face ≡ None
+pub not_live : (m : Mesh) → AreBelow m → finite.get m.faces m.next_face ≡ None
 not_live m below = by_answer (finite.get m.faces m.next_face) refl
   where
     by_answer : (o : Option Corners) → finite.get m.faces m.next_face ≡ o → o ≡ None
     by_answer (Some c) e = let h : m.next_face < m.next_face = below m.next_face (ap is_some e) in absurd (omega arith)
     by_answer None e = refl
 
-below-without : (m : Mesh) (g : ℕ) → AreBelow m → AreBelow (without_face m g)
+pub below-without : (m : Mesh) (g : ℕ) → AreBelow m → AreBelow (without_face m g)
 below-without m g below f live = below f (was (eq_by_cmp nat_cmp f g) (subst IsSome (get-remove nat_cmp_total m.faces g f) live))
   where
     was : (b : Bool) → IsSome (cond b None (finite.get m.faces f)) → IsSome (finite.get m.faces f)
     was true h = absurd (false≢true h)
     was false h = h
 
-below-with : (m : Mesh) (c : Corners) → AreBelow m → AreBelow (with_face m c)
+pub below-with : (m : Mesh) (c : Corners) → AreBelow m → AreBelow (with_face m c)
 below-with m c below f live = by_test (eq_by_cmp nat_cmp f m.next_face) refl (subst IsSome (get-insert nat_cmp_total m.faces m.next_face c f) live)
   where
     by_test : (b : Bool) → eq_by_cmp nat_cmp f m.next_face ≡ b → IsSome (cond b (Some c) (finite.get m.faces f)) → f < m.next_face + 1
@@ -141,37 +142,10 @@ runs-with_faces m (c ∷ cs) u v below =
     let one = runs-with_face m c u v (not_live m below) in
     omega (arith, rest, one)
 
-still_there : (m : Mesh) (f g : ℕ) (c : Corners) → f ≢ g → HasCorners m g c → HasCorners (without_face m f) g c
+pub still_there : (m : Mesh) (f g : ℕ) (c : Corners) → f ≢ g → HasCorners m g c → HasCorners (without_face m f) g c
 still_there m f g c apart h = get-remove nat_cmp_total m.faces f g ∙ ap (λ b. cond b None (finite.get m.faces g)) (unsigned_tied g f ∙ is_not (g == f) (λ e. apart (sym (eqb-true g f e)))) ∙ h
 
 -- ---- the split
--- an edge that is not crowded, as a sound mesh has it
-pub record IsBeside (m : Mesh) (s : Edge) : Type 0 where
-  pub forth_corners : Corners
-  pub back_corners : Corners
-  pub forth : HasCorners m s.forth forth_corners
-  pub back : HasCorners m s.back back_corners
-  pub runs_forth : follows forth_corners s.a s.b ≡ true
-  pub runs_back : follows back_corners s.b s.a ≡ true
-  pub third : third_corner forth_corners s.a s.b ≡ s.c
-  pub fourth : third_corner back_corners s.b s.a ≡ s.d
-  pub forth_different : AreDifferent forth_corners
-  pub back_different : AreDifferent back_corners
-  pub two_faces : s.forth ≢ s.back
-  pub a_below : s.a < m.next_vertex
-  pub b_below : s.b < m.next_vertex
-  pub c_below : s.c < m.next_vertex
-  pub d_below : s.d < m.next_vertex
-  pub a_live : IsLiveVertex m s.a
-  pub b_live : IsLiveVertex m s.b
-  pub c_live : IsLiveVertex m s.c
-  pub d_live : IsLiveVertex m s.d
-  pub a_b : s.a ≢ s.b
-  pub b_c : s.b ≢ s.c
-  pub c_a : s.c ≢ s.a
-  pub a_d : s.a ≢ s.d
-  pub d_b : s.d ≢ s.b
-
 less_apart : (x y : ℕ) → x < y → x ≢ y
 less_apart x y h e = omega arith
 

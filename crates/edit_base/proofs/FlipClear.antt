@@ -13,7 +13,7 @@ use Rattle.mesh_base.proofs.Listed.{running_face, edge_live, and_first, and_seco
 use Rattle.edit_base.specs.Scaffold.{motion_of}
 use Rattle.edit_base.specs.Edges.{Edge, corners_from}
 use Rattle.edit_base.specs.Flip.{flip_scaffold}
-use Rattle.edit_base.proofs.Closed.{IsBeside}
+use Rattle.edit_base.specs.Beside.{IsBeside}
 use Rattle.edit_base.proofs.Ends.{clear_at_end, clear_after_along}
 use Rattle.edit_base.proofs.Midway.{face_is_two_faces, edge_is_two_edges, Meets-exchanged, plus_comm}
 use Rattle.edit_base.proofs.FlipSound.{runs_there}

@@ -10,9 +10,9 @@ use Rattle.mesh_base.specs.Changes.{without_face, IsFresh}
 use Rattle.mesh_base.specs.Limits.{is_over_limits}
 use Rattle.mesh_base.proofs.Counts.{runs-without_face}
 use Rattle.mesh_base.proofs.Finite.{got_after_remove}
-use Rattle.edit_base.specs.Edges.{Edge, corners_from, without_faces}
+use Rattle.edit_base.specs.Edges.{AreFresh, Edge, corners_from, without_faces}
 use Rattle.edit_base.specs.Flip.{flip_mesh}
-use Rattle.edit_base.proofs.Closed.{IsBeside}
+use Rattle.edit_base.specs.Beside.{IsBeside}
 use Rattle.edit_base.proofs.Sound.{mesh-without_face, mesh-with_faces, still_fresh, not_over, next_face-with_faces, not_rotated}
 
 -- a face that has the step counts in it
@@ -80,8 +80,12 @@ module _ (m : Mesh) (s : Edge) (sound : IsSound m) (beside : IsBeside m s) (c_d 
   one_two : equal_up_to_rotation one two ≡ false
   one_two = not_rotated s.a s.d s.c s.b s.c s.d (inl beside.a_b) (inl beside.d_b) (inl (λ e. beside.b_c (sym e)))
 
+  -- the two faces may be made, one after the other
+  pub both_fresh : AreFresh bare (one ∷ two ∷ [])
+  both_fresh = (fresh_one, (still_fresh bare one two fresh_two one_two, tt))
+
   pub flip_is_sound : is_over_limits (flip_mesh m s) ≡ false → IsSound (flip_mesh m s)
   flip_is_sound fits = record {
-    is_mesh = mesh-with_faces bare (one ∷ two ∷ []) bare_mesh sound.limits.face_ids.0 (fresh_one, (still_fresh bare one two fresh_two one_two, tt));
+    is_mesh = mesh-with_faces bare (one ∷ two ∷ []) bare_mesh sound.limits.face_ids.0 both_fresh;
     limits = not_over (flip_mesh m s) fits sound.limits.vertex_ids.0 (next_face-with_faces bare (one ∷ two ∷ []) sound.limits.face_ids.0);
   }

@@ -9,6 +9,13 @@ pub mod FlipSound
 pub mod FlipFaces
 pub mod FlipClear
 pub mod ReasonLaws
+pub mod Undoubled
+pub mod Changed
+pub mod Counting
+pub mod Tunnel
+pub mod ZipClosed
+pub mod ZipTurns
+pub mod ZipDone
 pub mod SplitDone
 pub mod FlipDone
 pub mod CollapseDone

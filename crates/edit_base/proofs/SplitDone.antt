@@ -19,7 +19,8 @@ use Rattle.edit_base.specs.Clauses.{MovesClear}
 use Rattle.edit_base.specs.Laws.{StaysSound, StaysClosed, StaysClear, MotionIsClear}
 use Rattle.edit_base.proofs.Clear.{none_lacking_is_clear, no_name}
 use Rattle.edit_base.proofs.ReasonLaws.{done_is, none_first, does_not_hold, stands, edge_again, below_next}
-use Rattle.edit_base.proofs.Closed.{IsBeside, split_is_closed}
+use Rattle.edit_base.specs.Beside.{IsBeside}
+use Rattle.edit_base.proofs.Closed.{split_is_closed}
 use Rattle.edit_base.proofs.Beside.{beside_of}
 use Rattle.edit_base.proofs.SplitSound.{split_is_sound}
 use Rattle.edit_base.proofs.Ends.{split_is_clear}

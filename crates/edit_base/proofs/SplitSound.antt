@@ -7,10 +7,10 @@ use Rattle.mesh_base.specs.Changes.{with_vertex, with_face, without_face, IsFres
 use Rattle.mesh_base.specs.Limits.{is_over_limits}
 use Rattle.mesh_base.proofs.Finite.{live_stays, live_inserted}
 use Rattle.mesh_base.proofs.MeshLaws.{next_is_new}
-use Rattle.edit_base.specs.Edges.{Edge, corners_from, without_faces}
+use Rattle.edit_base.specs.Edges.{AreFresh, Edge, corners_from, without_faces}
 use Rattle.edit_base.specs.Split.{split_mesh}
-use Rattle.edit_base.proofs.Closed.{IsBeside}
-use Rattle.edit_base.proofs.Sound.{mesh-without_face, mesh-with_vertex, mesh-with_faces, still_fresh, AreFresh, not_over, next_face-with_faces, not_rotated}
+use Rattle.edit_base.specs.Beside.{IsBeside}
+use Rattle.edit_base.proofs.Sound.{mesh-without_face, mesh-with_vertex, mesh-with_faces, still_fresh, not_over, next_face-with_faces, not_rotated}
 
 module _ (m : Mesh) (p : Point) (mesh : IsMesh m) where
   below : (u : ℕ) → IsLiveVertex m u → u < m.next_vertex
@@ -73,7 +73,7 @@ module _ (m : Mesh) (s : Edge) (p : Point) (sound : IsSound m) (beside : IsBesid
   more : (x y : ℕ) → x < y → y ≢ x
   more x y h e = omega (arith, e)
 
-  all_fresh : AreFresh base (one ∷ two ∷ three ∷ four ∷ [])
+  pub all_fresh : AreFresh base (one ∷ two ∷ three ∷ four ∷ [])
   all_fresh =
       let not_a = less s.a w beside.a_below in
       let a_not = more s.a w beside.a_below in

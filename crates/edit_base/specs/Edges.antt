@@ -1,5 +1,5 @@
 -- An edge with the two faces beside it, and changes that edits share.
-use Rattle.std.specs.Prelude.{ℕ, ◌==◌, ◌||◌, Bool, false, List, [], ◌∷◌, min, max, slice_index, if◌then◌else◌}
+use Rattle.std.specs.Prelude.{⊤, ℕ, ◌==◌, ◌||◌, Bool, false, List, [], ◌∷◌, min, max, slice_index, if◌then◌else◌}
 use Rattle.std.specs.Option.{unwrap_or}
 use Rattle.std.specs.List.{fold, list_any}
 use Rattle.std.specs.FinMap as finite
@@ -8,7 +8,7 @@ use Rattle.grid_base.specs.Triples.{Triple, plus, floor_mid_of}
 use Rattle.mesh_base.specs.declared.ids.Corners.{Corners}
 use Rattle.mesh_base.specs.Mesh.{Mesh, equal_up_to_rotation}
 use Rattle.mesh_base.specs.Sides.{faces_running}
-use Rattle.mesh_base.specs.Changes.{with_face, without_face}
+use Rattle.mesh_base.specs.Changes.{with_face, without_face, IsFresh}
 use Rattle.grid_base.specs.Points.{position_of, point_at}
 use Rattle.mesh_base.specs.Placements.{own_points}
 
@@ -64,6 +64,11 @@ without_faces m faces = fold without_face m faces
 -- faces of these corners are made, in order
 abbrev pub with_faces : Mesh → List Corners → Mesh
 with_faces m corners = fold with_face m corners
+
+-- each of the corners may be made a face when its turn comes
+abbrev pub AreFresh : Mesh → List Corners → Type 0
+AreFresh m [] = ⊤
+AreFresh m (c ∷ cs) = IsFresh m c × AreFresh (with_face m c) cs
 
 -- the corners with one vertex in another's place
 abbrev pub renamed : ℕ → ℕ → Corners → Corners

@@ -1,5 +1,6 @@
 pub mod Scaffold
 pub mod Edges
+pub mod Beside
 pub mod Classes
 pub mod Reasons
 pub mod Split

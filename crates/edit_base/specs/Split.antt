@@ -1,20 +1,33 @@
 -- The split of an edge.
-use Rattle.std.specs.Prelude.{[], ◌∷◌}
+use Rattle.std.specs.Prelude.{ℕ, ◌+◌, ◌||◌, Bool, List, [], ◌∷◌, nat_lt}
+use Rattle.std.specs.FinMap as finite
+use Rattle.grid_base.specs.declared.TheConstants.{VERTICES_MAX, FACES_MAX, ID_MAX}
 use Rattle.grid_base.specs.declared.Point.{Point}
 use Rattle.grid_base.specs.Points.{position_of}
 use Rattle.grid_base.specs.Triples.{times}
 use Rattle.edit_base.specs.declared.scaffold.Touch.TheVariants.{Never}
+use Rattle.mesh_base.specs.declared.ids.Corners.{Corners}
 use Rattle.mesh_base.specs.Mesh.{Mesh}
 use Rattle.mesh_base.specs.Changes.{with_vertex}
 use Rattle.edit_base.specs.Edges.{Edge, point_of, floor_mid, exact_mid, corners_from, without_faces, with_faces}
 use Rattle.edit_base.specs.Scaffold.{Scaffold}
 
+-- the two faces beside the edge
+abbrev pub faces_beside : Edge → List ℕ
+faces_beside s = s.forth ∷ s.back ∷ []
+
+-- the four faces round a new vertex w
+abbrev pub split_faces : Edge → ℕ → List Corners
+split_faces s w = corners_from s.a w s.c ∷ corners_from w s.b s.c ∷ corners_from s.b w s.d ∷ corners_from w s.a s.d ∷ []
+
 -- the two faces beside the edge are dropped, and four are made round a new vertex at a point
 abbrev pub split_mesh : Mesh → Edge → Point → Mesh
-split_mesh m s at =
-    let w = m.next_vertex in
-    with_faces (with_vertex (without_faces m (s.forth ∷ s.back ∷ [])) at)
-    (corners_from s.a w s.c ∷ corners_from w s.b s.c ∷ corners_from s.b w s.d ∷ corners_from w s.a s.d ∷ [])
+split_mesh m s at = with_faces (with_vertex (without_faces m (faces_beside s)) at) (split_faces s m.next_vertex)
+
+-- a split would pass a limit: it takes room for one vertex and two faces, and the ids of one vertex and four faces
+abbrev pub split_is_over : Mesh → Bool
+split_is_over m =
+    nat_lt VERTICES_MAX (finite.len m.points + 1) || nat_lt FACES_MAX (finite.len m.faces + 2) || nat_lt (ID_MAX + 1) (m.next_vertex + 1) || nat_lt (ID_MAX + 1) (m.next_face + 4)
 
 -- where the new vertex is put
 abbrev pub split_point : Mesh → Edge → Point

@@ -1,15 +1,44 @@
 //! Laws of edits. Each is the contract of a function that does nothing.
 
-ghost use Rattle.std.specs.Prelude.{ℕ, Bool};
+ghost use Rattle.std.specs.Prelude.{ℕ, Bool, true, false, ◌≡◌, ◌≢◌, min, max};
+ghost use Rattle.grid_base.specs.declared.Point.{Point};
 ghost use Rattle.grid_base.specs.declared.Positions.{Positions};
 ghost use Rattle.grid_base.specs.SeparationTests.{IsExact};
-ghost use Rattle.edit_base.specs.Answers.{split_answer, flip_answer, collapse_answer};
+ghost use Rattle.mesh_base.specs.Mesh.{Mesh, IsSound};
+ghost use Rattle.mesh_base.specs.Sides.{IsClosed};
+ghost use Rattle.mesh_base.specs.Pairs.{is_edge};
+ghost use Rattle.mesh_base.specs.Changes.{with_vertex};
+ghost use Rattle.mesh_base.specs.Limits.{is_over_limits};
+ghost use Rattle.edit_base.specs.Edges.{edge_of, without_faces, AreFresh};
+ghost use Rattle.edit_base.specs.Beside.{IsBeside};
+ghost use Rattle.edit_base.specs.Split.{faces_beside, split_faces, split_mesh, split_is_over};
+ghost use Rattle.edit_base.specs.Flip.{flip_faces, flip_mesh};
+ghost use Rattle.edit_base.specs.Answers.{is_full, split_answer, flip_answer, collapse_answer, zip_answer};
 ghost use Rattle.edit_base.specs.Laws.{NoneLackingIsClear, StaysSound, StaysClosed, StaysClear, MotionIsClear};
 
 /// Where no pair of a scaffold lacks what is required of it, by an exact test of meeting, no pair meets at any fraction of
 /// the motion, but at the start, or the end, where two may touch there.
 pub fn no_lacking_pair_is_a_clear_motion()
     ensures { (meets : Positions → Bool) → IsExact meets → NoneLackingIsClear meets }
+{}
+
+/// Beside an edge of a sound and closed mesh, named by its two ends in any order, are two faces, one each way.
+pub fn edges_have_two_faces()
+    ensures { (m : Mesh) (u v : ℕ) → IsSound m → IsClosed m → is_edge m (min u v) (max u v) ≡ true → IsBeside m (edge_of m u v) }
+{}
+
+/// A split may be made where it passes no limit, which the counts of the mesh tell: each of its four faces may be made when
+/// its turn comes.
+pub fn splits_can_be_made()
+    ensures room { (m : Mesh) (u v : ℕ) (at : Point) → IsSound m → IsClosed m → is_edge m (min u v) (max u v) ≡ true → is_over_limits (split_mesh m (edge_of m u v) at) ≡ split_is_over m }
+    ensures faces { (m : Mesh) (u v : ℕ) (at : Point) → IsSound m → IsClosed m → is_edge m (min u v) (max u v) ≡ true → AreFresh (with_vertex (without_faces m (faces_beside (edge_of m u v))) at) (split_faces (edge_of m u v) m.next_vertex) }
+{}
+
+/// A flip takes no more room than its scaffold, which is a split's, and each of its two faces may be made when its turn
+/// comes, where the third corners are two and no edge.
+pub fn flips_can_be_made()
+    ensures room { (m : Mesh) (u v : ℕ) (at : Point) → IsSound m → IsClosed m → is_edge m (min u v) (max u v) ≡ true → is_full (split_mesh m (edge_of m u v) at) (flip_mesh m (edge_of m u v)) ≡ split_is_over m }
+    ensures faces { (m : Mesh) (u v : ℕ) → IsSound m → IsClosed m → is_edge m (min u v) (max u v) ≡ true → (edge_of m u v).c ≢ (edge_of m u v).d → is_edge m (edge_of m u v).c (edge_of m u v).d ≡ false → AreFresh (without_faces m (faces_beside (edge_of m u v))) (flip_faces (edge_of m u v)) }
 {}
 
 /// A done split of a sound, closed and clear mesh leaves one, and the motion from the edge to its two halves is clear.
@@ -32,4 +61,11 @@ pub fn flips_keep_the_mesh()
 /// The motion of a done collapse, in which the two ends of the edge come together, is clear.
 pub fn collapses_move_clear()
     ensures { (meets : Positions → Bool) → IsExact meets → (u v depth : ℕ) → MotionIsClear (λ m. collapse_answer meets m u v depth) }
+{}
+
+/// A done zip of a sound, closed and clear mesh leaves one. It moves nothing.
+pub fn zips_keep_the_mesh()
+    ensures sound { (meets : Positions → Bool) (u v x y : ℕ) → StaysSound (λ m. zip_answer meets m u v x y) }
+    ensures closed { (meets : Positions → Bool) (u v x y : ℕ) → StaysClosed (λ m. zip_answer meets m u v x y) }
+    ensures clear { (meets : Positions → Bool) → IsExact meets → (u v x y : ℕ) → StaysClear (λ m. zip_answer meets m u v x y) }
 {}

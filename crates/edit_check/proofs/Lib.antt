@@ -1,7 +1,5 @@
 pub mod Still
 pub mod Untouched
-pub mod Lists
-pub mod Faces
 pub mod Exact
 pub mod Fits
 pub mod Scans

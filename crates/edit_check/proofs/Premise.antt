@@ -1,5 +1,5 @@
 -- When a mesh is clear where it is untouched.
-use Rattle.std.proofs.Common.{◌≡◌, ℕ, ◌+◌, ◌<◌, ◌≤◌, true, false, cond, ◌==◌, List, [], ◌∷◌, None, is_some, ⊎_elim, refl, sym, ap, subst, ◌∙◌, arith}
+use Rattle.std.proofs.Common.{◌≡◌, ℕ, ◌+◌, ◌<◌, ◌≤◌, true, false, cond, ◌==◌, List, [], ◌∷◌, None, is_some, ⊎_elim, sym, ap, subst, ◌∙◌, arith}
 use Rattle.std.proofs.lemmas.Bool.Decides.{nat_tests}
 use Rattle.grid_base.specs.declared.Point.{Point}
 use Rattle.grid_base.specs.Meeting.{MeetAt}
@@ -19,6 +19,7 @@ use Rattle.edit_base.specs.Scaffold.{move_of}
 use Rattle.edit_base.specs.Edges.{Edge, corners_from, with_faces, without_faces}
 use Rattle.edit_base.specs.Split.{split_mesh}
 use Rattle.edit_base.proofs.Ends.{new_point}
+use Rattle.edit_base.proofs.Changed.{next_face-without_faces, points-without_faces, points-with_faces}
 use Rattle.edit_base.proofs.FlipSound.{runs_there}
 use Rattle.edit_check.specs.Untouched.{IsUntouched, IsClearWhereUntouched}
 use Rattle.edit_check.specs.Agreeing.{AgreesWhereOld}
@@ -89,23 +90,11 @@ old_of_dropped : (m : Mesh) (fs : List ℕ) (f : ℕ) (c : Corners) → HasCorne
 old_of_dropped m [] f c there = there
 old_of_dropped m (g ∷ gs) f c there = (got_after_remove m.faces g f c (old_of_dropped (without_face m g) gs f c there)).1
 
-next_face-dropped : (m : Mesh) (fs : List ℕ) → (without_faces m fs).next_face ≡ m.next_face
-next_face-dropped m [] = refl
-next_face-dropped m (g ∷ gs) = next_face-dropped (without_face m g) gs
-
-points-dropped : (m : Mesh) (fs : List ℕ) → (without_faces m fs).points ≡ m.points
-points-dropped m [] = refl
-points-dropped m (g ∷ gs) = points-dropped (without_face m g) gs
-
-points-made : (m : Mesh) (cs : List Corners) → (with_faces m cs).points ≡ m.points
-points-made m [] = refl
-points-made m (c ∷ cs) = points-made (with_face m c) cs
-
 -- a mesh of which faces are dropped and others made
 pub faces_changed : (m : Mesh) (fs : List ℕ) (cs : List Corners) (moves : List Move) → AgreesWhereOld m (with_faces (without_faces m fs) cs) moves
 faces_changed m fs cs moves = record {
-  faces = λ f c there below. old_of_dropped m fs f c (old_of_made (without_faces m fs) cs f c there (subst (λ n. f < n) (sym (next_face-dropped m fs)) below));
-  points = λ v below rests. ap (λ ps. own_points (record m { points = ps }) v) (points-made (without_faces m fs) cs ∙ points-dropped m fs);
+  faces = λ f c there below. old_of_dropped m fs f c (old_of_made (without_faces m fs) cs f c there (subst (λ n. f < n) (sym (next_face-without_faces m fs)) below));
+  points = λ v below rests. ap (λ ps. own_points (record m { points = ps }) v) (points-with_faces (without_faces m fs) cs ∙ points-without_faces m fs);
 }
 
 -- a mesh whose edge is split

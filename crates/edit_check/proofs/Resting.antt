@@ -16,7 +16,7 @@ use Rattle.mesh_base.specs.Failing.{first_meeting}
 use Rattle.edit_base.specs.declared.Touch.TheVariants.{Never}
 use Rattle.edit_base.specs.Scaffold.{is_as_required, first_lacking}
 use Rattle.edit_check.specs.Checking.{scaffold_by}
-use Rattle.edit_check.proofs.Lists.{find-alike}
+use Rattle.pair_scan.proofs.Lists.{find-alike}
 
 both_ways : (a b : Bool) → (a ≡ true → b ≡ true) → (b ≡ true → a ≡ true) → a ≡ b
 both_ways true b f g = sym (f refl)

@@ -6,7 +6,7 @@ use Rattle.mesh_base.specs.Pairs.{Pair, edges, pairs_of}
 use Rattle.edit_base.specs.Scaffold.{Scaffold, is_as_required}
 use Rattle.edit_base.proofs.Clear.{none_lacking_is_clear}
 use Rattle.edit_check.specs.Checking.{scaffold_by, first_of}
-use Rattle.edit_check.proofs.Lists.{first_behind, first_here, first_ended}
+use Rattle.pair_scan.proofs.Lists.{first_behind, first_here, first_ended}
 use Rattle.edit_check.proofs.Edges.{edge_at}
 use Rattle.edit_check.proofs.checking.check.Goals as goal
 

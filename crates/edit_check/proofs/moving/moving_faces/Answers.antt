@@ -3,8 +3,8 @@ use Rattle.std.specs.List.{flat_map}
 use Rattle.std.specs.FinMap as finite
 use Rattle.edit_check.specs.declared.moving.MovingFace.{MovingFace}
 use Rattle.edit_check.specs.Moving.{moving_face}
-use Rattle.edit_check.proofs.Faces.{listed, made_each}
-use Rattle.edit_check.proofs.Lists.{made_all}
+use Rattle.pair_scan.proofs.Faces.{listed, made_each}
+use Rattle.pair_scan.proofs.Lists.{made_all}
 use Rattle.edit_check.proofs.moving.moving_faces.Goals as goal
 
 pub returns : goal.returns

@@ -2,7 +2,7 @@ use Rattle.std.proofs.Common.{◌≡◌, ◌++◌, ◌∷◌, [], drop}
 use Rattle.std.specs.List.{flat_map}
 use Rattle.std.specs.FinMap as finite
 use Rattle.edit_check.specs.Moving.{moving_face}
-use Rattle.edit_check.proofs.Faces.{listed}
+use Rattle.pair_scan.proofs.Faces.{listed}
 use Rattle.edit_check.proofs.moving.moving_faces.Given as goal
 
 -- the faces so far, and those that are left, are all
