@@ -3,6 +3,7 @@ pub mod Clear
 pub mod Closed
 pub mod Ends
 pub mod Beside
+pub mod FirstRunning
 pub mod Sound
 pub mod SplitSound
 pub mod FlipSound

@@ -1,6 +1,5 @@
 -- The laws of a mesh after faces are dropped and made, and its limits at the end alone.
 use Rattle.std.proofs.Common.{◌≡◌, ◌≢◌, ◌⊎◌, ℕ, ◌+◌, ◌≤◌, Bool, true, false, ◌||◌, ◌&&◌, ◌==◌, nat_lt, List, [], ◌∷◌, refl, sym, subst, ◌∙◌, ⊎_elim, arith}
-use Rattle.std.specs.Prelude.{⊤}
 use Rattle.std.proofs.lemmas.Bool.Decides.{nat_tests}
 use Rattle.std.specs.FinMap as map
 use Rattle.grid_base.specs.declared.TheConstants.{VERTICES_MAX, FACES_MAX, ID_MAX}
@@ -12,6 +11,7 @@ use Rattle.mesh_base.specs.Limits.{is_over_limits}
 use Rattle.mesh_base.proofs.Finite.{got_after_insert, live_after_insert, live_stays, got_after_remove, live_after_remove}
 use Rattle.mesh_base.proofs.MeshLaws.{equal_symmetric}
 use Rattle.edit_base.specs.Edges.{corners_from, with_faces}
+use Rattle.edit_base.specs.Required.{AreFresh}
 
 not_both : {b : Bool} → b ≡ true → b ≡ false → ⊥
 not_both h h' = cc
@@ -52,11 +52,6 @@ mesh-with_face m c s first fresh =
     }
 
 -- ---- and after several
--- each of the corners may be made a face when its turn comes
-abbrev pub AreFresh : Mesh → List Corners → Type 0
-AreFresh m [] = ⊤
-AreFresh m (c ∷ cs) = IsFresh m c × AreFresh (with_face m c) cs
-
 pub mesh-with_faces : (m : Mesh) (cs : List Corners) → IsMesh m → 1 ≤ m.next_face → AreFresh m cs → IsMesh (with_faces m cs)
 mesh-with_faces m [] s first fresh = s
 mesh-with_faces m (c ∷ cs) s first fresh = mesh-with_faces (with_face m c) cs (mesh-with_face m c s first fresh.0) (let h : 1 ≤ m.next_face + 1 = omega arith in h) fresh.1

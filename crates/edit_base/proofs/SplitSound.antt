@@ -10,7 +10,8 @@ use Rattle.mesh_base.proofs.MeshLaws.{next_is_new}
 use Rattle.edit_base.specs.Edges.{Edge, corners_from, without_faces}
 use Rattle.edit_base.specs.Split.{split_mesh}
 use Rattle.edit_base.proofs.Closed.{IsBeside}
-use Rattle.edit_base.proofs.Sound.{mesh-without_face, mesh-with_vertex, mesh-with_faces, still_fresh, AreFresh, not_over, next_face-with_faces, not_rotated}
+use Rattle.edit_base.specs.Required.{AreFresh}
+use Rattle.edit_base.proofs.Sound.{mesh-without_face, mesh-with_vertex, mesh-with_faces, still_fresh, not_over, next_face-with_faces, not_rotated}
 
 module _ (m : Mesh) (p : Point) (mesh : IsMesh m) where
   below : (u : ℕ) → IsLiveVertex m u → u < m.next_vertex

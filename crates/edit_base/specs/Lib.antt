@@ -1,5 +1,6 @@
 pub mod Scaffold
 pub mod Edges
+pub mod Required
 pub mod Classes
 pub mod Reasons
 pub mod Split

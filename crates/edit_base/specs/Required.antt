@@ -1,0 +1,24 @@
+-- What changes of a mesh require: an edge with the two faces beside it, and faces that may be made one after another.
+use Rattle.std.specs.Prelude.{◌≡◌, ℕ, ◌+◌, ◌≤◌, true, List, [], ◌∷◌, length, ⊤}
+use Rattle.std.specs.FinMap as finite
+use Rattle.grid_base.specs.declared.TheConstants.{FACES_MAX, ID_MAX}
+use Rattle.mesh_base.specs.declared.ids.Corners.{Corners}
+use Rattle.mesh_base.specs.Mesh.{Mesh}
+use Rattle.mesh_base.specs.Pairs.{is_edge}
+use Rattle.mesh_base.specs.Changes.{with_face, IsFresh}
+use Rattle.edit_base.specs.Edges.{Edge, edge_of}
+
+-- the ends are an edge, and the record is that of the ends
+pub record HasEdge (m : Mesh) (s : Edge) : Type 0 where
+  pub is_edge : is_edge m s.a s.b ≡ true
+  pub beside : edge_of m s.a s.b ≡ s
+
+-- each of the corners may be made a face when its turn comes
+abbrev pub AreFresh : Mesh → List Corners → Type 0
+AreFresh m [] = ⊤
+AreFresh m (c ∷ cs) = IsFresh m c × AreFresh (with_face m c) cs
+
+-- so many more faces pass no limit
+pub record HasRoomFor (count : ℕ) (m : Mesh) : Type 0 where
+  pub faces : finite.len m.faces + count ≤ FACES_MAX
+  pub ids : m.next_face + count ≤ ID_MAX + 1
