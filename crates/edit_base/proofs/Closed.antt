@@ -108,21 +108,21 @@ round_of C a b u v different e =
 abbrev pub AreBelow : Mesh → Type 0
 AreBelow m = (f : ℕ) → IsLiveFace m f → f < m.next_face
 
-not_live : (m : Mesh) → AreBelow m → finite.get m.faces m.next_face ≡ None
+pub not_live : (m : Mesh) → AreBelow m → finite.get m.faces m.next_face ≡ None
 not_live m below = by_answer (finite.get m.faces m.next_face) refl
   where
     by_answer : (o : Option Corners) → finite.get m.faces m.next_face ≡ o → o ≡ None
     by_answer (Some c) e = let h : m.next_face < m.next_face = below m.next_face (ap is_some e) in absurd (omega arith)
     by_answer None e = refl
 
-below-without : (m : Mesh) (g : ℕ) → AreBelow m → AreBelow (without_face m g)
+pub below-without : (m : Mesh) (g : ℕ) → AreBelow m → AreBelow (without_face m g)
 below-without m g below f live = below f (was (eq_by_cmp nat_cmp f g) (subst IsSome (get-remove nat_cmp_total m.faces g f) live))
   where
     was : (b : Bool) → IsSome (cond b None (finite.get m.faces f)) → IsSome (finite.get m.faces f)
     was true h = absurd (false≢true h)
     was false h = h
 
-below-with : (m : Mesh) (c : Corners) → AreBelow m → AreBelow (with_face m c)
+pub below-with : (m : Mesh) (c : Corners) → AreBelow m → AreBelow (with_face m c)
 below-with m c below f live = by_test (eq_by_cmp nat_cmp f m.next_face) refl (subst IsSome (get-insert nat_cmp_total m.faces m.next_face c f) live)
   where
     by_test : (b : Bool) → eq_by_cmp nat_cmp f m.next_face ≡ b → IsSome (cond b (Some c) (finite.get m.faces f)) → f < m.next_face + 1

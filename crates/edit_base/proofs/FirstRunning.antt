@@ -1,12 +1,11 @@
 -- The first face that runs one way, as the calls of a mesh find it.
-use Rattle.std.proofs.Common.{◌≡◌, ℕ, ◌<◌, ◌+◌, Bool, true, false, List, [], ◌∷◌, Option, Some, None, length, slice_get, slice_index, is_some, nat_lt, refl, sym, ap, subst, ◌∙◌, arith}
+use Rattle.std.proofs.Common.{◌≡◌, ℕ, List, [], ◌∷◌, Option, Some, None, slice_get, slice_index, ap, subst}
 use Rattle.std.proofs.lemmas.Option.{slice_get_within}
-use Rattle.std.proofs.lemmas.Bool.Decides.{nat_tests}
 use Rattle.std.specs.Option.{option_map, unwrap_or}
 use Rattle.std.specs.FinMap as finite
 use Rattle.mesh_base.specs.declared.ids.Corners.{Corners}
 use Rattle.mesh_base.specs.Mesh.{Mesh}
-use Rattle.mesh_base.specs.Sides.{runs, faces_running}
+use Rattle.mesh_base.specs.Sides.{faces_running}
 use Rattle.mesh_base.specs.Changes.{corners_of, corner_list}
 use Rattle.edit_base.specs.Edges.{corners_at, face_running}
 use Rattle.edit_base.proofs.Beside.{face_there}

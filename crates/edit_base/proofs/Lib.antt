@@ -3,6 +3,10 @@ pub mod Clear
 pub mod Closed
 pub mod Ends
 pub mod Beside
+pub mod PointOf
+pub mod Made
+pub mod PutSplit
+pub mod Counted
 pub mod FirstRunning
 pub mod Sound
 pub mod SplitSound

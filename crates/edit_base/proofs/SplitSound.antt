@@ -74,7 +74,7 @@ module _ (m : Mesh) (s : Edge) (p : Point) (sound : IsSound m) (beside : IsBesid
   more : (x y : ℕ) → x < y → y ≢ x
   more x y h e = omega (arith, e)
 
-  all_fresh : AreFresh base (one ∷ two ∷ three ∷ four ∷ [])
+  pub all_fresh : AreFresh base (one ∷ two ∷ three ∷ four ∷ [])
   all_fresh =
       let not_a = less s.a w beside.a_below in
       let a_not = more s.a w beside.a_below in

@@ -4,7 +4,7 @@ use Rattle.std.specs.FinMap as finite
 use Rattle.std.proofs.Common.{slice_get}
 use Rattle.mesh_base.specs.Sides.{faces_running}
 use Rattle.mesh_base.specs.Changes.{corner_list}
-use Rattle.edit_base.specs.Edges.{third_corner, corners_at, face_running}
+use Rattle.edit_base.specs.Edges.{third_corner, corners_at}
 use Rattle.edit_base.proofs.FirstRunning.{found_running, found_corners, found_is_face}
 use Rattle.edit_base.proofs.edge_faces.face_beside.Goals as goal
 
