@@ -17,3 +17,4 @@ pub mod ReasonLaws
 pub mod SplitDone
 pub mod FlipDone
 pub mod CollapseDone
+pub mod Left
