@@ -3,6 +3,11 @@ pub mod Clear
 pub mod Closed
 pub mod Ends
 pub mod Beside
+pub mod PointOf
+pub mod Made
+pub mod PutSplit
+pub mod Counted
+pub mod FirstRunning
 pub mod Sound
 pub mod SplitSound
 pub mod FlipSound
@@ -19,3 +24,4 @@ pub mod ZipDone
 pub mod SplitDone
 pub mod FlipDone
 pub mod CollapseDone
+pub mod Left

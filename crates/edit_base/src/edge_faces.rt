@@ -1,0 +1,109 @@
+//! Edges, and the two faces beside one.
+ghost use Rattle.std.specs.Prelude.{◌≡◌, ◌≤◌, ◌&&◌, ℕ, min, max, nat_lt, is_some, IfSome};
+ghost use Rattle.mesh_base.specs.Sides.{runs, IsClosed};
+ghost use Rattle.mesh_base.specs.Pairs.{is_edge, is_crowded};
+ghost use Rattle.edit_base.specs.Edges.{third_corner, corners_at, face_running, edge_of};
+
+use mesh_base::{Corners, FaceId, Surface, VertexId};
+use std::marker::Model;
+
+/// An edge with the two faces beside it. `a` is its smaller end and `b` its larger; `forth` is the face that runs from
+/// `a` to `b`, with the third corner `c`, and `back` the one that runs from `b` to `a`, with the third corner `d`.
+#[derive(Clone, Copy, Debug, PartialEq, Eq)]
+pub struct EdgeFaces {
+    pub a: VertexId,
+    pub b: VertexId,
+    pub c: VertexId,
+    pub d: VertexId,
+    pub forth: FaceId,
+    pub back: FaceId,
+}
+
+impl Model for EdgeFaces {
+    ghost use Rattle.edit_base.specs.Edges.{Edge};
+
+    ghost Value = { Edge };
+
+    ghost view = { λ e. record { a = e.a; b = e.b; c = e.c; d = e.d; forth = e.forth; back = e.back } };
+
+    ghost inverse = { λ s. record { a = s.a; b = s.b; c = s.c; d = s.d; forth = s.forth; back = s.back } };
+}
+
+/// Whether some face has both as neighbours.
+pub fn is_edge<S: Surface>(mesh: &S, u: VertexId, v: VertexId) -> bool
+    ensures { result ≡ is_edge (S.mesh mesh.now) u v }
+{
+    mesh.runs(u, v) > 0 || mesh.runs(v, u) > 0
+}
+
+/// Whether more than one face runs one way between the two.
+pub fn is_crowded<S: Surface>(mesh: &S, u: VertexId, v: VertexId) -> bool
+    ensures { result ≡ is_crowded (S.mesh mesh.now) u v }
+{
+    mesh.runs(u, v) > 1 || mesh.runs(v, u) > 1
+}
+
+/// The corner that is not one of two, of which the first is `u` and the other follows it.
+fn third_corner(c: Corners, u: VertexId) -> VertexId
+    ensures { (v : ℕ) → result ≡ third_corner c u v }
+{
+    if c.first == u {
+        c.third
+    } else if c.second == u {
+        c.first
+    } else {
+        c.second
+    }
+}
+
+/// A face, and a corner of it.
+#[derive(Clone, Copy)]
+struct FaceCorner {
+    face: FaceId,
+    corner: VertexId,
+}
+
+/// The first face that runs from `u` to `v`, with its third corner.
+fn face_beside<S: Surface>(mesh: &S, u: VertexId, v: VertexId) -> Option<FaceCorner>
+    ensures face { IfSome result (λ f. f.face ≡ face_running (S.mesh mesh.now) u v) }
+    ensures corner { IfSome result (λ f. f.corner ≡ third_corner (corners_at (S.mesh mesh.now) (face_running (S.mesh mesh.now) u v)) u v) }
+    ensures some { is_some result ≡ nat_lt 0 (runs (S.mesh mesh.now) u v) }
+{
+    let face = mesh.run_face(u, v, 0)?;
+    let corners = mesh.corners(face)?;
+    Some(FaceCorner {
+        face,
+        corner: third_corner(Corners::of(corners), u),
+    })
+}
+
+/// The same of an edge whose smaller end is the first.
+fn beside_ordered<S: Surface>(mesh: &S, a: VertexId, b: VertexId) -> Option<EdgeFaces>
+    requires { a ≤ b }
+    ensures edge { IfSome result (λ e. e ≡ edge_of (S.mesh mesh.now) a b) }
+    ensures some { is_some result ≡ (nat_lt 0 (runs (S.mesh mesh.now) a b) && nat_lt 0 (runs (S.mesh mesh.now) b a)) }
+{
+    let forth = face_beside(mesh, a, b)?;
+    let back = face_beside(mesh, b, a)?;
+    Some(EdgeFaces {
+        a,
+        b,
+        c: forth.corner,
+        d: back.corner,
+        forth: forth.face,
+        back: back.face,
+    })
+}
+
+/// The edge of two ids in any order, with the faces beside it: the first that runs each way, by rising id. Some where the
+/// two are an edge of a closed mesh, and None where they are none.
+pub fn edge_beside<S: Surface>(mesh: &S, u: VertexId, v: VertexId) -> Option<EdgeFaces>
+    ensures edge { IfSome result (λ e. e ≡ edge_of (S.mesh mesh.now) u v) }
+    ensures some { IsClosed (S.mesh mesh.now) → is_some result ≡ is_edge (S.mesh mesh.now) (min u v) (max u v) }
+{
+    if u <= v {
+        beside_ordered(mesh, u, v)
+    } else {
+        beside_ordered(mesh, v, u)
+    }
+}

@@ -1,0 +1,6 @@
+//! The split of an edge of a mesh.
+#![tactic(auto)]
+
+mod splitting;
+
+pub use splitting::split;
