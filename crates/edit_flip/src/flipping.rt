@@ -10,7 +10,7 @@ ghost use Rattle.edit_base.specs.Clauses.{mesh_left, MovesClearOnDone};
 ghost use Rattle.edit_flip.specs.Tried.{MayBeTried};
 
 use crate::trying::{edge_to_flip, first_hit};
-use edit_base::{Change, Edit, EdgeFaces, Why, make_faces};
+use edit_base::{Change, EdgeFaces, Edit, Why, make_faces};
 use grid_base::{DEPTH_MAX, NoMemory};
 use mesh_base::{Surface, VertexId};
 use std::alloc::Global;
