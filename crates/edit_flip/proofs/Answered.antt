@@ -1,5 +1,5 @@
 -- What a flip answers, by what holds of its edge.
-use Rattle.std.proofs.Common.{◌≡◌, ℕ, Bool, true, false, not, ◌||◌, ◌==◌, min, max, List, [], ◌∷◌, Option, Some, None, sym, ap, subst, ◌∙◌}
+use Rattle.std.proofs.Common.{◌≡◌, ℕ, Bool, true, false, not, ◌||◌, ◌==◌, min, max, [], ◌∷◌, Option, Some, None, sym, ap, subst, ◌∙◌}
 use Rattle.std.specs.Option.{option_map}
 use Rattle.grid_base.specs.declared.Positions.{Positions}
 use Rattle.mesh_base.specs.declared.ids.PairName.{PairName}
@@ -7,7 +7,6 @@ use Rattle.mesh_base.specs.Mesh.{Mesh, IsSound}
 use Rattle.mesh_base.specs.Sides.{IsClosed}
 use Rattle.mesh_base.specs.Pairs.{is_edge, is_crowded}
 use Rattle.mesh_base.specs.Limits.{is_over_limits}
-use Rattle.edit_base.specs.declared.answers.Why.{Why}
 use Rattle.edit_base.specs.declared.answers.Why.TheVariants.{NoEdge, Crowded, Full, Hit}
 use Rattle.edit_base.specs.declared.answers.Why.TheVariants.{Edge as IsAnEdge}
 use Rattle.edit_base.specs.declared.answers.Change.TheVariants.{Flip}
