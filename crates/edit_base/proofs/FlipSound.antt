@@ -63,21 +63,21 @@ module _ (m : Mesh) (s : Edge) (sound : IsSound m) (beside : IsBeside m s) (c_d 
   not_true true never = absurd (never refl)
   not_true false never = refl
 
-  fresh_one : IsFresh bare one
+  pub fresh_one : IsFresh bare one
   fresh_one = record {
     live = (beside.a_live, beside.d_live, beside.c_live);
     different = record { first_second = beside.a_d; second_third = λ e. c_d (sym e); third_first = beside.c_a };
     new = λ f c h. not_true _ (λ e. false≢true (sym (no_step m s.c s.d no_edge f c (was f c h)).1 ∙ second_step c s.a s.d s.c e));
   }
 
-  fresh_two : IsFresh bare two
+  pub fresh_two : IsFresh bare two
   fresh_two = record {
     live = (beside.b_live, beside.c_live, beside.d_live);
     different = record { first_second = beside.b_c; second_third = c_d; third_first = beside.d_b };
     new = λ f c h. not_true _ (λ e. false≢true (sym (no_step m s.c s.d no_edge f c (was f c h)).0 ∙ second_step c s.b s.c s.d e));
   }
 
-  one_two : equal_up_to_rotation one two ≡ false
+  pub one_two : equal_up_to_rotation one two ≡ false
   one_two = not_rotated s.a s.d s.c s.b s.c s.d (inl beside.a_b) (inl beside.d_b) (inl (λ e. beside.b_c (sym e)))
 
   -- the two faces may be made, one after the other

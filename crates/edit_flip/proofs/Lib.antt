@@ -1,0 +1,3 @@
+pub mod PutFlip
+pub mod Answered
+pub mod Left

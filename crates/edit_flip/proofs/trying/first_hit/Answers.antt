@@ -1,0 +1,23 @@
+use Rattle.std.proofs.Common.{◌≡◌, sym, subst}
+use Rattle.std.specs.Prelude.{IfOk}
+use Rattle.grid_decided.specs.Decided.{meets_exactly}
+use Rattle.mesh_base.proofs.MarksHold.{stands_along, stands_for_one}
+use Rattle.edit_base.specs.Flip.{flip_scaffold}
+use Rattle.edit_base.specs.Scaffold.{first_lacking}
+use Rattle.edit_flip.specs.Tried.{MayBeTried}
+use Rattle.edit_flip.proofs.trying.first_hit.Goals as goal
+
+pub put_and_check-found-requires-clause-tried : goal.put_and_check-found-requires-clause-tried
+put_and_check-found-requires-clause-tried g c = subst (λ n. MayBeTried n c.args.e.now) (sym c.in_ok-mark.ensures.mesh) c.requires.tried
+
+pub returns-clause-first : goal.returns-clause-first
+returns-clause-first g c =
+    subst (λ n. IfOk c.put_and_check-found.result (λ found. found ≡ first_lacking meets_exactly (flip_scaffold n c.args.e.now) c.args.depth)) c.in_ok-mark.ensures.mesh c.put_and_check-found.ensures.first
+
+pub returns-clause-mesh : goal.returns-clause-mesh
+returns-clause-mesh g c =
+    let mesh = g.S.Surface.mesh in
+    let kept = g.S.Surface.kept in
+    let put = kept c.put_and_check-found.new.mesh in
+    stands_for_one put c.in_ok-mark.mark (mesh c.back_to.new.self) (mesh c.args.mesh.now) c.back_to.ensures.mesh
+    (stands_along put (kept c.mark.new.self) c.in_ok-mark.mark (mesh c.args.mesh.now) c.put_and_check-found.ensures.marks c.in_ok-mark.ensures.stands)

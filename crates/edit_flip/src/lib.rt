@@ -1,0 +1,7 @@
+//! The flip of an edge of a mesh.
+#![tactic(auto)]
+
+mod flipping;
+mod trying;
+
+pub use flipping::flip;
