@@ -13,7 +13,8 @@ use Rattle.mesh_base.proofs.Finite.{live_but_removed}
 use Rattle.edit_base.specs.Edges.{Edge, corners_from, without_faces, with_faces}
 use Rattle.edit_base.specs.Split.{split_mesh}
 use Rattle.edit_base.specs.Required.{are_over}
-use Rattle.edit_base.proofs.Closed.{AreBelow, IsBeside, not_live, below-with, below-without}
+use Rattle.edit_base.specs.Beside.{IsBeside}
+use Rattle.edit_base.proofs.Closed.{AreBelow, not_live, below-with, below-without}
 use Rattle.edit_base.proofs.ReasonLaws.{below_next}
 
 -- ---- one change

@@ -7,7 +7,8 @@ use Rattle.mesh_base.specs.Mesh.{Mesh}
 use Rattle.mesh_base.specs.Changes.{corners_of, with_face, IsFresh, IsFullOfFaces}
 use Rattle.edit_base.proofs.Counted.{len-insert_le}
 use Rattle.edit_base.specs.Edges.{with_faces}
-use Rattle.edit_base.specs.Required.{AreFresh, HasRoomFor}
+use Rattle.edit_base.specs.Edges.{AreFresh}
+use Rattle.edit_base.specs.Required.{HasRoomFor}
 
 rest_at : (xs : List (List ℕ)) (i : ℕ) (d : List ℕ) → i < length xs → drop i xs ≡ get_or xs i d ∷ drop (i + 1) xs
 rest_at xs i d h = rw add-one (drop-cons xs i d h)

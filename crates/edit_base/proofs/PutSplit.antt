@@ -11,8 +11,9 @@ use Rattle.mesh_base.specs.Limits.{is_over_limits}
 use Rattle.mesh_base.proofs.Finite.{live_but_removed}
 use Rattle.edit_base.specs.Edges.{Edge, edge_of, corners_from, without_faces}
 use Rattle.edit_base.specs.Split.{split_mesh}
-use Rattle.edit_base.specs.Required.{HasEdge, AreFresh, HasRoomFor, are_over}
-use Rattle.edit_base.proofs.Closed.{IsBeside}
+use Rattle.edit_base.specs.Edges.{AreFresh}
+use Rattle.edit_base.specs.Required.{HasEdge, HasRoomFor, are_over}
+use Rattle.edit_base.specs.Beside.{IsBeside}
 use Rattle.edit_base.proofs.Beside.{beside_of}
 use Rattle.edit_base.proofs.ReasonLaws.{edge_again}
 use Rattle.edit_base.proofs.Counted.{bare_count, split_vertices, split_faces, split_counts}

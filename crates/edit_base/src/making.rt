@@ -6,7 +6,8 @@ ghost use Rattle.grid_base.specs.Points.{position_of};
 ghost use Rattle.mesh_base.specs.Changes.{corners_of, with_face, IsFresh, IsFullOfFaces, IsFullOfVertices, with_vertex};
 ghost use Rattle.mesh_base.specs.Kept.{BeginsWith};
 ghost use Rattle.edit_base.specs.Edges.{point_of, exact_mid, with_faces};
-ghost use Rattle.edit_base.specs.Required.{AreFresh, HasRoomFor};
+ghost use Rattle.edit_base.specs.Edges.{AreFresh};
+ghost use Rattle.edit_base.specs.Required.{HasRoomFor};
 
 use grid_base::{BOX, NoMemory, Point, Wide};
 use mesh_base::{AddFault, Surface, VertexId};

@@ -11,8 +11,9 @@ use Rattle.mesh_base.specs.Limits.{is_over_limits}
 use Rattle.edit_base.specs.Edges.{Edge, corners_from, without_faces}
 use Rattle.edit_base.specs.Split.{split_mesh, split_point}
 use Rattle.edit_base.specs.Flip.{flip_mesh}
-use Rattle.edit_base.specs.Required.{HasEdge, AreFresh, HasRoomFor}
-use Rattle.edit_base.proofs.Closed.{IsBeside}
+use Rattle.edit_base.specs.Edges.{AreFresh}
+use Rattle.edit_base.specs.Required.{HasEdge, HasRoomFor}
+use Rattle.edit_base.specs.Beside.{IsBeside}
 use Rattle.edit_base.proofs.Counted.{bare_below, bare_count, len-with_faces}
 use Rattle.edit_base.proofs.PutSplit.{beside_it, forth_is_live, back_is_live}
 use Rattle.edit_base.proofs.ReasonLaws.{first_false, second_false, apart_of}

@@ -5,7 +5,8 @@ use Rattle.mesh_base.specs.Changes.{without_face, with_vertex, IsFullOfVertices}
 use Rattle.mesh_base.specs.Limits.{is_over_limits}
 use Rattle.edit_base.specs.Edges.{Edge, corners_from, without_faces}
 use Rattle.edit_base.specs.Split.{split_mesh}
-use Rattle.edit_base.specs.Required.{HasEdge, AreFresh, HasRoomFor}
+use Rattle.edit_base.specs.Edges.{AreFresh}
+use Rattle.edit_base.specs.Required.{HasEdge, HasRoomFor}
 use Rattle.edit_base.proofs.PutSplit.{forth_is_live, back_is_live, vertex_has_room, faces_are_fresh, faces_have_room}
 use Rattle.edit_base.proofs.splitting.put_split.Goals as goal
 
