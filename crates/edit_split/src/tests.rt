@@ -112,6 +112,24 @@ fn reason_of(edit: &Edit) -> Option<Why> {
     }
 }
 
+#[derive(Clone, Copy, Debug, PartialEq, Eq)]
+struct Cut {
+    ends: (VertexId, VertexId),
+    w: VertexId,
+    at: Point,
+}
+
+fn cut_of(edit: &Edit) -> Option<Cut> {
+    match edit {
+        Edit::Done(Change::Split { a, b, w, at }) => Some(Cut {
+            ends: (*a, *b),
+            w: *w,
+            at: *at,
+        }),
+        _ => None,
+    }
+}
+
 fn corners(mesh: &PlainMesh, f: u32) -> Option<[VertexId; 3]> {
     mesh.corners(FaceId(f))
 }
@@ -125,18 +143,12 @@ fn an_edge_of_a_tetrahedron_is_split(rt: HostRuntime) -> Result<(), Fail> {
     let mut mesh = mesh_of(rt.alloc(), &TETRAHEDRON, &SIDES, &rt)?;
     let edit = split_clear(rt.alloc(), &mut mesh, 2, 1, &rt)?;
     let at = point([2, 0, 0], &rt);
-    match edit {
-        Edit::Done(Change::Split {
-            a,
-            b,
-            w,
-            at: midpoint,
-        }) => {
-            assert_eq!(rt; (a, b, w), (VertexId(1), VertexId(2), VertexId(5)));
-            assert_eq!(rt; midpoint, at);
-        }
-        _ => panic!(rt; "no split is done"),
-    }
+    let cut = Cut {
+        ends: (VertexId(1), VertexId(2)),
+        w: VertexId(5),
+        at,
+    };
+    assert_eq!(rt; cut_of(&edit), Some(cut));
     assert_eq!(rt; mesh.point(VertexId(5)), Some(at));
     assert_eq!(rt; (mesh.vertices(), mesh.faces()), (5, 6));
     for (f, ids) in [
