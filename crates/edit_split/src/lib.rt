@@ -4,3 +4,6 @@
 mod splitting;
 
 pub use splitting::split;
+
+#[cfg(test)]
+mod tests;
