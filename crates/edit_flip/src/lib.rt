@@ -5,3 +5,6 @@ mod flipping;
 mod trying;
 
 pub use flipping::flip;
+
+#[cfg(test)]
+mod tests;
