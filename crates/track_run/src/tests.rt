@@ -1,4 +1,6 @@
 mod each_its_way;
+mod one_by_one;
+mod splits_and_flips;
 mod there_and_back;
 
 use crate::{Outcome, run};

@@ -1,4 +1,6 @@
 //! Many cubes that each go their own way, there and back, within the time of a test.
+ghost use Rattle.std.specs.Prelude.{◌<◌};
+
 use super::words_of;
 use crate::{Outcome, run};
 use outside_io::{MemoryDesk, MemorySink};
@@ -38,8 +40,8 @@ const FACES: [[u32; 3]; 12] = [
     [4, 5, 8],
 ];
 
-fn cubes() -> u32 {
-    ROW.wrapping_mul(ROW).wrapping_mul(ROW)
+fn cubes(row: u32) -> u32 {
+    row.wrapping_mul(row).wrapping_mul(row)
 }
 
 // A line of a word and three numbers, with an id in front of them where it is not zero.
@@ -64,13 +66,15 @@ fn put_line(
     Ok(())
 }
 
-// The cubes at distances of 100, as a mesh file.
-fn mesh_text(alloc: Global) -> Result<Vec<u8>, Fail> {
+// Cubes at distances of 100, so many in a row, as a mesh file.
+pub(crate) fn mesh_text(alloc: Global, row: u32) -> Result<Vec<u8>, Fail>
+    requires { 0 < row }
+{
     let mut text = Vec::new(alloc);
-    for cube in 0..cubes() {
-        let x = (cube % ROW).wrapping_mul(100);
-        let y = (cube / ROW % ROW).wrapping_mul(100);
-        let z = (cube / ROW / ROW).wrapping_mul(100);
+    for cube in 0..cubes(row) {
+        let x = (cube % row).wrapping_mul(100);
+        let y = (cube / row % row).wrapping_mul(100);
+        let z = (cube / row / row).wrapping_mul(100);
         for corner in CORNERS {
             let place = [
                 corner[0].wrapping_add(x),
@@ -80,7 +84,7 @@ fn mesh_text(alloc: Global) -> Result<Vec<u8>, Fail> {
             put_line(&mut text, b"v", 0, false, place)?;
         }
     }
-    for cube in 0..cubes() {
+    for cube in 0..cubes(row) {
         let base = cube.wrapping_mul(8);
         for face in FACES {
             let corners = [
@@ -106,7 +110,7 @@ fn shift_of(cube: u32) -> [u32; 3] {
 
 // A line for each vertex, with the shift of its cube.
 fn put_shifts(text: &mut Vec<u8>, word: &[u8], minus: bool) -> Result<(), Fail> {
-    for cube in 0..cubes() {
+    for cube in 0..cubes(ROW) {
         let by = shift_of(cube);
         for corner in 1..=8_u32 {
             let v = cube.wrapping_mul(8).wrapping_add(corner);
@@ -146,7 +150,7 @@ fn log_text(alloc: Global) -> Result<Vec<u8>, Fail> {
 #[test]
 fn cubes_go_there_and_back(rt: HostRuntime) -> Result<(), Fail> {
     let alloc = rt.alloc();
-    let mesh = mesh_text(alloc)?;
+    let mesh = mesh_text(alloc, ROW)?;
     let log = log_text(alloc)?;
     let mut desk = MemoryDesk::new(alloc, Vec::new(alloc), Vec::new(alloc));
     desk.put("mesh.obj", &mesh)?;
