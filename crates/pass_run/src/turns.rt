@@ -94,7 +94,7 @@ fn is_longer_than_across<S: Surface>(mesh: &S, a: VertexId, b: VertexId) -> bool
 fn is_split_due<S: Surface>(mesh: &S, over: u32, a: VertexId, b: VertexId) -> bool
     ensures { result ≡ is_due (S.mesh mesh.now) (kinds.Split over) (asked.Split a b) }
 {
-    stands(mesh, a, b) && is_longer(mesh, a, b, over)
+    is_longer(mesh, a, b, over) && stands(mesh, a, b)
 }
 
 // Whether a flip of the edge is due.
