@@ -1,5 +1,5 @@
 -- What a flip answers, by what holds of its edge.
-use Rattle.std.proofs.Common.{◌≡◌, ℕ, Bool, true, false, not, ◌||◌, ◌==◌, min, max, [], ◌∷◌, Option, Some, None, sym, ap, subst, ◌∙◌}
+use Rattle.std.proofs.Common.{◌≡◌, ℕ, Bool, true, false, not, ◌||◌, ◌==◌, min, max, [], ◌∷◌, Option, Some, None, is_some, sym, ap, subst, ◌∙◌}
 use Rattle.std.specs.Option.{option_map}
 use Rattle.grid_base.specs.declared.Positions.{Positions}
 use Rattle.mesh_base.specs.declared.ids.PairName.{PairName}
@@ -47,12 +47,19 @@ pub same_of_ends : (meets : Positions → Bool) (m : Mesh) (s : Edge) (u v depth
 same_of_ends meets m s u v depth e =
     ap (λ (t : Edge). flip_answer meets m t.a t.b depth) e ∙ ap (λ t. answer_of meets m t depth) (edge_again m u v)
 
+-- where the two faces beside it are found, it is an edge
+pub found_is_edge : (found : Option Edge) (s : Edge) (edge : Bool) → found ≡ Some s → is_some found ≡ edge → edge ≡ true
+found_is_edge (Some t) s edge is same = sym same
+found_is_edge None s edge is same = absurd cc
+
+-- what would pass a limit is refused, where no reason before that holds
 pub full_is_refused : (meets : Positions → Bool) (m : Mesh) (s : Edge) (u v depth : ℕ) → s ≡ edge_of m u v → is_edge m s.a s.b ≡ true → is_crowded m s.a s.b ≡ false →
     ((s.c == s.d) || is_edge m s.c s.d) ≡ false → is_over_limits (split_mesh m s (split_point m s)) ≡ true → No Full ≡ flip_answer meets m u v depth
 full_is_refused meets m s u v depth e one two three four =
     sym (λ i. answer_by (one i) (two i) (three i) (four i || is_over_limits (flip_mesh m s)) (first_lacking meets (flip_scaffold m s) depth) s)
     ∙ ap (λ t. answer_of meets m t depth) e
 
+-- where no reason holds before a hit, the flip may be tried
 pub may_be_tried : (m : Mesh) (s : Edge) (u v : ℕ) → s ≡ edge_of m u v → is_edge m (min u v) (max u v) ≡ true → is_crowded m s.a s.b ≡ false →
     ((s.c == s.d) || is_edge m s.c s.d) ≡ false → is_over_limits (split_mesh m s (split_point m s)) ≡ false → MayBeTried m s
 may_be_tried m s u v e one two three four = record {
