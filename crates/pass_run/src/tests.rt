@@ -13,7 +13,9 @@ use std::test::Fail;
 
 // A tetrahedron.
 const FOUR: [[u32; 3]; 4] = [[1, 3, 2], [1, 2, 4], [2, 3, 4], [1, 4, 3]];
+
 const EVEN: [[i32; 3]; 4] = [[0, 0, 0], [4, 0, 0], [0, 4, 0], [0, 0, 4]];
+
 const LONG: [[i32; 3]; 4] = [[0, 0, 0], [40, 0, 0], [0, 4, 0], [0, 0, 4]];
 
 // A flat double pyramid over a triangle.
@@ -25,13 +27,8 @@ const SIX: [[u32; 3]; 6] = [
     [3, 2, 5],
     [1, 3, 5],
 ];
-const FLAT: [[i32; 3]; 5] = [
-    [0, 0, 0],
-    [24, 0, 0],
-    [12, 20, 0],
-    [12, 6, 4],
-    [12, 6, -4],
-];
+
+const FLAT: [[i32; 3]; 5] = [[0, 0, 0], [24, 0, 0], [12, 20, 0], [12, 6, 4], [12, 6, -4]];
 
 // The lines of the splits of all edges of the even tetrahedron.
 const SPLITS: [&[u8]; 7] = [
@@ -122,7 +119,10 @@ fn a_write_that_fails_leaves_whole_lines_and_one_more_edit(rt: HostRuntime) -> R
         let mut out = sink_of(alloc, &[write])?;
         let found = done(alloc, &lists, PassKind::Split { over: 3 }, &mut out, &rt)?;
         assert_eq!(rt; found, (Err(PassFault::SinkFault), vertices, faces));
-        assert_eq!(rt; out.bytes(), first_splits(alloc, write as usize - 1)?.as_slice());
+        assert_eq!(rt;
+            out.bytes(),
+            first_splits(alloc, write as usize - 1)?.as_slice()
+        );
     }
     Ok(())
 }

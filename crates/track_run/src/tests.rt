@@ -1,3 +1,4 @@
+mod all_pairs;
 mod each_its_way;
 mod one_by_one;
 mod splits_and_flips;
@@ -59,7 +60,7 @@ pub(crate) fn desk_of(alloc: Global, mesh: &[u8], steps: &[u8]) -> Result<Memory
 }
 
 pub(crate) fn sink_of(alloc: Global) -> Result<MemorySink, Fail> {
-    Ok(MemorySink::new(alloc, 2_000, Vec::new(alloc))?)
+    Ok(MemorySink::new(alloc, 10_000, Vec::new(alloc))?)
 }
 
 // The run of the two files.

@@ -4,9 +4,10 @@ ghost use Rattle.mesh_base.specs.Placements.{IsClearMesh};
 
 use super::there_and_back::mesh_text;
 use edit_base::PassKind;
+use edit_check::{Touch, check};
 use edit_split::split;
 use grid_base::{NoMemory, Point};
-use mesh_base::{Surface, VertexId, edges_in_order};
+use mesh_base::{PairName, Surface, VertexId, edges_in_order};
 use mesh_plain::{PlainMesh, shape};
 use obj_text::{obj_of, read_obj};
 use outside_io::MemorySink;
@@ -58,6 +59,7 @@ fn a_pass_over_many_edges_is_their_splits(rt: HostRuntime) -> Result<(), Fail> {
     // Eight cubes have 144 edges, of which the 48 diagonals are longer than 50.
     let alloc = rt.alloc();
     let text = mesh_text(alloc, 2)?;
+    assert!(rt; text.len() < 10_000);
     let lists = read_obj(alloc, &text, 0)?;
     let shaped = shape(alloc, &lists);
     assert!(rt; shaped.is_ok());
@@ -84,5 +86,25 @@ fn a_pass_over_many_edges_is_their_splits(rt: HostRuntime) -> Result<(), Fail> {
         obj_of(alloc, &passed, 0)?.as_slice(),
         obj_of(alloc, &split_up, 0)?.as_slice()
     );
+    Ok(())
+}
+
+// The first pair of a mesh at rest that does not pass, among those that touch a face from an id on.
+fn lacking(alloc: Global, mesh: &PlainMesh, fresh_from: u32) -> Result<Option<PairName>, NoMemory> {
+    match first_meeting(alloc, mesh)? {
+        Some(found) => Ok(Some(found)),
+        None => check(alloc, mesh, &[], Touch::Never, &[], fresh_from, 6),
+    }
+}
+
+#[test]
+fn a_tetrahedron_at_rest_lacks_nothing(rt: HostRuntime) -> Result<(), Fail> {
+    let alloc = rt.alloc();
+    let lists = read_obj(alloc, super::MESH, 0)?;
+    let shaped = shape(alloc, &lists);
+    assert!(rt; shaped.is_ok());
+    let mesh = PlainMesh::of(alloc, &lists)?;
+    assert_eq!(rt; lacking(alloc, &mesh, 5)?, None);
+    assert_eq!(rt; lacking(alloc, &mesh, 1)?, None);
     Ok(())
 }
