@@ -5,32 +5,22 @@
 """
 
 import os
-import subprocess
 import tempfile
-import time
 
-import whole_mesh
-
-
-def timed(folder, mesh):
-    with open(os.path.join(folder, "log"), "wb") as log:
-        begun = time.monotonic()
-        ended = subprocess.run([os.path.join(whole_mesh.ROOT, "topo"), "track", mesh, "steps.txt", "t"], cwd=folder, stdout=log, stderr=subprocess.DEVNULL)
-        return f"status {ended.returncode}, {time.monotonic() - begun:.2f} s"
+from job import build, globe, put_mesh, run
 
 
 def main():
-    points, faces = whole_mesh.globe(217, 302)
+    points, faces = globe(217, 302)
+    build()
     with tempfile.TemporaryDirectory() as folder:
-        with open(os.path.join(folder, "open.obj"), "w") as out:
-            out.writelines("v %d %d %d\n" % p for p in points)
-            out.writelines("f %d %d %d\n" % f for f in faces[:-1])
-        with open(os.path.join(folder, "comments.obj"), "w") as out:
+        put_mesh(folder, points, faces[:-1])
+        status, seconds, _ = run(folder, [])
+        print(f"{len(points)} vertices, {len(faces) - 1} faces, the last one missing: status {status}, {seconds:.2f} s")
+        with open(os.path.join(folder, "mesh.obj"), "w") as out:
             out.write(("# " + "c" * 60 + "\n") * ((64 << 20) // 63))
-        open(os.path.join(folder, "steps.txt"), "w").close()
-        subprocess.run([os.path.join(whole_mesh.ROOT, "topo"), "--version"], check=True, stdout=subprocess.DEVNULL)
-        print(f"{len(points)} vertices and {len(faces) - 1} faces, one left out: {timed(folder, 'open.obj')}")
-        print(f"64 MiB of comments: {timed(folder, 'comments.obj')}")
+        status, seconds, _ = run(folder, [])
+        print(f"64 MiB of comments: status {status}, {seconds:.2f} s")
 
 
 if __name__ == "__main__":

@@ -45,16 +45,28 @@ fn print_help(rt: &impl Print) -> io::Result<()> {
     println!(rt; "9 the steps' text, 10 a step that is refused, 11 a file is missing.")
 }
 
-// Prints what is asked for, and answers the exit status.
-fn tell(rt: &impl Print, version: bool) -> u8 {
+// Prints what is asked for.
+fn tell(rt: &impl Print, version: bool) -> Outcome {
     let printed = if version {
         println!(rt; "topo 0.1.0")
     } else {
         print_help(rt)
     };
     match printed {
-        Ok(()) => Outcome::Done.status(),
-        Err(_) => Outcome::SinkFault.status(),
+        Ok(()) => Outcome::Done,
+        Err(_) => Outcome::SinkFault,
+    }
+}
+
+// Whether the words ask for the version alone, or for help alone.
+fn asks_version(words: &[String]) -> Option<bool> {
+    if words.len() != 1 {
+        return None;
+    }
+    match words[0].as_str() {
+        "--help" | "-h" => Some(false),
+        "--version" => Some(true),
+        _ => None,
     }
 }
 
@@ -62,21 +74,15 @@ fn main(rt: HostRuntime) -> ExitCode {
     let outcome = match words(&rt) {
         Err(error) if error.kind() == ErrorKind::OutOfMemory => Outcome::NoMemory,
         Err(_) => Outcome::Usage,
-        Ok(words) => {
-            if words.len() == 1 {
-                match words[0].as_str() {
-                    "--help" | "-h" => return ExitCode::from(tell(&rt, false)),
-                    "--version" => return ExitCode::from(tell(&rt, true)),
-                    _ => {}
-                }
-            }
-            run(
+        Ok(words) => match asks_version(&words) {
+            Some(version) => tell(&rt, version),
+            None => run(
                 rt.alloc(),
                 &words,
                 &mut FileDesk::new(&rt),
                 &mut StdSink::new(&rt),
-            )
-        }
+            ),
+        },
     };
     let status = outcome.status();
     if outcome == Outcome::Usage {
