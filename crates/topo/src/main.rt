@@ -8,7 +8,30 @@ use std::rt::Env;
 use std::{env, io};
 use track_run::{Outcome, run};
 
-const USAGE: &str = "usage: topo track MESH STEPS PREFIX [--decimals N]";
+const USAGE: &str = "\
+usage: topo track MESH STEPS PREFIX [--decimals N]
+       topo --help | --version
+
+Reads the Wavefront OBJ mesh MESH and the text of steps STEPS, moves the closed triangle surface by
+the steps and edits it, writes the log to standard output, and stores the meshes as PREFIX-000000.obj,
+PREFIX-000001.obj and so on.
+
+--decimals N    a unit of the grid is 10 to the power -N (N from 0 to 6; 0 if left out)
+
+Exit status:
+   0  done
+   1  no memory
+   2  the words are of no listed form
+   3  a file could not be read or stored
+   4  standard output could not be written
+   5  a file is too long
+   6  a line of the mesh file is outside its grammar
+   7  the mesh is not of good shape
+   8  an edge of the mesh meets a face that shares no vertex with it
+   9  a line of the step file is outside its grammar
+  10  a directive is refused
+  11  a file is missing
+";
 
 // The words after the program's name.
 fn words(rt: &(impl Env + AllocGlobal)) -> io::Result<Vec<String>> {
@@ -21,36 +44,12 @@ fn words(rt: &(impl Env + AllocGlobal)) -> io::Result<Vec<String>> {
     Ok(words)
 }
 
-// What to call it for, and what the exit status says.
-fn print_help(rt: &impl Print) -> io::Result<()> {
-    println!(rt; "{USAGE}")?;
-    println!(rt; "       topo --help | --version")?;
-    println!(rt;)?;
-    println!(rt;
-        "Reads the Wavefront OBJ mesh MESH and the steps STEPS, moves the closed triangle surface by"
-    )?;
-    println!(rt;
-        "them, writes the log to standard output and stores the meshes PREFIX-000000.obj and so on."
-    )?;
-    println!(rt;
-        "--decimals N    a unit of the grid is 10 to the power -N (N from 0 to 6; 0 if left out)"
-    )?;
-    println!(rt;)?;
-    println!(rt;
-        "Exit status: 0 done, 1 no memory, 2 wrong words, 3 files failed, 4 standard output failed,"
-    )?;
-    println!(rt;
-        "5 a file is too long, 6 the mesh's text, 7 the mesh's shape, 8 the mesh meets itself,"
-    )?;
-    println!(rt; "9 the steps' text, 10 a step that is refused, 11 a file is missing.")
-}
-
 // Prints what is asked for.
 fn tell(rt: &impl Print, version: bool) -> Outcome {
     let printed = if version {
         println!(rt; "topo 0.1.0")
     } else {
-        print_help(rt)
+        print!(rt; "{USAGE}")
     };
     match printed {
         Ok(()) => Outcome::Done,
@@ -86,7 +85,7 @@ fn main(rt: HostRuntime) -> ExitCode {
     };
     let status = outcome.status();
     if outcome == Outcome::Usage {
-        let _ = eprintln!(rt; "{USAGE}");
+        let _ = eprint!(rt; "{USAGE}");
     }
     if status != 0 {
         let _ = eprintln!(rt; "topo: status {status}");

@@ -1,0 +1,98 @@
+#!/usr/bin/env python3
+"""Refuses each allocation of the built program in turn, on a few jobs.
+
+    checks/allocations.py [MOST]
+
+Each run must end by itself, with status 1 (no memory) or as the whole run did; what it wrote to standard output must be the first bytes of
+the whole log; each mesh whose line was written whole must be stored as in the whole run, but that of a last line, which may be missing; and
+no other file may be there. At most MOST (2,000) allocations of a job are tried, evenly spread. It needs a C compiler, `cc`.
+"""
+
+import os
+import subprocess
+import sys
+import tempfile
+
+ROOT = os.path.dirname(os.path.dirname(os.path.abspath(__file__)))
+TOPO = os.path.join(ROOT, "topo")
+PROGRAM = os.path.join(ROOT, "crates/topo/out/topo")
+TETRAHEDRON = "v 0 0 0\nv 4 0 0\nv 0 4 0\nv 0 0 4\nf 1 3 2\nf 1 2 4\nf 2 3 4\nf 1 4 3\n"
+FLAT = "v 0 0 0\nv 24 0 0\nv 12 20 0\nv 12 6 4\nv 12 6 -4\nf 1 2 4\nf 2 3 4\nf 3 1 4\nf 2 1 5\nf 3 2 5\nf 1 3 5\n"
+TWO = (
+    "v 0 0 0\nv 0 12 0\nv 0 0 12\nv -12 0 0\nv 8 2 2\nv 12 2 2\nv 12 6 2\nv 14 2 6\n"
+    "f 1 2 3\nf 2 1 4\nf 3 2 4\nf 1 3 4\nf 6 7 8\nf 7 6 5\nf 8 7 5\nf 6 8 5\n"
+)
+JOBS = [
+    ("a step that is whole", TETRAHEDRON, "shift all 1 2 3\nstep\nsave\n"),
+    ("a step that is halved", TWO, "shift 5 -8 0 0\nstep\nsave\n"),
+    ("splits", TETRAHEDRON, "split 3\nsave\n"),
+    ("a flip", FLAT, "flip\nsave\n"),
+    ("steps, splits and flips", TWO, "shift all 1 0 0\nstep\nsplit 10\nflip\nshift 5 -3 1 0\nstep\nsave\nsplit 6\nsave\n"),
+    ("a mesh that meets itself", TETRAHEDRON + TETRAHEDRON.replace("v 0", "v 1").replace("f ", "f -").replace("-1 -3 -2", "-4 -2 -3"), ""),
+    ("a bad step text", TETRAHEDRON, "shift all 1 2 3\nstep\nshift al\n"),
+]
+
+
+def run(folder, shim, mesh, steps, fail_at=0):
+    """The status, the bytes written, the files stored and the count of allocations."""
+    for name in os.listdir(folder):
+        os.remove(os.path.join(folder, name))
+    for name, text in (("mesh.obj", mesh), ("steps.txt", steps)):
+        with open(os.path.join(folder, name), "w") as out:
+            out.write(text)
+    count = os.path.join(folder, "count")
+    env = {"LD_PRELOAD": shim, "FAIL_AT": str(fail_at), "COUNT_TO": count, "PATH": "/usr/bin:/bin"}
+    ran = subprocess.run([PROGRAM, "track", "mesh.obj", "steps.txt", "t"], cwd=folder, stdout=subprocess.PIPE, stderr=subprocess.PIPE, env=env, timeout=60)
+    files = {}
+    for name in os.listdir(folder):
+        if name not in ("mesh.obj", "steps.txt", "count"):
+            with open(os.path.join(folder, name), "rb") as it:
+                files[name] = it.read()
+    with open(count) as it:
+        return ran.returncode, ran.stdout, files, int(it.read())
+
+
+def named_in(log):
+    """The files of the meshes whose lines stand whole in a log, and whether the last line is such a line."""
+    lines = log.split(b"\n")[:-1]
+    named = [b"t-%06d.obj" % int(line.split()[1]) for line in lines if line.startswith(b"mesh ")]
+    return [name.decode() for name in named], log.endswith(b"\n") and bool(lines) and lines[-1].startswith(b"mesh ")
+
+
+def is_as_promised(whole, ended):
+    status, log, files, _ = whole
+    now_status, now_log, now_files, _ = ended
+    if (now_status, now_log, now_files) == (status, log, files):
+        return True
+    named, is_open = named_in(now_log)
+    due = set(named[:-1]) if is_open else set(named)
+    stored = all(files.get(name) == text for name, text in now_files.items())
+    return now_status == 1 and log.startswith(now_log) and stored and due <= set(now_files) <= set(named)
+
+
+def main():
+    most = int(sys.argv[1]) if len(sys.argv) == 2 else 2000
+    subprocess.run([TOPO, "--version"], check=True, stdout=subprocess.DEVNULL)
+    failed = 0
+    with tempfile.TemporaryDirectory() as room:
+        shim, folder = os.path.join(room, "failing_alloc.so"), os.path.join(room, "job")
+        subprocess.run(["cc", "-O1", "-shared", "-fPIC", "-o", shim, os.path.join(ROOT, "checks/failing_alloc.c")], check=True)
+        os.mkdir(folder)
+        for what, mesh, steps in JOBS:
+            whole = run(folder, shim, mesh, steps)
+            total = whole[3]
+            tried = sorted({1 + at * total // min(total, most) for at in range(min(total, most))})
+            bad, stopped = [], 0
+            for at in tried:
+                ended = run(folder, shim, mesh, steps, at)
+                stopped += ended[0] == 1
+                if not is_as_promised(whole, ended):
+                    bad.append((at, ended[0]))
+            failed += len(bad)
+            print(f"{what}: {total} allocations, {len(tried)} refused, {stopped} ended for want of memory, {len(bad)} not as promised {bad[:5] or ''}".rstrip())
+    print(f"{'all as promised' if not failed else f'{failed} not as promised'}")
+    sys.exit(1 if failed else 0)
+
+
+if __name__ == "__main__":
+    main()
