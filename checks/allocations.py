@@ -22,13 +22,17 @@ TWO = (
     "v 0 0 0\nv 0 12 0\nv 0 0 12\nv -12 0 0\nv 8 2 2\nv 12 2 2\nv 12 6 2\nv 14 2 6\n"
     "f 1 2 3\nf 2 1 4\nf 3 2 4\nf 1 3 4\nf 6 7 8\nf 7 6 5\nf 8 7 5\nf 6 8 5\n"
 )
+CROSSED = (
+    "v 0 0 0\nv 4 0 0\nv 0 4 0\nv 0 0 4\nv 1 1 1\nv 5 1 1\nv 1 5 1\nv 1 1 5\n"
+    "f 1 3 2\nf 1 2 4\nf 2 3 4\nf 1 4 3\nf 5 7 6\nf 5 6 8\nf 6 7 8\nf 5 8 7\n"
+)
 JOBS = [
     ("a step that is whole", TETRAHEDRON, "shift all 1 2 3\nstep\nsave\n"),
     ("a step that is halved", TWO, "shift 5 -8 0 0\nstep\nsave\n"),
     ("splits", TETRAHEDRON, "split 3\nsave\n"),
     ("a flip", FLAT, "flip\nsave\n"),
     ("steps, splits and flips", TWO, "shift all 1 0 0\nstep\nsplit 10\nflip\nshift 5 -3 1 0\nstep\nsave\nsplit 6\nsave\n"),
-    ("a mesh that meets itself", TETRAHEDRON + TETRAHEDRON.replace("v 0", "v 1").replace("f ", "f -").replace("-1 -3 -2", "-4 -2 -3"), ""),
+    ("a mesh that meets itself", CROSSED, ""),
     ("a bad step text", TETRAHEDRON, "shift all 1 2 3\nstep\nshift al\n"),
 ]
 
@@ -89,7 +93,7 @@ def main():
                 if not is_as_promised(whole, ended):
                     bad.append((at, ended[0]))
             failed += len(bad)
-            print(f"{what}: {total} allocations, {len(tried)} refused, {stopped} ended for want of memory, {len(bad)} not as promised {bad[:5] or ''}".rstrip())
+            print(f"{what} (status {whole[0]}): {total} allocations, {len(tried)} refused, {stopped} ended for want of memory, {len(bad)} not as promised {bad[:5] or ''}".rstrip())
     print(f"{'all as promised' if not failed else f'{failed} not as promised'}")
     sys.exit(1 if failed else 0)
 

@@ -84,7 +84,7 @@ def main():
     crates = [line.partition(":")[0] for line in text_of("crates.txt").splitlines() if ":" in line]
     for name in ("README.md", "docs/ARCHITECTURE.md"):
         lacking = [crate for crate in crates if f"`{crate}`" not in text_of(name)]
-        checks.append((f"{name} names each crate", not lacking))
+        checks.append((f"{name} names each crate {' '.join(lacking)}".rstrip(), not lacking))
     for name in ["README.md", *(f"docs/{it}" for it in sorted(os.listdir(os.path.join(ROOT, "docs"))))]:
         named = re.findall(r"`((?:crates|docs|checks|bench|\.ci)/[\w./*-]+)`", text_of(name))
         lost = [it for it in named if "*" not in it and not os.path.exists(os.path.join(ROOT, it))]
