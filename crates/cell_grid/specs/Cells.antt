@@ -14,6 +14,7 @@ place_along cell a = unsigned_abs (a +ℤ pos EXTENT_MAX) / cell
 abbrev pub cell_of : ℕ → Triple → Cell
 cell_of cell p = record { x = place_along cell p.x; y = place_along cell p.y; z = place_along cell p.z }
 
+-- whether two cells are one
 abbrev pub same_cell : Cell → Cell → Bool
 same_cell a b = nat_eq a.x b.x && (nat_eq a.y b.y && nat_eq a.z b.z)
 
@@ -26,7 +27,7 @@ pub record Touches (cell : ℕ) (e : Extent) (c : Cell) : Type 0 where
   pub z_low : place_along cell e.low.z ≤ c.z
   pub z_high : c.z ≤ place_along cell e.high.z
 
--- the span has just the cells that the extent touches
+-- the span has each cell that the extent touches, from the first of them on
 pub record Covers (cell : ℕ) (e : Extent) (s : Span) : Type 0 where
   pub first : s.first ≡ cell_of cell e.low
   pub x_end : place_along cell e.high.x < s.first.x + s.wide

@@ -69,7 +69,7 @@ pub fn taken_apart_opens()
     ensures { (depth : ℕ) (s t : Positions) → Any (TakesApart s t) (directions s t) → Opens depth s t }
 {}
 
-/// A direction brings a pair together where it takes the motion backwards apart.
+/// A direction brings a pair together exactly where it takes the pair apart in the motion backwards.
 pub fn bringing_together_is_taking_apart_backwards()
     ensures { (s t : Positions) (n : Triple) → (BringsTogether s t n ↔ TakesApart t s n) }
 {}

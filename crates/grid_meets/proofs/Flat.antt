@@ -4,10 +4,10 @@ use Rattle.std.proofs.lemmas.Int.{ints, by_lt_z}
 use Rattle.grid_base.specs.Triples.{Triple, minus, dot, cross}
 use Rattle.grid_base.specs.Meeting.{Meets}
 use Rattle.grid_meets.specs.Segments.{HasNoLength, MeetsSide}
-use Rattle.grid_base.proofs.Polynomials.{var, num, add, sub, mul, same_polynomial, same_by_known}
+use Rattle.grid_base.proofs.Polynomials.{var, num, add, sub, mul, same_by_known}
 use Rattle.grid_meets.proofs.Crossing.{Meets-turned}
 use Rattle.grid_meets.proofs.OnOneLine.{IsAlong, IsAlong-from_line, HasNoLength-from_square, square_of-not_negative}
-use Rattle.grid_meets.proofs.Weights.{AreWeights, Meets-by_weights, product-not_negative, product-positive}
+use Rattle.grid_meets.proofs.Weights.{AreWeights, Meets-by_weights, weak, natural, natural_some, add_up, split, product-not_negative, product-positive}
 
 -- e lies between c and d: S times it is P and Q at them
 pub record LiesBetween (c d e : Triple) (S P Q : ℤ) : Type 0 where
@@ -47,21 +47,6 @@ weights_over i j k l m S P Q some same s_some sum hp hq = record {
       (ap pos same, (sum, tt)) refl;
 }
   where
-    weak : (x : ℤ) → pos 0 <ℤ x → pos 0 ≤ℤ x
-    weak x h = omega (arith, ints)
-
-    natural : (n : ℕ) → pos 0 ≤ℤ pos n
-    natural n = omega (arith, ints)
-
-    natural_some : (n : ℕ) → 0 < n → pos 0 <ℤ pos n
-    natural_some n h = omega (arith, ints)
-
-    add_up : (x y : ℤ) → pos 0 ≤ℤ x → pos 0 ≤ℤ y → pos 0 ≤ℤ (x +ℤ y)
-    add_up x y h k = omega (arith, ints)
-
-    split : (s : ℤ) (i j : ℕ) → s *ℤ pos (i + j) ≡ s *ℤ pos i +ℤ s *ℤ pos j
-    split s i j = same_polynomial (s ∷ pos i ∷ pos j ∷ []) (mul (var 0) (add (var 1) (var 2))) (add (mul (var 0) (var 1)) (mul (var 0) (var 2))) refl
-
     along_sum : (x y : ℤ) → x ≡ y → pos 0 <ℤ x → pos 0 <ℤ y
     along_sum x y e h = omega (arith, ints)
 
@@ -99,9 +84,6 @@ flat_along a b c d e F k some h w =
 
     away : (k : ℤ) → k <ℤ pos 0 → pos 0 ≤ℤ (pos 0 -ℤ k)
     away k h = omega (arith, ints)
-
-    weak : (x : ℤ) → pos 0 <ℤ x → pos 0 ≤ℤ x
-    weak x h = omega (arith, ints)
 
     through : (F k : ℤ) → pos 0 <ℤ F → F <ℤ k → pos 0 <ℤ k
     through F k p q = omega (arith, ints)

@@ -7,7 +7,7 @@ use Rattle.grid_meets.specs.Segments.{HasNoLength}
 use Rattle.grid_base.proofs.Polynomials.{var, num, add, sub, mul, same_polynomial, same_by_known}
 use Rattle.grid_base.proofs.TermTriples.{var3, minus_t, dot_t, cross_t, components}
 use Rattle.grid_base.proofs.MeetingLaws.{Meets-not_below}
-use Rattle.grid_meets.proofs.Weights.{AreWeights, Meets-by_weights, product-positive}
+use Rattle.grid_meets.proofs.Weights.{AreWeights, Meets-by_weights, weak, product-positive}
 use Rattle.grid_meets.proofs.Crossing.{below_by, Meets-turned}
 use Rattle.grid_meets.proofs.Sides.{Meets-first_side}
 use Rattle.grid_meets.proofs.Segments.{pair, on_line_within, on_line_straddled}
@@ -121,9 +121,6 @@ straddled a b c d U k l hc hd some before behind =
     Meets-by_weights _ _ _ _ _ a b c d d (weights U k l some before behind)
     (on_line_straddled U k l a.x b.x c.x d.x hc.x hd.x) (on_line_straddled U k l a.y b.y c.y d.y hc.y hd.y) (on_line_straddled U k l a.z b.z c.z d.z hc.z hd.z)
   where
-    weak : (x : ℤ) → pos 0 <ℤ x → pos 0 ≤ℤ x
-    weak x h = omega (arith, ints)
-
     away : (k : ℤ) → k <ℤ pos 0 → pos 0 <ℤ (pos 0 -ℤ k)
     away k h = omega (arith, ints)
 

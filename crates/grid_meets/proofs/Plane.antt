@@ -5,7 +5,7 @@ use Rattle.grid_base.specs.Triples.{Triple, minus, dot, cross, orientation}
 use Rattle.grid_base.specs.Meeting.{Meets}
 use Rattle.grid_base.proofs.Polynomials.{var, num, add, sub, mul, same_polynomial, same_by_known}
 use Rattle.grid_base.proofs.TermTriples.{var3, dot_t, cross_t, components}
-use Rattle.grid_meets.proofs.Weights.{AreWeights, Meets-by_weights, product-not_negative, product-positive}
+use Rattle.grid_meets.proofs.Weights.{AreWeights, Meets-by_weights, weak, natural, natural_some, add_up, split, product-not_negative, product-positive}
 
 -- ---- the parts of a vector along two others and across them
 module _ (f g q : Triple) where
@@ -95,21 +95,6 @@ exit_weights i j k l m N s q r some same n_some s_some sum hl hm = record {
       (ap pos same, (sum, tt)) refl;
 }
   where
-    weak : (x : ℤ) → pos 0 <ℤ x → pos 0 ≤ℤ x
-    weak x h = omega (arith, ints)
-
-    natural : (n : ℕ) → pos 0 ≤ℤ pos n
-    natural n = omega (arith, ints)
-
-    natural_some : (n : ℕ) → 0 < n → pos 0 <ℤ pos n
-    natural_some n h = omega (arith, ints)
-
-    add_up : (x y : ℤ) → pos 0 ≤ℤ x → pos 0 ≤ℤ y → pos 0 ≤ℤ (x +ℤ y)
-    add_up x y h k = omega (arith, ints)
-
-    split : (s : ℤ) (i j : ℕ) → s *ℤ pos (i + j) ≡ s *ℤ pos i +ℤ s *ℤ pos j
-    split s i j = same_polynomial (s ∷ pos i ∷ pos j ∷ []) (mul (var 0) (add (var 1) (var 2))) (add (mul (var 0) (var 1)) (mul (var 0) (var 2))) refl
-
     more : (x y z t : ℤ) → t ≡ x +ℤ z → pos 0 <ℤ t → pos 0 ≤ℤ y → pos 0 <ℤ (x +ℤ y +ℤ z)
     more x y z t e h k = omega (arith, ints)
 

@@ -6,18 +6,12 @@ use Rattle.grid_base.specs.Meeting.{Meets}
 use Rattle.grid_meets.specs.Segments.{MeetsSide}
 use Rattle.grid_base.proofs.Polynomials.{var, num, add, sub, mul, same_polynomial}
 use Rattle.grid_base.proofs.MeetingLaws.{same_triple}
-use Rattle.grid_meets.proofs.Weights.{AreWeights, Meets-by_weights, product-not_negative}
+use Rattle.grid_meets.proofs.Weights.{AreWeights, Meets-by_weights, natural, add_up, product-not_negative}
 use Rattle.grid_meets.proofs.Crossing.{Meets-turned, Meets-turned-k, Meets-turned-m}
 use Rattle.grid_meets.proofs.Plane.{LiesBy, LiesBy-turned, LiesBy-in_plane, exit_at}
 
-natural : (n : ℕ) → pos 0 ≤ℤ pos n
-natural n = omega (arith, ints)
-
 other_way : (p : ℤ) → p <ℤ pos 0 → pos 0 ≤ℤ (pos 0 -ℤ p)
 other_way p h = omega (arith, ints)
-
-add_up : (x y : ℤ) → pos 0 ≤ℤ x → pos 0 ≤ℤ y → pos 0 ≤ℤ (x +ℤ y)
-add_up x y h k = omega (arith, ints)
 
 room : (p q : ℤ) (k l : ℕ) → p <ℤ pos 0 → pos 0 ≤ℤ q → pos 0 ≤ℤ ((pos 0 -ℤ p) *ℤ pos l +ℤ pos k *ℤ q)
 room p q k l out inside = add_up ((pos 0 -ℤ p) *ℤ pos l) (pos k *ℤ q) (product-not_negative (pos 0 -ℤ p) (pos l) (other_way p out) (natural l)) (product-not_negative (pos k) q (natural k) inside)

@@ -1,11 +1,24 @@
 -- Weights that are given as whole numbers, none negative.
-use Rattle.std.proofs.Common.{◌≡◌, ℕ, ◌+◌, ◌*◌, ◌<◌, ℤ, pos, negsuc, ◌+ℤ◌, ◌*ℤ◌, ◌<ℤ◌, ◌≤ℤ◌, unsigned_abs, arith}
+use Rattle.std.proofs.Common.{◌≡◌, ℕ, ◌+◌, ◌*◌, ◌<◌, ℤ, pos, negsuc, ◌+ℤ◌, ◌*ℤ◌, ◌<ℤ◌, ◌≤ℤ◌, [], ◌∷◌, unsigned_abs, refl, arith}
 use Rattle.std.proofs.lemmas.Int.{ints}
 use Rattle.grid_base.specs.Triples.{Triple}
 use Rattle.grid_base.specs.Meeting.{Meets}
 use Rattle.grid_base.proofs.MeetingLaws.{same_triple}
+use Rattle.grid_base.proofs.Polynomials.{var, add, mul, same_polynomial}
 
--- ---- signs of products
+-- ---- signs
+pub weak : (x : ℤ) → pos 0 <ℤ x → pos 0 ≤ℤ x
+weak x h = omega (arith, ints)
+
+pub natural : (n : ℕ) → pos 0 ≤ℤ pos n
+natural n = omega (arith, ints)
+
+pub natural_some : (n : ℕ) → 0 < n → pos 0 <ℤ pos n
+natural_some n h = omega (arith, ints)
+
+pub add_up : (x y : ℤ) → pos 0 ≤ℤ x → pos 0 ≤ℤ y → pos 0 ≤ℤ (x +ℤ y)
+add_up x y h k = omega (arith, ints)
+
 pub product-not_negative : (x y : ℤ) → pos 0 ≤ℤ x → pos 0 ≤ℤ y → pos 0 ≤ℤ (x *ℤ y)
 product-not_negative (pos m) (pos n) p q = omega (arith, ints)
 product-not_negative (negsuc m) y p q = absurd (omega (arith, ints))
@@ -24,6 +37,9 @@ product-positive (negsuc m) y p q = absurd (omega (arith, ints))
 product-positive (pos m) (negsuc n) p q = absurd (omega (arith, ints))
 
 -- ---- weights
+pub split : (s : ℤ) (i j : ℕ) → s *ℤ pos (i + j) ≡ s *ℤ pos i +ℤ s *ℤ pos j
+split s i j = same_polynomial (s ∷ pos i ∷ pos j ∷ []) (mul (var 0) (add (var 1) (var 2))) (add (mul (var 0) (var 1)) (mul (var 0) (var 2))) refl
+
 pub abs_up : (z : ℤ) → pos 0 ≤ℤ z → pos (unsigned_abs z) ≡ z
 abs_up z h = omega (arith, ints)
 

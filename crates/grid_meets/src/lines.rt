@@ -44,6 +44,7 @@ pub(crate) fn product(a: Wide, b: Wide) -> i128
     sum(times(a.x, b.x), times(a.y, b.y), times(a.z, b.z))
 }
 
+// The product of two components of these.
 fn times(a: i128, b: i128) -> i128
     requires a_fits { unsigned_abs a ≤ NORMAL_MAX }
     requires b_fits { unsigned_abs b ≤ NORMAL_MAX }
@@ -53,6 +54,7 @@ fn times(a: i128, b: i128) -> i128
     a * b
 }
 
+// The sum of three such products.
 fn sum(a: i128, b: i128, c: i128) -> i128
     requires a_fits { unsigned_abs a ≤ AREA_MAX }
     requires b_fits { unsigned_abs b ≤ AREA_MAX }
@@ -150,6 +152,7 @@ pub(crate) fn segments_meet(a: Wide, b: Wide, c: Wide, d: Wide) -> bool
     same_position(a, c)
 }
 
+// Whether two points are at one position.
 fn same_position(a: Wide, b: Wide) -> bool
     ensures { IsTrue result ↔ (a ≡ b) }
 {
