@@ -14,6 +14,7 @@ use Rattle.grid_base.specs.declared.Point.{Point}
 use Rattle.mesh_base.specs.declared.ids.Corners.{Corners}
 use Rattle.mesh_base.specs.Mesh.{Mesh, IsMesh, IsSound, AreLive, AreDifferent, IsLiveVertex, HasCorners, equal_up_to_rotation}
 use Rattle.mesh_base.specs.Changes.{with_vertex, with_face, without_face, without_vertex, with_point, IsFresh}
+use Rattle.mesh_base.proofs.Tests.{or_first, or_second, or_either}
 use Rattle.mesh_base.proofs.Finite.{got_after_insert, live_after_insert, live_stays, got_after_remove, live_after_remove, live_but_removed, live_inserted}
 
 -- an insertion adds one at most, and none at a key that is there
@@ -87,18 +88,6 @@ sound-without_face m f s = record {
   };
 }
 
-either : (p q : Bool) → (p || q) ≡ true → (p ≡ true) ⊎ (q ≡ true)
-either true q h = inl refl
-either false q h = inr h
-
-or_left : (p q : Bool) → p ≡ true → (p || q) ≡ true
-or_left true q h = refl
-or_left false q h = cc
-
-or_right : (p q : Bool) → q ≡ true → (p || q) ≡ true
-or_right true q h = refl
-or_right false q h = h
-
 flipped : (a b c d e f : ℕ) → (a == d && b == e && c == f) ≡ true → (d == a && e == b && f == c) ≡ true
 flipped a b c d e f h = grind (arith, nat_tests)
 
@@ -118,11 +107,11 @@ symmetric a b c d e f h =
     let third : Bool = f == a && d == b && e == c in
     ⊎_elim
     (λ u. ⊎_elim
-    (λ w. or_left (first || second) third (or_left first second (flipped a b c d e f w)))
-    (λ w. or_right (first || second) third (flipped_turn b c a d e f w))
-    (either (a == d && b == e && c == f) (b == d && c == e && a == f) u))
-    (λ w. or_left (first || second) third (or_right first second (flipped_back c a b d e f w)))
-    (either ((a == d && b == e && c == f) || (b == d && c == e && a == f)) (c == d && a == e && b == f) h)
+    (λ w. or_first (first || second) third (or_first first second (flipped a b c d e f w)))
+    (λ w. or_second (first || second) third (flipped_turn b c a d e f w))
+    (or_either (a == d && b == e && c == f) (b == d && c == e && a == f) u))
+    (λ w. or_first (first || second) third (or_second first second (flipped_back c a b d e f w)))
+    (or_either ((a == d && b == e && c == f) || (b == d && c == e && a == f)) (c == d && a == e && b == f) h)
 
 pub equal_symmetric : (c d : Corners) → equal_up_to_rotation c d ≡ true → equal_up_to_rotation d c ≡ true
 equal_symmetric c d h = symmetric c.first c.second c.third d.first d.second d.third h
