@@ -6,7 +6,7 @@ use Rattle.std.specs.BTreeSet.{BTreeSet}
 use Rattle.std.specs.Ordering.{nat_cmp, is_eq, ordering_then}
 use Rattle.std.specs.declared.cmp.Ordering.{Ordering}
 use Rattle.std.specs.declared.cmp.Ordering.TheVariants.{Less, Equal, Greater}
-use Rattle.std.specs.Cmp.{unsigned_tied, nat_cmp_total, on_total, then_total, IsTotalOrder}
+use Rattle.std.specs.Cmp.{unsigned_tied}
 use Rattle.std.specs.FinMap as finite
 use Rattle.std.proofs.lemmas.Map.Lookups.{CmpEqualImpliesEq, exact_pairs, exact_unsigned, btree_set_from_contains}
 use Rattle.std.proofs.lemmas.Map.Views.{btree_set_contains_iff}
@@ -17,21 +17,16 @@ use Rattle.mesh_base.specs.Mesh.{Mesh, IsSound, HasCorners}
 use Rattle.mesh_base.specs.Sides.{follows, runs, IsEdge}
 use Rattle.mesh_base.specs.Changes.{corners_of, corner_list}
 use Rattle.mesh_base.specs.Pairs.{edges}
-use Rattle.mesh_base.specs.SideSet.{pair_cmp, has_side, are_neighbours, neighbours_in}
-use Rattle.mesh_base.proofs.Tests.{and_first, and_second, and_both, or_first, or_second, or_either, both_ways}
-use Rattle.mesh_base.proofs.InOrder.{edges_sorted}
+use Rattle.mesh_base.specs.SideSet.{edge_cmp, has_side, are_neighbours, neighbours_in}
+use Rattle.mesh_base.proofs.Tests.{tied_then, and_first, and_second, and_both, or_first, or_second, or_either, both_ways}
+use Rattle.mesh_base.proofs.InOrder.{edges_sorted, edge_total}
 use Rattle.mesh_base.proofs.Listed.{running_face, at_live}
 use Rattle.mesh_base.proofs.ListedPairs.{all_weaker, edge_listed}
 use Rattle.mesh_base.proofs.Counts.{runs-without_face}
 
 -- ---- one side more
-tied_then : (o p : Ordering) → is_eq (ordering_then o p) ≡ (is_eq o && is_eq p)
-tied_then Less p = refl
-tied_then Equal p = refl
-tied_then Greater p = refl
-
-tied_pairs : (u v a b : ℕ) → is_eq (pair_cmp (u, v) (a, b)) ≡ (u == a && v == b)
-tied_pairs u v a b = tied_then (nat_cmp u a) (nat_cmp v b) ∙ ap (λ t. t && is_eq (nat_cmp v b)) (unsigned_tied u a) ∙ ap (λ t. (u == a) && t) (unsigned_tied v b)
+tied_edges : (u v a b : ℕ) → is_eq (edge_cmp (u, v) (a, b)) ≡ (u == a && v == b)
+tied_edges u v a b = tied_then (nat_cmp u a) (nat_cmp v b) ∙ ap (λ t. t && is_eq (nat_cmp v b)) (unsigned_tied u a) ∙ ap (λ t. (u == a) && t) (unsigned_tied v b)
 
 put_low : (o t t' low : Bool) → (t ≡ true → low ≡ true) → (t' ≡ true → low ≡ false) → cond t true o ≡ (o || (low && (t || t')))
 put_low true true t' low h h' = refl
@@ -62,14 +57,14 @@ is_high : (u v a b : ℕ) → u < v → (u == b && v == a) ≡ true → nat_lt a
 is_high u v a b h e = grind (arith, nat_tests)
 
 -- the side from the smaller u to the larger v was put into the set
-pub seen_rising : (old new : BTreeSet (ℕ × ℕ)) (u v a b : ℕ) → u < v → has_side new a b ≡ cond (is_eq (pair_cmp (u, v) (a, b))) true (has_side old a b)
+pub seen_rising : (old new : BTreeSet (ℕ × ℕ)) (u v a b : ℕ) → u < v → has_side new a b ≡ cond (is_eq (edge_cmp (u, v) (a, b))) true (has_side old a b)
     → has_side new a b ≡ (has_side old a b || (nat_lt a b && ((u == a && v == b) || (u == b && v == a))))
 seen_rising old new u v a b less is =
-    is ∙ ap (λ t. cond t true (has_side old a b)) (tied_pairs u v a b)
+    is ∙ ap (λ t. cond t true (has_side old a b)) (tied_edges u v a b)
     ∙ put_low (has_side old a b) (u == a && v == b) (u == b && v == a) (nat_lt a b) (is_low u v a b less) (is_high u v a b less)
 
 -- the side from the larger u to the smaller v was put into the set, turned
-pub seen_falling : (old new : BTreeSet (ℕ × ℕ)) (u v a b : ℕ) → v < u → has_side new a b ≡ cond (is_eq (pair_cmp (v, u) (a, b))) true (has_side old a b)
+pub seen_falling : (old new : BTreeSet (ℕ × ℕ)) (u v a b : ℕ) → v < u → has_side new a b ≡ cond (is_eq (edge_cmp (v, u) (a, b))) true (has_side old a b)
     → has_side new a b ≡ (has_side old a b || (nat_lt a b && ((u == a && v == b) || (u == b && v == a))))
 seen_falling old new u v a b less is =
     seen_rising old new v u a b less is
@@ -163,11 +158,8 @@ edge_seen m a b edge = ⊎_elim
     found f c there e = at_live (λ k. seen m a b k ≡ true → list_any (seen m a b) (finite.keys m.faces) ≡ true) m.faces f (any_each (seen m a b) (finite.keys m.faces)) (ap is_some there) (ap (λ o. neighbours_in o a b) there ∙ e)
 
 -- ---- the set
-pair_total : IsTotalOrder pair_cmp
-pair_total = then_total (on_total (λ (x : ℕ × ℕ). x.0) nat_cmp_total) (on_total (λ (x : ℕ × ℕ). x.1) nat_cmp_total)
-
-pair_exact : CmpEqualImpliesEq pair_cmp
-pair_exact = exact_pairs nat_cmp nat_cmp exact_unsigned exact_unsigned
+edge_exact : CmpEqualImpliesEq edge_cmp
+edge_exact = exact_pairs nat_cmp nat_cmp exact_unsigned exact_unsigned
 
 below_true : (a b : ℕ) → nat_lt a b ≡ true → a < b
 below_true a b h = grind (arith, nat_tests)
@@ -176,9 +168,9 @@ true_below : (a b : ℕ) → a < b → nat_lt a b ≡ true
 true_below a b h = grind (arith, nat_tests)
 
 -- a set in order that has the sides of the faces has the edges as its keys
-pub keys_are_edges : (m : Mesh) (sides : BTreeSet (ℕ × ℕ)) → IsSound m → IsStrictlySortedBy pair_cmp sides.keys
+pub keys_are_edges : (m : Mesh) (sides : BTreeSet (ℕ × ℕ)) → IsSound m → IsStrictlySortedBy edge_cmp sides.keys
     → ((a b : ℕ) → has_side sides a b ≡ (nat_lt a b && list_any (λ f. neighbours_in (finite.get m.faces f) a b) (finite.keys m.faces))) → sides.keys ≡ edges m
-keys_are_edges m sides sound in_order is = btree_set_from_contains pair_total sides listed in_order (edges_sorted m) (λ q. same q.0 q.1) pair_exact
+keys_are_edges m sides sound in_order is = btree_set_from_contains edge_total sides listed in_order (edges_sorted m) (λ q. same q.0 q.1) edge_exact
   where
     listed : BTreeSet (ℕ × ℕ)
     listed = record { keys = edges m }
@@ -188,7 +180,7 @@ keys_are_edges m sides sound in_order is = btree_set_from_contains pair_total si
         (λ h.
         let both : (nat_lt a b && list_any (seen m a b) (finite.keys m.faces)) ≡ true = sym (is a b) ∙ h in
         let face = any_found (seen m a b) (finite.keys m.faces) (and_second (nat_lt a b) _ both) in
-        (btree_set_contains_iff pair_total pair_exact listed (a, b)).1 ((edge_listed m sound a b).1 (below_true a b (and_first (nat_lt a b) _ both), seen_edge m face.0 a b face.1)))
+        (btree_set_contains_iff edge_total edge_exact listed (a, b)).1 ((edge_listed m sound a b).1 (below_true a b (and_first (nat_lt a b) _ both), seen_edge m face.0 a b face.1)))
         (λ h.
-        let edge = (edge_listed m sound a b).0 ((btree_set_contains_iff pair_total pair_exact listed (a, b)).0 h) in
+        let edge = (edge_listed m sound a b).0 ((btree_set_contains_iff edge_total edge_exact listed (a, b)).0 h) in
         is a b ∙ and_both (nat_lt a b) _ (true_below a b edge.0) (edge_seen m a b edge.1))

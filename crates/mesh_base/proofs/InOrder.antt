@@ -5,6 +5,7 @@ use Rattle.std.specs.List.Sorted.{IsStrictlySortedBy}
 use Rattle.std.specs.Ordering.{nat_cmp, is_lt, ordering_then}
 use Rattle.std.specs.declared.cmp.Ordering.{Ordering}
 use Rattle.std.specs.declared.cmp.Ordering.TheVariants.{Less, Equal, Greater}
+use Rattle.std.specs.Cmp.{nat_cmp_total, on_total, then_total, IsTotalOrder}
 use Rattle.std.specs.FinMap as finite
 use Rattle.std.specs.FinMap.{entries_sorted}
 use Rattle.std.specs.FinMap.Entries.{is_sorted, below_all}
@@ -14,7 +15,7 @@ use Rattle.mesh_base.specs.declared.ids.Corners.{Corners}
 use Rattle.mesh_base.specs.declared.ids.PairName.{PairName}
 use Rattle.mesh_base.specs.Mesh.{Mesh}
 use Rattle.mesh_base.specs.Sides.{has_corner}
-use Rattle.mesh_base.specs.SideSet.{pair_cmp}
+use Rattle.mesh_base.specs.SideSet.{edge_cmp}
 use Rattle.mesh_base.specs.Pairs.{Pair, is_edge, twos, edges, pairs_of, pairs, name_cmp}
 use Rattle.mesh_base.proofs.ListedPairs.{all_joined, all_flat_mapped, all_mapped, all_weaker, all_always}
 use Rattle.mesh_base.proofs.WalkSteps.{both_of}
@@ -68,36 +69,39 @@ pub keys_sorted : {X : Type 0} (es : List (ℕ × X)) → T (is_sorted nat_cmp e
 keys_sorted es h = sorted_mapped by_key nat_cmp (λ e. e.0) es (λ d e less. less) (entries_in_order es h)
 
 -- ---- the edges
+pub edge_total : IsTotalOrder edge_cmp
+edge_total = then_total (on_total (λ (x : ℕ × ℕ). x.0) nat_cmp_total) (on_total (λ (x : ℕ × ℕ). x.1) nat_cmp_total)
+
 tied : (u : ℕ) → nat_cmp u u ≡ Equal
 tied u = grind (arith, nat_tests)
 
-less_second : (u v w : ℕ) → nat_cmp v w ≡ Less → pair_cmp (u, v) (u, w) ≡ Less
+less_second : (u v w : ℕ) → nat_cmp v w ≡ Less → edge_cmp (u, v) (u, w) ≡ Less
 less_second u v w h = ap (λ o. ordering_then o (nat_cmp v w)) (tied u) ∙ h
 
-twos_sorted : (ids : List ℕ) → IsStrictlySortedBy nat_cmp ids → IsStrictlySortedBy pair_cmp (twos ids)
-twos_sorted ids h = sorted_rows nat_cmp pair_cmp row (λ e. e.0) ids each headed (λ d e less. ap (λ o. ordering_then o (nat_cmp d.1 e.1)) less) h
+twos_sorted : (ids : List ℕ) → IsStrictlySortedBy nat_cmp ids → IsStrictlySortedBy edge_cmp (twos ids)
+twos_sorted ids h = sorted_rows nat_cmp edge_cmp row (λ e. e.0) ids each headed (λ d e less. ap (λ o. ordering_then o (nat_cmp d.1 e.1)) less) h
   where
     row : ℕ → List (ℕ × ℕ)
     row u = map (λ v. (u, v)) (filter (λ v. nat_lt u v) ids)
 
-    each : (u : ℕ) → IsStrictlySortedBy pair_cmp (map (λ v. (u, v)) (filter (λ v. nat_lt u v) ids))
-    each u = sorted_mapped nat_cmp pair_cmp (λ v. (u, v)) (filter (λ v. nat_lt u v) ids) (less_second u) (IsStrictlySortedBy-filter nat_cmp (λ v. nat_lt u v) ids h)
+    each : (u : ℕ) → IsStrictlySortedBy edge_cmp (map (λ v. (u, v)) (filter (λ v. nat_lt u v) ids))
+    each u = sorted_mapped nat_cmp edge_cmp (λ v. (u, v)) (filter (λ v. nat_lt u v) ids) (less_second u) (IsStrictlySortedBy-filter nat_cmp (λ v. nat_lt u v) ids h)
 
     headed : (u : ℕ) → AllByRecursion (λ (e : ℕ × ℕ). e.0 ≡ u) (map (λ v. (u, v)) (filter (λ v. nat_lt u v) ids))
     headed u = all_mapped (λ (e : ℕ × ℕ). e.0 ≡ u) (λ v. (u, v)) (filter (λ v. nat_lt u v) ids) (all_always (λ v. u ≡ u) (filter (λ v. nat_lt u v) ids) (λ v. refl))
 
-pub edges_sorted : (m : Mesh) → IsStrictlySortedBy pair_cmp (edges m)
-edges_sorted m = IsStrictlySortedBy-filter pair_cmp (λ e. is_edge m e.0 e.1) (twos (finite.keys m.points)) (twos_sorted (finite.keys m.points) (keys_sorted (finite.entries m.points) (entries_sorted m.points)))
+pub edges_sorted : (m : Mesh) → IsStrictlySortedBy edge_cmp (edges m)
+edges_sorted m = IsStrictlySortedBy-filter edge_cmp (λ e. is_edge m e.0 e.1) (twos (finite.keys m.points)) (twos_sorted (finite.keys m.points) (keys_sorted (finite.entries m.points) (entries_sorted m.points)))
 
 -- ---- the pairs
 abbrev pub by_name : Pair → Pair → Ordering
 by_name p q = name_cmp p.name q.name
 
-tied_edge : (a b : ℕ) → pair_cmp (a, b) (a, b) ≡ Equal
+tied_edge : (a b : ℕ) → edge_cmp (a, b) (a, b) ≡ Equal
 tied_edge a b = ap (λ o. ordering_then o (nat_cmp b b)) (tied a) ∙ tied b
 
 pub pairs_sorted : (m : Mesh) → IsStrictlySortedBy by_name (pairs m)
-pairs_sorted m = sorted_rows pair_cmp by_name (pairs_of m) (λ p. (p.name.a, p.name.b)) (edges m) each headed (λ p q less. ap (λ o. ordering_then o (nat_cmp p.name.face q.name.face)) less) (edges_sorted m)
+pairs_sorted m = sorted_rows edge_cmp by_name (pairs_of m) (λ p. (p.name.a, p.name.b)) (edges m) each headed (λ p q less. ap (λ o. ordering_then o (nat_cmp p.name.face q.name.face)) less) (edges_sorted m)
   where
     each : (e : ℕ × ℕ) → IsStrictlySortedBy by_name (pairs_of m e)
     each e = sorted_mapped by_key by_name (λ f. record { name = record { a = e.0; b = e.1; face = f.0 }; corners = f.1 }) (filter (λ f. not (has_corner f.1 e.0 || has_corner f.1 e.1)) (finite.entries m.faces))
@@ -107,6 +111,10 @@ pairs_sorted m = sorted_rows pair_cmp by_name (pairs_of m) (λ p. (p.name.a, p.n
     headed : (e : ℕ × ℕ) → AllByRecursion (λ (p : Pair). (p.name.a, p.name.b) ≡ e) (pairs_of m e)
     headed e = all_mapped (λ (p : Pair). (p.name.a, p.name.b) ≡ e) (λ f. record { name = record { a = e.0; b = e.1; face = f.0 }; corners = f.1 }) (filter (λ f. not (has_corner f.1 e.0 || has_corner f.1 e.1)) (finite.entries m.faces))
         (all_always (λ f. (e.0, e.1) ≡ e) (filter (λ f. not (has_corner f.1 e.0 || has_corner f.1 e.1)) (finite.entries m.faces)) (λ f. refl))
+
+-- the order of names is total
+pub name_total : IsTotalOrder name_cmp
+name_total = then_total (on_total (λ (n : PairName). (n.a, n.b)) edge_total) (on_total (λ (n : PairName). n.face) nat_cmp_total)
 
 pub names_sorted : (m : Mesh) → IsStrictlySortedBy name_cmp (map (λ p. p.name) (pairs m))
 names_sorted m = sorted_mapped by_name name_cmp (λ p. p.name) (pairs m) (λ p q less. less) (pairs_sorted m)

@@ -179,24 +179,6 @@ sound-without_vertex m v s bare = record {
   };
 }
 
--- the mesh with nothing in it
-pub sound-empty : IsSound (record { points = map.empty; faces = map.empty; next_vertex = 1; next_face = 1 })
-sound-empty = record {
-  is_mesh = record {
-    vertex_ids = λ v h. absurd (not_both h (ap is_some (get-empty nat_cmp v)));
-    face_ids = λ f h. absurd (not_both h (ap is_some (get-empty nat_cmp f)));
-    live_corners = λ f c h. absurd (not_both (ap is_some h) (ap is_some (get-empty nat_cmp f)));
-    different_corners = λ f c h. absurd (not_both (ap is_some h) (ap is_some (get-empty nat_cmp f)));
-    different_faces = λ f g c d h h' same. absurd (not_both (ap is_some h) (ap is_some (get-empty nat_cmp f)));
-  };
-  limits = record {
-    vertices = rw (len-empty nat_cmp Point) (omega arith);
-    faces = rw (len-empty nat_cmp Corners) (omega arith);
-    vertex_ids = omega arith;
-    face_ids = omega arith;
-  };
-}
-
 -- a corner that is the next vertex is no corner of a face
 pub next_is_new : (m : Mesh) → IsMesh m → (f : ℕ) (d : Corners) → HasCorners m f d → (d.first ≢ m.next_vertex) × (d.second ≢ m.next_vertex) × (d.third ≢ m.next_vertex)
 next_is_new m s f d h =

@@ -24,6 +24,7 @@ use Rattle.mesh_base.specs.Sides.{follows, ids_where, runs, IsClosed}
 use Rattle.mesh_base.specs.Pairs.{Pair, IsPair}
 use Rattle.mesh_base.specs.Placements.{Placement, Motion, origin, position_or_origin, own_points, positions, at_fraction, IsClearMesh, IsClearAlong}
 use Rattle.mesh_base.specs.Shifts.{Shifts, shift_at, moved_by, end_in_box, with_move, with_moves}
+use Rattle.mesh_base.proofs.Tests.{turned_test}
 use Rattle.mesh_base.proofs.MeshLaws.{sound-with_point}
 use Rattle.mesh_base.proofs.Listed.{edge_live}
 
@@ -67,9 +68,6 @@ got-moved m s v =
 
 itself : (v : ℕ) → (v == v) ≡ true
 itself v = grind (arith, nat_tests)
-
-turned_test : (a b : ℕ) → (a == b) ≡ false → (b == a) ≡ false
-turned_test a b h = grind (arith, nat_tests)
 
 own-moved : (m : Mesh) (s : ShiftOf) → is_within BOX (plus (own_points m s.v) (displacement_of s.by)) ≡ true → own_points (with_move m s) s.v ≡ plus (own_points m s.v) (displacement_of s.by)
 own-moved m s inside =

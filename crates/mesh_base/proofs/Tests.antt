@@ -1,6 +1,10 @@
--- Tests that are joined by "and" and "or".
-use Rattle.std.proofs.Common.{◌≡◌, Bool, true, false, ◌&&◌, ◌||◌, ◌⊎◌, inl, inr, refl, sym}
+-- Tests that are joined by "and" and "or", and tests of equality.
+use Rattle.std.proofs.Common.{◌≡◌, ℕ, ◌==◌, Bool, true, false, ◌&&◌, ◌||◌, ◌⊎◌, inl, inr, refl, sym, arith}
+use Rattle.std.specs.Ordering.{is_eq, ordering_then}
+use Rattle.std.specs.declared.cmp.Ordering.{Ordering}
+use Rattle.std.specs.declared.cmp.Ordering.TheVariants.{Less, Equal, Greater}
 use Rattle.std.proofs.lemmas.Bool.{false≢true}
+use Rattle.std.proofs.lemmas.Bool.Decides.{nat_tests}
 
 pub and_first : (a b : Bool) → (a && b) ≡ true → a ≡ true
 and_first true b e = refl
@@ -31,3 +35,12 @@ pub both_ways : (a b : Bool) → (a ≡ true → b ≡ true) → (b ≡ true →
 both_ways true b to from = sym (to refl)
 both_ways false true to from = from refl
 both_ways false false to from = refl
+
+-- ---- tests of equality
+pub turned_test : (a b : ℕ) → (a == b) ≡ false → (b == a) ≡ false
+turned_test a b h = grind (arith, nat_tests)
+
+pub tied_then : (o p : Ordering) → is_eq (ordering_then o p) ≡ (is_eq o && is_eq p)
+tied_then Less p = refl
+tied_then Equal p = refl
+tied_then Greater p = refl

@@ -8,7 +8,7 @@ use Rattle.mesh_base.specs.declared.ids.Corners.{Corners}
 use Rattle.mesh_base.specs.declared.ids.PairName.{PairName}
 use Rattle.mesh_base.specs.Mesh.{Mesh, HasCorners}
 use Rattle.mesh_base.specs.Sides.{IsEdge, has_corner, runs}
-use Rattle.mesh_base.specs.SideSet.{pair_cmp}
+use Rattle.mesh_base.specs.SideSet.{edge_cmp}
 
 -- the name of a pair, and the corners of its face
 pub record Pair : Type 0 where
@@ -51,7 +51,7 @@ pairs m = flat_map (λ e. pairs_of m e) (edges m)
 
 -- names in order of the edge and then of the face
 abbrev pub name_cmp : PairName → PairName → Ordering
-name_cmp n o = ordering_then (pair_cmp (n.a, n.b) (o.a, o.b)) (nat_cmp n.face o.face)
+name_cmp n o = ordering_then (edge_cmp (n.a, n.b) (o.a, o.b)) (nat_cmp n.face o.face)
 
 -- the two ends of the edge, then the corners of the face
 abbrev pub five_ids : Pair → List ℕ

@@ -9,7 +9,7 @@ ghost use Rattle.mesh_base.specs.declared.steps.ShiftOf.{ShiftOf};
 ghost use Rattle.mesh_base.specs.Mesh.{Mesh, IsSound, IsLiveVertex};
 ghost use Rattle.mesh_base.specs.Sides.{IsEdge, IsClosed};
 ghost use Rattle.mesh_base.specs.Pairs.{Pair, IsPair, edges, pairs, name_cmp};
-ghost use Rattle.mesh_base.specs.SideSet.{pair_cmp};
+ghost use Rattle.mesh_base.specs.SideSet.{edge_cmp};
 ghost use Rattle.mesh_base.specs.Placements.{origin, own_points, IsClearMesh, IsClearAlong};
 ghost use Rattle.mesh_base.specs.Shifts.{Shifts, shift_at, moved_by, end_in_box, with_moves, NameLive, NameOnce};
 
@@ -18,7 +18,7 @@ ghost use Rattle.mesh_base.specs.Shifts.{Shifts, shift_at, moved_by, end_in_box,
 pub fn pairs_are_listed()
     ensures edges { (m : Mesh) → IsSound m → (u v : ℕ) → (Contains (edges m) (u, v) ↔ ((u < v) × IsEdge m u v)) }
     ensures pairs { (m : Mesh) → IsSound m → (p : Pair) → (Contains (pairs m) p ↔ IsPair m p) }
-    ensures edges_rise { (m : Mesh) → IsStrictlySortedBy pair_cmp (edges m) }
+    ensures edges_rise { (m : Mesh) → IsStrictlySortedBy edge_cmp (edges m) }
     ensures pairs_rise { (m : Mesh) → IsStrictlySortedBy name_cmp (map (λ p. p.name) (pairs m)) }
 {}
 
