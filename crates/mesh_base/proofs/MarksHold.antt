@@ -47,4 +47,3 @@ begins_after_return returned newest old under e h h' =
 -- a mark stands for one mesh
 pub stands_for_one : (kept : List Mesh) (mark : Mark) (m n : Mesh) → StandsFor kept mark m → StandsFor kept mark n → m ≡ n
 stands_for_one kept mark m n h h' = let e : Some m ≡ Some n = sym h ∙ h' in cc
-
