@@ -1,15 +1,11 @@
 -- The sides of the faces, as a set in order, are the edges.
-use Rattle.std.proofs.Common.{◌≡◌, ℕ, ◌+◌, ◌<◌, ◌==◌, ◌&&◌, ◌||◌, Bool, true, false, cond, T, List, [], ◌∷◌, ◌++◌, Option, Some, None, is_some, map, nat_lt, option_map, refl, sym, ap, ◌∙◌, ◌⊎◌, ⊎_elim, arith}
-use Rattle.std.specs.List.{filter, flat_map, list_any, AllByRecursion}
+use Rattle.std.proofs.Common.{◌≡◌, ℕ, ◌+◌, ◌<◌, ◌==◌, ◌&&◌, ◌||◌, Bool, true, false, cond, List, [], ◌∷◌, Option, Some, None, is_some, nat_lt, option_map, refl, sym, ap, ◌∙◌, ◌⊎◌, ⊎_elim, arith}
+use Rattle.std.specs.List.{list_any, AllByRecursion}
 use Rattle.std.specs.List.Sorted.{IsStrictlySortedBy}
 use Rattle.std.specs.BTreeSet.{BTreeSet}
-use Rattle.std.specs.Ordering.{nat_cmp, is_eq, is_lt, ordering_then}
-use Rattle.std.specs.declared.cmp.Ordering.{Ordering}
-use Rattle.std.specs.declared.cmp.Ordering.TheVariants.{Less, Equal, Greater}
-use Rattle.std.specs.Cmp.{unsigned_tied, nat_cmp_total, on_total, then_total, IsTotalOrder}
+use Rattle.std.specs.Ordering.{nat_cmp, is_eq}
+use Rattle.std.specs.Cmp.{unsigned_tied}
 use Rattle.std.specs.FinMap as finite
-use Rattle.std.specs.FinMap.{entries_sorted}
-use Rattle.std.specs.FinMap.Entries.{is_sorted, below_all}
 use Rattle.std.proofs.lemmas.Map.Lookups.{CmpEqualImpliesEq, exact_pairs, exact_unsigned, btree_set_from_contains}
 use Rattle.std.proofs.lemmas.Map.Views.{btree_set_contains_iff}
 use Rattle.std.proofs.lemmas.Bool.{false≢true}
@@ -18,20 +14,17 @@ use Rattle.mesh_base.specs.declared.ids.Corners.{Corners}
 use Rattle.mesh_base.specs.Mesh.{Mesh, IsSound, HasCorners}
 use Rattle.mesh_base.specs.Sides.{follows, runs, IsEdge}
 use Rattle.mesh_base.specs.Changes.{corners_of, corner_list}
-use Rattle.mesh_base.specs.Pairs.{is_edge, twos, edges}
-use Rattle.mesh_base.specs.SideSet.{pair_cmp, has_side, are_neighbours, neighbours_in}
-use Rattle.mesh_base.proofs.Listed.{running_face, at_live, and_first, and_second, or_either, both_of}
-use Rattle.mesh_base.proofs.ListedPairs.{all_joined, all_flat_mapped, all_mapped, all_filtered, all_weaker, all_always, edge_listed}
+use Rattle.mesh_base.specs.Pairs.{edges}
+use Rattle.mesh_base.specs.SideSet.{edge_cmp, has_side, are_neighbours, neighbours_in}
+use Rattle.mesh_base.proofs.Tests.{tied_then, and_first, and_second, and_both, or_first, or_second, or_either, both_ways}
+use Rattle.mesh_base.proofs.InOrder.{edges_sorted, edge_total}
+use Rattle.mesh_base.proofs.Listed.{running_face, at_live}
+use Rattle.mesh_base.proofs.ListedPairs.{all_weaker, edge_listed}
 use Rattle.mesh_base.proofs.Counts.{runs-without_face}
 
 -- ---- one side more
-tied_then : (o p : Ordering) → is_eq (ordering_then o p) ≡ (is_eq o && is_eq p)
-tied_then Less p = refl
-tied_then Equal p = refl
-tied_then Greater p = refl
-
-tied_pairs : (u v a b : ℕ) → is_eq (pair_cmp (u, v) (a, b)) ≡ (u == a && v == b)
-tied_pairs u v a b = tied_then (nat_cmp u a) (nat_cmp v b) ∙ ap (λ t. t && is_eq (nat_cmp v b)) (unsigned_tied u a) ∙ ap (λ t. (u == a) && t) (unsigned_tied v b)
+tied_edges : (u v a b : ℕ) → is_eq (edge_cmp (u, v) (a, b)) ≡ (u == a && v == b)
+tied_edges u v a b = tied_then (nat_cmp u a) (nat_cmp v b) ∙ ap (λ t. t && is_eq (nat_cmp v b)) (unsigned_tied u a) ∙ ap (λ t. (u == a) && t) (unsigned_tied v b)
 
 put_low : (o t t' low : Bool) → (t ≡ true → low ≡ true) → (t' ≡ true → low ≡ false) → cond t true o ≡ (o || (low && (t || t')))
 put_low true true t' low h h' = refl
@@ -62,14 +55,14 @@ is_high : (u v a b : ℕ) → u < v → (u == b && v == a) ≡ true → nat_lt a
 is_high u v a b h e = grind (arith, nat_tests)
 
 -- the side from the smaller u to the larger v was put into the set
-pub seen_rising : (old new : BTreeSet (ℕ × ℕ)) (u v a b : ℕ) → u < v → has_side new a b ≡ cond (is_eq (pair_cmp (u, v) (a, b))) true (has_side old a b)
+pub seen_rising : (old new : BTreeSet (ℕ × ℕ)) (u v a b : ℕ) → u < v → has_side new a b ≡ cond (is_eq (edge_cmp (u, v) (a, b))) true (has_side old a b)
     → has_side new a b ≡ (has_side old a b || (nat_lt a b && ((u == a && v == b) || (u == b && v == a))))
 seen_rising old new u v a b less is =
-    is ∙ ap (λ t. cond t true (has_side old a b)) (tied_pairs u v a b)
+    is ∙ ap (λ t. cond t true (has_side old a b)) (tied_edges u v a b)
     ∙ put_low (has_side old a b) (u == a && v == b) (u == b && v == a) (nat_lt a b) (is_low u v a b less) (is_high u v a b less)
 
 -- the side from the larger u to the smaller v was put into the set, turned
-pub seen_falling : (old new : BTreeSet (ℕ × ℕ)) (u v a b : ℕ) → v < u → has_side new a b ≡ cond (is_eq (pair_cmp (v, u) (a, b))) true (has_side old a b)
+pub seen_falling : (old new : BTreeSet (ℕ × ℕ)) (u v a b : ℕ) → v < u → has_side new a b ≡ cond (is_eq (edge_cmp (v, u) (a, b))) true (has_side old a b)
     → has_side new a b ≡ (has_side old a b || (nat_lt a b && ((u == a && v == b) || (u == b && v == a))))
 seen_falling old new u v a b less is =
     seen_rising old new v u a b less is
@@ -133,14 +126,6 @@ any_found : {X : Type 0} (p : X → Bool) (xs : List X) → list_any p xs ≡ tr
 any_found p [] h = absurd (false≢true h)
 any_found p (x ∷ xs) h = ⊎_elim (λ e. (x, e)) (λ e. any_found p xs e) (or_either (p x) (list_any p xs) h)
 
-or_second : (a b : Bool) → b ≡ true → (a || b) ≡ true
-or_second true b h = refl
-or_second false b h = h
-
-or_first : (a b : Bool) → a ≡ true → (a || b) ≡ true
-or_first true b h = refl
-or_first false b h = absurd (false≢true h)
-
 any_each : {X : Type 0} (p : X → Bool) (xs : List X) → AllByRecursion (λ x. p x ≡ true → list_any p xs ≡ true) xs
 any_each p [] = tt
 any_each p (x ∷ xs) = (or_first (p x) (list_any p xs), all_weaker (λ y. p y ≡ true → list_any p xs ≡ true) (λ y. p y ≡ true → (p x || list_any p xs) ≡ true) xs (λ y h e. or_second (p x) (list_any p xs) (h e)) (any_each p xs))
@@ -170,75 +155,9 @@ edge_seen m a b edge = ⊎_elim
     found : (f : ℕ) (c : Corners) → HasCorners m f c → are_neighbours c a b ≡ true → list_any (seen m a b) (finite.keys m.faces) ≡ true
     found f c there e = at_live (λ k. seen m a b k ≡ true → list_any (seen m a b) (finite.keys m.faces) ≡ true) m.faces f (any_each (seen m a b) (finite.keys m.faces)) (ap is_some there) (ap (λ o. neighbours_in o a b) there ∙ e)
 
--- ---- the edges in order
-sorted_joined : (xs ys : List (ℕ × ℕ)) → IsStrictlySortedBy pair_cmp xs → IsStrictlySortedBy pair_cmp ys → AllByRecursion (λ x. AllByRecursion (λ y. pair_cmp x y ≡ Less) ys) xs → IsStrictlySortedBy pair_cmp (xs ++ ys)
-unfolding IsStrictlySortedBy
-sorted_joined [] ys h h' across = h'
-sorted_joined (x ∷ xs) ys h h' across = (all_joined (λ y. pair_cmp x y ≡ Less) xs ys h.0 across.0, sorted_joined xs ys h.1 h' across.1)
-
-kept_all : {X : Type 0} (P : X → Type 0) (test : X → Bool) (xs : List X) → AllByRecursion P xs → AllByRecursion P (filter test xs)
-kept_all P test xs h = all_filtered P test xs (all_weaker P (λ x. test x ≡ true → P x) xs (λ x p e. p) h)
-
-sorted_filtered : {X : Type 0} (R : X → X → Ordering) (test : X → Bool) (xs : List X) → IsStrictlySortedBy R xs → IsStrictlySortedBy R (filter test xs)
-unfolding IsStrictlySortedBy
-sorted_filtered R test [] h = tt
-sorted_filtered R test (x ∷ xs) h = elim (test x) as (λ b. IsStrictlySortedBy R (cond b (x ∷ filter test xs) (filter test xs))) [
-  | true ↦ (kept_all (λ y. R x y ≡ Less) test xs h.0, sorted_filtered R test xs h.1)
-  | false ↦ sorted_filtered R test xs h.1
-]
-
-tied_first : (u : ℕ) → nat_cmp u u ≡ Equal
-tied_first u = grind (arith, nat_tests)
-
-row_sorted : (u : ℕ) (vs : List ℕ) → IsStrictlySortedBy nat_cmp vs → IsStrictlySortedBy pair_cmp (map (λ v. (u, v)) vs)
-unfolding IsStrictlySortedBy
-row_sorted u [] h = tt
-row_sorted u (v ∷ vs) h = (all_mapped (λ y. pair_cmp (u, v) y ≡ Less) (λ w. (u, w)) vs (all_weaker (λ w. nat_cmp v w ≡ Less) (λ w. pair_cmp (u, v) (u, w) ≡ Less) vs (λ w less. ap (λ o. ordering_then o (nat_cmp v w)) (tied_first u) ∙ less) h.0), row_sorted u vs h.1)
-
-rows_sorted : (ids us : List ℕ) → IsStrictlySortedBy nat_cmp ids → IsStrictlySortedBy nat_cmp us → IsStrictlySortedBy pair_cmp (flat_map (λ u. map (λ v. (u, v)) (filter (λ v. nat_lt u v) ids)) us)
-unfolding IsStrictlySortedBy
-rows_sorted ids [] h h' = tt
-rows_sorted ids (u ∷ us) h h' =
-    let row : ℕ → List (ℕ × ℕ) = λ a. map (λ v. (a, v)) (filter (λ v. nat_lt a v) ids) in
-    sorted_joined (row u) (flat_map row us) (row_sorted u (filter (λ v. nat_lt u v) ids) (sorted_filtered nat_cmp (λ v. nat_lt u v) ids h)) (rows_sorted ids us h h'.1)
-    (all_mapped (λ x. AllByRecursion (λ y. pair_cmp x y ≡ Less) (flat_map row us)) (λ v. (u, v)) (filter (λ v. nat_lt u v) ids)
-    (all_always (λ v. AllByRecursion (λ y. pair_cmp (u, v) y ≡ Less) (flat_map row us)) (filter (λ v. nat_lt u v) ids)
-    (λ v. all_flat_mapped (λ y. pair_cmp (u, v) y ≡ Less) row us
-    (all_weaker (λ a. nat_cmp u a ≡ Less) (λ a. AllByRecursion (λ y. pair_cmp (u, v) y ≡ Less) (row a)) us
-    (λ a less. all_mapped (λ y. pair_cmp (u, v) y ≡ Less) (λ w. (a, w)) (filter (λ w. nat_lt a w) ids)
-    (all_always (λ w. pair_cmp (u, v) (a, w) ≡ Less) (filter (λ w. nat_lt a w) ids) (λ w. ap (λ o. ordering_then o (nat_cmp v w)) less)))
-    h'.0))))
-
-is_less : (o : Ordering) → T (is_lt o) → o ≡ Less
-is_less Less h = refl
-is_less Equal h = absurd h
-is_less Greater h = absurd h
-
-all_above : {X : Type 0} (k : ℕ) (es : List (ℕ × X)) → T (below_all nat_cmp k es) → AllByRecursion (λ j. nat_cmp k j ≡ Less) (map (λ e. e.0) es)
-all_above k [] h = tt
-all_above k (e ∷ es) h = let parts = both_of (is_lt (nat_cmp k e.0)) (below_all nat_cmp k es) h in (is_less (nat_cmp k e.0) parts.0, all_above k es parts.1)
-
-keys_sorted : {X : Type 0} (es : List (ℕ × X)) → T (is_sorted nat_cmp es) → IsStrictlySortedBy nat_cmp (map (λ e. e.0) es)
-unfolding IsStrictlySortedBy
-keys_sorted [] h = tt
-keys_sorted (e ∷ es) h = let parts = both_of (below_all nat_cmp e.0 es) (is_sorted nat_cmp es) h in (all_above e.0 es parts.0, keys_sorted es parts.1)
-
-edges_sorted : (m : Mesh) → IsStrictlySortedBy pair_cmp (edges m)
-edges_sorted m =
-    let ids = keys_sorted (finite.entries m.points) (entries_sorted m.points) in
-    sorted_filtered pair_cmp (λ e. is_edge m e.0 e.1) (twos (finite.keys m.points)) (rows_sorted (finite.keys m.points) (finite.keys m.points) ids ids)
-
 -- ---- the set
-pair_total : IsTotalOrder pair_cmp
-pair_total = then_total (on_total (λ (x : ℕ × ℕ). x.0) nat_cmp_total) (on_total (λ (x : ℕ × ℕ). x.1) nat_cmp_total)
-
-pair_exact : CmpEqualImpliesEq pair_cmp
-pair_exact = exact_pairs nat_cmp nat_cmp exact_unsigned exact_unsigned
-
-both_ways : (a b : Bool) → (a ≡ true → b ≡ true) → (b ≡ true → a ≡ true) → a ≡ b
-both_ways true b to from = sym (to refl)
-both_ways false true to from = from refl
-both_ways false false to from = refl
+edge_exact : CmpEqualImpliesEq edge_cmp
+edge_exact = exact_pairs nat_cmp nat_cmp exact_unsigned exact_unsigned
 
 below_true : (a b : ℕ) → nat_lt a b ≡ true → a < b
 below_true a b h = grind (arith, nat_tests)
@@ -246,14 +165,10 @@ below_true a b h = grind (arith, nat_tests)
 true_below : (a b : ℕ) → a < b → nat_lt a b ≡ true
 true_below a b h = grind (arith, nat_tests)
 
-and_both : (a b : Bool) → a ≡ true → b ≡ true → (a && b) ≡ true
-and_both true b h h' = h'
-and_both false b h h' = absurd (false≢true h)
-
 -- a set in order that has the sides of the faces has the edges as its keys
-pub keys_are_edges : (m : Mesh) (sides : BTreeSet (ℕ × ℕ)) → IsSound m → IsStrictlySortedBy pair_cmp sides.keys
+pub keys_are_edges : (m : Mesh) (sides : BTreeSet (ℕ × ℕ)) → IsSound m → IsStrictlySortedBy edge_cmp sides.keys
     → ((a b : ℕ) → has_side sides a b ≡ (nat_lt a b && list_any (λ f. neighbours_in (finite.get m.faces f) a b) (finite.keys m.faces))) → sides.keys ≡ edges m
-keys_are_edges m sides sound in_order is = btree_set_from_contains pair_total sides listed in_order (edges_sorted m) (λ q. same q.0 q.1) pair_exact
+keys_are_edges m sides sound in_order is = btree_set_from_contains edge_total sides listed in_order (edges_sorted m) (λ q. same q.0 q.1) edge_exact
   where
     listed : BTreeSet (ℕ × ℕ)
     listed = record { keys = edges m }
@@ -263,7 +178,7 @@ keys_are_edges m sides sound in_order is = btree_set_from_contains pair_total si
         (λ h.
         let both : (nat_lt a b && list_any (seen m a b) (finite.keys m.faces)) ≡ true = sym (is a b) ∙ h in
         let face = any_found (seen m a b) (finite.keys m.faces) (and_second (nat_lt a b) _ both) in
-        (btree_set_contains_iff pair_total pair_exact listed (a, b)).1 ((edge_listed m sound a b).1 (below_true a b (and_first (nat_lt a b) _ both), seen_edge m face.0 a b face.1)))
+        (btree_set_contains_iff edge_total edge_exact listed (a, b)).1 ((edge_listed m sound a b).1 (below_true a b (and_first (nat_lt a b) _ both), seen_edge m face.0 a b face.1)))
         (λ h.
-        let edge = (edge_listed m sound a b).0 ((btree_set_contains_iff pair_total pair_exact listed (a, b)).0 h) in
+        let edge = (edge_listed m sound a b).0 ((btree_set_contains_iff edge_total edge_exact listed (a, b)).0 h) in
         is a b ∙ and_both (nat_lt a b) _ (true_below a b edge.0) (edge_seen m a b edge.1))

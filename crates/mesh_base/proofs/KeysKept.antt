@@ -1,5 +1,5 @@
 -- Moves keep the ids of the live vertices.
-use Rattle.std.proofs.Common.{◌≡◌, ℕ, ◌==◌, ◌&&◌, Bool, true, false, cond, T, List, [], ◌∷◌, Some, is_some, nat_lt, refl, sym, ap, subst, ◌∙◌, arith}
+use Rattle.std.proofs.Common.{◌≡◌, ℕ, ◌==◌, true, false, cond, T, List, [], ◌∷◌, Some, is_some, nat_lt, refl, sym, ap, subst, ◌∙◌, arith}
 use Rattle.std.specs.List.{All}
 use Rattle.std.specs.Ordering.{nat_cmp, is_lt, is_eq, eq_by_cmp}
 use Rattle.std.specs.declared.cmp.Ordering.{Ordering}
@@ -12,10 +12,8 @@ use Rattle.std.specs.FinMap.Entries.{put, find, is_sorted, below_all, by_order}
 use Rattle.std.proofs.lemmas.Bool.{false≢true}
 use Rattle.std.proofs.lemmas.Bool.Decides.{nat_tests}
 use Rattle.std.proofs.lemmas.List.Elements.{All-head, All-tail}
-use Rattle.grid_base.specs.declared.Point.{Point}
 use Rattle.grid_base.specs.Triples.{plus}
 use Rattle.grid_base.specs.Points.{displacement_of, point_at}
-use Rattle.mesh_base.specs.declared.steps.ShiftOf.{ShiftOf}
 use Rattle.mesh_base.specs.Mesh.{Mesh, IsLiveVertex}
 use Rattle.mesh_base.specs.Placements.{own_points}
 use Rattle.mesh_base.specs.Shifts.{Shifts, with_move, with_moves}

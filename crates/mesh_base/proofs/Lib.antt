@@ -1,3 +1,5 @@
+pub mod Tests
+pub mod ListLaws
 pub mod Finite
 pub mod Counts
 pub mod WalkSteps
@@ -9,4 +11,5 @@ pub mod Moves
 pub mod ListedPairs
 pub mod MovesNamed
 pub mod KeysKept
+pub mod InOrder
 pub mod EdgesInOrder

@@ -7,7 +7,6 @@ use Rattle.std.proofs.lemmas.Map.Lookups.{exact_unsigned}
 use Rattle.std.proofs.lemmas.Map.Views.{tells_apart}
 use Rattle.std.specs.Ordering.{nat_cmp, is_lt, eq_by_cmp}
 use Rattle.std.specs.Cmp.{unsigned_tied}
-use Rattle.std.specs.declared.cmp.Ordering.TheVariants.{Less, Equal, Greater}
 use Rattle.std.specs.List.{filter, flat_map, AllByRecursion}
 use Rattle.std.specs.FinMap as finite
 use Rattle.std.specs.FinMap.{FinMap, entries_sorted, get-entries}
@@ -16,6 +15,9 @@ use Rattle.mesh_base.specs.declared.ids.Corners.{Corners}
 use Rattle.mesh_base.specs.Mesh.{Mesh, IsSound, IsLiveVertex, HasCorners}
 use Rattle.mesh_base.specs.Sides.{follows, has_corner, ids_where, runs, IsEdge}
 use Rattle.mesh_base.specs.Pairs.{Pair, IsPair, is_edge, twos, edges, pairs_of, pairs}
+use Rattle.mesh_base.proofs.WalkSteps as above
+use Rattle.mesh_base.proofs.WalkSteps.{both_of}
+pub use Rattle.mesh_base.proofs.Tests.{and_first, and_second, or_either}
 
 -- ---- lists
 pub all_front : {X : Type 0} (P : X → Type 0) (xs ys : List X) → AllByRecursion P (xs ++ ys) → AllByRecursion P xs × AllByRecursion P ys
@@ -61,20 +63,10 @@ at_live {X} P m k h live = by_answer (finite.get m k) refl live
 
 -- each entry is found at its key
 apart_from : (k x : ℕ) → T (is_lt (nat_cmp k x)) → eq_by_cmp nat_cmp x k ≡ false
-apart_from k x h = unsigned_tied x k ∙ untied (less h)
+apart_from k x h = unsigned_tied x k ∙ untied (above.less_true k x h)
   where
-    less : T (is_lt (nat_cmp k x)) → nat_lt k x ≡ true
-    less h = elim (nat_lt k x) as (λ b. T (is_lt (cond b Less (cond (k == x) Equal Greater))) → b ≡ true) [
-      | true ↦ λ h. refl
-      | false ↦ λ h. elim (k == x) as (λ b. T (is_lt (cond b Equal Greater)) → false ≡ true) [ true ↦ λ h. absurd h | false ↦ λ h. absurd h ] h
-    ] h
-
     untied : nat_lt k x ≡ true → (x == k) ≡ false
     untied h = grind (arith, nat_tests)
-
-pub both_of : (a b : Bool) → T (a && b) → T a × T b
-both_of true b h = (tt, h)
-both_of false b h = absurd h
 
 found_behind : {X : Type 0} (whole : List (ℕ × X)) (head : ℕ × X) (es : List (ℕ × X)) → T (below_all nat_cmp head.0 es) → AllByRecursion (λ e. find nat_cmp e.0 whole ≡ Some e.1) es → AllByRecursion (λ e. find nat_cmp e.0 (head ∷ whole) ≡ Some e.1) es
 found_behind whole head [] below h = tt
@@ -107,18 +99,6 @@ pub running_face : (m : Mesh) (u v : ℕ) → 0 < runs m u v → (e : ℕ × Cor
 running_face m u v some =
     let found = some_running (λ e. find nat_cmp e.0 (finite.entries m.faces) ≡ Some e.1) (λ c. follows c u v) (finite.entries m.faces) (each_found (finite.entries m.faces) (entries_sorted m.faces)) some in
     (found.0, found.1, get-entries m.faces (found.0).0 ∙ found.2)
-
-pub and_first : (a b : Bool) → (a && b) ≡ true → a ≡ true
-and_first true b e = refl
-and_first false b e = e
-
-pub and_second : (a b : Bool) → (a && b) ≡ true → b ≡ true
-and_second true b e = e
-and_second false b e = absurd (false≢true e)
-
-pub or_either : (a b : Bool) → (a || b) ≡ true → (a ≡ true) ⊎ (b ≡ true)
-or_either true b e = inl refl
-or_either false b e = inr e
 
 ends_live : (m : Mesh) (c : Corners) (u v : ℕ) → IsLiveVertex m c.first × IsLiveVertex m c.second × IsLiveVertex m c.third → follows c u v ≡ true → IsLiveVertex m u × IsLiveVertex m v
 ends_live m c u v live e =

@@ -82,7 +82,8 @@ not_either false false e = (refl, refl)
 not_either false true e = absurd (false≢true e)
 not_either true b e = absurd (false≢true e)
 
-listed_pairs : (m : Mesh) → AllByRecursion (IsPair m) (pairs m)
+-- each of the list is a pair
+pub listed_pairs : (m : Mesh) → AllByRecursion (IsPair m) (pairs m)
 listed_pairs m = all_flat_mapped (IsPair m) (λ e. pairs_of m e) (edges m) (all_weaker (λ e. (e.0 < e.1) × IsEdge m e.0 e.1) (λ e. AllByRecursion (IsPair m) (pairs_of m e)) (edges m) of_edge (listed_edges m))
   where
     faces : List (ℕ × Corners)

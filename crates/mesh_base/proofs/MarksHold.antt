@@ -47,7 +47,3 @@ begins_after_return returned newest old under e h h' =
 -- a mark stands for one mesh
 pub stands_for_one : (kept : List Mesh) (mark : Mark) (m n : Mesh) → StandsFor kept mark m → StandsFor kept mark n → m ≡ n
 stands_for_one kept mark m n h h' = let e : Some m ≡ Some n = sym h ∙ h' in cc
-
--- what stands at a place of the list before stands there still
-pub same_there : (new old : List Mesh) (place : ℕ) → BeginsWith new old → place < length old → slice_get new place ≡ slice_get old place
-same_there new old place h inside = sym (slice_get-take (length old) place new inside) ∙ ap (λ kept. slice_get kept place) h

@@ -1,5 +1,5 @@
 -- Each change keeps the laws of a mesh and its limits.
-use Rattle.std.proofs.Common.{◌≡◌, ◌≢◌, ◌⊎◌, ℕ, ◌+◌, ◌-◌, ◌<◌, ◌≤◌, Bool, true, false, cond, Some, IsSome, is_some, List, [], ◌∷◌, ◌==◌, ◌&&◌, ◌||◌, refl, sym, ap, subst, ◌∙◌, inl, inr, ⊎_elim, arith}
+use Rattle.std.proofs.Common.{◌≡◌, ◌≢◌, ℕ, ◌+◌, ◌-◌, ◌<◌, ◌≤◌, Bool, true, false, cond, Some, IsSome, is_some, List, [], ◌∷◌, ◌==◌, ◌&&◌, ◌||◌, refl, sym, ap, subst, ◌∙◌, ⊎_elim, arith}
 use Rattle.std.specs.Ordering.{nat_cmp, eq_by_cmp}
 use Rattle.std.specs.List.{filter}
 use Rattle.std.specs.Map.{keys_of}
@@ -9,11 +9,12 @@ use Rattle.grid_base.specs.declared.TheConstants.{VERTICES_MAX, FACES_MAX, ID_MA
 use Rattle.mesh_base.specs.Sides.{ids_where, faces_at, has_corner}
 use Rattle.std.specs.Cmp.{nat_cmp_total}
 use Rattle.std.specs.FinMap as map
-use Rattle.std.specs.FinMap.{len-insert, len-remove, len-empty, get-empty, get-entries}
+use Rattle.std.specs.FinMap.{len-insert, len-remove, get-entries}
 use Rattle.grid_base.specs.declared.Point.{Point}
 use Rattle.mesh_base.specs.declared.ids.Corners.{Corners}
 use Rattle.mesh_base.specs.Mesh.{Mesh, IsMesh, IsSound, AreLive, AreDifferent, IsLiveVertex, HasCorners, equal_up_to_rotation}
 use Rattle.mesh_base.specs.Changes.{with_vertex, with_face, without_face, without_vertex, with_point, IsFresh}
+use Rattle.mesh_base.proofs.Tests.{or_first, or_second, or_either}
 use Rattle.mesh_base.proofs.Finite.{got_after_insert, live_after_insert, live_stays, got_after_remove, live_after_remove, live_but_removed, live_inserted}
 
 -- an insertion adds one at most, and none at a key that is there
@@ -87,18 +88,6 @@ sound-without_face m f s = record {
   };
 }
 
-either : (p q : Bool) → (p || q) ≡ true → (p ≡ true) ⊎ (q ≡ true)
-either true q h = inl refl
-either false q h = inr h
-
-or_left : (p q : Bool) → p ≡ true → (p || q) ≡ true
-or_left true q h = refl
-or_left false q h = cc
-
-or_right : (p q : Bool) → q ≡ true → (p || q) ≡ true
-or_right true q h = refl
-or_right false q h = h
-
 flipped : (a b c d e f : ℕ) → (a == d && b == e && c == f) ≡ true → (d == a && e == b && f == c) ≡ true
 flipped a b c d e f h = grind (arith, nat_tests)
 
@@ -118,11 +107,11 @@ symmetric a b c d e f h =
     let third : Bool = f == a && d == b && e == c in
     ⊎_elim
     (λ u. ⊎_elim
-    (λ w. or_left (first || second) third (or_left first second (flipped a b c d e f w)))
-    (λ w. or_right (first || second) third (flipped_turn b c a d e f w))
-    (either (a == d && b == e && c == f) (b == d && c == e && a == f) u))
-    (λ w. or_left (first || second) third (or_right first second (flipped_back c a b d e f w)))
-    (either ((a == d && b == e && c == f) || (b == d && c == e && a == f)) (c == d && a == e && b == f) h)
+    (λ w. or_first (first || second) third (or_first first second (flipped a b c d e f w)))
+    (λ w. or_second (first || second) third (flipped_turn b c a d e f w))
+    (or_either (a == d && b == e && c == f) (b == d && c == e && a == f) u))
+    (λ w. or_first (first || second) third (or_second first second (flipped_back c a b d e f w)))
+    (or_either ((a == d && b == e && c == f) || (b == d && c == e && a == f)) (c == d && a == e && b == f) h)
 
 pub equal_symmetric : (c d : Corners) → equal_up_to_rotation c d ≡ true → equal_up_to_rotation d c ≡ true
 equal_symmetric c d h = symmetric c.first c.second c.third d.first d.second d.third h
@@ -187,24 +176,6 @@ sound-without_vertex m v s bare = record {
     faces = s.limits.faces;
     vertex_ids = s.limits.vertex_ids;
     face_ids = s.limits.face_ids;
-  };
-}
-
--- the mesh with nothing in it
-pub sound-empty : IsSound (record { points = map.empty; faces = map.empty; next_vertex = 1; next_face = 1 })
-sound-empty = record {
-  is_mesh = record {
-    vertex_ids = λ v h. absurd (not_both h (ap is_some (get-empty nat_cmp v)));
-    face_ids = λ f h. absurd (not_both h (ap is_some (get-empty nat_cmp f)));
-    live_corners = λ f c h. absurd (not_both (ap is_some h) (ap is_some (get-empty nat_cmp f)));
-    different_corners = λ f c h. absurd (not_both (ap is_some h) (ap is_some (get-empty nat_cmp f)));
-    different_faces = λ f g c d h h' same. absurd (not_both (ap is_some h) (ap is_some (get-empty nat_cmp f)));
-  };
-  limits = record {
-    vertices = rw (len-empty nat_cmp Point) (omega arith);
-    faces = rw (len-empty nat_cmp Corners) (omega arith);
-    vertex_ids = omega arith;
-    face_ids = omega arith;
   };
 }
 

@@ -1,5 +1,5 @@
 -- The mesh after moves: where its vertices stand, and what stays.
-use Rattle.std.proofs.Common.{◌≡◌, ℕ, ◌+◌, ◌<◌, ◌==◌, ◌&&◌, Bool, true, false, cond, eqb, [], ◌∷◌, Some, None, is_some, map, length, pos, ◌+ℤ◌, ◌-ℤ◌, ◌*ℤ◌, refl, sym, ap, subst, ◌∙◌, arith}
+use Rattle.std.proofs.Common.{◌≡◌, ℕ, ◌+◌, ◌<◌, ◌==◌, ◌&&◌, Bool, true, false, cond, eqb, [], ◌∷◌, Option, Some, None, is_some, map, length, pos, ◌+ℤ◌, ◌-ℤ◌, ◌*ℤ◌, refl, sym, ap, subst, ◌∙◌, arith, lit≤}
 use Rattle.std.proofs.lemmas.Int.{ints}
 use Rattle.std.specs.Option.{option_map, unwrap_or}
 use Rattle.std.specs.List.{find, All, AllByRecursion, IsDistinct}
@@ -12,7 +12,7 @@ use Rattle.std.proofs.lemmas.Bool.{false≢true, eqb-true}
 use Rattle.std.proofs.lemmas.Bool.Decides.{nat_tests}
 use Rattle.grid_base.specs.declared.TheConstants.{BOX}
 use Rattle.grid_base.specs.declared.Point.{Point}
-use Rattle.grid_base.specs.Triples.{Triple, plus, minus}
+use Rattle.grid_base.specs.Triples.{Triple, IsWithin, plus, minus}
 use Rattle.grid_base.specs.Points.{displacement_of, is_within, point_at}
 use Rattle.grid_base.specs.Meeting.{MeetAt}
 use Rattle.grid_base.specs.Motion.{position_at}
@@ -24,6 +24,7 @@ use Rattle.mesh_base.specs.Sides.{follows, ids_where, runs, IsClosed}
 use Rattle.mesh_base.specs.Pairs.{Pair, IsPair}
 use Rattle.mesh_base.specs.Placements.{Placement, Motion, origin, position_or_origin, own_points, positions, at_fraction, IsClearMesh, IsClearAlong}
 use Rattle.mesh_base.specs.Shifts.{Shifts, shift_at, moved_by, end_in_box, with_move, with_moves}
+use Rattle.mesh_base.proofs.Tests.{turned_test}
 use Rattle.mesh_base.proofs.MeshLaws.{sound-with_point}
 use Rattle.mesh_base.proofs.Listed.{edge_live}
 
@@ -39,6 +40,14 @@ minus-plus a b = same_triple (minus (plus a b) a) b (back a.x b.x) (back a.y b.y
   where
     back : (x y : _) → (x +ℤ y) -ℤ x ≡ y
     back x y = omega (arith, ints)
+
+-- where a vertex stands is in the box
+pub own_within : (m : Mesh) (v : ℕ) → IsWithin BOX (own_points m v)
+own_within m v = by_answer (finite.get m.points v)
+  where
+    by_answer : (o : Option Point) → IsWithin BOX (position_or_origin o)
+    by_answer None = record { x_fits = lit≤ tt; y_fits = lit≤ tt; z_fits = lit≤ tt }
+    by_answer (Some p) = record { x_fits = p.in_box.x_fits; y_fits = p.in_box.y_fits; z_fits = p.in_box.z_fits }
 
 -- at the whole way a position is at its end
 pub position_at-end : (a b : Triple) → position_at 1 1 a b ≡ b
@@ -59,9 +68,6 @@ got-moved m s v =
 
 itself : (v : ℕ) → (v == v) ≡ true
 itself v = grind (arith, nat_tests)
-
-turned_test : (a b : ℕ) → (a == b) ≡ false → (b == a) ≡ false
-turned_test a b h = grind (arith, nat_tests)
 
 own-moved : (m : Mesh) (s : ShiftOf) → is_within BOX (plus (own_points m s.v) (displacement_of s.by)) ≡ true → own_points (with_move m s) s.v ≡ plus (own_points m s.v) (displacement_of s.by)
 own-moved m s inside =

@@ -14,18 +14,23 @@ corners_of ids = record { first = slice_index ids 0; second = slice_index ids 1;
 abbrev pub corner_list : Corners → List ℕ
 corner_list c = c.first ∷ c.second ∷ c.third ∷ []
 
+-- a vertex more, at the point, with the next id
 abbrev pub with_vertex : Mesh → Point → Mesh
 with_vertex m p = record m { points = map.insert m.points m.next_vertex p; next_vertex = m.next_vertex + 1 }
 
+-- a face more, with the next id
 abbrev pub with_face : Mesh → Corners → Mesh
 with_face m c = record m { faces = map.insert m.faces m.next_face c; next_face = m.next_face + 1 }
 
+-- a face less; its id stays given
 abbrev pub without_face : Mesh → ℕ → Mesh
 without_face m f = record m { faces = map.remove m.faces f }
 
+-- a vertex less; its id stays given
 abbrev pub without_vertex : Mesh → ℕ → Mesh
 without_vertex m v = record m { points = map.remove m.points v }
 
+-- the vertex at another point
 abbrev pub with_point : Mesh → ℕ → Point → Mesh
 with_point m v p = record m { points = map.insert m.points v p }
 
@@ -39,5 +44,6 @@ pub record IsFresh (m : Mesh) (c : Corners) : Type 0 where
 abbrev pub IsFullOfVertices : Mesh → Type 0
 IsFullOfVertices m = (map.len m.points ≡ VERTICES_MAX) ⊎ (m.next_vertex ≡ (ID_MAX + 1))
 
+-- no face can be made
 abbrev pub IsFullOfFaces : Mesh → Type 0
 IsFullOfFaces m = (map.len m.faces ≡ FACES_MAX) ⊎ (m.next_face ≡ (ID_MAX + 1))

@@ -14,9 +14,11 @@ pub record Mesh : Type 0 where
   pub next_vertex : ℕ
   pub next_face : ℕ
 
+-- the vertex lives
 abbrev pub IsLiveVertex : Mesh → ℕ → Type 0
 IsLiveVertex m v = IsSome (map.get m.points v)
 
+-- the face lives
 abbrev pub IsLiveFace : Mesh → ℕ → Type 0
 IsLiveFace m f = IsSome (map.get m.faces f)
 
@@ -38,6 +40,7 @@ AreLive m c = IsLiveVertex m c.first × IsLiveVertex m c.second × IsLiveVertex 
 abbrev pub turned : Corners → Corners
 turned c = record { first = c.second; second = c.third; third = c.first }
 
+-- whether they are the same, the first of one being the first of the other
 abbrev pub same_corners : Corners → Corners → Bool
 same_corners c d = (c.first == d.first) && (c.second == d.second) && (c.third == d.third)
 

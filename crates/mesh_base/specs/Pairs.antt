@@ -1,11 +1,14 @@
 -- Pairs: an edge, and a face that has neither of its ends as a corner.
 use Rattle.std.specs.Prelude.{◌≡◌, ℕ, ◌<◌, ◌+◌, ◌||◌, Bool, false, not, List, [], ◌∷◌, map, nat_lt}
 use Rattle.std.specs.List.{filter, flat_map}
+use Rattle.std.specs.Ordering.{nat_cmp, ordering_then}
+use Rattle.std.specs.declared.cmp.Ordering.{Ordering}
 use Rattle.std.specs.FinMap as finite
 use Rattle.mesh_base.specs.declared.ids.Corners.{Corners}
 use Rattle.mesh_base.specs.declared.ids.PairName.{PairName}
 use Rattle.mesh_base.specs.Mesh.{Mesh, HasCorners}
 use Rattle.mesh_base.specs.Sides.{IsEdge, has_corner, runs}
+use Rattle.mesh_base.specs.SideSet.{edge_cmp}
 
 -- the name of a pair, and the corners of its face
 pub record Pair : Type 0 where
@@ -45,6 +48,10 @@ pairs_of m e =
 -- all pairs, in order of the edge and then of the face
 abbrev pub pairs : Mesh → List Pair
 pairs m = flat_map (λ e. pairs_of m e) (edges m)
+
+-- names in order of the edge and then of the face
+abbrev pub name_cmp : PairName → PairName → Ordering
+name_cmp n o = ordering_then (edge_cmp (n.a, n.b) (o.a, o.b)) (nat_cmp n.face o.face)
 
 -- the two ends of the edge, then the corners of the face
 abbrev pub five_ids : Pair → List ℕ

@@ -1,4 +1,4 @@
--- The sides of faces as a set of pairs of ids, the smaller first.
+-- The sides of faces as a set, each by its two ends, the smaller first.
 use Rattle.std.specs.Prelude.{ℕ, ◌||◌, Bool, false}
 use Rattle.std.specs.BTreeSet as sorted
 use Rattle.std.specs.BTreeSet.{BTreeSet}
@@ -8,13 +8,13 @@ use Rattle.std.proofs.Common.{Option, Some, None}
 use Rattle.mesh_base.specs.declared.ids.Corners.{Corners}
 use Rattle.mesh_base.specs.Sides.{follows}
 
--- pairs in order of the first and then of the second
-abbrev pub pair_cmp : ℕ × ℕ → ℕ × ℕ → Ordering
-pair_cmp x y = ordering_then (nat_cmp x.0 y.0) (nat_cmp x.1 y.1)
+-- edges in order of the smaller end and then of the larger
+abbrev pub edge_cmp : ℕ × ℕ → ℕ × ℕ → Ordering
+edge_cmp x y = ordering_then (nat_cmp x.0 y.0) (nat_cmp x.1 y.1)
 
--- whether the set has the pair
+-- whether the set has the side
 abbrev pub has_side : BTreeSet (ℕ × ℕ) → ℕ → ℕ → Bool
-has_side sides u v = sorted.contains pair_cmp sides (u, v)
+has_side sides u v = sorted.contains edge_cmp sides (u, v)
 
 -- whether the one follows the other in the corners
 abbrev pub are_neighbours : Corners → ℕ → ℕ → Bool

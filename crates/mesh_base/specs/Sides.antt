@@ -1,5 +1,5 @@
 -- Which faces run from one vertex to another, the edges, and when a mesh is closed.
-use Rattle.std.specs.Prelude.{◌≡◌, ℕ, ◌+◌, ◌<◌, ◌==◌, ◌&&◌, ◌||◌, ◌⊎◌, Bool, List, map, length, nat_lt}
+use Rattle.std.specs.Prelude.{◌≡◌, ℕ, ◌+◌, ◌<◌, ◌==◌, ◌&&◌, ◌||◌, Bool, List, map, length, nat_lt}
 use Rattle.std.specs.List.{filter}
 use Rattle.std.specs.FinMap as finite
 use Rattle.mesh_base.specs.declared.ids.Corners.{Corners}
@@ -9,6 +9,7 @@ use Rattle.mesh_base.specs.Mesh.{Mesh}
 abbrev pub follows : Corners → ℕ → ℕ → Bool
 follows c u v = (c.first == u && c.second == v) || (c.second == u && c.third == v) || (c.third == u && c.first == v)
 
+-- whether v is a corner
 abbrev pub has_corner : Corners → ℕ → Bool
 has_corner c v = (c.first == v) || (c.second == v) || (c.third == v)
 
@@ -39,10 +40,6 @@ IsClosed m = (u v : ℕ) → runs m u v ≡ runs m v u
 -- some face has both as neighbours
 abbrev pub IsEdge : Mesh → ℕ → ℕ → Type 0
 IsEdge m u v = 0 < runs m u v + runs m v u
-
--- more than one face runs one way
-abbrev pub IsCrowded : Mesh → ℕ → ℕ → Type 0
-IsCrowded m u v = (1 < runs m u v) ⊎ (1 < runs m v u)
 
 -- the ids above a number
 abbrev pub above : ℕ → List ℕ → List ℕ

@@ -4,7 +4,7 @@ ghost use Rattle.std.specs.List.{list_any};
 ghost use Rattle.std.specs.List.Sorted.{IsStrictlySortedBy};
 ghost use Rattle.std.specs.FinMap as map;
 ghost use Rattle.mesh_base.specs.Pairs.{edges};
-ghost use Rattle.mesh_base.specs.SideSet.{pair_cmp, has_side, are_neighbours, neighbours_in};
+ghost use Rattle.mesh_base.specs.SideSet.{edge_cmp, has_side, are_neighbours, neighbours_in};
 
 use crate::ids::{Corners, FaceId, VertexId};
 use crate::lists::Edges;
@@ -67,7 +67,7 @@ fn sides_of<S: Surface>(alloc: Global, mesh: &S, faces: &[FaceId]) -> Result<Sid
 /// The set as a list.
 fn listed(alloc: Global, sides: &Sides) -> Result<Edges, NoMemory>
     ensures keys { IfOk result (λ found. found ≡ sides.now.keys) }
-    ensures order { IsOk result → IsStrictlySortedBy pair_cmp sides.now.keys }
+    ensures order { IsOk result → IsStrictlySortedBy edge_cmp sides.now.keys }
 {
     let mut found = Edges::new(alloc);
     for side in sides {

@@ -1,20 +1,25 @@
 //! Laws of meshes, their pairs and their motions. Each is the contract of a function that does nothing.
 
-ghost use Rattle.std.specs.Prelude.{ℕ, Bool, false, ◌≡◌, ◌<◌, ◌↔◌, IsTrue};
+ghost use Rattle.std.specs.Prelude.{ℕ, Bool, false, ◌≡◌, ◌<◌, ◌↔◌, IsTrue, map};
 ghost use Rattle.std.specs.List.{Contains, filter};
+ghost use Rattle.std.specs.List.Sorted.{IsStrictlySortedBy};
 ghost use Rattle.grid_base.specs.Triples.{Triple, plus};
 ghost use Rattle.grid_base.specs.Points.{displacement_of};
 ghost use Rattle.mesh_base.specs.declared.steps.ShiftOf.{ShiftOf};
 ghost use Rattle.mesh_base.specs.Mesh.{Mesh, IsSound, IsLiveVertex};
 ghost use Rattle.mesh_base.specs.Sides.{IsEdge, IsClosed};
-ghost use Rattle.mesh_base.specs.Pairs.{Pair, IsPair, edges, pairs};
+ghost use Rattle.mesh_base.specs.Pairs.{Pair, IsPair, edges, pairs, name_cmp};
+ghost use Rattle.mesh_base.specs.SideSet.{edge_cmp};
 ghost use Rattle.mesh_base.specs.Placements.{origin, own_points, IsClearMesh, IsClearAlong};
 ghost use Rattle.mesh_base.specs.Shifts.{Shifts, shift_at, moved_by, end_in_box, with_moves, NameLive, NameOnce};
 
-/// The list of edges has exactly the edges, the smaller id first; the list of pairs has exactly the pairs.
+/// The list of edges has exactly the edges, the smaller id first; the list of pairs has exactly the pairs. Both are in order
+/// and have nothing twice: edges by the smaller id and then by the larger, pairs by the edge and then by the face.
 pub fn pairs_are_listed()
     ensures edges { (m : Mesh) → IsSound m → (u v : ℕ) → (Contains (edges m) (u, v) ↔ ((u < v) × IsEdge m u v)) }
     ensures pairs { (m : Mesh) → IsSound m → (p : Pair) → (Contains (pairs m) p ↔ IsPair m p) }
+    ensures edges_rise { (m : Mesh) → IsStrictlySortedBy edge_cmp (edges m) }
+    ensures pairs_rise { (m : Mesh) → IsStrictlySortedBy name_cmp (map (λ p. p.name) (pairs m)) }
 {}
 
 /// Moves that end in the box put each vertex at its point and its shift together, and change nothing else: the same

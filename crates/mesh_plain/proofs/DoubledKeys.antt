@@ -3,8 +3,7 @@ use Rattle.std.proofs.Common.{◌≤◌, length, ◌≡◌, ◌⊎◌, ℕ, ◌+
 use Rattle.std.specs.Option.{option_or}
 use Rattle.std.specs.List.{position_from}
 use Rattle.std.specs.Ordering.{nat_cmp, is_eq, ordering_then}
-use Rattle.std.specs.declared.cmp.Ordering.{Ordering}
-use Rattle.std.specs.declared.cmp.Ordering.TheVariants.{Less, Equal, Greater}
+use Rattle.std.specs.declared.cmp.Ordering.TheVariants.{Equal}
 use Rattle.std.specs.Cmp.{unsigned_tied}
 use Rattle.std.specs.Cmp.Lexicographic.{slice_cmp}
 use Rattle.std.proofs.lemmas.Bool.Decides.{nat_tests}
@@ -13,14 +12,11 @@ use Rattle.mesh_base.specs.declared.ids.Corners.{Corners}
 use Rattle.mesh_base.specs.Mesh.{turned, same_corners, equal_up_to_rotation}
 use Rattle.mesh_base.specs.Changes.{corners_of}
 use Rattle.mesh_base.specs.Given.{Faces}
+use Rattle.mesh_base.proofs.Tests.{or_either, both_ways, tied_then}
+use Rattle.mesh_plain.proofs.Lists.{none_here}
 use Rattle.mesh_plain.specs.Shape.{doubled_from, repeats, repeated_from, no_vertex_from, fault_but_balance}
 use Rattle.mesh_base.specs.declared.faults.ShapeFault.TheVariants.{Doubled}
 use Rattle.mesh_plain.specs.Turned.{least_first, key_of, same_key, doubled_by_key}
-
-pub tied_then : (o p : Ordering) → is_eq (ordering_then o p) ≡ (is_eq o && is_eq p)
-tied_then Less p = refl
-tied_then Equal p = refl
-tied_then Greater p = refl
 
 pub last_one : (b : Bool) → (b && true) ≡ b
 last_one true = refl
@@ -79,10 +75,6 @@ a_turn c = elim (nat_lt c.first c.second && nat_lt c.first c.third) as (λ b. ((
   ]
 ]
 
-either : (p q : Bool) → (p || q) ≡ true → (p ≡ true) ⊎ (q ≡ true)
-either true q h = inl refl
-either false q h = inr h
-
 first_of_three : (p q r : Bool) → p ≡ true → (p || q || r) ≡ true
 first_of_three true q r h = refl
 first_of_three false q r h = cc
@@ -113,9 +105,9 @@ keys_of_equal c d h e =
     (λ two. ⊎_elim
     (λ same. ap least_first (sym (same_from_facts c d same)))
     (λ once. ap least_first (sym (same_from_facts (turned c) d once)) ∙ least_first-turned c h)
-    (either (same_corners c d) (same_corners (turned c) d) two))
+    (or_either (same_corners c d) (same_corners (turned c) d) two))
     (λ twice. ap least_first (sym (same_from_facts (turned (turned c)) d twice)) ∙ least_first-turned (turned c) (repeats-turned c h) ∙ least_first-turned c h)
-    (either (same_corners c d || same_corners (turned c) d) (same_corners (turned (turned c)) d) e)
+    (or_either (same_corners c d || same_corners (turned c) d) (same_corners (turned (turned c)) d) e)
 
 -- and back
 equal_of_keys : (c d : Corners) → least_first d ≡ least_first c → equal_up_to_rotation c d ≡ true
@@ -136,11 +128,6 @@ equal_of_keys c d e =
     (a_turn c)))
     (a_turn d)
 
-both_ways : (a b : Bool) → (a ≡ true → b ≡ true) → (b ≡ true → a ≡ true) → a ≡ b
-both_ways true b to from = sym (to refl)
-both_ways false true to from = from refl
-both_ways false false to from = refl
-
 -- the two tests agree
 pub same_tests : (f g : List ℕ) → repeats (corners_of f) ≡ false → equal_up_to_rotation (corners_of f) (corners_of g) ≡ same_key (key_of f) g
 same_tests f g h =
@@ -156,10 +143,6 @@ same_tests f g h =
 position_same : {A : Type 0} (p q : A → Bool) → ((x : A) → p x ≡ q x) → (k : ℕ) (xs : List A) → position_from p k xs ≡ position_from q k xs
 position_same p q same k [] = refl
 position_same p q same k (x ∷ xs) = ap (λ b. cond b (Some k) (position_from p (k + 1) xs)) (same x) ∙ ap (λ r. cond (q x) (Some k) r) (position_same p q same (k + 1) xs)
-
-none_here : (b : Bool) (k : ℕ) (r : Option ℕ) → cond b (Some k) r ≡ None → (b ≡ false) × (r ≡ None)
-none_here true k r h = cc
-none_here false k r h = (refl, h)
 
 -- where no face has a corner twice, double faces are found by their keys
 pub doubled_from_keys : (j k : ℕ) (fs : Faces) → repeated_from j fs ≡ None → doubled_from k fs ≡ doubled_by_key k fs

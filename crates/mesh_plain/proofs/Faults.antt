@@ -1,7 +1,7 @@
--- A fault of lists denies what does not hold of their mesh, and a mesh that is sound and closed has none.
+-- A fault of lists names what is at fault in their mesh, and a mesh that is sound and closed has none.
 use Rattle.std.proofs.Common.{◌≡◌, ◌≢◌, ℕ, zero, suc, ◌+◌, ◌<◌, ◌≤◌, ◌==◌, ◌&&◌, ◌||◌, not, Bool, true, false, cond, List, [], ◌∷◌, Option, Some, None, IsSome, map, length, nat_lt, nat_le, slice_get, if◌then◌else◌, option_map, refl, sym, ap, subst, ◌∙◌, ◌⊎◌, inl, inr, ⊎_elim, arith}
 use Rattle.std.specs.Option.{option_or}
-use Rattle.std.specs.List.{find, filter, position_from, enumerate_from}
+use Rattle.std.specs.List.{filter, position_from, enumerate_from}
 use Rattle.std.specs.FinMap as finite
 use Rattle.std.specs.FinMap.{get-from_entries}
 use Rattle.std.specs.Ordering.{nat_cmp}
@@ -15,26 +15,27 @@ use Rattle.grid_base.specs.declared.Point.{Point}
 use Rattle.mesh_base.specs.declared.ids.Corners.{Corners}
 use Rattle.mesh_base.specs.declared.faults.ShapeFault.{ShapeFault}
 use Rattle.mesh_base.specs.declared.faults.ShapeFault.TheVariants.{TooManyVertices, TooManyFaces, NoVertex, Repeated, Doubled, Unbalanced}
-use Rattle.mesh_base.specs.Mesh.{Mesh, IsSound, AreDifferent, HasCorners, equal_up_to_rotation}
+use Rattle.mesh_base.specs.Mesh.{Mesh, IsSound, IsLiveVertex, AreLive, AreDifferent, HasCorners, equal_up_to_rotation}
 use Rattle.mesh_base.specs.Sides.{follows, runs, IsClosed}
-use Rattle.mesh_base.specs.Changes.{corners_of}
+use Rattle.mesh_base.specs.Changes.{corners_of, corner_list}
 use Rattle.mesh_base.specs.Given.{Faces, mesh_of}
 use Rattle.mesh_base.proofs.Ordered.{entries-of_sorted}
-use Rattle.mesh_plain.specs.Shape.{is_vertex, bad_corner, no_vertex_from, repeats, repeated_from, doubled_from, runs_in, first_unbalanced, fault_but_balance, shape_fault, Denied}
+use Rattle.mesh_base.proofs.ListLaws.{found_passes}
+use Rattle.mesh_plain.specs.Shape.{is_vertex, bad_corner, no_vertex_from, repeats, repeated_from, doubled_from, runs_in, first_unbalanced, fault_but_balance, shape_fault, Denied, IsAtFault}
 use Rattle.mesh_plain.specs.Balance.{covers, least_side}
-use Rattle.mesh_plain.proofs.Lists.{numbered, sorted_numbers, len_numbered, of_live, none_of, none_mapped, first_false}
+use Rattle.mesh_plain.proofs.Lists.{numbered, sorted_numbers, len_numbered, of_live, none_of, none_mapped, first_false, no_fault_but_balance}
 use Rattle.mesh_plain.proofs.LeastSide.{least_is_first, unbalanced-covered}
 
 -- ---- options
-some_of : {A : Type 0} (x y : Option A) (a : A) → option_or x y ≡ Some a → (x ≡ Some a) ⊎ (y ≡ Some a)
+pub some_of : {A : Type 0} (x y : Option A) (a : A) → option_or x y ≡ Some a → (x ≡ Some a) ⊎ (y ≡ Some a)
 some_of None y a h = inr h
 some_of (Some x) y a h = inl h
 
-tested : {A : Type 0} (b : Bool) (x a : A) → (if b then Some x else None) ≡ Some a → (b ≡ true) × (x ≡ a)
+pub tested : {A : Type 0} (b : Bool) (x a : A) → (if b then Some x else None) ≡ Some a → (b ≡ true) × (x ≡ a)
 tested true x a h = (refl, cc)
 tested false x a h = cc
 
-mapped : {A B : Type 0} (g : A → B) (o : Option A) (b : B) → option_map g o ≡ Some b → (a : A) × (o ≡ Some a) × (g a ≡ b)
+pub mapped : {A B : Type 0} (g : A → B) (o : Option A) (b : B) → option_map g o ≡ Some b → (a : A) × (o ≡ Some a) × (g a ≡ b)
 mapped g None b h = cc
 mapped g (Some a) b h = (a, refl, cc)
 
@@ -70,41 +71,38 @@ runs_given ps fs u v =
     ∙ length-filter (λ f. follows (corners_of f) u v) fs
 
 -- ---- each fault
-bad_there : (n k : ℕ) (fs : Faces) (p : ℕ × ℕ) → no_vertex_from n k fs ≡ Some p → (i : ℕ) × (l : List ℕ) × (slice_get fs i ≡ Some l) × (bad_corner n (corners_of l) ≡ Some p.1)
+bad_there : (n k : ℕ) (fs : Faces) (p : ℕ × ℕ) → no_vertex_from n k fs ≡ Some p → (i : ℕ) × (l : List ℕ) × (p.0 ≡ k + i) × (slice_get fs i ≡ Some l) × (bad_corner n (corners_of l) ≡ Some p.1)
 bad_there n k [] p h = cc
 bad_there n k (f ∷ fs) p h = ⊎_elim
-    (λ here. let found = mapped _ (bad_corner n (corners_of f)) p here in (0, f, refl, found.1 ∙ ap Some (ap (λ q. q.1) found.2)))
-    (λ later. let found = bad_there n (k + 1) fs p later in (suc found.0, found.1, found.2, found.3))
+    (λ here.
+    let found = mapped _ (bad_corner n (corners_of f)) p here in
+    let number : k ≡ p.0 = ap (λ q. q.0) found.2 in
+    (0, f, omega (arith, number), refl, found.1 ∙ ap Some (ap (λ q. q.1) found.2)))
+    (λ later. let found = bad_there n (k + 1) fs p later in (suc found.0, found.1, omega (arith, found.2), found.3, found.4))
     (some_of (option_map (λ corner. (k, corner)) (bad_corner n (corners_of f))) _ p h)
 
-passes_there : (p : List ℕ → Bool) (k : ℕ) (fs : Faces) (j : ℕ) → position_from p k fs ≡ Some j → (i : ℕ) × (l : List ℕ) × (slice_get fs i ≡ Some l) × (p l ≡ true)
+passes_there : (p : List ℕ → Bool) (k : ℕ) (fs : Faces) (j : ℕ) → position_from p k fs ≡ Some j → (i : ℕ) × (l : List ℕ) × (j ≡ k + i) × (slice_get fs i ≡ Some l) × (p l ≡ true)
 passes_there p k [] j h = cc
 passes_there p k (f ∷ fs) j h = by_test (passes_there p (k + 1) fs j) (p f) refl h
   where
-    by_test : (position_from p (k + 1) fs ≡ Some j → (i : ℕ) × (l : List ℕ) × (slice_get fs i ≡ Some l) × (p l ≡ true)) → (b : Bool) → p f ≡ b → cond b (Some k) (position_from p (k + 1) fs) ≡ Some j → (i : ℕ) × (l : List ℕ) × (slice_get (f ∷ fs) i ≡ Some l) × (p l ≡ true)
-    by_test rest true e h = (0, f, refl, e)
-    by_test rest false e h = let found = rest h in (suc found.0, found.1, found.2, found.3)
+    by_test : (position_from p (k + 1) fs ≡ Some j → (i : ℕ) × (l : List ℕ) × (j ≡ (k + 1) + i) × (slice_get fs i ≡ Some l) × (p l ≡ true)) → (b : Bool) → p f ≡ b → cond b (Some k) (position_from p (k + 1) fs) ≡ Some j → (i : ℕ) × (l : List ℕ) × (j ≡ k + i) × (slice_get (f ∷ fs) i ≡ Some l) × (p l ≡ true)
+    by_test rest true e h = let number : k ≡ j = cc in (0, f, omega (arith, number), refl, e)
+    by_test rest false e h = let found = rest h in (suc found.0, found.1, omega (arith, found.2), found.3, found.4)
 
-equal_there : (k : ℕ) (fs : Faces) (p : ℕ × ℕ) → doubled_from k fs ≡ Some p → (i : ℕ) × (j : ℕ) × (l : List ℕ) × (r : List ℕ) × (i < j) × (slice_get fs i ≡ Some l) × (slice_get fs j ≡ Some r) × (equal_up_to_rotation (corners_of l) (corners_of r) ≡ true)
+equal_there : (k : ℕ) (fs : Faces) (p : ℕ × ℕ) → doubled_from k fs ≡ Some p → (i : ℕ) × (j : ℕ) × (l : List ℕ) × (r : List ℕ) × (p.0 ≡ k + i) × (p.1 ≡ k + j) × (i < j) × (slice_get fs i ≡ Some l) × (slice_get fs j ≡ Some r) × (equal_up_to_rotation (corners_of l) (corners_of r) ≡ true)
 equal_there k [] p h = cc
 equal_there k (f ∷ fs) p h = ⊎_elim
     (λ here.
     let found = mapped _ (position_from (λ g. equal_up_to_rotation (corners_of f) (corners_of g)) (k + 1) fs) p here in
     let second = passes_there (λ g. equal_up_to_rotation (corners_of f) (corners_of g)) (k + 1) fs found.0 found.1 in
-    (0, suc second.0, f, second.1, omega arith, refl, second.2, second.3))
-    (λ later. let found = equal_there (k + 1) fs p later in (suc found.0, suc found.1, found.2, found.3, omega (arith, found.4), found.5, found.6, found.7))
+    let one : k ≡ p.0 = ap (λ q. q.0) found.2 in
+    let two : found.0 ≡ p.1 = ap (λ q. q.1) found.2 in
+    (0, suc second.0, f, second.1, omega (arith, one), omega (arith, two, second.2), omega arith, refl, second.3, second.4))
+    (λ later. let found = equal_there (k + 1) fs p later in (suc found.0, suc found.1, found.2, found.3, omega (arith, found.4), omega (arith, found.5), omega (arith, found.6), found.7, found.8, found.9))
     (some_of (option_map (λ second. (k, second)) (position_from (λ g. equal_up_to_rotation (corners_of f) (corners_of g)) (k + 1) fs)) _ p h)
 
-found_passes : {X : Type 0} (test : X → Bool) (xs : List X) (x : X) → find test xs ≡ Some x → test x ≡ true
-found_passes test [] x h = cc
-found_passes test (y ∷ xs) x h = by_test (found_passes test xs x) (test y) refl h
-  where
-    by_test : (find test xs ≡ Some x → test x ≡ true) → (b : Bool) → test y ≡ b → cond b (Some y) (find test xs) ≡ Some x → test x ≡ true
-    by_test rest true e h = let same : y ≡ x = cc in subst (λ z. test z ≡ true) same e
-    by_test rest false e h = rest h
-
-many : (limit n : ℕ) → nat_lt limit n ≡ true → n ≤ limit → ⊥
-many limit n h h' = let less : nat_lt limit n ≡ false = grind (arith, nat_tests) in cc
+more_than : (limit n : ℕ) → nat_lt limit n ≡ true → limit < n
+more_than limit n h = grind (arith, nat_tests)
 
 vertex_of_live : (ps : List Point) (v : ℕ) → IsSome (finite.get (finite.from_entries {R = nat_cmp} (enumerate_from 1 ps)) v) → is_vertex (length ps) v ≡ true
 vertex_of_live ps v h = let bounds = of_live ps v h in within (length ps) v bounds.0 bounds.1
@@ -112,14 +110,16 @@ vertex_of_live ps v h = let bounds = of_live ps v h in within (length ps) v boun
     within : (n v : ℕ) → 1 ≤ v → v < n + 1 → (nat_le 1 v && nat_le v n) ≡ true
     within n v h h' = grind (arith, nat_tests)
 
-not_bad : (n : ℕ) (c : Corners) → is_vertex n c.first ≡ true → is_vertex n c.second ≡ true → is_vertex n c.third ≡ true → bad_corner n c ≡ None
-not_bad n c a b d = tests (is_vertex n c.first) (is_vertex n c.second) (is_vertex n c.third) a b d
+-- the corner that is no vertex
+bad_one : (n : ℕ) (c : Corners) (k : ℕ) → bad_corner n c ≡ Some k → (i : ℕ) × (v : ℕ) × (k ≡ i + 1) × (slice_get (corner_list c) i ≡ Some v) × (is_vertex n v ≡ false)
+bad_one n c k h = tests (is_vertex n c.first) (is_vertex n c.second) (is_vertex n c.third) refl refl refl h
   where
-    tests : (p q r : Bool) → p ≡ true → q ≡ true → r ≡ true → first_false p q r ≡ None
-    tests true true true a b d = refl
-    tests true true false a b d = cc
-    tests true false r a b d = cc
-    tests false q r a b d = cc
+    tests : (p q r : Bool) → is_vertex n c.first ≡ p → is_vertex n c.second ≡ q → is_vertex n c.third ≡ r → first_false p q r ≡ Some k
+        → (i : ℕ) × (v : ℕ) × (k ≡ i + 1) × (slice_get (corner_list c) i ≡ Some v) × (is_vertex n v ≡ false)
+    tests true true true a b d h = cc
+    tests true true false a b d h = let number : 3 ≡ k = cc in (2, c.third, omega (arith, number), refl, d)
+    tests true false r a b d h = let number : 2 ≡ k = cc in (1, c.second, omega (arith, number), refl, b)
+    tests false q r a b d h = let number : 1 ≡ k = cc in (0, c.first, omega (arith, number), refl, a)
 
 apart : (c : Corners) → AreDifferent c → repeats c ≡ false
 apart c h = three c.first c.second c.third h.first_second h.second_third h.third_first
@@ -127,65 +127,74 @@ apart c h = three c.first c.second c.third h.first_second h.second_third h.third
     three : (a b d : ℕ) → a ≢ b → b ≢ d → d ≢ a → ((a == b) || (b == d) || (d == a)) ≡ false
     three a b d h h' h'' = grind (arith, nat_tests)
 
-some_none : {A : Type 0} {o : Option A} (x : A) → o ≡ Some x → o ≡ None → ⊥
-some_none x h h' = cc
-
--- what a fault denies does not hold
-pub fault_denies : (ps : List Point) (fs : Faces) (fault : ShapeFault) → shape_fault (length ps) fs ≡ Some fault → ¬ (Denied fault (mesh_of ps fs))
-fault_denies ps fs fault h =
+-- what a fault names is at fault
+pub at_fault : (ps : List Point) (fs : Faces) (fault : ShapeFault) → shape_fault (length ps) fs ≡ Some fault → IsAtFault fault (mesh_of ps fs)
+at_fault ps fs fault h =
     ⊎_elim (λ e0.
-    ⊎_elim (λ e1. let t = tested (nat_lt VERTICES_MAX (length ps)) _ fault e1 in wrong _ t.1 (λ few. many VERTICES_MAX (length ps) t.0 (subst (λ n. n ≤ VERTICES_MAX) (len_numbered ps) few)))
-    (λ e1'. ⊎_elim (λ e2. let t = tested (nat_lt FACES_MAX (length fs)) _ fault e2 in wrong _ t.1 (λ few. many FACES_MAX (length fs) t.0 (subst (λ n. n ≤ FACES_MAX) (len_numbered (map corners_of fs) ∙ length-map fs corners_of) few)))
-    (λ e2'. ⊎_elim (λ e3. let t = mapped _ (no_vertex_from (length ps) 1 fs) fault e3 in wrong _ t.2 (no_vertex t.0 t.1))
-    (λ e3'. ⊎_elim (λ e4. let t = mapped _ (repeated_from 1 fs) fault e4 in wrong _ t.2 (twice t.0 t.1))
-    (λ e4'. let t = mapped _ (doubled_from 1 fs) fault e4' in wrong _ t.2 (double t.0 t.1))
+    ⊎_elim (λ e1. let t = tested (nat_lt VERTICES_MAX (length ps)) _ fault e1 in same _ t.1 (sym (len_numbered ps), more_than VERTICES_MAX (length ps) t.0))
+    (λ e1'. ⊎_elim (λ e2. let t = tested (nat_lt FACES_MAX (length fs)) _ fault e2 in same _ t.1 (sym (len_numbered (map corners_of fs) ∙ length-map fs corners_of), more_than FACES_MAX (length fs) t.0))
+    (λ e2'. ⊎_elim (λ e3. let t = mapped _ (no_vertex_from (length ps) 1 fs) fault e3 in same _ t.2 (no_vertex t.0 t.1))
+    (λ e3'. ⊎_elim (λ e4. let t = mapped _ (repeated_from 1 fs) fault e4 in same _ t.2 (twice t.0 t.1))
+    (λ e4'. let t = mapped _ (doubled_from 1 fs) fault e4' in same _ t.2 (double t.0 t.1))
     (some_of (option_map (λ face. Repeated face) (repeated_from 1 fs)) _ fault e3'))
     (some_of (option_map (λ p. NoVertex p.0 p.1) (no_vertex_from (length ps) 1 fs)) _ fault e2'))
     (some_of (if nat_lt FACES_MAX (length fs) then Some (TooManyFaces (length fs)) else None) _ fault e1'))
     (some_of (if nat_lt VERTICES_MAX (length ps) then Some (TooManyVertices (length ps)) else None) _ fault e0))
-    (λ e0'. let t = mapped _ (first_unbalanced (length ps) fs) fault e0' in wrong _ t.2 (unbalanced t.0 t.1))
+    (λ e0'. let t = mapped _ (first_unbalanced (length ps) fs) fault e0' in same _ t.2 (unbalanced t.0 t.1))
     (some_of (fault_but_balance (length ps) fs) _ fault h)
   where
     m : Mesh
     m = mesh_of ps fs
 
-    wrong : (g : ShapeFault) → g ≡ fault → ¬ (Denied g m) → ¬ (Denied fault m)
-    wrong g is h = subst (λ x. ¬ (Denied x m)) is h
+    same : (g : ShapeFault) → g ≡ fault → IsAtFault g m → IsAtFault fault m
+    same g is h = subst (λ x. IsAtFault x m) is h
 
-    no_vertex : (p : ℕ × ℕ) → no_vertex_from (length ps) 1 fs ≡ Some p → ¬ (Denied (NoVertex p.0 p.1) m)
-    no_vertex p e all =
+    face_at : (i f : ℕ) (l : List ℕ) → f ≡ 1 + i → slice_get fs i ≡ Some l → HasCorners m f (corners_of l)
+    face_at i f l number e = let turned : i + 1 ≡ f = omega (arith, number) in subst (λ g. HasCorners m g (corners_of l)) turned (has_face ps fs i l e)
+
+    no_vertex : (p : ℕ × ℕ) → no_vertex_from (length ps) 1 fs ≡ Some p → IsAtFault (NoVertex p.0 p.1) m
+    no_vertex p e =
         let at = bad_there (length ps) 1 fs p e in
-        let c : Corners = corners_of at.1 in
-        let live = all (at.0 + 1) c (has_face ps fs at.0 at.1 at.2) in
-        some_none p.1 at.3 (not_bad (length ps) c (vertex_of_live ps c.first live.0) (vertex_of_live ps c.second live.1) (vertex_of_live ps c.third live.2))
+        let bad = bad_one (length ps) (corners_of at.1) p.1 at.4 in
+        (corners_of at.1, bad.0, bad.1, face_at at.0 p.0 at.1 at.2 at.3, bad.2, bad.3, λ live. not_both (vertex_of_live ps bad.1 live) bad.4)
 
-    twice : (k : ℕ) → repeated_from 1 fs ≡ Some k → ¬ (Denied (Repeated k) m)
-    twice k e all =
+    twice : (k : ℕ) → repeated_from 1 fs ≡ Some k → IsAtFault (Repeated k) m
+    twice k e =
         let at = passes_there (λ f. repeats (corners_of f)) 1 fs k e in
-        not_both at.3 (apart (corners_of at.1) (all (at.0 + 1) (corners_of at.1) (has_face ps fs at.0 at.1 at.2)))
+        (corners_of at.1, face_at at.0 k at.1 at.2 at.3, λ different. not_both at.4 (apart (corners_of at.1) different))
 
-    double : (p : ℕ × ℕ) → doubled_from 1 fs ≡ Some p → ¬ (Denied (Doubled p.0 p.1) m)
-    double p e all =
+    double : (p : ℕ × ℕ) → doubled_from 1 fs ≡ Some p → IsAtFault (Doubled p.0 p.1) m
+    double p e =
         let at = equal_there 1 fs p e in
-        let same = all (at.0 + 1) (at.1 + 1) (corners_of at.2) (corners_of at.3) (has_face ps fs at.0 at.2 at.5) (has_face ps fs at.1 at.3 at.6) at.7 in
-        omega (arith, same, at.4)
+        (corners_of at.2, corners_of at.3, face_at at.0 p.0 at.2 at.4 at.7, face_at at.1 p.1 at.3 at.5 at.8, at.9, omega (arith, at.4, at.5, at.6))
 
-    unbalanced : (p : ℕ × ℕ) → first_unbalanced (length ps) fs ≡ Some p → ¬ (Denied (Unbalanced p.0 p.1) m)
-    unbalanced p e closed =
+    unbalanced : (p : ℕ × ℕ) → first_unbalanced (length ps) fs ≡ Some p → IsAtFault (Unbalanced p.0 p.1) m
+    unbalanced p e equal =
         let differ = found_passes (λ q. not (runs_in fs q.0 q.1 == runs_in fs q.1 q.0)) _ p e in
-        let equal : runs_in fs p.0 p.1 ≡ runs_in fs p.1 p.0 = sym (runs_given ps fs p.0 p.1) ∙ closed p.0 p.1 ∙ runs_given ps fs p.1 p.0 in
-        false≢true (ap not (sym (eq-eqb _ _ equal)) ∙ differ)
+        let balanced : runs_in fs p.0 p.1 ≡ runs_in fs p.1 p.0 = sym (runs_given ps fs p.0 p.1) ∙ equal ∙ runs_given ps fs p.1 p.0 in
+        false≢true (ap not (sym (eq-eqb _ _ balanced)) ∙ differ)
+
+corner_live : (m : Mesh) (c : Corners) (i v : ℕ) → AreLive m c → slice_get (corner_list c) i ≡ Some v → IsLiveVertex m v
+corner_live m c zero v live e = let same : c.first ≡ v = cc in subst (IsLiveVertex m) same live.0
+corner_live m c (suc zero) v live e = let same : c.second ≡ v = cc in subst (IsLiveVertex m) same live.1
+corner_live m c (suc (suc zero)) v live e = let same : c.third ≡ v = cc in subst (IsLiveVertex m) same live.2
+corner_live m c (suc (suc (suc i))) v live e = cc
+
+-- so what it denies does not hold
+denied : (m : Mesh) (fault : ShapeFault) → IsAtFault fault m → ¬ (Denied fault m)
+denied m (TooManyVertices count) at few = omega (arith, at.0, at.1, few)
+denied m (TooManyFaces count) at few = omega (arith, at.0, at.1, few)
+denied m (NoVertex face corner) at all = at.6 (corner_live m at.0 at.1 at.2 (all face at.0 at.3) at.5)
+denied m (Repeated face) at all = at.2 (all face at.0 at.1)
+denied m (Doubled first second) at all = let same = all first second at.0 at.1 at.2 at.3 at.4 in omega (arith, same, at.5)
+denied m (Unbalanced from to) at closed = at (closed from to)
 
 -- lists of good shape make a closed mesh
 pub closed-mesh_of : (ps : List Point) (fs : Faces) → shape_fault (length ps) fs ≡ None → IsClosed (mesh_of ps fs)
 closed-mesh_of ps fs h u v = runs_given ps fs u v ∙ by_test (runs_in fs u v == runs_in fs v u) refl ∙ sym (runs_given ps fs v u)
   where
     vertices : no_vertex_from (length ps) 1 fs ≡ None
-    vertices =
-        let p0 = none_of (fault_but_balance (length ps) fs) _ h in
-        let p1 = none_of (if nat_lt VERTICES_MAX (length ps) then Some (TooManyVertices (length ps)) else None) _ p0.0 in
-        let p2 = none_of (if nat_lt FACES_MAX (length fs) then Some (TooManyFaces (length fs)) else None) _ p1.1 in
-        none_mapped _ _ (none_of (option_map (λ p. NoVertex p.0 p.1) (no_vertex_from (length ps) 1 fs)) _ p2.1).0
+    vertices = (no_fault_but_balance (length ps) fs (none_of (fault_but_balance (length ps) fs) _ h).0).corners
 
     none_found : least_side (runs_in fs) None fs ≡ None
     none_found = least_is_first (length ps) (runs_in fs) fs (λ x y. refl) vertices ∙ none_mapped _ _ (none_of (fault_but_balance (length ps) fs) _ h).1
@@ -209,4 +218,4 @@ no_fault ps fs sound closed = by_fault (shape_fault (length ps) fs) refl
   where
     by_fault : (o : Option ShapeFault) → shape_fault (length ps) fs ≡ o → o ≡ None
     by_fault None e = refl
-    by_fault (Some fault) e = absurd (fault_denies ps fs fault e (all_hold (mesh_of ps fs) sound closed fault))
+    by_fault (Some fault) e = absurd (denied (mesh_of ps fs) fault (at_fault ps fs fault e) (all_hold (mesh_of ps fs) sound closed fault))

@@ -10,6 +10,7 @@ use Rattle.mesh_base.specs.declared.ids.Corners.{Corners}
 use Rattle.mesh_base.specs.Sides.{follows}
 use Rattle.mesh_base.specs.Changes.{corners_of}
 use Rattle.mesh_base.specs.Given.{Faces}
+use Rattle.mesh_base.proofs.Tests.{and_first, and_second, or_either, turned_test}
 use Rattle.mesh_plain.specs.Shape.{is_vertex, no_vertex_from, bad_corner, runs_in, first_unbalanced}
 use Rattle.mesh_plain.specs.Balance.{covers, lesser, with_side, with_sides, least_side}
 use Rattle.mesh_plain.proofs.Lists.{none_of, none_mapped, all_vertices, between}
@@ -95,18 +96,6 @@ least-both : (count : ℕ → ℕ → ℕ) (found : Option (ℕ × ℕ)) (fs : F
 least-both count found [] x y h = h
 least-both count found (f ∷ fs) x y h = least-both count (with_sides count found (corners_of f)) fs x y (sides-both count found (corners_of f) x y h)
 
-and_first : (a b : Bool) → (a && b) ≡ true → a ≡ true
-and_first true b e = refl
-and_first false b e = e
-
-and_second : (a b : Bool) → (a && b) ≡ true → b ≡ true
-and_second true b e = e
-and_second false b e = absurd (false≢true e)
-
-or_either : (a b : Bool) → (a || b) ≡ true → (a ≡ true) ⊎ (b ≡ true)
-or_either true b e = inl refl
-or_either false b e = inr e
-
 -- so is a side of a face
 sides-cover : (count : ℕ → ℕ → ℕ) (found : Option (ℕ × ℕ)) (c : Corners) (u v : ℕ) → follows c u v ≡ true → (count u v == count v u) ≡ false → Both (with_sides count found c) u v
 sides-cover count found c u v e h = ⊎_elim (λ two. ⊎_elim
@@ -141,9 +130,6 @@ good-lesser n count found u v h hu hv good = by_test (covers found u v)
     by_test : (b : Bool) → IsGood n count (if b then found else Some (u, v))
     by_test true = good
     by_test false = (h, hu, hv)
-
-turned_test : (a b : ℕ) → (a == b) ≡ false → (b == a) ≡ false
-turned_test a b h = grind (arith, nat_tests)
 
 good-side : (n : ℕ) (count : ℕ → ℕ → ℕ) (found : Option (ℕ × ℕ)) (u v : ℕ) → is_vertex n u ≡ true → is_vertex n v ≡ true → IsGood n count found → IsGood n count (with_side count found u v)
 good-side n count found u v hu hv good = by_test (count u v == count v u) refl

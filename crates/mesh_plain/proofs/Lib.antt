@@ -5,3 +5,4 @@ pub mod DoubledKeys
 pub mod LeastSide
 pub mod SideCounts
 pub mod Faults
+pub mod Earlier

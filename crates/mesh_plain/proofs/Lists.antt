@@ -179,43 +179,74 @@ is_live ps v h = let bounds = between (length ps) v h in live_numbered ps v boun
 pub few : (limit n : ℕ) → nat_lt limit n ≡ false → n ≤ limit
 few limit n h = grind (arith, nat_tests)
 
+-- ---- each part of the laws and the limits
+pub few_vertices : (ps : List Point) (fs : Faces) → nat_lt VERTICES_MAX (length ps) ≡ false → finite.len (mesh_of ps fs).points ≤ VERTICES_MAX
+few_vertices ps fs h = let n = len_numbered ps in let small = few VERTICES_MAX (length ps) h in omega arith
+
+pub few_faces : (ps : List Point) (fs : Faces) → nat_lt FACES_MAX (length fs) ≡ false → finite.len (mesh_of ps fs).faces ≤ FACES_MAX
+few_faces ps fs h = let n = len_numbered (map corners_of fs) in let small = few FACES_MAX (length fs) h in omega (arith, n, length-map fs corners_of)
+
+pub corners_live : (ps : List Point) (fs : Faces) → no_vertex_from (length ps) 1 fs ≡ None → (f : ℕ) (c : Corners) → HasCorners (mesh_of ps fs) f c → AreLive (mesh_of ps fs) c
+corners_live ps fs vertices f c e =
+    let at = face_of ps fs f c e in
+    let live = all_vertices (length ps) (corners_of at.1) (no_bad_corner (length ps) 1 fs at.0 at.1 vertices at.3) in
+    subst (AreLive (mesh_of ps fs)) (sym at.4) (is_live ps (corners_of at.1).first live.0, is_live ps (corners_of at.1).second live.1, is_live ps (corners_of at.1).third live.2)
+
+pub corners_different : (ps : List Point) (fs : Faces) → repeated_from 1 fs ≡ None → (f : ℕ) (c : Corners) → HasCorners (mesh_of ps fs) f c → AreDifferent c
+corners_different ps fs once f c e =
+    let at = face_of ps fs f c e in
+    subst AreDifferent (sym at.4) (different (corners_of at.1) (nowhere (λ l. repeats (corners_of l)) 1 fs at.0 at.1 once at.3))
+
+pub faces_different : (ps : List Point) (fs : Faces) → doubled_from 1 fs ≡ None → (f g : ℕ) (c d : Corners) → HasCorners (mesh_of ps fs) f c → HasCorners (mesh_of ps fs) g d → equal_up_to_rotation c d ≡ true → f ≡ g
+faces_different ps fs single f g c d e e' same =
+    let at = face_of ps fs f c e in
+    let at' = face_of ps fs g d e' in
+    let equal : equal_up_to_rotation (corners_of at.1) (corners_of at'.1) ≡ true = subst (λ x. equal_up_to_rotation x (corners_of at'.1) ≡ true) at.4 (subst (λ x. equal_up_to_rotation c x ≡ true) at'.4 same) in
+    ⊎_elim (λ less. absurd (not_both equal (none_doubled 1 fs at.0 at'.0 at.1 at'.1 single less at.3 at'.3)))
+    (λ le. ⊎_elim (λ is. at.2 ∙ ap (λ i. i + 1) is ∙ sym at'.2)
+    (λ apart. absurd (not_both (equal_symmetric (corners_of at.1) (corners_of at'.1) equal) (none_doubled 1 fs at'.0 at.0 at'.1 at.1 single (omega arith) at'.3 at.3)))
+    (cases_eq at.0 at'.0))
+    (cases_lt at.0 at'.0)
+
+-- what no part denies
+pub record HaveNoFault (n : ℕ) (fs : Faces) : Type 0 where
+  pub vertices : nat_lt VERTICES_MAX n ≡ false
+  pub faces : nat_lt FACES_MAX (length fs) ≡ false
+  pub corners : no_vertex_from n 1 fs ≡ None
+  pub once : repeated_from 1 fs ≡ None
+  pub single : doubled_from 1 fs ≡ None
+
+pub no_fault_but_balance : (n : ℕ) (fs : Faces) → fault_but_balance n fs ≡ None → HaveNoFault n fs
+no_fault_but_balance n fs h =
+    let p1 = none_of (if nat_lt VERTICES_MAX n then Some (TooManyVertices n) else None) _ h in
+    let p2 = none_of (if nat_lt FACES_MAX (length fs) then Some (TooManyFaces (length fs)) else None) _ p1.1 in
+    let p3 = none_of (option_map (λ p. NoVertex p.0 p.1) (no_vertex_from n 1 fs)) _ p2.1 in
+    let p4 = none_of (option_map (λ face. Repeated face) (repeated_from 1 fs)) _ p3.1 in
+    record {
+      vertices = not_tested _ _ p1.0;
+      faces = not_tested _ _ p2.0;
+      corners = none_mapped _ _ p3.0;
+      once = none_mapped _ _ p4.0;
+      single = none_mapped _ _ p4.1;
+    }
+
 -- lists of good shape make a sound mesh
 pub sound-mesh_of : (ps : List Point) (fs : Faces) → shape_fault (length ps) fs ≡ None → IsSound (mesh_of ps fs)
 sound-mesh_of ps fs h =
-    let p0 = none_of (fault_but_balance (length ps) fs) _ h in
-    let p1 = none_of (if nat_lt VERTICES_MAX (length ps) then Some (TooManyVertices (length ps)) else None) _ p0.0 in
-    let p2 = none_of (if nat_lt FACES_MAX (length fs) then Some (TooManyFaces (length fs)) else None) _ p1.1 in
-    let p3 = none_of (option_map (λ p. NoVertex p.0 p.1) (no_vertex_from (length ps) 1 fs)) _ p2.1 in
-    let p4 = none_of (option_map (λ face. Repeated face) (repeated_from 1 fs)) _ p3.1 in
-    let points_few = few VERTICES_MAX (length ps) (not_tested _ _ p1.0) in
-    let faces_few = few FACES_MAX (length fs) (not_tested _ _ p2.0) in
-    let vertices = none_mapped _ _ p3.0 in
-    let once = none_mapped _ _ p4.0 in
-    let single = none_mapped _ _ p4.1 in
+    let none = no_fault_but_balance (length ps) fs (none_of (fault_but_balance (length ps) fs) _ h).0 in
+    let points_few = few VERTICES_MAX (length ps) none.vertices in
+    let faces_few = few FACES_MAX (length fs) none.faces in
     record {
       is_mesh = record {
         vertex_ids = λ v e. of_live ps v e;
         face_ids = λ f e. let ids = of_live (map corners_of fs) f e in omega (arith, ids, length-map fs corners_of);
-        live_corners = λ f c e.
-            let at = face_of ps fs f c e in
-            let live = all_vertices (length ps) (corners_of at.1) (no_bad_corner (length ps) 1 fs at.0 at.1 vertices at.3) in
-            subst (AreLive (mesh_of ps fs)) (sym at.4) (is_live ps (corners_of at.1).first live.0, is_live ps (corners_of at.1).second live.1, is_live ps (corners_of at.1).third live.2);
-        different_corners = λ f c e.
-            let at = face_of ps fs f c e in
-            subst AreDifferent (sym at.4) (different (corners_of at.1) (nowhere (λ l. repeats (corners_of l)) 1 fs at.0 at.1 once at.3));
-        different_faces = λ f g c d e e' same.
-            let at = face_of ps fs f c e in
-            let at' = face_of ps fs g d e' in
-            let equal : equal_up_to_rotation (corners_of at.1) (corners_of at'.1) ≡ true = subst (λ x. equal_up_to_rotation x (corners_of at'.1) ≡ true) at.4 (subst (λ x. equal_up_to_rotation c x ≡ true) at'.4 same) in
-            ⊎_elim (λ less. absurd (not_both equal (none_doubled 1 fs at.0 at'.0 at.1 at'.1 single less at.3 at'.3)))
-            (λ le. ⊎_elim (λ is. at.2 ∙ ap (λ i. i + 1) is ∙ sym at'.2)
-            (λ apart. absurd (not_both (equal_symmetric (corners_of at.1) (corners_of at'.1) equal) (none_doubled 1 fs at'.0 at.0 at'.1 at.1 single (omega arith) at'.3 at.3)))
-            (cases_eq at.0 at'.0))
-            (cases_lt at.0 at'.0);
+        live_corners = corners_live ps fs none.corners;
+        different_corners = corners_different ps fs none.once;
+        different_faces = faces_different ps fs none.single;
       };
       limits = record {
-        vertices = let n = len_numbered ps in omega arith;
-        faces = let n = len_numbered (map corners_of fs) in omega (arith, n, length-map fs corners_of);
+        vertices = few_vertices ps fs none.vertices;
+        faces = few_faces ps fs none.faces;
         vertex_ids = omega arith;
         face_ids = omega arith;
       };

@@ -9,7 +9,8 @@ use Rattle.std.specs.declared.cmp.Ordering.TheVariants.{Equal}
 use Rattle.std.specs.Cmp.{unsigned_tied}
 use Rattle.std.proofs.lemmas.Bool.{eqb-true}
 use Rattle.mesh_plain.specs.Balance.{side_count}
-use Rattle.mesh_plain.proofs.DoubledKeys.{tied_then, last_one}
+use Rattle.mesh_base.proofs.Tests.{tied_then}
+use Rattle.mesh_plain.proofs.DoubledKeys.{last_one}
 
 -- sides tie where both ends do
 tied_sides : (a b u v : ℕ) → is_eq (slice_cmp nat_cmp (a ∷ b ∷ []) (u ∷ v ∷ [])) ≡ (a == u && b == v)

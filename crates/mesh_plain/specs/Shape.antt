@@ -1,5 +1,5 @@
 -- What is wrong with lists of points and faces, and where first. Faces, corners and vertices are numbered from 1.
-use Rattle.std.specs.Prelude.{◌≡◌, ◌≤◌, ℕ, ◌+◌, ◌==◌, ◌&&◌, ◌||◌, ⊤, not, Bool, List, [], ◌∷◌, map, length, nat_lt, nat_le, if◌then◌else◌, count_by, find, IsTrue}
+use Rattle.std.specs.Prelude.{◌≡◌, ◌≢◌, ◌≤◌, ◌<◌, ℕ, ◌+◌, ◌==◌, ◌&&◌, ◌||◌, ⊤, not, Bool, List, [], ◌∷◌, map, length, nat_lt, nat_le, if◌then◌else◌, count_by, find, slice_get, IsTrue}
 use Rattle.std.specs.Option.{option_or, option_map}
 use Rattle.std.specs.List.{position_from, flat_map, range_with_len}
 use Rattle.std.proofs.Common.{Option, Some, None}
@@ -10,9 +10,9 @@ use Rattle.mesh_base.specs.declared.faults.ShapeFault.TheVariants.{TooManyVertic
 use Rattle.mesh_base.specs.declared.faults.ShapeRefusal.{ShapeRefusal}
 use Rattle.mesh_base.specs.declared.faults.ShapeRefusal.TheVariants.{NoMemory, Shape}
 use Rattle.std.specs.FinMap as finite
-use Rattle.mesh_base.specs.Mesh.{Mesh, HasCorners, AreLive, AreDifferent, equal_up_to_rotation}
-use Rattle.mesh_base.specs.Sides.{follows, IsClosed}
-use Rattle.mesh_base.specs.Changes.{corners_of}
+use Rattle.mesh_base.specs.Mesh.{Mesh, HasCorners, IsLiveVertex, AreLive, AreDifferent, equal_up_to_rotation}
+use Rattle.mesh_base.specs.Sides.{follows, runs, IsClosed}
+use Rattle.mesh_base.specs.Changes.{corners_of, corner_list}
 use Rattle.mesh_base.specs.Given.{Faces}
 
 -- whether there is a vertex of this number, among n
@@ -79,7 +79,30 @@ Denied (Repeated face) m = (f : ℕ) (c : Corners) → HasCorners m f c → AreD
 Denied (Doubled first second) m = (f g : ℕ) (c d : Corners) → HasCorners m f c → HasCorners m g d → IsTrue (equal_up_to_rotation c d) → f ≡ g
 Denied (Unbalanced from to) m = IsClosed m
 
--- a refusal that names a fault denies what does not hold
+-- which of these parts, in order
+abbrev pub part_of : ShapeFault → ℕ
+part_of (TooManyVertices count) = 1
+part_of (TooManyFaces count) = 2
+part_of (NoVertex face corner) = 3
+part_of (Repeated face) = 4
+part_of (Doubled first second) = 5
+part_of (Unbalanced from to) = 6
+
+-- what the fault names is at fault in the mesh
+abbrev pub IsAtFault : ShapeFault → Mesh → Type 0
+IsAtFault (TooManyVertices count) m = (count ≡ finite.len m.points) × (VERTICES_MAX < count)
+IsAtFault (TooManyFaces count) m = (count ≡ finite.len m.faces) × (FACES_MAX < count)
+IsAtFault (NoVertex face corner) m = (c : Corners) × (i : ℕ) × (v : ℕ) × HasCorners m face c × (corner ≡ i + 1) × (slice_get (corner_list c) i ≡ Some v) × ¬ (IsLiveVertex m v)
+IsAtFault (Repeated face) m = (c : Corners) × HasCorners m face c × ¬ (AreDifferent c)
+IsAtFault (Doubled first second) m = (c : Corners) × (d : Corners) × HasCorners m first c × HasCorners m second d × IsTrue (equal_up_to_rotation c d) × (first < second)
+IsAtFault (Unbalanced from to) m = runs m from to ≢ runs m to from
+
+-- a refusal that names a fault names what is at fault
 abbrev pub IsJust : Mesh → ShapeRefusal → Type 0
 IsJust m NoMemory = ⊤
-IsJust m (Shape f) = ¬ (Denied f m)
+IsJust m (Shape f) = IsAtFault f m
+
+-- a refusal that names a fault: the parts before the one that it denies hold
+abbrev pub EarlierHold : Mesh → ShapeRefusal → Type 0
+EarlierHold m NoMemory = ⊤
+EarlierHold m (Shape f) = (g : ShapeFault) → part_of g < part_of f → Denied g m

@@ -5,7 +5,7 @@ ghost use Rattle.mesh_base.specs.Sides.{IsClosed};
 ghost use Rattle.mesh_base.specs.Changes.{corners_of};
 ghost use Rattle.mesh_base.specs.Given.{mesh_of};
 ghost use Rattle.mesh_plain.specs.Turned.{key_of, doubled_by_key};
-ghost use Rattle.mesh_plain.specs.Shape.{bad_corner, no_vertex_from, repeats, repeated_from, fault_but_balance, shape_fault, IsRefusal, IsJust};
+ghost use Rattle.mesh_plain.specs.Shape.{bad_corner, no_vertex_from, repeats, repeated_from, fault_but_balance, shape_fault, IsRefusal, IsJust, EarlierHold};
 
 use crate::balance::first_unbalanced;
 use grid_base::{FACES_MAX, NoMemory, VERTICES_MAX};
@@ -21,9 +21,10 @@ pub fn shape(alloc: Global, lists: &MeshLists) -> Result<(), ShapeRefusal>
     ensures sound { IsOk result → IsSound (mesh_of lists.now.points lists.now.faces) }
     ensures closed { IsOk result → IsClosed (mesh_of lists.now.points lists.now.faces) }
 
-    // A fault: the first, and what it denies does not hold.
+    // A fault: the first. What it names is at fault, and the parts before the one that it denies hold.
     ensures first { IfErr result (IsRefusal (shape_fault (length lists.now.points) lists.now.faces)) }
     ensures just { IfErr result (IsJust (mesh_of lists.now.points lists.now.faces)) }
+    ensures earlier { IfErr result (EarlierHold (mesh_of lists.now.points lists.now.faces)) }
 {
     match fault_of(alloc, lists) {
         Ok(None) => Ok(()),

@@ -35,7 +35,7 @@ impl PlainMesh {
 }
 
 impl Surface for PlainMesh {
-    ghost use Rattle.std.specs.Prelude.{[], ◌∷◌, ◌++◌, length, IfOk, OnErr};
+    ghost use Rattle.std.specs.Prelude.{[], ◌∷◌, ◌++◌, length, take, IfOk, OnErr};
     ghost use Rattle.std.proofs.Common.{lit≤};
     ghost use Rattle.mesh_base.specs.Kept.{BeginsWith, MarkHolds, StandsFor};
 
@@ -152,7 +152,13 @@ impl Surface for PlainMesh {
         })
     }
 
-    fn back_to(&mut self, m: Mark) {
+    /// Leaves of the kept meshes those that the mark's `under` counts, and no more.
+    fn back_to(&mut self, m: Mark)
+        requires { MarkHolds 0 (⟦<PlainMesh as Surface>⟧.kept self.old) m }
+        ensures mesh { StandsFor (⟦<PlainMesh as Surface>⟧.kept self.old) m (⟦<PlainMesh as Surface>⟧.mesh self.new) }
+        ensures kept { ⟦<PlainMesh as Surface>⟧.kept self.new ≡ take m.under (⟦<PlainMesh as Surface>⟧.kept self.old) }
+        ensures marks { BeginsWith (⟦<PlainMesh as Surface>⟧.kept self.new) (take m.under (⟦<PlainMesh as Surface>⟧.kept self.old)) }
+    {
         self.before.truncate(m.place + 1);
         self.now = self.before.pop().unwrap();
         self.before.truncate(m.under);

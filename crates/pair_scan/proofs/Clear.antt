@@ -1,10 +1,10 @@
 -- No pair is found exactly where the mesh is clear.
 use Rattle.std.proofs.Common.{◌≡◌, ◌↔◌, Bool, true, false, cond, List, [], ◌∷◌, Option, Some, None, refl, sym, ap, subst, ◌∙◌}
 use Rattle.std.specs.Prelude.{IsNone, IfSome}
-use Rattle.std.specs.List.{find, AllByRecursion, Contains}
+use Rattle.std.specs.List.{find, AllByRecursion}
 use Rattle.std.specs.Option.{option_map}
 use Rattle.std.proofs.lemmas.Bool.{false≢true}
-use Rattle.std.proofs.lemmas.List.Elements.{All-from_recursion, recursion_from_All, All-contains_itself, All-contains}
+use Rattle.std.proofs.lemmas.List.Elements.{All-from_recursion, All-contains}
 use Rattle.grid_base.specs.Meeting.{MeetAt}
 use Rattle.grid_base.specs.declared.Positions.{Positions}
 use Rattle.grid_decided.specs.Decided.{meets_exactly, meets_exactly-is_exact}
@@ -12,7 +12,7 @@ use Rattle.mesh_base.specs.declared.ids.PairName.{PairName}
 use Rattle.mesh_base.specs.Mesh.{Mesh, IsSound}
 use Rattle.mesh_base.specs.Pairs.{Pair, IsPair, pairs}
 use Rattle.mesh_base.specs.Placements.{own_points, positions, IsClearMesh}
-use Rattle.mesh_base.proofs.ListedPairs.{pair_listed, all_weaker}
+use Rattle.mesh_base.proofs.ListedPairs.{pair_listed, listed_pairs, all_weaker}
 use Rattle.pair_scan.specs.Scan.{first_of, IsMeeting}
 
 module _ {X : Type 0} (p : X → Bool) where
@@ -41,9 +41,6 @@ nothing : {X Y : Type 0} (f : X → Y) (o : Option X) → option_map f o ≡ Non
 nothing f None e = refl
 nothing f (Some x) e = cc
 
-every_pair : (m : Mesh) → IsSound m → AllByRecursion (IsPair m) (pairs m)
-every_pair m sound = all_weaker (Contains (pairs m)) (IsPair m) (pairs m) (λ p h. (pair_listed m sound p).0 h) (recursion_from_All (Contains (pairs m)) (pairs m) (All-contains_itself (pairs m)))
-
 pub apart : (f : Positions) → ¬ (MeetAt f) → meets_exactly f ≡ false
 apart f never = by_test (meets_exactly f) refl
   where
@@ -61,12 +58,12 @@ none_is_clear m sound none p is meet =
     let off : met m p ≡ false = All-contains (λ q. met m q ≡ false) (pairs m) p (All-from_recursion (λ q. met m q ≡ false) (pairs m) all_off) ((pair_listed m sound p).1 is) in
     false≢true (sym off ∙ (meets_exactly-is_exact (positions (own_points m) p)).1 meet)
 
-clear_is_none : (m : Mesh) → IsSound m → IsClearMesh m → first_of m (pairs m) ≡ None
-clear_is_none m sound clear =
-    ap (option_map (λ q. q.name)) (found_none (met m) (pairs m) (all_weaker (IsPair m) (λ p. met m p ≡ false) (pairs m) (λ p is. apart (positions (own_points m) p) (clear p is)) (every_pair m sound)))
+clear_is_none : (m : Mesh) → IsClearMesh m → first_of m (pairs m) ≡ None
+clear_is_none m clear =
+    ap (option_map (λ q. q.name)) (found_none (met m) (pairs m) (all_weaker (IsPair m) (λ p. met m p ≡ false) (pairs m) (λ p is. apart (positions (own_points m) p) (clear p is)) (listed_pairs m)))
 
-some_meets : (m : Mesh) (n : PairName) → IsSound m → first_of m (pairs m) ≡ Some n → IsMeeting m n
-some_meets m n sound e = by_answer (find (met m) (pairs m)) refl e
+some_meets : (m : Mesh) (n : PairName) → first_of m (pairs m) ≡ Some n → IsMeeting m n
+some_meets m n e = by_answer (find (met m) (pairs m)) refl e
   where
     named : (p : Pair) → p.name ≡ n → met m p ≡ true → IsPair m p → IsMeeting m n
     named p same passes is = subst (λ k. IsMeeting m k) same (p.corners, is, (meets_exactly-is_exact (positions (own_points m) p)).0 passes)
@@ -75,14 +72,14 @@ some_meets m n sound e = by_answer (find (met m) (pairs m)) refl e
     by_answer None f e = cc
     by_answer (Some p) f e =
         let found = found_passes (met m) (pairs m) p f in
-        named p (cc) found.0 (found.1 (IsPair m) (every_pair m sound))
+        named p (cc) found.0 (found.1 (IsPair m) (listed_pairs m))
 
 -- nothing is answered exactly where the mesh is clear
 pub clear_exactly : (m : Mesh) (r : Option PairName) → IsSound m → r ≡ first_of m (pairs m) → IsNone r ↔ IsClearMesh m
 clear_exactly m None sound e = (λ _. none_is_clear m sound (sym e), λ _. refl)
-clear_exactly m (Some n) sound e = (λ h. absurd (false≢true (sym h)), λ clear. let other : Some n ≡ None = e ∙ clear_is_none m sound clear in cc)
+clear_exactly m (Some n) sound e = (λ h. absurd (false≢true (sym h)), λ clear. let other : Some n ≡ None = e ∙ clear_is_none m clear in cc)
 
 -- what is answered is a pair that meets
-pub answer_meets : (m : Mesh) (r : Option PairName) → IsSound m → r ≡ first_of m (pairs m) → IfSome r (IsMeeting m)
-answer_meets m None sound e = tt
-answer_meets m (Some n) sound e = some_meets m n sound (sym e)
+pub answer_meets : (m : Mesh) (r : Option PairName) → r ≡ first_of m (pairs m) → IfSome r (IsMeeting m)
+answer_meets m None e = tt
+answer_meets m (Some n) e = some_meets m n (sym e)

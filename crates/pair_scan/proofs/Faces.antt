@@ -1,12 +1,12 @@
 -- Faces that are looked up by their ids are the entries.
-use Rattle.std.proofs.Common.{◌≡◌, ℕ, Bool, true, List, [], ◌∷◌, ◌++◌, map, Option, Some, None, refl, ap, ◌∙◌}
-use Rattle.std.specs.List.{filter, flat_map, AllByRecursion}
+use Rattle.std.proofs.Common.{◌≡◌, ℕ, List, [], ◌∷◌, ◌++◌, map, Option, Some, None, refl, ap, ◌∙◌}
+use Rattle.std.specs.List.{flat_map, AllByRecursion}
 use Rattle.std.specs.Ordering.{nat_cmp}
 use Rattle.std.specs.FinMap as finite
 use Rattle.std.specs.FinMap.{FinMap, entries_sorted, get-entries}
 use Rattle.std.specs.FinMap.Entries.{find}
 use Rattle.mesh_base.proofs.Listed.{each_found}
-use Rattle.mesh_base.proofs.ListedPairs.{all_weaker, all_filtered}
+use Rattle.mesh_base.proofs.ListedPairs.{all_weaker}
 
 -- each entry is found at its key
 pub found_entries : {X : Type 0} (m : FinMap nat_cmp X) → AllByRecursion (λ e. finite.get m e.0 ≡ Some e.1) (finite.entries m)
@@ -23,12 +23,6 @@ made_of m f [] h = refl
 made_of m f (e ∷ es) h =
     ap (λ o. listed (λ x. f (e.0, x)) o ++ flat_map (λ k. listed (λ x. f (k, x)) (finite.get m k)) (map (λ x. x.0) es)) h.0
     ∙ ap (λ ys. f e ++ ys) (made_of m f es h.1)
-
--- what is made of the entries that pass, each looked up by its key
-pub made_where : {X Y : Type 0} (m : FinMap nat_cmp X) (f : ℕ × X → List Y) (test : ℕ × X → Bool)
-    → flat_map (λ k. listed (λ x. f (k, x)) (finite.get m k)) (map (λ e. e.0) (filter test (finite.entries m))) ≡ flat_map f (filter test (finite.entries m))
-made_where m f test = made_of m f (filter test (finite.entries m))
-    (all_filtered (λ e. finite.get m e.0 ≡ Some e.1) test (finite.entries m) (all_weaker (λ e. finite.get m e.0 ≡ Some e.1) (λ e. test e ≡ true → finite.get m e.0 ≡ Some e.1) (finite.entries m) (λ e h _. h) (found_entries m)))
 
 ones : {X Y : Type 0} (f : X → Y) (xs : List X) → flat_map (λ x. f x ∷ []) xs ≡ map f xs
 ones f [] = refl

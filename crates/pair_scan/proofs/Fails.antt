@@ -5,7 +5,6 @@ use Rattle.std.specs.FinMap as finite
 use Rattle.std.proofs.lemmas.Bool.{false≢true}
 use Rattle.std.proofs.lemmas.List.Elements.{All-from_recursion, All-contains}
 use Rattle.std.proofs.lemmas.List.Folds.{flat_map-map}
-use Rattle.cell_grid.proofs.Found.{both_ways}
 use Rattle.grid_base.specs.declared.Extent.{Extent}
 use Rattle.grid_base.specs.declared.Positions.{Positions}
 use Rattle.grid_base.specs.Extents.{overlaps}
@@ -22,6 +21,7 @@ use Rattle.mesh_base.specs.Placements.{positions, IsClearAlong}
 use Rattle.mesh_base.specs.Shifts.{Shifts, moved_by, end_in_box}
 use Rattle.mesh_base.specs.Sides.{has_corner}
 use Rattle.mesh_base.proofs.ListedPairs.{pair_listed}
+use Rattle.mesh_base.proofs.Tests.{both_ways}
 use Rattle.pair_scan.specs.declared.moving.MovingEdge.{MovingEdge}
 use Rattle.pair_scan.specs.declared.moving.MovingFace.{MovingFace}
 use Rattle.pair_scan.specs.Failed.{starts, ends, failed, failing_of}

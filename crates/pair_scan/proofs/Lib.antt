@@ -11,3 +11,4 @@ pub mod Ways
 pub mod Widened
 pub mod Kept
 pub mod Fails
+pub mod InOrder

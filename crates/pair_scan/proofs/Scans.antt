@@ -15,14 +15,10 @@ use Rattle.mesh_base.specs.Changes.{corner_list, corners_of}
 use Rattle.mesh_base.specs.Sides.{has_corner}
 use Rattle.mesh_base.specs.Pairs.{Pair, pairs_of}
 use Rattle.mesh_base.specs.Placements.{own_points, position_or_origin, positions}
+use Rattle.mesh_base.proofs.Tests.{both_ways}
 use Rattle.pair_scan.specs.Placed.{placed_at, placed, placed_faces, placed_edge}
 use Rattle.pair_scan.specs.Scan.{meets_face, name_with, first_of}
 use Rattle.pair_scan.proofs.Lists.{find-map, find-filter, find-alike, option_map-option_map}
-
-both_ways : (a b : Bool) → (a ≡ true → b ≡ true) → (b ≡ true → a ≡ true) → a ≡ b
-both_ways true b f g = sym (f refl)
-both_ways false true f g = g refl
-both_ways false false f g = refl
 
 -- a test that is true exactly where they meet is the exact test
 pub is_exact : (b : Bool) (f : Positions) → (IsTrue b ↔ MeetAt f) → b ≡ meets_exactly f

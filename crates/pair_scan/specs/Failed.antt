@@ -1,15 +1,19 @@
 -- A test of an edge that moves against faces that move.
-use Rattle.std.specs.Prelude.{ℕ, Bool, cond, ◌||◌, ◌&&◌, not, List, map}
-use Rattle.std.specs.List.{filter}
+use Rattle.std.specs.Prelude.{ℕ, Bool, cond, ◌↔◌, ◌||◌, ◌&&◌, not, List, map}
+use Rattle.std.specs.List.{filter, Contains}
+use Rattle.std.specs.List.Sorted.{IsStrictlySortedBy}
 use Rattle.std.proofs.Common.{Option, Some, None}
 use Rattle.grid_base.specs.Points.{position_of}
 use Rattle.grid_base.specs.declared.Positions.{Positions}
+use Rattle.grid_base.specs.Separation.{Passes}
 use Rattle.grid_base.specs.SeparationTests.{passes}
 use Rattle.grid_decided.specs.Decided.{meets_exactly}
 use Rattle.mesh_base.specs.declared.ids.PairName.{PairName}
 use Rattle.mesh_base.specs.Failing.{pair_passes}
+use Rattle.mesh_base.specs.declared.ids.Corners.{Corners}
 use Rattle.mesh_base.specs.Mesh.{Mesh}
-use Rattle.mesh_base.specs.Pairs.{Pair}
+use Rattle.mesh_base.specs.Placements.{Motion, positions}
+use Rattle.mesh_base.specs.Pairs.{Pair, IsPair, name_cmp}
 use Rattle.mesh_base.specs.Shifts.{Shifts, moved_by}
 use Rattle.mesh_base.specs.Sides.{has_corner}
 use Rattle.pair_scan.specs.declared.moving.MovingEdge.{MovingEdge}
@@ -40,3 +44,16 @@ failed depth e f = one_or_none (failed_with depth e f)
 -- the names of those of these pairs that do not pass
 abbrev pub failing_of : Mesh → Shifts → ℕ → List Pair → List PairName
 failing_of m by depth ps = map (λ p. p.name) (filter (λ p. not (pair_passes meets_exactly depth (moved_by m by) p)) ps)
+
+-- the pair does not pass in the motion
+abbrev pub DoesNotPass : ℕ → Motion → Pair → Type 0
+DoesNotPass depth w p = ¬ (Passes depth (positions w.start p) (positions w.end p))
+
+-- the name is that of a pair of the mesh, and the pair does not pass
+abbrev pub IsFailing : Mesh → Shifts → ℕ → PairName → Type 0
+IsFailing m by depth n = (c : Corners) × IsPair m (record { name = n; corners = c }) × DoesNotPass depth (moved_by m by) (record { name = n; corners = c })
+
+-- the list has the name of each pair that does not pass, once, and no other, in order
+pub record AreFailing (m : Mesh) (by : Shifts) (depth : ℕ) (names : List PairName) : Type 0 where
+  pub each : (n : PairName) → Contains names n ↔ IsFailing m by depth n
+  pub rising : IsStrictlySortedBy name_cmp names

@@ -1,7 +1,8 @@
 -- A test of an edge against faces.
-use Rattle.std.specs.Prelude.{ℕ, Bool, cond, ◌||◌, ◌&&◌, not, List, [], ◌∷◌}
+use Rattle.std.specs.Prelude.{◌≡◌, ℕ, Bool, cond, ◌||◌, ◌&&◌, not, List, [], ◌∷◌}
 use Rattle.std.specs.List.{find}
 use Rattle.std.specs.Option.{option_map, option_or}
+use Rattle.std.specs.declared.cmp.Ordering.TheVariants.{Less}
 use Rattle.std.proofs.Common.{Option, Some, None}
 use Rattle.grid_base.specs.Points.{position_of}
 use Rattle.grid_decided.specs.Decided.{meets_exactly}
@@ -9,7 +10,7 @@ use Rattle.mesh_base.specs.declared.ids.PairName.{PairName}
 use Rattle.mesh_base.specs.Mesh.{Mesh}
 use Rattle.mesh_base.specs.Sides.{has_corner}
 use Rattle.mesh_base.specs.declared.ids.Corners.{Corners}
-use Rattle.mesh_base.specs.Pairs.{Pair, IsPair}
+use Rattle.mesh_base.specs.Pairs.{Pair, IsPair, name_cmp}
 use Rattle.grid_base.specs.Meeting.{MeetAt}
 use Rattle.mesh_base.specs.Placements.{own_points, positions}
 use Rattle.pair_scan.specs.declared.placed.PlacedFace.{PlacedFace}
@@ -47,3 +48,7 @@ first_of m ps = option_map (λ p. p.name) (find (λ p. meets_exactly (positions 
 -- the name is that of a pair of the mesh, and the pair meets
 abbrev pub IsMeeting : Mesh → PairName → Type 0
 IsMeeting m n = (c : Corners) × IsPair m (record { name = n; corners = c }) × MeetAt (positions (own_points m) (record { name = n; corners = c }))
+
+-- no pair that meets comes before this name
+abbrev pub NoneMeetsBefore : Mesh → PairName → Type 0
+NoneMeetsBefore m n = (o : PairName) → IsMeeting m o → ¬ (name_cmp o n ≡ Less)

@@ -8,7 +8,7 @@ ghost use Rattle.mesh_base.specs.Shifts.{NameLive, end_in_box, moved_by};
 ghost use Rattle.mesh_base.specs.Failing.{failing};
 ghost use Rattle.pair_scan.specs.Boxes.{AreBoxes};
 ghost use Rattle.pair_scan.specs.Swept.{HoldsMovingFace};
-ghost use Rattle.pair_scan.specs.Failed.{starts, ends, fails_with, failed_with, failed};
+ghost use Rattle.pair_scan.specs.Failed.{starts, ends, fails_with, failed_with, failed, AreFailing};
 ghost use Rattle.motion_test.specs.Pairs.{positions_of};
 
 use crate::filed::boxes_of;
@@ -137,6 +137,8 @@ pub fn failing<S: Surface>(
     requires in_box { IsTrue (end_in_box (S.mesh mesh.now) by.now) }
     requires depth { depth ≤ DEPTH_MAX }
     ensures failing { IfOk result (λ pairs. pairs ≡ failing meets_exactly (S.mesh mesh.now) by.now depth) }
+    // Each pair that does not pass, and no other, in order.
+    ensures all { IfOk result (AreFailing (S.mesh mesh.now) by.now depth) }
     // None fails: no pair meets on the way.
     ensures clear { IfOk result (λ pairs. pairs ≡ [] → IsClearAlong (S.mesh mesh.now) (moved_by (S.mesh mesh.now) by.now)) }
 {

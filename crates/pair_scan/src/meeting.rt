@@ -6,7 +6,7 @@ ghost use Rattle.mesh_base.specs.Placements.{own_points, IsClearMesh};
 ghost use Rattle.mesh_base.specs.Failing.{first_meeting};
 ghost use Rattle.pair_scan.specs.Placed.{placed_faces};
 ghost use Rattle.pair_scan.specs.Boxes.{HoldsFace, AreBoxes};
-ghost use Rattle.pair_scan.specs.Scan.{meets_face, met_with, first_some, first_of, IsMeeting};
+ghost use Rattle.pair_scan.specs.Scan.{meets_face, met_with, first_some, first_of, IsMeeting, NoneMeetsBefore};
 
 use crate::boxes::box_of_edge;
 use crate::filed::boxes_of;
@@ -86,9 +86,10 @@ fn first_of_edge<S: Surface>(
 /// where the mesh is clear. Refuses only where there is no memory.
 pub fn first_meeting<S: Surface>(alloc: Global, mesh: &S) -> Result<Option<PairName>, NoMemory>
     ensures first { IfOk result (λ r. r ≡ first_meeting meets_exactly (S.mesh mesh.now) (own_points (S.mesh mesh.now))) }
-    // None: no pair meets. Some: a pair that meets.
+    // None: no pair meets. Some: a pair that meets, and none that meets comes before it.
     ensures clear { IfOk result (λ r. IsNone r ↔ IsClearMesh (S.mesh mesh.now)) }
     ensures meets { IfOk result (λ r. IfSome r (IsMeeting (S.mesh mesh.now))) }
+    ensures least { IfOk result (λ r. IfSome r (NoneMeetsBefore (S.mesh mesh.now))) }
 {
     let faces = placed_faces(alloc, mesh)?;
     let boxes = boxes_of(alloc, faces.as_slice())?;

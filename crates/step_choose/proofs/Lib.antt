@@ -3,3 +3,4 @@ pub mod Shortened
 pub mod Taken
 pub mod Listing
 pub mod Searching
+pub mod FirstWay

@@ -1,28 +1,22 @@
 -- Shifts that are halved, or taken back, name the same vertices and end in the box.
-use Rattle.std.proofs.Common.{◌≡◌, ℕ, ◌==◌, ◌^◌, ◌/◌, ◌≤◌, Bool, true, false, cond, ◌&&◌, List, [], ◌∷◌, map, Option, Some, None, ℤ, pos, negsuc, neg_ℤ, ◌+ℤ◌, unsigned_abs, int_div, suc, refl, sym, ap, ◌∙◌, subst, arith, div-le_self}
+use Rattle.std.proofs.Common.{◌≡◌, ℕ, ◌==◌, ◌^◌, ◌/◌, ◌≤◌, Bool, true, false, cond, ◌&&◌, [], ◌∷◌, map, Some, ℤ, pos, negsuc, neg_ℤ, ◌+ℤ◌, unsigned_abs, suc, refl, ap, ◌∙◌, arith, div-le_self}
 use Rattle.std.specs.Option.{option_map, unwrap_or}
 use Rattle.std.specs.List.{find}
 use Rattle.std.specs.FinMap as finite
 use Rattle.std.proofs.lemmas.Int.{ints}
 use Rattle.grid_base.specs.declared.TheConstants.{BOX, SHIFT_MAX}
-use Rattle.grid_base.specs.declared.Point.{Point}
-use Rattle.grid_base.specs.declared.Shift.{Shift}
 use Rattle.grid_base.specs.Components.{toward_zero}
-use Rattle.grid_base.specs.Triples.{Triple, plus, halved_of, IsWithin}
-use Rattle.grid_base.specs.Points.{displacement_of, position_of, is_within, shift_by}
+use Rattle.grid_base.specs.Triples.{plus, halved_of}
+use Rattle.grid_base.specs.Points.{displacement_of, is_within}
 use Rattle.grid_base.proofs.PointLaws.{displacement_of-shift_by, within_of, of_within}
 use Rattle.mesh_base.specs.declared.ShiftOf.{ShiftOf}
 use Rattle.mesh_base.specs.Mesh.{Mesh}
-use Rattle.mesh_base.specs.Placements.{origin, own_points, position_or_origin}
-use Rattle.mesh_base.specs.Shifts.{Shifts, NameLive, shift_at, end_in_box}
-use Rattle.mesh_base.proofs.Moves.{both_true, plus-origin}
+use Rattle.mesh_base.specs.Placements.{origin, own_points}
+use Rattle.mesh_base.specs.Shifts.{Shifts, shift_at, end_in_box}
+use Rattle.mesh_base.proofs.Moves.{both_true, plus-origin, own_within}
 use Rattle.step_choose.specs.Choice.{halved_shift, halved_times, at_rest, all_at_rest}
 
 -- ---- between a number and its sum with another
--- a quotient toward zero lies between zero and the dividend
-record Between (a q : ℤ) : Type 0 where
-  small : unsigned_abs q ≤ unsigned_abs a
-
 by_natural : (p : ℤ) (a q most : ℕ) → q ≤ a → unsigned_abs p ≤ most → unsigned_abs (p +ℤ pos a) ≤ most → unsigned_abs (p +ℤ pos q) ≤ most
 by_natural p a q most h i j = omega (arith, ints)
 
@@ -33,9 +27,6 @@ by_negative p a q most h i j = omega (arith, ints)
 pub part_way : (p a : ℤ) (m most : ℕ) → unsigned_abs p ≤ most → unsigned_abs (p +ℤ a) ≤ most → unsigned_abs (p +ℤ toward_zero a m) ≤ most
 part_way p (pos a) m most i j = by_natural p a (a / 2 ^ m) most (div-le_self a (2 ^ m)) i j
 part_way p (negsuc a) m most i j = by_negative p a (suc a / 2 ^ m) most (div-le_self (suc a) (2 ^ m)) i j
-
-no_more : (a q : ℕ) → q ≤ a → unsigned_abs (pos q) ≤ unsigned_abs (pos a)
-no_more a q h = h
 
 abs_negative : (q most : ℕ) → q ≤ most → unsigned_abs (neg_ℤ (pos q)) ≤ most
 abs_negative q most h = omega (arith, ints)
@@ -51,14 +42,6 @@ halved_displacement m s = displacement_of-shift_by (halved_of m (displacement_of
   y_fits = smaller s.by.y m SHIFT_MAX s.by.in_range.y_fits;
   z_fits = smaller s.by.z m SHIFT_MAX s.by.in_range.z_fits;
 })
-
--- ---- a vertex stands in the box
-own_within : (m : Mesh) (v : ℕ) → IsWithin BOX (own_points m v)
-own_within m v = by_point (finite.get m.points v)
-  where
-    by_point : (o : Option Point) → IsWithin BOX (position_or_origin o)
-    by_point (Some p) = record { x_fits = p.in_box.x_fits; y_fits = p.in_box.y_fits; z_fits = p.in_box.z_fits }
-    by_point None = record { x_fits = omega arith; y_fits = omega arith; z_fits = omega arith }
 
 -- ---- all of them
 pub names_halved : (n : ℕ) (shifts : Shifts) → map (λ s. s.v) (halved_times n shifts) ≡ map (λ s. s.v) shifts

@@ -1,16 +1,16 @@
 -- The way that is taken keeps a clear mesh clear at every fraction.
-use Rattle.std.proofs.Common.{◌≡◌, ℕ, ◌+◌, suc, zero, Bool, true, false, cond, List, [], ◌∷◌, map, Option, Some, None, refl, sym, ap, ◌∙◌}
+use Rattle.std.proofs.Common.{◌≡◌, ℕ, Bool, true, false, cond, Option, Some, None, refl, ◌∙◌}
 use Rattle.std.specs.Option.{option_or, option_map, unwrap_or}
 use Rattle.std.specs.List.{find, range_with_len}
-use Rattle.std.proofs.lemmas.Bool.{false≢true}
 use Rattle.grid_decided.specs.Decided.{meets_exactly}
-use Rattle.mesh_base.specs.declared.How.TheVariants.{Whole, Halved, Zero}
+use Rattle.mesh_base.specs.declared.How.TheVariants.{Whole, Zero}
 use Rattle.mesh_base.specs.Mesh.{Mesh, IsSound}
 use Rattle.mesh_base.specs.Placements.{origin, IsClearMesh, IsClearAlong}
 use Rattle.mesh_base.specs.Shifts.{Shifts, NameLive, end_in_box, moved_by}
+use Rattle.mesh_base.proofs.ListLaws.{found_passes}
 use Rattle.mesh_base.proofs.Moves.{translation_clear_along}
 use Rattle.step_choose.specs.declared.settings.Settings.{Settings}
-use Rattle.step_choose.specs.Choice.{Way, way, halving, halved_times, all_at_rest, all_pass, whole_way, halved_way, way_taken}
+use Rattle.step_choose.specs.Choice.{Way, way, halving, halved_times, all_at_rest, all_pass, halved_way, way_taken}
 use Rattle.step_choose.proofs.Passing.{all_pass_is_clear}
 use Rattle.step_choose.proofs.Shortened.{names_halved, ends_halved, names_at_rest, ends_at_rest, shift_at_rest}
 
@@ -37,15 +37,6 @@ module _ (m : Mesh) (asked : Shifts) (sound : IsSound m) (named : NameLive m ask
     ends = ends_at_rest m asked;
     clear = translation_clear_along m (all_at_rest asked) origin sound clear (λ v live. shift_at_rest asked v);
   }
-
--- what is found passes
-found_passes : {X : Type 0} (test : X → Bool) (xs : List X) (x : X) → find test xs ≡ Some x → test x ≡ true
-found_passes test [] x e = cc
-found_passes {X} test (y ∷ xs) x e = by_test (found_passes test xs x) (test y) refl e
-  where
-    by_test : (find test xs ≡ Some x → test x ≡ true) → (b : Bool) → test y ≡ b → cond b (Some y) (find test xs) ≡ Some x → test x ≡ true
-    by_test rest true t e = let same : y ≡ x = cc in ap test (sym same) ∙ t
-    by_test rest false t e = rest e
 
 pub taken_well : (m : Mesh) (asked : Shifts) (set : Settings) → IsSound m → IsClearMesh m → NameLive m asked → end_in_box m asked ≡ true → GoesWell m (way_taken meets_exactly m asked set).taken
 taken_well m asked set sound clear named ends = by_whole (all_pass meets_exactly m asked set.depth) refl

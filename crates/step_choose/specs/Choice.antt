@@ -1,15 +1,14 @@
 -- Which step is taken: the first way that applies. `meets` is a test that tells whether five positions meet.
-use Rattle.std.specs.Prelude.{ℕ, ◌==◌, Bool, List, map, length, if◌then◌else◌}
+use Rattle.std.specs.Prelude.{◌≡◌, ℕ, ◌+◌, ◌<◌, ◌≤◌, ◌==◌, Bool, [], map, length, if◌then◌else◌}
 use Rattle.std.specs.Option.{option_or, option_map, unwrap_or}
 use Rattle.std.specs.List.{find, range_with_len}
 use Rattle.std.proofs.Common.{Option, Some, None}
 use Rattle.grid_base.specs.declared.Positions.{Positions}
 use Rattle.grid_base.specs.Triples.{halved_of}
 use Rattle.grid_base.specs.Points.{displacement_of, no_shift}
-use Rattle.mesh_base.specs.declared.PairName.{PairName}
 use Rattle.mesh_base.specs.declared.ShiftOf.{ShiftOf}
 use Rattle.mesh_base.specs.declared.How.{How}
-use Rattle.mesh_base.specs.declared.How.TheVariants.{Whole, Halved, Zero}
+use Rattle.mesh_base.specs.declared.How.TheVariants.{Whole, Impulse, Zones, Halved, Zero}
 use Rattle.mesh_base.specs.Mesh.{Mesh}
 use Rattle.mesh_base.specs.Shifts.{Shifts, with_shift}
 use Rattle.mesh_base.specs.Failing.{failing}
@@ -60,3 +59,23 @@ way_taken meets m asked set =
     unwrap_or
     (option_or (whole_way meets m asked set.depth) (halved_way meets m asked set.depth set.halvings))
     (way Zero (all_at_rest asked))
+
+-- ---- the same, as what holds of the way taken
+-- all pairs pass
+abbrev pub NoneFails : (Positions → Bool) → Mesh → ℕ → Shifts → Type 0
+NoneFails meets m depth shifts = failing meets m shifts depth ≡ []
+
+-- some pair fails with each number of halvings from 1 to below n
+abbrev pub EachFailsBelow : (Positions → Bool) → Mesh → ℕ → Shifts → ℕ → Type 0
+EachFailsBelow meets m depth asked n = (k : ℕ) → 1 ≤ k → k < n → ¬ (NoneFails meets m depth (halved_times k asked))
+
+-- the step is taken by the first way that applies
+abbrev pub IsFirstWay : (Positions → Bool) → Mesh → Shifts → Settings → How → Shifts → Type 0
+IsFirstWay meets m asked set Whole taken = (taken ≡ asked) × NoneFails meets m set.depth asked
+IsFirstWay meets m asked set (Halved n) taken =
+    (taken ≡ halved_times n asked) × NoneFails meets m set.depth taken
+    × ¬ (NoneFails meets m set.depth asked) × EachFailsBelow meets m set.depth asked n × (1 ≤ n) × (n ≤ set.halvings)
+IsFirstWay meets m asked set Zero taken =
+    (taken ≡ all_at_rest asked) × ¬ (NoneFails meets m set.depth asked) × EachFailsBelow meets m set.depth asked (set.halvings + 1)
+IsFirstWay meets m asked set (Impulse passes) taken = ⊥
+IsFirstWay meets m asked set (Zones rounds) taken = ⊥

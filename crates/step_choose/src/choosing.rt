@@ -4,7 +4,7 @@ ghost use Rattle.mesh_base.specs.Failing.{failing};
 ghost use Rattle.mesh_base.specs.Placements.{IsClearMesh, IsClearAlong};
 ghost use Rattle.mesh_base.specs.Shifts.{NameLive, end_in_box, moved_by};
 ghost use Rattle.step_choose.specs.Settings.{AreWithinLimits};
-ghost use Rattle.step_choose.specs.Choice.{way_taken};
+ghost use Rattle.step_choose.specs.Choice.{way_taken, IsFirstWay};
 ghost use Rattle.step_choose.specs.Chosen.{way_of};
 
 use crate::halving::{all_at_rest, fewest_halvings};
@@ -91,6 +91,9 @@ pub fn choose<S: Surface>(
     requires limits { AreWithinLimits set }
     ensures hits { IfOk result (λ c. c.hits ≡ failing meets_exactly (S.mesh mesh.now) asked.now set.depth) }
     ensures way { IfOk result (λ c. way_of c ≡ way_taken meets_exactly (S.mesh mesh.now) asked.now set) }
+    ensures first { IfOk result (λ c. IsFirstWay meets_exactly (S.mesh mesh.now) asked.now set c.how c.taken) }
+
+    // The shifts taken name the live vertices, end in the box, and keep the mesh clear at every fraction.
     ensures clear_along { IfOk result (λ c. IsClearAlong (S.mesh mesh.now) (moved_by (S.mesh mesh.now) c.taken)) }
     ensures names { IfOk result (λ c. NameLive (S.mesh mesh.now) c.taken) }
     ensures ends { IfOk result (λ c. IsTrue (end_in_box (S.mesh mesh.now) c.taken)) }

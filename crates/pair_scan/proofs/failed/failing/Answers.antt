@@ -1,11 +1,12 @@
-use Rattle.std.proofs.Common.{◌≡◌, ℕ, List, Some, ◌++◌, ap, sym, ◌∙◌}
+use Rattle.std.proofs.Common.{◌≡◌, ℕ, List, Some, ◌++◌, ap, sym, subst, ◌∙◌}
 use Rattle.std.specs.List.{flat_map}
 use Rattle.mesh_base.specs.declared.ids.PairName.{PairName}
 use Rattle.mesh_base.specs.Pairs.{edges, pairs_of}
-use Rattle.pair_scan.specs.Failed.{failed, failing_of}
+use Rattle.pair_scan.specs.Failed.{failed, failing_of, AreFailing}
 use Rattle.pair_scan.specs.Moving.{moving_edge, moving_faces}
 use Rattle.pair_scan.proofs.Lists.{made_all, made_more}
 use Rattle.pair_scan.proofs.Fails.{of_edge, by_edges, clear_along}
+use Rattle.pair_scan.proofs.InOrder.{are_failing}
 use Rattle.pair_scan.proofs.failed.failing.Goals as goal
 
 pub loop-a-preserved : goal.loop-a-preserved
@@ -33,6 +34,11 @@ returns-clause-failing g c =
     let one : ℕ × ℕ → List PairName = λ e. failing_of m c.args.by.now c.args.depth (pairs_of m e) in
     let all : items ≡ edges m = c.as_slice-a-items.ensures ∙ c.in_ok-edges.ensures in
     sym (made_all one items c.loop-a.a-index c.loop-a.found c.loop-a-test.false) ∙ c.loop-a.invariant ∙ ap (flat_map one) all ∙ by_edges m c.args.by.now c.args.depth
+
+pub returns-clause-all : goal.returns-clause-all
+returns-clause-all g c =
+    let m = g.S.Surface.mesh c.args.mesh.now in
+    subst (AreFailing m c.args.by.now c.args.depth) (sym (returns-clause-failing g c)) (are_failing m c.args.by.now c.args.depth (g.met.S.Surface.sound c.args.mesh.now))
 
 pub returns-clause-clear : goal.returns-clause-clear
 returns-clause-clear g c = λ none. clear_along (g.S.Surface.mesh c.args.mesh.now) c.args.by.now c.args.depth (g.met.S.Surface.sound c.args.mesh.now) (sym (returns-clause-failing g c) ∙ none)

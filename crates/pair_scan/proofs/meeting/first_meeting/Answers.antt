@@ -7,6 +7,7 @@ use Rattle.mesh_base.specs.Placements.{own_points, positions}
 use Rattle.pair_scan.specs.Scan.{first_of}
 use Rattle.pair_scan.proofs.Lists.{first_behind, first_here, first_ended}
 use Rattle.pair_scan.proofs.Clear.{clear_exactly, answer_meets}
+use Rattle.pair_scan.proofs.InOrder.{answer_is_first}
 use Rattle.pair_scan.proofs.meeting.first_meeting.Goals as goal
 
 pub loop-a-preserved : goal.loop-a-preserved
@@ -34,7 +35,10 @@ pub returns-in-Some-clause-clear : goal.returns-in-Some-clause-clear
 returns-in-Some-clause-clear g c = clear_exactly (g.S.Surface.mesh c.args.mesh.now) (Some c.in-Some.found) (g.met.S.Surface.sound c.args.mesh.now) (returns-in-Some-clause-first g c)
 
 pub returns-in-Some-clause-meets : goal.returns-in-Some-clause-meets
-returns-in-Some-clause-meets g c = answer_meets (g.S.Surface.mesh c.args.mesh.now) (Some c.in-Some.found) (g.met.S.Surface.sound c.args.mesh.now) (returns-in-Some-clause-first g c)
+returns-in-Some-clause-meets g c = answer_meets (g.S.Surface.mesh c.args.mesh.now) (Some c.in-Some.found) (returns-in-Some-clause-first g c)
+
+pub returns-in-Some-clause-least : goal.returns-in-Some-clause-least
+returns-in-Some-clause-least g c = answer_is_first (g.S.Surface.mesh c.args.mesh.now) (Some c.in-Some.found) (g.met.S.Surface.sound c.args.mesh.now) (returns-in-Some-clause-first g c)
 
 pub returns-clause-first : goal.returns-clause-first
 returns-clause-first g c =

@@ -1,10 +1,10 @@
-use Rattle.std.proofs.Common.{◌≡◌, ap, sym, subst, ◌∙◌}
+use Rattle.std.proofs.Common.{ap, sym, subst, ◌∙◌}
 use Rattle.grid_decided.specs.Decided.{meets_exactly}
 use Rattle.mesh_base.specs.Placements.{IsClearAlong}
-use Rattle.mesh_base.specs.Shifts.{Shifts, NameLive, end_in_box, moved_by}
-use Rattle.step_choose.specs.Choice.{Way, way_taken}
-use Rattle.step_choose.specs.Chosen.{way_of}
-use Rattle.step_choose.proofs.Taken.{GoesWell, taken_well}
+use Rattle.mesh_base.specs.Shifts.{NameLive, end_in_box, moved_by}
+use Rattle.step_choose.specs.Choice.{Way, IsFirstWay}
+use Rattle.step_choose.proofs.FirstWay.{taken_first}
+use Rattle.step_choose.proofs.Taken.{taken_well}
 use Rattle.step_choose.proofs.choosing.choose.Goals as goal
 
 pub returns-clause-clear_along : goal.returns-clause-clear_along
@@ -23,3 +23,9 @@ pub returns-clause-ends : goal.returns-clause-ends
 returns-clause-ends g c =
     let m = g.S.Surface.mesh c.args.mesh.now in
     ap (λ (w : Way). end_in_box m w.taken) c.in_ok-choice.ensures.way ∙ (taken_well m c.args.asked.now c.args.set (g.met.S.Surface.sound c.args.mesh.now) c.requires.clear c.requires.named c.requires.in_box).ends
+
+pub returns-clause-first : goal.returns-clause-first
+returns-clause-first g c =
+    let m = g.S.Surface.mesh c.args.mesh.now in
+    let P : Way → Type 0 = λ w. IsFirstWay meets_exactly m c.args.asked.now c.args.set w.how w.taken in
+    subst P (sym c.in_ok-choice.ensures.way) (taken_first m c.args.asked.now c.args.set)

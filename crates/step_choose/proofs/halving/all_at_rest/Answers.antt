@@ -1,5 +1,6 @@
 use Rattle.step_choose.specs.Choice.{at_rest}
-use Rattle.step_choose.proofs.Listing.{mapped_more, still}
+use Rattle.mesh_base.proofs.ListLaws.{mapped_more}
+use Rattle.step_choose.proofs.Listing.{still}
 use Rattle.step_choose.proofs.halving.all_at_rest.Goals as goal
 
 pub loop-s-preserved : goal.loop-s-preserved

@@ -1,5 +1,6 @@
 use Rattle.step_choose.specs.Choice.{halved_shift}
-use Rattle.step_choose.proofs.Listing.{mapped_more, halved_as}
+use Rattle.mesh_base.proofs.ListLaws.{mapped_more}
+use Rattle.step_choose.proofs.Listing.{halved_as}
 use Rattle.step_choose.proofs.halving.halved_times.Goals as goal
 
 pub loop-s-preserved : goal.loop-s-preserved
