@@ -1,3 +1,4 @@
+pub mod ByParts
 pub mod Digits
 pub mod LineCuts
 pub mod WordCuts

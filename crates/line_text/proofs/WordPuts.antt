@@ -16,7 +16,8 @@ more_words : (word : List ℕ) (words : List (List ℕ)) → 0 < length words �
 more_words word [] h = absurd (omega arith)
 more_words word (next ∷ words) h = refl
 
-kept_more : (start text more : List ℕ) → Keeps start text → Keeps start (text ++ more)
+-- what stood in front still does when more is written
+pub kept_more : (start text more : List ℕ) → Keeps start text → Keeps start (text ++ more)
 kept_more start text more h = let le : length start ≤ length text = omega (arith, length-take (length start) text, ap length h) in take-append-le (length start) text more le ∙ h
 
 module _ (start : List ℕ) (fields : List Field) (i : ℕ) (text : List ℕ) (d : Field) (lt : i < length fields) (h : Put start fields i text) where

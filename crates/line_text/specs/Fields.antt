@@ -36,6 +36,7 @@ abbrev pub text_why : NumberWhy → TextWhy
 text_why number.Form = Number
 text_why number.Range = Range
 
+-- a coordinate, or the reason of a text
 abbrev pub coordinate_or_why : Result ℤ NumberWhy → Result ℤ TextWhy
 coordinate_or_why (Ok n) = Ok n
 coordinate_or_why (Err why) = Err (text_why why)

@@ -15,6 +15,7 @@ spaced_words line = slice_split (λ b. b == 32) line
 abbrev pub spelled_number : List ℕ → Option ℕ
 spelled_number word = if begins_with 48 word && nat_lt 1 (length word) then None else number_within DIGITS_MAX word
 
+-- what stands behind '-', if it is a number other than 0
 abbrev pub negated_size : Option ℕ → Option (Bool × ℕ)
 negated_size None = None
 negated_size (Some n) = if n == 0 then None else Some (true, n)

@@ -36,15 +36,19 @@ pub enum TextWhy {
 #[derive(Clone, Copy, Debug, PartialEq, Eq, Error)]
 #[error("line {line}: {why}")]
 pub struct TextFault {
+    /// The line, from 1.
     pub line: u32,
+    /// Its reason.
     pub why: TextWhy,
 }
 
 /// Why a text was not read: there was no memory (1), or a line is outside the grammar (2).
 #[derive(Clone, Copy, Debug, PartialEq, Eq, Error)]
 pub enum ReadFault {
+    /// There was no memory for what was read.
     #[error("out of memory")]
     NoMemory,
+    /// The first line outside the grammar.
     #[error(transparent)]
     Text(TextFault),
 }

@@ -2,6 +2,7 @@
 #![tactic(auto)]
 
 mod blank_words;
+mod components;
 mod cut;
 mod fault;
 mod fixed_text;
@@ -17,6 +18,7 @@ mod tests;
 mod text_lines;
 
 pub use blank_words::Words;
+pub use components::{point_with, shift_with};
 pub use cut::words;
 pub use fault::{ReadFault, TextFault, TextWhy};
 pub use fixed_text::fixed;
@@ -24,9 +26,9 @@ pub use grid::grid_number;
 pub use law::fixed_is_read;
 pub use number::{DIGITS_MAX, NumberWhy, number_within, whole, whole_parts};
 pub use pieces::{Parts, cut_at};
-pub use putting::{Field, put_line};
+pub use putting::{Field, put_line, put_word};
 pub use spelling::{
-    count_parts_up_to, count_with_end, spelled_at, spelled_number, spelled_parts,
+    count_parts_up_to, count_with_end, spelled_at, spelled_from, spelled_number, spelled_parts,
     spelled_signed_at, spelled_wide_at,
 };
 pub use taking::{coordinate, count_is, count_up_to, is_word, number_at, signed_at};

@@ -8,15 +8,18 @@ use itoa::Buffer;
 /// negative.
 #[derive(Clone, Copy)]
 pub enum Field<'a> {
+    /// The bytes as they stand.
     Text(&'a [u8]),
+    /// The digits of a number.
     Number(u64),
+    /// The digits, behind `-` where the number is negative.
     Signed(i32),
 }
 
-// Appends a word and the byte behind it. On refusal the bytes from before still stand in front.
-fn put_field(field: &Field<'_>, end: u8, into: &mut Vec<u8>) -> Result<(), NoMemory>
-    ensures ok { OnOk result (into.new.items ≡ into.old.items ++ word_of field.now ++ end ∷ []) }
-    ensures err { OnErr result (Keeps into.old.items into.new.items) }
+/// Appends a word, or changes nothing.
+pub fn put_word(field: &Field<'_>, into: &mut Vec<u8>) -> Result<(), NoMemory>
+    ensures ok { OnOk result (into.new.items ≡ into.old.items ++ word_of field.now) }
+    ensures err { OnErr result (into.new.items ≡ into.old.items) }
 {
     let mut buffer = Buffer::new();
     match field {
@@ -24,6 +27,15 @@ fn put_field(field: &Field<'_>, end: u8, into: &mut Vec<u8>) -> Result<(), NoMem
         Field::Number(n) => into.extend_from_slice(buffer.format(*n).as_bytes())?,
         Field::Signed(n) => into.extend_from_slice(buffer.format(*n).as_bytes())?,
     }
+    Ok(())
+}
+
+// Appends a word and the byte behind it. On refusal the bytes from before still stand in front.
+fn put_field(field: &Field<'_>, end: u8, into: &mut Vec<u8>) -> Result<(), NoMemory>
+    ensures ok { OnOk result (into.new.items ≡ into.old.items ++ word_of field.now ++ end ∷ []) }
+    ensures err { OnErr result (Keeps into.old.items into.new.items) }
+{
+    put_word(field, into)?;
     into.push(end)?;
     Ok(())
 }

@@ -39,6 +39,21 @@ pub fn spelled_parts(word: &[u8]) -> Option<(bool, u128)>
     }
 }
 
+/// The number that a word spells, from `low` to `high`; Number where the word spells none of them.
+pub fn spelled_from(word: &[u8], low: u64, high: u64) -> Result<u64, TextWhy>
+    ensures value { result ≡ spec.spelled_from low high (spec.spelled_number word.now) }
+    ensures above { IfOk result (λ n. low ≤ n) }
+    ensures below { IfOk result (λ n. n ≤ high) }
+{
+    let Some(n) = spelled_number(word) else {
+        return Err(TextWhy::Number);
+    };
+    if n < u128::from(low) || n > u128::from(high) {
+        return Err(TextWhy::Number);
+    }
+    Ok(n as u64)
+}
+
 /// The number that the next word spells, from `low` to `high`; Number where the word spells none of them, and Short where
 /// there is no word.
 #[tactic(auto, unfolding(crate::specs::Spellings::spelled_at))]
@@ -50,13 +65,7 @@ pub fn spelled_at(words: &mut Parts<'_>, low: u64, high: u64) -> Result<u64, Tex
     let Some(word) = words.next() else {
         return Err(TextWhy::Short);
     };
-    let Some(n) = spelled_number(word) else {
-        return Err(TextWhy::Number);
-    };
-    if n < u128::from(low) || n > u128::from(high) {
-        return Err(TextWhy::Number);
-    }
-    Ok(n as u64)
+    spelled_from(word, low, high)
 }
 
 /// The number that the next word spells, of a size up to `most`; Number where the word spells none of them, and Short where

@@ -1,6 +1,4 @@
 pub mod LineLaws
-pub mod Parts
-pub mod EditParts
 pub mod LogParts
 pub mod Steps
 pub mod CanonicalDigits

@@ -1,17 +1,14 @@
 -- Words that are written with a space in front of each.
 use Rattle.std.proofs.Common.{◌≡◌, ℕ, ◌≤◌, List, [], ◌∷◌, ◌++◌, length, refl, sym, ap, ◌∙◌, arith, append_assoc}
 use Rattle.std.specs.List.{join_with_byte}
-use Rattle.std.proofs.lemmas.List.{append-nil, length-take, take-append-le, take_all}
+use Rattle.std.proofs.lemmas.List.{append-nil, take_all}
 use Rattle.line_text.specs.WrittenLines.{Keeps}
+use Rattle.line_text.proofs.WordPuts.{kept_more}
 use Rattle.log_text.specs.Lines.{spaced}
 
 -- what stood there stands in front of itself
 pub kept_same : (text : List ℕ) → Keeps text text
 kept_same text = take_all (length text) text (omega arith)
-
--- what stood in front still does when more is written
-pub kept_more : (start text more : List ℕ) → Keeps start text → Keeps start (text ++ more)
-kept_more start text more h = let le : length start ≤ length text = omega (arith, length-take (length start) text, ap length h) in take-append-le (length start) text more le ∙ h
 
 pub spaced-append : (xs ys : List (List ℕ)) → spaced (xs ++ ys) ≡ spaced xs ++ spaced ys
 spaced-append [] ys = refl

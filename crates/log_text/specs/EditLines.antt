@@ -23,6 +23,7 @@ use Rattle.log_text.specs.Values.{edge_at, position_at, place_at, reason_of, rea
 abbrev pub length_of : Bool → List (List ℕ) → Result ℕ TextWhy
 length_of ended words = whole ended 1 (spelled_at 0 LENGTH_MAX) words
 
+-- pass: the kind, and the length of those that go by one
 unfoldable pub pass_of : Bool → List (List ℕ) → Result LogLine TextWhy
 pass_of ended [] = Err why.Short
 pass_of ended (kind ∷ words) =
@@ -35,12 +36,15 @@ pass_of ended (kind ∷ words) =
 
 -- ---- edits that are done
 
+-- split A B W X Y Z
 unfoldable pub split_of : Bool → List (List ℕ) → Result LogLine TextWhy
 split_of ended words = whole ended 6 (both edge_at place_at) words >>= λ s. Ok (line.Did (change.Split s.0.0 s.0.1 s.1.w s.1.at))
 
+-- flip A B
 unfoldable pub flip_of : Bool → List (List ℕ) → Result LogLine TextWhy
 flip_of ended words = whole ended 2 edge_at words >>= λ e. Ok (line.Did (change.Flip e.0 e.1))
 
+-- collapse A B X Y Z
 unfoldable pub collapse_of : Bool → List (List ℕ) → Result LogLine TextWhy
 collapse_of ended words = whole ended 5 (both edge_at position_at) words >>= λ c. Ok (line.Did (change.Collapse c.0.0 c.0.1 c.1))
 
@@ -66,6 +70,7 @@ asked_of ended count read words = do
   found ← both read reason_at words
   Ok found.0
 
+-- no: the edit that was asked for, and the reason
 unfoldable pub no_of : Bool → List (List ℕ) → Result LogLine TextWhy
 no_of ended [] = Err why.Short
 no_of ended (edit ∷ words) =
@@ -128,6 +133,7 @@ first_place ended words = do
   whole ← four_by_four words
   place_at words
 
+-- the vertex and its copies, each with its point
 unfoldable pub pinch_of : Bool → List (List ℕ) → Result LogLine TextWhy
 pinch_of ended words = do
   first ← first_place ended words

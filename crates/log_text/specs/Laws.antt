@@ -36,6 +36,7 @@ pub record IsPairInRange (p : PairName) : Type 0 where
   pub face : IsFrom 1 ID_MAX p.face
   pub rising : p.a < p.b
 
+-- the number of passes, rounds or halvings
 abbrev pub IsHowInRange : How → Type 0
 IsHowInRange Whole = Unit {0}
 IsHowInRange (Impulse passes) = IsFrom 1 PASSES_MAX passes
@@ -43,6 +44,7 @@ IsHowInRange (Zones rounds) = IsFrom 1 ROUNDS_MAX rounds
 IsHowInRange (Halved times) = IsFrom 1 HALVINGS_MAX times
 IsHowInRange Zero = Unit {0}
 
+-- counts of what there is too much of, and the numbers of faces, corners and vertices from 1
 abbrev pub IsShapeInRange : ShapeFault → Type 0
 IsShapeInRange (shape.TooManyVertices count) = count ≤ SEEN_MAX
 IsShapeInRange (shape.TooManyFaces count) = count ≤ SEEN_MAX
@@ -51,11 +53,13 @@ IsShapeInRange (shape.Repeated face) = IsFrom 1 COUNT_MAX face
 IsShapeInRange (shape.Doubled first second) = IsFrom 1 COUNT_MAX first × IsFrom 1 COUNT_MAX second
 IsShapeInRange (shape.Unbalanced from to) = IsFrom 1 COUNT_MAX from × IsFrom 1 COUNT_MAX to
 
+-- the id of a vertex
 abbrev pub IsUseInRange : UseWhy → Type 0
 IsUseInRange (using.NoVertex v) = IsFrom 1 ID_MAX v
 IsUseInRange (using.ShiftRange v) = IsFrom 1 ID_MAX v
 IsUseInRange (using.Box v) = IsFrom 1 ID_MAX v
 
+-- the numbers of a refusal
 abbrev pub IsRefusalInRange : Refusal → Type 0
 IsRefusalInRange (refusal.Long name seen) = seen ≤ SEEN_MAX
 IsRefusalInRange (refusal.Missing name) = Unit {0}
@@ -74,6 +78,7 @@ abbrev pub AreRising : ℕ → List ℕ → Type 0
 AreRising low [] = Unit {0}
 AreRising low (v ∷ vs) = IsFrom low ID_MAX v × AreRising (v + 1) vs
 
+-- the length that a pass goes by
 abbrev pub IsPassInRange : PassKind → Type 0
 IsPassInRange (pass.Split over) = over ≤ LENGTH_MAX
 IsPassInRange (pass.Collapse under) = under ≤ LENGTH_MAX
@@ -89,6 +94,7 @@ IsChangeInRange (change.Collapse a b at) = IsEdgeInRange a b
 IsChangeInRange (change.Zip a b e f turn) = IsEdgeInRange a b × IsEdgeInRange e f × (turn ≤ TURN_MAX)
 IsChangeInRange (change.Pinch v at copies) = IsFrom 1 ID_MAX v × (0 < length copies) × All (λ c. IsFrom 1 ID_MAX c.w) copies
 
+-- the ids of what was asked
 abbrev pub IsAskedInRange : Asked → Type 0
 IsAskedInRange (asked.Split a b) = IsEdgeInRange a b
 IsAskedInRange (asked.Flip a b) = IsEdgeInRange a b
@@ -96,6 +102,7 @@ IsAskedInRange (asked.Collapse a b) = IsEdgeInRange a b
 IsAskedInRange (asked.Zip a b e f) = IsEdgeInRange a b × IsEdgeInRange e f
 IsAskedInRange (asked.Pinch v) = IsFrom 1 ID_MAX v
 
+-- the pair that was hit
 abbrev pub IsReasonInRange : Why → Type 0
 IsReasonInRange (reason.Hit pair) = IsPairInRange pair
 IsReasonInRange _ = Unit {0}

@@ -28,10 +28,12 @@ use Rattle.log_text.specs.declared.log_line.LogLine.TheVariants as line
 use Rattle.log_text.specs.declared.log_line.Refusal.{Refusal}
 use Rattle.log_text.specs.declared.log_line.Refusal.TheVariants as refusal
 
+-- the word of a file
 abbrev pub file_word : FileWord → List ℕ
 file_word file.Mesh = codes "mesh"
 file_word file.Steps = codes "steps"
 
+-- the word of a text's reason
 abbrev pub why_word : TextWhy → List ℕ
 why_word why.Number = codes "number"
 why_word why.Corner = codes "corner"
@@ -45,6 +47,7 @@ why_word why.Continuation = codes "continuation"
 abbrev pub pair_words : PairName → List (List ℕ)
 pair_words p = decimal p.a ∷ decimal p.b ∷ decimal p.face ∷ []
 
+-- how a step was taken
 abbrev pub how_words : How → List (List ℕ)
 how_words Whole = codes "whole" ∷ []
 how_words (Impulse passes) = codes "impulse" ∷ decimal passes ∷ []
@@ -52,6 +55,7 @@ how_words (Zones rounds) = codes "zones" ∷ decimal rounds ∷ []
 how_words (Halved times) = codes "halved" ∷ decimal times ∷ []
 how_words Zero = codes "zero" ∷ []
 
+-- what a mesh's shape lacks
 abbrev pub shape_words : ShapeFault → List (List ℕ)
 shape_words (TooManyVertices count) = codes "vertices" ∷ decimal count ∷ []
 shape_words (TooManyFaces count) = codes "faces" ∷ decimal count ∷ []
@@ -60,11 +64,13 @@ shape_words (Repeated face) = codes "repeated" ∷ decimal face ∷ []
 shape_words (Doubled first second) = codes "doubled" ∷ decimal first ∷ decimal second ∷ []
 shape_words (Unbalanced from to) = codes "unbalanced" ∷ decimal from ∷ decimal to ∷ []
 
+-- why a directive is refused
 abbrev pub use_words : UseWhy → List (List ℕ)
 use_words (using.NoVertex v) = codes "vertex" ∷ decimal v ∷ []
 use_words (using.ShiftRange v) = codes "range" ∷ decimal v ∷ []
 use_words (using.Box v) = codes "box" ∷ decimal v ∷ []
 
+-- what is refused, and why
 abbrev pub refusal_words : Refusal → List (List ℕ)
 refusal_words (refusal.Long file seen) = codes "long" ∷ file_word file ∷ decimal seen ∷ []
 refusal_words (refusal.Missing file) = codes "missing" ∷ file_word file ∷ []
@@ -76,6 +82,7 @@ refusal_words (refusal.StepUse at why) = codes "use" ∷ decimal at ∷ use_word
 
 -- ---- passes and edits
 
+-- the kind of a pass, and its length
 abbrev pub pass_words : PassKind → List (List ℕ)
 pass_words (pass.Split over) = codes "split" ∷ decimal over ∷ []
 pass_words (pass.Collapse under) = codes "collapse" ∷ decimal under ∷ []
@@ -83,6 +90,7 @@ pass_words pass.Flip = codes "flip" ∷ []
 pass_words (pass.Zip within) = codes "zip" ∷ decimal within ∷ []
 pass_words pass.Pinch = codes "pinch" ∷ []
 
+-- the three coordinates of a point
 abbrev pub point_words : Point → List (List ℕ)
 point_words p = signed_decimal p.x ∷ signed_decimal p.y ∷ signed_decimal p.z ∷ []
 
@@ -90,10 +98,12 @@ point_words p = signed_decimal p.x ∷ signed_decimal p.y ∷ signed_decimal p.z
 abbrev pub place_words : CopyAt → List (List ℕ)
 place_words c = decimal c.w ∷ point_words c.at
 
+-- each vertex with its point
 abbrev pub places_words : List CopyAt → List (List ℕ)
 places_words [] = []
 places_words (c ∷ cs) = place_words c ++ places_words cs
 
+-- an edit that is done
 abbrev pub change_words : Change → List (List ℕ)
 change_words (change.Split a b w at) = codes "split" ∷ decimal a ∷ decimal b ∷ decimal w ∷ point_words at
 change_words (change.Flip a b) = codes "flip" ∷ decimal a ∷ decimal b ∷ []
@@ -101,6 +111,7 @@ change_words (change.Collapse a b at) = codes "collapse" ∷ decimal a ∷ decim
 change_words (change.Zip a b e f turn) = codes "zip" ∷ decimal a ∷ decimal b ∷ decimal e ∷ decimal f ∷ decimal turn ∷ []
 change_words (change.Pinch v at copies) = codes "pinch" ∷ places_words (record { w = v; at = at } ∷ copies)
 
+-- an edit that was asked for
 abbrev pub asked_words : Asked → List (List ℕ)
 asked_words (asked.Split a b) = codes "split" ∷ decimal a ∷ decimal b ∷ []
 asked_words (asked.Flip a b) = codes "flip" ∷ decimal a ∷ decimal b ∷ []
@@ -108,6 +119,7 @@ asked_words (asked.Collapse a b) = codes "collapse" ∷ decimal a ∷ decimal b 
 asked_words (asked.Zip a b e f) = codes "zip" ∷ decimal a ∷ decimal b ∷ decimal e ∷ decimal f ∷ []
 asked_words (asked.Pinch v) = codes "pinch" ∷ decimal v ∷ []
 
+-- why an edit isn't done
 abbrev pub reason_words : Why → List (List ℕ)
 reason_words reason.NoEdge = codes "noedge" ∷ []
 reason_words reason.Crowded = codes "crowded" ∷ []

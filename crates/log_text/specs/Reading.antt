@@ -30,18 +30,23 @@ first_of version ended [] = Err why.Short
 first_of version ended (name ∷ words) =
     if bytes_eq name (codes "log") then (whole ended 1 (spelled_at version version) words >>= λ v. Ok (line.First v)) else Err why.Unknown
 
+-- mesh K V F
 unfoldable pub mesh_of : Bool → List (List ℕ) → Result LogLine TextWhy
 mesh_of ended words = whole ended 3 (both (spelled_at 0 COUNT_MAX) (both (spelled_at 0 VERTICES_MAX) (spelled_at 0 FACES_MAX))) words >>= λ found. Ok (line.Mesh found.0 found.1.0 found.1.1)
 
+-- step K
 unfoldable pub step_of : Bool → List (List ℕ) → Result LogLine TextWhy
 step_of ended words = whole ended 1 (spelled_at 1 COUNT_MAX) words >>= λ k. Ok (line.Step k)
 
+-- hit A B FACE
 unfoldable pub hit_of : Bool → List (List ℕ) → Result LogLine TextWhy
 hit_of ended words = whole ended 3 pair_at words >>= λ pair. Ok (line.Hit pair)
 
+-- move V DX DY DZ
 unfoldable pub move_of : Bool → List (List ℕ) → Result LogLine TextWhy
 move_of ended words = whole ended 4 shift_of_at words >>= λ s. Ok (line.Move s)
 
+-- moved: how, and the number of passes, rounds or halvings
 unfoldable pub moved_of : Bool → List (List ℕ) → Result LogLine TextWhy
 moved_of ended [] = Err why.Short
 moved_of ended (how ∷ words) =
@@ -64,9 +69,11 @@ abbrev pub or_unknown : {A : Type 0} → Option A → Result A TextWhy
 or_unknown None = Err why.Unknown
 or_unknown (Some a) = Ok a
 
+-- the line of a refusal
 abbrev pub refused : Refusal → Result LogLine TextWhy
 refused why = Ok (line.Refused why)
 
+-- refused long: the file, and how much was seen of it
 unfoldable pub long_of : Bool → List (List ℕ) → Result LogLine TextWhy
 long_of ended [] = Err why.Short
 long_of ended (word ∷ words) = do
@@ -74,10 +81,12 @@ long_of ended (word ∷ words) = do
   seen ← whole ended 1 (spelled_at 0 SEEN_MAX) words
   refused (refusal.Long name seen)
 
+-- refused missing: the file
 unfoldable pub missing_of : Bool → List (List ℕ) → Result LogLine TextWhy
 missing_of ended [] = Err why.Short
 missing_of ended (word ∷ words) = or_unknown (file_of word) >>= λ name. alone ended (line.Refused (refusal.Missing name)) words
 
+-- refused shape: what is too many, or which corner, face or side is wrong
 unfoldable pub shape_of : Bool → List (List ℕ) → Result LogLine TextWhy
 shape_of ended [] = Err why.Short
 shape_of ended (word ∷ words) =
@@ -108,6 +117,7 @@ use_of ended (at ∷ word ∷ words) =
     else if ended then Err why.Number
     else Err why.Short
 
+-- refused: what, by its next word
 unfoldable pub refused_of : Bool → List (List ℕ) → Result LogLine TextWhy
 refused_of ended [] = Err why.Short
 refused_of ended (word ∷ words) =

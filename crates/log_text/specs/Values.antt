@@ -41,6 +41,7 @@ why_of word =
     else if bytes_eq word (codes "continuation") then Some why.Continuation
     else None
 
+-- the next word as such a reason
 unfoldable pub why_at : Reader TextWhy
 why_at [] = Err why.Short
 why_at (word ∷ words) = or_number (why_of word) >>= λ found. Ok (found, words)

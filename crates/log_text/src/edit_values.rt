@@ -1,7 +1,4 @@
 ghost use Rattle.std.specs.Prelude.{◌≡◌, drop};
-ghost use Rattle.grid_base.specs.declared.TheConstants.{BOX};
-ghost use Rattle.grid_base.specs.Components.{FitWithin};
-ghost use Rattle.grid_base.specs.Points.{point_at};
 ghost use Rattle.line_text.specs.Fields.{Takes};
 ghost use Rattle.line_text.specs.Remaining.{parts_left};
 ghost use Rattle.log_text.specs.EditLines as lines;
@@ -10,7 +7,7 @@ ghost use Rattle.log_text.specs.Values as spec;
 use crate::values::{count_at, pair_at};
 use edit_base::{CopyAt, Why};
 use grid_base::{BOX, ID_MAX, Point};
-use line_text::{Parts, TextWhy, count_with_end, is_word, spelled_signed_at};
+use line_text::{Parts, TextWhy, count_with_end, is_word, point_with, spelled_signed_at};
 use mesh_base::VertexId;
 
 #[tactic(auto, unfolding(crate::specs::Values::edge_at))]
@@ -20,13 +17,6 @@ pub(crate) fn edge_at(words: &mut Parts<'_>) -> Result<(VertexId, VertexId), Tex
     let a = count_at(words, 1, ID_MAX)?;
     let b = count_at(words, a + 1, ID_MAX)?;
     Ok((VertexId(a), VertexId(b)))
-}
-
-fn point_with(x: i32, y: i32, z: i32) -> Point
-    requires { FitWithin BOX x y z }
-    ensures { result ≡ point_at (record { x = x; y = y; z = z }) }
-{
-    Point { x, y, z }
 }
 
 #[tactic(auto, unfolding(crate::specs::Values::position_at))]

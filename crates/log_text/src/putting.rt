@@ -6,8 +6,7 @@ ghost use Rattle.log_text.specs.Lines.{spaced, place_words, places_words, text_o
 use crate::log_line::LogLine;
 use edit_base::CopyAt;
 use grid_base::NoMemory;
-use itoa::Buffer;
-use line_text::{Field, put_line};
+use line_text::{Field, put_line, put_word};
 use mesh_base::{Ids, VertexId};
 
 // Appends the words with one space between them and LF behind them.
@@ -20,18 +19,12 @@ pub(crate) fn put_words(fields: &[Field<'_>], into: &mut Vec<u8>) -> Result<(), 
 }
 
 // Appends a space and a word.
-fn put_word(field: &Field<'_>, into: &mut Vec<u8>) -> Result<(), NoMemory>
+fn put_next(field: &Field<'_>, into: &mut Vec<u8>) -> Result<(), NoMemory>
     ensures ok { OnOk result (into.new.items ≡ into.old.items ++ 32 ∷ word_of field.now) }
     ensures err { OnErr result (Keeps into.old.items into.new.items) }
 {
-    let mut buffer = Buffer::new();
     into.push(b' ')?;
-    match field {
-        Field::Text(text) => into.extend_from_slice(text)?,
-        Field::Number(n) => into.extend_from_slice(buffer.format(*n).as_bytes())?,
-        Field::Signed(n) => into.extend_from_slice(buffer.format(*n).as_bytes())?,
-    }
-    Ok(())
+    put_word(field, into)
 }
 
 // Appends each word with a space in front.
@@ -40,7 +33,7 @@ pub(crate) fn put_spaced(fields: &[Field<'_>], into: &mut Vec<u8>) -> Result<(),
     ensures err { OnErr result (Keeps into.old.items into.new.items) }
 {
     for field in fields {
-        match put_word(field, into) {
+        match put_next(field, into) {
             Ok(()) => {}
             Err(NoMemory) => return Err(NoMemory),
         }
@@ -54,7 +47,7 @@ fn put_ids(ids: &[VertexId], into: &mut Vec<u8>) -> Result<(), NoMemory>
     ensures err { OnErr result (Keeps into.old.items into.new.items) }
 {
     for v in ids {
-        match put_word(&Field::Number(u64::from(v.0)), into) {
+        match put_next(&Field::Number(u64::from(v.0)), into) {
             Ok(()) => {}
             Err(NoMemory) => return Err(NoMemory),
         }

@@ -4,10 +4,10 @@ ghost use Rattle.log_text.specs.declared.TheConstants.{COUNT_MAX};
 ghost use Rattle.log_text.specs.Reading as spec;
 
 use crate::log_line::{LogLine, Refusal};
-use crate::values::{alone, count_at, fault_at, file_of, pair_at};
+use crate::values::{alone, count_at, fault_at, file_of, number_of, pair_at};
 use crate::{CORNER_MAX, COUNT_MAX, SEEN_MAX};
 use grid_base::ID_MAX;
-use line_text::{Parts, TextWhy, count_with_end, is_word, spelled_at, spelled_number};
+use line_text::{Parts, TextWhy, count_with_end, is_word, spelled_at};
 use mesh_base::{ShapeFault, UseWhy};
 
 #[tactic(auto, unfolding(crate::specs::Reading::long_of))]
@@ -93,14 +93,9 @@ fn use_numbers(ended: bool, at: &[u8], words: Parts<'_>) -> Result<(u32, u32), T
 {
     let mut words = words;
     count_with_end(ended, 1, words)?;
-    let Some(line) = spelled_number(at) else {
-        return Err(TextWhy::Number);
-    };
-    if line < 1 || line > u128::from(COUNT_MAX) {
-        return Err(TextWhy::Number);
-    }
+    let line = number_of(at, 1, COUNT_MAX)?;
     let v = count_at(&mut words, 1, ID_MAX)?;
-    Ok((line as u32, v))
+    Ok((line, v))
 }
 
 #[tactic(auto, unfolding(crate::specs::Reading::use_of))]

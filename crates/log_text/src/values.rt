@@ -1,51 +1,36 @@
 ghost use Rattle.std.specs.Prelude.{◌≡◌, ◌≤◌, IfOk};
-ghost use Rattle.grid_base.specs.declared.TheConstants.{SHIFT_MAX};
-ghost use Rattle.grid_base.specs.Components.{FitWithin};
-ghost use Rattle.grid_base.specs.Points.{shift_by};
 ghost use Rattle.line_text.specs.Fields.{Takes};
 ghost use Rattle.line_text.specs.Remaining.{parts_left};
-ghost use Rattle.line_text.specs.Spellings.{spelled_number, spelled_from, spelled_at};
+ghost use Rattle.line_text.specs.Spellings as spelling;
 ghost use Rattle.log_text.specs.Reading as reading;
 ghost use Rattle.log_text.specs.Values as spec;
 
 use crate::COUNT_MAX;
 use crate::log_line::LogLine;
-use grid_base::{ID_MAX, SHIFT_MAX, Shift};
+use grid_base::{ID_MAX, SHIFT_MAX};
 use line_text::{
-    Parts, TextFault, TextWhy, count_with_end, is_word, spelled_at, spelled_number,
+    Parts, TextFault, TextWhy, count_with_end, is_word, shift_with, spelled_at, spelled_from,
     spelled_signed_at,
 };
 use mesh_base::{FaceId, FileWord, PairName, ShiftOf, VertexId};
 
 // The number that a word spells, from low to high.
 pub(crate) fn number_of(word: &[u8], low: u32, high: u32) -> Result<u32, TextWhy>
-    ensures value { result ≡ spelled_from low high (spelled_number word.now) }
+    ensures value { result ≡ spelling.spelled_from low high (spelling.spelled_number word.now) }
     ensures below { IfOk result (λ n. n ≤ high) }
 {
-    let Some(n) = spelled_number(word) else {
-        return Err(TextWhy::Number);
-    };
-    if n < u128::from(low) || n > u128::from(high) {
-        return Err(TextWhy::Number);
-    }
+    let n = spelled_from(word, u64::from(low), u64::from(high))?;
     Ok(n as u32)
 }
 
 // The number that the next word spells, from low to high.
 pub(crate) fn count_at(words: &mut Parts<'_>, low: u32, high: u32) -> Result<u32, TextWhy>
-    ensures value { Takes (parts_left words.new) result (spelled_at low high (parts_left words.old)) }
+    ensures value { Takes (parts_left words.new) result (spelling.spelled_at low high (parts_left words.old)) }
     ensures above { IfOk result (λ n. low ≤ n) }
     ensures below { IfOk result (λ n. n ≤ high) }
 {
     let n = spelled_at(words, u64::from(low), u64::from(high))?;
     Ok(n as u32)
-}
-
-fn shift_with(x: i32, y: i32, z: i32) -> Shift
-    requires { FitWithin SHIFT_MAX x y z }
-    ensures { result ≡ shift_by (record { x = x; y = y; z = z }) }
-{
-    Shift { x, y, z }
 }
 
 #[tactic(auto, unfolding(crate::specs::Values::pair_at))]

@@ -1,5 +1,8 @@
 // The real files and the standard output. They tell nothing of what they hold: that they keep it is not proved.
-ghost use Rattle.std.specs.Prelude.{◌≡◌, ◌<◌, ◌≤◌, ◌-◌, ◌+◌, ◌^◌, ℕ, None, [], length, vec_len, IfOk, OnOk, OnErr, IsErrOf};
+ghost use Rattle.std.specs.Prelude.{◌≡◌, ◌<◌, ◌≤◌, ◌-◌, ◌+◌, ◌^◌, ℕ, None, [], length, vec_len, take, IfOk, OnOk, OnErr, IsErrOf, IsOk};
+ghost use Rattle.outside_io.specs.Causes.{HasCause, Rose, next_count};
+ghost use Rattle.outside_io.specs.Desk.{HoldsFile, with_file};
+ghost use Rattle.outside_io.specs.Sink.{appended};
 
 use crate::{Desk, Failed, FetchFault, Sink, StoreFault};
 use std::fs;
@@ -102,12 +105,24 @@ fn open_whole<R: Files>(
     }
 }
 
-impl<R: Files> Desk for FileDesk<'_, R> {
+impl<'a, R: Files> Desk for FileDesk<'a, R> {
     ghost files = { λ _. None };
 
     ghost faults = { λ desk. desk.faults };
 
-    fn fetch(&mut self, name: &str, limit: usize, into: &mut Vec<u8>) -> Result<(), FetchFault> {
+    /// Opens the file of a name and reads it to its end, but not past the limit. One fault is counted where it fails, and
+    /// none where it does not.
+    fn fetch(&mut self, name: &str, limit: usize, into: &mut Vec<u8>) -> Result<(), FetchFault>
+        ensures found { OnOk result (HoldsFile None name.now into.new.items) }
+        ensures within { OnOk result (length into.new.items ≤ limit) }
+        ensures refused { OnErr result (into.new.items ≡ []) }
+        ensures long { (seen : ℕ) → IsErrOf result (FetchFault.TooLong seen) → limit < seen }
+        ensures calm { IsErrOf result FetchFault.Missing → (⟦<FileDesk<'a, R> as Desk>⟧.faults self.new) ≡ (⟦<FileDesk<'a, R> as Desk>⟧.faults self.old) }
+        ensures later { (⟦<FileDesk<'a, R> as Desk>⟧.faults self.old) ≤ (⟦<FileDesk<'a, R> as Desk>⟧.faults self.new) }
+        ensures failed { IsErrOf result FetchFault.Failed → Rose (⟦<FileDesk<'a, R> as Desk>⟧.faults self.old) (⟦<FileDesk<'a, R> as Desk>⟧.faults self.new) }
+        ensures one { IsErrOf result FetchFault.Failed → (⟦<FileDesk<'a, R> as Desk>⟧.faults self.new) ≡ next_count (⟦<FileDesk<'a, R> as Desk>⟧.faults self.old) }
+        ensures none { ¬ IsErrOf result FetchFault.Failed → (⟦<FileDesk<'a, R> as Desk>⟧.faults self.new) ≡ (⟦<FileDesk<'a, R> as Desk>⟧.faults self.old) }
+    {
         let result = open_whole(self.rt, name, limit, into);
         if result.is_err() {
             into.clear();
@@ -118,7 +133,16 @@ impl<R: Files> Desk for FileDesk<'_, R> {
         result
     }
 
-    fn store(&mut self, name: &str, bytes: &[u8]) -> Result<(), StoreFault> {
+    /// Creates or empties the file of a name, and writes the bytes. One fault is counted where it fails, and none where it
+    /// does not; it needs no memory.
+    fn store(&mut self, name: &str, bytes: &[u8]) -> Result<(), StoreFault>
+        ensures stored { OnOk result (None ≡ with_file None name.now bytes.now) }
+        ensures able { ¬ IsErrOf result StoreFault.NoMemory }
+        ensures later { (⟦<FileDesk<'a, R> as Desk>⟧.faults self.old) ≤ (⟦<FileDesk<'a, R> as Desk>⟧.faults self.new) }
+        ensures failed { IsErrOf result StoreFault.Failed → Rose (⟦<FileDesk<'a, R> as Desk>⟧.faults self.old) (⟦<FileDesk<'a, R> as Desk>⟧.faults self.new) }
+        ensures one { OnErr result ((⟦<FileDesk<'a, R> as Desk>⟧.faults self.new) ≡ next_count (⟦<FileDesk<'a, R> as Desk>⟧.faults self.old)) }
+        ensures none { OnOk result ((⟦<FileDesk<'a, R> as Desk>⟧.faults self.new) ≡ (⟦<FileDesk<'a, R> as Desk>⟧.faults self.old)) }
+    {
         match create_whole(self.rt, name, bytes) {
             Ok(()) => Ok(()),
             Err(Failed) => {
@@ -148,12 +172,21 @@ impl<'a, P: Print> StdSink<'a, P> {
     }
 }
 
-impl<P: Print> Sink for StdSink<'_, P> {
+impl<'a, P: Print> Sink for StdSink<'a, P> {
     ghost written = { λ _. None };
 
     ghost faults = { λ sink. sink.faults };
 
-    fn write(&mut self, bytes: &[u8]) -> Result<usize, Failed> {
+    /// Gives the system the first bytes of a piece. One fault is counted where it fails, and none where it does not.
+    fn write(&mut self, bytes: &[u8]) -> Result<usize, Failed>
+        ensures within { IfOk result (λ n. n ≤ length bytes.now) }
+        ensures taken { IfOk result (λ n. None ≡ appended None (take n bytes.now)) }
+        ensures some { IfOk result (λ n. 0 < length bytes.now → 0 < n) }
+        ensures refused { OnErr result (None ≡ appended None []) }
+        ensures cause { HasCause (⟦<StdSink<'a, P> as Sink>⟧.faults self.old) (⟦<StdSink<'a, P> as Sink>⟧.faults self.new) result }
+        ensures one { OnErr result ((⟦<StdSink<'a, P> as Sink>⟧.faults self.new) ≡ next_count (⟦<StdSink<'a, P> as Sink>⟧.faults self.old)) }
+        ensures none { IsOk result → (⟦<StdSink<'a, P> as Sink>⟧.faults self.new) ≡ (⟦<StdSink<'a, P> as Sink>⟧.faults self.old) }
+    {
         match self.rt.write_some(bytes) {
             Ok(count) if count > 0 || bytes.is_empty() => Ok(count),
             _ => {

@@ -14,6 +14,7 @@ IsInRange (SetDepth depth) = depth ≤ DEPTH_MAX
 IsInRange (SetHalvings halvings) = halvings ≤ HALVINGS_MAX
 IsInRange _ = Unit {0}
 
+-- each of the directives is
 abbrev pub AreInRange : List Placed → Type 0
 AreInRange directives = AllByRecursion (λ placed. IsInRange placed.what) directives
 
@@ -28,5 +29,6 @@ abbrev pub AsksTaken : Directive → Type 0
 AsksTaken (Pass kind) = IsTaken kind
 AsksTaken _ = Unit {0}
 
+-- each of the directives is such a one
 abbrev pub AskTaken : List Placed → Type 0
 AskTaken directives = AllByRecursion (λ placed. AsksTaken placed.what) directives

@@ -27,7 +27,9 @@ pub enum Directive {
 /// A directive and its line, counted from 1.
 #[derive(Clone, Copy, Debug, PartialEq, Eq)]
 pub struct Placed {
+    /// The line, from 1.
     pub line: u32,
+    /// What it asks for.
     pub what: Directive,
 }
 

@@ -1,27 +1,19 @@
 ghost use Rattle.std.specs.Prelude.{◌≡◌, ◌≤◌, ◌+◌, length, IfOk};
-ghost use Rattle.grid_base.specs.declared.TheConstants.{SHIFT_MAX, TEXT_MAX};
-ghost use Rattle.grid_base.specs.Components.{FitWithin};
-ghost use Rattle.grid_base.specs.Points.{shift_by};
+ghost use Rattle.grid_base.specs.declared.TheConstants.{TEXT_MAX};
 ghost use Rattle.line_text.specs.Faults.{Gives, Leaves, at_line};
 ghost use Rattle.line_text.specs.Remaining.{words_left};
 ghost use Rattle.step_text.specs.Steps as spec;
-ghost use Rattle.step_text.specs.Ranges.{IsInRange, AreInRange};
+ghost use Rattle.step_text.specs.Ranges.{IsInRange, AreInRange, AskTaken};
 
 use crate::directive::{Directive, Directives, Placed};
 use crate::{PASSES_TAKEN, ZONES_TAKEN};
 use edit_base::PassKind;
 use grid_base::{DEPTH_MAX, HALVINGS_MAX, ID_MAX, LENGTH_MAX, SHIFT_MAX, Shift};
 use line_text::{
-    Lines, ReadFault, TextFault, TextWhy, Words, count_is, is_word, number_at, signed_at, words,
+    Lines, ReadFault, TextFault, TextWhy, Words, count_is, is_word, number_at, shift_with,
+    signed_at, words,
 };
 use std::alloc::Global;
-
-fn shift_with(x: i32, y: i32, z: i32) -> Shift
-    requires { FitWithin SHIFT_MAX x y z }
-    ensures { result ≡ shift_by (record { x = x; y = y; z = z }) }
-{
-    Shift { x, y, z }
-}
 
 #[tactic(auto, unfolding(crate::specs::Steps::set_of))]
 fn set(words: Words<'_>) -> Result<Directive, TextWhy>
@@ -168,6 +160,8 @@ pub fn read_steps(alloc: Global, bytes: &[u8]) -> Result<Directives, ReadFault>
     ensures few { IfOk result (λ d. length d ≤ TEXT_MAX) }
     // A depth or a number of halvings that is set is within its limit.
     ensures ranges { IfOk result AreInRange }
+    // Each pass that is asked for is one that a text may ask for.
+    ensures taken { IfOk result AskTaken }
 {
     let mut directives = Directives::new(alloc);
     for line in Lines::new(bytes) {

@@ -1,6 +1,6 @@
 use Rattle.std.proofs.lemmas.Int.{to_z-of_z}
-use Rattle.log_text.proofs.EditParts.{point_of_parts}
-use Rattle.log_text.proofs.edit_values.point_with.Goals as goal
+use Rattle.line_text.proofs.ByParts.{point_of_parts}
+use Rattle.line_text.proofs.components.point_with.Goals as goal
 
 pub returns : goal.returns
 returns c = point_of_parts _ c.args.x c.args.y c.args.z (to_z-of_z _ _ c.ranges.x) (to_z-of_z _ _ c.ranges.y) (to_z-of_z _ _ c.ranges.z)
