@@ -34,15 +34,15 @@ first_made {X} {Y} P test make (x ∷ xs) y h e = by_test (first_made P test mak
         by_made rest (Some z) m e = let same : Some z ≡ Some y = cc in (x, h.0, m ∙ same)
 
 -- what is made of a face and its opposite begins with the face
-begins_with : (f k g : ℕ) (o : Option ℕ) → option_map (λ opposite. (k, opposite)) o ≡ Some (f, g) → k ≡ f
-begins_with f k g (Some opposite) e = cc
+begins_with : (f k g : ℕ) (o : Option ℕ) → option_map {U = ℕ × ℕ} (λ opposite. (k, opposite)) o ≡ Some (f, g) → k ≡ f
+begins_with f k g (Some opposite) e = let kept : ℕ × ℕ = (k, opposite) in let given : ℕ × ℕ = (f, g) in let same : kept ≡ given = cc in ap (λ (t : ℕ × ℕ). t.0) same
 begins_with f k g None e = absurd cc
 
 first_is_live : (m : Mesh) (a f g : ℕ) → slice_get (with_opposites m a) 0 ≡ Some (f, g) → IsLiveFace m f
 first_is_live m a f g e =
     let live : AllByRecursion (λ (x : ℕ × Corners). IsLiveFace m x.0) (finite.entries m.faces) =
     all_weaker (λ x. find nat_cmp x.0 (finite.entries m.faces) ≡ Some x.1) (λ x. IsLiveFace m x.0) (finite.entries m.faces) (λ x h. ap is_some (get-entries m.faces x.0 ∙ h)) (each_found (finite.entries m.faces) (entries_sorted m.faces)) in
-    let found = first_made (λ (x : ℕ × Corners). IsLiveFace m x.0) (λ x. has_corner x.1 a) (λ x. option_map (λ opposite. (x.0, opposite)) (least_opposite m x.1)) (finite.entries m.faces) (f, g) live e in
+    let found = first_made (λ (x : ℕ × Corners). IsLiveFace m x.0) (λ x. has_corner x.1 a) (λ x. option_map {U = ℕ × ℕ} (λ opposite. (x.0, opposite)) (least_opposite m x.1)) (finite.entries m.faces) (f, g) live e in
     subst (IsLiveFace m) (begins_with f (found.0).0 g (least_opposite m (found.0).1) found.2) found.1
 
 -- ---- each time there are fewer faces
@@ -69,17 +69,17 @@ cancels_times zero m a few = by_list (with_opposites m a) refl
     by_list : (two : List (ℕ × ℕ)) → with_opposites m a ≡ two → Cancels a m m
     by_list [] e = Cancels.none_left e
     by_list (x ∷ xs) e = let f = fewer m x.0 x.1 (first_is_live m a x.0 x.1 (ap (λ l. slice_get l 0) e)) in absurd (omega (arith, f, few))
-cancels_times (suc n) m a few = by_list (with_opposites m a) refl
+cancels_times (suc n) m a few = by_list (λ k least. cancels_times n k a least) (with_opposites m a) refl
   where
-    by_list : (two : List (ℕ × ℕ)) → with_opposites m a ≡ two → Cancels a m (cancelled_times (suc n) a m)
-    by_list [] e = subst (Cancels a m) (sym (same_often (suc n) m a e)) (Cancels.none_left e)
-    by_list (x ∷ xs) e =
+    by_list : ((k : Mesh) → finite.len k.faces ≤ n → Cancels a k (cancelled_times n a k)) → (two : List (ℕ × ℕ)) → with_opposites m a ≡ two → Cancels a m (cancelled_times (suc n) a m)
+    by_list rest [] e = subst (Cancels a m) (sym (same_often (suc n) m a e)) (Cancels.none_left e)
+    by_list rest (x ∷ xs) e =
         let at : slice_get (with_opposites m a) 0 ≡ Some (x.0, x.1) = ap (λ l. slice_get l 0) e in
         let f = fewer m x.0 x.1 (first_is_live m a x.0 x.1 at) in
         let next : with_one_cancelled a m ≡ without_faces m (x.0 ∷ x.1 ∷ []) = ap (λ o. option_map_or (λ (t : ℕ × ℕ). without_faces m (t.0 ∷ t.1 ∷ [])) o m) at in
         Cancels.one_more x.0 x.1 at
         (subst (λ k. Cancels a (without_faces m (x.0 ∷ x.1 ∷ [])) (cancelled_times n a k)) (sym next)
-        (cancels_times n (without_faces m (x.0 ∷ x.1 ∷ [])) a (omega (arith, f, few))))
+        (rest (without_faces m (x.0 ∷ x.1 ∷ [])) (omega (arith, f, few))))
 
 pub cancels_all : (m : Mesh) (a : ℕ) → Cancels a m (with_cancelled m a)
 cancels_all m a = cancels_times (finite.len m.faces) m a (omega arith)
