@@ -4,6 +4,8 @@ pub mod Closed
 pub mod Ends
 pub mod Beside
 pub mod PointOf
+pub mod ListedEdges
+pub mod Chains
 pub mod Made
 pub mod PutSplit
 pub mod FirstRunning
