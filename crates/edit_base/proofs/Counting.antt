@@ -118,10 +118,14 @@ module _ (m : Mesh) (s : Edge) (sound : IsSound m) (beside : IsBeside m s) where
   two_of : (n : ℕ) → n + 4 ≤ ID_MAX + 1 → n + 1 + 1 ≤ ID_MAX + 1
   two_of n h = omega arith
 
+  -- four ids of faces are left
+  pub ids_for_four : split_is_over m ≡ false → m.next_face + 4 ≤ ID_MAX + 1
+  ids_for_four e = at_most (m.next_face + 4) (ID_MAX + 1) (last_of _ (nat_lt (ID_MAX + 1) (m.next_face + 4)) e)
+
   -- where a split passes no limit, a flip passes none
   pub flip_fits : split_is_over m ≡ false → is_over_limits (flip_mesh m s) ≡ false
   flip_fits e =
-      let ids = at_most (m.next_face + 4) (ID_MAX + 1) (last_of _ (nat_lt (ID_MAX + 1) (m.next_face + 4)) e) in
+      let ids = ids_for_four e in
       none _ _ _ _
       (lies_within VERTICES_MAX (finite.len m.points) sound.limits.vertices)
       (ap (nat_lt FACES_MAX) len-flipped ∙ lies_within FACES_MAX (finite.len m.faces) sound.limits.faces)
