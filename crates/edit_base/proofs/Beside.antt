@@ -13,7 +13,7 @@ use Rattle.mesh_base.specs.Mesh.{Mesh, IsSound, IsLiveVertex, HasCorners, AreDif
 use Rattle.mesh_base.specs.Sides.{follows, runs, ids_where, IsClosed}
 use Rattle.mesh_base.specs.Pairs.{is_edge}
 use Rattle.edit_base.specs.Edges.{edge_of, corners_at, third_corner, face_running}
-use Rattle.mesh_base.proofs.Listed.{each_found, edge_live}
+use Rattle.mesh_base.proofs.Listed.{each_found, edge_live, and_first, and_second, or_either}
 use Rattle.edit_base.specs.Beside.{IsBeside}
 use Rattle.edit_base.proofs.Closed.{arc, round_of, first_way, second_way, third_way}
 
@@ -34,18 +34,6 @@ face_there m u v some =
     (found.0, found.1, get-entries m.faces (face_running m u v) ∙ found.2)
 
 -- ---- the third corner
-or_either : (a b : Bool) → (a || b) ≡ true → (a ≡ true) ⊎ (b ≡ true)
-or_either true b e = inl refl
-or_either false b e = inr e
-
-and_first : (a b : Bool) → (a && b) ≡ true → a ≡ true
-and_first true b e = refl
-and_first false b e = e
-
-and_second : (a b : Bool) → (a && b) ≡ true → b ≡ true
-and_second true b e = e
-and_second false b e = absurd (false≢true e)
-
 -- a, b and the third corner are three corners of the face, one after another
 pub record AreRound (C : Corners) (a b : ℕ) : Type 0 where
   pub a_b : a ≢ b

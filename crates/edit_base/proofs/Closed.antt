@@ -15,6 +15,7 @@ use Rattle.edit_base.specs.Edges.{Edge, third_corner, corners_from, without_face
 use Rattle.edit_base.specs.Split.{split_mesh}
 use Rattle.edit_base.specs.Flip.{flip_mesh}
 use Rattle.mesh_base.proofs.Counts.{runs-with_face, runs-without_face}
+use Rattle.mesh_base.proofs.Listed.{and_first, and_second, or_either}
 
 -- ---- arcs
 -- 1 where the step from u to v is the one from x to y
@@ -57,18 +58,6 @@ round a b c u v = arc a b u v + arc b c u v + arc c a u v
 
 pub same_arcs : {a b c a' b' c' : ℕ} (u v : ℕ) → a' ≡ a → b' ≡ b → c' ≡ c → round a' b' c' u v ≡ round a b c u v
 same_arcs u v e f g = λ i. round (e i) (f i) (g i) u v
-
-or_either : (a b : Bool) → (a || b) ≡ true → (a ≡ true) ⊎ (b ≡ true)
-or_either true b e = inl refl
-or_either false b e = inr e
-
-and_first : (a b : Bool) → (a && b) ≡ true → a ≡ true
-and_first true b e = refl
-and_first false b e = e
-
-and_second : (a b : Bool) → (a && b) ≡ true → b ≡ true
-and_second true b e = e
-and_second false b e = absurd (false≢true e)
 
 is_not : (b : Bool) → (b ≡ true → ⊥) → b ≡ false
 is_not true never = absurd (never refl)

@@ -4,9 +4,10 @@ pub mod Closed
 pub mod Ends
 pub mod Beside
 pub mod PointOf
+pub mod ListedEdges
+pub mod Chains
 pub mod Made
 pub mod PutSplit
-pub mod Counted
 pub mod FirstRunning
 pub mod Sound
 pub mod SplitSound
@@ -23,5 +24,6 @@ pub mod ZipTurns
 pub mod ZipDone
 pub mod SplitDone
 pub mod FlipDone
+pub mod Cancelled
 pub mod CollapseDone
 pub mod Left

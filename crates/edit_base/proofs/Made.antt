@@ -5,7 +5,7 @@ use Rattle.grid_base.specs.declared.TheConstants.{ID_MAX}
 use Rattle.mesh_base.specs.declared.ids.Corners.{Corners}
 use Rattle.mesh_base.specs.Mesh.{Mesh}
 use Rattle.mesh_base.specs.Changes.{corners_of, with_face, IsFresh, IsFullOfFaces}
-use Rattle.edit_base.proofs.Counted.{len-insert_le}
+use Rattle.edit_base.proofs.Counting.{len-insert_le}
 use Rattle.edit_base.specs.Edges.{with_faces}
 use Rattle.edit_base.specs.Edges.{AreFresh}
 use Rattle.edit_base.specs.Required.{HasRoomFor}

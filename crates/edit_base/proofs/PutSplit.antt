@@ -10,22 +10,21 @@ use Rattle.mesh_base.specs.Changes.{with_vertex, without_face, IsFullOfVertices}
 use Rattle.mesh_base.specs.Limits.{is_over_limits}
 use Rattle.mesh_base.proofs.Finite.{live_but_removed}
 use Rattle.edit_base.specs.Edges.{Edge, edge_of, corners_from, without_faces}
-use Rattle.edit_base.specs.Split.{split_mesh}
+use Rattle.edit_base.specs.Split.{split_mesh, split_is_over}
 use Rattle.edit_base.specs.Edges.{AreFresh}
-use Rattle.edit_base.specs.Required.{HasEdge, HasRoomFor, are_over}
+use Rattle.edit_base.specs.Required.{HasEdge, HasRoomFor}
 use Rattle.edit_base.specs.Beside.{IsBeside}
 use Rattle.edit_base.proofs.Beside.{beside_of}
 use Rattle.edit_base.proofs.ReasonLaws.{edge_again}
-use Rattle.edit_base.proofs.Counted.{bare_count, split_vertices, split_faces, split_counts}
+use Rattle.edit_base.proofs.Counting.{len-bare, split_vertices, split_count, split_over}
 use Rattle.edit_base.proofs.SplitSound.{all_fresh, split_is_sound}
 
 pub beside_it : (m : Mesh) (s : Edge) → IsSound m → IsClosed m → HasEdge m s → IsBeside m s
 beside_it m s sound closed edge =
     subst (IsBeside m) edge.beside (beside_of m s.a s.b sound closed (subst (λ (e : Edge). is_edge m e.a e.b ≡ true) (sym edge.beside) edge.is_edge))
 
-pub counts_of_split : (m : Mesh) (s : Edge) (at : Point) → IsSound m → IsClosed m → HasEdge m s →
-    are_over (finite.len m.points + 1) (finite.len m.faces + 2) (m.next_vertex + 1) (m.next_face + 4) ≡ is_over_limits (split_mesh m s at)
-counts_of_split m s at sound closed edge = split_counts m s at sound (beside_it m s sound closed edge)
+pub counts_of_split : (m : Mesh) (s : Edge) (at : Point) → IsSound m → IsClosed m → HasEdge m s → split_is_over m ≡ is_over_limits (split_mesh m s at)
+counts_of_split m s at sound closed edge = sym (split_over m s sound (beside_it m s sound closed edge) at)
 
 module _ (m : Mesh) (s : Edge) (at : Point) (sound : IsSound m) (closed : IsClosed m) (edge : HasEdge m s) (fits : is_over_limits (split_mesh m s at) ≡ false) where
   beside : IsBeside m s
@@ -42,7 +41,7 @@ module _ (m : Mesh) (s : Edge) (at : Point) (sound : IsSound m) (closed : IsClos
 
   pub vertex_has_room : ¬ IsFullOfVertices (without_faces m (s.forth ∷ s.back ∷ []))
   vertex_has_room full =
-      let v = split_vertices m s at sound beside in
+      let v = split_vertices m s sound beside at in
       let most = after.limits.vertices in
       let ids : m.next_vertex + 1 ≤ ID_MAX + 1 = after.limits.vertex_ids.1 in
       ⊎_elim (λ e. absurd (omega (arith, v, most, e))) (λ e. absurd (omega (arith, ids, e))) full
@@ -55,9 +54,9 @@ module _ (m : Mesh) (s : Edge) (at : Point) (sound : IsSound m) (closed : IsClos
 
   pub faces_have_room : HasRoomFor 4 base
   faces_have_room =
-      let f = split_faces m s at sound beside in
+      let f = split_count m s sound beside at in
       let most = after.limits.faces in
-      let b = bare_count m s at sound beside in
+      let b = len-bare m s sound beside in
       let ids : m.next_face + 4 ≤ ID_MAX + 1 = let i : (split_mesh m s at).next_face ≤ ID_MAX + 1 = after.limits.face_ids.1 in omega (arith, i) in
       record { faces = let h : finite.len (without_faces m (s.forth ∷ s.back ∷ [])).faces + 4 ≤ FACES_MAX = omega (arith, f, most, b) in h; ids = ids }
 

@@ -67,7 +67,7 @@ still_fresh m c d fresh apart = record {
 within : (v n : ℕ) → nat_lt n v ≡ false → v ≤ n
 within v n h = grind (arith, nat_tests)
 
-neither : (a b : Bool) → (a || b) ≡ false → (a ≡ false) × (b ≡ false)
+pub neither : (a b : Bool) → (a || b) ≡ false → (a ≡ false) × (b ≡ false)
 neither true b h = cc
 neither false b h = (refl, h)
 

@@ -12,10 +12,7 @@ use Rattle.mesh_base.specs.declared.ids.Corners.{Corners}
 use Rattle.mesh_base.specs.Mesh.{Mesh, HasCorners, equal_up_to_rotation}
 use Rattle.mesh_base.proofs.MeshLaws.{equal_symmetric}
 use Rattle.edit_base.specs.Edges.{has_equal, doubles_a_face}
-
-neither : (a b : Bool) → (a || b) ≡ false → (a ≡ false) × (b ≡ false)
-neither true b h = cc
-neither false b h = (refl, h)
+use Rattle.edit_base.proofs.Sound.{neither}
 
 -- what is found at a key is among the values
 found_any : (test : Corners → Bool) (es : List (ℕ × Corners)) (f : ℕ) (c : Corners) → find nat_cmp f es ≡ Some c → list_any test (map (λ e. e.1) es) ≡ false → test c ≡ false

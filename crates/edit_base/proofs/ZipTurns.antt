@@ -13,17 +13,13 @@ use Rattle.edit_base.specs.Edges.{Edge, with_faces, without_faces, doubles_a_fac
 use Rattle.edit_base.specs.Zip.{zip_mesh, turns}
 use Rattle.edit_base.specs.Answers.{four_ids, repeats}
 use Rattle.edit_base.proofs.Closed.{arc}
-use Rattle.edit_base.proofs.Sound.{not_over}
+use Rattle.edit_base.proofs.Sound.{neither, not_over}
 use Rattle.edit_base.proofs.Changed.{mesh-without_faces, mesh-with_many}
-use Rattle.edit_base.proofs.Counting.{made_many}
+use Rattle.edit_base.proofs.Counting.{len-with_faces}
 use Rattle.edit_base.proofs.Tunnel.{tunnel, IsRim, AreFar, AreAllLive, may_be_made}
 use Rattle.edit_base.proofs.ZipClosed.{AreDisjoint, bare_below, turn_is_closed}
 
 -- ---- eight different ids
-neither : (a b : Bool) → (a || b) ≡ false → (a ≡ false) × (b ≡ false)
-neither true b h = cc
-neither false b h = (refl, h)
-
 apart_of : (x y : ℕ) → (y == x) ≡ false → x ≢ y
 apart_of x y e h = grind (arith, nat_tests)
 
@@ -93,7 +89,7 @@ module _ (m : Mesh) (s t : Edge) (sound : IsSound m) (beside_s : IsBeside m s) (
         let base = without_faces m (s.forth ∷ s.back ∷ t.forth ∷ t.back ∷ []) in
         let below = bare_below m s t sound beside_s beside_t apart in
         let same : finite.len left.faces ≡ finite.len (zip_mesh m s t 0).faces =
-        made_many base (tunnel s.b s.c s.a s.d r0 r1 r2 r3) below ∙ sym (made_many base (tunnel s.b s.c s.a s.d t.b t.d t.a t.c) below) in
+        len-with_faces base (tunnel s.b s.c s.a s.d r0 r1 r2 r3) below ∙ sym (len-with_faces base (tunnel s.b s.c s.a s.d t.b t.d t.a t.c) below) in
         record {
           is_mesh = mesh-with_many base (tunnel s.b s.c s.a s.d r0 r1 r2 r3) (mesh-without_faces m (s.forth ∷ s.back ∷ t.forth ∷ t.back ∷ []) sound.is_mesh) sound.limits.face_ids.0
               (may_be_made s.b s.c s.a s.d r0 r1 r2 r3 first_rim r f0 f1 f2 f3 base

@@ -1,5 +1,6 @@
 -- The laws of edits, as statements.
-use Rattle.std.specs.Prelude.{◌≡◌, ℕ, ◌⊎◌, Bool}
+use Rattle.std.specs.Prelude.{◌≡◌, ◌↔◌, ℕ, ◌⊎◌, Bool, List}
+use Rattle.std.specs.List.{Contains}
 use Rattle.std.proofs.Common.{None}
 use Rattle.grid_base.specs.declared.Positions.{Positions}
 use Rattle.grid_base.specs.Triples.{Triple, plus, times}
@@ -13,6 +14,7 @@ use Rattle.mesh_base.specs.Placements.{IsClearMesh}
 use Rattle.edit_base.specs.Scaffold.{Scaffold, motion_of, first_lacking, IsClearBut}
 use Rattle.edit_base.specs.Answers.{edited}
 use Rattle.edit_base.specs.Clauses.{MovesClear}
+use Rattle.edit_base.specs.Classes.{Linked, class_of}
 
 -- Where no pair lacks what is required, the motion is clear.
 abbrev pub NoneLackingIsClear : (Positions → Bool) → Type 0
@@ -48,3 +50,7 @@ FaceIsTwoFaces = (x y a c d : Triple) → Meets x y a d c →
 abbrev pub EdgeIsTwoEdges : Type 0
 EdgeIsTwoEdges = (c d x y z : Triple) → Meets c d x y z →
     Meets (times 2 c) (plus c d) (times 2 x) (times 2 y) (times 2 z) ⊎ Meets (plus c d) (times 2 d) (times 2 x) (times 2 y) (times 2 z)
+
+-- A class has the numbers of the list to which a chain leads, and no others.
+abbrev pub ClassesAreLinked : Type 0
+ClassesAreLinked = (touch : ℕ → ℕ → Bool) (all : List ℕ) (x y : ℕ) → Contains all x → Contains (class_of touch all x) y ↔ (Contains all y × Linked touch all x y)

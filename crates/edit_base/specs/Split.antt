@@ -1,7 +1,6 @@
 -- The split of an edge.
-use Rattle.std.specs.Prelude.{ℕ, ◌+◌, ◌||◌, Bool, List, [], ◌∷◌, nat_lt}
+use Rattle.std.specs.Prelude.{ℕ, ◌+◌, Bool, List, [], ◌∷◌}
 use Rattle.std.specs.FinMap as finite
-use Rattle.grid_base.specs.declared.TheConstants.{VERTICES_MAX, FACES_MAX, ID_MAX}
 use Rattle.grid_base.specs.declared.Point.{Point}
 use Rattle.grid_base.specs.Points.{position_of}
 use Rattle.grid_base.specs.Triples.{times}
@@ -10,6 +9,7 @@ use Rattle.mesh_base.specs.declared.ids.Corners.{Corners}
 use Rattle.mesh_base.specs.Mesh.{Mesh}
 use Rattle.mesh_base.specs.Changes.{with_vertex}
 use Rattle.edit_base.specs.Edges.{Edge, point_of, floor_mid, exact_mid, corners_from, without_faces, with_faces}
+use Rattle.edit_base.specs.Required.{are_over}
 use Rattle.edit_base.specs.Scaffold.{Scaffold}
 
 -- the two faces beside the edge
@@ -26,8 +26,7 @@ split_mesh m s at = with_faces (with_vertex (without_faces m (faces_beside s)) a
 
 -- a split would pass a limit: it takes room for one vertex and two faces, and the ids of one vertex and four faces
 abbrev pub split_is_over : Mesh → Bool
-split_is_over m =
-    nat_lt VERTICES_MAX (finite.len m.points + 1) || nat_lt FACES_MAX (finite.len m.faces + 2) || nat_lt (ID_MAX + 1) (m.next_vertex + 1) || nat_lt (ID_MAX + 1) (m.next_face + 4)
+split_is_over m = are_over (finite.len m.points + 1) (finite.len m.faces + 2) (m.next_vertex + 1) (m.next_face + 4)
 
 -- where the new vertex is put
 abbrev pub split_point : Mesh → Edge → Point

@@ -1,3 +1,4 @@
+//! What an edit answers.
 use grid_base::{Items, Point};
 use mesh_base::{PairName, VertexId};
 
@@ -72,6 +73,8 @@ pub enum Change {
 /// What came of an edit.
 #[derive(Drop)]
 pub enum Edit {
+    /// It is done, and what it changed.
     Done(Change),
+    /// It is not done, and the first reason against it. The mesh is as it was.
     No(Why),
 }

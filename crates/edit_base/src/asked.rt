@@ -1,3 +1,4 @@
+//! What is asked: one edit, or a pass.
 use mesh_base::VertexId;
 
 /// An edit that is asked for. An edge is named by its two ends.

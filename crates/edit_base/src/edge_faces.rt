@@ -95,11 +95,12 @@ fn beside_ordered<S: Surface>(mesh: &S, a: VertexId, b: VertexId) -> Option<Edge
     })
 }
 
-/// The edge of two ids in any order, with the faces beside it: the first that runs each way, by rising id. Some where the
-/// two are an edge of a closed mesh, and None where they are none.
+/// The edge of two ids in any order, with the faces beside it: the first that runs each way, by rising id. Some exactly
+/// where there is one each way; in a closed mesh that is where the two are an edge.
 pub fn edge_beside<S: Surface>(mesh: &S, u: VertexId, v: VertexId) -> Option<EdgeFaces>
     ensures edge { IfSome result (λ e. e ≡ edge_of (S.mesh mesh.now) u v) }
     ensures some { IsClosed (S.mesh mesh.now) → is_some result ≡ is_edge (S.mesh mesh.now) (min u v) (max u v) }
+    ensures each_way { is_some result ≡ (nat_lt 0 (runs (S.mesh mesh.now) (min u v) (max u v)) && nat_lt 0 (runs (S.mesh mesh.now) (max u v) (min u v))) }
 {
     if u <= v {
         beside_ordered(mesh, u, v)

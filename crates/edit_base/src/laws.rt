@@ -13,8 +13,9 @@ ghost use Rattle.edit_base.specs.Edges.{edge_of, without_faces, AreFresh};
 ghost use Rattle.edit_base.specs.Beside.{IsBeside};
 ghost use Rattle.edit_base.specs.Split.{faces_beside, split_faces, split_mesh, split_is_over};
 ghost use Rattle.edit_base.specs.Flip.{flip_faces, flip_mesh};
+ghost use Rattle.edit_base.specs.Collapse.{Cancels, with_cancelled};
 ghost use Rattle.edit_base.specs.Answers.{is_full, split_answer, flip_answer, collapse_answer, zip_answer};
-ghost use Rattle.edit_base.specs.Laws.{NoneLackingIsClear, StaysSound, StaysClosed, StaysClear, MotionIsClear};
+ghost use Rattle.edit_base.specs.Laws.{NoneLackingIsClear, StaysSound, StaysClosed, StaysClear, MotionIsClear, ClassesAreLinked};
 
 /// Where no pair of a scaffold lacks what is required of it, by an exact test of meeting, no pair meets at any fraction of
 /// the motion, but at the start, or the end, where two may touch there.
@@ -56,6 +57,16 @@ pub fn flips_keep_the_mesh()
     ensures closed { (meets : Positions → Bool) (u v depth : ℕ) → StaysClosed (λ m. flip_answer meets m u v depth) }
     ensures clear { (meets : Positions → Bool) → IsExact meets → (u v depth : ℕ) → StaysClear (λ m. flip_answer meets m u v depth) }
     ensures motion { (meets : Positions → Bool) → IsExact meets → (u v depth : ℕ) → MotionIsClear (λ m. flip_answer meets m u v depth) }
+{}
+
+/// A class of numbers, as a fan of faces is one, has those to which a chain leads whose neighbours touch, and no others.
+pub fn classes_are_linked()
+    ensures { ClassesAreLinked }
+{}
+
+/// The third act of a collapse, which drops faces with their opposites, is done until no face at the vertex has an opposite.
+pub fn third_acts_leave_no_opposite()
+    ensures { (m : Mesh) (a : ℕ) → Cancels a m (with_cancelled m a) }
 {}
 
 /// The motion of a done collapse, in which the two ends of the edge come together, is clear.

@@ -1,5 +1,5 @@
 //! Faces made one after another, and midpoints.
-ghost use Rattle.std.specs.Prelude.{◌≡◌, ◌≤◌, ◌+◌, ◌*ℤ◌, ◌+ℤ◌, ℕ, List, map, length, pos, unsigned_abs, OnOk, IfOk};
+ghost use Rattle.std.specs.Prelude.{◌≡◌, ◌≤◌, ◌+◌, ◌*ℤ◌, ◌+ℤ◌, ℕ, List, map, length, pos, unsigned_abs, OnOk, OnErr, IfOk};
 ghost use Rattle.grid_base.specs.declared.TheConstants.{BOX, HALF_MAX};
 ghost use Rattle.grid_base.specs.Triples.{plus, times, IsWithin};
 ghost use Rattle.grid_base.specs.Points.{position_of};
@@ -12,11 +12,12 @@ ghost use Rattle.edit_base.specs.Required.{HasRoomFor};
 use grid_base::{BOX, NoMemory, Point, Wide};
 use mesh_base::{AddFault, Surface, VertexId};
 
-/// Makes a vertex where no limit is in the way, and answers its id.
+/// Makes a vertex where no limit is in the way, and answers its id. Where memory is wanting, all is as it was.
 pub fn make_vertex<S: Surface>(mesh: &mut S, at: Point) -> Result<VertexId, NoMemory>
     requires { ¬ IsFullOfVertices (S.mesh mesh.old) }
     ensures id { IfOk result (λ v. v ≡ (S.mesh mesh.old).next_vertex) }
     ensures made { OnOk result (S.mesh mesh.new ≡ with_vertex (S.mesh mesh.old) at) }
+    ensures left { OnErr result ((S.mesh mesh.new ≡ S.mesh mesh.old) × (S.kept mesh.new ≡ S.kept mesh.old)) }
     ensures marks { BeginsWith (S.kept mesh.new) (S.kept mesh.old) }
 {
     match mesh.add_vertex(at) {
@@ -26,11 +27,12 @@ pub fn make_vertex<S: Surface>(mesh: &mut S, at: Point) -> Result<VertexId, NoMe
     }
 }
 
-/// Makes a face where no limit is in the way.
+/// Makes a face where no limit is in the way. Where memory is wanting, all is as it was.
 pub fn make_face<S: Surface>(mesh: &mut S, c: [VertexId; 3]) -> Result<(), NoMemory>
     requires fresh { IsFresh (S.mesh mesh.old) (corners_of c) }
     requires room { ¬ IsFullOfFaces (S.mesh mesh.old) }
     ensures made { OnOk result (S.mesh mesh.new ≡ with_face (S.mesh mesh.old) (corners_of c)) }
+    ensures left { OnErr result ((S.mesh mesh.new ≡ S.mesh mesh.old) × (S.kept mesh.new ≡ S.kept mesh.old)) }
     ensures marks { BeginsWith (S.kept mesh.new) (S.kept mesh.old) }
 {
     match mesh.add_face(c) {

@@ -1,3 +1,4 @@
+//! How the vertices of a test move, and which pairs may touch.
 use grid_base::Wide;
 use mesh_base::VertexId;
 

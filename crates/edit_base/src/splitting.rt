@@ -5,7 +5,7 @@ ghost use Rattle.mesh_base.specs.Sides.{IsClosed};
 ghost use Rattle.mesh_base.specs.Kept.{BeginsWith};
 ghost use Rattle.grid_base.specs.declared.Point.{Point};
 ghost use Rattle.edit_base.specs.Edges.{Edge};
-ghost use Rattle.edit_base.specs.Split.{split_mesh, split_point};
+ghost use Rattle.edit_base.specs.Split.{split_mesh, split_is_over, split_point};
 ghost use Rattle.edit_base.specs.Required.{HasEdge, are_over};
 
 use crate::edge_faces::EdgeFaces;
@@ -30,10 +30,11 @@ pub fn are_over(vertices: u32, faces: u32, next_vertex: u32, next_face: u32) -> 
         || next_face > ID_MAX + 1
 }
 
-/// Whether the split of an edge would pass a limit. It is the same of all edges: one vertex more, two faces more, one
-/// vertex id and four face ids.
+/// Whether the split of an edge would pass a limit, which the counts of the mesh tell for all its edges alike: it takes
+/// one vertex more, two faces more, one vertex id and four face ids.
 pub fn is_split_over<S: Surface>(mesh: &S) -> bool
-    ensures { (s : Edge) (at : Point) → IsClosed (S.mesh mesh.now) → HasEdge (S.mesh mesh.now) s → result ≡ is_over_limits (split_mesh (S.mesh mesh.now) s at) }
+    ensures counts { result ≡ split_is_over (S.mesh mesh.now) }
+    ensures over { (s : Edge) (at : Point) → IsClosed (S.mesh mesh.now) → HasEdge (S.mesh mesh.now) s → result ≡ is_over_limits (split_mesh (S.mesh mesh.now) s at) }
 {
     are_over(
         mesh.vertices() + 1,

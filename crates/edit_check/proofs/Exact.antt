@@ -6,7 +6,8 @@ use Rattle.grid_base.specs.SeparationTests.{passes, opens, closes}
 use Rattle.grid_base.proofs.Reflected.{passes_of, of_passes, opens_of, of_opens}
 use Rattle.grid_decided.specs.Decided.{meets_exactly, meets_exactly-is_exact}
 
-both_ways : (a b : Bool) → (a ≡ true → b ≡ true) → (b ≡ true → a ≡ true) → a ≡ b
+-- two tests that pass alike are one
+pub both_ways : (a b : Bool) → (a ≡ true → b ≡ true) → (b ≡ true → a ≡ true) → a ≡ b
 both_ways true b f g = sym (f refl)
 both_ways false true f g = g refl
 both_ways false false f g = refl

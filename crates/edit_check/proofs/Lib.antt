@@ -3,6 +3,5 @@ pub mod Untouched
 pub mod Exact
 pub mod Fits
 pub mod Scans
-pub mod Edges
 pub mod Premise
 pub mod Resting

@@ -110,3 +110,9 @@ split_changed m s at moves =
   where
     apart : (v : ℕ) → v < m.next_vertex → (m.next_vertex == v) ≡ false
     apart v below = grind (arith, nat_tests)
+
+-- a clear mesh whose edge is split may be checked, where the faces that the split makes are new
+pub split_may_be_checked : (m n : Mesh) (s : Edge) (at : Point) (moves : List Move) (fresh_from : ℕ) → IsSound m → IsClearMesh m → n ≡ split_mesh m s at → fresh_from ≡ m.next_face → IsClearWhereUntouched n moves fresh_from
+split_may_be_checked m n s at moves fresh_from sound clear made first =
+    subst (λ k. IsClearWhereUntouched n moves k) (sym first)
+    (subst (λ (k : Mesh). IsClearWhereUntouched k moves m.next_face) (sym made) (agreeing_is m (split_mesh m s at) moves sound clear (split_changed m s at moves)))

@@ -17,11 +17,7 @@ use Rattle.edit_base.specs.declared.Touch.TheVariants.{Never}
 use Rattle.edit_base.specs.Scaffold.{is_as_required, first_lacking}
 use Rattle.edit_check.specs.Checking.{scaffold_by}
 use Rattle.pair_scan.proofs.Lists.{find-alike}
-
-both_ways : (a b : Bool) → (a ≡ true → b ≡ true) → (b ≡ true → a ≡ true) → a ≡ b
-both_ways true b f g = sym (f refl)
-both_ways false true f g = g refl
-both_ways false false f g = refl
+use Rattle.edit_check.proofs.Exact.{both_ways}
 
 not_met : (f : Positions) → (MeetAt f → ⊥) → not (meets_exactly f) ≡ true
 not_met f never = by_test (meets_exactly f) refl

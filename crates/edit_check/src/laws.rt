@@ -22,9 +22,10 @@ pub fn untouched_pairs_are_as_required()
 {}
 
 /// A clear mesh may be checked for any moves. So may one that agrees with a clear mesh but for new and moved parts, where
-/// faces from that one's next id on are new.
+/// faces from that one's next id on are new; and any mesh, where all faces are new.
 pub fn clear_meshes_may_be_checked()
     ensures itself { (m : Mesh) (moves : List Move) (fresh_from : ℕ) → IsClearMesh m → IsClearWhereUntouched m moves fresh_from }
+    ensures all_new { (m : Mesh) (moves : List Move) → IsSound m → IsClearWhereUntouched m moves 1 }
     ensures changed { (old new : Mesh) (moves : List Move) → IsSound old → IsClearMesh old → AgreesWhereOld old new moves → IsClearWhereUntouched new moves old.next_face }
 {}
 

@@ -1,17 +1,15 @@
 //! Edges and faces with where their vertices go.
-ghost use Rattle.std.specs.Prelude.{◌≡◌, ◌≤◌, ◌*ℤ◌, pos, unsigned_abs, IfOk, is_some};
+ghost use Rattle.std.specs.Prelude.{◌≡◌, IfOk, is_some};
 ghost use Rattle.std.specs.List.{filter, list_any};
 ghost use Rattle.std.specs.Option.{option_map};
 ghost use Rattle.std.specs.FinMap as finite;
-ghost use Rattle.grid_base.specs.Points.{position_of};
-ghost use Rattle.grid_base.specs.Triples.{times};
 ghost use Rattle.mesh_base.specs.Sides.{has_corner};
 ghost use Rattle.mesh_base.specs.Placements.{own_points_doubled};
 ghost use Rattle.edit_base.specs.Scaffold.{move_of};
 ghost use Rattle.edit_check.specs.Moving.{path_of, is_moved, is_touched, moving_edge, moving_face, moving_faces};
 
-use edit_base::Move;
-use grid_base::{BOX, Items, NoMemory, Point, Wide};
+use edit_base::{Move, doubled, point_of};
+use grid_base::{Items, NoMemory, Wide};
 use mesh_base::{Corners, FaceId, Surface, VertexId, live_faces};
 use std::alloc::Global;
 
@@ -43,32 +41,11 @@ pub(crate) struct MovingFace {
     pub(crate) touched: bool,
 }
 
-fn twice(a: i32) -> i128
-    requires { unsigned_abs a ≤ BOX }
-    ensures { result ≡ pos 2 *ℤ a }
-{
-    i128::from(2 * a)
-}
-
-/// A point in half units.
-fn doubled(p: Point) -> Wide
-    ensures { result ≡ times 2 (position_of p) }
-{
-    Wide {
-        x: twice(p.x),
-        y: twice(p.y),
-        z: twice(p.z),
-    }
-}
-
 /// Where a vertex stands, in half units; the origin, where it is not live.
 fn resting<S: Surface>(mesh: &S, v: VertexId) -> Wide
     ensures { result ≡ own_points_doubled (S.mesh mesh.now) v }
 {
-    match mesh.point(v) {
-        Some(p) => doubled(p),
-        None => Wide { x: 0, y: 0, z: 0 },
-    }
+    doubled(point_of(mesh, v))
 }
 
 /// The move of a vertex, if it is named.

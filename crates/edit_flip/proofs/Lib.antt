@@ -1,3 +1,2 @@
 pub mod PutFlip
 pub mod Answered
-pub mod Left

@@ -1,4 +1,3 @@
 pub mod SaidLines
 pub mod Turning
 pub mod Keeping
-pub mod EdgesOrdered

@@ -5,9 +5,9 @@ use Rattle.mesh_base.specs.declared.ids.PairName.{PairName}
 use Rattle.mesh_base.specs.Pairs.{Pair, edges, pairs_of}
 use Rattle.edit_base.specs.Scaffold.{Scaffold, is_as_required}
 use Rattle.edit_base.proofs.Clear.{none_lacking_is_clear}
+use Rattle.edit_base.proofs.ListedEdges.{edge_at}
 use Rattle.edit_check.specs.Checking.{scaffold_by, first_of}
 use Rattle.pair_scan.proofs.Lists.{first_behind, first_here, first_ended}
-use Rattle.edit_check.proofs.Edges.{edge_at}
 use Rattle.edit_check.proofs.checking.check.Goals as goal
 
 pub first_of_edge-requires-clause-ordered : goal.first_of_edge-requires-clause-ordered

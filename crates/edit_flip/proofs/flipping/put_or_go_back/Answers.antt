@@ -1,8 +1,13 @@
 use Rattle.std.proofs.Common.{sym, subst}
+use Rattle.std.specs.Prelude.{OnErr, Result, Ok, Err}
 use Rattle.mesh_base.proofs.MarksHold.{stands_along, stands_for_one}
 use Rattle.edit_flip.specs.Tried.{MayBeTried}
-use Rattle.edit_flip.proofs.Left.{on_err}
 use Rattle.edit_flip.proofs.flipping.put_or_go_back.Goals as goal
+
+-- what holds holds at an error
+on_err : {A E P : Type 0} (result : Result A E) → P → OnErr result P
+on_err (Ok value) p = tt
+on_err (Err fault) p = p
 
 pub put_flip-done-requires-clause-tried : goal.put_flip-done-requires-clause-tried
 put_flip-done-requires-clause-tried g c = subst (λ n. MayBeTried n c.args.e.now) (sym c.in_ok-mark.ensures.mesh) c.requires.tried

@@ -17,7 +17,7 @@ returns-then-is_split_over-clause-refused g c depth =
     let uncrowded = subst (λ (s : Edge). is_crowded m s.a s.b ≡ false) c.e.view_is (sym c.is_crowded.ensures ∙ c.if-is_crowded.false) in
     full_is_refused meets_exactly m e c.args.a c.args.b depth c.in-Some.ensures.edge edge.is_edge uncrowded
     (sym c.is_made_already.ensures ∙ c.if-is_made_already.false)
-    (sym (c.is_split_over.ensures e (split_point m e) c.requires.closed edge) ∙ c.if-is_split_over.true)
+    (sym (c.is_split_over.ensures.over e (split_point m e) c.requires.closed edge) ∙ c.if-is_split_over.true)
 
 pub returns-else-is_split_over-clause-tried : goal.returns-else-is_split_over-clause-tried
 returns-else-is_split_over-clause-tried g c =
@@ -28,4 +28,4 @@ returns-else-is_split_over-clause-tried g c =
     let uncrowded = subst (λ (s : Edge). is_crowded m s.a s.b ≡ false) c.e.view_is (sym c.is_crowded.ensures ∙ c.if-is_crowded.false) in
     may_be_tried m e c.args.a c.args.b c.in-Some.ensures.edge there uncrowded
     (sym c.is_made_already.ensures ∙ c.if-is_made_already.false)
-    (sym (c.is_split_over.ensures e (split_point m e) c.requires.closed edge) ∙ c.if-is_split_over.false)
+    (sym (c.is_split_over.ensures.over e (split_point m e) c.requires.closed edge) ∙ c.if-is_split_over.false)

@@ -15,7 +15,7 @@ returns-then-is_split_over-clause-refused g c depth =
     let inside = c.e.view_is ∙ c.in-Some.ensures.edge in
     let crowded : is_crowded m s.a s.b ≡ false = ap (λ (e : Edge). is_crowded m e.a e.b) (sym inside) ∙ sym c.is_crowded.ensures ∙ c.if-is_crowded.false in
     full_answer m c.args.a c.args.b depth edge crowded
-    (sym (c.is_split_over.ensures s (split_point m s) c.requires.closed (has_edge_of m c.args.a c.args.b edge)) ∙ c.if-is_split_over.true)
+    (sym (c.is_split_over.ensures.over s (split_point m s) c.requires.closed (has_edge_of m c.args.a c.args.b edge)) ∙ c.if-is_split_over.true)
 
 pub returns-else-is_split_over-clause-tried : goal.returns-else-is_split_over-clause-tried
 returns-else-is_split_over-clause-tried g c =
@@ -26,5 +26,5 @@ returns-else-is_split_over-clause-tried g c =
     record {
       edge = edge;
       one_face_each_way = ap (λ (e : Edge). is_crowded m e.a e.b) (sym c.e.view_is) ∙ sym c.is_crowded.ensures ∙ c.if-is_crowded.false;
-      fits = sym (c.is_split_over.ensures s (split_point m s) c.requires.closed edge) ∙ c.if-is_split_over.false;
+      fits = sym (c.is_split_over.ensures.over s (split_point m s) c.requires.closed edge) ∙ c.if-is_split_over.false;
     }

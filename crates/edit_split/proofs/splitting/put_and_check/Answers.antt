@@ -1,10 +1,10 @@
 use Rattle.std.proofs.Common.{[], ◌∷◌}
 use Rattle.edit_base.specs.declared.Move.{Move}
-use Rattle.edit_split.proofs.Tried.{may_be_checked}
+use Rattle.edit_check.proofs.Premise.{split_may_be_checked}
 use Rattle.edit_split.proofs.splitting.put_and_check.Goals as goal
 
 pub check-requires-clause-clear : goal.check-requires-clause-clear
 check-requires-clause-clear g c =
     let m = g.S.Surface.mesh c.args.mesh.now in
     let way : Move = record { v = c.next_vertex.result; start = c.exact_mid.result; end = c.doubled.result } in
-    may_be_checked m (g.S.Surface.mesh c.put_split.new.mesh) c.args.e.now c.args.at (way ∷ []) c.next_face-fresh_from.result (g.met.S.Surface.sound c.args.mesh.now) c.requires.clear c.in_ok-put_split.ensures.made c.next_face-fresh_from.ensures
+    split_may_be_checked m (g.S.Surface.mesh c.put_split.new.mesh) c.args.e.now c.args.at (way ∷ []) c.next_face-fresh_from.result (g.met.S.Surface.sound c.args.mesh.now) c.requires.clear c.in_ok-put_split.ensures.made c.next_face-fresh_from.ensures

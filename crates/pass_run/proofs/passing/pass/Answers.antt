@@ -3,9 +3,9 @@ use Rattle.std.proofs.lemmas.Result.{err_from_is_err_and}
 use Rattle.grid_decided.specs.Decided.{meets_exactly}
 use Rattle.mesh_base.specs.Pairs.{edges}
 use Rattle.mesh_base.proofs.MarksHold.{begins_itself, begins_along}
+use Rattle.edit_base.proofs.ListedEdges.{edge_at}
 use Rattle.pass_run.specs.PassLines.{pass_lines}
 use Rattle.pass_run.proofs.SaidLines.{said_nothing}
-use Rattle.pass_run.proofs.EdgesOrdered.{ordered_at}
 use Rattle.pass_run.proofs.Turning.{pass_makes, opened, opened_in_part, turn_so_far, turn_in_part, ended}
 use Rattle.pass_run.proofs.passing.pass.Goals as goal
 
@@ -31,8 +31,10 @@ loop-a-init g c = record {
 
 pub take_turn-requires-clause-ordered : goal.take_turn-requires-clause-ordered
 take_turn-requires-clause-ordered g c =
-    ordered_at (g.S.Surface.mesh c.args.mesh.now) (g.met.S.Surface.sound c.args.mesh.now) c.as_slice-a-items.result.now c.loop-a.a-index c.loop-a-item.result c.loop-a-item.result
-    (c.as_slice-a-items.ensures ∙ c.in_ok-edges.ensures) c.loop-a-test.true c.loop-a-item.is
+    let edge = edge_at (g.S.Surface.mesh c.args.mesh.now) (g.met.S.Surface.sound c.args.mesh.now) c.as_slice-a-items.result.now c.loop-a.a-index c.loop-a-item.result c.loop-a-item.result
+    (c.as_slice-a-items.ensures ∙ c.in_ok-edges.ensures) c.loop-a-test.true c.loop-a-item.is in
+    let below = edge.0 in
+    omega (arith, below)
 
 pub returns-in_err-count-clause-said : goal.returns-in_err-count-clause-said
 returns-in_err-count-clause-said g c =
