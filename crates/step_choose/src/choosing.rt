@@ -83,21 +83,21 @@ pub fn choose<S: Surface>(
     alloc: Global,
     mesh: &S,
     asked: &Shifts,
-    set: Settings,
+    set: &Settings,
 ) -> Result<Choice, NoMemory>
     requires named { NameLive (S.mesh mesh.now) asked.now }
     requires in_box { IsTrue (end_in_box (S.mesh mesh.now) asked.now) }
     requires clear { IsClearMesh (S.mesh mesh.now) }
-    requires limits { AreWithinLimits set }
-    ensures hits { IfOk result (λ c. c.hits ≡ failing meets_exactly (S.mesh mesh.now) asked.now set.depth) }
-    ensures way { IfOk result (λ c. way_of c ≡ way_taken meets_exactly (S.mesh mesh.now) asked.now set) }
-    ensures first { IfOk result (λ c. IsFirstWay meets_exactly (S.mesh mesh.now) asked.now set c.how c.taken) }
+    requires limits { AreWithinLimits set.now }
+    ensures hits { IfOk result (λ c. c.hits ≡ failing meets_exactly (S.mesh mesh.now) asked.now set.now.depth) }
+    ensures way { IfOk result (λ c. way_of c ≡ way_taken meets_exactly (S.mesh mesh.now) asked.now set.now) }
+    ensures first { IfOk result (λ c. IsFirstWay meets_exactly (S.mesh mesh.now) asked.now set.now c.how c.taken) }
 
     // The shifts taken name the live vertices, end in the box, and keep the mesh clear at every fraction.
     ensures clear_along { IfOk result (λ c. IsClearAlong (S.mesh mesh.now) (moved_by (S.mesh mesh.now) c.taken)) }
     ensures names { IfOk result (λ c. NameLive (S.mesh mesh.now) c.taken) }
     ensures ends { IfOk result (λ c. IsTrue (end_in_box (S.mesh mesh.now) c.taken)) }
 {
-    let choice = first_way(alloc, mesh, asked, set)?;
+    let choice = first_way(alloc, mesh, asked, *set)?;
     Ok(choice)
 }

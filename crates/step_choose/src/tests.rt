@@ -97,7 +97,7 @@ fn chosen(
     assert!(rt; met.is_none());
     assert!(rt; set.depth <= 12 && set.halvings <= 27);
     let asked = shifts_of(alloc, &mesh, x, rt)?;
-    let choice = choose(alloc, &mesh, &asked, set)?;
+    let choice = choose(alloc, &mesh, &asked, &set)?;
     let taken = choice
         .taken
         .get(4)

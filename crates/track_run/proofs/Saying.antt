@@ -9,15 +9,12 @@ use Rattle.log_text.specs.declared.LogLine.TheVariants.{Hit, Move}
 use Rattle.track_run.specs.Turns.{moves, move_lines, hit_lines}
 use Rattle.log_text.specs.Lines.{text_of_lines, text_of_line, body_of}
 use Rattle.log_text.specs.declared.LogLine.{LogLine}
+use Rattle.log_text.proofs.LineLaws.{text_of_lines-append}
 use Rattle.outside_io.specs.Sink.{appended, AppendsPart}
 use Rattle.outside_io.proofs.Written.{appended-nil, appended-appended}
 use Rattle.track_run.specs.declared.outcome.Stop.{Stop}
 use Rattle.pass_run.specs.Said.{IsBegun}
 use Rattle.track_run.specs.Said.{SaidInPart, Said}
-
-pub text_of_lines-append : (xs ys : List LogLine) → text_of_lines (xs ++ ys) ≡ text_of_lines xs ++ text_of_lines ys
-text_of_lines-append [] ys = refl
-text_of_lines-append (x ∷ xs) ys = ap (λ t. text_of_line x ++ t) (text_of_lines-append xs ys) ∙ sym (append_assoc (text_of_line x) (text_of_lines xs) (text_of_lines ys))
 
 -- one line
 pub said_line : (old new : Option (List ℕ)) (line : LogLine) → new ≡ appended old (text_of_line line) → new ≡ appended old (text_of_lines (line ∷ []))

@@ -24,18 +24,6 @@ use Rattle.mesh_base.specs.declared.UseWhy.TheVariants.{ShiftRange}
 use Rattle.pair_scan.specs.Lookup.{IsPlaceOf}
 use Rattle.track_run.specs.Turns.{summed, first_beyond, one_summed, sum_at, sum_of_one}
 
--- one more item of a list that another is made of
-pub mapped_more : {X Y : Type 0} (f : X → Y) (xs : List X) (i : ℕ) (x : X) (before after : List Y) (y : Y) (all : List Y) → i < length xs → x ≡ get_or xs i x → after ≡ before ++ y ∷ [] → y ≡ f x
-    → before ++ map f (drop i xs) ≡ all → after ++ map f (drop (i + 1) xs) ≡ all
-mapped_more f xs i x before after y all h at pushed is whole =
-    ap (λ l. l ++ map f (drop (i + 1) xs)) pushed
-    ∙ append_assoc before (y ∷ []) (map f (drop (i + 1) xs))
-    ∙ ap (λ z. before ++ z ∷ map f (drop (i + 1) xs)) is
-    ∙ ap (λ n. before ++ f x ∷ map f (drop n xs)) (add-one i)
-    ∙ ap (λ z. before ++ f z ∷ map f (drop (suc i) xs)) at
-    ∙ sym (ap (λ l. before ++ map f l) (drop-cons xs i x h))
-    ∙ whole
-
 -- the sizes of three numbers are those of the triple
 pub as_triple : (o : Option Shift) (t : Triple) → (IsSome o ↔ FitWithin SHIFT_MAX t.x t.y t.z) → (IsSome o ↔ IsWithin SHIFT_MAX t)
 as_triple o t h = (

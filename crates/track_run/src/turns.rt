@@ -63,7 +63,7 @@ fn take_step<S: Surface, K: Sink>(
     if let Some(v) = first_outside(mesh, course.asked.as_slice()) {
         return Ok(Some(UseWhy::Box { v: v.0 }));
     }
-    let Ok(choice) = choose(alloc, mesh, &course.asked, course.set) else {
+    let Ok(choice) = choose(alloc, mesh, &course.asked, &course.set) else {
         return Err(Stop::NoMemory);
     };
     let Ok(still) = all_still(alloc, course.asked.as_slice()) else {

@@ -11,21 +11,21 @@ pub returns-clause-clear_along : goal.returns-clause-clear_along
 returns-clause-clear_along g c =
     let m = g.S.Surface.mesh c.args.mesh.now in
     let P : Way → Type 0 = λ w. IsClearAlong m (moved_by m w.taken) in
-    subst P (sym c.in_ok-choice.ensures.way) (taken_well m c.args.asked.now c.args.set (g.met.S.Surface.sound c.args.mesh.now) c.requires.clear c.requires.named c.requires.in_box).clear
+    subst P (sym c.in_ok-choice.ensures.way) (taken_well m c.args.asked.now c.args.set.now (g.met.S.Surface.sound c.args.mesh.now) c.requires.clear c.requires.named c.requires.in_box).clear
 
 pub returns-clause-names : goal.returns-clause-names
 returns-clause-names g c =
     let m = g.S.Surface.mesh c.args.mesh.now in
     let P : Way → Type 0 = λ w. NameLive m w.taken in
-    subst P (sym c.in_ok-choice.ensures.way) (taken_well m c.args.asked.now c.args.set (g.met.S.Surface.sound c.args.mesh.now) c.requires.clear c.requires.named c.requires.in_box).named
+    subst P (sym c.in_ok-choice.ensures.way) (taken_well m c.args.asked.now c.args.set.now (g.met.S.Surface.sound c.args.mesh.now) c.requires.clear c.requires.named c.requires.in_box).named
 
 pub returns-clause-ends : goal.returns-clause-ends
 returns-clause-ends g c =
     let m = g.S.Surface.mesh c.args.mesh.now in
-    ap (λ (w : Way). end_in_box m w.taken) c.in_ok-choice.ensures.way ∙ (taken_well m c.args.asked.now c.args.set (g.met.S.Surface.sound c.args.mesh.now) c.requires.clear c.requires.named c.requires.in_box).ends
+    ap (λ (w : Way). end_in_box m w.taken) c.in_ok-choice.ensures.way ∙ (taken_well m c.args.asked.now c.args.set.now (g.met.S.Surface.sound c.args.mesh.now) c.requires.clear c.requires.named c.requires.in_box).ends
 
 pub returns-clause-first : goal.returns-clause-first
 returns-clause-first g c =
     let m = g.S.Surface.mesh c.args.mesh.now in
-    let P : Way → Type 0 = λ w. IsFirstWay meets_exactly m c.args.asked.now c.args.set w.how w.taken in
-    subst P (sym c.in_ok-choice.ensures.way) (taken_first m c.args.asked.now c.args.set)
+    let P : Way → Type 0 = λ w. IsFirstWay meets_exactly m c.args.asked.now c.args.set.now w.how w.taken in
+    subst P (sym c.in_ok-choice.ensures.way) (taken_first m c.args.asked.now c.args.set.now)

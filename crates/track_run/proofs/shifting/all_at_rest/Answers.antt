@@ -1,5 +1,6 @@
 use Rattle.track_run.specs.State.{still_at}
-use Rattle.track_run.proofs.ShiftLemmas.{mapped_more, at_rest}
+use Rattle.mesh_base.proofs.ListLaws.{mapped_more}
+use Rattle.track_run.proofs.ShiftLemmas.{at_rest}
 use Rattle.track_run.proofs.shifting.all_at_rest.Goals as goal
 
 pub loop-v-preserved : goal.loop-v-preserved

@@ -2,7 +2,8 @@ use Rattle.std.proofs.Common.{refl}
 use Rattle.std.proofs.lemmas.Bool.{false≢true}
 use Rattle.mesh_base.specs.Shifts.{with_shift}
 use Rattle.track_run.specs.Turns.{summed}
-use Rattle.track_run.proofs.ShiftLemmas.{mapped_more, summed_as, beyond_later, beyond_here}
+use Rattle.mesh_base.proofs.ListLaws.{mapped_more}
+use Rattle.track_run.proofs.ShiftLemmas.{summed_as, beyond_later, beyond_here}
 use Rattle.track_run.proofs.shifting.all_summed.Goals as goal
 
 pub loop-s-preserved : goal.loop-s-preserved

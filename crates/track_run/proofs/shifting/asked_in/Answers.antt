@@ -1,7 +1,7 @@
 use Rattle.std.proofs.Common.{◌≡◌, map, ap, sym, ◌∙◌}
 use Rattle.std.specs.Option.{unwrap_or}
 use Rattle.track_run.specs.State.{still_at, asked_of}
-use Rattle.track_run.proofs.ShiftLemmas.{mapped_more}
+use Rattle.mesh_base.proofs.ListLaws.{mapped_more}
 use Rattle.track_run.proofs.shifting.asked_in.Goals as goal
 
 pub loop-v-preserved : goal.loop-v-preserved
