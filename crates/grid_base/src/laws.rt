@@ -12,13 +12,13 @@ ghost use Rattle.grid_base.specs.Motion.{NeverMeet, NeverMeetAfterStart, NeverMe
 ghost use Rattle.grid_base.specs.Separation.{IsBelow, KeepsApart, TakesApart, BringsTogether, MoveTogether, AreSeparated, Passes, Opens, Closes, directions, multiple};
 ghost use Rattle.grid_base.specs.SeparationTests.{IsExact, are_separated, passes, opens, closes};
 
-/// A point is at its position; the position of a point within the box is the one asked for.
+/// The point at the position of a point is that point; the point at a position within the box stands there.
 pub fn points_are_positions()
     ensures of_point { (p : Point) → point_at (position_of p) ≡ p }
     ensures within { (t : Triple) → IsWithin BOX t → position_of (point_at t) ≡ t }
 {}
 
-/// A shift is by its displacement; the displacement of a shift within its limit is the one asked for.
+/// The shift by the displacement of a shift is that shift; the shift by a displacement within the limit moves by it.
 pub fn shifts_are_displacements()
     ensures of_shift { (s : Shift) → shift_by (displacement_of s) ≡ s }
     ensures within { (t : Triple) → IsWithin SHIFT_MAX t → displacement_of (shift_by t) ≡ t }
@@ -79,7 +79,8 @@ pub fn still_pairs_pass_where_apart()
     ensures { (depth : ℕ) (f : Positions) → (Passes depth f f ↔ ¬ (MeetAt f)) }
 {}
 
-/// What a motion without a meeting says of its ends.
+/// Positions that meet at no fraction of a motion do not meet at its ends. Those that meet at no fraction above zero do
+/// not meet at its end, and those that meet at no fraction below one do not meet at its start.
 pub fn ends_are_apart()
     ensures start { (s t : Positions) → NeverMeet s t → ¬ (MeetAt s) }
     ensures end { (s t : Positions) → NeverMeet s t → ¬ (MeetAt t) }

@@ -88,6 +88,7 @@ fn sum(a: Wide, b: Wide) -> Wide
     }
 }
 
+// The sum of two coordinates.
 fn total(a: i128, b: i128) -> i128
     requires a_fits { unsigned_abs a ≤ WIDE_MAX }
     requires b_fits { unsigned_abs b ≤ WIDE_MAX }
@@ -96,6 +97,7 @@ fn total(a: i128, b: i128) -> i128
     a + b
 }
 
+// The position, double.
 fn twice(a: Wide) -> Wide
     requires { IsWithin WIDE_MAX a }
     ensures { result ≡ times 2 a }
@@ -107,6 +109,7 @@ fn twice(a: Wide) -> Wide
     }
 }
 
+// The coordinate, double.
 fn two_of(a: i128) -> i128
     requires { unsigned_abs a ≤ WIDE_MAX }
     ensures { result ≡ pos 2 *ℤ a }

@@ -24,7 +24,9 @@ pub use one_direction::{brings_together, keeps_apart, takes_apart};
 /// the edge's two ends, and then the triangle's three corners. They are in half units, up to `HALF_MAX`.
 #[derive(Clone, Copy, Debug, PartialEq, Eq)]
 pub struct Pair {
+    /// The positions at the start.
     pub start: [Wide; 5],
+    /// The positions at the end.
     pub end: [Wide; 5],
 }
 
@@ -113,6 +115,7 @@ fn moves_together(s: &Positions, t: &Positions) -> bool
     same(t.e.minus(s.e), shift)
 }
 
+// Whether two shifts are one.
 fn same(a: Wide, b: Wide) -> bool
     ensures { IsTrue result ↔ (a ≡ b) }
 {
