@@ -4,7 +4,7 @@ use Rattle.std.specs.Prelude.{All}
 use Rattle.std.specs.List.{slice_split, enumerate_from, join_with_byte}
 use Rattle.line_text.specs.Texts.{numbered_lines}
 use Rattle.std.specs.Str.Lines.{lines, lines_of_parts, strip_carriage_return}
-use Rattle.std.proofs.lemmas.Bool.{eqb-true, eq-eqb, ne_eqb, cases_lt}
+use Rattle.std.proofs.lemmas.Bool.{eqb-true, eq-eqb, ne_eqb, cases_lt, false_from_ne_true}
 use Rattle.std.proofs.lemmas.List.{length-take, get_or-take, get_or_default, drop_more, take-append-drop, take_all, length-append}
 use Rattle.std.proofs.lemmas.List.Splits.{slice_split_at, slice_split_none, length-slice_split, join_with_byte-slice_split}
 
@@ -19,13 +19,9 @@ pub lines_last : (line : List ℕ) → 0 < length line → All (λ b. eqb b 10 �
 lines_last [] some inside = absurd (omega arith)
 lines_last (b ∷ line) some inside = let e : eqb (suc (length line)) 0 ≡ false = ne_eqb _ _ (omega arith) in rw (slice_split_none (λ b. eqb b 10) (b ∷ line) inside, e) refl
 
-not_true : (b : Bool) → (b ≡ true → ⊥) → b ≡ false
-not_true true h = absurd (h refl)
-not_true false h = refl
-
 module _ (text : List ℕ) (n : ℕ) (nowhere : (k : ℕ) → 0 ≤ k → k < n → eqb (get_or text k 0) 10 ≡ true → ⊥) where
   inside : n ≤ length text → All (λ b. eqb b 10 ≡ false) (take n text)
-  inside le = λ k d lt. let below : k < n = omega (arith, lt, length-take n text) in rw (get_or-take n text k d below, get_or_default text k d 0 (omega arith)) (not_true _ (nowhere k (omega arith) below))
+  inside le = λ k d lt. let below : k < n = omega (arith, lt, length-take n text) in rw (get_or-take n text k d below, get_or_default text k d 0 (omega arith)) (false_from_ne_true _ (nowhere k (omega arith) below))
 
   pub first_ends : n < length text → eqb (get_or text n 0) 10 ≡ true → lines text ≡ strip_carriage_return (take n text) ∷ lines (drop (n + 1) text)
   first_ends lt here =

@@ -1,8 +1,8 @@
 //! Worked examples: lines and words, decimal words with their values, and texts that are written.
 use crate::{
     Field, Lines, NumberWhy, Parts, TextWhy, coordinate, count_is, count_with_end, fixed,
-    grid_number, is_word, number_at, put_line, signed_at, spelled_at, spelled_signed_at,
-    spelled_wide_at, whole, words,
+    grid_number, is_word, number_at, put_line, put_word, signed_at, spelled_at, spelled_from,
+    spelled_signed_at, spelled_wide_at, whole, words,
 };
 use std::process::Abort;
 use std::test::Fail;
@@ -164,6 +164,8 @@ fn spelled_numbers_have_one_spelling(rt: HostRuntime) {
     assert_eq!(rt; spelled_at(&mut spelled, 0, 9), Err(TextWhy::Number));
     assert_eq!(rt; spelled_wide_at(&mut spelled, 1), Err(TextWhy::Number));
     assert_eq!(rt; spelled_wide_at(&mut spelled, 1), Err(TextWhy::Short));
+    assert_eq!(rt; spelled_from(b"7", 1, 7), Ok(7));
+    assert_eq!(rt; spelled_from(b"8", 1, 7), Err(TextWhy::Number));
 }
 
 #[test]
@@ -174,6 +176,7 @@ fn lines_are_written_from_fields(rt: HostRuntime) -> Result<(), Fail> {
         &mut text,
     )?;
     put_line(&[Field::Text(b"end")], &mut text)?;
-    assert_eq!(rt; text.as_slice(), b"move 7 -16\nend\n".as_slice());
+    put_word(&Field::Signed(-1), &mut text)?;
+    assert_eq!(rt; text.as_slice(), b"move 7 -16\nend\n-1".as_slice());
     Ok(())
 }
