@@ -130,7 +130,7 @@ any_each : {X : Type 0} (p : X → Bool) (xs : List X) → AllByRecursion (λ x.
 any_each p [] = tt
 any_each p (x ∷ xs) = (or_first (p x) (list_any p xs), all_weaker (λ y. p y ≡ true → list_any p xs ≡ true) (λ y. p y ≡ true → (p x || list_any p xs) ≡ true) xs (λ y h e. or_second (p x) (list_any p xs) (h e)) (any_each p xs))
 
-one_runs : (m : Mesh) (f : ℕ) (c : Corners) (u v : ℕ) → HasCorners m f c → follows c u v ≡ true → 0 < runs m u v
+pub one_runs : (m : Mesh) (f : ℕ) (c : Corners) (u v : ℕ) → HasCorners m f c → follows c u v ≡ true → 0 < runs m u v
 one_runs m f c u v there e = let count = runs-without_face m f c u v there in let one : cond {A = ℕ} (follows c u v) 1 0 ≡ 1 = ap (λ t. cond {A = ℕ} t 1 0) e in omega (arith, count, one)
 
 seen_edge : (m : Mesh) (f a b : ℕ) → neighbours_in (finite.get m.faces f) a b ≡ true → IsEdge m a b

@@ -18,7 +18,7 @@ use Rattle.mesh_base.proofs.Tests.{or_first, or_second, or_either}
 use Rattle.mesh_base.proofs.Finite.{got_after_insert, live_after_insert, live_stays, got_after_remove, live_after_remove, live_but_removed, live_inserted}
 
 -- an insertion adds one at most, and none at a key that is there
-len-insert_le : {X : Type 0} (m : map.FinMap nat_cmp X) (k : ℕ) (v : X) → map.len (map.insert m k v) ≤ map.len m + 1
+pub len-insert_le : {X : Type 0} (m : map.FinMap nat_cmp X) (k : ℕ) (v : X) → map.len (map.insert m k v) ≤ map.len m + 1
 len-insert_le m k v = rw (len-insert nat_cmp_total m k v) (elim (map.contains_key m k) as (λ b. cond b (map.len m) (map.len m + 1) ≤ map.len m + 1) [ true ↦ omega arith | false ↦ omega arith ])
 
 len-insert_there : {X : Type 0} (m : map.FinMap nat_cmp X) (k : ℕ) (v : X) → IsSome (map.get m k) → map.len (map.insert m k v) ≡ map.len m

@@ -3,8 +3,10 @@ use thiserror::Error;
 /// Why nothing was added to a mesh.
 #[derive(Clone, Copy, Debug, PartialEq, Eq, Error)]
 pub enum AddFault {
+    /// Memory is wanting.
     #[error("out of memory")]
     NoMemory = 1,
+    /// So many of the kind are live, or so many ids of the kind are given, as may be.
     #[error("the mesh is full")]
     Full = 2,
 }
@@ -30,6 +32,8 @@ pub enum ShapeFault {
 /// Why lists were not found to be of good shape.
 #[derive(Clone, Copy, Debug, PartialEq, Eq)]
 pub enum ShapeRefusal {
+    /// Memory is wanting, and nothing is said of the lists.
     NoMemory,
+    /// The lists have this fault.
     Shape(ShapeFault),
 }

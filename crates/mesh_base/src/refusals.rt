@@ -1,7 +1,9 @@
 /// Which of the two files of a job.
 #[derive(Clone, Copy, Debug, PartialEq, Eq)]
 pub enum FileWord {
+    /// The mesh.
     Mesh,
+    /// The steps.
     Steps,
 }
 

@@ -6,7 +6,7 @@ use crate::surface::Surface;
 use grid_base::NoMemory;
 use std::alloc::Global;
 
-/// The live vertices, by rising id.
+/// The live vertices, by rising id. Refuses only where there is no memory.
 pub fn live_vertices<S: Surface>(alloc: Global, mesh: &S) -> Result<Ids, NoMemory>
     ensures { IfOk result (λ ids. ids ≡ map.keys (S.mesh mesh.now).points) }
 {
@@ -19,7 +19,7 @@ pub fn live_vertices<S: Surface>(alloc: Global, mesh: &S) -> Result<Ids, NoMemor
     Ok(ids)
 }
 
-/// The live faces, by rising id.
+/// The live faces, by rising id. Refuses only where there is no memory.
 pub fn live_faces<S: Surface>(alloc: Global, mesh: &S) -> Result<FaceIds, NoMemory>
     ensures { IfOk result (λ ids. ids ≡ map.keys (S.mesh mesh.now).faces) }
 {

@@ -73,3 +73,8 @@ made_more f xs i d made more all inside one before =
     ∙ append_assoc made (f (get_or xs i d)) (flat_map f (drop (i + 1) xs))
     ∙ ap (λ zs. made ++ flat_map f zs) (sym (rest_at xs i d inside))
     ∙ before
+
+-- a list is made of its items, one by one
+pub each_once : {X : Type 0} (xs : List X) → flat_map (λ x. x ∷ []) xs ≡ xs
+each_once [] = refl
+each_once (x ∷ xs) = ap (λ ys. x ∷ ys) (each_once xs)

@@ -1,12 +1,7 @@
-use Rattle.std.proofs.Common.{◌≡◌, ℕ, List, [], ◌∷◌, map, refl, sym, ap, ◌∙◌}
-use Rattle.std.specs.List.{flat_map}
+use Rattle.std.proofs.Common.{◌≡◌, [], ◌∷◌, map, sym, ◌∙◌}
 use Rattle.std.specs.FinMap as finite
-use Rattle.pair_scan.proofs.Lists.{made_all}
+use Rattle.pair_scan.proofs.Lists.{made_all, each_once}
 use Rattle.pair_scan.proofs.tests.generated.shifts_by.Goals as goal
-
-each_once : (xs : List ℕ) → flat_map (λ x. x ∷ []) xs ≡ xs
-each_once [] = refl
-each_once (x ∷ xs) = ap (λ ys. x ∷ ys) (each_once xs)
 
 pub returns-clause-named : goal.returns-clause-named
 returns-clause-named g c =
