@@ -31,7 +31,7 @@ use Rattle.pair_scan.specs.Swept.{HoldsMovingEdge, HoldsMovingFace}
 use Rattle.pair_scan.proofs.Apart.{separated}
 use Rattle.pair_scan.proofs.Kept.{kept_by_list, kept_of_taken, nothing_kept}
 use Rattle.pair_scan.proofs.Scans.{and_false, position}
-use Rattle.pair_scan.proofs.Ways.{end_position}
+use Rattle.pair_scan.proofs.Paths.{end_position}
 
 -- a test that is true exactly where the pair passes is the written test
 pub is_passes : (b : Bool) (depth : ℕ) (s t : Positions) → (IsTrue b ↔ Passes depth s t) → b ≡ passes meets_exactly depth s t

@@ -7,7 +7,7 @@ pub mod Numbered
 pub mod Apart
 pub mod Near
 pub mod ShiftSearch
-pub mod Ways
+pub mod Paths
 pub mod Widened
 pub mod Kept
 pub mod Fails

@@ -6,7 +6,7 @@ ghost use Rattle.grid_base.specs.Triples.{plus};
 ghost use Rattle.grid_base.specs.Points.{position_of, displacement_of, point_at};
 ghost use Rattle.mesh_base.specs.Placements.{origin};
 ghost use Rattle.mesh_base.specs.Shifts.{NameLive};
-ghost use Rattle.pair_scan.specs.Moving.{way_at, moving, moving_faces, moving_edge};
+ghost use Rattle.pair_scan.specs.Moving.{path_at, moving, moving_faces, moving_edge};
 
 use crate::lookup::shift_of;
 use crate::placed::point_of;
@@ -16,28 +16,28 @@ use std::alloc::Global;
 
 /// Where a vertex begins and where it ends.
 #[derive(Clone, Copy)]
-pub(crate) struct Way {
+pub(crate) struct Path {
     pub(crate) from: Point,
     pub(crate) to: Point,
 }
 
-/// A face, and the ways of its corners.
+/// A face, and the paths of its corners.
 #[derive(Clone, Copy)]
 pub(crate) struct MovingFace {
     pub(crate) face: FaceId,
     pub(crate) corners: Corners,
-    pub(crate) c: Way,
-    pub(crate) d: Way,
-    pub(crate) e: Way,
+    pub(crate) c: Path,
+    pub(crate) d: Path,
+    pub(crate) e: Path,
 }
 
-/// An edge, and the ways of its ends.
+/// An edge, and the paths of its ends.
 #[derive(Clone, Copy)]
 pub(crate) struct MovingEdge {
     pub(crate) a: VertexId,
     pub(crate) b: VertexId,
-    pub(crate) first: Way,
-    pub(crate) second: Way,
+    pub(crate) first: Path,
+    pub(crate) second: Path,
 }
 
 /// Where a point ends: at the origin, where the shift takes it out of the box.
@@ -59,12 +59,12 @@ fn moved_or_origin(from: Point, by: Shift) -> Point
     }
 }
 
-fn way_of<S: Surface>(mesh: &S, by: &[ShiftOf], v: VertexId) -> Way
+fn path_of<S: Surface>(mesh: &S, by: &[ShiftOf], v: VertexId) -> Path
     requires named { NameLive (S.mesh mesh.now) by.now }
-    ensures { result ≡ way_at (S.mesh mesh.now) by.now v }
+    ensures { result ≡ path_at (S.mesh mesh.now) by.now v }
 {
     let from = point_of(mesh, v);
-    Way {
+    Path {
         from,
         to: end_of(from, shift_of(by, v)),
     }
@@ -82,8 +82,8 @@ pub(crate) fn moving_edge<S: Surface>(
     MovingEdge {
         a,
         b,
-        first: way_of(mesh, by, a),
-        second: way_of(mesh, by, b),
+        first: path_of(mesh, by, a),
+        second: path_of(mesh, by, b),
     }
 }
 
@@ -92,21 +92,21 @@ fn moving_face<S: Surface>(mesh: &S, by: &[ShiftOf], f: FaceId) -> Option<Moving
     ensures { result ≡ option_map (λ c. moving (S.mesh mesh.now) by.now (f, c)) (finite.get (S.mesh mesh.now).faces f) }
 {
     match mesh.corners(f) {
-        Some(ids) => Some(with_ways(mesh, by, f, Corners::of(ids))),
+        Some(ids) => Some(with_paths(mesh, by, f, Corners::of(ids))),
         None => None,
     }
 }
 
-fn with_ways<S: Surface>(mesh: &S, by: &[ShiftOf], face: FaceId, corners: Corners) -> MovingFace
+fn with_paths<S: Surface>(mesh: &S, by: &[ShiftOf], face: FaceId, corners: Corners) -> MovingFace
     requires named { NameLive (S.mesh mesh.now) by.now }
     ensures { result ≡ moving (S.mesh mesh.now) by.now (face, corners) }
 {
     MovingFace {
         face,
         corners,
-        c: way_of(mesh, by, corners.first),
-        d: way_of(mesh, by, corners.second),
-        e: way_of(mesh, by, corners.third),
+        c: path_of(mesh, by, corners.first),
+        d: path_of(mesh, by, corners.second),
+        e: path_of(mesh, by, corners.third),
     }
 }
 

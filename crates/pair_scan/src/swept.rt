@@ -1,14 +1,14 @@
 //! Boxes of edges and of faces that move.
-ghost use Rattle.pair_scan.specs.Swept.{HoldsWay, HoldsMovingEdge, HoldsMovingFace};
+ghost use Rattle.pair_scan.specs.Swept.{HoldsPath, HoldsMovingEdge, HoldsMovingFace};
 
 use crate::boxes::{around, united};
 use crate::filed::Boxed;
-use crate::moving::{MovingEdge, MovingFace, Way};
+use crate::moving::{MovingEdge, MovingFace, Path};
 use crate::placed::wide;
 use grid_base::Extent;
 
-fn box_of_way(w: &Way) -> Extent
-    ensures { HoldsWay w.now result }
+fn box_of_path(w: &Path) -> Extent
+    ensures { HoldsPath w.now result }
 {
     around(wide(w.from), wide(w.to))
 }
@@ -17,14 +17,14 @@ fn box_of_way(w: &Way) -> Extent
 pub(crate) fn box_of_moving_edge(e: &MovingEdge) -> Extent
     ensures { HoldsMovingEdge e.now result }
 {
-    united(&box_of_way(&e.first), &box_of_way(&e.second))
+    united(&box_of_path(&e.first), &box_of_path(&e.second))
 }
 
 impl Boxed for MovingFace {
     ghost holds = { HoldsMovingFace };
 
     fn extent(&self) -> Extent {
-        let two = united(&box_of_way(&self.c), &box_of_way(&self.d));
-        united(&two, &box_of_way(&self.e))
+        let two = united(&box_of_path(&self.c), &box_of_path(&self.d));
+        united(&two, &box_of_path(&self.e))
     }
 }

@@ -9,7 +9,7 @@ use Rattle.track_run.specs.Names.{target_of}
 use Rattle.track_run.specs.Parts.{Advances}
 use Rattle.track_run.specs.World.{world}
 use Rattle.track_run.proofs.NoFiles.{advances_step}
-use Rattle.pair_scan.proofs.Ways.{ids_sorted}
+use Rattle.pair_scan.proofs.Paths.{ids_sorted}
 use Rattle.track_run.proofs.Keeping.{kept_by_one, kept_by_all, kept_stepped, kept_passed}
 use Rattle.track_run.proofs.PassTaken.{advances_pass}
 use Rattle.step_text.specs.Ranges.{AsksTaken}

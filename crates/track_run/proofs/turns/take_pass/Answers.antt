@@ -2,7 +2,7 @@ use Rattle.std.proofs.Common.{map, sym, subst, ap, ◌∙◌, refl}
 use Rattle.std.specs.List.Sorted.{IsStrictlySortedBy}
 use Rattle.std.specs.Ordering.{nat_cmp}
 use Rattle.mesh_base.specs.Shifts.{Shifts}
-use Rattle.pair_scan.proofs.Ways.{ids_sorted}
+use Rattle.pair_scan.proofs.Paths.{ids_sorted}
 use Rattle.track_run.specs.declared.outcome.Stop.TheVariants.{NoMemory, SinkFault}
 use Rattle.track_run.specs.State.{state_of, asked_in}
 use Rattle.track_run.proofs.PassTaken.{pass_in_part, pass_said, pass_taken}

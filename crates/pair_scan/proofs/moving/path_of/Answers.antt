@@ -5,8 +5,8 @@ use Rattle.grid_base.specs.Points.{position_of, displacement_of, point_at}
 use Rattle.mesh_base.specs.Placements.{origin}
 use Rattle.mesh_base.specs.Shifts.{shift_at}
 use Rattle.pair_scan.proofs.Scans.{position}
-use Rattle.pair_scan.proofs.Ways.{ids_sorted, displaced}
-use Rattle.pair_scan.proofs.moving.way_of.Goals as goal
+use Rattle.pair_scan.proofs.Paths.{ids_sorted, displaced}
+use Rattle.pair_scan.proofs.moving.path_of.Goals as goal
 
 pub shift_of-requires : goal.shift_of-requires
 shift_of-requires g c = record { rising = ids_sorted (g.S.Surface.mesh c.args.mesh.now) c.args.by.now c.requires.named }
