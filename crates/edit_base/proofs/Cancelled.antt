@@ -10,7 +10,6 @@ use Rattle.std.specs.FinMap.Entries.{find}
 use Rattle.mesh_base.specs.declared.ids.Corners.{Corners}
 use Rattle.mesh_base.specs.Mesh.{Mesh, IsLiveFace}
 use Rattle.mesh_base.specs.Sides.{has_corner}
-use Rattle.mesh_base.specs.Changes.{without_face}
 use Rattle.mesh_base.proofs.Listed.{each_found}
 use Rattle.mesh_base.proofs.ListedPairs.{all_weaker}
 use Rattle.edit_base.specs.Edges.{without_faces}

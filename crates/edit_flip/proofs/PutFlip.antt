@@ -1,5 +1,5 @@
 -- What the changes of a flip require, and that the result passes no limit where the test passes none.
-use Rattle.std.proofs.Common.{◌≡◌, ◌≢◌, ℕ, ◌+◌, ◌≤◌, Bool, true, false, ◌==◌, [], ◌∷◌, sym, ◌∙◌, arith}
+use Rattle.std.proofs.Common.{◌≡◌, ◌+◌, ◌≤◌, false, ◌==◌, [], ◌∷◌, sym, ◌∙◌, arith}
 use Rattle.std.specs.FinMap as finite
 use Rattle.grid_base.specs.declared.TheConstants.{FACES_MAX, ID_MAX}
 use Rattle.mesh_base.specs.Mesh.{Mesh, IsSound, IsLiveFace}
