@@ -1,3 +1,4 @@
+pub mod WrittenLines
 pub mod SaidLines
 pub mod Turning
 pub mod Keeping

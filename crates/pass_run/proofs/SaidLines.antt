@@ -1,20 +1,16 @@
 -- Lines that are written one after another, and the mesh that they make.
-use Rattle.std.proofs.Common.{suc, ◌≡◌, ℕ, ◌<◌, ◌+◌, ◌⊎◌, inl, inr, List, [], ◌∷◌, ◌++◌, subst, refl, ap, sym, ◌∙◌, append_assoc, append-nil, length, take, length-append, arith}
+use Rattle.std.proofs.Common.{◌≡◌, ℕ, ◌+◌, ◌⊎◌, inl, inr, List, [], ◌∷◌, ◌++◌, subst, refl, ap, sym, ◌∙◌, append_assoc, append-nil, length, take, length-append}
 use Rattle.std.proofs.lemmas.List.Elements.{filter-append}
 use Rattle.std.specs.List.{filter}
 use Rattle.std.specs.declared.option.Option.{Option}
 use Rattle.mesh_base.specs.Mesh.{Mesh}
-use Rattle.log_text.specs.Lines.{text_of_lines, text_of_line, body_of}
+use Rattle.log_text.specs.Lines.{text_of_lines, text_of_line}
 use Rattle.log_text.specs.declared.LogLine.{LogLine}
 use Rattle.outside_io.specs.Sink.{appended, AppendsPart}
-use Rattle.outside_io.proofs.Written.{appended-nil, appended-appended}
 use Rattle.pass_run.specs.declared.passing.PassCount.{PassCount}
 use Rattle.pass_run.specs.PassLines.{mesh_by, mesh_by_lines, is_done, is_refused, done_in, refused_in}
-use Rattle.pass_run.specs.Said.{IsBegun, SaidInPart}
-
-pub text_of_lines-append : (xs ys : List LogLine) → text_of_lines (xs ++ ys) ≡ text_of_lines xs ++ text_of_lines ys
-text_of_lines-append [] ys = refl
-text_of_lines-append (x ∷ xs) ys = ap (λ t. text_of_line x ++ t) (text_of_lines-append xs ys) ∙ sym (append_assoc (text_of_line x) (text_of_lines xs) (text_of_lines ys))
+use Rattle.pass_run.specs.Said.{SaidInPart}
+use Rattle.pass_run.proofs.WrittenLines.{written_nothing, written_part, written_then, part_then, part_more}
 
 pub mesh_by_lines-append : (m : Mesh) (xs ys : List LogLine) → mesh_by_lines m (xs ++ ys) ≡ mesh_by_lines (mesh_by_lines m xs) ys
 mesh_by_lines-append m [] ys = refl
@@ -26,49 +22,13 @@ done_in-append xs ys = ap length (filter-append is_done xs ys) ∙ length-append
 pub refused_in-append : (xs ys : List LogLine) → refused_in (xs ++ ys) ≡ refused_in xs + refused_in ys
 refused_in-append xs ys = ap length (filter-append is_refused xs ys) ∙ length-append (filter is_refused xs) (filter is_refused ys)
 
--- no line is empty
-some_text : (line : LogLine) → 0 < length (text_of_line line)
-some_text line = omega (arith, length-append (body_of line) (10 ∷ []))
-
-begun_nothing : (lines : List LogLine) → IsBegun [] lines
-begun_nothing [] = refl
-begun_nothing (line ∷ lines) = (0, some_text line, refl)
-
--- nothing of a line
-pub part_none : (old new : Option (List ℕ)) (line : LogLine) → new ≡ old → AppendsPart old new (text_of_line line)
-part_none old new line same = (0, some_text line, same ∙ sym (appended-nil old))
-
 -- nothing of some lines, and the mesh as it was
 pub said_nothing : (from to : Mesh) (old new : Option (List ℕ)) (lines : List LogLine) → to ≡ from → new ≡ old → SaidInPart from to old new lines
-said_nothing from to old new lines kept same = record {
-  done = [];
-  rest = lines;
-  split = refl;
-  part = [];
-  begun = begun_nothing lines;
-  written = same ∙ sym (appended-nil old);
-  mesh = inl kept;
-}
+said_nothing from to old new lines kept same = record { text = written_nothing old new lines same; mesh = inl kept }
 
 -- a part of one line, and the mesh as the line makes it
 pub said_part : (from to : Mesh) (old new : Option (List ℕ)) (line : LogLine) → to ≡ mesh_by from line → AppendsPart old new (text_of_line line) → SaidInPart from to old new (line ∷ [])
-said_part from to old new line made part = record {
-  done = [];
-  rest = line ∷ [];
-  split = refl;
-  part = take part.0 (text_of_line line);
-  begun = (part.0, part.1, refl);
-  written = part.2;
-  mesh = inr made;
-}
-
--- one whole line
-pub said_line : (old new : Option (List ℕ)) (line : LogLine) → new ≡ appended old (text_of_line line) → new ≡ appended old (text_of_lines (line ∷ []))
-said_line old new line e = e ∙ ap (appended old) (sym (append-nil (text_of_line line)))
-
--- some lines after others
-said_then : (a b c : Option (List ℕ)) (xs ys : List LogLine) → b ≡ appended a (text_of_lines xs) → c ≡ appended b (text_of_lines ys) → c ≡ appended a (text_of_lines (xs ++ ys))
-said_then a b c xs ys p q = q ∙ ap (λ w. appended w (text_of_lines ys)) p ∙ appended-appended a _ _ ∙ ap (appended a) (sym (text_of_lines-append xs ys))
+said_part from to old new line made part = record { text = written_part old new line part; mesh = inr made }
 
 -- the mesh after some lines and others
 made_then : (from mid to : Mesh) (xs ys : List LogLine) → mid ≡ mesh_by_lines from xs → to ≡ mesh_by_lines mid ys → to ≡ mesh_by_lines from (xs ++ ys)
@@ -80,21 +40,9 @@ made_part_then : (from mid to : Mesh) (xs done rest : List LogLine) → mid ≡ 
 made_part_then from mid to xs done rest p (inl e) = inl (made_then from mid to xs done p e)
 made_part_then from mid to xs done rest p (inr e) = inr (made_then from mid to xs (done ++ take 1 rest) p e ∙ ap (mesh_by_lines from) (sym (append_assoc xs done (take 1 rest))))
 
-pub part_then : (from mid to : Mesh) (a b c : Option (List ℕ)) (xs ys : List LogLine) → mid ≡ mesh_by_lines from xs → b ≡ appended a (text_of_lines xs) → SaidInPart mid to b c ys → SaidInPart from to a c (xs ++ ys)
-part_then from mid to a b c xs ys made p s = record {
-  done = xs ++ s.done;
-  rest = s.rest;
-  split = ap (λ l. xs ++ l) s.split ∙ sym (append_assoc xs s.done s.rest);
-  part = s.part;
-  begun = s.begun;
-  written = s.written ∙ ap (λ w. appended w (text_of_lines s.done ++ s.part)) p ∙ appended-appended a _ _
-      ∙ ap (appended a) (sym (append_assoc (text_of_lines xs) (text_of_lines s.done) s.part) ∙ ap (λ t. t ++ s.part) (sym (text_of_lines-append xs s.done)));
-  mesh = made_part_then from mid to xs s.done s.rest made s.mesh;
-}
-
-begun_more : (part : List ℕ) (rest more : List LogLine) → IsBegun part rest → IsBegun part (rest ++ more)
-begun_more part [] more b = let P : List ℕ → Type 0 = λ t. IsBegun t more in subst P (sym b) (begun_nothing more)
-begun_more part (line ∷ rest) more b = b
+-- a part of some lines after others
+said_part_then : (from mid to : Mesh) (a b c : Option (List ℕ)) (xs ys : List LogLine) → mid ≡ mesh_by_lines from xs → b ≡ appended a (text_of_lines xs) → SaidInPart mid to b c ys → SaidInPart from to a c (xs ++ ys)
+said_part_then from mid to a b c xs ys made p s = record { text = part_then a b c xs ys p s.text; mesh = made_part_then from mid to xs s.text.done s.text.rest made s.mesh }
 
 made_more : (from to : Mesh) (done rest more : List LogLine)
     → (to ≡ mesh_by_lines from done) ⊎ (to ≡ mesh_by_lines from (done ++ take 1 rest))
@@ -104,16 +52,8 @@ made_more from to done [] more (inr e) = inl (e ∙ ap (mesh_by_lines from) (app
 made_more from to done (line ∷ rest) more (inr e) = inr e
 
 -- a part of some lines is a part of more
-pub part_more : (from to : Mesh) (a b : Option (List ℕ)) (xs ys : List LogLine) → SaidInPart from to a b xs → SaidInPart from to a b (xs ++ ys)
-part_more from to a b xs ys s = record {
-  done = s.done;
-  rest = s.rest ++ ys;
-  split = ap (λ l. l ++ ys) s.split ∙ append_assoc s.done s.rest ys;
-  part = s.part;
-  begun = begun_more s.part s.rest ys s.begun;
-  written = s.written;
-  mesh = made_more from to s.done s.rest ys s.mesh;
-}
+pub said_part_more : (from to : Mesh) (a b : Option (List ℕ)) (xs ys : List LogLine) → SaidInPart from to a b xs → SaidInPart from to a b (xs ++ ys)
+said_part_more from to a b xs ys s = record { text = part_more a b xs ys s.text; mesh = made_more from to s.text.done s.text.rest ys s.mesh }
 
 -- Some of the lines are written and counted, and the rest is left. The mesh is what those written make.
 pub record SoFar (from now : Mesh) (old new : Option (List ℕ)) (left all : List LogLine) (count : PassCount) : Type 0 where
@@ -134,7 +74,7 @@ so_far_more from now next old mid new xs left all count counted s made p done re
   said = s.said ++ xs;
   whole = append_assoc s.said xs left ∙ s.whole;
   mesh = made_then from now next s.said xs s.mesh made;
-  written = said_then old mid new s.said xs s.written p;
+  written = written_then old mid new s.said xs s.written p;
   done = done ∙ ap (λ n. n + done_in xs) s.done ∙ sym (done_in-append s.said xs);
   refused = refused ∙ ap (λ n. n + refused_in xs) s.refused ∙ sym (refused_in-append s.said xs);
 }
@@ -144,7 +84,7 @@ pub so_far_part : (from now to : Mesh) (old mid new : Option (List ℕ)) (xs lef
     → SoFar from now old mid (xs ++ left) all count → SaidInPart now to mid new xs → SaidInPart from to old new all
 so_far_part from now to old mid new xs left all count s part =
     let P : List LogLine → Type 0 = λ l. SaidInPart from to old new l in
-    subst P s.whole (part_then from now to old mid new s.said (xs ++ left) s.mesh s.written (part_more now to mid new xs left part))
+    subst P s.whole (said_part_then from now to old mid new s.said (xs ++ left) s.mesh s.written (said_part_more now to mid new xs left part))
 
 -- none is left
 pub so_far_all : (from now : Mesh) (old new : Option (List ℕ)) (left all : List LogLine) (count : PassCount)

@@ -1,5 +1,5 @@
 -- The turn of one candidate, and the candidates that are left.
-use Rattle.std.proofs.Common.{suc, Bool, true, false, cond, ◌≡◌, ℕ, ◌+◌, ◌<◌, ◌≤◌, List, [], ◌∷◌, ◌++◌, Some, None, refl, ap, sym, ◌∙◌, subst, map, length, drop, get_or, add-one, arith}
+use Rattle.std.proofs.Common.{suc, Bool, true, false, cond, ◌≡◌, ℕ, ◌+◌, ◌<◌, ◌≤◌, List, [], ◌∷◌, ◌++◌, Some, None, refl, ap, sym, ◌∙◌, subst, map, length, drop, get_or, add-one}
 use Rattle.std.proofs.Math.Seq.{drop-cons}
 use Rattle.grid_base.specs.declared.Positions.{Positions}
 use Rattle.mesh_base.specs.Mesh.{Mesh}
@@ -21,7 +21,8 @@ use Rattle.log_text.specs.declared.LogLine.TheVariants.{Pass}
 use Rattle.outside_io.specs.Sink.{appended, AppendsPart}
 use Rattle.pass_run.specs.declared.passing.PassCount.{PassCount}
 use Rattle.pass_run.specs.Said.{SaidInPart}
-use Rattle.pass_run.proofs.SaidLines.{mesh_by_lines-append, said_line, said_part, part_more, SoFar, so_far_more, so_far_part, so_far_all}
+use Rattle.pass_run.proofs.WrittenLines.{written_line}
+use Rattle.pass_run.proofs.SaidLines.{mesh_by_lines-append, said_part, said_part_more, SoFar, so_far_more, so_far_part, so_far_all}
 
 -- the line of an answer makes the mesh that the answer leaves
 pub line_makes : (m : Mesh) (what : Asked) (answer : Edit) → mesh_by m (line_of what answer) ≡ mesh_after m answer
@@ -113,14 +114,14 @@ module _ (meets : Positions → Bool) (kind : PassKind) (depth : ℕ) where
     said = Pass kind ∷ [];
     whole = ap (λ asked. Pass kind ∷ lines_from meets kind depth m asked) (ap (map (asked_of kind)) all ∙ sym (asks_of_edges m kind built));
     mesh = refl;
-    written = said_line old new (Pass kind) p;
+    written = written_line old new (Pass kind) p;
     done = done;
     refused = refused;
   }
 
   -- the line of the pass is written in part
   pub opened_in_part : (m : Mesh) (old new : Option (List ℕ)) → AppendsPart old new (text_of_line (Pass kind)) → SaidInPart m m old new (pass_lines meets m kind depth)
-  opened_in_part m old new part = part_more m m old new (Pass kind ∷ []) (lines_from meets kind depth m (candidates m kind)) (said_part m m old new (Pass kind) refl part)
+  opened_in_part m old new part = said_part_more m m old new (Pass kind ∷ []) (lines_from meets kind depth m (candidates m kind)) (said_part m m old new (Pass kind) refl part)
 
   -- no edge is left
   pub ended : (from m : Mesh) (old new : Option (List ℕ)) (items : List (ℕ × ℕ)) (i : ℕ) (all : List LogLine) (count : PassCount)

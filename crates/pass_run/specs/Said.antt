@@ -1,4 +1,4 @@
--- What lines of a pass do to a sink and to a mesh.
+-- What lines do to a sink, and those of a pass to a mesh.
 use Rattle.std.specs.Prelude.{◌≡◌, ℕ, ◌<◌, ◌⊎◌, List, [], ◌∷◌, ◌++◌, length, take, Option, Result, Ok, Err}
 use Rattle.mesh_base.specs.Mesh.{Mesh}
 use Rattle.log_text.specs.Lines.{text_of_line, text_of_lines}
@@ -12,16 +12,25 @@ abbrev pub IsBegun : List ℕ → List LogLine → Type 0
 IsBegun part [] = part ≡ []
 IsBegun part (line ∷ lines) = (n : ℕ) × (n < length (text_of_line line)) × (part ≡ take n (text_of_line line))
 
--- The first of these lines were written, in order, and perhaps a part of the next. The mesh is what the lines written make of
--- it, or what they and the next one make.
-pub record SaidInPart (from to : Mesh) (old new : Option (List ℕ)) (lines : List LogLine) : Type 0 where
+-- The first of these lines were written, in order, and perhaps a part of the next.
+pub record WrittenInPart (old new : Option (List ℕ)) (lines : List LogLine) : Type 0 where
   pub done : List LogLine
   pub rest : List LogLine
   pub split : lines ≡ done ++ rest
   pub part : List ℕ
   pub begun : IsBegun part rest
   pub written : new ≡ appended old (text_of_lines done ++ part)
-  pub mesh : (to ≡ mesh_by_lines from done) ⊎ (to ≡ mesh_by_lines from (done ++ take 1 rest))
+
+-- these lines were written, or the first of them
+abbrev pub Written : {T E : Type 0} → Option (List ℕ) → Option (List ℕ) → List LogLine → Result T E → Type 0
+Written old new lines (Ok x) = new ≡ appended old (text_of_lines lines)
+Written old new lines (Err error) = WrittenInPart old new lines
+
+-- The first of these lines were written, and perhaps a part of the next. The mesh is what the lines written make of it, or what
+-- they and the next one make.
+pub record SaidInPart (from to : Mesh) (old new : Option (List ℕ)) (lines : List LogLine) : Type 0 where
+  pub text : WrittenInPart old new lines
+  pub mesh : (to ≡ mesh_by_lines from text.done) ⊎ (to ≡ mesh_by_lines from (text.done ++ take 1 text.rest))
 
 -- these lines were written and the mesh is what they make, or the first of them
 abbrev pub Said : {T : Type 0} → Mesh → Mesh → Option (List ℕ) → Option (List ℕ) → List LogLine → Result T PassFault → Type 0

@@ -16,7 +16,7 @@ use Rattle.outside_io.specs.Sink.{appended}
 use Rattle.track_run.specs.declared.outcome.Stop.{Stop}
 use Rattle.track_run.specs.State.{State, standing, at_mesh}
 use Rattle.track_run.specs.Turns.{turn, Goes, hits, taken, moving, moved_mesh, hit_lines, move_lines, lines_of_step, step_lines, after_step}
-use Rattle.track_run.specs.Said.{SaidInPart}
+use Rattle.pass_run.specs.Said.{WrittenInPart}
 use Rattle.track_run.specs.Saved.{Target, files_of, stored}
 use Rattle.track_run.specs.Parts.{StepTakes, Advances, Takes}
 use Rattle.track_run.specs.World.{Logs, StopsIn}
@@ -75,21 +75,16 @@ step_none s = lines_none (s.steps + 1) (hits s) (taken s)
 pub logs_from_said : (to : Target) (from : Replay) (lines : List LogLine) (files : Option Files) (old new : Option (List ℕ)) → files_of to from lines ≡ [] → new ≡ appended old (text_of_lines lines) → Logs to from lines (record { files = files; written = old }) (record { files = files; written = new })
 logs_from_said to from lines files old new none said = record { written = said; files = ap (λ l. stored l files) (sym none) }
 
-pub stops_from_said : (stop : Stop) (to : Target) (from : Replay) (lines : List LogLine) (files : Option Files) (old new : Option (List ℕ)) → NoFiles lines → SaidInPart old new lines → StopsIn stop to from lines (record { files = files; written = old }) (record { files = files; written = new })
+pub stops_from_said : (stop : Stop) (to : Target) (from : Replay) (lines : List LogLine) (files : Option Files) (old new : Option (List ℕ)) → NoFiles lines → WrittenInPart old new lines → StopsIn stop to from lines (record { files = files; written = old }) (record { files = files; written = new })
 stops_from_said stop to from lines files old new none said = record {
-  done = said.done;
-  rest = said.rest;
-  split = said.split;
-  part = said.part;
-  begun = said.begun;
-  written = said.written;
+  text = said;
   files = inl (ap (λ l. stored l files) (sym (files_of-none to said.done from (front_none said.done said.rest (subst NoFiles said.split none)))));
 }
 
 logs_step : (to : Target) (s : State) (files : Option Files) (old new : Option (List ℕ)) → new ≡ appended old (text_of_lines (step_lines s)) → Logs to (standing s) (step_lines s) (record { files = files; written = old }) (record { files = files; written = new })
 logs_step to s files old new said = logs_from_said to (standing s) (step_lines s) files old new (files_of-none to (step_lines s) (standing s) (step_none s)) said
 
-stops_step : (stop : Stop) (to : Target) (s : State) (files : Option Files) (old new : Option (List ℕ)) → SaidInPart old new (step_lines s) → StopsIn stop to (standing s) (step_lines s) (record { files = files; written = old }) (record { files = files; written = new })
+stops_step : (stop : Stop) (to : Target) (s : State) (files : Option Files) (old new : Option (List ℕ)) → WrittenInPart old new (step_lines s) → StopsIn stop to (standing s) (step_lines s) (record { files = files; written = old }) (record { files = files; written = new })
 stops_step stop to s files old new said = stops_from_said stop to (standing s) (step_lines s) files old new (step_none s) said
 
 -- `move` lines gather their shifts

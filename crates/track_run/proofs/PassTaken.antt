@@ -1,19 +1,18 @@
 -- What a pass that is made and said is.
-use Rattle.std.proofs.Common.{◌≡◌, ℕ, List, [], ◌∷◌, ◌++◌, take, Option, Some, None, Result, Ok, Err, refl, sym, ap, ◌∙◌, subst, inr, append-nil}
+use Rattle.std.proofs.Common.{◌≡◌, ℕ, List, Option, Some, None, Result, Ok, Err, refl, sym, ap, ◌∙◌, inr}
 use Rattle.grid_decided.specs.Decided.{meets_exactly}
 use Rattle.mesh_base.specs.declared.UseWhy.{UseWhy}
 use Rattle.mesh_base.specs.Mesh.{Mesh}
 use Rattle.mesh_base.specs.Shifts.{Shifts}
 use Rattle.edit_base.specs.declared.PassKind.{PassKind}
 use Rattle.step_text.specs.declared.Directive.TheVariants as directive
-use Rattle.log_text.specs.declared.LogLine.{LogLine}
 use Rattle.log_text.specs.Lines.{text_of_lines}
 use Rattle.outside_io.specs.Desk.{Files}
 use Rattle.outside_io.specs.Sink.{appended}
-use Rattle.pass_run.specs.Said as pass
+use Rattle.pass_run.specs.Said.{SaidInPart}
 use Rattle.pass_run.specs.PassLines.{pass_lines, mesh_after_pass}
+use Rattle.pass_run.proofs.WrittenLines.{written_whole}
 use Rattle.track_run.specs.declared.outcome.Stop.{Stop}
-use Rattle.track_run.specs.Said.{SaidInPart}
 use Rattle.track_run.specs.Saved.{Target}
 use Rattle.track_run.specs.State.{State, standing, asked_in}
 use Rattle.track_run.specs.Turns.{Goes, turn, passed_lines, passed_mesh, after_pass}
@@ -21,29 +20,14 @@ use Rattle.track_run.specs.Parts.{Advances, PassTakes}
 use Rattle.track_run.proofs.NoFiles.{files_of-none, logs_from_said, stops_from_said}
 use Rattle.track_run.proofs.Passing.{pass_replays, pass_names_none}
 
--- what was written, and no more of what became of the mesh
-part_of : (from to : Mesh) (old new : Option (List ℕ)) (lines : List LogLine) → pass.SaidInPart from to old new lines → SaidInPart old new lines
-part_of from to old new lines said = record { done = said.done; rest = said.rest; split = said.split; part = said.part; begun = said.begun; written = said.written }
-
--- all of it was written
-part_whole : (old new : Option (List ℕ)) (lines : List LogLine) → new ≡ appended old (text_of_lines lines) → SaidInPart old new lines
-part_whole old new lines e = record {
-  done = lines;
-  rest = [];
-  split = sym (append-nil lines);
-  part = [];
-  begun = refl;
-  written = e ∙ ap (appended old) (sym (append-nil (text_of_lines lines)));
-}
-
 module _ (kind : PassKind) (s : State) where
-  pub pass_in_part : (t : State) (stop : Stop) (to : Mesh) (old new : Option (List ℕ)) → pass.SaidInPart s.mesh to old new (pass_lines meets_exactly s.mesh kind s.set.depth) → PassTakes kind s t old new (Err stop)
+  pub pass_in_part : (t : State) (stop : Stop) (to : Mesh) (old new : Option (List ℕ)) → SaidInPart s.mesh to old new (pass_lines meets_exactly s.mesh kind s.set.depth) → PassTakes kind s t old new (Err stop)
   unfolding passed_lines
-  pass_in_part t stop to old new said = part_of s.mesh to old new (pass_lines meets_exactly s.mesh kind s.set.depth) said
+  pass_in_part t stop to old new said = said.text
 
   pub pass_said : (t : State) (stop : Stop) (old new : Option (List ℕ)) → new ≡ appended old (text_of_lines (pass_lines meets_exactly s.mesh kind s.set.depth)) → PassTakes kind s t old new (Err stop)
   unfolding passed_lines
-  pass_said t stop old new said = part_whole old new (pass_lines meets_exactly s.mesh kind s.set.depth) said
+  pass_said t stop old new said = written_whole old new (pass_lines meets_exactly s.mesh kind s.set.depth) said
 
   pub pass_taken : (m : Mesh) (asked : Shifts) (old new : Option (List ℕ)) → m ≡ mesh_after_pass meets_exactly s.mesh kind s.set.depth → asked ≡ asked_in m s.asked → new ≡ appended old (text_of_lines (pass_lines meets_exactly s.mesh kind s.set.depth))
       → PassTakes kind s (record { mesh = m; asked = asked; set = s.set; steps = s.steps; saved = s.saved }) old new (Ok None)

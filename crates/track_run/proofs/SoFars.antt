@@ -11,7 +11,7 @@ use Rattle.log_text.specs.declared.Refusal.TheVariants.{StepUse}
 use Rattle.step_text.specs.declared.Placed.{Placed}
 use Rattle.log_text.specs.Lines.{text_of_line}
 use Rattle.outside_io.specs.Desk.{Files}
-use Rattle.outside_io.specs.Sink.{appended, AppendsPart}
+use Rattle.outside_io.specs.Sink.{AppendsPart}
 use Rattle.outside_io.proofs.Written.{appended-nil}
 use Rattle.track_run.specs.declared.outcome.Stop.{Stop}
 use Rattle.log_text.specs.declared.Refusal.{Refusal}
@@ -19,7 +19,7 @@ use Rattle.track_run.specs.State.{State, standing}
 use Rattle.track_run.specs.Turns.{Told, Turn, Goes, Stops, turn, and_then, told_from, refused}
 use Rattle.log_text.specs.Replay.{Replay, after}
 use Rattle.track_run.specs.Saved.{Target, files_of, stored}
-use Rattle.track_run.specs.Said.{Said}
+use Rattle.pass_run.specs.Said.{Written}
 use Rattle.track_run.specs.Parts.{Takes, TakesInPart, Advances}
 use Rattle.track_run.specs.World.{World, Logs, StopsIn, Follows}
 use Rattle.track_run.proofs.Worlds.{after-append, logs_then, stops_then, stops_more, stops_nothing, stops_line}
@@ -135,7 +135,7 @@ at_end to all steps i first now old mid h s = let P : List Placed → Type 0 = �
 
 -- the last line, which names no file
 pub finished : (to : Target) (all : Told) (line : LogLine) (ending : Option Refusal) (first now : State) (old : World) (files : Option Files) (mid new : Option (List ℕ)) (r : Result (Option Refusal) Stop) → ((from : Replay) → stored (files_of to from (line ∷ [])) files ≡ files)
-    → SoFar to all (record { lines = line ∷ []; ending = ending }) first now old (record { files = files; written = mid }) → Said mid new (line ∷ []) r → OnErr r (AppendsPart mid new (text_of_line line)) → IfOk r (λ e. e ≡ ending)
+    → SoFar to all (record { lines = line ∷ []; ending = ending }) first now old (record { files = files; written = mid }) → Written mid new (line ∷ []) r → OnErr r (AppendsPart mid new (text_of_line line)) → IfOk r (λ e. e ≡ ending)
     → Follows to (standing first) all old (record { files = files; written = new }) r
 finished to all line ending first now old files mid new (Ok e) none s said part is =
     let last = so_far_last to all line ending first now old _ (record { files = files; written = new }) s (λ from. record { written = said; files = sym (none from) }) in

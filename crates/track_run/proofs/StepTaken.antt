@@ -14,7 +14,7 @@ use Rattle.step_text.specs.declared.Directive.TheVariants.{Step}
 use Rattle.outside_io.specs.Sink.{appended}
 use Rattle.track_run.specs.declared.outcome.Stop.{Stop}
 use Rattle.track_run.specs.State.{State}
-use Rattle.track_run.specs.Said.{SaidInPart}
+use Rattle.pass_run.specs.Said.{WrittenInPart}
 use Rattle.track_run.specs.Turns.{Goes, turn, step_turn, first_outside, hits, taken, moved_mesh, all_still, lines_of_step, step_lines, after_step}
 use Rattle.track_run.specs.Parts.{StepTakes}
 
@@ -47,5 +47,5 @@ module _ (s : State) (choice : Choice) (inside : first_outside s.mesh s.asked �
         said ∙ ap (λ (l : List LogLine). appended old (text_of_lines l)) lines_are,
       )
 
-  pub step_in_part : (t : State) (stop : Stop) (old new : Option (List ℕ)) → SaidInPart old new (lines_of_step (s.steps + 1) choice.hits (way_of choice)) → StepTakes s t old new (Err stop)
-  step_in_part t stop old new part = let P : List LogLine → Type 0 = λ l. SaidInPart old new l in inr (goes, subst P lines_are part)
+  pub step_in_part : (t : State) (stop : Stop) (old new : Option (List ℕ)) → WrittenInPart old new (lines_of_step (s.steps + 1) choice.hits (way_of choice)) → StepTakes s t old new (Err stop)
+  step_in_part t stop old new part = let P : List LogLine → Type 0 = λ l. WrittenInPart old new l in inr (goes, subst P lines_are part)

@@ -32,7 +32,7 @@ use Rattle.track_run.specs.Turns.{Told, told_from, mesh_line}
 use Rattle.track_run.specs.Words.{Named}
 use Rattle.track_run.specs.Job.{Job, Source, Bytes, Absent, TooLong, IsSource, IsJob, log_of, told_of, told_of_meeting, met_first, told_of_files, replay_of}
 use Rattle.track_run.specs.Saved.{Target}
-use Rattle.track_run.specs.Said.{Said}
+use Rattle.pass_run.specs.Said.{Written}
 use Rattle.track_run.specs.World.{World, Logs, StopsIn, Follows, Runs, target, outcome_from, outcome_of, outcome_at}
 use Rattle.track_run.specs.Causes.{Cause, IsStopped}
 use Rattle.track_run.specs.Parts.{Prepares, Reads, TracksJob, told_of_ready, given, AreGood}
@@ -180,7 +180,7 @@ tracks_refused_part named files w0 w1 w2 found why stop is p e part =
 
 -- the refusal that was read is written, as far as it goes
 pub tracks_no : (named : Named) (files : Option Files) (w0 w1 w2 : Option (List ℕ)) (found : Ready) (why : Refusal) (r : Result (Option Refusal) Stop) → found ≡ ready.No why → Prepares files named found → w1 ≡ appended w0 (text_of_lines (First 1 ∷ []))
-    → Said w1 w2 (Refused why ∷ []) r → OnErr r (AppendsPart w1 w2 (text_of_line (Refused why))) → IfOk r (λ e. e ≡ Some why) → TracksJob named (record { files = files; written = w0 }) (record { files = files; written = w2 }) r
+    → Written w1 w2 (Refused why ∷ []) r → OnErr r (AppendsPart w1 w2 (text_of_line (Refused why))) → IfOk r (λ e. e ≡ Some why) → TracksJob named (record { files = files; written = w0 }) (record { files = files; written = w2 }) r
 tracks_no named files w0 w1 w2 found why (Ok e) is p first said part ending =
     tracks_then named files w0 w1 (ready.No why) (prepared_at files named found (ready.No why) is p) _ (Ok e) first (record { written = said; files = refl }, ending)
 tracks_no named files w0 w1 w2 found why (Err stop) is p first said part ending = tracks_refused_part named files w0 w1 w2 found why stop is p first part
@@ -206,14 +206,14 @@ tracks_ready named files w0 w1 found lists steps m new r is p e same f =
 pub tested_clear : (to : Target) (m : Mesh) (steps : List Placed) (a b : World) (r : Result (Option Refusal) Stop) (o : Option PairName) → o ≡ met_first m → o ≡ None → Follows to (at_mesh m) (told_of m steps) a b r → Follows to (at_mesh m) (told_of_meeting m steps (met_first m)) a b r
 tested_clear to m steps a b r o first none f = let P : Option PairName → Type 0 = λ o. Follows to (at_mesh m) (told_of_meeting m steps o) a b r in subst P (sym none ∙ first) f
 
-meets_at_first : (to : Target) (m : Mesh) (steps : List Placed) (files : Option Files) (old new : Option (List ℕ)) (pair : PairName) (r : Result (Option Refusal) Stop) → Said old new (Refused (refusal.Meets pair) ∷ []) r → OnErr r (AppendsPart old new (text_of_line (Refused (refusal.Meets pair)))) → IfOk r (λ e. e ≡ Some (refusal.Meets pair))
+meets_at_first : (to : Target) (m : Mesh) (steps : List Placed) (files : Option Files) (old new : Option (List ℕ)) (pair : PairName) (r : Result (Option Refusal) Stop) → Written old new (Refused (refusal.Meets pair) ∷ []) r → OnErr r (AppendsPart old new (text_of_line (Refused (refusal.Meets pair)))) → IfOk r (λ e. e ≡ Some (refusal.Meets pair))
     → Follows to (at_mesh m) (told_of_meeting m steps (Some pair)) (record { files = files; written = old }) (record { files = files; written = new }) r
 meets_at_first to m steps files old new pair (Ok e) said part ending = (record { written = said; files = refl }, ending)
 meets_at_first to m steps files old new pair (Err stop) said part ending = stops_line stop to (at_mesh m) (Refused (refusal.Meets pair)) [] files old new part
 
 -- a pair meets, and is told
 pub tested_meets : (to : Target) (m : Mesh) (steps : List Placed) (files : Option Files) (old new : Option (List ℕ)) (pair : PairName) (r : Result (Option Refusal) Stop) (o : Option PairName) → o ≡ met_first m → o ≡ Some pair
-    → Said old new (Refused (refusal.Meets pair) ∷ []) r → OnErr r (AppendsPart old new (text_of_line (Refused (refusal.Meets pair)))) → IfOk r (λ e. e ≡ Some (refusal.Meets pair))
+    → Written old new (Refused (refusal.Meets pair) ∷ []) r → OnErr r (AppendsPart old new (text_of_line (Refused (refusal.Meets pair)))) → IfOk r (λ e. e ≡ Some (refusal.Meets pair))
     → Follows to (at_mesh m) (told_of_meeting m steps (met_first m)) (record { files = files; written = old }) (record { files = files; written = new }) r
 tested_meets to m steps files old new pair r o first some said part ending =
     let P : Option PairName → Type 0 = λ o. Follows to (at_mesh m) (told_of_meeting m steps o) (record { files = files; written = old }) (record { files = files; written = new }) r in

@@ -1,18 +1,16 @@
 -- What parts of a run do, one after another.
-use Rattle.std.proofs.Common.{◌≡◌, ℕ, List, [], ◌∷◌, ◌++◌, ◌⊎◌, inl, inr, refl, ap, sym, ◌∙◌, subst, append_assoc, append-nil, take}
+use Rattle.std.proofs.Common.{◌≡◌, ℕ, List, [], ◌∷◌, ◌++◌, ◌⊎◌, inl, inr, refl, ap, sym, ◌∙◌, subst, append_assoc}
 use Rattle.std.specs.declared.option.Option.{Option}
 use Rattle.log_text.specs.Lines.{text_of_lines, text_of_line}
 use Rattle.log_text.specs.declared.LogLine.{LogLine}
 use Rattle.log_text.specs.declared.LogLine.TheVariants.{Mesh as MeshLine}
 use Rattle.outside_io.specs.Desk.{Files}
 use Rattle.track_run.specs.declared.outcome.Stop.{Stop}
-use Rattle.track_run.specs.Said.{SaidInPart}
 use Rattle.log_text.specs.Replay.{Replay, after, replayed}
 use Rattle.track_run.specs.Saved.{Target, files_of, file_at, stored, file_name}
 use Rattle.track_run.specs.World.{World, Logs, StopsIn, LastIsOpen, IsOpen}
 use Rattle.outside_io.specs.Sink.{appended, AppendsPart}
-use Rattle.outside_io.proofs.Written.{appended-nil}
-use Rattle.track_run.proofs.Saying.{said_then, part_then, part_more, begun_nothing}
+use Rattle.pass_run.proofs.WrittenLines.{written_nothing, written_part, written_whole, written_then, part_then, part_more}
 
 pub after-append : (from : Replay) (xs ys : List LogLine) → after from (xs ++ ys) ≡ after (after from xs) ys
 after-append from [] ys = refl
@@ -32,12 +30,9 @@ stored_more to from xs ys a b p = ap (stored (files_of to (after from xs) ys)) p
 -- lines after others
 pub logs_then : (to : Target) (from : Replay) (xs ys : List LogLine) (a b c : World) → Logs to from xs a b → Logs to (after from xs) ys b c → Logs to from (xs ++ ys) a c
 logs_then to from xs ys a b c p q = record {
-  written = said_then a.written b.written c.written xs ys p.written q.written;
+  written = written_then a.written b.written c.written xs ys p.written q.written;
   files = q.files ∙ stored_more to from xs ys a.files b.files p.files;
 }
-
-abbrev said_in : (stop : Stop) (to : Target) (from : Replay) (lines : List LogLine) (a b : World) → StopsIn stop to from lines a b → SaidInPart a.written b.written lines
-said_in stop to from lines a b s = record { done = s.done; rest = s.rest; split = s.split; part = s.part; begun = s.begun; written = s.written }
 
 open_then : (stop : Stop) (to : Target) (from : Replay) (xs done : List LogLine) (a b c : Option Files) → b ≡ stored (files_of to from xs) a
     → LastIsOpen stop to (after from xs) done b c → LastIsOpen stop to from (xs ++ done) a c
@@ -52,46 +47,32 @@ open_then stop to from xs done a b c p s = record {
 
 -- a stop in the lines after others
 pub stops_then : (stop : Stop) (to : Target) (from : Replay) (xs ys : List LogLine) (a b c : World) → Logs to from xs a b → StopsIn stop to (after from xs) ys b c → StopsIn stop to from (xs ++ ys) a c
-stops_then stop to from xs ys a b c p s =
-    let said = part_then a.written b.written c.written xs ys p.written (said_in stop to (after from xs) ys b c s) in
-    record {
-      done = said.done;
-      rest = said.rest;
-      split = said.split;
-      part = said.part;
-      begun = said.begun;
-      written = said.written;
-      files = elim s.files as (λ _. (c.files ≡ stored (files_of to from (xs ++ s.done)) a.files) ⊎ LastIsOpen stop to from (xs ++ s.done) a.files c.files) [
-        | inl e ↦ inl (e ∙ stored_more to from xs s.done a.files b.files p.files)
-        | inr o ↦ inr (open_then stop to from xs s.done a.files b.files c.files p.files o)
-      ];
-    }
+stops_then stop to from xs ys a b c p s = record {
+  text = part_then a.written b.written c.written xs ys p.written s.text;
+  files = elim s.files as (λ _. (c.files ≡ stored (files_of to from (xs ++ s.text.done)) a.files) ⊎ LastIsOpen stop to from (xs ++ s.text.done) a.files c.files) [
+    | inl e ↦ inl (e ∙ stored_more to from xs s.text.done a.files b.files p.files)
+    | inr o ↦ inr (open_then stop to from xs s.text.done a.files b.files c.files p.files o)
+  ];
+}
 
 -- a stop in some lines is one in more
 pub stops_more : (stop : Stop) (to : Target) (from : Replay) (xs ys : List LogLine) (a b : World) → StopsIn stop to from xs a b → StopsIn stop to from (xs ++ ys) a b
-stops_more stop to from xs ys a b s =
-    let said = part_more a.written b.written xs ys (said_in stop to from xs a b s) in
-    record { done = said.done; rest = said.rest; split = said.split; part = said.part; begun = said.begun; written = said.written; files = s.files }
+stops_more stop to from xs ys a b s = record { text = part_more a.written b.written xs ys s.text; files = s.files }
 
 -- nothing was done
 pub stops_nothing : (stop : Stop) (to : Target) (from : Replay) (lines : List LogLine) (w : World) → StopsIn stop to from lines w w
-stops_nothing stop to from lines w = record { done = []; rest = lines; split = refl; part = []; begun = begun_nothing lines; written = sym (appended-nil w.written); files = inl refl }
+stops_nothing stop to from lines w = record { text = written_nothing w.written w.written lines refl; files = inl refl }
 
 -- the first line is written in part
 pub stops_line : (stop : Stop) (to : Target) (from : Replay) (line : LogLine) (lines : List LogLine) (files : Option Files) (old new : Option (List ℕ)) → AppendsPart old new (text_of_line line)
     → StopsIn stop to from (line ∷ lines) (record { files = files; written = old }) (record { files = files; written = new })
-stops_line stop to from line lines files old new part = record { done = []; rest = line ∷ lines; split = refl; part = take part.0 (text_of_line line); begun = (part.0, part.1, refl); written = part.2; files = inl refl }
+stops_line stop to from line lines files old new part = record { text = part_more old new (line ∷ []) lines (written_part old new line part); files = inl refl }
 
 -- the line of a mesh is written, and the mesh is not stored
 pub stops_open : (stop : Stop) (to : Target) (from : Replay) (k vertices faces : ℕ) (files now : Option Files) (old new : Option (List ℕ))
     → new ≡ appended old (text_of_lines (MeshLine k vertices faces ∷ [])) → IsOpen stop (file_name to.prefix k) files now
     → StopsIn stop to from (MeshLine k vertices faces ∷ []) (record { files = files; written = old }) (record { files = now; written = new })
 stops_open stop to from k vertices faces files now old new said is_open = record {
-  done = MeshLine k vertices faces ∷ [];
-  rest = [];
-  split = refl;
-  part = [];
-  begun = refl;
-  written = said ∙ ap (appended old) (sym (append-nil _));
+  text = written_whole old new (MeshLine k vertices faces ∷ []) said;
   files = inr (record { front = []; k = k; vertices = vertices; faces = faces; last = refl; open_file = is_open });
 }

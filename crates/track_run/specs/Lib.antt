@@ -6,7 +6,6 @@ pub mod Standing
 pub mod Promise
 pub mod Job
 pub mod Saved
-pub mod Said
 pub mod Kept
 pub mod World
 pub mod Names

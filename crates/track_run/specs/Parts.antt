@@ -22,7 +22,7 @@ use Rattle.track_run.specs.State.{State, standing, at_mesh}
 use Rattle.track_run.specs.Turns.{Turn, Goes, Stops, Told, turn, step_lines, after_step, passed_lines, after_pass, mesh_line, refused}
 use Rattle.track_run.specs.Words.{Named}
 use Rattle.track_run.specs.Job.{Job, IsJob, told_of_files, told_of_lists, told_of_meeting, met_first, log_of, mesh_in, mesh_read, replay_of}
-use Rattle.track_run.specs.Said.{SaidInPart}
+use Rattle.pass_run.specs.Said.{WrittenInPart}
 use Rattle.track_run.specs.Saved.{Target}
 use Rattle.track_run.specs.World.{World, Logs, StopsIn, Follows, target}
 
@@ -55,13 +55,13 @@ Advances to turn old_state new_state old new (Err stop) = (new ≡ old) ⊎ Take
 abbrev pub StepTakes : State → State → Option (List ℕ) → Option (List ℕ) → Result (Option UseWhy) Stop → Type 0
 StepTakes old_state new_state old new (Ok None) = (turn Step old_state ≡ Goes (step_lines old_state) new_state) × (new_state ≡ after_step old_state) × (new ≡ appended old (text_of_lines (step_lines old_state)))
 StepTakes old_state new_state old new (Ok (Some why)) = (turn Step old_state ≡ Stops why) × (new ≡ old)
-StepTakes old_state new_state old new (Err stop) = (new ≡ old) ⊎ ((turn Step old_state ≡ Goes (step_lines old_state) (after_step old_state)) × SaidInPart old new (step_lines old_state))
+StepTakes old_state new_state old new (Err stop) = (new ≡ old) ⊎ ((turn Step old_state ≡ Goes (step_lines old_state) (after_step old_state)) × WrittenInPart old new (step_lines old_state))
 
 -- a pass, by what it writes
 abbrev pub PassTakes : PassKind → State → State → Option (List ℕ) → Option (List ℕ) → Result (Option UseWhy) Stop → Type 0
 PassTakes kind old_state new_state old new (Ok None) = (new_state ≡ after_pass kind old_state) × (new ≡ appended old (text_of_lines (passed_lines kind old_state)))
 PassTakes kind old_state new_state old new (Ok (Some why)) = ⊥
-PassTakes kind old_state new_state old new (Err stop) = SaidInPart old new (passed_lines kind old_state)
+PassTakes kind old_state new_state old new (Err stop) = WrittenInPart old new (passed_lines kind old_state)
 
 -- the mesh of lists that were read
 abbrev pub given : MeshLists → Mesh

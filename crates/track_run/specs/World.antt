@@ -14,7 +14,7 @@ use Rattle.track_run.specs.declared.outcome.Outcome.{Outcome}
 use Rattle.track_run.specs.declared.outcome.Outcome.TheVariants as outcome
 use Rattle.track_run.specs.declared.outcome.Stop.{Stop}
 use Rattle.track_run.specs.declared.outcome.Stop.TheVariants.{NoMemory, DeskFault, SinkFault}
-use Rattle.pass_run.specs.Said.{IsBegun}
+use Rattle.pass_run.specs.Said.{WrittenInPart}
 use Rattle.track_run.specs.Saved.{Target, files_of, file_name, stored}
 use Rattle.track_run.specs.Kept.{Keeps}
 use Rattle.track_run.specs.State.{State}
@@ -55,13 +55,8 @@ pub record LastIsOpen (stop : Stop) (to : Target) (from : Replay) (done : List L
 -- The first of these lines were written, in order, and perhaps a part of the next. The meshes that they name were
 -- stored, but perhaps for the last.
 pub record StopsIn (stop : Stop) (to : Target) (from : Replay) (lines : List LogLine) (old new : World) : Type 0 where
-  pub done : List LogLine
-  pub rest : List LogLine
-  pub split : lines ≡ done ++ rest
-  pub part : List ℕ
-  pub begun : IsBegun part rest
-  pub written : new.written ≡ appended old.written (text_of_lines done ++ part)
-  pub files : (new.files ≡ stored (files_of to from done) old.files) ⊎ LastIsOpen stop to from done old.files new.files
+  pub text : WrittenInPart old.written new.written lines
+  pub files : (new.files ≡ stored (files_of to from text.done) old.files) ⊎ LastIsOpen stop to from text.done old.files new.files
 
 -- the counts have not fallen, and at a fault the one has risen
 pub record HasCauses {T : Type 0} (desk_old desk_new out_old out_new : ℕ) (result : Result T Stop) : Type 0 where

@@ -2,7 +2,7 @@ ghost use Rattle.std.specs.Prelude.{◌≡◌, ◌≤◌, [], ◌∷◌, IfOk, O
 ghost use Rattle.log_text.specs.Lines.{text_of_line};
 ghost use Rattle.outside_io.specs.Causes.{Rose};
 ghost use Rattle.outside_io.specs.Sink.{AppendsPart};
-ghost use Rattle.track_run.specs.Said.{Said};
+ghost use Rattle.pass_run.specs.Said.{Written};
 ghost use Rattle.track_run.specs.Turns.{ending_of};
 
 use crate::outcome::Stop;
@@ -12,7 +12,7 @@ use std::alloc::Global;
 
 /// Writes one line of the log.
 pub(crate) fn say<K: Sink>(alloc: Global, out: &mut K, line: &LogLine) -> Result<(), Stop>
-    ensures said { Said (K.written out.old) (K.written out.new) (line.now ∷ []) result }
+    ensures said { Written (K.written out.old) (K.written out.new) (line.now ∷ []) result }
     // An error leaves a part of the line that is not all of it, perhaps nothing.
     ensures part { OnErr result (AppendsPart (K.written out.old) (K.written out.new) (text_of_line line.now)) }
     ensures later { K.faults out.old ≤ K.faults out.new }
@@ -45,7 +45,7 @@ pub(crate) fn finish<K: Sink>(
     out: &mut K,
     last: LogLine,
 ) -> Result<Option<Refusal>, Stop>
-    ensures said { Said (K.written out.old) (K.written out.new) (last ∷ []) result }
+    ensures said { Written (K.written out.old) (K.written out.new) (last ∷ []) result }
     ensures part { OnErr result (AppendsPart (K.written out.old) (K.written out.new) (text_of_line last)) }
     ensures ending { IfOk result (λ ending. ending ≡ ending_of last) }
     ensures later { K.faults out.old ≤ K.faults out.new }

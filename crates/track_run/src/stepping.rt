@@ -4,7 +4,7 @@ ghost use Rattle.step_choose.specs.Choice.{Way};
 ghost use Rattle.step_choose.specs.Chosen.{way_of};
 ghost use Rattle.outside_io.specs.Causes.{Rose};
 ghost use Rattle.track_run.specs.Turns.{hit_lines, move_lines, lines_of_step};
-ghost use Rattle.track_run.specs.Said.{Said};
+ghost use Rattle.pass_run.specs.Said.{Written};
 
 use crate::lines::say;
 use crate::outcome::Stop;
@@ -17,7 +17,7 @@ use step_choose::Choice;
 
 // The line of a shift, where it is not zero.
 fn say_move<K: Sink>(alloc: Global, s: &ShiftOf, out: &mut K) -> Result<(), Stop>
-    ensures said { Said (K.written out.old) (K.written out.new) (move_lines (s.now ∷ [])) result }
+    ensures said { Written (K.written out.old) (K.written out.new) (move_lines (s.now ∷ [])) result }
     ensures later { K.faults out.old ≤ K.faults out.new }
     ensures cause { IsErrOf result Stop.SinkFault → Rose (K.faults out.old) (K.faults out.new) }
     ensures desk { IsErrOf result Stop.DeskFault → ⊥ }
@@ -30,7 +30,7 @@ fn say_move<K: Sink>(alloc: Global, s: &ShiftOf, out: &mut K) -> Result<(), Stop
 
 // A line for each shift that is not zero.
 fn say_moves<K: Sink>(alloc: Global, asked: &[ShiftOf], out: &mut K) -> Result<(), Stop>
-    ensures said { Said (K.written out.old) (K.written out.new) (move_lines asked.now) result }
+    ensures said { Written (K.written out.old) (K.written out.new) (move_lines asked.now) result }
     ensures later { K.faults out.old ≤ K.faults out.new }
     ensures cause { IsErrOf result Stop.SinkFault → Rose (K.faults out.old) (K.faults out.new) }
     ensures desk { IsErrOf result Stop.DeskFault → ⊥ }
@@ -43,7 +43,7 @@ fn say_moves<K: Sink>(alloc: Global, asked: &[ShiftOf], out: &mut K) -> Result<(
 
 // A line for each pair.
 fn say_hits<K: Sink>(alloc: Global, pairs: &[PairName], out: &mut K) -> Result<(), Stop>
-    ensures said { Said (K.written out.old) (K.written out.new) (hit_lines pairs.now) result }
+    ensures said { Written (K.written out.old) (K.written out.new) (hit_lines pairs.now) result }
     ensures later { K.faults out.old ≤ K.faults out.new }
     ensures cause { IsErrOf result Stop.SinkFault → Rose (K.faults out.old) (K.faults out.new) }
     ensures desk { IsErrOf result Stop.DeskFault → ⊥ }
@@ -56,7 +56,7 @@ fn say_hits<K: Sink>(alloc: Global, pairs: &[PairName], out: &mut K) -> Result<(
 
 // The lines of the shifts that are taken, and of the way.
 fn say_way<K: Sink>(alloc: Global, choice: &Choice, out: &mut K) -> Result<(), Stop>
-    ensures said { Said (K.written out.old) (K.written out.new) (move_lines choice.now.taken ++ Moved choice.now.how ∷ []) result }
+    ensures said { Written (K.written out.old) (K.written out.new) (move_lines choice.now.taken ++ Moved choice.now.how ∷ []) result }
     ensures later { K.faults out.old ≤ K.faults out.new }
     ensures cause { IsErrOf result Stop.SinkFault → Rose (K.faults out.old) (K.faults out.new) }
     ensures desk { IsErrOf result Stop.DeskFault → ⊥ }
@@ -73,7 +73,7 @@ pub(crate) fn say_step<K: Sink>(
     choice: &Choice,
     out: &mut K,
 ) -> Result<(), Stop>
-    ensures said { Said (K.written out.old) (K.written out.new) (lines_of_step k choice.now.hits (way_of choice.now)) result }
+    ensures said { Written (K.written out.old) (K.written out.new) (lines_of_step k choice.now.hits (way_of choice.now)) result }
     ensures later { K.faults out.old ≤ K.faults out.new }
     ensures cause { IsErrOf result Stop.SinkFault → Rose (K.faults out.old) (K.faults out.new) }
     ensures desk { IsErrOf result Stop.DeskFault → ⊥ }

@@ -5,7 +5,7 @@ use Rattle.log_text.specs.declared.LogLine.{LogLine}
 use Rattle.pass_run.specs.Candidates.{asked_of}
 use Rattle.pass_run.specs.PassLines.{lines_of, mesh_by_lines}
 use Rattle.pass_run.specs.Said.{SaidInPart}
-use Rattle.pass_run.proofs.SaidLines.{said_nothing, said_part, part_none}
+use Rattle.pass_run.proofs.SaidLines.{said_nothing, said_part}
 use Rattle.pass_run.proofs.Turning.{turn_makes, one_due, none_due}
 use Rattle.pass_run.proofs.passing.take_turn.Goals as goal
 

@@ -5,9 +5,9 @@ use Rattle.log_text.specs.Lines.{text_of_lines}
 use Rattle.log_text.specs.declared.LogLine.{LogLine}
 use Rattle.log_text.specs.declared.LogLine.TheVariants.{Step, Moved}
 use Rattle.outside_io.specs.Sink.{appended}
-use Rattle.track_run.specs.Said.{SaidInPart}
+use Rattle.pass_run.specs.Said.{WrittenInPart}
 use Rattle.track_run.specs.Turns.{hit_lines, move_lines}
-use Rattle.track_run.proofs.Saying.{said_then, part_then, part_more}
+use Rattle.pass_run.proofs.WrittenLines.{written_then, part_then, part_more}
 use Rattle.track_run.proofs.stepping.say_step.Goals as goal
 
 pub returns-in_err-say-clause-said : goal.returns-in_err-say-clause-said
@@ -20,7 +20,7 @@ pub returns-in_err-say_hits-clause-said : goal.returns-in_err-say_hits-clause-sa
 returns-in_err-say_hits-clause-said g c =
     let p = err_from_is_err_and c.from_residual-in_err-say_hits.result c.from_residual-in_err-say_hits.ensures.1 in
     let way : List LogLine = move_lines c.args.choice.now.taken ++ Moved c.args.choice.now.how ∷ [] in
-    let P : List PairName → Type 0 = λ pairs. SaidInPart (g.K.Sink.written c.say.new.out) (g.K.Sink.written c.say_hits.new.out) (hit_lines pairs) in
+    let P : List PairName → Type 0 = λ pairs. WrittenInPart (g.K.Sink.written c.say.new.out) (g.K.Sink.written c.say_hits.new.out) (hit_lines pairs) in
     rw p.1 (part_then _ _ _ (Step c.args.k ∷ []) (hit_lines c.args.choice.now.hits ++ way) c.in_ok-say.ensures.said
     (part_more _ _ (hit_lines c.args.choice.now.hits) way (subst P c.as_slice.ensures c.in_err-say_hits.ensures.said)))
 
@@ -36,5 +36,5 @@ pub returns-clause-said : goal.returns-clause-said
 returns-clause-said g c =
     let way : List LogLine = move_lines c.args.choice.now.taken ++ Moved c.args.choice.now.how ∷ [] in
     let P : List PairName → Type 0 = λ pairs. g.K.Sink.written c.say_hits.new.out ≡ appended (g.K.Sink.written c.say.new.out) (text_of_lines (hit_lines pairs)) in
-    said_then _ _ _ (Step c.args.k ∷ []) (hit_lines c.args.choice.now.hits ++ way) c.in_ok-say.ensures.said
-    (said_then _ _ _ (hit_lines c.args.choice.now.hits) way (subst P c.as_slice.ensures c.in_ok-say_hits.ensures.said) c.in_ok-say_way.ensures.said)
+    written_then _ _ _ (Step c.args.k ∷ []) (hit_lines c.args.choice.now.hits ++ way) c.in_ok-say.ensures.said
+    (written_then _ _ _ (hit_lines c.args.choice.now.hits) way (subst P c.as_slice.ensures c.in_ok-say_hits.ensures.said) c.in_ok-say_way.ensures.said)
