@@ -4,7 +4,7 @@
     checks/documents.py
 
 The statuses that README.md and docs/FORMATS.md list are those of `topo --help`, word for word; each log that README.md shows is a part of
-the log of its job, run anew; each crate has its line in README.md and in docs/ARCHITECTURE.md, and each file that a document names is there.
+that of the command before it, run anew; each crate has its line in README.md and in docs/ARCHITECTURE.md, and each file that a document names is there.
 """
 
 import os
@@ -15,23 +15,6 @@ import tempfile
 
 ROOT = os.path.dirname(os.path.dirname(os.path.abspath(__file__)))
 TOPO = os.path.join(ROOT, "topo")
-TWO = """v 0 0 0
-v 0 12 0
-v 0 0 12
-v -12 0 0
-v 8 2 2
-v 12 2 2
-v 12 6 2
-v 14 2 6
-f 1 2 3
-f 2 1 4
-f 3 2 4
-f 1 3 4
-f 6 7 8
-f 7 6 5
-f 8 7 5
-f 6 8 5
-"""
 
 
 def text_of(name):
@@ -39,13 +22,11 @@ def text_of(name):
         return it.read()
 
 
-def log_of(mesh, steps):
-    """The log of a job, as lines."""
+def log_of(words):
+    """The log of a command that a document shows, as lines. Its files are taken from the repository; what it stores is dropped."""
     with tempfile.TemporaryDirectory() as folder:
-        for name, text in (("mesh.obj", mesh), ("steps.txt", steps)):
-            with open(os.path.join(folder, name), "w") as out:
-                out.write(text)
-        ran = subprocess.run([TOPO, "track", "mesh.obj", "steps.txt", "t"], cwd=folder, stdout=subprocess.PIPE, check=True, timeout=60)
+        files = [os.path.join(ROOT, word) for word in words[:2]]
+        ran = subprocess.run([TOPO, "track", *files, *words[2:]], cwd=folder, stdout=subprocess.PIPE, check=True, timeout=60)
     return ran.stdout.decode().splitlines()
 
 
@@ -55,10 +36,16 @@ def statuses_in(text):
 
 
 def shown_logs(text):
-    """The indented blocks of a document that begin as logs do."""
-    blocks = re.findall(r"(?m)(?:^    .*\n)+", text)
-    logs = [[line.strip() for line in block.splitlines()] for block in blocks]
-    return [lines for lines in logs if re.match(r"(topo log|step|pass) ", lines[0])]
+    """Each command that a document shows, with the log that it shows next."""
+    blocks = [[line.strip() for line in block.splitlines()] for block in re.findall(r"(?m)(?:^    .*\n)+", text)]
+    shown, command = [], None
+    for lines in blocks:
+        if lines[0].startswith("./topo track ") and "MESH" not in lines[0]:
+            command = lines[0]
+        elif re.match(r"(topo log|step|pass) ", lines[0]):
+            shown.append((command, lines))
+            command = None
+    return shown
 
 
 def is_part(part, whole):
@@ -67,7 +54,7 @@ def is_part(part, whole):
 
 def main():
     readme, formats = text_of("README.md"), text_of("docs/FORMATS.md")
-    tetrahedron, steps = text_of("crates/topo/data/mesh.obj"), text_of("crates/topo/data/steps.txt")
+    steps = text_of("crates/topo/data/steps.txt")
     checks = []
     helped = subprocess.run([TOPO, "--help"], stdout=subprocess.PIPE, check=True, timeout=60).stdout.decode()
     told = re.findall(r"(?m)^ +(\d+)  (.+)$", helped)
@@ -75,18 +62,18 @@ def main():
     checks.append(("README.md has the statuses of --help", statuses_in(readme) == told))
     checks.append(("docs/FORMATS.md has the statuses of --help", statuses_in(formats) == told))
     checks.append(("README.md has the words of the program", helped.splitlines()[0].partition("topo ")[2] in readme))
-    logs = [log_of(tetrahedron, steps), log_of(TWO, "set passes 0\nset zones 0\nshift 5 -8 0 0\nstep\n"), log_of(tetrahedron, "split 5\n")]
     shown = shown_logs(readme)
-    checks.append(("README.md shows a log of each job", len(shown) == len(logs)))
-    for part in shown:
-        checks.append((f"the log that begins `{part[0]}` is the program's", any(is_part(part, log) for log in logs)))
+    checks.append(("README.md shows logs, each behind its command", len(shown) > 0 and all(command for command, _ in shown)))
+    for command, lines in shown:
+        if command:
+            checks.append((f"what README.md shows of `{command}` is its log", is_part(lines, log_of(command.split()[2:]))))
     checks.append(("README.md shows the steps of the example", is_part(steps.splitlines(), [line.strip() for line in readme.splitlines()])))
     crates = [line.partition(":")[0] for line in text_of("crates.txt").splitlines() if ":" in line]
     for name in ("README.md", "docs/ARCHITECTURE.md"):
         lacking = [crate for crate in crates if f"`{crate}`" not in text_of(name)]
         checks.append((f"{name} names each crate {' '.join(lacking)}".rstrip(), not lacking))
     for name in ["README.md", *(f"docs/{it}" for it in sorted(os.listdir(os.path.join(ROOT, "docs"))))]:
-        named = re.findall(r"`((?:crates|docs|checks|bench|\.ci)/[\w./*-]+)`", text_of(name))
+        named = re.findall(r"`((?:crates|docs|checks|bench|examples|\.ci)/[\w./*-]+)`", text_of(name))
         lost = [it for it in named if "*" not in it and not os.path.exists(os.path.join(ROOT, it))]
         checks.append((f"each file that {name} names is there {' '.join(lost)}".rstrip(), not lost))
     failed = sum(not good for _, good in checks)
