@@ -61,7 +61,7 @@ fn first_of_edge<S: Surface>(
 /// passes, to the depth. None exactly where each pair is as required; then no pair meets at any fraction of the motion,
 /// but at the start, or the end, where two may touch there.
 ///
-/// Faces from the id `fresh_from` on are new. Pairs of an old edge and an old face, of which no vertex moves, are not
+/// Faces from the id `fresh_from` on are new. Pairs of an old edge and an old face, of which no vertex moves, need not be
 /// tested: they are not to meet where they stand. Refuses only where there is no memory. After the test of edits in El Topo (Brochu and Bridson 2009).
 pub fn check<S: Surface>(
     alloc: Global,
@@ -99,7 +99,7 @@ pub fn check<S: Surface>(
 
 /// The first pair that meets, in order of the edge and then of the face, over all pairs of the mesh, where its vertices
 /// stand; None exactly where the mesh is clear. Faces from the id `fresh_from` on are new. Pairs of an old edge and an old
-/// face are not tested: they are not to meet. Refuses only where there is no memory.
+/// face need not be tested: they are not to meet. Refuses only where there is no memory.
 pub fn check_still<S: Surface>(
     alloc: Global,
     mesh: &S,

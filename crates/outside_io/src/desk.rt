@@ -18,7 +18,7 @@ pub enum StoreFault {
     Failed = 2,
 }
 
-/// Why a file was not fetched. The reasons are numbered 1 to 4 in this order.
+/// Why a file was not fetched.
 #[derive(Clone, Copy, Debug, PartialEq, Eq, Error)]
 pub enum FetchFault {
     /// There was no memory for the file's bytes.

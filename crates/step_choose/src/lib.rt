@@ -1,4 +1,5 @@
-//! How a step is taken: by the asked shifts where all pairs pass, and otherwise by fewer halvings of them than any other that pass.
+//! How a step is taken: by the asked shifts where all pairs pass, and otherwise by the fewest halvings of them with which all pass,
+//! or not at all.
 #![tactic(auto)]
 
 mod choosing;
