@@ -35,8 +35,11 @@ impl PlainMesh {
 }
 
 impl Surface for PlainMesh {
-    ghost use Rattle.std.specs.Prelude.{[], ◌∷◌, ◌++◌, length, take, IfOk, OnErr};
+    ghost use Rattle.std.specs.Prelude.{[], ◌∷◌, ◌++◌, length, take, IfOk, IsOk, OnOk, OnErr, IsErrOf};
     ghost use Rattle.std.proofs.Common.{lit≤};
+    ghost use Rattle.mesh_base.specs.Mesh.{IsLiveVertex, IsLiveFace};
+    ghost use Rattle.mesh_base.specs.Sides.{faces_at};
+    ghost use Rattle.mesh_base.specs.Changes.{corners_of, with_vertex, with_face, without_face, without_vertex, with_point, IsFresh, IsFullOfVertices, IsFullOfFaces};
     ghost use Rattle.mesh_base.specs.Kept.{BeginsWith, MarkHolds, StandsFor};
 
     ghost mesh = { λ s. s.now };
@@ -98,7 +101,15 @@ impl Surface for PlainMesh {
         self.now.faces_at(v, into)
     }
 
-    fn add_vertex(&mut self, p: Point) -> Result<VertexId, AddFault> {
+    fn add_vertex(&mut self, p: Point) -> Result<VertexId, AddFault>
+        ensures id { IfOk result (λ v. v ≡ (⟦<PlainMesh as Surface>⟧.mesh self.old).next_vertex) }
+        ensures ok { OnOk result (⟦<PlainMesh as Surface>⟧.mesh self.new ≡ with_vertex (⟦<PlainMesh as Surface>⟧.mesh self.old) p) }
+        ensures full { IsErrOf result AddFault.Full → IsFullOfVertices (⟦<PlainMesh as Surface>⟧.mesh self.old) }
+        ensures room { IsOk result → ¬ IsFullOfVertices (⟦<PlainMesh as Surface>⟧.mesh self.old) }
+        ensures kept { ⟦<PlainMesh as Surface>⟧.kept self.new ≡ ⟦<PlainMesh as Surface>⟧.kept self.old }
+        ensures marks { BeginsWith (⟦<PlainMesh as Surface>⟧.kept self.new) (⟦<PlainMesh as Surface>⟧.kept self.old) }
+        ensures err { OnErr result ((⟦<PlainMesh as Surface>⟧.mesh self.new ≡ ⟦<PlainMesh as Surface>⟧.mesh self.old) × (⟦<PlainMesh as Surface>⟧.kept self.new ≡ ⟦<PlainMesh as Surface>⟧.kept self.old)) }
+    {
         if self.now.vertices() >= VERTICES_MAX as usize || self.now.next_vertex() > ID_MAX {
             return Err(AddFault::Full);
         }
@@ -108,7 +119,16 @@ impl Surface for PlainMesh {
         }
     }
 
-    fn add_face(&mut self, c: [VertexId; 3]) -> Result<FaceId, AddFault> {
+    fn add_face(&mut self, c: [VertexId; 3]) -> Result<FaceId, AddFault>
+        requires { IsFresh (⟦<PlainMesh as Surface>⟧.mesh self.old) (corners_of c) }
+        ensures id { IfOk result (λ f. f ≡ (⟦<PlainMesh as Surface>⟧.mesh self.old).next_face) }
+        ensures ok { OnOk result (⟦<PlainMesh as Surface>⟧.mesh self.new ≡ with_face (⟦<PlainMesh as Surface>⟧.mesh self.old) (corners_of c)) }
+        ensures full { IsErrOf result AddFault.Full → IsFullOfFaces (⟦<PlainMesh as Surface>⟧.mesh self.old) }
+        ensures room { IsOk result → ¬ IsFullOfFaces (⟦<PlainMesh as Surface>⟧.mesh self.old) }
+        ensures kept { ⟦<PlainMesh as Surface>⟧.kept self.new ≡ ⟦<PlainMesh as Surface>⟧.kept self.old }
+        ensures marks { BeginsWith (⟦<PlainMesh as Surface>⟧.kept self.new) (⟦<PlainMesh as Surface>⟧.kept self.old) }
+        ensures err { OnErr result ((⟦<PlainMesh as Surface>⟧.mesh self.new ≡ ⟦<PlainMesh as Surface>⟧.mesh self.old) × (⟦<PlainMesh as Surface>⟧.kept self.new ≡ ⟦<PlainMesh as Surface>⟧.kept self.old)) }
+    {
         if self.now.faces() >= FACES_MAX as usize || self.now.next_face() > ID_MAX {
             return Err(AddFault::Full);
         }
@@ -118,17 +138,36 @@ impl Surface for PlainMesh {
         }
     }
 
-    fn drop_face(&mut self, f: FaceId) -> Result<(), NoMemory> {
+    fn drop_face(&mut self, f: FaceId) -> Result<(), NoMemory>
+        requires { IsLiveFace (⟦<PlainMesh as Surface>⟧.mesh self.old) f }
+        ensures ok { OnOk result (⟦<PlainMesh as Surface>⟧.mesh self.new ≡ without_face (⟦<PlainMesh as Surface>⟧.mesh self.old) f) }
+        ensures kept { ⟦<PlainMesh as Surface>⟧.kept self.new ≡ ⟦<PlainMesh as Surface>⟧.kept self.old }
+        ensures marks { BeginsWith (⟦<PlainMesh as Surface>⟧.kept self.new) (⟦<PlainMesh as Surface>⟧.kept self.old) }
+        ensures err { OnErr result ((⟦<PlainMesh as Surface>⟧.mesh self.new ≡ ⟦<PlainMesh as Surface>⟧.mesh self.old) × (⟦<PlainMesh as Surface>⟧.kept self.new ≡ ⟦<PlainMesh as Surface>⟧.kept self.old)) }
+    {
         self.now.drop_face(f);
         Ok(())
     }
 
-    fn drop_vertex(&mut self, v: VertexId) -> Result<(), NoMemory> {
+    fn drop_vertex(&mut self, v: VertexId) -> Result<(), NoMemory>
+        requires live { IsLiveVertex (⟦<PlainMesh as Surface>⟧.mesh self.old) v }
+        requires bare { faces_at (⟦<PlainMesh as Surface>⟧.mesh self.old) v ≡ [] }
+        ensures ok { OnOk result (⟦<PlainMesh as Surface>⟧.mesh self.new ≡ without_vertex (⟦<PlainMesh as Surface>⟧.mesh self.old) v) }
+        ensures kept { ⟦<PlainMesh as Surface>⟧.kept self.new ≡ ⟦<PlainMesh as Surface>⟧.kept self.old }
+        ensures marks { BeginsWith (⟦<PlainMesh as Surface>⟧.kept self.new) (⟦<PlainMesh as Surface>⟧.kept self.old) }
+        ensures err { OnErr result ((⟦<PlainMesh as Surface>⟧.mesh self.new ≡ ⟦<PlainMesh as Surface>⟧.mesh self.old) × (⟦<PlainMesh as Surface>⟧.kept self.new ≡ ⟦<PlainMesh as Surface>⟧.kept self.old)) }
+    {
         self.now.drop_vertex(v);
         Ok(())
     }
 
-    fn place(&mut self, v: VertexId, p: Point) -> Result<(), NoMemory> {
+    fn place(&mut self, v: VertexId, p: Point) -> Result<(), NoMemory>
+        requires { IsLiveVertex (⟦<PlainMesh as Surface>⟧.mesh self.old) v }
+        ensures ok { OnOk result (⟦<PlainMesh as Surface>⟧.mesh self.new ≡ with_point (⟦<PlainMesh as Surface>⟧.mesh self.old) v p) }
+        ensures kept { ⟦<PlainMesh as Surface>⟧.kept self.new ≡ ⟦<PlainMesh as Surface>⟧.kept self.old }
+        ensures marks { BeginsWith (⟦<PlainMesh as Surface>⟧.kept self.new) (⟦<PlainMesh as Surface>⟧.kept self.old) }
+        ensures err { OnErr result ((⟦<PlainMesh as Surface>⟧.mesh self.new ≡ ⟦<PlainMesh as Surface>⟧.mesh self.old) × (⟦<PlainMesh as Surface>⟧.kept self.new ≡ ⟦<PlainMesh as Surface>⟧.kept self.old)) }
+    {
         self.now.place(v, p)
     }
 
