@@ -212,7 +212,7 @@ keeps_step_turn s kept None e = (keeps_step s kept e, after-step_lines s, kept_a
 keeps_step_turn s kept (Some v) e = tt
 
 saved_well : (m : Mesh) → IsGood m → IsSavedWell (at_mesh m) (finite.len m.points) (finite.len m.faces)
-saved_well m good = record { vertex_count = refl; face_count = refl; closed = good.closed; clear = good.clear }
+saved_well m good = record { vertex_count = refl; face_count = refl; sound = good.sound; closed = good.closed; clear = good.clear }
 
 keeps_turn : (what : Directive) (s : State) → AsksTaken what → IsKept s → KeepsTurn s (turn what s)
 keeps_turn (directive.SetDepth depth) s taken kept = keeps_set s (record s.set { depth = depth }) kept

@@ -1,6 +1,7 @@
 -- What a log promises of the meshes and the motions that it tells.
 use Rattle.std.specs.Prelude.{◌≡◌, ℕ, List, [], ◌∷◌}
 use Rattle.std.specs.FinMap as finite
+use Rattle.mesh_base.specs.Mesh.{IsSound}
 use Rattle.mesh_base.specs.Sides.{IsClosed}
 use Rattle.mesh_base.specs.Placements.{IsClearMesh, IsClearAlong}
 use Rattle.mesh_base.specs.Shifts.{moved_by}
@@ -9,10 +10,12 @@ use Rattle.edit_base.specs.Clauses.{MovesClear}
 use Rattle.log_text.specs.declared.LogLine.TheVariants.{Mesh as MeshLine, Moved, Did}
 use Rattle.log_text.specs.Replay.{Replay, replayed}
 
--- a mesh that is saved has these live numbers, is closed, and no edge meets a face that shares no vertex with it
+-- A mesh that is saved has these live numbers, is within the laws and limits of a mesh, is closed, and no edge meets a face that
+-- shares no vertex with it.
 pub record IsSavedWell (r : Replay) (vertices faces : ℕ) : Type 0 where
   pub vertex_count : vertices ≡ finite.len r.mesh.points
   pub face_count : faces ≡ finite.len r.mesh.faces
+  pub sound : IsSound r.mesh
   pub closed : IsClosed r.mesh
   pub clear : IsClearMesh r.mesh
 
