@@ -10,6 +10,7 @@ pub mod SoFars
 pub mod Sources
 pub mod Passing
 pub mod PassTaken
+pub mod ReadAgain
 pub mod Keeping
 pub mod StepTaken
 pub mod Promises
