@@ -12,6 +12,7 @@ pub mod Passing
 pub mod PassTaken
 pub mod ReadAgain
 pub mod Keeping
+pub mod Replayed
 pub mod StepTaken
 pub mod Promises
 pub mod TopLemmas
