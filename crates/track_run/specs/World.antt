@@ -19,7 +19,7 @@ use Rattle.pass_run.specs.Said.{WrittenInPart}
 use Rattle.track_run.specs.Saved.{Target, files_of, file_name, stored}
 use Rattle.track_run.specs.Kept.{Keeps}
 use Rattle.track_run.specs.State.{State, standing}
-use Rattle.track_run.specs.Standing.{IsKept, StandsAt}
+use Rattle.track_run.specs.Standing.{StandsAt, StandsWell}
 use Rattle.track_run.specs.Turns.{Told, Goes, turn}
 use Rattle.track_run.specs.Promise.{StepIsTold}
 use Rattle.track_run.specs.Words.{Named}
@@ -101,10 +101,10 @@ target named = record { prefix = named.prefix; decimals = named.decimals }
 -- THE HEADLINE, of a job. What the run did is the job's log, or the first of it. In every mesh that the log saves no edge meets a face that
 -- shares no vertex with it, and the mesh is closed, with the live numbers that its line tells; and its text is read again as that mesh,
 -- numbered anew. Every motion that the log tells keeps it so at every fraction. A step whose pairs all pass is taken unaltered; otherwise
--- each pair that does not pass is logged. The lines of each directive that is taken, replayed from where the run stood before it, lead to
--- where it stands after it: so the pairs of a step are tested in the mesh that the log tells. Wherever it stands so, the mesh is sound,
--- closed and clear, and a shift is asked of each live vertex. The outcome has its cause in the job, and the job has a cause for no other
--- outcome but those that stop a run.
+-- each pair that does not pass is logged. The lines of a directive, replayed from where the run stood before it, lead to where it stands
+-- after it. Wherever a run of the job stands between two directives, the replay of the log up to there stands too, so the pairs of a step
+-- are tested in the mesh that the log tells; and that mesh is sound, closed and clear, with a shift asked of each live vertex. The outcome
+-- has its cause in the job, and the job has a cause for no other outcome but those that stop a run.
 pub record Tracks (job : Job) (named : Named) (result : Outcome) (old new : World) : Type 0 where
   pub ended : Result (Option Refusal) Stop
   pub outcome : result ≡ outcome_from ended
@@ -112,7 +112,7 @@ pub record Tracks (job : Job) (named : Named) (result : Outcome) (old new : Worl
   pub kept : Keeps (replay_of job) (log_of job).lines
   pub steps : (s next : State) (lines : List LogLine) → turn directive.Step s ≡ Goes lines next → StepIsTold s lines
   pub replayed : (d : Directive) (s next : State) (lines : List LogLine) → turn d s ≡ Goes lines next → after (standing s) lines ≡ standing next
-  pub stands : (s : State) → StandsAt job s → IsKept s
+  pub stands : (s : State) (there : StandsAt job s) → StandsWell job s there.rest
   pub cause : Cause job result
   pub no_other : (other : Outcome) → Cause job other → (result ≡ other) ⊎ IsStopped other ⊎ IsStopped result
 
