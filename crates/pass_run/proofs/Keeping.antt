@@ -2,7 +2,10 @@
 use Rattle.std.proofs.Common.{Bool, true, false, cond, ◌≡◌, ℕ, List, [], ◌∷◌, ◌++◌, refl, ap, sym, subst, ◌∙◌, map}
 use Rattle.grid_base.specs.declared.Positions.{Positions}
 use Rattle.grid_base.specs.SeparationTests.{IsExact}
-use Rattle.mesh_base.specs.Mesh.{Mesh}
+use Rattle.grid_decided.specs.Decided.{meets_exactly, meets_exactly-is_exact}
+use Rattle.mesh_base.specs.Mesh.{Mesh, IsSound}
+use Rattle.mesh_base.specs.Sides.{IsClosed}
+use Rattle.mesh_base.specs.Placements.{IsClearMesh}
 use Rattle.mesh_base.specs.Pairs.{edges}
 use Rattle.edit_base.specs.declared.Asked.{Asked}
 use Rattle.edit_base.specs.declared.Asked.TheVariants as asked
@@ -79,3 +82,7 @@ passes_keep meets exact m kind depth built good =
     let P : List Asked → Type 0 = λ all. EachMovesClear m (lines_from meets kind depth m all) × IsGood (mesh_after_all meets kind depth m all) in
     let kept = subst P (sym (asks_of_edges m kind built)) (turns_keep meets exact depth kind built m good (edges m)) in
     ((tt, good, kept.0), kept.1)
+
+-- the motions of a pass by the exact test
+pub pass_moves_clear : (kind : PassKind) (depth : ℕ) (m : Mesh) → IsBuilt kind → IsSound m → IsClosed m → IsClearMesh m → EachMovesClear m (pass_lines meets_exactly m kind depth)
+pass_moves_clear kind depth m built sound closed clear = (passes_keep meets_exactly meets_exactly-is_exact m kind depth built (record { sound = sound; closed = closed; clear = clear })).0

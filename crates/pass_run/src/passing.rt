@@ -9,6 +9,7 @@ ghost use Rattle.outside_io.specs.Sink.{appended};
 ghost use Rattle.log_text.specs.Lines.{text_of_lines};
 ghost use Rattle.pass_run.specs.Candidates.{IsBuilt, asked_of};
 ghost use Rattle.pass_run.specs.PassLines.{lines_of, mesh_from, pass_lines, mesh_after_pass, done_in, refused_in};
+ghost use Rattle.pass_run.specs.Promises.{EachMovesClear};
 ghost use Rattle.pass_run.specs.Said.{Said};
 
 use crate::faults::PassFault;
@@ -94,8 +95,9 @@ fn take_turn<S: Surface, K: Sink>(
 /// - `Flip`: the edge is not crowded, and it is longer than the distance of the third corners of the faces beside it.
 ///
 /// Lengths are compared by exact squares, in grid units. Collapses, zips and pinches are still to be built. The mesh stays closed and clear,
-/// after a fault too, and earlier marks hold. A fault leaves the first lines whole, in order, and perhaps a part of the next; the
-/// mesh is what the whole lines make of it, or what they and the next one make. After the mesh passes of El Topo (Brochu and Bridson 2009).
+/// after a fault too, the motion of each done edit is clear at every fraction, and earlier marks hold. A fault leaves the first lines
+/// whole, in order, and perhaps a part of the next; the mesh is what the whole lines make of it, or what they and the next one make.
+/// After the mesh passes of El Topo (Brochu and Bridson 2009).
 pub fn pass<S: Surface, K: Sink>(
     alloc: Global,
     mesh: &mut S,
@@ -112,6 +114,10 @@ pub fn pass<S: Surface, K: Sink>(
     ensures mesh { OnOk result (S.mesh mesh.new ≡ mesh_after_pass meets_exactly (S.mesh mesh.old) kind depth) }
     ensures done { IfOk result (λ count. count.done ≡ done_in (pass_lines meets_exactly (S.mesh mesh.old) kind depth)) }
     ensures refused { IfOk result (λ count. count.refused ≡ refused_in (pass_lines meets_exactly (S.mesh mesh.old) kind depth)) }
+
+    // Each motion that the lines tell is clear, from the mesh that the lines before it make, and each line leaves a mesh that is sound,
+    // closed and clear.
+    ensures motions { EachMovesClear (S.mesh mesh.old) (pass_lines meets_exactly (S.mesh mesh.old) kind depth) }
 
     // After every answer.
     ensures closed { IsClosed (S.mesh mesh.new) }

@@ -126,7 +126,7 @@ module _ (job : Job) where
   steps_told : (lists : Lists) (directives : List Placed) → HasSteps job lists directives → told_of_files job.decimals job.mesh_file job.step_file ≡ told_of_meeting (mesh_of_lists lists) directives (met_first (mesh_of_lists lists))
   steps_told lists directives h = mesh_good lists h.steps h.mesh_read ∙ ap (told_of_steps (mesh_of_lists lists)) h.read
 
-  clear_told : (lists : Lists) (directives : List Placed) → HasClear job lists directives → told_of_files job.decimals job.mesh_file job.step_file ≡ told_of (mesh_of_lists lists) directives
+  pub clear_told : (lists : Lists) (directives : List Placed) → HasClear job lists directives → told_of_files job.decimals job.mesh_file job.step_file ≡ told_of (mesh_of_lists lists) directives
   clear_told lists directives h = steps_told lists directives h.steps_read ∙ ap (told_of_meeting (mesh_of_lists lists) directives) h.clear
 
   ended : (told : Told) → told_of_files job.decimals job.mesh_file job.step_file ≡ told → outcome_of (log_of job).ending ≡ outcome_of told.ending

@@ -54,6 +54,7 @@ use Rattle.track_run.specs.Kept.{Keeps, IsSavedWell}
 use Rattle.track_run.specs.State.{State, start, standing, at_mesh, no_shifts, still_at, asked_of, asked_in}
 use Rattle.pass_run.specs.Promises.{IsGood, EachMovesClear}
 use Rattle.track_run.proofs.Passing.{PassKeeps, pass_keeps}
+use Rattle.track_run.proofs.ReadAgain.{read_again}
 use Rattle.track_run.specs.Standing.{IsKept}
 use Rattle.track_run.specs.Turns.{Turn, Goes, Stops, Told, turn, shift_turn, set_turn, step_turn, summed, first_beyond, all_summed, sum_or_range, sum_of_all, passed_lines, passed_mesh, after_pass, one_summed, sum_at, sum_of_one, first_outside, hits, taken, moves, moving, moved_mesh, hit_lines, move_lines, lines_of_step, all_still, step_lines, after_step, and_then, told_from}
 use Rattle.track_run.specs.Job.{Job, Source, Bytes, Absent, TooLong, log_of, told_of_files, told_of_lists, told_of_shape, told_of_steps, told_of_meeting, met_first, mesh_of_lists, mesh_read, mesh_in, replay_of}
@@ -212,7 +213,7 @@ keeps_step_turn s kept None e = (keeps_step s kept e, after-step_lines s, kept_a
 keeps_step_turn s kept (Some v) e = tt
 
 saved_well : (m : Mesh) → IsGood m → IsSavedWell (at_mesh m) (finite.len m.points) (finite.len m.faces)
-saved_well m good = record { vertex_count = refl; face_count = refl; closed = good.closed; clear = good.clear }
+saved_well m good = record { vertex_count = refl; face_count = refl; sound = good.sound; closed = good.closed; clear = good.clear; read_again = read_again m good.sound good.closed good.clear }
 
 keeps_turn : (what : Directive) (s : State) → AsksTaken what → IsKept s → KeepsTurn s (turn what s)
 keeps_turn (directive.SetDepth depth) s taken kept = keeps_set s (record s.set { depth = depth }) kept

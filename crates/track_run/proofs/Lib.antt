@@ -10,7 +10,9 @@ pub mod SoFars
 pub mod Sources
 pub mod Passing
 pub mod PassTaken
+pub mod ReadAgain
 pub mod Keeping
+pub mod Replayed
 pub mod StepTaken
 pub mod Promises
 pub mod TopLemmas

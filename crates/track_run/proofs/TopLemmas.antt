@@ -39,6 +39,7 @@ use Rattle.track_run.specs.Parts.{Prepares, Reads, TracksJob, told_of_ready, giv
 use Rattle.track_run.proofs.Sources.{some_source}
 use Rattle.track_run.proofs.Worlds.{logs_then, stops_then, stops_more, stops_nothing, stops_line}
 use Rattle.track_run.proofs.Keeping.{keeps_log}
+use Rattle.track_run.proofs.Replayed.{turn_replayed, stands_well}
 use Rattle.track_run.proofs.Promises.{step_is_told}
 use Rattle.track_run.proofs.CauseLemmas.{log_cause, cause_ends}
 
@@ -256,6 +257,8 @@ run_ends named old new result (Ok ending) e t = (
     log = t.follows;
     kept = keeps_log t.job;
     steps = step_is_told;
+    replayed = turn_replayed;
+    stands = stands_well t.job;
     cause = whole_cause t.job result ending e t.follows.1;
     no_other = whole_alone t.job result ending e t.follows.1;
   },
@@ -269,6 +272,8 @@ run_ends named old new result (Err stop) e t = (
     log = t.follows;
     kept = keeps_log t.job;
     steps = step_is_told;
+    replayed = turn_replayed;
+    stands = stands_well t.job;
     cause = (let P : Outcome → Type 0 = λ o. Cause t.job o in subst P (sym e) (stop_cause t.job stop));
     no_other = λ other h. inr (inr (let P : Outcome → Type 0 = λ o. IsStopped o in subst P (sym e) (stop_stops stop)));
   },

@@ -1,20 +1,36 @@
 -- What a log promises of the meshes and the motions that it tells.
-use Rattle.std.specs.Prelude.{◌≡◌, ℕ, List, [], ◌∷◌}
+use Rattle.std.specs.Prelude.{◌≡◌, ◌≤◌, ℕ, List, [], ◌∷◌, Ok}
 use Rattle.std.specs.FinMap as finite
+use Rattle.mesh_base.specs.Mesh.{Mesh, IsSound}
 use Rattle.mesh_base.specs.Sides.{IsClosed}
 use Rattle.mesh_base.specs.Placements.{IsClearMesh, IsClearAlong}
 use Rattle.mesh_base.specs.Shifts.{moved_by}
+use Rattle.obj_text.specs.Obj.{lists_of}
+use Rattle.obj_text.specs.Written.{mesh_text, ranked_lists}
+use Rattle.obj_text.specs.Laws.{renumbered}
 use Rattle.log_text.specs.declared.LogLine.{LogLine}
 use Rattle.edit_base.specs.Clauses.{MovesClear}
 use Rattle.log_text.specs.declared.LogLine.TheVariants.{Mesh as MeshLine, Moved, Did}
 use Rattle.log_text.specs.Replay.{Replay, replayed}
+use Rattle.track_run.specs.Job.{mesh_of_lists}
 
--- a mesh that is saved has these live numbers, is closed, and no edge meets a face that shares no vertex with it
+-- The text of a mesh on a grid of so many decimals is read again: its lists make the mesh with its vertices and faces numbered
+-- anew, which is closed and clear too.
+pub record IsReadAgain (decimals : ℕ) (m : Mesh) : Type 0 where
+  pub lists : lists_of decimals (mesh_text decimals m) ≡ Ok (ranked_lists m)
+  pub mesh : mesh_of_lists (ranked_lists m) ≡ renumbered m
+  pub closed : IsClosed (renumbered m)
+  pub clear : IsClearMesh (renumbered m)
+
+-- A mesh that is saved has these live numbers, is within the laws and limits of a mesh, is closed, and no edge meets a face that
+-- shares no vertex with it. Its text is read again on a grid of as many decimals, of which a job has at most six.
 pub record IsSavedWell (r : Replay) (vertices faces : ℕ) : Type 0 where
   pub vertex_count : vertices ≡ finite.len r.mesh.points
   pub face_count : faces ≡ finite.len r.mesh.faces
+  pub sound : IsSound r.mesh
   pub closed : IsClosed r.mesh
   pub clear : IsClearMesh r.mesh
+  pub read_again : (decimals : ℕ) → decimals ≤ 6 → IsReadAgain decimals r.mesh
 
 -- What a line promises of the replay where it stands: of a `mesh` line that the mesh is saved well, of a `moved` line that the
 -- motion by the `move` lines keeps the mesh clear at every fraction, and of the line of a done edit that its scaffold is closed and clear at

@@ -1,12 +1,13 @@
 -- What a run does to a sink and a desk, and the headline.
 use Rattle.std.specs.Prelude.{◌≡◌, ◌≤◌, ◌⊎◌, ℕ, List, [], ◌∷◌, ◌++◌, Option, Some, None, Result, Ok, Err, IsErrOf}
+use Rattle.step_text.specs.declared.Directive.{Directive}
 use Rattle.step_text.specs.declared.Directive.TheVariants as directive
 use Rattle.log_text.specs.Lines.{text_of_lines}
 use Rattle.log_text.specs.declared.LogLine.{LogLine}
 use Rattle.log_text.specs.declared.LogLine.TheVariants.{Mesh as MeshLine}
 use Rattle.log_text.specs.declared.Refusal.{Refusal}
 use Rattle.log_text.specs.declared.Refusal.TheVariants as refusal
-use Rattle.log_text.specs.Replay.{Replay}
+use Rattle.log_text.specs.Replay.{Replay, after}
 use Rattle.outside_io.specs.Causes.{Rose}
 use Rattle.outside_io.specs.Sink.{appended}
 use Rattle.outside_io.specs.Desk.{Files, SameBut}
@@ -17,7 +18,8 @@ use Rattle.track_run.specs.declared.outcome.Stop.TheVariants.{NoMemory, DeskFaul
 use Rattle.pass_run.specs.Said.{WrittenInPart}
 use Rattle.track_run.specs.Saved.{Target, files_of, file_name, stored}
 use Rattle.track_run.specs.Kept.{Keeps}
-use Rattle.track_run.specs.State.{State}
+use Rattle.track_run.specs.State.{State, standing}
+use Rattle.track_run.specs.Standing.{StandsAt, StandsWell}
 use Rattle.track_run.specs.Turns.{Told, Goes, turn}
 use Rattle.track_run.specs.Promise.{StepIsTold}
 use Rattle.track_run.specs.Words.{Named}
@@ -97,15 +99,20 @@ abbrev pub target : Named → Target
 target named = record { prefix = named.prefix; decimals = named.decimals }
 
 -- THE HEADLINE, of a job. What the run did is the job's log, or the first of it. In every mesh that the log saves no edge meets a face that
--- shares no vertex with it, and the mesh is closed, with the live numbers that its line tells. Every motion that the log tells keeps it so
--- at every fraction. A step whose pairs all pass is taken unaltered; otherwise each pair that does not pass is logged. The outcome has its cause in the job, and the job has a cause for no other outcome but
--- those that stop a run.
+-- shares no vertex with it, and the mesh is closed, with the live numbers that its line tells; and its text is read again as that mesh,
+-- numbered anew. Every motion that the log tells keeps it so at every fraction. A step whose pairs all pass is taken unaltered; otherwise
+-- each pair that does not pass is logged. The lines of a directive, replayed from where the run stood before it, lead to where it stands
+-- after it. Wherever a run of the job stands between two directives, the replay of the log up to there stands too, so the pairs of a step
+-- are tested in the mesh that the log tells; and that mesh is sound, closed and clear, with a shift asked of each live vertex. The outcome
+-- has its cause in the job, and the job has a cause for no other outcome but those that stop a run.
 pub record Tracks (job : Job) (named : Named) (result : Outcome) (old new : World) : Type 0 where
   pub ended : Result (Option Refusal) Stop
   pub outcome : result ≡ outcome_from ended
   pub log : Follows (target named) (replay_of job) (log_of job) old new ended
   pub kept : Keeps (replay_of job) (log_of job).lines
   pub steps : (s next : State) (lines : List LogLine) → turn directive.Step s ≡ Goes lines next → StepIsTold s lines
+  pub replayed : (d : Directive) (s next : State) (lines : List LogLine) → turn d s ≡ Goes lines next → after (standing s) lines ≡ standing next
+  pub stands : (s : State) (there : StandsAt job s) → StandsWell job s there.rest
   pub cause : Cause job result
   pub no_other : (other : Outcome) → Cause job other → (result ≡ other) ⊎ IsStopped other ⊎ IsStopped result
 

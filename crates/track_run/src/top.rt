@@ -129,6 +129,9 @@ fn track<D: Desk, K: Sink>(
 pub fn run<D: Desk, K: Sink>(alloc: Global, words: &[String], desk: &mut D, out: &mut K) -> Outcome
     ensures headline { Runs (named_in (map (λ word. string_bytes word) words.now)) result
         (world D.files K.written desk.old out.old) (world D.files K.written desk.new out.new) }
+    // After every outcome: no count of faults has fallen, and at a fault the one of its side has risen.
+    ensures desk_later { D.faults desk.old ≤ D.faults desk.new }
+    ensures out_later { K.faults out.old ≤ K.faults out.new }
     ensures desk_fault { result ≡ Outcome.DeskFault → Rose (D.faults desk.old) (D.faults desk.new) }
     ensures sink_fault { result ≡ Outcome.SinkFault → Rose (K.faults out.old) (K.faults out.new) }
 {

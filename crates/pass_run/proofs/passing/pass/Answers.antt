@@ -5,6 +5,7 @@ use Rattle.mesh_base.specs.Pairs.{edges}
 use Rattle.mesh_base.proofs.MarksHold.{begins_itself, begins_along}
 use Rattle.edit_base.proofs.ListedEdges.{edge_at}
 use Rattle.pass_run.specs.PassLines.{pass_lines}
+use Rattle.pass_run.proofs.Keeping.{pass_moves_clear}
 use Rattle.pass_run.proofs.SaidLines.{said_nothing}
 use Rattle.pass_run.proofs.Turning.{pass_makes, opened, opened_in_part, turn_so_far, turn_in_part, ended}
 use Rattle.pass_run.proofs.passing.pass.Goals as goal
@@ -68,3 +69,15 @@ returns-clause-done g c =
 pub returns-clause-refused : goal.returns-clause-refused
 returns-clause-refused g c =
     (ended meets_exactly c.args.kind c.args.depth (g.S.Surface.mesh c.args.mesh.now) (g.S.Surface.mesh c.loop-a.mesh) _ _ c.as_slice-a-items.result.now c.loop-a.a-index _ c.loop-a.count c.loop-a.invariant.so_far (omega (arith, c.loop-a-test.false))).3
+
+pub returns-in_err-edges-clause-motions : goal.returns-in_err-edges-clause-motions
+returns-in_err-edges-clause-motions g c = pass_moves_clear c.args.kind c.args.depth (g.S.Surface.mesh c.args.mesh.now) c.requires.built (g.met.S.Surface.sound c.args.mesh.now) c.requires.closed c.requires.clear
+
+pub returns-in_err-say-clause-motions : goal.returns-in_err-say-clause-motions
+returns-in_err-say-clause-motions g c = pass_moves_clear c.args.kind c.args.depth (g.S.Surface.mesh c.args.mesh.now) c.requires.built (g.met.S.Surface.sound c.args.mesh.now) c.requires.closed c.requires.clear
+
+pub returns-in_err-count-clause-motions : goal.returns-in_err-count-clause-motions
+returns-in_err-count-clause-motions g c = pass_moves_clear c.args.kind c.args.depth (g.S.Surface.mesh c.args.mesh.now) c.requires.built (g.met.S.Surface.sound c.args.mesh.now) c.requires.closed c.requires.clear
+
+pub returns-clause-motions : goal.returns-clause-motions
+returns-clause-motions g c = pass_moves_clear c.args.kind c.args.depth (g.S.Surface.mesh c.args.mesh.now) c.requires.built (g.met.S.Surface.sound c.args.mesh.now) c.requires.closed c.requires.clear
