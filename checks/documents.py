@@ -53,6 +53,8 @@ def is_part(part, whole):
 
 
 def main():
+    # where the program is to be built first, that takes its time
+    subprocess.run([TOPO, "--version"], check=True, stdout=subprocess.DEVNULL)
     readme, formats = text_of("README.md"), text_of("docs/FORMATS.md")
     steps = text_of("crates/topo/data/steps.txt")
     checks = []
