@@ -17,7 +17,7 @@ use Rattle.edit_base.specs.Collapse.{least_opposite, with_opposites, with_one_ca
 use Rattle.edit_base.proofs.Counting.{len-without}
 
 -- ---- the first face that has an opposite is a face
-first_made : {X Y : Type 0} (P : X → Type 0) (test : X → Bool) (make : X → Option Y) (xs : List X) (y : Y) → AllByRecursion P xs → slice_get (filter_map make (filter test xs)) 0 ≡ Some y →
+pub first_made : {X Y : Type 0} (P : X → Type 0) (test : X → Bool) (make : X → Option Y) (xs : List X) (y : Y) → AllByRecursion P xs → slice_get (filter_map make (filter test xs)) 0 ≡ Some y →
     (x : X) × P x × (make x ≡ Some y)
 first_made P test make [] y h e = cc
 first_made {X} {Y} P test make (x ∷ xs) y h e = by_test (first_made P test make xs y h.1) (test x) e

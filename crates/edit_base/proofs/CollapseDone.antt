@@ -25,7 +25,7 @@ module _ (meets : Positions → Bool) (u v depth : ℕ) (m : Mesh) (change : Cha
   collapse_moves_clear exact =
       let a = min u v in
       let b = max u v in
-      let scaffold = collapse_scaffold m a b in
+      let scaffold = collapse_scaffold m a b (collapse_point m a b) in
       let hits = hit_in meets scaffold depth ∷ [] in
       let fulls = reason_if (is_full scaffold.mesh (collapse_mesh m a b (collapse_point m a b))) Full ∷ hits in
       let doubles = reason_if (doubles_a_face (joined_faces m a b)) Doubled ∷ fulls in

@@ -20,23 +20,23 @@ use Rattle.edit_base.proofs.FlipSound.{runs_there}
 use Rattle.edit_base.proofs.FlipFaces.{bare, first, second, third, fourth, scaffold, one, two, result, first_there, second_there, third_there, fourth_there, was, old_there, faces_of, end, end_new, end_old}
 
 -- ---- corners
-step_one : (x y z : ℕ) → follows (corners_from x y z) x y ≡ true
+pub step_one : (x y z : ℕ) → follows (corners_from x y z) x y ≡ true
 step_one x y z = grind (arith, nat_tests)
 
-step_two : (x y z : ℕ) → follows (corners_from x y z) y z ≡ true
+pub step_two : (x y z : ℕ) → follows (corners_from x y z) y z ≡ true
 step_two x y z = grind (arith, nat_tests)
 
-step_three : (x y z : ℕ) → follows (corners_from x y z) z x ≡ true
+pub step_three : (x y z : ℕ) → follows (corners_from x y z) z x ≡ true
 step_three x y z = grind (arith, nat_tests)
 
-no_corner : (c : Corners) (v : ℕ) → has_corner c v ≡ false → (c.first ≢ v) × (c.second ≢ v) × (c.third ≢ v)
+pub no_corner : (c : Corners) (v : ℕ) → has_corner c v ≡ false → (c.first ≢ v) × (c.second ≢ v) × (c.third ≢ v)
 no_corner c v h = (λ e. grind (arith, nat_tests), λ e. grind (arith, nat_tests), λ e. grind (arith, nat_tests))
 
 off_corner : (x y z v : ℕ) → x ≢ v → y ≢ v → z ≢ v → has_corner (corners_from x y z) v ≡ false
 off_corner x y z v p q r = grind (arith, nat_tests)
 
 -- the step of three corners
-steps_of : (x y z u v : ℕ) → follows (corners_from x y z) u v ≡ true → ((x ≡ u) × (y ≡ v)) ⊎ (((y ≡ u) × (z ≡ v)) ⊎ ((z ≡ u) × (x ≡ v)))
+pub steps_of : (x y z u v : ℕ) → follows (corners_from x y z) u v ≡ true → ((x ≡ u) × (y ≡ v)) ⊎ (((y ≡ u) × (z ≡ v)) ⊎ ((z ≡ u) × (x ≡ v)))
 steps_of x y z u v h = ⊎_elim
     (λ two. ⊎_elim
     (λ e. inl (eqb-true x u (and_first (x == u) (y == v) e), eqb-true y v (and_second (x == u) (y == v) e)))
@@ -45,14 +45,14 @@ steps_of x y z u v h = ⊎_elim
     (λ e. inr (inr (eqb-true z u (and_first (z == u) (x == v) e), eqb-true x v (and_second (z == u) (x == v) e))))
     (or_either ((x == u && y == v) || (y == u && z == v)) (z == u && x == v) h)
 
-either_way : (k l : ℕ) → 0 < k + l → (0 < k) ⊎ (0 < l)
+pub either_way : (k l : ℕ) → 0 < k + l → (0 < k) ⊎ (0 < l)
 either_way zero l h = inr (omega arith)
 either_way (suc k) l h = inl (omega arith)
 
-edge_forth : (m : Mesh) (f : ℕ) (c : Corners) (u v : ℕ) → HasCorners m f c → follows c u v ≡ true → IsEdge m u v
+pub edge_forth : (m : Mesh) (f : ℕ) (c : Corners) (u v : ℕ) → HasCorners m f c → follows c u v ≡ true → IsEdge m u v
 edge_forth m f c u v there step = let some = runs_there m f c u v there step in omega arith
 
-edge_back : (m : Mesh) (u v : ℕ) → IsEdge m u v → IsEdge m v u
+pub edge_back : (m : Mesh) (u v : ℕ) → IsEdge m u v → IsEdge m v u
 edge_back m u v h = omega arith
 
 -- two ids are those of the new edge, one way or the other

@@ -6,6 +6,15 @@ pub mod Beside
 pub mod PointOf
 pub mod ListedEdges
 pub mod Chains
+pub mod FansApart
+pub mod FanBalance
+pub mod CopyClosed
+pub mod CopySound
+pub mod PinchDone
+pub mod FanPoint
+pub mod PinchOld
+pub mod PinchSteps
+pub mod PinchRoom
 pub mod Made
 pub mod PutSplit
 pub mod FirstRunning
@@ -27,3 +36,9 @@ pub mod FlipDone
 pub mod Cancelled
 pub mod CollapseDone
 pub mod Left
+pub mod Carried
+pub mod Joined
+pub mod JoinedFaces
+pub mod CollapseMesh
+pub mod CollapseClear
+pub mod CollapseKeeps

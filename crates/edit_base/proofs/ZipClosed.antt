@@ -12,7 +12,7 @@ use Rattle.edit_base.proofs.Beside.{none_of}
 use Rattle.edit_base.proofs.ReasonLaws.{below_next}
 use Rattle.edit_base.proofs.Tunnel.{tunnel, IsRim, AreFar, rims, tunnel_balance}
 
-same_corners : (m : Mesh) (f : ℕ) (c d : Corners) → HasCorners m f c → HasCorners m f d → c ≡ d
+pub same_corners : (m : Mesh) (f : ℕ) (c d : Corners) → HasCorners m f c → HasCorners m f d → c ≡ d
 same_corners m f c d h k = let both : Some c ≡ Some d = sym h ∙ k in cc
 
 -- a face with a step from a vertex is none that lacks the vertex

@@ -30,7 +30,7 @@ use Rattle.edit_base.proofs.Beside.{beside_of}
 use Rattle.edit_base.proofs.ZipTurns.{disjoint_of, turns_are_closed, turns_are_sound}
 
 -- ---- the turn that is taken
-found_both : {X : Type 0} (P : X → Type 0) (test : X → Bool) (xs : List X) (x : X) → AllByRecursion P xs → find test xs ≡ Some x → P x × (test x ≡ true)
+pub found_both : {X : Type 0} (P : X → Type 0) (test : X → Bool) (xs : List X) (x : X) → AllByRecursion P xs → find test xs ≡ Some x → P x × (test x ≡ true)
 found_both P test [] x h e = cc
 found_both P test (y ∷ ys) x h e = by_test (found_both P test ys x h.1) (test y) refl e
   where

@@ -36,7 +36,7 @@ edited m (Pinch v at copies) = pinch_mesh m v at (copy_points copies)
 abbrev pub scaffold_of : Mesh → Change → Option Scaffold
 scaffold_of m (Split a b w at) = Some (split_scaffold m (edge_of m a b))
 scaffold_of m (Flip a b) = Some (flip_scaffold m (edge_of m a b))
-scaffold_of m (Collapse a b at) = Some (collapse_scaffold m a b)
+scaffold_of m (Collapse a b at) = Some (collapse_scaffold m a b at)
 scaffold_of m (Zip a b e f turn) = None
 scaffold_of m (Pinch v at copies) = Some (pinch_scaffold m v)
 
@@ -86,7 +86,7 @@ collapse_answer meets m u v depth =
     let a = min u v in
     let b = max u v in
     let at = collapse_point m a b in
-    let scaffold = collapse_scaffold m a b in
+    let scaffold = collapse_scaffold m a b at in
     done_unless
     (first_reason (
     reason_if (not (is_edge m a b)) NoEdge

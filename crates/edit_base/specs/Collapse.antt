@@ -79,10 +79,10 @@ collapse_mesh m a b at = placed_if_left (without_bare m b (joined_faces m a b)) 
 abbrev pub collapse_point : Mesh → ℕ → ℕ → Point
 collapse_point m a b = floor_mid (point_of m a) (point_of m b)
 
--- the old mesh, with both ends going to one point. A pair of which one member holds a and the other holds b is to close.
-abbrev pub collapse_scaffold : Mesh → ℕ → ℕ → Scaffold
-collapse_scaffold m a b =
-    let end = times 2 (position_of (collapse_point m a b)) in
+-- the old mesh, with both ends going to a point. A pair of which one member holds a and the other holds b is to close.
+abbrev pub collapse_scaffold : Mesh → ℕ → ℕ → Point → Scaffold
+collapse_scaffold m a b at =
+    let end = times 2 (position_of at) in
     record {
       mesh = m;
       moves = record { v = a; start = own_points_doubled m a; end = end } ∷ record { v = b; start = own_points_doubled m b; end = end } ∷ [];
