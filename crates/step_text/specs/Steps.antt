@@ -60,12 +60,12 @@ shift_of (who ∷ words) = do
   counted ← count_is 3 words
   (if bytes_eq who (codes "all") then (shift_at words >>= λ by. Ok (ShiftAll by)) else shift_one_of (who ∷ words))
 
--- the length above which edges are split
-unfoldable pub split_of : List (List ℕ) → Result Directive TextWhy
-split_of words = do
+-- the length that a pass goes by
+unfoldable pub length_of : List (List ℕ) → Result ℕ TextWhy
+length_of words = do
   counted ← count_is 1 words
-  over ← number_at 0 LENGTH_MAX words
-  Ok (Pass (pass.Split over.0))
+  length ← number_at 0 LENGTH_MAX words
+  Ok length.0
 
 -- a directive with no further word
 unfoldable pub alone : Directive → List (List ℕ) → Result Directive TextWhy
@@ -79,8 +79,11 @@ directive_of first words =
     if bytes_eq first (codes "set") then set_of words
     else if bytes_eq first (codes "shift") then shift_of words
     else if bytes_eq first (codes "step") then alone Step words
-    else if bytes_eq first (codes "split") then split_of words
+    else if bytes_eq first (codes "split") then (length_of words >>= λ over. Ok (Pass (pass.Split over)))
+    else if bytes_eq first (codes "collapse") then (length_of words >>= λ under. Ok (Pass (pass.Collapse under)))
     else if bytes_eq first (codes "flip") then alone (Pass pass.Flip) words
+    else if bytes_eq first (codes "zip") then (length_of words >>= λ within. Ok (Pass (pass.Zip within)))
+    else if bytes_eq first (codes "pinch") then alone (Pass pass.Pinch) words
     else if bytes_eq first (codes "save") then alone Save words
     else Err Unknown
 

@@ -3,7 +3,7 @@ ghost use Rattle.grid_base.specs.declared.TheConstants.{TEXT_MAX};
 ghost use Rattle.line_text.specs.Faults.{Gives, Leaves, at_line};
 ghost use Rattle.line_text.specs.Remaining.{words_left};
 ghost use Rattle.step_text.specs.Steps as spec;
-ghost use Rattle.step_text.specs.Ranges.{IsInRange, AreInRange, AskTaken};
+ghost use Rattle.step_text.specs.Ranges.{IsInRange, AreInRange};
 
 use crate::directive::{Directive, Directives, Placed};
 use crate::{PASSES_TAKEN, ZONES_TAKEN};
@@ -86,15 +86,14 @@ fn shift(words: Words<'_>) -> Result<Directive, TextWhy>
     shift_one(words)
 }
 
-#[tactic(auto, unfolding(crate::specs::Steps::split_of))]
-fn split(words: Words<'_>) -> Result<Directive, TextWhy>
-    ensures value { result ≡ spec.split_of (words_left words.entry) }
-    ensures range { IfOk result IsInRange }
+// The length that a pass goes by.
+#[tactic(auto, unfolding(crate::specs::Steps::length_of))]
+fn length(words: Words<'_>) -> Result<u32, TextWhy>
+    ensures { result ≡ spec.length_of (words_left words.entry) }
 {
     let mut words = words;
     count_is(1, words)?;
-    let over = number_at(&mut words, 0, LENGTH_MAX)?;
-    Ok(Directive::Pass(PassKind::Split { over }))
+    number_at(&mut words, 0, LENGTH_MAX)
 }
 
 #[tactic(auto, unfolding(crate::specs::Steps::alone))]
@@ -122,10 +121,22 @@ fn directive(first: &[u8], words: Words<'_>) -> Result<Directive, TextWhy>
         return alone(Directive::Step, words);
     }
     if is_word(first, b"split") {
-        return split(words);
+        let over = length(words)?;
+        return Ok(Directive::Pass(PassKind::Split { over }));
+    }
+    if is_word(first, b"collapse") {
+        let under = length(words)?;
+        return Ok(Directive::Pass(PassKind::Collapse { under }));
     }
     if is_word(first, b"flip") {
         return alone(Directive::Pass(PassKind::Flip), words);
+    }
+    if is_word(first, b"zip") {
+        let within = length(words)?;
+        return Ok(Directive::Pass(PassKind::Zip { within }));
+    }
+    if is_word(first, b"pinch") {
+        return alone(Directive::Pass(PassKind::Pinch), words);
     }
     if is_word(first, b"save") {
         return alone(Directive::Save, words);
@@ -160,8 +171,6 @@ pub fn read_steps(alloc: Global, bytes: &[u8]) -> Result<Directives, ReadFault>
     ensures few { IfOk result (λ d. length d ≤ TEXT_MAX) }
     // A depth or a number of halvings that is set is within its limit.
     ensures ranges { IfOk result AreInRange }
-    // Each pass that is asked for is one that a text may ask for.
-    ensures taken { IfOk result AskTaken }
 {
     let mut directives = Directives::new(alloc);
     for line in Lines::new(bytes) {

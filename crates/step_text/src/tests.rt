@@ -11,7 +11,7 @@ use std::test::Fail;
 fn each_form_is_read(rt: HostRuntime) -> Result<(), Fail> {
     let by = Shift::new(-40, 0, 7).ok_or("a shift")?;
     let text =
-        b"set depth 0\nset passes 0\nset zones 0\n\n# slower\r\nset halvings 27\n\tshift all -40 0 7 # all\nshift 2147483648 -40 -0 07\nstep\nsplit 0\nsplit 268435456\nflip # edges\nsave";
+        b"set depth 0\nset passes 0\nset zones 0\n\n# slower\r\nset halvings 27\n\tshift all -40 0 7 # all\nshift 2147483648 -40 -0 07\nstep\nsplit 0\nsplit 268435456\nflip # edges\ncollapse 7\nzip 0\npinch\nsave";
     let found = read_steps(rt.alloc(), text)?;
     let want = [
         (1, Directive::SetDepth(0)),
@@ -30,7 +30,10 @@ fn each_form_is_read(rt: HostRuntime) -> Result<(), Fail> {
         (10, Directive::Pass(PassKind::Split { over: 0 })),
         (11, Directive::Pass(PassKind::Split { over: 268_435_456 })),
         (12, Directive::Pass(PassKind::Flip)),
-        (13, Directive::Save),
+        (13, Directive::Pass(PassKind::Collapse { under: 7 })),
+        (14, Directive::Pass(PassKind::Zip { within: 0 })),
+        (15, Directive::Pass(PassKind::Pinch)),
+        (16, Directive::Save),
     ];
     assert_eq!(rt; found.len(), want.len());
     for (found, (line, what)) in found.as_slice().iter().zip(want) {
@@ -41,7 +44,7 @@ fn each_form_is_read(rt: HostRuntime) -> Result<(), Fail> {
 
 #[test]
 fn each_reason_is_told(rt: HostRuntime) -> Result<(), Fail> {
-    let cases: [(&[u8], TextWhy); 29] = [
+    let cases: [(&[u8], TextWhy); 31] = [
         (b"set", TextWhy::Short),
         (b"set speed", TextWhy::Unknown),
         (b"set depth", TextWhy::Short),
@@ -67,9 +70,11 @@ fn each_reason_is_told(rt: HostRuntime) -> Result<(), Fail> {
         (b"split 268435457", TextWhy::Range),
         (b"flip 5", TextWhy::Long),
         (b"flips", TextWhy::Unknown),
-        (b"collapse 5", TextWhy::Unknown),
-        (b"zip 5", TextWhy::Unknown),
-        (b"pinch", TextWhy::Unknown),
+        (b"collapse", TextWhy::Short),
+        (b"collapse 268435457", TextWhy::Range),
+        (b"zip 1 2", TextWhy::Long),
+        (b"zip near", TextWhy::Number),
+        (b"pinch 5", TextWhy::Long),
         (b"drive", TextWhy::Unknown),
     ];
     for (text, why) in cases {

@@ -1,0 +1,185 @@
+//! Worked examples.
+ghost use Rattle.std.specs.Prelude.{◌≡◌, IfOk};
+ghost use Rattle.mesh_base.specs.Sides.{IsClosed};
+ghost use Rattle.mesh_base.specs.Placements.{IsClearMesh};
+
+use crate::{zip, zip_ready};
+use edit_base::{Change, Edit, Why};
+use grid_base::{NoMemory, Point};
+use mesh_plain::{
+    FaceId, MeshLists, PairName, PlainMesh, Points, Surface, Triangles, VertexId, shape,
+};
+use pair_scan::first_meeting;
+use std::alloc::Global;
+use std::process::Abort;
+use std::test::Fail;
+
+// Two boxes that face each other, and a bar between them.
+const POINTS: [[i32; 3]; 20] = [
+    [10, 0, 0],
+    [10, 10, 10],
+    [10, 10, 0],
+    [10, 0, 10],
+    [0, 0, 0],
+    [0, 10, 0],
+    [0, 10, 10],
+    [0, 0, 10],
+    [14, -5, -5],
+    [14, 15, 15],
+    [14, 15, -5],
+    [14, -5, 15],
+    [34, -5, -5],
+    [34, 15, -5],
+    [34, 15, 15],
+    [34, -5, 15],
+    [12, -6, 5],
+    [12, 60, 4],
+    [12, 60, 6],
+    [13, 60, 5],
+];
+
+const FACES: [[u32; 3]; 28] = [
+    [1, 3, 2],
+    [1, 2, 4],
+    [5, 8, 7],
+    [5, 7, 6],
+    [1, 4, 8],
+    [1, 8, 5],
+    [3, 6, 7],
+    [3, 7, 2],
+    [1, 5, 6],
+    [1, 6, 3],
+    [4, 2, 7],
+    [4, 7, 8],
+    [9, 12, 10],
+    [9, 10, 11],
+    [13, 14, 15],
+    [13, 15, 16],
+    [9, 13, 16],
+    [9, 16, 12],
+    [11, 10, 15],
+    [11, 15, 14],
+    [9, 11, 14],
+    [9, 14, 13],
+    [12, 16, 15],
+    [12, 15, 10],
+    [17, 19, 18],
+    [17, 18, 20],
+    [18, 19, 20],
+    [17, 20, 19],
+];
+
+// The tunnel between the two boxes.
+const TUNNEL: [[u32; 3]; 8] = [
+    [2, 4, 10],
+    [4, 12, 10],
+    [4, 1, 12],
+    [1, 9, 12],
+    [1, 3, 9],
+    [3, 11, 9],
+    [3, 2, 11],
+    [2, 10, 11],
+];
+
+fn mesh_at(
+    alloc: Global,
+    points: &[[i32; 3]],
+    faces: &[[u32; 3]],
+    rt: &impl Abort,
+) -> Result<PlainMesh, NoMemory>
+    ensures closed { IfOk result (λ s. IsClosed (⟦<PlainMesh as Surface>⟧.mesh s)) }
+    ensures clear { IfOk result (λ s. IsClearMesh (⟦<PlainMesh as Surface>⟧.mesh s)) }
+{
+    let mut lists = MeshLists {
+        points: Points::new(alloc),
+        faces: Triangles::new(alloc),
+    };
+    for p in points {
+        lists.points.push(Point::new(p[0], p[1], p[2]).expect(rt, "a point in the box"))?;
+    }
+    for f in faces {
+        lists.faces.push(*f)?;
+    }
+    let shaped = shape(alloc, &lists);
+    assert!(rt; shaped.is_ok());
+    let mesh = PlainMesh::of(alloc, &lists)?;
+    let found = first_meeting(alloc, &mesh)?;
+    assert!(rt; found.is_none());
+    Ok(mesh)
+}
+
+fn is_zipped(edit: &Edit, ids: [u32; 4], k: u8) -> bool {
+    match edit {
+        Edit::Done(Change::Zip { a, b, e, f, turn }) => {
+            *a == VertexId(ids[0])
+                && *b == VertexId(ids[1])
+                && *e == VertexId(ids[2])
+                && *f == VertexId(ids[3])
+                && *turn == k
+        }
+        _ => false,
+    }
+}
+
+fn reason(edit: &Edit) -> Option<Why> {
+    match edit {
+        Edit::Done(_) => None,
+        Edit::No(why) => Some(*why),
+    }
+}
+
+#[test]
+fn two_boxes_are_joined_by_a_tunnel(rt: HostRuntime) -> Result<(), Fail> {
+    let mut mesh = mesh_at(rt.alloc(), &POINTS[..16], &FACES[..24], &rt)?;
+    let edit = zip(
+        rt.alloc(),
+        &mut mesh,
+        VertexId(2),
+        VertexId(1),
+        VertexId(9),
+        VertexId(10),
+    )?;
+    assert!(rt; is_zipped(&edit, [1, 2, 9, 10], 0));
+    assert_eq!(rt; (mesh.vertices(), mesh.faces()), (16, 28));
+    assert_eq!(rt; (mesh.next_vertex(), mesh.next_face()), (17, 33));
+    let mut id = 25;
+    for c in &TUNNEL {
+        let corners = [VertexId(c[0]), VertexId(c[1]), VertexId(c[2])];
+        assert_eq!(rt; mesh.corners(FaceId(id)), Some(corners));
+        id += 1;
+    }
+    Ok(())
+}
+
+#[test]
+fn a_refused_zip_leaves_the_mesh(rt: HostRuntime) -> Result<(), Fail> {
+    let mut mesh = mesh_at(rt.alloc(), &POINTS, &FACES, &rt)?;
+    // The bar meets three of the tunnels, and in the last that is tried the edge 1 10 meets a face.
+    let hit = PairName {
+        a: VertexId(1),
+        b: VertexId(10),
+        face: FaceId(29),
+    };
+    for (ids, why) in [
+        ([1, 2, 9, 10], Why::Hit(hit)),
+        ([1, 2, 3, 4], Why::NoEdge),
+        ([1, 2, 2, 3], Why::Shared),
+        ([1, 1, 9, 10], Why::NoEdge),
+    ] {
+        let [a, b, e, f]: [u32; 4] = ids;
+        let edit = zip(
+            rt.alloc(),
+            &mut mesh,
+            VertexId(a),
+            VertexId(b),
+            VertexId(e),
+            VertexId(f),
+        )?;
+        assert_eq!(rt; reason(&edit), Some(why));
+    }
+    assert!(rt; zip_ready(&mesh, VertexId(1), VertexId(2), VertexId(9), VertexId(10)));
+    assert!(rt; !zip_ready(&mesh, VertexId(1), VertexId(2), VertexId(2), VertexId(3)));
+    assert_eq!(rt; (mesh.vertices(), mesh.faces()), (20, 28));
+    assert_eq!(rt; (mesh.next_vertex(), mesh.next_face()), (21, 29));
+    Ok(())
+}
