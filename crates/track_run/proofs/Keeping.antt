@@ -40,9 +40,7 @@ use Rattle.obj_text.specs.Obj.{Lists, lists_of}
 use Rattle.step_text.specs.declared.Placed.{Placed}
 use Rattle.step_text.specs.declared.Directive.{Directive}
 use Rattle.step_text.specs.declared.Directive.TheVariants as directive
-use Rattle.step_text.specs.Ranges.{IsTaken, AsksTaken, AskTaken}
 use Rattle.step_text.specs.Steps.{steps_of}
-use Rattle.step_text.proofs.Taken.{steps_taken}
 use Rattle.log_text.specs.declared.LogLine.{LogLine}
 use Rattle.log_text.specs.declared.LogLine.TheVariants.{Step, Hit, Move, Moved}
 use Rattle.log_text.specs.Replay.{Replay, after, replayed}
@@ -215,59 +213,59 @@ keeps_step_turn s kept (Some v) e = tt
 saved_well : (m : Mesh) → IsGood m → IsSavedWell (at_mesh m) (finite.len m.points) (finite.len m.faces)
 saved_well m good = record { vertex_count = refl; face_count = refl; sound = good.sound; closed = good.closed; clear = good.clear; read_again = read_again m good.sound good.closed good.clear }
 
-keeps_turn : (what : Directive) (s : State) → AsksTaken what → IsKept s → KeepsTurn s (turn what s)
-keeps_turn (directive.SetDepth depth) s taken kept = keeps_set s (record s.set { depth = depth }) kept
-keeps_turn (directive.SetPasses passes) s taken kept = keeps_set s (record s.set { passes = passes }) kept
-keeps_turn (directive.SetZones zones) s taken kept = keeps_set s (record s.set { zones = zones }) kept
-keeps_turn (directive.SetHalvings halvings) s taken kept = keeps_set s (record s.set { halvings = halvings }) kept
-keeps_turn (directive.ShiftOne v by) s taken kept = keeps_shift s kept (sum_of_one v by s.asked) (λ now e. names_of_one v by s.asked now (asked_of v s.asked) e)
-keeps_turn (directive.ShiftAll by) s taken kept = keeps_shift s kept (sum_of_all by s.asked) (λ now e. names_of_all by s.asked now (first_beyond by s.asked) e)
-keeps_turn directive.Step s taken kept = keeps_step_turn s kept (first_outside s.mesh s.asked) refl
-keeps_turn (directive.Pass kind) s taken kept =
-    let kept_pass = pass_keeps kind s taken kept.good in (
+keeps_turn : (what : Directive) (s : State) → IsKept s → KeepsTurn s (turn what s)
+keeps_turn (directive.SetDepth depth) s kept = keeps_set s (record s.set { depth = depth }) kept
+keeps_turn (directive.SetPasses passes) s kept = keeps_set s (record s.set { passes = passes }) kept
+keeps_turn (directive.SetZones zones) s kept = keeps_set s (record s.set { zones = zones }) kept
+keeps_turn (directive.SetHalvings halvings) s kept = keeps_set s (record s.set { halvings = halvings }) kept
+keeps_turn (directive.ShiftOne v by) s kept = keeps_shift s kept (sum_of_one v by s.asked) (λ now e. names_of_one v by s.asked now (asked_of v s.asked) e)
+keeps_turn (directive.ShiftAll by) s kept = keeps_shift s kept (sum_of_all by s.asked) (λ now e. names_of_all by s.asked now (first_beyond by s.asked) e)
+keeps_turn directive.Step s kept = keeps_step_turn s kept (first_outside s.mesh s.asked) refl
+keeps_turn (directive.Pass kind) s kept =
+    let kept_pass = pass_keeps kind s kept.good in (
       kept_pass.lines,
       kept_pass.replay,
       record { good = kept_pass.good; names = ids_in (passed_mesh kind s) s.asked },
     )
-keeps_turn directive.Save s taken kept = ((saved_well s.mesh kept.good, tt), refl, record { good = kept.good; names = kept.names })
+keeps_turn directive.Save s kept = ((saved_well s.mesh kept.good, tt), refl, record { good = kept.good; names = kept.names })
 
 -- a turn that is taken leads to where a run stands well
-pub kept_next : (what : Directive) (s next : State) (lines : List LogLine) → AsksTaken what → IsKept s → turn what s ≡ Goes lines next → IsKept next
-kept_next what s next lines taken kept goes = let P : Turn → Type 0 = λ t. KeepsTurn s t in (subst P goes (keeps_turn what s taken kept)).2
+pub kept_next : (what : Directive) (s next : State) (lines : List LogLine) → IsKept s → turn what s ≡ Goes lines next → IsKept next
+kept_next what s next lines kept goes = let P : Turn → Type 0 = λ t. KeepsTurn s t in (subst P goes (keeps_turn what s kept)).2
 
 pub kept_stepped : (s t : State) (a b : Option (List ℕ)) (r : Result (Option UseWhy) Stop) → IsKept s → StepTakes s t a b r → r ≡ Ok None → IsKept t
 kept_stepped s t a b r kept takes e =
     let P : Result (Option UseWhy) Stop → Type 0 = λ x. StepTakes s t a b x in
-    kept_next directive.Step s t (step_lines s) tt kept (subst P e takes).0
+    kept_next directive.Step s t (step_lines s) kept (subst P e takes).0
 
-pub kept_passed : (kind : PassKind) (s t : State) (a b : Option (List ℕ)) (r : Result (Option UseWhy) Stop) → IsTaken kind → IsKept s → PassTakes kind s t a b r → r ≡ Ok None → IsKept t
-kept_passed kind s t a b r taken kept takes e =
+pub kept_passed : (kind : PassKind) (s t : State) (a b : Option (List ℕ)) (r : Result (Option UseWhy) Stop) → IsKept s → PassTakes kind s t a b r → r ≡ Ok None → IsKept t
+kept_passed kind s t a b r kept takes e =
     let P : Result (Option UseWhy) Stop → Type 0 = λ x. PassTakes kind s t a b x in
     let Q : State → Type 0 = λ x. IsKept x in
-    subst Q (sym (subst P e takes).0) (kept_next (directive.Pass kind) s (after_pass kind s) (passed_lines kind s) taken kept refl)
+    subst Q (sym (subst P e takes).0) (kept_next (directive.Pass kind) s (after_pass kind s) (passed_lines kind s) kept refl)
 
 keeps_and_then : (line : ℕ) (s : State) (t : Turn) (next : State → Told) → KeepsTurn s t → ((n : State) → IsKept n → Keeps (standing n) (next n).lines) → Keeps (standing s) (and_then line t next).lines
 keeps_and_then line s (Goes lines n) next k h =
     let P : Replay → Type 0 = λ r. Keeps r (next n).lines in keeps_append lines (next n).lines (standing s) k.0 (subst P (sym k.1) (h n k.2))
 keeps_and_then line s (Stops why) next k h = (tt, tt)
 
-keeps_told : (steps : List Placed) (s : State) → AskTaken steps → IsKept s → Keeps (standing s) (told_from steps s).lines
-keeps_told [] s taken kept = (tt, tt)
-keeps_told (p ∷ steps) s taken kept = keeps_and_then p.line s (turn p.what s) (told_from steps) (keeps_turn p.what s taken.0 kept) (λ n k. keeps_told steps n taken.1 k)
+keeps_told : (steps : List Placed) (s : State) → IsKept s → Keeps (standing s) (told_from steps s).lines
+keeps_told [] s kept = (tt, tt)
+keeps_told (p ∷ steps) s kept = keeps_and_then p.line s (turn p.what s) (told_from steps) (keeps_turn p.what s kept) (λ n k. keeps_told steps n k)
 
 -- ---- a job
 
 pub kept_start : (m : Mesh) → IsGood m → IsKept (start m)
 kept_start m good = record { good = good; names = names_at_first m (no_shifts m) refl }
 
-keeps_meeting : (m : Mesh) (steps : List Placed) (o : Option PairName) → AskTaken steps → met_first m ≡ o → IsSound m → IsClosed m → Keeps (at_mesh m) (told_of_meeting m steps o).lines
-keeps_meeting m steps (Some pair) taken e sound closed = (tt, tt)
-keeps_meeting m steps None taken e sound closed =
+keeps_meeting : (m : Mesh) (steps : List Placed) (o : Option PairName) → met_first m ≡ o → IsSound m → IsClosed m → Keeps (at_mesh m) (told_of_meeting m steps o).lines
+keeps_meeting m steps (Some pair) e sound closed = (tt, tt)
+keeps_meeting m steps None e sound closed =
     let good : IsGood m = record { sound = sound; closed = closed; clear = (clear_exactly m None sound (sym e)).0 refl } in
-    (saved_well m good, keeps_told steps (start m) taken (kept_start m good))
+    (saved_well m good, keeps_told steps (start m) (kept_start m good))
 
 keeps_steps : (m : Mesh) (bytes : List ℕ) (r : Result (List Placed) TextFault) → steps_of bytes ≡ r → IsSound m → IsClosed m → Keeps (at_mesh m) (told_of_steps m r).lines
-keeps_steps m bytes (Ok steps) e sound closed = keeps_meeting m steps (met_first m) (steps_taken bytes steps e) refl sound closed
+keeps_steps m bytes (Ok steps) e sound closed = keeps_meeting m steps (met_first m) refl sound closed
 keeps_steps m bytes (Err fault) e sound closed = (tt, tt)
 
 keeps_shape : (lists : Lists) (o : Option ShapeFault) (steps : List ℕ) → shape_fault (length lists.points) lists.faces ≡ o → Keeps (at_mesh (mesh_of_lists lists)) (told_of_shape lists o steps).lines

@@ -8,11 +8,10 @@ use Rattle.edit_base.specs.declared.Edit.TheVariants as edit
 use Rattle.edit_base.specs.declared.PassKind.{PassKind}
 use Rattle.edit_base.specs.declared.PassKind.TheVariants as kinds
 use Rattle.edit_base.specs.Answers.{answer_to}
-use Rattle.step_text.specs.Ranges.{IsTaken}
 use Rattle.log_text.specs.declared.LogLine.{LogLine}
 use Rattle.log_text.specs.declared.LogLine.TheVariants.{Pass, Did, No, First, Mesh as MeshLine, Step, Hit, Block, Move, Moved, Refused, End}
 use Rattle.log_text.specs.Replay.{Replay, after, replayed}
-use Rattle.pass_run.specs.Candidates.{IsBuilt, candidates, is_due}
+use Rattle.pass_run.specs.Candidates.{candidates, is_due}
 use Rattle.pass_run.specs.PassLines.{line_of, lines_of, mesh_from, lines_from, pass_lines, mesh_after_pass, mesh_by, mesh_by_lines}
 use Rattle.pass_run.specs.Promises.{IsGood, EachMovesClear}
 use Rattle.pass_run.proofs.Keeping.{passes_keep}
@@ -95,24 +94,17 @@ each_keeps m (Moved how ∷ lines) h k = absurd h
 each_keeps m (Refused why ∷ lines) h k = absurd h
 each_keeps m (End ∷ lines) h k = absurd h
 
-pub is_built : (kind : PassKind) → IsTaken kind → IsBuilt kind
-is_built (kinds.Split over) h = tt
-is_built kinds.Flip h = tt
-is_built (kinds.Collapse under) h = absurd h
-is_built (kinds.Zip within) h = absurd h
-is_built kinds.Pinch h = absurd h
-
 -- what a pass keeps: its lines keep their promises, their replay is the mesh that it leaves, and that is good
 pub record PassKeeps (kind : PassKind) (s : State) : Type 0 where
   pub lines : Keeps (standing s) (passed_lines kind s)
   pub replay : after (standing s) (passed_lines kind s) ≡ at_mesh (passed_mesh kind s)
   pub good : IsGood (passed_mesh kind s)
 
-pub pass_keeps : (kind : PassKind) (s : State) → IsTaken kind → IsGood s.mesh → PassKeeps kind s
+pub pass_keeps : (kind : PassKind) (s : State) → IsGood s.mesh → PassKeeps kind s
 unfolding passed_lines passed_mesh
-pass_keeps kind s taken good =
+pass_keeps kind s good =
     let lines = pass_lines meets_exactly s.mesh kind s.set.depth in
-    let kept = passes_keep meets_exactly meets_exactly-is_exact s.mesh kind s.set.depth (is_built kind taken) good in
+    let kept = passes_keep meets_exactly meets_exactly-is_exact s.mesh kind s.set.depth good in
     record {
       lines = each_keeps s.mesh lines (pass_is s.mesh kind s.set.depth) kept.0;
       replay = replay_is s.mesh lines (pass_is s.mesh kind s.set.depth) ∙ ap at_mesh (pass_makes meets_exactly kind s.set.depth s.mesh);

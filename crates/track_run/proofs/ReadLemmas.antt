@@ -12,7 +12,6 @@ use Rattle.obj_text.specs.Views.{lists_view}
 use Rattle.step_text.specs.declared.Placed.{Placed}
 use Rattle.step_text.specs.Ranges.{AreInRange}
 use Rattle.step_text.specs.Steps.{steps_of}
-use Rattle.step_text.proofs.Taken.{steps_taken}
 use Rattle.track_run.specs.declared.reading.Ready.TheVariants as ready
 use Rattle.track_run.specs.Job.{told_of_lists, told_of_shape, told_of_steps, mesh_of_lists, mesh_read}
 use Rattle.track_run.specs.Parts.{Reads, given, AreGood}
@@ -40,5 +39,4 @@ reads_yes decimals mesh steps lists directives read good told few ranges = (
   good,
   few,
   ranges,
-  steps_taken steps directives told,
 )

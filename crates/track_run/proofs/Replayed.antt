@@ -12,8 +12,6 @@ use Rattle.mesh_plain.proofs.Faults.{closed-mesh_of}
 use Rattle.step_text.specs.declared.Placed.{Placed}
 use Rattle.step_text.specs.declared.Directive.{Directive}
 use Rattle.step_text.specs.declared.Directive.TheVariants as directive
-use Rattle.step_text.specs.Ranges.{AskTaken}
-use Rattle.step_text.proofs.Taken.{steps_taken}
 use Rattle.obj_text.specs.Obj.{Lists}
 use Rattle.log_text.specs.declared.LogLine.{LogLine}
 use Rattle.log_text.specs.declared.LogLine.TheVariants.{First}
@@ -61,9 +59,9 @@ turn_replayed d s next lines goes = let P : Turn → Type 0 = λ t. Replays s t 
 
 -- ---- the states that the directives of a job reach
 
-reaches_kept : (front rest : List Placed) (s t : State) → AskTaken (front ++ rest) → IsKept s → Reaches s front t → IsKept t
-reaches_kept [] rest s t taken kept same = let P : State → Type 0 = λ x. IsKept x in subst P same kept
-reaches_kept (p ∷ front) rest s t taken kept reached = reaches_kept front rest reached.1 t taken.1 (kept_next p.what s reached.1 reached.0 taken.0 kept reached.2) reached.3
+reaches_kept : (front rest : List Placed) (s t : State) → IsKept s → Reaches s front t → IsKept t
+reaches_kept [] rest s t kept same = let P : State → Type 0 = λ x. IsKept x in subst P same kept
+reaches_kept (p ∷ front) rest s t kept reached = reaches_kept front rest reached.1 t (kept_next p.what s reached.1 reached.0 kept reached.2) reached.3
 
 stands_kept : (job : Job) (s : State) → StandsAt job s → IsKept s
 stands_kept job s at =
@@ -73,7 +71,7 @@ stands_kept job s at =
     let m : Mesh = mesh_of_lists at.lists in
     let sound = sound-mesh_of points at.lists.faces none in
     let good : IsGood m = record { sound = sound; closed = closed-mesh_of points at.lists.faces none; clear = (clear_exactly m None sound (sym at.clear.clear)).0 refl } in
-    reaches_kept at.front at.rest (start m) s (subst AskTaken at.split (steps_taken read.steps at.directives read.read)) (kept_start m good) at.reached
+    reaches_kept at.front at.rest (start m) s (kept_start m good) at.reached
 
 -- ---- the log up to there
 

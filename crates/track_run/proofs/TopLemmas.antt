@@ -9,7 +9,7 @@ use Rattle.mesh_base.specs.Mesh.{Mesh}
 use Rattle.mesh_base.specs.Shifts.{Shifts}
 use Rattle.mesh_base.specs.declared.MeshLists.{MeshLists}
 use Rattle.step_text.specs.declared.Placed.{Placed}
-use Rattle.step_text.specs.Ranges.{AreInRange, AskTaken}
+use Rattle.step_text.specs.Ranges.{AreInRange}
 use Rattle.step_choose.specs.declared.Settings.{Settings}
 use Rattle.step_choose.specs.Settings.{at_first}
 use Rattle.log_text.specs.Lines.{text_of_lines, text_of_line}
@@ -95,7 +95,7 @@ module _ (files : Option Files) (named : Named) (f g : Fetched) (bytes : List �
     job = record { decimals = named.decimals; mesh_file = Bytes bytes; step_file = Bytes steps };
     is_job = record { decimals = refl; mesh = mesh_source; steps = (let P : Source → Type 0 = λ x. IsSource files named.steps x in subst P ge gs) };
     told = reads.0;
-    is_mesh = (reads.1, reads.2, reads.3, reads.4, reads.5);
+    is_mesh = (reads.1, reads.2, reads.3, reads.4);
   }
 
   pub prepares_read : (steps : List ℕ) → source_of g ≡ Bytes steps → (r : Ready) → Reads named.decimals bytes steps r → Prepares files named r
@@ -221,8 +221,8 @@ tested_meets to m steps files old new pair r o first some said part ending =
     subst P (sym some ∙ first) (meets_at_first to m steps files old new pair r said part ending)
 
 -- what was read is of good shape, and what its directives set is within the limits
-pub ready_is_good : (files : Option Files) (named : Named) (found : Ready) (lists : MeshLists) (steps : List Placed) → found ≡ ready.Yes lists steps → Prepares files named found → AreGood lists × (length steps < 2 ^ 31) × AreInRange steps × AskTaken steps
-ready_is_good files named found lists steps is p = let q = prepared_at files named found (ready.Yes lists steps) is p in (q.is_mesh.1, q.is_mesh.2, q.is_mesh.3, q.is_mesh.4)
+pub ready_is_good : (files : Option Files) (named : Named) (found : Ready) (lists : MeshLists) (steps : List Placed) → found ≡ ready.Yes lists steps → Prepares files named found → AreGood lists × (length steps < 2 ^ 31) × AreInRange steps
+ready_is_good files named found lists steps is p = let q = prepared_at files named found (ready.Yes lists steps) is p in (q.is_mesh.1, q.is_mesh.2, q.is_mesh.3)
 
 -- ---- the headline
 

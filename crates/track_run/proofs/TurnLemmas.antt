@@ -8,7 +8,7 @@ use Rattle.mesh_base.specs.Shifts.{Shifts, NameLive}
 use Rattle.std.proofs.Math.Seq.{drop-cons}
 use Rattle.std.specs.List.{AllByRecursion}
 use Rattle.step_text.specs.declared.Placed.{Placed}
-use Rattle.step_text.specs.Ranges.{IsInRange, AreInRange, AsksTaken, AskTaken}
+use Rattle.step_text.specs.Ranges.{IsInRange, AreInRange}
 use Rattle.step_text.specs.declared.Directive.{Directive}
 use Rattle.step_text.specs.declared.Directive.TheVariants as directive
 use Rattle.track_run.specs.declared.outcome.Stop.{Stop}
@@ -45,5 +45,3 @@ next_one P xs i x h at all =
 pub range_here : (steps : List Placed) (i : ℕ) (placed : Placed) → i < length steps → placed ≡ get_or steps i placed → AreInRange (drop i steps) → IsInRange placed.what × AreInRange (drop (i + 1) steps)
 range_here steps i placed h at ranges = next_one (λ p. IsInRange p.what) steps i placed h at ranges
 
-pub taken_here : (steps : List Placed) (i : ℕ) (placed : Placed) → i < length steps → placed ≡ get_or steps i placed → AskTaken (drop i steps) → AsksTaken placed.what × AskTaken (drop (i + 1) steps)
-taken_here steps i placed h at taken = next_one (λ p. AsksTaken p.what) steps i placed h at taken

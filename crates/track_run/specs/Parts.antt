@@ -5,7 +5,7 @@ use Rattle.mesh_base.specs.Mesh.{Mesh}
 use Rattle.obj_text.specs.Obj.{lists_of}
 use Rattle.step_text.specs.declared.Directive.TheVariants.{Step}
 use Rattle.edit_base.specs.declared.PassKind.{PassKind}
-use Rattle.step_text.specs.Ranges.{AreInRange, AskTaken}
+use Rattle.step_text.specs.Ranges.{AreInRange}
 use Rattle.log_text.specs.Lines.{text_of_lines}
 use Rattle.log_text.specs.declared.LogLine.{LogLine}
 use Rattle.log_text.specs.declared.Refusal.{Refusal}
@@ -80,12 +80,12 @@ told_of_ready (ready.Yes lists steps) = told_of_meeting (given lists) steps (met
 abbrev pub Reads : ℕ → List ℕ → List ℕ → Ready → Type 0
 Reads decimals mesh steps (ready.No why) = told_of_lists (lists_of decimals mesh) steps ≡ refused why
 Reads decimals mesh steps (ready.Yes lists directives) =
-    (told_of_lists (lists_of decimals mesh) steps ≡ told_of_ready (ready.Yes lists directives)) × (given lists ≡ mesh_read (lists_of decimals mesh)) × AreGood lists × (length directives < 2 ^ 31) × AreInRange directives × AskTaken directives
+    (told_of_lists (lists_of decimals mesh) steps ≡ told_of_ready (ready.Yes lists directives)) × (given lists ≡ mesh_read (lists_of decimals mesh)) × AreGood lists × (length directives < 2 ^ 31) × AreInRange directives
 
 -- the mesh that was read is the job's
 abbrev pub IsMeshOf : Job → Ready → Type 0
 IsMeshOf job (ready.No why) = Unit {0}
-IsMeshOf job (ready.Yes lists directives) = (given lists ≡ mesh_in job.decimals job.mesh_file) × AreGood lists × (length directives < 2 ^ 31) × AreInRange directives × AskTaken directives
+IsMeshOf job (ready.Yes lists directives) = (given lists ≡ mesh_in job.decimals job.mesh_file) × AreGood lists × (length directives < 2 ^ 31) × AreInRange directives
 
 -- what the words' files give
 pub record Prepares (files : Option Files) (named : Named) (found : Ready) : Type 0 where

@@ -1,5 +1,5 @@
 ghost use Rattle.std.specs.Prelude.{◌≡◌, ◌≤◌, ◌<◌, ◌+◌, ◌^◌, length};
-ghost use Rattle.step_text.specs.Ranges.{AreInRange, AskTaken};
+ghost use Rattle.step_text.specs.Ranges.{AreInRange};
 ghost use Rattle.step_choose.specs.Settings.{AreWithinLimits};
 ghost use Rattle.track_run.specs.State.{state_of, standing};
 ghost use Rattle.track_run.specs.Turns.{told_from};
@@ -30,7 +30,6 @@ pub(crate) fn follow<S: Surface, D: Desk, K: Sink>(
 ) -> Result<Option<Refusal>, Stop>
     requires few { names.decimals ≤ 6 }
     requires ranges { AreInRange steps.now }
-    requires taken { AskTaken steps.now }
     requires kept { IsKept (state_of (S.mesh mesh.old) course.old) }
     requires limits { AreWithinLimits course.old.set }
     requires count { length steps.now < 2 ^ 31 }

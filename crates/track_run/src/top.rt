@@ -1,7 +1,7 @@
 ghost use Rattle.std.specs.Prelude.{◌≡◌, ◌≤◌, ◌<◌, ◌^◌, length, map, string_bytes};
 ghost use Rattle.grid_base.specs.declared.TheConstants.{TEXT_MAX};
 ghost use Rattle.mesh_base.specs.Sides.{IsClosed};
-ghost use Rattle.step_text.specs.Ranges.{AreInRange, AskTaken};
+ghost use Rattle.step_text.specs.Ranges.{AreInRange};
 ghost use Rattle.outside_io.specs.Causes.{Rose};
 ghost use Rattle.track_run.specs.State.{at_mesh};
 ghost use Rattle.pass_run.specs.Promises.{IsGood};
@@ -55,7 +55,6 @@ fn begin<S: Surface, D: Desk, K: Sink>(
     requires few { names.decimals ≤ 6 }
     requires good { IsGood (S.mesh mesh.old) }
     requires ranges { AreInRange steps.now }
-    requires taken { AskTaken steps.now }
     requires count { length steps.now < 2 ^ 31 }
     ensures follows { Follows (target_of names.entry) (at_mesh (S.mesh mesh.old)) (told_of (S.mesh mesh.old) steps.now)
         (world D.files K.written desk.old out.old) (world D.files K.written desk.new out.new) result }
@@ -87,7 +86,6 @@ fn test_and_begin<S: Surface, D: Desk, K: Sink>(
     requires few { names.decimals ≤ 6 }
     requires closed { IsClosed (S.mesh mesh.old) }
     requires ranges { AreInRange steps.now }
-    requires taken { AskTaken steps.now }
     requires count { length steps.now < 2 ^ 31 }
     ensures follows { Follows (target_of names.entry) (at_mesh (S.mesh mesh.old)) (told_of_meeting (S.mesh mesh.old) steps.now (met_first (S.mesh mesh.old)))
         (world D.files K.written desk.old out.old) (world D.files K.written desk.new out.new) result }

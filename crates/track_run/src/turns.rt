@@ -1,5 +1,5 @@
 ghost use Rattle.std.specs.Prelude.{◌≡◌, ◌≤◌, ◌<◌, ◌+◌, ◌^◌, IfOk, IfErr, IsErrOf};
-ghost use Rattle.step_text.specs.Ranges.{IsInRange, IsTaken, AsksTaken};
+ghost use Rattle.step_text.specs.Ranges.{IsInRange};
 ghost use Rattle.step_choose.specs.Settings.{AreWithinLimits};
 ghost use Rattle.outside_io.specs.Causes.{Rose};
 ghost use Rattle.track_run.specs.State.{state_of};
@@ -88,7 +88,6 @@ fn take_pass<S: Surface, K: Sink>(
 ) -> Result<Option<UseWhy>, Stop>
     requires kept { IsKept (state_of (S.mesh mesh.old) course.old) }
     requires limits { AreWithinLimits course.old.set }
-    requires taken { IsTaken kind }
     ensures passes { PassTakes kind (state_of (S.mesh mesh.old) course.old) (state_of (S.mesh mesh.new) course.new) (K.written out.old) (K.written out.new) result }
     ensures rest { course.new ≡ record course.old { asked = course.new.asked } }
     ensures later { K.faults out.old ≤ K.faults out.new }
@@ -119,7 +118,6 @@ pub(crate) fn advance<S: Surface, D: Desk, K: Sink>(
 ) -> Result<Option<UseWhy>, Stop>
     requires few { names.decimals ≤ 6 }
     requires range { IsInRange what }
-    requires taken { AsksTaken what }
     requires kept { IsKept (state_of (S.mesh mesh.old) course.old) }
     requires limits { AreWithinLimits course.old.set }
     requires steps { course.old.steps + 1 < 2 ^ 32 }

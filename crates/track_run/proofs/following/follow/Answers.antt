@@ -9,7 +9,7 @@ use Rattle.track_run.specs.Turns.{told_from}
 use Rattle.track_run.specs.Names.{target_of}
 use Rattle.track_run.specs.World.{world}
 use Rattle.track_run.proofs.SoFars.{SoFar, so_far_none, goes_on, is_refused, turn_part, at_end, finished}
-use Rattle.track_run.proofs.TurnLemmas.{range_here, taken_here}
+use Rattle.track_run.proofs.TurnLemmas.{range_here}
 use Rattle.track_run.proofs.following.follow.Goals as goal
 
 pub loop-placed-init : goal.loop-placed-init
@@ -18,7 +18,6 @@ loop-placed-init g c = record {
   kept = c.requires.kept;
   limits = c.requires.limits;
   ranges = c.requires.ranges;
-  taken = c.requires.taken;
   steps = omega (arith, c.requires.steps_made);
   saved = omega (arith, c.requires.saved);
   desk = omega arith;
@@ -27,9 +26,6 @@ loop-placed-init g c = record {
 
 pub advance-requires-clause-range : goal.advance-requires-clause-range
 advance-requires-clause-range g c = (range_here c.args.steps.now c.loop-placed.placed-index c.placed-item.result c.loop-placed-test.true c.placed-item.is c.loop-placed.invariant.ranges).0
-
-pub advance-requires-clause-taken : goal.advance-requires-clause-taken
-advance-requires-clause-taken g c = (taken_here c.args.steps.now c.loop-placed.placed-index c.placed-item.result c.loop-placed-test.true c.placed-item.is c.loop-placed.invariant.taken).0
 
 pub returns-in_err-advance-clause-follows : goal.returns-in_err-advance-clause-follows
 returns-in_err-advance-clause-follows g c =
@@ -60,7 +56,6 @@ loop-placed-preserved g c =
       kept = subst Q (sym c.settle.ensures) (c.in_ok-advance.ensures.kept (ap Ok c.in-None.is));
       limits = c.in_ok-advance.ensures.limits;
       ranges = (range_here c.args.steps.now c.loop-placed.placed-index c.placed-item.result c.loop-placed-test.true c.placed-item.is c.loop-placed.invariant.ranges).1;
-      taken = (taken_here c.args.steps.now c.loop-placed.placed-index c.placed-item.result c.loop-placed-test.true c.placed-item.is c.loop-placed.invariant.taken).1;
       steps = omega (arith, c.in_ok-advance.ensures.steps_count);
       saved = omega (arith, c.in_ok-advance.ensures.saved_count);
       desk = omega (arith, c.in_ok-advance.ensures.causes.desk);

@@ -1,5 +1,5 @@
 use Rattle.std.proofs.Common.{◌≤◌, ◌+◌, drop}
-use Rattle.step_text.specs.Ranges.{AreInRange, AskTaken}
+use Rattle.step_text.specs.Ranges.{AreInRange}
 use Rattle.step_choose.specs.Settings.{AreWithinLimits}
 use Rattle.track_run.specs.State.{state_of}
 use Rattle.track_run.specs.Standing.{IsKept}
@@ -20,7 +20,6 @@ invariant-loop-placed g l =
       kept : IsKept (state_of (mesh l.mesh) l.course);
       limits : AreWithinLimits l.course.set;
       ranges : AreInRange (drop l.placed-index l.steps);
-      taken : AskTaken (drop l.placed-index l.steps);
       steps : l.course.steps ≤ l.placed-index;
       saved : l.course.saved ≤ l.placed-index + 1;
       desk : desk.faults l.fn.desk ≤ desk.faults l.desk;

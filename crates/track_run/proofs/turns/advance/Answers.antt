@@ -12,7 +12,6 @@ use Rattle.track_run.proofs.NoFiles.{advances_step}
 use Rattle.pair_scan.proofs.Paths.{ids_sorted}
 use Rattle.track_run.proofs.Keeping.{kept_by_one, kept_by_all, kept_stepped, kept_passed}
 use Rattle.track_run.proofs.PassTaken.{advances_pass}
-use Rattle.step_text.specs.Ranges.{AsksTaken}
 use Rattle.track_run.proofs.TurnLemmas.{save_part}
 use Rattle.track_run.proofs.turns.advance.Goals as goal
 
@@ -51,5 +50,4 @@ returns-in-Pass-clause-advances g c =
 
 pub returns-in-Pass-clause-kept : goal.returns-in-Pass-clause-kept
 returns-in-Pass-clause-kept g c =
-    let P : Directive → Type 0 = λ what. AsksTaken what in
-    kept_passed c.in-Pass.kind (state_of (g.S.Surface.mesh c.args.mesh.now) c.args.course.now) (state_of (g.S.Surface.mesh c.take_pass.new.mesh) c.take_pass.new.course) _ _ c.take_pass.result (subst P c.in-Pass.is c.requires.taken) c.requires.kept c.take_pass.ensures.passes
+    kept_passed c.in-Pass.kind (state_of (g.S.Surface.mesh c.args.mesh.now) c.args.course.now) (state_of (g.S.Surface.mesh c.take_pass.new.mesh) c.take_pass.new.course) _ _ c.take_pass.result c.requires.kept c.take_pass.ensures.passes
