@@ -70,15 +70,15 @@ const FACES: [[u32; 3]; 28] = [
 ];
 
 // The tunnel between the two boxes.
-const TUNNEL: [[u32; 3]; 8] = [
-    [2, 4, 10],
-    [4, 12, 10],
-    [4, 1, 12],
-    [1, 9, 12],
-    [1, 3, 9],
-    [3, 11, 9],
-    [3, 2, 11],
-    [2, 10, 11],
+const TUNNEL: [(u32, [u32; 3]); 8] = [
+    (25, [2, 4, 10]),
+    (26, [4, 12, 10]),
+    (27, [4, 1, 12]),
+    (28, [1, 9, 12]),
+    (29, [1, 3, 9]),
+    (30, [3, 11, 9]),
+    (31, [3, 2, 11]),
+    (32, [2, 10, 11]),
 ];
 
 fn mesh_at(
@@ -128,6 +128,16 @@ fn reason(edit: &Edit) -> Option<Why> {
     }
 }
 
+fn has_faces<S: Surface>(mesh: &S, faces: &[(u32, [u32; 3])]) -> bool {
+    for (id, c) in faces {
+        let corners = [VertexId(c[0]), VertexId(c[1]), VertexId(c[2])];
+        if mesh.corners(FaceId(*id)) != Some(corners) {
+            return false;
+        }
+    }
+    true
+}
+
 #[test]
 fn two_boxes_are_joined_by_a_tunnel(rt: HostRuntime) -> Result<(), Fail> {
     let mut mesh = mesh_at(rt.alloc(), &POINTS[..16], &FACES[..24], &rt)?;
@@ -142,12 +152,7 @@ fn two_boxes_are_joined_by_a_tunnel(rt: HostRuntime) -> Result<(), Fail> {
     assert!(rt; is_zipped(&edit, [1, 2, 9, 10], 0));
     assert_eq!(rt; (mesh.vertices(), mesh.faces()), (16, 28));
     assert_eq!(rt; (mesh.next_vertex(), mesh.next_face()), (17, 33));
-    let mut id = 25;
-    for c in &TUNNEL {
-        let corners = [VertexId(c[0]), VertexId(c[1]), VertexId(c[2])];
-        assert_eq!(rt; mesh.corners(FaceId(id)), Some(corners));
-        id += 1;
-    }
+    assert!(rt; has_faces(&mesh, &TUNNEL));
     Ok(())
 }
 
@@ -160,23 +165,42 @@ fn a_refused_zip_leaves_the_mesh(rt: HostRuntime) -> Result<(), Fail> {
         b: VertexId(10),
         face: FaceId(29),
     };
-    for (ids, why) in [
-        ([1, 2, 9, 10], Why::Hit(hit)),
-        ([1, 2, 3, 4], Why::NoEdge),
-        ([1, 2, 2, 3], Why::Shared),
-        ([1, 1, 9, 10], Why::NoEdge),
-    ] {
-        let [a, b, e, f]: [u32; 4] = ids;
-        let edit = zip(
-            rt.alloc(),
-            &mut mesh,
-            VertexId(a),
-            VertexId(b),
-            VertexId(e),
-            VertexId(f),
-        )?;
-        assert_eq!(rt; reason(&edit), Some(why));
-    }
+    let edit = zip(
+        rt.alloc(),
+        &mut mesh,
+        VertexId(1),
+        VertexId(2),
+        VertexId(9),
+        VertexId(10),
+    )?;
+    assert_eq!(rt; reason(&edit), Some(Why::Hit(hit)));
+    let edit = zip(
+        rt.alloc(),
+        &mut mesh,
+        VertexId(1),
+        VertexId(2),
+        VertexId(3),
+        VertexId(4),
+    )?;
+    assert_eq!(rt; reason(&edit), Some(Why::NoEdge));
+    let edit = zip(
+        rt.alloc(),
+        &mut mesh,
+        VertexId(1),
+        VertexId(2),
+        VertexId(2),
+        VertexId(3),
+    )?;
+    assert_eq!(rt; reason(&edit), Some(Why::Shared));
+    let edit = zip(
+        rt.alloc(),
+        &mut mesh,
+        VertexId(1),
+        VertexId(1),
+        VertexId(9),
+        VertexId(10),
+    )?;
+    assert_eq!(rt; reason(&edit), Some(Why::NoEdge));
     assert!(rt; zip_ready(&mesh, VertexId(1), VertexId(2), VertexId(9), VertexId(10)));
     assert!(rt; !zip_ready(&mesh, VertexId(1), VertexId(2), VertexId(2), VertexId(3)));
     assert_eq!(rt; (mesh.vertices(), mesh.faces()), (20, 28));
