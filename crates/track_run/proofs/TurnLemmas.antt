@@ -44,4 +44,3 @@ next_one P xs i x h at all =
 
 pub range_here : (steps : List Placed) (i : ℕ) (placed : Placed) → i < length steps → placed ≡ get_or steps i placed → AreInRange (drop i steps) → IsInRange placed.what × AreInRange (drop (i + 1) steps)
 range_here steps i placed h at ranges = next_one (λ p. IsInRange p.what) steps i placed h at ranges
-

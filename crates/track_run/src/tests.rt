@@ -1,7 +1,7 @@
 mod all_pairs;
 mod each_its_way;
 mod one_by_one;
-mod splits_and_flips;
+mod passes;
 mod there_and_back;
 
 use crate::{Outcome, run};

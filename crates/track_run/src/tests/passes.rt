@@ -1,4 +1,4 @@
-//! Passes over the edges of small meshes.
+//! Passes over small meshes.
 use super::{desk_of, sink_of, track};
 use crate::Outcome;
 use std::test::Fail;
@@ -10,7 +10,7 @@ struct Case {
     saved: Option<&'static [u8]>,
 }
 
-const CASES: [Case; 6] = [
+const CASES: [Case; 12] = [
     // A tetrahedron, all of whose edges are longer.
     Case {
         mesh: b"v 0 0 0\nv 4 0 0\nv 0 4 0\nv 0 0 4\nf 1 3 2\nf 1 2 4\nf 2 3 4\nf 1 4 3\n",
@@ -57,10 +57,52 @@ const CASES: [Case; 6] = [
         log: b"topo log 1\nmesh 0 3 2\npass flip\nno flip 1 2 edge\nno flip 1 3 edge\nno flip 2 3 edge\nend\n",
         saved: None,
     },
+    // A tetrahedron whose edge is collapsed: two faces back to back are left, and go too.
+    Case {
+        mesh: b"v 0 0 0\nv 4 0 0\nv 0 4 0\nv 0 0 4\nf 1 3 2\nf 1 2 4\nf 2 3 4\nf 1 4 3\n",
+        steps: b"collapse 5\nsave\n",
+        log: b"topo log 1\nmesh 0 4 4\npass collapse 5\ncollapse 1 2 2 0 0\nmesh 1 0 0\nend\n",
+        saved: Some(b"".as_slice()),
+    },
+    // An edge with four faces is collapsed to a vertex.
+    Case {
+        mesh: b"v 0 0 0\nv 0 0 8\nv 100 -40 4\nv 100 40 4\nv 120 0 7\nv -100 -40 4\nv -100 40 4\nv -120 0 7\nf 1 2 3\nf 1 3 4\nf 1 4 2\nf 5 3 2\nf 5 4 3\nf 5 2 4\nf 2 1 6\nf 1 7 6\nf 1 2 7\nf 8 2 6\nf 8 6 7\nf 8 7 2\n",
+        steps: b"collapse 10\n",
+        log: b"topo log 1\nmesh 0 8 12\npass collapse 10\ncollapse 1 2 0 0 4\nend\n",
+        saved: None,
+    },
+    // That vertex is parted again.
+    Case {
+        mesh: b"v 0 0 0\nv 0 0 8\nv 100 -40 4\nv 100 40 4\nv 120 0 7\nv -100 -40 4\nv -100 40 4\nv -120 0 7\nf 1 2 3\nf 1 3 4\nf 1 4 2\nf 5 3 2\nf 5 4 3\nf 5 2 4\nf 2 1 6\nf 1 7 6\nf 1 2 7\nf 8 2 6\nf 8 6 7\nf 8 7 2\n",
+        steps: b"collapse 10\npinch\n",
+        log: b"topo log 1\nmesh 0 8 12\npass collapse 10\ncollapse 1 2 0 0 4\npass pinch\npinch 1 13 0 4 9 -13 0 4\nend\n",
+        saved: None,
+    },
+    // Two tetrahedra at one vertex go apart.
+    Case {
+        mesh: b"v 0 0 0\nv 8 0 0\nv 8 4 0\nv 8 0 4\nv -8 0 0\nv -8 4 0\nv -8 0 4\nf 1 3 2\nf 1 2 4\nf 2 3 4\nf 1 4 3\nf 1 6 5\nf 1 5 7\nf 5 6 7\nf 1 7 6\n",
+        steps: b"pinch\n",
+        log: b"topo log 1\nmesh 0 7 8\npass pinch\npinch 1 1 0 0 8 -1 0 0\nend\n",
+        saved: None,
+    },
+    // Two boxes that face each other are joined.
+    Case {
+        mesh: b"v 10 0 0\nv 10 10 10\nv 10 10 0\nv 10 0 10\nv 0 0 0\nv 0 10 0\nv 0 10 10\nv 0 0 10\nv 14 -5 -5\nv 14 15 15\nv 14 15 -5\nv 14 -5 15\nv 34 -5 -5\nv 34 15 -5\nv 34 15 15\nv 34 -5 15\nf 1 3 2 4\nf 5 8 7 6\nf 1 4 8 5\nf 3 6 7 2\nf 1 5 6 3\nf 4 2 7 8\nf 9 12 10 11\nf 13 14 15 16\nf 9 13 16 12\nf 11 10 15 14\nf 9 11 14 13\nf 12 16 15 10\n",
+        steps: b"zip 4\n",
+        log: b"topo log 1\nmesh 0 16 24\npass zip 4\nzip 1 2 9 10 0\nend\n",
+        saved: None,
+    },
+    // A bar stands between them.
+    Case {
+        mesh: b"v 10 0 0\nv 10 10 10\nv 10 10 0\nv 10 0 10\nv 0 0 0\nv 0 10 0\nv 0 10 10\nv 0 0 10\nv 14 -5 -5\nv 14 15 15\nv 14 15 -5\nv 14 -5 15\nv 34 -5 -5\nv 34 15 -5\nv 34 15 15\nv 34 -5 15\nv 12 -6 5\nv 12 60 4\nv 12 60 6\nv 13 60 5\nf 1 3 2 4\nf 5 8 7 6\nf 1 4 8 5\nf 3 6 7 2\nf 1 5 6 3\nf 4 2 7 8\nf 9 12 10 11\nf 13 14 15 16\nf 9 13 16 12\nf 11 10 15 14\nf 9 11 14 13\nf 12 16 15 10\nf 17 19 18\nf 17 18 20\nf 18 19 20\nf 17 20 19\n",
+        steps: b"zip 4\n",
+        log: b"topo log 1\nmesh 0 20 28\npass zip 4\nno zip 1 2 9 10 hit 1 10 29\nend\n",
+        saved: None,
+    },
 ];
 
 #[test]
-fn passes_tell_each_edge(rt: HostRuntime) -> Result<(), Fail> {
+fn passes_tell_each_edit(rt: HostRuntime) -> Result<(), Fail> {
     let alloc = rt.alloc();
     for case in &CASES {
         let mut desk = desk_of(alloc, case.mesh, case.steps)?;
