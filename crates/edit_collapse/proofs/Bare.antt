@@ -23,7 +23,7 @@ use Rattle.edit_base.specs.Collapse.{without_shared, joined_faces, has_face, wit
 use Rattle.edit_base.proofs.CollapseMesh.{dropped_faces, dropped_next, has_face_of}
 use Rattle.edit_base.proofs.Joined.{Stage}
 use Rattle.edit_base.proofs.JoinedFaces.{joined, lacks_b}
-use Rattle.edit_collapse.specs.Tried.{corners_near, without_if_bare}
+use Rattle.edit_collapse.specs.Tried.{corners_near, others_than, without_if_bare}
 use Rattle.edit_collapse.proofs.Acts.{faces_kept_at, each_at, one_stays}
 use Rattle.edit_collapse.proofs.Three.{three_cut, two_stays}
 
@@ -211,12 +211,12 @@ module _ (m : Mesh) (a b : ℕ) (sound : IsSound m) (closed : IsClosed m) (apart
       third : (w : ℕ) → (c.third == w) ≡ true → has_corner c w ≡ true
       third w e = or_second ((c.first == w) || (c.second == w)) (c.third == w) e
 
-  -- b is near a
-  b_near : has near_first b ≡ true
-  b_near =
+  -- each end is near the other
+  ends_near : (has near_first b ≡ true) × (has near_second a ≡ true)
+  ends_near =
       let face = running_face m a b (forth (runs m a b) (runs m b a) edge (closed a b)) in
       let ends = held_ends (face.0).1 a b face.1 in
-      near_has m a b (face.0).0 (face.0).1 face.2 ends.0 ends.1
+      (near_has m a b (face.0).0 (face.0).1 face.2 ends.0 ends.1, near_has m b a (face.0).0 (face.0).1 face.2 ends.1 ends.0)
     where
       forth : (x y : ℕ) → nat_lt 0 (x + y) ≡ true → x ≡ y → 0 < x
       forth x y e same = grind (arith, nat_tests)
@@ -235,7 +235,7 @@ module _ (m : Mesh) (a b : ℕ) (sound : IsSound m) (closed : IsClosed m) (apart
       by_face false e = both_ways ((has near_first v || has near_second v) && true) ((v == b) || (has_face m v && true))
           (λ h. or_second (v == b) (has_face m v && true) (with_true (has_face m v) (⊎_elim (λ x. near_had m a v x) (λ x. near_had m b v x) (or_either (has near_first v) (has near_second v) (and_first (has near_first v || has near_second v) true h)))))
           (λ h. with_true (has near_first v || has near_second v) (⊎_elim
-          (λ is. or_first (has near_first v) (has near_second v) (ap (has near_first) (eqb-true v b is) ∙ b_near))
+          (λ is. or_first (has near_first v) (has near_second v) (ap (has near_first) (eqb-true v b is) ∙ ends_near.0))
           (λ had. is_near (some_face m v (and_first (has_face m v) true had)))
           (or_either (v == b) (has_face m v && true) h)))
         where
@@ -251,8 +251,26 @@ module _ (m : Mesh) (a b : ℕ) (sound : IsSound m) (closed : IsClosed m) (apart
               by_ends false p true q = or_second (has near_first v) (has near_second v) (near_has m b v (at.0).0 (at.0).1 at.1 q at.2)
               by_ends false p false q = absurd (false≢true (sym e ∙ has_face_of three (at.0).0 (at.0).1 v (stays (at.0).0 (at.0).1 at.1 p q) at.2))
 
+  -- so each end need be looked at only near the other
+  without_ends : (v : ℕ) → (has (others_than a near_first) v || has (others_than b near_second) v) ≡ (has near_first v || has near_second v)
+  without_ends v =
+      (λ i. left_out a near_first i || left_out b near_second i)
+      ∙ by_ends (v == a) refl (v == b) refl
+    where
+      left_out : (u : ℕ) (vs : List ℕ) → has (others_than u vs) v ≡ (not (v == u) && has vs v)
+      left_out u vs = any-filter_same (λ w. w == v) (λ w. not (w == u)) (not (v == u)) (λ w e. ap (λ x. not (x == u)) (eqb-true w v e)) vs
+
+      by_ends : (p : Bool) → (v == a) ≡ p → (q : Bool) → (v == b) ≡ q → ((not p && has near_first v) || (not q && has near_second v)) ≡ (has near_first v || has near_second v)
+      by_ends true e true f = absurd (apart (sym (eqb-true v a e) ∙ eqb-true v b f))
+      by_ends true e false f = let near : has near_second v ≡ true = ap (has near_second) (eqb-true v a e) ∙ ends_near.1 in near ∙ sym (or_second (has near_first v) (has near_second v) near)
+      by_ends false e true f = let near : has near_first v ≡ true = ap (has near_first) (eqb-true v b f) ∙ ends_near.0 in or_first (has near_first v) false near ∙ sym (or_first (has near_first v) (has near_second v) near)
+      by_ends false e false f = refl
+
+  abbrev one_by_one : Mesh
+  one_by_one = fold without_if_bare three (others_than a near_first)
+
   abbrev local : Mesh
-  local = fold without_if_bare (fold without_if_bare three near_first) near_second
+  local = fold without_if_bare one_by_one (others_than b near_second)
 
   bare_got : (v : ℕ) → finite.get (without_bare m b three).points v ≡ cond (test v) None (finite.get three.points v)
   bare_got v =
@@ -274,18 +292,18 @@ module _ (m : Mesh) (a b : ℕ) (sound : IsSound m) (closed : IsClosed m) (apart
 
   local_got : (v : ℕ) → finite.get local.points v ≡ cond (test v) None (finite.get three.points v)
   local_got v =
-      got_bare near_second (fold without_if_bare three near_first) v
-      ∙ (λ i. cond (has near_second v && not (face_in (same_faces near_first three i) v)) None (got_bare near_first three v i))
-      ∙ both_bare (has near_first v) (has near_second v) (not (has_face three v)) (finite.get three.points v)
-      ∙ ap (λ t. cond t None (finite.get three.points v)) (one_list v)
+      got_bare (others_than b near_second) one_by_one v
+      ∙ (λ i. cond (has (others_than b near_second) v && not (face_in (same_faces (others_than a near_first) three i) v)) None (got_bare (others_than a near_first) three v i))
+      ∙ both_bare (has (others_than a near_first) v) (has (others_than b near_second) v) (not (has_face three v)) (finite.get three.points v)
+      ∙ ap (λ t. cond t None (finite.get three.points v)) (ap (λ t. t && not (has_face three v)) (without_ends v) ∙ one_list v)
 
   pub bare_is : local ≡ without_bare m b three
   bare_is =
       let dropped : List ℕ = filter test (finite.keys three.points) in
       let points : local.points ≡ (without_bare m b three).points = same_map nat_cmp_total nat_cmp-IsAntisymmetric local.points (without_bare m b three).points (λ v. local_got v ∙ sym (bare_got v)) in
-      let faces = same_faces near_second (fold without_if_bare three near_first) ∙ same_faces near_first three ∙ sym (dropped_faces dropped three) in
-      let first = same_next near_first three in
-      let second = same_next near_second (fold without_if_bare three near_first) in
+      let faces = same_faces (others_than b near_second) one_by_one ∙ same_faces (others_than a near_first) three ∙ sym (dropped_faces dropped three) in
+      let first = same_next (others_than a near_first) three in
+      let second = same_next (others_than b near_second) one_by_one in
       let all = dropped_next dropped three in
       let vertex = second.0 ∙ first.0 ∙ sym all.0 in
       let face = second.1 ∙ first.1 ∙ sym all.1 in

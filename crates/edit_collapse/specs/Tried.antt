@@ -81,6 +81,10 @@ numbered from to next (e ∷ es) = (next, renamed from to e.1) ∷ numbered from
 abbrev pub corners_near : Mesh → ℕ → List ℕ
 corners_near m v = flat_map (λ f. unwrap_or (option_map corner_list (finite.get m.faces f)) []) (faces_at m v)
 
+-- the numbers of the list but one
+abbrev pub others_than : ℕ → List ℕ → List ℕ
+others_than but vs = filter (λ v. not (v == but)) vs
+
 -- a vertex is dropped, if it is live and has no face
 abbrev pub without_if_bare : Mesh → ℕ → Mesh
 without_if_bare m v = if not (has_face m v) && is_some (finite.get m.points v) then without_vertex m v else m

@@ -10,7 +10,7 @@ ghost use Rattle.mesh_base.specs.Limits.{is_over_limits};
 ghost use Rattle.edit_base.specs.Edges.{renamed, corners_at, has_equal, doubles_a_face, without_faces};
 ghost use Rattle.edit_base.specs.Collapse.{are_opposite, joined_faces, collapse_mesh, collapse_point, placed_if_left};
 ghost use Rattle.edit_base.specs.Answers.{is_full};
-ghost use Rattle.edit_collapse.specs.Tried.{opposite_in, two_in, without_two, cancelled_in, only_at, joined_at, left_at, MayBeTried, has_id_in, with_joined_or_gone, corners_near, without_if_bare};
+ghost use Rattle.edit_collapse.specs.Tried.{opposite_in, two_in, without_two, cancelled_in, only_at, joined_at, left_at, MayBeTried, has_id_in, with_joined_or_gone, corners_near, others_than, without_if_bare};
 ghost use Rattle.mesh_base.specs.Changes.{without_vertex, without_face, IsFresh, IsFullOfFaces};
 
 use edit_base::make_face;
@@ -348,17 +348,20 @@ fn drop_if_bare<S: Surface>(alloc: Global, mesh: &mut S, v: VertexId) -> Result<
     Ok(())
 }
 
-/// Drops each vertex of the list that has no face.
+/// Drops each vertex of the list, but the one, that has no face.
 fn drop_bare<S: Surface>(
     alloc: Global,
     mesh: &mut S,
     near: &[VertexId],
+    but: VertexId,
 ) -> Result<(), NoMemory>
-    ensures made { OnOk result (S.mesh mesh.new ≡ fold without_if_bare (S.mesh mesh.old) near.now) }
+    ensures made { OnOk result (S.mesh mesh.new ≡ fold without_if_bare (S.mesh mesh.old) (others_than but near.now)) }
     ensures marks { BeginsWith (S.kept mesh.new) (S.kept mesh.old) }
 {
     for v in near {
-        drop_if_bare(alloc, mesh, *v)?;
+        if *v != but {
+            drop_if_bare(alloc, mesh, *v)?;
+        }
     }
     Ok(())
 }
@@ -393,7 +396,8 @@ pub(crate) fn put_collapse<S: Surface>(
     let near_first = corners_near(alloc, mesh, a)?;
     let near_second = corners_near(alloc, mesh, b)?;
     put_joined(alloc, mesh, a, b, left)?;
-    drop_bare(alloc, mesh, near_first.as_slice())?;
-    drop_bare(alloc, mesh, near_second.as_slice())?;
+    // The face of their edge has each end among the corners near the other.
+    drop_bare(alloc, mesh, near_first.as_slice(), a)?;
+    drop_bare(alloc, mesh, near_second.as_slice(), b)?;
     place_if_left(mesh, a, at)
 }
