@@ -111,17 +111,17 @@ module _ (a b : ℕ) (left : List (ℕ × Corners)) (n now : Mesh) (e : ℕ × C
 
   pub step : Halfway a b left (with_face bare made) (with_joined_or_gone b a left now e.0) es
   step = subst (λ k. Halfway a b left (with_face bare made) k es) (sym after_is) (
-    let t = has_id_in left now.next_face in
-    record {
-      points = same_points t ∙ h.points;
-      next_vertex = same_vertex t ∙ h.next_vertex;
-      next_face = one_taken t ∙ ap (λ k. k + 1) h.next_face;
-      faces = new_faces t refl;
-      below = made_below a b n e es h.below h.wait;
-      rising = parts.1;
-      wait = wait_on a b n e es h.below h.wait parts.0;
-    }
-  )
+      let t = has_id_in left now.next_face in
+      record {
+        points = same_points t ∙ h.points;
+        next_vertex = same_vertex t ∙ h.next_vertex;
+        next_face = one_taken t ∙ ap (λ k. k + 1) h.next_face;
+        faces = new_faces t refl;
+        below = made_below a b n e es h.below h.wait;
+        rising = parts.1;
+        wait = wait_on a b n e es h.below h.wait parts.0;
+      }
+      )
 
 pub points_along : (a b : ℕ) (es : List (ℕ × Corners)) (n : Mesh) → (with_all_renamed b a n (map (λ e. e.0) es)).points ≡ n.points
 points_along a b [] n = refl

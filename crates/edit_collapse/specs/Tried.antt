@@ -97,6 +97,6 @@ has_id_in es f = list_any (λ e. e.0 == f) es
 abbrev pub with_joined_or_gone : ℕ → ℕ → List (ℕ × Corners) → Mesh → ℕ → Mesh
 with_joined_or_gone from to left m f =
     if is_some (finite.get m.faces f) then
-      (if has_id_in left m.next_face then with_renamed from to m f
-       else record (without_face m f) { next_face = m.next_face + 1 })
+    (if has_id_in left m.next_face then with_renamed from to m f
+    else record (without_face m f) { next_face = m.next_face + 1 })
     else m

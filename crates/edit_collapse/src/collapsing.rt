@@ -14,7 +14,8 @@ ghost use Rattle.edit_base.specs.Clauses.{mesh_left, MovesClearOnDone};
 ghost use Rattle.edit_check.specs.Untouched.{MoveFits};
 ghost use Rattle.edit_collapse.specs.Tried.{answer_of, left_at, MayBeTried};
 
-use crate::joining::{LeftFaces, is_over, is_doubled, left_at, put_collapse};
+use crate::cancelling::LeftFaces;
+use crate::joining::{is_doubled, is_over, left_at, put_collapse};
 use edit_base::{Change, Edit, Move, Touch, Why, doubled, is_edge, point_of};
 use edit_check::check;
 use grid_base::{DEPTH_MAX, NoMemory, Point, Wide, floor_mid};

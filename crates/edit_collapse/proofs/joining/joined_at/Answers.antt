@@ -37,8 +37,8 @@ loop-e-preserved g c =
     let below = c.loop-e.invariant.1 in
     let made = c.in_ok-push.ensures.ok ∙ ap (λ (d : Corners). c.loop-e.faces ++ (next, d) ∷ []) c.renamed.ensures in (
       ap (λ (xs : List (ℕ × Corners)). xs ++ numbered c.args.b c.args.a (next + 1) (drop (c.loop-e.e-index + 1) items)) made
-      ∙ numbered_at c.args.a c.args.b next c.loop-e.faces items c.loop-e.e-index c.e-item.result c.loop-e-test.true c.e-item.is
-      ∙ c.loop-e.invariant.0,
+          ∙ numbered_at c.args.a c.args.b next c.loop-e.faces items c.loop-e.e-index c.e-item.result c.loop-e-test.true c.e-item.is
+          ∙ c.loop-e.invariant.0,
       omega (arith, below),
     )
 

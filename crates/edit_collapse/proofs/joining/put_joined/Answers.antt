@@ -17,7 +17,7 @@ loop-e-init g c =
     let made = c.in_ok-drop_gone.ensures.made ∙ ap (λ left. without_faces m (gone left m c.args.a)) c.requires.left in
     let es = c.as_slice-e-items.ensures ∙ c.in_ok-joining.ensures.faces in (
       subst (λ (xs : List (ℕ × Corners)). OnTheWay m c.args.a c.args.b (g.S.Surface.mesh c.drop_gone.new.mesh) xs) (sym es)
-      (subst (λ (n : Mesh). OnTheWay m c.args.a c.args.b n (only_at m c.args.b c.args.a)) (sym made) (begun m c.args.a c.args.b (g.met.S.Surface.sound c.args.mesh.now) c.requires.apart)),
+          (subst (λ (n : Mesh). OnTheWay m c.args.a c.args.b n (only_at m c.args.b c.args.a)) (sym made) (begun m c.args.a c.args.b (g.met.S.Surface.sound c.args.mesh.now) c.requires.apart)),
       c.in_ok-drop_gone.ensures.marks,
     )
 
@@ -52,8 +52,8 @@ loop-e-preserved g c =
     let now = g.S.Surface.mesh c.loop-e.mesh in
     let made = c.in_ok-join_face.ensures.made ∙ ap (λ (left : List (ℕ × Corners)). with_joined_or_gone c.args.b c.args.a left now c.e-item.result.0) c.requires.left in (
       subst (λ (n : Mesh). OnTheWay m c.args.a c.args.b n (drop (c.loop-e.e-index + 1) items)) (sym made)
-      (goes_on m c.args.a c.args.b (g.met.S.Surface.sound c.args.mesh.now) c.requires.apart now c.e-item.result (drop (c.loop-e.e-index + 1) items)
-      (way_at m c.args.a c.args.b now items c.loop-e.e-index c.e-item.result c.loop-e-test.true c.e-item.is c.loop-e.invariant.0)),
+          (goes_on m c.args.a c.args.b (g.met.S.Surface.sound c.args.mesh.now) c.requires.apart now c.e-item.result (drop (c.loop-e.e-index + 1) items)
+          (way_at m c.args.a c.args.b now items c.loop-e.e-index c.e-item.result c.loop-e-test.true c.e-item.is c.loop-e.invariant.0)),
       begins_along (kept c.join_face.new.mesh) (kept c.loop-e.mesh) (kept c.args.mesh.now) c.join_face.ensures.marks c.loop-e.invariant.1,
     )
 

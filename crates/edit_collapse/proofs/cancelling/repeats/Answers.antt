@@ -4,7 +4,7 @@ use Rattle.std.specs.List.{list_any}
 use Rattle.mesh_base.specs.Mesh.{equal_up_to_rotation}
 use Rattle.edit_base.specs.Edges.{has_equal}
 use Rattle.edit_collapse.proofs.Lists.{repeats_at, rest_slice}
-use Rattle.edit_collapse.proofs.joining.repeats.Goals as goal
+use Rattle.edit_collapse.proofs.cancelling.repeats.Goals as goal
 
 pub returns-then-has_equal_to : goal.returns-then-has_equal_to
 returns-then-has_equal_to c =

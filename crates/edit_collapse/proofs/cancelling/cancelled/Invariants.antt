@@ -8,7 +8,10 @@ use Rattle.mesh_base.specs.Sides.{has_corner, faces_at}
 use Rattle.edit_base.specs.Edges.{has_equal}
 use Rattle.edit_base.specs.Collapse.{are_opposite, has_face}
 use Rattle.edit_collapse.specs.Tried.{opposite_in, two_in, without_two, cancelled_in, has_id_in}
-use Rattle.edit_collapse.proofs.joining.has_equal_to.Given as goal
+use Rattle.edit_collapse.proofs.cancelling.cancelled.Given as goal
 
-abbrev pub invariant-loop-e : goal.invariant-loop-e
-invariant-loop-e l = list_any (λ e. equal_up_to_rotation l.one.1 e.1) (drop l.e-index l.faces) ≡ list_any (λ e. equal_up_to_rotation l.one.1 e.1) l.faces
+abbrev pub invariant-loop-rest : goal.invariant-loop-rest
+invariant-loop-rest l = cancelled_in l.rest l.left ≡ cancelled_in (length l.fn.faces) l.fn.faces
+
+abbrev pub decreases-loop-rest : goal.decreases-loop-rest
+decreases-loop-rest l = l.rest
