@@ -45,7 +45,7 @@ first_is_live m a f g e =
     subst (IsLiveFace m) (begins_with f (found.0).0 g (least_opposite m (found.0).1) found.2) found.1
 
 -- ---- each time there are fewer faces
-len-remove_le : {X : Type 0} (m : FinMap nat_cmp X) (k : ℕ) → finite.len (finite.remove m k) ≤ finite.len m
+pub len-remove_le : {X : Type 0} (m : FinMap nat_cmp X) (k : ℕ) → finite.len (finite.remove m k) ≤ finite.len m
 len-remove_le m k = rw (len-remove nat_cmp_total m k) (elim (finite.contains_key m k) as (λ b. cond b (finite.len m - 1) (finite.len m) ≤ finite.len m) [ true ↦ omega arith | false ↦ omega arith ])
 
 fewer : (m : Mesh) (f g : ℕ) → IsLiveFace m f → finite.len (without_faces m (f ∷ g ∷ [])).faces + 1 ≤ finite.len m.faces

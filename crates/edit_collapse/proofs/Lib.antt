@@ -1,0 +1,11 @@
+pub mod Answered
+pub mod Bare
+pub mod Doubled
+pub mod Ended
+pub mod Halfway
+pub mod Lists
+pub mod Acts
+pub mod Picked
+pub mod Room
+pub mod Spent
+pub mod Three

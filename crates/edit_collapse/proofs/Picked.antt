@@ -1,0 +1,63 @@
+-- The faces of a list of ids that do not hold a vertex, with their corners.
+use Rattle.std.proofs.Common.{◌≡◌, ℕ, ◌<◌, ◌≤◌, ◌+◌, Bool, true, false, cond, not, ◌&&◌, List, [], ◌∷◌, ◌++◌, map, length, get_or, drop, Option, Some, None, refl, sym, ap, subst, ◌∙◌, append_assoc, arith}
+use Rattle.std.specs.Option.{option_map_or}
+use Rattle.std.specs.List.{filter, AllByRecursion}
+use Rattle.std.specs.FinMap as finite
+use Rattle.std.specs.FinMap.{len-entries}
+use Rattle.grid_base.specs.declared.TheConstants.{FACES_MAX}
+use Rattle.mesh_base.specs.declared.ids.Corners.{Corners}
+use Rattle.mesh_base.specs.Mesh.{Mesh, IsSound, HasCorners}
+use Rattle.mesh_base.specs.Sides.{has_corner, faces_at}
+use Rattle.mesh_base.proofs.ListedPairs.{all_weaker, all_filtered}
+use Rattle.edit_base.proofs.Joined.{each_there}
+use Rattle.edit_collapse.specs.Tried.{only_at}
+use Rattle.edit_collapse.proofs.Lists.{filter_twice, fewer_filtered, rest_at}
+
+abbrev pub picked : Mesh → ℕ → List ℕ → List (ℕ × Corners)
+picked m other [] = []
+picked m other (f ∷ fs) = option_map_or (λ c. cond (has_corner c other) (picked m other fs) ((f, c) ∷ picked m other fs)) (finite.get m.faces f) (picked m other fs)
+
+picked_entries : (m : Mesh) (other : ℕ) (es : List (ℕ × Corners)) → AllByRecursion (λ (e : ℕ × Corners). HasCorners m e.0 e.1) es → picked m other (map (λ e. e.0) es) ≡ filter (λ e. not (has_corner e.1 other)) es
+picked_entries m other [] h = refl
+picked_entries m other (e ∷ es) h =
+    let rest = picked_entries m other es h.1 in
+    ap (λ o. option_map_or (λ c. cond (has_corner c other) (picked m other (map (λ x. x.0) es)) ((e.0, c) ∷ picked m other (map (λ x. x.0) es))) o (picked m other (map (λ x. x.0) es))) h.0
+    ∙ (λ i. cond (has_corner e.1 other) (rest i) (e ∷ rest i)) ∙ turned (has_corner e.1 other)
+  where
+    turned : (b : Bool) → cond b (filter (λ x. not (has_corner x.1 other)) es) (e ∷ filter (λ x. not (has_corner x.1 other)) es) ≡ cond (not b) (e ∷ filter (λ x. not (has_corner x.1 other)) es) (filter (λ x. not (has_corner x.1 other)) es)
+    turned true = refl
+    turned false = refl
+
+pub picked_all : (m : Mesh) (v other : ℕ) → picked m other (faces_at m v) ≡ only_at m v other
+picked_all m v other =
+    picked_entries m other (filter (λ e. has_corner e.1 v) (finite.entries m.faces))
+    (all_filtered (λ (e : ℕ × Corners). HasCorners m e.0 e.1) (λ e. has_corner e.1 v) (finite.entries m.faces)
+    (all_weaker (λ (e : ℕ × Corners). HasCorners m e.0 e.1) (λ (e : ℕ × Corners). has_corner e.1 v ≡ true → HasCorners m e.0 e.1) (finite.entries m.faces) (λ e there held. there) (each_there m)))
+    ∙ filter_twice (λ e. not (has_corner e.1 other)) (λ e. has_corner e.1 v) (finite.entries m.faces)
+
+pub few_at : (m : Mesh) (v other : ℕ) → IsSound m → length (only_at m v other) ≤ FACES_MAX
+few_at m v other sound =
+    let few = fewer_filtered (λ (e : ℕ × Corners). has_corner e.1 v && not (has_corner e.1 other)) (finite.entries m.faces) in
+    let count = len-entries m.faces in
+    let limit = sound.limits.faces in
+    omega (arith, few, count, limit)
+
+-- one step of the walk, by what is found
+module _ (m : Mesh) (other : ℕ) (fs : List ℕ) (i : ℕ) (more : i < length fs) (got : List (ℕ × Corners)) where
+  abbrev rest : List (ℕ × Corners)
+  rest = picked m other (drop (i + 1) fs)
+
+  abbrev f : ℕ
+  f = get_or fs i 0
+
+  step : picked m other (drop i fs) ≡ option_map_or (λ c. cond (has_corner c other) rest ((f, c) ∷ rest)) (finite.get m.faces f) rest
+  step = ap (picked m other) (rest_at fs i 0 more)
+
+  pub step_none : finite.get m.faces f ≡ None → got ++ rest ≡ got ++ picked m other (drop i fs)
+  step_none e = ap (λ xs. got ++ xs) (sym (step ∙ ap (λ o. option_map_or (λ c. cond (has_corner c other) rest ((f, c) ∷ rest)) o rest) e))
+
+  pub step_held : (c : Corners) → finite.get m.faces f ≡ Some c → has_corner c other ≡ true → got ++ rest ≡ got ++ picked m other (drop i fs)
+  step_held c e held = ap (λ xs. got ++ xs) (sym (step ∙ ap (λ o. option_map_or (λ c. cond (has_corner c other) rest ((f, c) ∷ rest)) o rest) e ∙ ap (λ t. cond t rest ((f, c) ∷ rest)) held))
+
+  pub step_picked : (c : Corners) → finite.get m.faces f ≡ Some c → has_corner c other ≡ false → (got ++ (f, c) ∷ []) ++ rest ≡ got ++ picked m other (drop i fs)
+  step_picked c e held = append_assoc got ((f, c) ∷ []) rest ∙ ap (λ xs. got ++ xs) (sym (step ∙ ap (λ o. option_map_or (λ c. cond (has_corner c other) rest ((f, c) ∷ rest)) o rest) e ∙ ap (λ t. cond t rest ((f, c) ∷ rest)) held))

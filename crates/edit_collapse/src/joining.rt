@@ -1,0 +1,269 @@
+//! The faces at the joined vertex, and the changes of a collapse.
+ghost use Rattle.std.specs.Prelude.{◌≡◌, ◌≤◌, ◌≢◌, not, IsTrue, IfOk, OnOk, length, ℕ};
+ghost use Rattle.std.specs.List.{filter, fold};
+ghost use Rattle.grid_base.specs.declared.TheConstants.{ID_MAX, FACES_MAX};
+ghost use Rattle.mesh_base.specs.Mesh.{Mesh, IsSound};
+ghost use Rattle.mesh_base.specs.Sides.{IsClosed, faces_at};
+ghost use Rattle.mesh_base.specs.Changes.{without_face, IsFresh};
+ghost use Rattle.mesh_base.specs.Kept.{BeginsWith};
+ghost use Rattle.edit_base.specs.Edges.{renamed, corners_at, doubles_a_face, without_faces};
+ghost use Rattle.edit_base.specs.Collapse.{joined_faces, collapse_mesh, collapse_point, placed_if_left};
+ghost use Rattle.edit_base.specs.Answers.{is_full};
+ghost use Rattle.edit_collapse.specs.Tried.{only_at, joined_at, left_at, MayBeTried, has_id_in, with_joined_or_gone, corners_near, others_than, without_if_bare};
+
+use crate::cancelling::{LeftFaces, cancelled, has_id, renamed, repeats};
+use edit_base::make_face;
+use grid_base::{ID_MAX, Items, NoMemory, Point};
+use mesh_base::{Corners, FaceId, Surface, VertexId};
+use std::alloc::Global;
+
+/// The faces that hold the one vertex and not the other, by rising id.
+fn only_at<S: Surface>(
+    alloc: Global,
+    mesh: &S,
+    v: VertexId,
+    other: VertexId,
+) -> Result<LeftFaces, NoMemory>
+    ensures faces { IfOk result (λ faces. faces ≡ only_at (S.mesh mesh.now) v other) }
+    ensures few { IfOk result (λ faces. length faces ≤ FACES_MAX) }
+{
+    let mut ids = Vec::new(alloc);
+    mesh.faces_at(v, &mut ids)?;
+    let mut faces = Items::new(alloc);
+    for f in &ids {
+        if let Some(list) = mesh.corners(*f) {
+            let c = Corners::of(list);
+            if !c.has_corner(other) {
+                faces.push((*f, c))?;
+            }
+        }
+    }
+    Ok(faces)
+}
+
+/// The faces at the joined vertex after the second act: those at `a` that do not hold `b`, and, under the next ids, those
+/// at `b` that do not hold `a`, renamed.
+fn joined_at<S: Surface>(
+    alloc: Global,
+    mesh: &S,
+    a: VertexId,
+    b: VertexId,
+) -> Result<LeftFaces, NoMemory>
+    requires { a ≢ b }
+    ensures { IfOk result (λ faces. faces ≡ joined_at (S.mesh mesh.now) a b) }
+{
+    let mut faces = only_at(alloc, mesh, a, b)?;
+    let joining = only_at(alloc, mesh, b, a)?;
+    let mut next = mesh.next_face();
+    for e in joining.as_slice() {
+        faces.push((FaceId(next), renamed(e.1, b, a)))?;
+        next += 1;
+    }
+    Ok(faces)
+}
+
+/// The faces at the joined vertex after the third act.
+pub(crate) fn left_at<S: Surface>(
+    alloc: Global,
+    mesh: &S,
+    a: VertexId,
+    b: VertexId,
+) -> Result<LeftFaces, NoMemory>
+    requires { a ≢ b }
+    ensures { IfOk result (λ left. left ≡ left_at (S.mesh mesh.now) a b) }
+{
+    let faces = joined_at(alloc, mesh, a, b)?;
+    cancelled(alloc, faces)
+}
+
+/// Whether two faces would be equal up to rotation after the third act. Only those at the joined vertex can be.
+pub(crate) fn is_doubled(left: &LeftFaces) -> bool
+    ensures { (m : Mesh) (a b : ℕ) → IsSound m → a ≢ b → left.now ≡ left_at m a b → result ≡ doubles_a_face (joined_faces m a b) }
+{
+    repeats(left.as_slice())
+}
+
+/// Whether a collapse would pass a limit. It makes no count greater, so only the next face id can: it takes one for each
+/// face that holds `b` and not `a`.
+pub(crate) fn is_over<S: Surface>(
+    alloc: Global,
+    mesh: &S,
+    a: VertexId,
+    b: VertexId,
+) -> Result<bool, NoMemory>
+    requires apart { a ≢ b }
+    ensures { IfOk result (λ over. over ≡ is_full (S.mesh mesh.now) (collapse_mesh (S.mesh mesh.now) a b (collapse_point (S.mesh mesh.now) a b))) }
+{
+    let joining = only_at(alloc, mesh, b, a)?;
+    Ok(u64::from(mesh.next_face()) + joining.len() as u64 > u64::from(ID_MAX) + 1)
+}
+
+/// Drops a face, if it is there.
+fn drop_if_there<S: Surface>(mesh: &mut S, f: FaceId) -> Result<(), NoMemory>
+    ensures made { OnOk result (S.mesh mesh.new ≡ without_face (S.mesh mesh.old) f) }
+    ensures marks { BeginsWith (S.kept mesh.new) (S.kept mesh.old) }
+{
+    if mesh.corners(f).is_some() {
+        mesh.drop_face(f)?;
+    }
+    Ok(())
+}
+
+/// Drops the faces at `a` that are not left: those that hold both ends, and those that the third act drops.
+fn drop_gone<S: Surface>(
+    alloc: Global,
+    mesh: &mut S,
+    a: VertexId,
+    left: &LeftFaces,
+) -> Result<(), NoMemory>
+    ensures made { OnOk result (S.mesh mesh.new ≡ without_faces (S.mesh mesh.old) (filter (λ f. not (has_id_in left.now f)) (faces_at (S.mesh mesh.old) a))) }
+    ensures marks { BeginsWith (S.kept mesh.new) (S.kept mesh.old) }
+{
+    let mut ids = Vec::new(alloc);
+    mesh.faces_at(a, &mut ids)?;
+    for f in &ids {
+        if !has_id(left.as_slice(), *f) {
+            drop_if_there(mesh, *f)?;
+        }
+    }
+    Ok(())
+}
+
+/// Drops a face, and makes it again with `a` in the place of `b`, if that is left, under the next id. Where it is not, the
+/// id is given to the same corners and that face dropped, so that ids are used up as the definition says.
+fn join_face<S: Surface>(
+    mesh: &mut S,
+    a: VertexId,
+    b: VertexId,
+    left: &LeftFaces,
+    f: FaceId,
+) -> Result<(), NoMemory>
+    requires room { (S.mesh mesh.old).next_face ≤ ID_MAX }
+    requires ends { a ≢ b }
+    requires fresh { IsTrue (has_id_in left.now (S.mesh mesh.old).next_face) → IsFresh (without_face (S.mesh mesh.old) f) (renamed b a (corners_at (S.mesh mesh.old) f)) }
+    ensures made { OnOk result (S.mesh mesh.new ≡ with_joined_or_gone b a left.now (S.mesh mesh.old) f) }
+    ensures marks { BeginsWith (S.kept mesh.new) (S.kept mesh.old) }
+{
+    if let Some(list) = mesh.corners(f) {
+        let g = FaceId(mesh.next_face());
+        mesh.drop_face(f)?;
+        if has_id(left.as_slice(), g) {
+            make_face(mesh, renamed(Corners::of(list), b, a).list())?;
+        } else {
+            make_face(mesh, list)?;
+            mesh.drop_face(g)?;
+        }
+    }
+    Ok(())
+}
+
+/// The first three acts.
+fn put_joined<S: Surface>(
+    alloc: Global,
+    mesh: &mut S,
+    a: VertexId,
+    b: VertexId,
+    left: &LeftFaces,
+) -> Result<(), NoMemory>
+    requires closed { IsClosed (S.mesh mesh.old) }
+    requires apart { a ≢ b }
+    requires tried { MayBeTried (S.mesh mesh.old) a b }
+    requires left { left.now ≡ left_at (S.mesh mesh.old) a b }
+    ensures made { OnOk result (S.mesh mesh.new ≡ joined_faces (S.mesh mesh.old) a b) }
+    ensures marks { BeginsWith (S.kept mesh.new) (S.kept mesh.old) }
+{
+    let joining = only_at(alloc, mesh, b, a)?;
+    drop_gone(alloc, mesh, a, left)?;
+    for e in joining.as_slice() {
+        join_face(mesh, a, b, left, e.0)?;
+    }
+    Ok(())
+}
+
+/// The corners of the faces at a vertex, each as often as it is one.
+fn corners_near<S: Surface>(
+    alloc: Global,
+    mesh: &S,
+    v: VertexId,
+) -> Result<Items<VertexId>, NoMemory>
+    ensures { IfOk result (λ near. near ≡ corners_near (S.mesh mesh.now) v) }
+{
+    let mut ids = Vec::new(alloc);
+    mesh.faces_at(v, &mut ids)?;
+    let mut near = Items::new(alloc);
+    for f in &ids {
+        if let Some(list) = mesh.corners(*f) {
+            near.push(list[0])?;
+            near.push(list[1])?;
+            near.push(list[2])?;
+        }
+    }
+    Ok(near)
+}
+
+/// Drops a vertex, if it is live and has no face.
+fn drop_if_bare<S: Surface>(alloc: Global, mesh: &mut S, v: VertexId) -> Result<(), NoMemory>
+    ensures made { OnOk result (S.mesh mesh.new ≡ without_if_bare (S.mesh mesh.old) v) }
+    ensures marks { BeginsWith (S.kept mesh.new) (S.kept mesh.old) }
+{
+    let mut ids = Vec::new(alloc);
+    mesh.faces_at(v, &mut ids)?;
+    if ids.len() == 0 && mesh.point(v).is_some() {
+        mesh.drop_vertex(v)?;
+    }
+    Ok(())
+}
+
+/// Drops each vertex of the list, but the one, that has no face.
+fn drop_bare<S: Surface>(
+    alloc: Global,
+    mesh: &mut S,
+    near: &[VertexId],
+    but: VertexId,
+) -> Result<(), NoMemory>
+    ensures made { OnOk result (S.mesh mesh.new ≡ fold without_if_bare (S.mesh mesh.old) (others_than but near.now)) }
+    ensures marks { BeginsWith (S.kept mesh.new) (S.kept mesh.old) }
+{
+    for v in near {
+        if *v != but {
+            drop_if_bare(alloc, mesh, *v)?;
+        }
+    }
+    Ok(())
+}
+
+/// Puts a vertex, if it is left, at a point.
+fn place_if_left<S: Surface>(mesh: &mut S, v: VertexId, at: Point) -> Result<(), NoMemory>
+    ensures made { OnOk result (S.mesh mesh.new ≡ placed_if_left (S.mesh mesh.old) v at) }
+    ensures marks { BeginsWith (S.kept mesh.new) (S.kept mesh.old) }
+{
+    if mesh.point(v).is_some() {
+        mesh.place(v, at)?;
+    }
+    Ok(())
+}
+
+/// All acts of a collapse, and the point. Where memory is wanting, some of it may be done.
+pub(crate) fn put_collapse<S: Surface>(
+    alloc: Global,
+    mesh: &mut S,
+    a: VertexId,
+    b: VertexId,
+    left: &LeftFaces,
+    at: Point,
+) -> Result<(), NoMemory>
+    requires closed { IsClosed (S.mesh mesh.old) }
+    requires apart { a ≢ b }
+    requires tried { MayBeTried (S.mesh mesh.old) a b }
+    requires left { left.now ≡ left_at (S.mesh mesh.old) a b }
+    ensures made { OnOk result (S.mesh mesh.new ≡ collapse_mesh (S.mesh mesh.old) a b at) }
+    ensures marks { BeginsWith (S.kept mesh.new) (S.kept mesh.old) }
+{
+    let near_first = corners_near(alloc, mesh, a)?;
+    let near_second = corners_near(alloc, mesh, b)?;
+    put_joined(alloc, mesh, a, b, left)?;
+    // The face of their edge has each end among the corners near the other.
+    drop_bare(alloc, mesh, near_first.as_slice(), a)?;
+    drop_bare(alloc, mesh, near_second.as_slice(), b)?;
+    place_if_left(mesh, a, at)
+}
