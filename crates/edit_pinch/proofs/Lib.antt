@@ -1,0 +1,4 @@
+pub mod Growing
+pub mod Leasts
+pub mod FewFans
+pub mod Casts

@@ -1,0 +1,7 @@
+//! The pinch of a vertex at which several fans of faces meet.
+#![tactic(auto)]
+
+mod fans;
+mod shifting;
+
+pub use fans::fan_count;
