@@ -32,7 +32,7 @@ pub test_of : (b : Bool) → (b ≡ true) ⊎ (b ≡ false)
 test_of true = inl refl
 test_of false = inr refl
 
-not_false : (b : Bool) → b ≡ false → not b ≡ true
+pub not_false : (b : Bool) → b ≡ false → not b ≡ true
 not_false b e = ap not e
 
 pub not_true : (b : Bool) → not b ≡ true → b ≡ false

@@ -1,8 +1,8 @@
 -- The vertices of a fan, face by face.
-use Rattle.std.specs.Prelude.{ℕ, ◌==◌, ◌||◌, List, [], ◌∷◌, ◌++◌, if◌then◌else◌}
+use Rattle.std.specs.Prelude.{◌≡◌, ℕ, true, ◌==◌, ◌||◌, List, [], ◌∷◌, ◌++◌, if◌then◌else◌}
 use Rattle.std.specs.List.{fold}
 use Rattle.grid_base.specs.Triples.{Triple, plus, minus}
-use Rattle.mesh_base.specs.Mesh.{Mesh}
+use Rattle.mesh_base.specs.Mesh.{Mesh, IsLiveFace}
 use Rattle.mesh_base.specs.Changes.{corner_list}
 use Rattle.mesh_base.specs.Placements.{origin, own_points}
 use Rattle.edit_base.specs.Classes.{is_one_of}
@@ -27,3 +27,7 @@ with_way m v sum u = plus sum (minus (own_points m u) (own_points m v))
 -- the ways from v to the vertices, added
 abbrev pub ways : Mesh → ℕ → List ℕ → Triple
 ways m v us = fold (with_way m v) origin us
+
+-- each of the faces lives
+abbrev pub AreLiveFaces : Mesh → List ℕ → Type 0
+AreLiveFaces m fan = (f : ℕ) → is_one_of fan f ≡ true → IsLiveFace m f

@@ -1,14 +1,12 @@
 //! Where the copies for fans go.
-ghost use Rattle.std.specs.Prelude.{ℕ, true, ◌≡◌, ◌≤◌, ◌<◌, ◌+◌, ◌*◌, ◌^◌, ◌+ℤ◌, ◌-ℤ◌, int_div, unsigned_abs, pos, map, length, All, IfOk, OnOk};
-ghost use Rattle.std.specs.List.{fold, enumerate_from};
+ghost use Rattle.std.specs.Prelude.{ℕ, true, ◌≡◌, ◌≤◌, ◌+◌, ◌*◌, ◌^◌, ◌+ℤ◌, ◌-ℤ◌, int_div, unsigned_abs, pos, map, length, IfOk, OnOk};
+ghost use Rattle.std.specs.List.{enumerate_from, AllByRecursion};
 ghost use Rattle.grid_base.specs.declared.TheConstants.{BOX, ID_MAX};
 ghost use Rattle.grid_base.specs.Points.{position_of};
 ghost use Rattle.grid_base.specs.Triples.{IsWithin, plus, minus};
-ghost use Rattle.mesh_base.specs.Mesh.{IsLiveFace};
 ghost use Rattle.edit_base.specs.Classes.{is_one_of};
-ghost use Rattle.edit_base.specs.Edges.{corners_at};
-ghost use Rattle.edit_base.specs.Pinch.{fan_point};
-ghost use Rattle.edit_pinch.specs.Rims.{with_other, with_corners, found_rim, ways};
+ghost use Rattle.edit_base.specs.Pinch.{fan_point, divided};
+ghost use Rattle.edit_pinch.specs.Rims.{with_other, with_corners, found_rim, ways, AreLiveFaces};
 
 use crate::fans::{Fan, corners_at};
 use edit_base::{Copies, CopyAt, point_of};
@@ -128,6 +126,19 @@ fn coordinate(here: i32, sum: i128, count: usize) -> i32
     (i128::from(here) + eighth(sum, count)) as i32
 }
 
+/// A point moved by an eighth of the mean of so many ways, of which the sum is given, each component rounded toward zero.
+fn moved_by(here: Point, sum: Wide, count: usize) -> Point
+    requires stays { IsWithin BOX (plus (position_of here) (divided sum (8 * count))) }
+    requires sum { IsWithin (2 ^ 100) sum }
+    ensures { position_of result ≡ plus (position_of here) (divided sum (8 * count)) }
+{
+    Point {
+        x: coordinate(here.x, sum.x, count),
+        y: coordinate(here.y, sum.y, count),
+        z: coordinate(here.z, sum.z, count),
+    }
+}
+
 /// Where the copy for a fan goes: an eighth of the way to the mean of the fan's other vertices, each component rounded
 /// toward zero.
 pub(crate) fn fan_point<S: Surface>(
@@ -136,17 +147,12 @@ pub(crate) fn fan_point<S: Surface>(
     v: VertexId,
     fan: &[FaceId],
 ) -> Result<Point, NoMemory>
-    requires { All (λ f. IsLiveFace (S.mesh mesh.now) f) fan.now }
+    requires { AreLiveFaces (S.mesh mesh.now) fan.now }
     ensures { IfOk result (λ at. at ≡ fan_point (S.mesh mesh.now) v fan.now) }
 {
     let us = rim(alloc, mesh, v, fan)?;
-    let here = point_of(mesh, v);
     let sum = ways(mesh, v, us.as_slice());
-    Ok(Point {
-        x: coordinate(here.x, sum.x, us.len()),
-        y: coordinate(here.y, sum.y, us.len()),
-        z: coordinate(here.z, sum.z, us.len()),
-    })
+    Ok(moved_by(point_of(mesh, v), sum, us.len()))
 }
 
 /// The copies for fans, with the next vertex ids, and where they go.
@@ -156,7 +162,7 @@ pub(crate) fn copies<S: Surface>(
     v: VertexId,
     fans: &[Fan],
 ) -> Result<Copies, NoMemory>
-    requires live { All (λ fan. All (λ f. IsLiveFace (S.mesh mesh.now) f) fan) fans.now }
+    requires live { AllByRecursion (AreLiveFaces (S.mesh mesh.now)) fans.now }
     requires ids { (S.mesh mesh.now).next_vertex + length fans.now ≤ ID_MAX + 1 }
     ensures { IfOk result (λ made. made ≡ map (λ e. record { w = e.0; at = fan_point (S.mesh mesh.now) v e.1 }) (enumerate_from (S.mesh mesh.now).next_vertex fans.now)) }
 {
