@@ -5,3 +5,5 @@ pub mod Casts
 pub mod RimLaws
 pub mod FanPoints
 pub mod CopiesMade
+pub mod TurnSteps
+pub mod Room

@@ -2,6 +2,9 @@
 #![tactic(auto)]
 
 mod fans;
+mod making;
+mod pinching;
 mod shifting;
 
 pub use fans::fan_count;
+pub use pinching::pinch;

@@ -156,7 +156,7 @@ pub(crate) fn fan_point<S: Surface>(
 }
 
 /// The copies for fans, with the next vertex ids, and where they go.
-pub(crate) fn copies<S: Surface>(
+pub(crate) fn copies_for<S: Surface>(
     alloc: Global,
     mesh: &S,
     v: VertexId,

@@ -2,7 +2,7 @@ use Rattle.std.proofs.Common.{◌≡◌, ◌+◌, ◌++◌, map, arith}
 use Rattle.std.specs.List.{enumerate_from}
 use Rattle.edit_base.specs.Pinch.{fan_point}
 use Rattle.edit_pinch.proofs.CopiesMade.{one_listed}
-use Rattle.edit_pinch.proofs.shifting.copies.Goals as goal
+use Rattle.edit_pinch.proofs.shifting.copies_for.Goals as goal
 
 pub loop-fan-preserved : goal.loop-fan-preserved
 loop-fan-preserved g c =
