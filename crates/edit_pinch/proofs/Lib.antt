@@ -7,3 +7,5 @@ pub mod FanPoints
 pub mod CopiesMade
 pub mod TurnSteps
 pub mod Room
+pub mod Scaffolded
+pub mod Answered

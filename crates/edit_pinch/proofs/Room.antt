@@ -110,7 +110,7 @@ module _ (m : Mesh) (v : ℕ) (at : Point) (sound : IsSound m) (closed : IsClose
 -- ---- the test of the limits
 faces_are : (others : List (List ℕ)) → faces_in others ≡ sum (map length others)
 faces_are [] = refl
-faces_are (d ∷ ds) = ap (λ k. length d + k) (faces_are ds) ∙ sym (sum_by-cons length d ds)
+faces_are (d ∷ ds) = ap (λ k. length d + k) (faces_are ds) ∙ sym (sum_by-cons (λ n. n) (length d) (map length ds))
 
 less_room : (most there n : ℕ) → there ≤ most → nat_lt (most - there) n ≡ nat_lt most (there + n)
 less_room most there n h = grind (arith, nat_tests)
