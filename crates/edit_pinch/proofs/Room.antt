@@ -119,7 +119,7 @@ none_more : (a b c : Bool) (few : Bool) → few ≡ false → (((a || few) || b)
 none_more true b c few e = refl
 none_more false b c few e = ap (λ k. (k || b) || c) e
 
-not_over : (a b : ℕ) → b ≤ a → nat_lt a b ≡ false
+pub not_over : (a b : ℕ) → b ≤ a → nat_lt a b ≡ false
 not_over a b h = grind (arith, nat_tests)
 
 module _ (m : Mesh) (v : ℕ) (sound : IsSound m) (closed : IsClosed m) (live : IsLiveVertex m v) (others : List (List ℕ)) (is : others ≡ drop 1 (fans m v)) where
