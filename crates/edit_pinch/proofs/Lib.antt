@@ -1,0 +1,11 @@
+pub mod Growing
+pub mod Leasts
+pub mod FewFans
+pub mod Casts
+pub mod RimLaws
+pub mod FanPoints
+pub mod CopiesMade
+pub mod TurnSteps
+pub mod Room
+pub mod Scaffolded
+pub mod Answered

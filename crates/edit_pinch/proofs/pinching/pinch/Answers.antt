@@ -1,0 +1,51 @@
+use Rattle.std.proofs.Common.{◌≡◌, ◌≤◌, false, length, drop, nat_lt, sym, ap, subst, ◌∙◌, arith}
+use Rattle.std.specs.Prelude.{IfOk}
+use Rattle.grid_decided.specs.Decided.{meets_exactly, meets_exactly-is_exact}
+use Rattle.mesh_base.specs.Mesh.{Mesh}
+use Rattle.mesh_base.specs.Sides.{IsClosed}
+use Rattle.mesh_base.specs.Placements.{IsClearMesh}
+use Rattle.edit_base.specs.Pinch.{fans}
+use Rattle.edit_base.specs.Answers.{pinch_answer}
+use Rattle.edit_base.specs.Laws.{Answer}
+use Rattle.edit_base.proofs.Left.{left_is_closed, left_is_clear, motion_was_clear}
+use Rattle.edit_base.proofs.PinchDone.{pinched_live, pinch_stays_closed, pinch_stays_clear, pinch_motion_is_clear}
+use Rattle.edit_pinch.proofs.Answered.{two_or_more, full_is_refused, later_are}
+use Rattle.edit_pinch.proofs.pinching.pinch.Goals as goal
+
+pub returns-then-is_over-clause-answer : goal.returns-then-is_over-clause-answer
+returns-then-is_over-clause-answer g c =
+    let m = g.S.Surface.mesh c.args.mesh.now in
+    let v = c.args.v in
+    let sound = g.met.S.Surface.sound c.args.mesh.now in
+    let two = two_or_more m v c.in_ok-parts.parts c.len.result c.in_ok-parts.ensures c.len.ensures c.if-len-lt2.false in
+    let later = later_are c.as_slice.result.now ∙ ap (drop 1) (c.as_slice.ensures ∙ c.in_ok-parts.ensures) in
+    full_is_refused m v c.args.depth two (sym (c.is_over.ensures v c.requires.closed (pinched_live m v sound two) later) ∙ c.if-is_over.true)
+
+pub pinch_or_leave-requires-clause-tried : goal.pinch_or_leave-requires-clause-tried
+pinch_or_leave-requires-clause-tried g c =
+    let m = g.S.Surface.mesh c.args.mesh.now in
+    let v = c.args.v in
+    let sound = g.met.S.Surface.sound c.args.mesh.now in
+    let two = two_or_more m v c.in_ok-parts.parts c.len.result c.in_ok-parts.ensures c.len.ensures c.if-len-lt2.false in
+    let later = later_are c.as_slice.result.now ∙ ap (drop 1) (c.as_slice.ensures ∙ c.in_ok-parts.ensures) in
+    record { two_fans = two; fits = sym (c.is_over.ensures v c.requires.closed (pinched_live m v sound two) later) ∙ c.if-is_over.false }
+
+pub returns-clause-closed : goal.returns-clause-closed
+returns-clause-closed g c =
+    let m = g.S.Surface.mesh c.args.mesh.now in
+    let answer : Answer = λ m. pinch_answer meets_exactly m c.args.v c.args.depth in
+    subst IsClosed (sym c.pinch_or_leave.ensures.mesh)
+    (left_is_closed answer m (g.met.S.Surface.sound c.args.mesh.now) c.requires.closed (pinch_stays_closed meets_exactly c.args.v c.args.depth) c.pinch_or_leave.result c.pinch_or_leave.ensures.answer)
+
+pub returns-clause-clear : goal.returns-clause-clear
+returns-clause-clear g c =
+    let m = g.S.Surface.mesh c.args.mesh.now in
+    let answer : Answer = λ m. pinch_answer meets_exactly m c.args.v c.args.depth in
+    subst IsClearMesh (sym c.pinch_or_leave.ensures.mesh)
+    (left_is_clear answer m (g.met.S.Surface.sound c.args.mesh.now) c.requires.closed (pinch_stays_clear meets_exactly meets_exactly-is_exact c.args.v c.args.depth) c.requires.clear c.pinch_or_leave.result c.pinch_or_leave.ensures.answer)
+
+pub returns-clause-motion : goal.returns-clause-motion
+returns-clause-motion g c =
+    let m = g.S.Surface.mesh c.args.mesh.now in
+    let answer : Answer = λ m. pinch_answer meets_exactly m c.args.v c.args.depth in
+    motion_was_clear answer m (g.met.S.Surface.sound c.args.mesh.now) c.requires.closed (pinch_motion_is_clear meets_exactly meets_exactly-is_exact c.args.v c.args.depth) c.pinch_or_leave.result c.pinch_or_leave.ensures.answer

@@ -1,0 +1,28 @@
+-- When the changes of a pinch can be made, one after another.
+use Rattle.std.specs.Prelude.{⊤, ℕ, List, [], ◌∷◌}
+use Rattle.grid_base.specs.declared.Point.{Point}
+use Rattle.mesh_base.specs.Mesh.{Mesh, IsLiveFace}
+use Rattle.mesh_base.specs.Changes.{without_face, with_vertex, IsFresh, IsFullOfFaces, IsFullOfVertices}
+use Rattle.edit_base.specs.Edges.{corners_at, renamed, with_renamed}
+use Rattle.edit_base.specs.Pinch.{with_copy}
+
+-- a face can be dropped and made again with w in v's place
+pub record MayBeRemade (v w : ℕ) (m : Mesh) (f : ℕ) : Type 0 where
+  pub live : IsLiveFace m f
+  pub fresh : IsFresh (without_face m f) (renamed v w (corners_at m f))
+  pub room : ¬ IsFullOfFaces (without_face m f)
+
+-- each of the faces can, when its turn comes
+abbrev pub RemadeInTurn : ℕ → ℕ → Mesh → List ℕ → Type 0
+RemadeInTurn v w m [] = ⊤
+RemadeInTurn v w m (f ∷ fs) = MayBeRemade v w m f × RemadeInTurn v w (with_renamed v w m f) fs
+
+-- a copy for a fan can be made at a point, and then the fan's faces again
+pub record MayBeCopied (v : ℕ) (m : Mesh) (fan : List ℕ) (at : Point) : Type 0 where
+  pub room : ¬ IsFullOfVertices m
+  pub faces : RemadeInTurn v m.next_vertex (with_vertex m at) fan
+
+-- each of the copies can, when its turn comes
+abbrev pub CopiedInTurn : ℕ → Mesh → List (List ℕ × Point) → Type 0
+CopiedInTurn v m [] = ⊤
+CopiedInTurn v m (copy ∷ copies) = MayBeCopied v m copy.0 copy.1 × CopiedInTurn v (with_copy v m copy) copies

@@ -1,0 +1,3 @@
+pub mod Rims
+pub mod InTurn
+pub mod Tried
