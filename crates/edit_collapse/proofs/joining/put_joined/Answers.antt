@@ -1,10 +1,8 @@
-use Rattle.std.proofs.Common.{◌≡◌, ◌<◌, ◌+◌, ℕ, List, ◌∷◌, drop, get_or, length, true, false, sym, ap, subst, ◌∙◌}
-use Rattle.grid_base.specs.declared.TheConstants.{ID_MAX}
+use Rattle.std.proofs.Common.{◌<◌, ◌+◌, ℕ, List, ◌∷◌, drop, get_or, length, sym, ap, subst, ◌∙◌}
 use Rattle.mesh_base.specs.declared.ids.Corners.{Corners}
 use Rattle.mesh_base.specs.Mesh.{Mesh}
 use Rattle.mesh_base.proofs.MarksHold.{begins_along}
 use Rattle.edit_base.specs.Edges.{without_faces}
-use Rattle.edit_base.specs.Collapse.{joined_faces}
 use Rattle.edit_collapse.specs.Tried.{only_at, has_id_in, with_joined_or_gone}
 use Rattle.edit_collapse.proofs.Lists.{rest_at, ended}
 use Rattle.edit_collapse.proofs.Halfway.{OnTheWay, gone, begun, goes_on, at_end, has_id, is_fresh}
