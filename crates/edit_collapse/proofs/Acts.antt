@@ -1,35 +1,35 @@
 -- The acts of a collapse, as lists of the faces at the joined vertex.
-use Rattle.std.proofs.Common.{◌≡◌, ◌≢◌, ◌⊎◌, ⊎_elim, inl, inr, ℕ, zero, suc, ◌+◌, ◌<◌, ◌≤◌, Bool, true, false, cond, if◌then◌else◌, ◌&&◌, ◌||◌, ◌==◌, not, T, List, [], ◌∷◌, ◌++◌, map, length, slice_get, Option, Some, None, is_some, refl, sym, ap, subst, ◌∙◌, append_assoc, arith}
+use Rattle.std.proofs.Common.{◌≡◌, ◌≢◌, ⊎_elim, ℕ, zero, suc, ◌+◌, ◌<◌, ◌≤◌, Bool, true, false, cond, if◌then◌else◌, ◌&&◌, ◌||◌, ◌==◌, not, T, List, [], ◌∷◌, ◌++◌, map, length, slice_get, Option, Some, None, is_some, refl, sym, ap, subst, ◌∙◌, append_assoc, arith}
 use Rattle.std.proofs.lemmas.Bool.{false≢true}
 use Rattle.std.proofs.lemmas.Bool.Decides.{nat_tests}
 use Rattle.std.proofs.lemmas.List.Elements.{filter-append}
 use Rattle.std.specs.Option.{option_map, option_map_or, unwrap_or}
-use Rattle.std.specs.List.{filter, filter_map, find, AllByRecursion}
+use Rattle.std.specs.List.{filter, AllByRecursion}
 use Rattle.std.specs.Ordering.{nat_cmp, eq_by_cmp}
 use Rattle.std.specs.Cmp.{nat_cmp_total, unsigned_tied}
 use Rattle.std.specs.FinMap as finite
-use Rattle.std.specs.FinMap.{entries-insert, entries_sorted, get-insert, len-entries}
+use Rattle.std.specs.FinMap.{entries-insert, entries_sorted, len-entries}
 use Rattle.std.specs.FinMap.Entries.{is_sorted, below_all}
 use Rattle.mesh_base.specs.declared.ids.Corners.{Corners}
 use Rattle.mesh_base.specs.Mesh.{Mesh, IsSound, HasCorners, equal_up_to_rotation}
-use Rattle.mesh_base.specs.Sides.{has_corner, ids_where, faces_where, faces_at}
+use Rattle.mesh_base.specs.Sides.{has_corner, faces_where}
 use Rattle.mesh_base.specs.Changes.{with_face, without_face}
 use Rattle.mesh_base.proofs.Counts.{entries-remove}
-use Rattle.mesh_base.proofs.Finite.{got_after_remove, got_after_insert}
-use Rattle.mesh_base.proofs.Listed.{and_first, and_second, or_either}
+use Rattle.mesh_base.proofs.Finite.{got_after_remove}
+use Rattle.mesh_base.proofs.Listed.{or_either}
 use Rattle.mesh_base.proofs.ListedPairs.{all_weaker, all_mapped, all_filtered, all_always}
-use Rattle.mesh_base.proofs.Tests.{or_first, or_second, and_both}
+use Rattle.mesh_base.proofs.Tests.{or_first, or_second}
 use Rattle.mesh_base.proofs.WalkSteps.{both_of}
-use Rattle.edit_base.specs.Edges.{renamed, corners_at, corners_from, without_faces, with_renamed, with_all_renamed}
-use Rattle.edit_base.specs.Collapse.{without_shared, with_joined, are_opposite, least_opposite, with_opposites, with_one_cancelled, cancelled_times, joined_faces}
+use Rattle.edit_base.specs.Edges.{renamed, corners_from, without_faces, with_renamed, with_all_renamed}
+use Rattle.edit_base.specs.Collapse.{without_shared, with_joined, are_opposite, least_opposite, with_opposites, with_one_cancelled, cancelled_times}
 use Rattle.edit_base.proofs.Closed.{AreBelow, below-with, below-without, still_there}
 use Rattle.edit_base.proofs.Changed.{next_face-without_faces}
-use Rattle.edit_base.proofs.Joined.{each_there, holds_both, single_left, renamed_lacks, kept_with, all_two, all_above}
+use Rattle.edit_base.proofs.Joined.{each_there, holds_both, single_left, kept_with, all_two, all_above}
 use Rattle.edit_base.proofs.JoinedFaces.{rotated}
 use Rattle.edit_base.proofs.ReasonLaws.{below_next}
 use Rattle.edit_base.proofs.ZipClosed.{same_corners}
 use Rattle.edit_collapse.specs.Tried.{opposite_in, two_in, without_two, one_cancelled_in, cancelled_in, only_at, numbered, joined_at, left_at}
-use Rattle.edit_collapse.proofs.Lists.{filter_same, filter_twice, sorted_filter, fewer_filtered, put_last, find_filtered, filter_map_same, two_found, cancelled_enough}
+use Rattle.edit_collapse.proofs.Lists.{filter_same, filter_twice, sorted_filter, fewer_filtered, put_last, find_filtered, filter_map_same, cancelled_enough}
 
 -- ---- corners
 or_turned : (p q r : Bool) → (p || q || r) ≡ (q || r || p)

@@ -1,5 +1,5 @@
 -- What a collapse answers, by what holds of its ends.
-use Rattle.std.proofs.Common.{◌≡◌, ◌≢◌, ◌≤◌, ℕ, Bool, true, false, not, ◌||◌, min, max, [], ◌∷◌, Option, Some, None, sym, ap, subst, ◌∙◌, arith}
+use Rattle.std.proofs.Common.{◌≡◌, ◌≢◌, ◌≤◌, ℕ, Bool, true, false, not, min, max, [], ◌∷◌, Option, Some, None, sym, ◌∙◌, arith}
 use Rattle.std.specs.Option.{option_map}
 use Rattle.grid_base.specs.declared.Point.{Point}
 use Rattle.grid_base.specs.declared.Positions.{Positions}
@@ -10,7 +10,6 @@ use Rattle.mesh_base.specs.Mesh.{Mesh, IsSound}
 use Rattle.mesh_base.specs.Sides.{IsClosed}
 use Rattle.mesh_base.specs.Pairs.{is_edge}
 use Rattle.mesh_base.specs.Placements.{own_points_doubled}
-use Rattle.mesh_base.specs.Limits.{is_over_limits}
 use Rattle.edit_base.specs.declared.answers.Why.TheVariants.{NoEdge, Full, Doubled, Hit}
 use Rattle.edit_base.specs.declared.answers.Change.TheVariants.{Collapse}
 use Rattle.edit_base.specs.declared.answers.Edit.{Edit}
@@ -18,12 +17,11 @@ use Rattle.edit_base.specs.declared.answers.Edit.TheVariants.{Done, No}
 use Rattle.edit_base.specs.declared.scaffold.Move.{Move}
 use Rattle.edit_base.specs.declared.scaffold.Touch.TheVariants.{End}
 use Rattle.edit_base.specs.Reasons.{reason_if}
-use Rattle.edit_base.specs.Scaffold.{Scaffold, first_lacking}
+use Rattle.edit_base.specs.Scaffold.{first_lacking}
 use Rattle.edit_base.specs.Edges.{doubles_a_face}
 use Rattle.edit_base.specs.Collapse.{collapse_mesh, collapse_point, collapse_scaffold, joined_faces}
 use Rattle.edit_base.specs.Answers.{first_reason, done_unless, is_full, collapse_answer}
 use Rattle.edit_base.proofs.Beside.{beside_of}
-use Rattle.edit_base.proofs.ReasonLaws.{second_false}
 use Rattle.edit_collapse.specs.Tried.{answer_of, MayBeTried}
 
 -- the answer by its tests

@@ -1,5 +1,5 @@
 -- The fourth act: only corners of the faces at the two ends can lose their last face, so no other vertex need be looked at.
-use Rattle.std.proofs.Common.{◌≡◌, ◌≢◌, ◌⊎◌, ⊎_elim, inl, inr, ℕ, ◌+◌, Bool, true, false, cond, if◌then◌else◌, ◌&&◌, ◌||◌, ◌==◌, not, nat_lt, ◌<◌, List, [], ◌∷◌, ◌++◌, map, slice_get, Option, Some, None, IsSome, is_some, refl, sym, ap, subst, ◌∙◌, arith}
+use Rattle.std.proofs.Common.{◌≡◌, ◌≢◌, ⊎_elim, ℕ, ◌+◌, Bool, true, false, cond, if◌then◌else◌, ◌&&◌, ◌||◌, ◌==◌, not, nat_lt, ◌<◌, List, [], ◌∷◌, map, slice_get, Option, Some, None, is_some, refl, sym, ap, ◌∙◌, arith}
 use Rattle.std.proofs.lemmas.Bool.{false≢true, eqb-true}
 use Rattle.std.proofs.lemmas.Bool.Decides.{nat_tests}
 use Rattle.std.proofs.lemmas.List.Folds.{list_any-append}
@@ -14,14 +14,13 @@ use Rattle.grid_base.specs.declared.Point.{Point}
 use Rattle.mesh_base.specs.declared.ids.Corners.{Corners}
 use Rattle.mesh_base.specs.Mesh.{Mesh, IsSound, HasCorners}
 use Rattle.mesh_base.specs.Pairs.{is_edge}
-use Rattle.mesh_base.specs.Sides.{has_corner, follows, runs, faces_at, IsClosed}
+use Rattle.mesh_base.specs.Sides.{has_corner, follows, runs, IsClosed}
 use Rattle.mesh_base.specs.Changes.{without_vertex, corner_list}
 use Rattle.mesh_base.proofs.Listed.{all_filter, at_key, running_face, and_first, and_second, or_either}
 use Rattle.mesh_base.proofs.ListedPairs.{all_weaker}
 use Rattle.mesh_base.proofs.Tests.{or_first, or_second, both_ways}
-use Rattle.edit_base.specs.Collapse.{without_shared, joined_faces, has_face, without_bare}
+use Rattle.edit_base.specs.Collapse.{joined_faces, has_face, without_bare}
 use Rattle.edit_base.proofs.CollapseMesh.{dropped_faces, dropped_next, has_face_of}
-use Rattle.edit_base.proofs.Joined.{Stage}
 use Rattle.edit_base.proofs.JoinedFaces.{joined, lacks_b}
 use Rattle.edit_collapse.specs.Tried.{corners_near, others_than, without_if_bare}
 use Rattle.edit_collapse.proofs.Acts.{faces_kept_at, each_at, one_stays}

@@ -1,5 +1,5 @@
 -- The first three acts as the call makes them: on its way the mesh is that of the definition, but for the faces at the joined vertex that the third act drops.
-use Rattle.std.proofs.Common.{◌≡◌, ◌≢◌, ◌⊎◌, ⊎_elim, inl, inr, ℕ, zero, suc, ◌+◌, ◌<◌, ◌≤◌, Bool, true, false, cond, if◌then◌else◌, ◌&&◌, ◌||◌, ◌==◌, not, nat_lt, T, List, [], ◌∷◌, map, length, Option, Some, None, IsSome, is_some, refl, sym, ap, subst, ◌∙◌, arith}
+use Rattle.std.proofs.Common.{◌≡◌, ◌≢◌, ⊎_elim, ℕ, ◌+◌, ◌<◌, ◌≤◌, Bool, true, false, cond, if◌then◌else◌, ◌&&◌, ◌||◌, ◌==◌, not, T, List, [], ◌∷◌, map, Option, Some, None, IsSome, is_some, refl, sym, ap, subst, ◌∙◌, arith}
 use Rattle.std.proofs.lemmas.Bool.{false≢true, eqb-true}
 use Rattle.std.proofs.lemmas.Bool.Decides.{nat_tests}
 use Rattle.std.proofs.lemmas.Map.Views.{tells_apart, any-filter_same}
@@ -9,7 +9,7 @@ use Rattle.std.specs.List.{filter, list_any}
 use Rattle.std.specs.Ordering.{nat_cmp, eq_by_cmp}
 use Rattle.std.specs.Cmp.{nat_cmp_total, unsigned_tied}
 use Rattle.std.specs.FinMap as finite
-use Rattle.std.specs.FinMap.{FinMap, same_map, nat_cmp-IsAntisymmetric, get-insert, get-remove}
+use Rattle.std.specs.FinMap.{same_map, nat_cmp-IsAntisymmetric, get-insert, get-remove}
 use Rattle.std.specs.FinMap.Entries.{is_sorted, below_all}
 use Rattle.grid_base.specs.declared.TheConstants.{ID_MAX}
 use Rattle.mesh_base.specs.declared.ids.Corners.{Corners}
@@ -22,14 +22,14 @@ use Rattle.edit_base.specs.Edges.{renamed, corners_at, without_faces, with_renam
 use Rattle.edit_base.specs.Collapse.{without_shared, with_joined, joined_faces, collapse_point}
 use Rattle.edit_base.proofs.Closed.{AreBelow, not_live}
 use Rattle.edit_base.proofs.Changed.{points-without_faces, next_face-without_faces}
-use Rattle.edit_base.proofs.Joined.{holds_both, single_left, renamed_lacks, next_vertex-without_faces}
+use Rattle.edit_base.proofs.Joined.{single_left, renamed_lacks, next_vertex-without_faces}
 use Rattle.edit_base.proofs.JoinedFaces.{joined, different_left}
 use Rattle.edit_base.proofs.CollapseMesh.{were_live}
 use Rattle.edit_base.proofs.ReasonLaws.{below_next}
 use Rattle.edit_base.proofs.Undoubled.{undoubled}
 use Rattle.edit_collapse.specs.Tried.{only_at, has_id_in, left_at, with_joined_or_gone}
 use Rattle.edit_collapse.proofs.Acts.{faces_kept_at, same_held, renamed_has, Wait, renamed_once, made_below, wait_on, one_stays, one_below, first_wait, rising, two_is}
-use Rattle.edit_collapse.proofs.Three.{three_cut, kind_found, kind_has, kept, same_some, three_kept, stays_along, two_from, three_next, ids_taken}
+use Rattle.edit_collapse.proofs.Three.{three_cut, kind_found, kind_has, kept, same_some, three_kept, stays_along, two_from, ids_taken}
 
 -- the mesh `now` is `n`, but for the faces at a that are not left; some of its faces wait
 pub record Halfway (a b : ℕ) (left : List (ℕ × Corners)) (n now : Mesh) (es : List (ℕ × Corners)) : Type 0 where

@@ -1,8 +1,7 @@
 -- The faces of a collapse after the second and after the third act.
-use Rattle.std.proofs.Common.{◌≡◌, ◌≢◌, ◌⊎◌, ⊎_elim, inl, inr, ℕ, zero, suc, ◌+◌, ◌<◌, ◌≤◌, Bool, true, false, cond, ◌&&◌, ◌||◌, ◌==◌, not, T, List, [], ◌∷◌, map, length, slice_get, Option, Some, None, is_some, refl, sym, ap, subst, ◌∙◌, arith}
+use Rattle.std.proofs.Common.{◌≡◌, ◌≢◌, ◌⊎◌, ⊎_elim, inl, inr, ℕ, zero, suc, ◌+◌, ◌<◌, ◌≤◌, Bool, true, false, cond, ◌&&◌, not, T, List, [], ◌∷◌, map, length, slice_get, Option, Some, None, is_some, refl, sym, ap, subst, ◌∙◌, arith}
 use Rattle.std.proofs.lemmas.Bool.{false≢true}
 use Rattle.std.specs.Option.{option_map_or}
-use Rattle.std.specs.List.{filter, AllByRecursion}
 use Rattle.std.specs.Ordering.{nat_cmp}
 use Rattle.std.specs.FinMap as finite
 use Rattle.std.specs.FinMap.Entries.{is_sorted, below_all}
@@ -16,10 +15,10 @@ use Rattle.mesh_base.proofs.WalkSteps.{both_of}
 use Rattle.edit_base.specs.Edges.{renamed, without_faces, with_all_renamed}
 use Rattle.edit_base.specs.Collapse.{without_shared, with_joined, with_opposites, with_one_cancelled, cancelled_times, joined_faces}
 use Rattle.edit_base.proofs.Closed.{AreBelow, still_there}
-use Rattle.edit_base.proofs.Changed.{points-without_faces, next_face-without_faces}
-use Rattle.edit_base.proofs.Joined.{kept_with, next_vertex-without_faces}
+use Rattle.edit_base.proofs.Changed.{next_face-without_faces}
+use Rattle.edit_base.proofs.Joined.{kept_with}
 use Rattle.edit_base.proofs.ZipClosed.{same_corners}
-use Rattle.edit_collapse.specs.Tried.{two_in, only_at, has_id_in, left_at}
+use Rattle.edit_collapse.specs.Tried.{only_at, has_id_in, left_at}
 use Rattle.edit_collapse.proofs.Lists.{each_has_id, id_found, two_found}
 use Rattle.edit_collapse.proofs.Acts.{faces_kept_at, each_at, same_two, renamed_has, Wait, renamed_once, made_below, wait_on, one_below, first_wait, rising, two_is}
 

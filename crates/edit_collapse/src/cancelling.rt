@@ -75,10 +75,10 @@ pub(crate) fn repeats(faces: &[(FaceId, Corners)]) -> bool
 fn opposite_in(faces: &[(FaceId, Corners)], c: Corners) -> Option<FaceId>
     ensures { result ≡ opposite_in faces.now c }
 {
-    for e in faces {
-        let d = e.1;
+    for i in 0..faces.len() {
+        let d = faces[i].1;
         if are_opposite(&c, &d) {
-            return Some(e.0);
+            return Some(faces[i].0);
         }
     }
     None

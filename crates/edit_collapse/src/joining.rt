@@ -173,9 +173,10 @@ fn put_joined<S: Surface>(
     ensures marks { BeginsWith (S.kept mesh.new) (S.kept mesh.old) }
 {
     let joining = only_at(alloc, mesh, b, a)?;
+    let faces = joining.as_slice();
     drop_gone(alloc, mesh, a, left)?;
-    for e in joining.as_slice() {
-        join_face(mesh, a, b, left, e.0)?;
+    for i in 0..faces.len() {
+        join_face(mesh, a, b, left, faces[i].0)?;
     }
     Ok(())
 }

@@ -1,4 +1,4 @@
-use Rattle.std.proofs.Common.{◌≡◌, ◌||◌, ◌+◌, ℕ, List, drop, map, sym, ap, ◌∙◌}
+use Rattle.std.proofs.Common.{◌||◌, ◌+◌, ℕ, List, drop, map, sym, ap, ◌∙◌}
 use Rattle.mesh_base.specs.declared.ids.Corners.{Corners}
 use Rattle.std.specs.List.{list_any}
 use Rattle.mesh_base.specs.Mesh.{equal_up_to_rotation}

@@ -1,11 +1,8 @@
-use Rattle.std.proofs.Common.{◌≡◌, ◌≢◌, true, false, not, sym, ap, ◌∙◌}
+use Rattle.std.proofs.Common.{◌≡◌, ◌≢◌, true, false, sym, ◌∙◌}
 use Rattle.grid_decided.specs.Decided.{meets_exactly}
 use Rattle.mesh_base.specs.Pairs.{is_edge}
 use Rattle.edit_base.specs.Edges.{doubles_a_face}
-use Rattle.edit_base.specs.Collapse.{joined_faces, collapse_mesh, collapse_point}
-use Rattle.edit_base.specs.Answers.{is_full}
-use Rattle.edit_base.proofs.ReasonLaws.{stands}
-use Rattle.edit_collapse.specs.Tried.{left_at}
+use Rattle.edit_base.specs.Collapse.{joined_faces}
 use Rattle.edit_collapse.proofs.Answered.{are_apart, doubled_is_refused, full_is_refused, may_be_tried}
 use Rattle.edit_collapse.proofs.collapsing.collapse_ordered.Goals as goal
 

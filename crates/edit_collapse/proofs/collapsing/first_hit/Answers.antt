@@ -1,9 +1,6 @@
-use Rattle.std.proofs.Common.{◌≡◌, [], ◌∷◌, ap, subst, ◌∙◌}
+use Rattle.std.proofs.Common.{◌≡◌, [], ◌∷◌, subst}
 use Rattle.std.specs.Prelude.{IfOk}
-use Rattle.grid_base.specs.Triples.{times}
-use Rattle.grid_base.specs.Points.{position_of}
 use Rattle.grid_decided.specs.Decided.{meets_exactly}
-use Rattle.edit_base.specs.declared.scaffold.Move.{Move}
 use Rattle.edit_base.specs.Scaffold.{Scaffold, first_lacking}
 use Rattle.edit_check.proofs.Premise.{clear_mesh_is}
 use Rattle.edit_collapse.proofs.Answered.{is_scaffold}

@@ -1,4 +1,4 @@
-use Rattle.std.proofs.Common.{◌≡◌, ℕ, List, map, ap, ◌∙◌}
+use Rattle.std.proofs.Common.{ℕ, List, map, ap, ◌∙◌}
 use Rattle.mesh_base.specs.declared.ids.Corners.{Corners}
 use Rattle.edit_base.specs.Edges.{has_equal}
 use Rattle.edit_collapse.proofs.Doubled.{doubled_at}

@@ -1,7 +1,7 @@
-use Rattle.std.proofs.Common.{◌≡◌, ◌≤◌, ◌<◌, ◌+◌, ◌++◌, ℕ, List, [], ◌∷◌, length, drop, get_or, sym, ap, subst, ◌∙◌, append_assoc, arith}
+use Rattle.std.proofs.Common.{◌≡◌, ◌<◌, ◌+◌, ◌++◌, ℕ, List, [], ◌∷◌, length, drop, get_or, sym, ap, ◌∙◌, append_assoc, arith}
 use Rattle.mesh_base.specs.declared.ids.Corners.{Corners}
 use Rattle.edit_base.specs.Edges.{renamed}
-use Rattle.edit_collapse.specs.Tried.{only_at, numbered}
+use Rattle.edit_collapse.specs.Tried.{numbered}
 use Rattle.edit_collapse.proofs.Lists.{rest_at, ended, nothing_more}
 use Rattle.edit_collapse.proofs.Acts.{joined_list}
 use Rattle.edit_collapse.proofs.joining.joined_at.Goals as goal
