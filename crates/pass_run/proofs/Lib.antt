@@ -2,3 +2,9 @@ pub mod WrittenLines
 pub mod SaidLines
 pub mod Turning
 pub mod Keeping
+pub mod FarApart
+pub mod NearPairs
+pub mod NearPlaces
+pub mod Room
+pub mod Reading
+pub mod Replaying

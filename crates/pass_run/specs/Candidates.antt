@@ -1,5 +1,5 @@
 -- What a pass asks, in order, and when what is asked is due.
-use Rattle.std.specs.Prelude.{⊤, ℕ, ◌*◌, ◌&&◌, not, Bool, List, [], ◌∷◌, ◌++◌, map, length, nat_le, ℤ, pos, ◌*ℤ◌, int_lt, int_le}
+use Rattle.std.specs.Prelude.{ℕ, ◌*◌, ◌&&◌, not, Bool, List, [], ◌∷◌, ◌++◌, map, length, nat_le, ℤ, pos, ◌*ℤ◌, int_lt, int_le, Option, Some, None}
 use Rattle.std.specs.FinMap as finite
 use Rattle.grid_base.specs.Triples.{minus}
 use Rattle.edit_base.specs.declared.Asked.{Asked}
@@ -14,34 +14,30 @@ use Rattle.edit_base.specs.Zip.{square}
 use Rattle.edit_base.specs.Pinch.{fans}
 use Rattle.edit_base.specs.Answers.{is_zip_ready}
 
--- the kinds of pass that are built so far
-abbrev pub IsBuilt : PassKind → Type 0
-IsBuilt (Split over) = ⊤
-IsBuilt (Collapse under) = ⊥
-IsBuilt Flip = ⊤
-IsBuilt (Zip within) = ⊥
-IsBuilt Pinch = ⊥
-
 -- each two of the list, the earlier one first, in order
 abbrev pub with_later : List (ℕ × ℕ) → List ((ℕ × ℕ) × (ℕ × ℕ))
 with_later [] = []
 with_later (e ∷ es) = map (λ f. (e, f)) es ++ with_later es
 
--- what a pass over edges asks of an edge; the passes that do not go over single edges have candidates of their own
-abbrev pub asked_of : PassKind → ℕ × ℕ → Asked
-asked_of (Split over) e = asked.Split e.0 e.1
-asked_of (Collapse under) e = asked.Collapse e.0 e.1
-asked_of Flip e = asked.Flip e.0 e.1
-asked_of (Zip within) e = asked.Zip e.0 e.1 e.0 e.1
-asked_of Pinch e = asked.Pinch e.0
+-- a zip of two edges
+abbrev pub zip_of : ℕ × ℕ → ℕ × ℕ → Asked
+zip_of e f = asked.Zip e.0 e.1 f.0 f.1
 
 -- what is asked, in order: of each edge of the opening mesh, of each two of them, or of each vertex
 abbrev pub candidates : Mesh → PassKind → List Asked
-candidates m (Split over) = map (asked_of (Split over)) (edges m)
-candidates m (Collapse under) = map (asked_of (Collapse under)) (edges m)
-candidates m Flip = map (asked_of Flip) (edges m)
-candidates m (Zip within) = map (λ two. asked.Zip (two.0).0 (two.0).1 (two.1).0 (two.1).1) (with_later (edges m))
+candidates m (Split over) = map (λ e. asked.Split e.0 e.1) (edges m)
+candidates m (Collapse under) = map (λ e. asked.Collapse e.0 e.1) (edges m)
+candidates m Flip = map (λ e. asked.Flip e.0 e.1) (edges m)
+candidates m (Zip within) = map (λ two. zip_of two.0 two.1) (with_later (edges m))
 candidates m Pinch = map (λ v. asked.Pinch v) (finite.keys m.points)
+
+-- the length of a pass over pairs of edges
+abbrev pub pairs_within : PassKind → Option ℕ
+pairs_within (Split over) = None
+pairs_within (Collapse under) = None
+pairs_within Flip = None
+pairs_within (Zip within) = Some within
+pairs_within Pinch = None
 
 -- the square of the length from one vertex to another
 abbrev pub length_squared : Mesh → ℕ → ℕ → ℤ
@@ -68,3 +64,7 @@ is_due m kind (asked.Flip a b) =
 is_due m kind (asked.Zip a b e f) =
     is_zip_ready m a b e f && int_le (square (minus (exact_mid m a b) (exact_mid m e f))) (squared (2 * limit_of kind))
 is_due m kind (asked.Pinch v) = nat_le 2 (length (fans m v))
+
+-- the condition of a kind of pass
+abbrev pub due_in : PassKind → Mesh → Asked → Bool
+due_in kind m what = is_due m kind what

@@ -1,4 +1,5 @@
 pub mod Candidates
+pub mod Near
 pub mod PassLines
 pub mod Turns
 pub mod Said

@@ -9,7 +9,6 @@ use Rattle.edit_base.specs.declared.PassKind.{PassKind}
 use Rattle.edit_base.specs.Clauses.{MovesClear}
 use Rattle.log_text.specs.declared.LogLine.{LogLine}
 use Rattle.log_text.specs.declared.LogLine.TheVariants as line
-use Rattle.pass_run.specs.Candidates.{IsBuilt}
 use Rattle.pass_run.specs.PassLines.{mesh_by, mesh_by_lines, pass_lines, mesh_after_pass}
 
 -- a mesh that is closed and clear, within the laws and limits of a mesh
@@ -30,10 +29,10 @@ EachMovesClear m (l ∷ ls) = LineMovesClear m l × IsGood (mesh_by m l) × Each
 
 -- The lines of a pass, replayed from its opening mesh, give the mesh that it leaves.
 abbrev pub LinesTellTheMesh : Type 0
-LinesTellTheMesh = (meets : Positions → Bool) (m : Mesh) (kind : PassKind) (depth : ℕ) →
-    mesh_by_lines m (pass_lines meets m kind depth) ≡ mesh_after_pass meets m kind depth
+LinesTellTheMesh = (meets : Positions → Bool) (m : Mesh) (kind : PassKind) (depth : ℕ) (grouped : Bool) →
+    mesh_by_lines m (pass_lines meets m kind depth grouped) ≡ mesh_after_pass meets m kind depth grouped
 
 -- each motion that a pass over a good mesh logs is clear, and it leaves a good mesh
 abbrev pub PassesKeepTheMesh : Type 0
-PassesKeepTheMesh = (meets : Positions → Bool) → IsExact meets → (m : Mesh) (kind : PassKind) (depth : ℕ) → IsBuilt kind → IsGood m →
-    EachMovesClear m (pass_lines meets m kind depth) × IsGood (mesh_after_pass meets m kind depth)
+PassesKeepTheMesh = (meets : Positions → Bool) → IsExact meets → (m : Mesh) (kind : PassKind) (depth : ℕ) (grouped : Bool) → IsGood m →
+    EachMovesClear m (pass_lines meets m kind depth grouped) × IsGood (mesh_after_pass meets m kind depth grouped)

@@ -1,9 +1,11 @@
-//! Passes over a mesh: each edge in turn, with the line of each edit.
+//! Passes over a mesh: each candidate in turn, with the line of each edit.
 #![tactic(auto)]
 
 mod faults;
 pub mod laws;
 mod lengths;
+mod listing;
+mod pairing;
 mod passing;
 mod saying;
 mod turns;

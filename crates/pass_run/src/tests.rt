@@ -1,6 +1,4 @@
 //! Worked examples.
-ghost use Rattle.pass_run.specs.Candidates.{IsBuilt};
-
 use crate::{PassCount, PassFault, pass};
 use edit_base::PassKind;
 use grid_base::{NoMemory, Point};
@@ -75,17 +73,16 @@ fn done(
     alloc: Global,
     lists: &MeshLists,
     kind: PassKind,
+    grouped: bool,
     out: &mut MemorySink,
     rt: &impl Abort,
-) -> Result<(Result<PassCount, PassFault>, u32, u32), NoMemory>
-    requires { IsBuilt kind }
-{
+) -> Result<(Result<PassCount, PassFault>, u32, u32), NoMemory> {
     let shaped = shape(alloc, lists);
     assert!(rt; shaped.is_ok());
     let mut mesh = PlainMesh::of(alloc, lists)?;
     let meeting = first_meeting(alloc, &mesh)?;
     assert!(rt; meeting.is_none());
-    let count = pass(alloc, &mut mesh, kind, 6, out);
+    let count = pass(alloc, &mut mesh, kind, 6, grouped, out);
     Ok((count, mesh.vertices(), mesh.faces()))
 }
 
@@ -100,7 +97,14 @@ fn each_edge_of_a_tetrahedron_is_split(rt: HostRuntime) -> Result<(), Fail> {
     let alloc = rt.alloc();
     let lists = mesh_at(alloc, &EVEN, &FOUR, &rt)?;
     let mut out = sink_of(alloc, &[])?;
-    let found = done(alloc, &lists, PassKind::Split { over: 3 }, &mut out, &rt)?;
+    let found = done(
+        alloc,
+        &lists,
+        PassKind::Split { over: 3 },
+        false,
+        &mut out,
+        &rt,
+    )?;
     let all = PassCount {
         done: 6,
         refused: 0,
@@ -117,7 +121,14 @@ fn a_write_that_fails_leaves_whole_lines_and_one_more_edit(rt: HostRuntime) -> R
     // The write that fails, and how many vertices and faces are left: the edit of its line is done.
     for (write, vertices, faces) in [(1, 4, 4), (2, 5, 6), (4, 7, 10), (7, 10, 16)] {
         let mut out = sink_of(alloc, &[write])?;
-        let found = done(alloc, &lists, PassKind::Split { over: 3 }, &mut out, &rt)?;
+        let found = done(
+            alloc,
+            &lists,
+            PassKind::Split { over: 3 },
+            false,
+            &mut out,
+            &rt,
+        )?;
         assert_eq!(rt; found, (Err(PassFault::SinkFault), vertices, faces));
         assert_eq!(rt;
             out.bytes(),
@@ -131,15 +142,16 @@ fn a_write_that_fails_leaves_whole_lines_and_one_more_edit(rt: HostRuntime) -> R
 fn edges_that_are_there_already_are_not_made_by_a_flip(rt: HostRuntime) -> Result<(), Fail> {
     let alloc = rt.alloc();
     let lists = mesh_at(alloc, &LONG, &FOUR, &rt)?;
-    let mut out = sink_of(alloc, &[])?;
-    let found = done(alloc, &lists, PassKind::Flip, &mut out, &rt)?;
-    let none = PassCount {
-        done: 0,
-        refused: 3,
-    };
-    assert_eq!(rt; found, (Ok(none), 4, 4));
-    let text = b"pass flip\nno flip 1 2 edge\nno flip 2 3 edge\nno flip 2 4 edge\n";
-    assert_eq!(rt; out.bytes(), text.as_slice());
+    // A grouped pass ends with its first `no` line.
+    let one: &[u8] = b"pass flip\nno flip 1 2 edge\n";
+    let all: &[u8] = b"pass flip\nno flip 1 2 edge\nno flip 2 3 edge\nno flip 2 4 edge\n";
+    for (grouped, refused, text) in [(true, 1, one), (false, 3, all)] {
+        let mut out = sink_of(alloc, &[])?;
+        let found = done(alloc, &lists, PassKind::Flip, grouped, &mut out, &rt)?;
+        let none = PassCount { done: 0, refused };
+        assert_eq!(rt; found, (Ok(none), 4, 4));
+        assert_eq!(rt; out.bytes(), text);
+    }
     Ok(())
 }
 
@@ -148,7 +160,7 @@ fn a_pass_goes_on_after_an_edge_that_is_not_flipped(rt: HostRuntime) -> Result<(
     let alloc = rt.alloc();
     let lists = mesh_at(alloc, &FLAT, &SIX, &rt)?;
     let mut out = sink_of(alloc, &[])?;
-    let found = done(alloc, &lists, PassKind::Flip, &mut out, &rt)?;
+    let found = done(alloc, &lists, PassKind::Flip, false, &mut out, &rt)?;
     let count = PassCount {
         done: 1,
         refused: 2,

@@ -1,48 +1,132 @@
-//! One candidate of a pass at its turn.
-ghost use Rattle.std.specs.Prelude.{◌≡◌, ◌≤◌, int_lt, IfOk};
+//! What is asked at its turn.
+ghost use Rattle.std.specs.Prelude.{◌≡◌, ◌≤◌, int_lt, nat_le, length, IfOk};
 ghost use Rattle.grid_base.specs.declared.TheConstants.{DEPTH_MAX};
 ghost use Rattle.grid_decided.specs.Decided.{meets_exactly};
 ghost use Rattle.mesh_base.specs.Sides.{IsClosed};
 ghost use Rattle.mesh_base.specs.Placements.{IsClearMesh};
 ghost use Rattle.mesh_base.specs.Kept.{BeginsWith};
+ghost use Rattle.edit_base.specs.Answers.{answer_to};
+ghost use Rattle.edit_base.specs.Clauses.{mesh_left};
 ghost use Rattle.edit_base.specs.declared.Asked.TheVariants as asked;
-ghost use Rattle.edit_base.specs.declared.PassKind.TheVariants as kinds;
-ghost use Rattle.pass_run.specs.Candidates.{IsBuilt, asked_of, is_due, length_squared};
+ghost use Rattle.pass_run.specs.Candidates.{is_due, due_in, limit_of, length_squared};
 ghost use Rattle.pass_run.specs.PassLines.{line_of};
 ghost use Rattle.pass_run.specs.Turns.{turn_line, mesh_turned};
 
-use crate::lengths::{is_longer, length_squared};
+use crate::lengths::{are_near, is_longer, is_shorter, length_squared};
 use edit_base::{Asked, EdgeFaces, Edit, PassKind, edge_beside, is_crowded, is_edge};
+use edit_collapse::collapse;
 use edit_flip::flip;
+use edit_pinch::{fan_count, pinch};
 use edit_split::split;
+use edit_zip::{zip, zip_ready};
 use grid_base::{DEPTH_MAX, NoMemory};
 use log_text::LogLine;
 use mesh_base::{Surface, VertexId};
 use std::alloc::Global;
 
-// Whether an edge is longer than the distance of the third corners of the faces beside it.
-fn is_longer_than_across<S: Surface>(mesh: &S, e: &EdgeFaces) -> bool
-    ensures { result ≡ int_lt (length_squared (S.mesh mesh.now) e.now.c e.now.d) (length_squared (S.mesh mesh.now) e.now.a e.now.b) }
+// The length that a pass goes by.
+fn limit_of(kind: PassKind) -> u32
+    ensures { result ≡ limit_of kind }
 {
-    length_squared(mesh, e.c, e.d) < length_squared(mesh, e.a, e.b)
+    match kind {
+        PassKind::Split { over } => over,
+        PassKind::Collapse { under } => under,
+        PassKind::Flip => 0,
+        PassKind::Zip { within } => within,
+        PassKind::Pinch => 0,
+    }
 }
 
 // Whether a split of the edge is due.
-fn is_split_due<S: Surface>(mesh: &S, over: u32, a: VertexId, b: VertexId) -> bool
-    ensures { result ≡ is_due (S.mesh mesh.now) (kinds.Split over) (asked.Split a b) }
+fn is_split_due<S: Surface>(mesh: &S, kind: PassKind, a: VertexId, b: VertexId) -> bool
+    ensures { result ≡ is_due (S.mesh mesh.now) kind (asked.Split a b) }
 {
-    is_longer(mesh, a, b, over) && is_edge(mesh, a, b)
+    is_longer(mesh, a, b, limit_of(kind)) && is_edge(mesh, a, b)
+}
+
+// Whether a collapse of the edge is due.
+fn is_collapse_due<S: Surface>(mesh: &S, kind: PassKind, a: VertexId, b: VertexId) -> bool
+    ensures { result ≡ is_due (S.mesh mesh.now) kind (asked.Collapse a b) }
+{
+    is_shorter(mesh, a, b, limit_of(kind)) && is_edge(mesh, a, b)
+}
+
+// Whether the length from one vertex to another is above the distance of the third corners of the faces beside an edge.
+fn is_longer_than_across<S: Surface>(mesh: &S, a: VertexId, b: VertexId, e: &EdgeFaces) -> bool
+    ensures { result ≡ int_lt (length_squared (S.mesh mesh.now) e.now.c e.now.d) (length_squared (S.mesh mesh.now) a b) }
+{
+    length_squared(mesh, e.c, e.d) < length_squared(mesh, a, b)
 }
 
 // Whether a flip of the edge is due.
-fn is_flip_due<S: Surface>(mesh: &S, a: VertexId, b: VertexId) -> bool
-    requires closed { IsClosed (S.mesh mesh.now) }
-    requires ordered { a ≤ b }
-    ensures { result ≡ is_due (S.mesh mesh.now) kinds.Flip (asked.Flip a b) }
+fn is_flip_due<S: Surface>(mesh: &S, kind: PassKind, a: VertexId, b: VertexId) -> bool
+    requires { IsClosed (S.mesh mesh.now) }
+    ensures { result ≡ is_due (S.mesh mesh.now) kind (asked.Flip a b) }
 {
+    let _ = kind;
+    if !is_edge(mesh, a, b) || is_crowded(mesh, a, b) {
+        return false;
+    }
     match edge_beside(mesh, a, b) {
         None => false,
-        Some(e) => !is_crowded(mesh, e.a, e.b) && is_longer_than_across(mesh, &e),
+        Some(across) => is_longer_than_across(mesh, a, b, &across),
+    }
+}
+
+// Whether a zip of the two edges is due.
+fn is_zip_due<S: Surface>(
+    mesh: &S,
+    kind: PassKind,
+    a: VertexId,
+    b: VertexId,
+    e: VertexId,
+    f: VertexId,
+) -> bool
+    requires { IsClosed (S.mesh mesh.now) }
+    ensures { result ≡ is_due (S.mesh mesh.now) kind (asked.Zip a b e f) }
+{
+    are_near(mesh, a, b, e, f, limit_of(kind)) && zip_ready(mesh, a, b, e, f)
+}
+
+// Whether what is asked is due.
+fn is_due<S: Surface>(
+    alloc: Global,
+    mesh: &S,
+    kind: PassKind,
+    what: Asked,
+) -> Result<bool, NoMemory>
+    requires { IsClosed (S.mesh mesh.now) }
+    ensures { IfOk result (λ due. due ≡ is_due (S.mesh mesh.now) kind what) }
+{
+    match what {
+        Asked::Split { a, b } => Ok(is_split_due(mesh, kind, a, b)),
+        Asked::Flip { a, b } => Ok(is_flip_due(mesh, kind, a, b)),
+        Asked::Collapse { a, b } => Ok(is_collapse_due(mesh, kind, a, b)),
+        Asked::Zip { a, b, e, f } => Ok(is_zip_due(mesh, kind, a, b, e, f)),
+        Asked::Pinch { v } => {
+            let fans = fan_count(alloc, mesh, v)?;
+            Ok(2 <= fans)
+        }
+    }
+}
+
+// The edit that is asked.
+fn ask<S: Surface>(alloc: Global, mesh: &mut S, depth: u8, what: Asked) -> Result<Edit, NoMemory>
+    requires closed { IsClosed (S.mesh mesh.old) }
+    requires clear { IsClearMesh (S.mesh mesh.old) }
+    requires depth { depth ≤ DEPTH_MAX }
+    ensures answer { IfOk result (λ edit. edit ≡ answer_to meets_exactly (S.mesh mesh.old) depth what) }
+    ensures mesh { S.mesh mesh.new ≡ mesh_left (S.mesh mesh.old) result }
+    ensures closed { IsClosed (S.mesh mesh.new) }
+    ensures clear { IsClearMesh (S.mesh mesh.new) }
+    ensures marks { BeginsWith (S.kept mesh.new) (S.kept mesh.old) }
+{
+    match what {
+        Asked::Split { a, b } => split(alloc, mesh, a, b, depth),
+        Asked::Flip { a, b } => flip(alloc, mesh, a, b, depth),
+        Asked::Collapse { a, b } => collapse(alloc, mesh, a, b, depth),
+        Asked::Zip { a, b, e, f } => zip(alloc, mesh, a, b, e, f),
+        Asked::Pinch { v } => pinch(alloc, mesh, v, depth),
     }
 }
 
@@ -56,79 +140,26 @@ fn line_of(what: Asked, edit: Edit) -> LogLine
     }
 }
 
-// A split, and its line, if it is due.
-fn split_turn<S: Surface>(
-    alloc: Global,
-    mesh: &mut S,
-    over: u32,
-    depth: u8,
-    a: VertexId,
-    b: VertexId,
-) -> Result<Option<LogLine>, NoMemory>
-    requires closed { IsClosed (S.mesh mesh.old) }
-    requires clear { IsClearMesh (S.mesh mesh.old) }
-    requires depth { depth ≤ DEPTH_MAX }
-    ensures line { IfOk result (λ line. line ≡ turn_line meets_exactly (kinds.Split over) depth (S.mesh mesh.old) (asked.Split a b)) }
-    ensures mesh { S.mesh mesh.new ≡ mesh_turned meets_exactly (kinds.Split over) depth (S.mesh mesh.old) (asked.Split a b) result }
-    ensures closed { IsClosed (S.mesh mesh.new) }
-    ensures clear { IsClearMesh (S.mesh mesh.new) }
-    ensures marks { BeginsWith (S.kept mesh.new) (S.kept mesh.old) }
-{
-    if !is_split_due(mesh, over, a, b) {
-        return Ok(None);
-    }
-    let edit = split(alloc, mesh, a, b, depth)?;
-    Ok(Some(line_of(Asked::Split { a, b }, edit)))
-}
-
-// A flip, and its line, if it is due.
-fn flip_turn<S: Surface>(
-    alloc: Global,
-    mesh: &mut S,
-    depth: u8,
-    a: VertexId,
-    b: VertexId,
-) -> Result<Option<LogLine>, NoMemory>
-    requires closed { IsClosed (S.mesh mesh.old) }
-    requires clear { IsClearMesh (S.mesh mesh.old) }
-    requires depth { depth ≤ DEPTH_MAX }
-    requires ordered { a ≤ b }
-    ensures line { IfOk result (λ line. line ≡ turn_line meets_exactly kinds.Flip depth (S.mesh mesh.old) (asked.Flip a b)) }
-    ensures mesh { S.mesh mesh.new ≡ mesh_turned meets_exactly kinds.Flip depth (S.mesh mesh.old) (asked.Flip a b) result }
-    ensures closed { IsClosed (S.mesh mesh.new) }
-    ensures clear { IsClearMesh (S.mesh mesh.new) }
-    ensures marks { BeginsWith (S.kept mesh.new) (S.kept mesh.old) }
-{
-    if !is_flip_due(mesh, a, b) {
-        return Ok(None);
-    }
-    let edit = flip(alloc, mesh, a, b, depth)?;
-    Ok(Some(line_of(Asked::Flip { a, b }, edit)))
-}
-
-/// The edit of a candidate, and its line, if it is due.
+/// The edit that is asked, and its line, if it is due.
 pub(crate) fn turn<S: Surface>(
     alloc: Global,
     mesh: &mut S,
     kind: PassKind,
     depth: u8,
-    a: VertexId,
-    b: VertexId,
+    what: Asked,
 ) -> Result<Option<LogLine>, NoMemory>
     requires closed { IsClosed (S.mesh mesh.old) }
     requires clear { IsClearMesh (S.mesh mesh.old) }
     requires depth { depth ≤ DEPTH_MAX }
-    requires built { IsBuilt kind }
-    requires ordered { a ≤ b }
-    ensures line { IfOk result (λ line. line ≡ turn_line meets_exactly kind depth (S.mesh mesh.old) (asked_of kind (a, b))) }
-    ensures mesh { S.mesh mesh.new ≡ mesh_turned meets_exactly kind depth (S.mesh mesh.old) (asked_of kind (a, b)) result }
+    ensures line { IfOk result (λ line. line ≡ turn_line meets_exactly (due_in kind) depth (S.mesh mesh.old) what) }
+    ensures mesh { S.mesh mesh.new ≡ mesh_turned meets_exactly (due_in kind) depth (S.mesh mesh.old) what result }
     ensures closed { IsClosed (S.mesh mesh.new) }
     ensures clear { IsClearMesh (S.mesh mesh.new) }
     ensures marks { BeginsWith (S.kept mesh.new) (S.kept mesh.old) }
 {
-    match kind {
-        PassKind::Split { over } => split_turn(alloc, mesh, over, depth, a, b),
-        PassKind::Flip => flip_turn(alloc, mesh, depth, a, b),
-        _ => unreachable!(),
+    if !is_due(alloc, mesh, kind, what)? {
+        return Ok(None);
     }
+    let edit = ask(alloc, mesh, depth, what)?;
+    Ok(Some(line_of(what, edit)))
 }

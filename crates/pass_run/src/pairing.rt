@@ -1,0 +1,224 @@
+//! The pairs of edges that are near one another, found by a grid of midpoints.
+ghost use Rattle.std.specs.Prelude.{◌≡◌, ◌+◌, ◌++◌, ◌*◌, ◌<◌, ◌≤◌, ◌≤ℤ◌, ◌-ℤ◌, ℕ, ℤ, min, map, drop, nat_le, unsigned_abs, slice_get, Some, IsTrue, IfOk, OnOk};
+ghost use Rattle.std.specs.List.{filter, flat_map};
+ghost use Rattle.grid_base.specs.Extents.{IsIn};
+ghost use Rattle.grid_base.specs.Points.{is_within};
+ghost use Rattle.grid_base.specs.Triples.{Triple, IsWithin, minus};
+ghost use Rattle.grid_base.specs.declared.TheConstants.{HALF_MAX, EXTENT_MAX};
+ghost use Rattle.pair_scan.specs.Scan.{one_or_none};
+ghost use Rattle.pair_scan.specs.Under.{IsUnder};
+ghost use Rattle.pass_run.specs.Candidates.{zip_of};
+ghost use Rattle.pass_run.specs.Near.{is_near, near_zip, later_zip, IsBoxOf, AreMidpoints};
+
+use cell_grid::Grid;
+use edit_base::{Asked, exact_mid};
+use grid_base::{EXTENT_MAX, Extent, HALF_MAX, Items, NoMemory, Wide};
+use mesh_base::{Surface, VertexId};
+use std::alloc::Global;
+
+/// Edges that are asked to be zipped, in order.
+pub(crate) type Zips = Items<Asked>;
+
+// Whether a number has at most this size.
+fn is_small(a: i128, most: u128) -> bool
+    ensures { result ≡ nat_le (unsigned_abs a) most }
+{
+    a.unsigned_abs() <= most
+}
+
+// Whether two midpoints, in half units, are no further apart than a length along each axis.
+fn is_near_along(p: Wide, q: Wide, within: u32) -> bool
+    requires first { IsWithin HALF_MAX p }
+    requires second { IsWithin HALF_MAX q }
+    ensures { result ≡ is_within (2 * within) (minus p q) }
+{
+    let across = p.minus(q);
+    let most = 2 * u128::from(within);
+    if !is_small(across.x, most) {
+        return false;
+    }
+    if !is_small(across.y, most) {
+        return false;
+    }
+    is_small(across.z, most)
+}
+
+// The zip of two edges, where they are near.
+fn near_zip<S: Surface>(
+    mesh: &S,
+    within: u32,
+    a: VertexId,
+    b: VertexId,
+    e: VertexId,
+    f: VertexId,
+) -> Option<Asked>
+    ensures { result ≡ near_zip (S.mesh mesh.now) within (a, b) (Some (e, f)) }
+{
+    if is_near_along(exact_mid(mesh, a, b), exact_mid(mesh, e, f), within) {
+        Some(Asked::Zip { a, b, e, f })
+    } else {
+        None
+    }
+}
+
+// The zip of an edge with the one at a place, where that is later and near.
+fn later_zip<S: Surface>(
+    mesh: &S,
+    within: u32,
+    edges: &[(VertexId, VertexId)],
+    i: usize,
+    a: VertexId,
+    b: VertexId,
+    k: u64,
+) -> Option<Asked>
+    ensures { result ≡ later_zip (S.mesh mesh.now) within edges.now i (a, b) k }
+{
+    if k <= i as u64 {
+        return None;
+    }
+    match edges.get(k as usize) {
+        Some(other) => near_zip(mesh, within, a, b, other.0, other.1),
+        None => None,
+    }
+}
+
+// Puts the zips of an edge with those of the edges at these places that are later and near at the end.
+fn put_later<S: Surface>(
+    mesh: &S,
+    within: u32,
+    edges: &[(VertexId, VertexId)],
+    i: usize,
+    a: VertexId,
+    b: VertexId,
+    places: &[u64],
+    asked: &mut Zips,
+) -> Result<(), NoMemory>
+    ensures { OnOk result (asked.new ≡ asked.old ++ flat_map (λ k. one_or_none (later_zip (S.mesh mesh.now) within edges.now i (a, b) k)) places.now) }
+{
+    for k in places {
+        if let Some(zip) = later_zip(mesh, within, edges, i, a, b, *k) {
+            asked.push(zip)?;
+        }
+    }
+    Ok(())
+}
+
+// The box of one position.
+fn box_of(p: Wide) -> Extent
+    requires { IsWithin HALF_MAX p }
+    ensures { IsBoxOf p result }
+{
+    Extent { low: p, high: p }
+}
+
+// Twice a length, or the greatest coordinate of a box where that is less.
+fn reach_of(within: u32) -> u32
+    ensures { result ≡ min (2 * within) EXTENT_MAX }
+{
+    (2 * u64::from(within)).min(u64::from(EXTENT_MAX)) as u32
+}
+
+// The least coordinate that is no further off, of those that a box may have.
+fn below(a: i128, reach: u32) -> i128
+    requires within { unsigned_abs a ≤ HALF_MAX }
+    requires short { reach ≤ EXTENT_MAX }
+    ensures ends { (b : ℤ) → unsigned_abs b ≤ HALF_MAX → unsigned_abs (a -ℤ b) ≤ reach → result ≤ℤ b }
+    ensures size { unsigned_abs result ≤ EXTENT_MAX }
+    ensures order { result ≤ℤ a }
+{
+    let end = a - i128::from(reach);
+    let least = -i128::from(EXTENT_MAX);
+    if end < least { least } else { end }
+}
+
+// The greatest coordinate that is no further off, of those that a box may have.
+fn above(a: i128, reach: u32) -> i128
+    requires within { unsigned_abs a ≤ HALF_MAX }
+    requires short { reach ≤ EXTENT_MAX }
+    ensures ends { (b : ℤ) → unsigned_abs b ≤ HALF_MAX → unsigned_abs (a -ℤ b) ≤ reach → b ≤ℤ result }
+    ensures size { unsigned_abs result ≤ EXTENT_MAX }
+    ensures order { a ≤ℤ result }
+{
+    let end = a + i128::from(reach);
+    let most = i128::from(EXTENT_MAX);
+    if end < most { end } else { most }
+}
+
+// The least corner of a box round a midpoint.
+fn corner_below(p: Wide, reach: u32) -> Wide
+    requires within { IsWithin HALF_MAX p }
+    requires short { reach ≤ EXTENT_MAX }
+    ensures ends { (q : Triple) → IsWithin HALF_MAX q → IsWithin reach (minus p q) → IsUnder result q }
+    ensures size { IsWithin EXTENT_MAX result }
+    ensures order { IsUnder result p }
+{
+    Wide {
+        x: below(p.x, reach),
+        y: below(p.y, reach),
+        z: below(p.z, reach),
+    }
+}
+
+// The greatest corner of a box round a midpoint.
+fn corner_above(p: Wide, reach: u32) -> Wide
+    requires within { IsWithin HALF_MAX p }
+    requires short { reach ≤ EXTENT_MAX }
+    ensures ends { (q : Triple) → IsWithin HALF_MAX q → IsWithin reach (minus p q) → IsUnder q result }
+    ensures size { IsWithin EXTENT_MAX result }
+    ensures order { IsUnder p result }
+{
+    Wide {
+        x: above(p.x, reach),
+        y: above(p.y, reach),
+        z: above(p.z, reach),
+    }
+}
+
+// A box that has each midpoint that is near this one.
+fn box_round(p: Wide, within: u32) -> Extent
+    requires { IsWithin HALF_MAX p }
+    ensures { (q : Triple) → IsWithin HALF_MAX q → IsTrue (is_within (2 * within) (minus p q)) → IsIn result q }
+{
+    let reach = reach_of(within);
+    let low = corner_below(p, reach);
+    let high = corner_above(p, reach);
+    Extent { low, high }
+}
+
+/// A grid of the midpoints of edges, by their places in the list. Its cells are as long as midpoints may be apart, so that a
+/// question for those near one looks at 27 cells.
+pub(crate) fn midpoints<S: Surface>(
+    alloc: Global,
+    mesh: &S,
+    edges: &[(VertexId, VertexId)],
+    within: u32,
+) -> Result<Grid, NoMemory>
+    ensures { IfOk result (AreMidpoints (S.mesh mesh.now) edges.now) }
+{
+    let mut grid = Grid::new(alloc, reach_of(within).max(1))?;
+    for (k, e) in edges.iter().enumerate() {
+        grid.insert(k as u64, box_of(exact_mid(mesh, e.0, e.1)))?;
+    }
+    Ok(grid)
+}
+
+/// The zips of an edge with the later edges that are near it, in order.
+pub(crate) fn near_pairs<S: Surface>(
+    alloc: Global,
+    mesh: &S,
+    within: u32,
+    edges: &[(VertexId, VertexId)],
+    grid: &Grid,
+    i: usize,
+    a: VertexId,
+    b: VertexId,
+) -> Result<Zips, NoMemory>
+    requires { AreMidpoints (S.mesh mesh.now) edges.now grid.now }
+    ensures { IfOk result (λ asked. asked ≡ map (zip_of (a, b)) (filter (is_near (S.mesh mesh.now) within (a, b)) (drop (i + 1) edges.now))) }
+{
+    let mut places = Vec::new(alloc);
+    grid.overlapping(box_round(exact_mid(mesh, a, b), within), &mut places)?;
+    let mut asked = Zips::new(alloc);
+    put_later(mesh, within, edges, i, a, b, &places, &mut asked)?;
+    Ok(asked)
+}
