@@ -1,5 +1,5 @@
 -- Passes keep the mesh.
-use Rattle.std.proofs.Common.{Bool, true, false, cond, ◌≡◌, ℕ, List, [], ◌∷◌, ◌++◌, refl, ap, sym, subst, ◌∙◌, Option, Some, None}
+use Rattle.std.proofs.Common.{Bool, true, false, cond, ◌≡◌, ℕ, List, [], ◌∷◌, ◌++◌, refl, sym, subst, Option, Some, None}
 use Rattle.std.specs.Option.{option_map_or}
 use Rattle.grid_base.specs.declared.Positions.{Positions}
 use Rattle.grid_base.specs.SeparationTests.{IsExact}
@@ -27,7 +27,7 @@ use Rattle.edit_base.proofs.ZipDone.{zip_stays_sound, zip_stays_closed, zip_stay
 use Rattle.edit_base.proofs.PinchDone.{pinch_stays_sound, pinch_stays_closed, pinch_stays_clear, pinch_motion_is_clear}
 use Rattle.log_text.specs.declared.LogLine.{LogLine}
 use Rattle.pass_run.specs.Candidates.{candidates, due_in}
-use Rattle.pass_run.specs.PassLines.{line_of, lines_of, mesh_from, ends, lines_from, mesh_after_all, pass_lines, mesh_after_pass, mesh_by, mesh_by_lines}
+use Rattle.pass_run.specs.PassLines.{line_of, lines_of, mesh_from, ends, lines_from, mesh_after_all, pass_lines, mesh_by, mesh_by_lines}
 use Rattle.pass_run.specs.Promises.{IsGood, EachMovesClear, PassesKeepTheMesh}
 use Rattle.pass_run.proofs.Turning.{turn_makes}
 

@@ -5,18 +5,15 @@ use Rattle.std.specs.Option.{option_map_or}
 use Rattle.grid_base.specs.declared.Positions.{Positions}
 use Rattle.grid_base.specs.Triples.{minus}
 use Rattle.mesh_base.specs.Mesh.{Mesh}
-use Rattle.mesh_base.specs.Pairs.{edges, is_edge, is_crowded}
-use Rattle.mesh_base.specs.Limits.{is_over_limits}
+use Rattle.mesh_base.specs.Pairs.{edges}
 use Rattle.edit_base.specs.declared.answers.Why.{Why}
-use Rattle.edit_base.specs.declared.answers.Why.TheVariants.{NoEdge, Crowded, Shared, Full, Doubled}
 use Rattle.edit_base.specs.declared.answers.Change.{Change}
 use Rattle.edit_base.specs.declared.answers.Change.TheVariants.{Zip}
 use Rattle.edit_base.specs.declared.Asked.{Asked}
-use Rattle.edit_base.specs.declared.Edit.{Edit}
 use Rattle.edit_base.specs.declared.Edit.TheVariants.{Done, No}
 use Rattle.edit_base.specs.declared.PassKind.TheVariants as kinds
-use Rattle.edit_base.specs.Answers.{answer_to, mesh_after, edited, is_zip_ready, zip_answer}
-use Rattle.edit_base.specs.Edges.{Edge, edge_of, without_faces, with_faces, exact_mid}
+use Rattle.edit_base.specs.Answers.{answer_to, mesh_after, edited, is_zip_ready}
+use Rattle.edit_base.specs.Edges.{Edge, edge_of, without_faces, exact_mid}
 use Rattle.edit_base.specs.Zip.{zip_mesh, two_faces, first_rim, second_rim, turns}
 use Rattle.edit_base.proofs.Changed.{points-with_faces, points-without_faces}
 use Rattle.log_text.specs.declared.LogLine.{LogLine}

@@ -1,5 +1,5 @@
 -- The near ones of a list of edges, by their places in a grid, are all that are near.
-use Rattle.std.proofs.Common.{◌≡◌, ℕ, zero, suc, ◌+◌, ◌*◌, ◌-◌, ◌<◌, ◌≤◌, Bool, true, false, cond, List, [], ◌∷◌, ◌++◌, map, length, drop, nat_lt, Option, Some, None, IsTrue, ℤ, ◌+ℤ◌, ◌≤ℤ◌, unsigned_abs, lit≤, refl, sym, ap, ◌∙◌, subst, arith}
+use Rattle.std.proofs.Common.{◌≡◌, ℕ, zero, suc, ◌+◌, ◌*◌, ◌-◌, ◌≤◌, Bool, true, false, cond, List, [], ◌∷◌, ◌++◌, map, length, drop, nat_lt, Option, Some, None, IsTrue, ℤ, ◌+ℤ◌, ◌≤ℤ◌, unsigned_abs, lit≤, refl, sym, ap, ◌∙◌, subst, arith}
 use Rattle.std.specs.Prelude.{slice_get}
 use Rattle.std.specs.List.{filter, flat_map, AllByRecursion}
 use Rattle.std.specs.Ordering.{nat_cmp}
@@ -21,7 +21,6 @@ use Rattle.mesh_base.specs.Placements.{own_points, position_or_origin}
 use Rattle.mesh_base.proofs.ListedPairs.{all_weaker}
 use Rattle.edit_base.specs.declared.Asked.{Asked}
 use Rattle.edit_base.specs.Edges.{exact_mid}
-use Rattle.pair_scan.specs.Boxes.{AreBoxes}
 use Rattle.pair_scan.specs.Scan.{one_or_none}
 use Rattle.pair_scan.proofs.Faces.{found_entries}
 use Rattle.pair_scan.proofs.Numbered.{numbers, keys_are_numbers, same_some}

@@ -54,7 +54,7 @@ module _ (meets : Positions → Bool) (due : Mesh → Asked → Bool) (depth : �
 pub pass_is : (meets : Positions → Bool) (m : Mesh) (kind : PassKind) (depth : ℕ) (grouped : Bool) → AreOfPass (pass_lines meets m kind depth grouped)
 pass_is meets m kind depth grouped = (tt, lines_are meets (due_in kind) depth grouped m (candidates m kind))
 
-line_replays : (r : Replay) (line : LogLine) → IsOfPass line → replayed r line ≡ record r { mesh = mesh_by r.mesh line }
+pub line_replays : (r : Replay) (line : LogLine) → IsOfPass line → replayed r line ≡ record r { mesh = mesh_by r.mesh line }
 line_replays r (Pass kind) h = refl
 line_replays r (Did change) h = refl
 line_replays r (No what why) h = refl
@@ -66,6 +66,6 @@ lines_replay r [] h = refl
 lines_replay r (line ∷ lines) h = ap (λ s. after s lines) (line_replays r line h.0) ∙ lines_replay (record r { mesh = mesh_by r.mesh line }) lines h.1
 
 -- the replay of a pass over its mesh
-pub pass_replays : (meets : Positions → Bool) (r : Replay) (kind : PassKind) (depth : ℕ) (grouped : Bool) → after r (pass_lines meets r.mesh kind depth grouped) ≡ record r { mesh = mesh_after_pass meets r.mesh kind depth grouped }
-pass_replays meets r kind depth grouped =
+pub replay_of_pass : (meets : Positions → Bool) (r : Replay) (kind : PassKind) (depth : ℕ) (grouped : Bool) → after r (pass_lines meets r.mesh kind depth grouped) ≡ record r { mesh = mesh_after_pass meets r.mesh kind depth grouped }
+replay_of_pass meets r kind depth grouped =
     lines_replay r (pass_lines meets r.mesh kind depth grouped) (pass_is meets r.mesh kind depth grouped) ∙ ap (λ m. record r { mesh = m }) (pass_makes meets kind depth grouped r.mesh)

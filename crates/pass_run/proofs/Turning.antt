@@ -1,5 +1,5 @@
 -- What is asked at its turn, and what is left.
-use Rattle.std.proofs.Common.{suc, Bool, true, false, cond, ◌≡◌, ℕ, ◌+◌, ◌<◌, ◌≤◌, List, [], ◌∷◌, ◌++◌, Some, None, Result, Ok, Err, refl, ap, sym, ◌∙◌, subst, length, drop, get_or, add-one, append_assoc, append-nil}
+use Rattle.std.proofs.Common.{suc, Bool, true, false, cond, ◌≡◌, ℕ, ◌+◌, ◌<◌, ◌≤◌, List, [], ◌∷◌, ◌++◌, Some, None, Result, Ok, Err, refl, ap, sym, ◌∙◌, length, drop, get_or, add-one, append_assoc, append-nil}
 use Rattle.std.proofs.Math.Seq.{drop-cons}
 use Rattle.std.proofs.Math.ListN.{drop_of_length-le}
 use Rattle.std.specs.declared.option.Option.{Option}
@@ -10,7 +10,7 @@ use Rattle.edit_base.specs.declared.Edit.{Edit}
 use Rattle.edit_base.specs.declared.Edit.TheVariants.{Done, No}
 use Rattle.edit_base.specs.declared.PassKind.{PassKind}
 use Rattle.edit_base.specs.Answers.{answer_to, mesh_after}
-use Rattle.log_text.specs.Lines.{text_of_line, text_of_lines}
+use Rattle.log_text.specs.Lines.{text_of_line}
 use Rattle.log_text.specs.declared.LogLine.{LogLine}
 use Rattle.log_text.specs.declared.LogLine.TheVariants.{Pass}
 use Rattle.outside_io.specs.Sink.{appended, AppendsPart}

@@ -1,5 +1,5 @@
 -- What a pass that is made and said is.
-use Rattle.std.proofs.Common.{◌≡◌, ℕ, List, Option, Some, None, Result, Ok, Err, refl, sym, ap, ◌∙◌, inr}
+use Rattle.std.proofs.Common.{◌≡◌, ℕ, false, List, Option, Some, None, Result, Ok, Err, refl, sym, ap, ◌∙◌, inr}
 use Rattle.grid_decided.specs.Decided.{meets_exactly}
 use Rattle.mesh_base.specs.declared.UseWhy.{UseWhy}
 use Rattle.mesh_base.specs.Mesh.{Mesh}
@@ -21,19 +21,19 @@ use Rattle.track_run.proofs.NoFiles.{files_of-none, logs_from_said, stops_from_s
 use Rattle.track_run.proofs.Passing.{pass_replays, pass_names_none}
 
 module _ (kind : PassKind) (s : State) where
-  pub pass_in_part : (t : State) (stop : Stop) (to : Mesh) (old new : Option (List ℕ)) → SaidInPart s.mesh to old new (pass_lines meets_exactly s.mesh kind s.set.depth) → PassTakes kind s t old new (Err stop)
+  pub pass_in_part : (t : State) (stop : Stop) (to : Mesh) (old new : Option (List ℕ)) → SaidInPart s.mesh to old new (pass_lines meets_exactly s.mesh kind s.set.depth false) → PassTakes kind s t old new (Err stop)
   unfolding passed_lines
   pass_in_part t stop to old new said = said.text
 
-  pub pass_said : (t : State) (stop : Stop) (old new : Option (List ℕ)) → new ≡ appended old (text_of_lines (pass_lines meets_exactly s.mesh kind s.set.depth)) → PassTakes kind s t old new (Err stop)
+  pub pass_said : (t : State) (stop : Stop) (old new : Option (List ℕ)) → new ≡ appended old (text_of_lines (pass_lines meets_exactly s.mesh kind s.set.depth false)) → PassTakes kind s t old new (Err stop)
   unfolding passed_lines
-  pass_said t stop old new said = written_whole old new (pass_lines meets_exactly s.mesh kind s.set.depth) said
+  pass_said t stop old new said = written_whole old new (pass_lines meets_exactly s.mesh kind s.set.depth false) said
 
-  pub pass_taken : (m : Mesh) (asked : Shifts) (old new : Option (List ℕ)) → m ≡ mesh_after_pass meets_exactly s.mesh kind s.set.depth → asked ≡ asked_in m s.asked → new ≡ appended old (text_of_lines (pass_lines meets_exactly s.mesh kind s.set.depth))
+  pub pass_taken : (m : Mesh) (asked : Shifts) (old new : Option (List ℕ)) → m ≡ mesh_after_pass meets_exactly s.mesh kind s.set.depth false → asked ≡ asked_in m s.asked → new ≡ appended old (text_of_lines (pass_lines meets_exactly s.mesh kind s.set.depth false))
       → PassTakes kind s (record { mesh = m; asked = asked; set = s.set; steps = s.steps; saved = s.saved }) old new (Ok None)
   unfolding passed_lines passed_mesh
   pass_taken m asked old new is rest said =
-      let asks : asked ≡ asked_in (mesh_after_pass meets_exactly s.mesh kind s.set.depth) s.asked = rest ∙ ap (λ n. asked_in n s.asked) is in
+      let asks : asked ≡ asked_in (mesh_after_pass meets_exactly s.mesh kind s.set.depth false) s.asked = rest ∙ ap (λ n. asked_in n s.asked) is in
       (λ i. record { mesh = is i; asked = asks i; set = s.set; steps = s.steps; saved = s.saved }, said)
 
 -- a pass, as a turn

@@ -1,5 +1,5 @@
 -- What each directive does, and the log of all of them.
-use Rattle.std.specs.Prelude.{ℕ, ◌+◌, ◌==◌, Bool, not, List, [], ◌∷◌, ◌++◌, map, Option, Some, None, Result, Ok, Err, if◌then◌else◌}
+use Rattle.std.specs.Prelude.{ℕ, ◌+◌, ◌==◌, Bool, false, not, List, [], ◌∷◌, ◌++◌, map, Option, Some, None, Result, Ok, Err, if◌then◌else◌}
 use Rattle.std.specs.Option.{option_map}
 use Rattle.std.specs.List.{find, filter}
 use Rattle.std.specs.FinMap as finite
@@ -119,11 +119,11 @@ after_step s = record { mesh = moved_mesh s.mesh (taken s).taken; asked = all_st
 
 -- the lines of a pass over the mesh
 unfoldable pub passed_lines : PassKind → State → List LogLine
-passed_lines kind s = pass_lines meets_exactly s.mesh kind s.set.depth
+passed_lines kind s = pass_lines meets_exactly s.mesh kind s.set.depth false
 
 -- the mesh that it leaves
 unfoldable pub passed_mesh : PassKind → State → Mesh
-passed_mesh kind s = mesh_after_pass meets_exactly s.mesh kind s.set.depth
+passed_mesh kind s = mesh_after_pass meets_exactly s.mesh kind s.set.depth false
 
 -- a vertex that is kept keeps what is asked of it, a new one is asked nothing
 abbrev pub after_pass : PassKind → State → State

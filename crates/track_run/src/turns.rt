@@ -94,7 +94,7 @@ fn take_pass<S: Surface, K: Sink>(
     ensures cause { IsErrOf result Stop.SinkFault → Rose (K.faults out.old) (K.faults out.new) }
     ensures desk { IsErrOf result Stop.DeskFault → ⊥ }
 {
-    match pass(alloc, mesh, kind, course.set.depth, out) {
+    match pass(alloc, mesh, kind, course.set.depth, false, out) {
         Ok(_count) => {}
         Err(PassFault::NoMemory) => return Err(Stop::NoMemory),
         Err(PassFault::SinkFault) => return Err(Stop::SinkFault),

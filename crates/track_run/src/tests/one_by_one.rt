@@ -77,6 +77,7 @@ fn a_pass_over_many_edges_is_their_splits(rt: HostRuntime) -> Result<(), Fail> {
         &mut passed,
         PassKind::Split { over: 50 },
         6,
+        false,
         &mut out,
     );
     assert!(rt; count.is_ok_and(|c| c.done == 48 && c.refused == 0));

@@ -1,4 +1,4 @@
-use Rattle.std.proofs.Common.{◌≡◌, ℕ, ◌*◌, ◌≤◌, ◌&&◌, ℤ, ◌-ℤ◌, unsigned_abs, nat_le, min, true, Bool, sym, subst, arith}
+use Rattle.std.proofs.Common.{◌≡◌, ℕ, ◌*◌, ◌≤◌, ◌&&◌, ℤ, ◌-ℤ◌, unsigned_abs, nat_le, min, true, sym, subst, arith}
 use Rattle.std.proofs.lemmas.Int.{ints}
 use Rattle.std.proofs.lemmas.Bool.{leb-true}
 use Rattle.grid_base.specs.declared.TheConstants.{HALF_MAX, EXTENT_MAX}

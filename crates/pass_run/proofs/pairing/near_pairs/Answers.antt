@@ -1,4 +1,4 @@
-use Rattle.std.proofs.Common.{◌≡◌, ℕ, ◌*◌, ◌++◌, ◌∙◌, List, IsTrue, subst, ap}
+use Rattle.std.proofs.Common.{◌*◌, ◌++◌, ◌∙◌, List, IsTrue, subst, ap}
 use Rattle.std.specs.List.{flat_map}
 use Rattle.grid_base.specs.declared.TheConstants.{HALF_MAX}
 use Rattle.grid_base.specs.Extents.{IsIn}

@@ -1,9 +1,8 @@
-use Rattle.std.proofs.Common.{◌≡◌, ◌≤◌, ◌+◌, ◌*◌, ◌^◌, ℕ, List, [], length, drop, refl, ap, sym, ◌∙◌, arith, rules}
+use Rattle.std.proofs.Common.{◌≡◌, ◌+◌, List, [], length, drop, refl, ap, sym, ◌∙◌, arith, rules}
 use Rattle.std.proofs.lemmas.Result.{err_from_is_err_and}
 use Rattle.grid_decided.specs.Decided.{meets_exactly}
 use Rattle.mesh_base.specs.Mesh.{Mesh}
 use Rattle.mesh_base.proofs.MarksHold.{begins_itself, begins_along}
-use Rattle.edit_base.specs.declared.Asked.{Asked}
 use Rattle.edit_base.specs.declared.PassKind.TheVariants.{Zip}
 use Rattle.log_text.specs.declared.LogLine.{LogLine}
 use Rattle.pass_run.specs.Candidates.{candidates, due_in, zip_of}

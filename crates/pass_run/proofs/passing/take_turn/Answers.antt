@@ -6,7 +6,7 @@ use Rattle.pass_run.specs.Candidates.{due_in}
 use Rattle.pass_run.specs.PassLines.{lines_of, mesh_by_lines}
 use Rattle.pass_run.specs.Said.{SaidInPart}
 use Rattle.pass_run.proofs.SaidLines.{said_nothing, said_part}
-use Rattle.pass_run.proofs.Turning.{turn_makes, one_due, none_due}
+use Rattle.pass_run.proofs.Turning.{turn_makes, one_due}
 use Rattle.pass_run.proofs.passing.take_turn.Goals as goal
 
 pub returns-in_err-say-in-Ok-Some-clause-said : goal.returns-in_err-say-in-Ok-Some-clause-said
