@@ -68,12 +68,12 @@ copied_in_turn m v mesh n (d ∷ ds) (p ∷ ps) h room =
         faces = remade_in_turn m v w (with_vertex n p) d ds made b (omega (arith, e));
       },
       copied_in_turn m v mesh (with_copy v n (d, p)) ds ps fan.2
-      (record {
-        vertices = omega (arith, a, points, more);
-        faces = omega (arith, b, same);
-        vertex_ids = omega (arith, c, ids);
-        face_ids = omega (arith, e, next);
-      }),
+          (record {
+            vertices = omega (arith, a, points, more);
+            faces = omega (arith, b, same);
+            vertex_ids = omega (arith, c, ids);
+            face_ids = omega (arith, e, next);
+          }),
     )
 
 -- ---- the limits
