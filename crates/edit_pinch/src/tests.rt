@@ -108,6 +108,10 @@ const THREE_MADE: [(u32, [u32; 3]); 8] = [
     (18, [12, 7, 5]),
 ];
 
+fn place(p: [i32; 3]) -> Option<Point> {
+    Point::new(p[0], p[1], p[2])
+}
+
 fn mesh_at(
     alloc: Global,
     points: &[[i32; 3]],
@@ -122,7 +126,9 @@ fn mesh_at(
         faces: Triangles::new(alloc),
     };
     for p in points {
-        lists.points.push(Point::new(p[0], p[1], p[2]).expect(rt, "a point in the box"))?;
+        lists
+            .points
+            .push(place(*p).expect(rt, "a point in the box"))?;
     }
     for f in faces {
         lists.faces.push(*f)?;
@@ -140,19 +146,15 @@ fn is_pinched(edit: &Edit, stands: &[(u32, [i32; 3])]) -> bool {
     let Edit::Done(Change::Pinch { v, at, copies }) = edit else {
         return false;
     };
-    if *v != VertexId(1) || copies.len() + 1 != stands.len() {
+    let [first, others @ ..] = stands else {
+        return false;
+    };
+    if *v != VertexId(1) || Some(*at) != place(first.1) || copies.len() != others.len() {
         return false;
     }
-    for (i, (w, p)) in stands.iter().enumerate() {
-        let there = Point::new(p[0], p[1], p[2]);
-        if i == 0 {
-            if Some(*at) != there {
-                return false;
-            }
-        } else if let Some(copy) = copies.get(i - 1) {
-            if copy.w != VertexId(*w) || Some(copy.at) != there {
-                return false;
-            }
+    for (copy, (w, p)) in copies.as_slice().iter().zip(others) {
+        if copy.w != VertexId(*w) || Some(copy.at) != place(*p) {
+            return false;
         }
     }
     true
@@ -168,7 +170,7 @@ fn reason(edit: &Edit) -> Option<Why> {
 // Whether the vertices stand there, and the faces have the corners.
 fn has_parts<S: Surface>(mesh: &S, stands: &[(u32, [i32; 3])], faces: &[(u32, [u32; 3])]) -> bool {
     for (w, p) in stands {
-        if mesh.point(VertexId(*w)) != Point::new(p[0], p[1], p[2]) {
+        if mesh.point(VertexId(*w)) != place(*p) {
             return false;
         }
     }

@@ -1,6 +1,4 @@
-use Rattle.std.proofs.Common.{◌≡◌, ◌+◌, ◌++◌, map, arith}
-use Rattle.std.specs.List.{enumerate_from}
-use Rattle.edit_base.specs.Pinch.{fan_point}
+use Rattle.std.proofs.Common.{◌≡◌, ◌+◌, arith}
 use Rattle.edit_pinch.proofs.CopiesMade.{one_listed}
 use Rattle.edit_pinch.proofs.shifting.copies_for.Goals as goal
 
