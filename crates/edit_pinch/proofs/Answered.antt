@@ -1,12 +1,11 @@
 -- What a pinch answers where its reasons are known.
-use Rattle.std.proofs.Common.{◌≡◌, ℕ, ◌-◌, ◌≤◌, Bool, true, false, nat_lt, List, [], ◌∷◌, length, take, drop, get_or, slice_index_or, Option, Some, None, is_some, sym, ap, subst, refl, ◌∙◌, arith}
-use Rattle.std.proofs.lemmas.Bool.Decides.{nat_tests}
+use Rattle.std.proofs.Common.{◌≡◌, ℕ, ◌-◌, ◌≤◌, Bool, true, false, nat_lt, List, [], ◌∷◌, length, take, drop, get_or, Option, None, is_some, sym, ap, refl, ◌∙◌, arith}
 use Rattle.std.proofs.lemmas.List.{take_all}
 use Rattle.std.specs.Option.{option_map}
 use Rattle.std.specs.List.{AllByRecursion}
 use Rattle.grid_decided.specs.Decided.{meets_exactly}
 use Rattle.mesh_base.specs.declared.ids.PairName.{PairName}
-use Rattle.mesh_base.specs.Mesh.{Mesh, IsSound}
+use Rattle.mesh_base.specs.Mesh.{Mesh}
 use Rattle.mesh_base.specs.Sides.{IsClosed}
 use Rattle.mesh_base.specs.Limits.{is_over_limits}
 use Rattle.mesh_base.proofs.ListedPairs.{all_weaker}
@@ -23,7 +22,6 @@ use Rattle.edit_base.specs.Pinch.{fans, fan_point, first_point, later_copies, co
 use Rattle.edit_pinch.proofs.CopiesMade.{listed_from}
 use Rattle.edit_base.specs.Answers.{first_reason, done_unless, pinch_answer}
 use Rattle.edit_base.proofs.FanBalance.{IsFan, fans_are_fans}
-use Rattle.edit_base.proofs.CopyClosed.{all_later}
 use Rattle.edit_pinch.specs.Rims.{AreLiveFaces}
 use Rattle.edit_pinch.specs.Tried.{MayBeTried}
 use Rattle.edit_pinch.proofs.Room.{not_over}
@@ -44,9 +42,6 @@ module _ (m : Mesh) (v depth : ℕ) where
 
   pub full_is_refused : nat_lt (length (fans m v)) 2 ≡ false → is_over_limits (pinch_scaffold m v).mesh ≡ true → No Full ≡ pinch_answer meets_exactly m v depth
   full_is_refused two over = sym (λ i. answer_by (two i) (over i) found done)
-
-  pub hit_is_refused : MayBeTried m v → (p : PairName) → Some p ≡ found → No (Hit p) ≡ pinch_answer meets_exactly m v depth
-  hit_is_refused tried p e = sym (λ i. answer_by (tried.two_fans i) (tried.fits i) (sym e i) done)
 
   pub no_hit_is_done : MayBeTried m v → None ≡ found → Done done ≡ pinch_answer meets_exactly m v depth
   no_hit_is_done tried e = sym (λ i. answer_by (tried.two_fans i) (tried.fits i) (sym e i) done)

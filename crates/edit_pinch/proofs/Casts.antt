@@ -1,5 +1,5 @@
 -- Numbers that fit their type are read as they were written.
-use Rattle.std.proofs.Common.{◌≡◌, ◌≤◌, ◌<◌, ◌^◌, ◌+◌, ◌*◌, ◌+ℤ◌, ◌-ℤ◌, ◌∙◌, ap, sym, subst, ℕ, ℤ, pos, int_div, unsigned_abs, to_z, of_z, lit<, arith}
+use Rattle.std.proofs.Common.{◌≡◌, ◌≤◌, ◌^◌, ◌+◌, ◌*◌, ◌+ℤ◌, ◌-ℤ◌, ◌∙◌, ap, sym, subst, ℕ, ℤ, pos, int_div, unsigned_abs, to_z, of_z, arith}
 use Rattle.std.specs.Int.{w32, w128}
 use Rattle.std.proofs.lemmas.Int.{to_z-of_z, fits_signed_from_abs}
 use Rattle.grid_base.specs.declared.TheConstants.{BOX}

@@ -1,5 +1,5 @@
 -- A vertex has no more fans than the mesh has faces.
-use Rattle.std.proofs.Common.{◌≡◌, ℕ, ◌+◌, ◌≤◌, ◌==◌, Bool, not, refl, List, length, map, slice_index, sym, ◌∙◌, arith}
+use Rattle.std.proofs.Common.{ℕ, ◌≤◌, ◌==◌, Bool, not, refl, length, slice_index, arith}
 use Rattle.std.proofs.lemmas.List.{length-map}
 use Rattle.std.proofs.lemmas.List.Filters.{length-filter_both}
 use Rattle.std.specs.List.{filter}

@@ -1,5 +1,5 @@
 -- The vertices of a fan, as they are found face by face, are those of the definition, each once: sums over them are the same.
-use Rattle.std.proofs.Common.{◌≡◌, ◌⊎◌, ℕ, zero, suc, ◌+◌, ◌<◌, Bool, true, false, cond, T, not, ◌||◌, ◌&&◌, ◌==◌, nat_lt, List, [], ◌∷◌, ◌++◌, map, length, ⊎_elim, inl, inr, refl, sym, ap, subst, ◌∙◌, arith}
+use Rattle.std.proofs.Common.{◌≡◌, ◌⊎◌, ℕ, ◌+◌, Bool, true, false, cond, T, not, ◌||◌, ◌&&◌, ◌==◌, nat_lt, List, [], ◌∷◌, ◌++◌, map, length, ⊎_elim, inl, inr, refl, sym, ap, subst, ◌∙◌, arith}
 use Rattle.std.proofs.lemmas.Bool.{false≢true, eqb-true}
 use Rattle.std.proofs.lemmas.Bool.Decides.{nat_tests}
 use Rattle.std.proofs.lemmas.Int.{ints}
@@ -8,24 +8,24 @@ use Rattle.std.specs.List.{filter, fold, list_any}
 use Rattle.std.specs.FinMap as finite
 use Rattle.std.specs.FinMap.{entries_sorted}
 use Rattle.std.specs.FinMap.Entries.{is_sorted, below_all}
-use Rattle.grid_base.specs.Triples.{Triple, plus, minus}
+use Rattle.grid_base.specs.Triples.{Triple}
 use Rattle.grid_base.proofs.MeetingLaws.{same_triple}
 use Rattle.mesh_base.specs.declared.ids.Corners.{Corners}
-use Rattle.mesh_base.specs.Mesh.{Mesh, IsSound, IsLiveVertex, IsLiveFace, HasCorners, AreLive}
+use Rattle.mesh_base.specs.Mesh.{Mesh, IsSound, IsLiveVertex, HasCorners, AreLive}
 use Rattle.mesh_base.specs.Sides.{has_corner}
 use Rattle.mesh_base.specs.Changes.{corner_list}
-use Rattle.mesh_base.specs.Placements.{own_points, origin}
+use Rattle.mesh_base.specs.Placements.{origin}
 use Rattle.mesh_base.proofs.WalkSteps.{both_of, less_true}
 use Rattle.mesh_base.proofs.Listed.{at_live}
 use Rattle.mesh_base.proofs.Tests.{or_first, or_second, or_either, and_first, and_second, and_both}
 use Rattle.edit_base.specs.Classes.{is_one_of}
 use Rattle.edit_base.specs.Edges.{corners_at}
 use Rattle.edit_base.specs.Pinch.{rim}
-use Rattle.edit_base.proofs.Chains.{Has, equal_itself, each_is_one, any_found, any_of, passed, passes}
+use Rattle.edit_base.proofs.Chains.{Has, equal_itself, each_is_one, any_found, passed, passes}
 use Rattle.edit_base.proofs.FanBalance.{listed_corner, corner_listed}
 use Rattle.edit_base.proofs.FansApart.{Differ, differ-filter}
 use Rattle.edit_pinch.specs.Rims.{with_other, with_corners, found_rim, with_way, ways}
-use Rattle.edit_pinch.proofs.Growing.{had_first, had_second, had_either, test_of, not_false, not_true}
+use Rattle.edit_pinch.proofs.Growing.{had_first, had_second, had_either, not_false, not_true}
 
 -- ---- lists of the same numbers, none twice
 abbrev other_than : ℕ → ℕ → Bool

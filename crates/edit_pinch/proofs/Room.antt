@@ -1,8 +1,8 @@
 -- Where a pinch passes no limit, each of its changes can be made when its turn comes.
-use Rattle.std.proofs.Common.{◌≡◌, ◌⊎◌, ℕ, suc, ◌+◌, ◌-◌, ◌≤◌, Bool, true, false, cond, ◌||◌, nat_lt, List, [], ◌∷◌, length, map, drop, sum, ⊎_elim, refl, sym, ap, subst, ◌∙◌, arith, is_some}
+use Rattle.std.proofs.Common.{◌≡◌, ℕ, suc, ◌+◌, ◌-◌, ◌≤◌, Bool, true, false, cond, ◌||◌, nat_lt, List, [], ◌∷◌, length, map, drop, sum, ⊎_elim, refl, sym, ap, ◌∙◌, arith, is_some}
 use Rattle.std.proofs.lemmas.Bool.Decides.{nat_tests}
 use Rattle.std.proofs.lemmas.List.Sums.{sum_by-cons}
-use Rattle.std.specs.List.{fold, zip}
+use Rattle.std.specs.List.{zip}
 use Rattle.std.specs.Cmp.{nat_cmp_total}
 use Rattle.std.specs.FinMap as finite
 use Rattle.std.specs.FinMap.{len-insert}
@@ -10,17 +10,17 @@ use Rattle.grid_base.specs.declared.TheConstants.{VERTICES_MAX, FACES_MAX, ID_MA
 use Rattle.grid_base.specs.declared.Point.{Point}
 use Rattle.mesh_base.specs.Mesh.{Mesh, IsMesh, IsSound, IsLiveVertex}
 use Rattle.mesh_base.specs.Sides.{IsClosed}
-use Rattle.mesh_base.specs.Changes.{without_face, with_vertex, with_point, IsFullOfFaces, IsFullOfVertices}
+use Rattle.mesh_base.specs.Changes.{without_face, with_vertex, with_point, IsFullOfFaces}
 use Rattle.mesh_base.specs.Limits.{is_over_limits}
-use Rattle.edit_base.specs.Edges.{corners_at, renamed, with_renamed, with_all_renamed}
+use Rattle.edit_base.specs.Edges.{corners_at, renamed, with_renamed}
 use Rattle.edit_base.specs.Required.{are_over}
 use Rattle.edit_base.specs.Pinch.{fans, with_copy, pinch_scaffold}
 use Rattle.edit_base.proofs.Counting.{len-insert_le, len-without}
 use Rattle.edit_base.proofs.CopyClosed.{next_vertex-renamed, points-renamed}
 use Rattle.edit_base.proofs.PinchSteps.{IsBeforeFan, IsInFan, first_fan, copy_made, next_fresh, next_made}
-use Rattle.edit_base.proofs.PinchRoom.{len-fan, faces_in, pinch_is_over, scaffold_over}
+use Rattle.edit_base.proofs.PinchRoom.{len-fan, faces_in, scaffold_over}
 use Rattle.edit_base.proofs.ReasonLaws.{first_false, second_false}
-use Rattle.edit_pinch.specs.InTurn.{MayBeRemade, RemadeInTurn, MayBeCopied, CopiedInTurn}
+use Rattle.edit_pinch.specs.InTurn.{RemadeInTurn, CopiedInTurn}
 
 -- ---- the faces of a fan
 len-remade : (v w : ℕ) (n : Mesh) (f : ℕ) → finite.len (without_face n f).faces + 1 ≡ finite.len n.faces → finite.len n.faces ≤ FACES_MAX → finite.len (with_renamed v w n f).faces ≤ FACES_MAX
@@ -68,12 +68,12 @@ copied_in_turn m v mesh n (d ∷ ds) (p ∷ ps) h room =
         faces = remade_in_turn m v w (with_vertex n p) d ds made b (omega (arith, e));
       },
       copied_in_turn m v mesh (with_copy v n (d, p)) ds ps fan.2
-      (record {
-        vertices = omega (arith, a, points, more);
-        faces = omega (arith, b, same);
-        vertex_ids = omega (arith, c, ids);
-        face_ids = omega (arith, e, next);
-      }),
+          (record {
+            vertices = omega (arith, a, points, more);
+            faces = omega (arith, b, same);
+            vertex_ids = omega (arith, c, ids);
+            face_ids = omega (arith, e, next);
+          }),
     )
 
 -- ---- the limits

@@ -1,9 +1,9 @@
 -- What is put and checked is the scaffold of the pinch.
-use Rattle.std.proofs.Common.{◌≡◌, ℕ, ◌+◌, ◌*◌, ◌≤◌, List, [], ◌∷◌, length, map, drop, pos, unsigned_abs, sym, ap, subst, refl, ◌∙◌, arith}
+use Rattle.std.proofs.Common.{◌≡◌, ℕ, ◌+◌, List, [], ◌∷◌, length, map, drop, pos, sym, ap, subst, refl, ◌∙◌, arith}
 use Rattle.std.proofs.lemmas.Int.{unsigned_abs-mul}
 use Rattle.std.proofs.lemmas.List.Elements.{All-from_recursion}
 use Rattle.std.specs.List.{fold, zip, All, AllByRecursion}
-use Rattle.grid_base.specs.declared.TheConstants.{BOX, HALF_MAX}
+use Rattle.grid_base.specs.declared.TheConstants.{HALF_MAX}
 use Rattle.grid_base.specs.declared.Point.{Point}
 use Rattle.grid_base.specs.Points.{position_of}
 use Rattle.grid_base.specs.Triples.{Triple, IsWithin, times}

@@ -8,3 +8,6 @@ mod shifting;
 
 pub use fans::fan_count;
 pub use pinching::pinch;
+
+#[cfg(test)]
+mod tests;

@@ -49,11 +49,7 @@ fn moves_of(
 }
 
 /// A vertex and its copies.
-fn together_of(
-    alloc: Global,
-    v: VertexId,
-    copies: &[CopyAt],
-) -> Result<Items<VertexId>, NoMemory>
+fn together_of(alloc: Global, v: VertexId, copies: &[CopyAt]) -> Result<Items<VertexId>, NoMemory>
     ensures { IfOk result (λ together. together ≡ vertex_and_copies v copies.now) }
 {
     let mut together = Items::new(alloc);

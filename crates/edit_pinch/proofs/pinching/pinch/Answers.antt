@@ -1,10 +1,7 @@
-use Rattle.std.proofs.Common.{◌≡◌, ◌≤◌, false, length, drop, nat_lt, sym, ap, subst, ◌∙◌, arith}
-use Rattle.std.specs.Prelude.{IfOk}
+use Rattle.std.proofs.Common.{drop, sym, ap, subst, ◌∙◌}
 use Rattle.grid_decided.specs.Decided.{meets_exactly, meets_exactly-is_exact}
-use Rattle.mesh_base.specs.Mesh.{Mesh}
 use Rattle.mesh_base.specs.Sides.{IsClosed}
 use Rattle.mesh_base.specs.Placements.{IsClearMesh}
-use Rattle.edit_base.specs.Pinch.{fans}
 use Rattle.edit_base.specs.Answers.{pinch_answer}
 use Rattle.edit_base.specs.Laws.{Answer}
 use Rattle.edit_base.proofs.Left.{left_is_closed, left_is_clear, motion_was_clear}

@@ -1,7 +1,6 @@
-use Rattle.std.proofs.Common.{◌≡◌, ◌≤◌, ◌+◌, ◌-◌, [], Some, None, length, take, drop, get_or, sym, ap, subst, ◌∙◌, arith}
+use Rattle.std.proofs.Common.{length, drop, get_or, sym, ap, subst, ◌∙◌, arith}
 use Rattle.std.specs.Prelude.{Ok}
 use Rattle.std.specs.List.{AllByRecursion}
-use Rattle.grid_base.specs.declared.TheConstants.{ID_MAX}
 use Rattle.edit_base.specs.Pinch.{fans, first_point, pinch_scaffold}
 use Rattle.edit_base.proofs.CopyClosed.{all_later}
 use Rattle.edit_base.proofs.PinchDone.{pinched_live}

@@ -1,6 +1,4 @@
-use Rattle.std.proofs.Common.{◌≡◌, ◌+◌, ◌++◌, map, arith}
-use Rattle.std.specs.List.{enumerate_from}
-use Rattle.edit_base.specs.Pinch.{fan_point}
+use Rattle.std.proofs.Common.{◌≡◌, ◌+◌, arith}
 use Rattle.edit_pinch.proofs.CopiesMade.{one_listed}
 use Rattle.edit_pinch.proofs.shifting.copies_for.Goals as goal
 
@@ -10,5 +8,5 @@ loop-fan-preserved g c =
     let count : c.loop-fan.w ≡ m.next_vertex + c.loop-fan.fan-index = c.loop-fan.invariant.0 in (
       (omega (arith, count)),
       one_listed m c.args.v c.args.fans.now c.loop-fan.fan-index c.loop-fan.w c.loop-fan.made c.push.new.self _ c.fan-item.result c.as_slice.result.now c.in_ok-at.at
-      c.loop-fan-test.true c.fan-item.is c.as_slice.ensures c.in_ok-at.ensures c.in_ok-push.ensures.ok c.loop-fan.invariant.1,
+          c.loop-fan-test.true c.fan-item.is c.as_slice.ensures c.in_ok-at.ensures c.in_ok-push.ensures.ok c.loop-fan.invariant.1,
     )

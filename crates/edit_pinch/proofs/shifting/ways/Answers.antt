@@ -1,7 +1,7 @@
-use Rattle.std.proofs.Common.{◌≡◌, ◌≤◌, ◌<◌, ◌+◌, ◌*◌, ◌^◌, ◌∷◌, length, drop, get_or, unsigned_abs, refl, sym, ap, ◌∙◌, arith}
+use Rattle.std.proofs.Common.{◌≡◌, ◌≤◌, ◌<◌, ◌+◌, ◌^◌, ◌∷◌, length, drop, refl, sym, ap, ◌∙◌, arith}
 use Rattle.std.specs.List.{fold}
 use Rattle.grid_base.specs.Points.{position_of}
-use Rattle.grid_base.specs.Triples.{Triple, IsWithin, plus, minus}
+use Rattle.grid_base.specs.Triples.{plus, minus}
 use Rattle.pair_scan.proofs.Lists.{rest_at, ended}
 use Rattle.edit_base.proofs.PointOf.{position_of-point_of}
 use Rattle.edit_pinch.specs.Rims.{with_way}

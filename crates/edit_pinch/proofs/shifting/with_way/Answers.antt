@@ -1,6 +1,3 @@
-use Rattle.std.proofs.Common.{◌≡◌, ◌≤◌, ◌^◌, ◌+ℤ◌, ◌-ℤ◌, ℤ, unsigned_abs, to_z, of_z, arith, ◌∙◌, ap, subst}
-use Rattle.std.specs.Int.{w32, w128}
-use Rattle.grid_base.specs.declared.TheConstants.{BOX}
 use Rattle.grid_base.proofs.MeetingLaws.{same_triple}
 use Rattle.edit_pinch.proofs.Casts.{added_held}
 use Rattle.edit_pinch.proofs.shifting.with_way.Goals as goal
