@@ -11,7 +11,7 @@ import tempfile
 
 from job import build, most_memory, put_mesh, run
 
-SIDE, GAP, DEEP = 100, 1000, 900
+SIDE, GAP, DENT = 100, 40, 10
 
 
 def plate(n, low, high, dent):
@@ -42,14 +42,14 @@ def main():
     build()
     for n in (50, 100):
         points, faces = plate(n, -200, 0, 0)
-        above, more = plate(n, GAP, GAP + 200, DEEP)
+        above, more = plate(n, GAP, GAP + 200, DENT)
         base = len(points)
         points = points + above
         faces = faces + [tuple(base + v for v in f) for f in more]
         with tempfile.TemporaryDirectory() as folder:
             put_mesh(folder, points, faces)
             alone = run(folder, [])[1]
-            for within in (90, 110):
+            for within in (29, 31):
                 status, whole, lines = run(folder, ["zip %d\n" % within])
                 done = sum(line.startswith(b"zip ") for line in lines)
                 refused = sum(line.startswith(b"no zip ") for line in lines)
