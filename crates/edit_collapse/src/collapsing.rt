@@ -144,7 +144,8 @@ fn collapse_ordered<S: Surface>(
         return Ok(Edit::No(Why::NoEdge));
     }
     let left = left_at(alloc, mesh, a, b)?;
-    if is_doubled(&left) {
+    let doubled = is_doubled(&left);
+    if doubled {
         Ok(Edit::No(Why::Doubled))
     } else if is_over(alloc, mesh, a, b)? {
         Ok(Edit::No(Why::Full))

@@ -24,15 +24,15 @@ collapse_or_leave-requires-clause-apart g c =
     let edge : is_edge m c.args.a c.args.b ≡ true = sym c.is_edge.ensures ∙ c.if-not-is_edge.false in
     are_apart m c.args.a c.args.b (g.met.S.Surface.sound c.args.mesh.now) c.requires.closed c.requires.ordered edge
 
-pub returns-then-is_doubled-clause-answer : goal.returns-then-is_doubled-clause-answer
-returns-then-is_doubled-clause-answer g c =
+pub returns-then-doubled-clause-answer : goal.returns-then-doubled-clause-answer
+returns-then-doubled-clause-answer g c =
     let m = g.S.Surface.mesh c.args.mesh.now in
     let a = c.args.a in
     let b = c.args.b in
     let sound = g.met.S.Surface.sound c.args.mesh.now in
     let edge : is_edge m a b ≡ true = sym c.is_edge.ensures ∙ c.if-not-is_edge.false in
     let apart : a ≢ b = are_apart m a b sound c.requires.closed c.requires.ordered edge in
-    doubled_is_refused meets_exactly m a b c.args.depth edge (sym (c.is_doubled.ensures m a b sound apart c.in_ok-left.ensures) ∙ c.if-is_doubled.true)
+    doubled_is_refused meets_exactly m a b c.args.depth edge (sym (c.is_doubled-doubled.ensures m a b sound apart c.in_ok-left.ensures) ∙ c.if-doubled.true)
 
 pub returns-then-branch-clause-answer : goal.returns-then-branch-clause-answer
 returns-then-branch-clause-answer g c =
@@ -42,7 +42,7 @@ returns-then-branch-clause-answer g c =
     let sound = g.met.S.Surface.sound c.args.mesh.now in
     let edge : is_edge m a b ≡ true = sym c.is_edge.ensures ∙ c.if-not-is_edge.false in
     let apart : a ≢ b = are_apart m a b sound c.requires.closed c.requires.ordered edge in
-    let undoubled : doubles_a_face (joined_faces m a b) ≡ false = sym (c.is_doubled.ensures m a b sound apart c.in_ok-left.ensures) ∙ c.if-is_doubled.false in
+    let undoubled : doubles_a_face (joined_faces m a b) ≡ false = sym (c.is_doubled-doubled.ensures m a b sound apart c.in_ok-left.ensures) ∙ c.if-doubled.false in
     full_is_refused meets_exactly m a b c.args.depth edge undoubled (sym c.in_ok-is_over.ensures ∙ c.if-branch.true)
 
 pub collapse_or_leave-requires-clause-tried : goal.collapse_or_leave-requires-clause-tried
@@ -53,5 +53,5 @@ collapse_or_leave-requires-clause-tried g c =
     let sound = g.met.S.Surface.sound c.args.mesh.now in
     let edge : is_edge m a b ≡ true = sym c.is_edge.ensures ∙ c.if-not-is_edge.false in
     let apart : a ≢ b = are_apart m a b sound c.requires.closed c.requires.ordered edge in
-    let undoubled : doubles_a_face (joined_faces m a b) ≡ false = sym (c.is_doubled.ensures m a b sound apart c.in_ok-left.ensures) ∙ c.if-is_doubled.false in
+    let undoubled : doubles_a_face (joined_faces m a b) ≡ false = sym (c.is_doubled-doubled.ensures m a b sound apart c.in_ok-left.ensures) ∙ c.if-doubled.false in
     may_be_tried meets_exactly m a b c.args.depth edge undoubled (sym c.in_ok-is_over.ensures ∙ c.if-branch.false)
