@@ -1,7 +1,7 @@
 -- Numbers that fit their type are read as they were written.
-use Rattle.std.proofs.Common.{◌≡◌, ◌≤◌, ◌^◌, ◌+◌, ◌*◌, ◌+ℤ◌, ◌-ℤ◌, ◌∙◌, ap, sym, subst, ℕ, ℤ, pos, int_div, unsigned_abs, to_z, of_z, arith}
+use Rattle.std.proofs.Common.{◌≡◌, ◌≤◌, ◌^◌, ◌+◌, ◌*◌, ◌+ℤ◌, ◌-ℤ◌, ◌∙◌, ap, sym, subst, ℕ, ℤ, pos, int_div, unsigned_abs, to_z, of_z, SFits, arith}
 use Rattle.std.specs.Int.{w32, w128}
-use Rattle.std.proofs.lemmas.Int.{to_z-of_z, fits_signed_from_abs}
+use Rattle.std.proofs.lemmas.Int.{ints, to_z-of_z, fits_signed_from_abs}
 use Rattle.grid_base.specs.declared.TheConstants.{BOX}
 
 pub wide_held : (z : ℤ) → unsigned_abs z ≤ 2 ^ 101 → to_z w128 (of_z w128 z) ≡ z
@@ -34,3 +34,15 @@ module _ (here sum : ℤ) (n : ℕ) (near : unsigned_abs here ≤ BOX) (few : un
 
   pub moved_stays : (result : ℤ) → result ≡ to_z w32 (of_z w32 here) +ℤ int_div (to_z w128 (of_z w128 sum)) (pos (8 * n)) → unsigned_abs (to_z w32 (of_z w32 result)) ≤ BOX
   moved_stays result e = subst (λ z. unsigned_abs z ≤ BOX) (sym (moved_held result e)) stays
+
+-- the sum of a coordinate and a part, as it is read and written
+pub sum_held : (here part from eighth : ℤ) → SFits w32 here → from ≡ to_z w32 (of_z w32 here) → eighth ≡ part → unsigned_abs (here +ℤ part) ≤ BOX →
+    to_z w32 (of_z w32 (to_z w128 (of_z w128 (to_z w128 (of_z w128 from) +ℤ to_z w128 (of_z w128 eighth))))) ≡ here +ℤ part
+sum_held here part from eighth fits from_is eighth_is stays =
+    let small : unsigned_abs here ≤ 2 ^ 31 = omega (arith, ints, fits) in
+    let few : unsigned_abs part ≤ 2 ^ 33 = omega (arith, ints, small, stays) in
+    let first = ap (λ z. to_z w128 (of_z w128 z)) (from_is ∙ to_z-of_z w32 here fits) ∙ wide_held here (omega (arith, small)) in
+    let second = ap (λ z. to_z w128 (of_z w128 z)) eighth_is ∙ wide_held part (omega (arith, few)) in
+    (λ i. to_z w32 (of_z w32 (to_z w128 (of_z w128 (first i +ℤ second i)))))
+    ∙ ap (λ z. to_z w32 (of_z w32 z)) (wide_held (here +ℤ part) (omega (arith, stays)))
+    ∙ coordinate_held (here +ℤ part) stays
