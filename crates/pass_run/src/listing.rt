@@ -1,5 +1,8 @@
 //! What a pass asks, in order.
-ghost use Rattle.std.specs.Prelude.{◌≡◌, None, IfOk};
+ghost use Rattle.std.specs.Prelude.{◌≡◌, None, map, IfOk};
+ghost use Rattle.std.specs.FinMap as finite;
+ghost use Rattle.mesh_base.specs.Pairs.{edges};
+ghost use Rattle.edit_base.specs.declared.Asked.TheVariants as asked;
 ghost use Rattle.pass_run.specs.Candidates.{candidates, pairs_within};
 
 use edit_base::{Asked, PassKind};
@@ -18,10 +21,9 @@ pub(crate) fn pairs_within(kind: PassKind) -> Option<u32>
 }
 
 // The splits of all edges.
-fn splits<S: Surface>(alloc: Global, mesh: &S, over: u32) -> Result<Vec<Asked>, NoMemory>
-    ensures { IfOk result (λ asked. asked.items ≡ candidates (S.mesh mesh.now) (PassKind.Split over)) }
+fn splits<S: Surface>(alloc: Global, mesh: &S) -> Result<Vec<Asked>, NoMemory>
+    ensures { IfOk result (λ found. found.items ≡ map (λ e. asked.Split e.0 e.1) (edges (S.mesh mesh.now))) }
 {
-    let _ = over;
     let edges = edges_in_order(alloc, mesh)?;
     let asked = edges
         .as_slice()
@@ -32,10 +34,9 @@ fn splits<S: Surface>(alloc: Global, mesh: &S, over: u32) -> Result<Vec<Asked>, 
 }
 
 // The collapses of all edges.
-fn collapses<S: Surface>(alloc: Global, mesh: &S, under: u32) -> Result<Vec<Asked>, NoMemory>
-    ensures { IfOk result (λ asked. asked.items ≡ candidates (S.mesh mesh.now) (PassKind.Collapse under)) }
+fn collapses<S: Surface>(alloc: Global, mesh: &S) -> Result<Vec<Asked>, NoMemory>
+    ensures { IfOk result (λ found. found.items ≡ map (λ e. asked.Collapse e.0 e.1) (edges (S.mesh mesh.now))) }
 {
-    let _ = under;
     let edges = edges_in_order(alloc, mesh)?;
     let asked = edges
         .as_slice()
@@ -47,7 +48,7 @@ fn collapses<S: Surface>(alloc: Global, mesh: &S, under: u32) -> Result<Vec<Aske
 
 // The flips of all edges.
 fn flips<S: Surface>(alloc: Global, mesh: &S) -> Result<Vec<Asked>, NoMemory>
-    ensures { IfOk result (λ asked. asked.items ≡ candidates (S.mesh mesh.now) PassKind.Flip) }
+    ensures { IfOk result (λ found. found.items ≡ map (λ e. asked.Flip e.0 e.1) (edges (S.mesh mesh.now))) }
 {
     let edges = edges_in_order(alloc, mesh)?;
     let asked = edges
@@ -60,7 +61,7 @@ fn flips<S: Surface>(alloc: Global, mesh: &S) -> Result<Vec<Asked>, NoMemory>
 
 // The pinches of all vertices.
 fn pinches<S: Surface>(alloc: Global, mesh: &S) -> Result<Vec<Asked>, NoMemory>
-    ensures { IfOk result (λ asked. asked.items ≡ candidates (S.mesh mesh.now) PassKind.Pinch) }
+    ensures { IfOk result (λ found. found.items ≡ map (λ v. asked.Pinch v) (finite.keys (S.mesh mesh.now).points)) }
 {
     let vertices = live_vertices(alloc, mesh)?;
     let asked = vertices
@@ -78,11 +79,11 @@ pub(crate) fn listed<S: Surface>(
     kind: PassKind,
 ) -> Result<Vec<Asked>, NoMemory>
     requires { pairs_within kind ≡ None }
-    ensures { IfOk result (λ asked. asked.items ≡ candidates (S.mesh mesh.now) kind) }
+    ensures { IfOk result (λ found. found.items ≡ candidates (S.mesh mesh.now) kind) }
 {
     match kind {
-        PassKind::Split { over } => splits(alloc, mesh, over),
-        PassKind::Collapse { under } => collapses(alloc, mesh, under),
+        PassKind::Split { .. } => splits(alloc, mesh),
+        PassKind::Collapse { .. } => collapses(alloc, mesh),
         PassKind::Flip => flips(alloc, mesh),
         PassKind::Zip { .. } => unreachable!(),
         PassKind::Pinch => pinches(alloc, mesh),

@@ -59,11 +59,10 @@ fn is_longer_than_across<S: Surface>(mesh: &S, a: VertexId, b: VertexId, e: &Edg
 }
 
 // Whether a flip of the edge is due.
-fn is_flip_due<S: Surface>(mesh: &S, kind: PassKind, a: VertexId, b: VertexId) -> bool
+fn is_flip_due<S: Surface>(mesh: &S, a: VertexId, b: VertexId) -> bool
     requires { IsClosed (S.mesh mesh.now) }
-    ensures { result ≡ is_due (S.mesh mesh.now) kind (asked.Flip a b) }
+    ensures { result ≡ is_due (S.mesh mesh.now) PassKind.Flip (asked.Flip a b) }
 {
-    let _ = kind;
     if !is_edge(mesh, a, b) || is_crowded(mesh, a, b) {
         return false;
     }
@@ -100,7 +99,7 @@ fn is_due<S: Surface>(
 {
     match what {
         Asked::Split { a, b } => Ok(is_split_due(mesh, kind, a, b)),
-        Asked::Flip { a, b } => Ok(is_flip_due(mesh, kind, a, b)),
+        Asked::Flip { a, b } => Ok(is_flip_due(mesh, a, b)),
         Asked::Collapse { a, b } => Ok(is_collapse_due(mesh, kind, a, b)),
         Asked::Zip { a, b, e, f } => Ok(is_zip_due(mesh, kind, a, b, e, f)),
         Asked::Pinch { v } => {
