@@ -229,9 +229,10 @@ fn take_all<S: Surface, K: Sink>(
 /// A pass that is `grouped` ends with its first `no` line: what is left is not asked. Another goes on to the end.
 ///
 /// Lengths are compared by exact squares, in grid units, and distances of midpoints in half units. Edges that are near one another
-/// are found by a grid of their midpoints, as broad phases do. The mesh stays closed and clear, after a fault
-/// too, the motion of each done edit is clear at every fraction, and earlier marks hold. A fault leaves the first lines whole, in
-/// order, and perhaps a part of the next; the mesh is what the whole lines make of it, or what they and the next one make.
+/// are found by a grid of their midpoints, as broad phases do. The mesh stays closed and clear, after a fault too, and earlier marks
+/// hold. The motion of each done edit is clear at every fraction, of a pinch at those above zero and of a collapse at those below
+/// one; a zip moves nothing. A fault leaves the first lines whole, in order, and perhaps a part of the next; the mesh is what the
+/// whole lines make of it, or what they and the next one make.
 /// After the mesh passes of El Topo (Brochu and Bridson 2009).
 pub fn pass<S: Surface, K: Sink>(
     alloc: Global,
