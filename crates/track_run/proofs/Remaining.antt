@@ -15,7 +15,7 @@ use Rattle.log_text.specs.declared.Refusal.TheVariants as refusal
 use Rattle.log_text.specs.declared.LogLine.TheVariants.{End, Refused}
 use Rattle.track_run.specs.State.{State, start}
 use Rattle.track_run.specs.Turns.{Turn, Goes, Stops, Told, turn, and_then, told_from, refused, mesh_line}
-use Rattle.track_run.specs.Job.{Source, Bytes, Absent, TooLong, mesh_of_lists, met_first, told_of, told_of_meeting, told_of_steps, told_of_shape, told_of_lists, told_of_files}
+use Rattle.track_run.specs.Job.{Source, Bytes, Absent, TooLong, mesh_of_lists, met_first, told_of_meeting, told_of_steps, told_of_shape, told_of_lists, told_of_files}
 use Rattle.track_run.proofs.Worlds.{one_line, more_lines}
 
 -- it has lines
