@@ -11,6 +11,7 @@ pub mod SoFars
 pub mod Sources
 pub mod Passing
 pub mod PassTaken
+pub mod ShapeAgain
 pub mod ReadAgain
 pub mod Keeping
 pub mod Replayed

@@ -12,6 +12,7 @@ use Rattle.obj_text.specs.Written.{ranks}
 use Rattle.obj_text.proofs.Again.{written_is_read_lem}
 use Rattle.obj_text.proofs.Renumbered.{stays_closed_lem, stays_clear_lem}
 use Rattle.track_run.specs.Kept.{IsReadAgain}
+use Rattle.track_run.proofs.ShapeAgain.{sound_again, shape_again}
 
 -- a point is where it stands
 points_again : (es : List (ℕ × Point)) → map point_at (map (λ e. position_of e.1) es) ≡ map (λ e. e.1) es
@@ -21,6 +22,8 @@ points_again (e ∷ es) = ap (λ (q : Point). q ∷ map point_at (map (λ x. pos
 pub read_again : (m : Mesh) → IsSound m → IsClosed m → IsClearMesh m → (decimals : ℕ) → decimals ≤ 6 → IsReadAgain decimals m
 read_again m sound closed clear decimals few = record {
   lists = written_is_read_lem m decimals sound few;
+  shape = shape_again m sound (stays_closed_lem m sound closed);
+  sound = sound_again m sound;
   mesh = ap (λ (ps : List Point). mesh_of ps (map (λ e. ranks m e.1) (finite.entries m.faces))) (points_again (finite.entries m.points));
   closed = stays_closed_lem m sound closed;
   clear = stays_clear_lem m sound clear;

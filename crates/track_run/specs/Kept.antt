@@ -1,10 +1,11 @@
 -- What a log promises of the meshes and the motions that it tells.
-use Rattle.std.specs.Prelude.{◌≡◌, ◌≤◌, ℕ, List, [], ◌∷◌, Ok}
+use Rattle.std.specs.Prelude.{◌≡◌, ◌≤◌, ℕ, List, [], ◌∷◌, length, None, Ok}
 use Rattle.std.specs.FinMap as finite
 use Rattle.mesh_base.specs.Mesh.{Mesh, IsSound}
 use Rattle.mesh_base.specs.Sides.{IsClosed}
 use Rattle.mesh_base.specs.Placements.{IsClearMesh, IsClearAlong}
 use Rattle.mesh_base.specs.Shifts.{moved_by, with_moves}
+use Rattle.mesh_plain.specs.Shape.{shape_fault}
 use Rattle.obj_text.specs.Obj.{lists_of}
 use Rattle.obj_text.specs.Written.{mesh_text, ranked_lists}
 use Rattle.obj_text.specs.Laws.{renumbered}
@@ -17,11 +18,13 @@ use Rattle.log_text.specs.declared.LogLine.TheVariants.{Mesh as MeshLine, Moved,
 use Rattle.log_text.specs.Replay.{Replay, replayed}
 use Rattle.track_run.specs.Job.{mesh_of_lists}
 
--- The text of a mesh on a grid of so many decimals is read again: its lists make the mesh with its vertices and faces numbered
--- anew, which is closed and clear too.
+-- The text of a mesh on a grid of so many decimals is read again: its lists are of good shape and make the mesh with its vertices and
+-- faces numbered anew, which is sound, closed and clear too. So a run takes the file as its mesh.
 pub record IsReadAgain (decimals : ℕ) (m : Mesh) : Type 0 where
   pub lists : lists_of decimals (mesh_text decimals m) ≡ Ok (ranked_lists m)
+  pub shape : shape_fault (length (ranked_lists m).points) (ranked_lists m).faces ≡ None
   pub mesh : mesh_of_lists (ranked_lists m) ≡ renumbered m
+  pub sound : IsSound (renumbered m)
   pub closed : IsClosed (renumbered m)
   pub clear : IsClearMesh (renumbered m)
 
