@@ -1,6 +1,13 @@
 -- The whole log of a job ends as its cause says.
-use Rattle.std.proofs.Common.{◌≡◌, ℕ, List, [], ◌∷◌, ◌++◌, length, Option, Some, None, Result, Ok, Err, refl, ap, sym, ◌∙◌, inl, inr}
+use Rattle.std.proofs.Common.{◌≡◌, ℕ, List, [], ◌∷◌, ◌++◌, length, map, Option, Some, None, Result, Ok, Err, refl, ap, sym, ◌∙◌, inl, inr}
 use Rattle.std.specs.Prelude.{◌⊎◌}
+use Rattle.std.proofs.lemmas.List.{length-map}
+use Rattle.grid_base.specs.Points.{point_at}
+use Rattle.mesh_base.specs.Mesh.{IsSound}
+use Rattle.mesh_base.specs.Placements.{IsClearMesh}
+use Rattle.pair_scan.proofs.Clear.{clear_exactly, answer_meets}
+use Rattle.pair_scan.proofs.InOrder.{answer_is_first}
+use Rattle.mesh_plain.proofs.Lists.{sound-mesh_of}
 use Rattle.mesh_base.specs.declared.UseWhy.{UseWhy}
 use Rattle.mesh_base.specs.declared.PairName.{PairName}
 use Rattle.mesh_base.specs.declared.ShapeFault.{ShapeFault}
@@ -68,10 +75,19 @@ use_cause job lists directives (Some (refusal.Shape f)) read h = absurd h
 use_cause job lists directives (Some (refusal.Meets f)) read h = absurd h
 use_cause job lists directives (Some (refusal.Steps f)) read h = absurd h
 
+-- lists of good shape give a sound mesh
+lists_sound : (lists : Lists) → shape_fault (length lists.points) lists.faces ≡ None → IsSound (mesh_of_lists lists)
+lists_sound lists good =
+    let points = map point_at lists.points in
+    sound-mesh_of points lists.faces (ap (λ n. shape_fault n lists.faces) (length-map lists.points point_at) ∙ good)
+
 meeting_cause : (job : Job) (lists : Lists) (directives : List Placed) (o : Option PairName) → HasSteps job lists directives → met_first (mesh_of_lists lists) ≡ o → Cause job (outcome_of (told_of_meeting (mesh_of_lists lists) directives o).ending)
-meeting_cause job lists directives (Some pair) h e = (lists, directives, h, e)
+meeting_cause job lists directives (Some pair) h e =
+    let m = mesh_of_lists lists in
+    (lists, directives, h, record { found = e; meets = answer_meets m (Some pair) (sym e); none_before = answer_is_first m (Some pair) (lists_sound lists h.mesh_read.good) (sym e) })
 meeting_cause job lists directives None h e =
-    use_cause job lists directives (told_of (mesh_of_lists lists) directives).ending (record { steps_read = h; clear = e }) (told_ends directives (start (mesh_of_lists lists)))
+    let clear : IsClearMesh (mesh_of_lists lists) = (clear_exactly (mesh_of_lists lists) None (lists_sound lists h.mesh_read.good) (sym e)).0 refl in
+    use_cause job lists directives (told_of (mesh_of_lists lists) directives).ending (record { steps_read = h; clear = e; none_meets = clear }) (told_ends directives (start (mesh_of_lists lists)))
 
 steps_cause : (job : Job) (lists : Lists) (steps : List ℕ) (r : Result (List Placed) TextFault) → HasMesh job lists steps → steps_of steps ≡ r → Cause job (outcome_of (told_of_steps (mesh_of_lists lists) r).ending)
 steps_cause job lists steps (Err fault) h e = (lists, steps, h, e)
@@ -149,7 +165,7 @@ module _ (job : Job) where
       ∙ ap (λ l. outcome_of (told_from l (start m)).ending) at.split
       ∙ ap outcome_of (ends_refused at.front at.rest at.placed (start m) at.state why at.reached at.refused)
       ∙ ap (λ n. outcome.StepUse n why) (sym at.line_is))
-  cause_ends (outcome.MeshMeets pair) h = inl (ended (refused (refusal.Meets pair)) (steps_told h.0 h.1 h.2 ∙ ap (told_of_meeting (mesh_of_lists h.0) h.1) h.3))
+  cause_ends (outcome.MeshMeets pair) h = inl (ended (refused (refusal.Meets pair)) (steps_told h.0 h.1 h.2 ∙ ap (told_of_meeting (mesh_of_lists h.0) h.1) h.3.found))
   cause_ends outcome.Usage h = absurd h
   cause_ends outcome.NoMemory h = inr tt
   cause_ends outcome.DeskFault h = inr tt

@@ -48,7 +48,7 @@ use Rattle.track_run.specs.declared.outcome.Stop.{Stop}
 use Rattle.track_run.specs.Shifting.{AsksNow}
 use Rattle.edit_base.specs.declared.PassKind.{PassKind}
 use Rattle.track_run.specs.Parts.{StepTakes, PassTakes}
-use Rattle.track_run.specs.Kept.{Keeps, IsSavedWell}
+use Rattle.track_run.specs.Kept.{Keeps, IsSavedWell, MovesWell}
 use Rattle.track_run.specs.State.{State, start, standing, at_mesh, no_shifts, still_at, asked_of, asked_in}
 use Rattle.pass_run.specs.Promises.{IsGood, EachMovesClear}
 use Rattle.track_run.proofs.Passing.{PassKeeps, pass_keeps}
@@ -105,6 +105,16 @@ module _ (m : Mesh) (good : IsGood m) (k : ℕ) (pairs : List PairName) (way : W
   clear_along : IsClearAlong m (moved_by m (moving way.taken))
   clear_along = clear_alike m (moving way.taken) way.taken (λ v. shift_filtered moves way.taken v no_move names.once) well.clear
 
+  good_after : IsGood (moved_mesh m way.taken)
+  good_after = record {
+    sound = sound-with_moves m (moving way.taken) good.sound once.live;
+    closed = closed-with_moves m (moving way.taken) good.closed;
+    clear = clear_after_moves m (moving way.taken) once.once (end_filtered m moves way.taken well.ends) clear_along;
+  }
+
+  moves_well : MovesWell (record { mesh = m; moves = moving way.taken })
+  moves_well = record { before = good; along = clear_along; after = good_after }
+
   keeps_lines : Keeps (at_mesh m) (lines_of_step k pairs way)
   keeps_lines =
       let begun : Replay = at_mesh m in
@@ -113,15 +123,8 @@ module _ (m : Mesh) (good : IsGood m) (k : ℕ) (pairs : List PairName) (way : W
       let Q : Replay → Type 0 = λ r. Keeps r (move_lines way.taken ++ moved) in (
         tt,
         keeps_append (hit_lines pairs) (move_lines way.taken ++ moved) begun (keeps_hits pairs begun)
-            (subst Q (sym (after-hits begun pairs)) (keeps_append (move_lines way.taken) moved begun (keeps_moves (moving way.taken) begun) (subst P (sym (after-moves begun (moving way.taken))) (clear_along, tt)))),
+            (subst Q (sym (after-hits begun pairs)) (keeps_append (move_lines way.taken) moved begun (keeps_moves (moving way.taken) begun) (subst P (sym (after-moves begun (moving way.taken))) (moves_well, tt)))),
       )
-
-  good_after : IsGood (moved_mesh m way.taken)
-  good_after = record {
-    sound = sound-with_moves m (moving way.taken) good.sound once.live;
-    closed = closed-with_moves m (moving way.taken) good.closed;
-    clear = clear_after_moves m (moving way.taken) once.once (end_filtered m moves way.taken well.ends) clear_along;
-  }
 
   -- the same vertices live
   keys_after : (asked : Shifts) → NameLive m asked → NameLive (moved_mesh m way.taken) (all_still asked)

@@ -6,6 +6,7 @@ pub mod ReadLemmas
 pub mod Saying
 pub mod Worlds
 pub mod NoFiles
+pub mod Remaining
 pub mod SoFars
 pub mod Sources
 pub mod Passing

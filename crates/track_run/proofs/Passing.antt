@@ -14,18 +14,18 @@ use Rattle.track_run.specs.State.{State, standing, at_mesh}
 use Rattle.track_run.specs.Turns.{passed_lines, passed_mesh}
 use Rattle.track_run.proofs.NoFiles.{NoFiles}
 
-line_keeps : (r : Replay) (line : LogLine) → IsOfPass line → LineMovesClear r.mesh line → KeepsAt r line
-line_keeps r (Pass kind) h k = tt
-line_keeps r (Did change) h k = k
-line_keeps r (No what why) h k = tt
-line_keeps r line h k = absurd h
+line_keeps : (r : Replay) (line : LogLine) → IsOfPass line → IsGood r.mesh → LineMovesClear r.mesh line → IsGood (mesh_by r.mesh line) → KeepsAt r line
+line_keeps r (Pass kind) h good k after = tt
+line_keeps r (Did change) h good k after = record { before = good; along = k; after = after }
+line_keeps r (No what why) h good k after = tt
+line_keeps r line h good k after = absurd h
 
--- each keeps its promise where its motion is clear
-each_keeps : (r : Replay) (lines : List LogLine) → AreOfPass lines → EachMovesClear r.mesh lines → Keeps r lines
-each_keeps r [] h k = tt
-each_keeps r (line ∷ lines) h k =
+-- each keeps its promise where its motion is clear and it leaves a good mesh
+each_keeps : (r : Replay) (lines : List LogLine) → AreOfPass lines → IsGood r.mesh → EachMovesClear r.mesh lines → Keeps r lines
+each_keeps r [] h good k = tt
+each_keeps r (line ∷ lines) h good k =
     let P : Replay → Type 0 = λ s. Keeps s lines in
-    (line_keeps r line h.0 k.0, subst P (sym (line_replays r line h.0)) (each_keeps (record r { mesh = mesh_by r.mesh line }) lines h.1 k.2))
+    (line_keeps r line h.0 good k.0 k.1, subst P (sym (line_replays r line h.0)) (each_keeps (record r { mesh = mesh_by r.mesh line }) lines h.1 k.1 k.2))
 
 -- what a pass keeps: its lines keep their promises, their replay is the mesh that it leaves, and that is good
 pub record PassKeeps (kind : PassKind) (s : State) : Type 0 where
@@ -43,7 +43,7 @@ unfolding passed_lines passed_mesh
 pass_keeps kind s good =
     let kept = passes_keep meets_exactly meets_exactly-is_exact s.mesh kind s.set.depth false good in
     record {
-      lines = each_keeps (standing s) (pass_lines meets_exactly s.mesh kind s.set.depth false) (pass_is meets_exactly s.mesh kind s.set.depth false) kept.0;
+      lines = each_keeps (standing s) (pass_lines meets_exactly s.mesh kind s.set.depth false) (pass_is meets_exactly s.mesh kind s.set.depth false) good kept.0;
       replay = pass_replays kind s;
       good = kept.1;
     }

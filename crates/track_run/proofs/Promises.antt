@@ -8,11 +8,14 @@ use Rattle.grid_decided.specs.Decided.{meets_exactly}
 use Rattle.mesh_base.specs.declared.How.{How}
 use Rattle.mesh_base.specs.declared.How.TheVariants.{Whole, Impulse, Zones, Halved, Zero}
 use Rattle.mesh_base.specs.declared.PairName.{PairName}
-use Rattle.mesh_base.specs.Mesh.{Mesh}
+use Rattle.mesh_base.specs.Mesh.{Mesh, IsSound}
 use Rattle.mesh_base.specs.Shifts.{Shifts}
 use Rattle.mesh_base.specs.Failing.{failing}
 use Rattle.step_choose.specs.declared.Settings.{Settings}
-use Rattle.step_choose.specs.Choice.{Way, way, halving, halved_times, halved_way, all_at_rest, all_pass, way_taken}
+use Rattle.step_choose.specs.Choice.{Way, way, halving, halved_times, halved_way, all_at_rest, all_pass, way_taken, IsFirstWay}
+use Rattle.step_choose.proofs.FirstWay.{taken_first}
+use Rattle.pair_scan.specs.Failed.{AreFailing}
+use Rattle.pair_scan.proofs.InOrder.{are_failing}
 use Rattle.step_text.specs.declared.Directive.TheVariants as directive
 use Rattle.log_text.specs.declared.LogLine.{LogLine}
 use Rattle.log_text.specs.declared.LogLine.TheVariants.{Step, Moved}
@@ -59,12 +62,24 @@ taken_shortened : (s : State) → hits s ≢ [] → (taken s).how ≢ Whole
 unfolding hits taken
 taken_shortened s h = not_whole (way_taken meets_exactly s.mesh s.asked s.set).how (shortened s.mesh s.asked s.set (none_of_all (failing meets_exactly s.mesh s.asked s.set.depth) h))
 
+-- ---- the way is the first that applies, and the pairs are those that do not pass
+taken_first_way : (s : State) → IsFirstWay meets_exactly s.mesh s.asked s.set (taken s).how (taken s).taken
+unfolding taken
+taken_first_way s = taken_first s.mesh s.asked s.set
+
+hits_failing : (s : State) → IsSound s.mesh → AreFailing s.mesh s.asked s.set.depth (hits s)
+unfolding hits
+hits_failing s sound = are_failing s.mesh s.asked s.set.depth sound
+
 -- ---- the lines
 lines_told : (s : State) → StepIsTold s (step_lines s)
 lines_told s = record {
   unaltered = λ e. ap (λ pairs. lines_of_step (s.steps + 1) pairs (taken s)) e ∙ ap (λ w. lines_of_step (s.steps + 1) [] w) (taken_whole s e);
   altered = taken_shortened s;
-  hits_told = (move_lines (taken s).taken ++ Moved (taken s).how ∷ [], refl);
+  told = refl;
+  first_way = taken_first_way s;
+  all_hits = hits_failing s;
+  all_failing = λ sound by. are_failing s.mesh by s.set.depth sound;
 }
 
 turn_told : (s next : State) (lines : List LogLine) (o : Option ℕ) → step_turn o s ≡ Goes lines next → StepIsTold s lines

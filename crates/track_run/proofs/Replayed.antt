@@ -5,7 +5,6 @@ use Rattle.grid_base.specs.Points.{point_at}
 use Rattle.mesh_base.specs.declared.UseWhy.{UseWhy}
 use Rattle.mesh_base.specs.Shifts.{Shifts}
 use Rattle.mesh_base.specs.Mesh.{Mesh}
-use Rattle.pair_scan.proofs.Clear.{clear_exactly}
 use Rattle.mesh_plain.specs.Shape.{shape_fault}
 use Rattle.mesh_plain.proofs.Lists.{sound-mesh_of}
 use Rattle.mesh_plain.proofs.Faults.{closed-mesh_of}
@@ -70,7 +69,7 @@ stands_kept job s at =
     let none : shape_fault (length points) at.lists.faces ≡ None = ap (λ n. shape_fault n at.lists.faces) (length-map at.lists.points point_at) ∙ read.mesh_read.good in
     let m : Mesh = mesh_of_lists at.lists in
     let sound = sound-mesh_of points at.lists.faces none in
-    let good : IsGood m = record { sound = sound; closed = closed-mesh_of points at.lists.faces none; clear = (clear_exactly m None sound (sym at.clear.clear)).0 refl } in
+    let good : IsGood m = record { sound = sound; closed = closed-mesh_of points at.lists.faces none; clear = at.clear.none_meets } in
     reaches_kept at.front at.rest (start m) s (kept_start m good) at.reached
 
 -- ---- the log up to there

@@ -21,8 +21,9 @@ use Rattle.log_text.specs.Replay.{Replay, after}
 use Rattle.track_run.specs.Saved.{Target, files_of, stored}
 use Rattle.pass_run.specs.Said.{Written}
 use Rattle.track_run.specs.Parts.{Takes, TakesInPart, Advances}
-use Rattle.track_run.specs.World.{World, Logs, StopsIn, Follows}
-use Rattle.track_run.proofs.Worlds.{after-append, logs_then, stops_then, stops_more, stops_nothing, stops_line}
+use Rattle.track_run.specs.World.{World, Logs, StopsIn, StopsShort, Follows}
+use Rattle.track_run.proofs.Worlds.{after-append, logs_then, short_then, short_more, short_nothing, short_line}
+use Rattle.track_run.proofs.Remaining.{HasLines, told_left}
 
 -- The lines so far are written, and with those that are left they are all. The replay stands at the state.
 pub record SoFar (to : Target) (all left : Told) (first now : State) (old new : World) : Type 0 where
@@ -62,16 +63,16 @@ so_far_more to all line t next first now then old mid new s takes =
       replay = after-append (standing first) s.done takes.lines ∙ ap (λ r. after r takes.lines) s.replay ∙ takes.replay;
     }
 
--- a turn that stops in its lines
-pub so_far_part : (to : Target) (all : Told) (line : ℕ) (t : Turn) (next : State → Told) (first now : State) (old mid new : World) (stop : Stop)
-    → SoFar to all (and_then line t next) first now old mid → TakesInPart stop to t now mid new → StopsIn stop to (standing first) all.lines old new
-so_far_part to all line t next first now old mid new stop s takes =
+-- a turn that stops in its lines, which others follow
+pub so_far_part : (to : Target) (all : Told) (line : ℕ) (t : Turn) (next : State → Told) (first now : State) (old mid new : World) (stop : Stop) → ((s : State) → HasLines (next s))
+    → SoFar to all (and_then line t next) first now old mid → TakesInPart stop to t now mid new → StopsShort stop to (standing first) all.lines old new
+so_far_part to all line t next first now old mid new stop others s takes =
     let e = and_then-goes line t takes.lines takes.next next takes.goes in
     let P : Replay → Type 0 = λ r. StopsIn stop to r takes.lines mid new in
-    let Q : List LogLine → Type 0 = λ l. StopsIn stop to (standing first) l old new in
+    let Q : List LogLine → Type 0 = λ l. StopsShort stop to (standing first) l old new in
     subst Q (ap (λ (t : Told). s.done ++ t.lines) (sym e) ∙ s.whole)
-    (stops_then stop to (standing first) s.done (takes.lines ++ (next takes.next).lines) old mid new s.logs
-    (stops_more stop to (after (standing first) s.done) takes.lines (next takes.next).lines mid new (subst P (sym s.replay) takes.stops)))
+    (short_then stop to (standing first) s.done (takes.lines ++ (next takes.next).lines) old mid new s.logs
+    (short_more stop to (after (standing first) s.done) takes.lines (next takes.next).lines mid new (others takes.next) (subst P (sym s.replay) takes.stops)))
 
 -- the last line is written
 pub so_far_last : (to : Target) (all : Told) (line : LogLine) (ending : Option Refusal) (first now : State) (old mid new : World)
@@ -81,10 +82,10 @@ so_far_last to all line ending first now old mid new s logs =
     (subst Q s.whole (logs_then to (standing first) s.done (line ∷ []) old mid new s.logs (logs _)), s.ending)
 
 pub so_far_last_part : (to : Target) (all : Told) (line : LogLine) (ending : Option Refusal) (first now : State) (old mid new : World) (stop : Stop)
-    → SoFar to all (record { lines = line ∷ []; ending = ending }) first now old mid → ((r : Replay) → StopsIn stop to r (line ∷ []) mid new) → StopsIn stop to (standing first) all.lines old new
+    → SoFar to all (record { lines = line ∷ []; ending = ending }) first now old mid → ((r : Replay) → StopsShort stop to r (line ∷ []) mid new) → StopsShort stop to (standing first) all.lines old new
 so_far_last_part to all line ending first now old mid new stop s stops =
-    let Q : List LogLine → Type 0 = λ l. StopsIn stop to (standing first) l old new in
-    subst Q s.whole (stops_then stop to (standing first) s.done (line ∷ []) old mid new s.logs (stops _))
+    let Q : List LogLine → Type 0 = λ l. StopsShort stop to (standing first) l old new in
+    subst Q s.whole (short_then stop to (standing first) s.done (line ∷ []) old mid new s.logs (stops _))
 
 -- a refused directive
 pub so_far_refused : (to : Target) (all : Told) (line : ℕ) (t : Turn) (why : UseWhy) (next : State → Told) (first now : State) (old mid : World)
@@ -93,11 +94,11 @@ so_far_refused to all line t why next first now old mid s e =
     let P : Told → Type 0 = λ left. SoFar to all left first now old mid in subst P (and_then-stops line t why next e) s
 
 -- nothing more is written
-so_far_nothing : (to : Target) (all left : Told) (first now : State) (old mid new : World) (stop : Stop) → SoFar to all left first now old mid → new ≡ mid → StopsIn stop to (standing first) all.lines old new
-so_far_nothing to all left first now old mid new stop s same =
-    let Q : List LogLine → Type 0 = λ l. StopsIn stop to (standing first) l old new in
-    let P : World → Type 0 = λ w. StopsIn stop to (after (standing first) s.done) left.lines mid w in
-    subst Q s.whole (stops_then stop to (standing first) s.done left.lines old mid new s.logs (subst P (sym same) (stops_nothing stop to _ left.lines mid)))
+so_far_nothing : (to : Target) (all left : Told) (first now : State) (old mid new : World) (stop : Stop) → HasLines left → SoFar to all left first now old mid → new ≡ mid → StopsShort stop to (standing first) all.lines old new
+so_far_nothing to all left first now old mid new stop some s same =
+    let Q : List LogLine → Type 0 = λ l. StopsShort stop to (standing first) l old new in
+    let P : World → Type 0 = λ w. StopsShort stop to (after (standing first) s.done) left.lines mid w in
+    subst Q s.whole (short_then stop to (standing first) s.done left.lines old mid new s.logs (subst P (sym same) (short_nothing stop to _ left.lines mid some)))
 
 -- what is left, where a directive is
 left_is : (steps : List Placed) (i : ℕ) (p : Placed) (s : State) → i < length steps → p ≡ get_or steps i p → told_from (drop i steps) s ≡ and_then p.line (turn p.what s) (told_from (drop (i + 1) steps))
@@ -117,9 +118,9 @@ module _ (to : Target) (all : Told) (steps : List Placed) (i : ℕ) (p : Placed)
       so_far_more to all p.line (turn p.what now) (told_from (drop (i + 1) steps)) first now then old mid new here (subst P e advances)
 
   -- it stops in its lines, or before them
-  pub turn_part : (stop : Stop) → (new ≡ mid) ⊎ TakesInPart stop to (turn p.what now) now mid new → StopsIn stop to (standing first) all.lines old new
-  turn_part stop (inl same) = so_far_nothing to all _ first now old mid new stop so_far same
-  turn_part stop (inr takes) = so_far_part to all p.line (turn p.what now) (told_from (drop (i + 1) steps)) first now old mid new stop here takes
+  pub turn_part : (stop : Stop) → (new ≡ mid) ⊎ TakesInPart stop to (turn p.what now) now mid new → StopsShort stop to (standing first) all.lines old new
+  turn_part stop (inl same) = so_far_nothing to all _ first now old mid new stop (told_left (drop i steps) now) so_far same
+  turn_part stop (inr takes) = so_far_part to all p.line (turn p.what now) (told_from (drop (i + 1) steps)) first now old mid new stop (λ s. told_left (drop (i + 1) steps) s) here takes
 
   -- it is refused
   pub is_refused : (then : State) (o : Option UseWhy) (why : UseWhy) → o ≡ Some why → Advances to (turn p.what now) now then mid new (Ok o) → SoFar to all (refused (StepUse p.line why)) first now old new
@@ -141,4 +142,4 @@ finished to all line ending first now old files mid new (Ok e) none s said part 
     let last = so_far_last to all line ending first now old _ (record { files = files; written = new }) s (λ from. record { written = said; files = sym (none from) }) in
     (last.0, is ∙ last.1)
 finished to all line ending first now old files mid new (Err stop) none s said part is =
-    so_far_last_part to all line ending first now old _ (record { files = files; written = new }) stop s (λ from. stops_line stop to from line [] files mid new part)
+    so_far_last_part to all line ending first now old _ (record { files = files; written = new }) stop s (λ from. short_line stop to from line [] files mid new part)

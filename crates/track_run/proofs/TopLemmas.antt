@@ -33,11 +33,12 @@ use Rattle.track_run.specs.Words.{Named}
 use Rattle.track_run.specs.Job.{Job, Source, Bytes, Absent, TooLong, IsSource, IsJob, log_of, told_of, told_of_meeting, met_first, told_of_files, replay_of}
 use Rattle.track_run.specs.Saved.{Target}
 use Rattle.pass_run.specs.Said.{Written}
-use Rattle.track_run.specs.World.{World, Logs, StopsIn, Follows, Runs, target, outcome_from, outcome_of, outcome_at}
+use Rattle.track_run.specs.World.{World, Logs, StopsIn, StopsShort, Follows, Runs, target, outcome_from, outcome_of, outcome_at}
 use Rattle.track_run.specs.Causes.{Cause, IsStopped}
 use Rattle.track_run.specs.Parts.{Prepares, Reads, TracksJob, told_of_ready, given, AreGood}
 use Rattle.track_run.proofs.Sources.{some_source}
-use Rattle.track_run.proofs.Worlds.{logs_then, stops_then, stops_more, stops_nothing, stops_line}
+use Rattle.track_run.proofs.Worlds.{logs_then, short_then, short_more, short_nothing, short_line}
+use Rattle.track_run.proofs.Remaining.{told_left, meeting_left, files_left}
 use Rattle.track_run.proofs.Keeping.{keeps_log}
 use Rattle.track_run.proofs.Replayed.{turn_replayed, stands_well}
 use Rattle.track_run.proofs.Promises.{step_is_told}
@@ -109,12 +110,12 @@ all_read files named f g bytes steps fe fs gs ge (Err stop) reads = tt
 
 -- ---- the first mesh, and then the directives
 
-pub begin_part : (to : Target) (m : Mesh) (steps : List Placed) (a b : World) (stop : Stop) → StopsIn stop to (at_mesh m) (mesh_line 0 m ∷ []) a b → StopsIn stop to (at_mesh m) (told_of m steps).lines a b
-begin_part to m steps a b stop s = stops_more stop to (at_mesh m) (mesh_line 0 m ∷ []) (told_from steps (start m)).lines a b s
+pub begin_part : (to : Target) (m : Mesh) (steps : List Placed) (a b : World) (stop : Stop) → StopsIn stop to (at_mesh m) (mesh_line 0 m ∷ []) a b → StopsShort stop to (at_mesh m) (told_of m steps).lines a b
+begin_part to m steps a b stop s = short_more stop to (at_mesh m) (mesh_line 0 m ∷ []) (told_from steps (start m)).lines a b (told_left steps (start m)) s
 
 pub begin_follows : (to : Target) (m : Mesh) (steps : List Placed) (a b c : World) (r : Result (Option Refusal) Stop) → Logs to (at_mesh m) (mesh_line 0 m ∷ []) a b → Follows to (at_mesh m) (told_from steps (start m)) b c r → Follows to (at_mesh m) (told_of m steps) a c r
 begin_follows to m steps a b c (Ok ending) l f = (logs_then to (at_mesh m) (mesh_line 0 m ∷ []) (told_from steps (start m)).lines a b c l f.0, f.1)
-begin_follows to m steps a b c (Err stop) l f = stops_then stop to (at_mesh m) (mesh_line 0 m ∷ []) (told_from steps (start m)).lines a b c l f
+begin_follows to m steps a b c (Err stop) l f = short_then stop to (at_mesh m) (mesh_line 0 m ∷ []) (told_from steps (start m)).lines a b c l f
 
 -- the directives begin with no vertex asked to move
 pub begin_at : (to : Target) (m : Mesh) (asked : Shifts) (set : Settings) (given_steps steps : List Placed) (a b c : World) (r : Result (Option Refusal) Stop) → asked ≡ no_shifts m → set ≡ at_first → given_steps ≡ steps → Logs to (at_mesh m) (mesh_line 0 m ∷ []) a b
@@ -126,8 +127,8 @@ begin_at to m asked set given_steps steps a b c r none first same l f =
     begin_follows to m steps a b c r l (subst Q same (subst R first (subst P none f)))
 
 -- nothing after the first mesh
-pub begin_nothing : (to : Target) (m : Mesh) (steps : List Placed) (a b : World) (stop : Stop) → Logs to (at_mesh m) (mesh_line 0 m ∷ []) a b → StopsIn stop to (at_mesh m) (told_of m steps).lines a b
-begin_nothing to m steps a b stop l = stops_then stop to (at_mesh m) (mesh_line 0 m ∷ []) (told_from steps (start m)).lines a b b l (stops_nothing stop to _ _ b)
+pub begin_nothing : (to : Target) (m : Mesh) (steps : List Placed) (a b : World) (stop : Stop) → Logs to (at_mesh m) (mesh_line 0 m ∷ []) a b → StopsShort stop to (at_mesh m) (told_of m steps).lines a b
+begin_nothing to m steps a b stop l = short_then stop to (at_mesh m) (mesh_line 0 m ∷ []) (told_from steps (start m)).lines a b b l (short_nothing stop to _ _ b (told_left steps (start m)))
 
 -- ---- the whole log
 
@@ -142,7 +143,7 @@ pub tracks_first : (named : Named) (files : Option Files) (old new : Option (Lis
 tracks_first named files old new stop part = record {
   job = any_job files named;
   is_job = any_is_job files named;
-  follows = stops_line stop (target named) _ (First 1) (told_of_files (any_job files named).decimals (any_job files named).mesh_file (any_job files named).step_file).lines files old new part;
+  follows = short_line stop (target named) _ (First 1) (told_of_files (any_job files named).decimals (any_job files named).mesh_file (any_job files named).step_file).lines files old new part;
 }
 
 first_logs : (to : Target) (from : Replay) (files : Option Files) (w0 w1 : Option (List ℕ)) → w1 ≡ appended w0 (text_of_lines (First 1 ∷ [])) → Logs to from (First 1 ∷ []) (record { files = files; written = w0 }) (record { files = files; written = w1 })
@@ -155,14 +156,14 @@ tracks_second named files old new stop said =
     record {
       job = job;
       is_job = any_is_job files named;
-      follows = stops_then stop (target named) (replay_of job) (First 1 ∷ []) (told_of_files job.decimals job.mesh_file job.step_file).lines (record { files = files; written = old }) (record { files = files; written = new }) (record { files = files; written = new })
-          (first_logs (target named) (replay_of job) files old new said) (stops_nothing stop (target named) _ _ _);
+      follows = short_then stop (target named) (replay_of job) (First 1 ∷ []) (told_of_files job.decimals job.mesh_file job.step_file).lines (record { files = files; written = old }) (record { files = files; written = new }) (record { files = files; written = new })
+          (first_logs (target named) (replay_of job) files old new said) (short_nothing stop (target named) _ _ _ (files_left job.decimals job.mesh_file job.step_file));
     }
 
 whole_follows : (to : Target) (from : Replay) (job : Job) (files : Option Files) (w0 w1 : Option (List ℕ)) (new : World) (r : Result (Option Refusal) Stop) → w1 ≡ appended w0 (text_of_lines (First 1 ∷ []))
     → Follows to from (told_of_files job.decimals job.mesh_file job.step_file) (record { files = files; written = w1 }) new r → Follows to from (log_of job) (record { files = files; written = w0 }) new r
 whole_follows to from job files w0 w1 new (Ok ending) e f = (logs_then to from (First 1 ∷ []) (told_of_files job.decimals job.mesh_file job.step_file).lines _ _ new (first_logs to from files w0 w1 e) f.0, f.1)
-whole_follows to from job files w0 w1 new (Err stop) e f = stops_then stop to from (First 1 ∷ []) (told_of_files job.decimals job.mesh_file job.step_file).lines _ _ new (first_logs to from files w0 w1 e) f
+whole_follows to from job files w0 w1 new (Err stop) e f = short_then stop to from (First 1 ∷ []) (told_of_files job.decimals job.mesh_file job.step_file).lines _ _ new (first_logs to from files w0 w1 e) f
 
 tracks_then : (named : Named) (files : Option Files) (w0 w1 : Option (List ℕ)) (r0 : Ready) (p : Prepares files named r0) (new : World) (r : Result (Option Refusal) Stop) → w1 ≡ appended w0 (text_of_lines (First 1 ∷ []))
     → Follows (target named) (replay_of p.job) (told_of_ready r0) (record { files = files; written = w1 }) new r → TracksJob named (record { files = files; written = w0 }) new r
@@ -177,7 +178,7 @@ prepared_at files named a b e p = let P : Ready → Type 0 = λ x. Prepares file
 tracks_refused_part : (named : Named) (files : Option Files) (w0 w1 w2 : Option (List ℕ)) (found : Ready) (why : Refusal) (stop : Stop) → found ≡ ready.No why → Prepares files named found → w1 ≡ appended w0 (text_of_lines (First 1 ∷ [])) → AppendsPart w1 w2 (text_of_line (Refused why))
     → TracksJob named (record { files = files; written = w0 }) (record { files = files; written = w2 }) (Err stop)
 tracks_refused_part named files w0 w1 w2 found why stop is p e part =
-    tracks_then named files w0 w1 (ready.No why) (prepared_at files named found (ready.No why) is p) _ (Err stop) e (stops_line stop (target named) _ (Refused why) [] files w1 w2 part)
+    tracks_then named files w0 w1 (ready.No why) (prepared_at files named found (ready.No why) is p) _ (Err stop) e (short_line stop (target named) _ (Refused why) [] files w1 w2 part)
 
 -- the refusal that was read is written, as far as it goes
 pub tracks_no : (named : Named) (files : Option Files) (w0 w1 w2 : Option (List ℕ)) (found : Ready) (why : Refusal) (r : Result (Option Refusal) Stop) → found ≡ ready.No why → Prepares files named found → w1 ≡ appended w0 (text_of_lines (First 1 ∷ []))
@@ -190,7 +191,7 @@ tracks_no named files w0 w1 w2 found why (Err stop) is p first said part ending 
 pub tracks_third : (named : Named) (files : Option Files) (w0 w1 : Option (List ℕ)) (found : Ready) (lists : MeshLists) (steps : List Placed) (stop : Stop) → found ≡ ready.Yes lists steps → Prepares files named found → w1 ≡ appended w0 (text_of_lines (First 1 ∷ []))
     → TracksJob named (record { files = files; written = w0 }) (record { files = files; written = w1 }) (Err stop)
 tracks_third named files w0 w1 found lists steps stop is p first =
-    tracks_then named files w0 w1 (ready.Yes lists steps) (prepared_at files named found (ready.Yes lists steps) is p) _ (Err stop) first (stops_nothing stop (target named) _ _ _)
+    tracks_then named files w0 w1 (ready.Yes lists steps) (prepared_at files named found (ready.Yes lists steps) is p) _ (Err stop) first (short_nothing stop (target named) _ _ _ (meeting_left (given lists) steps (met_first (given lists))))
 
 -- a mesh and directives
 pub tracks_ready : (named : Named) (files : Option Files) (w0 w1 : Option (List ℕ)) (found : Ready) (lists : MeshLists) (steps : List Placed) (m : Mesh) (new : World) (r : Result (Option Refusal) Stop) → found ≡ ready.Yes lists steps → Prepares files named found → w1 ≡ appended w0 (text_of_lines (First 1 ∷ []))
@@ -210,7 +211,11 @@ tested_clear to m steps a b r o first none f = let P : Option PairName → Type 
 meets_at_first : (to : Target) (m : Mesh) (steps : List Placed) (files : Option Files) (old new : Option (List ℕ)) (pair : PairName) (r : Result (Option Refusal) Stop) → Written old new (Refused (refusal.Meets pair) ∷ []) r → OnErr r (AppendsPart old new (text_of_line (Refused (refusal.Meets pair)))) → IfOk r (λ e. e ≡ Some (refusal.Meets pair))
     → Follows to (at_mesh m) (told_of_meeting m steps (Some pair)) (record { files = files; written = old }) (record { files = files; written = new }) r
 meets_at_first to m steps files old new pair (Ok e) said part ending = (record { written = said; files = refl }, ending)
-meets_at_first to m steps files old new pair (Err stop) said part ending = stops_line stop to (at_mesh m) (Refused (refusal.Meets pair)) [] files old new part
+meets_at_first to m steps files old new pair (Err stop) said part ending = short_line stop to (at_mesh m) (Refused (refusal.Meets pair)) [] files old new part
+
+-- the mesh is not tested, and nothing is done
+pub tested_nothing : (to : Target) (m : Mesh) (steps : List Placed) (w : World) (stop : Stop) → StopsShort stop to (at_mesh m) (told_of_meeting m steps (met_first m)).lines w w
+tested_nothing to m steps w stop = short_nothing stop to (at_mesh m) _ w (meeting_left m steps (met_first m))
 
 -- a pair meets, and is told
 pub tested_meets : (to : Target) (m : Mesh) (steps : List Placed) (files : Option Files) (old new : Option (List ℕ)) (pair : PairName) (r : Result (Option Refusal) Stop) (o : Option PairName) → o ≡ met_first m → o ≡ Some pair

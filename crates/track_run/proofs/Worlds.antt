@@ -1,5 +1,6 @@
 -- What parts of a run do, one after another.
 use Rattle.std.proofs.Common.{◌≡◌, ℕ, List, [], ◌∷◌, ◌++◌, ◌⊎◌, inl, inr, refl, ap, sym, ◌∙◌, subst, append_assoc}
+use Rattle.std.specs.Prelude.{◌≢◌}
 use Rattle.std.specs.declared.option.Option.{Option}
 use Rattle.log_text.specs.Lines.{text_of_lines, text_of_line}
 use Rattle.log_text.specs.declared.LogLine.{LogLine}
@@ -8,7 +9,7 @@ use Rattle.outside_io.specs.Desk.{Files}
 use Rattle.track_run.specs.declared.outcome.Stop.{Stop}
 use Rattle.log_text.specs.Replay.{Replay, after, replayed}
 use Rattle.track_run.specs.Saved.{Target, files_of, file_at, stored, file_name}
-use Rattle.track_run.specs.World.{World, Logs, StopsIn, LastIsOpen, IsOpen}
+use Rattle.track_run.specs.World.{World, Logs, StopsIn, StopsShort, LastIsOpen, IsOpen}
 use Rattle.outside_io.specs.Sink.{appended, AppendsPart}
 use Rattle.pass_run.proofs.WrittenLines.{written_nothing, written_part, written_whole, written_then, part_then, part_more}
 
@@ -76,3 +77,33 @@ stops_open stop to from k vertices faces files now old new said is_open = record
   text = written_whole old new (MeshLine k vertices faces ∷ []) said;
   files = inr (record { front = []; k = k; vertices = vertices; faces = faces; last = refl; open_file = is_open });
 }
+
+-- ---- a stop before the end
+
+pub one_line : (line : LogLine) (lines : List LogLine) → line ∷ lines ≢ []
+one_line line lines e = absurd cc
+
+pub more_lines : (xs ys : List LogLine) → ys ≢ [] → xs ++ ys ≢ []
+more_lines [] ys some = some
+more_lines (x ∷ xs) ys some = one_line x (xs ++ ys)
+
+-- in the lines after others
+pub short_then : (stop : Stop) (to : Target) (from : Replay) (xs ys : List LogLine) (a b c : World) → Logs to from xs a b → StopsShort stop to (after from xs) ys b c → StopsShort stop to from (xs ++ ys) a c
+unfolding stops_then
+short_then stop to from xs ys a b c p s = record { in_part = stops_then stop to from xs ys a b c p s.in_part; left = s.left }
+
+-- a stop in some lines is before the end of more
+pub short_more : (stop : Stop) (to : Target) (from : Replay) (xs ys : List LogLine) (a b : World) → ys ≢ [] → StopsIn stop to from xs a b → StopsShort stop to from (xs ++ ys) a b
+unfolding stops_more
+short_more stop to from xs ys a b some s = record { in_part = stops_more stop to from xs ys a b s; left = more_lines s.text.rest ys some }
+
+-- nothing was done
+pub short_nothing : (stop : Stop) (to : Target) (from : Replay) (lines : List LogLine) (w : World) → lines ≢ [] → StopsShort stop to from lines w w
+unfolding stops_nothing
+short_nothing stop to from lines w some = record { in_part = stops_nothing stop to from lines w; left = some }
+
+-- the first line is written in part
+pub short_line : (stop : Stop) (to : Target) (from : Replay) (line : LogLine) (lines : List LogLine) (files : Option Files) (old new : Option (List ℕ)) → AppendsPart old new (text_of_line line)
+    → StopsShort stop to from (line ∷ lines) (record { files = files; written = old }) (record { files = files; written = new })
+unfolding stops_line
+short_line stop to from line lines files old new part = record { in_part = stops_line stop to from line lines files old new part; left = one_line line lines }

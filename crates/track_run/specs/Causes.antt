@@ -2,6 +2,10 @@
 use Rattle.std.specs.Prelude.{◌≡◌, ℕ, List, [], ◌∷◌, ◌++◌, length, Some, None, Ok, Err}
 use Rattle.mesh_base.specs.declared.UseWhy.{UseWhy}
 use Rattle.mesh_base.specs.declared.FileWord.TheVariants as file
+use Rattle.mesh_base.specs.declared.PairName.{PairName}
+use Rattle.mesh_base.specs.Mesh.{Mesh}
+use Rattle.mesh_base.specs.Placements.{IsClearMesh}
+use Rattle.pair_scan.specs.Scan.{IsMeeting, NoneMeetsBefore}
 use Rattle.mesh_plain.specs.Shape.{shape_fault}
 use Rattle.obj_text.specs.Obj.{Lists, lists_of}
 use Rattle.step_text.specs.declared.Placed.{Placed}
@@ -39,6 +43,13 @@ pub record HasSteps (job : Job) (lists : Lists) (directives : List Placed) : Typ
 pub record HasClear (job : Job) (lists : Lists) (directives : List Placed) : Type 0 where
   pub steps_read : HasSteps job lists directives
   pub clear : met_first (mesh_of_lists lists) ≡ None
+  pub none_meets : IsClearMesh (mesh_of_lists lists)
+
+-- the pair is the first that meets: it is a pair of the mesh and meets, and none that meets comes before it
+pub record MeetsFirst (m : Mesh) (pair : PairName) : Type 0 where
+  pub found : met_first m ≡ Some pair
+  pub meets : IsMeeting m pair
+  pub none_before : NoneMeetsBefore m pair
 
 -- all of these directives are taken, from one state to the other
 abbrev pub Reaches : State → List Placed → State → Type 0
@@ -67,7 +78,7 @@ Cause job (outcome.MeshText fault) = (bytes : List ℕ) × (job.mesh_file ≡ By
 Cause job (outcome.MeshShape fault) = (lists : Lists) × (steps : List ℕ) × HasLists job lists steps × (shape_fault (length lists.points) lists.faces ≡ Some fault)
 Cause job (outcome.StepText fault) = (lists : Lists) × (steps : List ℕ) × HasMesh job lists steps × (steps_of steps ≡ Err fault)
 Cause job (outcome.StepUse line why) = (lists : Lists) × (directives : List Placed) × HasClear job lists directives × IsRefusedAt (start (mesh_of_lists lists)) directives line why
-Cause job (outcome.MeshMeets pair) = (lists : Lists) × (directives : List Placed) × HasSteps job lists directives × (met_first (mesh_of_lists lists) ≡ Some pair)
+Cause job (outcome.MeshMeets pair) = (lists : Lists) × (directives : List Placed) × HasSteps job lists directives × MeetsFirst (mesh_of_lists lists) pair
 -- no job is of words that name none
 Cause job outcome.Usage = ⊥
 -- these stop a run, whatever its job

@@ -4,12 +4,15 @@ use Rattle.std.specs.FinMap as finite
 use Rattle.mesh_base.specs.Mesh.{Mesh, IsSound}
 use Rattle.mesh_base.specs.Sides.{IsClosed}
 use Rattle.mesh_base.specs.Placements.{IsClearMesh, IsClearAlong}
-use Rattle.mesh_base.specs.Shifts.{moved_by}
+use Rattle.mesh_base.specs.Shifts.{moved_by, with_moves}
 use Rattle.obj_text.specs.Obj.{lists_of}
 use Rattle.obj_text.specs.Written.{mesh_text, ranked_lists}
 use Rattle.obj_text.specs.Laws.{renumbered}
 use Rattle.log_text.specs.declared.LogLine.{LogLine}
+use Rattle.edit_base.specs.declared.Change.{Change}
+use Rattle.edit_base.specs.Answers.{edited}
 use Rattle.edit_base.specs.Clauses.{MovesClear}
+use Rattle.pass_run.specs.Promises.{IsGood}
 use Rattle.log_text.specs.declared.LogLine.TheVariants.{Mesh as MeshLine, Moved, Did}
 use Rattle.log_text.specs.Replay.{Replay, replayed}
 use Rattle.track_run.specs.Job.{mesh_of_lists}
@@ -32,13 +35,26 @@ pub record IsSavedWell (r : Replay) (vertices faces : ℕ) : Type 0 where
   pub clear : IsClearMesh r.mesh
   pub read_again : (decimals : ℕ) → decimals ≤ 6 → IsReadAgain decimals r.mesh
 
+-- A motion by the `move` lines so far begins in a mesh that is sound, closed and clear, keeps it clear at every fraction, and ends in one
+-- that is so too.
+pub record MovesWell (r : Replay) : Type 0 where
+  pub before : IsGood r.mesh
+  pub along : IsClearAlong r.mesh (moved_by r.mesh r.moves)
+  pub after : IsGood (with_moves r.mesh r.moves)
+
+-- An edit begins in a mesh that is sound, closed and clear, its scaffold is closed, and clear at every fraction of its motion, and it
+-- leaves a mesh that is sound, closed and clear.
+pub record EditsWell (r : Replay) (change : Change) : Type 0 where
+  pub before : IsGood r.mesh
+  pub along : MovesClear r.mesh change
+  pub after : IsGood (edited r.mesh change)
+
 -- What a line promises of the replay where it stands: of a `mesh` line that the mesh is saved well, of a `moved` line that the
--- motion by the `move` lines keeps the mesh clear at every fraction, and of the line of a done edit that its scaffold is closed and clear at
--- every fraction of its motion.
+-- motion by the `move` lines goes well, and of the line of a done edit that the edit does.
 abbrev pub KeepsAt : Replay → LogLine → Type 0
 KeepsAt r (MeshLine k vertices faces) = IsSavedWell r vertices faces
-KeepsAt r (Moved how) = IsClearAlong r.mesh (moved_by r.mesh r.moves)
-KeepsAt r (Did change) = MovesClear r.mesh change
+KeepsAt r (Moved how) = MovesWell r
+KeepsAt r (Did change) = EditsWell r change
 KeepsAt r _ = Unit {0}
 
 -- each line in turn keeps its promise

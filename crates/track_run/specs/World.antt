@@ -1,5 +1,5 @@
 -- What a run does to a sink and a desk, and the headline.
-use Rattle.std.specs.Prelude.{◌≡◌, ◌≤◌, ◌⊎◌, ℕ, List, [], ◌∷◌, ◌++◌, Option, Some, None, Result, Ok, Err, IsErrOf}
+use Rattle.std.specs.Prelude.{◌≡◌, ◌≢◌, ◌≤◌, ◌⊎◌, ℕ, List, [], ◌∷◌, ◌++◌, Option, Some, None, Result, Ok, Err, IsErrOf}
 use Rattle.step_text.specs.declared.Directive.{Directive}
 use Rattle.step_text.specs.declared.Directive.TheVariants as directive
 use Rattle.log_text.specs.Lines.{text_of_lines}
@@ -60,6 +60,11 @@ pub record StopsIn (stop : Stop) (to : Target) (from : Replay) (lines : List Log
   pub text : WrittenInPart old.written new.written lines
   pub files : (new.files ≡ stored (files_of to from text.done) old.files) ⊎ LastIsOpen stop to from text.done old.files new.files
 
+-- A run was stopped in these lines before their end: what is left of them begins with a line that is not written whole.
+pub record StopsShort (stop : Stop) (to : Target) (from : Replay) (lines : List LogLine) (old new : World) : Type 0 where
+  pub in_part : StopsIn stop to from lines old new
+  pub left : in_part.text.rest ≢ []
+
 -- the counts have not fallen, and at a fault the one has risen
 pub record HasCauses {T : Type 0} (desk_old desk_new out_old out_new : ℕ) (result : Result T Stop) : Type 0 where
   pub desk : desk_old ≤ desk_new
@@ -84,10 +89,10 @@ outcome_at NoMemory = outcome.NoMemory
 outcome_at DeskFault = outcome.DeskFault
 outcome_at SinkFault = outcome.SinkFault
 
--- A part of a run writes the lines that are told and stores their meshes, or the first of them.
+-- A part of a run writes the lines that are told and stores their meshes, or the first of them and not all.
 abbrev pub Follows : Target → Replay → Told → World → World → Result (Option Refusal) Stop → Type 0
 Follows to from told old new (Ok ending) = Logs to from told.lines old new × (ending ≡ told.ending)
-Follows to from told old new (Err stop) = StopsIn stop to from told.lines old new
+Follows to from told old new (Err stop) = StopsShort stop to from told.lines old new
 
 -- how a run of a job ended: with its whole log, or stopped before the log's end
 abbrev pub outcome_from : Result (Option Refusal) Stop → Outcome
@@ -98,10 +103,10 @@ outcome_from (Err stop) = outcome_at stop
 abbrev pub target : Named → Target
 target named = record { prefix = named.prefix; decimals = named.decimals }
 
--- THE HEADLINE, of a job. What the run did is the job's log, or the first of it. In every mesh that the log saves no edge meets a face that
+-- THE HEADLINE, of a job. What the run did is the job's log, or, where it was stopped, the first of it and not the whole. In every mesh that the log saves no edge meets a face that
 -- shares no vertex with it, and the mesh is closed, with the live numbers that its line tells; and its text is read again as that mesh,
 -- numbered anew. Every motion that the log tells keeps it so at every fraction. A step whose pairs all pass is taken unaltered; otherwise
--- each pair that does not pass is logged. The lines of a directive, replayed from where the run stood before it, lead to where it stands
+-- each pair that does not pass is logged, and it is taken by the first way that applies. The lines of a directive, replayed from where the run stood before it, lead to where it stands
 -- after it. Wherever a run of the job stands between two directives, the replay of the log up to there stands too, so the pairs of a step
 -- are tested in the mesh that the log tells; and that mesh is sound, closed and clear, with a shift asked of each live vertex. The outcome
 -- has its cause in the job, and the job has a cause for no other outcome but those that stop a run.

@@ -1,7 +1,6 @@
 use Rattle.track_run.specs.Names.{target_of}
 use Rattle.track_run.specs.World.{world}
-use Rattle.track_run.proofs.TopLemmas.{tested_clear, tested_meets}
-use Rattle.track_run.proofs.Worlds.{stops_nothing}
+use Rattle.track_run.proofs.TopLemmas.{tested_clear, tested_meets, tested_nothing}
 use Rattle.track_run.proofs.top.test_and_begin.Goals as goal
 
 pub returns-in-Ok-None-clause-follows : goal.returns-in-Ok-None-clause-follows
@@ -20,4 +19,4 @@ returns-in-Ok-Some-clause-follows g c =
     c.in-Ok-Some.field-0 c.in-Ok-Some.ensures.first c.in-Ok-Some.field-0-is c.finish.ensures.said c.finish.ensures.part c.finish.ensures.ending
 
 pub returns-in-Err-clause-follows : goal.returns-in-Err-clause-follows
-returns-in-Err-clause-follows g c = stops_nothing _ (target_of c.args.names) _ _ _
+returns-in-Err-clause-follows g c = tested_nothing (target_of c.args.names) (g.S.Surface.mesh c.args.mesh.now) c.args.steps.now _ _
