@@ -4,6 +4,7 @@ import math
 import os
 import resource
 import subprocess
+import tempfile
 import time
 
 ROOT = os.path.dirname(os.path.dirname(os.path.abspath(__file__)))
@@ -89,3 +90,23 @@ def run(folder, steps):
 def most_memory():
     """The most memory of a run so far, in MiB (the build's counted, if the program was built)."""
     return resource.getrusage(resource.RUSAGE_CHILDREN).ru_maxrss / 1024
+
+
+def squared_lengths(points, faces):
+    """The squares of the lengths of all edges, rising."""
+    edges = {tuple(sorted(e)) for f in faces for e in ((f[0], f[1]), (f[1], f[2]), (f[2], f[0]))}
+    return sorted(sum((p - q) ** 2 for p, q in zip(points[a - 1], points[b - 1])) for a, b in edges)
+
+
+def time_pass(points, faces, idle, busy):
+    """Runs a pass that finds nothing to do and one that does, and tells how long the second took beside the first."""
+    word = busy.split()[0].encode()
+    with tempfile.TemporaryDirectory() as folder:
+        put_mesh(folder, points, faces)
+        alone = run(folder, [idle + "\n"])[1]
+        status, whole, lines = run(folder, [busy + "\n"])
+    done = sum(line.startswith(word + b" ") for line in lines)
+    refused = sum(line.startswith(b"no " + word + b" ") for line in lines)
+    seconds = max(whole - alone, 0.001)
+    print(f"{len(points)} vertices, {len(faces)} faces, {busy}: status {status}, {done} done and {refused} refused in {seconds:.2f} s, "
+          f"{(done + refused) / seconds:.1f} a second ({alone:.2f} s beside them), {most_memory():.0f} MiB at most")

@@ -8,9 +8,8 @@ one that splits none; the difference is the splits' time.
 """
 
 import sys
-import tempfile
 
-from job import build, globe, most_memory, put_mesh, run
+from job import build, globe, squared_lengths, time_pass
 
 
 def main():
@@ -18,16 +17,8 @@ def main():
     build()
     for rings, sides in ((84, 119), (169, 237)):
         points, faces = globe(rings, sides, radius=1_000_000)
-        edges = {tuple(sorted(e)) for f in faces for e in ((f[0], f[1]), (f[1], f[2]), (f[2], f[0]))}
-        lengths = sorted((sum((p - q) ** 2 for p, q in zip(points[a - 1], points[b - 1])) for a, b in edges), reverse=True)
-        over = int(lengths[count] ** 0.5)
-        with tempfile.TemporaryDirectory() as folder:
-            put_mesh(folder, points, faces)
-            alone = run(folder, ["split 268435456\n"])[1]
-            status, whole, lines = run(folder, ["split %d\n" % over])
-        done = sum(line.startswith(b"split ") for line in lines)
-        print(f"{len(points)} vertices, {len(faces)} faces: status {status}, {done} splits in {whole - alone:.2f} s, "
-              f"{done / (whole - alone):.1f} a second ({alone:.2f} s beside them), {most_memory():.0f} MiB at most")
+        length = int(squared_lengths(points, faces)[-1 - count] ** 0.5)
+        time_pass(points, faces, "split 268435456", f"split {length}")
 
 
 if __name__ == "__main__":

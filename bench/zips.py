@@ -7,9 +7,7 @@ Makes two flat plates of about 10,000 and of about 40,000 faces each, one over t
 edges are near enough: once with a distance at which none is, and once with one at which some are.
 """
 
-import tempfile
-
-from job import build, most_memory, put_mesh, run
+from job import build, time_pass
 
 SIDE, GAP, DENT = 100, 40, 10
 
@@ -46,15 +44,8 @@ def main():
         base = len(points)
         points = points + above
         faces = faces + [tuple(base + v for v in f) for f in more]
-        with tempfile.TemporaryDirectory() as folder:
-            put_mesh(folder, points, faces)
-            alone = run(folder, [])[1]
-            for within in (29, 31):
-                status, whole, lines = run(folder, ["zip %d\n" % within])
-                done = sum(line.startswith(b"zip ") for line in lines)
-                refused = sum(line.startswith(b"no zip ") for line in lines)
-                print(f"{len(points)} vertices, {len(faces)} faces, zip {within}: status {status}, {done} done and {refused} refused in "
-                      f"{whole - alone:.2f} s ({alone:.2f} s beside the pass), {most_memory():.0f} MiB at most")
+        for within in (29, 31):
+            time_pass(points, faces, "collapse 0", f"zip {within}")
 
 
 if __name__ == "__main__":

@@ -26,12 +26,27 @@ CROSSED = (
     "v 0 0 0\nv 4 0 0\nv 0 4 0\nv 0 0 4\nv 1 1 1\nv 5 1 1\nv 1 5 1\nv 1 1 5\n"
     "f 1 3 2\nf 1 2 4\nf 2 3 4\nf 1 4 3\nf 5 7 6\nf 5 6 8\nf 6 7 8\nf 5 8 7\n"
 )
+PARTED = (
+    "v 0 0 0\nv 0 0 8\nv 100 -40 4\nv 100 40 4\nv 120 0 7\nv -100 -40 4\nv -100 40 4\nv -120 0 7\n"
+    "f 1 2 3\nf 1 3 4\nf 1 4 2\nf 5 3 2\nf 5 4 3\nf 5 2 4\nf 2 1 6\nf 1 7 6\nf 1 2 7\nf 8 2 6\nf 8 6 7\nf 8 7 2\n"
+)
+BOXES = (
+    "v 10 0 0\nv 10 10 10\nv 10 10 0\nv 10 0 10\nv 0 0 0\nv 0 10 0\nv 0 10 10\nv 0 0 10\n"
+    "v 14 -5 -5\nv 14 15 15\nv 14 15 -5\nv 14 -5 15\nv 34 -5 -5\nv 34 15 -5\nv 34 15 15\nv 34 -5 15\n"
+    "f 1 3 2\nf 1 2 4\nf 5 8 7\nf 5 7 6\nf 1 4 8\nf 1 8 5\nf 3 6 7\nf 3 7 2\nf 1 5 6\nf 1 6 3\nf 4 2 7\nf 4 7 8\n"
+    "f 9 12 10\nf 9 10 11\nf 13 14 15\nf 13 15 16\nf 9 13 16\nf 9 16 12\nf 11 10 15\nf 11 15 14\nf 9 11 14\nf 9 14 13\nf 12 16 15\nf 12 15 10\n"
+)
+BAR = ("v 12 -6 5\nv 12 60 4\nv 12 60 6\nv 13 60 5\n", "f 17 19 18\nf 17 18 20\nf 18 19 20\nf 17 20 19\n")
+WITH_A_BAR = BOXES.replace("f 1 3 2\n", BAR[0] + "f 1 3 2\n", 1) + BAR[1]
 JOBS = [
     ("a step that is whole", TETRAHEDRON, "shift all 1 2 3\nstep\nsave\n"),
     ("a step that is halved", TWO, "shift 5 -8 0 0\nstep\nsave\n"),
     ("splits", TETRAHEDRON, "split 3\nsave\n"),
     ("a flip", FLAT, "flip\nsave\n"),
     ("steps, splits and flips", TWO, "shift all 1 0 0\nstep\nsplit 10\nflip\nshift 5 -3 1 0\nstep\nsave\nsplit 6\nsave\n"),
+    ("a collapse and a pinch", PARTED, "collapse 10\npinch\nsave\n"),
+    ("a zip", BOXES, "zip 4\nsave\n"),
+    ("a zip that is refused in each turn", WITH_A_BAR, "zip 4\nsave\n"),
     ("a mesh that meets itself", CROSSED, ""),
     ("a bad step text", TETRAHEDRON, "shift all 1 2 3\nstep\nshift al\n"),
 ]

@@ -26,6 +26,8 @@ def main():
             shutil.rmtree(path)
         for name in names:
             crate = os.path.join(copy, "crates", name)
+            if not os.path.isdir(os.path.join(crate, "must-fail-more")):
+                sys.exit(f"{name} has no further edits")
             os.rename(os.path.join(crate, "must-fail-more"), os.path.join(crate, "must-fail"))
         return subprocess.run(["rt", "must-fail", *names], cwd=copy).returncode
 

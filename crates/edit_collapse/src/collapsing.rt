@@ -155,8 +155,9 @@ fn collapse_ordered<S: Surface>(
 }
 
 /// Collapses the edge of two ids, in any order, to its midpoint, each component rounded down: the faces that hold both are
-/// dropped, those at the larger end are made again at the smaller, faces that are then opposite to each other are dropped
-/// by two, and so are the larger end and the vertices that have no face any more.
+/// dropped, those at the larger end are made again at the smaller, faces at the smaller end that are then opposite to each
+/// other are dropped by two, and so are the larger end and the vertices that have no face any more. A crowded edge may be
+/// collapsed.
 ///
 /// The answer is exact. It is Done with the edge, smaller end first, and its point; or No with the first reason that holds:
 /// the ids are no edge, two faces of the result would be equal up to rotation, it would pass a limit, or, of all pairs in

@@ -69,6 +69,11 @@ const FACES: [[u32; 3]; 28] = [
     [17, 20, 19],
 ];
 
+// A tetrahedron.
+const EVEN: [[i32; 3]; 4] = [[0, 0, 0], [4, 0, 0], [0, 4, 0], [0, 0, 4]];
+
+const FOUR: [[u32; 3]; 4] = [[1, 3, 2], [1, 2, 4], [2, 3, 4], [1, 4, 3]];
+
 // The tunnel between the two boxes.
 const TUNNEL: [(u32, [u32; 3]); 8] = [
     (25, [2, 4, 10]),
@@ -205,5 +210,20 @@ fn a_refused_zip_leaves_the_mesh(rt: HostRuntime) -> Result<(), Fail> {
     assert!(rt; !zip_ready(&mesh, VertexId(1), VertexId(2), VertexId(2), VertexId(3)));
     assert_eq!(rt; (mesh.vertices(), mesh.faces()), (20, 28));
     assert_eq!(rt; (mesh.next_vertex(), mesh.next_face()), (21, 29));
+    Ok(())
+}
+
+#[test]
+fn edges_across_a_tetrahedron_share_their_vertices(rt: HostRuntime) -> Result<(), Fail> {
+    let mut mesh = mesh_at(rt.alloc(), &EVEN, &FOUR, &rt)?;
+    let edit = zip(
+        rt.alloc(),
+        &mut mesh,
+        VertexId(1),
+        VertexId(2),
+        VertexId(3),
+        VertexId(4),
+    )?;
+    assert_eq!(rt; reason(&edit), Some(Why::Shared));
     Ok(())
 }

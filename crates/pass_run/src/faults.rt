@@ -1,3 +1,4 @@
+//! Why a pass stops.
 ghost use Rattle.std.specs.Prelude.{◌≡◌};
 ghost use Rattle.pass_run.specs.declared.faults.PassFault.TheVariants as faults;
 

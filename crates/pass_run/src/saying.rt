@@ -1,3 +1,4 @@
+//! One line of the log.
 ghost use Rattle.std.specs.Prelude.{◌≡◌, ◌≤◌, [], ◌∷◌, OnOk, OnErr, IsErrOf};
 ghost use Rattle.log_text.specs.Lines.{text_of_line};
 ghost use Rattle.outside_io.specs.Causes.{Rose};

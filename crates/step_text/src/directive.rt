@@ -18,7 +18,7 @@ pub enum Directive {
     ShiftAll { by: Shift },
     /// Take the asked shifts.
     Step,
-    /// Make a pass over the edges or the vertices of the mesh.
+    /// Make a pass over the edges, the pairs of edges or the vertices of the mesh.
     Pass(PassKind),
     /// Store the mesh as it is.
     Save,

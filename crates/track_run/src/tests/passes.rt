@@ -62,42 +62,52 @@ const CASES: [Case; 12] = [
         mesh: b"v 0 0 0\nv 4 0 0\nv 0 4 0\nv 0 0 4\nf 1 3 2\nf 1 2 4\nf 2 3 4\nf 1 4 3\n",
         steps: b"collapse 5\nsave\n",
         log: b"topo log 1\nmesh 0 4 4\npass collapse 5\ncollapse 1 2 2 0 0\nmesh 1 0 0\nend\n",
-        saved: Some(b"".as_slice()),
+        saved: Some(b""),
     },
     // An edge with four faces is collapsed to a vertex.
     Case {
         mesh: b"v 0 0 0\nv 0 0 8\nv 100 -40 4\nv 100 40 4\nv 120 0 7\nv -100 -40 4\nv -100 40 4\nv -120 0 7\nf 1 2 3\nf 1 3 4\nf 1 4 2\nf 5 3 2\nf 5 4 3\nf 5 2 4\nf 2 1 6\nf 1 7 6\nf 1 2 7\nf 8 2 6\nf 8 6 7\nf 8 7 2\n",
-        steps: b"collapse 10\n",
-        log: b"topo log 1\nmesh 0 8 12\npass collapse 10\ncollapse 1 2 0 0 4\nend\n",
-        saved: None,
+        steps: b"collapse 10\nsave\n",
+        log: b"topo log 1\nmesh 0 8 12\npass collapse 10\ncollapse 1 2 0 0 4\nmesh 1 7 8\nend\n",
+        saved: Some(
+            b"v 0 0 4\nv 100 -40 4\nv 100 40 4\nv 120 0 7\nv -100 -40 4\nv -100 40 4\nv -120 0 7\nf 1 2 3\nf 4 3 2\nf 1 6 5\nf 7 5 6\nf 4 2 1\nf 4 1 3\nf 7 1 5\nf 7 6 1\n",
+        ),
     },
     // That vertex is parted again.
     Case {
         mesh: b"v 0 0 0\nv 0 0 8\nv 100 -40 4\nv 100 40 4\nv 120 0 7\nv -100 -40 4\nv -100 40 4\nv -120 0 7\nf 1 2 3\nf 1 3 4\nf 1 4 2\nf 5 3 2\nf 5 4 3\nf 5 2 4\nf 2 1 6\nf 1 7 6\nf 1 2 7\nf 8 2 6\nf 8 6 7\nf 8 7 2\n",
-        steps: b"collapse 10\npinch\n",
-        log: b"topo log 1\nmesh 0 8 12\npass collapse 10\ncollapse 1 2 0 0 4\npass pinch\npinch 1 13 0 4 9 -13 0 4\nend\n",
-        saved: None,
+        steps: b"collapse 10\npinch\nsave\n",
+        log: b"topo log 1\nmesh 0 8 12\npass collapse 10\ncollapse 1 2 0 0 4\npass pinch\npinch 1 13 0 4 9 -13 0 4\nmesh 1 8 8\nend\n",
+        saved: Some(
+            b"v 13 0 4\nv 100 -40 4\nv 100 40 4\nv 120 0 7\nv -100 -40 4\nv -100 40 4\nv -120 0 7\nv -13 0 4\nf 1 2 3\nf 4 3 2\nf 7 5 6\nf 4 2 1\nf 4 1 3\nf 8 6 5\nf 7 8 5\nf 7 6 8\n",
+        ),
     },
     // Two tetrahedra at one vertex go apart.
     Case {
         mesh: b"v 0 0 0\nv 8 0 0\nv 8 4 0\nv 8 0 4\nv -8 0 0\nv -8 4 0\nv -8 0 4\nf 1 3 2\nf 1 2 4\nf 2 3 4\nf 1 4 3\nf 1 6 5\nf 1 5 7\nf 5 6 7\nf 1 7 6\n",
-        steps: b"pinch\n",
-        log: b"topo log 1\nmesh 0 7 8\npass pinch\npinch 1 1 0 0 8 -1 0 0\nend\n",
-        saved: None,
+        steps: b"pinch\nsave\n",
+        log: b"topo log 1\nmesh 0 7 8\npass pinch\npinch 1 1 0 0 8 -1 0 0\nmesh 1 8 8\nend\n",
+        saved: Some(
+            b"v 1 0 0\nv 8 0 0\nv 8 4 0\nv 8 0 4\nv -8 0 0\nv -8 4 0\nv -8 0 4\nv -1 0 0\nf 1 3 2\nf 1 2 4\nf 2 3 4\nf 1 4 3\nf 5 6 7\nf 8 6 5\nf 8 5 7\nf 8 7 6\n",
+        ),
     },
     // Two boxes that face each other are joined.
     Case {
         mesh: b"v 10 0 0\nv 10 10 10\nv 10 10 0\nv 10 0 10\nv 0 0 0\nv 0 10 0\nv 0 10 10\nv 0 0 10\nv 14 -5 -5\nv 14 15 15\nv 14 15 -5\nv 14 -5 15\nv 34 -5 -5\nv 34 15 -5\nv 34 15 15\nv 34 -5 15\nf 1 3 2 4\nf 5 8 7 6\nf 1 4 8 5\nf 3 6 7 2\nf 1 5 6 3\nf 4 2 7 8\nf 9 12 10 11\nf 13 14 15 16\nf 9 13 16 12\nf 11 10 15 14\nf 9 11 14 13\nf 12 16 15 10\n",
-        steps: b"zip 4\n",
-        log: b"topo log 1\nmesh 0 16 24\npass zip 4\nzip 1 2 9 10 0\nend\n",
-        saved: None,
+        steps: b"zip 4\nsave\n",
+        log: b"topo log 1\nmesh 0 16 24\npass zip 4\nzip 1 2 9 10 0\nmesh 1 16 28\nend\n",
+        saved: Some(
+            b"v 10 0 0\nv 10 10 10\nv 10 10 0\nv 10 0 10\nv 0 0 0\nv 0 10 0\nv 0 10 10\nv 0 0 10\nv 14 -5 -5\nv 14 15 15\nv 14 15 -5\nv 14 -5 15\nv 34 -5 -5\nv 34 15 -5\nv 34 15 15\nv 34 -5 15\nf 5 8 7\nf 5 7 6\nf 1 4 8\nf 1 8 5\nf 3 6 7\nf 3 7 2\nf 1 5 6\nf 1 6 3\nf 4 2 7\nf 4 7 8\nf 13 14 15\nf 13 15 16\nf 9 13 16\nf 9 16 12\nf 11 10 15\nf 11 15 14\nf 9 11 14\nf 9 14 13\nf 12 16 15\nf 12 15 10\nf 2 4 10\nf 4 12 10\nf 4 1 12\nf 1 9 12\nf 1 3 9\nf 3 11 9\nf 3 2 11\nf 2 10 11\n",
+        ),
     },
     // A bar stands between them.
     Case {
         mesh: b"v 10 0 0\nv 10 10 10\nv 10 10 0\nv 10 0 10\nv 0 0 0\nv 0 10 0\nv 0 10 10\nv 0 0 10\nv 14 -5 -5\nv 14 15 15\nv 14 15 -5\nv 14 -5 15\nv 34 -5 -5\nv 34 15 -5\nv 34 15 15\nv 34 -5 15\nv 12 -6 5\nv 12 60 4\nv 12 60 6\nv 13 60 5\nf 1 3 2 4\nf 5 8 7 6\nf 1 4 8 5\nf 3 6 7 2\nf 1 5 6 3\nf 4 2 7 8\nf 9 12 10 11\nf 13 14 15 16\nf 9 13 16 12\nf 11 10 15 14\nf 9 11 14 13\nf 12 16 15 10\nf 17 19 18\nf 17 18 20\nf 18 19 20\nf 17 20 19\n",
-        steps: b"zip 4\n",
-        log: b"topo log 1\nmesh 0 20 28\npass zip 4\nno zip 1 2 9 10 hit 1 10 29\nend\n",
-        saved: None,
+        steps: b"zip 4\nsave\n",
+        log: b"topo log 1\nmesh 0 20 28\npass zip 4\nno zip 1 2 9 10 hit 1 10 29\nmesh 1 20 28\nend\n",
+        saved: Some(
+            b"v 10 0 0\nv 10 10 10\nv 10 10 0\nv 10 0 10\nv 0 0 0\nv 0 10 0\nv 0 10 10\nv 0 0 10\nv 14 -5 -5\nv 14 15 15\nv 14 15 -5\nv 14 -5 15\nv 34 -5 -5\nv 34 15 -5\nv 34 15 15\nv 34 -5 15\nv 12 -6 5\nv 12 60 4\nv 12 60 6\nv 13 60 5\nf 1 3 2\nf 1 2 4\nf 5 8 7\nf 5 7 6\nf 1 4 8\nf 1 8 5\nf 3 6 7\nf 3 7 2\nf 1 5 6\nf 1 6 3\nf 4 2 7\nf 4 7 8\nf 9 12 10\nf 9 10 11\nf 13 14 15\nf 13 15 16\nf 9 13 16\nf 9 16 12\nf 11 10 15\nf 11 15 14\nf 9 11 14\nf 9 14 13\nf 12 16 15\nf 12 15 10\nf 17 19 18\nf 17 18 20\nf 18 19 20\nf 17 20 19\n",
+        ),
     },
 ];
 
