@@ -1,29 +1,26 @@
 -- Every mesh and motion of a log keeps its promise.
-use Rattle.std.proofs.Common.{◌≡◌, ℕ, ◌+◌, ◌==◌, Bool, true, false, cond, not, eqb, List, [], ◌∷◌, ◌++◌, map, length, Option, Some, None, Result, Ok, Err, IfOk, refl, ap, sym, ◌∙◌, subst, inl, inr, ℤ, pos, unsigned_abs, ◌≤◌, arith}
-use Rattle.std.specs.Prelude.{◌⊎◌}
-use Rattle.std.specs.Option.{option_map, unwrap_or}
-use Rattle.std.specs.List.{AllByRecursion, find}
+use Rattle.std.proofs.Common.{◌≡◌, ℕ, ◌+◌, ◌==◌, Bool, true, false, cond, not, List, [], ◌∷◌, ◌++◌, map, length, Option, Some, None, Result, Ok, Err, IfOk, refl, ap, sym, ◌∙◌, subst, ℤ, pos, unsigned_abs, ◌≤◌, arith}
+use Rattle.std.specs.Option.{unwrap_or}
 use Rattle.std.specs.FinMap as finite
-use Rattle.std.proofs.lemmas.Bool.{false≢true, eqb-true}
+use Rattle.std.proofs.lemmas.Bool.{eqb-true}
 use Rattle.std.proofs.lemmas.Int.{ints}
 use Rattle.std.proofs.lemmas.List.{length-map}
 use Rattle.grid_base.proofs.MeetingLaws.{same_triple}
 use Rattle.grid_base.specs.declared.TheConstants.{SHIFT_MAX}
 use Rattle.grid_base.specs.declared.Shift.{Shift}
-use Rattle.grid_base.specs.Triples.{Triple, plus}
+use Rattle.grid_base.specs.Triples.{plus}
 use Rattle.grid_base.specs.Points.{displacement_of, is_within, point_at}
-use Rattle.grid_base.proofs.PointLaws.{displacement_of-shift_by, within_of}
+use Rattle.grid_base.proofs.PointLaws.{within_of}
 use Rattle.mesh_base.specs.declared.ShiftOf.{ShiftOf}
 use Rattle.mesh_base.specs.declared.ShapeFault.{ShapeFault}
 use Rattle.mesh_base.specs.declared.UseWhy.{UseWhy}
 use Rattle.mesh_base.specs.declared.UseWhy.TheVariants.{ShiftRange}
-use Rattle.mesh_base.specs.Mesh.{Mesh, IsSound, IsLiveVertex}
+use Rattle.mesh_base.specs.Mesh.{Mesh, IsSound}
 use Rattle.mesh_base.specs.Sides.{IsClosed}
 use Rattle.grid_base.specs.Meeting.{MeetAt}
 use Rattle.grid_base.specs.Motion.{position_at}
-use Rattle.mesh_base.specs.Placements.{origin, own_points, at_fraction, IsClearMesh, IsClearAlong}
+use Rattle.mesh_base.specs.Placements.{origin, own_points, at_fraction, IsClearAlong}
 use Rattle.mesh_base.specs.Shifts.{Shifts, NameLive, NameOnce, with_shift, shift_at, moved_by}
-use Rattle.mesh_base.specs.Given.{mesh_of}
 use Rattle.mesh_base.proofs.Moves.{same_positions, sound-with_moves, closed-with_moves, clear_after_moves}
 use Rattle.mesh_base.proofs.KeysKept.{keys-with_moves}
 use Rattle.mesh_base.proofs.MovesNamed.{name_once, name_once_filtered, shift_filtered, end_filtered}
@@ -42,7 +39,7 @@ use Rattle.step_text.specs.declared.Directive.{Directive}
 use Rattle.step_text.specs.declared.Directive.TheVariants as directive
 use Rattle.step_text.specs.Steps.{steps_of}
 use Rattle.log_text.specs.declared.LogLine.{LogLine}
-use Rattle.log_text.specs.declared.LogLine.TheVariants.{Step, Hit, Move, Moved}
+use Rattle.log_text.specs.declared.LogLine.TheVariants.{Move, Moved}
 use Rattle.log_text.specs.Replay.{Replay, after, replayed}
 use Rattle.track_run.specs.declared.outcome.Stop.{Stop}
 use Rattle.track_run.specs.Shifting.{AsksNow}
@@ -50,8 +47,8 @@ use Rattle.edit_base.specs.declared.PassKind.{PassKind}
 use Rattle.track_run.specs.Parts.{StepTakes, PassTakes}
 use Rattle.track_run.specs.Kept.{Keeps, IsSavedWell, MovesWell}
 use Rattle.track_run.specs.State.{State, start, standing, at_mesh, no_shifts, still_at, asked_of, asked_in}
-use Rattle.pass_run.specs.Promises.{IsGood, EachMovesClear}
-use Rattle.track_run.proofs.Passing.{PassKeeps, pass_keeps}
+use Rattle.pass_run.specs.Promises.{IsGood}
+use Rattle.track_run.proofs.Passing.{pass_keeps}
 use Rattle.track_run.proofs.ReadAgain.{read_again}
 use Rattle.track_run.specs.Standing.{IsKept}
 use Rattle.track_run.specs.Turns.{Turn, Goes, Stops, Told, turn, shift_turn, set_turn, step_turn, summed, first_beyond, all_summed, sum_or_range, sum_of_all, passed_lines, passed_mesh, after_pass, one_summed, sum_at, sum_of_one, first_outside, hits, taken, moves, moving, moved_mesh, hit_lines, move_lines, lines_of_step, all_still, step_lines, after_step, and_then, told_from}

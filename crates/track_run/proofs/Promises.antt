@@ -7,20 +7,18 @@ use Rattle.std.proofs.lemmas.Bool.{false≢true, ne_eqb}
 use Rattle.grid_decided.specs.Decided.{meets_exactly}
 use Rattle.mesh_base.specs.declared.How.{How}
 use Rattle.mesh_base.specs.declared.How.TheVariants.{Whole, Impulse, Zones, Halved, Zero}
-use Rattle.mesh_base.specs.declared.PairName.{PairName}
 use Rattle.mesh_base.specs.Mesh.{Mesh, IsSound}
 use Rattle.mesh_base.specs.Shifts.{Shifts}
 use Rattle.mesh_base.specs.Failing.{failing}
 use Rattle.step_choose.specs.declared.Settings.{Settings}
-use Rattle.step_choose.specs.Choice.{Way, way, halving, halved_times, halved_way, all_at_rest, all_pass, way_taken, IsFirstWay}
+use Rattle.step_choose.specs.Choice.{way, halving, halved_times, halved_way, all_at_rest, all_pass, way_taken, IsFirstWay}
 use Rattle.step_choose.proofs.FirstWay.{taken_first}
 use Rattle.pair_scan.specs.Failed.{AreFailing}
 use Rattle.pair_scan.proofs.InOrder.{are_failing}
 use Rattle.step_text.specs.declared.Directive.TheVariants as directive
 use Rattle.log_text.specs.declared.LogLine.{LogLine}
-use Rattle.log_text.specs.declared.LogLine.TheVariants.{Step, Moved}
 use Rattle.track_run.specs.State.{State}
-use Rattle.track_run.specs.Turns.{Turn, Goes, Stops, turn, step_turn, first_outside, hits, taken, hit_lines, move_lines, step_lines, lines_of_step}
+use Rattle.track_run.specs.Turns.{Turn, Goes, Stops, turn, step_turn, first_outside, hits, taken, step_lines, lines_of_step}
 use Rattle.track_run.specs.Promise.{StepIsTold}
 
 -- ---- where all pairs pass, the asked shifts are taken
