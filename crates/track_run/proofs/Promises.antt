@@ -1,25 +1,31 @@
 -- What a step promises.
 use Rattle.std.proofs.Common.{◌≡◌, ℕ, ◌+◌, suc, ◌==◌, Bool, true, false, cond, List, [], ◌∷◌, length, Option, Some, None, refl, ap, sym, ◌∙◌, subst, arith}
-use Rattle.std.specs.Prelude.{◌≢◌}
+use Rattle.std.specs.Prelude.{◌≢◌, ◌↔◌}
+use Rattle.grid_base.specs.Separation.{Passes}
+use Rattle.grid_base.proofs.Reflected.{passes_of, of_passes}
 use Rattle.std.specs.Option.{option_or, option_map, unwrap_or}
-use Rattle.std.specs.List.{find, range_with_len}
+use Rattle.std.specs.List.{find, range_with_len, Contains}
+use Rattle.std.proofs.lemmas.List.Elements.{Contains-get_or}
 use Rattle.std.proofs.lemmas.Bool.{false≢true, ne_eqb}
-use Rattle.grid_decided.specs.Decided.{meets_exactly}
+use Rattle.grid_decided.specs.Decided.{meets_exactly, meets_exactly-is_exact}
 use Rattle.mesh_base.specs.declared.How.{How}
 use Rattle.mesh_base.specs.declared.How.TheVariants.{Whole, Impulse, Zones, Halved, Zero}
 use Rattle.mesh_base.specs.Mesh.{Mesh, IsSound}
-use Rattle.mesh_base.specs.Shifts.{Shifts}
-use Rattle.mesh_base.specs.Failing.{failing}
+use Rattle.mesh_base.specs.Pairs.{Pair, IsPair}
+use Rattle.mesh_base.specs.Placements.{positions}
+use Rattle.mesh_base.specs.declared.PairName.{PairName}
+use Rattle.mesh_base.specs.Shifts.{Shifts, moved_by}
+use Rattle.mesh_base.specs.Failing.{failing, pair_passes}
 use Rattle.step_choose.specs.declared.Settings.{Settings}
-use Rattle.step_choose.specs.Choice.{way, halving, halved_times, halved_way, all_at_rest, all_pass, way_taken, IsFirstWay}
+use Rattle.step_choose.specs.Choice.{way, halving, halved_times, halved_way, all_at_rest, all_pass, way_taken, IsFirstWay, NoneFails}
 use Rattle.step_choose.proofs.FirstWay.{taken_first}
-use Rattle.pair_scan.specs.Failed.{AreFailing}
+use Rattle.pair_scan.specs.Failed.{AreFailing, DoesNotPass}
 use Rattle.pair_scan.proofs.InOrder.{are_failing}
 use Rattle.step_text.specs.declared.Directive.TheVariants as directive
 use Rattle.log_text.specs.declared.LogLine.{LogLine}
 use Rattle.track_run.specs.State.{State}
 use Rattle.track_run.specs.Turns.{Turn, Goes, Stops, turn, step_turn, first_outside, hits, taken, step_lines, lines_of_step}
-use Rattle.track_run.specs.Promise.{StepIsTold}
+use Rattle.track_run.specs.Promise.{EachPasses, StepIsTold}
 
 -- ---- where all pairs pass, the asked shifts are taken
 all_of_none : {X : Type 0} (xs : List X) → xs ≡ [] → (length xs == 0) ≡ true
@@ -69,6 +75,29 @@ hits_failing : (s : State) → IsSound s.mesh → AreFailing s.mesh s.asked s.se
 unfolding hits
 hits_failing s sound = are_failing s.mesh s.asked s.set.depth sound
 
+-- no pair fails exactly where each passes
+module _ (m : Mesh) (by : Shifts) (depth : ℕ) (sound : IsSound m) where
+  fails_or_not : AreFailing m by depth (failing meets_exactly m by depth)
+  fails_or_not = are_failing m by depth sound
+
+  passed : failing meets_exactly m by depth ≡ [] → (p : Pair) → IsPair m p → (b : Bool) → pair_passes meets_exactly depth (moved_by m by) p ≡ b → Passes depth (positions (moved_by m by).start p) (positions (moved_by m by).end p)
+  passed none p is true e = passes_of meets_exactly meets_exactly-is_exact depth (positions (moved_by m by).start p) (positions (moved_by m by).end p) e
+  passed none p is false e =
+      let never : DoesNotPass depth (moved_by m by) p = λ pass. false≢true (sym e ∙ of_passes meets_exactly meets_exactly-is_exact depth (positions (moved_by m by).start p) (positions (moved_by m by).end p) pass) in
+      let there = (fails_or_not.each p.name).1 (p.corners, is, never) in
+      let nowhere : Contains [] p.name = subst (λ (l : List PairName). Contains l p.name) none there in
+      absurd (omega (arith, nowhere.1))
+
+  none_left : EachPasses m depth by → (names : List PairName) → failing meets_exactly m by depth ≡ names → names ≡ []
+  none_left each [] e = refl
+  none_left each (n ∷ names) e =
+      let here : Contains (n ∷ names) n = Contains-get_or (n ∷ names) 0 n (omega arith) in
+      let fails = (fails_or_not.each n).0 (subst (λ (l : List PairName). Contains l n) (sym e) here) in
+      absurd (fails.2 (each (record { name = n; corners = fails.0 }) fails.1))
+
+  none_where_each : NoneFails meets_exactly m depth by ↔ EachPasses m depth by
+  none_where_each = (λ none p is. passed none p is (pair_passes meets_exactly depth (moved_by m by) p) refl, λ each. none_left each (failing meets_exactly m by depth) refl)
+
 -- ---- the lines
 lines_told : (s : State) → StepIsTold s (step_lines s)
 lines_told s = record {
@@ -78,6 +107,7 @@ lines_told s = record {
   first_way = taken_first_way s;
   all_hits = hits_failing s;
   all_failing = λ sound by. are_failing s.mesh by s.set.depth sound;
+  none_fails = λ sound by. none_where_each s.mesh by s.set.depth sound;
 }
 
 turn_told : (s next : State) (lines : List LogLine) (o : Option ℕ) → step_turn o s ≡ Goes lines next → StepIsTold s lines
