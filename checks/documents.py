@@ -52,6 +52,12 @@ def is_part(part, whole):
     return any(whole[at : at + len(part)] == part for at in range(len(whole) - len(part) + 1))
 
 
+def edits_of(crate, folder):
+    """How many wrong edits stand in a folder of a crate."""
+    path = os.path.join(ROOT, "crates", crate, folder)
+    return sum(name.endswith(".edit") for name in os.listdir(path)) if os.path.isdir(path) else 0
+
+
 def main():
     # where the program is to be built first, that takes its time
     subprocess.run([TOPO, "--version"], check=True, stdout=subprocess.DEVNULL)
@@ -78,6 +84,9 @@ def main():
         named = re.findall(r"`((?:crates|docs|checks|bench|examples|\.ci)/[\w./*-]+)`", text_of(name))
         lost = [it for it in named if "*" not in it and not os.path.exists(os.path.join(ROOT, it))]
         checks.append((f"each file that {name} names is there {' '.join(lost)}".rstrip(), not lost))
+    for crate, edits, further in re.findall(r"(?m)^\| `(\w+)` \| \d+ \| (\d+) \| (\d+) \|", text_of("docs/HARDENING.md")):
+        there = tuple(edits_of(crate, folder) for folder in ("must-fail", "must-fail-more"))
+        checks.append((f"docs/HARDENING.md counts the edits of {crate}", there == (int(edits), int(further))))
     failed = sum(not good for _, good in checks)
     for what, good in checks:
         print(("ok     " if good else "FAILED ") + what)
