@@ -192,16 +192,24 @@ module _ (m : Mesh) (sound : IsSound m) where
 
   equal_again : (c d : Corners) → AreLive m c → AreLive m d → equal_up_to_rotation (ranked c) (ranked d) ≡ equal_up_to_rotation c d
   equal_again c d lc ld =
-      rw (same_test c.first d.first lc.0 ld.0, same_test c.second d.second lc.1 ld.1, same_test c.third d.third lc.2 ld.2,
-      same_test c.second d.first lc.1 ld.0, same_test c.third d.second lc.2 ld.1, same_test c.first d.third lc.0 ld.2,
-      same_test c.third d.first lc.2 ld.0, same_test c.first d.second lc.0 ld.1, same_test c.second d.third lc.1 ld.2) refl
+      rw (
+        same_test c.first d.first lc.0 ld.0,
+        same_test c.second d.second lc.1 ld.1,
+        same_test c.third d.third lc.2 ld.2,
+        same_test c.second d.first lc.1 ld.0,
+        same_test c.third d.second lc.2 ld.1,
+        same_test c.first d.third lc.0 ld.2,
+        same_test c.third d.first lc.2 ld.0,
+        same_test c.first d.second lc.0 ld.1,
+        same_test c.second d.third lc.1 ld.2,
+      ) refl
 
   faces_different : (f g : ℕ) (c d : Corners) → HasCorners again f c → HasCorners again g d → equal_up_to_rotation c d ≡ true → f ≡ g
   faces_different f g c d has-c has-d equal =
       let r = is_ranked f c has-c in
       let s = is_ranked g d has-d in
       let moved : equal_up_to_rotation (ranked r.entry.1) (ranked s.entry.1) ≡ true =
-          ap (λ x. equal_up_to_rotation x (ranked s.entry.1)) (sym r.corners-are) ∙ ap (λ y. equal_up_to_rotation c y) (sym s.corners-are) ∙ equal in
+      ap (λ x. equal_up_to_rotation x (ranked s.entry.1)) (sym r.corners-are) ∙ ap (λ y. equal_up_to_rotation c y) (sym s.corners-are) ∙ equal in
       let same = sound.is_mesh.different_faces r.entry.0 s.entry.0 r.entry.1 s.entry.1 r.there s.there (sym (equal_again r.entry.1 s.entry.1 (live_at f c r) (live_at g d s)) ∙ moved) in
       let place = one_place (finite.entries m.faces) (entries_sorted m.faces) r.i s.i r.entry s.entry r.at s.at same in
       r.f-is ∙ ap (λ i. i + 1) place ∙ sym s.f-is

@@ -45,8 +45,8 @@ pub record MovesWell (r : Replay) : Type 0 where
   pub along : IsClearAlong r.mesh (moved_by r.mesh r.moves)
   pub after : IsGood (with_moves r.mesh r.moves)
 
--- An edit begins in a mesh that is sound, closed and clear, its scaffold is closed, and clear at every fraction of its motion, and it
--- leaves a mesh that is sound, closed and clear.
+-- An edit begins in a mesh that is sound, closed and clear, its scaffold is closed, and clear at every fraction of its motion, of a
+-- pinch above zero and of a collapse below one, and it leaves a mesh that is sound, closed and clear. A zip has no motion.
 pub record EditsWell (r : Replay) (change : Change) : Type 0 where
   pub before : IsGood r.mesh
   pub along : MovesClear r.mesh change

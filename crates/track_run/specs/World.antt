@@ -104,14 +104,14 @@ abbrev pub target : Named → Target
 target named = record { prefix = named.prefix; decimals = named.decimals }
 
 -- THE HEADLINE, of a job. What the run did is the job's log, or, where it was stopped, the first of it and not the whole. In every mesh
--- that the log saves no edge meets a face that shares no vertex with it, and the mesh is closed, with the live numbers that its line tells;
--- and its text is read again as that mesh, numbered anew, so that a run takes it as its own. Every motion and every edit that the log tells
--- begins and ends in a mesh that is sound, closed and clear, and is clear on the way. A step whose pairs all pass is taken unaltered;
--- otherwise each pair that does not pass is logged, and it is taken by the first way that applies. The lines of a directive, replayed from
--- where the run stood before it, lead to where it stands after it. Wherever a run of the job stands between two directives, the replay of
--- the log up to there stands too, so the pairs of a step are tested in the mesh that the log tells; and that mesh is sound, closed and
--- clear, with a shift asked of each live vertex. The outcome has its cause in the job, and the job has a cause for no other outcome but
--- those that stop a run.
+-- that the log saves no edge meets a face that shares no vertex with it, and the mesh is closed, with the live numbers that its line
+-- tells; and its text is read again as that mesh, numbered anew, so that a run takes it as its own. Every motion and every edit that the
+-- log tells begins and ends in a mesh that is sound, closed and clear, and is clear on the way: at every fraction, of a pinch above
+-- zero, of a collapse below one; a zip has none. A step whose pairs all pass is taken unaltered; otherwise each pair that does not pass
+-- is logged, and it is taken by the first way that applies. The lines of a directive, replayed from where the run stood before it, lead
+-- to where it stands after it. Wherever a run of the job stands between two directives, the replay of the log up to there stands too, so
+-- the pairs of a step are tested in the mesh that the log tells; and that mesh is sound, closed and clear, with a shift asked of each
+-- live vertex. The outcome has its cause in the job, and the job has a cause for no other outcome but those that stop a run.
 pub record Tracks (job : Job) (named : Named) (result : Outcome) (old new : World) : Type 0 where
   pub ended : Result (Option Refusal) Stop
   pub outcome : result ≡ outcome_from ended
