@@ -6,7 +6,7 @@ use Rattle.line_text.specs.declared.fault.TextWhy.TheVariants.{Short}
 use Rattle.line_text.specs.Faults.{◌>>=◌, at_line}
 use Rattle.obj_text.specs.Obj.{fan_after}
 use Rattle.other_text.specs.Rows.{corner_of, corners_of}
-use Rattle.other_text.specs.OffViews.{fan_from}
+use Rattle.other_text.specs.RowsViews.{fan_from}
 
 regrouped : (a b c : ℕ) (faces : List (List ℕ)) (others : Result (List ℕ) TextWhy) → ((others >>= λ cs. Ok (c ∷ cs)) >>= λ cs. Ok (faces ++ fan_after a b cs)) ≡ (others >>= λ cs. Ok ((faces ++ (a ∷ b ∷ c ∷ []) ∷ []) ++ fan_after a c cs))
 regrouped a b c faces (Ok cs) = ap (λ (fs : List (List ℕ)). Ok fs) (sym (append_assoc faces ((a ∷ b ∷ c ∷ []) ∷ []) (fan_after a c cs)))

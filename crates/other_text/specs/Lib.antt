@@ -1,5 +1,6 @@
 pub mod Lines
 pub mod Rows
+pub mod RowsViews
 pub mod Off
 pub mod OffViews
 pub mod OffWritten

@@ -1,22 +1,8 @@
--- Values of the code as the grammar sees them.
-use Rattle.std.specs.Prelude.{ℕ, List, ◌++◌, Result, Ok}
-use Rattle.line_text.specs.declared.fault.TextWhy.{TextWhy}
-use Rattle.line_text.specs.declared.fault.TextFault.{TextFault}
-use Rattle.line_text.specs.Faults.{◌>>=◌, at_line}
-use Rattle.obj_text.specs.Obj.{fan, fan_after}
+-- A value of the code as the OFF grammar sees it.
 use Rattle.obj_text.specs.Views.{lists_view}
 use Rattle.other_text.specs.declared.off_reading.Reading.{Reading}
-use Rattle.other_text.specs.Rows.{corners_of}
 use Rattle.other_text.specs.Off.{Progress}
 
 -- how far the text was read
 abbrev pub progress_of : Reading → Progress
 progress_of r = record { wanted = r.wanted; points_left = r.points_left; faces_left = r.faces_left; lists = lists_view r.lists }
-
--- faces, and the triangles that so many more corners add to them
-abbrev pub fan_from : ℕ → ℕ → ℕ → ℕ → List (List ℕ) → List (List ℕ) → Result (List (List ℕ)) TextFault
-fan_from more line a b faces words = at_line line (corners_of more words >>= λ corners. Ok (faces ++ fan_after a b corners))
-
--- faces, and the triangles that a face gives, if there is one
-abbrev pub faces_after : List (List ℕ) → Result (List ℕ) TextWhy → Result (List (List ℕ)) TextWhy
-faces_after faces ring = ring >>= λ corners. Ok (faces ++ fan corners)

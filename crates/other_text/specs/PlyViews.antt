@@ -1,4 +1,4 @@
--- Values of the code as the PLY grammar sees them.
+-- A value of the code as the PLY grammar sees it.
 use Rattle.obj_text.specs.Views.{lists_view}
 use Rattle.other_text.specs.declared.ply_reading.Reading.{Reading}
 use Rattle.other_text.specs.Ply.{Progress}

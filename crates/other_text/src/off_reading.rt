@@ -166,10 +166,21 @@ fn end(reading: Reading, count: u32) -> Result<MeshLists, ReadFault>
     }))
 }
 
-/// The points and faces of an OFF text on a grid of so many decimals, or the first line outside the grammar with its
-/// reason. A coordinate is its decimal word times 10 ^ decimals, rounded; a face with more than three corners gives the
-/// triangles of its fan. The text numbers corners from 0, and the lists from 1. A corner may name a vertex that is not
-/// there: only `shape` looks.
+/// The points and faces of a text in the Object File Format (OFF, of Geomview) on a grid of so many decimals, or the first
+/// line outside the grammar with its reason.
+///
+/// Of the lines with words the first is the one word `OFF`, and the second begins with the number of vertices and that of
+/// faces. Then each vertex has a line that begins with three decimal words, and after them each face has one that begins
+/// with the number of its corners, three or more, and these corners. What follows in a line is not read. A coordinate is
+/// its decimal word times 10 ^ decimals, rounded; a face with more than three corners gives the triangles of its fan. The
+/// text numbers vertices from 0, and the lists from 1. A corner may name a vertex that is not there: only `shape` looks.
+///
+/// It refuses a first line that is not `OFF` (Unknown); a line with too few words, or an end of the text before the last
+/// row, at the number of lines plus one (Short); a line with words after the last row (Long); a coordinate that is no
+/// decimal word, and a number of vertices, faces or corners that is not one to ten digits (Number); a coordinate outside
+/// the box, and a face of fewer than three corners (Range); and a corner that is not one to ten digits up to
+/// 4,294,967,294 (Corner). Within a line Short comes first, and then the words from left to right; but the number of a
+/// face's corners is judged before Short, since it says how many words there have to be.
 #[tactic(auto, unfolding(crate::specs::Off::lists_of))]
 pub fn read_off(alloc: Global, bytes: &[u8], decimals: u8) -> Result<MeshLists, ReadFault>
     requires small { length bytes.now ≤ TEXT_MAX }

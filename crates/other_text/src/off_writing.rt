@@ -78,8 +78,9 @@ pub(crate) fn put_rows(out: &mut Vec<u8>, lists: &MeshLists, decimals: u8) -> Re
     put_faces(out, lists.faces.as_slice())
 }
 
-/// The OFF text of lists on a grid of so many decimals: `OFF`, a line with the numbers of points and faces and 0, a row of
-/// each point, its coordinates divided by 10 ^ decimals, and a row `3 I J K` of each face, its corners from 0.
+/// The OFF text of lists on a grid of so many decimals, or want of memory: `OFF`; a line with the number of points, that
+/// of faces, and 0; a row for each point, its coordinates divided by 10 ^ decimals; and a row `3 I J K` for each face, its
+/// corners numbered from 0.
 pub fn off_of(alloc: Global, lists: &MeshLists, decimals: u8) -> Result<Vec<u8>, NoMemory>
     requires { decimals ≤ 6 }
     ensures { IfOk result (λ text. text.items ≡ off_text decimals (lists_view lists.now)) }

@@ -6,7 +6,7 @@ ghost use Rattle.line_text.specs.Fields.{count_is};
 ghost use Rattle.line_text.specs.Remaining.{words_left};
 ghost use Rattle.line_text.specs.Texts.{words_of};
 ghost use Rattle.obj_text.specs.Views.{lists_view, GivesWhy};
-ghost use Rattle.other_text.specs.OffViews.{faces_after};
+ghost use Rattle.other_text.specs.RowsViews.{faces_after};
 ghost use Rattle.other_text.specs.Ply as spec;
 ghost use Rattle.other_text.specs.PlyViews.{progress_of};
 
@@ -393,8 +393,20 @@ fn end(reading: Reading, count: u32) -> Result<MeshLists, ReadFault>
     }))
 }
 
-/// The points and faces of a PLY text on a grid of so many decimals, or the first line outside the grammar with its
-/// reason, as `read_off`.
+/// The points and faces of an ASCII text in the Polygon File Format (PLY, Turk 1994) on a grid of so many decimals, or the
+/// first line outside the grammar with its reason.
+///
+/// The head is `ply`, `format ascii 1.0`, `element vertex V`, properties of one type each with `x`, `y` and `z` once among
+/// them, `element face F`, `property list TYPE TYPE vertex_indices` (or `vertex_index`), properties of one type each, and
+/// `end_header`; lines that begin with `comment` or `obj_info` may stand between its first line and its last. Then each
+/// vertex has a line with a word for each property, and after them each face has one with the number of its corners, these
+/// corners, and a word for each further property. The words of properties other than x, y and z are not read. Coordinates,
+/// faces and corners are those of `read_off`.
+///
+/// It refuses any other line of the head, one with too few words too (Unknown), but a number of vertices or faces that is
+/// not one to ten digits (Number). It refuses rows, and what follows them, as `read_off` does, and also a row with too many
+/// words (Long, which is tried where Short is). A text that ends within the head is Short at the number of its lines plus
+/// one.
 #[tactic(auto, unfolding(crate::specs::Ply::lists_of))]
 pub fn read_ply(alloc: Global, bytes: &[u8], decimals: u8) -> Result<MeshLists, ReadFault>
     requires small { length bytes.now ≤ TEXT_MAX }

@@ -4,7 +4,7 @@ ghost use Rattle.line_text.specs.Faults.{Leaves, at_line};
 ghost use Rattle.line_text.specs.Remaining.{words_left};
 ghost use Rattle.obj_text.specs.Views.{GivesWhy};
 ghost use Rattle.other_text.specs.Rows as spec;
-ghost use Rattle.other_text.specs.OffViews.{fan_from, faces_after};
+ghost use Rattle.other_text.specs.RowsViews.{fan_from, faces_after};
 
 use grid_base::Point;
 use line_text::{ReadFault, TextFault, TextWhy, Words, coordinate, count_up_to, number_within};
