@@ -1,0 +1,10 @@
+pub mod Lines
+pub mod Rows
+pub mod RowsViews
+pub mod Off
+pub mod OffViews
+pub mod OffWritten
+pub mod Ply
+pub mod PlyViews
+pub mod PlyWritten
+pub mod Laws

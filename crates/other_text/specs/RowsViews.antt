@@ -1,0 +1,15 @@
+-- The faces that rows give, as the code adds them.
+use Rattle.std.specs.Prelude.{ℕ, List, ◌++◌, Result, Ok}
+use Rattle.line_text.specs.declared.fault.TextWhy.{TextWhy}
+use Rattle.line_text.specs.declared.fault.TextFault.{TextFault}
+use Rattle.line_text.specs.Faults.{◌>>=◌, at_line}
+use Rattle.obj_text.specs.Obj.{fan, fan_after}
+use Rattle.other_text.specs.Rows.{corners_of}
+
+-- faces, and the triangles that so many more corners add to them
+abbrev pub fan_from : ℕ → ℕ → ℕ → ℕ → List (List ℕ) → List (List ℕ) → Result (List (List ℕ)) TextFault
+fan_from more line a b faces words = at_line line (corners_of more words >>= λ corners. Ok (faces ++ fan_after a b corners))
+
+-- faces, and the triangles that a face gives, if there is one
+abbrev pub faces_after : List (List ℕ) → Result (List ℕ) TextWhy → Result (List (List ℕ)) TextWhy
+faces_after faces ring = ring >>= λ corners. Ok (faces ++ fan corners)

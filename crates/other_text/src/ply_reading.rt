@@ -1,0 +1,436 @@
+ghost use Rattle.std.specs.Prelude.{◌≡◌, ◌≤◌, ◌<◌, ◌+◌, ◌^◌, length, IfOk};
+ghost use Rattle.grid_base.specs.declared.TheConstants.{TEXT_MAX};
+ghost use Rattle.grid_base.specs.Points.{position_of};
+ghost use Rattle.line_text.specs.Faults.{Gives, Leaves, at_line};
+ghost use Rattle.line_text.specs.Fields.{count_is};
+ghost use Rattle.line_text.specs.Remaining.{words_left};
+ghost use Rattle.line_text.specs.Texts.{words_of};
+ghost use Rattle.obj_text.specs.Views.{lists_view, GivesWhy};
+ghost use Rattle.other_text.specs.RowsViews.{faces_after};
+ghost use Rattle.other_text.specs.Ply as spec;
+ghost use Rattle.other_text.specs.PlyViews.{progress_of};
+
+use crate::ply_head::{Role, corners_named, element, format, is_end, is_remark, name, property};
+use crate::rows::{add_ring, count};
+use grid_base::{Items, Point};
+use line_text::{
+    Lines, ReadFault, TextFault, TextWhy, Words, coordinate, count_up_to, is_word, words,
+};
+use mesh_base::{MeshLists, Points, Triangles};
+use std::alloc::Global;
+
+// What the next line with words has to be, but for remarks.
+#[derive(Clone, Copy)]
+pub(crate) enum Wanted {
+    // The word ply.
+    Name,
+    Format,
+    // How many vertices there are.
+    Vertices,
+    // A property of vertices, or how many faces there are.
+    Properties,
+    // The property of a face's corners.
+    Corners,
+    // Another property of faces, or the end of the head.
+    Others,
+    // A vertex or a face.
+    Rows,
+}
+
+// How far a text was read.
+#[derive(Drop)]
+pub(crate) struct Reading {
+    wanted: Wanted,
+    roles: Items<Role>,
+    x_stands: bool,
+    y_stands: bool,
+    z_stands: bool,
+    extra: u64,
+    points_left: u64,
+    faces_left: u64,
+    lists: MeshLists,
+}
+
+// That there are exactly so many words.
+#[tactic(auto, unfolding(line_text::specs::Fields::count_is))]
+fn exactly(count: u64, words: Words<'_>) -> Result<(), TextWhy>
+    requires { count < 2 ^ 63 }
+    ensures { result ≡ count_is count (words_left words.entry) }
+{
+    let count = count as usize;
+    let found = count_up_to(count + 1, words);
+    if found < count {
+        return Err(TextWhy::Short);
+    }
+    if found > count {
+        return Err(TextWhy::Long);
+    }
+    Ok(())
+}
+
+// The point with the coordinate that a word gives, by the role of its property.
+#[tactic(auto, unfolding(crate::specs::Ply::placed))]
+fn placed(role: Role, word: &[u8], p: Point, decimals: u8) -> Result<Point, TextWhy>
+    requires { decimals ≤ 6 }
+    ensures { GivesWhy position_of result (spec.placed decimals role word.now (position_of p)) }
+{
+    match role {
+        Role::X => {
+            let x = coordinate(word, decimals)?;
+            Ok(Point { x, y: p.y, z: p.z })
+        }
+        Role::Y => {
+            let y = coordinate(word, decimals)?;
+            Ok(Point { x: p.x, y, z: p.z })
+        }
+        Role::Z => {
+            let z = coordinate(word, decimals)?;
+            Ok(Point { x: p.x, y: p.y, z })
+        }
+        Role::Other => Ok(p),
+    }
+}
+
+// The point that a word for each property gives, from left to right.
+fn coordinates(
+    roles: &[Role],
+    words: Words<'_>,
+    start: Point,
+    decimals: u8,
+) -> Result<Point, TextWhy>
+    requires { decimals ≤ 6 }
+    ensures { GivesWhy position_of result (spec.coordinates_of decimals roles.now (words_left words.entry) (position_of start)) }
+{
+    let mut words = words;
+    let mut p = start;
+    for role in roles {
+        let Some(word) = words.next() else {
+            return Err(TextWhy::Short);
+        };
+        match placed(*role, word, p, decimals) {
+            Err(why) => return Err(why),
+            Ok(next) => p = next,
+        }
+    }
+    Ok(p)
+}
+
+// The point of a row.
+#[tactic(auto, unfolding(crate::specs::Ply::point_of))]
+fn point(roles: &[Role], words: Words<'_>, decimals: u8) -> Result<Point, TextWhy>
+    requires places { decimals ≤ 6 }
+    requires few { length roles.now < 2 ^ 32 }
+    ensures { GivesWhy position_of result (spec.point_of decimals roles.now (words_left words.entry)) }
+{
+    exactly(roles.len() as u64, words)?;
+    coordinates(roles, words, Point { x: 0, y: 0, z: 0 }, decimals)
+}
+
+// Adds the triangles of a face, behind whose corners there are so many words more.
+#[tactic(auto, unfolding(crate::specs::Ply::face_of, crate::specs::Ply::sized_ring_of))]
+fn add_face(faces: &mut Triangles, extra: u64, words: Words<'_>, line: u32) -> Result<(), ReadFault>
+    requires { extra < 2 ^ 32 }
+    ensures { Leaves faces.new result (at_line line (faces_after faces.old (spec.face_of extra (words_left words.entry)))) }
+{
+    let mut words = words;
+    let Some(first) = words.next() else {
+        return Err(ReadFault::Text(TextFault {
+            line,
+            why: TextWhy::Short,
+        }));
+    };
+    match count(first) {
+        Err(why) => Err(ReadFault::Text(TextFault { line, why })),
+        Ok(n) => {
+            if n < 3 {
+                return Err(ReadFault::Text(TextFault {
+                    line,
+                    why: TextWhy::Range,
+                }));
+            }
+            match exactly(n + extra, words) {
+                Err(why) => Err(ReadFault::Text(TextFault { line, why })),
+                Ok(()) => add_ring(faces, n - 2, words, line),
+            }
+        }
+    }
+}
+
+// Adds a row.
+#[tactic(auto, unfolding(crate::specs::Ply::row_adds))]
+fn add_row(
+    reading: &mut Reading,
+    decimals: u8,
+    words: Words<'_>,
+    line: u32,
+) -> Result<(), ReadFault>
+    requires places { decimals ≤ 6 }
+    requires few { length reading.old.roles + reading.old.extra < 2 ^ 32 }
+    ensures value { Leaves (progress_of reading.new) result (at_line line (spec.row_adds decimals (progress_of reading.old) (words_left words.entry))) }
+    ensures more { length reading.new.roles + reading.new.extra ≤ length reading.old.roles + reading.old.extra }
+{
+    if reading.points_left == 0 {
+        if reading.faces_left == 0 {
+            return Err(ReadFault::Text(TextFault {
+                line,
+                why: TextWhy::Long,
+            }));
+        }
+        add_face(&mut reading.lists.faces, reading.extra, words, line)?;
+        reading.faces_left -= 1;
+        return Ok(());
+    }
+    match point(reading.roles.as_slice(), words, decimals) {
+        Err(why) => Err(ReadFault::Text(TextFault { line, why })),
+        Ok(point) => {
+            reading.lists.points.push(point)?;
+            reading.points_left -= 1;
+            Ok(())
+        }
+    }
+}
+
+// Whether a property of this role stands already that may stand once.
+fn stands(reading: &Reading, role: Role) -> bool
+    ensures { result ≡ spec.stands (progress_of reading.now) role }
+{
+    match role {
+        Role::X => reading.x_stands,
+        Role::Y => reading.y_stands,
+        Role::Z => reading.z_stands,
+        Role::Other => false,
+    }
+}
+
+// Adds a property of vertices.
+#[tactic(auto, unfolding(crate::specs::Ply::role_adds))]
+fn add_role(reading: &mut Reading, role: Role, line: u32) -> Result<(), ReadFault>
+    ensures value { Leaves (progress_of reading.new) result (at_line line (spec.role_adds (progress_of reading.old) role)) }
+    ensures more { length reading.new.roles + reading.new.extra ≤ length reading.old.roles + reading.old.extra + 1 }
+{
+    if stands(reading, role) {
+        return Err(ReadFault::Text(TextFault {
+            line,
+            why: TextWhy::Unknown,
+        }));
+    }
+    reading.roles.push(role)?;
+    match role {
+        Role::X => reading.x_stands = true,
+        Role::Y => reading.y_stands = true,
+        Role::Z => reading.z_stands = true,
+        Role::Other => {}
+    }
+    Ok(())
+}
+
+// Reads a line of one word or more behind the count of vertices.
+#[tactic(auto, unfolding(crate::specs::Ply::property_adds))]
+fn add_property(reading: &mut Reading, words: Words<'_>, line: u32) -> Result<(), ReadFault>
+    ensures value { Leaves (progress_of reading.new) result (at_line line (spec.property_adds (progress_of reading.old) (words_left words.entry))) }
+    ensures more { length reading.new.roles + reading.new.extra ≤ length reading.old.roles + reading.old.extra + 1 }
+{
+    if is_first(b"element", words) {
+        if reading.x_stands && reading.y_stands && reading.z_stands {
+            return match element(b"face", words) {
+                Err(why) => Err(ReadFault::Text(TextFault { line, why })),
+                Ok(n) => {
+                    reading.faces_left = n;
+                    reading.wanted = Wanted::Corners;
+                    Ok(())
+                }
+            };
+        }
+        return Err(ReadFault::Text(TextFault {
+            line,
+            why: TextWhy::Unknown,
+        }));
+    }
+    match property(words) {
+        Err(why) => Err(ReadFault::Text(TextFault { line, why })),
+        Ok(role) => add_role(reading, role, line),
+    }
+}
+
+fn is_first(text: &[u8], words: Words<'_>) -> bool
+    ensures { result ≡ spec.is_first text.now (words_left words.entry) }
+{
+    let mut words = words;
+    match words.next() {
+        None => false,
+        Some(word) => is_word(word, text),
+    }
+}
+
+// Reads a line behind the property of a face's corners.
+#[tactic(auto, unfolding(crate::specs::Ply::other_adds))]
+fn add_other(reading: &mut Reading, words: Words<'_>, line: u32) -> Result<(), ReadFault>
+    requires few { reading.old.extra < 2 ^ 32 }
+    ensures value { Leaves (progress_of reading.new) result (at_line line (spec.other_adds (progress_of reading.old) (words_left words.entry))) }
+    ensures more { length reading.new.roles + reading.new.extra ≤ length reading.old.roles + reading.old.extra + 1 }
+{
+    if is_end(words) {
+        reading.wanted = Wanted::Rows;
+        return Ok(());
+    }
+    match property(words) {
+        Err(why) => Err(ReadFault::Text(TextFault { line, why })),
+        Ok(_) => {
+            reading.extra += 1;
+            Ok(())
+        }
+    }
+}
+
+// Reads a line of one word or more, which is no remark.
+#[tactic(auto, unfolding(crate::specs::Ply::wanted_adds))]
+fn add_wanted(
+    reading: &mut Reading,
+    decimals: u8,
+    words: Words<'_>,
+    line: u32,
+) -> Result<(), ReadFault>
+    requires places { decimals ≤ 6 }
+    requires few { length reading.old.roles + reading.old.extra < 2 ^ 32 }
+    ensures value { Leaves (progress_of reading.new) result (at_line line (spec.wanted_adds reading.old.wanted decimals (progress_of reading.old) (words_left words.entry))) }
+    ensures more { length reading.new.roles + reading.new.extra ≤ length reading.old.roles + reading.old.extra + 1 }
+{
+    match reading.wanted {
+        Wanted::Name => match name(words) {
+            Err(why) => Err(ReadFault::Text(TextFault { line, why })),
+            Ok(()) => {
+                reading.wanted = Wanted::Format;
+                Ok(())
+            }
+        },
+        Wanted::Format => match format(words) {
+            Err(why) => Err(ReadFault::Text(TextFault { line, why })),
+            Ok(()) => {
+                reading.wanted = Wanted::Vertices;
+                Ok(())
+            }
+        },
+        Wanted::Vertices => match element(b"vertex", words) {
+            Err(why) => Err(ReadFault::Text(TextFault { line, why })),
+            Ok(n) => {
+                reading.points_left = n;
+                reading.wanted = Wanted::Properties;
+                Ok(())
+            }
+        },
+        Wanted::Properties => add_property(reading, words, line),
+        Wanted::Corners => match corners_named(words) {
+            Err(why) => Err(ReadFault::Text(TextFault { line, why })),
+            Ok(()) => {
+                reading.wanted = Wanted::Others;
+                Ok(())
+            }
+        },
+        Wanted::Others => add_other(reading, words, line),
+        Wanted::Rows => add_row(reading, decimals, words, line),
+    }
+}
+
+fn is_head(wanted: Wanted) -> bool
+    ensures { result ≡ spec.is_head wanted }
+{
+    match wanted {
+        Wanted::Name => false,
+        Wanted::Format => true,
+        Wanted::Vertices => true,
+        Wanted::Properties => true,
+        Wanted::Corners => true,
+        Wanted::Others => true,
+        Wanted::Rows => false,
+    }
+}
+
+// Reads a line.
+#[tactic(auto, unfolding(crate::specs::Ply::words_add))]
+fn add_line(reading: &mut Reading, decimals: u8, bytes: &[u8], line: u32) -> Result<(), ReadFault>
+    requires places { decimals ≤ 6 }
+    requires few { length reading.old.roles + reading.old.extra < 2 ^ 32 }
+    ensures value { Leaves (progress_of reading.new) result (at_line line (spec.words_add decimals (progress_of reading.old) (words_of bytes.now))) }
+    ensures more { length reading.new.roles + reading.new.extra ≤ length reading.old.roles + reading.old.extra + 1 }
+{
+    let all = words(bytes);
+    let mut rest = all;
+    let Some(first) = rest.next() else {
+        return Ok(());
+    };
+    if is_head(reading.wanted) && is_remark(first) {
+        return Ok(());
+    }
+    add_wanted(reading, decimals, all, line)
+}
+
+fn is_done(reading: &Reading) -> bool
+    ensures { result ≡ spec.is_done reading.now.wanted (progress_of reading.now) }
+{
+    match reading.wanted {
+        Wanted::Name => false,
+        Wanted::Format => false,
+        Wanted::Vertices => false,
+        Wanted::Properties => false,
+        Wanted::Corners => false,
+        Wanted::Others => false,
+        Wanted::Rows => reading.points_left == 0 && reading.faces_left == 0,
+    }
+}
+
+// What a text of so many lines gives.
+#[tactic(auto, unfolding(crate::specs::Ply::end_gives))]
+fn end(reading: Reading, count: u32) -> Result<MeshLists, ReadFault>
+    requires { count ≤ TEXT_MAX }
+    ensures { Gives lists_view result (spec.end_gives count (progress_of reading)) }
+{
+    if is_done(&reading) {
+        return Ok(reading.lists);
+    }
+    Err(ReadFault::Text(TextFault {
+        line: count + 1,
+        why: TextWhy::Short,
+    }))
+}
+
+/// The points and faces of an ASCII text in the Polygon File Format (PLY, Turk 1994) on a grid of so many decimals, or the
+/// first line outside the grammar with its reason.
+///
+/// The head is `ply`, `format ascii 1.0`, `element vertex V`, properties of one type each with `x`, `y` and `z` once among
+/// them, `element face F`, `property list TYPE TYPE vertex_indices` (or `vertex_index`), properties of one type each, and
+/// `end_header`; lines that begin with `comment` or `obj_info` may stand between its first line and its last. Then each
+/// vertex has a line with a word for each property, and after them each face has one with the number of its corners, these
+/// corners, and a word for each further property. The words of properties other than x, y and z are not read. Coordinates,
+/// faces and corners are those of `read_off`.
+///
+/// It refuses any other line of the head, one with too few words too (Unknown), but a number of vertices or faces that is
+/// not one to ten digits (Number). It refuses rows, and what follows them, as `read_off` does, and also a row with too many
+/// words (Long, which is tried where Short is). A text that ends within the head is Short at the number of its lines plus
+/// one.
+#[tactic(auto, unfolding(crate::specs::Ply::lists_of))]
+pub fn read_ply(alloc: Global, bytes: &[u8], decimals: u8) -> Result<MeshLists, ReadFault>
+    requires small { length bytes.now ≤ TEXT_MAX }
+    requires places { decimals ≤ 6 }
+    ensures { Gives lists_view result (spec.lists_of decimals bytes.now) }
+{
+    let mut reading = Reading {
+        wanted: Wanted::Name,
+        roles: Items::new(alloc),
+        x_stands: false,
+        y_stands: false,
+        z_stands: false,
+        extra: 0,
+        points_left: 0,
+        faces_left: 0,
+        lists: MeshLists {
+            points: Points::new(alloc),
+            faces: Triangles::new(alloc),
+        },
+    };
+    let mut count: u32 = 0;
+    for line in Lines::new(bytes) {
+        add_line(&mut reading, decimals, line.bytes, line.number)?;
+        count += 1;
+    }
+    end(reading, count)
+}
