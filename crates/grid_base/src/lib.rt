@@ -35,6 +35,9 @@ pub const DEPTH_MAX: u8 = 12;
 /// The greatest number of halvings of a shift. That many leave nothing of the greatest one but its sign.
 pub const HALVINGS_MAX: u8 = 27;
 
+/// The greatest number of decimals of a coordinate that is read or written.
+pub const DECIMALS_MAX: u8 = 6;
+
 /// The greatest number of live vertices.
 pub const VERTICES_MAX: u32 = 65_536;
 /// The greatest number of live faces.
