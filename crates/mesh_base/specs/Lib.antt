@@ -9,3 +9,4 @@ pub mod Failing
 pub mod Given
 pub mod Limits
 pub mod SideSet
+pub mod Valid

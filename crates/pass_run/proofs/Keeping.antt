@@ -28,7 +28,8 @@ use Rattle.edit_base.proofs.PinchDone.{pinch_stays_sound, pinch_stays_closed, pi
 use Rattle.log_text.specs.declared.LogLine.{LogLine}
 use Rattle.pass_run.specs.Candidates.{candidates, due_in}
 use Rattle.pass_run.specs.PassLines.{line_of, lines_of, mesh_from, ends, lines_from, mesh_after_all, pass_lines, mesh_by, mesh_by_lines}
-use Rattle.pass_run.specs.Promises.{IsGood, EachMovesClear, PassesKeepTheMesh}
+use Rattle.mesh_base.specs.Valid.{IsValidSurface}
+use Rattle.pass_run.specs.Promises.{EachMovesClear, PassesKeepTheMesh}
 use Rattle.pass_run.proofs.Turning.{turn_makes}
 
 -- lines after others
@@ -43,9 +44,9 @@ front_moves_clear m (x ∷ xs) ys h = (h.0, h.1, front_moves_clear (mesh_by m x)
 
 -- an answer with the laws of an edit
 answer_keeps : (answer : Answer) → StaysSound answer → StaysClosed answer → StaysClear answer → MotionIsClear answer
-    → (m : Mesh) (what : Asked) → IsGood m → (edit : Edit) → answer m ≡ edit → EachMovesClear m (line_of what edit ∷ []) × IsGood (mesh_after m edit)
+    → (m : Mesh) (what : Asked) → IsValidSurface m → (edit : Edit) → answer m ≡ edit → EachMovesClear m (line_of what edit ∷ []) × IsValidSurface (mesh_after m edit)
 answer_keeps answer sound closed clear motion m what good (Done change) e =
-    let left : IsGood (mesh_after m (Done change)) = record { sound = sound m change good.sound good.closed e; closed = closed m change good.sound good.closed e; clear = clear m change good.sound good.closed good.clear e } in
+    let left : IsValidSurface (mesh_after m (Done change)) = record { sound = sound m change good.sound good.closed e; closed = closed m change good.sound good.closed e; clear = clear m change good.sound good.closed good.clear e } in
     ((motion m change good.sound good.closed e, left, tt), left)
 answer_keeps answer sound closed clear motion m what good (No why) e = ((tt, good, tt), good)
 
@@ -62,7 +63,7 @@ zip_motion_is_clear meets u v x y m done sound closed e =
 
 module _ (meets : Positions → Bool) (exact : IsExact meets) (depth : ℕ) where
   -- the answer to what is asked
-  asked_keeps : (m : Mesh) → IsGood m → (what : Asked) → EachMovesClear m (line_of what (answer_to meets m depth what) ∷ []) × IsGood (mesh_after m (answer_to meets m depth what))
+  asked_keeps : (m : Mesh) → IsValidSurface m → (what : Asked) → EachMovesClear m (line_of what (answer_to meets m depth what) ∷ []) × IsValidSurface (mesh_after m (answer_to meets m depth what))
   asked_keeps m good (asked.Split a b) =
       answer_keeps (λ n. split_answer meets n a b depth) (split_stays_sound meets a b depth) (split_stays_closed meets a b depth) (split_stays_clear meets exact a b depth) (split_motion_is_clear meets exact a b depth)
       m (asked.Split a b) good (split_answer meets m a b depth) refl
@@ -81,17 +82,17 @@ module _ (meets : Positions → Bool) (exact : IsExact meets) (depth : ℕ) wher
 
   module _ (due : Mesh → Asked → Bool) where
     -- a turn
-    turn_keeps : (m : Mesh) → IsGood m → (what : Asked) → EachMovesClear m (lines_of meets due depth m what) × IsGood (mesh_from meets due depth m what)
+    turn_keeps : (m : Mesh) → IsValidSurface m → (what : Asked) → EachMovesClear m (lines_of meets due depth m what) × IsValidSurface (mesh_from meets due depth m what)
     turn_keeps m good what = by_test (due m what) (asked_keeps m good what)
       where
         by_test : (b : Bool)
-            → EachMovesClear m (line_of what (answer_to meets m depth what) ∷ []) × IsGood (mesh_after m (answer_to meets m depth what))
-            → EachMovesClear m (cond b (line_of what (answer_to meets m depth what) ∷ []) []) × IsGood (cond b (mesh_after m (answer_to meets m depth what)) m)
+            → EachMovesClear m (line_of what (answer_to meets m depth what) ∷ []) × IsValidSurface (mesh_after m (answer_to meets m depth what))
+            → EachMovesClear m (cond b (line_of what (answer_to meets m depth what) ∷ []) []) × IsValidSurface (cond b (mesh_after m (answer_to meets m depth what)) m)
         by_test true kept = kept
         by_test false kept = (tt, good)
 
     -- the turns of all that is asked
-    pub turns_keep : (grouped : Bool) (m : Mesh) → IsGood m → (all : List Asked) → EachMovesClear m (lines_from meets due depth grouped m all) × IsGood (mesh_after_all meets due depth grouped m all)
+    pub turns_keep : (grouped : Bool) (m : Mesh) → IsValidSurface m → (all : List Asked) → EachMovesClear m (lines_from meets due depth grouped m all) × IsValidSurface (mesh_after_all meets due depth grouped m all)
     turns_keep grouped m good [] = (tt, good)
     turns_keep grouped m good (what ∷ rest) = by_test (ends grouped here) (turns_keep grouped next kept.1 rest)
       where
@@ -101,11 +102,11 @@ module _ (meets : Positions → Bool) (exact : IsExact meets) (depth : ℕ) wher
         next : Mesh
         next = mesh_from meets due depth m what
 
-        kept : EachMovesClear m here × IsGood next
+        kept : EachMovesClear m here × IsValidSurface next
         kept = turn_keeps m good what
 
-        by_test : (b : Bool) → EachMovesClear next (lines_from meets due depth grouped next rest) × IsGood (mesh_after_all meets due depth grouped next rest)
-            → EachMovesClear m (here ++ cond b [] (lines_from meets due depth grouped next rest)) × IsGood (cond b next (mesh_after_all meets due depth grouped next rest))
+        by_test : (b : Bool) → EachMovesClear next (lines_from meets due depth grouped next rest) × IsValidSurface (mesh_after_all meets due depth grouped next rest)
+            → EachMovesClear m (here ++ cond b [] (lines_from meets due depth grouped next rest)) × IsValidSurface (cond b next (mesh_after_all meets due depth grouped next rest))
         by_test true later = (each_then m here [] kept.0 tt, kept.1)
         by_test false later =
             let P : Mesh → Type 0 = λ k. EachMovesClear k (lines_from meets due depth grouped next rest) in

@@ -2,20 +2,13 @@
 use Rattle.std.specs.Prelude.{⊤, ◌≡◌, ℕ, Bool, List, [], ◌∷◌}
 use Rattle.grid_base.specs.declared.Positions.{Positions}
 use Rattle.grid_base.specs.SeparationTests.{IsExact}
-use Rattle.mesh_base.specs.Mesh.{Mesh, IsSound}
-use Rattle.mesh_base.specs.Sides.{IsClosed}
-use Rattle.mesh_base.specs.Placements.{IsClearMesh}
+use Rattle.mesh_base.specs.Mesh.{Mesh}
+use Rattle.mesh_base.specs.Valid.{IsValidSurface}
 use Rattle.edit_base.specs.declared.PassKind.{PassKind}
 use Rattle.edit_base.specs.Clauses.{MovesClear}
 use Rattle.log_text.specs.declared.LogLine.{LogLine}
 use Rattle.log_text.specs.declared.LogLine.TheVariants as line
 use Rattle.pass_run.specs.PassLines.{mesh_by, mesh_by_lines, pass_lines, mesh_after_pass}
-
--- a mesh that is closed and clear, within the laws and limits of a mesh
-pub record IsGood (m : Mesh) : Type 0 where
-  pub sound : IsSound m
-  pub closed : IsClosed m
-  pub clear : IsClearMesh m
 
 -- the motion of a done edit is clear; another line has none
 abbrev pub LineMovesClear : Mesh → LogLine → Type 0
@@ -25,7 +18,7 @@ LineMovesClear m _ = ⊤
 -- Each line in turn: its motion is clear, from the mesh that the lines before it make, and it leaves a good mesh.
 abbrev pub EachMovesClear : Mesh → List LogLine → Type 0
 EachMovesClear m [] = ⊤
-EachMovesClear m (l ∷ ls) = LineMovesClear m l × IsGood (mesh_by m l) × EachMovesClear (mesh_by m l) ls
+EachMovesClear m (l ∷ ls) = LineMovesClear m l × IsValidSurface (mesh_by m l) × EachMovesClear (mesh_by m l) ls
 
 -- The lines of a pass, replayed from its opening mesh, give the mesh that it leaves.
 abbrev pub LinesTellTheMesh : Type 0
@@ -34,5 +27,5 @@ LinesTellTheMesh = (meets : Positions → Bool) (m : Mesh) (kind : PassKind) (de
 
 -- each motion that a pass over a good mesh logs is clear, and it leaves a good mesh
 abbrev pub PassesKeepTheMesh : Type 0
-PassesKeepTheMesh = (meets : Positions → Bool) → IsExact meets → (m : Mesh) (kind : PassKind) (depth : ℕ) (grouped : Bool) → IsGood m →
-    EachMovesClear m (pass_lines meets m kind depth grouped) × IsGood (mesh_after_pass meets m kind depth grouped)
+PassesKeepTheMesh = (meets : Positions → Bool) → IsExact meets → (m : Mesh) (kind : PassKind) (depth : ℕ) (grouped : Bool) → IsValidSurface m →
+    EachMovesClear m (pass_lines meets m kind depth grouped) × IsValidSurface (mesh_after_pass meets m kind depth grouped)

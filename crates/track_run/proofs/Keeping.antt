@@ -47,7 +47,7 @@ use Rattle.edit_base.specs.declared.PassKind.{PassKind}
 use Rattle.track_run.specs.Parts.{StepTakes, PassTakes}
 use Rattle.track_run.specs.Kept.{Keeps, IsSavedWell, MovesWell}
 use Rattle.track_run.specs.State.{State, start, standing, at_mesh, no_shifts, still_at, asked_of, asked_in}
-use Rattle.pass_run.specs.Promises.{IsGood}
+use Rattle.mesh_base.specs.Valid.{IsValidSurface}
 use Rattle.track_run.proofs.Passing.{pass_keeps}
 use Rattle.track_run.proofs.ReadAgain.{read_again}
 use Rattle.track_run.specs.Standing.{IsKept}
@@ -92,7 +92,7 @@ clear_alike m xs ys same along p q some within pair is meet =
     (subst MeetAt (same_positions (at_fraction p q (moved_by m xs)) (at_fraction p q (moved_by m ys)) pair (λ v. ap (λ t. position_at p q (own_points m v) (plus (own_points m v) t)) (same v))) meet)
 
 -- the lines of a step that goes well, and the mesh after it
-module _ (m : Mesh) (good : IsGood m) (k : ℕ) (pairs : List PairName) (way : Way) (well : GoesWell m way.taken) where
+module _ (m : Mesh) (good : IsValidSurface m) (k : ℕ) (pairs : List PairName) (way : Way) (well : GoesWell m way.taken) where
   names : NameOnce m way.taken
   names = name_once m way.taken well.named
 
@@ -102,7 +102,7 @@ module _ (m : Mesh) (good : IsGood m) (k : ℕ) (pairs : List PairName) (way : W
   clear_along : IsClearAlong m (moved_by m (moving way.taken))
   clear_along = clear_alike m (moving way.taken) way.taken (λ v. shift_filtered moves way.taken v no_move names.once) well.clear
 
-  good_after : IsGood (moved_mesh m way.taken)
+  good_after : IsValidSurface (moved_mesh m way.taken)
   good_after = record {
     sound = sound-with_moves m (moving way.taken) good.sound once.live;
     closed = closed-with_moves m (moving way.taken) good.closed;
@@ -210,7 +210,7 @@ keeps_step_turn : (s : State) → IsKept s → (o : Option ℕ) → first_outsid
 keeps_step_turn s kept None e = (keeps_step s kept e, after-step_lines s, kept_after s kept e)
 keeps_step_turn s kept (Some v) e = tt
 
-saved_well : (m : Mesh) → IsGood m → IsSavedWell (at_mesh m) (finite.len m.points) (finite.len m.faces)
+saved_well : (m : Mesh) → IsValidSurface m → IsSavedWell (at_mesh m) (finite.len m.points) (finite.len m.faces)
 saved_well m good = record { vertex_count = refl; face_count = refl; sound = good.sound; closed = good.closed; clear = good.clear; read_again = read_again m good.sound good.closed good.clear }
 
 keeps_turn : (what : Directive) (s : State) → IsKept s → KeepsTurn s (turn what s)
@@ -255,13 +255,13 @@ keeps_told (p ∷ steps) s kept = keeps_and_then p.line s (turn p.what s) (told_
 
 -- ---- a job
 
-pub kept_start : (m : Mesh) → IsGood m → IsKept (start m)
+pub kept_start : (m : Mesh) → IsValidSurface m → IsKept (start m)
 kept_start m good = record { good = good; names = names_at_first m (no_shifts m) refl }
 
 keeps_meeting : (m : Mesh) (steps : List Placed) (o : Option PairName) → met_first m ≡ o → IsSound m → IsClosed m → Keeps (at_mesh m) (told_of_meeting m steps o).lines
 keeps_meeting m steps (Some pair) e sound closed = (tt, tt)
 keeps_meeting m steps None e sound closed =
-    let good : IsGood m = record { sound = sound; closed = closed; clear = (clear_exactly m None sound (sym e)).0 refl } in
+    let good : IsValidSurface m = record { sound = sound; closed = closed; clear = (clear_exactly m None sound (sym e)).0 refl } in
     (saved_well m good, keeps_told steps (start m) (kept_start m good))
 
 keeps_steps : (m : Mesh) (bytes : List ℕ) (r : Result (List Placed) TextFault) → steps_of bytes ≡ r → IsSound m → IsClosed m → Keeps (at_mesh m) (told_of_steps m r).lines

@@ -6,7 +6,8 @@ use Rattle.log_text.specs.declared.LogLine.{LogLine}
 use Rattle.log_text.specs.declared.LogLine.TheVariants.{Pass, Did, No}
 use Rattle.log_text.specs.Replay.{Replay, after}
 use Rattle.pass_run.specs.PassLines.{pass_lines, mesh_by}
-use Rattle.pass_run.specs.Promises.{IsGood, LineMovesClear, EachMovesClear}
+use Rattle.mesh_base.specs.Valid.{IsValidSurface}
+use Rattle.pass_run.specs.Promises.{LineMovesClear, EachMovesClear}
 use Rattle.pass_run.proofs.Keeping.{passes_keep}
 use Rattle.pass_run.proofs.Replaying.{IsOfPass, AreOfPass, pass_is, line_replays, replay_of_pass}
 use Rattle.track_run.specs.Kept.{KeepsAt, Keeps}
@@ -14,14 +15,14 @@ use Rattle.track_run.specs.State.{State, standing, at_mesh}
 use Rattle.track_run.specs.Turns.{passed_lines, passed_mesh}
 use Rattle.track_run.proofs.NoFiles.{NoFiles}
 
-line_keeps : (r : Replay) (line : LogLine) → IsOfPass line → IsGood r.mesh → LineMovesClear r.mesh line → IsGood (mesh_by r.mesh line) → KeepsAt r line
+line_keeps : (r : Replay) (line : LogLine) → IsOfPass line → IsValidSurface r.mesh → LineMovesClear r.mesh line → IsValidSurface (mesh_by r.mesh line) → KeepsAt r line
 line_keeps r (Pass kind) h good k after = tt
 line_keeps r (Did change) h good k after = record { before = good; along = k; after = after }
 line_keeps r (No what why) h good k after = tt
 line_keeps r line h good k after = absurd h
 
 -- each keeps its promise where its motion is clear and it leaves a good mesh
-each_keeps : (r : Replay) (lines : List LogLine) → AreOfPass lines → IsGood r.mesh → EachMovesClear r.mesh lines → Keeps r lines
+each_keeps : (r : Replay) (lines : List LogLine) → AreOfPass lines → IsValidSurface r.mesh → EachMovesClear r.mesh lines → Keeps r lines
 each_keeps r [] h good k = tt
 each_keeps r (line ∷ lines) h good k =
     let P : Replay → Type 0 = λ s. Keeps s lines in
@@ -31,14 +32,14 @@ each_keeps r (line ∷ lines) h good k =
 pub record PassKeeps (kind : PassKind) (s : State) : Type 0 where
   pub lines : Keeps (standing s) (passed_lines kind s)
   pub replay : after (standing s) (passed_lines kind s) ≡ at_mesh (passed_mesh kind s)
-  pub good : IsGood (passed_mesh kind s)
+  pub good : IsValidSurface (passed_mesh kind s)
 
 -- the replay of the lines of a pass is the state after it
 pub pass_replays : (kind : PassKind) (s : State) → after (standing s) (passed_lines kind s) ≡ at_mesh (passed_mesh kind s)
 unfolding passed_lines passed_mesh
 pass_replays kind s = replay_of_pass meets_exactly (standing s) kind s.set.depth false
 
-pub pass_keeps : (kind : PassKind) (s : State) → IsGood s.mesh → PassKeeps kind s
+pub pass_keeps : (kind : PassKind) (s : State) → IsValidSurface s.mesh → PassKeeps kind s
 unfolding passed_lines passed_mesh
 pass_keeps kind s good =
     let kept = passes_keep meets_exactly meets_exactly-is_exact s.mesh kind s.set.depth false good in

@@ -15,7 +15,7 @@ use Rattle.obj_text.specs.Obj.{Lists}
 use Rattle.log_text.specs.declared.LogLine.{LogLine}
 use Rattle.log_text.specs.declared.LogLine.TheVariants.{First}
 use Rattle.log_text.specs.Replay.{after}
-use Rattle.pass_run.specs.Promises.{IsGood}
+use Rattle.mesh_base.specs.Valid.{IsValidSurface}
 use Rattle.track_run.specs.State.{State, start, standing, at_mesh}
 use Rattle.track_run.specs.Turns.{Turn, Goes, Stops, Told, turn, mesh_line, and_then, told_from, shift_turn, step_turn, sum_of_one, sum_of_all, first_outside}
 use Rattle.track_run.specs.Job.{Job, mesh_of_lists, mesh_in, mesh_read}
@@ -69,7 +69,7 @@ stands_kept job s at =
     let none : shape_fault (length points) at.lists.faces ≡ None = ap (λ n. shape_fault n at.lists.faces) (length-map at.lists.points point_at) ∙ read.mesh_read.good in
     let m : Mesh = mesh_of_lists at.lists in
     let sound = sound-mesh_of points at.lists.faces none in
-    let good : IsGood m = record { sound = sound; closed = closed-mesh_of points at.lists.faces none; clear = at.clear.none_meets } in
+    let good : IsValidSurface m = record { sound = sound; closed = closed-mesh_of points at.lists.faces none; clear = at.clear.none_meets } in
     reaches_kept at.front at.rest (start m) s (kept_start m good) at.reached
 
 -- ---- the log up to there

@@ -13,7 +13,7 @@ use Rattle.log_text.specs.declared.LogLine.{LogLine}
 use Rattle.edit_base.specs.declared.Change.{Change}
 use Rattle.edit_base.specs.Answers.{edited}
 use Rattle.edit_base.specs.Clauses.{MovesClear}
-use Rattle.pass_run.specs.Promises.{IsGood}
+use Rattle.mesh_base.specs.Valid.{IsValidSurface}
 use Rattle.log_text.specs.declared.LogLine.TheVariants.{Mesh as MeshLine, Moved, Did}
 use Rattle.log_text.specs.Replay.{Replay, replayed}
 use Rattle.track_run.specs.Job.{mesh_of_lists}
@@ -41,16 +41,16 @@ pub record IsSavedWell (r : Replay) (vertices faces : ℕ) : Type 0 where
 -- A motion by the `move` lines so far begins in a mesh that is sound, closed and clear, keeps it clear at every fraction, and ends in one
 -- that is so too.
 pub record MovesWell (r : Replay) : Type 0 where
-  pub before : IsGood r.mesh
+  pub before : IsValidSurface r.mesh
   pub along : IsClearAlong r.mesh (moved_by r.mesh r.moves)
-  pub after : IsGood (with_moves r.mesh r.moves)
+  pub after : IsValidSurface (with_moves r.mesh r.moves)
 
 -- An edit begins in a mesh that is sound, closed and clear, its scaffold is closed, and clear at every fraction of its motion, of a
 -- pinch above zero and of a collapse below one, and it leaves a mesh that is sound, closed and clear. A zip has no motion.
 pub record EditsWell (r : Replay) (change : Change) : Type 0 where
-  pub before : IsGood r.mesh
+  pub before : IsValidSurface r.mesh
   pub along : MovesClear r.mesh change
-  pub after : IsGood (edited r.mesh change)
+  pub after : IsValidSurface (edited r.mesh change)
 
 -- What a line promises of the replay where it stands: of a `mesh` line that the mesh is saved well, of a `moved` line that the
 -- motion by the `move` lines goes well, and of the line of a done edit that the edit does.

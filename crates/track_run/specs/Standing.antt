@@ -1,7 +1,7 @@
 -- Where a run stands between two directives, and what holds there.
 use Rattle.std.specs.Prelude.{◌≡◌, List, ◌++◌}
 use Rattle.mesh_base.specs.Shifts.{NameLive}
-use Rattle.pass_run.specs.Promises.{IsGood}
+use Rattle.mesh_base.specs.Valid.{IsValidSurface}
 use Rattle.obj_text.specs.Obj.{Lists}
 use Rattle.step_text.specs.declared.Placed.{Placed}
 use Rattle.log_text.specs.declared.LogLine.{LogLine}
@@ -13,7 +13,7 @@ use Rattle.track_run.specs.Causes.{HasClear, Reaches}
 
 -- the mesh is sound, closed and clear, and a shift is asked of each live vertex, by rising id
 pub record IsKept (s : State) : Type 0 where
-  pub good : IsGood s.mesh
+  pub good : IsValidSurface s.mesh
   pub names : NameLive s.mesh s.asked
 
 -- a run of the job stands there when the first of its directives are all taken

@@ -4,7 +4,7 @@ ghost use Rattle.mesh_base.specs.Sides.{IsClosed};
 ghost use Rattle.step_text.specs.Ranges.{AreInRange};
 ghost use Rattle.outside_io.specs.Causes.{Rose};
 ghost use Rattle.track_run.specs.State.{at_mesh};
-ghost use Rattle.pass_run.specs.Promises.{IsGood};
+ghost use Rattle.mesh_base.specs.Valid.{IsValidSurface};
 ghost use Rattle.track_run.specs.Job.{told_of, told_of_meeting, met_first};
 ghost use Rattle.track_run.specs.Words.{named_in};
 ghost use Rattle.track_run.specs.Names.{named_by, target_of};
@@ -53,7 +53,7 @@ fn begin<S: Surface, D: Desk, K: Sink>(
     out: &mut K,
 ) -> Result<Option<Refusal>, Stop>
     requires few { names.decimals ≤ 6 }
-    requires good { IsGood (S.mesh mesh.old) }
+    requires good { IsValidSurface (S.mesh mesh.old) }
     requires ranges { AreInRange steps.now }
     requires count { length steps.now < 2 ^ 31 }
     ensures follows { Follows (target_of names.entry) (at_mesh (S.mesh mesh.old)) (told_of (S.mesh mesh.old) steps.now)
