@@ -15,7 +15,7 @@ use Rattle.mesh_base.specs.Pairs.{is_edge}
 use Rattle.edit_base.specs.Edges.{edge_of, corners_at, third_corner, face_running}
 use Rattle.mesh_base.proofs.Listed.{each_found, edge_live, and_first, and_second, or_either}
 use Rattle.edit_base.specs.Beside.{IsBeside}
-use Rattle.edit_base.proofs.Closed.{arc, round_of, first_way, second_way, third_way}
+use Rattle.edit_base.proofs.Arcs.{arc, round_of, first_way, second_way, third_way}
 
 -- ---- the first face that runs one way
 first_running : (Q : ℕ × Corners → Type 0) (test : Corners → Bool) (es : List (ℕ × Corners)) → AllByRecursion Q es → 0 < length (ids_where test es) → (c : Corners) × (test c ≡ true) × Q (slice_index (ids_where test es) 0, c)

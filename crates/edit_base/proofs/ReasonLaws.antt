@@ -5,11 +5,9 @@ use Rattle.std.proofs.lemmas.Bool.Decides.{nat_tests}
 use Rattle.edit_base.specs.declared.answers.Why.{Why}
 use Rattle.edit_base.specs.declared.answers.Change.{Change}
 use Rattle.edit_base.specs.declared.answers.Edit.TheVariants.{Done}
-use Rattle.mesh_base.specs.Mesh.{Mesh, IsSound}
-use Rattle.edit_base.specs.Reasons.{reason_if}
+use Rattle.mesh_base.specs.Mesh.{Mesh}
+use Rattle.edit_base.specs.Reasons.{reason_if, first_reason, done_unless}
 use Rattle.edit_base.specs.Edges.{Edge, edge_of, corners_at, third_corner, face_running}
-use Rattle.edit_base.specs.Answers.{first_reason, done_unless}
-use Rattle.edit_base.proofs.Closed.{AreBelow}
 
 pub done_is : (reason : Option Why) (change done : Change) → done_unless reason change ≡ Done done → (reason ≡ None) × (change ≡ done)
 done_is (Some why) change done e = absurd cc
@@ -58,6 +56,3 @@ edge_between m a b = record {
 
 pub edge_again : (m : Mesh) (u v : ℕ) → edge_of m (min u v) (max u v) ≡ edge_of m u v
 edge_again m u v = λ i. edge_between m (ordered_min u v i) (ordered_max u v i)
-
-pub below_next : (m : Mesh) → IsSound m → AreBelow m
-below_next m sound f live = (sound.is_mesh.face_ids f live).1

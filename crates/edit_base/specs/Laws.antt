@@ -1,10 +1,8 @@
 -- The laws of edits, as statements.
-use Rattle.std.specs.Prelude.{◌≡◌, ◌↔◌, ℕ, ◌⊎◌, Bool, List}
+use Rattle.std.specs.Prelude.{◌≡◌, ◌↔◌, ℕ, Bool, List, Option}
 use Rattle.std.specs.List.{Contains}
 use Rattle.std.proofs.Common.{None}
 use Rattle.grid_base.specs.declared.Positions.{Positions}
-use Rattle.grid_base.specs.Triples.{Triple, plus, times}
-use Rattle.grid_base.specs.Meeting.{Meets}
 use Rattle.edit_base.specs.declared.answers.Change.{Change}
 use Rattle.edit_base.specs.declared.answers.Edit.{Edit}
 use Rattle.edit_base.specs.declared.answers.Edit.TheVariants.{Done}
@@ -12,7 +10,6 @@ use Rattle.mesh_base.specs.Mesh.{Mesh, IsSound}
 use Rattle.mesh_base.specs.Sides.{IsClosed}
 use Rattle.mesh_base.specs.Placements.{IsClearMesh}
 use Rattle.edit_base.specs.Scaffold.{Scaffold, motion_of, first_lacking, IsClearBut}
-use Rattle.edit_base.specs.Answers.{edited}
 use Rattle.edit_base.specs.Clauses.{MovesClear}
 use Rattle.edit_base.specs.Classes.{Linked, class_of}
 
@@ -25,31 +22,29 @@ NoneLackingIsClear meets =
 abbrev pub Answer : Type 0
 Answer = Mesh → Edit
 
+-- what a done edit makes of a mesh
+abbrev pub Makes : Type 0
+Makes = Mesh → Change → Mesh
+
+-- a done edit is a change of this kind
+abbrev pub AlwaysMakes : (Change → Type 0) → Answer → Type 0
+AlwaysMakes kind answer = (m : Mesh) (change : Change) → answer m ≡ Done change → kind change
+
 -- a done edit of a sound and closed mesh leaves a sound one
-abbrev pub StaysSound : Answer → Type 0
-StaysSound answer = (m : Mesh) (change : Change) → IsSound m → IsClosed m → answer m ≡ Done change → IsSound (edited m change)
+abbrev pub StaysSound : Makes → Answer → Type 0
+StaysSound result answer = (m : Mesh) (change : Change) → IsSound m → IsClosed m → answer m ≡ Done change → IsSound (result m change)
 
 -- and a closed one
-abbrev pub StaysClosed : Answer → Type 0
-StaysClosed answer = (m : Mesh) (change : Change) → IsSound m → IsClosed m → answer m ≡ Done change → IsClosed (edited m change)
+abbrev pub StaysClosed : Makes → Answer → Type 0
+StaysClosed result answer = (m : Mesh) (change : Change) → IsSound m → IsClosed m → answer m ≡ Done change → IsClosed (result m change)
 
 -- where the mesh is clear as well, a done edit leaves a clear one
-abbrev pub StaysClear : Answer → Type 0
-StaysClear answer = (m : Mesh) (change : Change) → IsSound m → IsClosed m → IsClearMesh m → answer m ≡ Done change → IsClearMesh (edited m change)
+abbrev pub StaysClear : Makes → Answer → Type 0
+StaysClear result answer = (m : Mesh) (change : Change) → IsSound m → IsClosed m → IsClearMesh m → answer m ≡ Done change → IsClearMesh (result m change)
 
 -- the motion of a done edit is clear
-abbrev pub MotionIsClear : Answer → Type 0
-MotionIsClear answer = (m : Mesh) (change : Change) → IsSound m → IsClosed m → answer m ≡ Done change → MovesClear m change
-
--- An edge that meets the face a, d, c meets one of the two parts of it on either side of the middle w of c and d. All in half units.
-abbrev pub FaceIsTwoFaces : Type 0
-FaceIsTwoFaces = (x y a c d : Triple) → Meets x y a d c →
-    Meets (times 2 x) (times 2 y) (times 2 a) (plus c d) (times 2 c) ⊎ Meets (times 2 x) (times 2 y) (plus c d) (times 2 a) (times 2 d)
-
--- What meets the edge c, d meets one of its two halves. All in half units.
-abbrev pub EdgeIsTwoEdges : Type 0
-EdgeIsTwoEdges = (c d x y z : Triple) → Meets c d x y z →
-    Meets (times 2 c) (plus c d) (times 2 x) (times 2 y) (times 2 z) ⊎ Meets (plus c d) (times 2 d) (times 2 x) (times 2 y) (times 2 z)
+abbrev pub MotionIsClear : (Mesh → Change → Option Scaffold) → Answer → Type 0
+MotionIsClear scaffold answer = (m : Mesh) (change : Change) → IsSound m → IsClosed m → answer m ≡ Done change → MovesClear scaffold m change
 
 -- A class has the numbers of the list to which a chain leads, and no others.
 abbrev pub ClassesAreLinked : Type 0

@@ -4,11 +4,5 @@ pub mod Beside
 pub mod Required
 pub mod Classes
 pub mod Reasons
-pub mod Split
-pub mod Flip
-pub mod Collapse
-pub mod Zip
-pub mod Pinch
-pub mod Answers
 pub mod Clauses
 pub mod Laws

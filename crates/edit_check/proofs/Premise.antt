@@ -17,10 +17,8 @@ use Rattle.mesh_base.proofs.Listed.{edge_live}
 use Rattle.edit_base.specs.declared.Move.{Move}
 use Rattle.edit_base.specs.Scaffold.{move_of}
 use Rattle.edit_base.specs.Edges.{Edge, corners_from, with_faces, without_faces}
-use Rattle.edit_base.specs.Split.{split_mesh}
-use Rattle.edit_base.proofs.Ends.{new_point}
-use Rattle.edit_base.proofs.Changed.{next_face-without_faces, points-without_faces, points-with_faces}
-use Rattle.edit_base.proofs.FlipSound.{runs_there}
+use Rattle.edit_acts.proofs.Changed.{next_face-without_faces, points-without_faces, points-with_faces}
+use Rattle.edit_acts.proofs.FaceCorners.{edge_forth, edge_back}
 use Rattle.edit_check.specs.Untouched.{IsUntouched, IsClearWhereUntouched}
 use Rattle.edit_check.specs.Agreeing.{AgreesWhereOld}
 
@@ -36,12 +34,6 @@ all_new_is m moves sound p untouched meet =
     absurd (omega arith)
 
 -- ---- a mesh that is another one but for new and moved parts
-edge_forth : (m : Mesh) (f : ℕ) (c : Corners) (u v : ℕ) → HasCorners m f c → follows c u v ≡ true → IsEdge m u v
-edge_forth m f c u v there step = let some = runs_there m f c u v there step in omega arith
-
-edge_back : (m : Mesh) (u v : ℕ) → IsEdge m u v → IsEdge m v u
-edge_back m u v h = omega arith
-
 module _ (old new : Mesh) (moves : List Move) (sound : IsSound old) (agrees : AgreesWhereOld old new moves) (p : Pair) (untouched : IsUntouched new moves old.next_face p) where
   was_edge : IsEdge old p.name.a p.name.b
   was_edge =
@@ -79,14 +71,14 @@ agreeing_is old new moves sound clear agrees p untouched meet =
     (Meets-unmultiple 2 (positions (own_points old) p) (omega arith) (subst MeetAt (stood_all old new moves sound agrees p untouched) meet))
 
 -- ---- after faces are dropped and made
-old_of_made : (m : Mesh) (cs : List Corners) (f : ℕ) (c : Corners) → HasCorners (with_faces m cs) f c → f < m.next_face → HasCorners m f c
+pub old_of_made : (m : Mesh) (cs : List Corners) (f : ℕ) (c : Corners) → HasCorners (with_faces m cs) f c → f < m.next_face → HasCorners m f c
 old_of_made m [] f c there below = there
 old_of_made m (k ∷ ks) f c there below = ⊎_elim
     (λ e. let same : f ≡ m.next_face = e.0 in absurd (omega arith))
     (λ old. old)
     (got_after_insert m.faces m.next_face k f c (old_of_made (with_face m k) ks f c there (let h : f < m.next_face + 1 = omega arith in h)))
 
-old_of_dropped : (m : Mesh) (fs : List ℕ) (f : ℕ) (c : Corners) → HasCorners (without_faces m fs) f c → HasCorners m f c
+pub old_of_dropped : (m : Mesh) (fs : List ℕ) (f : ℕ) (c : Corners) → HasCorners (without_faces m fs) f c → HasCorners m f c
 old_of_dropped m [] f c there = there
 old_of_dropped m (g ∷ gs) f c there = (got_after_remove m.faces g f c (old_of_dropped (without_face m g) gs f c there)).1
 
@@ -96,23 +88,3 @@ faces_changed m fs cs moves = record {
   faces = λ f c there below. old_of_dropped m fs f c (old_of_made (without_faces m fs) cs f c there (subst (λ n. f < n) (sym (next_face-without_faces m fs)) below));
   points = λ v below rests. ap (λ ps. own_points (record m { points = ps }) v) (points-with_faces (without_faces m fs) cs ∙ points-without_faces m fs);
 }
-
--- a mesh whose edge is split
-pub split_changed : (m : Mesh) (s : Edge) (at : Point) (moves : List Move) → AgreesWhereOld m (split_mesh m s at) moves
-split_changed m s at moves =
-    let drops = s.forth ∷ s.back ∷ [] in
-    let w = m.next_vertex in
-    let four : List Corners = corners_from s.a w s.c ∷ corners_from w s.b s.c ∷ corners_from s.b w s.d ∷ corners_from w s.a s.d ∷ [] in
-    record {
-      faces = λ f c there below. old_of_dropped m drops f c (old_of_made (with_vertex (without_faces m drops) at) four f c there below);
-      points = λ v below rests. new_point m s at v ∙ ap (λ b. cond b (position_of at) (own_points m v)) (apart v below);
-    }
-  where
-    apart : (v : ℕ) → v < m.next_vertex → (m.next_vertex == v) ≡ false
-    apart v below = grind (arith, nat_tests)
-
--- a clear mesh whose edge is split may be checked, where the faces that the split makes are new
-pub split_may_be_checked : (m n : Mesh) (s : Edge) (at : Point) (moves : List Move) (fresh_from : ℕ) → IsSound m → IsClearMesh m → n ≡ split_mesh m s at → fresh_from ≡ m.next_face → IsClearWhereUntouched n moves fresh_from
-split_may_be_checked m n s at moves fresh_from sound clear made first =
-    subst (λ k. IsClearWhereUntouched n moves k) (sym first)
-    (subst (λ (k : Mesh). IsClearWhereUntouched k moves m.next_face) (sym made) (agreeing_is m (split_mesh m s at) moves sound clear (split_changed m s at moves)))

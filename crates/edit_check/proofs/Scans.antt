@@ -22,8 +22,7 @@ use Rattle.edit_check.specs.declared.moving.MovingFace.{MovingFace}
 use Rattle.edit_check.specs.Moving.{is_moved, is_touched, moving_edge, moving_face, moving_faces}
 use Rattle.edit_check.specs.Lacking.{lack, name_with, first_lacking_among, is_side_of_some}
 use Rattle.edit_check.specs.Checking.{scaffold_by, first_of}
-use Rattle.pair_scan.proofs.Lists.{find-map, option_map-option_map}
-use Rattle.pair_scan.proofs.Lists.{find-filter as find-kept}
+use Rattle.pair_scan.proofs.Lists.{find-map, option_map-option_map, find-filter as find-kept}
 use Rattle.pair_scan.proofs.Faces.{found_entries}
 use Rattle.edit_check.proofs.Still.{find-filter}
 use Rattle.edit_check.proofs.Untouched.{untouched_is_as_required}

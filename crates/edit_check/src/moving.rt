@@ -8,7 +8,8 @@ ghost use Rattle.mesh_base.specs.Placements.{own_points_doubled};
 ghost use Rattle.edit_base.specs.Scaffold.{move_of};
 ghost use Rattle.edit_check.specs.Moving.{path_of, is_moved, is_touched, moving_edge, moving_face, moving_faces};
 
-use edit_base::{Move, doubled, point_of};
+use edit_acts::{doubled, point_of};
+use edit_base::Move;
 use grid_base::{Items, NoMemory, Wide};
 use mesh_base::{Corners, FaceId, Surface, VertexId, live_faces};
 use std::alloc::Global;

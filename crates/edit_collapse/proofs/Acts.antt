@@ -21,13 +21,12 @@ use Rattle.mesh_base.proofs.ListedPairs.{all_weaker, all_mapped, all_filtered, a
 use Rattle.mesh_base.proofs.Tests.{or_first, or_second}
 use Rattle.mesh_base.proofs.WalkSteps.{both_of}
 use Rattle.edit_base.specs.Edges.{renamed, corners_from, without_faces, with_renamed, with_all_renamed}
-use Rattle.edit_base.specs.Collapse.{without_shared, with_joined, are_opposite, least_opposite, with_opposites, with_one_cancelled, cancelled_times}
-use Rattle.edit_base.proofs.Closed.{AreBelow, below-with, below-without, still_there}
-use Rattle.edit_base.proofs.Changed.{next_face-without_faces}
-use Rattle.edit_base.proofs.Joined.{each_there, holds_both, single_left, kept_with, all_two, all_above}
-use Rattle.edit_base.proofs.JoinedFaces.{rotated}
-use Rattle.edit_base.proofs.ReasonLaws.{below_next}
-use Rattle.edit_base.proofs.ZipClosed.{same_corners}
+use Rattle.edit_collapse.specs.Collapse.{without_shared, with_joined, are_opposite, least_opposite, with_opposites, with_one_cancelled, cancelled_times}
+use Rattle.edit_acts.proofs.Flow.{AreBelow, below-with, below-without, still_there, below_next}
+use Rattle.edit_acts.proofs.Changed.{next_face-without_faces}
+use Rattle.edit_collapse.proofs.Joined.{each_there, holds_both, single_left, kept_with, all_two, all_above}
+use Rattle.edit_collapse.proofs.JoinedFaces.{rotated}
+use Rattle.edit_acts.proofs.FaceCorners.{same_corners}
 use Rattle.edit_collapse.specs.Tried.{opposite_in, two_in, without_two, one_cancelled_in, cancelled_in, only_at, numbered, joined_at, left_at}
 use Rattle.edit_collapse.proofs.Lists.{filter_same, filter_twice, sorted_filter, fewer_filtered, put_last, find_filtered, filter_map_same, cancelled_enough}
 

@@ -16,11 +16,11 @@ use Rattle.edit_base.specs.declared.answers.Edit.{Edit}
 use Rattle.edit_base.specs.declared.answers.Edit.TheVariants.{Done, No}
 use Rattle.edit_base.specs.declared.scaffold.Move.{Move}
 use Rattle.edit_base.specs.declared.scaffold.Touch.TheVariants.{End}
-use Rattle.edit_base.specs.Reasons.{reason_if}
+use Rattle.edit_base.specs.Reasons.{reason_if, first_reason, done_unless, is_full}
 use Rattle.edit_base.specs.Scaffold.{first_lacking}
 use Rattle.edit_base.specs.Edges.{doubles_a_face}
-use Rattle.edit_base.specs.Collapse.{collapse_mesh, collapse_point, collapse_scaffold, joined_faces}
-use Rattle.edit_base.specs.Answers.{first_reason, done_unless, is_full, collapse_answer}
+use Rattle.edit_collapse.specs.Collapse.{collapse_mesh, collapse_point, collapse_scaffold, joined_faces}
+use Rattle.edit_collapse.specs.Answer.{collapse_answer}
 use Rattle.edit_base.proofs.Beside.{beside_of}
 use Rattle.edit_collapse.specs.Tried.{answer_of, MayBeTried}
 

@@ -19,9 +19,9 @@ use Rattle.mesh_base.specs.Changes.{without_vertex, corner_list}
 use Rattle.mesh_base.proofs.Listed.{all_filter, at_key, running_face, and_first, and_second, or_either}
 use Rattle.mesh_base.proofs.ListedPairs.{all_weaker}
 use Rattle.mesh_base.proofs.Tests.{or_first, or_second, both_ways}
-use Rattle.edit_base.specs.Collapse.{joined_faces, has_face, without_bare}
-use Rattle.edit_base.proofs.CollapseMesh.{dropped_faces, dropped_next, has_face_of}
-use Rattle.edit_base.proofs.JoinedFaces.{joined, lacks_b}
+use Rattle.edit_collapse.specs.Collapse.{joined_faces, has_face, without_bare}
+use Rattle.edit_collapse.proofs.CollapseMesh.{dropped_faces, dropped_next, has_face_of}
+use Rattle.edit_collapse.proofs.JoinedFaces.{joined, lacks_b}
 use Rattle.edit_collapse.specs.Tried.{corners_near, others_than, without_if_bare}
 use Rattle.edit_collapse.proofs.Acts.{faces_kept_at, each_at, one_stays}
 use Rattle.edit_collapse.proofs.Three.{three_cut, two_stays}

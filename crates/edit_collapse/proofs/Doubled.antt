@@ -12,8 +12,8 @@ use Rattle.mesh_base.specs.Sides.{has_corner}
 use Rattle.mesh_base.proofs.ListedPairs.{all_weaker}
 use Rattle.mesh_base.proofs.WalkSteps.{both_of}
 use Rattle.edit_base.specs.Edges.{has_equal, doubles_a_face}
-use Rattle.edit_base.specs.Collapse.{joined_faces}
-use Rattle.edit_base.proofs.Joined.{each_there, single_left, all_two, all_above}
+use Rattle.edit_collapse.specs.Collapse.{joined_faces}
+use Rattle.edit_collapse.proofs.Joined.{each_there, single_left, all_two, all_above}
 use Rattle.edit_collapse.specs.Tried.{left_at}
 use Rattle.edit_collapse.proofs.Acts.{same_held}
 use Rattle.edit_collapse.proofs.Three.{three_cut, two_from}

@@ -19,14 +19,13 @@ use Rattle.mesh_base.specs.Changes.{with_face, without_face, IsFresh}
 use Rattle.mesh_base.proofs.Finite.{got_after_remove}
 use Rattle.mesh_base.proofs.WalkSteps.{both_of}
 use Rattle.edit_base.specs.Edges.{renamed, corners_at, without_faces, with_renamed, with_all_renamed, doubles_a_face}
-use Rattle.edit_base.specs.Collapse.{without_shared, with_joined, joined_faces, collapse_point}
-use Rattle.edit_base.proofs.Closed.{AreBelow, not_live}
-use Rattle.edit_base.proofs.Changed.{points-without_faces, next_face-without_faces}
-use Rattle.edit_base.proofs.Joined.{single_left, renamed_lacks, next_vertex-without_faces}
-use Rattle.edit_base.proofs.JoinedFaces.{joined, different_left}
-use Rattle.edit_base.proofs.CollapseMesh.{were_live}
-use Rattle.edit_base.proofs.ReasonLaws.{below_next}
-use Rattle.edit_base.proofs.Undoubled.{undoubled}
+use Rattle.edit_collapse.specs.Collapse.{without_shared, with_joined, joined_faces, collapse_point}
+use Rattle.edit_acts.proofs.Flow.{AreBelow, not_live, below_next}
+use Rattle.edit_acts.proofs.Changed.{points-without_faces, next_face-without_faces}
+use Rattle.edit_collapse.proofs.Joined.{single_left, renamed_lacks, next_vertex-without_faces}
+use Rattle.edit_collapse.proofs.JoinedFaces.{joined, different_left}
+use Rattle.edit_collapse.proofs.CollapseMesh.{were_live}
+use Rattle.edit_acts.proofs.Undoubled.{undoubled}
 use Rattle.edit_collapse.specs.Tried.{only_at, has_id_in, left_at, with_joined_or_gone}
 use Rattle.edit_collapse.proofs.Acts.{faces_kept_at, same_held, renamed_has, Wait, renamed_once, made_below, wait_on, one_stays, one_below, first_wait, rising, two_is}
 use Rattle.edit_collapse.proofs.Three.{three_cut, kind_found, kind_has, kept, same_some, three_kept, stays_along, two_from, ids_taken}

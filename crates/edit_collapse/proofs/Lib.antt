@@ -1,3 +1,11 @@
+pub mod Cancelled
+pub mod Carried
+pub mod Joined
+pub mod JoinedFaces
+pub mod CollapseMesh
+pub mod CollapseClear
+pub mod CollapseDone
+pub mod CollapseKeeps
 pub mod Answered
 pub mod Bare
 pub mod Doubled

@@ -15,7 +15,7 @@ use Rattle.mesh_base.proofs.Tests.{or_first, or_second, or_either}
 use Rattle.mesh_base.proofs.ListedPairs.{all_weaker}
 use Rattle.mesh_base.specs.Mesh.{equal_up_to_rotation}
 use Rattle.edit_base.specs.Edges.{has_equal}
-use Rattle.edit_base.specs.Collapse.{are_opposite}
+use Rattle.edit_collapse.specs.Collapse.{are_opposite}
 use Rattle.edit_collapse.specs.Tried.{opposite_in, two_in, without_two, one_cancelled_in, cancelled_in, has_id_in}
 
 -- ---- filters

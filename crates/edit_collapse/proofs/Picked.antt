@@ -9,7 +9,7 @@ use Rattle.mesh_base.specs.declared.ids.Corners.{Corners}
 use Rattle.mesh_base.specs.Mesh.{Mesh, IsSound, HasCorners}
 use Rattle.mesh_base.specs.Sides.{has_corner, faces_at}
 use Rattle.mesh_base.proofs.ListedPairs.{all_weaker, all_filtered}
-use Rattle.edit_base.proofs.Joined.{each_there}
+use Rattle.edit_collapse.proofs.Joined.{each_there}
 use Rattle.edit_collapse.specs.Tried.{only_at}
 use Rattle.edit_collapse.proofs.Lists.{filter_twice, fewer_filtered, rest_at}
 

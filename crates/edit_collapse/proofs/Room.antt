@@ -19,14 +19,14 @@ use Rattle.mesh_base.specs.Limits.{is_over_limits}
 use Rattle.mesh_base.proofs.Listed.{edge_live}
 use Rattle.mesh_base.proofs.WalkSteps.{both_of}
 use Rattle.edit_base.specs.Edges.{renamed, without_faces, with_all_renamed}
-use Rattle.edit_base.specs.Collapse.{without_shared, with_joined, with_opposites, with_one_cancelled, cancelled_times, joined_faces, has_face, without_bare, placed_if_left, collapse_mesh, collapse_point}
-use Rattle.edit_base.specs.Answers.{is_full}
-use Rattle.edit_base.proofs.Cancelled.{len-remove_le}
-use Rattle.edit_base.proofs.Changed.{points-without_faces}
-use Rattle.edit_base.proofs.Closed.{AreBelow}
-use Rattle.edit_base.proofs.CollapseMesh.{dropped_faces, dropped_next, placed_faces, placed_next}
-use Rattle.edit_base.proofs.Counting.{len-insert_le, len-without}
-use Rattle.edit_base.proofs.Joined.{next_vertex-without_faces}
+use Rattle.edit_collapse.specs.Collapse.{without_shared, with_joined, with_opposites, with_one_cancelled, cancelled_times, joined_faces, has_face, without_bare, placed_if_left, collapse_mesh, collapse_point}
+use Rattle.edit_base.specs.Reasons.{is_full}
+use Rattle.edit_collapse.proofs.Cancelled.{len-remove_le}
+use Rattle.edit_acts.proofs.Changed.{points-without_faces}
+use Rattle.edit_acts.proofs.Flow.{AreBelow}
+use Rattle.edit_collapse.proofs.CollapseMesh.{dropped_faces, dropped_next, placed_faces, placed_next}
+use Rattle.edit_acts.proofs.Counting.{len-insert_le, len-without}
+use Rattle.edit_collapse.proofs.Joined.{next_vertex-without_faces}
 use Rattle.edit_collapse.specs.Tried.{only_at}
 use Rattle.edit_collapse.proofs.Acts.{Wait, renamed_once, made_below, wait_on, one_below, first_wait, rising, two_is}
 use Rattle.edit_collapse.proofs.Halfway.{points_along}

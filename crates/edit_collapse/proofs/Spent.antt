@@ -14,9 +14,9 @@ use Rattle.std.specs.FinMap.Entries.{same_entries}
 use Rattle.std.proofs.lemmas.Map.Lookups.{exact_unsigned}
 use Rattle.std.proofs.lemmas.Map.Views.{tells_apart}
 use Rattle.edit_base.specs.Edges.{with_renamed}
-use Rattle.edit_base.proofs.Closed.{not_live, below-without}
+use Rattle.edit_acts.proofs.Flow.{not_live, below-without}
 use Rattle.edit_collapse.specs.Tried.{has_id_in, with_joined_or_gone}
-use Rattle.edit_base.proofs.Counting.{len-without}
+use Rattle.edit_acts.proofs.Counting.{len-without}
 
 not_true : (b : Bool) → ¬ (b ≡ true) → b ≡ false
 not_true true h = absurd (h refl)

@@ -13,11 +13,11 @@ use Rattle.mesh_base.proofs.Finite.{got_after_remove, got_after_insert}
 use Rattle.mesh_base.proofs.Listed.{all_filter, at_key}
 use Rattle.mesh_base.proofs.WalkSteps.{both_of}
 use Rattle.edit_base.specs.Edges.{renamed, without_faces, with_all_renamed}
-use Rattle.edit_base.specs.Collapse.{without_shared, with_joined, with_opposites, with_one_cancelled, cancelled_times, joined_faces}
-use Rattle.edit_base.proofs.Closed.{AreBelow, still_there}
-use Rattle.edit_base.proofs.Changed.{next_face-without_faces}
-use Rattle.edit_base.proofs.Joined.{kept_with}
-use Rattle.edit_base.proofs.ZipClosed.{same_corners}
+use Rattle.edit_collapse.specs.Collapse.{without_shared, with_joined, with_opposites, with_one_cancelled, cancelled_times, joined_faces}
+use Rattle.edit_acts.proofs.Flow.{AreBelow, still_there}
+use Rattle.edit_acts.proofs.Changed.{next_face-without_faces}
+use Rattle.edit_collapse.proofs.Joined.{kept_with}
+use Rattle.edit_acts.proofs.FaceCorners.{same_corners}
 use Rattle.edit_collapse.specs.Tried.{only_at, has_id_in, left_at}
 use Rattle.edit_collapse.proofs.Lists.{each_has_id, id_found, two_found}
 use Rattle.edit_collapse.proofs.Acts.{faces_kept_at, each_at, same_two, renamed_has, Wait, renamed_once, made_below, wait_on, one_below, first_wait, rising, two_is}

@@ -1,10 +1,9 @@
 -- When a collapse is tried, and what is left of the faces at its end.
-use Rattle.std.specs.Prelude.{◌≡◌, ℕ, zero, suc, ◌+◌, ◌==◌, is_some, if◌then◌else◌, ◌&&◌, not, false, true, List, ◌∷◌, [], slice_get}
+use Rattle.std.specs.Prelude.{◌≡◌, ℕ, zero, suc, ◌+◌, ◌==◌, is_some, if◌then◌else◌, ◌&&◌, not, false, true, List, ◌∷◌, [], slice_get, Bool}
 use Rattle.std.specs.Option.{option_map, option_map_or, unwrap_or}
 use Rattle.std.proofs.Common.{Option}
 use Rattle.std.specs.List.{filter, filter_map, flat_map, find, list_any}
 use Rattle.std.specs.FinMap as finite
-use Rattle.std.specs.Prelude.{Bool}
 use Rattle.grid_base.specs.declared.Positions.{Positions}
 use Rattle.mesh_base.specs.declared.ids.Corners.{Corners}
 use Rattle.mesh_base.specs.Mesh.{Mesh}
@@ -15,9 +14,8 @@ use Rattle.edit_base.specs.declared.answers.Change.TheVariants.{Collapse}
 use Rattle.edit_base.specs.declared.answers.Edit.{Edit}
 use Rattle.edit_base.specs.Edges.{doubles_a_face, renamed, with_renamed}
 use Rattle.mesh_base.specs.Changes.{without_face, without_vertex, corner_list}
-use Rattle.edit_base.specs.Reasons.{reason_if}
-use Rattle.edit_base.specs.Collapse.{has_face, collapse_mesh, collapse_point, collapse_scaffold, joined_faces, are_opposite, without_shared, with_joined}
-use Rattle.edit_base.specs.Answers.{first_reason, done_unless, is_full, hit_in}
+use Rattle.edit_base.specs.Reasons.{reason_if, first_reason, done_unless, is_full, hit_in}
+use Rattle.edit_collapse.specs.Collapse.{has_face, collapse_mesh, collapse_point, collapse_scaffold, joined_faces, are_opposite, without_shared, with_joined}
 
 -- what a collapse answers, by its ends in order
 abbrev pub answer_of : (Positions → Bool) → Mesh → ℕ → ℕ → ℕ → Edit

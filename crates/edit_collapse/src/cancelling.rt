@@ -3,7 +3,7 @@ ghost use Rattle.std.specs.Prelude.{◌≡◌, map, IfOk, length};
 ghost use Rattle.std.specs.List.{list_any};
 ghost use Rattle.mesh_base.specs.Mesh.{equal_up_to_rotation};
 ghost use Rattle.edit_base.specs.Edges.{renamed, has_equal};
-ghost use Rattle.edit_base.specs.Collapse.{are_opposite};
+ghost use Rattle.edit_collapse.specs.Collapse.{are_opposite};
 ghost use Rattle.edit_collapse.specs.Tried.{opposite_in, two_in, without_two, cancelled_in, has_id_in};
 
 use grid_base::{Items, NoMemory};

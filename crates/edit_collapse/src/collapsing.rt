@@ -7,16 +7,18 @@ ghost use Rattle.mesh_base.specs.Sides.{IsClosed};
 ghost use Rattle.mesh_base.specs.Pairs.{is_edge};
 ghost use Rattle.mesh_base.specs.Placements.{IsClearMesh, own_points_doubled};
 ghost use Rattle.mesh_base.specs.Kept.{BeginsWith};
-ghost use Rattle.edit_base.specs.Collapse.{collapse_mesh, collapse_point, collapse_scaffold};
+ghost use Rattle.edit_collapse.specs.Collapse.{collapse_mesh, collapse_point, collapse_scaffold};
 ghost use Rattle.edit_base.specs.Scaffold.{first_lacking};
-ghost use Rattle.edit_base.specs.Answers.{collapse_answer};
+ghost use Rattle.edit_collapse.specs.Answer.{collapse_answer};
 ghost use Rattle.edit_base.specs.Clauses.{mesh_left, MovesClearOnDone};
+ghost use Rattle.edit_collapse.specs.Done.{collapse_result, collapse_tested_on};
 ghost use Rattle.edit_check.specs.Untouched.{MoveFits};
 ghost use Rattle.edit_collapse.specs.Tried.{answer_of, left_at, MayBeTried};
 
 use crate::cancelling::LeftFaces;
 use crate::joining::{is_doubled, is_over, left_at, put_collapse};
-use edit_base::{Change, Edit, Move, Touch, Why, doubled, is_edge, point_of};
+use edit_acts::{doubled, point_of};
+use edit_base::{Change, Edit, Move, Touch, Why, is_edge};
 use edit_check::check;
 use grid_base::{DEPTH_MAX, NoMemory, Point, Wide, floor_mid};
 use mesh_base::{PairName, Surface, VertexId};
@@ -110,7 +112,7 @@ fn collapse_or_leave<S: Surface>(
     requires tried { MayBeTried (S.mesh mesh.old) a b }
     requires left { left.now ≡ left_at (S.mesh mesh.old) a b }
     ensures answer { IfOk result (λ edit. edit ≡ answer_of meets_exactly (S.mesh mesh.old) a b depth) }
-    ensures mesh { S.mesh mesh.new ≡ mesh_left (S.mesh mesh.old) result }
+    ensures mesh { S.mesh mesh.new ≡ mesh_left collapse_result (S.mesh mesh.old) result }
     ensures marks { BeginsWith (S.kept mesh.new) (S.kept mesh.old) }
 {
     let at = collapse_point(mesh, a, b);
@@ -137,7 +139,7 @@ fn collapse_ordered<S: Surface>(
     requires ordered { a ≤ b }
     ensures ordered { a ≤ b }
     ensures answer { IfOk result (λ edit. edit ≡ answer_of meets_exactly (S.mesh mesh.old) a b depth) }
-    ensures mesh { S.mesh mesh.new ≡ mesh_left (S.mesh mesh.old) result }
+    ensures mesh { S.mesh mesh.new ≡ mesh_left collapse_result (S.mesh mesh.old) result }
     ensures marks { BeginsWith (S.kept mesh.new) (S.kept mesh.old) }
 {
     if !is_edge(mesh, a, b) {
@@ -178,12 +180,12 @@ pub fn collapse<S: Surface>(
     requires clear { IsClearMesh (S.mesh mesh.old) }
     requires depth { depth ≤ DEPTH_MAX }
     ensures answer { IfOk result (λ edit. edit ≡ collapse_answer meets_exactly (S.mesh mesh.old) a b depth) }
-    ensures mesh { S.mesh mesh.new ≡ mesh_left (S.mesh mesh.old) result }
+    ensures mesh { S.mesh mesh.new ≡ mesh_left collapse_result (S.mesh mesh.old) result }
     // The mesh stays closed and clear.
     ensures closed { IsClosed (S.mesh mesh.new) }
     ensures clear { IsClearMesh (S.mesh mesh.new) }
     // Until both ends are at the point nothing meets.
-    ensures motion { IfOk result (λ edit. MovesClearOnDone (S.mesh mesh.old) edit) }
+    ensures motion { IfOk result (λ edit. MovesClearOnDone collapse_tested_on (S.mesh mesh.old) edit) }
     ensures marks { BeginsWith (S.kept mesh.new) (S.kept mesh.old) }
 {
     if a <= b {

@@ -7,12 +7,12 @@ ghost use Rattle.mesh_base.specs.Sides.{IsClosed, faces_at};
 ghost use Rattle.mesh_base.specs.Changes.{without_face, IsFresh};
 ghost use Rattle.mesh_base.specs.Kept.{BeginsWith};
 ghost use Rattle.edit_base.specs.Edges.{renamed, corners_at, doubles_a_face, without_faces};
-ghost use Rattle.edit_base.specs.Collapse.{joined_faces, collapse_mesh, collapse_point, placed_if_left};
-ghost use Rattle.edit_base.specs.Answers.{is_full};
+ghost use Rattle.edit_collapse.specs.Collapse.{joined_faces, collapse_mesh, collapse_point, placed_if_left};
+ghost use Rattle.edit_base.specs.Reasons.{is_full};
 ghost use Rattle.edit_collapse.specs.Tried.{only_at, joined_at, left_at, MayBeTried, has_id_in, with_joined_or_gone, corners_near, others_than, without_if_bare};
 
 use crate::cancelling::{LeftFaces, cancelled, has_id, renamed, repeats};
-use edit_base::make_face;
+use edit_acts::make_face;
 use grid_base::{ID_MAX, Items, NoMemory, Point};
 use mesh_base::{Corners, FaceId, Surface, VertexId};
 use std::alloc::Global;

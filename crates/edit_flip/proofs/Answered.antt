@@ -7,20 +7,19 @@ use Rattle.mesh_base.specs.Mesh.{Mesh, IsSound}
 use Rattle.mesh_base.specs.Sides.{IsClosed}
 use Rattle.mesh_base.specs.Pairs.{is_edge, is_crowded}
 use Rattle.mesh_base.specs.Limits.{is_over_limits}
-use Rattle.edit_base.specs.declared.answers.Why.TheVariants.{NoEdge, Crowded, Full, Hit}
-use Rattle.edit_base.specs.declared.answers.Why.TheVariants.{Edge as IsAnEdge}
+use Rattle.edit_base.specs.declared.answers.Why.TheVariants.{NoEdge, Crowded, Full, Hit, Edge as IsAnEdge}
 use Rattle.edit_base.specs.declared.answers.Change.TheVariants.{Flip}
 use Rattle.edit_base.specs.declared.answers.Edit.{Edit}
 use Rattle.edit_base.specs.declared.answers.Edit.TheVariants.{Done, No}
-use Rattle.edit_base.specs.Reasons.{reason_if}
+use Rattle.edit_base.specs.Reasons.{reason_if, first_reason, done_unless, is_full}
 use Rattle.edit_base.specs.Scaffold.{first_lacking}
 use Rattle.edit_base.specs.Edges.{Edge, edge_of}
-use Rattle.edit_base.specs.Split.{split_mesh, split_point}
-use Rattle.edit_base.specs.Flip.{flip_mesh, flip_scaffold}
+use Rattle.edit_split.specs.Split.{split_mesh, split_point}
+use Rattle.edit_flip.specs.Flip.{flip_mesh, flip_scaffold}
 use Rattle.edit_base.specs.Required.{HasEdge}
-use Rattle.edit_base.specs.Answers.{first_reason, done_unless, is_full, flip_answer}
+use Rattle.edit_flip.specs.Answer.{flip_answer}
 use Rattle.edit_base.proofs.ReasonLaws.{edge_again}
-use Rattle.edit_base.proofs.PutSplit.{has_edge_of}
+use Rattle.edit_base.proofs.EdgeThere.{has_edge_of}
 use Rattle.edit_flip.specs.Tried.{MayBeTried}
 use Rattle.edit_flip.proofs.PutFlip.{result_fits}
 

@@ -1,2 +1,9 @@
+pub mod Midway
+pub mod FlipClosed
+pub mod FlipCounts
+pub mod FlipSound
+pub mod FlipFaces
+pub mod FlipClear
+pub mod FlipDone
 pub mod PutFlip
 pub mod Answered

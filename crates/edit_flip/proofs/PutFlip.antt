@@ -8,13 +8,15 @@ use Rattle.mesh_base.specs.Pairs.{is_edge}
 use Rattle.mesh_base.specs.Changes.{without_face}
 use Rattle.mesh_base.specs.Limits.{is_over_limits}
 use Rattle.edit_base.specs.Edges.{Edge, corners_from, without_faces, AreFresh}
-use Rattle.edit_base.specs.Split.{split_mesh, split_point, split_is_over}
-use Rattle.edit_base.specs.Flip.{flip_mesh}
+use Rattle.edit_split.specs.Split.{split_mesh, split_point, split_is_over}
+use Rattle.edit_flip.specs.Flip.{flip_mesh}
 use Rattle.edit_base.specs.Required.{HasEdge, HasRoomFor}
 use Rattle.edit_base.specs.Beside.{IsBeside}
-use Rattle.edit_base.proofs.Counting.{len-bare, split_over, flip_fits, ids_for_four}
-use Rattle.edit_base.proofs.FlipSound.{both_fresh as flip_is_fresh}
-use Rattle.edit_base.proofs.PutSplit.{beside_it, forth_is_live, back_is_live}
+use Rattle.edit_split.proofs.SplitCounts.{len-bare, split_over, ids_for_four}
+use Rattle.edit_flip.proofs.FlipCounts.{flip_fits}
+use Rattle.edit_flip.proofs.FlipSound.{both_fresh as flip_is_fresh}
+use Rattle.edit_base.proofs.EdgeThere.{beside_it}
+use Rattle.edit_split.proofs.PutSplit.{forth_is_live, back_is_live}
 use Rattle.edit_base.proofs.ReasonLaws.{first_false, second_false, apart_of}
 use Rattle.edit_flip.specs.Tried.{MayBeTried}
 

@@ -4,7 +4,7 @@ use Rattle.mesh_base.specs.Mesh.{Mesh}
 use Rattle.mesh_base.specs.Pairs.{is_edge, is_crowded}
 use Rattle.mesh_base.specs.Limits.{is_over_limits}
 use Rattle.edit_base.specs.Edges.{Edge}
-use Rattle.edit_base.specs.Flip.{flip_scaffold}
+use Rattle.edit_flip.specs.Flip.{flip_scaffold}
 use Rattle.edit_base.specs.Required.{HasEdge}
 
 -- the edge is there and not crowded, the other edge may be made, and the split on which the flip is tested passes no limit

@@ -4,13 +4,15 @@ ghost use Rattle.grid_decided.specs.Decided.{meets_exactly};
 ghost use Rattle.mesh_base.specs.Sides.{IsClosed};
 ghost use Rattle.mesh_base.specs.Placements.{IsClearMesh};
 ghost use Rattle.mesh_base.specs.Kept.{BeginsWith};
-ghost use Rattle.edit_base.specs.Flip.{flip_mesh};
-ghost use Rattle.edit_base.specs.Answers.{flip_answer};
+ghost use Rattle.edit_flip.specs.Flip.{flip_mesh};
+ghost use Rattle.edit_flip.specs.Answer.{flip_answer};
 ghost use Rattle.edit_base.specs.Clauses.{mesh_left, MovesClearOnDone};
+ghost use Rattle.edit_flip.specs.Done.{flip_result, flip_tested_on};
 ghost use Rattle.edit_flip.specs.Tried.{MayBeTried};
 
 use crate::trying::{edge_to_flip, first_hit};
-use edit_base::{Change, EdgeFaces, Edit, Why, make_faces};
+use edit_acts::make_faces;
+use edit_base::{Change, EdgeFaces, Edit, Why};
 use grid_base::{DEPTH_MAX, NoMemory};
 use mesh_base::{Surface, VertexId};
 use std::alloc::Global;
@@ -56,7 +58,7 @@ fn flip_or_leave<S: Surface>(
     requires depth { depth ≤ DEPTH_MAX }
     requires tried { MayBeTried (S.mesh mesh.old) e.now }
     ensures answer { IfOk result (λ edit. edit ≡ flip_answer meets_exactly (S.mesh mesh.old) e.now.a e.now.b depth) }
-    ensures mesh { S.mesh mesh.new ≡ mesh_left (S.mesh mesh.old) result }
+    ensures mesh { S.mesh mesh.new ≡ mesh_left flip_result (S.mesh mesh.old) result }
     ensures marks { BeginsWith (S.kept mesh.new) (S.kept mesh.old) }
 {
     match first_hit(alloc, mesh, e, depth)? {
@@ -91,12 +93,12 @@ pub fn flip<S: Surface>(
     requires clear { IsClearMesh (S.mesh mesh.old) }
     requires depth { depth ≤ DEPTH_MAX }
     ensures answer { IfOk result (λ edit. edit ≡ flip_answer meets_exactly (S.mesh mesh.old) a b depth) }
-    ensures mesh { S.mesh mesh.new ≡ mesh_left (S.mesh mesh.old) result }
+    ensures mesh { S.mesh mesh.new ≡ mesh_left flip_result (S.mesh mesh.old) result }
     // The mesh stays closed and clear.
     ensures closed { IsClosed (S.mesh mesh.new) }
     ensures clear { IsClearMesh (S.mesh mesh.new) }
     // From the edge to the middle of the two third corners nothing meets.
-    ensures motion { IfOk result (λ edit. MovesClearOnDone (S.mesh mesh.old) edit) }
+    ensures motion { IfOk result (λ edit. MovesClearOnDone flip_tested_on (S.mesh mesh.old) edit) }
     ensures marks { BeginsWith (S.kept mesh.new) (S.kept mesh.old) }
 {
     match edge_to_flip(mesh, a, b) {

@@ -2,6 +2,7 @@
 #![tactic(auto)]
 
 mod flipping;
+pub mod laws;
 mod trying;
 
 pub use flipping::flip;

@@ -7,15 +7,14 @@ ghost use Rattle.mesh_base.specs.Placements.{IsClearMesh};
 ghost use Rattle.mesh_base.specs.Kept.{BeginsWith};
 ghost use Rattle.edit_base.specs.declared.answers.Edit.TheVariants.{No};
 ghost use Rattle.edit_base.specs.Edges.{edge_of};
-ghost use Rattle.edit_base.specs.Flip.{flip_scaffold};
+ghost use Rattle.edit_flip.specs.Flip.{flip_scaffold};
 ghost use Rattle.edit_base.specs.Scaffold.{first_lacking};
-ghost use Rattle.edit_base.specs.Answers.{flip_answer};
+ghost use Rattle.edit_flip.specs.Answer.{flip_answer};
 ghost use Rattle.edit_flip.specs.Tried.{MayBeTried};
 
-use edit_base::{
-    EdgeFaces, Move, Touch, Why, edge_beside, exact_mid, is_crowded, is_edge, is_split_over,
-    put_split, split_point,
-};
+use edit_acts::exact_mid;
+use edit_base::{EdgeFaces, Move, Touch, Why, edge_beside, is_crowded, is_edge};
+use edit_split::{is_split_over, put_split, split_point};
 use edit_check::check;
 use grid_base::{DEPTH_MAX, NoMemory};
 use mesh_base::{PairName, Surface, VertexId};

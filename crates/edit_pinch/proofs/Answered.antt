@@ -14,14 +14,14 @@ use Rattle.edit_base.specs.declared.answers.Change.{Change}
 use Rattle.edit_base.specs.declared.answers.Change.TheVariants.{Pinch}
 use Rattle.edit_base.specs.declared.answers.Edit.{Edit}
 use Rattle.edit_base.specs.declared.answers.Edit.TheVariants.{Done, No}
-use Rattle.edit_base.specs.Reasons.{reason_if}
+use Rattle.edit_base.specs.Reasons.{reason_if, first_reason, done_unless}
 use Rattle.edit_base.specs.Scaffold.{first_lacking}
 use Rattle.grid_base.specs.declared.Point.{Point}
 use Rattle.edit_base.specs.declared.answers.CopyAt.{CopyAt}
-use Rattle.edit_base.specs.Pinch.{fans, fan_point, first_point, later_copies, copy_points, pinch_mesh, pinch_scaffold}
+use Rattle.edit_pinch.specs.Pinch.{fans, fan_point, first_point, later_copies, copy_points, pinch_mesh, pinch_scaffold}
 use Rattle.edit_pinch.proofs.CopiesMade.{listed_from}
-use Rattle.edit_base.specs.Answers.{first_reason, done_unless, pinch_answer}
-use Rattle.edit_base.proofs.FanBalance.{IsFan, fans_are_fans}
+use Rattle.edit_pinch.specs.Answer.{pinch_answer}
+use Rattle.edit_pinch.proofs.FanBalance.{IsFan, fans_are_fans}
 use Rattle.edit_pinch.specs.Rims.{AreLiveFaces}
 use Rattle.edit_pinch.specs.Tried.{MayBeTried}
 use Rattle.edit_pinch.proofs.Room.{not_over}

@@ -6,7 +6,7 @@ use Rattle.grid_base.specs.declared.Point.{Point}
 use Rattle.pair_scan.proofs.Lists.{rest_at}
 use Rattle.mesh_base.specs.Mesh.{Mesh}
 use Rattle.edit_base.specs.declared.answers.CopyAt.{CopyAt}
-use Rattle.edit_base.specs.Pinch.{fan_point}
+use Rattle.edit_pinch.specs.Pinch.{fan_point}
 
 module _ (m : Mesh) (v : ℕ) where
   abbrev pub listed_from : ℕ → List (List ℕ) → List CopyAt

@@ -10,7 +10,7 @@ use Rattle.mesh_base.specs.Mesh.{Mesh, IsSound}
 use Rattle.mesh_base.specs.Sides.{has_corner, faces_at}
 use Rattle.mesh_base.proofs.Ordered.{length-ids_where}
 use Rattle.edit_base.specs.Classes.{class_of}
-use Rattle.edit_base.specs.Pinch.{share_second, fans}
+use Rattle.edit_pinch.specs.Pinch.{share_second, fans}
 
 few_faces : (m : Mesh) (v : ℕ) → IsSound m → length (faces_at m v) ≤ FACES_MAX
 few_faces m v sound =

@@ -8,7 +8,7 @@ use Rattle.std.specs.List.{filter}
 use Rattle.mesh_base.proofs.Tests.{or_either, both_ways}
 use Rattle.edit_base.specs.Classes.{is_one_of, Linked, class_of}
 use Rattle.edit_base.proofs.Chains.{Has, has_contained, contains_had, either_first, either_second, equal_itself, passed, passes, near_is, test_at, is_linked, linked_has}
-use Rattle.edit_base.proofs.FansApart.{filters_same}
+use Rattle.edit_pinch.proofs.FansApart.{filters_same}
 
 -- ---- numbers of a list
 pub had_first : (xs ys : List ℕ) (x : ℕ) → Has xs x → Has (xs ++ ys) x

@@ -9,7 +9,7 @@ use Rattle.mesh_base.proofs.Listed.{or_either}
 use Rattle.pair_scan.proofs.Lists.{rest_at}
 use Rattle.edit_base.specs.Classes.{is_one_of, Linked, class_of}
 use Rattle.edit_base.proofs.Chains.{Has, either_first, either_second, equal_itself, passed, passes, near_is, test_at, linked_has}
-use Rattle.edit_base.proofs.FansApart.{IsSymmetric, Differ, classes_same}
+use Rattle.edit_pinch.proofs.FansApart.{IsSymmetric, Differ, classes_same}
 use Rattle.edit_pinch.proofs.Growing.{had_first, had_second, had_either, test_of, not_true}
 
 not_before : (before after : List ℕ) (x : ℕ) → Differ (before ++ x ∷ after) → Has before x → ⊥

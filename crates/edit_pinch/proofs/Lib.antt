@@ -1,3 +1,13 @@
+pub mod FansApart
+pub mod FanBalance
+pub mod CopyClosed
+pub mod CopySound
+pub mod PinchDone
+pub mod FanPoint
+pub mod PinchOld
+pub mod PinchPremise
+pub mod PinchSteps
+pub mod PinchRoom
 pub mod Growing
 pub mod Leasts
 pub mod FewFans

@@ -20,10 +20,10 @@ use Rattle.mesh_base.proofs.Listed.{at_live}
 use Rattle.mesh_base.proofs.Tests.{or_first, or_second, or_either, and_first, and_second, and_both}
 use Rattle.edit_base.specs.Classes.{is_one_of}
 use Rattle.edit_base.specs.Edges.{corners_at}
-use Rattle.edit_base.specs.Pinch.{rim}
+use Rattle.edit_pinch.specs.Pinch.{rim}
 use Rattle.edit_base.proofs.Chains.{Has, equal_itself, each_is_one, any_found, passed, passes}
-use Rattle.edit_base.proofs.FanBalance.{listed_corner, corner_listed}
-use Rattle.edit_base.proofs.FansApart.{Differ, differ-filter}
+use Rattle.edit_pinch.proofs.FanBalance.{listed_corner, corner_listed}
+use Rattle.edit_pinch.proofs.FansApart.{Differ, differ-filter}
 use Rattle.edit_pinch.specs.Rims.{with_other, with_corners, found_rim, with_way, ways}
 use Rattle.edit_pinch.proofs.Growing.{had_first, had_second, had_either, not_false, not_true}
 

@@ -14,11 +14,11 @@ use Rattle.mesh_base.specs.Changes.{without_face, with_vertex, with_point, IsFul
 use Rattle.mesh_base.specs.Limits.{is_over_limits}
 use Rattle.edit_base.specs.Edges.{corners_at, renamed, with_renamed}
 use Rattle.edit_base.specs.Required.{are_over}
-use Rattle.edit_base.specs.Pinch.{fans, with_copy, pinch_scaffold}
-use Rattle.edit_base.proofs.Counting.{len-insert_le, len-without}
-use Rattle.edit_base.proofs.CopyClosed.{next_vertex-renamed, points-renamed}
-use Rattle.edit_base.proofs.PinchSteps.{IsBeforeFan, IsInFan, first_fan, copy_made, next_fresh, next_made}
-use Rattle.edit_base.proofs.PinchRoom.{len-fan, faces_in, scaffold_over}
+use Rattle.edit_pinch.specs.Pinch.{fans, with_copy, pinch_scaffold}
+use Rattle.edit_acts.proofs.Counting.{len-insert_le, len-without}
+use Rattle.edit_pinch.proofs.CopyClosed.{next_vertex-renamed, points-renamed}
+use Rattle.edit_pinch.proofs.PinchSteps.{IsBeforeFan, IsInFan, first_fan, copy_made, next_fresh, next_made}
+use Rattle.edit_pinch.proofs.PinchRoom.{len-fan, faces_in, scaffold_over}
 use Rattle.edit_base.proofs.ReasonLaws.{first_false, second_false}
 use Rattle.edit_pinch.specs.InTurn.{RemadeInTurn, CopiedInTurn}
 

@@ -4,7 +4,7 @@ use Rattle.std.specs.List.{fold, zip}
 use Rattle.grid_base.specs.declared.Point.{Point}
 use Rattle.mesh_base.specs.Mesh.{Mesh}
 use Rattle.edit_base.specs.declared.answers.CopyAt.{CopyAt}
-use Rattle.edit_base.specs.Pinch.{with_copy, copy_points}
+use Rattle.edit_pinch.specs.Pinch.{with_copy, copy_points}
 use Rattle.edit_pinch.specs.InTurn.{MayBeCopied, CopiedInTurn}
 
 zip_front : (fans : List (List ℕ)) (copies : List CopyAt) (i : ℕ) (d : List ℕ) (e : CopyAt) → i < length fans → length fans ≡ length copies →

@@ -4,7 +4,7 @@ use Rattle.grid_base.specs.declared.Point.{Point}
 use Rattle.mesh_base.specs.Mesh.{Mesh, IsLiveFace}
 use Rattle.mesh_base.specs.Changes.{without_face, with_vertex, IsFresh, IsFullOfFaces, IsFullOfVertices}
 use Rattle.edit_base.specs.Edges.{corners_at, renamed, with_renamed}
-use Rattle.edit_base.specs.Pinch.{with_copy}
+use Rattle.edit_pinch.specs.Pinch.{with_copy}
 
 -- a face can be dropped and made again with w in v's place
 pub record MayBeRemade (v w : ℕ) (m : Mesh) (f : ℕ) : Type 0 where

@@ -1,3 +1,6 @@
+pub mod Pinch
+pub mod Answer
+pub mod Done
 pub mod Rims
 pub mod InTurn
 pub mod Tried

@@ -10,7 +10,7 @@ use Rattle.mesh_base.specs.Mesh.{Mesh}
 use Rattle.mesh_base.specs.Limits.{is_over_limits}
 use Rattle.edit_base.specs.declared.Move.{Move}
 use Rattle.edit_base.specs.declared.answers.CopyAt.{CopyAt}
-use Rattle.edit_base.specs.Pinch.{fans, pinch_scaffold}
+use Rattle.edit_pinch.specs.Pinch.{fans, pinch_scaffold}
 
 -- two fans meet at the vertex, and the pinch passes no limit
 pub record MayBeTried (m : Mesh) (v : ℕ) : Type 0 where

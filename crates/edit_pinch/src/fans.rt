@@ -4,7 +4,7 @@ ghost use Rattle.std.specs.List.{filter, list_any};
 ghost use Rattle.mesh_base.specs.Sides.{faces_at};
 ghost use Rattle.edit_base.specs.Classes.{is_one_of, class_of};
 ghost use Rattle.edit_base.specs.Edges.{corners_at};
-ghost use Rattle.edit_base.specs.Pinch.{share_second, fans};
+ghost use Rattle.edit_pinch.specs.Pinch.{share_second, fans};
 
 use grid_base::{Items, NoMemory};
 use mesh_base::{Corners, FaceId, Surface, VertexId};

@@ -2,6 +2,7 @@
 #![tactic(auto)]
 
 mod fans;
+pub mod laws;
 mod making;
 mod pinching;
 mod shifting;

@@ -7,11 +7,12 @@ ghost use Rattle.mesh_base.specs.Changes.{with_point};
 ghost use Rattle.mesh_base.specs.Kept.{BeginsWith};
 ghost use Rattle.mesh_base.specs.Limits.{is_over_limits};
 ghost use Rattle.edit_base.specs.Edges.{renamed, with_renamed};
-ghost use Rattle.edit_base.specs.Pinch.{fans, copy_points, with_copy, pinch_scaffold};
+ghost use Rattle.edit_pinch.specs.Pinch.{fans, copy_points, with_copy, pinch_scaffold};
 ghost use Rattle.edit_pinch.specs.InTurn.{MayBeRemade, MayBeCopied, CopiedInTurn};
 
 use crate::fans::{Fan, corners_at};
-use edit_base::{CopyAt, make_face, make_vertex};
+use edit_acts::{make_face, make_vertex};
+use edit_base::CopyAt;
 use grid_base::{ID_MAX, NoMemory, Point, VERTICES_MAX};
 use mesh_base::{Corners, FaceId, Surface, VertexId};
 

@@ -7,15 +7,17 @@ ghost use Rattle.mesh_base.specs.Sides.{IsClosed};
 ghost use Rattle.mesh_base.specs.Placements.{IsClearMesh};
 ghost use Rattle.mesh_base.specs.Kept.{BeginsWith};
 ghost use Rattle.edit_base.specs.Scaffold.{first_lacking};
-ghost use Rattle.edit_base.specs.Pinch.{fans, first_point, later_copies, pinch_scaffold};
-ghost use Rattle.edit_base.specs.Answers.{pinch_answer};
+ghost use Rattle.edit_pinch.specs.Pinch.{fans, first_point, later_copies, pinch_scaffold};
+ghost use Rattle.edit_pinch.specs.Answer.{pinch_answer};
 ghost use Rattle.edit_base.specs.Clauses.{mesh_left, MovesClearOnDone};
+ghost use Rattle.edit_pinch.specs.Done.{pinch_result, pinch_tested_on};
 ghost use Rattle.edit_pinch.specs.Tried.{MayBeTried, moves_from, vertex_and_copies, left_by};
 
 use crate::fans::{Fan, fans};
 use crate::making::{is_over, put_pinch};
 use crate::shifting::{copies_for, fan_point};
-use edit_base::{Change, CopyAt, Edit, Move, Touch, Why, doubled, point_of};
+use edit_acts::{doubled, point_of};
+use edit_base::{Change, CopyAt, Edit, Move, Touch, Why};
 use edit_check::check;
 use grid_base::{DEPTH_MAX, Items, NoMemory, Point, Wide};
 use mesh_base::{PairName, Surface, VertexId};
@@ -149,7 +151,7 @@ fn pinch_or_leave<S: Surface>(
     requires tried { MayBeTried (S.mesh mesh.old) v }
     requires fans { parts.now ≡ fans (S.mesh mesh.old) v }
     ensures answer { IfOk result (λ edit. edit ≡ pinch_answer meets_exactly (S.mesh mesh.old) v depth) }
-    ensures mesh { S.mesh mesh.new ≡ mesh_left (S.mesh mesh.old) result }
+    ensures mesh { S.mesh mesh.new ≡ mesh_left pinch_result (S.mesh mesh.old) result }
     ensures marks { BeginsWith (S.kept mesh.new) (S.kept mesh.old) }
 {
     let others = &parts[1..];
@@ -185,12 +187,12 @@ pub fn pinch<S: Surface>(
     requires clear { IsClearMesh (S.mesh mesh.old) }
     requires depth { depth ≤ DEPTH_MAX }
     ensures answer { IfOk result (λ edit. edit ≡ pinch_answer meets_exactly (S.mesh mesh.old) v depth) }
-    ensures mesh { S.mesh mesh.new ≡ mesh_left (S.mesh mesh.old) result }
+    ensures mesh { S.mesh mesh.new ≡ mesh_left pinch_result (S.mesh mesh.old) result }
     // The mesh stays closed and clear.
     ensures closed { IsClosed (S.mesh mesh.new) }
     ensures clear { IsClearMesh (S.mesh mesh.new) }
     // Once the vertex and its copies have left its point nothing meets.
-    ensures motion { IfOk result (λ edit. MovesClearOnDone (S.mesh mesh.old) edit) }
+    ensures motion { IfOk result (λ edit. MovesClearOnDone pinch_tested_on (S.mesh mesh.old) edit) }
     ensures marks { BeginsWith (S.kept mesh.new) (S.kept mesh.old) }
 {
     let parts = fans(alloc, mesh, v)?;

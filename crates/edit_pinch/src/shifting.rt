@@ -5,11 +5,12 @@ ghost use Rattle.grid_base.specs.declared.TheConstants.{BOX, ID_MAX};
 ghost use Rattle.grid_base.specs.Points.{position_of};
 ghost use Rattle.grid_base.specs.Triples.{IsWithin, plus, minus};
 ghost use Rattle.edit_base.specs.Classes.{is_one_of};
-ghost use Rattle.edit_base.specs.Pinch.{fan_point, divided};
+ghost use Rattle.edit_pinch.specs.Pinch.{fan_point, divided};
 ghost use Rattle.edit_pinch.specs.Rims.{with_other, with_corners, found_rim, ways, AreLiveFaces};
 
 use crate::fans::{Fan, corners_at};
-use edit_base::{Copies, CopyAt, point_of};
+use edit_acts::point_of;
+use edit_base::{Copies, CopyAt};
 use grid_base::{BOX, ID_MAX, Items, NoMemory, Point, Wide};
 use mesh_base::{FaceId, Surface, VertexId};
 use std::alloc::Global;

@@ -11,11 +11,11 @@ use Rattle.edit_base.specs.declared.answers.Change.{Change}
 use Rattle.edit_base.specs.declared.answers.Change.TheVariants.{Split}
 use Rattle.edit_base.specs.declared.answers.Edit.{Edit}
 use Rattle.edit_base.specs.declared.answers.Edit.TheVariants.{No}
-use Rattle.edit_base.specs.Reasons.{reason_if}
+use Rattle.edit_base.specs.Reasons.{reason_if, first_reason, done_unless}
 use Rattle.edit_base.specs.Scaffold.{first_lacking}
 use Rattle.edit_base.specs.Edges.{Edge, edge_of}
-use Rattle.edit_base.specs.Split.{split_point, split_scaffold}
-use Rattle.edit_base.specs.Answers.{first_reason, done_unless, split_answer}
+use Rattle.edit_split.specs.Split.{split_point, split_scaffold}
+use Rattle.edit_split.specs.Answer.{split_answer}
 use Rattle.edit_base.proofs.ReasonLaws.{edge_again}
 use Rattle.edit_split.specs.Tried.{MayBeTried}
 

@@ -4,7 +4,7 @@ use Rattle.mesh_base.specs.Mesh.{Mesh}
 use Rattle.mesh_base.specs.Pairs.{is_crowded}
 use Rattle.mesh_base.specs.Limits.{is_over_limits}
 use Rattle.edit_base.specs.Edges.{Edge}
-use Rattle.edit_base.specs.Split.{split_scaffold}
+use Rattle.edit_split.specs.Split.{split_scaffold}
 use Rattle.edit_base.specs.Required.{HasEdge}
 
 -- the edge is there and not crowded, and its split passes no limit

@@ -5,16 +5,16 @@ ghost use Rattle.mesh_base.specs.Placements.{IsClearMesh};
 ghost use Rattle.mesh_base.specs.Kept.{BeginsWith};
 ghost use Rattle.edit_base.specs.declared.answers.Edit.TheVariants.{No};
 ghost use Rattle.edit_base.specs.Edges.{edge_of};
-ghost use Rattle.edit_base.specs.Split.{split_mesh, split_point, split_scaffold};
+ghost use Rattle.edit_split.specs.Split.{split_mesh, split_point, split_scaffold};
 ghost use Rattle.edit_base.specs.Scaffold.{first_lacking};
-ghost use Rattle.edit_base.specs.Answers.{split_answer};
+ghost use Rattle.edit_split.specs.Answer.{split_answer};
 ghost use Rattle.edit_base.specs.Clauses.{mesh_left, MovesClearOnDone};
+ghost use Rattle.edit_split.specs.Done.{split_result, split_tested_on};
 ghost use Rattle.edit_split.specs.Tried.{MayBeTried};
 
-use edit_base::{
-    Change, EdgeFaces, Edit, Move, Touch, Why, doubled, edge_beside, exact_mid, is_crowded,
-    is_split_over, put_split, split_point,
-};
+use crate::acts::{is_split_over, put_split, split_point};
+use edit_acts::{doubled, exact_mid};
+use edit_base::{Change, EdgeFaces, Edit, Move, Touch, Why, edge_beside, is_crowded};
 use edit_check::check;
 use grid_base::{DEPTH_MAX, NoMemory, Point};
 use mesh_base::{PairName, Surface, VertexId};
@@ -81,7 +81,7 @@ fn split_or_go_back<S: Surface>(
     requires depth { depth ≤ DEPTH_MAX }
     requires tried { MayBeTried (S.mesh mesh.old) e.now }
     ensures answer { IfOk result (λ edit. edit ≡ split_answer meets_exactly (S.mesh mesh.old) e.now.a e.now.b depth) }
-    ensures mesh { S.mesh mesh.new ≡ mesh_left (S.mesh mesh.old) result }
+    ensures mesh { S.mesh mesh.new ≡ mesh_left split_result (S.mesh mesh.old) result }
     ensures marks { BeginsWith (S.kept mesh.new) (S.kept mesh.old) }
 {
     let at = split_point(mesh, e);
@@ -126,12 +126,12 @@ pub fn split<S: Surface>(
     requires clear { IsClearMesh (S.mesh mesh.old) }
     requires depth { depth ≤ DEPTH_MAX }
     ensures answer { IfOk result (λ edit. edit ≡ split_answer meets_exactly (S.mesh mesh.old) a b depth) }
-    ensures mesh { S.mesh mesh.new ≡ mesh_left (S.mesh mesh.old) result }
+    ensures mesh { S.mesh mesh.new ≡ mesh_left split_result (S.mesh mesh.old) result }
     // The mesh stays closed and clear.
     ensures closed { IsClosed (S.mesh mesh.new) }
     ensures clear { IsClearMesh (S.mesh mesh.new) }
     // From the edge to its two halves nothing meets.
-    ensures motion { IfOk result (λ edit. MovesClearOnDone (S.mesh mesh.old) edit) }
+    ensures motion { IfOk result (λ edit. MovesClearOnDone split_tested_on (S.mesh mesh.old) edit) }
     ensures marks { BeginsWith (S.kept mesh.new) (S.kept mesh.old) }
 {
     match edge_to_split(mesh, a, b) {

@@ -4,7 +4,7 @@ use Rattle.mesh_base.specs.declared.ShiftOf.{ShiftOf}
 use Rattle.mesh_base.specs.Mesh.{Mesh}
 use Rattle.mesh_base.specs.Shifts.{with_moves}
 use Rattle.log_text.specs.declared.log_line.LogLine.{LogLine}
-use Rattle.edit_base.specs.Answers.{edited}
+use Rattle.edit_dispatch.specs.Dispatch.{edited}
 use Rattle.log_text.specs.declared.log_line.LogLine.TheVariants.{Step, Move, Moved, Did}
 
 -- the mesh, and the shifts of the `move` lines since the last `step` line that no `moved` line has used up

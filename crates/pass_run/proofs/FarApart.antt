@@ -4,7 +4,7 @@ use Rattle.std.proofs.lemmas.Int.{ints}
 use Rattle.std.proofs.lemmas.Bool.Decides.{nat_tests}
 use Rattle.grid_base.specs.Triples.{Triple}
 use Rattle.grid_base.specs.Points.{is_within}
-use Rattle.edit_base.specs.Zip.{square}
+use Rattle.edit_zip.specs.Zip.{square}
 use Rattle.pass_run.specs.Candidates.{squared}
 
 square_is : (a : ℤ) → a *ℤ a ≡ pos (unsigned_abs a * unsigned_abs a)

@@ -15,16 +15,21 @@ use Rattle.edit_base.specs.declared.answers.Change.TheVariants as change
 use Rattle.edit_base.specs.declared.Edit.{Edit}
 use Rattle.edit_base.specs.declared.Edit.TheVariants.{Done, No}
 use Rattle.edit_base.specs.declared.PassKind.{PassKind}
-use Rattle.edit_base.specs.Answers.{answer_to, mesh_after, split_answer, flip_answer, collapse_answer, zip_answer, pinch_answer}
-use Rattle.edit_base.specs.Clauses.{MovesClear}
+use Rattle.edit_dispatch.specs.Dispatch.{answer_to}
+use Rattle.edit_base.specs.Clauses.{mesh_after, MovesClear}
+use Rattle.edit_split.specs.Answer.{split_answer}
+use Rattle.edit_flip.specs.Answer.{flip_answer}
+use Rattle.edit_collapse.specs.Answer.{collapse_answer}
+use Rattle.edit_zip.specs.Answer.{zip_answer}
+use Rattle.edit_pinch.specs.Answer.{pinch_answer}
 use Rattle.edit_base.specs.Edges.{edge_of}
 use Rattle.edit_base.specs.Laws.{Answer, StaysSound, StaysClosed, StaysClear, MotionIsClear}
-use Rattle.edit_base.proofs.SplitDone.{split_stays_sound, split_stays_closed, split_stays_clear, split_motion_is_clear}
-use Rattle.edit_base.proofs.FlipDone.{flip_stays_sound, flip_stays_closed, flip_stays_clear, flip_motion_is_clear}
-use Rattle.edit_base.proofs.CollapseKeeps.{collapse_stays_sound, collapse_stays_closed, collapse_stays_clear}
-use Rattle.edit_base.proofs.CollapseDone.{collapse_motion_is_clear}
-use Rattle.edit_base.proofs.ZipDone.{zip_stays_sound, zip_stays_closed, zip_stays_clear}
-use Rattle.edit_base.proofs.PinchDone.{pinch_stays_sound, pinch_stays_closed, pinch_stays_clear, pinch_motion_is_clear}
+use Rattle.edit_split.proofs.SplitDone.{split_stays_sound, split_stays_closed, split_stays_clear, split_motion_is_clear}
+use Rattle.edit_flip.proofs.FlipDone.{flip_stays_sound, flip_stays_closed, flip_stays_clear, flip_motion_is_clear}
+use Rattle.edit_collapse.proofs.CollapseKeeps.{collapse_stays_sound, collapse_stays_closed, collapse_stays_clear}
+use Rattle.edit_collapse.proofs.CollapseDone.{collapse_motion_is_clear}
+use Rattle.edit_zip.proofs.ZipDone.{zip_stays_sound, zip_stays_closed, zip_stays_clear}
+use Rattle.edit_pinch.proofs.PinchDone.{pinch_stays_sound, pinch_stays_closed, pinch_stays_clear, pinch_motion_is_clear}
 use Rattle.log_text.specs.declared.LogLine.{LogLine}
 use Rattle.pass_run.specs.Candidates.{candidates, due_in}
 use Rattle.pass_run.specs.PassLines.{line_of, lines_of, mesh_from, ends, lines_from, mesh_after_all, pass_lines, mesh_by, mesh_by_lines}

@@ -12,10 +12,12 @@ use Rattle.edit_base.specs.declared.answers.Change.TheVariants.{Zip}
 use Rattle.edit_base.specs.declared.Asked.{Asked}
 use Rattle.edit_base.specs.declared.Edit.TheVariants.{Done, No}
 use Rattle.edit_base.specs.declared.PassKind.TheVariants as kinds
-use Rattle.edit_base.specs.Answers.{answer_to, mesh_after, edited, is_zip_ready}
+use Rattle.edit_dispatch.specs.Dispatch.{answer_to, edited}
+use Rattle.edit_base.specs.Clauses.{mesh_after}
+use Rattle.edit_zip.specs.Answer.{is_zip_ready}
 use Rattle.edit_base.specs.Edges.{Edge, edge_of, without_faces, exact_mid}
-use Rattle.edit_base.specs.Zip.{zip_mesh, two_faces, first_rim, second_rim, turns}
-use Rattle.edit_base.proofs.Changed.{points-with_faces, points-without_faces}
+use Rattle.edit_zip.specs.Zip.{zip_mesh, two_faces, first_rim, second_rim, turns}
+use Rattle.edit_acts.proofs.Changed.{points-with_faces, points-without_faces}
 use Rattle.log_text.specs.declared.LogLine.{LogLine}
 use Rattle.pass_run.specs.Candidates.{candidates, is_due, due_in, zip_of, with_later}
 use Rattle.pass_run.specs.Near.{is_near}

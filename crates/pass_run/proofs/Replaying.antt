@@ -7,7 +7,7 @@ use Rattle.edit_base.specs.declared.Asked.{Asked}
 use Rattle.edit_base.specs.declared.Edit.{Edit}
 use Rattle.edit_base.specs.declared.Edit.TheVariants as edit
 use Rattle.edit_base.specs.declared.PassKind.{PassKind}
-use Rattle.edit_base.specs.Answers.{answer_to}
+use Rattle.edit_dispatch.specs.Dispatch.{answer_to}
 use Rattle.log_text.specs.declared.LogLine.{LogLine}
 use Rattle.log_text.specs.declared.LogLine.TheVariants.{Pass, Did, No}
 use Rattle.log_text.specs.Replay.{Replay, after, replayed}

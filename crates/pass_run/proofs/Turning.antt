@@ -9,7 +9,8 @@ use Rattle.edit_base.specs.declared.Asked.{Asked}
 use Rattle.edit_base.specs.declared.Edit.{Edit}
 use Rattle.edit_base.specs.declared.Edit.TheVariants.{Done, No}
 use Rattle.edit_base.specs.declared.PassKind.{PassKind}
-use Rattle.edit_base.specs.Answers.{answer_to, mesh_after}
+use Rattle.edit_dispatch.specs.Dispatch.{answer_to}
+use Rattle.edit_base.specs.Clauses.{mesh_after}
 use Rattle.log_text.specs.Lines.{text_of_line}
 use Rattle.log_text.specs.declared.LogLine.{LogLine}
 use Rattle.log_text.specs.declared.LogLine.TheVariants.{Pass}

@@ -10,9 +10,9 @@ use Rattle.mesh_base.specs.Mesh.{Mesh}
 use Rattle.mesh_base.specs.Pairs.{edges, is_edge, is_crowded}
 use Rattle.mesh_base.specs.Placements.{own_points}
 use Rattle.edit_base.specs.Edges.{edge_of, exact_mid}
-use Rattle.edit_base.specs.Zip.{square}
-use Rattle.edit_base.specs.Pinch.{fans}
-use Rattle.edit_base.specs.Answers.{is_zip_ready}
+use Rattle.edit_zip.specs.Zip.{square}
+use Rattle.edit_pinch.specs.Pinch.{fans}
+use Rattle.edit_zip.specs.Answer.{is_zip_ready}
 
 -- each two of the list, the earlier one first, in order
 abbrev pub with_later : List (ℕ × ℕ) → List ((ℕ × ℕ) × (ℕ × ℕ))

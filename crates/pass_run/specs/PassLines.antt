@@ -7,7 +7,8 @@ use Rattle.edit_base.specs.declared.Asked.{Asked}
 use Rattle.edit_base.specs.declared.PassKind.{PassKind}
 use Rattle.edit_base.specs.declared.Edit.{Edit}
 use Rattle.edit_base.specs.declared.Edit.TheVariants as edit
-use Rattle.edit_base.specs.Answers.{answer_to, mesh_after, edited}
+use Rattle.edit_dispatch.specs.Dispatch.{answer_to, edited}
+use Rattle.edit_base.specs.Clauses.{mesh_after}
 use Rattle.log_text.specs.declared.LogLine.{LogLine}
 use Rattle.log_text.specs.declared.LogLine.TheVariants as line
 use Rattle.pass_run.specs.Candidates.{candidates, due_in}

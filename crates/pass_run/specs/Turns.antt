@@ -4,7 +4,7 @@ use Rattle.grid_base.specs.declared.Positions.{Positions}
 use Rattle.grid_base.specs.declared.NoMemory.{NoMemory}
 use Rattle.mesh_base.specs.Mesh.{Mesh}
 use Rattle.edit_base.specs.declared.Asked.{Asked}
-use Rattle.edit_base.specs.Answers.{answer_to}
+use Rattle.edit_dispatch.specs.Dispatch.{answer_to}
 use Rattle.log_text.specs.declared.LogLine.{LogLine}
 use Rattle.pass_run.specs.PassLines.{line_of, mesh_from}
 

@@ -11,7 +11,8 @@ ghost use Rattle.pass_run.specs.Candidates.{zip_of};
 ghost use Rattle.pass_run.specs.Near.{is_near, near_zip, later_zip, IsBoxOf, AreMidpoints};
 
 use cell_grid::Grid;
-use edit_base::{Asked, exact_mid};
+use edit_acts::exact_mid;
+use edit_base::Asked;
 use grid_base::{EXTENT_MAX, Extent, HALF_MAX, Items, NoMemory, Wide};
 use mesh_base::{Surface, VertexId};
 use std::alloc::Global;

@@ -5,7 +5,7 @@ ghost use Rattle.grid_decided.specs.Decided.{meets_exactly};
 ghost use Rattle.mesh_base.specs.Sides.{IsClosed};
 ghost use Rattle.mesh_base.specs.Placements.{IsClearMesh};
 ghost use Rattle.mesh_base.specs.Kept.{BeginsWith};
-ghost use Rattle.edit_base.specs.Answers.{answer_to};
+ghost use Rattle.edit_dispatch.specs.Dispatch.{answer_to};
 ghost use Rattle.edit_base.specs.Clauses.{mesh_left};
 ghost use Rattle.edit_base.specs.declared.Asked.TheVariants as asked;
 ghost use Rattle.pass_run.specs.Candidates.{is_due, due_in, limit_of, length_squared};

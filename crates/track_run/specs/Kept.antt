@@ -11,7 +11,7 @@ use Rattle.obj_text.specs.Written.{mesh_text, ranked_lists}
 use Rattle.obj_text.specs.Laws.{renumbered}
 use Rattle.log_text.specs.declared.LogLine.{LogLine}
 use Rattle.edit_base.specs.declared.Change.{Change}
-use Rattle.edit_base.specs.Answers.{edited}
+use Rattle.edit_dispatch.specs.Dispatch.{edited}
 use Rattle.edit_base.specs.Clauses.{MovesClear}
 use Rattle.mesh_base.specs.Valid.{IsValidSurface}
 use Rattle.log_text.specs.declared.LogLine.TheVariants.{Mesh as MeshLine, Moved, Did}

@@ -4,10 +4,9 @@ ghost use Rattle.grid_base.specs.Triples.{IsWithin, plus};
 ghost use Rattle.grid_base.specs.Points.{displacement_of};
 ghost use Rattle.track_run.specs.State.{no_shifts, still_at, asked_of, asked_in};
 ghost use Rattle.std.specs.Option.{unwrap_or};
-ghost use Rattle.track_run.specs.Turns.{moves, all_still};
+ghost use Rattle.track_run.specs.Turns.{moves, all_still, sum_of_one};
 ghost use Rattle.std.specs.List.Sorted.{IsStrictlySortedBy};
 ghost use Rattle.std.specs.Ordering.{nat_cmp};
-ghost use Rattle.track_run.specs.Turns.{sum_of_one};
 ghost use Rattle.track_run.specs.Shifting.{Sums, AsksNow};
 
 use grid_base::{NoMemory, SHIFT_MAX, Shift};

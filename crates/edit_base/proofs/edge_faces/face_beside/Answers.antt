@@ -1,7 +1,6 @@
-use Rattle.std.proofs.Common.{◌≡◌, Some, None, sym, ap, ◌∙◌}
+use Rattle.std.proofs.Common.{◌≡◌, Some, None, sym, ap, ◌∙◌, slice_get}
 use Rattle.std.specs.Option.{option_map}
 use Rattle.std.specs.FinMap as finite
-use Rattle.std.proofs.Common.{slice_get}
 use Rattle.mesh_base.specs.Sides.{faces_running}
 use Rattle.mesh_base.specs.Changes.{corner_list}
 use Rattle.edit_base.specs.Edges.{third_corner, corners_at}

@@ -1,7 +1,7 @@
 use Rattle.std.proofs.Common.{ap, ◌∙◌}
 use Rattle.grid_base.specs.Triples.{times}
 use Rattle.grid_base.specs.Points.{position_of}
-use Rattle.edit_base.proofs.PointOf.{position_of-point_of}
+use Rattle.edit_acts.proofs.PointOf.{position_of-point_of}
 use Rattle.edit_check.proofs.moving.resting.Goals as goal
 
 pub returns : goal.returns

@@ -3,7 +3,7 @@ use Rattle.grid_decided.specs.Decided.{meets_exactly}
 use Rattle.edit_base.specs.declared.answers.Change.TheVariants.{Collapse}
 use Rattle.edit_base.specs.declared.answers.Edit.TheVariants.{Done}
 use Rattle.edit_base.specs.Scaffold.{first_lacking}
-use Rattle.edit_base.specs.Collapse.{collapse_scaffold}
+use Rattle.edit_collapse.specs.Collapse.{collapse_scaffold}
 use Rattle.edit_collapse.proofs.Answered.{hit_is_refused, no_hit_is_done}
 use Rattle.edit_collapse.proofs.collapsing.collapse_or_leave.Goals as goal
 

@@ -2,7 +2,7 @@ use Rattle.std.proofs.Common.{◌≡◌, ◌≢◌, true, false, sym, ◌∙◌}
 use Rattle.grid_decided.specs.Decided.{meets_exactly}
 use Rattle.mesh_base.specs.Pairs.{is_edge}
 use Rattle.edit_base.specs.Edges.{doubles_a_face}
-use Rattle.edit_base.specs.Collapse.{joined_faces}
+use Rattle.edit_collapse.specs.Collapse.{joined_faces}
 use Rattle.edit_collapse.proofs.Answered.{are_apart, doubled_is_refused, full_is_refused, may_be_tried}
 use Rattle.edit_collapse.proofs.collapsing.collapse_ordered.Goals as goal
 

@@ -3,7 +3,7 @@ use Rattle.std.specs.Option.{option_map}
 use Rattle.std.specs.FinMap as finite
 use Rattle.mesh_base.specs.declared.ids.Corners.{Corners}
 use Rattle.mesh_base.specs.Changes.{corner_list}
-use Rattle.edit_base.proofs.Joined.{absent_dropped}
+use Rattle.edit_collapse.proofs.Joined.{absent_dropped}
 use Rattle.edit_collapse.proofs.joining.drop_if_there.Goals as goal
 
 none_there : (o : Option Corners) → is_some (option_map corner_list o) ≡ false → o ≡ None

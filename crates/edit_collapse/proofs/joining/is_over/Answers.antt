@@ -1,5 +1,5 @@
 use Rattle.std.proofs.Common.{◌+◌, nat_lt, length, sym, ap, ◌∙◌}
-use Rattle.edit_base.specs.Collapse.{collapse_point}
+use Rattle.edit_collapse.specs.Collapse.{collapse_point}
 use Rattle.edit_collapse.proofs.Room.{over_is}
 use Rattle.edit_collapse.proofs.joining.is_over.Goals as goal
 

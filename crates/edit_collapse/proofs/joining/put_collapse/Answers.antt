@@ -2,7 +2,7 @@ use Rattle.std.proofs.Common.{◌≡◌, subst, ◌∙◌}
 use Rattle.std.specs.Prelude.{OnOk}
 use Rattle.std.specs.List.{fold}
 use Rattle.mesh_base.specs.Mesh.{Mesh}
-use Rattle.edit_base.specs.Collapse.{placed_if_left}
+use Rattle.edit_collapse.specs.Collapse.{placed_if_left}
 use Rattle.edit_collapse.specs.Tried.{others_than, without_if_bare}
 use Rattle.edit_collapse.proofs.Bare.{bare_is}
 use Rattle.edit_collapse.proofs.joining.put_collapse.Goals as goal

@@ -1,8 +1,7 @@
 use Rattle.std.proofs.Common.{[], ◌∷◌, sym, ap, subst, ◌∙◌}
 use Rattle.mesh_base.specs.Mesh.{IsLiveFace}
 use Rattle.mesh_base.specs.Changes.{without_face}
-use Rattle.edit_base.specs.Edges.{Edge, corners_from}
-use Rattle.edit_base.specs.Edges.{AreFresh}
+use Rattle.edit_base.specs.Edges.{Edge, corners_from, AreFresh}
 use Rattle.edit_base.specs.Required.{HasRoomFor}
 use Rattle.edit_flip.specs.Tried.{MayBeTried}
 use Rattle.edit_flip.proofs.PutFlip.{first_is_live, second_is_live, both_fresh, room_for_both}

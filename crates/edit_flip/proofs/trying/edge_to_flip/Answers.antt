@@ -3,8 +3,8 @@ use Rattle.mesh_base.specs.Pairs.{is_edge, is_crowded}
 use Rattle.edit_base.specs.Edges.{Edge}
 use Rattle.grid_decided.specs.Decided.{meets_exactly}
 use Rattle.edit_base.specs.Required.{HasEdge}
-use Rattle.edit_base.specs.Split.{split_point}
-use Rattle.edit_base.proofs.PutSplit.{has_edge_of}
+use Rattle.edit_split.specs.Split.{split_point}
+use Rattle.edit_base.proofs.EdgeThere.{has_edge_of}
 use Rattle.edit_flip.proofs.Answered.{found_is_edge, full_is_refused, may_be_tried}
 use Rattle.edit_flip.proofs.trying.edge_to_flip.Goals as goal
 

@@ -2,7 +2,7 @@ use Rattle.std.proofs.Common.{◌≡◌, sym, subst}
 use Rattle.std.specs.Prelude.{IfOk}
 use Rattle.grid_decided.specs.Decided.{meets_exactly}
 use Rattle.mesh_base.proofs.MarksHold.{stands_along, stands_for_one}
-use Rattle.edit_base.specs.Flip.{flip_scaffold}
+use Rattle.edit_flip.specs.Flip.{flip_scaffold}
 use Rattle.edit_base.specs.Scaffold.{first_lacking}
 use Rattle.edit_flip.specs.Tried.{MayBeTried}
 use Rattle.edit_flip.proofs.trying.first_hit.Goals as goal

@@ -1,5 +1,4 @@
-use Rattle.std.proofs.Common.{ap, arith}
-use Rattle.std.proofs.Common.{length}
+use Rattle.std.proofs.Common.{ap, arith, length}
 use Rattle.edit_pinch.proofs.FewFans.{few_fans}
 use Rattle.edit_pinch.proofs.fans.fan_count.Goals as goal
 

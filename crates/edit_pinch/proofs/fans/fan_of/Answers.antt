@@ -2,7 +2,7 @@ use Rattle.std.proofs.Common.{◌≡◌, ap, subst, ◌∙◌}
 use Rattle.std.specs.Prelude.{IfOk}
 use Rattle.std.specs.List.{filter}
 use Rattle.edit_base.specs.Classes.{is_one_of}
-use Rattle.edit_base.specs.Pinch.{share_second}
+use Rattle.edit_pinch.specs.Pinch.{share_second}
 use Rattle.edit_pinch.proofs.Growing.{in_order}
 use Rattle.edit_pinch.proofs.fans.fan_of.Goals as goal
 

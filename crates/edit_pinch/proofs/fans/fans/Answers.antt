@@ -2,8 +2,8 @@ use Rattle.std.proofs.Common.{◌≡◌, sym, ap, ◌∙◌}
 use Rattle.std.specs.List.{list_any}
 use Rattle.edit_base.specs.Classes.{is_one_of}
 use Rattle.mesh_base.specs.Sides.{faces_at}
-use Rattle.edit_base.specs.Pinch.{share_second}
-use Rattle.edit_base.proofs.FanBalance.{share_both_ways, faces_differ}
+use Rattle.edit_pinch.specs.Pinch.{share_second}
+use Rattle.edit_pinch.proofs.FanBalance.{share_both_ways, faces_differ}
 use Rattle.edit_pinch.proofs.Leasts.{met_on, new_on}
 use Rattle.edit_pinch.proofs.fans.fans.Goals as goal
 use Rattle.edit_pinch.proofs.fans.fans.Goals.{then-not-is_in_one+in_ok-fan+in_ok-push, else-not-is_in_one}

@@ -1,7 +1,7 @@
 use Rattle.std.proofs.Common.{◌≡◌}
 use Rattle.mesh_base.specs.Sides.{faces_at}
-use Rattle.edit_base.specs.Pinch.{share_second}
-use Rattle.edit_base.proofs.FanBalance.{share_both_ways, faces_differ}
+use Rattle.edit_pinch.specs.Pinch.{share_second}
+use Rattle.edit_pinch.proofs.FanBalance.{share_both_ways, faces_differ}
 use Rattle.edit_pinch.proofs.Leasts.{begun}
 use Rattle.edit_pinch.proofs.fans.fans.Given as goal
 

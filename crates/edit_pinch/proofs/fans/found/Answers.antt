@@ -1,6 +1,6 @@
 use Rattle.std.proofs.Common.{◌≡◌, ◌<◌, ◌≤◌, ◌++◌, ◌∷◌, [], length, get_or, sym, ap, subst, ◌∙◌, arith}
 use Rattle.std.proofs.lemmas.List.{get_or_default}
-use Rattle.edit_base.specs.Pinch.{share_second}
+use Rattle.edit_pinch.specs.Pinch.{share_second}
 use Rattle.edit_pinch.proofs.Growing.{IsGrown, at_first, grown_on, fewer_left, is_class}
 use Rattle.edit_pinch.proofs.fans.found.Goals as goal
 

@@ -1,5 +1,5 @@
 use Rattle.std.proofs.Common.{◌+◌, ◌-◌, length}
-use Rattle.edit_base.specs.Pinch.{share_second}
+use Rattle.edit_pinch.specs.Pinch.{share_second}
 use Rattle.edit_pinch.proofs.Growing.{IsGrown}
 use Rattle.edit_pinch.proofs.fans.found.Given as goal
 

@@ -1,6 +1,6 @@
 use Rattle.std.proofs.Common.{◌≡◌, ◌++◌, not, drop}
 use Rattle.std.specs.List.{filter}
-use Rattle.edit_base.specs.Pinch.{share_second}
+use Rattle.edit_pinch.specs.Pinch.{share_second}
 use Rattle.edit_pinch.proofs.fans.joined.Given as goal
 
 -- those so far, and those of the faces that are left, are all

@@ -1,7 +1,7 @@
 use Rattle.std.proofs.Common.{◌≡◌, drop}
 use Rattle.mesh_base.specs.Kept.{BeginsWith}
 use Rattle.edit_base.specs.Edges.{with_all_renamed}
-use Rattle.edit_base.specs.Pinch.{with_copy}
+use Rattle.edit_pinch.specs.Pinch.{with_copy}
 use Rattle.edit_pinch.specs.InTurn.{RemadeInTurn}
 use Rattle.edit_pinch.proofs.making.put_copy.Given as goal
 

@@ -2,10 +2,11 @@ use Rattle.std.proofs.Common.{drop, sym, ap, subst, ◌∙◌}
 use Rattle.grid_decided.specs.Decided.{meets_exactly, meets_exactly-is_exact}
 use Rattle.mesh_base.specs.Sides.{IsClosed}
 use Rattle.mesh_base.specs.Placements.{IsClearMesh}
-use Rattle.edit_base.specs.Answers.{pinch_answer}
+use Rattle.edit_pinch.specs.Answer.{pinch_answer}
 use Rattle.edit_base.specs.Laws.{Answer}
+use Rattle.edit_pinch.specs.Done.{pinch_result, pinch_tested_on}
 use Rattle.edit_base.proofs.Left.{left_is_closed, left_is_clear, motion_was_clear}
-use Rattle.edit_base.proofs.PinchDone.{pinched_live, pinch_stays_closed, pinch_stays_clear, pinch_motion_is_clear}
+use Rattle.edit_pinch.proofs.PinchDone.{pinched_live, pinch_stays_closed, pinch_stays_clear, pinch_motion_is_clear}
 use Rattle.edit_pinch.proofs.Answered.{two_or_more, full_is_refused, later_are}
 use Rattle.edit_pinch.proofs.pinching.pinch.Goals as goal
 
@@ -32,17 +33,17 @@ returns-clause-closed g c =
     let m = g.S.Surface.mesh c.args.mesh.now in
     let answer : Answer = λ m. pinch_answer meets_exactly m c.args.v c.args.depth in
     subst IsClosed (sym c.pinch_or_leave.ensures.mesh)
-    (left_is_closed answer m (g.met.S.Surface.sound c.args.mesh.now) c.requires.closed (pinch_stays_closed meets_exactly c.args.v c.args.depth) c.pinch_or_leave.result c.pinch_or_leave.ensures.answer)
+    (left_is_closed pinch_result answer m (g.met.S.Surface.sound c.args.mesh.now) c.requires.closed (pinch_stays_closed meets_exactly c.args.v c.args.depth) c.pinch_or_leave.result c.pinch_or_leave.ensures.answer)
 
 pub returns-clause-clear : goal.returns-clause-clear
 returns-clause-clear g c =
     let m = g.S.Surface.mesh c.args.mesh.now in
     let answer : Answer = λ m. pinch_answer meets_exactly m c.args.v c.args.depth in
     subst IsClearMesh (sym c.pinch_or_leave.ensures.mesh)
-    (left_is_clear answer m (g.met.S.Surface.sound c.args.mesh.now) c.requires.closed (pinch_stays_clear meets_exactly meets_exactly-is_exact c.args.v c.args.depth) c.requires.clear c.pinch_or_leave.result c.pinch_or_leave.ensures.answer)
+    (left_is_clear pinch_result answer m (g.met.S.Surface.sound c.args.mesh.now) c.requires.closed (pinch_stays_clear meets_exactly meets_exactly-is_exact c.args.v c.args.depth) c.requires.clear c.pinch_or_leave.result c.pinch_or_leave.ensures.answer)
 
 pub returns-clause-motion : goal.returns-clause-motion
 returns-clause-motion g c =
     let m = g.S.Surface.mesh c.args.mesh.now in
     let answer : Answer = λ m. pinch_answer meets_exactly m c.args.v c.args.depth in
-    motion_was_clear answer m (g.met.S.Surface.sound c.args.mesh.now) c.requires.closed (pinch_motion_is_clear meets_exactly meets_exactly-is_exact c.args.v c.args.depth) c.pinch_or_leave.result c.pinch_or_leave.ensures.answer
+    motion_was_clear pinch_tested_on answer m (g.met.S.Surface.sound c.args.mesh.now) c.requires.closed (pinch_motion_is_clear meets_exactly meets_exactly-is_exact c.args.v c.args.depth) c.pinch_or_leave.result c.pinch_or_leave.ensures.answer

@@ -1,9 +1,9 @@
 use Rattle.std.proofs.Common.{length, drop, get_or, sym, ap, subst, ◌∙◌, arith}
 use Rattle.std.specs.Prelude.{Ok}
 use Rattle.std.specs.List.{AllByRecursion}
-use Rattle.edit_base.specs.Pinch.{fans, first_point, pinch_scaffold}
-use Rattle.edit_base.proofs.CopyClosed.{all_later}
-use Rattle.edit_base.proofs.PinchDone.{pinched_live}
+use Rattle.edit_pinch.specs.Pinch.{fans, first_point, pinch_scaffold}
+use Rattle.edit_pinch.proofs.CopyClosed.{all_later}
+use Rattle.edit_pinch.proofs.PinchDone.{pinched_live}
 use Rattle.edit_pinch.specs.Rims.{AreLiveFaces}
 use Rattle.edit_pinch.specs.Tried.{left_by}
 use Rattle.edit_pinch.proofs.Answered.{fans_live, first_of_two, later_are, first_point_is, later_copies_are, done_answer, done_mesh}

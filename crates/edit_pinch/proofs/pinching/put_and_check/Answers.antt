@@ -3,9 +3,9 @@ use Rattle.std.specs.Prelude.{IfOk}
 use Rattle.std.specs.List.{All, zip}
 use Rattle.grid_decided.specs.Decided.{meets_exactly}
 use Rattle.mesh_base.specs.Changes.{with_point}
-use Rattle.edit_base.specs.Pinch.{copy_points}
+use Rattle.edit_pinch.specs.Pinch.{copy_points}
 use Rattle.edit_base.specs.Scaffold.{Scaffold, first_lacking}
-use Rattle.edit_base.proofs.PinchDone.{pinched_live}
+use Rattle.edit_pinch.proofs.PinchDone.{pinched_live}
 use Rattle.edit_check.specs.Untouched.{MoveFits}
 use Rattle.edit_pinch.specs.InTurn.{CopiedInTurn}
 use Rattle.edit_pinch.proofs.Room.{pinched_in_turn}

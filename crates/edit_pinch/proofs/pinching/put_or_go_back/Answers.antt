@@ -2,7 +2,7 @@ use Rattle.std.proofs.Common.{sym, ap, subst, ◌∙◌}
 use Rattle.grid_decided.specs.Decided.{meets_exactly}
 use Rattle.mesh_base.specs.Mesh.{Mesh}
 use Rattle.mesh_base.proofs.MarksHold.{stands_along, stands_for_one}
-use Rattle.edit_base.specs.Pinch.{first_point, pinch_scaffold}
+use Rattle.edit_pinch.specs.Pinch.{first_point, pinch_scaffold}
 use Rattle.edit_base.specs.Scaffold.{first_lacking}
 use Rattle.edit_pinch.specs.Tried.{MayBeTried}
 use Rattle.edit_pinch.proofs.pinching.put_or_go_back.Goals as goal

@@ -1,6 +1,6 @@
 use Rattle.std.proofs.Common.{◌≡◌, ◌++◌, ◌+◌, drop, map}
 use Rattle.std.specs.List.{enumerate_from}
-use Rattle.edit_base.specs.Pinch.{fan_point}
+use Rattle.edit_pinch.specs.Pinch.{fan_point}
 use Rattle.edit_pinch.proofs.shifting.copies_for.Given as goal
 
 -- those so far, and those of the fans that are left, are all

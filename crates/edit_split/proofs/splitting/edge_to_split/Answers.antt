@@ -1,9 +1,9 @@
 use Rattle.std.proofs.Common.{◌≡◌, true, false, is_some, sym, ap, subst, ◌∙◌}
 use Rattle.mesh_base.specs.Pairs.{is_edge, is_crowded}
 use Rattle.edit_base.specs.Edges.{Edge, edge_of}
-use Rattle.edit_base.specs.Split.{split_point}
+use Rattle.edit_split.specs.Split.{split_point}
 use Rattle.edit_base.specs.Required.{HasEdge}
-use Rattle.edit_base.proofs.PutSplit.{has_edge_of}
+use Rattle.edit_base.proofs.EdgeThere.{has_edge_of}
 use Rattle.edit_split.proofs.Answered.{full_answer}
 use Rattle.edit_split.proofs.splitting.edge_to_split.Goals as goal
 

@@ -1,6 +1,6 @@
 use Rattle.std.proofs.Common.{[], ◌∷◌}
 use Rattle.edit_base.specs.declared.Move.{Move}
-use Rattle.edit_check.proofs.Premise.{split_may_be_checked}
+use Rattle.edit_split.proofs.SplitPremise.{split_may_be_checked}
 use Rattle.edit_split.proofs.splitting.put_and_check.Goals as goal
 
 pub check-requires-clause-clear : goal.check-requires-clause-clear

@@ -5,7 +5,7 @@ use Rattle.mesh_base.proofs.MarksHold.{stands_along, stands_for_one}
 use Rattle.edit_base.specs.declared.answers.Change.TheVariants.{Split}
 use Rattle.edit_base.specs.declared.answers.Edit.TheVariants.{Done}
 use Rattle.edit_base.specs.Scaffold.{first_lacking}
-use Rattle.edit_base.specs.Split.{split_point, split_scaffold}
+use Rattle.edit_split.specs.Split.{split_point, split_scaffold}
 use Rattle.edit_split.specs.Tried.{MayBeTried}
 use Rattle.edit_split.proofs.Answered.{tried_answer}
 use Rattle.edit_split.proofs.splitting.split_or_go_back.Goals as goal

@@ -1,0 +1,10 @@
+pub mod FaceCorners
+pub mod Found
+pub mod Exchanged
+pub mod Sound
+pub mod Undoubled
+pub mod Flow
+pub mod Changed
+pub mod Counting
+pub mod Made
+pub mod PointOf

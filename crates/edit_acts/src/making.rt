@@ -1,0 +1,114 @@
+//! Faces made one after another, and midpoints.
+ghost use Rattle.std.specs.Prelude.{◌≡◌, ◌≤◌, ◌+◌, ◌*ℤ◌, ◌+ℤ◌, ℕ, List, map, length, pos, unsigned_abs, OnOk, OnErr, IfOk};
+ghost use Rattle.grid_base.specs.declared.TheConstants.{BOX, HALF_MAX};
+ghost use Rattle.grid_base.specs.Triples.{plus, times, IsWithin};
+ghost use Rattle.grid_base.specs.Points.{position_of};
+ghost use Rattle.mesh_base.specs.Changes.{corners_of, with_face, IsFresh, IsFullOfFaces, IsFullOfVertices, with_vertex};
+ghost use Rattle.mesh_base.specs.Kept.{BeginsWith};
+ghost use Rattle.edit_base.specs.Edges.{point_of, exact_mid, with_faces, AreFresh};
+ghost use Rattle.edit_base.specs.Required.{HasRoomFor};
+
+use grid_base::{BOX, NoMemory, Point, Wide};
+use mesh_base::{AddFault, Surface, VertexId};
+
+/// Makes a vertex where no limit is in the way, and answers its id. Where memory is wanting, all is as it was.
+pub fn make_vertex<S: Surface>(mesh: &mut S, at: Point) -> Result<VertexId, NoMemory>
+    requires { ¬ IsFullOfVertices (S.mesh mesh.old) }
+    ensures id { IfOk result (λ v. v ≡ (S.mesh mesh.old).next_vertex) }
+    ensures made { OnOk result (S.mesh mesh.new ≡ with_vertex (S.mesh mesh.old) at) }
+    ensures left { OnErr result ((S.mesh mesh.new ≡ S.mesh mesh.old) × (S.kept mesh.new ≡ S.kept mesh.old)) }
+    ensures marks { BeginsWith (S.kept mesh.new) (S.kept mesh.old) }
+{
+    match mesh.add_vertex(at) {
+        Ok(v) => Ok(v),
+        Err(AddFault::NoMemory) => Err(NoMemory),
+        Err(AddFault::Full) => unreachable!(),
+    }
+}
+
+/// Makes a face where no limit is in the way. Where memory is wanting, all is as it was.
+pub fn make_face<S: Surface>(mesh: &mut S, c: [VertexId; 3]) -> Result<(), NoMemory>
+    requires fresh { IsFresh (S.mesh mesh.old) (corners_of c) }
+    requires room { ¬ IsFullOfFaces (S.mesh mesh.old) }
+    ensures made { OnOk result (S.mesh mesh.new ≡ with_face (S.mesh mesh.old) (corners_of c)) }
+    ensures left { OnErr result ((S.mesh mesh.new ≡ S.mesh mesh.old) × (S.kept mesh.new ≡ S.kept mesh.old)) }
+    ensures marks { BeginsWith (S.kept mesh.new) (S.kept mesh.old) }
+{
+    match mesh.add_face(c) {
+        Ok(_) => Ok(()),
+        Err(AddFault::NoMemory) => Err(NoMemory),
+        Err(AddFault::Full) => unreachable!(),
+    }
+}
+
+/// Makes faces in order, where no limit is in the way. Where memory is wanting, some of them may be made.
+pub fn make_faces<S: Surface>(mesh: &mut S, faces: &[[VertexId; 3]]) -> Result<(), NoMemory>
+    requires fresh { AreFresh (S.mesh mesh.old) (map corners_of faces.now) }
+    requires room { HasRoomFor (length faces.now) (S.mesh mesh.old) }
+    ensures made { OnOk result (S.mesh mesh.new ≡ with_faces (S.mesh mesh.old) (map corners_of faces.now)) }
+    ensures marks { BeginsWith (S.kept mesh.new) (S.kept mesh.old) }
+{
+    for c in faces {
+        make_face(mesh, *c)?;
+    }
+    Ok(())
+}
+
+fn twice(a: i32) -> i128
+    requires { unsigned_abs a ≤ BOX }
+    ensures value { result ≡ pos 2 *ℤ a }
+    ensures within { unsigned_abs result ≤ HALF_MAX }
+{
+    i128::from(2 * a)
+}
+
+fn sum(a: i32, b: i32) -> i128
+    requires first { unsigned_abs a ≤ BOX }
+    requires second { unsigned_abs b ≤ BOX }
+    ensures value { result ≡ a +ℤ b }
+    ensures within { unsigned_abs result ≤ HALF_MAX }
+{
+    i128::from(a + b)
+}
+
+/// A point in half units.
+pub fn doubled(p: Point) -> Wide
+    ensures value { result ≡ times 2 (position_of p) }
+    ensures within { IsWithin HALF_MAX result }
+{
+    Wide {
+        x: twice(p.x),
+        y: twice(p.y),
+        z: twice(p.z),
+    }
+}
+
+/// Where a vertex stands; the origin, where it is not live.
+pub fn point_of<S: Surface>(mesh: &S, v: VertexId) -> Point
+    ensures { result ≡ point_of (S.mesh mesh.now) v }
+{
+    match mesh.point(v) {
+        Some(p) => p,
+        None => Point { x: 0, y: 0, z: 0 },
+    }
+}
+
+/// The sum of two points, which is their midpoint in half units.
+fn middle(p: Point, q: Point) -> Wide
+    ensures value { result ≡ plus (position_of p) (position_of q) }
+    ensures within { IsWithin HALF_MAX result }
+{
+    Wide {
+        x: sum(p.x, q.x),
+        y: sum(p.y, q.y),
+        z: sum(p.z, q.z),
+    }
+}
+
+/// The midpoint of two vertices, in half units.
+pub fn exact_mid<S: Surface>(mesh: &S, u: VertexId, v: VertexId) -> Wide
+    ensures value { result ≡ exact_mid (S.mesh mesh.now) u v }
+    ensures within { IsWithin HALF_MAX result }
+{
+    middle(point_of(mesh, u), point_of(mesh, v))
+}

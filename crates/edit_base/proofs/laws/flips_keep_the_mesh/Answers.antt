@@ -1,5 +1,0 @@
-use Rattle.edit_base.proofs.FlipDone.{flip_stays_sound, flip_stays_closed, flip_stays_clear, flip_motion_is_clear}
-use Rattle.edit_base.proofs.laws.flips_keep_the_mesh.Goals as goal
-
-pub returns : goal.returns
-returns c = record { sound = flip_stays_sound; closed = flip_stays_closed; clear = flip_stays_clear; motion = flip_motion_is_clear }

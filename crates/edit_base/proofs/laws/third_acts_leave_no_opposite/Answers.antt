@@ -1,5 +1,0 @@
-use Rattle.edit_base.proofs.Cancelled.{cancels_all}
-use Rattle.edit_base.proofs.laws.third_acts_leave_no_opposite.Goals as goal
-
-pub returns : goal.returns
-returns c = cancels_all
