@@ -5,8 +5,8 @@ ghost use Rattle.grid_decided.specs.Decided.{meets_exactly};
 ghost use Rattle.mesh_base.specs.Sides.{IsClosed};
 ghost use Rattle.mesh_base.specs.Placements.{IsClearMesh};
 ghost use Rattle.mesh_base.specs.Kept.{BeginsWith};
-ghost use Rattle.edit_base.specs.Clauses.{mesh_left};
-ghost use Rattle.edit_dispatch.specs.Dispatch.{answer_to, edited};
+ghost use Rattle.edit_base.specs.Clauses.{mesh_left, MovesClearOnDone};
+ghost use Rattle.edit_dispatch.specs.Dispatch.{answer_to, edited, scaffold_of};
 
 use edit_base::{Asked, Edit};
 use edit_collapse::collapse;
@@ -36,6 +36,8 @@ pub fn edit<S: Surface>(
     // The mesh stays closed and clear.
     ensures closed { IsClosed (S.mesh mesh.new) }
     ensures clear { IsClearMesh (S.mesh mesh.new) }
+    // Where it is done, nothing meets on the way.
+    ensures motion { IfOk result (λ edit. MovesClearOnDone scaffold_of (S.mesh mesh.old) edit) }
     ensures marks { BeginsWith (S.kept mesh.new) (S.kept mesh.old) }
 {
     match what {
