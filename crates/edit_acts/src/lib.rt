@@ -1,9 +1,11 @@
-//! The acts that edits of a mesh share: vertices and faces are made one after another, within the limits, and an edit that is tried is
-//! kept or taken back.
+//! The acts that edits of a mesh share: vertices and faces are made one after another within the limits, and corners are compared and
+//! renamed.
 #![tactic(auto)]
 
+mod corners;
 mod limits;
 mod making;
 
+pub use corners::{are_equal, corners_at, renamed};
 pub use limits::are_over;
 pub use making::{doubled, exact_mid, make_face, make_faces, make_vertex, point_of};

@@ -6,32 +6,13 @@ ghost use Rattle.edit_base.specs.Edges.{renamed, has_equal};
 ghost use Rattle.edit_collapse.specs.Collapse.{are_opposite};
 ghost use Rattle.edit_collapse.specs.Tried.{opposite_in, two_in, without_two, cancelled_in, has_id_in};
 
+use edit_acts::are_equal;
 use grid_base::{Items, NoMemory};
 use mesh_base::{Corners, FaceId, VertexId};
 use std::alloc::Global;
 
 /// Faces with their corners, by rising id.
 pub(crate) type LeftFaces = Items<(FaceId, Corners)>;
-
-/// One vertex in the place of another.
-pub(crate) fn renamed(c: Corners, from: VertexId, to: VertexId) -> Corners
-    ensures { result ≡ renamed from to c }
-{
-    Corners {
-        first: if c.first == from { to } else { c.first },
-        second: if c.second == from { to } else { c.second },
-        third: if c.third == from { to } else { c.third },
-    }
-}
-
-/// Whether the one is the other, turned or not.
-fn are_equal(c: &Corners, d: &Corners) -> bool
-    ensures { result ≡ equal_up_to_rotation c.now d.now }
-{
-    c.first == d.first && c.second == d.second && c.third == d.third
-        || c.second == d.first && c.third == d.second && c.first == d.third
-        || c.third == d.first && c.first == d.second && c.second == d.third
-}
 
 /// Whether the one is the other in reverse cyclic order.
 fn are_opposite(c: &Corners, d: &Corners) -> bool
@@ -42,7 +23,7 @@ fn are_opposite(c: &Corners, d: &Corners) -> bool
         second: c.second,
         third: c.first,
     };
-    are_equal(&back, d)
+    are_equal(back, *d)
 }
 
 /// Whether some face of the list is equal to the one up to rotation.
@@ -50,9 +31,7 @@ fn has_equal_to(faces: &[(FaceId, Corners)], one: &(FaceId, Corners)) -> bool
     ensures { result ≡ list_any (λ e. equal_up_to_rotation one.now.1 e.1) faces.now }
 {
     for e in faces {
-        let c = one.1;
-        let d = e.1;
-        if are_equal(&c, &d) {
+        if are_equal(one.1, e.1) {
             return true;
         }
     }

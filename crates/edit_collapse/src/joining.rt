@@ -11,8 +11,8 @@ ghost use Rattle.edit_collapse.specs.Collapse.{joined_faces, collapse_mesh, coll
 ghost use Rattle.edit_base.specs.Reasons.{is_full};
 ghost use Rattle.edit_collapse.specs.Tried.{only_at, joined_at, left_at, MayBeTried, has_id_in, with_joined_or_gone, corners_near, others_than, without_if_bare};
 
-use crate::cancelling::{LeftFaces, cancelled, has_id, renamed, repeats};
-use edit_acts::make_face;
+use crate::cancelling::{LeftFaces, cancelled, has_id, repeats};
+use edit_acts::{make_face, renamed};
 use grid_base::{ID_MAX, Items, NoMemory, Point};
 use mesh_base::{Corners, FaceId, Surface, VertexId};
 use std::alloc::Global;

@@ -6,8 +6,9 @@ ghost use Rattle.edit_base.specs.Classes.{is_one_of, class_of};
 ghost use Rattle.edit_base.specs.Edges.{corners_at};
 ghost use Rattle.edit_pinch.specs.Pinch.{share_second, fans};
 
+use edit_acts::corners_at;
 use grid_base::{Items, NoMemory};
-use mesh_base::{Corners, FaceId, Surface, VertexId};
+use mesh_base::{FaceId, Surface, VertexId};
 use std::alloc::Global;
 
 /// Faces, by rising id.
@@ -15,20 +16,6 @@ pub(crate) type Fan = Items<FaceId>;
 
 /// Fans of faces, in order of their least faces.
 pub(crate) type Fans = Items<Fan>;
-
-/// The corners of a face.
-pub(crate) fn corners_at<S: Surface>(mesh: &S, f: FaceId) -> Corners
-    ensures { result ≡ corners_at (S.mesh mesh.now) f }
-{
-    match mesh.corners(f) {
-        Some(ids) => Corners::of(ids),
-        None => Corners {
-            first: VertexId(0),
-            second: VertexId(0),
-            third: VertexId(0),
-        },
-    }
-}
 
 /// Whether two faces share a vertex other than `v`.
 fn share_second<S: Surface>(mesh: &S, v: VertexId, f: FaceId, g: FaceId) -> bool
@@ -41,16 +28,11 @@ fn share_second<S: Surface>(mesh: &S, v: VertexId, f: FaceId, g: FaceId) -> bool
         || c.third != v && d.has_corner(c.third)
 }
 
-/// Whether an id is one of several.
-fn is_one_of(ids: &[FaceId], f: FaceId) -> bool
-    ensures { result ≡ is_one_of ids.now f }
+/// Whether a face is one of several.
+fn is_one_of(faces: &[FaceId], f: FaceId) -> bool
+    ensures { result ≡ is_one_of faces.now f }
 {
-    for x in ids {
-        if *x == f {
-            return true;
-        }
-    }
-    false
+    faces.contains(&f)
 }
 
 /// Whether an id is in one of several fans.

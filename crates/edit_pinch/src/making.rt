@@ -10,11 +10,11 @@ ghost use Rattle.edit_base.specs.Edges.{renamed, with_renamed};
 ghost use Rattle.edit_pinch.specs.Pinch.{fans, copy_points, with_copy, pinch_scaffold};
 ghost use Rattle.edit_pinch.specs.InTurn.{MayBeRemade, MayBeCopied, CopiedInTurn};
 
-use crate::fans::{Fan, corners_at};
-use edit_acts::{make_face, make_vertex};
+use crate::fans::Fan;
+use edit_acts::{corners_at, make_face, make_vertex, renamed};
 use edit_base::CopyAt;
 use grid_base::{ID_MAX, NoMemory, Point, VERTICES_MAX};
-use mesh_base::{Corners, FaceId, Surface, VertexId};
+use mesh_base::{FaceId, Surface, VertexId};
 
 /// Whether the fans have more faces than so many.
 fn have_more(fans: &[Fan], room: usize) -> bool
@@ -48,17 +48,6 @@ pub(crate) fn is_over<S: Surface>(mesh: &S, others: &[Fan]) -> bool
         (ID_MAX + 1 - mesh.next_vertex()) as usize,
         have_more(others, (ID_MAX + 1 - mesh.next_face()) as usize),
     )
-}
-
-/// One vertex in the place of another.
-fn renamed(c: Corners, from: VertexId, to: VertexId) -> Corners
-    ensures { result ≡ renamed from to c }
-{
-    Corners {
-        first: if c.first == from { to } else { c.first },
-        second: if c.second == from { to } else { c.second },
-        third: if c.third == from { to } else { c.third },
-    }
 }
 
 /// Drops a face, and makes it again with `w` in the place of `v`. Where memory is wanting, it may be dropped.

@@ -8,30 +8,18 @@ ghost use Rattle.edit_base.specs.Classes.{is_one_of};
 ghost use Rattle.edit_pinch.specs.Pinch.{fan_point, divided};
 ghost use Rattle.edit_pinch.specs.Rims.{with_other, with_corners, found_rim, ways, AreLiveFaces};
 
-use crate::fans::{Fan, corners_at};
-use edit_acts::point_of;
+use crate::fans::Fan;
+use edit_acts::{corners_at, point_of};
 use edit_base::{Copies, CopyAt};
 use grid_base::{BOX, ID_MAX, Items, NoMemory, Point, Wide};
 use mesh_base::{FaceId, Surface, VertexId};
 use std::alloc::Global;
 
-/// Whether an id is one of several.
-fn is_one_of(ids: &[VertexId], u: VertexId) -> bool
-    ensures { result ≡ is_one_of ids.now u }
-{
-    for x in ids {
-        if *x == u {
-            return true;
-        }
-    }
-    false
-}
-
 /// Puts a vertex at the end of a list, unless it is `v` or is there.
 fn put_other(found: &mut Items<VertexId>, v: VertexId, u: VertexId) -> Result<(), NoMemory>
     ensures { OnOk result (found.new ≡ with_other v found.old u) }
 {
-    if u == v || is_one_of(found.as_slice(), u) {
+    if u == v || found.as_slice().contains(&u) {
         Ok(())
     } else {
         found.push(u)
