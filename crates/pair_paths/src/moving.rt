@@ -1,8 +1,6 @@
 //! Edges and faces with the paths of their vertices.
 ghost use Rattle.std.specs.Prelude.{◌≡◌, IfOk};
-ghost use Rattle.std.specs.Option.{option_map};
-ghost use Rattle.std.specs.FinMap as finite;
-ghost use Rattle.pair_paths.specs.Moving.{moving_edge, moving_face, moving_faces};
+ghost use Rattle.pair_paths.specs.Moving.{moving_edge, moving_face, live_face, moving_faces};
 
 use crate::path::{Path, Paths};
 use grid_base::{Items, NoMemory};
@@ -55,7 +53,7 @@ fn with_paths<P: Paths>(paths: &P, face: FaceId, corners: Corners) -> MovingFace
 
 /// A face, if it is live.
 fn moving_face<S: Surface, P: Paths>(mesh: &S, paths: &P, f: FaceId) -> Option<MovingFace>
-    ensures { result ≡ option_map (λ c. moving_face (P.motion paths.now) (f, c)) (finite.get (S.mesh mesh.now).faces f) }
+    ensures { result ≡ live_face (S.mesh mesh.now) (P.motion paths.now) f }
 {
     match mesh.corners(f) {
         Some(ids) => Some(with_paths(paths, f, Corners::of(ids))),

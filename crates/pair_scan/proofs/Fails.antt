@@ -18,7 +18,7 @@ use Rattle.mesh_base.specs.Failing.{failing, pair_passes}
 use Rattle.mesh_base.specs.Mesh.{Mesh, IsSound}
 use Rattle.mesh_base.specs.Pairs.{Pair, edges, pairs, pairs_of}
 use Rattle.mesh_base.specs.Placements.{positions, IsClearAlong}
-use Rattle.mesh_base.specs.Shifts.{Shifts, moved_by, end_in_box}
+use Rattle.mesh_base.specs.Shifts.{Shifts, moved_by}
 use Rattle.mesh_base.specs.Sides.{has_corner}
 use Rattle.mesh_base.proofs.ListedPairs.{pair_listed}
 use Rattle.mesh_base.proofs.Tests.{both_ways}

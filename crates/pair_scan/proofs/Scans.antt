@@ -14,7 +14,7 @@ use Rattle.mesh_base.specs.Placements.{Motion, own_points, positions}
 use Rattle.mesh_base.proofs.Tests.{both_ways}
 use Rattle.pair_paths.specs.Moving.{moving_edge, moving_face, moving_faces}
 use Rattle.pair_paths.specs.Pairing.{name_with}
-use Rattle.pair_paths.specs.Paths.{resting}
+use Rattle.pair_paths.specs.Paths.{at_rest}
 use Rattle.pair_scan.specs.Scan.{meets_face, first_of}
 use Rattle.pair_scan.proofs.Lists.{find-map, find-filter, option_map-option_map}
 
@@ -31,10 +31,10 @@ pub where_apart : (shared does : Bool) → shared ≡ false → (not shared && d
 where_apart shared does e = ap (λ z. not z && does) e
 
 -- what is found among the faces is the first pair of the edge that meets
-pub first_of_edge : (m : Mesh) (a b : ℕ) → let w = resting (own_points m) in
+pub first_of_edge : (m : Mesh) (a b : ℕ) → let w = at_rest m in
     option_map (name_with (moving_edge w a b)) (find (meets_face (moving_edge w a b)) (moving_faces m w)) ≡ first_of m (pairs_of m (a, b))
 first_of_edge m a b =
-    let w : Motion = resting (own_points m) in
+    let w : Motion = at_rest m in
     let es = finite.entries m.faces in
     let e = moving_edge w a b in
     let pair : ℕ × Corners → Pair = λ f. record { name = record { a = a; b = b; face = f.0 }; corners = f.1 } in

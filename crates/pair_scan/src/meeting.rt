@@ -6,7 +6,7 @@ ghost use Rattle.mesh_base.specs.Placements.{own_points, IsClearMesh};
 ghost use Rattle.mesh_base.specs.Failing.{first_meeting};
 ghost use Rattle.pair_paths.specs.Bounds.{HoldsFace, AreBoxes};
 ghost use Rattle.pair_paths.specs.Moving.{moving_faces};
-ghost use Rattle.pair_paths.specs.Paths.{resting};
+ghost use Rattle.pair_paths.specs.Paths.{at_rest};
 ghost use Rattle.pair_scan.specs.Scan.{meets_face, met_with, first_some, first_of, IsMeeting, NoneMeetsBefore};
 
 use crate::motions::AtRest;
@@ -73,7 +73,7 @@ fn first_of_edge<S: Surface>(
     a: VertexId,
     b: VertexId,
 ) -> Result<Option<PairName>, NoMemory>
-    requires faces { faces.now ≡ moving_faces (S.mesh mesh.now) (resting (own_points (S.mesh mesh.now))) }
+    requires faces { faces.now ≡ moving_faces (S.mesh mesh.now) (at_rest (S.mesh mesh.now)) }
     requires boxes { AreBoxes HoldsFace faces.now boxes.now }
     ensures { IfOk result (λ r. r ≡ first_of (S.mesh mesh.now) (pairs_of (S.mesh mesh.now) (a, b))) }
 {

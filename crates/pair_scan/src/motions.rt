@@ -3,9 +3,9 @@ ghost use Rattle.std.specs.Prelude.{◌≡◌, IsTrue};
 ghost use Rattle.std.specs.Option.{option_map, unwrap_or};
 ghost use Rattle.grid_base.specs.Triples.{plus};
 ghost use Rattle.grid_base.specs.Points.{position_of, displacement_of, point_at};
-ghost use Rattle.mesh_base.specs.Placements.{origin, own_points};
+ghost use Rattle.mesh_base.specs.Placements.{origin};
 ghost use Rattle.mesh_base.specs.Shifts.{NameLive, end_in_box, moved_by};
-ghost use Rattle.pair_paths.specs.Paths.{resting};
+ghost use Rattle.pair_paths.specs.Paths.{at_rest};
 
 use crate::lookup::shift_of;
 use grid_base::{Point, Shift, moved};
@@ -19,7 +19,7 @@ pub(crate) struct AtRest<'a, S: Surface> {
 }
 
 impl<'a, S: Surface> Paths for AtRest<'a, S> {
-    ghost motion = { λ s. resting (own_points (S.mesh s.mesh.now)) };
+    ghost motion = { λ s. at_rest (S.mesh s.mesh.now) };
 
     fn path_of(&self, v: VertexId) -> Path {
         let here = Position::of(point_of(self.mesh, v).wide());
