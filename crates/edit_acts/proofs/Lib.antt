@@ -7,4 +7,3 @@ pub mod Flow
 pub mod Changed
 pub mod Counting
 pub mod Made
-pub mod PointOf

@@ -8,4 +8,4 @@ mod making;
 
 pub use corners::{are_equal, corners_at, renamed};
 pub use limits::are_over;
-pub use making::{doubled, exact_mid, make_face, make_faces, make_vertex, point_of};
+pub use making::{exact_mid, make_face, make_faces, make_vertex};

@@ -5,11 +5,12 @@ ghost use Rattle.grid_base.specs.Triples.{plus, times, IsWithin};
 ghost use Rattle.grid_base.specs.Points.{position_of};
 ghost use Rattle.mesh_base.specs.Changes.{corners_of, with_face, IsFresh, IsFullOfFaces, IsFullOfVertices, with_vertex};
 ghost use Rattle.mesh_base.specs.Kept.{BeginsWith};
-ghost use Rattle.edit_base.specs.Edges.{point_of, exact_mid, with_faces, AreFresh};
+ghost use Rattle.edit_base.specs.Edges.{exact_mid, with_faces, AreFresh};
+ghost use Rattle.mesh_base.specs.Placements.{point_of};
 ghost use Rattle.edit_base.specs.Required.{HasRoomFor};
 
 use grid_base::{BOX, NoMemory, Point, Wide};
-use mesh_base::{AddFault, Surface, VertexId};
+use mesh_base::{AddFault, Surface, VertexId, point_of};
 
 /// Makes a vertex where no limit is in the way, and answers its id. Where memory is wanting, all is as it was.
 pub fn make_vertex<S: Surface>(mesh: &mut S, at: Point) -> Result<VertexId, NoMemory>
@@ -54,14 +55,6 @@ pub fn make_faces<S: Surface>(mesh: &mut S, faces: &[[VertexId; 3]]) -> Result<(
     Ok(())
 }
 
-fn twice(a: i32) -> i128
-    requires { unsigned_abs a ≤ BOX }
-    ensures value { result ≡ pos 2 *ℤ a }
-    ensures within { unsigned_abs result ≤ HALF_MAX }
-{
-    i128::from(2 * a)
-}
-
 fn sum(a: i32, b: i32) -> i128
     requires first { unsigned_abs a ≤ BOX }
     requires second { unsigned_abs b ≤ BOX }
@@ -69,28 +62,6 @@ fn sum(a: i32, b: i32) -> i128
     ensures within { unsigned_abs result ≤ HALF_MAX }
 {
     i128::from(a + b)
-}
-
-/// A point in half units.
-pub fn doubled(p: Point) -> Wide
-    ensures value { result ≡ times 2 (position_of p) }
-    ensures within { IsWithin HALF_MAX result }
-{
-    Wide {
-        x: twice(p.x),
-        y: twice(p.y),
-        z: twice(p.z),
-    }
-}
-
-/// Where a vertex stands; the origin, where it is not live.
-pub fn point_of<S: Surface>(mesh: &S, v: VertexId) -> Point
-    ensures { result ≡ point_of (S.mesh mesh.now) v }
-{
-    match mesh.point(v) {
-        Some(p) => p,
-        None => Point { x: 0, y: 0, z: 0 },
-    }
 }
 
 /// The sum of two points, which is their midpoint in half units.

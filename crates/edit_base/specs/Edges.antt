@@ -16,10 +16,6 @@ use Rattle.mesh_base.specs.Placements.{own_points}
 abbrev pub corners_at : Mesh → ℕ → Corners
 corners_at m f = unwrap_or (finite.get m.faces f) (record { first = 0; second = 0; third = 0 })
 
--- the point of a vertex
-abbrev pub point_of : Mesh → ℕ → Point
-point_of m v = point_at (own_points m v)
-
 -- the corner that is neither u nor v, where v follows u
 abbrev pub third_corner : Corners → ℕ → ℕ → ℕ
 third_corner c u v = if c.first == u then c.third else (if c.second == u then c.first else c.second)

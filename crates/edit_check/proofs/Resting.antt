@@ -13,11 +13,11 @@ use Rattle.mesh_base.specs.Mesh.{Mesh}
 use Rattle.mesh_base.specs.Pairs.{Pair, pairs}
 use Rattle.mesh_base.specs.Placements.{own_points, own_points_doubled, positions}
 use Rattle.mesh_base.specs.Failing.{first_meeting}
+use Rattle.mesh_base.proofs.Tests.{both_ways}
 use Rattle.edit_base.specs.declared.Touch.TheVariants.{Never}
 use Rattle.edit_base.specs.Scaffold.{is_as_required, first_lacking}
 use Rattle.edit_check.specs.Checking.{scaffold_by}
 use Rattle.pair_scan.proofs.Lists.{find-alike}
-use Rattle.edit_check.proofs.Exact.{both_ways}
 
 not_met : (f : Positions) → (MeetAt f → ⊥) → not (meets_exactly f) ≡ true
 not_met f never = by_test (meets_exactly f) refl

@@ -15,15 +15,18 @@ use Rattle.mesh_base.proofs.Listed.{running_face, at_key, all_map, or_either}
 use Rattle.mesh_base.proofs.ListedPairs.{all_mapped, all_weaker}
 use Rattle.edit_base.specs.declared.Move.{Move}
 use Rattle.edit_base.specs.declared.Touch.{Touch}
-use Rattle.edit_base.specs.Scaffold.{Scaffold, move_of, is_as_required, holds_two}
+use Rattle.edit_base.specs.Scaffold.{Scaffold, move_of, motion_by, is_as_required, holds_two}
+use Rattle.pair_paths.specs.declared.MovingEdge.{MovingEdge}
+use Rattle.pair_paths.specs.declared.MovingFace.{MovingFace}
+use Rattle.pair_paths.specs.Moving.{moving_edge, moving_face, moving_faces}
+use Rattle.pair_paths.specs.Pairing.{name_with}
+use Rattle.pair_paths.proofs.Faces.{found_entries}
 use Rattle.edit_check.specs.Untouched.{IsOldEdge, IsUntouched, IsClearWhereUntouched}
-use Rattle.edit_check.specs.declared.moving.MovingEdge.{MovingEdge}
-use Rattle.edit_check.specs.declared.moving.MovingFace.{MovingFace}
-use Rattle.edit_check.specs.Moving.{is_moved, is_touched, moving_edge, moving_face, moving_faces}
-use Rattle.edit_check.specs.Lacking.{lack, name_with, first_lacking_among, is_side_of_some}
+use Rattle.edit_check.specs.Touched.{is_moved, is_touched}
+use Rattle.edit_check.specs.Failing.{fails, first_failing_among, is_side_of_some}
 use Rattle.edit_check.specs.Checking.{scaffold_by, first_of}
-use Rattle.pair_scan.proofs.Lists.{find-map, option_map-option_map, find-filter as find-kept}
-use Rattle.pair_scan.proofs.Faces.{found_entries}
+use Rattle.pair_scan.proofs.Lists.{find-map, option_map-option_map}
+use Rattle.pair_scan.proofs.Lists.{find-filter as find-kept}
 use Rattle.edit_check.proofs.Still.{find-filter}
 use Rattle.edit_check.proofs.Untouched.{untouched_is_as_required}
 
@@ -51,29 +54,29 @@ step_corners : (c : Corners) (u v : ℕ) → follows c u v ≡ true → (has_cor
 step_corners c u v h = (grind (arith, nat_tests), grind (arith, nat_tests))
 
 -- ---- a face that is not touched
-record IsOldFace (moves : List Move) (together : List ℕ) (fresh_from : ℕ) (f : ℕ × Corners) : Type 0 where
-  pub old : f.0 < fresh_from
-  pub first : move_of moves f.1.first ≡ None
-  pub second : move_of moves f.1.second ≡ None
-  pub third : move_of moves f.1.third ≡ None
-  pub apart : list_any (λ v. has_corner f.1 v) together ≡ false
+record IsOldFace (moves : List Move) (together : List ℕ) (fresh_from : ℕ) (f : MovingFace) : Type 0 where
+  pub old : f.face < fresh_from
+  pub first : move_of moves f.corners.first ≡ None
+  pub second : move_of moves f.corners.second ≡ None
+  pub third : move_of moves f.corners.third ≡ None
+  pub apart : list_any (λ v. has_corner f.corners v) together ≡ false
 
 below : (n f : ℕ) → nat_le n f ≡ false → f < n
 below n f h = grind (arith, nat_tests)
 
-old_face : (moves : List Move) (together : List ℕ) (fresh_from : ℕ) (f : ℕ × Corners) → is_touched moves together fresh_from f ≡ false → IsOldFace moves together fresh_from f
+old_face : (moves : List Move) (together : List ℕ) (fresh_from : ℕ) (f : MovingFace) → is_touched moves together fresh_from f ≡ false → IsOldFace moves together fresh_from f
 old_face moves together fresh_from f h =
-    let five = neither (nat_le fresh_from f.0 || is_moved moves f.1.first || is_moved moves f.1.second || is_moved moves f.1.third) (list_any (λ v. has_corner f.1 v) together) h in
-    let last = neither (nat_le fresh_from f.0 || is_moved moves f.1.first || is_moved moves f.1.second) (is_moved moves f.1.third) five.0 in
-    let two = neither (nat_le fresh_from f.0 || is_moved moves f.1.first) (is_moved moves f.1.second) last.0 in
-    let one = neither (nat_le fresh_from f.0) (is_moved moves f.1.first) two.0 in
-    record { old = below fresh_from f.0 one.0; first = none (move_of moves f.1.first) one.1; second = none (move_of moves f.1.second) two.1; third = none (move_of moves f.1.third) last.1; apart = five.1 }
+    let five = neither (nat_le fresh_from f.face || is_moved moves f.corners.first || is_moved moves f.corners.second || is_moved moves f.corners.third) (list_any (λ v. has_corner f.corners v) together) h in
+    let last = neither (nat_le fresh_from f.face || is_moved moves f.corners.first || is_moved moves f.corners.second) (is_moved moves f.corners.third) five.0 in
+    let two = neither (nat_le fresh_from f.face || is_moved moves f.corners.first) (is_moved moves f.corners.second) last.0 in
+    let one = neither (nat_le fresh_from f.face) (is_moved moves f.corners.first) two.0 in
+    record { old = below fresh_from f.face one.0; first = none (move_of moves f.corners.first) one.1; second = none (move_of moves f.corners.second) two.1; third = none (move_of moves f.corners.third) last.1; apart = five.1 }
 
-corner_rests : (moves : List Move) (together : List ℕ) (fresh_from : ℕ) (f : ℕ × Corners) (v : ℕ) → IsOldFace moves together fresh_from f → has_corner f.1 v ≡ true → move_of moves v ≡ None
+corner_rests : (moves : List Move) (together : List ℕ) (fresh_from : ℕ) (f : MovingFace) (v : ℕ) → IsOldFace moves together fresh_from f → has_corner f.corners v ≡ true → move_of moves v ≡ None
 corner_rests moves together fresh_from f v old h = ⊎_elim
-    (λ two. ⊎_elim (λ e. at f.1.first e old.first) (λ e. at f.1.second e old.second) (or_either (f.1.first == v) (f.1.second == v) two))
-    (λ e. at f.1.third e old.third)
-    (or_either ((f.1.first == v) || (f.1.second == v)) (f.1.third == v) h)
+    (λ two. ⊎_elim (λ e. at f.corners.first e old.first) (λ e. at f.corners.second e old.second) (or_either (f.corners.first == v) (f.corners.second == v) two))
+    (λ e. at f.corners.third e old.third)
+    (or_either ((f.corners.first == v) || (f.corners.second == v)) (f.corners.third == v) h)
   where
     at : (u : ℕ) → (u == v) ≡ true → move_of moves u ≡ None → move_of moves v ≡ None
     at u e rests = subst (λ w. move_of moves w ≡ None) (eqb-true u v e) rests
@@ -88,20 +91,24 @@ either_way : (k l : ℕ) → 0 < k + l → (0 < k) ⊎ (0 < l)
 either_way zero l h = inr (omega arith)
 either_way (suc k) l h = inl (omega arith)
 
-module _ (m : Mesh) (moves : List Move) (together : List ℕ) (fresh_from a b : ℕ) (alone : is_side_of_some a b (filter (λ f. f.touched) (moving_faces m moves together fresh_from)) ≡ false) where
-  off : AllByRecursion (λ f. is_touched moves together fresh_from f ≡ true → (has_corner f.1 a && has_corner f.1 b) ≡ false) (finite.entries m.faces)
-  off = all_map (λ (f : MovingFace). f.touched ≡ true → (has_corner f.corners a && has_corner f.corners b) ≡ false) (moving_face m moves together fresh_from) (finite.entries m.faces)
-      (none_kept (λ (f : MovingFace). f.touched) (λ f. has_corner f.corners a && has_corner f.corners b) (moving_faces m moves together fresh_from) alone)
+-- the faces that are touched
+abbrev touched : Mesh → List Move → List ℕ → ℕ → List MovingFace
+touched m moves together fresh_from = filter (is_touched moves together fresh_from) (moving_faces m (motion_by m moves))
+
+module _ (m : Mesh) (moves : List Move) (together : List ℕ) (fresh_from a b : ℕ) (alone : is_side_of_some a b (touched m moves together fresh_from) ≡ false) where
+  off : AllByRecursion (λ f. is_touched moves together fresh_from (moving_face (motion_by m moves) f) ≡ true → (has_corner f.1 a && has_corner f.1 b) ≡ false) (finite.entries m.faces)
+  off = all_map (λ f. is_touched moves together fresh_from f ≡ true → (has_corner f.corners a && has_corner f.corners b) ≡ false) (moving_face (motion_by m moves)) (finite.entries m.faces)
+      (none_kept (is_touched moves together fresh_from) (λ f. has_corner f.corners a && has_corner f.corners b) (moving_faces m (motion_by m moves)) alone)
 
   both_true : (x y : Bool) → x ≡ true → y ≡ true → (x && y) ≡ true
   both_true x y e f = cc
 
   -- a face with both corners is not touched
-  rests : (f : ℕ) (c : Corners) → HasCorners m f c → has_corner c a ≡ true → has_corner c b ≡ true → IsOldFace moves together fresh_from (f, c)
-  rests f c there ca cb = old_face moves together fresh_from (f, c) (by_test (is_touched moves together fresh_from (f, c)) refl)
+  rests : (f : ℕ) (c : Corners) → HasCorners m f c → has_corner c a ≡ true → has_corner c b ≡ true → IsOldFace moves together fresh_from (moving_face (motion_by m moves) (f, c))
+  rests f c there ca cb = old_face moves together fresh_from (moving_face (motion_by m moves) (f, c)) (by_test (is_touched moves together fresh_from (moving_face (motion_by m moves) (f, c))) refl)
     where
-      by_test : (t : Bool) → is_touched moves together fresh_from (f, c) ≡ t → t ≡ false
-      by_test true e = absurd (false≢true (sym (at_key (λ g. is_touched moves together fresh_from g ≡ true → (has_corner g.1 a && has_corner g.1 b) ≡ false) m.faces f c off there e) ∙ both_true _ _ ca cb))
+      by_test : (t : Bool) → is_touched moves together fresh_from (moving_face (motion_by m moves) (f, c)) ≡ t → t ≡ false
+      by_test true e = absurd (false≢true (sym (at_key (λ g. is_touched moves together fresh_from (moving_face (motion_by m moves) g) ≡ true → (has_corner g.1 a && has_corner g.1 b) ≡ false) m.faces f c off there e) ∙ both_true _ _ ca cb))
       by_test false e = refl
 
   side : (f : ℕ) (c : Corners) → HasCorners m f c → (follows c a b ≡ true) ⊎ (follows c b a ≡ true) → has_corner c a ≡ true → has_corner c b ≡ true → IsOldSide m moves fresh_from a b
@@ -109,8 +116,8 @@ module _ (m : Mesh) (moves : List Move) (together : List ℕ) (fresh_from a b : 
       let face = rests f c there ca cb in
       record {
         old = record { face = f; corners = c; is_old = face.old; is_face = there; side = way };
-        first = corner_rests moves together fresh_from (f, c) a face ca;
-        second = corner_rests moves together fresh_from (f, c) b face cb;
+        first = corner_rests moves together fresh_from (moving_face (motion_by m moves) (f, c)) a face ca;
+        second = corner_rests moves together fresh_from (moving_face (motion_by m moves) (f, c)) b face cb;
       }
 
   old_side : IsEdge m a b → IsOldSide m moves fresh_from a b
@@ -120,9 +127,9 @@ module _ (m : Mesh) (moves : List Move) (together : List ℕ) (fresh_from a b : 
       (either_way (runs m a b) (runs m b a) edge)
 
 -- ---- among the faces
-module _ (m : Mesh) (moves : List Move) (touch : Touch) (together : List ℕ) (fresh_from depth a b : ℕ) where
+module _ (m : Mesh) (moves : List Move) (touch : Touch) (together : List ℕ) (depth a b : ℕ) where
   abbrev edge : MovingEdge
-  edge = moving_edge m moves a b
+  edge = moving_edge (motion_by m moves) a b
 
   abbrev s : Scaffold
   s = scaffold_by m moves touch together
@@ -137,24 +144,25 @@ module _ (m : Mesh) (moves : List Move) (touch : Touch) (together : List ℕ) (f
   bad p = not (is_as_required meets_exactly s depth p)
 
   -- among all faces: the first pair of the edge
-  pub among_all : first_lacking_among touch together depth edge (moving_faces m moves together fresh_from) ≡ first_of s depth (pairs_of m (a, b))
+  pub among_all : first_failing_among touch together depth edge (moving_faces m (motion_by m moves)) ≡ first_of s depth (pairs_of m (a, b))
   among_all =
       let es = finite.entries m.faces in
-      let test : MovingFace → Bool = λ f. lack touch together depth edge f in
-      let made : ℕ × Corners → MovingFace = moving_face m moves together fresh_from in
-      ap (option_map (λ f. name_with edge f)) (find-map test made es)
-      ∙ option_map-option_map (λ f. name_with edge f) made (find (λ f. apart f && bad (pair f)) es)
+      let test : MovingFace → Bool = λ f. fails touch together depth edge f in
+      let made : ℕ × Corners → MovingFace = moving_face (motion_by m moves) in
+      ap (option_map (name_with edge)) (find-map test made es)
+      ∙ option_map-option_map (name_with edge) made (find (λ f. apart f && bad (pair f)) es)
       ∙ sym (
       ap (option_map (λ p. p.name)) (find-map bad pair (filter apart es) ∙ ap (option_map pair) (find-kept (λ f. bad (pair f)) apart es))
       ∙ option_map-option_map (λ p. p.name) pair (find (λ f. apart f && bad (pair f)) es)
       )
 
-  module _ (clear : IsClearWhereUntouched m moves fresh_from) (ordered : a < b) (is_edge : IsEdge m a b)
-      (alone : is_side_of_some a b (filter (λ f. f.touched) (moving_faces m moves together fresh_from)) ≡ false) where
+  module _ (fresh_from : ℕ) (clear : IsClearWhereUntouched m moves fresh_from) (ordered : a < b) (is_edge : IsEdge m a b)
+      (alone : is_side_of_some a b (touched m moves together fresh_from) ≡ false) where
     old : IsOldSide m moves fresh_from a b
     old = old_side m moves together fresh_from a b alone is_edge
 
-    untouched : (f : ℕ × Corners) → HasCorners m f.0 f.1 → IsOldFace moves together fresh_from f → has_corner f.1 a ≡ false → has_corner f.1 b ≡ false → IsUntouched m moves fresh_from (pair f)
+    untouched : (f : ℕ × Corners) → HasCorners m f.0 f.1 → IsOldFace moves together fresh_from (moving_face (motion_by m moves) f) → has_corner f.1 a ≡ false → has_corner f.1 b ≡ false
+        → IsUntouched m moves fresh_from (pair f)
     untouched f there face not_a not_b = record {
       is_pair = record { ordered = ordered; edge = is_edge; face = there; not_first = not_a; not_second = not_b };
       old_edge = old.old;
@@ -171,20 +179,22 @@ module _ (m : Mesh) (moves : List Move) (touch : Touch) (together : List ℕ) (f
         no_and false = refl
 
     -- a face that is not touched does what is required
-    does : (f : ℕ × Corners) → HasCorners m f.0 f.1 → is_touched moves together fresh_from f ≡ false → lack touch together depth edge (moving_face m moves together fresh_from f) ≡ false
+    does : (f : ℕ × Corners) → HasCorners m f.0 f.1 → is_touched moves together fresh_from (moving_face (motion_by m moves) f) ≡ false → fails touch together depth edge (moving_face (motion_by m moves) f) ≡ false
     does f there h = by_tests (has_corner f.1 a) (has_corner f.1 b) refl refl
       where
+        face : IsOldFace moves together fresh_from (moving_face (motion_by m moves) f)
+        face = old_face moves together fresh_from (moving_face (motion_by m moves) f) h
+
         by_tests : (x y : Bool) → has_corner f.1 a ≡ x → has_corner f.1 b ≡ y → (not (x || y) && bad (pair f)) ≡ false
         by_tests true y e g = refl
         by_tests false true e g = refl
-        by_tests false false e g = ap not (untouched_is_as_required meets_exactly meets_exactly-is_exact s fresh_from depth clear (pair f)
-            (untouched f there (old_face moves together fresh_from f h) e g) (apart_two f (old_face moves together fresh_from f h).apart))
+        by_tests false false e g = ap not (untouched_is_as_required meets_exactly meets_exactly-is_exact s fresh_from depth clear (pair f) (untouched f there face e g) (apart_two f face.apart))
 
     -- among the touched faces alone: the same
-    pub among_touched : first_lacking_among touch together depth edge (filter (λ f. f.touched) (moving_faces m moves together fresh_from)) ≡ first_of s depth (pairs_of m (a, b))
+    pub among_touched : first_failing_among touch together depth edge (touched m moves together fresh_from) ≡ first_of s depth (pairs_of m (a, b))
     among_touched =
-        let faces = moving_faces m moves together fresh_from in
-        ap (option_map (λ f. name_with edge f)) (find-filter (λ (f : MovingFace). f.touched) (λ f. lack touch together depth edge f) faces
-        (all_mapped (λ (f : MovingFace). f.touched ≡ false → lack touch together depth edge f ≡ false) (moving_face m moves together fresh_from) (finite.entries m.faces)
-        (all_weaker (λ f. HasCorners m f.0 f.1) (λ f. is_touched moves together fresh_from f ≡ false → lack touch together depth edge (moving_face m moves together fresh_from f) ≡ false) (finite.entries m.faces) does (found_entries m.faces))))
+        let w = motion_by m moves in
+        ap (option_map (name_with edge)) (find-filter (is_touched moves together fresh_from) (λ f. fails touch together depth edge f) (moving_faces m w)
+        (all_mapped (λ f. is_touched moves together fresh_from f ≡ false → fails touch together depth edge f ≡ false) (moving_face w) (finite.entries m.faces)
+        (all_weaker (λ f. HasCorners m f.0 f.1) (λ f. is_touched moves together fresh_from (moving_face w f) ≡ false → fails touch together depth edge (moving_face w f) ≡ false) (finite.entries m.faces) does (found_entries m.faces))))
         ∙ among_all

@@ -1,5 +1,5 @@
 pub mod Untouched
-pub mod Moving
-pub mod Lacking
+pub mod Touched
+pub mod Failing
 pub mod Checking
 pub mod Agreeing

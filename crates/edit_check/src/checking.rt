@@ -1,57 +1,56 @@
 //! The first pair that is not as required.
 ghost use Rattle.std.specs.Prelude.{◌≡◌, ◌≤◌, ◌<◌, [], IfOk, IsNone};
-ghost use Rattle.std.specs.List.{filter, All};
+ghost use Rattle.std.specs.List.{All};
 ghost use Rattle.grid_decided.specs.Decided.{meets_exactly};
 ghost use Rattle.mesh_base.specs.Sides.{IsEdge};
-ghost use Rattle.mesh_base.specs.Pairs.{pairs_of};
 ghost use Rattle.mesh_base.specs.Placements.{own_points, IsClearMesh};
 ghost use Rattle.mesh_base.specs.Failing.{first_meeting};
 ghost use Rattle.edit_base.specs.Scaffold.{first_lacking, motion_by, IsClearBut};
 ghost use Rattle.edit_check.specs.Untouched.{IsClearWhereUntouched, MoveFits};
-ghost use Rattle.edit_check.specs.Moving.{moving_faces};
-ghost use Rattle.edit_check.specs.Checking.{scaffold_by, first_of};
+ghost use Rattle.edit_check.specs.Touched.{touched_among};
+ghost use Rattle.edit_check.specs.Checking.{scaffold_by, first_of_edge, faces_by};
 
-use crate::lacking::{first_lacking_among, is_side_of_some};
-use crate::moving::{MovingFace, moving_edge, moving_faces, touched_of};
+use crate::failing::{first_failing_among, is_side_of_some};
+use crate::moves::Moved;
+use crate::touched::touched_of;
 use edit_base::{Move, Touch};
 use grid_base::{DEPTH_MAX, NoMemory};
 use mesh_base::{PairName, Surface, VertexId, edges_in_order};
+use pair_paths::{MovingFace, moving_edge, moving_faces};
 use std::alloc::Global;
 
-/// The moves, what is required of the pairs, and from which id on faces are new.
+/// What is required of the pairs, and to which depth.
 #[derive(Clone, Copy)]
 struct Terms<'a> {
-    moves: &'a [Move],
     touch: Touch,
     together: &'a [VertexId],
-    fresh_from: u32,
     depth: u8,
 }
 
 /// The first pair of an edge that is not as required. An edge that is a side of a touched face is tested with all faces,
 /// and any other one with the touched faces only.
 fn first_of_edge<S: Surface>(
-    mesh: &S,
+    paths: &Moved<S>,
     t: Terms,
     faces: &[MovingFace],
     touched: &[MovingFace],
+    fresh_from: u32,
     a: VertexId,
     b: VertexId,
 ) -> Option<PairName>
     requires depth { t.depth ≤ DEPTH_MAX }
-    requires fits { All MoveFits t.moves.now }
-    requires clear { IsClearWhereUntouched (S.mesh mesh.now) t.moves.now t.fresh_from }
-    requires faces { faces.now ≡ moving_faces (S.mesh mesh.now) t.moves.now t.together.now t.fresh_from }
-    requires touched { touched.now ≡ filter (λ f. f.touched) faces.now }
+    requires clear { IsClearWhereUntouched (S.mesh paths.now.mesh.now) paths.now.moves.now fresh_from }
+    requires faces { faces.now ≡ faces_by (S.mesh paths.now.mesh.now) paths.now.moves.now }
+    requires touched { touched.now ≡ touched_among paths.now.moves.now t.together.now fresh_from faces.now }
     requires ordered { a < b }
-    requires edge { IsEdge (S.mesh mesh.now) a b }
-    ensures { result ≡ first_of (scaffold_by (S.mesh mesh.now) t.entry.moves.now t.entry.touch t.entry.together.now) t.entry.depth (pairs_of (S.mesh mesh.now) (a, b)) }
+    requires edge { IsEdge (S.mesh paths.now.mesh.now) a b }
+    ensures { result ≡ first_of_edge (S.mesh paths.now.mesh.now) paths.now.moves.now t.entry (a, b) }
 {
-    let e = moving_edge(mesh, t.moves, a, b);
+    let e = moving_edge(paths, a, b);
     if is_side_of_some(a, b, touched) {
-        first_lacking_among(t.touch, t.together, t.depth, &e, faces)
+        first_failing_among(t.touch, t.together, t.depth, &e, faces)
     } else {
-        first_lacking_among(t.touch, t.together, t.depth, &e, touched)
+        first_failing_among(t.touch, t.together, t.depth, &e, touched)
     }
 }
 
@@ -62,7 +61,8 @@ fn first_of_edge<S: Surface>(
 /// but at the start, or the end, where two may touch there.
 ///
 /// Faces from the id `fresh_from` on are new. Pairs of an old edge and an old face, of which no vertex moves, need not be
-/// tested: they are not to meet where they stand. Refuses only where there is no memory. After the test of edits in El Topo (Brochu and Bridson 2009).
+/// tested: they are not to meet where they stand. Refuses only where there is no memory. After the test of edits in El Topo
+/// (Brochu and Bridson 2009).
 pub fn check<S: Surface>(
     alloc: Global,
     mesh: &S,
@@ -80,17 +80,17 @@ pub fn check<S: Surface>(
     ensures clear { IfOk result (λ found. IsNone found → IsClearBut touch (S.mesh mesh.now) (motion_by (S.mesh mesh.now) moves.now)) }
 {
     let t = Terms {
-        moves,
         touch,
         together,
-        fresh_from,
         depth,
     };
-    let faces = moving_faces(alloc, mesh, moves, together, fresh_from)?;
-    let touched = touched_of(alloc, faces.as_slice())?;
+    let paths = Moved { mesh, moves };
+    let faces = moving_faces(alloc, mesh, &paths)?;
+    let touched = touched_of(alloc, moves, together, fresh_from, faces.as_slice())?;
     let edges = edges_in_order(alloc, mesh)?;
     for (a, b) in edges.as_slice() {
-        if let Some(found) = first_of_edge(mesh, t, faces.as_slice(), touched.as_slice(), *a, *b) {
+        let (all, new) = (faces.as_slice(), touched.as_slice());
+        if let Some(found) = first_of_edge(&paths, t, all, new, fresh_from, *a, *b) {
             return Ok(Some(found));
         }
     }

@@ -2,9 +2,10 @@
 #![tactic(auto)]
 
 mod checking;
-mod lacking;
+mod failing;
 pub mod laws;
-mod moving;
+mod moves;
+mod touched;
 
 pub use checking::{check, check_still};
 pub use edit_base::{Move, Touch};

@@ -12,8 +12,8 @@ use Rattle.edit_base.specs.declared.scaffold.Touch.TheVariants.{End}
 use Rattle.mesh_base.specs.Mesh.{Mesh, equal_up_to_rotation}
 use Rattle.mesh_base.specs.Sides.{has_corner, faces_where, faces_at}
 use Rattle.mesh_base.specs.Changes.{without_vertex, with_point}
-use Rattle.mesh_base.specs.Placements.{own_points_doubled}
-use Rattle.edit_base.specs.Edges.{point_of, floor_mid, corners_from, without_faces, with_all_renamed}
+use Rattle.mesh_base.specs.Placements.{own_points_doubled, point_of}
+use Rattle.edit_base.specs.Edges.{floor_mid, corners_from, without_faces, with_all_renamed}
 use Rattle.edit_base.specs.Scaffold.{Scaffold}
 
 -- First act: the faces that hold both are dropped.

@@ -17,11 +17,10 @@ ghost use Rattle.edit_collapse.specs.Tried.{answer_of, left_at, MayBeTried};
 
 use crate::cancelling::LeftFaces;
 use crate::joining::{is_doubled, is_over, left_at, put_collapse};
-use edit_acts::{doubled, point_of};
 use edit_base::{Change, Edit, Move, Touch, Why, is_edge};
 use edit_check::check;
 use grid_base::{DEPTH_MAX, NoMemory, Point, Wide, floor_mid};
-use mesh_base::{PairName, Surface, VertexId};
+use mesh_base::{PairName, Surface, VertexId, point_of};
 use std::alloc::Global;
 
 /// Where the two ends go: the midpoint, each component rounded down.
@@ -39,7 +38,7 @@ fn move_to<S: Surface>(mesh: &S, v: VertexId, end: Wide) -> Move
 {
     Move {
         v,
-        start: doubled(point_of(mesh, v)),
+        start: point_of(mesh, v).doubled(),
         end,
     }
 }
@@ -57,7 +56,7 @@ fn first_hit<S: Surface>(
     requires depth { depth ≤ DEPTH_MAX }
     ensures { IfOk result (λ found. found ≡ first_lacking meets_exactly (collapse_scaffold (S.mesh mesh.now) a b at) depth) }
 {
-    let end = doubled(at);
+    let end = at.doubled();
     let first = move_to(mesh, a, end);
     let second = move_to(mesh, b, end);
     check(

@@ -9,13 +9,13 @@ use Rattle.grid_base.specs.Triples.{Triple, IsWithin, plus}
 use Rattle.grid_base.proofs.PointLaws.{point_at-position_of}
 use Rattle.mesh_base.specs.declared.ids.Corners.{Corners}
 use Rattle.mesh_base.specs.Mesh.{Mesh, IsSound, HasCorners}
-use Rattle.mesh_base.specs.Placements.{own_points}
-use Rattle.edit_base.specs.Edges.{corners_at, point_of}
+use Rattle.mesh_base.specs.Placements.{own_points, point_of}
+use Rattle.edit_base.specs.Edges.{corners_at}
 use Rattle.edit_pinch.specs.Pinch.{divided, fan_shift, fan_point}
 use Rattle.edit_base.proofs.Chains.{Has}
 use Rattle.edit_pinch.proofs.FanBalance.{corners_there}
 use Rattle.edit_pinch.proofs.FanPoint.{shift_within}
-use Rattle.edit_acts.proofs.PointOf.{position_of-point_of}
+use Rattle.mesh_base.proofs.PointOf.{position_of-point_of}
 use Rattle.edit_pinch.specs.Rims.{found_rim, ways, AreLiveFaces}
 use Rattle.edit_pinch.proofs.RimLaws.{rim_ways, rim_length}
 

@@ -9,14 +9,13 @@ use Rattle.grid_base.specs.Points.{position_of}
 use Rattle.grid_base.specs.Triples.{Triple, IsWithin, times}
 use Rattle.mesh_base.specs.Mesh.{Mesh, IsSound}
 use Rattle.mesh_base.specs.Changes.{with_point}
-use Rattle.mesh_base.specs.Placements.{own_points_doubled, IsClearMesh}
+use Rattle.mesh_base.specs.Placements.{own_points_doubled, IsClearMesh, point_of}
 use Rattle.edit_base.specs.declared.answers.CopyAt.{CopyAt}
 use Rattle.edit_base.specs.declared.scaffold.Move.{Move}
 use Rattle.edit_base.specs.declared.scaffold.Touch.TheVariants.{Start}
-use Rattle.edit_base.specs.Edges.{point_of}
 use Rattle.edit_pinch.specs.Pinch.{fans, with_copy, copy_points, first_point, later_copies, pinch_scaffold}
 use Rattle.edit_base.specs.Scaffold.{Scaffold}
-use Rattle.edit_acts.proofs.PointOf.{position_of-point_of}
+use Rattle.mesh_base.proofs.PointOf.{position_of-point_of}
 use Rattle.edit_check.specs.Untouched.{IsClearWhereUntouched, MoveFits}
 use Rattle.edit_pinch.proofs.PinchPremise.{pinch_may_be_checked}
 use Rattle.edit_pinch.specs.Tried.{move_to, moves_from, vertex_and_copies}

@@ -16,11 +16,10 @@ ghost use Rattle.edit_pinch.specs.Tried.{MayBeTried, moves_from, vertex_and_copi
 use crate::fans::{Fan, fans};
 use crate::making::{is_over, put_pinch};
 use crate::shifting::{copies_for, fan_point};
-use edit_acts::{doubled, point_of};
 use edit_base::{Change, CopyAt, Edit, Move, Touch, Why};
 use edit_check::check;
 use grid_base::{DEPTH_MAX, Items, NoMemory, Point, Wide};
-use mesh_base::{PairName, Surface, VertexId};
+use mesh_base::{PairName, Surface, VertexId, point_of};
 use std::alloc::Global;
 
 /// The ways of a vertex and its copies from where it stands, in half units.
@@ -38,13 +37,13 @@ fn moves_of(
     moves.push(Move {
         v,
         start: here,
-        end: doubled(at),
+        end: at.doubled(),
     })?;
     for copy in copies {
         moves.push(Move {
             v: copy.w,
             start: here,
-            end: doubled(copy.at),
+            end: copy.at.doubled(),
         })?;
     }
     Ok(moves)
@@ -86,7 +85,7 @@ fn put_and_check<S: Surface>(
     ensures marks { BeginsWith (S.kept mesh.new) (S.kept mesh.old) }
 {
     let fresh_from = mesh.next_face();
-    let here = doubled(point_of(mesh, v));
+    let here = point_of(mesh, v).doubled();
     let moves = moves_of(alloc, here, v, at, copies)?;
     let together = together_of(alloc, v, copies)?;
     put_pinch(mesh, v, at, others, copies)?;

@@ -9,10 +9,10 @@ ghost use Rattle.edit_pinch.specs.Pinch.{fan_point, divided};
 ghost use Rattle.edit_pinch.specs.Rims.{with_other, with_corners, found_rim, ways, AreLiveFaces};
 
 use crate::fans::Fan;
-use edit_acts::{corners_at, point_of};
+use edit_acts::corners_at;
 use edit_base::{Copies, CopyAt};
 use grid_base::{BOX, ID_MAX, Items, NoMemory, Point, Wide};
-use mesh_base::{FaceId, Surface, VertexId};
+use mesh_base::{FaceId, Surface, VertexId, point_of};
 use std::alloc::Global;
 
 /// Puts a vertex at the end of a list, unless it is `v` or is there.

@@ -8,7 +8,8 @@ use Rattle.edit_base.specs.declared.scaffold.Touch.TheVariants.{Never}
 use Rattle.mesh_base.specs.declared.ids.Corners.{Corners}
 use Rattle.mesh_base.specs.Mesh.{Mesh}
 use Rattle.mesh_base.specs.Changes.{with_vertex}
-use Rattle.edit_base.specs.Edges.{Edge, point_of, floor_mid, exact_mid, corners_from, without_faces, with_faces}
+use Rattle.edit_base.specs.Edges.{Edge, floor_mid, exact_mid, corners_from, without_faces, with_faces}
+use Rattle.mesh_base.specs.Placements.{point_of}
 use Rattle.edit_base.specs.Required.{are_over}
 use Rattle.edit_base.specs.Scaffold.{Scaffold}
 

@@ -8,10 +8,10 @@ ghost use Rattle.edit_base.specs.Edges.{Edge};
 ghost use Rattle.edit_split.specs.Split.{split_mesh, split_is_over, split_point};
 ghost use Rattle.edit_base.specs.Required.{HasEdge};
 
-use edit_acts::{are_over, make_faces, make_vertex, point_of};
+use edit_acts::{are_over, make_faces, make_vertex};
 use edit_base::EdgeFaces;
 use grid_base::{NoMemory, Point, floor_mid};
-use mesh_base::Surface;
+use mesh_base::{Surface, point_of};
 
 /// Where the new vertex of a split is put: the midpoint, each component rounded down.
 pub fn split_point<S: Surface>(mesh: &S, e: &EdgeFaces) -> Point

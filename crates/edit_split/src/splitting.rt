@@ -13,7 +13,7 @@ ghost use Rattle.edit_split.specs.Done.{split_result, split_tested_on};
 ghost use Rattle.edit_split.specs.Tried.{MayBeTried};
 
 use crate::acts::{is_split_over, put_split, split_point};
-use edit_acts::{doubled, exact_mid};
+use edit_acts::exact_mid;
 use edit_base::{Change, EdgeFaces, Edit, Move, Touch, Why, edge_beside, is_crowded};
 use edit_check::check;
 use grid_base::{DEPTH_MAX, NoMemory, Point};
@@ -63,7 +63,7 @@ fn put_and_check<S: Surface>(
     let way = Move {
         v: VertexId(mesh.next_vertex()),
         start: exact_mid(mesh, e.a, e.b),
-        end: doubled(at),
+        end: at.doubled(),
     };
     put_split(mesh, e, at)?;
     check(alloc, mesh, &[way], Touch::Never, &[], fresh_from, depth)

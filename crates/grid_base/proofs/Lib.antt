@@ -7,3 +7,4 @@ pub mod MeetingLaws
 pub mod SeparationLaws
 pub mod Reflected
 pub mod ExtentReading
+pub mod Boxed

@@ -15,7 +15,33 @@ pub struct Extent {
 }
 
 impl Extent {
-    ghost use Rattle.grid_base.specs.Extents.{overlaps};
+    ghost use Rattle.grid_base.specs.declared.TheConstants.{EXTENT_MAX};
+    ghost use Rattle.grid_base.specs.Triples.{Triple, IsWithin};
+    ghost use Rattle.grid_base.specs.Extents.{IsIn, overlaps};
+
+    /// The box of two positions.
+    pub fn around(a: Wide, b: Wide) -> Extent
+        requires a_fits { IsWithin EXTENT_MAX a }
+        requires b_fits { IsWithin EXTENT_MAX b }
+        ensures first { IsIn result a }
+        ensures second { IsIn result b }
+    {
+        Extent {
+            low: lower(a, b),
+            high: upper(a, b),
+        }
+    }
+
+    /// A box that has both.
+    pub fn united(&self, other: &Extent) -> Extent
+        ensures first { (p : Triple) → IsIn self.now p → IsIn result p }
+        ensures second { (p : Triple) → IsIn other.now p → IsIn result p }
+    {
+        Extent {
+            low: lower(self.low, other.low),
+            high: upper(self.high, other.high),
+        }
+    }
 
     /// Whether the two have a common point.
     pub fn overlaps(&self, other: &Extent) -> bool
@@ -33,5 +59,7 @@ impl Extent {
 }
 
 mod along;
+mod corners;
 
 use along::meet_along;
+use corners::{lower, upper};

@@ -1,8 +1,8 @@
-ghost use Rattle.std.specs.Prelude.{◌≡◌, ◌↔◌, IfSome, IsSome};
-ghost use Rattle.grid_base.specs.declared.TheConstants.{BOX, SHIFT_MAX};
+ghost use Rattle.std.specs.Prelude.{◌≡◌, ◌↔◌, ◌≤◌, ◌*ℤ◌, pos, unsigned_abs, IfSome, IsSome};
+ghost use Rattle.grid_base.specs.declared.TheConstants.{BOX, HALF_MAX, SHIFT_MAX};
 ghost use Rattle.grid_base.specs.Components.{FitWithin};
 
-use crate::{BOX, SHIFT_MAX};
+use crate::{BOX, SHIFT_MAX, Wide};
 
 /// A point of the grid, inside the box.
 #[derive(Clone, Copy, Debug, PartialEq, Eq, PartialOrd, Ord)]
@@ -14,6 +14,9 @@ pub struct Point {
 }
 
 impl Point {
+    ghost use Rattle.grid_base.specs.Points.{position_of};
+    ghost use Rattle.grid_base.specs.Triples.{IsWithin, times};
+
     /// The point at these coordinates, in grid units; None where a size is above `BOX`.
     pub fn new(x: i32, y: i32, z: i32) -> Option<Point>
         ensures made { IfSome result (λ p. (p.x ≡ x) × (p.y ≡ y) × (p.z ≡ z)) }
@@ -25,6 +28,39 @@ impl Point {
             None
         }
     }
+
+    /// Where the point stands.
+    pub fn wide(self) -> Wide
+        ensures value { result ≡ position_of self }
+        ensures within { IsWithin HALF_MAX result }
+    {
+        Wide {
+            x: i128::from(self.x),
+            y: i128::from(self.y),
+            z: i128::from(self.z),
+        }
+    }
+
+    /// Where the point stands, in half units.
+    pub fn doubled(self) -> Wide
+        ensures value { result ≡ times 2 (position_of self) }
+        ensures within { IsWithin HALF_MAX result }
+    {
+        Wide {
+            x: twice(self.x),
+            y: twice(self.y),
+            z: twice(self.z),
+        }
+    }
+}
+
+// Twice a coordinate.
+fn twice(a: i32) -> i128
+    requires { unsigned_abs a ≤ BOX }
+    ensures value { result ≡ pos 2 *ℤ a }
+    ensures within { unsigned_abs result ≤ HALF_MAX }
+{
+    i128::from(2 * a)
 }
 
 /// A shift of a point, in grid units.

@@ -13,3 +13,4 @@ pub mod MovesNamed
 pub mod KeysKept
 pub mod InOrder
 pub mod EdgesInOrder
+pub mod PointOf

@@ -7,7 +7,7 @@ use Rattle.grid_base.specs.Triples.{Triple, times}
 use Rattle.grid_base.specs.declared.Positions.{Positions}
 use Rattle.grid_base.specs.Meeting.{MeetAt}
 use Rattle.grid_base.specs.Motion.{position_at}
-use Rattle.grid_base.specs.Points.{position_of}
+use Rattle.grid_base.specs.Points.{position_of, point_at}
 use Rattle.mesh_base.specs.Mesh.{Mesh}
 use Rattle.mesh_base.specs.Pairs.{Pair, IsPair}
 
@@ -31,7 +31,11 @@ position_or_origin None = origin
 abbrev pub own_points : Mesh → Placement
 own_points m v = position_or_origin (finite.get m.points v)
 
--- the same in half units
+-- the point where a vertex stands, and the origin where it is not live
+abbrev pub point_of : Mesh → ℕ → Point
+point_of m v = point_at (own_points m v)
+
+-- the same places in half units
 abbrev pub own_points_doubled : Mesh → Placement
 own_points_doubled m v = times 2 (own_points m v)
 

@@ -1,5 +1,5 @@
 -- The pairs that do not pass, edge by edge; and where there is none, the motion is clear.
-use Rattle.std.proofs.Common.{◌≡◌, ◌↔◌, inl, ℕ, Bool, true, false, cond, ◌&&◌, ◌||◌, not, [], Some, None, refl, sym, ap, ◌∙◌, IsTrue}
+use Rattle.std.proofs.Common.{◌≡◌, ◌↔◌, ℕ, Bool, true, false, cond, ◌&&◌, ◌||◌, not, [], Some, None, refl, sym, ap, ◌∙◌, IsTrue}
 use Rattle.std.specs.List.{flat_map}
 use Rattle.std.specs.FinMap as finite
 use Rattle.std.proofs.lemmas.Bool.{false≢true}
@@ -18,54 +18,46 @@ use Rattle.mesh_base.specs.Failing.{failing, pair_passes}
 use Rattle.mesh_base.specs.Mesh.{Mesh, IsSound}
 use Rattle.mesh_base.specs.Pairs.{Pair, edges, pairs, pairs_of}
 use Rattle.mesh_base.specs.Placements.{positions, IsClearAlong}
-use Rattle.mesh_base.specs.Shifts.{Shifts, moved_by, end_in_box}
+use Rattle.mesh_base.specs.Shifts.{Shifts, moved_by}
 use Rattle.mesh_base.specs.Sides.{has_corner}
 use Rattle.mesh_base.proofs.ListedPairs.{pair_listed}
 use Rattle.mesh_base.proofs.Tests.{both_ways}
-use Rattle.pair_scan.specs.declared.moving.MovingEdge.{MovingEdge}
-use Rattle.pair_scan.specs.declared.moving.MovingFace.{MovingFace}
-use Rattle.pair_scan.specs.Failed.{starts, ends, failed, failing_of}
-use Rattle.pair_scan.specs.Moving.{moving, moving_faces, moving_edge}
-use Rattle.pair_scan.specs.Scan.{name_with, one_or_none}
-use Rattle.pair_scan.specs.Swept.{HoldsMovingEdge, HoldsMovingFace}
-use Rattle.pair_scan.proofs.Apart.{separated}
+use Rattle.pair_paths.specs.declared.MovingEdge.{MovingEdge}
+use Rattle.pair_paths.specs.declared.MovingFace.{MovingFace}
+use Rattle.pair_paths.specs.Bounds.{HoldsEdge, HoldsFace}
+use Rattle.pair_paths.specs.Moving.{moving_edge, moving_face, moving_faces}
+use Rattle.pair_paths.specs.Pairing.{have_a_vertex_in_common, name_with, starts, ends}
+use Rattle.pair_paths.proofs.Apart.{passes_apart, starts_held, ends_held}
+use Rattle.pair_scan.specs.Failed.{failed, failing_of, failing_among}
+use Rattle.pair_scan.specs.Scan.{one_or_none}
 use Rattle.pair_scan.proofs.Kept.{kept_by_list, kept_of_taken, nothing_kept}
-use Rattle.pair_scan.proofs.Scans.{and_false, position}
-use Rattle.pair_scan.proofs.Paths.{end_position}
+use Rattle.pair_scan.proofs.Scans.{and_false}
 
 -- a test that is true exactly where the pair passes is the written test
 pub is_passes : (b : Bool) (depth : ℕ) (s t : Positions) → (IsTrue b ↔ Passes depth s t) → b ≡ passes meets_exactly depth s t
 is_passes b depth s t h = both_ways b (passes meets_exactly depth s t) (λ e. of_passes meets_exactly meets_exactly-is_exact depth s t (h.0 e)) (λ e. h.1 (passes_of meets_exactly meets_exactly-is_exact depth s t e))
 
 -- ---- a pair whose boxes are apart passes
-pub passed_apart : (depth : ℕ) (e : MovingEdge) (f : MovingFace) (its edge : Extent) → HoldsMovingEdge e edge → HoldsMovingFace f its → overlaps its edge ≡ false → failed depth e (Some f) ≡ []
+pub passed_apart : (depth : ℕ) (e : MovingEdge) (f : MovingFace) (its edge : Extent) → HoldsEdge e edge → HoldsFace f its → overlaps its edge ≡ false → failed depth e (Some f) ≡ []
 passed_apart depth e f its edge E F off =
-    let pass = of_passes meets_exactly meets_exactly-is_exact depth (starts e f) (ends e f) (inl (separated depth edge its (starts e f) (ends e f)
-    (record { a = E.first.from; b = E.second.from; c = F.c.from; d = F.d.from; e = F.e.from })
-    (record { a = E.first.to; b = E.second.to; c = F.c.to; d = F.d.to; e = F.e.to }) off)) in
-    nothing (not (has_corner f.corners e.a || has_corner f.corners e.b)) (passes meets_exactly depth (starts e f) (ends e f)) pass
+    let pass = of_passes meets_exactly meets_exactly-is_exact depth (starts e f) (ends e f)
+    (passes_apart depth edge its (starts e f) (ends e f) (starts_held e f edge its E F) (ends_held e f edge its E F) off) in
+    nothing (not (have_a_vertex_in_common e f)) (passes meets_exactly depth (starts e f) (ends e f)) pass
   where
-    nothing : (other passed : Bool) → passed ≡ true → one_or_none (cond (other && not passed) (Some (name_with e.a e.b f.face)) None) ≡ []
-    nothing other passed p = ap (λ b. one_or_none (cond (other && not b) (Some (name_with e.a e.b f.face)) None)) p ∙ ap (λ b. one_or_none (cond b (Some (name_with e.a e.b f.face)) None)) (and_false other)
+    nothing : (other passed : Bool) → passed ≡ true → one_or_none (cond (other && not passed) (Some (name_with e f)) None) ≡ []
+    nothing other passed p = ap (λ b. one_or_none (cond (other && not b) (Some (name_with e f)) None)) p ∙ ap (λ b. one_or_none (cond b (Some (name_with e f)) None)) (and_false other)
 
 -- ---- the pairs of an edge
-module _ (m : Mesh) (by : Shifts) (in_box : end_in_box m by ≡ true) where
-  starts_placed : (a b : ℕ) (f : ℕ × Corners) → starts (moving_edge m by a b) (moving m by f) ≡ positions (moved_by m by).start (record { name = name_with a b f.0; corners = f.1 })
-  starts_placed a b f = λ i. record { a = position m a i; b = position m b i; c = position m f.1.first i; d = position m f.1.second i; e = position m f.1.third i }
-
-  ends_placed : (a b : ℕ) (f : ℕ × Corners) → ends (moving_edge m by a b) (moving m by f) ≡ positions (moved_by m by).end (record { name = name_with a b f.0; corners = f.1 })
-  ends_placed a b f = λ i. record { a = end_position m by a in_box i; b = end_position m by b in_box i; c = end_position m by f.1.first in_box i; d = end_position m by f.1.second in_box i; e = end_position m by f.1.third in_box i }
-
-  pub of_edge : (depth a b : ℕ) → flat_map (λ f. failed depth (moving_edge m by a b) (Some f)) (moving_faces m by) ≡ failing_of m by depth (pairs_of m (a, b))
-  of_edge depth a b =
-      let es = finite.entries m.faces in
-      let pair : ℕ × Corners → Pair = λ f. record { name = name_with a b f.0; corners = f.1 } in
-      let apart : ℕ × Corners → Bool = λ f. not (has_corner f.1 a || has_corner f.1 b) in
-      let fails : Pair → Bool = λ p. not (pair_passes meets_exactly depth (moved_by m by) p) in
-      flat_map-map (λ f. failed depth (moving_edge m by a b) (Some f)) (moving m by) es
-      ∙ kept_of_taken apart pair fails (λ p. p.name) (λ f. failed depth (moving_edge m by a b) (Some (moving m by f)))
-      (λ f. ap (λ s. one_or_none (cond (apart f && not (passes meets_exactly depth s (ends (moving_edge m by a b) (moving m by f)))) (Some (name_with a b f.0)) None)) (starts_placed a b f)
-      ∙ ap (λ t. one_or_none (cond (apart f && not (passes meets_exactly depth (positions (moved_by m by).start (pair f)) t)) (Some (name_with a b f.0)) None)) (ends_placed a b f)) es
+pub of_edge : (m : Mesh) (by : Shifts) (depth a b : ℕ) → let w = moved_by m by in failing_among depth (moving_edge w a b) (moving_faces m w) ≡ failing_of m by depth (pairs_of m (a, b))
+of_edge m by depth a b =
+    let w = moved_by m by in
+    let e = moving_edge w a b in
+    let es = finite.entries m.faces in
+    let pair : ℕ × Corners → Pair = λ f. record { name = record { a = a; b = b; face = f.0 }; corners = f.1 } in
+    let apart : ℕ × Corners → Bool = λ f. not (has_corner f.1 a || has_corner f.1 b) in
+    let fails : Pair → Bool = λ p. not (pair_passes meets_exactly depth w p) in
+    flat_map-map (λ f. failed depth e (Some f)) (moving_face w) es
+    ∙ kept_of_taken apart pair fails (λ p. p.name) (λ f. failed depth e (Some (moving_face w f))) (λ f. refl) es
 
 -- all pairs, edge by edge
 pub by_edges : (m : Mesh) (by : Shifts) (depth : ℕ) → flat_map (λ e. failing_of m by depth (pairs_of m e)) (edges m) ≡ failing meets_exactly m by depth

@@ -1,14 +1,9 @@
 pub mod Lists
-pub mod Faces
 pub mod Scans
 pub mod Clear
-pub mod Boxed
-pub mod Numbered
-pub mod Apart
 pub mod Near
 pub mod ShiftSearch
 pub mod Paths
-pub mod Widened
 pub mod Kept
 pub mod Fails
 pub mod InOrder

@@ -1,9 +1,9 @@
--- What is found in lists made of lists, and walks over them.
-use Rattle.std.proofs.Common.{◌≡◌, ℕ, zero, suc, ◌+◌, ◌<◌, ◌≤◌, Bool, true, false, cond, ◌&&◌, List, [], ◌∷◌, ◌++◌, map, length, get_or, drop, Option, Some, None, refl, sym, ap, ◌∙◌, append-nil, append_assoc, add-one, arith}
+-- What is found in lists made of lists.
+use Rattle.std.proofs.Common.{◌≡◌, ℕ, ◌+◌, ◌<◌, ◌≤◌, Bool, true, false, cond, ◌&&◌, List, [], ◌∷◌, ◌++◌, map, length, get_or, drop, Option, Some, None, refl, ap, ◌∙◌}
 use Rattle.std.specs.List.{filter, flat_map, find}
 use Rattle.std.specs.Option.{option_map, option_or}
-use Rattle.std.proofs.Math.Seq.{drop-cons}
 use Rattle.std.proofs.lemmas.List.Folds.{find-append}
+pub use Rattle.pair_paths.proofs.Walks.{rest_at, ended, made_all, made_more, each_once}
 
 -- ---- the first that passes
 pub find-map : {X Y : Type 0} (p : Y → Bool) (f : X → Y) (xs : List X) → find p (map f xs) ≡ option_map f (find (λ x. p (f x)) xs)
@@ -32,16 +32,6 @@ option_map-option_or : {X Y : Type 0} (f : X → Y) (o r : Option X) → option_
 option_map-option_or f None r = refl
 option_map-option_or f (Some x) r = refl
 
--- ---- a walk over a list
-pub rest_at : {X : Type 0} (xs : List X) (i : ℕ) (d : X) → i < length xs → drop i xs ≡ get_or xs i d ∷ drop (i + 1) xs
-rest_at xs i d h = rw add-one (drop-cons xs i d h)
-
-pub ended : {X : Type 0} (xs : List X) (i : ℕ) → length xs ≤ i → drop i xs ≡ []
-ended [] zero h = refl
-ended [] (suc i) h = refl
-ended (x ∷ xs) zero h = absurd (omega arith)
-ended (x ∷ xs) (suc i) h = ended xs i (omega arith)
-
 -- the name of the first that passes, in a list made of lists
 module _ {X Y Z : Type 0} (name : Y → Z) (p : Y → Bool) (f : X → List Y) where
   abbrev pub first_in : List Y → Option Z
@@ -61,20 +51,3 @@ module _ {X Y Z : Type 0} (name : Y → Z) (p : Y → Bool) (f : X → List Y) w
 
   pub first_ended : (xs : List X) (i : ℕ) → length xs ≤ i → first_in (flat_map f (drop i xs)) ≡ None
   first_ended xs i h = ap (λ zs. first_in (flat_map f zs)) (ended xs i h)
-
--- what is made at the end
-pub made_all : {X Y : Type 0} (f : X → List Y) (xs : List X) (i : ℕ) (made : List Y) → length xs ≤ i → made ++ flat_map f (drop i xs) ≡ made
-made_all f xs i made h = ap (λ zs. made ++ flat_map f zs) (ended xs i h) ∙ append-nil made
-
--- what is made after one more
-pub made_more : {X Y : Type 0} (f : X → List Y) (xs : List X) (i : ℕ) (d : X) (made more all : List Y) → i < length xs → more ≡ made ++ f (get_or xs i d) → made ++ flat_map f (drop i xs) ≡ all → more ++ flat_map f (drop (i + 1) xs) ≡ all
-made_more f xs i d made more all inside one before =
-    ap (λ ys. ys ++ flat_map f (drop (i + 1) xs)) one
-    ∙ append_assoc made (f (get_or xs i d)) (flat_map f (drop (i + 1) xs))
-    ∙ ap (λ zs. made ++ flat_map f zs) (sym (rest_at xs i d inside))
-    ∙ before
-
--- a list is made of its items, one by one
-pub each_once : {X : Type 0} (xs : List X) → flat_map (λ x. x ∷ []) xs ≡ xs
-each_once [] = refl
-each_once (x ∷ xs) = ap (λ ys. x ∷ ys) (each_once xs)

@@ -9,7 +9,7 @@ use Rattle.std.specs.FinMap.{entries_sorted}
 use Rattle.std.proofs.lemmas.Bool.{eqb-true}
 use Rattle.grid_base.specs.declared.TheConstants.{BOX}
 use Rattle.grid_base.specs.Triples.{plus}
-use Rattle.grid_base.specs.Points.{position_of, displacement_of, is_within}
+use Rattle.grid_base.specs.Points.{position_of, displacement_of, is_within, point_at}
 use Rattle.grid_base.proofs.PointLaws.{position_of-point_at, within_of, of_within}
 use Rattle.mesh_base.specs.declared.steps.ShiftOf.{ShiftOf}
 use Rattle.mesh_base.specs.Mesh.{Mesh}
@@ -17,7 +17,6 @@ use Rattle.mesh_base.specs.Placements.{origin, own_points}
 use Rattle.mesh_base.specs.Shifts.{Shifts, NameLive, shift_at, end_in_box}
 use Rattle.mesh_base.proofs.Moves.{plus-origin, own_within, both_true}
 use Rattle.mesh_base.proofs.InOrder.{keys_sorted}
-use Rattle.pair_scan.specs.Moving.{end_at}
 
 -- ---- the ids of the shifts rise
 pub ids_sorted : (m : Mesh) (by : Shifts) → NameLive m by → IsStrictlySortedBy nat_cmp (map (λ s. s.v) by)
@@ -44,5 +43,5 @@ shifted_within m (s ∷ by) v h =
     by_test here rest false e = rest
 
 -- a vertex ends where its motion does
-pub end_position : (m : Mesh) (by : Shifts) (v : ℕ) → end_in_box m by ≡ true → position_of (end_at m by v) ≡ plus (own_points m v) (shift_at by v)
+pub end_position : (m : Mesh) (by : Shifts) (v : ℕ) → end_in_box m by ≡ true → position_of (point_at (plus (own_points m v) (shift_at by v))) ≡ plus (own_points m v) (shift_at by v)
 end_position m by v h = position_of-point_at (plus (own_points m v) (shift_at by v)) (within_of BOX (plus (own_points m v) (shift_at by v)) (shifted_within m by v h))

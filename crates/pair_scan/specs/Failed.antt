@@ -1,10 +1,8 @@
 -- A test of an edge that moves against faces that move.
-use Rattle.std.specs.Prelude.{ℕ, Bool, cond, ◌↔◌, ◌||◌, ◌&&◌, not, List, map}
-use Rattle.std.specs.List.{filter, Contains}
+use Rattle.std.specs.Prelude.{ℕ, Bool, cond, ◌↔◌, ◌&&◌, not, List, map, slice_get}
+use Rattle.std.specs.List.{filter, flat_map, Contains}
 use Rattle.std.specs.List.Sorted.{IsStrictlySortedBy}
 use Rattle.std.proofs.Common.{Option, Some, None}
-use Rattle.grid_base.specs.Points.{position_of}
-use Rattle.grid_base.specs.declared.Positions.{Positions}
 use Rattle.grid_base.specs.Separation.{Passes}
 use Rattle.grid_base.specs.SeparationTests.{passes}
 use Rattle.grid_decided.specs.Decided.{meets_exactly}
@@ -15,31 +13,31 @@ use Rattle.mesh_base.specs.Mesh.{Mesh}
 use Rattle.mesh_base.specs.Placements.{Motion, positions}
 use Rattle.mesh_base.specs.Pairs.{Pair, IsPair, name_cmp}
 use Rattle.mesh_base.specs.Shifts.{Shifts, moved_by}
-use Rattle.mesh_base.specs.Sides.{has_corner}
-use Rattle.pair_scan.specs.declared.moving.MovingEdge.{MovingEdge}
-use Rattle.pair_scan.specs.declared.moving.MovingFace.{MovingFace}
-use Rattle.pair_scan.specs.Scan.{name_with, one_or_none}
-
--- where the edge and the face begin
-abbrev pub starts : MovingEdge → MovingFace → Positions
-starts e f = record { a = position_of e.first.from; b = position_of e.second.from; c = position_of f.c.from; d = position_of f.d.from; e = position_of f.e.from }
-
--- where they end
-abbrev pub ends : MovingEdge → MovingFace → Positions
-ends e f = record { a = position_of e.first.to; b = position_of e.second.to; c = position_of f.c.to; d = position_of f.d.to; e = position_of f.e.to }
+use Rattle.pair_paths.specs.declared.MovingEdge.{MovingEdge}
+use Rattle.pair_paths.specs.declared.MovingFace.{MovingFace}
+use Rattle.pair_paths.specs.Pairing.{have_a_vertex_in_common, name_with, starts, ends}
+use Rattle.pair_scan.specs.Scan.{one_or_none}
 
 -- whether the edge and the face are a pair and do not pass
 abbrev pub fails_with : ℕ → MovingEdge → MovingFace → Bool
-fails_with depth e f = not (has_corner f.corners e.a || has_corner f.corners e.b) && not (passes meets_exactly depth (starts e f) (ends e f))
+fails_with depth e f = not (have_a_vertex_in_common e f) && not (passes meets_exactly depth (starts e f) (ends e f))
 
 -- the name of the edge with a face, where there is one, they are a pair, and they do not pass
 abbrev pub failed_with : ℕ → MovingEdge → Option MovingFace → Option PairName
 failed_with depth e None = None
-failed_with depth e (Some f) = cond (fails_with depth e f) (Some (name_with e.a e.b f.face)) None
+failed_with depth e (Some f) = cond (fails_with depth e f) (Some (name_with e f)) None
 
 -- the same name, in a list
 abbrev pub failed : ℕ → MovingEdge → Option MovingFace → List PairName
 failed depth e f = one_or_none (failed_with depth e f)
+
+-- the names of the edge with those of the faces at these places that it does not pass
+abbrev pub failing_at : ℕ → MovingEdge → List MovingFace → List ℕ → List PairName
+failing_at depth e faces places = flat_map (λ k. failed depth e (slice_get faces k)) places
+
+-- the same of all the faces
+abbrev pub failing_among : ℕ → MovingEdge → List MovingFace → List PairName
+failing_among depth e faces = flat_map (λ f. failed depth e (Some f)) faces
 
 -- the names of those of these pairs that do not pass
 abbrev pub failing_of : Mesh → Shifts → ℕ → List Pair → List PairName

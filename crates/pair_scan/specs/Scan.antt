@@ -1,35 +1,28 @@
 -- A test of an edge against faces.
-use Rattle.std.specs.Prelude.{◌≡◌, ℕ, Bool, cond, ◌||◌, ◌&&◌, not, List, [], ◌∷◌}
+use Rattle.std.specs.Prelude.{◌≡◌, Bool, cond, ◌&&◌, not, List, [], ◌∷◌}
 use Rattle.std.specs.List.{find}
 use Rattle.std.specs.Option.{option_map, option_or}
 use Rattle.std.specs.declared.cmp.Ordering.TheVariants.{Less}
 use Rattle.std.proofs.Common.{Option, Some, None}
-use Rattle.grid_base.specs.Points.{position_of}
 use Rattle.grid_decided.specs.Decided.{meets_exactly}
 use Rattle.mesh_base.specs.declared.ids.PairName.{PairName}
 use Rattle.mesh_base.specs.Mesh.{Mesh}
-use Rattle.mesh_base.specs.Sides.{has_corner}
 use Rattle.mesh_base.specs.declared.ids.Corners.{Corners}
 use Rattle.mesh_base.specs.Pairs.{Pair, IsPair, name_cmp}
 use Rattle.grid_base.specs.Meeting.{MeetAt}
 use Rattle.mesh_base.specs.Placements.{own_points, positions}
-use Rattle.pair_scan.specs.declared.placed.PlacedFace.{PlacedFace}
-use Rattle.pair_scan.specs.declared.placed.PlacedEdge.{PlacedEdge}
+use Rattle.pair_paths.specs.declared.MovingEdge.{MovingEdge}
+use Rattle.pair_paths.specs.declared.MovingFace.{MovingFace}
+use Rattle.pair_paths.specs.Pairing.{have_a_vertex_in_common, name_with, starts}
 
--- whether the edge and the face are a pair and meet
-abbrev pub meets_face : PlacedEdge → PlacedFace → Bool
-meets_face e f =
-    not (has_corner f.corners e.a || has_corner f.corners e.b)
-    && meets_exactly (record { a = position_of e.from; b = position_of e.to; c = position_of f.c; d = position_of f.d; e = position_of f.e })
-
--- the edge with a face
-abbrev pub name_with : ℕ → ℕ → ℕ → PairName
-name_with a b face = record { a = a; b = b; face = face }
+-- whether the edge and the face are a pair and meet where they begin
+abbrev pub meets_face : MovingEdge → MovingFace → Bool
+meets_face e f = not (have_a_vertex_in_common e f) && meets_exactly (starts e f)
 
 -- the name of the edge with a face, where there is one, they are a pair, and they meet
-abbrev pub met_with : PlacedEdge → Option PlacedFace → Option PairName
+abbrev pub met_with : MovingEdge → Option MovingFace → Option PairName
 met_with e None = None
-met_with e (Some f) = cond (meets_face e f) (Some (name_with e.a e.b f.face)) None
+met_with e (Some f) = cond (meets_face e f) (Some (name_with e f)) None
 
 -- the first answer that there is
 abbrev pub first_some : {X Y : Type 0} → (X → Option Y) → List X → Option Y

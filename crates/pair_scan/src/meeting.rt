@@ -4,46 +4,46 @@ ghost use Rattle.grid_decided.specs.Decided.{meets_exactly};
 ghost use Rattle.mesh_base.specs.Pairs.{pairs_of};
 ghost use Rattle.mesh_base.specs.Placements.{own_points, IsClearMesh};
 ghost use Rattle.mesh_base.specs.Failing.{first_meeting};
-ghost use Rattle.pair_scan.specs.Placed.{placed_faces};
-ghost use Rattle.pair_scan.specs.Boxes.{HoldsFace, AreBoxes};
+ghost use Rattle.pair_paths.specs.Bounds.{HoldsFace, AreBoxes};
+ghost use Rattle.pair_paths.specs.Moving.{moving_faces};
+ghost use Rattle.pair_paths.specs.Paths.{at_rest};
 ghost use Rattle.pair_scan.specs.Scan.{meets_face, met_with, first_some, first_of, IsMeeting, NoneMeetsBefore};
 
-use crate::boxes::box_of_edge;
-use crate::filed::boxes_of;
-use crate::placed::{PlacedEdge, PlacedFace, placed_edge, placed_faces, wide};
+use crate::motions::AtRest;
 use cell_grid::Grid;
 use grid_base::NoMemory;
 use grid_meets::meets;
 use mesh_base::{PairName, Surface, VertexId, edges_in_order};
+use pair_paths::{
+    HasBounds, MovingEdge, MovingFace, grid_of, moving_edge, moving_faces, name_of, share_a_vertex,
+    starts_of,
+};
 use std::alloc::Global;
 
 /// Whether the edge and the face are a pair and meet.
-fn meets_face(e: &PlacedEdge, f: &PlacedFace) -> bool
+fn meets_face(e: &MovingEdge, f: &MovingFace) -> bool
     ensures { result ≡ meets_face e.now f.now }
 {
-    if f.corners.has_corner(e.a) || f.corners.has_corner(e.b) {
+    if share_a_vertex(e, f) {
         return false;
     }
-    meets(wide(e.from), wide(e.to), wide(f.c), wide(f.d), wide(f.e))
+    let [a, b, c, d, third] = starts_of(e, f);
+    meets(a, b, c, d, third)
 }
 
 /// The edge with the face, where they are a pair and meet.
-fn met_with(e: &PlacedEdge, f: &PlacedFace) -> Option<PairName>
+fn met_with(e: &MovingEdge, f: &MovingFace) -> Option<PairName>
     ensures { result ≡ met_with e.now (Some f.now) }
 {
     if meets_face(e, f) {
-        Some(PairName {
-            a: e.a,
-            b: e.b,
-            face: f.face,
-        })
+        Some(name_of(e, f))
     } else {
         None
     }
 }
 
 /// The same of the face of this number.
-fn met_at(e: &PlacedEdge, faces: &[PlacedFace], k: u64) -> Option<PairName>
+fn met_at(e: &MovingEdge, faces: &[MovingFace], k: u64) -> Option<PairName>
     ensures { result ≡ met_with e.now (slice_get faces.now k) }
 {
     match faces.get(k as usize) {
@@ -53,7 +53,7 @@ fn met_at(e: &PlacedEdge, faces: &[PlacedFace], k: u64) -> Option<PairName>
 }
 
 /// The first of the faces of these numbers that the edge meets, with the edge.
-fn first_near(e: &PlacedEdge, faces: &[PlacedFace], near: &[u64]) -> Option<PairName>
+fn first_near(e: &MovingEdge, faces: &[MovingFace], near: &[u64]) -> Option<PairName>
     ensures { result ≡ first_some (λ k. met_with e.now (slice_get faces.now k)) near.now }
 {
     for k in near {
@@ -67,18 +67,18 @@ fn first_near(e: &PlacedEdge, faces: &[PlacedFace], near: &[u64]) -> Option<Pair
 /// The first pair of an edge that meets. Sets `near` to the numbers of the faces whose boxes meet the edge's.
 fn first_of_edge<S: Surface>(
     mesh: &S,
-    faces: &[PlacedFace],
+    faces: &[MovingFace],
     boxes: &Grid,
     near: &mut Vec<u64>,
     a: VertexId,
     b: VertexId,
 ) -> Result<Option<PairName>, NoMemory>
-    requires faces { faces.now ≡ placed_faces (S.mesh mesh.now) }
+    requires faces { faces.now ≡ moving_faces (S.mesh mesh.now) (at_rest (S.mesh mesh.now)) }
     requires boxes { AreBoxes HoldsFace faces.now boxes.now }
     ensures { IfOk result (λ r. r ≡ first_of (S.mesh mesh.now) (pairs_of (S.mesh mesh.now) (a, b))) }
 {
-    let e = placed_edge(mesh, a, b);
-    boxes.overlapping(box_of_edge(&e), near)?;
+    let e = moving_edge(&AtRest { mesh }, a, b);
+    boxes.overlapping(e.bounds(), near)?;
     Ok(first_near(&e, faces, near))
 }
 
@@ -91,8 +91,8 @@ pub fn first_meeting<S: Surface>(alloc: Global, mesh: &S) -> Result<Option<PairN
     ensures meets { IfOk result (λ r. IfSome r (IsMeeting (S.mesh mesh.now))) }
     ensures least { IfOk result (λ r. IfSome r (NoneMeetsBefore (S.mesh mesh.now))) }
 {
-    let faces = placed_faces(alloc, mesh)?;
-    let boxes = boxes_of(alloc, faces.as_slice())?;
+    let faces = moving_faces(alloc, mesh, &AtRest { mesh })?;
+    let boxes = grid_of(alloc, faces.as_slice())?;
     let mut near = Vec::new(alloc);
     let edges = edges_in_order(alloc, mesh)?;
     for (a, b) in edges.as_slice() {

@@ -22,8 +22,8 @@ use Rattle.mesh_base.proofs.ListedPairs.{all_weaker}
 use Rattle.edit_base.specs.declared.Asked.{Asked}
 use Rattle.edit_base.specs.Edges.{exact_mid}
 use Rattle.pair_scan.specs.Scan.{one_or_none}
-use Rattle.pair_scan.proofs.Faces.{found_entries}
-use Rattle.pair_scan.proofs.Numbered.{numbers, keys_are_numbers, same_some}
+use Rattle.pair_paths.proofs.Faces.{found_entries}
+use Rattle.pair_paths.proofs.Numbered.{numbers, keys_are_numbers, same_some}
 use Rattle.pass_run.specs.Candidates.{zip_of}
 use Rattle.pass_run.specs.Near.{is_near, near_zip, later_zip, IsBoxOf, AreMidpoints}
 

@@ -8,7 +8,7 @@ use Rattle.grid_base.specs.Points.{is_within}
 use Rattle.mesh_base.specs.Mesh.{Mesh}
 use Rattle.edit_base.specs.declared.Asked.{Asked}
 use Rattle.edit_base.specs.Edges.{exact_mid}
-use Rattle.pair_scan.specs.Boxes.{AreBoxes}
+use Rattle.pair_paths.specs.Bounds.{AreBoxes}
 use Rattle.pass_run.specs.Candidates.{zip_of}
 
 -- whether the midpoints of two edges are no further apart than the length along each axis; midpoints are in half units

@@ -6,7 +6,7 @@ ghost use Rattle.grid_base.specs.Points.{is_within};
 ghost use Rattle.grid_base.specs.Triples.{Triple, IsWithin, minus};
 ghost use Rattle.grid_base.specs.declared.TheConstants.{HALF_MAX, EXTENT_MAX};
 ghost use Rattle.pair_scan.specs.Scan.{one_or_none};
-ghost use Rattle.pair_scan.specs.Under.{IsUnder};
+ghost use Rattle.grid_base.specs.Ordered.{IsUnder};
 ghost use Rattle.pass_run.specs.Candidates.{zip_of};
 ghost use Rattle.pass_run.specs.Near.{is_near, near_zip, later_zip, IsBoxOf, AreMidpoints};
 

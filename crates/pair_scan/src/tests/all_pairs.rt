@@ -5,7 +5,6 @@ ghost use Rattle.grid_base.specs.declared.TheConstants.{DEPTH_MAX, HALF_MAX};
 ghost use Rattle.motion_test.specs.Pairs.{positions_of};
 
 use super::generated::{Numbers, Plan, mesh_by, shifts_by};
-use crate::placed::wide;
 use crate::{Pairs, failing, first_meeting};
 use grid_base::{NoMemory, Point, moved};
 use grid_meets::meets;
@@ -37,11 +36,11 @@ fn five(points: &[Point; 5]) -> [grid_base::Wide; 5]
     ensures { AreWithin HALF_MAX (positions_of result) }
 {
     [
-        wide(points[0]),
-        wide(points[1]),
-        wide(points[2]),
-        wide(points[3]),
-        wide(points[4]),
+        points[0].wide(),
+        points[1].wide(),
+        points[2].wide(),
+        points[3].wide(),
+        points[4].wide(),
     ]
 }
 
@@ -72,7 +71,13 @@ fn put<S: Surface>(
     if !passes(&Pair { start, end }, depth) {
         plain.failing.push(name)?;
     }
-    if meets(wide(a[0]), wide(b[0]), wide(c[0]), wide(d[0]), wide(e[0])) {
+    if meets(
+        a[0].wide(),
+        b[0].wide(),
+        c[0].wide(),
+        d[0].wide(),
+        e[0].wide(),
+    ) {
         plain.meeting.push(name)?;
     }
     Ok(())

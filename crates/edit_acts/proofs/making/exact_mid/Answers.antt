@@ -1,7 +1,7 @@
 use Rattle.std.proofs.Common.{ap, ◌∙◌}
 use Rattle.grid_base.specs.Points.{position_of}
 use Rattle.grid_base.specs.Triples.{plus}
-use Rattle.edit_acts.proofs.PointOf.{position_of-point_of}
+use Rattle.mesh_base.proofs.PointOf.{position_of-point_of}
 use Rattle.edit_acts.proofs.making.exact_mid.Goals as goal
 
 pub returns-clause-value : goal.returns-clause-value

@@ -3,7 +3,7 @@ use Rattle.std.specs.List.{fold}
 use Rattle.grid_base.specs.Points.{position_of}
 use Rattle.grid_base.specs.Triples.{plus, minus}
 use Rattle.pair_scan.proofs.Lists.{rest_at, ended}
-use Rattle.edit_acts.proofs.PointOf.{position_of-point_of}
+use Rattle.mesh_base.proofs.PointOf.{position_of-point_of}
 use Rattle.edit_pinch.specs.Rims.{with_way}
 use Rattle.edit_pinch.proofs.shifting.ways.Goals as goal
 

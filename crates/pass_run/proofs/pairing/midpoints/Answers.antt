@@ -6,7 +6,7 @@ use Rattle.std.proofs.lemmas.Option.{slice_get_read}
 use Rattle.grid_base.specs.Triples.{Triple}
 use Rattle.grid_base.specs.declared.Extent.{Extent}
 use Rattle.edit_base.specs.Edges.{exact_mid}
-use Rattle.pair_scan.proofs.Numbered.{AreBoxesTo, boxed_more, no_others_more, all_boxed}
+use Rattle.pair_paths.proofs.Numbered.{AreBoxesTo, boxed_more, no_others_more, all_boxed}
 use Rattle.pass_run.specs.Near.{IsBoxOf}
 use Rattle.pass_run.proofs.pairing.midpoints.Goals as goal
 

@@ -1,0 +1,6 @@
+pub mod Walks
+pub mod Faces
+pub mod Numbered
+pub mod Near
+pub mod Widened
+pub mod Apart

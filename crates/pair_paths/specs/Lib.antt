@@ -1,0 +1,4 @@
+pub mod Paths
+pub mod Moving
+pub mod Bounds
+pub mod Pairing

@@ -1,0 +1,18 @@
+//! Edges and faces of a mesh that moves: the paths of their vertices, their boxes, and their pairs as the written test of
+//! a motion takes them.
+#![tactic(auto)]
+
+mod bounds;
+mod face_grid;
+pub mod laws;
+mod moving;
+mod pairing;
+mod path;
+mod position;
+
+pub use bounds::HasBounds;
+pub use face_grid::grid_of;
+pub use moving::{MovingEdge, MovingFace, moving_edge, moving_faces};
+pub use pairing::{ends_of, name_of, pair_of, share_a_vertex, starts_of};
+pub use path::{Path, Paths};
+pub use position::Position;

@@ -1,0 +1,130 @@
+//! The pairs that do not pass in a motion.
+ghost use Rattle.std.specs.Prelude.{◌≡◌, ◌≤◌, ◌++◌, [], Some, IsTrue, IfOk, OnOk, slice_get};
+ghost use Rattle.grid_base.specs.declared.TheConstants.{DEPTH_MAX};
+ghost use Rattle.grid_decided.specs.Decided.{meets_exactly};
+ghost use Rattle.mesh_base.specs.Placements.{IsClearAlong};
+ghost use Rattle.mesh_base.specs.Shifts.{NameLive, end_in_box, moved_by};
+ghost use Rattle.mesh_base.specs.Failing.{failing};
+ghost use Rattle.pair_paths.specs.Bounds.{AreBoxes, HoldsFace};
+ghost use Rattle.pair_scan.specs.Failed.{fails_with, failed_with, failing_at, failing_among, AreFailing};
+
+use crate::motions::Shifted;
+use cell_grid::Grid;
+use grid_base::{DEPTH_MAX, Items, NoMemory};
+use mesh_base::{PairName, Shifts, Surface, edges_in_order};
+use motion_test::passes;
+use pair_paths::{
+    HasBounds, MovingEdge, MovingFace, grid_of, moving_edge, moving_faces, name_of, pair_of,
+    share_a_vertex,
+};
+use std::alloc::Global;
+
+/// Names of pairs, in order.
+pub type Pairs = Items<PairName>;
+
+/// Whether the edge and the face are a pair and do not pass.
+fn fails_with(e: &MovingEdge, f: &MovingFace, depth: u8) -> bool
+    requires depth_fits { depth ≤ DEPTH_MAX }
+    ensures { result ≡ fails_with depth e.now f.now }
+{
+    if share_a_vertex(e, f) {
+        return false;
+    }
+    !passes(&pair_of(e, f), depth)
+}
+
+/// The edge with the face, where they are a pair and do not pass.
+fn failed_with(e: &MovingEdge, f: &MovingFace, depth: u8) -> Option<PairName>
+    requires depth_fits { depth ≤ DEPTH_MAX }
+    ensures { result ≡ failed_with depth e.now (Some f.now) }
+{
+    if fails_with(e, f, depth) {
+        Some(name_of(e, f))
+    } else {
+        None
+    }
+}
+
+/// The same of the face of this number.
+fn failed_at(e: &MovingEdge, faces: &[MovingFace], k: u64, depth: u8) -> Option<PairName>
+    requires depth_fits { depth ≤ DEPTH_MAX }
+    ensures { result ≡ failed_with depth e.now (slice_get faces.now k) }
+{
+    match faces.get(k as usize) {
+        Some(f) => failed_with(e, f, depth),
+        None => None,
+    }
+}
+
+/// Puts the edge with those of the faces of these numbers that it does not pass at the end.
+fn put_failing(
+    e: &MovingEdge,
+    faces: &[MovingFace],
+    depth: u8,
+    near: &[u64],
+    found: &mut Pairs,
+) -> Result<(), NoMemory>
+    requires depth_fits { depth ≤ DEPTH_MAX }
+    ensures { OnOk result (found.new ≡ found.old ++ failing_at depth e.now faces.now near.now) }
+{
+    for k in near {
+        if let Some(name) = failed_at(e, faces, *k, depth) {
+            found.push(name)?;
+        }
+    }
+    Ok(())
+}
+
+/// Puts the pairs of an edge that do not pass at the end. Sets `near` to the numbers of the faces whose boxes meet the
+/// edge's.
+fn put_failing_of_edge(
+    e: &MovingEdge,
+    faces: &[MovingFace],
+    boxes: &Grid,
+    depth: u8,
+    near: &mut Vec<u64>,
+    found: &mut Pairs,
+) -> Result<(), NoMemory>
+    requires depth_fits { depth ≤ DEPTH_MAX }
+    requires boxes { AreBoxes HoldsFace faces.now boxes.now }
+    ensures { OnOk result (found.new ≡ found.old ++ failing_among depth e.now faces.now) }
+{
+    boxes.overlapping(e.bounds(), near)?;
+    put_failing(e, faces, depth, near, found)
+}
+
+/// All pairs that do not pass where each vertex goes from its point by its shift, in order of the edge and then of the
+/// face: those that are not separated to the depth and do not move as one while they are apart. Where there is none, no
+/// pair meets at any fraction of the way. The shifts name the live vertices, by rising id, and end in the box. Refuses only
+/// where there is no memory. A grid of boxes, each around the start and the end, leaves out the pairs that are far apart
+/// (a broad phase, as in El Topo, Brochu and Bridson 2009).
+pub fn failing<S: Surface>(
+    alloc: Global,
+    mesh: &S,
+    by: &Shifts,
+    depth: u8,
+) -> Result<Pairs, NoMemory>
+    requires named { NameLive (S.mesh mesh.now) by.now }
+    requires in_box { IsTrue (end_in_box (S.mesh mesh.now) by.now) }
+    requires depth { depth ≤ DEPTH_MAX }
+    ensures failing { IfOk result (λ pairs. pairs ≡ failing meets_exactly (S.mesh mesh.now) by.now depth) }
+    // Each pair that does not pass, and no other, in order.
+    ensures all { IfOk result (AreFailing (S.mesh mesh.now) by.now depth) }
+    // None fails: no pair meets on the way.
+    ensures clear { IfOk result (λ pairs. pairs ≡ [] → IsClearAlong (S.mesh mesh.now) (moved_by (S.mesh mesh.now) by.now)) }
+{
+    let paths = Shifted {
+        mesh,
+        by: by.as_slice(),
+    };
+    let faces = moving_faces(alloc, mesh, &paths)?;
+    let boxes = grid_of(alloc, faces.as_slice())?;
+    let mut near = Vec::new(alloc);
+    let mut found = Pairs::new(alloc);
+    let edges = edges_in_order(alloc, mesh)?;
+    for (a, b) in edges.as_slice() {
+        let e = moving_edge(&paths, *a, *b);
+        put_failing_of_edge(&e, faces.as_slice(), &boxes, depth, &mut near, &mut found)?;
+    }
+    Ok(found)
+}
