@@ -20,7 +20,7 @@ pub(crate) fn pairs_within(kind: PassKind) -> Option<u32>
     }
 }
 
-// The splits of all edges.
+/// The splits of all edges.
 fn splits<S: Surface>(alloc: Global, mesh: &S) -> Result<Vec<Asked>, NoMemory>
     ensures { IfOk result (λ found. found.items ≡ map (λ e. asked.Split e.0 e.1) (edges (S.mesh mesh.now))) }
 {
@@ -33,7 +33,7 @@ fn splits<S: Surface>(alloc: Global, mesh: &S) -> Result<Vec<Asked>, NoMemory>
     Ok(asked)
 }
 
-// The collapses of all edges.
+/// The collapses of all edges.
 fn collapses<S: Surface>(alloc: Global, mesh: &S) -> Result<Vec<Asked>, NoMemory>
     ensures { IfOk result (λ found. found.items ≡ map (λ e. asked.Collapse e.0 e.1) (edges (S.mesh mesh.now))) }
 {
@@ -46,7 +46,7 @@ fn collapses<S: Surface>(alloc: Global, mesh: &S) -> Result<Vec<Asked>, NoMemory
     Ok(asked)
 }
 
-// The flips of all edges.
+/// The flips of all edges.
 fn flips<S: Surface>(alloc: Global, mesh: &S) -> Result<Vec<Asked>, NoMemory>
     ensures { IfOk result (λ found. found.items ≡ map (λ e. asked.Flip e.0 e.1) (edges (S.mesh mesh.now))) }
 {
@@ -59,7 +59,7 @@ fn flips<S: Surface>(alloc: Global, mesh: &S) -> Result<Vec<Asked>, NoMemory>
     Ok(asked)
 }
 
-// The pinches of all vertices.
+/// The pinches of all vertices.
 fn pinches<S: Surface>(alloc: Global, mesh: &S) -> Result<Vec<Asked>, NoMemory>
     ensures { IfOk result (λ found. found.items ≡ map (λ v. asked.Pinch v) (finite.keys (S.mesh mesh.now).points)) }
 {

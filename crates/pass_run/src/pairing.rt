@@ -20,14 +20,14 @@ use std::alloc::Global;
 /// Edges that are asked to be zipped, in order.
 pub(crate) type Zips = Items<Asked>;
 
-// Whether a number has at most this size.
+/// Whether a number has at most this size.
 fn is_small(a: i128, most: u128) -> bool
     ensures { result ≡ nat_le (unsigned_abs a) most }
 {
     a.unsigned_abs() <= most
 }
 
-// Whether two midpoints, in half units, are no further apart than a length along each axis.
+/// Whether two midpoints, in half units, are no further apart than a length along each axis.
 fn is_near_along(p: Wide, q: Wide, within: u32) -> bool
     requires first { IsWithin HALF_MAX p }
     requires second { IsWithin HALF_MAX q }
@@ -44,7 +44,7 @@ fn is_near_along(p: Wide, q: Wide, within: u32) -> bool
     is_small(across.z, most)
 }
 
-// The zip of two edges, where they are near.
+/// The zip of two edges, where they are near.
 fn near_zip<S: Surface>(
     mesh: &S,
     within: u32,
@@ -62,7 +62,7 @@ fn near_zip<S: Surface>(
     }
 }
 
-// The zip of an edge with the one at a place, where that is later and near.
+/// The zip of an edge with the one at a place, where that is later and near.
 fn later_zip<S: Surface>(
     mesh: &S,
     within: u32,
@@ -83,7 +83,7 @@ fn later_zip<S: Surface>(
     }
 }
 
-// Puts the zips of an edge with those of the edges at these places that are later and near at the end.
+/// Puts the zips of an edge with those of the edges at these places that are later and near at the end.
 fn put_later<S: Surface>(
     mesh: &S,
     within: u32,
@@ -104,7 +104,7 @@ fn put_later<S: Surface>(
     Ok(())
 }
 
-// The box of one position.
+/// The box of one position.
 fn box_of(p: Wide) -> Extent
     requires { IsWithin HALF_MAX p }
     ensures { IsBoxOf p result }
@@ -112,14 +112,14 @@ fn box_of(p: Wide) -> Extent
     Extent { low: p, high: p }
 }
 
-// Twice a length, or the greatest coordinate of a box where that is less.
+/// Twice a length, or the greatest coordinate of a box where that is less.
 fn reach_of(within: u32) -> u32
     ensures { result ≡ min (2 * within) EXTENT_MAX }
 {
     (2 * u64::from(within)).min(u64::from(EXTENT_MAX)) as u32
 }
 
-// The least coordinate that is no further off, of those that a box may have.
+/// The least coordinate that is no further off, of those that a box may have.
 fn below(a: i128, reach: u32) -> i128
     requires within { unsigned_abs a ≤ HALF_MAX }
     requires short { reach ≤ EXTENT_MAX }
@@ -132,7 +132,7 @@ fn below(a: i128, reach: u32) -> i128
     if end < least { least } else { end }
 }
 
-// The greatest coordinate that is no further off, of those that a box may have.
+/// The greatest coordinate that is no further off, of those that a box may have.
 fn above(a: i128, reach: u32) -> i128
     requires within { unsigned_abs a ≤ HALF_MAX }
     requires short { reach ≤ EXTENT_MAX }
@@ -145,7 +145,7 @@ fn above(a: i128, reach: u32) -> i128
     if end < most { end } else { most }
 }
 
-// The least corner of a box round a midpoint.
+/// The least corner of a box round a midpoint.
 fn corner_below(p: Wide, reach: u32) -> Wide
     requires within { IsWithin HALF_MAX p }
     requires short { reach ≤ EXTENT_MAX }
@@ -160,7 +160,7 @@ fn corner_below(p: Wide, reach: u32) -> Wide
     }
 }
 
-// The greatest corner of a box round a midpoint.
+/// The greatest corner of a box round a midpoint.
 fn corner_above(p: Wide, reach: u32) -> Wide
     requires within { IsWithin HALF_MAX p }
     requires short { reach ≤ EXTENT_MAX }
@@ -175,7 +175,7 @@ fn corner_above(p: Wide, reach: u32) -> Wide
     }
 }
 
-// A box that has each midpoint that is near this one.
+/// A box that has each midpoint that is near this one.
 fn box_round(p: Wide, within: u32) -> Extent
     requires { IsWithin HALF_MAX p }
     ensures { (q : Triple) → IsWithin HALF_MAX q → IsTrue (is_within (2 * within) (minus p q)) → IsIn result q }
