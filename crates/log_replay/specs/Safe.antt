@@ -4,7 +4,7 @@ use Rattle.mesh_base.specs.Placements.{IsClearAlong}
 use Rattle.mesh_base.specs.Shifts.{moved_by, with_moves}
 use Rattle.mesh_base.specs.Valid.{IsValidSurface}
 use Rattle.edit_base.specs.declared.Change.{Change}
-use Rattle.edit_dispatch.specs.Dispatch.{edited}
+use Rattle.edit_dispatch.specs.Dispatch.{edited, scaffold_of}
 use Rattle.edit_base.specs.Clauses.{MovesClear}
 use Rattle.log_text.specs.declared.LogLine.{LogLine}
 use Rattle.log_text.specs.declared.LogLine.TheVariants.{Moved, Did}
