@@ -1,3 +1,3 @@
 pub mod Sources
-mod ReadLemmas
+pub mod ReadLemmas
 mod PrepareLemmas
