@@ -1,6 +1,5 @@
 pub mod Fields
 pub mod Lines
-pub mod Replay
 pub mod Values
 pub mod EditLines
 pub mod Reading

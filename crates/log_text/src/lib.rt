@@ -1,4 +1,4 @@
-//! The lines of a log, the one spelling of each, how they are read, and what the lines make of a mesh.
+//! The lines of a log, the one spelling of each, and how they are read.
 #![tactic(auto)]
 
 mod edit_lines;

@@ -1,6 +1,7 @@
-pub mod WrittenLines
 pub mod SaidLines
-pub mod Turning
+pub mod Asking
+pub mod Opening
+pub mod Stages
 pub mod Keeping
 pub mod FarApart
 pub mod NearPairs
@@ -8,3 +9,4 @@ pub mod NearPlaces
 pub mod Room
 pub mod Reading
 pub mod Replaying
+pub mod SinkFaults

@@ -1,6 +1,7 @@
 pub mod Candidates
 pub mod Near
 pub mod PassLines
-pub mod Turns
+pub mod Results
 pub mod Said
 pub mod Promises
+pub mod Faults

@@ -1,16 +1,36 @@
--- The lines of a pass, and the mesh that it leaves. `meets` is a test that tells whether five positions meet.
+-- The lines of a pass, and the mesh that it leaves.
 use Rattle.std.specs.Prelude.{ℕ, ◌&&◌, Bool, true, false, List, [], ◌∷◌, ◌++◌, length, if◌then◌else◌}
 use Rattle.std.specs.List.{filter, list_any}
 use Rattle.grid_base.specs.declared.Positions.{Positions}
+use Rattle.grid_decided.specs.Decided.{meets_exactly}
 use Rattle.mesh_base.specs.Mesh.{Mesh}
 use Rattle.edit_base.specs.declared.Asked.{Asked}
-use Rattle.edit_base.specs.declared.PassKind.{PassKind}
 use Rattle.edit_base.specs.declared.Edit.{Edit}
+use Rattle.edit_base.specs.declared.PassKind.{PassKind}
 use Rattle.edit_base.specs.declared.Edit.TheVariants as edit
-use Rattle.edit_base.specs.Answers.{answer_to, mesh_after, edited}
+use Rattle.edit_base.specs.Answers.{answer_to, mesh_after}
 use Rattle.log_text.specs.declared.LogLine.{LogLine}
 use Rattle.log_text.specs.declared.LogLine.TheVariants as line
+use Rattle.pass_run.specs.declared.terms.PassTerms.{PassTerms}
 use Rattle.pass_run.specs.Candidates.{candidates, due_in}
+
+-- By what a pass answers: a test that tells whether five positions meet, the condition that what is asked is to meet in a mesh, the
+-- number of time halvings of the written test, and whether the first `no` line ends the pass.
+pub record PassRules : Type 0 where
+  pub meets : Positions → Bool
+  pub due : Mesh → Asked → Bool
+  pub depth : ℕ
+  pub grouped : Bool
+
+-- those of a pass that goes by these terms, with a test
+abbrev pub rules_of : (Positions → Bool) → PassTerms → PassRules
+rules_of meets terms = record { meets = meets; due = due_in terms.kind; depth = terms.depth; grouped = terms.grouped }
+
+-- the same with the exact test
+abbrev pub exactly : PassTerms → PassRules
+exactly terms = rules_of meets_exactly terms
+
+-- ---- lines
 
 -- the line of an answer
 abbrev pub line_of : Asked → Edit → LogLine
@@ -25,55 +45,66 @@ abbrev pub is_refused : LogLine → Bool
 is_refused (line.No what why) = true
 is_refused _ = false
 
--- What is asked is due in a mesh or not: `due` is the condition. `grouped` says that a pass ends with its first `no` line.
--- the lines of what is asked at its turn: that of its answer where it is due, and none otherwise
-abbrev pub lines_of : (Positions → Bool) → (Mesh → Asked → Bool) → ℕ → Mesh → Asked → List LogLine
-lines_of meets due depth m what = if due m what then line_of what (answer_to meets m depth what) ∷ [] else []
+-- how many of the lines are of done edits
+abbrev pub done_in : List LogLine → ℕ
+done_in lines = length (filter is_done lines)
 
--- the mesh that it leaves at its turn
-abbrev pub mesh_from : (Positions → Bool) → (Mesh → Asked → Bool) → ℕ → Mesh → Asked → Mesh
-mesh_from meets due depth m what = if due m what then mesh_after m (answer_to meets m depth what) else m
+-- how many of the lines are of edits that were asked for and refused
+abbrev pub refused_in : List LogLine → ℕ
+refused_in lines = length (filter is_refused lines)
 
 -- whether these lines end a pass
 abbrev pub ends : Bool → List LogLine → Bool
 ends grouped lines = grouped && list_any is_refused lines
 
--- the lines of what is asked, from a mesh on, each of which finds the mesh that the one before it leaves
-abbrev pub lines_from : (Positions → Bool) → (Mesh → Asked → Bool) → ℕ → Bool → Mesh → List Asked → List LogLine
-lines_from meets due depth grouped m [] = []
-lines_from meets due depth grouped m (what ∷ rest) =
-    let lines = lines_of meets due depth m what in
-    lines ++ (if ends grouped lines then [] else lines_from meets due depth grouped (mesh_from meets due depth m what) rest)
+-- ---- what is asked, at its time
+
+-- what the edit answers
+abbrev pub answer_by : PassRules → Mesh → Asked → Edit
+answer_by rules m what = answer_to rules.meets m rules.depth what
+
+-- its lines: that of its answer where it is due, and none otherwise
+abbrev pub lines_of : PassRules → Mesh → Asked → List LogLine
+lines_of rules m what = if rules.due m what then line_of what (answer_by rules m what) ∷ [] else []
+
+-- the mesh that it leaves
+abbrev pub mesh_from : PassRules → Mesh → Asked → Mesh
+mesh_from rules m what = if rules.due m what then mesh_after m (answer_by rules m what) else m
+
+-- ---- all that is asked
+
+-- the lines, from a mesh on, of what is asked, each of which finds the mesh that the one before it leaves
+abbrev pub lines_from : PassRules → Mesh → List Asked → List LogLine
+lines_from rules m [] = []
+lines_from rules m (what ∷ rest) =
+    let lines = lines_of rules m what in
+    lines ++ (if ends rules.grouped lines then [] else lines_from rules (mesh_from rules m what) rest)
 
 -- the mesh after all of it
-abbrev pub mesh_after_all : (Positions → Bool) → (Mesh → Asked → Bool) → ℕ → Bool → Mesh → List Asked → Mesh
-mesh_after_all meets due depth grouped m [] = m
-mesh_after_all meets due depth grouped m (what ∷ rest) =
-    let next = mesh_from meets due depth m what in
-    if ends grouped (lines_of meets due depth m what) then next else mesh_after_all meets due depth grouped next rest
+abbrev pub mesh_after_all : PassRules → Mesh → List Asked → Mesh
+mesh_after_all rules m [] = m
+mesh_after_all rules m (what ∷ rest) =
+    let next = mesh_from rules m what in
+    if ends rules.grouped (lines_of rules m what) then next else mesh_after_all rules next rest
 
--- all lines of a pass
-abbrev pub pass_lines : (Positions → Bool) → Mesh → PassKind → ℕ → Bool → List LogLine
-pass_lines meets m kind depth grouped = line.Pass kind ∷ lines_from meets (due_in kind) depth grouped m (candidates m kind)
+-- ---- a pass
 
--- the mesh after a pass
-abbrev pub mesh_after_pass : (Positions → Bool) → Mesh → PassKind → ℕ → Bool → Mesh
-mesh_after_pass meets m kind depth grouped = mesh_after_all meets (due_in kind) depth grouped m (candidates m kind)
+-- all its lines
+abbrev pub pass_lines : (Positions → Bool) → PassTerms → Mesh → List LogLine
+pass_lines meets terms m = line.Pass terms.kind ∷ lines_from (rules_of meets terms) m (candidates m terms.kind)
 
--- what a line of a pass makes of a mesh: a done edit changes it
-abbrev pub mesh_by : Mesh → LogLine → Mesh
-mesh_by m (line.Did change) = edited m change
-mesh_by m _ = m
+-- the mesh after it
+abbrev pub mesh_after_pass : (Positions → Bool) → PassTerms → Mesh → Mesh
+mesh_after_pass meets terms m = mesh_after_all (rules_of meets terms) m (candidates m terms.kind)
 
--- what lines of a pass make of a mesh, in order
-abbrev pub mesh_by_lines : Mesh → List LogLine → Mesh
-mesh_by_lines m [] = m
-mesh_by_lines m (l ∷ ls) = mesh_by_lines (mesh_by m l) ls
+-- what a pass goes by, of its parts
+abbrev pub terms_of : PassKind → ℕ → Bool → PassTerms
+terms_of kind depth grouped = record { kind = kind; depth = depth; grouped = grouped }
 
--- how many of the lines are of done edits
-abbrev pub done_in : List LogLine → ℕ
-done_in lines = length (filter is_done lines)
+-- by the exact test: the lines of a pass
+abbrev pub lines_due : PassKind → ℕ → Bool → Mesh → List LogLine
+lines_due kind depth grouped m = pass_lines meets_exactly (terms_of kind depth grouped) m
 
--- how many of the lines are of edits that were asked for and not done
-abbrev pub refused_in : List LogLine → ℕ
-refused_in lines = length (filter is_refused lines)
+-- and the mesh after it
+abbrev pub mesh_due : PassKind → ℕ → Bool → Mesh → Mesh
+mesh_due kind depth grouped m = mesh_after_pass meets_exactly (terms_of kind depth grouped) m

@@ -1,38 +1,23 @@
--- What lines do to a sink, and those of a pass to a mesh.
-use Rattle.std.specs.Prelude.{◌≡◌, ℕ, ◌<◌, ◌⊎◌, List, [], ◌∷◌, ◌++◌, length, take, Option, Result, Ok, Err}
+-- What the lines of a pass do to a sink, and to a mesh.
+use Rattle.std.specs.Prelude.{◌≡◌, ℕ, ◌⊎◌, List, ◌++◌, take, Option, Result, Ok, Err}
 use Rattle.mesh_base.specs.Mesh.{Mesh}
-use Rattle.log_text.specs.Lines.{text_of_line, text_of_lines}
+use Rattle.log_text.specs.Lines.{text_of_lines}
 use Rattle.log_text.specs.declared.LogLine.{LogLine}
+use Rattle.log_replay.specs.Replay.{after, at_mesh}
+use Rattle.log_write.specs.Written.{WrittenInPart}
 use Rattle.outside_io.specs.Sink.{appended}
 use Rattle.pass_run.specs.declared.faults.PassFault.{PassFault}
-use Rattle.pass_run.specs.PassLines.{mesh_by_lines}
 
--- nothing, or a part of the first line that is not all of it
-abbrev pub IsBegun : List ℕ → List LogLine → Type 0
-IsBegun part [] = part ≡ []
-IsBegun part (line ∷ lines) = (n : ℕ) × (n < length (text_of_line line)) × (part ≡ take n (text_of_line line))
+-- the replay of these lines leads from the one mesh to the other
+abbrev pub LeadTo : List LogLine → Mesh → Mesh → Type 0
+LeadTo lines from to = after (at_mesh from) lines ≡ at_mesh to
 
--- The first of these lines were written, in order, and perhaps a part of the next.
-pub record WrittenInPart (old new : Option (List ℕ)) (lines : List LogLine) : Type 0 where
-  pub done : List LogLine
-  pub rest : List LogLine
-  pub split : lines ≡ done ++ rest
-  pub part : List ℕ
-  pub begun : IsBegun part rest
-  pub written : new ≡ appended old (text_of_lines done ++ part)
-
--- these lines were written, or the first of them
-abbrev pub Written : {T E : Type 0} → Option (List ℕ) → Option (List ℕ) → List LogLine → Result T E → Type 0
-Written old new lines (Ok x) = new ≡ appended old (text_of_lines lines)
-Written old new lines (Err error) = WrittenInPart old new lines
-
--- The first of these lines were written, and perhaps a part of the next. The mesh is what the lines written make of it, or what
--- they and the next one make.
+-- The first of these lines were written, and perhaps a part of the next. The lines written lead to the mesh, or they and the next one.
 pub record SaidInPart (from to : Mesh) (old new : Option (List ℕ)) (lines : List LogLine) : Type 0 where
   pub text : WrittenInPart old new lines
-  pub mesh : (to ≡ mesh_by_lines from text.done) ⊎ (to ≡ mesh_by_lines from (text.done ++ take 1 text.rest))
+  pub mesh : LeadTo text.done from to ⊎ LeadTo (text.done ++ take 1 text.rest) from to
 
--- these lines were written and the mesh is what they make, or the first of them
+-- these lines were written and lead to the mesh, or the first of them
 abbrev pub Said : {T : Type 0} → Mesh → Mesh → Option (List ℕ) → Option (List ℕ) → List LogLine → Result T PassFault → Type 0
-Said from to old new lines (Ok x) = (to ≡ mesh_by_lines from lines) × (new ≡ appended old (text_of_lines lines))
+Said from to old new lines (Ok x) = LeadTo lines from to × (new ≡ appended old (text_of_lines lines))
 Said from to old new lines (Err fault) = SaidInPart from to old new lines

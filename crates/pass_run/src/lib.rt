@@ -7,11 +7,12 @@ mod lengths;
 mod listing;
 mod pairing;
 mod passing;
-mod saying;
+mod terms;
 mod turns;
 
 pub use faults::PassFault;
 pub use passing::{PassCount, pass};
+pub use terms::PassTerms;
 
 #[cfg(test)]
 mod tests;

@@ -1,14 +1,10 @@
 //! The pairs of edges that are near one another, found by a grid of midpoints.
-ghost use Rattle.std.specs.Prelude.{◌≡◌, ◌+◌, ◌++◌, ◌*◌, ◌<◌, ◌≤◌, ◌≤ℤ◌, ◌-ℤ◌, ℕ, ℤ, min, map, drop, nat_le, unsigned_abs, slice_get, Some, IsTrue, IfOk, OnOk};
-ghost use Rattle.std.specs.List.{filter, flat_map};
-ghost use Rattle.grid_base.specs.Extents.{IsIn};
+ghost use Rattle.std.specs.Prelude.{◌≡◌, ◌+◌, ◌++◌, ◌*◌, ◌<◌, ◌≤◌, ◌≤ℤ◌, ◌-ℤ◌, ℕ, ℤ, min, drop, nat_le, unsigned_abs, Some, IfOk, OnOk};
 ghost use Rattle.grid_base.specs.Points.{is_within};
 ghost use Rattle.grid_base.specs.Triples.{Triple, IsWithin, minus};
 ghost use Rattle.grid_base.specs.declared.TheConstants.{HALF_MAX, EXTENT_MAX};
-ghost use Rattle.pair_scan.specs.Scan.{one_or_none};
 ghost use Rattle.pair_scan.specs.Under.{IsUnder};
-ghost use Rattle.pass_run.specs.Candidates.{zip_of};
-ghost use Rattle.pass_run.specs.Near.{is_near, near_zip, later_zip, IsBoxOf, AreMidpoints};
+ghost use Rattle.pass_run.specs.Near.{near_zip, later_zip, later_zips, near_zips, HasEachNear, IsBoxOf, AreMidpoints};
 
 use cell_grid::Grid;
 use edit_base::{Asked, exact_mid};
@@ -19,14 +15,14 @@ use std::alloc::Global;
 /// Edges that are asked to be zipped, in order.
 pub(crate) type Zips = Items<Asked>;
 
-// Whether a number has at most this size.
+/// Whether a number has at most this size.
 fn is_small(a: i128, most: u128) -> bool
     ensures { result ≡ nat_le (unsigned_abs a) most }
 {
     a.unsigned_abs() <= most
 }
 
-// Whether two midpoints, in half units, are no further apart than a length along each axis.
+/// Whether two midpoints, in half units, are no further apart than a length along each axis.
 fn is_near_along(p: Wide, q: Wide, within: u32) -> bool
     requires first { IsWithin HALF_MAX p }
     requires second { IsWithin HALF_MAX q }
@@ -43,7 +39,7 @@ fn is_near_along(p: Wide, q: Wide, within: u32) -> bool
     is_small(across.z, most)
 }
 
-// The zip of two edges, where they are near.
+/// The zip of two edges, where they are near.
 fn near_zip<S: Surface>(
     mesh: &S,
     within: u32,
@@ -61,7 +57,7 @@ fn near_zip<S: Surface>(
     }
 }
 
-// The zip of an edge with the one at a place, where that is later and near.
+/// The zip of an edge with the one at a place, where that is later and near.
 fn later_zip<S: Surface>(
     mesh: &S,
     within: u32,
@@ -82,7 +78,7 @@ fn later_zip<S: Surface>(
     }
 }
 
-// Puts the zips of an edge with those of the edges at these places that are later and near at the end.
+/// Puts the zips of an edge with those of the edges at these places that are later and near at the end.
 fn put_later<S: Surface>(
     mesh: &S,
     within: u32,
@@ -93,7 +89,8 @@ fn put_later<S: Surface>(
     places: &[u64],
     asked: &mut Zips,
 ) -> Result<(), NoMemory>
-    ensures { OnOk result (asked.new ≡ asked.old ++ flat_map (λ k. one_or_none (later_zip (S.mesh mesh.now) within edges.now i (a, b) k)) places.now) }
+    ensures { let zips = later_zips (S.mesh mesh.now) within edges.now i (a, b) places.now in
+        OnOk result (asked.new ≡ asked.old ++ zips) }
 {
     for k in places {
         if let Some(zip) = later_zip(mesh, within, edges, i, a, b, *k) {
@@ -103,7 +100,7 @@ fn put_later<S: Surface>(
     Ok(())
 }
 
-// The box of one position.
+/// The box of one position.
 fn box_of(p: Wide) -> Extent
     requires { IsWithin HALF_MAX p }
     ensures { IsBoxOf p result }
@@ -111,14 +108,14 @@ fn box_of(p: Wide) -> Extent
     Extent { low: p, high: p }
 }
 
-// Twice a length, or the greatest coordinate of a box where that is less.
+/// Twice a length, or the greatest coordinate of a box where that is less.
 fn reach_of(within: u32) -> u32
     ensures { result ≡ min (2 * within) EXTENT_MAX }
 {
     (2 * u64::from(within)).min(u64::from(EXTENT_MAX)) as u32
 }
 
-// The least coordinate that is no further off, of those that a box may have.
+/// The least coordinate that is no further off, of those that a box may have.
 fn below(a: i128, reach: u32) -> i128
     requires within { unsigned_abs a ≤ HALF_MAX }
     requires short { reach ≤ EXTENT_MAX }
@@ -131,7 +128,7 @@ fn below(a: i128, reach: u32) -> i128
     if end < least { least } else { end }
 }
 
-// The greatest coordinate that is no further off, of those that a box may have.
+/// The greatest coordinate that is no further off, of those that a box may have.
 fn above(a: i128, reach: u32) -> i128
     requires within { unsigned_abs a ≤ HALF_MAX }
     requires short { reach ≤ EXTENT_MAX }
@@ -144,7 +141,7 @@ fn above(a: i128, reach: u32) -> i128
     if end < most { end } else { most }
 }
 
-// The least corner of a box round a midpoint.
+/// The least corner of a box round a midpoint.
 fn corner_below(p: Wide, reach: u32) -> Wide
     requires within { IsWithin HALF_MAX p }
     requires short { reach ≤ EXTENT_MAX }
@@ -159,7 +156,7 @@ fn corner_below(p: Wide, reach: u32) -> Wide
     }
 }
 
-// The greatest corner of a box round a midpoint.
+/// The greatest corner of a box round a midpoint.
 fn corner_above(p: Wide, reach: u32) -> Wide
     requires within { IsWithin HALF_MAX p }
     requires short { reach ≤ EXTENT_MAX }
@@ -174,10 +171,10 @@ fn corner_above(p: Wide, reach: u32) -> Wide
     }
 }
 
-// A box that has each midpoint that is near this one.
+/// A box that has each midpoint that is near this one.
 fn box_round(p: Wide, within: u32) -> Extent
     requires { IsWithin HALF_MAX p }
-    ensures { (q : Triple) → IsWithin HALF_MAX q → IsTrue (is_within (2 * within) (minus p q)) → IsIn result q }
+    ensures { HasEachNear p within result }
 {
     let reach = reach_of(within);
     let low = corner_below(p, reach);
@@ -214,7 +211,8 @@ pub(crate) fn near_pairs<S: Surface>(
     b: VertexId,
 ) -> Result<Zips, NoMemory>
     requires { AreMidpoints (S.mesh mesh.now) edges.now grid.now }
-    ensures { IfOk result (λ asked. asked ≡ map (zip_of (a, b)) (filter (is_near (S.mesh mesh.now) within (a, b)) (drop (i + 1) edges.now))) }
+    ensures { let zips = near_zips (S.mesh mesh.now) within (a, b) (drop (i + 1) edges.now) in
+        IfOk result (λ asked. asked ≡ zips) }
 {
     let mut places = Vec::new(alloc);
     grid.overlapping(box_round(exact_mid(mesh, a, b), within), &mut places)?;

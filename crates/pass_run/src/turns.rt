@@ -1,4 +1,4 @@
-//! What is asked at its turn.
+//! What is asked, at its time.
 ghost use Rattle.std.specs.Prelude.{◌≡◌, ◌≤◌, int_lt, nat_le, length, IfOk};
 ghost use Rattle.grid_base.specs.declared.TheConstants.{DEPTH_MAX};
 ghost use Rattle.grid_decided.specs.Decided.{meets_exactly};
@@ -8,11 +8,12 @@ ghost use Rattle.mesh_base.specs.Kept.{BeginsWith};
 ghost use Rattle.edit_base.specs.Answers.{answer_to};
 ghost use Rattle.edit_base.specs.Clauses.{mesh_left};
 ghost use Rattle.edit_base.specs.declared.Asked.TheVariants as asked;
-ghost use Rattle.pass_run.specs.Candidates.{is_due, due_in, limit_of, length_squared};
-ghost use Rattle.pass_run.specs.PassLines.{line_of};
-ghost use Rattle.pass_run.specs.Turns.{turn_line, mesh_turned};
+ghost use Rattle.pass_run.specs.Candidates.{is_due, limit_of, length_squared};
+ghost use Rattle.pass_run.specs.PassLines.{exactly, line_of};
+ghost use Rattle.pass_run.specs.Results.{line_due, mesh_then};
 
 use crate::lengths::{are_near, is_longer, is_shorter, length_squared};
+use crate::terms::PassTerms;
 use edit_base::{Asked, EdgeFaces, Edit, PassKind, edge_beside, is_crowded, is_edge};
 use edit_collapse::collapse;
 use edit_flip::flip;
@@ -24,7 +25,7 @@ use log_text::LogLine;
 use mesh_base::{Surface, VertexId};
 use std::alloc::Global;
 
-// The length that a pass goes by.
+/// The length that a pass goes by.
 fn limit_of(kind: PassKind) -> u32
     ensures { result ≡ limit_of kind }
 {
@@ -37,28 +38,28 @@ fn limit_of(kind: PassKind) -> u32
     }
 }
 
-// Whether a split of the edge is due.
+/// Whether a split of the edge is due.
 fn is_split_due<S: Surface>(mesh: &S, kind: PassKind, a: VertexId, b: VertexId) -> bool
     ensures { result ≡ is_due (S.mesh mesh.now) kind (asked.Split a b) }
 {
     is_longer(mesh, a, b, limit_of(kind)) && is_edge(mesh, a, b)
 }
 
-// Whether a collapse of the edge is due.
+/// Whether a collapse of the edge is due.
 fn is_collapse_due<S: Surface>(mesh: &S, kind: PassKind, a: VertexId, b: VertexId) -> bool
     ensures { result ≡ is_due (S.mesh mesh.now) kind (asked.Collapse a b) }
 {
     is_shorter(mesh, a, b, limit_of(kind)) && is_edge(mesh, a, b)
 }
 
-// Whether the length from one vertex to another is above the distance of the third corners of the faces beside an edge.
+/// Whether the length from one vertex to another is above the distance of the third corners of the faces beside an edge.
 fn is_longer_than_across<S: Surface>(mesh: &S, a: VertexId, b: VertexId, e: &EdgeFaces) -> bool
     ensures { result ≡ int_lt (length_squared (S.mesh mesh.now) e.now.c e.now.d) (length_squared (S.mesh mesh.now) a b) }
 {
     length_squared(mesh, e.c, e.d) < length_squared(mesh, a, b)
 }
 
-// Whether a flip of the edge is due.
+/// Whether a flip of the edge is due.
 fn is_flip_due<S: Surface>(mesh: &S, a: VertexId, b: VertexId) -> bool
     requires { IsClosed (S.mesh mesh.now) }
     ensures { result ≡ is_due (S.mesh mesh.now) PassKind.Flip (asked.Flip a b) }
@@ -72,7 +73,7 @@ fn is_flip_due<S: Surface>(mesh: &S, a: VertexId, b: VertexId) -> bool
     }
 }
 
-// Whether a zip of the two edges is due.
+/// Whether a zip of the two edges is due.
 fn is_zip_due<S: Surface>(
     mesh: &S,
     kind: PassKind,
@@ -87,7 +88,7 @@ fn is_zip_due<S: Surface>(
     are_near(mesh, a, b, e, f, limit_of(kind)) && zip_ready(mesh, a, b, e, f)
 }
 
-// Whether what is asked is due.
+/// Whether what is asked is due.
 fn is_due<S: Surface>(
     alloc: Global,
     mesh: &S,
@@ -129,7 +130,7 @@ fn ask<S: Surface>(alloc: Global, mesh: &mut S, depth: u8, what: Asked) -> Resul
     }
 }
 
-// The line of an answer.
+/// The line of an answer.
 fn line_of(what: Asked, edit: Edit) -> LogLine
     ensures { result ≡ line_of what edit }
 {
@@ -140,25 +141,24 @@ fn line_of(what: Asked, edit: Edit) -> LogLine
 }
 
 /// The edit that is asked, and its line, if it is due.
-pub(crate) fn turn<S: Surface>(
+pub(crate) fn line_if_due<S: Surface>(
     alloc: Global,
     mesh: &mut S,
-    kind: PassKind,
-    depth: u8,
+    terms: PassTerms,
     what: Asked,
 ) -> Result<Option<LogLine>, NoMemory>
     requires closed { IsClosed (S.mesh mesh.old) }
     requires clear { IsClearMesh (S.mesh mesh.old) }
-    requires depth { depth ≤ DEPTH_MAX }
-    ensures line { IfOk result (λ line. line ≡ turn_line meets_exactly (due_in kind) depth (S.mesh mesh.old) what) }
-    ensures mesh { S.mesh mesh.new ≡ mesh_turned meets_exactly (due_in kind) depth (S.mesh mesh.old) what result }
+    requires depth { terms.depth ≤ DEPTH_MAX }
+    ensures line { IfOk result (λ line. line ≡ line_due (exactly terms) (S.mesh mesh.old) what) }
+    ensures mesh { S.mesh mesh.new ≡ mesh_then (exactly terms) (S.mesh mesh.old) what result }
     ensures closed { IsClosed (S.mesh mesh.new) }
     ensures clear { IsClearMesh (S.mesh mesh.new) }
     ensures marks { BeginsWith (S.kept mesh.new) (S.kept mesh.old) }
 {
-    if !is_due(alloc, mesh, kind, what)? {
+    if !is_due(alloc, mesh, terms.kind, what)? {
         return Ok(None);
     }
-    let edit = ask(alloc, mesh, depth, what)?;
+    let edit = ask(alloc, mesh, terms.depth, what)?;
     Ok(Some(line_of(what, edit)))
 }

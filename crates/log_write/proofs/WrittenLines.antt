@@ -6,7 +6,7 @@ use Rattle.log_text.specs.declared.LogLine.{LogLine}
 use Rattle.log_text.proofs.LineLaws.{text_of_line-some, text_of_lines-append}
 use Rattle.outside_io.specs.Sink.{appended, AppendsPart}
 use Rattle.outside_io.proofs.Written.{appended-nil, appended-appended}
-use Rattle.pass_run.specs.Said.{IsBegun, WrittenInPart}
+use Rattle.log_write.specs.Written.{IsBegun, WrittenInPart}
 
 -- nothing is a part of the first of any lines
 pub begun_nothing : (lines : List LogLine) → IsBegun [] lines
@@ -71,3 +71,33 @@ part_more a b xs ys s = record {
   begun = begun_more s.part s.rest ys s.begun;
   written = s.written;
 }
+
+-- ---- lines that are written one after another
+
+-- some of the lines are written, and the rest is left
+pub record WrittenSoFar (old now : Option (List ℕ)) (left all : List LogLine) : Type 0 where
+  pub done : List LogLine
+  pub whole : done ++ left ≡ all
+  pub written : now ≡ appended old (text_of_lines done)
+
+-- none is written yet
+pub written_none : (old : Option (List ℕ)) (all : List LogLine) → WrittenSoFar old old all all
+written_none old all = record { done = []; whole = refl; written = sym (appended-nil old) }
+
+-- more of them
+pub written_more : (old now new : Option (List ℕ)) (xs left all : List LogLine) → WrittenSoFar old now (xs ++ left) all → new ≡ appended now (text_of_lines xs) → WrittenSoFar old new left all
+written_more old now new xs left all s p = record {
+  done = s.done ++ xs;
+  whole = append_assoc s.done xs left ∙ s.whole;
+  written = written_then old now new s.done xs s.written p;
+}
+
+-- the next are written in part
+pub written_more_in_part : (old now new : Option (List ℕ)) (xs left all : List LogLine) → WrittenSoFar old now (xs ++ left) all → WrittenInPart now new xs → WrittenInPart old new all
+written_more_in_part old now new xs left all s part =
+    let P : List LogLine → Type 0 = λ l. WrittenInPart old new l in
+    subst P s.whole (part_then old now new s.done (xs ++ left) s.written (part_more now new xs left part))
+
+-- no more is left
+pub written_all : (old now : Option (List ℕ)) (all : List LogLine) → WrittenSoFar old now [] all → now ≡ appended old (text_of_lines all)
+written_all old now all s = s.written ∙ ap (λ l. appended old (text_of_lines l)) (sym (append-nil s.done) ∙ s.whole)

@@ -1,0 +1,4 @@
+pub mod Replay
+pub mod OfPass
+pub mod Safe
+pub mod Laws

@@ -1,0 +1,13 @@
+//! Laws of replays. Each is the contract of a function that does nothing.
+
+ghost use Rattle.log_replay.specs.Laws.{PassesChangeTheMeshAlone, ReplaysGoOn};
+
+/// The replay of lines after others goes on from where those lead.
+pub fn replays_go_on()
+    ensures { ReplaysGoOn }
+{}
+
+/// The lines of a pass, of a done edit and of one that is not done change the mesh of a replay alone, whatever else it holds.
+pub fn passes_change_the_mesh_alone()
+    ensures { PassesChangeTheMeshAlone }
+{}
