@@ -20,7 +20,7 @@ use Rattle.edit_zip.specs.Zip.{zip_mesh, two_faces, first_rim, second_rim, turns
 use Rattle.edit_acts.proofs.Changed.{points-with_faces, points-without_faces}
 use Rattle.log_text.specs.declared.LogLine.{LogLine}
 use Rattle.pass_run.specs.Candidates.{candidates, is_due, zip_of, with_later}
-use Rattle.pass_run.specs.Near.{is_near}
+use Rattle.pass_run.specs.Near.{is_near, near_zips}
 use Rattle.log_replay.specs.Replay.{at_mesh, mesh_after_lines}
 use Rattle.pass_run.specs.PassLines.{PassRules, exactly, line_of, answer_by, lines_of, mesh_from, ends, lines_from, mesh_after_all}
 use Rattle.pass_run.specs.declared.terms.PassTerms.{PassTerms}
@@ -107,23 +107,19 @@ first_then : (e : ℕ × ℕ) (es : List (ℕ × ℕ)) (rest : List ((ℕ × ℕ
 first_then e [] rest = refl
 first_then e (f ∷ es) rest = ap (λ l. zip_of e f ∷ l) (first_then e es rest)
 
--- the near pairs of an edge
-abbrev pub near_of : ℕ → Mesh → ℕ × ℕ → List (ℕ × ℕ) → List Asked
-near_of within m e es = map (zip_of e) (filter (is_near m within e) es)
-
 -- what is left to ask of pairs of these edges
 abbrev pub pairs_left : PassRules → Mesh → List (ℕ × ℕ) → List LogLine
 pairs_left rules m es = lines_from rules m (map (λ p. zip_of p.0 p.1) (with_later es))
 
 module _ (rules : PassRules) (within : ℕ) (never : (m : Mesh) (e f : ℕ × ℕ) → is_near m within e f ≡ false → rules.due m (zip_of e f) ≡ false) where
-  near_lines : (m : Mesh) (e : ℕ × ℕ) (es : List (ℕ × ℕ)) → lines_from rules m (map (zip_of e) es) ≡ lines_from rules m (near_of within m e es)
+  near_lines : (m : Mesh) (e : ℕ × ℕ) (es : List (ℕ × ℕ)) → lines_from rules m (map (zip_of e) es) ≡ lines_from rules m (near_zips m within e es)
   near_lines m e es = lines_of_due rules (zip_of e) (λ n. n.points ≡ m.points) (is_near m within e)
       (λ n f same. one_keeps_points rules n e f ∙ same)
       (λ n f same off. never n e f (near_by_points m n within e f same ∙ off))
       m refl es
 
   -- the lines of its near pairs, and then those of the later edges
-  pairs_next : (m : Mesh) (items : List (ℕ × ℕ)) (i : ℕ) (e : ℕ × ℕ) → i < length items → e ≡ get_or items i e → (let here = lines_from rules m (near_of within m e (drop (i + 1) items)) in
+  pairs_next : (m : Mesh) (items : List (ℕ × ℕ)) (i : ℕ) (e : ℕ × ℕ) → i < length items → e ≡ get_or items i e → (let here = lines_from rules m (near_zips m within e (drop (i + 1) items)) in
       pairs_left rules m (drop i items) ≡ here ++ cond (ends rules.grouped here) [] (pairs_left rules (mesh_after_lines m here) (drop (i + 1) items)))
   pairs_next m items i e inside at =
       let es = drop (i + 1) items in
@@ -135,7 +131,7 @@ module _ (rules : PassRules) (within : ℕ) (never : (m : Mesh) (e f : ℕ × �
       ∙ ap (λ l. l ++ cond (ends rules.grouped l) [] (lines_from rules (mesh_after_lines m l) later)) (near_lines m e es)
 
   -- the same of a list of them
-  pub pairs_here : (m : Mesh) (items : List (ℕ × ℕ)) (i : ℕ) (e : ℕ × ℕ) → i < length items → e ≡ get_or items i e → (all : List Asked) → all ≡ near_of within m e (drop (i + 1) items) → (let here = lines_from rules m all in
+  pub pairs_here : (m : Mesh) (items : List (ℕ × ℕ)) (i : ℕ) (e : ℕ × ℕ) → i < length items → e ≡ get_or items i e → (all : List Asked) → all ≡ near_zips m within e (drop (i + 1) items) → (let here = lines_from rules m all in
       pairs_left rules m (drop i items) ≡ here ++ cond (ends rules.grouped here) [] (pairs_left rules (mesh_after_lines m here) (drop (i + 1) items)))
   pairs_here m items i e inside at all is =
       let P : List Asked → Type 0 = λ l. pairs_left rules m (drop i items) ≡ lines_from rules m l
@@ -143,7 +139,7 @@ module _ (rules : PassRules) (within : ℕ) (never : (m : Mesh) (e f : ℕ × �
       subst P (sym is) (pairs_next m items i e inside at)
 
 -- and its points stay
-pub points_stay : (rules : PassRules) (within : ℕ) (m next : Mesh) (items : List (ℕ × ℕ)) (e : ℕ × ℕ) (all : List Asked) → all ≡ near_of within m e items → LeadTo (lines_from rules m all) m next → next.points ≡ m.points
+pub points_stay : (rules : PassRules) (within : ℕ) (m next : Mesh) (items : List (ℕ × ℕ)) (e : ℕ × ℕ) (all : List Asked) → all ≡ near_zips m within e items → LeadTo (lines_from rules m all) m next → next.points ≡ m.points
 points_stay rules within m next items e all is leads =
     ap (λ n. n.points) (leads_there m (mesh_after_all rules m all) (lines_from rules m all) next (lines_make rules (at_mesh m) all) leads)
     ∙ ap (λ l. (mesh_after_all rules m l).points) is

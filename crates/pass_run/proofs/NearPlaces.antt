@@ -1,5 +1,5 @@
 -- The near ones of a list of edges, by their places in a grid, are all that are near.
-use Rattle.std.proofs.Common.{◌≡◌, ℕ, zero, suc, ◌+◌, ◌*◌, ◌-◌, ◌≤◌, Bool, true, false, cond, List, [], ◌∷◌, ◌++◌, map, length, drop, nat_lt, Option, Some, None, IsTrue, ℤ, ◌+ℤ◌, ◌≤ℤ◌, unsigned_abs, lit≤, refl, sym, ap, ◌∙◌, subst, arith}
+use Rattle.std.proofs.Common.{◌≡◌, ℕ, zero, suc, ◌+◌, ◌-◌, ◌≤◌, Bool, true, false, cond, List, [], ◌∷◌, ◌++◌, map, length, drop, nat_lt, Option, Some, None, IsTrue, ℤ, ◌+ℤ◌, ◌≤ℤ◌, unsigned_abs, lit≤, refl, sym, ap, ◌∙◌, subst, arith}
 use Rattle.std.specs.Prelude.{slice_get}
 use Rattle.std.specs.List.{filter, flat_map, AllByRecursion}
 use Rattle.std.specs.Ordering.{nat_cmp}
@@ -12,8 +12,7 @@ use Rattle.grid_base.specs.declared.TheConstants.{BOX, HALF_MAX}
 use Rattle.grid_base.specs.declared.Point.{Point}
 use Rattle.std.proofs.lemmas.Bool.{false≢true}
 use Rattle.grid_base.specs.Extents.{overlaps, IsIn}
-use Rattle.grid_base.specs.Points.{is_within}
-use Rattle.grid_base.specs.Triples.{Triple, IsWithin, minus}
+use Rattle.grid_base.specs.Triples.{Triple, IsWithin}
 use Rattle.cell_grid.specs.Overlapping.{overlapping}
 use Rattle.cell_grid.proofs.Shared.{overlap_common}
 use Rattle.mesh_base.specs.Mesh.{Mesh}
@@ -25,7 +24,7 @@ use Rattle.pair_scan.specs.Scan.{one_or_none}
 use Rattle.pair_paths.proofs.Faces.{found_entries}
 use Rattle.pair_paths.proofs.Numbered.{numbers, keys_are_numbers, same_some}
 use Rattle.pass_run.specs.Candidates.{zip_of}
-use Rattle.pass_run.specs.Near.{is_near, near_zip, later_zip, IsBoxOf, AreMidpoints}
+use Rattle.pass_run.specs.Near.{is_near, near_zip, later_zip, later_zips, near_zips, HasEachNear, IsBoxOf, AreMidpoints}
 
 -- ---- what a test leaves out makes nothing
 left_out : {V Y : Type 0} (made : ℕ → List Y) (q : V → Bool) (es : List (ℕ × V)) → AllByRecursion (λ x. q x.1 ≡ false → made x.0 ≡ []) es → flat_map made (keys_of (filter (λ x. q x.1) es)) ≡ flat_map made (keys_of es)
@@ -112,7 +111,7 @@ true_or_false false h = refl
 
 -- what the grid finds round an edge, and is later and near, are the later edges that are near it
 module _ (m : Mesh) (within : ℕ) (edges : List (ℕ × ℕ)) (grid : finite.FinMap nat_cmp Extent) (at : Extent) (i : ℕ) (e : ℕ × ℕ) (boxes : AreMidpoints m edges grid)
-    (reaches : (q : Triple) → IsWithin HALF_MAX q → IsTrue (is_within (2 * within) (minus (exact_mid m e.0 e.1) q)) → IsIn at q) where
+    (reaches : HasEachNear (exact_mid m e.0 e.1) within at) where
   abbrev zips : ℕ → List Asked
   zips k = one_or_none (later_zip m within edges i e k)
 
@@ -158,7 +157,7 @@ module _ (m : Mesh) (within : ℕ) (edges : List (ℕ × ℕ)) (grid : finite.Fi
   from_zero : (k : ℕ) → 0 + k ≡ k
   from_zero k = omega arith
 
-  pub near_places : (places : List ℕ) → places ≡ overlapping grid at → flat_map zips places ≡ map (zip_of e) (filter (is_near m within e) (drop (i + 1) edges))
+  pub near_places : (places : List ℕ) → places ≡ overlapping grid at → later_zips m within edges i e places ≡ near_zips m within e (drop (i + 1) edges)
   near_places places is =
       ap (flat_map zips) is
       ∙ left_out zips (λ v. overlaps v at) (finite.entries grid) (all_weaker (λ y. finite.get grid y.0 ≡ Some y.1) (λ y. overlaps y.1 at ≡ false → zips y.0 ≡ []) (finite.entries grid) (λ y found apart. none_apart y.0 y.1 found apart) (found_entries grid))

@@ -23,13 +23,33 @@ with_later (e ∷ es) = map (λ f. (e, f)) es ++ with_later es
 abbrev pub zip_of : ℕ × ℕ → ℕ × ℕ → Asked
 zip_of e f = asked.Zip e.0 e.1 f.0 f.1
 
+-- the splits of all edges
+abbrev pub all_splits : Mesh → List Asked
+all_splits m = map (λ e. asked.Split e.0 e.1) (edges m)
+
+-- the collapses of all edges
+abbrev pub all_collapses : Mesh → List Asked
+all_collapses m = map (λ e. asked.Collapse e.0 e.1) (edges m)
+
+-- the flips of all edges
+abbrev pub all_flips : Mesh → List Asked
+all_flips m = map (λ e. asked.Flip e.0 e.1) (edges m)
+
+-- the zips of all pairs of edges
+abbrev pub all_zips : Mesh → List Asked
+all_zips m = map (λ two. zip_of two.0 two.1) (with_later (edges m))
+
+-- the pinches of all vertices
+abbrev pub all_pinches : Mesh → List Asked
+all_pinches m = map (λ v. asked.Pinch v) (finite.keys m.points)
+
 -- what is asked, in order: of each edge of the opening mesh, of each two of them, or of each vertex
 abbrev pub candidates : Mesh → PassKind → List Asked
-candidates m (Split over) = map (λ e. asked.Split e.0 e.1) (edges m)
-candidates m (Collapse under) = map (λ e. asked.Collapse e.0 e.1) (edges m)
-candidates m Flip = map (λ e. asked.Flip e.0 e.1) (edges m)
-candidates m (Zip within) = map (λ two. zip_of two.0 two.1) (with_later (edges m))
-candidates m Pinch = map (λ v. asked.Pinch v) (finite.keys m.points)
+candidates m (Split over) = all_splits m
+candidates m (Collapse under) = all_collapses m
+candidates m Flip = all_flips m
+candidates m (Zip within) = all_zips m
+candidates m Pinch = all_pinches m
 
 -- the length of a pass over pairs of edges
 abbrev pub pairs_within : PassKind → Option ℕ
@@ -43,8 +63,13 @@ pairs_within Pinch = None
 abbrev pub length_squared : Mesh → ℕ → ℕ → ℤ
 length_squared m u v = square (minus (own_points m u) (own_points m v))
 
+-- the square of a limit
 abbrev pub squared : ℕ → ℤ
 squared n = pos n *ℤ pos n
+
+-- whether the midpoints of two edges are no further apart than a limit; they are compared in half units
+abbrev pub are_near : Mesh → ℕ → ℕ → ℕ → ℕ → ℕ → Bool
+are_near m a b e f within = int_le (square (minus (exact_mid m a b) (exact_mid m e f))) (squared (2 * within))
 
 -- the length that a pass goes by
 abbrev pub limit_of : PassKind → ℕ
@@ -54,15 +79,14 @@ limit_of Flip = 0
 limit_of (Zip within) = within
 limit_of Pinch = 0
 
--- What is asked still stands, and the condition of the pass holds. Midpoints are compared in half units.
+-- what is asked still stands, and the condition of the pass holds
 abbrev pub is_due : Mesh → PassKind → Asked → Bool
 is_due m kind (asked.Split a b) = is_edge m a b && int_lt (squared (limit_of kind)) (length_squared m a b)
 is_due m kind (asked.Collapse a b) = is_edge m a b && int_lt (length_squared m a b) (squared (limit_of kind))
 is_due m kind (asked.Flip a b) =
     let s = edge_of m a b in
     is_edge m a b && not (is_crowded m a b) && int_lt (length_squared m s.c s.d) (length_squared m a b)
-is_due m kind (asked.Zip a b e f) =
-    is_zip_ready m a b e f && int_le (square (minus (exact_mid m a b) (exact_mid m e f))) (squared (2 * limit_of kind))
+is_due m kind (asked.Zip a b e f) = is_zip_ready m a b e f && are_near m a b e f (limit_of kind)
 is_due m kind (asked.Pinch v) = nat_le 2 (length (fans m v))
 
 -- the condition of a kind of pass

@@ -1,9 +1,6 @@
 //! What a pass asks, in order.
-ghost use Rattle.std.specs.Prelude.{◌≡◌, None, map, IfOk};
-ghost use Rattle.std.specs.FinMap as finite;
-ghost use Rattle.mesh_base.specs.Pairs.{edges};
-ghost use Rattle.edit_base.specs.declared.Asked.TheVariants as asked;
-ghost use Rattle.pass_run.specs.Candidates.{candidates, pairs_within};
+ghost use Rattle.std.specs.Prelude.{◌≡◌, None, IfOk};
+ghost use Rattle.pass_run.specs.Candidates.{all_splits, all_collapses, all_flips, all_pinches, candidates, pairs_within};
 
 use edit_base::{Asked, PassKind};
 use grid_base::NoMemory;
@@ -22,7 +19,7 @@ pub(crate) fn pairs_within(kind: PassKind) -> Option<u32>
 
 /// The splits of all edges.
 fn splits<S: Surface>(alloc: Global, mesh: &S) -> Result<Vec<Asked>, NoMemory>
-    ensures { IfOk result (λ found. found.items ≡ map (λ e. asked.Split e.0 e.1) (edges (S.mesh mesh.now))) }
+    ensures { IfOk result (λ found. found.items ≡ all_splits (S.mesh mesh.now)) }
 {
     let edges = edges_in_order(alloc, mesh)?;
     let asked = edges
@@ -35,7 +32,7 @@ fn splits<S: Surface>(alloc: Global, mesh: &S) -> Result<Vec<Asked>, NoMemory>
 
 /// The collapses of all edges.
 fn collapses<S: Surface>(alloc: Global, mesh: &S) -> Result<Vec<Asked>, NoMemory>
-    ensures { IfOk result (λ found. found.items ≡ map (λ e. asked.Collapse e.0 e.1) (edges (S.mesh mesh.now))) }
+    ensures { IfOk result (λ found. found.items ≡ all_collapses (S.mesh mesh.now)) }
 {
     let edges = edges_in_order(alloc, mesh)?;
     let asked = edges
@@ -48,7 +45,7 @@ fn collapses<S: Surface>(alloc: Global, mesh: &S) -> Result<Vec<Asked>, NoMemory
 
 /// The flips of all edges.
 fn flips<S: Surface>(alloc: Global, mesh: &S) -> Result<Vec<Asked>, NoMemory>
-    ensures { IfOk result (λ found. found.items ≡ map (λ e. asked.Flip e.0 e.1) (edges (S.mesh mesh.now))) }
+    ensures { IfOk result (λ found. found.items ≡ all_flips (S.mesh mesh.now)) }
 {
     let edges = edges_in_order(alloc, mesh)?;
     let asked = edges
@@ -61,7 +58,7 @@ fn flips<S: Surface>(alloc: Global, mesh: &S) -> Result<Vec<Asked>, NoMemory>
 
 /// The pinches of all vertices.
 fn pinches<S: Surface>(alloc: Global, mesh: &S) -> Result<Vec<Asked>, NoMemory>
-    ensures { IfOk result (λ found. found.items ≡ map (λ v. asked.Pinch v) (finite.keys (S.mesh mesh.now).points)) }
+    ensures { IfOk result (λ found. found.items ≡ all_pinches (S.mesh mesh.now)) }
 {
     let vertices = live_vertices(alloc, mesh)?;
     let asked = vertices

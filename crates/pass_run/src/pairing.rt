@@ -1,14 +1,10 @@
 //! The pairs of edges that are near one another, found by a grid of midpoints.
-ghost use Rattle.std.specs.Prelude.{◌≡◌, ◌+◌, ◌++◌, ◌*◌, ◌<◌, ◌≤◌, ◌≤ℤ◌, ◌-ℤ◌, ℕ, ℤ, min, map, drop, nat_le, unsigned_abs, slice_get, Some, IsTrue, IfOk, OnOk};
-ghost use Rattle.std.specs.List.{filter, flat_map};
-ghost use Rattle.grid_base.specs.Extents.{IsIn};
+ghost use Rattle.std.specs.Prelude.{◌≡◌, ◌+◌, ◌++◌, ◌*◌, ◌<◌, ◌≤◌, ◌≤ℤ◌, ◌-ℤ◌, ℕ, ℤ, min, drop, nat_le, unsigned_abs, Some, IfOk, OnOk};
 ghost use Rattle.grid_base.specs.Points.{is_within};
 ghost use Rattle.grid_base.specs.Triples.{Triple, IsWithin, minus};
 ghost use Rattle.grid_base.specs.declared.TheConstants.{HALF_MAX, EXTENT_MAX};
-ghost use Rattle.pair_scan.specs.Scan.{one_or_none};
 ghost use Rattle.grid_base.specs.Ordered.{IsUnder};
-ghost use Rattle.pass_run.specs.Candidates.{zip_of};
-ghost use Rattle.pass_run.specs.Near.{is_near, near_zip, later_zip, IsBoxOf, AreMidpoints};
+ghost use Rattle.pass_run.specs.Near.{near_zip, later_zip, later_zips, near_zips, HasEachNear, IsBoxOf, AreMidpoints};
 
 use cell_grid::Grid;
 use edit_acts::exact_mid;
@@ -94,7 +90,8 @@ fn put_later<S: Surface>(
     places: &[u64],
     asked: &mut Zips,
 ) -> Result<(), NoMemory>
-    ensures { OnOk result (asked.new ≡ asked.old ++ flat_map (λ k. one_or_none (later_zip (S.mesh mesh.now) within edges.now i (a, b) k)) places.now) }
+    ensures { let zips = later_zips (S.mesh mesh.now) within edges.now i (a, b) places.now in
+        OnOk result (asked.new ≡ asked.old ++ zips) }
 {
     for k in places {
         if let Some(zip) = later_zip(mesh, within, edges, i, a, b, *k) {
@@ -178,7 +175,7 @@ fn corner_above(p: Wide, reach: u32) -> Wide
 /// A box that has each midpoint that is near this one.
 fn box_round(p: Wide, within: u32) -> Extent
     requires { IsWithin HALF_MAX p }
-    ensures { (q : Triple) → IsWithin HALF_MAX q → IsTrue (is_within (2 * within) (minus p q)) → IsIn result q }
+    ensures { HasEachNear p within result }
 {
     let reach = reach_of(within);
     let low = corner_below(p, reach);
@@ -215,7 +212,8 @@ pub(crate) fn near_pairs<S: Surface>(
     b: VertexId,
 ) -> Result<Zips, NoMemory>
     requires { AreMidpoints (S.mesh mesh.now) edges.now grid.now }
-    ensures { IfOk result (λ asked. asked ≡ map (zip_of (a, b)) (filter (is_near (S.mesh mesh.now) within (a, b)) (drop (i + 1) edges.now))) }
+    ensures { let zips = near_zips (S.mesh mesh.now) within (a, b) (drop (i + 1) edges.now) in
+        IfOk result (λ asked. asked ≡ zips) }
 {
     let mut places = Vec::new(alloc);
     grid.overlapping(box_round(exact_mid(mesh, a, b), within), &mut places)?;

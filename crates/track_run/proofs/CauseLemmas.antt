@@ -22,10 +22,13 @@ use Rattle.log_text.specs.declared.Refusal.{Refusal}
 use Rattle.log_text.specs.declared.Refusal.TheVariants as refusal
 use Rattle.track_run.specs.declared.outcome.Outcome.{Outcome}
 use Rattle.track_run.specs.declared.outcome.Outcome.TheVariants as outcome
-use Rattle.track_run.specs.State.{State, start}
-use Rattle.track_run.specs.Turns.{Turn, Goes, Stops, Told, turn, and_then, told_from, refused}
-use Rattle.track_run.specs.Job.{Job, Source, Bytes, Absent, TooLong, log_of, told_of, told_of_files, told_of_lists, told_of_shape, told_of_steps, told_of_meeting, met_first, mesh_of_lists}
-use Rattle.track_run.specs.World.{outcome_of}
+use Rattle.track_engine.specs.State.{State, start}
+use Rattle.track_engine.specs.Effects.{Effect, Proceeds, Refused, ExpectedLog, effect_of, and_then, log_from, refused}
+use Rattle.track_input.specs.Source.{Source, Bytes, Absent, TooLong}
+use Rattle.track_input.specs.Job.{Job, mesh_of_lists}
+use Rattle.track_run.specs.Job.{log_of, log_of_mesh, log_of_test, met_first}
+use Rattle.track_run.proofs.JobLogs.{log_of_files, log_of_lists, log_of_shape, log_of_steps}
+use Rattle.track_run.specs.Outcomes.{outcome_of}
 use Rattle.track_run.specs.Causes.{Cause, HasLists, HasMesh, HasSteps, HasClear, Reaches, IsRefusedAt, IsStopped}
 
 -- ---- the directives
@@ -36,7 +39,7 @@ Ends s directives None = (end : State) × Reaches s directives end
 Ends s directives (Some (refusal.StepUse line why)) = IsRefusedAt s directives line why
 Ends s directives (Some _) = ⊥
 
-one_more : (p : Placed) (s n : State) (lines : List LogLine) (more : List Placed) (o : Option Refusal) → turn p.what s ≡ Goes lines n → Ends n more o → Ends s (p ∷ more) o
+one_more : (p : Placed) (s n : State) (lines : List LogLine) (more : List Placed) (o : Option Refusal) → effect_of p.what s ≡ Proceeds lines n → Ends n more o → Ends s (p ∷ more) o
 one_more p s n lines more None e h = (h.0, (lines, n, e, h.1))
 one_more p s n lines more (Some (refusal.StepUse line why)) e h = record {
   front = p ∷ h.front;
@@ -55,13 +58,13 @@ one_more p s n lines more (Some (refusal.Shape f)) e h = absurd h
 one_more p s n lines more (Some (refusal.Meets f)) e h = absurd h
 one_more p s n lines more (Some (refusal.Steps f)) e h = absurd h
 
-by_turn : (p : Placed) (s : State) (more : List Placed) (next : (n : State) → Ends n more (told_from more n).ending) (t : Turn) → turn p.what s ≡ t → Ends s (p ∷ more) (and_then p.line t (told_from more)).ending
-by_turn p s more next (Goes lines n) e = one_more p s n lines more (told_from more n).ending e (next n)
-by_turn p s more next (Stops why) e = record { front = []; placed = p; rest = more; split = refl; state = s; reached = refl; refused = e; line_is = refl }
+by_effect : (p : Placed) (s : State) (more : List Placed) (next : (n : State) → Ends n more (log_from more n).ending) (t : Effect) → effect_of p.what s ≡ t → Ends s (p ∷ more) (and_then p.line t (log_from more)).ending
+by_effect p s more next (Proceeds lines n) e = one_more p s n lines more (log_from more n).ending e (next n)
+by_effect p s more next (Refused why) e = record { front = []; placed = p; rest = more; split = refl; state = s; reached = refl; refused = e; line_is = refl }
 
-told_ends : (directives : List Placed) (s : State) → Ends s directives (told_from directives s).ending
+told_ends : (directives : List Placed) (s : State) → Ends s directives (log_from directives s).ending
 told_ends [] s = (s, refl)
-told_ends (p ∷ more) s = by_turn p s more (λ n. told_ends more n) (turn p.what s) refl
+told_ends (p ∷ more) s = by_effect p s more (λ n. told_ends more n) (effect_of p.what s) refl
 
 -- ---- the files
 
@@ -81,32 +84,32 @@ lists_sound lists good =
     let points = map point_at lists.points in
     sound-mesh_of points lists.faces (ap (λ n. shape_fault n lists.faces) (length-map lists.points point_at) ∙ good)
 
-meeting_cause : (job : Job) (lists : Lists) (directives : List Placed) (o : Option PairName) → HasSteps job lists directives → met_first (mesh_of_lists lists) ≡ o → Cause job (outcome_of (told_of_meeting (mesh_of_lists lists) directives o).ending)
+meeting_cause : (job : Job) (lists : Lists) (directives : List Placed) (o : Option PairName) → HasSteps job lists directives → met_first (mesh_of_lists lists) ≡ o → Cause job (outcome_of (log_of_test (mesh_of_lists lists) directives o).ending)
 meeting_cause job lists directives (Some pair) h e =
     let m = mesh_of_lists lists in
     (lists, directives, h, record { found = e; meets = answer_meets m (Some pair) (sym e); none_before = answer_is_first m (Some pair) (lists_sound lists h.mesh_read.good) (sym e) })
 meeting_cause job lists directives None h e =
     let clear : IsClearMesh (mesh_of_lists lists) = (clear_exactly (mesh_of_lists lists) None (lists_sound lists h.mesh_read.good) (sym e)).0 refl in
-    use_cause job lists directives (told_of (mesh_of_lists lists) directives).ending (record { steps_read = h; clear = e; none_meets = clear }) (told_ends directives (start (mesh_of_lists lists)))
+    use_cause job lists directives (log_of_mesh (mesh_of_lists lists) directives).ending (record { steps_read = h; clear = e; none_meets = clear }) (told_ends directives (start (mesh_of_lists lists)))
 
-steps_cause : (job : Job) (lists : Lists) (steps : List ℕ) (r : Result (List Placed) TextFault) → HasMesh job lists steps → steps_of steps ≡ r → Cause job (outcome_of (told_of_steps (mesh_of_lists lists) r).ending)
+steps_cause : (job : Job) (lists : Lists) (steps : List ℕ) (r : Result (List Placed) TextFault) → HasMesh job lists steps → steps_of steps ≡ r → Cause job (outcome_of (log_of_steps lists r).ending)
 steps_cause job lists steps (Err fault) h e = (lists, steps, h, e)
 steps_cause job lists steps (Ok directives) h e =
     meeting_cause job lists directives (met_first (mesh_of_lists lists)) (record { steps = steps; mesh_read = h; read = e }) refl
 
-shape_cause : (job : Job) (lists : Lists) (steps : List ℕ) (o : Option ShapeFault) → HasLists job lists steps → shape_fault (length lists.points) lists.faces ≡ o → Cause job (outcome_of (told_of_shape lists o steps).ending)
+shape_cause : (job : Job) (lists : Lists) (steps : List ℕ) (o : Option ShapeFault) → HasLists job lists steps → shape_fault (length lists.points) lists.faces ≡ o → Cause job (outcome_of (log_of_shape lists o steps).ending)
 shape_cause job lists steps (Some fault) h e = (lists, steps, h, e)
 shape_cause job lists steps None h e = steps_cause job lists steps (steps_of steps) (record { lists_read = h; good = e }) refl
 
 abbrev job_with : ℕ → Source → Source → Job
 job_with decimals mesh steps = record { mesh_file = mesh; step_file = steps; decimals = decimals }
 
-lists_cause : (decimals : ℕ) (mesh steps : List ℕ) (r : Result Lists TextFault) → lists_of decimals mesh ≡ r → Cause (job_with decimals (Bytes mesh) (Bytes steps)) (outcome_of (told_of_lists r steps).ending)
+lists_cause : (decimals : ℕ) (mesh steps : List ℕ) (r : Result Lists TextFault) → lists_of decimals mesh ≡ r → Cause (job_with decimals (Bytes mesh) (Bytes steps)) (outcome_of (log_of_lists r steps).ending)
 lists_cause decimals mesh steps (Err fault) e = (mesh, refl, (steps, refl), e)
 lists_cause decimals mesh steps (Ok lists) e =
     shape_cause (job_with decimals (Bytes mesh) (Bytes steps)) lists steps (shape_fault (length lists.points) lists.faces) (record { mesh = mesh; mesh_file = refl; step_file = refl; read = e }) refl
 
-files_cause : (decimals : ℕ) (mesh steps : Source) → Cause (job_with decimals mesh steps) (outcome_of (told_of_files decimals mesh steps).ending)
+files_cause : (decimals : ℕ) (mesh steps : Source) → Cause (job_with decimals mesh steps) (outcome_of (log_of_files decimals mesh steps).ending)
 files_cause decimals (TooLong seen) steps = refl
 files_cause decimals Absent steps = refl
 files_cause decimals (Bytes mesh) (TooLong seen) = ((mesh, refl), refl)
@@ -118,54 +121,54 @@ log_cause job = files_cause job.decimals job.mesh_file job.step_file
 
 -- ---- and a cause has no other outcome
 
-ends_reached : (directives : List Placed) (s end : State) → Reaches s directives end → (told_from directives s).ending ≡ None
+ends_reached : (directives : List Placed) (s end : State) → Reaches s directives end → (log_from directives s).ending ≡ None
 ends_reached [] s end h = refl
-ends_reached (p ∷ more) s end h = ap (λ t. (and_then p.line t (told_from more)).ending) h.2 ∙ ends_reached more h.1 end h.3
+ends_reached (p ∷ more) s end h = ap (λ t. (and_then p.line t (log_from more)).ending) h.2 ∙ ends_reached more h.1 end h.3
 
-ends_refused : (front rest : List Placed) (p : Placed) (s state : State) (why : UseWhy) → Reaches s front state → turn p.what state ≡ Stops why → (told_from (front ++ p ∷ rest) s).ending ≡ Some (refusal.StepUse p.line why)
-ends_refused [] rest p s state why h e = ap (λ z. (and_then p.line (turn p.what z) (told_from rest)).ending) h ∙ ap (λ t. (and_then p.line t (told_from rest)).ending) e
-ends_refused (q ∷ front) rest p s state why h e = ap (λ t. (and_then q.line t (told_from (front ++ p ∷ rest))).ending) h.2 ∙ ends_refused front rest p h.1 state why h.3 e
+ends_refused : (front rest : List Placed) (p : Placed) (s state : State) (why : UseWhy) → Reaches s front state → effect_of p.what state ≡ Refused why → (log_from (front ++ p ∷ rest) s).ending ≡ Some (refusal.StepUse p.line why)
+ends_refused [] rest p s state why h e = ap (λ z. (and_then p.line (effect_of p.what z) (log_from rest)).ending) h ∙ ap (λ t. (and_then p.line t (log_from rest)).ending) e
+ends_refused (q ∷ front) rest p s state why h e = ap (λ t. (and_then q.line t (log_from (front ++ p ∷ rest))).ending) h.2 ∙ ends_refused front rest p h.1 state why h.3 e
 
 module _ (job : Job) where
-  mesh_told : (source : Source) → job.mesh_file ≡ source → told_of_files job.decimals job.mesh_file job.step_file ≡ told_of_files job.decimals source job.step_file
-  mesh_told source e = ap (λ f. told_of_files job.decimals f job.step_file) e
+  mesh_told : (source : Source) → job.mesh_file ≡ source → log_of_files job.decimals job.mesh_file job.step_file ≡ log_of_files job.decimals source job.step_file
+  mesh_told source e = ap (λ f. log_of_files job.decimals f job.step_file) e
 
-  both_told : (mesh : List ℕ) (source : Source) → job.mesh_file ≡ Bytes mesh → job.step_file ≡ source → told_of_files job.decimals job.mesh_file job.step_file ≡ told_of_files job.decimals (Bytes mesh) source
-  both_told mesh source e f = mesh_told (Bytes mesh) e ∙ ap (λ s. told_of_files job.decimals (Bytes mesh) s) f
+  both_told : (mesh : List ℕ) (source : Source) → job.mesh_file ≡ Bytes mesh → job.step_file ≡ source → log_of_files job.decimals job.mesh_file job.step_file ≡ log_of_files job.decimals (Bytes mesh) source
+  both_told mesh source e f = mesh_told (Bytes mesh) e ∙ ap (λ s. log_of_files job.decimals (Bytes mesh) s) f
 
-  lists_told : (lists : Lists) (steps : List ℕ) → HasLists job lists steps → told_of_files job.decimals job.mesh_file job.step_file ≡ told_of_shape lists (shape_fault (length lists.points) lists.faces) steps
-  lists_told lists steps h = both_told h.mesh (Bytes steps) h.mesh_file h.step_file ∙ ap (λ r. told_of_lists r steps) h.read
+  lists_told : (lists : Lists) (steps : List ℕ) → HasLists job lists steps → log_of_files job.decimals job.mesh_file job.step_file ≡ log_of_shape lists (shape_fault (length lists.points) lists.faces) steps
+  lists_told lists steps h = both_told h.mesh (Bytes steps) h.mesh_file h.step_file ∙ ap (λ r. log_of_lists r steps) h.read
 
-  mesh_good : (lists : Lists) (steps : List ℕ) → HasMesh job lists steps → told_of_files job.decimals job.mesh_file job.step_file ≡ told_of_steps (mesh_of_lists lists) (steps_of steps)
-  mesh_good lists steps h = lists_told lists steps h.lists_read ∙ ap (λ o. told_of_shape lists o steps) h.good
+  mesh_good : (lists : Lists) (steps : List ℕ) → HasMesh job lists steps → log_of_files job.decimals job.mesh_file job.step_file ≡ log_of_steps lists (steps_of steps)
+  mesh_good lists steps h = lists_told lists steps h.lists_read ∙ ap (λ o. log_of_shape lists o steps) h.good
 
-  steps_told : (lists : Lists) (directives : List Placed) → HasSteps job lists directives → told_of_files job.decimals job.mesh_file job.step_file ≡ told_of_meeting (mesh_of_lists lists) directives (met_first (mesh_of_lists lists))
-  steps_told lists directives h = mesh_good lists h.steps h.mesh_read ∙ ap (told_of_steps (mesh_of_lists lists)) h.read
+  steps_told : (lists : Lists) (directives : List Placed) → HasSteps job lists directives → log_of_files job.decimals job.mesh_file job.step_file ≡ log_of_test (mesh_of_lists lists) directives (met_first (mesh_of_lists lists))
+  steps_told lists directives h = mesh_good lists h.steps h.mesh_read ∙ ap (log_of_steps lists) h.read
 
-  pub clear_told : (lists : Lists) (directives : List Placed) → HasClear job lists directives → told_of_files job.decimals job.mesh_file job.step_file ≡ told_of (mesh_of_lists lists) directives
-  clear_told lists directives h = steps_told lists directives h.steps_read ∙ ap (told_of_meeting (mesh_of_lists lists) directives) h.clear
+  pub clear_told : (lists : Lists) (directives : List Placed) → HasClear job lists directives → log_of_files job.decimals job.mesh_file job.step_file ≡ log_of_mesh (mesh_of_lists lists) directives
+  clear_told lists directives h = steps_told lists directives h.steps_read ∙ ap (log_of_test (mesh_of_lists lists) directives) h.clear
 
-  ended : (told : Told) → told_of_files job.decimals job.mesh_file job.step_file ≡ told → outcome_of (log_of job).ending ≡ outcome_of told.ending
-  ended told e = ap (λ (t : Told). outcome_of t.ending) e
+  ended : (told : ExpectedLog) → log_of_files job.decimals job.mesh_file job.step_file ≡ told → outcome_of (log_of job).ending ≡ outcome_of told.ending
+  ended told e = ap (λ (t : ExpectedLog). outcome_of t.ending) e
 
   -- a job with a cause ends so, or is stopped
   pub cause_ends : (o : Outcome) → Cause job o → (outcome_of (log_of job).ending ≡ o) ⊎ IsStopped o
-  cause_ends outcome.Done h = inl (ended (told_of (mesh_of_lists h.0) h.1) (clear_told h.0 h.1 h.2) ∙ ap outcome_of (ends_reached h.1 (start (mesh_of_lists h.0)) h.3 h.4))
+  cause_ends outcome.Done h = inl (ended (log_of_mesh (mesh_of_lists h.0) h.1) (clear_told h.0 h.1 h.2) ∙ ap outcome_of (ends_reached h.1 (start (mesh_of_lists h.0)) h.3 h.4))
   cause_ends (outcome.TooLong file.Mesh seen) h = inl (ended (refused (refusal.Long file.Mesh seen)) (mesh_told (TooLong seen) h))
   cause_ends (outcome.TooLong file.Steps seen) h = inl (ended (refused (refusal.Long file.Steps seen)) (both_told h.0.0 (TooLong seen) h.0.1 h.1))
   cause_ends (outcome.Missing file.Mesh) h = inl (ended (refused (refusal.Missing file.Mesh)) (mesh_told Absent h))
   cause_ends (outcome.Missing file.Steps) h = inl (ended (refused (refusal.Missing file.Steps)) (both_told h.0.0 Absent h.0.1 h.1))
-  cause_ends (outcome.MeshText fault) h = inl (ended (refused (refusal.Mesh fault)) (both_told h.0 (Bytes h.2.0) h.1 h.2.1 ∙ ap (λ r. told_of_lists r h.2.0) h.3))
-  cause_ends (outcome.MeshShape fault) h = inl (ended (refused (refusal.Shape fault)) (lists_told h.0 h.1 h.2 ∙ ap (λ o. told_of_shape h.0 o h.1) h.3))
-  cause_ends (outcome.StepText fault) h = inl (ended (refused (refusal.Steps fault)) (mesh_good h.0 h.1 h.2 ∙ ap (told_of_steps (mesh_of_lists h.0)) h.3))
+  cause_ends (outcome.MeshText fault) h = inl (ended (refused (refusal.Mesh fault)) (both_told h.0 (Bytes h.2.0) h.1 h.2.1 ∙ ap (λ r. log_of_lists r h.2.0) h.3))
+  cause_ends (outcome.MeshShape fault) h = inl (ended (refused (refusal.Shape fault)) (lists_told h.0 h.1 h.2 ∙ ap (λ o. log_of_shape h.0 o h.1) h.3))
+  cause_ends (outcome.StepText fault) h = inl (ended (refused (refusal.Steps fault)) (mesh_good h.0 h.1 h.2 ∙ ap (log_of_steps h.0) h.3))
   cause_ends (outcome.StepUse line why) h =
       let at = h.3 in
       let m = mesh_of_lists h.0 in
-      inl (ended (told_of m h.1) (clear_told h.0 h.1 h.2)
-      ∙ ap (λ l. outcome_of (told_from l (start m)).ending) at.split
+      inl (ended (log_of_mesh m h.1) (clear_told h.0 h.1 h.2)
+      ∙ ap (λ l. outcome_of (log_from l (start m)).ending) at.split
       ∙ ap outcome_of (ends_refused at.front at.rest at.placed (start m) at.state why at.reached at.refused)
       ∙ ap (λ n. outcome.StepUse n why) (sym at.line_is))
-  cause_ends (outcome.MeshMeets pair) h = inl (ended (refused (refusal.Meets pair)) (steps_told h.0 h.1 h.2 ∙ ap (told_of_meeting (mesh_of_lists h.0) h.1) h.3.found))
+  cause_ends (outcome.MeshMeets pair) h = inl (ended (refused (refusal.Meets pair)) (steps_told h.0 h.1 h.2 ∙ ap (log_of_test (mesh_of_lists h.0) h.1) h.3.found))
   cause_ends outcome.Usage h = absurd h
   cause_ends outcome.NoMemory h = inr tt
   cause_ends outcome.DeskFault h = inr tt

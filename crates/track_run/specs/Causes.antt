@@ -13,9 +13,11 @@ use Rattle.step_text.specs.Steps.{steps_of}
 use Rattle.log_text.specs.declared.LogLine.{LogLine}
 use Rattle.track_run.specs.declared.outcome.Outcome.{Outcome}
 use Rattle.track_run.specs.declared.outcome.Outcome.TheVariants as outcome
-use Rattle.track_run.specs.State.{State, start}
-use Rattle.track_run.specs.Turns.{Goes, Stops, turn}
-use Rattle.track_run.specs.Job.{Job, Source, Bytes, Absent, TooLong, mesh_of_lists, met_first}
+use Rattle.track_engine.specs.State.{State, start}
+use Rattle.track_engine.specs.Effects.{Proceeds, Refused, effect_of}
+use Rattle.track_input.specs.Source.{Source, Bytes, Absent, TooLong}
+use Rattle.track_input.specs.Job.{Job, mesh_of_lists}
+use Rattle.track_run.specs.Job.{met_first}
 
 -- the file is there, and no longer than a text may be
 abbrev pub IsThere : Source → Type 0
@@ -54,7 +56,7 @@ pub record MeetsFirst (m : Mesh) (pair : PairName) : Type 0 where
 -- all of these directives are taken, from one state to the other
 abbrev pub Reaches : State → List Placed → State → Type 0
 Reaches s [] t = s ≡ t
-Reaches s (placed ∷ more) t = (lines : List LogLine) × (next : State) × (turn placed.what s ≡ Goes lines next) × Reaches next more t
+Reaches s (placed ∷ more) t = (lines : List LogLine) × (next : State) × (effect_of placed.what s ≡ Proceeds lines next) × Reaches next more t
 
 -- the directives before one are all taken, and that one, at this line of the step file, is refused
 pub record IsRefusedAt (s : State) (directives : List Placed) (line : ℕ) (why : UseWhy) : Type 0 where
@@ -64,7 +66,7 @@ pub record IsRefusedAt (s : State) (directives : List Placed) (line : ℕ) (why 
   pub split : directives ≡ front ++ placed ∷ rest
   pub state : State
   pub reached : Reaches s front state
-  pub refused : turn placed.what state ≡ Stops why
+  pub refused : effect_of placed.what state ≡ Refused why
   pub line_is : line ≡ placed.line
 
 -- Why a job has an outcome. Each cause holds what must have gone well before it, so no job has two.

@@ -2,19 +2,8 @@
 //! replayed.
 #![tactic(auto)]
 
-mod course;
-mod fetch;
-mod following;
-mod lines;
 mod outcome;
-mod placing;
-mod reading;
-mod saving;
-mod shifting;
-mod stepping;
 mod top;
-mod turns;
-mod words;
 
 pub use outcome::Outcome;
 pub use top::run;

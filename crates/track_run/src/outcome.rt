@@ -54,11 +54,3 @@ impl Outcome {
         }
     }
 }
-
-/// Why a run stops before the end of its log.
-#[derive(Clone, Copy, Debug, PartialEq, Eq)]
-pub(crate) enum Stop {
-    NoMemory,
-    DeskFault,
-    SinkFault,
-}

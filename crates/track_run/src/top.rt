@@ -1,31 +1,25 @@
 ghost use Rattle.std.specs.Prelude.{◌≡◌, ◌≤◌, ◌<◌, ◌^◌, length, map, string_bytes};
-ghost use Rattle.grid_base.specs.declared.TheConstants.{TEXT_MAX};
+ghost use Rattle.grid_base.specs.declared.TheConstants.{DECIMALS_MAX};
 ghost use Rattle.mesh_base.specs.Sides.{IsClosed};
-ghost use Rattle.step_text.specs.Ranges.{AreInRange};
-ghost use Rattle.outside_io.specs.Causes.{Rose};
-ghost use Rattle.track_run.specs.State.{at_mesh};
 ghost use Rattle.mesh_base.specs.Valid.{IsValidSurface};
-ghost use Rattle.track_run.specs.Job.{told_of, told_of_meeting, met_first};
-ghost use Rattle.track_run.specs.Words.{named_in};
-ghost use Rattle.track_run.specs.Names.{named_by, target_of};
-ghost use Rattle.track_run.specs.World.{world, HasCauses, Follows, Runs, outcome_of};
-ghost use Rattle.track_run.specs.Parts.{TracksJob};
+ghost use Rattle.step_text.specs.Ranges.{AreInRange};
+ghost use Rattle.track_input.specs.Words.{named_in};
+ghost use Rattle.track_engine.specs.State.{at_mesh};
+ghost use Rattle.track_engine.specs.Targets.{target_of};
+ghost use Rattle.track_engine.specs.World.{contents, world, HasCauses, Follows};
+ghost use Rattle.track_run.specs.Job.{log_of_mesh, log_of_test, met_first};
+ghost use Rattle.track_run.specs.Outcomes.{outcome_of, outcome_from};
+ghost use Rattle.track_run.specs.Headline.{Runs, TracksJob};
 
-use crate::course::Course;
-use crate::following::follow;
-use crate::lines::{finish, say};
-use crate::outcome::{Outcome, Stop};
-use crate::reading::{Ready, prepare};
-use crate::saving::save;
-use crate::shifting::no_shifts;
-use crate::words::{Names, named};
-use log_text::{LogLine, Refusal};
+use crate::outcome::Outcome;
+use log_text::{LogLine, Refusal, VERSION};
 use mesh_plain::{PlainMesh, Surface};
 use outside_io::{Desk, Sink};
 use pair_scan::first_meeting;
 use std::alloc::Global;
-use step_choose::Settings;
 use step_text::Directives;
+use track_engine::{Engine, Stop, Target, finish, say};
+use track_input::{Command, InputFault, Ready, command_of, prepare};
 
 // The outcome that the last line of a whole log tells.
 fn outcome_of(ending: Option<Refusal>) -> Outcome
@@ -43,79 +37,93 @@ fn outcome_of(ending: Option<Refusal>) -> Outcome
     }
 }
 
-// The first mesh, which is good, is saved, and then the directives are followed.
-fn begin<S: Surface, D: Desk, K: Sink>(
+// The outcome of a run that ended so.
+fn outcome_from(ended: Result<Option<Refusal>, Stop>) -> Outcome
+    ensures { result ≡ outcome_from ended }
+{
+    match ended {
+        Ok(ending) => outcome_of(ending),
+        Err(Stop::NoMemory) => Outcome::NoMemory,
+        Err(Stop::DeskFault) => Outcome::DeskFault,
+        Err(Stop::SinkFault) => Outcome::SinkFault,
+    }
+}
+
+// The first mesh, which is sound, closed and clear, is saved, and then the directives are followed.
+fn begin<S: Surface + Drop, D: Desk, K: Sink>(
     alloc: Global,
-    names: Names<'_>,
-    mesh: &mut S,
+    to: Target<'_>,
+    mesh: S,
     steps: &Directives,
     desk: &mut D,
     out: &mut K,
 ) -> Result<Option<Refusal>, Stop>
-    requires few { names.decimals ≤ 6 }
-    requires good { IsValidSurface (S.mesh mesh.old) }
+    requires few { to.decimals ≤ DECIMALS_MAX }
+    requires good { IsValidSurface (S.mesh mesh) }
     requires ranges { AreInRange steps.now }
     requires count { length steps.now < 2 ^ 31 }
-    ensures follows { Follows (target_of names.entry) (at_mesh (S.mesh mesh.old)) (told_of (S.mesh mesh.old) steps.now)
-        (world D.files K.written desk.old out.old) (world D.files K.written desk.new out.new) result }
-    ensures causes { HasCauses (D.faults desk.old) (D.faults desk.new) (K.faults out.old) (K.faults out.new) result }
+    ensures follows { Follows (target_of to.entry) (at_mesh (S.mesh mesh)) (log_of_mesh (S.mesh mesh) steps.now)
+        (contents D.files K.written desk.old out.old) (contents D.files K.written desk.new out.new) result }
+    ensures causes { HasCauses (world D.files D.faults K.written K.faults desk.old out.old)
+        (world D.files D.faults K.written K.faults desk.new out.new) result }
 {
-    save(alloc, names, 0, mesh, desk, out)?;
-    let asked = match no_shifts(alloc, mesh) {
-        Ok(asked) => asked,
-        Err(_) => return Err(Stop::NoMemory),
+    let Ok(mut engine) = Engine::new(alloc, mesh) else {
+        return Err(Stop::NoMemory);
     };
-    let mut course = Course {
-        asked,
-        set: Settings::at_first(),
-        steps: 0,
-        saved: 1,
-    };
-    follow(alloc, names, steps.as_slice(), mesh, &mut course, desk, out)
+    engine.save(alloc, to, desk, out)?;
+    engine.follow(alloc, to, steps.as_slice(), desk, out)
 }
 
 // The mesh is tested, and begun with where no edge meets a face that shares no vertex with it.
-fn test_and_begin<S: Surface, D: Desk, K: Sink>(
+fn test_and_begin<S: Surface + Drop, D: Desk, K: Sink>(
     alloc: Global,
-    names: Names<'_>,
-    mesh: &mut S,
+    to: Target<'_>,
+    mesh: S,
     steps: &Directives,
     desk: &mut D,
     out: &mut K,
 ) -> Result<Option<Refusal>, Stop>
-    requires few { names.decimals ≤ 6 }
-    requires closed { IsClosed (S.mesh mesh.old) }
+    requires few { to.decimals ≤ DECIMALS_MAX }
+    requires closed { IsClosed (S.mesh mesh) }
     requires ranges { AreInRange steps.now }
     requires count { length steps.now < 2 ^ 31 }
-    ensures follows { Follows (target_of names.entry) (at_mesh (S.mesh mesh.old)) (told_of_meeting (S.mesh mesh.old) steps.now (met_first (S.mesh mesh.old)))
-        (world D.files K.written desk.old out.old) (world D.files K.written desk.new out.new) result }
-    ensures causes { HasCauses (D.faults desk.old) (D.faults desk.new) (K.faults out.old) (K.faults out.new) result }
+    ensures follows { let m = S.mesh mesh in
+        Follows (target_of to.entry) (at_mesh m) (log_of_test m steps.now (met_first m))
+        (contents D.files K.written desk.old out.old) (contents D.files K.written desk.new out.new) result }
+    ensures causes { HasCauses (world D.files D.faults K.written K.faults desk.old out.old)
+        (world D.files D.faults K.written K.faults desk.new out.new) result }
 {
-    match first_meeting(alloc, mesh) {
-        Ok(None) => begin(alloc, names, mesh, steps, desk, out),
+    match first_meeting(alloc, &mesh) {
+        Ok(None) => begin(alloc, to, mesh, steps, desk, out),
         Ok(Some(pair)) => finish(alloc, out, LogLine::Refused(Refusal::Meets(pair))),
         Err(_) => Err(Stop::NoMemory),
     }
 }
 
-// The whole log of a job.
+// The whole log of the job of two files.
 fn track<D: Desk, K: Sink>(
     alloc: Global,
-    names: Names<'_>,
+    mesh_name: &str,
+    step_name: &str,
+    to: Target<'_>,
     desk: &mut D,
     out: &mut K,
 ) -> Result<Option<Refusal>, Stop>
-    requires { names.decimals ≤ 6 }
-    ensures tracks { TracksJob (named_by names.entry) (world D.files K.written desk.old out.old) (world D.files K.written desk.new out.new) result }
-    ensures causes { HasCauses (D.faults desk.old) (D.faults desk.new) (K.faults out.old) (K.faults out.new) result }
+    requires { to.decimals ≤ DECIMALS_MAX }
+    ensures tracks { TracksJob mesh_name.now step_name.now (target_of to.entry)
+        (contents D.files K.written desk.old out.old) (contents D.files K.written desk.new out.new) result }
+    ensures causes { HasCauses (world D.files D.faults K.written K.faults desk.old out.old)
+        (world D.files D.faults K.written K.faults desk.new out.new) result }
 {
-    say(alloc, out, &LogLine::First { version: 1 })?;
-    match prepare(alloc, names, desk)? {
-        Ready::No(why) => finish(alloc, out, LogLine::Refused(why)),
-        Ready::Yes(lists, steps) => match PlainMesh::of(alloc, &lists) {
-            Ok(mut mesh) => test_and_begin(alloc, names, &mut mesh, &steps, desk, out),
+    say(alloc, out, &LogLine::First { version: VERSION })?;
+    match prepare(alloc, mesh_name, step_name, to.decimals, desk) {
+        Ok(Ready::No(why)) => finish(alloc, out, LogLine::Refused(why)),
+        Ok(Ready::Yes(lists, steps)) => match PlainMesh::of(alloc, &lists) {
+            Ok(mesh) => test_and_begin(alloc, to, mesh, &steps, desk, out),
             Err(_) => Err(Stop::NoMemory),
         },
+        Err(InputFault::NoMemory) => Err(Stop::NoMemory),
+        Err(InputFault::DeskFault) => Err(Stop::DeskFault),
     }
 }
 
@@ -126,20 +134,22 @@ fn track<D: Desk, K: Sink>(
 /// The tracker is that of Brochu and Bridson, "Robust topological operations for dynamic explicit surfaces" (2009).
 pub fn run<D: Desk, K: Sink>(alloc: Global, words: &[String], desk: &mut D, out: &mut K) -> Outcome
     ensures headline { Runs (named_in (map (λ word. string_bytes word) words.now)) result
-        (world D.files K.written desk.old out.old) (world D.files K.written desk.new out.new) }
-    // After every outcome: no count of faults has fallen, and at a fault the one of its side has risen.
-    ensures desk_later { D.faults desk.old ≤ D.faults desk.new }
-    ensures out_later { K.faults out.old ≤ K.faults out.new }
-    ensures desk_fault { result ≡ Outcome.DeskFault → Rose (D.faults desk.old) (D.faults desk.new) }
-    ensures sink_fault { result ≡ Outcome.SinkFault → Rose (K.faults out.old) (K.faults out.new) }
+        (world D.files D.faults K.written K.faults desk.old out.old)
+        (world D.files D.faults K.written K.faults desk.new out.new) }
 {
-    match named(words) {
+    match command_of(words) {
         None => Outcome::Usage,
-        Some(names) => match track(alloc, names, desk, out) {
-            Ok(ending) => outcome_of(ending),
-            Err(Stop::NoMemory) => Outcome::NoMemory,
-            Err(Stop::DeskFault) => Outcome::DeskFault,
-            Err(Stop::SinkFault) => Outcome::SinkFault,
-        },
+        Some(
+            Command::Track {
+                mesh,
+                steps,
+                prefix,
+                decimals,
+            },
+        ) => {
+            let to = Target { prefix, decimals };
+            let ended = track(alloc, mesh, steps, to, desk, out);
+            outcome_from(ended)
+        }
     }
 }

@@ -3,10 +3,10 @@ use Rattle.std.proofs.lemmas.Result.{err_from_is_err_and}
 use Rattle.mesh_base.specs.Mesh.{Mesh}
 use Rattle.log_text.specs.declared.LogLine.{LogLine}
 use Rattle.pass_run.specs.Candidates.{zip_of}
-use Rattle.pass_run.specs.Near.{is_near}
+use Rattle.pass_run.specs.Near.{is_near, near_zips}
 use Rattle.pass_run.specs.PassLines.{exactly, lines_from}
 use Rattle.pass_run.proofs.Asking.{none_left}
-use Rattle.pass_run.proofs.NearPairs.{pairs_left, near_of, pairs_here, points_stay, all_pairs_left, never_due}
+use Rattle.pass_run.proofs.NearPairs.{pairs_left, pairs_here, points_stay, all_pairs_left, never_due}
 use Rattle.pass_run.proofs.NearPlaces.{midpoints_stay}
 use Rattle.pass_run.proofs.Room.{edges_few, near_few}
 use Rattle.pass_run.proofs.Stages.{wanting, goes_nowhere, so_far_none, so_far_over, so_far_all, so_far_wanting, step_done, step_in_part}
@@ -53,7 +53,7 @@ returns-in_err-more g c =
     let items = c.as_slice-edges.result.now in
     let e = c.index-edges-i.result in
     let all = c.as_slice.result.now in
-    let is : all ≡ near_of c.args.within m e (drop (c.loop-i.i + 1) items) = c.as_slice.ensures ∙ c.in_ok-asked.ensures in
+    let is : all ≡ near_zips m c.args.within e (drop (c.loop-i.i + 1) items) = c.as_slice.ensures ∙ c.in_ok-asked.ensures in
     let rest : Mesh → List LogLine = λ n. pairs_left rules n (drop (c.loop-i.i + 1) items) in
     rw p.1 (step_in_part _ _ _ c.args.terms.grouped _ (lines_from rules m all) _ rest c.loop-i.count
     (pairs_here rules c.args.within (never_due c.args.terms c.args.within c.requires.zips) m items c.loop-i.i e c.loop-i-test.true c.index-edges-i.is all is)
@@ -65,7 +65,7 @@ sum-count-requires g c =
     let items = c.as_slice-edges.result.now in
     let e = c.index-edges-i.result in
     let all = c.as_slice.result.now in
-    let is : all ≡ near_of c.args.within m e (drop (c.loop-i.i + 1) items) = c.as_slice.ensures ∙ c.in_ok-asked.ensures in
+    let is : all ≡ near_zips m c.args.within e (drop (c.loop-i.i + 1) items) = c.as_slice.ensures ∙ c.in_ok-asked.ensures in
     let few = edges_few (g.S.Surface.mesh c.args.mesh.now) (g.met.S.Surface.sound c.args.mesh.now) in
     let same = ap length (c.as_slice-edges.ensures ∙ c.in_ok-edges.ensures) in
     let fewer = near_few (zip_of e) (is_near m c.args.within e) items c.loop-i.i all c.loop-i-test.true is in
@@ -78,7 +78,7 @@ loop-i-preserved g c =
     let items = c.as_slice-edges.result.now in
     let e = c.index-edges-i.result in
     let all = c.as_slice.result.now in
-    let is : all ≡ near_of c.args.within m e (drop (c.loop-i.i + 1) items) = c.as_slice.ensures ∙ c.in_ok-asked.ensures in
+    let is : all ≡ near_zips m c.args.within e (drop (c.loop-i.i + 1) items) = c.as_slice.ensures ∙ c.in_ok-asked.ensures in
     let rest : Mesh → List LogLine = λ n. pairs_left rules n (drop (c.loop-i.i + 1) items) in
     let few = edges_few (g.S.Surface.mesh c.args.mesh.now) (g.met.S.Surface.sound c.args.mesh.now) in
     let same = ap length (c.as_slice-edges.ensures ∙ c.in_ok-edges.ensures) in

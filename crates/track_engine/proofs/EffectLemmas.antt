@@ -1,0 +1,46 @@
+-- The names of asked shifts, and a save that stops.
+use Rattle.std.proofs.Common.{◌≡◌, ℕ, ◌+◌, ◌<◌, suc, length, drop, get_or, add-one, List, [], ◌∷◌, map, Option, None, Result, Ok, Err, IfOk, refl, ap, sym, ◌∙◌, subst, inr}
+use Rattle.std.specs.FinMap as finite
+use Rattle.grid_base.specs.declared.Shift.{Shift}
+use Rattle.mesh_base.specs.declared.UseWhy.{UseWhy}
+use Rattle.mesh_base.specs.Mesh.{Mesh}
+use Rattle.mesh_base.specs.Shifts.{Shifts, NameLive}
+use Rattle.std.proofs.Math.Seq.{drop-cons}
+use Rattle.std.specs.List.{AllByRecursion}
+use Rattle.step_text.specs.declared.Placed.{Placed}
+use Rattle.step_text.specs.Ranges.{IsInRange, AreInRange}
+use Rattle.step_text.specs.declared.Directive.{Directive}
+use Rattle.step_text.specs.declared.Directive.TheVariants as directive
+use Rattle.track_engine.specs.declared.stop.Stop.{Stop}
+use Rattle.track_engine.specs.declared.run_state.RunState.{RunState}
+use Rattle.track_engine.specs.State.{State, state_of, at_mesh, no_shifts, still_at}
+use Rattle.track_engine.specs.Effects.{effect_of, mesh_line, all_summed}
+use Rattle.track_engine.specs.Saved.{Target}
+use Rattle.track_engine.specs.World.{Contents, StopsIn}
+use Rattle.track_engine.specs.Parts.{Advances}
+
+pub ids_of_sums : (by : Shift) (asked : Shifts) → map (λ s. s.v) (all_summed by asked) ≡ map (λ s. s.v) asked
+ids_of_sums by [] = refl
+ids_of_sums by (s ∷ rest) = ap (λ l. s.v ∷ l) (ids_of_sums by rest)
+
+-- a save that stops in its line, or before its mesh is stored
+pub save_part : (stop : Stop) (to : Target) (what : Directive) (s t : State) (old new : Contents) → what ≡ directive.Save → StopsIn stop to (at_mesh s.mesh) (mesh_line s.saved s.mesh ∷ []) old new → Advances to (effect_of what s) s t old new (Err stop)
+save_part stop to what s t old new is stops =
+    let P : Directive → Type 0 = λ what. Advances to (effect_of what s) s t old new (Err stop) in
+    subst P (sym is) (inr (record { lines = mesh_line s.saved s.mesh ∷ []; next = record s { saved = s.saved + 1 }; goes = refl; stops = stops }))
+
+-- at first no vertex is asked to move
+ids_at_rest : (ids : List ℕ) → map (λ s. s.v) (map still_at ids) ≡ ids
+ids_at_rest [] = refl
+ids_at_rest (v ∷ ids) = ap (λ l. v ∷ l) (ids_at_rest ids)
+
+pub names_at_first : (m : Mesh) (asked : Shifts) → asked ≡ no_shifts m → NameLive m asked
+names_at_first m asked e = ap (λ (l : Shifts). map (λ s. s.v) l) e ∙ ids_at_rest (finite.keys m.points)
+
+-- what holds of each to come holds of the next and of those after it
+pub next_one : {X : Type 0} (P : X → Type 0) (xs : List X) (i : ℕ) (x : X) → i < length xs → x ≡ get_or xs i x → AllByRecursion P (drop i xs) → P x × AllByRecursion P (drop (i + 1) xs)
+next_one P xs i x h at all =
+    subst (AllByRecursion P) (drop-cons xs i x h ∙ ap (λ t. t ∷ drop (suc i) xs) (sym at) ∙ ap (λ n. x ∷ drop n xs) (sym (add-one i))) all
+
+pub range_here : (steps : List Placed) (i : ℕ) (placed : Placed) → i < length steps → placed ≡ get_or steps i placed → AreInRange (drop i steps) → IsInRange placed.what × AreInRange (drop (i + 1) steps)
+range_here steps i placed h at ranges = next_one (λ p. IsInRange p.what) steps i placed h at ranges

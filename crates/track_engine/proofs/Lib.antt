@@ -1,0 +1,17 @@
+pub mod ShiftLemmas
+pub mod PlaceLemmas
+pub mod StepLemmas
+pub mod EffectLemmas
+pub mod Saying
+pub mod Worlds
+pub mod NoFiles
+pub mod Remaining
+pub mod SoFars
+pub mod Passing
+pub mod PassTaken
+pub mod ShapeAgain
+pub mod ReadAgain
+pub mod Keeping
+pub mod Replayed
+pub mod StepTaken
+pub mod Promises

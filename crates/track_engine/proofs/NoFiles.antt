@@ -1,0 +1,128 @@
+-- Lines that name no file, and the replay of a step's lines.
+use Rattle.std.proofs.Common.{◌≡◌, ℕ, ◌+◌, List, [], ◌∷◌, ◌++◌, map, refl, ap, sym, ◌∙◌, subst, append_assoc, append-nil, inl, inr, Ok, Err, Result}
+use Rattle.std.specs.declared.option.Option.{Option}
+use Rattle.std.specs.declared.option.Option.TheVariants.{None, Some}
+use Rattle.mesh_base.specs.declared.ShiftOf.{ShiftOf}
+use Rattle.mesh_base.specs.declared.PairName.{PairName}
+use Rattle.step_choose.specs.Choice.{Way}
+use Rattle.mesh_base.specs.declared.UseWhy.{UseWhy}
+use Rattle.log_text.specs.Lines.{text_of_lines}
+use Rattle.log_text.specs.declared.LogLine.{LogLine}
+use Rattle.log_text.specs.declared.LogLine.TheVariants.{First, Step, Hit, Block, Move, Moved, Pass, Did, No, Mesh as MeshLine, End, Refused as RefusedLine}
+use Rattle.log_text.specs.Replay.{Replay, after, replayed}
+use Rattle.step_text.specs.declared.Directive.TheVariants as directive
+use Rattle.outside_io.specs.Desk.{Files}
+use Rattle.outside_io.specs.Sink.{appended}
+use Rattle.track_engine.specs.declared.stop.Stop.{Stop}
+use Rattle.track_engine.specs.State.{State, standing, at_mesh}
+use Rattle.track_engine.specs.Effects.{effect_of, Proceeds, hits, taken, moving, moved_mesh, hit_lines, move_lines, lines_of_step, step_lines, after_step}
+use Rattle.pass_run.specs.Said.{WrittenInPart}
+use Rattle.track_engine.specs.Saved.{Target, files_of, stored}
+use Rattle.track_engine.specs.Parts.{StepTakes, Advances, Takes}
+use Rattle.track_engine.specs.World.{Logs, StopsIn}
+use Rattle.track_engine.proofs.Worlds.{after-append}
+
+abbrev pub NoFiles : List LogLine → Type 0
+NoFiles [] = Unit {0}
+NoFiles (MeshLine k v f ∷ lines) = ⊥
+NoFiles (line ∷ lines) = NoFiles lines
+
+pub files_of-none : (to : Target) (lines : List LogLine) (from : Replay) → NoFiles lines → files_of to from lines ≡ []
+files_of-none to [] from none = refl
+files_of-none to (MeshLine k v f ∷ lines) from none = absurd none
+files_of-none to (First version ∷ lines) from none = files_of-none to lines (replayed from (First version)) none
+files_of-none to (Step k ∷ lines) from none = files_of-none to lines (replayed from (Step k)) none
+files_of-none to (Hit p ∷ lines) from none = files_of-none to lines (replayed from (Hit p)) none
+files_of-none to (Block ids ∷ lines) from none = files_of-none to lines (replayed from (Block ids)) none
+files_of-none to (Pass kind ∷ lines) from none = files_of-none to lines (replayed from (Pass kind)) none
+files_of-none to (Did change ∷ lines) from none = files_of-none to lines (replayed from (Did change)) none
+files_of-none to (No what why ∷ lines) from none = files_of-none to lines (replayed from (No what why)) none
+files_of-none to (Move s ∷ lines) from none = files_of-none to lines (replayed from (Move s)) none
+files_of-none to (Moved how ∷ lines) from none = files_of-none to lines (replayed from (Moved how)) none
+files_of-none to (End ∷ lines) from none = files_of-none to lines (replayed from End) none
+files_of-none to (RefusedLine why ∷ lines) from none = files_of-none to lines (replayed from (RefusedLine why)) none
+
+front_none : (xs ys : List LogLine) → NoFiles (xs ++ ys) → NoFiles xs
+front_none [] ys none = tt
+front_none (MeshLine k v f ∷ xs) ys none = absurd none
+front_none (First version ∷ xs) ys none = front_none xs ys none
+front_none (Step k ∷ xs) ys none = front_none xs ys none
+front_none (Hit p ∷ xs) ys none = front_none xs ys none
+front_none (Block ids ∷ xs) ys none = front_none xs ys none
+front_none (Pass kind ∷ xs) ys none = front_none xs ys none
+front_none (Did change ∷ xs) ys none = front_none xs ys none
+front_none (No what why ∷ xs) ys none = front_none xs ys none
+front_none (Move s ∷ xs) ys none = front_none xs ys none
+front_none (Moved how ∷ xs) ys none = front_none xs ys none
+front_none (End ∷ xs) ys none = front_none xs ys none
+front_none (RefusedLine why ∷ xs) ys none = front_none xs ys none
+
+moves_none : (shifts : List ShiftOf) (rest : List LogLine) → NoFiles rest → NoFiles (map (λ s. Move s) shifts ++ rest)
+moves_none [] rest none = none
+moves_none (s ∷ shifts) rest none = moves_none shifts rest none
+
+hits_none : (pairs : List PairName) (rest : List LogLine) → NoFiles rest → NoFiles (hit_lines pairs ++ rest)
+hits_none [] rest none = none
+hits_none (p ∷ pairs) rest none = hits_none pairs rest none
+
+lines_none : (k : ℕ) (pairs : List PairName) (way : Way) → NoFiles (lines_of_step k pairs way)
+lines_none k pairs way = hits_none pairs (move_lines way.taken ++ Moved way.how ∷ []) (moves_none (moving way.taken) (Moved way.how ∷ []) tt)
+
+step_none : (s : State) → NoFiles (step_lines s)
+step_none s = lines_none (s.steps + 1) (hits s) (taken s)
+
+-- lines that name no file leave the files
+pub logs_from_said : (to : Target) (from : Replay) (lines : List LogLine) (files : Option Files) (old new : Option (List ℕ)) → files_of to from lines ≡ [] → new ≡ appended old (text_of_lines lines) → Logs to from lines (record { files = files; written = old }) (record { files = files; written = new })
+logs_from_said to from lines files old new none said = record { written = said; files = ap (λ l. stored l files) (sym none) }
+
+pub stops_from_said : (stop : Stop) (to : Target) (from : Replay) (lines : List LogLine) (files : Option Files) (old new : Option (List ℕ)) → NoFiles lines → WrittenInPart old new lines → StopsIn stop to from lines (record { files = files; written = old }) (record { files = files; written = new })
+stops_from_said stop to from lines files old new none said = record {
+  text = said;
+  files = inl (ap (λ l. stored l files) (sym (files_of-none to said.done from (front_none said.done said.rest (subst NoFiles said.split none)))));
+}
+
+logs_step : (to : Target) (s : State) (files : Option Files) (old new : Option (List ℕ)) → new ≡ appended old (text_of_lines (step_lines s)) → Logs to (standing s) (step_lines s) (record { files = files; written = old }) (record { files = files; written = new })
+logs_step to s files old new said = logs_from_said to (standing s) (step_lines s) files old new (files_of-none to (step_lines s) (standing s) (step_none s)) said
+
+stops_step : (stop : Stop) (to : Target) (s : State) (files : Option Files) (old new : Option (List ℕ)) → WrittenInPart old new (step_lines s) → StopsIn stop to (standing s) (step_lines s) (record { files = files; written = old }) (record { files = files; written = new })
+stops_step stop to s files old new said = stops_from_said stop to (standing s) (step_lines s) files old new (step_none s) said
+
+-- `move` lines gather their shifts
+pub after-moves : (from : Replay) (shifts : List ShiftOf) → after from (map (λ s. Move s) shifts) ≡ record from { moves = from.moves ++ shifts }
+after-moves from [] = ap (λ (m : List ShiftOf). record from { moves = m }) (sym (append-nil from.moves))
+after-moves from (s ∷ shifts) = after-moves (replayed from (Move s)) shifts ∙ ap (λ (m : List ShiftOf). record from { moves = m }) (append_assoc from.moves (s ∷ []) shifts)
+
+-- `hit` lines change nothing
+pub after-hits : (from : Replay) (pairs : List PairName) → after from (hit_lines pairs) ≡ from
+after-hits from [] = refl
+after-hits from (p ∷ pairs) = after-hits from pairs
+
+-- the lines of a step move the mesh by the shifts that are taken
+pub after-lines_of_step : (from : Replay) (k : ℕ) (pairs : List PairName) (way : Way) → after from (lines_of_step k pairs way) ≡ record from { mesh = moved_mesh from.mesh way.taken; moves = [] }
+after-lines_of_step from k pairs way =
+    let begun : Replay = record from { moves = [] } in
+    after-append begun (hit_lines pairs) (move_lines way.taken ++ Moved way.how ∷ [])
+    ∙ ap (λ r. after r (move_lines way.taken ++ Moved way.how ∷ [])) (after-hits begun pairs)
+    ∙ after-append begun (move_lines way.taken) (Moved way.how ∷ [])
+    ∙ ap (λ r. replayed r (Moved way.how)) (after-moves begun (moving way.taken))
+
+-- the replay of a step's lines is the state after it
+pub after-step_lines : (s : State) → after (standing s) (step_lines s) ≡ standing (after_step s)
+after-step_lines s = after-lines_of_step (standing s) (s.steps + 1) (hits s) (taken s)
+
+takes_step : (to : Target) (s t : State) (files : Option Files) (old new : Option (List ℕ)) → effect_of directive.Step s ≡ Proceeds (step_lines s) t → t ≡ after_step s → new ≡ appended old (text_of_lines (step_lines s))
+    → Takes to (effect_of directive.Step s) s t (record { files = files; written = old }) (record { files = files; written = new })
+takes_step to s t files old new goes is said = record {
+  lines = step_lines s;
+  goes = goes;
+  logs = logs_step to s files old new said;
+  replay = after-step_lines s ∙ ap standing (sym is);
+}
+
+-- a step, as an effect
+pub advances_step : (to : Target) (s t : State) (files : Option Files) (old new : Option (List ℕ)) (r : Result (Option UseWhy) Stop) → StepTakes s t old new r
+    → Advances to (effect_of directive.Step s) s t (record { files = files; written = old }) (record { files = files; written = new }) r
+advances_step to s t files old new (Ok None) takes = takes_step to s t files old new takes.0 takes.1 takes.2
+advances_step to s t files old new (Ok (Some why)) takes = (takes.0, ap (λ (w : Option (List ℕ)). record { files = files; written = w }) takes.1)
+advances_step to s t files old new (Err stop) (inl same) = inl (ap (λ (w : Option (List ℕ)). record { files = files; written = w }) same)
+advances_step to s t files old new (Err stop) (inr part) = inr (record { lines = step_lines s; next = after_step s; goes = part.0; stops = stops_step stop to s files old new part.1 })

@@ -1,0 +1,41 @@
+use Rattle.std.proofs.Common.{rules, ◌≡◌, true, None, ap, sym, ◌∙◌, subst}
+use Rattle.std.proofs.lemmas.Result.{err_from_is_err_and}
+use Rattle.mesh_base.specs.Shifts.{Shifts, end_in_box}
+use Rattle.track_engine.specs.State.{state_of}
+use Rattle.track_engine.specs.Effects.{first_outside, moved_mesh}
+use Rattle.track_engine.specs.Placing.{AreLive, CanPlace}
+use Rattle.track_engine.proofs.StepLemmas.{asked_are_live, all_inside, can_place_taken, still_is}
+use Rattle.track_engine.proofs.StepTaken.{step_taken, step_in_part}
+use Rattle.track_engine.proofs.directing.take_step.Goals as goal
+
+pub first_outside-requires : goal.first_outside-requires
+first_outside-requires g c =
+    let P : Shifts → Type 0 = λ asked. AreLive (g.S.Surface.mesh c.args.mesh.now) asked in
+    subst P (sym c.as_slice.ensures) (asked_are_live (g.S.Surface.mesh c.args.mesh.now) c.args.run.now.asked c.requires.kept.names)
+
+pub choose-requires-clause-in_box : goal.choose-requires-clause-in_box
+choose-requires-clause-in_box g c =
+    let m = g.S.Surface.mesh c.args.mesh.now in
+    let inside : first_outside m c.args.run.now.asked ≡ None = ap (first_outside m) (sym c.as_slice.ensures) ∙ sym c.first_outside.ensures ∙ c.in_default.is in
+    all_inside m c.args.run.now.asked inside
+
+pub place_all-requires : goal.place_all-requires
+place_all-requires g c =
+    let m = g.S.Surface.mesh c.args.mesh.now in
+    let P : Shifts → Type 0 = λ taken. CanPlace m taken in
+    subst P (sym c.as_slice-2.ensures) (can_place_taken m c.in-Ok.choice.taken c.in-Ok.ensures.names c.in-Ok.ensures.ends)
+
+pub returns-in_err-say_step-clause-takes : goal.returns-in_err-say_step-clause-takes
+returns-in_err-say_step-clause-takes g c =
+    let p = err_from_is_err_and c.from_residual.result c.from_residual.ensures.1 in
+    let m = g.S.Surface.mesh c.args.mesh.now in
+    let inside : first_outside m c.args.run.now.asked ≡ None = ap (first_outside m) (sym c.as_slice.ensures) ∙ sym c.first_outside.ensures ∙ c.in_default.is in
+    rw p.1 (step_in_part (state_of m c.args.run.now) c.in-Ok.choice inside c.in-Ok.ensures.hits c.in-Ok.ensures.way (state_of (g.S.Surface.mesh c.place_all.new.mesh) c.args.run.now) p.0 _ _ c.in_err-say_step.ensures.said)
+
+pub returns-clause-takes : goal.returns-clause-takes
+returns-clause-takes g c =
+    let m = g.S.Surface.mesh c.args.mesh.now in
+    let inside : first_outside m c.args.run.now.asked ≡ None = ap (first_outside m) (sym c.as_slice.ensures) ∙ sym c.first_outside.ensures ∙ c.in_default.is in
+    let moved : g.S.Surface.mesh c.place_all.new.mesh ≡ moved_mesh m c.as_slice-2.result.now = search rules in
+    step_taken (state_of m c.args.run.now) c.in-Ok.choice inside c.in-Ok.ensures.hits c.in-Ok.ensures.way (g.S.Surface.mesh c.place_all.new.mesh) c.in-Ok-no_shifts.still _ _
+    (moved ∙ ap (moved_mesh m) c.as_slice-2.ensures) (c.in-Ok-no_shifts.ensures ∙ still_is m c.args.run.now.asked c.requires.kept.names) c.in_ok-say_step.ensures.said

@@ -1,0 +1,12 @@
+pub mod State
+pub mod Engines
+pub mod Effects
+pub mod Saved
+pub mod Targets
+pub mod World
+pub mod Invariant
+pub mod Kept
+pub mod Promise
+pub mod Placing
+pub mod Shifting
+pub mod Parts

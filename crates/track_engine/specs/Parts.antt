@@ -1,0 +1,53 @@
+-- What the parts of the engine do.
+use Rattle.std.specs.Prelude.{◌≡◌, ◌⊎◌, ℕ, List, [], ◌∷◌, Option, Some, None, Result, Ok, Err}
+use Rattle.mesh_base.specs.declared.UseWhy.{UseWhy}
+use Rattle.mesh_base.specs.Mesh.{Mesh}
+use Rattle.step_text.specs.declared.Directive.TheVariants.{Step}
+use Rattle.edit_base.specs.declared.PassKind.{PassKind}
+use Rattle.log_text.specs.Lines.{text_of_lines}
+use Rattle.log_text.specs.declared.LogLine.{LogLine}
+use Rattle.log_text.specs.Replay.{after}
+use Rattle.outside_io.specs.Sink.{appended}
+use Rattle.track_engine.specs.declared.stop.Stop.{Stop}
+use Rattle.track_engine.specs.State.{State, standing, at_mesh}
+use Rattle.track_engine.specs.Effects.{Effect, Proceeds, Refused, effect_of, step_lines, after_step, passed_lines, after_pass, mesh_line}
+use Rattle.pass_run.specs.Said.{WrittenInPart}
+use Rattle.track_engine.specs.Saved.{Target}
+use Rattle.track_engine.specs.World.{Contents, Logs, StopsIn}
+
+-- the line of a mesh is written and the mesh is stored, or it stops in that
+abbrev pub Saves : {T : Type 0} → Target → ℕ → Mesh → Contents → Contents → Result T Stop → Type 0
+Saves to k m old new (Ok x) = Logs to (at_mesh m) (mesh_line k m ∷ []) old new
+Saves to k m old new (Err stop) = StopsIn stop to (at_mesh m) (mesh_line k m ∷ []) old new
+
+-- the lines of an effect are written, and their replay is the state after it
+pub record Takes (to : Target) (effect : Effect) (old_state new_state : State) (old new : Contents) : Type 0 where
+  pub lines : List LogLine
+  pub goes : effect ≡ Proceeds lines new_state
+  pub logs : Logs to (standing old_state) lines old new
+  pub replay : after (standing old_state) lines ≡ standing new_state
+
+-- an effect that stops in its lines
+pub record TakesInPart (stop : Stop) (to : Target) (effect : Effect) (old_state : State) (old new : Contents) : Type 0 where
+  pub lines : List LogLine
+  pub next : State
+  pub goes : effect ≡ Proceeds lines next
+  pub stops : StopsIn stop to (standing old_state) lines old new
+
+-- a directive: its effect is taken, or refused with nothing done, or it stops
+abbrev pub Advances : Target → Effect → State → State → Contents → Contents → Result (Option UseWhy) Stop → Type 0
+Advances to effect old_state new_state old new (Ok None) = Takes to effect old_state new_state old new
+Advances to effect old_state new_state old new (Ok (Some why)) = (effect ≡ Refused why) × (new ≡ old)
+Advances to effect old_state new_state old new (Err stop) = (new ≡ old) ⊎ TakesInPart stop to effect old_state old new
+
+-- a step, by what it writes
+abbrev pub StepTakes : State → State → Option (List ℕ) → Option (List ℕ) → Result (Option UseWhy) Stop → Type 0
+StepTakes old_state new_state old new (Ok None) = (effect_of Step old_state ≡ Proceeds (step_lines old_state) new_state) × (new_state ≡ after_step old_state) × (new ≡ appended old (text_of_lines (step_lines old_state)))
+StepTakes old_state new_state old new (Ok (Some why)) = (effect_of Step old_state ≡ Refused why) × (new ≡ old)
+StepTakes old_state new_state old new (Err stop) = (new ≡ old) ⊎ ((effect_of Step old_state ≡ Proceeds (step_lines old_state) (after_step old_state)) × WrittenInPart old new (step_lines old_state))
+
+-- a pass, by what it writes
+abbrev pub PassTakes : PassKind → State → State → Option (List ℕ) → Option (List ℕ) → Result (Option UseWhy) Stop → Type 0
+PassTakes kind old_state new_state old new (Ok None) = (new_state ≡ after_pass kind old_state) × (new ≡ appended old (text_of_lines (passed_lines kind old_state)))
+PassTakes kind old_state new_state old new (Ok (Some why)) = ⊥
+PassTakes kind old_state new_state old new (Err stop) = WrittenInPart old new (passed_lines kind old_state)

@@ -1,0 +1,6 @@
+-- How meshes are saved, as bytes.
+use Rattle.track_engine.specs.declared.target.Target.{Target as SaveTarget}
+use Rattle.track_engine.specs.Saved.{Target}
+
+abbrev pub target_of : SaveTarget → Target
+target_of to = record { prefix = to.prefix.now; decimals = to.decimals }

@@ -1,0 +1,79 @@
+-- What the engine does to a sink and a desk.
+use Rattle.std.specs.Prelude.{◌≡◌, ◌≢◌, ◌≤◌, ◌⊎◌, ℕ, List, [], ◌∷◌, ◌++◌, Option, Result, Ok, Err, IsErrOf}
+use Rattle.log_text.specs.Lines.{text_of_lines}
+use Rattle.log_text.specs.declared.LogLine.{LogLine}
+use Rattle.log_text.specs.declared.LogLine.TheVariants.{Mesh as MeshLine}
+use Rattle.log_text.specs.declared.Refusal.{Refusal}
+use Rattle.log_text.specs.Replay.{Replay}
+use Rattle.outside_io.specs.Causes.{Rose}
+use Rattle.outside_io.specs.Sink.{appended}
+use Rattle.outside_io.specs.Desk.{Files, SameBut}
+use Rattle.track_engine.specs.declared.stop.Stop.{Stop}
+use Rattle.track_engine.specs.declared.stop.Stop.TheVariants.{NoMemory, DeskFault, SinkFault}
+use Rattle.pass_run.specs.Said.{WrittenInPart}
+use Rattle.track_engine.specs.Saved.{Target, files_of, file_name, stored}
+use Rattle.track_engine.specs.Effects.{ExpectedLog}
+
+-- what a desk holds and what a sink was given, where they tell
+pub record Contents : Type 0 where
+  pub files : Option Files
+  pub written : Option (List ℕ)
+
+abbrev pub contents : {D K : Type 0} → (D → Option Files) → (K → Option (List ℕ)) → D → K → Contents
+contents files written desk out = record { files = files desk; written = written out }
+
+-- the same, and how often each has failed
+pub record World : Type 0 where
+  pub holds : Contents
+  pub desk_faults : ℕ
+  pub sink_faults : ℕ
+
+abbrev pub world : {D K : Type 0} → (D → Option Files) → (D → ℕ) → (K → Option (List ℕ)) → (K → ℕ) → D → K → World
+world files desk_faults written sink_faults desk out = record {
+  holds = contents files written desk out;
+  desk_faults = desk_faults desk;
+  sink_faults = sink_faults out;
+}
+
+-- From old to new these lines were written, and the meshes that they name were stored.
+pub record Logs (to : Target) (from : Replay) (lines : List LogLine) (old new : Contents) : Type 0 where
+  pub written : new.written ≡ appended old.written (text_of_lines lines)
+  pub files : new.files ≡ stored (files_of to from lines) old.files
+
+-- what a file may hold whose line is written and whose store was not done
+abbrev pub IsOpen : Stop → List ℕ → Option Files → Option Files → Type 0
+IsOpen NoMemory name before now = now ≡ before
+IsOpen DeskFault name before now = SameBut name before now
+IsOpen SinkFault name before now = ⊥
+
+-- the last line names a mesh whose store was not done
+pub record LastIsOpen (stop : Stop) (to : Target) (from : Replay) (done : List LogLine) (old new : Option Files) : Type 0 where
+  pub front : List LogLine
+  pub k : ℕ
+  pub vertices : ℕ
+  pub faces : ℕ
+  pub last : done ≡ front ++ MeshLine k vertices faces ∷ []
+  pub open_file : IsOpen stop (file_name to.prefix k) (stored (files_of to from front) old) new
+
+-- The first of these lines were written, in order, and perhaps a part of the next. The meshes that they name were
+-- stored, but perhaps for the last.
+pub record StopsIn (stop : Stop) (to : Target) (from : Replay) (lines : List LogLine) (old new : Contents) : Type 0 where
+  pub text : WrittenInPart old.written new.written lines
+  pub files : (new.files ≡ stored (files_of to from text.done) old.files) ⊎ LastIsOpen stop to from text.done old.files new.files
+
+-- A run was stopped in these lines before their end: what is left of them begins with a line that is not written whole.
+pub record StopsShort (stop : Stop) (to : Target) (from : Replay) (lines : List LogLine) (old new : Contents) : Type 0 where
+  pub in_part : StopsIn stop to from lines old new
+  pub left : in_part.text.rest ≢ []
+
+-- the counts of faults have not fallen, and at a fault the one of its side has risen
+pub record HasCauses {T : Type 0} (old new : World) (result : Result T Stop) : Type 0 where
+  pub desk : old.desk_faults ≤ new.desk_faults
+  pub out : old.sink_faults ≤ new.sink_faults
+  pub desk_fault : IsErrOf result DeskFault → Rose old.desk_faults new.desk_faults
+  pub sink_fault : IsErrOf result SinkFault → Rose old.sink_faults new.sink_faults
+
+-- A part of a run writes the lines that are expected and stores their meshes, or the first of them and not all.
+abbrev pub Follows : Target → Replay → ExpectedLog → Contents → Contents → Result (Option Refusal) Stop → Type 0
+Follows to from expected old new (Ok ending) = Logs to from expected.lines old new × (ending ≡ expected.ending)
+Follows to from expected old new (Err stop) = StopsShort stop to from expected.lines old new

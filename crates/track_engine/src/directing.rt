@@ -1,0 +1,167 @@
+ghost use Rattle.std.specs.Prelude.{◌≡◌, ◌≤◌, ◌<◌, ◌+◌, ◌^◌, IfOk, IfErr, IsErrOf};
+ghost use Rattle.step_text.specs.Ranges.{IsInRange};
+ghost use Rattle.step_choose.specs.Settings.{AreWithinLimits};
+ghost use Rattle.outside_io.specs.Causes.{Rose};
+ghost use Rattle.track_engine.specs.State.{state_of};
+ghost use Rattle.track_engine.specs.Effects.{effect_of, sum_of_all};
+ghost use Rattle.track_engine.specs.Targets.{target_of};
+ghost use Rattle.track_engine.specs.World.{contents, world, HasCauses};
+ghost use Rattle.mesh_base.specs.Kept.{BeginsWith};
+ghost use Rattle.grid_base.specs.declared.TheConstants.{DECIMALS_MAX};
+ghost use Rattle.track_engine.specs.Parts.{Advances, StepTakes, PassTakes};
+ghost use Rattle.track_engine.specs.Shifting.{AsksNow};
+ghost use Rattle.track_engine.specs.Invariant.{IsRunInvariant};
+
+use crate::placing::{first_outside, place_all};
+use crate::run_state::RunState;
+use crate::saving::save;
+use crate::shifting::{all_summed, asked_in, no_shifts, sum_one};
+use crate::stepping::say_step;
+use crate::stop::Stop;
+use crate::target::Target;
+use edit_base::PassKind;
+use grid_base::Shift;
+use mesh_plain::{Surface, UseWhy};
+use outside_io::{Desk, Sink};
+use pass_run::{PassFault, pass};
+use std::alloc::Global;
+use step_choose::choose;
+use step_text::Directive;
+
+// A shift is added to what is asked of each vertex. No line is written.
+fn add_to_all(alloc: Global, run: &mut RunState, by: Shift) -> Result<Option<UseWhy>, Stop>
+    ensures asks { IfOk result (AsksNow (sum_of_all by run.old.asked) run.new.asked) }
+    ensures rest { run.new ≡ record run.old { asked = run.new.asked } }
+    ensures stops { IfErr result (λ stop. stop ≡ Stop.NoMemory) }
+{
+    match all_summed(alloc, run.asked.as_slice(), by) {
+        Err(_) => Err(Stop::NoMemory),
+        Ok(Err(v)) => Ok(Some(UseWhy::ShiftRange { v: v.0 })),
+        Ok(Ok(asked)) => {
+            run.asked = asked;
+            Ok(None)
+        }
+    }
+}
+
+// A step is taken, or a vertex would leave the box.
+fn take_step<S: Surface, K: Sink>(
+    alloc: Global,
+    mesh: &mut S,
+    run: &mut RunState,
+    out: &mut K,
+) -> Result<Option<UseWhy>, Stop>
+    requires kept { IsRunInvariant (state_of (S.mesh mesh.old) run.old) }
+    requires limits { AreWithinLimits run.old.set }
+    requires steps { run.old.steps + 1 < 2 ^ 32 }
+    ensures takes { StepTakes (state_of (S.mesh mesh.old) run.old) (state_of (S.mesh mesh.new) run.new) (K.written out.old) (K.written out.new) result }
+    ensures marks { BeginsWith (S.kept mesh.new) (S.kept mesh.old) }
+    ensures saved { run.new.saved ≡ run.old.saved }
+    ensures set { run.new.set ≡ run.old.set }
+    ensures steps { run.new.steps ≤ run.old.steps + 1 }
+    ensures later { K.faults out.old ≤ K.faults out.new }
+    ensures cause { IsErrOf result Stop.SinkFault → Rose (K.faults out.old) (K.faults out.new) }
+    ensures desk { IsErrOf result Stop.DeskFault → ⊥ }
+{
+    if let Some(v) = first_outside(mesh, run.asked.as_slice()) {
+        return Ok(Some(UseWhy::Box { v: v.0 }));
+    }
+    let Ok(choice) = choose(alloc, mesh, &run.asked, &run.set) else {
+        return Err(Stop::NoMemory);
+    };
+    let Ok(still) = no_shifts(alloc, mesh) else {
+        return Err(Stop::NoMemory);
+    };
+    if place_all(mesh, choice.taken.as_slice()).is_err() {
+        return Err(Stop::NoMemory);
+    }
+    say_step(alloc, run.steps + 1, &choice, out)?;
+    run.asked = still;
+    run.steps += 1;
+    Ok(None)
+}
+
+// A pass over the mesh is made, each line of it written.
+fn take_pass<S: Surface, K: Sink>(
+    alloc: Global,
+    mesh: &mut S,
+    run: &mut RunState,
+    kind: PassKind,
+    out: &mut K,
+) -> Result<Option<UseWhy>, Stop>
+    requires kept { IsRunInvariant (state_of (S.mesh mesh.old) run.old) }
+    requires limits { AreWithinLimits run.old.set }
+    ensures passes { PassTakes kind (state_of (S.mesh mesh.old) run.old) (state_of (S.mesh mesh.new) run.new) (K.written out.old) (K.written out.new) result }
+    ensures marks { BeginsWith (S.kept mesh.new) (S.kept mesh.old) }
+    ensures rest { run.new ≡ record run.old { asked = run.new.asked } }
+    ensures later { K.faults out.old ≤ K.faults out.new }
+    ensures cause { IsErrOf result Stop.SinkFault → Rose (K.faults out.old) (K.faults out.new) }
+    ensures desk { IsErrOf result Stop.DeskFault → ⊥ }
+{
+    match pass(alloc, mesh, kind, run.set.depth, false, out) {
+        Ok(_count) => {}
+        Err(PassFault::NoMemory) => return Err(Stop::NoMemory),
+        Err(PassFault::SinkFault) => return Err(Stop::SinkFault),
+    }
+    let Ok(asked) = asked_in(alloc, mesh, run.asked.as_slice()) else {
+        return Err(Stop::NoMemory);
+    };
+    run.asked = asked;
+    Ok(None)
+}
+
+/// Does one directive: its lines are written, or it is refused.
+pub(crate) fn take_directive<S: Surface, D: Desk, K: Sink>(
+    alloc: Global,
+    what: Directive,
+    to: Target<'_>,
+    mesh: &mut S,
+    run: &mut RunState,
+    desk: &mut D,
+    out: &mut K,
+) -> Result<Option<UseWhy>, Stop>
+    requires few { to.decimals ≤ DECIMALS_MAX }
+    requires range { IsInRange what }
+    requires kept { IsRunInvariant (state_of (S.mesh mesh.old) run.old) }
+    requires limits { AreWithinLimits run.old.set }
+    requires steps { run.old.steps + 1 < 2 ^ 32 }
+    requires saved { run.old.saved + 1 < 2 ^ 32 }
+    ensures advances { let old = state_of (S.mesh mesh.old) run.old in
+        Advances (target_of to.entry) (effect_of what old) old (state_of (S.mesh mesh.new) run.new)
+        (contents D.files K.written desk.old out.old) (contents D.files K.written desk.new out.new) result }
+    ensures marks { BeginsWith (S.kept mesh.new) (S.kept mesh.old) }
+    ensures kept { result ≡ Ok None → IsRunInvariant (state_of (S.mesh mesh.new) run.new) }
+    ensures limits { AreWithinLimits run.new.set }
+    ensures steps_count { run.new.steps ≤ run.old.steps + 1 }
+    ensures saved_count { run.new.saved ≤ run.old.saved + 1 }
+    ensures causes { HasCauses (world D.files D.faults K.written K.faults desk.old out.old)
+        (world D.files D.faults K.written K.faults desk.new out.new) result }
+{
+    match what {
+        Directive::SetDepth(depth) => {
+            run.set.depth = depth;
+            Ok(None)
+        }
+        Directive::SetPasses(passes) => {
+            run.set.passes = passes;
+            Ok(None)
+        }
+        Directive::SetZones(zones) => {
+            run.set.zones = zones;
+            Ok(None)
+        }
+        Directive::SetHalvings(halvings) => {
+            run.set.halvings = halvings;
+            Ok(None)
+        }
+        Directive::ShiftOne { v, by } => Ok(sum_one(&mut run.asked, v, by)),
+        Directive::ShiftAll { by } => add_to_all(alloc, run, by),
+        Directive::Step => take_step(alloc, mesh, run, out),
+        Directive::Pass(kind) => take_pass(alloc, mesh, run, kind, out),
+        Directive::Save => {
+            save(alloc, to, run.saved, mesh, desk, out)?;
+            run.saved += 1;
+            Ok(None)
+        }
+    }
+}

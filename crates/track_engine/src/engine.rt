@@ -1,0 +1,119 @@
+ghost use Rattle.std.specs.Prelude.{◌≡◌, ◌≤◌, ◌<◌, ◌+◌, ◌^◌, length, IfOk, OnOk};
+ghost use Rattle.grid_base.specs.declared.TheConstants.{DECIMALS_MAX};
+ghost use Rattle.mesh_base.specs.Kept.{BeginsWith};
+ghost use Rattle.step_text.specs.Ranges.{AreInRange};
+ghost use Rattle.step_choose.specs.Settings.{AreWithinLimits};
+ghost use Rattle.track_engine.specs.State.{standing, unsaved};
+ghost use Rattle.track_engine.specs.Engines.{state_in};
+ghost use Rattle.track_engine.specs.Effects.{log_from};
+ghost use Rattle.track_engine.specs.Targets.{target_of};
+ghost use Rattle.track_engine.specs.Invariant.{IsRunInvariant, MayAdvance, HasAdvanced};
+ghost use Rattle.track_engine.specs.World.{contents, world, HasCauses, Follows};
+ghost use Rattle.track_engine.specs.Parts.{Saves};
+
+use crate::directing::take_directive;
+use crate::following::follow;
+use crate::run_state::RunState;
+use crate::saving::save;
+use crate::shifting::no_shifts;
+use crate::stop::Stop;
+use crate::target::Target;
+use grid_base::NoMemory;
+use log_text::Refusal;
+use mesh_plain::{Surface, UseWhy};
+use outside_io::{Desk, Sink};
+use std::alloc::Global;
+use step_choose::Settings;
+use step_text::{Directive, Placed};
+
+/// A mesh with what directives have asked of it so far.
+#[derive(Drop)]
+pub struct Engine<S> {
+    pub mesh: S,
+    pub run: RunState,
+}
+
+impl<S: Surface> Engine<S> {
+    /// Does one directive: its lines are written and its mesh is stored, or it is refused with nothing done, or the engine stops in its
+    /// lines. Earlier marks of the mesh hold.
+    pub fn advance<D: Desk, K: Sink>(
+        &mut self,
+        alloc: Global,
+        what: Directive,
+        to: Target<'_>,
+        desk: &mut D,
+        out: &mut K,
+    ) -> Result<Option<UseWhy>, Stop>
+        requires few { to.decimals ≤ DECIMALS_MAX }
+        requires may { MayAdvance what (state_in S.mesh self.old) }
+        ensures does { HasAdvanced (target_of to.entry) what (state_in S.mesh self.old) (state_in S.mesh self.new)
+            (world D.files D.faults K.written K.faults desk.old out.old)
+            (world D.files D.faults K.written K.faults desk.new out.new) result }
+        ensures marks { BeginsWith (S.kept self.new.mesh) (S.kept self.old.mesh) }
+    {
+        take_directive(alloc, what, to, &mut self.mesh, &mut self.run, desk, out)
+    }
+
+    /// Saves the mesh: its line is written, and then the mesh is stored. After Ok, one mesh more is saved.
+    pub fn save<D: Desk, K: Sink>(
+        &mut self,
+        alloc: Global,
+        to: Target<'_>,
+        desk: &mut D,
+        out: &mut K,
+    ) -> Result<(), Stop>
+        requires few { to.decimals ≤ DECIMALS_MAX }
+        requires room { self.old.run.saved + 1 < 2 ^ 32 }
+        ensures saves { Saves (target_of to.entry) self.old.run.saved (S.mesh self.old.mesh)
+            (contents D.files K.written desk.old out.old) (contents D.files K.written desk.new out.new) result }
+        ensures state { let old = state_in S.mesh self.old in
+            OnOk result (state_in S.mesh self.new ≡ record old { saved = old.saved + 1 }) }
+        ensures causes { HasCauses (world D.files D.faults K.written K.faults desk.old out.old)
+            (world D.files D.faults K.written K.faults desk.new out.new) result }
+    {
+        save(alloc, to, self.run.saved, &self.mesh, desk, out)?;
+        self.run.saved += 1;
+        Ok(())
+    }
+
+    /// Does the directives in order and writes the last line of the log, which tells the first that is refused, with its line in the
+    /// step file, or the end. After each directive that is taken the mesh is settled.
+    pub fn follow<D: Desk, K: Sink>(
+        &mut self,
+        alloc: Global,
+        to: Target<'_>,
+        steps: &[Placed],
+        desk: &mut D,
+        out: &mut K,
+    ) -> Result<Option<Refusal>, Stop>
+        requires few { to.decimals ≤ DECIMALS_MAX }
+        requires ranges { AreInRange steps.now }
+        requires kept { IsRunInvariant (state_in S.mesh self.old) }
+        requires limits { AreWithinLimits self.old.run.set }
+        requires steps_room { self.old.run.steps + length steps.now < 2 ^ 32 }
+        requires saved_room { self.old.run.saved + length steps.now < 2 ^ 32 }
+        ensures follows { let s = state_in S.mesh self.old in
+            Follows (target_of to.entry) (standing s) (log_from steps.now s)
+            (contents D.files K.written desk.old out.old) (contents D.files K.written desk.new out.new) result }
+        ensures causes { HasCauses (world D.files D.faults K.written K.faults desk.old out.old)
+            (world D.files D.faults K.written K.faults desk.new out.new) result }
+    {
+        follow(alloc, to, steps, &mut self.mesh, &mut self.run, desk, out)
+    }
+}
+
+impl<S: Surface + Drop> Engine<S> {
+    /// An engine of the mesh, of whose vertices nothing is asked; its settings are the first, and no mesh is saved.
+    pub fn new(alloc: Global, mesh: S) -> Result<Engine<S>, NoMemory>
+        ensures { IfOk result (λ engine. state_in S.mesh engine ≡ unsaved (S.mesh mesh)) }
+    {
+        let asked = no_shifts(alloc, &mesh)?;
+        let run = RunState {
+            asked,
+            set: Settings::at_first(),
+            steps: 0,
+            saved: 0,
+        };
+        Ok(Engine { mesh, run })
+    }
+}

@@ -1,0 +1,54 @@
+ghost use Rattle.grid_base.specs.declared.TheConstants.{DECIMALS_MAX};
+ghost use Rattle.std.specs.Prelude.{◌≡◌, ◌≤◌, ◌<◌, ◌+◌, ◌^◌, length};
+ghost use Rattle.step_text.specs.Ranges.{AreInRange};
+ghost use Rattle.step_choose.specs.Settings.{AreWithinLimits};
+ghost use Rattle.track_engine.specs.State.{state_of, standing};
+ghost use Rattle.track_engine.specs.Effects.{log_from};
+ghost use Rattle.track_engine.specs.Invariant.{IsRunInvariant};
+ghost use Rattle.track_engine.specs.Targets.{target_of};
+ghost use Rattle.track_engine.specs.World.{contents, world, HasCauses, Follows};
+
+use crate::directing::take_directive;
+use crate::lines::finish;
+use crate::run_state::RunState;
+use crate::stop::Stop;
+use crate::target::Target;
+use log_text::{LogLine, Refusal};
+use mesh_plain::Surface;
+use outside_io::{Desk, Sink};
+use std::alloc::Global;
+use step_text::Placed;
+
+/// The directives from a state on, and the last line.
+pub(crate) fn follow<S: Surface, D: Desk, K: Sink>(
+    alloc: Global,
+    to: Target<'_>,
+    steps: &[Placed],
+    mesh: &mut S,
+    run: &mut RunState,
+    desk: &mut D,
+    out: &mut K,
+) -> Result<Option<Refusal>, Stop>
+    requires few { to.decimals ≤ DECIMALS_MAX }
+    requires ranges { AreInRange steps.now }
+    requires kept { IsRunInvariant (state_of (S.mesh mesh.old) run.old) }
+    requires limits { AreWithinLimits run.old.set }
+    requires steps_room { run.old.steps + length steps.now < 2 ^ 32 }
+    requires saved_room { run.old.saved + length steps.now < 2 ^ 32 }
+    ensures follows { let s = state_of (S.mesh mesh.old) run.old in
+        Follows (target_of to.entry) (standing s) (log_from steps.now s)
+        (contents D.files K.written desk.old out.old) (contents D.files K.written desk.new out.new) result }
+    ensures causes { HasCauses (world D.files D.faults K.written K.faults desk.old out.old)
+        (world D.files D.faults K.written K.faults desk.new out.new) result }
+{
+    for placed in steps {
+        match take_directive(alloc, placed.what, to, mesh, run, desk, out)? {
+            None => mesh.settle(),
+            Some(why) => {
+                let line = placed.line;
+                return finish(alloc, out, LogLine::Refused(Refusal::StepUse { line, why }));
+            }
+        }
+    }
+    finish(alloc, out, LogLine::End)
+}

@@ -1,0 +1,53 @@
+ghost use Rattle.std.specs.Prelude.{◌≡◌, ◌≤◌, [], ◌∷◌, IfOk, OnErr, IsErrOf};
+ghost use Rattle.log_text.specs.Lines.{text_of_line};
+ghost use Rattle.outside_io.specs.Causes.{Rose};
+ghost use Rattle.outside_io.specs.Sink.{AppendsPart};
+ghost use Rattle.pass_run.specs.Said.{Written};
+ghost use Rattle.track_engine.specs.Effects.{ending_of};
+
+use crate::stop::Stop;
+use log_text::{LogLine, Refusal, print_line};
+use outside_io::{Sink, put_all};
+use std::alloc::Global;
+
+/// Writes one line of the log.
+pub fn say<K: Sink>(alloc: Global, out: &mut K, line: &LogLine) -> Result<(), Stop>
+    ensures said { Written (K.written out.old) (K.written out.new) (line.now ∷ []) result }
+    // An error leaves a part of the line that is not all of it, perhaps nothing.
+    ensures part { OnErr result (AppendsPart (K.written out.old) (K.written out.new) (text_of_line line.now)) }
+    ensures later { K.faults out.old ≤ K.faults out.new }
+    ensures cause { IsErrOf result Stop.SinkFault → Rose (K.faults out.old) (K.faults out.new) }
+    ensures desk { IsErrOf result Stop.DeskFault → ⊥ }
+{
+    let mut text = Vec::new(alloc);
+    match print_line(line, &mut text) {
+        Err(_) => Err(Stop::NoMemory),
+        Ok(()) => match put_all(out, &text) {
+            Ok(()) => Ok(()),
+            Err(_) => Err(Stop::SinkFault),
+        },
+    }
+}
+
+// The refusal that a last line tells, if it tells one.
+fn ending_of(last: &LogLine) -> Option<Refusal>
+    ensures { result ≡ ending_of last.now }
+{
+    match last {
+        LogLine::Refused(why) => Some(*why),
+        _ => None,
+    }
+}
+
+/// Writes the last line of the log, and answers the refusal that it tells, if it tells one.
+pub fn finish<K: Sink>(alloc: Global, out: &mut K, last: LogLine) -> Result<Option<Refusal>, Stop>
+    ensures said { Written (K.written out.old) (K.written out.new) (last ∷ []) result }
+    ensures part { OnErr result (AppendsPart (K.written out.old) (K.written out.new) (text_of_line last)) }
+    ensures ending { IfOk result (λ ending. ending ≡ ending_of last) }
+    ensures later { K.faults out.old ≤ K.faults out.new }
+    ensures cause { IsErrOf result Stop.SinkFault → Rose (K.faults out.old) (K.faults out.new) }
+    ensures desk { IsErrOf result Stop.DeskFault → ⊥ }
+{
+    say(alloc, out, &last)?;
+    Ok(ending_of(&last))
+}

@@ -1,0 +1,12 @@
+use mesh_plain::Shifts;
+use step_choose::Settings;
+
+/// Where a run stands between two directives, beside its mesh: the asked shifts, the settings, and how many steps were taken and
+/// meshes saved.
+#[derive(Drop)]
+pub struct RunState {
+    pub asked: Shifts,
+    pub set: Settings,
+    pub steps: u32,
+    pub saved: u32,
+}

@@ -1,0 +1,138 @@
+ghost use Rattle.std.specs.Prelude.{◌≡◌, ◌↔◌, ◌≤◌, ◌+ℤ◌, unsigned_abs, map, IsSome, IfSome, IfOk};
+ghost use Rattle.grid_base.specs.declared.TheConstants.{SHIFT_MAX};
+ghost use Rattle.grid_base.specs.Triples.{IsWithin, plus};
+ghost use Rattle.grid_base.specs.Points.{displacement_of};
+ghost use Rattle.track_engine.specs.State.{no_shifts, still_at, asked_of, asked_in};
+ghost use Rattle.std.specs.Option.{unwrap_or};
+ghost use Rattle.track_engine.specs.Effects.{moves, all_still};
+ghost use Rattle.std.specs.List.Sorted.{IsStrictlySortedBy};
+ghost use Rattle.std.specs.Ordering.{nat_cmp};
+ghost use Rattle.track_engine.specs.Effects.{sum_of_one};
+ghost use Rattle.track_engine.specs.Shifting.{Sums, AsksNow};
+
+use grid_base::{NoMemory, SHIFT_MAX, Shift};
+use mesh_plain::{ShiftOf, Shifts, Surface, UseWhy, VertexId, live_vertices};
+use pair_scan::place_of;
+use std::alloc::Global;
+
+const NO_SHIFT: Shift = Shift { x: 0, y: 0, z: 0 };
+
+/// No shift for each live vertex, by rising id.
+pub(crate) fn no_shifts<S: Surface>(alloc: Global, mesh: &S) -> Result<Shifts, NoMemory>
+    ensures { IfOk result (λ shifts. shifts ≡ no_shifts (S.mesh mesh.now)) }
+{
+    let ids = live_vertices(alloc, mesh)?;
+    let shifts = all_at_rest(alloc, ids.as_slice())?;
+    Ok(shifts)
+}
+
+// No shift for each of the vertices.
+fn all_at_rest(alloc: Global, ids: &[VertexId]) -> Result<Shifts, NoMemory>
+    ensures { IfOk result (λ shifts. shifts ≡ map still_at ids.now) }
+{
+    let mut shifts = Shifts::new(alloc);
+    for v in ids {
+        shifts.push(ShiftOf {
+            v: *v,
+            by: NO_SHIFT,
+        })?;
+    }
+    Ok(shifts)
+}
+
+// The sum of two components.
+fn component_sum(a: i32, b: i32) -> i32
+    requires a_fits { unsigned_abs a ≤ SHIFT_MAX }
+    requires b_fits { unsigned_abs b ≤ SHIFT_MAX }
+    ensures { result ≡ a +ℤ b }
+{
+    a + b
+}
+
+// The sum of two shifts, where it is one.
+fn sum(a: Shift, b: Shift) -> Option<Shift>
+    ensures made { IfSome result (λ s. displacement_of s ≡ plus (displacement_of a) (displacement_of b)) }
+    ensures some { IsSome result ↔ IsWithin SHIFT_MAX (plus (displacement_of a) (displacement_of b)) }
+{
+    Shift::new(
+        component_sum(a.x, b.x),
+        component_sum(a.y, b.y),
+        component_sum(a.z, b.z),
+    )
+}
+
+/// The shifts with one added to each, or the first vertex for which the sum is above the limit.
+pub(crate) fn all_summed(
+    alloc: Global,
+    asked: &[ShiftOf],
+    by: Shift,
+) -> Result<Result<Shifts, VertexId>, NoMemory>
+    ensures { IfOk result (Sums by asked.now) }
+{
+    let mut shifts = Shifts::new(alloc);
+    for s in asked {
+        match sum(s.by, by) {
+            Some(by) => shifts.push(ShiftOf { v: s.v, by })?,
+            None => return Ok(Err(s.v)),
+        }
+    }
+    Ok(Ok(shifts))
+}
+
+// What is asked of a vertex, by rising id; nothing, where none is named.
+fn asked_of(asked: &[ShiftOf], v: VertexId) -> ShiftOf
+    requires { IsStrictlySortedBy nat_cmp (map (λ s. s.v) asked.now) }
+    ensures { result ≡ unwrap_or (asked_of v asked.now) (still_at v) }
+{
+    let still = ShiftOf { v, by: NO_SHIFT };
+    match place_of(asked, v) {
+        Some(place) => match asked.get(place) {
+            Some(s) => *s,
+            None => still,
+        },
+        None => still,
+    }
+}
+
+/// What is asked of each live vertex of a mesh that was changed: what was asked of it, and nothing of one that is new.
+pub(crate) fn asked_in<S: Surface>(
+    alloc: Global,
+    mesh: &S,
+    asked: &[ShiftOf],
+) -> Result<Shifts, NoMemory>
+    requires { IsStrictlySortedBy nat_cmp (map (λ s. s.v) asked.now) }
+    ensures { IfOk result (λ shifts. shifts ≡ asked_in (S.mesh mesh.now) asked.now) }
+{
+    let ids = live_vertices(alloc, mesh)?;
+    let mut shifts = Shifts::new(alloc);
+    for v in ids.as_slice() {
+        shifts.push(asked_of(asked, *v))?;
+    }
+    Ok(shifts)
+}
+
+/// Adds a shift to what is asked of one vertex, or answers why it can't be added. Takes no memory.
+pub(crate) fn sum_one(asked: &mut Shifts, v: u32, by: Shift) -> Option<UseWhy>
+    requires { IsStrictlySortedBy nat_cmp (map (λ s. s.v) asked.old) }
+    ensures { AsksNow (sum_of_one v by asked.old) asked.new result }
+{
+    let Some(place) = place_of(asked.as_slice(), VertexId(v)) else {
+        return Some(UseWhy::NoVertex { v });
+    };
+    let Some(s) = asked.get(place) else {
+        unreachable!()
+    };
+    let s = *s;
+    let Some(by) = sum(s.by, by) else {
+        return Some(UseWhy::ShiftRange { v });
+    };
+    asked.set(place, ShiftOf { v: s.v, by });
+    None
+}
+
+/// Whether the shift moves its vertex.
+pub(crate) fn moves(s: &ShiftOf) -> bool
+    ensures { result ≡ moves s.now }
+{
+    s.by.x != 0 || s.by.y != 0 || s.by.z != 0
+}

@@ -1,0 +1,85 @@
+ghost use Rattle.std.specs.Prelude.{◌≡◌, ◌≤◌, ◌∷◌, ◌++◌, [], IsErrOf};
+ghost use Rattle.log_text.specs.declared.LogLine.TheVariants.{Moved};
+ghost use Rattle.step_choose.specs.Choice.{Way};
+ghost use Rattle.step_choose.specs.Chosen.{way_of};
+ghost use Rattle.outside_io.specs.Causes.{Rose};
+ghost use Rattle.track_engine.specs.Effects.{hit_lines, move_lines, lines_of_step};
+ghost use Rattle.pass_run.specs.Said.{Written};
+
+use crate::lines::say;
+use crate::shifting::moves;
+use crate::stop::Stop;
+use log_text::LogLine;
+use mesh_plain::{PairName, ShiftOf};
+use outside_io::Sink;
+use std::alloc::Global;
+use step_choose::Choice;
+
+// The line of a shift, where it is not zero.
+fn say_move<K: Sink>(alloc: Global, s: &ShiftOf, out: &mut K) -> Result<(), Stop>
+    ensures said { Written (K.written out.old) (K.written out.new) (move_lines (s.now ∷ [])) result }
+    ensures later { K.faults out.old ≤ K.faults out.new }
+    ensures cause { IsErrOf result Stop.SinkFault → Rose (K.faults out.old) (K.faults out.new) }
+    ensures desk { IsErrOf result Stop.DeskFault → ⊥ }
+{
+    if !moves(s) {
+        return Ok(());
+    }
+    say(alloc, out, &LogLine::Move(*s))
+}
+
+// A line for each shift that is not zero.
+fn say_moves<K: Sink>(alloc: Global, asked: &[ShiftOf], out: &mut K) -> Result<(), Stop>
+    ensures said { Written (K.written out.old) (K.written out.new) (move_lines asked.now) result }
+    ensures later { K.faults out.old ≤ K.faults out.new }
+    ensures cause { IsErrOf result Stop.SinkFault → Rose (K.faults out.old) (K.faults out.new) }
+    ensures desk { IsErrOf result Stop.DeskFault → ⊥ }
+{
+    for s in asked {
+        say_move(alloc, s, out)?;
+    }
+    Ok(())
+}
+
+// A line for each pair.
+fn say_hits<K: Sink>(alloc: Global, pairs: &[PairName], out: &mut K) -> Result<(), Stop>
+    ensures said { Written (K.written out.old) (K.written out.new) (hit_lines pairs.now) result }
+    ensures later { K.faults out.old ≤ K.faults out.new }
+    ensures cause { IsErrOf result Stop.SinkFault → Rose (K.faults out.old) (K.faults out.new) }
+    ensures desk { IsErrOf result Stop.DeskFault → ⊥ }
+{
+    for pair in pairs {
+        say(alloc, out, &LogLine::Hit(*pair))?;
+    }
+    Ok(())
+}
+
+// The lines of the shifts that are taken, and of the way.
+fn say_way<K: Sink>(alloc: Global, choice: &Choice, out: &mut K) -> Result<(), Stop>
+    ensures said { Written (K.written out.old) (K.written out.new) (move_lines choice.now.taken ++ Moved choice.now.how ∷ []) result }
+    ensures later { K.faults out.old ≤ K.faults out.new }
+    ensures cause { IsErrOf result Stop.SinkFault → Rose (K.faults out.old) (K.faults out.new) }
+    ensures desk { IsErrOf result Stop.DeskFault → ⊥ }
+{
+    say_moves(alloc, choice.taken.as_slice(), out)?;
+    say(alloc, out, &LogLine::Moved(choice.how))?;
+    Ok(())
+}
+
+/// The lines of step `k`, taken as it was chosen.
+pub(crate) fn say_step<K: Sink>(
+    alloc: Global,
+    k: u32,
+    choice: &Choice,
+    out: &mut K,
+) -> Result<(), Stop>
+    ensures said { Written (K.written out.old) (K.written out.new) (lines_of_step k choice.now.hits (way_of choice.now)) result }
+    ensures later { K.faults out.old ≤ K.faults out.new }
+    ensures cause { IsErrOf result Stop.SinkFault → Rose (K.faults out.old) (K.faults out.new) }
+    ensures desk { IsErrOf result Stop.DeskFault → ⊥ }
+{
+    say(alloc, out, &LogLine::Step { k })?;
+    say_hits(alloc, choice.hits.as_slice(), out)?;
+    say_way(alloc, choice, out)?;
+    Ok(())
+}

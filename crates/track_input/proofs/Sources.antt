@@ -1,0 +1,25 @@
+-- What a fetch says of a file.
+use Rattle.std.proofs.Common.{◌≡◌, ℕ, ◌<◌, ◌≤◌, ◌⊎◌, inl, inr, List, length, refl, sym, subst, arith}
+use Rattle.std.proofs.lemmas.Bool.{cases_lt}
+use Rattle.std.specs.Option.{IsSomeAnd}
+use Rattle.std.specs.declared.option.Option.{Option}
+use Rattle.std.specs.declared.option.Option.TheVariants.{None, Some}
+use Rattle.std.specs.FinMap.{get}
+use Rattle.grid_base.specs.declared.TheConstants.{TEXT_MAX}
+use Rattle.outside_io.specs.Desk.{Files}
+use Rattle.track_input.specs.Source.{Source, Bytes, Absent, TooLong, IsSource}
+
+held : (files : Files) (name bytes : List ℕ) → get files name ≡ Some bytes → (TEXT_MAX < length bytes) ⊎ (length bytes ≤ TEXT_MAX) → (s : Source) × IsSource (Some files) name s
+held files name bytes e (inl lt) =
+    let P : Option (List ℕ) → Type 0 = λ o. IsSomeAnd o (λ bs. length bytes ≤ length bs) in
+    let le : length bytes ≤ length bytes = omega arith in (TooLong (length bytes), (lt, subst P (sym e) le))
+held files name bytes e (inr le) = (Bytes bytes, (le, e))
+
+found : (files : Files) (name : List ℕ) (o : Option (List ℕ)) → get files name ≡ o → (s : Source) × IsSource (Some files) name s
+found files name None e = (Absent, e)
+found files name (Some bytes) e = held files name bytes e (cases_lt TEXT_MAX (length bytes))
+
+-- each name has one
+pub some_source : (files : Option Files) (name : List ℕ) → (s : Source) × IsSource files name s
+some_source None name = (Absent, tt)
+some_source (Some files) name = found files name (get files name) refl

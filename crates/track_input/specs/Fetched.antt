@@ -1,0 +1,9 @@
+-- What a fetch found.
+use Rattle.track_input.specs.declared.fetching.Fetched.{Fetched}
+use Rattle.track_input.specs.declared.fetching.Fetched.TheVariants as found
+use Rattle.track_input.specs.Source.{Source, Bytes, Absent, TooLong}
+
+abbrev pub source_of : Fetched → Source
+source_of (found.Bytes bytes) = Bytes bytes.items
+source_of found.Absent = Absent
+source_of (found.TooLong seen) = TooLong seen

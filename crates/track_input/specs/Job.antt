@@ -1,0 +1,72 @@
+-- A job: two files and the decimals of the points, and what they give.
+use Rattle.std.specs.Prelude.{◌≡◌, ℕ, List, [], length, map, Option, Some, None, Result, Ok, Err}
+use Rattle.grid_base.specs.Points.{point_at}
+use Rattle.mesh_base.specs.declared.ShapeFault.{ShapeFault}
+use Rattle.mesh_base.specs.declared.FileWord.TheVariants as file
+use Rattle.mesh_base.specs.Mesh.{Mesh}
+use Rattle.mesh_base.specs.Given.{mesh_of}
+use Rattle.mesh_plain.specs.Shape.{shape_fault}
+use Rattle.line_text.specs.declared.TextFault.{TextFault}
+use Rattle.obj_text.specs.Obj.{Lists, lists_of}
+use Rattle.step_text.specs.declared.Placed.{Placed}
+use Rattle.step_text.specs.Steps.{steps_of}
+use Rattle.log_text.specs.declared.Refusal.{Refusal}
+use Rattle.log_text.specs.declared.Refusal.TheVariants as refusal
+use Rattle.outside_io.specs.Desk.{Files}
+use Rattle.track_input.specs.Source.{Source, Bytes, Absent, TooLong, IsSource}
+
+-- the two files, and the decimals of the points
+pub record Job : Type 0 where
+  pub mesh_file : Source
+  pub step_file : Source
+  pub decimals : ℕ
+
+-- the job of two names and so many decimals, where the desk holds these files
+pub record IsJob (files : Option Files) (mesh_name step_name : List ℕ) (decimals : ℕ) (job : Job) : Type 0 where
+  pub mesh : IsSource files mesh_name job.mesh_file
+  pub steps : IsSource files step_name job.step_file
+  pub decimals_are : job.decimals ≡ decimals
+
+-- the mesh of lists that a text gave
+abbrev pub mesh_of_lists : Lists → Mesh
+mesh_of_lists lists = mesh_of (map point_at lists.points) lists.faces
+
+abbrev pub mesh_read : Result Lists TextFault → Mesh
+mesh_read (Ok lists) = mesh_of_lists lists
+mesh_read (Err fault) = mesh_of [] []
+
+abbrev pub mesh_in : ℕ → Source → Mesh
+mesh_in decimals (Bytes bytes) = mesh_read (lists_of decimals bytes)
+mesh_in decimals _ = mesh_of [] []
+
+-- the mesh of a job; the empty one, where its file gives none
+abbrev pub mesh_of_job : Job → Mesh
+mesh_of_job job = mesh_in job.decimals job.mesh_file
+
+-- what a job gives that is read without a fault: lists of good shape, and directives
+pub record Input : Type 0 where
+  pub lists : Lists
+  pub steps : List Placed
+
+abbrev pub input_of_steps : Lists → Result (List Placed) TextFault → Result Input Refusal
+input_of_steps lists (Err fault) = Err (refusal.Steps fault)
+input_of_steps lists (Ok steps) = Ok (record { lists = lists; steps = steps })
+
+abbrev pub input_of_shape : Lists → Option ShapeFault → List ℕ → Result Input Refusal
+input_of_shape lists (Some fault) steps = Err (refusal.Shape fault)
+input_of_shape lists None steps = input_of_steps lists (steps_of steps)
+
+abbrev pub input_of_lists : Result Lists TextFault → List ℕ → Result Input Refusal
+input_of_lists (Err fault) steps = Err (refusal.Mesh fault)
+input_of_lists (Ok lists) steps = input_of_shape lists (shape_fault (length lists.points) lists.faces) steps
+
+abbrev pub input_of_files : ℕ → Source → Source → Result Input Refusal
+input_of_files decimals (TooLong seen) steps = Err (refusal.Long file.Mesh seen)
+input_of_files decimals Absent steps = Err (refusal.Missing file.Mesh)
+input_of_files decimals (Bytes mesh) (TooLong seen) = Err (refusal.Long file.Steps seen)
+input_of_files decimals (Bytes mesh) Absent = Err (refusal.Missing file.Steps)
+input_of_files decimals (Bytes mesh) (Bytes steps) = input_of_lists (lists_of decimals mesh) steps
+
+-- what a job gives, or the first refusal that applies, in the order in which the work is done
+abbrev pub input_of : Job → Result Input Refusal
+input_of job = input_of_files job.decimals job.mesh_file job.step_file

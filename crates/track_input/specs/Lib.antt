@@ -1,0 +1,6 @@
+pub mod Words
+pub mod Named
+pub mod Source
+pub mod Fetched
+pub mod Job
+pub mod Reading

@@ -1,0 +1,13 @@
+//! What the words of a command line ask for, and what is read for it: files are fetched from a desk, their texts are read, and the
+//! mesh is found to be of good shape, or the first refusal that applies is found.
+#![tactic(auto)]
+
+mod command;
+mod fault;
+mod fetching;
+mod reading;
+
+pub use command::{Command, command_of};
+pub use fault::InputFault;
+pub use fetching::{Fetched, fetch_file};
+pub use reading::{Ready, prepare};

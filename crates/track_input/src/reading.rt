@@ -1,0 +1,97 @@
+ghost use Rattle.std.specs.Prelude.{◌≡◌, ◌≤◌, length, IfOk, IsErrOf};
+ghost use Rattle.grid_base.specs.declared.TheConstants.{TEXT_MAX, DECIMALS_MAX};
+ghost use Rattle.outside_io.specs.Causes.{Rose};
+ghost use Rattle.track_input.specs.Reading.{Prepares, Reads};
+
+use crate::fault::InputFault;
+use crate::fetching::{Fetched, fetch_file};
+use grid_base::NoMemory;
+use line_text::ReadFault;
+use log_text::Refusal;
+use mesh_plain::{FileWord, MeshLists, ShapeRefusal, shape};
+use obj_text::read_obj;
+use outside_io::Desk;
+use std::alloc::Global;
+use step_text::{Directives, read_steps};
+
+/// What is read: the first refusal that applies, or lists of good shape and directives.
+#[derive(Drop)]
+pub enum Ready {
+    /// The first refusal that applies, in the order in which the work is done.
+    No(Refusal),
+    /// The lists of the mesh file, which are of good shape, and the directives of the step file.
+    Yes(MeshLists, Directives),
+}
+
+// Reads both texts.
+fn read_all(alloc: Global, decimals: u8, mesh: &[u8], steps: &[u8]) -> Result<Ready, NoMemory>
+    requires few { decimals ≤ DECIMALS_MAX }
+    requires mesh_length { length mesh.now ≤ TEXT_MAX }
+    requires step_length { length steps.now ≤ TEXT_MAX }
+    ensures { IfOk result (Reads decimals mesh.now steps.now) }
+{
+    let lists = match read_obj(alloc, mesh, decimals) {
+        Ok(lists) => lists,
+        Err(ReadFault::NoMemory) => return Err(NoMemory),
+        Err(ReadFault::Text(fault)) => return Ok(Ready::No(Refusal::Mesh(fault))),
+    };
+    match shape(alloc, &lists) {
+        Ok(()) => {}
+        Err(ShapeRefusal::NoMemory) => return Err(NoMemory),
+        Err(ShapeRefusal::Shape(fault)) => return Ok(Ready::No(Refusal::Shape(fault))),
+    }
+    match read_steps(alloc, steps) {
+        Ok(steps) => Ok(Ready::Yes(lists, steps)),
+        Err(ReadFault::NoMemory) => Err(NoMemory),
+        Err(ReadFault::Text(fault)) => Ok(Ready::No(Refusal::Steps(fault))),
+    }
+}
+
+/// Fetches and reads a mesh file and a step file, the points with so many decimals. Both files are fetched before a text is read, the
+/// mesh file first. The desk's files stay as they are.
+pub fn prepare<D: Desk>(
+    alloc: Global,
+    mesh_name: &str,
+    step_name: &str,
+    decimals: u8,
+    desk: &mut D,
+) -> Result<Ready, InputFault>
+    requires few { decimals ≤ DECIMALS_MAX }
+    ensures prepares { IfOk result (Prepares (D.files desk.old) mesh_name.now step_name.now decimals) }
+    ensures kept { D.files desk.new ≡ D.files desk.old }
+    ensures later { D.faults desk.old ≤ D.faults desk.new }
+    ensures cause { IsErrOf result InputFault.DeskFault → Rose (D.faults desk.old) (D.faults desk.new) }
+{
+    let mesh = match fetch_file(alloc, desk, mesh_name)? {
+        Fetched::Bytes(bytes) => bytes,
+        Fetched::Absent => {
+            return Ok(Ready::No(Refusal::Missing {
+                file: FileWord::Mesh,
+            }));
+        }
+        Fetched::TooLong(seen) => {
+            return Ok(Ready::No(Refusal::Long {
+                file: FileWord::Mesh,
+                seen,
+            }));
+        }
+    };
+    let steps = match fetch_file(alloc, desk, step_name)? {
+        Fetched::Bytes(bytes) => bytes,
+        Fetched::Absent => {
+            return Ok(Ready::No(Refusal::Missing {
+                file: FileWord::Steps,
+            }));
+        }
+        Fetched::TooLong(seen) => {
+            return Ok(Ready::No(Refusal::Long {
+                file: FileWord::Steps,
+                seen,
+            }));
+        }
+    };
+    match read_all(alloc, decimals, &mesh, &steps) {
+        Ok(ready) => Ok(ready),
+        Err(NoMemory) => Err(InputFault::NoMemory),
+    }
+}

@@ -1,9 +1,0 @@
--- What a fetch found.
-use Rattle.track_run.specs.declared.fetch.Fetched.{Fetched}
-use Rattle.track_run.specs.declared.fetch.Fetched.TheVariants as found
-use Rattle.track_run.specs.Job.{Source, Bytes, Absent, TooLong}
-
-abbrev pub source_of : Fetched → Source
-source_of (found.Bytes bytes) = Bytes bytes.items
-source_of found.Absent = Absent
-source_of (found.TooLong seen) = TooLong seen

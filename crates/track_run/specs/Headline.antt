@@ -1,0 +1,85 @@
+-- The headline: what a run does.
+use Rattle.std.specs.Prelude.{◌≡◌, ◌≤◌, ◌⊎◌, ℕ, List, Option, Some, None, Result}
+use Rattle.step_text.specs.declared.Directive.{Directive}
+use Rattle.step_text.specs.declared.Directive.TheVariants as directive
+use Rattle.log_text.specs.declared.LogLine.{LogLine}
+use Rattle.log_text.specs.declared.Refusal.{Refusal}
+use Rattle.log_text.specs.Replay.{after}
+use Rattle.outside_io.specs.Causes.{Rose}
+use Rattle.track_input.specs.Words.{Named, Track}
+use Rattle.track_input.specs.Job.{Job, IsJob}
+use Rattle.track_engine.specs.declared.stop.Stop.{Stop}
+use Rattle.track_engine.specs.State.{State, standing}
+use Rattle.track_engine.specs.Effects.{Proceeds, effect_of}
+use Rattle.track_engine.specs.Saved.{Target}
+use Rattle.track_engine.specs.Kept.{LogIsSafe}
+use Rattle.track_engine.specs.Promise.{StepIsTold}
+use Rattle.track_engine.specs.World.{World, Contents, Follows}
+use Rattle.track_run.specs.declared.outcome.Outcome.{Outcome}
+use Rattle.track_run.specs.declared.outcome.Outcome.TheVariants as outcome
+use Rattle.track_run.specs.Job.{log_of, replay_of}
+use Rattle.track_run.specs.Reached.{IsReached, AgreesWithReplay}
+use Rattle.track_run.specs.Outcomes.{outcome_from}
+use Rattle.track_run.specs.Causes.{Cause, IsStopped}
+
+-- THE HEADLINE, read from here down, each part explained where it stands. A run of a job writes the job's log and stores the meshes
+-- that it names, or, where it is stopped, the first of it and not the whole; the log keeps what it promises; and the outcome has its
+-- cause in the job.
+
+-- What holds of each directive, in whichever state it is taken. A step whose pairs all pass is taken unaltered; otherwise each pair that
+-- does not pass is logged, and it is taken by the first way that applies. The lines of a directive, replayed from where the run stood
+-- before it, lead to where it stands after it.
+pub record DirectivesAreTold : Type 0 where
+  pub steps : (s next : State) (lines : List LogLine) → effect_of directive.Step s ≡ Proceeds lines next → StepIsTold s lines
+  pub replayed : (d : Directive) (s next : State) (lines : List LogLine) → effect_of d s ≡ Proceeds lines next →
+      after (standing s) lines ≡ standing next
+
+-- What the log of a job promises. In every mesh that it saves no edge meets a face that shares no vertex with it, and the mesh is
+-- closed, with the live numbers that its line tells; and its text is read again as that mesh, numbered anew, so that a run takes it as its
+-- own. Every motion and every edit that it tells begins and ends in a mesh that is sound, closed and clear, and is clear on the way: at
+-- every fraction, of a pinch above zero, of a collapse below one; a zip has none. Wherever a run of the job stands between two
+-- directives, the replay of the log up to there stands too, so the pairs of a step are tested in the mesh that the log tells; and that
+-- mesh is sound, closed and clear, with a shift asked of each live vertex.
+pub record LogPromises (job : Job) : Type 0 where
+  pub safe : LogIsSafe (replay_of job) (log_of job).lines
+  pub told : DirectivesAreTold
+  pub reached : (s : State) (there : IsReached job s) → AgreesWithReplay job s there.rest
+
+-- The outcome has its cause in the job, and the job has a cause for no other outcome but those that stop a run.
+pub record IsCaused (job : Job) (result : Outcome) : Type 0 where
+  pub cause : Cause job result
+  pub no_other : (other : Outcome) → Cause job other → (result ≡ other) ⊎ IsStopped other ⊎ IsStopped result
+
+-- A run of a job: how it ended, the lines that it wrote and the meshes that it stored, what its log promises, and why it has its outcome.
+pub record Tracks (job : Job) (to : Target) (result : Outcome) (old new : Contents) : Type 0 where
+  pub ended : Result (Option Refusal) Stop
+  pub outcome_is : result ≡ outcome_from ended
+  pub log : Follows to (replay_of job) (log_of job) old new ended
+  pub promises : LogPromises job
+  pub caused : IsCaused job result
+
+-- No count of faults has fallen, and at a fault the one of its side has risen.
+pub record FaultsAreCounted (old new : World) (result : Outcome) : Type 0 where
+  pub desk : old.desk_faults ≤ new.desk_faults
+  pub sink : old.sink_faults ≤ new.sink_faults
+  pub desk_fault : result ≡ outcome.DeskFault → Rose old.desk_faults new.desk_faults
+  pub sink_fault : result ≡ outcome.SinkFault → Rose old.sink_faults new.sink_faults
+
+-- the job of a command, which is what the desk held at entry, is tracked
+pub record TracksCommand (mesh_name step_name : List ℕ) (to : Target) (result : Outcome) (old new : World) : Type 0 where
+  pub job : Job
+  pub is_job : IsJob old.holds.files mesh_name step_name to.decimals job
+  pub tracks : Tracks job to result old.holds new.holds
+  pub faults : FaultsAreCounted old new result
+
+-- a run for these words: nothing is done for words that are no command
+abbrev pub Runs : Option Named → Outcome → World → World → Type 0
+Runs None result old new = (result ≡ outcome.Usage) × (new ≡ old)
+Runs (Some (Track mesh steps prefix decimals)) result old new =
+    TracksCommand mesh steps (record { prefix = prefix; decimals = decimals }) result old new
+
+-- what a job's run writes and stores, by how it ended
+pub record TracksJob (mesh_name step_name : List ℕ) (to : Target) (old new : Contents) (result : Result (Option Refusal) Stop) : Type 0 where
+  pub job : Job
+  pub is_job : IsJob old.files mesh_name step_name to.decimals job
+  pub follows : Follows to (replay_of job) (log_of job) old new result

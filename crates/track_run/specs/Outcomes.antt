@@ -1,0 +1,30 @@
+-- The outcome of a run, by how it ended.
+use Rattle.std.specs.Prelude.{Option, Some, None, Result, Ok, Err}
+use Rattle.log_text.specs.declared.Refusal.{Refusal}
+use Rattle.log_text.specs.declared.Refusal.TheVariants as refusal
+use Rattle.track_engine.specs.declared.stop.Stop.{Stop}
+use Rattle.track_engine.specs.declared.stop.Stop.TheVariants.{NoMemory, DeskFault, SinkFault}
+use Rattle.track_run.specs.declared.outcome.Outcome.{Outcome}
+use Rattle.track_run.specs.declared.outcome.Outcome.TheVariants as outcome
+
+-- the outcome that the last line of a whole log tells
+abbrev pub outcome_of : Option Refusal → Outcome
+outcome_of None = outcome.Done
+outcome_of (Some (refusal.Long file seen)) = outcome.TooLong file seen
+outcome_of (Some (refusal.Missing file)) = outcome.Missing file
+outcome_of (Some (refusal.Mesh fault)) = outcome.MeshText fault
+outcome_of (Some (refusal.Shape fault)) = outcome.MeshShape fault
+outcome_of (Some (refusal.Meets pair)) = outcome.MeshMeets pair
+outcome_of (Some (refusal.Steps fault)) = outcome.StepText fault
+outcome_of (Some (refusal.StepUse line why)) = outcome.StepUse line why
+
+-- the outcome of a stop before the log's end
+abbrev pub outcome_at : Stop → Outcome
+outcome_at NoMemory = outcome.NoMemory
+outcome_at DeskFault = outcome.DeskFault
+outcome_at SinkFault = outcome.SinkFault
+
+-- how a run of a job ended: with its whole log, or stopped before the log's end
+abbrev pub outcome_from : Result (Option Refusal) Stop → Outcome
+outcome_from (Ok ending) = outcome_of ending
+outcome_from (Err stop) = outcome_at stop
