@@ -1,5 +1,6 @@
 -- Replays of lines one after another.
 use Rattle.std.proofs.Common.{◌≡◌, ◌++◌, List, [], ◌∷◌, refl, ap, sym, ◌∙◌}
+use Rattle.std.specs.List.{AllByRecursion}
 use Rattle.mesh_base.specs.Mesh.{Mesh}
 use Rattle.log_text.specs.declared.LogLine.{LogLine}
 use Rattle.log_text.specs.declared.LogLine.TheVariants.{Pass, Did, No}
@@ -21,10 +22,11 @@ pub each_then : (Keeps : Replay → LogLine → Type 0) (r : Replay) (xs ys : Li
 each_then Keeps r [] ys h k = k
 each_then Keeps r (x ∷ xs) ys h k = (h.0, each_then Keeps (replayed r x) xs ys h.1 k)
 
--- what each promises may be weakened
-pub each_weaker : (P Q : Replay → LogLine → Type 0) → ((r : Replay) (line : LogLine) → P r line → Q r line) → (r : Replay) (lines : List LogLine) → EachAt P r lines → EachAt Q r lines
-each_weaker P Q weaker r [] h = tt
-each_weaker P Q weaker r (x ∷ xs) h = (weaker r x h.0, each_weaker P Q weaker (replayed r x) xs h.1)
+-- what each of some lines of a kind promises may be weakened
+pub each_weaker : (Of : LogLine → Type 0) (P Q : Replay → LogLine → Type 0) → ((r : Replay) (line : LogLine) → Of line → P r line → Q r line)
+    → (r : Replay) (lines : List LogLine) → AllByRecursion Of lines → EachAt P r lines → EachAt Q r lines
+each_weaker Of P Q weaker r [] of h = tt
+each_weaker Of P Q weaker r (x ∷ xs) of h = (weaker r x of.0 h.0, each_weaker Of P Q weaker (replayed r x) xs of.1 h.1)
 
 -- ---- lines of a pass
 

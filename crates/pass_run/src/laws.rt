@@ -2,14 +2,15 @@
 
 ghost use Rattle.pass_run.specs.Promises.{LinesTellTheMesh, PassesKeepTheMesh};
 
-/// The lines of a pass, replayed one after another from its opening mesh, give the mesh that it leaves, and change nothing else of the
-/// replay.
+/// The lines of a pass, replayed one after another from its opening mesh, give the mesh that it leaves, and change nothing else
+/// of the replay.
 pub fn lines_tell_the_mesh()
     ensures { LinesTellTheMesh }
 {}
 
-/// A pass over a sound, closed and clear mesh: each edit that its lines tell as done is safe in the mesh that the lines before it make,
-/// its motion is clear; and after each line the mesh is sound, closed and clear, and so is the mesh that the pass leaves.
+/// A pass over a sound, closed and clear mesh: each edit that its lines tell as done is safe in the mesh that the lines before
+/// it make, which means that its motion is clear; after each line the mesh is sound, closed and clear; and so is the mesh that
+/// the pass leaves.
 pub fn passes_keep_the_mesh()
     ensures { PassesKeepTheMesh }
 {}

@@ -205,17 +205,18 @@ fn take_all<S: Surface, K: Sink>(
 ///   and their midpoints are no further apart than `within`.
 /// - `Pinch`: the faces at the vertex are two fans or more.
 ///
-/// A pass that is `grouped` ends with its first `no` line: what is left is not asked. Another goes on to the end. `depth` is the number
-/// of time halvings of the written test, at most `DEPTH_MAX`, to which each edit is put that moves something. The answer is how
-/// many edits were done and how many were refused, of those that were asked for.
+/// A pass that is `grouped` ends with its first `no` line: what is left is not asked. Another goes on to the end. `depth` is the
+/// number of time halvings of the written test, at most `DEPTH_MAX`, to which each edit is put that moves something. The answer
+/// is how many edits were done and how many were refused, of those that were asked for.
 ///
-/// Lengths are compared by exact squares, in grid units, and distances of midpoints in half units. Edges that are near one another
-/// are found by a grid of their midpoints, as broad phases do. The mesh stays closed and clear, after a fault too, and earlier marks
-/// hold. The motion of each done edit is clear at every fraction, of a pinch at those above zero and of a collapse at those below
-/// one; a zip moves nothing.
+/// Lengths are compared by exact squares, in grid units, and distances of midpoints in half units. Edges that are near one
+/// another are found by a grid of their midpoints, as broad phases do. The mesh stays closed and clear, after a fault too, and
+/// earlier marks hold. The motion of each done edit is clear at every fraction, of a pinch at those above zero and of a collapse
+/// at those below one; a zip moves nothing.
 ///
-/// A pass stops where memory is wanting, or where the sink fails, which the sink then counts. A fault leaves the first lines whole, in
-/// order, and perhaps a part of the next; the mesh is what the whole lines make of it, or what they and the next one make.
+/// A pass stops where memory is wanting, or where the sink fails, which the sink then counts. A fault leaves the first lines
+/// whole, in order, and perhaps a part of the next; the mesh is what the whole lines make of it, or what they and the next one
+/// make.
 ///
 /// After the mesh passes of El Topo (Brochu and Bridson 2009).
 pub fn pass<S: Surface, K: Sink>(
@@ -238,8 +239,8 @@ pub fn pass<S: Surface, K: Sink>(
     ensures refused { let lines = lines_due kind depth grouped (S.mesh mesh.old) in
         IfOk result (λ count. count.refused ≡ refused_in lines) }
 
-    // Each edit that the lines tell is safe, from the mesh that the lines before it make, and each line leaves a mesh that is sound,
-    // closed and clear.
+    // Each edit that the lines tell is safe, from the mesh that the lines before it make, and each line leaves a mesh that is
+    // sound, closed and clear.
     ensures motions { let m = S.mesh mesh.old in
         LinesKeepTheMesh (at_mesh m) (lines_due kind depth grouped m) }
 

@@ -50,7 +50,8 @@ fn is_collapse_due<S: Surface>(mesh: &S, kind: PassKind, a: VertexId, b: VertexI
 
 /// Whether the length from one vertex to another is above the distance of the third corners of the faces beside an edge.
 fn is_longer_than_across<S: Surface>(mesh: &S, a: VertexId, b: VertexId, e: &EdgeFaces) -> bool
-    ensures { result ≡ int_lt (length_squared (S.mesh mesh.now) e.now.c e.now.d) (length_squared (S.mesh mesh.now) a b) }
+    ensures { let m = S.mesh mesh.now in
+        result ≡ int_lt (length_squared m e.now.c e.now.d) (length_squared m a b) }
 {
     length_squared(mesh, e.c, e.d) < length_squared(mesh, a, b)
 }
