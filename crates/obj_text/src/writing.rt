@@ -1,7 +1,7 @@
 ghost use Rattle.std.specs.Prelude.{◌≡◌, ◌≤◌, ◌++◌, ◌∷◌, [], length, map, nat_le, codes, decimal, OnOk, IfOk};
 ghost use Rattle.std.specs.List.Sorted.{IsNonDecreasing};
 ghost use Rattle.std.specs.FinMap as finite;
-ghost use Rattle.grid_base.specs.declared.TheConstants.{VERTICES_MAX};
+ghost use Rattle.grid_base.specs.declared.TheConstants.{VERTICES_MAX, DECIMALS_MAX};
 ghost use Rattle.line_text.specs.Numbers.{fixed_text};
 ghost use Rattle.line_text.specs.WrittenLines.{line_of_words};
 ghost use Rattle.obj_text.specs.Written.{rank_among, vertex_line, vertices_text, faces_text, mesh_text};
@@ -13,7 +13,7 @@ use std::alloc::Global;
 
 // Appends a coordinate and the byte behind it.
 fn put_coordinate(out: &mut Vec<u8>, value: i32, decimals: u8, end: u8) -> Result<(), NoMemory>
-    requires { decimals ≤ 6 }
+    requires { decimals ≤ DECIMALS_MAX }
     ensures { OnOk result (out.new.items ≡ out.old.items ++ fixed_text decimals value ++ end ∷ []) }
 {
     fixed(value, decimals, out)?;
@@ -23,7 +23,7 @@ fn put_coordinate(out: &mut Vec<u8>, value: i32, decimals: u8, end: u8) -> Resul
 
 // Appends the line of a vertex.
 fn put_vertex(out: &mut Vec<u8>, p: Point, decimals: u8) -> Result<(), NoMemory>
-    requires { decimals ≤ 6 }
+    requires { decimals ≤ DECIMALS_MAX }
     ensures { OnOk result (out.new.items ≡ out.old.items ++ vertex_line decimals p) }
 {
     out.extend_from_slice(b"v ")?;
@@ -70,7 +70,7 @@ fn put_vertices<S: Surface>(
     ids: &[VertexId],
     decimals: u8,
 ) -> Result<(), NoMemory>
-    requires places { decimals ≤ 6 }
+    requires places { decimals ≤ DECIMALS_MAX }
     requires live { ids.now ≡ finite.keys (S.mesh mesh.now).points }
     ensures { OnOk result (out.new.items ≡ out.old.items ++ vertices_text decimals (S.mesh mesh.now)) }
 {
@@ -103,7 +103,7 @@ fn put_faces<S: Surface>(
 /// coordinates divided by 10 ^ decimals, and then a line `f I J K` for each live face by rising id, its corners in order
 /// by their ranks from 1 among the live vertices. The empty mesh has the empty text.
 pub fn obj_of<S: Surface>(alloc: Global, mesh: &S, decimals: u8) -> Result<Vec<u8>, NoMemory>
-    requires { decimals ≤ 6 }
+    requires { decimals ≤ DECIMALS_MAX }
     ensures { IfOk result (λ text. text.items ≡ mesh_text decimals (S.mesh mesh.now)) }
 {
     let vertices = live_vertices(alloc, mesh)?;

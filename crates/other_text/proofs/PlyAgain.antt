@@ -5,7 +5,7 @@ use Rattle.std.specs.List.{AllByRecursion, flat_map}
 use Rattle.std.proofs.lemmas.Bool.{ne_eqb}
 use Rattle.std.proofs.lemmas.List.{append-nil, length-map}
 use Rattle.std.proofs.lemmas.List.Folds.{flat_map-map}
-use Rattle.grid_base.specs.declared.TheConstants.{VERTICES_MAX, FACES_MAX}
+use Rattle.grid_base.specs.declared.TheConstants.{VERTICES_MAX, FACES_MAX, DECIMALS_MAX}
 use Rattle.grid_base.specs.declared.Point.{Point}
 use Rattle.grid_base.specs.Points.{position_of}
 use Rattle.mesh_base.specs.Changes as changes
@@ -42,7 +42,7 @@ head_at wanted roles x y z v f = record { wanted = wanted; roles = roles; x_stan
 
 -- ---- points
 
-module _ (decimals : ℕ) (places : decimals ≤ 6) (count : ℕ) where
+module _ (decimals : ℕ) (places : decimals ≤ DECIMALS_MAX) (count : ℕ) where
   three_words : (a b c : List ℕ) → count_is 3 (a ∷ b ∷ c ∷ []) ≡ Ok tt
   unfolding count_is
   three_words a b c = refl
@@ -215,7 +215,7 @@ done_gives n lists = refl
 
 -- ---- the whole text
 
-whole : (points : List Point) (faces : List (List ℕ)) (decimals : ℕ) → shape_fault (length points) faces ≡ None → AllByRecursion (λ f. length f ≡ 3) faces → decimals ≤ 6 → lines_add (words_add decimals) start (numbered_lines 1 (ply_text decimals (record { points = map position_of points; faces = faces }))) ≡ Ok (rows_from 0 0 (record { points = map position_of points; faces = faces }))
+whole : (points : List Point) (faces : List (List ℕ)) (decimals : ℕ) → shape_fault (length points) faces ≡ None → AllByRecursion (λ f. length f ≡ 3) faces → decimals ≤ DECIMALS_MAX → lines_add (words_add decimals) start (numbered_lines 1 (ply_text decimals (record { points = map position_of points; faces = faces }))) ≡ Ok (rows_from 0 0 (record { points = map position_of points; faces = faces }))
 whole points faces decimals good sizes places =
     let none_wrong = no_fault_but_balance (length points) faces (none_of (fault_but_balance (length points) faces) _ good).0 in
     let few_points : length points ≤ VERTICES_MAX = few VERTICES_MAX (length points) none_wrong.vertices in

@@ -1,5 +1,5 @@
 ghost use Rattle.std.specs.Prelude.{◌≡◌, ◌≤◌, ◌<◌, ◌^◌, length, IfOk};
-ghost use Rattle.grid_base.specs.declared.TheConstants.{TEXT_MAX};
+ghost use Rattle.grid_base.specs.declared.TheConstants.{TEXT_MAX, DECIMALS_MAX};
 ghost use Rattle.line_text.specs.Faults.{Gives, Leaves, at_line};
 ghost use Rattle.line_text.specs.Remaining.{words_left};
 ghost use Rattle.line_text.specs.Texts.{words_of};
@@ -76,7 +76,7 @@ fn add_row(
     words: Words<'_>,
     line: u32,
 ) -> Result<(), ReadFault>
-    requires { decimals ≤ 6 }
+    requires { decimals ≤ DECIMALS_MAX }
     ensures { Leaves (progress_of reading.new) result (at_line line (spec.row_adds decimals (progress_of reading.old) (words_left words.entry))) }
 {
     if reading.points_left == 0 {
@@ -108,7 +108,7 @@ fn add_wanted(
     words: Words<'_>,
     line: u32,
 ) -> Result<(), ReadFault>
-    requires { decimals ≤ 6 }
+    requires { decimals ≤ DECIMALS_MAX }
     ensures { Leaves (progress_of reading.new) result (at_line line (spec.wanted_adds reading.old.wanted decimals (progress_of reading.old) (words_left words.entry))) }
 {
     match reading.wanted {
@@ -135,7 +135,7 @@ fn add_wanted(
 // Reads a line.
 #[tactic(auto, unfolding(crate::specs::Off::words_add))]
 fn add_line(reading: &mut Reading, decimals: u8, bytes: &[u8], line: u32) -> Result<(), ReadFault>
-    requires { decimals ≤ 6 }
+    requires { decimals ≤ DECIMALS_MAX }
     ensures { Leaves (progress_of reading.new) result (at_line line (spec.words_add decimals (progress_of reading.old) (words_of bytes.now))) }
 {
     let all = words(bytes);
@@ -184,7 +184,7 @@ fn end(reading: Reading, count: u32) -> Result<MeshLists, ReadFault>
 #[tactic(auto, unfolding(crate::specs::Off::lists_of))]
 pub fn read_off(alloc: Global, bytes: &[u8], decimals: u8) -> Result<MeshLists, ReadFault>
     requires small { length bytes.now ≤ TEXT_MAX }
-    requires places { decimals ≤ 6 }
+    requires places { decimals ≤ DECIMALS_MAX }
     ensures { Gives lists_view result (spec.lists_of decimals bytes.now) }
 {
     let mut reading = Reading {

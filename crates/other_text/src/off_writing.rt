@@ -1,5 +1,6 @@
 ghost use Rattle.std.specs.Prelude.{◌≡◌, ◌≤◌, ◌++◌, ◌∷◌, [], map, OnOk, IfOk};
 ghost use Rattle.std.specs.List.{flat_map};
+ghost use Rattle.grid_base.specs.declared.TheConstants.{DECIMALS_MAX};
 ghost use Rattle.grid_base.specs.Points.{position_of};
 ghost use Rattle.line_text.specs.Numbers.{fixed_text};
 ghost use Rattle.line_text.specs.WrittenLines.{line_of_words};
@@ -13,7 +14,7 @@ use std::alloc::Global;
 
 // Appends a coordinate and the byte behind it.
 fn put_coordinate(out: &mut Vec<u8>, value: i32, decimals: u8, end: u8) -> Result<(), NoMemory>
-    requires { decimals ≤ 6 }
+    requires { decimals ≤ DECIMALS_MAX }
     ensures { OnOk result (out.new.items ≡ out.old.items ++ fixed_text decimals value ++ end ∷ []) }
 {
     fixed(value, decimals, out)?;
@@ -23,7 +24,7 @@ fn put_coordinate(out: &mut Vec<u8>, value: i32, decimals: u8, end: u8) -> Resul
 
 // Appends the row of a point.
 fn put_point(out: &mut Vec<u8>, p: Point, decimals: u8) -> Result<(), NoMemory>
-    requires { decimals ≤ 6 }
+    requires { decimals ≤ DECIMALS_MAX }
     ensures { OnOk result (out.new.items ≡ out.old.items ++ line_of_words (point_words decimals (position_of p))) }
 {
     put_coordinate(out, p.x, decimals, b' ')?;
@@ -50,7 +51,7 @@ fn put_face(out: &mut Vec<u8>, corners: [u32; 3]) -> Result<(), NoMemory>
 
 // Appends the rows of the points.
 fn put_points(out: &mut Vec<u8>, points: &[Point], decimals: u8) -> Result<(), NoMemory>
-    requires { decimals ≤ 6 }
+    requires { decimals ≤ DECIMALS_MAX }
     ensures { OnOk result (out.new.items ≡ out.old.items ++ flat_map (λ p. line_of_words (point_words decimals p)) (map position_of points.now)) }
 {
     for p in points {
@@ -71,7 +72,7 @@ fn put_faces(out: &mut Vec<u8>, faces: &[[u32; 3]]) -> Result<(), NoMemory>
 
 // Appends the rows of the points and then of the faces.
 pub(crate) fn put_rows(out: &mut Vec<u8>, lists: &MeshLists, decimals: u8) -> Result<(), NoMemory>
-    requires { decimals ≤ 6 }
+    requires { decimals ≤ DECIMALS_MAX }
     ensures { OnOk result (out.new.items ≡ out.old.items ++ rows_text decimals (lists_view lists.now)) }
 {
     put_points(out, lists.points.as_slice(), decimals)?;
@@ -82,7 +83,7 @@ pub(crate) fn put_rows(out: &mut Vec<u8>, lists: &MeshLists, decimals: u8) -> Re
 /// of faces, and 0; a row for each point, its coordinates divided by 10 ^ decimals; and a row `3 I J K` for each face, its
 /// corners numbered from 0.
 pub fn off_of(alloc: Global, lists: &MeshLists, decimals: u8) -> Result<Vec<u8>, NoMemory>
-    requires { decimals ≤ 6 }
+    requires { decimals ≤ DECIMALS_MAX }
     ensures { IfOk result (λ text. text.items ≡ off_text decimals (lists_view lists.now)) }
 {
     let mut out = Vec::new(alloc);

@@ -1,5 +1,5 @@
 ghost use Rattle.std.specs.Prelude.{◌≡◌, ◌≤◌, ◌<◌, ◌+◌, ◌^◌, length, IfOk};
-ghost use Rattle.grid_base.specs.declared.TheConstants.{TEXT_MAX};
+ghost use Rattle.grid_base.specs.declared.TheConstants.{TEXT_MAX, DECIMALS_MAX};
 ghost use Rattle.grid_base.specs.Points.{position_of};
 ghost use Rattle.line_text.specs.Faults.{Gives, Leaves, at_line};
 ghost use Rattle.line_text.specs.Fields.{count_is};
@@ -71,7 +71,7 @@ fn exactly(count: u64, words: Words<'_>) -> Result<(), TextWhy>
 // The point with the coordinate that a word gives, by the role of its property.
 #[tactic(auto, unfolding(crate::specs::Ply::placed))]
 fn placed(role: Role, word: &[u8], p: Point, decimals: u8) -> Result<Point, TextWhy>
-    requires { decimals ≤ 6 }
+    requires { decimals ≤ DECIMALS_MAX }
     ensures { GivesWhy position_of result (spec.placed decimals role word.now (position_of p)) }
 {
     match role {
@@ -98,7 +98,7 @@ fn coordinates(
     start: Point,
     decimals: u8,
 ) -> Result<Point, TextWhy>
-    requires { decimals ≤ 6 }
+    requires { decimals ≤ DECIMALS_MAX }
     ensures { GivesWhy position_of result (spec.coordinates_of decimals roles.now (words_left words.entry) (position_of start)) }
 {
     let mut words = words;
@@ -118,7 +118,7 @@ fn coordinates(
 // The point of a row.
 #[tactic(auto, unfolding(crate::specs::Ply::point_of))]
 fn point(roles: &[Role], words: Words<'_>, decimals: u8) -> Result<Point, TextWhy>
-    requires places { decimals ≤ 6 }
+    requires places { decimals ≤ DECIMALS_MAX }
     requires few { length roles.now < 2 ^ 32 }
     ensures { GivesWhy position_of result (spec.point_of decimals roles.now (words_left words.entry)) }
 {
@@ -164,7 +164,7 @@ fn add_row(
     words: Words<'_>,
     line: u32,
 ) -> Result<(), ReadFault>
-    requires places { decimals ≤ 6 }
+    requires places { decimals ≤ DECIMALS_MAX }
     requires few { length reading.old.roles + reading.old.extra < 2 ^ 32 }
     ensures value { Leaves (progress_of reading.new) result (at_line line (spec.row_adds decimals (progress_of reading.old) (words_left words.entry))) }
     ensures more { length reading.new.roles + reading.new.extra ≤ length reading.old.roles + reading.old.extra }
@@ -290,7 +290,7 @@ fn add_wanted(
     words: Words<'_>,
     line: u32,
 ) -> Result<(), ReadFault>
-    requires places { decimals ≤ 6 }
+    requires places { decimals ≤ DECIMALS_MAX }
     requires few { length reading.old.roles + reading.old.extra < 2 ^ 32 }
     ensures value { Leaves (progress_of reading.new) result (at_line line (spec.wanted_adds reading.old.wanted decimals (progress_of reading.old) (words_left words.entry))) }
     ensures more { length reading.new.roles + reading.new.extra ≤ length reading.old.roles + reading.old.extra + 1 }
@@ -348,7 +348,7 @@ fn is_head(wanted: Wanted) -> bool
 // Reads a line.
 #[tactic(auto, unfolding(crate::specs::Ply::words_add))]
 fn add_line(reading: &mut Reading, decimals: u8, bytes: &[u8], line: u32) -> Result<(), ReadFault>
-    requires places { decimals ≤ 6 }
+    requires places { decimals ≤ DECIMALS_MAX }
     requires few { length reading.old.roles + reading.old.extra < 2 ^ 32 }
     ensures value { Leaves (progress_of reading.new) result (at_line line (spec.words_add decimals (progress_of reading.old) (words_of bytes.now))) }
     ensures more { length reading.new.roles + reading.new.extra ≤ length reading.old.roles + reading.old.extra + 1 }
@@ -410,7 +410,7 @@ fn end(reading: Reading, count: u32) -> Result<MeshLists, ReadFault>
 #[tactic(auto, unfolding(crate::specs::Ply::lists_of))]
 pub fn read_ply(alloc: Global, bytes: &[u8], decimals: u8) -> Result<MeshLists, ReadFault>
     requires small { length bytes.now ≤ TEXT_MAX }
-    requires places { decimals ≤ 6 }
+    requires places { decimals ≤ DECIMALS_MAX }
     ensures { Gives lists_view result (spec.lists_of decimals bytes.now) }
 {
     let mut reading = Reading {

@@ -1,4 +1,5 @@
 ghost use Rattle.std.specs.Prelude.{◌≡◌, ◌≤◌, ◌<◌, ◌^◌, ◌-◌, length, IfOk};
+ghost use Rattle.grid_base.specs.declared.TheConstants.{DECIMALS_MAX};
 ghost use Rattle.grid_base.specs.Points.{position_of};
 ghost use Rattle.line_text.specs.Faults.{Leaves, at_line};
 ghost use Rattle.line_text.specs.Remaining.{words_left};
@@ -39,7 +40,7 @@ fn corner(word: &[u8]) -> Result<u32, TextWhy>
 // The point of a row that begins with three coordinates.
 #[tactic(auto, unfolding(crate::specs::Rows::point_of))]
 pub(crate) fn point(words: Words<'_>, decimals: u8) -> Result<Point, TextWhy>
-    requires { decimals ≤ 6 }
+    requires { decimals ≤ DECIMALS_MAX }
     ensures { GivesWhy position_of result (spec.point_of decimals (words_left words.entry)) }
 {
     let mut words = words;
