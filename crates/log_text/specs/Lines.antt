@@ -69,6 +69,7 @@ abbrev pub use_words : UseWhy → List (List ℕ)
 use_words (using.NoVertex v) = codes "vertex" ∷ decimal v ∷ []
 use_words (using.ShiftRange v) = codes "range" ∷ decimal v ∷ []
 use_words (using.Box v) = codes "box" ∷ decimal v ∷ []
+use_words using.NoField = codes "field" ∷ []
 
 -- what is refused, and why
 abbrev pub refusal_words : Refusal → List (List ℕ)

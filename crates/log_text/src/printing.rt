@@ -1,5 +1,6 @@
 ghost use Rattle.std.specs.Prelude.{◌≡◌, ◌++◌, OnOk, OnErr};
 ghost use Rattle.line_text.specs.WrittenLines.{Keeps};
+ghost use Rattle.mesh_base.specs.declared.UseWhy.TheVariants.{NoField};
 ghost use Rattle.log_text.specs.Lines as spec;
 
 use crate::edit_printing::{print_change, print_no, print_pass};
@@ -197,6 +198,22 @@ fn print_shape(fault: ShapeFault, into: &mut Vec<u8>) -> Result<(), NoMemory>
     }
 }
 
+// Appends the line that refuses a directive which names no field.
+fn print_no_field(at: u32, into: &mut Vec<u8>) -> Result<(), NoMemory>
+    ensures ok { OnOk result (into.new.items ≡ into.old.items ++ spec.text_of_line (LogLine.Refused (Refusal.StepUse at NoField))) }
+    ensures err { OnErr result (Keeps into.old.items into.new.items) }
+{
+    put_words(
+        &[
+            Field::Text(b"refused"),
+            Field::Text(b"use"),
+            Field::Number(u64::from(at)),
+            Field::Text(b"field"),
+        ],
+        into,
+    )
+}
+
 // Appends the line that refuses a directive.
 fn print_use(at: u32, why: UseWhy, into: &mut Vec<u8>) -> Result<(), NoMemory>
     ensures ok { OnOk result (into.new.items ≡ into.old.items ++ spec.text_of_line (LogLine.Refused (Refusal.StepUse at why))) }
@@ -206,6 +223,7 @@ fn print_use(at: u32, why: UseWhy, into: &mut Vec<u8>) -> Result<(), NoMemory>
         UseWhy::NoVertex { v } => (Field::Text(b"vertex"), v),
         UseWhy::ShiftRange { v } => (Field::Text(b"range"), v),
         UseWhy::Box { v } => (Field::Text(b"box"), v),
+        UseWhy::NoField => return print_no_field(at, into),
     };
     put_words(
         &[
