@@ -3,3 +3,4 @@ pub mod Turned
 pub mod Coded
 pub mod Balance
 pub mod Plain
+pub mod Laws
