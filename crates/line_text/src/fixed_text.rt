@@ -1,4 +1,4 @@
-ghost use Rattle.std.specs.Prelude.{◌≡◌, ◌≤◌, ◌<◌, ◌^◌, ◌/◌, ◌-◌, ◌++◌, length, drop, OnOk, OnErr};
+ghost use Rattle.std.specs.Prelude.{◌≡◌, ◌≤◌, ◌<◌, ◌^◌, ◌/◌, ◌-◌, ◌++◌, ◌∷◌, [], length, drop, OnOk, OnErr};
 ghost use Rattle.grid_base.specs.declared.TheConstants.{DECIMALS_MAX};
 ghost use Rattle.line_text.specs.Numbers as spec;
 
@@ -60,4 +60,21 @@ pub fn fixed(value: i32, decimals: u8, into: &mut Vec<u8>) -> Result<(), NoMemor
     let (_, text) = buffer.split_at(start);
     into.extend_from_slice(text)?;
     Ok(())
+}
+
+/// Appends the text of a value on the grid, as `fixed` writes it, and the byte behind it. On refusal `out` is as before.
+pub fn put_coordinate(out: &mut Vec<u8>, value: i32, decimals: u8, end: u8) -> Result<(), NoMemory>
+    requires { decimals ≤ DECIMALS_MAX }
+    ensures ok { OnOk result (out.new.items ≡ out.old.items ++ spec.fixed_text decimals value ++ end ∷ []) }
+    ensures err { OnErr result (out.new.items ≡ out.old.items) }
+{
+    let start = out.len();
+    fixed(value, decimals, out)?;
+    match out.push(end) {
+        Ok(()) => Ok(()),
+        Err(_) => {
+            out.truncate(start);
+            Err(NoMemory)
+        }
+    }
 }

@@ -22,7 +22,7 @@ pub use components::{point_with, shift_with};
 pub use cut::words;
 pub use decimal::grid_number;
 pub use fault::{ReadFault, TextFault, TextWhy};
-pub use fixed_text::fixed;
+pub use fixed_text::{fixed, put_coordinate};
 pub use law::fixed_is_read;
 pub use number::{DIGITS_MAX, NumberWhy, number_within, whole, whole_parts};
 pub use pieces::{Parts, cut_at};

@@ -33,7 +33,7 @@ pub fn count_up_to(most: usize, words: Words<'_>) -> usize
 /// That there are exactly so many words; else Short where there are fewer, and Long where there are more.
 #[tactic(auto, unfolding(crate::specs::Fields::count_is))]
 pub fn count_is(count: usize, words: Words<'_>) -> Result<(), TextWhy>
-    requires { count < 2 ^ 32 }
+    requires { count < 2 ^ 63 }
     ensures { result ≡ spec.count_is count (words_left words.entry) }
 {
     let found = count_up_to(count + 1, words);

@@ -14,14 +14,14 @@ use Rattle.mesh_plain.proofs.Lists.{none_of, none_mapped, few, all_vertices, bet
 use Rattle.line_text.specs.Texts.{numbered_lines}
 use Rattle.line_text.specs.Numbers.{fixed_text}
 use Rattle.line_text.specs.WrittenLines.{line_of_words}
-use Rattle.line_text.proofs.WrittenAgain.{IsSpelled}
+use Rattle.line_text.proofs.WrittenAgain.{IsSpelled, tests_spell}
 use Rattle.other_text.specs.declared.off_reading.Wanted.TheVariants.{Counts, Rows}
 use Rattle.obj_text.specs.Obj.{Lists}
 use Rattle.other_text.specs.Off.{Progress, start, name_of, counts_of, row_adds, wanted_adds, words_add, end_gives, lists_of}
 use Rattle.other_text.specs.Lines.{lines_add}
 use Rattle.other_text.specs.OffWritten.{point_words, face_words, rows_text, off_text}
 use Rattle.other_text.specs.Laws.{OffIsRead}
-use Rattle.other_text.proofs.LinesAgain.{Adds, lists_after, items_add, line_adds, tests_spell}
+use Rattle.other_text.proofs.LinesAgain.{Adds, lists_after, items_add, line_adds}
 use Rattle.other_text.proofs.RowsAgain.{point_again, spelled_point, count_again, face_again, spelled_count, spelled_face, IsCorner}
 
 -- within the rows

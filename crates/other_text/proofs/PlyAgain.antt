@@ -1,5 +1,5 @@
 -- Lists of good shape that are written as PLY are read again.
-use Rattle.std.proofs.Common.{◌≡◌, ℕ, ◌+◌, ◌-◌, ◌^◌, ◌<◌, ◌≤◌, Bool, true, false, eqb, List, [], ◌∷◌, ◌++◌, length, map, None, Ok, refl, sym, ap, ◌∙◌, arith, append_assoc}
+use Rattle.std.proofs.Common.{◌≡◌, ℕ, ◌+◌, ◌-◌, ◌^◌, ◌<◌, ◌≤◌, Bool, true, false, eqb, List, [], ◌∷◌, ◌++◌, length, map, None, Ok, refl, sym, ap, ◌∙◌, arith, append_assoc, Some}
 use Rattle.std.specs.Prelude.{codes, decimal}
 use Rattle.std.specs.List.{AllByRecursion, flat_map}
 use Rattle.std.proofs.lemmas.Bool.{ne_eqb}
@@ -15,18 +15,19 @@ use Rattle.line_text.specs.Texts.{numbered_lines}
 use Rattle.line_text.specs.Numbers.{fixed_text}
 use Rattle.line_text.specs.Fields.{count_is}
 use Rattle.line_text.specs.WrittenLines.{line_of_words}
-use Rattle.line_text.proofs.WrittenAgain.{IsSpelled}
+use Rattle.line_text.proofs.WrittenAgain.{IsSpelled, tests_spell}
 use Rattle.other_text.specs.declared.ply_head.Role.{Role}
 use Rattle.other_text.specs.declared.ply_head.Role.TheVariants.{X, Y, Z}
 use Rattle.other_text.specs.declared.ply_reading.Wanted.{Wanted}
 use Rattle.other_text.specs.declared.ply_reading.Wanted.TheVariants.{Format, Vertices, Properties, Corners, Others, Rows}
 use Rattle.obj_text.specs.Obj.{Lists}
 use Rattle.other_text.specs.Lines.{lines_add}
-use Rattle.other_text.specs.Ply.{Progress, start, name_of, format_of, element_of, property_of, corners_named, is_end, placed, coordinates_of, point_of, sized_ring_of, face_of, role_adds, property_adds, other_adds, row_adds, wanted_adds, words_add, end_gives, lists_of}
+use Rattle.other_text.specs.Ply.{Progress, start, name_of, format_of, element_of, property_of, corners_named, is_end, placed, coordinates_of, point_of, role_adds, property_adds, other_adds, row_adds, wanted_adds, words_add, end_gives, lists_of}
+use Rattle.other_text.specs.Rows.{has_words, sized_ring_of, face_of}
 use Rattle.other_text.specs.OffWritten.{point_words, face_words}
 use Rattle.other_text.specs.PlyWritten.{ply_text}
 use Rattle.other_text.specs.Laws.{PlyIsRead}
-use Rattle.other_text.proofs.LinesAgain.{Adds, lists_after, items_add, line_adds, tests_spell}
+use Rattle.other_text.proofs.LinesAgain.{Adds, lists_after, items_add, line_adds}
 use Rattle.other_text.proofs.RowsAgain.{coordinate_again, spelled_point, count_again, three_again, ring_again, spelled_count, spelled_face, IsCorner}
 
 abbrev all_roles : List Role
@@ -84,8 +85,8 @@ four_words : (a b c : List ℕ) → count_is 3 (a ∷ b ∷ c ∷ []) ≡ Ok tt
 unfolding count_is
 four_words a b c = refl
 
-face_again : (a b c : ℕ) → IsCorner a → IsCorner b → IsCorner c → face_of 0 (face_words (a ∷ b ∷ c ∷ [])) ≡ Ok (a ∷ b ∷ c ∷ [])
-unfolding face_of sized_ring_of
+face_again : (a b c : ℕ) → IsCorner a → IsCorner b → IsCorner c → face_of (Some 0) (face_words (a ∷ b ∷ c ∷ [])) ≡ Ok (a ∷ b ∷ c ∷ [])
+unfolding face_of sized_ring_of has_words
 face_again a b c i j k = rw (three_again, four_words (decimal (a - 1)) (decimal (b - 1)) (decimal (c - 1))) (ring_again a b c i j k)
 
 module _ (decimals : ℕ) where
