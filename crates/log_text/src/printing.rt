@@ -48,7 +48,7 @@ fn print_first(version: u8, into: &mut Vec<u8>) -> Result<(), NoMemory>
 }
 
 fn print_mesh(k: u32, vertices: u32, faces: u32, into: &mut Vec<u8>) -> Result<(), NoMemory>
-    ensures ok { OnOk result (into.new.items ≡ into.old.items ++ spec.text_of_line (LogLine.Mesh k vertices faces)) }
+    ensures ok { OnOk result (into.new.items ≡ into.old.items ++ spec.mesh_text k vertices faces) }
     ensures err { OnErr result (Keeps into.old.items into.new.items) }
 {
     put_words(
@@ -137,7 +137,7 @@ fn print_moved(how: How, into: &mut Vec<u8>) -> Result<(), NoMemory>
 
 // Appends the line that refuses the points and faces of a mesh file.
 fn print_shape(fault: ShapeFault, into: &mut Vec<u8>) -> Result<(), NoMemory>
-    ensures ok { OnOk result (into.new.items ≡ into.old.items ++ spec.text_of_line (LogLine.Refused (Refusal.Shape fault))) }
+    ensures ok { OnOk result (into.new.items ≡ into.old.items ++ spec.refused_text (Refusal.Shape fault)) }
     ensures err { OnErr result (Keeps into.old.items into.new.items) }
 {
     let refused = Field::Text(b"refused");
@@ -200,7 +200,7 @@ fn print_shape(fault: ShapeFault, into: &mut Vec<u8>) -> Result<(), NoMemory>
 
 // Appends the line that refuses a directive which names no field.
 fn print_no_field(at: u32, into: &mut Vec<u8>) -> Result<(), NoMemory>
-    ensures ok { OnOk result (into.new.items ≡ into.old.items ++ spec.text_of_line (LogLine.Refused (Refusal.StepUse at NoField))) }
+    ensures ok { OnOk result (into.new.items ≡ into.old.items ++ spec.refused_text (Refusal.StepUse at NoField)) }
     ensures err { OnErr result (Keeps into.old.items into.new.items) }
 {
     put_words(
@@ -216,7 +216,7 @@ fn print_no_field(at: u32, into: &mut Vec<u8>) -> Result<(), NoMemory>
 
 // Appends the line that refuses a directive.
 fn print_use(at: u32, why: UseWhy, into: &mut Vec<u8>) -> Result<(), NoMemory>
-    ensures ok { OnOk result (into.new.items ≡ into.old.items ++ spec.text_of_line (LogLine.Refused (Refusal.StepUse at why))) }
+    ensures ok { OnOk result (into.new.items ≡ into.old.items ++ spec.refused_text (Refusal.StepUse at why)) }
     ensures err { OnErr result (Keeps into.old.items into.new.items) }
 {
     let (word, v) = match why {
