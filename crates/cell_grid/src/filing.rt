@@ -2,8 +2,8 @@
 ghost use Rattle.std.specs.Prelude.{◌≡◌, ◌≢◌, ℕ, ◌<◌, ◌++◌, [], ◌∷◌, not, ◌==◌, ◌||◌, IsTrue, OnOk, OnErr, IfOk};
 ghost use Rattle.std.specs.List.{filter};
 ghost use Rattle.cell_grid.specs.declared.cells.Cell.{Cell as CellAt};
-ghost use Rattle.cell_grid.specs.Cells.{nth_cell, Touches};
-ghost use Rattle.cell_grid.specs.Filed.{has, held, is_seen};
+ghost use Rattle.cell_grid.specs.Cells.{nth_cell};
+ghost use Rattle.cell_grid.specs.Filed.{has, held, KeepsAll, KeepsOthers, KeepsElsewhere, KeepsTouched, KeepsSeen, KeepsOthersSeen, StandsAlong, IsSeenOver};
 
 use crate::Extent;
 use crate::cells::{Cell, Span, nth_cell, span_of, touches};
@@ -37,7 +37,7 @@ fn put_at(
     item: u64,
 ) -> Result<(), NoMemory>
     ensures ok { OnOk result (IsTrue (has item (held cells.new at))) }
-    ensures keeps { (c : CellAt) (i : ℕ) → IsTrue (has i (held cells.old c)) → IsTrue (has i (held cells.new c)) }
+    ensures keeps { KeepsAll cells.old cells.new }
 {
     if let Some(list) = cells.get_mut(&at) {
         put(list, item)?;
@@ -51,8 +51,8 @@ fn put_at(
 
 // Takes the item out of a cell's list.
 fn take_out_at(cells: &mut HashMap<Cell, Vec<u64>>, at: Cell, item: u64)
-    ensures keeps { (c : CellAt) (i : ℕ) → i ≢ item → IsTrue (has i (held cells.old c)) → IsTrue (has i (held cells.new c)) }
-    ensures elsewhere { (c : CellAt) (i : ℕ) → c ≢ at → IsTrue (has i (held cells.old c)) → IsTrue (has i (held cells.new c)) }
+    ensures keeps { KeepsOthers item cells.old cells.new }
+    ensures elsewhere { KeepsElsewhere at cells.old cells.new }
 {
     take_out_within(cells, at, item);
     drop_empty(cells, at);
@@ -60,8 +60,8 @@ fn take_out_at(cells: &mut HashMap<Cell, Vec<u64>>, at: Cell, item: u64)
 
 // Takes the item out of a cell's list, and leaves the list.
 fn take_out_within(cells: &mut HashMap<Cell, Vec<u64>>, at: Cell, item: u64)
-    ensures keeps { (c : CellAt) (i : ℕ) → i ≢ item → IsTrue (has i (held cells.old c)) → IsTrue (has i (held cells.new c)) }
-    ensures elsewhere { (c : CellAt) (i : ℕ) → c ≢ at → IsTrue (has i (held cells.old c)) → IsTrue (has i (held cells.new c)) }
+    ensures keeps { KeepsOthers item cells.old cells.new }
+    ensures elsewhere { KeepsElsewhere at cells.old cells.new }
 {
     if let Some(list) = cells.get_mut(&at) {
         take_out(list, item);
@@ -94,8 +94,8 @@ fn put_along(
     s: &Span,
     item: u64,
 ) -> Result<(), NoMemory>
-    ensures ok { OnOk result ((n : ℕ) → n < s.now.count → IsTrue (has item (held cells.new (nth_cell s.now n)))) }
-    ensures keeps { (c : CellAt) (i : ℕ) → IsTrue (has i (held cells.old c)) → IsTrue (has i (held cells.new c)) }
+    ensures ok { OnOk result (StandsAlong item s.now cells.new) }
+    ensures keeps { KeepsAll cells.old cells.new }
 {
     for n in 0..s.count {
         put_at(alloc, cells, nth_cell(s, n), item)?;
@@ -114,8 +114,8 @@ pub(crate) fn file(
     at: &Extent,
 ) -> Result<(), NoMemory>
     requires { 0 < cell }
-    ensures ok { OnOk result ((c : CellAt) → Touches cell at.now c → IsTrue (is_seen large.new.items cells.new c item)) }
-    ensures keeps { (c : CellAt) (i : ℕ) → IsTrue (is_seen large.old.items cells.old c i) → IsTrue (is_seen large.new.items cells.new c i) }
+    ensures ok { OnOk result (IsSeenOver cell at.now item large.new.items cells.new) }
+    ensures keeps { KeepsSeen large.old.items cells.old large.new.items cells.new }
 {
     match span_of(at, cell) {
         Some(span) => put_along(alloc, cells, &span, item),
@@ -126,8 +126,8 @@ pub(crate) fn file(
 // Takes the item out of the list of each cell of the span, but for those that the other extent touches.
 fn take_out_along(cell: u32, cells: &mut HashMap<Cell, Vec<u64>>, s: &Span, item: u64, but: &Extent)
     requires { 0 < cell }
-    ensures others { (c : CellAt) (i : ℕ) → i ≢ item → IsTrue (has i (held cells.old c)) → IsTrue (has i (held cells.new c)) }
-    ensures spared { (c : CellAt) (i : ℕ) → Touches cell but.now c → IsTrue (has i (held cells.old c)) → IsTrue (has i (held cells.new c)) }
+    ensures others { KeepsOthers item cells.old cells.new }
+    ensures spared { KeepsTouched cell but.now cells.old cells.new }
 {
     for n in 0..s.count {
         let c = nth_cell(s, n);
@@ -139,7 +139,7 @@ fn take_out_along(cell: u32, cells: &mut HashMap<Cell, Vec<u64>>, s: &Span, item
 
 // Takes the item out of the list of each cell of the span.
 fn take_out_all(cells: &mut HashMap<Cell, Vec<u64>>, s: &Span, item: u64)
-    ensures { (c : CellAt) (i : ℕ) → i ≢ item → IsTrue (has i (held cells.old c)) → IsTrue (has i (held cells.new c)) }
+    ensures { KeepsOthers item cells.old cells.new }
 {
     for n in 0..s.count {
         take_out_at(cells, nth_cell(s, n), item);
@@ -156,8 +156,8 @@ pub(crate) fn unfile_but(
     but: &Extent,
 )
     requires { 0 < cell }
-    ensures others { (c : CellAt) (i : ℕ) → i ≢ item → IsTrue (has i (held cells.old c)) → IsTrue (has i (held cells.new c)) }
-    ensures spared { (c : CellAt) (i : ℕ) → Touches cell but.now c → IsTrue (has i (held cells.old c)) → IsTrue (has i (held cells.new c)) }
+    ensures others { KeepsOthers item cells.old cells.new }
+    ensures spared { KeepsTouched cell but.now cells.old cells.new }
 {
     if let Some(span) = span_of(was, cell) {
         take_out_along(cell, cells, &span, item, but);
@@ -173,7 +173,7 @@ pub(crate) fn unfile(
     was: &Extent,
 )
     requires { 0 < cell }
-    ensures { (c : CellAt) (i : ℕ) → i ≢ item → IsTrue (is_seen large.old.items cells.old c i) → IsTrue (is_seen large.new.items cells.new c i) }
+    ensures { KeepsOthersSeen item large.old.items cells.old large.new.items cells.new }
 {
     take_out(large, item);
     if let Some(span) = span_of(was, cell) {

@@ -1,12 +1,9 @@
 // What a question finds.
 ghost use Rattle.std.specs.Prelude.{◌≡◌, ℕ, ◌<◌, ◌++◌, [], IsTrue, OnOk, OnErr};
-ghost use Rattle.std.specs.List.{filter};
-ghost use Rattle.std.specs.Map.{keys_of};
-ghost use Rattle.std.specs.Prelude.{◌||◌, nat_eq};
+ghost use Rattle.std.specs.Prelude.{nat_eq};
 ghost use Rattle.std.specs.HashMap.{IsUnique};
 ghost use Rattle.cell_grid.specs.Cells.{nth_cell};
-ghost use Rattle.grid_base.specs.Extents.{overlaps};
-ghost use Rattle.cell_grid.specs.Filed.{has, held, is_met, AreFiled};
+ghost use Rattle.cell_grid.specs.Filed.{has, held, is_met, all_met, AreFiled, AddsMet, AddsMetAlone, FindsAlong};
 
 use crate::Extent;
 use crate::cells::{Cell, Span, nth_cell, span_of};
@@ -20,7 +17,7 @@ fn look_in(
     at: &Extent,
     into: &mut Vec<u64>,
 ) -> Result<(), NoMemory>
-    ensures { OnOk result (into.new.items ≡ into.old.items ++ filter (is_met items.now at.now) list.now) }
+    ensures { OnOk result (AddsMet items.now at.now list.now into.old.items into.new.items) }
 {
     for i in list {
         if is_met(items, *i, at) {
@@ -48,7 +45,7 @@ fn look_at(
     at: &Extent,
     into: &mut Vec<u64>,
 ) -> Result<(), NoMemory>
-    ensures { OnOk result (into.new.items ≡ into.old.items ++ filter (is_met items.now at.now) (held cells.now c)) }
+    ensures { OnOk result (AddsMet items.now at.now (held cells.now c) into.old.items into.new.items) }
 {
     if let Some(list) = cells.get(&c) {
         look_in(items, list, at, into)?;
@@ -64,8 +61,8 @@ fn look_along(
     at: &Extent,
     into: &mut Vec<u64>,
 ) -> Result<(), NoMemory>
-    ensures found { OnOk result ((n : ℕ) (i : ℕ) → n < s.now.count → IsTrue (is_met items.now at.now i) → IsTrue (has i (held cells.now (nth_cell s.now n))) → IsTrue (has i into.new.items)) }
-    ensures meets { OnOk result ((i : ℕ) → IsTrue (has i into.new.items) → IsTrue (has i into.old.items || is_met items.now at.now i)) }
+    ensures found { OnOk result (FindsAlong items.now cells.now s.now at.now into.new.items) }
+    ensures meets { OnOk result (AddsMetAlone items.now at.now into.old.items into.new.items) }
     ensures keeps { OnOk result ((i : ℕ) → IsTrue (has i into.old.items) → IsTrue (has i into.new.items)) }
 {
     for n in 0..s.count {
@@ -80,7 +77,7 @@ fn look_everywhere(
     at: &Extent,
     into: &mut Vec<u64>,
 ) -> Result<(), NoMemory>
-    ensures found { OnOk result (into.new.items ≡ into.old.items ++ keys_of (filter (λ e. overlaps e.1 at.now) items.now.entries)) }
+    ensures found { OnOk result (into.new.items ≡ into.old.items ++ all_met items.now at.now) }
     ensures unique { IsUnique nat_eq items.now }
 {
     for (i, e) in items {

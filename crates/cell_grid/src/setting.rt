@@ -3,7 +3,7 @@ ghost use Rattle.std.specs.Prelude.{◌≡◌, ℕ, ◌<◌, cond, nat_eq, OnOk,
 ghost use Rattle.std.specs.HashMap.{get};
 ghost use Rattle.std.specs.List.Sorted.{IsStrictlySortedBy};
 ghost use Rattle.std.specs.Ordering.{nat_cmp};
-ghost use Rattle.cell_grid.specs.Filed.{has, AreFiled};
+ghost use Rattle.cell_grid.specs.Filed.{has, AreFiled, SetsExtent};
 
 use crate::Extent;
 use crate::cells::Cell;
@@ -25,7 +25,7 @@ pub(crate) fn set(
     requires some_size { 0 < cell }
     requires filed { AreFiled cell items.old large.old.items cells.old }
     ensures filed { AreFiled cell items.new large.new.items cells.new }
-    ensures ok { OnOk result ((q : ℕ) → get nat_eq items.new q ≡ cond (nat_eq item q) (Some at.now) (get nat_eq items.old q)) }
+    ensures ok { OnOk result (SetsExtent item at.now items.old items.new) }
     ensures err { OnErr result (items.new.entries ≡ items.old.entries) }
 {
     file(alloc, cell, large, cells, item, at)?;

@@ -8,7 +8,7 @@ use Rattle.std.proofs.lemmas.List.{append-nil, take_at, drop_at, length-append}
 use Rattle.std.proofs.lemmas.List.Recursion.{and_at}
 use Rattle.std.proofs.lemmas.List.Folds.{prefix_len-append}
 use Rattle.std.proofs.lemmas.Fmt.{decimal_nonempty, length-decimal-le}
-use Rattle.grid_base.specs.declared.TheConstants.{BOX}
+use Rattle.grid_base.specs.declared.TheConstants.{BOX, DECIMALS_MAX}
 use Rattle.line_text.specs.Numbers.{number, is_digit, Decimal, front_digits, behind_digits, exponent_of, mantissa_of, decimal_of, nearest_quotient, grid_size, grid_of, grid_number_of, with_sign, last_digits, size_text, fixed_text}
 use Rattle.line_text.specs.Laws.{FixedIsRead}
 use Rattle.line_text.proofs.WordCuts.{IsPlain}
@@ -99,7 +99,7 @@ size_alone n small =
       value = rw same w.value;
     }
 
-size_point : (k n : ℕ) → suc k ≤ 6 → n ≤ BOX → IsSize (suc k) n (decimal (n / 10 ^ suc k) ++ 46 ∷ last_digits (suc k) n)
+size_point : (k n : ℕ) → suc k ≤ DECIMALS_MAX → n ≤ BOX → IsSize (suc k) n (decimal (n / 10 ^ suc k) ++ 46 ∷ last_digits (suc k) n)
 unfolding mantissa_of
 size_point k n places small =
     let front = n / 10 ^ suc k in
@@ -121,13 +121,13 @@ size_point k n places small =
       value = number_after-append 0 ds fs ∙ number_after-split (number ds) fs ∙ rw (w.value, length-last_digits (suc k) n) (number-last_digits (suc k) n);
     }
 
-size_is : (decimals n : ℕ) → decimals ≤ 6 → n ≤ BOX → IsSize decimals n (size_text decimals n)
+size_is : (decimals n : ℕ) → decimals ≤ DECIMALS_MAX → n ≤ BOX → IsSize decimals n (size_text decimals n)
 size_is zero n places small = size_alone n small
 size_is (suc k) n places small = let other : eqb (suc k) 0 ≡ false = ne_eqb _ _ (omega arith) in rw other (size_point k n places small)
 
 -- ---- with or without the sign
 
-module _ (decimals n : ℕ) (word : List ℕ) (places : decimals ≤ 6) (h : IsSize decimals n word) where
+module _ (decimals n : ℕ) (word : List ℕ) (places : decimals ≤ DECIMALS_MAX) (h : IsSize decimals n word) where
   plus : eqb (get_or word 0 0) 43 ≡ false
   plus = ne_eqb _ _ (omega (arith, h.first.0))
 

@@ -6,7 +6,7 @@ use Rattle.std.specs.Str.Lines.{lines}
 use Rattle.std.proofs.lemmas.Bool.{and_parts, and_from, leb-true, ne_eqb, not-true}
 use Rattle.std.proofs.lemmas.List.{length-append}
 use Rattle.std.proofs.lemmas.List.Recursion.{and_at}
-use Rattle.line_text.specs.Texts.{words_of}
+use Rattle.line_text.specs.Texts.{words_of, is_blank, is_comment}
 use Rattle.line_text.specs.WrittenLines.{line_of_words, body_of_words}
 use Rattle.line_text.proofs.WordCuts.{IsPlain, word_again, last_word_again}
 use Rattle.line_text.proofs.LineCuts.{line_again}
@@ -51,6 +51,17 @@ calm_at body calm k d lt =
 pub record IsSpelled (word : List ℕ) : Type 0 where
   pub plain : IsPlain word
   pub calm : list_all is_calm word ≡ true
+
+-- of a fixed word tests compute that it is cut so
+pub tests_spell : (word : List ℕ) → 0 < length word → list_all (λ b. not (is_blank b)) word ≡ true → is_comment word ≡ false → list_all is_calm word ≡ true → IsSpelled word
+tests_spell word some inside no_comment calm = record {
+  plain = record {
+    some = some;
+    inside = λ k lt. not-true (is_blank (get_or word k 0)) (and_at (list_all (λ b. not (is_blank b))) (λ b. not (is_blank b)) refl (λ _ _. refl) word k 0 lt inside);
+    no_comment = no_comment;
+  };
+  calm = calm;
+}
 
 pub number_is_spelled : (word : List ℕ) → IsNumberWord word → IsSpelled word
 number_is_spelled word h = record { plain = h.plain; calm = numbers_are_calm word h.bytes }

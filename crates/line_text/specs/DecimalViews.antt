@@ -1,7 +1,7 @@
 -- Decimal words as the code takes them apart.
 use Rattle.std.specs.Prelude.{◌≡◌, ℕ, ◌+◌, ◌*◌, ◌/◌, ◌^◌, ◌<◌, ◌≤◌, ◌++◌, length, true}
 use Rattle.std.specs.List.{list_all}
-use Rattle.line_text.specs.declared.grid.Decimal as code
+use Rattle.line_text.specs.declared.decimal.Decimal as code
 use Rattle.line_text.specs.Numbers.{Decimal, is_digit, number}
 
 -- a decimal without where its digits lie in memory

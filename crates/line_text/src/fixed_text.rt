@@ -1,4 +1,5 @@
-ghost use Rattle.std.specs.Prelude.{◌≡◌, ◌≤◌, ◌<◌, ◌^◌, ◌/◌, ◌-◌, ◌++◌, length, drop, OnOk, OnErr};
+ghost use Rattle.std.specs.Prelude.{◌≡◌, ◌≤◌, ◌<◌, ◌^◌, ◌/◌, ◌-◌, ◌++◌, ◌∷◌, [], length, drop, OnOk, OnErr};
+ghost use Rattle.grid_base.specs.declared.TheConstants.{DECIMALS_MAX};
 ghost use Rattle.line_text.specs.Numbers as spec;
 
 use grid_base::NoMemory;
@@ -10,7 +11,7 @@ const ROOM: usize = 24;
 // Writes the last digits at the end of the buffer, and answers the number before them.
 fn put_places(size: u64, decimals: usize, buffer: &mut [u8]) -> u64
     requires room { length buffer.old ≡ ROOM }
-    requires places { decimals ≤ 6 }
+    requires places { decimals ≤ DECIMALS_MAX }
     ensures front { result ≡ size / 10 ^ decimals }
     ensures smaller { result ≤ size }
     ensures text { drop (24 - decimals) buffer.new ≡ spec.last_digits decimals size }
@@ -26,7 +27,7 @@ fn put_places(size: u64, decimals: usize, buffer: &mut [u8]) -> u64
 // Writes the text of a size at the end of the buffer, and answers where it begins.
 fn put_size(size: u64, decimals: u8, buffer: &mut [u8]) -> usize
     requires room { length buffer.old ≡ ROOM }
-    requires places { decimals ≤ 6 }
+    requires places { decimals ≤ DECIMALS_MAX }
     requires small { size < 10 ^ 10 }
     ensures text { drop result buffer.new ≡ spec.size_text decimals size }
     ensures within { result ≤ ROOM }
@@ -45,7 +46,7 @@ fn put_size(size: u64, decimals: u8, buffer: &mut [u8]) -> usize
 /// Appends the text of `value` divided by 10 ^ decimals: `-` where it is negative, the whole part, and with decimals above 0
 /// a point and exactly so many digits. On refusal `into` is as before.
 pub fn fixed(value: i32, decimals: u8, into: &mut Vec<u8>) -> Result<(), NoMemory>
-    requires { decimals ≤ 6 }
+    requires { decimals ≤ DECIMALS_MAX }
     ensures ok { OnOk result (into.new.items ≡ into.old.items ++ spec.fixed_text decimals value) }
     ensures err { OnErr result (into.new.items ≡ into.old.items) }
 {
@@ -59,4 +60,21 @@ pub fn fixed(value: i32, decimals: u8, into: &mut Vec<u8>) -> Result<(), NoMemor
     let (_, text) = buffer.split_at(start);
     into.extend_from_slice(text)?;
     Ok(())
+}
+
+/// Appends the text of a value on the grid, as `fixed` writes it, and the byte behind it. On refusal `out` is as before.
+pub fn put_coordinate(out: &mut Vec<u8>, value: i32, decimals: u8, end: u8) -> Result<(), NoMemory>
+    requires { decimals ≤ DECIMALS_MAX }
+    ensures ok { OnOk result (out.new.items ≡ out.old.items ++ spec.fixed_text decimals value ++ end ∷ []) }
+    ensures err { OnErr result (out.new.items ≡ out.old.items) }
+{
+    let start = out.len();
+    fixed(value, decimals, out)?;
+    match out.push(end) {
+        Ok(()) => Ok(()),
+        Err(_) => {
+            out.truncate(start);
+            Err(NoMemory)
+        }
+    }
 }

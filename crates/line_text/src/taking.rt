@@ -1,13 +1,13 @@
 ghost use Rattle.std.specs.Prelude.{◌≡◌, ◌≤◌, ◌<◌, ◌+◌, ◌^◌, unsigned_abs, min, length, IfOk};
 ghost use Rattle.std.specs.Str.{bytes_eq};
-ghost use Rattle.grid_base.specs.declared.TheConstants.{BOX};
+ghost use Rattle.grid_base.specs.declared.TheConstants.{BOX, DECIMALS_MAX};
 ghost use Rattle.line_text.specs.Remaining.{words_left};
 ghost use Rattle.line_text.specs.Numbers as numbers;
 ghost use Rattle.line_text.specs.Fields as spec;
 
 use crate::blank_words::Words;
+use crate::decimal::grid_number;
 use crate::fault::TextWhy;
-use crate::grid::grid_number;
 use crate::number::{NumberWhy, whole_parts};
 
 /// Whether a word is this text.
@@ -33,7 +33,7 @@ pub fn count_up_to(most: usize, words: Words<'_>) -> usize
 /// That there are exactly so many words; else Short where there are fewer, and Long where there are more.
 #[tactic(auto, unfolding(crate::specs::Fields::count_is))]
 pub fn count_is(count: usize, words: Words<'_>) -> Result<(), TextWhy>
-    requires { count < 2 ^ 32 }
+    requires { count < 2 ^ 63 }
     ensures { result ≡ spec.count_is count (words_left words.entry) }
 {
     let found = count_up_to(count + 1, words);
@@ -102,7 +102,7 @@ fn narrow_with_sign(negative: bool, size: u64) -> i32
 /// Range where its value is out of range.
 #[tactic(auto, unfolding(crate::specs::Fields::coordinate_of))]
 pub fn coordinate(word: &[u8], decimals: u8) -> Result<i32, TextWhy>
-    requires { decimals ≤ 6 }
+    requires { decimals ≤ DECIMALS_MAX }
     ensures value { result ≡ spec.coordinate_of decimals word.now }
     ensures within { IfOk result (λ n. unsigned_abs n ≤ BOX) }
 {

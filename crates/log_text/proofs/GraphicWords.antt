@@ -118,6 +118,7 @@ use_graphic : (w : UseWhy) → IsUseInRange w → AreGraphic (use_words w)
 use_graphic (using.NoVertex v) r = (text (codes "vertex") refl, (id v r, tt))
 use_graphic (using.ShiftRange v) r = (text (codes "range") refl, (id v r, tt))
 use_graphic (using.Box v) r = (text (codes "box") refl, (id v r, tt))
+use_graphic using.NoField r = (text (codes "field") refl, tt)
 
 refusal_graphic : (w : Refusal) → IsRefusalInRange w → AreGraphic (refusal_words w)
 refusal_graphic (refusal.Long name n) r = (text (codes "long") refl, (file_graphic name, (seen n r, tt)))

@@ -21,7 +21,7 @@ use Rattle.line_text.specs.Spellings.{spelled_number, spelled_from, spelled_at, 
 use Rattle.log_text.specs.Fields.{Reader, both}
 use Rattle.log_text.specs.Lines.{line_words, file_word, how_words, shape_words, use_words, refusal_words}
 use Rattle.log_text.specs.Values.{whole, alone, shift_of_at}
-use Rattle.log_text.specs.Reading.{first_of, mesh_of, step_of, hit_of, move_of, moved_of, or_unknown, file_of, refused, long_of, missing_of, shape_of, use_numbers, use_of, refused_of, plain_of, line_of}
+use Rattle.log_text.specs.Reading.{first_of, mesh_of, step_of, hit_of, move_of, moved_of, or_unknown, file_of, refused, long_of, missing_of, shape_of, use_numbers, use_line, use_of, refused_of, plain_of, line_of}
 use Rattle.log_text.specs.EditLines.{edit_of}
 use Rattle.edit_base.specs.declared.Change.TheVariants as change
 use Rattle.log_text.specs.Laws.{IsFrom, IsUseInRange, IsInRange, IsOfVersion}
@@ -40,6 +40,13 @@ use_again make at v a b =
     let n = word_number-decimal 1 COUNT_MAX at a.0 a.1 (lit< tt) in
     let m = (number_of 1 ID_MAX (lit< tt)).forth v [] b in
     rw (c, n, m) refl
+
+field_again : (at : ℕ) → IsFrom 1 COUNT_MAX at → (use_line true (decimal at) [] >>= λ n. refused (refusal.StepUse n using.NoField)) ≡ Ok (line.Refused (refusal.StepUse at using.NoField))
+unfolding use_line
+field_again at a =
+    let c = count_with_end-length 0 [] refl in
+    let n = word_number-decimal 1 COUNT_MAX at a.0 a.1 (lit< tt) in
+    rw (c, n) refl
 
 moved_again : (how : How) → IsInRange (line.Moved how) → moved_of true (how_words how) ≡ Ok (line.Moved how)
 unfolding moved_of
@@ -71,6 +78,7 @@ unfolding use_of
 used_again at (using.NoVertex v) r = use_again using.NoVertex at v r.0 r.1
 used_again at (using.ShiftRange v) r = use_again using.ShiftRange at v r.0 r.1
 used_again at (using.Box v) r = use_again using.Box at v r.0 r.1
+used_again at using.NoField r = field_again at r.0
 
 refused_again : (w : Refusal) → IsInRange (line.Refused w) → refused_of true (refusal_words w) ≡ Ok (line.Refused w)
 unfolding refused_of
@@ -189,6 +197,10 @@ record UseSpelled (ended : Bool) (at : List ℕ) (words : List (List ℕ)) (n : 
   at_fits : IsFrom 1 COUNT_MAX n.0
   fits : IsFrom 1 ID_MAX n.1
 
+nothing : (ws : List (List ℕ)) → length ws ≡ 0 → ws ≡ []
+nothing [] e = refl
+nothing (w ∷ ws) e = absurd (omega (arith, e))
+
 use_numbers-back : (ended : Bool) (at : List ℕ) (words : List (List ℕ)) (n : Two) → use_numbers ended at words ≡ Ok n → UseSpelled ended at words n
 unfolding use_numbers
 use_numbers-back ended at words n h =
@@ -201,10 +213,6 @@ use_numbers-back ended at words n h =
     let rest : v.value.1 ≡ [] = nothing v.value.1 (omega (arith, ap length found.0, counted.1)) in
     let here : UseSpelled ended at words (k.value, v.value.0) = record { has_end = counted.0; at_is = at_is.0; words_are = found.0 ∙ ap (λ (t : List (List ℕ)). decimal v.value.0 ∷ t) rest; at_fits = (at_is.1, at_is.2); fits = found.1 } in
     subst (UseSpelled ended at words) (ok_same (k.value, v.value.0) n v.after) here
-  where
-    nothing : (ws : List (List ℕ)) → length ws ≡ 0 → ws ≡ []
-    nothing [] e = refl
-    nothing (w ∷ ws) e = absurd (omega (arith, e))
 
 use_spelled : (version : ℕ) (make : ℕ → UseWhy) (word : List ℕ) → ((v : ℕ) → use_words (make v) ≡ word ∷ decimal v ∷ []) → ((v : ℕ) → IsFrom 1 ID_MAX v → IsUseInRange (make v)) → (ended : Bool) (at : List ℕ) (words : List (List ℕ)) (l : LogLine) → (use_numbers ended at words >>= λ n. refused (refusal.StepUse n.0 (make n.1))) ≡ Ok l → IsSpelling version ended (codes "refused" ∷ codes "use" ∷ at ∷ word ∷ words) l
 use_spelled version make word same fits ended at words l h =
@@ -214,6 +222,19 @@ use_spelled version make word same fits ended at words l h =
     ap (λ (t : List (List ℕ)). codes "refused" ∷ codes "use" ∷ decimal b.value.0 ∷ t) (same b.value.1) ∙ ap (λ (t : List (List ℕ)). codes "refused" ∷ codes "use" ∷ decimal b.value.0 ∷ word ∷ t) (sym u.words_are) ∙ ap (λ (t : List ℕ). codes "refused" ∷ codes "use" ∷ t ∷ word ∷ words) (sym u.at_is) in
     let here : IsSpelling version ended (codes "refused" ∷ codes "use" ∷ at ∷ word ∷ words) (line.Refused (refusal.StepUse b.value.0 (make b.value.1))) = record { has_end = u.has_end; same = ws; fits = (u.at_fits, fits b.value.1 u.fits); of_version = tt } in
     subst (IsSpelling version ended (codes "refused" ∷ codes "use" ∷ at ∷ word ∷ words)) (ok_same (line.Refused (refusal.StepUse b.value.0 (make b.value.1))) l b.after) here
+
+field_spelled : (version : ℕ) (ended : Bool) (at : List ℕ) (words : List (List ℕ)) (l : LogLine) → (use_line ended at words >>= λ n. refused (refusal.StepUse n using.NoField)) ≡ Ok l → IsSpelling version ended (codes "refused" ∷ codes "use" ∷ at ∷ codes "field" ∷ words) l
+unfolding use_line
+field_spelled version ended at words l h =
+    let b = bound (use_line ended at words) (λ (n : ℕ). refused (refusal.StepUse n using.NoField)) l h in
+    let c = bound (count_with_end ended 0 words) (λ (u : Unit {0}). spelled_from 1 COUNT_MAX (spelled_number at)) b.value b.first in
+    let counted = count_with_end-back ended 0 words c.value c.first in
+    let at_is = word_number-some 1 COUNT_MAX b.value at (lit< tt) c.after in
+    let none : words ≡ [] = nothing words counted.1 in
+    let ws : line_words (line.Refused (refusal.StepUse b.value using.NoField)) ≡ codes "refused" ∷ codes "use" ∷ at ∷ codes "field" ∷ words =
+    ap (λ (t : List (List ℕ)). codes "refused" ∷ codes "use" ∷ decimal b.value ∷ codes "field" ∷ t) (sym none) ∙ ap (λ (t : List ℕ). codes "refused" ∷ codes "use" ∷ t ∷ codes "field" ∷ words) (sym at_is.0) in
+    let here : IsSpelling version ended (codes "refused" ∷ codes "use" ∷ at ∷ codes "field" ∷ words) (line.Refused (refusal.StepUse b.value using.NoField)) = record { has_end = counted.0; same = ws; fits = ((at_is.1, at_is.2), tt); of_version = tt } in
+    subst (IsSpelling version ended (codes "refused" ∷ codes "use" ∷ at ∷ codes "field" ∷ words)) (ok_same (line.Refused (refusal.StepUse b.value using.NoField)) l b.after) here
 
 misspelt : {P : Type 0} (ended : Bool) (l : LogLine) → ◌≡◌ {A = Result LogLine TextWhy} (if ended then Err why.Number else Err why.Short) (Ok l) → P
 misspelt true l h = fault_value why.Number l h
@@ -228,7 +249,8 @@ use_back version ended (at ∷ word ∷ words) l h =
     picked P word (codes "vertex") _ _ (Ok l) (use_spelled version using.NoVertex (codes "vertex") (λ v. refl) (λ v r. r) ended at words l)
     (picked P word (codes "range") _ _ (Ok l) (use_spelled version using.ShiftRange (codes "range") (λ v. refl) (λ v r. r) ended at words l)
     (picked P word (codes "box") _ _ (Ok l) (use_spelled version using.Box (codes "box") (λ v. refl) (λ v r. r) ended at words l)
-    (misspelt ended l)))
+    (picked P word (codes "field") _ _ (Ok l) (field_spelled version ended at words l)
+    (misspelt ended l))))
     h
 
 refused_back : (version : ℕ) (ended : Bool) (words : List (List ℕ)) (l : LogLine) → refused_of ended words ≡ Ok l → IsSpelling version ended (codes "refused" ∷ words) l

@@ -53,11 +53,12 @@ IsShapeInRange (shape.Repeated face) = IsFrom 1 COUNT_MAX face
 IsShapeInRange (shape.Doubled first second) = IsFrom 1 COUNT_MAX first × IsFrom 1 COUNT_MAX second
 IsShapeInRange (shape.Unbalanced from to) = IsFrom 1 COUNT_MAX from × IsFrom 1 COUNT_MAX to
 
--- the id of a vertex
+-- the id of a vertex, if there is one
 abbrev pub IsUseInRange : UseWhy → Type 0
 IsUseInRange (using.NoVertex v) = IsFrom 1 ID_MAX v
 IsUseInRange (using.ShiftRange v) = IsFrom 1 ID_MAX v
 IsUseInRange (using.Box v) = IsFrom 1 ID_MAX v
+IsUseInRange using.NoField = Unit {0}
 
 -- the numbers of a refusal
 abbrev pub IsRefusalInRange : Refusal → Type 0

@@ -12,8 +12,10 @@ use Rattle.edit_base.specs.declared.PassKind.TheVariants as pass
 use Rattle.edit_base.specs.declared.Why.{Why}
 use Rattle.edit_base.specs.declared.Why.TheVariants as reason
 use Rattle.grid_base.specs.declared.grid.Point.{Point}
+use Rattle.line_text.specs.declared.Field.{Field}
 use Rattle.line_text.specs.declared.TextWhy.{TextWhy}
 use Rattle.line_text.specs.declared.TextWhy.TheVariants as why
+use Rattle.line_text.specs.WrittenLines.{word_of}
 use Rattle.mesh_base.specs.declared.FileWord.{FileWord}
 use Rattle.mesh_base.specs.declared.FileWord.TheVariants as file
 use Rattle.mesh_base.specs.declared.How.{How}
@@ -69,6 +71,7 @@ abbrev pub use_words : UseWhy → List (List ℕ)
 use_words (using.NoVertex v) = codes "vertex" ∷ decimal v ∷ []
 use_words (using.ShiftRange v) = codes "range" ∷ decimal v ∷ []
 use_words (using.Box v) = codes "box" ∷ decimal v ∷ []
+use_words using.NoField = codes "field" ∷ []
 
 -- what is refused, and why
 abbrev pub refusal_words : Refusal → List (List ℕ)
@@ -159,6 +162,30 @@ body_of l = join_with_byte 32 (line_words l)
 -- a line with the LF at its end
 abbrev pub text_of_line : LogLine → List ℕ
 text_of_line l = body_of l ++ 10 ∷ []
+
+-- fields with one space between them, and LF behind them
+abbrev pub line_of_fields : List Field → List ℕ
+line_of_fields fields = join_with_byte 32 (map word_of fields) ++ 10 ∷ []
+
+-- the line of a mesh
+abbrev pub mesh_text : ℕ → ℕ → ℕ → List ℕ
+mesh_text k vertices faces = text_of_line (line.Mesh k vertices faces)
+
+-- the line of an edit that is done
+abbrev pub done_text : Change → List ℕ
+done_text done = text_of_line (line.Did done)
+
+-- the line of a refusal
+abbrev pub refused_text : Refusal → List ℕ
+refused_text why = text_of_line (line.Refused why)
+
+-- the vertex that is pinched and its copies, each with its point and with a space in front of each word
+abbrev pub spaced_pinch : ℕ → Point → List CopyAt → List ℕ
+spaced_pinch v at copies = spaced (places_words (record { w = v; at = at } ∷ copies))
+
+-- what was asked and why it isn't done, with a space in front of each word
+abbrev pub spaced_refusal : Asked → Why → List ℕ
+spaced_refusal what why = spaced (asked_words what ++ reason_words why)
 
 -- lines, one after another
 abbrev pub text_of_lines : List LogLine → List ℕ

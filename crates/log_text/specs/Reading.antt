@@ -106,6 +106,10 @@ use_numbers ended at words = do
   v ← spelled_at 1 ID_MAX words
   Ok (number, v.0)
 
+-- the number of a directive's line, with no word behind the reason
+unfoldable pub use_line : Bool → List ℕ → List (List ℕ) → Result ℕ TextWhy
+use_line ended at words = count_with_end ended 0 words >>= λ counted. spelled_from 1 COUNT_MAX (spelled_number at)
+
 -- The word behind the line's number says how many follow; a misspelt one asks for as many as follow.
 unfoldable pub use_of : Bool → List (List ℕ) → Result LogLine TextWhy
 use_of ended [] = Err why.Short
@@ -114,6 +118,7 @@ use_of ended (at ∷ word ∷ words) =
     if bytes_eq word (codes "vertex") then (use_numbers ended at words >>= λ n. refused (refusal.StepUse n.0 (using.NoVertex n.1)))
     else if bytes_eq word (codes "range") then (use_numbers ended at words >>= λ n. refused (refusal.StepUse n.0 (using.ShiftRange n.1)))
     else if bytes_eq word (codes "box") then (use_numbers ended at words >>= λ n. refused (refusal.StepUse n.0 (using.Box n.1)))
+    else if bytes_eq word (codes "field") then (use_line ended at words >>= λ n. refused (refusal.StepUse n using.NoField))
     else if ended then Err why.Number
     else Err why.Short
 

@@ -38,7 +38,7 @@ pub(crate) fn print_pass(pass: PassKind, into: &mut Vec<u8>) -> Result<(), NoMem
 
 // Appends the vertex, and then each copy, with its point, each word with a space in front.
 fn put_fans(v: VertexId, at: Point, copies: &[CopyAt], into: &mut Vec<u8>) -> Result<(), NoMemory>
-    ensures ok { OnOk result (into.new.items ≡ into.old.items ++ spec.spaced (spec.places_words (record { w = v; at = at } ∷ copies.now))) }
+    ensures ok { OnOk result (into.new.items ≡ into.old.items ++ spec.spaced_pinch v at copies.now) }
     ensures err { OnErr result (Keeps into.old.items into.new.items) }
 {
     put_place(CopyAt { w: v, at }, into)?;
@@ -46,7 +46,7 @@ fn put_fans(v: VertexId, at: Point, copies: &[CopyAt], into: &mut Vec<u8>) -> Re
 }
 
 fn print_pinch(v: VertexId, at: Point, copies: &Copies, into: &mut Vec<u8>) -> Result<(), NoMemory>
-    ensures ok { OnOk result (into.new.items ≡ into.old.items ++ spec.text_of_line (LogLine.Did (Change.Pinch v at copies.now))) }
+    ensures ok { OnOk result (into.new.items ≡ into.old.items ++ spec.done_text (Change.Pinch v at copies.now)) }
     ensures err { OnErr result (Keeps into.old.items into.new.items) }
 {
     into.extend_from_slice(b"pinch")?;
@@ -180,7 +180,7 @@ fn put_reason(why: Why, into: &mut Vec<u8>) -> Result<(), NoMemory>
 
 // Appends what was asked and why it isn't done, each word with a space in front.
 fn put_refused(what: Asked, why: Why, into: &mut Vec<u8>) -> Result<(), NoMemory>
-    ensures ok { OnOk result (into.new.items ≡ into.old.items ++ spec.spaced (spec.asked_words what ++ spec.reason_words why)) }
+    ensures ok { OnOk result (into.new.items ≡ into.old.items ++ spec.spaced_refusal what why) }
     ensures err { OnErr result (Keeps into.old.items into.new.items) }
 {
     put_asked(what, into)?;

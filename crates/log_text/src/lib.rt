@@ -3,8 +3,6 @@
 
 mod edit_lines;
 mod edit_printing;
-#[cfg(test)]
-mod edit_tests;
 mod edit_values;
 pub mod laws;
 mod lines;

@@ -1,5 +1,6 @@
 ghost use Rattle.std.specs.Prelude.{◌≡◌, ◌++◌, OnOk, OnErr};
 ghost use Rattle.line_text.specs.WrittenLines.{Keeps};
+ghost use Rattle.mesh_base.specs.declared.UseWhy.TheVariants.{NoField};
 ghost use Rattle.log_text.specs.Lines as spec;
 
 use crate::edit_printing::{print_change, print_no, print_pass};
@@ -47,7 +48,7 @@ fn print_first(version: u8, into: &mut Vec<u8>) -> Result<(), NoMemory>
 }
 
 fn print_mesh(k: u32, vertices: u32, faces: u32, into: &mut Vec<u8>) -> Result<(), NoMemory>
-    ensures ok { OnOk result (into.new.items ≡ into.old.items ++ spec.text_of_line (LogLine.Mesh k vertices faces)) }
+    ensures ok { OnOk result (into.new.items ≡ into.old.items ++ spec.mesh_text k vertices faces) }
     ensures err { OnErr result (Keeps into.old.items into.new.items) }
 {
     put_words(
@@ -136,7 +137,7 @@ fn print_moved(how: How, into: &mut Vec<u8>) -> Result<(), NoMemory>
 
 // Appends the line that refuses the points and faces of a mesh file.
 fn print_shape(fault: ShapeFault, into: &mut Vec<u8>) -> Result<(), NoMemory>
-    ensures ok { OnOk result (into.new.items ≡ into.old.items ++ spec.text_of_line (LogLine.Refused (Refusal.Shape fault))) }
+    ensures ok { OnOk result (into.new.items ≡ into.old.items ++ spec.refused_text (Refusal.Shape fault)) }
     ensures err { OnErr result (Keeps into.old.items into.new.items) }
 {
     let refused = Field::Text(b"refused");
@@ -197,15 +198,32 @@ fn print_shape(fault: ShapeFault, into: &mut Vec<u8>) -> Result<(), NoMemory>
     }
 }
 
+// Appends the line that refuses a directive which names no field.
+fn print_no_field(at: u32, into: &mut Vec<u8>) -> Result<(), NoMemory>
+    ensures ok { OnOk result (into.new.items ≡ into.old.items ++ spec.refused_text (Refusal.StepUse at NoField)) }
+    ensures err { OnErr result (Keeps into.old.items into.new.items) }
+{
+    put_words(
+        &[
+            Field::Text(b"refused"),
+            Field::Text(b"use"),
+            Field::Number(u64::from(at)),
+            Field::Text(b"field"),
+        ],
+        into,
+    )
+}
+
 // Appends the line that refuses a directive.
 fn print_use(at: u32, why: UseWhy, into: &mut Vec<u8>) -> Result<(), NoMemory>
-    ensures ok { OnOk result (into.new.items ≡ into.old.items ++ spec.text_of_line (LogLine.Refused (Refusal.StepUse at why))) }
+    ensures ok { OnOk result (into.new.items ≡ into.old.items ++ spec.refused_text (Refusal.StepUse at why)) }
     ensures err { OnErr result (Keeps into.old.items into.new.items) }
 {
     let (word, v) = match why {
         UseWhy::NoVertex { v } => (Field::Text(b"vertex"), v),
         UseWhy::ShiftRange { v } => (Field::Text(b"range"), v),
         UseWhy::Box { v } => (Field::Text(b"box"), v),
+        UseWhy::NoField => return print_no_field(at, into),
     };
     put_words(
         &[

@@ -1,7 +1,6 @@
 ghost use Rattle.std.specs.Prelude.{◌≡◌, ◌++◌, ◌∷◌, [], ◌<◌, length, map, decimal, OnOk, OnErr};
-ghost use Rattle.std.specs.List.{join_with_byte};
 ghost use Rattle.line_text.specs.WrittenLines.{word_of, Keeps};
-ghost use Rattle.log_text.specs.Lines.{spaced, place_words, places_words, text_of_line};
+ghost use Rattle.log_text.specs.Lines.{spaced, place_words, places_words, line_of_fields, text_of_line};
 
 use crate::log_line::LogLine;
 use edit_base::CopyAt;
@@ -12,7 +11,7 @@ use mesh_base::{Ids, VertexId};
 // Appends the words with one space between them and LF behind them.
 pub(crate) fn put_words(fields: &[Field<'_>], into: &mut Vec<u8>) -> Result<(), NoMemory>
     requires { 0 < length fields.now }
-    ensures ok { OnOk result (into.new.items ≡ into.old.items ++ (join_with_byte 32 (map word_of fields.now) ++ 10 ∷ [])) }
+    ensures ok { OnOk result (into.new.items ≡ into.old.items ++ line_of_fields fields.now) }
     ensures err { OnErr result (Keeps into.old.items into.new.items) }
 {
     put_line(fields, into)

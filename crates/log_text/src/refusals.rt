@@ -98,6 +98,15 @@ fn use_numbers(ended: bool, at: &[u8], words: Parts<'_>) -> Result<(u32, u32), T
     Ok((line, v))
 }
 
+// The number of a directive's line, with no word behind the reason.
+#[tactic(auto, unfolding(crate::specs::Reading::use_line))]
+fn use_line(ended: bool, at: &[u8], words: Parts<'_>) -> Result<u32, TextWhy>
+    ensures { result ≡ spec.use_line ended at.now (parts_left words.entry) }
+{
+    count_with_end(ended, 0, words)?;
+    number_of(at, 1, COUNT_MAX)
+}
+
 #[tactic(auto, unfolding(crate::specs::Reading::use_of))]
 fn directive_use(ended: bool, words: Parts<'_>) -> Result<LogLine, TextWhy>
     ensures { result ≡ spec.use_of ended (parts_left words.entry) }
@@ -122,6 +131,11 @@ fn directive_use(ended: bool, words: Parts<'_>) -> Result<LogLine, TextWhy>
     if is_word(word, b"box") {
         let (line, v) = use_numbers(ended, at, words)?;
         let why = UseWhy::Box { v };
+        return Ok(LogLine::Refused(Refusal::StepUse { line, why }));
+    }
+    if is_word(word, b"field") {
+        let line = use_line(ended, at, words)?;
+        let why = UseWhy::NoField;
         return Ok(LogLine::Refused(Refusal::StepUse { line, why }));
     }
     if ended {

@@ -1,12 +1,14 @@
+//! Worked examples: lines with their spellings, logs that are cut short, and texts that are no log.
 use crate::{LogLine, Refusal, print_line, read_log};
-use grid_base::{NoMemory, Shift};
-use line_text::{ReadFault, TextFault, TextWhy};
-use mesh_base::{FaceId, FileWord, How, PairName, ShapeFault, ShiftOf, UseWhy, VertexId};
+use edit_base::{Asked, Change, Copies, CopyAt, PassKind, Why};
+use grid_base::{NoMemory, Point, Shift};
+use line_text::{Parts, ReadFault, TextFault, TextWhy};
+use mesh_base::{FaceId, FileWord, How, Ids, PairName, ShapeFault, ShiftOf, UseWhy, VertexId};
 use std::alloc::Global;
 use std::process::Abort;
 use std::test::Fail;
 
-pub(crate) fn pair(a: u32, b: u32, face: u32) -> PairName {
+fn pair(a: u32, b: u32, face: u32) -> PairName {
     PairName {
         a: VertexId(a),
         b: VertexId(b),
@@ -14,187 +16,257 @@ pub(crate) fn pair(a: u32, b: u32, face: u32) -> PairName {
     }
 }
 
-fn move_of(v: u32, x: i32, y: i32, z: i32) -> Option<LogLine> {
-    let by = Shift::new(x, y, z)?;
-    Some(LogLine::Move(ShiftOf { v: VertexId(v), by }))
-}
-
-fn refused_shape(fault: ShapeFault) -> LogLine {
-    LogLine::Refused(Refusal::Shape(fault))
-}
-
-fn refused_use(line: u32, why: UseWhy) -> LogLine {
-    LogLine::Refused(Refusal::StepUse { line, why })
-}
-
-pub(crate) fn printed(alloc: Global, lines: &[LogLine]) -> Result<Vec<u8>, NoMemory> {
-    let mut into = Vec::new(alloc);
-    for line in lines {
-        print_line(line, &mut into)?;
+fn mesh(k: u32) -> LogLine {
+    LogLine::Mesh {
+        k,
+        vertices: 4,
+        faces: 4,
     }
-    Ok(into)
 }
 
-// A tetrahedron that is moved once.
-#[test]
-fn one_step_is_printed(rt: HostRuntime) -> Result<(), Fail> {
-    let lines = [
-        LogLine::First { version: 1 },
-        LogLine::Mesh {
-            k: 0,
-            vertices: 4,
-            faces: 4,
-        },
-        LogLine::Step { k: 1 },
-        move_of(1, 1, 2, 3).ok_or("a shift")?,
-        move_of(2, 1, 2, 3).ok_or("a shift")?,
-        move_of(3, 1, 2, 3).ok_or("a shift")?,
-        move_of(4, 1, 2, 3).ok_or("a shift")?,
-        LogLine::Moved(How::Whole),
-        LogLine::Mesh {
-            k: 1,
-            vertices: 4,
-            faces: 4,
-        },
-        LogLine::End,
-    ];
-    let text = printed(rt.alloc(), &lines)?;
-    let want =
-        b"topo log 1\nmesh 0 4 4\nstep 1\nmove 1 1 2 3\nmove 2 1 2 3\nmove 3 1 2 3\nmove 4 1 2 3\nmoved whole\nmesh 1 4 4\nend\n";
-    assert_eq!(rt; text.as_slice(), want.as_slice());
+fn shifted(v: u32, by: Shift) -> LogLine {
+    LogLine::Move(ShiftOf { v: VertexId(v), by })
+}
+
+fn no(what: Asked, why: Why) -> LogLine {
+    LogLine::No { what, why }
+}
+
+fn no_split(why: Why) -> LogLine {
+    let what = Asked::Split {
+        a: VertexId(1),
+        b: VertexId(2),
+    };
+    no(what, why)
+}
+
+fn fault(line: u32, why: TextWhy) -> TextFault {
+    TextFault { line, why }
+}
+
+fn refused_use(line: u32, why: UseWhy) -> Refusal {
+    Refusal::StepUse { line, why }
+}
+
+fn put(lines: &[LogLine], into: &mut Vec<u8>) -> Result<(), NoMemory> {
+    for line in lines {
+        print_line(line, into)?;
+    }
     Ok(())
 }
 
-#[test]
-fn other_ways_of_a_step_are_printed(rt: HostRuntime) -> Result<(), Fail> {
-    let lines = [
+fn read_and_printed(rt: &impl Abort, alloc: Global, text: &[u8]) -> Result<Vec<u8>, ReadFault> {
+    assert!(rt; text.len() < 1000);
+    let log = read_log(alloc, text)?;
+    let mut again = Vec::new(alloc);
+    put(log.as_slice(), &mut again)?;
+    Ok(again)
+}
+
+// Appends the lines of a step, and of each pass.
+fn put_run(into: &mut Vec<u8>) -> Result<(), NoMemory> {
+    let by = Shift { x: 1, y: 2, z: 3 };
+    let back = Shift { x: -4, y: 0, z: 0 };
+    let at = Point { x: 50, y: -1, z: 0 };
+    let near = Point { x: 0, y: 0, z: 4 };
+    let (a, b, w) = (VertexId(1), VertexId(2), VertexId(5));
+    let (e, f, turn) = (VertexId(9), VertexId(10), 3);
+    let step = [
+        LogLine::First { version: 1 },
+        mesh(0),
+        LogLine::Step { k: 1 },
         LogLine::Hit(pair(5, 6, 1)),
-        move_of(5, -4, 0, 0).ok_or("a shift")?,
-        LogLine::Moved(How::Halved { times: 1 }),
+        shifted(1, by),
+        shifted(5, back),
+        LogLine::Moved(How::Whole),
         LogLine::Moved(How::Impulse { passes: 1 }),
-        LogLine::Moved(How::Zones { rounds: 1 }),
+        LogLine::Moved(How::Zones { rounds: 2 }),
+        LogLine::Moved(How::Halved { times: 1 }),
         LogLine::Moved(How::Zero),
     ];
-    let text = printed(rt.alloc(), &lines)?;
-    let want =
-        b"hit 5 6 1\nmove 5 -4 0 0\nmoved halved 1\nmoved impulse 1\nmoved zones 1\nmoved zero\n";
-    assert_eq!(rt; text.as_slice(), want.as_slice());
-    Ok(())
-}
-
-#[test]
-fn refused_files_are_printed(rt: HostRuntime) -> Result<(), Fail> {
-    let range = TextFault {
-        line: 1,
-        why: TextWhy::Range,
-    };
-    let short = TextFault {
-        line: 3,
-        why: TextWhy::Short,
-    };
-    let lines = [
-        LogLine::Refused(Refusal::Long {
-            file: FileWord::Mesh,
-            seen: 67_108_865,
-        }),
-        LogLine::Refused(Refusal::Missing {
-            file: FileWord::Mesh,
-        }),
-        LogLine::Refused(Refusal::Mesh(range)),
-        LogLine::Refused(Refusal::Steps(short)),
-        LogLine::Refused(Refusal::Meets(pair(5, 6, 3))),
+    let splits = [
+        LogLine::Pass(PassKind::Split { over: 50 }),
+        LogLine::Did(Change::Split { a, b, w, at }),
+        no_split(Why::NoEdge),
+        no_split(Why::Crowded),
+        no_split(Why::Edge),
+        no_split(Why::Shared),
+        no_split(Why::Full),
+        no_split(Why::Doubled),
+        no_split(Why::OneFan),
+        no_split(Why::Hit(pair(3, 4, 9))),
     ];
-    let text = printed(rt.alloc(), &lines)?;
-    let want =
-        b"refused long mesh 67108865\nrefused missing mesh\nrefused mesh 1 range\nrefused steps 3 short\nrefused meets 5 6 3\n";
-    assert_eq!(rt; text.as_slice(), want.as_slice());
-    Ok(())
+    let others = [
+        LogLine::Pass(PassKind::Collapse { under: 10 }),
+        LogLine::Did(Change::Collapse { a, b, at: near }),
+        no(Asked::Collapse { a, b }, Why::OneFan),
+        LogLine::Pass(PassKind::Flip),
+        LogLine::Did(Change::Flip { a, b }),
+        no(Asked::Flip { a, b }, Why::Edge),
+        LogLine::Pass(PassKind::Zip { within: 4 }),
+        LogLine::Did(Change::Zip { a, b, e, f, turn }),
+        no(Asked::Zip { a, b, e, f }, Why::Hit(pair(1, 10, 29))),
+        LogLine::Pass(PassKind::Pinch),
+        no(Asked::Pinch { v: a }, Why::OneFan),
+        mesh(1),
+        LogLine::End,
+    ];
+    put(&step, into)?;
+    put(&splits, into)?;
+    put(&others, into)
 }
 
-#[test]
-fn refused_shapes_and_directives_are_printed(rt: HostRuntime) -> Result<(), Fail> {
-    let lines = [
-        refused_shape(ShapeFault::TooManyVertices { count: 65_537 }),
-        refused_shape(ShapeFault::Doubled {
+const RUN: &[u8] = b"topo log 1\nmesh 0 4 4\nstep 1\nhit 5 6 1\nmove 1 1 2 3\nmove 5 -4 0 0\n\
+moved whole\nmoved impulse 1\nmoved zones 2\nmoved halved 1\nmoved zero\n\
+pass split 50\nsplit 1 2 5 50 -1 0\nno split 1 2 noedge\nno split 1 2 crowded\nno split 1 2 edge\n\
+no split 1 2 shared\nno split 1 2 full\nno split 1 2 doubled\nno split 1 2 onefan\n\
+no split 1 2 hit 3 4 9\npass collapse 10\ncollapse 1 2 0 0 4\nno collapse 1 2 onefan\n\
+pass flip\nflip 1 2\nno flip 1 2 edge\npass zip 4\nzip 1 2 9 10 3\nno zip 1 2 9 10 hit 1 10 29\n\
+pass pinch\nno pinch 1 onefan\nmesh 1 4 4\nend\n";
+
+// Each refusal.
+fn refusals() -> [Refusal; 22] {
+    [
+        Refusal::Long {
+            file: FileWord::Mesh,
+            seen: 18_446_744_073_709_551_615,
+        },
+        Refusal::Long {
+            file: FileWord::Steps,
+            seen: 67_108_865,
+        },
+        Refusal::Missing {
+            file: FileWord::Mesh,
+        },
+        Refusal::Missing {
+            file: FileWord::Steps,
+        },
+        Refusal::Mesh(fault(1, TextWhy::Number)),
+        Refusal::Mesh(fault(2, TextWhy::Corner)),
+        Refusal::Mesh(fault(3, TextWhy::Range)),
+        Refusal::Mesh(fault(4, TextWhy::Short)),
+        Refusal::Steps(fault(5, TextWhy::Long)),
+        Refusal::Steps(fault(4_294_967_295, TextWhy::Unknown)),
+        Refusal::Mesh(fault(7, TextWhy::Continuation)),
+        Refusal::Shape(ShapeFault::TooManyVertices { count: 65_537 }),
+        Refusal::Shape(ShapeFault::TooManyFaces { count: 131_073 }),
+        Refusal::Shape(ShapeFault::NoVertex { face: 1, corner: 3 }),
+        Refusal::Shape(ShapeFault::Repeated { face: 2 }),
+        Refusal::Shape(ShapeFault::Doubled {
             first: 1,
             second: 2,
         }),
-        refused_shape(ShapeFault::Unbalanced { from: 1, to: 3 }),
+        Refusal::Shape(ShapeFault::Unbalanced { from: 1, to: 3 }),
+        Refusal::Meets(pair(5, 6, 3)),
+        refused_use(1, UseWhy::NoVertex { v: 9 }),
         refused_use(2, UseWhy::ShiftRange { v: 2 }),
+        refused_use(3, UseWhy::Box { v: 4 }),
+        refused_use(3, UseWhy::NoField),
+    ]
+}
+
+const REFUSED: &[u8] = b"refused long mesh 18446744073709551615\nrefused long steps 67108865\n\
+refused missing mesh\nrefused missing steps\nrefused mesh 1 number\nrefused mesh 2 corner\n\
+refused mesh 3 range\nrefused mesh 4 short\nrefused steps 5 long\n\
+refused steps 4294967295 unknown\nrefused mesh 7 continuation\nrefused shape vertices 65537\n\
+refused shape faces 131073\nrefused shape corner 1 3\nrefused shape repeated 2\n\
+refused shape doubled 1 2\nrefused shape unbalanced 1 3\nrefused meets 5 6 3\n\
+refused use 1 vertex 9\nrefused use 2 range 2\nrefused use 3 box 4\nrefused use 3 field\n";
+
+fn block(alloc: Global, ids: &[VertexId]) -> Result<LogLine, NoMemory> {
+    let mut block = Ids::new(alloc);
+    for v in ids {
+        block.push(*v)?;
+    }
+    Ok(LogLine::Block(block))
+}
+
+fn pinch(alloc: Global, first: CopyAt, others: &[CopyAt]) -> Result<LogLine, NoMemory> {
+    let mut copies = Copies::new(alloc);
+    for copy in others {
+        copies.push(*copy)?;
+    }
+    Ok(LogLine::Did(Change::Pinch {
+        v: first.w,
+        at: first.at,
+        copies,
+    }))
+}
+
+fn place(w: u32, at: Point) -> CopyAt {
+    CopyAt { w: VertexId(w), at }
+}
+
+// Two blocks, and vertices that had two and three fans.
+fn put_lists(alloc: Global, into: &mut Vec<u8>) -> Result<(), NoMemory> {
+    let near = place(1, Point { x: 1, y: 0, z: 0 });
+    let far = place(8, Point { x: -1, y: 0, z: 0 });
+    let first = place(3, Point { x: 1, y: 2, z: 3 });
+    let others = [
+        place(8, Point { x: -4, y: 5, z: 6 }),
+        place(9, Point { x: 7, y: 8, z: -9 }),
     ];
-    let text = printed(rt.alloc(), &lines)?;
-    let want =
-        b"refused shape vertices 65537\nrefused shape doubled 1 2\nrefused shape unbalanced 1 3\nrefused use 2 range 2\n";
-    assert_eq!(rt; text.as_slice(), want.as_slice());
+    print_line(
+        &block(alloc, &[VertexId(5), VertexId(6), VertexId(11)])?,
+        into,
+    )?;
+    print_line(
+        &block(alloc, &[VertexId(2), VertexId(3), VertexId(7)])?,
+        into,
+    )?;
+    print_line(&pinch(alloc, near, &[far])?, into)?;
+    print_line(&pinch(alloc, first, &others)?, into)
+}
+
+const LISTS: &[u8] = b"block 5 6 11\nblock 2 3 7\npinch 1 1 0 0 8 -1 0 0\n\
+pinch 3 1 2 3 8 -4 5 6 9 7 8 -9\n";
+
+#[test]
+fn lines_have_one_spelling(rt: HostRuntime) -> Result<(), Fail> {
+    let mut text = Vec::new(rt.alloc());
+    put_run(&mut text)?;
+    assert_eq!(rt; text.as_slice(), RUN);
+    let mut text = Vec::new(rt.alloc());
+    for why in refusals() {
+        print_line(&LogLine::Refused(why), &mut text)?;
+    }
+    assert_eq!(rt; text.as_slice(), REFUSED);
+    let mut text = Vec::new(rt.alloc());
+    put_lists(rt.alloc(), &mut text)?;
+    assert_eq!(rt; text.as_slice(), LISTS);
     Ok(())
 }
 
-// The log of one step that is halved.
-const HALVED: &[u8] =
-    b"topo log 1\nmesh 0 8 8\nstep 1\nhit 5 6 1\nhit 5 7 1\nhit 5 8 1\nmove 5 -4 0 0\nmoved halved 1\nend\n";
+// The log of one step that is taken whole, and of one that is halved.
+const WHOLE: &[u8] = b"topo log 1\nmesh 0 4 4\nstep 1\nmove 1 1 2 3\nmove 2 1 2 3\nmove 3 1 2 3\n\
+move 4 1 2 3\nmoved whole\nmesh 1 4 4\nend\n";
 
-pub(crate) fn read_and_printed(
-    rt: &impl Abort,
-    alloc: Global,
-    text: &[u8],
-) -> Result<Vec<u8>, ReadFault> {
-    assert!(rt; text.len() < 1000);
-    let log = read_log(alloc, text)?;
-    Ok(printed(alloc, log.as_slice())?)
-}
+const HALVED: &[u8] = b"topo log 1\nmesh 0 8 8\nstep 1\nhit 5 6 1\nhit 5 7 1\nhit 5 8 1\n\
+move 5 -4 0 0\nmoved halved 1\nend\n";
+
+// Lines of a step and of each edit, with the greatest values.
+const GREATEST: &[u8] = b"moved impulse 100\nmoved zones 65535\nmoved halved 27\nmoved zero\n\
+move 2147483648 -134217728 134217728 0\nmesh 4294967295 65536 131072\n";
+
+const EDITED: &[u8] = b"topo log 1\nblock 1 2147483648\npass split 268435456\n\
+split 1 2147483648 5 -67108864 67108864 0\nno split 1 2 hit 3 4 9\npass flip\nflip 1 2\n\
+no flip 1 2 edge\npass collapse 0\ncollapse 2147483647 2147483648 0 0 0\nno collapse 1 2 full\n\
+pass zip 4\nzip 1 2 1 2 3\nno zip 1 2 9 10 shared\npass pinch\n\
+pinch 3 1 0 0 8 -1 0 0 9 0 0 -7\nno pinch 1 hit 1 2 1\nend\n";
 
 #[test]
 fn logs_are_read_and_printed_again(rt: HostRuntime) -> Result<(), Fail> {
-    let moved: &[u8] =
-        b"topo log 1\nmesh 0 4 4\nstep 1\nmove 1 1 2 3\nmove 2 1 2 3\nmove 3 1 2 3\nmove 4 1 2 3\nmoved whole\nmesh 1 4 4\nend\n";
-    let others: &[u8] =
-        b"moved impulse 100\nmoved zones 65535\nmoved halved 27\nmoved zero\nmove 2147483648 -134217728 134217728 0\nmesh 4294967295 65536 131072\n";
-    for text in [moved, HALVED, others, b""] {
+    for text in [RUN, REFUSED, LISTS, WHOLE, HALVED, GREATEST, EDITED, b""] {
         let again = read_and_printed(&rt, rt.alloc(), text)?;
         assert_eq!(rt; again.as_slice(), text);
     }
     Ok(())
 }
 
-#[test]
-fn each_refusal_is_read(rt: HostRuntime) -> Result<(), Fail> {
-    let text =
-        b"refused long mesh 18446744073709551615\nrefused long steps 67108865\nrefused missing mesh\nrefused missing steps\nrefused mesh 1 number\nrefused mesh 2 corner\nrefused mesh 3 range\nrefused mesh 4 short\nrefused steps 5 long\nrefused steps 4294967295 unknown\nrefused mesh 7 continuation\nrefused shape vertices 65537\nrefused shape faces 131073\nrefused shape corner 1 3\nrefused shape repeated 2\nrefused shape doubled 1 2\nrefused shape unbalanced 1 3\nrefused meets 5 6 3\nrefused use 1 vertex 9\nrefused use 2 range 2\nrefused use 3 box 4\n";
-    assert!(rt; text.len() < 1000);
-    let log = read_log(rt.alloc(), text)?;
-    let faults = [
-        (1, TextWhy::Number),
-        (2, TextWhy::Corner),
-        (3, TextWhy::Range),
-        (4, TextWhy::Short),
-    ];
-    assert_eq!(rt; log.len(), 21);
-    for (line, (number, why)) in log.as_slice()[4..8].iter().zip(faults) {
-        match line {
-            LogLine::Refused(found) => {
-                assert_eq!(rt; *found, Refusal::Mesh(TextFault { line: number, why }));
-            }
-            _ => assert!(rt; false),
-        }
-    }
-    let uses = [
-        (1, UseWhy::NoVertex { v: 9 }),
-        (2, UseWhy::ShiftRange { v: 2 }),
-        (3, UseWhy::Box { v: 4 }),
-    ];
-    for (line, (number, why)) in log.as_slice()[18..].iter().zip(uses) {
-        match line {
-            LogLine::Refused(found) => {
-                assert_eq!(rt; *found, Refusal::StepUse { line: number, why });
-            }
-            _ => assert!(rt; false),
-        }
-    }
-    Ok(())
-}
+const REFUSED_EDITS: &[u8] = b"pass flip\nno flip 1 2 hit 3 4 5\nno pinch 1 edge\n";
 
 // A log that is cut where a line ends is the log of its lines; one that is cut elsewhere is at fault in its last line.
-pub(crate) fn each_prefix(rt: &impl Abort, alloc: Global, text: &[u8]) {
+fn each_prefix(rt: &impl Abort, alloc: Global, text: &[u8]) {
     for i in 0..text.len() {
         let prefix = &text[..i];
         let ends = prefix.iter().filter(|b| **b == b'\n').count();
@@ -215,58 +287,51 @@ pub(crate) fn each_prefix(rt: &impl Abort, alloc: Global, text: &[u8]) {
     }
 }
 
-#[test]
-fn each_prefix_of_a_log_is_read(rt: HostRuntime) -> Result<(), Fail> {
-    each_prefix(&rt, rt.alloc(), HALVED);
-    Ok(())
-}
-
-pub(crate) fn each_reason(rt: &impl Abort, alloc: Global, cases: &[(&[u8], TextWhy)]) {
-    for (text, why) in cases {
-        assert!(rt; text.len() < 100);
-        let fault = TextFault { line: 1, why: *why };
-        assert_eq!(rt; read_log(alloc, text).err(), Some(ReadFault::Text(fault)));
-    }
-}
+// Texts of one line, with `|` between them, by the reason why they are no log.
+const NO_LOGS: [(TextWhy, &[u8]); 4] = [
+    (
+        TextWhy::Unknown,
+        b"\n|# end\n|end\r\n| end\n|solid 3\n|topo lag\n|moved away\n|refused long log 9\n\
+|refused shape round\n|ended|pass jump 3\n|no jump 1 2 edge\n",
+    ),
+    (
+        TextWhy::Short,
+        b"end|end now|topo\n|topo log\n|moved\n|hit 2 1\n|refused use x vertex\n\
+|refused use 3\n|refused use 3 wrong 4|refused use 3 field|pass\n|pass split\n|pass flip\
+|split 1 2 5 0 0\n|no\n|no split 1 2\n|no split 1 2 hit 3 4\n|no pinch 1\n|no flip 1 2 jump 3\
+|block\n|block 1\n|block x\n|block 1 2|pinch\n|pinch 1 0 0 0\n|pinch 1 0 0 0 x y z\n\
+|pinch 1 0 0 0 2 0 0 0 3\n|pinch 1 0 0 0 2 0 0 0 3 0 0\n|pinch 1 0 0 0 2 0 0 0",
+    ),
+    (
+        TextWhy::Long,
+        b"step  1\n|mesh 0 4 4 x\n|refused mesh 3 wrong 4\n|refused use x vertex 9 9\n\
+|refused use x field 4\n|pass flip 3\n|flip 2 1 0\n|zip 1 2 3 4 0 0\n|no split 2 1 edge 3\n\
+|no zip 1 2 3 4 hit 1 2 3 4\n",
+    ),
+    (
+        TextWhy::Number,
+        b"refused use 3 wrong 4\n|refused mesh 3 wrong\n|refused shape corner 1 4\n\
+|refused long mesh 18446744073709551616\n|refused use 0 field\n|topo log 2\n|step 01\n\
+|step 1\r\n|step +1\n|hit 2 1 1\n|move 1 -0 0 0\n|moved impulse 101\n|pass zip 268435457\n\
+|pass collapse -1\n|split 2 1 5 0 0 0\n|split 1 2 0 0 0 0\n|split 1 2 5 0 67108865 0\n\
+|flip 1 2147483649\n|flip 2 2\n|collapse 0 2 0 0 0\n|collapse 1 2 00 0 0\n|zip 1 2 3 4 4\n\
+|zip 1 2 4 3 0\n|no flip 1 2 jump\n|no flip 1 2 jump 3 4\n|no flip 2 1 edge\n\
+|no pinch 1 hit 2 1 3\n|no zip 1 2 3 4 Edge\n|block 2 1\n|block 1 2 2\n|block 0 1\n\
+|block 1 2 \n|block 1 2147483649\n|pinch 1 0 0 0 2 0 0 67108865\n|pinch 1 0 0 -0 2 0 0 0\n",
+    ),
+];
 
 #[test]
 fn each_reason_is_told(rt: HostRuntime) -> Result<(), Fail> {
-    let cases: [(&[u8], TextWhy); 34] = [
-        (b"\n", TextWhy::Unknown),
-        (b"# end\n", TextWhy::Unknown),
-        (b"end\r\n", TextWhy::Unknown),
-        (b" end\n", TextWhy::Unknown),
-        (b"solid 3\n", TextWhy::Unknown),
-        (b"topo lag\n", TextWhy::Unknown),
-        (b"moved away\n", TextWhy::Unknown),
-        (b"refused long log 9\n", TextWhy::Unknown),
-        (b"refused shape round\n", TextWhy::Unknown),
-        (b"ended", TextWhy::Unknown),
-        (b"end", TextWhy::Short),
-        (b"end now", TextWhy::Short),
-        (b"topo\n", TextWhy::Short),
-        (b"topo log\n", TextWhy::Short),
-        (b"moved\n", TextWhy::Short),
-        (b"hit 2 1\n", TextWhy::Short),
-        (b"refused use x vertex\n", TextWhy::Short),
-        (b"refused use 3\n", TextWhy::Short),
-        (b"refused use 3 wrong 4", TextWhy::Short),
-        (b"step  1\n", TextWhy::Long),
-        (b"mesh 0 4 4 x\n", TextWhy::Long),
-        (b"refused mesh 3 wrong 4\n", TextWhy::Long),
-        (b"refused use x vertex 9 9\n", TextWhy::Long),
-        (b"refused use 3 wrong 4\n", TextWhy::Number),
-        (b"refused mesh 3 wrong\n", TextWhy::Number),
-        (b"refused shape corner 1 4\n", TextWhy::Number),
-        (b"refused long mesh 18446744073709551616\n", TextWhy::Number),
-        (b"topo log 2\n", TextWhy::Number),
-        (b"step 01\n", TextWhy::Number),
-        (b"step 1\r\n", TextWhy::Number),
-        (b"step +1\n", TextWhy::Number),
-        (b"hit 2 1 1\n", TextWhy::Number),
-        (b"move 1 -0 0 0\n", TextWhy::Number),
-        (b"moved impulse 101\n", TextWhy::Number),
-    ];
-    each_reason(&rt, rt.alloc(), &cases);
+    for text in [HALVED, REFUSED_EDITS] {
+        each_prefix(&rt, rt.alloc(), text);
+    }
+    for (why, texts) in NO_LOGS {
+        for text in Parts::new(b'|', texts) {
+            assert!(rt; text.len() < 100);
+            let found = read_log(rt.alloc(), text).err();
+            assert_eq!(rt; found, Some(ReadFault::Text(fault(1, why))));
+        }
+    }
     Ok(())
 }

@@ -10,3 +10,4 @@ pub mod Given
 pub mod Limits
 pub mod SideSet
 pub mod Valid
+pub mod Laws

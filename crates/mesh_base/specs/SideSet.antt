@@ -1,11 +1,14 @@
 -- The sides of faces as a set, each by its two ends, the smaller first.
-use Rattle.std.specs.Prelude.{ℕ, ◌||◌, Bool, false}
+use Rattle.std.specs.Prelude.{◌≡◌, ℕ, ◌&&◌, ◌||◌, Bool, false, nat_lt, List}
+use Rattle.std.specs.List.{list_any}
+use Rattle.std.specs.FinMap as finite
 use Rattle.std.specs.BTreeSet as sorted
 use Rattle.std.specs.BTreeSet.{BTreeSet}
 use Rattle.std.specs.Ordering.{nat_cmp, ordering_then}
 use Rattle.std.specs.declared.cmp.Ordering.{Ordering}
 use Rattle.std.proofs.Common.{Option, Some, None}
 use Rattle.mesh_base.specs.declared.ids.Corners.{Corners}
+use Rattle.mesh_base.specs.Mesh.{Mesh}
 use Rattle.mesh_base.specs.Sides.{follows}
 
 -- edges in order of the smaller end and then of the larger
@@ -24,3 +27,19 @@ are_neighbours c u v = follows c u v || follows c v u
 abbrev pub neighbours_in : Option Corners → ℕ → ℕ → Bool
 neighbours_in (Some c) u v = are_neighbours c u v
 neighbours_in None u v = false
+
+-- the same of a face of a mesh
+abbrev pub neighbours_at : Mesh → ℕ → ℕ → ℕ → Bool
+neighbours_at m f = neighbours_in (finite.get m.faces f)
+
+-- the same of some of these faces
+abbrev pub neighbours_in_any : Mesh → List ℕ → ℕ → ℕ → Bool
+neighbours_in_any m faces u v = list_any (λ f. neighbours_at m f u v) faces
+
+-- the set has the two that the test names, the smaller first
+abbrev pub HasSides : BTreeSet (ℕ × ℕ) → (ℕ → ℕ → Bool) → Type 0
+HasSides sides named = (u v : ℕ) → has_side sides u v ≡ (nat_lt u v && named u v)
+
+-- the set has what it had before, and those besides
+abbrev pub AddsSides : BTreeSet (ℕ × ℕ) → BTreeSet (ℕ × ℕ) → (ℕ → ℕ → Bool) → Type 0
+AddsSides old new named = (u v : ℕ) → has_side new u v ≡ (has_side old u v || (nat_lt u v && named u v))

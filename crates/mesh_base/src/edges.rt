@@ -1,10 +1,8 @@
 //! The edges of a mesh in order, found along the sides of its faces.
-ghost use Rattle.std.specs.Prelude.{ℕ, ◌≡◌, ◌==◌, ◌&&◌, ◌||◌, nat_lt, take, IsOk, IfOk};
-ghost use Rattle.std.specs.List.{list_any};
+ghost use Rattle.std.specs.Prelude.{◌≡◌, ◌==◌, ◌&&◌, ◌||◌, take, IsOk, IfOk};
 ghost use Rattle.std.specs.List.Sorted.{IsStrictlySortedBy};
-ghost use Rattle.std.specs.FinMap as map;
 ghost use Rattle.mesh_base.specs.Pairs.{edges};
-ghost use Rattle.mesh_base.specs.SideSet.{edge_cmp, has_side, are_neighbours, neighbours_in};
+ghost use Rattle.mesh_base.specs.SideSet.{edge_cmp, are_neighbours, neighbours_at, neighbours_in_any, HasSides, AddsSides};
 
 use crate::ids::{Corners, FaceId, VertexId};
 use crate::lists::Edges;
@@ -19,7 +17,7 @@ type Sides = BTreeSet<(u32, u32)>;
 
 /// Puts a side into the set, unless its ends are one.
 fn put_side(sides: &mut Sides, u: VertexId, v: VertexId) -> Result<(), NoMemory>
-    ensures { IsOk result → (a b : ℕ) → has_side sides.new a b ≡ (has_side sides.old a b || (nat_lt a b && ((u == a && v == b) || (u == b && v == a)))) }
+    ensures { IsOk result → AddsSides sides.old sides.new (λ a b. (u == a && v == b) || (u == b && v == a)) }
 {
     let from = u.0;
     let to = v.0;
@@ -36,7 +34,7 @@ fn put_side(sides: &mut Sides, u: VertexId, v: VertexId) -> Result<(), NoMemory>
 
 /// Puts the three sides of a face into the set.
 fn put_sides(sides: &mut Sides, c: Corners) -> Result<(), NoMemory>
-    ensures { IsOk result → (a b : ℕ) → has_side sides.new a b ≡ (has_side sides.old a b || (nat_lt a b && are_neighbours c a b)) }
+    ensures { IsOk result → AddsSides sides.old sides.new (are_neighbours c) }
 {
     put_side(sides, c.first, c.second)?;
     put_side(sides, c.second, c.third)?;
@@ -45,7 +43,7 @@ fn put_sides(sides: &mut Sides, c: Corners) -> Result<(), NoMemory>
 
 /// Puts the sides of a face into the set, if it is live.
 fn put_face<S: Surface>(sides: &mut Sides, mesh: &S, f: FaceId) -> Result<(), NoMemory>
-    ensures { IsOk result → (a b : ℕ) → has_side sides.new a b ≡ (has_side sides.old a b || (nat_lt a b && neighbours_in (map.get (S.mesh mesh.now).faces f) a b)) }
+    ensures { IsOk result → AddsSides sides.old sides.new (neighbours_at (S.mesh mesh.now) f) }
 {
     match mesh.corners(f) {
         Some(c) => put_sides(sides, Corners::of(c)),
@@ -55,7 +53,7 @@ fn put_face<S: Surface>(sides: &mut Sides, mesh: &S, f: FaceId) -> Result<(), No
 
 /// The sides of faces.
 fn sides_of<S: Surface>(alloc: Global, mesh: &S, faces: &[FaceId]) -> Result<Sides, NoMemory>
-    ensures { IfOk result (λ sides. (a b : ℕ) → has_side sides a b ≡ (nat_lt a b && list_any (λ f. neighbours_in (map.get (S.mesh mesh.now).faces f) a b) faces.now)) }
+    ensures { IfOk result (λ sides. HasSides sides (neighbours_in_any (S.mesh mesh.now) faces.now)) }
 {
     let mut sides: Sides = BTreeSet::new(alloc);
     for f in faces {

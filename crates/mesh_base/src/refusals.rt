@@ -7,7 +7,7 @@ pub enum FileWord {
     Steps,
 }
 
-/// Why a directive is refused, with the least vertex that it is refused for.
+/// Why a directive is refused, with the least vertex that it is refused for, if it is refused for one.
 #[derive(Clone, Copy, Debug, PartialEq, Eq)]
 pub enum UseWhy {
     /// A shift names a vertex that doesn't live.
@@ -16,4 +16,6 @@ pub enum UseWhy {
     ShiftRange { v: u32 },
     /// The asked end of a step is outside the box.
     Box { v: u32 },
+    /// A drive names no field.
+    NoField,
 }

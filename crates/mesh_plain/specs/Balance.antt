@@ -1,5 +1,5 @@
 -- The first unbalanced pair, sought along the sides of the faces.
-use Rattle.std.specs.Prelude.{ℕ, ◌==◌, ◌&&◌, ◌||◌, Bool, false, List, [], ◌∷◌, nat_lt, nat_le, if◌then◌else◌}
+use Rattle.std.specs.Prelude.{◌≡◌, ℕ, ◌+◌, ◌==◌, cond, ◌&&◌, ◌||◌, Bool, false, List, [], ◌∷◌, nat_lt, nat_le, if◌then◌else◌}
 use Rattle.std.specs.Option.{unwrap_or}
 use Rattle.std.specs.BTreeMap as tree
 use Rattle.std.specs.BTreeMap.{BTreeMap}
@@ -13,6 +13,10 @@ use Rattle.mesh_base.specs.Given.{Faces}
 -- how often the side from u to v was counted
 abbrev pub side_count : BTreeMap (List ℕ) ℕ → ℕ → ℕ → ℕ
 side_count counts u v = unwrap_or (tree.get (slice_cmp nat_cmp) counts (u ∷ v ∷ [])) 0
+
+-- each side that the test names is counted once more, and each other one as often as before
+abbrev pub CountsOnce : BTreeMap (List ℕ) ℕ → BTreeMap (List ℕ) ℕ → (ℕ → ℕ → Bool) → Type 0
+CountsOnce old new named = (u v : ℕ) → side_count new u v ≡ side_count old u v + cond (named u v) 1 0
 
 -- whether the pair found is at or before (u, v)
 abbrev pub covers : Option (ℕ × ℕ) → ℕ → ℕ → Bool

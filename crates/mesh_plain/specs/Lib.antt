@@ -2,3 +2,5 @@ pub mod Shape
 pub mod Turned
 pub mod Coded
 pub mod Balance
+pub mod Plain
+pub mod Laws

@@ -4,6 +4,7 @@ use Rattle.std.specs.Option.{option_or, option_map}
 use Rattle.std.specs.List.{position_from, flat_map, range_with_len}
 use Rattle.std.proofs.Common.{Option, Some, None}
 use Rattle.grid_base.specs.declared.TheConstants.{VERTICES_MAX, FACES_MAX}
+use Rattle.grid_base.specs.declared.Point.{Point}
 use Rattle.mesh_base.specs.declared.ids.Corners.{Corners}
 use Rattle.mesh_base.specs.declared.faults.ShapeFault.{ShapeFault}
 use Rattle.mesh_base.specs.declared.faults.ShapeFault.TheVariants.{TooManyVertices, TooManyFaces, NoVertex, Repeated, Doubled, Unbalanced}
@@ -64,6 +65,10 @@ fault_but_balance n fs =
 -- the first part that fails
 abbrev pub shape_fault : ℕ → Faces → Option ShapeFault
 shape_fault n fs = option_or (fault_but_balance n fs) (option_map (λ p. Unbalanced p.0 p.1) (first_unbalanced n fs))
+
+-- no part fails
+abbrev pub HasNoFault : List Point → Faces → Type 0
+HasNoFault points faces = shape_fault (length points) faces ≡ None
 
 -- what a refusal says of the fault
 abbrev pub IsRefusal : Option ShapeFault → ShapeRefusal → Type 0

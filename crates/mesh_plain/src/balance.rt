@@ -4,7 +4,7 @@ ghost use Rattle.grid_base.specs.declared.TheConstants.{FACES_MAX};
 ghost use Rattle.mesh_base.specs.Sides.{follows};
 ghost use Rattle.mesh_base.specs.Changes.{corners_of};
 ghost use Rattle.mesh_plain.specs.Shape.{no_vertex_from, repeats, repeated_from, runs_in, first_unbalanced};
-ghost use Rattle.mesh_plain.specs.Balance.{side_count, lesser, covers, with_side, with_sides, least_side};
+ghost use Rattle.mesh_plain.specs.Balance.{side_count, CountsOnce, lesser, covers, with_side, with_sides, least_side};
 
 use grid_base::{FACES_MAX, NoMemory};
 use std::alloc::Global;
@@ -22,7 +22,7 @@ fn count_of(counts: &Counts, from: u32, to: u32) -> u32
 /// Counts a side once more.
 fn count_side(counts: &mut Counts, from: u32, to: u32) -> Result<(), NoMemory>
     requires { side_count counts.old from to + 1 < 2 ^ 32 }
-    ensures { IsOk result → (u v : ℕ) → side_count counts.new u v ≡ side_count counts.old u v + cond (from == u && to == v) 1 0 }
+    ensures { IsOk result → CountsOnce counts.old counts.new (λ u v. from == u && to == v) }
 {
     let count = count_of(counts, from, to);
     counts.insert([from, to], count + 1)?;
@@ -33,7 +33,7 @@ fn count_side(counts: &mut Counts, from: u32, to: u32) -> Result<(), NoMemory>
 fn count_sides(counts: &mut Counts, f: &[u32; 3]) -> Result<(), NoMemory>
     requires few { (u v : ℕ) → side_count counts.old u v ≤ FACES_MAX }
     requires different { repeats (corners_of f.now) ≡ false }
-    ensures { IsOk result → (u v : ℕ) → side_count counts.new u v ≡ side_count counts.old u v + cond (follows (corners_of f.now) u v) 1 0 }
+    ensures { IsOk result → CountsOnce counts.old counts.new (follows (corners_of f.now)) }
 {
     count_side(counts, f[0], f[1])?;
     count_side(counts, f[1], f[2])?;

@@ -18,13 +18,14 @@ pub struct PlainMesh {
 impl PlainMesh {
     ghost use Rattle.mesh_plain.specs.Shape.{shape_fault};
     ghost use Rattle.mesh_base.specs.Given.{mesh_of};
+    ghost use Rattle.mesh_plain.specs.Plain.{mesh_in, kept_in};
     ghost use Rattle.std.specs.Prelude.{None, [], IfOk, length};
 
     /// The mesh that lists of good shape give, with nothing kept.
     pub fn of(alloc: Global, lists: &MeshLists) -> Result<PlainMesh, NoMemory>
         requires { shape_fault (length lists.now.points) lists.now.faces ≡ None }
-        ensures mesh { IfOk result (λ s. ⟦<PlainMesh as Surface>⟧.mesh s ≡ mesh_of lists.now.points lists.now.faces) }
-        ensures kept { IfOk result (λ s. ⟦<PlainMesh as Surface>⟧.kept s ≡ []) }
+        ensures mesh { IfOk result (λ s. mesh_in s ≡ mesh_of lists.now.points lists.now.faces) }
+        ensures kept { IfOk result (λ s. kept_in s ≡ []) }
     {
         let now = Tables::of(alloc, lists)?;
         Ok(PlainMesh {
@@ -41,6 +42,7 @@ impl Surface for PlainMesh {
     ghost use Rattle.mesh_base.specs.Sides.{faces_at};
     ghost use Rattle.mesh_base.specs.Changes.{corners_of, with_vertex, with_face, without_face, without_vertex, with_point, IsFresh, IsFullOfVertices, IsFullOfFaces};
     ghost use Rattle.mesh_base.specs.Kept.{BeginsWith, MarkHolds, StandsFor};
+    ghost use Rattle.mesh_plain.specs.Plain.{mesh_in, kept_in, IsUnchanged};
 
     ghost mesh = { λ s. s.now };
 
@@ -102,13 +104,13 @@ impl Surface for PlainMesh {
     }
 
     fn add_vertex(&mut self, p: Point) -> Result<VertexId, AddFault>
-        ensures id { IfOk result (λ v. v ≡ (⟦<PlainMesh as Surface>⟧.mesh self.old).next_vertex) }
-        ensures ok { OnOk result (⟦<PlainMesh as Surface>⟧.mesh self.new ≡ with_vertex (⟦<PlainMesh as Surface>⟧.mesh self.old) p) }
-        ensures full { IsErrOf result AddFault.Full → IsFullOfVertices (⟦<PlainMesh as Surface>⟧.mesh self.old) }
-        ensures room { IsOk result → ¬ IsFullOfVertices (⟦<PlainMesh as Surface>⟧.mesh self.old) }
-        ensures kept { ⟦<PlainMesh as Surface>⟧.kept self.new ≡ ⟦<PlainMesh as Surface>⟧.kept self.old }
-        ensures marks { BeginsWith (⟦<PlainMesh as Surface>⟧.kept self.new) (⟦<PlainMesh as Surface>⟧.kept self.old) }
-        ensures err { OnErr result ((⟦<PlainMesh as Surface>⟧.mesh self.new ≡ ⟦<PlainMesh as Surface>⟧.mesh self.old) × (⟦<PlainMesh as Surface>⟧.kept self.new ≡ ⟦<PlainMesh as Surface>⟧.kept self.old)) }
+        ensures id { IfOk result (λ v. v ≡ (mesh_in self.old).next_vertex) }
+        ensures ok { OnOk result (mesh_in self.new ≡ with_vertex (mesh_in self.old) p) }
+        ensures full { IsErrOf result AddFault.Full → IsFullOfVertices (mesh_in self.old) }
+        ensures room { IsOk result → ¬ IsFullOfVertices (mesh_in self.old) }
+        ensures kept { kept_in self.new ≡ kept_in self.old }
+        ensures marks { BeginsWith (kept_in self.new) (kept_in self.old) }
+        ensures err { OnErr result (IsUnchanged self.old self.new) }
     {
         if self.now.vertices() >= VERTICES_MAX as usize || self.now.next_vertex() > ID_MAX {
             return Err(AddFault::Full);
@@ -120,14 +122,14 @@ impl Surface for PlainMesh {
     }
 
     fn add_face(&mut self, c: [VertexId; 3]) -> Result<FaceId, AddFault>
-        requires { IsFresh (⟦<PlainMesh as Surface>⟧.mesh self.old) (corners_of c) }
-        ensures id { IfOk result (λ f. f ≡ (⟦<PlainMesh as Surface>⟧.mesh self.old).next_face) }
-        ensures ok { OnOk result (⟦<PlainMesh as Surface>⟧.mesh self.new ≡ with_face (⟦<PlainMesh as Surface>⟧.mesh self.old) (corners_of c)) }
-        ensures full { IsErrOf result AddFault.Full → IsFullOfFaces (⟦<PlainMesh as Surface>⟧.mesh self.old) }
-        ensures room { IsOk result → ¬ IsFullOfFaces (⟦<PlainMesh as Surface>⟧.mesh self.old) }
-        ensures kept { ⟦<PlainMesh as Surface>⟧.kept self.new ≡ ⟦<PlainMesh as Surface>⟧.kept self.old }
-        ensures marks { BeginsWith (⟦<PlainMesh as Surface>⟧.kept self.new) (⟦<PlainMesh as Surface>⟧.kept self.old) }
-        ensures err { OnErr result ((⟦<PlainMesh as Surface>⟧.mesh self.new ≡ ⟦<PlainMesh as Surface>⟧.mesh self.old) × (⟦<PlainMesh as Surface>⟧.kept self.new ≡ ⟦<PlainMesh as Surface>⟧.kept self.old)) }
+        requires { IsFresh (mesh_in self.old) (corners_of c) }
+        ensures id { IfOk result (λ f. f ≡ (mesh_in self.old).next_face) }
+        ensures ok { OnOk result (mesh_in self.new ≡ with_face (mesh_in self.old) (corners_of c)) }
+        ensures full { IsErrOf result AddFault.Full → IsFullOfFaces (mesh_in self.old) }
+        ensures room { IsOk result → ¬ IsFullOfFaces (mesh_in self.old) }
+        ensures kept { kept_in self.new ≡ kept_in self.old }
+        ensures marks { BeginsWith (kept_in self.new) (kept_in self.old) }
+        ensures err { OnErr result (IsUnchanged self.old self.new) }
     {
         if self.now.faces() >= FACES_MAX as usize || self.now.next_face() > ID_MAX {
             return Err(AddFault::Full);
@@ -139,48 +141,48 @@ impl Surface for PlainMesh {
     }
 
     fn drop_face(&mut self, f: FaceId) -> Result<(), NoMemory>
-        requires { IsLiveFace (⟦<PlainMesh as Surface>⟧.mesh self.old) f }
-        ensures ok { OnOk result (⟦<PlainMesh as Surface>⟧.mesh self.new ≡ without_face (⟦<PlainMesh as Surface>⟧.mesh self.old) f) }
-        ensures kept { ⟦<PlainMesh as Surface>⟧.kept self.new ≡ ⟦<PlainMesh as Surface>⟧.kept self.old }
-        ensures marks { BeginsWith (⟦<PlainMesh as Surface>⟧.kept self.new) (⟦<PlainMesh as Surface>⟧.kept self.old) }
-        ensures err { OnErr result ((⟦<PlainMesh as Surface>⟧.mesh self.new ≡ ⟦<PlainMesh as Surface>⟧.mesh self.old) × (⟦<PlainMesh as Surface>⟧.kept self.new ≡ ⟦<PlainMesh as Surface>⟧.kept self.old)) }
+        requires { IsLiveFace (mesh_in self.old) f }
+        ensures ok { OnOk result (mesh_in self.new ≡ without_face (mesh_in self.old) f) }
+        ensures kept { kept_in self.new ≡ kept_in self.old }
+        ensures marks { BeginsWith (kept_in self.new) (kept_in self.old) }
+        ensures err { OnErr result (IsUnchanged self.old self.new) }
     {
         self.now.drop_face(f);
         Ok(())
     }
 
     fn drop_vertex(&mut self, v: VertexId) -> Result<(), NoMemory>
-        requires live { IsLiveVertex (⟦<PlainMesh as Surface>⟧.mesh self.old) v }
-        requires bare { faces_at (⟦<PlainMesh as Surface>⟧.mesh self.old) v ≡ [] }
-        ensures ok { OnOk result (⟦<PlainMesh as Surface>⟧.mesh self.new ≡ without_vertex (⟦<PlainMesh as Surface>⟧.mesh self.old) v) }
-        ensures kept { ⟦<PlainMesh as Surface>⟧.kept self.new ≡ ⟦<PlainMesh as Surface>⟧.kept self.old }
-        ensures marks { BeginsWith (⟦<PlainMesh as Surface>⟧.kept self.new) (⟦<PlainMesh as Surface>⟧.kept self.old) }
-        ensures err { OnErr result ((⟦<PlainMesh as Surface>⟧.mesh self.new ≡ ⟦<PlainMesh as Surface>⟧.mesh self.old) × (⟦<PlainMesh as Surface>⟧.kept self.new ≡ ⟦<PlainMesh as Surface>⟧.kept self.old)) }
+        requires live { IsLiveVertex (mesh_in self.old) v }
+        requires bare { faces_at (mesh_in self.old) v ≡ [] }
+        ensures ok { OnOk result (mesh_in self.new ≡ without_vertex (mesh_in self.old) v) }
+        ensures kept { kept_in self.new ≡ kept_in self.old }
+        ensures marks { BeginsWith (kept_in self.new) (kept_in self.old) }
+        ensures err { OnErr result (IsUnchanged self.old self.new) }
     {
         self.now.drop_vertex(v);
         Ok(())
     }
 
     fn place(&mut self, v: VertexId, p: Point) -> Result<(), NoMemory>
-        requires { IsLiveVertex (⟦<PlainMesh as Surface>⟧.mesh self.old) v }
-        ensures ok { OnOk result (⟦<PlainMesh as Surface>⟧.mesh self.new ≡ with_point (⟦<PlainMesh as Surface>⟧.mesh self.old) v p) }
-        ensures kept { ⟦<PlainMesh as Surface>⟧.kept self.new ≡ ⟦<PlainMesh as Surface>⟧.kept self.old }
-        ensures marks { BeginsWith (⟦<PlainMesh as Surface>⟧.kept self.new) (⟦<PlainMesh as Surface>⟧.kept self.old) }
-        ensures err { OnErr result ((⟦<PlainMesh as Surface>⟧.mesh self.new ≡ ⟦<PlainMesh as Surface>⟧.mesh self.old) × (⟦<PlainMesh as Surface>⟧.kept self.new ≡ ⟦<PlainMesh as Surface>⟧.kept self.old)) }
+        requires { IsLiveVertex (mesh_in self.old) v }
+        ensures ok { OnOk result (mesh_in self.new ≡ with_point (mesh_in self.old) v p) }
+        ensures kept { kept_in self.new ≡ kept_in self.old }
+        ensures marks { BeginsWith (kept_in self.new) (kept_in self.old) }
+        ensures err { OnErr result (IsUnchanged self.old self.new) }
     {
         self.now.place(v, p)
     }
 
     /// Keeps a copy of the mesh. The mark's `place` is its `under`.
     fn mark(&mut self) -> Result<Mark, NoMemory>
-        ensures holds { IfOk result (MarkHolds 0 (⟦<PlainMesh as Surface>⟧.kept self.new)) }
-        ensures stands { IfOk result (λ m. StandsFor (⟦<PlainMesh as Surface>⟧.kept self.new) m (⟦<PlainMesh as Surface>⟧.mesh self.old)) }
-        ensures under { IfOk result (λ m. m.under ≡ length (⟦<PlainMesh as Surface>⟧.kept self.old)) }
+        ensures holds { IfOk result (MarkHolds 0 (kept_in self.new)) }
+        ensures stands { IfOk result (λ m. StandsFor (kept_in self.new) m (mesh_in self.old)) }
+        ensures under { IfOk result (λ m. m.under ≡ length (kept_in self.old)) }
         ensures place { IfOk result (λ m. m.place ≡ m.under) }
-        ensures kept { IfOk result (λ m. ⟦<PlainMesh as Surface>⟧.kept self.new ≡ ⟦<PlainMesh as Surface>⟧.kept self.old ++ ⟦<PlainMesh as Surface>⟧.mesh self.old ∷ []) }
-        ensures mesh { ⟦<PlainMesh as Surface>⟧.mesh self.new ≡ ⟦<PlainMesh as Surface>⟧.mesh self.old }
-        ensures marks { BeginsWith (⟦<PlainMesh as Surface>⟧.kept self.new) (⟦<PlainMesh as Surface>⟧.kept self.old) }
-        ensures err { OnErr result (⟦<PlainMesh as Surface>⟧.kept self.new ≡ ⟦<PlainMesh as Surface>⟧.kept self.old) }
+        ensures kept { IfOk result (λ m. kept_in self.new ≡ kept_in self.old ++ mesh_in self.old ∷ []) }
+        ensures mesh { mesh_in self.new ≡ mesh_in self.old }
+        ensures marks { BeginsWith (kept_in self.new) (kept_in self.old) }
+        ensures err { OnErr result (kept_in self.new ≡ kept_in self.old) }
     {
         let copy = self.now.copy()?;
         let place = self.before.len();
@@ -193,10 +195,10 @@ impl Surface for PlainMesh {
 
     /// Leaves of the kept meshes those that the mark's `under` counts, and no more.
     fn back_to(&mut self, m: Mark)
-        requires { MarkHolds 0 (⟦<PlainMesh as Surface>⟧.kept self.old) m }
-        ensures mesh { StandsFor (⟦<PlainMesh as Surface>⟧.kept self.old) m (⟦<PlainMesh as Surface>⟧.mesh self.new) }
-        ensures kept { ⟦<PlainMesh as Surface>⟧.kept self.new ≡ take m.under (⟦<PlainMesh as Surface>⟧.kept self.old) }
-        ensures marks { BeginsWith (⟦<PlainMesh as Surface>⟧.kept self.new) (take m.under (⟦<PlainMesh as Surface>⟧.kept self.old)) }
+        requires { MarkHolds 0 (kept_in self.old) m }
+        ensures mesh { StandsFor (kept_in self.old) m (mesh_in self.new) }
+        ensures kept { kept_in self.new ≡ take m.under (kept_in self.old) }
+        ensures marks { BeginsWith (kept_in self.new) (take m.under (kept_in self.old)) }
     {
         self.before.truncate(m.place + 1);
         self.now = self.before.pop().unwrap();
@@ -205,8 +207,8 @@ impl Surface for PlainMesh {
 
     /// Gives up all that is kept.
     fn settle(&mut self)
-        ensures mesh { ⟦<PlainMesh as Surface>⟧.mesh self.new ≡ ⟦<PlainMesh as Surface>⟧.mesh self.old }
-        ensures kept { ⟦<PlainMesh as Surface>⟧.kept self.new ≡ [] }
+        ensures mesh { mesh_in self.new ≡ mesh_in self.old }
+        ensures kept { kept_in self.new ≡ [] }
     {
         self.before.clear();
     }

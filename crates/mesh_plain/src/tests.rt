@@ -2,6 +2,7 @@
 ghost use Rattle.std.specs.Prelude.{◌≡◌, ◌≢◌, IfOk};
 ghost use Rattle.mesh_base.specs.Mesh.{IsLiveVertex};
 ghost use Rattle.mesh_base.specs.Kept.{BeginsWith};
+ghost use Rattle.mesh_plain.specs.Plain.{mesh_in, kept_in};
 
 use crate::{
     AddFault, FaceId, MeshLists, PlainMesh, Points, ShapeFault, ShapeRefusal, Surface, Triangles,
@@ -89,10 +90,10 @@ fn fan_out(
     a: VertexId,
     b: VertexId,
 ) -> Result<(VertexId, FaceId), AddFault>
-    requires first { IsLiveVertex (⟦<PlainMesh as Surface>⟧.mesh mesh.old) a }
-    requires second { IsLiveVertex (⟦<PlainMesh as Surface>⟧.mesh mesh.old) b }
+    requires first { IsLiveVertex (mesh_in mesh.old) a }
+    requires second { IsLiveVertex (mesh_in mesh.old) b }
     requires apart { a ≢ b }
-    ensures { BeginsWith (⟦<PlainMesh as Surface>⟧.kept mesh.new) (⟦<PlainMesh as Surface>⟧.kept mesh.old) }
+    ensures { BeginsWith (kept_in mesh.new) (kept_in mesh.old) }
 {
     let v = mesh.add_vertex(p)?;
     let f = mesh.add_face([a, b, v])?;

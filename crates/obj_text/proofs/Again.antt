@@ -12,7 +12,7 @@ use Rattle.std.proofs.lemmas.Fmt.{first_decimal}
 use Rattle.std.proofs.lemmas.List.{append-nil}
 use Rattle.std.proofs.lemmas.List.Elements.{All-from_recursion}
 use Rattle.std.proofs.lemmas.List.Splits.{slice_split_none}
-use Rattle.grid_base.specs.declared.TheConstants.{BOX}
+use Rattle.grid_base.specs.declared.TheConstants.{BOX, DECIMALS_MAX}
 use Rattle.grid_base.specs.declared.Point.{Point}
 use Rattle.grid_base.specs.Points.{position_of}
 use Rattle.mesh_base.specs.declared.Corners.{Corners}
@@ -57,7 +57,7 @@ module _ {X : Type 0} (decimals : ℕ) (first : List ℕ) (others : X → List (
 
 -- ---- a vertex
 
-module _ (decimals : ℕ) (places : decimals ≤ 6) where
+module _ (decimals : ℕ) (places : decimals ≤ DECIMALS_MAX) where
   coordinate_again : (z : ℤ) → unsigned_abs z ≤ BOX → coordinate_of decimals (fixed_text decimals z) ≡ Ok z
   unfolding coordinate_of
   coordinate_again z small = rw (fixed_is_read_lem decimals z places small) refl

@@ -1,6 +1,7 @@
 -- A mesh that is written is read again.
 use Rattle.std.specs.Prelude.{◌≡◌, ℕ, ◌≤◌, List, map, Ok}
 use Rattle.std.specs.FinMap as finite
+use Rattle.grid_base.specs.declared.TheConstants.{DECIMALS_MAX}
 use Rattle.grid_base.specs.declared.Point.{Point}
 use Rattle.grid_base.specs.Points.{position_of}
 use Rattle.mesh_base.specs.Mesh.{Mesh, IsSound}
@@ -12,7 +13,7 @@ use Rattle.obj_text.specs.Written.{ranks, mesh_text, ranked_lists}
 
 -- on a grid of as many decimals, the text gives the live points and the live faces in order, corners by rank
 abbrev pub WrittenIsRead : Type 0
-WrittenIsRead = (m : Mesh) (decimals : ℕ) → IsSound m → decimals ≤ 6 → lists_of decimals (mesh_text decimals m) ≡ Ok (ranked_lists m)
+WrittenIsRead = (m : Mesh) (decimals : ℕ) → IsSound m → decimals ≤ DECIMALS_MAX → lists_of decimals (mesh_text decimals m) ≡ Ok (ranked_lists m)
 
 -- the live vertices and the live faces numbered from 1 in order, corners by rank
 abbrev pub renumbered : Mesh → Mesh
@@ -20,7 +21,7 @@ renumbered m = mesh_of (map (λ e. e.1) (finite.entries m.points)) (map (λ e. r
 
 -- lists that the text gives make this mesh
 abbrev pub ListsGiveRenumbered : Type 0
-ListsGiveRenumbered = (m : Mesh) (decimals : ℕ) (points : List Point) (faces : List (List ℕ)) → IsSound m → decimals ≤ 6 → lists_of decimals (mesh_text decimals m) ≡ Ok (record { points = map position_of points; faces = faces }) → mesh_of points faces ≡ renumbered m
+ListsGiveRenumbered = (m : Mesh) (decimals : ℕ) (points : List Point) (faces : List (List ℕ)) → IsSound m → decimals ≤ DECIMALS_MAX → lists_of decimals (mesh_text decimals m) ≡ Ok (record { points = map position_of points; faces = faces }) → mesh_of points faces ≡ renumbered m
 
 -- it is closed where the mesh is that was written
 abbrev pub StaysClosed : Type 0

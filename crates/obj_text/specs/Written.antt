@@ -22,6 +22,10 @@ rank m v = rank_among (finite.keys m.points) v
 abbrev pub ranks : Mesh → Corners → List ℕ
 ranks m c = rank m c.first ∷ rank m c.second ∷ rank m c.third ∷ []
 
+-- f and the ranks of the corners among the ids
+abbrev pub ranked_line : List ℕ → List ℕ → List ℕ
+ranked_line ids corners = line_of_words (codes "f" ∷ map decimal (map (rank_among ids) corners))
+
 -- v X Y Z
 abbrev pub vertex_line : ℕ → Point → List ℕ
 vertex_line decimals p = line_of_words (codes "v" ∷ fixed_text decimals p.x ∷ fixed_text decimals p.y ∷ fixed_text decimals p.z ∷ [])

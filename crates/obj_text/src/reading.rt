@@ -3,7 +3,7 @@ ghost use Rattle.std.specs.Str.{bytes_eq};
 ghost use Rattle.line_text.specs.Faults.{Gives, Leaves, at_line};
 ghost use Rattle.line_text.specs.Remaining.{words_left};
 ghost use Rattle.obj_text.specs.Obj as spec;
-ghost use Rattle.grid_base.specs.declared.TheConstants.{TEXT_MAX};
+ghost use Rattle.grid_base.specs.declared.TheConstants.{TEXT_MAX, DECIMALS_MAX};
 ghost use Rattle.grid_base.specs.Points.{position_of};
 ghost use Rattle.obj_text.specs.Views.{lists_view, GivesWhy, fan_from, faces_after};
 
@@ -29,7 +29,7 @@ fn has_more_than(most: usize, words: Words<'_>) -> bool
 
 #[tactic(auto, unfolding(crate::specs::Obj::point_of))]
 fn point(words: Words<'_>, decimals: u8) -> Result<Point, TextWhy>
-    requires { decimals ≤ 6 }
+    requires { decimals ≤ DECIMALS_MAX }
     ensures { GivesWhy position_of result (spec.point_of decimals (words_left words.entry)) }
 {
     let mut words = words;
@@ -129,9 +129,10 @@ fn add_words(
     words: Words<'_>,
     line: u32,
 ) -> Result<(), ReadFault>
-    requires places { decimals ≤ 6 }
+    requires places { decimals ≤ DECIMALS_MAX }
     requires few { length lists.old.points < 2 ^ 32 }
-    ensures value { Leaves (lists_view lists.new) result (at_line line (spec.words_add decimals (lists_view lists.old) (words_left words.entry))) }
+    ensures value { Leaves (lists_view lists.new) result
+        (at_line line (spec.words_add decimals (lists_view lists.old) (words_left words.entry))) }
     ensures more { length lists.new.points ≤ length lists.old.points + 1 }
 {
     let mut words = words;
@@ -163,9 +164,10 @@ fn add_words(
 // Adds what a line gives.
 #[tactic(auto, unfolding(crate::specs::Obj::line_adds))]
 fn add_line(lists: &mut MeshLists, decimals: u8, line: Line<'_>) -> Result<(), ReadFault>
-    requires places { decimals ≤ 6 }
+    requires places { decimals ≤ DECIMALS_MAX }
     requires few { length lists.old.points < 2 ^ 32 }
-    ensures value { Leaves (lists_view lists.new) result (at_line line.entry.number (spec.line_adds decimals (lists_view lists.old) line.entry.bytes.now)) }
+    ensures value { Leaves (lists_view lists.new) result
+        (at_line line.entry.number (spec.line_adds decimals (lists_view lists.old) line.entry.bytes.now)) }
     ensures more { length lists.new.points ≤ length lists.old.points + 1 }
 {
     if let [.., b'\\'] = line.bytes {
@@ -182,7 +184,7 @@ fn add_line(lists: &mut MeshLists, decimals: u8, line: Line<'_>) -> Result<(), R
 /// triangles of its fan. A corner may name a vertex that stands later, or none: only `shape` looks whether it is there.
 pub fn read_obj(alloc: Global, bytes: &[u8], decimals: u8) -> Result<MeshLists, ReadFault>
     requires small { length bytes.now ≤ TEXT_MAX }
-    requires places { decimals ≤ 6 }
+    requires places { decimals ≤ DECIMALS_MAX }
     ensures { Gives lists_view result (spec.lists_of decimals bytes.now) }
 {
     let mut lists = MeshLists {

@@ -1,6 +1,6 @@
 //! Worked examples: texts that are read, lines outside the grammar, and meshes that are written.
 use crate::{obj_of, read_obj};
-use grid_base::{NoMemory, Point};
+use grid_base::{DECIMALS_MAX, NoMemory, Point};
 use line_text::{ReadFault, TextFault, TextWhy};
 use mesh_base::MeshLists;
 use mesh_plain::{PlainMesh, shape};
@@ -44,7 +44,7 @@ fn written_again(
     text: &str,
     decimals: u8,
 ) -> Result<Vec<u8>, NoMemory> {
-    assert!(rt; text.len() < 10_000 && decimals <= 6);
+    assert!(rt; text.len() < 10_000 && decimals <= DECIMALS_MAX);
     let lists = read_obj(alloc, text.as_bytes(), decimals).expect(rt, "a text in the grammar");
     let good = shape(alloc, &lists);
     assert!(rt; good.is_ok());

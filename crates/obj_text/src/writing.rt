@@ -1,29 +1,18 @@
 ghost use Rattle.std.specs.Prelude.{◌≡◌, ◌≤◌, ◌++◌, ◌∷◌, [], length, map, nat_le, codes, decimal, OnOk, IfOk};
 ghost use Rattle.std.specs.List.Sorted.{IsNonDecreasing};
 ghost use Rattle.std.specs.FinMap as finite;
-ghost use Rattle.grid_base.specs.declared.TheConstants.{VERTICES_MAX};
-ghost use Rattle.line_text.specs.Numbers.{fixed_text};
+ghost use Rattle.grid_base.specs.declared.TheConstants.{VERTICES_MAX, DECIMALS_MAX};
 ghost use Rattle.line_text.specs.WrittenLines.{line_of_words};
-ghost use Rattle.obj_text.specs.Written.{rank_among, vertex_line, vertices_text, faces_text, mesh_text};
+ghost use Rattle.obj_text.specs.Written.{rank_among, ranked_line, vertex_line, vertices_text, faces_text, mesh_text};
 
 use grid_base::{NoMemory, Point};
-use line_text::{Field, fixed, put_line};
+use line_text::{Field, put_coordinate, put_line};
 use mesh_base::{FaceId, Surface, VertexId, live_faces, live_vertices};
 use std::alloc::Global;
 
-// Appends a coordinate and the byte behind it.
-fn put_coordinate(out: &mut Vec<u8>, value: i32, decimals: u8, end: u8) -> Result<(), NoMemory>
-    requires { decimals ≤ 6 }
-    ensures { OnOk result (out.new.items ≡ out.old.items ++ fixed_text decimals value ++ end ∷ []) }
-{
-    fixed(value, decimals, out)?;
-    out.push(end)?;
-    Ok(())
-}
-
 // Appends the line of a vertex.
 fn put_vertex(out: &mut Vec<u8>, p: Point, decimals: u8) -> Result<(), NoMemory>
-    requires { decimals ≤ 6 }
+    requires { decimals ≤ DECIMALS_MAX }
     ensures { OnOk result (out.new.items ≡ out.old.items ++ vertex_line decimals p) }
 {
     out.extend_from_slice(b"v ")?;
@@ -49,7 +38,7 @@ fn rank(ids: &[VertexId], v: VertexId) -> u64
 // Appends the line of a face with these corners.
 fn put_face(out: &mut Vec<u8>, ids: &[VertexId], corners: [VertexId; 3]) -> Result<(), NoMemory>
     requires rising { IsNonDecreasing ids.now }
-    ensures { OnOk result (out.new.items ≡ out.old.items ++ line_of_words (codes "f" ∷ map decimal (map (rank_among ids.now) corners))) }
+    ensures { OnOk result (out.new.items ≡ out.old.items ++ ranked_line ids.now corners) }
 {
     let [a, b, c] = corners;
     put_line(
@@ -70,7 +59,7 @@ fn put_vertices<S: Surface>(
     ids: &[VertexId],
     decimals: u8,
 ) -> Result<(), NoMemory>
-    requires places { decimals ≤ 6 }
+    requires places { decimals ≤ DECIMALS_MAX }
     requires live { ids.now ≡ finite.keys (S.mesh mesh.now).points }
     ensures { OnOk result (out.new.items ≡ out.old.items ++ vertices_text decimals (S.mesh mesh.now)) }
 {
@@ -103,7 +92,7 @@ fn put_faces<S: Surface>(
 /// coordinates divided by 10 ^ decimals, and then a line `f I J K` for each live face by rising id, its corners in order
 /// by their ranks from 1 among the live vertices. The empty mesh has the empty text.
 pub fn obj_of<S: Surface>(alloc: Global, mesh: &S, decimals: u8) -> Result<Vec<u8>, NoMemory>
-    requires { decimals ≤ 6 }
+    requires { decimals ≤ DECIMALS_MAX }
     ensures { IfOk result (λ text. text.items ≡ mesh_text decimals (S.mesh mesh.now)) }
 {
     let vertices = live_vertices(alloc, mesh)?;

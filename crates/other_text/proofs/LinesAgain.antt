@@ -1,26 +1,12 @@
 -- Lines that were written word by word add what their words add.
-use Rattle.std.proofs.Common.{◌≡◌, ℕ, ◌+◌, ◌<◌, true, false, List, [], ◌∷◌, ◌++◌, length, get_or, Result, Ok, refl, ap, ◌∙◌, arith, append_assoc}
-use Rattle.std.specs.Prelude.{not}
-use Rattle.std.specs.List.{AllByRecursion, enumerate_from, flat_map, list_all}
-use Rattle.std.proofs.lemmas.Bool.{not-true}
-use Rattle.std.proofs.lemmas.List.Recursion.{and_at}
-use Rattle.line_text.specs.Texts.{numbered_lines, is_blank, is_comment}
+use Rattle.std.proofs.Common.{◌≡◌, ℕ, ◌+◌, List, [], ◌∷◌, ◌++◌, length, Result, Ok, refl, ap, ◌∙◌, arith, append_assoc}
+use Rattle.std.specs.List.{AllByRecursion, enumerate_from, flat_map}
+use Rattle.line_text.specs.Texts.{numbered_lines}
 use Rattle.line_text.specs.WrittenLines.{line_of_words, body_of_words}
-use Rattle.line_text.proofs.WrittenAgain.{IsSpelled, is_calm, words_again, first_line_again}
+use Rattle.line_text.proofs.WrittenAgain.{IsSpelled, words_again, first_line_again}
 use Rattle.obj_text.specs.Obj.{Lists}
 use Rattle.line_text.specs.declared.fault.TextWhy.{TextWhy}
 use Rattle.other_text.specs.Lines.{lines_add}
-
--- tests that compute at a text
-pub tests_spell : (word : List ℕ) → 0 < length word → list_all (λ b. not (is_blank b)) word ≡ true → is_comment word ≡ false → list_all is_calm word ≡ true → IsSpelled word
-tests_spell word some inside no_comment calm = record {
-  plain = record {
-    some = some;
-    inside = λ k lt. not-true (is_blank (get_or word k 0)) (and_at (list_all (λ b. not (is_blank b))) (λ b. not (is_blank b)) refl (λ _ _. refl) word k 0 lt inside);
-    no_comment = no_comment;
-  };
-  calm = calm;
-}
 
 pub line_adds : {P : Type 0} (words_add : P → List (List ℕ) → Result P TextWhy) (p q : P) (first : List ℕ) (others : List (List ℕ)) (n : ℕ) (rest : List ℕ) → AllByRecursion IsSpelled (first ∷ others) → words_add p (first ∷ others) ≡ Ok q → lines_add words_add p (numbered_lines n (line_of_words (first ∷ others) ++ rest)) ≡ lines_add words_add q (numbered_lines (n + 1) rest)
 line_adds words_add p q first others n rest spelled adds =

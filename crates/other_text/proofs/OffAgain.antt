@@ -5,7 +5,7 @@ use Rattle.std.specs.List.{AllByRecursion, flat_map}
 use Rattle.std.proofs.lemmas.Bool.{ne_eqb}
 use Rattle.std.proofs.lemmas.List.{append-nil, length-map}
 use Rattle.std.proofs.lemmas.List.Folds.{flat_map-map}
-use Rattle.grid_base.specs.declared.TheConstants.{VERTICES_MAX, FACES_MAX}
+use Rattle.grid_base.specs.declared.TheConstants.{VERTICES_MAX, FACES_MAX, DECIMALS_MAX}
 use Rattle.grid_base.specs.declared.Point.{Point}
 use Rattle.grid_base.specs.Points.{position_of}
 use Rattle.mesh_base.specs.Changes as changes
@@ -14,14 +14,14 @@ use Rattle.mesh_plain.proofs.Lists.{none_of, none_mapped, few, all_vertices, bet
 use Rattle.line_text.specs.Texts.{numbered_lines}
 use Rattle.line_text.specs.Numbers.{fixed_text}
 use Rattle.line_text.specs.WrittenLines.{line_of_words}
-use Rattle.line_text.proofs.WrittenAgain.{IsSpelled}
+use Rattle.line_text.proofs.WrittenAgain.{IsSpelled, tests_spell}
 use Rattle.other_text.specs.declared.off_reading.Wanted.TheVariants.{Counts, Rows}
 use Rattle.obj_text.specs.Obj.{Lists}
 use Rattle.other_text.specs.Off.{Progress, start, name_of, counts_of, row_adds, wanted_adds, words_add, end_gives, lists_of}
 use Rattle.other_text.specs.Lines.{lines_add}
 use Rattle.other_text.specs.OffWritten.{point_words, face_words, rows_text, off_text}
 use Rattle.other_text.specs.Laws.{OffIsRead}
-use Rattle.other_text.proofs.LinesAgain.{Adds, lists_after, items_add, line_adds, tests_spell}
+use Rattle.other_text.proofs.LinesAgain.{Adds, lists_after, items_add, line_adds}
 use Rattle.other_text.proofs.RowsAgain.{point_again, spelled_point, count_again, face_again, spelled_count, spelled_face, IsCorner}
 
 -- within the rows
@@ -30,7 +30,7 @@ rows_from v f lists = record { wanted = Rows; points_left = v; faces_left = f; l
 
 -- ---- points
 
-module _ (decimals : ℕ) (places : decimals ≤ 6) (count : ℕ) where
+module _ (decimals : ℕ) (places : decimals ≤ DECIMALS_MAX) (count : ℕ) where
   abbrev point_first : Point → List ℕ
   point_first p = fixed_text decimals p.x
 
@@ -125,7 +125,7 @@ done_gives n lists = refl
 
 -- ---- the whole text
 
-whole : (points : List Point) (faces : List (List ℕ)) (decimals : ℕ) → shape_fault (length points) faces ≡ None → AllByRecursion (λ f. length f ≡ 3) faces → decimals ≤ 6 → lines_add (words_add decimals) start (numbered_lines 1 (off_text decimals (record { points = map position_of points; faces = faces }))) ≡ Ok (rows_from 0 0 (record { points = map position_of points; faces = faces }))
+whole : (points : List Point) (faces : List (List ℕ)) (decimals : ℕ) → shape_fault (length points) faces ≡ None → AllByRecursion (λ f. length f ≡ 3) faces → decimals ≤ DECIMALS_MAX → lines_add (words_add decimals) start (numbered_lines 1 (off_text decimals (record { points = map position_of points; faces = faces }))) ≡ Ok (rows_from 0 0 (record { points = map position_of points; faces = faces }))
 whole points faces decimals good sizes places =
     let none_wrong = no_fault_but_balance (length points) faces (none_of (fault_but_balance (length points) faces) _ good).0 in
     let few_points : length points ≤ VERTICES_MAX = few VERTICES_MAX (length points) none_wrong.vertices in

@@ -1,11 +1,11 @@
 -- Lists of good shape that are written as PLY are read again.
-use Rattle.std.proofs.Common.{◌≡◌, ℕ, ◌+◌, ◌-◌, ◌^◌, ◌<◌, ◌≤◌, Bool, true, false, eqb, List, [], ◌∷◌, ◌++◌, length, map, None, Ok, refl, sym, ap, ◌∙◌, arith, append_assoc}
+use Rattle.std.proofs.Common.{◌≡◌, ℕ, ◌+◌, ◌-◌, ◌^◌, ◌<◌, ◌≤◌, Bool, true, false, eqb, List, [], ◌∷◌, ◌++◌, length, map, None, Ok, refl, sym, ap, ◌∙◌, arith, append_assoc, Some}
 use Rattle.std.specs.Prelude.{codes, decimal}
 use Rattle.std.specs.List.{AllByRecursion, flat_map}
 use Rattle.std.proofs.lemmas.Bool.{ne_eqb}
 use Rattle.std.proofs.lemmas.List.{append-nil, length-map}
 use Rattle.std.proofs.lemmas.List.Folds.{flat_map-map}
-use Rattle.grid_base.specs.declared.TheConstants.{VERTICES_MAX, FACES_MAX}
+use Rattle.grid_base.specs.declared.TheConstants.{VERTICES_MAX, FACES_MAX, DECIMALS_MAX}
 use Rattle.grid_base.specs.declared.Point.{Point}
 use Rattle.grid_base.specs.Points.{position_of}
 use Rattle.mesh_base.specs.Changes as changes
@@ -15,18 +15,19 @@ use Rattle.line_text.specs.Texts.{numbered_lines}
 use Rattle.line_text.specs.Numbers.{fixed_text}
 use Rattle.line_text.specs.Fields.{count_is}
 use Rattle.line_text.specs.WrittenLines.{line_of_words}
-use Rattle.line_text.proofs.WrittenAgain.{IsSpelled}
+use Rattle.line_text.proofs.WrittenAgain.{IsSpelled, tests_spell}
 use Rattle.other_text.specs.declared.ply_head.Role.{Role}
 use Rattle.other_text.specs.declared.ply_head.Role.TheVariants.{X, Y, Z}
 use Rattle.other_text.specs.declared.ply_reading.Wanted.{Wanted}
 use Rattle.other_text.specs.declared.ply_reading.Wanted.TheVariants.{Format, Vertices, Properties, Corners, Others, Rows}
 use Rattle.obj_text.specs.Obj.{Lists}
 use Rattle.other_text.specs.Lines.{lines_add}
-use Rattle.other_text.specs.Ply.{Progress, start, name_of, format_of, element_of, property_of, corners_named, is_end, placed, coordinates_of, point_of, sized_ring_of, face_of, role_adds, property_adds, other_adds, row_adds, wanted_adds, words_add, end_gives, lists_of}
+use Rattle.other_text.specs.Ply.{Progress, start, name_of, format_of, element_of, property_of, corners_named, is_end, placed, coordinates_of, point_of, role_adds, property_adds, other_adds, row_adds, wanted_adds, words_add, end_gives, lists_of}
+use Rattle.other_text.specs.Rows.{has_words, sized_ring_of, face_of}
 use Rattle.other_text.specs.OffWritten.{point_words, face_words}
 use Rattle.other_text.specs.PlyWritten.{ply_text}
 use Rattle.other_text.specs.Laws.{PlyIsRead}
-use Rattle.other_text.proofs.LinesAgain.{Adds, lists_after, items_add, line_adds, tests_spell}
+use Rattle.other_text.proofs.LinesAgain.{Adds, lists_after, items_add, line_adds}
 use Rattle.other_text.proofs.RowsAgain.{coordinate_again, spelled_point, count_again, three_again, ring_again, spelled_count, spelled_face, IsCorner}
 
 abbrev all_roles : List Role
@@ -42,7 +43,7 @@ head_at wanted roles x y z v f = record { wanted = wanted; roles = roles; x_stan
 
 -- ---- points
 
-module _ (decimals : ℕ) (places : decimals ≤ 6) (count : ℕ) where
+module _ (decimals : ℕ) (places : decimals ≤ DECIMALS_MAX) (count : ℕ) where
   three_words : (a b c : List ℕ) → count_is 3 (a ∷ b ∷ c ∷ []) ≡ Ok tt
   unfolding count_is
   three_words a b c = refl
@@ -84,8 +85,8 @@ four_words : (a b c : List ℕ) → count_is 3 (a ∷ b ∷ c ∷ []) ≡ Ok tt
 unfolding count_is
 four_words a b c = refl
 
-face_again : (a b c : ℕ) → IsCorner a → IsCorner b → IsCorner c → face_of 0 (face_words (a ∷ b ∷ c ∷ [])) ≡ Ok (a ∷ b ∷ c ∷ [])
-unfolding face_of sized_ring_of
+face_again : (a b c : ℕ) → IsCorner a → IsCorner b → IsCorner c → face_of (Some 0) (face_words (a ∷ b ∷ c ∷ [])) ≡ Ok (a ∷ b ∷ c ∷ [])
+unfolding face_of sized_ring_of has_words
 face_again a b c i j k = rw (three_again, four_words (decimal (a - 1)) (decimal (b - 1)) (decimal (c - 1))) (ring_again a b c i j k)
 
 module _ (decimals : ℕ) where
@@ -215,7 +216,7 @@ done_gives n lists = refl
 
 -- ---- the whole text
 
-whole : (points : List Point) (faces : List (List ℕ)) (decimals : ℕ) → shape_fault (length points) faces ≡ None → AllByRecursion (λ f. length f ≡ 3) faces → decimals ≤ 6 → lines_add (words_add decimals) start (numbered_lines 1 (ply_text decimals (record { points = map position_of points; faces = faces }))) ≡ Ok (rows_from 0 0 (record { points = map position_of points; faces = faces }))
+whole : (points : List Point) (faces : List (List ℕ)) (decimals : ℕ) → shape_fault (length points) faces ≡ None → AllByRecursion (λ f. length f ≡ 3) faces → decimals ≤ DECIMALS_MAX → lines_add (words_add decimals) start (numbered_lines 1 (ply_text decimals (record { points = map position_of points; faces = faces }))) ≡ Ok (rows_from 0 0 (record { points = map position_of points; faces = faces }))
 whole points faces decimals good sizes places =
     let none_wrong = no_fault_but_balance (length points) faces (none_of (fault_but_balance (length points) faces) _ good).0 in
     let few_points : length points ≤ VERTICES_MAX = few VERTICES_MAX (length points) none_wrong.vertices in

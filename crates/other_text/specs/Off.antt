@@ -1,5 +1,5 @@
 -- The OFF grammar: the lists that the lines give, or the first line outside it with its reason.
-use Rattle.std.specs.Prelude.{ℕ, ◌+◌, ◌-◌, ◌==◌, ◌&&◌, if◌then◌else◌, List, [], ◌∷◌, ◌++◌, length, Result, Ok, Err, codes}
+use Rattle.std.specs.Prelude.{ℕ, ◌+◌, ◌-◌, ◌==◌, ◌&&◌, if◌then◌else◌, List, [], ◌∷◌, ◌++◌, length, None, Result, Ok, Err, codes}
 use Rattle.std.specs.Str.{bytes_eq}
 use Rattle.line_text.specs.declared.fault.TextWhy.{TextWhy}
 use Rattle.line_text.specs.declared.fault.TextWhy.TheVariants.{Short, Long, Unknown}
@@ -45,7 +45,7 @@ unfoldable pub row_adds : ℕ → Progress → List (List ℕ) → Result Progre
 row_adds decimals p words =
     if p.points_left == 0 then (
     if p.faces_left == 0 then Err Long
-    else face_of words >>= λ corners. Ok (record { wanted = p.wanted; points_left = p.points_left; faces_left = p.faces_left - 1; lists = record { points = p.lists.points; faces = p.lists.faces ++ fan corners } })
+    else face_of None words >>= λ corners. Ok (record { wanted = p.wanted; points_left = p.points_left; faces_left = p.faces_left - 1; lists = record { points = p.lists.points; faces = p.lists.faces ++ fan corners } })
     ) else point_of decimals words >>= λ point. Ok (record { wanted = p.wanted; points_left = p.points_left - 1; faces_left = p.faces_left; lists = record { points = p.lists.points ++ point ∷ []; faces = p.lists.faces } })
 
 -- by what is wanted

@@ -14,9 +14,25 @@ point_words decimals p = fixed_text decimals p.x ∷ fixed_text decimals p.y ∷
 abbrev pub face_words : List ℕ → List (List ℕ)
 face_words corners = codes "3" ∷ map (λ c. decimal (c - 1)) corners
 
+-- the row of a point
+abbrev pub point_line : ℕ → Triple → List ℕ
+point_line decimals p = line_of_words (point_words decimals p)
+
+-- the row of a face
+abbrev pub face_line : List ℕ → List ℕ
+face_line corners = line_of_words (face_words corners)
+
+-- the rows of points
+abbrev pub points_text : ℕ → List Triple → List ℕ
+points_text decimals points = flat_map (λ p. point_line decimals p) points
+
+-- the rows of faces
+abbrev pub faces_text : List (List ℕ) → List ℕ
+faces_text faces = flat_map (λ f. face_line f) faces
+
 -- the rows of the points and then of the faces
 abbrev pub rows_text : ℕ → Lists → List ℕ
-rows_text decimals lists = flat_map (λ p. line_of_words (point_words decimals p)) lists.points ++ flat_map (λ f. line_of_words (face_words f)) lists.faces
+rows_text decimals lists = points_text decimals lists.points ++ faces_text lists.faces
 
 -- OFF, V F 0, and the rows
 abbrev pub off_text : ℕ → Lists → List ℕ

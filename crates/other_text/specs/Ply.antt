@@ -1,9 +1,9 @@
 -- The PLY grammar: the lists that the lines give, or the first line outside it with its reason.
-use Rattle.std.specs.Prelude.{ℕ, ◌+◌, ◌-◌, ◌==◌, ◌&&◌, ◌||◌, Bool, true, false, nat_lt, if◌then◌else◌, List, [], ◌∷◌, ◌++◌, length, Result, Ok, Err, codes, pos}
+use Rattle.std.specs.Prelude.{ℕ, ◌+◌, ◌-◌, ◌==◌, ◌&&◌, ◌||◌, Bool, true, false, if◌then◌else◌, List, [], ◌∷◌, ◌++◌, length, Some, Result, Ok, Err, codes, pos}
 use Rattle.std.specs.Str.{bytes_eq}
 use Rattle.grid_base.specs.Triples.{Triple}
 use Rattle.line_text.specs.declared.fault.TextWhy.{TextWhy}
-use Rattle.line_text.specs.declared.fault.TextWhy.TheVariants.{Range, Short, Long, Unknown}
+use Rattle.line_text.specs.declared.fault.TextWhy.TheVariants.{Short, Long, Unknown}
 use Rattle.line_text.specs.declared.fault.TextFault.{TextFault}
 use Rattle.line_text.specs.Faults.{◌>>=◌}
 use Rattle.line_text.specs.Fields.{coordinate_of, count_is}
@@ -14,7 +14,7 @@ use Rattle.other_text.specs.declared.ply_head.Role.TheVariants.{X, Y, Z, Other}
 use Rattle.other_text.specs.declared.ply_reading.Wanted.{Wanted}
 use Rattle.other_text.specs.declared.ply_reading.Wanted.TheVariants.{Name, Format, Vertices, Properties, Corners, Others, Rows}
 use Rattle.other_text.specs.Lines.{lines_add}
-use Rattle.other_text.specs.Rows.{count_of, ring_of}
+use Rattle.other_text.specs.Rows.{count_of, face_of}
 
 -- ---- lines of the head
 
@@ -101,15 +101,6 @@ coordinates_of decimals (role ∷ roles) (word ∷ words) t = placed decimals ro
 unfoldable pub point_of : ℕ → List Role → List (List ℕ) → Result Triple TextWhy
 point_of decimals roles words = count_is (length roles) words >>= λ _. coordinates_of decimals roles words (record { x = pos 0; y = pos 0; z = pos 0 })
 
--- n corners and so many words more, where n is 3 or more
-unfoldable pub sized_ring_of : ℕ → List (List ℕ) → ℕ → Result (List ℕ) TextWhy
-sized_ring_of extra words n = if nat_lt n 3 then Err Range else count_is (n + extra) words >>= λ _. ring_of (n - 2) words
-
--- n, n corners, and so many words more
-unfoldable pub face_of : ℕ → List (List ℕ) → Result (List ℕ) TextWhy
-face_of extra [] = Err Short
-face_of extra (word ∷ words) = count_of word >>= sized_ring_of extra words
-
 -- ---- lines
 
 -- what the next line with words has to be; the roles of the vertices' properties, and which coordinates stand among them;
@@ -168,7 +159,7 @@ unfoldable pub row_adds : ℕ → Progress → List (List ℕ) → Result Progre
 row_adds decimals p words =
     if p.points_left == 0 then (
     if p.faces_left == 0 then Err Long
-    else face_of p.extra words >>= λ corners. Ok (record p { faces_left = p.faces_left - 1; lists = record { points = p.lists.points; faces = p.lists.faces ++ fan corners } })
+    else face_of (Some p.extra) words >>= λ corners. Ok (record p { faces_left = p.faces_left - 1; lists = record { points = p.lists.points; faces = p.lists.faces ++ fan corners } })
     ) else point_of decimals p.roles words >>= λ point. Ok (record p { points_left = p.points_left - 1; lists = record { points = p.lists.points ++ point ∷ []; faces = p.lists.faces } })
 
 -- whether remarks may stand here

@@ -1,11 +1,11 @@
 ghost use Rattle.std.specs.Prelude.{◌≡◌, ◌≤◌, ◌<◌, ◌^◌, length, IfOk};
-ghost use Rattle.grid_base.specs.declared.TheConstants.{TEXT_MAX};
-ghost use Rattle.line_text.specs.Faults.{Gives, Leaves, at_line};
+ghost use Rattle.grid_base.specs.declared.TheConstants.{TEXT_MAX, DECIMALS_MAX};
+ghost use Rattle.line_text.specs.Faults.{Gives};
 ghost use Rattle.line_text.specs.Remaining.{words_left};
 ghost use Rattle.line_text.specs.Texts.{words_of};
 ghost use Rattle.obj_text.specs.Views.{lists_view};
 ghost use Rattle.other_text.specs.Off as spec;
-ghost use Rattle.other_text.specs.OffViews.{progress_of};
+ghost use Rattle.other_text.specs.OffViews.{progress_of, GoesOn};
 
 use crate::rows::{add_face, count, point};
 use line_text::{Lines, ReadFault, TextFault, TextWhy, Words, is_word, words};
@@ -76,8 +76,9 @@ fn add_row(
     words: Words<'_>,
     line: u32,
 ) -> Result<(), ReadFault>
-    requires { decimals ≤ 6 }
-    ensures { Leaves (progress_of reading.new) result (at_line line (spec.row_adds decimals (progress_of reading.old) (words_left words.entry))) }
+    requires { decimals ≤ DECIMALS_MAX }
+    ensures { GoesOn reading.old reading.new result line
+        (λ p. spec.row_adds decimals p (words_left words.entry)) }
 {
     if reading.points_left == 0 {
         if reading.faces_left == 0 {
@@ -86,7 +87,7 @@ fn add_row(
                 why: TextWhy::Long,
             }));
         }
-        add_face(&mut reading.lists.faces, words, line)?;
+        add_face(&mut reading.lists.faces, None, words, line)?;
         reading.faces_left -= 1;
         return Ok(());
     }
@@ -108,8 +109,9 @@ fn add_wanted(
     words: Words<'_>,
     line: u32,
 ) -> Result<(), ReadFault>
-    requires { decimals ≤ 6 }
-    ensures { Leaves (progress_of reading.new) result (at_line line (spec.wanted_adds reading.old.wanted decimals (progress_of reading.old) (words_left words.entry))) }
+    requires { decimals ≤ DECIMALS_MAX }
+    ensures { GoesOn reading.old reading.new result line
+        (λ p. spec.wanted_adds p.wanted decimals p (words_left words.entry)) }
 {
     match reading.wanted {
         Wanted::Name => match name(words) {
@@ -135,8 +137,9 @@ fn add_wanted(
 // Reads a line.
 #[tactic(auto, unfolding(crate::specs::Off::words_add))]
 fn add_line(reading: &mut Reading, decimals: u8, bytes: &[u8], line: u32) -> Result<(), ReadFault>
-    requires { decimals ≤ 6 }
-    ensures { Leaves (progress_of reading.new) result (at_line line (spec.words_add decimals (progress_of reading.old) (words_of bytes.now))) }
+    requires { decimals ≤ DECIMALS_MAX }
+    ensures { GoesOn reading.old reading.new result line
+        (λ p. spec.words_add decimals p (words_of bytes.now)) }
 {
     let all = words(bytes);
     let mut rest = all;
@@ -184,7 +187,7 @@ fn end(reading: Reading, count: u32) -> Result<MeshLists, ReadFault>
 #[tactic(auto, unfolding(crate::specs::Off::lists_of))]
 pub fn read_off(alloc: Global, bytes: &[u8], decimals: u8) -> Result<MeshLists, ReadFault>
     requires small { length bytes.now ≤ TEXT_MAX }
-    requires places { decimals ≤ 6 }
+    requires places { decimals ≤ DECIMALS_MAX }
     ensures { Gives lists_view result (spec.lists_of decimals bytes.now) }
 {
     let mut reading = Reading {

@@ -1,30 +1,18 @@
 ghost use Rattle.std.specs.Prelude.{◌≡◌, ◌≤◌, ◌++◌, ◌∷◌, [], map, OnOk, IfOk};
-ghost use Rattle.std.specs.List.{flat_map};
+ghost use Rattle.grid_base.specs.declared.TheConstants.{DECIMALS_MAX};
 ghost use Rattle.grid_base.specs.Points.{position_of};
-ghost use Rattle.line_text.specs.Numbers.{fixed_text};
-ghost use Rattle.line_text.specs.WrittenLines.{line_of_words};
 ghost use Rattle.obj_text.specs.Views.{lists_view};
-ghost use Rattle.other_text.specs.OffWritten.{point_words, face_words, rows_text, off_text};
+ghost use Rattle.other_text.specs.OffWritten.{point_line, face_line, points_text, faces_text, rows_text, off_text};
 
 use grid_base::{NoMemory, Point};
-use line_text::{Field, fixed, put_line};
+use line_text::{Field, put_coordinate, put_line};
 use mesh_base::MeshLists;
 use std::alloc::Global;
 
-// Appends a coordinate and the byte behind it.
-fn put_coordinate(out: &mut Vec<u8>, value: i32, decimals: u8, end: u8) -> Result<(), NoMemory>
-    requires { decimals ≤ 6 }
-    ensures { OnOk result (out.new.items ≡ out.old.items ++ fixed_text decimals value ++ end ∷ []) }
-{
-    fixed(value, decimals, out)?;
-    out.push(end)?;
-    Ok(())
-}
-
 // Appends the row of a point.
 fn put_point(out: &mut Vec<u8>, p: Point, decimals: u8) -> Result<(), NoMemory>
-    requires { decimals ≤ 6 }
-    ensures { OnOk result (out.new.items ≡ out.old.items ++ line_of_words (point_words decimals (position_of p))) }
+    requires { decimals ≤ DECIMALS_MAX }
+    ensures { OnOk result (out.new.items ≡ out.old.items ++ point_line decimals (position_of p)) }
 {
     put_coordinate(out, p.x, decimals, b' ')?;
     put_coordinate(out, p.y, decimals, b' ')?;
@@ -34,7 +22,7 @@ fn put_point(out: &mut Vec<u8>, p: Point, decimals: u8) -> Result<(), NoMemory>
 
 // Appends the row of a face.
 fn put_face(out: &mut Vec<u8>, corners: [u32; 3]) -> Result<(), NoMemory>
-    ensures { OnOk result (out.new.items ≡ out.old.items ++ line_of_words (face_words corners)) }
+    ensures { OnOk result (out.new.items ≡ out.old.items ++ face_line corners) }
 {
     let [a, b, c] = corners;
     put_line(
@@ -50,8 +38,8 @@ fn put_face(out: &mut Vec<u8>, corners: [u32; 3]) -> Result<(), NoMemory>
 
 // Appends the rows of the points.
 fn put_points(out: &mut Vec<u8>, points: &[Point], decimals: u8) -> Result<(), NoMemory>
-    requires { decimals ≤ 6 }
-    ensures { OnOk result (out.new.items ≡ out.old.items ++ flat_map (λ p. line_of_words (point_words decimals p)) (map position_of points.now)) }
+    requires { decimals ≤ DECIMALS_MAX }
+    ensures { OnOk result (out.new.items ≡ out.old.items ++ points_text decimals (map position_of points.now)) }
 {
     for p in points {
         put_point(out, *p, decimals)?;
@@ -61,7 +49,7 @@ fn put_points(out: &mut Vec<u8>, points: &[Point], decimals: u8) -> Result<(), N
 
 // Appends the rows of the faces.
 fn put_faces(out: &mut Vec<u8>, faces: &[[u32; 3]]) -> Result<(), NoMemory>
-    ensures { OnOk result (out.new.items ≡ out.old.items ++ flat_map (λ f. line_of_words (face_words f)) faces.now) }
+    ensures { OnOk result (out.new.items ≡ out.old.items ++ faces_text faces.now) }
 {
     for f in faces {
         put_face(out, *f)?;
@@ -71,7 +59,7 @@ fn put_faces(out: &mut Vec<u8>, faces: &[[u32; 3]]) -> Result<(), NoMemory>
 
 // Appends the rows of the points and then of the faces.
 pub(crate) fn put_rows(out: &mut Vec<u8>, lists: &MeshLists, decimals: u8) -> Result<(), NoMemory>
-    requires { decimals ≤ 6 }
+    requires { decimals ≤ DECIMALS_MAX }
     ensures { OnOk result (out.new.items ≡ out.old.items ++ rows_text decimals (lists_view lists.now)) }
 {
     put_points(out, lists.points.as_slice(), decimals)?;
@@ -82,7 +70,7 @@ pub(crate) fn put_rows(out: &mut Vec<u8>, lists: &MeshLists, decimals: u8) -> Re
 /// of faces, and 0; a row for each point, its coordinates divided by 10 ^ decimals; and a row `3 I J K` for each face, its
 /// corners numbered from 0.
 pub fn off_of(alloc: Global, lists: &MeshLists, decimals: u8) -> Result<Vec<u8>, NoMemory>
-    requires { decimals ≤ 6 }
+    requires { decimals ≤ DECIMALS_MAX }
     ensures { IfOk result (λ text. text.items ≡ off_text decimals (lists_view lists.now)) }
 {
     let mut out = Vec::new(alloc);

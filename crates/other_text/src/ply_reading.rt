@@ -1,20 +1,18 @@
 ghost use Rattle.std.specs.Prelude.{◌≡◌, ◌≤◌, ◌<◌, ◌+◌, ◌^◌, length, IfOk};
-ghost use Rattle.grid_base.specs.declared.TheConstants.{TEXT_MAX};
+ghost use Rattle.grid_base.specs.declared.TheConstants.{TEXT_MAX, DECIMALS_MAX};
 ghost use Rattle.grid_base.specs.Points.{position_of};
-ghost use Rattle.line_text.specs.Faults.{Gives, Leaves, at_line};
-ghost use Rattle.line_text.specs.Fields.{count_is};
+ghost use Rattle.line_text.specs.Faults.{Gives};
 ghost use Rattle.line_text.specs.Remaining.{words_left};
 ghost use Rattle.line_text.specs.Texts.{words_of};
 ghost use Rattle.obj_text.specs.Views.{lists_view, GivesWhy};
-ghost use Rattle.other_text.specs.RowsViews.{faces_after};
 ghost use Rattle.other_text.specs.Ply as spec;
-ghost use Rattle.other_text.specs.PlyViews.{progress_of};
+ghost use Rattle.other_text.specs.PlyViews.{progress_of, properties_of, GoesOn};
 
 use crate::ply_head::{Role, corners_named, element, format, is_end, is_remark, name, property};
-use crate::rows::{add_ring, count};
+use crate::rows::{add_face, count};
 use grid_base::{Items, Point};
 use line_text::{
-    Lines, ReadFault, TextFault, TextWhy, Words, coordinate, count_up_to, is_word, words,
+    Lines, ReadFault, TextFault, TextWhy, Words, coordinate, count_is, is_word, words,
 };
 use mesh_base::{MeshLists, Points, Triangles};
 use std::alloc::Global;
@@ -51,27 +49,10 @@ pub(crate) struct Reading {
     lists: MeshLists,
 }
 
-// That there are exactly so many words.
-#[tactic(auto, unfolding(line_text::specs::Fields::count_is))]
-fn exactly(count: u64, words: Words<'_>) -> Result<(), TextWhy>
-    requires { count < 2 ^ 63 }
-    ensures { result ≡ count_is count (words_left words.entry) }
-{
-    let count = count as usize;
-    let found = count_up_to(count + 1, words);
-    if found < count {
-        return Err(TextWhy::Short);
-    }
-    if found > count {
-        return Err(TextWhy::Long);
-    }
-    Ok(())
-}
-
 // The point with the coordinate that a word gives, by the role of its property.
 #[tactic(auto, unfolding(crate::specs::Ply::placed))]
 fn placed(role: Role, word: &[u8], p: Point, decimals: u8) -> Result<Point, TextWhy>
-    requires { decimals ≤ 6 }
+    requires { decimals ≤ DECIMALS_MAX }
     ensures { GivesWhy position_of result (spec.placed decimals role word.now (position_of p)) }
 {
     match role {
@@ -98,8 +79,9 @@ fn coordinates(
     start: Point,
     decimals: u8,
 ) -> Result<Point, TextWhy>
-    requires { decimals ≤ 6 }
-    ensures { GivesWhy position_of result (spec.coordinates_of decimals roles.now (words_left words.entry) (position_of start)) }
+    requires { decimals ≤ DECIMALS_MAX }
+    ensures { GivesWhy position_of result
+        (spec.coordinates_of decimals roles.now (words_left words.entry) (position_of start)) }
 {
     let mut words = words;
     let mut p = start;
@@ -118,42 +100,12 @@ fn coordinates(
 // The point of a row.
 #[tactic(auto, unfolding(crate::specs::Ply::point_of))]
 fn point(roles: &[Role], words: Words<'_>, decimals: u8) -> Result<Point, TextWhy>
-    requires places { decimals ≤ 6 }
+    requires places { decimals ≤ DECIMALS_MAX }
     requires few { length roles.now < 2 ^ 32 }
     ensures { GivesWhy position_of result (spec.point_of decimals roles.now (words_left words.entry)) }
 {
-    exactly(roles.len() as u64, words)?;
+    count_is(roles.len(), words)?;
     coordinates(roles, words, Point { x: 0, y: 0, z: 0 }, decimals)
-}
-
-// Adds the triangles of a face, behind whose corners there are so many words more.
-#[tactic(auto, unfolding(crate::specs::Ply::face_of, crate::specs::Ply::sized_ring_of))]
-fn add_face(faces: &mut Triangles, extra: u64, words: Words<'_>, line: u32) -> Result<(), ReadFault>
-    requires { extra < 2 ^ 32 }
-    ensures { Leaves faces.new result (at_line line (faces_after faces.old (spec.face_of extra (words_left words.entry)))) }
-{
-    let mut words = words;
-    let Some(first) = words.next() else {
-        return Err(ReadFault::Text(TextFault {
-            line,
-            why: TextWhy::Short,
-        }));
-    };
-    match count(first) {
-        Err(why) => Err(ReadFault::Text(TextFault { line, why })),
-        Ok(n) => {
-            if n < 3 {
-                return Err(ReadFault::Text(TextFault {
-                    line,
-                    why: TextWhy::Range,
-                }));
-            }
-            match exactly(n + extra, words) {
-                Err(why) => Err(ReadFault::Text(TextFault { line, why })),
-                Ok(()) => add_ring(faces, n - 2, words, line),
-            }
-        }
-    }
 }
 
 // Adds a row.
@@ -164,10 +116,11 @@ fn add_row(
     words: Words<'_>,
     line: u32,
 ) -> Result<(), ReadFault>
-    requires places { decimals ≤ 6 }
-    requires few { length reading.old.roles + reading.old.extra < 2 ^ 32 }
-    ensures value { Leaves (progress_of reading.new) result (at_line line (spec.row_adds decimals (progress_of reading.old) (words_left words.entry))) }
-    ensures more { length reading.new.roles + reading.new.extra ≤ length reading.old.roles + reading.old.extra }
+    requires places { decimals ≤ DECIMALS_MAX }
+    requires few { properties_of reading.old < 2 ^ 32 }
+    ensures value { GoesOn reading.old reading.new result line
+        (λ p. spec.row_adds decimals p (words_left words.entry)) }
+    ensures more { properties_of reading.new ≤ properties_of reading.old }
 {
     if reading.points_left == 0 {
         if reading.faces_left == 0 {
@@ -176,7 +129,7 @@ fn add_row(
                 why: TextWhy::Long,
             }));
         }
-        add_face(&mut reading.lists.faces, reading.extra, words, line)?;
+        add_face(&mut reading.lists.faces, Some(reading.extra), words, line)?;
         reading.faces_left -= 1;
         return Ok(());
     }
@@ -205,8 +158,8 @@ fn stands(reading: &Reading, role: Role) -> bool
 // Adds a property of vertices.
 #[tactic(auto, unfolding(crate::specs::Ply::role_adds))]
 fn add_role(reading: &mut Reading, role: Role, line: u32) -> Result<(), ReadFault>
-    ensures value { Leaves (progress_of reading.new) result (at_line line (spec.role_adds (progress_of reading.old) role)) }
-    ensures more { length reading.new.roles + reading.new.extra ≤ length reading.old.roles + reading.old.extra + 1 }
+    ensures value { GoesOn reading.old reading.new result line (λ p. spec.role_adds p role) }
+    ensures more { properties_of reading.new ≤ properties_of reading.old + 1 }
 {
     if stands(reading, role) {
         return Err(ReadFault::Text(TextFault {
@@ -227,8 +180,9 @@ fn add_role(reading: &mut Reading, role: Role, line: u32) -> Result<(), ReadFaul
 // Reads a line of one word or more behind the count of vertices.
 #[tactic(auto, unfolding(crate::specs::Ply::property_adds))]
 fn add_property(reading: &mut Reading, words: Words<'_>, line: u32) -> Result<(), ReadFault>
-    ensures value { Leaves (progress_of reading.new) result (at_line line (spec.property_adds (progress_of reading.old) (words_left words.entry))) }
-    ensures more { length reading.new.roles + reading.new.extra ≤ length reading.old.roles + reading.old.extra + 1 }
+    ensures value { GoesOn reading.old reading.new result line
+        (λ p. spec.property_adds p (words_left words.entry)) }
+    ensures more { properties_of reading.new ≤ properties_of reading.old + 1 }
 {
     if is_first(b"element", words) {
         if reading.x_stands && reading.y_stands && reading.z_stands {
@@ -266,8 +220,9 @@ fn is_first(text: &[u8], words: Words<'_>) -> bool
 #[tactic(auto, unfolding(crate::specs::Ply::other_adds))]
 fn add_other(reading: &mut Reading, words: Words<'_>, line: u32) -> Result<(), ReadFault>
     requires few { reading.old.extra < 2 ^ 32 }
-    ensures value { Leaves (progress_of reading.new) result (at_line line (spec.other_adds (progress_of reading.old) (words_left words.entry))) }
-    ensures more { length reading.new.roles + reading.new.extra ≤ length reading.old.roles + reading.old.extra + 1 }
+    ensures value { GoesOn reading.old reading.new result line
+        (λ p. spec.other_adds p (words_left words.entry)) }
+    ensures more { properties_of reading.new ≤ properties_of reading.old + 1 }
 {
     if is_end(words) {
         reading.wanted = Wanted::Rows;
@@ -290,10 +245,11 @@ fn add_wanted(
     words: Words<'_>,
     line: u32,
 ) -> Result<(), ReadFault>
-    requires places { decimals ≤ 6 }
-    requires few { length reading.old.roles + reading.old.extra < 2 ^ 32 }
-    ensures value { Leaves (progress_of reading.new) result (at_line line (spec.wanted_adds reading.old.wanted decimals (progress_of reading.old) (words_left words.entry))) }
-    ensures more { length reading.new.roles + reading.new.extra ≤ length reading.old.roles + reading.old.extra + 1 }
+    requires places { decimals ≤ DECIMALS_MAX }
+    requires few { properties_of reading.old < 2 ^ 32 }
+    ensures value { GoesOn reading.old reading.new result line
+        (λ p. spec.wanted_adds p.wanted decimals p (words_left words.entry)) }
+    ensures more { properties_of reading.new ≤ properties_of reading.old + 1 }
 {
     match reading.wanted {
         Wanted::Name => match name(words) {
@@ -348,10 +304,11 @@ fn is_head(wanted: Wanted) -> bool
 // Reads a line.
 #[tactic(auto, unfolding(crate::specs::Ply::words_add))]
 fn add_line(reading: &mut Reading, decimals: u8, bytes: &[u8], line: u32) -> Result<(), ReadFault>
-    requires places { decimals ≤ 6 }
-    requires few { length reading.old.roles + reading.old.extra < 2 ^ 32 }
-    ensures value { Leaves (progress_of reading.new) result (at_line line (spec.words_add decimals (progress_of reading.old) (words_of bytes.now))) }
-    ensures more { length reading.new.roles + reading.new.extra ≤ length reading.old.roles + reading.old.extra + 1 }
+    requires places { decimals ≤ DECIMALS_MAX }
+    requires few { properties_of reading.old < 2 ^ 32 }
+    ensures value { GoesOn reading.old reading.new result line
+        (λ p. spec.words_add decimals p (words_of bytes.now)) }
+    ensures more { properties_of reading.new ≤ properties_of reading.old + 1 }
 {
     let all = words(bytes);
     let mut rest = all;
@@ -410,7 +367,7 @@ fn end(reading: Reading, count: u32) -> Result<MeshLists, ReadFault>
 #[tactic(auto, unfolding(crate::specs::Ply::lists_of))]
 pub fn read_ply(alloc: Global, bytes: &[u8], decimals: u8) -> Result<MeshLists, ReadFault>
     requires small { length bytes.now ≤ TEXT_MAX }
-    requires places { decimals ≤ 6 }
+    requires places { decimals ≤ DECIMALS_MAX }
     ensures { Gives lists_view result (spec.lists_of decimals bytes.now) }
 {
     let mut reading = Reading {

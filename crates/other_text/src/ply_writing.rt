@@ -1,4 +1,5 @@
 ghost use Rattle.std.specs.Prelude.{◌≡◌, ◌≤◌, IfOk};
+ghost use Rattle.grid_base.specs.declared.TheConstants.{DECIMALS_MAX};
 ghost use Rattle.obj_text.specs.Views.{lists_view};
 ghost use Rattle.other_text.specs.PlyWritten.{ply_text};
 
@@ -11,7 +12,7 @@ use std::alloc::Global;
 /// The ASCII PLY text of lists on a grid of so many decimals, or want of memory: a head with the number of points, their
 /// properties `x`, `y` and `z` of type `double`, and the number of faces, and then the same rows as in the OFF text.
 pub fn ply_of(alloc: Global, lists: &MeshLists, decimals: u8) -> Result<Vec<u8>, NoMemory>
-    requires { decimals ≤ 6 }
+    requires { decimals ≤ DECIMALS_MAX }
     ensures { IfOk result (λ text. text.items ≡ ply_text decimals (lists_view lists.now)) }
 {
     let points = lists.points.len() as u64;

@@ -1,13 +1,16 @@
-ghost use Rattle.std.specs.Prelude.{◌≡◌, ◌≤◌, ◌<◌, ◌^◌, ◌-◌, length, IfOk};
+ghost use Rattle.std.specs.Prelude.{◌≡◌, ◌≤◌, ◌<◌, ◌^◌, ◌-◌, length, IfOk, IfSome};
+ghost use Rattle.grid_base.specs.declared.TheConstants.{DECIMALS_MAX};
 ghost use Rattle.grid_base.specs.Points.{position_of};
-ghost use Rattle.line_text.specs.Faults.{Leaves, at_line};
+ghost use Rattle.line_text.specs.Faults.{Leaves};
 ghost use Rattle.line_text.specs.Remaining.{words_left};
 ghost use Rattle.obj_text.specs.Views.{GivesWhy};
 ghost use Rattle.other_text.specs.Rows as spec;
-ghost use Rattle.other_text.specs.RowsViews.{fan_from, faces_after};
+ghost use Rattle.other_text.specs.RowsViews.{fan_from, AddsFace};
 
 use grid_base::Point;
-use line_text::{ReadFault, TextFault, TextWhy, Words, coordinate, count_up_to, number_within};
+use line_text::{
+    ReadFault, TextFault, TextWhy, Words, coordinate, count_is, count_up_to, number_within,
+};
 use mesh_base::Triangles;
 
 // The number that one to ten digits write.
@@ -39,7 +42,7 @@ fn corner(word: &[u8]) -> Result<u32, TextWhy>
 // The point of a row that begins with three coordinates.
 #[tactic(auto, unfolding(crate::specs::Rows::point_of))]
 pub(crate) fn point(words: Words<'_>, decimals: u8) -> Result<Point, TextWhy>
-    requires { decimals ≤ 6 }
+    requires { decimals ≤ DECIMALS_MAX }
     ensures { GivesWhy position_of result (spec.point_of decimals (words_left words.entry)) }
 {
     let mut words = words;
@@ -91,13 +94,8 @@ fn add_fan(
 
 // Adds the triangles of a face of two corners and so many more.
 #[tactic(auto, unfolding(crate::specs::Rows::ring_of))]
-pub(crate) fn add_ring(
-    faces: &mut Triangles,
-    more: u64,
-    words: Words<'_>,
-    line: u32,
-) -> Result<(), ReadFault>
-    ensures { Leaves faces.new result (at_line line (faces_after faces.old (spec.ring_of more (words_left words.entry)))) }
+fn add_ring(faces: &mut Triangles, more: u64, words: Words<'_>, line: u32) -> Result<(), ReadFault>
+    ensures { AddsFace faces.old faces.new result line (spec.ring_of more (words_left words.entry)) }
 {
     let mut words = words;
     let Some(a) = words.next() else {
@@ -121,10 +119,35 @@ pub(crate) fn add_ring(
     }
 }
 
-// Adds the triangles of a row of a face: n, and n corners; what follows is not read.
+// That there are n words and so many more behind them; where it is not told how many, n or more.
+#[tactic(auto, unfolding(crate::specs::Rows::has_words))]
+fn has_words(behind: Option<u64>, n: u64, words: Words<'_>) -> Result<(), TextWhy>
+    requires few { n < 10 ^ 10 }
+    requires small { IfSome behind (λ more. more < 2 ^ 32) }
+    ensures { result ≡ spec.has_words behind n (words_left words.entry) }
+{
+    match behind {
+        Some(more) => count_is((n + more) as usize, words),
+        None => {
+            if count_up_to(n as usize, words) < n as usize {
+                return Err(TextWhy::Short);
+            }
+            Ok(())
+        }
+    }
+}
+
+// Adds the triangles of a row of a face: n, and n corners. Behind them there are so many words; where it is not told how
+// many, what follows is not read.
 #[tactic(auto, unfolding(crate::specs::Rows::face_of, crate::specs::Rows::sized_ring_of))]
-pub(crate) fn add_face(faces: &mut Triangles, words: Words<'_>, line: u32) -> Result<(), ReadFault>
-    ensures { Leaves faces.new result (at_line line (faces_after faces.old (spec.face_of (words_left words.entry)))) }
+pub(crate) fn add_face(
+    faces: &mut Triangles,
+    behind: Option<u64>,
+    words: Words<'_>,
+    line: u32,
+) -> Result<(), ReadFault>
+    requires { IfSome behind (λ more. more < 2 ^ 32) }
+    ensures { AddsFace faces.old faces.new result line (spec.face_of behind (words_left words.entry)) }
 {
     let mut words = words;
     let Some(first) = words.next() else {
@@ -142,13 +165,10 @@ pub(crate) fn add_face(faces: &mut Triangles, words: Words<'_>, line: u32) -> Re
                     why: TextWhy::Range,
                 }));
             }
-            if count_up_to(n as usize, words) < n as usize {
-                return Err(ReadFault::Text(TextFault {
-                    line,
-                    why: TextWhy::Short,
-                }));
+            match has_words(behind, n, words) {
+                Err(why) => Err(ReadFault::Text(TextFault { line, why })),
+                Ok(()) => add_ring(faces, n - 2, words, line),
             }
-            add_ring(faces, n - 2, words, line)
         }
     }
 }

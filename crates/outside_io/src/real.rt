@@ -21,9 +21,11 @@ pub struct FileDesk<'a, R: Files> {
 }
 
 impl<'a, R: Files> FileDesk<'a, R> {
+    ghost use Rattle.outside_io.specs.Real.{desk_faults};
+
     /// The files that a runtime reaches.
     pub fn new(rt: &'a R) -> Self
-        ensures { ⟦<FileDesk<'a, R> as Desk>⟧.faults result ≡ 0 }
+        ensures { desk_faults result ≡ 0 }
     {
         FileDesk { rt, faults: 0 }
     }
@@ -106,6 +108,8 @@ fn open_whole<R: Files>(
 }
 
 impl<'a, R: Files> Desk for FileDesk<'a, R> {
+    ghost use Rattle.outside_io.specs.Real.{desk_faults};
+
     ghost files = { λ _. None };
 
     ghost faults = { λ desk. desk.faults };
@@ -117,11 +121,11 @@ impl<'a, R: Files> Desk for FileDesk<'a, R> {
         ensures within { OnOk result (length into.new.items ≤ limit) }
         ensures refused { OnErr result (into.new.items ≡ []) }
         ensures long { (seen : ℕ) → IsErrOf result (FetchFault.TooLong seen) → limit < seen }
-        ensures calm { IsErrOf result FetchFault.Missing → (⟦<FileDesk<'a, R> as Desk>⟧.faults self.new) ≡ (⟦<FileDesk<'a, R> as Desk>⟧.faults self.old) }
-        ensures later { (⟦<FileDesk<'a, R> as Desk>⟧.faults self.old) ≤ (⟦<FileDesk<'a, R> as Desk>⟧.faults self.new) }
-        ensures failed { IsErrOf result FetchFault.Failed → Rose (⟦<FileDesk<'a, R> as Desk>⟧.faults self.old) (⟦<FileDesk<'a, R> as Desk>⟧.faults self.new) }
-        ensures one { IsErrOf result FetchFault.Failed → (⟦<FileDesk<'a, R> as Desk>⟧.faults self.new) ≡ next_count (⟦<FileDesk<'a, R> as Desk>⟧.faults self.old) }
-        ensures none { ¬ IsErrOf result FetchFault.Failed → (⟦<FileDesk<'a, R> as Desk>⟧.faults self.new) ≡ (⟦<FileDesk<'a, R> as Desk>⟧.faults self.old) }
+        ensures calm { IsErrOf result FetchFault.Missing → desk_faults self.new ≡ desk_faults self.old }
+        ensures later { desk_faults self.old ≤ desk_faults self.new }
+        ensures failed { IsErrOf result FetchFault.Failed → Rose (desk_faults self.old) (desk_faults self.new) }
+        ensures one { IsErrOf result FetchFault.Failed → desk_faults self.new ≡ next_count (desk_faults self.old) }
+        ensures none { ¬ IsErrOf result FetchFault.Failed → desk_faults self.new ≡ desk_faults self.old }
     {
         let result = open_whole(self.rt, name, limit, into);
         if result.is_err() {
@@ -138,10 +142,10 @@ impl<'a, R: Files> Desk for FileDesk<'a, R> {
     fn store(&mut self, name: &str, bytes: &[u8]) -> Result<(), StoreFault>
         ensures stored { OnOk result (None ≡ with_file None name.now bytes.now) }
         ensures able { ¬ IsErrOf result StoreFault.NoMemory }
-        ensures later { (⟦<FileDesk<'a, R> as Desk>⟧.faults self.old) ≤ (⟦<FileDesk<'a, R> as Desk>⟧.faults self.new) }
-        ensures failed { IsErrOf result StoreFault.Failed → Rose (⟦<FileDesk<'a, R> as Desk>⟧.faults self.old) (⟦<FileDesk<'a, R> as Desk>⟧.faults self.new) }
-        ensures one { OnErr result ((⟦<FileDesk<'a, R> as Desk>⟧.faults self.new) ≡ next_count (⟦<FileDesk<'a, R> as Desk>⟧.faults self.old)) }
-        ensures none { OnOk result ((⟦<FileDesk<'a, R> as Desk>⟧.faults self.new) ≡ (⟦<FileDesk<'a, R> as Desk>⟧.faults self.old)) }
+        ensures later { desk_faults self.old ≤ desk_faults self.new }
+        ensures failed { IsErrOf result StoreFault.Failed → Rose (desk_faults self.old) (desk_faults self.new) }
+        ensures one { OnErr result (desk_faults self.new ≡ next_count (desk_faults self.old)) }
+        ensures none { OnOk result (desk_faults self.new ≡ desk_faults self.old) }
     {
         match create_whole(self.rt, name, bytes) {
             Ok(()) => Ok(()),
@@ -164,15 +168,19 @@ pub struct StdSink<'a, P: Print> {
 }
 
 impl<'a, P: Print> StdSink<'a, P> {
+    ghost use Rattle.outside_io.specs.Real.{sink_faults};
+
     /// The standard output of a runtime.
     pub fn new(rt: &'a P) -> Self
-        ensures { ⟦<StdSink<'a, P> as Sink>⟧.faults result ≡ 0 }
+        ensures { sink_faults result ≡ 0 }
     {
         StdSink { rt, faults: 0 }
     }
 }
 
 impl<'a, P: Print> Sink for StdSink<'a, P> {
+    ghost use Rattle.outside_io.specs.Real.{sink_faults};
+
     ghost written = { λ _. None };
 
     ghost faults = { λ sink. sink.faults };
@@ -183,9 +191,9 @@ impl<'a, P: Print> Sink for StdSink<'a, P> {
         ensures taken { IfOk result (λ n. None ≡ appended None (take n bytes.now)) }
         ensures some { IfOk result (λ n. 0 < length bytes.now → 0 < n) }
         ensures refused { OnErr result (None ≡ appended None []) }
-        ensures cause { HasCause (⟦<StdSink<'a, P> as Sink>⟧.faults self.old) (⟦<StdSink<'a, P> as Sink>⟧.faults self.new) result }
-        ensures one { OnErr result ((⟦<StdSink<'a, P> as Sink>⟧.faults self.new) ≡ next_count (⟦<StdSink<'a, P> as Sink>⟧.faults self.old)) }
-        ensures none { IsOk result → (⟦<StdSink<'a, P> as Sink>⟧.faults self.new) ≡ (⟦<StdSink<'a, P> as Sink>⟧.faults self.old) }
+        ensures cause { HasCause (sink_faults self.old) (sink_faults self.new) result }
+        ensures one { OnErr result (sink_faults self.new ≡ next_count (sink_faults self.old)) }
+        ensures none { IsOk result → sink_faults self.new ≡ sink_faults self.old }
     {
         match self.rt.write_some(bytes) {
             Ok(count) if count > 0 || bytes.is_empty() => Ok(count),

@@ -147,7 +147,8 @@ fn directive(first: &[u8], words: Words<'_>) -> Result<Directive, TextWhy>
 // Adds the directive of a line of these words, if it has any.
 #[tactic(auto, unfolding(crate::specs::Steps::words_add))]
 fn add_words(directives: &mut Directives, words: Words<'_>, line: u32) -> Result<(), ReadFault>
-    ensures value { Leaves directives.new result (at_line line (spec.words_add line directives.old (words_left words.entry))) }
+    ensures value { Leaves directives.new result
+        (at_line line (spec.words_add line directives.old (words_left words.entry))) }
     ensures more { length directives.new ≤ length directives.old + 1 }
     ensures ranges { AreInRange directives.old → AreInRange directives.new }
 {

@@ -3,7 +3,7 @@ use Rattle.std.proofs.lemmas.Int.{to_z-of_z}
 use Rattle.line_text.specs.Numbers.{grid_of, grid_number_of}
 use Rattle.line_text.specs.DecimalViews.{decimal_view}
 use Rattle.line_text.proofs.Rounding.{grid_of-range, grid_of-value}
-use Rattle.line_text.proofs.grid.grid_number.Goals as goal
+use Rattle.line_text.proofs.decimal.grid_number.Goals as goal
 
 pub returns-in-None-clause-value : goal.returns-in-None-clause-value
 unfolding grid_number_of

@@ -1,6 +1,6 @@
 ghost use Rattle.std.specs.Prelude.{◌≡◌, ◌≤◌, ◌<◌, ◌+◌, ◌*◌, ◌^◌, ◌++◌, min, true, length, take, unsigned_abs, IfOk, IfSome, option_map};
 ghost use Rattle.std.specs.List.{prefix_len, list_all};
-ghost use Rattle.grid_base.specs.declared.TheConstants.{BOX};
+ghost use Rattle.grid_base.specs.declared.TheConstants.{BOX, DECIMALS_MAX};
 ghost use Rattle.line_text.specs.Numbers as spec;
 ghost use Rattle.line_text.specs.DecimalViews.{decimal_view, Fits, tenths_of};
 
@@ -103,7 +103,7 @@ fn mantissa(word: &[u8]) -> (&[u8], &[u8], &[u8])
 }
 
 #[tactic(auto, unfolding(crate::specs::Numbers::decimal_of))]
-fn taken_apart(word: &[u8]) -> Option<Decimal<'_>>
+fn parse_decimal(word: &[u8]) -> Option<Decimal<'_>>
     ensures value { option_map decimal_view result ≡ spec.decimal_of word.now }
     ensures fits { IfSome result (λ d. Fits (decimal_view d)) }
 {
@@ -158,7 +158,7 @@ fn with_zeros(n: u64, count: usize) -> u64
 // Ten times the size on the grid, rounded down, up to the limit. The digits that lie before the
 // place behind the grid's last one are enough, and zeros follow where there are too few.
 fn tenths(decimals: u8, d: &Decimal<'_>) -> u64
-    requires places { decimals ≤ 6 }
+    requires places { decimals ≤ DECIMALS_MAX }
     requires fits { Fits (decimal_view d.now) }
     ensures { result ≡ min LIMIT (tenths_of decimals (decimal_view d.now)) }
 {
@@ -185,11 +185,11 @@ fn size_with_sign(negative: bool, size: u64) -> i32
 /// an optional sign and one to three digits; at most 64 bytes in all. Any other word is of wrong form, and a value above
 /// `BOX` in size is out of range.
 pub fn grid_number(word: &[u8], decimals: u8) -> Result<i32, NumberWhy>
-    requires { decimals ≤ 6 }
+    requires { decimals ≤ DECIMALS_MAX }
     ensures value { result ≡ spec.grid_number_of decimals word.now }
     ensures within { IfOk result (λ n. unsigned_abs n ≤ BOX) }
 {
-    match taken_apart(word) {
+    match parse_decimal(word) {
         None => Err(NumberWhy::Form),
         Some(d) => {
             let size = (tenths(decimals, &d) + 5) / 10;

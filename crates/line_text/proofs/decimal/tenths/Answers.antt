@@ -1,7 +1,7 @@
 use Rattle.std.proofs.Common.{◌≡◌, ◌+◌, ◌-◌, ◌∙◌, min, length, take, refl, rules}
 use Rattle.line_text.specs.DecimalViews.{decimal_view}
 use Rattle.line_text.proofs.Rounding.{tenths-kept}
-use Rattle.line_text.proofs.grid.tenths.Goals as goal
+use Rattle.line_text.proofs.decimal.tenths.Goals as goal
 
 pub returns : goal.returns
 returns c =
