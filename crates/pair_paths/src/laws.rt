@@ -1,4 +1,4 @@
-//! What boxes tell of an edge and a face. Each is the contract of a function that does nothing.
+//! Where an edge and a face of a motion stand, and what boxes tell of them. Each is the contract of a function that does nothing.
 
 ghost use Rattle.std.specs.Prelude.{ℕ, ◌≡◌, false};
 ghost use Rattle.grid_base.specs.declared.Extent.{Extent};
@@ -6,7 +6,18 @@ ghost use Rattle.grid_base.specs.declared.Positions.{Positions};
 ghost use Rattle.grid_base.specs.Extents.{overlaps};
 ghost use Rattle.grid_base.specs.Meeting.{MeetAt};
 ghost use Rattle.grid_base.specs.Separation.{Passes};
+ghost use Rattle.mesh_base.specs.declared.Corners.{Corners};
+ghost use Rattle.mesh_base.specs.Placements.{Motion, positions};
 ghost use Rattle.pair_paths.specs.Bounds.{HoldPositions};
+ghost use Rattle.pair_paths.specs.Moving.{moving_edge, moving_face};
+ghost use Rattle.pair_paths.specs.Pairing.{pair_with, starts, ends};
+
+/// An edge and a face of a motion begin where the motion has the ends and the corners of their pair at its start, and end
+/// where it has them at its end.
+pub fn pairs_go_as_the_motion_says()
+    ensures start { (w : Motion) (a b : ℕ) (f : ℕ × Corners) → let e = moving_edge w a b in let g = moving_face w f in starts e g ≡ positions w.start (pair_with e g) }
+    ensures end { (w : Motion) (a b : ℕ) (f : ℕ × Corners) → let e = moving_edge w a b in let g = moving_face w f in ends e g ≡ positions w.end (pair_with e g) }
+{}
 
 /// An edge and a face do not meet where boxes with no common point have them, and pass the written test to each depth
 /// where the boxes have them at the start and at the end.
