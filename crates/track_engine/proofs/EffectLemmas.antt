@@ -13,7 +13,8 @@ use Rattle.step_text.specs.declared.Directive.{Directive}
 use Rattle.step_text.specs.declared.Directive.TheVariants as directive
 use Rattle.track_engine.specs.declared.stop.Stop.{Stop}
 use Rattle.track_engine.specs.declared.run_state.RunState.{RunState}
-use Rattle.track_engine.specs.State.{State, state_of, at_mesh, no_shifts, still_at}
+use Rattle.log_replay.specs.Replay.{at_mesh}
+use Rattle.track_engine.specs.State.{State, state_of, no_shifts, still_at}
 use Rattle.track_engine.specs.Effects.{effect_of, mesh_line, all_summed}
 use Rattle.track_engine.specs.Saved.{Target}
 use Rattle.track_engine.specs.World.{Contents, StopsIn}

@@ -40,13 +40,15 @@ use Rattle.step_text.specs.declared.Directive.TheVariants as directive
 use Rattle.step_text.specs.Steps.{steps_of}
 use Rattle.log_text.specs.declared.LogLine.{LogLine}
 use Rattle.log_text.specs.declared.LogLine.TheVariants.{Move, Moved}
-use Rattle.log_text.specs.Replay.{Replay, after, replayed}
+use Rattle.log_replay.specs.Replay.{Replay, after, replayed, at_mesh}
 use Rattle.track_engine.specs.declared.stop.Stop.{Stop}
 use Rattle.track_engine.specs.Shifting.{AsksNow}
 use Rattle.edit_base.specs.declared.PassKind.{PassKind}
 use Rattle.track_engine.specs.Parts.{StepTakes, PassTakes}
-use Rattle.track_engine.specs.Kept.{LogIsSafe, IsSavedWell, MotionIsSafe}
-use Rattle.track_engine.specs.State.{State, start, standing, at_mesh, no_shifts, still_at, asked_of, asked_in}
+use Rattle.track_engine.specs.Kept.{LineHolds, LogIsSafe, IsSavedWell}
+use Rattle.log_replay.specs.Safe.{MotionIsSafe}
+use Rattle.log_replay.proofs.Replaying.{each_then}
+use Rattle.track_engine.specs.State.{State, start, standing, no_shifts, still_at, asked_of, asked_in}
 use Rattle.mesh_base.specs.Valid.{IsValidSurface}
 use Rattle.track_engine.proofs.Passing.{pass_keeps}
 use Rattle.track_engine.proofs.ReadAgain.{read_again}
@@ -59,8 +61,7 @@ use Rattle.track_engine.proofs.EffectLemmas.{ids_of_sums, names_at_first}
 -- ---- lines one after the other
 
 keeps_append : (xs ys : List LogLine) (from : Replay) → LogIsSafe from xs → LogIsSafe (after from xs) ys → LogIsSafe from (xs ++ ys)
-keeps_append [] ys from k l = l
-keeps_append (x ∷ xs) ys from k l = (k.0, keeps_append xs ys (replayed from x) k.1 l)
+keeps_append xs ys from k l = each_then LineHolds from xs ys k l
 
 keeps_moves : (shifts : Shifts) (from : Replay) → LogIsSafe from (map (λ s. Move s) shifts)
 keeps_moves [] from = tt

@@ -9,18 +9,18 @@ use Rattle.mesh_base.specs.declared.UseWhy.{UseWhy}
 use Rattle.log_text.specs.Lines.{text_of_lines}
 use Rattle.log_text.specs.declared.LogLine.{LogLine}
 use Rattle.log_text.specs.declared.LogLine.TheVariants.{First, Step, Hit, Block, Move, Moved, Pass, Did, No, Mesh as MeshLine, End, Refused as RefusedLine}
-use Rattle.log_text.specs.Replay.{Replay, after, replayed}
+use Rattle.log_replay.specs.Replay.{Replay, after, replayed, at_mesh}
 use Rattle.step_text.specs.declared.Directive.TheVariants as directive
 use Rattle.outside_io.specs.Desk.{Files}
 use Rattle.outside_io.specs.Sink.{appended}
 use Rattle.track_engine.specs.declared.stop.Stop.{Stop}
-use Rattle.track_engine.specs.State.{State, standing, at_mesh}
+use Rattle.track_engine.specs.State.{State, standing}
 use Rattle.track_engine.specs.Effects.{effect_of, Proceeds, hits, taken, moving, moved_mesh, hit_lines, move_lines, lines_of_step, step_lines, after_step}
-use Rattle.pass_run.specs.Said.{WrittenInPart}
+use Rattle.log_write.specs.Written.{WrittenInPart}
 use Rattle.track_engine.specs.Saved.{Target, files_of, stored}
 use Rattle.track_engine.specs.Parts.{StepTakes, Advances, Takes}
 use Rattle.track_engine.specs.World.{Logs, StopsIn}
-use Rattle.track_engine.proofs.Worlds.{after-append}
+use Rattle.log_replay.proofs.Replaying.{after-append}
 
 abbrev pub NoFiles : List LogLine → Type 0
 NoFiles [] = Unit {0}

@@ -1,6 +1,5 @@
 -- What a pass that is made and said is.
 use Rattle.std.proofs.Common.{◌≡◌, ℕ, false, List, Option, Some, None, Result, Ok, Err, refl, sym, ap, ◌∙◌, inr}
-use Rattle.grid_decided.specs.Decided.{meets_exactly}
 use Rattle.mesh_base.specs.declared.UseWhy.{UseWhy}
 use Rattle.mesh_base.specs.Mesh.{Mesh}
 use Rattle.mesh_base.specs.Shifts.{Shifts}
@@ -10,8 +9,8 @@ use Rattle.log_text.specs.Lines.{text_of_lines}
 use Rattle.outside_io.specs.Desk.{Files}
 use Rattle.outside_io.specs.Sink.{appended}
 use Rattle.pass_run.specs.Said.{SaidInPart}
-use Rattle.pass_run.specs.PassLines.{pass_lines, mesh_after_pass}
-use Rattle.pass_run.proofs.WrittenLines.{written_whole}
+use Rattle.pass_run.specs.PassLines.{lines_due, mesh_due}
+use Rattle.log_write.proofs.WrittenLines.{written_whole}
 use Rattle.track_engine.specs.declared.stop.Stop.{Stop}
 use Rattle.track_engine.specs.Saved.{Target}
 use Rattle.track_engine.specs.State.{State, standing, asked_in}
@@ -21,19 +20,19 @@ use Rattle.track_engine.proofs.NoFiles.{files_of-none, logs_from_said, stops_fro
 use Rattle.track_engine.proofs.Passing.{pass_replays, pass_names_none}
 
 module _ (kind : PassKind) (s : State) where
-  pub pass_in_part : (t : State) (stop : Stop) (to : Mesh) (old new : Option (List ℕ)) → SaidInPart s.mesh to old new (pass_lines meets_exactly s.mesh kind s.set.depth false) → PassTakes kind s t old new (Err stop)
+  pub pass_in_part : (t : State) (stop : Stop) (to : Mesh) (old new : Option (List ℕ)) → SaidInPart s.mesh to old new (lines_due kind s.set.depth false s.mesh) → PassTakes kind s t old new (Err stop)
   unfolding passed_lines
   pass_in_part t stop to old new said = said.text
 
-  pub pass_said : (t : State) (stop : Stop) (old new : Option (List ℕ)) → new ≡ appended old (text_of_lines (pass_lines meets_exactly s.mesh kind s.set.depth false)) → PassTakes kind s t old new (Err stop)
+  pub pass_said : (t : State) (stop : Stop) (old new : Option (List ℕ)) → new ≡ appended old (text_of_lines (lines_due kind s.set.depth false s.mesh)) → PassTakes kind s t old new (Err stop)
   unfolding passed_lines
-  pass_said t stop old new said = written_whole old new (pass_lines meets_exactly s.mesh kind s.set.depth false) said
+  pass_said t stop old new said = written_whole old new (lines_due kind s.set.depth false s.mesh) said
 
-  pub pass_taken : (m : Mesh) (asked : Shifts) (old new : Option (List ℕ)) → m ≡ mesh_after_pass meets_exactly s.mesh kind s.set.depth false → asked ≡ asked_in m s.asked → new ≡ appended old (text_of_lines (pass_lines meets_exactly s.mesh kind s.set.depth false))
+  pub pass_taken : (m : Mesh) (asked : Shifts) (old new : Option (List ℕ)) → m ≡ mesh_due kind s.set.depth false s.mesh → asked ≡ asked_in m s.asked → new ≡ appended old (text_of_lines (lines_due kind s.set.depth false s.mesh))
       → PassTakes kind s (record s { mesh = m; asked = asked }) old new (Ok None)
   unfolding passed_lines passed_mesh
   pass_taken m asked old new is rest said =
-      let asks : asked ≡ asked_in (mesh_after_pass meets_exactly s.mesh kind s.set.depth false) s.asked = rest ∙ ap (λ n. asked_in n s.asked) is in
+      let asks : asked ≡ asked_in (mesh_due kind s.set.depth false s.mesh) s.asked = rest ∙ ap (λ n. asked_in n s.asked) is in
       (λ i. record s { mesh = is i; asked = asks i }, said)
 
 -- a pass, as an effect

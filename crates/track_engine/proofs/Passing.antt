@@ -1,32 +1,32 @@
 -- The lines of a pass, in the replay.
-use Rattle.std.proofs.Common.{◌≡◌, false, List, [], ◌∷◌, sym, subst}
+use Rattle.std.proofs.Common.{◌≡◌, false, List, [], ◌∷◌}
 use Rattle.grid_decided.specs.Decided.{meets_exactly, meets_exactly-is_exact}
 use Rattle.edit_base.specs.declared.PassKind.{PassKind}
 use Rattle.log_text.specs.declared.LogLine.{LogLine}
 use Rattle.log_text.specs.declared.LogLine.TheVariants.{Pass, Did, No}
-use Rattle.log_text.specs.Replay.{Replay, after}
-use Rattle.pass_run.specs.PassLines.{pass_lines, mesh_by}
+use Rattle.log_replay.specs.Replay.{Replay, after, replayed, at_mesh}
+use Rattle.log_replay.specs.OfPass.{IsOfPass, AreOfPass}
+use Rattle.log_replay.specs.Safe.{LineIsSafe, LinesKeepTheMesh}
+use Rattle.pass_run.specs.PassLines.{lines_due, terms_of}
 use Rattle.mesh_base.specs.Valid.{IsValidSurface}
-use Rattle.pass_run.specs.Promises.{LineMovesClear, EachMovesClear}
+use Rattle.pass_run.proofs.Asking.{pass_makes}
 use Rattle.pass_run.proofs.Keeping.{passes_keep}
-use Rattle.pass_run.proofs.Replaying.{IsOfPass, AreOfPass, pass_is, line_replays, replay_of_pass}
-use Rattle.track_engine.specs.Kept.{LineIsSafe, LogIsSafe}
-use Rattle.track_engine.specs.State.{State, standing, at_mesh}
+use Rattle.pass_run.proofs.Replaying.{pass_is}
+use Rattle.track_engine.specs.Kept.{LineHolds, LogIsSafe}
+use Rattle.track_engine.specs.State.{State, standing}
 use Rattle.track_engine.specs.Effects.{passed_lines, passed_mesh}
 use Rattle.track_engine.proofs.NoFiles.{NoFiles}
 
-line_keeps : (r : Replay) (line : LogLine) → IsOfPass line → IsValidSurface r.mesh → LineMovesClear r.mesh line → IsValidSurface (mesh_by r.mesh line) → LineIsSafe r line
-line_keeps r (Pass kind) h good k after = tt
-line_keeps r (Did change) h good k after = record { before = good; along = k; after = after }
-line_keeps r (No what why) h good k after = tt
-line_keeps r line h good k after = absurd h
+line_holds : (r : Replay) (line : LogLine) → IsOfPass line → LineIsSafe r line → LineHolds r line
+line_holds r (Pass kind) h k = tt
+line_holds r (Did change) h k = k
+line_holds r (No what why) h k = tt
+line_holds r line h k = absurd h
 
--- each keeps its promise where its motion is clear and it leaves a good mesh
-each_keeps : (r : Replay) (lines : List LogLine) → AreOfPass lines → IsValidSurface r.mesh → EachMovesClear r.mesh lines → LogIsSafe r lines
-each_keeps r [] h good k = tt
-each_keeps r (line ∷ lines) h good k =
-    let P : Replay → Type 0 = λ s. LogIsSafe s lines in
-    (line_keeps r line h.0 good k.0 k.1, subst P (sym (line_replays r line h.0)) (each_keeps (record r { mesh = mesh_by r.mesh line }) lines h.1 k.1 k.2))
+-- lines of a pass that keep the mesh keep their promises
+each_holds : (r : Replay) (lines : List LogLine) → AreOfPass lines → LinesKeepTheMesh r lines → LogIsSafe r lines
+each_holds r [] h k = tt
+each_holds r (line ∷ lines) h k = (line_holds r line h.0 k.0.0, each_holds (replayed r line) lines h.1 k.1)
 
 -- what a pass keeps: its lines keep their promises, their replay is the mesh that it leaves, and that is good
 pub record PassKeeps (kind : PassKind) (s : State) : Type 0 where
@@ -37,14 +37,15 @@ pub record PassKeeps (kind : PassKind) (s : State) : Type 0 where
 -- the replay of the lines of a pass is the state after it
 pub pass_replays : (kind : PassKind) (s : State) → after (standing s) (passed_lines kind s) ≡ at_mesh (passed_mesh kind s)
 unfolding passed_lines passed_mesh
-pass_replays kind s = replay_of_pass meets_exactly (standing s) kind s.set.depth false
+pass_replays kind s = pass_makes meets_exactly (standing s) (terms_of kind s.set.depth false)
 
 pub pass_keeps : (kind : PassKind) (s : State) → IsValidSurface s.mesh → PassKeeps kind s
 unfolding passed_lines passed_mesh
 pass_keeps kind s good =
-    let kept = passes_keep meets_exactly meets_exactly-is_exact s.mesh kind s.set.depth false good in
+    let terms = terms_of kind s.set.depth false in
+    let kept = passes_keep meets_exactly meets_exactly-is_exact (standing s) terms good in
     record {
-      lines = each_keeps (standing s) (pass_lines meets_exactly s.mesh kind s.set.depth false) (pass_is meets_exactly s.mesh kind s.set.depth false) good kept.0;
+      lines = each_holds (standing s) (lines_due kind s.set.depth false s.mesh) (pass_is meets_exactly terms s.mesh) kept.0;
       replay = pass_replays kind s;
       good = kept.1;
     }
@@ -62,4 +63,4 @@ no_files (line ∷ lines) h = no_file line lines h.0 (no_files lines h.1)
 
 pub pass_names_none : (kind : PassKind) (s : State) → NoFiles (passed_lines kind s)
 unfolding passed_lines
-pass_names_none kind s = no_files (pass_lines meets_exactly s.mesh kind s.set.depth false) (pass_is meets_exactly s.mesh kind s.set.depth false)
+pass_names_none kind s = no_files (lines_due kind s.set.depth false s.mesh) (pass_is meets_exactly (terms_of kind s.set.depth false) s.mesh)

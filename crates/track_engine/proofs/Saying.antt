@@ -12,28 +12,8 @@ use Rattle.log_text.specs.declared.LogLine.{LogLine}
 use Rattle.outside_io.specs.Sink.{appended}
 use Rattle.outside_io.proofs.Written.{appended-nil}
 use Rattle.track_engine.specs.declared.stop.Stop.{Stop}
-use Rattle.pass_run.specs.Said.{WrittenInPart, Written}
-use Rattle.pass_run.proofs.WrittenLines.{written_then, part_then, part_more}
-
--- some of the lines are written, and the rest is left
-pub record SaidSoFar (old now : Option (List ℕ)) (left all : List LogLine) : Type 0 where
-  pub done : List LogLine
-  pub whole : done ++ left ≡ all
-  pub written : now ≡ appended old (text_of_lines done)
-
--- more lines
-pub so_far_more : (old now new : Option (List ℕ)) (xs left all : List LogLine) → SaidSoFar old now (xs ++ left) all → new ≡ appended now (text_of_lines xs) → SaidSoFar old new left all
-so_far_more old now new xs left all s p = record {
-  done = s.done ++ xs;
-  whole = append_assoc s.done xs left ∙ s.whole;
-  written = written_then old now new s.done xs s.written p;
-}
-
--- the next lines are written in part
-pub so_far_part : (old now new : Option (List ℕ)) (xs left all : List LogLine) → SaidSoFar old now (xs ++ left) all → WrittenInPart now new xs → WrittenInPart old new all
-so_far_part old now new xs left all s part =
-    let P : List LogLine → Type 0 = λ l. WrittenInPart old new l in
-    subst P s.whole (part_then old now new s.done (xs ++ left) s.written (part_more now new xs left part))
+use Rattle.log_write.specs.Written.{WrittenInPart, Written}
+use Rattle.log_write.proofs.WrittenLines.{WrittenSoFar, written_more, written_more_in_part}
 
 -- the line of a shift that is not zero, and none of another
 pub move_line : (s : ShiftOf) (b : Bool) → moves s ≡ b → move_lines (s ∷ []) ≡ cond b (Move s ∷ []) []
@@ -55,14 +35,14 @@ module _ (old now new : Option (List ℕ)) (asked : List ShiftOf) (i : ℕ) (s :
       by_test true = refl
       by_test false = refl
 
-  here : SaidSoFar old now (move_lines (drop i asked)) all → SaidSoFar old now (move_lines (s ∷ []) ++ move_lines (drop (i + 1) asked)) all
-  here said = let P : List LogLine → Type 0 = λ l. SaidSoFar old now l all in subst P moves_left said
+  here : WrittenSoFar old now (move_lines (drop i asked)) all → WrittenSoFar old now (move_lines (s ∷ []) ++ move_lines (drop (i + 1) asked)) all
+  here said = let P : List LogLine → Type 0 = λ l. WrittenSoFar old now l all in subst P moves_left said
 
-  pub moves_more : SaidSoFar old now (move_lines (drop i asked)) all → new ≡ appended now (text_of_lines (move_lines (s ∷ []))) → SaidSoFar old new (move_lines (drop (i + 1) asked)) all
-  moves_more said p = so_far_more old now new (move_lines (s ∷ [])) _ all (here said) p
+  pub moves_more : WrittenSoFar old now (move_lines (drop i asked)) all → new ≡ appended now (text_of_lines (move_lines (s ∷ []))) → WrittenSoFar old new (move_lines (drop (i + 1) asked)) all
+  moves_more said p = written_more old now new (move_lines (s ∷ [])) _ all (here said) p
 
-  pub moves_part : SaidSoFar old now (move_lines (drop i asked)) all → WrittenInPart now new (move_lines (s ∷ [])) → WrittenInPart old new all
-  moves_part said p = so_far_part old now new (move_lines (s ∷ [])) _ all (here said) p
+  pub moves_part : WrittenSoFar old now (move_lines (drop i asked)) all → WrittenInPart now new (move_lines (s ∷ [])) → WrittenInPart old new all
+  moves_part said p = written_more_in_part old now new (move_lines (s ∷ [])) _ all (here said) p
 
 pub none_said : (old : Option (List ℕ)) (s : ShiftOf) → moves s ≡ false → old ≡ appended old (text_of_lines (move_lines (s ∷ [])))
 none_said old s e = sym (appended-nil old) ∙ ap (λ l. appended old (text_of_lines l)) (sym (move_line s false e))
@@ -78,11 +58,11 @@ module _ (old now new : Option (List ℕ)) (pairs : List PairName) (i : ℕ) (p 
       ∙ ap (λ t. hit_lines (t ∷ drop (suc i) pairs)) (sym at)
       ∙ ap (λ n. hit_lines (p ∷ drop n pairs)) (sym (add-one i))
 
-  hit_next : SaidSoFar old now (hit_lines (drop i pairs)) all → SaidSoFar old now (Hit p ∷ hit_lines (drop (i + 1) pairs)) all
-  hit_next said = let P : List LogLine → Type 0 = λ l. SaidSoFar old now l all in subst P hits_left said
+  hit_next : WrittenSoFar old now (hit_lines (drop i pairs)) all → WrittenSoFar old now (Hit p ∷ hit_lines (drop (i + 1) pairs)) all
+  hit_next said = let P : List LogLine → Type 0 = λ l. WrittenSoFar old now l all in subst P hits_left said
 
-  pub hits_more : SaidSoFar old now (hit_lines (drop i pairs)) all → new ≡ appended now (text_of_lines (Hit p ∷ [])) → SaidSoFar old new (hit_lines (drop (i + 1) pairs)) all
-  hits_more said w = so_far_more old now new (Hit p ∷ []) (hit_lines (drop (i + 1) pairs)) all (hit_next said) w
+  pub hits_more : WrittenSoFar old now (hit_lines (drop i pairs)) all → new ≡ appended now (text_of_lines (Hit p ∷ [])) → WrittenSoFar old new (hit_lines (drop (i + 1) pairs)) all
+  hits_more said w = written_more old now new (Hit p ∷ []) (hit_lines (drop (i + 1) pairs)) all (hit_next said) w
 
-  pub hits_part : SaidSoFar old now (hit_lines (drop i pairs)) all → WrittenInPart now new (Hit p ∷ []) → WrittenInPart old new all
-  hits_part said part = so_far_part old now new (Hit p ∷ []) (hit_lines (drop (i + 1) pairs)) all (hit_next said) part
+  pub hits_part : WrittenSoFar old now (hit_lines (drop i pairs)) all → WrittenInPart now new (Hit p ∷ []) → WrittenInPart old new all
+  hits_part said part = written_more_in_part old now new (Hit p ∷ []) (hit_lines (drop (i + 1) pairs)) all (hit_next said) part

@@ -17,12 +17,13 @@ use Rattle.track_engine.specs.declared.stop.Stop.{Stop}
 use Rattle.log_text.specs.declared.Refusal.{Refusal}
 use Rattle.track_engine.specs.State.{State, standing}
 use Rattle.track_engine.specs.Effects.{ExpectedLog, Effect, Proceeds, Refused, effect_of, and_then, log_from, refused}
-use Rattle.log_text.specs.Replay.{Replay, after}
+use Rattle.log_replay.specs.Replay.{Replay, after}
 use Rattle.track_engine.specs.Saved.{Target, files_of, stored}
-use Rattle.pass_run.specs.Said.{Written}
+use Rattle.log_write.specs.Written.{Written}
 use Rattle.track_engine.specs.Parts.{Takes, TakesInPart, Advances}
 use Rattle.track_engine.specs.World.{Contents, Logs, StopsIn, StopsShort, Follows}
-use Rattle.track_engine.proofs.Worlds.{after-append, logs_then, short_then, short_more, short_nothing, short_line}
+use Rattle.track_engine.proofs.Worlds.{logs_then, short_then, short_more, short_nothing, short_line}
+use Rattle.log_replay.proofs.Replaying.{after-append}
 use Rattle.track_engine.proofs.Remaining.{HasLines, log_left}
 
 -- The lines so far are written, and with those that are left they are all. The replay stands at the state.

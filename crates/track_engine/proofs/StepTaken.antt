@@ -14,7 +14,7 @@ use Rattle.step_text.specs.declared.Directive.TheVariants.{Step}
 use Rattle.outside_io.specs.Sink.{appended}
 use Rattle.track_engine.specs.declared.stop.Stop.{Stop}
 use Rattle.track_engine.specs.State.{State}
-use Rattle.pass_run.specs.Said.{WrittenInPart}
+use Rattle.log_write.specs.Written.{WrittenInPart}
 use Rattle.track_engine.specs.Effects.{Proceeds, effect_of, step_effect, first_outside, hits, taken, moved_mesh, all_still, lines_of_step, step_lines, after_step}
 use Rattle.track_engine.specs.Parts.{StepTakes}
 

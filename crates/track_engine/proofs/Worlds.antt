@@ -7,15 +7,12 @@ use Rattle.log_text.specs.declared.LogLine.{LogLine}
 use Rattle.log_text.specs.declared.LogLine.TheVariants.{Mesh as MeshLine}
 use Rattle.outside_io.specs.Desk.{Files}
 use Rattle.track_engine.specs.declared.stop.Stop.{Stop}
-use Rattle.log_text.specs.Replay.{Replay, after, replayed}
+use Rattle.log_replay.specs.Replay.{Replay, after, replayed}
 use Rattle.track_engine.specs.Saved.{Target, files_of, file_at, stored, file_name}
 use Rattle.track_engine.specs.World.{Contents, Logs, StopsIn, StopsShort, LastIsOpen, IsOpen}
 use Rattle.outside_io.specs.Sink.{appended, AppendsPart}
-use Rattle.pass_run.proofs.WrittenLines.{written_nothing, written_part, written_whole, written_then, part_then, part_more}
-
-pub after-append : (from : Replay) (xs ys : List LogLine) → after from (xs ++ ys) ≡ after (after from xs) ys
-after-append from [] ys = refl
-after-append from (x ∷ xs) ys = after-append (replayed from x) xs ys
+use Rattle.log_replay.proofs.Replaying.{after-append}
+use Rattle.log_write.proofs.WrittenLines.{written_nothing, written_part, written_whole, written_then, part_then, part_more}
 
 pub files_of-append : (to : Target) (from : Replay) (xs ys : List LogLine) → files_of to from (xs ++ ys) ≡ files_of to from xs ++ files_of to (after from xs) ys
 files_of-append to from [] ys = refl

@@ -26,7 +26,7 @@ use Rattle.log_text.specs.declared.Refusal.TheVariants.{StepUse}
 use Rattle.log_text.specs.declared.LogLine.{LogLine}
 use Rattle.log_text.specs.declared.LogLine.TheVariants.{Step, Hit, Move, Moved, Mesh as MeshLine, End, Refused as RefusedLine}
 use Rattle.edit_base.specs.declared.PassKind.{PassKind}
-use Rattle.pass_run.specs.PassLines.{pass_lines, mesh_after_pass}
+use Rattle.pass_run.specs.PassLines.{lines_due, mesh_due}
 use Rattle.track_engine.specs.State.{State, still_at, asked_of, asked_in}
 
 -- ---- shifts that are asked
@@ -119,11 +119,11 @@ after_step s = record s { mesh = moved_mesh s.mesh (taken s).taken; asked = all_
 
 -- the lines of a pass over the mesh
 unfoldable pub passed_lines : PassKind → State → List LogLine
-passed_lines kind s = pass_lines meets_exactly s.mesh kind s.set.depth false
+passed_lines kind s = lines_due kind s.set.depth false s.mesh
 
 -- the mesh that it leaves
 unfoldable pub passed_mesh : PassKind → State → Mesh
-passed_mesh kind s = mesh_after_pass meets_exactly s.mesh kind s.set.depth false
+passed_mesh kind s = mesh_due kind s.set.depth false s.mesh
 
 -- a vertex that is kept keeps what is asked of it, a new one is asked nothing
 abbrev pub after_pass : PassKind → State → State

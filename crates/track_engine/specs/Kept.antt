@@ -3,8 +3,7 @@ use Rattle.std.specs.Prelude.{◌≡◌, ◌≤◌, ℕ, List, [], ◌∷◌, le
 use Rattle.std.specs.FinMap as finite
 use Rattle.mesh_base.specs.Mesh.{Mesh, IsSound}
 use Rattle.mesh_base.specs.Sides.{IsClosed}
-use Rattle.mesh_base.specs.Placements.{IsClearMesh, IsClearAlong}
-use Rattle.mesh_base.specs.Shifts.{moved_by, with_moves}
+use Rattle.mesh_base.specs.Placements.{IsClearMesh}
 use Rattle.mesh_plain.specs.Shape.{shape_fault}
 use Rattle.obj_text.specs.Obj.{Lists, lists_of}
 use Rattle.mesh_base.specs.Given.{mesh_of}
@@ -13,12 +12,9 @@ use Rattle.grid_base.specs.declared.TheConstants.{DECIMALS_MAX}
 use Rattle.obj_text.specs.Written.{mesh_text, ranked_lists}
 use Rattle.obj_text.specs.Laws.{renumbered}
 use Rattle.log_text.specs.declared.LogLine.{LogLine}
-use Rattle.edit_base.specs.declared.Change.{Change}
-use Rattle.edit_dispatch.specs.Dispatch.{edited}
-use Rattle.edit_base.specs.Clauses.{MovesClear}
-use Rattle.mesh_base.specs.Valid.{IsValidSurface}
-use Rattle.log_text.specs.declared.LogLine.TheVariants.{Mesh as MeshLine, Moved, Did}
-use Rattle.log_text.specs.Replay.{Replay, replayed}
+use Rattle.log_text.specs.declared.LogLine.TheVariants.{Mesh as MeshLine}
+use Rattle.log_replay.specs.Replay.{Replay, EachAt}
+use Rattle.log_replay.specs.Safe.{LineIsSafe}
 
 -- the mesh of lists that a text gave
 abbrev pub mesh_of_lists : Lists → Mesh
@@ -44,29 +40,12 @@ pub record IsSavedWell (r : Replay) (vertices faces : ℕ) : Type 0 where
   pub clear : IsClearMesh r.mesh
   pub read_again : (decimals : ℕ) → decimals ≤ DECIMALS_MAX → IsReadAgain decimals r.mesh
 
--- A motion by the `move` lines so far begins in a mesh that is sound, closed and clear, keeps it clear at every fraction, and ends in one
--- that is so too.
-pub record MotionIsSafe (r : Replay) : Type 0 where
-  pub before : IsValidSurface r.mesh
-  pub along : IsClearAlong r.mesh (moved_by r.mesh r.moves)
-  pub after : IsValidSurface (with_moves r.mesh r.moves)
-
--- An edit begins in a mesh that is sound, closed and clear, its scaffold is closed, and clear at every fraction of its motion, of a
--- pinch above zero and of a collapse below one, and it leaves a mesh that is sound, closed and clear. A zip has no motion.
-pub record EditIsSafe (r : Replay) (change : Change) : Type 0 where
-  pub before : IsValidSurface r.mesh
-  pub along : MovesClear r.mesh change
-  pub after : IsValidSurface (edited r.mesh change)
-
 -- What a line promises of the replay where it stands: of a `mesh` line that the mesh is saved well, of a `moved` line that the
--- motion by the `move` lines goes well, and of the line of a done edit that the edit does.
-abbrev pub LineIsSafe : Replay → LogLine → Type 0
-LineIsSafe r (MeshLine k vertices faces) = IsSavedWell r vertices faces
-LineIsSafe r (Moved how) = MotionIsSafe r
-LineIsSafe r (Did change) = EditIsSafe r change
-LineIsSafe r _ = Unit {0}
+-- motion by the `move` lines is safe, and of the line of a done edit that the edit is.
+abbrev pub LineHolds : Replay → LogLine → Type 0
+LineHolds r (MeshLine k vertices faces) = IsSavedWell r vertices faces
+LineHolds r line = LineIsSafe r line
 
--- each line in turn keeps its promise
+-- each line keeps its promise, one after another
 abbrev pub LogIsSafe : Replay → List LogLine → Type 0
-LogIsSafe r [] = Unit {0}
-LogIsSafe r (line ∷ lines) = LineIsSafe r line × LogIsSafe (replayed r line) lines
+LogIsSafe r lines = EachAt LineHolds r lines

@@ -6,12 +6,12 @@ use Rattle.step_text.specs.declared.Directive.TheVariants.{Step}
 use Rattle.edit_base.specs.declared.PassKind.{PassKind}
 use Rattle.log_text.specs.Lines.{text_of_lines}
 use Rattle.log_text.specs.declared.LogLine.{LogLine}
-use Rattle.log_text.specs.Replay.{after}
+use Rattle.log_replay.specs.Replay.{after, at_mesh}
 use Rattle.outside_io.specs.Sink.{appended}
 use Rattle.track_engine.specs.declared.stop.Stop.{Stop}
-use Rattle.track_engine.specs.State.{State, standing, at_mesh}
+use Rattle.track_engine.specs.State.{State, standing}
 use Rattle.track_engine.specs.Effects.{Effect, Proceeds, Refused, effect_of, step_lines, after_step, passed_lines, after_pass, mesh_line}
-use Rattle.pass_run.specs.Said.{WrittenInPart}
+use Rattle.log_write.specs.Written.{WrittenInPart}
 use Rattle.track_engine.specs.Saved.{Target}
 use Rattle.track_engine.specs.World.{Contents, Logs, StopsIn}
 

@@ -3,7 +3,7 @@ use Rattle.std.specs.Prelude.{ℕ, drop, List, [], ◌∷◌, ◌++◌, length, 
 use Rattle.obj_text.specs.Written.{mesh_text}
 use Rattle.log_text.specs.declared.LogLine.{LogLine}
 use Rattle.log_text.specs.declared.LogLine.TheVariants.{Mesh as MeshLine}
-use Rattle.log_text.specs.Replay.{Replay, replayed}
+use Rattle.log_replay.specs.Replay.{Replay, replayed}
 use Rattle.outside_io.specs.Desk.{Files, with_file}
 
 -- how meshes are saved: under which prefix, and with how many decimals

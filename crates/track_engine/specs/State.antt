@@ -1,5 +1,5 @@
 -- Where a run stands between two directives.
-use Rattle.std.specs.Prelude.{ℕ, ◌==◌, [], map, Option}
+use Rattle.std.specs.Prelude.{ℕ, ◌==◌, map, Option}
 use Rattle.std.specs.Option.{unwrap_or}
 use Rattle.std.specs.List.{find}
 use Rattle.std.specs.FinMap as finite
@@ -9,7 +9,7 @@ use Rattle.mesh_base.specs.Mesh.{Mesh}
 use Rattle.mesh_base.specs.Shifts.{Shifts}
 use Rattle.step_choose.specs.declared.Settings.{Settings}
 use Rattle.step_choose.specs.Settings.{at_first}
-use Rattle.log_text.specs.Replay.{Replay}
+use Rattle.log_replay.specs.Replay.{Replay, at_mesh}
 use Rattle.track_engine.specs.declared.run_state.RunState.{RunState}
 
 -- the mesh, the asked shifts, the settings, and the numbers of steps taken and of meshes saved so far
@@ -48,9 +48,6 @@ start m = record { mesh = m; asked = no_shifts m; set = at_first; steps = 0; sav
 abbrev pub state_of : Mesh → RunState → State
 state_of m run = record { mesh = m; asked = run.asked; set = run.set; steps = run.steps; saved = run.saved }
 
--- the replay of a log that led to the mesh, between two steps
-abbrev pub at_mesh : Mesh → Replay
-at_mesh m = record { mesh = m; moves = [] }
-
+-- the replay of a log that led to the state
 abbrev pub standing : State → Replay
 standing s = at_mesh s.mesh

@@ -4,13 +4,13 @@ use Rattle.log_text.specs.Lines.{text_of_lines}
 use Rattle.log_text.specs.declared.LogLine.{LogLine}
 use Rattle.log_text.specs.declared.LogLine.TheVariants.{Mesh as MeshLine}
 use Rattle.log_text.specs.declared.Refusal.{Refusal}
-use Rattle.log_text.specs.Replay.{Replay}
+use Rattle.log_replay.specs.Replay.{Replay}
 use Rattle.outside_io.specs.Causes.{Rose}
 use Rattle.outside_io.specs.Sink.{appended}
 use Rattle.outside_io.specs.Desk.{Files, SameBut}
 use Rattle.track_engine.specs.declared.stop.Stop.{Stop}
 use Rattle.track_engine.specs.declared.stop.Stop.TheVariants.{NoMemory, DeskFault, SinkFault}
-use Rattle.pass_run.specs.Said.{WrittenInPart}
+use Rattle.log_write.specs.Written.{WrittenInPart}
 use Rattle.track_engine.specs.Saved.{Target, files_of, file_name, stored}
 use Rattle.track_engine.specs.Effects.{ExpectedLog}
 

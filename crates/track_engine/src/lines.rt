@@ -2,15 +2,16 @@ ghost use Rattle.std.specs.Prelude.{◌≡◌, ◌≤◌, [], ◌∷◌, IfOk, O
 ghost use Rattle.log_text.specs.Lines.{text_of_line};
 ghost use Rattle.outside_io.specs.Causes.{Rose};
 ghost use Rattle.outside_io.specs.Sink.{AppendsPart};
-ghost use Rattle.pass_run.specs.Said.{Written};
+ghost use Rattle.log_write.specs.Written.{Written};
 ghost use Rattle.track_engine.specs.Effects.{ending_of};
 
 use crate::stop::Stop;
-use log_text::{LogLine, Refusal, print_line};
-use outside_io::{Sink, put_all};
+use log_text::{LogLine, Refusal};
+use log_write::{WriteFault, write_line};
+use outside_io::Sink;
 use std::alloc::Global;
 
-/// Writes one line of the log.
+/// Writes one line of the log, as `write_line` does; its faults are those of the engine.
 pub fn say<K: Sink>(alloc: Global, out: &mut K, line: &LogLine) -> Result<(), Stop>
     ensures said { Written (K.written out.old) (K.written out.new) (line.now ∷ []) result }
     // An error leaves a part of the line that is not all of it, perhaps nothing.
@@ -19,13 +20,10 @@ pub fn say<K: Sink>(alloc: Global, out: &mut K, line: &LogLine) -> Result<(), St
     ensures cause { IsErrOf result Stop.SinkFault → Rose (K.faults out.old) (K.faults out.new) }
     ensures desk { IsErrOf result Stop.DeskFault → ⊥ }
 {
-    let mut text = Vec::new(alloc);
-    match print_line(line, &mut text) {
-        Err(_) => Err(Stop::NoMemory),
-        Ok(()) => match put_all(out, &text) {
-            Ok(()) => Ok(()),
-            Err(_) => Err(Stop::SinkFault),
-        },
+    match write_line(alloc, out, line) {
+        Ok(()) => Ok(()),
+        Err(WriteFault::NoMemory) => Err(Stop::NoMemory),
+        Err(WriteFault::SinkFault) => Err(Stop::SinkFault),
     }
 }
 

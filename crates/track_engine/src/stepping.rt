@@ -4,7 +4,7 @@ ghost use Rattle.step_choose.specs.Choice.{Way};
 ghost use Rattle.step_choose.specs.Chosen.{way_of};
 ghost use Rattle.outside_io.specs.Causes.{Rose};
 ghost use Rattle.track_engine.specs.Effects.{hit_lines, move_lines, lines_of_step};
-ghost use Rattle.pass_run.specs.Said.{Written};
+ghost use Rattle.log_write.specs.Written.{Written};
 
 use crate::lines::say;
 use crate::shifting::moves;

@@ -14,16 +14,16 @@ use Rattle.step_text.specs.declared.Directive.TheVariants as directive
 use Rattle.obj_text.specs.Obj.{Lists}
 use Rattle.log_text.specs.declared.LogLine.{LogLine}
 use Rattle.log_text.specs.declared.LogLine.TheVariants.{First}
-use Rattle.log_text.specs.Replay.{after}
+use Rattle.log_replay.specs.Replay.{after, at_mesh}
 use Rattle.mesh_base.specs.Valid.{IsValidSurface}
-use Rattle.track_engine.specs.State.{State, start, standing, at_mesh}
+use Rattle.track_engine.specs.State.{State, start, standing}
 use Rattle.track_engine.specs.Effects.{Effect, Proceeds, Refused, ExpectedLog, effect_of, mesh_line, and_then, log_from, shift_effect, step_effect, sum_of_one, sum_of_all, first_outside}
 use Rattle.log_text.specs.declared.TheConstants.{VERSION}
 use Rattle.track_input.specs.Job.{Job, mesh_of_lists, mesh_in, mesh_read}
 use Rattle.track_run.specs.Causes.{HasLists, Reaches}
 use Rattle.track_engine.specs.Invariant.{IsRunInvariant}
 use Rattle.track_run.specs.Reached.{IsReached, AgreesWithReplay}
-use Rattle.track_engine.proofs.Worlds.{after-append}
+use Rattle.log_replay.proofs.Replaying.{after-append}
 use Rattle.track_run.proofs.CauseLemmas.{clear_told}
 use Rattle.track_engine.proofs.Replayed.{effect_replayed}
 use Rattle.track_engine.proofs.Keeping.{kept_next, kept_start}

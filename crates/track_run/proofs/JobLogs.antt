@@ -19,7 +19,8 @@ use Rattle.log_text.specs.declared.Refusal.{Refusal}
 use Rattle.log_text.specs.declared.Refusal.TheVariants as refusal
 use Rattle.track_input.specs.Source.{Source, Bytes, Absent, TooLong}
 use Rattle.track_input.specs.Job.{Job, Input, input_of_files, input_of_lists, input_of_shape, input_of_steps, mesh_of_lists, mesh_read, mesh_in}
-use Rattle.track_engine.specs.State.{start, at_mesh}
+use Rattle.log_replay.specs.Replay.{at_mesh}
+use Rattle.track_engine.specs.State.{start}
 use Rattle.track_engine.specs.Effects.{ExpectedLog, log_from, mesh_line}
 use Rattle.track_engine.specs.Kept.{LogIsSafe}
 use Rattle.track_engine.proofs.Worlds.{one_line}

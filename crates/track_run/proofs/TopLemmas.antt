@@ -14,11 +14,11 @@ use Rattle.log_text.specs.declared.TheConstants.{VERSION}
 use Rattle.log_text.specs.declared.Refusal.{Refusal}
 use Rattle.log_text.specs.declared.Refusal.TheVariants as refusal
 use Rattle.log_text.specs.declared.LogLine.TheVariants.{First, Refused as RefusedLine}
-use Rattle.log_text.specs.Replay.{Replay}
+use Rattle.log_replay.specs.Replay.{Replay, at_mesh}
 use Rattle.outside_io.specs.Causes.{Rose}
 use Rattle.outside_io.specs.Desk.{Files}
 use Rattle.outside_io.specs.Sink.{appended, AppendsPart}
-use Rattle.pass_run.specs.Said.{Written}
+use Rattle.log_write.specs.Written.{Written}
 use Rattle.track_input.specs.declared.command.Command.{Command}
 use Rattle.track_input.specs.declared.command.Command.TheVariants as command
 use Rattle.track_input.specs.declared.reading.Ready.{Ready}
@@ -29,7 +29,7 @@ use Rattle.track_input.proofs.Sources.{some_source}
 use Rattle.track_input.proofs.ReadLemmas.{same_mesh}
 use Rattle.track_engine.specs.declared.stop.Stop.{Stop}
 use Rattle.track_engine.specs.declared.stop.Stop.TheVariants as stop
-use Rattle.track_engine.specs.State.{State, start, unsaved, at_mesh, standing}
+use Rattle.track_engine.specs.State.{State, start, unsaved, standing}
 use Rattle.track_engine.specs.Effects.{ExpectedLog, log_from, mesh_line, refused}
 use Rattle.track_engine.specs.Saved.{Target}
 use Rattle.track_engine.specs.Invariant.{IsRunInvariant}

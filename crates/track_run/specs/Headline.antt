@@ -4,7 +4,7 @@ use Rattle.step_text.specs.declared.Directive.{Directive}
 use Rattle.step_text.specs.declared.Directive.TheVariants as directive
 use Rattle.log_text.specs.declared.LogLine.{LogLine}
 use Rattle.log_text.specs.declared.Refusal.{Refusal}
-use Rattle.log_text.specs.Replay.{after}
+use Rattle.log_replay.specs.Replay.{after}
 use Rattle.outside_io.specs.Causes.{Rose}
 use Rattle.track_input.specs.Words.{Named, Track}
 use Rattle.track_input.specs.Job.{Job, IsJob}

@@ -10,9 +10,9 @@ use Rattle.log_text.specs.declared.TheConstants.{VERSION}
 use Rattle.log_text.specs.declared.Refusal.{Refusal}
 use Rattle.log_text.specs.declared.Refusal.TheVariants as refusal
 use Rattle.log_text.specs.declared.LogLine.TheVariants.{First}
-use Rattle.log_text.specs.Replay.{Replay}
+use Rattle.log_replay.specs.Replay.{Replay, at_mesh}
 use Rattle.track_input.specs.Job.{Job, Input, input_of, mesh_of_lists, mesh_of_job}
-use Rattle.track_engine.specs.State.{start, at_mesh}
+use Rattle.track_engine.specs.State.{start}
 use Rattle.track_engine.specs.Effects.{ExpectedLog, log_from, refused, mesh_line}
 
 -- the first edge and face of a mesh that meet where its vertices stand

@@ -3,7 +3,7 @@ use Rattle.std.specs.Prelude.{◌≡◌, List, ◌++◌}
 use Rattle.obj_text.specs.Obj.{Lists}
 use Rattle.step_text.specs.declared.Placed.{Placed}
 use Rattle.log_text.specs.declared.LogLine.{LogLine}
-use Rattle.log_text.specs.Replay.{after}
+use Rattle.log_replay.specs.Replay.{after}
 use Rattle.track_input.specs.Job.{Job, mesh_of_lists}
 use Rattle.track_engine.specs.State.{State, start, standing}
 use Rattle.track_engine.specs.Effects.{log_from}

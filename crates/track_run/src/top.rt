@@ -4,7 +4,7 @@ ghost use Rattle.mesh_base.specs.Sides.{IsClosed};
 ghost use Rattle.mesh_base.specs.Valid.{IsValidSurface};
 ghost use Rattle.step_text.specs.Ranges.{AreInRange};
 ghost use Rattle.track_input.specs.Words.{named_in};
-ghost use Rattle.track_engine.specs.State.{at_mesh};
+ghost use Rattle.log_replay.specs.Replay.{at_mesh};
 ghost use Rattle.track_engine.specs.Targets.{target_of};
 ghost use Rattle.track_engine.specs.World.{contents, world, HasCauses, Follows};
 ghost use Rattle.track_run.specs.Job.{log_of_mesh, log_of_test, met_first};

@@ -5,9 +5,9 @@ use Rattle.log_text.specs.Lines.{text_of_lines}
 use Rattle.log_text.specs.declared.LogLine.{LogLine}
 use Rattle.log_text.specs.declared.LogLine.TheVariants.{Step, Moved}
 use Rattle.outside_io.specs.Sink.{appended}
-use Rattle.pass_run.specs.Said.{WrittenInPart}
+use Rattle.log_write.specs.Written.{WrittenInPart}
 use Rattle.track_engine.specs.Effects.{hit_lines, move_lines}
-use Rattle.pass_run.proofs.WrittenLines.{written_then, part_then, part_more}
+use Rattle.log_write.proofs.WrittenLines.{written_then, part_then, part_more}
 use Rattle.track_engine.proofs.stepping.say_step.Goals as goal
 
 pub returns-in_err-say-clause-said : goal.returns-in_err-say-clause-said

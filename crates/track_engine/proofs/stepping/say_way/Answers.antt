@@ -4,10 +4,10 @@ use Rattle.mesh_base.specs.declared.ShiftOf.{ShiftOf}
 use Rattle.log_text.specs.Lines.{text_of_lines}
 use Rattle.log_text.specs.declared.LogLine.{LogLine}
 use Rattle.log_text.specs.declared.LogLine.TheVariants.{Moved}
-use Rattle.pass_run.specs.Said.{WrittenInPart}
+use Rattle.log_write.specs.Written.{WrittenInPart}
 use Rattle.outside_io.specs.Sink.{appended}
 use Rattle.track_engine.specs.Effects.{move_lines}
-use Rattle.pass_run.proofs.WrittenLines.{written_then, part_then, part_more}
+use Rattle.log_write.proofs.WrittenLines.{written_then, part_then, part_more}
 use Rattle.track_engine.proofs.stepping.say_way.Goals as goal
 
 pub returns-in_err-say_moves-clause-said : goal.returns-in_err-say_moves-clause-said
