@@ -8,7 +8,7 @@ use Rattle.edit_base.specs.declared.Asked.{Asked}
 use Rattle.edit_base.specs.declared.Edit.{Edit}
 use Rattle.edit_base.specs.declared.PassKind.{PassKind}
 use Rattle.edit_base.specs.declared.Edit.TheVariants as edit
-use Rattle.edit_dispatch.specs.Dispatch.{answer_to}
+use Rattle.edit_dispatch.specs.Dispatch.{answer_to, edited}
 use Rattle.edit_base.specs.Clauses.{mesh_after}
 use Rattle.log_text.specs.declared.LogLine.{LogLine}
 use Rattle.log_text.specs.declared.LogLine.TheVariants as line
@@ -70,7 +70,7 @@ lines_of rules m what = if rules.due m what then line_of what (answer_by rules m
 
 -- the mesh that it leaves
 abbrev pub mesh_from : PassRules → Mesh → Asked → Mesh
-mesh_from rules m what = if rules.due m what then mesh_after m (answer_by rules m what) else m
+mesh_from rules m what = if rules.due m what then mesh_after edited m (answer_by rules m what) else m
 
 -- ---- all that is asked
 
