@@ -1,0 +1,96 @@
+//! What the words of a command line are answered with.
+ghost use Rattle.std.specs.Prelude.{◌≡◌, true, false, List, map, string_bytes};
+ghost use Rattle.track_input.specs.Words.{named_in};
+ghost use Rattle.track_engine.specs.World.{world};
+ghost use Rattle.topo.specs.Asked.{is_help, is_version};
+ghost use Rattle.topo.specs.Answered.{Tells, RunsTo};
+
+use line_text::is_word;
+use outside_io::{Desk, Sink, put_all};
+use std::alloc::Global;
+use track_run::{Outcome, run};
+
+/// How the program is called.
+pub(crate) const USAGE: &str = "\
+usage: topo track MESH STEPS PREFIX [--decimals N]
+       topo --help | --version
+
+Reads the Wavefront OBJ mesh MESH and the text of steps STEPS, moves the closed triangle surface by
+the steps and edits it, writes the log to standard output, and stores the meshes as PREFIX-000000.obj,
+PREFIX-000001.obj and so on.
+
+--decimals N    a unit of the grid is 10 to the power -N (N from 0 to 6; 0 if left out)
+
+Exit status:
+   0  done
+   1  no memory
+   2  the words are of no listed form
+   3  a file could not be read or stored
+   4  standard output could not be written
+   5  a file is too long
+   6  a line of the mesh file is outside its grammar
+   7  the mesh is not of good shape
+   8  an edge of the mesh meets a face that shares no vertex with it
+   9  a line of the step file is outside its grammar
+  10  a directive is refused
+  11  a file is missing
+";
+
+/// The line of the version.
+pub(crate) const VERSION_LINE: &str = "topo 0.1.0\n";
+
+// Whether the words ask for help alone.
+fn is_help(words: &[String]) -> bool
+    ensures { result ≡ is_help (map (λ word. string_bytes word) words.now) }
+{
+    words.len() == 1
+        && (is_word(words[0].as_bytes(), b"--help") || is_word(words[0].as_bytes(), b"-h"))
+}
+
+// Whether the words ask for the version alone.
+fn is_version(words: &[String]) -> bool
+    ensures { result ≡ is_version (map (λ word. string_bytes word) words.now) }
+{
+    words.len() == 1 && is_word(words[0].as_bytes(), b"--version")
+}
+
+// Writes a text, and answers the status: that of a run that is done, or of one whose sink failed.
+fn tell<D: Desk, K: Sink>(text: &str, desk: &D, out: &mut K) -> u8
+    ensures { Tells text.now result
+        (world D.files D.faults K.written K.faults desk.now out.old)
+        (world D.files D.faults K.written K.faults desk.now out.new) }
+{
+    match put_all(out, text.as_bytes()) {
+        Ok(()) => Outcome::Done.status(),
+        Err(_) => Outcome::SinkFault.status(),
+    }
+}
+
+/// Answers the words that follow the program's name, and gives the exit status. `--help` or `-h` alone writes how the program is called,
+/// `--version` alone the line of the version, and all other words are a run's.
+pub(crate) fn answer<D: Desk, K: Sink>(
+    alloc: Global,
+    words: &[String],
+    desk: &mut D,
+    out: &mut K,
+) -> u8
+    ensures help { is_help (map (λ word. string_bytes word) words.now) ≡ true → Tells USAGE.now result
+        (world D.files D.faults K.written K.faults desk.old out.old)
+        (world D.files D.faults K.written K.faults desk.new out.new) }
+    ensures version { is_version (map (λ word. string_bytes word) words.now) ≡ true → Tells VERSION_LINE.now result
+        (world D.files D.faults K.written K.faults desk.old out.old)
+        (world D.files D.faults K.written K.faults desk.new out.new) }
+    ensures runs { is_help (map (λ word. string_bytes word) words.now) ≡ false →
+        is_version (map (λ word. string_bytes word) words.now) ≡ false →
+        RunsTo (named_in (map (λ word. string_bytes word) words.now)) result
+        (world D.files D.faults K.written K.faults desk.old out.old)
+        (world D.files D.faults K.written K.faults desk.new out.new) }
+{
+    if is_help(words) {
+        return tell(USAGE, desk, out);
+    }
+    if is_version(words) {
+        return tell(VERSION_LINE, desk, out);
+    }
+    run(alloc, words, desk, out).status()
+}
