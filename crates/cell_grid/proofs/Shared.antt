@@ -104,16 +104,16 @@ has_number cell e s c covers t =
     let lx : s.first.x ≤ c.x = omega (arith, t.x_low) in
     let ly : s.first.y ≤ c.y = omega (arith, t.y_low) in
     let lz : s.first.z ≤ c.z = omega (arith, t.z_low) in
-    let hx : c.x - s.first.x < s.wide = omega (arith, t.x_high, covers.x_end) in
-    let hy : c.y - s.first.y < s.deep = omega (arith, t.y_high, covers.y_end) in
-    let hz : c.z - s.first.z < s.tall = omega (arith, t.z_high, covers.z_end) in
-    let num = numbered s.wide s.deep s.tall (c.x - s.first.x) (c.y - s.first.y) (c.z - s.first.z) hx hy hz in
-    let n : ℕ = ((c.z - s.first.z) * s.deep + (c.y - s.first.y)) * s.wide + (c.x - s.first.x) in (
+    let hx : c.x - s.first.x < s.nx = omega (arith, t.x_high, covers.x_end) in
+    let hy : c.y - s.first.y < s.ny = omega (arith, t.y_high, covers.y_end) in
+    let hz : c.z - s.first.z < s.nz = omega (arith, t.z_high, covers.z_end) in
+    let num = numbered s.nx s.ny s.nz (c.x - s.first.x) (c.y - s.first.y) (c.z - s.first.z) hx hy hz in
+    let n : ℕ = ((c.z - s.first.z) * s.ny + (c.y - s.first.y)) * s.nx + (c.x - s.first.x) in (
       n,
       (
         rw s.usable.counted num.below,
-        same_cell_of (s.first.x + n % s.wide) (s.first.y + n / s.wide % s.deep) (s.first.z + n / s.wide / s.deep) c.x c.y c.z
-            (placed s.first.x 0 c.x (n % s.wide) lx num.column) (placed s.first.y 0 c.y (n / s.wide % s.deep) ly num.row) (placed s.first.z 0 c.z (n / s.wide / s.deep) lz num.layer),
+        same_cell_of (s.first.x + n % s.nx) (s.first.y + n / s.nx % s.ny) (s.first.z + n / s.nx / s.ny) c.x c.y c.z
+            (placed s.first.x 0 c.x (n % s.nx) lx num.column) (placed s.first.y 0 c.y (n / s.nx % s.ny) ly num.row) (placed s.first.z 0 c.z (n / s.nx / s.ny) lz num.layer),
       ),
     )
 

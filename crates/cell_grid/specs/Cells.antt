@@ -30,10 +30,10 @@ pub record Touches (cell : ℕ) (e : Extent) (c : Cell) : Type 0 where
 -- the span has each cell that the extent touches, from the first of them on
 pub record Covers (cell : ℕ) (e : Extent) (s : Span) : Type 0 where
   pub first : s.first ≡ cell_of cell e.low
-  pub x_end : place_along cell e.high.x < s.first.x + s.wide
-  pub y_end : place_along cell e.high.y < s.first.y + s.deep
-  pub z_end : place_along cell e.high.z < s.first.z + s.tall
+  pub x_end : place_along cell e.high.x < s.first.x + s.nx
+  pub y_end : place_along cell e.high.y < s.first.y + s.ny
+  pub z_end : place_along cell e.high.z < s.first.z + s.nz
 
 -- the nth cell of a span
 abbrev pub nth_cell : Span → ℕ → Cell
-nth_cell s n = record { x = s.first.x + n % s.wide; y = s.first.y + n / s.wide % s.deep; z = s.first.z + n / s.wide / s.deep }
+nth_cell s n = record { x = s.first.x + n % s.nx; y = s.first.y + n / s.nx % s.ny; z = s.first.z + n / s.nx / s.ny }

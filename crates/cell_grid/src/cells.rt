@@ -17,11 +17,11 @@ pub(crate) struct Cell {
 #[derive(Clone, Copy)]
 pub(crate) struct Span {
     pub first: Cell,
-    pub wide: u32,
-    pub deep: u32,
-    pub tall: u32,
+    pub nx: u32,
+    pub ny: u32,
+    pub nz: u32,
     pub count: u32,
-    ghost usable: { IsUsable first.x first.y first.z wide deep tall count },
+    ghost usable: { IsUsable first.x first.y first.z nx ny nz count },
 }
 
 mod places;

@@ -4,7 +4,7 @@ use Rattle.std.proofs.lemmas.Bool.{eqb-true}
 use Rattle.mesh_base.specs.declared.ids.Corners.{Corners}
 use Rattle.mesh_base.specs.Mesh.{AreDifferent}
 use Rattle.mesh_base.specs.Sides.{follows, runs}
-use Rattle.edit_base.specs.Edges.{third_corner}
+use Rattle.edit_base.specs.Edges.{opposite_vertex}
 use Rattle.mesh_base.proofs.Listed.{and_first, and_second, or_either}
 
 -- 1 where the step from u to v is the one from x to y
@@ -41,7 +41,7 @@ other_way x y u v = swapped (x == u) (y == v)
     swapped false true = refl
     swapped false false = refl
 
--- the steps of the face that runs a to b, with its third corner
+-- the steps of the face that runs a to b, with its opposite vertex
 abbrev pub round : ℕ → ℕ → ℕ → ℕ → ℕ → ℕ
 round a b c u v = arc a b u v + arc b c u v + arc c a u v
 
@@ -52,21 +52,21 @@ pub is_not : (b : Bool) → (b ≡ true → ⊥) → b ≡ false
 is_not true never = absurd (never refl)
 is_not false never = refl
 
-pub first_way : (C : Corners) (a b : ℕ) → (C.first == a) ≡ true → third_corner C a b ≡ C.third
+pub first_way : (C : Corners) (a b : ℕ) → (C.first == a) ≡ true → opposite_vertex C a b ≡ C.third
 first_way C a b e = ap (λ t. if t then C.third else (if C.second == a then C.first else C.second)) e
 
-pub second_way : (C : Corners) (a b : ℕ) → AreDifferent C → (C.second == a) ≡ true → third_corner C a b ≡ C.first
+pub second_way : (C : Corners) (a b : ℕ) → AreDifferent C → (C.second == a) ≡ true → opposite_vertex C a b ≡ C.first
 second_way C a b different e =
     ap (λ t. if t then C.third else (if C.second == a then C.first else C.second)) (is_not (C.first == a) (λ f. not_both C.first C.second a different.first_second f e))
     ∙ ap (λ t. if t then C.first else C.second) e
 
-pub third_way : (C : Corners) (a b : ℕ) → AreDifferent C → (C.third == a) ≡ true → third_corner C a b ≡ C.second
+pub third_way : (C : Corners) (a b : ℕ) → AreDifferent C → (C.third == a) ≡ true → opposite_vertex C a b ≡ C.second
 third_way C a b different e =
     ap (λ t. if t then C.third else (if C.second == a then C.first else C.second)) (is_not (C.first == a) (λ f. not_both C.third C.first a different.third_first e f))
     ∙ ap (λ t. if t then C.first else C.second) (is_not (C.second == a) (λ f. not_both C.second C.third a different.second_third f e))
 
--- a face that runs a to b counts the steps a to b, b to its third corner, and from there to a
-pub round_of : (C : Corners) (a b u v : ℕ) → AreDifferent C → follows C a b ≡ true → cond (follows C u v) 1 0 ≡ round a b (third_corner C a b) u v
+-- a face that runs a to b counts the steps a to b, b to its opposite vertex, and from there to a
+pub round_of : (C : Corners) (a b u v : ℕ) → AreDifferent C → follows C a b ≡ true → cond (follows C u v) 1 0 ≡ round a b (opposite_vertex C a b) u v
 round_of C a b u v different e =
     ⊎_elim (λ two. ⊎_elim
     (λ one. let x = and_first (C.first == a) _ one in let y = and_second (C.first == a) _ one in

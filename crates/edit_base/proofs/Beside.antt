@@ -12,7 +12,7 @@ use Rattle.mesh_base.specs.declared.ids.Corners.{Corners}
 use Rattle.mesh_base.specs.Mesh.{Mesh, IsSound, IsLiveVertex, HasCorners, AreDifferent}
 use Rattle.mesh_base.specs.Sides.{follows, runs, ids_where, IsClosed}
 use Rattle.mesh_base.specs.Pairs.{is_edge}
-use Rattle.edit_base.specs.Edges.{edge_of, corners_at, third_corner, face_running}
+use Rattle.edit_base.specs.Edges.{edge_of, corners_at, opposite_vertex, face_running}
 use Rattle.mesh_base.proofs.Listed.{each_found, edge_live, and_first, and_second, or_either}
 use Rattle.edit_base.specs.Beside.{IsBeside}
 use Rattle.edit_base.proofs.Arcs.{arc, round_of, first_way, second_way, third_way}
@@ -33,17 +33,17 @@ face_there m u v some =
     let found = first_running (λ e. find nat_cmp e.0 (finite.entries m.faces) ≡ Some e.1) (λ c. follows c u v) (finite.entries m.faces) (each_found (finite.entries m.faces) (entries_sorted m.faces)) some in
     (found.0, found.1, get-entries m.faces (face_running m u v) ∙ found.2)
 
--- ---- the third corner
--- a, b and the third corner are three corners of the face, one after another
+-- ---- the opposite vertex
+-- a, b and the opposite vertex are three corners of the face, one after another
 pub record AreRound (C : Corners) (a b : ℕ) : Type 0 where
   pub a_b : a ≢ b
-  pub b_c : b ≢ third_corner C a b
-  pub c_a : third_corner C a b ≢ a
+  pub b_c : b ≢ opposite_vertex C a b
+  pub c_a : opposite_vertex C a b ≢ a
 
 three_apart : {x y z a b c : ℕ} → x ≡ a → y ≡ b → c ≡ z → x ≢ y → y ≢ z → z ≢ x → (a ≢ b) × (b ≢ c) × (c ≢ a)
 three_apart e f g xy yz zx = (λ h. xy (e ∙ h ∙ sym f), λ h. yz (f ∙ h ∙ g), λ h. zx (sym g ∙ h ∙ sym e))
 
-as_round : (C : Corners) (a b : ℕ) → (a ≢ b) × (b ≢ third_corner C a b) × (third_corner C a b ≢ a) → AreRound C a b
+as_round : (C : Corners) (a b : ℕ) → (a ≢ b) × (b ≢ opposite_vertex C a b) × (opposite_vertex C a b ≢ a) → AreRound C a b
 as_round C a b h = record { a_b = h.0; b_c = h.1; c_a = h.2 }
 
 pub are_round : (C : Corners) (a b : ℕ) → AreDifferent C → follows C a b ≡ true → AreRound C a b
@@ -58,7 +58,7 @@ are_round C a b d e =
     as_round C a b (three_apart (eqb-true C.third a x) (eqb-true C.first b y) (third_way C a b d x) d.third_first d.first_second d.second_third))
     (or_either ((C.first == a && C.second == b) || (C.second == a && C.third == b)) _ e)
 
-pub third_live : (m : Mesh) (C : Corners) (a b : ℕ) → IsLiveVertex m C.first × IsLiveVertex m C.second × IsLiveVertex m C.third → AreDifferent C → follows C a b ≡ true → IsLiveVertex m (third_corner C a b)
+pub third_live : (m : Mesh) (C : Corners) (a b : ℕ) → IsLiveVertex m C.first × IsLiveVertex m C.second × IsLiveVertex m C.third → AreDifferent C → follows C a b ≡ true → IsLiveVertex m (opposite_vertex C a b)
 third_live m C a b live d e =
     ⊎_elim (λ two. ⊎_elim
     (λ one. subst (IsLiveVertex m) (sym (first_way C a b (and_first (C.first == a) _ one))) live.2)
@@ -80,7 +80,7 @@ none_of x y u v apart = by_tests (x == u) (y == v) refl refl
 pub not_both_ways : (C : Corners) (a b : ℕ) → AreDifferent C → follows C a b ≡ true → follows C b a ≡ true → ⊥
 not_both_ways C a b d forth back =
     let turn = are_round C a b d forth in
-    let c = third_corner C a b in
+    let c = opposite_vertex C a b in
     let count = round_of C a b b a d forth in
     let one : ◌≡◌ {A = ℕ} (cond (follows C b a) 1 0) 1 = ap (λ t. cond t 1 0) back in
     clash _ _ _ (sym one ∙ count) (none_of a b b a (inl turn.a_b)) (none_of b c b a (inr turn.c_a)) (none_of c a b a (inl (λ h. turn.b_c (sym h))))
@@ -99,8 +99,8 @@ beside_of m u v sound closed edge =
     let g_live = sound.is_mesh.live_corners s.back g.0 g.2 in
     let f_different = sound.is_mesh.different_corners s.forth f.0 f.2 in
     let g_different = sound.is_mesh.different_corners s.back g.0 g.2 in
-    let third : third_corner f.0 s.a s.b ≡ s.c = ap (λ C. third_corner C s.a s.b) (sym (corners_there s.forth f.0 f.2)) in
-    let fourth : third_corner g.0 s.b s.a ≡ s.d = ap (λ C. third_corner C s.b s.a) (sym (corners_there s.back g.0 g.2)) in
+    let third : opposite_vertex f.0 s.a s.b ≡ s.c = ap (λ C. opposite_vertex C s.a s.b) (sym (corners_there s.forth f.0 f.2)) in
+    let fourth : opposite_vertex g.0 s.b s.a ≡ s.d = ap (λ C. opposite_vertex C s.b s.a) (sym (corners_there s.back g.0 g.2)) in
     let f_round = are_round f.0 s.a s.b f_different f.1 in
     let g_round = are_round g.0 s.b s.a g_different g.1 in
     let ends = edge_live m s.a s.b sound (positive _ edge) in

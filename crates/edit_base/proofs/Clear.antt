@@ -12,8 +12,8 @@ use Rattle.mesh_base.specs.Mesh.{IsSound}
 use Rattle.mesh_base.specs.Pairs.{Pair, IsPair, pairs}
 use Rattle.mesh_base.specs.Placements.{positions}
 use Rattle.grid_base.specs.SeparationTests.{IsExact, passes}
-use Rattle.edit_base.specs.Scaffold.{Scaffold, motion_of, holds_two, touches_well, is_as_required, first_lacking, IsClearBut}
-use Rattle.edit_base.specs.Laws.{NoneLackingIsClear}
+use Rattle.edit_base.specs.Scaffold.{Scaffold, motion_of, joins_contacts, meets_contact_rule, is_as_required, first_failing, IsClearBut}
+use Rattle.edit_base.specs.Laws.{NoneFailingIsClear}
 use Rattle.grid_base.proofs.Reflected.{passes_of, opens_of}
 use Rattle.mesh_base.proofs.Listed.{listed}
 
@@ -34,7 +34,7 @@ stands true e = refl
 stands false e = absurd (false≢true (sym e))
 
 -- each pair is as required
-pub as_required : (meets : Positions → Bool) (s : Scaffold) (depth : ℕ) → IsSound s.mesh → first_lacking meets s depth ≡ None → (p : Pair) → IsPair s.mesh p → is_as_required meets s depth p ≡ true
+pub as_required : (meets : Positions → Bool) (s : Scaffold) (depth : ℕ) → IsSound s.mesh → first_failing meets s depth ≡ None → (p : Pair) → IsPair s.mesh p → is_as_required meets s depth p ≡ true
 as_required meets s depth sound none p is_pair =
     let found = not_found (λ q. not (is_as_required meets s depth q)) (pairs s.mesh) (no_name (λ q. q.name) (find (λ q. not (is_as_required meets s depth q)) (pairs s.mesh)) none) in
     stands _ (listed s.mesh (λ q. not (is_as_required meets s depth q) ≡ false) sound found p is_pair)
@@ -54,13 +54,13 @@ module _ (meets : Positions → Bool) (exact : IsExact meets) (s : Scaffold) (de
   along : (p : Pair) → s.touch ≡ Never → is_as_required meets s depth p ≡ true → NeverMeet (start p) (end p)
   unfolding start end
   along p e r = Passes-never_meet depth (start p) (end p) (passes_of meets exact depth (start p) (end p)
-      (either_of (holds_two s.together p) (touches_well meets s.touch depth (start p) (end p)) (passes meets depth (start p) (end p)) r _
-      (λ t. subst (λ touch. touches_well meets touch depth (start p) (end p) ≡ true) e t) (λ t. t)))
+      (either_of (joins_contacts s.together p) (meets_contact_rule meets s.touch depth (start p) (end p)) (passes meets depth (start p) (end p)) r _
+      (λ t. subst (λ touch. meets_contact_rule meets touch depth (start p) (end p) ≡ true) e t) (λ t. t)))
 
   after_start : (p : Pair) → s.touch ≡ Start → is_as_required meets s depth p ≡ true → NeverMeetAfterStart (start p) (end p)
   unfolding start end
-  after_start p e r = either_of (holds_two s.together p) (touches_well meets s.touch depth (start p) (end p)) (passes meets depth (start p) (end p)) r _
-      (λ t. Opens-never_meet depth (start p) (end p) (opens_of depth (start p) (end p) (subst (λ touch. touches_well meets touch depth (start p) (end p) ≡ true) e t)))
+  after_start p e r = either_of (joins_contacts s.together p) (meets_contact_rule meets s.touch depth (start p) (end p)) (passes meets depth (start p) (end p)) r _
+      (λ t. Opens-never_meet depth (start p) (end p) (opens_of depth (start p) (end p) (subst (λ touch. meets_contact_rule meets touch depth (start p) (end p) ≡ true) e t)))
       (λ t. λ n q some within. Passes-never_meet depth (start p) (end p) (passes_of meets exact depth (start p) (end p) t) n q (below some within) within)
     where
       below : {n q : ℕ} → 0 < n → n ≤ q → 0 < q
@@ -68,8 +68,8 @@ module _ (meets : Positions → Bool) (exact : IsExact meets) (s : Scaffold) (de
 
   before_end : (p : Pair) → s.touch ≡ End → is_as_required meets s depth p ≡ true → NeverMeetBeforeEnd (start p) (end p)
   unfolding start end
-  before_end p e r = either_of (holds_two s.together p) (touches_well meets s.touch depth (start p) (end p)) (passes meets depth (start p) (end p)) r _
-      (λ t. Closes-never_meet depth (start p) (end p) (opens_of depth (end p) (start p) (subst (λ touch. touches_well meets touch depth (start p) (end p) ≡ true) e t)))
+  before_end p e r = either_of (joins_contacts s.together p) (meets_contact_rule meets s.touch depth (start p) (end p)) (passes meets depth (start p) (end p)) r _
+      (λ t. Closes-never_meet depth (start p) (end p) (opens_of depth (end p) (start p) (subst (λ touch. meets_contact_rule meets touch depth (start p) (end p) ≡ true) e t)))
       (λ t. λ n q within. Passes-never_meet depth (start p) (end p) (passes_of meets exact depth (start p) (end p) t) n q (some within) (most within))
     where
       some : {n q : ℕ} → n < q → 0 < q
@@ -78,11 +78,11 @@ module _ (meets : Positions → Bool) (exact : IsExact meets) (s : Scaffold) (de
       most : {n q : ℕ} → n < q → n ≤ q
       most h = omega arith
 
-  by_touch : IsSound s.mesh → first_lacking meets s depth ≡ None → (touch : Touch) → s.touch ≡ touch → IsClearBut touch s.mesh (motion_of s)
+  by_touch : IsSound s.mesh → first_failing meets s depth ≡ None → (touch : Touch) → s.touch ≡ touch → IsClearBut touch s.mesh (motion_of s)
   unfolding start end
   by_touch sound none Never e = λ n q some within p is_pair. along p e (as_required meets s depth sound none p is_pair) n q some within
   by_touch sound none Start e = λ n q some within p is_pair. after_start p e (as_required meets s depth sound none p is_pair) n q some within
   by_touch sound none End e = λ n q within p is_pair. before_end p e (as_required meets s depth sound none p is_pair) n q within
 
-pub none_lacking_is_clear : (meets : Positions → Bool) → IsExact meets → NoneLackingIsClear meets
-none_lacking_is_clear meets exact s depth sound none = by_touch meets exact s depth sound none s.touch refl
+pub none_failing_is_clear : (meets : Positions → Bool) → IsExact meets → NoneFailingIsClear meets
+none_failing_is_clear meets exact s depth sound none = by_touch meets exact s depth sound none s.touch refl

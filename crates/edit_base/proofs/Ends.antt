@@ -7,7 +7,7 @@ use Rattle.grid_base.proofs.Polynomials.{var, num, add, mul, same_polynomial}
 use Rattle.grid_base.proofs.MeetingLaws.{same_triple, Meets-multiple}
 use Rattle.mesh_base.specs.Mesh.{Mesh}
 use Rattle.mesh_base.specs.Pairs.{Pair}
-use Rattle.mesh_base.specs.Placements.{Motion, positions, at_fraction, IsClear, IsClearMesh, IsClearAlong, IsClearAfter, own_points, own_points_doubled}
+use Rattle.mesh_base.specs.Placements.{Motion, positions, at_fraction, IsClear, IsClearMesh, IsClearAlong, IsClearAfter, rest_positions, rest_positions_doubled}
 
 all_of_it : (x y : ℤ) → pos 0 *ℤ x +ℤ pos 1 *ℤ y ≡ y
 all_of_it x y = same_polynomial (x ∷ y ∷ []) (add (mul (num (pos 0)) (var 0)) (mul (num (pos 1)) (var 1))) (var 1) refl
@@ -35,12 +35,12 @@ clear_after_along m w clear p q some within = clear p q (below some within) with
     below h k = omega arith
 
 -- half units or whole ones: the mesh is clear alike
-pub clear_undoubled : (m : Mesh) → IsClear m (own_points_doubled m) → IsClearMesh m
-clear_undoubled m clear p is_pair meet = clear p is_pair (Meets-multiple 2 (positions (own_points m) p) meet)
+pub clear_undoubled : (m : Mesh) → IsClear m (rest_positions_doubled m) → IsClearMesh m
+clear_undoubled m clear p is_pair meet = clear p is_pair (Meets-multiple 2 (positions (rest_positions m) p) meet)
 
 -- where the ends of a motion are the mesh's own points, it is clear
-pub clear_where_it_ends : (m : Mesh) (w : Motion) → ((v : ℕ) → w.end v ≡ own_points_doubled m v) → IsClearAfter m w → IsClearMesh m
+pub clear_where_it_ends : (m : Mesh) (w : Motion) → ((v : ℕ) → w.end v ≡ rest_positions_doubled m v) → IsClearAfter m w → IsClearMesh m
 clear_where_it_ends m w same clear = clear_undoubled m (λ p is_pair meet. clear_at_end m w clear p is_pair (subst MeetAt (sym (alike p)) meet))
   where
-    alike : (p : Pair) → positions w.end p ≡ positions (own_points_doubled m) p
+    alike : (p : Pair) → positions w.end p ≡ positions (rest_positions_doubled m) p
     alike p = λ i. record { a = same p.name.a i; b = same p.name.b i; c = same p.corners.first i; d = same p.corners.second i; e = same p.corners.third i }

@@ -7,7 +7,7 @@ use Rattle.edit_base.specs.declared.answers.Change.{Change}
 use Rattle.edit_base.specs.declared.answers.Edit.TheVariants.{Done}
 use Rattle.mesh_base.specs.Mesh.{Mesh}
 use Rattle.edit_base.specs.Reasons.{reason_if, first_reason, done_unless}
-use Rattle.edit_base.specs.Edges.{Edge, edge_of, corners_at, third_corner, face_running}
+use Rattle.edit_base.specs.Edges.{Edge, edge_of, corners_at, opposite_vertex, face_running}
 
 pub done_is : (reason : Option Why) (change done : Change) → done_unless reason change ≡ Done done → (reason ≡ None) × (change ≡ done)
 done_is (Some why) change done e = absurd cc
@@ -48,8 +48,8 @@ abbrev pub edge_between : Mesh → ℕ → ℕ → Edge
 edge_between m a b = record {
   a = a;
   b = b;
-  c = third_corner (corners_at m (face_running m a b)) a b;
-  d = third_corner (corners_at m (face_running m b a)) b a;
+  c = opposite_vertex (corners_at m (face_running m a b)) a b;
+  d = opposite_vertex (corners_at m (face_running m b a)) b a;
   forth = face_running m a b;
   back = face_running m b a;
 }

@@ -3,9 +3,9 @@ use Rattle.std.specs.Prelude.{◌≡◌, ◌≢◌, ◌<◌, true}
 use Rattle.mesh_base.specs.declared.ids.Corners.{Corners}
 use Rattle.mesh_base.specs.Mesh.{Mesh, IsLiveVertex, HasCorners, AreDifferent}
 use Rattle.mesh_base.specs.Sides.{follows}
-use Rattle.edit_base.specs.Edges.{Edge, third_corner}
+use Rattle.edit_base.specs.Edges.{Edge, opposite_vertex}
 
--- One face runs each way, they are two, each with its third corner; and the ends and the third corners are live, and apart but for the two third corners.
+-- One face runs each way, they are two, each with its opposite vertex; and the ends and the opposite vertices are live, and apart but for the two opposite vertices.
 pub record IsBeside (m : Mesh) (s : Edge) : Type 0 where
   pub forth_corners : Corners
   pub back_corners : Corners
@@ -13,8 +13,8 @@ pub record IsBeside (m : Mesh) (s : Edge) : Type 0 where
   pub back : HasCorners m s.back back_corners
   pub runs_forth : follows forth_corners s.a s.b ≡ true
   pub runs_back : follows back_corners s.b s.a ≡ true
-  pub third : third_corner forth_corners s.a s.b ≡ s.c
-  pub fourth : third_corner back_corners s.b s.a ≡ s.d
+  pub third : opposite_vertex forth_corners s.a s.b ≡ s.c
+  pub fourth : opposite_vertex back_corners s.b s.a ≡ s.d
   pub forth_different : AreDifferent forth_corners
   pub back_different : AreDifferent back_corners
   pub two_faces : s.forth ≢ s.back

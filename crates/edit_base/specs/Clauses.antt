@@ -14,9 +14,9 @@ mesh_after result m (Done change) = result m change
 mesh_after result m (No why) = m
 
 -- the mesh that a call leaves: what the answer says, and after want of memory the same mesh
-abbrev pub mesh_left : (Mesh → Change → Mesh) → Mesh → Result Edit NoMemory → Mesh
-mesh_left result m (Ok edit) = mesh_after result m edit
-mesh_left result m (Err fault) = m
+abbrev pub mesh_after_call : (Mesh → Change → Mesh) → Mesh → Result Edit NoMemory → Mesh
+mesh_after_call result m (Ok edit) = mesh_after result m edit
+mesh_after_call result m (Err fault) = m
 
 -- The motion of a done edit, where it has one: its scaffold is closed, and clear at each fraction, but the start or the end where two
 -- may touch there.

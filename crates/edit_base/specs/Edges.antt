@@ -10,17 +10,17 @@ use Rattle.mesh_base.specs.Mesh.{Mesh, equal_up_to_rotation}
 use Rattle.mesh_base.specs.Sides.{faces_running}
 use Rattle.mesh_base.specs.Changes.{with_face, without_face, IsFresh}
 use Rattle.grid_base.specs.Points.{position_of, point_at}
-use Rattle.mesh_base.specs.Placements.{own_points}
+use Rattle.mesh_base.specs.Placements.{rest_positions}
 
 -- the corners of a face
 abbrev pub corners_at : Mesh → ℕ → Corners
 corners_at m f = unwrap_or (finite.get m.faces f) (record { first = 0; second = 0; third = 0 })
 
 -- the corner that is neither u nor v, where v follows u
-abbrev pub third_corner : Corners → ℕ → ℕ → ℕ
-third_corner c u v = if c.first == u then c.third else (if c.second == u then c.first else c.second)
+abbrev pub opposite_vertex : Corners → ℕ → ℕ → ℕ
+opposite_vertex c u v = if c.first == u then c.third else (if c.second == u then c.first else c.second)
 
--- An edge that is not crowded: its ends, the face that runs a to b with its third corner c, and the face that runs b to a with its third corner d.
+-- An edge that is not crowded: its ends, the face that runs a to b with its opposite vertex c, and the face that runs b to a with its opposite vertex d.
 pub record Edge : Type 0 where
   pub a : ℕ
   pub b : ℕ
@@ -40,7 +40,7 @@ edge_of m u v =
     let b = max u v in
     let forth = face_running m a b in
     let back = face_running m b a in
-    record { a = a; b = b; c = third_corner (corners_at m forth) a b; d = third_corner (corners_at m back) b a; forth = forth; back = back }
+    record { a = a; b = b; c = opposite_vertex (corners_at m forth) a b; d = opposite_vertex (corners_at m back) b a; forth = forth; back = back }
 
 -- the midpoint, each component rounded down
 abbrev pub floor_mid : Point → Point → Point
@@ -48,7 +48,7 @@ floor_mid p q = point_at (floor_mid_of (position_of p) (position_of q))
 
 -- the midpoint, in half units
 abbrev pub exact_mid : Mesh → ℕ → ℕ → Triple
-exact_mid m u v = plus (own_points m u) (own_points m v)
+exact_mid m u v = plus (rest_positions m u) (rest_positions m v)
 
 abbrev pub corners_from : ℕ → ℕ → ℕ → Corners
 corners_from u v w = record { first = u; second = v; third = w }

@@ -9,14 +9,14 @@ use Rattle.edit_base.specs.declared.answers.Edit.TheVariants.{Done}
 use Rattle.mesh_base.specs.Mesh.{Mesh, IsSound}
 use Rattle.mesh_base.specs.Sides.{IsClosed}
 use Rattle.mesh_base.specs.Placements.{IsClearMesh}
-use Rattle.edit_base.specs.Scaffold.{Scaffold, motion_of, first_lacking, IsClearBut}
+use Rattle.edit_base.specs.Scaffold.{Scaffold, motion_of, first_failing, IsClearBut}
 use Rattle.edit_base.specs.Clauses.{MovesClear}
 use Rattle.edit_base.specs.Classes.{Linked, class_of}
 
 -- Where no pair lacks what is required, the motion is clear.
-abbrev pub NoneLackingIsClear : (Positions → Bool) → Type 0
-NoneLackingIsClear meets =
-    (s : Scaffold) (depth : ℕ) → IsSound s.mesh → first_lacking meets s depth ≡ None → IsClearBut s.touch s.mesh (motion_of s)
+abbrev pub NoneFailingIsClear : (Positions → Bool) → Type 0
+NoneFailingIsClear meets =
+    (s : Scaffold) (depth : ℕ) → IsSound s.mesh → first_failing meets s depth ≡ None → IsClearBut s.touch s.mesh (motion_of s)
 
 -- an edit, by its answer
 abbrev pub Answer : Type 0

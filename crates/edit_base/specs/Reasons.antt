@@ -10,7 +10,7 @@ use Rattle.edit_base.specs.declared.answers.Why.TheVariants.{Hit}
 use Rattle.edit_base.specs.declared.answers.Change.{Change}
 use Rattle.edit_base.specs.declared.answers.Edit.{Edit}
 use Rattle.edit_base.specs.declared.answers.Edit.TheVariants.{Done, No}
-use Rattle.edit_base.specs.Scaffold.{Scaffold, first_lacking}
+use Rattle.edit_base.specs.Scaffold.{Scaffold, first_failing}
 
 -- the reason, where it holds
 abbrev pub reason_if : Bool → Why → Option Why
@@ -31,4 +31,4 @@ is_full scaffold result = is_over_limits scaffold || is_over_limits result
 
 -- the first pair of the scaffold that is not as required
 abbrev pub hit_in : (Positions → Bool) → Scaffold → ℕ → Option Why
-hit_in meets scaffold depth = option_map (λ p. Hit p) (first_lacking meets scaffold depth)
+hit_in meets scaffold depth = option_map (λ p. Hit p) (first_failing meets scaffold depth)

@@ -43,7 +43,7 @@ pub enum Change {
         w: VertexId,
         at: Point,
     },
-    /// The edge is exchanged for that between the third corners of the faces beside it.
+    /// The edge is exchanged for that between the opposite vertices of the faces beside it.
     Flip {
         a: VertexId,
         b: VertexId,

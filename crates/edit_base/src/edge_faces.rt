@@ -2,13 +2,13 @@
 ghost use Rattle.std.specs.Prelude.{◌≡◌, ◌≤◌, ◌&&◌, ℕ, min, max, nat_lt, is_some, IfSome};
 ghost use Rattle.mesh_base.specs.Sides.{runs, IsClosed};
 ghost use Rattle.mesh_base.specs.Pairs.{is_edge, is_crowded};
-ghost use Rattle.edit_base.specs.Edges.{third_corner, corners_at, face_running, edge_of};
+ghost use Rattle.edit_base.specs.Edges.{opposite_vertex, corners_at, face_running, edge_of};
 
 use mesh_base::{Corners, FaceId, Surface, VertexId};
 use std::marker::Model;
 
 /// An edge with the two faces beside it. `a` is its smaller end and `b` its larger; `forth` is the face that runs from
-/// `a` to `b`, with the third corner `c`, and `back` the one that runs from `b` to `a`, with the third corner `d`.
+/// `a` to `b`, with the opposite vertex `c`, and `back` the one that runs from `b` to `a`, with the opposite vertex `d`.
 #[derive(Clone, Copy, Debug, PartialEq, Eq)]
 pub struct EdgeFaces {
     pub a: VertexId,
@@ -44,8 +44,8 @@ pub fn is_crowded<S: Surface>(mesh: &S, u: VertexId, v: VertexId) -> bool
 }
 
 /// The corner that is not one of two, of which the first is `u` and the other follows it.
-fn third_corner(c: Corners, u: VertexId) -> VertexId
-    ensures { (v : ℕ) → result ≡ third_corner c u v }
+fn opposite_vertex(c: Corners, u: VertexId) -> VertexId
+    ensures { (v : ℕ) → result ≡ opposite_vertex c u v }
 {
     if c.first == u {
         c.third
@@ -63,17 +63,17 @@ struct FaceCorner {
     corner: VertexId,
 }
 
-/// The first face that runs from `u` to `v`, with its third corner.
+/// The first face that runs from `u` to `v`, with its opposite vertex.
 fn face_beside<S: Surface>(mesh: &S, u: VertexId, v: VertexId) -> Option<FaceCorner>
     ensures face { IfSome result (λ f. f.face ≡ face_running (S.mesh mesh.now) u v) }
-    ensures corner { IfSome result (λ f. f.corner ≡ third_corner (corners_at (S.mesh mesh.now) (face_running (S.mesh mesh.now) u v)) u v) }
+    ensures corner { IfSome result (λ f. f.corner ≡ opposite_vertex (corners_at (S.mesh mesh.now) (face_running (S.mesh mesh.now) u v)) u v) }
     ensures some { is_some result ≡ nat_lt 0 (runs (S.mesh mesh.now) u v) }
 {
     let face = mesh.run_face(u, v, 0)?;
     let corners = mesh.corners(face)?;
     Some(FaceCorner {
         face,
-        corner: third_corner(Corners::of(corners), u),
+        corner: opposite_vertex(Corners::of(corners), u),
     })
 }
 

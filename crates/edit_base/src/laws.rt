@@ -8,12 +8,12 @@ ghost use Rattle.mesh_base.specs.Sides.{IsClosed};
 ghost use Rattle.mesh_base.specs.Pairs.{is_edge};
 ghost use Rattle.edit_base.specs.Edges.{edge_of};
 ghost use Rattle.edit_base.specs.Beside.{IsBeside};
-ghost use Rattle.edit_base.specs.Laws.{NoneLackingIsClear, ClassesAreLinked};
+ghost use Rattle.edit_base.specs.Laws.{NoneFailingIsClear, ClassesAreLinked};
 
 /// Where no pair of a scaffold lacks what is required of it, by an exact test of meeting, no pair meets at any fraction of
 /// the motion, but at the start, or the end, where two may touch there.
-pub fn no_lacking_pair_is_a_clear_motion()
-    ensures { (meets : Positions → Bool) → IsExact meets → NoneLackingIsClear meets }
+pub fn no_failing_pair_is_a_clear_motion()
+    ensures { (meets : Positions → Bool) → IsExact meets → NoneFailingIsClear meets }
 {}
 
 /// Beside an edge of a sound and closed mesh, named by its two ends in any order, are two faces, one each way.

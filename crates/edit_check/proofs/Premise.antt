@@ -11,7 +11,7 @@ use Rattle.mesh_base.specs.Mesh.{Mesh, IsSound, IsLiveVertex, HasCorners}
 use Rattle.mesh_base.specs.Sides.{follows, IsEdge}
 use Rattle.mesh_base.specs.Pairs.{Pair, IsPair}
 use Rattle.mesh_base.specs.Changes.{with_face, without_face, with_vertex}
-use Rattle.mesh_base.specs.Placements.{own_points, own_points_doubled, positions, IsClearMesh}
+use Rattle.mesh_base.specs.Placements.{rest_positions, rest_positions_doubled, positions, IsClearMesh}
 use Rattle.mesh_base.proofs.Finite.{got_after_insert, got_after_remove}
 use Rattle.mesh_base.proofs.Listed.{edge_live}
 use Rattle.edit_base.specs.declared.Move.{Move}
@@ -24,7 +24,7 @@ use Rattle.edit_check.specs.Agreeing.{AgreesWhereOld}
 
 -- a clear mesh is
 pub clear_mesh_is : (m : Mesh) (moves : List Move) (fresh_from : ℕ) → IsClearMesh m → IsClearWhereUntouched m moves fresh_from
-clear_mesh_is m moves fresh_from clear p untouched meet = clear p untouched.is_pair (Meets-unmultiple 2 (positions (own_points m) p) (omega arith) meet)
+clear_mesh_is m moves fresh_from clear p untouched meet = clear p untouched.is_pair (Meets-unmultiple 2 (positions (rest_positions m) p) (omega arith) meet)
 
 -- where all faces are new, each mesh is
 pub all_new_is : (m : Mesh) (moves : List Move) → IsSound m → IsClearWhereUntouched m moves 1
@@ -50,10 +50,10 @@ module _ (old new : Mesh) (moves : List Move) (sound : IsSound old) (agrees : Ag
   was_pair : IsPair old p
   was_pair = record { ordered = untouched.is_pair.ordered; edge = was_edge; face = was_face; not_first = untouched.is_pair.not_first; not_second = untouched.is_pair.not_second }
 
-  stood : (v : ℕ) → IsLiveVertex old v → move_of moves v ≡ None → own_points_doubled new v ≡ own_points_doubled old v
+  stood : (v : ℕ) → IsLiveVertex old v → move_of moves v ≡ None → rest_positions_doubled new v ≡ rest_positions_doubled old v
   stood v live rests = ap (times 2) (agrees.points v (sound.is_mesh.vertex_ids v live).1 rests)
 
-  stood_all : positions (own_points_doubled new) p ≡ positions (own_points_doubled old) p
+  stood_all : positions (rest_positions_doubled new) p ≡ positions (rest_positions_doubled old) p
   stood_all =
       let ends = edge_live old p.name.a p.name.b sound was_edge in
       let corners = sound.is_mesh.live_corners p.name.face p.corners was_face in
@@ -62,13 +62,13 @@ module _ (old new : Mesh) (moves : List Move) (sound : IsSound old) (agrees : Ag
         b = stood p.name.b ends.1 (untouched.still 1 0 (omega arith)) i;
         c = stood p.corners.first corners.0 (untouched.still 2 0 (omega arith)) i;
         d = stood p.corners.second corners.1 (untouched.still 3 0 (omega arith)) i;
-        e = stood p.corners.third corners.2 (untouched.still 4 0 (omega arith)) i;
+        e = stood p.corners.opposite vertices.2 (untouched.still 4 0 (omega arith)) i;
       }
 
 pub agreeing_is : (old new : Mesh) (moves : List Move) → IsSound old → IsClearMesh old → AgreesWhereOld old new moves → IsClearWhereUntouched new moves old.next_face
 agreeing_is old new moves sound clear agrees p untouched meet =
     clear p (was_pair old new moves sound agrees p untouched)
-    (Meets-unmultiple 2 (positions (own_points old) p) (omega arith) (subst MeetAt (stood_all old new moves sound agrees p untouched) meet))
+    (Meets-unmultiple 2 (positions (rest_positions old) p) (omega arith) (subst MeetAt (stood_all old new moves sound agrees p untouched) meet))
 
 -- ---- after faces are dropped and made
 pub old_of_made : (m : Mesh) (cs : List Corners) (f : ℕ) (c : Corners) → HasCorners (with_faces m cs) f c → f < m.next_face → HasCorners m f c
@@ -86,5 +86,5 @@ old_of_dropped m (g ∷ gs) f c there = (got_after_remove m.faces g f c (old_of_
 pub faces_changed : (m : Mesh) (fs : List ℕ) (cs : List Corners) (moves : List Move) → AgreesWhereOld m (with_faces (without_faces m fs) cs) moves
 faces_changed m fs cs moves = record {
   faces = λ f c there below. old_of_dropped m fs f c (old_of_made (without_faces m fs) cs f c there (subst (λ n. f < n) (sym (next_face-without_faces m fs)) below));
-  points = λ v below rests. ap (λ ps. own_points (record m { points = ps }) v) (points-with_faces (without_faces m fs) cs ∙ points-without_faces m fs);
+  points = λ v below rests. ap (λ ps. rest_positions (record m { points = ps }) v) (points-with_faces (without_faces m fs) cs ∙ points-without_faces m fs);
 }

@@ -11,11 +11,11 @@ use Rattle.grid_base.proofs.Reflected.{passes_of, of_passes}
 use Rattle.grid_decided.specs.Decided.{meets_exactly, meets_exactly-is_exact}
 use Rattle.mesh_base.specs.Mesh.{Mesh}
 use Rattle.mesh_base.specs.Pairs.{Pair, pairs}
-use Rattle.mesh_base.specs.Placements.{own_points, own_points_doubled, positions}
+use Rattle.mesh_base.specs.Placements.{rest_positions, rest_positions_doubled, positions}
 use Rattle.mesh_base.specs.Failing.{first_meeting}
 use Rattle.mesh_base.proofs.Tests.{both_ways}
 use Rattle.edit_base.specs.declared.Touch.TheVariants.{Never}
-use Rattle.edit_base.specs.Scaffold.{is_as_required, first_lacking}
+use Rattle.edit_base.specs.Scaffold.{is_as_required, first_failing}
 use Rattle.edit_check.specs.Checking.{scaffold_by}
 use Rattle.pair_scan.proofs.Lists.{find-alike}
 
@@ -45,12 +45,12 @@ not_not : (b : Bool) → not (not b) ≡ b
 not_not true = refl
 not_not false = refl
 
-lacks : (m : Mesh) (depth : ℕ) (p : Pair) → not (is_as_required meets_exactly (scaffold_by m [] Never []) depth p) ≡ meets_exactly (positions (own_points m) p)
+lacks : (m : Mesh) (depth : ℕ) (p : Pair) → not (is_as_required meets_exactly (scaffold_by m [] Never []) depth p) ≡ meets_exactly (positions (rest_positions m) p)
 lacks m depth p =
-    ap not (stays depth (positions (own_points_doubled m) p))
-    ∙ not_not (meets_exactly (positions (own_points_doubled m) p))
-    ∙ doubled (positions (own_points m) p)
+    ap not (stays depth (positions (rest_positions_doubled m) p))
+    ∙ not_not (meets_exactly (positions (rest_positions_doubled m) p))
+    ∙ doubled (positions (rest_positions m) p)
 
-pub first_met : (m : Mesh) (depth : ℕ) → first_lacking meets_exactly (scaffold_by m [] Never []) depth ≡ first_meeting meets_exactly m (own_points m)
+pub first_met : (m : Mesh) (depth : ℕ) → first_failing meets_exactly (scaffold_by m [] Never []) depth ≡ first_meeting meets_exactly m (rest_positions m)
 first_met m depth = ap (option_map (λ p. p.name))
-    (find-alike (λ p. not (is_as_required meets_exactly (scaffold_by m [] Never []) depth p)) (λ p. meets_exactly (positions (own_points m) p)) (lacks m depth) (pairs m))
+    (find-alike (λ p. not (is_as_required meets_exactly (scaffold_by m [] Never []) depth p)) (λ p. meets_exactly (positions (rest_positions m) p)) (lacks m depth) (pairs m))

@@ -15,7 +15,7 @@ use Rattle.mesh_base.proofs.Listed.{running_face, at_key, all_map, or_either}
 use Rattle.mesh_base.proofs.ListedPairs.{all_mapped, all_weaker}
 use Rattle.edit_base.specs.declared.Move.{Move}
 use Rattle.edit_base.specs.declared.Touch.{Touch}
-use Rattle.edit_base.specs.Scaffold.{Scaffold, move_of, motion_by, is_as_required, holds_two}
+use Rattle.edit_base.specs.Scaffold.{Scaffold, move_of, motion_by, is_as_required, joins_contacts}
 use Rattle.pair_paths.specs.declared.MovingEdge.{MovingEdge}
 use Rattle.pair_paths.specs.declared.MovingFace.{MovingFace}
 use Rattle.pair_paths.specs.Moving.{moving_edge, moving_face, moving_faces}
@@ -171,7 +171,7 @@ module _ (m : Mesh) (moves : List Move) (touch : Touch) (together : List ℕ) (d
     }
 
     -- none of those that may touch is a corner
-    apart_two : (f : ℕ × Corners) → list_any (λ v. has_corner f.1 v) together ≡ false → holds_two together (pair f) ≡ false
+    apart_two : (f : ℕ × Corners) → list_any (λ v. has_corner f.1 v) together ≡ false → joins_contacts together (pair f) ≡ false
     apart_two f h = ap (λ t. list_any (λ v. (a == v) || (b == v)) together && t) h ∙ no_and (list_any (λ v. (a == v) || (b == v)) together)
       where
         no_and : (t : Bool) → (t && false) ≡ false

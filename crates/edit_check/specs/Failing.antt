@@ -10,7 +10,7 @@ use Rattle.motion_test.specs.Pairs.{positions_of}
 use Rattle.mesh_base.specs.declared.ids.PairName.{PairName}
 use Rattle.mesh_base.specs.Sides.{has_corner}
 use Rattle.edit_base.specs.declared.Touch.{Touch}
-use Rattle.edit_base.specs.Scaffold.{holds_two, touches_well}
+use Rattle.edit_base.specs.Scaffold.{joins_contacts, meets_contact_rule}
 use Rattle.pair_paths.specs.declared.MovingEdge.{MovingEdge}
 use Rattle.pair_paths.specs.declared.MovingFace.{MovingFace}
 use Rattle.pair_paths.specs.Pairing.{have_a_vertex_in_common, name_with, pair_with, starts, ends}
@@ -21,12 +21,12 @@ pair_passes depth p = passes meets_exactly depth (positions_of p.start) (positio
 
 -- it does what is required of a pair of which each member holds a vertex that may touch
 abbrev pub pair_touches_well : Touch → ℕ → MotionPair → Bool
-pair_touches_well touch depth p = touches_well meets_exactly touch depth (positions_of p.start) (positions_of p.end)
+pair_touches_well touch depth p = meets_contact_rule meets_exactly touch depth (positions_of p.start) (positions_of p.end)
 
 -- they do what is required of them, where they are a pair
 abbrev pub do_as_required : Touch → List ℕ → ℕ → MovingEdge → MovingFace → Bool
 do_as_required touch together depth e f =
-    if holds_two together (pair_with e f) then touches_well meets_exactly touch depth (starts e f) (ends e f) else passes meets_exactly depth (starts e f) (ends e f)
+    if joins_contacts together (pair_with e f) then meets_contact_rule meets_exactly touch depth (starts e f) (ends e f) else passes meets_exactly depth (starts e f) (ends e f)
 
 -- they are a pair, and do not do what is required of them
 abbrev pub fails : Touch → List ℕ → ℕ → MovingEdge → MovingFace → Bool

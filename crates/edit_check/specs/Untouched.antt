@@ -9,7 +9,7 @@ use Rattle.mesh_base.specs.declared.ids.Corners.{Corners}
 use Rattle.mesh_base.specs.Mesh.{Mesh, HasCorners}
 use Rattle.mesh_base.specs.Sides.{follows}
 use Rattle.mesh_base.specs.Pairs.{Pair, IsPair, five_ids}
-use Rattle.mesh_base.specs.Placements.{own_points_doubled, positions}
+use Rattle.mesh_base.specs.Placements.{rest_positions_doubled, positions}
 use Rattle.edit_base.specs.declared.Move.{Move}
 use Rattle.edit_base.specs.Scaffold.{move_of}
 
@@ -30,7 +30,7 @@ pub record IsUntouched (m : Mesh) (moves : List Move) (fresh_from : ℕ) (p : Pa
 
 -- no untouched pair meets where its vertices stand, in half units
 abbrev pub IsClearWhereUntouched : Mesh → List Move → ℕ → Type 0
-IsClearWhereUntouched m moves fresh_from = (p : Pair) → IsUntouched m moves fresh_from p → ¬ (MeetAt (positions (own_points_doubled m) p))
+IsClearWhereUntouched m moves fresh_from = (p : Pair) → IsUntouched m moves fresh_from p → ¬ (MeetAt (positions (rest_positions_doubled m) p))
 
 -- the move begins and ends within the greatest size of a position in half units
 pub record MoveFits (move : Move) : Type 0 where

@@ -4,7 +4,7 @@ ghost use Rattle.std.specs.List.{list_any};
 ghost use Rattle.grid_base.specs.Meeting.{AreWithin};
 ghost use Rattle.grid_base.specs.SeparationTests.{opens, closes};
 ghost use Rattle.motion_test.specs.Pairs.{positions_of};
-ghost use Rattle.edit_base.specs.Scaffold.{holds_two};
+ghost use Rattle.edit_base.specs.Scaffold.{joins_contacts};
 ghost use Rattle.pair_paths.specs.Pairing.{pair_with};
 ghost use Rattle.edit_check.specs.Failing.{pair_passes, pair_touches_well, do_as_required, fails, first_failing_among, is_side_of_some};
 
@@ -46,7 +46,7 @@ fn pair_closes(p: &Pair, depth: u8) -> bool
 }
 
 /// Whether a pair of which each member has a vertex named as together does what is required of it.
-fn touches_well(touch: Touch, p: &Pair, depth: u8) -> bool
+fn meets_contact_rule(touch: Touch, p: &Pair, depth: u8) -> bool
     requires depth_fits { depth ≤ DEPTH_MAX }
     requires start_fits { AreWithin HALF_MAX (positions_of p.now.start) }
     requires end_fits { AreWithin HALF_MAX (positions_of p.now.end) }
@@ -72,8 +72,8 @@ fn has_an_end(together: &[VertexId], a: VertexId, b: VertexId) -> bool
 }
 
 /// Whether the edge has one of the vertices and the face has another.
-fn holds_two(together: &[VertexId], e: &MovingEdge, f: &MovingFace) -> bool
-    ensures { result ≡ holds_two together.now (pair_with e.now f.now) }
+fn joins_contacts(together: &[VertexId], e: &MovingEdge, f: &MovingFace) -> bool
+    ensures { result ≡ joins_contacts together.now (pair_with e.now f.now) }
 {
     has_an_end(together, e.a, e.b) && has_a_corner(together, f.corners)
 }
@@ -90,8 +90,8 @@ fn do_as_required(
     ensures { result ≡ do_as_required touch together.now depth e.now f.now }
 {
     let p = pair_of(e, f);
-    if holds_two(together, e, f) {
-        touches_well(touch, &p, depth)
+    if joins_contacts(together, e, f) {
+        meets_contact_rule(touch, &p, depth)
     } else {
         pair_passes(&p, depth)
     }

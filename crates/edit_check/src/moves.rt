@@ -3,7 +3,7 @@ ghost use Rattle.std.specs.Prelude.{◌≡◌, is_some};
 ghost use Rattle.std.specs.List.{All};
 ghost use Rattle.grid_base.specs.declared.TheConstants.{HALF_MAX};
 ghost use Rattle.grid_base.specs.Triples.{IsWithin};
-ghost use Rattle.mesh_base.specs.Placements.{own_points_doubled};
+ghost use Rattle.mesh_base.specs.Placements.{rest_positions_doubled};
 ghost use Rattle.edit_base.specs.Scaffold.{move_of, motion_by};
 ghost use Rattle.edit_check.specs.Untouched.{MoveFits};
 ghost use Rattle.edit_check.specs.Touched.{is_moved};
@@ -43,7 +43,7 @@ impl<'a, S: Surface> Paths for Moved<'a, S> {
 
 /// Where a vertex stands, in half units; the origin, where it is not live.
 fn resting<S: Surface>(mesh: &S, v: VertexId) -> Wide
-    ensures value { result ≡ own_points_doubled (S.mesh mesh.now) v }
+    ensures value { result ≡ rest_positions_doubled (S.mesh mesh.now) v }
     ensures within { IsWithin HALF_MAX result }
 {
     point_of(mesh, v).doubled()

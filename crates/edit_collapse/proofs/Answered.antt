@@ -9,7 +9,7 @@ use Rattle.mesh_base.specs.declared.ids.PairName.{PairName}
 use Rattle.mesh_base.specs.Mesh.{Mesh, IsSound}
 use Rattle.mesh_base.specs.Sides.{IsClosed}
 use Rattle.mesh_base.specs.Pairs.{is_edge}
-use Rattle.mesh_base.specs.Placements.{own_points_doubled}
+use Rattle.mesh_base.specs.Placements.{rest_positions_doubled}
 use Rattle.edit_base.specs.declared.answers.Why.TheVariants.{NoEdge, Full, Doubled, Hit}
 use Rattle.edit_base.specs.declared.answers.Change.TheVariants.{Collapse}
 use Rattle.edit_base.specs.declared.answers.Edit.{Edit}
@@ -17,7 +17,7 @@ use Rattle.edit_base.specs.declared.answers.Edit.TheVariants.{Done, No}
 use Rattle.edit_base.specs.declared.scaffold.Move.{Move}
 use Rattle.edit_base.specs.declared.scaffold.Touch.TheVariants.{End}
 use Rattle.edit_base.specs.Reasons.{reason_if, first_reason, done_unless, is_full}
-use Rattle.edit_base.specs.Scaffold.{first_lacking}
+use Rattle.edit_base.specs.Scaffold.{first_failing}
 use Rattle.edit_base.specs.Edges.{doubles_a_face}
 use Rattle.edit_collapse.specs.Collapse.{collapse_mesh, collapse_point, collapse_scaffold, joined_faces}
 use Rattle.edit_collapse.specs.Answer.{collapse_answer}
@@ -46,7 +46,7 @@ module _ (meets : Positions → Bool) (m : Mesh) (a b depth : ℕ) where
   full = is_full m (collapse_mesh m a b (collapse_point m a b))
 
   abbrev found : Option PairName
-  found = first_lacking meets (collapse_scaffold m a b (collapse_point m a b)) depth
+  found = first_failing meets (collapse_scaffold m a b (collapse_point m a b)) depth
 
   pub no_edge_is_refused : is_edge m a b ≡ false → No NoEdge ≡ answer_of meets m a b depth
   no_edge_is_refused e = sym (λ i. answer_by (e i) doubled full found m a b)
@@ -80,9 +80,9 @@ same_exchanged meets m u v depth h =
     sym (λ i. answer_of meets m (low i) (high i) depth)
 
 -- what the check is given is the scaffold
-pub is_scaffold : (m : Mesh) (a b : ℕ) (at : Point) (first second : Move) (end : Triple) → first ≡ record { v = a; start = own_points_doubled m a; end = end } →
-    second ≡ record { v = b; start = own_points_doubled m b; end = end } → end ≡ times 2 (position_of at) →
+pub is_scaffold : (m : Mesh) (a b : ℕ) (at : Point) (first second : Move) (end : Triple) → first ≡ record { v = a; start = rest_positions_doubled m a; end = end } →
+    second ≡ record { v = b; start = rest_positions_doubled m b; end = end } → end ≡ times 2 (position_of at) →
     record { mesh = m; moves = first ∷ second ∷ []; touch = End; together = a ∷ b ∷ [] } ≡ collapse_scaffold m a b at
 is_scaffold m a b at first second end e f g =
     (λ i. record { mesh = m; moves = e i ∷ f i ∷ []; touch = End; together = a ∷ b ∷ [] })
-    ∙ (λ i. record { mesh = m; moves = record { v = a; start = own_points_doubled m a; end = g i } ∷ record { v = b; start = own_points_doubled m b; end = g i } ∷ []; touch = End; together = a ∷ b ∷ [] })
+    ∙ (λ i. record { mesh = m; moves = record { v = a; start = rest_positions_doubled m a; end = g i } ∷ record { v = b; start = rest_positions_doubled m b; end = g i } ∷ []; touch = End; together = a ∷ b ∷ [] })

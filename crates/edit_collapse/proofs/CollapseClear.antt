@@ -12,9 +12,9 @@ use Rattle.mesh_base.specs.declared.ids.Corners.{Corners}
 use Rattle.mesh_base.specs.Mesh.{Mesh, IsSound, IsLiveVertex, HasCorners}
 use Rattle.mesh_base.specs.Sides.{follows, has_corner, runs, IsEdge, IsClosed}
 use Rattle.mesh_base.specs.Pairs.{Pair, IsPair}
-use Rattle.mesh_base.specs.Placements.{own_points, own_points_doubled, position_or_origin, positions, IsClearMesh}
+use Rattle.mesh_base.specs.Placements.{rest_positions, rest_positions_doubled, position_or_origin, positions, IsClearMesh}
 use Rattle.mesh_base.proofs.Listed.{running_face, or_either}
-use Rattle.edit_base.specs.Scaffold.{holds_two}
+use Rattle.edit_base.specs.Scaffold.{joins_contacts}
 use Rattle.edit_base.specs.Edges.{renamed}
 use Rattle.edit_collapse.specs.Collapse.{joined_faces, collapse_mesh}
 use Rattle.edit_acts.proofs.Exchanged.{Meets-exchanged}
@@ -119,16 +119,16 @@ module _ (m : Mesh) (a b : ℕ) (at : Point) (sound : IsSound m) (closed : IsClo
       (either_way (runs result x y) (runs result y x) edge)
 
   -- where the vertices end, in half units: both ends of the edge at the point, and each other one where it was
-  module _ (end : ℕ → Triple) (joined_end : (v : ℕ) → (v ≡ a) ⊎ (v ≡ b) → end v ≡ times 2 (position_of at)) (other_end : (v : ℕ) → v ≢ a → v ≢ b → end v ≡ own_points_doubled m v)
-      (apart_at_end : (p : Pair) → IsPair m p → holds_two (a ∷ b ∷ []) p ≡ false → ¬ (MeetAt (positions end p))) where
+  module _ (end : ℕ → Triple) (joined_end : (v : ℕ) → (v ≡ a) ⊎ (v ≡ b) → end v ≡ times 2 (position_of at)) (other_end : (v : ℕ) → v ≢ a → v ≢ b → end v ≡ rest_positions_doubled m v)
+      (apart_at_end : (p : Pair) → IsPair m p → joins_contacts (a ∷ b ∷ []) p ≡ false → ¬ (MeetAt (positions end p))) where
     -- a vertex ends where the result has the one that it becomes
-    ends_there : (f : ℕ) (c : Corners) (v : ℕ) → HasCorners three f c → has_corner c (moved b a v) ≡ true → end v ≡ times 2 (own_points result (moved b a v))
+    ends_there : (f : ℕ) (c : Corners) (v : ℕ) → HasCorners three f c → has_corner c (moved b a v) ≡ true → end v ≡ times 2 (rest_positions result (moved b a v))
     ends_there f c v there held = ⊎_elim
         (λ e. joined_end v (inr e.0) ∙ sym (ap (λ o. times 2 (position_or_origin o)) (placed_at_a m a b at sound closed apart a_live f c (moved b a v) there held e.1)))
         (λ e. ⊎_elim
         (λ is. joined_end v (inl is.1) ∙ sym (ap (λ o. times 2 (position_or_origin o)) (placed_at_a m a b at sound closed apart a_live f c (moved b a v) there held (e.1 ∙ is.1))))
         (λ not. other_end v not.1 e.0
-        ∙ ap (λ w. own_points_doubled m w) (sym e.1)
+        ∙ ap (λ w. rest_positions_doubled m w) (sym e.1)
         ∙ sym (ap (λ o. times 2 (position_or_origin o)) (stays_placed m a b at sound closed apart a_live f c (moved b a v) there held (λ h. not.1 (sym e.1 ∙ h)))))
         (tested v a))
         (moved_either b a v)
@@ -139,7 +139,7 @@ module _ (m : Mesh) (a b : ℕ) (at : Point) (sound : IsSound m) (closed : IsClo
     goes_to_a v (inr e) = moved_goes b a v e
 
     not_two_held : (x y f : ℕ) (k : Corners) → has_corner (renamed b a k) (moved b a x) ≡ false → has_corner (renamed b a k) (moved b a y) ≡ false →
-        holds_two (a ∷ b ∷ []) (record { name = record { a = x; b = y; face = f }; corners = k }) ≡ false
+        joins_contacts (a ∷ b ∷ []) (record { name = record { a = x; b = y; face = f }; corners = k }) ≡ false
     not_two_held x y f k not_x not_y = and_never _ _ (λ t. ⊎_elim
         (λ e. none (⊎_elim (λ g. off x not_x (inl (eqb-true x a g))) (λ g. off y not_y (inl (eqb-true y a g))) (or_either (x == a) (y == a) e)))
         (λ es. none (⊎_elim (λ g. off x not_x (inr (eqb-true x b g))) (λ g. off y not_y (inr (eqb-true y b g))) (or_either (x == b) (y == b) (or_nothing _ es))))
@@ -196,13 +196,13 @@ module _ (m : Mesh) (a b : ℕ) (at : Point) (sound : IsSound m) (closed : IsClo
         let same : p.corners ≡ renamed b a k = is_renamed m a b sound apart three stage p.name.face p.corners there in
         let not_x : has_corner (renamed b a k) (moved b a e.from) ≡ false = subst (λ c. has_corner c (moved b a e.from) ≡ false) same (subst (λ v. has_corner p.corners v ≡ false) (sym e.goes_from) is_pair.not_first) in
         let not_y : has_corner (renamed b a k) (moved b a e.to) ≡ false = subst (λ c. has_corner c (moved b a e.to) ≡ false) same (subst (λ v. has_corner p.corners v ≡ false) (sym e.goes_to) is_pair.not_second) in
-        let at_x : end e.from ≡ times 2 (own_points result p.name.a) = ends_there e.face e.corners e.from e.there (subst (λ v. has_corner e.corners v ≡ true) (sym e.goes_from) e.holds_x) ∙ ap (λ v. times 2 (own_points result v)) e.goes_from in
-        let at_y : end e.to ≡ times 2 (own_points result p.name.b) = ends_there e.face e.corners e.to e.there (subst (λ v. has_corner e.corners v ≡ true) (sym e.goes_to) e.holds_y) ∙ ap (λ v. times 2 (own_points result v)) e.goes_to in
+        let at_x : end e.from ≡ times 2 (rest_positions result p.name.a) = ends_there e.face e.corners e.from e.there (subst (λ v. has_corner e.corners v ≡ true) (sym e.goes_from) e.holds_x) ∙ ap (λ v. times 2 (rest_positions result v)) e.goes_from in
+        let at_y : end e.to ≡ times 2 (rest_positions result p.name.b) = ends_there e.face e.corners e.to e.there (subst (λ v. has_corner e.corners v ≡ true) (sym e.goes_to) e.holds_y) ∙ ap (λ v. times 2 (rest_positions result v)) e.goes_to in
         let here : HasCorners three p.name.face (renamed b a k) = subst (HasCorners three p.name.face) same there in
-        let at_first = ends_there p.name.face (renamed b a k) k.first here (first_held (renamed b a k) (moved b a k.first) refl) ∙ ap (λ (c : Corners). times 2 (own_points result c.first)) (sym same) in
-        let at_second = ends_there p.name.face (renamed b a k) k.second here (second_held (renamed b a k) (moved b a k.second) refl) ∙ ap (λ (c : Corners). times 2 (own_points result c.second)) (sym same) in
-        let at_third = ends_there p.name.face (renamed b a k) k.third here (third_held (renamed b a k) (moved b a k.third) refl) ∙ ap (λ (c : Corners). times 2 (own_points result c.third)) (sym same) in
-        let twice = Meets-multiple 2 (positions (own_points result) p) meet in
+        let at_first = ends_there p.name.face (renamed b a k) k.first here (first_held (renamed b a k) (moved b a k.first) refl) ∙ ap (λ (c : Corners). times 2 (rest_positions result c.first)) (sym same) in
+        let at_second = ends_there p.name.face (renamed b a k) k.second here (second_held (renamed b a k) (moved b a k.second) refl) ∙ ap (λ (c : Corners). times 2 (rest_positions result c.second)) (sym same) in
+        let at_third = ends_there p.name.face (renamed b a k) k.third here (third_held (renamed b a k) (moved b a k.third) refl) ∙ ap (λ (c : Corners). times 2 (rest_positions result c.third)) (sym same) in
+        let twice = Meets-multiple 2 (positions (rest_positions result) p) meet in
         let met : Meets (end e.from) (end e.to) (end k.first) (end k.second) (end k.third) =
         subst MeetAt (sym (λ i. record { a = at_x i; b = at_y i; c = at_first i; d = at_second i; e = at_third i })) twice in
         let two : e.from ≢ e.to = λ h. less_apart p.name.a p.name.b is_pair.ordered (sym e.goes_from ∙ ap (moved b a) h ∙ e.goes_to) in

@@ -13,7 +13,7 @@ use Rattle.grid_base.proofs.Reflected.{passes_of}
 use Rattle.mesh_base.specs.Mesh.{Mesh, IsSound}
 use Rattle.mesh_base.specs.Sides.{IsClosed}
 use Rattle.mesh_base.specs.Pairs.{Pair, IsPair, is_edge}
-use Rattle.mesh_base.specs.Placements.{own_points_doubled, positions, IsClearMesh}
+use Rattle.mesh_base.specs.Placements.{rest_positions_doubled, positions, IsClearMesh}
 use Rattle.mesh_base.specs.Limits.{is_over_limits}
 use Rattle.edit_base.specs.declared.answers.Why.TheVariants.{NoEdge, Full, Doubled, Hit}
 use Rattle.edit_base.specs.declared.answers.Change.{Change}
@@ -23,7 +23,7 @@ use Rattle.edit_base.specs.declared.scaffold.Move.{Move}
 use Rattle.edit_base.specs.declared.scaffold.Touch.TheVariants.{End}
 use Rattle.edit_base.specs.Beside.{IsBeside}
 use Rattle.edit_base.specs.Reasons.{reason_if, hit_in, is_full}
-use Rattle.edit_base.specs.Scaffold.{motion_of, holds_two, touches_well, first_lacking}
+use Rattle.edit_base.specs.Scaffold.{motion_of, joins_contacts, meets_contact_rule, first_failing}
 use Rattle.edit_base.specs.Edges.{edge_of, doubles_a_face}
 use Rattle.edit_collapse.specs.Collapse.{collapse_mesh, collapse_point, collapse_scaffold, joined_faces}
 use Rattle.edit_collapse.specs.Done.{collapse_result}
@@ -40,9 +40,9 @@ module _ (m : Mesh) (a b : ℕ) (at : Point) where
   abbrev moved_end : Bool → Bool → ℕ → Triple
   moved_end is_a is_b v =
       let end = times 2 (position_of at) in
-      let first : Move = record { v = a; start = own_points_doubled m a; end = end } in
-      let second : Move = record { v = b; start = own_points_doubled m b; end = end } in
-      unwrap_or (option_map (λ (move : Move). move.end) (cond is_a (Some first) (cond is_b (Some second) None))) (own_points_doubled m v)
+      let first : Move = record { v = a; start = rest_positions_doubled m a; end = end } in
+      let second : Move = record { v = b; start = rest_positions_doubled m b; end = end } in
+      unwrap_or (option_map (λ (move : Move). move.end) (cond is_a (Some first) (cond is_b (Some second) None))) (rest_positions_doubled m v)
 
   abbrev end : ℕ → Triple
   end v = (motion_of (collapse_scaffold m a b at)).end v
@@ -64,18 +64,18 @@ module _ (m : Mesh) (a b : ℕ) (at : Point) where
       either true = refl
       either false = refl
 
-  other_end : (v : ℕ) → v ≢ a → v ≢ b → end v ≡ own_points_doubled m v
+  other_end : (v : ℕ) → v ≢ a → v ≢ b → end v ≡ rest_positions_doubled m v
   other_end v not_a not_b = λ i. moved_end (other_test v a not_a i) (other_test v b not_b i) v
 
   -- a pair that does not hold both ends had to pass, and so does not meet at the end
-  apart_at_end : (meets : Positions → Bool) → IsExact meets → (depth : ℕ) → IsSound m → first_lacking meets (collapse_scaffold m a b at) depth ≡ None →
-      (p : Pair) → IsPair m p → holds_two (a ∷ b ∷ []) p ≡ false → ¬ (MeetAt (positions end p))
+  apart_at_end : (meets : Positions → Bool) → IsExact meets → (depth : ℕ) → IsSound m → first_failing meets (collapse_scaffold m a b at) depth ≡ None →
+      (p : Pair) → IsPair m p → joins_contacts (a ∷ b ∷ []) p ≡ false → ¬ (MeetAt (positions end p))
   apart_at_end meets exact depth sound none p is_pair off =
       let s = collapse_scaffold m a b at in
       let start = positions (motion_of s).start p in
       let last = positions (motion_of s).end p in
       let required = as_required meets s depth sound none p is_pair in
-      let passed : passes meets depth start last ≡ true = sym (ap (λ t. if t then touches_well meets End depth start last else passes meets depth start last) off) ∙ required in
+      let passed : passes meets depth start last ≡ true = sym (ap (λ t. if t then meets_contact_rule meets End depth start last else passes meets depth start last) off) ∙ required in
       NeverMeet-at_end start last (Passes-never_meet depth start last (passes_of meets exact depth start last passed))
 
 -- ---- a collapse to a point
@@ -89,7 +89,7 @@ module _ (m : Mesh) (u v : ℕ) (at : Point) (sound : IsSound m) (closed : IsClo
   pub to_point_is_sound : doubles_a_face (joined_faces m (min u v) (max u v)) ≡ false → is_over_limits (collapse_mesh m (min u v) (max u v) at) ≡ false → IsSound (collapse_mesh m (min u v) (max u v) at)
   to_point_is_sound undoubled fits = collapse_is_sound m (min u v) (max u v) at sound closed beside.a_b beside.a_live undoubled fits
 
-  pub to_point_is_clear : (meets : Positions → Bool) → IsExact meets → (depth : ℕ) → first_lacking meets (collapse_scaffold m (min u v) (max u v) at) depth ≡ None → IsClearMesh (collapse_mesh m (min u v) (max u v) at)
+  pub to_point_is_clear : (meets : Positions → Bool) → IsExact meets → (depth : ℕ) → first_failing meets (collapse_scaffold m (min u v) (max u v) at) depth ≡ None → IsClearMesh (collapse_mesh m (min u v) (max u v) at)
   to_point_is_clear meets exact depth none =
       let a = min u v in
       let b = max u v in
@@ -101,7 +101,7 @@ module _ (meets : Positions → Bool) (u v depth : ℕ) (m : Mesh) (change : Cha
     pub edge : is_edge m (min u v) (max u v) ≡ true
     pub undoubled : doubles_a_face (joined_faces m (min u v) (max u v)) ≡ false
     pub fits : is_over_limits (collapse_mesh m (min u v) (max u v) (collapse_point m (min u v) (max u v))) ≡ false
-    pub unhit : first_lacking meets (collapse_scaffold m (min u v) (max u v) (collapse_point m (min u v) (max u v))) depth ≡ None
+    pub unhit : first_failing meets (collapse_scaffold m (min u v) (max u v) (collapse_point m (min u v) (max u v))) depth ≡ None
     pub result : Collapse (min u v) (max u v) (collapse_point m (min u v) (max u v)) ≡ change
 
   facts : Facts
@@ -122,7 +122,7 @@ module _ (meets : Positions → Bool) (u v depth : ℕ) (m : Mesh) (change : Cha
         edge = stands (is_edge m a b) (does_not_hold (not (is_edge m a b)) NoEdge three.0);
         undoubled = does_not_hold (doubles_a_face (joined_faces m a b)) Doubled two.0;
         fits = second_false (is_over_limits scaffold.mesh) (is_over_limits result) (does_not_hold (is_full scaffold.mesh result) Full one.0);
-        unhit = no_name (λ p. Hit p) (first_lacking meets scaffold depth) last.0;
+        unhit = no_name (λ p. Hit p) (first_failing meets scaffold depth) last.0;
         result = four.1;
       }
 

@@ -12,7 +12,7 @@ use Rattle.edit_base.specs.declared.scaffold.Touch.TheVariants.{End}
 use Rattle.mesh_base.specs.Mesh.{Mesh, equal_up_to_rotation}
 use Rattle.mesh_base.specs.Sides.{has_corner, faces_where, faces_at}
 use Rattle.mesh_base.specs.Changes.{without_vertex, with_point}
-use Rattle.mesh_base.specs.Placements.{own_points_doubled, point_of}
+use Rattle.mesh_base.specs.Placements.{rest_positions_doubled, point_of}
 use Rattle.edit_base.specs.Edges.{floor_mid, corners_from, without_faces, with_all_renamed}
 use Rattle.edit_base.specs.Scaffold.{Scaffold}
 
@@ -85,7 +85,7 @@ collapse_scaffold m a b at =
     let end = times 2 (position_of at) in
     record {
       mesh = m;
-      moves = record { v = a; start = own_points_doubled m a; end = end } ∷ record { v = b; start = own_points_doubled m b; end = end } ∷ [];
+      moves = record { v = a; start = rest_positions_doubled m a; end = end } ∷ record { v = b; start = rest_positions_doubled m b; end = end } ∷ [];
       touch = End;
       together = a ∷ b ∷ [];
     }

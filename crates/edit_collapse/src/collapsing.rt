@@ -5,18 +5,18 @@ ghost use Rattle.grid_base.specs.Triples.{IsWithin};
 ghost use Rattle.grid_decided.specs.Decided.{meets_exactly};
 ghost use Rattle.mesh_base.specs.Sides.{IsClosed};
 ghost use Rattle.mesh_base.specs.Pairs.{is_edge};
-ghost use Rattle.mesh_base.specs.Placements.{IsClearMesh, own_points_doubled};
+ghost use Rattle.mesh_base.specs.Placements.{IsClearMesh, rest_positions_doubled};
 ghost use Rattle.mesh_base.specs.Kept.{BeginsWith};
 ghost use Rattle.edit_collapse.specs.Collapse.{collapse_mesh, collapse_point, collapse_scaffold};
-ghost use Rattle.edit_base.specs.Scaffold.{first_lacking};
+ghost use Rattle.edit_base.specs.Scaffold.{first_failing};
 ghost use Rattle.edit_collapse.specs.Answer.{collapse_answer};
-ghost use Rattle.edit_base.specs.Clauses.{mesh_left, MovesClearOnDone};
+ghost use Rattle.edit_base.specs.Clauses.{mesh_after_call, MovesClearOnDone};
 ghost use Rattle.edit_collapse.specs.Done.{collapse_result, collapse_tested_on};
 ghost use Rattle.edit_check.specs.Untouched.{MoveFits};
 ghost use Rattle.edit_collapse.specs.Tried.{answer_of, left_at, MayBeTried};
 
 use crate::cancelling::LeftFaces;
-use crate::joining::{is_doubled, is_over, left_at, put_collapse};
+use crate::joining::{is_doubled, is_over, left_at, apply_collapse};
 use edit_base::{Change, Edit, Move, Touch, Why, is_edge};
 use edit_check::check;
 use grid_base::{DEPTH_MAX, NoMemory, Point, Wide, floor_mid};
@@ -33,7 +33,7 @@ fn collapse_point<S: Surface>(mesh: &S, a: VertexId, b: VertexId) -> Point
 /// The move of a vertex from where it stands.
 fn move_to<S: Surface>(mesh: &S, v: VertexId, end: Wide) -> Move
     requires { IsWithin HALF_MAX end }
-    ensures value { result ≡ record { v = v; start = own_points_doubled (S.mesh mesh.now) v; end = end } }
+    ensures value { result ≡ record { v = v; start = rest_positions_doubled (S.mesh mesh.now) v; end = end } }
     ensures fits { MoveFits result }
 {
     Move {
@@ -54,7 +54,7 @@ fn first_hit<S: Surface>(
 ) -> Result<Option<PairName>, NoMemory>
     requires clear { IsClearMesh (S.mesh mesh.now) }
     requires depth { depth ≤ DEPTH_MAX }
-    ensures { IfOk result (λ found. found ≡ first_lacking meets_exactly (collapse_scaffold (S.mesh mesh.now) a b at) depth) }
+    ensures { IfOk result (λ found. found ≡ first_failing meets_exactly (collapse_scaffold (S.mesh mesh.now) a b at) depth) }
 {
     let end = at.doubled();
     let first = move_to(mesh, a, end);
@@ -71,7 +71,7 @@ fn first_hit<S: Surface>(
 }
 
 /// Makes the changes of a collapse, or leaves all as it was where memory is wanting.
-fn put_or_go_back<S: Surface>(
+fn apply_or_roll_back<S: Surface>(
     alloc: Global,
     mesh: &mut S,
     a: VertexId,
@@ -88,7 +88,7 @@ fn put_or_go_back<S: Surface>(
     ensures marks { BeginsWith (S.kept mesh.new) (S.kept mesh.old) }
 {
     let mark = mesh.mark()?;
-    let done = put_collapse(alloc, mesh, a, b, left, at);
+    let done = apply_collapse(alloc, mesh, a, b, left, at);
     if done.is_err() {
         mesh.back_to(mark);
     }
@@ -111,14 +111,14 @@ fn collapse_or_leave<S: Surface>(
     requires tried { MayBeTried (S.mesh mesh.old) a b }
     requires left { left.now ≡ left_at (S.mesh mesh.old) a b }
     ensures answer { IfOk result (λ edit. edit ≡ answer_of meets_exactly (S.mesh mesh.old) a b depth) }
-    ensures mesh { S.mesh mesh.new ≡ mesh_left collapse_result (S.mesh mesh.old) result }
+    ensures mesh { S.mesh mesh.new ≡ mesh_after_call collapse_result (S.mesh mesh.old) result }
     ensures marks { BeginsWith (S.kept mesh.new) (S.kept mesh.old) }
 {
     let at = collapse_point(mesh, a, b);
     match first_hit(alloc, mesh, a, b, at, depth)? {
         Some(p) => Ok(Edit::No(Why::Hit(p))),
         None => {
-            put_or_go_back(alloc, mesh, a, b, left, at)?;
+            apply_or_roll_back(alloc, mesh, a, b, left, at)?;
             Ok(Edit::Done(Change::Collapse { a, b, at }))
         }
     }
@@ -138,7 +138,7 @@ fn collapse_ordered<S: Surface>(
     requires ordered { a ≤ b }
     ensures ordered { a ≤ b }
     ensures answer { IfOk result (λ edit. edit ≡ answer_of meets_exactly (S.mesh mesh.old) a b depth) }
-    ensures mesh { S.mesh mesh.new ≡ mesh_left collapse_result (S.mesh mesh.old) result }
+    ensures mesh { S.mesh mesh.new ≡ mesh_after_call collapse_result (S.mesh mesh.old) result }
     ensures marks { BeginsWith (S.kept mesh.new) (S.kept mesh.old) }
 {
     if !is_edge(mesh, a, b) {
@@ -179,7 +179,7 @@ pub fn collapse<S: Surface>(
     requires clear { IsClearMesh (S.mesh mesh.old) }
     requires depth { depth ≤ DEPTH_MAX }
     ensures answer { IfOk result (λ edit. edit ≡ collapse_answer meets_exactly (S.mesh mesh.old) a b depth) }
-    ensures mesh { S.mesh mesh.new ≡ mesh_left collapse_result (S.mesh mesh.old) result }
+    ensures mesh { S.mesh mesh.new ≡ mesh_after_call collapse_result (S.mesh mesh.old) result }
     // The mesh stays closed and clear.
     ensures closed { IsClosed (S.mesh mesh.new) }
     ensures clear { IsClearMesh (S.mesh mesh.new) }

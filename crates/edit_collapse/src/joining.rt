@@ -245,7 +245,7 @@ fn place_if_left<S: Surface>(mesh: &mut S, v: VertexId, at: Point) -> Result<(),
 }
 
 /// All acts of a collapse, and the point. Where memory is wanting, some of it may be done.
-pub(crate) fn put_collapse<S: Surface>(
+pub(crate) fn apply_collapse<S: Surface>(
     alloc: Global,
     mesh: &mut S,
     a: VertexId,

@@ -11,7 +11,7 @@ ghost use Rattle.mesh_base.specs.Limits.{is_over_limits};
 ghost use Rattle.mesh_base.specs.Placements.{IsClearMesh};
 ghost use Rattle.edit_base.specs.Edges.{doubles_a_face};
 ghost use Rattle.edit_collapse.specs.Collapse.{Cancels, with_cancelled, joined_faces, collapse_mesh, collapse_scaffold};
-ghost use Rattle.edit_base.specs.Scaffold.{first_lacking};
+ghost use Rattle.edit_base.specs.Scaffold.{first_failing};
 ghost use Rattle.edit_collapse.specs.Answer.{collapse_answer};
 ghost use Rattle.edit_base.specs.Laws.{AlwaysMakes, StaysSound, StaysClosed, StaysClear, MotionIsClear};
 ghost use Rattle.edit_collapse.specs.Done.{IsCollapse, collapse_result, collapse_tested_on};
@@ -39,5 +39,5 @@ pub fn collapses_keep_the_mesh()
 pub fn collapses_to_any_point()
     ensures closed { (m : Mesh) (u v : ℕ) (at : Point) → IsSound m → IsClosed m → is_edge m (min u v) (max u v) ≡ true → IsClosed (collapse_mesh m (min u v) (max u v) at) }
     ensures sound { (m : Mesh) (u v : ℕ) (at : Point) → IsSound m → IsClosed m → is_edge m (min u v) (max u v) ≡ true → doubles_a_face (joined_faces m (min u v) (max u v)) ≡ false → is_over_limits (collapse_mesh m (min u v) (max u v) at) ≡ false → IsSound (collapse_mesh m (min u v) (max u v) at) }
-    ensures clear { (meets : Positions → Bool) → IsExact meets → (m : Mesh) (u v : ℕ) (at : Point) (depth : ℕ) → IsSound m → IsClosed m → is_edge m (min u v) (max u v) ≡ true → first_lacking meets (collapse_scaffold m (min u v) (max u v) at) depth ≡ None → IsClearMesh (collapse_mesh m (min u v) (max u v) at) }
+    ensures clear { (meets : Positions → Bool) → IsExact meets → (m : Mesh) (u v : ℕ) (at : Point) (depth : ℕ) → IsSound m → IsClosed m → is_edge m (min u v) (max u v) ≡ true → first_failing meets (collapse_scaffold m (min u v) (max u v) at) depth ≡ None → IsClearMesh (collapse_mesh m (min u v) (max u v) at) }
 {}

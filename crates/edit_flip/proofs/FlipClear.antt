@@ -8,7 +8,7 @@ use Rattle.grid_base.proofs.MeetingLaws.{Meets-multiple}
 use Rattle.mesh_base.specs.declared.ids.Corners.{Corners}
 use Rattle.mesh_base.specs.Mesh.{Mesh, IsSound, IsLiveVertex, HasCorners}
 use Rattle.mesh_base.specs.Sides.{follows, has_corner, runs, IsEdge}
-use Rattle.mesh_base.specs.Placements.{own_points, IsClear, IsClearMesh, IsClearAlong}
+use Rattle.mesh_base.specs.Placements.{rest_positions, IsClear, IsClearMesh, IsClearAlong}
 use Rattle.mesh_base.proofs.Listed.{running_face, edge_live, and_first, and_second, or_either}
 use Rattle.edit_base.specs.Scaffold.{motion_of}
 use Rattle.edit_base.specs.Edges.{Edge, corners_from}
@@ -79,17 +79,17 @@ module _ (m : Mesh) (s : Edge) (sound : IsSound m) (beside : IsBeside m s) where
         (subst MeetAt (sym (λ i. record { a = at_x i; b = at_y i; c = at_a i; d = at_b i; e = at_c i })) meets)
 
     point : ℕ → Triple
-    point v = own_points m v
+    point v = rest_positions m v
 
     middle : Triple
-    middle = plus (own_points m s.c) (own_points m s.d)
+    middle = plus (rest_positions m s.c) (rest_positions m s.d)
 
     apart : (v : ℕ) → v < m.next_vertex → m.next_vertex ≢ v
     apart v h e = omega (arith, e)
 
     -- an old edge against the first new face
     against_one : (x y : ℕ) → x < y → IsEdge (scaffold m s) x y → x < m.next_vertex → y < m.next_vertex → has_corner (one m s) x ≡ false → has_corner (one m s) y ≡ false →
-        Meets (own_points m x) (own_points m y) (own_points m s.a) (own_points m s.d) (own_points m s.c) → ⊥
+        Meets (rest_positions m x) (rest_positions m y) (rest_positions m s.a) (rest_positions m s.d) (rest_positions m s.c) → ⊥
     against_one x y ordered edge bx by not_x not_y meets =
         let nx = no_corner (one m s) x not_x in
         let ny = no_corner (one m s) y not_y in
@@ -100,15 +100,15 @@ module _ (m : Mesh) (s : Edge) (sound : IsSound m) (beside : IsBeside m s) where
         (λ h. never x y (m.next_face + 1 + 1 + 1) (fourth m s) _ _ _ _ _ ordered edge (fourth_there m s)
         (off_corner m.next_vertex s.a s.d x (apart x bx) nx.0 nx.1) (off_corner m.next_vertex s.a s.d y (apart y by) ny.0 ny.1)
         (end_old m s x bx) (end_old m s y by) (end_new m s) (end_old m s s.a beside.a_below) (end_old m s s.d beside.d_below) h)
-        (face_is_two_faces (own_points m x) (own_points m y) (own_points m s.a) (own_points m s.c) (own_points m s.d) meets)
+        (face_is_two_faces (rest_positions m x) (rest_positions m y) (rest_positions m s.a) (rest_positions m s.c) (rest_positions m s.d) meets)
 
     -- and against the second
     against_two : (x y : ℕ) → x < y → IsEdge (scaffold m s) x y → x < m.next_vertex → y < m.next_vertex → has_corner (two m s) x ≡ false → has_corner (two m s) y ≡ false →
-        Meets (own_points m x) (own_points m y) (own_points m s.b) (own_points m s.c) (own_points m s.d) → ⊥
+        Meets (rest_positions m x) (rest_positions m y) (rest_positions m s.b) (rest_positions m s.c) (rest_positions m s.d) → ⊥
     against_two x y ordered edge bx by not_x not_y meets =
         let nx = no_corner (two m s) x not_x in
         let ny = no_corner (two m s) y not_y in
-        let mid = end_new m s ∙ plus_comm (own_points m s.c) (own_points m s.d) in
+        let mid = end_new m s ∙ plus_comm (rest_positions m s.c) (rest_positions m s.d) in
         ⊎_elim
         (λ h. never x y (m.next_face + 1 + 1) (third m s) _ _ _ _ _ ordered edge (third_there m s)
         (off_corner s.b m.next_vertex s.d x nx.0 (apart x bx) nx.2) (off_corner s.b m.next_vertex s.d y ny.0 (apart y by) ny.2)
@@ -116,11 +116,11 @@ module _ (m : Mesh) (s : Edge) (sound : IsSound m) (beside : IsBeside m s) where
         (λ h. never x y (m.next_face + 1) (second m s) _ _ _ _ _ ordered edge (second_there m s)
         (off_corner m.next_vertex s.b s.c x (apart x bx) nx.0 nx.1) (off_corner m.next_vertex s.b s.c y (apart y by) ny.0 ny.1)
         (end_old m s x bx) (end_old m s y by) mid (end_old m s s.b beside.b_below) (end_old m s s.c beside.c_below) h)
-        (face_is_two_faces (own_points m x) (own_points m y) (own_points m s.b) (own_points m s.d) (own_points m s.c) meets)
+        (face_is_two_faces (rest_positions m x) (rest_positions m y) (rest_positions m s.b) (rest_positions m s.d) (rest_positions m s.c) meets)
 
     -- the new edge against an old face
     new_against : (f : ℕ) (k : Corners) → HasCorners (bare m s) f k → has_corner k s.c ≡ false → has_corner k s.d ≡ false →
-        Meets (own_points m s.c) (own_points m s.d) (own_points m k.first) (own_points m k.second) (own_points m k.third) → ⊥
+        Meets (rest_positions m s.c) (rest_positions m s.d) (rest_positions m k.first) (rest_positions m k.second) (rest_positions m k.third) → ⊥
     new_against f k old not_c not_d meets =
         let live = sound.is_mesh.live_corners f k (was m s f k old) in
         let below : (v : ℕ) → IsLiveVertex m v → v < m.next_vertex = λ v h. (sound.is_mesh.vertex_ids v h).1 in
@@ -136,33 +136,33 @@ module _ (m : Mesh) (s : Edge) (sound : IsSound m) (beside : IsBeside m s) where
         (λ h. never s.d m.next_vertex f k _ _ _ _ _ beside.d_below
         (edge_forth (scaffold m s) (m.next_face + 1 + 1 + 1) (fourth m s) s.d m.next_vertex (fourth_there m s) (step_three m.next_vertex s.a s.d)) there not_d not_new
         (end_old m s s.d beside.d_below) (end_new m s) (end_old m s k.first a) (end_old m s k.second b) (end_old m s k.third c) (Meets-exchanged _ _ _ _ _ h))
-        (edge_is_two_edges (own_points m s.c) (own_points m s.d) (own_points m k.first) (own_points m k.second) (own_points m k.third) meets)
+        (edge_is_two_edges (rest_positions m s.c) (rest_positions m s.d) (rest_positions m k.first) (rest_positions m k.second) (rest_positions m k.third) meets)
 
     -- an old edge against an old face
     old_against : (x y f : ℕ) (k : Corners) → x < y → IsEdge (scaffold m s) x y → x < m.next_vertex → y < m.next_vertex → HasCorners (bare m s) f k → has_corner k x ≡ false → has_corner k y ≡ false →
-        Meets (own_points m x) (own_points m y) (own_points m k.first) (own_points m k.second) (own_points m k.third) → ⊥
+        Meets (rest_positions m x) (rest_positions m y) (rest_positions m k.first) (rest_positions m k.second) (rest_positions m k.third) → ⊥
     old_against x y f k ordered edge bx by old not_x not_y meets =
         let live = sound.is_mesh.live_corners f k (was m s f k old) in
         let below : (v : ℕ) → IsLiveVertex m v → v < m.next_vertex = λ v h. (sound.is_mesh.vertex_ids v h).1 in
         never x y f k _ _ _ _ _ ordered edge (old_there m s f k (sound.is_mesh.face_ids f (ap is_some (was m s f k old))).1 old) not_x not_y
         (end_old m s x bx) (end_old m s y by) (end_old m s k.first (below k.first live.0)) (end_old m s k.second (below k.second live.1)) (end_old m s k.third (below k.third live.2))
-        (Meets-multiple 2 (record { a = own_points m x; b = own_points m y; c = own_points m k.first; d = own_points m k.second; e = own_points m k.third }) meets)
+        (Meets-multiple 2 (record { a = rest_positions m x; b = rest_positions m y; c = rest_positions m k.first; d = rest_positions m k.second; e = rest_positions m k.third }) meets)
 
     -- by the kinds of the edge and of the face
     old_edge : (x y f : ℕ) (k : Corners) → x < y → IsEdge (scaffold m s) x y → x < m.next_vertex → y < m.next_vertex → HasCorners (result m s) f k → has_corner k x ≡ false → has_corner k y ≡ false →
-        Meets (own_points m x) (own_points m y) (own_points m k.first) (own_points m k.second) (own_points m k.third) → ⊥
+        Meets (rest_positions m x) (rest_positions m y) (rest_positions m k.first) (rest_positions m k.second) (rest_positions m k.third) → ⊥
     old_edge x y f k ordered edge bx by there not_x not_y meets = ⊎_elim
         (λ e. against_one x y ordered edge bx by (subst (λ c. has_corner c x ≡ false) (sym e) not_x) (subst (λ c. has_corner c y ≡ false) (sym e) not_y)
-        (subst (λ c. Meets (own_points m x) (own_points m y) (own_points m c.first) (own_points m c.second) (own_points m c.third)) (sym e) meets))
+        (subst (λ c. Meets (rest_positions m x) (rest_positions m y) (rest_positions m c.first) (rest_positions m c.second) (rest_positions m c.third)) (sym e) meets))
         (λ others. ⊎_elim
         (λ e. against_two x y ordered edge bx by (subst (λ c. has_corner c x ≡ false) (sym e) not_x) (subst (λ c. has_corner c y ≡ false) (sym e) not_y)
-        (subst (λ c. Meets (own_points m x) (own_points m y) (own_points m c.first) (own_points m c.second) (own_points m c.third)) (sym e) meets))
+        (subst (λ c. Meets (rest_positions m x) (rest_positions m y) (rest_positions m c.first) (rest_positions m c.second) (rest_positions m c.third)) (sym e) meets))
         (λ old. old_against x y f k ordered edge bx by old not_x not_y meets)
         others)
         (faces_of m s f k there)
 
     new_edge : (f : ℕ) (k : Corners) → HasCorners (result m s) f k → has_corner k s.c ≡ false → has_corner k s.d ≡ false →
-        Meets (own_points m s.c) (own_points m s.d) (own_points m k.first) (own_points m k.second) (own_points m k.third) → ⊥
+        Meets (rest_positions m s.c) (rest_positions m s.d) (rest_positions m k.first) (rest_positions m k.second) (rest_positions m k.third) → ⊥
     new_edge f k there not_c not_d meets = ⊎_elim
         (λ e. (no_corner (one m s) s.c (subst (λ c. has_corner c s.c ≡ false) (sym e) not_c)).2 refl)
         (λ others. ⊎_elim
@@ -173,15 +173,15 @@ module _ (m : Mesh) (s : Edge) (sound : IsSound m) (beside : IsBeside m s) where
 
     -- the new edge, by either of its ends first
     third_edge : (x y f : ℕ) (k : Corners) → AreThird s x y → HasCorners (result m s) f k → has_corner k x ≡ false → has_corner k y ≡ false →
-        Meets (own_points m x) (own_points m y) (own_points m k.first) (own_points m k.second) (own_points m k.third) → ⊥
+        Meets (rest_positions m x) (rest_positions m y) (rest_positions m k.first) (rest_positions m k.second) (rest_positions m k.third) → ⊥
     third_edge x y f k ends there not_x not_y meets = ⊎_elim
         (λ e. new_edge f k there (subst (λ v. has_corner k v ≡ false) (sym e.0) not_x) (subst (λ v. has_corner k v ≡ false) (sym e.1) not_y)
-        (subst (λ v. Meets (own_points m v) (own_points m s.d) (own_points m k.first) (own_points m k.second) (own_points m k.third)) (sym e.0)
-        (subst (λ v. Meets (own_points m x) (own_points m v) (own_points m k.first) (own_points m k.second) (own_points m k.third)) (sym e.1) meets)))
+        (subst (λ v. Meets (rest_positions m v) (rest_positions m s.d) (rest_positions m k.first) (rest_positions m k.second) (rest_positions m k.third)) (sym e.0)
+        (subst (λ v. Meets (rest_positions m x) (rest_positions m v) (rest_positions m k.first) (rest_positions m k.second) (rest_positions m k.third)) (sym e.1) meets)))
         (λ e. new_edge f k there (subst (λ v. has_corner k v ≡ false) (sym e.1) not_y) (subst (λ v. has_corner k v ≡ false) (sym e.0) not_x)
         (Meets-exchanged _ _ _ _ _
-        (subst (λ v. Meets (own_points m v) (own_points m s.c) (own_points m k.first) (own_points m k.second) (own_points m k.third)) (sym e.0)
-        (subst (λ v. Meets (own_points m x) (own_points m v) (own_points m k.first) (own_points m k.second) (own_points m k.third)) (sym e.1) meets))))
+        (subst (λ v. Meets (rest_positions m v) (rest_positions m s.c) (rest_positions m k.first) (rest_positions m k.second) (rest_positions m k.third)) (sym e.0)
+        (subst (λ v. Meets (rest_positions m x) (rest_positions m v) (rest_positions m k.first) (rest_positions m k.second) (rest_positions m k.third)) (sym e.1) meets))))
         ends
 
   pub flip_is_clear : IsSound (result m s) → IsClearAlong (scaffold m s) (motion_of (flip_scaffold m s)) → IsClearMesh (result m s)

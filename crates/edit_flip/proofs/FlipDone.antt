@@ -11,7 +11,7 @@ use Rattle.edit_base.specs.declared.answers.Why.TheVariants.{NoEdge, Crowded, Fu
 use Rattle.edit_base.specs.declared.answers.Change.{Change}
 use Rattle.edit_base.specs.declared.answers.Edit.TheVariants.{Done}
 use Rattle.edit_base.specs.Reasons.{reason_if, hit_in, is_full}
-use Rattle.edit_base.specs.Scaffold.{first_lacking, motion_of}
+use Rattle.edit_base.specs.Scaffold.{first_failing, motion_of}
 use Rattle.edit_base.specs.Edges.{edge_of}
 use Rattle.edit_split.specs.Split.{split_point}
 use Rattle.edit_flip.specs.Flip.{flip_mesh, flip_scaffold}
@@ -19,7 +19,7 @@ use Rattle.edit_flip.specs.Done.{flip_result, flip_tested_on, IsFlip}
 use Rattle.edit_flip.specs.Answer.{flip_answer}
 use Rattle.edit_base.specs.Clauses.{MovesClear}
 use Rattle.edit_base.specs.Laws.{StaysSound, StaysClosed, StaysClear, MotionIsClear, AlwaysMakes}
-use Rattle.edit_base.proofs.Clear.{none_lacking_is_clear, no_name}
+use Rattle.edit_base.proofs.Clear.{none_failing_is_clear, no_name}
 use Rattle.edit_base.proofs.ReasonLaws.{done_is, none_first, does_not_hold, stands, first_false, second_false, apart_of, edge_again}
 use Rattle.edit_acts.proofs.Flow.{below_next}
 use Rattle.edit_base.specs.Beside.{IsBeside}
@@ -38,7 +38,7 @@ module _ (meets : Positions → Bool) (u v depth : ℕ) (m : Mesh) (change : Cha
     pub no_edge : is_edge m (edge_of m u v).c (edge_of m u v).d ≡ false
     pub scaffold_fits : is_over_limits (flip_scaffold m (edge_of m u v)).mesh ≡ false
     pub result_fits : is_over_limits (flip_mesh m (edge_of m u v)) ≡ false
-    pub none_lacks : first_lacking meets (flip_scaffold m (edge_of m u v)) depth ≡ None
+    pub none_lacks : first_failing meets (flip_scaffold m (edge_of m u v)) depth ≡ None
     pub result : flip_result m change ≡ flip_mesh m (edge_of m u v)
 
   facts : Facts
@@ -63,7 +63,7 @@ module _ (meets : Positions → Bool) (u v depth : ℕ) (m : Mesh) (change : Cha
         no_edge = second_false (e.c == e.d) _ no_edge;
         scaffold_fits = first_false (is_over_limits scaffold.mesh) _ fits;
         result_fits = second_false (is_over_limits scaffold.mesh) _ fits;
-        none_lacks = no_name (λ p. Hit p) (first_lacking meets scaffold depth) last.0;
+        none_lacks = no_name (λ p. Hit p) (first_failing meets scaffold depth) last.0;
         result = ap (flip_result m) (sym five.1) ∙ ap (flip_mesh m) (edge_again m u v);
       }
 
@@ -74,7 +74,7 @@ module _ (meets : Positions → Bool) (u v depth : ℕ) (m : Mesh) (change : Cha
   after = flip_is_sound m (edge_of m u v) sound beside facts.c_d facts.no_edge facts.result_fits
 
   along : IsExact meets → IsClearAlong (flip_scaffold m (edge_of m u v)).mesh (motion_of (flip_scaffold m (edge_of m u v)))
-  along exact = none_lacking_is_clear meets exact (flip_scaffold m (edge_of m u v)) depth (split_is_sound m (edge_of m u v) (split_point m (edge_of m u v)) sound beside facts.scaffold_fits) facts.none_lacks
+  along exact = none_failing_is_clear meets exact (flip_scaffold m (edge_of m u v)) depth (split_is_sound m (edge_of m u v) (split_point m (edge_of m u v)) sound beside facts.scaffold_fits) facts.none_lacks
 
   flip_leaves_sound : IsSound (flip_result m change)
   flip_leaves_sound = subst IsSound (sym facts.result) after

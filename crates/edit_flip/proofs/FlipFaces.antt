@@ -11,7 +11,7 @@ use Rattle.grid_base.specs.Points.{position_of}
 use Rattle.mesh_base.specs.declared.ids.Corners.{Corners}
 use Rattle.mesh_base.specs.Mesh.{Mesh, HasCorners}
 use Rattle.mesh_base.specs.Changes.{with_vertex, with_face, without_face}
-use Rattle.mesh_base.specs.Placements.{Placement, own_points, own_points_doubled}
+use Rattle.mesh_base.specs.Placements.{Placement, rest_positions, rest_positions_doubled}
 use Rattle.mesh_base.proofs.Finite.{got_after_insert, got_after_remove}
 use Rattle.edit_base.specs.declared.scaffold.Move.{Move}
 use Rattle.edit_base.specs.Scaffold.{motion_of}
@@ -116,20 +116,20 @@ module _ (m : Mesh) (s : Edge) where
   end = (motion_of (flip_scaffold m s)).end
 
   abbrev flip_move : Move
-  flip_move = record { v = m.next_vertex; start = plus (own_points m s.a) (own_points m s.b); end = plus (own_points m s.c) (own_points m s.d) }
+  flip_move = record { v = m.next_vertex; start = plus (rest_positions m s.a) (rest_positions m s.b); end = plus (rest_positions m s.c) (rest_positions m s.d) }
 
   abbrev looked : ℕ → Bool → Triple
-  looked v b = unwrap_or (option_map (λ (mv : Move). mv.end) (cond b (Some flip_move) None)) (own_points_doubled scaffold v)
+  looked v b = unwrap_or (option_map (λ (mv : Move). mv.end) (cond b (Some flip_move) None)) (rest_positions_doubled scaffold v)
 
-  -- the new vertex ends midway between the third corners
-  pub end_new : end m.next_vertex ≡ plus (own_points m s.c) (own_points m s.d)
+  -- the new vertex ends midway between the opposite vertices
+  pub end_new : end m.next_vertex ≡ plus (rest_positions m s.c) (rest_positions m s.d)
   end_new = ap (looked m.next_vertex) (itself m.next_vertex)
 
   apart_test : (v : ℕ) → v < m.next_vertex → (m.next_vertex == v) ≡ false
   apart_test v below = grind (arith, nat_tests)
 
   -- any other stays
-  pub end_old : (v : ℕ) → v < m.next_vertex → end v ≡ times 2 (own_points m v)
+  pub end_old : (v : ℕ) → v < m.next_vertex → end v ≡ times 2 (rest_positions m v)
   end_old v below =
       ap (looked v) (apart_test v below)
-      ∙ ap (times 2) (new_point m s (split_point m s) v ∙ ap (λ b. cond b (position_of (split_point m s)) (own_points m v)) (apart_test v below))
+      ∙ ap (times 2) (new_point m s (split_point m s) v ∙ ap (λ b. cond b (position_of (split_point m s)) (rest_positions m v)) (apart_test v below))

@@ -6,7 +6,7 @@ ghost use Rattle.mesh_base.specs.Placements.{IsClearMesh};
 ghost use Rattle.mesh_base.specs.Kept.{BeginsWith};
 ghost use Rattle.edit_flip.specs.Flip.{flip_mesh};
 ghost use Rattle.edit_flip.specs.Answer.{flip_answer};
-ghost use Rattle.edit_base.specs.Clauses.{mesh_left, MovesClearOnDone};
+ghost use Rattle.edit_base.specs.Clauses.{mesh_after_call, MovesClearOnDone};
 ghost use Rattle.edit_flip.specs.Done.{flip_result, flip_tested_on};
 ghost use Rattle.edit_flip.specs.Tried.{MayBeTried};
 
@@ -17,9 +17,9 @@ use grid_base::{DEPTH_MAX, NoMemory};
 use mesh_base::{Surface, VertexId};
 use std::alloc::Global;
 
-/// Drops the two faces beside an edge, and makes two at the edge of the third corners. Some of it may be done where memory
+/// Drops the two faces beside an edge, and makes two at the edge of the opposite vertices. Some of it may be done where memory
 /// is wanting.
-fn put_flip<S: Surface>(mesh: &mut S, e: &EdgeFaces) -> Result<(), NoMemory>
+fn apply_flip<S: Surface>(mesh: &mut S, e: &EdgeFaces) -> Result<(), NoMemory>
     requires closed { IsClosed (S.mesh mesh.old) }
     requires tried { MayBeTried (S.mesh mesh.old) e.now }
     ensures made { OnOk result (S.mesh mesh.new ≡ flip_mesh (S.mesh mesh.old) e.now) }
@@ -31,7 +31,7 @@ fn put_flip<S: Surface>(mesh: &mut S, e: &EdgeFaces) -> Result<(), NoMemory>
 }
 
 /// Makes the changes of a flip, or leaves all as it was where memory is wanting.
-fn put_or_go_back<S: Surface>(mesh: &mut S, e: &EdgeFaces) -> Result<(), NoMemory>
+fn apply_or_roll_back<S: Surface>(mesh: &mut S, e: &EdgeFaces) -> Result<(), NoMemory>
     requires closed { IsClosed (S.mesh mesh.old) }
     requires tried { MayBeTried (S.mesh mesh.old) e.now }
     ensures made { OnOk result (S.mesh mesh.new ≡ flip_mesh (S.mesh mesh.old) e.now) }
@@ -39,7 +39,7 @@ fn put_or_go_back<S: Surface>(mesh: &mut S, e: &EdgeFaces) -> Result<(), NoMemor
     ensures marks { BeginsWith (S.kept mesh.new) (S.kept mesh.old) }
 {
     let mark = mesh.mark()?;
-    let done = put_flip(mesh, e);
+    let done = apply_flip(mesh, e);
     if done.is_err() {
         mesh.back_to(mark);
     }
@@ -58,20 +58,20 @@ fn flip_or_leave<S: Surface>(
     requires depth { depth ≤ DEPTH_MAX }
     requires tried { MayBeTried (S.mesh mesh.old) e.now }
     ensures answer { IfOk result (λ edit. edit ≡ flip_answer meets_exactly (S.mesh mesh.old) e.now.a e.now.b depth) }
-    ensures mesh { S.mesh mesh.new ≡ mesh_left flip_result (S.mesh mesh.old) result }
+    ensures mesh { S.mesh mesh.new ≡ mesh_after_call flip_result (S.mesh mesh.old) result }
     ensures marks { BeginsWith (S.kept mesh.new) (S.kept mesh.old) }
 {
     match first_hit(alloc, mesh, e, depth)? {
         Some(p) => Ok(Edit::No(Why::Hit(p))),
         None => {
-            put_or_go_back(mesh, e)?;
+            apply_or_roll_back(mesh, e)?;
             Ok(Edit::Done(Change::Flip { a: e.a, b: e.b }))
         }
     }
 }
 
 /// Flips the edge of two ids, in any order: the two faces beside it are dropped, and two are made at the edge of their third
-/// corners. With `a` the smaller end, `b` the larger, `c` the third corner of the face that runs from `a` to `b` and `d`
+/// corners. With `a` the smaller end, `b` the larger, `c` the opposite vertex of the face that runs from `a` to `b` and `d`
 /// that of the other, they are `a d c` and `b c d`, under the next face ids.
 ///
 /// The answer is exact. It is Done with the edge, smaller end first; or No with the first reason that holds: the ids are no
@@ -93,11 +93,11 @@ pub fn flip<S: Surface>(
     requires clear { IsClearMesh (S.mesh mesh.old) }
     requires depth { depth ≤ DEPTH_MAX }
     ensures answer { IfOk result (λ edit. edit ≡ flip_answer meets_exactly (S.mesh mesh.old) a b depth) }
-    ensures mesh { S.mesh mesh.new ≡ mesh_left flip_result (S.mesh mesh.old) result }
+    ensures mesh { S.mesh mesh.new ≡ mesh_after_call flip_result (S.mesh mesh.old) result }
     // The mesh stays closed and clear.
     ensures closed { IsClosed (S.mesh mesh.new) }
     ensures clear { IsClearMesh (S.mesh mesh.new) }
-    // From the edge to the middle of the two third corners nothing meets.
+    // From the edge to the middle of the two opposite vertices nothing meets.
     ensures motion { IfOk result (λ edit. MovesClearOnDone flip_tested_on (S.mesh mesh.old) edit) }
     ensures marks { BeginsWith (S.kept mesh.new) (S.kept mesh.old) }
 {

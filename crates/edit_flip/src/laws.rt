@@ -16,7 +16,7 @@ ghost use Rattle.edit_base.specs.Laws.{AlwaysMakes, StaysSound, StaysClosed, Sta
 ghost use Rattle.edit_flip.specs.Done.{IsFlip, flip_result, flip_tested_on};
 
 /// A flip takes no more room than its scaffold, which is a split's, and each of its two faces may be made when its turn
-/// comes, where the third corners are two and no edge.
+/// comes, where the opposite vertices are two and no edge.
 pub fn flips_can_be_made()
     ensures room { (m : Mesh) (u v : ℕ) (at : Point) → IsSound m → IsClosed m → is_edge m (min u v) (max u v) ≡ true → is_full (split_mesh m (edge_of m u v) at) (flip_mesh m (edge_of m u v)) ≡ split_is_over m }
     ensures faces { (m : Mesh) (u v : ℕ) → IsSound m → IsClosed m → is_edge m (min u v) (max u v) ≡ true → (edge_of m u v).c ≢ (edge_of m u v).d → is_edge m (edge_of m u v).c (edge_of m u v).d ≡ false → AreFresh (without_faces m (faces_beside (edge_of m u v))) (flip_faces (edge_of m u v)) }

@@ -191,7 +191,7 @@ fn a_flip_is_refused_by_what_is_there(rt: HostRuntime) -> Result<(), Fail> {
     let why = refusal(rt.alloc(), &points, &faces, [1, 2], &rt)?;
     assert_eq!(rt; why, Some(Why::Edge));
 
-    // the third corners are one: a triangle with both of its sides
+    // the opposite vertices are one: a triangle with both of its sides
     let why = refusal(
         rt.alloc(),
         &points[..3],

@@ -8,13 +8,13 @@ ghost use Rattle.mesh_base.specs.Kept.{BeginsWith};
 ghost use Rattle.edit_base.specs.declared.answers.Edit.TheVariants.{No};
 ghost use Rattle.edit_base.specs.Edges.{edge_of};
 ghost use Rattle.edit_flip.specs.Flip.{flip_scaffold};
-ghost use Rattle.edit_base.specs.Scaffold.{first_lacking};
+ghost use Rattle.edit_base.specs.Scaffold.{first_failing};
 ghost use Rattle.edit_flip.specs.Answer.{flip_answer};
 ghost use Rattle.edit_flip.specs.Tried.{MayBeTried};
 
 use edit_acts::exact_mid;
 use edit_base::{EdgeFaces, Move, Touch, Why, edge_beside, is_crowded, is_edge};
-use edit_split::{is_split_over, put_split, split_point};
+use edit_split::{is_split_over, apply_split, split_point};
 use edit_check::check;
 use grid_base::{DEPTH_MAX, NoMemory};
 use mesh_base::{PairName, Surface, VertexId};
@@ -52,7 +52,7 @@ pub(crate) fn edge_to_flip<S: Surface>(mesh: &S, a: VertexId, b: VertexId) -> Re
 }
 
 /// Makes the changes of a split, and answers the first pair that does not pass while the new vertex goes from the middle of
-/// the edge to the middle of the two third corners. Some of the changes may be made where memory is wanting.
+/// the edge to the middle of the two opposite vertices. Some of the changes may be made where memory is wanting.
 fn put_and_check<S: Surface>(
     alloc: Global,
     mesh: &mut S,
@@ -63,7 +63,7 @@ fn put_and_check<S: Surface>(
     requires clear { IsClearMesh (S.mesh mesh.old) }
     requires depth { depth ≤ DEPTH_MAX }
     requires tried { MayBeTried (S.mesh mesh.old) e.now }
-    ensures first { IfOk result (λ found. found ≡ first_lacking meets_exactly (flip_scaffold (S.mesh mesh.old) e.now) depth) }
+    ensures first { IfOk result (λ found. found ≡ first_failing meets_exactly (flip_scaffold (S.mesh mesh.old) e.now) depth) }
     ensures marks { BeginsWith (S.kept mesh.new) (S.kept mesh.old) }
 {
     let fresh_from = mesh.next_face();
@@ -73,7 +73,7 @@ fn put_and_check<S: Surface>(
         end: exact_mid(mesh, e.c, e.d),
     };
     let at = split_point(mesh, e);
-    put_split(mesh, e, at)?;
+    apply_split(mesh, e, at)?;
     check(alloc, mesh, &[way], Touch::Never, &[], fresh_from, depth)
 }
 
@@ -88,7 +88,7 @@ pub(crate) fn first_hit<S: Surface>(
     requires clear { IsClearMesh (S.mesh mesh.old) }
     requires depth { depth ≤ DEPTH_MAX }
     requires tried { MayBeTried (S.mesh mesh.old) e.now }
-    ensures first { IfOk result (λ found. found ≡ first_lacking meets_exactly (flip_scaffold (S.mesh mesh.old) e.now) depth) }
+    ensures first { IfOk result (λ found. found ≡ first_failing meets_exactly (flip_scaffold (S.mesh mesh.old) e.now) depth) }
     ensures mesh { S.mesh mesh.new ≡ S.mesh mesh.old }
     ensures marks { BeginsWith (S.kept mesh.new) (S.kept mesh.old) }
 {

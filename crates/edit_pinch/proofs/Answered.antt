@@ -15,7 +15,7 @@ use Rattle.edit_base.specs.declared.answers.Change.TheVariants.{Pinch}
 use Rattle.edit_base.specs.declared.answers.Edit.{Edit}
 use Rattle.edit_base.specs.declared.answers.Edit.TheVariants.{Done, No}
 use Rattle.edit_base.specs.Reasons.{reason_if, first_reason, done_unless}
-use Rattle.edit_base.specs.Scaffold.{first_lacking}
+use Rattle.edit_base.specs.Scaffold.{first_failing}
 use Rattle.grid_base.specs.declared.Point.{Point}
 use Rattle.edit_base.specs.declared.answers.CopyAt.{CopyAt}
 use Rattle.edit_pinch.specs.Pinch.{fans, fan_point, first_point, later_copies, copy_points, pinch_mesh, pinch_scaffold}
@@ -32,7 +32,7 @@ answer_by few over found change = done_unless (first_reason (reason_if few OneFa
 
 module _ (m : Mesh) (v depth : ℕ) where
   abbrev found : Option PairName
-  found = first_lacking meets_exactly (pinch_scaffold m v) depth
+  found = first_failing meets_exactly (pinch_scaffold m v) depth
 
   abbrev done : Change
   done = Pinch v (first_point m v) (later_copies m v)
@@ -74,7 +74,7 @@ later_copies_are m v parts copies all is = is ∙ ap (listed_from m v m.next_ver
 
 -- the answer, and the mesh that it leaves
 module _ (m : Mesh) (v depth : ℕ) (at : Point) (copies : List CopyAt) (point_is : at ≡ first_point m v) (copies_are : copies ≡ later_copies m v) where
-  pub done_answer : MayBeTried m v → None ≡ first_lacking meets_exactly (pinch_scaffold m v) depth → Done (Pinch v at copies) ≡ pinch_answer meets_exactly m v depth
+  pub done_answer : MayBeTried m v → None ≡ first_failing meets_exactly (pinch_scaffold m v) depth → Done (Pinch v at copies) ≡ pinch_answer meets_exactly m v depth
   done_answer tried e = (λ i. Done (Pinch v (point_is i) (copies_are i))) ∙ no_hit_is_done m v depth tried e
 
   pub done_mesh : (pinch_scaffold m v).mesh ≡ pinch_mesh m v at (copy_points copies)

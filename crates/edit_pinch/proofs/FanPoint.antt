@@ -12,7 +12,7 @@ use Rattle.grid_base.specs.Points.{position_of}
 use Rattle.grid_base.specs.Triples.{Triple, IsWithin, plus, minus}
 use Rattle.grid_base.proofs.PointLaws.{position_of-point_at}
 use Rattle.mesh_base.specs.Mesh.{Mesh}
-use Rattle.mesh_base.specs.Placements.{own_points, position_or_origin, origin}
+use Rattle.mesh_base.specs.Placements.{rest_positions, position_or_origin, origin}
 use Rattle.edit_pinch.specs.Pinch.{rim, fan_shift, fan_point}
 
 -- s is at most n times a, and at least n times b below zero
@@ -86,7 +86,7 @@ module _ (most : ℕ) (v : ℤ) (way : HasWay most v) where
       (sum_between at here c sums fits us (n + 1) next
       (subst (IsBetween way.up way.down (n + 1)) (sym (sums s (at u))) (step n (c s) (c (at u)) (fits u) h)))
 
-pub own_within : (m : Mesh) (v : ℕ) → IsWithin BOX (own_points m v)
+pub own_within : (m : Mesh) (v : ℕ) → IsWithin BOX (rest_positions m v)
 own_within m v = by_answer (finite.get m.points v)
   where
     by_answer : (o : Option Point) → IsWithin BOX (position_or_origin o)
@@ -95,16 +95,16 @@ own_within m v = by_answer (finite.get m.points v)
 
 module _ (m : Mesh) (v : ℕ) (fan : List ℕ) where
   abbrev sum : Triple
-  sum = fold (λ sum u. plus sum (minus (own_points m u) (own_points m v))) origin (rim m v fan)
+  sum = fold (λ sum u. plus sum (minus (rest_positions m u) (rest_positions m v))) origin (rim m v fan)
 
-  component : (c : Triple → ℤ) → c origin ≡ pos 0 → ((s t : Triple) → c (plus s (minus t (own_points m v))) ≡ c s +ℤ (c t -ℤ c (own_points m v))) → ((u : ℕ) → unsigned_abs (c (own_points m u)) ≤ BOX) →
-      unsigned_abs (c (own_points m v) +ℤ int_div (c sum) (pos (8 * length (rim m v fan)))) ≤ BOX
+  component : (c : Triple → ℤ) → c origin ≡ pos 0 → ((s t : Triple) → c (plus s (minus t (rest_positions m v))) ≡ c s +ℤ (c t -ℤ c (rest_positions m v))) → ((u : ℕ) → unsigned_abs (c (rest_positions m u)) ≤ BOX) →
+      unsigned_abs (c (rest_positions m v) +ℤ int_div (c sum) (pos (8 * length (rim m v fan)))) ≤ BOX
   component c zero_is sums fits =
-      let way = way_of BOX (c (own_points m v)) (fits v) in
+      let way = way_of BOX (c (rest_positions m v)) (fits v) in
       let none : IsBetween way.up way.down 0 (c origin) = subst (IsBetween way.up way.down 0) (sym zero_is) (nothing way.up way.down) in
-      stays BOX (c (own_points m v)) way _
-      (eighth BOX (c (own_points m v)) way (length (rim m v fan)) (c sum)
-      (subst (λ k. IsBetween way.up way.down k (c sum)) (from_none (length (rim m v fan))) (sum_between BOX (c (own_points m v)) way (own_points m) (own_points m v) c sums fits (rim m v fan) 0 origin none)))
+      stays BOX (c (rest_positions m v)) way _
+      (eighth BOX (c (rest_positions m v)) way (length (rim m v fan)) (c sum)
+      (subst (λ k. IsBetween way.up way.down k (c sum)) (from_none (length (rim m v fan))) (sum_between BOX (c (rest_positions m v)) way (rest_positions m) (rest_positions m v) c sums fits (rim m v fan) 0 origin none)))
     where
       from_none : (n : ℕ) → 0 + n ≡ n
       from_none n = omega arith
@@ -113,7 +113,7 @@ module _ (m : Mesh) (v : ℕ) (fan : List ℕ) where
       nothing a b = record { upper = omega (arith, ints); lower = omega (arith, ints) }
 
   -- the sum is within the box
-  pub shift_within : IsWithin BOX (plus (own_points m v) (fan_shift m v fan))
+  pub shift_within : IsWithin BOX (plus (rest_positions m v) (fan_shift m v fan))
   shift_within = record {
     x_fits = component (λ t. t.x) refl (λ s t. refl) (λ u. (own_within m u).x_fits);
     y_fits = component (λ t. t.y) refl (λ s t. refl) (λ u. (own_within m u).y_fits);
@@ -121,5 +121,5 @@ module _ (m : Mesh) (v : ℕ) (fan : List ℕ) where
   }
 
   -- so the point is there
-  pub position_of-fan_point : position_of (fan_point m v fan) ≡ plus (own_points m v) (fan_shift m v fan)
-  position_of-fan_point = position_of-point_at (plus (own_points m v) (fan_shift m v fan)) shift_within
+  pub position_of-fan_point : position_of (fan_point m v fan) ≡ plus (rest_positions m v) (fan_shift m v fan)
+  position_of-fan_point = position_of-point_at (plus (rest_positions m v) (fan_shift m v fan)) shift_within

@@ -9,7 +9,7 @@ use Rattle.grid_base.specs.Triples.{Triple, IsWithin, plus}
 use Rattle.grid_base.proofs.PointLaws.{point_at-position_of}
 use Rattle.mesh_base.specs.declared.ids.Corners.{Corners}
 use Rattle.mesh_base.specs.Mesh.{Mesh, IsSound, HasCorners}
-use Rattle.mesh_base.specs.Placements.{own_points, point_of}
+use Rattle.mesh_base.specs.Placements.{rest_positions, point_of}
 use Rattle.edit_base.specs.Edges.{corners_at}
 use Rattle.edit_pinch.specs.Pinch.{divided, fan_shift, fan_point}
 use Rattle.edit_base.proofs.Chains.{Has}
@@ -29,7 +29,7 @@ corners_of_live m f live = by_answer (finite.get m.faces f) refl live
 
 module _ (m : Mesh) (v : ℕ) (fan : List ℕ) (sound : IsSound m) (live : AreLiveFaces m fan) (here : Point) (sum : Triple) (us : List ℕ) (given : List ℕ) (n : ℕ)
     (here_is : here ≡ point_of m v) (us_are : us ≡ found_rim m v fan) (same : given ≡ us) (sum_is : sum ≡ ways m v given) (n_is : n ≡ length us) where
-  pub there : plus (position_of here) (divided sum (8 * n)) ≡ plus (own_points m v) (fan_shift m v fan)
+  pub there : plus (position_of here) (divided sum (8 * n)) ≡ plus (rest_positions m v) (fan_shift m v fan)
   there =
       let at = ap position_of here_is ∙ position_of-point_of m v in
       let all = λ (f : ℕ) (has : Has fan f). corners_of_live m f (live f has) in

@@ -16,7 +16,7 @@ use Rattle.mesh_base.specs.declared.ids.Corners.{Corners}
 use Rattle.mesh_base.specs.Mesh.{Mesh, IsSound, IsLiveVertex, AreLive}
 use Rattle.mesh_base.specs.Sides.{has_corner, faces_at, IsClosed}
 use Rattle.mesh_base.specs.Changes.{with_vertex, with_point}
-use Rattle.mesh_base.specs.Placements.{own_points_doubled, position_or_origin, IsClearMesh, IsClearAfter}
+use Rattle.mesh_base.specs.Placements.{rest_positions_doubled, position_or_origin, IsClearMesh, IsClearAfter}
 use Rattle.mesh_base.specs.Limits.{is_over_limits}
 use Rattle.mesh_base.proofs.Tests.{or_either}
 use Rattle.edit_base.specs.declared.scaffold.Move.{Move}
@@ -25,7 +25,7 @@ use Rattle.edit_base.specs.declared.answers.Why.TheVariants.{OneFan, Full, Hit}
 use Rattle.edit_base.specs.declared.answers.Change.{Change}
 use Rattle.edit_base.specs.declared.answers.Edit.TheVariants.{Done}
 use Rattle.edit_base.specs.Reasons.{reason_if, hit_in}
-use Rattle.edit_base.specs.Scaffold.{motion_of, first_lacking}
+use Rattle.edit_base.specs.Scaffold.{motion_of, first_failing}
 use Rattle.edit_base.specs.Classes.{class_of}
 use Rattle.edit_base.specs.Edges.{corners_at}
 use Rattle.edit_pinch.specs.Pinch.{share_second, fans, fan_point, with_copy, pinch_scaffold, first_point, later_copies, copy_points}
@@ -33,7 +33,7 @@ use Rattle.edit_pinch.specs.Done.{pinch_result, pinch_tested_on, IsPinch}
 use Rattle.edit_pinch.specs.Answer.{pinch_answer}
 use Rattle.edit_base.specs.Clauses.{MovesClear}
 use Rattle.edit_base.specs.Laws.{StaysSound, StaysClosed, StaysClear, MotionIsClear, AlwaysMakes}
-use Rattle.edit_base.proofs.Clear.{none_lacking_is_clear, no_name}
+use Rattle.edit_base.proofs.Clear.{none_failing_is_clear, no_name}
 use Rattle.edit_base.proofs.Ends.{clear_where_it_ends}
 use Rattle.edit_base.proofs.ReasonLaws.{done_is, none_first, does_not_hold}
 use Rattle.edit_base.proofs.Chains.{Has, either_first, equal_itself}
@@ -85,7 +85,7 @@ module _ (m : Mesh) (v : ℕ) where
   move_to here copy = record { v = copy.w; start = here; end = times 2 (position_of copy.at) }
 
   abbrev EndsThere : Mesh → Move → Type 0
-  EndsThere n move = move.end ≡ own_points_doubled n move.v
+  EndsThere n move = move.end ≡ rest_positions_doubled n move.v
 
   -- each copy stands at its point
   copies_end : (here : Triple) (n : Mesh) (k : ℕ) (others : List (List ℕ)) → k ≡ n.next_vertex →
@@ -106,18 +106,18 @@ module _ (m : Mesh) (v : ℕ) where
       (ap (λ o. times 2 (position_or_origin o)) (sym got), copies_end here next (k + 1) ds count)
 
   abbrev end_by : Mesh → Move → List Move → ℕ → Bool → Triple
-  end_by n move moves u first = unwrap_or (option_map (λ (it : Move). it.end) (cond first (Some move) (find (λ it. it.v == u) moves))) (own_points_doubled n u)
+  end_by n move moves u first = unwrap_or (option_map (λ (it : Move). it.end) (cond first (Some move) (find (λ it. it.v == u) moves))) (rest_positions_doubled n u)
 
   -- where each of the moves ends at the mesh's own point, all do
-  ends_of : (n : Mesh) (moves : List Move) (u : ℕ) → AllByRecursion (EndsThere n) moves → unwrap_or (option_map (λ (move : Move). move.end) (find (λ move. move.v == u) moves)) (own_points_doubled n u) ≡ own_points_doubled n u
+  ends_of : (n : Mesh) (moves : List Move) (u : ℕ) → AllByRecursion (EndsThere n) moves → unwrap_or (option_map (λ (move : Move). move.end) (find (λ move. move.v == u) moves)) (rest_positions_doubled n u) ≡ rest_positions_doubled n u
   ends_of n [] u h = refl
   ends_of n (move ∷ moves) u h = by_test (ends_of n moves u h.1) (move.v == u) refl
     where
-      by_test : unwrap_or (option_map (λ (move : Move). move.end) (find (λ move. move.v == u) moves)) (own_points_doubled n u) ≡ own_points_doubled n u → (b : Bool) → (move.v == u) ≡ b → end_by n move moves u (move.v == u) ≡ own_points_doubled n u
-      by_test rest true e = ap (end_by n move moves u) e ∙ h.0 ∙ ap (own_points_doubled n) (eqb-true move.v u e)
+      by_test : unwrap_or (option_map (λ (move : Move). move.end) (find (λ move. move.v == u) moves)) (rest_positions_doubled n u) ≡ rest_positions_doubled n u → (b : Bool) → (move.v == u) ≡ b → end_by n move moves u (move.v == u) ≡ rest_positions_doubled n u
+      by_test rest true e = ap (end_by n move moves u) e ∙ h.0 ∙ ap (rest_positions_doubled n) (eqb-true move.v u e)
       by_test rest false e = ap (end_by n move moves u) e ∙ rest
 
-  pub pinch_ends : v < m.next_vertex → (u : ℕ) → (motion_of (pinch_scaffold m v)).end u ≡ own_points_doubled (pinch_scaffold m v).mesh u
+  pub pinch_ends : v < m.next_vertex → (u : ℕ) → (motion_of (pinch_scaffold m v)).end u ≡ rest_positions_doubled (pinch_scaffold m v).mesh u
   pinch_ends below u =
       let at = first_point m v in
       let base = with_point m v at in
@@ -127,7 +127,7 @@ module _ (m : Mesh) (v : ℕ) where
       ∙ get-insert nat_cmp_total m.points v at v
       ∙ ap (λ b. cond b (Some at) (finite.get m.points v)) ((eq_by_cmp_equiv nat_cmp_total).refl v) in
       ends_of (pinch_scaffold m v).mesh (pinch_scaffold m v).moves u
-      (ap (λ o. times 2 (position_or_origin o)) (sym got), copies_end (own_points_doubled m v) base m.next_vertex others refl)
+      (ap (λ o. times 2 (position_or_origin o)) (sym got), copies_end (rest_positions_doubled m v) base m.next_vertex others refl)
 
 -- ---- the answer
 module _ (meets : Positions → Bool) (v depth : ℕ) (m : Mesh) (change : Change) (sound : IsSound m) (closed : IsClosed m) (done : pinch_answer meets m v depth ≡ Done change) where
@@ -135,7 +135,7 @@ module _ (meets : Positions → Bool) (v depth : ℕ) (m : Mesh) (change : Chang
   record Facts : Type 0 where
     pub two_fans : nat_lt (length (fans m v)) 2 ≡ false
     pub fits : is_over_limits (pinch_scaffold m v).mesh ≡ false
-    pub none_lacks : first_lacking meets (pinch_scaffold m v) depth ≡ None
+    pub none_lacks : first_failing meets (pinch_scaffold m v) depth ≡ None
     pub is_pinch : Change.Pinch v (first_point m v) (later_copies m v) ≡ change
 
   facts : Facts
@@ -150,7 +150,7 @@ module _ (meets : Positions → Bool) (v depth : ℕ) (m : Mesh) (change : Chang
       record {
         two_fans = does_not_hold _ _ one.0;
         fits = does_not_hold _ _ two.0;
-        none_lacks = no_name (λ p. Hit p) (first_lacking meets scaffold depth) three.0;
+        none_lacks = no_name (λ p. Hit p) (first_failing meets scaffold depth) three.0;
         is_pinch = all.1;
       }
 
@@ -176,7 +176,7 @@ module _ (meets : Positions → Bool) (v depth : ℕ) (m : Mesh) (change : Chang
   pinch_leaves_closed = subst IsClosed (sym result) scaffold_closed
 
   scaffold_clear : IsExact meets → IsClearAfter (pinch_scaffold m v).mesh (motion_of (pinch_scaffold m v))
-  scaffold_clear exact = none_lacking_is_clear meets exact (pinch_scaffold m v) depth scaffold_sound facts.none_lacks
+  scaffold_clear exact = none_failing_is_clear meets exact (pinch_scaffold m v) depth scaffold_sound facts.none_lacks
 
   pub pinch_leaves_clear : IsExact meets → IsClearMesh (pinch_result m change)
   pinch_leaves_clear exact = subst IsClearMesh (sym result)

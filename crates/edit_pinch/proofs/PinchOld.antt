@@ -9,7 +9,7 @@ use Rattle.grid_base.specs.declared.Point.{Point}
 use Rattle.mesh_base.specs.declared.ids.Corners.{Corners}
 use Rattle.mesh_base.specs.Mesh.{Mesh, HasCorners}
 use Rattle.mesh_base.specs.Changes.{without_face, with_vertex, with_point}
-use Rattle.mesh_base.specs.Placements.{own_points, position_or_origin}
+use Rattle.mesh_base.specs.Placements.{rest_positions, position_or_origin}
 use Rattle.mesh_base.proofs.Finite.{got_after_insert, got_after_remove}
 use Rattle.edit_base.specs.Edges.{corners_at, renamed, with_renamed, with_all_renamed}
 use Rattle.edit_pinch.specs.Pinch.{with_copy, pinch_mesh, fans}
@@ -43,7 +43,7 @@ pub old_faces : (m : Mesh) (v : ℕ) (at : Point) (points : List Point) (f : ℕ
 old_faces m v at points f c there below = old_after_copies v (with_point m v at) (drop 1 (fans m v)) points f c there below
 
 -- ---- vertices
-pub old_points : (m : Mesh) (v : ℕ) (at : Point) (points : List Point) (u : ℕ) → u < m.next_vertex → u ≢ v → own_points (pinch_mesh m v at points) u ≡ own_points m u
+pub old_points : (m : Mesh) (v : ℕ) (at : Point) (points : List Point) (u : ℕ) → u < m.next_vertex → u ≢ v → rest_positions (pinch_mesh m v at points) u ≡ rest_positions m u
 old_points m v at points u below apart = ap position_or_origin
     (kept_point v (with_point m v at) (drop 1 (fans m v)) points u below
     ∙ get-insert nat_cmp_total m.points v at u

@@ -9,7 +9,7 @@ use Rattle.grid_base.specs.Points.{position_of}
 use Rattle.grid_base.specs.Triples.{Triple, IsWithin, times}
 use Rattle.mesh_base.specs.Mesh.{Mesh, IsSound}
 use Rattle.mesh_base.specs.Changes.{with_point}
-use Rattle.mesh_base.specs.Placements.{own_points_doubled, IsClearMesh, point_of}
+use Rattle.mesh_base.specs.Placements.{rest_positions_doubled, IsClearMesh, point_of}
 use Rattle.edit_base.specs.declared.answers.CopyAt.{CopyAt}
 use Rattle.edit_base.specs.declared.scaffold.Move.{Move}
 use Rattle.edit_base.specs.declared.scaffold.Touch.TheVariants.{Start}
@@ -45,7 +45,7 @@ listed_length m v k [] = refl
 listed_length m v k (d ∷ ds) = let rest = listed_length m v (k + 1) ds in omega (arith, rest)
 
 -- where a vertex stands, in half units
-pub stands_doubled : (m : Mesh) (v : ℕ) (here : Triple) (p : Point) → here ≡ times 2 (position_of p) → p ≡ point_of m v → here ≡ own_points_doubled m v
+pub stands_doubled : (m : Mesh) (v : ℕ) (here : Triple) (p : Point) → here ≡ times 2 (position_of p) → p ≡ point_of m v → here ≡ rest_positions_doubled m v
 stands_doubled m v here p e f = e ∙ ap (times 2) (ap position_of f ∙ position_of-point_of m v)
 
 module _ (m : Mesh) (v : ℕ) (others : List (List ℕ)) (at : Point) (copies : List CopyAt) (others_are : others ≡ drop 1 (fans m v)) (point_is : at ≡ first_point m v) (copies_are : copies ≡ later_copies m v) where
@@ -55,7 +55,7 @@ module _ (m : Mesh) (v : ℕ) (others : List (List ℕ)) (at : Point) (copies : 
   pub mesh_is : fold (with_copy v) (with_point m v at) (zip others (copy_points copies)) ≡ (pinch_scaffold m v).mesh
   mesh_is = λ i. fold (with_copy v) (with_point m v (point_is i)) (zip (others_are i) (copy_points (copies_are i)))
 
-  module _ (here : Triple) (here_is : here ≡ own_points_doubled m v) (new : Mesh) (moves : List Move) (together : List ℕ)
+  module _ (here : Triple) (here_is : here ≡ rest_positions_doubled m v) (new : Mesh) (moves : List Move) (together : List ℕ)
       (new_is : new ≡ fold (with_copy v) (with_point m v at) (zip others (copy_points copies))) (moves_are : moves ≡ moves_from here v at copies) (together_is : together ≡ vertex_and_copies v copies) where
     all_moves : moves ≡ (pinch_scaffold m v).moves
     all_moves = moves_are ∙ (λ i. moves_from (here_is i) v (point_is i) (copies_are i))

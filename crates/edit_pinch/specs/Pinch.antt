@@ -10,7 +10,7 @@ use Rattle.edit_base.specs.declared.answers.CopyAt.{CopyAt}
 use Rattle.mesh_base.specs.Mesh.{Mesh}
 use Rattle.mesh_base.specs.Sides.{has_corner, faces_at}
 use Rattle.mesh_base.specs.Changes.{corner_list, with_vertex, with_point}
-use Rattle.mesh_base.specs.Placements.{origin, own_points, own_points_doubled}
+use Rattle.mesh_base.specs.Placements.{origin, rest_positions, rest_positions_doubled}
 use Rattle.edit_base.specs.Classes.{classes}
 use Rattle.edit_base.specs.Edges.{corners_at, with_all_renamed}
 use Rattle.edit_base.specs.Scaffold.{Scaffold}
@@ -34,11 +34,11 @@ divided t n = record { x = int_div t.x (pos n); y = int_div t.y (pos n); z = int
 -- an eighth of the way to the mean of the fan's other vertices
 abbrev pub fan_shift : Mesh → ℕ → List ℕ → Triple
 fan_shift m v fan =
-    divided (fold (λ sum u. plus sum (minus (own_points m u) (own_points m v))) origin (rim m v fan)) (8 * length (rim m v fan))
+    divided (fold (λ sum u. plus sum (minus (rest_positions m u) (rest_positions m v))) origin (rim m v fan)) (8 * length (rim m v fan))
 
 -- where the copy for a fan ends
 abbrev pub fan_point : Mesh → ℕ → List ℕ → Point
-fan_point m v fan = point_at (plus (own_points m v) (fan_shift m v fan))
+fan_point m v fan = point_at (plus (rest_positions m v) (fan_shift m v fan))
 
 -- a copy at a point for a fan, whose faces are made again with the copy in v's place
 abbrev pub with_copy : ℕ → Mesh → List ℕ × Point → Mesh
@@ -62,7 +62,7 @@ copy_points copies = map (λ copy. copy.at) copies
 -- The result, with v and each copy going from the old place to its own. A pair whose members hold two of them is to open.
 abbrev pub pinch_scaffold : Mesh → ℕ → Scaffold
 pinch_scaffold m v =
-    let here = own_points_doubled m v in
+    let here = rest_positions_doubled m v in
     let at = first_point m v in
     let copies = later_copies m v in
     record {

@@ -4,7 +4,7 @@ use Rattle.std.specs.List.{fold}
 use Rattle.grid_base.specs.Triples.{Triple, plus, minus}
 use Rattle.mesh_base.specs.Mesh.{Mesh, IsLiveFace}
 use Rattle.mesh_base.specs.Changes.{corner_list}
-use Rattle.mesh_base.specs.Placements.{origin, own_points}
+use Rattle.mesh_base.specs.Placements.{origin, rest_positions}
 use Rattle.edit_base.specs.Classes.{is_one_of}
 use Rattle.edit_base.specs.Edges.{corners_at}
 
@@ -22,7 +22,7 @@ found_rim m v fan = fold (with_corners m v) [] fan
 
 -- the way from v to a vertex more
 abbrev pub with_way : Mesh → ℕ → Triple → ℕ → Triple
-with_way m v sum u = plus sum (minus (own_points m u) (own_points m v))
+with_way m v sum u = plus sum (minus (rest_positions m u) (rest_positions m v))
 
 -- the ways from v to the vertices, added
 abbrev pub ways : Mesh → ℕ → List ℕ → Triple

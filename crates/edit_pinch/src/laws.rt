@@ -7,7 +7,7 @@ ghost use Rattle.grid_base.specs.Points.{position_of};
 ghost use Rattle.grid_base.specs.Triples.{plus};
 ghost use Rattle.grid_base.specs.SeparationTests.{IsExact};
 ghost use Rattle.mesh_base.specs.Mesh.{Mesh};
-ghost use Rattle.mesh_base.specs.Placements.{own_points};
+ghost use Rattle.mesh_base.specs.Placements.{rest_positions};
 ghost use Rattle.edit_pinch.specs.Pinch.{pinch_mesh, fan_point, fan_shift};
 ghost use Rattle.edit_pinch.specs.Answer.{pinch_answer};
 ghost use Rattle.edit_base.specs.Laws.{AlwaysMakes, StaysSound, StaysClosed, StaysClear, MotionIsClear};
@@ -24,7 +24,7 @@ pub fn pinches_keep_the_mesh()
     ensures closed { (meets : Positions → Bool) (v depth : ℕ) → StaysClosed pinch_result (λ m. pinch_answer meets m v depth) }
     ensures clear { (meets : Positions → Bool) → IsExact meets → (v depth : ℕ) → StaysClear pinch_result (λ m. pinch_answer meets m v depth) }
     ensures motion { (meets : Positions → Bool) → IsExact meets → (v depth : ℕ) → MotionIsClear pinch_tested_on (λ m. pinch_answer meets m v depth) }
-    ensures shifted { (m : Mesh) (v : ℕ) (fan : List ℕ) → position_of (fan_point m v fan) ≡ plus (own_points m v) (fan_shift m v fan) }
+    ensures shifted { (m : Mesh) (v : ℕ) (fan : List ℕ) → position_of (fan_point m v fan) ≡ plus (rest_positions m v) (fan_shift m v fan) }
 {}
 
 /// A mesh of which a vertex is pinched agrees with it but for new faces and the moved vertex, which is to be named among those that

@@ -6,10 +6,10 @@ ghost use Rattle.grid_decided.specs.Decided.{meets_exactly};
 ghost use Rattle.mesh_base.specs.Sides.{IsClosed};
 ghost use Rattle.mesh_base.specs.Placements.{IsClearMesh};
 ghost use Rattle.mesh_base.specs.Kept.{BeginsWith};
-ghost use Rattle.edit_base.specs.Scaffold.{first_lacking};
+ghost use Rattle.edit_base.specs.Scaffold.{first_failing};
 ghost use Rattle.edit_pinch.specs.Pinch.{fans, first_point, later_copies, pinch_scaffold};
 ghost use Rattle.edit_pinch.specs.Answer.{pinch_answer};
-ghost use Rattle.edit_base.specs.Clauses.{mesh_left, MovesClearOnDone};
+ghost use Rattle.edit_base.specs.Clauses.{mesh_after_call, MovesClearOnDone};
 ghost use Rattle.edit_pinch.specs.Done.{pinch_result, pinch_tested_on};
 ghost use Rattle.edit_pinch.specs.Tried.{MayBeTried, moves_from, vertex_and_copies, left_by};
 
@@ -80,7 +80,7 @@ fn put_and_check<S: Surface>(
     requires others { others.now ≡ drop 1 (fans (S.mesh mesh.old) v) }
     requires point { at ≡ first_point (S.mesh mesh.old) v }
     requires copies { copies.now ≡ later_copies (S.mesh mesh.old) v }
-    ensures first { IfOk result (λ found. found ≡ first_lacking meets_exactly (pinch_scaffold (S.mesh mesh.old) v) depth) }
+    ensures first { IfOk result (λ found. found ≡ first_failing meets_exactly (pinch_scaffold (S.mesh mesh.old) v) depth) }
     ensures made { OnOk result (S.mesh mesh.new ≡ (pinch_scaffold (S.mesh mesh.old) v).mesh) }
     ensures marks { BeginsWith (S.kept mesh.new) (S.kept mesh.old) }
 {
@@ -102,7 +102,7 @@ fn put_and_check<S: Surface>(
 
 /// Tries a pinch, and answers the first pair that is not as required. Where there is none, its changes are made, and else all
 /// is left as it was.
-fn put_or_go_back<S: Surface>(
+fn apply_or_roll_back<S: Surface>(
     alloc: Global,
     mesh: &mut S,
     v: VertexId,
@@ -118,7 +118,7 @@ fn put_or_go_back<S: Surface>(
     requires others { others.now ≡ drop 1 (fans (S.mesh mesh.old) v) }
     requires point { at ≡ first_point (S.mesh mesh.old) v }
     requires copies { copies.now ≡ later_copies (S.mesh mesh.old) v }
-    ensures first { IfOk result (λ found. found ≡ first_lacking meets_exactly (pinch_scaffold (S.mesh mesh.old) v) depth) }
+    ensures first { IfOk result (λ found. found ≡ first_failing meets_exactly (pinch_scaffold (S.mesh mesh.old) v) depth) }
     ensures mesh { S.mesh mesh.new ≡ left_by (S.mesh mesh.old) (pinch_scaffold (S.mesh mesh.old) v).mesh result }
     ensures marks { BeginsWith (S.kept mesh.new) (S.kept mesh.old) }
 {
@@ -150,13 +150,13 @@ fn pinch_or_leave<S: Surface>(
     requires tried { MayBeTried (S.mesh mesh.old) v }
     requires fans { parts.now ≡ fans (S.mesh mesh.old) v }
     ensures answer { IfOk result (λ edit. edit ≡ pinch_answer meets_exactly (S.mesh mesh.old) v depth) }
-    ensures mesh { S.mesh mesh.new ≡ mesh_left pinch_result (S.mesh mesh.old) result }
+    ensures mesh { S.mesh mesh.new ≡ mesh_after_call pinch_result (S.mesh mesh.old) result }
     ensures marks { BeginsWith (S.kept mesh.new) (S.kept mesh.old) }
 {
     let others = &parts[1..];
     let at = fan_point(alloc, mesh, v, parts[0].as_slice())?;
     let copies = copies_for(alloc, mesh, v, others)?;
-    match put_or_go_back(alloc, mesh, v, others, at, copies.as_slice(), depth)? {
+    match apply_or_roll_back(alloc, mesh, v, others, at, copies.as_slice(), depth)? {
         Some(p) => Ok(Edit::No(Why::Hit(p))),
         None => Ok(Edit::Done(Change::Pinch { v, at, copies })),
     }
@@ -186,7 +186,7 @@ pub fn pinch<S: Surface>(
     requires clear { IsClearMesh (S.mesh mesh.old) }
     requires depth { depth ≤ DEPTH_MAX }
     ensures answer { IfOk result (λ edit. edit ≡ pinch_answer meets_exactly (S.mesh mesh.old) v depth) }
-    ensures mesh { S.mesh mesh.new ≡ mesh_left pinch_result (S.mesh mesh.old) result }
+    ensures mesh { S.mesh mesh.new ≡ mesh_after_call pinch_result (S.mesh mesh.old) result }
     // The mesh stays closed and clear.
     ensures closed { IsClosed (S.mesh mesh.new) }
     ensures clear { IsClearMesh (S.mesh mesh.new) }

@@ -12,7 +12,7 @@ use Rattle.edit_base.specs.declared.answers.Change.TheVariants.{Split}
 use Rattle.edit_base.specs.declared.answers.Edit.{Edit}
 use Rattle.edit_base.specs.declared.answers.Edit.TheVariants.{No}
 use Rattle.edit_base.specs.Reasons.{reason_if, first_reason, done_unless}
-use Rattle.edit_base.specs.Scaffold.{first_lacking}
+use Rattle.edit_base.specs.Scaffold.{first_failing}
 use Rattle.edit_base.specs.Edges.{Edge, edge_of}
 use Rattle.edit_split.specs.Split.{split_point, split_scaffold}
 use Rattle.edit_split.specs.Answer.{split_answer}
@@ -27,7 +27,7 @@ answer_by edge crowded over found change =
 -- the answer of an edge
 abbrev answer_of : Mesh → ℕ → Edge → Edit
 answer_of m depth s =
-    answer_by (is_edge m s.a s.b) (is_crowded m s.a s.b) (is_over_limits (split_scaffold m s).mesh) (first_lacking meets_exactly (split_scaffold m s) depth) (Split s.a s.b m.next_vertex (split_point m s))
+    answer_by (is_edge m s.a s.b) (is_crowded m s.a s.b) (is_over_limits (split_scaffold m s).mesh) (first_failing meets_exactly (split_scaffold m s) depth) (Split s.a s.b m.next_vertex (split_point m s))
 
 -- the two ends in order
 pub same_answer : (m : Mesh) (u v depth : ℕ) (s : Edge) → s ≡ edge_of m u v → split_answer meets_exactly m s.a s.b depth ≡ split_answer meets_exactly m u v depth
@@ -38,11 +38,11 @@ pub full_answer : (m : Mesh) (u v depth : ℕ) → is_edge m (edge_of m u v).a (
     is_over_limits (split_scaffold m (edge_of m u v)).mesh ≡ true → No Full ≡ split_answer meets_exactly m u v depth
 full_answer m u v depth edge crowded over =
     let s = edge_of m u v in
-    let found = first_lacking meets_exactly (split_scaffold m s) depth in
+    let found = first_failing meets_exactly (split_scaffold m s) depth in
     sym (λ i. answer_by (edge i) (crowded i) (over i) found (Split s.a s.b m.next_vertex (split_point m s)))
 
 -- the answer where a split is tried
-pub tried_answer : (m : Mesh) (s : Edge) (depth : ℕ) (found : Option PairName) → MayBeTried m s → found ≡ first_lacking meets_exactly (split_scaffold m s) depth →
+pub tried_answer : (m : Mesh) (s : Edge) (depth : ℕ) (found : Option PairName) → MayBeTried m s → found ≡ first_failing meets_exactly (split_scaffold m s) depth →
     answer_by true false false found (Split s.a s.b m.next_vertex (split_point m s)) ≡ split_answer meets_exactly m s.a s.b depth
 tried_answer m s depth found tried is =
     sym (ap (answer_of m depth) tried.edge.beside

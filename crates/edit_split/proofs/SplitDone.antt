@@ -11,14 +11,14 @@ use Rattle.edit_base.specs.declared.answers.Why.TheVariants.{NoEdge, Crowded, Fu
 use Rattle.edit_base.specs.declared.answers.Change.{Change}
 use Rattle.edit_base.specs.declared.answers.Edit.TheVariants.{Done}
 use Rattle.edit_base.specs.Reasons.{reason_if, hit_in}
-use Rattle.edit_base.specs.Scaffold.{first_lacking, motion_of}
+use Rattle.edit_base.specs.Scaffold.{first_failing, motion_of}
 use Rattle.edit_base.specs.Edges.{edge_of}
 use Rattle.edit_split.specs.Split.{split_mesh, split_point, split_scaffold}
 use Rattle.edit_split.specs.Done.{split_result, split_tested_on, IsSplit}
 use Rattle.edit_split.specs.Answer.{split_answer}
 use Rattle.edit_base.specs.Clauses.{MovesClear}
 use Rattle.edit_base.specs.Laws.{StaysSound, StaysClosed, StaysClear, MotionIsClear, AlwaysMakes}
-use Rattle.edit_base.proofs.Clear.{none_lacking_is_clear, no_name}
+use Rattle.edit_base.proofs.Clear.{none_failing_is_clear, no_name}
 use Rattle.edit_base.proofs.ReasonLaws.{done_is, none_first, does_not_hold, stands, edge_again}
 use Rattle.edit_acts.proofs.Flow.{below_next}
 use Rattle.edit_base.specs.Beside.{IsBeside}
@@ -29,7 +29,7 @@ use Rattle.edit_split.proofs.SplitEnds.{split_is_clear}
 
 module _ (meets : Positions → Bool) (u v depth : ℕ) (m : Mesh) (change : Change) (sound : IsSound m) (closed : IsClosed m) (done : split_answer meets m u v depth ≡ Done change) where
   -- no reason holds, and the change is the split's
-  facts : (is_edge m (min u v) (max u v) ≡ true) × (is_over_limits (split_scaffold m (edge_of m u v)).mesh ≡ false) × (first_lacking meets (split_scaffold m (edge_of m u v)) depth ≡ None) × (split_result m change ≡ split_mesh m (edge_of m u v) (split_point m (edge_of m u v)))
+  facts : (is_edge m (min u v) (max u v) ≡ true) × (is_over_limits (split_scaffold m (edge_of m u v)).mesh ≡ false) × (first_failing meets (split_scaffold m (edge_of m u v)) depth ≡ None) × (split_result m change ≡ split_mesh m (edge_of m u v) (split_point m (edge_of m u v)))
   facts =
       let e = edge_of m u v in
       let scaffold = split_scaffold m e in
@@ -43,7 +43,7 @@ module _ (meets : Positions → Bool) (u v depth : ℕ) (m : Mesh) (change : Cha
       let last = none_first (hit_in meets scaffold depth) [] one.1 in (
         stands _ (does_not_hold _ _ three.0),
         does_not_hold _ _ one.0,
-        no_name (λ p. Hit p) (first_lacking meets scaffold depth) last.0,
+        no_name (λ p. Hit p) (first_failing meets scaffold depth) last.0,
         ap (split_result m) (sym four.1) ∙ ap (λ e. split_mesh m e (split_point m (edge_of m u v))) (edge_again m u v),
       )
 
@@ -62,13 +62,13 @@ module _ (meets : Positions → Bool) (u v depth : ℕ) (m : Mesh) (change : Cha
 
   pub split_leaves_clear : IsExact meets → IsClearMesh (split_result m change)
   split_leaves_clear exact = subst IsClearMesh (sym facts.3)
-      (split_is_clear m (edge_of m u v) (none_lacking_is_clear meets exact (split_scaffold m (edge_of m u v)) depth after facts.2))
+      (split_is_clear m (edge_of m u v) (none_failing_is_clear meets exact (split_scaffold m (edge_of m u v)) depth after facts.2))
 
   -- the motion clause
   pub split_moves_clear : IsExact meets → MovesClear split_tested_on m change
   split_moves_clear exact = subst (MovesClear split_tested_on m) (done_is _ _ _ done).1
       (subst (λ e. IsClosed (split_scaffold m e).mesh × IsClearAlong (split_scaffold m e).mesh (motion_of (split_scaffold m e))) (sym (edge_again m u v))
-      (subst IsClosed facts.3 split_leaves_closed, none_lacking_is_clear meets exact (split_scaffold m (edge_of m u v)) depth after facts.2))
+      (subst IsClosed facts.3 split_leaves_closed, none_failing_is_clear meets exact (split_scaffold m (edge_of m u v)) depth after facts.2))
 
 pub split_stays_sound : (meets : Positions → Bool) (u v depth : ℕ) → StaysSound split_result (λ m. split_answer meets m u v depth)
 split_stays_sound meets u v depth m change sound closed done = split_leaves_sound meets u v depth m change sound closed done

@@ -6,7 +6,7 @@ use Rattle.grid_base.specs.Points.{position_of}
 use Rattle.mesh_base.specs.declared.ids.Corners.{Corners}
 use Rattle.mesh_base.specs.Mesh.{Mesh, IsSound}
 use Rattle.mesh_base.specs.Changes.{with_vertex}
-use Rattle.mesh_base.specs.Placements.{own_points, IsClearMesh}
+use Rattle.mesh_base.specs.Placements.{rest_positions, IsClearMesh}
 use Rattle.edit_base.specs.declared.Move.{Move}
 use Rattle.edit_base.specs.Edges.{Edge, corners_from, without_faces}
 use Rattle.edit_split.specs.Split.{split_mesh}
@@ -23,7 +23,7 @@ split_changed m s at moves =
     let four : List Corners = corners_from s.a w s.c ∷ corners_from w s.b s.c ∷ corners_from s.b w s.d ∷ corners_from w s.a s.d ∷ [] in
     record {
       faces = λ f c there below. old_of_dropped m drops f c (old_of_made (with_vertex (without_faces m drops) at) four f c there below);
-      points = λ v below rests. new_point m s at v ∙ ap (λ b. cond b (position_of at) (own_points m v)) (apart v below);
+      points = λ v below rests. new_point m s at v ∙ ap (λ b. cond b (position_of at) (rest_positions m v)) (apart v below);
     }
   where
     apart : (v : ℕ) → v < m.next_vertex → (m.next_vertex == v) ≡ false

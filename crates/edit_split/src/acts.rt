@@ -36,7 +36,7 @@ pub fn is_split_over<S: Surface>(mesh: &S) -> bool
 
 /// Drops the two faces beside an edge, and makes four round a new vertex at a point, in the order of the definition.
 /// Where memory is wanting, some of it may be done.
-pub fn put_split<S: Surface>(mesh: &mut S, e: &EdgeFaces, at: Point) -> Result<(), NoMemory>
+pub fn apply_split<S: Surface>(mesh: &mut S, e: &EdgeFaces, at: Point) -> Result<(), NoMemory>
     requires closed { IsClosed (S.mesh mesh.old) }
     requires edge { HasEdge (S.mesh mesh.old) e.now }
     requires fits { is_over_limits (split_mesh (S.mesh mesh.old) e.now at) ≡ false }

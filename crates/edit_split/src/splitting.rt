@@ -6,13 +6,13 @@ ghost use Rattle.mesh_base.specs.Kept.{BeginsWith};
 ghost use Rattle.edit_base.specs.declared.answers.Edit.TheVariants.{No};
 ghost use Rattle.edit_base.specs.Edges.{edge_of};
 ghost use Rattle.edit_split.specs.Split.{split_mesh, split_point, split_scaffold};
-ghost use Rattle.edit_base.specs.Scaffold.{first_lacking};
+ghost use Rattle.edit_base.specs.Scaffold.{first_failing};
 ghost use Rattle.edit_split.specs.Answer.{split_answer};
-ghost use Rattle.edit_base.specs.Clauses.{mesh_left, MovesClearOnDone};
+ghost use Rattle.edit_base.specs.Clauses.{mesh_after_call, MovesClearOnDone};
 ghost use Rattle.edit_split.specs.Done.{split_result, split_tested_on};
 ghost use Rattle.edit_split.specs.Tried.{MayBeTried};
 
-use crate::acts::{is_split_over, put_split, split_point};
+use crate::acts::{is_split_over, apply_split, split_point};
 use edit_acts::exact_mid;
 use edit_base::{Change, EdgeFaces, Edit, Move, Touch, Why, edge_beside, is_crowded};
 use edit_check::check;
@@ -55,7 +55,7 @@ fn put_and_check<S: Surface>(
     requires depth { depth ≤ DEPTH_MAX }
     requires tried { MayBeTried (S.mesh mesh.old) e.now }
     requires point { at ≡ split_point (S.mesh mesh.old) e.now }
-    ensures first { IfOk result (λ found. found ≡ first_lacking meets_exactly (split_scaffold (S.mesh mesh.old) e.now) depth) }
+    ensures first { IfOk result (λ found. found ≡ first_failing meets_exactly (split_scaffold (S.mesh mesh.old) e.now) depth) }
     ensures made { OnOk result (S.mesh mesh.new ≡ split_mesh (S.mesh mesh.old) e.now at) }
     ensures marks { BeginsWith (S.kept mesh.new) (S.kept mesh.old) }
 {
@@ -65,7 +65,7 @@ fn put_and_check<S: Surface>(
         start: exact_mid(mesh, e.a, e.b),
         end: at.doubled(),
     };
-    put_split(mesh, e, at)?;
+    apply_split(mesh, e, at)?;
     check(alloc, mesh, &[way], Touch::Never, &[], fresh_from, depth)
 }
 
@@ -81,7 +81,7 @@ fn split_or_go_back<S: Surface>(
     requires depth { depth ≤ DEPTH_MAX }
     requires tried { MayBeTried (S.mesh mesh.old) e.now }
     ensures answer { IfOk result (λ edit. edit ≡ split_answer meets_exactly (S.mesh mesh.old) e.now.a e.now.b depth) }
-    ensures mesh { S.mesh mesh.new ≡ mesh_left split_result (S.mesh mesh.old) result }
+    ensures mesh { S.mesh mesh.new ≡ mesh_after_call split_result (S.mesh mesh.old) result }
     ensures marks { BeginsWith (S.kept mesh.new) (S.kept mesh.old) }
 {
     let at = split_point(mesh, e);
@@ -126,7 +126,7 @@ pub fn split<S: Surface>(
     requires clear { IsClearMesh (S.mesh mesh.old) }
     requires depth { depth ≤ DEPTH_MAX }
     ensures answer { IfOk result (λ edit. edit ≡ split_answer meets_exactly (S.mesh mesh.old) a b depth) }
-    ensures mesh { S.mesh mesh.new ≡ mesh_left split_result (S.mesh mesh.old) result }
+    ensures mesh { S.mesh mesh.new ≡ mesh_after_call split_result (S.mesh mesh.old) result }
     // The mesh stays closed and clear.
     ensures closed { IsClosed (S.mesh mesh.new) }
     ensures clear { IsClearMesh (S.mesh mesh.new) }

@@ -6,7 +6,7 @@ use Rattle.mesh_base.specs.Sides.{follows, runs, IsClosed}
 use Rattle.mesh_base.specs.Changes.{without_face}
 use Rattle.mesh_base.proofs.Counts.{runs-without_face}
 use Rattle.edit_base.specs.Beside.{IsBeside}
-use Rattle.edit_base.specs.Edges.{Edge, third_corner, without_faces, with_faces}
+use Rattle.edit_base.specs.Edges.{Edge, opposite_vertex, without_faces, with_faces}
 use Rattle.edit_acts.proofs.Flow.{AreBelow, runs-with_faces, below-without, still_there, below_next}
 use Rattle.edit_base.proofs.Arcs.{arc, other_way, round, round_of, same_arcs}
 use Rattle.edit_base.proofs.Beside.{none_of}
@@ -15,10 +15,10 @@ use Rattle.edit_acts.proofs.FaceCorners.{same_corners}
 
 
 -- a face with a step from a vertex is none that lacks the vertex
-pub faces_apart : (m : Mesh) (f g : ℕ) (C D : Corners) (a b x y : ℕ) → HasCorners m f C → HasCorners m g D → follows C a b ≡ true → follows D x y ≡ true → AreDifferent D → x ≢ a → y ≢ a → third_corner D x y ≢ a → f ≢ g
+pub faces_apart : (m : Mesh) (f g : ℕ) (C D : Corners) (a b x y : ℕ) → HasCorners m f C → HasCorners m g D → follows C a b ≡ true → follows D x y ≡ true → AreDifferent D → x ≢ a → y ≢ a → opposite_vertex D x y ≢ a → f ≢ g
 faces_apart m f g C D a b x y at_f at_g step run different nx ny nz same =
     let alike : C ≡ D = same_corners m g C D (subst (λ i. HasCorners m i C) same at_f) at_g in
-    let z = third_corner D x y in
+    let z = opposite_vertex D x y in
     let count = round_of D x y a b different run in
     let one : ◌≡◌ {A = ℕ} (cond (follows D a b) 1 0) 1 = ap (λ t. cond t 1 0) (subst (λ c. follows c a b ≡ true) alike step) in
     clash _ _ _ (sym one ∙ count) (none_of x y a b (inl nx)) (none_of y z a b (inl ny)) (none_of z x a b (inl nz))
@@ -26,7 +26,7 @@ faces_apart m f g C D a b x y at_f at_g step run different nx ny nz same =
     clash : (p q r : ℕ) → 1 ≡ p + q + r → p ≡ 0 → q ≡ 0 → r ≡ 0 → ⊥
     clash p q r h i j k = omega arith
 
--- no vertex of the one edge and its third corners is one of the other's
+-- no vertex of the one edge and its opposite vertexs is one of the other's
 pub record AreDisjoint (s t : Edge) : Type 0 where
   pub a : AreFar s.a t.b t.d t.a t.c
   pub b : AreFar s.b t.b t.d t.a t.c
@@ -40,10 +40,10 @@ module _ (m : Mesh) (s t : Edge) (sound : IsSound m) (beside_s : IsBeside m s) (
   back : {x y : ℕ} → x ≢ y → y ≢ x
   back h e = h (sym e)
 
-  third_off : (v : ℕ) → v ≢ t.c → third_corner beside_t.forth_corners t.a t.b ≢ v
+  third_off : (v : ℕ) → v ≢ t.c → opposite_vertex beside_t.forth_corners t.a t.b ≢ v
   third_off v h e = h (sym e ∙ beside_t.third)
 
-  fourth_off : (v : ℕ) → v ≢ t.d → third_corner beside_t.back_corners t.b t.a ≢ v
+  fourth_off : (v : ℕ) → v ≢ t.d → opposite_vertex beside_t.back_corners t.b t.a ≢ v
   fourth_off v h e = h (sym e ∙ beside_t.fourth)
 
   forth_forth : s.forth ≢ t.forth

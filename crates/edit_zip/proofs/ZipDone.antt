@@ -8,7 +8,7 @@ use Rattle.grid_base.specs.SeparationTests.{IsExact}
 use Rattle.mesh_base.specs.Mesh.{Mesh, IsSound}
 use Rattle.mesh_base.specs.Sides.{IsClosed}
 use Rattle.mesh_base.specs.Pairs.{is_edge, is_crowded, pairs}
-use Rattle.mesh_base.specs.Placements.{own_points, positions, IsClearMesh}
+use Rattle.mesh_base.specs.Placements.{rest_positions, positions, IsClearMesh}
 use Rattle.mesh_base.specs.Failing.{first_meeting}
 use Rattle.mesh_base.specs.Limits.{is_over_limits}
 use Rattle.mesh_base.proofs.Listed.{listed}
@@ -50,10 +50,10 @@ none_of_either (Some x) r e = absurd cc
 none_of_either None r e = (refl, e)
 
 -- a mesh none of whose pairs is found to meet is clear
-none_meets : (meets : Positions → Bool) → IsExact meets → (m : Mesh) → IsSound m → first_meeting meets m (own_points m) ≡ None → IsClearMesh m
+none_meets : (meets : Positions → Bool) → IsExact meets → (m : Mesh) → IsSound m → first_meeting meets m (rest_positions m) ≡ None → IsClearMesh m
 none_meets meets exact m sound none p is_pair meet =
-    let off = not_found (λ q. meets (positions (own_points m) q)) (pairs m) (no_name (λ q. q.name) (find (λ q. meets (positions (own_points m) q)) (pairs m)) none) in
-    false≢true (sym (listed m (λ q. meets (positions (own_points m) q) ≡ false) sound off p is_pair) ∙ (exact (positions (own_points m) p)).1 meet)
+    let off = not_found (λ q. meets (positions (rest_positions m) q)) (pairs m) (no_name (λ q. q.name) (find (λ q. meets (positions (rest_positions m) q)) (pairs m)) none) in
+    false≢true (sym (listed m (λ q. meets (positions (rest_positions m) q) ≡ false) sound off p is_pair) ∙ (exact (positions (rest_positions m) p)).1 meet)
 
 -- ---- the answer
 done_of : (reason : Option Why) (turn : Option ℕ) (make : ℕ → Change) (else_why : Why) (change : Change) →
@@ -111,8 +111,8 @@ module _ (meets : Positions → Bool) (u v x y : ℕ) (m : Mesh) (change : Chang
   undoubled = ap doubles_a_face facts.result ∙ does_not_hold (doubles_a_face (zip_mesh m (edge_of m u v) (edge_of m x y) facts.turn)) Doubled
       (none_of_either (reason_if (doubles_a_face (zip_mesh m (edge_of m u v) (edge_of m x y) facts.turn)) Doubled) _ nothing_wrong).0
 
-  unmet : first_meeting meets (zip_result m change) (own_points (zip_result m change)) ≡ None
-  unmet = ap (λ n. first_meeting meets n (own_points n)) facts.result ∙ no_name (λ p. Hit p) (first_meeting meets (zip_mesh m (edge_of m u v) (edge_of m x y) facts.turn) (own_points (zip_mesh m (edge_of m u v) (edge_of m x y) facts.turn)))
+  unmet : first_meeting meets (zip_result m change) (rest_positions (zip_result m change)) ≡ None
+  unmet = ap (λ n. first_meeting meets n (rest_positions n)) facts.result ∙ no_name (λ p. Hit p) (first_meeting meets (zip_mesh m (edge_of m u v) (edge_of m x y) facts.turn) (rest_positions (zip_mesh m (edge_of m u v) (edge_of m x y) facts.turn)))
       (none_of_either (reason_if (doubles_a_face (zip_mesh m (edge_of m u v) (edge_of m x y) facts.turn)) Doubled) _ nothing_wrong).1
 
   beside_s : IsBeside m (edge_of m u v)

@@ -9,13 +9,13 @@ use Rattle.mesh_base.specs.declared.ids.Corners.{Corners}
 use Rattle.edit_base.specs.declared.answers.Why.{Why}
 use Rattle.edit_base.specs.declared.answers.Why.TheVariants.{Doubled, Hit}
 use Rattle.mesh_base.specs.Mesh.{Mesh}
-use Rattle.mesh_base.specs.Placements.{own_points}
+use Rattle.mesh_base.specs.Placements.{rest_positions}
 use Rattle.mesh_base.specs.Failing.{first_meeting}
 use Rattle.edit_base.specs.Classes.{is_one_of}
 use Rattle.edit_base.specs.Edges.{Edge, corners_from, without_faces, with_faces, doubles_a_face}
 use Rattle.edit_base.specs.Reasons.{reason_if}
 
--- the ids of an edge and its two third corners
+-- the ids of an edge and its two opposite vertices
 abbrev pub four_ids : Edge → List ℕ
 four_ids s = s.a ∷ s.b ∷ s.c ∷ s.d ∷ []
 
@@ -58,7 +58,7 @@ square t = dot t t
 -- the sum of the squared lengths that a turn joins
 abbrev pub squares : Mesh → Edge → Edge → ℕ → ℤ
 squares m s t turn =
-    fold (λ sum i. sum +ℤ square (minus (own_points m (round_at (first_rim s) i)) (own_points m (round_at (second_rim t) (i + turn))))) (pos 0) turns
+    fold (λ sum i. sum +ℤ square (minus (rest_positions m (round_at (first_rim s) i)) (rest_positions m (round_at (second_rim t) (i + turn))))) (pos 0) turns
 
 -- whether a turn is tried before another: the lesser sum first, then the lesser turn
 abbrev pub is_before : Mesh → Edge → Edge → ℕ → ℕ → Bool
@@ -73,7 +73,7 @@ tried m s t = flat_map (λ n. filter (λ k. count_by (λ l. is_before m s t l k)
 abbrev pub turn_reason : (Positions → Bool) → Mesh → Edge → Edge → ℕ → Option Why
 turn_reason meets m s t turn =
     let result = zip_mesh m s t turn in
-    option_or (reason_if (doubles_a_face result) Doubled) (option_map (λ p. Hit p) (first_meeting meets result (own_points result)))
+    option_or (reason_if (doubles_a_face result) Doubled) (option_map (λ p. Hit p) (first_meeting meets result (rest_positions result)))
 
 -- the first turn with which nothing is wrong
 abbrev pub taken_turn : (Positions → Bool) → Mesh → Edge → Edge → Option ℕ

@@ -44,10 +44,10 @@ fn meets_by_volumes(a: Wide, b: Wide, c: Wide, d: Wide, e: Wide) -> bool
     let over_a = orient(c, d, e, a);
     let over_b = orient(c, d, e, b);
     if over_a < over_b {
-        return falls(b, a, c, d, e, over_b, over_a);
+        return crosses_downward(b, a, c, d, e, over_b, over_a);
     }
     if over_b < over_a {
-        return falls(a, b, c, d, e, over_a, over_b);
+        return crosses_downward(a, b, c, d, e, over_a, over_b);
     }
     if over_a < 0 {
         return false;
@@ -62,7 +62,7 @@ fn meets_by_volumes(a: Wide, b: Wide, c: Wide, d: Wide, e: Wide) -> bool
 }
 
 // The same of an edge that goes down, from `over_a` to `over_b`.
-fn falls(a: Wide, b: Wide, c: Wide, d: Wide, e: Wide, over_a: i128, over_b: i128) -> bool
+fn crosses_downward(a: Wide, b: Wide, c: Wide, d: Wide, e: Wide, over_a: i128, over_b: i128) -> bool
     requires a_fits { IsWithin HALF_MAX a }
     requires b_fits { IsWithin HALF_MAX b }
     requires c_fits { IsWithin HALF_MAX c }

@@ -15,7 +15,7 @@ use Rattle.mesh_base.specs.declared.ids.PairName.{PairName}
 use Rattle.mesh_base.specs.Mesh.{Mesh}
 use Rattle.mesh_base.specs.Sides.{has_corner}
 use Rattle.mesh_base.specs.SideSet.{edge_cmp}
-use Rattle.mesh_base.specs.Pairs.{Pair, is_edge, twos, edges, pairs_of, pairs, name_cmp}
+use Rattle.mesh_base.specs.Pairs.{Pair, is_edge, id_pairs, edges, pairs_of, pairs, name_cmp}
 use Rattle.mesh_base.proofs.ListedPairs.{all_joined, all_flat_mapped, all_mapped, all_weaker, all_always}
 use Rattle.mesh_base.proofs.WalkSteps.{both_of}
 
@@ -77,8 +77,8 @@ tied u = grind (arith, nat_tests)
 less_second : (u v w : ℕ) → nat_cmp v w ≡ Less → edge_cmp (u, v) (u, w) ≡ Less
 less_second u v w h = ap (λ o. ordering_then o (nat_cmp v w)) (tied u) ∙ h
 
-twos_sorted : (ids : List ℕ) → IsStrictlySortedBy nat_cmp ids → IsStrictlySortedBy edge_cmp (twos ids)
-twos_sorted ids h = sorted_rows nat_cmp edge_cmp row (λ e. e.0) ids each headed (λ d e less. ap (λ o. ordering_then o (nat_cmp d.1 e.1)) less) h
+id_pairs_sorted : (ids : List ℕ) → IsStrictlySortedBy nat_cmp ids → IsStrictlySortedBy edge_cmp (id_pairs ids)
+id_pairs_sorted ids h = sorted_rows nat_cmp edge_cmp row (λ e. e.0) ids each headed (λ d e less. ap (λ o. ordering_then o (nat_cmp d.1 e.1)) less) h
   where
     row : ℕ → List (ℕ × ℕ)
     row u = map (λ v. (u, v)) (filter (λ v. nat_lt u v) ids)
@@ -90,7 +90,7 @@ twos_sorted ids h = sorted_rows nat_cmp edge_cmp row (λ e. e.0) ids each headed
     headed u = all_mapped (λ (e : ℕ × ℕ). e.0 ≡ u) (λ v. (u, v)) (filter (λ v. nat_lt u v) ids) (all_always (λ v. u ≡ u) (filter (λ v. nat_lt u v) ids) (λ v. refl))
 
 pub edges_sorted : (m : Mesh) → IsStrictlySortedBy edge_cmp (edges m)
-edges_sorted m = IsStrictlySortedBy-filter edge_cmp (λ e. is_edge m e.0 e.1) (twos (finite.keys m.points)) (twos_sorted (finite.keys m.points) (keys_sorted (finite.entries m.points) (entries_sorted m.points)))
+edges_sorted m = IsStrictlySortedBy-filter edge_cmp (λ e. is_edge m e.0 e.1) (id_pairs (finite.keys m.points)) (id_pairs_sorted (finite.keys m.points) (keys_sorted (finite.entries m.points) (entries_sorted m.points)))
 
 -- ---- the pairs
 abbrev pub by_name : Pair → Pair → Ordering

@@ -15,7 +15,7 @@ use Rattle.std.proofs.lemmas.List.Elements.{All-head, All-tail}
 use Rattle.grid_base.specs.Triples.{plus}
 use Rattle.grid_base.specs.Points.{displacement_of, point_at}
 use Rattle.mesh_base.specs.Mesh.{Mesh, IsLiveVertex}
-use Rattle.mesh_base.specs.Placements.{own_points}
+use Rattle.mesh_base.specs.Placements.{rest_positions}
 use Rattle.mesh_base.specs.Shifts.{Shifts, with_move, with_moves}
 use Rattle.mesh_base.proofs.WalkSteps.{both_of, less_true}
 use Rattle.mesh_base.proofs.Moves.{still_live}
@@ -62,4 +62,4 @@ keys-with_moves m [] live = refl
 keys-with_moves m (s ∷ rest) live =
     let here = All-head (λ x. IsLiveVertex m x.v) s rest live in
     keys-with_moves (with_move m s) rest (still_live m s rest here (All-tail (λ x. IsLiveVertex m x.v) s rest live))
-    ∙ keys-insert_there m.points s.v (point_at (plus (own_points m s.v) (displacement_of s.by))) here
+    ∙ keys-insert_there m.points s.v (point_at (plus (rest_positions m s.v) (displacement_of s.by))) here

@@ -14,7 +14,7 @@ use Rattle.std.specs.FinMap.Entries.{find, is_sorted, below_all}
 use Rattle.mesh_base.specs.declared.ids.Corners.{Corners}
 use Rattle.mesh_base.specs.Mesh.{Mesh, IsSound, IsLiveVertex, HasCorners}
 use Rattle.mesh_base.specs.Sides.{follows, has_corner, ids_where, runs, IsEdge}
-use Rattle.mesh_base.specs.Pairs.{Pair, IsPair, is_edge, twos, edges, pairs_of, pairs}
+use Rattle.mesh_base.specs.Pairs.{Pair, IsPair, is_edge, id_pairs, edges, pairs_of, pairs}
 use Rattle.mesh_base.proofs.WalkSteps as above
 use Rattle.mesh_base.proofs.WalkSteps.{both_of}
 pub use Rattle.mesh_base.proofs.Tests.{and_first, and_second, or_either}
@@ -140,7 +140,7 @@ listed m P sound h p is_pair =
     let ids = finite.keys m.points in
     let live = edge_live m p.name.a p.name.b sound is_pair.edge in
     let of_edge : ℕ × ℕ → Type 0 = λ e. is_edge m e.0 e.1 ≡ true → AllByRecursion P (pairs_of m e) in
-    let by_edge = all_filter (λ e. AllByRecursion P (pairs_of m e)) (λ e. is_edge m e.0 e.1) (twos ids) (all_flat_map P (λ e. pairs_of m e) (edges m) h) in
+    let by_edge = all_filter (λ e. AllByRecursion P (pairs_of m e)) (λ e. is_edge m e.0 e.1) (id_pairs ids) (all_flat_map P (λ e. pairs_of m e) (edges m) h) in
     let by_first = at_live (λ u. AllByRecursion of_edge (map (λ v. (u, v)) (filter (λ v. nat_lt u v) ids))) m.points p.name.a
     (all_flat_map of_edge (λ u. map (λ v. (u, v)) (filter (λ v. nat_lt u v) ids)) ids by_edge) live.0 in
     let by_second = at_live (λ v. nat_lt p.name.a v ≡ true → of_edge (p.name.a, v)) m.points p.name.b

@@ -11,7 +11,7 @@ use Rattle.std.proofs.lemmas.List.Elements.{All-from_recursion, recursion_from_A
 use Rattle.mesh_base.specs.declared.ids.Corners.{Corners}
 use Rattle.mesh_base.specs.Mesh.{Mesh, IsSound, HasCorners}
 use Rattle.mesh_base.specs.Sides.{has_corner, runs, IsEdge}
-use Rattle.mesh_base.specs.Pairs.{Pair, IsPair, is_edge, twos, edges, pairs_of, pairs}
+use Rattle.mesh_base.specs.Pairs.{Pair, IsPair, is_edge, id_pairs, edges, pairs_of, pairs}
 use Rattle.mesh_base.proofs.Listed.{listed, each_found, all_flat_map, all_map, all_filter, at_live, edge_live, less_true}
 
 -- ---- what holds of each element that a list is made of
@@ -50,7 +50,7 @@ less_from a b h = grind (arith, nat_tests)
 listed_edges : (m : Mesh) → AllByRecursion (λ e. (e.0 < e.1) × IsEdge m e.0 e.1) (edges m)
 listed_edges m =
     let ids = finite.keys m.points in
-    all_filtered (λ e. (e.0 < e.1) × IsEdge m e.0 e.1) (λ e. is_edge m e.0 e.1) (twos ids)
+    all_filtered (λ e. (e.0 < e.1) × IsEdge m e.0 e.1) (λ e. is_edge m e.0 e.1) (id_pairs ids)
     (all_flat_mapped (λ e. is_edge m e.0 e.1 ≡ true → (e.0 < e.1) × IsEdge m e.0 e.1) (λ u. map (λ v. (u, v)) (filter (λ v. nat_lt u v) ids)) ids
     (all_always (λ u. AllByRecursion (λ e. is_edge m e.0 e.1 ≡ true → (e.0 < e.1) × IsEdge m e.0 e.1) (map (λ v. (u, v)) (filter (λ v. nat_lt u v) ids))) ids
     (λ u. all_mapped (λ e. is_edge m e.0 e.1 ≡ true → (e.0 < e.1) × IsEdge m e.0 e.1) (λ v. (u, v)) (filter (λ v. nat_lt u v) ids)
@@ -65,7 +65,7 @@ every_edge m P sound h u v less edge =
     let live = edge_live m u v sound edge in
     let of_edge : ℕ × ℕ → Type 0 = λ e. is_edge m e.0 e.1 ≡ true → P e in
     let by_first = at_live (λ a. AllByRecursion of_edge (map (λ b. (a, b)) (filter (λ b. nat_lt a b) ids))) m.points u
-    (all_flat_map of_edge (λ a. map (λ b. (a, b)) (filter (λ b. nat_lt a b) ids)) ids (all_filter P (λ e. is_edge m e.0 e.1) (twos ids) h)) live.0 in
+    (all_flat_map of_edge (λ a. map (λ b. (a, b)) (filter (λ b. nat_lt a b) ids)) ids (all_filter P (λ e. is_edge m e.0 e.1) (id_pairs ids) h)) live.0 in
     at_live (λ b. nat_lt u b ≡ true → of_edge (u, b)) m.points v
     (all_filter (λ b. of_edge (u, b)) (λ b. nat_lt u b) ids (all_map of_edge (λ b. (u, b)) (filter (λ b. nat_lt u b) ids) by_first)) live.1
     (less_true u v less) (less_true 0 (runs m u v + runs m v u) edge)

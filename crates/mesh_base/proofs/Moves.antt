@@ -22,7 +22,7 @@ use Rattle.mesh_base.specs.declared.steps.ShiftOf.{ShiftOf}
 use Rattle.mesh_base.specs.Mesh.{Mesh, IsSound, IsLiveVertex}
 use Rattle.mesh_base.specs.Sides.{follows, ids_where, runs, IsClosed}
 use Rattle.mesh_base.specs.Pairs.{Pair, IsPair}
-use Rattle.mesh_base.specs.Placements.{Placement, Motion, origin, position_or_origin, own_points, positions, at_fraction, IsClearMesh, IsClearAlong}
+use Rattle.mesh_base.specs.Placements.{Placement, Motion, origin, position_or_origin, rest_positions, positions, at_fraction, IsClearMesh, IsClearAlong}
 use Rattle.mesh_base.specs.Shifts.{Shifts, shift_at, moved_by, end_in_box, with_move, with_moves}
 use Rattle.mesh_base.proofs.Tests.{turned_test}
 use Rattle.mesh_base.proofs.MeshLaws.{sound-with_point}
@@ -42,7 +42,7 @@ minus-plus a b = same_triple (minus (plus a b) a) b (back a.x b.x) (back a.y b.y
     back x y = omega (arith, ints)
 
 -- where a vertex stands is in the box
-pub own_within : (m : Mesh) (v : ℕ) → IsWithin BOX (own_points m v)
+pub own_within : (m : Mesh) (v : ℕ) → IsWithin BOX (rest_positions m v)
 own_within m v = by_answer (finite.get m.points v)
   where
     by_answer : (o : Option Point) → IsWithin BOX (position_or_origin o)
@@ -61,26 +61,26 @@ both_true true b h = (refl, h)
 both_true false b h = absurd (false≢true h)
 
 -- ---- one move
-got-moved : (m : Mesh) (s : ShiftOf) (v : ℕ) → finite.get (with_move m s).points v ≡ cond (v == s.v) (Some (point_at (plus (own_points m s.v) (displacement_of s.by)))) (finite.get m.points v)
+got-moved : (m : Mesh) (s : ShiftOf) (v : ℕ) → finite.get (with_move m s).points v ≡ cond (v == s.v) (Some (point_at (plus (rest_positions m s.v) (displacement_of s.by)))) (finite.get m.points v)
 got-moved m s v =
-    let p : Point = point_at (plus (own_points m s.v) (displacement_of s.by)) in
+    let p : Point = point_at (plus (rest_positions m s.v) (displacement_of s.by)) in
     get-insert nat_cmp_total m.points s.v p v ∙ ap (λ t. cond t (Some p) (finite.get m.points v)) (unsigned_tied v s.v)
 
 itself : (v : ℕ) → (v == v) ≡ true
 itself v = grind (arith, nat_tests)
 
-own-moved : (m : Mesh) (s : ShiftOf) → is_within BOX (plus (own_points m s.v) (displacement_of s.by)) ≡ true → own_points (with_move m s) s.v ≡ plus (own_points m s.v) (displacement_of s.by)
+own-moved : (m : Mesh) (s : ShiftOf) → is_within BOX (plus (rest_positions m s.v) (displacement_of s.by)) ≡ true → rest_positions (with_move m s) s.v ≡ plus (rest_positions m s.v) (displacement_of s.by)
 own-moved m s inside =
-    let end : Triple = plus (own_points m s.v) (displacement_of s.by) in
+    let end : Triple = plus (rest_positions m s.v) (displacement_of s.by) in
     ap position_or_origin (got-moved m s s.v ∙ ap (λ t. cond t (Some (point_at end)) (finite.get m.points s.v)) (itself s.v)) ∙ position_of-point_at end (within_of BOX end inside)
 
-own-unmoved : (m : Mesh) (s : ShiftOf) (v : ℕ) → (s.v == v) ≡ false → own_points (with_move m s) v ≡ own_points m v
-own-unmoved m s v apart = ap position_or_origin (got-moved m s v ∙ ap (λ t. cond t (Some (point_at (plus (own_points m s.v) (displacement_of s.by)))) (finite.get m.points v)) (turned_test s.v v apart))
+own-unmoved : (m : Mesh) (s : ShiftOf) (v : ℕ) → (s.v == v) ≡ false → rest_positions (with_move m s) v ≡ rest_positions m v
+own-unmoved m s v apart = ap position_or_origin (got-moved m s v ∙ ap (λ t. cond t (Some (point_at (plus (rest_positions m s.v) (displacement_of s.by)))) (finite.get m.points v)) (turned_test s.v v apart))
 
 live-moved : (m : Mesh) (s : ShiftOf) (v : ℕ) → IsLiveVertex m s.v → is_some (finite.get (with_move m s).points v) ≡ is_some (finite.get m.points v)
 live-moved m s v live = ap is_some (got-moved m s v) ∙ by_test (v == s.v) refl
   where
-    by_test : (t : Bool) → (v == s.v) ≡ t → is_some (cond t (Some (point_at (plus (own_points m s.v) (displacement_of s.by)))) (finite.get m.points v)) ≡ is_some (finite.get m.points v)
+    by_test : (t : Bool) → (v == s.v) ≡ t → is_some (cond t (Some (point_at (plus (rest_positions m s.v) (displacement_of s.by)))) (finite.get m.points v)) ≡ is_some (finite.get m.points v)
     by_test true e = sym (subst (IsLiveVertex m) (sym (eqb-true v s.v e)) live)
     by_test false e = refl
 
@@ -96,23 +96,23 @@ pub same_ends : (m : Mesh) (s : ShiftOf) (rest : Shifts) → AllByRecursion (λ 
 same_ends m s [] h = refl
 same_ends m s (x ∷ rest) h =
     ap (λ at. is_within BOX (plus at (displacement_of x.by)) && end_in_box (with_move m s) rest) (own-unmoved m s x.v h.0)
-    ∙ ap (λ b. is_within BOX (plus (own_points m x.v) (displacement_of x.by)) && b) (same_ends m s rest h.1)
+    ∙ ap (λ b. is_within BOX (plus (rest_positions m x.v) (displacement_of x.by)) && b) (same_ends m s rest h.1)
 
 -- each vertex ends at its point and its shift together
-pub own-with_moves : (m : Mesh) (moves : Shifts) (v : ℕ) → IsDistinct eqb (map (λ s. s.v) moves) → end_in_box m moves ≡ true → own_points (with_moves m moves) v ≡ plus (own_points m v) (shift_at moves v)
-own-with_moves m [] v once inside = sym (plus-origin (own_points m v))
+pub own-with_moves : (m : Mesh) (moves : Shifts) (v : ℕ) → IsDistinct eqb (map (λ s. s.v) moves) → end_in_box m moves ≡ true → rest_positions (with_moves m moves) v ≡ plus (rest_positions m v) (shift_at moves v)
+own-with_moves m [] v once inside = sym (plus-origin (rest_positions m v))
 own-with_moves m (s ∷ rest) v once inside =
-    let parts = both_true (is_within BOX (plus (own_points m s.v) (displacement_of s.by))) (end_in_box m rest) inside in
+    let parts = both_true (is_within BOX (plus (rest_positions m s.v) (displacement_of s.by))) (end_in_box m rest) inside in
     let others = IsDistinct-head eqb s.v (map (λ x. x.v) rest) once in
     own-with_moves (with_move m s) rest v (IsDistinct-tail eqb s.v (map (λ x. x.v) rest) once) (same_ends m s rest others ∙ parts.1)
     ∙ by_test parts.0 others (s.v == v) refl
   where
-    by_test : is_within BOX (plus (own_points m s.v) (displacement_of s.by)) ≡ true → AllByRecursion (λ u. eqb s.v u ≡ false) (map (λ x. x.v) rest)
+    by_test : is_within BOX (plus (rest_positions m s.v) (displacement_of s.by)) ≡ true → AllByRecursion (λ u. eqb s.v u ≡ false) (map (λ x. x.v) rest)
         → (t : Bool) → (s.v == v) ≡ t
-        → plus (own_points (with_move m s) v) (shift_at rest v) ≡ plus (own_points m v) (unwrap_or (option_map (λ x. displacement_of x.by) (cond t (Some s) (find (λ x. x.v == v) rest))) origin)
+        → plus (rest_positions (with_move m s) v) (shift_at rest v) ≡ plus (rest_positions m v) (unwrap_or (option_map (λ x. displacement_of x.by) (cond t (Some s) (find (λ x. x.v == v) rest))) origin)
     by_test here others true e =
-        subst (λ u. plus (own_points (with_move m s) u) (shift_at rest u) ≡ plus (own_points m u) (displacement_of s.by)) (eqb-true s.v v e)
-        (ap (λ at. plus at (shift_at rest s.v)) (own-moved m s here) ∙ ap (plus (plus (own_points m s.v) (displacement_of s.by))) (unnamed s.v rest others) ∙ plus-origin (plus (own_points m s.v) (displacement_of s.by)))
+        subst (λ u. plus (rest_positions (with_move m s) u) (shift_at rest u) ≡ plus (rest_positions m u) (displacement_of s.by)) (eqb-true s.v v e)
+        (ap (λ at. plus at (shift_at rest s.v)) (own-moved m s here) ∙ ap (plus (plus (rest_positions m s.v) (displacement_of s.by))) (unnamed s.v rest others) ∙ plus-origin (plus (rest_positions m s.v) (displacement_of s.by)))
     by_test here others false e = ap (λ at. plus at (shift_at rest v)) (own-unmoved m s v e)
 
 -- ---- what stays
@@ -143,7 +143,7 @@ pub sound-with_moves : (m : Mesh) (moves : Shifts) → IsSound m → All (λ s. 
 sound-with_moves m [] sound live = sound
 sound-with_moves m (s ∷ rest) sound live =
     let here = All-head (λ x. IsLiveVertex m x.v) s rest live in
-    sound-with_moves (with_move m s) rest (sound-with_point m s.v (point_at (plus (own_points m s.v) (displacement_of s.by))) sound here) (still_live m s rest here (All-tail (λ x. IsLiveVertex m x.v) s rest live))
+    sound-with_moves (with_move m s) rest (sound-with_point m s.v (point_at (plus (rest_positions m s.v) (displacement_of s.by))) sound here) (still_live m s rest here (All-tail (λ x. IsLiveVertex m x.v) s rest live))
 
 pub runs-with_moves : (m : Mesh) (moves : Shifts) (u v : ℕ) → runs (with_moves m moves) u v ≡ runs m u v
 runs-with_moves m moves u v = ap (λ faces. length (ids_where (λ c. follows c u v) (finite.entries faces))) (faces-with_moves m moves)
@@ -181,13 +181,13 @@ pub clear_after_moves : (m : Mesh) (moves : Shifts) → IsDistinct eqb (map (λ 
 clear_after_moves m moves once inside along p is meet =
     let w : Motion = moved_by m moves in
     along 1 1 (omega arith) (omega arith) p (pair_before_moves m moves p is)
-    (subst MeetAt (same_positions (own_points (with_moves m moves)) (at_fraction 1 1 w) p (λ v. own-with_moves m moves v once inside ∙ sym (position_at-end (w.start v) (w.end v)))) meet)
+    (subst MeetAt (same_positions (rest_positions (with_moves m moves)) (at_fraction 1 1 w) p (λ v. own-with_moves m moves v once inside ∙ sym (position_at-end (w.start v) (w.end v)))) meet)
 
 -- where all live vertices move by one shift, the motion of a clear mesh is clear along
 pub translation_clear_along : (m : Mesh) (shifts : Shifts) (t : Triple) → IsSound m → IsClearMesh m → ((v : ℕ) → IsLiveVertex m v → shift_at shifts v ≡ t) → IsClearAlong m (moved_by m shifts)
 translation_clear_along m shifts t sound clear one p q some within pair is =
     let w : Motion = moved_by m shifts in
-    let by : (v : ℕ) → IsLiveVertex m v → minus (w.end v) (w.start v) ≡ t = λ v live. minus-plus (own_points m v) (shift_at shifts v) ∙ one v live in
+    let by : (v : ℕ) → IsLiveVertex m v → minus (w.end v) (w.start v) ≡ t = λ v live. minus-plus (rest_positions m v) (shift_at shifts v) ∙ one v live in
     let ends = edge_live m pair.name.a pair.name.b sound is.edge in
     let corners = sound.is_mesh.live_corners pair.name.face pair.corners is.face in
     let first = sym (by pair.name.a ends.0) in

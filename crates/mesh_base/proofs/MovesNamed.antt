@@ -16,7 +16,7 @@ use Rattle.grid_base.specs.Triples.{Triple, plus}
 use Rattle.grid_base.specs.Points.{displacement_of, is_within}
 use Rattle.mesh_base.specs.declared.steps.ShiftOf.{ShiftOf}
 use Rattle.mesh_base.specs.Mesh.{Mesh, IsLiveVertex}
-use Rattle.mesh_base.specs.Placements.{origin, own_points}
+use Rattle.mesh_base.specs.Placements.{origin, rest_positions}
 use Rattle.mesh_base.specs.Shifts.{Shifts, NameLive, NameOnce, shift_at, end_in_box}
 use Rattle.mesh_base.proofs.Listed.{each_found, all_map}
 use Rattle.mesh_base.proofs.ListedPairs.{all_mapped, all_weaker}
@@ -93,9 +93,9 @@ shift_filtered test (s ∷ rest) v zero once =
 pub end_filtered : (m : Mesh) (test : ShiftOf → Bool) (moves : Shifts) → end_in_box m moves ≡ true → end_in_box m (filter test moves) ≡ true
 end_filtered m test [] h = refl
 end_filtered m test (s ∷ rest) h =
-    let parts = both_true (is_within BOX (plus (own_points m s.v) (displacement_of s.by))) (end_in_box m rest) h in
+    let parts = both_true (is_within BOX (plus (rest_positions m s.v) (displacement_of s.by))) (end_in_box m rest) h in
     by_test parts.0 (end_filtered m test rest parts.1) (test s)
   where
-    by_test : is_within BOX (plus (own_points m s.v) (displacement_of s.by)) ≡ true → end_in_box m (filter test rest) ≡ true → (b : Bool) → end_in_box m (cond b (s ∷ filter test rest) (filter test rest)) ≡ true
+    by_test : is_within BOX (plus (rest_positions m s.v) (displacement_of s.by)) ≡ true → end_in_box m (filter test rest) ≡ true → (b : Bool) → end_in_box m (cond b (s ∷ filter test rest) (filter test rest)) ≡ true
     by_test here after true = ap (λ b. b && end_in_box m (filter test rest)) here ∙ after
     by_test here after false = after

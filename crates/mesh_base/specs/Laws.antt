@@ -7,7 +7,7 @@ use Rattle.mesh_base.specs.declared.steps.ShiftOf.{ShiftOf}
 use Rattle.mesh_base.specs.Mesh.{Mesh, IsSound, IsLiveVertex}
 use Rattle.mesh_base.specs.Sides.{IsEdge}
 use Rattle.mesh_base.specs.Pairs.{edges}
-use Rattle.mesh_base.specs.Placements.{origin, own_points, IsClearMesh, IsClearAlong}
+use Rattle.mesh_base.specs.Placements.{origin, rest_positions, IsClearMesh, IsClearAlong}
 use Rattle.mesh_base.specs.Shifts.{Shifts, shift_at, moved_by, end_in_box, with_moves, NameOnce}
 
 -- the list of edges has exactly the edges, the smaller id first
@@ -16,7 +16,7 @@ EdgesAreListed = (m : Mesh) → IsSound m → (u v : ℕ) → (Contains (edges m
 
 -- each vertex comes to stand at its point and its shift together
 abbrev pub MovesAddShifts : Type 0
-MovesAddShifts = (m : Mesh) (moves : Shifts) → NameOnce m moves → IsTrue (end_in_box m moves) → (v : ℕ) → own_points (with_moves m moves) v ≡ plus (own_points m v) (shift_at moves v)
+MovesAddShifts = (m : Mesh) (moves : Shifts) → NameOnce m moves → IsTrue (end_in_box m moves) → (v : ℕ) → rest_positions (with_moves m moves) v ≡ plus (rest_positions m v) (shift_at moves v)
 
 -- the same vertices are live
 abbrev pub MovesKeepLive : Type 0

@@ -32,12 +32,12 @@ abbrev pub is_crowded : Mesh → ℕ → ℕ → Bool
 is_crowded m u v = nat_lt 1 (runs m u v) || nat_lt 1 (runs m v u)
 
 -- each two of the numbers, in order
-abbrev pub twos : List ℕ → List (ℕ × ℕ)
-twos ids = flat_map (λ u. map (λ v. (u, v)) (filter (λ v. nat_lt u v) ids)) ids
+abbrev pub id_pairs : List ℕ → List (ℕ × ℕ)
+id_pairs ids = flat_map (λ u. map (λ v. (u, v)) (filter (λ v. nat_lt u v) ids)) ids
 
 -- the edges, the smaller id first, in order of the smaller and then of the larger
 abbrev pub edges : Mesh → List (ℕ × ℕ)
-edges m = filter (λ e. is_edge m e.0 e.1) (twos (finite.keys m.points))
+edges m = filter (λ e. is_edge m e.0 e.1) (id_pairs (finite.keys m.points))
 
 -- the edge with each face that has neither of its ends
 abbrev pub pairs_of : Mesh → ℕ × ℕ → List Pair

@@ -28,16 +28,16 @@ position_or_origin (Some p) = position_of p
 position_or_origin None = origin
 
 -- each live vertex at its point, and any other at the origin
-abbrev pub own_points : Mesh → Placement
-own_points m v = position_or_origin (finite.get m.points v)
+abbrev pub rest_positions : Mesh → Placement
+rest_positions m v = position_or_origin (finite.get m.points v)
 
 -- the point where a vertex stands, and the origin where it is not live
 abbrev pub point_of : Mesh → ℕ → Point
-point_of m v = point_at (own_points m v)
+point_of m v = point_at (rest_positions m v)
 
 -- the same places in half units
-abbrev pub own_points_doubled : Mesh → Placement
-own_points_doubled m v = times 2 (own_points m v)
+abbrev pub rest_positions_doubled : Mesh → Placement
+rest_positions_doubled m v = times 2 (rest_positions m v)
 
 -- where the ends and the corners of a pair stand
 abbrev pub positions : Placement → Pair → Positions
@@ -53,7 +53,7 @@ IsClear m at = (p : Pair) → IsPair m p → ¬ (MeetAt (positions at p))
 
 -- the mesh is clear where its vertices stand
 abbrev pub IsClearMesh : Mesh → Type 0
-IsClearMesh m = IsClear m (own_points m)
+IsClearMesh m = IsClear m (rest_positions m)
 
 -- clear at every fraction
 abbrev pub IsClearAlong : Mesh → Motion → Type 0

@@ -10,7 +10,7 @@ use Rattle.mesh_base.specs.declared.steps.ShiftOf.{ShiftOf}
 use Rattle.mesh_base.specs.Mesh.{Mesh, IsLiveVertex}
 use Rattle.grid_base.specs.Points.{is_within, point_at, shift_by}
 use Rattle.mesh_base.specs.Changes.{with_point}
-use Rattle.mesh_base.specs.Placements.{Motion, origin, own_points}
+use Rattle.mesh_base.specs.Placements.{Motion, origin, rest_positions}
 
 abbrev pub Shifts : Type 0
 Shifts = List ShiftOf
@@ -29,15 +29,15 @@ shift_at shifts v = unwrap_or (option_map (λ s. displacement_of s.by) (find (λ
 
 -- each vertex goes from its point by its shift
 abbrev pub moved_by : Mesh → Shifts → Motion
-moved_by m shifts = record { start = own_points m; end = λ v. plus (own_points m v) (shift_at shifts v) }
+moved_by m shifts = record { start = rest_positions m; end = λ v. plus (rest_positions m v) (shift_at shifts v) }
 
 -- no shift takes its vertex out of the box
 abbrev pub end_in_box : Mesh → Shifts → Bool
-end_in_box m shifts = list_all (λ s. is_within BOX (plus (own_points m s.v) (displacement_of s.by))) shifts
+end_in_box m shifts = list_all (λ s. is_within BOX (plus (rest_positions m s.v) (displacement_of s.by))) shifts
 
 -- the vertex at its point and its shift together
 abbrev pub with_move : Mesh → ShiftOf → Mesh
-with_move m s = with_point m s.v (point_at (plus (own_points m s.v) (displacement_of s.by)))
+with_move m s = with_point m s.v (point_at (plus (rest_positions m s.v) (displacement_of s.by)))
 
 -- the mesh after moves, one after the other
 abbrev pub with_moves : Mesh → Shifts → Mesh

@@ -21,7 +21,7 @@ use Rattle.mesh_base.specs.Changes.{corners_of}
 use Rattle.mesh_base.specs.Given.{mesh_of}
 use Rattle.mesh_base.specs.Sides.{follows, has_corner, runs, IsClosed, IsEdge}
 use Rattle.mesh_base.specs.Pairs.{Pair, IsPair}
-use Rattle.mesh_base.specs.Placements.{own_points, position_or_origin, positions, IsClearMesh}
+use Rattle.mesh_base.specs.Placements.{rest_positions, position_or_origin, positions, IsClearMesh}
 use Rattle.mesh_base.proofs.Listed.{each_found, at_key}
 use Rattle.mesh_base.proofs.WalkSteps.{both_of, less_true}
 use Rattle.mesh_base.proofs.Ordered.{entries-of_sorted}
@@ -132,7 +132,7 @@ module _ (m : Mesh) (sound : IsSound m) where
   live_found v live = ap is_some (sym (get-entries m.points v)) ∙ live
 
   -- a vertex stands where it stood
-  point_again : (v : ℕ) → IsLiveVertex m v → own_points again (rank m v) ≡ own_points m v
+  point_again : (v : ℕ) → IsLiveVertex m v → rest_positions again (rank m v) ≡ rest_positions m v
   point_again v live =
       let es = finite.entries m.points in
       let found = at_rank es v (entries_sorted m.points) (live_found v live) in
@@ -315,12 +315,12 @@ module _ (m : Mesh) (sound : IsSound m) where
         not_first = no_corner c ends.u (ap (λ k. has_corner k (rank m ends.u)) (sym face.corners-are) ∙ ap (has_corner p.corners) (sym ends.a-is) ∙ is_pair.not_first);
         not_second = no_corner c ends.v (ap (λ k. has_corner k (rank m ends.v)) (sym face.corners-are) ∙ ap (has_corner p.corners) (sym ends.b-is) ∙ is_pair.not_second);
       } in
-      let at-a : own_points again p.name.a ≡ own_points m ends.u = ap (own_points again) ends.a-is ∙ point_again ends.u ends.u-live in
-      let at-b : own_points again p.name.b ≡ own_points m ends.v = ap (own_points again) ends.b-is ∙ point_again ends.v ends.v-live in
-      let at-c : own_points again p.corners.first ≡ own_points m c.first = ap (λ k. own_points again k.first) face.corners-are ∙ point_again c.first live.0 in
-      let at-d : own_points again p.corners.second ≡ own_points m c.second = ap (λ k. own_points again k.second) face.corners-are ∙ point_again c.second live.1 in
-      let at-e : own_points again p.corners.third ≡ own_points m c.third = ap (λ k. own_points again k.third) face.corners-are ∙ point_again c.third live.2 in
-      let same : ◌≡◌ {A = Positions} (positions (own_points again) p) (positions (own_points m) old) = λ i. record { a = at-a i; b = at-b i; c = at-c i; d = at-d i; e = at-e i } in
+      let at-a : rest_positions again p.name.a ≡ rest_positions m ends.u = ap (rest_positions again) ends.a-is ∙ point_again ends.u ends.u-live in
+      let at-b : rest_positions again p.name.b ≡ rest_positions m ends.v = ap (rest_positions again) ends.b-is ∙ point_again ends.v ends.v-live in
+      let at-c : rest_positions again p.corners.first ≡ rest_positions m c.first = ap (λ k. rest_positions again k.first) face.corners-are ∙ point_again c.first live.0 in
+      let at-d : rest_positions again p.corners.second ≡ rest_positions m c.second = ap (λ k. rest_positions again k.second) face.corners-are ∙ point_again c.second live.1 in
+      let at-e : rest_positions again p.corners.third ≡ rest_positions m c.third = ap (λ k. rest_positions again k.third) face.corners-are ∙ point_again c.third live.2 in
+      let same : ◌≡◌ {A = Positions} (positions (rest_positions again) p) (positions (rest_positions m) old) = λ i. record { a = at-a i; b = at-b i; c = at-c i; d = at-d i; e = at-e i } in
       clear old was (subst MeetAt same meet)
 
 -- ---- what reading gives

@@ -1,7 +1,7 @@
 -- Where a vertex begins and ends.
 use Rattle.std.specs.Prelude.{ℕ}
 use Rattle.mesh_base.specs.Mesh.{Mesh}
-use Rattle.mesh_base.specs.Placements.{Motion, own_points}
+use Rattle.mesh_base.specs.Placements.{Motion, rest_positions}
 use Rattle.pair_paths.specs.declared.path.Path.{Path}
 
 -- the path of a vertex in a motion
@@ -10,4 +10,4 @@ path_along w v = record { start = w.start v; end = w.end v }
 
 -- the motion in which each vertex of a mesh stays where it stands
 abbrev pub at_rest : Mesh → Motion
-at_rest m = record { start = own_points m; end = own_points m }
+at_rest m = record { start = rest_positions m; end = rest_positions m }

@@ -11,7 +11,7 @@ use Rattle.grid_decided.specs.Decided.{meets_exactly, meets_exactly-is_exact}
 use Rattle.mesh_base.specs.declared.ids.PairName.{PairName}
 use Rattle.mesh_base.specs.Mesh.{Mesh, IsSound}
 use Rattle.mesh_base.specs.Pairs.{Pair, IsPair, pairs}
-use Rattle.mesh_base.specs.Placements.{own_points, positions, IsClearMesh}
+use Rattle.mesh_base.specs.Placements.{rest_positions, positions, IsClearMesh}
 use Rattle.mesh_base.proofs.ListedPairs.{pair_listed, listed_pairs, all_weaker}
 use Rattle.pair_scan.specs.Scan.{first_of, IsMeeting}
 
@@ -50,23 +50,23 @@ apart f never = by_test (meets_exactly f) refl
 
 -- whether the pair meets where the vertices stand
 abbrev met : Mesh → Pair → Bool
-met m p = meets_exactly (positions (own_points m) p)
+met m p = meets_exactly (positions (rest_positions m) p)
 
 none_is_clear : (m : Mesh) → IsSound m → first_of m (pairs m) ≡ None → IsClearMesh m
 none_is_clear m sound none p is meet =
     let all_off = none_passes (met m) (pairs m) (nothing (λ q. q.name) (find (met m) (pairs m)) none) in
     let off : met m p ≡ false = All-contains (λ q. met m q ≡ false) (pairs m) p (All-from_recursion (λ q. met m q ≡ false) (pairs m) all_off) ((pair_listed m sound p).1 is) in
-    false≢true (sym off ∙ (meets_exactly-is_exact (positions (own_points m) p)).1 meet)
+    false≢true (sym off ∙ (meets_exactly-is_exact (positions (rest_positions m) p)).1 meet)
 
 clear_is_none : (m : Mesh) → IsClearMesh m → first_of m (pairs m) ≡ None
 clear_is_none m clear =
-    ap (option_map (λ q. q.name)) (found_none (met m) (pairs m) (all_weaker (IsPair m) (λ p. met m p ≡ false) (pairs m) (λ p is. apart (positions (own_points m) p) (clear p is)) (listed_pairs m)))
+    ap (option_map (λ q. q.name)) (found_none (met m) (pairs m) (all_weaker (IsPair m) (λ p. met m p ≡ false) (pairs m) (λ p is. apart (positions (rest_positions m) p) (clear p is)) (listed_pairs m)))
 
 some_meets : (m : Mesh) (n : PairName) → first_of m (pairs m) ≡ Some n → IsMeeting m n
 some_meets m n e = by_answer (find (met m) (pairs m)) refl e
   where
     named : (p : Pair) → p.name ≡ n → met m p ≡ true → IsPair m p → IsMeeting m n
-    named p same passes is = subst (λ k. IsMeeting m k) same (p.corners, is, (meets_exactly-is_exact (positions (own_points m) p)).0 passes)
+    named p same passes is = subst (λ k. IsMeeting m k) same (p.corners, is, (meets_exactly-is_exact (positions (rest_positions m) p)).0 passes)
 
     by_answer : (o : Option Pair) → find (met m) (pairs m) ≡ o → option_map (λ q. q.name) o ≡ Some n → IsMeeting m n
     by_answer None f e = cc

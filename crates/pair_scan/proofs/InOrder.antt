@@ -14,7 +14,7 @@ use Rattle.mesh_base.specs.declared.ids.PairName.{PairName}
 use Rattle.mesh_base.specs.Failing.{failing, pair_passes}
 use Rattle.mesh_base.specs.Mesh.{Mesh, IsSound}
 use Rattle.mesh_base.specs.Pairs.{Pair, IsPair, pairs, name_cmp}
-use Rattle.mesh_base.specs.Placements.{Motion, own_points, positions}
+use Rattle.mesh_base.specs.Placements.{Motion, rest_positions, positions}
 use Rattle.mesh_base.specs.Shifts.{Shifts, moved_by}
 use Rattle.mesh_base.proofs.Listed.{listed, all_map, all_filter}
 use Rattle.mesh_base.proofs.ListedPairs.{listed_pairs, all_mapped, all_filtered, all_weaker}
@@ -77,15 +77,15 @@ first_found test (y ∷ ys) x h e = by_test (first_found test ys x h.1) (test y)
 
 -- no pair that meets comes before what is answered
 none_before : (m : Mesh) (n : PairName) → IsSound m → first_of m (pairs m) ≡ Some n → NoneMeetsBefore m n
-none_before m n sound e o meeting less = by_found (find (λ p. meets_exactly (positions (own_points m) p)) (pairs m)) refl e
+none_before m n sound e o meeting less = by_found (find (λ p. meets_exactly (positions (rest_positions m) p)) (pairs m)) refl e
   where
-    by_found : (f : Option Pair) → find (λ p. meets_exactly (positions (own_points m) p)) (pairs m) ≡ f → option_map (λ p. p.name) f ≡ Some n → ⊥
+    by_found : (f : Option Pair) → find (λ p. meets_exactly (positions (rest_positions m) p)) (pairs m) ≡ f → option_map (λ p. p.name) f ≡ Some n → ⊥
     by_found None at is = cc
     by_found (Some p) at is =
         let same : p.name ≡ n = cc in
-        listed m (λ q. meets_exactly (positions (own_points m) q) ≡ true → ¬ (by_name q p ≡ Less)) sound
-        (first_found (λ q. meets_exactly (positions (own_points m) q)) (pairs m) p (pairs_sorted m) at)
-        (record { name = o; corners = meeting.0 }) meeting.1 ((meets_exactly-is_exact (positions (own_points m) (record { name = o; corners = meeting.0 }))).1 meeting.2)
+        listed m (λ q. meets_exactly (positions (rest_positions m) q) ≡ true → ¬ (by_name q p ≡ Less)) sound
+        (first_found (λ q. meets_exactly (positions (rest_positions m) q)) (pairs m) p (pairs_sorted m) at)
+        (record { name = o; corners = meeting.0 }) meeting.1 ((meets_exactly-is_exact (positions (rest_positions m) (record { name = o; corners = meeting.0 }))).1 meeting.2)
         (subst (λ k. name_cmp o k ≡ Less) (sym same) less)
 
 pub answer_is_first : (m : Mesh) (r : Option PairName) → IsSound m → r ≡ first_of m (pairs m) → IfSome r (NoneMeetsBefore m)

@@ -13,7 +13,7 @@ use Rattle.grid_base.specs.Points.{position_of, displacement_of, is_within, poin
 use Rattle.grid_base.proofs.PointLaws.{position_of-point_at, within_of, of_within}
 use Rattle.mesh_base.specs.declared.steps.ShiftOf.{ShiftOf}
 use Rattle.mesh_base.specs.Mesh.{Mesh}
-use Rattle.mesh_base.specs.Placements.{origin, own_points}
+use Rattle.mesh_base.specs.Placements.{origin, rest_positions}
 use Rattle.mesh_base.specs.Shifts.{Shifts, NameLive, shift_at, end_in_box}
 use Rattle.mesh_base.proofs.Moves.{plus-origin, own_within, both_true}
 use Rattle.mesh_base.proofs.InOrder.{keys_sorted}
@@ -31,17 +31,17 @@ displaced by v = by_answer (find (λ s. s.v == v) by)
     by_answer (Some s) = refl
 
 -- ---- the ends are in the box
-shifted_within : (m : Mesh) (by : Shifts) (v : ℕ) → end_in_box m by ≡ true → is_within BOX (plus (own_points m v) (shift_at by v)) ≡ true
-shifted_within m [] v h = ap (is_within BOX) (plus-origin (own_points m v)) ∙ of_within BOX (own_points m v) (own_within m v)
+shifted_within : (m : Mesh) (by : Shifts) (v : ℕ) → end_in_box m by ≡ true → is_within BOX (plus (rest_positions m v) (shift_at by v)) ≡ true
+shifted_within m [] v h = ap (is_within BOX) (plus-origin (rest_positions m v)) ∙ of_within BOX (rest_positions m v) (own_within m v)
 shifted_within m (s ∷ by) v h =
-    let parts = both_true (is_within BOX (plus (own_points m s.v) (displacement_of s.by))) (end_in_box m by) h in
+    let parts = both_true (is_within BOX (plus (rest_positions m s.v) (displacement_of s.by))) (end_in_box m by) h in
     by_test parts.0 (shifted_within m by v parts.1) (s.v == v) refl
   where
-    by_test : is_within BOX (plus (own_points m s.v) (displacement_of s.by)) ≡ true → is_within BOX (plus (own_points m v) (shift_at by v)) ≡ true
-        → (b : Bool) → (s.v == v) ≡ b → is_within BOX (plus (own_points m v) (unwrap_or (option_map (λ x. displacement_of x.by) (cond b (Some s) (find (λ x. x.v == v) by))) origin)) ≡ true
-    by_test here rest true e = subst (λ u. is_within BOX (plus (own_points m u) (displacement_of s.by)) ≡ true) (eqb-true s.v v e) here
+    by_test : is_within BOX (plus (rest_positions m s.v) (displacement_of s.by)) ≡ true → is_within BOX (plus (rest_positions m v) (shift_at by v)) ≡ true
+        → (b : Bool) → (s.v == v) ≡ b → is_within BOX (plus (rest_positions m v) (unwrap_or (option_map (λ x. displacement_of x.by) (cond b (Some s) (find (λ x. x.v == v) by))) origin)) ≡ true
+    by_test here rest true e = subst (λ u. is_within BOX (plus (rest_positions m u) (displacement_of s.by)) ≡ true) (eqb-true s.v v e) here
     by_test here rest false e = rest
 
 -- a vertex ends where its motion does
-pub end_position : (m : Mesh) (by : Shifts) (v : ℕ) → end_in_box m by ≡ true → position_of (point_at (plus (own_points m v) (shift_at by v))) ≡ plus (own_points m v) (shift_at by v)
-end_position m by v h = position_of-point_at (plus (own_points m v) (shift_at by v)) (within_of BOX (plus (own_points m v) (shift_at by v)) (shifted_within m by v h))
+pub end_position : (m : Mesh) (by : Shifts) (v : ℕ) → end_in_box m by ≡ true → position_of (point_at (plus (rest_positions m v) (shift_at by v))) ≡ plus (rest_positions m v) (shift_at by v)
+end_position m by v h = position_of-point_at (plus (rest_positions m v) (shift_at by v)) (within_of BOX (plus (rest_positions m v) (shift_at by v)) (shifted_within m by v h))

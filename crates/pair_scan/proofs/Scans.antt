@@ -10,7 +10,7 @@ use Rattle.mesh_base.specs.declared.ids.Corners.{Corners}
 use Rattle.mesh_base.specs.Mesh.{Mesh}
 use Rattle.mesh_base.specs.Sides.{has_corner}
 use Rattle.mesh_base.specs.Pairs.{Pair, pairs_of}
-use Rattle.mesh_base.specs.Placements.{Motion, own_points, positions}
+use Rattle.mesh_base.specs.Placements.{Motion, rest_positions, positions}
 use Rattle.mesh_base.proofs.Tests.{both_ways}
 use Rattle.pair_paths.specs.Moving.{moving_edge, moving_face, moving_faces}
 use Rattle.pair_paths.specs.Pairing.{name_with}
@@ -39,7 +39,7 @@ first_of_edge m a b =
     let e = moving_edge w a b in
     let pair : ℕ × Corners → Pair = λ f. record { name = record { a = a; b = b; face = f.0 }; corners = f.1 } in
     let apart : ℕ × Corners → Bool = λ f. not (has_corner f.1 a || has_corner f.1 b) in
-    let meets : Pair → Bool = λ p. meets_exactly (positions (own_points m) p) in
+    let meets : Pair → Bool = λ p. meets_exactly (positions (rest_positions m) p) in
     ap (option_map (name_with e)) (find-map (meets_face e) (moving_face w) es)
     ∙ option_map-option_map (name_with e) (moving_face w) (find (λ f. apart f && meets (pair f)) es)
     ∙ sym (

@@ -2,7 +2,7 @@
 ghost use Rattle.std.specs.Prelude.{◌≡◌, ◌↔◌, IfOk, IfSome, IsNone, slice_get};
 ghost use Rattle.grid_decided.specs.Decided.{meets_exactly};
 ghost use Rattle.mesh_base.specs.Pairs.{pairs_of};
-ghost use Rattle.mesh_base.specs.Placements.{own_points, IsClearMesh};
+ghost use Rattle.mesh_base.specs.Placements.{rest_positions, IsClearMesh};
 ghost use Rattle.mesh_base.specs.Failing.{first_meeting};
 ghost use Rattle.pair_paths.specs.Bounds.{HoldsFace, AreBoxes};
 ghost use Rattle.pair_paths.specs.Moving.{moving_faces};
@@ -85,7 +85,7 @@ fn first_of_edge<S: Surface>(
 /// The first pair of a mesh that meets, in order of the edge and then of the face, where its vertices stand; None exactly
 /// where the mesh is clear. Refuses only where there is no memory.
 pub fn first_meeting<S: Surface>(alloc: Global, mesh: &S) -> Result<Option<PairName>, NoMemory>
-    ensures first { IfOk result (λ r. r ≡ first_meeting meets_exactly (S.mesh mesh.now) (own_points (S.mesh mesh.now))) }
+    ensures first { IfOk result (λ r. r ≡ first_meeting meets_exactly (S.mesh mesh.now) (rest_positions (S.mesh mesh.now))) }
     // None: no pair meets. Some: a pair that meets, and none that meets comes before it.
     ensures clear { IfOk result (λ r. IsNone r ↔ IsClearMesh (S.mesh mesh.now)) }
     ensures meets { IfOk result (λ r. IfSome r (IsMeeting (S.mesh mesh.now))) }

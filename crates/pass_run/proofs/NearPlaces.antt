@@ -16,7 +16,7 @@ use Rattle.grid_base.specs.Triples.{Triple, IsWithin}
 use Rattle.cell_grid.specs.Overlapping.{overlapping}
 use Rattle.cell_grid.proofs.Shared.{overlap_common}
 use Rattle.mesh_base.specs.Mesh.{Mesh}
-use Rattle.mesh_base.specs.Placements.{own_points, position_or_origin}
+use Rattle.mesh_base.specs.Placements.{rest_positions, position_or_origin}
 use Rattle.mesh_base.proofs.ListedPairs.{all_weaker}
 use Rattle.edit_base.specs.declared.Asked.{Asked}
 use Rattle.edit_base.specs.Edges.{exact_mid}
@@ -98,8 +98,8 @@ sum_fits a b h i = omega (arith, ints)
 
 mid_fits : (m : Mesh) (u v : ℕ) → IsWithin HALF_MAX (exact_mid m u v)
 mid_fits m u v =
-    let p = own_points m u in
-    let q = own_points m v in
+    let p = rest_positions m u in
+    let q = rest_positions m v in
     let first = own_fits (finite.get m.points u) in
     let second = own_fits (finite.get m.points v) in
     record { x_fits = sum_fits p.x q.x first.x_fits second.x_fits; y_fits = sum_fits p.y q.y first.y_fits second.y_fits; z_fits = sum_fits p.z q.z first.z_fits second.z_fits }

@@ -8,7 +8,7 @@ use Rattle.edit_base.specs.declared.PassKind.{PassKind}
 use Rattle.edit_base.specs.declared.PassKind.TheVariants.{Split, Collapse, Flip, Zip, Pinch}
 use Rattle.mesh_base.specs.Mesh.{Mesh}
 use Rattle.mesh_base.specs.Pairs.{edges, is_edge, is_crowded}
-use Rattle.mesh_base.specs.Placements.{own_points}
+use Rattle.mesh_base.specs.Placements.{rest_positions}
 use Rattle.edit_base.specs.Edges.{edge_of, exact_mid}
 use Rattle.edit_zip.specs.Zip.{square}
 use Rattle.edit_pinch.specs.Pinch.{fans}
@@ -61,7 +61,7 @@ pairs_within Pinch = None
 
 -- the square of the length from one vertex to another
 abbrev pub length_squared : Mesh → ℕ → ℕ → ℤ
-length_squared m u v = square (minus (own_points m u) (own_points m v))
+length_squared m u v = square (minus (rest_positions m u) (rest_positions m v))
 
 -- the square of a limit
 abbrev pub squared : ℕ → ℤ

@@ -200,8 +200,8 @@ fn take_all<S: Surface, K: Sink>(
 ///
 /// - `Split { over }`: the edge is longer than `over`.
 /// - `Collapse { under }`: the edge is shorter than `under`.
-/// - `Flip`: the edge is not crowded, and it is longer than the distance of the third corners of the faces beside it.
-/// - `Zip { within }`: neither edge is crowded, the ids of their ends and of the third corners of the faces beside them are eight,
+/// - `Flip`: the edge is not crowded, and it is longer than the distance of the opposite vertices of the faces beside it.
+/// - `Zip { within }`: neither edge is crowded, the ids of their ends and of the opposite vertices of the faces beside them are eight,
 ///   and their midpoints are no further apart than `within`.
 /// - `Pinch`: the faces at the vertex are two fans or more.
 ///

@@ -48,7 +48,7 @@ fn is_collapse_due<S: Surface>(mesh: &S, kind: PassKind, a: VertexId, b: VertexI
     is_shorter(mesh, a, b, limit_of(kind)) && is_edge(mesh, a, b)
 }
 
-/// Whether the length from one vertex to another is above the distance of the third corners of the faces beside an edge.
+/// Whether the length from one vertex to another is above the distance of the opposite vertices of the faces beside an edge.
 fn is_longer_than_across<S: Surface>(mesh: &S, a: VertexId, b: VertexId, e: &EdgeFaces) -> bool
     ensures { let m = S.mesh mesh.now in
         result ≡ int_lt (length_squared m e.now.c e.now.d) (length_squared m a b) }

@@ -11,7 +11,7 @@ use Rattle.grid_base.specs.Points.{displacement_of, is_within}
 use Rattle.grid_base.proofs.PointLaws.{displacement_of-shift_by, within_of, of_within}
 use Rattle.mesh_base.specs.declared.ShiftOf.{ShiftOf}
 use Rattle.mesh_base.specs.Mesh.{Mesh}
-use Rattle.mesh_base.specs.Placements.{origin, own_points}
+use Rattle.mesh_base.specs.Placements.{origin, rest_positions}
 use Rattle.mesh_base.specs.Shifts.{Shifts, shift_at, end_in_box}
 use Rattle.mesh_base.proofs.Moves.{both_true, plus-origin, own_within}
 use Rattle.step_choose.specs.Choice.{halved_shift, halved_times, at_rest, all_at_rest}
@@ -51,15 +51,15 @@ names_halved n (s ∷ rest) = ap (λ ids. s.v ∷ ids) (names_halved n rest)
 pub ends_halved : (m : Mesh) (n : ℕ) (shifts : Shifts) → end_in_box m shifts ≡ true → end_in_box m (halved_times n shifts) ≡ true
 ends_halved m n [] e = refl
 ends_halved m n (s ∷ rest) e =
-    let parts = both_true (is_within BOX (plus (own_points m s.v) (displacement_of s.by))) (end_in_box m rest) e in
-    let here = within_of BOX (plus (own_points m s.v) (displacement_of s.by)) parts.0 in
+    let parts = both_true (is_within BOX (plus (rest_positions m s.v) (displacement_of s.by))) (end_in_box m rest) e in
+    let here = within_of BOX (plus (rest_positions m s.v) (displacement_of s.by)) parts.0 in
     let own = own_within m s.v in
-    let inside : is_within BOX (plus (own_points m s.v) (halved_of n (displacement_of s.by))) ≡ true = of_within BOX (plus (own_points m s.v) (halved_of n (displacement_of s.by))) (record {
-      x_fits = part_way (own_points m s.v).x s.by.x n BOX own.x_fits here.x_fits;
-      y_fits = part_way (own_points m s.v).y s.by.y n BOX own.y_fits here.y_fits;
-      z_fits = part_way (own_points m s.v).z s.by.z n BOX own.z_fits here.z_fits;
+    let inside : is_within BOX (plus (rest_positions m s.v) (halved_of n (displacement_of s.by))) ≡ true = of_within BOX (plus (rest_positions m s.v) (halved_of n (displacement_of s.by))) (record {
+      x_fits = part_way (rest_positions m s.v).x s.by.x n BOX own.x_fits here.x_fits;
+      y_fits = part_way (rest_positions m s.v).y s.by.y n BOX own.y_fits here.y_fits;
+      z_fits = part_way (rest_positions m s.v).z s.by.z n BOX own.z_fits here.z_fits;
     }) in
-    ap (λ b. b && end_in_box m (halved_times n rest)) (ap (λ d. is_within BOX (plus (own_points m s.v) d)) (halved_displacement n s) ∙ inside) ∙ ends_halved m n rest parts.1
+    ap (λ b. b && end_in_box m (halved_times n rest)) (ap (λ d. is_within BOX (plus (rest_positions m s.v) d)) (halved_displacement n s) ∙ inside) ∙ ends_halved m n rest parts.1
 
 pub names_at_rest : (shifts : Shifts) → map (λ s. s.v) (all_at_rest shifts) ≡ map (λ s. s.v) shifts
 names_at_rest [] = refl
@@ -68,7 +68,7 @@ names_at_rest (s ∷ rest) = ap (λ ids. s.v ∷ ids) (names_at_rest rest)
 pub ends_at_rest : (m : Mesh) (shifts : Shifts) → end_in_box m (all_at_rest shifts) ≡ true
 ends_at_rest m [] = refl
 ends_at_rest m (s ∷ rest) =
-    ap (λ b. b && end_in_box m (all_at_rest rest)) (ap (is_within BOX) (plus-origin (own_points m s.v)) ∙ of_within BOX (own_points m s.v) (own_within m s.v)) ∙ ends_at_rest m rest
+    ap (λ b. b && end_in_box m (all_at_rest rest)) (ap (is_within BOX) (plus-origin (rest_positions m s.v)) ∙ of_within BOX (rest_positions m s.v) (own_within m s.v)) ∙ ends_at_rest m rest
 
 pub shift_at_rest : (shifts : Shifts) (v : ℕ) → shift_at (all_at_rest shifts) v ≡ origin
 shift_at_rest [] v = refl

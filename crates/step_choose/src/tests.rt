@@ -3,7 +3,7 @@ ghost use Rattle.std.specs.Prelude.{◌≡◌, true, IsTrue, IfOk};
 ghost use Rattle.grid_base.specs.declared.TheConstants.{BOX};
 ghost use Rattle.grid_base.specs.Points.{position_of, displacement_of, is_within};
 ghost use Rattle.grid_base.specs.Triples.{plus};
-ghost use Rattle.mesh_base.specs.Placements.{own_points};
+ghost use Rattle.mesh_base.specs.Placements.{rest_positions};
 ghost use Rattle.mesh_base.specs.Shifts.{NameLive, end_in_box};
 
 use crate::{Settings, choose};
@@ -59,7 +59,7 @@ fn beside(alloc: Global, rt: &impl Abort) -> Result<PlainMesh, NoMemory> {
 // The shift of the vertex 5, and none of another.
 fn shift_of<S: Surface>(mesh: &S, v: VertexId, x: i32, rt: &impl Abort) -> ShiftOf
     ensures named { result.v ≡ v }
-    ensures in_box { is_within BOX (plus (own_points (S.mesh mesh.now) v) (displacement_of result.by)) ≡ true }
+    ensures in_box { is_within BOX (plus (rest_positions (S.mesh mesh.now) v) (displacement_of result.by)) ≡ true }
 {
     let from = mesh.point(v).expect(rt, "a live vertex");
     let x = if v.0 == 5 { x } else { 0 };

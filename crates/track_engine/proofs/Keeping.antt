@@ -19,7 +19,7 @@ use Rattle.mesh_base.specs.Mesh.{Mesh, IsSound}
 use Rattle.mesh_base.specs.Sides.{IsClosed}
 use Rattle.grid_base.specs.Meeting.{MeetAt}
 use Rattle.grid_base.specs.Motion.{position_at}
-use Rattle.mesh_base.specs.Placements.{origin, own_points, at_fraction, IsClearAlong}
+use Rattle.mesh_base.specs.Placements.{origin, rest_positions, at_fraction, IsClearAlong}
 use Rattle.mesh_base.specs.Shifts.{Shifts, NameLive, NameOnce, with_shift, shift_at, moved_by}
 use Rattle.mesh_base.proofs.Moves.{same_positions, sound-with_moves, closed-with_moves, clear_after_moves}
 use Rattle.mesh_base.proofs.KeysKept.{keys-with_moves}
@@ -89,7 +89,7 @@ no_move s e =
 clear_alike : (m : Mesh) (xs ys : Shifts) → ((v : ℕ) → shift_at xs v ≡ shift_at ys v) → IsClearAlong m (moved_by m ys) → IsClearAlong m (moved_by m xs)
 clear_alike m xs ys same along p q some within pair is meet =
     along p q some within pair is
-    (subst MeetAt (same_positions (at_fraction p q (moved_by m xs)) (at_fraction p q (moved_by m ys)) pair (λ v. ap (λ t. position_at p q (own_points m v) (plus (own_points m v) t)) (same v))) meet)
+    (subst MeetAt (same_positions (at_fraction p q (moved_by m xs)) (at_fraction p q (moved_by m ys)) pair (λ v. ap (λ t. position_at p q (rest_positions m v) (plus (rest_positions m v) t)) (same v))) meet)
 
 -- the lines of a step that goes well, and the mesh after it
 module _ (m : Mesh) (good : IsValidSurface m) (k : ℕ) (pairs : List PairName) (way : Way) (well : GoesWell m way.taken) where

@@ -12,7 +12,7 @@ use Rattle.mesh_base.specs.declared.PairName.{PairName}
 use Rattle.mesh_base.specs.declared.UseWhy.{UseWhy}
 use Rattle.mesh_base.specs.declared.UseWhy.TheVariants.{NoVertex, ShiftRange, Box}
 use Rattle.mesh_base.specs.Mesh.{Mesh}
-use Rattle.mesh_base.specs.Placements.{own_points}
+use Rattle.mesh_base.specs.Placements.{rest_positions}
 use Rattle.mesh_base.specs.Shifts.{Shifts, with_shift, with_moves}
 use Rattle.mesh_base.specs.Failing.{failing}
 use Rattle.grid_decided.specs.Decided.{meets_exactly}
@@ -67,7 +67,7 @@ sum_of_one v by asked = sum_at (asked_of v asked) v by asked
 
 -- where a vertex ends
 abbrev pub end_of : Mesh → ShiftOf → Triple
-end_of m s = plus (own_points m s.v) (displacement_of s.by)
+end_of m s = plus (rest_positions m s.v) (displacement_of s.by)
 
 -- the first vertex whose asked end is outside the box
 abbrev pub first_outside : Mesh → Shifts → Option ℕ

@@ -3,7 +3,7 @@ use Rattle.std.specs.Prelude.{List, ◌∷◌, Option, Some, None, Result, Ok, E
 use Rattle.grid_decided.specs.Decided.{meets_exactly}
 use Rattle.mesh_base.specs.declared.PairName.{PairName}
 use Rattle.mesh_base.specs.Mesh.{Mesh}
-use Rattle.mesh_base.specs.Placements.{own_points}
+use Rattle.mesh_base.specs.Placements.{rest_positions}
 use Rattle.mesh_base.specs.Failing.{first_meeting}
 use Rattle.step_text.specs.declared.Placed.{Placed}
 use Rattle.log_text.specs.declared.TheConstants.{VERSION}
@@ -17,7 +17,7 @@ use Rattle.track_engine.specs.Effects.{ExpectedLog, log_from, refused, mesh_line
 
 -- the first edge and face of a mesh that meet where its vertices stand
 abbrev pub met_first : Mesh → Option PairName
-met_first m = first_meeting meets_exactly m (own_points m)
+met_first m = first_meeting meets_exactly m (rest_positions m)
 
 -- the log from the first mesh that is saved on
 abbrev pub log_of_mesh : Mesh → List Placed → ExpectedLog

@@ -69,11 +69,11 @@ pub(crate) fn nth_cell(s: &Span, n: u32) -> Cell
     requires { n < s.now.count }
     ensures { result ≡ nth_cell s.now n }
 {
-    let row = n / s.wide;
+    let row = n / s.nx;
     Cell {
-        x: s.first.x + n % s.wide,
-        y: s.first.y + row % s.deep,
-        z: s.first.z + row / s.deep,
+        x: s.first.x + n % s.nx,
+        y: s.first.y + row % s.ny,
+        z: s.first.z + row / s.ny,
     }
 }
 
@@ -86,25 +86,25 @@ fn span_between(first: Cell, last: Cell) -> Option<Span>
     requires y_fits { last.y ≤ 2 * EXTENT_MAX }
     requires z_fits { last.z ≤ 2 * EXTENT_MAX }
     ensures first { IfSome result (λ s. s.first ≡ first) }
-    ensures x { IfSome result (λ s. last.x < first.x + s.wide) }
-    ensures y { IfSome result (λ s. last.y < first.y + s.deep) }
-    ensures z { IfSome result (λ s. last.z < first.z + s.tall) }
+    ensures x { IfSome result (λ s. last.x < first.x + s.nx) }
+    ensures y { IfSome result (λ s. last.y < first.y + s.ny) }
+    ensures z { IfSome result (λ s. last.z < first.z + s.nz) }
 {
-    let wide = last.x - first.x + 1;
-    let deep = last.y - first.y + 1;
-    let tall = last.z - first.z + 1;
-    if wide > CELLS_MAX || deep > CELLS_MAX || tall > CELLS_MAX {
+    let nx = last.x - first.x + 1;
+    let ny = last.y - first.y + 1;
+    let nz = last.z - first.z + 1;
+    if nx > CELLS_MAX || ny > CELLS_MAX || nz > CELLS_MAX {
         return None;
     }
-    let count = product(wide, deep, tall);
+    let count = product(nx, ny, nz);
     if count > CELLS_MAX {
         return None;
     }
     Some(Span {
         first,
-        wide,
-        deep,
-        tall,
+        nx,
+        ny,
+        nz,
         count,
     })
 }

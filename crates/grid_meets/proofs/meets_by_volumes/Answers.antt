@@ -6,22 +6,22 @@ use Rattle.grid_meets.proofs.Sides.{Meets-side}
 use Rattle.grid_meets.proofs.Comparisons.{test_less, test_not_less, below_zero, not_below_zero, above_zero, not_above_zero, exactly_zero, level_below, level_above}
 use Rattle.grid_meets.proofs.meets_by_volumes.Goals as goal
 
-pub falls-requires-clause-apart : goal.falls-requires-clause-apart
-falls-requires-clause-apart c =
+pub crosses_downward-requires-clause-apart : goal.crosses_downward-requires-clause-apart
+crosses_downward-requires-clause-apart c =
     let a_fits : SFits w128 c.orient-over_a.result = search rules in
     let b_fits : SFits w128 c.orient-over_b.result = search rules in
     test_less _ _ _ _ a_fits b_fits c.orient-over_a.ensures c.orient-over_b.ensures c.if-over_a-over_b.true
 
-pub falls-requires-then-over_b-over_a-clause-apart : goal.falls-requires-then-over_b-over_a-clause-apart
-falls-requires-then-over_b-over_a-clause-apart c =
+pub crosses_downward-requires-then-over_b-over_a-clause-apart : goal.crosses_downward-requires-then-over_b-over_a-clause-apart
+crosses_downward-requires-then-over_b-over_a-clause-apart c =
     let a_fits : SFits w128 c.orient-over_a.result = search rules in
     let b_fits : SFits w128 c.orient-over_b.result = search rules in
     test_less _ _ _ _ b_fits a_fits c.orient-over_b.ensures c.orient-over_a.ensures c.if-over_b-over_a.true
 
 pub returns-then-over_a-over_b : goal.returns-then-over_a-over_b
 returns-then-over_a-over_b c = (
-  λ yes. Meets-exchanged c.args.b c.args.a c.args.c c.args.d c.args.e (c.falls.ensures.0 yes),
-  λ w. c.falls.ensures.1 (Meets-exchanged c.args.a c.args.b c.args.c c.args.d c.args.e w),
+  λ yes. Meets-exchanged c.args.b c.args.a c.args.c c.args.d c.args.e (c.crosses_downward.ensures.0 yes),
+  λ w. c.crosses_downward.ensures.1 (Meets-exchanged c.args.a c.args.b c.args.c c.args.d c.args.e w),
 )
 
 pub returns-then-over_a-lt0 : goal.returns-then-over_a-lt0

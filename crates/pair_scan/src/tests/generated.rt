@@ -3,7 +3,7 @@ ghost use Rattle.std.specs.Prelude.{◌≡◌, true, IsTrue, IfOk};
 ghost use Rattle.grid_base.specs.declared.TheConstants.{BOX};
 ghost use Rattle.grid_base.specs.Points.{position_of, displacement_of, is_within};
 ghost use Rattle.grid_base.specs.Triples.{plus};
-ghost use Rattle.mesh_base.specs.Placements.{own_points};
+ghost use Rattle.mesh_base.specs.Placements.{rest_positions};
 ghost use Rattle.mesh_base.specs.Shifts.{NameLive, end_in_box};
 
 use grid_base::{BOX, NoMemory, Point, Shift, moved};
@@ -126,7 +126,7 @@ fn shift_by<S: Surface>(
     rt: &impl Abort,
 ) -> ShiftOf
     ensures named { result.v ≡ v }
-    ensures in_box { is_within BOX (plus (own_points (S.mesh mesh.now) v) (displacement_of result.by)) ≡ true }
+    ensures in_box { is_within BOX (plus (rest_positions (S.mesh mesh.now) v) (displacement_of result.by)) ≡ true }
 {
     let from = mesh.point(v).expect(rt, "a live vertex");
     let to = numbers.point_near(from, step, rt);

@@ -4,7 +4,7 @@ use Rattle.grid_decided.specs.Decided.{meets_exactly, meets_exactly-is_exact}
 use Rattle.mesh_base.specs.declared.ids.PairName.{PairName}
 use Rattle.mesh_base.specs.Pairs.{Pair, edges, pairs_of}
 use Rattle.edit_base.specs.Scaffold.{Scaffold, is_as_required}
-use Rattle.edit_base.proofs.Clear.{none_lacking_is_clear}
+use Rattle.edit_base.proofs.Clear.{none_failing_is_clear}
 use Rattle.edit_base.proofs.ListedEdges.{edge_at}
 use Rattle.edit_check.specs.Checking.{scaffold_by, first_of}
 use Rattle.pair_scan.proofs.Lists.{first_behind, first_here, first_ended}
@@ -60,4 +60,4 @@ returns-clause-first g c =
 pub returns-clause-clear : goal.returns-clause-clear
 returns-clause-clear g c none =
     let m = g.S.Surface.mesh c.args.mesh.now in
-    none_lacking_is_clear meets_exactly meets_exactly-is_exact (scaffold_by m c.args.moves.now c.args.touch c.args.together.now) c.args.depth (g.met.S.Surface.sound c.args.mesh.now) (sym (returns-clause-first g c))
+    none_failing_is_clear meets_exactly meets_exactly-is_exact (scaffold_by m c.args.moves.now c.args.touch c.args.together.now) c.args.depth (g.met.S.Surface.sound c.args.mesh.now) (sym (returns-clause-first g c))

@@ -2,7 +2,7 @@ use Rattle.std.proofs.Common.{sym, ap, ◌∙◌}
 use Rattle.grid_decided.specs.Decided.{meets_exactly}
 use Rattle.edit_base.specs.declared.answers.Change.TheVariants.{Collapse}
 use Rattle.edit_base.specs.declared.answers.Edit.TheVariants.{Done}
-use Rattle.edit_base.specs.Scaffold.{first_lacking}
+use Rattle.edit_base.specs.Scaffold.{first_failing}
 use Rattle.edit_collapse.specs.Collapse.{collapse_scaffold}
 use Rattle.edit_collapse.proofs.Answered.{hit_is_refused, no_hit_is_done}
 use Rattle.edit_collapse.proofs.collapsing.collapse_or_leave.Goals as goal
@@ -10,10 +10,10 @@ use Rattle.edit_collapse.proofs.collapsing.collapse_or_leave.Goals as goal
 pub returns-in-Some-clause-answer : goal.returns-in-Some-clause-answer
 returns-in-Some-clause-answer g c =
     let m = g.S.Surface.mesh c.args.mesh.now in
-    hit_is_refused meets_exactly m c.args.a c.args.b c.args.depth c.requires.tried c.in-Some.p (sym c.in-Some.is ∙ c.in_ok-p.ensures ∙ ap (λ at. first_lacking meets_exactly (collapse_scaffold m c.args.a c.args.b at) c.args.depth) c.collapse_point-at.ensures)
+    hit_is_refused meets_exactly m c.args.a c.args.b c.args.depth c.requires.tried c.in-Some.p (sym c.in-Some.is ∙ c.in_ok-p.ensures ∙ ap (λ at. first_failing meets_exactly (collapse_scaffold m c.args.a c.args.b at) c.args.depth) c.collapse_point-at.ensures)
 
-pub returns-in_ok-put_or_go_back-in-None-clause-answer : goal.returns-in_ok-put_or_go_back-in-None-clause-answer
-returns-in_ok-put_or_go_back-in-None-clause-answer g c =
+pub returns-in_ok-apply_or_roll_back-in-None-clause-answer : goal.returns-in_ok-apply_or_roll_back-in-None-clause-answer
+returns-in_ok-apply_or_roll_back-in-None-clause-answer g c =
     let m = g.S.Surface.mesh c.args.mesh.now in
     ap (λ at. Done (Collapse c.args.a c.args.b at)) c.collapse_point-at.ensures
-    ∙ no_hit_is_done meets_exactly m c.args.a c.args.b c.args.depth c.requires.tried (sym c.in-None.is ∙ c.in_ok-p.ensures ∙ ap (λ at. first_lacking meets_exactly (collapse_scaffold m c.args.a c.args.b at) c.args.depth) c.collapse_point-at.ensures)
+    ∙ no_hit_is_done meets_exactly m c.args.a c.args.b c.args.depth c.requires.tried (sym c.in-None.is ∙ c.in_ok-p.ensures ∙ ap (λ at. first_failing meets_exactly (collapse_scaffold m c.args.a c.args.b at) c.args.depth) c.collapse_point-at.ensures)

@@ -3,7 +3,7 @@ use Rattle.std.specs.Prelude.{IfOk}
 use Rattle.grid_decided.specs.Decided.{meets_exactly}
 use Rattle.mesh_base.proofs.MarksHold.{stands_along, stands_for_one}
 use Rattle.edit_flip.specs.Flip.{flip_scaffold}
-use Rattle.edit_base.specs.Scaffold.{first_lacking}
+use Rattle.edit_base.specs.Scaffold.{first_failing}
 use Rattle.edit_flip.specs.Tried.{MayBeTried}
 use Rattle.edit_flip.proofs.trying.first_hit.Goals as goal
 
@@ -12,7 +12,7 @@ put_and_check-found-requires-clause-tried g c = subst (λ n. MayBeTried n c.args
 
 pub returns-clause-first : goal.returns-clause-first
 returns-clause-first g c =
-    subst (λ n. IfOk c.put_and_check-found.result (λ found. found ≡ first_lacking meets_exactly (flip_scaffold n c.args.e.now) c.args.depth)) c.in_ok-mark.ensures.mesh c.put_and_check-found.ensures.first
+    subst (λ n. IfOk c.put_and_check-found.result (λ found. found ≡ first_failing meets_exactly (flip_scaffold n c.args.e.now) c.args.depth)) c.in_ok-mark.ensures.mesh c.put_and_check-found.ensures.first
 
 pub returns-clause-mesh : goal.returns-clause-mesh
 returns-clause-mesh g c =

@@ -34,12 +34,12 @@ copies_for-requires-clause-ids g c =
     let same = ap length (later_are c.args.parts.now ∙ ap (drop 1) c.requires.fans) in
     omega (arith, room, same)
 
-pub put_or_go_back-requires-clause-point : goal.put_or_go_back-requires-clause-point
-put_or_go_back-requires-clause-point g c =
+pub apply_or_roll_back-requires-clause-point : goal.apply_or_roll_back-requires-clause-point
+apply_or_roll_back-requires-clause-point g c =
     first_point_is (g.S.Surface.mesh c.args.mesh.now) c.args.v c.args.parts.now c.index-parts-0.result c.as_slice.result.now c.in_ok-at.at c.requires.tried.two_fans c.requires.fans c.index-parts-0.is c.as_slice.ensures c.in_ok-at.ensures
 
-pub put_or_go_back-requires-clause-copies : goal.put_or_go_back-requires-clause-copies
-put_or_go_back-requires-clause-copies g c =
+pub apply_or_roll_back-requires-clause-copies : goal.apply_or_roll_back-requires-clause-copies
+apply_or_roll_back-requires-clause-copies g c =
     c.as_slice-2.ensures ∙ later_copies_are (g.S.Surface.mesh c.args.mesh.now) c.args.v c.args.parts.now c.in_ok-copies.copies c.requires.fans c.in_ok-copies.ensures
 
 pub returns-in-None-clause-answer : goal.returns-in-None-clause-answer

@@ -4,7 +4,7 @@ use Rattle.std.specs.List.{All, zip}
 use Rattle.grid_decided.specs.Decided.{meets_exactly}
 use Rattle.mesh_base.specs.Changes.{with_point}
 use Rattle.edit_pinch.specs.Pinch.{copy_points}
-use Rattle.edit_base.specs.Scaffold.{Scaffold, first_lacking}
+use Rattle.edit_base.specs.Scaffold.{Scaffold, first_failing}
 use Rattle.edit_pinch.proofs.PinchDone.{pinched_live}
 use Rattle.edit_check.specs.Untouched.{MoveFits}
 use Rattle.edit_pinch.specs.InTurn.{CopiedInTurn}
@@ -43,7 +43,7 @@ pub returns-clause-first : goal.returns-clause-first
 returns-clause-first g c =
     let m = g.S.Surface.mesh c.args.mesh.now in
     let here = stands_doubled m c.args.v c.doubled-here.result c.point_of.result c.doubled-here.ensures.value c.point_of.ensures in
-    subst (λ (s : Scaffold). IfOk c.check.result (λ found. found ≡ first_lacking meets_exactly s c.args.depth))
+    subst (λ (s : Scaffold). IfOk c.check.result (λ found. found ≡ first_failing meets_exactly s c.args.depth))
     (is_scaffold m c.args.v c.args.others.now c.args.at c.args.copies.now c.requires.others c.requires.point c.requires.copies c.doubled-here.result here
     (g.S.Surface.mesh c.put_pinch.new.mesh) c.as_slice.result.now c.as_slice-2.result.now c.in_ok-put_pinch.ensures.made (c.as_slice.ensures ∙ c.in_ok-moves.ensures) (c.as_slice-2.ensures ∙ c.in_ok-together.ensures))
     c.check.ensures.first

@@ -4,7 +4,7 @@ use Rattle.mesh_base.specs.declared.ids.PairName.{PairName}
 use Rattle.mesh_base.proofs.MarksHold.{stands_along, stands_for_one}
 use Rattle.edit_base.specs.declared.answers.Change.TheVariants.{Split}
 use Rattle.edit_base.specs.declared.answers.Edit.TheVariants.{Done}
-use Rattle.edit_base.specs.Scaffold.{first_lacking}
+use Rattle.edit_base.specs.Scaffold.{first_failing}
 use Rattle.edit_split.specs.Split.{split_point, split_scaffold}
 use Rattle.edit_split.specs.Tried.{MayBeTried}
 use Rattle.edit_split.proofs.Answered.{tried_answer}
@@ -20,8 +20,8 @@ pub returns-in-Ok-None-clause-answer : goal.returns-in-Ok-None-clause-answer
 returns-in-Ok-None-clause-answer g c =
     let m = g.S.Surface.mesh c.args.mesh.now in
     let s = c.args.e.now in
-    let none : None ≡ first_lacking meets_exactly (split_scaffold m s) c.args.depth =
-    sym c.in-Ok-None.field-0-is ∙ c.in-Ok-None.ensures.first ∙ ap (λ n. first_lacking meets_exactly (split_scaffold n s) c.args.depth) c.mark.ensures.mesh in
+    let none : None ≡ first_failing meets_exactly (split_scaffold m s) c.args.depth =
+    sym c.in-Ok-None.field-0-is ∙ c.in-Ok-None.ensures.first ∙ ap (λ n. first_failing meets_exactly (split_scaffold n s) c.args.depth) c.mark.ensures.mesh in
     (λ i. Done (Split (c.e.view_is i).a (c.e.view_is i).b (c.next_vertex.ensures i) (c.split_point-at.ensures i)))
     ∙ tried_answer m s c.args.depth None c.requires.tried none
 
@@ -30,8 +30,8 @@ returns-in-Ok-Some-clause-answer g c =
     let m = g.S.Surface.mesh c.args.mesh.now in
     let s = c.args.e.now in
     let found : Option PairName = Some c.in-Ok-Some.p in
-    let some : found ≡ first_lacking meets_exactly (split_scaffold m s) c.args.depth =
-    sym c.in-Ok-Some.field-0-is ∙ c.in-Ok-Some.ensures.first ∙ ap (λ n. first_lacking meets_exactly (split_scaffold n s) c.args.depth) c.mark.ensures.mesh in
+    let some : found ≡ first_failing meets_exactly (split_scaffold m s) c.args.depth =
+    sym c.in-Ok-Some.field-0-is ∙ c.in-Ok-Some.ensures.first ∙ ap (λ n. first_failing meets_exactly (split_scaffold n s) c.args.depth) c.mark.ensures.mesh in
     tried_answer m s c.args.depth found c.requires.tried some
 
 pub returns-in-Ok-Some-clause-mesh : goal.returns-in-Ok-Some-clause-mesh

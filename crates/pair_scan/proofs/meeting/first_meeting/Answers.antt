@@ -3,7 +3,7 @@ use Rattle.std.specs.List.{flat_map}
 use Rattle.grid_decided.specs.Decided.{meets_exactly}
 use Rattle.mesh_base.specs.declared.ids.PairName.{PairName}
 use Rattle.mesh_base.specs.Pairs.{Pair, edges, pairs_of}
-use Rattle.mesh_base.specs.Placements.{own_points, positions}
+use Rattle.mesh_base.specs.Placements.{rest_positions, positions}
 use Rattle.pair_scan.specs.Scan.{first_of}
 use Rattle.pair_scan.proofs.Lists.{first_behind, first_here, first_ended}
 use Rattle.pair_scan.proofs.Clear.{clear_exactly, answer_meets}
@@ -16,7 +16,7 @@ loop-a-preserved g c =
     let items = c.as_slice-a-items.result.now in
     let of : ℕ × ℕ → List Pair = λ e. pairs_of m e in
     let name : Pair → PairName = λ p. p.name in
-    let met : Pair → Bool = λ p. meets_exactly (positions (own_points m) p) in
+    let met : Pair → Bool = λ p. meets_exactly (positions (rest_positions m) p) in
     let none : first_of m (of (get_or items c.loop-a.a-index c.loop-a-item.result)) ≡ None = ap (λ e. first_of m (of e)) (sym c.loop-a-item.is) ∙ sym c.in_ok-found.ensures ∙ c.in_default.is in
     sym (first_behind name met of items c.loop-a.a-index c.loop-a-item.result c.loop-a-test.true none) ∙ c.loop-a.invariant
 
@@ -26,7 +26,7 @@ returns-in-Some-clause-first g c =
     let items = c.as_slice-a-items.result.now in
     let of : ℕ × ℕ → List Pair = λ e. pairs_of m e in
     let name : Pair → PairName = λ p. p.name in
-    let met : Pair → Bool = λ p. meets_exactly (positions (own_points m) p) in
+    let met : Pair → Bool = λ p. meets_exactly (positions (rest_positions m) p) in
     let all : items ≡ edges m = c.as_slice-a-items.ensures ∙ c.in_ok-edges.ensures in
     let some : first_of m (of (get_or items c.loop-a.a-index c.loop-a-item.result)) ≡ Some c.in-Some.found = ap (λ e. first_of m (of e)) (sym c.loop-a-item.is) ∙ sym c.in_ok-found.ensures ∙ c.in-Some.is in
     sym (first_here name met of items c.loop-a.a-index c.loop-a-item.result c.in-Some.found c.loop-a-test.true some) ∙ c.loop-a.invariant ∙ ap (λ es. first_of m (flat_map of es)) all
@@ -46,7 +46,7 @@ returns-clause-first g c =
     let items = c.as_slice-a-items.result.now in
     let of : ℕ × ℕ → List Pair = λ e. pairs_of m e in
     let name : Pair → PairName = λ p. p.name in
-    let met : Pair → Bool = λ p. meets_exactly (positions (own_points m) p) in
+    let met : Pair → Bool = λ p. meets_exactly (positions (rest_positions m) p) in
     let all : items ≡ edges m = c.as_slice-a-items.ensures ∙ c.in_ok-edges.ensures in
     sym (first_ended name met of items c.loop-a.a-index c.loop-a-test.false) ∙ c.loop-a.invariant ∙ ap (λ es. first_of m (flat_map of es)) all
 

@@ -2,21 +2,21 @@ use Rattle.std.proofs.Common.{sym, subst}
 use Rattle.std.specs.Prelude.{OnErr, Result, Ok, Err}
 use Rattle.mesh_base.proofs.MarksHold.{stands_along, stands_for_one}
 use Rattle.edit_flip.specs.Tried.{MayBeTried}
-use Rattle.edit_flip.proofs.flipping.put_or_go_back.Goals as goal
+use Rattle.edit_flip.proofs.flipping.apply_or_roll_back.Goals as goal
 
 -- what holds holds at an error
 on_err : {A E P : Type 0} (result : Result A E) → P → OnErr result P
 on_err (Ok value) p = tt
 on_err (Err fault) p = p
 
-pub put_flip-done-requires-clause-tried : goal.put_flip-done-requires-clause-tried
-put_flip-done-requires-clause-tried g c = subst (λ n. MayBeTried n c.args.e.now) (sym c.in_ok-mark.ensures.mesh) c.requires.tried
+pub apply_flip-done-requires-clause-tried : goal.apply_flip-done-requires-clause-tried
+apply_flip-done-requires-clause-tried g c = subst (λ n. MayBeTried n c.args.e.now) (sym c.in_ok-mark.ensures.mesh) c.requires.tried
 
 pub returns-then-is_err-clause-left : goal.returns-then-is_err-clause-left
 returns-then-is_err-clause-left g c =
     let mesh = g.S.Surface.mesh in
     let kept = g.S.Surface.kept in
-    let put = kept c.put_flip-done.new.mesh in
-    on_err c.put_flip-done.result
+    let put = kept c.apply_flip-done.new.mesh in
+    on_err c.apply_flip-done.result
     (stands_for_one put c.in_ok-mark.mark (mesh c.back_to.new.self) (mesh c.args.mesh.now) c.back_to.ensures.mesh
-    (stands_along put (kept c.mark.new.self) c.in_ok-mark.mark (mesh c.args.mesh.now) c.put_flip-done.ensures.marks c.in_ok-mark.ensures.stands))
+    (stands_along put (kept c.mark.new.self) c.in_ok-mark.mark (mesh c.args.mesh.now) c.apply_flip-done.ensures.marks c.in_ok-mark.ensures.stands))

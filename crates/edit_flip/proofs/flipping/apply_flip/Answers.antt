@@ -5,7 +5,7 @@ use Rattle.edit_base.specs.Edges.{Edge, corners_from, AreFresh}
 use Rattle.edit_base.specs.Required.{HasRoomFor}
 use Rattle.edit_flip.specs.Tried.{MayBeTried}
 use Rattle.edit_flip.proofs.PutFlip.{first_is_live, second_is_live, both_fresh, room_for_both}
-use Rattle.edit_flip.proofs.flipping.put_flip.Goals as goal
+use Rattle.edit_flip.proofs.flipping.apply_flip.Goals as goal
 
 pub drop_face-requires : goal.drop_face-requires
 drop_face-requires g c =

@@ -5,7 +5,7 @@ use Rattle.mesh_base.specs.Mesh.{Mesh}
 use Rattle.edit_collapse.specs.Collapse.{placed_if_left}
 use Rattle.edit_collapse.specs.Tried.{others_than, without_if_bare}
 use Rattle.edit_collapse.proofs.Bare.{bare_is}
-use Rattle.edit_collapse.proofs.joining.put_collapse.Goals as goal
+use Rattle.edit_collapse.proofs.joining.apply_collapse.Goals as goal
 
 pub returns-clause-made : goal.returns-clause-made
 returns-clause-made g c =

@@ -7,7 +7,7 @@ use Rattle.edit_base.specs.Edges.{Edge, corners_from, without_faces, AreFresh}
 use Rattle.edit_split.specs.Split.{split_mesh}
 use Rattle.edit_base.specs.Required.{HasEdge, HasRoomFor}
 use Rattle.edit_split.proofs.PutSplit.{forth_is_live, back_is_live, vertex_has_room, faces_are_fresh, faces_have_room}
-use Rattle.edit_split.proofs.acts.put_split.Goals as goal
+use Rattle.edit_split.proofs.acts.apply_split.Goals as goal
 
 pub drop_face-requires : goal.drop_face-requires
 drop_face-requires g c =

@@ -3,7 +3,7 @@ use Rattle.std.specs.Int.{w128}
 use Rattle.std.proofs.lemmas.Bool.{false≢true}
 use Rattle.grid_meets.proofs.Crossing.{crossing_meets, not_under, not_over, not_outside_de, not_outside_ec, not_outside_cd}
 use Rattle.grid_meets.proofs.Comparisons.{below_zero, not_below_zero, above_zero, not_above_zero, at_most_zero, tests_at_most_zero}
-use Rattle.grid_meets.proofs.falls.Goals as goal
+use Rattle.grid_meets.proofs.crosses_downward.Goals as goal
 
 pub returns-then-over_a-lt0 : goal.returns-then-over_a-lt0
 returns-then-over_a-lt0 c =

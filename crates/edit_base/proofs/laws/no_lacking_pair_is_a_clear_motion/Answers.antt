@@ -1,5 +1,0 @@
-use Rattle.edit_base.proofs.Clear.{none_lacking_is_clear}
-use Rattle.edit_base.proofs.laws.no_lacking_pair_is_a_clear_motion.Goals as goal
-
-pub returns : goal.returns
-returns c = none_lacking_is_clear
