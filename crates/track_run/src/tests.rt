@@ -85,65 +85,78 @@ fn a_whole_mesh_is_moved_by_one_step(rt: HostRuntime) -> Result<(), Fail> {
     Ok(())
 }
 
-#[test]
-fn empty_texts_are_a_job(rt: HostRuntime) -> Result<(), Fail> {
-    let alloc = rt.alloc();
-    let mut desk = desk_of(alloc, b"", b"")?;
-    let mut out = sink_of(alloc)?;
-    assert_eq!(rt; track(&mut desk, &mut out, alloc)?, Outcome::Done);
-    assert_eq!(rt; out.bytes(), b"topo log 1\nmesh 0 0 0\nend\n".as_slice());
-    assert_eq!(rt; desk.file("t-000000.obj"), Some(b"".as_slice()));
-    Ok(())
-}
-
-#[test]
-fn directives_are_refused_at_their_line(rt: HostRuntime) -> Result<(), Fail> {
-    let alloc = rt.alloc();
-    let steps = b"shift all 67108860 0 0\nstep\nshift all 1 0 0\nstep\n";
-    let mut desk = desk_of(alloc, MESH, steps)?;
-    let mut out = sink_of(alloc)?;
-    let outside = Outcome::StepUse {
-        line: 4,
-        why: UseWhy::Box { v: 2 },
-    };
-    assert_eq!(rt; track(&mut desk, &mut out, alloc)?, outside);
-    let log =
-        b"topo log 1\nmesh 0 4 4\nstep 1\nmove 1 67108860 0 0\nmove 2 67108860 0 0\nmove 3 67108860 0 0\nmove 4 67108860 0 0\nmoved whole\nrefused use 4 box 2\n";
-    assert_eq!(rt; out.bytes(), log.as_slice());
-    assert_eq!(rt; desk.file("t-000001.obj"), None);
-    let mut desk = desk_of(
-        alloc,
-        MESH,
-        b"shift all 134217728 0 0\nshift all 1 0 0\nstep",
-    )?;
-    let mut out = sink_of(alloc)?;
-    let beyond = Outcome::StepUse {
-        line: 2,
-        why: UseWhy::ShiftRange { v: 1 },
-    };
-    assert_eq!(rt; track(&mut desk, &mut out, alloc)?, beyond);
-    Ok(())
-}
-
 // Two tetrahedra of which one stands with a corner in the other.
 const CROSSING: &[u8] =
     b"v 0 0 0\nv 4 0 0\nv 0 4 0\nv 0 0 4\nv 1 1 1\nv 5 1 1\nv 1 5 1\nv 1 1 5\nf 1 3 2\nf 1 2 4\nf 2 3 4\nf 1 4 3\nf 5 7 6\nf 5 6 8\nf 6 7 8\nf 5 8 7\n";
 
 #[test]
-fn a_mesh_that_meets_itself_is_refused(rt: HostRuntime) -> Result<(), Fail> {
+fn a_job_is_told_as_far_as_it_goes(rt: HostRuntime) -> Result<(), Fail> {
     let alloc = rt.alloc();
-    let mut desk = desk_of(alloc, CROSSING, STEPS)?;
-    let mut out = sink_of(alloc)?;
-    let meets = Outcome::MeshMeets(PairName {
-        a: VertexId(5),
-        b: VertexId(6),
-        face: FaceId(3),
-    });
-    assert_eq!(rt; track(&mut desk, &mut out, alloc)?, meets);
-    assert_eq!(rt;
-        out.bytes(),
-        b"topo log 1\nrefused meets 5 6 3\n".as_slice()
-    );
+    let use_at = |line: u32, why: UseWhy| Outcome::StepUse { line, why };
+    let steps_at = |line: u32, why: TextWhy| Outcome::StepText(TextFault { line, why });
+    let cases: [(&[u8], &[u8], Outcome, &[u8]); 8] = [
+        // Empty texts are a job.
+        (b"", b"", Outcome::Done, b"topo log 1\nmesh 0 0 0\nend\n"),
+        // Directives are refused at their line.
+        (
+            MESH,
+            b"shift all 67108860 0 0\nstep\nshift all 1 0 0\nstep\n",
+            use_at(4, UseWhy::Box { v: 2 }),
+            b"topo log 1\nmesh 0 4 4\nstep 1\nmove 1 67108860 0 0\nmove 2 67108860 0 0\nmove 3 67108860 0 0\nmove 4 67108860 0 0\nmoved whole\nrefused use 4 box 2\n",
+        ),
+        (
+            MESH,
+            b"shift all 134217728 0 0\nshift all 1 0 0\nstep",
+            use_at(2, UseWhy::ShiftRange { v: 1 }),
+            b"topo log 1\nmesh 0 4 4\nrefused use 2 range 1\n",
+        ),
+        (
+            MESH,
+            b"shift 9 1 0 0\n",
+            use_at(1, UseWhy::NoVertex { v: 9 }),
+            b"topo log 1\nmesh 0 4 4\nrefused use 1 vertex 9\n",
+        ),
+        (
+            MESH,
+            b"shift 2 134217728 0 0\nshift 2 1 0 0\n",
+            use_at(2, UseWhy::ShiftRange { v: 2 }),
+            b"topo log 1\nmesh 0 4 4\nrefused use 2 range 2\n",
+        ),
+        // A bad line of the steps is told before anything is done.
+        (
+            MESH,
+            b"shift all 1 2 3\nstep\njump\n",
+            steps_at(3, TextWhy::Unknown),
+            b"topo log 1\nrefused steps 3 unknown\n",
+        ),
+        (
+            MESH,
+            b"shift all 1 2 3\nstep\nshift al",
+            steps_at(3, TextWhy::Short),
+            b"topo log 1\nrefused steps 3 short\n",
+        ),
+        // A mesh that meets itself is refused.
+        (
+            CROSSING,
+            STEPS,
+            Outcome::MeshMeets(PairName {
+                a: VertexId(5),
+                b: VertexId(6),
+                face: FaceId(3),
+            }),
+            b"topo log 1\nrefused meets 5 6 3\n",
+        ),
+    ];
+    for (mesh, steps, outcome, log) in cases {
+        let mut desk = desk_of(alloc, mesh, steps)?;
+        let mut out = sink_of(alloc)?;
+        assert_eq!(rt; track(&mut desk, &mut out, alloc)?, outcome);
+        assert_eq!(rt; out.bytes(), log);
+        assert_eq!(rt; desk.file("t-000001.obj"), None);
+        if mesh.is_empty() {
+            assert_eq!(rt; desk.file("t-000000.obj"), Some(b"".as_slice()));
+        }
+    }
     Ok(())
 }
 
@@ -193,23 +206,6 @@ fn a_file_that_is_not_there_is_told(rt: HostRuntime) -> Result<(), Fail> {
     assert_eq!(rt;
         out.bytes(),
         b"topo log 1\nrefused missing steps\n".as_slice()
-    );
-    Ok(())
-}
-
-#[test]
-fn a_bad_step_line_is_told_before_anything_is_done(rt: HostRuntime) -> Result<(), Fail> {
-    let alloc = rt.alloc();
-    let mut desk = desk_of(alloc, MESH, b"shift all 1 2 3\nstep\njump\n")?;
-    let mut out = sink_of(alloc)?;
-    let unknown = Outcome::StepText(TextFault {
-        line: 3,
-        why: TextWhy::Unknown,
-    });
-    assert_eq!(rt; track(&mut desk, &mut out, alloc)?, unknown);
-    assert_eq!(rt;
-        out.bytes(),
-        b"topo log 1\nrefused steps 3 unknown\n".as_slice()
     );
     Ok(())
 }
