@@ -9,6 +9,7 @@ use Rattle.mesh_base.proofs.Finite.{got_after_insert, live_after_insert}
 use Rattle.edit_base.specs.Edges.{with_faces, without_faces, doubles_a_face}
 use Rattle.edit_acts.proofs.Sound.{mesh-without_face}
 use Rattle.edit_acts.proofs.Undoubled.{undoubled}
+use Rattle.edit_acts.specs.Making.{MayBeMade}
 
 -- the laws of a mesh are kept where faces are dropped
 pub mesh-without_faces : (m : Mesh) (fs : List ℕ) → IsMesh m → IsMesh (without_faces m fs)
@@ -43,9 +44,6 @@ ids_kept m [] first old f live = old f live
 ids_kept m (c ∷ cs) first old f live = ids_kept (with_face m c) cs (let h : 1 ≤ m.next_face + 1 = omega arith in h)
     (λ g there. ⊎_elim (λ e. let h : (1 ≤ g) × (g < m.next_face + 1) = (omega arith, omega arith) in h) (λ was. let b = old g was in let h : (1 ≤ g) × (g < m.next_face + 1) = (omega arith, omega arith) in h) (live_after_insert m.faces m.next_face c g there)) f live
 
--- a face of different live corners
-abbrev pub MayBeMade : Mesh → Corners → Type 0
-MayBeMade m c = AreLive m c × AreDifferent c
 
 pub mesh-with_many : (m : Mesh) (cs : List Corners) → IsMesh m → 1 ≤ m.next_face → AllByRecursion (MayBeMade m) cs → doubles_a_face (with_faces m cs) ≡ false → IsMesh (with_faces m cs)
 mesh-with_many m cs s first may none = record {

@@ -62,7 +62,7 @@ module _ (old new : Mesh) (moves : List Move) (sound : IsSound old) (agrees : Ag
         b = stood p.name.b ends.1 (untouched.still 1 0 (omega arith)) i;
         c = stood p.corners.first corners.0 (untouched.still 2 0 (omega arith)) i;
         d = stood p.corners.second corners.1 (untouched.still 3 0 (omega arith)) i;
-        e = stood p.corners.opposite vertices.2 (untouched.still 4 0 (omega arith)) i;
+        e = stood p.corners.third corners.2 (untouched.still 4 0 (omega arith)) i;
       }
 
 pub agreeing_is : (old new : Mesh) (moves : List Move) → IsSound old → IsClearMesh old → AgreesWhereOld old new moves → IsClearWhereUntouched new moves old.next_face

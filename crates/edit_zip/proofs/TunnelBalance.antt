@@ -7,7 +7,7 @@ use Rattle.mesh_base.specs.Sides.{follows}
 use Rattle.edit_base.specs.Edges.{corners_from}
 use Rattle.edit_base.proofs.Arcs.{arc, other_way, round, three_arcs}
 use Rattle.edit_acts.proofs.Flow.{flow}
-use Rattle.edit_acts.proofs.Changed.{MayBeMade}
+use Rattle.edit_acts.specs.Making.{MayBeMade}
 
 -- p0 to p3 round the one, r0 to r3 round the other, the other way
 abbrev pub tunnel : ℕ → ℕ → ℕ → ℕ → ℕ → ℕ → ℕ → ℕ → List Corners

@@ -46,16 +46,16 @@ module _ (m : Mesh) (s t : Edge) (sound : IsSound m) (beside_s : IsBeside m s) (
   fourth_off : (v : ℕ) → v ≢ t.d → opposite_vertex beside_t.back_corners t.b t.a ≢ v
   fourth_off v h e = h (sym e ∙ beside_t.fourth)
 
-  forth_forth : s.forth ≢ t.forth
+  pub forth_forth : s.forth ≢ t.forth
   forth_forth = faces_apart m s.forth t.forth beside_s.forth_corners beside_t.forth_corners s.a s.b t.a t.b beside_s.forth beside_t.forth beside_s.runs_forth beside_t.runs_forth beside_t.forth_different (back apart.a.third) (back apart.a.first) (third_off s.a apart.a.fourth)
 
-  forth_back : s.forth ≢ t.back
+  pub forth_back : s.forth ≢ t.back
   forth_back = faces_apart m s.forth t.back beside_s.forth_corners beside_t.back_corners s.a s.b t.b t.a beside_s.forth beside_t.back beside_s.runs_forth beside_t.runs_back beside_t.back_different (back apart.a.first) (back apart.a.third) (fourth_off s.a apart.a.second)
 
-  back_forth : s.back ≢ t.forth
+  pub back_forth : s.back ≢ t.forth
   back_forth = faces_apart m s.back t.forth beside_s.back_corners beside_t.forth_corners s.b s.a t.a t.b beside_s.back beside_t.forth beside_s.runs_back beside_t.runs_forth beside_t.forth_different (back apart.b.third) (back apart.b.first) (third_off s.b apart.b.fourth)
 
-  back_back : s.back ≢ t.back
+  pub back_back : s.back ≢ t.back
   back_back = faces_apart m s.back t.back beside_s.back_corners beside_t.back_corners s.b s.a t.b t.a beside_s.back beside_t.back beside_s.runs_back beside_t.runs_back beside_t.back_different (back apart.b.first) (back apart.b.third) (fourth_off s.b apart.b.second)
 
   abbrev m1 : Mesh

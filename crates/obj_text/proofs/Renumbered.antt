@@ -34,7 +34,7 @@ use Rattle.obj_text.proofs.Again.{written_is_read_lem}
 
 -- ---- ranks in a list of entries
 
-abbrev keys_up_to : {X : Type 0} → List (ℕ × X) → ℕ → ℕ
+abbrev pub keys_up_to : {X : Type 0} → List (ℕ × X) → ℕ → ℕ
 keys_up_to es v = length (filter (λ u. nat_le u v) (map (λ e. e.0) es))
 
 module _ {X : Type 0} where
@@ -44,11 +44,11 @@ module _ {X : Type 0} where
   found_behind : (v : ℕ) (e : ℕ × X) (es : List (ℕ × X)) → v ≢ e.0 → find nat_cmp v (e ∷ es) ≡ find nat_cmp v es
   found_behind v e es apart = ap (λ b. cond b (Some e.1) (find nat_cmp v es)) (unsigned_tied v e.0 ∙ ne_eqb v e.0 apart)
 
-  live_behind : (v : ℕ) (e : ℕ × X) (es : List (ℕ × X)) → v ≢ e.0 → IsSome (find nat_cmp v (e ∷ es)) → IsSome (find nat_cmp v es)
+  pub live_behind : (v : ℕ) (e : ℕ × X) (es : List (ℕ × X)) → v ≢ e.0 → IsSome (find nat_cmp v (e ∷ es)) → IsSome (find nat_cmp v es)
   live_behind v e es apart live = ap is_some (sym (found_behind v e es apart)) ∙ live
 
   -- as ids rise, so do ranks
-  rises : (es : List (ℕ × X)) (u v : ℕ) → u ≤ v → keys_up_to es u ≤ keys_up_to es v
+  pub rises : (es : List (ℕ × X)) (u v : ℕ) → u ≤ v → keys_up_to es u ≤ keys_up_to es v
   rises [] u v le = omega arith
   rises (e ∷ es) u v le =
       let rest = rises es u v le in
@@ -63,7 +63,7 @@ module _ {X : Type 0} where
       ]
 
   -- a live id has a greater rank than all below it
-  rises_at : (es : List (ℕ × X)) (u v : ℕ) → u < v → IsSome (find nat_cmp v es) → keys_up_to es u < keys_up_to es v
+  pub rises_at : (es : List (ℕ × X)) (u v : ℕ) → u < v → IsSome (find nat_cmp v es) → keys_up_to es u < keys_up_to es v
   rises_at [] u v lt live = absurd (false≢true live)
   rises_at (e ∷ es) u v lt live = elim (cases_Bool (nat_le e.0 u)) [
     | inl low ↦

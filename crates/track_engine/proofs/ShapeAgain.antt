@@ -24,6 +24,7 @@ use Rattle.mesh_plain.proofs.Faults.{no_fault}
 use Rattle.obj_text.specs.Written.{rank, ranks, ranked_lists}
 use Rattle.obj_text.specs.Laws.{renumbered}
 use Rattle.obj_text.proofs.RankBounds.{rank_is_some}
+use Rattle.obj_text.proofs.Renumbered.{rises_at}
 
 -- ---- lists
 -- what holds of each holds of the one at an index
@@ -61,45 +62,6 @@ module _ {X : Type 0} where
       let is : x.0 ≡ d.0 = ap (λ (y : ℕ × X). y.0) first in
       absurd (omega arith)
   one_place (x ∷ es) s (suc i) (suc j) e d at-e at-d same = ap suc (one_place es (both_of (below_all nat_cmp x.0 es) (is_sorted nat_cmp es) s).1 i j e d at-e at-d same)
-
-  -- ---- ranks rise with the ids
-  abbrev up_to : List (ℕ × X) → ℕ → ℕ
-  up_to es v = length (filter (λ u. nat_le u v) (map (λ e. e.0) es))
-
-  live_behind : (v : ℕ) (e : ℕ × X) (es : List (ℕ × X)) → v ≢ e.0 → IsSome (find nat_cmp v (e ∷ es)) → IsSome (find nat_cmp v es)
-  live_behind v e es apart live = ap is_some (sym (ap (λ b. cond b (Some e.1) (find nat_cmp v es)) (unsigned_tied v e.0 ∙ ne_eqb v e.0 apart))) ∙ live
-
-  rises : (es : List (ℕ × X)) (u v : ℕ) → u ≤ v → up_to es u ≤ up_to es v
-  rises [] u v le = omega arith
-  rises (e ∷ es) u v le =
-      let rest = rises es u v le in
-      elim (cases_Bool (nat_le e.0 u)) [
-        | inl low ↦
-            let up : nat_le e.0 v ≡ true = le-leb e.0 v (let lower = leb-true e.0 u low in omega arith) in
-            rw (low, up) (omega arith)
-        | inr high ↦ elim (cases_Bool (nat_le e.0 v)) [
-          | inl up ↦ rw (high, up) (omega arith)
-          | inr beyond ↦ rw (high, beyond) rest
-        ]
-      ]
-
-  rises_at : (es : List (ℕ × X)) (u v : ℕ) → u < v → IsSome (find nat_cmp v es) → up_to es u < up_to es v
-  rises_at [] u v lt live = absurd (false≢true live)
-  rises_at (e ∷ es) u v lt live = elim (cases_Bool (nat_le e.0 u)) [
-    | inl low ↦
-        let lower = leb-true e.0 u low in
-        let up : nat_le e.0 v ≡ true = le-leb e.0 v (omega arith) in
-        let apart : v ≢ e.0 = λ same. omega arith in
-        let rest = rises_at es u v lt (live_behind v e es apart live) in
-        rw (low, up) (omega arith)
-    | inr high ↦ elim (cases_Bool (nat_le e.0 v)) [
-      | inl up ↦ let rest = rises es u v (omega arith) in rw (high, up) (omega arith)
-      | inr beyond ↦
-          let more = leb-false e.0 v beyond in
-          let apart : v ≢ e.0 = λ same. omega arith in
-          rw (high, beyond) (rises_at es u v lt (live_behind v e es apart live))
-    ]
-  ]
 
 is_number : (n v : ℕ) → 1 ≤ v → v ≤ n → (nat_le 1 v && nat_le v n) ≡ true
 is_number n v some few = rw (le-leb 1 v some, le-leb v n few) refl
