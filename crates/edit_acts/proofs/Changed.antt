@@ -44,7 +44,6 @@ ids_kept m [] first old f live = old f live
 ids_kept m (c ∷ cs) first old f live = ids_kept (with_face m c) cs (let h : 1 ≤ m.next_face + 1 = omega arith in h)
     (λ g there. ⊎_elim (λ e. let h : (1 ≤ g) × (g < m.next_face + 1) = (omega arith, omega arith) in h) (λ was. let b = old g was in let h : (1 ≤ g) × (g < m.next_face + 1) = (omega arith, omega arith) in h) (live_after_insert m.faces m.next_face c g there)) f live
 
-
 pub mesh-with_many : (m : Mesh) (cs : List Corners) → IsMesh m → 1 ≤ m.next_face → AllByRecursion (MayBeMade m) cs → doubles_a_face (with_faces m cs) ≡ false → IsMesh (with_faces m cs)
 mesh-with_many m cs s first may none = record {
   vertex_ids = λ v live. subst (λ n. (1 ≤ v) × (v < n)) (sym (next_vertex-with_faces m cs)) (s.vertex_ids v (subst (λ ps. is_some (finite.get ps v) ≡ true) (points-with_faces m cs) live));

@@ -16,7 +16,7 @@ ghost use Rattle.edit_check.specs.Untouched.{MoveFits};
 ghost use Rattle.edit_collapse.specs.Tried.{answer_of, left_at, MayBeTried};
 
 use crate::cancelling::LeftFaces;
-use crate::joining::{is_doubled, is_over, left_at, apply_collapse};
+use crate::joining::{apply_collapse, is_doubled, is_over, left_at};
 use edit_base::{Change, Edit, Move, Touch, Why, is_edge};
 use edit_check::check;
 use grid_base::{DEPTH_MAX, NoMemory, Point, Wide, floor_mid};

@@ -16,7 +16,6 @@ use Rattle.edit_base.specs.Beside.{IsBeside}
 use Rattle.edit_acts.proofs.Sound.{mesh-without_face, mesh-with_faces, still_fresh, not_over, next_face-with_faces, not_rotated}
 use Rattle.edit_acts.proofs.FaceCorners.{runs_there}
 
-
 -- corners that are those of a face, turned or not, have its second step
 pub second_step : (c : Corners) (x y z : ℕ) → equal_up_to_rotation c (corners_from x y z) ≡ true → follows c y z ≡ true
 second_step c x y z h = grind (arith, nat_tests)

@@ -14,8 +14,8 @@ ghost use Rattle.edit_flip.specs.Tried.{MayBeTried};
 
 use edit_acts::exact_mid;
 use edit_base::{EdgeFaces, Move, Touch, Why, edge_beside, is_crowded, is_edge};
-use edit_split::{is_split_over, apply_split, split_point};
 use edit_check::check;
+use edit_split::{apply_split, is_split_over, split_point};
 use grid_base::{DEPTH_MAX, NoMemory};
 use mesh_base::{PairName, Surface, VertexId};
 use std::alloc::Global;

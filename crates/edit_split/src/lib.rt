@@ -5,7 +5,7 @@ mod acts;
 pub mod laws;
 mod splitting;
 
-pub use acts::{is_split_over, apply_split, split_point};
+pub use acts::{apply_split, is_split_over, split_point};
 pub use splitting::split;
 
 #[cfg(test)]

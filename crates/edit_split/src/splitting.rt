@@ -12,7 +12,7 @@ ghost use Rattle.edit_base.specs.Clauses.{mesh_after_call, MovesClearOnDone};
 ghost use Rattle.edit_split.specs.Done.{split_result, split_tested_on};
 ghost use Rattle.edit_split.specs.Tried.{MayBeTried};
 
-use crate::acts::{is_split_over, apply_split, split_point};
+use crate::acts::{apply_split, is_split_over, split_point};
 use edit_acts::exact_mid;
 use edit_base::{Change, EdgeFaces, Edit, Move, Touch, Why, edge_beside, is_crowded};
 use edit_check::check;

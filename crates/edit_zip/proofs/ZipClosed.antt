@@ -13,7 +13,6 @@ use Rattle.edit_base.proofs.Beside.{none_of}
 use Rattle.edit_zip.proofs.TunnelBalance.{tunnel, IsRim, AreFar, rims, tunnel_balance}
 use Rattle.edit_acts.proofs.FaceCorners.{same_corners}
 
-
 -- a face with a step from a vertex is none that lacks the vertex
 pub faces_apart : (m : Mesh) (f g : ℕ) (C D : Corners) (a b x y : ℕ) → HasCorners m f C → HasCorners m g D → follows C a b ≡ true → follows D x y ≡ true → AreDifferent D → x ≢ a → y ≢ a → opposite_vertex D x y ≢ a → f ≢ g
 faces_apart m f g C D a b x y at_f at_g step run different nx ny nz same =

@@ -33,7 +33,6 @@ use Rattle.edit_acts.proofs.Found.{found_both}
 
 -- ---- the turn that is taken
 
-
 -- each turn that is tried is one of the four
 all_tried : (P : ℕ → Type 0) (m : Mesh) (s t : Edge) → AllByRecursion P turns → AllByRecursion P (tried m s t)
 all_tried P m s t h =
