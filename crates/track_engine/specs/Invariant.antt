@@ -1,5 +1,5 @@
 -- What holds between two directives.
-use Rattle.std.specs.Prelude.{◌≡◌, ◌≤◌, ◌<◌, ◌+◌, ◌^◌, Option, None, Result, Ok}
+use Rattle.std.specs.Prelude.{◌≡◌, ◌≤◌, ◌<◌, ◌+◌, ◌^◌, Option, None, Result, Ok, IfOk, IsSome}
 use Rattle.mesh_base.specs.Shifts.{NameLive}
 use Rattle.mesh_base.specs.Valid.{IsValidSurface}
 use Rattle.mesh_base.specs.declared.UseWhy.{UseWhy}
@@ -30,6 +30,7 @@ pub record MayAdvance (what : Directive) (s : State) : Type 0 where
 -- is again as each directive leaves it.
 pub record HasAdvanced (to : Target) (what : Directive) (s t : State) (old new : World) (result : Result (Option UseWhy) Stop) : Type 0 where
   pub advances : Advances to (effect_of what s) s t old.holds new.holds result
+  pub left : IfOk result (λ refused. IsSome refused → t ≡ s)
   pub kept : result ≡ Ok None → IsRunInvariant t
   pub limits : AreWithinLimits t.set
   pub steps_count : t.steps ≤ s.steps + 1

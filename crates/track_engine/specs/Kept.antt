@@ -5,7 +5,7 @@ use Rattle.mesh_base.specs.Mesh.{Mesh, IsSound}
 use Rattle.mesh_base.specs.Sides.{IsClosed}
 use Rattle.mesh_base.specs.Placements.{IsClearMesh}
 use Rattle.mesh_plain.specs.Shape.{shape_fault}
-use Rattle.obj_text.specs.Obj.{Lists, lists_of}
+use Rattle.obj_text.specs.Obj.{lists_of}
 use Rattle.mesh_base.specs.Given.{mesh_of}
 use Rattle.grid_base.specs.Points.{point_at}
 use Rattle.grid_base.specs.declared.TheConstants.{DECIMALS_MAX}
@@ -16,16 +16,12 @@ use Rattle.log_text.specs.declared.LogLine.TheVariants.{Mesh as MeshLine}
 use Rattle.log_replay.specs.Replay.{Replay, EachAt}
 use Rattle.log_replay.specs.Safe.{LineIsSafe}
 
--- the mesh of lists that a text gave
-abbrev pub mesh_of_lists : Lists → Mesh
-mesh_of_lists lists = mesh_of (map point_at lists.points) lists.faces
-
 -- The text of a mesh on a grid of so many decimals is read again: its lists are of good shape and make the mesh with its vertices and
 -- faces numbered anew, which is sound, closed and clear too. So a run takes the file as its mesh.
 pub record IsReadAgain (decimals : ℕ) (m : Mesh) : Type 0 where
   pub lists : lists_of decimals (mesh_text decimals m) ≡ Ok (ranked_lists m)
   pub shape : shape_fault (length (ranked_lists m).points) (ranked_lists m).faces ≡ None
-  pub mesh : mesh_of_lists (ranked_lists m) ≡ renumbered m
+  pub mesh : mesh_of (map point_at (ranked_lists m).points) (ranked_lists m).faces ≡ renumbered m
   pub sound : IsSound (renumbered m)
   pub closed : IsClosed (renumbered m)
   pub clear : IsClearMesh (renumbered m)

@@ -1,4 +1,4 @@
-ghost use Rattle.std.specs.Prelude.{◌≡◌, ◌≤◌, ◌<◌, ◌+◌, ◌^◌, IfOk, IfErr, IsErrOf};
+ghost use Rattle.std.specs.Prelude.{◌≡◌, ◌≤◌, ◌<◌, ◌+◌, ◌^◌, IfOk, IfErr, IsErrOf, IsSome};
 ghost use Rattle.step_text.specs.Ranges.{IsInRange};
 ghost use Rattle.step_choose.specs.Settings.{AreWithinLimits};
 ghost use Rattle.outside_io.specs.Causes.{Rose};
@@ -32,6 +32,7 @@ use step_text::Directive;
 fn add_to_all(alloc: Global, run: &mut RunState, by: Shift) -> Result<Option<UseWhy>, Stop>
     ensures asks { IfOk result (AsksNow (sum_of_all by run.old.asked) run.new.asked) }
     ensures rest { run.new ≡ record run.old { asked = run.new.asked } }
+    ensures left { IfOk result (λ refused. IsSome refused → run.new ≡ run.old) }
     ensures stops { IfErr result (λ stop. stop ≡ Stop.NoMemory) }
 {
     match all_summed(alloc, run.asked.as_slice(), by) {
@@ -55,6 +56,7 @@ fn take_step<S: Surface, K: Sink>(
     requires limits { AreWithinLimits run.old.set }
     requires steps { run.old.steps + 1 < 2 ^ 32 }
     ensures takes { StepTakes (state_of (S.mesh mesh.old) run.old) (state_of (S.mesh mesh.new) run.new) (K.written out.old) (K.written out.new) result }
+    ensures left { IfOk result (λ refused. IsSome refused → state_of (S.mesh mesh.new) run.new ≡ state_of (S.mesh mesh.old) run.old) }
     ensures marks { BeginsWith (S.kept mesh.new) (S.kept mesh.old) }
     ensures saved { run.new.saved ≡ run.old.saved }
     ensures set { run.new.set ≡ run.old.set }
@@ -129,6 +131,8 @@ pub(crate) fn take_directive<S: Surface, D: Desk, K: Sink>(
     ensures advances { let old = state_of (S.mesh mesh.old) run.old in
         Advances (target_of to.entry) (effect_of what old) old (state_of (S.mesh mesh.new) run.new)
         (contents D.files K.written desk.old out.old) (contents D.files K.written desk.new out.new) result }
+    // A refusal leaves the state as it was.
+    ensures left { IfOk result (λ refused. IsSome refused → state_of (S.mesh mesh.new) run.new ≡ state_of (S.mesh mesh.old) run.old) }
     ensures marks { BeginsWith (S.kept mesh.new) (S.kept mesh.old) }
     ensures kept { result ≡ Ok None → IsRunInvariant (state_of (S.mesh mesh.new) run.new) }
     ensures limits { AreWithinLimits run.new.set }

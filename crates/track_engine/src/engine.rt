@@ -1,4 +1,4 @@
-ghost use Rattle.std.specs.Prelude.{◌≡◌, ◌≤◌, ◌<◌, ◌+◌, ◌^◌, length, IfOk, OnOk};
+ghost use Rattle.std.specs.Prelude.{◌≡◌, ◌≤◌, ◌<◌, ◌+◌, ◌^◌, length, IfOk, OnOk, OnErr};
 ghost use Rattle.grid_base.specs.declared.TheConstants.{DECIMALS_MAX};
 ghost use Rattle.mesh_base.specs.Kept.{BeginsWith};
 ghost use Rattle.step_text.specs.Ranges.{AreInRange};
@@ -34,8 +34,8 @@ pub struct Engine<S> {
 }
 
 impl<S: Surface> Engine<S> {
-    /// Does one directive: its lines are written and its mesh is stored, or it is refused with nothing done, or the engine stops in its
-    /// lines. Earlier marks of the mesh hold.
+    /// Does one directive: its lines are written and its mesh is stored, or it is refused with nothing written or stored and the
+    /// state as it was, or the engine stops in its lines. Earlier marks of the mesh hold.
     pub fn advance<D: Desk, K: Sink>(
         &mut self,
         alloc: Global,
@@ -68,6 +68,7 @@ impl<S: Surface> Engine<S> {
             (contents D.files K.written desk.old out.old) (contents D.files K.written desk.new out.new) result }
         ensures state { let old = state_in S.mesh self.old in
             OnOk result (state_in S.mesh self.new ≡ record old { saved = old.saved + 1 }) }
+        ensures left { OnErr result (state_in S.mesh self.new ≡ state_in S.mesh self.old) }
         ensures causes { HasCauses (world D.files D.faults K.written K.faults desk.old out.old)
             (world D.files D.faults K.written K.faults desk.new out.new) result }
     {

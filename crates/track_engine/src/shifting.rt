@@ -114,7 +114,8 @@ pub(crate) fn asked_in<S: Surface>(
 /// Adds a shift to what is asked of one vertex, or answers why it can't be added. Takes no memory.
 pub(crate) fn sum_one(asked: &mut Shifts, v: u32, by: Shift) -> Option<UseWhy>
     requires { IsStrictlySortedBy nat_cmp (map (λ s. s.v) asked.old) }
-    ensures { AsksNow (sum_of_one v by asked.old) asked.new result }
+    ensures sum { AsksNow (sum_of_one v by asked.old) asked.new result }
+    ensures left { IsSome result → asked.new ≡ asked.old }
 {
     let Some(place) = place_of(asked.as_slice(), VertexId(v)) else {
         return Some(UseWhy::NoVertex { v });

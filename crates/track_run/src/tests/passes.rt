@@ -34,7 +34,7 @@ const CASES: [Case; 12] = [
         log: b"topo log 1\nmesh 0 6 8\npass split 30\nno split 1 2 crowded\nend\n",
         saved: None,
     },
-    // In a tetrahedron the third corners of each edge have an edge.
+    // In a tetrahedron the opposite vertices of each edge have an edge.
     Case {
         mesh: b"v 0 0 0\nv 40 0 0\nv 0 4 0\nv 0 0 4\nf 1 3 2\nf 1 2 4\nf 2 3 4\nf 1 4 3\n",
         steps: b"flip\n",
@@ -50,7 +50,7 @@ const CASES: [Case; 12] = [
             b"v 0 0 0\nv 24 0 0\nv 12 20 0\nv 12 6 4\nv 12 6 -4\nf 2 3 4\nf 3 1 4\nf 3 2 5\nf 1 3 5\nf 1 5 4\nf 2 4 5\n",
         ),
     },
-    // Two faces back to back have one third corner.
+    // Two faces back to back have one opposite vertex.
     Case {
         mesh: b"v 0 0 0\nv 4 0 0\nv 0 4 0\nf 1 2 3\nf 1 3 2\n",
         steps: b"flip\n",

@@ -31,7 +31,7 @@ pub sum_one-requires : goal.sum_one-requires
 sum_one-requires g c = ids_sorted (g.S.Surface.mesh c.args.mesh.now) c.args.run.now.asked c.requires.kept.names
 
 pub returns-in-ShiftOne-clause-kept : goal.returns-in-ShiftOne-clause-kept
-returns-in-ShiftOne-clause-kept g c = λ e. kept_by_one c.in-ShiftOne.v c.in-ShiftOne.by (state_of (g.S.Surface.mesh c.args.mesh.now) c.args.run.now) c.sum_one.new.asked c.sum_one.result c.requires.kept c.sum_one.ensures (cc)
+returns-in-ShiftOne-clause-kept g c = λ e. kept_by_one c.in-ShiftOne.v c.in-ShiftOne.by (state_of (g.S.Surface.mesh c.args.mesh.now) c.args.run.now) c.sum_one.new.asked c.sum_one.result c.requires.kept c.sum_one.ensures.sum (cc)
 
 pub returns-in-ShiftAll-clause-kept : goal.returns-in-ShiftAll-clause-kept
 returns-in-ShiftAll-clause-kept g c = λ e.

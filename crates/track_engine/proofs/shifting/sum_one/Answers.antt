@@ -1,4 +1,5 @@
 use Rattle.std.proofs.Common.{ap, sym, ◌∙◌, ◌≡◌, subst, Some, Ok, refl}
+use Rattle.std.proofs.lemmas.Bool.{false≢true}
 use Rattle.std.specs.Prelude.{slice_get}
 use Rattle.std.specs.Option.{option_map}
 use Rattle.std.specs.declared.option.Option.{Option}
@@ -11,4 +12,4 @@ pub returns : goal.returns
 returns c =
     let asked = c.args.asked.now in
     let P : Shifts → Type 0 = λ l. IsPlaceOf l c.args.v (Some c.in-Some.place) in
-    one_is_summed c.args.v c.args.by c.in-Some-sum.by asked c.in-Some.place c.in-Some-get.s.now c.requires (subst P c.as_slice.ensures c.in-Some.ensures) (c.in-Some-get.ensures) c.in-Some-sum.ensures.made (c.in-Some-sum.ensures.some.0 refl) ∙ ap Ok (sym c.set.ensures)
+    record { sum = one_is_summed c.args.v c.args.by c.in-Some-sum.by asked c.in-Some.place c.in-Some-get.s.now c.requires (subst P c.as_slice.ensures c.in-Some.ensures) (c.in-Some-get.ensures) c.in-Some-sum.ensures.made (c.in-Some-sum.ensures.some.0 refl) ∙ ap Ok (sym c.set.ensures); left = λ e. absurd (false≢true e) }
