@@ -3,8 +3,8 @@
 
     checks/documents.py
 
-The statuses that README.md and docs/FORMATS.md list are those of `topo --help`, word for word; each log that README.md shows is a part of
-that of the command before it, run anew; each crate has its line in README.md and in docs/ARCHITECTURE.md, and each file that a document names is there.
+The statuses that README.md and docs/FORMATS.md list are those of `topo --help`, word for word; each log that README.md and docs/EXAMPLES.md
+show is a part of that of the command before it, run anew; each crate has its line in README.md and in docs/ARCHITECTURE.md, and each file that a document names is there.
 """
 
 import os
@@ -70,11 +70,12 @@ def main():
     checks.append(("README.md has the statuses of --help", statuses_in(readme) == told))
     checks.append(("docs/FORMATS.md has the statuses of --help", statuses_in(formats) == told))
     checks.append(("README.md has the words of the program", helped.splitlines()[0].partition("topo ")[2] in readme))
-    shown = shown_logs(readme)
-    checks.append(("README.md shows logs, each behind its command", len(shown) > 0 and all(command for command, _ in shown)))
-    for command, lines in shown:
-        if command:
-            checks.append((f"what README.md shows of `{command}` is its log", is_part(lines, log_of(command.split()[2:]))))
+    for name, text in (("README.md", readme), ("docs/EXAMPLES.md", text_of("docs/EXAMPLES.md"))):
+        shown = shown_logs(text)
+        checks.append((f"{name} shows logs, each behind its command", len(shown) > 0 and all(command for command, _ in shown)))
+        for command, lines in shown:
+            if command:
+                checks.append((f"what {name} shows of `{command}` is its log", is_part(lines, log_of(command.split()[2:]))))
     checks.append(("README.md shows the steps of the example", is_part(steps.splitlines(), [line.strip() for line in readme.splitlines()])))
     crates = [line.partition(":")[0] for line in text_of("crates.txt").splitlines() if ":" in line]
     for name in ("README.md", "docs/ARCHITECTURE.md"):
