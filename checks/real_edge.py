@@ -20,7 +20,7 @@ PROGRAM = os.path.join(ROOT, "crates/topo/out/topo")
 NOBODY = {"user": 65534, "group": 65534, "extra_groups": []} if os.geteuid() == 0 else {}
 MESH = "v 0 0 0\nv 4 0 0\nv 0 4 0\nv 0 0 4\nf 1 3 2\nf 1 2 4\nf 2 3 4\nf 1 4 3\n"
 JOB = ["track", "mesh.obj", "steps.txt", "t"]
-LOG = "topo log 1\nmesh 0 4 4\nstep 1\n" + "".join(f"move {v} 1 2 3\n" for v in (1, 2, 3, 4)) + "moved whole\nmesh 1 4 4\nend\n"
+LOG = "topo log 2\nmesh 0 4 4\nstep 1\n" + "".join(f"move {v} 1 2 3\n" for v in (1, 2, 3, 4)) + "moved whole\nmesh 1 4 4\nend\n"
 
 
 def closed_pipe():
@@ -70,9 +70,9 @@ def main():
             ("no such mesh file", ["track", "none.obj", "steps.txt", "t"], None, 11, "refused missing mesh"),
             ("no such step file", ["track", "mesh.obj", "none.txt", "t"], None, 11, "refused missing steps"),
             ("a mesh file in no folder", ["track", "nowhere/mesh.obj", "steps.txt", "t"], None, 11, "refused missing mesh"),
-            ("a mesh file that may not be read", ["track", "secret.obj", "steps.txt", "t"], None, 3, "topo log 1"),
-            ("a folder in place of the mesh file", ["track", "folder", "steps.txt", "t"], None, 3, "topo log 1"),
-            ("a folder in place of the step file", ["track", "mesh.obj", "folder", "t"], None, 3, "topo log 1"),
+            ("a mesh file that may not be read", ["track", "secret.obj", "steps.txt", "t"], None, 3, "topo log 2"),
+            ("a folder in place of the mesh file", ["track", "folder", "steps.txt", "t"], None, 3, "topo log 2"),
+            ("a folder in place of the step file", ["track", "mesh.obj", "folder", "t"], None, 3, "topo log 2"),
             ("a mesh file of 64 MiB and a byte", ["track", "long.obj", "steps.txt", "t"], None, 5, "refused long mesh 67108865"),
             ("a step file of 64 MiB and a byte", ["track", "mesh.obj", "long.obj", "t"], None, 5, "refused long steps 67108865"),
             ("a mesh file without end", ["track", "/dev/zero", "steps.txt", "t"], None, 5, "refused long mesh"),
@@ -100,7 +100,7 @@ def main():
             if end is None:
                 is_due = status == 0 or wrote == ""
             elif end.startswith("refused"):
-                is_due = front == "topo log 1" and tail.startswith(end) and wrote.endswith("\n")
+                is_due = front == "topo log 2" and tail.startswith(end) and wrote.endswith("\n")
             else:
                 is_due = tail == end and LOG.startswith(wrote)
             good = ended.returncode == status and told and is_due

@@ -3,7 +3,7 @@ use Rattle.std.proofs.Common.{◌≡◌, ℕ, ◌+◌, ◌<◌, ◌≤◌, true,
 use Rattle.std.specs.List.{AllByRecursion}
 use Rattle.std.specs.FinMap as finite
 use Rattle.mesh_base.specs.declared.ids.Corners.{Corners}
-use Rattle.mesh_base.specs.Mesh.{Mesh, IsMesh, IsLiveFace, AreLive, AreDifferent, HasCorners}
+use Rattle.mesh_base.specs.Mesh.{Mesh, IsMesh, IsLiveFace, HasCorners}
 use Rattle.mesh_base.specs.Changes.{with_face, without_face}
 use Rattle.mesh_base.proofs.Finite.{got_after_insert, live_after_insert}
 use Rattle.edit_base.specs.Edges.{with_faces, without_faces, doubles_a_face}
@@ -28,6 +28,14 @@ pub points-with_faces : (m : Mesh) (cs : List Corners) → (with_faces m cs).poi
 points-with_faces m [] = refl
 points-with_faces m (c ∷ cs) = points-with_faces (with_face m c) cs
 
+pub solid-without_faces : (m : Mesh) (fs : List ℕ) → (without_faces m fs).solid ≡ m.solid
+solid-without_faces m [] = refl
+solid-without_faces m (f ∷ fs) = solid-without_faces (without_face m f) fs
+
+pub solid-with_faces : (m : Mesh) (cs : List Corners) → (with_faces m cs).solid ≡ m.solid
+solid-with_faces m [] = refl
+solid-with_faces m (c ∷ cs) = solid-with_faces (with_face m c) cs
+
 pub next_vertex-with_faces : (m : Mesh) (cs : List Corners) → (with_faces m cs).next_vertex ≡ m.next_vertex
 next_vertex-with_faces m [] = refl
 next_vertex-with_faces m (c ∷ cs) = next_vertex-with_faces (with_face m c) cs
@@ -48,6 +56,7 @@ pub mesh-with_many : (m : Mesh) (cs : List Corners) → IsMesh m → 1 ≤ m.nex
 mesh-with_many m cs s first may none = record {
   vertex_ids = λ v live. subst (λ n. (1 ≤ v) × (v < n)) (sym (next_vertex-with_faces m cs)) (s.vertex_ids v (subst (λ ps. is_some (finite.get ps v) ≡ true) (points-with_faces m cs) live));
   face_ids = ids_kept m cs first s.face_ids;
+  solid_ids = λ v solid. subst (λ ps. is_some (finite.get ps v) ≡ true) (sym (points-with_faces m cs)) (s.solid_ids v (subst (λ marks. is_some (finite.get marks v) ≡ true) (solid-with_faces m cs) solid));
   live_corners = λ f c h. subst (λ ps. is_some (finite.get ps c.first) ≡ true × is_some (finite.get ps c.second) ≡ true × is_some (finite.get ps c.third) ≡ true) (sym (points-with_faces m cs)) (all f c h).0;
   different_corners = λ f c h. (all f c h).1;
   different_faces = λ f g c d h k same. undoubled (with_faces m cs) none f g c d h k same;

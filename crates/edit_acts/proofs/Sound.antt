@@ -20,6 +20,7 @@ pub mesh-without_face : (m : Mesh) (f : ℕ) → IsMesh m → IsMesh (without_fa
 mesh-without_face m f s = record {
   vertex_ids = s.vertex_ids;
   face_ids = λ g h. s.face_ids g (live_after_remove m.faces f g h).1;
+  solid_ids = s.solid_ids;
   live_corners = λ g c h. s.live_corners g c (got_after_remove m.faces f g c h).1;
   different_corners = λ g c h. s.different_corners g c (got_after_remove m.faces f g c h).1;
   different_faces = λ g g' c d h h'. s.different_faces g g' c d (got_after_remove m.faces f g c h).1 (got_after_remove m.faces f g' d h').1;
@@ -29,6 +30,7 @@ pub mesh-with_vertex : (m : Mesh) (p : Point) → IsMesh m → 1 ≤ m.next_vert
 mesh-with_vertex m p s first = record {
   vertex_ids = λ q h. ⊎_elim (λ e. omega arith) (λ old. let b = s.vertex_ids q old in omega arith) (live_after_insert m.points m.next_vertex p q h);
   face_ids = s.face_ids;
+  solid_ids = λ q h. live_stays m.points m.next_vertex p q (s.solid_ids q h);
   live_corners = λ f c h.
       let old = s.live_corners f c h in
       (live_stays m.points m.next_vertex p c.first old.0, live_stays m.points m.next_vertex p c.second old.1, live_stays m.points m.next_vertex p c.third old.2);
@@ -42,6 +44,7 @@ mesh-with_face m c s first fresh =
     record {
       vertex_ids = s.vertex_ids;
       face_ids = λ g h. ⊎_elim (λ e. omega arith) (λ old. let b = s.face_ids g old in omega arith) (live_after_insert m.faces m.next_face c g h);
+      solid_ids = s.solid_ids;
       live_corners = λ g d h. ⊎_elim (λ e. subst (AreLive m) e.1 fresh.live) (λ old. s.live_corners g d old) (got g d h);
       different_corners = λ g d h. ⊎_elim (λ e. subst AreDifferent e.1 fresh.different) (λ old. s.different_corners g d old) (got g d h);
       different_faces = λ g g' d d' h h' same. ⊎_elim

@@ -1,4 +1,4 @@
--- Where no pair of a scaffold lacks what is required, its motion is clear.
+-- Where no pair of a scaffold fails to do what is required, its motion is clear.
 use Rattle.std.proofs.Common.{◌≡◌, ℕ, ◌<◌, ◌≤◌, Bool, true, false, cond, not, List, [], ◌∷◌, Option, Some, None, refl, sym, subst, arith}
 use Rattle.std.proofs.lemmas.Bool.{false≢true}
 use Rattle.std.specs.List.{find, AllByRecursion}

@@ -50,8 +50,8 @@ edge_between m a b = record {
   b = b;
   c = opposite_vertex (corners_at m (face_running m a b)) a b;
   d = opposite_vertex (corners_at m (face_running m b a)) b a;
-  forth = face_running m a b;
-  back = face_running m b a;
+  left_face = face_running m a b;
+  right_face = face_running m b a;
 }
 
 pub edge_again : (m : Mesh) (u v : ℕ) → edge_of m (min u v) (max u v) ≡ edge_of m u v

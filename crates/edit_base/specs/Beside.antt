@@ -7,17 +7,17 @@ use Rattle.edit_base.specs.Edges.{Edge, opposite_vertex}
 
 -- One face runs each way, they are two, each with its opposite vertex; and the ends and the opposite vertices are live, and apart but for the two opposite vertices.
 pub record IsBeside (m : Mesh) (s : Edge) : Type 0 where
-  pub forth_corners : Corners
-  pub back_corners : Corners
-  pub forth : HasCorners m s.forth forth_corners
-  pub back : HasCorners m s.back back_corners
-  pub runs_forth : follows forth_corners s.a s.b ≡ true
-  pub runs_back : follows back_corners s.b s.a ≡ true
-  pub third : opposite_vertex forth_corners s.a s.b ≡ s.c
-  pub fourth : opposite_vertex back_corners s.b s.a ≡ s.d
-  pub forth_different : AreDifferent forth_corners
-  pub back_different : AreDifferent back_corners
-  pub two_faces : s.forth ≢ s.back
+  pub left_corners : Corners
+  pub right_corners : Corners
+  pub left_face : HasCorners m s.left_face left_corners
+  pub right_face : HasCorners m s.right_face right_corners
+  pub left_runs : follows left_corners s.a s.b ≡ true
+  pub right_runs : follows right_corners s.b s.a ≡ true
+  pub third : opposite_vertex left_corners s.a s.b ≡ s.c
+  pub fourth : opposite_vertex right_corners s.b s.a ≡ s.d
+  pub left_different : AreDifferent left_corners
+  pub right_different : AreDifferent right_corners
+  pub two_faces : s.left_face ≢ s.right_face
   pub a_below : s.a < m.next_vertex
   pub b_below : s.b < m.next_vertex
   pub c_below : s.c < m.next_vertex

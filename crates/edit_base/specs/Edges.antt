@@ -26,8 +26,8 @@ pub record Edge : Type 0 where
   pub b : ℕ
   pub c : ℕ
   pub d : ℕ
-  pub forth : ℕ
-  pub back : ℕ
+  pub left_face : ℕ
+  pub right_face : ℕ
 
 -- the face that runs u to v
 abbrev pub face_running : Mesh → ℕ → ℕ → ℕ
@@ -38,9 +38,9 @@ abbrev pub edge_of : Mesh → ℕ → ℕ → Edge
 edge_of m u v =
     let a = min u v in
     let b = max u v in
-    let forth = face_running m a b in
-    let back = face_running m b a in
-    record { a = a; b = b; c = opposite_vertex (corners_at m forth) a b; d = opposite_vertex (corners_at m back) b a; forth = forth; back = back }
+    let left_face = face_running m a b in
+    let right_face = face_running m b a in
+    record { a = a; b = b; c = opposite_vertex (corners_at m left_face) a b; d = opposite_vertex (corners_at m right_face) b a; left_face = left_face; right_face = right_face }
 
 -- the midpoint, each component rounded down
 abbrev pub floor_mid : Point → Point → Point

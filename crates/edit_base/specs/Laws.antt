@@ -13,7 +13,7 @@ use Rattle.edit_base.specs.Scaffold.{Scaffold, motion_of, first_failing, IsClear
 use Rattle.edit_base.specs.Clauses.{MovesClear}
 use Rattle.edit_base.specs.Classes.{Linked, class_of}
 
--- Where no pair lacks what is required, the motion is clear.
+-- Where no pair fails to do what is required, the motion is clear.
 abbrev pub NoneFailingIsClear : (Positions → Bool) → Type 0
 NoneFailingIsClear meets =
     (s : Scaffold) (depth : ℕ) → IsSound s.mesh → first_failing meets s depth ≡ None → IsClearBut s.touch s.mesh (motion_of s)

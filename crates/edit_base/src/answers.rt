@@ -21,6 +21,8 @@ pub enum Why {
     OneFan,
     /// The first pair that does not do what is required of it.
     Hit(PairName),
+    /// The vertices that would move are solid.
+    Solid,
 }
 
 /// A copy of a pinched vertex, and where it stands.

@@ -7,16 +7,16 @@ ghost use Rattle.edit_base.specs.Edges.{opposite_vertex, corners_at, face_runnin
 use mesh_base::{Corners, FaceId, Surface, VertexId};
 use std::marker::Model;
 
-/// An edge with the two faces beside it. `a` is its smaller end and `b` its larger; `forth` is the face that runs from
-/// `a` to `b`, with the opposite vertex `c`, and `back` the one that runs from `b` to `a`, with the opposite vertex `d`.
+/// An edge with the two faces beside it. `a` is its smaller end and `b` its larger; `left_face` is the face that runs from
+/// `a` to `b`, with the opposite vertex `c`, and `right_face` the one that runs from `b` to `a`, with the opposite vertex `d`.
 #[derive(Clone, Copy, Debug, PartialEq, Eq)]
 pub struct EdgeFaces {
     pub a: VertexId,
     pub b: VertexId,
     pub c: VertexId,
     pub d: VertexId,
-    pub forth: FaceId,
-    pub back: FaceId,
+    pub left_face: FaceId,
+    pub right_face: FaceId,
 }
 
 impl Model for EdgeFaces {
@@ -24,9 +24,9 @@ impl Model for EdgeFaces {
 
     ghost Value = { Edge };
 
-    ghost view = { λ e. record { a = e.a; b = e.b; c = e.c; d = e.d; forth = e.forth; back = e.back } };
+    ghost view = { λ e. record { a = e.a; b = e.b; c = e.c; d = e.d; left_face = e.left_face; right_face = e.right_face } };
 
-    ghost inverse = { λ s. record { a = s.a; b = s.b; c = s.c; d = s.d; forth = s.forth; back = s.back } };
+    ghost inverse = { λ s. record { a = s.a; b = s.b; c = s.c; d = s.d; left_face = s.left_face; right_face = s.right_face } };
 }
 
 /// Whether some face has both as neighbours.
@@ -83,15 +83,15 @@ fn beside_ordered<S: Surface>(mesh: &S, a: VertexId, b: VertexId) -> Option<Edge
     ensures edge { IfSome result (λ e. e ≡ edge_of (S.mesh mesh.now) a b) }
     ensures some { is_some result ≡ (nat_lt 0 (runs (S.mesh mesh.now) a b) && nat_lt 0 (runs (S.mesh mesh.now) b a)) }
 {
-    let forth = face_beside(mesh, a, b)?;
-    let back = face_beside(mesh, b, a)?;
+    let left_face = face_beside(mesh, a, b)?;
+    let right_face = face_beside(mesh, b, a)?;
     Some(EdgeFaces {
         a,
         b,
-        c: forth.corner,
-        d: back.corner,
-        forth: forth.face,
-        back: back.face,
+        c: left_face.corner,
+        d: right_face.corner,
+        left_face: left_face.face,
+        right_face: right_face.face,
     })
 }
 

@@ -10,7 +10,7 @@ ghost use Rattle.edit_base.specs.Edges.{edge_of};
 ghost use Rattle.edit_base.specs.Beside.{IsBeside};
 ghost use Rattle.edit_base.specs.Laws.{NoneFailingIsClear, ClassesAreLinked};
 
-/// Where no pair of a scaffold lacks what is required of it, by an exact test of meeting, no pair meets at any fraction of
+/// Where no pair of a scaffold fails to do what is required of it, by an exact test of meeting, no pair meets at any fraction of
 /// the motion, but at the start, or the end, where two may touch there.
 pub fn no_failing_pair_is_a_clear_motion()
     ensures { (meets : Positions → Bool) → IsExact meets → NoneFailingIsClear meets }

@@ -1,22 +1,19 @@
 -- When a mesh is clear where it is untouched.
-use Rattle.std.proofs.Common.{◌≡◌, ℕ, ◌+◌, ◌<◌, ◌≤◌, true, false, cond, ◌==◌, List, [], ◌∷◌, None, is_some, ⊎_elim, sym, ap, subst, ◌∙◌, arith}
-use Rattle.std.proofs.lemmas.Bool.Decides.{nat_tests}
-use Rattle.grid_base.specs.declared.Point.{Point}
+use Rattle.std.proofs.Common.{◌≡◌, ℕ, ◌+◌, ◌<◌, ◌≤◌, List, [], ◌∷◌, None, is_some, ⊎_elim, sym, ap, subst, ◌∙◌, arith}
 use Rattle.grid_base.specs.Meeting.{MeetAt}
 use Rattle.grid_base.specs.Triples.{times}
-use Rattle.grid_base.specs.Points.{position_of}
 use Rattle.grid_base.proofs.MeetingLaws.{Meets-unmultiple}
 use Rattle.mesh_base.specs.declared.ids.Corners.{Corners}
 use Rattle.mesh_base.specs.Mesh.{Mesh, IsSound, IsLiveVertex, HasCorners}
-use Rattle.mesh_base.specs.Sides.{follows, IsEdge}
+use Rattle.mesh_base.specs.Sides.{IsEdge}
 use Rattle.mesh_base.specs.Pairs.{Pair, IsPair}
-use Rattle.mesh_base.specs.Changes.{with_face, without_face, with_vertex}
+use Rattle.mesh_base.specs.Changes.{with_face, without_face}
 use Rattle.mesh_base.specs.Placements.{rest_positions, rest_positions_doubled, positions, IsClearMesh}
 use Rattle.mesh_base.proofs.Finite.{got_after_insert, got_after_remove}
 use Rattle.mesh_base.proofs.Listed.{edge_live}
 use Rattle.edit_base.specs.declared.Move.{Move}
 use Rattle.edit_base.specs.Scaffold.{move_of}
-use Rattle.edit_base.specs.Edges.{Edge, corners_from, with_faces, without_faces}
+use Rattle.edit_base.specs.Edges.{with_faces, without_faces}
 use Rattle.edit_acts.proofs.Changed.{next_face-without_faces, points-without_faces, points-with_faces}
 use Rattle.edit_acts.proofs.FaceCorners.{edge_forth, edge_back}
 use Rattle.edit_check.specs.Untouched.{IsUntouched, IsClearWhereUntouched}

@@ -20,8 +20,8 @@ abbrev pub pair_passes : ℕ → MotionPair → Bool
 pair_passes depth p = passes meets_exactly depth (positions_of p.start) (positions_of p.end)
 
 -- it does what is required of a pair of which each member holds a vertex that may touch
-abbrev pub pair_touches_well : Touch → ℕ → MotionPair → Bool
-pair_touches_well touch depth p = meets_contact_rule meets_exactly touch depth (positions_of p.start) (positions_of p.end)
+abbrev pub pair_meets_contact_rule : Touch → ℕ → MotionPair → Bool
+pair_meets_contact_rule touch depth p = meets_contact_rule meets_exactly touch depth (positions_of p.start) (positions_of p.end)
 
 -- they do what is required of them, where they are a pair
 abbrev pub do_as_required : Touch → List ℕ → ℕ → MovingEdge → MovingFace → Bool

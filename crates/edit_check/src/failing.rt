@@ -6,7 +6,7 @@ ghost use Rattle.grid_base.specs.SeparationTests.{opens, closes};
 ghost use Rattle.motion_test.specs.Pairs.{positions_of};
 ghost use Rattle.edit_base.specs.Scaffold.{joins_contacts};
 ghost use Rattle.pair_paths.specs.Pairing.{pair_with};
-ghost use Rattle.edit_check.specs.Failing.{pair_passes, pair_touches_well, do_as_required, fails, first_failing_among, is_side_of_some};
+ghost use Rattle.edit_check.specs.Failing.{pair_passes, pair_meets_contact_rule, do_as_required, fails, first_failing_among, is_side_of_some};
 
 use crate::touched::has_a_corner;
 use edit_base::Touch;
@@ -50,7 +50,7 @@ fn meets_contact_rule(touch: Touch, p: &Pair, depth: u8) -> bool
     requires depth_fits { depth ≤ DEPTH_MAX }
     requires start_fits { AreWithin HALF_MAX (positions_of p.now.start) }
     requires end_fits { AreWithin HALF_MAX (positions_of p.now.end) }
-    ensures { result ≡ pair_touches_well touch depth p.now }
+    ensures { result ≡ pair_meets_contact_rule touch depth p.now }
 {
     match touch {
         Touch::Never => pair_passes(p, depth),

@@ -10,7 +10,7 @@ use Rattle.mesh_base.specs.Mesh.{Mesh, IsSound}
 use Rattle.mesh_base.specs.Sides.{IsClosed}
 use Rattle.mesh_base.specs.Pairs.{is_edge}
 use Rattle.mesh_base.specs.Placements.{rest_positions_doubled}
-use Rattle.edit_base.specs.declared.answers.Why.TheVariants.{NoEdge, Full, Doubled, Hit}
+use Rattle.edit_base.specs.declared.answers.Why.TheVariants.{NoEdge, Solid, Full, Doubled, Hit}
 use Rattle.edit_base.specs.declared.answers.Change.TheVariants.{Collapse}
 use Rattle.edit_base.specs.declared.answers.Edit.{Edit}
 use Rattle.edit_base.specs.declared.answers.Edit.TheVariants.{Done, No}
@@ -19,16 +19,16 @@ use Rattle.edit_base.specs.declared.scaffold.Touch.TheVariants.{End}
 use Rattle.edit_base.specs.Reasons.{reason_if, first_reason, done_unless, is_full}
 use Rattle.edit_base.specs.Scaffold.{first_failing}
 use Rattle.edit_base.specs.Edges.{doubles_a_face}
-use Rattle.edit_collapse.specs.Collapse.{collapse_mesh, collapse_point, collapse_scaffold, joined_faces}
+use Rattle.edit_collapse.specs.Collapse.{are_both_solid, collapse_mesh, collapse_point, collapse_scaffold, joined_faces}
 use Rattle.edit_collapse.specs.Answer.{collapse_answer}
 use Rattle.edit_base.proofs.Beside.{beside_of}
 use Rattle.edit_collapse.specs.Tried.{answer_of, MayBeTried}
 
 -- the answer by its tests
-abbrev answer_by : (edge doubled full : Bool) → Option PairName → Mesh → ℕ → ℕ → Edit
-answer_by edge doubled full found m a b =
+abbrev answer_by : (edge solid doubled full : Bool) → Option PairName → Mesh → ℕ → ℕ → Edit
+answer_by edge solid doubled full found m a b =
     done_unless
-    (first_reason (reason_if (not edge) NoEdge ∷ reason_if doubled Doubled ∷ reason_if full Full ∷ option_map (λ p. Hit p) found ∷ []))
+    (first_reason (reason_if (not edge) NoEdge ∷ reason_if solid Solid ∷ reason_if doubled Doubled ∷ reason_if full Full ∷ option_map (λ p. Hit p) found ∷ []))
     (Collapse a b (collapse_point m a b))
 
 -- the ends of an edge are two
@@ -39,6 +39,9 @@ are_apart m a b sound closed ordered edge e =
     (beside_of m a b sound closed ((λ i. is_edge m (low i) (high i)) ∙ edge)).a_b (low ∙ e ∙ sym high)
 
 module _ (meets : Positions → Bool) (m : Mesh) (a b depth : ℕ) where
+  abbrev solid : Bool
+  solid = are_both_solid m a b
+
   abbrev doubled : Bool
   doubled = doubles_a_face (joined_faces m a b)
 
@@ -49,22 +52,25 @@ module _ (meets : Positions → Bool) (m : Mesh) (a b depth : ℕ) where
   found = first_failing meets (collapse_scaffold m a b (collapse_point m a b)) depth
 
   pub no_edge_is_refused : is_edge m a b ≡ false → No NoEdge ≡ answer_of meets m a b depth
-  no_edge_is_refused e = sym (λ i. answer_by (e i) doubled full found m a b)
+  no_edge_is_refused e = sym (λ i. answer_by (e i) solid doubled full found m a b)
 
-  pub doubled_is_refused : is_edge m a b ≡ true → doubled ≡ true → No Doubled ≡ answer_of meets m a b depth
-  doubled_is_refused e f = sym (λ i. answer_by (e i) (f i) full found m a b)
+  pub solid_is_refused : is_edge m a b ≡ true → solid ≡ true → No Solid ≡ answer_of meets m a b depth
+  solid_is_refused e h = sym (λ i. answer_by (e i) (h i) doubled full found m a b)
 
-  pub full_is_refused : is_edge m a b ≡ true → doubled ≡ false → full ≡ true → No Full ≡ answer_of meets m a b depth
-  full_is_refused e f g = sym (λ i. answer_by (e i) (f i) (g i) found m a b)
+  pub doubled_is_refused : is_edge m a b ≡ true → solid ≡ false → doubled ≡ true → No Doubled ≡ answer_of meets m a b depth
+  doubled_is_refused e h f = sym (λ i. answer_by (e i) (h i) (f i) full found m a b)
 
-  pub may_be_tried : is_edge m a b ≡ true → doubled ≡ false → full ≡ false → MayBeTried m a b
-  may_be_tried e f g = record { edge = e; undoubled = f; full = g }
+  pub full_is_refused : is_edge m a b ≡ true → solid ≡ false → doubled ≡ false → full ≡ true → No Full ≡ answer_of meets m a b depth
+  full_is_refused e h f g = sym (λ i. answer_by (e i) (h i) (f i) (g i) found m a b)
+
+  pub may_be_tried : is_edge m a b ≡ true → solid ≡ false → doubled ≡ false → full ≡ false → MayBeTried m a b
+  may_be_tried e h f g = record { edge = e; may_move = h; undoubled = f; full = g }
 
   pub hit_is_refused : MayBeTried m a b → (p : PairName) → Some p ≡ found → No (Hit p) ≡ answer_of meets m a b depth
-  hit_is_refused tried p e = sym (λ i. answer_by (tried.edge i) (tried.undoubled i) (tried.full i) (sym e i) m a b)
+  hit_is_refused tried p e = sym (λ i. answer_by (tried.edge i) (tried.may_move i) (tried.undoubled i) (tried.full i) (sym e i) m a b)
 
   pub no_hit_is_done : MayBeTried m a b → None ≡ found → Done (Collapse a b (collapse_point m a b)) ≡ answer_of meets m a b depth
-  no_hit_is_done tried e = sym (λ i. answer_by (tried.edge i) (tried.undoubled i) (tried.full i) (sym e i) m a b)
+  no_hit_is_done tried e = sym (λ i. answer_by (tried.edge i) (tried.may_move i) (tried.undoubled i) (tried.full i) (sym e i) m a b)
 
 -- two ids in order, or exchanged
 pub same_in_order : (meets : Positions → Bool) (m : Mesh) (u v depth : ℕ) → u ≤ v → answer_of meets m u v depth ≡ collapse_answer meets m u v depth

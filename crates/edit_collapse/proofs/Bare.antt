@@ -12,16 +12,17 @@ use Rattle.std.specs.FinMap as finite
 use Rattle.std.specs.FinMap.{same_map, nat_cmp-IsAntisymmetric, get-remove, contains_key-keys}
 use Rattle.grid_base.specs.declared.Point.{Point}
 use Rattle.mesh_base.specs.declared.ids.Corners.{Corners}
-use Rattle.mesh_base.specs.Mesh.{Mesh, IsSound, HasCorners}
+use Rattle.mesh_base.specs.Mesh.{Mesh, is_solid, IsSound, IsLiveVertex, HasCorners}
 use Rattle.mesh_base.specs.Pairs.{is_edge}
 use Rattle.mesh_base.specs.Sides.{has_corner, follows, runs, IsClosed}
 use Rattle.mesh_base.specs.Changes.{without_vertex, corner_list}
 use Rattle.mesh_base.proofs.Listed.{all_filter, at_key, running_face, and_first, and_second, or_either}
 use Rattle.mesh_base.proofs.ListedPairs.{all_weaker}
+use Rattle.mesh_base.proofs.Finite.{live_after_remove, live_but_removed}
 use Rattle.mesh_base.proofs.Tests.{or_first, or_second, both_ways}
 use Rattle.edit_collapse.specs.Collapse.{joined_faces, has_face, without_bare}
 use Rattle.edit_collapse.proofs.CollapseMesh.{dropped_faces, dropped_next, has_face_of}
-use Rattle.edit_collapse.proofs.JoinedFaces.{joined, lacks_b}
+use Rattle.edit_collapse.proofs.JoinedFaces.{joined, joined_solid, lacks_b}
 use Rattle.edit_collapse.specs.Tried.{corners_near, others_than, without_if_bare}
 use Rattle.edit_collapse.proofs.Acts.{faces_kept_at, each_at, one_stays}
 use Rattle.edit_collapse.proofs.Three.{three_cut, two_stays}
@@ -34,7 +35,7 @@ abbrev has : List ℕ → ℕ → Bool
 has vs v = list_any (λ w. w == v) vs
 
 -- ---- vertices are dropped, each or if it is bare
-both_dropped : (p q : Bool) (o : Option Point) → cond q None (cond p None o) ≡ cond (p || q) None o
+both_dropped : {A : Type 0} (p q : Bool) (o : Option A) → cond q None (cond p None o) ≡ cond (p || q) None o
 both_dropped true true o = refl
 both_dropped true false o = refl
 both_dropped false q o = refl
@@ -45,6 +46,13 @@ got_dropped (w ∷ vs) n v =
     got_dropped vs (without_vertex n w) v
     ∙ ap (λ o. cond (has vs v) None o) (get-remove nat_cmp_total n.points w v ∙ ap (λ t. cond t None (finite.get n.points v)) (unsigned_tied v w ∙ turned_tests v w))
     ∙ both_dropped (w == v) (has vs v) (finite.get n.points v)
+
+marks_dropped : (vs : List ℕ) (n : Mesh) (v : ℕ) → finite.get (fold without_vertex n vs).solid v ≡ cond (has vs v) None (finite.get n.solid v)
+marks_dropped [] n v = refl
+marks_dropped (w ∷ vs) n v =
+    marks_dropped vs (without_vertex n w) v
+    ∙ ap (λ o. cond (has vs v) None o) (get-remove nat_cmp_total n.solid w v ∙ ap (λ t. cond t None (finite.get n.solid v)) (unsigned_tied v w ∙ turned_tests v w))
+    ∙ both_dropped (w == v) (has vs v) (finite.get n.solid v)
 
 same_faces_once : (n : Mesh) (w : ℕ) → (without_if_bare n w).faces ≡ n.faces
 same_faces_once n w = by_test (not (has_face n w) && is_some (finite.get n.points w))
@@ -60,31 +68,66 @@ same_next_once n w = by_test (not (has_face n w) && is_some (finite.get n.points
     by_test true = (refl, refl)
     by_test false = (refl, refl)
 
+-- what is told of each vertex, after one is dropped if it is bare
+module _ {A : Type 0} (n : Mesh) (w v : ℕ) (told : ℕ → Option A) where
+  rests : (u : Bool) → (w == v) ≡ u → (h : Bool) → (u ≡ true → has_face n v ≡ h) → (u ≡ true → h ≡ true) → told v ≡ cond (u && not (has_face n v)) None (told v)
+  rests true e h is one = sym (ap (λ t. cond (not t) None (told v)) (is refl ∙ one refl))
+  rests false e h is one = refl
+
+  absent : (u : Bool) → (w == v) ≡ u → told w ≡ None → (t : Bool) → told v ≡ cond (u && t) None (told v)
+  absent true e none true = ap told (sym (eqb-true w v e)) ∙ none
+  absent true e none false = refl
+  absent false e none t = refl
+
+  goes : (u : Bool) → (w == v) ≡ u → has_face n w ≡ false → cond u None (told v) ≡ cond (u && not (has_face n v)) None (told v)
+  goes true e bare = sym (ap (λ t. cond (not t) None (told v)) (ap (has_face n) (sym (eqb-true w v e)) ∙ bare))
+  goes false e bare = refl
+
 got_once : (n : Mesh) (w v : ℕ) → finite.get (without_if_bare n w).points v ≡ cond ((w == v) && not (has_face n v)) None (finite.get n.points v)
 got_once n w v = by_tests (has_face n w) refl (finite.get n.points w) refl
   where
     removed : finite.get (without_vertex n w).points v ≡ cond (w == v) None (finite.get n.points v)
     removed = get-remove nat_cmp_total n.points w v ∙ ap (λ t. cond t None (finite.get n.points v)) (unsigned_tied v w ∙ turned_tests v w)
 
-    stays : (u : Bool) → (w == v) ≡ u → (h : Bool) → (u ≡ true → has_face n v ≡ h) → (u ≡ true → h ≡ true) → finite.get n.points v ≡ cond (u && not (has_face n v)) None (finite.get n.points v)
-    stays true e h is one = sym (ap (λ t. cond (not t) None (finite.get n.points v)) (is refl ∙ one refl))
-    stays false e h is one = refl
-
-    absent : (u : Bool) → (w == v) ≡ u → finite.get n.points w ≡ None → (t : Bool) → finite.get n.points v ≡ cond (u && t) None (finite.get n.points v)
-    absent true e none true = ap (finite.get n.points) (sym (eqb-true w v e)) ∙ none
-    absent true e none false = refl
-    absent false e none t = refl
-
-    goes : (u : Bool) → (w == v) ≡ u → has_face n w ≡ false → cond u None (finite.get n.points v) ≡ cond (u && not (has_face n v)) None (finite.get n.points v)
-    goes true e bare = sym (ap (λ t. cond (not t) None (finite.get n.points v)) (ap (has_face n) (sym (eqb-true w v e)) ∙ bare))
-    goes false e bare = refl
-
     by_tests : (t : Bool) → has_face n w ≡ t → (o : Option Point) → finite.get n.points w ≡ o → finite.get (if not t && is_some o then without_vertex n w else n).points v ≡ cond ((w == v) && not (has_face n v)) None (finite.get n.points v)
-    by_tests true f o e = stays (w == v) refl true (λ same. ap (has_face n) (sym (eqb-true w v same)) ∙ f) (λ same. refl)
-    by_tests false f None e = absent (w == v) refl e (not (has_face n v))
-    by_tests false f (Some p) e = removed ∙ goes (w == v) refl f
+    by_tests true f o e = rests n w v (finite.get n.points) (w == v) refl true (λ same. ap (has_face n) (sym (eqb-true w v same)) ∙ f) (λ same. refl)
+    by_tests false f None e = absent n w v (finite.get n.points) (w == v) refl e (not (has_face n v))
+    by_tests false f (Some p) e = removed ∙ goes n w v (finite.get n.points) (w == v) refl f
 
-both_bare : (p q h : Bool) (o : Option Point) → cond (q && h) None (cond (p && h) None o) ≡ cond ((p || q) && h) None o
+-- each solid vertex is live
+abbrev AreMarksLive : Mesh → Type 0
+AreMarksLive n = (v : ℕ) → is_solid n v ≡ true → IsLiveVertex n v
+
+marks_live_once : (n : Mesh) (w : ℕ) → AreMarksLive n → AreMarksLive (without_if_bare n w)
+marks_live_once n w live = by_test (not (has_face n w) && is_some (finite.get n.points w))
+  where
+    by_test : (t : Bool) → AreMarksLive (if t then without_vertex n w else n)
+    by_test true v solid = let old = live_after_remove n.solid w v solid in live_but_removed n.points w v old.0 (live v old.1)
+    by_test false v solid = live v solid
+
+marks_live_all : (vs : List ℕ) (n : Mesh) → AreMarksLive n → AreMarksLive (fold without_if_bare n vs)
+marks_live_all [] n live = live
+marks_live_all (w ∷ vs) n live = marks_live_all vs (without_if_bare n w) (marks_live_once n w live)
+
+mark_once : (n : Mesh) (w v : ℕ) → AreMarksLive n → finite.get (without_if_bare n w).solid v ≡ cond ((w == v) && not (has_face n v)) None (finite.get n.solid v)
+mark_once n w v live = by_tests (has_face n w) refl (finite.get n.points w) refl
+  where
+    removed : finite.get (without_vertex n w).solid v ≡ cond (w == v) None (finite.get n.solid v)
+    removed = get-remove nat_cmp_total n.solid w v ∙ ap (λ t. cond t None (finite.get n.solid v)) (unsigned_tied v w ∙ turned_tests v w)
+
+    no_mark : finite.get n.points w ≡ None → finite.get n.solid w ≡ None
+    no_mark none = by_answer (finite.get n.solid w) refl
+      where
+        by_answer : (o : Option (Unit {0})) → finite.get n.solid w ≡ o → o ≡ None
+        by_answer None e = refl
+        by_answer (Some u) e = absurd (false≢true (sym (ap is_some none) ∙ live w (ap is_some e)))
+
+    by_tests : (t : Bool) → has_face n w ≡ t → (o : Option Point) → finite.get n.points w ≡ o → finite.get (if not t && is_some o then without_vertex n w else n).solid v ≡ cond ((w == v) && not (has_face n v)) None (finite.get n.solid v)
+    by_tests true f o e = rests n w v (finite.get n.solid) (w == v) refl true (λ same. ap (has_face n) (sym (eqb-true w v same)) ∙ f) (λ same. refl)
+    by_tests false f None e = absent n w v (finite.get n.solid) (w == v) refl (no_mark e) (not (has_face n v))
+    by_tests false f (Some p) e = removed ∙ goes n w v (finite.get n.solid) (w == v) refl f
+
+both_bare : {A : Type 0} (p q h : Bool) (o : Option A) → cond (q && h) None (cond (p && h) None o) ≡ cond ((p || q) && h) None o
 both_bare true true true o = refl
 both_bare true true false o = refl
 both_bare true false true o = refl
@@ -109,6 +152,13 @@ got_bare (w ∷ vs) n v =
     got_bare vs (without_if_bare n w) v
     ∙ (λ i. cond (has vs v && not (face_in (same_faces_once n w i) v)) None (got_once n w v i))
     ∙ both_bare (w == v) (has vs v) (not (has_face n v)) (finite.get n.points v)
+
+marks_bare : (vs : List ℕ) (n : Mesh) (v : ℕ) → AreMarksLive n → finite.get (fold without_if_bare n vs).solid v ≡ cond (has vs v && not (has_face n v)) None (finite.get n.solid v)
+marks_bare [] n v live = refl
+marks_bare (w ∷ vs) n v live =
+    marks_bare vs (without_if_bare n w) v (marks_live_once n w live)
+    ∙ (λ i. cond (has vs v && not (face_in (same_faces_once n w i) v)) None (mark_once n w v live i))
+    ∙ both_bare (w == v) (has vs v) (not (has_face n v)) (finite.get n.solid v)
 
 -- ---- which vertices have a face
 pub some_face : (n : Mesh) (v : ℕ) → has_face n v ≡ true → (e : ℕ × Corners) × HasCorners n e.0 e.1 × (has_corner e.1 v ≡ true)
@@ -271,23 +321,39 @@ module _ (m : Mesh) (a b : ℕ) (sound : IsSound m) (closed : IsClosed m) (apart
   abbrev local : Mesh
   local = fold without_if_bare one_by_one (others_than b near_second)
 
+  keys_have : (v : ℕ) (ks : List ℕ) → has ks v ≡ list_any (eq_by_cmp nat_cmp v) ks
+  keys_have v [] = refl
+  keys_have v (k ∷ ks) = λ i. (turned_tests k v ∙ sym (unsigned_tied v k)) i || keys_have v ks i
+
+  -- only what is there goes
+  only_there : {A : Type 0} (t : Bool) (o : Option A) (u : Bool) → (is_some o ≡ true → u ≡ true) → cond (t && u) None o ≡ cond t None o
+  only_there true None true e = refl
+  only_there true None false e = refl
+  only_there true (Some p) true e = refl
+  only_there true (Some p) false e = absurd (false≢true (e refl))
+  only_there false o u e = refl
+
+  bare_marks : (v : ℕ) → finite.get (without_bare m b three).solid v ≡ cond (test v) None (finite.get three.solid v)
+  bare_marks v =
+      marks_dropped (filter test (finite.keys three.points)) three v
+      ∙ ap (λ t. cond t None (finite.get three.solid v))
+      (any-filter_same (λ w. w == v) test (test v) (λ w e. ap test (eqb-true w v e)) (finite.keys three.points))
+      ∙ only_there (test v) (finite.get three.solid v) (has (finite.keys three.points) v) (λ solid. keys_have v (finite.keys three.points) ∙ sym (contains_key-keys three.points v) ∙ joined_solid m a b sound apart closed v solid)
+
+  local_marks : (v : ℕ) → finite.get local.solid v ≡ cond (test v) None (finite.get three.solid v)
+  local_marks v =
+      let live : AreMarksLive three = joined_solid m a b sound apart closed in
+      marks_bare (others_than b near_second) one_by_one v (marks_live_all (others_than a near_first) three live)
+      ∙ (λ i. cond (has (others_than b near_second) v && not (face_in (same_faces (others_than a near_first) three i) v)) None (marks_bare (others_than a near_first) three v live i))
+      ∙ both_bare (has (others_than a near_first) v) (has (others_than b near_second) v) (not (has_face three v)) (finite.get three.solid v)
+      ∙ ap (λ t. cond t None (finite.get three.solid v)) (ap (λ t. t && not (has_face three v)) (without_ends v) ∙ one_list v)
+
   bare_got : (v : ℕ) → finite.get (without_bare m b three).points v ≡ cond (test v) None (finite.get three.points v)
   bare_got v =
       got_dropped (filter test (finite.keys three.points)) three v
       ∙ ap (λ t. cond t None (finite.get three.points v))
       (any-filter_same (λ w. w == v) test (test v) (λ w e. ap test (eqb-true w v e)) (finite.keys three.points))
-      ∙ by_answer (test v) (finite.get three.points v) (has (finite.keys three.points) v) (keys_have (finite.keys three.points) ∙ sym (contains_key-keys three.points v))
-    where
-      keys_have : (ks : List ℕ) → has ks v ≡ list_any (eq_by_cmp nat_cmp v) ks
-      keys_have [] = refl
-      keys_have (k ∷ ks) = λ i. (turned_tests k v ∙ sym (unsigned_tied v k)) i || keys_have ks i
-
-      by_answer : (t : Bool) (o : Option Point) (u : Bool) → u ≡ is_some o → cond (t && u) None o ≡ cond t None o
-      by_answer true None true e = refl
-      by_answer true None false e = refl
-      by_answer true (Some p) true e = refl
-      by_answer true (Some p) false e = absurd (false≢true e)
-      by_answer false o u e = refl
+      ∙ only_there (test v) (finite.get three.points v) (has (finite.keys three.points) v) (λ live. keys_have v (finite.keys three.points) ∙ sym (contains_key-keys three.points v) ∙ live)
 
   local_got : (v : ℕ) → finite.get local.points v ≡ cond (test v) None (finite.get three.points v)
   local_got v =
@@ -300,10 +366,11 @@ module _ (m : Mesh) (a b : ℕ) (sound : IsSound m) (closed : IsClosed m) (apart
   bare_is =
       let dropped : List ℕ = filter test (finite.keys three.points) in
       let points : local.points ≡ (without_bare m b three).points = same_map nat_cmp_total nat_cmp-IsAntisymmetric local.points (without_bare m b three).points (λ v. local_got v ∙ sym (bare_got v)) in
+      let marks : local.solid ≡ (without_bare m b three).solid = same_map nat_cmp_total nat_cmp-IsAntisymmetric local.solid (without_bare m b three).solid (λ v. local_marks v ∙ sym (bare_marks v)) in
       let faces = same_faces (others_than b near_second) one_by_one ∙ same_faces (others_than a near_first) three ∙ sym (dropped_faces dropped three) in
       let first = same_next (others_than a near_first) three in
       let second = same_next (others_than b near_second) one_by_one in
       let all = dropped_next dropped three in
       let vertex = second.0 ∙ first.0 ∙ sym all.0 in
       let face = second.1 ∙ first.1 ∙ sym all.1 in
-      λ i. record { points = points i; faces = faces i; next_vertex = vertex i; next_face = face i }
+      λ i. record { points = points i; faces = faces i; solid = marks i; next_vertex = vertex i; next_face = face i }

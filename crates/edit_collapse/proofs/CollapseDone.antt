@@ -5,13 +5,13 @@ use Rattle.grid_base.specs.SeparationTests.{IsExact}
 use Rattle.mesh_base.specs.Mesh.{Mesh, IsSound}
 use Rattle.mesh_base.specs.Sides.{IsClosed}
 use Rattle.mesh_base.specs.Pairs.{is_edge}
-use Rattle.edit_base.specs.declared.answers.Why.TheVariants.{NoEdge, Full, Doubled, Hit}
+use Rattle.edit_base.specs.declared.answers.Why.TheVariants.{NoEdge, Solid, Full, Doubled, Hit}
 use Rattle.edit_base.specs.declared.answers.Change.{Change}
 use Rattle.edit_base.specs.declared.answers.Edit.TheVariants.{Done}
 use Rattle.edit_base.specs.Reasons.{reason_if, hit_in, is_full}
 use Rattle.edit_base.specs.Scaffold.{first_failing}
 use Rattle.edit_base.specs.Edges.{doubles_a_face}
-use Rattle.edit_collapse.specs.Collapse.{collapse_mesh, collapse_point, collapse_scaffold, joined_faces}
+use Rattle.edit_collapse.specs.Collapse.{are_both_solid, collapse_mesh, collapse_point, collapse_scaffold, joined_faces}
 use Rattle.edit_collapse.specs.Answer.{collapse_answer}
 use Rattle.edit_base.specs.Clauses.{MovesClear}
 use Rattle.edit_base.specs.Laws.{MotionIsClear, AlwaysMakes}
@@ -30,12 +30,14 @@ module _ (meets : Positions → Bool) (u v depth : ℕ) (m : Mesh) (change : Cha
       let hits = hit_in meets scaffold depth ∷ [] in
       let fulls = reason_if (is_full scaffold.mesh (collapse_mesh m a b (collapse_point m a b))) Full ∷ hits in
       let doubles = reason_if (doubles_a_face (joined_faces m a b)) Doubled ∷ fulls in
-      let four = done_is _ _ _ done in
-      let three = none_first (reason_if (not (is_edge m a b)) NoEdge) doubles four.0 in
+      let solids = reason_if (are_both_solid m a b) Solid ∷ doubles in
+      let five = done_is _ _ _ done in
+      let four = none_first (reason_if (not (is_edge m a b)) NoEdge) solids five.0 in
+      let three = none_first (reason_if (are_both_solid m a b) Solid) doubles four.1 in
       let two = none_first (reason_if (doubles_a_face (joined_faces m a b)) Doubled) fulls three.1 in
       let one = none_first (reason_if (is_full scaffold.mesh (collapse_mesh m a b (collapse_point m a b))) Full) hits two.1 in
       let last = none_first (hit_in meets scaffold depth) [] one.1 in
-      subst (MovesClear collapse_tested_on m) four.1 (closed, none_failing_is_clear meets exact scaffold depth sound (no_name (λ p. Hit p) (first_failing meets scaffold depth) last.0))
+      subst (MovesClear collapse_tested_on m) five.1 (closed, none_failing_is_clear meets exact scaffold depth sound (no_name (λ p. Hit p) (first_failing meets scaffold depth) last.0))
 
 pub collapse_motion_is_clear : (meets : Positions → Bool) → IsExact meets → (u v depth : ℕ) → MotionIsClear collapse_tested_on (λ m. collapse_answer meets m u v depth)
 collapse_motion_is_clear meets exact u v depth m change sound closed done = collapse_moves_clear meets u v depth m change sound closed done exact

@@ -15,7 +15,7 @@ use Rattle.mesh_base.specs.Sides.{IsClosed}
 use Rattle.mesh_base.specs.Pairs.{Pair, IsPair, is_edge}
 use Rattle.mesh_base.specs.Placements.{rest_positions_doubled, positions, IsClearMesh}
 use Rattle.mesh_base.specs.Limits.{is_over_limits}
-use Rattle.edit_base.specs.declared.answers.Why.TheVariants.{NoEdge, Full, Doubled, Hit}
+use Rattle.edit_base.specs.declared.answers.Why.TheVariants.{NoEdge, Solid, Full, Doubled, Hit}
 use Rattle.edit_base.specs.declared.answers.Change.{Change}
 use Rattle.edit_base.specs.declared.answers.Change.TheVariants.{Collapse}
 use Rattle.edit_base.specs.declared.answers.Edit.TheVariants.{Done}
@@ -25,7 +25,7 @@ use Rattle.edit_base.specs.Beside.{IsBeside}
 use Rattle.edit_base.specs.Reasons.{reason_if, hit_in, is_full}
 use Rattle.edit_base.specs.Scaffold.{motion_of, joins_contacts, meets_contact_rule, first_failing}
 use Rattle.edit_base.specs.Edges.{edge_of, doubles_a_face}
-use Rattle.edit_collapse.specs.Collapse.{collapse_mesh, collapse_point, collapse_scaffold, joined_faces}
+use Rattle.edit_collapse.specs.Collapse.{are_both_solid, collapse_mesh, collapse_point, collapse_scaffold, joined_faces}
 use Rattle.edit_collapse.specs.Done.{collapse_result}
 use Rattle.edit_collapse.specs.Answer.{collapse_answer}
 use Rattle.edit_base.specs.Laws.{StaysSound, StaysClosed, StaysClear}
@@ -99,6 +99,7 @@ module _ (m : Mesh) (u v : ℕ) (at : Point) (sound : IsSound m) (closed : IsClo
 module _ (meets : Positions → Bool) (u v depth : ℕ) (m : Mesh) (change : Change) (sound : IsSound m) (closed : IsClosed m) (done : collapse_answer meets m u v depth ≡ Done change) where
   record Facts : Type 0 where
     pub edge : is_edge m (min u v) (max u v) ≡ true
+    pub may_move : are_both_solid m (min u v) (max u v) ≡ false
     pub undoubled : doubles_a_face (joined_faces m (min u v) (max u v)) ≡ false
     pub fits : is_over_limits (collapse_mesh m (min u v) (max u v) (collapse_point m (min u v) (max u v))) ≡ false
     pub unhit : first_failing meets (collapse_scaffold m (min u v) (max u v) (collapse_point m (min u v) (max u v))) depth ≡ None
@@ -113,17 +114,20 @@ module _ (meets : Positions → Bool) (u v depth : ℕ) (m : Mesh) (change : Cha
       let hits = hit_in meets scaffold depth ∷ [] in
       let fulls = reason_if (is_full scaffold.mesh result) Full ∷ hits in
       let doubles = reason_if (doubles_a_face (joined_faces m a b)) Doubled ∷ fulls in
-      let four = done_is _ _ _ done in
-      let three = none_first (reason_if (not (is_edge m a b)) NoEdge) doubles four.0 in
+      let solids = reason_if (are_both_solid m a b) Solid ∷ doubles in
+      let five = done_is _ _ _ done in
+      let four = none_first (reason_if (not (is_edge m a b)) NoEdge) solids five.0 in
+      let three = none_first (reason_if (are_both_solid m a b) Solid) doubles four.1 in
       let two = none_first (reason_if (doubles_a_face (joined_faces m a b)) Doubled) fulls three.1 in
       let one = none_first (reason_if (is_full scaffold.mesh result) Full) hits two.1 in
       let last = none_first (hit_in meets scaffold depth) [] one.1 in
       record {
-        edge = stands (is_edge m a b) (does_not_hold (not (is_edge m a b)) NoEdge three.0);
+        edge = stands (is_edge m a b) (does_not_hold (not (is_edge m a b)) NoEdge four.0);
+        may_move = does_not_hold (are_both_solid m a b) Solid three.0;
         undoubled = does_not_hold (doubles_a_face (joined_faces m a b)) Doubled two.0;
         fits = second_false (is_over_limits scaffold.mesh) (is_over_limits result) (does_not_hold (is_full scaffold.mesh result) Full one.0);
         unhit = no_name (λ p. Hit p) (first_failing meets scaffold depth) last.0;
-        result = four.1;
+        result = five.1;
       }
 
   abbrev at : Point

@@ -1,5 +1,5 @@
 -- What a collapse leaves: a closed and sound mesh, whatever the point at which the edge's first end is put.
-use Rattle.std.proofs.Common.{◌≡◌, ◌≢◌, ⊎_elim, ℕ, ◌<◌, ◌≤◌, Bool, true, false, cond, not, ◌&&◌, ◌||◌, ◌==◌, List, [], ◌∷◌, length, Some, None, IsSome, is_some, slice_get, map, if◌then◌else◌, refl, sym, ap, subst, ◌∙◌, arith}
+use Rattle.std.proofs.Common.{◌≡◌, ◌≢◌, ◌⊎◌, inr, ⊎_elim, ℕ, ◌<◌, ◌≤◌, Bool, true, false, cond, not, ◌&&◌, ◌||◌, ◌==◌, List, [], ◌∷◌, length, Some, None, IsSome, is_some, slice_get, map, if◌then◌else◌, refl, sym, ap, subst, ◌∙◌, arith}
 use Rattle.std.proofs.lemmas.Bool.{false≢true}
 use Rattle.std.proofs.lemmas.Bool.Decides.{nat_tests}
 use Rattle.std.specs.List.{filter, fold, AllByRecursion}
@@ -10,19 +10,19 @@ use Rattle.std.specs.FinMap.{get-remove, get-insert, get-entries}
 use Rattle.std.specs.FinMap.Entries.{find}
 use Rattle.grid_base.specs.declared.Point.{Point}
 use Rattle.mesh_base.specs.declared.ids.Corners.{Corners}
-use Rattle.mesh_base.specs.Mesh.{Mesh, IsSound, IsLiveVertex, IsLiveFace, HasCorners, AreLive}
+use Rattle.mesh_base.specs.Mesh.{Mesh, is_solid, IsSound, IsLiveVertex, IsLiveFace, HasCorners, AreLive}
 use Rattle.mesh_base.specs.Sides.{has_corner, follows, ids_where, IsClosed}
-use Rattle.mesh_base.specs.Changes.{without_vertex, with_point}
+use Rattle.mesh_base.specs.Changes.{without_vertex}
 use Rattle.mesh_base.specs.Limits.{is_over_limits}
-use Rattle.mesh_base.proofs.Finite.{live_after_remove, live_after_insert, live_stays}
+use Rattle.mesh_base.proofs.Finite.{live_after_remove, live_after_insert, live_stays, live_but_removed, live_inserted}
 use Rattle.mesh_base.proofs.ListedPairs.{all_filtered, all_always}
 use Rattle.edit_base.specs.Edges.{doubles_a_face}
-use Rattle.edit_collapse.specs.Collapse.{joined_faces, has_face, without_bare, placed_if_left, collapse_mesh}
+use Rattle.edit_collapse.specs.Collapse.{joined_faces, has_face, without_bare, has_solid_end, placed, placed_if_left, collapse_mesh}
 use Rattle.edit_acts.proofs.Sound.{not_over}
 use Rattle.edit_acts.proofs.Undoubled.{undoubled}
 use Rattle.edit_collapse.proofs.Carried.{moved, moved_either}
 use Rattle.edit_collapse.proofs.Joined.{Stage, first_held, second_held, third_held}
-use Rattle.edit_collapse.proofs.JoinedFaces.{lacks_b, is_renamed, different_left, joined, joined_is_closed}
+use Rattle.edit_collapse.proofs.JoinedFaces.{lacks_b, is_renamed, different_left, joined, joined_solid, joined_is_closed}
 
 -- ---- vertices are dropped
 pub dropped_faces : (vs : List ℕ) (n : Mesh) → (fold without_vertex n vs).faces ≡ n.faces
@@ -33,12 +33,33 @@ pub dropped_next : (vs : List ℕ) (n : Mesh) → ((fold without_vertex n vs).ne
 dropped_next [] n = (refl, refl)
 dropped_next (v ∷ vs) n = dropped_next vs (without_vertex n v)
 
-dropped_live : (vs : List ℕ) (n : Mesh) (v : ℕ) → IsLiveVertex (fold without_vertex n vs) v → IsLiveVertex n v
+pub dropped_live : (vs : List ℕ) (n : Mesh) (v : ℕ) → IsLiveVertex (fold without_vertex n vs) v → IsLiveVertex n v
 dropped_live [] n v live = live
 dropped_live (w ∷ vs) n v live = (live_after_remove n.points w v (dropped_live vs (without_vertex n w) v live)).1
 
 untied : (x y : ℕ) → x ≢ y → (x == y) ≡ false
 untied x y k = grind (arith, nat_tests)
+
+-- a vertex that is left stays where it is
+pub dropped_points : (vs : List ℕ) (n : Mesh) (v : ℕ) → IsLiveVertex (fold without_vertex n vs) v → finite.get (fold without_vertex n vs).points v ≡ finite.get n.points v
+dropped_points [] n v live = refl
+dropped_points (w ∷ vs) n v live =
+    let apart = (live_after_remove n.points w v (dropped_live vs (without_vertex n w) v live)).0 in
+    dropped_points vs (without_vertex n w) v live
+    ∙ get-remove nat_cmp_total n.points w v ∙ ap (λ t. cond t None (finite.get n.points v)) (unsigned_tied v w ∙ untied v w apart)
+
+-- and keeps its mark
+pub dropped_marks : (vs : List ℕ) (n : Mesh) (v : ℕ) → IsLiveVertex (fold without_vertex n vs) v → is_solid (fold without_vertex n vs) v ≡ is_solid n v
+dropped_marks [] n v live = refl
+dropped_marks (w ∷ vs) n v live =
+    let apart = (live_after_remove n.points w v (dropped_live vs (without_vertex n w) v live)).0 in
+    dropped_marks vs (without_vertex n w) v live
+    ∙ ap is_some (get-remove nat_cmp_total n.solid w v ∙ ap (λ t. cond t None (finite.get n.solid v)) (unsigned_tied v w ∙ untied v w apart))
+
+-- and what goes loses its mark: where each solid vertex was live, it is so afterwards
+dropped_solid : (vs : List ℕ) (n : Mesh) → ((v : ℕ) → is_solid n v ≡ true → IsLiveVertex n v) → (v : ℕ) → is_solid (fold without_vertex n vs) v ≡ true → IsLiveVertex (fold without_vertex n vs) v
+dropped_solid [] n were = were
+dropped_solid (w ∷ vs) n were = dropped_solid vs (without_vertex n w) (λ v solid. let old = live_after_remove n.solid w v solid in live_but_removed n.points w v old.0 (were v old.1))
 
 dropped_others : (vs : List ℕ) (n : Mesh) (v : ℕ) → AllByRecursion (λ w. v ≢ w) vs → finite.get (fold without_vertex n vs).points v ≡ finite.get n.points v
 dropped_others [] n v h = refl
@@ -47,38 +68,70 @@ dropped_others (w ∷ vs) n v h =
     ∙ get-remove nat_cmp_total n.points w v ∙ ap (λ t. cond t None (finite.get n.points v)) (unsigned_tied v w ∙ untied v w h.0)
 
 -- ---- a vertex is put at a point, if it is left
-pub placed_faces : (t : Bool) (n : Mesh) (v : ℕ) (at : Point) → (if t then with_point n v at else n).faces ≡ n.faces
-placed_faces true n v at = refl
-placed_faces false n v at = refl
+pub placed_points : (s : Bool) (n : Mesh) (v : ℕ) (at : Point) → (placed s n v at).points ≡ finite.insert n.points v at
+placed_points true n v at = refl
+placed_points false n v at = refl
 
-pub placed_next : (t : Bool) (n : Mesh) (v : ℕ) (at : Point) → ((if t then with_point n v at else n).next_vertex ≡ n.next_vertex) × ((if t then with_point n v at else n).next_face ≡ n.next_face)
-placed_next true n v at = (refl, refl)
-placed_next false n v at = (refl, refl)
+pub placed_faces : (s t : Bool) (n : Mesh) (v : ℕ) (at : Point) → (if t then placed s n v at else n).faces ≡ n.faces
+placed_faces true true n v at = refl
+placed_faces false true n v at = refl
+placed_faces s false n v at = refl
 
-placed_live : (t : Bool) (n : Mesh) (v : ℕ) (at : Point) (w : ℕ) → IsLiveVertex n w → IsLiveVertex (if t then with_point n v at else n) w
-placed_live true n v at w live = live_stays n.points v at w live
-placed_live false n v at w live = live
+pub placed_next : (s t : Bool) (n : Mesh) (v : ℕ) (at : Point) → ((if t then placed s n v at else n).next_vertex ≡ n.next_vertex) × ((if t then placed s n v at else n).next_face ≡ n.next_face)
+placed_next true true n v at = (refl, refl)
+placed_next false true n v at = (refl, refl)
+placed_next s false n v at = (refl, refl)
 
-was_live : (n : Mesh) (v : ℕ) (at : Point) (w : ℕ) → IsLiveVertex (placed_if_left n v at) w → IsLiveVertex n w
-was_live n v at w live = by_test (finite.contains_key n.points v) refl live
+placed_live : (s t : Bool) (n : Mesh) (v : ℕ) (at : Point) (w : ℕ) → IsLiveVertex n w → IsLiveVertex (if t then placed s n v at else n) w
+placed_live s true n v at w live = subst (λ ps. IsSome (finite.get ps w)) (sym (placed_points s n v at)) (live_stays n.points v at w live)
+placed_live s false n v at w live = live
+
+pub was_live : (s : Bool) (n : Mesh) (v : ℕ) (at : Point) (w : ℕ) → IsLiveVertex (placed_if_left s n v at) w → IsLiveVertex n w
+was_live s n v at w live = by_test (finite.contains_key n.points v) refl live
   where
-    by_test : (t : Bool) → finite.contains_key n.points v ≡ t → IsLiveVertex (if t then with_point n v at else n) w → IsLiveVertex n w
-    by_test true there live = ⊎_elim (λ same. subst (IsLiveVertex n) (sym same) there) (λ old. old) (live_after_insert n.points v at w live)
+    by_test : (t : Bool) → finite.contains_key n.points v ≡ t → IsLiveVertex (if t then placed s n v at else n) w → IsLiveVertex n w
+    by_test true there live = ⊎_elim (λ same. subst (IsLiveVertex n) (sym same) there) (λ old. old) (live_after_insert n.points v at w (subst (λ ps. IsSome (finite.get ps w)) (placed_points s n v at) live))
     by_test false there live = live
 
-placed_here : (n : Mesh) (v : ℕ) (at : Point) (w : ℕ) → w ≡ v → IsLiveVertex n v → finite.get (placed_if_left n v at).points w ≡ Some at
-placed_here n v at w same live =
-    ap (λ t. finite.get (if t then with_point n v at else n).points w) live
+-- where it is solid then, it was so or is the one that is put there
+placed_solid : (s : Bool) (n : Mesh) (v : ℕ) (at : Point) (w : ℕ) → is_solid (placed s n v at) w ≡ true → (w ≡ v) ⊎ (is_solid n w ≡ true)
+placed_solid true n v at w h = live_after_insert n.solid v tt w h
+placed_solid false n v at w h = inr h
+
+marks_live : (s : Bool) (n : Mesh) (v : ℕ) (at : Point) → ((w : ℕ) → is_solid n w ≡ true → IsLiveVertex n w) → (w : ℕ) → is_solid (placed_if_left s n v at) w ≡ true → IsLiveVertex (placed_if_left s n v at) w
+marks_live s n v at were = by_test (finite.contains_key n.points v) refl
+  where
+    by_test : (t : Bool) → finite.contains_key n.points v ≡ t → (w : ℕ) → is_solid (if t then placed s n v at else n) w ≡ true → IsLiveVertex (if t then placed s n v at else n) w
+    by_test true there w solid = placed_live s true n v at w (⊎_elim (λ same. subst (IsLiveVertex n) (sym same) there) (λ old. were w old) (placed_solid s n v at w solid))
+    by_test false there w solid = were w solid
+
+-- every other vertex keeps its mark
+pub placed_marks : (s : Bool) (n : Mesh) (v : ℕ) (at : Point) (w : ℕ) → w ≢ v → is_solid (placed_if_left s n v at) w ≡ is_solid n w
+placed_marks s n v at w apart = by_tests s (finite.contains_key n.points v)
+  where
+    by_tests : (s t : Bool) → is_solid (if t then placed s n v at else n) w ≡ is_solid n w
+    by_tests true true = ap is_some (get-insert nat_cmp_total n.solid v tt w ∙ ap (λ t. cond t (Some tt) (finite.get n.solid w)) (unsigned_tied w v ∙ untied w v apart))
+    by_tests false true = refl
+    by_tests s false = refl
+
+-- where it is made solid, and is left, it is solid
+pub placed_mark : (n : Mesh) (v : ℕ) (at : Point) → IsLiveVertex n v → is_solid (placed_if_left true n v at) v ≡ true
+placed_mark n v at live = ap (λ t. is_solid (if t then placed true n v at else n) v) live ∙ live_inserted n.solid v tt
+
+pub placed_here : (s : Bool) (n : Mesh) (v : ℕ) (at : Point) (w : ℕ) → w ≡ v → IsLiveVertex n v → finite.get (placed_if_left s n v at).points w ≡ Some at
+placed_here s n v at w same live =
+    ap (λ t. finite.get (if t then placed s n v at else n).points w) live
+    ∙ ap (λ ps. finite.get ps w) (placed_points s n v at)
     ∙ get-insert nat_cmp_total n.points v at w ∙ ap (λ t. cond t (Some at) (finite.get n.points w)) (unsigned_tied w v ∙ tied w v same)
   where
     tied : (x y : ℕ) → x ≡ y → (x == y) ≡ true
     tied x y k = grind (arith, nat_tests)
 
-placed_elsewhere : (n : Mesh) (v : ℕ) (at : Point) (w : ℕ) → w ≢ v → finite.get (placed_if_left n v at).points w ≡ finite.get n.points w
-placed_elsewhere n v at w apart = by_test (finite.contains_key n.points v)
+pub placed_elsewhere : (s : Bool) (n : Mesh) (v : ℕ) (at : Point) (w : ℕ) → w ≢ v → finite.get (placed_if_left s n v at).points w ≡ finite.get n.points w
+placed_elsewhere s n v at w apart = by_test (finite.contains_key n.points v)
   where
-    by_test : (t : Bool) → finite.get (if t then with_point n v at else n).points w ≡ finite.get n.points w
-    by_test true = get-insert nat_cmp_total n.points v at w ∙ ap (λ t. cond t (Some at) (finite.get n.points w)) (unsigned_tied w v ∙ untied w v apart)
+    by_test : (t : Bool) → finite.get (if t then placed s n v at else n).points w ≡ finite.get n.points w
+    by_test true = ap (λ ps. finite.get ps w) (placed_points s n v at) ∙ get-insert nat_cmp_total n.points v at w ∙ ap (λ t. cond t (Some at) (finite.get n.points w)) (unsigned_tied w v ∙ untied w v apart)
     by_test false = refl
 
 -- ---- a vertex with a face
@@ -109,11 +162,14 @@ module _ (m : Mesh) (a b : ℕ) (at : Point) (sound : IsSound m) (closed : IsClo
   abbrev bare_vertices : List ℕ
   bare_vertices = filter (λ v. (v == b) || (has_face m v && not (has_face three v))) (finite.keys three.points)
 
+  abbrev solid : Bool
+  solid = has_solid_end m a b
+
   stage : Stage m a b three []
   stage = joined m a b sound apart closed
 
   pub same_faces : (collapse_mesh m a b at).faces ≡ three.faces
-  same_faces = placed_faces (finite.contains_key four.points a) four a at ∙ dropped_faces bare_vertices three
+  same_faces = placed_faces solid (finite.contains_key four.points a) four a at ∙ dropped_faces bare_vertices three
 
   pub there_before : (f : ℕ) (c : Corners) → HasCorners (collapse_mesh m a b at) f c → HasCorners three f c
   there_before f c there = ap (λ fs. finite.get fs f) (sym same_faces) ∙ there
@@ -160,24 +216,25 @@ module _ (m : Mesh) (a b : ℕ) (at : Point) (sound : IsSound m) (closed : IsClo
     are_live f c there =
         let live = were_live f c there in
         let t = finite.contains_key four.points a in (
-          placed_live t four a at c.first (left_at f c c.first there (first_held c c.first refl) live.0),
-          placed_live t four a at c.second (left_at f c c.second there (second_held c c.second refl) live.1),
-          placed_live t four a at c.third (left_at f c c.third there (third_held c c.third refl) live.2),
+          placed_live solid t four a at c.first (left_at f c c.first there (first_held c c.first refl) live.0),
+          placed_live solid t four a at c.second (left_at f c c.second there (second_held c c.second refl) live.1),
+          placed_live solid t four a at c.third (left_at f c c.third there (third_held c c.third refl) live.2),
         )
 
     next_ids : ((collapse_mesh m a b at).next_vertex ≡ m.next_vertex) × ((collapse_mesh m a b at).next_face ≡ three.next_face)
     next_ids =
-        let placed = placed_next (finite.contains_key four.points a) four a at in
+        let ended = placed_next solid (finite.contains_key four.points a) four a at in
         let dropped = dropped_next bare_vertices three in
-        (placed.0 ∙ dropped.0 ∙ stage.next, placed.1 ∙ dropped.1)
+        (ended.0 ∙ dropped.0 ∙ stage.next, ended.1 ∙ dropped.1)
 
     -- a sound one
     pub collapse_is_sound : doubles_a_face three ≡ false → is_over_limits (collapse_mesh m a b at) ≡ false → IsSound (collapse_mesh m a b at)
     collapse_is_sound undoubled_faces fits = record {
       is_mesh = record {
-        vertex_ids = λ v live. subst (λ k. (1 ≤ v) × (v < k)) (sym next_ids.0) (sound.is_mesh.vertex_ids v (subst (λ ps. IsSome (finite.get ps v)) stage.points (dropped_live bare_vertices three v (was_live four a at v live))));
+        vertex_ids = λ v live. subst (λ k. (1 ≤ v) × (v < k)) (sym next_ids.0) (sound.is_mesh.vertex_ids v (subst (λ ps. IsSome (finite.get ps v)) stage.points (dropped_live bare_vertices three v (was_live solid four a at v live))));
         face_ids = λ f live. let old : IsLiveFace three f = subst (λ fs. IsSome (finite.get fs f)) same_faces live in
             subst (λ k. (1 ≤ f) × (f < k)) (sym next_ids.1) (stage.ids f old, stage.below f old);
+        solid_ids = marks_live solid four a at (dropped_solid bare_vertices three (joined_solid m a b sound apart closed));
         live_corners = λ f c there. are_live f c (there_before f c there);
         different_corners = λ f c there. different_left m a b sound apart three stage f c (there_before f c there);
         different_faces = λ f g c d there there' same. undoubled three undoubled_faces f g c d (there_before f c there) (there_before g d there') same;
@@ -189,7 +246,7 @@ module _ (m : Mesh) (a b : ℕ) (at : Point) (sound : IsSound m) (closed : IsClo
 
     -- where the corners of its faces stand
     pub placed_at_a : (f : ℕ) (c : Corners) (v : ℕ) → HasCorners three f c → has_corner c v ≡ true → v ≡ a → finite.get (collapse_mesh m a b at).points v ≡ Some at
-    placed_at_a f c v there held same = placed_here four a at v same (left_at f c a there (subst (λ x. has_corner c x ≡ true) same held) a_live)
+    placed_at_a f c v there held same = placed_here solid four a at v same (left_at f c a there (subst (λ x. has_corner c x ≡ true) same held) a_live)
 
     pub stays_placed : (f : ℕ) (c : Corners) (v : ℕ) → HasCorners three f c → has_corner c v ≡ true → v ≢ a → finite.get (collapse_mesh m a b at).points v ≡ finite.get m.points v
-    stays_placed f c v there held not_a = placed_elsewhere four a at v not_a ∙ corner_stays f c v there held
+    stays_placed f c v there held not_a = placed_elsewhere solid four a at v not_a ∙ corner_stays f c v there held

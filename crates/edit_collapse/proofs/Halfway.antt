@@ -21,7 +21,7 @@ use Rattle.mesh_base.proofs.WalkSteps.{both_of}
 use Rattle.edit_base.specs.Edges.{renamed, corners_at, without_faces, with_renamed, with_all_renamed, doubles_a_face}
 use Rattle.edit_collapse.specs.Collapse.{without_shared, with_joined, joined_faces, collapse_point}
 use Rattle.edit_acts.proofs.Flow.{AreBelow, not_live, below_next}
-use Rattle.edit_acts.proofs.Changed.{points-without_faces, next_face-without_faces}
+use Rattle.edit_acts.proofs.Changed.{points-without_faces, solid-without_faces, next_face-without_faces}
 use Rattle.edit_collapse.proofs.Joined.{single_left, renamed_lacks, next_vertex-without_faces}
 use Rattle.edit_collapse.proofs.JoinedFaces.{joined, different_left}
 use Rattle.edit_collapse.proofs.CollapseMesh.{were_live}
@@ -33,6 +33,7 @@ use Rattle.edit_collapse.proofs.Three.{three_cut, kind_found, kind_has, kept, sa
 -- the mesh `now` is `n`, but for the faces at a that are not left; some of its faces wait
 pub record Halfway (a b : ℕ) (left : List (ℕ × Corners)) (n now : Mesh) (es : List (ℕ × Corners)) : Type 0 where
   pub points : now.points ≡ n.points
+  pub solid : now.solid ≡ n.solid
   pub next_vertex : now.next_vertex ≡ n.next_vertex
   pub next_face : now.next_face ≡ n.next_face
   pub faces : (k : ℕ) → finite.get now.faces k ≡ kept a left k (finite.get n.faces k)
@@ -100,6 +101,10 @@ module _ (a b : ℕ) (left : List (ℕ × Corners)) (n now : Mesh) (e : ℕ × C
   same_points true = refl
   same_points false = refl
 
+  same_solid : (t : Bool) → (after t).solid ≡ now.solid
+  same_solid true = refl
+  same_solid false = refl
+
   same_vertex : (t : Bool) → (after t).next_vertex ≡ now.next_vertex
   same_vertex true = refl
   same_vertex false = refl
@@ -113,6 +118,7 @@ module _ (a b : ℕ) (left : List (ℕ × Corners)) (n now : Mesh) (e : ℕ × C
       let t = has_id_in left now.next_face in
       record {
         points = same_points t ∙ h.points;
+        solid = same_solid t ∙ h.solid;
         next_vertex = same_vertex t ∙ h.next_vertex;
         next_face = one_taken t ∙ ap (λ k. k + 1) h.next_face;
         faces = new_faces t refl;
@@ -239,6 +245,7 @@ module _ (m : Mesh) (a b : ℕ) (sound : IsSound m) (apart : a ≢ b) where
     n = one;
     half = record {
       points = points-without_faces m (gone left m a) ∙ sym (points-without_faces m shared);
+      solid = solid-without_faces m (gone left m a) ∙ sym (solid-without_faces m shared);
       next_vertex = next_vertex-without_faces m (gone left m a) ∙ sym (next_vertex-without_faces m shared);
       next_face = next_face-without_faces m (gone left m a) ∙ sym (next_face-without_faces m shared);
       faces = first_faces;
@@ -263,9 +270,10 @@ module _ (m : Mesh) (a b : ℕ) (sound : IsSound m) (apart : a ≢ b) where
       let same_faces : now.faces ≡ three.faces = same_map nat_cmp_total nat_cmp-IsAntisymmetric now.faces three.faces
       (λ k. h.faces k ∙ ap (λ (n : Mesh). kept a left k (finite.get n.faces k)) way.then_two ∙ sym (three_kept m a b k)) in
       let points = h.points ∙ ap (λ (n : Mesh). n.points) way.then_two ∙ sym cut.points in
+      let marks = h.solid ∙ ap (λ (n : Mesh). n.solid) way.then_two ∙ sym cut.solid in
       let vertex = h.next_vertex ∙ ap (λ (n : Mesh). n.next_vertex) way.then_two ∙ sym cut.next_vertex in
       let face = h.next_face ∙ ap (λ (n : Mesh). n.next_face) way.then_two ∙ sym cut.next_face in
-      λ i. record { points = points i; faces = same_faces i; next_vertex = vertex i; next_face = face i }
+      λ i. record { points = points i; faces = same_faces i; solid = marks i; next_vertex = vertex i; next_face = face i }
 
   -- an id is left for each face that waits
   pub has_id : (now : Mesh) (e : ℕ × Corners) (es : List (ℕ × Corners)) → OnTheWay m a b now (e ∷ es) → three.next_face ≤ ID_MAX + 1 → now.next_face ≤ ID_MAX

@@ -24,7 +24,7 @@ use Rattle.mesh_base.proofs.WalkSteps.{both_of}
 use Rattle.edit_base.specs.Edges.{renamed, without_faces, with_renamed, with_all_renamed}
 use Rattle.edit_collapse.specs.Collapse.{without_shared, with_joined}
 use Rattle.edit_acts.proofs.Flow.{AreBelow, below-with, below-without, still_there, below_next}
-use Rattle.edit_acts.proofs.Changed.{points-without_faces, next_face-without_faces}
+use Rattle.edit_acts.proofs.Changed.{points-without_faces, solid-without_faces, next_face-without_faces}
 use Rattle.edit_acts.proofs.FaceCorners.{no_corner, same_corners}
 use Rattle.edit_collapse.proofs.Carried.{moved, moved_either, moved_never, moved_stays, weight, weight_renamed, IsEvenWeight, even_both, total_without, total_with, IsEven, even_of_closed, even_without}
 
@@ -139,6 +139,7 @@ pub record Stage (m : Mesh) (a b : ℕ) (n : Mesh) (es : List (ℕ × Corners)) 
   pub first : 1 ≤ n.next_face
   pub ids : (f : ℕ) → IsLiveFace n f → 1 ≤ f
   pub points : n.points ≡ m.points
+  pub solid : n.solid ≡ m.solid
   pub next : n.next_vertex ≡ m.next_vertex
   pub came : (f : ℕ) (c : Corners) → HasCorners n f c → Came m a b c
   pub waiting : AllByRecursion (λ (e : ℕ × Corners). HasCorners n e.0 e.1 × AreDifferent e.1 × (holds_both a b e.1 ≡ false)) es
@@ -202,6 +203,7 @@ module _ (m : Mesh) (a b : ℕ) (apart : a ≢ b) (n : Mesh) (e : ℕ × Corners
     first = s.first;
     ids = s.ids;
     points = s.points;
+    solid = s.solid;
     next = s.next;
     came = s.came;
     waiting = s.waiting.1;
@@ -224,6 +226,7 @@ module _ (m : Mesh) (a b : ℕ) (apart : a ≢ b) (n : Mesh) (e : ℕ × Corners
     first = let h : 1 ≤ n.next_face + 1 = omega arith in h;
     ids = λ f live. ⊎_elim (λ same. let h : 1 ≤ n.next_face = s.first in omega arith) (λ old. s.ids f (live_after_remove n.faces e.0 f old).1) (live_after_insert bare.faces n.next_face made f live);
     points = s.points;
+    solid = s.solid;
     next = s.next;
     came = λ f c there. ⊎_elim (λ new. subst (Came m a b) new.1 again) (λ old. s.came f c (got_after_remove n.faces e.0 f c old).1) (got_after_insert bare.faces n.next_face made f c there);
     waiting = all_weaker (λ (x : ℕ × Corners). (x.0 ≢ e.0) × (HasCorners n x.0 x.1 × AreDifferent x.1 × (holds_both a b x.1 ≡ false))) (λ (x : ℕ × Corners). HasCorners (with_face bare made) x.0 x.1 × AreDifferent x.1 × (holds_both a b x.1 ≡ false)) es
@@ -291,6 +294,7 @@ module _ (m : Mesh) (a b : ℕ) (sound : IsSound m) (closed : IsClosed m) (apart
     first = subst (λ k. 1 ≤ k) (sym (next_face-without_faces m (shared m a b sound apart))) sound.limits.face_ids.0;
     ids = λ f live. (sound.is_mesh.face_ids f (live_kept m (shared m a b sound apart) f live)).0;
     points = points-without_faces m (shared m a b sound apart);
+    solid = solid-without_faces m (shared m a b sound apart);
     next = next_vertex-without_faces m (shared m a b sound apart);
     came = λ f c there. let left = single_left m a b sound apart f c there in record { face = f; from = c; there = left.0; alike = refl; single = left.1 };
     waiting = all_weaker (λ (e : ℕ × Corners). HasCorners one e.0 e.1) (λ (e : ℕ × Corners). HasCorners one e.0 e.1 × AreDifferent e.1 × (holds_both a b e.1 ≡ false)) (finite.entries one.faces)

@@ -1,11 +1,11 @@
 -- The third act of a collapse: faces go with their opposites. What is left after it has no face at b, and is closed.
-use Rattle.std.proofs.Common.{◌≡◌, ◌≢◌, ◌⊎◌, ⊎_elim, inl, inr, ℕ, zero, suc, ◌+◌, Bool, true, false, ◌&&◌, ◌||◌, ◌==◌, [], ◌∷◌, Option, Some, None, slice_get, refl, sym, ap, subst, ◌∙◌, arith}
+use Rattle.std.proofs.Common.{◌≡◌, ◌≢◌, ◌⊎◌, ⊎_elim, inl, inr, ℕ, zero, suc, ◌+◌, Bool, true, false, ◌&&◌, ◌||◌, ◌==◌, [], ◌∷◌, Option, Some, None, IsSome, is_some, slice_get, refl, sym, ap, subst, ◌∙◌, arith}
 use Rattle.std.proofs.lemmas.Bool.{eqb-true}
 use Rattle.std.specs.Option.{option_map, option_map_or}
 use Rattle.std.specs.List as list
 use Rattle.std.specs.FinMap as finite
 use Rattle.mesh_base.specs.declared.ids.Corners.{Corners}
-use Rattle.mesh_base.specs.Mesh.{Mesh, IsSound, HasCorners, AreDifferent, equal_up_to_rotation}
+use Rattle.mesh_base.specs.Mesh.{Mesh, IdSet, is_solid, IsSound, IsLiveVertex, HasCorners, AreDifferent, equal_up_to_rotation}
 use Rattle.mesh_base.specs.Sides.{has_corner, IsClosed}
 use Rattle.mesh_base.specs.Changes.{without_face}
 use Rattle.mesh_base.proofs.Finite.{got_after_remove, live_after_remove}
@@ -130,6 +130,7 @@ module _ (m : Mesh) (a b : ℕ) (sound : IsSound m) (apart : a ≢ b) where
     first = s.first;
     ids = λ g live. s.ids g (live_after_remove n.faces f g live).1;
     points = s.points;
+    solid = s.solid;
     next = s.next;
     came = λ g c there. s.came g c (got_after_remove n.faces f g c there).1;
     waiting = tt;
@@ -171,6 +172,10 @@ module _ (m : Mesh) (a b : ℕ) (sound : IsSound m) (apart : a ≢ b) where
 
     pub joined : Stage m a b (joined_faces m a b) []
     joined = third_stage.0
+
+    -- each solid vertex is live
+    pub joined_solid : (v : ℕ) → is_solid (joined_faces m a b) v ≡ true → IsLiveVertex (joined_faces m a b) v
+    joined_solid v solid = subst (λ ps. IsSome (finite.get ps v)) (sym joined.points) (sound.is_mesh.solid_ids v (subst (λ (marks : IdSet). is_some (finite.get marks v) ≡ true) joined.solid solid))
 
     pub joined_is_closed : IsClosed (joined_faces m a b)
     joined_is_closed = closed_of_even a b (joined_faces m a b) (lacks_b (joined_faces m a b) joined) third_stage.1

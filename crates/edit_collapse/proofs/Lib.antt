@@ -17,3 +17,4 @@ pub mod Picked
 pub mod Room
 pub mod Spent
 pub mod Three
+pub mod SolidEnds

@@ -14,17 +14,17 @@ use Rattle.mesh_base.specs.declared.ids.Corners.{Corners}
 use Rattle.mesh_base.specs.Mesh.{Mesh, IsSound, IsLiveVertex}
 use Rattle.mesh_base.specs.Pairs.{is_edge}
 use Rattle.mesh_base.specs.Sides.{faces_where, has_corner}
-use Rattle.mesh_base.specs.Changes.{without_vertex, without_face, with_face, with_point}
+use Rattle.mesh_base.specs.Changes.{without_vertex, without_face, with_face}
 use Rattle.mesh_base.specs.Limits.{is_over_limits}
 use Rattle.mesh_base.proofs.Listed.{edge_live}
 use Rattle.mesh_base.proofs.WalkSteps.{both_of}
 use Rattle.edit_base.specs.Edges.{renamed, without_faces, with_all_renamed}
-use Rattle.edit_collapse.specs.Collapse.{without_shared, with_joined, with_opposites, with_one_cancelled, cancelled_times, joined_faces, has_face, without_bare, placed_if_left, collapse_mesh, collapse_point}
+use Rattle.edit_collapse.specs.Collapse.{without_shared, with_joined, with_opposites, with_one_cancelled, cancelled_times, joined_faces, has_face, without_bare, has_solid_end, placed, placed_if_left, collapse_mesh, collapse_point}
 use Rattle.edit_base.specs.Reasons.{is_full}
 use Rattle.edit_collapse.proofs.Cancelled.{len-remove_le}
 use Rattle.edit_acts.proofs.Changed.{points-without_faces}
 use Rattle.edit_acts.proofs.Flow.{AreBelow}
-use Rattle.edit_collapse.proofs.CollapseMesh.{dropped_faces, dropped_next, placed_faces, placed_next}
+use Rattle.edit_collapse.proofs.CollapseMesh.{dropped_faces, dropped_next, placed_points, placed_faces, placed_next}
 use Rattle.edit_acts.proofs.Counting.{len-insert_le, len-without}
 use Rattle.edit_collapse.proofs.Joined.{next_vertex-without_faces}
 use Rattle.edit_collapse.specs.Tried.{only_at}
@@ -39,9 +39,9 @@ bare_list m b three = filter (λ v. (v == b) || (has_face m v && not (has_face t
 next_of : (m : Mesh) (a b : ℕ) (at : Point) → ((collapse_mesh m a b at).next_vertex ≡ (joined_faces m a b).next_vertex) × ((collapse_mesh m a b at).next_face ≡ (joined_faces m a b).next_face)
 next_of m a b at =
     let four = without_bare m b (joined_faces m a b) in
-    let placed = placed_next (finite.contains_key four.points a) four a at in
+    let ended = placed_next (has_solid_end m a b) (finite.contains_key four.points a) four a at in
     let dropped = dropped_next (bare_list m b (joined_faces m a b)) (joined_faces m a b) in
-    (placed.0 ∙ dropped.0, placed.1 ∙ dropped.1)
+    (ended.0 ∙ dropped.0, ended.1 ∙ dropped.1)
 
 last_of : (p q : Bool) → (p || q) ≡ false → q ≡ false
 last_of true q e = cc
@@ -91,11 +91,11 @@ fewer_dropped : (vs : List ℕ) (n : Mesh) → finite.len (fold without_vertex n
 fewer_dropped [] n = omega arith
 fewer_dropped (v ∷ vs) n = let rest = fewer_dropped vs (without_vertex n v) in let one = len-remove_le n.points v in omega (arith, rest, one)
 
-as_many : (n : Mesh) (v : ℕ) (at : Point) → finite.len (placed_if_left n v at).points ≡ finite.len n.points
-as_many n v at = by_test (finite.contains_key n.points v) refl
+as_many : (s : Bool) (n : Mesh) (v : ℕ) (at : Point) → finite.len (placed_if_left s n v at).points ≡ finite.len n.points
+as_many s n v at = by_test (finite.contains_key n.points v) refl
   where
-    by_test : (t : Bool) → finite.contains_key n.points v ≡ t → finite.len (if t then with_point n v at else n).points ≡ finite.len n.points
-    by_test true e = len-insert nat_cmp_total n.points v at ∙ ap (λ t. cond t (finite.len n.points) (finite.len n.points + 1)) e
+    by_test : (t : Bool) → finite.contains_key n.points v ≡ t → finite.len (if t then placed s n v at else n).points ≡ finite.len n.points
+    by_test true e = ap finite.len (placed_points s n v at) ∙ len-insert nat_cmp_total n.points v at ∙ ap (λ t. cond t (finite.len n.points) (finite.len n.points + 1)) e
     by_test false e = refl
 
 vertex_along : (a b : ℕ) (es : List (ℕ × Corners)) (n : Mesh) → (with_all_renamed b a n (map (λ e. e.0) es)).next_vertex ≡ n.next_vertex
@@ -129,7 +129,7 @@ module _ (m : Mesh) (a b : ℕ) (sound : IsSound m) (apart : a ≢ b) (at : Poin
 
   few_faces : finite.len result.faces ≤ FACES_MAX
   few_faces =
-      let same = ap finite.len (placed_faces (finite.contains_key four.points a) four a at ∙ dropped_faces (bare_list m b three) three) in
+      let same = ap finite.len (placed_faces (has_solid_end m a b) (finite.contains_key four.points a) four a at ∙ dropped_faces (bare_list m b three) three) in
       let third = fewer_cancelled (finite.len two.faces) a two in
       let second = fewer_renamed a b (only_at m b a) one (one_below m a b sound apart) (rising m a b sound apart) (first_wait m a b sound apart) in
       let is = ap (λ (n : Mesh). finite.len n.faces) (two_is m a b sound apart) in
@@ -139,11 +139,11 @@ module _ (m : Mesh) (a b : ℕ) (sound : IsSound m) (apart : a ≢ b) (at : Poin
 
   few_vertices : finite.len result.points ≤ VERTICES_MAX
   few_vertices =
-      let placed = as_many four a at in
+      let ended = as_many (has_solid_end m a b) four a at in
       let dropped = fewer_dropped (bare_list m b three) three in
       let same = ap finite.len three_points in
       let limit = sound.limits.vertices in
-      omega (arith, placed, dropped, same, limit)
+      omega (arith, ended, dropped, same, limit)
 
   within : (n v : ℕ) → v ≤ n → nat_lt n v ≡ false
   within n v h = grind (arith, nat_tests)

@@ -25,6 +25,7 @@ use Rattle.edit_collapse.proofs.Acts.{faces_kept_at, each_at, same_two, renamed_
 -- ---- the third act drops only faces at the joined vertex
 pub record IsCut (a : ℕ) (two n : Mesh) : Type 0 where
   pub points : n.points ≡ two.points
+  pub solid : n.solid ≡ two.solid
   pub next_vertex : n.next_vertex ≡ two.next_vertex
   pub next_face : n.next_face ≡ two.next_face
   pub part : (f : ℕ) (c : Corners) → HasCorners n f c → HasCorners two f c
@@ -33,6 +34,7 @@ pub record IsCut (a : ℕ) (two n : Mesh) : Type 0 where
 cut_more : (a : ℕ) (two n : Mesh) (f : ℕ) → IsCut a two n → ((c : Corners) → HasCorners n f c → has_corner c a ≡ true) → IsCut a two (without_face n f)
 cut_more a two n f s held = record {
   points = s.points;
+  solid = s.solid;
   next_vertex = s.next_vertex;
   next_face = s.next_face;
   part = λ g c there. s.part g c (got_after_remove n.faces f g c there).1;
@@ -59,7 +61,7 @@ cut_times (suc k) a two n s = cut_times k a two (with_one_cancelled a n) (cut_on
 pub three_cut : (m : Mesh) (a b : ℕ) → IsCut a (with_joined (without_shared m a b) a b) (joined_faces m a b)
 three_cut m a b =
     let two = with_joined (without_shared m a b) a b in
-    cut_times (finite.len two.faces) a two two (record { points = refl; next_vertex = refl; next_face = refl; part = λ f c there. there; others = λ f c there lacks. there })
+    cut_times (finite.len two.faces) a two two (record { points = refl; solid = refl; next_vertex = refl; next_face = refl; part = λ f c there. there; others = λ f c there lacks. there })
 
 -- ---- which are left at the joined vertex
 -- the ids of a kind of faces

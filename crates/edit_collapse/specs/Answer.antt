@@ -1,16 +1,16 @@
 -- What a collapse answers: the first reason that holds, in its written order, or what is done.
 use Rattle.std.specs.Prelude.{ℕ, not, Bool, [], ◌∷◌, min, max}
 use Rattle.grid_base.specs.declared.Positions.{Positions}
-use Rattle.edit_base.specs.declared.answers.Why.TheVariants.{NoEdge, Full, Doubled}
+use Rattle.edit_base.specs.declared.answers.Why.TheVariants.{NoEdge, Solid, Full, Doubled}
 use Rattle.edit_base.specs.declared.answers.Change.TheVariants.{Collapse}
 use Rattle.edit_base.specs.declared.answers.Edit.{Edit}
 use Rattle.mesh_base.specs.Mesh.{Mesh}
 use Rattle.mesh_base.specs.Pairs.{is_edge}
 use Rattle.edit_base.specs.Reasons.{reason_if, first_reason, done_unless, is_full, hit_in}
 use Rattle.edit_base.specs.Edges.{doubles_a_face}
-use Rattle.edit_collapse.specs.Collapse.{collapse_mesh, collapse_point, collapse_scaffold, joined_faces}
+use Rattle.edit_collapse.specs.Collapse.{are_both_solid, collapse_mesh, collapse_point, collapse_scaffold, joined_faces}
 
--- the ends are no edge, two faces would be equal up to rotation, the mesh would pass a limit, or a pair is not as required
+-- the ends are no edge, or both are solid, two faces would be equal up to rotation, the mesh would pass a limit, or a pair is not as required
 abbrev pub collapse_answer : (Positions → Bool) → Mesh → ℕ → ℕ → ℕ → Edit
 collapse_answer meets m u v depth =
     let a = min u v in
@@ -20,6 +20,7 @@ collapse_answer meets m u v depth =
     done_unless
     (first_reason (
     reason_if (not (is_edge m a b)) NoEdge
+    ∷ reason_if (are_both_solid m a b) Solid
     ∷ reason_if (doubles_a_face (joined_faces m a b)) Doubled
     ∷ reason_if (is_full scaffold.mesh (collapse_mesh m a b at)) Full
     ∷ hit_in meets scaffold depth ∷ []))

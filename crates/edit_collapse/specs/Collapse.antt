@@ -9,9 +9,9 @@ use Rattle.grid_base.specs.Points.{position_of}
 use Rattle.grid_base.specs.Triples.{times}
 use Rattle.mesh_base.specs.declared.ids.Corners.{Corners}
 use Rattle.edit_base.specs.declared.scaffold.Touch.TheVariants.{End}
-use Rattle.mesh_base.specs.Mesh.{Mesh, equal_up_to_rotation}
+use Rattle.mesh_base.specs.Mesh.{Mesh, is_solid, equal_up_to_rotation}
 use Rattle.mesh_base.specs.Sides.{has_corner, faces_where, faces_at}
-use Rattle.mesh_base.specs.Changes.{without_vertex, with_point}
+use Rattle.mesh_base.specs.Changes.{without_vertex, with_point, with_solid}
 use Rattle.mesh_base.specs.Placements.{rest_positions_doubled, point_of}
 use Rattle.edit_base.specs.Edges.{floor_mid, corners_from, without_faces, with_all_renamed}
 use Rattle.edit_base.specs.Scaffold.{Scaffold}
@@ -67,17 +67,31 @@ abbrev pub without_bare : Mesh → ℕ → Mesh → Mesh
 without_bare before b now =
     fold without_vertex now (filter (λ v. (v == b) || (has_face before v && not (has_face now v))) (finite.keys now.points))
 
--- a vertex, if it is left, is put at a point
-abbrev pub placed_if_left : Mesh → ℕ → Point → Mesh
-placed_if_left m v at = if finite.contains_key m.points v then with_point m v at else m
+-- neither end may move
+abbrev pub are_both_solid : Mesh → ℕ → ℕ → Bool
+are_both_solid m a b = is_solid m a && is_solid m b
 
--- the result, with a at the point, if it is left
+-- one end at least may not move
+abbrev pub has_solid_end : Mesh → ℕ → ℕ → Bool
+has_solid_end m a b = is_solid m a || is_solid m b
+
+-- a vertex at a point, and made solid if it is to be
+abbrev pub placed : Bool → Mesh → ℕ → Point → Mesh
+placed solid m v at = if solid then with_solid (with_point m v at) v else with_point m v at
+
+-- the same, if the vertex is left
+abbrev pub placed_if_left : Bool → Mesh → ℕ → Point → Mesh
+placed_if_left solid m v at = if finite.contains_key m.points v then placed solid m v at else m
+
+-- the result: a, if it is left, stands at the point, and is solid where an end was. Whatever is dropped loses its mark
 abbrev pub collapse_mesh : Mesh → ℕ → ℕ → Point → Mesh
-collapse_mesh m a b at = placed_if_left (without_bare m b (joined_faces m a b)) a at
+collapse_mesh m a b at = placed_if_left (has_solid_end m a b) (without_bare m b (joined_faces m a b)) a at
 
--- where the two ends go
+-- where the two ends go: the point of the end that is solid, and the midpoint, rounded down, where neither is
 abbrev pub collapse_point : Mesh → ℕ → ℕ → Point
-collapse_point m a b = floor_mid (point_of m a) (point_of m b)
+collapse_point m a b =
+    if is_solid m a then point_of m a
+    else (if is_solid m b then point_of m b else floor_mid (point_of m a) (point_of m b))
 
 -- the old mesh, with both ends going to a point. A pair of which one member holds a and the other holds b is to close.
 abbrev pub collapse_scaffold : Mesh → ℕ → ℕ → Point → Scaffold

@@ -9,13 +9,13 @@ use Rattle.mesh_base.specs.declared.ids.Corners.{Corners}
 use Rattle.mesh_base.specs.Mesh.{Mesh}
 use Rattle.mesh_base.specs.Sides.{has_corner, faces_at}
 use Rattle.mesh_base.specs.Pairs.{is_edge}
-use Rattle.edit_base.specs.declared.answers.Why.TheVariants.{NoEdge, Full, Doubled}
+use Rattle.edit_base.specs.declared.answers.Why.TheVariants.{NoEdge, Solid, Full, Doubled}
 use Rattle.edit_base.specs.declared.answers.Change.TheVariants.{Collapse}
 use Rattle.edit_base.specs.declared.answers.Edit.{Edit}
 use Rattle.edit_base.specs.Edges.{doubles_a_face, renamed, with_renamed}
 use Rattle.mesh_base.specs.Changes.{without_face, without_vertex, corner_list}
 use Rattle.edit_base.specs.Reasons.{reason_if, first_reason, done_unless, is_full, hit_in}
-use Rattle.edit_collapse.specs.Collapse.{has_face, collapse_mesh, collapse_point, collapse_scaffold, joined_faces, are_opposite, without_shared, with_joined}
+use Rattle.edit_collapse.specs.Collapse.{are_both_solid, has_face, collapse_mesh, collapse_point, collapse_scaffold, joined_faces, are_opposite, without_shared, with_joined}
 
 -- what a collapse answers, by its ends in order
 abbrev pub answer_of : (Positions → Bool) → Mesh → ℕ → ℕ → ℕ → Edit
@@ -25,6 +25,7 @@ answer_of meets m a b depth =
     done_unless
     (first_reason (
     reason_if (not (is_edge m a b)) NoEdge
+    ∷ reason_if (are_both_solid m a b) Solid
     ∷ reason_if (doubles_a_face (joined_faces m a b)) Doubled
     ∷ reason_if (is_full scaffold.mesh (collapse_mesh m a b at)) Full
     ∷ hit_in meets scaffold depth ∷ []))
@@ -34,9 +35,10 @@ answer_of meets m a b depth =
 abbrev pub left_at : Mesh → ℕ → ℕ → List (ℕ × Corners)
 left_at m a b = filter (λ e. has_corner e.1 a) (finite.entries (joined_faces m a b).faces)
 
--- the ends are an edge, no face is doubled, and no limit passed
+-- the ends are an edge and not both solid, no face is doubled, and no limit passed
 pub record MayBeTried (m : Mesh) (a b : ℕ) : Type 0 where
   pub edge : is_edge m a b ≡ true
+  pub may_move : are_both_solid m a b ≡ false
   pub undoubled : doubles_a_face (joined_faces m a b) ≡ false
   pub full : is_full m (collapse_mesh m a b (collapse_point m a b)) ≡ false
 

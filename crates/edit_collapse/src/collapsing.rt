@@ -7,7 +7,7 @@ ghost use Rattle.mesh_base.specs.Sides.{IsClosed};
 ghost use Rattle.mesh_base.specs.Pairs.{is_edge};
 ghost use Rattle.mesh_base.specs.Placements.{IsClearMesh, rest_positions_doubled};
 ghost use Rattle.mesh_base.specs.Kept.{BeginsWith};
-ghost use Rattle.edit_collapse.specs.Collapse.{collapse_mesh, collapse_point, collapse_scaffold};
+ghost use Rattle.edit_collapse.specs.Collapse.{are_both_solid, collapse_mesh, collapse_point, collapse_scaffold};
 ghost use Rattle.edit_base.specs.Scaffold.{first_failing};
 ghost use Rattle.edit_collapse.specs.Answer.{collapse_answer};
 ghost use Rattle.edit_base.specs.Clauses.{mesh_after_call, MovesClearOnDone};
@@ -23,11 +23,24 @@ use grid_base::{DEPTH_MAX, NoMemory, Point, Wide, floor_mid};
 use mesh_base::{PairName, Surface, VertexId, point_of};
 use std::alloc::Global;
 
-/// Where the two ends go: the midpoint, each component rounded down.
+/// Whether both ends are solid, so that neither may move.
+fn are_both_solid<S: Surface>(mesh: &S, a: VertexId, b: VertexId) -> bool
+    ensures { result ≡ are_both_solid (S.mesh mesh.now) a b }
+{
+    mesh.solid(a) && mesh.solid(b)
+}
+
+/// Where the two ends go: to the end that is solid, or, where neither is, to the midpoint, each component rounded down.
 fn collapse_point<S: Surface>(mesh: &S, a: VertexId, b: VertexId) -> Point
     ensures { result ≡ collapse_point (S.mesh mesh.now) a b }
 {
-    floor_mid(point_of(mesh, a), point_of(mesh, b))
+    if mesh.solid(a) {
+        point_of(mesh, a)
+    } else if mesh.solid(b) {
+        point_of(mesh, b)
+    } else {
+        floor_mid(point_of(mesh, a), point_of(mesh, b))
+    }
 }
 
 /// The move of a vertex from where it stands.
@@ -144,6 +157,9 @@ fn collapse_ordered<S: Surface>(
     if !is_edge(mesh, a, b) {
         return Ok(Edit::No(Why::NoEdge));
     }
+    if are_both_solid(mesh, a, b) {
+        return Ok(Edit::No(Why::Solid));
+    }
     let left = left_at(alloc, mesh, a, b)?;
     let doubled = is_doubled(&left);
     if doubled {
@@ -155,15 +171,16 @@ fn collapse_ordered<S: Surface>(
     }
 }
 
-/// Collapses the edge of two ids, in any order, to its midpoint, each component rounded down: the faces that hold both are
-/// dropped, those at the larger end are made again at the smaller, faces at the smaller end that are then opposite to each
-/// other are dropped by two, and so are the larger end and the vertices that have no face any more. A crowded edge may be
+/// Collapses the edge of two ids, in any order, to the end that is solid, or, where neither is, to its midpoint, each
+/// component rounded down: the faces that hold both are dropped, those at the larger end are made again at the smaller,
+/// faces at the smaller end that are then opposite to each other are dropped by two, and so are the larger end and the
+/// vertices that have no face any more. The smaller end, if it is left, is solid where either was. A crowded edge may be
 /// collapsed.
 ///
 /// The answer is exact. It is Done with the edge, smaller end first, and its point; or No with the first reason that holds:
-/// the ids are no edge, two faces of the result would be equal up to rotation, it would pass a limit, or, of all pairs in
-/// order, the first that does not pass, or close where one member holds the one end and the other the other, to the depth,
-/// while both ends go to the point. After No, and where memory is wanting, the mesh is as it was, next ids included. What
+/// the ids are no edge, both are solid, two faces of the result would be equal up to rotation, it would pass a limit, or, of
+/// all pairs in order, the first that does not pass, or close where one member holds the one end and the other the other,
+/// to the depth, while both ends go to the point. After No, and where memory is wanting, the mesh is as it was, next ids included. What
 /// was kept stays.
 ///
 /// A collapse keeps the mesh closed and clear, and no pair meets at any fraction of that motion but its end. After the edge

@@ -2,12 +2,12 @@
 ghost use Rattle.std.specs.Prelude.{◌≡◌, ◌≤◌, ◌≢◌, not, IsTrue, IfOk, OnOk, length, ℕ};
 ghost use Rattle.std.specs.List.{filter, fold};
 ghost use Rattle.grid_base.specs.declared.TheConstants.{ID_MAX, FACES_MAX};
-ghost use Rattle.mesh_base.specs.Mesh.{Mesh, IsSound};
+ghost use Rattle.mesh_base.specs.Mesh.{Mesh, IsSound, IsLiveVertex};
 ghost use Rattle.mesh_base.specs.Sides.{IsClosed, faces_at};
 ghost use Rattle.mesh_base.specs.Changes.{without_face, IsFresh};
 ghost use Rattle.mesh_base.specs.Kept.{BeginsWith};
 ghost use Rattle.edit_base.specs.Edges.{renamed, corners_at, doubles_a_face, without_faces};
-ghost use Rattle.edit_collapse.specs.Collapse.{joined_faces, collapse_mesh, collapse_point, placed_if_left};
+ghost use Rattle.edit_collapse.specs.Collapse.{joined_faces, has_solid_end, collapse_mesh, collapse_point, placed, placed_if_left};
 ghost use Rattle.edit_base.specs.Reasons.{is_full};
 ghost use Rattle.edit_collapse.specs.Tried.{only_at, joined_at, left_at, MayBeTried, has_id_in, with_joined_or_gone, corners_near, others_than, without_if_bare};
 
@@ -233,13 +233,38 @@ fn drop_bare<S: Surface>(
     Ok(())
 }
 
-/// Puts a vertex, if it is left, at a point.
-fn place_if_left<S: Surface>(mesh: &mut S, v: VertexId, at: Point) -> Result<(), NoMemory>
-    ensures made { OnOk result (S.mesh mesh.new ≡ placed_if_left (S.mesh mesh.old) v at) }
+/// Whether an end at least is solid.
+fn has_solid_end<S: Surface>(mesh: &S, a: VertexId, b: VertexId) -> bool
+    ensures { result ≡ has_solid_end (S.mesh mesh.now) a b }
+{
+    mesh.solid(a) || mesh.solid(b)
+}
+
+/// Puts a live vertex at a point, and makes it solid if it is to be.
+fn place<S: Surface>(mesh: &mut S, v: VertexId, at: Point, solid: bool) -> Result<(), NoMemory>
+    requires { IsLiveVertex (S.mesh mesh.old) v }
+    ensures made { OnOk result (S.mesh mesh.new ≡ placed solid (S.mesh mesh.old) v at) }
+    ensures marks { BeginsWith (S.kept mesh.new) (S.kept mesh.old) }
+{
+    mesh.place(v, at)?;
+    if solid {
+        mesh.make_solid(v)?;
+    }
+    Ok(())
+}
+
+/// The same, if the vertex is left.
+fn place_if_left<S: Surface>(
+    mesh: &mut S,
+    v: VertexId,
+    at: Point,
+    solid: bool,
+) -> Result<(), NoMemory>
+    ensures made { OnOk result (S.mesh mesh.new ≡ placed_if_left solid (S.mesh mesh.old) v at) }
     ensures marks { BeginsWith (S.kept mesh.new) (S.kept mesh.old) }
 {
     if mesh.point(v).is_some() {
-        mesh.place(v, at)?;
+        place(mesh, v, at, solid)?;
     }
     Ok(())
 }
@@ -260,11 +285,13 @@ pub(crate) fn apply_collapse<S: Surface>(
     ensures made { OnOk result (S.mesh mesh.new ≡ collapse_mesh (S.mesh mesh.old) a b at) }
     ensures marks { BeginsWith (S.kept mesh.new) (S.kept mesh.old) }
 {
+    // An end's mark goes with the end, so it is read before.
+    let solid = has_solid_end(mesh, a, b);
     let near_first = corners_near(alloc, mesh, a)?;
     let near_second = corners_near(alloc, mesh, b)?;
     put_joined(alloc, mesh, a, b, left)?;
     // The face of their edge has each end among the corners near the other.
     drop_bare(alloc, mesh, near_first.as_slice(), a)?;
     drop_bare(alloc, mesh, near_second.as_slice(), b)?;
-    place_if_left(mesh, a, at)
+    place_if_left(mesh, a, at, solid)
 }

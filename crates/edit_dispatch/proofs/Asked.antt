@@ -1,5 +1,5 @@
 -- What holds of each edit holds of the edit that is asked for.
-use Rattle.std.proofs.Common.{◌≡◌, ℕ, Bool, Option, None, refl, sym, subst}
+use Rattle.std.proofs.Common.{◌≡◌, ℕ, Bool, Option, None, refl, subst}
 use Rattle.std.specs.Prelude.{IfSome}
 use Rattle.grid_base.specs.declared.Positions.{Positions}
 use Rattle.grid_base.specs.SeparationTests.{IsExact}

@@ -1,5 +1,5 @@
 -- The mesh that a call of one edit leaves is the one that the edit asked for leaves.
-use Rattle.std.proofs.Common.{◌≡◌, Result, Ok, Err, refl, sym, ap}
+use Rattle.std.proofs.Common.{◌≡◌, Result, Ok, Err, refl, sym}
 use Rattle.std.specs.Prelude.{IfOk}
 use Rattle.grid_base.specs.declared.NoMemory.{NoMemory}
 use Rattle.mesh_base.specs.Mesh.{Mesh}

@@ -15,13 +15,13 @@ module _ (m : Mesh) (s : Edge) (below : AreBelow m) (beside : IsBeside m s) (c_d
   pub flip_counts : (u v : ℕ) → runs (flip_mesh m s) u v + (round s.a s.b s.c u v + round s.b s.a s.d u v)
       ≡ runs m u v + (round s.a s.d s.c u v + round s.b s.c s.d u v)
   flip_counts u v =
-      let bare = without_faces m (s.forth ∷ s.back ∷ []) in
-      let first = runs-without_face m s.forth beside.forth_corners u v beside.forth in
-      let second = runs-without_face (without_face m s.forth) s.back beside.back_corners u v (still_there m s.forth s.back beside.back_corners beside.two_faces beside.back) in
+      let bare = without_faces m (s.left_face ∷ s.right_face ∷ []) in
+      let first = runs-without_face m s.left_face beside.left_corners u v beside.left_face in
+      let second = runs-without_face (without_face m s.left_face) s.right_face beside.right_corners u v (still_there m s.left_face s.right_face beside.right_corners beside.two_faces beside.right_face) in
       let made = runs-with_faces bare (corners_from s.a s.d s.c ∷ corners_from s.b s.c s.d ∷ []) u v
-      (below-without (without_face m s.forth) s.back (below-without m s.forth below)) in
-      let f = round_of beside.forth_corners s.a s.b u v beside.forth_different beside.runs_forth ∙ same_arcs u v refl refl beside.third in
-      let g = round_of beside.back_corners s.b s.a u v beside.back_different beside.runs_back ∙ same_arcs u v refl refl beside.fourth in
+      (below-without (without_face m s.left_face) s.right_face (below-without m s.left_face below)) in
+      let f = round_of beside.left_corners s.a s.b u v beside.left_different beside.left_runs ∙ same_arcs u v refl refl beside.third in
+      let g = round_of beside.right_corners s.b s.a u v beside.right_different beside.right_runs ∙ same_arcs u v refl refl beside.fourth in
       let one = new_round s.a s.d s.c u v beside.a_d (λ e. c_d (sym e)) beside.c_a in
       let two = new_round s.b s.c s.d u v beside.b_c c_d beside.d_b in
       total _ _ _ _ _ _ _ _ _ _ _ _ made second first f g one two

@@ -34,7 +34,7 @@ itself v = grind (arith, nat_tests)
 
 module _ (m : Mesh) (s : Edge) where
   abbrev pub bare : Mesh
-  bare = without_faces m (s.forth ∷ s.back ∷ [])
+  bare = without_faces m (s.left_face ∷ s.right_face ∷ [])
 
   -- the four faces of the scaffold
   abbrev pub first : Corners
@@ -94,7 +94,7 @@ module _ (m : Mesh) (s : Edge) where
   fourth_there = made s3 fourth
 
   pub was : (f : ℕ) (c : Corners) → HasCorners bare f c → HasCorners m f c
-  was f c h = (got_after_remove m.faces s.forth f c (got_after_remove (without_face m s.forth).faces s.back f c h).1).1
+  was f c h = (got_after_remove m.faces s.left_face f c (got_after_remove (without_face m s.left_face).faces s.right_face f c h).1).1
 
   -- a face that was there is in the scaffold
   pub old_there : (f : ℕ) (c : Corners) → f < m.next_face → HasCorners bare f c → HasCorners scaffold f c

@@ -36,7 +36,7 @@ no_step m u v h f c there = (
 
 module _ (m : Mesh) (s : Edge) (sound : IsSound m) (beside : IsBeside m s) (c_d : s.c ≢ s.d) (no_edge : is_edge m s.c s.d ≡ false) where
   abbrev bare : Mesh
-  bare = without_faces m (s.forth ∷ s.back ∷ [])
+  bare = without_faces m (s.left_face ∷ s.right_face ∷ [])
 
   abbrev one : Corners
   one = corners_from s.a s.d s.c
@@ -45,10 +45,10 @@ module _ (m : Mesh) (s : Edge) (sound : IsSound m) (beside : IsBeside m s) (c_d 
   two = corners_from s.b s.c s.d
 
   bare_mesh : IsMesh bare
-  bare_mesh = mesh-without_face (without_face m s.forth) s.back (mesh-without_face m s.forth sound.is_mesh)
+  bare_mesh = mesh-without_face (without_face m s.left_face) s.right_face (mesh-without_face m s.left_face sound.is_mesh)
 
   was : (f : ℕ) (c : Corners) → HasCorners bare f c → HasCorners m f c
-  was f c h = (got_after_remove m.faces s.forth f c (got_after_remove (without_face m s.forth).faces s.back f c h).1).1
+  was f c h = (got_after_remove m.faces s.left_face f c (got_after_remove (without_face m s.left_face).faces s.right_face f c h).1).1
 
   not_true : (b : Bool) → (b ≡ true → ⊥) → b ≡ false
   not_true true never = absurd (never refl)

@@ -16,7 +16,7 @@ use Rattle.edit_split.proofs.SplitCounts.{len-bare, split_over, ids_for_four}
 use Rattle.edit_flip.proofs.FlipCounts.{flip_fits}
 use Rattle.edit_flip.proofs.FlipSound.{both_fresh as flip_is_fresh}
 use Rattle.edit_base.proofs.EdgeThere.{beside_it}
-use Rattle.edit_split.proofs.PutSplit.{forth_is_live, back_is_live}
+use Rattle.edit_split.proofs.PutSplit.{left_is_live, right_is_live}
 use Rattle.edit_base.proofs.ReasonLaws.{first_false, second_false, apart_of}
 use Rattle.edit_flip.specs.Tried.{MayBeTried}
 
@@ -34,16 +34,16 @@ module _ (m : Mesh) (s : Edge) (sound : IsSound m) (closed : IsClosed m) (edge :
 -- ---- the changes
 module _ (m : Mesh) (s : Edge) (sound : IsSound m) (closed : IsClosed m) (tried : MayBeTried m s) where
   abbrev bare : Mesh
-  bare = without_faces m (s.forth ∷ s.back ∷ [])
+  bare = without_faces m (s.left_face ∷ s.right_face ∷ [])
 
   beside : IsBeside m s
   beside = beside_it m s sound closed tried.edge
 
-  pub first_is_live : IsLiveFace m s.forth
-  first_is_live = forth_is_live m s (split_point m s) sound closed tried.edge tried.fits
+  pub first_is_live : IsLiveFace m s.left_face
+  first_is_live = left_is_live m s (split_point m s) sound closed tried.edge tried.fits
 
-  pub second_is_live : IsLiveFace (without_face m s.forth) s.back
-  second_is_live = back_is_live m s (split_point m s) sound closed tried.edge tried.fits
+  pub second_is_live : IsLiveFace (without_face m s.left_face) s.right_face
+  second_is_live = right_is_live m s (split_point m s) sound closed tried.edge tried.fits
 
   pub both_fresh : AreFresh bare (corners_from s.a s.d s.c ∷ corners_from s.b s.c s.d ∷ [])
   both_fresh = flip_is_fresh m s sound beside

@@ -25,8 +25,8 @@ fn apply_flip<S: Surface>(mesh: &mut S, e: &EdgeFaces) -> Result<(), NoMemory>
     ensures made { OnOk result (S.mesh mesh.new ≡ flip_mesh (S.mesh mesh.old) e.now) }
     ensures marks { BeginsWith (S.kept mesh.new) (S.kept mesh.old) }
 {
-    mesh.drop_face(e.forth)?;
-    mesh.drop_face(e.back)?;
+    mesh.drop_face(e.left_face)?;
+    mesh.drop_face(e.right_face)?;
     make_faces(mesh, &[[e.a, e.d, e.c], [e.b, e.c, e.d]])
 }
 
@@ -70,9 +70,9 @@ fn flip_or_leave<S: Surface>(
     }
 }
 
-/// Flips the edge of two ids, in any order: the two faces beside it are dropped, and two are made at the edge of their third
-/// corners. With `a` the smaller end, `b` the larger, `c` the opposite vertex of the face that runs from `a` to `b` and `d`
-/// that of the other, they are `a d c` and `b c d`, under the next face ids.
+/// Flips the edge of two ids, in any order: the two faces beside it are dropped, and two are made at the edge of their
+/// opposite vertices. With `a` the smaller end, `b` the larger, `c` the opposite vertex of the face that runs from `a` to `b`
+/// and `d` that of the other, they are `a d c` and `b c d`, under the next face ids.
 ///
 /// The answer is exact. It is Done with the edge, smaller end first; or No with the first reason that holds: the ids are no
 /// edge, the edge is crowded, the edge of `c` and `d` is there already or has one end, the test or the result would pass a

@@ -22,8 +22,8 @@ pub fn flips_can_be_made()
     ensures faces { (m : Mesh) (u v : ℕ) → IsSound m → IsClosed m → is_edge m (min u v) (max u v) ≡ true → (edge_of m u v).c ≢ (edge_of m u v).d → is_edge m (edge_of m u v).c (edge_of m u v).d ≡ false → AreFresh (without_faces m (faces_beside (edge_of m u v))) (flip_faces (edge_of m u v)) }
 {}
 
-/// A done flip of a sound, closed and clear mesh leaves one. Its motion, from the edge to the middle of the two third
-/// corners, is clear; what it leaves is clear since each of its new parts is two of the scaffold's at the end.
+/// A done flip of a sound, closed and clear mesh leaves one. Its motion, from the edge to the middle of the two opposite
+/// vertices, is clear; what it leaves is clear since each of its new parts is two of the scaffold's at the end.
 pub fn flips_keep_the_mesh()
     ensures kind { (meets : Positions → Bool) (u v depth : ℕ) → AlwaysMakes IsFlip (λ m. flip_answer meets m u v depth) }
     ensures sound { (meets : Positions → Bool) (u v depth : ℕ) → StaysSound flip_result (λ m. flip_answer meets m u v depth) }

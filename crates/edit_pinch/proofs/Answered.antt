@@ -5,11 +5,11 @@ use Rattle.std.specs.Option.{option_map}
 use Rattle.std.specs.List.{AllByRecursion}
 use Rattle.grid_decided.specs.Decided.{meets_exactly}
 use Rattle.mesh_base.specs.declared.ids.PairName.{PairName}
-use Rattle.mesh_base.specs.Mesh.{Mesh}
+use Rattle.mesh_base.specs.Mesh.{Mesh, is_solid}
 use Rattle.mesh_base.specs.Sides.{IsClosed}
 use Rattle.mesh_base.specs.Limits.{is_over_limits}
 use Rattle.mesh_base.proofs.ListedPairs.{all_weaker}
-use Rattle.edit_base.specs.declared.answers.Why.TheVariants.{OneFan, Full, Hit}
+use Rattle.edit_base.specs.declared.answers.Why.TheVariants.{OneFan, Solid, Full, Hit}
 use Rattle.edit_base.specs.declared.answers.Change.{Change}
 use Rattle.edit_base.specs.declared.answers.Change.TheVariants.{Pinch}
 use Rattle.edit_base.specs.declared.answers.Edit.{Edit}
@@ -27,8 +27,8 @@ use Rattle.edit_pinch.specs.Tried.{MayBeTried}
 use Rattle.edit_pinch.proofs.Room.{not_over}
 
 -- the answer by its tests
-abbrev answer_by : Bool → Bool → Option PairName → Change → Edit
-answer_by few over found change = done_unless (first_reason (reason_if few OneFan ∷ reason_if over Full ∷ option_map (λ p. Hit p) found ∷ [])) change
+abbrev answer_by : Bool → Bool → Bool → Option PairName → Change → Edit
+answer_by few solid over found change = done_unless (first_reason (reason_if few OneFan ∷ reason_if solid Solid ∷ reason_if over Full ∷ option_map (λ p. Hit p) found ∷ [])) change
 
 module _ (m : Mesh) (v depth : ℕ) where
   abbrev found : Option PairName
@@ -38,13 +38,16 @@ module _ (m : Mesh) (v depth : ℕ) where
   done = Pinch v (first_point m v) (later_copies m v)
 
   pub one_fan_is_refused : nat_lt (length (fans m v)) 2 ≡ true → No OneFan ≡ pinch_answer meets_exactly m v depth
-  one_fan_is_refused few = sym (λ i. answer_by (few i) (is_over_limits (pinch_scaffold m v).mesh) found done)
+  one_fan_is_refused few = sym (λ i. answer_by (few i) (is_solid m v) (is_over_limits (pinch_scaffold m v).mesh) found done)
 
-  pub full_is_refused : nat_lt (length (fans m v)) 2 ≡ false → is_over_limits (pinch_scaffold m v).mesh ≡ true → No Full ≡ pinch_answer meets_exactly m v depth
-  full_is_refused two over = sym (λ i. answer_by (two i) (over i) found done)
+  pub solid_is_refused : nat_lt (length (fans m v)) 2 ≡ false → is_solid m v ≡ true → No Solid ≡ pinch_answer meets_exactly m v depth
+  solid_is_refused two solid = sym (λ i. answer_by (two i) (solid i) (is_over_limits (pinch_scaffold m v).mesh) found done)
+
+  pub full_is_refused : nat_lt (length (fans m v)) 2 ≡ false → is_solid m v ≡ false → is_over_limits (pinch_scaffold m v).mesh ≡ true → No Full ≡ pinch_answer meets_exactly m v depth
+  full_is_refused two free over = sym (λ i. answer_by (two i) (free i) (over i) found done)
 
   pub no_hit_is_done : MayBeTried m v → None ≡ found → Done done ≡ pinch_answer meets_exactly m v depth
-  no_hit_is_done tried e = sym (λ i. answer_by (tried.two_fans i) (tried.fits i) (sym e i) done)
+  no_hit_is_done tried e = sym (λ i. answer_by (tried.two_fans i) (tried.may_move i) (tried.fits i) (sym e i) done)
 
 -- ---- the fans
 pub fans_live : (m : Mesh) (v : ℕ) → IsClosed m → AllByRecursion (AreLiveFaces m) (fans m v)

@@ -19,3 +19,4 @@ pub mod TurnSteps
 pub mod Room
 pub mod Scaffolded
 pub mod Answered
+pub mod SolidVertices

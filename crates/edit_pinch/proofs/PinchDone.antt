@@ -13,7 +13,7 @@ use Rattle.grid_base.specs.SeparationTests.{IsExact}
 use Rattle.grid_base.specs.Triples.{Triple, times}
 use Rattle.grid_base.specs.Points.{position_of}
 use Rattle.mesh_base.specs.declared.ids.Corners.{Corners}
-use Rattle.mesh_base.specs.Mesh.{Mesh, IsSound, IsLiveVertex, AreLive}
+use Rattle.mesh_base.specs.Mesh.{Mesh, is_solid, IsSound, IsLiveVertex, AreLive}
 use Rattle.mesh_base.specs.Sides.{has_corner, faces_at, IsClosed}
 use Rattle.mesh_base.specs.Changes.{with_vertex, with_point}
 use Rattle.mesh_base.specs.Placements.{rest_positions_doubled, position_or_origin, IsClearMesh, IsClearAfter}
@@ -21,7 +21,7 @@ use Rattle.mesh_base.specs.Limits.{is_over_limits}
 use Rattle.mesh_base.proofs.Tests.{or_either}
 use Rattle.edit_base.specs.declared.scaffold.Move.{Move}
 use Rattle.edit_base.specs.declared.answers.CopyAt.{CopyAt}
-use Rattle.edit_base.specs.declared.answers.Why.TheVariants.{OneFan, Full, Hit}
+use Rattle.edit_base.specs.declared.answers.Why.TheVariants.{OneFan, Solid, Full, Hit}
 use Rattle.edit_base.specs.declared.answers.Change.{Change}
 use Rattle.edit_base.specs.declared.answers.Edit.TheVariants.{Done}
 use Rattle.edit_base.specs.Reasons.{reason_if, hit_in}
@@ -134,6 +134,7 @@ module _ (meets : Positions → Bool) (v depth : ℕ) (m : Mesh) (change : Chang
   -- no reason holds, and the change is the pinch's
   record Facts : Type 0 where
     pub two_fans : nat_lt (length (fans m v)) 2 ≡ false
+    pub may_move : is_solid m v ≡ false
     pub fits : is_over_limits (pinch_scaffold m v).mesh ≡ false
     pub none_lacks : first_failing meets (pinch_scaffold m v) depth ≡ None
     pub is_pinch : Change.Pinch v (first_point m v) (later_copies m v) ≡ change
@@ -143,12 +144,15 @@ module _ (meets : Positions → Bool) (v depth : ℕ) (m : Mesh) (change : Chang
       let scaffold = pinch_scaffold m v in
       let hits = hit_in meets scaffold depth ∷ [] in
       let fulls = reason_if (is_over_limits scaffold.mesh) Full ∷ hits in
+      let solids = reason_if (is_solid m v) Solid ∷ fulls in
       let all = done_is _ _ _ done in
-      let one = none_first (reason_if (nat_lt (length (fans m v)) 2) OneFan) fulls all.0 in
-      let two = none_first (reason_if (is_over_limits scaffold.mesh) Full) hits one.1 in
+      let one = none_first (reason_if (nat_lt (length (fans m v)) 2) OneFan) solids all.0 in
+      let free = none_first (reason_if (is_solid m v) Solid) fulls one.1 in
+      let two = none_first (reason_if (is_over_limits scaffold.mesh) Full) hits free.1 in
       let three = none_first (hit_in meets scaffold depth) [] two.1 in
       record {
         two_fans = does_not_hold _ _ one.0;
+        may_move = does_not_hold _ _ free.0;
         fits = does_not_hold _ _ two.0;
         none_lacks = no_name (λ p. Hit p) (first_failing meets scaffold depth) three.0;
         is_pinch = all.1;

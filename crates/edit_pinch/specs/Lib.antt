@@ -4,3 +4,4 @@ pub mod Done
 pub mod Rims
 pub mod InTurn
 pub mod Tried
+pub mod SolidVertices

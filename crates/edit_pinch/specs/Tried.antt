@@ -6,15 +6,16 @@ use Rattle.grid_base.specs.declared.Point.{Point}
 use Rattle.grid_base.specs.Points.{position_of}
 use Rattle.grid_base.specs.Triples.{Triple, times}
 use Rattle.mesh_base.specs.declared.ids.PairName.{PairName}
-use Rattle.mesh_base.specs.Mesh.{Mesh}
+use Rattle.mesh_base.specs.Mesh.{Mesh, is_solid}
 use Rattle.mesh_base.specs.Limits.{is_over_limits}
 use Rattle.edit_base.specs.declared.Move.{Move}
 use Rattle.edit_base.specs.declared.answers.CopyAt.{CopyAt}
 use Rattle.edit_pinch.specs.Pinch.{fans, pinch_scaffold}
 
--- two fans meet at the vertex, and the pinch passes no limit
+-- two fans meet at the vertex, it is not solid, and the pinch passes no limit
 pub record MayBeTried (m : Mesh) (v : ℕ) : Type 0 where
   pub two_fans : nat_lt (length (fans m v)) 2 ≡ false
+  pub may_move : is_solid m v ≡ false
   pub fits : is_over_limits (pinch_scaffold m v).mesh ≡ false
 
 -- the way to a point
@@ -29,7 +30,7 @@ moves_from here v at copies = move_to here v at ∷ map (λ copy. move_to here c
 abbrev pub vertex_and_copies : ℕ → List CopyAt → List ℕ
 vertex_and_copies v copies = v ∷ map (λ copy. copy.w) copies
 
--- the mesh that a try leaves: what it made, where no pair lacks what is required, and else the mesh before
+-- the mesh that a try leaves: what it made, where no pair fails to do what is required, and else the mesh before
 abbrev pub left_by : Mesh → Mesh → Result (Option PairName) NoMemory → Mesh
 left_by old made (Ok None) = made
 left_by old made (Ok (Some p)) = old

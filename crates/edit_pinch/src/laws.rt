@@ -10,6 +10,7 @@ ghost use Rattle.mesh_base.specs.Mesh.{Mesh};
 ghost use Rattle.mesh_base.specs.Placements.{rest_positions};
 ghost use Rattle.edit_pinch.specs.Pinch.{pinch_mesh, fan_point, fan_shift};
 ghost use Rattle.edit_pinch.specs.Answer.{pinch_answer};
+ghost use Rattle.edit_pinch.specs.SolidVertices.{PinchesNoneSolid};
 ghost use Rattle.edit_base.specs.Laws.{AlwaysMakes, StaysSound, StaysClosed, StaysClear, MotionIsClear};
 ghost use Rattle.edit_pinch.specs.Done.{IsPinch, pinch_result, pinch_tested_on};
 ghost use Rattle.edit_base.specs.declared.Move.{Move};
@@ -25,6 +26,12 @@ pub fn pinches_keep_the_mesh()
     ensures clear { (meets : Positions → Bool) → IsExact meets → (v depth : ℕ) → StaysClear pinch_result (λ m. pinch_answer meets m v depth) }
     ensures motion { (meets : Positions → Bool) → IsExact meets → (v depth : ℕ) → MotionIsClear pinch_tested_on (λ m. pinch_answer meets m v depth) }
     ensures shifted { (m : Mesh) (v : ℕ) (fan : List ℕ) → position_of (fan_point m v fan) ≡ plus (rest_positions m v) (fan_shift m v fan) }
+{}
+
+/// No done pinch is of a solid vertex. A pinch changes no mark, so its copies are not solid.
+pub fn solid_vertices_are_not_pinched()
+    ensures answer { (meets : Positions → Bool) (v depth : ℕ) → PinchesNoneSolid v (λ m. pinch_answer meets m v depth) }
+    ensures marks { (m : Mesh) (v : ℕ) (at : Point) (points : List Point) → (pinch_mesh m v at points).solid ≡ m.solid }
 {}
 
 /// A mesh of which a vertex is pinched agrees with it but for new faces and the moved vertex, which is to be named among those that

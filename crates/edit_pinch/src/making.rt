@@ -100,7 +100,7 @@ fn put_copies<S: Surface>(
 
 /// Puts a vertex at the point of its first fan, and makes the copies for the others. Where memory is wanting, some of it
 /// may be done.
-pub(crate) fn put_pinch<S: Surface>(
+pub(crate) fn apply_pinch<S: Surface>(
     mesh: &mut S,
     v: VertexId,
     at: Point,

@@ -14,7 +14,7 @@ ghost use Rattle.edit_pinch.specs.Done.{pinch_result, pinch_tested_on};
 ghost use Rattle.edit_pinch.specs.Tried.{MayBeTried, moves_from, vertex_and_copies, left_by};
 
 use crate::fans::{Fan, fans};
-use crate::making::{is_over, put_pinch};
+use crate::making::{apply_pinch, is_over};
 use crate::shifting::{copies_for, fan_point};
 use edit_base::{Change, CopyAt, Edit, Move, Touch, Why};
 use edit_check::check;
@@ -88,7 +88,7 @@ fn put_and_check<S: Surface>(
     let here = point_of(mesh, v).doubled();
     let moves = moves_of(alloc, here, v, at, copies)?;
     let together = together_of(alloc, v, copies)?;
-    put_pinch(mesh, v, at, others, copies)?;
+    apply_pinch(mesh, v, at, others, copies)?;
     check(
         alloc,
         mesh,
@@ -166,13 +166,13 @@ fn pinch_or_leave<S: Surface>(
 /// one gets a copy with the next vertex id. The faces of a later fan are dropped and made again with the copy in the place
 /// of the vertex, fan by fan and in rising order of their ids, under the next face ids. The vertex and its copies go from
 /// its point by an eighth of the way to the mean of the other vertices of their own fans, each component rounded toward
-/// zero.
+/// zero. The copies are not solid.
 ///
 /// The answer is exact. It is Done with the vertex, its point, and the copies with theirs; or No with the first reason that
-/// holds: fewer than two fans meet at the vertex, as at one that is not live; the result would pass a limit; or, of all
-/// pairs of the result in order, the first that does not open where its two members hold two of the vertex and its copies,
-/// or else does not pass, to the depth, while they go from the one point to their own. After No, and where memory is wanting,
-/// the mesh is as it was, next ids included. What was kept stays.
+/// holds: fewer than two fans meet at the vertex, as at one that is not live; it is solid; the result would pass a limit;
+/// or, of all pairs of the result in order, the first that does not open where its two members hold two of the vertex and
+/// its copies, or else does not pass, to the depth, while they go from the one point to their own. After No, and where
+/// memory is wanting, the mesh is as it was, next ids included. What was kept stays.
 ///
 /// A pinch keeps the mesh closed and clear, and no pair meets at any fraction of that motion but its start. After the vertex
 /// separation of El Topo (Brochu and Bridson 2009).
@@ -197,6 +197,8 @@ pub fn pinch<S: Surface>(
     let parts = fans(alloc, mesh, v)?;
     if parts.len() < 2 {
         Ok(Edit::No(Why::OneFan))
+    } else if mesh.solid(v) {
+        Ok(Edit::No(Why::Solid))
     } else if is_over(mesh, &parts.as_slice()[1..]) {
         Ok(Edit::No(Why::Full))
     } else {

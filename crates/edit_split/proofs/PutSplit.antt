@@ -27,13 +27,13 @@ module _ (m : Mesh) (s : Edge) (at : Point) (sound : IsSound m) (closed : IsClos
   after : IsSound (split_mesh m s at)
   after = split_is_sound m s at sound beside fits
 
-  pub forth_is_live : IsLiveFace m s.forth
-  forth_is_live = ap is_some beside.forth
+  pub left_is_live : IsLiveFace m s.left_face
+  left_is_live = ap is_some beside.left_face
 
-  pub back_is_live : IsLiveFace (without_face m s.forth) s.back
-  back_is_live = live_but_removed m.faces s.forth s.back (λ e. beside.two_faces (sym e)) (ap is_some beside.back)
+  pub right_is_live : IsLiveFace (without_face m s.left_face) s.right_face
+  right_is_live = live_but_removed m.faces s.left_face s.right_face (λ e. beside.two_faces (sym e)) (ap is_some beside.right_face)
 
-  pub vertex_has_room : ¬ IsFullOfVertices (without_faces m (s.forth ∷ s.back ∷ []))
+  pub vertex_has_room : ¬ IsFullOfVertices (without_faces m (s.left_face ∷ s.right_face ∷ []))
   vertex_has_room full =
       let v = split_vertices m s sound beside at in
       let most = after.limits.vertices in
@@ -41,7 +41,7 @@ module _ (m : Mesh) (s : Edge) (at : Point) (sound : IsSound m) (closed : IsClos
       ⊎_elim (λ e. absurd (omega (arith, v, most, e))) (λ e. absurd (omega (arith, ids, e))) full
 
   abbrev base : Mesh
-  base = with_vertex (without_faces m (s.forth ∷ s.back ∷ [])) at
+  base = with_vertex (without_faces m (s.left_face ∷ s.right_face ∷ [])) at
 
   pub faces_are_fresh : AreFresh base (corners_from s.a m.next_vertex s.c ∷ corners_from m.next_vertex s.b s.c ∷ corners_from s.b m.next_vertex s.d ∷ corners_from m.next_vertex s.a s.d ∷ [])
   faces_are_fresh = all_fresh m s at sound beside
@@ -52,6 +52,6 @@ module _ (m : Mesh) (s : Edge) (at : Point) (sound : IsSound m) (closed : IsClos
       let most = after.limits.faces in
       let b = len-bare m s sound beside in
       let ids : m.next_face + 4 ≤ ID_MAX + 1 = let i : (split_mesh m s at).next_face ≤ ID_MAX + 1 = after.limits.face_ids.1 in omega (arith, i) in
-      record { faces = let h : finite.len (without_faces m (s.forth ∷ s.back ∷ [])).faces + 4 ≤ FACES_MAX = omega (arith, f, most, b) in h; ids = ids }
+      record { faces = let h : finite.len (without_faces m (s.left_face ∷ s.right_face ∷ [])).faces + 4 ≤ FACES_MAX = omega (arith, f, most, b) in h; ids = ids }
 
 -- the edge of two ids that are one

@@ -19,13 +19,13 @@ module _ (m : Mesh) (s : Edge) (at : Point) (below : AreBelow m) (beside : IsBes
   pub counts : (u v : ℕ) → runs (split_mesh m s at) u v + (round s.a s.b s.c u v + round s.b s.a s.d u v)
       ≡ runs m u v + (round s.a w s.c u v + round w s.b s.c u v + round s.b w s.d u v + round w s.a s.d u v)
   counts u v =
-      let bare = without_faces m (s.forth ∷ s.back ∷ []) in
-      let first = runs-without_face m s.forth beside.forth_corners u v beside.forth in
-      let second = runs-without_face (without_face m s.forth) s.back beside.back_corners u v (still_there m s.forth s.back beside.back_corners beside.two_faces beside.back) in
+      let bare = without_faces m (s.left_face ∷ s.right_face ∷ []) in
+      let first = runs-without_face m s.left_face beside.left_corners u v beside.left_face in
+      let second = runs-without_face (without_face m s.left_face) s.right_face beside.right_corners u v (still_there m s.left_face s.right_face beside.right_corners beside.two_faces beside.right_face) in
       let made = runs-with_faces (with_vertex bare at) (corners_from s.a w s.c ∷ corners_from w s.b s.c ∷ corners_from s.b w s.d ∷ corners_from w s.a s.d ∷ []) u v
-      (below-without (without_face m s.forth) s.back (below-without m s.forth below)) in
-      let f = round_of beside.forth_corners s.a s.b u v beside.forth_different beside.runs_forth ∙ same_arcs u v refl refl beside.third in
-      let g = round_of beside.back_corners s.b s.a u v beside.back_different beside.runs_back ∙ same_arcs u v refl refl beside.fourth in
+      (below-without (without_face m s.left_face) s.right_face (below-without m s.left_face below)) in
+      let f = round_of beside.left_corners s.a s.b u v beside.left_different beside.left_runs ∙ same_arcs u v refl refl beside.third in
+      let g = round_of beside.right_corners s.b s.a u v beside.right_different beside.right_runs ∙ same_arcs u v refl refl beside.fourth in
       let one = new_round s.a w s.c u v (less_apart _ _ beside.a_below) (more_apart _ _ beside.c_below) beside.c_a in
       let two = new_round w s.b s.c u v (more_apart _ _ beside.b_below) beside.b_c (less_apart _ _ beside.c_below) in
       let three = new_round s.b w s.d u v (less_apart _ _ beside.b_below) (more_apart _ _ beside.d_below) beside.d_b in

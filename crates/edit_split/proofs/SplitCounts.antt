@@ -23,13 +23,13 @@ last_of false b e = e
 
 module _ (m : Mesh) (s : Edge) (sound : IsSound m) (beside : IsBeside m s) where
   abbrev pub bare : Mesh
-  bare = without_faces m (s.forth ∷ s.back ∷ [])
+  bare = without_faces m (s.left_face ∷ s.right_face ∷ [])
 
   pub bare_below : AreBelow bare
-  bare_below = below-without (without_face m s.forth) s.back (below-without m s.forth (below_next m sound))
+  bare_below = below-without (without_face m s.left_face) s.right_face (below-without m s.left_face (below_next m sound))
 
   pub len-bare : finite.len bare.faces + 2 ≡ finite.len m.faces
-  len-bare = len-without_two m s.forth s.back (ap is_some beside.forth) (ap is_some beside.back) beside.two_faces
+  len-bare = len-without_two m s.left_face s.right_face (ap is_some beside.left_face) (ap is_some beside.right_face) beside.two_faces
 
   pub split_vertices : (at : Point) → finite.len (split_mesh m s at).points ≡ finite.len m.points + 1
   split_vertices at = len-with_new m.points m.next_vertex at (next_is_no_vertex m sound.is_mesh)

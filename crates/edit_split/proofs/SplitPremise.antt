@@ -18,7 +18,7 @@ use Rattle.edit_check.proofs.Premise.{agreeing_is, old_of_made, old_of_dropped}
 -- a mesh whose edge is split
 pub split_changed : (m : Mesh) (s : Edge) (at : Point) (moves : List Move) → AgreesWhereOld m (split_mesh m s at) moves
 split_changed m s at moves =
-    let drops = s.forth ∷ s.back ∷ [] in
+    let drops = s.left_face ∷ s.right_face ∷ [] in
     let w = m.next_vertex in
     let four : List Corners = corners_from s.a w s.c ∷ corners_from w s.b s.c ∷ corners_from s.b w s.d ∷ corners_from w s.a s.d ∷ [] in
     record {

@@ -44,7 +44,7 @@ module _ (m : Mesh) (p : Point) (mesh : IsMesh m) where
 -- the four faces round the new vertex
 module _ (m : Mesh) (s : Edge) (p : Point) (sound : IsSound m) (beside : IsBeside m s) where
   abbrev bare : Mesh
-  bare = without_faces m (s.forth ∷ s.back ∷ [])
+  bare = without_faces m (s.left_face ∷ s.right_face ∷ [])
 
   abbrev base : Mesh
   base = with_vertex bare p
@@ -65,7 +65,7 @@ module _ (m : Mesh) (s : Edge) (p : Point) (sound : IsSound m) (beside : IsBesid
   four = corners_from w s.a s.d
 
   bare_mesh : IsMesh bare
-  bare_mesh = mesh-without_face (without_face m s.forth) s.back (mesh-without_face m s.forth sound.is_mesh)
+  bare_mesh = mesh-without_face (without_face m s.left_face) s.right_face (mesh-without_face m s.left_face sound.is_mesh)
 
   less : (x y : ℕ) → x < y → x ≢ y
   less x y h e = omega (arith, e)

@@ -15,7 +15,7 @@ use Rattle.edit_base.specs.Scaffold.{Scaffold}
 
 -- the two faces beside the edge
 abbrev pub faces_beside : Edge → List ℕ
-faces_beside s = s.forth ∷ s.back ∷ []
+faces_beside s = s.left_face ∷ s.right_face ∷ []
 
 -- the four faces round a new vertex w
 abbrev pub split_faces : Edge → ℕ → List Corners

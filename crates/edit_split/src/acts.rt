@@ -43,8 +43,8 @@ pub fn apply_split<S: Surface>(mesh: &mut S, e: &EdgeFaces, at: Point) -> Result
     ensures made { OnOk result (S.mesh mesh.new ≡ split_mesh (S.mesh mesh.old) e.now at) }
     ensures marks { BeginsWith (S.kept mesh.new) (S.kept mesh.old) }
 {
-    mesh.drop_face(e.forth)?;
-    mesh.drop_face(e.back)?;
+    mesh.drop_face(e.left_face)?;
+    mesh.drop_face(e.right_face)?;
     let w = make_vertex(mesh, at)?;
     make_faces(
         mesh,

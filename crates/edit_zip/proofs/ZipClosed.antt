@@ -1,5 +1,5 @@
 -- A zip leaves a closed mesh closed.
-use Rattle.std.proofs.Common.{◌≡◌, ◌≢◌, ℕ, ◌+◌, true, cond, [], ◌∷◌, Some, inl, refl, sym, ap, subst, ◌∙◌, arith}
+use Rattle.std.proofs.Common.{◌≡◌, ◌≢◌, ℕ, ◌+◌, true, cond, [], ◌∷◌, inl, refl, sym, ap, subst, ◌∙◌, arith}
 use Rattle.mesh_base.specs.declared.ids.Corners.{Corners}
 use Rattle.mesh_base.specs.Mesh.{Mesh, IsSound, HasCorners, AreDifferent}
 use Rattle.mesh_base.specs.Sides.{follows, runs, IsClosed}
@@ -34,37 +34,37 @@ pub record AreDisjoint (s t : Edge) : Type 0 where
 
 module _ (m : Mesh) (s t : Edge) (sound : IsSound m) (beside_s : IsBeside m s) (beside_t : IsBeside m t) (apart : AreDisjoint s t) where
   abbrev pub bare : Mesh
-  bare = without_faces m (s.forth ∷ s.back ∷ t.forth ∷ t.back ∷ [])
+  bare = without_faces m (s.left_face ∷ s.right_face ∷ t.left_face ∷ t.right_face ∷ [])
 
   back : {x y : ℕ} → x ≢ y → y ≢ x
   back h e = h (sym e)
 
-  third_off : (v : ℕ) → v ≢ t.c → opposite_vertex beside_t.forth_corners t.a t.b ≢ v
+  third_off : (v : ℕ) → v ≢ t.c → opposite_vertex beside_t.left_corners t.a t.b ≢ v
   third_off v h e = h (sym e ∙ beside_t.third)
 
-  fourth_off : (v : ℕ) → v ≢ t.d → opposite_vertex beside_t.back_corners t.b t.a ≢ v
+  fourth_off : (v : ℕ) → v ≢ t.d → opposite_vertex beside_t.right_corners t.b t.a ≢ v
   fourth_off v h e = h (sym e ∙ beside_t.fourth)
 
-  pub forth_forth : s.forth ≢ t.forth
-  forth_forth = faces_apart m s.forth t.forth beside_s.forth_corners beside_t.forth_corners s.a s.b t.a t.b beside_s.forth beside_t.forth beside_s.runs_forth beside_t.runs_forth beside_t.forth_different (back apart.a.third) (back apart.a.first) (third_off s.a apart.a.fourth)
+  pub forth_forth : s.left_face ≢ t.left_face
+  forth_forth = faces_apart m s.left_face t.left_face beside_s.left_corners beside_t.left_corners s.a s.b t.a t.b beside_s.left_face beside_t.left_face beside_s.left_runs beside_t.left_runs beside_t.left_different (back apart.a.third) (back apart.a.first) (third_off s.a apart.a.fourth)
 
-  pub forth_back : s.forth ≢ t.back
-  forth_back = faces_apart m s.forth t.back beside_s.forth_corners beside_t.back_corners s.a s.b t.b t.a beside_s.forth beside_t.back beside_s.runs_forth beside_t.runs_back beside_t.back_different (back apart.a.first) (back apart.a.third) (fourth_off s.a apart.a.second)
+  pub forth_back : s.left_face ≢ t.right_face
+  forth_back = faces_apart m s.left_face t.right_face beside_s.left_corners beside_t.right_corners s.a s.b t.b t.a beside_s.left_face beside_t.right_face beside_s.left_runs beside_t.right_runs beside_t.right_different (back apart.a.first) (back apart.a.third) (fourth_off s.a apart.a.second)
 
-  pub back_forth : s.back ≢ t.forth
-  back_forth = faces_apart m s.back t.forth beside_s.back_corners beside_t.forth_corners s.b s.a t.a t.b beside_s.back beside_t.forth beside_s.runs_back beside_t.runs_forth beside_t.forth_different (back apart.b.third) (back apart.b.first) (third_off s.b apart.b.fourth)
+  pub back_forth : s.right_face ≢ t.left_face
+  back_forth = faces_apart m s.right_face t.left_face beside_s.right_corners beside_t.left_corners s.b s.a t.a t.b beside_s.right_face beside_t.left_face beside_s.right_runs beside_t.left_runs beside_t.left_different (back apart.b.third) (back apart.b.first) (third_off s.b apart.b.fourth)
 
-  pub back_back : s.back ≢ t.back
-  back_back = faces_apart m s.back t.back beside_s.back_corners beside_t.back_corners s.b s.a t.b t.a beside_s.back beside_t.back beside_s.runs_back beside_t.runs_back beside_t.back_different (back apart.b.first) (back apart.b.third) (fourth_off s.b apart.b.second)
+  pub back_back : s.right_face ≢ t.right_face
+  back_back = faces_apart m s.right_face t.right_face beside_s.right_corners beside_t.right_corners s.b s.a t.b t.a beside_s.right_face beside_t.right_face beside_s.right_runs beside_t.right_runs beside_t.right_different (back apart.b.first) (back apart.b.third) (fourth_off s.b apart.b.second)
 
   abbrev m1 : Mesh
-  m1 = without_face m s.forth
+  m1 = without_face m s.left_face
 
   abbrev m2 : Mesh
-  m2 = without_face m1 s.back
+  m2 = without_face m1 s.right_face
 
   abbrev m3 : Mesh
-  m3 = without_face m2 t.forth
+  m3 = without_face m2 t.left_face
 
   -- the steps of the four faces that go
   gone : ℕ → ℕ → ℕ
@@ -73,23 +73,23 @@ module _ (m : Mesh) (s t : Edge) (sound : IsSound m) (beside_s : IsBeside m s) (
   counts : (u v : ℕ) → runs bare u v + gone u v ≡ runs m u v
   unfolding gone
   counts u v =
-      let C3 = beside_t.forth_corners in
-      let C4 = beside_t.back_corners in
-      let first = runs-without_face m s.forth beside_s.forth_corners u v beside_s.forth in
-      let second = runs-without_face m1 s.back beside_s.back_corners u v (still_there m s.forth s.back beside_s.back_corners beside_s.two_faces beside_s.back) in
-      let third = runs-without_face m2 t.forth C3 u v (still_there m1 s.back t.forth C3 back_forth (still_there m s.forth t.forth C3 forth_forth beside_t.forth)) in
-      let fourth = runs-without_face m3 t.back C4 u v (still_there m2 t.forth t.back C4 beside_t.two_faces (still_there m1 s.back t.back C4 back_back (still_there m s.forth t.back C4 forth_back beside_t.back))) in
-      let f = round_of beside_s.forth_corners s.a s.b u v beside_s.forth_different beside_s.runs_forth ∙ same_arcs u v refl refl beside_s.third in
-      let g = round_of beside_s.back_corners s.b s.a u v beside_s.back_different beside_s.runs_back ∙ same_arcs u v refl refl beside_s.fourth in
-      let h = round_of C3 t.a t.b u v beside_t.forth_different beside_t.runs_forth ∙ same_arcs u v refl refl beside_t.third in
-      let k = round_of C4 t.b t.a u v beside_t.back_different beside_t.runs_back ∙ same_arcs u v refl refl beside_t.fourth in
+      let C3 = beside_t.left_corners in
+      let C4 = beside_t.right_corners in
+      let first = runs-without_face m s.left_face beside_s.left_corners u v beside_s.left_face in
+      let second = runs-without_face m1 s.right_face beside_s.right_corners u v (still_there m s.left_face s.right_face beside_s.right_corners beside_s.two_faces beside_s.right_face) in
+      let third = runs-without_face m2 t.left_face C3 u v (still_there m1 s.right_face t.left_face C3 back_forth (still_there m s.left_face t.left_face C3 forth_forth beside_t.left_face)) in
+      let fourth = runs-without_face m3 t.right_face C4 u v (still_there m2 t.left_face t.right_face C4 beside_t.two_faces (still_there m1 s.right_face t.right_face C4 back_back (still_there m s.left_face t.right_face C4 forth_back beside_t.right_face))) in
+      let f = round_of beside_s.left_corners s.a s.b u v beside_s.left_different beside_s.left_runs ∙ same_arcs u v refl refl beside_s.third in
+      let g = round_of beside_s.right_corners s.b s.a u v beside_s.right_different beside_s.right_runs ∙ same_arcs u v refl refl beside_s.fourth in
+      let h = round_of C3 t.a t.b u v beside_t.left_different beside_t.left_runs ∙ same_arcs u v refl refl beside_t.third in
+      let k = round_of C4 t.b t.a u v beside_t.right_different beside_t.right_runs ∙ same_arcs u v refl refl beside_t.fourth in
       total _ _ _ _ _ _ _ _ _ _ _ _ _ first second third fourth f g h k
     where
       total : (r r1 r2 r3 r4 f g h k f' g' h' k' : ℕ) → r1 + f ≡ r → r2 + g ≡ r1 → r3 + h ≡ r2 → r4 + k ≡ r3 → f ≡ f' → g ≡ g' → h ≡ h' → k ≡ k' → r4 + ((f' + g') + (h' + k')) ≡ r
       total r r1 r2 r3 r4 f g h k f' g' h' k' a b c d e i j l = omega arith
 
   pub bare_below : AreBelow bare
-  bare_below = below-without m3 t.back (below-without m2 t.forth (below-without m1 s.back (below-without m s.forth (below_next m sound))))
+  bare_below = below-without m3 t.right_face (below-without m2 t.left_face (below-without m1 s.right_face (below-without m s.left_face (below_next m sound))))
 
   -- the rims, whatever the turn
   module _ (r0 r1 r2 r3 : ℕ) (p : IsRim s.b s.c s.a s.d) (r : IsRim r0 r1 r2 r3) (f0 : AreFar s.b r0 r1 r2 r3) (f1 : AreFar s.c r0 r1 r2 r3) (f2 : AreFar s.a r0 r1 r2 r3) (f3 : AreFar s.d r0 r1 r2 r3)

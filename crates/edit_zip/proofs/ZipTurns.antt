@@ -81,16 +81,16 @@ module _ (m : Mesh) (s t : Edge) (sound : IsSound m) (beside_s : IsBeside m s) (
   -- one turn, by the rim that stands against the first
   module _ (r0 r1 r2 r3 : ℕ) (r : IsRim r0 r1 r2 r3) (live : AreAllLive m r0 r1 r2 r3) (f0 : AreFar s.b r0 r1 r2 r3) (f1 : AreFar s.c r0 r1 r2 r3) (f2 : AreFar s.a r0 r1 r2 r3) (f3 : AreFar s.d r0 r1 r2 r3) where
     abbrev left : Mesh
-    left = with_faces (without_faces m (s.forth ∷ s.back ∷ t.forth ∷ t.back ∷ [])) (tunnel s.b s.c s.a s.d r0 r1 r2 r3)
+    left = with_faces (without_faces m (s.left_face ∷ s.right_face ∷ t.left_face ∷ t.right_face ∷ [])) (tunnel s.b s.c s.a s.d r0 r1 r2 r3)
 
     turn_is_sound : is_over_limits (zip_mesh m s t 0) ≡ false → doubles_a_face left ≡ false → IsSound left
     turn_is_sound fits none =
-        let base = without_faces m (s.forth ∷ s.back ∷ t.forth ∷ t.back ∷ []) in
+        let base = without_faces m (s.left_face ∷ s.right_face ∷ t.left_face ∷ t.right_face ∷ []) in
         let below = bare_below m s t sound beside_s beside_t apart in
         let same : finite.len left.faces ≡ finite.len (zip_mesh m s t 0).faces =
         len-with_faces base (tunnel s.b s.c s.a s.d r0 r1 r2 r3) below ∙ sym (len-with_faces base (tunnel s.b s.c s.a s.d t.b t.d t.a t.c) below) in
         record {
-          is_mesh = mesh-with_many base (tunnel s.b s.c s.a s.d r0 r1 r2 r3) (mesh-without_faces m (s.forth ∷ s.back ∷ t.forth ∷ t.back ∷ []) sound.is_mesh) sound.limits.face_ids.0
+          is_mesh = mesh-with_many base (tunnel s.b s.c s.a s.d r0 r1 r2 r3) (mesh-without_faces m (s.left_face ∷ s.right_face ∷ t.left_face ∷ t.right_face ∷ []) sound.is_mesh) sound.limits.face_ids.0
               (may_be_made s.b s.c s.a s.d r0 r1 r2 r3 first_rim r f0 f1 f2 f3 base
               (record { first = first_live.first; second = first_live.second; third = first_live.third; fourth = first_live.fourth })
               (record { first = live.first; second = live.second; third = live.third; fourth = live.fourth })) none;

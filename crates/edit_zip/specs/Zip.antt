@@ -49,7 +49,7 @@ two_faces p r turn i =
 -- the four faces at the edges are dropped, and the eight of the turn are made
 abbrev pub zip_mesh : Mesh → Edge → Edge → ℕ → Mesh
 zip_mesh m s t turn =
-    with_faces (without_faces m (s.forth ∷ s.back ∷ t.forth ∷ t.back ∷ []))
+    with_faces (without_faces m (s.left_face ∷ s.right_face ∷ t.left_face ∷ t.right_face ∷ []))
     (flat_map (λ i. two_faces (first_rim s) (second_rim t) turn i) turns)
 
 abbrev pub square : Triple → ℤ

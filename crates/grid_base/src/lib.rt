@@ -21,18 +21,18 @@ pub use pair_positions::Positions;
 pub use vector::{Wide, orient};
 
 /// The greatest size of a point's coordinate.
-pub const BOX: u32 = 67_108_864;
+pub const BOX: u32 = 268_435_456;
 /// The greatest size of a shift's component.
-pub const SHIFT_MAX: u32 = 134_217_728;
+pub const SHIFT_MAX: u32 = 536_870_912;
 /// The greatest size of a position in half units.
-pub const HALF_MAX: u32 = 134_217_728;
+pub const HALF_MAX: u32 = 536_870_912;
 /// The greatest size of a corner of an extent, in half units.
-pub const EXTENT_MAX: u32 = 268_435_456;
+pub const EXTENT_MAX: u32 = 1_073_741_824;
 /// The greatest length that a pass over edges may be given.
-pub const LENGTH_MAX: u32 = 268_435_456;
+pub const LENGTH_MAX: u32 = 1_073_741_824;
 /// The greatest depth of time halving.
-pub const DEPTH_MAX: u8 = 12;
-/// The greatest number of halvings of a shift. That many leave nothing of the greatest one but its sign.
+pub const DEPTH_MAX: u8 = 10;
+/// The greatest number of halvings of a shift.
 pub const HALVINGS_MAX: u8 = 27;
 
 /// The greatest number of decimals of a coordinate that is read or written.

@@ -9,3 +9,4 @@ pub mod Decimals
 pub mod FixedAgain
 pub mod WordPuts
 pub mod WrittenAgain
+pub mod ReadSteps

@@ -30,6 +30,9 @@ pub enum TextWhy {
     /// A line that would go on in the next.
     #[error("a line is continued")]
     Continuation = 7,
+    /// A group that would lie too deep or is never closed, or a close of none.
+    #[error("groups are not nested")]
+    Nesting = 8,
 }
 
 /// The first line that is outside the grammar, by its number from 1, and why.

@@ -10,7 +10,7 @@ use Rattle.line_text.specs.Numbers.{number, number_after, number_within, is_digi
 use Rattle.line_text.specs.Spellings.{spelled_number, spelled_parts, negated_size}
 use Rattle.line_text.proofs.Rounding.{number_after-append}
 use Rattle.line_text.proofs.Decimals.{Writes-decimal, number_within-decimal, no_zero}
-use Rattle.log_text.proofs.Steps.{some_same, by_test}
+use Rattle.line_text.proofs.ReadSteps.{some_same, by_test}
 
 record Canonical (word : List ℕ) : Type 0 where
   digits : list_all is_digit word ≡ true

@@ -24,11 +24,11 @@ use Rattle.log_text.specs.Fields.{Reader, both}
 use Rattle.log_text.specs.Lines.{line_words, pair_words, point_words, place_words, places_words, pass_words, asked_words, reason_words}
 use Rattle.log_text.specs.Values.{edge_at, position_at, place_at, reason_of, reason_at}
 use Rattle.log_text.specs.EditLines.{pass_of, split_of, flip_of, collapse_of, zip_of, reason_with_end, asked_of, no_of, edit_of, at_least, ids_add, block_of, places_add, first_place, pinch_of}
-use Rattle.log_text.specs.Laws.{IsFrom, IsEdgeInRange, IsPassInRange, IsChangeInRange, IsAskedInRange, IsReasonInRange, IsInRange}
-use Rattle.log_text.proofs.Steps.{bound, ok_same, picked, fault_value}
+use Rattle.log_text.specs.Laws.{IsFrom, IsEdgeInRange, IsPassInRange, IsChangeInRange, IsAskedInRange, IsReasonOfVersion, IsInRange}
+use Rattle.line_text.proofs.ReadSteps.{bound, ok_same, picked, fault_value}
 use Rattle.log_text.proofs.Exactness.{IsExact, count_with_end-length, count_with_end-back, spelled_at-exact}
 use Rattle.log_text.proofs.Spellings.{both-exact, one}
-use Rattle.log_text.proofs.EditSpellings.{Edge, edge_words, EdgeFits, edge_at-exact, position_at-exact, PlaceFits, place_at-exact, reason_at-exact}
+use Rattle.log_text.proofs.EditSpellings.{Edge, edge_words, EdgeFits, edge_at-exact, position_at-exact, PlaceFits, place_at-exact, ReasonFits, reason_at-exact}
 use Rattle.log_text.proofs.Lists.{at_least-length, at_least-back, ids_add-back, ids_add-forth, places_add-back, places_add-forth, first_place-back, first_place-forth}
 use Rattle.log_text.proofs.LineForms.{IsSpelling, again, spelled, alone_again, alone_spelled, one_again, one_spelled}
 
@@ -119,16 +119,17 @@ zip_back version ended words l h = spelled (both edge_at (both edge_at (spelled_
 
 -- ---- edits that are not done
 
-reason_with_end-forth : (w : Why) → reason_with_end true (reason_words w) ≡ Ok tt
+reason_with_end-forth : (version : ℕ) (w : Why) → IsReasonOfVersion version w → reason_with_end version true (reason_words w) ≡ Ok tt
 unfolding reason_with_end reason_of
-reason_with_end-forth reason.NoEdge = count_with_end-length 0 [] refl
-reason_with_end-forth reason.Crowded = count_with_end-length 0 [] refl
-reason_with_end-forth reason.Edge = count_with_end-length 0 [] refl
-reason_with_end-forth reason.Shared = count_with_end-length 0 [] refl
-reason_with_end-forth reason.Full = count_with_end-length 0 [] refl
-reason_with_end-forth reason.Doubled = count_with_end-length 0 [] refl
-reason_with_end-forth reason.OneFan = count_with_end-length 0 [] refl
-reason_with_end-forth (reason.Hit pair) = count_with_end-length 3 (pair_words pair) refl
+reason_with_end-forth version reason.NoEdge o = count_with_end-length 0 [] refl
+reason_with_end-forth version reason.Crowded o = count_with_end-length 0 [] refl
+reason_with_end-forth version reason.Edge o = count_with_end-length 0 [] refl
+reason_with_end-forth version reason.Shared o = count_with_end-length 0 [] refl
+reason_with_end-forth version reason.Full o = count_with_end-length 0 [] refl
+reason_with_end-forth version reason.Doubled o = count_with_end-length 0 [] refl
+reason_with_end-forth version reason.OneFan o = count_with_end-length 0 [] refl
+reason_with_end-forth version (reason.Hit pair) o = count_with_end-length 3 (pair_words pair) refl
+reason_with_end-forth version reason.Solid o = let P : ℕ → Type 0 = λ n. reason_with_end n true (codes "solid" ∷ []) ≡ Ok tt in subst P (sym o) (count_with_end-length 0 [] refl)
 
 nothing : (ws : List (List ℕ)) → length ws ≡ 0 → ws ≡ []
 nothing [] e = refl
@@ -137,65 +138,66 @@ nothing (w ∷ ws) e = absurd (omega (arith, e))
 one_word : (ended : Bool) (rest : List (List ℕ)) (u : Unit {0}) → count_with_end ended 0 rest ≡ Ok u → (ended ≡ true) × (rest ≡ [])
 one_word ended rest u h = let c = count_with_end-back ended 0 rest u h in (c.0, nothing rest c.1)
 
-reason_with_end-back : (w : Why) (ended : Bool) (rest : List (List ℕ)) (u : Unit {0}) → reason_with_end ended (reason_words w ++ rest) ≡ Ok u → (ended ≡ true) × (rest ≡ [])
+reason_with_end-back : (version : ℕ) (w : Why) → IsReasonOfVersion version w → (ended : Bool) (rest : List (List ℕ)) (u : Unit {0}) → reason_with_end version ended (reason_words w ++ rest) ≡ Ok u → (ended ≡ true) × (rest ≡ [])
 unfolding reason_with_end reason_of
-reason_with_end-back reason.NoEdge ended rest u h = one_word ended rest u h
-reason_with_end-back reason.Crowded ended rest u h = one_word ended rest u h
-reason_with_end-back reason.Edge ended rest u h = one_word ended rest u h
-reason_with_end-back reason.Shared ended rest u h = one_word ended rest u h
-reason_with_end-back reason.Full ended rest u h = one_word ended rest u h
-reason_with_end-back reason.Doubled ended rest u h = one_word ended rest u h
-reason_with_end-back reason.OneFan ended rest u h = one_word ended rest u h
-reason_with_end-back (reason.Hit pair) ended rest u h = let c = count_with_end-back ended 3 (pair_words pair ++ rest) u h in (c.0, nothing rest (omega (arith, c.1)))
+reason_with_end-back version reason.NoEdge o ended rest u h = one_word ended rest u h
+reason_with_end-back version reason.Crowded o ended rest u h = one_word ended rest u h
+reason_with_end-back version reason.Edge o ended rest u h = one_word ended rest u h
+reason_with_end-back version reason.Shared o ended rest u h = one_word ended rest u h
+reason_with_end-back version reason.Full o ended rest u h = one_word ended rest u h
+reason_with_end-back version reason.Doubled o ended rest u h = one_word ended rest u h
+reason_with_end-back version reason.OneFan o ended rest u h = one_word ended rest u h
+reason_with_end-back version (reason.Hit pair) o ended rest u h = let c = count_with_end-back ended 3 (pair_words pair ++ rest) u h in (c.0, nothing rest (omega (arith, c.1)))
+reason_with_end-back version reason.Solid o ended rest u h = let P : ℕ → Type 0 = λ n. reason_with_end n ended (codes "solid" ∷ rest) ≡ Ok u in one_word ended rest u (subst P o h)
 
 drop_front : (xs ys : List (List ℕ)) → drop (length xs) (xs ++ ys) ≡ ys
 drop_front [] ys = refl
 drop_front (x ∷ xs) ys = drop_front xs ys
 
-module _ {A : Type 0} (count : ℕ) (read : Reader A) (wa : A → List (List ℕ)) (R : A → Type 0) (f : IsExact read wa R) (long : (a : A) → length (wa a) ≡ count) where
+module _ {A : Type 0} (version count : ℕ) (read : Reader A) (wa : A → List (List ℕ)) (R : A → Type 0) (f : IsExact read wa R) (long : (a : A) → length (wa a) ≡ count) where
   abbrev Pair : Type 0
   Pair = A × Why
 
-  with_reason-exact : IsExact (both read reason_at) (λ (p : Pair). wa p.0 ++ reason_words p.1) (λ p. R p.0 × IsReasonInRange p.1)
-  with_reason-exact = both-exact read reason_at wa reason_words R IsReasonInRange f reason_at-exact
+  with_reason-exact : IsExact (both read (reason_at version)) (λ (p : Pair). wa p.0 ++ reason_words p.1) (λ p. R p.0 × ReasonFits version p.1)
+  with_reason-exact = both-exact read (reason_at version) wa reason_words R (ReasonFits version) f (reason_at-exact version)
 
   behind : (a : A) (words : List (List ℕ)) → drop count (wa a ++ words) ≡ words
   behind a words = ap (λ n. drop n (wa a ++ words)) (sym (long a)) ∙ drop_front (wa a) words
 
-  asked_again : (a : A) (w : Why) → R a → IsReasonInRange w → asked_of true count read (wa a ++ reason_words w) ≡ Ok (a, w)
+  asked_again : (a : A) (w : Why) → R a → ReasonFits version w → asked_of version true count read (wa a ++ reason_words w) ≡ Ok (a, w)
   unfolding asked_of
   asked_again a w r q =
-      let counted : reason_with_end true (drop count (wa a ++ reason_words w)) ≡ Ok tt = ap (reason_with_end true) (behind a (reason_words w)) ∙ reason_with_end-forth w in
-      let found : both read reason_at (wa a ++ reason_words w) ≡ Ok ((a, w), []) = ap (both read reason_at) (sym (append-nil (wa a ++ reason_words w))) ∙ with_reason-exact.forth (a, w) [] (r, q) in
+      let counted : reason_with_end version true (drop count (wa a ++ reason_words w)) ≡ Ok tt = ap (reason_with_end version true) (behind a (reason_words w)) ∙ reason_with_end-forth version w q.1 in
+      let found : both read (reason_at version) (wa a ++ reason_words w) ≡ Ok ((a, w), []) = ap (both read (reason_at version)) (sym (append-nil (wa a ++ reason_words w))) ∙ with_reason-exact.forth (a, w) [] (r, q) in
       rw (counted, found) refl
 
   record AskedSpelled (ended : Bool) (words : List (List ℕ)) (p : Pair) : Type 0 where
     has_end : ended ≡ true
     same : words ≡ wa p.0 ++ reason_words p.1
     fits : R p.0
-    reason_fits : IsReasonInRange p.1
+    reason_fits : ReasonFits version p.1
 
-  asked_back : (ended : Bool) (words : List (List ℕ)) (p : Pair) → asked_of ended count read words ≡ Ok p → AskedSpelled ended words p
+  asked_back : (ended : Bool) (words : List (List ℕ)) (p : Pair) → asked_of version ended count read words ≡ Ok p → AskedSpelled ended words p
   unfolding asked_of
   asked_back ended words p h =
-      let c = bound (reason_with_end ended (drop count words)) (λ (u : Unit {0}). both read reason_at words >>= λ found. Ok found.0) p h in
-      let x = bound (both read reason_at words) (λ (found : Pair × List (List ℕ)). Ok found.0) p c.after in
+      let c = bound (reason_with_end version ended (drop count words)) (λ (u : Unit {0}). both read (reason_at version) words >>= λ found. Ok found.0) p h in
+      let x = bound (both read (reason_at version) words) (λ (found : Pair × List (List ℕ)). Ok found.0) p c.after in
       let b = with_reason-exact.back words x.value.0 x.value.1 x.first in
       let front = wa x.value.0.0 in
       let reason = reason_words x.value.0.1 in
       let cut : drop count words ≡ reason ++ x.value.1 = ap (drop count) (b.0 ∙ append_assoc front reason x.value.1) ∙ behind x.value.0.0 (reason ++ x.value.1) in
-      let n = reason_with_end-back x.value.0.1 ended x.value.1 c.value (ap (reason_with_end ended) (sym cut) ∙ c.first) in
+      let n = reason_with_end-back version x.value.0.1 b.1.1.1 ended x.value.1 c.value (ap (reason_with_end version ended) (sym cut) ∙ c.first) in
       let here : AskedSpelled ended words x.value.0 = record { has_end = n.0; same = b.0 ∙ ap (λ (t : List (List ℕ)). (front ++ reason) ++ t) n.1 ∙ append-nil (front ++ reason); fits = b.1.0; reason_fits = b.1.1 } in
       subst (AskedSpelled ended words) (ok_same x.value.0 p x.after) here
 
-  no_spelled : (version : ℕ) (make : A → Asked) (word : List ℕ) → ((a : A) → asked_words (make a) ≡ word ∷ wa a) → ((a : A) → R a → IsAskedInRange (make a)) → (ended : Bool) (words : List (List ℕ)) (l : LogLine) → (asked_of ended count read words >>= λ n. Ok (line.No (make n.0) n.1)) ≡ Ok l → IsSpelling version ended (codes "no" ∷ word ∷ words) l
-  no_spelled version make word asked_is in_range ended words l h =
-      let b = bound (asked_of ended count read words) (λ (n : Pair). Ok (line.No (make n.0) n.1)) l h in
+  no_spelled : (make : A → Asked) (word : List ℕ) → ((a : A) → asked_words (make a) ≡ word ∷ wa a) → ((a : A) → R a → IsAskedInRange (make a)) → (ended : Bool) (words : List (List ℕ)) (l : LogLine) → (asked_of version ended count read words >>= λ n. Ok (line.No (make n.0) n.1)) ≡ Ok l → IsSpelling version ended (codes "no" ∷ word ∷ words) l
+  no_spelled make word asked_is in_range ended words l h =
+      let b = bound (asked_of version ended count read words) (λ (n : Pair). Ok (line.No (make n.0) n.1)) l h in
       let s = asked_back ended words b.value b.first in
       let reason = reason_words b.value.1 in
       let same : line_words (line.No (make b.value.0) b.value.1) ≡ codes "no" ∷ word ∷ words =
       ap (λ (t : List (List ℕ)). codes "no" ∷ (t ++ reason)) (asked_is b.value.0) ∙ ap (λ (t : List (List ℕ)). codes "no" ∷ word ∷ t) (sym s.same) in
-      let here : IsSpelling version ended (codes "no" ∷ word ∷ words) (line.No (make b.value.0) b.value.1) = record { has_end = s.has_end; same = same; fits = (in_range b.value.0 s.fits, s.reason_fits); of_version = tt } in
+      let here : IsSpelling version ended (codes "no" ∷ word ∷ words) (line.No (make b.value.0) b.value.1) = record { has_end = s.has_end; same = same; fits = (in_range b.value.0 s.fits, s.reason_fits.0); of_version = s.reason_fits.1 } in
       subst (IsSpelling version ended (codes "no" ∷ word ∷ words)) (ok_same (line.No (make b.value.0) b.value.1) l b.after) here
 
 abbrev Edges : Type 0
@@ -216,30 +218,30 @@ vertex_exact = spelled_at-exact 1 ID_MAX (lit< tt)
 abbrev no_line : {A : Type 0} → (A → Asked) → Result (A × Why) TextWhy → Result LogLine TextWhy
 no_line make found = found >>= λ n. Ok (line.No (make n.0) n.1)
 
-pub no_again : (what : Asked) (w : Why) → IsAskedInRange what × IsReasonInRange w → no_of true (asked_words what ++ reason_words w) ≡ Ok (line.No what w)
+pub no_again : (version : ℕ) (what : Asked) (w : Why) → IsAskedInRange what × ReasonFits version w → no_of version true (asked_words what ++ reason_words w) ≡ Ok (line.No what w)
 unfolding no_of
-no_again (asked.Split a b) w r = ap (no_line (λ (e : Edge). asked.Split e.0 e.1)) (asked_again 2 edge_at edge_words EdgeFits edge_at-exact (λ e. refl) (a, b) w r.0 r.1)
-no_again (asked.Flip a b) w r = ap (no_line (λ (e : Edge). asked.Flip e.0 e.1)) (asked_again 2 edge_at edge_words EdgeFits edge_at-exact (λ e. refl) (a, b) w r.0 r.1)
-no_again (asked.Collapse a b) w r = ap (no_line (λ (e : Edge). asked.Collapse e.0 e.1)) (asked_again 2 edge_at edge_words EdgeFits edge_at-exact (λ e. refl) (a, b) w r.0 r.1)
-no_again (asked.Zip a b e f) w r = ap (no_line (λ (p : Edges). asked.Zip p.0.0 p.0.1 p.1.0 p.1.1)) (asked_again 4 (both edge_at edge_at) edges_words EdgesFit edges_exact (λ e. refl) ((a, b), (e, f)) w r.0 r.1)
-no_again (asked.Pinch v) w r = ap (no_line asked.Pinch) (asked_again 1 (spelled_at 1 ID_MAX) one (IsFrom 1 ID_MAX) vertex_exact (λ v. refl) v w r.0 r.1)
+no_again version (asked.Split a b) w r = ap (no_line (λ (e : Edge). asked.Split e.0 e.1)) (asked_again version 2 edge_at edge_words EdgeFits edge_at-exact (λ e. refl) (a, b) w r.0 r.1)
+no_again version (asked.Flip a b) w r = ap (no_line (λ (e : Edge). asked.Flip e.0 e.1)) (asked_again version 2 edge_at edge_words EdgeFits edge_at-exact (λ e. refl) (a, b) w r.0 r.1)
+no_again version (asked.Collapse a b) w r = ap (no_line (λ (e : Edge). asked.Collapse e.0 e.1)) (asked_again version 2 edge_at edge_words EdgeFits edge_at-exact (λ e. refl) (a, b) w r.0 r.1)
+no_again version (asked.Zip a b e f) w r = ap (no_line (λ (p : Edges). asked.Zip p.0.0 p.0.1 p.1.0 p.1.1)) (asked_again version 4 (both edge_at edge_at) edges_words EdgesFit edges_exact (λ e. refl) ((a, b), (e, f)) w r.0 r.1)
+no_again version (asked.Pinch v) w r = ap (no_line asked.Pinch) (asked_again version 1 (spelled_at 1 ID_MAX) one (IsFrom 1 ID_MAX) vertex_exact (λ v. refl) v w r.0 r.1)
 
-no_back : (version : ℕ) (ended : Bool) (words : List (List ℕ)) (l : LogLine) → no_of ended words ≡ Ok l → IsSpelling version ended (codes "no" ∷ words) l
+no_back : (version : ℕ) (ended : Bool) (words : List (List ℕ)) (l : LogLine) → no_of version ended words ≡ Ok l → IsSpelling version ended (codes "no" ∷ words) l
 unfolding no_of
 no_back version ended [] l h = fault_value why.Short l h
 no_back version ended (edit ∷ words) l h =
     let P : List ℕ → Type 0 = λ w. IsSpelling version ended (codes "no" ∷ w ∷ words) l in
-    picked P edit (codes "split") _ _ (Ok l) (no_spelled 2 edge_at edge_words EdgeFits edge_at-exact (λ e. refl) version (λ (e : Edge). asked.Split e.0 e.1) (codes "split") (λ e. refl) (λ e r. r) ended words l)
-    (picked P edit (codes "flip") _ _ (Ok l) (no_spelled 2 edge_at edge_words EdgeFits edge_at-exact (λ e. refl) version (λ (e : Edge). asked.Flip e.0 e.1) (codes "flip") (λ e. refl) (λ e r. r) ended words l)
-    (picked P edit (codes "collapse") _ _ (Ok l) (no_spelled 2 edge_at edge_words EdgeFits edge_at-exact (λ e. refl) version (λ (e : Edge). asked.Collapse e.0 e.1) (codes "collapse") (λ e. refl) (λ e r. r) ended words l)
-    (picked P edit (codes "zip") _ _ (Ok l) (no_spelled 4 (both edge_at edge_at) edges_words EdgesFit edges_exact (λ e. refl) version (λ (p : Edges). asked.Zip p.0.0 p.0.1 p.1.0 p.1.1) (codes "zip") (λ e. refl) (λ e r. r) ended words l)
-    (picked P edit (codes "pinch") _ _ (Ok l) (no_spelled 1 (spelled_at 1 ID_MAX) one (IsFrom 1 ID_MAX) vertex_exact (λ v. refl) version asked.Pinch (codes "pinch") (λ v. refl) (λ v r. r) ended words l)
+    picked P edit (codes "split") _ _ (Ok l) (no_spelled version 2 edge_at edge_words EdgeFits edge_at-exact (λ e. refl) (λ (e : Edge). asked.Split e.0 e.1) (codes "split") (λ e. refl) (λ e r. r) ended words l)
+    (picked P edit (codes "flip") _ _ (Ok l) (no_spelled version 2 edge_at edge_words EdgeFits edge_at-exact (λ e. refl) (λ (e : Edge). asked.Flip e.0 e.1) (codes "flip") (λ e. refl) (λ e r. r) ended words l)
+    (picked P edit (codes "collapse") _ _ (Ok l) (no_spelled version 2 edge_at edge_words EdgeFits edge_at-exact (λ e. refl) (λ (e : Edge). asked.Collapse e.0 e.1) (codes "collapse") (λ e. refl) (λ e r. r) ended words l)
+    (picked P edit (codes "zip") _ _ (Ok l) (no_spelled version 4 (both edge_at edge_at) edges_words EdgesFit edges_exact (λ e. refl) (λ (p : Edges). asked.Zip p.0.0 p.0.1 p.1.0 p.1.1) (codes "zip") (λ e. refl) (λ e r. r) ended words l)
+    (picked P edit (codes "pinch") _ _ (Ok l) (no_spelled version 1 (spelled_at 1 ID_MAX) one (IsFrom 1 ID_MAX) vertex_exact (λ v. refl) asked.Pinch (codes "pinch") (λ v. refl) (λ v r. r) ended words l)
     (fault_value why.Unknown l)))))
     h
 
 -- ---- lines by their first word
 
-pub edit_back : (version : ℕ) (ended : Bool) (first : List ℕ) (words : List (List ℕ)) (l : LogLine) → edit_of ended first words ≡ Ok l → IsSpelling version ended (first ∷ words) l
+pub edit_back : (version : ℕ) (ended : Bool) (first : List ℕ) (words : List (List ℕ)) (l : LogLine) → edit_of version ended first words ≡ Ok l → IsSpelling version ended (first ∷ words) l
 unfolding edit_of
 edit_back version ended first words l h =
     let P : List ℕ → Type 0 = λ w. IsSpelling version ended (w ∷ words) l in

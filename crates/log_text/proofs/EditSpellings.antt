@@ -1,7 +1,8 @@
 -- The values of the lines that tell of edits are read exactly.
-use Rattle.std.proofs.Common.{◌≡◌, ℕ, ◌+◌, List, [], ◌∷◌, ◌++◌, Option, Some, None, Result, Ok, ℤ, refl, ap, subst, lit<}
+use Rattle.std.proofs.Common.{◌≡◌, ℕ, ◌+◌, List, [], ◌∷◌, ◌++◌, Option, Some, None, Result, Ok, ℤ, refl, sym, ap, subst, lit<}
 use Rattle.std.specs.Prelude.{decimal, codes}
 use Rattle.std.specs.Fmt.{signed_decimal}
+use Rattle.std.proofs.lemmas.Bool.{eqb-true}
 use Rattle.edit_base.specs.declared.CopyAt.{CopyAt}
 use Rattle.edit_base.specs.declared.Why.{Why}
 use Rattle.edit_base.specs.declared.Why.TheVariants as reason
@@ -16,9 +17,10 @@ use Rattle.line_text.specs.Spellings.{spelled_at, spelled_signed_at}
 use Rattle.mesh_base.specs.declared.PairName.{PairName}
 use Rattle.log_text.specs.Fields.{both, or_number}
 use Rattle.log_text.specs.Lines.{point_words, place_words, reason_words}
-use Rattle.log_text.specs.Values.{pair_at, edge_at, position_at, place_at, reason_of, reason_at}
-use Rattle.log_text.specs.Laws.{IsFrom, IsEdgeInRange, IsReasonInRange}
-use Rattle.log_text.proofs.Steps.{bound, ok_same, some_same, picked}
+use Rattle.log_text.specs.declared.TheConstants.{VERSION}
+use Rattle.log_text.specs.Values.{is_latest, pair_at, edge_at, position_at, place_at, reason_of, reason_at}
+use Rattle.log_text.specs.Laws.{IsFrom, IsEdgeInRange, IsReasonInRange, IsReasonOfVersion}
+use Rattle.line_text.proofs.ReadSteps.{bound, ok_same, some_same, picked, picked_if}
 use Rattle.log_text.proofs.Exactness.{IsExact, or_number-some, spelled_at-exact, in_turn-exact, made-exact}
 use Rattle.log_text.proofs.Spellings.{one, both-exact, components, AreWithin, pair_at-exact}
 
@@ -65,56 +67,61 @@ place_at-exact = made-exact (both (spelled_at 1 ID_MAX) position_at) (λ p. deci
 
 -- ---- reasons
 
+abbrev pub ReasonFits : ℕ → Why → Type 0
+ReasonFits version w = IsReasonInRange w × IsReasonOfVersion version w
+
 -- a reason of one word
-pub reason_of-some : (word : List ℕ) (w : Why) → reason_of word ≡ Some w → (word ∷ [] ≡ reason_words w) × IsReasonInRange w
+pub reason_of-some : (version : ℕ) (word : List ℕ) (w : Why) → reason_of version word ≡ Some w → (word ∷ [] ≡ reason_words w) × ReasonFits version w
 unfolding reason_of
-reason_of-some word w h =
-    let P : List ℕ → Type 0 = λ t. (t ∷ [] ≡ reason_words w) × IsReasonInRange w in
-    let Q : List ℕ → Why → Type 0 = λ t v. (t ∷ [] ≡ reason_words v) × IsReasonInRange v in
+reason_of-some version word w h =
+    let P : List ℕ → Type 0 = λ t. (t ∷ [] ≡ reason_words w) × ReasonFits version w in
+    let Q : List ℕ → Why → Type 0 = λ t v. (t ∷ [] ≡ reason_words v) × ReasonFits version v in
     let here : (v : Why) (t : List ℕ) → Q t v → ◌≡◌ {A = Option Why} (Some v) (Some w) → P t = λ v t q e. subst (Q t) (some_same v w e) q in
-    picked P word (codes "noedge") (Some reason.NoEdge) _ (Some w) (here reason.NoEdge (codes "noedge") (refl, tt))
-    (picked P word (codes "crowded") (Some reason.Crowded) _ (Some w) (here reason.Crowded (codes "crowded") (refl, tt))
-    (picked P word (codes "edge") (Some reason.Edge) _ (Some w) (here reason.Edge (codes "edge") (refl, tt))
-    (picked P word (codes "shared") (Some reason.Shared) _ (Some w) (here reason.Shared (codes "shared") (refl, tt))
-    (picked P word (codes "full") (Some reason.Full) _ (Some w) (here reason.Full (codes "full") (refl, tt))
-    (picked P word (codes "doubled") (Some reason.Doubled) _ (Some w) (here reason.Doubled (codes "doubled") (refl, tt))
-    (picked P word (codes "onefan") (Some reason.OneFan) None (Some w) (here reason.OneFan (codes "onefan") (refl, tt))
-    (λ e. absurd (let no : ⊥ = cc in no))))))))
+    picked P word (codes "noedge") (Some reason.NoEdge) _ (Some w) (here reason.NoEdge (codes "noedge") (refl, (tt, tt)))
+    (picked P word (codes "crowded") (Some reason.Crowded) _ (Some w) (here reason.Crowded (codes "crowded") (refl, (tt, tt)))
+    (picked P word (codes "edge") (Some reason.Edge) _ (Some w) (here reason.Edge (codes "edge") (refl, (tt, tt)))
+    (picked P word (codes "shared") (Some reason.Shared) _ (Some w) (here reason.Shared (codes "shared") (refl, (tt, tt)))
+    (picked P word (codes "full") (Some reason.Full) _ (Some w) (here reason.Full (codes "full") (refl, (tt, tt)))
+    (picked P word (codes "doubled") (Some reason.Doubled) _ (Some w) (here reason.Doubled (codes "doubled") (refl, (tt, tt)))
+    (picked P word (codes "onefan") (Some reason.OneFan) _ (Some w) (here reason.OneFan (codes "onefan") (refl, (tt, tt)))
+    (picked_if P word (codes "solid") (is_latest version) (Some reason.Solid) None (Some w) (λ t. here reason.Solid (codes "solid") (refl, (tt, eqb-true version VERSION t)))
+    (λ e. absurd (let no : ⊥ = cc in no)))))))))
     h
 
 abbrev Found : Type 0
 Found = Why × List (List ℕ)
 
-reason_at-back : (words : List (List ℕ)) (w : Why) (rest : List (List ℕ)) → reason_at words ≡ Ok (w, rest) → (words ≡ reason_words w ++ rest) × IsReasonInRange w
+reason_at-back : (version : ℕ) (words : List (List ℕ)) (w : Why) (rest : List (List ℕ)) → reason_at version words ≡ Ok (w, rest) → (words ≡ reason_words w ++ rest) × ReasonFits version w
 unfolding reason_at
-reason_at-back [] w rest h = absurd (let no : ⊥ = cc in no)
-reason_at-back (word ∷ words) w rest h =
-    let P : List ℕ → Type 0 = λ t. (t ∷ words ≡ reason_words w ++ rest) × IsReasonInRange w in
-    picked P word (codes "hit") (pair_at words >>= λ pair. Ok (reason.Hit pair.0, pair.1)) (or_number (reason_of word) >>= λ found. Ok (found, words)) (Ok (w, rest))
+reason_at-back version [] w rest h = absurd (let no : ⊥ = cc in no)
+reason_at-back version (word ∷ words) w rest h =
+    let P : List ℕ → Type 0 = λ t. (t ∷ words ≡ reason_words w ++ rest) × ReasonFits version w in
+    picked P word (codes "hit") (pair_at words >>= λ pair. Ok (reason.Hit pair.0, pair.1)) (or_number (reason_of version word) >>= λ found. Ok (found, words)) (Ok (w, rest))
     (λ e.
     let b = bound (pair_at words) (λ (pair : PairName × List (List ℕ)). Ok (reason.Hit pair.0, pair.1)) (w, rest) e in
     let same : ◌≡◌ {A = Found} (reason.Hit b.value.0, b.value.1) (w, rest) = ok_same (reason.Hit b.value.0, b.value.1) (w, rest) b.after in
     let back = pair_at-exact.back words b.value.0 b.value.1 b.first in
-    let Q : Found → Type 0 = λ f. (codes "hit" ∷ words ≡ reason_words f.0 ++ f.1) × IsReasonInRange f.0 in
-    subst Q same (ap (λ (t : List (List ℕ)). codes "hit" ∷ t) back.0, back.1))
+    let Q : Found → Type 0 = λ f. (codes "hit" ∷ words ≡ reason_words f.0 ++ f.1) × ReasonFits version f.0 in
+    subst Q same (ap (λ (t : List (List ℕ)). codes "hit" ∷ t) back.0, (back.1, tt)))
     (λ e.
-    let b = bound (or_number (reason_of word)) (λ (found : Why). Ok (found, words)) (w, rest) e in
+    let b = bound (or_number (reason_of version word)) (λ (found : Why). Ok (found, words)) (w, rest) e in
     let same : ◌≡◌ {A = Found} (b.value, words) (w, rest) = ok_same (b.value, words) (w, rest) b.after in
-    let some = reason_of-some word b.value (or_number-some (reason_of word) b.value b.first) in
-    let Q : Found → Type 0 = λ f. (word ∷ words ≡ reason_words f.0 ++ f.1) × IsReasonInRange f.0 in
+    let some = reason_of-some version word b.value (or_number-some (reason_of version word) b.value b.first) in
+    let Q : Found → Type 0 = λ f. (word ∷ words ≡ reason_words f.0 ++ f.1) × ReasonFits version f.0 in
     subst Q same (ap (λ (t : List (List ℕ)). t ++ words) some.0, some.1))
     h
 
-reason_at-forth : (w : Why) (words : List (List ℕ)) → IsReasonInRange w → reason_at (reason_words w ++ words) ≡ Ok (w, words)
+reason_at-forth : (version : ℕ) (w : Why) (words : List (List ℕ)) → ReasonFits version w → reason_at version (reason_words w ++ words) ≡ Ok (w, words)
 unfolding reason_at reason_of
-reason_at-forth reason.NoEdge words r = refl
-reason_at-forth reason.Crowded words r = refl
-reason_at-forth reason.Edge words r = refl
-reason_at-forth reason.Shared words r = refl
-reason_at-forth reason.Full words r = refl
-reason_at-forth reason.Doubled words r = refl
-reason_at-forth reason.OneFan words r = refl
-reason_at-forth (reason.Hit pair) words r = ap (λ (found : Result (PairName × List (List ℕ)) TextWhy). found >>= λ pair. Ok (reason.Hit pair.0, pair.1)) (pair_at-exact.forth pair words r)
+reason_at-forth version reason.NoEdge words r = refl
+reason_at-forth version reason.Crowded words r = refl
+reason_at-forth version reason.Edge words r = refl
+reason_at-forth version reason.Shared words r = refl
+reason_at-forth version reason.Full words r = refl
+reason_at-forth version reason.Doubled words r = refl
+reason_at-forth version reason.OneFan words r = refl
+reason_at-forth version (reason.Hit pair) words r = ap (λ (found : Result (PairName × List (List ℕ)) TextWhy). found >>= λ pair. Ok (reason.Hit pair.0, pair.1)) (pair_at-exact.forth pair words r.0)
+reason_at-forth version reason.Solid words r = let P : ℕ → Type 0 = λ n. reason_at n (codes "solid" ∷ words) ≡ Ok (reason.Solid, words) in subst P (sym r.1) refl
 
-pub reason_at-exact : IsExact reason_at reason_words IsReasonInRange
-reason_at-exact = record { forth = reason_at-forth; back = reason_at-back }
+pub reason_at-exact : (version : ℕ) → IsExact (reason_at version) reason_words (ReasonFits version)
+reason_at-exact version = record { forth = reason_at-forth version; back = reason_at-back version }

@@ -11,7 +11,7 @@ use Rattle.line_text.specs.Numbers.{with_sign}
 use Rattle.line_text.specs.Spellings.{spelled_number, spelled_parts, spelled_from, spelled_up_to, spelled_at, spelled_signed_at, count_with_end}
 use Rattle.log_text.specs.Fields.{Reader, or_number, in_turn}
 use Rattle.log_text.specs.Values.{whole}
-use Rattle.log_text.proofs.Steps.{ok_same, bound, by_test, fault_value}
+use Rattle.line_text.proofs.ReadSteps.{ok_same, bound, by_test, fault_value}
 use Rattle.log_text.proofs.CanonicalDigits.{sign_of, spelled_number-some, spelled_number-decimal, spelled_parts-some, spelled_parts-decimal}
 
 -- ---- words that spell a number

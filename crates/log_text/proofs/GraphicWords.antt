@@ -1,5 +1,5 @@
 -- The words of a line hold no space and no LF, so a line is cut into them again.
-use Rattle.std.proofs.Common.{◌≡◌, ℕ, ◌+◌, ◌<◌, ◌≤◌, ◌^◌, true, false, eqb, leb, ltb, List, [], ◌∷◌, ◌++◌, length, ℤ, pos, negsuc, suc, refl, ap, ◌∙◌, arith, lit<}
+use Rattle.std.proofs.Common.{◌≡◌, ℕ, ◌+◌, ◌<◌, ◌≤◌, ◌^◌, Bool, true, false, eqb, leb, ltb, List, [], ◌∷◌, ◌++◌, length, ℤ, pos, negsuc, suc, refl, ap, ◌∙◌, arith, lit<}
 use Rattle.std.specs.Prelude.{decimal, codes, map, unsigned_abs, All}
 use Rattle.std.specs.Fmt.{signed_decimal}
 use Rattle.std.specs.List.{list_all, AllByRecursion, join_with_byte}
@@ -35,7 +35,7 @@ use Rattle.log_text.specs.declared.log_line.LogLine.{LogLine}
 use Rattle.log_text.specs.declared.log_line.LogLine.TheVariants as line
 use Rattle.log_text.specs.declared.log_line.Refusal.{Refusal}
 use Rattle.log_text.specs.declared.log_line.Refusal.TheVariants as refusal
-use Rattle.log_text.specs.Lines.{line_words, file_word, why_word, pair_words, how_words, shape_words, use_words, refusal_words, pass_words, point_words, place_words, places_words, change_words, asked_words, reason_words}
+use Rattle.log_text.specs.Lines.{line_words, file_word, kept_word, why_word, pair_words, how_words, shape_words, use_words, refusal_words, pass_words, point_words, place_words, places_words, change_words, asked_words, reason_words}
 use Rattle.line_text.specs.Spellings.{spaced_words}
 use Rattle.log_text.specs.Laws.{IsFrom, IsPairInRange, IsHowInRange, IsShapeInRange, IsUseInRange, IsRefusalInRange, IsEdgeInRange, AreRising, IsPassInRange, IsChangeInRange, IsAskedInRange, IsReasonInRange, IsInRange, IsOfVersion}
 
@@ -95,6 +95,7 @@ why_graphic why.Short = text (codes "short") refl
 why_graphic why.Long = text (codes "long") refl
 why_graphic why.Unknown = text (codes "unknown") refl
 why_graphic why.Continuation = text (codes "continuation") refl
+why_graphic why.Nesting = text (codes "nesting") refl
 
 pair_graphic : (p : PairName) → IsPairInRange p → AreGraphic (pair_words p)
 pair_graphic p r = (id p.a r.a, (id p.b r.b, (id p.face r.face, tt)))
@@ -119,11 +120,12 @@ use_graphic (using.NoVertex v) r = (text (codes "vertex") refl, (id v r, tt))
 use_graphic (using.ShiftRange v) r = (text (codes "range") refl, (id v r, tt))
 use_graphic (using.Box v) r = (text (codes "box") refl, (id v r, tt))
 use_graphic using.NoField r = (text (codes "field") refl, tt)
+use_graphic (using.Solid v) r = (text (codes "solid") refl, (id v r, tt))
 
 refusal_graphic : (w : Refusal) → IsRefusalInRange w → AreGraphic (refusal_words w)
 refusal_graphic (refusal.Long name n) r = (text (codes "long") refl, (file_graphic name, (seen n r, tt)))
 refusal_graphic (refusal.Missing name) r = (text (codes "missing") refl, (file_graphic name, tt))
-refusal_graphic (refusal.Mesh fault) r = (text (codes "mesh") refl, (count fault.line r, (why_graphic fault.why, tt)))
+refusal_graphic (refusal.Mesh fault) r = (text (codes "mesh") refl, (count fault.line r.0, (why_graphic fault.why, tt)))
 refusal_graphic (refusal.Shape fault) r = (text (codes "shape") refl, shape_graphic fault r)
 refusal_graphic (refusal.Meets pair) r = (text (codes "meets") refl, pair_graphic pair r)
 refusal_graphic (refusal.Steps fault) r = (text (codes "steps") refl, (count fault.line r, (why_graphic fault.why, tt)))
@@ -180,6 +182,11 @@ reason_graphic reason.Full r = (text (codes "full") refl, tt)
 reason_graphic reason.Doubled r = (text (codes "doubled") refl, tt)
 reason_graphic reason.OneFan r = (text (codes "onefan") refl, tt)
 reason_graphic (reason.Hit pair) r = (text (codes "hit") refl, pair_graphic pair r)
+reason_graphic reason.Solid r = (text (codes "solid") refl, tt)
+
+kept_graphic : (kept : Bool) → IsGraphic (kept_word kept)
+kept_graphic true = text (codes "kept") refl
+kept_graphic false = text (codes "undone") refl
 
 pub line_graphic : (version : ℕ) → version < 2 ^ 8 → (l : LogLine) → IsInRange l → IsOfVersion version l → AreGraphic (line_words l)
 line_graphic version small (line.First v) r e = (text (codes "topo") refl, (text (codes "log") refl, (number v (omega (arith, e)), tt)))
@@ -193,6 +200,9 @@ line_graphic version small (line.Pass kind) r e = (text (codes "pass") refl, pas
 line_graphic version small (line.Did done) r e = change_graphic done r
 line_graphic version small (line.No what w) r e = (text (codes "no") refl, graphic-append (asked_words what) (reason_words w) (asked_graphic what r.0) (reason_graphic w r.1))
 line_graphic version small (line.Refused w) r e = (text (codes "refused") refl, refusal_graphic w r)
+line_graphic version small (line.Solid v) r e = (text (codes "solid") refl, (id v r, tt))
+line_graphic version small line.Group r e = (text (codes "group") refl, tt)
+line_graphic version small (line.Close kept) r e = (text (codes "close") refl, (kept_graphic kept, tt))
 line_graphic version small line.End r e = (text (codes "end") refl, tt)
 
 -- ---- words that are joined are cut again
@@ -228,6 +238,9 @@ some_words (line.Pass kind) = omega arith
 some_words (line.Did done) = some_change done
 some_words (line.No what w) = omega arith
 some_words (line.Refused w) = omega arith
+some_words (line.Solid v) = omega arith
+some_words line.Group = omega arith
+some_words (line.Close kept) = omega arith
 some_words line.End = omega arith
 
 -- ---- no LF

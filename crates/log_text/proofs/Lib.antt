@@ -1,6 +1,5 @@
 pub mod LineLaws
 pub mod LogParts
-pub mod Steps
 pub mod CanonicalDigits
 pub mod Exactness
 pub mod Spellings
@@ -10,5 +9,6 @@ pub mod LineForms
 pub mod EditLineSpellings
 pub mod LineSpellings
 pub mod GraphicWords
+pub mod Latest
 pub mod LogLaws
 pub mod Spaced

@@ -6,15 +6,14 @@ use Rattle.line_text.specs.declared.TextFault.{TextFault}
 use Rattle.line_text.specs.Faults.{◌>>=◌}
 use Rattle.line_text.specs.Spellings.{spelled_at, count_with_end}
 use Rattle.mesh_base.specs.declared.PairName.{PairName}
-use Rattle.log_text.specs.declared.TheConstants.{COUNT_MAX}
 use Rattle.log_text.specs.declared.log_line.LogLine.{LogLine}
 use Rattle.log_text.specs.Fields.{Reader, both}
 use Rattle.log_text.specs.Lines.{line_words, pair_words}
 use Rattle.log_text.specs.Values.{whole, alone, pair_at, fault_at}
 use Rattle.log_text.specs.Laws.{IsFrom, IsPairInRange, IsInRange, IsOfVersion}
-use Rattle.log_text.proofs.Steps.{bound, ok_same}
+use Rattle.line_text.proofs.ReadSteps.{bound, ok_same}
 use Rattle.log_text.proofs.Exactness.{IsExact, count_with_end-length, count_with_end-back, whole-forth, whole-back, spelled_at-exact}
-use Rattle.log_text.proofs.Spellings.{two_numbers, pair_at-exact, fault_at-exact, fault_words}
+use Rattle.log_text.proofs.Spellings.{two_numbers, pair_at-exact, FaultFits, fault_at-exact, fault_words}
 
 -- the words are those of a line in range, and LF stands behind them
 pub record IsSpelling (version : ℕ) (ended : Bool) (words : List (List ℕ)) (l : LogLine) : Type 0 where
@@ -93,11 +92,8 @@ pair_again make p r = again pair_at pair_words IsPairInRange pair_at-exact 3 (λ
 pub pair_spelled : (version : ℕ) (make : PairName → LogLine) (front : List (List ℕ)) → Makes version front pair_words IsPairInRange make → (ended : Bool) (words : List (List ℕ)) (l : LogLine) → (whole ended 3 pair_at words >>= λ p. Ok (make p)) ≡ Ok l → IsSpelling version ended (front ++ words) l
 pair_spelled version make front makes ended words l h = spelled pair_at pair_words IsPairInRange pair_at-exact 3 (λ p. refl) make version front makes ended words l h
 
-abbrev pub FaultFits : TextFault → Type 0
-FaultFits f = IsFrom 1 COUNT_MAX f.line
+pub fault_again : (groups : Bool) (make : TextFault → LogLine) (f : TextFault) → FaultFits groups f → (whole true 2 (fault_at groups) (fault_words f) >>= λ f. Ok (make f)) ≡ Ok (make f)
+fault_again groups make f r = again (fault_at groups) fault_words (FaultFits groups) (fault_at-exact groups) 2 (λ p. refl) make f r
 
-pub fault_again : (make : TextFault → LogLine) (f : TextFault) → FaultFits f → (whole true 2 fault_at (fault_words f) >>= λ f. Ok (make f)) ≡ Ok (make f)
-fault_again make f r = again fault_at fault_words FaultFits fault_at-exact 2 (λ p. refl) make f r
-
-pub fault_spelled : (version : ℕ) (make : TextFault → LogLine) (front : List (List ℕ)) → Makes version front fault_words FaultFits make → (ended : Bool) (words : List (List ℕ)) (l : LogLine) → (whole ended 2 fault_at words >>= λ f. Ok (make f)) ≡ Ok l → IsSpelling version ended (front ++ words) l
-fault_spelled version make front makes ended words l h = spelled fault_at fault_words FaultFits fault_at-exact 2 (λ p. refl) make version front makes ended words l h
+pub fault_spelled : (version : ℕ) (groups : Bool) (make : TextFault → LogLine) (front : List (List ℕ)) → Makes version front fault_words (FaultFits groups) make → (ended : Bool) (words : List (List ℕ)) (l : LogLine) → (whole ended 2 (fault_at groups) words >>= λ f. Ok (make f)) ≡ Ok l → IsSpelling version ended (front ++ words) l
+fault_spelled version groups make front makes ended words l h = spelled (fault_at groups) fault_words (FaultFits groups) (fault_at-exact groups) 2 (λ p. refl) make version front makes ended words l h

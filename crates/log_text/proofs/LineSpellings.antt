@@ -1,6 +1,7 @@
 -- Each line is read exactly from its words.
 use Rattle.std.proofs.Common.{◌≡◌, ℕ, ◌<◌, ◌≤◌, ◌^◌, Bool, true, false, List, [], ◌∷◌, length, Option, Some, None, Result, Ok, Err, refl, sym, ap, subst, ◌∙◌, arith, lit<}
 use Rattle.std.specs.Prelude.{decimal, codes, if◌then◌else◌}
+use Rattle.std.proofs.lemmas.Bool.{eqb-true}
 use Rattle.grid_base.specs.declared.TheConstants.{VERTICES_MAX, FACES_MAX, ID_MAX, HALVINGS_MAX}
 use Rattle.line_text.specs.declared.TextWhy.{TextWhy}
 use Rattle.line_text.specs.declared.TextWhy.TheVariants as why
@@ -12,20 +13,20 @@ use Rattle.mesh_base.specs.declared.ShapeFault.{ShapeFault}
 use Rattle.mesh_base.specs.declared.ShapeFault.TheVariants as shape
 use Rattle.mesh_base.specs.declared.UseWhy.{UseWhy}
 use Rattle.mesh_base.specs.declared.UseWhy.TheVariants as using
-use Rattle.log_text.specs.declared.TheConstants.{COUNT_MAX, SEEN_MAX, CORNER_MAX, PASSES_MAX, ROUNDS_MAX}
+use Rattle.log_text.specs.declared.TheConstants.{COUNT_MAX, SEEN_MAX, CORNER_MAX, PASSES_MAX, ROUNDS_MAX, VERSION}
 use Rattle.log_text.specs.declared.log_line.LogLine.{LogLine}
 use Rattle.log_text.specs.declared.log_line.LogLine.TheVariants as line
 use Rattle.log_text.specs.declared.log_line.Refusal.{Refusal}
 use Rattle.log_text.specs.declared.log_line.Refusal.TheVariants as refusal
 use Rattle.line_text.specs.Spellings.{spelled_number, spelled_from, spelled_at, count_with_end}
 use Rattle.log_text.specs.Fields.{Reader, both}
-use Rattle.log_text.specs.Lines.{line_words, file_word, how_words, shape_words, use_words, refusal_words}
-use Rattle.log_text.specs.Values.{whole, alone, shift_of_at}
-use Rattle.log_text.specs.Reading.{first_of, mesh_of, step_of, hit_of, move_of, moved_of, or_unknown, file_of, refused, long_of, missing_of, shape_of, use_numbers, use_line, use_of, refused_of, plain_of, line_of}
+use Rattle.log_text.specs.Lines.{line_words, file_word, kept_word, how_words, shape_words, use_words, refusal_words}
+use Rattle.log_text.specs.Values.{is_latest, whole, alone, shift_of_at}
+use Rattle.log_text.specs.Reading.{first_of, mesh_of, step_of, hit_of, move_of, moved_of, or_unknown, file_of, refused, long_of, missing_of, shape_of, use_numbers, use_line, use_of, refused_of, solid_of, close_of, plain_of, line_of}
 use Rattle.log_text.specs.EditLines.{edit_of}
 use Rattle.edit_base.specs.declared.Change.TheVariants as change
-use Rattle.log_text.specs.Laws.{IsFrom, IsUseInRange, IsInRange, IsOfVersion}
-use Rattle.log_text.proofs.Steps.{bound, ok_same, picked, fault_value}
+use Rattle.log_text.specs.Laws.{IsFrom, IsUseInRange, IsInRange, IsUseOfVersion, IsRefusalOfVersion, IsOfVersion}
+use Rattle.line_text.proofs.ReadSteps.{bound, ok_same, picked, picked_if, fault_value}
 use Rattle.log_text.proofs.LineForms.{IsSpelling, again, spelled, alone_again, alone_spelled, number_of, one_again, one_spelled, Two, two_again, two_spelled, pair_again, pair_spelled, fault_again, fault_spelled}
 use Rattle.log_text.proofs.EditLineSpellings.{pass_again, split_again, flip_again, collapse_again, zip_again, no_again, block_again, pinch_again, edit_back, block_back, pinch_back}
 use Rattle.log_text.proofs.Exactness.{IsExact, count_with_end-length, count_with_end-back, word_number-decimal, word_number-some}
@@ -73,22 +74,32 @@ missing_again : (name : FileWord) → missing_of true (file_word name ∷ []) �
 unfolding missing_of
 missing_again name = rw (file_of-word name) (alone_again (line.Refused (refusal.Missing name)))
 
-used_again : (at : ℕ) (w : UseWhy) → IsInRange (line.Refused (refusal.StepUse at w)) → use_of true (decimal at ∷ use_words w) ≡ Ok (line.Refused (refusal.StepUse at w))
+used_again : (version at : ℕ) (w : UseWhy) → IsInRange (line.Refused (refusal.StepUse at w)) → IsUseOfVersion version w → use_of version true (decimal at ∷ use_words w) ≡ Ok (line.Refused (refusal.StepUse at w))
 unfolding use_of
-used_again at (using.NoVertex v) r = use_again using.NoVertex at v r.0 r.1
-used_again at (using.ShiftRange v) r = use_again using.ShiftRange at v r.0 r.1
-used_again at (using.Box v) r = use_again using.Box at v r.0 r.1
-used_again at using.NoField r = field_again at r.0
+used_again version at (using.NoVertex v) r o = use_again using.NoVertex at v r.0 r.1
+used_again version at (using.ShiftRange v) r o = use_again using.ShiftRange at v r.0 r.1
+used_again version at (using.Box v) r o = use_again using.Box at v r.0 r.1
+used_again version at using.NoField r o = field_again at r.0
+used_again version at (using.Solid v) r o = let P : ℕ → Type 0 = λ n. use_of n true (decimal at ∷ codes "solid" ∷ decimal v ∷ []) ≡ Ok (line.Refused (refusal.StepUse at (using.Solid v))) in subst P (sym o) (use_again using.Solid at v r.0 r.1)
 
-refused_again : (w : Refusal) → IsInRange (line.Refused w) → refused_of true (refusal_words w) ≡ Ok (line.Refused w)
+refused_again : (version : ℕ) (w : Refusal) → IsInRange (line.Refused w) → IsRefusalOfVersion version w → refused_of version true (refusal_words w) ≡ Ok (line.Refused w)
 unfolding refused_of
-refused_again (refusal.Long name seen) r = long_again name seen r
-refused_again (refusal.Missing name) r = missing_again name
-refused_again (refusal.Mesh fault) r = fault_again (λ f. line.Refused (refusal.Mesh f)) fault r
-refused_again (refusal.Shape fault) r = shape_again fault r
-refused_again (refusal.Meets pair) r = pair_again (λ p. line.Refused (refusal.Meets p)) pair r
-refused_again (refusal.Steps fault) r = fault_again (λ f. line.Refused (refusal.Steps f)) fault r
-refused_again (refusal.StepUse at w) r = used_again at w r
+refused_again version (refusal.Long name seen) r o = long_again name seen r
+refused_again version (refusal.Missing name) r o = missing_again name
+refused_again version (refusal.Mesh fault) r o = fault_again false (λ f. line.Refused (refusal.Mesh f)) fault r
+refused_again version (refusal.Shape fault) r o = shape_again fault r
+refused_again version (refusal.Meets pair) r o = pair_again (λ p. line.Refused (refusal.Meets p)) pair r
+refused_again version (refusal.Steps fault) r o = fault_again (is_latest version) (λ f. line.Refused (refusal.Steps f)) fault (r, o)
+refused_again version (refusal.StepUse at w) r o = used_again version at w r o
+
+solid_again : (v : ℕ) → IsFrom 1 ID_MAX v → solid_of true (decimal v ∷ []) ≡ Ok (line.Solid v)
+unfolding solid_of
+solid_again v r = one_again 1 ID_MAX (lit< tt) line.Solid v r
+
+close_again : (kept : Bool) → close_of true (kept_word kept ∷ []) ≡ Ok (line.Close kept)
+unfolding close_of
+close_again true = alone_again (line.Close true)
+close_again false = alone_again (line.Close false)
 
 abbrev Three : Type 0
 Three = ℕ × (ℕ × ℕ)
@@ -128,8 +139,11 @@ printed_is_read version small (line.Did (change.Flip a b)) r e = flip_again a b 
 printed_is_read version small (line.Did (change.Collapse a b at)) r e = collapse_again a b at r
 printed_is_read version small (line.Did (change.Zip a b e f turn)) r h = zip_again a b e f turn r
 printed_is_read version small (line.Did (change.Pinch v at copies)) r e = pinch_again v at copies r
-printed_is_read version small (line.No what w) r e = no_again what w r
-printed_is_read version small (line.Refused w) r e = refused_again w r
+printed_is_read version small (line.No what w) r e = no_again version what w (r.0, (r.1, e))
+printed_is_read version small (line.Refused w) r e = refused_again version w r e
+printed_is_read version small (line.Solid v) r e = let P : ℕ → Type 0 = λ n. line_of n true (line_words (line.Solid v)) ≡ Ok (line.Solid v) in subst P (sym e) (solid_again v r)
+printed_is_read version small line.Group r e = let P : ℕ → Type 0 = λ n. line_of n true (line_words line.Group) ≡ Ok line.Group in subst P (sym e) (alone_again line.Group)
+printed_is_read version small (line.Close kept) r e = let P : ℕ → Type 0 = λ n. line_of n true (line_words (line.Close kept)) ≡ Ok (line.Close kept) in subst P (sym e) (close_again kept)
 printed_is_read version small line.End r e = alone_again line.End
 
 -- ---- what is read is spelled so
@@ -214,13 +228,13 @@ use_numbers-back ended at words n h =
     let here : UseSpelled ended at words (k.value, v.value.0) = record { has_end = counted.0; at_is = at_is.0; words_are = found.0 ∙ ap (λ (t : List (List ℕ)). decimal v.value.0 ∷ t) rest; at_fits = (at_is.1, at_is.2); fits = found.1 } in
     subst (UseSpelled ended at words) (ok_same (k.value, v.value.0) n v.after) here
 
-use_spelled : (version : ℕ) (make : ℕ → UseWhy) (word : List ℕ) → ((v : ℕ) → use_words (make v) ≡ word ∷ decimal v ∷ []) → ((v : ℕ) → IsFrom 1 ID_MAX v → IsUseInRange (make v)) → (ended : Bool) (at : List ℕ) (words : List (List ℕ)) (l : LogLine) → (use_numbers ended at words >>= λ n. refused (refusal.StepUse n.0 (make n.1))) ≡ Ok l → IsSpelling version ended (codes "refused" ∷ codes "use" ∷ at ∷ word ∷ words) l
-use_spelled version make word same fits ended at words l h =
+use_spelled : (version : ℕ) (make : ℕ → UseWhy) (word : List ℕ) → ((v : ℕ) → use_words (make v) ≡ word ∷ decimal v ∷ []) → ((v : ℕ) → IsFrom 1 ID_MAX v → IsUseInRange (make v)) → ((v : ℕ) → IsUseOfVersion version (make v)) → (ended : Bool) (at : List ℕ) (words : List (List ℕ)) (l : LogLine) → (use_numbers ended at words >>= λ n. refused (refusal.StepUse n.0 (make n.1))) ≡ Ok l → IsSpelling version ended (codes "refused" ∷ codes "use" ∷ at ∷ word ∷ words) l
+use_spelled version make word same fits of ended at words l h =
     let b = bound (use_numbers ended at words) (λ (n : Two). refused (refusal.StepUse n.0 (make n.1))) l h in
     let u = use_numbers-back ended at words b.value b.first in
     let ws : line_words (line.Refused (refusal.StepUse b.value.0 (make b.value.1))) ≡ codes "refused" ∷ codes "use" ∷ at ∷ word ∷ words =
     ap (λ (t : List (List ℕ)). codes "refused" ∷ codes "use" ∷ decimal b.value.0 ∷ t) (same b.value.1) ∙ ap (λ (t : List (List ℕ)). codes "refused" ∷ codes "use" ∷ decimal b.value.0 ∷ word ∷ t) (sym u.words_are) ∙ ap (λ (t : List ℕ). codes "refused" ∷ codes "use" ∷ t ∷ word ∷ words) (sym u.at_is) in
-    let here : IsSpelling version ended (codes "refused" ∷ codes "use" ∷ at ∷ word ∷ words) (line.Refused (refusal.StepUse b.value.0 (make b.value.1))) = record { has_end = u.has_end; same = ws; fits = (u.at_fits, fits b.value.1 u.fits); of_version = tt } in
+    let here : IsSpelling version ended (codes "refused" ∷ codes "use" ∷ at ∷ word ∷ words) (line.Refused (refusal.StepUse b.value.0 (make b.value.1))) = record { has_end = u.has_end; same = ws; fits = (u.at_fits, fits b.value.1 u.fits); of_version = of b.value.1 } in
     subst (IsSpelling version ended (codes "refused" ∷ codes "use" ∷ at ∷ word ∷ words)) (ok_same (line.Refused (refusal.StepUse b.value.0 (make b.value.1))) l b.after) here
 
 field_spelled : (version : ℕ) (ended : Bool) (at : List ℕ) (words : List (List ℕ)) (l : LogLine) → (use_line ended at words >>= λ n. refused (refusal.StepUse n using.NoField)) ≡ Ok l → IsSpelling version ended (codes "refused" ∷ codes "use" ∷ at ∷ codes "field" ∷ words) l
@@ -240,30 +254,31 @@ misspelt : {P : Type 0} (ended : Bool) (l : LogLine) → ◌≡◌ {A = Result L
 misspelt true l h = fault_value why.Number l h
 misspelt false l h = fault_value why.Short l h
 
-use_back : (version : ℕ) (ended : Bool) (words : List (List ℕ)) (l : LogLine) → use_of ended words ≡ Ok l → IsSpelling version ended (codes "refused" ∷ codes "use" ∷ words) l
+use_back : (version : ℕ) (ended : Bool) (words : List (List ℕ)) (l : LogLine) → use_of version ended words ≡ Ok l → IsSpelling version ended (codes "refused" ∷ codes "use" ∷ words) l
 unfolding use_of
 use_back version ended [] l h = fault_value why.Short l h
 use_back version ended (at ∷ []) l h = fault_value why.Short l h
 use_back version ended (at ∷ word ∷ words) l h =
     let P : List ℕ → Type 0 = λ w. IsSpelling version ended (codes "refused" ∷ codes "use" ∷ at ∷ w ∷ words) l in
-    picked P word (codes "vertex") _ _ (Ok l) (use_spelled version using.NoVertex (codes "vertex") (λ v. refl) (λ v r. r) ended at words l)
-    (picked P word (codes "range") _ _ (Ok l) (use_spelled version using.ShiftRange (codes "range") (λ v. refl) (λ v r. r) ended at words l)
-    (picked P word (codes "box") _ _ (Ok l) (use_spelled version using.Box (codes "box") (λ v. refl) (λ v r. r) ended at words l)
+    picked P word (codes "vertex") _ _ (Ok l) (use_spelled version using.NoVertex (codes "vertex") (λ v. refl) (λ v r. r) (λ v. tt) ended at words l)
+    (picked P word (codes "range") _ _ (Ok l) (use_spelled version using.ShiftRange (codes "range") (λ v. refl) (λ v r. r) (λ v. tt) ended at words l)
+    (picked P word (codes "box") _ _ (Ok l) (use_spelled version using.Box (codes "box") (λ v. refl) (λ v r. r) (λ v. tt) ended at words l)
     (picked P word (codes "field") _ _ (Ok l) (field_spelled version ended at words l)
-    (misspelt ended l))))
+    (picked_if P word (codes "solid") (is_latest version) _ _ (Ok l) (λ t. use_spelled version using.Solid (codes "solid") (λ v. refl) (λ v r. r) (λ v. eqb-true version VERSION t) ended at words l)
+    (misspelt ended l)))))
     h
 
-refused_back : (version : ℕ) (ended : Bool) (words : List (List ℕ)) (l : LogLine) → refused_of ended words ≡ Ok l → IsSpelling version ended (codes "refused" ∷ words) l
+refused_back : (version : ℕ) (ended : Bool) (words : List (List ℕ)) (l : LogLine) → refused_of version ended words ≡ Ok l → IsSpelling version ended (codes "refused" ∷ words) l
 unfolding refused_of
 refused_back version ended [] l h = fault_value why.Short l h
 refused_back version ended (word ∷ words) l h =
     let P : List ℕ → Type 0 = λ w. IsSpelling version ended (codes "refused" ∷ w ∷ words) l in
     picked P word (codes "long") _ _ (Ok l) (long_back version ended words l)
     (picked P word (codes "missing") _ _ (Ok l) (missing_back version ended words l)
-    (picked P word (codes "mesh") _ _ (Ok l) (fault_spelled version (λ f. line.Refused (refusal.Mesh f)) (codes "refused" ∷ codes "mesh" ∷ []) (λ f r. (refl, r, tt)) ended words l)
+    (picked P word (codes "mesh") _ _ (Ok l) (fault_spelled version false (λ f. line.Refused (refusal.Mesh f)) (codes "refused" ∷ codes "mesh" ∷ []) (λ f r. (refl, r, tt)) ended words l)
     (picked P word (codes "shape") _ _ (Ok l) (shape_back version ended words l)
     (picked P word (codes "meets") _ _ (Ok l) (pair_spelled version (λ p. line.Refused (refusal.Meets p)) (codes "refused" ∷ codes "meets" ∷ []) (λ p r. (refl, r, tt)) ended words l)
-    (picked P word (codes "steps") _ _ (Ok l) (fault_spelled version (λ f. line.Refused (refusal.Steps f)) (codes "refused" ∷ codes "steps" ∷ []) (λ f r. (refl, r, tt)) ended words l)
+    (picked P word (codes "steps") _ _ (Ok l) (fault_spelled version (is_latest version) (λ f. line.Refused (refusal.Steps f)) (codes "refused" ∷ codes "steps" ∷ []) (λ f r. (refl, r.0, r.1)) ended words l)
     (picked P word (codes "use") _ _ (Ok l) (use_back version ended words l)
     (fault_value why.Unknown l)))))))
     h
@@ -272,8 +287,18 @@ mesh_back : (version : ℕ) (ended : Bool) (words : List (List ℕ)) (l : LogLin
 unfolding mesh_of
 mesh_back version ended words l h = spelled mesh_reader three MeshFits mesh_exact 3 (λ p. refl) mesh_made version (codes "mesh" ∷ []) (λ p r. (refl, (r.0.1, r.1.0.1, r.1.1.1), tt)) ended words l h
 
+close_back : (version : ℕ) → version ≡ VERSION → (ended : Bool) (words : List (List ℕ)) (l : LogLine) → close_of ended words ≡ Ok l → IsSpelling version ended (codes "close" ∷ words) l
+unfolding close_of
+close_back version e ended [] l h = fault_value why.Short l h
+close_back version e ended (word ∷ words) l h =
+    let P : List ℕ → Type 0 = λ w. IsSpelling version ended (codes "close" ∷ w ∷ words) l in
+    picked P word (codes "kept") _ _ (Ok l) (alone_spelled version (codes "close" ∷ codes "kept" ∷ []) ended (line.Close true) words l refl tt e)
+    (picked P word (codes "undone") _ _ (Ok l) (alone_spelled version (codes "close" ∷ codes "undone" ∷ []) ended (line.Close false) words l refl tt e)
+    (fault_value why.Unknown l))
+    h
+
 plain_back : (version : ℕ) → version < 2 ^ 8 → (ended : Bool) (first : List ℕ) (words : List (List ℕ)) (l : LogLine) → plain_of version ended first words ≡ Ok l → IsSpelling version ended (first ∷ words) l
-unfolding plain_of step_of hit_of move_of
+unfolding plain_of step_of hit_of move_of solid_of
 plain_back version small ended first words l h =
     let P : List ℕ → Type 0 = λ w. IsSpelling version ended (w ∷ words) l in
     picked P first (codes "topo") _ _ (Ok l) (first_back version small ended words l)
@@ -284,7 +309,10 @@ plain_back version small ended first words l h =
     (picked P first (codes "moved") _ _ (Ok l) (moved_back version ended words l)
     (picked P first (codes "refused") _ _ (Ok l) (refused_back version ended words l)
     (picked P first (codes "end") _ _ (Ok l) (alone_spelled version (codes "end" ∷ []) ended line.End words l refl tt tt)
-    (edit_back version ended first words l))))))))
+    (picked_if P first (codes "solid") (is_latest version) _ _ (Ok l) (λ t. one_spelled version 1 ID_MAX (lit< tt) line.Solid (codes "solid" ∷ []) (λ n r. (refl, r, eqb-true version VERSION t)) ended words l)
+    (picked_if P first (codes "group") (is_latest version) _ _ (Ok l) (λ t. alone_spelled version (codes "group" ∷ []) ended line.Group words l refl tt (eqb-true version VERSION t))
+    (picked_if P first (codes "close") (is_latest version) _ _ (Ok l) (λ t. close_back version (eqb-true version VERSION t) ended words l)
+    (edit_back version ended first words l)))))))))))
     h
 
 -- what words are read as is the line that they spell

@@ -14,7 +14,7 @@ use Rattle.log_text.specs.Lines.{place_words, places_words}
 use Rattle.log_text.specs.Values.{place_at}
 use Rattle.log_text.specs.EditLines.{at_least, ids_add, four_by_four, places_add, first_place}
 use Rattle.log_text.specs.Laws.{AreRising}
-use Rattle.log_text.proofs.Steps.{bound, ok_same, by_test, fault_value}
+use Rattle.line_text.proofs.ReadSteps.{bound, ok_same, by_test, fault_value}
 use Rattle.log_text.proofs.Exactness.{word_number-some, word_number-decimal}
 use Rattle.log_text.proofs.EditSpellings.{PlaceFits, place_at-exact}
 

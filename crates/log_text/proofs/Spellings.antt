@@ -1,5 +1,5 @@
 -- The values of each line are read exactly.
-use Rattle.std.proofs.Common.{◌≡◌, ℕ, ◌+◌, ◌<◌, ◌≤◌, ◌^◌, List, [], ◌∷◌, ◌++◌, Option, Some, None, Ok, ℤ, refl, ap, subst, arith, lit<}
+use Rattle.std.proofs.Common.{◌≡◌, ℕ, ◌+◌, ◌<◌, ◌≤◌, ◌^◌, Bool, List, [], ◌∷◌, ◌++◌, Option, Some, None, Ok, ℤ, refl, sym, ap, subst, arith, lit<}
 use Rattle.std.specs.Prelude.{decimal, codes, unsigned_abs}
 use Rattle.std.specs.Fmt.{signed_decimal}
 use Rattle.grid_base.specs.declared.TheConstants.{ID_MAX, SHIFT_MAX}
@@ -21,8 +21,8 @@ use Rattle.log_text.specs.Fields.{Reader, in_turn, both, or_number}
 use Rattle.log_text.specs.Lines.{file_word, why_word, pair_words}
 use Rattle.log_text.specs.Values.{pair_at, shift_of_at, why_of, why_at, fault_at}
 use Rattle.log_text.specs.Reading.{file_of}
-use Rattle.log_text.specs.Laws.{IsFrom, IsPairInRange}
-use Rattle.log_text.proofs.Steps.{bound, ok_same, some_same, picked}
+use Rattle.log_text.specs.Laws.{IsFrom, IsPairInRange, IsWhyOf}
+use Rattle.line_text.proofs.ReadSteps.{bound, ok_same, some_same, picked, picked_if}
 use Rattle.log_text.proofs.Exactness.{IsExact, or_number-some, spelled_at-exact, spelled_signed_at-exact, in_turn-exact, made-exact}
 
 -- ---- two values
@@ -121,47 +121,50 @@ shift_of_at-exact = made-exact (both (spelled_at 1 ID_MAX) (both (spelled_signed
 
 -- ---- reasons and files
 
-why_of-word : (w : TextWhy) → why_of (why_word w) ≡ Some w
+why_of-word : (groups : Bool) (w : TextWhy) → IsWhyOf groups w → why_of groups (why_word w) ≡ Some w
 unfolding why_of
-why_of-word why.Number = refl
-why_of-word why.Corner = refl
-why_of-word why.Range = refl
-why_of-word why.Short = refl
-why_of-word why.Long = refl
-why_of-word why.Unknown = refl
-why_of-word why.Continuation = refl
+why_of-word groups why.Number r = refl
+why_of-word groups why.Corner r = refl
+why_of-word groups why.Range r = refl
+why_of-word groups why.Short r = refl
+why_of-word groups why.Long r = refl
+why_of-word groups why.Unknown r = refl
+why_of-word groups why.Continuation r = refl
+why_of-word groups why.Nesting r = let P : Bool → Type 0 = λ b. why_of b (why_word why.Nesting) ≡ Some why.Nesting in subst P (sym r) refl
 
-why_of-some : (word : List ℕ) (w : TextWhy) → why_of word ≡ Some w → word ≡ why_word w
+why_of-some : (groups : Bool) (word : List ℕ) (w : TextWhy) → why_of groups word ≡ Some w → (word ≡ why_word w) × IsWhyOf groups w
 unfolding why_of
-why_of-some word w h =
-    let P : List ℕ → Type 0 = λ t. t ≡ why_word w in
-    let here : (v : TextWhy) → ◌≡◌ {A = Option TextWhy} (Some v) (Some w) → why_word v ≡ why_word w = λ v e. ap why_word (some_same v w e) in
-    picked P word (codes "number") (Some why.Number) _ (Some w) (here why.Number)
-    (picked P word (codes "corner") (Some why.Corner) _ (Some w) (here why.Corner)
-    (picked P word (codes "range") (Some why.Range) _ (Some w) (here why.Range)
-    (picked P word (codes "short") (Some why.Short) _ (Some w) (here why.Short)
-    (picked P word (codes "long") (Some why.Long) _ (Some w) (here why.Long)
-    (picked P word (codes "unknown") (Some why.Unknown) _ (Some w) (here why.Unknown)
-    (picked P word (codes "continuation") (Some why.Continuation) None (Some w) (here why.Continuation)
-    (λ e. absurd (let no : ⊥ = cc in no))))))))
+why_of-some groups word w h =
+    let P : List ℕ → Type 0 = λ t. (t ≡ why_word w) × IsWhyOf groups w in
+    let Q : List ℕ → TextWhy → Type 0 = λ t v. (t ≡ why_word v) × IsWhyOf groups v in
+    let here : (v : TextWhy) → IsWhyOf groups v → ◌≡◌ {A = Option TextWhy} (Some v) (Some w) → P (why_word v) = λ v r e. subst (Q (why_word v)) (some_same v w e) (refl, r) in
+    picked P word (codes "number") (Some why.Number) _ (Some w) (here why.Number tt)
+    (picked P word (codes "corner") (Some why.Corner) _ (Some w) (here why.Corner tt)
+    (picked P word (codes "range") (Some why.Range) _ (Some w) (here why.Range tt)
+    (picked P word (codes "short") (Some why.Short) _ (Some w) (here why.Short tt)
+    (picked P word (codes "long") (Some why.Long) _ (Some w) (here why.Long tt)
+    (picked P word (codes "unknown") (Some why.Unknown) _ (Some w) (here why.Unknown tt)
+    (picked P word (codes "continuation") (Some why.Continuation) _ (Some w) (here why.Continuation tt)
+    (picked_if P word (codes "nesting") groups (Some why.Nesting) None (Some w) (here why.Nesting)
+    (λ e. absurd (let no : ⊥ = cc in no)))))))))
     h
 
-why_at-back : (words : List (List ℕ)) (w : TextWhy) (rest : List (List ℕ)) → why_at words ≡ Ok (w, rest) → (words ≡ why_word w ∷ rest) × Unit {0}
+why_at-back : (groups : Bool) (words : List (List ℕ)) (w : TextWhy) (rest : List (List ℕ)) → why_at groups words ≡ Ok (w, rest) → (words ≡ why_word w ∷ rest) × IsWhyOf groups w
 unfolding why_at
-why_at-back [] w rest h = absurd (let no : ⊥ = cc in no)
-why_at-back (word ∷ words) w rest h =
-    let b = bound (or_number (why_of word)) (λ (m : TextWhy). Ok (m, words)) (w, rest) h in
+why_at-back groups [] w rest h = absurd (let no : ⊥ = cc in no)
+why_at-back groups (word ∷ words) w rest h =
+    let b = bound (or_number (why_of groups word)) (λ (m : TextWhy). Ok (m, words)) (w, rest) h in
     let e : ◌≡◌ {A = TextWhy × List (List ℕ)} (b.value, words) (w, rest) = ok_same (b.value, words) (w, rest) b.after in
-    let s = why_of-some word b.value (or_number-some (why_of word) b.value b.first) in
-    let P : TextWhy × List (List ℕ) → Type 0 = λ r. (word ∷ words ≡ why_word r.0 ∷ r.1) × Unit {0} in
-    subst P e (ap (λ w. w ∷ words) s, tt)
+    let s = why_of-some groups word b.value (or_number-some (why_of groups word) b.value b.first) in
+    let P : TextWhy × List (List ℕ) → Type 0 = λ r. (word ∷ words ≡ why_word r.0 ∷ r.1) × IsWhyOf groups r.0 in
+    subst P e (ap (λ w. w ∷ words) s.0, s.1)
 
-why_at-forth : (w : TextWhy) (words : List (List ℕ)) → Unit {0} → why_at (why_word w ∷ words) ≡ Ok (w, words)
+why_at-forth : (groups : Bool) (w : TextWhy) (words : List (List ℕ)) → IsWhyOf groups w → why_at groups (why_word w ∷ words) ≡ Ok (w, words)
 unfolding why_at
-why_at-forth w words u = ap (λ o. or_number o >>= λ n. Ok (n, words)) (why_of-word w)
+why_at-forth groups w words r = ap (λ o. or_number o >>= λ n. Ok (n, words)) (why_of-word groups w r)
 
-pub why_at-exact : IsExact why_at (λ w. why_word w ∷ []) (λ w. Unit {0})
-why_at-exact = record { forth = why_at-forth; back = why_at-back }
+pub why_at-exact : (groups : Bool) → IsExact (why_at groups) (λ w. why_word w ∷ []) (IsWhyOf groups)
+why_at-exact groups = record { forth = why_at-forth groups; back = why_at-back groups }
 
 abbrev FaultParts : Type 0
 FaultParts = ℕ × TextWhy
@@ -169,9 +172,12 @@ FaultParts = ℕ × TextWhy
 abbrev pub fault_words : TextFault → List (List ℕ)
 fault_words f = decimal f.line ∷ why_word f.why ∷ []
 
-pub fault_at-exact : IsExact fault_at fault_words (λ f. IsFrom 1 COUNT_MAX f.line)
+abbrev pub FaultFits : Bool → TextFault → Type 0
+FaultFits groups f = IsFrom 1 COUNT_MAX f.line × IsWhyOf groups f.why
+
+pub fault_at-exact : (groups : Bool) → IsExact (fault_at groups) fault_words (FaultFits groups)
 unfolding fault_at
-fault_at-exact = made-exact (both (spelled_at 1 COUNT_MAX) why_at) (λ p. decimal p.0 ∷ why_word p.1 ∷ []) (λ p. IsFrom 1 COUNT_MAX p.0 × Unit {0}) fault_words (λ f. IsFrom 1 COUNT_MAX f.line) (λ (p : FaultParts). record { line = p.0; why = p.1 }) (λ f. (f.line, f.why)) (both-exact (spelled_at 1 COUNT_MAX) why_at one (λ w. why_word w ∷ []) (IsFrom 1 COUNT_MAX) (λ w. Unit {0}) (spelled_at-exact 1 COUNT_MAX (lit< tt)) why_at-exact) (λ p h. (refl, h.0)) (λ f h. (refl, (h, tt)))
+fault_at-exact groups = made-exact (both (spelled_at 1 COUNT_MAX) (why_at groups)) (λ p. decimal p.0 ∷ why_word p.1 ∷ []) (λ p. IsFrom 1 COUNT_MAX p.0 × IsWhyOf groups p.1) fault_words (FaultFits groups) (λ (p : FaultParts). record { line = p.0; why = p.1 }) (λ f. (f.line, f.why)) (both-exact (spelled_at 1 COUNT_MAX) (why_at groups) one (λ w. why_word w ∷ []) (IsFrom 1 COUNT_MAX) (IsWhyOf groups) (spelled_at-exact 1 COUNT_MAX (lit< tt)) (why_at-exact groups)) (λ p h. (refl, h)) (λ f h. (refl, h))
 
 pub file_of-word : (f : FileWord) → file_of (file_word f) ≡ Some f
 unfolding file_of

@@ -55,41 +55,41 @@ zip_of ended words = whole ended 5 (both edge_at (both edge_at (spelled_at 0 TUR
 -- ---- edits that are not done
 
 -- as many words behind the reason as it asks for, which is as many as there are where it is misspelt, and the LF
-unfoldable pub reason_with_end : Bool → List (List ℕ) → Result (Unit {0}) TextWhy
-reason_with_end ended [] = Err why.Short
-reason_with_end ended (word ∷ words) =
+unfoldable pub reason_with_end : ℕ → Bool → List (List ℕ) → Result (Unit {0}) TextWhy
+reason_with_end version ended [] = Err why.Short
+reason_with_end version ended (word ∷ words) =
     if bytes_eq word (codes "hit") then count_with_end ended 3 words
-    else if is_some (reason_of word) then count_with_end ended 0 words
+    else if is_some (reason_of version word) then count_with_end ended 0 words
     else if ended then Ok tt
     else Err why.Short
 
 -- so many words that name what was asked, and the reason
-unfoldable pub asked_of : {A : Type 0} → Bool → ℕ → Reader A → List (List ℕ) → Result (A × Why) TextWhy
-asked_of ended count read words = do
-  counted ← reason_with_end ended (drop count words)
-  found ← both read reason_at words
+unfoldable pub asked_of : {A : Type 0} → ℕ → Bool → ℕ → Reader A → List (List ℕ) → Result (A × Why) TextWhy
+asked_of version ended count read words = do
+  counted ← reason_with_end version ended (drop count words)
+  found ← both read (reason_at version) words
   Ok found.0
 
 -- no: the edit that was asked for, and the reason
-unfoldable pub no_of : Bool → List (List ℕ) → Result LogLine TextWhy
-no_of ended [] = Err why.Short
-no_of ended (edit ∷ words) =
-    if bytes_eq edit (codes "split") then (asked_of ended 2 edge_at words >>= λ n. Ok (line.No (asked.Split n.0.0 n.0.1) n.1))
-    else if bytes_eq edit (codes "flip") then (asked_of ended 2 edge_at words >>= λ n. Ok (line.No (asked.Flip n.0.0 n.0.1) n.1))
-    else if bytes_eq edit (codes "collapse") then (asked_of ended 2 edge_at words >>= λ n. Ok (line.No (asked.Collapse n.0.0 n.0.1) n.1))
-    else if bytes_eq edit (codes "zip") then (asked_of ended 4 (both edge_at edge_at) words >>= λ n. Ok (line.No (asked.Zip n.0.0.0 n.0.0.1 n.0.1.0 n.0.1.1) n.1))
-    else if bytes_eq edit (codes "pinch") then (asked_of ended 1 (spelled_at 1 ID_MAX) words >>= λ n. Ok (line.No (asked.Pinch n.0) n.1))
+unfoldable pub no_of : ℕ → Bool → List (List ℕ) → Result LogLine TextWhy
+no_of version ended [] = Err why.Short
+no_of version ended (edit ∷ words) =
+    if bytes_eq edit (codes "split") then (asked_of version ended 2 edge_at words >>= λ n. Ok (line.No (asked.Split n.0.0 n.0.1) n.1))
+    else if bytes_eq edit (codes "flip") then (asked_of version ended 2 edge_at words >>= λ n. Ok (line.No (asked.Flip n.0.0 n.0.1) n.1))
+    else if bytes_eq edit (codes "collapse") then (asked_of version ended 2 edge_at words >>= λ n. Ok (line.No (asked.Collapse n.0.0 n.0.1) n.1))
+    else if bytes_eq edit (codes "zip") then (asked_of version ended 4 (both edge_at edge_at) words >>= λ n. Ok (line.No (asked.Zip n.0.0.0 n.0.0.1 n.0.1.0 n.0.1.1) n.1))
+    else if bytes_eq edit (codes "pinch") then (asked_of version ended 1 (spelled_at 1 ID_MAX) words >>= λ n. Ok (line.No (asked.Pinch n.0) n.1))
     else Err why.Unknown
 
 -- the line of a pass or an edit, by its first word
-unfoldable pub edit_of : Bool → List ℕ → List (List ℕ) → Result LogLine TextWhy
-edit_of ended first words =
+unfoldable pub edit_of : ℕ → Bool → List ℕ → List (List ℕ) → Result LogLine TextWhy
+edit_of version ended first words =
     if bytes_eq first (codes "pass") then pass_of ended words
     else if bytes_eq first (codes "split") then split_of ended words
     else if bytes_eq first (codes "flip") then flip_of ended words
     else if bytes_eq first (codes "collapse") then collapse_of ended words
     else if bytes_eq first (codes "zip") then zip_of ended words
-    else if bytes_eq first (codes "no") then no_of ended words
+    else if bytes_eq first (codes "no") then no_of version ended words
     else Err why.Unknown
 
 -- ---- lines that end in a list

@@ -1,5 +1,5 @@
 -- When the values of a line are in their ranges, and that a line is read exactly from its spelling.
-use Rattle.std.specs.Prelude.{◌≡◌, ◌↔◌, ℕ, ◌+◌, ◌<◌, ◌≤◌, ◌^◌, List, [], ◌∷◌, length, Ok, All, true}
+use Rattle.std.specs.Prelude.{◌≡◌, ◌↔◌, ℕ, Bool, false, ◌+◌, ◌<◌, ◌≤◌, ◌^◌, List, [], ◌∷◌, length, Ok, All, true}
 use Rattle.grid_base.specs.declared.TheConstants.{VERTICES_MAX, FACES_MAX, ID_MAX, HALVINGS_MAX, LENGTH_MAX}
 use Rattle.edit_base.specs.declared.Asked.{Asked}
 use Rattle.edit_base.specs.declared.Asked.TheVariants as asked
@@ -9,6 +9,8 @@ use Rattle.edit_base.specs.declared.PassKind.{PassKind}
 use Rattle.edit_base.specs.declared.PassKind.TheVariants as pass
 use Rattle.edit_base.specs.declared.Why.{Why}
 use Rattle.edit_base.specs.declared.Why.TheVariants as reason
+use Rattle.line_text.specs.declared.TextWhy.{TextWhy}
+use Rattle.line_text.specs.declared.TextWhy.TheVariants as why
 use Rattle.mesh_base.specs.declared.How.{How}
 use Rattle.mesh_base.specs.declared.How.TheVariants.{Whole, Impulse, Zones, Halved, Zero}
 use Rattle.mesh_base.specs.declared.PairName.{PairName}
@@ -23,7 +25,8 @@ use Rattle.log_text.specs.declared.log_line.Refusal.{Refusal}
 use Rattle.log_text.specs.declared.log_line.Refusal.TheVariants as refusal
 use Rattle.log_text.specs.Lines.{body_of, text_of_lines}
 use Rattle.line_text.specs.Spellings.{spaced_words}
-use Rattle.log_text.specs.Reading.{line_of, log_of}
+use Rattle.log_text.specs.Values.{is_latest}
+use Rattle.log_text.specs.Reading.{line_of, version_of, log_of}
 
 -- from low to high
 abbrev pub IsFrom : ℕ → ℕ → ℕ → Type 0
@@ -59,12 +62,18 @@ IsUseInRange (using.NoVertex v) = IsFrom 1 ID_MAX v
 IsUseInRange (using.ShiftRange v) = IsFrom 1 ID_MAX v
 IsUseInRange (using.Box v) = IsFrom 1 ID_MAX v
 IsUseInRange using.NoField = Unit {0}
+IsUseInRange (using.Solid v) = IsFrom 1 ID_MAX v
 
--- the numbers of a refusal
+-- Nesting is a reason of a text with groups alone.
+abbrev pub IsWhyOf : Bool → TextWhy → Type 0
+IsWhyOf groups why.Nesting = groups ≡ true
+IsWhyOf groups _ = Unit {0}
+
+-- the numbers of a refusal; no groups are in a mesh file
 abbrev pub IsRefusalInRange : Refusal → Type 0
 IsRefusalInRange (refusal.Long name seen) = seen ≤ SEEN_MAX
 IsRefusalInRange (refusal.Missing name) = Unit {0}
-IsRefusalInRange (refusal.Mesh fault) = IsFrom 1 COUNT_MAX fault.line
+IsRefusalInRange (refusal.Mesh fault) = IsFrom 1 COUNT_MAX fault.line × IsWhyOf false fault.why
 IsRefusalInRange (refusal.Shape fault) = IsShapeInRange fault
 IsRefusalInRange (refusal.Meets pair) = IsPairInRange pair
 IsRefusalInRange (refusal.Steps fault) = IsFrom 1 COUNT_MAX fault.line
@@ -113,6 +122,7 @@ abbrev pub IsInRange : LogLine → Type 0
 IsInRange (line.First version) = Unit {0}
 IsInRange (line.Mesh k vertices faces) = (k ≤ COUNT_MAX) × (vertices ≤ VERTICES_MAX) × (faces ≤ FACES_MAX)
 IsInRange (line.Step k) = IsFrom 1 COUNT_MAX k
+IsInRange (line.Solid v) = IsFrom 1 ID_MAX v
 IsInRange (line.Hit pair) = IsPairInRange pair
 IsInRange (line.Block ids) = (2 ≤ length ids) × AreRising 1 ids
 IsInRange (line.Move s) = IsFrom 1 ID_MAX s.v
@@ -120,13 +130,50 @@ IsInRange (line.Moved how) = IsHowInRange how
 IsInRange (line.Pass kind) = IsPassInRange kind
 IsInRange (line.Did done) = IsChangeInRange done
 IsInRange (line.No what why) = IsAskedInRange what × IsReasonInRange why
+IsInRange line.Group = Unit {0}
+IsInRange (line.Close kept) = Unit {0}
 IsInRange (line.Refused why) = IsRefusalInRange why
 IsInRange line.End = Unit {0}
 
--- the line is one of this version's lines
+-- ---- versions
+
+-- no reason in the old version names a solid vertex
+abbrev pub IsReasonOfVersion : ℕ → Why → Type 0
+IsReasonOfVersion version reason.Solid = version ≡ VERSION
+IsReasonOfVersion version _ = Unit {0}
+
+-- no refused directive in the old version names a solid vertex
+abbrev pub IsUseOfVersion : ℕ → UseWhy → Type 0
+IsUseOfVersion version (using.Solid v) = version ≡ VERSION
+IsUseOfVersion version _ = Unit {0}
+
+-- no refusal in the old version tells of groups or solid vertices
+abbrev pub IsRefusalOfVersion : ℕ → Refusal → Type 0
+IsRefusalOfVersion version (refusal.Steps fault) = IsWhyOf (is_latest version) fault.why
+IsRefusalOfVersion version (refusal.StepUse at why) = IsUseOfVersion version why
+IsRefusalOfVersion version _ = Unit {0}
+
+-- The line is one of this version's lines: a first line names the version, and only the one that is written tells of solid
+-- vertices and groups.
 abbrev pub IsOfVersion : ℕ → LogLine → Type 0
 IsOfVersion version (line.First v) = v ≡ version
+IsOfVersion version (line.Solid v) = version ≡ VERSION
+IsOfVersion version line.Group = version ≡ VERSION
+IsOfVersion version (line.Close kept) = version ≡ VERSION
+IsOfVersion version (line.No what why) = IsReasonOfVersion version why
+IsOfVersion version (line.Refused why) = IsRefusalOfVersion version why
 IsOfVersion version _ = Unit {0}
+
+-- the line names no other version than the one that is written
+abbrev pub NamesNoOther : LogLine → Type 0
+NamesNoOther (line.First v) = v ≡ VERSION
+NamesNoOther _ = Unit {0}
+
+-- the line is in range, and one of this version's lines
+abbrev pub IsLineOf : ℕ → LogLine → Type 0
+IsLineOf version l = IsInRange l × IsOfVersion version l
+
+-- ---- laws
 
 -- bytes are read as a line exactly where they are its body and it is in range
 abbrev pub LinesAreTheirSpellings : Type 0
@@ -136,6 +183,11 @@ LinesAreTheirSpellings = (version : ℕ) → version < 2 ^ 8 → (body : List �
 abbrev pub BodiesHaveNoEnd : Type 0
 BodiesHaveNoEnd = (version : ℕ) → version < 2 ^ 8 → (l : LogLine) → IsInRange l → IsOfVersion version l → All (λ b. ¬ (b ≡ 10)) (body_of l)
 
--- a text is read as lines exactly where it is their text and each is in range
+-- A text is read as lines exactly where it is their text, and each is in range and of the version that the first line names.
 abbrev pub LogsAreTheirLines : Type 0
-LogsAreTheirLines = (bytes : List ℕ) (ls : List LogLine) → (log_of bytes ≡ Ok ls) ↔ (All (λ l. IsInRange l × IsOfVersion VERSION l) ls × (text_of_lines ls ≡ bytes))
+LogsAreTheirLines = (bytes : List ℕ) (ls : List LogLine) → (log_of bytes ≡ Ok ls) ↔ (All (IsLineOf (version_of bytes)) ls × (text_of_lines ls ≡ bytes))
+
+-- The text of a log whose first line names the version that is written is read as the log's lines, where each further one is
+-- in range and names no other version.
+abbrev pub WrittenLogsAreRead : Type 0
+WrittenLogsAreRead = (ls : List LogLine) → All (λ l. IsInRange l × NamesNoOther l) ls → log_of (text_of_lines (line.First VERSION ∷ ls)) ≡ Ok (line.First VERSION ∷ ls)

@@ -1,5 +1,5 @@
 -- The one spelling of each line.
-use Rattle.std.specs.Prelude.{ℕ, List, [], ◌∷◌, ◌++◌, codes, decimal, map}
+use Rattle.std.specs.Prelude.{ℕ, Bool, true, false, List, [], ◌∷◌, ◌++◌, codes, decimal, map}
 use Rattle.std.specs.Fmt.{signed_decimal}
 use Rattle.std.specs.List.{join_with_byte}
 use Rattle.edit_base.specs.declared.Asked.{Asked}
@@ -44,6 +44,7 @@ why_word why.Short = codes "short"
 why_word why.Long = codes "long"
 why_word why.Unknown = codes "unknown"
 why_word why.Continuation = codes "continuation"
+why_word why.Nesting = codes "nesting"
 
 -- the smaller end, the larger end, and the face
 abbrev pub pair_words : PairName → List (List ℕ)
@@ -72,6 +73,7 @@ use_words (using.NoVertex v) = codes "vertex" ∷ decimal v ∷ []
 use_words (using.ShiftRange v) = codes "range" ∷ decimal v ∷ []
 use_words (using.Box v) = codes "box" ∷ decimal v ∷ []
 use_words using.NoField = codes "field" ∷ []
+use_words (using.Solid v) = codes "solid" ∷ decimal v ∷ []
 
 -- what is refused, and why
 abbrev pub refusal_words : Refusal → List (List ℕ)
@@ -132,6 +134,12 @@ reason_words reason.Full = codes "full" ∷ []
 reason_words reason.Doubled = codes "doubled" ∷ []
 reason_words reason.OneFan = codes "onefan" ∷ []
 reason_words (reason.Hit pair) = codes "hit" ∷ pair_words pair
+reason_words reason.Solid = codes "solid" ∷ []
+
+-- whether a group is kept
+abbrev pub kept_word : Bool → List ℕ
+kept_word true = codes "kept"
+kept_word false = codes "undone"
 
 -- ---- lines
 
@@ -140,6 +148,7 @@ abbrev pub line_words : LogLine → List (List ℕ)
 line_words (line.First version) = codes "topo" ∷ codes "log" ∷ decimal version ∷ []
 line_words (line.Mesh k vertices faces) = codes "mesh" ∷ decimal k ∷ decimal vertices ∷ decimal faces ∷ []
 line_words (line.Step k) = codes "step" ∷ decimal k ∷ []
+line_words (line.Solid v) = codes "solid" ∷ decimal v ∷ []
 line_words (line.Hit pair) = codes "hit" ∷ pair_words pair
 line_words (line.Block ids) = codes "block" ∷ map decimal ids
 line_words (line.Move s) = codes "move" ∷ decimal s.v ∷ signed_decimal s.by.x ∷ signed_decimal s.by.y ∷ signed_decimal s.by.z ∷ []
@@ -147,6 +156,8 @@ line_words (line.Moved how) = codes "moved" ∷ how_words how
 line_words (line.Pass kind) = codes "pass" ∷ pass_words kind
 line_words (line.Did done) = change_words done
 line_words (line.No what why) = codes "no" ∷ asked_words what ++ reason_words why
+line_words line.Group = codes "group" ∷ []
+line_words (line.Close kept) = codes "close" ∷ kept_word kept ∷ []
 line_words (line.Refused why) = codes "refused" ∷ refusal_words why
 line_words line.End = codes "end" ∷ []
 

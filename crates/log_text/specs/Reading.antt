@@ -1,5 +1,5 @@
 -- The reader's grammar: the line that words spell, or the reason.
-use Rattle.std.specs.Prelude.{ℕ, ◌+◌, Bool, ◌==◌, if◌then◌else◌, List, [], ◌∷◌, ◌++◌, length, Option, Some, None, Result, Ok, Err, codes, true, false}
+use Rattle.std.specs.Prelude.{ℕ, ◌+◌, Bool, ◌==◌, ◌&&◌, if◌then◌else◌, List, [], ◌∷◌, ◌++◌, length, Option, Some, None, Result, Ok, Err, codes, true, false}
 use Rattle.std.specs.List.{slice_split}
 use Rattle.std.specs.Str.{bytes_eq}
 use Rattle.grid_base.specs.declared.TheConstants.{VERTICES_MAX, FACES_MAX, ID_MAX, HALVINGS_MAX}
@@ -12,14 +12,15 @@ use Rattle.mesh_base.specs.declared.FileWord.TheVariants as file
 use Rattle.mesh_base.specs.declared.How.TheVariants.{Whole, Impulse, Zones, Halved, Zero}
 use Rattle.mesh_base.specs.declared.ShapeFault.TheVariants as shape
 use Rattle.mesh_base.specs.declared.UseWhy.TheVariants as using
-use Rattle.log_text.specs.declared.TheConstants.{COUNT_MAX, SEEN_MAX, CORNER_MAX, PASSES_MAX, ROUNDS_MAX, VERSION}
+use Rattle.log_text.specs.declared.TheConstants.{COUNT_MAX, SEEN_MAX, CORNER_MAX, PASSES_MAX, ROUNDS_MAX, VERSION, OLD_VERSION}
 use Rattle.log_text.specs.declared.log_line.LogLine.{LogLine}
 use Rattle.log_text.specs.declared.log_line.LogLine.TheVariants as line
 use Rattle.log_text.specs.declared.log_line.Refusal.{Refusal}
 use Rattle.log_text.specs.declared.log_line.Refusal.TheVariants as refusal
 use Rattle.line_text.specs.Spellings.{spaced_words, spelled_number, spelled_from, spelled_at, count_with_end}
 use Rattle.log_text.specs.Fields.{both}
-use Rattle.log_text.specs.Values.{pair_at, shift_of_at, fault_at, whole, alone}
+use Rattle.log_text.specs.Lines.{body_of}
+use Rattle.log_text.specs.Values.{is_latest, pair_at, shift_of_at, fault_at, whole, alone}
 use Rattle.log_text.specs.EditLines.{block_of, pinch_of, edit_of}
 
 -- ---- lines
@@ -111,28 +112,41 @@ unfoldable pub use_line : Bool → List ℕ → List (List ℕ) → Result ℕ T
 use_line ended at words = count_with_end ended 0 words >>= λ counted. spelled_from 1 COUNT_MAX (spelled_number at)
 
 -- The word behind the line's number says how many follow; a misspelt one asks for as many as follow.
-unfoldable pub use_of : Bool → List (List ℕ) → Result LogLine TextWhy
-use_of ended [] = Err why.Short
-use_of ended (at ∷ []) = Err why.Short
-use_of ended (at ∷ word ∷ words) =
+unfoldable pub use_of : ℕ → Bool → List (List ℕ) → Result LogLine TextWhy
+use_of version ended [] = Err why.Short
+use_of version ended (at ∷ []) = Err why.Short
+use_of version ended (at ∷ word ∷ words) =
     if bytes_eq word (codes "vertex") then (use_numbers ended at words >>= λ n. refused (refusal.StepUse n.0 (using.NoVertex n.1)))
     else if bytes_eq word (codes "range") then (use_numbers ended at words >>= λ n. refused (refusal.StepUse n.0 (using.ShiftRange n.1)))
     else if bytes_eq word (codes "box") then (use_numbers ended at words >>= λ n. refused (refusal.StepUse n.0 (using.Box n.1)))
     else if bytes_eq word (codes "field") then (use_line ended at words >>= λ n. refused (refusal.StepUse n using.NoField))
+    else if bytes_eq word (codes "solid") && is_latest version then (use_numbers ended at words >>= λ n. refused (refusal.StepUse n.0 (using.Solid n.1)))
     else if ended then Err why.Number
     else Err why.Short
 
 -- refused: what, by its next word
-unfoldable pub refused_of : Bool → List (List ℕ) → Result LogLine TextWhy
-refused_of ended [] = Err why.Short
-refused_of ended (word ∷ words) =
+unfoldable pub refused_of : ℕ → Bool → List (List ℕ) → Result LogLine TextWhy
+refused_of version ended [] = Err why.Short
+refused_of version ended (word ∷ words) =
     if bytes_eq word (codes "long") then long_of ended words
     else if bytes_eq word (codes "missing") then missing_of ended words
-    else if bytes_eq word (codes "mesh") then (whole ended 2 fault_at words >>= λ fault. refused (refusal.Mesh fault))
+    else if bytes_eq word (codes "mesh") then (whole ended 2 (fault_at false) words >>= λ fault. refused (refusal.Mesh fault))
     else if bytes_eq word (codes "shape") then shape_of ended words
     else if bytes_eq word (codes "meets") then (whole ended 3 pair_at words >>= λ pair. refused (refusal.Meets pair))
-    else if bytes_eq word (codes "steps") then (whole ended 2 fault_at words >>= λ fault. refused (refusal.Steps fault))
-    else if bytes_eq word (codes "use") then use_of ended words
+    else if bytes_eq word (codes "steps") then (whole ended 2 (fault_at (is_latest version)) words >>= λ fault. refused (refusal.Steps fault))
+    else if bytes_eq word (codes "use") then use_of version ended words
+    else Err why.Unknown
+
+-- solid V
+unfoldable pub solid_of : Bool → List (List ℕ) → Result LogLine TextWhy
+solid_of ended words = whole ended 1 (spelled_at 1 ID_MAX) words >>= λ v. Ok (line.Solid v)
+
+-- close: whether the group is kept
+unfoldable pub close_of : Bool → List (List ℕ) → Result LogLine TextWhy
+close_of ended [] = Err why.Short
+close_of ended (word ∷ words) =
+    if bytes_eq word (codes "kept") then alone ended (line.Close true) words
+    else if bytes_eq word (codes "undone") then alone ended (line.Close false) words
     else Err why.Unknown
 
 -- the line of any other form than those that end in a list
@@ -144,9 +158,12 @@ plain_of version ended first words =
     else if bytes_eq first (codes "hit") then hit_of ended words
     else if bytes_eq first (codes "move") then move_of ended words
     else if bytes_eq first (codes "moved") then moved_of ended words
-    else if bytes_eq first (codes "refused") then refused_of ended words
+    else if bytes_eq first (codes "refused") then refused_of version ended words
     else if bytes_eq first (codes "end") then alone ended line.End words
-    else edit_of ended first words
+    else if bytes_eq first (codes "solid") && is_latest version then solid_of ended words
+    else if bytes_eq first (codes "group") && is_latest version then alone ended line.Group words
+    else if bytes_eq first (codes "close") && is_latest version then close_of ended words
+    else edit_of version ended first words
 
 -- the line that the words spell by a version, where ended says that LF stands behind them
 unfoldable pub line_of : ℕ → Bool → List (List ℕ) → Result LogLine TextWhy
@@ -169,6 +186,19 @@ parts_add version lines number [] = Ok lines
 parts_add version lines number (last ∷ []) = if length last == 0 then Ok lines else at_line number (line_adds version lines false last)
 parts_add version lines number (part ∷ next ∷ parts) = at_line number (line_adds version lines true part) >>= λ more. parts_add version more (number + 1) (next ∷ parts)
 
+-- the parts of a text between LFs
+abbrev pub parts_of_text : List ℕ → List (List ℕ)
+parts_of_text bytes = slice_split (λ b. b == 10) bytes
+
+-- the version by which parts are read: the one that is written where the first of them names it, and otherwise the old one
+abbrev pub version_in : List (List ℕ) → ℕ
+version_in [] = OLD_VERSION
+version_in (first ∷ parts) = if bytes_eq first (body_of (line.First VERSION)) then VERSION else OLD_VERSION
+
+-- the version by which a text is read
+abbrev pub version_of : List ℕ → ℕ
+version_of bytes = version_in (parts_of_text bytes)
+
 -- the lines of a text, or the first that is no spelling
 abbrev pub log_of : List ℕ → Result (List LogLine) TextFault
-log_of bytes = parts_add VERSION [] 1 (slice_split (λ b. b == 10) bytes)
+log_of bytes = parts_add (version_of bytes) [] 1 (parts_of_text bytes)

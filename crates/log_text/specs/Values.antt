@@ -1,5 +1,5 @@
 -- Values of a log's lines, as words spell them.
-use Rattle.std.specs.Prelude.{ℕ, ◌+◌, Bool, if◌then◌else◌, List, [], ◌∷◌, Option, Some, None, Result, Ok, Err, codes}
+use Rattle.std.specs.Prelude.{ℕ, ◌+◌, ◌==◌, ◌&&◌, Bool, if◌then◌else◌, List, [], ◌∷◌, Option, Some, None, Result, Ok, Err, codes}
 use Rattle.std.specs.Str.{bytes_eq}
 use Rattle.edit_base.specs.declared.CopyAt.{CopyAt}
 use Rattle.edit_base.specs.declared.Why.{Why}
@@ -14,8 +14,12 @@ use Rattle.line_text.specs.Faults.{◌>>=◌}
 use Rattle.line_text.specs.Spellings.{spelled_at, spelled_signed_at, count_with_end}
 use Rattle.mesh_base.specs.declared.PairName.{PairName}
 use Rattle.mesh_base.specs.declared.ShiftOf.{ShiftOf}
-use Rattle.log_text.specs.declared.TheConstants.{COUNT_MAX}
+use Rattle.log_text.specs.declared.TheConstants.{COUNT_MAX, VERSION}
 use Rattle.log_text.specs.Fields.{Reader, or_number, in_turn, both}
+
+-- whether it is the version that is written, which alone tells of solid vertices and groups
+abbrev pub is_latest : ℕ → Bool
+is_latest version = version == VERSION
 
 -- the smaller end of an edge, its larger end, and a face
 unfoldable pub pair_at : Reader PairName
@@ -29,9 +33,9 @@ shift_of_at words = do
   found ← both (spelled_at 1 ID_MAX) (both (spelled_signed_at SHIFT_MAX) (both (spelled_signed_at SHIFT_MAX) (spelled_signed_at SHIFT_MAX))) words
   Ok (record { v = found.0.0; by = shift_by (record { x = found.0.1.0; y = found.0.1.1.0; z = found.0.1.1.1 }) }, found.1)
 
--- the reason that a word names
-unfoldable pub why_of : List ℕ → Option TextWhy
-why_of word =
+-- the reason that a word names, of a text with or without groups
+unfoldable pub why_of : Bool → List ℕ → Option TextWhy
+why_of groups word =
     if bytes_eq word (codes "number") then Some why.Number
     else if bytes_eq word (codes "corner") then Some why.Corner
     else if bytes_eq word (codes "range") then Some why.Range
@@ -39,17 +43,18 @@ why_of word =
     else if bytes_eq word (codes "long") then Some why.Long
     else if bytes_eq word (codes "unknown") then Some why.Unknown
     else if bytes_eq word (codes "continuation") then Some why.Continuation
+    else if bytes_eq word (codes "nesting") && groups then Some why.Nesting
     else None
 
 -- the next word as such a reason
-unfoldable pub why_at : Reader TextWhy
-why_at [] = Err why.Short
-why_at (word ∷ words) = or_number (why_of word) >>= λ found. Ok (found, words)
+unfoldable pub why_at : Bool → Reader TextWhy
+why_at groups [] = Err why.Short
+why_at groups (word ∷ words) = or_number (why_of groups word) >>= λ found. Ok (found, words)
 
--- the number of a line and the reason why it can't be read
-unfoldable pub fault_at : Reader TextFault
-fault_at words = do
-  found ← both (spelled_at 1 COUNT_MAX) why_at words
+-- the number of a line and the reason why it can't be read, of a text with or without groups
+unfoldable pub fault_at : Bool → Reader TextFault
+fault_at groups words = do
+  found ← both (spelled_at 1 COUNT_MAX) (why_at groups) words
   Ok (record { line = found.0.0; why = found.0.1 }, found.1)
 
 -- the two ends of an edge, the smaller first
@@ -69,8 +74,8 @@ place_at words = do
   Ok (record { w = found.0.0; at = found.0.1 }, found.1)
 
 -- the reason of one word why an edit isn't done
-unfoldable pub reason_of : List ℕ → Option Why
-reason_of word =
+unfoldable pub reason_of : ℕ → List ℕ → Option Why
+reason_of version word =
     if bytes_eq word (codes "noedge") then Some reason.NoEdge
     else if bytes_eq word (codes "crowded") then Some reason.Crowded
     else if bytes_eq word (codes "edge") then Some reason.Edge
@@ -78,14 +83,15 @@ reason_of word =
     else if bytes_eq word (codes "full") then Some reason.Full
     else if bytes_eq word (codes "doubled") then Some reason.Doubled
     else if bytes_eq word (codes "onefan") then Some reason.OneFan
+    else if bytes_eq word (codes "solid") && is_latest version then Some reason.Solid
     else None
 
 -- the reason, which has a pair behind it where it is `hit`
-unfoldable pub reason_at : Reader Why
-reason_at [] = Err why.Short
-reason_at (word ∷ words) =
+unfoldable pub reason_at : ℕ → Reader Why
+reason_at version [] = Err why.Short
+reason_at version (word ∷ words) =
     if bytes_eq word (codes "hit") then (pair_at words >>= λ pair. Ok (reason.Hit pair.0, pair.1))
-    else (or_number (reason_of word) >>= λ found. Ok (found, words))
+    else (or_number (reason_of version word) >>= λ found. Ok (found, words))
 
 -- ---- how many words there are
 

@@ -104,74 +104,79 @@ fn zip(ended: bool, words: Parts<'_>) -> Result<LogLine, TextWhy>
 
 // An edge, and the reason.
 #[tactic(auto, unfolding(crate::specs::EditLines::asked_of))]
-fn asked_edge(ended: bool, words: Parts<'_>) -> Result<((VertexId, VertexId), Why), TextWhy>
-    ensures { result ≡ spec.asked_of ended 2 edge_at (parts_left words.entry) }
+fn asked_edge(
+    version: u8,
+    ended: bool,
+    words: Parts<'_>,
+) -> Result<((VertexId, VertexId), Why), TextWhy>
+    ensures { result ≡ spec.asked_of version ended 2 edge_at (parts_left words.entry) }
 {
     let mut words = words;
-    reason_with_end(ended, behind(2, words))?;
+    reason_with_end(version, ended, behind(2, words))?;
     let edge = edge_at(&mut words)?;
-    let why = reason_at(&mut words)?;
+    let why = reason_at(version, &mut words)?;
     Ok((edge, why))
 }
 
 // Two edges, and the reason.
 #[tactic(auto, unfolding(crate::specs::EditLines::asked_of))]
 fn asked_edges(
+    version: u8,
     ended: bool,
     words: Parts<'_>,
 ) -> Result<(((VertexId, VertexId), (VertexId, VertexId)), Why), TextWhy>
-    ensures { result ≡ spec.asked_of ended 4 (both edge_at edge_at) (parts_left words.entry) }
+    ensures { result ≡ spec.asked_of version ended 4 (both edge_at edge_at) (parts_left words.entry) }
 {
     let mut words = words;
-    reason_with_end(ended, behind(4, words))?;
+    reason_with_end(version, ended, behind(4, words))?;
     let first = edge_at(&mut words)?;
     let second = edge_at(&mut words)?;
-    let why = reason_at(&mut words)?;
+    let why = reason_at(version, &mut words)?;
     Ok(((first, second), why))
 }
 
 // A vertex, and the reason.
 #[tactic(auto, unfolding(crate::specs::EditLines::asked_of))]
-fn asked_vertex(ended: bool, words: Parts<'_>) -> Result<(u32, Why), TextWhy>
-    ensures { result ≡ spec.asked_of ended 1 (spelled_at 1 ID_MAX) (parts_left words.entry) }
+fn asked_vertex(version: u8, ended: bool, words: Parts<'_>) -> Result<(u32, Why), TextWhy>
+    ensures { result ≡ spec.asked_of version ended 1 (spelled_at 1 ID_MAX) (parts_left words.entry) }
 {
     let mut words = words;
-    reason_with_end(ended, behind(1, words))?;
+    reason_with_end(version, ended, behind(1, words))?;
     let v = count_at(&mut words, 1, ID_MAX)?;
-    let why = reason_at(&mut words)?;
+    let why = reason_at(version, &mut words)?;
     Ok((v, why))
 }
 
 #[tactic(auto, unfolding(crate::specs::EditLines::no_of))]
-fn no(ended: bool, words: Parts<'_>) -> Result<LogLine, TextWhy>
-    ensures { result ≡ spec.no_of ended (parts_left words.entry) }
+fn no(version: u8, ended: bool, words: Parts<'_>) -> Result<LogLine, TextWhy>
+    ensures { result ≡ spec.no_of version ended (parts_left words.entry) }
 {
     let mut words = words;
     let Some(edit) = words.next() else {
         return Err(TextWhy::Short);
     };
     if is_word(edit, b"split") {
-        let ((a, b), why) = asked_edge(ended, words)?;
+        let ((a, b), why) = asked_edge(version, ended, words)?;
         let what = Asked::Split { a, b };
         return Ok(LogLine::No { what, why });
     }
     if is_word(edit, b"flip") {
-        let ((a, b), why) = asked_edge(ended, words)?;
+        let ((a, b), why) = asked_edge(version, ended, words)?;
         let what = Asked::Flip { a, b };
         return Ok(LogLine::No { what, why });
     }
     if is_word(edit, b"collapse") {
-        let ((a, b), why) = asked_edge(ended, words)?;
+        let ((a, b), why) = asked_edge(version, ended, words)?;
         let what = Asked::Collapse { a, b };
         return Ok(LogLine::No { what, why });
     }
     if is_word(edit, b"zip") {
-        let (((a, b), (e, f)), why) = asked_edges(ended, words)?;
+        let (((a, b), (e, f)), why) = asked_edges(version, ended, words)?;
         let what = Asked::Zip { a, b, e, f };
         return Ok(LogLine::No { what, why });
     }
     if is_word(edit, b"pinch") {
-        let (v, why) = asked_vertex(ended, words)?;
+        let (v, why) = asked_vertex(version, ended, words)?;
         let what = Asked::Pinch { v: VertexId(v) };
         return Ok(LogLine::No { what, why });
     }
@@ -179,8 +184,13 @@ fn no(ended: bool, words: Parts<'_>) -> Result<LogLine, TextWhy>
 }
 
 #[tactic(auto, unfolding(crate::specs::EditLines::edit_of))]
-pub(crate) fn edit(ended: bool, form: &[u8], words: Parts<'_>) -> Result<LogLine, TextWhy>
-    ensures { result ≡ spec.edit_of ended form.now (parts_left words.entry) }
+pub(crate) fn edit(
+    version: u8,
+    ended: bool,
+    form: &[u8],
+    words: Parts<'_>,
+) -> Result<LogLine, TextWhy>
+    ensures { result ≡ spec.edit_of version ended form.now (parts_left words.entry) }
 {
     if is_word(form, b"pass") {
         return pass(ended, words);
@@ -198,7 +208,7 @@ pub(crate) fn edit(ended: bool, form: &[u8], words: Parts<'_>) -> Result<LogLine
         return zip(ended, words);
     }
     if is_word(form, b"no") {
-        return no(ended, words);
+        return no(version, ended, words);
     }
     Err(TextWhy::Unknown)
 }

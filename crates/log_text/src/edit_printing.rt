@@ -175,6 +175,7 @@ fn put_reason(why: Why, into: &mut Vec<u8>) -> Result<(), NoMemory>
             ],
             into,
         ),
+        Why::Solid => put_spaced(&[Field::Text(b"solid")], into),
     }
 }
 

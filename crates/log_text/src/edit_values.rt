@@ -4,6 +4,7 @@ ghost use Rattle.line_text.specs.Remaining.{parts_left};
 ghost use Rattle.log_text.specs.EditLines as lines;
 ghost use Rattle.log_text.specs.Values as spec;
 
+use crate::VERSION;
 use crate::values::{count_at, pair_at};
 use edit_base::{CopyAt, Why};
 use grid_base::{BOX, ID_MAX, Point};
@@ -39,8 +40,8 @@ pub(crate) fn place_at(words: &mut Parts<'_>) -> Result<CopyAt, TextWhy>
 }
 
 #[tactic(auto, unfolding(crate::specs::Values::reason_of))]
-fn reason_of(word: &[u8]) -> Option<Why>
-    ensures { result ≡ spec.reason_of word.now }
+fn reason_of(version: u8, word: &[u8]) -> Option<Why>
+    ensures { result ≡ spec.reason_of version word.now }
 {
     if is_word(word, b"noedge") {
         return Some(Why::NoEdge);
@@ -63,12 +64,15 @@ fn reason_of(word: &[u8]) -> Option<Why>
     if is_word(word, b"onefan") {
         return Some(Why::OneFan);
     }
+    if is_word(word, b"solid") && version == VERSION {
+        return Some(Why::Solid);
+    }
     None
 }
 
 #[tactic(auto, unfolding(crate::specs::Values::reason_at))]
-pub(crate) fn reason_at(words: &mut Parts<'_>) -> Result<Why, TextWhy>
-    ensures { Takes (parts_left words.new) result (spec.reason_at (parts_left words.old)) }
+pub(crate) fn reason_at(version: u8, words: &mut Parts<'_>) -> Result<Why, TextWhy>
+    ensures { Takes (parts_left words.new) result (spec.reason_at version (parts_left words.old)) }
 {
     let Some(word) = words.next() else {
         return Err(TextWhy::Short);
@@ -77,7 +81,7 @@ pub(crate) fn reason_at(words: &mut Parts<'_>) -> Result<Why, TextWhy>
         let pair = pair_at(words)?;
         return Ok(Why::Hit(pair));
     }
-    match reason_of(word) {
+    match reason_of(version, word) {
         Some(why) => Ok(why),
         None => Err(TextWhy::Number),
     }
@@ -100,8 +104,8 @@ pub(crate) fn behind<'a>(count: usize, words: Parts<'a>) -> Parts<'a>
 
 // As many words behind the reason as it asks for, and LF.
 #[tactic(auto, unfolding(crate::specs::EditLines::reason_with_end))]
-pub(crate) fn reason_with_end(ended: bool, words: Parts<'_>) -> Result<(), TextWhy>
-    ensures { result ≡ lines.reason_with_end ended (parts_left words.entry) }
+pub(crate) fn reason_with_end(version: u8, ended: bool, words: Parts<'_>) -> Result<(), TextWhy>
+    ensures { result ≡ lines.reason_with_end version ended (parts_left words.entry) }
 {
     let mut words = words;
     let Some(word) = words.next() else {
@@ -110,7 +114,7 @@ pub(crate) fn reason_with_end(ended: bool, words: Parts<'_>) -> Result<(), TextW
     if is_word(word, b"hit") {
         return count_with_end(ended, 3, words);
     }
-    if reason_of(word).is_some() {
+    if reason_of(version, word).is_some() {
         return count_with_end(ended, 0, words);
     }
     if ended { Ok(()) } else { Err(TextWhy::Short) }

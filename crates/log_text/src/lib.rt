@@ -20,8 +20,10 @@ pub use log_line::{Log, LogLine, Refusal};
 pub use printing::print_line;
 pub use reading::read_log;
 
-/// The version by which a log is read.
-pub const VERSION: u8 = 1;
+/// The version that is written, and by which a log is read whose first line names it.
+pub const VERSION: u8 = 2;
+/// The version by which any other log is read.
+pub const OLD_VERSION: u8 = 1;
 /// The greatest count of meshes, steps, lines and faces.
 pub const COUNT_MAX: u32 = u32::MAX;
 /// The greatest count of what a refused file has too many of.

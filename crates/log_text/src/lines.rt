@@ -9,10 +9,10 @@ use crate::listed::{block, pinch};
 use crate::log_line::LogLine;
 use crate::refusals::refused;
 use crate::values::{alone, count_at, pair_at, shift_of_at};
-use crate::{COUNT_MAX, PASSES_MAX, ROUNDS_MAX};
-use grid_base::{FACES_MAX, HALVINGS_MAX, VERTICES_MAX};
+use crate::{COUNT_MAX, PASSES_MAX, ROUNDS_MAX, VERSION};
+use grid_base::{FACES_MAX, HALVINGS_MAX, ID_MAX, VERTICES_MAX};
 use line_text::{Parts, ReadFault, TextFault, TextWhy, count_with_end, is_word};
-use mesh_base::How;
+use mesh_base::{How, VertexId};
 use std::alloc::Global;
 
 #[tactic(auto, unfolding(crate::specs::Reading::first_of))]
@@ -107,6 +107,33 @@ fn moved(ended: bool, words: Parts<'_>) -> Result<LogLine, TextWhy>
     Err(TextWhy::Unknown)
 }
 
+#[tactic(auto, unfolding(crate::specs::Reading::solid_of))]
+fn solid(ended: bool, words: Parts<'_>) -> Result<LogLine, TextWhy>
+    ensures { result ≡ spec.solid_of ended (parts_left words.entry) }
+{
+    let mut words = words;
+    count_with_end(ended, 1, words)?;
+    let v = count_at(&mut words, 1, ID_MAX)?;
+    Ok(LogLine::Solid { v: VertexId(v) })
+}
+
+#[tactic(auto, unfolding(crate::specs::Reading::close_of))]
+fn close(ended: bool, words: Parts<'_>) -> Result<LogLine, TextWhy>
+    ensures { result ≡ spec.close_of ended (parts_left words.entry) }
+{
+    let mut words = words;
+    let Some(word) = words.next() else {
+        return Err(TextWhy::Short);
+    };
+    if is_word(word, b"kept") {
+        return alone(ended, LogLine::Close { kept: true }, words);
+    }
+    if is_word(word, b"undone") {
+        return alone(ended, LogLine::Close { kept: false }, words);
+    }
+    Err(TextWhy::Unknown)
+}
+
 #[tactic(auto, unfolding(crate::specs::Reading::plain_of))]
 fn plain(version: u8, ended: bool, form: &[u8], words: Parts<'_>) -> Result<LogLine, TextWhy>
     ensures { result ≡ spec.plain_of version ended form.now (parts_left words.entry) }
@@ -130,12 +157,21 @@ fn plain(version: u8, ended: bool, form: &[u8], words: Parts<'_>) -> Result<LogL
         return moved(ended, words);
     }
     if is_word(form, b"refused") {
-        return refused(ended, words);
+        return refused(version, ended, words);
     }
     if is_word(form, b"end") {
         return alone(ended, LogLine::End, words);
     }
-    edit(ended, form, words)
+    if is_word(form, b"solid") && version == VERSION {
+        return solid(ended, words);
+    }
+    if is_word(form, b"group") && version == VERSION {
+        return alone(ended, LogLine::Group, words);
+    }
+    if is_word(form, b"close") && version == VERSION {
+        return close(ended, words);
+    }
+    edit(version, ended, form, words)
 }
 
 // What was read of a line, with its number at a fault.

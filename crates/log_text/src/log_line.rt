@@ -1,7 +1,7 @@
 use edit_base::{Asked, Change, PassKind, Why};
 use grid_base::Items;
 use line_text::TextFault;
-use mesh_base::{FileWord, How, Ids, PairName, ShapeFault, ShiftOf, UseWhy};
+use mesh_base::{FileWord, How, Ids, PairName, ShapeFault, ShiftOf, UseWhy, VertexId};
 
 /// Why a run ended before its directives were all run.
 #[derive(Clone, Copy, Debug, PartialEq, Eq)]
@@ -31,6 +31,8 @@ pub enum LogLine {
     Mesh { k: u32, vertices: u32, faces: u32 },
     /// Step `k` begins, counted from 1.
     Step { k: u32 },
+    /// A vertex is solid from here on.
+    Solid { v: VertexId },
     /// A pair of the asked step that doesn't pass.
     Hit(PairName),
     /// The vertices of a block of the round of impact zones that is taken, by rising id.
@@ -45,6 +47,10 @@ pub enum LogLine {
     Did(Change),
     /// An edit that was asked for isn't done.
     No { what: Asked, why: Why },
+    /// A group of directives begins.
+    Group,
+    /// The group that began last ends, and is kept whole or taken back whole.
+    Close { kept: bool },
     /// The run ended before its directives were all run.
     Refused(Refusal),
     /// The directives were all run.

@@ -8,7 +8,7 @@ use crate::log_line::{LogLine, Refusal};
 use crate::putting::{print_block, put_words};
 use grid_base::NoMemory;
 use line_text::{Field, TextFault, TextWhy};
-use mesh_base::{FileWord, How, PairName, ShapeFault, ShiftOf, UseWhy};
+use mesh_base::{FileWord, How, PairName, ShapeFault, ShiftOf, UseWhy, VertexId};
 
 fn file_word(file: FileWord) -> &'static [u8]
     ensures { result.now ≡ spec.file_word file }
@@ -30,6 +30,7 @@ fn why_word(why: TextWhy) -> &'static [u8]
         TextWhy::Long => b"long",
         TextWhy::Unknown => b"unknown",
         TextWhy::Continuation => b"continuation",
+        TextWhy::Nesting => b"nesting",
     }
 }
 
@@ -67,6 +68,26 @@ fn print_step(k: u32, into: &mut Vec<u8>) -> Result<(), NoMemory>
     ensures err { OnErr result (Keeps into.old.items into.new.items) }
 {
     put_words(&[Field::Text(b"step"), Field::Number(u64::from(k))], into)
+}
+
+fn print_solid(v: VertexId, into: &mut Vec<u8>) -> Result<(), NoMemory>
+    ensures ok { OnOk result (into.new.items ≡ into.old.items ++ spec.text_of_line (LogLine.Solid v)) }
+    ensures err { OnErr result (Keeps into.old.items into.new.items) }
+{
+    put_words(
+        &[Field::Text(b"solid"), Field::Number(u64::from(v.0))],
+        into,
+    )
+}
+
+fn print_close(kept: bool, into: &mut Vec<u8>) -> Result<(), NoMemory>
+    ensures ok { OnOk result (into.new.items ≡ into.old.items ++ spec.text_of_line (LogLine.Close kept)) }
+    ensures err { OnErr result (Keeps into.old.items into.new.items) }
+{
+    if kept {
+        return put_words(&[Field::Text(b"close"), Field::Text(b"kept")], into);
+    }
+    put_words(&[Field::Text(b"close"), Field::Text(b"undone")], into)
 }
 
 fn print_hit(pair: PairName, into: &mut Vec<u8>) -> Result<(), NoMemory>
@@ -223,6 +244,7 @@ fn print_use(at: u32, why: UseWhy, into: &mut Vec<u8>) -> Result<(), NoMemory>
         UseWhy::NoVertex { v } => (Field::Text(b"vertex"), v),
         UseWhy::ShiftRange { v } => (Field::Text(b"range"), v),
         UseWhy::Box { v } => (Field::Text(b"box"), v),
+        UseWhy::Solid { v } => (Field::Text(b"solid"), v),
         UseWhy::NoField => return print_no_field(at, into),
     };
     put_words(
@@ -302,6 +324,7 @@ fn put_any(line: &LogLine, into: &mut Vec<u8>) -> Result<(), NoMemory>
         LogLine::First { version } => print_first(*version, into),
         LogLine::Mesh { k, vertices, faces } => print_mesh(*k, *vertices, *faces, into),
         LogLine::Step { k } => print_step(*k, into),
+        LogLine::Solid { v } => print_solid(*v, into),
         LogLine::Hit(pair) => print_hit(*pair, into),
         LogLine::Block(ids) => print_block(ids, into),
         LogLine::Move(s) => print_move(*s, into),
@@ -309,6 +332,8 @@ fn put_any(line: &LogLine, into: &mut Vec<u8>) -> Result<(), NoMemory>
         LogLine::Pass(pass) => print_pass(*pass, into),
         LogLine::Did(change) => print_change(change, into),
         LogLine::No { what, why } => print_no(*what, *why, into),
+        LogLine::Group => put_words(&[Field::Text(b"group")], into),
+        LogLine::Close { kept } => print_close(*kept, into),
         LogLine::Refused(why) => print_refused(*why, into),
         LogLine::End => put_words(&[Field::Text(b"end")], into),
     }

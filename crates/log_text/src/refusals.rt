@@ -5,7 +5,7 @@ ghost use Rattle.log_text.specs.Reading as spec;
 
 use crate::log_line::{LogLine, Refusal};
 use crate::values::{alone, count_at, fault_at, file_of, number_of, pair_at};
-use crate::{CORNER_MAX, COUNT_MAX, SEEN_MAX};
+use crate::{CORNER_MAX, COUNT_MAX, SEEN_MAX, VERSION};
 use grid_base::ID_MAX;
 use line_text::{Parts, TextWhy, count_with_end, is_word, spelled_at};
 use mesh_base::{ShapeFault, UseWhy};
@@ -108,8 +108,8 @@ fn use_line(ended: bool, at: &[u8], words: Parts<'_>) -> Result<u32, TextWhy>
 }
 
 #[tactic(auto, unfolding(crate::specs::Reading::use_of))]
-fn directive_use(ended: bool, words: Parts<'_>) -> Result<LogLine, TextWhy>
-    ensures { result ≡ spec.use_of ended (parts_left words.entry) }
+fn directive_use(version: u8, ended: bool, words: Parts<'_>) -> Result<LogLine, TextWhy>
+    ensures { result ≡ spec.use_of version ended (parts_left words.entry) }
 {
     let mut words = words;
     let Some(at) = words.next() else {
@@ -138,6 +138,11 @@ fn directive_use(ended: bool, words: Parts<'_>) -> Result<LogLine, TextWhy>
         let why = UseWhy::NoField;
         return Ok(LogLine::Refused(Refusal::StepUse { line, why }));
     }
+    if is_word(word, b"solid") && version == VERSION {
+        let (line, v) = use_numbers(ended, at, words)?;
+        let why = UseWhy::Solid { v };
+        return Ok(LogLine::Refused(Refusal::StepUse { line, why }));
+    }
     if ended {
         return Err(TextWhy::Number);
     }
@@ -145,8 +150,8 @@ fn directive_use(ended: bool, words: Parts<'_>) -> Result<LogLine, TextWhy>
 }
 
 #[tactic(auto, unfolding(crate::specs::Reading::refused_of))]
-pub(crate) fn refused(ended: bool, words: Parts<'_>) -> Result<LogLine, TextWhy>
-    ensures { result ≡ spec.refused_of ended (parts_left words.entry) }
+pub(crate) fn refused(version: u8, ended: bool, words: Parts<'_>) -> Result<LogLine, TextWhy>
+    ensures { result ≡ spec.refused_of version ended (parts_left words.entry) }
 {
     let mut words = words;
     let Some(word) = words.next() else {
@@ -160,7 +165,7 @@ pub(crate) fn refused(ended: bool, words: Parts<'_>) -> Result<LogLine, TextWhy>
     }
     if is_word(word, b"mesh") {
         count_with_end(ended, 2, words)?;
-        let fault = fault_at(&mut words)?;
+        let fault = fault_at(false, &mut words)?;
         return Ok(LogLine::Refused(Refusal::Mesh(fault)));
     }
     if is_word(word, b"shape") {
@@ -173,11 +178,11 @@ pub(crate) fn refused(ended: bool, words: Parts<'_>) -> Result<LogLine, TextWhy>
     }
     if is_word(word, b"steps") {
         count_with_end(ended, 2, words)?;
-        let fault = fault_at(&mut words)?;
+        let fault = fault_at(version == VERSION, &mut words)?;
         return Ok(LogLine::Refused(Refusal::Steps(fault)));
     }
     if is_word(word, b"use") {
-        return directive_use(ended, words);
+        return directive_use(version, ended, words);
     }
     Err(TextWhy::Unknown)
 }

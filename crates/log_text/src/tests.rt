@@ -1,4 +1,6 @@
 //! Worked examples: lines with their spellings, logs that are cut short, and texts that are no log.
+ghost use Rattle.std.specs.Prelude.{◌<◌, length};
+
 use crate::{LogLine, Refusal, print_line, read_log};
 use edit_base::{Asked, Change, Copies, CopyAt, PassKind, Why};
 use grid_base::{NoMemory, Point, Shift};
@@ -221,6 +223,25 @@ fn put_lists(alloc: Global, into: &mut Vec<u8>) -> Result<(), NoMemory> {
 const LISTS: &[u8] = b"block 5 6 11\nblock 2 3 7\npinch 1 1 0 0 8 -1 0 0\n\
 pinch 3 1 2 3 8 -4 5 6 9 7 8 -9\n";
 
+// Appends each line that is of the version that is written alone.
+fn put_latest(into: &mut Vec<u8>) -> Result<(), NoMemory> {
+    let (a, b) = (VertexId(1), VertexId(2));
+    let lines = [
+        LogLine::First { version: 2 },
+        LogLine::Solid {
+            v: VertexId(2_147_483_648),
+        },
+        LogLine::Group,
+        LogLine::Close { kept: true },
+        LogLine::Close { kept: false },
+        no(Asked::Collapse { a, b }, Why::Solid),
+        no(Asked::Pinch { v: VertexId(3) }, Why::Solid),
+        LogLine::Refused(Refusal::Steps(fault(9, TextWhy::Nesting))),
+        LogLine::Refused(refused_use(2, UseWhy::Solid { v: 1 })),
+    ];
+    put(&lines, into)
+}
+
 #[test]
 fn lines_have_one_spelling(rt: HostRuntime) -> Result<(), Fail> {
     let mut text = Vec::new(rt.alloc());
@@ -234,6 +255,9 @@ fn lines_have_one_spelling(rt: HostRuntime) -> Result<(), Fail> {
     let mut text = Vec::new(rt.alloc());
     put_lists(rt.alloc(), &mut text)?;
     assert_eq!(rt; text.as_slice(), LISTS);
+    let mut text = Vec::new(rt.alloc());
+    put_latest(&mut text)?;
+    assert_eq!(rt; text.as_slice(), LATEST);
     Ok(())
 }
 
@@ -246,17 +270,35 @@ move 5 -4 0 0\nmoved halved 1\nend\n";
 
 // Lines of a step and of each edit, with the greatest values.
 const GREATEST: &[u8] = b"moved impulse 100\nmoved zones 65535\nmoved halved 27\nmoved zero\n\
-move 2147483648 -134217728 134217728 0\nmesh 4294967295 65536 131072\n";
+move 2147483648 -536870912 536870912 0\nmesh 4294967295 65536 131072\n";
 
-const EDITED: &[u8] = b"topo log 1\nblock 1 2147483648\npass split 268435456\n\
-split 1 2147483648 5 -67108864 67108864 0\nno split 1 2 hit 3 4 9\npass flip\nflip 1 2\n\
+// Vertex 1 is solid, a group is taken back, and one is kept around a group that is taken back.
+const SOLID: &[u8] = b"topo log 2\nmesh 0 4 4\nsolid 1\nstep 1\nmove 2 1 0 0\nmove 3 1 0 0\n\
+move 4 1 0 0\nmoved whole\nend\n";
+
+const UNDONE: &[u8] = b"topo log 2\nmesh 0 4 4\ngroup\nstep 1\nmove 1 1 0 0\nmove 2 1 0 0\n\
+move 3 1 0 0\nmove 4 1 0 0\nmoved whole\npass flip\nno flip 1 2 edge\nclose undone\nmesh 1 4 4\nend\n";
+
+const KEPT: &[u8] = b"topo log 2\nmesh 0 8 8\ngroup\ngroup\nstep 1\nhit 5 6 1\nhit 5 7 1\n\
+hit 5 8 1\nmove 5 -4 0 0\nmoved halved 1\nclose undone\nstep 2\nmove 1 1 0 0\nmove 2 1 0 0\n\
+move 3 1 0 0\nmove 4 1 0 0\nmove 5 1 0 0\nmove 6 1 0 0\nmove 7 1 0 0\nmove 8 1 0 0\nmoved whole\n\
+close kept\nend\n";
+
+// Each line that is of the version that is written alone.
+const LATEST: &[u8] = b"topo log 2\nsolid 2147483648\ngroup\nclose kept\nclose undone\n\
+no collapse 1 2 solid\nno pinch 3 solid\nrefused steps 9 nesting\nrefused use 2 solid 1\n";
+
+const EDITED: &[u8] = b"topo log 1\nblock 1 2147483648\npass split 1073741824\n\
+split 1 2147483648 5 -268435456 268435456 0\nno split 1 2 hit 3 4 9\npass flip\nflip 1 2\n\
 no flip 1 2 edge\npass collapse 0\ncollapse 2147483647 2147483648 0 0 0\nno collapse 1 2 full\n\
 pass zip 4\nzip 1 2 1 2 3\nno zip 1 2 9 10 shared\npass pinch\n\
 pinch 3 1 0 0 8 -1 0 0 9 0 0 -7\nno pinch 1 hit 1 2 1\nend\n";
 
 #[test]
 fn logs_are_read_and_printed_again(rt: HostRuntime) -> Result<(), Fail> {
-    for text in [RUN, REFUSED, LISTS, WHOLE, HALVED, GREATEST, EDITED, b""] {
+    for text in [
+        RUN, REFUSED, LISTS, WHOLE, HALVED, GREATEST, EDITED, SOLID, UNDONE, KEPT, LATEST, b"",
+    ] {
         let again = read_and_printed(&rt, rt.alloc(), text)?;
         assert_eq!(rt; again.as_slice(), text);
     }
@@ -287,12 +329,12 @@ fn each_prefix(rt: &impl Abort, alloc: Global, text: &[u8]) {
     }
 }
 
-// Texts of one line, with `|` between them, by the reason why they are no log.
+// Texts of one line, with `|` between them, by the reason why they are no log of the old version.
 const NO_LOGS: [(TextWhy, &[u8]); 4] = [
     (
         TextWhy::Unknown,
         b"\n|# end\n|end\r\n| end\n|solid 3\n|topo lag\n|moved away\n|refused long log 9\n\
-|refused shape round\n|ended|pass jump 3\n|no jump 1 2 edge\n",
+|refused shape round\n|ended|pass jump 3\n|no jump 1 2 edge\n|solid 3|group\n|close kept\n|close",
     ),
     (
         TextWhy::Short,
@@ -306,20 +348,74 @@ const NO_LOGS: [(TextWhy, &[u8]); 4] = [
         TextWhy::Long,
         b"step  1\n|mesh 0 4 4 x\n|refused mesh 3 wrong 4\n|refused use x vertex 9 9\n\
 |refused use x field 4\n|pass flip 3\n|flip 2 1 0\n|zip 1 2 3 4 0 0\n|no split 2 1 edge 3\n\
-|no zip 1 2 3 4 hit 1 2 3 4\n",
+|no zip 1 2 3 4 hit 1 2 3 4\n|topo log 2 \n|topo log 2 x\n",
     ),
     (
         TextWhy::Number,
         b"refused use 3 wrong 4\n|refused mesh 3 wrong\n|refused shape corner 1 4\n\
-|refused long mesh 18446744073709551616\n|refused use 0 field\n|topo log 2\n|step 01\n\
-|step 1\r\n|step +1\n|hit 2 1 1\n|move 1 -0 0 0\n|moved impulse 101\n|pass zip 268435457\n\
-|pass collapse -1\n|split 2 1 5 0 0 0\n|split 1 2 0 0 0 0\n|split 1 2 5 0 67108865 0\n\
+|refused long mesh 18446744073709551616\n|refused use 0 field\n|topo log 3\n|topo log 02\n|step 01\n\
+|step 1\r\n|step +1\n|hit 2 1 1\n|move 1 -0 0 0\n|moved impulse 101\n|pass zip 1073741825\n\
+|pass collapse -1\n|split 2 1 5 0 0 0\n|split 1 2 0 0 0 0\n|split 1 2 5 0 268435457 0\n\
 |flip 1 2147483649\n|flip 2 2\n|collapse 0 2 0 0 0\n|collapse 1 2 00 0 0\n|zip 1 2 3 4 4\n\
 |zip 1 2 4 3 0\n|no flip 1 2 jump\n|no flip 1 2 jump 3 4\n|no flip 2 1 edge\n\
-|no pinch 1 hit 2 1 3\n|no zip 1 2 3 4 Edge\n|block 2 1\n|block 1 2 2\n|block 0 1\n\
-|block 1 2 \n|block 1 2147483649\n|pinch 1 0 0 0 2 0 0 67108865\n|pinch 1 0 0 -0 2 0 0 0\n",
+|no pinch 1 hit 2 1 3\n|no zip 1 2 3 4 Edge\n|no split 1 2 solid\n|no pinch 1 solid 1\n\
+|refused use 3 solid 1\n|refused use 3 solid 1 2 3\n|refused steps 3 nesting\n|refused mesh 3 nesting\n|block 2 1\n|block 1 2 2\n|block 0 1\n\
+|block 1 2 \n|block 1 2147483649\n|pinch 1 0 0 0 2 0 0 268435457\n|pinch 1 0 0 -0 2 0 0 0\n",
     ),
 ];
+
+// Second lines, with `|` between them, by the reason why they are no line of the version that is written.
+const NO_LATEST_LINES: [(TextWhy, &[u8]); 4] = [
+    (
+        TextWhy::Unknown,
+        b"\n|close now\n|close \n|closed kept\n|groups\n|group1\n|solids 3\n|topo lag\n|topo proof 1\n",
+    ),
+    (
+        TextWhy::Short,
+        b"solid\n|solid 1|group|group 1|close\n|close|close kept|close undone|no pinch 1 solid\
+|refused use 3 solid\n|refused use 3 solid 1|topo log\n|topo log 2",
+    ),
+    (
+        TextWhy::Long,
+        b"solid x 2\n|group 1\n|close kept 1\n|close undone x\n|no split 2 1 solid 3\n\
+|no pinch 0 solid 1\n|refused use 3 solid x 2\n|refused steps x nesting 4\n|topo log 1 2\n",
+    ),
+    (
+        TextWhy::Number,
+        b"solid 0\n|solid 01\n|solid 2147483649\n|solid all\n|no split 2 1 solid\n\
+|no pinch 1 Solid\n|no pinch 1 solidly 1\n|refused use 3 solid 0\n|refused use 0 solid 1\n\
+|refused use 3 solids 1 2\n|refused steps 3 nested\n|refused steps 0 nesting\n|refused mesh 3 nesting\n\
+|topo log 1\n|topo log 3\n",
+    ),
+];
+
+fn fault_behind(alloc: Global, first: &[u8], line: &[u8]) -> Result<Option<TextFault>, ReadFault>
+    requires first { length first.now < 100 }
+    requires line { length line.now < 100 }
+{
+    let mut text = Vec::new(alloc);
+    text.extend_from_slice(first)?;
+    text.extend_from_slice(line)?;
+    match read_log(alloc, &text) {
+        Ok(_log) => Ok(None),
+        Err(ReadFault::Text(fault)) => Ok(Some(fault)),
+        Err(ReadFault::NoMemory) => Err(ReadFault::NoMemory),
+    }
+}
+
+#[test]
+fn each_reason_of_the_latest_version_is_told(rt: HostRuntime) -> Result<(), Fail> {
+    for (why, lines) in NO_LATEST_LINES {
+        for line in Parts::new(b'|', lines) {
+            assert!(rt; line.len() < 100);
+            let found = fault_behind(rt.alloc(), b"topo log 2\n", line)?;
+            assert_eq!(rt; found, Some(fault(2, why)));
+        }
+    }
+    let found = fault_behind(rt.alloc(), b"topo log 1\n", b"solid 1\n")?;
+    assert_eq!(rt; found, Some(fault(2, TextWhy::Unknown)));
+    Ok(())
+}
 
 #[test]
 fn each_reason_is_told(rt: HostRuntime) -> Result<(), Fail> {

@@ -62,8 +62,8 @@ pub(crate) fn shift_of_at(words: &mut Parts<'_>) -> Result<ShiftOf, TextWhy>
 }
 
 #[tactic(auto, unfolding(crate::specs::Values::why_of))]
-fn why_of(word: &[u8]) -> Option<TextWhy>
-    ensures { result ≡ spec.why_of word.now }
+fn why_of(groups: bool, word: &[u8]) -> Option<TextWhy>
+    ensures { result ≡ spec.why_of groups word.now }
 {
     if is_word(word, b"number") {
         return Some(TextWhy::Number);
@@ -86,28 +86,31 @@ fn why_of(word: &[u8]) -> Option<TextWhy>
     if is_word(word, b"continuation") {
         return Some(TextWhy::Continuation);
     }
+    if is_word(word, b"nesting") && groups {
+        return Some(TextWhy::Nesting);
+    }
     None
 }
 
 #[tactic(auto, unfolding(crate::specs::Values::why_at))]
-fn why_at(words: &mut Parts<'_>) -> Result<TextWhy, TextWhy>
-    ensures { Takes (parts_left words.new) result (spec.why_at (parts_left words.old)) }
+fn why_at(groups: bool, words: &mut Parts<'_>) -> Result<TextWhy, TextWhy>
+    ensures { Takes (parts_left words.new) result (spec.why_at groups (parts_left words.old)) }
 {
     let Some(word) = words.next() else {
         return Err(TextWhy::Short);
     };
-    match why_of(word) {
+    match why_of(groups, word) {
         Some(why) => Ok(why),
         None => Err(TextWhy::Number),
     }
 }
 
 #[tactic(auto, unfolding(crate::specs::Values::fault_at))]
-pub(crate) fn fault_at(words: &mut Parts<'_>) -> Result<TextFault, TextWhy>
-    ensures { Takes (parts_left words.new) result (spec.fault_at (parts_left words.old)) }
+pub(crate) fn fault_at(groups: bool, words: &mut Parts<'_>) -> Result<TextFault, TextWhy>
+    ensures { Takes (parts_left words.new) result (spec.fault_at groups (parts_left words.old)) }
 {
     let line = count_at(words, 1, COUNT_MAX)?;
-    let why = why_at(words)?;
+    let why = why_at(groups, words)?;
     Ok(TextFault { line, why })
 }
 

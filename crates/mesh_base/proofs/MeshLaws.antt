@@ -13,7 +13,7 @@ use Rattle.std.specs.FinMap.{len-insert, len-remove, get-entries}
 use Rattle.grid_base.specs.declared.Point.{Point}
 use Rattle.mesh_base.specs.declared.ids.Corners.{Corners}
 use Rattle.mesh_base.specs.Mesh.{Mesh, IsMesh, IsSound, AreLive, AreDifferent, IsLiveVertex, HasCorners, equal_up_to_rotation}
-use Rattle.mesh_base.specs.Changes.{with_vertex, with_face, without_face, without_vertex, with_point, IsFresh}
+use Rattle.mesh_base.specs.Changes.{with_vertex, with_face, without_face, without_vertex, with_point, with_solid, IsFresh}
 use Rattle.mesh_base.proofs.Tests.{or_first, or_second, or_either}
 use Rattle.mesh_base.proofs.Finite.{got_after_insert, live_after_insert, live_stays, got_after_remove, live_after_remove, live_but_removed, live_inserted}
 
@@ -36,6 +36,7 @@ sound-with_point m v p s live = record {
   is_mesh = record {
     vertex_ids = λ q h. ⊎_elim (λ e. subst (λ j. (1 ≤ j) × (j < m.next_vertex)) (sym e) (s.is_mesh.vertex_ids v live)) (λ old. s.is_mesh.vertex_ids q old) (live_after_insert m.points v p q h);
     face_ids = s.is_mesh.face_ids;
+    solid_ids = λ q h. live_stays m.points v p q (s.is_mesh.solid_ids q h);
     live_corners = λ f c h.
         let old = s.is_mesh.live_corners f c h in
         (live_stays m.points v p c.first old.0, live_stays m.points v p c.second old.1, live_stays m.points v p c.third old.2);
@@ -56,6 +57,7 @@ sound-with_vertex m p s few ids = record {
   is_mesh = record {
     vertex_ids = λ q h. ⊎_elim (λ e. let b = s.limits.vertex_ids in omega arith) (λ old. let b = s.is_mesh.vertex_ids q old in omega arith) (live_after_insert m.points m.next_vertex p q h);
     face_ids = s.is_mesh.face_ids;
+    solid_ids = λ q h. live_stays m.points m.next_vertex p q (s.is_mesh.solid_ids q h);
     live_corners = λ f c h.
         let old = s.is_mesh.live_corners f c h in
         (live_stays m.points m.next_vertex p c.first old.0, live_stays m.points m.next_vertex p c.second old.1, live_stays m.points m.next_vertex p c.third old.2);
@@ -76,6 +78,7 @@ sound-without_face m f s = record {
   is_mesh = record {
     vertex_ids = s.is_mesh.vertex_ids;
     face_ids = λ g h. s.is_mesh.face_ids g (live_after_remove m.faces f g h).1;
+    solid_ids = s.is_mesh.solid_ids;
     live_corners = λ g c h. s.is_mesh.live_corners g c (got_after_remove m.faces f g c h).1;
     different_corners = λ g c h. s.is_mesh.different_corners g c (got_after_remove m.faces f g c h).1;
     different_faces = λ g g' c d h h'. s.is_mesh.different_faces g g' c d (got_after_remove m.faces f g c h).1 (got_after_remove m.faces f g' d h').1;
@@ -127,6 +130,7 @@ sound-with_face m c s fresh few ids =
       is_mesh = record {
         vertex_ids = s.is_mesh.vertex_ids;
         face_ids = λ g h. ⊎_elim (λ e. let b = s.limits.face_ids in omega arith) (λ old. let b = s.is_mesh.face_ids g old in omega arith) (live_after_insert m.faces m.next_face c g h);
+        solid_ids = s.is_mesh.solid_ids;
         live_corners = λ g d h. ⊎_elim (λ e. subst (AreLive m) e.1 fresh.live) (λ old. s.is_mesh.live_corners g d old) (got g d h);
         different_corners = λ g d h. ⊎_elim (λ e. subst AreDifferent e.1 fresh.different) (λ old. s.is_mesh.different_corners g d old) (got g d h);
         different_faces = λ g g' d d' h h' same. ⊎_elim
@@ -163,6 +167,7 @@ sound-without_vertex m v s bare = record {
   is_mesh = record {
     vertex_ids = λ q h. s.is_mesh.vertex_ids q (live_after_remove m.points v q h).1;
     face_ids = s.is_mesh.face_ids;
+    solid_ids = λ q h. let old = live_after_remove m.solid v q h in live_but_removed m.points v q old.0 (s.is_mesh.solid_ids q old.1);
     live_corners = λ f c h.
         let old = s.is_mesh.live_corners f c h in
         let apart = none_where (λ x. has_corner x v) (map.entries m.faces) bare f c (sym (get-entries m.faces f) ∙ h) in
@@ -173,6 +178,25 @@ sound-without_vertex m v s bare = record {
   };
   limits = record {
     vertices = let e = len-remove_le m.points v in let b = s.limits.vertices in omega arith;
+    faces = s.limits.faces;
+    vertex_ids = s.limits.vertex_ids;
+    face_ids = s.limits.face_ids;
+  };
+}
+
+-- a live vertex is made solid
+pub sound-with_solid : (m : Mesh) (v : ℕ) → IsSound m → IsLiveVertex m v → IsSound (with_solid m v)
+sound-with_solid m v s live = record {
+  is_mesh = record {
+    vertex_ids = s.is_mesh.vertex_ids;
+    face_ids = s.is_mesh.face_ids;
+    solid_ids = λ q h. ⊎_elim (λ e. subst (IsLiveVertex m) (sym e) live) (λ old. s.is_mesh.solid_ids q old) (live_after_insert m.solid v tt q h);
+    live_corners = s.is_mesh.live_corners;
+    different_corners = s.is_mesh.different_corners;
+    different_faces = s.is_mesh.different_faces;
+  };
+  limits = record {
+    vertices = s.limits.vertices;
     faces = s.limits.faces;
     vertex_ids = s.limits.vertex_ids;
     face_ids = s.limits.face_ids;

@@ -26,13 +26,17 @@ with_face m c = record m { faces = map.insert m.faces m.next_face c; next_face =
 abbrev pub without_face : Mesh → ℕ → Mesh
 without_face m f = record m { faces = map.remove m.faces f }
 
--- a vertex less; its id stays given
+-- a vertex less, and its mark as solid, if it has one; its id stays given
 abbrev pub without_vertex : Mesh → ℕ → Mesh
-without_vertex m v = record m { points = map.remove m.points v }
+without_vertex m v = record m { points = map.remove m.points v; solid = map.remove m.solid v }
 
 -- the vertex at another point
 abbrev pub with_point : Mesh → ℕ → Point → Mesh
 with_point m v p = record m { points = map.insert m.points v p }
+
+-- the vertex solid
+abbrev pub with_solid : Mesh → ℕ → Mesh
+with_solid m v = record m { solid = map.insert m.solid v tt }
 
 -- a face may be made of the corners
 pub record IsFresh (m : Mesh) (c : Corners) : Type 0 where

@@ -15,6 +15,7 @@ abbrev pub mesh_of : List Point → Faces → Mesh
 mesh_of points faces = record {
   points = finite.from_entries (enumerate_from 1 points);
   faces = finite.from_entries (enumerate_from 1 (map corners_of faces));
+  solid = finite.empty;
   next_vertex = length points + 1;
   next_face = length faces + 1;
 }

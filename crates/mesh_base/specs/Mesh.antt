@@ -1,5 +1,5 @@
 -- A mesh as contracts see it, however it is kept.
-use Rattle.std.specs.Prelude.{◌≡◌, ◌≢◌, ℕ, ◌+◌, ◌<◌, ◌≤◌, ◌==◌, ◌&&◌, ◌||◌, Bool, IsSome, IsTrue}
+use Rattle.std.specs.Prelude.{◌≡◌, ◌≢◌, ℕ, ◌+◌, ◌<◌, ◌≤◌, ◌==◌, ◌&&◌, ◌||◌, Bool, true, IsSome, is_some, IsTrue}
 use Rattle.std.specs.Prelude.{Some}
 use Rattle.std.specs.Ordering.{nat_cmp}
 use Rattle.std.specs.FinMap as map
@@ -7,10 +7,15 @@ use Rattle.grid_base.specs.declared.TheConstants.{VERTICES_MAX, FACES_MAX, ID_MA
 use Rattle.grid_base.specs.declared.Point.{Point}
 use Rattle.mesh_base.specs.declared.ids.Corners.{Corners}
 
--- the points of the live vertices, the corners of the live faces, and the ids that come next
+-- a finite set of ids: a map that says nothing of each
+abbrev pub IdSet : Type 0
+IdSet = map.FinMap nat_cmp (Unit {0})
+
+-- the points of the live vertices, the corners of the live faces, the solid vertices, and the ids that come next
 pub record Mesh : Type 0 where
   pub points : map.FinMap nat_cmp Point
   pub faces : map.FinMap nat_cmp Corners
+  pub solid : IdSet
   pub next_vertex : ℕ
   pub next_face : ℕ
 
@@ -21,6 +26,10 @@ IsLiveVertex m v = IsSome (map.get m.points v)
 -- the face lives
 abbrev pub IsLiveFace : Mesh → ℕ → Type 0
 IsLiveFace m f = IsSome (map.get m.faces f)
+
+-- whether the vertex is solid
+abbrev pub is_solid : Mesh → ℕ → Bool
+is_solid m v = is_some (map.get m.solid v)
 
 -- the face f has the corners c
 abbrev pub HasCorners : Mesh → ℕ → Corners → Type 0
@@ -52,6 +61,7 @@ equal_up_to_rotation c d = same_corners c d || same_corners (turned c) d || same
 pub record IsMesh (m : Mesh) : Type 0 where
   pub vertex_ids : (v : ℕ) → IsLiveVertex m v → (1 ≤ v) × (v < m.next_vertex)
   pub face_ids : (f : ℕ) → IsLiveFace m f → (1 ≤ f) × (f < m.next_face)
+  pub solid_ids : (v : ℕ) → is_solid m v ≡ true → IsLiveVertex m v
   pub live_corners : (f : ℕ) (c : Corners) → HasCorners m f c → AreLive m c
   pub different_corners : (f : ℕ) (c : Corners) → HasCorners m f c → AreDifferent c
   pub different_faces : (f g : ℕ) (c d : Corners) → HasCorners m f c → HasCorners m g d → IsTrue (equal_up_to_rotation c d) → f ≡ g

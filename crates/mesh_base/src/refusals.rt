@@ -18,4 +18,6 @@ pub enum UseWhy {
     Box { v: u32 },
     /// A drive names no field.
     NoField,
+    /// A shift names a solid vertex.
+    Solid { v: u32 },
 }

@@ -1,9 +1,9 @@
 ghost use Rattle.std.specs.Prelude.{◌≡◌, ◌≤◌, ◌<◌, ◌+◌, ℕ, List, [], length, take, slice_get, IfOk, IsOk, IsNone, OnOk, OnErr, IsErrOf, All};
 ghost use Rattle.std.specs.Option.{option_map};
 ghost use Rattle.std.specs.FinMap as map;
-ghost use Rattle.mesh_base.specs.Mesh.{Mesh, IsSound, IsLiveVertex, IsLiveFace};
+ghost use Rattle.mesh_base.specs.Mesh.{Mesh, IsSound, IsLiveVertex, IsLiveFace, is_solid};
 ghost use Rattle.mesh_base.specs.Sides.{above, runs, faces_running, faces_at};
-ghost use Rattle.mesh_base.specs.Changes.{corners_of, corner_list, with_vertex, with_face, without_face, without_vertex, with_point, IsFresh, IsFullOfVertices, IsFullOfFaces};
+ghost use Rattle.mesh_base.specs.Changes.{corners_of, corner_list, with_vertex, with_face, without_face, without_vertex, with_point, with_solid, IsFresh, IsFullOfVertices, IsFullOfFaces};
 ghost use Rattle.mesh_base.specs.Kept.{BeginsWith, MarkHolds, StandsFor};
 
 use crate::faults::AddFault;
@@ -54,6 +54,10 @@ pub trait Surface {
     fn point(&self, v: VertexId) -> Option<Point>
         ensures { result ≡ map.get (mesh self.now).points v };
 
+    /// Whether a vertex is solid: it is live, and marked as one that never moves.
+    fn solid(&self, v: VertexId) -> bool
+        ensures { result ≡ is_solid (mesh self.now) v };
+
     /// The corners of a face, in order; None exactly where it is not live.
     fn corners(&self, f: FaceId) -> Option<[VertexId; 3]>
         ensures { result ≡ option_map corner_list (map.get (mesh self.now).faces f) };
@@ -72,7 +76,7 @@ pub trait Surface {
         ensures ok { OnOk result (into.new.items ≡ faces_at (mesh self.now) v) }
         ensures err { OnErr result (into.new.items ≡ []) };
 
-    /// Makes a vertex that has no face, and answers its id, the next. Full exactly where `VERTICES_MAX` vertices are live
+    /// Makes a vertex that has no face and is not solid, and answers its id, the next. Full exactly where `VERTICES_MAX` vertices are live
     /// or the id `ID_MAX` is given; an answer that is not Ok leaves all as it was.
     fn add_vertex(&mut self, p: Point) -> Result<VertexId, AddFault>
         ensures id { IfOk result (λ v. v ≡ (mesh self.old).next_vertex) }
@@ -102,7 +106,7 @@ pub trait Surface {
         ensures marks { BeginsWith (kept self.new) (kept self.old) }
         ensures err { OnErr result ((mesh self.new ≡ mesh self.old) × (kept self.new ≡ kept self.old)) };
 
-    /// Drops a live vertex that has no face. Its id is not given again.
+    /// Drops a live vertex that has no face, and its mark as solid. Its id is not given again.
     fn drop_vertex(&mut self, v: VertexId) -> Result<(), NoMemory>
         requires live { IsLiveVertex (mesh self.old) v }
         requires bare { faces_at (mesh self.old) v ≡ [] }
@@ -117,6 +121,13 @@ pub trait Surface {
         ensures marks { BeginsWith (kept self.new) (kept self.old) }
         ensures err { OnErr result ((mesh self.new ≡ mesh self.old) × (kept self.new ≡ kept self.old)) };
 
+    /// Marks a live vertex as solid, as it stays until it is dropped or a return takes the mark back.
+    fn make_solid(&mut self, v: VertexId) -> Result<(), NoMemory>
+        requires { IsLiveVertex (mesh self.old) v }
+        ensures ok { OnOk result (mesh self.new ≡ with_solid (mesh self.old) v) }
+        ensures marks { BeginsWith (kept self.new) (kept self.old) }
+        ensures err { OnErr result ((mesh self.new ≡ mesh self.old) × (kept self.new ≡ kept self.old)) };
+
     /// Keeps the mesh as it is. The mark stands for it, and a return to it leaves what is kept before this call.
     fn mark(&mut self) -> Result<Mark, NoMemory>
         ensures holds { IfOk result (MarkHolds beyond (kept self.new)) }
@@ -126,7 +137,7 @@ pub trait Surface {
         ensures marks { BeginsWith (kept self.new) (kept self.old) }
         ensures err { OnErr result (kept self.new ≡ kept self.old) };
 
-    /// Goes back to the mesh for which the mark stands, next ids included. The kept meshes then begin with those that a
+    /// Goes back to the mesh for which the mark stands, next ids and solid marks included. The kept meshes then begin with those that a
     /// mark's `under` counts, so marks that held when this one was made hold. Takes no memory.
     fn back_to(&mut self, m: Mark)
         requires { MarkHolds beyond (kept self.old) m }

@@ -6,3 +6,4 @@ pub mod LeastSide
 pub mod SideCounts
 pub mod Faults
 pub mod Earlier
+pub mod Numbers

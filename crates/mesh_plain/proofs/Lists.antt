@@ -20,6 +20,7 @@ use Rattle.mesh_base.specs.declared.faults.ShapeFault.TheVariants.{TooManyVertic
 use Rattle.mesh_base.specs.Mesh.{IsSound, AreLive, AreDifferent, HasCorners, equal_up_to_rotation}
 use Rattle.mesh_base.specs.Given.{Faces}
 use Rattle.mesh_plain.specs.Shape.{bad_corner, no_vertex_from, repeats, repeated_from, doubled_from, is_vertex, fault_but_balance, shape_fault}
+use Rattle.mesh_base.proofs.Finite.{none_in_empty}
 use Rattle.mesh_base.proofs.Ordered.{entries-of_sorted}
 use Rattle.mesh_base.proofs.MeshLaws.{equal_symmetric}
 use Rattle.mesh_base.specs.Given.{mesh_of}
@@ -240,6 +241,7 @@ sound-mesh_of ps fs h =
       is_mesh = record {
         vertex_ids = λ v e. of_live ps v e;
         face_ids = λ f e. let ids = of_live (map corners_of fs) f e in omega (arith, ids, length-map fs corners_of);
+        solid_ids = λ v h. let none = none_in_empty (Unit {0}) v in cc;
         live_corners = corners_live ps fs none.corners;
         different_corners = corners_different ps fs none.once;
         different_faces = faces_different ps fs none.single;
@@ -260,7 +262,7 @@ map_push g (y ∷ xs) x = ap (λ ys. g y ∷ ys) (map_push g xs x)
 pub mesh_of-point : (ps : List Point) (p : Point) → with_vertex (mesh_of ps []) p ≡ mesh_of (ps ++ p ∷ []) []
 mesh_of-point ps p =
     let more : (length ps + 1) + 1 ≡ length (ps ++ p ∷ []) + 1 = omega (arith, length-append ps (p ∷ [])) in
-    λ i. record { points = sym (pushed ps p) i; faces = finite.from_entries []; next_vertex = more i; next_face = 0 + 1 }
+    λ i. record { points = sym (pushed ps p) i; faces = finite.from_entries []; solid = finite.empty; next_vertex = more i; next_face = 0 + 1 }
 
 -- one more face
 pub mesh_of-face : (ps : List Point) (fs : Faces) (l : List ℕ) → with_face (mesh_of ps fs) (corners_of l) ≡ mesh_of ps (fs ++ l ∷ [])
@@ -271,4 +273,4 @@ mesh_of-face ps fs l =
     ap (λ k. finite.insert (finite.from_entries {R = nat_cmp} (enumerate_from 1 (map corners_of fs))) k (corners_of l)) (sym id)
     ∙ sym (pushed (map corners_of fs) (corners_of l))
     ∙ ap (λ cs. finite.from_entries (enumerate_from 1 cs)) (sym (map_push corners_of fs l)) in
-    λ i. record { points = finite.from_entries (enumerate_from 1 ps); faces = faces i; next_vertex = length ps + 1; next_face = more i }
+    λ i. record { points = finite.from_entries (enumerate_from 1 ps); faces = faces i; solid = finite.empty; next_vertex = length ps + 1; next_face = more i }

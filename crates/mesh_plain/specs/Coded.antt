@@ -3,14 +3,15 @@ use Rattle.std.specs.Prelude.{ℕ, refl}
 use Rattle.std.specs.Ordering.{nat_cmp}
 use Rattle.std.specs.FinMap as map
 use Rattle.std.specs.Coded.{Coded, code_by, coded×, coded_ℕ}
+use base.Stored.{coded_unit}
 use Rattle.grid_base.specs.declared.Point.{Point}
 use Rattle.mesh_base.specs.declared.ids.Corners.{Corners}
-use Rattle.mesh_base.specs.Mesh.{Mesh}
+use Rattle.mesh_base.specs.Mesh.{Mesh, IdSet}
 
 abbrev pub mesh_code : Coded Point → Coded Corners → Coded Mesh
 mesh_code point corners =
-    code_by (map.FinMap nat_cmp Point × (map.FinMap nat_cmp Corners × (ℕ × ℕ)))
-    (coded× (map.code coded_ℕ point) (coded× (map.code coded_ℕ corners) (coded× coded_ℕ coded_ℕ)))
-    (λ m. (m.points, (m.faces, (m.next_vertex, m.next_face))))
-    (λ p. record { points = p.0; faces = p.1.0; next_vertex = p.1.1.0; next_face = p.1.1.1 })
+    code_by (map.FinMap nat_cmp Point × (map.FinMap nat_cmp Corners × (IdSet × (ℕ × ℕ))))
+    (coded× (map.code coded_ℕ point) (coded× (map.code coded_ℕ corners) (coded× (map.code coded_ℕ coded_unit) (coded× coded_ℕ coded_ℕ))))
+    (λ m. (m.points, (m.faces, (m.solid, (m.next_vertex, m.next_face)))))
+    (λ p. record { points = p.0; faces = p.1.0; solid = p.1.1.0; next_vertex = p.1.1.1.0; next_face = p.1.1.1.1 })
     (λ _. refl)

@@ -4,3 +4,4 @@ pub mod Coded
 pub mod Balance
 pub mod Plain
 pub mod Laws
+pub mod Numbered

@@ -18,6 +18,7 @@ pub struct PlainMesh {
 impl PlainMesh {
     ghost use Rattle.mesh_plain.specs.Shape.{shape_fault};
     ghost use Rattle.mesh_base.specs.Given.{mesh_of};
+    ghost use Rattle.mesh_plain.specs.Numbered.{MayBeNext, numbered};
     ghost use Rattle.mesh_plain.specs.Plain.{mesh_in, kept_in};
     ghost use Rattle.std.specs.Prelude.{None, [], IfOk, length};
 
@@ -33,6 +34,28 @@ impl PlainMesh {
             before: Vec::new(alloc),
         })
     }
+
+    /// The mesh that lists of good shape give, where the next vertex and the next face get these ids. Both are above the
+    /// ids in use, and at most one above `ID_MAX`.
+    pub fn of_numbered(
+        alloc: Global,
+        lists: &MeshLists,
+        next_vertex: u32,
+        next_face: u32,
+    ) -> Result<PlainMesh, NoMemory>
+        requires shape { shape_fault (length lists.now.points) lists.now.faces ≡ None }
+        requires vertex { MayBeNext (length lists.now.points) next_vertex }
+        requires face { MayBeNext (length lists.now.faces) next_face }
+        ensures mesh { IfOk result (λ s. mesh_in s ≡ numbered (mesh_of lists.now.points lists.now.faces) next_vertex next_face) }
+        ensures kept { IfOk result (λ s. kept_in s ≡ []) }
+    {
+        let mut now = Tables::of(alloc, lists)?;
+        now.number(next_vertex, next_face);
+        Ok(PlainMesh {
+            now,
+            before: Vec::new(alloc),
+        })
+    }
 }
 
 impl Surface for PlainMesh {
@@ -40,7 +63,7 @@ impl Surface for PlainMesh {
     ghost use Rattle.std.proofs.Common.{lit≤};
     ghost use Rattle.mesh_base.specs.Mesh.{IsLiveVertex, IsLiveFace};
     ghost use Rattle.mesh_base.specs.Sides.{faces_at};
-    ghost use Rattle.mesh_base.specs.Changes.{corners_of, with_vertex, with_face, without_face, without_vertex, with_point, IsFresh, IsFullOfVertices, IsFullOfFaces};
+    ghost use Rattle.mesh_base.specs.Changes.{corners_of, with_vertex, with_face, without_face, without_vertex, with_point, with_solid, IsFresh, IsFullOfVertices, IsFullOfFaces};
     ghost use Rattle.mesh_base.specs.Kept.{BeginsWith, MarkHolds, StandsFor};
     ghost use Rattle.mesh_plain.specs.Plain.{mesh_in, kept_in, IsUnchanged};
 
@@ -82,6 +105,10 @@ impl Surface for PlainMesh {
 
     fn point(&self, v: VertexId) -> Option<Point> {
         self.now.point(v)
+    }
+
+    fn solid(&self, v: VertexId) -> bool {
+        self.now.solid(v)
     }
 
     fn corners(&self, f: FaceId) -> Option<[VertexId; 3]> {
@@ -171,6 +198,16 @@ impl Surface for PlainMesh {
         ensures err { OnErr result (IsUnchanged self.old self.new) }
     {
         self.now.place(v, p)
+    }
+
+    fn make_solid(&mut self, v: VertexId) -> Result<(), NoMemory>
+        requires { IsLiveVertex (mesh_in self.old) v }
+        ensures ok { OnOk result (mesh_in self.new ≡ with_solid (mesh_in self.old) v) }
+        ensures kept { kept_in self.new ≡ kept_in self.old }
+        ensures marks { BeginsWith (kept_in self.new) (kept_in self.old) }
+        ensures err { OnErr result (IsUnchanged self.old self.new) }
+    {
+        self.now.make_solid(v)
     }
 
     /// Keeps a copy of the mesh. The mark's `place` is its `under`.

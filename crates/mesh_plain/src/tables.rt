@@ -1,10 +1,12 @@
 //! The ordered maps of one mesh.
 ghost use Rattle.grid_base.specs.declared.TheConstants.{VERTICES_MAX, FACES_MAX};
 ghost use Rattle.mesh_base.specs.Given.{mesh_of};
+ghost use Rattle.mesh_plain.specs.Numbered.{numbered};
 ghost use Rattle.std.specs.Prelude.{◌≤◌, ◌≡◌, ◌<◌, ◌+◌, ◌^◌, IfOk, OnOk, OnErr, IsNone, slice_get, length, []};
 ghost use Rattle.std.specs.Option.{option_map};
 ghost use Rattle.std.specs.FinMap as map;
-ghost use Rattle.mesh_base.specs.Changes.{corner_list, with_vertex, with_face, without_face, without_vertex, with_point};
+ghost use Rattle.mesh_base.specs.Changes.{corner_list, with_vertex, with_face, without_face, without_vertex, with_point, with_solid};
+ghost use Rattle.mesh_base.specs.Mesh.{is_solid};
 ghost use Rattle.mesh_base.specs.Sides.{above, faces_at, faces_running, runs};
 
 use grid_base::{NoMemory, Point};
@@ -19,6 +21,8 @@ use std::ops::Bound;
 pub(crate) struct Tables {
     points: BTreeMap<u32, Point>,
     faces: BTreeMap<u32, Corners>,
+    // The solid vertices: a set, as a map that says nothing of each.
+    solid: BTreeMap<u32, ()>,
     pub(crate) next_vertex: u32,
     pub(crate) next_face: u32,
 }
@@ -36,16 +40,17 @@ impl Model for Tables {
 
     ghost use Rattle.std.specs.FinMap as map;
 
-    ghost view = { λ t. record { points = map.from_entries t.points.entries; faces = map.from_entries t.faces.entries; next_vertex = t.next_vertex; next_face = t.next_face } };
+    ghost view = { λ t. record { points = map.from_entries t.points.entries; faces = map.from_entries t.faces.entries; solid = map.from_entries t.solid.entries; next_vertex = t.next_vertex; next_face = t.next_face } };
 }
 
 impl Tables {
     pub(crate) fn new(alloc: Global) -> Tables
-        ensures { result ≡ record { points = map.empty; faces = map.empty; next_vertex = 1; next_face = 1 } }
+        ensures { result ≡ record { points = map.empty; faces = map.empty; solid = map.empty; next_vertex = 1; next_face = 1 } }
     {
         Tables {
             points: BTreeMap::new(alloc),
             faces: BTreeMap::new(alloc),
+            solid: BTreeMap::new(alloc),
             next_vertex: 1,
             next_face: 1,
         }
@@ -65,6 +70,14 @@ impl Tables {
             tables.add_face(Corners::of([VertexId(f[0]), VertexId(f[1]), VertexId(f[2])]))?;
         }
         Ok(tables)
+    }
+
+    /// Sets the next ids.
+    pub(crate) fn number(&mut self, next_vertex: u32, next_face: u32)
+        ensures { self.new ≡ numbered self.old next_vertex next_face }
+    {
+        self.next_vertex = next_vertex;
+        self.next_face = next_face;
     }
 
     pub(crate) fn vertices(&self) -> usize
@@ -121,6 +134,12 @@ impl Tables {
         ensures { result ≡ map.get self.now.points v }
     {
         self.points.get(&v.0).copied()
+    }
+
+    pub(crate) fn solid(&self, v: VertexId) -> bool
+        ensures { result ≡ is_solid self.now v }
+    {
+        self.solid.contains_key(&v.0)
     }
 
     pub(crate) fn corners(&self, f: FaceId) -> Option<[VertexId; 3]>
@@ -209,6 +228,7 @@ impl Tables {
         ensures { self.new ≡ without_vertex self.old v }
     {
         self.points.remove(&v.0);
+        self.solid.remove(&v.0);
     }
 
     pub(crate) fn place(&mut self, v: VertexId, p: Point) -> Result<(), NoMemory>
@@ -219,12 +239,21 @@ impl Tables {
         Ok(())
     }
 
+    pub(crate) fn make_solid(&mut self, v: VertexId) -> Result<(), NoMemory>
+        ensures ok { OnOk result (self.new ≡ with_solid self.old v) }
+        ensures err { OnErr result (self.new ≡ self.old) }
+    {
+        self.solid.insert(v.0, ())?;
+        Ok(())
+    }
+
     pub(crate) fn copy(&self) -> Result<Tables, NoMemory>
         ensures { IfOk result (λ copy. copy ≡ self.now) }
     {
         Ok(Tables {
             points: self.points.clone()?,
             faces: self.faces.clone()?,
+            solid: self.solid.clone()?,
             next_vertex: self.next_vertex,
             next_face: self.next_face,
         })

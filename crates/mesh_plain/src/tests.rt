@@ -205,7 +205,16 @@ fn a_return_gives_ids_again(rt: HostRuntime) -> Result<(), Fail> {
     assert!(rt; mesh.point(VertexId(1)).is_some() && mesh.point(VertexId(2)).is_some());
     let made = fan_out(&mut mesh, p, VertexId(1), VertexId(2))?;
     assert_eq!(rt; made, (VertexId(5), FaceId(5)));
+    assert!(rt; mesh.point(VertexId(1)).is_some());
+    mesh.make_solid(VertexId(1))?;
+    assert_eq!(rt;
+        (mesh.solid(VertexId(1)), mesh.solid(VertexId(2))),
+        (true, false)
+    );
     mesh.back_to(mark);
+    assert_eq!(rt; mesh.solid(VertexId(1)), false);
+    assert_is(&mesh, rt.alloc(), &start, &sides, (5, 5), &rt)?;
+    mesh.settle();
     assert_is(&mesh, rt.alloc(), &start, &sides, (5, 5), &rt)?;
     Ok(())
 }
@@ -258,83 +267,6 @@ fn a_vertex_is_placed_and_a_face_dropped(rt: HostRuntime) -> Result<(), Fail> {
     ];
     let sides: [(u32, [u32; 3]); 3] = [(2, [1, 2, 4]), (3, [2, 3, 4]), (4, [1, 4, 3])];
     assert_is(&mesh, rt.alloc(), &points, &sides, (5, 5), &rt)?;
-    Ok(())
-}
-
-#[test]
-fn marks_stand_for_what_was_there(rt: HostRuntime) -> Result<(), Fail> {
-    let mut mesh = mesh_of(
-        rt.alloc(),
-        &lists_of(rt.alloc(), &TETRAHEDRON, &SIDES)?,
-        &rt,
-    )?;
-    let p = Point::new(9, 9, 9).expect(&rt, "a point");
-    let start: [(u32, [i32; 3]); 4] = [
-        (1, [0, 0, 0]),
-        (2, [4, 0, 0]),
-        (3, [0, 4, 0]),
-        (4, [0, 0, 4]),
-    ];
-    let sides: [(u32, [u32; 3]); 4] = [
-        (1, [1, 3, 2]),
-        (2, [1, 2, 4]),
-        (3, [2, 3, 4]),
-        (4, [1, 4, 3]),
-    ];
-    let more: [(u32, [i32; 3]); 5] = [
-        (1, [0, 0, 0]),
-        (2, [4, 0, 0]),
-        (3, [0, 4, 0]),
-        (4, [0, 0, 4]),
-        (5, [9, 9, 9]),
-    ];
-    let fan: [(u32, [u32; 3]); 5] = [
-        (1, [1, 3, 2]),
-        (2, [1, 2, 4]),
-        (3, [2, 3, 4]),
-        (4, [1, 4, 3]),
-        (5, [1, 2, 5]),
-    ];
-    let later: [(u32, [i32; 3]); 5] = [
-        (1, [0, 0, 0]),
-        (2, [4, 0, 0]),
-        (3, [0, 4, 0]),
-        (4, [0, 0, 4]),
-        (6, [9, 9, 9]),
-    ];
-    let again: [(u32, [u32; 3]); 4] = [
-        (1, [1, 3, 2]),
-        (2, [1, 2, 4]),
-        (3, [2, 3, 4]),
-        (6, [3, 2, 6]),
-    ];
-
-    let first = mesh.mark()?;
-    assert!(rt; mesh.point(VertexId(1)).is_some() && mesh.point(VertexId(2)).is_some());
-    fan_out(&mut mesh, p, VertexId(1), VertexId(2))?;
-    assert_is(&mesh, rt.alloc(), &more, &fan, (6, 6), &rt)?;
-
-    let second = mesh.mark()?;
-    assert!(rt; mesh.corners(FaceId(5)).is_some());
-    mesh.drop_face(FaceId(5))?;
-    let mut faces = Vec::new(rt.alloc());
-    mesh.faces_at(VertexId(5), &mut faces)?;
-    assert!(rt; faces.is_empty() && mesh.point(VertexId(5)).is_some());
-    mesh.drop_vertex(VertexId(5))?;
-    assert_is(&mesh, rt.alloc(), &start, &sides, (6, 6), &rt)?;
-    assert!(rt; mesh.point(VertexId(3)).is_some() && mesh.point(VertexId(2)).is_some());
-    let made = fan_out(&mut mesh, p, VertexId(3), VertexId(2))?;
-    assert_eq!(rt; made, (VertexId(6), FaceId(6)));
-    assert!(rt; mesh.corners(FaceId(4)).is_some());
-    mesh.drop_face(FaceId(4))?;
-    assert_is(&mesh, rt.alloc(), &later, &again, (7, 7), &rt)?;
-
-    mesh.back_to(second);
-    assert_is(&mesh, rt.alloc(), &more, &fan, (6, 6), &rt)?;
-    mesh.back_to(first);
-    assert_is(&mesh, rt.alloc(), &start, &sides, (5, 5), &rt)?;
-    mesh.settle();
-    assert_is(&mesh, rt.alloc(), &start, &sides, (5, 5), &rt)?;
     Ok(())
 }
 

@@ -5,3 +5,4 @@ pub mod Lookups
 pub mod RankBounds
 pub mod Again
 pub mod Renumbered
+pub mod ListsAgain

@@ -1,4 +1,5 @@
 ghost use Rattle.obj_text.specs.Laws.{WrittenIsRead, ListsGiveRenumbered, StaysClosed, StaysClear};
+ghost use Rattle.obj_text.specs.ListLaws.{ListsAreWrittenAsMesh, ListsAreRead};
 
 /// A mesh that is written is read again: on a grid of as many decimals the text gives its live points and its live faces,
 /// in order, each corner by its rank.
@@ -12,4 +13,11 @@ pub fn written_stays_good()
     ensures renumbered { ListsGiveRenumbered }
     ensures closed { StaysClosed }
     ensures clear { StaysClear }
+{}
+
+/// Lists of good shape are written as the mesh that they make, and read again: on a grid of as many decimals the text gives
+/// the same points and the same faces, in the same order.
+pub fn lists_are_read()
+    ensures as_mesh { ListsAreWrittenAsMesh }
+    ensures read { ListsAreRead }
 {}

@@ -3,11 +3,13 @@
 
 mod corner;
 mod law;
+mod lists_writing;
 mod reading;
 #[cfg(test)]
 mod tests;
 mod writing;
 
-pub use law::{written_is_read, written_stays_good};
+pub use law::{lists_are_read, written_is_read, written_stays_good};
+pub use lists_writing::obj_of_lists;
 pub use reading::read_obj;
 pub use writing::obj_of;

@@ -11,7 +11,7 @@ use mesh_base::{FaceId, Surface, VertexId, live_faces, live_vertices};
 use std::alloc::Global;
 
 // Appends the line of a vertex.
-fn put_vertex(out: &mut Vec<u8>, p: Point, decimals: u8) -> Result<(), NoMemory>
+pub(crate) fn put_vertex(out: &mut Vec<u8>, p: Point, decimals: u8) -> Result<(), NoMemory>
     requires { decimals ≤ DECIMALS_MAX }
     ensures { OnOk result (out.new.items ≡ out.old.items ++ vertex_line decimals p) }
 {

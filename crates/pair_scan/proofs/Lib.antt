@@ -7,3 +7,5 @@ pub mod Paths
 pub mod Kept
 pub mod Fails
 pub mod InOrder
+pub mod PairNames
+pub mod AllEnd

@@ -1,14 +1,18 @@
 //! The pairs of a mesh that meet, and those that do not pass in a motion.
 #![tactic(auto)]
 
+mod ends;
 mod failing_pairs;
 mod lookup;
 mod meeting;
 mod motions;
+mod named;
 
+pub use ends::end_in_box;
 pub use failing_pairs::{Pairs, failing};
 pub use lookup::place_of;
 pub use meeting::first_meeting;
+pub use named::five_of;
 
 #[cfg(test)]
 mod tests;

@@ -17,29 +17,30 @@ use Rattle.edit_base.specs.Clauses.{mesh_after}
 use Rattle.edit_base.specs.Laws.{Answer, StaysSound, StaysClosed, StaysClear, MotionIsClear}
 use Rattle.log_text.specs.declared.LogLine.{LogLine}
 use Rattle.log_replay.specs.Replay.{Replay, at_mesh}
-use Rattle.log_replay.specs.Safe.{LineKeepsTheMesh, LinesKeepTheMesh}
+use Rattle.log_replay.specs.Safe.{NoSolidMoves, LineKeepsTheMesh, LinesKeepTheMesh}
 use Rattle.log_replay.proofs.Replaying.{each_then}
 use Rattle.pass_run.specs.Candidates.{candidates}
 use Rattle.pass_run.specs.PassLines.{PassRules, rules_of, terms_of, line_of, answer_by, lines_of, mesh_from, ends, lines_from, mesh_after_all, lines_due}
 use Rattle.pass_run.specs.Promises.{PassesKeepTheMesh}
 use Rattle.pass_run.proofs.Asking.{asked_makes}
+use Rattle.pass_run.proofs.SolidEdits.{none_moves}
 use Rattle.edit_dispatch.proofs.Asked.{asked_stays_sound, asked_stays_closed, asked_stays_clear, asked_moves_clear}
 
 -- an answer with the laws of an edit
 answer_keeps : (answer : Answer) → StaysSound edited answer → StaysClosed edited answer → StaysClear edited answer → MotionIsClear scaffold_of answer
-    → (r : Replay) (what : Asked) → IsValidSurface r.mesh → (edit : Edit) → answer r.mesh ≡ edit → LinesKeepTheMesh r (line_of what edit ∷ []) × IsValidSurface (mesh_after edited r.mesh edit)
-answer_keeps answer sound closed clear motion r what good (Done change) e =
+    → ((m : Mesh) (change : Change) → IsSound m → IsClosed m → answer m ≡ Done change → NoSolidMoves m change) → (r : Replay) (what : Asked) → IsValidSurface r.mesh → (edit : Edit) → answer r.mesh ≡ edit → LinesKeepTheMesh r (line_of what edit ∷ []) × IsValidSurface (mesh_after edited r.mesh edit)
+answer_keeps answer sound closed clear motion solid r what good (Done change) e =
     let m : Mesh = r.mesh in
     let left : IsValidSurface (mesh_after edited m (Done change)) = record { sound = sound m change good.sound good.closed e; closed = closed m change good.sound good.closed e; clear = clear m change good.sound good.closed good.clear e } in
-    (((record { before = good; along = motion m change good.sound good.closed e; after = left }, left), tt), left)
-answer_keeps answer sound closed clear motion r what good (No why) e = (((tt, good), tt), good)
+    (((record { before = good; along = motion m change good.sound good.closed e; after = left; solid = solid m change good.sound good.closed e }, left), tt), left)
+answer_keeps answer sound closed clear motion solid r what good (No why) e = (((tt, good), tt), good)
 
 module _ (meets : Positions → Bool) (exact : IsExact meets) (depth : ℕ) where
   -- the answer to what is asked
   pub asked_keeps : (r : Replay) → IsValidSurface r.mesh → (what : Asked) → LinesKeepTheMesh r (line_of what (answer_to meets r.mesh depth what) ∷ []) × IsValidSurface (mesh_after edited r.mesh (answer_to meets r.mesh depth what))
   asked_keeps r good what =
       answer_keeps (λ m. answer_to meets m depth what) (asked_stays_sound meets depth what) (asked_stays_closed meets depth what) (asked_stays_clear meets exact depth what) (asked_moves_clear meets exact depth what)
-      r what good (answer_to meets r.mesh depth what) refl
+      (none_moves meets depth what) r what good (answer_to meets r.mesh depth what) refl
 
 module _ (rules : PassRules) (exact : IsExact rules.meets) where
   -- what is asked, at its time

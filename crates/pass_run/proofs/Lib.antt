@@ -2,6 +2,7 @@ pub mod SaidLines
 pub mod Asking
 pub mod Opening
 pub mod Stages
+pub mod SolidEdits
 pub mod Keeping
 pub mod FarApart
 pub mod NearPairs

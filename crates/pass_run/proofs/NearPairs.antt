@@ -57,7 +57,7 @@ module _ (rules : PassRules) {X : Type 0} (ask : X → Asked) (Keeps : Mesh → 
 
 -- ---- a zip moves nothing
 zip_mesh_points : (m : Mesh) (s t : Edge) (turn : ℕ) → (zip_mesh m s t turn).points ≡ m.points
-zip_mesh_points m s t turn = points-with_faces (without_faces m (s.forth ∷ s.back ∷ t.forth ∷ t.back ∷ [])) (flat_map (λ i. two_faces (first_rim s) (second_rim t) turn i) turns) ∙ points-without_faces m (s.forth ∷ s.back ∷ t.forth ∷ t.back ∷ [])
+zip_mesh_points m s t turn = points-with_faces (without_faces m (s.left_face ∷ s.right_face ∷ t.left_face ∷ t.right_face ∷ [])) (flat_map (λ i. two_faces (first_rim s) (second_rim t) turn i) turns) ∙ points-without_faces m (s.left_face ∷ s.right_face ∷ t.left_face ∷ t.right_face ∷ [])
 
 left_points : (m : Mesh) (reason : Option Why) (turn : Option ℕ) (make : ℕ → Change) (otherwise : Why) → ((k : ℕ) → (edited m (make k)).points ≡ m.points)
     → (mesh_after edited m (option_map_or (λ why. No why) reason (option_map_or (λ k. Done (make k)) turn (No otherwise)))).points ≡ m.points

@@ -1,6 +1,10 @@
 pub mod Passing
 pub mod Shortened
-pub mod Taken
 pub mod Listing
 pub mod Searching
+pub mod Ways
+pub mod Least
+pub mod Served
+pub mod Taken
 pub mod FirstWay
+pub mod SolidTests

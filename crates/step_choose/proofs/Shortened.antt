@@ -36,7 +36,7 @@ smaller : (a : ℤ) (m most : ℕ) → unsigned_abs a ≤ most → unsigned_abs 
 smaller (pos a) m most h = let q : a / 2 ^ m ≤ a = div-le_self a (2 ^ m) in omega arith
 smaller (negsuc a) m most h = abs_negative (suc a / 2 ^ m) most (let q : suc a / 2 ^ m ≤ suc a = div-le_self (suc a) (2 ^ m) in omega arith)
 
-halved_displacement : (m : ℕ) (s : ShiftOf) → displacement_of (halved_shift m s).by ≡ halved_of m (displacement_of s.by)
+pub halved_displacement : (m : ℕ) (s : ShiftOf) → displacement_of (halved_shift m s).by ≡ halved_of m (displacement_of s.by)
 halved_displacement m s = displacement_of-shift_by (halved_of m (displacement_of s.by)) (record {
   x_fits = smaller s.by.x m SHIFT_MAX s.by.in_range.x_fits;
   y_fits = smaller s.by.y m SHIFT_MAX s.by.in_range.y_fits;

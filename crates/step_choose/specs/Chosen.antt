@@ -1,6 +1,6 @@
--- The way that a choice tells.
+-- The ways that a choice and a search tell.
 use Rattle.step_choose.specs.declared.choosing.Choice.{Choice}
 use Rattle.step_choose.specs.Choice.{Way}
 
 abbrev pub way_of : Choice → Way
-way_of c = record { how = c.how; taken = c.taken }
+way_of c = record { how = c.how; taken = c.taken; blocks = c.blocks }

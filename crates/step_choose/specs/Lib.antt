@@ -1,4 +1,5 @@
 pub mod Settings
+pub mod Impulses
 pub mod Choice
 pub mod Chosen
-pub mod Halvings
+pub mod Found

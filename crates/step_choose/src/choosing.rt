@@ -4,15 +4,22 @@ ghost use Rattle.mesh_base.specs.Failing.{failing};
 ghost use Rattle.mesh_base.specs.Placements.{IsClearMesh, IsClearAlong};
 ghost use Rattle.mesh_base.specs.Shifts.{NameLive, end_in_box, moved_by};
 ghost use Rattle.step_choose.specs.Settings.{AreWithinLimits};
+ghost use Rattle.pair_scan.specs.Solids.{SolidsRest};
 ghost use Rattle.step_choose.specs.Choice.{way_taken, IsFirstWay};
 ghost use Rattle.step_choose.specs.Chosen.{way_of};
+ghost use Rattle.step_choose.specs.Found.{way_by};
 
-use crate::halving::{all_at_rest, fewest_halvings};
+use crate::found::Found;
+use crate::halving::{all_at_rest, by_halving};
+use crate::impulses::by_impulses;
+use crate::lists::copy_of;
+use crate::rounds::by_zones;
 use crate::settings::Settings;
 use grid_base::NoMemory;
-use mesh_base::{How, ShiftOf, Shifts, Surface};
+use mesh_base::{How, Shifts, Surface};
 use pair_scan::{Pairs, failing};
 use std::alloc::Global;
+use step_zones::Blocks;
 
 /// How a step is taken.
 #[derive(Drop)]
@@ -23,62 +30,58 @@ pub struct Choice {
     pub how: How,
     /// The shifts that are taken.
     pub taken: Shifts,
+    /// The blocks of two or more vertices that move as one, where impact zones are the way.
+    pub blocks: Blocks,
 }
 
-// The same shifts.
-fn copy_of(alloc: Global, asked: &[ShiftOf]) -> Result<Shifts, NoMemory>
-    ensures { IfOk result (λ shifts. shifts ≡ asked.now) }
-{
-    let mut shifts = Shifts::new(alloc);
-    for s in asked {
-        shifts.push(*s)?;
-    }
-    Ok(shifts)
-}
-
-// The first way that applies, with the failing pairs of the asked shifts.
+// The first way that applies, where these are the failing pairs of the asked shifts.
 fn first_way<S: Surface>(
     alloc: Global,
     mesh: &S,
     asked: &Shifts,
+    hits: &Pairs,
     set: Settings,
-) -> Result<Choice, NoMemory>
+) -> Result<Found, NoMemory>
     requires named { NameLive (S.mesh mesh.now) asked.now }
     requires in_box { IsTrue (end_in_box (S.mesh mesh.now) asked.now) }
+    requires clear { IsClearMesh (S.mesh mesh.now) }
+    requires hits { hits.now ≡ failing meets_exactly (S.mesh mesh.now) asked.now set.depth }
     requires limits { AreWithinLimits set }
-    ensures hits { IfOk result (λ c. c.hits ≡ failing meets_exactly (S.mesh mesh.now) asked.now set.depth) }
-    ensures way { IfOk result (λ c. way_of c ≡ way_taken meets_exactly (S.mesh mesh.now) asked.now set) }
+    ensures { IfOk result (λ found. way_by found ≡ way_taken meets_exactly (S.mesh mesh.now) asked.now set) }
 {
-    let hits = failing(alloc, mesh, asked, set.depth)?;
     if hits.len() == 0 {
-        let taken = copy_of(alloc, asked.as_slice())?;
-        return Ok(Choice {
-            hits,
+        return Ok(Found {
             how: How::Whole,
-            taken,
+            taken: copy_of(alloc, asked.as_slice())?,
+            blocks: Blocks::new(alloc),
         });
     }
-    if let Some(found) = fewest_halvings(alloc, mesh, asked, set)? {
-        return Ok(Choice {
-            hits,
-            how: How::Halved { times: found.times },
-            taken: found.taken,
-        });
+    if let Some(found) = by_impulses(alloc, mesh, asked, hits, set)? {
+        return Ok(found);
     }
-    let taken = all_at_rest(alloc, asked.as_slice())?;
-    Ok(Choice {
-        hits,
+    if let Some(found) = by_zones(alloc, mesh, asked, set)? {
+        return Ok(found);
+    }
+    if let Some(found) = by_halving(alloc, mesh, asked, set)? {
+        return Ok(found);
+    }
+    Ok(Found {
         how: How::Zero,
-        taken,
+        taken: all_at_rest(alloc, asked.as_slice())?,
+        blocks: Blocks::new(alloc),
     })
 }
 
 /// How a step that asks these shifts of the live vertices of a clear mesh is taken. The first of these ways that applies:
-/// the asked shifts, where all pairs pass in the test of the whole motion (`Whole`); the asked shifts, each component divided
-/// by 2^m and rounded toward zero, for the least m from 1 to the set number with which all pairs pass (`Halved`); no shifts
-/// (`Zero`). The motion taken keeps the mesh clear at every fraction. Refuses only where there is no memory.
+/// the asked shifts, where all pairs pass in the test of the whole motion (`Whole`); the shifts after the fewest impulse
+/// passes, from 1 to the set number, after which all pairs pass (`Impulse`); where zones are on, the shifts of the first
+/// round of impact zones in which all pairs pass (`Zones`); the asked shifts, each component divided by 2^m and rounded
+/// toward zero, for the least m from 1 to the set number with which all pairs pass (`Halved`); no shifts (`Zero`). A pass or
+/// a round that takes a vertex out of the box ends its search. The motion taken keeps the mesh clear at every fraction, and
+/// solid vertices, of which no shift is asked, stay in it. Refuses only where there is no memory.
 ///
-/// That a step is taken unaltered, or else shortened until its motion is free of collisions, is after Brochu and Bridson (2009).
+/// That a step is taken unaltered, or else met by impulses, by impact zones, or shortened until its motion is free of
+/// collisions, is after Brochu and Bridson (2009).
 pub fn choose<S: Surface>(
     alloc: Global,
     mesh: &S,
@@ -88,16 +91,25 @@ pub fn choose<S: Surface>(
     requires named { NameLive (S.mesh mesh.now) asked.now }
     requires in_box { IsTrue (end_in_box (S.mesh mesh.now) asked.now) }
     requires clear { IsClearMesh (S.mesh mesh.now) }
+    requires solid { SolidsRest (S.mesh mesh.now) asked.now }
     requires limits { AreWithinLimits set.now }
     ensures hits { IfOk result (λ c. c.hits ≡ failing meets_exactly (S.mesh mesh.now) asked.now set.now.depth) }
     ensures way { IfOk result (λ c. way_of c ≡ way_taken meets_exactly (S.mesh mesh.now) asked.now set.now) }
     ensures first { IfOk result (λ c. IsFirstWay meets_exactly (S.mesh mesh.now) asked.now set.now c.how c.taken) }
 
-    // The shifts taken name the live vertices, end in the box, and keep the mesh clear at every fraction.
+    // The shifts taken name the live vertices, end in the box, leave solid vertices where they are, and keep the mesh clear
+    // at every fraction.
     ensures clear_along { IfOk result (λ c. IsClearAlong (S.mesh mesh.now) (moved_by (S.mesh mesh.now) c.taken)) }
     ensures names { IfOk result (λ c. NameLive (S.mesh mesh.now) c.taken) }
     ensures ends { IfOk result (λ c. IsTrue (end_in_box (S.mesh mesh.now) c.taken)) }
+    ensures solid { IfOk result (λ c. SolidsRest (S.mesh mesh.now) c.taken) }
 {
-    let choice = first_way(alloc, mesh, asked, *set)?;
-    Ok(choice)
+    let hits = failing(alloc, mesh, asked, set.depth)?;
+    let found = first_way(alloc, mesh, asked, &hits, *set)?;
+    Ok(Choice {
+        hits,
+        how: found.how,
+        taken: found.taken,
+        blocks: found.blocks,
+    })
 }

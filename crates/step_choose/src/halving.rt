@@ -5,22 +5,17 @@ ghost use Rattle.grid_decided.specs.Decided.{meets_exactly};
 ghost use Rattle.mesh_base.specs.Shifts.{NameLive, end_in_box};
 ghost use Rattle.step_choose.specs.Settings.{AreWithinLimits};
 ghost use Rattle.step_choose.specs.Choice.{halved_times, all_at_rest, halved_way};
-ghost use Rattle.step_choose.specs.Halvings.{way_by};
+ghost use Rattle.step_choose.specs.Found.{way_by};
 
+use crate::found::Found;
 use crate::settings::Settings;
 use grid_base::{NoMemory, Shift, halved};
-use mesh_base::{ShiftOf, Shifts, Surface};
+use mesh_base::{How, ShiftOf, Shifts, Surface};
 use pair_scan::failing;
 use std::alloc::Global;
+use step_zones::Blocks;
 
 const NO_SHIFT: Shift = Shift { x: 0, y: 0, z: 0 };
-
-/// So many halvings of shifts, and what they leave of the shifts.
-#[derive(Drop)]
-pub(crate) struct Halving {
-    pub times: u8,
-    pub taken: Shifts,
-}
 
 // Each shift halved so many times.
 fn halved_times(alloc: Global, asked: &[ShiftOf], times: u8) -> Result<Shifts, NoMemory>
@@ -52,12 +47,12 @@ pub(crate) fn all_at_rest(alloc: Global, asked: &[ShiftOf]) -> Result<Shifts, No
 }
 
 /// The fewest halvings of the asked shifts with which all pairs pass.
-pub(crate) fn fewest_halvings<S: Surface>(
+pub(crate) fn by_halving<S: Surface>(
     alloc: Global,
     mesh: &S,
     asked: &Shifts,
     set: Settings,
-) -> Result<Option<Halving>, NoMemory>
+) -> Result<Option<Found>, NoMemory>
     requires named { NameLive (S.mesh mesh.now) asked.now }
     requires in_box { IsTrue (end_in_box (S.mesh mesh.now) asked.now) }
     requires limits { AreWithinLimits set }
@@ -67,7 +62,11 @@ pub(crate) fn fewest_halvings<S: Surface>(
         let times = k + 1;
         let taken = halved_times(alloc, asked.as_slice(), times)?;
         if failing(alloc, mesh, &taken, set.depth)?.len() == 0 {
-            return Ok(Some(Halving { times, taken }));
+            return Ok(Some(Found {
+                how: How::Halved { times },
+                taken,
+                blocks: Blocks::new(alloc),
+            }));
         }
     }
     Ok(None)

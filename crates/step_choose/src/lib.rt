@@ -1,12 +1,19 @@
-//! How a step is taken: by the asked shifts where all pairs pass, and otherwise by the fewest halvings of them with which all pass,
-//! or not at all.
+//! How a step is taken: by the asked shifts where all pairs pass, and otherwise by impulses, by impact zones, by the fewest
+//! halvings of the asked shifts with which all pass, or not at all.
 #![tactic(auto)]
 
 mod choosing;
+mod found;
 mod halving;
+mod impulses;
+mod lists;
+mod rounds;
 mod settings;
 #[cfg(test)]
 mod tests;
 
 pub use choosing::{Choice, choose};
 pub use settings::Settings;
+
+/// The greatest number of impulse passes that may be set.
+pub const PASSES_MAX: u8 = 100;

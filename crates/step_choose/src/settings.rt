@@ -6,7 +6,7 @@ ghost use Rattle.step_choose.specs.Settings.{at_first};
 pub struct Settings {
     /// The depth of time halving to which motions are tested, at most `DEPTH_MAX`.
     pub depth: u8,
-    /// How many impulse passes are tried.
+    /// How many impulse passes are tried, at most `PASSES_MAX`.
     pub passes: u8,
     /// Whether impact zones are tried.
     pub zones: bool,
@@ -15,14 +15,14 @@ pub struct Settings {
 }
 
 impl Settings {
-    /// The settings of a run until its steps set others: depth 6, no impulses, no zones, 6 halvings.
+    /// The settings of a run until its steps set others: depth 6, 3 impulse passes, impact zones, 6 halvings.
     pub fn at_first() -> Settings
         ensures { result ≡ at_first }
     {
         Settings {
             depth: 6,
-            passes: 0,
-            zones: false,
+            passes: 3,
+            zones: true,
             halvings: 6,
         }
     }

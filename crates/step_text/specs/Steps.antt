@@ -1,18 +1,18 @@
 -- The grammar of steps: the directives that the lines give, or the first line outside it.
-use Rattle.std.specs.Prelude.{ℕ, ◌==◌, if◌then◌else◌, List, [], ◌∷◌, ◌++◌, Result, Ok, Err, codes}
+use Rattle.std.specs.Prelude.{ℕ, ◌-◌, ◌==◌, if◌then◌else◌, nat_lt, List, [], ◌∷◌, ◌++◌, length, take, Result, Ok, Err, codes}
 use Rattle.std.specs.Str.{bytes_eq}
 use Rattle.grid_base.specs.declared.TheConstants.{SHIFT_MAX, DEPTH_MAX, HALVINGS_MAX, ID_MAX, LENGTH_MAX}
 use Rattle.grid_base.specs.declared.grid.Shift.{Shift}
 use Rattle.grid_base.specs.Points.{shift_by}
 use Rattle.line_text.specs.declared.TextWhy.{TextWhy}
-use Rattle.line_text.specs.declared.TextWhy.TheVariants.{Short, Unknown}
+use Rattle.line_text.specs.declared.TextWhy.TheVariants.{Short, Unknown, Nesting}
 use Rattle.line_text.specs.declared.TextFault.{TextFault}
 use Rattle.line_text.specs.Faults.{◌>>=◌, at_line}
 use Rattle.line_text.specs.Texts.{words_of, numbered_lines}
 use Rattle.edit_base.specs.declared.PassKind.TheVariants as pass
-use Rattle.step_text.specs.declared.TheConstants.{PASSES_TAKEN, ZONES_TAKEN}
+use Rattle.step_text.specs.declared.TheConstants.{GROUPS_MAX, PASSES_MAX}
 use Rattle.step_text.specs.declared.directive.Directive.{Directive}
-use Rattle.step_text.specs.declared.directive.Directive.TheVariants.{SetDepth, SetPasses, SetZones, SetHalvings, ShiftOne, ShiftAll, Step, Pass, Save}
+use Rattle.step_text.specs.declared.directive.Directive.TheVariants.{SetDepth, SetPasses, SetZones, SetHalvings, ShiftOne, ShiftAll, Solid, Step, Pass, Save, Group, Close}
 use Rattle.step_text.specs.declared.directive.Placed.{Placed}
 use Rattle.line_text.specs.Fields.{count_is, number_at, signed_at}
 
@@ -26,11 +26,11 @@ set_of (name ∷ words) =
       Ok (SetDepth depth.0))
     else if bytes_eq name (codes "passes") then (do
       counted ← count_is 1 words
-      passes ← number_at 0 PASSES_TAKEN words
+      passes ← number_at 0 PASSES_MAX words
       Ok (SetPasses passes.0))
     else if bytes_eq name (codes "zones") then (do
       counted ← count_is 1 words
-      zones ← number_at 0 ZONES_TAKEN words
+      zones ← number_at 0 1 words
       Ok (SetZones (zones.0 == 1)))
     else if bytes_eq name (codes "halvings") then (do
       counted ← count_is 1 words
@@ -60,6 +60,13 @@ shift_of (who ∷ words) = do
   counted ← count_is 3 words
   (if bytes_eq who (codes "all") then (shift_at words >>= λ by. Ok (ShiftAll by)) else shift_one_of (who ∷ words))
 
+-- the id of a vertex
+unfoldable pub solid_of : List (List ℕ) → Result Directive TextWhy
+solid_of words = do
+  counted ← count_is 1 words
+  v ← number_at 1 ID_MAX words
+  Ok (Solid v.0)
+
 -- the length that a pass goes by
 unfoldable pub length_of : List (List ℕ) → Result ℕ TextWhy
 length_of words = do
@@ -78,6 +85,7 @@ unfoldable pub directive_of : List ℕ → List (List ℕ) → Result Directive 
 directive_of first words =
     if bytes_eq first (codes "set") then set_of words
     else if bytes_eq first (codes "shift") then shift_of words
+    else if bytes_eq first (codes "solid") then solid_of words
     else if bytes_eq first (codes "step") then alone Step words
     else if bytes_eq first (codes "split") then (length_of words >>= λ over. Ok (Pass (pass.Split over)))
     else if bytes_eq first (codes "collapse") then (length_of words >>= λ under. Ok (Pass (pass.Collapse under)))
@@ -85,18 +93,44 @@ directive_of first words =
     else if bytes_eq first (codes "zip") then (length_of words >>= λ within. Ok (Pass (pass.Zip within)))
     else if bytes_eq first (codes "pinch") then alone (Pass pass.Pinch) words
     else if bytes_eq first (codes "save") then alone Save words
+    else if bytes_eq first (codes "group") then alone Group words
+    else if bytes_eq first (codes "close") then alone Close words
     else Err Unknown
 
--- the directives so far and that of a line of these words; a line with no word gives none
-unfoldable pub words_add : ℕ → List Placed → List (List ℕ) → Result (List Placed) TextWhy
-words_add number directives [] = Ok directives
-words_add number directives (first ∷ words) = directive_of first words >>= λ what. Ok (directives ++ record { line = number; what = what } ∷ [])
+-- ---- groups and lines
 
--- the directives so far and then each line in turn, up to the first fault
-abbrev pub lines_add : List Placed → List (ℕ × List ℕ) → Result (List Placed) TextFault
-lines_add directives [] = Ok directives
-lines_add directives (line ∷ lines) = at_line line.0 (words_add line.0 directives (words_of line.1)) >>= λ more. lines_add more lines
+-- the directives so far, and the lines of the groups that are open behind them, outermost first
+pub record SoFar : Type 0 where
+  pub directives : List Placed
+  pub groups : List ℕ
+
+abbrev pub so_far : List Placed → List ℕ → SoFar
+so_far directives groups = record { directives = directives; groups = groups }
+
+-- the groups that are open behind a directive of this line: a group may not lie too deep, and a close needs an open one
+abbrev pub groups_behind : ℕ → Directive → List ℕ → Result (List ℕ) TextWhy
+groups_behind line Group groups = if nat_lt (length groups) GROUPS_MAX then Ok (groups ++ line ∷ []) else Err Nesting
+groups_behind line Close groups = if length groups == 0 then Err Nesting else Ok (take (length groups - 1) groups)
+groups_behind line _ groups = Ok groups
+
+-- what there is so far and the directive of a line of these words; a line with no word gives none
+unfoldable pub words_add : ℕ → SoFar → List (List ℕ) → Result SoFar TextWhy
+words_add line before [] = Ok before
+words_add line before (first ∷ words) = do
+  what ← directive_of first words
+  groups ← groups_behind line what before.groups
+  Ok (so_far (before.directives ++ record { line = line; what = what } ∷ []) groups)
+
+-- what there is so far and then each line in turn, up to the first fault
+abbrev pub lines_add : SoFar → List (ℕ × List ℕ) → Result SoFar TextFault
+lines_add before [] = Ok before
+lines_add before (line ∷ lines) = at_line line.0 (words_add line.0 before (words_of line.1)) >>= λ more. lines_add more lines
+
+-- the directives where each group is closed; the fault of others is at the line of their outermost group
+abbrev pub closed_or_nesting : List Placed → List ℕ → Result (List Placed) TextFault
+closed_or_nesting directives [] = Ok directives
+closed_or_nesting directives (outermost ∷ inner) = Err (record { line = outermost; why = Nesting })
 
 -- the directives of a text, or its first line outside the grammar
 abbrev pub steps_of : List ℕ → Result (List Placed) TextFault
-steps_of bytes = lines_add [] (numbered_lines 1 bytes)
+steps_of bytes = lines_add (so_far [] []) (numbered_lines 1 bytes) >>= λ s. closed_or_nesting s.directives s.groups

@@ -16,12 +16,18 @@ pub enum Directive {
     ShiftOne { v: u32, by: Shift },
     /// Add the shift to the asked shift of every live vertex.
     ShiftAll { by: Shift },
+    /// Mark a vertex as solid from here on, and ask no shift of it.
+    Solid { v: u32 },
     /// Take the asked shifts.
     Step,
     /// Make a pass over the edges, the pairs of edges or the vertices of the mesh.
     Pass(PassKind),
     /// Store the mesh as it is.
     Save,
+    /// Open a group of directives, which is kept whole or taken back whole.
+    Group,
+    /// Close the group that was opened last.
+    Close,
 }
 
 /// A directive and its line, counted from 1.

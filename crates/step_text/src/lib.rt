@@ -2,6 +2,7 @@
 #![tactic(auto)]
 
 mod directive;
+pub mod laws;
 mod reading;
 #[cfg(test)]
 mod tests;
@@ -9,7 +10,7 @@ mod tests;
 pub use directive::{Directive, Directives, Placed};
 pub use reading::read_steps;
 
-/// The greatest number of impulse passes that a step text may set: none, until they are built.
-pub const PASSES_TAKEN: u32 = 0;
-/// The greatest value of the switch for impact zones that a step text may set: off, until they are built.
-pub const ZONES_TAKEN: u32 = 0;
+/// The greatest number of groups that may be open at once.
+pub const GROUPS_MAX: usize = 8;
+/// The greatest number of impulse passes that may be set.
+pub const PASSES_MAX: u8 = 100;

@@ -3,10 +3,11 @@ ghost use Rattle.grid_base.specs.declared.TheConstants.{TEXT_MAX};
 ghost use Rattle.line_text.specs.Faults.{Gives, Leaves, at_line};
 ghost use Rattle.line_text.specs.Remaining.{words_left};
 ghost use Rattle.step_text.specs.Steps as spec;
-ghost use Rattle.step_text.specs.Ranges.{IsInRange, AreInRange};
+ghost use Rattle.step_text.specs.Laws.{line_count};
+ghost use Rattle.step_text.specs.Ranges.{AreInRange, AreOnLines, AreNested};
 
 use crate::directive::{Directive, Directives, Placed};
-use crate::{PASSES_TAKEN, ZONES_TAKEN};
+use crate::{GROUPS_MAX, PASSES_MAX};
 use edit_base::PassKind;
 use grid_base::{DEPTH_MAX, HALVINGS_MAX, ID_MAX, LENGTH_MAX, SHIFT_MAX, Shift};
 use line_text::{
@@ -17,8 +18,7 @@ use std::alloc::Global;
 
 #[tactic(auto, unfolding(crate::specs::Steps::set_of))]
 fn set(words: Words<'_>) -> Result<Directive, TextWhy>
-    ensures value { result ≡ spec.set_of (words_left words.entry) }
-    ensures range { IfOk result IsInRange }
+    ensures { result ≡ spec.set_of (words_left words.entry) }
 {
     let mut words = words;
     let Some(name) = words.next() else {
@@ -31,12 +31,12 @@ fn set(words: Words<'_>) -> Result<Directive, TextWhy>
     }
     if is_word(name, b"passes") {
         count_is(1, words)?;
-        let passes = number_at(&mut words, 0, PASSES_TAKEN)?;
+        let passes = number_at(&mut words, 0, u32::from(PASSES_MAX))?;
         return Ok(Directive::SetPasses(passes as u8));
     }
     if is_word(name, b"zones") {
         count_is(1, words)?;
-        let zones = number_at(&mut words, 0, ZONES_TAKEN)?;
+        let zones = number_at(&mut words, 0, 1)?;
         return Ok(Directive::SetZones(zones == 1));
     }
     if is_word(name, b"halvings") {
@@ -60,8 +60,7 @@ fn shift_at(words: Words<'_>) -> Result<Shift, TextWhy>
 
 #[tactic(auto, unfolding(crate::specs::Steps::shift_one_of))]
 fn shift_one(words: Words<'_>) -> Result<Directive, TextWhy>
-    ensures value { result ≡ spec.shift_one_of (words_left words.entry) }
-    ensures range { IfOk result IsInRange }
+    ensures { result ≡ spec.shift_one_of (words_left words.entry) }
 {
     let mut words = words;
     let v = number_at(&mut words, 1, ID_MAX)?;
@@ -71,8 +70,7 @@ fn shift_one(words: Words<'_>) -> Result<Directive, TextWhy>
 
 #[tactic(auto, unfolding(crate::specs::Steps::shift_of))]
 fn shift(words: Words<'_>) -> Result<Directive, TextWhy>
-    ensures value { result ≡ spec.shift_of (words_left words.entry) }
-    ensures range { IfOk result IsInRange }
+    ensures { result ≡ spec.shift_of (words_left words.entry) }
 {
     let mut behind = words;
     let Some(who) = behind.next() else {
@@ -84,6 +82,16 @@ fn shift(words: Words<'_>) -> Result<Directive, TextWhy>
         return Ok(Directive::ShiftAll { by });
     }
     shift_one(words)
+}
+
+#[tactic(auto, unfolding(crate::specs::Steps::solid_of))]
+fn solid(words: Words<'_>) -> Result<Directive, TextWhy>
+    ensures { result ≡ spec.solid_of (words_left words.entry) }
+{
+    let mut words = words;
+    count_is(1, words)?;
+    let v = number_at(&mut words, 1, ID_MAX)?;
+    Ok(Directive::Solid { v })
 }
 
 // The length that a pass goes by.
@@ -98,9 +106,7 @@ fn length(words: Words<'_>) -> Result<u32, TextWhy>
 
 #[tactic(auto, unfolding(crate::specs::Steps::alone))]
 fn alone(directive: Directive, words: Words<'_>) -> Result<Directive, TextWhy>
-    requires { IsInRange directive }
-    ensures value { result ≡ spec.alone directive (words_left words.entry) }
-    ensures range { IfOk result IsInRange }
+    ensures { result ≡ spec.alone directive (words_left words.entry) }
 {
     count_is(0, words)?;
     Ok(directive)
@@ -108,14 +114,16 @@ fn alone(directive: Directive, words: Words<'_>) -> Result<Directive, TextWhy>
 
 #[tactic(auto, unfolding(crate::specs::Steps::directive_of))]
 fn directive(first: &[u8], words: Words<'_>) -> Result<Directive, TextWhy>
-    ensures value { result ≡ spec.directive_of first.now (words_left words.entry) }
-    ensures range { IfOk result IsInRange }
+    ensures { result ≡ spec.directive_of first.now (words_left words.entry) }
 {
     if is_word(first, b"set") {
         return set(words);
     }
     if is_word(first, b"shift") {
         return shift(words);
+    }
+    if is_word(first, b"solid") {
+        return solid(words);
     }
     if is_word(first, b"step") {
         return alone(Directive::Step, words);
@@ -141,16 +149,47 @@ fn directive(first: &[u8], words: Words<'_>) -> Result<Directive, TextWhy>
     if is_word(first, b"save") {
         return alone(Directive::Save, words);
     }
+    if is_word(first, b"group") {
+        return alone(Directive::Group, words);
+    }
+    if is_word(first, b"close") {
+        return alone(Directive::Close, words);
+    }
     Err(TextWhy::Unknown)
+}
+
+// Opens the group of a line, or closes the innermost one, if the directive is to.
+fn nest(groups: &mut Vec<u32>, what: &Directive, line: u32) -> Result<(), ReadFault>
+    ensures { Leaves groups.new.items result (at_line line (spec.groups_behind line what.now groups.old.items)) }
+{
+    let why = TextWhy::Nesting;
+    match what {
+        Directive::Group => {
+            if groups.len() >= GROUPS_MAX {
+                return Err(ReadFault::Text(TextFault { line, why }));
+            }
+            groups.push(line)?;
+            Ok(())
+        }
+        Directive::Close => match groups.pop() {
+            None => Err(ReadFault::Text(TextFault { line, why })),
+            Some(_line) => Ok(()),
+        },
+        _ => Ok(()),
+    }
 }
 
 // Adds the directive of a line of these words, if it has any.
 #[tactic(auto, unfolding(crate::specs::Steps::words_add))]
-fn add_words(directives: &mut Directives, words: Words<'_>, line: u32) -> Result<(), ReadFault>
-    ensures value { Leaves directives.new result
-        (at_line line (spec.words_add line directives.old (words_left words.entry))) }
+fn add_words(
+    directives: &mut Directives,
+    groups: &mut Vec<u32>,
+    words: Words<'_>,
+    line: u32,
+) -> Result<(), ReadFault>
+    ensures value { Leaves (spec.so_far directives.new groups.new.items) result
+        (at_line line (spec.words_add line (spec.so_far directives.old groups.old.items) (words_left words.entry))) }
     ensures more { length directives.new ≤ length directives.old + 1 }
-    ensures ranges { AreInRange directives.old → AreInRange directives.new }
 {
     let mut words = words;
     let Some(first) = words.next() else {
@@ -158,6 +197,7 @@ fn add_words(directives: &mut Directives, words: Words<'_>, line: u32) -> Result
     };
     match directive(first, words) {
         Ok(what) => {
+            nest(groups, &what, line)?;
             directives.push(Placed { line, what })?;
             Ok(())
         }
@@ -165,17 +205,38 @@ fn add_words(directives: &mut Directives, words: Words<'_>, line: u32) -> Result
     }
 }
 
-/// The directives of a step text, or the first line outside its grammar with the reason.
+// The directives, where no group is open.
+fn closed(directives: Directives, groups: &[u32]) -> Result<Directives, ReadFault>
+    ensures value { Gives (λ d. d) result (spec.closed_or_nesting directives groups.now) }
+    ensures same { IfOk result (λ d. d ≡ directives) }
+{
+    match groups.first() {
+        None => Ok(directives),
+        Some(outermost) => Err(ReadFault::Text(TextFault {
+            line: *outermost,
+            why: TextWhy::Nesting,
+        })),
+    }
+}
+
+/// The directives of a step text, or the first line outside its grammar with the reason. Nesting is the last reason of a line:
+/// a group would be open behind `GROUPS_MAX` others, or a close has none. Where no line has a fault and groups are left open,
+/// it is the reason of the outermost one's line.
 pub fn read_steps(alloc: Global, bytes: &[u8]) -> Result<Directives, ReadFault>
     requires { length bytes.now ≤ TEXT_MAX }
     ensures value { Gives (λ d. d) result (spec.steps_of bytes.now) }
     ensures few { IfOk result (λ d. length d ≤ TEXT_MAX) }
-    // A depth or a number of halvings that is set is within its limit.
+    // Settings, ids and lengths are within their limits.
     ensures ranges { IfOk result AreInRange }
+    // Each directive is on a line of the text.
+    ensures lines { IfOk result (AreOnLines (line_count bytes.now)) }
+    // No close lacks its group, no group lies too deep, and none is left open.
+    ensures nested { IfOk result (λ d. AreNested 0 d 0) }
 {
     let mut directives = Directives::new(alloc);
+    let mut groups = Vec::new(alloc);
     for line in Lines::new(bytes) {
-        add_words(&mut directives, words(line.bytes), line.number)?;
+        add_words(&mut directives, &mut groups, words(line.bytes), line.number)?;
     }
-    Ok(directives)
+    closed(directives, groups.as_slice())
 }

@@ -13,11 +13,13 @@ use track_run::{Outcome, run};
 /// How the program is called.
 pub(crate) const USAGE: &str = "\
 usage: topo track MESH STEPS PREFIX [--decimals N]
+       topo convert FROM TO [--decimals N]
        topo --help | --version
 
 Reads the Wavefront OBJ mesh MESH and the text of steps STEPS, moves the closed triangle surface by
 the steps and edits it, writes the log to standard output, and stores the meshes as PREFIX-000000.obj,
-PREFIX-000001.obj and so on.
+PREFIX-000001.obj and so on. `convert` stores the mesh FROM under TO, each in the format of its ending:
+.obj, .off (OFF) or .ply (ASCII PLY).
 
 --decimals N    a unit of the grid is 10 to the power -N (N from 0 to 6; 0 if left out)
 

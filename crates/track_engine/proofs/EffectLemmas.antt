@@ -1,10 +1,11 @@
 -- The names of asked shifts, and a save that stops.
-use Rattle.std.proofs.Common.{◌≡◌, ℕ, ◌+◌, ◌<◌, suc, length, drop, get_or, add-one, List, [], ◌∷◌, map, Option, None, Result, Ok, Err, IfOk, refl, ap, sym, ◌∙◌, subst, inr}
+use Rattle.std.proofs.Common.{◌≡◌, ℕ, ◌+◌, ◌<◌, suc, Bool, true, false, cond, length, drop, get_or, add-one, List, [], ◌∷◌, map, Option, None, Result, Ok, Err, IfOk, refl, ap, sym, ◌∙◌, subst, inr}
 use Rattle.std.specs.FinMap as finite
 use Rattle.grid_base.specs.declared.Shift.{Shift}
+use Rattle.mesh_base.specs.declared.ShiftOf.{ShiftOf}
 use Rattle.mesh_base.specs.declared.UseWhy.{UseWhy}
-use Rattle.mesh_base.specs.Mesh.{Mesh}
-use Rattle.mesh_base.specs.Shifts.{Shifts, NameLive}
+use Rattle.mesh_base.specs.Mesh.{Mesh, is_solid}
+use Rattle.mesh_base.specs.Shifts.{Shifts, NameLive, with_shift}
 use Rattle.std.proofs.Math.Seq.{drop-cons}
 use Rattle.std.specs.List.{AllByRecursion}
 use Rattle.step_text.specs.declared.Placed.{Placed}
@@ -12,20 +13,28 @@ use Rattle.step_text.specs.Ranges.{IsInRange, AreInRange}
 use Rattle.step_text.specs.declared.Directive.{Directive}
 use Rattle.step_text.specs.declared.Directive.TheVariants as directive
 use Rattle.track_engine.specs.declared.stop.Stop.{Stop}
-use Rattle.track_engine.specs.declared.run_state.RunState.{RunState}
-use Rattle.log_replay.specs.Replay.{at_mesh}
-use Rattle.track_engine.specs.State.{State, state_of, no_shifts, still_at}
-use Rattle.track_engine.specs.Effects.{effect_of, mesh_line, all_summed}
+use Rattle.track_engine.specs.State.{State, standing, no_shifts, still_at}
+use Rattle.track_engine.specs.Effects.{effect_of, mesh_line, summed, all_summed}
 use Rattle.track_engine.specs.Saved.{Target}
-use Rattle.track_engine.specs.World.{Contents, StopsIn}
-use Rattle.track_engine.specs.Parts.{Advances}
+use Rattle.track_engine.specs.World.{Contents, Logs, StopsIn}
+use Rattle.track_engine.specs.Parts.{Takes, Advances}
 
-pub ids_of_sums : (by : Shift) (asked : Shifts) → map (λ s. s.v) (all_summed by asked) ≡ map (λ s. s.v) asked
-ids_of_sums by [] = refl
-ids_of_sums by (s ∷ rest) = ap (λ l. s.v ∷ l) (ids_of_sums by rest)
+pub ids_of_sums : (m : Mesh) (by : Shift) (asked : Shifts) → map (λ s. s.v) (all_summed m by asked) ≡ map (λ s. s.v) asked
+ids_of_sums m by [] = refl
+ids_of_sums m by (s ∷ rest) = ap (λ id. id ∷ map (λ x. x.v) (all_summed m by rest)) (by_test (is_solid m s.v)) ∙ ap (λ ids. s.v ∷ ids) (ids_of_sums m by rest)
+  where
+    by_test : (b : Bool) → (cond b s (with_shift s (summed by s))).v ≡ s.v
+    by_test true = refl
+    by_test false = refl
+
+-- a save
+pub save_whole : (to : Target) (what : Directive) (s : State) (old new : Contents) → what ≡ directive.Save → Logs to (standing s) (mesh_line s.saved s.mesh ∷ []) old new → Takes to (effect_of what s) s (record s { saved = s.saved + 1 }) old new
+save_whole to what s old new is logs =
+    let P : Directive → Type 0 = λ what. Takes to (effect_of what s) s (record s { saved = s.saved + 1 }) old new in
+    subst P (sym is) (record { lines = mesh_line s.saved s.mesh ∷ []; goes = refl; logs = logs; replay = refl })
 
 -- a save that stops in its line, or before its mesh is stored
-pub save_part : (stop : Stop) (to : Target) (what : Directive) (s t : State) (old new : Contents) → what ≡ directive.Save → StopsIn stop to (at_mesh s.mesh) (mesh_line s.saved s.mesh ∷ []) old new → Advances to (effect_of what s) s t old new (Err stop)
+pub save_part : (stop : Stop) (to : Target) (what : Directive) (s t : State) (old new : Contents) → what ≡ directive.Save → StopsIn stop to (standing s) (mesh_line s.saved s.mesh ∷ []) old new → Advances to (effect_of what s) s t old new (Err stop)
 save_part stop to what s t old new is stops =
     let P : Directive → Type 0 = λ what. Advances to (effect_of what s) s t old new (Err stop) in
     subst P (sym is) (inr (record { lines = mesh_line s.saved s.mesh ∷ []; next = record s { saved = s.saved + 1 }; goes = refl; stops = stops }))

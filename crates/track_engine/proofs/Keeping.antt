@@ -1,5 +1,8 @@
 -- Every mesh and motion of a log keeps its promise.
-use Rattle.std.proofs.Common.{◌≡◌, ℕ, ◌+◌, ◌==◌, Bool, true, false, cond, not, List, [], ◌∷◌, ◌++◌, map, length, Option, Some, None, Result, Ok, Err, IfOk, refl, ap, sym, ◌∙◌, subst, ℤ, pos, unsigned_abs, ◌≤◌, arith}
+use Rattle.std.specs.Prelude.{nat_lt}
+use Rattle.std.specs.List.{AllByRecursion}
+use Rattle.std.proofs.lemmas.Bool.{false≢true}
+use Rattle.std.proofs.Common.{◌≡◌, ℕ, ◌+◌, ◌==◌, Bool, true, false, cond, not, is_some, List, [], ◌∷◌, ◌++◌, map, length, Option, Some, None, Result, Ok, Err, IfOk, refl, ap, sym, ◌∙◌, subst, ℤ, pos, unsigned_abs, ◌≤◌, arith}
 use Rattle.std.specs.Option.{unwrap_or}
 use Rattle.std.specs.FinMap as finite
 use Rattle.std.proofs.lemmas.Bool.{eqb-true}
@@ -15,7 +18,9 @@ use Rattle.mesh_base.specs.declared.ShiftOf.{ShiftOf}
 use Rattle.mesh_base.specs.declared.ShapeFault.{ShapeFault}
 use Rattle.mesh_base.specs.declared.UseWhy.{UseWhy}
 use Rattle.mesh_base.specs.declared.UseWhy.TheVariants.{ShiftRange}
-use Rattle.mesh_base.specs.Mesh.{Mesh, IsSound}
+use Rattle.mesh_base.specs.Mesh.{Mesh, IsSound, is_solid}
+use Rattle.mesh_base.specs.Changes.{with_solid}
+use Rattle.mesh_base.proofs.MeshLaws.{sound-with_solid}
 use Rattle.mesh_base.specs.Sides.{IsClosed}
 use Rattle.grid_base.specs.Meeting.{MeetAt}
 use Rattle.grid_base.specs.Motion.{position_at}
@@ -39,8 +44,8 @@ use Rattle.step_text.specs.declared.Directive.{Directive}
 use Rattle.step_text.specs.declared.Directive.TheVariants as directive
 use Rattle.step_text.specs.Steps.{steps_of}
 use Rattle.log_text.specs.declared.LogLine.{LogLine}
-use Rattle.log_text.specs.declared.LogLine.TheVariants.{Move, Moved}
-use Rattle.log_replay.specs.Replay.{Replay, after, replayed, at_mesh}
+use Rattle.log_text.specs.declared.LogLine.TheVariants.{Move, Moved, Close}
+use Rattle.log_replay.specs.Replay.{Replay, after, replayed, closed}
 use Rattle.track_engine.specs.declared.stop.Stop.{Stop}
 use Rattle.track_engine.specs.Shifting.{AsksNow}
 use Rattle.edit_base.specs.declared.PassKind.{PassKind}
@@ -48,14 +53,16 @@ use Rattle.track_engine.specs.Parts.{StepTakes, PassTakes}
 use Rattle.track_engine.specs.Kept.{LineHolds, LogIsSafe, IsSavedWell}
 use Rattle.log_replay.specs.Safe.{MotionIsSafe}
 use Rattle.log_replay.proofs.Replaying.{each_then}
-use Rattle.track_engine.specs.State.{State, start, standing, no_shifts, still_at, asked_of, asked_in}
+use Rattle.track_engine.specs.State.{Group, State, start, standing, no_shifts, still_at, asked_of, still_asked, asked_in}
 use Rattle.mesh_base.specs.Valid.{IsValidSurface}
 use Rattle.track_engine.proofs.Passing.{pass_keeps}
 use Rattle.track_engine.proofs.ReadAgain.{read_again}
-use Rattle.track_engine.specs.Invariant.{IsRunInvariant}
-use Rattle.track_engine.specs.Effects.{Effect, Proceeds, Refused, ExpectedLog, effect_of, shift_effect, set_effect, step_effect, summed, first_beyond, all_summed, sum_or_range, sum_of_all, passed_lines, passed_mesh, after_pass, one_summed, sum_at, sum_of_one, first_outside, hits, taken, moves, moving, moved_mesh, hit_lines, move_lines, lines_of_step, all_still, step_lines, after_step, and_then, log_from}
-use Rattle.track_engine.proofs.NoFiles.{after-step_lines, after-moves, after-hits}
+use Rattle.track_engine.specs.Invariant.{IsAskedWell, IsRunInvariant}
+use Rattle.track_engine.specs.Effects.{Effect, Proceeds, Refused, ExpectedLog, effect_of, shift_effect, set_effect, solid_effect, close_effect, step_effect, kept_whole, taken_back, is_whole, summed, first_beyond, all_summed, sum_or_range, sum_of_all, passed_lines, passed_mesh, after_pass, one_summed, sum_at, sum_of_one, first_outside, hits, taken, moves, moving, moved_mesh, hit_lines, block_lines, move_lines, way_lines, lines_of_step, all_still, one_still, step_lines, after_step, and_then, log_from}
+use Rattle.track_engine.proofs.NoFiles.{after-step_lines, after-moves, after-hits, after-blocks}
 use Rattle.track_engine.proofs.StepLemmas.{all_inside, ids_of_still}
+use Rattle.pass_run.specs.PassLines.{refused_in}
+use Rattle.track_engine.proofs.Still.{SolidsAreStill, rest_of_still, still_of_rest, clear-with_solid, moving_free, all_still_are, none_asked, sums_still, one_still_sum, ids_of_still_one, solid_still, groups_kept}
 use Rattle.track_engine.proofs.EffectLemmas.{ids_of_sums, names_at_first}
 
 -- ---- lines one after the other
@@ -63,13 +70,18 @@ use Rattle.track_engine.proofs.EffectLemmas.{ids_of_sums, names_at_first}
 keeps_append : (xs ys : List LogLine) (from : Replay) → LogIsSafe from xs → LogIsSafe (after from xs) ys → LogIsSafe from (xs ++ ys)
 keeps_append xs ys from k l = each_then LineHolds from xs ys k l
 
-keeps_moves : (shifts : Shifts) (from : Replay) → LogIsSafe from (map (λ s. Move s) shifts)
-keeps_moves [] from = tt
-keeps_moves (s ∷ rest) from = (tt, keeps_moves rest (replayed from (Move s)))
+-- none of them is of a solid vertex
+keeps_moves : (shifts : Shifts) (from : Replay) → AllByRecursion (λ s. is_solid from.mesh s.v ≡ false) shifts → LogIsSafe from (map (λ s. Move s) shifts)
+keeps_moves [] from free = tt
+keeps_moves (s ∷ rest) from free = (free.0, keeps_moves rest (replayed from (Move s)) free.1)
 
 keeps_hits : (pairs : List PairName) (from : Replay) → LogIsSafe from (hit_lines pairs)
 keeps_hits [] from = tt
 keeps_hits (p ∷ pairs) from = (tt, keeps_hits pairs from)
+
+keeps_blocks : (blocks : List (List ℕ)) (from : Replay) → LogIsSafe from (block_lines blocks)
+keeps_blocks [] from = tt
+keeps_blocks (ids ∷ blocks) from = (tt, keeps_blocks blocks from)
 
 -- ---- a step
 
@@ -91,7 +103,7 @@ clear_alike m xs ys same along p q some within pair is meet =
     along p q some within pair is
     (subst MeetAt (same_positions (at_fraction p q (moved_by m xs)) (at_fraction p q (moved_by m ys)) pair (λ v. ap (λ t. position_at p q (rest_positions m v) (plus (rest_positions m v) t)) (same v))) meet)
 
--- the lines of a step that goes well, and the mesh after it
+-- the lines of a step that goes well and moves no solid vertex, and the mesh after it
 module _ (m : Mesh) (good : IsValidSurface m) (k : ℕ) (pairs : List PairName) (way : Way) (well : GoesWell m way.taken) where
   names : NameOnce m way.taken
   names = name_once m way.taken well.named
@@ -109,19 +121,26 @@ module _ (m : Mesh) (good : IsValidSurface m) (k : ℕ) (pairs : List PairName) 
     clear = clear_after_moves m (moving way.taken) once.once (end_filtered m moves way.taken well.ends) clear_along;
   }
 
-  moves_well : MotionIsSafe (record { mesh = m; moves = moving way.taken })
-  moves_well = record { before = good; along = clear_along; after = good_after }
+  moves_well : (stack : List Mesh) → MotionIsSafe (record { mesh = m; moves = moving way.taken; stack = stack })
+  moves_well stack = record { before = good; along = clear_along; after = good_after }
 
-  keeps_lines : LogIsSafe (at_mesh m) (lines_of_step k pairs way)
-  keeps_lines =
-      let begun : Replay = at_mesh m in
+  free : AllByRecursion (λ s. is_solid m s.v ≡ false) (moving way.taken)
+  free = moving_free m way.taken (still_of_rest m way.taken names.once well.solid)
+
+  keeps_way : (stack : List Mesh) → LogIsSafe (record { mesh = m; moves = []; stack = stack }) (way_lines way)
+  keeps_way stack =
+      let begun : Replay = record { mesh = m; moves = []; stack = stack } in
       let moved : List LogLine = Moved way.how ∷ [] in
       let P : Replay → Type 0 = λ r. LogIsSafe r moved in
-      let Q : Replay → Type 0 = λ r. LogIsSafe r (move_lines way.taken ++ moved) in (
-        tt,
-        keeps_append (hit_lines pairs) (move_lines way.taken ++ moved) begun (keeps_hits pairs begun)
-            (subst Q (sym (after-hits begun pairs)) (keeps_append (move_lines way.taken) moved begun (keeps_moves (moving way.taken) begun) (subst P (sym (after-moves begun (moving way.taken))) (moves_well, tt)))),
-      )
+      let Q : Replay → Type 0 = λ r. LogIsSafe r (move_lines way.taken ++ moved) in
+      keeps_append (block_lines way.blocks) (move_lines way.taken ++ moved) begun (keeps_blocks way.blocks begun)
+      (subst Q (sym (after-blocks begun way.blocks)) (keeps_append (move_lines way.taken) moved begun (keeps_moves (moving way.taken) begun free) (subst P (sym (after-moves begun (moving way.taken))) (moves_well stack, tt))))
+
+  keeps_lines : (stack : List Mesh) → LogIsSafe (record { mesh = m; moves = []; stack = stack }) (lines_of_step k pairs way)
+  keeps_lines stack =
+      let begun : Replay = record { mesh = m; moves = []; stack = stack } in
+      let P : Replay → Type 0 = λ r. LogIsSafe r (way_lines way) in
+      (tt, keeps_append (hit_lines pairs) (way_lines way) begun (keeps_hits pairs begun) (subst P (sym (after-hits begun pairs)) (keeps_way stack)))
 
   -- the same vertices live
   keys_after : (asked : Shifts) → NameLive m asked → NameLive (moved_mesh m way.taken) (all_still asked)
@@ -130,18 +149,22 @@ module _ (m : Mesh) (good : IsValidSurface m) (k : ℕ) (pairs : List PairName) 
 -- the way that is taken goes well
 well_taken : (s : State) → IsRunInvariant s → first_outside s.mesh s.asked ≡ None → GoesWell s.mesh (taken s).taken
 unfolding taken
-well_taken s kept inside = taken_well s.mesh s.asked s.set kept.good.sound kept.good.clear kept.names (all_inside s.mesh s.asked inside)
+well_taken s kept inside = taken_well s.mesh s.asked s.set kept.now.good.sound kept.now.good.clear kept.now.names (all_inside s.mesh s.asked inside) kept.now.still
 
 kept_after : (s : State) → IsRunInvariant s → first_outside s.mesh s.asked ≡ None → IsRunInvariant (after_step s)
 kept_after s kept inside =
     let well = well_taken s kept inside in
     record {
-      good = good_after s.mesh kept.good (s.steps + 1) (hits s) (taken s) well;
-      names = keys_after s.mesh kept.good (s.steps + 1) (hits s) (taken s) well s.asked kept.names;
+      now = record {
+        good = good_after s.mesh kept.now.good (s.steps + 1) (hits s) (taken s) well;
+        names = keys_after s.mesh kept.now.good (s.steps + 1) (hits s) (taken s) well s.asked kept.now.names;
+        still = rest_of_still (moved_mesh s.mesh (taken s).taken) (all_still s.asked) (all_still_are (moved_mesh s.mesh (taken s).taken) s.asked);
+      };
+      groups = groups_kept (not (is_whole (taken s).how)) s.groups kept.groups;
     }
 
 keeps_step : (s : State) → IsRunInvariant s → first_outside s.mesh s.asked ≡ None → LogIsSafe (standing s) (step_lines s)
-keeps_step s kept inside = keeps_lines s.mesh kept.good (s.steps + 1) (hits s) (taken s) (well_taken s kept inside)
+keeps_step s kept inside = keeps_lines s.mesh kept.now.good (s.steps + 1) (hits s) (taken s) (well_taken s kept inside) (map (λ g. g.mesh) s.groups)
 
 -- ---- a directive
 
@@ -166,68 +189,151 @@ named_at v (s ∷ rest) = by_test (named_at v rest) (s.v == v) refl
     by_test others true e = eqb-true s.v v e
     by_test others false e = others
 
-ids_of : (ids : List ℕ) (asked : Shifts) → map (λ s. s.v) (map (λ v. unwrap_or (asked_of v asked) (still_at v)) ids) ≡ ids
-ids_of [] asked = refl
-ids_of (v ∷ ids) asked = ap (λ w. w ∷ map (λ s. s.v) (map (λ u. unwrap_or (asked_of u asked) (still_at u)) ids)) (named_at v asked) ∙ ap (λ l. v ∷ l) (ids_of ids asked)
+still_named : (m : Mesh) (asked : Shifts) (v : ℕ) → (still_asked m asked v).v ≡ v
+still_named m asked v = by_test (is_solid m v)
+  where
+    by_test : (b : Bool) → (cond b (still_at v) (unwrap_or (asked_of v asked) (still_at v))).v ≡ v
+    by_test true = refl
+    by_test false = named_at v asked
+
+ids_of : (m : Mesh) (asked : Shifts) (ids : List ℕ) → map (λ s. s.v) (map (still_asked m asked) ids) ≡ ids
+ids_of m asked [] = refl
+ids_of m asked (v ∷ ids) = ap (λ w. w ∷ map (λ s. s.v) (map (still_asked m asked) ids)) (still_named m asked v) ∙ ap (λ l. v ∷ l) (ids_of m asked ids)
 
 ids_in : (m : Mesh) (asked : Shifts) → NameLive m (asked_in m asked)
-ids_in m asked = ids_of (finite.keys m.points) asked
+ids_in m asked = ids_of m asked (finite.keys m.points)
+
+-- nothing is asked of a solid vertex after a pass
+asked_still : (m : Mesh) (asked : Shifts) (ids : List ℕ) → SolidsAreStill m (map (still_asked m asked) ids)
+asked_still m asked [] = tt
+asked_still m asked (v ∷ ids) = (by_test (is_solid m v) refl, asked_still m asked ids)
+  where
+    by_test : (b : Bool) → is_solid m v ≡ b → is_solid m (still_asked m asked v).v ≡ true → displacement_of (still_asked m asked v).by ≡ origin
+    by_test true e solid = ap (λ c. displacement_of (cond c (still_at v) (unwrap_or (asked_of v asked) (still_at v))).by) e
+    by_test false e solid = absurd (false≢true (sym e ∙ ap (is_solid m) (sym (still_named m asked v)) ∙ solid))
 
 -- what is asked from here on names the same vertices
-names_of_all : (by : Shift) (asked now : Shifts) (o : Option ℕ) → sum_or_range o by asked ≡ Ok now → map (λ s. s.v) now ≡ map (λ s. s.v) asked
-names_of_all by asked now None e = let same : all_summed by asked ≡ now = cc in ap (λ (l : Shifts). map (λ s. s.v) l) (sym same) ∙ ids_of_sums by asked
-names_of_all by asked now (Some v) e = absurd cc
+-- and nothing of a solid one
+abbrev AsksWell : Mesh → Shifts → Shifts → Type 0
+AsksWell m asked now = (map (λ s. s.v) now ≡ map (λ s. s.v) asked) × (SolidsAreStill m asked → SolidsAreStill m now)
 
-names_of_one : (v : ℕ) (by : Shift) (asked now : Shifts) (o : Option ShiftOf) → sum_at o v by asked ≡ Ok now → map (λ s. s.v) now ≡ map (λ s. s.v) asked
-names_of_one v by asked now None e = absurd cc
-names_of_one v by asked now (Some s) e = by_test (is_within SHIFT_MAX (summed by s)) e
+well_of_all : (m : Mesh) (by : Shift) (asked now : Shifts) (o : Option ℕ) → sum_or_range o m by asked ≡ Ok now → AsksWell m asked now
+well_of_all m by asked now None e =
+    let same : all_summed m by asked ≡ now = cc in
+    let P : Shifts → Type 0 = λ l. AsksWell m asked l in
+    subst P same (ids_of_sums m by asked, sums_still m by asked)
+well_of_all m by asked now (Some v) e = absurd cc
+
+well_of_one : (m : Mesh) (v : ℕ) (by : Shift) (asked now : Shifts) (o : Option ShiftOf) (b : Bool) → is_solid m v ≡ b → sum_at o b v by asked ≡ Ok now → AsksWell m asked now
+well_of_one m v by asked now None b free e = absurd cc
+well_of_one m v by asked now (Some s) true free e = absurd cc
+well_of_one m v by asked now (Some s) false free e = by_test (is_within SHIFT_MAX (summed by s)) e
   where
-    by_test : (b : Bool) → cond b (Ok (one_summed v by asked)) (Err (ShiftRange v)) ≡ Ok now → map (λ s. s.v) now ≡ map (λ s. s.v) asked
-    by_test true e = let same : one_summed v by asked ≡ now = cc in ap (λ (l : Shifts). map (λ s. s.v) l) (sym same) ∙ ids_of_one v by asked
+    by_test : (b : Bool) → cond b (Ok (one_summed v by asked)) (Err (ShiftRange v)) ≡ Ok now → AsksWell m asked now
+    by_test true e =
+        let same : one_summed v by asked ≡ now = cc in
+        let P : Shifts → Type 0 = λ l. AsksWell m asked l in
+        subst P same (ids_of_one v by asked, one_still_sum m v by free asked)
     by_test false e = absurd cc
 
-keeps_shift : (s : State) → IsRunInvariant s → (r : Result Shifts UseWhy) → ((now : Shifts) → r ≡ Ok now → map (λ s. s.v) now ≡ map (λ s. s.v) s.asked) → KeepsEffect s (shift_effect r s)
-keeps_shift s kept (Ok asked) same = (tt, refl, record { good = kept.good; names = same asked refl ∙ kept.names })
-keeps_shift s kept (Err why) same = tt
+-- what is asked is nothing of a solid vertex, one after the other
+still_now : (s : State) → IsAskedWell s.mesh s.asked → SolidsAreStill s.mesh s.asked
+still_now s well = still_of_rest s.mesh s.asked (name_once s.mesh s.asked well.names).once well.still
+
+kept_with : (s : State) → IsRunInvariant s → (now : Shifts) → AsksWell s.mesh s.asked now → IsRunInvariant (record s { asked = now })
+kept_with s kept now well = record { now = record { good = kept.now.good; names = well.0 ∙ kept.now.names; still = rest_of_still s.mesh now (well.1 (still_now s kept.now)) }; groups = kept.groups }
+
+keeps_shift : (s : State) → IsRunInvariant s → (r : Result Shifts UseWhy) → ((now : Shifts) → r ≡ Ok now → AsksWell s.mesh s.asked now) → KeepsEffect s (shift_effect r s)
+keeps_shift s kept (Ok asked) well = (tt, refl, kept_with s kept asked (well asked refl))
+keeps_shift s kept (Err why) well = tt
 
 -- what is asked from here on is asked of the same vertices
-kept_asked : (s : State) (sum : Result Shifts UseWhy) (now : Shifts) (o : Option UseWhy) → IsRunInvariant s → ((n : Shifts) → sum ≡ Ok n → map (λ t. t.v) n ≡ map (λ t. t.v) s.asked) → AsksNow sum now o → o ≡ None → IsRunInvariant (record s { asked = now })
-kept_asked s sum now None kept same asks e = record { good = kept.good; names = same now asks ∙ kept.names }
-kept_asked s sum now (Some why) kept same asks e = absurd cc
+kept_asked : (s : State) (sum : Result Shifts UseWhy) (now : Shifts) (o : Option UseWhy) → IsRunInvariant s → ((n : Shifts) → sum ≡ Ok n → AsksWell s.mesh s.asked n) → AsksNow sum now o → o ≡ None → IsRunInvariant (record s { asked = now })
+kept_asked s sum now None kept well asks e = kept_with s kept now (well now asks)
+kept_asked s sum now (Some why) kept well asks e = absurd cc
 
-pub kept_by_one : (v : ℕ) (by : Shift) (s : State) (now : Shifts) (o : Option UseWhy) → IsRunInvariant s → AsksNow (sum_of_one v by s.asked) now o → o ≡ None → IsRunInvariant (record s { asked = now })
-kept_by_one v by s now o kept asks e = kept_asked s (sum_of_one v by s.asked) now o kept (λ n same. names_of_one v by s.asked n (asked_of v s.asked) same) asks e
+one_well : (v : ℕ) (by : Shift) (s : State) (now : Shifts) → sum_of_one s.mesh v by s.asked ≡ Ok now → AsksWell s.mesh s.asked now
+one_well v by s now e = well_of_one s.mesh v by s.asked now (asked_of v s.asked) (is_solid s.mesh v) refl e
 
-pub kept_by_all : (by : Shift) (s : State) (now : Shifts) (r : Result (Option UseWhy) Stop) → IsRunInvariant s → IfOk r (AsksNow (sum_of_all by s.asked) now) → r ≡ Ok None → IsRunInvariant (record s { asked = now })
+all_well : (by : Shift) (s : State) (now : Shifts) → sum_of_all s.mesh by s.asked ≡ Ok now → AsksWell s.mesh s.asked now
+all_well by s now e = well_of_all s.mesh by s.asked now (first_beyond s.mesh by s.asked) e
+
+pub kept_by_one : (v : ℕ) (by : Shift) (s : State) (now : Shifts) (o : Option UseWhy) → IsRunInvariant s → AsksNow (sum_of_one s.mesh v by s.asked) now o → o ≡ None → IsRunInvariant (record s { asked = now })
+kept_by_one v by s now o kept asks e = kept_asked s (sum_of_one s.mesh v by s.asked) now o kept (one_well v by s) asks e
+
+pub kept_by_all : (by : Shift) (s : State) (now : Shifts) (r : Result (Option UseWhy) Stop) → IsRunInvariant s → IfOk r (AsksNow (sum_of_all s.mesh by s.asked) now) → r ≡ Ok None → IsRunInvariant (record s { asked = now })
 kept_by_all by s now r kept asks e =
-    let P : Result (Option UseWhy) Stop → Type 0 = λ x. IfOk x (AsksNow (sum_of_all by s.asked) now) in
-    kept_asked s (sum_of_all by s.asked) now None kept (λ n same. names_of_all by s.asked n (first_beyond by s.asked) same) (subst P e asks) refl
+    let P : Result (Option UseWhy) Stop → Type 0 = λ x. IfOk x (AsksNow (sum_of_all s.mesh by s.asked) now) in
+    kept_asked s (sum_of_all s.mesh by s.asked) now None kept (all_well by s) (subst P e asks) refl
 
 keeps_set : (s : State) (set : Settings) → IsRunInvariant s → KeepsEffect s (set_effect set s)
-keeps_set s set kept = (tt, refl, record { good = kept.good; names = kept.names })
+keeps_set s set kept = (tt, refl, record { now = kept.now; groups = kept.groups })
+
+-- a vertex that is made solid
+keeps_solid : (s : State) (v : ℕ) → IsRunInvariant s → (b : Bool) → is_some (finite.get s.mesh.points v) ≡ b → KeepsEffect s (solid_effect b v s)
+keeps_solid s v kept true live = (
+  (tt, tt),
+  refl,
+  record {
+    now = record {
+      good = record { sound = sound-with_solid s.mesh v kept.now.good.sound live; closed = kept.now.good.closed; clear = clear-with_solid s.mesh v kept.now.good.clear };
+      names = ids_of_still_one v s.asked ∙ kept.now.names;
+      still = rest_of_still (with_solid s.mesh v) (one_still v s.asked) (solid_still s.mesh v s.asked (still_now s kept.now));
+    };
+    groups = kept.groups;
+  },
+)
+keeps_solid s v kept false live = tt
+
+-- a group that is closed
+keeps_close : (s : State) → IsRunInvariant s → (groups : List Group) → s.groups ≡ groups → KeepsEffect s (close_effect groups s)
+keeps_close s kept [] e = (tt, refl, kept)
+keeps_close s kept (group ∷ outer) e = by_test group.failed
+  where
+    those : AllByRecursion (λ g. IsAskedWell g.mesh g.asked) (group ∷ outer)
+    those = let P : List Group → Type 0 = λ l. AllByRecursion (λ g. IsAskedWell g.mesh g.asked) l in subst P e kept.groups
+
+    stack_is : map (λ g. g.mesh) s.groups ≡ map (λ g. g.mesh) (group ∷ outer)
+    stack_is = ap (λ (l : List Group). map (λ g. g.mesh) l) e
+
+    by_test : (b : Bool) → KeepsEffect s (Proceeds (Close (not b) ∷ []) (cond b (taken_back group outer s) (kept_whole outer s)))
+    by_test true =
+        let made : closed false (map (λ g. g.mesh) s.groups) (standing s) ≡ standing (taken_back group outer s) = ap (λ (l : List Mesh). closed false l (standing s)) stack_is in
+        let P : Replay → Type 0 = λ r. IsValidSurface r.mesh in
+        ((subst P (sym made) those.0.good, tt), made, record { now = those.0; groups = those.1 })
+    by_test false =
+        let made : closed true (map (λ g. g.mesh) s.groups) (standing s) ≡ standing (kept_whole outer s) = ap (λ (l : List Mesh). closed true l (standing s)) stack_is in
+        let P : Replay → Type 0 = λ r. IsValidSurface r.mesh in
+        ((subst P (sym made) kept.now.good, tt), made, record { now = kept.now; groups = those.1 })
 
 keeps_step_effect : (s : State) → IsRunInvariant s → (o : Option ℕ) → first_outside s.mesh s.asked ≡ o → KeepsEffect s (step_effect o s)
 keeps_step_effect s kept None e = (keeps_step s kept e, after-step_lines s, kept_after s kept e)
 keeps_step_effect s kept (Some v) e = tt
 
-pub saved_well : (m : Mesh) → IsValidSurface m → IsSavedWell (at_mesh m) (finite.len m.points) (finite.len m.faces)
-saved_well m good = record { vertex_count = refl; face_count = refl; sound = good.sound; closed = good.closed; clear = good.clear; read_again = read_again m good.sound good.closed good.clear }
+pub saved_well : (r : Replay) → IsValidSurface r.mesh → IsSavedWell r (finite.len r.mesh.points) (finite.len r.mesh.faces)
+saved_well r good = record { vertex_count = refl; face_count = refl; sound = good.sound; closed = good.closed; clear = good.clear; read_again = read_again r.mesh good.sound good.closed good.clear }
 
 keeps_effect : (what : Directive) (s : State) → IsRunInvariant s → KeepsEffect s (effect_of what s)
 keeps_effect (directive.SetDepth depth) s kept = keeps_set s (record s.set { depth = depth }) kept
 keeps_effect (directive.SetPasses passes) s kept = keeps_set s (record s.set { passes = passes }) kept
 keeps_effect (directive.SetZones zones) s kept = keeps_set s (record s.set { zones = zones }) kept
 keeps_effect (directive.SetHalvings halvings) s kept = keeps_set s (record s.set { halvings = halvings }) kept
-keeps_effect (directive.ShiftOne v by) s kept = keeps_shift s kept (sum_of_one v by s.asked) (λ now e. names_of_one v by s.asked now (asked_of v s.asked) e)
-keeps_effect (directive.ShiftAll by) s kept = keeps_shift s kept (sum_of_all by s.asked) (λ now e. names_of_all by s.asked now (first_beyond by s.asked) e)
+keeps_effect (directive.ShiftOne v by) s kept = keeps_shift s kept (sum_of_one s.mesh v by s.asked) (one_well v by s)
+keeps_effect (directive.ShiftAll by) s kept = keeps_shift s kept (sum_of_all s.mesh by s.asked) (all_well by s)
+keeps_effect (directive.Solid v) s kept = keeps_solid s v kept (is_some (finite.get s.mesh.points v)) refl
 keeps_effect directive.Step s kept = keeps_step_effect s kept (first_outside s.mesh s.asked) refl
 keeps_effect (directive.Pass kind) s kept =
-    let kept_pass = pass_keeps kind s kept.good in (
+    let kept_pass = pass_keeps kind s kept.now.good in (
       kept_pass.lines,
       kept_pass.replay,
-      record { good = kept_pass.good; names = ids_in (passed_mesh kind s) s.asked },
+      record {
+        now = record { good = kept_pass.good; names = ids_in (passed_mesh kind s) s.asked; still = rest_of_still (passed_mesh kind s) (asked_in (passed_mesh kind s) s.asked) (asked_still (passed_mesh kind s) s.asked (finite.keys (passed_mesh kind s).points)) };
+        groups = groups_kept (nat_lt 0 (refused_in (passed_lines kind s))) s.groups kept.groups;
+      },
     )
-keeps_effect directive.Save s kept = ((saved_well s.mesh kept.good, tt), refl, record { good = kept.good; names = kept.names })
+keeps_effect directive.Save s kept = ((saved_well (standing s) kept.now.good, tt), refl, record { now = kept.now; groups = kept.groups })
+keeps_effect directive.Group s kept = ((tt, tt), refl, record { now = kept.now; groups = (kept.now, kept.groups) })
+keeps_effect directive.Close s kept = keeps_close s kept s.groups refl
 
 -- an effect that is taken leads to where a run stands well
 pub kept_next : (what : Directive) (s next : State) (lines : List LogLine) → IsRunInvariant s → effect_of what s ≡ Proceeds lines next → IsRunInvariant next
@@ -256,4 +362,4 @@ keeps_told (p ∷ steps) s kept = keeps_and_then p.line s (effect_of p.what s) (
 -- ---- where the directives begin
 
 pub kept_start : (m : Mesh) → IsValidSurface m → IsRunInvariant (start m)
-kept_start m good = record { good = good; names = names_at_first m (no_shifts m) refl }
+kept_start m good = record { now = record { good = good; names = names_at_first m (no_shifts m) refl; still = rest_of_still m (no_shifts m) (none_asked m (finite.keys m.points)) }; groups = tt }

@@ -1,3 +1,5 @@
+pub mod OpenLists
+pub mod OpenMarks
 pub mod ShiftLemmas
 pub mod PlaceLemmas
 pub mod StepLemmas
@@ -11,7 +13,9 @@ pub mod Passing
 pub mod PassTaken
 pub mod ShapeAgain
 pub mod ReadAgain
+pub mod Still
 pub mod Keeping
 pub mod Replayed
+pub mod WritesTaken
 pub mod StepTaken
 pub mod Promises

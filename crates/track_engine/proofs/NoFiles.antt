@@ -1,26 +1,28 @@
 -- Lines that name no file, and the replay of a step's lines.
-use Rattle.std.proofs.Common.{◌≡◌, ℕ, ◌+◌, List, [], ◌∷◌, ◌++◌, map, refl, ap, sym, ◌∙◌, subst, append_assoc, append-nil, inl, inr, Ok, Err, Result}
+use Rattle.std.proofs.Common.{◌≡◌, ℕ, ◌+◌, not, List, [], ◌∷◌, ◌++◌, map, refl, ap, sym, ◌∙◌, subst, append_assoc, append-nil, inl, inr, Ok, Err, Result}
 use Rattle.std.specs.declared.option.Option.{Option}
 use Rattle.std.specs.declared.option.Option.TheVariants.{None, Some}
 use Rattle.mesh_base.specs.declared.ShiftOf.{ShiftOf}
+use Rattle.mesh_base.specs.Mesh.{Mesh}
 use Rattle.mesh_base.specs.declared.PairName.{PairName}
 use Rattle.step_choose.specs.Choice.{Way}
 use Rattle.mesh_base.specs.declared.UseWhy.{UseWhy}
 use Rattle.log_text.specs.Lines.{text_of_lines}
 use Rattle.log_text.specs.declared.LogLine.{LogLine}
-use Rattle.log_text.specs.declared.LogLine.TheVariants.{First, Step, Hit, Block, Move, Moved, Pass, Did, No, Mesh as MeshLine, End, Refused as RefusedLine}
+use Rattle.log_text.specs.declared.LogLine.TheVariants.{First, Step, Solid, Hit, Block, Move, Moved, Pass, Did, No, Mesh as MeshLine, Group as GroupLine, Close, End, Refused as RefusedLine}
 use Rattle.log_replay.specs.Replay.{Replay, after, replayed, at_mesh}
 use Rattle.step_text.specs.declared.Directive.TheVariants as directive
 use Rattle.outside_io.specs.Desk.{Files}
 use Rattle.outside_io.specs.Sink.{appended}
 use Rattle.track_engine.specs.declared.stop.Stop.{Stop}
 use Rattle.track_engine.specs.State.{State, standing}
-use Rattle.track_engine.specs.Effects.{effect_of, Proceeds, hits, taken, moving, moved_mesh, hit_lines, move_lines, lines_of_step, step_lines, after_step}
+use Rattle.track_engine.specs.Effects.{effect_of, Proceeds, hits, taken, moving, moved_mesh, hit_lines, block_lines, move_lines, way_lines, lines_of_step, is_whole, step_lines, after_step}
 use Rattle.log_write.specs.Written.{WrittenInPart}
 use Rattle.track_engine.specs.Saved.{Target, files_of, stored}
 use Rattle.track_engine.specs.Parts.{StepTakes, Advances, Takes}
 use Rattle.track_engine.specs.World.{Logs, StopsIn}
 use Rattle.log_replay.proofs.Replaying.{after-append}
+use Rattle.track_engine.proofs.OpenMarks.{stack_failed}
 
 abbrev pub NoFiles : List LogLine → Type 0
 NoFiles [] = Unit {0}
@@ -32,6 +34,9 @@ files_of-none to [] from none = refl
 files_of-none to (MeshLine k v f ∷ lines) from none = absurd none
 files_of-none to (First version ∷ lines) from none = files_of-none to lines (replayed from (First version)) none
 files_of-none to (Step k ∷ lines) from none = files_of-none to lines (replayed from (Step k)) none
+files_of-none to (Solid v ∷ lines) from none = files_of-none to lines (replayed from (Solid v)) none
+files_of-none to (GroupLine ∷ lines) from none = files_of-none to lines (replayed from GroupLine) none
+files_of-none to (Close kept ∷ lines) from none = files_of-none to lines (replayed from (Close kept)) none
 files_of-none to (Hit p ∷ lines) from none = files_of-none to lines (replayed from (Hit p)) none
 files_of-none to (Block ids ∷ lines) from none = files_of-none to lines (replayed from (Block ids)) none
 files_of-none to (Pass kind ∷ lines) from none = files_of-none to lines (replayed from (Pass kind)) none
@@ -47,6 +52,9 @@ front_none [] ys none = tt
 front_none (MeshLine k v f ∷ xs) ys none = absurd none
 front_none (First version ∷ xs) ys none = front_none xs ys none
 front_none (Step k ∷ xs) ys none = front_none xs ys none
+front_none (Solid v ∷ xs) ys none = front_none xs ys none
+front_none (GroupLine ∷ xs) ys none = front_none xs ys none
+front_none (Close kept ∷ xs) ys none = front_none xs ys none
 front_none (Hit p ∷ xs) ys none = front_none xs ys none
 front_none (Block ids ∷ xs) ys none = front_none xs ys none
 front_none (Pass kind ∷ xs) ys none = front_none xs ys none
@@ -65,8 +73,15 @@ hits_none : (pairs : List PairName) (rest : List LogLine) → NoFiles rest → N
 hits_none [] rest none = none
 hits_none (p ∷ pairs) rest none = hits_none pairs rest none
 
+blocks_none : (blocks : List (List ℕ)) (rest : List LogLine) → NoFiles rest → NoFiles (block_lines blocks ++ rest)
+blocks_none [] rest none = none
+blocks_none (ids ∷ blocks) rest none = blocks_none blocks rest none
+
+way_none : (way : Way) → NoFiles (way_lines way)
+way_none way = blocks_none way.blocks (move_lines way.taken ++ Moved way.how ∷ []) (moves_none (moving way.taken) (Moved way.how ∷ []) tt)
+
 lines_none : (k : ℕ) (pairs : List PairName) (way : Way) → NoFiles (lines_of_step k pairs way)
-lines_none k pairs way = hits_none pairs (move_lines way.taken ++ Moved way.how ∷ []) (moves_none (moving way.taken) (Moved way.how ∷ []) tt)
+lines_none k pairs way = hits_none pairs (way_lines way) (way_none way)
 
 step_none : (s : State) → NoFiles (step_lines s)
 step_none s = lines_none (s.steps + 1) (hits s) (taken s)
@@ -97,18 +112,31 @@ pub after-hits : (from : Replay) (pairs : List PairName) → after from (hit_lin
 after-hits from [] = refl
 after-hits from (p ∷ pairs) = after-hits from pairs
 
--- the lines of a step move the mesh by the shifts that are taken
+-- `block` lines change nothing
+pub after-blocks : (from : Replay) (blocks : List (List ℕ)) → after from (block_lines blocks) ≡ from
+after-blocks from [] = refl
+after-blocks from (ids ∷ blocks) = after-blocks from blocks
+
+-- the lines of a way move the mesh by the shifts that are taken, and of a step too
+after-way : (from : Replay) (way : Way) → from.moves ≡ [] → after from (way_lines way) ≡ record from { mesh = moved_mesh from.mesh way.taken; moves = [] }
+after-way from way none =
+    after-append from (block_lines way.blocks) (move_lines way.taken ++ Moved way.how ∷ [])
+    ∙ ap (λ r. after r (move_lines way.taken ++ Moved way.how ∷ [])) (after-blocks from way.blocks)
+    ∙ after-append from (move_lines way.taken) (Moved way.how ∷ [])
+    ∙ ap (λ r. replayed r (Moved way.how)) (after-moves from (moving way.taken) ∙ ap (λ (m : List ShiftOf). record from { moves = m ++ moving way.taken }) none)
+
 pub after-lines_of_step : (from : Replay) (k : ℕ) (pairs : List PairName) (way : Way) → after from (lines_of_step k pairs way) ≡ record from { mesh = moved_mesh from.mesh way.taken; moves = [] }
 after-lines_of_step from k pairs way =
     let begun : Replay = record from { moves = [] } in
-    after-append begun (hit_lines pairs) (move_lines way.taken ++ Moved way.how ∷ [])
-    ∙ ap (λ r. after r (move_lines way.taken ++ Moved way.how ∷ [])) (after-hits begun pairs)
-    ∙ after-append begun (move_lines way.taken) (Moved way.how ∷ [])
-    ∙ ap (λ r. replayed r (Moved way.how)) (after-moves begun (moving way.taken))
+    after-append begun (hit_lines pairs) (way_lines way)
+    ∙ ap (λ r. after r (way_lines way)) (after-hits begun pairs)
+    ∙ after-way begun way refl
 
 -- the replay of a step's lines is the state after it
 pub after-step_lines : (s : State) → after (standing s) (step_lines s) ≡ standing (after_step s)
-after-step_lines s = after-lines_of_step (standing s) (s.steps + 1) (hits s) (taken s)
+after-step_lines s =
+    after-lines_of_step (standing s) (s.steps + 1) (hits s) (taken s)
+    ∙ ap (λ (l : List Mesh). record { mesh = moved_mesh s.mesh (taken s).taken; moves = []; stack = l }) (sym (stack_failed (not (is_whole (taken s).how)) s.groups))
 
 takes_step : (to : Target) (s t : State) (files : Option Files) (old new : Option (List ℕ)) → effect_of directive.Step s ≡ Proceeds (step_lines s) t → t ≡ after_step s → new ≡ appended old (text_of_lines (step_lines s))
     → Takes to (effect_of directive.Step s) s t (record { files = files; written = old }) (record { files = files; written = new })

@@ -1,39 +1,54 @@
 -- What a pass that is made and said is.
-use Rattle.std.proofs.Common.{◌≡◌, ℕ, false, List, Option, Some, None, Result, Ok, Err, refl, sym, ap, ◌∙◌, inr}
+use Rattle.std.specs.Prelude.{nat_lt}
+use Rattle.std.proofs.Common.{◌≡◌, ℕ, Bool, List, Option, Some, None, Result, Ok, Err, refl, sym, ap, ◌∙◌, subst, inr}
 use Rattle.mesh_base.specs.declared.UseWhy.{UseWhy}
 use Rattle.mesh_base.specs.Mesh.{Mesh}
 use Rattle.mesh_base.specs.Shifts.{Shifts}
 use Rattle.edit_base.specs.declared.PassKind.{PassKind}
 use Rattle.step_text.specs.declared.Directive.TheVariants as directive
 use Rattle.log_text.specs.Lines.{text_of_lines}
+use Rattle.log_text.specs.declared.LogLine.{LogLine}
 use Rattle.outside_io.specs.Desk.{Files}
 use Rattle.outside_io.specs.Sink.{appended}
 use Rattle.pass_run.specs.Said.{SaidInPart}
-use Rattle.pass_run.specs.PassLines.{lines_due, mesh_due}
+use Rattle.pass_run.specs.PassLines.{lines_due, mesh_due, refused_in}
+use Rattle.log_write.specs.Written.{WrittenInPart}
 use Rattle.log_write.proofs.WrittenLines.{written_whole}
 use Rattle.track_engine.specs.declared.stop.Stop.{Stop}
 use Rattle.track_engine.specs.Saved.{Target}
-use Rattle.track_engine.specs.State.{State, standing, asked_in}
-use Rattle.track_engine.specs.Effects.{Proceeds, effect_of, passed_lines, passed_mesh, after_pass}
+use Rattle.track_engine.specs.State.{Group, State, standing, asked_in, is_open}
+use Rattle.track_engine.specs.Effects.{Proceeds, effect_of, passed_lines, passed_mesh, after_pass, fail_if}
 use Rattle.track_engine.specs.Parts.{Advances, PassTakes}
 use Rattle.track_engine.proofs.NoFiles.{files_of-none, logs_from_said, stops_from_said}
 use Rattle.track_engine.proofs.Passing.{pass_replays, pass_names_none}
 
-module _ (kind : PassKind) (s : State) where
-  pub pass_in_part : (t : State) (stop : Stop) (to : Mesh) (old new : Option (List ℕ)) → SaidInPart s.mesh to old new (lines_due kind s.set.depth false s.mesh) → PassTakes kind s t old new (Err stop)
-  unfolding passed_lines
-  pass_in_part t stop to old new said = said.text
+module _ (kind : PassKind) (s : State) (grouped : Bool) (same : grouped ≡ is_open s.groups) where
+  abbrev lines : List LogLine
+  lines = lines_due kind s.set.depth grouped s.mesh
 
-  pub pass_said : (t : State) (stop : Stop) (old new : Option (List ℕ)) → new ≡ appended old (text_of_lines (lines_due kind s.set.depth false s.mesh)) → PassTakes kind s t old new (Err stop)
+  lines_are : lines ≡ passed_lines kind s
   unfolding passed_lines
-  pass_said t stop old new said = written_whole old new (lines_due kind s.set.depth false s.mesh) said
+  lines_are = ap (λ b. lines_due kind s.set.depth b s.mesh) same
 
-  pub pass_taken : (m : Mesh) (asked : Shifts) (old new : Option (List ℕ)) → m ≡ mesh_due kind s.set.depth false s.mesh → asked ≡ asked_in m s.asked → new ≡ appended old (text_of_lines (lines_due kind s.set.depth false s.mesh))
-      → PassTakes kind s (record s { mesh = m; asked = asked }) old new (Ok None)
-  unfolding passed_lines passed_mesh
-  pass_taken m asked old new is rest said =
-      let asks : asked ≡ asked_in (mesh_due kind s.set.depth false s.mesh) s.asked = rest ∙ ap (λ n. asked_in n s.asked) is in
-      (λ i. record s { mesh = is i; asked = asks i }, said)
+  mesh_is : mesh_due kind s.set.depth grouped s.mesh ≡ passed_mesh kind s
+  unfolding passed_mesh
+  mesh_is = ap (λ b. mesh_due kind s.set.depth b s.mesh) same
+
+  pub pass_in_part : (t : State) (stop : Stop) (to : Mesh) (old new : Option (List ℕ)) → SaidInPart s.mesh to old new lines → PassTakes kind s t old new (Err stop)
+  pass_in_part t stop to old new said = let P : List LogLine → Type 0 = λ l. WrittenInPart old new l in subst P lines_are said.text
+
+  pub pass_said : (t : State) (stop : Stop) (old new : Option (List ℕ)) → new ≡ appended old (text_of_lines lines) → PassTakes kind s t old new (Err stop)
+  pass_said t stop old new said = let P : List LogLine → Type 0 = λ l. WrittenInPart old new l in subst P lines_are (written_whole old new lines said)
+
+  pub pass_taken : (m : Mesh) (asked : Shifts) (groups : List Group) (refused : ℕ) (old new : Option (List ℕ)) → m ≡ mesh_due kind s.set.depth grouped s.mesh → asked ≡ asked_in m s.asked
+      → refused ≡ refused_in lines → groups ≡ fail_if (nat_lt 0 refused) s.groups → new ≡ appended old (text_of_lines lines)
+      → PassTakes kind s (record s { mesh = m; asked = asked; groups = groups }) old new (Ok None)
+  pass_taken m asked groups refused old new is rest count failed said =
+      let mesh : m ≡ passed_mesh kind s = is ∙ mesh_is in
+      let asks : asked ≡ asked_in (passed_mesh kind s) s.asked = rest ∙ ap (λ n. asked_in n s.asked) mesh in
+      let fails : groups ≡ fail_if (nat_lt 0 (refused_in (passed_lines kind s))) s.groups =
+      failed ∙ ap (λ n. fail_if (nat_lt 0 n) s.groups) (count ∙ ap refused_in lines_are) in
+      (λ i. record s { mesh = mesh i; asked = asks i; groups = fails i }, said ∙ ap (λ l. appended old (text_of_lines l)) lines_are)
 
 -- a pass, as an effect
 pub advances_pass : (to : Target) (kind : PassKind) (s t : State) (files : Option Files) (old new : Option (List ℕ)) (r : Result (Option UseWhy) Stop) → PassTakes kind s t old new r

@@ -9,30 +9,29 @@ use Rattle.std.proofs.lemmas.List.Elements.{Contains-get_or}
 use Rattle.std.proofs.lemmas.Bool.{false≢true, ne_eqb}
 use Rattle.grid_decided.specs.Decided.{meets_exactly, meets_exactly-is_exact}
 use Rattle.mesh_base.specs.declared.How.{How}
-use Rattle.mesh_base.specs.declared.How.TheVariants.{Whole, Impulse, Zones, Halved, Zero}
+use Rattle.mesh_base.specs.declared.How.TheVariants.{Whole, Impulse, Zero}
 use Rattle.mesh_base.specs.Mesh.{Mesh, IsSound}
 use Rattle.mesh_base.specs.Pairs.{Pair, IsPair}
 use Rattle.mesh_base.specs.Placements.{positions}
 use Rattle.mesh_base.specs.declared.PairName.{PairName}
 use Rattle.mesh_base.specs.Shifts.{Shifts, moved_by}
 use Rattle.mesh_base.specs.Failing.{failing, pair_passes}
-use Rattle.step_choose.specs.declared.Settings.{Settings}
-use Rattle.step_choose.specs.Choice.{way, halving, halved_times, halved_way, all_at_rest, all_pass, way_taken, IsFirstWay, NoneFails}
-use Rattle.step_choose.proofs.FirstWay.{taken_first}
+use Rattle.step_zones.specs.Rounds.{round_taken}
+use Rattle.step_choose.specs.Impulses.{after_passes, fewest_passes}
+use Rattle.step_choose.specs.Choice.{Way, way, halving, halved_times, halved_way, impulse_way, round_way, zones_way, all_at_rest, all_pass, way_taken, IsFirstWay, NoneFails}
+use Rattle.step_choose.proofs.FirstWay.{taken_first, whole_taken, not_whole_taken}
 use Rattle.pair_scan.specs.Failed.{AreFailing, DoesNotPass}
 use Rattle.pair_scan.proofs.InOrder.{are_failing}
 use Rattle.step_text.specs.declared.Directive.TheVariants as directive
 use Rattle.log_text.specs.declared.LogLine.{LogLine}
 use Rattle.track_engine.specs.State.{State}
-use Rattle.track_engine.specs.Effects.{Effect, Proceeds, Refused, effect_of, step_effect, first_outside, hits, taken, step_lines, lines_of_step}
-use Rattle.track_engine.specs.Promise.{EachPasses, StepIsTold}
+use Rattle.track_engine.specs.Effects.{Effect, Proceeds, Refused, effect_of, step_effect, first_outside, hits, taken, is_whole, step_lines, lines_of_step}
+use Rattle.track_engine.specs.Invariant.{IsAskedWell}
+use Rattle.track_engine.specs.Promise.{EachPasses, blocks_moved, StepIsTold}
 
 -- ---- where all pairs pass, the asked shifts are taken
 all_of_none : {X : Type 0} (xs : List X) → xs ≡ [] → (length xs == 0) ≡ true
 all_of_none xs e = ap (λ l. length l == 0) e
-
-whole_taken : (m : Mesh) (asked : Shifts) (set : Settings) → all_pass meets_exactly m asked set.depth ≡ true → way_taken meets_exactly m asked set ≡ way Whole asked
-whole_taken m asked set e = ap (λ b. unwrap_or (option_or (cond b (Some (way Whole asked)) None) (halved_way meets_exactly m asked set.depth set.halvings)) (way Zero (all_at_rest asked))) e
 
 taken_whole : (s : State) → hits s ≡ [] → taken s ≡ way Whole s.asked
 unfolding hits taken
@@ -43,33 +42,48 @@ none_of_all : {X : Type 0} (xs : List X) → xs ≢ [] → (length xs == 0) ≡ 
 none_of_all [] h = absurd (h refl)
 none_of_all (x ∷ xs) h = ne_eqb (suc (length xs)) 0 (λ e. omega arith)
 
-abbrev is_whole : How → Bool
-is_whole Whole = true
-is_whole (Impulse p) = false
-is_whole (Zones r) = false
-is_whole (Halved n) = false
-is_whole Zero = false
-
 not_whole : (how : How) → is_whole how ≡ false → how ≢ Whole
 not_whole how e same = false≢true (sym e ∙ ap is_whole same)
 
-shortened : (m : Mesh) (asked : Shifts) (set : Settings) → all_pass meets_exactly m asked set.depth ≡ false → is_whole (way_taken meets_exactly m asked set).how ≡ false
-shortened m asked set e =
-    ap (λ b. is_whole (unwrap_or (option_or (cond b (Some (way Whole asked)) None) (halved_way meets_exactly m asked set.depth set.halvings)) (way Zero (all_at_rest asked))).how) e
-    ∙ by_halving (find (λ n. all_pass meets_exactly m (halved_times n asked) set.depth) (range_with_len 1 set.halvings))
+taken_shortened : (s : State) → hits s ≢ [] → (taken s).how ≢ Whole
+unfolding hits taken
+taken_shortened s h = not_whole (way_taken meets_exactly s.mesh s.asked s.set).how (not_whole_taken s.mesh s.asked s.set (none_of_all (failing meets_exactly s.mesh s.asked s.set.depth) h))
+
+-- ---- the way is the first that applies, and the pairs are those that do not pass
+taken_first_way : (s : State) → IsAskedWell s.mesh s.asked → IsFirstWay meets_exactly s.mesh s.asked s.set (taken s).how (taken s).taken
+unfolding taken
+taken_first_way s well = taken_first s.mesh s.asked s.set well.good.sound well.good.clear well.names
+
+-- only impact zones have blocks, those of the round
+abbrev AreMoved : State → Way → Type 0
+AreMoved s w = w.blocks ≡ blocks_moved s w.how
+
+pub blocks_of_taken : (s : State) → (taken s).blocks ≡ blocks_moved s (taken s).how
+unfolding taken impulse_way zones_way
+blocks_of_taken s = by_whole (all_pass meets_exactly s.mesh s.asked s.set.depth)
   where
-    by_halving : (o : Option ℕ) → is_whole (unwrap_or (option_map (halving asked) o) (way Zero (all_at_rest asked))).how ≡ false
+    by_halving : (o : Option ℕ) → AreMoved s (unwrap_or (option_map (halving s.asked) o) (way Zero (all_at_rest s.asked)))
     by_halving (Some n) = refl
     by_halving None = refl
 
-taken_shortened : (s : State) → hits s ≢ [] → (taken s).how ≢ Whole
-unfolding hits taken
-taken_shortened s h = not_whole (way_taken meets_exactly s.mesh s.asked s.set).how (shortened s.mesh s.asked s.set (none_of_all (failing meets_exactly s.mesh s.asked s.set.depth) h))
+    halved_at : AreMoved s (unwrap_or (halved_way meets_exactly s.mesh s.asked s.set.depth s.set.halvings) (way Zero (all_at_rest s.asked)))
+    halved_at = by_halving (find (λ n. all_pass meets_exactly s.mesh (halved_times n s.asked) s.set.depth) (range_with_len 1 s.set.halvings))
 
--- ---- the way is the first that applies, and the pairs are those that do not pass
-taken_first_way : (s : State) → IsFirstWay meets_exactly s.mesh s.asked s.set (taken s).how (taken s).taken
-unfolding taken
-taken_first_way s = taken_first s.mesh s.asked s.set
+    by_zones : (b : Bool) (o : Option ℕ)
+        → AreMoved s (unwrap_or (option_or (cond b (option_map (round_way meets_exactly s.mesh s.asked s.set.depth) o) None) (halved_way meets_exactly s.mesh s.asked s.set.depth s.set.halvings)) (way Zero (all_at_rest s.asked)))
+    by_zones true (Some round) = refl
+    by_zones true None = halved_at
+    by_zones false o = halved_at
+
+    by_passes : (o : Option ℕ)
+        → AreMoved s (unwrap_or (option_or (option_map (λ n. way (Impulse n) (after_passes meets_exactly s.mesh s.asked s.set.depth n)) o) (option_or (zones_way meets_exactly s.mesh s.asked s.set.depth s.set.zones) (halved_way meets_exactly s.mesh s.asked s.set.depth s.set.halvings))) (way Zero (all_at_rest s.asked)))
+    by_passes (Some n) = refl
+    by_passes None = by_zones s.set.zones (round_taken meets_exactly s.mesh s.asked s.set.depth)
+
+    by_whole : (b : Bool)
+        → AreMoved s (unwrap_or (option_or (cond b (Some (way Whole s.asked)) None) (option_or (impulse_way meets_exactly s.mesh s.asked s.set.depth s.set.passes) (option_or (zones_way meets_exactly s.mesh s.asked s.set.depth s.set.zones) (halved_way meets_exactly s.mesh s.asked s.set.depth s.set.halvings)))) (way Zero (all_at_rest s.asked)))
+    by_whole true = refl
+    by_whole false = by_passes (fewest_passes meets_exactly s.mesh s.asked s.set.depth s.set.passes)
 
 hits_failing : (s : State) → IsSound s.mesh → AreFailing s.mesh s.asked s.set.depth (hits s)
 unfolding hits
@@ -105,6 +119,7 @@ lines_told s = record {
   altered = taken_shortened s;
   told = refl;
   first_way = taken_first_way s;
+  blocks_told = blocks_of_taken s;
   all_hits = hits_failing s;
   all_failing = λ sound by. are_failing s.mesh by s.set.depth sound;
   none_fails = λ sound by. none_where_each s.mesh by s.set.depth sound;

@@ -1,5 +1,6 @@
 -- Where a run stands between two directives.
-use Rattle.std.proofs.Common.{◌≡◌, ℕ, List, [], ◌∷◌, ◌++◌, length, map, Option, Some, None, Result, Ok, Err, refl, ap, sym, ◌∙◌, subst, append_assoc}
+use Rattle.std.specs.FinMap as finite
+use Rattle.std.proofs.Common.{◌≡◌, ℕ, Bool, true, false, cond, not, is_some, List, [], ◌∷◌, ◌++◌, length, map, Option, Some, None, Result, Ok, Err, refl, ap, sym, ◌∙◌, subst, append_assoc}
 use Rattle.std.proofs.lemmas.List.{length-map}
 use Rattle.grid_base.specs.Points.{point_at}
 use Rattle.mesh_base.specs.declared.UseWhy.{UseWhy}
@@ -14,10 +15,10 @@ use Rattle.step_text.specs.declared.Directive.TheVariants as directive
 use Rattle.obj_text.specs.Obj.{Lists}
 use Rattle.log_text.specs.declared.LogLine.{LogLine}
 use Rattle.log_text.specs.declared.LogLine.TheVariants.{First}
-use Rattle.log_replay.specs.Replay.{after, at_mesh}
+use Rattle.log_replay.specs.Replay.{after, closed}
 use Rattle.mesh_base.specs.Valid.{IsValidSurface}
-use Rattle.track_engine.specs.State.{State, start, standing}
-use Rattle.track_engine.specs.Effects.{Effect, Proceeds, Refused, ExpectedLog, effect_of, mesh_line, and_then, log_from, shift_effect, step_effect, sum_of_one, sum_of_all, first_outside}
+use Rattle.track_engine.specs.State.{Group, State, start, standing}
+use Rattle.track_engine.specs.Effects.{Effect, Proceeds, Refused, ExpectedLog, effect_of, mesh_line, and_then, log_from, shift_effect, solid_effect, close_effect, step_effect, kept_whole, taken_back, sum_of_one, sum_of_all, first_outside}
 use Rattle.track_engine.specs.Invariant.{IsRunInvariant}
 use Rattle.log_replay.proofs.Replaying.{after-append}
 use Rattle.track_engine.proofs.NoFiles.{after-step_lines}
@@ -35,6 +36,19 @@ shift_replays : (s : State) (r : Result Shifts UseWhy) → Replays s (shift_effe
 shift_replays s (Ok asked) = refl
 shift_replays s (Err why) = tt
 
+solid_replays : (v : ℕ) (s : State) (b : Bool) → Replays s (solid_effect b v s)
+solid_replays v s true = refl
+solid_replays v s false = tt
+
+-- a group that is closed
+close_replays : (s : State) (groups : List Group) → s.groups ≡ groups → Replays s (close_effect groups s)
+close_replays s [] e = refl
+close_replays s (group ∷ outer) e = by_test group.failed
+  where
+    by_test : (b : Bool) → closed (not b) (map (λ g. g.mesh) s.groups) (standing s) ≡ standing (cond b (taken_back group outer s) (kept_whole outer s))
+    by_test true = ap (λ (l : List Group). closed false (map (λ g. g.mesh) l) (standing s)) e
+    by_test false = ap (λ (l : List Group). closed true (map (λ g. g.mesh) l) (standing s)) e
+
 step_replays : (s : State) (o : Option ℕ) → Replays s (step_effect o s)
 step_replays s None = after-step_lines s
 step_replays s (Some v) = tt
@@ -44,11 +58,14 @@ replays (directive.SetDepth depth) s = refl
 replays (directive.SetPasses passes) s = refl
 replays (directive.SetZones zones) s = refl
 replays (directive.SetHalvings halvings) s = refl
-replays (directive.ShiftOne v by) s = shift_replays s (sum_of_one v by s.asked)
-replays (directive.ShiftAll by) s = shift_replays s (sum_of_all by s.asked)
+replays (directive.ShiftOne v by) s = shift_replays s (sum_of_one s.mesh v by s.asked)
+replays (directive.ShiftAll by) s = shift_replays s (sum_of_all s.mesh by s.asked)
 replays directive.Step s = step_replays s (first_outside s.mesh s.asked)
 replays (directive.Pass kind) s = pass_replays kind s
 replays directive.Save s = refl
+replays (directive.Solid v) s = solid_replays v s (is_some (finite.get s.mesh.points v))
+replays directive.Group s = refl
+replays directive.Close s = close_replays s s.groups refl
 
 pub effect_replayed : (d : Directive) (s next : State) (lines : List LogLine) → effect_of d s ≡ Proceeds lines next → after (standing s) lines ≡ standing next
 effect_replayed d s next lines goes = let P : Effect → Type 0 = λ t. Replays s t in subst P goes (replays d s)

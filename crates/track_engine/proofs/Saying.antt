@@ -1,12 +1,11 @@
--- The lines of shifts and of pairs, written one after another.
+-- The lines of shifts, of pairs and of blocks, written one after another.
 use Rattle.std.proofs.Common.{suc, Bool, true, false, cond, map, get_or, ◌≡◌, ℕ, ◌<◌, List, [], ◌∷◌, ◌++◌, subst, refl, ap, sym, ◌∙◌, append_assoc, length, drop, ◌+◌, add-one, Result}
 use Rattle.std.proofs.Math.Seq.{drop-cons}
 use Rattle.std.specs.List.{filter}
 use Rattle.std.specs.declared.option.Option.{Option}
 use Rattle.mesh_base.specs.declared.ShiftOf.{ShiftOf}
-use Rattle.mesh_base.specs.declared.PairName.{PairName}
-use Rattle.log_text.specs.declared.LogLine.TheVariants.{Hit, Move}
-use Rattle.track_engine.specs.Effects.{moves, move_lines, hit_lines}
+use Rattle.log_text.specs.declared.LogLine.TheVariants.{Move}
+use Rattle.track_engine.specs.Effects.{moves, move_lines}
 use Rattle.log_text.specs.Lines.{text_of_lines}
 use Rattle.log_text.specs.declared.LogLine.{LogLine}
 use Rattle.outside_io.specs.Sink.{appended}
@@ -50,19 +49,19 @@ none_said old s e = sym (appended-nil old) ∙ ap (λ l. appended old (text_of_l
 pub move_said : {T : Type 0} (old new : Option (List ℕ)) (s : ShiftOf) (r : Result T Stop) → moves s ≡ true → Written old new (Move s ∷ []) r → Written old new (move_lines (s ∷ [])) r
 move_said {T} old new s r e said = let P : List LogLine → Type 0 = λ l. Written old new l r in subst P (sym (move_line s true e)) said
 
--- ---- the lines of pairs
-module _ (old now new : Option (List ℕ)) (pairs : List PairName) (i : ℕ) (p : PairName) (all : List LogLine) (h : i < length pairs) (at : p ≡ get_or pairs i p) where
-  hits_left : hit_lines (drop i pairs) ≡ Hit p ∷ hit_lines (drop (i + 1) pairs)
-  hits_left =
-      ap hit_lines (drop-cons pairs i p h)
-      ∙ ap (λ t. hit_lines (t ∷ drop (suc i) pairs)) (sym at)
-      ∙ ap (λ n. hit_lines (p ∷ drop n pairs)) (sym (add-one i))
+-- ---- a line for each item
+module _ {X : Type 0} (line : X → LogLine) (old now new : Option (List ℕ)) (xs : List X) (i : ℕ) (x : X) (all : List LogLine) (h : i < length xs) (at : x ≡ get_or xs i x) where
+  lines_left : map line (drop i xs) ≡ line x ∷ map line (drop (i + 1) xs)
+  lines_left =
+      ap (map line) (drop-cons xs i x h)
+      ∙ ap (λ t. map line (t ∷ drop (suc i) xs)) (sym at)
+      ∙ ap (λ n. map line (x ∷ drop n xs)) (sym (add-one i))
 
-  hit_next : WrittenSoFar old now (hit_lines (drop i pairs)) all → WrittenSoFar old now (Hit p ∷ hit_lines (drop (i + 1) pairs)) all
-  hit_next said = let P : List LogLine → Type 0 = λ l. WrittenSoFar old now l all in subst P hits_left said
+  line_next : WrittenSoFar old now (map line (drop i xs)) all → WrittenSoFar old now (line x ∷ map line (drop (i + 1) xs)) all
+  line_next said = let P : List LogLine → Type 0 = λ l. WrittenSoFar old now l all in subst P lines_left said
 
-  pub hits_more : WrittenSoFar old now (hit_lines (drop i pairs)) all → new ≡ appended now (text_of_lines (Hit p ∷ [])) → WrittenSoFar old new (hit_lines (drop (i + 1) pairs)) all
-  hits_more said w = written_more old now new (Hit p ∷ []) (hit_lines (drop (i + 1) pairs)) all (hit_next said) w
+  pub lines_more : WrittenSoFar old now (map line (drop i xs)) all → new ≡ appended now (text_of_lines (line x ∷ [])) → WrittenSoFar old new (map line (drop (i + 1) xs)) all
+  lines_more said w = written_more old now new (line x ∷ []) (map line (drop (i + 1) xs)) all (line_next said) w
 
-  pub hits_part : WrittenSoFar old now (hit_lines (drop i pairs)) all → WrittenInPart now new (Hit p ∷ []) → WrittenInPart old new all
-  hits_part said part = written_more_in_part old now new (Hit p ∷ []) (hit_lines (drop (i + 1) pairs)) all (hit_next said) part
+  pub lines_part : WrittenSoFar old now (map line (drop i xs)) all → WrittenInPart now new (line x ∷ []) → WrittenInPart old new all
+  lines_part said part = written_more_in_part old now new (line x ∷ []) (map line (drop (i + 1) xs)) all (line_next said) part

@@ -16,6 +16,7 @@ use Rattle.mesh_base.specs.declared.Corners.{Corners}
 use Rattle.mesh_base.specs.Mesh.{Mesh, IsSound, IsLiveVertex, HasCorners, AreLive, AreDifferent, equal_up_to_rotation}
 use Rattle.mesh_base.specs.Changes.{corners_of}
 use Rattle.mesh_base.specs.Sides.{IsClosed}
+use Rattle.mesh_base.proofs.Finite.{none_in_empty}
 use Rattle.mesh_base.proofs.Listed.{each_found}
 use Rattle.mesh_base.proofs.WalkSteps.{both_of, less_true}
 use Rattle.mesh_plain.specs.Shape.{shape_fault}
@@ -189,6 +190,7 @@ module _ (m : Mesh) (sound : IsSound m) where
         is_mesh = record {
           vertex_ids = λ v e. of_live points v e;
           face_ids = λ f e. let ids = of_live (map corners_of faces) f e in omega (arith, ids);
+          solid_ids = λ v h. let none = none_in_empty (Unit {0}) v in cc;
           live_corners = corners_live;
           different_corners = corners_different;
           different_faces = faces_different;

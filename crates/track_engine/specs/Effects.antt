@@ -1,5 +1,5 @@
 -- What each directive does, and the log of all of them.
-use Rattle.std.specs.Prelude.{ℕ, ◌+◌, ◌==◌, Bool, false, not, List, [], ◌∷◌, ◌++◌, map, Option, Some, None, Result, Ok, Err, if◌then◌else◌}
+use Rattle.std.specs.Prelude.{ℕ, ◌+◌, ◌==◌, ◌||◌, Bool, true, false, not, is_some, nat_lt, List, [], ◌∷◌, ◌++◌, map, Option, Some, None, Result, Ok, Err, if◌then◌else◌}
 use Rattle.std.specs.Option.{option_map}
 use Rattle.std.specs.List.{find, filter}
 use Rattle.std.specs.FinMap as finite
@@ -10,8 +10,11 @@ use Rattle.grid_base.specs.Points.{displacement_of, is_within}
 use Rattle.mesh_base.specs.declared.ShiftOf.{ShiftOf}
 use Rattle.mesh_base.specs.declared.PairName.{PairName}
 use Rattle.mesh_base.specs.declared.UseWhy.{UseWhy}
-use Rattle.mesh_base.specs.declared.UseWhy.TheVariants.{NoVertex, ShiftRange, Box}
-use Rattle.mesh_base.specs.Mesh.{Mesh}
+use Rattle.mesh_base.specs.declared.UseWhy.TheVariants.{NoVertex, ShiftRange, Box, Solid as SolidVertex}
+use Rattle.mesh_base.specs.declared.How.{How}
+use Rattle.mesh_base.specs.declared.How.TheVariants.{Whole}
+use Rattle.mesh_base.specs.Mesh.{Mesh, is_solid}
+use Rattle.mesh_base.specs.Changes.{with_solid}
 use Rattle.mesh_base.specs.Placements.{rest_positions}
 use Rattle.mesh_base.specs.Shifts.{Shifts, with_shift, with_moves}
 use Rattle.mesh_base.specs.Failing.{failing}
@@ -24,10 +27,10 @@ use Rattle.step_text.specs.declared.Placed.{Placed}
 use Rattle.log_text.specs.declared.Refusal.{Refusal}
 use Rattle.log_text.specs.declared.Refusal.TheVariants.{StepUse}
 use Rattle.log_text.specs.declared.LogLine.{LogLine}
-use Rattle.log_text.specs.declared.LogLine.TheVariants.{Step, Hit, Move, Moved, Mesh as MeshLine, End, Refused as RefusedLine}
+use Rattle.log_text.specs.declared.LogLine.TheVariants.{Step, Solid, Hit, Block, Move, Moved, Mesh as MeshLine, Group as GroupLine, Close, End, Refused as RefusedLine}
 use Rattle.edit_base.specs.declared.PassKind.{PassKind}
-use Rattle.pass_run.specs.PassLines.{lines_due, mesh_due}
-use Rattle.track_engine.specs.State.{State, still_at, asked_of, asked_in}
+use Rattle.pass_run.specs.PassLines.{lines_due, mesh_due, refused_in}
+use Rattle.track_engine.specs.State.{Group, State, still_at, asked_of, asked_in, is_open}
 
 -- ---- shifts that are asked
 
@@ -35,33 +38,53 @@ use Rattle.track_engine.specs.State.{State, still_at, asked_of, asked_in}
 abbrev pub summed : Shift → ShiftOf → Triple
 summed by s = plus (displacement_of s.by) (displacement_of by)
 
--- the first vertex whose summed shift is above the limit
-abbrev pub first_beyond : Shift → Shifts → Option ℕ
-first_beyond by asked = option_map (λ s. s.v) (find (λ s. not (is_within SHIFT_MAX (summed by s))) asked)
+-- whether the summed shift of a vertex that may move is above the limit
+abbrev pub is_beyond : Mesh → Shift → ShiftOf → Bool
+is_beyond m by s = not (is_solid m s.v || is_within SHIFT_MAX (summed by s))
 
--- the shift is added to what is asked of each vertex
-abbrev pub all_summed : Shift → Shifts → Shifts
-all_summed by asked = map (λ s. with_shift s (summed by s)) asked
+-- the first vertex of which that holds
+abbrev pub first_beyond : Mesh → Shift → Shifts → Option ℕ
+first_beyond m by asked = option_map (λ s. s.v) (find (is_beyond m by) asked)
+
+-- the shift is added to what is asked of a vertex, unless that is solid
+abbrev pub summed_unless_solid : Mesh → Shift → ShiftOf → ShiftOf
+summed_unless_solid m by s = if is_solid m s.v then s else with_shift s (summed by s)
+
+-- the same of each vertex
+abbrev pub all_summed : Mesh → Shift → Shifts → Shifts
+all_summed m by asked = map (summed_unless_solid m by) asked
 
 -- the same, or the first vertex whose summed shift is above the limit
-abbrev pub sum_or_range : Option ℕ → Shift → Shifts → Result Shifts UseWhy
-sum_or_range None by asked = Ok (all_summed by asked)
-sum_or_range (Some v) by asked = Err (ShiftRange v)
+abbrev pub sum_or_range : Option ℕ → Mesh → Shift → Shifts → Result Shifts UseWhy
+sum_or_range None m by asked = Ok (all_summed m by asked)
+sum_or_range (Some v) m by asked = Err (ShiftRange v)
 
-abbrev pub sum_of_all : Shift → Shifts → Result Shifts UseWhy
-sum_of_all by asked = sum_or_range (first_beyond by asked) by asked
+abbrev pub sum_of_all : Mesh → Shift → Shifts → Result Shifts UseWhy
+sum_of_all m by asked = sum_or_range (first_beyond m by asked) m by asked
 
 -- the shift is added to what is asked of one vertex
 abbrev pub one_summed : ℕ → Shift → Shifts → Shifts
 one_summed v by asked = map (λ s. if s.v == v then with_shift s (summed by s) else s) asked
 
--- the same, or why not: no such vertex lives, or its summed shift is above the limit
-abbrev pub sum_at : Option ShiftOf → ℕ → Shift → Shifts → Result Shifts UseWhy
-sum_at None v by asked = Err (NoVertex v)
-sum_at (Some s) v by asked = if is_within SHIFT_MAX (summed by s) then Ok (one_summed v by asked) else Err (ShiftRange v)
+-- the same, or why not: no such vertex lives, or it is solid, or its summed shift is above the limit
+abbrev pub sum_at : Option ShiftOf → Bool → ℕ → Shift → Shifts → Result Shifts UseWhy
+sum_at None solid v by asked = Err (NoVertex v)
+sum_at (Some s) true v by asked = Err (SolidVertex v)
+sum_at (Some s) false v by asked = if is_within SHIFT_MAX (summed by s) then Ok (one_summed v by asked) else Err (ShiftRange v)
 
-abbrev pub sum_of_one : ℕ → Shift → Shifts → Result Shifts UseWhy
-sum_of_one v by asked = sum_at (asked_of v asked) v by asked
+abbrev pub sum_of_one : Mesh → ℕ → Shift → Shifts → Result Shifts UseWhy
+sum_of_one m v by asked = sum_at (asked_of v asked) (is_solid m v) v by asked
+
+-- nothing is asked of one vertex
+abbrev pub one_still : ℕ → Shifts → Shifts
+one_still v asked = map (λ s. if s.v == v then still_at v else s) asked
+
+-- ---- groups
+
+-- the innermost open group has failed, where this holds or it had failed before
+abbrev pub fail_if : Bool → List Group → List Group
+fail_if failed [] = []
+fail_if failed (group ∷ outer) = record group { failed = group.failed || failed } ∷ outer
 
 -- ---- a step
 
@@ -105,29 +128,53 @@ taken s = way_taken meets_exactly s.mesh s.asked s.set
 abbrev pub hit_lines : List PairName → List LogLine
 hit_lines pairs = map (λ p. Hit p) pairs
 
--- the lines of a step: its hits, its moves, and how it was taken
+-- a `block` line for each block
+abbrev pub block_lines : List (List ℕ) → List LogLine
+block_lines blocks = map (λ ids. Block ids) blocks
+
+-- the lines of a way: its blocks, its moves, and which it is
+abbrev pub way_lines : Way → List LogLine
+way_lines way = block_lines way.blocks ++ (move_lines way.taken ++ Moved way.how ∷ [])
+
+-- the lines of a step: its hits, and how it was taken
 abbrev pub lines_of_step : ℕ → List PairName → Way → List LogLine
-lines_of_step k pairs way = Step k ∷ (hit_lines pairs ++ (move_lines way.taken ++ Moved way.how ∷ []))
+lines_of_step k pairs way = Step k ∷ (hit_lines pairs ++ way_lines way)
 
 abbrev pub step_lines : State → List LogLine
 step_lines s = lines_of_step (s.steps + 1) (hits s) (taken s)
 
+-- whether a step is taken by the asked shifts
+abbrev pub is_whole : How → Bool
+is_whole Whole = true
+is_whole _ = false
+
+-- a step that is not taken whole makes the innermost open group fail
 abbrev pub after_step : State → State
-after_step s = record s { mesh = moved_mesh s.mesh (taken s).taken; asked = all_still s.asked; steps = s.steps + 1 }
+after_step s = record s {
+  mesh = moved_mesh s.mesh (taken s).taken;
+  asked = all_still s.asked;
+  steps = s.steps + 1;
+  groups = fail_if (not (is_whole (taken s).how)) s.groups;
+}
 
 -- ---- a pass
 
--- the lines of a pass over the mesh
+-- the lines of a pass over the mesh; in a group its first `no` line ends it
 unfoldable pub passed_lines : PassKind → State → List LogLine
-passed_lines kind s = lines_due kind s.set.depth false s.mesh
+passed_lines kind s = lines_due kind s.set.depth (is_open s.groups) s.mesh
 
 -- the mesh that it leaves
 unfoldable pub passed_mesh : PassKind → State → Mesh
-passed_mesh kind s = mesh_due kind s.set.depth false s.mesh
+passed_mesh kind s = mesh_due kind s.set.depth (is_open s.groups) s.mesh
 
--- a vertex that is kept keeps what is asked of it, a new one is asked nothing
+-- A vertex that is kept keeps what is asked of it, a new one and a solid one are asked nothing. A `no` line makes the innermost open
+-- group fail.
 abbrev pub after_pass : PassKind → State → State
-after_pass kind s = record s { mesh = passed_mesh kind s; asked = asked_in (passed_mesh kind s) s.asked }
+after_pass kind s = record s {
+  mesh = passed_mesh kind s;
+  asked = asked_in (passed_mesh kind s) s.asked;
+  groups = fail_if (nat_lt 0 (refused_in (passed_lines kind s))) s.groups;
+}
 
 -- ---- a directive
 
@@ -152,16 +199,46 @@ step_effect None s = Proceeds (step_lines s) (after_step s)
 abbrev pub mesh_line : ℕ → Mesh → LogLine
 mesh_line k m = MeshLine k (finite.len m.points) (finite.len m.faces)
 
+-- the vertex is solid from here on, and is asked nothing
+abbrev pub after_solid : ℕ → State → State
+after_solid v s = record s { mesh = with_solid s.mesh v; asked = one_still v s.asked }
+
+-- the same, where it is live
+abbrev pub solid_effect : Bool → ℕ → State → Effect
+solid_effect true v s = Proceeds (Solid v ∷ []) (after_solid v s)
+solid_effect false v s = Refused (NoVertex v)
+
+-- a group is opened, which has not failed
+abbrev pub opened : State → State
+opened s = record s { groups = record { mesh = s.mesh; asked = s.asked; failed = false } ∷ s.groups }
+
+-- the innermost group is kept
+abbrev pub kept_whole : List Group → State → State
+kept_whole outer s = record s { groups = outer }
+
+-- it is taken back: the mesh and the asked shifts are those at its opening; the settings, the steps taken and the meshes saved stay
+abbrev pub taken_back : Group → List Group → State → State
+taken_back group outer s = record s { mesh = group.mesh; asked = group.asked; groups = outer }
+
+-- the innermost group is closed: kept, or, where it has failed, taken back; nothing is done where none is open
+abbrev pub close_effect : List Group → State → Effect
+close_effect [] s = Proceeds [] s
+close_effect (group ∷ outer) s =
+    Proceeds (Close (not group.failed) ∷ []) (if group.failed then taken_back group outer s else kept_whole outer s)
+
 abbrev pub effect_of : Directive → State → Effect
 effect_of (directive.SetDepth depth) s = set_effect (record s.set { depth = depth }) s
 effect_of (directive.SetPasses passes) s = set_effect (record s.set { passes = passes }) s
 effect_of (directive.SetZones zones) s = set_effect (record s.set { zones = zones }) s
 effect_of (directive.SetHalvings halvings) s = set_effect (record s.set { halvings = halvings }) s
-effect_of (directive.ShiftOne v by) s = shift_effect (sum_of_one v by s.asked) s
-effect_of (directive.ShiftAll by) s = shift_effect (sum_of_all by s.asked) s
+effect_of (directive.ShiftOne v by) s = shift_effect (sum_of_one s.mesh v by s.asked) s
+effect_of (directive.ShiftAll by) s = shift_effect (sum_of_all s.mesh by s.asked) s
+effect_of (directive.Solid v) s = solid_effect (is_some (finite.get s.mesh.points v)) v s
 effect_of directive.Step s = step_effect (first_outside s.mesh s.asked) s
 effect_of (directive.Pass kind) s = Proceeds (passed_lines kind s) (after_pass kind s)
 effect_of directive.Save s = Proceeds (mesh_line s.saved s.mesh ∷ []) (record s { saved = s.saved + 1 })
+effect_of directive.Group s = Proceeds (GroupLine ∷ []) (opened s)
+effect_of directive.Close s = close_effect s.groups s
 
 -- ---- all directives
 

@@ -4,6 +4,7 @@ use Rattle.std.specs.FinMap as finite
 use Rattle.mesh_base.specs.Mesh.{Mesh, IsSound}
 use Rattle.mesh_base.specs.Sides.{IsClosed}
 use Rattle.mesh_base.specs.Placements.{IsClearMesh}
+use Rattle.mesh_base.specs.Valid.{IsValidSurface}
 use Rattle.mesh_plain.specs.Shape.{shape_fault}
 use Rattle.obj_text.specs.Obj.{lists_of}
 use Rattle.mesh_base.specs.Given.{mesh_of}
@@ -12,8 +13,8 @@ use Rattle.grid_base.specs.declared.TheConstants.{DECIMALS_MAX}
 use Rattle.obj_text.specs.Written.{mesh_text, ranked_lists}
 use Rattle.obj_text.specs.Laws.{renumbered}
 use Rattle.log_text.specs.declared.LogLine.{LogLine}
-use Rattle.log_text.specs.declared.LogLine.TheVariants.{Mesh as MeshLine}
-use Rattle.log_replay.specs.Replay.{Replay, EachAt}
+use Rattle.log_text.specs.declared.LogLine.TheVariants.{Mesh as MeshLine, Close}
+use Rattle.log_replay.specs.Replay.{Replay, replayed, EachAt}
 use Rattle.log_replay.specs.Safe.{LineIsSafe}
 
 -- The text of a mesh on a grid of so many decimals is read again: its lists are of good shape and make the mesh with its vertices and
@@ -36,10 +37,12 @@ pub record IsSavedWell (r : Replay) (vertices faces : ℕ) : Type 0 where
   pub clear : IsClearMesh r.mesh
   pub read_again : (decimals : ℕ) → decimals ≤ DECIMALS_MAX → IsReadAgain decimals r.mesh
 
--- What a line promises of the replay where it stands: of a `mesh` line that the mesh is saved well, of a `moved` line that the
--- motion by the `move` lines is safe, and of the line of a done edit that the edit is.
+-- What a line promises of the replay where it stands: of a `mesh` line that the mesh is saved well, of a `move` line that its vertex is
+-- not solid, of a `moved` line that the motion by the `move` lines is safe, of the line of a done edit that the edit is, and of a `close`
+-- line that the mesh after it, kept or taken back, is sound, closed and clear.
 abbrev pub LineHolds : Replay → LogLine → Type 0
 LineHolds r (MeshLine k vertices faces) = IsSavedWell r vertices faces
+LineHolds r (Close kept) = IsValidSurface (replayed r (Close kept)).mesh
 LineHolds r line = LineIsSafe r line
 
 -- each line keeps its promise, one after another

@@ -1,3 +1,4 @@
+pub mod Groups
 pub mod State
 pub mod Engines
 pub mod Effects

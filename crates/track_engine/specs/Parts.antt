@@ -1,12 +1,11 @@
 -- What the parts of the engine do.
 use Rattle.std.specs.Prelude.{◌≡◌, ◌⊎◌, ℕ, List, [], ◌∷◌, Option, Some, None, Result, Ok, Err}
 use Rattle.mesh_base.specs.declared.UseWhy.{UseWhy}
-use Rattle.mesh_base.specs.Mesh.{Mesh}
 use Rattle.step_text.specs.declared.Directive.TheVariants.{Step}
 use Rattle.edit_base.specs.declared.PassKind.{PassKind}
 use Rattle.log_text.specs.Lines.{text_of_lines}
 use Rattle.log_text.specs.declared.LogLine.{LogLine}
-use Rattle.log_replay.specs.Replay.{after, at_mesh}
+use Rattle.log_replay.specs.Replay.{Replay, after}
 use Rattle.outside_io.specs.Sink.{appended}
 use Rattle.track_engine.specs.declared.stop.Stop.{Stop}
 use Rattle.track_engine.specs.State.{State, standing}
@@ -15,10 +14,10 @@ use Rattle.log_write.specs.Written.{WrittenInPart}
 use Rattle.track_engine.specs.Saved.{Target}
 use Rattle.track_engine.specs.World.{Contents, Logs, StopsIn}
 
--- the line of a mesh is written and the mesh is stored, or it stops in that
-abbrev pub Saves : {T : Type 0} → Target → ℕ → Mesh → Contents → Contents → Result T Stop → Type 0
-Saves to k m old new (Ok x) = Logs to (at_mesh m) (mesh_line k m ∷ []) old new
-Saves to k m old new (Err stop) = StopsIn stop to (at_mesh m) (mesh_line k m ∷ []) old new
+-- the line of a replay's mesh is written and the mesh is stored, or it stops in that
+abbrev pub Saves : {T : Type 0} → Target → ℕ → Replay → Contents → Contents → Result T Stop → Type 0
+Saves to k from old new (Ok x) = Logs to from (mesh_line k from.mesh ∷ []) old new
+Saves to k from old new (Err stop) = StopsIn stop to from (mesh_line k from.mesh ∷ []) old new
 
 -- the lines of an effect are written, and their replay is the state after it
 pub record Takes (to : Target) (effect : Effect) (old_state new_state : State) (old new : Contents) : Type 0 where
@@ -39,6 +38,12 @@ abbrev pub Advances : Target → Effect → State → State → Contents → Con
 Advances to effect old_state new_state old new (Ok None) = Takes to effect old_state new_state old new
 Advances to effect old_state new_state old new (Ok (Some why)) = (effect ≡ Refused why) × (new ≡ old)
 Advances to effect old_state new_state old new (Err stop) = (new ≡ old) ⊎ TakesInPart stop to effect old_state old new
+
+-- a directive that stores nothing, by what it writes
+abbrev pub Writes : Effect → State → Option (List ℕ) → Option (List ℕ) → Result (Option UseWhy) Stop → Type 0
+Writes effect new_state old new (Ok None) = (lines : List LogLine) × (effect ≡ Proceeds lines new_state) × (new ≡ appended old (text_of_lines lines))
+Writes effect new_state old new (Ok (Some why)) = (effect ≡ Refused why) × (new ≡ old)
+Writes effect new_state old new (Err stop) = (new ≡ old) ⊎ ((lines : List LogLine) × (next : State) × (effect ≡ Proceeds lines next) × WrittenInPart old new lines)
 
 -- a step, by what it writes
 abbrev pub StepTakes : State → State → Option (List ℕ) → Option (List ℕ) → Result (Option UseWhy) Stop → Type 0

@@ -8,32 +8,12 @@ use Rattle.log_replay.specs.Replay.{Replay}
 use Rattle.outside_io.specs.Causes.{Rose}
 use Rattle.outside_io.specs.Sink.{appended}
 use Rattle.outside_io.specs.Desk.{Files, SameBut}
+pub use Rattle.outside_io.specs.World.{Contents, contents, World, world}
 use Rattle.track_engine.specs.declared.stop.Stop.{Stop}
 use Rattle.track_engine.specs.declared.stop.Stop.TheVariants.{NoMemory, DeskFault, SinkFault}
 use Rattle.log_write.specs.Written.{WrittenInPart}
 use Rattle.track_engine.specs.Saved.{Target, files_of, file_name, stored}
 use Rattle.track_engine.specs.Effects.{ExpectedLog}
-
--- what a desk holds and what a sink was given, where they tell
-pub record Contents : Type 0 where
-  pub files : Option Files
-  pub written : Option (List ℕ)
-
-abbrev pub contents : {D K : Type 0} → (D → Option Files) → (K → Option (List ℕ)) → D → K → Contents
-contents files written desk out = record { files = files desk; written = written out }
-
--- the same, and how often each has failed
-pub record World : Type 0 where
-  pub holds : Contents
-  pub desk_faults : ℕ
-  pub sink_faults : ℕ
-
-abbrev pub world : {D K : Type 0} → (D → Option Files) → (D → ℕ) → (K → Option (List ℕ)) → (K → ℕ) → D → K → World
-world files desk_faults written sink_faults desk out = record {
-  holds = contents files written desk out;
-  desk_faults = desk_faults desk;
-  sink_faults = sink_faults out;
-}
 
 -- From old to new these lines were written, and the meshes that they name were stored.
 pub record Logs (to : Target) (from : Replay) (lines : List LogLine) (old new : Contents) : Type 0 where

@@ -3,25 +3,27 @@ ghost use Rattle.step_text.specs.Ranges.{IsInRange};
 ghost use Rattle.step_choose.specs.Settings.{AreWithinLimits};
 ghost use Rattle.outside_io.specs.Causes.{Rose};
 ghost use Rattle.track_engine.specs.State.{state_of};
-ghost use Rattle.track_engine.specs.Effects.{effect_of, sum_of_all};
+ghost use Rattle.track_engine.specs.Effects.{effect_of, sum_of_all, is_whole};
 ghost use Rattle.track_engine.specs.Targets.{target_of};
 ghost use Rattle.track_engine.specs.World.{contents, world, HasCauses};
 ghost use Rattle.mesh_base.specs.Kept.{BeginsWith};
 ghost use Rattle.grid_base.specs.declared.TheConstants.{DECIMALS_MAX};
 ghost use Rattle.track_engine.specs.Parts.{Advances, StepTakes, PassTakes};
 ghost use Rattle.track_engine.specs.Shifting.{AsksNow};
-ghost use Rattle.track_engine.specs.Invariant.{IsRunInvariant};
+ghost use Rattle.track_engine.specs.Invariant.{IsRunInvariant, MarksHold, left_by};
 
+use crate::grouping::{close_group, open_group};
 use crate::placing::{first_outside, place_all};
 use crate::run_state::RunState;
 use crate::saving::save;
 use crate::shifting::{all_summed, asked_in, no_shifts, sum_one};
+use crate::solids::take_solid;
 use crate::stepping::say_step;
 use crate::stop::Stop;
 use crate::target::Target;
 use edit_base::PassKind;
 use grid_base::Shift;
-use mesh_plain::{Surface, UseWhy};
+use mesh_plain::{How, Surface, UseWhy};
 use outside_io::{Desk, Sink};
 use pass_run::{PassFault, pass};
 use std::alloc::Global;
@@ -29,13 +31,18 @@ use step_choose::choose;
 use step_text::Directive;
 
 // A shift is added to what is asked of each vertex. No line is written.
-fn add_to_all(alloc: Global, run: &mut RunState, by: Shift) -> Result<Option<UseWhy>, Stop>
-    ensures asks { IfOk result (AsksNow (sum_of_all by run.old.asked) run.new.asked) }
+fn add_to_all<S: Surface>(
+    alloc: Global,
+    mesh: &S,
+    run: &mut RunState,
+    by: Shift,
+) -> Result<Option<UseWhy>, Stop>
+    ensures asks { IfOk result (AsksNow (sum_of_all (S.mesh mesh.now) by run.old.asked) run.new.asked) }
     ensures rest { run.new ≡ record run.old { asked = run.new.asked } }
     ensures left { IfOk result (λ refused. IsSome refused → run.new ≡ run.old) }
     ensures stops { IfErr result (λ stop. stop ≡ Stop.NoMemory) }
 {
-    match all_summed(alloc, run.asked.as_slice(), by) {
+    match all_summed(alloc, mesh, run.asked.as_slice(), by) {
         Err(_) => Err(Stop::NoMemory),
         Ok(Err(v)) => Ok(Some(UseWhy::ShiftRange { v: v.0 })),
         Ok(Ok(asked)) => {
@@ -45,19 +52,31 @@ fn add_to_all(alloc: Global, run: &mut RunState, by: Shift) -> Result<Option<Use
     }
 }
 
-// A step is taken, or a vertex would leave the box.
+// Whether a step is taken by the asked shifts.
+fn is_whole(how: How) -> bool
+    ensures { result ≡ is_whole how }
+{
+    match how {
+        How::Whole => true,
+        _ => false,
+    }
+}
+
+// A step is taken, or a vertex would leave the box. One that is not taken whole makes the innermost open group fail.
 fn take_step<S: Surface, K: Sink>(
     alloc: Global,
     mesh: &mut S,
     run: &mut RunState,
     out: &mut K,
 ) -> Result<Option<UseWhy>, Stop>
-    requires kept { IsRunInvariant (state_of (S.mesh mesh.old) run.old) }
+    requires kept { IsRunInvariant (state_of (S.mesh mesh.old) (S.kept mesh.old) run.old) }
+    requires marks { MarksHold S.beyond (S.kept mesh.old) run.old.groups }
     requires limits { AreWithinLimits run.old.set }
     requires steps { run.old.steps + 1 < 2 ^ 32 }
-    ensures takes { StepTakes (state_of (S.mesh mesh.old) run.old) (state_of (S.mesh mesh.new) run.new) (K.written out.old) (K.written out.new) result }
-    ensures left { IfOk result (λ refused. IsSome refused → state_of (S.mesh mesh.new) run.new ≡ state_of (S.mesh mesh.old) run.old) }
-    ensures marks { BeginsWith (S.kept mesh.new) (S.kept mesh.old) }
+    ensures takes { StepTakes (state_of (S.mesh mesh.old) (S.kept mesh.old) run.old) (state_of (S.mesh mesh.new) (S.kept mesh.new) run.new) (K.written out.old) (K.written out.new) result }
+    ensures left { IfOk result (λ refused. IsSome refused → state_of (S.mesh mesh.new) (S.kept mesh.new) run.new ≡ state_of (S.mesh mesh.old) (S.kept mesh.old) run.old) }
+    ensures marks { MarksHold S.beyond (S.kept mesh.new) run.new.groups }
+    ensures begins { BeginsWith (S.kept mesh.new) (S.kept mesh.old) }
     ensures saved { run.new.saved ≡ run.old.saved }
     ensures set { run.new.set ≡ run.old.set }
     ensures steps { run.new.steps ≤ run.old.steps + 1 }
@@ -80,10 +99,11 @@ fn take_step<S: Surface, K: Sink>(
     say_step(alloc, run.steps + 1, &choice, out)?;
     run.asked = still;
     run.steps += 1;
+    run.groups.fail_if(!is_whole(choice.how));
     Ok(None)
 }
 
-// A pass over the mesh is made, each line of it written.
+// A pass over the mesh is made, each line of it written. In a group its first `no` line ends it, and makes the group fail.
 fn take_pass<S: Surface, K: Sink>(
     alloc: Global,
     mesh: &mut S,
@@ -91,24 +111,27 @@ fn take_pass<S: Surface, K: Sink>(
     kind: PassKind,
     out: &mut K,
 ) -> Result<Option<UseWhy>, Stop>
-    requires kept { IsRunInvariant (state_of (S.mesh mesh.old) run.old) }
+    requires kept { IsRunInvariant (state_of (S.mesh mesh.old) (S.kept mesh.old) run.old) }
+    requires marks { MarksHold S.beyond (S.kept mesh.old) run.old.groups }
     requires limits { AreWithinLimits run.old.set }
-    ensures passes { PassTakes kind (state_of (S.mesh mesh.old) run.old) (state_of (S.mesh mesh.new) run.new) (K.written out.old) (K.written out.new) result }
-    ensures marks { BeginsWith (S.kept mesh.new) (S.kept mesh.old) }
-    ensures rest { run.new ≡ record run.old { asked = run.new.asked } }
+    ensures passes { PassTakes kind (state_of (S.mesh mesh.old) (S.kept mesh.old) run.old) (state_of (S.mesh mesh.new) (S.kept mesh.new) run.new) (K.written out.old) (K.written out.new) result }
+    ensures marks { MarksHold S.beyond (S.kept mesh.new) run.new.groups }
+    ensures begins { BeginsWith (S.kept mesh.new) (S.kept mesh.old) }
+    ensures rest { run.new ≡ record run.old { asked = run.new.asked; groups = run.new.groups } }
     ensures later { K.faults out.old ≤ K.faults out.new }
     ensures cause { IsErrOf result Stop.SinkFault → Rose (K.faults out.old) (K.faults out.new) }
     ensures desk { IsErrOf result Stop.DeskFault → ⊥ }
 {
-    match pass(alloc, mesh, kind, run.set.depth, false, out) {
-        Ok(_count) => {}
+    let count = match pass(alloc, mesh, kind, run.set.depth, run.groups.is_open(), out) {
+        Ok(count) => count,
         Err(PassFault::NoMemory) => return Err(Stop::NoMemory),
         Err(PassFault::SinkFault) => return Err(Stop::SinkFault),
-    }
+    };
     let Ok(asked) = asked_in(alloc, mesh, run.asked.as_slice()) else {
         return Err(Stop::NoMemory);
     };
     run.asked = asked;
+    run.groups.fail_if(count.refused > 0);
     Ok(None)
 }
 
@@ -124,17 +147,19 @@ pub(crate) fn take_directive<S: Surface, D: Desk, K: Sink>(
 ) -> Result<Option<UseWhy>, Stop>
     requires few { to.decimals ≤ DECIMALS_MAX }
     requires range { IsInRange what }
-    requires kept { IsRunInvariant (state_of (S.mesh mesh.old) run.old) }
+    requires kept { IsRunInvariant (state_of (S.mesh mesh.old) (S.kept mesh.old) run.old) }
+    requires marks { MarksHold S.beyond (S.kept mesh.old) run.old.groups }
     requires limits { AreWithinLimits run.old.set }
     requires steps { run.old.steps + 1 < 2 ^ 32 }
     requires saved { run.old.saved + 1 < 2 ^ 32 }
-    ensures advances { let old = state_of (S.mesh mesh.old) run.old in
-        Advances (target_of to.entry) (effect_of what old) old (state_of (S.mesh mesh.new) run.new)
+    ensures advances { let old = state_of (S.mesh mesh.old) (S.kept mesh.old) run.old in
+        Advances (target_of to.entry) (effect_of what old) old (state_of (S.mesh mesh.new) (S.kept mesh.new) run.new)
         (contents D.files K.written desk.old out.old) (contents D.files K.written desk.new out.new) result }
     // A refusal leaves the state as it was.
-    ensures left { IfOk result (λ refused. IsSome refused → state_of (S.mesh mesh.new) run.new ≡ state_of (S.mesh mesh.old) run.old) }
-    ensures marks { BeginsWith (S.kept mesh.new) (S.kept mesh.old) }
-    ensures kept { result ≡ Ok None → IsRunInvariant (state_of (S.mesh mesh.new) run.new) }
+    ensures left { IfOk result (λ refused. IsSome refused → state_of (S.mesh mesh.new) (S.kept mesh.new) run.new ≡ state_of (S.mesh mesh.old) (S.kept mesh.old) run.old) }
+    ensures marks { MarksHold S.beyond (S.kept mesh.new) run.new.groups }
+    ensures begins { BeginsWith (S.kept mesh.new) (left_by what run.old.groups (S.kept mesh.old)) }
+    ensures kept { result ≡ Ok None → IsRunInvariant (state_of (S.mesh mesh.new) (S.kept mesh.new) run.new) }
     ensures limits { AreWithinLimits run.new.set }
     ensures steps_count { run.new.steps ≤ run.old.steps + 1 }
     ensures saved_count { run.new.saved ≤ run.old.saved + 1 }
@@ -158,8 +183,9 @@ pub(crate) fn take_directive<S: Surface, D: Desk, K: Sink>(
             run.set.halvings = halvings;
             Ok(None)
         }
-        Directive::ShiftOne { v, by } => Ok(sum_one(&mut run.asked, v, by)),
-        Directive::ShiftAll { by } => add_to_all(alloc, run, by),
+        Directive::ShiftOne { v, by } => Ok(sum_one(mesh, &mut run.asked, v, by)),
+        Directive::ShiftAll { by } => add_to_all(alloc, mesh, run, by),
+        Directive::Solid { v } => take_solid(alloc, mesh, run, v, out),
         Directive::Step => take_step(alloc, mesh, run, out),
         Directive::Pass(kind) => take_pass(alloc, mesh, run, kind, out),
         Directive::Save => {
@@ -167,5 +193,7 @@ pub(crate) fn take_directive<S: Surface, D: Desk, K: Sink>(
             run.saved += 1;
             Ok(None)
         }
+        Directive::Group => open_group(alloc, mesh, run, out),
+        Directive::Close => close_group(alloc, mesh, run, out),
     }
 }

@@ -1,4 +1,4 @@
-ghost use Rattle.std.specs.Prelude.{◌≡◌, ◌≤◌, ◌<◌, ◌+◌, ◌^◌, length, IfOk, OnOk, OnErr};
+ghost use Rattle.std.specs.Prelude.{◌≡◌, ◌≤◌, ◌<◌, ◌+◌, ◌^◌, [], length, IfOk, OnOk, OnErr};
 ghost use Rattle.grid_base.specs.declared.TheConstants.{DECIMALS_MAX};
 ghost use Rattle.mesh_base.specs.Kept.{BeginsWith};
 ghost use Rattle.step_text.specs.Ranges.{AreInRange};
@@ -7,12 +7,13 @@ ghost use Rattle.track_engine.specs.State.{standing, unsaved};
 ghost use Rattle.track_engine.specs.Engines.{state_in};
 ghost use Rattle.track_engine.specs.Effects.{log_from};
 ghost use Rattle.track_engine.specs.Targets.{target_of};
-ghost use Rattle.track_engine.specs.Invariant.{IsRunInvariant, MayAdvance, HasAdvanced};
+ghost use Rattle.track_engine.specs.Invariant.{IsRunInvariant, MarksHold, left_by, MayAdvance, HasAdvanced};
 ghost use Rattle.track_engine.specs.World.{contents, world, HasCauses, Follows};
 ghost use Rattle.track_engine.specs.Parts.{Saves};
 
 use crate::directing::take_directive;
 use crate::following::follow;
+use crate::open_groups::OpenGroups;
 use crate::run_state::RunState;
 use crate::saving::save;
 use crate::shifting::no_shifts;
@@ -35,7 +36,8 @@ pub struct Engine<S> {
 
 impl<S: Surface> Engine<S> {
     /// Does one directive: its lines are written and its mesh is stored, or it is refused with nothing written or stored and the
-    /// state as it was, or the engine stops in its lines. Earlier marks of the mesh hold.
+    /// state as it was, or the engine stops in its lines. Earlier marks of the mesh hold, but for those that were made since the opening
+    /// of a group that is taken back.
     pub fn advance<D: Desk, K: Sink>(
         &mut self,
         alloc: Global,
@@ -45,11 +47,13 @@ impl<S: Surface> Engine<S> {
         out: &mut K,
     ) -> Result<Option<UseWhy>, Stop>
         requires few { to.decimals ≤ DECIMALS_MAX }
-        requires may { MayAdvance what (state_in S.mesh self.old) }
-        ensures does { HasAdvanced (target_of to.entry) what (state_in S.mesh self.old) (state_in S.mesh self.new)
+        requires may { MayAdvance what (state_in S.mesh S.kept self.old) }
+        requires marks { MarksHold S.beyond (S.kept self.old.mesh) self.old.run.groups }
+        ensures does { HasAdvanced (target_of to.entry) what (state_in S.mesh S.kept self.old) (state_in S.mesh S.kept self.new)
             (world D.files D.faults K.written K.faults desk.old out.old)
             (world D.files D.faults K.written K.faults desk.new out.new) result }
-        ensures marks { BeginsWith (S.kept self.new.mesh) (S.kept self.old.mesh) }
+        ensures marks { MarksHold S.beyond (S.kept self.new.mesh) self.new.run.groups }
+        ensures begins { BeginsWith (S.kept self.new.mesh) (left_by what self.old.run.groups (S.kept self.old.mesh)) }
     {
         take_directive(alloc, what, to, &mut self.mesh, &mut self.run, desk, out)
     }
@@ -64,11 +68,12 @@ impl<S: Surface> Engine<S> {
     ) -> Result<(), Stop>
         requires few { to.decimals ≤ DECIMALS_MAX }
         requires room { self.old.run.saved + 1 < 2 ^ 32 }
-        ensures saves { Saves (target_of to.entry) self.old.run.saved (S.mesh self.old.mesh)
+        ensures saves { Saves (target_of to.entry) self.old.run.saved (standing (state_in S.mesh S.kept self.old))
             (contents D.files K.written desk.old out.old) (contents D.files K.written desk.new out.new) result }
-        ensures state { let old = state_in S.mesh self.old in
-            OnOk result (state_in S.mesh self.new ≡ record old { saved = old.saved + 1 }) }
-        ensures left { OnErr result (state_in S.mesh self.new ≡ state_in S.mesh self.old) }
+        ensures state { let old = state_in S.mesh S.kept self.old in
+            OnOk result (state_in S.mesh S.kept self.new ≡ record old { saved = old.saved + 1 }) }
+        ensures rest { (self.new.mesh ≡ self.old.mesh) × (self.new.run.groups ≡ self.old.run.groups) }
+        ensures left { OnErr result (state_in S.mesh S.kept self.new ≡ state_in S.mesh S.kept self.old) }
         ensures causes { HasCauses (world D.files D.faults K.written K.faults desk.old out.old)
             (world D.files D.faults K.written K.faults desk.new out.new) result }
     {
@@ -78,7 +83,7 @@ impl<S: Surface> Engine<S> {
     }
 
     /// Does the directives in order and writes the last line of the log, which tells the first that is refused, with its line in the
-    /// step file, or the end. After each directive that is taken the mesh is settled.
+    /// step file, or the end. After each directive that is taken while no group is open, the mesh is settled.
     pub fn follow<D: Desk, K: Sink>(
         &mut self,
         alloc: Global,
@@ -89,11 +94,12 @@ impl<S: Surface> Engine<S> {
     ) -> Result<Option<Refusal>, Stop>
         requires few { to.decimals ≤ DECIMALS_MAX }
         requires ranges { AreInRange steps.now }
-        requires kept { IsRunInvariant (state_in S.mesh self.old) }
+        requires kept { IsRunInvariant (state_in S.mesh S.kept self.old) }
+        requires marks { MarksHold S.beyond (S.kept self.old.mesh) self.old.run.groups }
         requires limits { AreWithinLimits self.old.run.set }
         requires steps_room { self.old.run.steps + length steps.now < 2 ^ 32 }
         requires saved_room { self.old.run.saved + length steps.now < 2 ^ 32 }
-        ensures follows { let s = state_in S.mesh self.old in
+        ensures follows { let s = state_in S.mesh S.kept self.old in
             Follows (target_of to.entry) (standing s) (log_from steps.now s)
             (contents D.files K.written desk.old out.old) (contents D.files K.written desk.new out.new) result }
         ensures causes { HasCauses (world D.files D.faults K.written K.faults desk.old out.old)
@@ -104,9 +110,11 @@ impl<S: Surface> Engine<S> {
 }
 
 impl<S: Surface + Drop> Engine<S> {
-    /// An engine of the mesh, of whose vertices nothing is asked; its settings are the first, and no mesh is saved.
+    /// An engine of the mesh, of whose vertices nothing is asked; its settings are the first, no mesh is saved, and no group is open.
     pub fn new(alloc: Global, mesh: S) -> Result<Engine<S>, NoMemory>
-        ensures { IfOk result (λ engine. state_in S.mesh engine ≡ unsaved (S.mesh mesh)) }
+        ensures state { IfOk result (λ engine. state_in S.mesh S.kept engine ≡ unsaved (S.mesh mesh)) }
+        ensures mesh { IfOk result (λ engine. engine.mesh ≡ mesh) }
+        ensures groups { IfOk result (λ engine. engine.run.groups ≡ []) }
     {
         let asked = no_shifts(alloc, &mesh)?;
         let run = RunState {
@@ -114,6 +122,7 @@ impl<S: Surface + Drop> Engine<S> {
             set: Settings::at_first(),
             steps: 0,
             saved: 0,
+            groups: OpenGroups::none(alloc),
         };
         Ok(Engine { mesh, run })
     }

@@ -1,5 +1,6 @@
 //! The engine: a mesh, the shifts that are asked of its vertices, and the settings, which directives change one after another. Each
-//! directive writes its lines to a log, from which all meshes can be replayed, and saves meshes to a desk.
+//! directive writes its lines to a log, from which all meshes can be replayed, and saves meshes to a desk. Directives between `group` and
+//! `close` are kept whole or taken back whole, and a vertex that is made solid never moves.
 //!
 //! The tracker is that of Brochu and Bridson, "Robust topological operations for dynamic explicit surfaces" (2009).
 #![tactic(auto)]
@@ -7,17 +8,24 @@
 mod directing;
 mod engine;
 mod following;
+mod grouping;
 mod lines;
+mod lists;
+mod open_group;
+mod open_groups;
 mod placing;
 mod run_state;
 mod saving;
 mod shifting;
+mod solids;
 mod stepping;
 mod stop;
 mod target;
 
 pub use engine::Engine;
 pub use lines::{finish, say};
+pub use open_group::OpenGroup;
+pub use open_groups::OpenGroups;
 pub use run_state::RunState;
 pub use stop::Stop;
 pub use target::Target;

@@ -1,8 +1,10 @@
 ghost use Rattle.grid_base.specs.declared.TheConstants.{DECIMALS_MAX};
-ghost use Rattle.std.specs.Prelude.{◌≡◌, ◌≤◌, drop, codes, IfOk, string_bytes};
+ghost use Rattle.std.specs.Prelude.{◌≡◌, ◌≤◌, List, drop, codes, IfOk, string_bytes};
 ghost use Rattle.track_engine.specs.Targets.{target_of};
 ghost use Rattle.track_engine.specs.Saved.{file_name};
 ghost use Rattle.track_engine.specs.World.{contents, world, HasCauses};
+ghost use Rattle.mesh_base.specs.Mesh.{Mesh};
+ghost use Rattle.log_replay.specs.Replay.{at_mesh_in_groups};
 ghost use Rattle.track_engine.specs.Parts.{Saves};
 
 use crate::lines::say;
@@ -54,7 +56,7 @@ pub(crate) fn save<S: Surface, D: Desk, K: Sink>(
     out: &mut K,
 ) -> Result<(), Stop>
     requires { to.decimals ≤ DECIMALS_MAX }
-    ensures saves { Saves (target_of to.entry) k (S.mesh mesh.now)
+    ensures saves { (stack : List Mesh) → Saves (target_of to.entry) k (at_mesh_in_groups (S.mesh mesh.now) stack)
         (contents D.files K.written desk.old out.old) (contents D.files K.written desk.new out.new) result }
     ensures causes { HasCauses (world D.files D.faults K.written K.faults desk.old out.old)
         (world D.files D.faults K.written K.faults desk.new out.new) result }

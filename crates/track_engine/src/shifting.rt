@@ -2,13 +2,13 @@ ghost use Rattle.std.specs.Prelude.{◌≡◌, ◌↔◌, ◌≤◌, ◌+ℤ◌,
 ghost use Rattle.grid_base.specs.declared.TheConstants.{SHIFT_MAX};
 ghost use Rattle.grid_base.specs.Triples.{IsWithin, plus};
 ghost use Rattle.grid_base.specs.Points.{displacement_of};
-ghost use Rattle.track_engine.specs.State.{no_shifts, still_at, asked_of, asked_in};
+ghost use Rattle.track_engine.specs.State.{no_shifts, still_at, asked_of, still_asked, asked_in};
 ghost use Rattle.std.specs.Option.{unwrap_or};
 ghost use Rattle.track_engine.specs.Effects.{moves, all_still};
 ghost use Rattle.std.specs.List.Sorted.{IsStrictlySortedBy};
 ghost use Rattle.std.specs.Ordering.{nat_cmp};
-ghost use Rattle.track_engine.specs.Effects.{sum_of_one};
-ghost use Rattle.track_engine.specs.Shifting.{Sums, AsksNow};
+ghost use Rattle.track_engine.specs.Effects.{sum_of_one, one_still};
+ghost use Rattle.track_engine.specs.Shifting.{SumsOne, Sums, AsksNow};
 
 use grid_base::{NoMemory, SHIFT_MAX, Shift};
 use mesh_plain::{ShiftOf, Shifts, Surface, UseWhy, VertexId, live_vertices};
@@ -61,18 +61,32 @@ fn sum(a: Shift, b: Shift) -> Option<Shift>
     )
 }
 
-/// The shifts with one added to each, or the first vertex for which the sum is above the limit.
-pub(crate) fn all_summed(
+// The same of a vertex with a shift added, unless it is solid; None where the sum is above the limit.
+fn summed_unless_solid<S: Surface>(mesh: &S, s: ShiftOf, by: Shift) -> Option<ShiftOf>
+    ensures { SumsOne (S.mesh mesh.now) by s result }
+{
+    if mesh.solid(s.v) {
+        return Some(s);
+    }
+    match sum(s.by, by) {
+        Some(by) => Some(ShiftOf { v: s.v, by }),
+        None => None,
+    }
+}
+
+/// The shifts with one added to each but those of solid vertices, or the first vertex for which the sum is above the limit.
+pub(crate) fn all_summed<S: Surface>(
     alloc: Global,
+    mesh: &S,
     asked: &[ShiftOf],
     by: Shift,
 ) -> Result<Result<Shifts, VertexId>, NoMemory>
-    ensures { IfOk result (Sums by asked.now) }
+    ensures { IfOk result (Sums (S.mesh mesh.now) by asked.now) }
 {
     let mut shifts = Shifts::new(alloc);
     for s in asked {
-        match sum(s.by, by) {
-            Some(by) => shifts.push(ShiftOf { v: s.v, by })?,
+        match summed_unless_solid(mesh, *s, by) {
+            Some(summed) => shifts.push(summed)?,
             None => return Ok(Err(s.v)),
         }
     }
@@ -94,7 +108,18 @@ fn asked_of(asked: &[ShiftOf], v: VertexId) -> ShiftOf
     }
 }
 
-/// What is asked of each live vertex of a mesh that was changed: what was asked of it, and nothing of one that is new.
+// What was asked of a vertex, and nothing of one that is new or solid.
+fn still_asked<S: Surface>(mesh: &S, asked: &[ShiftOf], v: VertexId) -> ShiftOf
+    requires { IsStrictlySortedBy nat_cmp (map (λ s. s.v) asked.now) }
+    ensures { result ≡ still_asked (S.mesh mesh.now) asked.now v }
+{
+    if mesh.solid(v) {
+        return ShiftOf { v, by: NO_SHIFT };
+    }
+    asked_of(asked, v)
+}
+
+/// What is asked of each live vertex of a mesh that was changed: what was asked of it, and nothing of one that is new or solid.
 pub(crate) fn asked_in<S: Surface>(
     alloc: Global,
     mesh: &S,
@@ -106,20 +131,23 @@ pub(crate) fn asked_in<S: Surface>(
     let ids = live_vertices(alloc, mesh)?;
     let mut shifts = Shifts::new(alloc);
     for v in ids.as_slice() {
-        shifts.push(asked_of(asked, *v))?;
+        shifts.push(still_asked(mesh, asked, *v))?;
     }
     Ok(shifts)
 }
 
 /// Adds a shift to what is asked of one vertex, or answers why it can't be added. Takes no memory.
-pub(crate) fn sum_one(asked: &mut Shifts, v: u32, by: Shift) -> Option<UseWhy>
+pub(crate) fn sum_one<S: Surface>(mesh: &S, asked: &mut Shifts, v: u32, by: Shift) -> Option<UseWhy>
     requires { IsStrictlySortedBy nat_cmp (map (λ s. s.v) asked.old) }
-    ensures sum { AsksNow (sum_of_one v by asked.old) asked.new result }
+    ensures sum { AsksNow (sum_of_one (S.mesh mesh.now) v by asked.old) asked.new result }
     ensures left { IsSome result → asked.new ≡ asked.old }
 {
     let Some(place) = place_of(asked.as_slice(), VertexId(v)) else {
         return Some(UseWhy::NoVertex { v });
     };
+    if mesh.solid(VertexId(v)) {
+        return Some(UseWhy::Solid { v });
+    }
     let Some(s) = asked.get(place) else {
         unreachable!()
     };
@@ -129,6 +157,16 @@ pub(crate) fn sum_one(asked: &mut Shifts, v: u32, by: Shift) -> Option<UseWhy>
     };
     asked.set(place, ShiftOf { v: s.v, by });
     None
+}
+
+/// Asks nothing of one vertex. Takes no memory.
+pub(crate) fn still_one(asked: &mut Shifts, v: VertexId)
+    requires { IsStrictlySortedBy nat_cmp (map (λ s. s.v) asked.old) }
+    ensures { asked.new ≡ one_still v asked.old }
+{
+    if let Some(place) = place_of(asked.as_slice(), v) {
+        asked.set(place, ShiftOf { v, by: NO_SHIFT });
+    }
 }
 
 /// Whether the shift moves its vertex.

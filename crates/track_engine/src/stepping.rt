@@ -1,16 +1,16 @@
-ghost use Rattle.std.specs.Prelude.{◌≡◌, ◌≤◌, ◌∷◌, ◌++◌, [], IsErrOf};
-ghost use Rattle.log_text.specs.declared.LogLine.TheVariants.{Moved};
-ghost use Rattle.step_choose.specs.Choice.{Way};
+ghost use Rattle.std.specs.Prelude.{◌≡◌, ◌≤◌, ◌∷◌, [], IsErrOf};
+ghost use Rattle.log_text.specs.declared.LogLine.TheVariants.{Block};
 ghost use Rattle.step_choose.specs.Chosen.{way_of};
 ghost use Rattle.outside_io.specs.Causes.{Rose};
-ghost use Rattle.track_engine.specs.Effects.{hit_lines, move_lines, lines_of_step};
+ghost use Rattle.track_engine.specs.Effects.{hit_lines, block_lines, move_lines, way_lines, lines_of_step};
 ghost use Rattle.log_write.specs.Written.{Written};
 
 use crate::lines::say;
+use crate::lists::copy_of;
 use crate::shifting::moves;
 use crate::stop::Stop;
 use log_text::LogLine;
-use mesh_plain::{PairName, ShiftOf};
+use mesh_plain::{Ids, PairName, ShiftOf, VertexId};
 use outside_io::Sink;
 use std::alloc::Global;
 use step_choose::Choice;
@@ -54,13 +54,40 @@ fn say_hits<K: Sink>(alloc: Global, pairs: &[PairName], out: &mut K) -> Result<(
     Ok(())
 }
 
-// The lines of the shifts that are taken, and of the way.
-fn say_way<K: Sink>(alloc: Global, choice: &Choice, out: &mut K) -> Result<(), Stop>
-    ensures said { Written (K.written out.old) (K.written out.new) (move_lines choice.now.taken ++ Moved choice.now.how ∷ []) result }
+// The line of a block.
+fn say_block<K: Sink>(alloc: Global, ids: &[VertexId], out: &mut K) -> Result<(), Stop>
+    ensures said { Written (K.written out.old) (K.written out.new) (Block ids.now ∷ []) result }
     ensures later { K.faults out.old ≤ K.faults out.new }
     ensures cause { IsErrOf result Stop.SinkFault → Rose (K.faults out.old) (K.faults out.new) }
     ensures desk { IsErrOf result Stop.DeskFault → ⊥ }
 {
+    let Ok(ids) = copy_of(alloc, ids) else {
+        return Err(Stop::NoMemory);
+    };
+    say(alloc, out, &LogLine::Block(ids))
+}
+
+// A line for each block.
+fn say_blocks<K: Sink>(alloc: Global, blocks: &[Ids], out: &mut K) -> Result<(), Stop>
+    ensures said { Written (K.written out.old) (K.written out.new) (block_lines blocks.now) result }
+    ensures later { K.faults out.old ≤ K.faults out.new }
+    ensures cause { IsErrOf result Stop.SinkFault → Rose (K.faults out.old) (K.faults out.new) }
+    ensures desk { IsErrOf result Stop.DeskFault → ⊥ }
+{
+    for block in blocks {
+        say_block(alloc, block.as_slice(), out)?;
+    }
+    Ok(())
+}
+
+// The lines of the blocks, of the shifts that are taken, and of the way.
+fn say_way<K: Sink>(alloc: Global, choice: &Choice, out: &mut K) -> Result<(), Stop>
+    ensures said { Written (K.written out.old) (K.written out.new) (way_lines (way_of choice.now)) result }
+    ensures later { K.faults out.old ≤ K.faults out.new }
+    ensures cause { IsErrOf result Stop.SinkFault → Rose (K.faults out.old) (K.faults out.new) }
+    ensures desk { IsErrOf result Stop.DeskFault → ⊥ }
+{
+    say_blocks(alloc, choice.blocks.as_slice(), out)?;
     say_moves(alloc, choice.taken.as_slice(), out)?;
     say(alloc, out, &LogLine::Moved(choice.how))?;
     Ok(())

@@ -1,5 +1,5 @@
 -- What a fetch says of a file.
-use Rattle.std.proofs.Common.{◌≡◌, ℕ, ◌<◌, ◌≤◌, ◌⊎◌, inl, inr, List, length, refl, sym, subst, arith}
+use Rattle.std.proofs.Common.{◌≡◌, ℕ, ◌+◌, ◌<◌, ◌≤◌, ◌⊎◌, inl, inr, List, length, refl, sym, subst, arith}
 use Rattle.std.proofs.lemmas.Bool.{cases_lt}
 use Rattle.std.specs.Option.{IsSomeAnd}
 use Rattle.std.specs.declared.option.Option.{Option}
@@ -11,8 +11,8 @@ use Rattle.track_input.specs.Source.{Source, Bytes, Absent, TooLong, IsSource}
 
 held : (files : Files) (name bytes : List ℕ) → get files name ≡ Some bytes → (TEXT_MAX < length bytes) ⊎ (length bytes ≤ TEXT_MAX) → (s : Source) × IsSource (Some files) name s
 held files name bytes e (inl lt) =
-    let P : Option (List ℕ) → Type 0 = λ o. IsSomeAnd o (λ bs. length bytes ≤ length bs) in
-    let le : length bytes ≤ length bytes = omega arith in (TooLong (length bytes), (lt, subst P (sym e) le))
+    let P : Option (List ℕ) → Type 0 = λ o. IsSomeAnd o (λ bs. TEXT_MAX + 1 ≤ length bs) in
+    let le : TEXT_MAX + 1 ≤ length bytes = omega arith in (TooLong (TEXT_MAX + 1), (omega arith, omega arith, subst P (sym e) le))
 held files name bytes e (inr le) = (Bytes bytes, (le, e))
 
 found : (files : Files) (name : List ℕ) (o : Option (List ℕ)) → get files name ≡ o → (s : Source) × IsSource (Some files) name s

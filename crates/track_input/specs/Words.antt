@@ -1,41 +1,75 @@
 -- The words of a command line.
 use Rattle.std.specs.Prelude.{ℕ, Bool, false, List, [], ◌∷◌, length, if◌then◌else◌, ◌==◌, ◌+◌, ◌-◌, ◌&&◌, not, nat_le, Option, Some, None, codes, slice_index, slice_index_or}
+use Rattle.std.specs.List.{ends_with}
+use Rattle.std.specs.Option.{option_and_then, option_map}
 use Rattle.std.specs.Str.{bytes_eq}
 use Rattle.grid_base.specs.declared.TheConstants.{DECIMALS_MAX}
+use Rattle.track_input.specs.declared.mesh_file.Format.{Format}
+use Rattle.track_input.specs.declared.mesh_file.Format.TheVariants.{Obj, Off, Ply}
 
--- what a command line asks for: of `track`, the three file words, and the decimals
+-- the name of a mesh file, and the format that its ending picks
+pub record MeshName : Type 0 where
+  pub name : List ℕ
+  pub format : Format
+
+-- what a command line asks for: of `track`, the three file words, and the decimals; of `convert`, the two files, and the decimals
 pub data Named : Type 0 where
   Track : (mesh : List ℕ) (steps : List ℕ) (prefix : List ℕ) (decimals : ℕ) → Named
+  Convert : (from : MeshName) (to : MeshName) (decimals : ℕ) → Named
+
+-- ---- words
+
+abbrev pub word_at : List (List ℕ) → ℕ → List ℕ
+word_at words i = slice_index_or words i []
 
 -- not empty, and without a dash in front
 abbrev pub is_file_word : List ℕ → Bool
 is_file_word [] = false
 is_file_word (b ∷ bs) = not (b == 45)
 
-abbrev pub word_at : List (List ℕ) → ℕ → List ℕ
-word_at words i = slice_index_or words i []
+-- the format that the ending of a name picks
+abbrev pub format_of : List ℕ → Option Format
+format_of name =
+    if ends_with (λ a b. a == b) name (codes ".obj") then Some Obj
+    else if ends_with (λ a b. a == b) name (codes ".off") then Some Off
+    else if ends_with (λ a b. a == b) name (codes ".ply") then Some Ply
+    else None
 
--- the words begin with `track MESH STEPS PREFIX`
-abbrev pub is_track : List (List ℕ) → Bool
-is_track words =
-    bytes_eq (word_at words 0) (codes "track")
-    && (is_file_word (word_at words 1) && (is_file_word (word_at words 2) && is_file_word (word_at words 3)))
+-- the mesh file that a word names: a file word with the ending of a format
+abbrev pub mesh_name_of : List ℕ → Option MeshName
+mesh_name_of word =
+    if is_file_word word then option_map (λ format. record { name = word; format = format }) (format_of word)
+    else None
 
 -- one digit from 0 to the greatest number of decimals
 abbrev pub is_decimals : List ℕ → Bool
 is_decimals word = length word == 1 && (nat_le 48 (slice_index word 0) && nat_le (slice_index word 0) (48 + DECIMALS_MAX))
 
-abbrev pub track_with : List (List ℕ) → ℕ → Named
-track_with words decimals = Track (word_at words 1) (word_at words 2) (word_at words 3) decimals
+-- the decimals that the words behind the first so many tell: 0 where there are none, and N where they are `--decimals N`
+abbrev pub decimals_behind : ℕ → List (List ℕ) → Option ℕ
+decimals_behind count words =
+    if length words == count then Some 0
+    else if length words == count + 2 && (bytes_eq (word_at words count) (codes "--decimals") && is_decimals (word_at words (count + 1)))
+    then Some (slice_index (word_at words (count + 1)) 0 - 48)
+    else None
 
--- the two words after them are `--decimals N`
-abbrev pub has_decimals : List (List ℕ) → Bool
-has_decimals words = bytes_eq (word_at words 4) (codes "--decimals") && is_decimals (word_at words 5)
+-- ---- commands
 
--- `track MESH STEPS PREFIX`, or the same and `--decimals N`
+-- MESH STEPS PREFIX behind the first word, and the decimals
+abbrev pub track_in : List (List ℕ) → Option Named
+track_in words =
+    if is_file_word (word_at words 1) && (is_file_word (word_at words 2) && is_file_word (word_at words 3))
+    then option_map (λ decimals. Track (word_at words 1) (word_at words 2) (word_at words 3) decimals) (decimals_behind 4 words)
+    else None
+
+-- FROM TO behind the first word, and the decimals
+abbrev pub convert_in : List (List ℕ) → Option Named
+convert_in words =
+    option_and_then (λ from. option_and_then (λ to. option_map (λ decimals. Convert from to decimals) (decimals_behind 3 words)) (mesh_name_of (word_at words 2))) (mesh_name_of (word_at words 1))
+
+-- `track MESH STEPS PREFIX` or `convert FROM TO`, or one of these and `--decimals N`
 abbrev pub named_in : List (List ℕ) → Option Named
 named_in words =
-    if is_track words
-    then (if length words == 4 then Some (track_with words 0)
-    else (if length words == 6 && has_decimals words then Some (track_with words (slice_index (word_at words 5) 0 - 48)) else None))
+    if bytes_eq (word_at words 0) (codes "track") then track_in words
+    else if bytes_eq (word_at words 0) (codes "convert") then convert_in words
     else None

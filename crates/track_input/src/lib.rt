@@ -5,9 +5,11 @@
 mod command;
 mod fault;
 mod fetching;
+mod mesh_file;
 mod reading;
 
 pub use command::{Command, command_of};
 pub use fault::InputFault;
 pub use fetching::{Fetched, fetch_file};
+pub use mesh_file::{Format, MeshFile};
 pub use reading::{Ready, prepare};

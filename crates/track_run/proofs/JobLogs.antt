@@ -58,7 +58,7 @@ keeps_meeting : (m : Mesh) (steps : List Placed) (o : Option PairName) → met_f
 keeps_meeting m steps (Some pair) e sound closed = (tt, tt)
 keeps_meeting m steps None e sound closed =
     let good : IsValidSurface m = record { sound = sound; closed = closed; clear = (clear_exactly m None sound (sym e)).0 refl } in
-    (saved_well m good, keeps_told steps (start m) (kept_start m good))
+    (saved_well (at_mesh m) good, keeps_told steps (start m) (kept_start m good))
 
 keeps_steps : (lists : Lists) (r : Result (List Placed) TextFault) → IsSound (mesh_of_lists lists) → IsClosed (mesh_of_lists lists) → LogIsSafe (at_mesh (mesh_of_lists lists)) (log_of_steps lists r).lines
 keeps_steps lists (Ok steps) sound closed = keeps_meeting (mesh_of_lists lists) steps (met_first (mesh_of_lists lists)) refl sound closed

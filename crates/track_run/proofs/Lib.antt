@@ -1,4 +1,5 @@
 mod JobLogs
 mod CauseLemmas
 mod Agreeing
+mod ReadBack
 mod TopLemmas

@@ -1,5 +1,5 @@
 -- The whole of a run from its parts.
-use Rattle.std.proofs.Common.{◌≡◌, ℕ, ◌+◌, ◌<◌, ◌≤◌, ◌^◌, List, [], ◌∷◌, refl, ap, sym, ◌∙◌, subst, length, IfOk, OnErr, Result, Ok, Err, inl, inr, Bor}
+use Rattle.std.proofs.Common.{◌≡◌, ℕ, ◌+◌, ◌<◌, ◌≤◌, ◌^◌, List, [], ◌∷◌, refl, ap, sym, ◌∙◌, subst, length, IfOk, OnErr, Result, Ok, Err, inl, inr}
 use Rattle.std.specs.Prelude.{◌⊎◌}
 use Rattle.std.specs.declared.option.Option.{Option}
 use Rattle.std.specs.declared.option.Option.TheVariants.{None, Some}
@@ -20,7 +20,8 @@ use Rattle.outside_io.specs.Desk.{Files}
 use Rattle.outside_io.specs.Sink.{appended, AppendsPart}
 use Rattle.log_write.specs.Written.{Written}
 use Rattle.track_input.specs.declared.command.Command.{Command}
-use Rattle.track_input.specs.declared.command.Command.TheVariants as command
+use Rattle.track_input.specs.Words.{Named}
+use Rattle.track_input.specs.Named.{named_by}
 use Rattle.track_input.specs.declared.reading.Ready.{Ready}
 use Rattle.track_input.specs.declared.reading.Ready.TheVariants as ready
 use Rattle.track_input.specs.Job.{Job, IsJob, Input, input_of, mesh_of_lists}
@@ -44,9 +45,10 @@ use Rattle.track_run.specs.declared.outcome.Outcome.TheVariants as outcome
 use Rattle.track_run.specs.Outcomes.{outcome_of, outcome_at, outcome_from}
 use Rattle.track_run.specs.Job.{log_of, log_of_input, log_of_mesh, log_of_test, met_first, replay_of}
 use Rattle.track_run.specs.Causes.{Cause, IsStopped}
-use Rattle.track_run.specs.Headline.{TracksJob, TracksCommand, LogPromises, IsCaused, FaultsAreCounted}
+use Rattle.track_run.specs.Headline.{TracksJob, TracksCommand, Runs, LogPromises, IsCaused, FaultsAreCounted}
 use Rattle.track_run.proofs.JobLogs.{test_left, input_left, keeps_log}
 use Rattle.track_run.proofs.Agreeing.{agrees_well}
+use Rattle.track_run.proofs.ReadBack.{read_back}
 use Rattle.track_run.proofs.CauseLemmas.{log_cause, cause_ends}
 
 -- ---- the first mesh, and then the directives
@@ -58,9 +60,9 @@ module _ (to : Target) (m : Mesh) (steps : List Placed) (first : State) (new : f
   begin_nothing a stop = short_nothing stop to (at_mesh m) _ a (test_left m steps None)
 
   -- it stops in that line
-  pub begin_part : (a b : Contents) (stop : Stop) → StopsIn stop to (at_mesh first.mesh) (mesh_line first.saved first.mesh ∷ []) a b → StopsShort stop to (at_mesh m) (log_of_mesh m steps).lines a b
+  pub begin_part : (a b : Contents) (stop : Stop) → StopsIn stop to (standing first) (mesh_line first.saved first.mesh ∷ []) a b → StopsShort stop to (at_mesh m) (log_of_mesh m steps).lines a b
   begin_part a b stop stops =
-      let P : State → Type 0 = λ s. StopsIn stop to (at_mesh s.mesh) (mesh_line s.saved s.mesh ∷ []) a b in
+      let P : State → Type 0 = λ s. StopsIn stop to (standing s) (mesh_line s.saved s.mesh ∷ []) a b in
       short_more stop to (at_mesh m) (mesh_line 0 m ∷ []) (log_from steps (start m)).lines a b (log_left steps (start m)) (subst P new stops)
 
   -- where the directives begin
@@ -75,10 +77,10 @@ module _ (to : Target) (m : Mesh) (steps : List Placed) (first : State) (new : f
   follows_first a b c (Err stop) l f = short_then stop to (at_mesh m) (mesh_line 0 m ∷ []) (log_from steps (start m)).lines a b c l f
 
   pub begin_follows : (next : State) (given_steps : List Placed) (a b c : Contents) (r : Result (Option Refusal) Stop) → next ≡ record first { saved = first.saved + 1 } → given_steps ≡ steps
-      → Logs to (at_mesh first.mesh) (mesh_line first.saved first.mesh ∷ []) a b → Follows to (standing next) (log_from given_steps next) b c r → Follows to (at_mesh m) (log_of_mesh m steps) a c r
+      → Logs to (standing first) (mesh_line first.saved first.mesh ∷ []) a b → Follows to (standing next) (log_from given_steps next) b c r → Follows to (at_mesh m) (log_of_mesh m steps) a c r
   begin_follows next given_steps a b c r saved same logs f =
       let P : State → Type 0 = λ s. Follows to (standing s) (log_from steps s) b c r in
-      let Q : State → Type 0 = λ s. Logs to (at_mesh s.mesh) (mesh_line s.saved s.mesh ∷ []) a b in
+      let Q : State → Type 0 = λ s. Logs to (standing s) (mesh_line s.saved s.mesh ∷ []) a b in
       let R : List Placed → Type 0 = λ l. Follows to (standing next) (log_from l next) b c r in
       follows_first a b c r (subst Q new logs) (subst P (saved_first next saved) (subst R same f))
 
@@ -255,13 +257,13 @@ run_ends mesh_name step_name to old new result ended e causes t = record {
     promises = log_promises t.job;
     caused = is_caused t.job to result ended old.holds new.holds e t.follows;
   };
+  read_back = read_back old.holds.files mesh_name step_name to.decimals t.job t.is_job;
   faults = (let P : Outcome → Type 0 = λ o. FaultsAreCounted old new o in subst P (sym e) (faults_counted old new ended causes));
 }
 
--- a command is one of `track`
-pub command_is : (f : Command) → (mesh : Bor (List ℕ)) × (steps : Bor (List ℕ)) × (prefix : Bor (List ℕ)) × (decimals : ℕ) × (f ≡ command.Track mesh steps prefix decimals)
-command_is (command.Track mesh steps prefix decimals) = (mesh, steps, prefix, decimals, refl)
-
--- what follows from what holds
-pub by_this : {A B : Type 0} → A → (A → B) → B
-by_this a f = f a
+-- a run for the words of a command
+pub runs_command : (f g : Command) (named : Option Named) (result : Outcome) (old new : World) → f ≡ g → Some (named_by f) ≡ named → Runs (Some (named_by g)) result old new → Runs named result old new
+runs_command f g named result old new is e runs =
+    let P : Command → Type 0 = λ x. Runs (Some (named_by x)) result old new in
+    let Q : Option Named → Type 0 = λ n. Runs n result old new in
+    subst Q e (subst P (sym is) runs)

@@ -1,12 +1,16 @@
 -- The headline: what a run does.
-use Rattle.std.specs.Prelude.{◌≡◌, ◌≤◌, ◌⊎◌, ℕ, List, Option, Some, None, Result}
+use Rattle.std.specs.Prelude.{◌≡◌, ◌≤◌, ◌⊎◌, ℕ, List, Option, Some, None, Result, Ok}
 use Rattle.step_text.specs.declared.Directive.{Directive}
 use Rattle.step_text.specs.declared.Directive.TheVariants as directive
 use Rattle.log_text.specs.declared.LogLine.{LogLine}
 use Rattle.log_text.specs.declared.Refusal.{Refusal}
+use Rattle.log_text.specs.Lines.{text_of_lines}
+use Rattle.log_text.specs.Reading.{log_of as lines_of_text}
 use Rattle.log_replay.specs.Replay.{after}
 use Rattle.outside_io.specs.Causes.{Rose}
-use Rattle.track_input.specs.Words.{Named, Track}
+use Rattle.track_convert.specs.declared.ConvertFault.{ConvertFault}
+use Rattle.track_convert.specs.Headline.{Converts}
+use Rattle.track_input.specs.Words.{MeshName, Named, Track, Convert}
 use Rattle.track_input.specs.Job.{Job, IsJob}
 use Rattle.track_engine.specs.declared.stop.Stop.{Stop}
 use Rattle.track_engine.specs.State.{State, standing}
@@ -19,7 +23,7 @@ use Rattle.track_run.specs.declared.outcome.Outcome.{Outcome}
 use Rattle.track_run.specs.declared.outcome.Outcome.TheVariants as outcome
 use Rattle.track_run.specs.Job.{log_of, replay_of}
 use Rattle.track_run.specs.Reached.{IsReached, AgreesWithReplay}
-use Rattle.track_run.specs.Outcomes.{outcome_from}
+use Rattle.track_run.specs.Outcomes.{outcome_from, outcome_of_conversion}
 use Rattle.track_run.specs.Causes.{Cause, IsStopped}
 
 -- THE HEADLINE, read from here down, each part explained where it stands. A run of a job writes the job's log and stores the meshes
@@ -37,9 +41,10 @@ pub record DirectivesAreTold : Type 0 where
 -- What the log of a job promises. In every mesh that it saves no edge meets a face that shares no vertex with it, and the mesh is
 -- closed, with the live numbers that its line tells; and its text is read again as that mesh, numbered anew, so that a run takes it as its
 -- own. Every motion and every edit that it tells begins and ends in a mesh that is sound, closed and clear, and is clear on the way: at
--- every fraction, of a pinch above zero, of a collapse below one; a zip has none. Wherever a run of the job stands between two
--- directives, the replay of the log up to there stands too, so the pairs of a step are tested in the mesh that the log tells; and that
--- mesh is sound, closed and clear, with a shift asked of each live vertex.
+-- every fraction, of a pinch above zero, of a collapse below one; a zip has none. None moves a solid vertex. Wherever a run of the job
+-- stands between two directives, the replay of the log up to there stands too, so the pairs of a step are tested in the mesh that the log
+-- tells; and that mesh, and each at which a group that is still open was opened, is sound, closed and clear, with a shift asked of each
+-- live vertex, and none of a solid one.
 pub record LogPromises (job : Job) : Type 0 where
   pub safe : LogIsSafe (replay_of job) (log_of job).lines
   pub told : DirectivesAreTold
@@ -65,18 +70,30 @@ pub record FaultsAreCounted (old new : World) (result : Outcome) : Type 0 where
   pub desk_fault : result ≡ outcome.DeskFault → Rose old.desk_faults new.desk_faults
   pub sink_fault : result ≡ outcome.SinkFault → Rose old.sink_faults new.sink_faults
 
+-- The text of a job's log is read as exactly its lines, so whoever reads the log reads what it promises.
+abbrev pub IsReadBack : Job → Type 0
+IsReadBack job = lines_of_text (text_of_lines (log_of job).lines) ≡ Ok (log_of job).lines
+
 -- the job of a command, which is what the desk held at entry, is tracked
 pub record TracksCommand (mesh_name step_name : List ℕ) (to : Target) (result : Outcome) (old new : World) : Type 0 where
   pub job : Job
   pub is_job : IsJob old.holds.files mesh_name step_name to.decimals job
   pub tracks : Tracks job to result old.holds new.holds
+  pub read_back : IsReadBack job
   pub faults : FaultsAreCounted old new result
+
+-- the mesh of the one file is converted to the other; the parts are explained where `Converts` stands
+pub record ConvertsCommand (from to : MeshName) (decimals : ℕ) (result : Outcome) (old new : World) : Type 0 where
+  pub ended : Result (Option Refusal) ConvertFault
+  pub outcome_is : result ≡ outcome_of_conversion ended
+  pub converts : Converts from to decimals ended old new
 
 -- a run for these words: nothing is done for words that are no command
 abbrev pub Runs : Option Named → Outcome → World → World → Type 0
 Runs None result old new = (result ≡ outcome.Usage) × (new ≡ old)
 Runs (Some (Track mesh steps prefix decimals)) result old new =
     TracksCommand mesh steps (record { prefix = prefix; decimals = decimals }) result old new
+Runs (Some (Convert from to decimals)) result old new = ConvertsCommand from to decimals result old new
 
 -- what a job's run writes and stores, by how it ended
 pub record TracksJob (mesh_name step_name : List ℕ) (to : Target) (old new : Contents) (result : Result (Option Refusal) Stop) : Type 0 where

@@ -2,6 +2,8 @@
 use Rattle.std.specs.Prelude.{Option, Some, None, Result, Ok, Err}
 use Rattle.log_text.specs.declared.Refusal.{Refusal}
 use Rattle.log_text.specs.declared.Refusal.TheVariants as refusal
+use Rattle.track_convert.specs.declared.ConvertFault.{ConvertFault}
+use Rattle.track_convert.specs.declared.ConvertFault.TheVariants as convert
 use Rattle.track_engine.specs.declared.stop.Stop.{Stop}
 use Rattle.track_engine.specs.declared.stop.Stop.TheVariants.{NoMemory, DeskFault, SinkFault}
 use Rattle.track_run.specs.declared.outcome.Outcome.{Outcome}
@@ -28,3 +30,10 @@ outcome_at SinkFault = outcome.SinkFault
 abbrev pub outcome_from : Result (Option Refusal) Stop → Outcome
 outcome_from (Ok ending) = outcome_of ending
 outcome_from (Err stop) = outcome_at stop
+
+-- how a conversion ended: with its whole line, or stopped before its end
+abbrev pub outcome_of_conversion : Result (Option Refusal) ConvertFault → Outcome
+outcome_of_conversion (Ok ending) = outcome_of ending
+outcome_of_conversion (Err convert.NoMemory) = outcome.NoMemory
+outcome_of_conversion (Err convert.DeskFault) = outcome.DeskFault
+outcome_of_conversion (Err convert.SinkFault) = outcome.SinkFault

@@ -1,19 +1,11 @@
-mod all_pairs;
-mod each_its_way;
-mod one_by_one;
-mod passes;
-mod there_and_back;
-
+//! Faults outside in mid-run, and a mesh file that ends anywhere. What a run writes is shown by the cases that the program is run on.
 use crate::{Outcome, run};
-use line_text::{TextFault, TextWhy};
-use mesh_plain::{FaceId, FileWord, PairName, UseWhy, VertexId};
 use outside_io::{MemoryDesk, MemorySink};
 use std::alloc::Global;
 use std::test::Fail;
 
 // A tetrahedron.
-pub(crate) const MESH: &[u8] =
-    b"v 0 0 0\nv 4 0 0\nv 0 4 0\nv 0 0 4\nf 1 3 2\nf 1 2 4\nf 2 3 4\nf 1 4 3\n";
+const MESH: &[u8] = b"v 0 0 0\nv 4 0 0\nv 0 4 0\nv 0 0 4\nf 1 3 2\nf 1 2 4\nf 2 3 4\nf 1 4 3\n";
 
 // It is moved as a whole by one step, and saved.
 const STEPS: &[u8] = b"shift all 1 2 3\nstep\nsave\n";
@@ -22,7 +14,7 @@ const MOVED: &[u8] = b"v 1 2 3\nv 5 2 3\nv 1 6 3\nv 1 2 7\nf 1 3 2\nf 1 2 4\nf 2
 
 // The lines of its log.
 const LINES: [&[u8]; 10] = [
-    b"topo log 1\n",
+    b"topo log 2\n",
     b"mesh 0 4 4\n",
     b"step 1\n",
     b"move 1 1 2 3\n",
@@ -44,7 +36,7 @@ fn first_lines(alloc: Global, count: usize) -> Result<Vec<u8>, Fail> {
     Ok(text)
 }
 
-pub(crate) fn words_of(alloc: Global, words: &[&str]) -> Result<Vec<String>, Fail> {
+fn words_of(alloc: Global, words: &[&str]) -> Result<Vec<String>, Fail> {
     let mut all = Vec::new(alloc);
     for word in words {
         all.push(String::from_str(alloc, word)?)?;
@@ -52,23 +44,19 @@ pub(crate) fn words_of(alloc: Global, words: &[&str]) -> Result<Vec<String>, Fai
     Ok(all)
 }
 
-pub(crate) fn desk_of(alloc: Global, mesh: &[u8], steps: &[u8]) -> Result<MemoryDesk, Fail> {
+fn desk_of(alloc: Global, mesh: &[u8], steps: &[u8]) -> Result<MemoryDesk, Fail> {
     let mut desk = MemoryDesk::new(alloc, Vec::new(alloc), Vec::new(alloc));
     desk.put("mesh.obj", mesh)?;
     desk.put("steps.txt", steps)?;
     Ok(desk)
 }
 
-pub(crate) fn sink_of(alloc: Global) -> Result<MemorySink, Fail> {
+fn sink_of(alloc: Global) -> Result<MemorySink, Fail> {
     Ok(MemorySink::new(alloc, 10_000, Vec::new(alloc))?)
 }
 
 // The run of the two files.
-pub(crate) fn track(
-    desk: &mut MemoryDesk,
-    out: &mut MemorySink,
-    alloc: Global,
-) -> Result<Outcome, Fail> {
+fn track(desk: &mut MemoryDesk, out: &mut MemorySink, alloc: Global) -> Result<Outcome, Fail> {
     let words = words_of(alloc, &["track", "mesh.obj", "steps.txt", "t"])?;
     Ok(run(alloc, &words, desk, out))
 }
@@ -82,131 +70,6 @@ fn a_whole_mesh_is_moved_by_one_step(rt: HostRuntime) -> Result<(), Fail> {
     assert_eq!(rt; out.bytes(), first_lines(alloc, 10)?.as_slice());
     assert_eq!(rt; desk.file("t-000000.obj"), Some(MESH));
     assert_eq!(rt; desk.file("t-000001.obj"), Some(MOVED));
-    Ok(())
-}
-
-// Two tetrahedra of which one stands with a corner in the other.
-const CROSSING: &[u8] =
-    b"v 0 0 0\nv 4 0 0\nv 0 4 0\nv 0 0 4\nv 1 1 1\nv 5 1 1\nv 1 5 1\nv 1 1 5\nf 1 3 2\nf 1 2 4\nf 2 3 4\nf 1 4 3\nf 5 7 6\nf 5 6 8\nf 6 7 8\nf 5 8 7\n";
-
-#[test]
-fn a_job_is_told_as_far_as_it_goes(rt: HostRuntime) -> Result<(), Fail> {
-    let alloc = rt.alloc();
-    let use_at = |line: u32, why: UseWhy| Outcome::StepUse { line, why };
-    let steps_at = |line: u32, why: TextWhy| Outcome::StepText(TextFault { line, why });
-    let cases: [(&[u8], &[u8], Outcome, &[u8]); 8] = [
-        // Empty texts are a job.
-        (b"", b"", Outcome::Done, b"topo log 1\nmesh 0 0 0\nend\n"),
-        // Directives are refused at their line.
-        (
-            MESH,
-            b"shift all 67108860 0 0\nstep\nshift all 1 0 0\nstep\n",
-            use_at(4, UseWhy::Box { v: 2 }),
-            b"topo log 1\nmesh 0 4 4\nstep 1\nmove 1 67108860 0 0\nmove 2 67108860 0 0\nmove 3 67108860 0 0\nmove 4 67108860 0 0\nmoved whole\nrefused use 4 box 2\n",
-        ),
-        (
-            MESH,
-            b"shift all 134217728 0 0\nshift all 1 0 0\nstep",
-            use_at(2, UseWhy::ShiftRange { v: 1 }),
-            b"topo log 1\nmesh 0 4 4\nrefused use 2 range 1\n",
-        ),
-        (
-            MESH,
-            b"shift 9 1 0 0\n",
-            use_at(1, UseWhy::NoVertex { v: 9 }),
-            b"topo log 1\nmesh 0 4 4\nrefused use 1 vertex 9\n",
-        ),
-        (
-            MESH,
-            b"shift 2 134217728 0 0\nshift 2 1 0 0\n",
-            use_at(2, UseWhy::ShiftRange { v: 2 }),
-            b"topo log 1\nmesh 0 4 4\nrefused use 2 range 2\n",
-        ),
-        // A bad line of the steps is told before anything is done.
-        (
-            MESH,
-            b"shift all 1 2 3\nstep\njump\n",
-            steps_at(3, TextWhy::Unknown),
-            b"topo log 1\nrefused steps 3 unknown\n",
-        ),
-        (
-            MESH,
-            b"shift all 1 2 3\nstep\nshift al",
-            steps_at(3, TextWhy::Short),
-            b"topo log 1\nrefused steps 3 short\n",
-        ),
-        // A mesh that meets itself is refused.
-        (
-            CROSSING,
-            STEPS,
-            Outcome::MeshMeets(PairName {
-                a: VertexId(5),
-                b: VertexId(6),
-                face: FaceId(3),
-            }),
-            b"topo log 1\nrefused meets 5 6 3\n",
-        ),
-    ];
-    for (mesh, steps, outcome, log) in cases {
-        let mut desk = desk_of(alloc, mesh, steps)?;
-        let mut out = sink_of(alloc)?;
-        assert_eq!(rt; track(&mut desk, &mut out, alloc)?, outcome);
-        assert_eq!(rt; out.bytes(), log);
-        assert_eq!(rt; desk.file("t-000001.obj"), None);
-        if mesh.is_empty() {
-            assert_eq!(rt; desk.file("t-000000.obj"), Some(b"".as_slice()));
-        }
-    }
-    Ok(())
-}
-
-#[test]
-fn words_of_no_form_do_nothing(rt: HostRuntime) -> Result<(), Fail> {
-    let alloc = rt.alloc();
-    let all: [&[&str]; 8] = [
-        &[],
-        &["track"],
-        &["track", "mesh.obj", "steps.txt"],
-        &["tracks", "mesh.obj", "steps.txt", "t"],
-        &["track", "mesh.obj", "steps.txt", ""],
-        &["track", "-mesh.obj", "steps.txt", "t"],
-        &["track", "mesh.obj", "steps.txt", "t", "--decimals"],
-        &["track", "mesh.obj", "steps.txt", "t", "--decimals", "7"],
-    ];
-    for words in &all {
-        let mut desk = desk_of(alloc, MESH, STEPS)?;
-        let mut out = sink_of(alloc)?;
-        let words = words_of(alloc, words)?;
-        assert_eq!(rt; run(alloc, &words, &mut desk, &mut out), Outcome::Usage);
-        assert_eq!(rt; out.bytes().len(), 0);
-        assert_eq!(rt; desk.file("t-000000.obj"), None);
-    }
-    Ok(())
-}
-
-#[test]
-fn a_file_that_is_not_there_is_told(rt: HostRuntime) -> Result<(), Fail> {
-    let alloc = rt.alloc();
-    let mut desk = MemoryDesk::new(alloc, Vec::new(alloc), Vec::new(alloc));
-    let mut out = sink_of(alloc)?;
-    let missing = Outcome::Missing {
-        file: FileWord::Mesh,
-    };
-    assert_eq!(rt; track(&mut desk, &mut out, alloc)?, missing);
-    assert_eq!(rt;
-        out.bytes(),
-        b"topo log 1\nrefused missing mesh\n".as_slice()
-    );
-    desk.put("mesh.obj", MESH)?;
-    let mut out = sink_of(alloc)?;
-    let missing = Outcome::Missing {
-        file: FileWord::Steps,
-    };
-    assert_eq!(rt; track(&mut desk, &mut out, alloc)?, missing);
-    assert_eq!(rt;
-        out.bytes(),
-        b"topo log 1\nrefused missing steps\n".as_slice()
-    );
     Ok(())
 }
 

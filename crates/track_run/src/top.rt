@@ -8,7 +8,7 @@ ghost use Rattle.log_replay.specs.Replay.{at_mesh};
 ghost use Rattle.track_engine.specs.Targets.{target_of};
 ghost use Rattle.track_engine.specs.World.{contents, world, HasCauses, Follows};
 ghost use Rattle.track_run.specs.Job.{log_of_mesh, log_of_test, met_first};
-ghost use Rattle.track_run.specs.Outcomes.{outcome_of, outcome_from};
+ghost use Rattle.track_run.specs.Outcomes.{outcome_of, outcome_from, outcome_of_conversion};
 ghost use Rattle.track_run.specs.Headline.{Runs, TracksJob};
 
 use crate::outcome::Outcome;
@@ -18,6 +18,7 @@ use outside_io::{Desk, Sink};
 use pair_scan::first_meeting;
 use std::alloc::Global;
 use step_text::Directives;
+use track_convert::{ConvertFault, convert};
 use track_engine::{Engine, Stop, Target, finish, say};
 use track_input::{Command, InputFault, Ready, command_of, prepare};
 
@@ -46,6 +47,18 @@ fn outcome_from(ended: Result<Option<Refusal>, Stop>) -> Outcome
         Err(Stop::NoMemory) => Outcome::NoMemory,
         Err(Stop::DeskFault) => Outcome::DeskFault,
         Err(Stop::SinkFault) => Outcome::SinkFault,
+    }
+}
+
+// The outcome of a conversion that ended so.
+fn outcome_of_conversion(ended: Result<Option<Refusal>, ConvertFault>) -> Outcome
+    ensures { result ≡ outcome_of_conversion ended }
+{
+    match ended {
+        Ok(told) => outcome_of(told),
+        Err(ConvertFault::NoMemory) => Outcome::NoMemory,
+        Err(ConvertFault::DeskFault) => Outcome::DeskFault,
+        Err(ConvertFault::SinkFault) => Outcome::SinkFault,
     }
 }
 
@@ -127,9 +140,10 @@ fn track<D: Desk, K: Sink>(
     }
 }
 
-/// Tracks a mesh as the words say: `track MESH STEPS PREFIX`, or the same and `--decimals N` with one digit N from 0 to 6.
-/// The mesh and the steps are fetched from the desk and read, the log is written to the sink, a line at a time, and meshes are
-/// stored under the prefix, a dash, a number of at least six digits, and `.obj`. Answers Usage for all other words.
+/// Tracks or converts a mesh as the words say: `track MESH STEPS PREFIX` or `convert FROM TO`, or one of these and `--decimals N` with
+/// one digit N from 0 to 6. To track it, the mesh and the steps are fetched from the desk and read, the log is written to the sink, a
+/// line at a time, and meshes are stored under the prefix, a dash, a number of at least six digits, and `.obj`. To convert it, the mesh
+/// of the one file is stored in the other, each in the format of its ending, and one line is written. Answers Usage for all other words.
 ///
 /// The tracker is that of Brochu and Bridson, "Robust topological operations for dynamic explicit surfaces" (2009).
 pub fn run<D: Desk, K: Sink>(alloc: Global, words: &[String], desk: &mut D, out: &mut K) -> Outcome
@@ -150,6 +164,10 @@ pub fn run<D: Desk, K: Sink>(alloc: Global, words: &[String], desk: &mut D, out:
             let to = Target { prefix, decimals };
             let ended = track(alloc, mesh, steps, to, desk, out);
             outcome_from(ended)
+        }
+        Some(Command::Convert { from, to, decimals }) => {
+            let ended = convert(alloc, from, to, decimals, desk, out);
+            outcome_of_conversion(ended)
         }
     }
 }

@@ -1,4 +1,4 @@
-use Rattle.std.proofs.Common.{◌≡◌, ◌∙◌}
+use Rattle.std.proofs.Common.{◌∙◌}
 use Rattle.grid_decided.specs.Decided.{meets_exactly, meets_exactly-is_exact}
 use Rattle.edit_base.specs.declared.asked.Asked.{Asked}
 use Rattle.edit_base.proofs.Left.{motion_was_clear}
@@ -17,7 +17,7 @@ use Rattle.edit_flip.proofs.FlipDone.{flip_always_makes}
 use Rattle.edit_collapse.proofs.CollapseDone.{collapse_always_makes}
 use Rattle.edit_zip.proofs.ZipDone.{zip_always_makes}
 use Rattle.edit_pinch.proofs.PinchDone.{pinch_always_makes}
-use Rattle.edit_dispatch.specs.Dispatch.{answer_to, edited, scaffold_of}
+use Rattle.edit_dispatch.specs.Dispatch.{edited, scaffold_of}
 use Rattle.edit_dispatch.proofs.Asked.{split_makes, flip_makes, collapse_makes, zip_makes, pinch_makes, asked_moves_clear}
 use Rattle.edit_dispatch.proofs.Left.{left_alike}
 use Rattle.edit_dispatch.proofs.editing.edit.Goals as goal

@@ -7,8 +7,15 @@ use Rattle.edit_base.specs.Laws.{Answer}
 use Rattle.edit_pinch.specs.Done.{pinch_result, pinch_tested_on}
 use Rattle.edit_base.proofs.Left.{left_is_closed, left_is_clear, motion_was_clear}
 use Rattle.edit_pinch.proofs.PinchDone.{pinched_live, pinch_stays_closed, pinch_stays_clear, pinch_motion_is_clear}
-use Rattle.edit_pinch.proofs.Answered.{two_or_more, full_is_refused, later_are}
+use Rattle.edit_pinch.proofs.Answered.{two_or_more, solid_is_refused, full_is_refused, later_are}
 use Rattle.edit_pinch.proofs.pinching.pinch.Goals as goal
+
+pub returns-then-solid-clause-answer : goal.returns-then-solid-clause-answer
+returns-then-solid-clause-answer g c =
+    let m = g.S.Surface.mesh c.args.mesh.now in
+    let v = c.args.v in
+    let two = two_or_more m v c.in_ok-parts.parts c.len.result c.in_ok-parts.ensures c.len.ensures c.if-len-lt2.false in
+    solid_is_refused m v c.args.depth two (sym c.solid.ensures ∙ c.if-solid.true)
 
 pub returns-then-is_over-clause-answer : goal.returns-then-is_over-clause-answer
 returns-then-is_over-clause-answer g c =
@@ -17,7 +24,7 @@ returns-then-is_over-clause-answer g c =
     let sound = g.met.S.Surface.sound c.args.mesh.now in
     let two = two_or_more m v c.in_ok-parts.parts c.len.result c.in_ok-parts.ensures c.len.ensures c.if-len-lt2.false in
     let later = later_are c.as_slice.result.now ∙ ap (drop 1) (c.as_slice.ensures ∙ c.in_ok-parts.ensures) in
-    full_is_refused m v c.args.depth two (sym (c.is_over.ensures v c.requires.closed (pinched_live m v sound two) later) ∙ c.if-is_over.true)
+    full_is_refused m v c.args.depth two (sym c.solid.ensures ∙ c.if-solid.false) (sym (c.is_over.ensures v c.requires.closed (pinched_live m v sound two) later) ∙ c.if-is_over.true)
 
 pub pinch_or_leave-requires-clause-tried : goal.pinch_or_leave-requires-clause-tried
 pinch_or_leave-requires-clause-tried g c =
@@ -26,7 +33,7 @@ pinch_or_leave-requires-clause-tried g c =
     let sound = g.met.S.Surface.sound c.args.mesh.now in
     let two = two_or_more m v c.in_ok-parts.parts c.len.result c.in_ok-parts.ensures c.len.ensures c.if-len-lt2.false in
     let later = later_are c.as_slice.result.now ∙ ap (drop 1) (c.as_slice.ensures ∙ c.in_ok-parts.ensures) in
-    record { two_fans = two; fits = sym (c.is_over.ensures v c.requires.closed (pinched_live m v sound two) later) ∙ c.if-is_over.false }
+    record { two_fans = two; may_move = sym c.solid.ensures ∙ c.if-solid.false; fits = sym (c.is_over.ensures v c.requires.closed (pinched_live m v sound two) later) ∙ c.if-is_over.false }
 
 pub returns-clause-closed : goal.returns-clause-closed
 returns-clause-closed g c =

@@ -12,14 +12,14 @@ use Rattle.edit_pinch.proofs.Room.{pinched_in_turn}
 use Rattle.edit_pinch.proofs.Scaffolded.{as_many, stands_doubled, moves_fit, is_scaffold, may_be_checked}
 use Rattle.edit_pinch.proofs.pinching.put_and_check.Goals as goal
 
-pub put_pinch-requires-clause-live : goal.put_pinch-requires-clause-live
-put_pinch-requires-clause-live g c = pinched_live (g.S.Surface.mesh c.args.mesh.now) c.args.v (g.met.S.Surface.sound c.args.mesh.now) c.requires.tried.two_fans
+pub apply_pinch-requires-clause-live : goal.apply_pinch-requires-clause-live
+apply_pinch-requires-clause-live g c = pinched_live (g.S.Surface.mesh c.args.mesh.now) c.args.v (g.met.S.Surface.sound c.args.mesh.now) c.requires.tried.two_fans
 
-pub put_pinch-requires-clause-same : goal.put_pinch-requires-clause-same
-put_pinch-requires-clause-same g c = as_many (g.S.Surface.mesh c.args.mesh.now) c.args.v c.args.others.now c.args.at c.args.copies.now c.requires.others c.requires.point c.requires.copies
+pub apply_pinch-requires-clause-same : goal.apply_pinch-requires-clause-same
+apply_pinch-requires-clause-same g c = as_many (g.S.Surface.mesh c.args.mesh.now) c.args.v c.args.others.now c.args.at c.args.copies.now c.requires.others c.requires.point c.requires.copies
 
-pub put_pinch-requires-clause-turns : goal.put_pinch-requires-clause-turns
-put_pinch-requires-clause-turns g c =
+pub apply_pinch-requires-clause-turns : goal.apply_pinch-requires-clause-turns
+apply_pinch-requires-clause-turns g c =
     let m = g.S.Surface.mesh c.args.mesh.now in
     let v = c.args.v in
     let sound = g.met.S.Surface.sound c.args.mesh.now in
@@ -36,7 +36,7 @@ check-requires-clause-clear g c =
     let m = g.S.Surface.mesh c.args.mesh.now in
     let here = stands_doubled m c.args.v c.doubled-here.result c.point_of.result c.doubled-here.ensures.value c.point_of.ensures in
     may_be_checked m c.args.v c.args.others.now c.args.at c.args.copies.now c.requires.others c.requires.point c.requires.copies c.doubled-here.result here
-    (g.S.Surface.mesh c.put_pinch.new.mesh) c.as_slice.result.now c.as_slice-2.result.now c.in_ok-put_pinch.ensures.made (c.as_slice.ensures ∙ c.in_ok-moves.ensures) (c.as_slice-2.ensures ∙ c.in_ok-together.ensures)
+    (g.S.Surface.mesh c.apply_pinch.new.mesh) c.as_slice.result.now c.as_slice-2.result.now c.in_ok-apply_pinch.ensures.made (c.as_slice.ensures ∙ c.in_ok-moves.ensures) (c.as_slice-2.ensures ∙ c.in_ok-together.ensures)
     (g.met.S.Surface.sound c.args.mesh.now) c.requires.clear c.next_face-fresh_from.result c.next_face-fresh_from.ensures
 
 pub returns-clause-first : goal.returns-clause-first
@@ -45,5 +45,5 @@ returns-clause-first g c =
     let here = stands_doubled m c.args.v c.doubled-here.result c.point_of.result c.doubled-here.ensures.value c.point_of.ensures in
     subst (λ (s : Scaffold). IfOk c.check.result (λ found. found ≡ first_failing meets_exactly s c.args.depth))
     (is_scaffold m c.args.v c.args.others.now c.args.at c.args.copies.now c.requires.others c.requires.point c.requires.copies c.doubled-here.result here
-    (g.S.Surface.mesh c.put_pinch.new.mesh) c.as_slice.result.now c.as_slice-2.result.now c.in_ok-put_pinch.ensures.made (c.as_slice.ensures ∙ c.in_ok-moves.ensures) (c.as_slice-2.ensures ∙ c.in_ok-together.ensures))
+    (g.S.Surface.mesh c.apply_pinch.new.mesh) c.as_slice.result.now c.as_slice-2.result.now c.in_ok-apply_pinch.ensures.made (c.as_slice.ensures ∙ c.in_ok-moves.ensures) (c.as_slice-2.ensures ∙ c.in_ok-together.ensures))
     c.check.ensures.first

@@ -6,54 +6,54 @@ use Rattle.mesh_base.specs.Limits.{is_over_limits}
 use Rattle.edit_base.specs.Edges.{Edge, corners_from, without_faces, AreFresh}
 use Rattle.edit_split.specs.Split.{split_mesh}
 use Rattle.edit_base.specs.Required.{HasEdge, HasRoomFor}
-use Rattle.edit_split.proofs.PutSplit.{forth_is_live, back_is_live, vertex_has_room, faces_are_fresh, faces_have_room}
+use Rattle.edit_split.proofs.PutSplit.{left_is_live, right_is_live, vertex_has_room, faces_are_fresh, faces_have_room}
 use Rattle.edit_split.proofs.acts.apply_split.Goals as goal
 
 pub drop_face-requires : goal.drop_face-requires
 drop_face-requires g c =
     let m = g.S.Surface.mesh c.args.mesh.now in
-    let s : Edge = record { a = c.e.inside.a; b = c.e.inside.b; c = c.e.inside.c; d = c.e.inside.d; forth = c.e.inside.forth; back = c.e.inside.back } in
+    let s : Edge = record { a = c.e.inside.a; b = c.e.inside.b; c = c.e.inside.c; d = c.e.inside.d; left_face = c.e.inside.left_face; right_face = c.e.inside.right_face } in
     let edge : HasEdge m s = subst (HasEdge m) (sym c.e.view_is) c.requires.edge in
     let fits : is_over_limits (split_mesh m s c.args.at) ≡ false = subst (λ (e : Edge). is_over_limits (split_mesh m e c.args.at) ≡ false) (sym c.e.view_is) c.requires.fits in
-    forth_is_live m s c.args.at (g.met.S.Surface.sound c.args.mesh.now) c.requires.closed edge fits
+    left_is_live m s c.args.at (g.met.S.Surface.sound c.args.mesh.now) c.requires.closed edge fits
 
 pub drop_face-requires-2 : goal.drop_face-requires-2
 drop_face-requires-2 g c =
     let m = g.S.Surface.mesh c.args.mesh.now in
-    let s : Edge = record { a = c.e.inside.a; b = c.e.inside.b; c = c.e.inside.c; d = c.e.inside.d; forth = c.e.inside.forth; back = c.e.inside.back } in
+    let s : Edge = record { a = c.e.inside.a; b = c.e.inside.b; c = c.e.inside.c; d = c.e.inside.d; left_face = c.e.inside.left_face; right_face = c.e.inside.right_face } in
     let edge : HasEdge m s = subst (HasEdge m) (sym c.e.view_is) c.requires.edge in
     let fits : is_over_limits (split_mesh m s c.args.at) ≡ false = subst (λ (e : Edge). is_over_limits (split_mesh m e c.args.at) ≡ false) (sym c.e.view_is) c.requires.fits in
-    subst (λ n. IsLiveFace n s.back) (sym c.in_ok-drop_face.ensures.ok) (back_is_live m s c.args.at (g.met.S.Surface.sound c.args.mesh.now) c.requires.closed edge fits)
+    subst (λ n. IsLiveFace n s.right_face) (sym c.in_ok-drop_face.ensures.ok) (right_is_live m s c.args.at (g.met.S.Surface.sound c.args.mesh.now) c.requires.closed edge fits)
 
 pub make_vertex-requires : goal.make_vertex-requires
 make_vertex-requires g c =
     let m = g.S.Surface.mesh c.args.mesh.now in
-    let s : Edge = record { a = c.e.inside.a; b = c.e.inside.b; c = c.e.inside.c; d = c.e.inside.d; forth = c.e.inside.forth; back = c.e.inside.back } in
+    let s : Edge = record { a = c.e.inside.a; b = c.e.inside.b; c = c.e.inside.c; d = c.e.inside.d; left_face = c.e.inside.left_face; right_face = c.e.inside.right_face } in
     let edge : HasEdge m s = subst (HasEdge m) (sym c.e.view_is) c.requires.edge in
     let fits : is_over_limits (split_mesh m s c.args.at) ≡ false = subst (λ (e : Edge). is_over_limits (split_mesh m e c.args.at) ≡ false) (sym c.e.view_is) c.requires.fits in
-    let bare = c.in_ok-drop_face-2.ensures.ok ∙ ap (λ n. without_face n s.back) c.in_ok-drop_face.ensures.ok in
+    let bare = c.in_ok-drop_face-2.ensures.ok ∙ ap (λ n. without_face n s.right_face) c.in_ok-drop_face.ensures.ok in
     subst (λ n. ¬ IsFullOfVertices n) (sym bare) (vertex_has_room m s c.args.at (g.met.S.Surface.sound c.args.mesh.now) c.requires.closed edge fits)
 
 pub make_faces-requires-clause-fresh : goal.make_faces-requires-clause-fresh
 make_faces-requires-clause-fresh g c =
     let m = g.S.Surface.mesh c.args.mesh.now in
-    let s : Edge = record { a = c.e.inside.a; b = c.e.inside.b; c = c.e.inside.c; d = c.e.inside.d; forth = c.e.inside.forth; back = c.e.inside.back } in
+    let s : Edge = record { a = c.e.inside.a; b = c.e.inside.b; c = c.e.inside.c; d = c.e.inside.d; left_face = c.e.inside.left_face; right_face = c.e.inside.right_face } in
     let edge : HasEdge m s = subst (HasEdge m) (sym c.e.view_is) c.requires.edge in
     let fits : is_over_limits (split_mesh m s c.args.at) ≡ false = subst (λ (e : Edge). is_over_limits (split_mesh m e c.args.at) ≡ false) (sym c.e.view_is) c.requires.fits in
-    let bare = c.in_ok-drop_face-2.ensures.ok ∙ ap (λ n. without_face n s.back) c.in_ok-drop_face.ensures.ok in
+    let bare = c.in_ok-drop_face-2.ensures.ok ∙ ap (λ n. without_face n s.right_face) c.in_ok-drop_face.ensures.ok in
     let base = c.in_ok-w.ensures.made ∙ ap (λ n. with_vertex n c.args.at) bare in
     let new : c.in_ok-w.w ≡ m.next_vertex = c.in_ok-w.ensures.id ∙ ap (λ (n : Mesh). n.next_vertex) bare in
     let four : ℕ → List Corners = λ w. corners_from s.a w s.c ∷ corners_from w s.b s.c ∷ corners_from s.b w s.d ∷ corners_from w s.a s.d ∷ [] in
     let fresh = faces_are_fresh m s c.args.at (g.met.S.Surface.sound c.args.mesh.now) c.requires.closed edge fits in
     subst (λ n. AreFresh n (four c.in_ok-w.w)) (sym base)
-    (subst (λ w. AreFresh (with_vertex (without_faces m (s.forth ∷ s.back ∷ [])) c.args.at) (four w)) (sym new) fresh)
+    (subst (λ w. AreFresh (with_vertex (without_faces m (s.left_face ∷ s.right_face ∷ [])) c.args.at) (four w)) (sym new) fresh)
 
 pub make_faces-requires-clause-room : goal.make_faces-requires-clause-room
 make_faces-requires-clause-room g c =
     let m = g.S.Surface.mesh c.args.mesh.now in
-    let s : Edge = record { a = c.e.inside.a; b = c.e.inside.b; c = c.e.inside.c; d = c.e.inside.d; forth = c.e.inside.forth; back = c.e.inside.back } in
+    let s : Edge = record { a = c.e.inside.a; b = c.e.inside.b; c = c.e.inside.c; d = c.e.inside.d; left_face = c.e.inside.left_face; right_face = c.e.inside.right_face } in
     let edge : HasEdge m s = subst (HasEdge m) (sym c.e.view_is) c.requires.edge in
     let fits : is_over_limits (split_mesh m s c.args.at) ≡ false = subst (λ (e : Edge). is_over_limits (split_mesh m e c.args.at) ≡ false) (sym c.e.view_is) c.requires.fits in
-    let bare = c.in_ok-drop_face-2.ensures.ok ∙ ap (λ n. without_face n s.back) c.in_ok-drop_face.ensures.ok in
+    let bare = c.in_ok-drop_face-2.ensures.ok ∙ ap (λ n. without_face n s.right_face) c.in_ok-drop_face.ensures.ok in
     let base = c.in_ok-w.ensures.made ∙ ap (λ n. with_vertex n c.args.at) bare in
     subst (HasRoomFor 4) (sym base) (faces_have_room m s c.args.at (g.met.S.Surface.sound c.args.mesh.now) c.requires.closed edge fits)

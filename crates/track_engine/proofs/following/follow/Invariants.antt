@@ -2,7 +2,7 @@ use Rattle.std.proofs.Common.{◌≤◌, ◌+◌, drop}
 use Rattle.step_text.specs.Ranges.{AreInRange}
 use Rattle.step_choose.specs.Settings.{AreWithinLimits}
 use Rattle.track_engine.specs.State.{state_of}
-use Rattle.track_engine.specs.Invariant.{IsRunInvariant}
+use Rattle.track_engine.specs.Invariant.{IsRunInvariant, MarksHold}
 use Rattle.track_engine.specs.Effects.{log_from}
 use Rattle.track_engine.specs.Targets.{target_of}
 use Rattle.track_engine.specs.World.{contents}
@@ -14,10 +14,12 @@ invariant-loop-placed g l =
     let desk = g.D.Desk in
     let sink = g.K.Sink in
     let mesh = g.S.Surface.mesh in
+    let kept = g.S.Surface.kept in
     record {
-      so_far : SoFar (target_of l.to) (log_from l.steps (state_of (mesh l.fn.mesh) l.fn.run)) (log_from (drop l.placed-index l.steps) (state_of (mesh l.mesh) l.run)) (state_of (mesh l.fn.mesh) l.fn.run) (state_of (mesh l.mesh) l.run)
+      so_far : SoFar (target_of l.to) (log_from l.steps (state_of (mesh l.fn.mesh) (kept l.fn.mesh) l.fn.run)) (log_from (drop l.placed-index l.steps) (state_of (mesh l.mesh) (kept l.mesh) l.run)) (state_of (mesh l.fn.mesh) (kept l.fn.mesh) l.fn.run) (state_of (mesh l.mesh) (kept l.mesh) l.run)
           (contents desk.files sink.written l.fn.desk l.fn.out) (contents desk.files sink.written l.desk l.out);
-      kept : IsRunInvariant (state_of (mesh l.mesh) l.run);
+      invariant : IsRunInvariant (state_of (mesh l.mesh) (kept l.mesh) l.run);
+      marks : MarksHold g.S.Surface.beyond (kept l.mesh) l.run.groups;
       limits : AreWithinLimits l.run.set;
       ranges : AreInRange (drop l.placed-index l.steps);
       steps : l.run.steps ≤ l.fn.run.steps + l.placed-index;

@@ -1,0 +1,91 @@
+#!/usr/bin/env python3
+"""Runs the program on the worked cases of the folder `worked`, and compares its status, its log and the files that it stores.
+
+    checks/worked_cases.py [PROGRAM] [NAME ..]
+
+Each call of the program is proved to answer exactly what its definition says, so a case that comes out right shows what the definitions
+say of it: the cases were worked by hand from the rules, or are those of a program that was written apart from this one (`random_..`).
+A case is a text: a line `# what it shows`, a line `words: ..`, and then sections, each with a line `== ..` at its head: `input NAME`,
+`status N`, `log` and `stored NAME`. An input whose last line has no end says so.
+"""
+
+import os
+import re
+import subprocess
+import sys
+import tempfile
+
+ROOT = os.path.dirname(os.path.dirname(os.path.abspath(__file__)))
+FOLDER = os.path.join(ROOT, "worked")
+
+
+class Case:
+    def __init__(self, text):
+        head, *sections = re.split(r"(?m)^== ", text)
+        self.words = re.search(r"(?m)^words: (.*)$", head).group(1).split()
+        self.inputs, self.stored, self.status, self.log = {}, {}, None, None
+        for section in sections:
+            title, _, body = section.partition("\n")
+            kind, _, name = title.partition(" ")
+            if kind == "input":
+                whole = not name.endswith(" (no end)")
+                self.inputs[name.removesuffix(" (no end)")] = body if whole else body[:-1]
+            elif kind == "stored":
+                self.stored[name] = body
+            elif kind == "status":
+                self.status = int(name)
+            else:
+                self.log = body
+
+
+def text_of(path):
+    with open(path, encoding="utf-8", newline="") as it:
+        return it.read()
+
+
+def first_difference(what, wanted, got):
+    for number, (a, b) in enumerate(zip(wanted.split("\n"), got.split("\n")), 1):
+        if a != b:
+            return f"{what}, line {number}: {a!r} is right, and {b!r} came"
+    return f"{what}: {len(wanted)} bytes are right, and {len(got)} came"
+
+
+def fault_of(program, case):
+    """What is wrong with the program's run of a case, or nothing."""
+    with tempfile.TemporaryDirectory() as folder:
+        for name, text in case.inputs.items():
+            with open(os.path.join(folder, name), "w", encoding="utf-8", newline="") as it:
+                it.write(text)
+        ran = subprocess.run([program, *case.words], cwd=folder, stdout=subprocess.PIPE, stderr=subprocess.PIPE, timeout=60)
+        made = {name: text_of(os.path.join(folder, name)) for name in os.listdir(folder)}
+    if ran.returncode != case.status:
+        return f"status {case.status} is right, and {ran.returncode} came"
+    if ran.stdout.decode() != case.log:
+        return first_difference("log", case.log, ran.stdout.decode())
+    wanted = {**case.inputs, **case.stored}
+    if sorted(made) != sorted(wanted):
+        return f"the files {sorted(wanted)} are right, and {sorted(made)} are there"
+    for name, text in wanted.items():
+        if made[name] != text:
+            return first_difference(name, text, made[name])
+    return None
+
+
+def main():
+    program = os.path.abspath(sys.argv[1]) if len(sys.argv) > 1 else os.path.join(ROOT, "topo")
+    # where the program is to be built first, that takes its time
+    subprocess.run([program, "--version"], check=True, stdout=subprocess.DEVNULL)
+    names = sorted(name.removesuffix(".case") for name in os.listdir(FOLDER) if name.endswith(".case"))
+    names = [name for name in names if name in sys.argv[2:]] if len(sys.argv) > 2 else names
+    failed = 0
+    for name in names:
+        fault = fault_of(program, Case(text_of(os.path.join(FOLDER, name + ".case"))))
+        if fault:
+            failed += 1
+            print(f"FAILED {name}: {fault}")
+    print(f"{len(names) - failed} passed, {failed} failed")
+    sys.exit(1 if failed or not names else 0)
+
+
+if __name__ == "__main__":
+    main()

@@ -1,0 +1,63 @@
+-- The mesh of fans as one vertex is made, changed or dropped.
+use Rattle.std.proofs.Common.{◌≡◌, ℕ, true, false, Some, None, refl, sym, ap, ◌∙◌}
+use Rattle.std.specs.Option.{option_map}
+use Rattle.std.specs.FinMap as finite
+use Rattle.grid_base.specs.declared.Point.{Point}
+use Rattle.mesh_base.specs.Changes.{with_point, with_solid, without_vertex}
+use Rattle.half_mesh.specs.declared.rows.Vertex.{Vertex}
+use Rattle.half_mesh.specs.Fans.{Fan, Fans, Woven, bare}
+use Rattle.half_mesh.specs.Vertices.{vertices_in, points_in, is_marked, solid_in}
+use Rattle.half_mesh.specs.Tied.{Keys, woven_mesh}
+use Rattle.half_mesh.proofs.Mapped.{mapped-remove}
+use Rattle.half_mesh.proofs.Vertices.{points-insert, points-kept, solid-kept, solid-made, solid-remove, vertices-insert, get-vertices}
+
+-- the woven half-edges with another fan
+abbrev pub with_fan : Woven → ℕ → Fan → Woven
+with_fan w k fan = record w { fans = finite.insert w.fans k fan }
+
+vertex_at : (fans : Fans) (k : ℕ) (fan : Fan) → finite.get fans k ≡ Some fan → finite.get (vertices_in fans) k ≡ Some fan.vertex
+vertex_at fans k fan there = get-vertices fans k ∙ ap (option_map (λ (x : Fan). x.vertex)) there
+
+-- a vertex that is not solid is made
+pub mesh-vertex_made : (w : Woven) (keys : Keys) (nv nf k : ℕ) (x : Vertex) → x.solid ≡ false → finite.get w.fans k ≡ None → woven_mesh (with_fan w k (bare x)) keys nv nf ≡ with_point (woven_mesh w keys nv nf) k x.point
+mesh-vertex_made w keys nv nf k x plain none =
+    let vertices = vertices-insert w.fans k (bare x) in
+    let points = ap points_in vertices ∙ points-insert (vertices_in w.fans) k x in
+    let unmarked = ap is_marked (get-vertices w.fans k ∙ ap (option_map (λ (y : Fan). y.vertex)) none) in
+    let solid = ap solid_in vertices ∙ solid-kept (vertices_in w.fans) k x (plain ∙ sym unmarked) in
+    λ i. record (woven_mesh w keys nv nf) { points = points i; solid = solid i }
+
+-- a vertex is moved
+pub mesh-vertex_moved : (w : Woven) (keys : Keys) (nv nf k : ℕ) (fan : Fan) (p : Point) → finite.get w.fans k ≡ Some fan
+    → woven_mesh (with_fan w k (record fan { vertex = record fan.vertex { point = p } })) keys nv nf ≡ with_point (woven_mesh w keys nv nf) k p
+mesh-vertex_moved w keys nv nf k fan p there =
+    let x : Vertex = record fan.vertex { point = p } in
+    let vertices = vertices-insert w.fans k (record fan { vertex = x }) in
+    let points = ap points_in vertices ∙ points-insert (vertices_in w.fans) k x in
+    let solid = ap solid_in vertices ∙ solid-kept (vertices_in w.fans) k x (sym (ap is_marked (vertex_at w.fans k fan there))) in
+    λ i. record (woven_mesh w keys nv nf) { points = points i; solid = solid i }
+
+-- a vertex is made solid
+pub mesh-vertex_solid : (w : Woven) (keys : Keys) (nv nf k : ℕ) (fan : Fan) → finite.get w.fans k ≡ Some fan
+    → woven_mesh (with_fan w k (record fan { vertex = record fan.vertex { solid = true } })) keys nv nf ≡ with_solid (woven_mesh w keys nv nf) k
+mesh-vertex_solid w keys nv nf k fan there =
+    let x : Vertex = record fan.vertex { solid = true } in
+    let vertices = vertices-insert w.fans k (record fan { vertex = x }) in
+    let points = ap points_in vertices ∙ points-kept (vertices_in w.fans) k fan.vertex x (vertex_at w.fans k fan there) refl in
+    let solid = ap solid_in vertices ∙ solid-made (vertices_in w.fans) k x refl in
+    λ i. record (woven_mesh w keys nv nf) { points = points i; solid = solid i }
+
+-- a vertex is dropped
+pub mesh-vertex_gone : (w : Woven) (keys : Keys) (nv nf k : ℕ) → woven_mesh (record w { fans = finite.remove w.fans k }) keys nv nf ≡ without_vertex (woven_mesh w keys nv nf) k
+mesh-vertex_gone w keys nv nf k =
+    let vertices = mapped-remove (λ (x : Fan). x.vertex) w.fans k in
+    let points = ap points_in vertices ∙ mapped-remove (λ (x : Vertex). x.point) (vertices_in w.fans) k in
+    let solid = ap solid_in vertices ∙ solid-remove (vertices_in w.fans) k in
+    λ i. record (woven_mesh w keys nv nf) { points = points i; solid = solid i }
+
+-- the vertex that is found is that of the fan
+pub same_vertex : (fans : Fans) (k : ℕ) (fan : Fan) (x : Vertex) → Some x ≡ option_map (λ (y : Fan). y.vertex) (finite.get fans k) → finite.get fans k ≡ Some fan → x ≡ fan.vertex
+same_vertex fans k fan x found there = let e : Some x ≡ Some fan.vertex = found ∙ ap (option_map (λ (y : Fan). y.vertex)) there in cc
+
+pub dead_vertex : (fans : Fans) (k : ℕ) (fan : Fan) → None ≡ option_map (λ (y : Fan). y.vertex) (finite.get fans k) → finite.get fans k ≡ Some fan → ⊥
+dead_vertex fans k fan found there = let e : None ≡ Some fan.vertex = found ∙ ap (option_map (λ (y : Fan). y.vertex)) there in cc

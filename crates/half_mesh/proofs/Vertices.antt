@@ -1,0 +1,127 @@
+-- Where vertices stand and which are solid, after one change.
+use Rattle.std.proofs.Common.{◌≡◌, ℕ, Bool, true, false, cond, Option, Some, None, is_some, refl, sym, ap, ◌∙◌}
+use Rattle.std.specs.Option.{option_map}
+use Rattle.std.specs.Ordering.{nat_cmp, eq_by_cmp, is_eq}
+use Rattle.std.specs.Cmp.{nat_cmp_total}
+use Rattle.std.specs.FinMap as finite
+use Rattle.std.specs.FinMap.{nat_cmp-IsAntisymmetric, same_map, get-insert, get-remove, get-empty, get-retain_keys}
+use Rattle.half_mesh.specs.declared.rows.Vertex.{Vertex}
+use Rattle.half_mesh.specs.Fans.{Fan, Fans}
+use Rattle.half_mesh.specs.Mapped.{mapped}
+use Rattle.half_mesh.specs.Vertices.{VertexMap, vertices_in, points_in, is_marked, solid_in}
+use Rattle.half_mesh.proofs.Mapped.{get-mapped, mapped-insert, insert_same, keys-mapped, len-mapped, tied}
+
+-- the mark that a vertex gives, if it is there and solid
+mark_of : Option Vertex → Option (Unit {0})
+mark_of None = None
+mark_of (Some x) = cond x.solid (Some tt) None
+
+kept_mark : (o : Option Vertex) → cond (is_marked o) (option_map (λ (x : Vertex). tt) o) None ≡ mark_of o
+unfolding mark_of
+kept_mark None = refl
+kept_mark (Some x) = refl
+
+get-solid : (m : VertexMap) (q : ℕ) → finite.get (solid_in m) q ≡ mark_of (finite.get m q)
+get-solid m q =
+    get-retain_keys (mapped (λ (x : Vertex). tt) m) (λ v. is_marked (finite.get m v)) q (λ x e. ap (λ k. is_marked (finite.get m k)) (sym (tied q x (ap is_eq e))))
+    ∙ ap (λ o. cond (is_marked (finite.get m q)) o None) (get-mapped (λ (x : Vertex). tt) m q)
+    ∙ kept_mark (finite.get m q)
+
+-- a vertex is solid where it is there, and marked
+pub solid-at : (m : VertexMap) (q : ℕ) → is_some (finite.get (solid_in m) q) ≡ is_marked (finite.get m q)
+unfolding mark_of
+solid-at m q = ap is_some (get-solid m q) ∙ seen (finite.get m q)
+  where
+    seen : (o : Option Vertex) → is_some (mark_of o) ≡ is_marked o
+    seen None = refl
+    seen (Some x) = elim x.solid as (λ b. is_some (cond b (Some (tt {0})) None) ≡ b) [ true ↦ refl | false ↦ refl ]
+
+pub solid-empty : solid_in (finite.empty {X = Vertex} {R = nat_cmp}) ≡ finite.empty
+unfolding mark_of
+solid-empty = same_map nat_cmp_total nat_cmp-IsAntisymmetric _ _ (λ q. get-solid finite.empty q ∙ none q)
+  where
+    none : (q : ℕ) → mark_of (finite.get (finite.empty {X = Vertex} {R = nat_cmp}) q) ≡ finite.get (finite.empty {X = Unit {0}} {R = nat_cmp}) q
+    none q = rw (get-empty, get-empty) refl
+
+-- another vertex with the mark of the old one, or a new one that is not solid
+pub solid-kept : (m : VertexMap) (k : ℕ) (x : Vertex) → x.solid ≡ is_marked (finite.get m k) → solid_in (finite.insert m k x) ≡ solid_in m
+unfolding mark_of
+solid-kept m k x same = same_map nat_cmp_total nat_cmp-IsAntisymmetric _ _ (λ q.
+    get-solid (finite.insert m k x) q
+    ∙ ap mark_of (get-insert nat_cmp_total m k x q)
+    ∙ by_key q (eq_by_cmp nat_cmp q k) refl
+    ∙ sym (get-solid m q))
+  where
+    alike : (o : Option Vertex) → x.solid ≡ is_marked o → cond x.solid (Some tt) None ≡ mark_of o
+    alike None e = ap (λ b. cond b (Some tt) None) e
+    alike (Some y) e = ap (λ b. cond b (Some tt) None) e
+
+    by_key : (q : ℕ) (b : Bool) → eq_by_cmp nat_cmp q k ≡ b → mark_of (cond b (Some x) (finite.get m q)) ≡ mark_of (finite.get m q)
+    by_key q true e = alike (finite.get m q) (same ∙ ap (λ j. is_marked (finite.get m j)) (sym (tied q k e)))
+    by_key q false e = refl
+
+pub solid-made : (m : VertexMap) (k : ℕ) (x : Vertex) → x.solid ≡ true → solid_in (finite.insert m k x) ≡ finite.insert (solid_in m) k tt
+unfolding mark_of
+solid-made m k x is = same_map nat_cmp_total nat_cmp-IsAntisymmetric _ _ (λ q.
+    get-solid (finite.insert m k x) q
+    ∙ ap mark_of (get-insert nat_cmp_total m k x q)
+    ∙ by_key q (eq_by_cmp nat_cmp q k)
+    ∙ sym (get-insert nat_cmp_total (solid_in m) k tt q))
+  where
+    by_key : (q : ℕ) (b : Bool) → mark_of (cond b (Some x) (finite.get m q)) ≡ cond b (Some tt) (finite.get (solid_in m) q)
+    by_key q true = ap (λ b. cond b (Some tt) None) is
+    by_key q false = sym (get-solid m q)
+
+pub solid-unmade : (m : VertexMap) (k : ℕ) (x : Vertex) → x.solid ≡ false → solid_in (finite.insert m k x) ≡ finite.remove (solid_in m) k
+unfolding mark_of
+solid-unmade m k x is = same_map nat_cmp_total nat_cmp-IsAntisymmetric _ _ (λ q.
+    get-solid (finite.insert m k x) q
+    ∙ ap mark_of (get-insert nat_cmp_total m k x q)
+    ∙ by_key q (eq_by_cmp nat_cmp q k)
+    ∙ sym (get-remove nat_cmp_total (solid_in m) k q))
+  where
+    by_key : (q : ℕ) (b : Bool) → mark_of (cond b (Some x) (finite.get m q)) ≡ cond b None (finite.get (solid_in m) q)
+    by_key q true = ap (λ b. cond b (Some tt) None) is
+    by_key q false = sym (get-solid m q)
+
+pub solid-remove : (m : VertexMap) (k : ℕ) → solid_in (finite.remove m k) ≡ finite.remove (solid_in m) k
+unfolding mark_of
+solid-remove m k = same_map nat_cmp_total nat_cmp-IsAntisymmetric _ _ (λ q.
+    get-solid (finite.remove m k) q
+    ∙ ap mark_of (get-remove nat_cmp_total m k q)
+    ∙ by_key q (eq_by_cmp nat_cmp q k)
+    ∙ sym (get-remove nat_cmp_total (solid_in m) k q))
+  where
+    by_key : (q : ℕ) (b : Bool) → mark_of (cond b None (finite.get m q)) ≡ cond b None (finite.get (solid_in m) q)
+    by_key q true = refl
+    by_key q false = sym (get-solid m q)
+
+-- ---- points
+pub points-insert : (m : VertexMap) (k : ℕ) (x : Vertex) → points_in (finite.insert m k x) ≡ finite.insert (points_in m) k x.point
+points-insert m k x = mapped-insert (λ (y : Vertex). y.point) (λ (y : Vertex). y.point) m k x x.point refl (λ q z apart there. refl)
+
+pub points-kept : (m : VertexMap) (k : ℕ) (x y : Vertex) → finite.get m k ≡ Some x → y.point ≡ x.point → points_in (finite.insert m k y) ≡ points_in m
+points-kept m k x y there same =
+    points-insert m k y
+    ∙ ap (finite.insert (points_in m) k) same
+    ∙ insert_same (points_in m) k x.point (get-mapped (λ (z : Vertex). z.point) m k ∙ ap (option_map (λ (z : Vertex). z.point)) there)
+
+-- ---- the vertices of fans
+pub vertices-insert : (fans : Fans) (k : ℕ) (fan : Fan) → vertices_in (finite.insert fans k fan) ≡ finite.insert (vertices_in fans) k fan.vertex
+vertices-insert fans k fan = mapped-insert (λ (x : Fan). x.vertex) (λ (x : Fan). x.vertex) fans k fan fan.vertex refl (λ q z apart there. refl)
+
+pub get-vertices : (fans : Fans) (q : ℕ) → finite.get (vertices_in fans) q ≡ option_map (λ (x : Fan). x.vertex) (finite.get fans q)
+get-vertices fans q = get-mapped (λ (x : Fan). x.vertex) fans q
+
+pub get-points : (fans : Fans) (q : ℕ) → finite.get (points_in (vertices_in fans)) q ≡ option_map (λ (x : Fan). x.vertex.point) (finite.get fans q)
+get-points fans q = get-mapped (λ (x : Vertex). x.point) (vertices_in fans) q ∙ ap (option_map (λ (x : Vertex). x.point)) (get-vertices fans q) ∙ both (finite.get fans q)
+  where
+    both : (o : Option Fan) → option_map (λ (x : Vertex). x.point) (option_map (λ (x : Fan). x.vertex) o) ≡ option_map (λ (x : Fan). x.vertex.point) o
+    both None = refl
+    both (Some x) = refl
+
+pub keys-points : (fans : Fans) → finite.keys (points_in (vertices_in fans)) ≡ finite.keys fans
+keys-points fans = keys-mapped (λ (x : Vertex). x.point) (vertices_in fans) ∙ keys-mapped (λ (x : Fan). x.vertex) fans
+
+pub len-points : (fans : Fans) → finite.len (points_in (vertices_in fans)) ≡ finite.len fans
+len-points fans = len-mapped (λ (x : Vertex). x.point) (vertices_in fans) ∙ len-mapped (λ (x : Fan). x.vertex) fans

@@ -1,0 +1,21 @@
+use Rattle.std.proofs.Common.{ap, ◌∙◌}
+use Rattle.half_mesh.specs.Fans.{Fan}
+use Rattle.half_mesh.specs.declared.rows.Vertex.{Vertex}
+use Rattle.half_mesh.specs.Mapped.{mapped}
+use Rattle.half_mesh.specs.Vertices.{vertices_in, points_in, solid_in}
+use Rattle.half_mesh.proofs.Vertices.{solid-empty}
+use Rattle.half_mesh.specs.Tied.{corners_at}
+use Rattle.half_mesh.proofs.Mapped.{mapped-empty}
+use Rattle.half_mesh.proofs.TiedLaws.{tied-empty}
+use Rattle.half_mesh.proofs.tables.Tables.new.Goals as goal
+
+pub invariant_of-result : goal.invariant_of-result
+invariant_of-result c = tied-empty c.new.result.woven c.new-2.result.live c.new.ensures.fans c.new-2.ensures.live
+
+pub returns : goal.returns
+returns c =
+    let vertices = ap vertices_in c.new.ensures.fans ∙ mapped-empty (λ (x : Fan). x.vertex) in
+    let points = ap points_in vertices ∙ mapped-empty (λ (x : Vertex). x.point) in
+    let solid = ap solid_in vertices ∙ solid-empty in
+    let faces = ap (mapped (corners_at c.new.result.woven.sides)) c.new-2.ensures.live ∙ mapped-empty (corners_at c.new.result.woven.sides) in
+    λ i. record { points = points i; faces = faces i; solid = solid i; next_vertex = 1; next_face = 1 }

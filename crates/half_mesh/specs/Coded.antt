@@ -1,0 +1,35 @@
+-- How fans are stored, by which a proof tells them apart.
+use Rattle.std.specs.Prelude.{ℕ, List, Option, refl}
+use Rattle.std.specs.Ordering.{nat_cmp}
+use Rattle.std.specs.FinMap as map
+use Rattle.std.specs.Coded.{Coded, code_by, coded×, coded_ℕ, coded_list, coded_option}
+use Rattle.half_mesh.specs.declared.rows.Vertex.{Vertex}
+use Rattle.half_mesh.specs.Fans.{Spoke, Fan, Side, Woven}
+use Rattle.half_mesh.specs.Ground.{Ground}
+
+abbrev pub spoke_code : Coded Spoke
+spoke_code = code_by (ℕ × ℕ) (coded× coded_ℕ coded_ℕ) (λ s. (s.face, s.to)) (λ p. record { face = p.0; to = p.1 }) (λ _. refl)
+
+abbrev pub fan_code : Coded Vertex → Coded Fan
+fan_code vertex = code_by (Vertex × List Spoke) (coded× vertex (coded_list spoke_code)) (λ f. (f.vertex, f.spokes)) (λ p. record { vertex = p.0; spokes = p.1 }) (λ _. refl)
+
+abbrev pub side_code : Coded Side
+side_code =
+    code_by ((ℕ × ℕ) × (ℕ × ℕ)) (coded× (coded× coded_ℕ coded_ℕ) (coded× coded_ℕ coded_ℕ))
+    (λ s. ((s.origin, s.to), (s.face, s.next)))
+    (λ p. record { origin = p.0.0; to = p.0.1; face = p.1.0; next = p.1.1 })
+    (λ _. refl)
+
+abbrev pub woven_code : Coded Vertex → Coded Woven
+woven_code vertex =
+    code_by (map.FinMap nat_cmp Fan × (List (Option Side) × ℕ)) (coded× (map.code coded_ℕ (fan_code vertex)) (coded× (coded_list (coded_option side_code)) coded_ℕ))
+    (λ w. (w.fans, (w.sides, w.room)))
+    (λ p. record { fans = p.0; sides = p.1.0; room = p.1.1 })
+    (λ _. refl)
+
+abbrev pub ground_code : Coded Vertex → Coded Ground
+ground_code vertex =
+    code_by (Woven × (map.FinMap nat_cmp Vertex × ℕ)) (coded× (woven_code vertex) (coded× (map.code coded_ℕ vertex) coded_ℕ))
+    (λ g. (g.woven, (g.buried, g.seats)))
+    (λ p. record { woven = p.0; buried = p.1.0; seats = p.1.1 })
+    (λ _. refl)

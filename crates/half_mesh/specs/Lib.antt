@@ -1,0 +1,11 @@
+pub mod Stock
+pub mod Mapped
+pub mod Stones
+pub mod Fans
+pub mod Ground
+pub mod Vertices
+pub mod Coded
+pub mod Walks
+pub mod Tied
+pub mod Across
+pub mod Half

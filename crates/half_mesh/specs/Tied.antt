@@ -1,0 +1,99 @@
+-- How the half-edges of a mesh and its faces are tied.
+use Rattle.std.specs.Prelude.{◌≡◌, ◌≢◌, ℕ, ◌==◌, cond, List, [], ◌∷◌, ◌++◌, Some, None, IsSome}
+use Rattle.std.specs.Ordering.{nat_cmp}
+use Rattle.std.specs.FinMap as finite
+use Rattle.mesh_base.specs.declared.ids.Corners.{Corners}
+use Rattle.mesh_base.specs.Mesh.{Mesh}
+use Rattle.half_mesh.specs.Vertices.{vertices_in, points_in, solid_in}
+use Rattle.mesh_base.specs.Sides.{has_corner}
+use Rattle.half_mesh.specs.Fans.{Spoke, Fans, Side, Sides, Woven, side_at, spokes_at, put_spoke, without}
+use Rattle.half_mesh.specs.Mapped.{mapped}
+
+-- the parts of the side at a key, 0 where there is none
+abbrev pub origin_at : Sides → ℕ → ℕ
+origin_at sides key = elim (side_at sides key) [ None ↦ 0 | Some side ↦ side.origin ]
+
+abbrev pub to_at : Sides → ℕ → ℕ
+to_at sides key = elim (side_at sides key) [ None ↦ 0 | Some side ↦ side.to ]
+
+abbrev pub next_at : Sides → ℕ → ℕ
+next_at sides key = elim (side_at sides key) [ None ↦ 0 | Some side ↦ side.next ]
+
+-- the corners of the face whose first side stands at the key
+abbrev pub corners_at : Sides → ℕ → Corners
+corners_at sides key = record { first = origin_at sides key; second = to_at sides key; third = to_at sides (next_at sides key) }
+
+-- for each live face, the key of its first side
+abbrev pub Keys : Type 0
+Keys = finite.FinMap nat_cmp ℕ
+
+abbrev pub FaceMap : Type 0
+FaceMap = finite.FinMap nat_cmp Corners
+
+abbrev pub faces_in : Sides → Keys → FaceMap
+faces_in sides keys = mapped (corners_at sides) keys
+
+-- the mesh that fans and keys stand for
+abbrev pub woven_mesh : Woven → Keys → ℕ → ℕ → Mesh
+woven_mesh woven keys next_vertex next_face = record {
+  points = points_in (vertices_in woven.fans);
+  faces = faces_in woven.sides keys;
+  solid = solid_in (vertices_in woven.fans);
+  next_vertex = next_vertex;
+  next_face = next_face;
+}
+
+-- the three sides of the face f, of the corners c, stand in a ring from the key on
+pub record IsRing (sides : Sides) (f : ℕ) (c : Corners) (key : ℕ) : Type 0 where
+  pub second : ℕ
+  pub third : ℕ
+  pub at_first : side_at sides key ≡ Some (record { origin = c.first; to = c.second; face = f; next = second })
+  pub at_second : side_at sides second ≡ Some (record { origin = c.second; to = c.third; face = f; next = third })
+  pub at_third : side_at sides third ≡ Some (record { origin = c.third; to = c.first; face = f; next = key })
+
+-- the corner that follows v
+abbrev pub following : Corners → ℕ → ℕ
+following c v = cond (c.first == v) c.second (cond (c.second == v) c.third c.first)
+
+-- the spoke of v in a face, if v is a corner
+abbrev pub spoke_in : ℕ → ℕ × Corners → List Spoke
+spoke_in v e = cond (has_corner e.1 v) (record { face = e.0; to = following e.1 v } ∷ []) []
+
+-- the spokes of v in faces, the last face first
+abbrev pub falling : ℕ → List (ℕ × Corners) → List Spoke
+falling v [] = []
+falling v (e ∷ rest) = falling v rest ++ spoke_in v e
+
+-- each face is a ring of sides, and the half-edges that leave a vertex are its sides in its faces
+pub record AreTied (woven : Woven) (keys : Keys) : Type 0 where
+  pub rings : (f key : ℕ) → finite.get keys f ≡ Some key → IsRing woven.sides f (corners_at woven.sides key) key
+  pub spokes : (v : ℕ) → spokes_at woven.fans v ≡ falling v (finite.entries (faces_in woven.sides keys))
+
+-- each corner has a fan
+abbrev pub HaveFans : Fans → Corners → Type 0
+HaveFans fans c = IsSome (finite.get fans c.first) × IsSome (finite.get fans c.second) × IsSome (finite.get fans c.third)
+
+-- the new fans have the ring of a new face, and else what the old had
+pub record HasRing (old new : Woven) (f : ℕ) (c : Corners) (key : ℕ) : Type 0 where
+  pub ring : IsRing new.sides f c key
+  pub sides : (k : ℕ) (side : Side) → side_at old.sides k ≡ Some side → side_at new.sides k ≡ Some side
+  pub spokes : (v : ℕ) → spokes_at new.fans v ≡ spoke_in v (f, c) ++ spokes_at old.fans v
+  pub vertices : vertices_in new.fans ≡ vertices_in old.fans
+
+-- a face more, at any place: the fans of its corners have it, and all sides stay
+pub record HasRaised (w x : Woven) (f : ℕ) (c : Corners) : Type 0 where
+  pub sides : (k : ℕ) → side_at x.sides k ≡ side_at w.sides k
+  pub first : spokes_at x.fans c.first ≡ put_spoke (record { face = f; to = c.second }) (spokes_at w.fans c.first)
+  pub second : spokes_at x.fans c.second ≡ put_spoke (record { face = f; to = c.third }) (spokes_at w.fans c.second)
+  pub third : spokes_at x.fans c.third ≡ put_spoke (record { face = f; to = c.first }) (spokes_at w.fans c.third)
+  pub others : (v : ℕ) → v ≢ c.first → v ≢ c.second → v ≢ c.third → spokes_at x.fans v ≡ spokes_at w.fans v
+  pub vertices : vertices_in x.fans ≡ vertices_in w.fans
+
+-- a face less: the fans of its corners have lost it, and the other faces have their sides
+pub record HasLost (w x : Woven) (f : ℕ) (c : Corners) : Type 0 where
+  pub sides : (k : ℕ) (side : Side) → side_at w.sides k ≡ Some side → side.face ≢ f → side_at x.sides k ≡ Some side
+  pub first : spokes_at x.fans c.first ≡ without f (spokes_at w.fans c.first)
+  pub second : spokes_at x.fans c.second ≡ without f (spokes_at w.fans c.second)
+  pub third : spokes_at x.fans c.third ≡ without f (spokes_at w.fans c.third)
+  pub others : (v : ℕ) → v ≢ c.first → v ≢ c.second → v ≢ c.third → spokes_at x.fans v ≡ spokes_at w.fans v
+  pub vertices : vertices_in x.fans ≡ vertices_in w.fans

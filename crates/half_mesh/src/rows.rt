@@ -1,0 +1,338 @@
+//! A table by rising ids.
+ghost use Rattle.std.specs.Prelude.{◌≡◌, ⊤, ℕ, is_some, ◌≤◌, ◌<◌, ◌^◌, ◌+◌, ◌-◌, None, Some, vec_len, vec_capacity, drop, map as map_list, IfOk, OnOk, OnErr, IsSome, slice_get, length};
+ghost use Rattle.std.specs.List.{filter};
+ghost use Rattle.std.specs.FinMap as map;
+ghost use Rattle.mesh_base.specs.Sides.{above};
+ghost use Rattle.half_mesh.specs.Stones.{held_of, buried_of, is_left, RiseFrom, IsLower, IsFound, Holds};
+
+use grid_base::{NoMemory, Point};
+use std::alloc::{AllocError, Global};
+use std::marker::Model;
+
+/// A vertex: where it stands, and whether it is solid.
+#[derive(Clone, Copy, Debug, PartialEq, Eq)]
+pub(crate) struct Vertex {
+    pub(crate) point: Point,
+    pub(crate) solid: bool,
+}
+
+/// A vertex, with the first of so many half-edges that leave it.
+#[derive(Clone, Copy, Debug, PartialEq, Eq)]
+pub(crate) struct Row {
+    pub(crate) vertex: Vertex,
+    pub(crate) first: usize,
+    pub(crate) count: usize,
+}
+
+/// An id, with what is held of it, or what is buried of it; nothing, once it is removed.
+#[derive(Copy)]
+struct Item<T> {
+    id: u32,
+    held: Option<T>,
+    buried: Option<T>,
+}
+
+impl<T: Copy> Clone for Item<T> {
+    ghost is_clone = { λ item copy. copy ≡ item };
+
+    ghost is_infallible = { λ _. ⊤ };
+
+    fn clone(&self) -> Result<Self, AllocError> {
+        Ok(*self)
+    }
+}
+
+/// What is kept of each live id, and of each buried one, by rising id in one list, where the removed make up a half at
+/// most. A contract sees two finite maps, and how many insertions find memory.
+#[derive(Drop)]
+pub(crate) struct Rows<T> {
+    items: Vec<Item<T>>,
+    live: usize,
+    // About how many are buried; it decides when the list is tidied, and nothing else.
+    down: usize,
+}
+
+impl<T> Model for Rows<T> {
+    ghost use Rattle.half_mesh.specs.Stock.{Stock, stock_code};
+    ghost use Rattle.std.specs.FinMap as map;
+    ghost use Rattle.std.specs.Prelude.{◌-◌, vec_len, vec_capacity};
+
+    ghost Value = { Stock T };
+
+    ghost coded = { stock_code T.code };
+
+    ghost use Rattle.half_mesh.specs.Stones.{held_of, buried_of, AreCounted};
+
+    ghost view = { λ r. record { live = map.from_entries (held_of r.items.items); buried = map.from_entries (buried_of r.items.items); room = vec_capacity r.items - vec_len r.items } };
+
+    ghost invariant = { λ r. AreCounted r.items.items r.live };
+}
+
+impl<T: Copy> Rows<T> {
+    pub(crate) fn new(alloc: Global) -> Rows<T>
+        ensures live { result.live ≡ map.empty }
+        ensures buried { result.buried ≡ map.empty }
+    {
+        Rows {
+            items: Vec::new(alloc),
+            live: 0,
+            down: 0,
+        }
+    }
+
+    pub(crate) fn len(&self) -> usize
+        ensures { result ≡ map.len self.now.live }
+    {
+        self.live
+    }
+
+    pub(crate) fn get(&self, id: u32) -> Option<T>
+        ensures { result ≡ map.get self.now.live id }
+    {
+        match find(self.items.as_slice(), id) {
+            Ok(at) => self.items[at].held,
+            Err(_) => None,
+        }
+    }
+
+    /// What is buried of an id.
+    pub(crate) fn get_buried(&self, id: u32) -> Option<T>
+        ensures { result ≡ map.get self.now.buried id }
+    {
+        match find(self.items.as_slice(), id) {
+            Ok(at) => self.items[at].buried,
+            Err(_) => None,
+        }
+    }
+
+    /// The least id above the number.
+    pub(crate) fn above(&self, n: u32) -> Option<u32>
+        ensures { result ≡ slice_get (above n (map.keys self.now.live)) 0 }
+    {
+        first_held(
+            self.items.as_slice(),
+            lower(self.items.as_slice(), n as u64 + 1),
+        )
+    }
+
+    /// Finds memory for so many insertions.
+    pub(crate) fn reserve(&mut self, more: usize) -> Result<(), NoMemory>
+        ensures ok { OnOk result (more ≤ self.new.room) }
+        ensures kept { self.new ≡ record self.old { room = self.new.room } }
+        ensures room { self.old.room ≤ self.new.room }
+    {
+        self.items.reserve(more)?;
+        Ok(())
+    }
+
+    /// Puts a row under an id that is not there.
+    pub(crate) fn insert(&mut self, id: u32, row: T) -> Result<(), NoMemory>
+        requires new { map.get self.old.live id ≡ None }
+        requires few { map.len self.old.live < 2 ^ 32 }
+        ensures ok { OnOk result (self.new ≡ record self.old { live = map.insert self.old.live id row; room = self.new.room }) }
+        ensures err { OnErr result (self.new ≡ self.old) }
+        ensures memory { OnErr result (self.old.room ≡ 0) }
+        ensures room { self.old.room ≤ self.new.room + 1 }
+    {
+        put(&mut self.items, id, row)?;
+        self.live += 1;
+        Ok(())
+    }
+
+    /// Puts another row under an id that is there. Takes no memory.
+    pub(crate) fn set(&mut self, id: u32, row: T)
+        requires { IsSome (map.get self.old.live id) }
+        ensures { self.new ≡ record self.old { live = map.insert self.old.live id row } }
+    {
+        if let Ok(at) = find(self.items.as_slice(), id) {
+            let item = self.items[at];
+            self.items[at] = Item {
+                held: Some(row),
+                ..item
+            };
+        }
+    }
+
+    /// Takes no memory.
+    pub(crate) fn remove(&mut self, id: u32)
+        requires { IsSome (map.get self.old.live id) }
+        ensures kept { self.new ≡ record self.old { live = map.remove self.old.live id; room = self.new.room } }
+        ensures room { self.old.room ≤ self.new.room }
+    {
+        if let Ok(at) = find(self.items.as_slice(), id) {
+            let item = self.items[at];
+            self.items[at] = Item { held: None, ..item };
+            self.live -= 1;
+            tidy(&mut self.items, self.live.saturating_add(self.down));
+        }
+    }
+
+    /// Buries what is held of an id. Takes no memory.
+    pub(crate) fn bury(&mut self, id: u32)
+        requires { IsSome (map.get self.old.live id) }
+        ensures { (x : T) → map.get self.old.live id ≡ Some x → self.new ≡ record self.old { live = map.remove self.old.live id; buried = map.insert self.old.buried id x } }
+    {
+        if let Ok(at) = find(self.items.as_slice(), id) {
+            let item = self.items[at];
+            self.items[at] = Item {
+                id: item.id,
+                held: None,
+                buried: item.held,
+            };
+            self.live -= 1;
+            self.down = self.down.saturating_add(1);
+        }
+    }
+
+    /// Holds a row of an id of which something is buried and nothing is held; what is buried is given up. Takes no memory.
+    pub(crate) fn raise(&mut self, id: u32, row: T)
+        requires buried { IsSome (map.get self.old.buried id) }
+        requires new { map.get self.old.live id ≡ None }
+        requires few { map.len self.old.live < 2 ^ 32 }
+        ensures { self.new ≡ record self.old { live = map.insert self.old.live id row; buried = map.remove self.old.buried id } }
+    {
+        if let Ok(at) = find(self.items.as_slice(), id) {
+            let item = self.items[at];
+            self.items[at] = Item {
+                id: item.id,
+                held: Some(row),
+                buried: None,
+            };
+            self.live += 1;
+            self.down = self.down.saturating_sub(1);
+        }
+    }
+
+    /// Gives up what is buried of an id. Takes no memory.
+    pub(crate) fn discard(&mut self, id: u32)
+        ensures kept { self.new ≡ record self.old { buried = map.remove self.old.buried id; room = self.new.room } }
+        ensures room { self.old.room ≤ self.new.room }
+    {
+        if let Ok(at) = find(self.items.as_slice(), id) {
+            let item = self.items[at];
+            self.items[at] = Item {
+                buried: None,
+                ..item
+            };
+            self.down = self.down.saturating_sub(1);
+            tidy(&mut self.items, self.live.saturating_add(self.down));
+        }
+    }
+
+    pub(crate) fn copy(&self) -> Result<Rows<T>, NoMemory>
+        ensures { IfOk result (λ copy. copy ≡ record self.now { room = copy.room }) }
+    {
+        Ok(Rows {
+            items: self.items.clone()?,
+            live: self.live,
+            down: self.down,
+        })
+    }
+}
+
+/// The place of an id, whether something is held of it or not; or else where it belongs.
+fn find<T: Copy>(items: &[Item<T>], id: u32) -> Result<usize, usize>
+    requires { RiseFrom 0 items.now }
+    ensures { IsFound items.now id result }
+{
+    let at = lower(items, id as u64);
+    if at < items.len() {
+        if items[at].id == id {
+            return Ok(at);
+        }
+    }
+    Err(at)
+}
+
+/// Takes out the items of which nothing is left, where they are more than half.
+fn tidy<T: Copy>(items: &mut Vec<Item<T>>, left: usize)
+    ensures held { held_of items.new.items ≡ held_of items.old.items }
+    ensures buried { buried_of items.new.items ≡ buried_of items.old.items }
+    ensures rise { RiseFrom 0 items.old.items → RiseFrom 0 items.new.items }
+    ensures capacity { vec_capacity items.new ≡ vec_capacity items.old }
+    ensures len { vec_len items.new ≤ vec_len items.old }
+{
+    if items.len() / 2 > left {
+        forget(items);
+    }
+}
+
+/// Takes out the items of which nothing is left.
+fn forget<T: Copy>(items: &mut Vec<Item<T>>)
+    ensures items { items.new.items ≡ filter is_left items.old.items }
+    ensures capacity { vec_capacity items.new ≡ vec_capacity items.old }
+    ensures len { vec_len items.new ≤ vec_len items.old }
+{
+    items.retain(|e| is_left(e));
+}
+
+/// Whether something is held or buried of the id.
+fn is_left<T: Copy>(item: &Item<T>) -> bool
+    ensures { result ≡ is_left item.now }
+{
+    item.held.is_some() || item.buried.is_some()
+}
+
+/// Puts a row under an id, where nothing is held of it.
+fn put<T: Copy>(items: &mut Vec<Item<T>>, id: u32, row: T) -> Result<(), NoMemory>
+    requires { RiseFrom 0 items.old.items }
+    ensures ok { OnOk result (Holds items.old.items items.new.items id row) }
+    ensures err { OnErr result ((items.new.items ≡ items.old.items) × (vec_capacity items.new ≡ vec_capacity items.old)) }
+    ensures memory { OnErr result (vec_capacity items.old ≤ vec_len items.old) }
+    ensures room { vec_capacity items.old - vec_len items.old ≤ (vec_capacity items.new - vec_len items.new) + 1 }
+{
+    match find(items.as_slice(), id) {
+        Ok(at) => {
+            let item = items[at];
+            items[at] = Item {
+                held: Some(row),
+                ..item
+            };
+            Ok(())
+        }
+        Err(at) => {
+            items.reserve(1)?;
+            items.insert(
+                at,
+                Item {
+                    id,
+                    held: Some(row),
+                    buried: None,
+                },
+            )?;
+            Ok(())
+        }
+    }
+}
+
+/// How many of the items have ids below a number.
+fn lower<T: Copy>(items: &[Item<T>], id: u64) -> usize
+    requires { RiseFrom 0 items.now }
+    ensures { IsLower id result items.now }
+{
+    let mut low = 0;
+    let mut high = items.len();
+    while low < high {
+        let mid = low + (high - low) / 2;
+        if (items[mid].id as u64) < id {
+            low = mid + 1;
+        } else {
+            high = mid;
+        }
+    }
+    low
+}
+
+/// The first id from a place on of which something is held.
+fn first_held<T: Copy>(items: &[Item<T>], from: usize) -> Option<u32>
+    ensures { result ≡ slice_get (map_list (λ e. e.0) (held_of (drop from items.now))) 0 }
+{
+    let mut at = from;
+    while at < items.len() {
+        if items[at].held.is_some() {
+            return Some(items[at].id);
+        }
+        at += 1;
+    }
+    None
+}

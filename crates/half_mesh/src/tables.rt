@@ -1,0 +1,429 @@
+//! The tables of one mesh.
+ghost use Rattle.grid_base.specs.declared.TheConstants.{VERTICES_MAX, FACES_MAX};
+ghost use Rattle.std.specs.Prelude.{ℕ, length, ◌≤◌, ◌≡◌, ◌<◌, ◌+◌, ◌^◌, IfOk, OnOk, OnErr, slice_get, [], None};
+ghost use Rattle.std.specs.Option.{option_map};
+ghost use Rattle.std.specs.FinMap as map;
+ghost use Rattle.mesh_base.specs.Mesh.{IsSound, IsLiveVertex, IsLiveFace, AreLive, AreDifferent, is_solid};
+ghost use Rattle.mesh_base.specs.Changes.{corner_list, with_vertex, with_face, without_face, without_vertex, with_point, with_solid};
+ghost use Rattle.mesh_base.specs.Sides.{above, faces_at, faces_running, runs};
+ghost use Rattle.mesh_base.specs.Given.{mesh_of};
+ghost use Rattle.mesh_plain.specs.Numbered.{numbered};
+ghost use Rattle.mesh_plain.specs.Shape.{shape_fault};
+ghost use Rattle.half_mesh.specs.Fans.{side_at, spokes_at, IsNewest, IsOutside};
+ghost use Rattle.half_mesh.specs.Across.{corner_at, corner_after, side_from, below, across, across_side};
+ghost use Rattle.half_mesh.specs.Tied.{corners_at, HaveFans, HasRing, HasRaised, HasLost, IsRing};
+
+use crate::fans::Fans;
+use crate::rows::{Rows, Vertex};
+use grid_base::{NoMemory, Point};
+use mesh_base::{Corners, FaceId, MeshLists, VertexId};
+use std::alloc::Global;
+use std::marker::Model;
+
+/// A mesh in half-edges. A contract sees it as the mesh.
+#[derive(Drop)]
+pub(crate) struct Tables {
+    fans: Fans,
+    // For each face the key of its first side.
+    keys: Rows<usize>,
+    next_vertex: u32,
+    next_face: u32,
+}
+
+impl Model for Tables {
+    ghost use Rattle.mesh_base.specs.Mesh.{Mesh};
+
+    ghost Value = { Mesh };
+
+    ghost use Rattle.mesh_plain.specs.Coded.{mesh_code};
+    ghost use Rattle.grid_base.specs.contracts.Point as point;
+    ghost use Rattle.mesh_base.specs.contracts.ids.Corners as corners;
+
+    ghost coded = { mesh_code point.the_row.coded corners.the_row.coded };
+
+    ghost use Rattle.half_mesh.specs.Tied.{woven_mesh, AreTied};
+
+    ghost view = { λ t. woven_mesh t.fans.woven t.keys.live t.next_vertex t.next_face };
+
+    ghost invariant = { λ t. AreTied t.fans.woven t.keys.live };
+}
+
+impl Tables {
+    pub(crate) fn new(alloc: Global) -> Tables
+        ensures { result ≡ record { points = map.empty; faces = map.empty; solid = map.empty; next_vertex = 1; next_face = 1 } }
+    {
+        Tables {
+            fans: Fans::new(alloc),
+            keys: Rows::new(alloc),
+            next_vertex: 1,
+            next_face: 1,
+        }
+    }
+
+    /// The tables of lists, numbered from 1.
+    pub(crate) fn of(alloc: Global, lists: &MeshLists) -> Result<Tables, NoMemory>
+        requires { shape_fault (length lists.now.points) lists.now.faces ≡ None }
+        ensures { IfOk result (λ t. t ≡ mesh_of lists.now.points lists.now.faces) }
+    {
+        let mut tables = Tables::new(alloc);
+        for p in lists.points.as_slice() {
+            tables.add_vertex(*p)?;
+        }
+        for f in lists.faces.as_slice() {
+            tables.add_face(VertexId(f[0]), VertexId(f[1]), VertexId(f[2]))?;
+        }
+        Ok(tables)
+    }
+
+    /// Sets the next ids, which fall for neither kind.
+    pub(crate) fn number(&mut self, next_vertex: u32, next_face: u32)
+        requires vertex { self.old.next_vertex ≤ next_vertex }
+        requires face { self.old.next_face ≤ next_face }
+        ensures { self.new ≡ numbered self.old next_vertex next_face }
+    {
+        self.next_vertex = next_vertex;
+        self.next_face = next_face;
+    }
+
+    pub(crate) fn copy(&self) -> Result<Tables, NoMemory>
+        ensures { IfOk result (λ copy. copy ≡ self.now) }
+    {
+        Ok(Tables {
+            fans: self.fans.copy()?,
+            keys: self.keys.copy()?,
+            next_vertex: self.next_vertex,
+            next_face: self.next_face,
+        })
+    }
+
+    pub(crate) fn vertices(&self) -> usize
+        ensures { result ≡ map.len self.now.points }
+    {
+        self.fans.len()
+    }
+
+    pub(crate) fn faces(&self) -> usize
+        ensures { result ≡ map.len self.now.faces }
+    {
+        self.keys.len()
+    }
+
+    pub(crate) fn next_vertex(&self) -> u32
+        ensures { result ≡ self.now.next_vertex }
+    {
+        self.next_vertex
+    }
+
+    pub(crate) fn next_face(&self) -> u32
+        ensures { result ≡ self.now.next_face }
+    {
+        self.next_face
+    }
+
+    pub(crate) fn vertex_after(&self, v: u32) -> Option<VertexId>
+        ensures { result ≡ slice_get (above v (map.keys self.now.points)) 0 }
+    {
+        match self.fans.above(v) {
+            Some(id) => Some(VertexId(id)),
+            None => None,
+        }
+    }
+
+    pub(crate) fn face_after(&self, f: u32) -> Option<FaceId>
+        ensures { result ≡ slice_get (above f (map.keys self.now.faces)) 0 }
+    {
+        match self.keys.above(f) {
+            Some(id) => Some(FaceId(id)),
+            None => None,
+        }
+    }
+
+    pub(crate) fn point(&self, v: VertexId) -> Option<Point>
+        ensures { result ≡ map.get self.now.points v }
+    {
+        match self.fans.vertex(v.0) {
+            Some(vertex) => Some(vertex.point),
+            None => None,
+        }
+    }
+
+    pub(crate) fn solid(&self, v: VertexId) -> bool
+        ensures { result ≡ is_solid self.now v }
+    {
+        match self.fans.vertex(v.0) {
+            Some(vertex) => vertex.solid,
+            None => false,
+        }
+    }
+
+    pub(crate) fn corners(&self, f: FaceId) -> Option<Corners>
+        ensures { result ≡ map.get self.now.faces f }
+    {
+        match self.keys.get(f.0) {
+            Some(key) => {
+                let (a, b, c) = corners_from(&self.fans, key);
+                Some(Corners {
+                    first: VertexId(a),
+                    second: VertexId(b),
+                    third: VertexId(c),
+                })
+            }
+            None => None,
+        }
+    }
+
+    pub(crate) fn runs(&self, u: VertexId, v: VertexId) -> usize
+        requires { IsSound self.now }
+        ensures { result ≡ runs self.now u v }
+    {
+        self.fans.runs(u.0, v.0)
+    }
+
+    pub(crate) fn run_face(&self, u: VertexId, v: VertexId, nth: u32) -> Option<FaceId>
+        requires { IsSound self.now }
+        ensures { result ≡ slice_get (faces_running self.now u v) nth }
+    {
+        self.nth_running(u, v, nth as usize)
+    }
+
+    fn nth_running(&self, u: VertexId, v: VertexId, nth: usize) -> Option<FaceId>
+        requires { IsSound self.now }
+        ensures { result ≡ slice_get (faces_running self.now u v) nth }
+    {
+        let all = self.fans.runs(u.0, v.0);
+        if nth >= all {
+            return None;
+        }
+        match self.fans.pick(u.0, v.0, all - 1 - nth) {
+            Some(id) => Some(FaceId(id)),
+            None => None,
+        }
+    }
+
+    /// How many faces older than one run from `u` to `v`.
+    fn older(&self, u: VertexId, v: VertexId, f: FaceId) -> usize
+        requires { IsSound self.now }
+        ensures { result ≡ below f (faces_running self.now u v) }
+    {
+        self.fans.older(u.0, v.0, f.0)
+    }
+
+    /// The face across a side, with the side of it that runs back.
+    pub(crate) fn across(&self, f: FaceId, side: u8) -> Option<(FaceId, u8)>
+        requires { IsSound self.now }
+        ensures { result ≡ across self.now f side }
+    {
+        match self.corners(f) {
+            Some(c) => self.across_side(f, corner_at(&c, side), corner_after(&c, side)),
+            None => None,
+        }
+    }
+
+    fn across_side(&self, f: FaceId, u: VertexId, v: VertexId) -> Option<(FaceId, u8)>
+        requires { IsSound self.now }
+        ensures { result ≡ across_side self.now f u v }
+    {
+        let n = self.older(u, v, f);
+        match self.nth_running(v, u, n) {
+            Some(g) => match self.corners(g) {
+                Some(c) => Some((g, side_from(&c, v))),
+                None => None,
+            },
+            None => None,
+        }
+    }
+
+    pub(crate) fn faces_at(&self, v: VertexId, into: &mut Vec<FaceId>) -> Result<(), NoMemory>
+        ensures ok { OnOk result (into.new.items ≡ faces_at self.now v) }
+        ensures err { OnErr result (into.new.items ≡ []) }
+    {
+        self.fans.faces(v.0, into)
+    }
+
+    pub(crate) fn add_vertex(&mut self, p: Point) -> Result<VertexId, NoMemory>
+        requires next { self.old.next_vertex + 1 < 2 ^ 32 }
+        requires ids { (v : ℕ) → IsLiveVertex self.old v → v < self.old.next_vertex }
+        requires few { map.len self.old.points ≤ VERTICES_MAX }
+        ensures id { IfOk result (λ v. v ≡ self.old.next_vertex) }
+        ensures ok { OnOk result (self.new ≡ with_vertex self.old p) }
+        ensures err { OnErr result (self.new ≡ self.old) }
+    {
+        let id = self.next_vertex;
+        self.fans.add(
+            id,
+            Vertex {
+                point: p,
+                solid: false,
+            },
+        )?;
+        self.next_vertex = id + 1;
+        Ok(VertexId(id))
+    }
+
+    /// Takes no memory.
+    pub(crate) fn place(&mut self, v: VertexId, p: Point)
+        requires { IsLiveVertex self.old v }
+        ensures { self.new ≡ with_point self.old v p }
+    {
+        if let Some(vertex) = self.fans.vertex(v.0) {
+            self.fans.set(v.0, Vertex { point: p, ..vertex });
+        }
+    }
+
+    /// Takes no memory.
+    pub(crate) fn make_solid(&mut self, v: VertexId)
+        requires { IsLiveVertex self.old v }
+        ensures { self.new ≡ with_solid self.old v }
+    {
+        if let Some(vertex) = self.fans.vertex(v.0) {
+            self.fans.set(
+                v.0,
+                Vertex {
+                    solid: true,
+                    ..vertex
+                },
+            );
+        }
+    }
+
+    pub(crate) fn add_face(
+        &mut self,
+        a: VertexId,
+        b: VertexId,
+        c: VertexId,
+    ) -> Result<FaceId, NoMemory>
+        requires next { self.old.next_face + 1 < 2 ^ 32 }
+        requires ids { (f : ℕ) → IsLiveFace self.old f → f < self.old.next_face }
+        requires few { map.len self.old.faces ≤ FACES_MAX }
+        requires live { AreLive self.old (record { first = a; second = b; third = c }) }
+        requires different { AreDifferent (record { first = a; second = b; third = c }) }
+        ensures id { IfOk result (λ f. f ≡ self.old.next_face) }
+        ensures ok { OnOk result (self.new ≡ with_face self.old (record { first = a; second = b; third = c })) }
+        ensures err { OnErr result (self.new ≡ self.old) }
+    {
+        let id = self.next_face;
+        self.fans.reserve(3)?;
+        self.keys.insert(id, 0)?;
+        let key = put_ring(&mut self.fans, id, a.0, b.0, c.0);
+        self.keys.set(id, key);
+        self.next_face = id + 1;
+        Ok(FaceId(id))
+    }
+
+    /// Takes no memory.
+    pub(crate) fn drop_face(&mut self, f: FaceId)
+        requires live { IsLiveFace self.old f }
+        requires sound { IsSound self.old }
+        ensures { self.new ≡ without_face self.old f }
+    {
+        if let Some(key) = self.keys.get(f.0) {
+            let (a, b, c) = corners_from(&self.fans, key);
+            self.keys.remove(f.0);
+            self.fans.detach(a, f.0);
+            self.fans.detach(b, f.0);
+            self.fans.detach(c, f.0);
+        }
+    }
+
+    /// Takes no memory.
+    pub(crate) fn drop_vertex(&mut self, v: VertexId)
+        requires live { IsLiveVertex self.old v }
+        requires bare { faces_at self.old v ≡ [] }
+        ensures { self.new ≡ without_vertex self.old v }
+    {
+        self.fans.remove(v.0);
+    }
+}
+
+/// Where a side of a face begins.
+fn corner_at(c: &Corners, side: u8) -> VertexId
+    ensures { result ≡ corner_at c.now side }
+{
+    match side {
+        0 => c.first,
+        1 => c.second,
+        _ => c.third,
+    }
+}
+
+/// Where a side of a face ends.
+fn corner_after(c: &Corners, side: u8) -> VertexId
+    ensures { result ≡ corner_after c.now side }
+{
+    match side {
+        0 => c.second,
+        1 => c.third,
+        _ => c.first,
+    }
+}
+
+/// The side of a face that begins at a corner.
+fn side_from(c: &Corners, v: VertexId) -> u8
+    ensures { result ≡ side_from c.now v }
+{
+    if c.first == v {
+        0
+    } else if c.second == v {
+        1
+    } else {
+        2
+    }
+}
+
+/// Makes the three sides of a face that is newer than all at its corners, and answers the key of the first.
+fn put_ring(fans: &mut Fans, id: u32, a: u32, b: u32, c: u32) -> usize
+    requires different { AreDifferent (record { first = a; second = b; third = c }) }
+    requires live { HaveFans fans.old.woven.fans (record { first = a; second = b; third = c }) }
+    requires newest { (v : ℕ) → IsNewest id (spokes_at fans.old.woven.fans v) }
+    requires few { (v : ℕ) → length (spokes_at fans.old.woven.fans v) < 2 ^ 32 }
+    requires room { 3 ≤ fans.old.woven.room }
+    ensures { HasRing fans.old.woven fans.new.woven id (record { first = a; second = b; third = c }) result }
+{
+    let third = fans.attach(c, a, id, 0);
+    let second = fans.attach(b, c, id, third);
+    let first = fans.attach(a, b, id, second);
+    fans.join(third, first);
+    first
+}
+
+/// Takes the three sides of a face out of those that leave its corners. They stay at their keys. Takes no memory.
+fn bury_ring(fans: &mut Fans, id: u32, a: u32, b: u32, c: u32)
+    requires different { AreDifferent (record { first = a; second = b; third = c }) }
+    requires live { HaveFans fans.old.woven.fans (record { first = a; second = b; third = c }) }
+    ensures lost { HasLost fans.old.woven fans.new.woven id (record { first = a; second = b; third = c }) }
+    ensures sides { (key : ℕ) → side_at fans.new.woven.sides key ≡ side_at fans.old.woven.sides key }
+    ensures kept { (fans.new.buried ≡ fans.old.buried) × (fans.new.seats ≡ fans.old.seats) }
+    ensures room { fans.new.woven.room ≡ fans.old.woven.room }
+{
+    fans.unlink(a, id);
+    fans.unlink(b, id);
+    fans.unlink(c, id);
+}
+
+/// Puts the three sides of a face, which stand in a ring from the key on, back among those that leave its corners. Takes no
+/// memory.
+fn raise_ring(fans: &mut Fans, id: u32, a: u32, b: u32, c: u32, key: usize)
+    requires different { AreDifferent (record { first = a; second = b; third = c }) }
+    requires live { HaveFans fans.old.woven.fans (record { first = a; second = b; third = c }) }
+    requires ring { IsRing fans.old.woven.sides id (record { first = a; second = b; third = c }) key }
+    requires outside { (v : ℕ) → IsOutside id (spokes_at fans.old.woven.fans v) }
+    requires few { (v : ℕ) → length (spokes_at fans.old.woven.fans v) < 2 ^ 32 }
+    ensures raised { HasRaised fans.old.woven fans.new.woven id (record { first = a; second = b; third = c }) }
+    ensures kept { (fans.new.buried ≡ fans.old.buried) × (fans.new.seats ≡ fans.old.seats) }
+    ensures room { fans.new.woven.room ≡ fans.old.woven.room }
+{
+    let first = fans.side(key);
+    let second = fans.side(first.next);
+    fans.relink(a, key);
+    fans.relink(b, first.next);
+    fans.relink(c, second.next);
+}
+
+/// The corners of the face whose first side stands at the key.
+fn corners_from(fans: &Fans, key: usize) -> (u32, u32, u32)
+    ensures { record { first = result.0; second = result.1; third = result.2 } ≡ corners_at fans.now.woven.sides key }
+{
+    let first = fans.side(key);
+    let second = fans.side(first.next);
+    (first.origin, first.to, second.to)
+}

@@ -1,0 +1,14 @@
+pub mod Names
+pub mod Reasons
+pub mod EdgeAnswers
+pub mod ZipAnswers
+pub mod PinchAnswers
+pub mod AskedAnswers
+pub mod Asked
+pub mod PassLines
+pub mod Blocks
+pub mod Ways
+pub mod StepLines
+pub mod ShapeFaults
+pub mod MeshText
+pub mod Texts

@@ -1,0 +1,66 @@
+-- The lines of a pass are in range.
+use Rattle.std.proofs.Common.{◌≡◌, Bool, true, false, cond, List, [], ◌∷◌, refl}
+use Rattle.std.specs.List.{AllByRecursion}
+use Rattle.std.proofs.lemmas.List.Elements.{All-from_recursion}
+use Rattle.mesh_base.specs.Mesh.{Mesh, IsSound}
+use Rattle.mesh_base.specs.Sides.{IsClosed}
+use Rattle.mesh_base.proofs.ListedPairs.{all_joined}
+use Rattle.edit_base.specs.declared.Asked.{Asked}
+use Rattle.edit_base.specs.declared.answers.Edit.{Edit}
+use Rattle.edit_base.specs.declared.answers.Edit.TheVariants.{Done, No}
+use Rattle.edit_base.specs.Clauses.{mesh_after}
+use Rattle.edit_dispatch.specs.Dispatch.{edited}
+use Rattle.edit_dispatch.proofs.Asked.{asked_stays_sound, asked_stays_closed}
+use Rattle.log_text.specs.Laws.{IsAskedInRange}
+use Rattle.pass_run.specs.Candidates.{candidates}
+use Rattle.pass_run.specs.PassLines.{PassRules, rules_of, line_of, answer_by, lines_of, mesh_from, ends, lines_from, pass_lines}
+use Rattle.log_ranges.specs.Answers.{IsAnswerInRange}
+use Rattle.log_ranges.specs.Lines.{MayFollow, CandidatesAreInRange, PassLinesAreInRange}
+use Rattle.log_ranges.proofs.AskedAnswers.{answer_in_range}
+use Rattle.log_ranges.proofs.Asked.{asked_in_range}
+
+pub candidates_in_range : CandidatesAreInRange
+candidates_in_range m kind sound = All-from_recursion IsAskedInRange (candidates m kind) (asked_in_range m kind sound)
+
+-- a sound and closed mesh
+record IsGood (m : Mesh) : Type 0 where
+  pub sound : IsSound m
+  pub closed : IsClosed m
+
+-- the line of an answer
+answer_line : (what : Asked) (edit : Edit) → IsAskedInRange what → IsAnswerInRange edit → MayFollow (line_of what edit)
+answer_line what (Done change) asked answer = (answer, tt)
+answer_line what (No why) asked answer = ((asked, answer), tt)
+
+module _ (rules : PassRules) where
+  -- the mesh that an answer leaves
+  left_good : (m : Mesh) → IsGood m → (what : Asked) (edit : Edit) → answer_by rules m what ≡ edit → IsGood (mesh_after edited m edit)
+  left_good m good what (Done change) e = record {
+    sound = asked_stays_sound rules.meets rules.depth what m change good.sound good.closed e;
+    closed = asked_stays_closed rules.meets rules.depth what m change good.sound good.closed e;
+  }
+  left_good m good what (No why) e = good
+
+  -- what is asked, at its time
+  one_in_range : (m : Mesh) → IsGood m → (what : Asked) → IsAskedInRange what → AllByRecursion MayFollow (lines_of rules m what) × IsGood (mesh_from rules m what)
+  one_in_range m good what asked = by_test (rules.due m what)
+    where
+      by_test : (b : Bool) → AllByRecursion MayFollow (cond b (line_of what (answer_by rules m what) ∷ []) []) × IsGood (cond b (mesh_after edited m (answer_by rules m what)) m)
+      by_test true = ((answer_line what (answer_by rules m what) asked (answer_in_range rules.meets rules.depth what m good.sound good.closed), tt), left_good m good what (answer_by rules m what) refl)
+      by_test false = (tt, good)
+
+  -- all that is asked
+  all_in_range : (m : Mesh) → IsGood m → (all : List Asked) → AllByRecursion IsAskedInRange all → AllByRecursion MayFollow (lines_from rules m all)
+  all_in_range m good [] asked = tt
+  all_in_range m good (what ∷ rest) asked =
+      let one = one_in_range m good what asked.0 in
+      all_joined MayFollow (lines_of rules m what) _ one.0
+      (by_test (ends rules.grouped (lines_of rules m what)) (all_in_range (mesh_from rules m what) one.1 rest asked.1))
+    where
+      by_test : (b : Bool) → AllByRecursion MayFollow (lines_from rules (mesh_from rules m what) rest) → AllByRecursion MayFollow (cond b [] (lines_from rules (mesh_from rules m what) rest))
+      by_test true later = tt
+      by_test false later = later
+
+pub pass_in_range : PassLinesAreInRange
+pass_in_range meets terms m sound closed kind = All-from_recursion MayFollow (pass_lines meets terms m)
+    ((kind, tt), all_in_range (rules_of meets terms) m (record { sound = sound; closed = closed }) (candidates m terms.kind) (asked_in_range m terms.kind sound))

@@ -1,0 +1,51 @@
+ghost use Rattle.std.specs.Prelude.{◌≡◌, IsTrue, IfOk};
+ghost use Rattle.std.specs.Option.{option_map};
+ghost use Rattle.grid_decided.specs.Decided.{meets_exactly};
+ghost use Rattle.mesh_base.specs.Failing.{failing};
+ghost use Rattle.mesh_base.specs.Shifts.{NameLive, end_in_box};
+ghost use Rattle.step_choose.specs.Settings.{AreWithinLimits};
+ghost use Rattle.step_choose.specs.Choice.{impulse_way};
+ghost use Rattle.step_choose.specs.Found.{way_by};
+
+use crate::found::Found;
+use crate::lists::copy_of;
+use crate::settings::Settings;
+use grid_base::NoMemory;
+use mesh_base::{How, Shifts, Surface};
+use pair_scan::{Pairs, end_in_box, failing};
+use std::alloc::Global;
+use step_impulse::impulse_pass;
+use step_zones::Blocks;
+
+/// The shifts after the fewest impulse passes after which all pairs pass, where no pass up to it takes a vertex out of the
+/// box. The first pass is over the failing pairs of the asked shifts, which are handed in.
+pub(crate) fn by_impulses<S: Surface>(
+    alloc: Global,
+    mesh: &S,
+    asked: &Shifts,
+    hits: &Pairs,
+    set: Settings,
+) -> Result<Option<Found>, NoMemory>
+    requires named { NameLive (S.mesh mesh.now) asked.now }
+    requires hits { hits.now ≡ failing meets_exactly (S.mesh mesh.now) asked.now set.depth }
+    requires limits { AreWithinLimits set }
+    ensures { IfOk result (λ found. option_map way_by found ≡ impulse_way meets_exactly (S.mesh mesh.now) asked.now set.depth set.passes) }
+{
+    let mut taken = copy_of(alloc, asked.as_slice())?;
+    let mut failed = copy_of(alloc, hits.as_slice())?;
+    for k in 0..set.passes {
+        impulse_pass(mesh, &failed, &mut taken);
+        if !end_in_box(mesh, taken.as_slice()) {
+            return Ok(None);
+        }
+        failed = failing(alloc, mesh, &taken, set.depth)?;
+        if failed.len() == 0 {
+            return Ok(Some(Found {
+                how: How::Impulse { passes: k + 1 },
+                taken,
+                blocks: Blocks::new(alloc),
+            }));
+        }
+    }
+    Ok(None)
+}

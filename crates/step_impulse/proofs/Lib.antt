@@ -1,0 +1,6 @@
+pub mod Smallest
+pub mod Shares
+pub mod Elements
+pub mod Placed
+pub mod Resting
+pub mod Fives

@@ -1,0 +1,4 @@
+pub mod Axes
+pub mod Impulse
+pub mod Passes
+pub mod Laws

@@ -1,0 +1,11 @@
+pub mod Labelled
+pub mod Chained
+pub mod Moved
+pub mod Means
+pub mod Solid
+pub mod Rounds
+pub mod Ranked
+pub mod Summed
+pub mod Listing
+pub mod Linked
+pub mod Searched

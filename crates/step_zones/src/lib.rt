@@ -1,0 +1,15 @@
+//! Impact zones: blocks of vertices that move as one.
+#![tactic(auto)]
+
+mod found;
+mod labels;
+pub mod laws;
+mod moving;
+mod searching;
+#[cfg(test)]
+mod tests;
+mod totals;
+
+pub use found::Zoned;
+pub use moving::Blocks;
+pub use searching::zones;

@@ -1,0 +1,4 @@
+pub mod Stored
+pub mod Sources
+pub mod Caused
+pub mod Ended

@@ -1,0 +1,63 @@
+-- A conversion, and what its file gives.
+use Rattle.std.specs.Prelude.{◌≡◌, ℕ, List, [], ◌∷◌, length, codes, decimal, Option, Some, None, Result, Ok, Err}
+use Rattle.line_text.specs.declared.TextFault.{TextFault}
+use Rattle.line_text.specs.WrittenLines.{line_of_words}
+use Rattle.mesh_base.specs.declared.ShapeFault.{ShapeFault}
+use Rattle.mesh_base.specs.declared.FileWord.TheVariants as file
+use Rattle.mesh_plain.specs.Shape.{shape_fault}
+use Rattle.obj_text.specs.Obj.{Lists}
+use Rattle.log_text.specs.declared.LogLine.TheVariants.{Refused}
+use Rattle.log_text.specs.declared.Refusal.{Refusal}
+use Rattle.log_text.specs.declared.Refusal.TheVariants as refusal
+use Rattle.log_text.specs.Lines.{text_of_line}
+use Rattle.outside_io.specs.Desk.{Files}
+use Rattle.track_input.specs.declared.Format.{Format}
+use Rattle.track_input.specs.Source.{Source, Bytes, Absent, TooLong, IsSource}
+use Rattle.track_input.specs.Words.{MeshName}
+use Rattle.track_convert.specs.Formats.{lists_in}
+
+-- what the fetch of a file answers, the format of its text, and the decimals of the points
+pub record Conversion : Type 0 where
+  pub source : Source
+  pub from : Format
+  pub decimals : ℕ
+
+-- the conversion of a file, where the desk holds these
+pub record IsConversion (files : Option Files) (from : MeshName) (decimals : ℕ) (c : Conversion) : Type 0 where
+  pub source : IsSource files from.name c.source
+  pub from_is : c.from ≡ from.format
+  pub decimals_are : c.decimals ≡ decimals
+
+-- ---- what the file gives: lists of good shape, or the first refusal that applies, in the order in which the work is done
+
+abbrev pub found_of_shape : Lists → Option ShapeFault → Result Lists Refusal
+found_of_shape lists (Some fault) = Err (refusal.Shape fault)
+found_of_shape lists None = Ok lists
+
+abbrev pub found_of_lists : Result Lists TextFault → Result Lists Refusal
+found_of_lists (Err fault) = Err (refusal.Mesh fault)
+found_of_lists (Ok lists) = found_of_shape lists (shape_fault (length lists.points) lists.faces)
+
+abbrev pub found_of_file : Format → ℕ → Source → Result Lists Refusal
+found_of_file from decimals (TooLong seen) = Err (refusal.Long file.Mesh seen)
+found_of_file from decimals Absent = Err (refusal.Missing file.Mesh)
+found_of_file from decimals (Bytes bytes) = found_of_lists (lists_in from decimals bytes)
+
+abbrev pub found_by : Conversion → Result Lists Refusal
+found_by c = found_of_file c.from c.decimals c.source
+
+-- ---- the one line that is written
+
+-- converted V F, the numbers of points and of faces
+abbrev pub converted_line : Lists → List ℕ
+converted_line lists = line_of_words (codes "converted" ∷ decimal (length lists.points) ∷ decimal (length lists.faces) ∷ [])
+
+-- that line, or the line of the refusal
+abbrev pub line_told : Result Lists Refusal → List ℕ
+line_told (Ok lists) = converted_line lists
+line_told (Err why) = text_of_line (Refused why)
+
+-- the refusal that it tells, if it tells one
+abbrev pub refusal_told : Result Lists Refusal → Option Refusal
+refusal_told (Ok lists) = None
+refusal_told (Err why) = Some why

@@ -1,0 +1,34 @@
+-- What the code found, as a conversion gives it.
+use Rattle.std.specs.Prelude.{◌≡◌, ℕ, List, length, Option, None, Result, Ok, Err}
+use Rattle.mesh_plain.specs.Shape.{shape_fault}
+use Rattle.obj_text.specs.Obj.{Lists}
+use Rattle.obj_text.specs.Views.{lists_view}
+use Rattle.log_text.specs.declared.Refusal.{Refusal}
+use Rattle.outside_io.specs.Desk.{Files}
+use Rattle.track_input.specs.declared.Format.{Format}
+use Rattle.track_input.specs.Words.{MeshName}
+use Rattle.track_convert.specs.declared.finding.Found.{Found}
+use Rattle.track_convert.specs.declared.finding.Found.TheVariants as found
+use Rattle.track_convert.specs.Formats.{lists_in}
+use Rattle.track_convert.specs.Conversion.{Conversion, IsConversion, found_of_lists, found_by}
+
+abbrev pub found_view : Found → Result Lists Refusal
+found_view (found.No why) = Err why
+found_view (found.Lists lists) = Ok (lists_view lists)
+
+-- lists that were found are of good shape
+abbrev pub IsGood : Found → Type 0
+IsGood (found.No why) = Unit {0}
+IsGood (found.Lists lists) = shape_fault (length lists.points) lists.faces ≡ None
+
+-- what a text gives
+pub record Reads (from : Format) (decimals : ℕ) (bytes : List ℕ) (found : Found) : Type 0 where
+  pub given : found_of_lists (lists_in from decimals bytes) ≡ found_view found
+  pub good : IsGood found
+
+-- what the file of a name gives
+pub record Finds (files : Option Files) (from : MeshName) (decimals : ℕ) (found : Found) : Type 0 where
+  pub conversion : Conversion
+  pub is_conversion : IsConversion files from decimals conversion
+  pub given : found_by conversion ≡ found_view found
+  pub good : IsGood found

@@ -1,0 +1,74 @@
+ghost use Rattle.std.specs.Prelude.{◌≡◌, ◌≤◌, length, IfOk, IsErrOf};
+ghost use Rattle.grid_base.specs.declared.TheConstants.{TEXT_MAX, DECIMALS_MAX};
+ghost use Rattle.outside_io.specs.Causes.{Rose};
+ghost use Rattle.track_input.specs.Named.{mesh_name};
+ghost use Rattle.track_convert.specs.Finding.{Finds, Reads};
+
+use crate::formats::read_lists;
+use grid_base::NoMemory;
+use line_text::ReadFault;
+use log_text::Refusal;
+use mesh_plain::{FileWord, MeshLists, ShapeRefusal, shape};
+use outside_io::Desk;
+use std::alloc::Global;
+use track_input::{Fetched, Format, InputFault, MeshFile, fetch_file};
+
+// What a mesh file gives.
+#[derive(Drop)]
+pub(crate) enum Found {
+    // The first refusal that applies, in the order in which the work is done.
+    No(Refusal),
+    // Lists of good shape.
+    Lists(MeshLists),
+}
+
+// Reads a text and tests the shape of its lists.
+fn read_all(alloc: Global, format: Format, bytes: &[u8], decimals: u8) -> Result<Found, NoMemory>
+    requires few { decimals ≤ DECIMALS_MAX }
+    requires small { length bytes.now ≤ TEXT_MAX }
+    ensures { IfOk result (Reads format decimals bytes.now) }
+{
+    let lists = match read_lists(alloc, format, bytes, decimals) {
+        Ok(lists) => lists,
+        Err(ReadFault::NoMemory) => return Err(NoMemory),
+        Err(ReadFault::Text(fault)) => return Ok(Found::No(Refusal::Mesh(fault))),
+    };
+    match shape(alloc, &lists) {
+        Ok(()) => Ok(Found::Lists(lists)),
+        Err(ShapeRefusal::NoMemory) => Err(NoMemory),
+        Err(ShapeRefusal::Shape(fault)) => Ok(Found::No(Refusal::Shape(fault))),
+    }
+}
+
+// Fetches a mesh file, reads it, the points with so many decimals, and tests the shape of its lists. The desk's files stay as they are.
+pub(crate) fn find<D: Desk>(
+    alloc: Global,
+    from: MeshFile<'_>,
+    decimals: u8,
+    desk: &mut D,
+) -> Result<Found, InputFault>
+    requires few { decimals ≤ DECIMALS_MAX }
+    ensures finds { IfOk result (Finds (D.files desk.old) (mesh_name from.entry) decimals) }
+    ensures kept { D.files desk.new ≡ D.files desk.old }
+    ensures later { D.faults desk.old ≤ D.faults desk.new }
+    ensures cause { IsErrOf result InputFault.DeskFault → Rose (D.faults desk.old) (D.faults desk.new) }
+{
+    let bytes = match fetch_file(alloc, desk, from.name)? {
+        Fetched::Bytes(bytes) => bytes,
+        Fetched::Absent => {
+            return Ok(Found::No(Refusal::Missing {
+                file: FileWord::Mesh,
+            }));
+        }
+        Fetched::TooLong(seen) => {
+            return Ok(Found::No(Refusal::Long {
+                file: FileWord::Mesh,
+                seen,
+            }));
+        }
+    };
+    match read_all(alloc, from.format, &bytes, decimals) {
+        Ok(found) => Ok(found),
+        Err(NoMemory) => Err(InputFault::NoMemory),
+    }
+}

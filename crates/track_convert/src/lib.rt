@@ -1,0 +1,12 @@
+//! A mesh file is stored in another format: the command `convert`.
+#![tactic(auto)]
+
+mod converting;
+mod fault;
+mod finding;
+mod formats;
+#[cfg(test)]
+mod tests;
+
+pub use converting::convert;
+pub use fault::ConvertFault;

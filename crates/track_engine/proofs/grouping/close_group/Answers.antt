@@ -1,0 +1,51 @@
+use Rattle.std.proofs.Common.{◌≡◌, not, List, [], ◌∷◌, Some, refl, ap, sym, ◌∙◌, inr}
+use Rattle.std.proofs.lemmas.Result.{err_from_is_err_and}
+use Rattle.log_text.specs.declared.LogLine.TheVariants.{Close}
+use Rattle.outside_io.proofs.Written.{appended-nil}
+use Rattle.track_engine.specs.State.{groups_of, state_of}
+use Rattle.track_engine.specs.Effects.{Proceeds}
+use Rattle.track_engine.proofs.OpenMarks.{none_closed, close_line, goes_back, stays_open, state_back, marks_back, marks_kept, mark_holds}
+use Rattle.track_engine.proofs.grouping.close_group.Goals as goal
+
+pub returns-in_default-clause-writes : goal.returns-in_default-clause-writes
+returns-in_default-clause-writes g c =
+    let kept = g.S.Surface.kept c.args.mesh.now in
+    ([], none_closed kept c.args.run.now.groups (state_of (g.S.Surface.mesh c.args.mesh.now) kept c.args.run.now) (sym c.in_default.is ∙ c.has_failed.ensures), sym (appended-nil _))
+
+pub returns-in_err-say-clause-writes : goal.returns-in_err-say-clause-writes
+returns-in_err-say-clause-writes g c =
+    let p = err_from_is_err_and c.from_residual.result c.from_residual.ensures.1 in
+    let kept = g.S.Surface.kept c.args.mesh.now in
+    let line = close_line kept c.args.run.now.groups (state_of (g.S.Surface.mesh c.args.mesh.now) kept c.args.run.now) c.in-Some.failed c.in-Some.ensures in
+    rw p.1 (inr (Close (not c.in-Some.failed) ∷ [], line.0, line.1, c.in_err-say.ensures.said))
+
+pub returns-then-failed-clause-writes : goal.returns-then-failed-clause-writes
+returns-then-failed-clause-writes g c =
+    let kept = g.S.Surface.kept c.args.mesh.now in
+    let run = c.args.run.now in
+    let s = state_of (g.S.Surface.mesh c.args.mesh.now) kept run in
+    let group = c.in-Some-close.group in
+    let outer = c.close.new.self in
+    let next = state_back g.S.Surface.beyond (g.S.Surface.mesh c.args.mesh.now) kept run group outer c.in-Some-close.ensures c.requires (g.S.Surface.mesh c.back_to.new.self) (g.S.Surface.kept c.back_to.new.self) group.asked c.back_to.ensures.mesh refl c.back_to.ensures.marks in (
+      Close (not c.in-Some.failed) ∷ [],
+      goes_back kept run.groups s c.in-Some.failed group outer c.in-Some-close.ensures c.in-Some.ensures c.if-failed.true ∙ ap (Proceeds (Close (not c.in-Some.failed) ∷ [])) (sym next),
+      c.in_ok-say.ensures.said,
+    )
+
+pub returns-then-failed-clause-marks : goal.returns-then-failed-clause-marks
+returns-then-failed-clause-marks g c =
+    marks_back g.S.Surface.beyond (g.S.Surface.mesh c.args.mesh.now) (g.S.Surface.kept c.args.mesh.now) c.args.run.now c.in-Some-close.group c.close.new.self c.in-Some-close.ensures c.requires (g.S.Surface.kept c.back_to.new.self) c.back_to.ensures.marks
+
+pub returns-else-failed-clause-writes : goal.returns-else-failed-clause-writes
+returns-else-failed-clause-writes g c =
+    let kept = g.S.Surface.kept c.args.mesh.now in
+    let run = c.args.run.now in
+    let s = state_of (g.S.Surface.mesh c.args.mesh.now) kept run in (
+      Close (not c.in-Some.failed) ∷ [],
+      stays_open kept run.groups s c.in-Some.failed c.in-Some-close.group c.close.new.self c.in-Some-close.ensures c.in-Some.ensures c.if-failed.false,
+      c.in_ok-say.ensures.said,
+    )
+
+pub returns-else-failed-clause-marks : goal.returns-else-failed-clause-marks
+returns-else-failed-clause-marks g c =
+    marks_kept g.S.Surface.beyond (g.S.Surface.mesh c.args.mesh.now) (g.S.Surface.kept c.args.mesh.now) c.args.run.now c.in-Some-close.group c.close.new.self c.in-Some-close.ensures c.requires
