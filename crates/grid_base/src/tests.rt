@@ -56,7 +56,7 @@ fn midpoints_round_down_and_halves_toward_zero(rt: HostRuntime) {
     let most = SHIFT_MAX as i32;
     assert_eq!(rt;
         halved(shift(&rt, most, -most, most - 1), HALVINGS_MAX),
-        shift(&rt, 1, -1, 0)
+        shift(&rt, 4, -4, 3)
     );
 }
 

@@ -72,7 +72,7 @@ fn answers_to(rt: &impl Abort, p: &Pair, want: [bool; 4])
     requires start_fits { AreWithin HALF_MAX (positions_of p.now.start) }
     requires end_fits { AreWithin HALF_MAX (positions_of p.now.end) }
 {
-    for depth in 0..13 {
+    for depth in 0..DEPTH_MAX + 1 {
         assert_eq!(rt; answers(rt, p, depth), want, "depth {depth}");
     }
 }
@@ -251,7 +251,7 @@ fn halves_of_the_time_are_tested_to_the_depth(rt: HostRuntime) {
     let turning = pair(&rt, &TURNING, &TURNED);
     let coming = pair(&rt, &COMING, &ARRIVED);
     let going = pair(&rt, &ARRIVED, &COMING);
-    for depth in 0..13 {
+    for depth in 0..DEPTH_MAX + 1 {
         let deep = depth >= 3;
         assert_eq!(rt;
             answers(&rt, &turning, depth),

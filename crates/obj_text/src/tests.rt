@@ -56,10 +56,10 @@ fn written_again(
 fn points_stand_on_the_grid(rt: HostRuntime) -> Result<(), Fail> {
     let lists = read_obj(
         rt.alloc(),
-        b"v 67108864 0 0\nv 0.5 -0.5 1e1\nv 1e-999 0 0\nv 1 2 3 4 5 6 7",
+        b"v 268435456 0 0\nv 0.5 -0.5 1e1\nv 1e-999 0 0\nv 1 2 3 4 5 6 7",
         0,
     )?;
-    let points = [(67_108_864, 0, 0), (1, -1, 10), (0, 0, 0), (1, 2, 3)];
+    let points = [(268_435_456, 0, 0), (1, -1, 10), (0, 0, 0), (1, 2, 3)];
     assert_lists(&rt, &lists, &points, &[]);
     Ok(())
 }
@@ -120,7 +120,7 @@ fn the_first_bad_line_is_named(rt: HostRuntime) {
         ("v x 1e9 0", 1, TextWhy::Number),
         ("v 1e9 x 0", 1, TextWhy::Range),
         ("v 1e999 0 0", 1, TextWhy::Range),
-        ("v 67108865 0 0", 1, TextWhy::Range),
+        ("v 268435457 0 0", 1, TextWhy::Range),
         ("f 0 1 2", 1, TextWhy::Corner),
         ("f 1// 2 3", 1, TextWhy::Corner),
         ("f 1 2 -4", 1, TextWhy::Corner),

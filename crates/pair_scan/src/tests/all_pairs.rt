@@ -6,7 +6,7 @@ ghost use Rattle.motion_test.specs.Pairs.{positions_of};
 
 use super::generated::{Numbers, Plan, mesh_by, shifts_by};
 use crate::{Pairs, failing, first_meeting};
-use grid_base::{NoMemory, Point, moved};
+use grid_base::{DEPTH_MAX, NoMemory, Point, moved};
 use grid_meets::meets;
 use mesh_base::{FaceId, PairName, ShiftOf, Surface, VertexId, edges_in_order, live_faces};
 use motion_test::{Pair, passes};
@@ -139,11 +139,11 @@ const PLANS: [[u32; 5]; 16] = [
     [3, 12, 4, 90, 4],
     [4, 20, 3, 60, 6],
     // across the whole box
-    [3, 67_108_864, 67_108_864, 134_217_728, 3],
-    [4, 67_108_864, 1_000_000, 134_217_728, 2],
-    [4, 67_108_864, 30_000_000, 20_000_000, 4],
+    [3, 268_435_456, 268_435_456, 536_870_912, 3],
+    [4, 268_435_456, 1_000_000, 536_870_912, 2],
+    [4, 268_435_456, 30_000_000, 20_000_000, 4],
     [3, 50_000_000, 50_000_000, 5, 1],
-    [2, 67_108_864, 134_217_728, 134_217_728, 0],
+    [2, 268_435_456, 536_870_912, 536_870_912, 0],
 ];
 
 #[test]
@@ -161,7 +161,7 @@ fn the_scans_find_what_a_loop_over_all_pairs_does(rt: HostRuntime) -> Result<(),
                 step,
             };
             let depth = depth as u8;
-            assert!(rt; depth <= 12);
+            assert!(rt; depth <= DEPTH_MAX);
             let mesh = mesh_by(alloc, plan, &mut numbers, &rt)?;
             let by = shifts_by(alloc, &mesh, plan.step, &mut numbers, &rt)?;
             let plain = plainly(alloc, &mesh, by.as_slice(), depth, &rt)?;
