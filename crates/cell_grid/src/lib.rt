@@ -13,6 +13,3 @@ pub use grid_base::Extent;
 
 // An extent that touches more cells than this is looked at by every question.
 pub(crate) const CELLS_MAX: u32 = 64;
-
-#[cfg(test)]
-mod tests;

@@ -1,6 +1,6 @@
 //! The limits of a mesh.
 ghost use Rattle.std.specs.Prelude.{◌≡◌};
-ghost use Rattle.edit_base.specs.Required.{are_over};
+ghost use Rattle.mesh_base.specs.Limits.{are_over};
 
 use grid_base::{FACES_MAX, ID_MAX, VERTICES_MAX};
 

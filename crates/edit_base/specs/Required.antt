@@ -1,7 +1,7 @@
 -- What changes of a mesh require: an edge with the two faces beside it, and room.
-use Rattle.std.specs.Prelude.{◌≡◌, ℕ, ◌+◌, ◌≤◌, ◌||◌, Bool, true, nat_lt}
+use Rattle.std.specs.Prelude.{◌≡◌, ℕ, ◌+◌, ◌≤◌, true}
 use Rattle.std.specs.FinMap as finite
-use Rattle.grid_base.specs.declared.TheConstants.{VERTICES_MAX, FACES_MAX, ID_MAX}
+use Rattle.grid_base.specs.declared.TheConstants.{FACES_MAX, ID_MAX}
 use Rattle.mesh_base.specs.Mesh.{Mesh}
 use Rattle.mesh_base.specs.Pairs.{is_edge}
 use Rattle.edit_base.specs.Edges.{Edge, edge_of}
@@ -15,7 +15,3 @@ pub record HasEdge (m : Mesh) (s : Edge) : Type 0 where
 pub record HasRoomFor (count : ℕ) (m : Mesh) : Type 0 where
   pub faces : finite.len m.faces + count ≤ FACES_MAX
   pub ids : m.next_face + count ≤ ID_MAX + 1
-
--- whether counts and next ids pass the limits
-abbrev pub are_over : ℕ → ℕ → ℕ → ℕ → Bool
-are_over vertices faces next_vertex next_face = nat_lt VERTICES_MAX vertices || nat_lt FACES_MAX faces || nat_lt (ID_MAX + 1) next_vertex || nat_lt (ID_MAX + 1) next_face

@@ -9,6 +9,3 @@ mod touched;
 
 pub use checking::{check, check_still};
 pub use edit_base::{Move, Touch};
-
-#[cfg(test)]
-mod tests;

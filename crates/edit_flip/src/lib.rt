@@ -6,6 +6,3 @@ pub mod laws;
 mod trying;
 
 pub use flipping::flip;
-
-#[cfg(test)]
-mod tests;

@@ -10,9 +10,8 @@ use Rattle.mesh_base.specs.declared.ids.Corners.{Corners}
 use Rattle.mesh_base.specs.Mesh.{Mesh, IsMesh, IsSound, IsLiveVertex, HasCorners}
 use Rattle.mesh_base.specs.Sides.{IsClosed}
 use Rattle.mesh_base.specs.Changes.{with_vertex, without_face, with_point}
-use Rattle.mesh_base.specs.Limits.{is_over_limits}
+use Rattle.mesh_base.specs.Limits.{are_over, is_over_limits}
 use Rattle.edit_base.specs.Edges.{corners_at, renamed, with_renamed, with_all_renamed}
-use Rattle.edit_base.specs.Required.{are_over}
 use Rattle.edit_pinch.specs.Pinch.{fans, fan_point, with_copy, pinch_mesh, pinch_scaffold, first_point, later_copies, copy_points}
 use Rattle.edit_acts.proofs.Flow.{AreBelow, not_live, below-without}
 use Rattle.edit_acts.proofs.Counting.{len-without}

@@ -11,9 +11,8 @@ use Rattle.grid_base.specs.declared.Point.{Point}
 use Rattle.mesh_base.specs.Mesh.{Mesh, IsMesh, IsSound, IsLiveVertex}
 use Rattle.mesh_base.specs.Sides.{IsClosed}
 use Rattle.mesh_base.specs.Changes.{without_face, with_vertex, with_point, IsFullOfFaces}
-use Rattle.mesh_base.specs.Limits.{is_over_limits}
+use Rattle.mesh_base.specs.Limits.{are_over, is_over_limits}
 use Rattle.edit_base.specs.Edges.{corners_at, renamed, with_renamed}
-use Rattle.edit_base.specs.Required.{are_over}
 use Rattle.edit_pinch.specs.Pinch.{fans, with_copy, pinch_scaffold}
 use Rattle.edit_acts.proofs.Counting.{len-insert_le, len-without}
 use Rattle.edit_pinch.proofs.CopyClosed.{next_vertex-renamed, points-renamed}

@@ -9,6 +9,3 @@ mod shifting;
 
 pub use fans::fan_count;
 pub use pinching::pinch;
-
-#[cfg(test)]
-mod tests;

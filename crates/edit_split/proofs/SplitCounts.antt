@@ -6,10 +6,9 @@ use Rattle.grid_base.specs.declared.TheConstants.{ID_MAX}
 use Rattle.grid_base.specs.declared.Point.{Point}
 use Rattle.mesh_base.specs.Mesh.{Mesh, IsSound}
 use Rattle.mesh_base.specs.Changes.{with_vertex, without_face}
-use Rattle.mesh_base.specs.Limits.{is_over_limits}
+use Rattle.mesh_base.specs.Limits.{are_over, is_over_limits}
 use Rattle.edit_base.specs.Edges.{Edge, without_faces}
 use Rattle.edit_split.specs.Split.{split_faces, split_mesh, split_is_over}
-use Rattle.edit_base.specs.Required.{are_over}
 use Rattle.edit_base.specs.Beside.{IsBeside}
 use Rattle.edit_acts.proofs.Flow.{AreBelow, below-without, below_next}
 use Rattle.edit_acts.proofs.Counting.{len-with_new, len-with_faces, len-without_two, next_is_no_vertex}

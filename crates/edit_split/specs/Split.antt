@@ -10,7 +10,7 @@ use Rattle.mesh_base.specs.Mesh.{Mesh}
 use Rattle.mesh_base.specs.Changes.{with_vertex}
 use Rattle.edit_base.specs.Edges.{Edge, floor_mid, exact_mid, corners_from, without_faces, with_faces}
 use Rattle.mesh_base.specs.Placements.{point_of}
-use Rattle.edit_base.specs.Required.{are_over}
+use Rattle.mesh_base.specs.Limits.{are_over}
 use Rattle.edit_base.specs.Scaffold.{Scaffold}
 
 -- the two faces beside the edge

@@ -7,6 +7,3 @@ mod splitting;
 
 pub use acts::{apply_split, is_split_over, split_point};
 pub use splitting::split;
-
-#[cfg(test)]
-mod tests;

@@ -12,6 +12,3 @@ mod zipping;
 
 pub use ready::zip_ready;
 pub use zipping::zip;
-
-#[cfg(test)]
-mod tests;

@@ -8,8 +8,6 @@ mod list;
 mod memory;
 mod moving;
 mod pair_positions;
-#[cfg(test)]
-mod tests;
 mod vector;
 
 pub use extent::Extent;

@@ -3,8 +3,6 @@
 
 mod axes;
 mod lines;
-#[cfg(test)]
-mod tests;
 
 ghost use Rattle.std.specs.Prelude.{◌≡◌, ◌↔◌, IsTrue, ◌<ℤ◌, pos};
 ghost use Rattle.grid_base.specs.Triples.{Triple, IsWithin, orientation};

@@ -2,8 +2,10 @@ ghost use Rattle.std.specs.Prelude.{◌≡◌, All};
 ghost use Rattle.mesh_base.specs.Mesh.{IsSound};
 
 use crate::tables::Tables;
-use grid_base::{FACES_MAX, ID_MAX, NoMemory, Point, VERTICES_MAX};
-use mesh_base::{AddFault, Corners, FaceId, Mark, MeshLists, Surface, VertexId};
+use grid_base::{Extent, FACES_MAX, ID_MAX, NoMemory, Point, VERTICES_MAX};
+use mesh_base::{
+    AddFault, Corners, FaceId, Mark, MeshLists, Surface, VertexId, faces_near_of_all,
+};
 use std::alloc::Global;
 
 /// A mesh in half-edges: a look-up at a vertex takes time in proportion to its faces. It keeps a copy of the mesh for each
@@ -146,6 +148,10 @@ impl Surface for HalfMesh {
     /// Looks at the faces at `v`.
     fn faces_at(&self, v: VertexId, into: &mut Vec<FaceId>) -> Result<(), NoMemory> {
         self.now.faces_at(v, into)
+    }
+
+    fn faces_near(&self, at: Extent, into: &mut Vec<FaceId>) -> Result<(), NoMemory> {
+        faces_near_of_all(self, &at, into)
     }
 
     fn add_vertex(&mut self, p: Point) -> Result<VertexId, AddFault>

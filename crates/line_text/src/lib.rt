@@ -13,8 +13,6 @@ mod pieces;
 mod putting;
 mod spelling;
 mod taking;
-#[cfg(test)]
-mod tests;
 mod text_lines;
 
 pub use blank_words::Words;

@@ -12,8 +12,6 @@ mod printing;
 mod putting;
 mod reading;
 mod refusals;
-#[cfg(test)]
-mod tests;
 mod values;
 
 pub use log_line::{Log, LogLine, Refusal};

@@ -14,3 +14,4 @@ pub mod KeysKept
 pub mod InOrder
 pub mod EdgesInOrder
 pub mod PointOf
+pub mod NearReading

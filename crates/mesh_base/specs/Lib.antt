@@ -11,3 +11,4 @@ pub mod Limits
 pub mod SideSet
 pub mod Valid
 pub mod Laws
+pub mod Near

@@ -5,11 +5,12 @@ ghost use Rattle.mesh_base.specs.Mesh.{Mesh, IsSound, IsLiveVertex, IsLiveFace, 
 ghost use Rattle.mesh_base.specs.Sides.{above, runs, faces_running, faces_at};
 ghost use Rattle.mesh_base.specs.Changes.{corners_of, corner_list, with_vertex, with_face, without_face, without_vertex, with_point, with_solid, IsFresh, IsFullOfVertices, IsFullOfFaces};
 ghost use Rattle.mesh_base.specs.Kept.{BeginsWith, MarkHolds, StandsFor};
+ghost use Rattle.mesh_base.specs.Near.{faces_near};
 
 use crate::faults::AddFault;
 use crate::ids::{FaceId, VertexId};
 use crate::marks::Mark;
-use grid_base::{NoMemory, Point};
+use grid_base::{Extent, NoMemory, Point};
 
 /// A mesh, however it is kept, with a list of kept meshes to which it can go back.
 ///
@@ -75,6 +76,19 @@ pub trait Surface {
     fn faces_at(&self, v: VertexId, into: &mut Vec<FaceId>) -> Result<(), NoMemory>
         ensures ok { OnOk result (into.new.items ≡ faces_at (mesh self.now) v) }
         ensures err { OnErr result (into.new.items ≡ []) };
+
+    /// Sets `into` to the faces near the extent, by rising id: those whose boxes, around the corners where they stand in
+    /// half units, have a common point with it. Where memory is wanting, `into` is empty.
+    fn faces_near(&self, at: Extent, into: &mut Vec<FaceId>) -> Result<(), NoMemory>
+        ensures ok { OnOk result (into.new.items ≡ faces_near (mesh self.now) at) }
+        ensures err { OnErr result (into.new.items ≡ []) };
+
+    /// Makes ready for many questions after the faces near extents, so that each costs what it finds; without it, and
+    /// where memory is wanting, each live face may be looked at. Mesh and kept meshes stay.
+    fn index(&mut self)
+        ensures mesh { mesh self.new ≡ mesh self.old }
+        ensures kept { kept self.new ≡ kept self.old }
+    {}
 
     /// Makes a vertex that has no face and is not solid, and answers its id, the next. Full exactly where `VERTICES_MAX` vertices are live
     /// or the id `ID_MAX` is given; an answer that is not Ok leaves all as it was.

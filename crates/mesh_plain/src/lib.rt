@@ -15,6 +15,3 @@ pub use mesh_base::{
     edges_in_order, live_faces, live_vertices,
 };
 pub use plain::PlainMesh;
-
-#[cfg(test)]
-mod tests;

@@ -2,8 +2,8 @@ ghost use Rattle.std.specs.Prelude.{◌≡◌, All};
 ghost use Rattle.mesh_base.specs.Mesh.{IsSound};
 
 use crate::tables::Tables;
-use grid_base::{FACES_MAX, ID_MAX, NoMemory, Point, VERTICES_MAX};
-use mesh_base::{AddFault, Corners, FaceId, Mark, MeshLists, Surface, VertexId};
+use grid_base::{Extent, FACES_MAX, ID_MAX, NoMemory, Point, VERTICES_MAX};
+use mesh_base::{AddFault, Corners, FaceId, Mark, MeshLists, Surface, VertexId, faces_near_of_all};
 use std::alloc::Global;
 
 /// A mesh in ordered maps from ids. It keeps a copy of the mesh for each mark.
@@ -128,6 +128,10 @@ impl Surface for PlainMesh {
     /// Looks at each live face.
     fn faces_at(&self, v: VertexId, into: &mut Vec<FaceId>) -> Result<(), NoMemory> {
         self.now.faces_at(v, into)
+    }
+
+    fn faces_near(&self, at: Extent, into: &mut Vec<FaceId>) -> Result<(), NoMemory> {
+        faces_near_of_all(self, &at, into)
     }
 
     fn add_vertex(&mut self, p: Point) -> Result<VertexId, AddFault>

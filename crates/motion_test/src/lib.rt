@@ -5,8 +5,6 @@ mod direction_list;
 mod halving;
 mod one_direction;
 mod some_direction;
-#[cfg(test)]
-mod tests;
 
 ghost use Rattle.std.specs.Prelude.{◌≡◌, ◌↔◌, ◌≤◌, IsTrue};
 ghost use Rattle.grid_base.specs.Meeting.{AreWithin};

@@ -5,8 +5,6 @@ mod corner;
 mod law;
 mod lists_writing;
 mod reading;
-#[cfg(test)]
-mod tests;
 mod writing;
 
 pub use law::{lists_are_read, written_is_read, written_stays_good};

@@ -15,6 +15,3 @@ pub use memory_desk::MemoryDesk;
 pub use memory_sink::MemorySink;
 pub use real::{FileDesk, StdSink};
 pub use sink::{Failed, Sink, put_all};
-
-#[cfg(test)]
-mod tests;

@@ -13,6 +13,3 @@ pub use failing_pairs::{Pairs, failing};
 pub use lookup::place_of;
 pub use meeting::first_meeting;
 pub use named::five_of;
-
-#[cfg(test)]
-mod tests;

@@ -13,6 +13,3 @@ mod turns;
 pub use faults::PassFault;
 pub use passing::{PassCount, pass};
 pub use terms::PassTerms;
-
-#[cfg(test)]
-mod tests;

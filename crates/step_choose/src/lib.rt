@@ -9,8 +9,6 @@ mod impulses;
 mod lists;
 mod rounds;
 mod settings;
-#[cfg(test)]
-mod tests;
 
 pub use choosing::{Choice, choose};
 pub use settings::Settings;

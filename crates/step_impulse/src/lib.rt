@@ -5,8 +5,6 @@ mod axis;
 mod impulse;
 pub mod laws;
 mod pass;
-#[cfg(test)]
-mod tests;
 
 pub use axis::Axis;
 pub use impulse::axis_impulse;

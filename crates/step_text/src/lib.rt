@@ -4,8 +4,6 @@
 mod directive;
 pub mod laws;
 mod reading;
-#[cfg(test)]
-mod tests;
 
 pub use directive::{Directive, Directives, Placed};
 pub use reading::read_steps;

@@ -6,8 +6,6 @@ mod labels;
 pub mod laws;
 mod moving;
 mod searching;
-#[cfg(test)]
-mod tests;
 mod totals;
 
 pub use found::Zoned;

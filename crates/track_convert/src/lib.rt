@@ -5,8 +5,6 @@ mod converting;
 mod fault;
 mod finding;
 mod formats;
-#[cfg(test)]
-mod tests;
 
 pub use converting::convert;
 pub use fault::ConvertFault;

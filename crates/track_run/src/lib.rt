@@ -7,6 +7,3 @@ mod top;
 
 pub use outcome::Outcome;
 pub use top::run;
-
-#[cfg(test)]
-mod tests;

@@ -1,5 +1,5 @@
 use Rattle.std.proofs.Common.{◌+◌, ◌∙◌}
-use Rattle.edit_base.specs.Required.{are_over}
+use Rattle.mesh_base.specs.Limits.{are_over}
 use Rattle.edit_split.proofs.PutSplit.{counts_of_split}
 use Rattle.edit_split.proofs.acts.is_split_over.Goals as goal
 

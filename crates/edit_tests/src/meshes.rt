@@ -1,0 +1,118 @@
+//! Meshes for the examples, and what is asked of meshes and answers.
+ghost use Rattle.std.specs.Prelude.{IfOk};
+ghost use Rattle.mesh_base.specs.Placements.{IsClearMesh};
+ghost use Rattle.mesh_base.specs.Sides.{IsClosed};
+
+use edit_base::{Edit, Why};
+use grid_base::{NoMemory, Point};
+use mesh_plain::{FaceId, MeshLists, PlainMesh, Points, Surface, Triangles, VertexId, shape};
+use pair_scan::first_meeting;
+use std::alloc::Global;
+use std::process::Abort;
+
+pub(crate) const TETRAHEDRON: [[i32; 3]; 4] = [[0, 0, 0], [4, 0, 0], [0, 4, 0], [0, 0, 4]];
+
+pub(crate) const TETRAHEDRON_FACES: [[u32; 3]; 4] = [[1, 3, 2], [1, 2, 4], [2, 3, 4], [1, 4, 3]];
+
+// The faces of two tetrahedra, with the vertices 1 to 4 and 5 to 8.
+pub(crate) const TWO_TETRAHEDRA: [[u32; 3]; 8] = [
+    [1, 3, 2],
+    [1, 2, 4],
+    [2, 3, 4],
+    [1, 4, 3],
+    [5, 7, 6],
+    [5, 6, 8],
+    [6, 7, 8],
+    [5, 8, 7],
+];
+
+// A flat double pyramid over the triangle 1 2 3, in which 4 and 5 stand near the edge 1 2.
+pub(crate) const FLAT: [[i32; 3]; 5] = [
+    [0, 0, 0],
+    [24, 0, 0],
+    [12, 20, 0],
+    [12, 6, 4],
+    [12, 6, -4],
+];
+
+pub(crate) const FLAT_FACES: [[u32; 3]; 6] = [
+    [1, 2, 4],
+    [2, 3, 4],
+    [3, 1, 4],
+    [2, 1, 5],
+    [3, 2, 5],
+    [1, 3, 5],
+];
+
+pub(crate) fn point(p: [i32; 3], rt: &impl Abort) -> Point {
+    Point::new(p[0], p[1], p[2]).expect(rt, "a point in the box")
+}
+
+pub(crate) fn lists_at(
+    alloc: Global,
+    points: &[[i32; 3]],
+    faces: &[[u32; 3]],
+    rt: &impl Abort,
+) -> Result<MeshLists, NoMemory> {
+    let mut lists = MeshLists {
+        points: Points::new(alloc),
+        faces: Triangles::new(alloc),
+    };
+    for p in points {
+        lists.points.push(point(*p, rt))?;
+    }
+    for f in faces {
+        lists.faces.push(*f)?;
+    }
+    Ok(lists)
+}
+
+// The mesh of these lists, which may meet itself.
+pub(crate) fn any_mesh_at(
+    alloc: Global,
+    points: &[[i32; 3]],
+    faces: &[[u32; 3]],
+    rt: &impl Abort,
+) -> Result<PlainMesh, NoMemory>
+    ensures { IfOk result (λ s. IsClosed (⟦<PlainMesh as Surface>⟧.mesh s)) }
+{
+    let lists = lists_at(alloc, points, faces, rt)?;
+    let shaped = shape(alloc, &lists);
+    assert!(rt; shaped.is_ok());
+    PlainMesh::of(alloc, &lists)
+}
+
+// The mesh of these lists, which is clear.
+pub(crate) fn mesh_at(
+    alloc: Global,
+    points: &[[i32; 3]],
+    faces: &[[u32; 3]],
+    rt: &impl Abort,
+) -> Result<PlainMesh, NoMemory>
+    ensures closed { IfOk result (λ s. IsClosed (⟦<PlainMesh as Surface>⟧.mesh s)) }
+    ensures clear { IfOk result (λ s. IsClearMesh (⟦<PlainMesh as Surface>⟧.mesh s)) }
+{
+    let mesh = any_mesh_at(alloc, points, faces, rt)?;
+    let found = first_meeting(alloc, &mesh)?;
+    assert!(rt; found.is_none());
+    Ok(mesh)
+}
+
+// Whether each of these faces lives and has the corners.
+pub(crate) fn has_faces<S: Surface>(mesh: &S, faces: &[(u32, [u32; 3])]) -> bool {
+    for (id, c) in faces {
+        let corners = [VertexId(c[0]), VertexId(c[1]), VertexId(c[2])];
+        if mesh.corners(FaceId(*id)) != Some(corners) {
+            return false;
+        }
+    }
+    true
+}
+
+// Why an edit is refused.
+pub(crate) fn reason_of(edit: &Edit) -> Option<Why> {
+    match edit {
+        Edit::Done(_) => None,
+        Edit::No(why) => Some(*why),
+    }
+}

@@ -1,0 +1,14 @@
+//! Worked examples on points, tests of edges against triangles, motions, and a grid of cells.
+#![tactic(auto)]
+
+#[cfg(test)]
+mod cells;
+
+#[cfg(test)]
+mod meeting;
+
+#[cfg(test)]
+mod motions;
+
+#[cfg(test)]
+mod points;

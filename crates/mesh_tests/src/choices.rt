@@ -1,0 +1,224 @@
+//! Worked examples: two tetrahedra beside each other, where corners of the second are asked to go into or through the first.
+ghost use Rattle.std.specs.Prelude.{◌≡◌, true, IsTrue, IfOk};
+ghost use Rattle.grid_base.specs.declared.TheConstants.{BOX};
+ghost use Rattle.grid_base.specs.Points.{displacement_of, is_within};
+ghost use Rattle.grid_base.specs.Triples.{plus};
+ghost use Rattle.mesh_base.specs.Mesh.{is_solid};
+ghost use Rattle.mesh_base.specs.Placements.{origin, rest_positions};
+ghost use Rattle.mesh_base.specs.Shifts.{NameLive, end_in_box};
+ghost use Rattle.pair_scan.specs.Solids.{SolidsRest};
+
+use step_choose::{Choice, PASSES_MAX, Settings, choose};
+use grid_base::{DEPTH_MAX, HALVINGS_MAX, NoMemory, Point, Shift, moved};
+use mesh_base::{How, ShiftOf, Shifts, Surface, VertexId, live_vertices};
+use mesh_plain::{MeshLists, PlainMesh, Points, Triangles, shape};
+use pair_scan::first_meeting;
+use std::alloc::Global;
+use std::process::Abort;
+use std::test::Fail;
+
+// The first has the vertices 1 to 4 and a face in x = 0, and the vertex 5 of the second stands before it.
+const POINTS: [[i32; 3]; 8] = [
+    [0, 0, 0],
+    [0, 12, 0],
+    [0, 0, 12],
+    [-12, 0, 0],
+    [8, 2, 2],
+    [12, 2, 2],
+    [12, 6, 2],
+    [14, 2, 6],
+];
+
+const FACES: [[u32; 3]; 8] = [
+    [1, 2, 3],
+    [2, 1, 4],
+    [3, 2, 4],
+    [1, 3, 4],
+    [6, 7, 8],
+    [7, 6, 5],
+    [8, 7, 5],
+    [6, 8, 5],
+];
+
+// The two, the first vertex solid or not.
+fn beside(alloc: Global, solid: bool, rt: &impl Abort) -> Result<PlainMesh, NoMemory> {
+    let mut lists = MeshLists {
+        points: Points::new(alloc),
+        faces: Triangles::new(alloc),
+    };
+    for [x, y, z] in POINTS {
+        lists
+            .points
+            .push(Point::new(x, y, z).expect(rt, "a point in the box"))?;
+    }
+    for face in FACES {
+        lists.faces.push(face)?;
+    }
+    let shaped = shape(alloc, &lists);
+    assert!(rt; shaped.is_ok());
+    let mut mesh = PlainMesh::of(alloc, &lists)?;
+    if solid {
+        assert!(rt; mesh.point(VertexId(1)).is_some());
+        mesh.make_solid(VertexId(1))?;
+    }
+    Ok(mesh)
+}
+
+// A shift of a vertex along x, and none of a solid one.
+fn shift_of<S: Surface>(mesh: &S, v: VertexId, x: i32, rt: &impl Abort) -> ShiftOf
+    ensures named { result.v ≡ v }
+    ensures in_box { is_within BOX (plus (rest_positions (S.mesh mesh.now) v) (displacement_of result.by)) ≡ true }
+    ensures solid { is_solid (S.mesh mesh.now) v ≡ true → displacement_of result.by ≡ origin }
+{
+    let from = mesh.point(v).expect(rt, "a live vertex");
+    let x = if mesh.solid(v) { 0 } else { x };
+    let by = Shift::new(x, 0, 0).expect(rt, "a shift within the limit");
+    assert!(rt; moved(from, by).is_some());
+    ShiftOf { v, by }
+}
+
+// What is asked of the vertex of a number.
+fn along(xs: &[i32; 8], v: VertexId) -> i32 {
+    match xs.get((v.0 as usize).wrapping_sub(1)) {
+        Some(x) => *x,
+        None => 0,
+    }
+}
+
+fn shifts_of<S: Surface>(
+    alloc: Global,
+    mesh: &S,
+    xs: &[i32; 8],
+    rt: &impl Abort,
+) -> Result<Shifts, NoMemory>
+    ensures named { IfOk result (NameLive (S.mesh mesh.now)) }
+    ensures in_box { IfOk result (λ by. IsTrue (end_in_box (S.mesh mesh.now) by)) }
+    ensures solid { IfOk result (SolidsRest (S.mesh mesh.now)) }
+{
+    let ids = live_vertices(alloc, mesh)?;
+    let mut by = Shifts::new(alloc);
+    for v in ids.as_slice() {
+        by.push(shift_of(mesh, *v, along(xs, *v), rt))?;
+    }
+    Ok(by)
+}
+
+fn chosen(
+    alloc: Global,
+    solid: bool,
+    xs: &[i32; 8],
+    set: Settings,
+    rt: &impl Abort,
+) -> Result<Choice, NoMemory> {
+    let mesh = beside(alloc, solid, rt)?;
+    let met = first_meeting(alloc, &mesh)?;
+    assert!(rt; met.is_none());
+    assert!(rt; set.depth <= DEPTH_MAX && set.passes <= PASSES_MAX && set.halvings <= HALVINGS_MAX);
+    let asked = shifts_of(alloc, &mesh, xs, rt)?;
+    choose(alloc, &mesh, &asked, &set)
+}
+
+// By how much each vertex moves along x.
+fn taken_along(choice: &Choice) -> [i32; 8] {
+    let mut xs = [0; 8];
+    for s in choice.taken.as_slice() {
+        let k = (s.v.0 as usize).wrapping_sub(1);
+        if k < 8 {
+            xs[k] = s.by.x;
+        }
+    }
+    xs
+}
+
+// Whether the vertex 1 is solid; what is asked; passes, zones and halvings; and what follows: how the step is taken, how many
+// pairs fail, and by how much each vertex moves along x.
+const CASES: [(bool, [i32; 8], (u8, bool, u8), (How, usize, [i32; 8])); 8] = [
+    // the vertex 5 stays before the face
+    (
+        false,
+        [0, 0, 0, 0, -7, 0, 0, 0],
+        (3, true, 6),
+        (How::Whole, 0, [0, 0, 0, 0, -7, 0, 0, 0]),
+    ),
+    // it ends in the face
+    (
+        false,
+        [0, 0, 0, 0, -8, 0, 0, 0],
+        (0, false, 6),
+        (How::Halved { times: 1 }, 3, [0, 0, 0, 0, -4, 0, 0, 0]),
+    ),
+    // the second passes through the first
+    (
+        false,
+        [0, 0, 0, 0, -40, -40, -40, -40],
+        (0, false, 6),
+        (How::Halved { times: 3 }, 12, [0, 0, 0, 0, -5, -5, -5, -5]),
+    ),
+    (
+        false,
+        [0, 0, 0, 0, -8, 0, 0, 0],
+        (0, false, 0),
+        (How::Zero, 3, [0; 8]),
+    ),
+    // the mean of -8 and six zeros, rounded toward zero
+    (
+        false,
+        [0, 0, 0, 0, -8, 0, 0, 0],
+        (0, true, 6),
+        (How::Zones { rounds: 1 }, 3, [-1, -1, -1, 0, -1, -1, -1, -1]),
+    ),
+    // fifths rounded down, and one more for the smallest ids
+    (
+        false,
+        [0, 0, 0, 0, -8, 0, 0, 0],
+        (3, true, 6),
+        (
+            How::Impulse { passes: 1 },
+            3,
+            [0, -1, -1, 0, -1, -2, -2, -1],
+        ),
+    ),
+    // a solid vertex holds the others
+    (
+        true,
+        [0, 0, 0, 0, -8, 0, 0, 0],
+        (0, true, 6),
+        (How::Zones { rounds: 1 }, 3, [0; 8]),
+    ),
+    (
+        true,
+        [0, 0, 0, 0, -8, 0, 0, 0],
+        (3, true, 6),
+        (How::Impulse { passes: 1 }, 3, [0; 8]),
+    ),
+];
+
+#[test]
+fn a_step_is_taken_by_the_first_way_that_applies(rt: HostRuntime) -> Result<(), Fail> {
+    for (solid, xs, (passes, zones, halvings), (how, hits, moves)) in CASES {
+        let set = Settings {
+            depth: 6,
+            passes,
+            zones,
+            halvings,
+        };
+        let choice = chosen(rt.alloc(), solid, &xs, set, &rt)?;
+        assert_eq!(rt; choice.how, how);
+        assert_eq!(rt; choice.hits.len(), hits);
+        assert_eq!(rt; taken_along(&choice), moves);
+        let is_zoned = matches!(&choice.how, How::Zones { .. });
+        assert_eq!(rt; choice.blocks.len(), if is_zoned { 1 } else { 0 });
+        if let Some(block) = choice.blocks.get(0) {
+            assert_eq!(rt;
+                block.as_slice(),
+                [1, 2, 3, 5, 6, 7, 8].map(|v| VertexId(v)).as_slice()
+            );
+        }
+    }
+    let first = Settings::at_first();
+    assert_eq!(rt;
+        (first.depth, first.passes, first.zones, first.halvings),
+        (6, 3, true, 6)
+    );
+    Ok(())
+}

@@ -1,0 +1,20 @@
+//! Worked examples on meshes, and on the pairs of an edge and a face in a step.
+#![tactic(auto)]
+
+#[cfg(test)]
+mod choices;
+
+#[cfg(test)]
+mod half_edges;
+
+#[cfg(test)]
+mod impulses;
+
+#[cfg(test)]
+mod plain;
+
+#[cfg(test)]
+mod scans;
+
+#[cfg(test)]
+mod zones;

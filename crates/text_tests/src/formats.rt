@@ -1,0 +1,177 @@
+//! Worked examples: texts that are read and written in three formats, and texts outside the grammars.
+use other_text::{off_of, ply_of, read_off, read_ply};
+use grid_base::{DECIMALS_MAX, NoMemory};
+use line_text::{Parts, ReadFault, TextFault, cut_at};
+use mesh_base::MeshLists;
+use mesh_plain::{PlainMesh, shape};
+use obj_text::{obj_of, read_obj};
+use std::alloc::Global;
+use std::process::Abort;
+use std::test::Fail;
+
+const OBJ: &str = "v 0 0 0\nv 4 0 0\nv 0 4 0\nv 0 0 4\nf 1 3 2\nf 1 2 4\nf 2 3 4\nf 1 4 3\n";
+
+const OFF: &str = "OFF\n4 4 0\n0 0 0\n4 0 0\n0 4 0\n0 0 4\n3 0 2 1\n3 0 1 3\n3 1 2 3\n3 0 3 2\n";
+
+const PLY: &str = "ply\nformat ascii 1.0\nelement vertex 4\nproperty double x\nproperty double y\n\
+property double z\nelement face 4\nproperty list uchar int vertex_indices\nend_header\n\
+0 0 0\n4 0 0\n0 4 0\n0 0 4\n3 0 2 1\n3 0 1 3\n3 1 2 3\n3 0 3 2\n";
+
+// A pyramid on a square, with words that are not read.
+const OFF_PYRAMID: &str = "OFF\n# a pyramid\n5 5 8 0\n\n0 0 0 255 0 0\r\n4 0 0\n4 4 0\n0 4 0\n\
+2 2 3 1 # its top\n4 3 2 1 0 0.5\n3 0 1 4 255 0 0\n3 1 2 4\n3 2 3 4\n3 3 0 4";
+
+// The same with properties before and after the coordinates, which stand as z, x and y.
+const PLY_PYRAMID: &str = "ply\ncomment a pyramid\nformat ascii 1.0\nobj_info made by hand\n\n\
+element vertex 5\nproperty uchar red\nproperty float z\nproperty float x\ncomment\n\
+property float y # third\nproperty int quality\nelement face 5\n\
+property list uchar int vertex_index\nobj_info\nproperty uint8 material\nproperty float64 x\n\
+end_header\n7 0 0 0 -1\n7 0 4 0 -1\n7 0 4 4 -1\n7 0 0 4 -1\nred 3 2 2 none\n\
+4 3 2 1 0 9 0\n3 0 1 4 9 0\n3 1 2 4 9 0\n\n3 2 3 4 9 0\n3 3 0 4 x y\n";
+
+const PYRAMID: &str = "OFF\n5 6 0\n0 0 0\n4 0 0\n4 4 0\n0 4 0\n2 2 3\n\
+3 3 2 1\n3 3 1 0\n3 0 1 4\n3 1 2 4\n3 2 3 4\n3 3 0 4\n";
+
+const OFF_DECIMALS: &str =
+    "OFF\n5 5\n-0.0005 0 0\n4 0 0\n4 4 0\n0 4 0\n2 2 3.0625\n4 3 2 1 0\n3 0 1 4\n3 1 2 4\n3 2 3 4\n3 3 0 4\n";
+
+const DECIMALS: &str = "OFF\n5 6 0\n-0.001 0.000 0.000\n4.000 0.000 0.000\n4.000 4.000 0.000\n\
+0.000 4.000 0.000\n2.000 2.000 3.063\n3 3 2 1\n3 3 1 0\n3 0 1 4\n3 1 2 4\n3 2 3 4\n3 3 0 4\n";
+
+// The first two lines of a PLY text, and what follows them up to a vertex with its coordinates, and to a face.
+const ASCII: &str = "ply\nformat ascii 1.0\n";
+
+const VERTEX: &str = "ply\nformat ascii 1.0\nelement vertex 1\nproperty float x\nproperty float y\n\
+property float z\n";
+
+const HEAD: &str = "ply\nformat ascii 1.0\nelement vertex 1\nproperty float x\nproperty float y\n\
+property float z\nelement face 1\nproperty list uchar int vertex_indices\nend_header\n";
+
+#[derive(Clone, Copy)]
+enum Format {
+    Off,
+    Ply,
+}
+
+fn read(
+    rt: &impl Abort,
+    alloc: Global,
+    format: Format,
+    text: &[u8],
+    decimals: u8,
+) -> Result<MeshLists, ReadFault> {
+    assert!(rt; text.len() < 10_000 && decimals <= DECIMALS_MAX);
+    match format {
+        Format::Off => read_off(alloc, text, decimals),
+        Format::Ply => read_ply(alloc, text, decimals),
+    }
+}
+
+#[test]
+fn meshes_are_the_same_in_each_format(rt: HostRuntime) -> Result<(), Fail> {
+    let lists = read_obj(rt.alloc(), OBJ.as_bytes(), 0)?;
+    let off = off_of(rt.alloc(), &lists, 0)?;
+    assert_eq!(rt; off.as_slice(), OFF.as_bytes());
+    let lists = read(&rt, rt.alloc(), Format::Off, OFF.as_bytes(), 0)?;
+    let ply = ply_of(rt.alloc(), &lists, 0)?;
+    assert_eq!(rt; ply.as_slice(), PLY.as_bytes());
+    let lists = read(&rt, rt.alloc(), Format::Ply, PLY.as_bytes(), 0)?;
+    let good = shape(rt.alloc(), &lists);
+    assert!(rt; good.is_ok());
+    let mesh = PlainMesh::of(rt.alloc(), &lists)?;
+    let obj = obj_of(rt.alloc(), &mesh, 0)?;
+    assert_eq!(rt; obj.as_slice(), OBJ.as_bytes());
+    for (format, text, decimals, written) in [
+        (Format::Off, OFF_PYRAMID, 0, PYRAMID),
+        (Format::Ply, PLY_PYRAMID, 0, PYRAMID),
+        (Format::Off, OFF_DECIMALS, 3, DECIMALS),
+    ] {
+        let lists = read(&rt, rt.alloc(), format, text.as_bytes(), decimals)?;
+        assert!(rt; decimals <= DECIMALS_MAX);
+        let off = off_of(rt.alloc(), &lists, decimals)?;
+        assert_eq!(rt; off.as_slice(), written.as_bytes());
+    }
+    Ok(())
+}
+
+// Texts outside the grammars, with `|` between them. In front of each stands a line with the number of its first bad line
+// and the reason.
+const OFF_FAULTS: &[u8] = b"1 Short\n\
+|1 Unknown\nOFF 1\n\
+|2 Short\nOFF\nx\n\
+|2 Number\nOFF\n1 12345678901\
+|3 Short\nOFF\n1 0\nx 0\
+|3 Number\nOFF\n1 0\n0 x 1e9\
+|3 Range\nOFF\n1 0\n1e9 x 0\
+|3 Number\nOFF\n0 1\n-3 0\
+|3 Range\nOFF\n0 1\n2\
+|3 Short\nOFF\n0 1\n3 0 x\
+|3 Corner\nOFF\n0 1\n3 0 -1 0\
+|3 Corner\nOFF\n0 1\n3 0 0 4294967295\
+|4 Long\nOFF\n1 0\n0.5 -0.5 1e1\n3 0 0 0\
+|4 Short\nOFF\n2 0\n0 0 0\
+|5 Short\nOFF\n1 1\n0 0 0\n\n";
+
+const PLY_FAULTS: &[u8] = b"1 Unknown\ncomment x\nply\n\
+|2 Unknown\nply\nformat binary_little_endian 1.0\n\
+|4 Short\nply\ncomment x\nformat ascii 1.0\n";
+
+const ASCII_FAULTS: &[u8] = b"3 Number\nelement vertex x\n\
+|3 Unknown\nelement vertex\n\
+|3 Unknown\nelement edge 1\n\
+|6 Unknown\nelement vertex 1\nproperty float y\nproperty float z\nelement face 1\n";
+
+const VERTEX_FAULTS: &[u8] = b"7 Unknown\nproperty int x\n\
+|7 Unknown\nproperty list uchar int vertex_index\n\
+|7 Number\nelement face x\n\
+|8 Unknown\nelement face 1\nproperty float area\n";
+
+const ROW_FAULTS: &[u8] = b"10 Short\nx 0\n\
+|10 Long\n0 0 0 0\n\
+|10 Number\ncomment a b\n\
+|10 Range\n1e9 x 0\n\
+|11 Short\n0 0 0\n\
+|11 Number\n0 0 0\nx\n\
+|11 Range\n0 0 0\n2 0\n\
+|11 Long\n0 0 0\n3 0 0 0 0\n\
+|11 Corner\n0 0 0\n3 0 0 4294967295\n\
+|13 Long\n0 0 0\n3 0 0 0\n\n0\n";
+
+// Each text, behind the head, has the fault that stands in front of it.
+fn assert_faults(
+    rt: &impl Abort,
+    alloc: Global,
+    format: Format,
+    head: &str,
+    cases: &[u8],
+) -> Result<(), NoMemory> {
+    for case in Parts::new(b'|', cases) {
+        let (want, rest) = cut_at(b'\n', case);
+        let mut text = Vec::new(alloc);
+        text.extend_from_slice(head.as_bytes())?;
+        text.extend_from_slice(rest.unwrap_or(b""))?;
+        match read(rt, alloc, format, text.as_slice(), 0) {
+            Err(ReadFault::Text(TextFault { line, why })) => {
+                let found = format!(in alloc; "{line} {why:?}")?;
+                assert_eq!(rt; found.as_bytes(), want);
+            }
+            _ => assert!(rt; false),
+        }
+    }
+    Ok(())
+}
+
+#[test]
+fn the_first_bad_line_is_named(rt: HostRuntime) -> Result<(), Fail> {
+    let tables = [
+        (Format::Off, "", OFF_FAULTS),
+        (Format::Ply, "", PLY_FAULTS),
+        (Format::Ply, ASCII, ASCII_FAULTS),
+        (Format::Ply, VERTEX, VERTEX_FAULTS),
+        (Format::Ply, HEAD, ROW_FAULTS),
+    ];
+    for (format, head, cases) in tables {
+        assert_faults(&rt, rt.alloc(), format, head, cases)?;
+    }
+    Ok(())
+}

@@ -1,0 +1,8 @@
+//! Worked examples on whole runs, with faults of the desk and the sink.
+#![tactic(auto)]
+
+#[cfg(test)]
+mod conversions;
+
+#[cfg(test)]
+mod runs;

@@ -1,0 +1,156 @@
+//! Faults outside in mid-run, and a mesh file that ends anywhere. What a run writes is shown by the cases that the program is run on.
+use track_run::{Outcome, run};
+use outside_io::{MemoryDesk, MemorySink};
+use std::alloc::Global;
+use std::test::Fail;
+
+// A tetrahedron.
+const MESH: &[u8] = b"v 0 0 0\nv 4 0 0\nv 0 4 0\nv 0 0 4\nf 1 3 2\nf 1 2 4\nf 2 3 4\nf 1 4 3\n";
+
+// It is moved as a whole by one step, and saved.
+const STEPS: &[u8] = b"shift all 1 2 3\nstep\nsave\n";
+
+const MOVED: &[u8] = b"v 1 2 3\nv 5 2 3\nv 1 6 3\nv 1 2 7\nf 1 3 2\nf 1 2 4\nf 2 3 4\nf 1 4 3\n";
+
+// The lines of its log.
+const LINES: [&[u8]; 10] = [
+    b"topo log 2\n",
+    b"mesh 0 4 4\n",
+    b"step 1\n",
+    b"move 1 1 2 3\n",
+    b"move 2 1 2 3\n",
+    b"move 3 1 2 3\n",
+    b"move 4 1 2 3\n",
+    b"moved whole\n",
+    b"mesh 1 4 4\n",
+    b"end\n",
+];
+
+fn first_lines(alloc: Global, count: usize) -> Result<Vec<u8>, Fail> {
+    let mut text = Vec::new(alloc);
+    for (i, line) in LINES.iter().enumerate() {
+        if i < count {
+            text.extend_from_slice(line)?;
+        }
+    }
+    Ok(text)
+}
+
+fn words_of(alloc: Global, words: &[&str]) -> Result<Vec<String>, Fail> {
+    let mut all = Vec::new(alloc);
+    for word in words {
+        all.push(String::from_str(alloc, word)?)?;
+    }
+    Ok(all)
+}
+
+fn desk_of(alloc: Global, mesh: &[u8], steps: &[u8]) -> Result<MemoryDesk, Fail> {
+    let mut desk = MemoryDesk::new(alloc, Vec::new(alloc), Vec::new(alloc));
+    desk.put("mesh.obj", mesh)?;
+    desk.put("steps.txt", steps)?;
+    Ok(desk)
+}
+
+fn sink_of(alloc: Global) -> Result<MemorySink, Fail> {
+    Ok(MemorySink::new(alloc, 10_000, Vec::new(alloc))?)
+}
+
+// The run of the two files.
+fn track(desk: &mut MemoryDesk, out: &mut MemorySink, alloc: Global) -> Result<Outcome, Fail> {
+    let words = words_of(alloc, &["track", "mesh.obj", "steps.txt", "t"])?;
+    Ok(run(alloc, &words, desk, out))
+}
+
+#[test]
+fn a_whole_mesh_is_moved_by_one_step(rt: HostRuntime) -> Result<(), Fail> {
+    let alloc = rt.alloc();
+    let mut desk = desk_of(alloc, MESH, STEPS)?;
+    let mut out = sink_of(alloc)?;
+    assert_eq!(rt; track(&mut desk, &mut out, alloc)?, Outcome::Done);
+    assert_eq!(rt; out.bytes(), first_lines(alloc, 10)?.as_slice());
+    assert_eq!(rt; desk.file("t-000000.obj"), Some(MESH));
+    assert_eq!(rt; desk.file("t-000001.obj"), Some(MOVED));
+    Ok(())
+}
+
+#[test]
+fn each_write_fails_in_turn(rt: HostRuntime) -> Result<(), Fail> {
+    let alloc = rt.alloc();
+    for k in 0..10_usize {
+        let mut desk = desk_of(alloc, MESH, STEPS)?;
+        let mut out = MemorySink::new(alloc, 1_000, vec![in alloc; k as u64 + 1]?)?;
+        assert_eq!(rt; track(&mut desk, &mut out, alloc)?, Outcome::SinkFault);
+        assert_eq!(rt; out.bytes(), first_lines(alloc, k)?.as_slice());
+        assert_eq!(rt; desk.file("t-000000.obj").is_some(), k >= 2);
+        assert_eq!(rt; desk.file("t-000001.obj").is_some(), k >= 9);
+    }
+    Ok(())
+}
+
+#[test]
+fn each_fetch_and_store_fails_in_turn(rt: HostRuntime) -> Result<(), Fail> {
+    let alloc = rt.alloc();
+    for k in 1..3_u64 {
+        let mut desk = MemoryDesk::new(alloc, vec![in alloc; k]?, Vec::new(alloc));
+        desk.put("mesh.obj", MESH)?;
+        desk.put("steps.txt", STEPS)?;
+        let mut out = sink_of(alloc)?;
+        assert_eq!(rt; track(&mut desk, &mut out, alloc)?, Outcome::DeskFault);
+        assert_eq!(rt; out.bytes(), first_lines(alloc, 1)?.as_slice());
+        let mut desk = MemoryDesk::new(alloc, Vec::new(alloc), vec![in alloc; k]?);
+        desk.put("mesh.obj", MESH)?;
+        desk.put("steps.txt", STEPS)?;
+        let mut out = sink_of(alloc)?;
+        assert_eq!(rt; track(&mut desk, &mut out, alloc)?, Outcome::DeskFault);
+        let lines = if k == 1 { 2 } else { 9 };
+        assert_eq!(rt; out.bytes(), first_lines(alloc, lines)?.as_slice());
+        assert_eq!(rt; desk.file("t-000000.obj").is_some(), k == 2);
+        assert_eq!(rt; desk.file("t-000001.obj"), None);
+    }
+    Ok(())
+}
+
+// The exit status of a mesh file that ends in the middle: 6 where its last line is not whole, 7 where it has some of the
+// faces but not all, and else 0.
+fn status_of_cut(text: &[u8]) -> u8 {
+    let mut words = 0_u32;
+    let mut faces = 0_u32;
+    let mut is_face = false;
+    let mut before = b'\n';
+    for byte in text {
+        if *byte == b'\n' {
+            words = 0;
+        } else if *byte != b' ' && (before == b'\n' || before == b' ') {
+            is_face = if words == 0 { *byte == b'f' } else { is_face };
+            words = words.saturating_add(1);
+            if is_face && words == 4 {
+                faces = faces.saturating_add(1);
+            }
+        }
+        before = *byte;
+    }
+    if 0 < words && words < 4 {
+        6
+    } else if faces == 0 || faces == 4 {
+        0
+    } else {
+        7
+    }
+}
+
+#[test]
+fn a_mesh_file_is_cut_after_each_byte(rt: HostRuntime) -> Result<(), Fail> {
+    let alloc = rt.alloc();
+    for cut in 0..=MESH.len() {
+        let text = &MESH[..cut];
+        let mut desk = desk_of(alloc, text, b"")?;
+        let mut out = sink_of(alloc)?;
+        let outcome = track(&mut desk, &mut out, alloc)?;
+        assert_eq!(rt;
+            outcome.status(),
+            status_of_cut(text),
+            "cut after {cut} bytes"
+        );
+    }
+    Ok(())
+}
