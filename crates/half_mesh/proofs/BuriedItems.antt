@@ -9,7 +9,7 @@ use Rattle.std.specs.FinMap.{FinMap, nat_cmp-IsAntisymmetric, same_map, get-remo
 use Rattle.std.specs.FinMap.Entries.{find}
 use Rattle.std.specs.Cmp.{nat_cmp_total, unsigned_tied}
 use Rattle.half_mesh.specs.declared.rows.Item.{Item}
-use Rattle.half_mesh.specs.Stones.{held_of, buried_of, swapped, is_left, RiseFrom, IsLower, IsFound, find_id}
+use Rattle.half_mesh.specs.Stones.{held_of, buried_of, swapped, is_held, is_left, RiseFrom, IsLower, IsFound, find_id}
 use Rattle.half_mesh.specs.Stock.{Stock}
 use Rattle.half_mesh.proofs.StoneLaws.{view_of, get-view, find-set, find-at, find-put_at, put_at, got_none, view-insert, view-remove}
 
@@ -33,7 +33,7 @@ module _ {T : Type 0} where
   pub at_swapped : (xs : List (Item T)) (i : ℕ) (e : Item T) → slice_get xs i ≡ Some e → slice_get (map swapped xs) i ≡ Some (swapped e)
   at_swapped xs i e at = get_swapped xs i ∙ ap (option_map swapped) at
 
-  lower_swapped : (id n : ℕ) (xs : List (Item T)) → IsLower id n xs → IsLower id n (map swapped xs)
+  pub lower_swapped : (id n : ℕ) (xs : List (Item T)) → IsLower id n xs → IsLower id n (map swapped xs)
   lower_swapped id zero [] l = tt
   lower_swapped id zero (x ∷ xs) l = l
   lower_swapped id (suc n) [] l = l
@@ -136,6 +136,28 @@ module _ {T : Type 0} where
   buried-left xs =
       ap held_of (filter_swapped (λ e. is_some e.buried || is_some e.held) xs)
       ∙ held-filtered (λ e. is_some e.buried || is_some e.held) (λ e x h. ap (λ o. is_some e.buried || is_some o) h ∙ or_true (is_some e.buried)) (map swapped xs)
+
+  -- ---- where nothing is both held and buried, items of which something is held have nothing buried
+  buried_gone : (xs : List (Item T)) → ((i : ℕ) (e : Item T) → slice_get xs i ≡ Some e → is_some e.held ≡ true → e.buried ≡ None) → buried_of (filter is_held xs) ≡ []
+  buried_gone [] apart = refl
+  buried_gone (x ∷ xs) apart = by_held (is_some x.held) refl (buried_gone xs (λ i e at. apart (suc i) e at))
+    where
+      by_held : (b : Bool) → is_some x.held ≡ b → buried_of (filter is_held xs) ≡ [] → buried_of (cond b (x ∷ filter is_held xs) (filter is_held xs)) ≡ []
+      by_held true h rest = ap (λ o. elim o [ None ↦ buried_of (filter is_held xs) | Some y ↦ (x.id, y) ∷ buried_of (filter is_held xs) ]) (apart 0 x refl h) ∙ rest
+      by_held false h rest = rest
+
+  none_both : (a b : Option T) → (is_some b ≡ true → a ≡ None) → is_some a ≡ true → b ≡ None
+  none_both a None h there = refl
+  none_both a (Some y) h there = let gone = h refl in cc
+
+  pub held-only : (xs : List (Item T)) → held_of (filter is_held xs) ≡ held_of xs
+  held-only xs = held-filtered is_held (λ e x h. ap is_some h) xs
+
+  pub buried-forgotten : (xs : List (Item T)) → RiseFrom 0 xs → ((q : ℕ) → is_some (finite.get (view_of (map swapped xs)) q) ≡ true → finite.get (view_of xs) q ≡ None) → buried_of (filter is_held xs) ≡ []
+  buried-forgotten xs r apart = buried_gone xs (λ i e at held.
+      let live = get-view xs e.id ∙ find-at 0 i xs e r at in
+      let buried = get-view (map swapped xs) e.id ∙ find-at 0 i (map swapped xs) (swapped e) (rise_swapped 0 xs r) (at_swapped xs i e at) in
+      none_both e.held e.buried (λ some. sym live ∙ apart e.id (ap is_some buried ∙ some)) held)
 
 pub no_none : {X : Type 0} (o : Option X) → o ≡ None → is_some o ≡ true → ⊥
 no_none (Some x) e h = cc

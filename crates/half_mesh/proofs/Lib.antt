@@ -21,3 +21,7 @@ pub mod ChainPut
 pub mod Newer
 pub mod Relinked
 pub mod Raised
+pub mod Freed
+pub mod StateLaws
+pub mod Ledgers
+pub mod Kept

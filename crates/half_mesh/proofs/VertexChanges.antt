@@ -6,10 +6,12 @@ use Rattle.grid_base.specs.declared.Point.{Point}
 use Rattle.mesh_base.specs.Changes.{with_point, with_solid, without_vertex}
 use Rattle.half_mesh.specs.declared.rows.Vertex.{Vertex}
 use Rattle.half_mesh.specs.Fans.{Fan, Fans, Woven, bare}
-use Rattle.half_mesh.specs.Vertices.{vertices_in, points_in, is_marked, solid_in}
+use Rattle.half_mesh.specs.Vertices.{VertexMap, vertices_in, points_in, is_marked, solid_in}
 use Rattle.half_mesh.specs.Tied.{Keys, woven_mesh}
+use Rattle.half_mesh.specs.States.{carried, without_solid}
+use Rattle.half_mesh.proofs.StateLaws.{carried-some}
 use Rattle.half_mesh.proofs.Mapped.{mapped-remove}
-use Rattle.half_mesh.proofs.Vertices.{points-insert, points-kept, solid-kept, solid-made, solid-remove, vertices-insert, get-vertices}
+use Rattle.half_mesh.proofs.Vertices.{points-insert, points-kept, solid-kept, solid-made, solid-unmade, solid-carried, solid-remove, point-there, vertices-insert, get-vertices}
 
 -- the woven half-edges with another fan
 abbrev pub with_fan : Woven → ℕ → Fan → Woven
@@ -46,6 +48,34 @@ mesh-vertex_solid w keys nv nf k fan there =
     let points = ap points_in vertices ∙ points-kept (vertices_in w.fans) k fan.vertex x (vertex_at w.fans k fan there) refl in
     let solid = ap solid_in vertices ∙ solid-made (vertices_in w.fans) k x refl in
     λ i. record (woven_mesh w keys nv nf) { points = points i; solid = solid i }
+
+-- a vertex is solid no longer
+pub mesh-vertex_plain : (w : Woven) (keys : Keys) (nv nf k : ℕ) (fan : Fan) → finite.get w.fans k ≡ Some fan
+    → woven_mesh (with_fan w k (record fan { vertex = record fan.vertex { solid = false } })) keys nv nf ≡ without_solid (woven_mesh w keys nv nf) k
+mesh-vertex_plain w keys nv nf k fan there =
+    let x : Vertex = record fan.vertex { solid = false } in
+    let vertices = vertices-insert w.fans k (record fan { vertex = x }) in
+    let points = ap points_in vertices ∙ points-kept (vertices_in w.fans) k fan.vertex x (vertex_at w.fans k fan there) refl in
+    let solid = ap solid_in vertices ∙ solid-unmade (vertices_in w.fans) k x refl in
+    λ i. record (woven_mesh w keys nv nf) { points = points i; solid = solid i }
+
+-- a vertex of another map is raised
+pub mesh-vertex_raised : (w : Woven) (keys : Keys) (nv nf k : ℕ) (from : VertexMap) (x : Vertex) → finite.get from k ≡ Some x → finite.get w.fans k ≡ None
+    → woven_mesh (with_fan w k (bare x)) keys nv nf ≡ record (woven_mesh w keys nv nf) { points = carried (points_in from) (points_in (vertices_in w.fans)) k; solid = carried (solid_in from) (solid_in (vertices_in w.fans)) k }
+mesh-vertex_raised w keys nv nf k from x there none =
+    let vertices = vertices-insert w.fans k (bare x) in
+    let no_vertex = get-vertices w.fans k ∙ ap (option_map (λ (y : Fan). y.vertex)) none in
+    let points = ap points_in vertices ∙ points-insert (vertices_in w.fans) k x ∙ sym (carried-some (points_in from) (points_in (vertices_in w.fans)) k x.point (point-there from k x there)) in
+    let solid = ap solid_in vertices ∙ solid-carried from (vertices_in w.fans) k x there no_vertex in
+    λ i. record (woven_mesh w keys nv nf) { points = points i; solid = solid i }
+
+-- a vertex is buried, among vertices that have none of its id
+pub points-buried : (fans : Fans) (buried : VertexMap) (k : ℕ) (fan : Fan) → finite.get fans k ≡ Some fan → points_in (finite.insert buried k fan.vertex) ≡ carried (points_in (vertices_in fans)) (points_in buried) k
+points-buried fans buried k fan there =
+    points-insert buried k fan.vertex ∙ sym (carried-some (points_in (vertices_in fans)) (points_in buried) k fan.vertex.point (point-there (vertices_in fans) k fan.vertex (vertex_at fans k fan there)))
+
+pub solid-buried : (fans : Fans) (buried : VertexMap) (k : ℕ) (fan : Fan) → finite.get fans k ≡ Some fan → finite.get buried k ≡ None → solid_in (finite.insert buried k fan.vertex) ≡ carried (solid_in (vertices_in fans)) (solid_in buried) k
+solid-buried fans buried k fan there none = solid-carried (vertices_in fans) buried k fan.vertex (vertex_at fans k fan there) none
 
 -- a vertex is dropped
 pub mesh-vertex_gone : (w : Woven) (keys : Keys) (nv nf k : ℕ) → woven_mesh (record w { fans = finite.remove w.fans k }) keys nv nf ≡ without_vertex (woven_mesh w keys nv nf) k

@@ -8,6 +8,7 @@ use Rattle.std.specs.FinMap.{nat_cmp-IsAntisymmetric, same_map, get-insert, get-
 use Rattle.half_mesh.specs.declared.rows.Vertex.{Vertex}
 use Rattle.half_mesh.specs.Fans.{Fan, Fans}
 use Rattle.half_mesh.specs.Mapped.{mapped}
+use Rattle.half_mesh.specs.States.{with_some, carried}
 use Rattle.half_mesh.specs.Vertices.{VertexMap, vertices_in, points_in, is_marked, solid_in}
 use Rattle.half_mesh.proofs.Mapped.{get-mapped, mapped-insert, insert_same, keys-mapped, len-mapped, tied}
 
@@ -96,6 +97,15 @@ solid-remove m k = same_map nat_cmp_total nat_cmp-IsAntisymmetric _ _ (λ q.
     by_key q true = refl
     by_key q false = sym (get-solid m q)
 
+-- a vertex of another map where there is none: its mark is carried
+pub solid-carried : (from m : VertexMap) (k : ℕ) (x : Vertex) → finite.get from k ≡ Some x → finite.get m k ≡ None → solid_in (finite.insert m k x) ≡ carried (solid_in from) (solid_in m) k
+unfolding mark_of
+solid-carried from m k x there none = by_mark x.solid refl
+  where
+    by_mark : (b : Bool) → x.solid ≡ b → solid_in (finite.insert m k x) ≡ carried (solid_in from) (solid_in m) k
+    by_mark true e = solid-made m k x e ∙ sym (ap (with_some (solid_in m) k) (get-solid from k ∙ ap mark_of there ∙ ap (λ b. cond b (Some tt) None) e))
+    by_mark false e = solid-kept m k x (e ∙ sym (ap is_marked none)) ∙ sym (ap (with_some (solid_in m) k) (get-solid from k ∙ ap mark_of there ∙ ap (λ b. cond b (Some tt) None) e))
+
 -- ---- points
 pub points-insert : (m : VertexMap) (k : ℕ) (x : Vertex) → points_in (finite.insert m k x) ≡ finite.insert (points_in m) k x.point
 points-insert m k x = mapped-insert (λ (y : Vertex). y.point) (λ (y : Vertex). y.point) m k x x.point refl (λ q z apart there. refl)
@@ -125,3 +135,21 @@ keys-points fans = keys-mapped (λ (x : Vertex). x.point) (vertices_in fans) ∙
 
 pub len-points : (fans : Fans) → finite.len (points_in (vertices_in fans)) ≡ finite.len fans
 len-points fans = len-mapped (λ (x : Vertex). x.point) (vertices_in fans) ∙ len-mapped (λ (x : Fan). x.vertex) fans
+
+-- ---- a vertex by its point
+some_vertex : (o : Option Vertex) → is_some (option_map (λ (x : Vertex). x.point) o) ≡ true → (x : Vertex) × (o ≡ Some x)
+some_vertex None h = cc
+some_vertex (Some x) h = (x, refl)
+
+pub vertex_there : (m : VertexMap) (v : ℕ) → is_some (finite.get (points_in m) v) ≡ true → (x : Vertex) × (finite.get m v ≡ Some x)
+vertex_there m v h = some_vertex (finite.get m v) (ap is_some (sym (get-mapped (λ (x : Vertex). x.point) m v)) ∙ h)
+
+none_vertex : (o : Option Vertex) → (is_some (option_map (λ (x : Vertex). x.point) o) ≡ true → ⊥) → o ≡ None
+none_vertex None h = refl
+none_vertex (Some x) h = absurd (h refl)
+
+pub no_vertex : (m : VertexMap) (v : ℕ) → (is_some (finite.get (points_in m) v) ≡ true → ⊥) → finite.get m v ≡ None
+no_vertex m v h = none_vertex (finite.get m v) (λ some. h (ap is_some (get-mapped (λ (x : Vertex). x.point) m v) ∙ some))
+
+pub point-there : (m : VertexMap) (v : ℕ) (x : Vertex) → finite.get m v ≡ Some x → finite.get (points_in m) v ≡ Some x.point
+point-there m v x there = get-mapped (λ (y : Vertex). y.point) m v ∙ ap (option_map (λ (y : Vertex). y.point)) there

@@ -1,4 +1,4 @@
--- How fans are stored, by which a proof tells them apart.
+-- How fans and ledgers are stored, by which a proof tells them apart.
 use Rattle.std.specs.Prelude.{ℕ, List, Option, refl}
 use Rattle.std.specs.Ordering.{nat_cmp}
 use Rattle.std.specs.FinMap as map
@@ -6,6 +6,12 @@ use Rattle.std.specs.Coded.{Coded, code_by, coded×, coded_ℕ, coded_list, code
 use Rattle.half_mesh.specs.declared.rows.Vertex.{Vertex}
 use Rattle.half_mesh.specs.Fans.{Spoke, Fan, Side, Woven}
 use Rattle.half_mesh.specs.Ground.{Ground}
+use Rattle.half_mesh.specs.States.{Buried, State, Ledger}
+use base.Stored.{coded_unit}
+use Rattle.grid_base.specs.declared.Point.{Point}
+use Rattle.mesh_base.specs.declared.ids.Corners.{Corners}
+use Rattle.mesh_base.specs.Mesh.{Mesh, IdSet}
+use Rattle.mesh_plain.specs.Coded.{mesh_code}
 
 abbrev pub spoke_code : Coded Spoke
 spoke_code = code_by (ℕ × ℕ) (coded× coded_ℕ coded_ℕ) (λ s. (s.face, s.to)) (λ p. record { face = p.0; to = p.1 }) (λ _. refl)
@@ -32,4 +38,26 @@ ground_code vertex =
     code_by (Woven × (map.FinMap nat_cmp Vertex × ℕ)) (coded× (woven_code vertex) (coded× (map.code coded_ℕ vertex) coded_ℕ))
     (λ g. (g.woven, (g.buried, g.seats)))
     (λ p. record { woven = p.0; buried = p.1.0; seats = p.1.1 })
+    (λ _. refl)
+
+abbrev pub buried_code : Coded Point → Coded Corners → Coded Buried
+buried_code point corners =
+    code_by (map.FinMap nat_cmp Point × (map.FinMap nat_cmp Corners × IdSet))
+    (coded× (map.code coded_ℕ point) (coded× (map.code coded_ℕ corners) (map.code coded_ℕ coded_unit)))
+    (λ b. (b.points, (b.faces, b.solid)))
+    (λ p. record { points = p.0; faces = p.1.0; solid = p.1.1 })
+    (λ _. refl)
+
+abbrev pub state_code : Coded Point → Coded Corners → Coded State
+state_code point corners =
+    code_by (Mesh × Buried) (coded× (mesh_code point corners) (buried_code point corners))
+    (λ s. (s.mesh, s.buried))
+    (λ p. record { mesh = p.0; buried = p.1 })
+    (λ _. refl)
+
+abbrev pub ledger_code : Coded Point → Coded Corners → Coded Ledger
+ledger_code point corners =
+    code_by (State × ℕ) (coded× (state_code point corners) coded_ℕ)
+    (λ l. (l.state, l.spare))
+    (λ p. record { state = p.0; spare = p.1 })
     (λ _. refl)

@@ -4,6 +4,7 @@ pub mod Stones
 pub mod Fans
 pub mod Ground
 pub mod Vertices
+pub mod States
 pub mod Coded
 pub mod Walks
 pub mod Tied

@@ -1,5 +1,5 @@
 -- How the half-edges of a mesh and its faces are tied.
-use Rattle.std.specs.Prelude.{◌≡◌, ◌≢◌, ℕ, ◌==◌, cond, List, [], ◌∷◌, ◌++◌, Some, None, IsSome}
+use Rattle.std.specs.Prelude.{◌≡◌, ◌≢◌, ℕ, ◌/◌, min, ◌==◌, cond, List, [], ◌∷◌, ◌++◌, Some, None, IsSome}
 use Rattle.std.specs.Ordering.{nat_cmp}
 use Rattle.std.specs.FinMap as finite
 use Rattle.mesh_base.specs.declared.ids.Corners.{Corners}
@@ -8,6 +8,9 @@ use Rattle.half_mesh.specs.Vertices.{vertices_in, points_in, solid_in}
 use Rattle.mesh_base.specs.Sides.{has_corner}
 use Rattle.half_mesh.specs.Fans.{Spoke, Fans, Side, Sides, Woven, side_at, spokes_at, put_spoke, without}
 use Rattle.half_mesh.specs.Mapped.{mapped}
+use Rattle.half_mesh.specs.Stock.{Stock}
+use Rattle.half_mesh.specs.Ground.{Ground}
+use Rattle.half_mesh.specs.States.{Buried, Ledger}
 
 -- the parts of the side at a key, 0 where there is none
 abbrev pub origin_at : Sides → ℕ → ℕ
@@ -43,6 +46,25 @@ woven_mesh woven keys next_vertex next_face = record {
   next_face = next_face;
 }
 
+-- what is buried
+abbrev pub buried_in : Ground → Stock ℕ → Buried
+buried_in g keys = record {
+  points = points_in g.buried;
+  faces = faces_in g.woven.sides keys.buried;
+  solid = solid_in g.buried;
+}
+
+-- how many additions find memory: a vertex takes a seat, and a face a place among the keys and three half-edges
+abbrev pub spare_in : Ground → Stock ℕ → ℕ
+spare_in g keys = min (min g.seats keys.room) (g.woven.room / 3)
+
+-- what the tables of a mesh stand for
+abbrev pub ledger_in : Ground → Stock ℕ → ℕ → ℕ → Ledger
+ledger_in g keys next_vertex next_face = record {
+  state = record { mesh = woven_mesh g.woven keys.live next_vertex next_face; buried = buried_in g keys };
+  spare = spare_in g keys;
+}
+
 -- the three sides of the face f, of the corners c, stand in a ring from the key on
 pub record IsRing (sides : Sides) (f : ℕ) (c : Corners) (key : ℕ) : Type 0 where
   pub second : ℕ
@@ -64,10 +86,19 @@ abbrev pub falling : ℕ → List (ℕ × Corners) → List Spoke
 falling v [] = []
 falling v (e ∷ rest) = falling v rest ++ spoke_in v e
 
+-- at each key begins a ring of its face
+abbrev pub AreRings : Sides → Keys → Type 0
+AreRings sides keys = (f key : ℕ) → finite.get keys f ≡ Some key → IsRing sides f (corners_at sides key) key
+
 -- each face is a ring of sides, and the half-edges that leave a vertex are its sides in its faces
 pub record AreTied (woven : Woven) (keys : Keys) : Type 0 where
-  pub rings : (f key : ℕ) → finite.get keys f ≡ Some key → IsRing woven.sides f (corners_at woven.sides key) key
+  pub rings : AreRings woven.sides keys
   pub spokes : (v : ℕ) → spokes_at woven.fans v ≡ falling v (finite.entries (faces_in woven.sides keys))
+
+-- the same of the live faces, and each buried face is a ring of sides
+pub record AreKept (woven : Woven) (keys : Stock ℕ) : Type 0 where
+  pub live : AreTied woven keys.live
+  pub buried : AreRings woven.sides keys.buried
 
 -- each corner has a fan
 abbrev pub HaveFans : Fans → Corners → Type 0

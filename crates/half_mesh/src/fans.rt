@@ -3,7 +3,7 @@ ghost use Rattle.std.specs.Prelude.{◌≡◌, ◌≢◌, None, ◌≤◌, ◌<�
 ghost use Rattle.std.specs.Option.{option_map};
 ghost use Rattle.std.specs.FinMap as map;
 ghost use Rattle.mesh_base.specs.Sides.{above};
-ghost use Rattle.half_mesh.specs.Fans.{Fan, Side, side_at, with_spoke, without_spoke, put_spoke, spokes_at, spokes_to, faces_of, bare, IsNewest, CanRelink};
+ghost use Rattle.half_mesh.specs.Fans.{Fan, Side, side_at, with_spoke, without_spoke, put_spoke, spokes_at, spokes_to, faces_of, bare, IsNewest, IsOutside, CanRelink};
 ghost use Rattle.half_mesh.specs.Walks.{walk, spoke_of, side_of, key_before, last_newer, IsLinkedPast, IsLinkedIn, Joins, Resets};
 ghost use Rattle.slab.specs.Slab.{get, slab_len};
 ghost use Rattle.half_mesh.specs.Across.{below};
@@ -121,6 +121,8 @@ impl Fans {
     /// Makes room for so many half-edges more.
     pub(crate) fn reserve(&mut self, more: usize) -> Result<(), NoMemory>
         ensures room { OnOk result (more ≤ self.new.woven.room) }
+        ensures memory { OnErr result (0 < more → self.old.woven.room < more) }
+        ensures grows { self.old.woven.room ≤ self.new.woven.room }
         ensures kept { self.new ≡ record self.old { woven = record self.old.woven { room = self.new.woven.room } } }
     {
         self.halves.reserve(more)?;
@@ -164,6 +166,7 @@ impl Fans {
         ensures fans { self.new.woven.fans ≡ self.old.woven.fans }
         ensures side { (side : Side) → side_at self.old.woven.sides key ≡ Some side → side_at self.new.woven.sides key ≡ Some (record side { next = next }) }
         ensures sides { (other : ℕ) → other ≢ key → side_at self.new.woven.sides other ≡ side_at self.old.woven.sides other }
+        ensures room { self.new.woven.room ≡ self.old.woven.room }
         ensures kept { (self.new.buried ≡ self.old.buried) × (self.new.seats ≡ self.old.seats) }
     {
         join_half(&mut self.halves, key, next);
@@ -173,6 +176,7 @@ impl Fans {
     pub(crate) fn detach(&mut self, v: u32, face: u32)
         ensures fans { (fan : Fan) → map.get self.old.woven.fans v ≡ Some fan → self.new.woven.fans ≡ map.insert self.old.woven.fans v (without_spoke fan face) }
         ensures sides { (key : ℕ) (side : Side) → side_at self.old.woven.sides key ≡ Some side → side.face ≢ face → side_at self.new.woven.sides key ≡ Some side }
+        ensures room { self.old.woven.room ≤ self.new.woven.room }
         ensures kept { (self.new.buried ≡ self.old.buried) × (self.new.seats ≡ self.old.seats) }
     {
         let Some(row) = self.rows.get(v) else {
@@ -293,6 +297,35 @@ impl Fans {
                 ..row
             },
         );
+    }
+
+    /// Takes the half-edge at the key out of the slab, if it is one of the face, of which none is linked. Takes no memory.
+    pub(crate) fn free(&mut self, key: usize, face: u32)
+        requires { (v : ℕ) → IsOutside face (spokes_at self.old.woven.fans v) }
+        ensures fans { self.new.woven.fans ≡ self.old.woven.fans }
+        ensures sides { (k : ℕ) (side : Side) → side_at self.old.woven.sides k ≡ Some side → side.face ≢ face → side_at self.new.woven.sides k ≡ Some side }
+        ensures room { self.old.woven.room ≤ self.new.woven.room }
+        ensures kept { (self.new.buried ≡ self.old.buried) × (self.new.seats ≡ self.old.seats) }
+    {
+        free_half(&mut self.halves, key, face);
+    }
+
+    /// Gives up the buried vertices, none of which lives. Takes no memory.
+    pub(crate) fn forget(&mut self)
+        requires { (v : ℕ) → IsSome (map.get self.old.buried v) → map.get self.old.woven.fans v ≡ None }
+        ensures kept { self.new ≡ record self.old { buried = map.empty; seats = self.new.seats } }
+        ensures seats { self.old.seats ≤ self.new.seats }
+    {
+        self.rows.forget();
+    }
+
+    /// Finds memory for so many vertices more.
+    pub(crate) fn reserve_vertices(&mut self, more: usize) -> Result<(), NoMemory>
+        ensures ok { OnOk result (more ≤ self.new.seats) }
+        ensures kept { self.new ≡ record self.old { seats = self.new.seats } }
+        ensures seats { self.old.seats ≤ self.new.seats }
+    {
+        self.rows.reserve(more)
     }
 
     /// The half-edge at a key; where there is none, one that is 0 in each part.
@@ -467,7 +500,8 @@ fn gather(
 
 /// Has another half-edge follow the one at the key in its face.
 fn join_half(halves: &mut Slab<Half>, key: usize, next: usize)
-    ensures { Joins halves.old halves.new key next }
+    ensures joins { Joins halves.old halves.new key next }
+    ensures room { halves.new.capacity - slab_len halves.new ≡ halves.old.capacity - slab_len halves.old }
 {
     if let Some(half) = halves.get_mut(key) {
         half.next = next;
@@ -535,12 +569,25 @@ fn set_after(halves: &mut Slab<Half>, key: usize, after: usize)
     }
 }
 
+/// Takes the half-edge at the key out, if it is one of the face.
+fn free_half(halves: &mut Slab<Half>, key: usize, face: u32)
+    ensures others { (k : ℕ) (h : Half) → get halves.old k ≡ Some h → h.face ≢ face → get halves.new k ≡ Some h }
+    ensures room { halves.old.capacity - slab_len halves.old ≤ halves.new.capacity - slab_len halves.new }
+{
+    if let Some(half) = halves.get(key).copied() {
+        if half.face == face {
+            halves.remove(key);
+        }
+    }
+}
+
 /// Links a half-edge past the one after it, which is removed.
 fn link_past(halves: &mut Slab<Half>, key: usize, half: Half, gone: Half)
     requires there { get halves.old key ≡ Some half }
     requires after { get halves.old half.after ≡ Some gone }
     requires apart { half.after ≢ key }
-    ensures { IsLinkedPast halves.old halves.new (key, half) gone }
+    ensures past { IsLinkedPast halves.old halves.new (key, half) gone }
+    ensures room { halves.old.capacity - slab_len halves.old ≤ halves.new.capacity - slab_len halves.new }
 {
     if let Some(place) = halves.get_mut(key) {
         place.after = gone.after;

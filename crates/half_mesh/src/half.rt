@@ -1,5 +1,6 @@
-ghost use Rattle.std.specs.Prelude.{◌≡◌, All};
+ghost use Rattle.std.specs.Prelude.{◌≡◌, ◌≤◌, ◌+◌, All};
 ghost use Rattle.mesh_base.specs.Mesh.{IsSound};
+ghost use Rattle.half_mesh.specs.States.{AreApart, meshes_of, NoneBuried};
 
 use crate::tables::Tables;
 use grid_base::{Extent, FACES_MAX, ID_MAX, NoMemory, Point, VERTICES_MAX};
@@ -9,13 +10,15 @@ use mesh_base::{
 use std::alloc::Global;
 
 /// A mesh in half-edges: a look-up at a vertex takes time in proportion to its faces. It keeps a copy of the mesh for each
-/// mark.
+/// mark. Faces and vertices of it can be buried, to be raised again with no memory.
 #[derive(Drop)]
 pub struct HalfMesh {
     now: Tables,
     before: Vec<Tables>,
-    ghost now_sound: { IsSound now },
-    ghost before_sound: { All IsSound before.items },
+    ghost now_sound: { IsSound now.state.mesh },
+    ghost now_apart: { AreApart now.state },
+    ghost before_sound: { All IsSound (meshes_of before.items) },
+    ghost before_none: { NoneBuried before.items },
 }
 
 impl HalfMesh {
@@ -24,13 +27,15 @@ impl HalfMesh {
     ghost use Rattle.mesh_plain.specs.Numbered.{MayBeNext, numbered};
     ghost use Rattle.mesh_base.specs.Mesh.{IsLiveFace};
     ghost use Rattle.half_mesh.specs.Across.{across};
-    ghost use Rattle.half_mesh.specs.Half.{mesh_in, kept_in};
+    ghost use Rattle.half_mesh.specs.Half.{mesh_in, kept_in, state_in};
+    ghost use Rattle.half_mesh.specs.States.{none_buried};
     ghost use Rattle.std.specs.Prelude.{ℕ, ◌<◌, Some, None, [], IfOk, length};
 
     /// The mesh that lists of good shape give, with nothing kept.
     pub fn of(alloc: Global, lists: &MeshLists) -> Result<HalfMesh, NoMemory>
         requires { shape_fault (length lists.now.points) lists.now.faces ≡ None }
         ensures mesh { IfOk result (λ s. mesh_in s ≡ mesh_of lists.now.points lists.now.faces) }
+        ensures buried { IfOk result (λ s. (state_in s).buried ≡ none_buried) }
         ensures kept { IfOk result (λ s. kept_in s ≡ []) }
     {
         let now = Tables::of(alloc, lists)?;
@@ -52,6 +57,7 @@ impl HalfMesh {
         requires vertex { MayBeNext (length lists.now.points) next_vertex }
         requires face { MayBeNext (length lists.now.faces) next_face }
         ensures mesh { IfOk result (λ s. mesh_in s ≡ numbered (mesh_of lists.now.points lists.now.faces) next_vertex next_face) }
+        ensures buried { IfOk result (λ s. (state_in s).buried ≡ none_buried) }
         ensures kept { IfOk result (λ s. kept_in s ≡ []) }
     {
         let mut now = Tables::of(alloc, lists)?;
@@ -75,6 +81,119 @@ impl HalfMesh {
     }
 }
 
+/// The calls for a journal: what is dropped can be buried and raised again, and what was made last can be unmade. All but
+/// `room` take no memory.
+impl HalfMesh {
+    ghost use Rattle.std.specs.Prelude.{true, [], OnOk};
+    ghost use Rattle.mesh_base.specs.Mesh.{IsLiveVertex, IsLiveFace, is_solid};
+    ghost use Rattle.mesh_base.specs.Sides.{faces_at};
+    ghost use Rattle.mesh_base.specs.Changes.{with_point};
+    ghost use Rattle.half_mesh.specs.Half.{mesh_in, kept_in, state_in, spare_in};
+    ghost use Rattle.half_mesh.specs.States.{none_buried, with_mesh, without_solid, bury_face, bury_vertex, raise_face, raise_vertex, unmake_face, unmake_vertex, CanRaiseFace, CanRaiseVertex, CanUnmakeFace, CanUnmakeVertex};
+
+    /// Buries a live face: it is live no longer, and its half-edges stay.
+    pub fn bury_face(&mut self, f: FaceId)
+        requires { IsLiveFace (mesh_in self.old) f }
+        ensures state { state_in self.new ≡ bury_face (state_in self.old) f }
+        ensures kept { kept_in self.new ≡ kept_in self.old }
+        ensures spare { spare_in self.old ≤ spare_in self.new }
+    {
+        self.now.bury_face(f);
+    }
+
+    /// Buries a live vertex that has no live face.
+    pub fn bury_vertex(&mut self, v: VertexId)
+        requires live { IsLiveVertex (mesh_in self.old) v }
+        requires bare { faces_at (mesh_in self.old) v ≡ [] }
+        ensures state { state_in self.new ≡ bury_vertex (state_in self.old) v }
+        ensures kept { kept_in self.new ≡ kept_in self.old }
+        ensures spare { spare_in self.old ≤ spare_in self.new }
+    {
+        self.now.bury_vertex(v);
+    }
+
+    /// Makes a buried face live again, with its old corners, which live.
+    pub fn raise_face(&mut self, f: FaceId)
+        requires { CanRaiseFace (state_in self.old) f }
+        ensures state { state_in self.new ≡ raise_face (state_in self.old) f }
+        ensures kept { kept_in self.new ≡ kept_in self.old }
+        ensures spare { spare_in self.old ≤ spare_in self.new }
+    {
+        self.now.raise_face(f);
+    }
+
+    /// Makes a buried vertex live again, with its old point and mark.
+    pub fn raise_vertex(&mut self, v: VertexId)
+        requires { CanRaiseVertex (state_in self.old) v }
+        ensures state { state_in self.new ≡ raise_vertex (state_in self.old) v }
+        ensures kept { kept_in self.new ≡ kept_in self.old }
+        ensures spare { spare_in self.old ≤ spare_in self.new }
+    {
+        self.now.raise_vertex(v);
+    }
+
+    /// Takes back the making of the newest face: its id is the next again.
+    pub fn unmake_face(&mut self, f: FaceId)
+        requires { CanUnmakeFace (state_in self.old) f }
+        ensures state { state_in self.new ≡ unmake_face (state_in self.old) f }
+        ensures kept { kept_in self.new ≡ kept_in self.old }
+        ensures spare { spare_in self.old ≤ spare_in self.new }
+    {
+        self.now.unmake_face(f);
+    }
+
+    /// Takes back the making of the newest vertex, which no face, live or buried, has as a corner.
+    pub fn unmake_vertex(&mut self, v: VertexId)
+        requires { CanUnmakeVertex (state_in self.old) v }
+        ensures state { state_in self.new ≡ unmake_vertex (state_in self.old) v }
+        ensures kept { kept_in self.new ≡ kept_in self.old }
+        ensures spare { spare_in self.old ≤ spare_in self.new }
+    {
+        self.now.unmake_vertex(v);
+    }
+
+    /// Puts a live vertex at a point.
+    pub fn place_now(&mut self, v: VertexId, p: Point)
+        requires { IsLiveVertex (mesh_in self.old) v }
+        ensures state { state_in self.new ≡ with_mesh (state_in self.old) (with_point (mesh_in self.old) v p) }
+        ensures kept { kept_in self.new ≡ kept_in self.old }
+        ensures spare { spare_in self.old ≤ spare_in self.new }
+    {
+        self.now.place(v, p);
+    }
+
+    /// Takes the mark of a live vertex that is solid away.
+    pub fn unmake_solid(&mut self, v: VertexId)
+        requires live { IsLiveVertex (mesh_in self.old) v }
+        requires marked { is_solid (mesh_in self.old) v ≡ true }
+        ensures state { state_in self.new ≡ with_mesh (state_in self.old) (without_solid (mesh_in self.old) v) }
+        ensures kept { kept_in self.new ≡ kept_in self.old }
+        ensures spare { spare_in self.old ≤ spare_in self.new }
+    {
+        self.now.unmake_solid(v);
+    }
+
+    /// Gives up what is buried.
+    pub fn forget(&mut self)
+        ensures state { state_in self.new ≡ record { mesh = mesh_in self.old; buried = none_buried } }
+        ensures kept { kept_in self.new ≡ kept_in self.old }
+        ensures spare { spare_in self.old ≤ spare_in self.new }
+    {
+        self.now.forget();
+    }
+
+    /// Finds memory for so many additions: while `spare` is above 0 they don't answer that memory is wanting, and each
+    /// lowers it by 1 at most.
+    pub fn room(&mut self, n: u32) -> Result<(), NoMemory>
+        ensures ok { OnOk result (n ≤ spare_in self.new) }
+        ensures state { state_in self.new ≡ state_in self.old }
+        ensures kept { kept_in self.new ≡ kept_in self.old }
+        ensures spare { spare_in self.old ≤ spare_in self.new }
+    {
+        self.now.room(n)
+    }
+}
+
 impl Surface for HalfMesh {
     ghost use Rattle.std.specs.Prelude.{[], ◌∷◌, ◌++◌, length, take, IfOk, IsOk, OnOk, OnErr, IsErrOf};
     ghost use Rattle.std.proofs.Common.{lit≤};
@@ -82,11 +201,14 @@ impl Surface for HalfMesh {
     ghost use Rattle.mesh_base.specs.Sides.{faces_at};
     ghost use Rattle.mesh_base.specs.Changes.{corners_of, with_vertex, with_face, without_face, without_vertex, with_point, with_solid, IsFresh, IsFullOfVertices, IsFullOfFaces};
     ghost use Rattle.mesh_base.specs.Kept.{BeginsWith, MarkHolds, StandsFor};
-    ghost use Rattle.half_mesh.specs.Half.{mesh_in, kept_in, IsUnchanged};
+    ghost use Rattle.half_mesh.specs.Half.{mesh_in, kept_in, state_in, spare_in, IsUnchanged};
+    ghost use Rattle.half_mesh.specs.States.{none_buried};
 
-    ghost mesh = { λ s. s.now };
+    ghost mesh = { λ s. s.now.state.mesh };
 
-    ghost kept = { λ s. s.before.items };
+    ghost use Rattle.half_mesh.specs.States.{meshes_of};
+
+    ghost kept = { λ s. meshes_of s.before.items };
 
     ghost beyond = { 0 };
 
@@ -162,6 +284,9 @@ impl Surface for HalfMesh {
         ensures kept { kept_in self.new ≡ kept_in self.old }
         ensures marks { BeginsWith (kept_in self.new) (kept_in self.old) }
         ensures err { OnErr result (IsUnchanged self.old self.new) }
+        ensures buried { (state_in self.new).buried ≡ (state_in self.old).buried }
+        ensures memory { IsErrOf result AddFault.NoMemory → spare_in self.old ≡ 0 }
+        ensures spare { spare_in self.old ≤ spare_in self.new + 1 }
     {
         if self.now.vertices() >= VERTICES_MAX as usize || self.now.next_vertex() > ID_MAX {
             return Err(AddFault::Full);
@@ -181,6 +306,9 @@ impl Surface for HalfMesh {
         ensures kept { kept_in self.new ≡ kept_in self.old }
         ensures marks { BeginsWith (kept_in self.new) (kept_in self.old) }
         ensures err { OnErr result (IsUnchanged self.old self.new) }
+        ensures buried { (state_in self.new).buried ≡ (state_in self.old).buried }
+        ensures memory { IsErrOf result AddFault.NoMemory → spare_in self.old ≡ 0 }
+        ensures spare { spare_in self.old ≤ spare_in self.new + 1 }
     {
         if self.now.faces() >= FACES_MAX as usize || self.now.next_face() > ID_MAX {
             return Err(AddFault::Full);
@@ -200,6 +328,7 @@ impl Surface for HalfMesh {
         ensures kept { kept_in self.new ≡ kept_in self.old }
         ensures marks { BeginsWith (kept_in self.new) (kept_in self.old) }
         ensures err { OnErr result (IsUnchanged self.old self.new) }
+        ensures buried { (state_in self.new).buried ≡ (state_in self.old).buried }
     {
         self.now.drop_face(f);
         Ok(())
@@ -214,6 +343,7 @@ impl Surface for HalfMesh {
         ensures kept { kept_in self.new ≡ kept_in self.old }
         ensures marks { BeginsWith (kept_in self.new) (kept_in self.old) }
         ensures err { OnErr result (IsUnchanged self.old self.new) }
+        ensures buried { (state_in self.new).buried ≡ (state_in self.old).buried }
     {
         self.now.drop_vertex(v);
         Ok(())
@@ -227,6 +357,7 @@ impl Surface for HalfMesh {
         ensures kept { kept_in self.new ≡ kept_in self.old }
         ensures marks { BeginsWith (kept_in self.new) (kept_in self.old) }
         ensures err { OnErr result (IsUnchanged self.old self.new) }
+        ensures buried { (state_in self.new).buried ≡ (state_in self.old).buried }
     {
         self.now.place(v, p);
         Ok(())
@@ -240,6 +371,8 @@ impl Surface for HalfMesh {
         ensures kept { kept_in self.new ≡ kept_in self.old }
         ensures marks { BeginsWith (kept_in self.new) (kept_in self.old) }
         ensures err { OnErr result (IsUnchanged self.old self.new) }
+        ensures buried { (state_in self.new).buried ≡ (state_in self.old).buried }
+        ensures spare { spare_in self.old ≤ spare_in self.new }
     {
         self.now.make_solid(v);
         Ok(())
@@ -255,8 +388,10 @@ impl Surface for HalfMesh {
         ensures mesh { mesh_in self.new ≡ mesh_in self.old }
         ensures marks { BeginsWith (kept_in self.new) (kept_in self.old) }
         ensures err { OnErr result (kept_in self.new ≡ kept_in self.old) }
+        ensures buried { (state_in self.new).buried ≡ (state_in self.old).buried }
     {
-        let copy = self.now.copy()?;
+        let mut copy = self.now.copy()?;
+        copy.forget();
         let place = self.before.len();
         self.before.push(copy)?;
         Ok(Mark {
@@ -271,6 +406,7 @@ impl Surface for HalfMesh {
         ensures mesh { StandsFor (kept_in self.old) m (mesh_in self.new) }
         ensures kept { kept_in self.new ≡ take m.under (kept_in self.old) }
         ensures marks { BeginsWith (kept_in self.new) (take m.under (kept_in self.old)) }
+        ensures buried { (state_in self.new).buried ≡ none_buried }
     {
         self.before.truncate(m.place + 1);
         self.now = self.before.pop().unwrap();
@@ -281,6 +417,7 @@ impl Surface for HalfMesh {
     fn settle(&mut self)
         ensures mesh { mesh_in self.new ≡ mesh_in self.old }
         ensures kept { kept_in self.new ≡ [] }
+        ensures buried { (state_in self.new).buried ≡ (state_in self.old).buried }
     {
         self.before.clear();
     }

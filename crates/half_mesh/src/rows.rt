@@ -3,7 +3,7 @@ ghost use Rattle.std.specs.Prelude.{◌≡◌, ⊤, ℕ, is_some, ◌≤◌, ◌
 ghost use Rattle.std.specs.List.{filter};
 ghost use Rattle.std.specs.FinMap as map;
 ghost use Rattle.mesh_base.specs.Sides.{above};
-ghost use Rattle.half_mesh.specs.Stones.{held_of, buried_of, is_left, RiseFrom, IsLower, IsFound, Holds};
+ghost use Rattle.half_mesh.specs.Stones.{held_of, buried_of, is_held, is_left, RiseFrom, IsLower, IsFound, Holds};
 
 use grid_base::{NoMemory, Point};
 use std::alloc::{AllocError, Global};
@@ -115,6 +115,16 @@ impl<T: Copy> Rows<T> {
         )
     }
 
+    /// The least buried id above the number.
+    pub(crate) fn buried_above(&self, n: u32) -> Option<u32>
+        ensures { result ≡ slice_get (above n (map.keys self.now.buried)) 0 }
+    {
+        first_buried(
+            self.items.as_slice(),
+            lower(self.items.as_slice(), n as u64 + 1),
+        )
+    }
+
     /// Finds memory for so many insertions.
     pub(crate) fn reserve(&mut self, more: usize) -> Result<(), NoMemory>
         ensures ok { OnOk result (more ≤ self.new.room) }
@@ -219,6 +229,16 @@ impl<T: Copy> Rows<T> {
         }
     }
 
+    /// Gives up all that is buried, where nothing is both held and buried. Takes no memory.
+    pub(crate) fn forget(&mut self)
+        requires { (q : ℕ) → IsSome (map.get self.old.buried q) → map.get self.old.live q ≡ None }
+        ensures kept { self.new ≡ record self.old { buried = map.empty; room = self.new.room } }
+        ensures room { self.old.room ≤ self.new.room }
+    {
+        keep_held(&mut self.items);
+        self.down = 0;
+    }
+
     pub(crate) fn copy(&self) -> Result<Rows<T>, NoMemory>
         ensures { IfOk result (λ copy. copy ≡ record self.now { room = copy.room }) }
     {
@@ -253,17 +273,33 @@ fn tidy<T: Copy>(items: &mut Vec<Item<T>>, left: usize)
     ensures len { vec_len items.new ≤ vec_len items.old }
 {
     if items.len() / 2 > left {
-        forget(items);
+        drop_empty(items);
     }
 }
 
 /// Takes out the items of which nothing is left.
-fn forget<T: Copy>(items: &mut Vec<Item<T>>)
+fn drop_empty<T: Copy>(items: &mut Vec<Item<T>>)
     ensures items { items.new.items ≡ filter is_left items.old.items }
     ensures capacity { vec_capacity items.new ≡ vec_capacity items.old }
     ensures len { vec_len items.new ≤ vec_len items.old }
 {
     items.retain(|e| is_left(e));
+}
+
+/// Leaves the items of which something is held.
+fn keep_held<T: Copy>(items: &mut Vec<Item<T>>)
+    ensures items { items.new.items ≡ filter is_held items.old.items }
+    ensures capacity { vec_capacity items.new ≡ vec_capacity items.old }
+    ensures len { vec_len items.new ≤ vec_len items.old }
+{
+    items.retain(|e| is_held(e));
+}
+
+/// Whether something is held of the id.
+fn is_held<T: Copy>(item: &Item<T>) -> bool
+    ensures { result ≡ is_held item.now }
+{
+    item.held.is_some()
 }
 
 /// Whether something is held or buried of the id.
@@ -330,6 +366,20 @@ fn first_held<T: Copy>(items: &[Item<T>], from: usize) -> Option<u32>
     let mut at = from;
     while at < items.len() {
         if items[at].held.is_some() {
+            return Some(items[at].id);
+        }
+        at += 1;
+    }
+    None
+}
+
+/// The first id from a place on of which something is buried.
+fn first_buried<T: Copy>(items: &[Item<T>], from: usize) -> Option<u32>
+    ensures { result ≡ slice_get (map_list (λ e. e.0) (buried_of (drop from items.now))) 0 }
+{
+    let mut at = from;
+    while at < items.len() {
+        if items[at].buried.is_some() {
             return Some(items[at].id);
         }
         at += 1;

@@ -9,9 +9,10 @@ ghost use Rattle.mesh_base.specs.Sides.{above, faces_at, faces_running, runs};
 ghost use Rattle.mesh_base.specs.Given.{mesh_of};
 ghost use Rattle.mesh_plain.specs.Numbered.{numbered};
 ghost use Rattle.mesh_plain.specs.Shape.{shape_fault};
-ghost use Rattle.half_mesh.specs.Fans.{side_at, spokes_at, IsNewest, IsOutside};
+ghost use Rattle.half_mesh.specs.Fans.{spokes_at, IsNewest};
+ghost use Rattle.half_mesh.specs.States.{AreApart, none_buried, with_mesh};
 ghost use Rattle.half_mesh.specs.Across.{corner_at, corner_after, side_from, below, across, across_side};
-ghost use Rattle.half_mesh.specs.Tied.{corners_at, HaveFans, HasRing, HasRaised, HasLost, IsRing};
+ghost use Rattle.half_mesh.specs.Tied.{corners_at, HaveFans, HasRing};
 
 use crate::fans::Fans;
 use crate::rows::{Rows, Vertex};
@@ -20,37 +21,37 @@ use mesh_base::{Corners, FaceId, MeshLists, VertexId};
 use std::alloc::Global;
 use std::marker::Model;
 
-/// A mesh in half-edges. A contract sees it as the mesh.
+/// A mesh in half-edges. A contract sees it as the mesh with what is buried of it, and how many additions find memory.
 #[derive(Drop)]
 pub(crate) struct Tables {
-    fans: Fans,
+    pub(crate) fans: Fans,
     // For each face the key of its first side.
-    keys: Rows<usize>,
-    next_vertex: u32,
-    next_face: u32,
+    pub(crate) keys: Rows<usize>,
+    pub(crate) next_vertex: u32,
+    pub(crate) next_face: u32,
 }
 
 impl Model for Tables {
-    ghost use Rattle.mesh_base.specs.Mesh.{Mesh};
+    ghost use Rattle.half_mesh.specs.States.{Ledger};
 
-    ghost Value = { Mesh };
+    ghost Value = { Ledger };
 
-    ghost use Rattle.mesh_plain.specs.Coded.{mesh_code};
+    ghost use Rattle.half_mesh.specs.Coded.{ledger_code};
     ghost use Rattle.grid_base.specs.contracts.Point as point;
     ghost use Rattle.mesh_base.specs.contracts.ids.Corners as corners;
 
-    ghost coded = { mesh_code point.the_row.coded corners.the_row.coded };
+    ghost coded = { ledger_code point.the_row.coded corners.the_row.coded };
 
-    ghost use Rattle.half_mesh.specs.Tied.{woven_mesh, AreTied};
+    ghost use Rattle.half_mesh.specs.Tied.{ledger_in, AreKept};
 
-    ghost view = { λ t. woven_mesh t.fans.woven t.keys.live t.next_vertex t.next_face };
+    ghost view = { λ t. ledger_in t.fans t.keys t.next_vertex t.next_face };
 
-    ghost invariant = { λ t. AreTied t.fans.woven t.keys.live };
+    ghost invariant = { λ t. AreKept t.fans.woven t.keys };
 }
 
 impl Tables {
     pub(crate) fn new(alloc: Global) -> Tables
-        ensures { result ≡ record { points = map.empty; faces = map.empty; solid = map.empty; next_vertex = 1; next_face = 1 } }
+        ensures { result.state ≡ record { mesh = record { points = map.empty; faces = map.empty; solid = map.empty; next_vertex = 1; next_face = 1 }; buried = none_buried } }
     {
         Tables {
             fans: Fans::new(alloc),
@@ -63,7 +64,7 @@ impl Tables {
     /// The tables of lists, numbered from 1.
     pub(crate) fn of(alloc: Global, lists: &MeshLists) -> Result<Tables, NoMemory>
         requires { shape_fault (length lists.now.points) lists.now.faces ≡ None }
-        ensures { IfOk result (λ t. t ≡ mesh_of lists.now.points lists.now.faces) }
+        ensures { IfOk result (λ t. t.state ≡ record { mesh = mesh_of lists.now.points lists.now.faces; buried = none_buried }) }
     {
         let mut tables = Tables::new(alloc);
         for p in lists.points.as_slice() {
@@ -75,18 +76,17 @@ impl Tables {
         Ok(tables)
     }
 
-    /// Sets the next ids, which fall for neither kind.
+    /// Sets the next ids.
     pub(crate) fn number(&mut self, next_vertex: u32, next_face: u32)
-        requires vertex { self.old.next_vertex ≤ next_vertex }
-        requires face { self.old.next_face ≤ next_face }
-        ensures { self.new ≡ numbered self.old next_vertex next_face }
+        ensures state { self.new.state ≡ with_mesh self.old.state (numbered self.old.state.mesh next_vertex next_face) }
+        ensures spare { self.new.spare ≡ self.old.spare }
     {
         self.next_vertex = next_vertex;
         self.next_face = next_face;
     }
 
     pub(crate) fn copy(&self) -> Result<Tables, NoMemory>
-        ensures { IfOk result (λ copy. copy ≡ self.now) }
+        ensures { IfOk result (λ copy. copy.state ≡ self.now.state) }
     {
         Ok(Tables {
             fans: self.fans.copy()?,
@@ -97,31 +97,31 @@ impl Tables {
     }
 
     pub(crate) fn vertices(&self) -> usize
-        ensures { result ≡ map.len self.now.points }
+        ensures { result ≡ map.len self.now.state.mesh.points }
     {
         self.fans.len()
     }
 
     pub(crate) fn faces(&self) -> usize
-        ensures { result ≡ map.len self.now.faces }
+        ensures { result ≡ map.len self.now.state.mesh.faces }
     {
         self.keys.len()
     }
 
     pub(crate) fn next_vertex(&self) -> u32
-        ensures { result ≡ self.now.next_vertex }
+        ensures { result ≡ self.now.state.mesh.next_vertex }
     {
         self.next_vertex
     }
 
     pub(crate) fn next_face(&self) -> u32
-        ensures { result ≡ self.now.next_face }
+        ensures { result ≡ self.now.state.mesh.next_face }
     {
         self.next_face
     }
 
     pub(crate) fn vertex_after(&self, v: u32) -> Option<VertexId>
-        ensures { result ≡ slice_get (above v (map.keys self.now.points)) 0 }
+        ensures { result ≡ slice_get (above v (map.keys self.now.state.mesh.points)) 0 }
     {
         match self.fans.above(v) {
             Some(id) => Some(VertexId(id)),
@@ -130,7 +130,7 @@ impl Tables {
     }
 
     pub(crate) fn face_after(&self, f: u32) -> Option<FaceId>
-        ensures { result ≡ slice_get (above f (map.keys self.now.faces)) 0 }
+        ensures { result ≡ slice_get (above f (map.keys self.now.state.mesh.faces)) 0 }
     {
         match self.keys.above(f) {
             Some(id) => Some(FaceId(id)),
@@ -139,7 +139,7 @@ impl Tables {
     }
 
     pub(crate) fn point(&self, v: VertexId) -> Option<Point>
-        ensures { result ≡ map.get self.now.points v }
+        ensures { result ≡ map.get self.now.state.mesh.points v }
     {
         match self.fans.vertex(v.0) {
             Some(vertex) => Some(vertex.point),
@@ -148,7 +148,7 @@ impl Tables {
     }
 
     pub(crate) fn solid(&self, v: VertexId) -> bool
-        ensures { result ≡ is_solid self.now v }
+        ensures { result ≡ is_solid self.now.state.mesh v }
     {
         match self.fans.vertex(v.0) {
             Some(vertex) => vertex.solid,
@@ -157,7 +157,7 @@ impl Tables {
     }
 
     pub(crate) fn corners(&self, f: FaceId) -> Option<Corners>
-        ensures { result ≡ map.get self.now.faces f }
+        ensures { result ≡ map.get self.now.state.mesh.faces f }
     {
         match self.keys.get(f.0) {
             Some(key) => {
@@ -173,22 +173,22 @@ impl Tables {
     }
 
     pub(crate) fn runs(&self, u: VertexId, v: VertexId) -> usize
-        requires { IsSound self.now }
-        ensures { result ≡ runs self.now u v }
+        requires { IsSound self.now.state.mesh }
+        ensures { result ≡ runs self.now.state.mesh u v }
     {
         self.fans.runs(u.0, v.0)
     }
 
     pub(crate) fn run_face(&self, u: VertexId, v: VertexId, nth: u32) -> Option<FaceId>
-        requires { IsSound self.now }
-        ensures { result ≡ slice_get (faces_running self.now u v) nth }
+        requires { IsSound self.now.state.mesh }
+        ensures { result ≡ slice_get (faces_running self.now.state.mesh u v) nth }
     {
         self.nth_running(u, v, nth as usize)
     }
 
     fn nth_running(&self, u: VertexId, v: VertexId, nth: usize) -> Option<FaceId>
-        requires { IsSound self.now }
-        ensures { result ≡ slice_get (faces_running self.now u v) nth }
+        requires { IsSound self.now.state.mesh }
+        ensures { result ≡ slice_get (faces_running self.now.state.mesh u v) nth }
     {
         let all = self.fans.runs(u.0, v.0);
         if nth >= all {
@@ -202,16 +202,16 @@ impl Tables {
 
     /// How many faces older than one run from `u` to `v`.
     fn older(&self, u: VertexId, v: VertexId, f: FaceId) -> usize
-        requires { IsSound self.now }
-        ensures { result ≡ below f (faces_running self.now u v) }
+        requires { IsSound self.now.state.mesh }
+        ensures { result ≡ below f (faces_running self.now.state.mesh u v) }
     {
         self.fans.older(u.0, v.0, f.0)
     }
 
     /// The face across a side, with the side of it that runs back.
     pub(crate) fn across(&self, f: FaceId, side: u8) -> Option<(FaceId, u8)>
-        requires { IsSound self.now }
-        ensures { result ≡ across self.now f side }
+        requires { IsSound self.now.state.mesh }
+        ensures { result ≡ across self.now.state.mesh f side }
     {
         match self.corners(f) {
             Some(c) => self.across_side(f, corner_at(&c, side), corner_after(&c, side)),
@@ -220,8 +220,8 @@ impl Tables {
     }
 
     fn across_side(&self, f: FaceId, u: VertexId, v: VertexId) -> Option<(FaceId, u8)>
-        requires { IsSound self.now }
-        ensures { result ≡ across_side self.now f u v }
+        requires { IsSound self.now.state.mesh }
+        ensures { result ≡ across_side self.now.state.mesh f u v }
     {
         let n = self.older(u, v, f);
         match self.nth_running(v, u, n) {
@@ -234,19 +234,21 @@ impl Tables {
     }
 
     pub(crate) fn faces_at(&self, v: VertexId, into: &mut Vec<FaceId>) -> Result<(), NoMemory>
-        ensures ok { OnOk result (into.new.items ≡ faces_at self.now v) }
+        ensures ok { OnOk result (into.new.items ≡ faces_at self.now.state.mesh v) }
         ensures err { OnErr result (into.new.items ≡ []) }
     {
         self.fans.faces(v.0, into)
     }
 
     pub(crate) fn add_vertex(&mut self, p: Point) -> Result<VertexId, NoMemory>
-        requires next { self.old.next_vertex + 1 < 2 ^ 32 }
-        requires ids { (v : ℕ) → IsLiveVertex self.old v → v < self.old.next_vertex }
-        requires few { map.len self.old.points ≤ VERTICES_MAX }
-        ensures id { IfOk result (λ v. v ≡ self.old.next_vertex) }
-        ensures ok { OnOk result (self.new ≡ with_vertex self.old p) }
-        ensures err { OnErr result (self.new ≡ self.old) }
+        requires next { self.old.state.mesh.next_vertex + 1 < 2 ^ 32 }
+        requires ids { (v : ℕ) → IsLiveVertex self.old.state.mesh v → v < self.old.state.mesh.next_vertex }
+        requires few { map.len self.old.state.mesh.points ≤ VERTICES_MAX }
+        ensures id { IfOk result (λ v. v ≡ self.old.state.mesh.next_vertex) }
+        ensures ok { OnOk result (self.new.state ≡ with_mesh self.old.state (with_vertex self.old.state.mesh p)) }
+        ensures err { OnErr result (self.new.state ≡ self.old.state) }
+        ensures memory { OnErr result (self.old.spare ≡ 0) }
+        ensures spare { self.old.spare ≤ self.new.spare + 1 }
     {
         let id = self.next_vertex;
         self.fans.add(
@@ -262,8 +264,9 @@ impl Tables {
 
     /// Takes no memory.
     pub(crate) fn place(&mut self, v: VertexId, p: Point)
-        requires { IsLiveVertex self.old v }
-        ensures { self.new ≡ with_point self.old v p }
+        requires { IsLiveVertex self.old.state.mesh v }
+        ensures state { self.new.state ≡ with_mesh self.old.state (with_point self.old.state.mesh v p) }
+        ensures spare { self.new.spare ≡ self.old.spare }
     {
         if let Some(vertex) = self.fans.vertex(v.0) {
             self.fans.set(v.0, Vertex { point: p, ..vertex });
@@ -272,8 +275,9 @@ impl Tables {
 
     /// Takes no memory.
     pub(crate) fn make_solid(&mut self, v: VertexId)
-        requires { IsLiveVertex self.old v }
-        ensures { self.new ≡ with_solid self.old v }
+        requires { IsLiveVertex self.old.state.mesh v }
+        ensures state { self.new.state ≡ with_mesh self.old.state (with_solid self.old.state.mesh v) }
+        ensures spare { self.new.spare ≡ self.old.spare }
     {
         if let Some(vertex) = self.fans.vertex(v.0) {
             self.fans.set(
@@ -292,14 +296,16 @@ impl Tables {
         b: VertexId,
         c: VertexId,
     ) -> Result<FaceId, NoMemory>
-        requires next { self.old.next_face + 1 < 2 ^ 32 }
-        requires ids { (f : ℕ) → IsLiveFace self.old f → f < self.old.next_face }
-        requires few { map.len self.old.faces ≤ FACES_MAX }
-        requires live { AreLive self.old (record { first = a; second = b; third = c }) }
+        requires next { self.old.state.mesh.next_face + 1 < 2 ^ 32 }
+        requires ids { (f : ℕ) → IsLiveFace self.old.state.mesh f → f < self.old.state.mesh.next_face }
+        requires few { map.len self.old.state.mesh.faces ≤ FACES_MAX }
+        requires live { AreLive self.old.state.mesh (record { first = a; second = b; third = c }) }
         requires different { AreDifferent (record { first = a; second = b; third = c }) }
-        ensures id { IfOk result (λ f. f ≡ self.old.next_face) }
-        ensures ok { OnOk result (self.new ≡ with_face self.old (record { first = a; second = b; third = c })) }
-        ensures err { OnErr result (self.new ≡ self.old) }
+        ensures id { IfOk result (λ f. f ≡ self.old.state.mesh.next_face) }
+        ensures ok { OnOk result (self.new.state ≡ with_mesh self.old.state (with_face self.old.state.mesh (record { first = a; second = b; third = c }))) }
+        ensures err { OnErr result (self.new.state ≡ self.old.state) }
+        ensures memory { OnErr result (self.old.spare ≡ 0) }
+        ensures spare { self.old.spare ≤ self.new.spare + 1 }
     {
         let id = self.next_face;
         self.fans.reserve(3)?;
@@ -312,9 +318,11 @@ impl Tables {
 
     /// Takes no memory.
     pub(crate) fn drop_face(&mut self, f: FaceId)
-        requires live { IsLiveFace self.old f }
-        requires sound { IsSound self.old }
-        ensures { self.new ≡ without_face self.old f }
+        requires live { IsLiveFace self.old.state.mesh f }
+        requires sound { IsSound self.old.state.mesh }
+        requires apart { AreApart self.old.state }
+        ensures state { self.new.state ≡ with_mesh self.old.state (without_face self.old.state.mesh f) }
+        ensures spare { self.old.spare ≤ self.new.spare }
     {
         if let Some(key) = self.keys.get(f.0) {
             let (a, b, c) = corners_from(&self.fans, key);
@@ -327,9 +335,10 @@ impl Tables {
 
     /// Takes no memory.
     pub(crate) fn drop_vertex(&mut self, v: VertexId)
-        requires live { IsLiveVertex self.old v }
-        requires bare { faces_at self.old v ≡ [] }
-        ensures { self.new ≡ without_vertex self.old v }
+        requires live { IsLiveVertex self.old.state.mesh v }
+        requires bare { faces_at self.old.state.mesh v ≡ [] }
+        ensures state { self.new.state ≡ with_mesh self.old.state (without_vertex self.old.state.mesh v) }
+        ensures spare { self.old.spare ≤ self.new.spare }
     {
         self.fans.remove(v.0);
     }
@@ -377,7 +386,9 @@ fn put_ring(fans: &mut Fans, id: u32, a: u32, b: u32, c: u32) -> usize
     requires newest { (v : ℕ) → IsNewest id (spokes_at fans.old.woven.fans v) }
     requires few { (v : ℕ) → length (spokes_at fans.old.woven.fans v) < 2 ^ 32 }
     requires room { 3 ≤ fans.old.woven.room }
-    ensures { HasRing fans.old.woven fans.new.woven id (record { first = a; second = b; third = c }) result }
+    ensures ring { HasRing fans.old.woven fans.new.woven id (record { first = a; second = b; third = c }) result }
+    ensures kept { (fans.new.buried ≡ fans.old.buried) × (fans.new.seats ≡ fans.old.seats) }
+    ensures room { fans.old.woven.room ≤ fans.new.woven.room + 3 }
 {
     let third = fans.attach(c, a, id, 0);
     let second = fans.attach(b, c, id, third);
@@ -386,41 +397,8 @@ fn put_ring(fans: &mut Fans, id: u32, a: u32, b: u32, c: u32) -> usize
     first
 }
 
-/// Takes the three sides of a face out of those that leave its corners. They stay at their keys. Takes no memory.
-fn bury_ring(fans: &mut Fans, id: u32, a: u32, b: u32, c: u32)
-    requires different { AreDifferent (record { first = a; second = b; third = c }) }
-    requires live { HaveFans fans.old.woven.fans (record { first = a; second = b; third = c }) }
-    ensures lost { HasLost fans.old.woven fans.new.woven id (record { first = a; second = b; third = c }) }
-    ensures sides { (key : ℕ) → side_at fans.new.woven.sides key ≡ side_at fans.old.woven.sides key }
-    ensures kept { (fans.new.buried ≡ fans.old.buried) × (fans.new.seats ≡ fans.old.seats) }
-    ensures room { fans.new.woven.room ≡ fans.old.woven.room }
-{
-    fans.unlink(a, id);
-    fans.unlink(b, id);
-    fans.unlink(c, id);
-}
-
-/// Puts the three sides of a face, which stand in a ring from the key on, back among those that leave its corners. Takes no
-/// memory.
-fn raise_ring(fans: &mut Fans, id: u32, a: u32, b: u32, c: u32, key: usize)
-    requires different { AreDifferent (record { first = a; second = b; third = c }) }
-    requires live { HaveFans fans.old.woven.fans (record { first = a; second = b; third = c }) }
-    requires ring { IsRing fans.old.woven.sides id (record { first = a; second = b; third = c }) key }
-    requires outside { (v : ℕ) → IsOutside id (spokes_at fans.old.woven.fans v) }
-    requires few { (v : ℕ) → length (spokes_at fans.old.woven.fans v) < 2 ^ 32 }
-    ensures raised { HasRaised fans.old.woven fans.new.woven id (record { first = a; second = b; third = c }) }
-    ensures kept { (fans.new.buried ≡ fans.old.buried) × (fans.new.seats ≡ fans.old.seats) }
-    ensures room { fans.new.woven.room ≡ fans.old.woven.room }
-{
-    let first = fans.side(key);
-    let second = fans.side(first.next);
-    fans.relink(a, key);
-    fans.relink(b, first.next);
-    fans.relink(c, second.next);
-}
-
 /// The corners of the face whose first side stands at the key.
-fn corners_from(fans: &Fans, key: usize) -> (u32, u32, u32)
+pub(crate) fn corners_from(fans: &Fans, key: usize) -> (u32, u32, u32)
     ensures { record { first = result.0; second = result.1; third = result.2 } ≡ corners_at fans.now.woven.sides key }
 {
     let first = fans.side(key);

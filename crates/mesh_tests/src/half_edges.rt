@@ -152,6 +152,25 @@ fn answers_are_those_of_a_plain_mesh(rt: HostRuntime) -> Result<(), Fail> {
     Ok(())
 }
 
+#[test]
+fn what_is_buried_lives_no_longer(rt: HostRuntime) -> Result<(), Fail> {
+    let lists = tetrahedron(rt.alloc())?;
+    assert!(rt; shape(rt.alloc(), &lists).is_ok());
+    let mut mesh = HalfMesh::of(rt.alloc(), &lists)?;
+    mesh.room(3)?;
+    assert!(rt; mesh.corners(FaceId(1)).is_some());
+    mesh.bury_face(FaceId(1));
+    assert_eq!(rt; (mesh.faces(), mesh.next_face()), (3, 5));
+    assert_eq!(rt; mesh.corners(FaceId(1)), None);
+    mesh.forget();
+    assert!(rt; mesh.point(VertexId(2)).is_some());
+    mesh.make_solid(VertexId(2))?;
+    assert!(rt; mesh.point(VertexId(2)).is_some() && mesh.solid(VertexId(2)));
+    mesh.unmake_solid(VertexId(2));
+    assert_eq!(rt; mesh.solid(VertexId(2)), false);
+    Ok(())
+}
+
 /// With the last ids given, no vertex is made.
 fn assert_full<S: Surface>(rt: &impl Abort, mesh: &mut S, p: Point) {
     assert_eq!(rt; (mesh.next_vertex(), mesh.next_face()), (2_147_483_649, 5));

@@ -5,7 +5,7 @@ use Rattle.mesh_tests.proofs.half_edges.fan_out.Goals as goal
 
 pub add_face-requires : goal.add_face-requires
 add_face-requires c =
-    let m = c.args.mesh.now.now in
+    let m = c.args.mesh.now.now.state.mesh in
     let a = c.args.a in
     let b = c.args.b in
     subst (λ n. IsFresh n (corners_of (a ∷ b ∷ c.in_ok-v.v ∷ []))) (sym c.in_ok-v.ensures.ok)

@@ -7,10 +7,14 @@ use Rattle.half_mesh.proofs.Vertices.{solid-empty}
 use Rattle.half_mesh.specs.Tied.{corners_at}
 use Rattle.half_mesh.proofs.Mapped.{mapped-empty}
 use Rattle.half_mesh.proofs.TiedLaws.{tied-empty}
+use Rattle.half_mesh.proofs.Ledgers.{no-rings}
 use Rattle.half_mesh.proofs.tables.Tables.new.Goals as goal
 
 pub invariant_of-result : goal.invariant_of-result
-invariant_of-result c = tied-empty c.new.result.woven c.new-2.result.live c.new.ensures.fans c.new-2.ensures.live
+invariant_of-result c = record {
+  live = tied-empty c.new.result.woven c.new-2.result.live c.new.ensures.fans c.new-2.ensures.live;
+  buried = no-rings c.new.result.woven.sides c.new-2.result.buried c.new-2.ensures.buried;
+}
 
 pub returns : goal.returns
 returns c =
@@ -18,4 +22,10 @@ returns c =
     let points = ap points_in vertices ∙ mapped-empty (λ (x : Vertex). x.point) in
     let solid = ap solid_in vertices ∙ solid-empty in
     let faces = ap (mapped (corners_at c.new.result.woven.sides)) c.new-2.ensures.live ∙ mapped-empty (corners_at c.new.result.woven.sides) in
-    λ i. record { points = points i; faces = faces i; solid = solid i; next_vertex = 1; next_face = 1 }
+    let below = ap points_in c.new.ensures.buried ∙ mapped-empty (λ (x : Vertex). x.point) in
+    let rings = ap (mapped (corners_at c.new.result.woven.sides)) c.new-2.ensures.buried ∙ mapped-empty (corners_at c.new.result.woven.sides) in
+    let marks = ap solid_in c.new.ensures.buried ∙ solid-empty in
+    λ i. record {
+      mesh = record { points = points i; faces = faces i; solid = solid i; next_vertex = 1; next_face = 1 };
+      buried = record { points = below i; faces = rings i; solid = marks i };
+    }

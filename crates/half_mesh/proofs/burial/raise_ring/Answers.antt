@@ -3,7 +3,7 @@ use Rattle.half_mesh.specs.Fans.{Side, side_at, IsOutside}
 use Rattle.half_mesh.specs.Tied.{next_at}
 use Rattle.half_mesh.proofs.Rings.{has-put_spoke}
 use Rattle.half_mesh.proofs.Raised.{can-relink, raised-made}
-use Rattle.half_mesh.proofs.tables.raise_ring.Goals as goal
+use Rattle.half_mesh.proofs.burial.raise_ring.Goals as goal
 
 pub relink-requires-clause-can : goal.relink-requires-clause-can
 relink-requires-clause-can c =

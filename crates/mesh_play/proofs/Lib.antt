@@ -1,0 +1,2 @@
+pub mod PlayMarks
+pub mod FreshFaces

@@ -1,0 +1,13 @@
+//! Lists of calls of a surface, and what they answer, whichever way the surface is kept.
+#![tactic(auto)]
+
+mod acting;
+mod asking;
+mod calls;
+mod playing;
+
+pub use calls::{Act, Answer, Answers, Call, Question};
+pub use playing::{play, play_both};
+
+#[cfg(test)]
+mod tests;
