@@ -1,8 +1,9 @@
-ghost use Rattle.std.specs.Prelude.{◌≡◌};
+ghost use Rattle.std.specs.Prelude.{◌≡◌, ◌<◌, slice_index_or};
 ghost use Rattle.std.specs.List.{All};
 ghost use Rattle.grid_base.specs.Triples.{IsWithin};
 ghost use Rattle.grid_base.specs.Meeting.{AreWithin};
-ghost use Rattle.grid_base.specs.Separation.{ten_directions, axes, directions};
+ghost use Rattle.grid_base.specs.Separation.{ten_directions, directions};
+ghost use Rattle.motion_test.specs.Pairs.{origin};
 
 use grid_base::{DIRECTION_MAX, Positions, WIDE_MAX, Wide};
 
@@ -44,36 +45,43 @@ pub fn directions(s: &Positions, t: &Positions) -> [Wide; 23]
     ]
 }
 
-// The directions along the axes.
-pub(crate) fn axes() -> [Wide; 3]
-    ensures value { result ≡ axes }
-    ensures within { All (IsWithin DIRECTION_MAX) result }
+// One of the ten directions that five positions give.
+pub(crate) fn direction_of(i: usize, f: &Positions) -> Wide
+    requires listed { i < 10 }
+    requires f_fits { AreWithin WIDE_MAX f.now }
+    ensures value { result ≡ slice_index_or (ten_directions f.now) i origin }
+    ensures within { IsWithin DIRECTION_MAX result }
 {
-    [
-        Wide { x: 1, y: 0, z: 0 },
-        Wide { x: 0, y: 1, z: 0 },
-        Wide { x: 0, y: 0, z: 1 },
-    ]
+    match i {
+        0 => f.d.minus(f.c).cross(f.e.minus(f.c)),
+        1 => f.b.minus(f.a).cross(f.d.minus(f.c)),
+        2 => f.b.minus(f.a).cross(f.e.minus(f.d)),
+        3 => f.b.minus(f.a).cross(f.c.minus(f.e)),
+        4 => f.c.minus(f.a),
+        5 => f.d.minus(f.a),
+        6 => f.e.minus(f.a),
+        7 => f.c.minus(f.b),
+        8 => f.d.minus(f.b),
+        _ => f.e.minus(f.b),
+    }
 }
 
 // The ten directions that five positions give.
-pub(crate) fn ten(f: &Positions) -> [Wide; 10]
+fn ten(f: &Positions) -> [Wide; 10]
     requires { AreWithin WIDE_MAX f.now }
     ensures value { result ≡ ten_directions f.now }
     ensures within { All (IsWithin DIRECTION_MAX) result }
 {
-    let ab = f.b.minus(f.a);
-    let cd = f.d.minus(f.c);
     [
-        cd.cross(f.e.minus(f.c)),
-        ab.cross(cd),
-        ab.cross(f.e.minus(f.d)),
-        ab.cross(f.c.minus(f.e)),
-        f.c.minus(f.a),
-        f.d.minus(f.a),
-        f.e.minus(f.a),
-        f.c.minus(f.b),
-        f.d.minus(f.b),
-        f.e.minus(f.b),
+        direction_of(0, f),
+        direction_of(1, f),
+        direction_of(2, f),
+        direction_of(3, f),
+        direction_of(4, f),
+        direction_of(5, f),
+        direction_of(6, f),
+        direction_of(7, f),
+        direction_of(8, f),
+        direction_of(9, f),
     ]
 }

@@ -1,8 +1,10 @@
 //! The written test of a motion: directions that keep an edge and a triangle apart, and halves of the time.
 #![tactic(auto)]
 
+mod axes;
 mod direction_list;
 mod halving;
+mod heights;
 mod one_direction;
 mod some_direction;
 #[cfg(test)]
@@ -79,21 +81,20 @@ pub fn closes(p: &Pair, depth: u8) -> bool
     opens_at(&positions(&p.end), &positions(&p.start), depth)
 }
 
-// Whether the pair passes to the depth: it is separated, or moves as one and does not meet at the start.
+// Whether the pair passes to the depth. What moves as one passes exactly where it does not meet at the start, so it is
+// asked for no direction.
 fn passes_at(p: &Pair, depth: u8) -> bool
     requires depth_fits { depth ≤ DEPTH_MAX }
     requires start_fits { AreWithin HALF_MAX (positions_of p.now.start) }
     requires end_fits { AreWithin HALF_MAX (positions_of p.now.end) }
     ensures { IsTrue result ↔ Passes depth (positions_of p.now.start) (positions_of p.now.end) }
 {
-    if separated(p, depth) {
-        return true;
-    }
     let s = positions(&p.start);
-    if !moves_together(&s, &positions(&p.end)) {
-        return false;
+    let t = positions(&p.end);
+    if moves_together(&s, &t) {
+        return !meets(s.a, s.b, s.c, s.d, s.e);
     }
-    !meets(s.a, s.b, s.c, s.d, s.e)
+    separated_at(&s, &t, depth)
 }
 
 // Whether the five positions move by one shift.

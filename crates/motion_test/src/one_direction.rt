@@ -1,9 +1,18 @@
-ghost use Rattle.std.specs.Prelude.{◌↔◌, IsTrue, ◌<ℤ◌, ◌≤ℤ◌};
-ghost use Rattle.grid_base.specs.Triples.{IsWithin};
+ghost use Rattle.std.specs.Prelude.{◌≡◌, ◌↔◌, IsTrue, ◌<ℤ◌, ◌≤ℤ◌};
+ghost use Rattle.grid_base.specs.Triples.{IsWithin, dot};
 ghost use Rattle.grid_base.specs.Meeting.{AreWithin};
+ghost use Rattle.motion_test.specs.declared.one_direction.Side.TheVariants.{Below, Above};
 ghost use Rattle.grid_base.specs.Separation.{IsBelow, IsAbove, IsWeaklyBelow, IsWeaklyAbove, KeepsApart, TakesApart, BringsTogether};
 
 use grid_base::{DIRECTION_MAX, Positions, WIDE_MAX, Wide};
+
+// Where an edge lies along a direction: strictly below a triangle, strictly above it, or neither.
+#[derive(Clone, Copy)]
+enum Side {
+    Below,
+    Above,
+    Neither,
+}
 
 /// Whether the direction keeps the edge strictly on one side of the triangle, at the start and at the end.
 pub fn keeps_apart(n: Wide, s: &Positions, t: &Positions) -> bool
@@ -12,13 +21,11 @@ pub fn keeps_apart(n: Wide, s: &Positions, t: &Positions) -> bool
     requires t_fits { AreWithin WIDE_MAX t.now }
     ensures { IsTrue result ↔ KeepsApart s.now t.now n }
 {
-    if is_below(n, s) {
-        return is_below(n, t);
+    match side_of(n, s) {
+        Side::Below => is_below(n, t),
+        Side::Above => is_above(n, t),
+        Side::Neither => false,
     }
-    if is_above(n, s) {
-        return is_above(n, t);
-    }
-    false
 }
 
 /// Whether the direction takes the edge to one side: weakly at the start, and strictly at the end.
@@ -28,13 +35,11 @@ pub fn takes_apart(n: Wide, s: &Positions, t: &Positions) -> bool
     requires t_fits { AreWithin WIDE_MAX t.now }
     ensures { IsTrue result ↔ TakesApart s.now t.now n }
 {
-    if is_below(n, t) {
-        return is_weakly_below(n, s);
+    match side_of(n, t) {
+        Side::Below => is_weakly_below(n, s),
+        Side::Above => is_weakly_above(n, s),
+        Side::Neither => false,
     }
-    if is_above(n, t) {
-        return is_weakly_above(n, s);
-    }
-    false
 }
 
 /// Whether the direction brings the edge to the triangle: strictly on one side at the start, and weakly at the end.
@@ -45,6 +50,58 @@ pub fn brings_together(n: Wide, s: &Positions, t: &Positions) -> bool
     ensures { IsTrue result ↔ BringsTogether s.now t.now n }
 {
     takes_apart(n, t, s)
+}
+
+// Where the edge lies. Most directions are given up at the first corner.
+fn side_of(n: Wide, f: &Positions) -> Side
+    requires n_fits { IsWithin DIRECTION_MAX n }
+    requires f_fits { AreWithin WIDE_MAX f.now }
+    ensures below { result ≡ Below ↔ IsBelow n f.now }
+    ensures above { result ≡ Above ↔ IsAbove n f.now }
+{
+    let a = n.dot(f.a);
+    let b = n.dot(f.b);
+    let c = n.dot(f.c);
+    if both_below(a, b, c) {
+        if rest_below(a, b, n, f) {
+            return Side::Below;
+        }
+        return Side::Neither;
+    }
+    if both_above(a, b, c) {
+        if rest_above(a, b, n, f) {
+            return Side::Above;
+        }
+    }
+    Side::Neither
+}
+
+// Whether two heights are below those of the last two corners.
+fn rest_below(a: i128, b: i128, n: Wide, f: &Positions) -> bool
+    requires n_fits { IsWithin DIRECTION_MAX n }
+    requires f_fits { AreWithin WIDE_MAX f.now }
+    ensures { IsTrue result ↔ (((a <ℤ dot n f.now.d) × (b <ℤ dot n f.now.d)) × ((a <ℤ dot n f.now.e) × (b <ℤ dot n f.now.e))) }
+{
+    let d = n.dot(f.d);
+    if !both_below(a, b, d) {
+        return false;
+    }
+    let e = n.dot(f.e);
+    both_below(a, b, e)
+}
+
+// Whether two heights are above those of the last two corners.
+fn rest_above(a: i128, b: i128, n: Wide, f: &Positions) -> bool
+    requires n_fits { IsWithin DIRECTION_MAX n }
+    requires f_fits { AreWithin WIDE_MAX f.now }
+    ensures { IsTrue result ↔ (((dot n f.now.d <ℤ a) × (dot n f.now.d <ℤ b)) × ((dot n f.now.e <ℤ a) × (dot n f.now.e <ℤ b))) }
+{
+    let d = n.dot(f.d);
+    if !both_above(a, b, d) {
+        return false;
+    }
+    let e = n.dot(f.e);
+    both_above(a, b, e)
 }
 
 // Whether both edge ends are strictly below all corners.
