@@ -4,7 +4,9 @@ ghost use Rattle.grid_base.specs.Triples.{IsWithin};
 ghost use Rattle.grid_base.specs.Meeting.{AreWithin};
 ghost use Rattle.grid_base.specs.Separation.{ten_directions, directions};
 ghost use Rattle.motion_test.specs.Pairs.{origin};
+ghost use Rattle.motion_test.specs.Small.{position_max, direction_max};
 
+use crate::small::{difference, product};
 use grid_base::{DIRECTION_MAX, Positions, WIDE_MAX, Wide};
 
 /// The 23 directions over an interval from `s` to `t`, in the order in which they are tried: the three axes;
@@ -46,23 +48,39 @@ pub fn directions(s: &Positions, t: &Positions) -> [Wide; 23]
 }
 
 // One of the ten directions that five positions give.
-pub(crate) fn direction_of(i: usize, f: &Positions) -> Wide
+pub(crate) fn direction_of(i: usize, f: &Positions, small: bool) -> Wide
     requires listed { i < 10 }
-    requires f_fits { AreWithin WIDE_MAX f.now }
+    requires f_fits { AreWithin (position_max small) f.now }
     ensures value { result ≡ slice_index_or (ten_directions f.now) i origin }
-    ensures within { IsWithin DIRECTION_MAX result }
+    ensures within { IsWithin (direction_max small) result }
 {
     match i {
-        0 => f.d.minus(f.c).cross(f.e.minus(f.c)),
-        1 => f.b.minus(f.a).cross(f.d.minus(f.c)),
-        2 => f.b.minus(f.a).cross(f.e.minus(f.d)),
-        3 => f.b.minus(f.a).cross(f.c.minus(f.e)),
-        4 => f.c.minus(f.a),
-        5 => f.d.minus(f.a),
-        6 => f.e.minus(f.a),
-        7 => f.c.minus(f.b),
-        8 => f.d.minus(f.b),
-        _ => f.e.minus(f.b),
+        0 => product(
+            difference(f.d, f.c, small),
+            difference(f.e, f.c, small),
+            small,
+        ),
+        1 => product(
+            difference(f.b, f.a, small),
+            difference(f.d, f.c, small),
+            small,
+        ),
+        2 => product(
+            difference(f.b, f.a, small),
+            difference(f.e, f.d, small),
+            small,
+        ),
+        3 => product(
+            difference(f.b, f.a, small),
+            difference(f.c, f.e, small),
+            small,
+        ),
+        4 => difference(f.c, f.a, small),
+        5 => difference(f.d, f.a, small),
+        6 => difference(f.e, f.a, small),
+        7 => difference(f.c, f.b, small),
+        8 => difference(f.d, f.b, small),
+        _ => difference(f.e, f.b, small),
     }
 }
 
@@ -73,15 +91,15 @@ fn ten(f: &Positions) -> [Wide; 10]
     ensures within { All (IsWithin DIRECTION_MAX) result }
 {
     [
-        direction_of(0, f),
-        direction_of(1, f),
-        direction_of(2, f),
-        direction_of(3, f),
-        direction_of(4, f),
-        direction_of(5, f),
-        direction_of(6, f),
-        direction_of(7, f),
-        direction_of(8, f),
-        direction_of(9, f),
+        direction_of(0, f, false),
+        direction_of(1, f, false),
+        direction_of(2, f, false),
+        direction_of(3, f, false),
+        direction_of(4, f, false),
+        direction_of(5, f, false),
+        direction_of(6, f, false),
+        direction_of(7, f, false),
+        direction_of(8, f, false),
+        direction_of(9, f, false),
     ]
 }

@@ -6,6 +6,7 @@ mod direction_list;
 mod halving;
 mod heights;
 mod one_direction;
+mod small;
 mod some_direction;
 #[cfg(test)]
 mod tests;
@@ -42,7 +43,7 @@ pub fn separated(p: &Pair, depth: u8) -> bool
     ensures exact { IsTrue result ↔ AreSeparated depth (positions_of p.now.start) (positions_of p.now.end) }
     ensures clear { IsTrue result → NeverMeet (positions_of p.now.start) (positions_of p.now.end) }
 {
-    separated_at(&positions(&p.start), &positions(&p.end), depth)
+    separated_at(&positions(&p.start), &positions(&p.end), depth, true)
 }
 
 /// Whether the pair passes: it is separated to the depth, or its five positions move by one shift and do not
@@ -67,7 +68,7 @@ pub fn opens(p: &Pair, depth: u8) -> bool
     ensures exact { IsTrue result ↔ Opens depth (positions_of p.now.start) (positions_of p.now.end) }
     ensures clear { IsTrue result → NeverMeetAfterStart (positions_of p.now.start) (positions_of p.now.end) }
 {
-    opens_at(&positions(&p.start), &positions(&p.end), depth)
+    opens_at(&positions(&p.start), &positions(&p.end), depth, true)
 }
 
 /// Whether the pair closes: with its start and its end exchanged it opens. Then it meets at no fraction below one.
@@ -78,7 +79,7 @@ pub fn closes(p: &Pair, depth: u8) -> bool
     ensures exact { IsTrue result ↔ Closes depth (positions_of p.now.start) (positions_of p.now.end) }
     ensures clear { IsTrue result → NeverMeetBeforeEnd (positions_of p.now.start) (positions_of p.now.end) }
 {
-    opens_at(&positions(&p.end), &positions(&p.start), depth)
+    opens_at(&positions(&p.end), &positions(&p.start), depth, true)
 }
 
 // Whether the pair passes to the depth. What moves as one passes exactly where it does not meet at the start, so it is
@@ -94,7 +95,7 @@ fn passes_at(p: &Pair, depth: u8) -> bool
     if moves_together(&s, &t) {
         return !meets(s.a, s.b, s.c, s.d, s.e);
     }
-    separated_at(&s, &t, depth)
+    separated_at(&s, &t, depth, true)
 }
 
 // Whether the five positions move by one shift.

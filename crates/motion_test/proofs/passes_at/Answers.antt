@@ -2,7 +2,6 @@ use Rattle.std.proofs.Common.{◌≡◌, Bool, true, false, not, refl, inl, inr,
 use Rattle.std.proofs.lemmas.Bool.{false≢true}
 use Rattle.grid_base.proofs.SeparationLaws.{Passes-never_meet, NeverMeet-at_start}
 use Rattle.motion_test.specs.Pairs.{positions_of}
-use Rattle.motion_test.proofs.Rooms.{AreWithin-weaker, room_at_start}
 use Rattle.motion_test.proofs.passes_at.Goals as goal
 
 not_both : (r : Bool) → not r ≡ true → r ≡ true → ⊥
@@ -25,10 +24,10 @@ returns-then-moves_together c =
     )
 
 pub separated_at-requires-clause-s_fits : goal.separated_at-requires-clause-s_fits
-separated_at-requires-clause-s_fits c = rw c.positions-s.ensures (AreWithin-weaker _ _ (positions_of c.args.p.now.start) (room_at_start c.args.depth c.requires.depth_fits) c.requires.start_fits)
+separated_at-requires-clause-s_fits c = rw c.positions-s.ensures c.requires.start_fits
 
 pub separated_at-requires-clause-t_fits : goal.separated_at-requires-clause-t_fits
-separated_at-requires-clause-t_fits c = rw c.positions-t.ensures (AreWithin-weaker _ _ (positions_of c.args.p.now.end) (room_at_start c.args.depth c.requires.depth_fits) c.requires.end_fits)
+separated_at-requires-clause-t_fits c = rw c.positions-t.ensures c.requires.end_fits
 
 pub returns : goal.returns
 returns c =

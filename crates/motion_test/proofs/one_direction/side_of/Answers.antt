@@ -9,9 +9,9 @@ pub returns-then-rest_below-clause-below : goal.returns-then-rest_below-clause-b
 returns-then-rest_below-clause-below c =
     let n = c.args.n in
     let f = c.args.f.now in
-    let a_is : to_z w128 (of_z w128 c.dot-a.result) ≡ dot n f.a = search rules in
-    let b_is : to_z w128 (of_z w128 c.dot-b.result) ≡ dot n f.b = search rules in
-    let c_is : to_z w128 (of_z w128 c.dot-c.result) ≡ dot n f.c = search rules in
+    let a_is : to_z w128 (of_z w128 c.height-a.result) ≡ dot n f.a = search rules in
+    let b_is : to_z w128 (of_z w128 c.height-b.result) ≡ dot n f.b = search rules in
+    let c_is : to_z w128 (of_z w128 c.height-c.result) ≡ dot n f.c = search rules in
     let under = simp (a_is, b_is, c_is) at c.if-both_below.ensures in
     let rest = simp (a_is, b_is) at c.if-rest_below.ensures in
     (λ _. below_from n f (under.0 refl) (rest.0 refl), λ _. refl)
@@ -20,9 +20,9 @@ pub returns-then-rest_below-clause-above : goal.returns-then-rest_below-clause-a
 returns-then-rest_below-clause-above c =
     let n = c.args.n in
     let f = c.args.f.now in
-    let a_is : to_z w128 (of_z w128 c.dot-a.result) ≡ dot n f.a = search rules in
-    let b_is : to_z w128 (of_z w128 c.dot-b.result) ≡ dot n f.b = search rules in
-    let c_is : to_z w128 (of_z w128 c.dot-c.result) ≡ dot n f.c = search rules in
+    let a_is : to_z w128 (of_z w128 c.height-a.result) ≡ dot n f.a = search rules in
+    let b_is : to_z w128 (of_z w128 c.height-b.result) ≡ dot n f.b = search rules in
+    let c_is : to_z w128 (of_z w128 c.height-c.result) ≡ dot n f.c = search rules in
     let under = simp (a_is, b_is, c_is) at c.if-both_below.ensures in
     (λ e. absurd (below≢above e), λ above. absurd (not_above n f (under.0 refl) above))
 
@@ -30,9 +30,9 @@ pub returns-then-both_below-clause-below : goal.returns-then-both_below-clause-b
 returns-then-both_below-clause-below c =
     let n = c.args.n in
     let f = c.args.f.now in
-    let a_is : to_z w128 (of_z w128 c.dot-a.result) ≡ dot n f.a = search rules in
-    let b_is : to_z w128 (of_z w128 c.dot-b.result) ≡ dot n f.b = search rules in
-    let c_is : to_z w128 (of_z w128 c.dot-c.result) ≡ dot n f.c = search rules in
+    let a_is : to_z w128 (of_z w128 c.height-a.result) ≡ dot n f.a = search rules in
+    let b_is : to_z w128 (of_z w128 c.height-b.result) ≡ dot n f.b = search rules in
+    let c_is : to_z w128 (of_z w128 c.height-c.result) ≡ dot n f.c = search rules in
     let under = simp (a_is, b_is, c_is) at c.if-both_below.ensures in
     let rest = simp (a_is, b_is) at c.if-rest_below.ensures in
     (λ e. absurd (neither≢below e), λ below. absurd (false≢true (rest.1 (rest_below n f below))))
@@ -41,9 +41,9 @@ pub returns-then-both_below-clause-above : goal.returns-then-both_below-clause-a
 returns-then-both_below-clause-above c =
     let n = c.args.n in
     let f = c.args.f.now in
-    let a_is : to_z w128 (of_z w128 c.dot-a.result) ≡ dot n f.a = search rules in
-    let b_is : to_z w128 (of_z w128 c.dot-b.result) ≡ dot n f.b = search rules in
-    let c_is : to_z w128 (of_z w128 c.dot-c.result) ≡ dot n f.c = search rules in
+    let a_is : to_z w128 (of_z w128 c.height-a.result) ≡ dot n f.a = search rules in
+    let b_is : to_z w128 (of_z w128 c.height-b.result) ≡ dot n f.b = search rules in
+    let c_is : to_z w128 (of_z w128 c.height-c.result) ≡ dot n f.c = search rules in
     let under = simp (a_is, b_is, c_is) at c.if-both_below.ensures in
     (λ e. absurd (neither≢above e), λ above. absurd (not_above n f (under.0 refl) above))
 
@@ -51,9 +51,9 @@ pub returns-then-rest_above-clause-below : goal.returns-then-rest_above-clause-b
 returns-then-rest_above-clause-below c =
     let n = c.args.n in
     let f = c.args.f.now in
-    let a_is : to_z w128 (of_z w128 c.dot-a.result) ≡ dot n f.a = search rules in
-    let b_is : to_z w128 (of_z w128 c.dot-b.result) ≡ dot n f.b = search rules in
-    let c_is : to_z w128 (of_z w128 c.dot-c.result) ≡ dot n f.c = search rules in
+    let a_is : to_z w128 (of_z w128 c.height-a.result) ≡ dot n f.a = search rules in
+    let b_is : to_z w128 (of_z w128 c.height-b.result) ≡ dot n f.b = search rules in
+    let c_is : to_z w128 (of_z w128 c.height-c.result) ≡ dot n f.c = search rules in
     let under = simp (a_is, b_is, c_is) at c.if-both_below.ensures in
     (λ e. absurd (above≢below e), λ below. absurd (false≢true (under.1 (first_below n f below))))
 
@@ -61,9 +61,9 @@ pub returns-then-rest_above-clause-above : goal.returns-then-rest_above-clause-a
 returns-then-rest_above-clause-above c =
     let n = c.args.n in
     let f = c.args.f.now in
-    let a_is : to_z w128 (of_z w128 c.dot-a.result) ≡ dot n f.a = search rules in
-    let b_is : to_z w128 (of_z w128 c.dot-b.result) ≡ dot n f.b = search rules in
-    let c_is : to_z w128 (of_z w128 c.dot-c.result) ≡ dot n f.c = search rules in
+    let a_is : to_z w128 (of_z w128 c.height-a.result) ≡ dot n f.a = search rules in
+    let b_is : to_z w128 (of_z w128 c.height-b.result) ≡ dot n f.b = search rules in
+    let c_is : to_z w128 (of_z w128 c.height-c.result) ≡ dot n f.c = search rules in
     let under = simp (a_is, b_is, c_is) at c.if-both_below.ensures in
     let over = simp (a_is, b_is, c_is) at c.if-both_above.ensures in
     let rest = simp (a_is, b_is) at c.if-rest_above.ensures in
@@ -73,9 +73,9 @@ pub returns-else-rest_above-clause-below : goal.returns-else-rest_above-clause-b
 returns-else-rest_above-clause-below c =
     let n = c.args.n in
     let f = c.args.f.now in
-    let a_is : to_z w128 (of_z w128 c.dot-a.result) ≡ dot n f.a = search rules in
-    let b_is : to_z w128 (of_z w128 c.dot-b.result) ≡ dot n f.b = search rules in
-    let c_is : to_z w128 (of_z w128 c.dot-c.result) ≡ dot n f.c = search rules in
+    let a_is : to_z w128 (of_z w128 c.height-a.result) ≡ dot n f.a = search rules in
+    let b_is : to_z w128 (of_z w128 c.height-b.result) ≡ dot n f.b = search rules in
+    let c_is : to_z w128 (of_z w128 c.height-c.result) ≡ dot n f.c = search rules in
     let under = simp (a_is, b_is, c_is) at c.if-both_below.ensures in
     (λ e. absurd (neither≢below e), λ below. absurd (false≢true (under.1 (first_below n f below))))
 
@@ -83,9 +83,9 @@ pub returns-else-rest_above-clause-above : goal.returns-else-rest_above-clause-a
 returns-else-rest_above-clause-above c =
     let n = c.args.n in
     let f = c.args.f.now in
-    let a_is : to_z w128 (of_z w128 c.dot-a.result) ≡ dot n f.a = search rules in
-    let b_is : to_z w128 (of_z w128 c.dot-b.result) ≡ dot n f.b = search rules in
-    let c_is : to_z w128 (of_z w128 c.dot-c.result) ≡ dot n f.c = search rules in
+    let a_is : to_z w128 (of_z w128 c.height-a.result) ≡ dot n f.a = search rules in
+    let b_is : to_z w128 (of_z w128 c.height-b.result) ≡ dot n f.b = search rules in
+    let c_is : to_z w128 (of_z w128 c.height-c.result) ≡ dot n f.c = search rules in
     let under = simp (a_is, b_is, c_is) at c.if-both_below.ensures in
     let rest = simp (a_is, b_is) at c.if-rest_above.ensures in
     (λ e. absurd (neither≢above e), λ above. absurd (false≢true (rest.1 (rest_above n f above))))
@@ -94,9 +94,9 @@ pub returns-else-both_above-clause-below : goal.returns-else-both_above-clause-b
 returns-else-both_above-clause-below c =
     let n = c.args.n in
     let f = c.args.f.now in
-    let a_is : to_z w128 (of_z w128 c.dot-a.result) ≡ dot n f.a = search rules in
-    let b_is : to_z w128 (of_z w128 c.dot-b.result) ≡ dot n f.b = search rules in
-    let c_is : to_z w128 (of_z w128 c.dot-c.result) ≡ dot n f.c = search rules in
+    let a_is : to_z w128 (of_z w128 c.height-a.result) ≡ dot n f.a = search rules in
+    let b_is : to_z w128 (of_z w128 c.height-b.result) ≡ dot n f.b = search rules in
+    let c_is : to_z w128 (of_z w128 c.height-c.result) ≡ dot n f.c = search rules in
     let under = simp (a_is, b_is, c_is) at c.if-both_below.ensures in
     (λ e. absurd (neither≢below e), λ below. absurd (false≢true (under.1 (first_below n f below))))
 
@@ -104,9 +104,9 @@ pub returns-else-both_above-clause-above : goal.returns-else-both_above-clause-a
 returns-else-both_above-clause-above c =
     let n = c.args.n in
     let f = c.args.f.now in
-    let a_is : to_z w128 (of_z w128 c.dot-a.result) ≡ dot n f.a = search rules in
-    let b_is : to_z w128 (of_z w128 c.dot-b.result) ≡ dot n f.b = search rules in
-    let c_is : to_z w128 (of_z w128 c.dot-c.result) ≡ dot n f.c = search rules in
+    let a_is : to_z w128 (of_z w128 c.height-a.result) ≡ dot n f.a = search rules in
+    let b_is : to_z w128 (of_z w128 c.height-b.result) ≡ dot n f.b = search rules in
+    let c_is : to_z w128 (of_z w128 c.height-c.result) ≡ dot n f.c = search rules in
     let under = simp (a_is, b_is, c_is) at c.if-both_below.ensures in
     let over = simp (a_is, b_is, c_is) at c.if-both_above.ensures in
     (λ e. absurd (neither≢above e), λ above. absurd (false≢true (over.1 (first_above n f above))))

@@ -13,7 +13,7 @@ loop-i-preserved c =
     let all = ten_directions c.args.f.now in
     let listed : c.loop-i.i < 10 = omega arith in
     below_more (λ k. (x : Triple) → slice_index_or all k x ≡ x → TakesApart s t x → ⊥) _ c.loop-i.invariant
-    (λ x e h. false≢true (c.if-takes_apart.ensures.1 (subst (TakesApart s t) (sym e ∙ get_or_default all c.loop-i.i x origin listed ∙ sym c.direction_of.ensures.value) h)))
+    (λ x e h. false≢true (c.if-takes.ensures.1 (subst (TakesApart s t) (sym e ∙ get_or_default all c.loop-i.i x origin listed ∙ sym c.direction_of.ensures.value) h)))
 
 pub returns : goal.returns
 returns c = (
