@@ -16,6 +16,13 @@ axis_z = record { x = pos 0; y = pos 0; z = pos 1 }
 abbrev pub heights_along : Triple → Positions → Heights
 heights_along n f = record { a = dot n f.a; b = dot n f.b; c = dot n f.c; d = dot n f.d; e = dot n f.e }
 
+-- two heights are below a third, or above it
+abbrev pub AreUnder : ℤ → ℤ → ℤ → Type 0
+AreUnder a b c = (a <ℤ c) × (b <ℤ c)
+
+abbrev pub AreOver : ℤ → ℤ → ℤ → Type 0
+AreOver a b c = (c <ℤ a) × (c <ℤ b)
+
 -- one height is below three others, or above them
 pub record IsLower (a c d e : ℤ) : Type 0 where
   pub than_c : a <ℤ c

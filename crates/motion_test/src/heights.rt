@@ -1,5 +1,6 @@
 ghost use Rattle.std.specs.Prelude.{◌≡◌, ◌↔◌, IsTrue};
-ghost use Rattle.motion_test.specs.Heights.{IsLower, IsHigher, IsAtMost, IsAtLeast, LieBelow, LieAbove, LieWeaklyBelow, LieWeaklyAbove, KeepApart, TakeApart, axis_x, axis_y, axis_z, heights_along};
+ghost use Rattle.motion_test.specs.Heights.{IsLower, IsHigher, IsAtMost, IsAtLeast, axis_x, axis_y, axis_z, heights_along};
+ghost use Rattle.motion_test.specs.Heights.{LieBelow, LieAbove, LieWeaklyBelow, LieWeaklyAbove, KeepApart, TakeApart};
 
 use grid_base::Positions;
 

@@ -3,6 +3,7 @@ ghost use Rattle.grid_base.specs.Triples.{IsWithin, dot};
 ghost use Rattle.grid_base.specs.Meeting.{AreWithin};
 ghost use Rattle.motion_test.specs.declared.one_direction.Side.TheVariants.{Below, Above};
 ghost use Rattle.grid_base.specs.Separation.{IsBelow, IsAbove, IsWeaklyBelow, IsWeaklyAbove, KeepsApart, TakesApart, BringsTogether};
+ghost use Rattle.motion_test.specs.Heights.{AreUnder, AreOver};
 ghost use Rattle.motion_test.specs.Small.{position_max, direction_max};
 
 use crate::small::height;
@@ -102,7 +103,7 @@ fn side_of(n: Wide, f: &Positions, small: bool) -> Side
 fn rest_below(a: i128, b: i128, n: Wide, f: &Positions, small: bool) -> bool
     requires n_fits { IsWithin (direction_max small) n }
     requires f_fits { AreWithin (position_max small) f.now }
-    ensures { IsTrue result ↔ (((a <ℤ dot n f.now.d) × (b <ℤ dot n f.now.d)) × ((a <ℤ dot n f.now.e) × (b <ℤ dot n f.now.e))) }
+    ensures { IsTrue result ↔ (AreUnder a b (dot n f.now.d) × AreUnder a b (dot n f.now.e)) }
 {
     let d = height(n, f.d, small);
     if !both_below(a, b, d) {
@@ -116,7 +117,7 @@ fn rest_below(a: i128, b: i128, n: Wide, f: &Positions, small: bool) -> bool
 fn rest_above(a: i128, b: i128, n: Wide, f: &Positions, small: bool) -> bool
     requires n_fits { IsWithin (direction_max small) n }
     requires f_fits { AreWithin (position_max small) f.now }
-    ensures { IsTrue result ↔ (((dot n f.now.d <ℤ a) × (dot n f.now.d <ℤ b)) × ((dot n f.now.e <ℤ a) × (dot n f.now.e <ℤ b))) }
+    ensures { IsTrue result ↔ (AreOver a b (dot n f.now.d) × AreOver a b (dot n f.now.e)) }
 {
     let d = height(n, f.d, small);
     if !both_above(a, b, d) {
