@@ -1,5 +1,5 @@
 -- Room for halving: each halving doubles the sizes, and takes one from the depth.
-use Rattle.std.proofs.Common.{◌≡◌, ℕ, zero, suc, ◌+◌, ◌-◌, ◌*◌, ◌^◌, ◌<◌, ◌≤◌, ℤ, pos, ◌+ℤ◌, ◌*ℤ◌, unsigned_abs, ◌⊎◌, inr, arith}
+use Rattle.std.proofs.Common.{◌≡◌, Bool, true, false, ℕ, zero, suc, ◌+◌, ◌-◌, ◌*◌, ◌^◌, ◌<◌, ◌≤◌, ℤ, pos, ◌+ℤ◌, ◌*ℤ◌, unsigned_abs, ◌⊎◌, inr, arith}
 use Rattle.std.proofs.lemmas.Int.{ints}
 use Rattle.std.proofs.lemmas.Grind.{pow_more}
 use Rattle.std.proofs.Math.Pow.{pow_mono}
@@ -10,6 +10,7 @@ use Rattle.grid_base.specs.Triples.{Triple, IsWithin, plus, times}
 use Rattle.grid_base.specs.declared.Positions.{Positions}
 use Rattle.grid_base.specs.Meeting.{AreWithin}
 use Rattle.grid_base.specs.Separation.{KeepsApart, TakesApart, AreSeparated, Opens, directions, double, middle}
+use Rattle.motion_test.specs.Small.{position_max, position_max_at}
 
 IsWithin-weaker : (m n : ℕ) (a : Triple) → m ≤ n → IsWithin m a → IsWithin n a
 IsWithin-weaker m n a h w = record { x_fits = omega (arith, w.x_fits); y_fits = omega (arith, w.y_fits); z_fits = omega (arith, w.z_fits) }
@@ -59,6 +60,18 @@ room_at_start depth most =
     let low : 0 ≤ DEPTH_MAX - depth = omega arith in
     let power : 2 ^ 0 ≤ 2 ^ (DEPTH_MAX - depth) = pow_mono low in
     mul-le-mul_left HALF_MAX power
+
+-- what is small before the first halving has room at each depth
+pub in_room : (small : Bool) (depth : ℕ) (f : Positions) → depth ≤ DEPTH_MAX → AreWithin (position_max_at depth small) f → AreWithin (room depth) f
+in_room true depth f most w = AreWithin-weaker _ _ f (room_at_start depth most) w
+in_room false depth f most w = w
+
+pub in_wide : (small : Bool) (depth : ℕ) (f : Positions) → depth ≤ DEPTH_MAX → AreWithin (position_max_at depth small) f → AreWithin WIDE_MAX f
+in_wide small depth f most w = AreWithin-weaker _ _ f (room_now depth) (in_room small depth f most w)
+
+pub in_arithmetic : (small : Bool) (depth : ℕ) (f : Positions) → AreWithin (position_max_at depth small) f → AreWithin (position_max small) f
+in_arithmetic true depth f w = w
+in_arithmetic false depth f w = AreWithin-weaker _ _ f (room_now depth) w
 
 -- ---- the definition, one step opened
 abbrev pub InHalves : ℕ → Positions → Positions → Type 0

@@ -1,9 +1,12 @@
-ghost use Rattle.std.specs.Prelude.{◌≡◌};
+ghost use Rattle.std.specs.Prelude.{◌≡◌, ◌<◌, slice_index_or};
 ghost use Rattle.std.specs.List.{All};
 ghost use Rattle.grid_base.specs.Triples.{IsWithin};
 ghost use Rattle.grid_base.specs.Meeting.{AreWithin};
-ghost use Rattle.grid_base.specs.Separation.{ten_directions, axes, directions};
+ghost use Rattle.grid_base.specs.Separation.{ten_directions, directions};
+ghost use Rattle.motion_test.specs.Pairs.{origin};
+ghost use Rattle.motion_test.specs.Small.{position_max, direction_max};
 
+use crate::small::{difference, product};
 use grid_base::{DIRECTION_MAX, Positions, WIDE_MAX, Wide};
 
 /// The 23 directions over an interval from `s` to `t`, in the order in which they are tried: the three axes;
@@ -44,36 +47,59 @@ pub fn directions(s: &Positions, t: &Positions) -> [Wide; 23]
     ]
 }
 
-// The directions along the axes.
-pub(crate) fn axes() -> [Wide; 3]
-    ensures value { result ≡ axes }
-    ensures within { All (IsWithin DIRECTION_MAX) result }
+// One of the ten directions that five positions give.
+pub(crate) fn direction_of(i: usize, f: &Positions, small: bool) -> Wide
+    requires listed { i < 10 }
+    requires f_fits { AreWithin (position_max small) f.now }
+    ensures value { result ≡ slice_index_or (ten_directions f.now) i origin }
+    ensures within { IsWithin (direction_max small) result }
 {
-    [
-        Wide { x: 1, y: 0, z: 0 },
-        Wide { x: 0, y: 1, z: 0 },
-        Wide { x: 0, y: 0, z: 1 },
-    ]
+    match i {
+        0 => product(
+            difference(f.d, f.c, small),
+            difference(f.e, f.c, small),
+            small,
+        ),
+        1 => product(
+            difference(f.b, f.a, small),
+            difference(f.d, f.c, small),
+            small,
+        ),
+        2 => product(
+            difference(f.b, f.a, small),
+            difference(f.e, f.d, small),
+            small,
+        ),
+        3 => product(
+            difference(f.b, f.a, small),
+            difference(f.c, f.e, small),
+            small,
+        ),
+        4 => difference(f.c, f.a, small),
+        5 => difference(f.d, f.a, small),
+        6 => difference(f.e, f.a, small),
+        7 => difference(f.c, f.b, small),
+        8 => difference(f.d, f.b, small),
+        _ => difference(f.e, f.b, small),
+    }
 }
 
 // The ten directions that five positions give.
-pub(crate) fn ten(f: &Positions) -> [Wide; 10]
+fn ten(f: &Positions) -> [Wide; 10]
     requires { AreWithin WIDE_MAX f.now }
     ensures value { result ≡ ten_directions f.now }
     ensures within { All (IsWithin DIRECTION_MAX) result }
 {
-    let ab = f.b.minus(f.a);
-    let cd = f.d.minus(f.c);
     [
-        cd.cross(f.e.minus(f.c)),
-        ab.cross(cd),
-        ab.cross(f.e.minus(f.d)),
-        ab.cross(f.c.minus(f.e)),
-        f.c.minus(f.a),
-        f.d.minus(f.a),
-        f.e.minus(f.a),
-        f.c.minus(f.b),
-        f.d.minus(f.b),
-        f.e.minus(f.b),
+        direction_of(0, f, false),
+        direction_of(1, f, false),
+        direction_of(2, f, false),
+        direction_of(3, f, false),
+        direction_of(4, f, false),
+        direction_of(5, f, false),
+        direction_of(6, f, false),
+        direction_of(7, f, false),
+        direction_of(8, f, false),
+        direction_of(9, f, false),
     ]
 }

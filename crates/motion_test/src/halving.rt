@@ -1,49 +1,51 @@
-ghost use Rattle.std.specs.Prelude.{◌≡◌, ◌↔◌, ◌*◌, ◌^◌, ◌-◌, ◌≤◌, IsTrue, unsigned_abs, ◌+ℤ◌, ◌*ℤ◌, pos};
+ghost use Rattle.std.specs.Prelude.{◌≡◌, ◌↔◌, ◌≤◌, IsTrue, unsigned_abs, ◌+ℤ◌, ◌*ℤ◌, pos};
 ghost use Rattle.grid_base.specs.Triples.{IsWithin, times, plus};
 ghost use Rattle.grid_base.specs.Meeting.{AreWithin};
 ghost use Rattle.grid_base.specs.Separation.{AreSeparated, Opens, double, middle};
+ghost use Rattle.motion_test.specs.Small.{position_max_at};
 
 use crate::some_direction::{direction_keeps_apart, direction_takes_apart};
-use grid_base::{DEPTH_MAX, HALF_MAX, Positions, WIDE_MAX, Wide};
+use grid_base::{DEPTH_MAX, Positions, WIDE_MAX, Wide};
 
-// Whether the pair is separated to the depth. Each halving doubles the sizes, and leaves one depth less.
-pub(crate) fn separated_at(s: &Positions, t: &Positions, depth: u8) -> bool
+// Whether the pair is separated to the depth. Each halving doubles the sizes, and leaves one depth less. Before the
+// first halving all is small.
+pub(crate) fn separated_at(s: &Positions, t: &Positions, depth: u8, small: bool) -> bool
     requires depth_fits { depth ≤ DEPTH_MAX }
-    requires s_fits { AreWithin (HALF_MAX * 2 ^ (DEPTH_MAX - depth)) s.now }
-    requires t_fits { AreWithin (HALF_MAX * 2 ^ (DEPTH_MAX - depth)) t.now }
+    requires s_fits { AreWithin (position_max_at depth small) s.now }
+    requires t_fits { AreWithin (position_max_at depth small) t.now }
     ensures { IsTrue result ↔ AreSeparated depth s.now t.now }
 {
-    if direction_keeps_apart(s, t) {
+    if direction_keeps_apart(s, t, small) {
         return true;
     }
     if depth == 0 {
         return false;
     }
     let m = middle(s, t);
-    if !separated_at(&double(s), &m, depth - 1) {
+    if !separated_at(&double(s), &m, depth - 1, false) {
         return false;
     }
-    separated_at(&m, &double(t), depth - 1)
+    separated_at(&m, &double(t), depth - 1, false)
 }
 
-// Whether the pair opens to the depth. Each halving doubles the sizes, and leaves one depth less.
-pub(crate) fn opens_at(s: &Positions, t: &Positions, depth: u8) -> bool
+// Whether the pair opens to the depth, likewise.
+pub(crate) fn opens_at(s: &Positions, t: &Positions, depth: u8, small: bool) -> bool
     requires depth_fits { depth ≤ DEPTH_MAX }
-    requires s_fits { AreWithin (HALF_MAX * 2 ^ (DEPTH_MAX - depth)) s.now }
-    requires t_fits { AreWithin (HALF_MAX * 2 ^ (DEPTH_MAX - depth)) t.now }
+    requires s_fits { AreWithin (position_max_at depth small) s.now }
+    requires t_fits { AreWithin (position_max_at depth small) t.now }
     ensures { IsTrue result ↔ Opens depth s.now t.now }
 {
-    if direction_takes_apart(s, t) {
+    if direction_takes_apart(s, t, small) {
         return true;
     }
     if depth == 0 {
         return false;
     }
     let halfway = middle(s, t);
-    if !opens_at(&double(s), &halfway, depth - 1) {
+    if !opens_at(&double(s), &halfway, depth - 1, false) {
         return false;
     }
-    separated_at(&halfway, &double(t), depth - 1)
+    separated_at(&halfway, &double(t), depth - 1, false)
 }
 
 // The middle of an interval, double.

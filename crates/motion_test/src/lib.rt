@@ -1,9 +1,12 @@
 //! The written test of a motion: directions that keep an edge and a triangle apart, and halves of the time.
 #![tactic(auto)]
 
+mod axes;
 mod direction_list;
 mod halving;
+mod heights;
 mod one_direction;
+mod small;
 mod some_direction;
 
 ghost use Rattle.std.specs.Prelude.{◌≡◌, ◌↔◌, ◌≤◌, IsTrue};
@@ -38,7 +41,7 @@ pub fn separated(p: &Pair, depth: u8) -> bool
     ensures exact { IsTrue result ↔ AreSeparated depth (positions_of p.now.start) (positions_of p.now.end) }
     ensures clear { IsTrue result → NeverMeet (positions_of p.now.start) (positions_of p.now.end) }
 {
-    separated_at(&positions(&p.start), &positions(&p.end), depth)
+    separated_at(&positions(&p.start), &positions(&p.end), depth, true)
 }
 
 /// Whether the pair passes: it is separated to the depth, or its five positions move by one shift and do not
@@ -63,7 +66,7 @@ pub fn opens(p: &Pair, depth: u8) -> bool
     ensures exact { IsTrue result ↔ Opens depth (positions_of p.now.start) (positions_of p.now.end) }
     ensures clear { IsTrue result → NeverMeetAfterStart (positions_of p.now.start) (positions_of p.now.end) }
 {
-    opens_at(&positions(&p.start), &positions(&p.end), depth)
+    opens_at(&positions(&p.start), &positions(&p.end), depth, true)
 }
 
 /// Whether the pair closes: with its start and its end exchanged it opens. Then it meets at no fraction below one.
@@ -74,24 +77,23 @@ pub fn closes(p: &Pair, depth: u8) -> bool
     ensures exact { IsTrue result ↔ Closes depth (positions_of p.now.start) (positions_of p.now.end) }
     ensures clear { IsTrue result → NeverMeetBeforeEnd (positions_of p.now.start) (positions_of p.now.end) }
 {
-    opens_at(&positions(&p.end), &positions(&p.start), depth)
+    opens_at(&positions(&p.end), &positions(&p.start), depth, true)
 }
 
-// Whether the pair passes to the depth: it is separated, or moves as one and does not meet at the start.
+// Whether the pair passes to the depth. What moves as one passes exactly where it does not meet at the start, so it is
+// asked for no direction.
 fn passes_at(p: &Pair, depth: u8) -> bool
     requires depth_fits { depth ≤ DEPTH_MAX }
     requires start_fits { AreWithin HALF_MAX (positions_of p.now.start) }
     requires end_fits { AreWithin HALF_MAX (positions_of p.now.end) }
     ensures { IsTrue result ↔ Passes depth (positions_of p.now.start) (positions_of p.now.end) }
 {
-    if separated(p, depth) {
-        return true;
-    }
     let s = positions(&p.start);
-    if !moves_together(&s, &positions(&p.end)) {
-        return false;
+    let t = positions(&p.end);
+    if moves_together(&s, &t) {
+        return !meets(s.a, s.b, s.c, s.d, s.e);
     }
-    !meets(s.a, s.b, s.c, s.d, s.e)
+    separated_at(&s, &t, depth, true)
 }
 
 // Whether the five positions move by one shift.

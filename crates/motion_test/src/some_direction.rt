@@ -1,37 +1,38 @@
 ghost use Rattle.std.specs.Prelude.{◌↔◌, IsTrue};
-ghost use Rattle.std.specs.List.{Any, All};
-ghost use Rattle.grid_base.specs.Triples.{IsWithin};
+ghost use Rattle.std.specs.List.{Any};
 ghost use Rattle.grid_base.specs.Meeting.{AreWithin};
-ghost use Rattle.grid_base.specs.Separation.{KeepsApart, TakesApart, directions};
+ghost use Rattle.grid_base.specs.Separation.{KeepsApart, TakesApart, ten_directions, directions};
+ghost use Rattle.motion_test.specs.Small.{position_max};
 
-use crate::direction_list::{axes, ten};
-use crate::one_direction::{keeps_apart, takes_apart};
-use grid_base::{DIRECTION_MAX, Positions, WIDE_MAX, Wide};
+use crate::axes::{axis_keeps_apart, axis_takes_apart};
+use crate::direction_list::direction_of;
+use crate::one_direction::{keeps, takes};
+use grid_base::Positions;
 
 // Whether one of the 23 directions keeps the edge on one side. The axes come first, which separate most pairs.
-pub(crate) fn direction_keeps_apart(s: &Positions, t: &Positions) -> bool
-    requires s_fits { AreWithin WIDE_MAX s.now }
-    requires t_fits { AreWithin WIDE_MAX t.now }
+pub(crate) fn direction_keeps_apart(s: &Positions, t: &Positions, small: bool) -> bool
+    requires s_fits { AreWithin (position_max small) s.now }
+    requires t_fits { AreWithin (position_max small) t.now }
     ensures { IsTrue result ↔ Any (KeepsApart s.now t.now) (directions s.now t.now) }
 {
-    if some_keeps_apart(&axes(), s, t) {
+    if axis_keeps_apart(s, t) {
         return true;
     }
-    if some_keeps_apart(&ten(s), s, t) {
+    if own_keeps_apart(s, s, t, small) {
         return true;
     }
-    some_keeps_apart(&ten(t), s, t)
+    own_keeps_apart(t, s, t, small)
 }
 
-// Whether one of these directions keeps the edge on one side.
-fn some_keeps_apart(ns: &[Wide], s: &Positions, t: &Positions) -> bool
-    requires ns_fit { All (IsWithin DIRECTION_MAX) ns.now }
-    requires s_fits { AreWithin WIDE_MAX s.now }
-    requires t_fits { AreWithin WIDE_MAX t.now }
-    ensures { IsTrue result ↔ Any (KeepsApart s.now t.now) ns.now }
+// Whether one of the ten directions of `f` keeps the edge on one side. Each is computed where those before it did not.
+fn own_keeps_apart(f: &Positions, s: &Positions, t: &Positions, small: bool) -> bool
+    requires f_fits { AreWithin (position_max small) f.now }
+    requires s_fits { AreWithin (position_max small) s.now }
+    requires t_fits { AreWithin (position_max small) t.now }
+    ensures { IsTrue result ↔ Any (KeepsApart s.now t.now) (ten_directions f.now) }
 {
-    for n in ns {
-        if keeps_apart(*n, s, t) {
+    for i in 0..10 {
+        if keeps(direction_of(i, f, small), s, t, small) {
             return true;
         }
     }
@@ -39,29 +40,29 @@ fn some_keeps_apart(ns: &[Wide], s: &Positions, t: &Positions) -> bool
 }
 
 // Whether one of the 23 directions takes the edge to one side.
-pub(crate) fn direction_takes_apart(s: &Positions, t: &Positions) -> bool
-    requires s_fits { AreWithin WIDE_MAX s.now }
-    requires t_fits { AreWithin WIDE_MAX t.now }
+pub(crate) fn direction_takes_apart(s: &Positions, t: &Positions, small: bool) -> bool
+    requires s_fits { AreWithin (position_max small) s.now }
+    requires t_fits { AreWithin (position_max small) t.now }
     ensures { IsTrue result ↔ Any (TakesApart s.now t.now) (directions s.now t.now) }
 {
-    if some_takes_apart(&axes(), s, t) {
+    if axis_takes_apart(s, t) {
         return true;
     }
-    if some_takes_apart(&ten(s), s, t) {
+    if own_takes_apart(s, s, t, small) {
         return true;
     }
-    some_takes_apart(&ten(t), s, t)
+    own_takes_apart(t, s, t, small)
 }
 
-// Whether one of these directions takes the edge to one side.
-fn some_takes_apart(ns: &[Wide], s: &Positions, t: &Positions) -> bool
-    requires ns_fit { All (IsWithin DIRECTION_MAX) ns.now }
-    requires s_fits { AreWithin WIDE_MAX s.now }
-    requires t_fits { AreWithin WIDE_MAX t.now }
-    ensures { IsTrue result ↔ Any (TakesApart s.now t.now) ns.now }
+// Whether one of the ten directions of `f` takes the edge to one side. Each is computed where those before it did not.
+fn own_takes_apart(f: &Positions, s: &Positions, t: &Positions, small: bool) -> bool
+    requires f_fits { AreWithin (position_max small) f.now }
+    requires s_fits { AreWithin (position_max small) s.now }
+    requires t_fits { AreWithin (position_max small) t.now }
+    ensures { IsTrue result ↔ Any (TakesApart s.now t.now) (ten_directions f.now) }
 {
-    for n in ns {
-        if takes_apart(*n, s, t) {
+    for i in 0..10 {
+        if takes(direction_of(i, f, small), s, t, small) {
             return true;
         }
     }

@@ -1,13 +1,12 @@
 use Rattle.grid_base.proofs.SeparationLaws.{Opens-never_meet}
 use Rattle.motion_test.specs.Pairs.{positions_of}
-use Rattle.motion_test.proofs.Rooms.{AreWithin-weaker, room_at_start}
 use Rattle.motion_test.proofs.opens.Goals as goal
 
 pub opens_at-requires-clause-s_fits : goal.opens_at-requires-clause-s_fits
-opens_at-requires-clause-s_fits c = rw c.positions.ensures (AreWithin-weaker _ _ (positions_of c.args.p.now.start) (room_at_start c.args.depth c.requires.depth_fits) c.requires.start_fits)
+opens_at-requires-clause-s_fits c = rw c.positions.ensures c.requires.start_fits
 
 pub opens_at-requires-clause-t_fits : goal.opens_at-requires-clause-t_fits
-opens_at-requires-clause-t_fits c = rw c.positions-2.ensures (AreWithin-weaker _ _ (positions_of c.args.p.now.end) (room_at_start c.args.depth c.requires.depth_fits) c.requires.end_fits)
+opens_at-requires-clause-t_fits c = rw c.positions-2.ensures c.requires.end_fits
 
 pub returns-clause-clear : goal.returns-clause-clear
 returns-clause-clear c =

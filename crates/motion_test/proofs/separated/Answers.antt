@@ -1,13 +1,12 @@
 use Rattle.grid_base.proofs.SeparationLaws.{AreSeparated-never_meet}
 use Rattle.motion_test.specs.Pairs.{positions_of}
-use Rattle.motion_test.proofs.Rooms.{AreWithin-weaker, room_at_start}
 use Rattle.motion_test.proofs.separated.Goals as goal
 
 pub separated_at-requires-clause-s_fits : goal.separated_at-requires-clause-s_fits
-separated_at-requires-clause-s_fits c = rw c.positions.ensures (AreWithin-weaker _ _ (positions_of c.args.p.now.start) (room_at_start c.args.depth c.requires.depth_fits) c.requires.start_fits)
+separated_at-requires-clause-s_fits c = rw c.positions.ensures c.requires.start_fits
 
 pub separated_at-requires-clause-t_fits : goal.separated_at-requires-clause-t_fits
-separated_at-requires-clause-t_fits c = rw c.positions-2.ensures (AreWithin-weaker _ _ (positions_of c.args.p.now.end) (room_at_start c.args.depth c.requires.depth_fits) c.requires.end_fits)
+separated_at-requires-clause-t_fits c = rw c.positions-2.ensures c.requires.end_fits
 
 pub returns-clause-clear : goal.returns-clause-clear
 returns-clause-clear c =

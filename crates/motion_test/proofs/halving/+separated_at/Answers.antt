@@ -1,42 +1,44 @@
 use Rattle.std.proofs.Common.{◌<◌, refl, arith, ⊎_elim}
 use Rattle.std.proofs.lemmas.Bool.{false≢true}
 use Rattle.grid_base.proofs.SeparationLaws.{AreSeparated-at_once}
-use Rattle.motion_test.proofs.Rooms.{AreWithin-weaker, middle_within, doubled_within, room_now, room_for_halves, AreSeparated-open, AreSeparated-in_halves}
+use Rattle.motion_test.proofs.Rooms.{in_room, in_wide, in_arithmetic, middle_within, doubled_within, room_for_halves, AreSeparated-open, AreSeparated-in_halves}
 use Rattle.motion_test.proofs.halving.+separated_at.Goals as goal
 
 pub direction_keeps_apart-requires-clause-s_fits :
     goal.direction_keeps_apart-requires-clause-s_fits
-direction_keeps_apart-requires-clause-s_fits t c = AreWithin-weaker _ _ c.args.s.now (room_now c.args.depth) c.requires.s_fits
+direction_keeps_apart-requires-clause-s_fits t c = in_arithmetic c.args.small c.args.depth c.args.s.now c.requires.s_fits
 
 pub direction_keeps_apart-requires-clause-t_fits :
     goal.direction_keeps_apart-requires-clause-t_fits
-direction_keeps_apart-requires-clause-t_fits t c = AreWithin-weaker _ _ c.args.t.now (room_now c.args.depth) c.requires.t_fits
+direction_keeps_apart-requires-clause-t_fits t c = in_arithmetic c.args.small c.args.depth c.args.t.now c.requires.t_fits
 
 pub returns-then-direction_keeps_apart : goal.returns-then-direction_keeps_apart
 returns-then-direction_keeps_apart t c = (λ _. AreSeparated-at_once _ _ _ (c.if-direction_keeps_apart.ensures.0 refl), λ _. refl)
 
 pub middle-m-requires-clause-s_fits : goal.middle-m-requires-clause-s_fits
-middle-m-requires-clause-s_fits t c = AreWithin-weaker _ _ c.args.s.now (room_now c.args.depth) c.requires.s_fits
+middle-m-requires-clause-s_fits t c = in_wide c.args.small c.args.depth c.args.s.now c.requires.depth_fits c.requires.s_fits
 
 pub middle-m-requires-clause-t_fits : goal.middle-m-requires-clause-t_fits
-middle-m-requires-clause-t_fits t c = AreWithin-weaker _ _ c.args.t.now (room_now c.args.depth) c.requires.t_fits
+middle-m-requires-clause-t_fits t c = in_wide c.args.small c.args.depth c.args.t.now c.requires.depth_fits c.requires.t_fits
 
 pub double-requires : goal.double-requires
-double-requires t c = AreWithin-weaker _ _ c.args.s.now (room_now c.args.depth) c.requires.s_fits
+double-requires t c = in_wide c.args.small c.args.depth c.args.s.now c.requires.depth_fits c.requires.s_fits
 
 pub double-requires-2 : goal.double-requires-2
-double-requires-2 t c = AreWithin-weaker _ _ c.args.t.now (room_now c.args.depth) c.requires.t_fits
+double-requires-2 t c = in_wide c.args.small c.args.depth c.args.t.now c.requires.depth_fits c.requires.t_fits
 
 pub separated_at-requires : goal.separated_at-requires
 separated_at-requires t c =
     let some : 0 < c.args.depth = omega arith in
+    let s_in = in_room c.args.small c.args.depth c.args.s.now c.requires.depth_fits c.requires.s_fits in
+    let t_in = in_room c.args.small c.args.depth c.args.t.now c.requires.depth_fits c.requires.t_fits in
     let room = room_for_halves c.args.depth some c.requires.depth_fits in (
       omega arith,
       (
         omega arith,
         (
-          rw c.double.ensures (doubled_within _ _ c.args.s.now room c.requires.s_fits),
-          rw c.middle-m.ensures (middle_within _ _ c.args.s.now c.args.t.now room c.requires.s_fits c.requires.t_fits),
+          rw c.double.ensures (doubled_within _ _ c.args.s.now room s_in),
+          rw c.middle-m.ensures (middle_within _ _ c.args.s.now c.args.t.now room s_in t_in),
         ),
       ),
     )
@@ -44,13 +46,15 @@ separated_at-requires t c =
 pub separated_at-requires-2 : goal.separated_at-requires-2
 separated_at-requires-2 t c =
     let some : 0 < c.args.depth = omega arith in
+    let s_in = in_room c.args.small c.args.depth c.args.s.now c.requires.depth_fits c.requires.s_fits in
+    let t_in = in_room c.args.small c.args.depth c.args.t.now c.requires.depth_fits c.requires.t_fits in
     let room = room_for_halves c.args.depth some c.requires.depth_fits in (
       omega arith,
       (
         omega arith,
         (
-          rw c.middle-m.ensures (middle_within _ _ c.args.s.now c.args.t.now room c.requires.s_fits c.requires.t_fits),
-          rw c.double-2.ensures (doubled_within _ _ c.args.t.now room c.requires.t_fits),
+          rw c.middle-m.ensures (middle_within _ _ c.args.s.now c.args.t.now room s_in t_in),
+          rw c.double-2.ensures (doubled_within _ _ c.args.t.now room t_in),
         ),
       ),
     )

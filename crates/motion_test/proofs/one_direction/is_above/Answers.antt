@@ -9,9 +9,9 @@ pub returns-then-not-both_above : goal.returns-then-not-both_above
 returns-then-not-both_above c =
     let n = c.args.n in
     let f = c.args.f.now in
-    let a_is : to_z w128 (of_z w128 c.dot-a.result) ≡ dot n f.a = search rules in
-    let b_is : to_z w128 (of_z w128 c.dot-b.result) ≡ dot n f.b = search rules in
-    let c_is : to_z w128 (of_z w128 c.dot-c.result) ≡ dot n f.c = search rules in
+    let a_is : to_z w128 (of_z w128 c.height-a.result) ≡ dot n f.a = search rules in
+    let b_is : to_z w128 (of_z w128 c.height-b.result) ≡ dot n f.b = search rules in
+    let c_is : to_z w128 (of_z w128 c.height-c.result) ≡ dot n f.c = search rules in
     let test = simp (a_is, b_is, c_is) at c.if-not-both_above.ensures in
     (λ no. absurd (false≢true no), λ below. test.1 ((of_above n f.a f.c below.ac), (of_above n f.b f.c below.bc)))
 
@@ -19,9 +19,9 @@ pub returns-then-not-both_above-2 : goal.returns-then-not-both_above-2
 returns-then-not-both_above-2 c =
     let n = c.args.n in
     let f = c.args.f.now in
-    let a_is : to_z w128 (of_z w128 c.dot-a.result) ≡ dot n f.a = search rules in
-    let b_is : to_z w128 (of_z w128 c.dot-b.result) ≡ dot n f.b = search rules in
-    let d_is : to_z w128 (of_z w128 c.dot-d.result) ≡ dot n f.d = search rules in
+    let a_is : to_z w128 (of_z w128 c.height-a.result) ≡ dot n f.a = search rules in
+    let b_is : to_z w128 (of_z w128 c.height-b.result) ≡ dot n f.b = search rules in
+    let d_is : to_z w128 (of_z w128 c.height-d.result) ≡ dot n f.d = search rules in
     let test = simp (a_is, b_is, d_is) at c.if-not-both_above-2.ensures in
     (λ no. absurd (false≢true no), λ below. test.1 ((of_above n f.a f.d below.ad), (of_above n f.b f.d below.bd)))
 
@@ -29,11 +29,11 @@ pub returns : goal.returns
 returns c =
     let n = c.args.n in
     let f = c.args.f.now in
-    let a_is : to_z w128 (of_z w128 c.dot-a.result) ≡ dot n f.a = search rules in
-    let b_is : to_z w128 (of_z w128 c.dot-b.result) ≡ dot n f.b = search rules in
-    let c_is : to_z w128 (of_z w128 c.dot-c.result) ≡ dot n f.c = search rules in
-    let d_is : to_z w128 (of_z w128 c.dot-d.result) ≡ dot n f.d = search rules in
-    let e_is : to_z w128 (of_z w128 c.dot-e.result) ≡ dot n f.e = search rules in
+    let a_is : to_z w128 (of_z w128 c.height-a.result) ≡ dot n f.a = search rules in
+    let b_is : to_z w128 (of_z w128 c.height-b.result) ≡ dot n f.b = search rules in
+    let c_is : to_z w128 (of_z w128 c.height-c.result) ≡ dot n f.c = search rules in
+    let d_is : to_z w128 (of_z w128 c.height-d.result) ≡ dot n f.d = search rules in
+    let e_is : to_z w128 (of_z w128 c.height-e.result) ≡ dot n f.e = search rules in
     let first = (simp (a_is, b_is, c_is) at c.if-not-both_above.ensures).0 refl in
     let second = (simp (a_is, b_is, d_is) at c.if-not-both_above-2.ensures).0 refl in
     let third = simp (a_is, b_is, e_is) at c.both_above-3.ensures in (

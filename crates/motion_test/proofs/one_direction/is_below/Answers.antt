@@ -8,9 +8,9 @@ pub returns-then-not-both_below : goal.returns-then-not-both_below
 returns-then-not-both_below c =
     let n = c.args.n in
     let f = c.args.f.now in
-    let a_is : to_z w128 (of_z w128 c.dot-a.result) ≡ dot n f.a = search rules in
-    let b_is : to_z w128 (of_z w128 c.dot-b.result) ≡ dot n f.b = search rules in
-    let c_is : to_z w128 (of_z w128 c.dot-c.result) ≡ dot n f.c = search rules in
+    let a_is : to_z w128 (of_z w128 c.height-a.result) ≡ dot n f.a = search rules in
+    let b_is : to_z w128 (of_z w128 c.height-b.result) ≡ dot n f.b = search rules in
+    let c_is : to_z w128 (of_z w128 c.height-c.result) ≡ dot n f.c = search rules in
     let test = simp (a_is, b_is, c_is) at c.if-not-both_below.ensures in
     (λ no. absurd (false≢true no), λ below. test.1 (below.ac, below.bc))
 
@@ -18,9 +18,9 @@ pub returns-then-not-both_below-2 : goal.returns-then-not-both_below-2
 returns-then-not-both_below-2 c =
     let n = c.args.n in
     let f = c.args.f.now in
-    let a_is : to_z w128 (of_z w128 c.dot-a.result) ≡ dot n f.a = search rules in
-    let b_is : to_z w128 (of_z w128 c.dot-b.result) ≡ dot n f.b = search rules in
-    let d_is : to_z w128 (of_z w128 c.dot-d.result) ≡ dot n f.d = search rules in
+    let a_is : to_z w128 (of_z w128 c.height-a.result) ≡ dot n f.a = search rules in
+    let b_is : to_z w128 (of_z w128 c.height-b.result) ≡ dot n f.b = search rules in
+    let d_is : to_z w128 (of_z w128 c.height-d.result) ≡ dot n f.d = search rules in
     let test = simp (a_is, b_is, d_is) at c.if-not-both_below-2.ensures in
     (λ no. absurd (false≢true no), λ below. test.1 (below.ad, below.bd))
 
@@ -28,11 +28,11 @@ pub returns : goal.returns
 returns c =
     let n = c.args.n in
     let f = c.args.f.now in
-    let a_is : to_z w128 (of_z w128 c.dot-a.result) ≡ dot n f.a = search rules in
-    let b_is : to_z w128 (of_z w128 c.dot-b.result) ≡ dot n f.b = search rules in
-    let c_is : to_z w128 (of_z w128 c.dot-c.result) ≡ dot n f.c = search rules in
-    let d_is : to_z w128 (of_z w128 c.dot-d.result) ≡ dot n f.d = search rules in
-    let e_is : to_z w128 (of_z w128 c.dot-e.result) ≡ dot n f.e = search rules in
+    let a_is : to_z w128 (of_z w128 c.height-a.result) ≡ dot n f.a = search rules in
+    let b_is : to_z w128 (of_z w128 c.height-b.result) ≡ dot n f.b = search rules in
+    let c_is : to_z w128 (of_z w128 c.height-c.result) ≡ dot n f.c = search rules in
+    let d_is : to_z w128 (of_z w128 c.height-d.result) ≡ dot n f.d = search rules in
+    let e_is : to_z w128 (of_z w128 c.height-e.result) ≡ dot n f.e = search rules in
     let first = (simp (a_is, b_is, c_is) at c.if-not-both_below.ensures).0 refl in
     let second = (simp (a_is, b_is, d_is) at c.if-not-both_below-2.ensures).0 refl in
     let third = simp (a_is, b_is, e_is) at c.both_below-3.ensures in (

@@ -1,0 +1,24 @@
+use Rattle.std.proofs.Common.{rules, ◌≡◌, refl, SFits, to_z, of_z}
+use Rattle.std.specs.Int.{w128}
+use Rattle.std.proofs.lemmas.Int.{to_z-of_z}
+use Rattle.std.proofs.lemmas.Bool.{false≢true}
+use Rattle.grid_base.specs.Triples.{dot}
+use Rattle.motion_test.proofs.one_direction.rest_above.Goals as goal
+
+pub returns-then-not-both_above : goal.returns-then-not-both_above
+returns-then-not-both_above c =
+    let a_fits : SFits w128 c.args.a = c.ranges.a in
+    let b_fits : SFits w128 c.args.b = c.ranges.b in
+    let d_is : to_z w128 (of_z w128 c.height-d.result) ≡ dot c.args.n c.args.f.now.d = search rules in
+    let test = simp (to_z-of_z, d_is) at c.if-not-both_above.ensures in
+    (λ no. absurd (false≢true no), λ both. test.1 both.0)
+
+pub returns : goal.returns
+returns c =
+    let a_fits : SFits w128 c.args.a = c.ranges.a in
+    let b_fits : SFits w128 c.args.b = c.ranges.b in
+    let d_is : to_z w128 (of_z w128 c.height-d.result) ≡ dot c.args.n c.args.f.now.d = search rules in
+    let e_is : to_z w128 (of_z w128 c.height-e.result) ≡ dot c.args.n c.args.f.now.e = search rules in
+    let first = (simp (to_z-of_z, d_is) at c.if-not-both_above.ensures).0 refl in
+    let second = simp (to_z-of_z, e_is) at c.both_above-2.ensures in
+    (λ yes. (first, second.0 yes), λ both. second.1 both.1)
