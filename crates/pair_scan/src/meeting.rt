@@ -10,12 +10,12 @@ ghost use Rattle.pair_paths.specs.Paths.{at_rest};
 ghost use Rattle.pair_scan.specs.Scan.{meets_face, met_with, first_some, first_of, IsMeeting, NoneMeetsBefore};
 
 use crate::motions::AtRest;
-use cell_grid::Grid;
+use box_tree::BoxTree;
 use grid_base::NoMemory;
 use grid_meets::meets;
 use mesh_base::{PairName, Surface, VertexId, edges_in_order};
 use pair_paths::{
-    HasBounds, MovingEdge, MovingFace, grid_of, moving_edge, moving_faces, name_of, share_a_vertex,
+    HasBounds, MovingEdge, MovingFace, tree_of, moving_edge, moving_faces, name_of, share_a_vertex,
     starts_of,
 };
 use std::alloc::Global;
@@ -68,7 +68,7 @@ fn first_near(e: &MovingEdge, faces: &[MovingFace], near: &[u64]) -> Option<Pair
 fn first_of_edge<S: Surface>(
     mesh: &S,
     faces: &[MovingFace],
-    boxes: &Grid,
+    boxes: &BoxTree,
     near: &mut Vec<u64>,
     a: VertexId,
     b: VertexId,
@@ -92,7 +92,7 @@ pub fn first_meeting<S: Surface>(alloc: Global, mesh: &S) -> Result<Option<PairN
     ensures least { IfOk result (λ r. IfSome r (NoneMeetsBefore (S.mesh mesh.now))) }
 {
     let faces = moving_faces(alloc, mesh, &AtRest { mesh })?;
-    let boxes = grid_of(alloc, faces.as_slice())?;
+    let boxes = tree_of(alloc, faces.as_slice())?;
     let mut near = Vec::new(alloc);
     let edges = edges_in_order(alloc, mesh)?;
     for (a, b) in edges.as_slice() {
