@@ -14,8 +14,8 @@ use grid_base::{DEPTH_MAX, Items, NoMemory};
 use mesh_base::{PairName, Shifts, Surface, edges_in_order};
 use motion_test::passes;
 use pair_paths::{
-    HasBounds, MovingEdge, MovingFace, tree_of, moving_edge, moving_faces, name_of, pair_of,
-    share_a_vertex,
+    HasBounds, MovingEdge, MovingFace, moving_edge, moving_faces, name_of, pair_of, share_a_vertex,
+    tree_of,
 };
 use std::alloc::Global;
 

@@ -15,8 +15,8 @@ use grid_base::NoMemory;
 use grid_meets::meets;
 use mesh_base::{PairName, Surface, VertexId, edges_in_order};
 use pair_paths::{
-    HasBounds, MovingEdge, MovingFace, tree_of, moving_edge, moving_faces, name_of, share_a_vertex,
-    starts_of,
+    HasBounds, MovingEdge, MovingFace, moving_edge, moving_faces, name_of, share_a_vertex,
+    starts_of, tree_of,
 };
 use std::alloc::Global;
 
