@@ -14,8 +14,8 @@ use grid_base::{DEPTH_MAX, Items, NoMemory};
 use mesh_base::{PairName, Shifts, Surface, edges_in_order};
 use motion_test::passes;
 use pair_paths::{
-    HasBounds, MovingEdge, MovingFace, moving_edge, moving_faces, name_of, pair_of, share_a_vertex,
-    tree_of,
+    HasBounds, KnownPaths, MovingEdge, MovingFace, moving_edge, moving_faces, name_of, pair_of,
+    paths_of, share_a_vertex, tree_of,
 };
 use std::alloc::Global;
 
@@ -113,9 +113,14 @@ pub fn failing<S: Surface>(
     // None fails: no pair meets on the way.
     ensures clear { IfOk result (λ pairs. pairs ≡ [] → IsClearAlong (S.mesh mesh.now) (moved_by (S.mesh mesh.now) by.now)) }
 {
-    let paths = Shifted {
+    let shifted = Shifted {
         mesh,
         by: by.as_slice(),
+    };
+    let known = paths_of(alloc, mesh, &shifted)?;
+    let paths = KnownPaths {
+        paths: &shifted,
+        known: known.as_slice(),
     };
     let faces = moving_faces(alloc, mesh, &paths)?;
     let boxes = tree_of(alloc, faces.as_slice())?;
