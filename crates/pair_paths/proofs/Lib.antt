@@ -4,3 +4,4 @@ pub mod Numbered
 pub mod Near
 pub mod Widened
 pub mod Apart
+pub mod Boxed

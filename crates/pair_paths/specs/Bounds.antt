@@ -33,6 +33,11 @@ pub record HoldPositions (edge face : Extent) (f : Positions) : Type 0 where
   pub d : IsIn face f.d
   pub e : IsIn face f.e
 
+-- the list has a box of each thing in the other, in its order, and nothing else
+pub record AreBoxesOf {X : Type 0} (holds : X → Extent → Type 0) (xs : List X) (boxes : List Extent) : Type 0 where
+  pub as_long : length boxes ≡ length xs
+  pub boxed : (k : ℕ) (x : X) → slice_get xs k ≡ Some x → (box : Extent) × ((slice_get boxes k ≡ Some box) × holds x box)
+
 -- the map has a box of each thing in the list, by its place there, and nothing else
 pub record AreBoxes {X : Type 0} (holds : X → Extent → Type 0) (xs : List X) (m : finite.FinMap nat_cmp Extent) : Type 0 where
   pub boxed : (k : ℕ) (x : X) → slice_get xs k ≡ Some x → (box : Extent) × ((finite.get m k ≡ Some box) × holds x box)

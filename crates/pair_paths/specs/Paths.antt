@@ -1,8 +1,9 @@
 -- Where a vertex begins and ends.
-use Rattle.std.specs.Prelude.{ℕ}
+use Rattle.std.specs.Prelude.{◌≡◌, ℕ, List, All}
 use Rattle.mesh_base.specs.Mesh.{Mesh}
 use Rattle.mesh_base.specs.Placements.{Motion, rest_positions}
 use Rattle.pair_paths.specs.declared.path.Path.{Path}
+use Rattle.pair_paths.specs.declared.known.PathOf.{PathOf}
 
 -- the path of a vertex in a motion
 abbrev pub path_along : Motion → ℕ → Path
@@ -11,3 +12,7 @@ path_along w v = record { start = w.start v; end = w.end v }
 -- the motion in which each vertex of a mesh stays where it stands
 abbrev pub at_rest : Mesh → Motion
 at_rest m = record { start = rest_positions m; end = rest_positions m }
+
+-- each path in the list is that of its vertex in the motion
+abbrev pub AreKnown : Motion → List PathOf → Type 0
+AreKnown w known = All (λ k. k.path ≡ path_along w k.v) known

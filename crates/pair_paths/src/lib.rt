@@ -3,7 +3,8 @@
 #![tactic(auto)]
 
 mod bounds;
-mod face_grid;
+mod face_tree;
+mod known;
 pub mod laws;
 mod moving;
 mod pairing;
@@ -11,7 +12,8 @@ mod path;
 mod position;
 
 pub use bounds::HasBounds;
-pub use face_grid::grid_of;
+pub use face_tree::tree_of;
+pub use known::{KnownPaths, PathOf, paths_of};
 pub use moving::{MovingEdge, MovingFace, moving_edge, moving_faces};
 pub use pairing::{ends_of, name_of, pair_of, share_a_vertex, starts_of};
 pub use path::{Path, Paths};

@@ -9,13 +9,13 @@ ghost use Rattle.pair_paths.specs.Bounds.{AreBoxes, HoldsFace};
 ghost use Rattle.pair_scan.specs.Failed.{fails_with, failed_with, failing_at, failing_among, AreFailing};
 
 use crate::motions::Shifted;
-use cell_grid::Grid;
+use box_tree::BoxTree;
 use grid_base::{DEPTH_MAX, Items, NoMemory};
 use mesh_base::{PairName, Shifts, Surface, edges_in_order};
 use motion_test::passes;
 use pair_paths::{
-    HasBounds, MovingEdge, MovingFace, grid_of, moving_edge, moving_faces, name_of, pair_of,
-    share_a_vertex,
+    HasBounds, KnownPaths, MovingEdge, MovingFace, moving_edge, moving_faces, name_of, pair_of,
+    paths_of, share_a_vertex, tree_of,
 };
 use std::alloc::Global;
 
@@ -80,7 +80,7 @@ fn put_failing(
 fn put_failing_of_edge(
     e: &MovingEdge,
     faces: &[MovingFace],
-    boxes: &Grid,
+    boxes: &BoxTree,
     depth: u8,
     near: &mut Vec<u64>,
     found: &mut Pairs,
@@ -96,7 +96,7 @@ fn put_failing_of_edge(
 /// All pairs that do not pass where each vertex goes from its point by its shift, in order of the edge and then of the
 /// face: those that are not separated to the depth and do not move as one while they are apart. Where there is none, no
 /// pair meets at any fraction of the way. The shifts name the live vertices, by rising id, and end in the box. Refuses only
-/// where there is no memory. A grid of boxes, each around the start and the end, leaves out the pairs that are far apart
+/// where there is no memory. A tree of boxes, each around the start and the end, leaves out the pairs that are far apart
 /// (a broad phase, as in El Topo, Brochu and Bridson 2009).
 pub fn failing<S: Surface>(
     alloc: Global,
@@ -113,12 +113,17 @@ pub fn failing<S: Surface>(
     // None fails: no pair meets on the way.
     ensures clear { IfOk result (λ pairs. pairs ≡ [] → IsClearAlong (S.mesh mesh.now) (moved_by (S.mesh mesh.now) by.now)) }
 {
-    let paths = Shifted {
+    let shifted = Shifted {
         mesh,
         by: by.as_slice(),
     };
+    let known = paths_of(alloc, mesh, &shifted)?;
+    let paths = KnownPaths {
+        paths: &shifted,
+        known: known.as_slice(),
+    };
     let faces = moving_faces(alloc, mesh, &paths)?;
-    let boxes = grid_of(alloc, faces.as_slice())?;
+    let boxes = tree_of(alloc, faces.as_slice())?;
     let mut near = Vec::new(alloc);
     let mut found = Pairs::new(alloc);
     let edges = edges_in_order(alloc, mesh)?;

@@ -10,13 +10,13 @@ ghost use Rattle.pair_paths.specs.Paths.{at_rest};
 ghost use Rattle.pair_scan.specs.Scan.{meets_face, met_with, first_some, first_of, IsMeeting, NoneMeetsBefore};
 
 use crate::motions::AtRest;
-use cell_grid::Grid;
+use box_tree::BoxTree;
 use grid_base::NoMemory;
 use grid_meets::meets;
 use mesh_base::{PairName, Surface, VertexId, edges_in_order};
 use pair_paths::{
-    HasBounds, MovingEdge, MovingFace, grid_of, moving_edge, moving_faces, name_of, share_a_vertex,
-    starts_of,
+    HasBounds, KnownPaths, MovingEdge, MovingFace, moving_edge, moving_faces, name_of, paths_of,
+    share_a_vertex, starts_of, tree_of,
 };
 use std::alloc::Global;
 
@@ -66,18 +66,18 @@ fn first_near(e: &MovingEdge, faces: &[MovingFace], near: &[u64]) -> Option<Pair
 
 /// The first pair of an edge that meets. Sets `near` to the numbers of the faces whose boxes meet the edge's.
 fn first_of_edge<S: Surface>(
-    mesh: &S,
+    paths: &KnownPaths<AtRest<S>>,
     faces: &[MovingFace],
-    boxes: &Grid,
+    boxes: &BoxTree,
     near: &mut Vec<u64>,
     a: VertexId,
     b: VertexId,
 ) -> Result<Option<PairName>, NoMemory>
-    requires faces { faces.now ≡ moving_faces (S.mesh mesh.now) (at_rest (S.mesh mesh.now)) }
+    requires faces { let m = S.mesh paths.now.paths.now.mesh.now in faces.now ≡ moving_faces m (at_rest m) }
     requires boxes { AreBoxes HoldsFace faces.now boxes.now }
-    ensures { IfOk result (λ r. r ≡ first_of (S.mesh mesh.now) (pairs_of (S.mesh mesh.now) (a, b))) }
+    ensures { let m = S.mesh paths.now.paths.now.mesh.now in IfOk result (λ r. r ≡ first_of m (pairs_of m (a, b))) }
 {
-    let e = moving_edge(&AtRest { mesh }, a, b);
+    let e = moving_edge(paths, a, b);
     boxes.overlapping(e.bounds(), near)?;
     Ok(first_near(&e, faces, near))
 }
@@ -91,12 +91,18 @@ pub fn first_meeting<S: Surface>(alloc: Global, mesh: &S) -> Result<Option<PairN
     ensures meets { IfOk result (λ r. IfSome r (IsMeeting (S.mesh mesh.now))) }
     ensures least { IfOk result (λ r. IfSome r (NoneMeetsBefore (S.mesh mesh.now))) }
 {
-    let faces = moving_faces(alloc, mesh, &AtRest { mesh })?;
-    let boxes = grid_of(alloc, faces.as_slice())?;
+    let resting = AtRest { mesh };
+    let known = paths_of(alloc, mesh, &resting)?;
+    let paths = KnownPaths {
+        paths: &resting,
+        known: known.as_slice(),
+    };
+    let faces = moving_faces(alloc, mesh, &paths)?;
+    let boxes = tree_of(alloc, faces.as_slice())?;
     let mut near = Vec::new(alloc);
     let edges = edges_in_order(alloc, mesh)?;
     for (a, b) in edges.as_slice() {
-        if let Some(found) = first_of_edge(mesh, faces.as_slice(), &boxes, &mut near, *a, *b)? {
+        if let Some(found) = first_of_edge(&paths, faces.as_slice(), &boxes, &mut near, *a, *b)? {
             return Ok(Some(found));
         }
     }

@@ -11,7 +11,7 @@ use Rattle.pair_scan.proofs.meeting.first_of_edge.Goals as goal
 
 pub returns : goal.returns
 returns g c =
-    let m = g.S.Surface.mesh c.args.mesh.now in
+    let m = g.S.Surface.mesh c.args.paths.now.paths.now.mesh.now in
     let e = moving_edge (at_rest m) c.args.a c.args.b in
     c.first_near.ensures
     ∙ near_is_all c.moving_edge-e.result c.args.faces.now c.args.boxes.now c.bounds.result _ c.requires.boxes c.bounds.ensures (c.deref.ensures.value ∙ c.in_ok-overlapping.ensures.ok)

@@ -1,0 +1,5 @@
+pub mod Trees
+pub mod Placing
+pub mod FoundPlaces
+pub mod Orders
+pub mod SmallBoxes

@@ -1,0 +1,90 @@
+// How the nodes are set.
+ghost use Rattle.std.specs.Prelude.{◌≡◌, ◌-◌, ◌<◌, ◌++◌, length, reverse, take, slice_get, OnOk};
+ghost use Rattle.std.specs.List.{filter_map};
+ghost use Rattle.box_tree.specs.Nodes.{IsTree, AllIn, Has, entries, placed};
+
+use crate::{Node, SmallBox};
+use grid_base::NoMemory;
+
+// A leaf has at most this many items.
+const LEAF: usize = 4;
+
+// A box that has both.
+fn united(e: &SmallBox, f: &SmallBox) -> SmallBox
+    ensures first { Has result e.now }
+    ensures second { Has result f.now }
+{
+    SmallBox::of(&e.extent().united(&f.extent()))
+}
+
+// A box that has those of all nodes from an index on.
+fn hull(nodes: &[Node], from: usize) -> SmallBox
+    requires some { from < length nodes.now }
+    requires tree { IsTree (reverse nodes.now) }
+    ensures { AllIn result (take (length nodes.now - from) (reverse nodes.now)) }
+{
+    let mut i = nodes.len();
+    let mut e = nodes[i - 1].at;
+    while i > from {
+        i -= 1;
+        let n = &nodes[i];
+        e = united(&e, &n.at);
+        i -= n.below;
+    }
+    e
+}
+
+// Puts a node over all those from an index on.
+fn gather(nodes: &mut Vec<Node>, from: usize) -> Result<(), NoMemory>
+    requires { IsTree (reverse nodes.old.items) }
+    ensures tree { OnOk result (IsTree (reverse nodes.new.items)) }
+    ensures same { OnOk result (entries (reverse nodes.new.items) ≡ entries (reverse nodes.old.items)) }
+{
+    if from < nodes.len() {
+        let at = hull(nodes, from);
+        let below = nodes.len() - from;
+        nodes.push(Node { at, below, item: 0 })?;
+    }
+    Ok(())
+}
+
+// The box at a place, if there is one.
+fn box_at(boxes: &[SmallBox], i: u64) -> Option<SmallBox>
+    ensures { result ≡ slice_get boxes.now i }
+{
+    boxes.get(i as usize).copied()
+}
+
+// Puts the items in, the last of them first.
+fn put(nodes: &mut Vec<Node>, boxes: &[SmallBox], order: &[u64]) -> Result<(), NoMemory>
+    requires { IsTree (reverse nodes.old.items) }
+    ensures tree { OnOk result (IsTree (reverse nodes.new.items)) }
+    ensures all { OnOk result (entries (reverse nodes.new.items) ≡ filter_map (placed boxes.now) order.now ++ entries (reverse nodes.old.items)) }
+{
+    let mut k = order.len();
+    while k > 0 {
+        k -= 1;
+        let item = order[k];
+        if let Some(at) = box_at(boxes, item) {
+            nodes.push(Node { at, below: 0, item })?;
+        }
+    }
+    Ok(())
+}
+
+/// Puts a tree of the items in.
+pub(crate) fn grow(nodes: &mut Vec<Node>, boxes: &[SmallBox], order: &[u64]) -> Result<(), NoMemory>
+    requires { IsTree (reverse nodes.old.items) }
+    ensures tree { OnOk result (IsTree (reverse nodes.new.items)) }
+    ensures all { OnOk result (entries (reverse nodes.new.items) ≡ filter_map (placed boxes.now) order.now ++ entries (reverse nodes.old.items)) }
+{
+    let from = nodes.len();
+    if order.len() <= LEAF {
+        put(nodes, boxes, order)?;
+    } else {
+        let (front, back) = order.split_at(order.len() / 2);
+        grow(nodes, boxes, back)?;
+        grow(nodes, boxes, front)?;
+    }
+    gather(nodes, from)
+}
