@@ -305,6 +305,6 @@ impl<B: Undoable> Surface for Journal<B> {
         ensures spare { spare_in self.old ≤ spare_in self.new }
     {
         self.inner.forget();
-        self.entries.clear();
+        self.entries.truncate(0);
     }
 }
