@@ -1,5 +1,5 @@
 -- What the calls of a journal leave.
-use Rattle.std.proofs.Common.{◌≡◌, ℕ, zero, suc, ◌+◌, ◌≤◌, List, [], ◌∷◌, ◌++◌, Some, length, take, slice_get, refl, sym, ap, subst, ◌∙◌, arith}
+use Rattle.std.proofs.Common.{◌≡◌, ℕ, ◌+◌, List, [], ◌∷◌, ◌++◌, Some, length, take, slice_get, sym, ap, subst, ◌∙◌, arith}
 use Rattle.std.proofs.lemmas.List.Elements.{All-cons}
 use Rattle.mesh_base.specs.Mesh.{Mesh, IsSound}
 use Rattle.mesh_base.specs.Kept.{BeginsWith, MarkHolds}
@@ -66,22 +66,7 @@ mark-holds es s place is = record { kept_there = let l = length-trail es s in om
 pub mark-stands : (es : List Entry) (s : State) (m : Mesh) (place : ℕ) → m ≡ s.mesh → place ≡ length es → slice_get (trail es s) place ≡ Some m
 mark-stands es s m place same is = ap (slice_get (trail es s)) is ∙ last-trail es s ∙ ap Some (sym same)
 
-pub take-take : {A : Type 0} (i j : ℕ) (xs : List A) → i ≤ j → take i (take j xs) ≡ take i xs
-take-take zero j xs h = refl
-take-take (suc i) zero xs h = absurd (omega arith)
-take-take (suc i) (suc j) [] h = refl
-take-take (suc i) (suc j) (x ∷ xs) h = ap (λ ys. x ∷ ys) (take-take i j xs (omega arith))
-
-begins-take : {A : Type 0} (i j : ℕ) (xs : List A) → i ≤ j → take (length (take i xs)) (take j xs) ≡ take i xs
-begins-take zero j xs h = refl
-begins-take (suc i) zero xs h = absurd (omega arith)
-begins-take (suc i) (suc j) [] h = refl
-begins-take (suc i) (suc j) (x ∷ xs) h = ap (λ ys. x ∷ ys) (begins-take i j xs (omega arith))
-
 -- a return, where the journal is as long as it was when the mark was made
 module _ (es : List Entry) (s : State) (kept : List Mesh) (place : ℕ) (is : trail es s ≡ take (place + 1) kept) (len : length es ≡ place) where
   pub stands-returned : (m : Mesh) → m ≡ s.mesh → slice_get kept place ≡ Some m
   stands-returned m same = sym (slice_get-take (place + 1) place kept (omega arith)) ∙ ap (λ xs. slice_get xs place) (sym is) ∙ mark-stands es s m place same (sym len)
-
-  pub begins-returned : (under : ℕ) → under ≤ place + 1 → BeginsWith (trail es s) (take under kept)
-  begins-returned under near = ap (take (length (take under kept))) is ∙ begins-take under (place + 1) kept near

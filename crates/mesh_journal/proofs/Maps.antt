@@ -4,17 +4,11 @@ use Rattle.std.specs.Ordering.{nat_cmp, eq_by_cmp}
 use Rattle.std.specs.Cmp.{nat_cmp_total, eq_by_cmp_equiv}
 use Rattle.std.specs.FinMap as map
 use Rattle.std.specs.FinMap.{FinMap, nat_cmp-IsAntisymmetric, same_map, get-insert, get-remove, len-insert}
-use Rattle.std.proofs.lemmas.Map.Lookups.{exact_unsigned}
-use Rattle.std.proofs.lemmas.Map.Views.{tells_apart}
 use Rattle.mesh_base.proofs.Finite.{live_after_insert}
 use Rattle.half_mesh.specs.States.{with_some, carried}
-
-tied : (q k : ℕ) → eq_by_cmp nat_cmp q k ≡ true → q ≡ k
-tied q k e = tells_apart exact_unsigned q k e
-
-pub some_of : {X : Type 0} (o : Option X) → IsSome o → (x : X) × (o ≡ Some x)
-some_of (Some x) h = (x, refl)
-some_of None h = absurd cc
+use Rattle.half_mesh.proofs.Mapped.{tied}
+use Rattle.half_mesh.proofs.Rings.{got_some}
+use Rattle.half_mesh.proofs.StateLaws.{carried-some}
 
 module _ {X : Type 0} where
   pub get_here : (m : FinMap nat_cmp X) (k : ℕ) (x : X) → map.get (map.insert m k x) k ≡ Some x
@@ -44,19 +38,16 @@ module _ {X : Type 0} where
         | false ↦ λ e. get-insert nat_cmp_total m k y q ∙ ap (λ b. cond b (Some y) (map.get m q)) e
       ] refl)
 
-  pub carried_some : (from to : FinMap nat_cmp X) (k : ℕ) (x : X) → map.get from k ≡ Some x → carried from to k ≡ map.insert to k x
-  carried_some from to k x h = ap (with_some to k) h
-
   -- what was carried over is there
   pub get_carried : (from to : FinMap nat_cmp X) (k : ℕ) (x : X) → map.get from k ≡ Some x → map.get (carried from to k) k ≡ Some x
-  get_carried from to k x h = ap (λ m. map.get m k) (carried_some from to k x h) ∙ get_here to k x
+  get_carried from to k x h = ap (λ m. map.get m k) (carried-some from to k x h) ∙ get_here to k x
 
   -- what was carried over and back is where it was
   pub carried_back : (from to : FinMap nat_cmp X) (k : ℕ) (x : X) → map.get from k ≡ Some x → carried (carried from to k) (map.remove from k) k ≡ from
-  carried_back from to k x h = carried_some (carried from to k) (map.remove from k) k x (get_carried from to k x h) ∙ removed_back from k x h
+  carried_back from to k x h = carried-some (carried from to k) (map.remove from k) k x (get_carried from to k x h) ∙ removed_back from k x h
 
   pub carried_away : (from to : FinMap nat_cmp X) (k : ℕ) (x : X) → map.get from k ≡ Some x → map.get to k ≡ None → map.remove (carried from to k) k ≡ to
-  carried_away from to k x h none = ap (λ m. map.remove m k) (carried_some from to k x h) ∙ inserted_back to k x none
+  carried_away from to k x h none = ap (λ m. map.remove m k) (carried-some from to k x h) ∙ inserted_back to k x none
 
   -- a removal of what is not there
   pub removed_none : (m : FinMap nat_cmp X) (k : ℕ) → map.get m k ≡ None → map.remove m k ≡ m
@@ -96,13 +87,13 @@ module _ {X : Type 0} where
   -- what is there after a carrying was there, or is at its key
   pub some_carried : (from to : FinMap nat_cmp X) (k q : ℕ) (o : Option X) → map.get from k ≡ o → IsSome (map.get (carried from to k) q)
       → (q ≡ k) ⊎ IsSome (map.get to q)
-  some_carried from to k q (Some x) h there = live_after_insert to k x q (ap (λ m. is_some (map.get m q)) (sym (carried_some from to k x h)) ∙ there)
+  some_carried from to k q (Some x) h there = live_after_insert to k x q (ap (λ m. is_some (map.get m q)) (sym (carried-some from to k x h)) ∙ there)
   some_carried from to k q None h there = inr (ap (λ m. is_some (map.get m q)) (sym (carried_none from to k h)) ∙ there)
 
   -- a removal of what is there makes room
   pub len_below : (m : FinMap nat_cmp X) (k : ℕ) → IsSome (map.get m k) → map.len (map.remove m k) + 1 ≡ map.len m
   len_below m k h =
-      let (x, is) = some_of (map.get m k) h in
+      let (x, is) = got_some (map.get m k) h in
       let shorter = len-insert nat_cmp_total (map.remove m k) k x in
       let same : map.len (map.insert (map.remove m k) k x) ≡ map.len m = ap map.len (removed_back m k x is) in
       let away : map.contains_key (map.remove m k) k ≡ false = ap is_some (get-remove nat_cmp_total m k k ∙ ap (λ b. cond b None (map.get m k)) ((eq_by_cmp_equiv nat_cmp_total).refl k)) in

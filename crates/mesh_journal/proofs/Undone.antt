@@ -17,10 +17,12 @@ use Rattle.mesh_base.proofs.MeshLaws.{next_is_new}
 use Rattle.mesh_base.proofs.Listed.{each_found}
 use Rattle.mesh_base.proofs.ListedPairs.{all_weaker}
 use Rattle.half_mesh.specs.States.{State, none_buried, with_mesh, carried, bury_face, bury_vertex, AreApart}
+use Rattle.half_mesh.proofs.Rings.{got_some}
+use Rattle.half_mesh.proofs.StateLaws.{carried-some}
 use Rattle.mesh_journal.specs.declared.entries.Entry.{Entry}
 use Rattle.mesh_journal.specs.declared.entries.Entry.TheVariants.{FaceMade, VertexMade, FaceDropped, VertexDropped, VertexPlaced, VertexMadeSolid, Unchanged}
 use Rattle.mesh_journal.specs.Entries.{undo, CanUndo, MarksAreBuried, solid_entry}
-use Rattle.mesh_journal.proofs.Maps.{some_of, get_here, inserted_back, replaced_back, removed_none, inserted_again, carried_some, get_carried, carried_back, carried_away, carried_any-back, carried_any-away, some_carried, len_below}
+use Rattle.mesh_journal.proofs.Maps.{get_here, inserted_back, replaced_back, removed_none, inserted_again, get_carried, carried_back, carried_away, carried_any-back, carried_any-away, some_carried, len_below}
 
 -- a change that its entry undoes
 pub record Undoes (e : Entry) (new old : State) : Type 0 where
@@ -116,7 +118,7 @@ pub buried_face : (s : State) (f : ℕ) → IsLawful s → IsLiveFace s.mesh f �
 buried_face s f is live =
     let m = s.mesh in
     let b = s.buried in
-    let (c, has) = some_of (map.get m.faces f) live in
+    let (c, has) = got_some (map.get m.faces f) live in
     let there = get_carried m.faces b.faces f c has in
     let faces = carried_back m.faces b.faces f c has in
     let rest = carried_away m.faces b.faces f c has (apart_faces s f is.apart live) in record {
@@ -134,7 +136,7 @@ pub buried_vertex : (s : State) (v : ℕ) → IsLawful s → IsLiveVertex s.mesh
 buried_vertex s v is live =
     let m = s.mesh in
     let b = s.buried in
-    let (p, has) = some_of (map.get m.points v) live in
+    let (p, has) = got_some (map.get m.points v) live in
     let there = get_carried m.points b.points v p has in
     let points = carried_back m.points b.points v p has in
     let rest = carried_away m.points b.points v p has (apart_points s v is.apart live) in
@@ -147,7 +149,7 @@ buried_vertex s v is live =
       };
       marks = λ q h. ⊎_elim
           (λ e. ap is_some (ap (map.get (carried m.points b.points v)) e ∙ there))
-          (λ old. ap (λ ps. is_some (map.get ps q)) (carried_some m.points b.points v p has) ∙ live_stays b.points v p q (is.marks q old))
+          (λ old. ap (λ ps. is_some (map.get ps q)) (carried-some m.points b.points v p has) ∙ live_stays b.points v p q (is.marks q old))
           (some_carried m.solid b.solid v q (map.get m.solid v) refl h);
     }
 
@@ -161,7 +163,7 @@ placed s v p before is has = record {
 
 pub made_solid : (s : State) (v : ℕ) → IsLawful s → IsLiveVertex s.mesh v → (before : Bool) → is_solid s.mesh v ≡ before → Undoes (solid_entry v before) (with_mesh s (with_solid s.mesh v)) s
 made_solid s v is live true has =
-    let (x, there) = some_of (map.get s.mesh.solid v) has in record {
+    let (x, there) = got_some (map.get s.mesh.solid v) has in record {
       leads = ap (λ ms. with_mesh s (record s.mesh { solid = ms })) (inserted_again s.mesh.solid v x there);
       can = tt;
       marks = is.marks;
