@@ -11,7 +11,7 @@ use Rattle.grid_base.specs.declared.Point.{Point}
 use Rattle.mesh_base.specs.declared.ids.Corners.{Corners}
 use Rattle.mesh_base.specs.Mesh.{Mesh, IsMesh, IsSound, AreLive, HasCorners, IsLiveVertex, IsLiveFace, is_solid, equal_up_to_rotation}
 use Rattle.mesh_base.specs.Sides.{faces_at, ids_where, has_corner}
-use Rattle.mesh_base.specs.Changes.{with_vertex, with_face, without_face, with_point, with_solid}
+use Rattle.mesh_base.specs.Changes.{without_face, with_point, with_solid}
 use Rattle.mesh_base.proofs.Finite.{live_inserted, live_stays, got_after_remove, live_after_remove, live_but_removed, none_in_empty}
 use Rattle.mesh_base.proofs.MeshLaws.{next_is_new}
 use Rattle.mesh_base.proofs.Listed.{each_found}
@@ -21,6 +21,7 @@ use Rattle.half_mesh.proofs.Rings.{got_some}
 use Rattle.half_mesh.proofs.StateLaws.{carried-some}
 use Rattle.mesh_journal.specs.declared.entries.Entry.{Entry}
 use Rattle.mesh_journal.specs.declared.entries.Entry.TheVariants.{FaceMade, VertexMade, FaceDropped, VertexDropped, VertexPlaced, VertexMadeSolid, Unchanged}
+use Rattle.mesh_journal.specs.Undoable.{make_vertex, make_face}
 use Rattle.mesh_journal.specs.Entries.{undo, CanUndo, MarksAreBuried, solid_entry}
 use Rattle.mesh_journal.proofs.Maps.{get_here, inserted_back, replaced_back, removed_none, inserted_again, get_carried, carried_back, carried_away, carried_any-back, carried_any-away, some_carried, len_below}
 
@@ -73,7 +74,7 @@ next_bare m s =
     (λ e h. let away = next_is_new m s e.0 e.1 (get-entries m.faces e.0 ∙ h) in no_corner (e.1).first (e.1).second (e.1).third m.next_vertex away.0 away.1 away.2)
     (each_found (map.entries m.faces) (entries_sorted m.faces)))
 
-pub made_vertex : (s : State) (p : Point) → IsLawful s → Undoes (VertexMade s.mesh.next_vertex) (with_mesh s (with_vertex s.mesh p)) s
+pub made_vertex : (s : State) (p : Point) → IsLawful s → Undoes (VertexMade s.mesh.next_vertex) (make_vertex s p) s
 made_vertex s p is =
     let m = s.mesh in
     let points = inserted_back m.points m.next_vertex p (next_vertex_free m is.sound.is_mesh) in
@@ -88,7 +89,7 @@ made_vertex s p is =
       marks = is.marks;
     }
 
-pub made_face : (s : State) (c : Corners) → IsLawful s → Undoes (FaceMade s.mesh.next_face) (with_mesh s (with_face s.mesh c)) s
+pub made_face : (s : State) (c : Corners) → IsLawful s → Undoes (FaceMade s.mesh.next_face) (make_face s c) s
 made_face s c is = record {
   leads = ap (λ fs. with_mesh s (record s.mesh { faces = fs })) (inserted_back s.mesh.faces s.mesh.next_face c (next_face_free s.mesh is.sound.is_mesh));
   can = record { live = live_inserted s.mesh.faces s.mesh.next_face c; last = refl };

@@ -1,8 +1,9 @@
 ghost use Rattle.std.specs.Prelude.{◌≡◌, ◌≤◌, ◌+◌, ℕ, [], true, IfOk, IsOk, OnOk, OnErr, IsErrOf};
 ghost use Rattle.mesh_base.specs.Mesh.{IsLiveVertex, IsLiveFace, is_solid};
 ghost use Rattle.mesh_base.specs.Sides.{faces_at};
-ghost use Rattle.mesh_base.specs.Changes.{corners_of, with_vertex, with_face, with_point, with_solid, IsFresh, IsFullOfVertices, IsFullOfFaces};
+ghost use Rattle.mesh_base.specs.Changes.{corners_of, with_point, with_solid, IsFresh, IsFullOfVertices, IsFullOfFaces};
 ghost use Rattle.half_mesh.specs.States.{State, none_buried, with_mesh, without_solid, bury_face, bury_vertex, raise_face, raise_vertex, unmake_face, unmake_vertex, CanRaiseFace, CanRaiseVertex, CanUnmakeFace, CanUnmakeVertex, AreApart};
+ghost use Rattle.mesh_journal.specs.Undoable.{make_vertex, make_face};
 
 use grid_base::{NoMemory, Point};
 use mesh_base::{AddFault, FaceId, Surface, VertexId};
@@ -19,7 +20,7 @@ pub trait Undoable: Surface {
     /// `add_vertex`, with what it makes of what is buried and of `spare`.
     fn make_vertex(&mut self, p: Point) -> Result<VertexId, AddFault>
         ensures id { IfOk result (λ v. v ≡ (state self.old).mesh.next_vertex) }
-        ensures ok { OnOk result (state self.new ≡ with_mesh (state self.old) (with_vertex (state self.old).mesh p)) }
+        ensures ok { OnOk result (state self.new ≡ make_vertex (state self.old) p) }
         ensures full { IsErrOf result AddFault.Full → IsFullOfVertices (state self.old).mesh }
         ensures room { IsOk result → ¬ IsFullOfVertices (state self.old).mesh }
         ensures err { OnErr result (state self.new ≡ state self.old) }
@@ -30,7 +31,7 @@ pub trait Undoable: Surface {
     fn make_face(&mut self, c: [VertexId; 3]) -> Result<FaceId, AddFault>
         requires { IsFresh (state self.old).mesh (corners_of c) }
         ensures id { IfOk result (λ f. f ≡ (state self.old).mesh.next_face) }
-        ensures ok { OnOk result (state self.new ≡ with_mesh (state self.old) (with_face (state self.old).mesh (corners_of c))) }
+        ensures ok { OnOk result (state self.new ≡ make_face (state self.old) (corners_of c)) }
         ensures full { IsErrOf result AddFault.Full → IsFullOfFaces (state self.old).mesh }
         ensures room { IsOk result → ¬ IsFullOfFaces (state self.old).mesh }
         ensures err { OnErr result (state self.new ≡ state self.old) }

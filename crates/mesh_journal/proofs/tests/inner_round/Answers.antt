@@ -1,5 +1,5 @@
 use Rattle.mesh_base.specs.Kept.{MarkHolds}
-use Rattle.mesh_base.proofs.MarksHold.{begins_along, begins_after_return, holds_along}
+use Rattle.mesh_base.proofs.MarksHold.{holds_along}
 use Rattle.mesh_journal.proofs.tests.inner_round.Goals as goal
 
 pub back_to-requires : goal.back_to-requires

@@ -1,4 +1,4 @@
-use Rattle.mesh_base.specs.Kept.{BeginsWith, MarkHolds}
+use Rattle.mesh_base.specs.Kept.{MarkHolds}
 use Rattle.mesh_base.proofs.MarksHold.{begins_along, holds_along}
 use Rattle.mesh_journal.proofs.tests.round.Goals as goal
 
