@@ -1,0 +1,44 @@
+use Rattle.std.proofs.Common.{subst}
+use Rattle.half_mesh.specs.States.{bury_vertex}
+use Rattle.mesh_journal.specs.declared.entries.Entry.TheVariants.{VertexDropped}
+use Rattle.mesh_journal.proofs.Undone.{buried_vertex}
+use Rattle.mesh_base.specs.Mesh.{IsLiveVertex}
+use Rattle.mesh_journal.proofs.Trails.{Stands}
+use Rattle.mesh_journal.proofs.Calls.{lawful, changed}
+use Rattle.mesh_journal.proofs.journal.JournalSurface.drop_vertex.Goals as goal
+
+pub invariant_of-self-2 : goal.invariant_of-self-2
+invariant_of-self-2 g c =
+    let s = c.args.self.now in
+    let old = g.B.Undoable.state s.inner in
+    let now = c.bury_vertex.new.self in
+    let stood : Stands s.entries.items old = record { undoable = s.undoable; trail_sound = s.trail_sound; marks_buried = s.marks_buried } in
+    let is = lawful (g.B.Surface.mesh s.inner) old (g.met.B.Undoable.same_mesh s.inner) (g.met.B.Surface.sound s.inner) (g.met.B.Undoable.apart s.inner) s.marks_buried in
+    let left = changed s.entries.items c.reserve.new.self.items c.push_reserved.new.self.items (VertexDropped c.args.v) (g.B.Undoable.state now)
+    (bury_vertex old c.args.v) old (g.B.Surface.mesh now) c.push_reserved.ensures.items c.reserve.ensures.items c.bury_vertex.ensures.state
+    (buried_vertex old c.args.v is (subst (λ m. IsLiveVertex m c.args.v) (g.met.B.Undoable.same_mesh s.inner) c.requires.live)) (g.met.B.Undoable.same_mesh now) (g.met.B.Surface.sound now) stood in
+    record { undoable = left.stands.undoable; trail_sound = left.stands.trail_sound; marks_buried = left.stands.marks_buried }
+
+pub returns-clause-marks : goal.returns-clause-marks
+returns-clause-marks g c =
+    let s = c.args.self.now in
+    let old = g.B.Undoable.state s.inner in
+    let now = c.bury_vertex.new.self in
+    let stood : Stands s.entries.items old = record { undoable = s.undoable; trail_sound = s.trail_sound; marks_buried = s.marks_buried } in
+    let is = lawful (g.B.Surface.mesh s.inner) old (g.met.B.Undoable.same_mesh s.inner) (g.met.B.Surface.sound s.inner) (g.met.B.Undoable.apart s.inner) s.marks_buried in
+    let left = changed s.entries.items c.reserve.new.self.items c.push_reserved.new.self.items (VertexDropped c.args.v) (g.B.Undoable.state now)
+    (bury_vertex old c.args.v) old (g.B.Surface.mesh now) c.push_reserved.ensures.items c.reserve.ensures.items c.bury_vertex.ensures.state
+    (buried_vertex old c.args.v is (subst (λ m. IsLiveVertex m c.args.v) (g.met.B.Undoable.same_mesh s.inner) c.requires.live)) (g.met.B.Undoable.same_mesh now) (g.met.B.Surface.sound now) stood in
+    left.begins
+
+pub returns-clause-kept : goal.returns-clause-kept
+returns-clause-kept g c =
+    let s = c.args.self.now in
+    let old = g.B.Undoable.state s.inner in
+    let now = c.bury_vertex.new.self in
+    let stood : Stands s.entries.items old = record { undoable = s.undoable; trail_sound = s.trail_sound; marks_buried = s.marks_buried } in
+    let is = lawful (g.B.Surface.mesh s.inner) old (g.met.B.Undoable.same_mesh s.inner) (g.met.B.Surface.sound s.inner) (g.met.B.Undoable.apart s.inner) s.marks_buried in
+    let left = changed s.entries.items c.reserve.new.self.items c.push_reserved.new.self.items (VertexDropped c.args.v) (g.B.Undoable.state now)
+    (bury_vertex old c.args.v) old (g.B.Surface.mesh now) c.push_reserved.ensures.items c.reserve.ensures.items c.bury_vertex.ensures.state
+    (buried_vertex old c.args.v is (subst (λ m. IsLiveVertex m c.args.v) (g.met.B.Undoable.same_mesh s.inner) c.requires.live)) (g.met.B.Undoable.same_mesh now) (g.met.B.Surface.sound now) stood in
+    left.grows

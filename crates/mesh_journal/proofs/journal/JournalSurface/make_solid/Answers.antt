@@ -1,0 +1,45 @@
+use Rattle.std.proofs.Common.{sym, ap, subst, ◌∙◌}
+use Rattle.mesh_base.specs.Changes.{with_solid}
+use Rattle.half_mesh.specs.States.{with_mesh}
+use Rattle.mesh_journal.specs.Entries.{solid_entry}
+use Rattle.mesh_journal.proofs.Undone.{made_solid}
+use Rattle.mesh_base.specs.Mesh.{Mesh, IsLiveVertex, is_solid}
+use Rattle.mesh_journal.proofs.Trails.{Stands}
+use Rattle.mesh_journal.proofs.Calls.{lawful, named, changed}
+use Rattle.mesh_journal.proofs.journal.JournalSurface.make_solid.Goals as goal
+
+pub invariant_of-self-2 : goal.invariant_of-self-2
+invariant_of-self-2 g c =
+    let s = c.args.self.now in
+    let old = g.B.Undoable.state s.inner in
+    let now = c.make_solid_now.new.self in
+    let stood : Stands s.entries.items old = record { undoable = s.undoable; trail_sound = s.trail_sound; marks_buried = s.marks_buried } in
+    let is = lawful (g.B.Surface.mesh s.inner) old (g.met.B.Undoable.same_mesh s.inner) (g.met.B.Surface.sound s.inner) (g.met.B.Undoable.apart s.inner) s.marks_buried in
+    let left = changed s.entries.items c.reserve.new.self.items c.push_reserved.new.self.items (solid_entry c.args.v c.solid-before.result) (g.B.Undoable.state now)
+    (with_mesh old (with_solid old.mesh c.args.v)) old (g.B.Surface.mesh now) (named c.reserve.new.self.items c.push_reserved.new.self.items (λ e. e) c.of_solid.result (solid_entry c.args.v c.solid-before.result) c.push_reserved.ensures.items c.of_solid.ensures) c.reserve.ensures.items c.make_solid_now.ensures.state
+    (made_solid old c.args.v is (subst (λ m. IsLiveVertex m c.args.v) (g.met.B.Undoable.same_mesh s.inner) c.requires) c.solid-before.result (sym (ap (λ (m : Mesh). is_solid m c.args.v) (g.met.B.Undoable.same_mesh s.inner)) ∙ sym c.solid-before.ensures)) (g.met.B.Undoable.same_mesh now) (g.met.B.Surface.sound now) stood in
+    record { undoable = left.stands.undoable; trail_sound = left.stands.trail_sound; marks_buried = left.stands.marks_buried }
+
+pub returns-clause-marks : goal.returns-clause-marks
+returns-clause-marks g c =
+    let s = c.args.self.now in
+    let old = g.B.Undoable.state s.inner in
+    let now = c.make_solid_now.new.self in
+    let stood : Stands s.entries.items old = record { undoable = s.undoable; trail_sound = s.trail_sound; marks_buried = s.marks_buried } in
+    let is = lawful (g.B.Surface.mesh s.inner) old (g.met.B.Undoable.same_mesh s.inner) (g.met.B.Surface.sound s.inner) (g.met.B.Undoable.apart s.inner) s.marks_buried in
+    let left = changed s.entries.items c.reserve.new.self.items c.push_reserved.new.self.items (solid_entry c.args.v c.solid-before.result) (g.B.Undoable.state now)
+    (with_mesh old (with_solid old.mesh c.args.v)) old (g.B.Surface.mesh now) (named c.reserve.new.self.items c.push_reserved.new.self.items (λ e. e) c.of_solid.result (solid_entry c.args.v c.solid-before.result) c.push_reserved.ensures.items c.of_solid.ensures) c.reserve.ensures.items c.make_solid_now.ensures.state
+    (made_solid old c.args.v is (subst (λ m. IsLiveVertex m c.args.v) (g.met.B.Undoable.same_mesh s.inner) c.requires) c.solid-before.result (sym (ap (λ (m : Mesh). is_solid m c.args.v) (g.met.B.Undoable.same_mesh s.inner)) ∙ sym c.solid-before.ensures)) (g.met.B.Undoable.same_mesh now) (g.met.B.Surface.sound now) stood in
+    left.begins
+
+pub returns-clause-kept : goal.returns-clause-kept
+returns-clause-kept g c =
+    let s = c.args.self.now in
+    let old = g.B.Undoable.state s.inner in
+    let now = c.make_solid_now.new.self in
+    let stood : Stands s.entries.items old = record { undoable = s.undoable; trail_sound = s.trail_sound; marks_buried = s.marks_buried } in
+    let is = lawful (g.B.Surface.mesh s.inner) old (g.met.B.Undoable.same_mesh s.inner) (g.met.B.Surface.sound s.inner) (g.met.B.Undoable.apart s.inner) s.marks_buried in
+    let left = changed s.entries.items c.reserve.new.self.items c.push_reserved.new.self.items (solid_entry c.args.v c.solid-before.result) (g.B.Undoable.state now)
+    (with_mesh old (with_solid old.mesh c.args.v)) old (g.B.Surface.mesh now) (named c.reserve.new.self.items c.push_reserved.new.self.items (λ e. e) c.of_solid.result (solid_entry c.args.v c.solid-before.result) c.push_reserved.ensures.items c.of_solid.ensures) c.reserve.ensures.items c.make_solid_now.ensures.state
+    (made_solid old c.args.v is (subst (λ m. IsLiveVertex m c.args.v) (g.met.B.Undoable.same_mesh s.inner) c.requires) c.solid-before.result (sym (ap (λ (m : Mesh). is_solid m c.args.v) (g.met.B.Undoable.same_mesh s.inner)) ∙ sym c.solid-before.ensures)) (g.met.B.Undoable.same_mesh now) (g.met.B.Surface.sound now) stood in
+    left.grows

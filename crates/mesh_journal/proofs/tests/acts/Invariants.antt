@@ -1,0 +1,6 @@
+use Rattle.mesh_base.specs.Kept.{BeginsWith}
+use Rattle.mesh_journal.proofs.tests.acts.Given as goal
+
+-- what was kept is kept
+abbrev pub invariant-loop : goal.invariant-loop
+invariant-loop g l = BeginsWith (g.S.Surface.kept l.mesh) (g.S.Surface.kept l.fn.mesh)
