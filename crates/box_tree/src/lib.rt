@@ -11,6 +11,3 @@ mod walking;
 pub(crate) use node::Node;
 pub use small_box::SmallBox;
 pub use tree::BoxTree;
-
-#[cfg(test)]
-mod tests;

@@ -2,6 +2,9 @@
 #![tactic(auto)]
 
 #[cfg(test)]
+mod boxes;
+
+#[cfg(test)]
 mod cells;
 
 #[cfg(test)]

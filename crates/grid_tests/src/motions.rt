@@ -5,7 +5,7 @@ ghost use Rattle.grid_base.specs.declared.TheConstants.{HALF_MAX, DIRECTION_MAX}
 ghost use Rattle.motion_test.specs.Pairs.{positions_of};
 
 use motion_test::{
-    Pair, brings_together, closes, directions, keeps_apart, opens, passes, positions, separated,
+    Pair, brings_together, closes, directions, keeps_apart, opens, passes, separated,
     takes_apart,
 };
 use grid_base::{DEPTH_MAX, HALF_MAX, Positions, Wide};
@@ -28,6 +28,19 @@ fn at(p: [i64; 3]) -> Wide {
 
 fn all_at(f: &Place) -> [Wide; 5] {
     [at(f[0]), at(f[1]), at(f[2]), at(f[3]), at(f[4])]
+}
+
+// The five positions of a list.
+fn positions(p: &[Wide; 5]) -> Positions
+    ensures { result ≡ positions_of p.now }
+{
+    Positions {
+        a: p[0],
+        b: p[1],
+        c: p[2],
+        d: p[3],
+        e: p[4],
+    }
 }
 
 fn is_within(p: Wide) -> bool

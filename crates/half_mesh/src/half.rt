@@ -273,7 +273,7 @@ impl Surface for HalfMesh {
     }
 
     fn faces_near(&self, at: Extent, into: &mut Vec<FaceId>) -> Result<(), NoMemory> {
-        faces_near_of_all(self, &at, into)
+        faces_near_of_all(&self.now, &at, into)
     }
 
     fn add_vertex(&mut self, p: Point) -> Result<VertexId, AddFault>

@@ -17,7 +17,7 @@ ghost use Rattle.half_mesh.specs.Tied.{corners_at, HaveFans, HasRing};
 use crate::fans::Fans;
 use crate::rows::{Rows, Vertex};
 use grid_base::{NoMemory, Point};
-use mesh_base::{Corners, FaceId, MeshLists, VertexId};
+use mesh_base::{Corners, FaceId, FaceTable, MeshLists, VertexId};
 use std::alloc::Global;
 use std::marker::Model;
 
@@ -47,6 +47,25 @@ impl Model for Tables {
     ghost view = { λ t. ledger_in t.fans t.keys t.next_vertex t.next_face };
 
     ghost invariant = { λ t. AreKept t.fans.woven t.keys };
+}
+
+impl FaceTable for Tables {
+    ghost mesh = { λ t. t.state.mesh };
+
+    fn face_above(&self, f: u32) -> Option<FaceId> {
+        self.face_after(f)
+    }
+
+    fn corners_of(&self, f: FaceId) -> Option<[VertexId; 3]> {
+        match self.corners(f) {
+            Some(corners) => Some(corners.list()),
+            None => None,
+        }
+    }
+
+    fn point_of(&self, v: VertexId) -> Option<Point> {
+        self.point(v)
+    }
 }
 
 impl Tables {

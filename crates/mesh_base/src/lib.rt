@@ -20,7 +20,7 @@ pub use faults::{AddFault, ShapeFault, ShapeRefusal};
 pub use ids::{Corners, FaceId, PairName, VertexId};
 pub use lists::{Edges, FaceIds, Ids, MeshLists, Points, Shifts, Triangles};
 pub use marks::Mark;
-pub use near::{faces_near_of_all, is_face_near};
+pub use near::{FaceTable, faces_near_of_all, is_face_near};
 pub use refusals::{FileWord, UseWhy};
 pub use standing::point_of;
 pub use steps::{How, ShiftOf};

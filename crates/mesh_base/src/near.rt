@@ -1,15 +1,18 @@
 //! The faces near a box.
-ghost use Rattle.std.specs.Prelude.{◌≡◌, [], ◌∷◌, ◌++◌, OnOk, OnErr};
+ghost use Rattle.std.specs.Prelude.{◌≡◌, [], ◌∷◌, ◌++◌, OnOk, OnErr, slice_get};
+ghost use Rattle.std.specs.FinMap as map;
+ghost use Rattle.std.specs.Option.{option_map};
 ghost use Rattle.std.specs.List.{filter};
 ghost use Rattle.grid_base.specs.Triples.{IsWithin};
 ghost use Rattle.grid_base.specs.declared.TheConstants.{HALF_MAX};
 ghost use Rattle.mesh_base.specs.Near.{one_at_most, one_at_least, reach_along, box_meets, is_near, is_face_near, faces_near};
+ghost use Rattle.mesh_base.specs.Changes.{corner_list};
+ghost use Rattle.mesh_base.specs.Mesh.{Mesh, IsSound};
 ghost use Rattle.mesh_base.specs.Placements.{rest_positions_doubled};
+ghost use Rattle.mesh_base.specs.Sides.{above};
 
 use crate::ids::{Corners, FaceId, VertexId};
-use crate::standing::point_of;
-use crate::surface::Surface;
-use grid_base::{Extent, HALF_MAX, NoMemory, Wide};
+use grid_base::{Extent, HALF_MAX, NoMemory, Point, Wide};
 
 /// Whether one of three coordinates is at or below the end.
 fn one_at_most(high: i128, a: i128, b: i128, c: i128) -> bool
@@ -48,59 +51,81 @@ fn box_meets(at: &Extent, p: Wide, q: Wide, r: Wide) -> bool
     reach_along(at.low.z, at.high.z, p.z, q.z, r.z)
 }
 
+/// The faces of a mesh as its tables have them.
+pub trait FaceTable {
+    /// The mesh.
+    ghost mesh: { Self → Mesh };
+
+    /// The least live face above the number.
+    fn face_above(&self, f: u32) -> Option<FaceId>
+        ensures { result ≡ slice_get (above f (map.keys (mesh self.now).faces)) 0 };
+
+    /// The corners of a face, if it is live.
+    fn corners_of(&self, f: FaceId) -> Option<[VertexId; 3]>
+        ensures { result ≡ option_map corner_list (map.get (mesh self.now).faces f) };
+
+    /// Where a vertex stands, if it is live.
+    fn point_of(&self, v: VertexId) -> Option<Point>
+        ensures { result ≡ map.get (mesh self.now).points v };
+}
+
 /// Where a vertex stands, in half units; the origin, where it is not live.
-fn resting<S: Surface>(mesh: &S, v: VertexId) -> Wide
-    ensures value { result ≡ rest_positions_doubled (S.mesh mesh.now) v }
+fn resting<T: FaceTable>(table: &T, v: VertexId) -> Wide
+    ensures value { result ≡ rest_positions_doubled (T.mesh table.now) v }
     ensures within { IsWithin HALF_MAX result }
 {
-    point_of(mesh, v).doubled()
+    match table.point_of(v) {
+        Some(p) => p.doubled(),
+        None => Point { x: 0, y: 0, z: 0 }.doubled(),
+    }
 }
 
 /// Whether the box of the corners, in half units, has a common point with the extent.
-fn are_near<S: Surface>(mesh: &S, at: &Extent, c: Corners) -> bool
-    ensures { result ≡ is_near (S.mesh mesh.now) at.now c }
+fn are_near<T: FaceTable>(table: &T, at: &Extent, c: Corners) -> bool
+    ensures { result ≡ is_near (T.mesh table.now) at.now c }
 {
     box_meets(
         at,
-        resting(mesh, c.first),
-        resting(mesh, c.second),
-        resting(mesh, c.third),
+        resting(table, c.first),
+        resting(table, c.second),
+        resting(table, c.third),
     )
 }
 
 /// Whether a face is live, and its box, in half units, has a common point with the extent.
-pub fn is_face_near<S: Surface>(mesh: &S, at: &Extent, f: FaceId) -> bool
-    ensures { result ≡ is_face_near (S.mesh mesh.now) at.now f }
+pub fn is_face_near<T: FaceTable>(table: &T, at: &Extent, f: FaceId) -> bool
+    ensures { result ≡ is_face_near (T.mesh table.now) at.now f }
 {
-    match mesh.corners(f) {
-        Some(c) => are_near(mesh, at, Corners::of(c)),
+    match table.corners_of(f) {
+        Some(c) => are_near(table, at, Corners::of(c)),
         None => false,
     }
 }
 
 /// Puts the face at the end, if it is near the extent.
-fn put_if_near<S: Surface>(
-    mesh: &S,
+fn put_if_near<T: FaceTable>(
+    table: &T,
     at: &Extent,
     f: FaceId,
     into: &mut Vec<FaceId>,
 ) -> Result<(), NoMemory>
-    ensures { OnOk result (into.new.items ≡ into.old.items ++ filter (λ f. is_face_near (S.mesh mesh.now) at.now f) (f ∷ [])) }
+    ensures { OnOk result (into.new.items ≡ into.old.items ++ filter (λ f. is_face_near (T.mesh table.now) at.now f) (f ∷ [])) }
 {
-    if is_face_near(mesh, at, f) {
+    if is_face_near(table, at, f) {
         into.push(f)?;
     }
     Ok(())
 }
 
 /// Puts the faces near the extent at the end, by rising id: each live face is looked at.
-fn put_near<S: Surface>(mesh: &S, at: &Extent, into: &mut Vec<FaceId>) -> Result<(), NoMemory>
-    requires { into.old.items ≡ [] }
-    ensures { OnOk result (into.new.items ≡ faces_near (S.mesh mesh.now) at.now) }
+fn put_near<T: FaceTable>(table: &T, at: &Extent, into: &mut Vec<FaceId>) -> Result<(), NoMemory>
+    requires sound { IsSound (T.mesh table.now) }
+    requires empty { into.old.items ≡ [] }
+    ensures { OnOk result (into.new.items ≡ faces_near (T.mesh table.now) at.now) }
 {
     let mut last = 0;
-    while let Some(f) = mesh.face_after(last) {
-        put_if_near(mesh, at, f, into)?;
+    while let Some(f) = table.face_above(last) {
+        put_if_near(table, at, f, into)?;
         last = f.0;
     }
     Ok(())
@@ -108,16 +133,17 @@ fn put_near<S: Surface>(mesh: &S, at: &Extent, into: &mut Vec<FaceId>) -> Result
 
 /// Sets `into` to the faces whose boxes, in half units, have a common point with the extent, by rising id, and looks at
 /// each live face for it. Where memory is wanting, `into` is empty.
-pub fn faces_near_of_all<S: Surface>(
-    mesh: &S,
+pub fn faces_near_of_all<T: FaceTable>(
+    table: &T,
     at: &Extent,
     into: &mut Vec<FaceId>,
 ) -> Result<(), NoMemory>
-    ensures ok { OnOk result (into.new.items ≡ faces_near (S.mesh mesh.now) at.now) }
+    requires { IsSound (T.mesh table.now) }
+    ensures ok { OnOk result (into.new.items ≡ faces_near (T.mesh table.now) at.now) }
     ensures err { OnErr result (into.new.items ≡ []) }
 {
     into.clear();
-    if let Err(e) = put_near(mesh, at, into) {
+    if let Err(e) = put_near(table, at, into) {
         into.clear();
         return Err(e);
     }

@@ -4,7 +4,7 @@ ghost use Rattle.mesh_journal.specs.Entries.{undo, trail, CanUndo, CanUndoAll, C
 
 use crate::entries::Entry;
 use crate::undoable::Undoable;
-use grid_base::{NoMemory, Point};
+use grid_base::{Extent, NoMemory, Point};
 use mesh_base::{AddFault, FaceId, Mark, Surface, VertexId};
 use std::alloc::Global;
 
@@ -163,6 +163,10 @@ impl<B: Undoable> Surface for Journal<B> {
 
     fn faces_at(&self, v: VertexId, into: &mut Vec<FaceId>) -> Result<(), NoMemory> {
         self.inner.faces_at(v, into)
+    }
+
+    fn faces_near(&self, at: Extent, into: &mut Vec<FaceId>) -> Result<(), NoMemory> {
+        self.inner.faces_near(at, into)
     }
 
     fn add_vertex(&mut self, p: Point) -> Result<VertexId, AddFault>

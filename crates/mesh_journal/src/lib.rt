@@ -9,6 +9,3 @@ mod undoable;
 pub use journal::Journal;
 pub use mesh::JournalMesh;
 pub use undoable::Undoable;
-
-#[cfg(test)]
-mod tests;

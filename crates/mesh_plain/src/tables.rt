@@ -10,7 +10,7 @@ ghost use Rattle.mesh_base.specs.Mesh.{is_solid};
 ghost use Rattle.mesh_base.specs.Sides.{above, faces_at, faces_running, runs};
 
 use grid_base::{NoMemory, Point};
-use mesh_base::{Corners, FaceId, MeshLists, VertexId};
+use mesh_base::{Corners, FaceId, FaceTable, MeshLists, VertexId};
 use std::alloc::Global;
 use std::collections::BTreeMap;
 use std::marker::Model;
@@ -41,6 +41,22 @@ impl Model for Tables {
     ghost use Rattle.std.specs.FinMap as map;
 
     ghost view = { λ t. record { points = map.from_entries t.points.entries; faces = map.from_entries t.faces.entries; solid = map.from_entries t.solid.entries; next_vertex = t.next_vertex; next_face = t.next_face } };
+}
+
+impl FaceTable for Tables {
+    ghost mesh = { λ t. t };
+
+    fn face_above(&self, f: u32) -> Option<FaceId> {
+        self.face_after(f)
+    }
+
+    fn corners_of(&self, f: FaceId) -> Option<[VertexId; 3]> {
+        self.corners(f)
+    }
+
+    fn point_of(&self, v: VertexId) -> Option<Point> {
+        self.point(v)
+    }
 }
 
 impl Tables {

@@ -8,6 +8,3 @@ mod playing;
 
 pub use calls::{Act, Answer, Answers, Call, Question};
 pub use playing::{play, play_both};
-
-#[cfg(test)]
-mod tests;

@@ -11,7 +11,13 @@ mod half_edges;
 mod impulses;
 
 #[cfg(test)]
+mod journals;
+
+#[cfg(test)]
 mod plain;
+
+#[cfg(test)]
+mod plays;
 
 #[cfg(test)]
 mod scans;

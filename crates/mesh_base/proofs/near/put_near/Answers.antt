@@ -11,19 +11,19 @@ one_more test x xs = elim (test x) as (λ b. cond b (x ∷ []) [] ++ filter test
 
 pub loop-f-init : goal.loop-f-init
 loop-f-init g c =
-    let m = g.S.Surface.mesh c.args.mesh.now in
-    let start = walk-start m.faces (λ q h. ((g.met.S.Surface.sound c.args.mesh.now).is_mesh.face_ids q h).0) in
-    ap (λ into. into ++ filter (λ f. is_face_near m c.args.at.now f) (above 0 (map.keys m.faces))) c.requires ∙ ap (λ ids. filter (λ f. is_face_near m c.args.at.now f) ids) start
+    let m = g.T.FaceTable.mesh c.args.table.now in
+    let start = walk-start m.faces (λ q h. (c.requires.sound.is_mesh.face_ids q h).0) in
+    ap (λ into. into ++ filter (λ f. is_face_near m c.args.at.now f) (above 0 (map.keys m.faces))) c.requires.empty ∙ ap (λ ids. filter (λ f. is_face_near m c.args.at.now f) ids) start
 
 pub loop-f-smaller : goal.loop-f-smaller
 loop-f-smaller g c =
-    let faces = (g.S.Surface.mesh c.args.mesh.now).faces in
+    let faces = (g.T.FaceTable.mesh c.args.table.now).faces in
     let rest = above-step faces c.loop-f.last c.f.inside.0 (sym c.in-Some.ensures ∙ ap Some (sym c.f.view_is)) in
     rw rest (omega arith)
 
 pub loop-f-preserved : goal.loop-f-preserved
 loop-f-preserved g c =
-    let m = g.S.Surface.mesh c.args.mesh.now in
+    let m = g.T.FaceTable.mesh c.args.table.now in
     let test : ℕ → Bool = λ f. is_face_near m c.args.at.now f in
     let f = c.f.inside.0 in
     let rest = above-step m.faces c.loop-f.last f (sym c.in-Some.ensures ∙ ap Some (sym c.f.view_is)) in
@@ -35,7 +35,7 @@ loop-f-preserved g c =
 
 pub returns : goal.returns
 returns g c =
-    let m = g.S.Surface.mesh c.args.mesh.now in
+    let m = g.T.FaceTable.mesh c.args.table.now in
     let test : ℕ → Bool = λ f. is_face_near m c.args.at.now f in
-    let none = above-end c.loop-f.last (map.keys m.faces) (sym c.face_after.ensures ∙ c.in_default.is) in
+    let none = above-end c.loop-f.last (map.keys m.faces) (sym c.face_above.ensures ∙ c.in_default.is) in
     sym (append-nil c.loop-f.into.items) ∙ ap (λ ids. c.loop-f.into.items ++ filter test ids) (sym none) ∙ c.loop-f.invariant

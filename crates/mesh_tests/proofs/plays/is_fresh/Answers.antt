@@ -2,7 +2,7 @@ use Rattle.std.proofs.Common.{◌≡◌, ◌≢◌, ℕ, ◌==◌, Bool, true, f
 use Rattle.std.specs.FinMap.{get}
 use Rattle.std.proofs.lemmas.Bool.Decides.{nat_tests}
 use Rattle.mesh_play.proofs.FreshFaces.{fresh_where_none_runs}
-use Rattle.mesh_play.proofs.tests.is_fresh.Goals as goal
+use Rattle.mesh_tests.proofs.plays.is_fresh.Goals as goal
 
 differ : (a b : ℕ) → (a == b) ≡ false → a ≢ b
 differ a b h e = grind (arith, nat_tests)

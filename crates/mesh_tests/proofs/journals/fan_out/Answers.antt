@@ -1,7 +1,7 @@
 use Rattle.std.proofs.Common.{◌≡◌, [], ◌∷◌, sym, subst}
 use Rattle.mesh_base.specs.Changes.{IsFresh, corners_of, with_vertex}
 use Rattle.mesh_base.proofs.MeshLaws.{fresh_at_new}
-use Rattle.mesh_journal.proofs.tests.fan_out.Goals as goal
+use Rattle.mesh_tests.proofs.journals.fan_out.Goals as goal
 
 pub add_face-requires : goal.add_face-requires
 add_face-requires g c =

@@ -3,7 +3,7 @@ ghost use Rattle.std.specs.Prelude.{◌≡◌, OnOk, IfOk, true};
 ghost use Rattle.mesh_base.specs.Changes.{IsFresh};
 ghost use Rattle.mesh_play.specs.Play.{IsAllowed};
 
-use crate::{Act, Answer, Answers, Call, Question, play_both};
+use mesh_play::{Act, Answer, Answers, Call, Question, play_both};
 use grid_base::{NoMemory, Point};
 use half_mesh::HalfMesh;
 use mesh_plain::{

@@ -3,7 +3,7 @@ ghost use Rattle.std.specs.Prelude.{◌≡◌, ◌≢◌, ◌<◌};
 ghost use Rattle.mesh_base.specs.Mesh.{IsLiveVertex};
 ghost use Rattle.mesh_base.specs.Kept.{BeginsWith};
 
-use crate::JournalMesh;
+use mesh_journal::JournalMesh;
 use grid_base::{NoMemory, Point};
 use half_mesh::HalfMesh;
 use mesh_plain::{

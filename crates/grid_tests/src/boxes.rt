@@ -1,4 +1,4 @@
-use crate::{BoxTree, SmallBox};
+use box_tree::{BoxTree, SmallBox};
 use grid_base::{Extent, Wide};
 use std::test::Fail;
 

@@ -1,5 +1,5 @@
 use Rattle.mesh_base.proofs.MarksHold.{begins_itself, begins_along}
-use Rattle.mesh_journal.proofs.tests.acts.Goals as goal
+use Rattle.mesh_tests.proofs.journals.acts.Goals as goal
 
 pub loop-init : goal.loop-init
 loop-init g c = begins_itself (g.S.Surface.kept c.args.mesh.now)

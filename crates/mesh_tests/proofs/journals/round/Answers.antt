@@ -1,6 +1,6 @@
 use Rattle.mesh_base.specs.Kept.{MarkHolds}
 use Rattle.mesh_base.proofs.MarksHold.{begins_along, holds_along}
-use Rattle.mesh_journal.proofs.tests.round.Goals as goal
+use Rattle.mesh_tests.proofs.journals.round.Goals as goal
 
 pub back_to-requires : goal.back_to-requires
 back_to-requires g c =

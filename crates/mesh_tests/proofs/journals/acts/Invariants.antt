@@ -1,5 +1,5 @@
 use Rattle.mesh_base.specs.Kept.{BeginsWith}
-use Rattle.mesh_journal.proofs.tests.acts.Given as goal
+use Rattle.mesh_tests.proofs.journals.acts.Given as goal
 
 -- what was kept is kept
 abbrev pub invariant-loop : goal.invariant-loop

@@ -1,6 +1,6 @@
 use Rattle.mesh_base.specs.Kept.{MarkHolds}
 use Rattle.mesh_base.proofs.MarksHold.{holds_along}
-use Rattle.mesh_journal.proofs.tests.inner_round.Goals as goal
+use Rattle.mesh_tests.proofs.journals.inner_round.Goals as goal
 
 pub back_to-requires : goal.back_to-requires
 back_to-requires g c =
