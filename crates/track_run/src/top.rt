@@ -13,7 +13,8 @@ ghost use Rattle.track_run.specs.Headline.{Runs, TracksJob};
 
 use crate::outcome::Outcome;
 use log_text::{LogLine, Refusal, VERSION};
-use mesh_plain::{PlainMesh, Surface};
+use mesh_base::Surface;
+use mesh_journal::JournalMesh;
 use outside_io::{Desk, Sink};
 use pair_scan::first_meeting;
 use std::alloc::Global;
@@ -131,7 +132,7 @@ fn track<D: Desk, K: Sink>(
     say(alloc, out, &LogLine::First { version: VERSION })?;
     match prepare(alloc, mesh_name, step_name, to.decimals, desk) {
         Ok(Ready::No(why)) => finish(alloc, out, LogLine::Refused(why)),
-        Ok(Ready::Yes(lists, steps)) => match PlainMesh::of(alloc, &lists) {
+        Ok(Ready::Yes(lists, steps)) => match JournalMesh::of(alloc, &lists) {
             Ok(mesh) => test_and_begin(alloc, to, mesh, &steps, desk, out),
             Err(_) => Err(Stop::NoMemory),
         },
