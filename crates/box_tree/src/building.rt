@@ -59,7 +59,8 @@ fn box_at(boxes: &[SmallBox], i: u64) -> Option<SmallBox>
 fn put(nodes: &mut Vec<Node>, boxes: &[SmallBox], order: &[u64]) -> Result<(), NoMemory>
     requires { IsTree (reverse nodes.old.items) }
     ensures tree { OnOk result (IsTree (reverse nodes.new.items)) }
-    ensures all { OnOk result (entries (reverse nodes.new.items) ≡ filter_map (placed boxes.now) order.now ++ entries (reverse nodes.old.items)) }
+    ensures all { let items = filter_map (placed boxes.now) order.now in
+        OnOk result (entries (reverse nodes.new.items) ≡ items ++ entries (reverse nodes.old.items)) }
 {
     let mut k = order.len();
     while k > 0 {
@@ -76,7 +77,8 @@ fn put(nodes: &mut Vec<Node>, boxes: &[SmallBox], order: &[u64]) -> Result<(), N
 pub(crate) fn grow(nodes: &mut Vec<Node>, boxes: &[SmallBox], order: &[u64]) -> Result<(), NoMemory>
     requires { IsTree (reverse nodes.old.items) }
     ensures tree { OnOk result (IsTree (reverse nodes.new.items)) }
-    ensures all { OnOk result (entries (reverse nodes.new.items) ≡ filter_map (placed boxes.now) order.now ++ entries (reverse nodes.old.items)) }
+    ensures all { let items = filter_map (placed boxes.now) order.now in
+        OnOk result (entries (reverse nodes.new.items) ≡ items ++ entries (reverse nodes.old.items)) }
 {
     let from = nodes.len();
     if order.len() <= LEAF {

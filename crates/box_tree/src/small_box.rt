@@ -14,7 +14,8 @@ pub struct SmallBox {
     high_x: i32,
     high_y: i32,
     high_z: i32,
-    ghost ordered: { AreOrdered (record { x = low_x; y = low_y; z = low_z }) (record { x = high_x; y = high_y; z = high_z }) },
+    ghost ordered: { AreOrdered (record { x = low_x; y = low_y; z = low_z })
+        (record { x = high_x; y = high_y; z = high_z }) },
 }
 
 impl Model for SmallBox {
