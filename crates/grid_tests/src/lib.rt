@@ -3,15 +3,11 @@
 
 #[cfg(test)]
 mod boxes;
-
 #[cfg(test)]
 mod cells;
-
 #[cfg(test)]
 mod meeting;
-
 #[cfg(test)]
 mod motions;
-
 #[cfg(test)]
 mod points;

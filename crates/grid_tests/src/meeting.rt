@@ -2,8 +2,8 @@ ghost use Rattle.std.specs.Prelude.{◌↔◌, IsTrue};
 ghost use Rattle.grid_base.specs.Triples.{IsWithin};
 ghost use Rattle.grid_base.specs.declared.TheConstants.{HALF_MAX};
 
-use grid_meets::meets;
 use grid_base::{HALF_MAX, Wide};
+use grid_meets::meets;
 use std::process::Abort;
 
 // The greatest size of a position.

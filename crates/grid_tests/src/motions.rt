@@ -4,12 +4,11 @@ ghost use Rattle.grid_base.specs.Meeting.{AreWithin};
 ghost use Rattle.grid_base.specs.declared.TheConstants.{HALF_MAX, DIRECTION_MAX};
 ghost use Rattle.motion_test.specs.Pairs.{positions_of};
 
-use motion_test::{
-    Pair, brings_together, closes, directions, keeps_apart, opens, passes, separated,
-    takes_apart,
-};
 use grid_base::{DEPTH_MAX, HALF_MAX, Positions, Wide};
 use grid_meets::meets;
+use motion_test::{
+    Pair, brings_together, closes, directions, keeps_apart, opens, passes, separated, takes_apart,
+};
 use std::process::Abort;
 
 // The greatest size of a position.

@@ -4,9 +4,7 @@ ghost use Rattle.half_mesh.specs.States.{AreApart, meshes_of, NoneBuried};
 
 use crate::tables::Tables;
 use grid_base::{Extent, FACES_MAX, ID_MAX, NoMemory, Point, VERTICES_MAX};
-use mesh_base::{
-    AddFault, Corners, FaceId, Mark, MeshLists, Surface, VertexId, faces_near_of_all,
-};
+use mesh_base::{AddFault, Corners, FaceId, Mark, MeshLists, Surface, VertexId, faces_near_of_all};
 use std::alloc::Global;
 
 /// A mesh in half-edges: a look-up at a vertex takes time in proportion to its faces. It keeps a copy of the mesh for each

@@ -8,61 +8,14 @@ ghost use Rattle.mesh_base.specs.Placements.{origin, rest_positions};
 ghost use Rattle.mesh_base.specs.Shifts.{NameLive, end_in_box};
 ghost use Rattle.pair_scan.specs.Solids.{SolidsRest};
 
-use step_choose::{Choice, PASSES_MAX, Settings, choose};
-use grid_base::{DEPTH_MAX, HALVINGS_MAX, NoMemory, Point, Shift, moved};
+use crate::meshes::beside;
+use grid_base::{DEPTH_MAX, HALVINGS_MAX, NoMemory, Shift, moved};
 use mesh_base::{How, ShiftOf, Shifts, Surface, VertexId, live_vertices};
-use mesh_plain::{MeshLists, PlainMesh, Points, Triangles, shape};
 use pair_scan::first_meeting;
 use std::alloc::Global;
 use std::process::Abort;
 use std::test::Fail;
-
-// The first has the vertices 1 to 4 and a face in x = 0, and the vertex 5 of the second stands before it.
-const POINTS: [[i32; 3]; 8] = [
-    [0, 0, 0],
-    [0, 12, 0],
-    [0, 0, 12],
-    [-12, 0, 0],
-    [8, 2, 2],
-    [12, 2, 2],
-    [12, 6, 2],
-    [14, 2, 6],
-];
-
-const FACES: [[u32; 3]; 8] = [
-    [1, 2, 3],
-    [2, 1, 4],
-    [3, 2, 4],
-    [1, 3, 4],
-    [6, 7, 8],
-    [7, 6, 5],
-    [8, 7, 5],
-    [6, 8, 5],
-];
-
-// The two, the first vertex solid or not.
-fn beside(alloc: Global, solid: bool, rt: &impl Abort) -> Result<PlainMesh, NoMemory> {
-    let mut lists = MeshLists {
-        points: Points::new(alloc),
-        faces: Triangles::new(alloc),
-    };
-    for [x, y, z] in POINTS {
-        lists
-            .points
-            .push(Point::new(x, y, z).expect(rt, "a point in the box"))?;
-    }
-    for face in FACES {
-        lists.faces.push(face)?;
-    }
-    let shaped = shape(alloc, &lists);
-    assert!(rt; shaped.is_ok());
-    let mut mesh = PlainMesh::of(alloc, &lists)?;
-    if solid {
-        assert!(rt; mesh.point(VertexId(1)).is_some());
-        mesh.make_solid(VertexId(1))?;
-    }
-    Ok(mesh)
-}
+use step_choose::{Choice, PASSES_MAX, Settings, choose};
 
 // A shift of a vertex along x, and none of a solid one.
 fn shift_of<S: Surface>(mesh: &S, v: VertexId, x: i32, rt: &impl Abort) -> ShiftOf
@@ -110,7 +63,7 @@ fn chosen(
     set: Settings,
     rt: &impl Abort,
 ) -> Result<Choice, NoMemory> {
-    let mesh = beside(alloc, solid, rt)?;
+    let mesh = beside(alloc, 0, solid, rt)?;
     let met = first_meeting(alloc, &mesh)?;
     assert!(rt; met.is_none());
     assert!(rt; set.depth <= DEPTH_MAX && set.passes <= PASSES_MAX && set.halvings <= HALVINGS_MAX);

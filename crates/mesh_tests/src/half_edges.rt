@@ -1,38 +1,19 @@
 //! The tetrahedron in half-edges, beside the same calls of a plain mesh.
-ghost use Rattle.std.specs.Prelude.{◌≡◌, ◌≢◌};
+ghost use Rattle.std.specs.Prelude.{◌≢◌};
 ghost use Rattle.mesh_base.specs.Mesh.{IsLiveVertex};
 ghost use Rattle.mesh_base.specs.Kept.{BeginsWith};
 ghost use Rattle.half_mesh.specs.Half.{mesh_in, kept_in};
 
-use half_mesh::HalfMesh;
+use crate::meshes::tetrahedron;
 use grid_base::{NoMemory, Point};
+use half_mesh::HalfMesh;
 use mesh_plain::{
-    AddFault, FaceId, MeshLists, PlainMesh, Points, Surface, Triangles, VertexId, edges_in_order,
-    live_faces, live_vertices, shape,
+    AddFault, FaceId, PlainMesh, Surface, VertexId, edges_in_order, live_faces, live_vertices,
+    shape,
 };
 use std::alloc::Global;
 use std::process::Abort;
 use std::test::Fail;
-
-const TETRAHEDRON: [[i32; 3]; 4] = [[0, 0, 0], [4, 0, 0], [0, 4, 0], [0, 0, 4]];
-
-const SIDES: [[u32; 3]; 4] = [[1, 3, 2], [1, 2, 4], [2, 3, 4], [1, 4, 3]];
-
-fn tetrahedron(alloc: Global) -> Result<MeshLists, NoMemory> {
-    let mut lists = MeshLists {
-        points: Points::new(alloc),
-        faces: Triangles::new(alloc),
-    };
-    for p in &TETRAHEDRON {
-        if let Some(point) = Point::new(p[0], p[1], p[2]) {
-            lists.points.push(point)?;
-        }
-    }
-    for f in &SIDES {
-        lists.faces.push(*f)?;
-    }
-    Ok(lists)
-}
 
 /// Whether two meshes answer alike.
 fn assert_alike<S: Surface, R: Surface>(

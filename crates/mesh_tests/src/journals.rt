@@ -1,40 +1,20 @@
 //! The same calls, picked by dice, on a plain mesh, on half-edges and on a journal.
-ghost use Rattle.std.specs.Prelude.{◌≡◌, ◌≢◌, ◌<◌};
+ghost use Rattle.std.specs.Prelude.{◌≢◌, ◌<◌};
 ghost use Rattle.mesh_base.specs.Mesh.{IsLiveVertex};
 ghost use Rattle.mesh_base.specs.Kept.{BeginsWith};
 
-use mesh_journal::JournalMesh;
+use crate::meshes::tetrahedron;
 use grid_base::{NoMemory, Point};
 use half_mesh::HalfMesh;
+use mesh_journal::JournalMesh;
 use mesh_plain::{
-    Corners, FaceId, MeshLists, PlainMesh, Points, Surface, Triangles, VertexId, live_faces,
-    live_vertices, shape,
+    Corners, FaceId, MeshLists, PlainMesh, Surface, VertexId, live_faces, live_vertices, shape,
 };
 use std::alloc::Global;
 use std::process::Abort;
 use std::test::Fail;
 
-const TETRAHEDRON: [[i32; 3]; 4] = [[0, 0, 0], [4, 0, 0], [0, 4, 0], [0, 0, 4]];
-
-const SIDES: [[u32; 3]; 4] = [[1, 3, 2], [1, 2, 4], [2, 3, 4], [1, 4, 3]];
-
 const ROUNDS: u32 = 15;
-
-fn tetrahedron(alloc: Global) -> Result<MeshLists, NoMemory> {
-    let mut lists = MeshLists {
-        points: Points::new(alloc),
-        faces: Triangles::new(alloc),
-    };
-    for p in &TETRAHEDRON {
-        if let Some(point) = Point::new(p[0], p[1], p[2]) {
-            lists.points.push(point)?;
-        }
-    }
-    for f in &SIDES {
-        lists.faces.push(*f)?;
-    }
-    Ok(lists)
-}
 
 /// Numbers that are hard to foresee and always the same.
 #[derive(Drop)]

@@ -3,24 +3,19 @@
 
 #[cfg(test)]
 mod choices;
-
 #[cfg(test)]
 mod half_edges;
-
 #[cfg(test)]
 mod impulses;
-
 #[cfg(test)]
 mod journals;
-
+#[cfg(test)]
+mod meshes;
 #[cfg(test)]
 mod plain;
-
 #[cfg(test)]
 mod plays;
-
 #[cfg(test)]
 mod scans;
-
 #[cfg(test)]
 mod zones;

@@ -1,37 +1,18 @@
 //! Worked examples: a tetrahedron, lists with each fault, and marks.
-ghost use Rattle.std.specs.Prelude.{◌≡◌, ◌≢◌, IfOk};
+ghost use Rattle.std.specs.Prelude.{◌≢◌};
 ghost use Rattle.mesh_base.specs.Mesh.{IsLiveVertex};
 ghost use Rattle.mesh_base.specs.Kept.{BeginsWith};
 ghost use Rattle.mesh_plain.specs.Plain.{mesh_in, kept_in};
 
-use mesh_plain::{
-    AddFault, FaceId, MeshLists, PlainMesh, Points, ShapeFault, ShapeRefusal, Surface, Triangles,
-    VertexId, edges_in_order, live_faces, live_vertices, shape,
-};
+use crate::meshes::{SIDES, TETRAHEDRON, lists_of};
 use grid_base::{NoMemory, Point};
+use mesh_plain::{
+    AddFault, FaceId, MeshLists, PlainMesh, ShapeFault, ShapeRefusal, Surface, VertexId,
+    edges_in_order, live_faces, live_vertices, shape,
+};
 use std::alloc::Global;
 use std::process::Abort;
 use std::test::Fail;
-
-const TETRAHEDRON: [[i32; 3]; 4] = [[0, 0, 0], [4, 0, 0], [0, 4, 0], [0, 0, 4]];
-
-const SIDES: [[u32; 3]; 4] = [[1, 3, 2], [1, 2, 4], [2, 3, 4], [1, 4, 3]];
-
-fn lists_of(alloc: Global, points: &[[i32; 3]], faces: &[[u32; 3]]) -> Result<MeshLists, NoMemory> {
-    let mut lists = MeshLists {
-        points: Points::new(alloc),
-        faces: Triangles::new(alloc),
-    };
-    for p in points {
-        if let Some(point) = Point::new(p[0], p[1], p[2]) {
-            lists.points.push(point)?;
-        }
-    }
-    for f in faces {
-        lists.faces.push(*f)?;
-    }
-    Ok(lists)
-}
 
 /// So many vertices at the origin, and so many times the face 1 2 3.
 fn many(alloc: Global, points: u32, faces: u32) -> Result<MeshLists, NoMemory> {

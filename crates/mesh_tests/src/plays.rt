@@ -3,19 +3,14 @@ ghost use Rattle.std.specs.Prelude.{◌≡◌, OnOk, IfOk, true};
 ghost use Rattle.mesh_base.specs.Changes.{IsFresh};
 ghost use Rattle.mesh_play.specs.Play.{IsAllowed};
 
-use mesh_play::{Act, Answer, Answers, Call, Question, play_both};
+use crate::meshes::tetrahedron;
 use grid_base::{NoMemory, Point};
 use half_mesh::HalfMesh;
-use mesh_plain::{
-    FaceId, FaceIds, MeshLists, PlainMesh, Points, Surface, Triangles, VertexId, shape,
-};
+use mesh_plain::{FaceId, FaceIds, PlainMesh, Surface, VertexId, shape};
+use mesh_play::{Act, Answer, Answers, Call, Question, play_both};
 use std::alloc::Global;
 use std::process::Abort;
 use std::test::Fail;
-
-const TETRAHEDRON: [[i32; 3]; 4] = [[0, 0, 0], [4, 0, 0], [0, 4, 0], [0, 0, 4]];
-
-const SIDES: [[u32; 3]; 4] = [[1, 3, 2], [1, 2, 4], [2, 3, 4], [1, 4, 3]];
 
 /// An answer that is expected.
 #[derive(Clone, Copy)]
@@ -184,22 +179,6 @@ fn is_told(answer: &Answer, want: Want) -> bool {
         (Answer::FaceMade { f }, Want::FaceMade(wanted)) => *f == wanted,
         _ => false,
     }
-}
-
-fn tetrahedron(alloc: Global) -> Result<MeshLists, NoMemory> {
-    let mut lists = MeshLists {
-        points: Points::new(alloc),
-        faces: Triangles::new(alloc),
-    };
-    for p in &TETRAHEDRON {
-        if let Some(point) = Point::new(p[0], p[1], p[2]) {
-            lists.points.push(point)?;
-        }
-    }
-    for f in &SIDES {
-        lists.faces.push(*f)?;
-    }
-    Ok(lists)
 }
 
 /// Whether the corners live and differ, and no face runs along the first side.

@@ -2,9 +2,10 @@
 mod all_pairs;
 mod generated;
 
+use crate::meshes::mesh_at;
+use grid_base::NoMemory;
+use mesh_plain::{FaceId, PairName, VertexId};
 use pair_scan::first_meeting;
-use grid_base::{NoMemory, Point};
-use mesh_plain::{FaceId, MeshLists, PairName, PlainMesh, Points, Triangles, VertexId, shape};
 use std::alloc::Global;
 use std::process::Abort;
 use std::test::Fail;
@@ -61,19 +62,7 @@ fn first_of(
     faces: &[[u32; 3]],
     rt: &impl Abort,
 ) -> Result<Option<PairName>, NoMemory> {
-    let mut lists = MeshLists {
-        points: Points::new(alloc),
-        faces: Triangles::new(alloc),
-    };
-    for p in points {
-        lists.points.push(Point::new(p[0], p[1], p[2]).expect(rt, "a point in the box"))?;
-    }
-    for f in faces {
-        lists.faces.push(*f)?;
-    }
-    let shaped = shape(alloc, &lists);
-    assert!(rt; shaped.is_ok());
-    first_meeting(alloc, &PlainMesh::of(alloc, &lists)?)
+    first_meeting(alloc, &mesh_at(alloc, points, faces, rt)?)
 }
 
 fn pair(ids: [u32; 3]) -> PairName {

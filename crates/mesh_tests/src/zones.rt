@@ -1,62 +1,15 @@
 //! Worked examples: two tetrahedra beside each other, where a corner of the second is asked to go into a face of the first.
-ghost use Rattle.std.specs.Prelude.{◌≡◌, IfOk};
+ghost use Rattle.std.specs.Prelude.{IfOk};
 ghost use Rattle.mesh_base.specs.Shifts.{NameLive};
 
-use step_zones::{Zoned, zones};
-use grid_base::{BOX, NoMemory, Point, Shift};
+use crate::meshes::beside;
+use grid_base::{BOX, NoMemory, Shift};
 use mesh_base::{ShiftOf, Shifts, Surface, VertexId, live_vertices};
-use mesh_plain::{MeshLists, PlainMesh, Points, Triangles, shape};
 use pair_scan::first_meeting;
 use std::alloc::Global;
 use std::process::Abort;
 use std::test::Fail;
-
-// The first has the vertices 1 to 4 and a face in x = 0, and the vertex 5 of the second stands before it.
-const POINTS: [[i32; 3]; 8] = [
-    [0, 0, 0],
-    [0, 12, 0],
-    [0, 0, 12],
-    [-12, 0, 0],
-    [8, 2, 2],
-    [12, 2, 2],
-    [12, 6, 2],
-    [14, 2, 6],
-];
-
-const FACES: [[u32; 3]; 8] = [
-    [1, 2, 3],
-    [2, 1, 4],
-    [3, 2, 4],
-    [1, 3, 4],
-    [6, 7, 8],
-    [7, 6, 5],
-    [8, 7, 5],
-    [6, 8, 5],
-];
-
-// The two, at the bottom of the box or not, the first vertex solid or not.
-fn beside(alloc: Global, low: bool, solid: bool, rt: &impl Abort) -> Result<PlainMesh, NoMemory> {
-    let mut lists = MeshLists {
-        points: Points::new(alloc),
-        faces: Triangles::new(alloc),
-    };
-    let down = if low { BOX as i32 } else { 0 };
-    for [x, y, z] in POINTS {
-        let point = Point::new(x, y.wrapping_sub(down), z);
-        lists.points.push(point.expect(rt, "a point in the box"))?;
-    }
-    for face in FACES {
-        lists.faces.push(face)?;
-    }
-    let shaped = shape(alloc, &lists);
-    assert!(rt; shaped.is_ok());
-    let mut mesh = PlainMesh::of(alloc, &lists)?;
-    if solid {
-        assert!(rt; mesh.point(VertexId(1)).is_some());
-        mesh.make_solid(VertexId(1))?;
-    }
-    Ok(mesh)
-}
+use step_zones::{Zoned, zones};
 
 // What is asked of the vertex of a number.
 fn asked_of(asked: &[[i32; 3]; 8], v: VertexId, rt: &impl Abort) -> Shift {
@@ -90,7 +43,7 @@ fn zoned(
     asked: &[[i32; 3]; 8],
     rt: &impl Abort,
 ) -> Result<Option<Zoned>, NoMemory> {
-    let mesh = beside(alloc, low, solid, rt)?;
+    let mesh = beside(alloc, if low { BOX as i32 } else { 0 }, solid, rt)?;
     let met = first_meeting(alloc, &mesh)?;
     assert!(rt; met.is_none());
     let asked = shifts_of(alloc, &mesh, asked, rt)?;

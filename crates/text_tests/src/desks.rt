@@ -1,7 +1,7 @@
+use drip::Drip;
 use outside_io::{
     Desk, Failed, FetchFault, FileDesk, MemoryDesk, MemorySink, Sink, StdSink, StoreFault, put_all,
 };
-use drip::Drip;
 use std::fs;
 use std::test::Fail;
 

@@ -1,10 +1,10 @@
 //! Worked examples: texts that are read and written in three formats, and texts outside the grammars.
-use other_text::{off_of, ply_of, read_off, read_ply};
 use grid_base::{DECIMALS_MAX, NoMemory};
 use line_text::{Parts, ReadFault, TextFault, cut_at};
 use mesh_base::MeshLists;
 use mesh_plain::{PlainMesh, shape};
 use obj_text::{obj_of, read_obj};
+use other_text::{off_of, ply_of, read_off, read_ply};
 use std::alloc::Global;
 use std::process::Abort;
 use std::test::Fail;

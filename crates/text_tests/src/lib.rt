@@ -3,18 +3,13 @@
 
 #[cfg(test)]
 mod desks;
-
 #[cfg(test)]
 mod formats;
-
 #[cfg(test)]
 mod lines;
-
 #[cfg(test)]
 mod logs;
-
 #[cfg(test)]
 mod objects;
-
 #[cfg(test)]
 mod steps;

@@ -1,10 +1,10 @@
 //! Worked examples: lines with their spellings, logs that are cut short, and texts that are no log.
 ghost use Rattle.std.specs.Prelude.{◌<◌, length};
 
-use log_text::{LogLine, Refusal, print_line, read_log};
 use edit_base::{Asked, Change, Copies, CopyAt, PassKind, Why};
 use grid_base::{NoMemory, Point, Shift};
 use line_text::{Parts, ReadFault, TextFault, TextWhy};
+use log_text::{LogLine, Refusal, print_line, read_log};
 use mesh_base::{FaceId, FileWord, How, Ids, PairName, ShapeFault, ShiftOf, UseWhy, VertexId};
 use std::alloc::Global;
 use std::process::Abort;

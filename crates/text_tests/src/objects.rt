@@ -1,9 +1,9 @@
 //! Worked examples: texts that are read, lines outside the grammar, and meshes that are written.
-use obj_text::{obj_of, read_obj};
 use grid_base::{DECIMALS_MAX, NoMemory, Point};
 use line_text::{ReadFault, TextFault, TextWhy};
 use mesh_base::MeshLists;
 use mesh_plain::{PlainMesh, shape};
+use obj_text::{obj_of, read_obj};
 use std::alloc::Global;
 use std::process::Abort;
 use std::test::Fail;

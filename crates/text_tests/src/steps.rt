@@ -1,11 +1,11 @@
 ghost use Rattle.std.specs.Prelude.{◌≤◌, length};
 ghost use Rattle.grid_base.specs.declared.TheConstants.{TEXT_MAX};
 
-use step_text::{Directive, Placed, read_steps};
 use edit_base::PassKind;
 use grid_base::Shift;
 use line_text::{ReadFault, TextFault, TextWhy};
 use std::test::Fail;
+use step_text::{Directive, Placed, read_steps};
 
 #[test]
 fn each_form_is_read(rt: HostRuntime) -> Result<(), Fail> {

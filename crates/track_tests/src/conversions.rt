@@ -1,10 +1,10 @@
 //! Worked examples: a mesh in three formats, and files that are refused.
-use track_convert::{ConvertFault, convert};
 use log_text::Refusal;
 use outside_io::{MemoryDesk, MemorySink};
 use std::alloc::Global;
 use std::process::Abort;
 use std::test::Fail;
+use track_convert::{ConvertFault, convert};
 use track_input::{Command, command_of};
 
 // A tetrahedron.

@@ -3,6 +3,5 @@
 
 #[cfg(test)]
 mod conversions;
-
 #[cfg(test)]
 mod runs;

@@ -1,8 +1,8 @@
 //! Faults outside in mid-run, and a mesh file that ends anywhere. What a run writes is shown by the cases that the program is run on.
-use track_run::{Outcome, run};
 use outside_io::{MemoryDesk, MemorySink};
 use std::alloc::Global;
 use std::test::Fail;
+use track_run::{Outcome, run};
 
 // A tetrahedron.
 const MESH: &[u8] = b"v 0 0 0\nv 4 0 0\nv 0 4 0\nv 0 0 4\nf 1 3 2\nf 1 2 4\nf 2 3 4\nf 1 4 3\n";

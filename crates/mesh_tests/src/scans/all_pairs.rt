@@ -5,11 +5,11 @@ ghost use Rattle.grid_base.specs.declared.TheConstants.{DEPTH_MAX, HALF_MAX};
 ghost use Rattle.motion_test.specs.Pairs.{positions_of};
 
 use super::generated::{Numbers, Plan, mesh_by, shifts_by};
-use pair_scan::{Pairs, failing, first_meeting};
 use grid_base::{DEPTH_MAX, NoMemory, Point, moved};
 use grid_meets::meets;
 use mesh_base::{FaceId, PairName, ShiftOf, Surface, VertexId, edges_in_order, live_faces};
 use motion_test::{Pair, passes};
+use pair_scan::{Pairs, failing, first_meeting};
 use std::alloc::Global;
 use std::process::Abort;
 use std::test::Fail;
