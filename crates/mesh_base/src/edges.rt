@@ -2,7 +2,8 @@
 ghost use Rattle.std.specs.Prelude.{◌≡◌, ℕ, ◌==◌, ◌&&◌, ◌||◌, take, IsOk, IfOk};
 ghost use Rattle.std.specs.List.Sorted.{IsStrictlySortedBy};
 ghost use Rattle.mesh_base.specs.Pairs.{edges};
-ghost use Rattle.mesh_base.specs.SideList.{edge_cmp, has_side, are_neighbours, neighbours_at, neighbours_in_any, HasSides, AddsSides};
+ghost use Rattle.mesh_base.specs.SideList.{edge_cmp, has_side, are_neighbours, neighbours_at, neighbours_in_any};
+ghost use Rattle.mesh_base.specs.SideList.{HasSides, AddsSides};
 
 use crate::ids::{Corners, FaceId, VertexId};
 use crate::lists::Edges;
@@ -52,7 +53,9 @@ fn put_face<S: Surface>(sides: &mut Sides, mesh: &S, f: FaceId) -> Result<(), No
 fn sides_of<S: Surface>(alloc: Global, mesh: &S, faces: &[FaceId]) -> Result<Sides, NoMemory>
     ensures { IfOk result (λ sides. HasSides sides.items (neighbours_in_any (S.mesh mesh.now) faces.now)) }
 {
-    let mut sides: Sides = Vec::new(alloc);
+    // Room for all of them is taken at once: 24 bytes a face. A list that doubles as it grows takes up to twice that,
+    // and copies on the way.
+    let mut sides: Sides = Vec::with_capacity(alloc, 3 * faces.len())?;
     for f in faces {
         put_face(&mut sides, mesh, *f)?;
     }

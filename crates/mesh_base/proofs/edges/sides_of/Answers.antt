@@ -7,7 +7,7 @@ use Rattle.mesh_base.proofs.EdgesInOrder.{seen_nothing, seen_more}
 use Rattle.mesh_base.proofs.edges.sides_of.Goals as goal
 
 pub loop-f-init : goal.loop-f-init
-loop-f-init g c a b = seen_nothing c.new-sides.result.items a b c.new-sides.ensures.items
+loop-f-init g c a b = seen_nothing c.in_ok-sides.sides.items a b c.in_ok-sides.ensures.items
 
 pub loop-f-preserved : goal.loop-f-preserved
 loop-f-preserved g c a b =
