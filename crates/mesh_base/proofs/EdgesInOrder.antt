@@ -1,8 +1,11 @@
 -- The sides of the faces, in order and each of them once, are the edges.
-use Rattle.std.proofs.Common.{◌≡◌, ℕ, ◌+◌, ◌<◌, ◌==◌, ◌&&◌, ◌||◌, Bool, true, false, cond, List, [], ◌∷◌, Option, Some, None, is_some, nat_lt, option_map, refl, sym, ap, subst, ◌∙◌, ◌⊎◌, ⊎_elim, arith}
+use Rattle.std.proofs.Common.{◌≡◌, ℕ, ◌+◌, ◌*◌, ◌^◌, ◌<◌, ◌≤◌, slice_index_or, ◌==◌, ◌&&◌, ◌||◌, Bool, true, false, cond, List, [], ◌∷◌, Option, Some, None, is_some, nat_lt, option_map, refl, sym, ap, subst, ◌∙◌, ◌⊎◌, ⊎_elim, arith}
 use Rattle.std.specs.List.{list_any, AllByRecursion, Contains, dedup}
-use Rattle.std.specs.List.Sorted.{IsStrictlySortedBy, IsSorted, IsPermutation}
-use Rattle.std.specs.Ordering.{nat_cmp, is_eq, eq_by_cmp}
+use Rattle.std.specs.List.Sorted.{IsStrictlySortedBy, IsSorted, IsNonDecreasingBy, IsPermutation}
+use Rattle.std.specs.Ordering.{nat_cmp, is_eq, is_lt, eq_by_cmp, ordering_then}
+use Rattle.std.specs.declared.cmp.Ordering.{Ordering}
+use Rattle.std.specs.declared.cmp.Ordering.TheVariants.{Less, Equal, Greater}
+use Rattle.std.proofs.lemmas.List.Elements.{Contains-get_or}
 use Rattle.std.specs.Cmp.{unsigned_tied, IsEquivalence, eq_by_cmp_equiv}
 use Rattle.std.specs.FinMap as finite
 use Rattle.std.proofs.lemmas.Map.Lookups.{CmpEqualImpliesEq, exact_pairs, exact_unsigned, btree_set_from_contains}
@@ -16,10 +19,10 @@ use Rattle.mesh_base.specs.Mesh.{Mesh, IsSound, HasCorners}
 use Rattle.mesh_base.specs.Sides.{follows, runs, IsEdge}
 use Rattle.mesh_base.specs.Changes.{corners_of, corner_list}
 use Rattle.mesh_base.specs.Pairs.{edges}
-use Rattle.mesh_base.specs.SideList.{edge_cmp, has_side, are_neighbours, neighbours_in}
+use Rattle.mesh_base.specs.SideList.{edge_cmp, side_rank, has_side, HasSmallEnds, are_neighbours, neighbours_in}
 use Rattle.mesh_base.proofs.Tests.{tied_then, and_first, and_second, and_both, or_first, or_second, or_either, both_ways}
 use Rattle.mesh_base.proofs.InOrder.{edges_sorted, edge_total}
-use Rattle.mesh_base.proofs.Listed.{running_face, at_live}
+use Rattle.mesh_base.proofs.Listed.{running_face, at_live, edge_live}
 use Rattle.mesh_base.proofs.ListedPairs.{all_weaker, edge_listed}
 use Rattle.mesh_base.proofs.Counts.{runs-without_face}
 
@@ -150,9 +153,34 @@ has_once sides a b = both_ways _ _
     (λ h. has_contained sides a b (Contains-from_dedup same_ends sides (a, b) (contained (dedup same_ends sides) a b h)))
     (λ h. has_contained (dedup same_ends sides) a b (Contains-dedup ends_equiv ends_exact sides (a, b) (contained sides a b h)))
 
--- what a `dedup` leaves of sides in order is in order, with none twice
-pub sides_rise : (sorted left : List (ℕ × ℕ)) → IsSorted edge_cmp sorted → left ≡ dedup same_ends sorted → IsStrictlySortedBy edge_cmp left
-sides_rise sorted left h is = subst (IsStrictlySortedBy edge_cmp) (sym is) (IsStrictlySortedBy-dedup edge_total same_ties sorted h)
+-- ---- order by rank
+less_is : (x y : ℕ) → nat_cmp x y ≡ Less → x < y
+less_is x y h = grind (arith, nat_tests)
+
+equal_is : (x y : ℕ) → nat_cmp x y ≡ Equal → x ≡ y
+equal_is x y h = grind (arith, nat_tests)
+
+not_before : (u v a b : ℕ) → b < 2 ^ 32 → u * 2 ^ 32 + v ≤ a * 2 ^ 32 + b → is_lt (edge_cmp (a, b) (u, v)) ≡ false
+not_before u v a b small h = by_orders (nat_cmp a u) (nat_cmp b v) refl refl
+  where
+    by_orders : (o p : Ordering) → nat_cmp a u ≡ o → nat_cmp b v ≡ p → is_lt (ordering_then o p) ≡ false
+    by_orders Less p is is' = let less = less_is a u is in absurd (omega (arith, less, small, h))
+    by_orders Equal Less is is' = let same = equal_is a u is in let less = less_is b v is' in absurd (omega (arith, same, less, h))
+    by_orders Equal Equal is is' = refl
+    by_orders Equal Greater is is' = refl
+    by_orders Greater p is is' = refl
+
+rank_sorts : (sides : List (ℕ × ℕ)) → IsNonDecreasingBy side_rank sides → HasSmallEnds sides → IsSorted edge_cmp sides
+rank_sorts sides up small k d low inside =
+    let e = slice_index_or sides k d in
+    let next = slice_index_or sides (k + 1) d in
+    not_before e.0 e.1 next.0 next.1 (small next.0 next.1 (has_contained sides next.0 next.1 (Contains-get_or sides (k + 1) d inside))) (up k (k + 1) d (omega arith) inside)
+
+-- what a sort by rank and a `dedup` leave is in order, with none twice
+pub sides_rise : (sides sorted left : List (ℕ × ℕ)) → HasSmallEnds sides → IsPermutation sides sorted → IsNonDecreasingBy side_rank sorted → left ≡ dedup same_ends sorted → IsStrictlySortedBy edge_cmp left
+sides_rise sides sorted left small moved up is =
+    let in_order = rank_sorts sorted up (λ u v h. small u v (list_any-IsPermutation (eq_by_cmp edge_cmp (u, v)) sides sorted moved ∙ h)) in
+    subst (IsStrictlySortedBy edge_cmp) (sym is) (IsStrictlySortedBy-dedup edge_total same_ties sorted in_order)
 
 -- a sort and a `dedup` leave the same sides
 pub sides_stay : (sides sorted left : List (ℕ × ℕ)) → IsPermutation sides sorted → left ≡ dedup same_ends sorted → (a b : ℕ) → has_side left a b ≡ has_side sides a b
@@ -164,6 +192,17 @@ below_true a b h = grind (arith, nat_tests)
 
 true_below : (a b : ℕ) → a < b → nat_lt a b ≡ true
 true_below a b h = grind (arith, nat_tests)
+
+-- the ends of the sides of the faces are ids, which are below 2^32
+pub sides_are_small : (m : Mesh) (sides : List (ℕ × ℕ)) → IsSound m
+    → ((a b : ℕ) → has_side sides a b ≡ (nat_lt a b && list_any (λ f. neighbours_in (finite.get m.faces f) a b) (finite.keys m.faces))) → HasSmallEnds sides
+sides_are_small m sides sound is u v h =
+    let both : (nat_lt u v && list_any (seen m u v) (finite.keys m.faces)) ≡ true = sym (is u v) ∙ h in
+    let face = any_found (seen m u v) (finite.keys m.faces) (and_second (nat_lt u v) _ both) in
+    let live = (edge_live m u v sound (seen_edge m face.0 u v face.1)).1 in
+    let made = (sound.is_mesh.vertex_ids v live).1 in
+    let within : m.next_vertex ≤ 2147483649 = sound.limits.vertex_ids.1 in
+    omega (arith, made, within)
 
 -- a list in order that has the sides of the faces has the edges
 pub sides_are_edges : (m : Mesh) (sides : List (ℕ × ℕ)) → IsSound m → IsStrictlySortedBy edge_cmp sides

@@ -1,5 +1,5 @@
 -- The sides of faces as a list, each by its two ends, the smaller first.
-use Rattle.std.specs.Prelude.{◌≡◌, ℕ, ◌&&◌, ◌||◌, Bool, false, nat_lt, List}
+use Rattle.std.specs.Prelude.{◌≡◌, ℕ, ◌&&◌, ◌||◌, ◌+◌, ◌*◌, ◌^◌, ◌<◌, Bool, true, false, nat_lt, List}
 use Rattle.std.specs.List.{list_any}
 use Rattle.std.specs.FinMap as finite
 use Rattle.std.specs.Ordering.{nat_cmp, ordering_then, eq_by_cmp}
@@ -13,9 +13,17 @@ use Rattle.mesh_base.specs.Sides.{follows}
 abbrev pub edge_cmp : ℕ × ℕ → ℕ × ℕ → Ordering
 edge_cmp x y = ordering_then (nat_cmp x.0 y.0) (nat_cmp x.1 y.1)
 
+-- a number that is smaller for the earlier of two sides, where the larger ends are below 2^32
+abbrev pub side_rank : ℕ × ℕ → ℕ
+side_rank e = e.0 * 2 ^ 32 + e.1
+
 -- whether the list has the side
 abbrev pub has_side : List (ℕ × ℕ) → ℕ → ℕ → Bool
 has_side sides u v = list_any (eq_by_cmp edge_cmp (u, v)) sides
+
+-- the larger ends are below 2^32
+abbrev pub HasSmallEnds : List (ℕ × ℕ) → Type 0
+HasSmallEnds sides = (u v : ℕ) → has_side sides u v ≡ true → v < 2 ^ 32
 
 -- whether the one follows the other in the corners
 abbrev pub are_neighbours : Corners → ℕ → ℕ → Bool
