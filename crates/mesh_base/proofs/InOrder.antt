@@ -14,7 +14,7 @@ use Rattle.std.proofs.lemmas.List.Kept.{IsStrictlySortedBy-filter}
 use Rattle.mesh_base.specs.declared.ids.PairName.{PairName}
 use Rattle.mesh_base.specs.Mesh.{Mesh}
 use Rattle.mesh_base.specs.Sides.{has_corner}
-use Rattle.mesh_base.specs.SideSet.{edge_cmp}
+use Rattle.mesh_base.specs.SideList.{edge_cmp}
 use Rattle.mesh_base.specs.Pairs.{Pair, is_edge, id_pairs, edges, pairs_of, pairs, name_cmp}
 use Rattle.mesh_base.proofs.ListedPairs.{all_joined, all_flat_mapped, all_mapped, all_weaker, all_always}
 use Rattle.mesh_base.proofs.WalkSteps.{both_of}

@@ -8,7 +8,7 @@ pub mod Shifts
 pub mod Failing
 pub mod Given
 pub mod Limits
-pub mod SideSet
+pub mod SideList
 pub mod Valid
 pub mod Laws
 pub mod Near

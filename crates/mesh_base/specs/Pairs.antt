@@ -8,7 +8,7 @@ use Rattle.mesh_base.specs.declared.ids.Corners.{Corners}
 use Rattle.mesh_base.specs.declared.ids.PairName.{PairName}
 use Rattle.mesh_base.specs.Mesh.{Mesh, HasCorners}
 use Rattle.mesh_base.specs.Sides.{IsEdge, has_corner, runs}
-use Rattle.mesh_base.specs.SideSet.{edge_cmp}
+use Rattle.mesh_base.specs.SideList.{edge_cmp}
 
 -- the name of a pair, and the corners of its face
 pub record Pair : Type 0 where

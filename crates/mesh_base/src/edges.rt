@@ -1,8 +1,9 @@
 //! The edges of a mesh in order, found along the sides of its faces.
-ghost use Rattle.std.specs.Prelude.{◌≡◌, ◌==◌, ◌&&◌, ◌||◌, take, IsOk, IfOk};
+ghost use Rattle.std.specs.Prelude.{◌≡◌, ℕ, ◌==◌, ◌&&◌, ◌||◌, take, IsOk, IfOk};
 ghost use Rattle.std.specs.List.Sorted.{IsStrictlySortedBy};
 ghost use Rattle.mesh_base.specs.Pairs.{edges};
-ghost use Rattle.mesh_base.specs.SideSet.{edge_cmp, are_neighbours, neighbours_at, neighbours_in_any, HasSides, AddsSides};
+ghost use Rattle.mesh_base.specs.SideList.{edge_cmp, has_side, are_neighbours, neighbours_at, neighbours_in_any};
+ghost use Rattle.mesh_base.specs.SideList.{side_rank, HasSmallEnds, HasSides, AddsSides};
 
 use crate::ids::{Corners, FaceId, VertexId};
 use crate::lists::Edges;
@@ -10,40 +11,37 @@ use crate::surface::Surface;
 use crate::walk::live_faces;
 use grid_base::NoMemory;
 use std::alloc::Global;
-use std::collections::BTreeSet;
 
-/// Sides by the ids of their ends, the smaller first.
-type Sides = BTreeSet<(u32, u32)>;
+/// Sides by their ends, the smaller first.
+type Sides = Vec<(VertexId, VertexId)>;
 
-/// Puts a side into the set, unless its ends are one.
+/// Puts a side at the end of the list, unless its ends are one.
 fn put_side(sides: &mut Sides, u: VertexId, v: VertexId) -> Result<(), NoMemory>
-    ensures { IsOk result → AddsSides sides.old sides.new (λ a b. (u == a && v == b) || (u == b && v == a)) }
+    ensures { IsOk result → AddsSides sides.old.items sides.new.items (λ a b. (u == a && v == b) || (u == b && v == a)) }
 {
-    let from = u.0;
-    let to = v.0;
-    if from < to {
-        sides.insert((from, to))?;
+    if u.0 < v.0 {
+        sides.push((u, v))?;
         Ok(())
-    } else if to < from {
-        sides.insert((to, from))?;
+    } else if v.0 < u.0 {
+        sides.push((v, u))?;
         Ok(())
     } else {
         Ok(())
     }
 }
 
-/// Puts the three sides of a face into the set.
+/// Puts the three sides of a face at the end of the list.
 fn put_sides(sides: &mut Sides, c: Corners) -> Result<(), NoMemory>
-    ensures { IsOk result → AddsSides sides.old sides.new (are_neighbours c) }
+    ensures { IsOk result → AddsSides sides.old.items sides.new.items (are_neighbours c) }
 {
     put_side(sides, c.first, c.second)?;
     put_side(sides, c.second, c.third)?;
     put_side(sides, c.third, c.first)
 }
 
-/// Puts the sides of a face into the set, if it is live.
+/// Puts the sides of a face at the end of the list, if it is live.
 fn put_face<S: Surface>(sides: &mut Sides, mesh: &S, f: FaceId) -> Result<(), NoMemory>
-    ensures { IsOk result → AddsSides sides.old sides.new (neighbours_at (S.mesh mesh.now) f) }
+    ensures { IsOk result → AddsSides sides.old.items sides.new.items (neighbours_at (S.mesh mesh.now) f) }
 {
     match mesh.corners(f) {
         Some(c) => put_sides(sides, Corners::of(c)),
@@ -53,25 +51,33 @@ fn put_face<S: Surface>(sides: &mut Sides, mesh: &S, f: FaceId) -> Result<(), No
 
 /// The sides of faces.
 fn sides_of<S: Surface>(alloc: Global, mesh: &S, faces: &[FaceId]) -> Result<Sides, NoMemory>
-    ensures { IfOk result (λ sides. HasSides sides (neighbours_in_any (S.mesh mesh.now) faces.now)) }
+    ensures { IfOk result (λ sides. HasSides sides.items (neighbours_in_any (S.mesh mesh.now) faces.now)) }
 {
-    let mut sides: Sides = BTreeSet::new(alloc);
+    // Room for all of them is taken at once: 24 bytes a face. A list that doubles as it grows takes up to twice that,
+    // and copies on the way.
+    let mut sides: Sides = Vec::with_capacity(alloc, 3 * faces.len())?;
     for f in faces {
         put_face(&mut sides, mesh, *f)?;
     }
     Ok(sides)
 }
 
-/// The set as a list.
-fn listed(alloc: Global, sides: &Sides) -> Result<Edges, NoMemory>
-    ensures keys { IfOk result (λ found. found ≡ sides.now.keys) }
-    ensures order { IsOk result → IsStrictlySortedBy edge_cmp sides.now.keys }
+/// A number that is smaller for the earlier of two sides. A sort by it takes two thirds of the time of one by the pairs.
+fn rank(side: (VertexId, VertexId)) -> u64
+    ensures { result ≡ side_rank side }
 {
-    let mut found = Edges::new(alloc);
-    for side in sides {
-        found.push((VertexId(side.0), VertexId(side.1)))?;
-    }
-    Ok(found)
+    let (u, v) = side;
+    (u.0 as u64) * (1 << 32) + v.0 as u64
+}
+
+/// Puts the sides in order, each of them once.
+fn put_in_order(sides: &mut Sides)
+    requires { HasSmallEnds sides.old.items }
+    ensures order { IsStrictlySortedBy edge_cmp sides.new.items }
+    ensures same { (u v : ℕ) → has_side sides.new.items u v ≡ has_side sides.old.items u v }
+{
+    sides.sort_unstable_by_key(|side| rank(*side));
+    sides.dedup();
 }
 
 /// The edges, each by its smaller and its larger end, in order of the smaller and then of the larger. Takes time in
@@ -80,7 +86,7 @@ pub fn edges_in_order<S: Surface>(alloc: Global, mesh: &S) -> Result<Edges, NoMe
     ensures { IfOk result (λ found. found ≡ edges (S.mesh mesh.now)) }
 {
     let faces = live_faces(alloc, mesh)?;
-    let sides = sides_of(alloc, mesh, faces.as_slice())?;
-    let found = listed(alloc, &sides)?;
-    Ok(found)
+    let mut sides = sides_of(alloc, mesh, faces.as_slice())?;
+    put_in_order(&mut sides);
+    Ok(Edges::from_vec(sides))
 }

@@ -6,7 +6,7 @@ ghost use Rattle.std.specs.List.Sorted.{IsStrictlySortedBy};
 ghost use Rattle.mesh_base.specs.Mesh.{Mesh, IsSound};
 ghost use Rattle.mesh_base.specs.Sides.{IsClosed};
 ghost use Rattle.mesh_base.specs.Pairs.{Pair, IsPair, edges, pairs, name_cmp};
-ghost use Rattle.mesh_base.specs.SideSet.{edge_cmp};
+ghost use Rattle.mesh_base.specs.SideList.{edge_cmp};
 ghost use Rattle.mesh_base.specs.Shifts.{Shifts, with_moves, NameLive, NameOnce};
 ghost use Rattle.mesh_base.specs.Laws.{EdgesAreListed, MovesAddShifts, MovesKeepLive, LeftNameOnce, LeftShiftAlike, LeftEndInBox, ClearMotionLeavesClear, TranslationIsClearAlong, TranslationLeavesClear};
 

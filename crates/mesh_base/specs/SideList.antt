@@ -1,10 +1,8 @@
--- The sides of faces as a set, each by its two ends, the smaller first.
-use Rattle.std.specs.Prelude.{◌≡◌, ℕ, ◌&&◌, ◌||◌, Bool, false, nat_lt, List}
+-- The sides of faces as a list, each by its two ends, the smaller first.
+use Rattle.std.specs.Prelude.{◌≡◌, ℕ, ◌&&◌, ◌||◌, ◌+◌, ◌*◌, ◌^◌, ◌<◌, Bool, true, false, nat_lt, List}
 use Rattle.std.specs.List.{list_any}
 use Rattle.std.specs.FinMap as finite
-use Rattle.std.specs.BTreeSet as sorted
-use Rattle.std.specs.BTreeSet.{BTreeSet}
-use Rattle.std.specs.Ordering.{nat_cmp, ordering_then}
+use Rattle.std.specs.Ordering.{nat_cmp, ordering_then, eq_by_cmp}
 use Rattle.std.specs.declared.cmp.Ordering.{Ordering}
 use Rattle.std.proofs.Common.{Option, Some, None}
 use Rattle.mesh_base.specs.declared.ids.Corners.{Corners}
@@ -15,9 +13,17 @@ use Rattle.mesh_base.specs.Sides.{follows}
 abbrev pub edge_cmp : ℕ × ℕ → ℕ × ℕ → Ordering
 edge_cmp x y = ordering_then (nat_cmp x.0 y.0) (nat_cmp x.1 y.1)
 
--- whether the set has the side
-abbrev pub has_side : BTreeSet (ℕ × ℕ) → ℕ → ℕ → Bool
-has_side sides u v = sorted.contains edge_cmp sides (u, v)
+-- a number that is smaller for the earlier of two sides, where the larger ends are below 2^32
+abbrev pub side_rank : ℕ × ℕ → ℕ
+side_rank e = e.0 * 2 ^ 32 + e.1
+
+-- whether the list has the side
+abbrev pub has_side : List (ℕ × ℕ) → ℕ → ℕ → Bool
+has_side sides u v = list_any (eq_by_cmp edge_cmp (u, v)) sides
+
+-- the larger ends are below 2^32
+abbrev pub HasSmallEnds : List (ℕ × ℕ) → Type 0
+HasSmallEnds sides = (u v : ℕ) → has_side sides u v ≡ true → v < 2 ^ 32
 
 -- whether the one follows the other in the corners
 abbrev pub are_neighbours : Corners → ℕ → ℕ → Bool
@@ -36,10 +42,10 @@ neighbours_at m f = neighbours_in (finite.get m.faces f)
 abbrev pub neighbours_in_any : Mesh → List ℕ → ℕ → ℕ → Bool
 neighbours_in_any m faces u v = list_any (λ f. neighbours_at m f u v) faces
 
--- the set has the two that the test names, the smaller first
-abbrev pub HasSides : BTreeSet (ℕ × ℕ) → (ℕ → ℕ → Bool) → Type 0
+-- the list has the two that the test names, the smaller first
+abbrev pub HasSides : List (ℕ × ℕ) → (ℕ → ℕ → Bool) → Type 0
 HasSides sides named = (u v : ℕ) → has_side sides u v ≡ (nat_lt u v && named u v)
 
--- the set has what it had before, and those besides
-abbrev pub AddsSides : BTreeSet (ℕ × ℕ) → BTreeSet (ℕ × ℕ) → (ℕ → ℕ → Bool) → Type 0
+-- the list has what it had before, and those besides
+abbrev pub AddsSides : List (ℕ × ℕ) → List (ℕ × ℕ) → (ℕ → ℕ → Bool) → Type 0
 AddsSides old new named = (u v : ℕ) → has_side new u v ≡ (has_side old u v || (nat_lt u v && named u v))
