@@ -35,12 +35,12 @@ none : {X : Type 0} (o : Option X) → is_some o ≡ false → o ≡ None
 none (Some x) e = absurd cc
 none None e = refl
 
-neither : (a b : Bool) → (a || b) ≡ false → (a ≡ false) × (b ≡ false)
+pub neither : (a b : Bool) → (a || b) ≡ false → (a ≡ false) × (b ≡ false)
 neither true b h = cc
 neither false b h = (refl, h)
 
 -- what a search among those that are kept does not find is none of them
-none_kept : {X : Type 0} (keep test : X → Bool) (xs : List X) → list_any test (filter keep xs) ≡ false → AllByRecursion (λ x. keep x ≡ true → test x ≡ false) xs
+pub none_kept : {X : Type 0} (keep test : X → Bool) (xs : List X) → list_any test (filter keep xs) ≡ false → AllByRecursion (λ x. keep x ≡ true → test x ≡ false) xs
 none_kept keep test [] h = tt
 none_kept {X} keep test (x ∷ xs) h = by_test (none_kept keep test xs) (keep x) refl h
   where
@@ -50,11 +50,11 @@ none_kept {X} keep test (x ∷ xs) h = by_test (none_kept keep test xs) (keep x)
     by_test rest false e h = (λ t. absurd (false≢true (sym e ∙ t)), rest h)
 
 -- the two vertices of a step are corners
-step_corners : (c : Corners) (u v : ℕ) → follows c u v ≡ true → (has_corner c u ≡ true) × (has_corner c v ≡ true)
+pub step_corners : (c : Corners) (u v : ℕ) → follows c u v ≡ true → (has_corner c u ≡ true) × (has_corner c v ≡ true)
 step_corners c u v h = (grind (arith, nat_tests), grind (arith, nat_tests))
 
 -- ---- a face that is not touched
-record IsOldFace (moves : List Move) (together : List ℕ) (fresh_from : ℕ) (f : MovingFace) : Type 0 where
+pub record IsOldFace (moves : List Move) (together : List ℕ) (fresh_from : ℕ) (f : MovingFace) : Type 0 where
   pub old : f.face < fresh_from
   pub first : move_of moves f.corners.first ≡ None
   pub second : move_of moves f.corners.second ≡ None
@@ -64,7 +64,7 @@ record IsOldFace (moves : List Move) (together : List ℕ) (fresh_from : ℕ) (f
 below : (n f : ℕ) → nat_le n f ≡ false → f < n
 below n f h = grind (arith, nat_tests)
 
-old_face : (moves : List Move) (together : List ℕ) (fresh_from : ℕ) (f : MovingFace) → is_touched moves together fresh_from f ≡ false → IsOldFace moves together fresh_from f
+pub old_face : (moves : List Move) (together : List ℕ) (fresh_from : ℕ) (f : MovingFace) → is_touched moves together fresh_from f ≡ false → IsOldFace moves together fresh_from f
 old_face moves together fresh_from f h =
     let five = neither (nat_le fresh_from f.face || is_moved moves f.corners.first || is_moved moves f.corners.second || is_moved moves f.corners.third) (list_any (λ v. has_corner f.corners v) together) h in
     let last = neither (nat_le fresh_from f.face || is_moved moves f.corners.first || is_moved moves f.corners.second) (is_moved moves f.corners.third) five.0 in
@@ -72,7 +72,7 @@ old_face moves together fresh_from f h =
     let one = neither (nat_le fresh_from f.face) (is_moved moves f.corners.first) two.0 in
     record { old = below fresh_from f.face one.0; first = none (move_of moves f.corners.first) one.1; second = none (move_of moves f.corners.second) two.1; third = none (move_of moves f.corners.third) last.1; apart = five.1 }
 
-corner_rests : (moves : List Move) (together : List ℕ) (fresh_from : ℕ) (f : MovingFace) (v : ℕ) → IsOldFace moves together fresh_from f → has_corner f.corners v ≡ true → move_of moves v ≡ None
+pub corner_rests : (moves : List Move) (together : List ℕ) (fresh_from : ℕ) (f : MovingFace) (v : ℕ) → IsOldFace moves together fresh_from f → has_corner f.corners v ≡ true → move_of moves v ≡ None
 corner_rests moves together fresh_from f v old h = ⊎_elim
     (λ two. ⊎_elim (λ e. at f.corners.first e old.first) (λ e. at f.corners.second e old.second) (or_either (f.corners.first == v) (f.corners.second == v) two))
     (λ e. at f.corners.third e old.third)
@@ -82,7 +82,7 @@ corner_rests moves together fresh_from f v old h = ⊎_elim
     at u e rests = subst (λ w. move_of moves w ≡ None) (eqb-true u v e) rests
 
 -- ---- an edge that is no side of a touched face
-record IsOldSide (m : Mesh) (moves : List Move) (fresh_from a b : ℕ) : Type 0 where
+pub record IsOldSide (m : Mesh) (moves : List Move) (fresh_from a b : ℕ) : Type 0 where
   pub old : IsOldEdge m fresh_from a b
   pub first : move_of moves a ≡ None
   pub second : move_of moves b ≡ None
@@ -92,7 +92,7 @@ either_way zero l h = inr (omega arith)
 either_way (suc k) l h = inl (omega arith)
 
 -- the faces that are touched
-abbrev touched : Mesh → List Move → List ℕ → ℕ → List MovingFace
+abbrev pub touched : Mesh → List Move → List ℕ → ℕ → List MovingFace
 touched m moves together fresh_from = filter (is_touched moves together fresh_from) (moving_faces m (motion_by m moves))
 
 module _ (m : Mesh) (moves : List Move) (together : List ℕ) (fresh_from a b : ℕ) (alone : is_side_of_some a b (touched m moves together fresh_from) ≡ false) where
@@ -104,7 +104,7 @@ module _ (m : Mesh) (moves : List Move) (together : List ℕ) (fresh_from a b : 
   both_true x y e f = cc
 
   -- a face with both corners is not touched
-  rests : (f : ℕ) (c : Corners) → HasCorners m f c → has_corner c a ≡ true → has_corner c b ≡ true → IsOldFace moves together fresh_from (moving_face (motion_by m moves) (f, c))
+  pub rests : (f : ℕ) (c : Corners) → HasCorners m f c → has_corner c a ≡ true → has_corner c b ≡ true → IsOldFace moves together fresh_from (moving_face (motion_by m moves) (f, c))
   rests f c there ca cb = old_face moves together fresh_from (moving_face (motion_by m moves) (f, c)) (by_test (is_touched moves together fresh_from (moving_face (motion_by m moves) (f, c))) refl)
     where
       by_test : (t : Bool) → is_touched moves together fresh_from (moving_face (motion_by m moves) (f, c)) ≡ t → t ≡ false
@@ -120,7 +120,7 @@ module _ (m : Mesh) (moves : List Move) (together : List ℕ) (fresh_from a b : 
         second = corner_rests moves together fresh_from (moving_face (motion_by m moves) (f, c)) b face cb;
       }
 
-  old_side : IsEdge m a b → IsOldSide m moves fresh_from a b
+  pub old_side : IsEdge m a b → IsOldSide m moves fresh_from a b
   old_side edge = ⊎_elim
       (λ some. let f = running_face m a b some in let at = step_corners (f.0).1 a b f.1 in side (f.0).0 (f.0).1 f.2 (inl f.1) at.0 at.1)
       (λ some. let f = running_face m b a some in let at = step_corners (f.0).1 b a f.1 in side (f.0).0 (f.0).1 f.2 (inr f.1) at.1 at.0)
@@ -128,7 +128,7 @@ module _ (m : Mesh) (moves : List Move) (together : List ℕ) (fresh_from a b : 
 
 -- ---- among the faces
 module _ (m : Mesh) (moves : List Move) (touch : Touch) (together : List ℕ) (depth a b : ℕ) where
-  abbrev edge : MovingEdge
+  abbrev pub edge : MovingEdge
   edge = moving_edge (motion_by m moves) a b
 
   abbrev s : Scaffold

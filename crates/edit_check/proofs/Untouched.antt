@@ -12,10 +12,10 @@ use Rattle.edit_base.specs.Scaffold.{Scaffold, joins_contacts, is_as_required, m
 use Rattle.edit_check.specs.Untouched.{IsUntouched, IsClearWhereUntouched}
 use Rattle.edit_check.proofs.Still.{still_passes}
 
-start_stays : (m : Mesh) (moves : List Move) (v : ℕ) → move_of moves v ≡ None → (motion_by m moves).start v ≡ rest_positions_doubled m v
+pub start_stays : (m : Mesh) (moves : List Move) (v : ℕ) → move_of moves v ≡ None → (motion_by m moves).start v ≡ rest_positions_doubled m v
 start_stays m moves v e = ap (λ o. unwrap_or (option_map (λ (move : Move). move.start) o) (rest_positions_doubled m v)) e
 
-end_stays : (m : Mesh) (moves : List Move) (v : ℕ) → move_of moves v ≡ None → (motion_by m moves).end v ≡ rest_positions_doubled m v
+pub end_stays : (m : Mesh) (moves : List Move) (v : ℕ) → move_of moves v ≡ None → (motion_by m moves).end v ≡ rest_positions_doubled m v
 end_stays m moves v e = ap (λ o. unwrap_or (option_map (λ (move : Move). move.end) o) (rest_positions_doubled m v)) e
 
 module _ (m : Mesh) (moves : List Move) (fresh_from : ℕ) (p : Pair) (untouched : IsUntouched m moves fresh_from p) where

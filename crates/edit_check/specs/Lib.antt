@@ -3,3 +3,5 @@ pub mod Touched
 pub mod Failing
 pub mod Checking
 pub mod Agreeing
+pub mod Reach
+pub mod Nearby

@@ -8,15 +8,17 @@ ghost use Rattle.mesh_base.specs.Failing.{first_meeting};
 ghost use Rattle.edit_base.specs.Scaffold.{first_failing, motion_by, IsClearBut};
 ghost use Rattle.edit_check.specs.Untouched.{IsClearWhereUntouched, MoveFits};
 ghost use Rattle.edit_check.specs.Touched.{touched_among};
-ghost use Rattle.edit_check.specs.Checking.{scaffold_by, first_of_edge, faces_by};
+ghost use Rattle.edit_check.specs.Reach.{AreNearbyFaces};
+ghost use Rattle.edit_check.specs.Checking.{scaffold_by, first_of_edge};
 
 use crate::failing::{first_failing_among, is_side_of_some};
 use crate::moves::Moved;
+use crate::nearby::{edges_among, faces_along, nearby};
 use crate::touched::touched_of;
 use edit_base::{Move, Touch};
 use grid_base::{DEPTH_MAX, NoMemory};
-use mesh_base::{PairName, Surface, VertexId, edges_in_order};
-use pair_paths::{MovingFace, moving_edge, moving_faces};
+use mesh_base::{PairName, Surface, VertexId};
+use pair_paths::{MovingFace, moving_edge};
 use std::alloc::Global;
 
 /// What is required of the pairs, and to which depth.
@@ -27,8 +29,8 @@ struct Terms<'a> {
     depth: u8,
 }
 
-/// The first pair of an edge that is not as required. An edge that is a side of a touched face is tested with all faces,
-/// and any other one with the touched faces only.
+/// The first pair of an edge that is not as required. An edge that is a side of a touched face is tested with all nearby
+/// faces, and any other one with the touched faces only.
 fn first_of_edge<S: Surface>(
     paths: &Moved<S>,
     t: Terms,
@@ -40,7 +42,7 @@ fn first_of_edge<S: Surface>(
 ) -> Option<PairName>
     requires depth { t.depth ≤ DEPTH_MAX }
     requires clear { IsClearWhereUntouched (S.mesh paths.now.mesh.now) paths.now.moves.now fresh_from }
-    requires faces { faces.now ≡ faces_by (S.mesh paths.now.mesh.now) paths.now.moves.now }
+    requires faces { AreNearbyFaces (S.mesh paths.now.mesh.now) paths.now.moves.now t.together.now fresh_from faces.now }
     requires touched { touched.now ≡ touched_among paths.now.moves.now t.together.now fresh_from faces.now }
     requires ordered { a < b }
     requires edge { IsEdge (S.mesh paths.now.mesh.now) a b }
@@ -85,9 +87,11 @@ pub fn check<S: Surface>(
         depth,
     };
     let paths = Moved { mesh, moves };
-    let faces = moving_faces(alloc, mesh, &paths)?;
+    let near = nearby(alloc, &paths, together, fresh_from)?;
+    let ids = near.as_slice();
+    let faces = faces_along(alloc, &paths, ids)?;
     let touched = touched_of(alloc, moves, together, fresh_from, faces.as_slice())?;
-    let edges = edges_in_order(alloc, mesh)?;
+    let edges = edges_among(alloc, mesh, ids)?;
     for (a, b) in edges.as_slice() {
         let (all, new) = (faces.as_slice(), touched.as_slice());
         if let Some(found) = first_of_edge(&paths, t, all, new, fresh_from, *a, *b) {

@@ -5,6 +5,8 @@ mod checking;
 mod failing;
 pub mod laws;
 mod moves;
+mod nearby;
+mod reach;
 mod touched;
 
 pub use checking::{check, check_still};

@@ -1,5 +1,5 @@
 //! The paths of a mesh of which a few vertices move.
-ghost use Rattle.std.specs.Prelude.{◌≡◌, is_some};
+ghost use Rattle.std.specs.Prelude.{◌≡◌, [], is_some};
 ghost use Rattle.std.specs.List.{All};
 ghost use Rattle.grid_base.specs.declared.TheConstants.{HALF_MAX};
 ghost use Rattle.grid_base.specs.Triples.{IsWithin};
@@ -37,6 +37,24 @@ impl<'a, S: Surface> Paths for Moved<'a, S> {
                     end: here,
                 }
             }
+        }
+    }
+}
+
+/// A mesh in half units, of which no vertex moves.
+#[derive(Drop)]
+pub(crate) struct Standing<'a, S: Surface> {
+    pub(crate) mesh: &'a S,
+}
+
+impl<'a, S: Surface> Paths for Standing<'a, S> {
+    ghost motion = { λ s. motion_by (S.mesh s.mesh.now) [] };
+
+    fn path_of(&self, v: VertexId) -> Path {
+        let here = Position::of(resting(self.mesh, v));
+        Path {
+            start: here,
+            end: here,
         }
     }
 }

@@ -5,19 +5,32 @@ use Rattle.mesh_base.specs.declared.ids.PairName.{PairName}
 use Rattle.mesh_base.specs.Pairs.{Pair, edges, pairs_of}
 use Rattle.edit_base.specs.Scaffold.{Scaffold, is_as_required}
 use Rattle.edit_base.proofs.Clear.{none_failing_is_clear}
-use Rattle.edit_base.proofs.ListedEdges.{edge_at}
+use Rattle.edit_check.specs.Reach.{faces_in_reach}
+use Rattle.edit_check.specs.Nearby.{faces_among, edges_among}
+use Rattle.edit_check.proofs.Beyond.{faces_of_reach, none_beyond}
+use Rattle.edit_check.proofs.LeftOut.{edge_among, first_among}
 use Rattle.edit_check.specs.Checking.{scaffold_by, first_of}
 use Rattle.pair_scan.proofs.Lists.{first_behind, first_here, first_ended}
 use Rattle.edit_check.proofs.checking.check.Goals as goal
 
+pub first_of_edge-requires-clause-faces : goal.first_of_edge-requires-clause-faces
+first_of_edge-requires-clause-faces g c =
+    let m = g.S.Surface.mesh c.args.mesh.now in
+    let near = c.in_ok-near.ensures in
+    record {
+      reach = near.reach;
+      reached = near.reached;
+      all = c.as_slice-all.ensures ∙ c.in_ok-faces.ensures ∙ ap (faces_among m c.args.moves.now) (c.as_slice-ids.ensures.value ∙ near.all) ∙ faces_of_reach m c.args.moves.now near.reach;
+    }
+
 pub first_of_edge-requires-clause-ordered : goal.first_of_edge-requires-clause-ordered
 first_of_edge-requires-clause-ordered g c =
-    (edge_at (g.S.Surface.mesh c.args.mesh.now) (g.met.S.Surface.sound c.args.mesh.now) c.as_slice-a-items.result.now c.loop-a.a-index c.loop-a-item.result c.loop-a-item.result
+    (edge_among (g.S.Surface.mesh c.args.mesh.now) (g.met.S.Surface.sound c.args.mesh.now) c.as_slice-ids.result.now c.as_slice-a-items.result.now c.loop-a.a-index c.loop-a-item.result c.loop-a-item.result
     (c.as_slice-a-items.ensures ∙ c.in_ok-edges.ensures) c.loop-a-test.true c.loop-a-item.is).0
 
 pub first_of_edge-requires-clause-edge : goal.first_of_edge-requires-clause-edge
 first_of_edge-requires-clause-edge g c =
-    (edge_at (g.S.Surface.mesh c.args.mesh.now) (g.met.S.Surface.sound c.args.mesh.now) c.as_slice-a-items.result.now c.loop-a.a-index c.loop-a-item.result c.loop-a-item.result
+    (edge_among (g.S.Surface.mesh c.args.mesh.now) (g.met.S.Surface.sound c.args.mesh.now) c.as_slice-ids.result.now c.as_slice-a-items.result.now c.loop-a.a-index c.loop-a-item.result c.loop-a-item.result
     (c.as_slice-a-items.ensures ∙ c.in_ok-edges.ensures) c.loop-a-test.true c.loop-a-item.is).1
 
 pub loop-a-preserved : goal.loop-a-preserved
@@ -41,9 +54,14 @@ returns-in-Some-clause-first g c =
     let of : ℕ × ℕ → List Pair = λ e. pairs_of m e in
     let name : Pair → PairName = λ p. p.name in
     let bad : Pair → Bool = λ p. not (is_as_required meets_exactly s depth p) in
-    let all : items ≡ edges m = c.as_slice-a-items.ensures ∙ c.in_ok-edges.ensures in
+    let near = c.in_ok-near.ensures in
+    let ids : c.as_slice-ids.result.now ≡ faces_in_reach m near.reach = c.as_slice-ids.ensures.value ∙ near.all in
+    let all : items ≡ edges_among m (faces_in_reach m near.reach) = c.as_slice-a-items.ensures ∙ c.in_ok-edges.ensures ∙ ap (edges_among m) ids in
+    let whole : first_of s depth (flat_map of (edges_among m (faces_in_reach m near.reach))) ≡ first_of s depth (flat_map of (edges m)) =
+    first_among m s depth (faces_in_reach m near.reach) (g.met.S.Surface.sound c.args.mesh.now)
+    (λ a b edge out. none_beyond m c.args.moves.now c.args.touch c.args.together.now depth c.args.fresh_from near.reach near.reached a b c.requires.clear edge.0 edge.1 out) in
     let some : first_of s depth (of (get_or items c.loop-a.a-index c.loop-a-item.result)) ≡ Some c.in-Some.found = ap (λ e. first_of s depth (of e)) (sym c.loop-a-item.is) ∙ sym c.first_of_edge.ensures ∙ c.in-Some.is in
-    sym (first_here name bad of items c.loop-a.a-index c.loop-a-item.result c.in-Some.found c.loop-a-test.true some) ∙ c.loop-a.invariant ∙ ap (λ es. first_of s depth (flat_map of es)) all
+    sym (first_here name bad of items c.loop-a.a-index c.loop-a-item.result c.in-Some.found c.loop-a-test.true some) ∙ c.loop-a.invariant ∙ ap (λ es. first_of s depth (flat_map of es)) all ∙ whole
 
 pub returns-clause-first : goal.returns-clause-first
 returns-clause-first g c =
@@ -54,8 +72,13 @@ returns-clause-first g c =
     let of : ℕ × ℕ → List Pair = λ e. pairs_of m e in
     let name : Pair → PairName = λ p. p.name in
     let bad : Pair → Bool = λ p. not (is_as_required meets_exactly s depth p) in
-    let all : items ≡ edges m = c.as_slice-a-items.ensures ∙ c.in_ok-edges.ensures in
-    sym (first_ended name bad of items c.loop-a.a-index c.loop-a-test.false) ∙ c.loop-a.invariant ∙ ap (λ es. first_of s depth (flat_map of es)) all
+    let near = c.in_ok-near.ensures in
+    let ids : c.as_slice-ids.result.now ≡ faces_in_reach m near.reach = c.as_slice-ids.ensures.value ∙ near.all in
+    let all : items ≡ edges_among m (faces_in_reach m near.reach) = c.as_slice-a-items.ensures ∙ c.in_ok-edges.ensures ∙ ap (edges_among m) ids in
+    let whole : first_of s depth (flat_map of (edges_among m (faces_in_reach m near.reach))) ≡ first_of s depth (flat_map of (edges m)) =
+    first_among m s depth (faces_in_reach m near.reach) (g.met.S.Surface.sound c.args.mesh.now)
+    (λ a b edge out. none_beyond m c.args.moves.now c.args.touch c.args.together.now depth c.args.fresh_from near.reach near.reached a b c.requires.clear edge.0 edge.1 out) in
+    sym (first_ended name bad of items c.loop-a.a-index c.loop-a-test.false) ∙ c.loop-a.invariant ∙ ap (λ es. first_of s depth (flat_map of es)) all ∙ whole
 
 pub returns-clause-clear : goal.returns-clause-clear
 returns-clause-clear g c none =

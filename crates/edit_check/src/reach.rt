@@ -1,0 +1,155 @@
+//! A box that has each touched face: where it stands, and all its way.
+ghost use Rattle.std.specs.Prelude.{◌≡◌, ◌-◌, IfOk, All};
+ghost use Rattle.std.specs.FinMap as map;
+ghost use Rattle.grid_base.specs.Triples.{Triple};
+ghost use Rattle.grid_base.specs.Extents.{IsIn};
+ghost use Rattle.mesh_base.specs.Sides.{above, faces_at};
+ghost use Rattle.pair_paths.specs.Moving.{moving_face};
+ghost use Rattle.edit_check.specs.Reach.{HasFace, Reaches, ReachesAt, ReachesMoves, ReachesTouched, Widens};
+
+use crate::moves::{Moved, Standing};
+use grid_base::{Extent, Items, NoMemory};
+use mesh_base::{Corners, FaceId, Surface, VertexId};
+use pair_paths::{HasBounds, MovingFace, Paths};
+use std::alloc::Global;
+
+/// A face of these corners, with their paths.
+pub(crate) fn face_with_paths<P: Paths>(paths: &P, face: FaceId, corners: &Corners) -> MovingFace
+    ensures { result ≡ moving_face (P.motion paths.now) (face, corners.now) }
+{
+    MovingFace {
+        face,
+        corners: *corners,
+        c: paths.path_of(corners.first),
+        d: paths.path_of(corners.second),
+        e: paths.path_of(corners.third),
+    }
+}
+
+/// A box that has the face where it stands, and all its way.
+fn box_of<S: Surface>(paths: &Moved<S>, face: FaceId, corners: &Corners) -> Extent
+    ensures { HasFace (S.mesh paths.now.mesh.now) paths.now.moves.now (face, corners.now) result }
+{
+    let standing = Standing { mesh: paths.mesh };
+    let way = face_with_paths(paths, face, corners).bounds();
+    way.united(&face_with_paths(&standing, face, corners).bounds())
+}
+
+/// The box, or the other alone where there is none, so that it has the other too.
+fn widened(reach: Option<Extent>, by: &Extent) -> Extent
+    ensures has { (p : Triple) → IsIn by.now p → IsIn result p }
+    ensures keeps { Widens reach (Some result) }
+{
+    match reach {
+        Some(old) => old.united(by),
+        None => *by,
+    }
+}
+
+/// The box, made to have the face, if it is live.
+fn reach_face<S: Surface>(paths: &Moved<S>, f: FaceId, reach: Option<Extent>) -> Option<Extent>
+    ensures reaches { Reaches (S.mesh paths.now.mesh.now) paths.now.moves.now result f }
+    ensures keeps { Widens reach result }
+{
+    match paths.mesh.corners(f) {
+        Some(ids) => Some(widened(reach, &box_of(paths, f, &Corners::of(ids)))),
+        None => reach,
+    }
+}
+
+/// The box, made to have the faces.
+fn reach_faces<S: Surface>(
+    paths: &Moved<S>,
+    faces: &[FaceId],
+    reach: Option<Extent>,
+) -> Option<Extent>
+    ensures reaches { All (Reaches (S.mesh paths.now.mesh.now) paths.now.moves.now result) faces.now }
+    ensures keeps { Widens reach result }
+{
+    let mut wide = reach;
+    for f in faces {
+        wide = reach_face(paths, *f, wide);
+    }
+    wide
+}
+
+/// The box, made to have the faces at a vertex.
+fn reach_at<S: Surface>(
+    paths: &Moved<S>,
+    v: VertexId,
+    at: &mut Vec<FaceId>,
+    reach: Option<Extent>,
+) -> Result<Option<Extent>, NoMemory>
+    ensures reaches { IfOk result (λ wide. ReachesAt (S.mesh paths.now.mesh.now) paths.now.moves.now wide v) }
+    ensures keeps { IfOk result (λ wide. Widens reach wide) }
+{
+    paths.mesh.faces_at(v, at)?;
+    Ok(reach_faces(paths, at.as_slice(), reach))
+}
+
+/// The box, made to have the faces at each vertex that moves.
+fn reach_moves<S: Surface>(
+    paths: &Moved<S>,
+    at: &mut Vec<FaceId>,
+    reach: Option<Extent>,
+) -> Result<Option<Extent>, NoMemory>
+    ensures reaches { IfOk result (λ wide. ReachesMoves (S.mesh paths.now.mesh.now) paths.now.moves.now wide) }
+    ensures keeps { IfOk result (λ wide. Widens reach wide) }
+{
+    let mut wide = reach;
+    for m in paths.moves {
+        wide = reach_at(paths, m.v, at, wide)?;
+    }
+    Ok(wide)
+}
+
+/// The box, made to have the faces at each of the vertices.
+fn reach_vertices<S: Surface>(
+    paths: &Moved<S>,
+    vertices: &[VertexId],
+    at: &mut Vec<FaceId>,
+    reach: Option<Extent>,
+) -> Result<Option<Extent>, NoMemory>
+    ensures reaches { IfOk result (λ wide. All (ReachesAt (S.mesh paths.now.mesh.now) paths.now.moves.now wide) vertices.now) }
+    ensures keeps { IfOk result (λ wide. Widens reach wide) }
+{
+    let mut wide = reach;
+    for v in vertices {
+        wide = reach_at(paths, *v, at, wide)?;
+    }
+    Ok(wide)
+}
+
+/// The live faces from an id on, by rising id.
+fn fresh_faces<S: Surface>(
+    alloc: Global,
+    mesh: &S,
+    fresh_from: u32,
+) -> Result<Items<FaceId>, NoMemory>
+    ensures { IfOk result (λ ids. ids ≡ above (fresh_from - 1) (map.keys (S.mesh mesh.now).faces)) }
+{
+    let mut ids = Items::new(alloc);
+    let mut last = fresh_from.saturating_sub(1);
+    while let Some(f) = mesh.face_after(last) {
+        ids.push(f)?;
+        last = f.0;
+    }
+    Ok(ids)
+}
+
+/// A box that has each touched face; None, where there is none.
+pub(crate) fn reach_of<S: Surface>(
+    alloc: Global,
+    paths: &Moved<S>,
+    together: &[VertexId],
+    fresh_from: u32,
+) -> Result<Option<Extent>, NoMemory>
+    ensures { IfOk result (λ reach. ReachesTouched (S.mesh paths.now.mesh.now) paths.now.moves.now together.now fresh_from reach) }
+{
+    let fresh = fresh_faces(alloc, paths.mesh, fresh_from)?;
+    let mut at = Vec::new(alloc);
+    let new = reach_faces(paths, fresh.as_slice(), None);
+    let moving = reach_moves(paths, &mut at, new)?;
+    let all = reach_vertices(paths, together, &mut at, moving)?;
+    Ok(all)
+}
