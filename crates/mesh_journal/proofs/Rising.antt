@@ -1,6 +1,5 @@
 -- The faces near a box are those that the boxes lead to and that are near.
 use Rattle.std.proofs.Common.{◌≡◌, ◌≤ℤ◌, ⊎_elim, ℕ, ℤ, int_le, Bool, true, false, T, ◌&&◌, ◌||◌, nat_eq, List, [], ◌∷◌, Option, Some, None, IsSome, is_some, refl, sym, ap, subst, ◌∙◌, arith}
-use Rattle.std.specs.Prelude.{◌==◌}
 use Rattle.std.specs.Ordering.{nat_cmp, eq_by_cmp}
 use Rattle.std.specs.Cmp.{unsigned_tied, nat_eq_equiv}
 use Rattle.std.specs.List.{filter, list_any}
@@ -8,7 +7,7 @@ use Rattle.std.specs.List.Sorted.{IsStrictlySortedBy}
 use Rattle.std.specs.Map.{keys_of}
 use Rattle.std.specs.Option.{IsSomeAnd}
 use Rattle.std.specs.FinMap as map
-use Rattle.std.specs.FinMap.{FinMap, entries_sorted, contains_key-keys}
+use Rattle.std.specs.FinMap.{entries_sorted, contains_key-keys}
 use Rattle.std.specs.FinMap.Entries.{is_sorted}
 use Rattle.std.proofs.lemmas.Bool.{and_parts, and_from, or_cases, false≢true}
 use Rattle.std.proofs.lemmas.Int.{ints}
@@ -24,13 +23,12 @@ use Rattle.cell_grid.proofs.Found.{has-filter}
 use Rattle.cell_grid.proofs.Shared.{overlap_common}
 use Rattle.cell_grid.proofs.Listed.{same_rising, overlapping_rises, overlapping_has}
 use Rattle.mesh_base.specs.declared.ids.Corners.{Corners}
-use Rattle.mesh_base.specs.Mesh.{Mesh, HasCorners}
+use Rattle.mesh_base.specs.Mesh.{Mesh}
 use Rattle.mesh_base.specs.Near.{one_at_most, one_at_least, reach_along, box_meets, is_some_near, is_near, is_face_near, faces_near}
 use Rattle.mesh_base.specs.Placements.{rest_positions_doubled}
 use Rattle.mesh_base.proofs.InOrder.{keys_sorted}
 use Rattle.mesh_base.proofs.Ordered.{entries-made}
-use Rattle.half_mesh.proofs.Rings.{got_some}
-use Rattle.mesh_journal.specs.Boxed.{Boxes, IsBoxedAt, Holds, HoldsCorners, AreBoxed}
+use Rattle.mesh_journal.specs.Boxed.{Boxes, HoldsCorners, AreBoxed}
 
 -- ---- two rising lists with the same members are equal
 abbrev tagged : List ℕ → List (ℕ × ℕ)

@@ -1,4 +1,4 @@
-use Rattle.std.proofs.Common.{◌≡◌, ◌++◌, ◌∙◌, ap, ℕ, List}
+use Rattle.std.proofs.Common.{◌++◌, ◌∙◌, ap, ℕ}
 use Rattle.std.specs.List.{filter}
 use Rattle.mesh_base.specs.Near.{is_face_near}
 use Rattle.cell_grid.proofs.Held.{on_ok}

@@ -1,5 +1,4 @@
 use Rattle.std.proofs.Common.{◌∙◌, sym, subst}
-use Rattle.std.specs.FinMap as map
 use Rattle.mesh_journal.specs.Boxed.{Holds}
 use Rattle.mesh_journal.proofs.Boxed.{corners-kept}
 use Rattle.mesh_journal.proofs.Walked.{not_gone}

@@ -1,4 +1,4 @@
-use Rattle.std.proofs.Common.{◌∙◌, ℕ, All, subst}
+use Rattle.std.proofs.Common.{◌∙◌, All, subst}
 use Rattle.mesh_base.specs.Sides.{faces_at}
 use Rattle.mesh_journal.specs.Boxed.{Holds}
 use Rattle.mesh_journal.proofs.index.Index.widen_at.Goals as goal

@@ -1,4 +1,4 @@
-use Rattle.std.proofs.Common.{◌≡◌, sym, ap, subst, ◌∙◌}
+use Rattle.std.proofs.Common.{sym, ap, subst, ◌∙◌}
 use Rattle.half_mesh.specs.States.{State, none_buried}
 use Rattle.mesh_journal.specs.Boxed.{AreBoxed}
 use Rattle.mesh_journal.proofs.Calls.{stands-empty}
