@@ -1,3 +1,4 @@
 pub mod Undoable
 pub mod Entries
+pub mod Boxed
 pub mod Journal

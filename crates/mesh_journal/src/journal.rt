@@ -1,22 +1,32 @@
 ghost use Rattle.std.specs.Prelude.{◌≡◌, ◌≤◌, ◌+◌, ◌<◌, All, length, take};
 ghost use Rattle.mesh_base.specs.Mesh.{IsSound};
 ghost use Rattle.mesh_journal.specs.Entries.{undo, trail, CanUndo, CanUndoAll, CanUndoAll-prop, MarksAreBuried};
+ghost use Rattle.mesh_journal.specs.Boxed.{AreBoxedFrom};
 
+use crate::boxes::box_of;
 use crate::entries::Entry;
+use crate::index::Index;
+use crate::near::near_in;
 use crate::undoable::Undoable;
 use grid_base::{Extent, NoMemory, Point};
-use mesh_base::{AddFault, FaceId, Mark, Surface, VertexId};
+use mesh_base::{AddFault, FaceId, FaceTable, Mark, Surface, VertexId};
 use std::alloc::Global;
 
 /// A mesh with a journal: the entries by which each change since the last `settle` can be undone. What is dropped is
-/// buried, so a mark is a length of the journal, and neither a mark nor a return takes memory.
+/// buried, so a mark is a length of the journal, and neither a mark nor a return takes memory. Once `index` is called,
+/// boxes of the faces stand in a grid, wide enough for each mesh to which a return can lead, so that a question after the
+/// faces near a box looks at those alone that the grid finds.
 #[derive(Drop)]
 pub struct Journal<B: Undoable> {
+    alloc: Global,
     inner: B,
     entries: Vec<Entry>,
+    boxes: Index,
     ghost undoable: { CanUndoAll entries.items (B.state inner) } by { CanUndoAll-prop entries.items (B.state inner) },
     ghost trail_sound: { All IsSound (trail entries.items (B.state inner)) },
     ghost marks_buried: { MarksAreBuried (B.state inner) },
+    ghost boxed: { AreBoxedFrom boxes.since boxes.grid (trail entries.items (B.state inner)) },
+    ghost since_there: { boxes.since ≤ length entries.items },
 }
 
 impl<B: Undoable> Journal<B> {
@@ -32,8 +42,10 @@ impl<B: Undoable> Journal<B> {
         let mut inner = mesh;
         inner.forget();
         Journal {
+            alloc,
             inner,
             entries: Vec::new(alloc),
+            boxes: Index::none(),
         }
     }
 
@@ -75,6 +87,7 @@ impl<B: Undoable> Journal<B> {
     {
         if let Some(e) = self.entries.pop() {
             undo(&mut self.inner, e);
+            self.boxes.cut(self.entries.len());
         }
     }
 }
@@ -166,7 +179,21 @@ impl<B: Undoable> Surface for Journal<B> {
     }
 
     fn faces_near(&self, at: Extent, into: &mut Vec<FaceId>) -> Result<(), NoMemory> {
-        self.inner.faces_near(at, into)
+        match &self.boxes.grid {
+            Some(grid) => near_in(self.alloc, self, grid, &at, into),
+            None => self.inner.faces_near(at, into),
+        }
+    }
+
+    /// Puts boxes of the faces into a grid, where there is none or many of its boxes were widened.
+    fn index(&mut self)
+        ensures mesh { mesh_in self.new ≡ mesh_in self.old }
+        ensures kept { kept_in self.new ≡ kept_in self.old }
+        ensures spare { spare_in self.old ≤ spare_in self.new }
+    {
+        if self.boxes.is_worn(self.inner.faces()) {
+            self.boxes = Index::of(self.alloc, &self.inner, self.entries.len());
+        }
     }
 
     fn add_vertex(&mut self, p: Point) -> Result<VertexId, AddFault>
@@ -203,8 +230,10 @@ impl<B: Undoable> Surface for Journal<B> {
         if self.entries.reserve(1).is_err() {
             return Err(AddFault::NoMemory);
         }
+        let around = box_of(&self.inner, c);
         let f = self.inner.make_face(c)?;
         self.entries.push_reserved(Entry::FaceMade(f));
+        self.boxes.set(f, around);
         Ok(f)
     }
 
@@ -250,6 +279,7 @@ impl<B: Undoable> Surface for Journal<B> {
     {
         self.entries.reserve(1)?;
         if let Some(before) = self.inner.point(v) {
+            self.boxes.widen_at(self.alloc, &self.inner, v, p);
             self.inner.place_now(v, p);
             self.entries.push_reserved(Entry::VertexPlaced(v, before));
         }
@@ -308,7 +338,24 @@ impl<B: Undoable> Surface for Journal<B> {
         ensures kept { kept_in self.new ≡ mesh_in self.old ∷ [] }
         ensures spare { spare_in self.old ≤ spare_in self.new }
     {
+        self.boxes.settle(&self.inner, &self.entries);
         self.inner.forget();
         self.entries.truncate(0);
+    }
+}
+
+impl<B: Undoable> FaceTable for Journal<B> {
+    ghost mesh = { λ s. B.mesh s.inner };
+
+    fn face_above(&self, f: u32) -> Option<FaceId> {
+        self.inner.face_after(f)
+    }
+
+    fn corners_of(&self, f: FaceId) -> Option<[VertexId; 3]> {
+        self.inner.corners(f)
+    }
+
+    fn point_of(&self, v: VertexId) -> Option<Point> {
+        self.inner.point(v)
     }
 }

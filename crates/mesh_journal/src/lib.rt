@@ -1,9 +1,13 @@
 //! A mesh with a journal: marks take no memory, and a return undoes what was done since.
 #![tactic(auto)]
 
+mod boxes;
+mod building;
 mod entries;
+mod index;
 mod journal;
 mod mesh;
+mod near;
 mod undoable;
 
 pub use journal::Journal;

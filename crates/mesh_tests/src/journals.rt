@@ -4,7 +4,7 @@ ghost use Rattle.mesh_base.specs.Mesh.{IsLiveVertex};
 ghost use Rattle.mesh_base.specs.Kept.{BeginsWith};
 
 use crate::meshes::tetrahedron;
-use grid_base::{NoMemory, Point};
+use grid_base::{Extent, NoMemory, Point};
 use half_mesh::HalfMesh;
 use mesh_journal::JournalMesh;
 use mesh_plain::{
@@ -41,6 +41,22 @@ impl Dice {
     }
 }
 
+/// The faces near the box of two points, as numbers.
+fn tell_near<S: Surface>(
+    mesh: &S,
+    p: Point,
+    q: Point,
+    at: &mut Vec<FaceId>,
+    seen: &mut Vec<i64>,
+) -> Result<(), NoMemory> {
+    mesh.faces_near(Extent::around(p.doubled(), q.doubled()), at)?;
+    seen.push(-1)?;
+    for f in at.as_slice() {
+        seen.push(f.0 as i64)?;
+    }
+    Ok(())
+}
+
 /// What a mesh answers, as numbers.
 fn tell<S: Surface>(alloc: Global, mesh: &S, seen: &mut Vec<i64>) -> Result<(), NoMemory> {
     seen.push(mesh.next_vertex() as i64)?;
@@ -48,6 +64,7 @@ fn tell<S: Surface>(alloc: Global, mesh: &S, seen: &mut Vec<i64>) -> Result<(), 
     seen.push(mesh.vertices() as i64)?;
     seen.push(mesh.faces() as i64)?;
     let mut at = Vec::new(alloc);
+    let mut last = Point { x: 0, y: 0, z: 0 };
     let vertices = live_vertices(alloc, mesh)?;
     for v in vertices.as_slice() {
         seen.push(v.0 as i64)?;
@@ -56,6 +73,9 @@ fn tell<S: Surface>(alloc: Global, mesh: &S, seen: &mut Vec<i64>) -> Result<(), 
             seen.push(p.x as i64)?;
             seen.push(p.y as i64)?;
             seen.push(p.z as i64)?;
+            tell_near(mesh, p, p, &mut at, seen)?;
+            tell_near(mesh, p, last, &mut at, seen)?;
+            last = p;
         }
         mesh.faces_at(*v, &mut at)?;
         for f in at.as_slice() {
@@ -90,6 +110,13 @@ fn fan_out<S: Surface>(rt: &impl Abort, mesh: &mut S, p: Point, a: VertexId, b: 
     let _ = mesh.add_face([a, b, v]).expect(rt, "a face");
 }
 
+/// Makes ready for questions after the faces near boxes.
+fn ready<S: Surface>(mesh: &mut S)
+    ensures { BeginsWith (S.kept mesh.new) (S.kept mesh.old) }
+{
+    mesh.index();
+}
+
 /// Drops a vertex, if it lives and has no face.
 fn drop_bare<S: Surface>(rt: &impl Abort, alloc: Global, mesh: &mut S, v: VertexId)
     ensures { BeginsWith (S.kept mesh.new) (S.kept mesh.old) }
@@ -105,13 +132,15 @@ fn drop_bare<S: Surface>(rt: &impl Abort, alloc: Global, mesh: &mut S, v: Vertex
 fn act<S: Surface>(rt: &impl Abort, alloc: Global, mesh: &mut S, dice: &mut Dice)
     ensures { BeginsWith (S.kept mesh.new) (S.kept mesh.old) }
 {
-    let kind = dice.below(6);
+    let kind = dice.below(7);
     let f = FaceId(1 + dice.below(12));
     let u = dice.vertex();
     let v = dice.vertex();
     let p = dice.point(rt);
     if kind == 0 {
         drop_bare(rt, alloc, mesh, v);
+    } else if kind == 6 {
+        ready(mesh);
     } else if kind == 1 || kind == 2 {
         if mesh.corners(f).is_some() {
             mesh.drop_face(f).expect(rt, "memory");

@@ -4,6 +4,11 @@ use Rattle.mesh_journal.specs.declared.entries.Entry.TheVariants.{FaceMade}
 use Rattle.mesh_journal.proofs.Undone.{made_face}
 use Rattle.mesh_journal.proofs.Trails.{Stands}
 use Rattle.mesh_journal.proofs.Calls.{lawful, named, changed}
+use Rattle.std.proofs.Common.{◌≡◌, sym, ap, subst, ◌∙◌}
+use Rattle.mesh_base.specs.Changes.{with_face}
+use Rattle.half_mesh.specs.States.{State}
+use Rattle.mesh_journal.specs.Boxed.{AreBoxed, IsAround}
+use Rattle.mesh_journal.proofs.Covers.{IsIndexed, present, grown, renumbered, with_new_face, boxed-with_face}
 use Rattle.mesh_journal.proofs.journal.JournalSurface.add_face.Goals as goal
 
 pub invariant_of-self-2 : goal.invariant_of-self-2
@@ -16,7 +21,18 @@ invariant_of-self-2 g c =
     let left = changed s.entries.items c.reserve.new.self.items c.push_reserved.new.self.items (FaceMade old.mesh.next_face) (g.B.Undoable.state now)
     (make_face old (corners_of c.args.c)) old (g.B.Surface.mesh now) (named c.reserve.new.self.items c.push_reserved.new.self.items FaceMade c.in_ok-f.f old.mesh.next_face c.push_reserved.ensures.items c.in_ok-f.ensures.id) c.reserve.ensures.items c.in_ok-f.ensures.ok
     (made_face old (corners_of c.args.c) is) (g.met.B.Undoable.same_mesh now) (g.met.B.Surface.sound now) stood in
-    record { undoable = left.stands.undoable; trail_sound = left.stands.trail_sound; marks_buried = left.stands.marks_buried }
+    let ix : IsIndexed s.boxes.since s.boxes.grid s.entries.items old = record { boxed = s.boxed; since_there = s.since_there } in
+    let here : AreBoxed s.boxes.grid old.mesh = present s.boxes.since s.boxes.grid s.entries.items old ix in
+    let corners = corners_of c.args.c in
+    let wide = c.set.new.self in
+    let id : c.in_ok-f.f ≡ old.mesh.next_face = c.in_ok-f.ensures.id in
+    let around : IsAround c.box_of-around.result old.mesh corners = subst (λ m. IsAround c.box_of-around.result m corners) (g.met.B.Undoable.same_mesh s.inner) c.box_of-around.ensures in
+    let same : g.B.Surface.mesh now ≡ with_face old.mesh corners = g.met.B.Undoable.same_mesh now ∙ ap (λ (t : State). t.mesh) c.in_ok-f.ensures.ok in
+    let gx = renumbered s.boxes.since wide.since wide.grid c.push_reserved.new.self.items (g.B.Undoable.state now) c.set.ensures.since
+    (grown s.boxes.since s.boxes.grid wide.grid s.entries.items c.push_reserved.new.self.items old (g.B.Undoable.state now) (g.B.Surface.mesh now) ix left.grows
+    (with_new_face s.boxes.grid wide.grid s.entries.items old c.in_ok-f.f id stood c.set.ensures.others)
+    (subst (AreBoxed wide.grid) (sym same) (boxed-with_face s.boxes.grid wide.grid old.mesh c.in_ok-f.f corners c.box_of-around.result id is.sound c.set.ensures.at c.set.ensures.others around here))) in
+    record { undoable = left.stands.undoable; trail_sound = left.stands.trail_sound; marks_buried = left.stands.marks_buried; boxed = gx.boxed; since_there = gx.since_there }
 
 pub returns-clause-marks : goal.returns-clause-marks
 returns-clause-marks g c =

@@ -5,6 +5,12 @@ use Rattle.mesh_journal.proofs.Undone.{buried_vertex}
 use Rattle.mesh_base.specs.Mesh.{IsLiveVertex}
 use Rattle.mesh_journal.proofs.Trails.{Stands}
 use Rattle.mesh_journal.proofs.Calls.{lawful, changed}
+use Rattle.std.proofs.Common.{◌≡◌, ap, ◌∙◌}
+use Rattle.mesh_base.specs.Mesh.{IsSound}
+use Rattle.mesh_base.specs.Changes.{without_vertex}
+use Rattle.half_mesh.specs.States.{State}
+use Rattle.mesh_journal.specs.Boxed.{AreBoxed}
+use Rattle.mesh_journal.proofs.Covers.{IsIndexed, present, grown-same, still-without_vertex}
 use Rattle.mesh_journal.proofs.journal.JournalSurface.drop_vertex.Goals as goal
 
 pub invariant_of-self-2 : goal.invariant_of-self-2
@@ -17,7 +23,12 @@ invariant_of-self-2 g c =
     let left = changed s.entries.items c.reserve.new.self.items c.push_reserved.new.self.items (VertexDropped c.args.v) (g.B.Undoable.state now)
     (bury_vertex old c.args.v) old (g.B.Surface.mesh now) c.push_reserved.ensures.items c.reserve.ensures.items c.bury_vertex.ensures.state
     (buried_vertex old c.args.v is (subst (λ m. IsLiveVertex m c.args.v) (g.met.B.Undoable.same_mesh s.inner) c.requires.live)) (g.met.B.Undoable.same_mesh now) (g.met.B.Surface.sound now) stood in
-    record { undoable = left.stands.undoable; trail_sound = left.stands.trail_sound; marks_buried = left.stands.marks_buried }
+    let ix : IsIndexed s.boxes.since s.boxes.grid s.entries.items old = record { boxed = s.boxed; since_there = s.since_there } in
+    let here : AreBoxed s.boxes.grid old.mesh = present s.boxes.since s.boxes.grid s.entries.items old ix in
+    let same : g.B.Surface.mesh now ≡ without_vertex old.mesh c.args.v = g.met.B.Undoable.same_mesh now ∙ ap (λ (t : State). t.mesh) c.bury_vertex.ensures.state in
+    let gx = grown-same s.boxes.since s.boxes.grid s.entries.items c.push_reserved.new.self.items old (g.B.Undoable.state now) (g.B.Surface.mesh now) (without_vertex old.mesh c.args.v) ix left.grows same
+    (still-without_vertex s.boxes.grid old.mesh c.args.v is.sound (subst IsSound same (g.met.B.Surface.sound now)) here) in
+    record { undoable = left.stands.undoable; trail_sound = left.stands.trail_sound; marks_buried = left.stands.marks_buried; boxed = gx.boxed; since_there = gx.since_there }
 
 pub returns-clause-marks : goal.returns-clause-marks
 returns-clause-marks g c =

@@ -6,6 +6,10 @@ use Rattle.mesh_journal.proofs.Undone.{made_solid}
 use Rattle.mesh_base.specs.Mesh.{Mesh, IsLiveVertex, is_solid}
 use Rattle.mesh_journal.proofs.Trails.{Stands}
 use Rattle.mesh_journal.proofs.Calls.{lawful, named, changed}
+use Rattle.std.proofs.Common.{◌≡◌, ap, ◌∙◌}
+use Rattle.half_mesh.specs.States.{State}
+use Rattle.mesh_journal.specs.Boxed.{AreBoxed}
+use Rattle.mesh_journal.proofs.Covers.{IsIndexed, present, grown-same, still-with_solid}
 use Rattle.mesh_journal.proofs.journal.JournalSurface.make_solid.Goals as goal
 
 pub invariant_of-self-2 : goal.invariant_of-self-2
@@ -18,7 +22,12 @@ invariant_of-self-2 g c =
     let left = changed s.entries.items c.reserve.new.self.items c.push_reserved.new.self.items (solid_entry c.args.v c.solid-before.result) (g.B.Undoable.state now)
     (with_mesh old (with_solid old.mesh c.args.v)) old (g.B.Surface.mesh now) (named c.reserve.new.self.items c.push_reserved.new.self.items (λ e. e) c.of_solid.result (solid_entry c.args.v c.solid-before.result) c.push_reserved.ensures.items c.of_solid.ensures) c.reserve.ensures.items c.make_solid_now.ensures.state
     (made_solid old c.args.v is (subst (λ m. IsLiveVertex m c.args.v) (g.met.B.Undoable.same_mesh s.inner) c.requires) c.solid-before.result (sym (ap (λ (m : Mesh). is_solid m c.args.v) (g.met.B.Undoable.same_mesh s.inner)) ∙ sym c.solid-before.ensures)) (g.met.B.Undoable.same_mesh now) (g.met.B.Surface.sound now) stood in
-    record { undoable = left.stands.undoable; trail_sound = left.stands.trail_sound; marks_buried = left.stands.marks_buried }
+    let ix : IsIndexed s.boxes.since s.boxes.grid s.entries.items old = record { boxed = s.boxed; since_there = s.since_there } in
+    let here : AreBoxed s.boxes.grid old.mesh = present s.boxes.since s.boxes.grid s.entries.items old ix in
+    let same : g.B.Surface.mesh now ≡ with_solid old.mesh c.args.v = g.met.B.Undoable.same_mesh now ∙ ap (λ (t : State). t.mesh) c.make_solid_now.ensures.state in
+    let gx = grown-same s.boxes.since s.boxes.grid s.entries.items c.push_reserved.new.self.items old (g.B.Undoable.state now) (g.B.Surface.mesh now) (with_solid old.mesh c.args.v) ix left.grows same
+    (still-with_solid s.boxes.grid old.mesh c.args.v here) in
+    record { undoable = left.stands.undoable; trail_sound = left.stands.trail_sound; marks_buried = left.stands.marks_buried; boxed = gx.boxed; since_there = gx.since_there }
 
 pub returns-clause-marks : goal.returns-clause-marks
 returns-clause-marks g c =

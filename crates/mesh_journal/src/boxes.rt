@@ -1,0 +1,106 @@
+//! Boxes of faces, wide enough for several meshes.
+ghost use Rattle.std.specs.Prelude.{◌≡◌, ◌≢◌, ◌<◌, ℕ, Some, All, IfOk, OnOk};
+ghost use Rattle.std.specs.FinMap as map;
+ghost use Rattle.grid_base.specs.Triples.{Triple, IsWithin};
+ghost use Rattle.grid_base.specs.declared.Extent.{Extent as Box};
+ghost use Rattle.grid_base.specs.declared.TheConstants.{HALF_MAX, EXTENT_MAX};
+ghost use Rattle.grid_base.specs.Extents.{IsIn};
+ghost use Rattle.mesh_base.specs.Mesh.{HasCorners};
+ghost use Rattle.mesh_base.specs.declared.ids.Corners.{Corners};
+ghost use Rattle.mesh_base.specs.Changes.{corners_of};
+ghost use Rattle.mesh_base.specs.Placements.{rest_positions_doubled};
+ghost use Rattle.mesh_journal.specs.Boxed.{IsBoxedAt, Holds, IsAround, HoldsCorners, AreBoxed};
+
+use cell_grid::Grid;
+use grid_base::{EXTENT_MAX, Extent, NoMemory, Point, Wide};
+use mesh_base::{FaceId, Surface, VertexId};
+use std::alloc::Global;
+
+/// Where a vertex stands, in half units; the origin, where it is not live.
+fn resting<B: Surface>(mesh: &B, v: VertexId) -> Wide
+    ensures value { result ≡ rest_positions_doubled (B.mesh mesh.now) v }
+    ensures within { IsWithin HALF_MAX result }
+{
+    match mesh.point(v) {
+        Some(p) => p.doubled(),
+        None => Point { x: 0, y: 0, z: 0 }.doubled(),
+    }
+}
+
+/// A box of three positions.
+fn around_three(p: Wide, q: Wide, r: Wide) -> Extent
+    requires p_fits { IsWithin HALF_MAX p }
+    requires q_fits { IsWithin HALF_MAX q }
+    requires r_fits { IsWithin HALF_MAX r }
+    ensures first { IsIn result p }
+    ensures second { IsIn result q }
+    ensures third { IsIn result r }
+{
+    Extent::around(p, q).united(&Extent::around(q, r))
+}
+
+/// A box of the corners of a face, in half units.
+pub(crate) fn box_of<B: Surface>(mesh: &B, c: [VertexId; 3]) -> Extent
+    ensures { IsAround result (B.mesh mesh.now) (corners_of c) }
+{
+    around_three(
+        resting(mesh, c[0]),
+        resting(mesh, c[1]),
+        resting(mesh, c[2]),
+    )
+}
+
+/// The boxes with that of a face set; None where memory is wanting.
+pub(crate) fn with_box(boxes: Option<Grid>, f: FaceId, around: Extent) -> Option<Grid>
+    ensures at { (p : Triple) → IsIn around p → Holds result f p }
+    ensures others { (q : ℕ) (p : Triple) → q ≢ f → Holds boxes q p → Holds result q p }
+{
+    match boxes {
+        Some(mut grid) => {
+            match grid.insert(u64::from(f.0), around) {
+                Ok(()) => Some(grid),
+                Err(_) => None,
+            }
+        }
+        None => None,
+    }
+}
+
+/// The box of a face, made wide enough for a position.
+fn wider_box(grid: &Grid, f: FaceId, p: Wide) -> Extent
+    requires { IsWithin HALF_MAX p }
+    ensures old { (e : Box) (q : Triple) → map.get grid.now f ≡ Some e → IsIn e q → IsIn result q }
+    ensures new { IsIn result p }
+{
+    let at = Extent::around(p, p);
+    match grid.get(u64::from(f.0)) {
+        Some(e) => e.united(&at),
+        None => at,
+    }
+}
+
+/// The boxes with that of a face made wide enough for a position; None where memory is wanting.
+pub(crate) fn with_wider(boxes: Option<Grid>, f: FaceId, p: Wide) -> Option<Grid>
+    requires { IsWithin HALF_MAX p }
+    ensures at { Holds result f p }
+    ensures keeps { (q : ℕ) (t : Triple) → Holds boxes q t → Holds result q t }
+{
+    let around = match &boxes {
+        Some(grid) => wider_box(grid, f, p),
+        None => return None,
+    };
+    with_box(boxes, f, around)
+}
+
+/// The boxes without that of a face.
+pub(crate) fn without_box(boxes: Option<Grid>, f: FaceId) -> Option<Grid>
+    ensures { (q : ℕ) (p : Triple) → q ≢ f → Holds boxes q p → Holds result q p }
+{
+    match boxes {
+        Some(mut grid) => {
+            let _ = grid.remove(u64::from(f.0));
+            Some(grid)
+        }
+        None => None,
+    }
+}

@@ -1,0 +1,153 @@
+//! An index of a mesh's faces by where they stand, which changes keep up.
+ghost use Rattle.std.specs.Prelude.{◌≡◌, ◌≢◌, ◌≤◌, ℕ, Some, None, All, IsTrue};
+ghost use Rattle.grid_base.specs.Triples.{Triple, IsWithin, times};
+ghost use Rattle.grid_base.specs.Points.{position_of};
+ghost use Rattle.grid_base.specs.declared.TheConstants.{HALF_MAX};
+ghost use Rattle.grid_base.specs.Extents.{IsIn};
+ghost use Rattle.mesh_base.specs.Sides.{faces_at};
+ghost use Rattle.mesh_journal.specs.Boxed.{Boxes, Holds, AreBoxed};
+
+use crate::boxes::{with_box, with_wider, without_box};
+use crate::building::boxes_of;
+use crate::entries::Entry;
+use cell_grid::Grid;
+use grid_base::{Extent, Point, Wide};
+use mesh_base::{FaceId, Surface, VertexId};
+use std::alloc::Global;
+
+/// Boxes of the faces by id, with a grid that finds those near a box. A box may be wider than its face, and may be of a
+/// face that lives no longer: what the grid finds is tested again.
+#[derive(Drop)]
+pub(crate) struct Index {
+    /// None: each question looks at every face.
+    pub grid: Option<Grid>,
+    /// The length of the journal when the grid was made.
+    pub since: usize,
+    /// How many boxes were widened since.
+    pub widened: u32,
+}
+
+impl Index {
+    /// No boxes.
+    pub(crate) fn none() -> Index
+        ensures grid { result.grid ≡ None }
+        ensures since { result.since ≡ 0 }
+    {
+        Index {
+            grid: None,
+            since: 0,
+            widened: 0,
+        }
+    }
+
+    /// The boxes of a mesh whose journal is so long; none where memory is wanting.
+    pub(crate) fn of<B: Surface>(alloc: Global, mesh: &B, len: usize) -> Index
+        ensures boxed { AreBoxed result.grid (B.mesh mesh.now) }
+        ensures since { result.since ≡ len }
+    {
+        Index {
+            grid: boxes_of(alloc, mesh),
+            since: len,
+            widened: 0,
+        }
+    }
+
+    /// Whether it is to be made anew: it has no boxes, or an eighth of the faces were widened.
+    pub(crate) fn is_worn(&self, faces: u32) -> bool {
+        self.grid.is_none() || self.widened > faces / 8
+    }
+
+    /// Sets the box of a face. Where memory is wanting, the boxes are given up.
+    pub(crate) fn set(&mut self, f: FaceId, around: Extent)
+        ensures at { (p : Triple) → IsIn around p → Holds self.new.grid f p }
+        ensures others { (q : ℕ) (p : Triple) → q ≢ f → Holds self.old.grid q p → Holds self.new.grid q p }
+        ensures since { self.new.since ≡ self.old.since }
+    {
+        self.grid = with_box(self.grid.take(), f, around);
+    }
+
+    /// Makes the box of a face wide enough for a position. Where memory is wanting, the boxes are given up.
+    fn widen(&mut self, f: FaceId, p: Wide)
+        requires { IsWithin HALF_MAX p }
+        ensures at { Holds self.new.grid f p }
+        ensures keeps { (q : ℕ) (t : Triple) → Holds self.old.grid q t → Holds self.new.grid q t }
+        ensures since { self.new.since ≡ self.old.since }
+    {
+        self.widened = self.widened.saturating_add(1);
+        self.grid = with_wider(self.grid.take(), f, p);
+    }
+
+    /// Makes the boxes of faces wide enough for a position.
+    fn widen_all(&mut self, faces: &[FaceId], p: Wide)
+        requires { IsWithin HALF_MAX p }
+        ensures at { All (λ f. Holds self.new.grid f p) faces.now }
+        ensures keeps { (q : ℕ) (t : Triple) → Holds self.old.grid q t → Holds self.new.grid q t }
+        ensures since { self.new.since ≡ self.old.since }
+    {
+        for f in faces {
+            self.widen(*f, p);
+        }
+    }
+
+    /// Makes the boxes of the faces at a vertex wide enough for a point. Where memory is wanting, and where many boxes
+    /// were widened, the boxes are given up: a step moves every vertex, and need not pay for boxes that are of no use.
+    pub(crate) fn widen_at<B: Surface>(&mut self, alloc: Global, mesh: &B, v: VertexId, p: Point)
+        ensures at { All (λ f. Holds self.new.grid f (times 2 (position_of p))) (faces_at (B.mesh mesh.now) v) }
+        ensures keeps { (q : ℕ) (t : Triple) → Holds self.old.grid q t → Holds self.new.grid q t }
+        ensures since { self.new.since ≡ self.old.since }
+    {
+        if self.grid.is_none() {
+            return;
+        }
+        if self.widened > mesh.faces() / 4 {
+            self.grid = None;
+            return;
+        }
+        let mut faces = Vec::new(alloc);
+        let Ok(()) = mesh.faces_at(v, &mut faces) else {
+            self.grid = None;
+            return;
+        };
+        self.widen_all(&faces, p.doubled());
+    }
+
+    /// Gives the boxes up, where the journal is shorter than when they were made.
+    pub(crate) fn cut(&mut self, len: usize)
+        ensures since { self.new.since ≤ len }
+        ensures grid { (b : Boxes) → self.new.grid ≡ Some b → (self.old.grid ≡ Some b) × (self.old.since ≤ self.new.since) }
+    {
+        if len < self.since {
+            *self = Index::none();
+        }
+    }
+
+    /// Takes out the box of a face that is not live.
+    fn drop_gone<B: Surface>(&mut self, mesh: &B, f: FaceId)
+        ensures { AreBoxed self.old.grid (B.mesh mesh.now) → AreBoxed self.new.grid (B.mesh mesh.now) }
+    {
+        if let Some(_) = mesh.corners(f) {
+            return;
+        }
+        self.grid = without_box(self.grid.take(), f);
+    }
+
+    /// Takes out the box of a face that the entry dropped and that is not live.
+    fn drop_dropped<B: Surface>(&mut self, mesh: &B, e: &Entry)
+        ensures { AreBoxed self.old.grid (B.mesh mesh.now) → AreBoxed self.new.grid (B.mesh mesh.now) }
+    {
+        if let Entry::FaceDropped(f) = e {
+            self.drop_gone(mesh, *f);
+        }
+    }
+
+    /// Takes out the boxes of faces that entries dropped and that are not live. The journal begins anew.
+    pub(crate) fn settle<B: Surface>(&mut self, mesh: &B, entries: &[Entry])
+        ensures boxed { AreBoxed self.old.grid (B.mesh mesh.now) → AreBoxed self.new.grid (B.mesh mesh.now) }
+        ensures since { self.new.since ≡ 0 }
+    {
+        for e in entries {
+            self.drop_dropped(mesh, e);
+        }
+        self.since = 0;
+    }
+}
