@@ -1,5 +1,5 @@
 -- Boxes that are apart keep an edge and a face apart.
-use Rattle.std.proofs.Common.{◌≡◌, ⊎_elim, inl, inr, ℕ, ◌∙◌, sym, refl, Bool, true, false, ◌&&◌, ℤ, pos, ◌+ℤ◌, ◌*ℤ◌, ◌≤ℤ◌, ◌<ℤ◌, neg_ℤ, arith, int_le, T, lit<}
+use Rattle.std.proofs.Common.{◌≡◌, ⊎_elim, inl, inr, ℕ, ◌∙◌, sym, refl, Bool, true, false, ◌&&◌, ℤ, pos, ◌+ℤ◌, ◌-ℤ◌, ◌*ℤ◌, ◌≤ℤ◌, ◌<ℤ◌, neg_ℤ, arith, int_le, T, lit<, [], ◌∷◌}
 use Rattle.std.proofs.lemmas.Int.{ints, by_lt_z}
 use Rattle.std.proofs.lemmas.Bool.{and_cases, false≢true}
 use Rattle.std.specs.List.{Any}
@@ -8,11 +8,14 @@ use Rattle.grid_base.specs.declared.Positions.{Positions}
 use Rattle.grid_base.specs.Extents.{IsIn, overlaps, meet_along}
 use Rattle.grid_base.specs.Meeting.{MeetAt}
 use Rattle.grid_base.specs.Separation.{IsBelow, IsAbove, KeepsApart, AreSeparated, Passes, directions}
-use Rattle.grid_base.specs.Triples.{Triple, dot, opposite}
+use Rattle.grid_base.specs.Triples.{Triple, minus, dot, opposite}
 use Rattle.pair_paths.specs.declared.moving.MovingEdge.{MovingEdge}
 use Rattle.pair_paths.specs.declared.moving.MovingFace.{MovingFace}
 use Rattle.pair_paths.specs.Bounds.{HoldsEdge, HoldsFace, HoldPositions}
+use Rattle.pair_paths.specs.Frames.{seen_from}
 use Rattle.pair_paths.specs.Pairing.{starts, ends}
+use Rattle.grid_base.proofs.Polynomials.{sub, same_polynomial}
+use Rattle.grid_base.proofs.TermTriples.{var3, minus_t, dot_t, components}
 use Rattle.grid_base.proofs.SeparationLaws.{AreSeparated-at_once, AreSeparated-never_meet, NeverMeet-at_start}
 
 true_of : (b : Bool) → T b → b ≡ true
@@ -93,19 +96,22 @@ minus_y x y z = omega (arith, ints)
 minus_z : (x y z : ℤ) → neg_ℤ (pos 0) *ℤ x +ℤ neg_ℤ (pos 0) *ℤ y +ℤ neg_ℤ (pos 1) *ℤ z ≡ neg_ℤ z
 minus_z x y z = omega (arith, ints)
 
--- the directions begin with the axes
-some_axis : (edge face : Extent) (s t : Positions) → HoldPositions edge face s → HoldPositions edge face t → overlaps face edge ≡ false → Any (KeepsApart s t) (directions s t)
-some_axis edge face s t h i off =
+-- the directions begin with the axes; u stands where t does, but for what keeps no direction from keeping apart
+some_axis_like : (edge face : Extent) (s u t : Positions) → ((n : Triple) → KeepsApart s u n → KeepsApart s t n) → HoldPositions edge face s → HoldPositions edge face u → overlaps face edge ≡ false → Any (KeepsApart s t) (directions s t)
+some_axis_like edge face s u t like h i off =
     let x = meet_along face.low.x face.high.x edge.low.x edge.high.x in
     let y = meet_along face.low.y face.high.y edge.low.y edge.high.y in
     let z = meet_along face.low.z face.high.z edge.low.z edge.high.z in
     ⊎_elim
     (λ xy. ⊎_elim
-    (λ off_x. (0, along_x, lit< tt, refl, keeps_apart along_x (λ p. p.x) (λ b. b.low.x) (λ b. b.high.x) (λ p. read_x p.x p.y p.z) (λ p. minus_x p.x p.y p.z) (λ b p k. k.x_low) (λ b p k. k.x_high) edge face s t h i off_x))
-    (λ off_y. (1, along_y, lit< tt, refl, keeps_apart along_y (λ p. p.y) (λ b. b.low.y) (λ b. b.high.y) (λ p. read_y p.x p.y p.z) (λ p. minus_y p.x p.y p.z) (λ b p k. k.y_low) (λ b p k. k.y_high) edge face s t h i off_y))
+    (λ off_x. (0, along_x, lit< tt, refl, like along_x (keeps_apart along_x (λ p. p.x) (λ b. b.low.x) (λ b. b.high.x) (λ p. read_x p.x p.y p.z) (λ p. minus_x p.x p.y p.z) (λ b p k. k.x_low) (λ b p k. k.x_high) edge face s u h i off_x)))
+    (λ off_y. (1, along_y, lit< tt, refl, like along_y (keeps_apart along_y (λ p. p.y) (λ b. b.low.y) (λ b. b.high.y) (λ p. read_y p.x p.y p.z) (λ p. minus_y p.x p.y p.z) (λ b p k. k.y_low) (λ b p k. k.y_high) edge face s u h i off_y)))
     (and_cases x y xy))
-    (λ off_z. (2, along_z, lit< tt, refl, keeps_apart along_z (λ p. p.z) (λ b. b.low.z) (λ b. b.high.z) (λ p. read_z p.x p.y p.z) (λ p. minus_z p.x p.y p.z) (λ b p k. k.z_low) (λ b p k. k.z_high) edge face s t h i off_z))
+    (λ off_z. (2, along_z, lit< tt, refl, like along_z (keeps_apart along_z (λ p. p.z) (λ b. b.low.z) (λ b. b.high.z) (λ p. read_z p.x p.y p.z) (λ p. minus_z p.x p.y p.z) (λ b p k. k.z_low) (λ b p k. k.z_high) edge face s u h i off_z)))
     (and_cases (x && y) z off)
+
+some_axis : (edge face : Extent) (s t : Positions) → HoldPositions edge face s → HoldPositions edge face t → overlaps face edge ≡ false → Any (KeepsApart s t) (directions s t)
+some_axis edge face s t h i off = some_axis_like edge face s t t (λ n k. k) h i off
 
 -- Boxes with no common point keep what they hold at the start and at the end separated, to any depth.
 pub separated : (depth : ℕ) (edge face : Extent) (s t : Positions) → HoldPositions edge face s → HoldPositions edge face t → overlaps face edge ≡ false → AreSeparated depth s t
@@ -125,3 +131,33 @@ starts_held e f edge face E F = record { a = E.first.start; b = E.second.start; 
 
 pub ends_held : (e : MovingEdge) (f : MovingFace) (edge face : Extent) → HoldsEdge e edge → HoldsFace f face → HoldPositions edge face (ends e f)
 ends_held e f edge face E F = record { a = E.first.end; b = E.second.end; c = F.c.end; d = F.d.end; e = F.e.end }
+
+-- ---- as a position sees them at the end
+-- a translation changes no order along a direction
+seen_along : (n p o : Triple) → dot n (minus p o) ≡ dot n p -ℤ dot n o
+seen_along n p o =
+    let n' = var3 0 in let p' = var3 3 in let o' = var3 6 in
+    same_polynomial (components (n ∷ p ∷ o ∷ [])) (dot_t n' (minus_t p' o')) (sub (dot_t n' p') (dot_t n' o')) refl
+
+unseen : (n p q o : Triple) → dot n (minus p o) <ℤ dot n (minus q o) → dot n p <ℤ dot n q
+unseen n p q o h = back (dot n p) (dot n q) (dot n o) (rw (sym (seen_along n p o), sym (seen_along n q o)) h)
+  where
+    back : (a b c : ℤ) → (a -ℤ c) <ℤ (b -ℤ c) → a <ℤ b
+    back a b c h = omega (arith, ints)
+
+below_unseen : (n o : Triple) (f : Positions) → IsBelow n (seen_from o f) → IsBelow n f
+below_unseen n o f h = record {
+  ac = unseen n f.a f.c o h.ac;
+  ad = unseen n f.a f.d o h.ad;
+  ae = unseen n f.a f.e o h.ae;
+  bc = unseen n f.b f.c o h.bc;
+  bd = unseen n f.b f.d o h.bd;
+  be = unseen n f.b f.e o h.be;
+}
+
+keeps_apart_unseen : (o : Triple) (s t : Positions) (n : Triple) → KeepsApart s (seen_from o t) n → KeepsApart s t n
+keeps_apart_unseen o s t n h = ⊎_elim (λ k. inl (k.0, below_unseen n o t k.1)) (λ k. inr (k.0, below_unseen (opposite n) o t k.1)) h
+
+-- Boxes with no common point, one position seeing what they hold at the end, keep it separated to any depth; so it passes.
+pub passes_apart_seen : (depth : ℕ) (edge face : Extent) (o : Triple) (s t : Positions) → HoldPositions edge face s → HoldPositions edge face (seen_from o t) → overlaps face edge ≡ false → Passes depth s t
+passes_apart_seen depth edge face o s t h i off = inl (AreSeparated-at_once depth s t (some_axis_like edge face s (seen_from o t) t (keeps_apart_unseen o s t) h i off))

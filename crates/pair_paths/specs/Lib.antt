@@ -2,3 +2,4 @@ pub mod Paths
 pub mod Moving
 pub mod Bounds
 pub mod Pairing
+pub mod Frames

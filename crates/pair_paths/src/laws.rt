@@ -6,9 +6,11 @@ ghost use Rattle.grid_base.specs.declared.Positions.{Positions};
 ghost use Rattle.grid_base.specs.Extents.{overlaps};
 ghost use Rattle.grid_base.specs.Meeting.{MeetAt};
 ghost use Rattle.grid_base.specs.Separation.{Passes};
+ghost use Rattle.grid_base.specs.Triples.{Triple};
 ghost use Rattle.mesh_base.specs.declared.Corners.{Corners};
 ghost use Rattle.mesh_base.specs.Placements.{Motion, positions};
 ghost use Rattle.pair_paths.specs.Bounds.{HoldPositions};
+ghost use Rattle.pair_paths.specs.Frames.{seen_from};
 ghost use Rattle.pair_paths.specs.Moving.{moving_edge, moving_face};
 ghost use Rattle.pair_paths.specs.Pairing.{pair_with, starts, ends};
 
@@ -24,4 +26,10 @@ pub fn pairs_go_as_the_motion_says()
 pub fn boxes_apart_keep_apart()
     ensures apart { (edge face : Extent) (f : Positions) → HoldPositions edge face f → overlaps face edge ≡ false → ¬ (MeetAt f) }
     ensures passes { (depth : ℕ) (edge face : Extent) (s t : Positions) → HoldPositions edge face s → HoldPositions edge face t → overlaps face edge ≡ false → Passes depth s t }
+{}
+
+/// The same in a frame that moves: an edge and a face pass the written test to each depth where boxes with no common point
+/// have them at the start, and have them at the end as one position sees them there.
+pub fn boxes_apart_in_a_frame_keep_apart()
+    ensures { (depth : ℕ) (edge face : Extent) (o : Triple) (s t : Positions) → HoldPositions edge face s → HoldPositions edge face (seen_from o t) → overlaps face edge ≡ false → Passes depth s t }
 {}

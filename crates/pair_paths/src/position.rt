@@ -1,7 +1,7 @@
 //! Positions, kept in 32 bits a coordinate.
-ghost use Rattle.std.specs.Prelude.{◌≡◌};
-ghost use Rattle.grid_base.specs.declared.TheConstants.{HALF_MAX};
-ghost use Rattle.grid_base.specs.Triples.{IsWithin};
+ghost use Rattle.std.specs.Prelude.{◌≡◌, ◌≤◌, ◌-ℤ◌, unsigned_abs};
+ghost use Rattle.grid_base.specs.declared.TheConstants.{EXTENT_MAX, HALF_MAX};
+ghost use Rattle.grid_base.specs.Triples.{IsWithin, minus};
 
 use grid_base::{HALF_MAX, Wide};
 use std::marker::Model;
@@ -53,4 +53,26 @@ impl Position {
             z: i128::from(self.z),
         }
     }
+
+    /// The three whole numbers, less those of another position.
+    pub fn seen_from(self, o: Position) -> Wide
+        ensures value { result ≡ minus self o }
+        ensures within { IsWithin EXTENT_MAX result }
+    {
+        Wide {
+            x: i128::from(difference(self.x, o.x)),
+            y: i128::from(difference(self.y, o.y)),
+            z: i128::from(difference(self.z, o.z)),
+        }
+    }
+}
+
+// The difference of two positions' components.
+fn difference(a: i32, b: i32) -> i64
+    requires a_fits { unsigned_abs a ≤ HALF_MAX }
+    requires b_fits { unsigned_abs b ≤ HALF_MAX }
+    ensures value { result ≡ a -ℤ b }
+    ensures within { unsigned_abs result ≤ EXTENT_MAX }
+{
+    i64::from(a) - i64::from(b)
 }

@@ -24,10 +24,11 @@ use Rattle.mesh_base.proofs.ListedPairs.{pair_listed}
 use Rattle.mesh_base.proofs.Tests.{both_ways}
 use Rattle.pair_paths.specs.declared.MovingEdge.{MovingEdge}
 use Rattle.pair_paths.specs.declared.MovingFace.{MovingFace}
-use Rattle.pair_paths.specs.Bounds.{HoldsEdge, HoldsFace}
+use Rattle.pair_paths.specs.declared.Frame.{Frame}
+use Rattle.pair_paths.specs.Frames.{edge_in, face_in, HoldsEdgeIn, HoldsFaceIn}
 use Rattle.pair_paths.specs.Moving.{moving_edge, moving_face, moving_faces}
 use Rattle.pair_paths.specs.Pairing.{have_a_vertex_in_common, name_with, starts, ends}
-use Rattle.pair_paths.proofs.Apart.{passes_apart, starts_held, ends_held}
+use Rattle.pair_paths.proofs.Apart.{passes_apart_seen, starts_held, ends_held}
 use Rattle.pair_scan.specs.Failed.{failed, failing_of, failing_among}
 use Rattle.pair_scan.specs.Scan.{one_or_none}
 use Rattle.pair_scan.proofs.Kept.{kept_by_list, kept_of_taken, nothing_kept}
@@ -37,11 +38,13 @@ use Rattle.pair_scan.proofs.Scans.{and_false}
 pub is_passes : (b : Bool) (depth : ℕ) (s t : Positions) → (IsTrue b ↔ Passes depth s t) → b ≡ passes meets_exactly depth s t
 is_passes b depth s t h = both_ways b (passes meets_exactly depth s t) (λ e. of_passes meets_exactly meets_exactly-is_exact depth s t (h.0 e)) (λ e. h.1 (passes_of meets_exactly meets_exactly-is_exact depth s t e))
 
--- ---- a pair whose boxes are apart passes
-pub passed_apart : (depth : ℕ) (e : MovingEdge) (f : MovingFace) (its edge : Extent) → HoldsEdge e edge → HoldsFace f its → overlaps its edge ≡ false → failed depth e (Some f) ≡ []
-passed_apart depth e f its edge E F off =
+-- ---- a pair whose boxes in a frame are apart passes
+pub passed_apart : (depth : ℕ) (frame : Frame) (e : MovingEdge) (f : MovingFace) (its edge : Extent) → HoldsEdgeIn frame e edge → HoldsFaceIn frame f its → overlaps its edge ≡ false → failed depth e (Some f) ≡ []
+passed_apart depth frame e f its edge E F off =
+    let edge_seen = edge_in frame e in
+    let face_seen = face_in frame f in
     let pass = of_passes meets_exactly meets_exactly-is_exact depth (starts e f) (ends e f)
-    (passes_apart depth edge its (starts e f) (ends e f) (starts_held e f edge its E F) (ends_held e f edge its E F) off) in
+    (passes_apart_seen depth edge its frame.end (starts e f) (ends e f) (starts_held edge_seen face_seen edge its E F) (ends_held edge_seen face_seen edge its E F) off) in
     nothing (not (have_a_vertex_in_common e f)) (passes meets_exactly depth (starts e f) (ends e f)) pass
   where
     nothing : (other passed : Bool) → passed ≡ true → one_or_none (cond (other && not passed) (Some (name_with e f)) None) ≡ []

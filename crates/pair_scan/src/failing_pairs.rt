@@ -5,17 +5,19 @@ ghost use Rattle.grid_decided.specs.Decided.{meets_exactly};
 ghost use Rattle.mesh_base.specs.Placements.{IsClearAlong};
 ghost use Rattle.mesh_base.specs.Shifts.{NameLive, end_in_box, moved_by};
 ghost use Rattle.mesh_base.specs.Failing.{failing};
-ghost use Rattle.pair_paths.specs.Bounds.{AreBoxes, HoldsFace};
+ghost use Rattle.pair_paths.specs.Bounds.{AreBoxes};
+ghost use Rattle.pair_paths.specs.Frames.{HoldsFaceIn};
 ghost use Rattle.pair_scan.specs.Failed.{fails_with, failed_with, failing_at, failing_among, AreFailing};
 
+use crate::frames::common_frame;
 use crate::motions::Shifted;
 use box_tree::BoxTree;
 use grid_base::{DEPTH_MAX, Items, NoMemory};
 use mesh_base::{PairName, Shifts, Surface, edges_in_order};
 use motion_test::passes;
 use pair_paths::{
-    HasBounds, KnownPaths, MovingEdge, MovingFace, moving_edge, moving_faces, name_of, pair_of,
-    paths_of, share_a_vertex, tree_of,
+    Frame, HasBoundsIn, KnownPaths, MovingEdge, MovingFace, moving_edge, moving_faces, name_of,
+    pair_of, paths_of, share_a_vertex, tree_in,
 };
 use std::alloc::Global;
 
@@ -75,21 +77,22 @@ fn put_failing(
     Ok(())
 }
 
-/// Puts the pairs of an edge that do not pass at the end. Sets `near` to the numbers of the faces whose boxes meet the
-/// edge's.
+/// Puts the pairs of an edge that do not pass at the end. Sets `near` to the numbers of the faces whose boxes in the frame
+/// meet the edge's.
 fn put_failing_of_edge(
     e: &MovingEdge,
     faces: &[MovingFace],
+    frame: &Frame,
     boxes: &BoxTree,
     depth: u8,
     near: &mut Vec<u64>,
     found: &mut Pairs,
 ) -> Result<(), NoMemory>
     requires depth_fits { depth ≤ DEPTH_MAX }
-    requires boxes { AreBoxes HoldsFace faces.now boxes.now }
+    requires boxes { AreBoxes (HoldsFaceIn frame.now) faces.now boxes.now }
     ensures { OnOk result (found.new ≡ found.old ++ failing_among depth e.now faces.now) }
 {
-    boxes.overlapping(e.bounds(), near)?;
+    boxes.overlapping(e.bounds_in(frame), near)?;
     put_failing(e, faces, depth, near, found)
 }
 
@@ -97,7 +100,8 @@ fn put_failing_of_edge(
 /// face: those that are not separated to the depth and do not move as one while they are apart. Where there is none, no
 /// pair meets at any fraction of the way. The shifts name the live vertices, by rising id, and end in the box. Refuses only
 /// where there is no memory. A tree of boxes, each around the start and the end, leaves out the pairs that are far apart
-/// (a broad phase, as in El Topo, Brochu and Bridson 2009).
+/// (a broad phase, as in El Topo, Brochu and Bridson 2009). The boxes are taken in a frame that goes as most vertices do,
+/// so that a body that moves as a whole has small ones, however far it goes.
 pub fn failing<S: Surface>(
     alloc: Global,
     mesh: &S,
@@ -123,13 +127,22 @@ pub fn failing<S: Surface>(
         known: known.as_slice(),
     };
     let faces = moving_faces(alloc, mesh, &paths)?;
-    let boxes = tree_of(alloc, faces.as_slice())?;
+    let frame = common_frame(alloc, shifted.by)?;
+    let boxes = tree_in(alloc, faces.as_slice(), &frame)?;
     let mut near = Vec::new(alloc);
     let mut found = Pairs::new(alloc);
     let edges = edges_in_order(alloc, mesh)?;
     for (a, b) in edges.as_slice() {
         let e = moving_edge(&paths, *a, *b);
-        put_failing_of_edge(&e, faces.as_slice(), &boxes, depth, &mut near, &mut found)?;
+        put_failing_of_edge(
+            &e,
+            faces.as_slice(),
+            &frame,
+            &boxes,
+            depth,
+            &mut near,
+            &mut found,
+        )?;
     }
     Ok(found)
 }

@@ -3,6 +3,7 @@
 
 mod ends;
 mod failing_pairs;
+mod frames;
 mod lookup;
 mod meeting;
 mod motions;

@@ -1,7 +1,7 @@
 use Rattle.std.proofs.Common.{◌≡◌, subst, refl, ◌++◌, ◌∙◌}
 use Rattle.std.specs.Prelude.{OnOk}
 use Rattle.pair_scan.specs.Failed.{failed}
-use Rattle.pair_paths.specs.Bounds.{HoldsFace}
+use Rattle.pair_paths.specs.Frames.{HoldsFaceIn}
 use Rattle.pair_paths.proofs.Near.{near_make_all}
 use Rattle.pair_scan.proofs.Fails.{passed_apart}
 use Rattle.pair_scan.proofs.failing_pairs.put_failing_of_edge.Goals as goal
@@ -9,7 +9,7 @@ use Rattle.pair_scan.proofs.failing_pairs.put_failing_of_edge.Goals as goal
 pub returns : goal.returns
 returns c =
     let e = c.args.e.now in
-    let all = near_make_all HoldsFace (failed c.args.depth e) c.args.faces.now c.args.boxes.now c.bounds.result c.requires.boxes refl
-    (λ f box held off. passed_apart c.args.depth e f box c.bounds.result c.bounds.ensures held off)
+    let all = near_make_all (HoldsFaceIn c.args.frame.now) (failed c.args.depth e) c.args.faces.now c.args.boxes.now c.bounds_in.result c.requires.boxes refl
+    (λ f box held off. passed_apart c.args.depth c.args.frame.now e f box c.bounds_in.result c.bounds_in.ensures held off)
     c.deref.result.now (c.deref.ensures.value ∙ c.in_ok-overlapping.ensures.ok) in
     subst (λ zs. OnOk c.put_failing.result (c.put_failing.new.found ≡ (c.args.found.now ++ zs))) all c.put_failing.ensures
