@@ -185,7 +185,8 @@ impl<B: Undoable> Surface for Journal<B> {
         }
     }
 
-    /// Puts boxes of the faces into a grid, where there is none or many of its boxes were widened.
+    /// Puts boxes of the faces into a grid, where there is none or many of its boxes were widened. A return to a mark that
+    /// was made before gives the boxes up again.
     fn index(&mut self)
         ensures mesh { mesh_in self.new ≡ mesh_in self.old }
         ensures kept { kept_in self.new ≡ kept_in self.old }

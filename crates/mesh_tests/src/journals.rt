@@ -64,7 +64,7 @@ fn tell<S: Surface>(alloc: Global, mesh: &S, seen: &mut Vec<i64>) -> Result<(), 
     seen.push(mesh.vertices() as i64)?;
     seen.push(mesh.faces() as i64)?;
     let mut at = Vec::new(alloc);
-    let mut last = Point { x: 0, y: 0, z: 0 };
+    let mut last = None;
     let vertices = live_vertices(alloc, mesh)?;
     for v in vertices.as_slice() {
         seen.push(v.0 as i64)?;
@@ -74,8 +74,8 @@ fn tell<S: Surface>(alloc: Global, mesh: &S, seen: &mut Vec<i64>) -> Result<(), 
             seen.push(p.y as i64)?;
             seen.push(p.z as i64)?;
             tell_near(mesh, p, p, &mut at, seen)?;
-            tell_near(mesh, p, last, &mut at, seen)?;
-            last = p;
+            tell_near(mesh, p, last.unwrap_or(p), &mut at, seen)?;
+            last = Some(p);
         }
         mesh.faces_at(*v, &mut at)?;
         for f in at.as_slice() {
