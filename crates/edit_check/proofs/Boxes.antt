@@ -1,14 +1,14 @@
 -- What is in boxes that are apart does as required.
-use Rattle.std.proofs.Common.{◌≡◌, ◌↔◌, ℕ, zero, suc, ◌<◌, ◌≤◌, ◌+◌, Bool, true, false, cond, ◌&&◌, ◌||◌, not, ℤ, ◌<ℤ◌, ◌≤ℤ◌, List, [], ◌∷◌, ◌++◌, map, length, get_or, drop, Some, None, ⊎_elim, inl, inr, refl, sym, ap, ◌∙◌, append_assoc, append-nil, arith}
+use Rattle.std.proofs.Common.{◌≡◌, ℕ, zero, suc, ◌<◌, ◌≤◌, ◌+◌, Bool, true, false, cond, ◌&&◌, ◌||◌, not, ℤ, ◌<ℤ◌, ◌≤ℤ◌, List, [], ◌∷◌, ◌++◌, length, get_or, drop, ⊎_elim, inl, inr, refl, sym, ap, ◌∙◌, append_assoc, append-nil, arith}
 use Rattle.std.proofs.lemmas.Int.{ints}
 use Rattle.std.proofs.lemmas.List.{map-append}
-use Rattle.std.specs.List.{Any, find, list_any}
+use Rattle.std.specs.List.{Any, find}
 use Rattle.std.specs.Option.{option_map}
 use Rattle.grid_base.specs.declared.Extent.{Extent}
 use Rattle.grid_base.specs.declared.Positions.{Positions}
 use Rattle.grid_base.specs.Extents.{overlaps}
 use Rattle.grid_base.specs.Separation.{IsBelow, IsWeaklyBelow, KeepsApart, TakesApart, AreSeparated, Opens, directions, double, middle}
-use Rattle.grid_base.specs.SeparationTests.{passes, opens, closes}
+use Rattle.grid_base.specs.SeparationTests.{passes}
 use Rattle.grid_base.specs.Triples.{Triple}
 use Rattle.grid_base.proofs.Reflected.{of_passes, of_opens}
 use Rattle.grid_decided.specs.Decided.{meets_exactly, meets_exactly-is_exact}
@@ -24,7 +24,7 @@ use Rattle.pair_paths.proofs.Walks.{rest_at, ended}
 use Rattle.pair_scan.proofs.Lists.{find-map, option_map-option_map}
 use Rattle.mesh_base.specs.Sides.{has_corner}
 use Rattle.edit_check.specs.declared.boxed.BoxedFace.{BoxedFace}
-use Rattle.edit_check.specs.Failing.{fails, first_failing_among, is_side_of_some, do_as_required}
+use Rattle.edit_check.specs.Failing.{fails, first_failing_among, is_side_of_some}
 use Rattle.edit_check.specs.Boxed.{faces_in, first_failing_boxed, is_side_of_boxed}
 
 -- ---- what is separated opens

@@ -1,6 +1,6 @@
 -- The sides of some faces, as a set in order, are the edges that are sides of these faces.
-use Rattle.std.proofs.Common.{◌≡◌, ℕ, ◌<◌, ◌&&◌, Bool, true, false, cond, List, [], ◌∷◌, Option, Some, None, nat_lt, ⊎_elim, refl, sym, ap, subst, ◌∙◌, arith}
-use Rattle.std.specs.List.{filter, list_any, Contains, AllByRecursion}
+use Rattle.std.proofs.Common.{◌≡◌, ℕ, ◌<◌, ◌&&◌, Bool, true, List, [], ◌∷◌, Option, Some, None, nat_lt, ⊎_elim, refl, sym, ◌∙◌, arith}
+use Rattle.std.specs.List.{filter, Contains, AllByRecursion}
 use Rattle.std.specs.List.Sorted.{IsStrictlySortedBy}
 use Rattle.std.specs.BTreeSet.{BTreeSet}
 use Rattle.std.specs.Ordering.{nat_cmp}
@@ -12,10 +12,10 @@ use Rattle.std.proofs.lemmas.Bool.Decides.{nat_tests}
 use Rattle.std.proofs.lemmas.List.Kept.{IsStrictlySortedBy-filter}
 use Rattle.std.proofs.lemmas.List.Elements.{recursion_from_All, All-from_recursion, All-contains, All-contains_itself}
 use Rattle.mesh_base.specs.declared.ids.Corners.{Corners}
-use Rattle.mesh_base.specs.Mesh.{Mesh, IsSound, HasCorners}
+use Rattle.mesh_base.specs.Mesh.{Mesh, IsSound}
 use Rattle.mesh_base.specs.Sides.{follows, IsEdge}
 use Rattle.mesh_base.specs.Pairs.{edges}
-use Rattle.mesh_base.specs.SideSet.{edge_cmp, has_side, are_neighbours, neighbours_in, neighbours_at, neighbours_in_any, HasSides}
+use Rattle.mesh_base.specs.SideSet.{edge_cmp, has_side, neighbours_in, neighbours_at, neighbours_in_any, HasSides}
 use Rattle.mesh_base.proofs.Tests.{and_first, and_second, and_both, or_either, both_ways}
 use Rattle.mesh_base.proofs.InOrder.{edges_sorted, edge_total}
 use Rattle.mesh_base.proofs.EdgesInOrder.{one_runs}

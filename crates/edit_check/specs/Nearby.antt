@@ -1,7 +1,6 @@
 -- The faces of a list of ids, and the edges that are sides of them.
 use Rattle.std.specs.Prelude.{ℕ, List, [], ◌∷◌}
 use Rattle.std.specs.List.{flat_map, filter}
-use Rattle.std.specs.FinMap as finite
 use Rattle.std.proofs.Common.{Option, Some, None}
 use Rattle.mesh_base.specs.Mesh.{Mesh}
 use Rattle.mesh_base.specs.Pairs.{edges}

@@ -66,8 +66,9 @@ fn first_of_edge<S: Surface>(
 /// but at the start, or the end, where two may touch there.
 ///
 /// Faces from the id `fresh_from` on are new. Pairs of an old edge and an old face, of which no vertex moves, need not be
-/// tested: they are not to meet where they stand. Refuses only where there is no memory. After the test of edits in El Topo
-/// (Brochu and Bridson 2009).
+/// tested: they are not to meet where they stand. What is looked at are the faces near a box around what is new, moves or
+/// may touch, as the mesh finds them, and their sides. Refuses only where there is no memory. After the test of edits in
+/// El Topo (Brochu and Bridson 2009).
 pub fn check<S: Surface>(
     alloc: Global,
     mesh: &S,

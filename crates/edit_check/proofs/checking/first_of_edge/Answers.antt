@@ -1,7 +1,6 @@
 use Rattle.std.proofs.Common.{◌≡◌, true, false, sym, ap, ◌∙◌}
 use Rattle.std.specs.List.{filter}
 use Rattle.edit_base.specs.Scaffold.{motion_by}
-use Rattle.pair_paths.specs.declared.moving.MovingFace.{MovingFace}
 use Rattle.pair_paths.specs.Moving.{moving_edge, moving_faces}
 use Rattle.edit_check.specs.Failing.{first_failing_among, is_side_of_some}
 use Rattle.edit_check.specs.Touched.{is_touched}
