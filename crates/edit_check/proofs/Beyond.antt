@@ -1,11 +1,10 @@
 -- What is nearby is enough: an edge and a face of which one is out of reach do as required.
-use Rattle.std.proofs.Common.{◌≡◌, ℕ, ◌+◌, ◌<◌, Bool, true, false, cond, ◌&&◌, ◌||◌, ◌==◌, not, nat_lt, List, [], ◌∷◌, ◌++◌, map, Option, Some, None, is_some, ◌⊎◌, ⊎_elim, inl, inr, refl, sym, ap, subst, ◌∙◌, arith}
+use Rattle.std.proofs.Common.{◌≡◌, ℕ, ◌<◌, Bool, true, false, cond, ◌&&◌, ◌||◌, ◌==◌, not, List, [], ◌∷◌, ◌++◌, map, Option, Some, None, is_some, ⊎_elim, inl, inr, refl, sym, ap, subst, ◌∙◌, arith}
 use Rattle.std.specs.List.{filter, find, list_any, flat_map, AllByRecursion}
-use Rattle.std.specs.Option.{option_map, option_or}
+use Rattle.std.specs.Option.{option_map}
 use Rattle.std.specs.FinMap as finite
 use Rattle.std.proofs.lemmas.Bool.{false≢true, or_cases, eqb-true}
 use Rattle.std.proofs.lemmas.Bool.Decides.{nat_tests}
-use Rattle.std.proofs.lemmas.List.Folds.{find-append}
 use Rattle.grid_base.specs.declared.Extent.{Extent}
 use Rattle.grid_base.specs.declared.Positions.{Positions}
 use Rattle.grid_base.specs.Triples.{Triple}
@@ -15,12 +14,12 @@ use Rattle.grid_base.proofs.Reflected.{of_passes}
 use Rattle.grid_decided.specs.Decided.{meets_exactly, meets_exactly-is_exact}
 use Rattle.mesh_base.specs.declared.ids.Corners.{Corners}
 use Rattle.mesh_base.specs.Mesh.{Mesh, HasCorners}
-use Rattle.mesh_base.specs.Sides.{follows, has_corner, IsEdge}
-use Rattle.mesh_base.specs.Pairs.{Pair, pairs_of}
-use Rattle.mesh_base.specs.SideSet.{are_neighbours, neighbours_in, neighbours_at, neighbours_in_any}
+use Rattle.mesh_base.specs.Sides.{has_corner, IsEdge}
+use Rattle.mesh_base.specs.Pairs.{pairs_of}
+use Rattle.mesh_base.specs.SideList.{are_neighbours, neighbours_in, neighbours_at, neighbours_in_any}
 use Rattle.mesh_base.specs.Near.{is_near, is_some_near}
 use Rattle.mesh_base.specs.Placements.{Motion, rest_positions_doubled}
-use Rattle.mesh_base.proofs.Listed.{at_live, all_map}
+use Rattle.mesh_base.proofs.Listed.{at_live}
 use Rattle.mesh_base.proofs.ListedPairs.{all_mapped, all_weaker, all_filtered}
 use Rattle.edit_base.specs.declared.Move.{Move}
 use Rattle.edit_base.specs.declared.Touch.{Touch}
@@ -35,7 +34,7 @@ use Rattle.edit_check.specs.Untouched.{IsClearWhereUntouched}
 use Rattle.edit_check.specs.Touched.{is_touched}
 use Rattle.edit_check.specs.Failing.{fails, first_failing_among, is_side_of_some}
 use Rattle.edit_check.specs.Checking.{scaffold_by, first_of}
-use Rattle.edit_check.specs.Reach.{HasFace, HasFaceIn, ReachesTouched, is_face_in_reach, faces_in_reach}
+use Rattle.edit_check.specs.Reach.{HasFaceIn, ReachesTouched, is_face_in_reach, faces_in_reach}
 use Rattle.edit_check.specs.Nearby.{as_list, faces_among}
 use Rattle.edit_check.proofs.Far.{IsOneOf, face_separated, edge_separated, held_is_near}
 use Rattle.edit_check.proofs.Still.{find-filter}

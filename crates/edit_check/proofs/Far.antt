@@ -2,11 +2,9 @@
 use Rattle.std.proofs.Common.{◌≡◌, ℕ, ◌∙◌, sym, refl, subst, Bool, true, false, ◌&&◌, ◌||◌, ℤ, pos, ◌+ℤ◌, ◌*ℤ◌, ◌≤ℤ◌, ◌<ℤ◌, neg_ℤ, ◌⊎◌, ⊎_elim, inl, inr, arith, int_le, T, lit<}
 use Rattle.std.proofs.lemmas.Int.{ints, by_lt_z}
 use Rattle.std.proofs.lemmas.Bool.{and_cases, false≢true}
-use Rattle.std.specs.List.{Any}
 use Rattle.grid_base.specs.declared.Extent.{Extent}
-use Rattle.grid_base.specs.declared.Positions.{Positions}
 use Rattle.grid_base.specs.Extents.{IsIn}
-use Rattle.grid_base.specs.Separation.{IsBelow, IsAbove, KeepsApart, AreSeparated, directions}
+use Rattle.grid_base.specs.Separation.{IsBelow, IsAbove, KeepsApart, AreSeparated}
 use Rattle.grid_base.specs.Triples.{Triple, dot, opposite}
 use Rattle.grid_base.proofs.SeparationLaws.{AreSeparated-at_once}
 use Rattle.mesh_base.specs.Near.{one_at_most, one_at_least, reach_along, box_meets}

@@ -5,8 +5,8 @@ use Rattle.std.specs.Option.{option_map, option_or}
 use Rattle.std.proofs.lemmas.List.Folds.{find-append}
 use Rattle.std.proofs.lemmas.List.Elements.{All-get_or, All-weaker, All-contains_itself, recursion_from_All}
 use Rattle.mesh_base.specs.Mesh.{Mesh, IsSound}
-use Rattle.mesh_base.specs.Pairs.{Pair, edges, pairs_of}
-use Rattle.mesh_base.specs.SideSet.{neighbours_in_any}
+use Rattle.mesh_base.specs.Pairs.{edges, pairs_of}
+use Rattle.mesh_base.specs.SideList.{neighbours_in_any}
 use Rattle.mesh_base.proofs.ListedPairs.{edge_listed, all_weaker}
 use Rattle.edit_base.specs.Scaffold.{Scaffold, is_as_required}
 use Rattle.edit_base.proofs.ListedEdges.{IsOrderedEdge}

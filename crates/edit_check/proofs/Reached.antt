@@ -1,6 +1,6 @@
 -- A box that is widened has what it had.
-use Rattle.std.proofs.Common.{◌≡◌, ℕ, ◌≤◌, ◌-◌, ◌==◌, ◌||◌, Bool, true, false, cond, List, [], ◌∷◌, Option, Some, None, is_some, nat_le, nat_lt, ⊎_elim, refl, sym, ap, subst, ◌∙◌, arith}
-use Rattle.std.specs.List.{All, list_any, find, filter, AllByRecursion}
+use Rattle.std.proofs.Common.{◌≡◌, ℕ, ◌≤◌, ◌-◌, ◌==◌, ◌||◌, Bool, true, false, cond, List, [], ◌∷◌, Option, Some, None, is_some, nat_le, nat_lt, ⊎_elim, refl, ap, subst, arith}
+use Rattle.std.specs.List.{All, list_any, filter, AllByRecursion}
 use Rattle.std.specs.FinMap as finite
 use Rattle.std.proofs.lemmas.Bool.{false≢true, or_cases, eqb-true}
 use Rattle.std.proofs.lemmas.Bool.Decides.{nat_tests}
@@ -18,7 +18,7 @@ use Rattle.pair_paths.specs.declared.path.Path.{Path}
 use Rattle.pair_paths.specs.declared.moving.MovingFace.{MovingFace}
 use Rattle.pair_paths.specs.Moving.{moving_face}
 use Rattle.pair_paths.specs.Bounds.{HoldsPath, HoldsFace}
-use Rattle.edit_check.specs.Touched.{is_moved, is_touched}
+use Rattle.edit_check.specs.Touched.{is_moved}
 use Rattle.edit_check.specs.Reach.{HasFace, HasFaceIn, Reaches, ReachesAt, ReachesMoves, ReachesTouched, Widens, faces_in_reach}
 
 -- ---- wider boxes

@@ -1,6 +1,6 @@
--- The sides of some faces, as a set in order, are the edges that are sides of these faces.
-use Rattle.std.proofs.Common.{◌≡◌, ℕ, ◌<◌, ◌&&◌, Bool, true, false, cond, List, [], ◌∷◌, Option, Some, None, nat_lt, ⊎_elim, refl, sym, ap, subst, ◌∙◌, arith}
-use Rattle.std.specs.List.{filter, list_any, Contains, AllByRecursion}
+-- The sides of some faces, in order, are the edges that are sides of these faces.
+use Rattle.std.proofs.Common.{◌≡◌, ℕ, ◌<◌, ◌&&◌, Bool, true, List, [], ◌∷◌, Option, Some, None, nat_lt, ⊎_elim, refl, sym, ◌∙◌, arith}
+use Rattle.std.specs.List.{filter, Contains, AllByRecursion}
 use Rattle.std.specs.List.Sorted.{IsStrictlySortedBy}
 use Rattle.std.specs.BTreeSet.{BTreeSet}
 use Rattle.std.specs.Ordering.{nat_cmp}
@@ -12,10 +12,10 @@ use Rattle.std.proofs.lemmas.Bool.Decides.{nat_tests}
 use Rattle.std.proofs.lemmas.List.Kept.{IsStrictlySortedBy-filter}
 use Rattle.std.proofs.lemmas.List.Elements.{recursion_from_All, All-from_recursion, All-contains, All-contains_itself}
 use Rattle.mesh_base.specs.declared.ids.Corners.{Corners}
-use Rattle.mesh_base.specs.Mesh.{Mesh, IsSound, HasCorners}
+use Rattle.mesh_base.specs.Mesh.{Mesh, IsSound}
 use Rattle.mesh_base.specs.Sides.{follows, IsEdge}
 use Rattle.mesh_base.specs.Pairs.{edges}
-use Rattle.mesh_base.specs.SideSet.{edge_cmp, has_side, are_neighbours, neighbours_in, neighbours_at, neighbours_in_any, HasSides}
+use Rattle.mesh_base.specs.SideList.{edge_cmp, has_side, neighbours_in, neighbours_at, neighbours_in_any, HasSides}
 use Rattle.mesh_base.proofs.Tests.{and_first, and_second, and_both, or_either, both_ways}
 use Rattle.mesh_base.proofs.InOrder.{edges_sorted, edge_total}
 use Rattle.mesh_base.proofs.EdgesInOrder.{one_runs}
@@ -55,16 +55,16 @@ seen_in m a b (f ∷ faces) h = ⊎_elim (λ e. by_face (finite.get m.faces f) r
     by_face None is e = absurd (false≢true e)
     by_face (Some c) is e = ⊎_elim (λ one. let some = one_runs m f c a b is one in omega (arith, some)) (λ one. let some = one_runs m f c b a is one in omega (arith, some)) (or_either (follows c a b) (follows c b a) e)
 
--- a set in order that has the sides of these faces has as its keys the edges that are sides of them
-pub keys_are_edges_among : (m : Mesh) → IsSound m → (faces : List ℕ) (sides : BTreeSet (ℕ × ℕ)) → IsStrictlySortedBy edge_cmp sides.keys → HasSides sides (neighbours_in_any m faces) → sides.keys ≡ edges_among m faces
-keys_are_edges_among m sound faces sides in_order is =
-    btree_set_from_contains edge_total sides listed in_order (IsStrictlySortedBy-filter edge_cmp (λ e. neighbours_in_any m faces e.0 e.1) (edges m) (edges_sorted m)) (λ q. same q.0 q.1) edge_exact
+-- a list in order that has the sides of these faces has the edges that are sides of them
+pub sides_are_edges_among : (m : Mesh) → IsSound m → (faces : List ℕ) (sides : List (ℕ × ℕ)) → IsStrictlySortedBy edge_cmp sides → HasSides sides (neighbours_in_any m faces) → sides ≡ edges_among m faces
+sides_are_edges_among m sound faces sides in_order is =
+    btree_set_from_contains edge_total (record { keys = sides }) listed in_order (IsStrictlySortedBy-filter edge_cmp (λ e. neighbours_in_any m faces e.0 e.1) (edges m) (edges_sorted m)) (λ q. same q.0 q.1) edge_exact
   where
     listed : BTreeSet (ℕ × ℕ)
     listed = record { keys = edges_among m faces }
 
-    same : (a b : ℕ) → has_side sides a b ≡ has_side listed a b
-    same a b = both_ways (has_side sides a b) (has_side listed a b)
+    same : (a b : ℕ) → has_side sides a b ≡ has_side listed.keys a b
+    same a b = both_ways (has_side sides a b) (has_side listed.keys a b)
         (λ h.
         let both : (nat_lt a b && neighbours_in_any m faces a b) ≡ true = sym (is a b) ∙ h in
         let seen = and_second (nat_lt a b) (neighbours_in_any m faces a b) both in

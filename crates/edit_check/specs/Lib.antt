@@ -5,3 +5,4 @@ pub mod Checking
 pub mod Agreeing
 pub mod Reach
 pub mod Nearby
+pub mod Boxed

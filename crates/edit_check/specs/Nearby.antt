@@ -1,11 +1,10 @@
 -- The faces of a list of ids, and the edges that are sides of them.
 use Rattle.std.specs.Prelude.{ℕ, List, [], ◌∷◌}
 use Rattle.std.specs.List.{flat_map, filter}
-use Rattle.std.specs.FinMap as finite
 use Rattle.std.proofs.Common.{Option, Some, None}
 use Rattle.mesh_base.specs.Mesh.{Mesh}
 use Rattle.mesh_base.specs.Pairs.{edges}
-use Rattle.mesh_base.specs.SideSet.{neighbours_in_any}
+use Rattle.mesh_base.specs.SideList.{neighbours_in_any}
 use Rattle.edit_base.specs.declared.Move.{Move}
 use Rattle.edit_base.specs.Scaffold.{motion_by}
 use Rattle.pair_paths.specs.declared.MovingFace.{MovingFace}

@@ -9,8 +9,11 @@ ghost use Rattle.edit_base.specs.Scaffold.{first_failing, motion_by, IsClearBut}
 ghost use Rattle.edit_check.specs.Untouched.{IsClearWhereUntouched, MoveFits};
 ghost use Rattle.edit_check.specs.Touched.{touched_among};
 ghost use Rattle.edit_check.specs.Reach.{AreNearbyFaces};
+ghost use Rattle.edit_check.specs.Boxed.{faces_in};
 ghost use Rattle.edit_check.specs.Checking.{scaffold_by, first_of_edge};
 
+use crate::boxed::BoxedFace;
+use crate::boxing::{boxed_edge, boxed_faces};
 use crate::failing::{first_failing_among, is_side_of_some};
 use crate::moves::Moved;
 use crate::nearby::{edges_among, faces_along, nearby};
@@ -18,7 +21,7 @@ use crate::touched::touched_of;
 use edit_base::{Move, Touch};
 use grid_base::{DEPTH_MAX, NoMemory};
 use mesh_base::{PairName, Surface, VertexId};
-use pair_paths::{MovingFace, moving_edge};
+use pair_paths::moving_edge;
 use std::alloc::Global;
 
 /// What is required of the pairs, and to which depth.
@@ -34,21 +37,21 @@ struct Terms<'a> {
 fn first_of_edge<S: Surface>(
     paths: &Moved<S>,
     t: Terms,
-    faces: &[MovingFace],
-    touched: &[MovingFace],
+    faces: &[BoxedFace],
+    touched: &[BoxedFace],
     fresh_from: u32,
     a: VertexId,
     b: VertexId,
 ) -> Option<PairName>
     requires depth { t.depth ≤ DEPTH_MAX }
     requires clear { IsClearWhereUntouched (S.mesh paths.now.mesh.now) paths.now.moves.now fresh_from }
-    requires faces { AreNearbyFaces (S.mesh paths.now.mesh.now) paths.now.moves.now t.together.now fresh_from faces.now }
-    requires touched { touched.now ≡ touched_among paths.now.moves.now t.together.now fresh_from faces.now }
+    requires faces { AreNearbyFaces (S.mesh paths.now.mesh.now) paths.now.moves.now t.together.now fresh_from (faces_in faces.now) }
+    requires touched { faces_in touched.now ≡ touched_among paths.now.moves.now t.together.now fresh_from (faces_in faces.now) }
     requires ordered { a < b }
     requires edge { IsEdge (S.mesh paths.now.mesh.now) a b }
     ensures { result ≡ first_of_edge (S.mesh paths.now.mesh.now) paths.now.moves.now t.entry (a, b) }
 {
-    let e = moving_edge(paths, a, b);
+    let e = boxed_edge(moving_edge(paths, a, b));
     if is_side_of_some(a, b, touched) {
         first_failing_among(t.touch, t.together, t.depth, &e, faces)
     } else {
@@ -63,8 +66,9 @@ fn first_of_edge<S: Surface>(
 /// but at the start, or the end, where two may touch there.
 ///
 /// Faces from the id `fresh_from` on are new. Pairs of an old edge and an old face, of which no vertex moves, need not be
-/// tested: they are not to meet where they stand. Refuses only where there is no memory. After the test of edits in El Topo
-/// (Brochu and Bridson 2009).
+/// tested: they are not to meet where they stand. What is looked at are the faces near a box around what is new, moves or
+/// may touch, as the mesh finds them, and their sides. Refuses only where there is no memory. After the test of edits in
+/// El Topo (Brochu and Bridson 2009).
 pub fn check<S: Surface>(
     alloc: Global,
     mesh: &S,
@@ -90,10 +94,13 @@ pub fn check<S: Surface>(
     let near = nearby(alloc, &paths, together, fresh_from)?;
     let ids = near.as_slice();
     let faces = faces_along(alloc, &paths, ids)?;
-    let touched = touched_of(alloc, moves, together, fresh_from, faces.as_slice())?;
+    let plain = faces.as_slice();
+    let touched = touched_of(alloc, moves, together, fresh_from, plain)?;
+    let boxed = boxed_faces(alloc, plain)?;
+    let boxed_touched = boxed_faces(alloc, touched.as_slice())?;
     let edges = edges_among(alloc, mesh, ids)?;
     for (a, b) in edges.as_slice() {
-        let (all, new) = (faces.as_slice(), touched.as_slice());
+        let (all, new) = (boxed.as_slice(), boxed_touched.as_slice());
         if let Some(found) = first_of_edge(&paths, t, all, new, fresh_from, *a, *b) {
             return Ok(Some(found));
         }

@@ -6,8 +6,10 @@ ghost use Rattle.grid_base.specs.SeparationTests.{opens, closes};
 ghost use Rattle.motion_test.specs.Pairs.{positions_of};
 ghost use Rattle.edit_base.specs.Scaffold.{joins_contacts};
 ghost use Rattle.pair_paths.specs.Pairing.{pair_with};
-ghost use Rattle.edit_check.specs.Failing.{pair_passes, pair_meets_contact_rule, do_as_required, fails, first_failing_among, is_side_of_some};
+ghost use Rattle.edit_check.specs.Failing.{pair_passes, pair_meets_contact_rule, do_as_required, fails};
+ghost use Rattle.edit_check.specs.Boxed.{first_failing_boxed, is_side_of_boxed};
 
+use crate::boxed::{BoxedEdge, BoxedFace};
 use crate::touched::has_a_corner;
 use edit_base::Touch;
 use grid_base::{DEPTH_MAX, HALF_MAX};
@@ -97,15 +99,19 @@ fn do_as_required(
     }
 }
 
-/// Whether the edge and the face are a pair, and do not do what is required of them.
-fn fails(touch: Touch, together: &[VertexId], depth: u8, e: &MovingEdge, f: &MovingFace) -> bool
+/// Whether the edge and the face are a pair, and do not do what is required of them. Where their boxes have no common
+/// point, an axis keeps them apart, and they do.
+fn fails(touch: Touch, together: &[VertexId], depth: u8, e: &BoxedEdge, f: &BoxedFace) -> bool
     requires depth_fits { depth ≤ DEPTH_MAX }
-    ensures { result ≡ fails touch together.now depth e.now f.now }
+    ensures { result ≡ fails touch together.now depth e.now.edge f.now.face }
 {
-    if share_a_vertex(e, f) {
+    if !f.bounds.overlaps(&e.bounds) {
         return false;
     }
-    !do_as_required(touch, together, depth, e, f)
+    if share_a_vertex(&e.edge, &f.face) {
+        return false;
+    }
+    !do_as_required(touch, together, depth, &e.edge, &f.face)
 }
 
 /// The first of the faces that fails with the edge to do what is required of them, with the edge.
@@ -113,26 +119,26 @@ pub(crate) fn first_failing_among(
     touch: Touch,
     together: &[VertexId],
     depth: u8,
-    e: &MovingEdge,
-    faces: &[MovingFace],
+    e: &BoxedEdge,
+    faces: &[BoxedFace],
 ) -> Option<PairName>
     requires depth_fits { depth ≤ DEPTH_MAX }
-    ensures { result ≡ first_failing_among touch together.now depth e.now faces.now }
+    ensures { result ≡ first_failing_boxed touch together.now depth e.now.edge faces.now }
 {
     for f in faces {
         if fails(touch, together, depth, e, f) {
-            return Some(name_of(e, f));
+            return Some(name_of(&e.edge, &f.face));
         }
     }
     None
 }
 
 /// Whether the edge is a side of one of the faces.
-pub(crate) fn is_side_of_some(a: VertexId, b: VertexId, faces: &[MovingFace]) -> bool
-    ensures { result ≡ is_side_of_some a b faces.now }
+pub(crate) fn is_side_of_some(a: VertexId, b: VertexId, faces: &[BoxedFace]) -> bool
+    ensures { result ≡ is_side_of_boxed a b faces.now }
 {
     for f in faces {
-        if f.corners.has_corner(a) && f.corners.has_corner(b) {
+        if f.face.corners.has_corner(a) && f.face.corners.has_corner(b) {
             return true;
         }
     }

@@ -1,6 +1,8 @@
 //! The test of a motion of a mesh, as an edit makes one: a few vertices move, and a few faces are new.
 #![tactic(auto)]
 
+mod boxed;
+mod boxing;
 mod checking;
 mod failing;
 pub mod laws;

@@ -194,11 +194,11 @@ true_below : (a b : ℕ) → a < b → nat_lt a b ≡ true
 true_below a b h = grind (arith, nat_tests)
 
 -- the ends of the sides of the faces are ids, which are below 2^32
-pub sides_are_small : (m : Mesh) (sides : List (ℕ × ℕ)) → IsSound m
-    → ((a b : ℕ) → has_side sides a b ≡ (nat_lt a b && list_any (λ f. neighbours_in (finite.get m.faces f) a b) (finite.keys m.faces))) → HasSmallEnds sides
-sides_are_small m sides sound is u v h =
-    let both : (nat_lt u v && list_any (seen m u v) (finite.keys m.faces)) ≡ true = sym (is u v) ∙ h in
-    let face = any_found (seen m u v) (finite.keys m.faces) (and_second (nat_lt u v) _ both) in
+pub sides_are_small : (m : Mesh) (faces : List ℕ) (sides : List (ℕ × ℕ)) → IsSound m
+    → ((a b : ℕ) → has_side sides a b ≡ (nat_lt a b && list_any (λ f. neighbours_in (finite.get m.faces f) a b) faces)) → HasSmallEnds sides
+sides_are_small m faces sides sound is u v h =
+    let both : (nat_lt u v && list_any (seen m u v) faces) ≡ true = sym (is u v) ∙ h in
+    let face = any_found (seen m u v) faces (and_second (nat_lt u v) _ both) in
     let live = (edge_live m u v sound (seen_edge m face.0 u v face.1)).1 in
     let made = (sound.is_mesh.vertex_ids v live).1 in
     let within : m.next_vertex ≤ 2147483649 = sound.limits.vertex_ids.1 in

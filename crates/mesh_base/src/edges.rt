@@ -80,13 +80,27 @@ fn put_in_order(sides: &mut Sides)
     sides.dedup();
 }
 
+/// The sides of some faces, each once, by its smaller and its larger end, in order of the smaller and then of the larger; a
+/// face that is not live has none. Refuses only where there is no memory.
+pub fn sides_in_order<S: Surface>(
+    alloc: Global,
+    mesh: &S,
+    faces: &[FaceId],
+) -> Result<Edges, NoMemory>
+    ensures order { IfOk result (λ found. IsStrictlySortedBy edge_cmp found) }
+    ensures sides { IfOk result (λ found. HasSides found (neighbours_in_any (S.mesh mesh.now) faces.now)) }
+{
+    let mut sides = sides_of(alloc, mesh, faces)?;
+    put_in_order(&mut sides);
+    Ok(Edges::from_vec(sides))
+}
+
 /// The edges, each by its smaller and its larger end, in order of the smaller and then of the larger. Takes time in
 /// proportion to the faces and the logarithm of their number, as far as the calls of the mesh do.
 pub fn edges_in_order<S: Surface>(alloc: Global, mesh: &S) -> Result<Edges, NoMemory>
     ensures { IfOk result (λ found. found ≡ edges (S.mesh mesh.now)) }
 {
     let faces = live_faces(alloc, mesh)?;
-    let mut sides = sides_of(alloc, mesh, faces.as_slice())?;
-    put_in_order(&mut sides);
-    Ok(Edges::from_vec(sides))
+    let found = sides_in_order(alloc, mesh, faces.as_slice())?;
+    Ok(found)
 }

@@ -15,7 +15,7 @@ mod steps;
 mod surface;
 mod walk;
 
-pub use edges::edges_in_order;
+pub use edges::{edges_in_order, sides_in_order};
 pub use faults::{AddFault, ShapeFault, ShapeRefusal};
 pub use ids::{Corners, FaceId, PairName, VertexId};
 pub use lists::{Edges, FaceIds, Ids, MeshLists, Points, Shifts, Triangles};

@@ -6,6 +6,8 @@ use Rattle.mesh_base.specs.Pairs.{Pair, edges, pairs_of}
 use Rattle.edit_base.specs.Scaffold.{Scaffold, is_as_required}
 use Rattle.edit_base.proofs.Clear.{none_failing_is_clear}
 use Rattle.edit_check.specs.Reach.{faces_in_reach}
+use Rattle.edit_check.specs.Touched.{touched_among}
+use Rattle.edit_check.specs.Boxed.{faces_in}
 use Rattle.edit_check.specs.Nearby.{faces_among, edges_among}
 use Rattle.edit_check.proofs.Beyond.{faces_of_reach, none_beyond}
 use Rattle.edit_check.proofs.LeftOut.{edge_among, first_among}
@@ -20,8 +22,13 @@ first_of_edge-requires-clause-faces g c =
     record {
       reach = near.reach;
       reached = near.reached;
-      all = c.as_slice-all.ensures ∙ c.in_ok-faces.ensures ∙ ap (faces_among m c.args.moves.now) (c.as_slice-ids.ensures.value ∙ near.all) ∙ faces_of_reach m c.args.moves.now near.reach;
+      all = ap faces_in c.as_slice-all.ensures ∙ c.in_ok-boxed.ensures ∙ c.as_slice-plain.ensures ∙ c.in_ok-faces.ensures ∙ ap (faces_among m c.args.moves.now) (c.as_slice-ids.ensures.value ∙ near.all) ∙ faces_of_reach m c.args.moves.now near.reach;
     }
+
+pub first_of_edge-requires-clause-touched : goal.first_of_edge-requires-clause-touched
+first_of_edge-requires-clause-touched g c =
+    ap faces_in c.as_slice-new.ensures ∙ c.in_ok-boxed_touched.ensures ∙ c.as_slice.ensures ∙ c.in_ok-touched.ensures
+    ∙ ap (touched_among c.args.moves.now c.args.together.now c.args.fresh_from) (sym (ap faces_in c.as_slice-all.ensures ∙ c.in_ok-boxed.ensures))
 
 pub first_of_edge-requires-clause-ordered : goal.first_of_edge-requires-clause-ordered
 first_of_edge-requires-clause-ordered g c =

@@ -1,6 +1,6 @@
 use Rattle.std.proofs.Common.{take}
 use Rattle.std.specs.List.{All}
-use Rattle.edit_check.specs.Reach.{Reaches, ReachesAt, Widens}
+use Rattle.edit_check.specs.Reach.{ReachesAt, Widens}
 use Rattle.edit_check.proofs.reach.reach_vertices.Given as goal
 
 -- the box has those so far, and what it had at first

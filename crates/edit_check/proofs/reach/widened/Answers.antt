@@ -1,4 +1,4 @@
-use Rattle.std.proofs.Common.{Some, ap, sym, subst, refl, ◌∙◌}
+use Rattle.std.proofs.Common.{sym, subst, refl, ◌∙◌}
 use Rattle.grid_base.specs.Extents.{IsIn}
 use Rattle.pair_paths.proofs.Numbered.{same_some}
 use Rattle.edit_check.proofs.reach.widened.Goals as goal

@@ -1,0 +1,21 @@
+//! Edges and faces with boxes of their paths.
+ghost use Rattle.pair_paths.specs.Bounds.{HoldsEdge, HoldsFace};
+
+use box_tree::SmallBox;
+use pair_paths::{MovingEdge, MovingFace};
+
+/// An edge, and a box of the paths of its ends.
+#[derive(Clone, Copy)]
+pub(crate) struct BoxedEdge {
+    pub(crate) edge: MovingEdge,
+    pub(crate) bounds: SmallBox,
+    ghost held: { HoldsEdge edge bounds },
+}
+
+/// A face, and a box of the paths of its corners.
+#[derive(Clone, Copy)]
+pub(crate) struct BoxedFace {
+    pub(crate) face: MovingFace,
+    pub(crate) bounds: SmallBox,
+    ghost held: { HoldsFace face bounds },
+}
