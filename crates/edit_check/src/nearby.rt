@@ -8,7 +8,7 @@ ghost use Rattle.edit_check.specs.Nearby.{faces_among, edges_among};
 use crate::moves::Moved;
 use crate::reach::{face_with_paths, reach_of};
 use grid_base::{Extent, Items, NoMemory};
-use mesh_base::{Corners, Edges, FaceId, Surface, sides_in_order};
+use mesh_base::{Corners, Edges, FaceId, Surface, VertexId, sides_in_order};
 use pair_paths::MovingFace;
 use std::alloc::Global;
 
