@@ -9,10 +9,8 @@ use Rattle.mesh_base.specs.Mesh.{Mesh}
 use Rattle.mesh_base.specs.Pairs.{Pair, pairs_of}
 use Rattle.edit_base.specs.declared.Move.{Move}
 use Rattle.edit_base.specs.declared.Touch.{Touch}
-use Rattle.edit_base.specs.Scaffold.{Scaffold, motion_by, is_as_required}
+use Rattle.edit_base.specs.Scaffold.{Scaffold, is_as_required}
 use Rattle.edit_check.specs.declared.checking.Terms.{Terms}
-use Rattle.pair_paths.specs.declared.MovingFace.{MovingFace}
-use Rattle.pair_paths.specs.Moving.{moving_faces}
 
 -- the mesh, with the moves, and the vertices of which two may touch
 abbrev pub scaffold_by : Mesh → List Move → Touch → List ℕ → Scaffold
@@ -25,7 +23,3 @@ first_of s depth ps = option_map (λ p. p.name) (find (λ p. not (is_as_required
 -- the same of the pairs of an edge
 abbrev pub first_of_edge : Mesh → List Move → Terms → ℕ × ℕ → Option PairName
 first_of_edge m moves t e = first_of (scaffold_by m moves t.touch t.together.now) t.depth (pairs_of m e)
-
--- the faces, with where their corners go
-abbrev pub faces_by : Mesh → List Move → List MovingFace
-faces_by m moves = moving_faces m (motion_by m moves)
