@@ -8,7 +8,6 @@ ghost use Rattle.mesh_base.specs.Placements.{origin, rest_positions};
 ghost use Rattle.mesh_base.specs.Shifts.{NameLive, end_in_box};
 ghost use Rattle.pair_scan.specs.Solids.{SolidsRest};
 
-use step_choose::{Choice, PASSES_MAX, Settings, choose};
 use grid_base::{DEPTH_MAX, HALVINGS_MAX, NoMemory, Point, Shift, moved};
 use mesh_base::{How, ShiftOf, Shifts, Surface, VertexId, live_vertices};
 use mesh_plain::{MeshLists, PlainMesh, Points, Triangles, shape};
@@ -16,6 +15,7 @@ use pair_scan::first_meeting;
 use std::alloc::Global;
 use std::process::Abort;
 use std::test::Fail;
+use step_choose::{Choice, PASSES_MAX, Settings, choose};
 
 // The first has the vertices 1 to 4 and a face in x = 0, and the vertex 5 of the second stands before it.
 const POINTS: [[i32; 3]; 8] = [

@@ -4,8 +4,8 @@ ghost use Rattle.mesh_base.specs.Mesh.{IsLiveVertex};
 ghost use Rattle.mesh_base.specs.Kept.{BeginsWith};
 ghost use Rattle.half_mesh.specs.Half.{mesh_in, kept_in};
 
-use half_mesh::HalfMesh;
 use grid_base::{NoMemory, Point};
+use half_mesh::HalfMesh;
 use mesh_plain::{
     AddFault, FaceId, MeshLists, PlainMesh, Points, Surface, Triangles, VertexId, edges_in_order,
     live_faces, live_vertices, shape,

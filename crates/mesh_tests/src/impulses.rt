@@ -1,9 +1,9 @@
 //! Worked examples: an edge and a triangle, and what the five vertices get.
-use step_impulse::axis_impulse;
 use grid_base::{Point, Shift};
 use mesh_base::VertexId;
 use std::process::Abort;
 use std::test::Fail;
+use step_impulse::axis_impulse;
 
 const IDS: [VertexId; 5] = [
     VertexId(7),

@@ -3,9 +3,9 @@ ghost use Rattle.std.specs.Prelude.{◌≡◌, ◌≢◌, ◌<◌};
 ghost use Rattle.mesh_base.specs.Mesh.{IsLiveVertex};
 ghost use Rattle.mesh_base.specs.Kept.{BeginsWith};
 
-use mesh_journal::JournalMesh;
 use grid_base::{NoMemory, Point};
 use half_mesh::HalfMesh;
+use mesh_journal::JournalMesh;
 use mesh_plain::{
     Corners, FaceId, MeshLists, PlainMesh, Points, Surface, Triangles, VertexId, live_faces,
     live_vertices, shape,

@@ -3,24 +3,17 @@
 
 #[cfg(test)]
 mod choices;
-
 #[cfg(test)]
 mod half_edges;
-
 #[cfg(test)]
 mod impulses;
-
 #[cfg(test)]
 mod journals;
-
 #[cfg(test)]
 mod plain;
-
 #[cfg(test)]
 mod plays;
-
 #[cfg(test)]
 mod scans;
-
 #[cfg(test)]
 mod zones;

@@ -4,11 +4,11 @@ ghost use Rattle.mesh_base.specs.Mesh.{IsLiveVertex};
 ghost use Rattle.mesh_base.specs.Kept.{BeginsWith};
 ghost use Rattle.mesh_plain.specs.Plain.{mesh_in, kept_in};
 
+use grid_base::{NoMemory, Point};
 use mesh_plain::{
     AddFault, FaceId, MeshLists, PlainMesh, Points, ShapeFault, ShapeRefusal, Surface, Triangles,
     VertexId, edges_in_order, live_faces, live_vertices, shape,
 };
-use grid_base::{NoMemory, Point};
 use std::alloc::Global;
 use std::process::Abort;
 use std::test::Fail;

@@ -3,12 +3,12 @@ ghost use Rattle.std.specs.Prelude.{◌≡◌, OnOk, IfOk, true};
 ghost use Rattle.mesh_base.specs.Changes.{IsFresh};
 ghost use Rattle.mesh_play.specs.Play.{IsAllowed};
 
-use mesh_play::{Act, Answer, Answers, Call, Question, play_both};
 use grid_base::{NoMemory, Point};
 use half_mesh::HalfMesh;
 use mesh_plain::{
     FaceId, FaceIds, MeshLists, PlainMesh, Points, Surface, Triangles, VertexId, shape,
 };
+use mesh_play::{Act, Answer, Answers, Call, Question, play_both};
 use std::alloc::Global;
 use std::process::Abort;
 use std::test::Fail;

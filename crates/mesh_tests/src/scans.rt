@@ -2,9 +2,9 @@
 mod all_pairs;
 mod generated;
 
-use pair_scan::first_meeting;
 use grid_base::{NoMemory, Point};
 use mesh_plain::{FaceId, MeshLists, PairName, PlainMesh, Points, Triangles, VertexId, shape};
+use pair_scan::first_meeting;
 use std::alloc::Global;
 use std::process::Abort;
 use std::test::Fail;

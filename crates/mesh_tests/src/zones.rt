@@ -2,7 +2,6 @@
 ghost use Rattle.std.specs.Prelude.{◌≡◌, IfOk};
 ghost use Rattle.mesh_base.specs.Shifts.{NameLive};
 
-use step_zones::{Zoned, zones};
 use grid_base::{BOX, NoMemory, Point, Shift};
 use mesh_base::{ShiftOf, Shifts, Surface, VertexId, live_vertices};
 use mesh_plain::{MeshLists, PlainMesh, Points, Triangles, shape};
@@ -10,6 +9,7 @@ use pair_scan::first_meeting;
 use std::alloc::Global;
 use std::process::Abort;
 use std::test::Fail;
+use step_zones::{Zoned, zones};
 
 // The first has the vertices 1 to 4 and a face in x = 0, and the vertex 5 of the second stands before it.
 const POINTS: [[i32; 3]; 8] = [
