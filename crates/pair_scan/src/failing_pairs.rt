@@ -121,7 +121,7 @@ fn put_failing_of_edge(
 /// pair meets at any fraction of the way. The shifts name the live vertices, by rising id, and end in the box. Refuses only
 /// where there is no memory. A tree of boxes, each around the start and the end, leaves out the pairs that are far apart
 /// (a broad phase, as in El Topo, Brochu and Bridson 2009). The boxes are taken in a frame that goes as most vertices do,
-/// so that a body that moves as a whole has small ones, however far it goes.
+/// and where others go far otherwise in one that goes as they do, so that a body that moves as a whole has small ones.
 pub fn failing<S: Surface>(
     alloc: Global,
     mesh: &S,

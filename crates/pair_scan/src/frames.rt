@@ -1,4 +1,4 @@
-//! The frame in which a motion is scanned.
+//! The frames in which a motion is scanned. A scan is right in any frames; where bodies go far as wholes, it is fast in these.
 use grid_base::{NoMemory, Shift, Wide};
 use mesh_base::ShiftOf;
 use pair_paths::{Frame, MovingFace, Position};
@@ -29,8 +29,7 @@ fn median_frame(shifts: &mut Vec<Shift>) -> Frame {
     }
 }
 
-/// A frame that goes, along each axis, by the median of the shifts. A scan is right in any frame; where most of the
-/// vertices go together, it is fast in this one.
+/// A frame that goes, along each axis, by the median of the shifts.
 pub(crate) fn common_frame(alloc: Global, by: &[ShiftOf]) -> Result<Frame, NoMemory> {
     let mut shifts = Vec::new(alloc);
     for s in by {
@@ -77,15 +76,15 @@ fn mean_side(faces: &[MovingFace]) -> u128 {
     sum / count.max(1)
 }
 
-/// The frame of those that go far otherwise than the first frame: of the shifts whose gap from it is more than half of the
-/// greatest. None, where these are few, or no gap is long beside the faces.
+/// The frame of those that go otherwise than the first frame: by the median of the shifts whose gap from it is near the
+/// greatest. None, where these are few, or the gap is not long beside the faces.
 pub(crate) fn other_frame(
     alloc: Global,
     faces: &[MovingFace],
     by: &[ShiftOf],
     first: &Frame,
 ) -> Result<Option<Frame>, NoMemory> {
-    let far = greatest_gap(by, first) / 2;
+    let far = greatest_gap(by, first) / 4 * 3;
     if far <= mean_side(faces) {
         return Ok(None);
     }
