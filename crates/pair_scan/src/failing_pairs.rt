@@ -1,5 +1,5 @@
 //! The pairs that do not pass in a motion.
-ghost use Rattle.std.specs.Prelude.{◌≡◌, ◌≤◌, ◌++◌, [], Some, IsTrue, IfOk, OnOk, slice_get};
+ghost use Rattle.std.specs.Prelude.{◌≡◌, ◌≤◌, ◌++◌, [], Some, IsTrue, IfOk, IfSome, OnOk, slice_get};
 ghost use Rattle.grid_base.specs.declared.TheConstants.{DEPTH_MAX};
 ghost use Rattle.grid_decided.specs.Decided.{meets_exactly};
 ghost use Rattle.mesh_base.specs.Placements.{IsClearAlong};
@@ -9,15 +9,14 @@ ghost use Rattle.pair_paths.specs.Bounds.{AreBoxes};
 ghost use Rattle.pair_paths.specs.Frames.{HoldsFaceIn};
 ghost use Rattle.pair_scan.specs.Failed.{fails_with, failed_with, failing_at, failing_among, AreFailing};
 
-use crate::frames::common_frame;
 use crate::motions::Shifted;
-use box_tree::BoxTree;
+use crate::views::{View, Views, goes_with, views_of};
 use grid_base::{DEPTH_MAX, Items, NoMemory};
 use mesh_base::{PairName, Shifts, Surface, edges_in_order};
 use motion_test::passes;
 use pair_paths::{
-    Frame, HasBoundsIn, KnownPaths, MovingEdge, MovingFace, moving_edge, moving_faces, name_of,
-    pair_of, paths_of, share_a_vertex, tree_in,
+    HasBoundsIn, KnownPaths, MovingEdge, MovingFace, moving_edge, moving_faces, name_of, pair_of,
+    paths_of, share_a_vertex,
 };
 use std::alloc::Global;
 
@@ -77,23 +76,44 @@ fn put_failing(
     Ok(())
 }
 
-/// Puts the pairs of an edge that do not pass at the end. Sets `near` to the numbers of the faces whose boxes in the frame
-/// meet the edge's.
-fn put_failing_of_edge(
+/// Puts the pairs of an edge that do not pass at the end. Sets `near` to the numbers of the faces whose boxes in the view's
+/// frame meet the edge's.
+fn put_failing_seen(
     e: &MovingEdge,
     faces: &[MovingFace],
-    frame: &Frame,
-    boxes: &BoxTree,
+    view: &View,
     depth: u8,
     near: &mut Vec<u64>,
     found: &mut Pairs,
 ) -> Result<(), NoMemory>
     requires depth_fits { depth ≤ DEPTH_MAX }
-    requires boxes { AreBoxes (HoldsFaceIn frame.now) faces.now boxes.now }
+    requires boxes { AreBoxes (HoldsFaceIn view.now.frame) faces.now view.now.boxes }
     ensures { OnOk result (found.new ≡ found.old ++ failing_among depth e.now faces.now) }
 {
-    boxes.overlapping(e.bounds_in(frame), near)?;
+    view.boxes.overlapping(e.bounds_in(&view.frame), near)?;
     put_failing(e, faces, depth, near, found)
+}
+
+/// The same, by the view whose frame goes more as the edge does.
+fn put_failing_of_edge(
+    e: &MovingEdge,
+    faces: &[MovingFace],
+    views: &Views,
+    depth: u8,
+    near: &mut Vec<u64>,
+    found: &mut Pairs,
+) -> Result<(), NoMemory>
+    requires depth_fits { depth ≤ DEPTH_MAX }
+    requires first { AreBoxes (HoldsFaceIn views.now.first.frame) faces.now views.now.first.boxes }
+    requires other { IfSome views.now.other (λ v. AreBoxes (HoldsFaceIn v.frame) faces.now v.boxes) }
+    ensures { OnOk result (found.new ≡ found.old ++ failing_among depth e.now faces.now) }
+{
+    if let Some(other) = &views.other {
+        if goes_with(e, &other.frame, &views.first.frame) {
+            return put_failing_seen(e, faces, other, depth, near, found);
+        }
+    }
+    put_failing_seen(e, faces, &views.first, depth, near, found)
 }
 
 /// All pairs that do not pass where each vertex goes from its point by its shift, in order of the edge and then of the
@@ -101,7 +121,7 @@ fn put_failing_of_edge(
 /// pair meets at any fraction of the way. The shifts name the live vertices, by rising id, and end in the box. Refuses only
 /// where there is no memory. A tree of boxes, each around the start and the end, leaves out the pairs that are far apart
 /// (a broad phase, as in El Topo, Brochu and Bridson 2009). The boxes are taken in a frame that goes as most vertices do,
-/// so that a body that moves as a whole has small ones, however far it goes.
+/// and where others go far otherwise in one that goes as they do, so that a body that moves as a whole has small ones.
 pub fn failing<S: Surface>(
     alloc: Global,
     mesh: &S,
@@ -127,22 +147,13 @@ pub fn failing<S: Surface>(
         known: known.as_slice(),
     };
     let faces = moving_faces(alloc, mesh, &paths)?;
-    let frame = common_frame(alloc, shifted.by)?;
-    let boxes = tree_in(alloc, faces.as_slice(), &frame)?;
+    let views = views_of(alloc, faces.as_slice(), shifted.by)?;
     let mut near = Vec::new(alloc);
     let mut found = Pairs::new(alloc);
     let edges = edges_in_order(alloc, mesh)?;
     for (a, b) in edges.as_slice() {
         let e = moving_edge(&paths, *a, *b);
-        put_failing_of_edge(
-            &e,
-            faces.as_slice(),
-            &frame,
-            &boxes,
-            depth,
-            &mut near,
-            &mut found,
-        )?;
+        put_failing_of_edge(&e, faces.as_slice(), &views, depth, &mut near, &mut found)?;
     }
     Ok(found)
 }

@@ -8,6 +8,7 @@ mod lookup;
 mod meeting;
 mod motions;
 mod named;
+mod views;
 
 pub use ends::end_in_box;
 pub use failing_pairs::{Pairs, failing};

@@ -122,28 +122,35 @@ fn plainly<S: Surface>(
     Ok(plain)
 }
 
-// Bodies, how far they stand from the origin, how large they are, how far they move, and the depth.
-const PLANS: [[u32; 5]; 16] = [
+// Bodies, how far they stand from the origin, how large they are, how far they move, the depth, and how far they are thrown.
+const PLANS: [[u32; 6]; 22] = [
     // beside one another, at rest and in motion
-    [3, 40, 6, 0, 0],
-    [4, 40, 6, 3, 2],
-    [4, 40, 8, 30, 3],
+    [3, 40, 6, 0, 0, 0],
+    [4, 40, 6, 3, 2, 0],
+    [4, 40, 8, 30, 3, 0],
     // through one another, with faces of area zero and vertices that touch
-    [3, 2, 2, 0, 1],
-    [3, 3, 2, 2, 4],
-    [4, 4, 3, 1, 3],
-    [4, 6, 5, 4, 5],
-    [3, 0, 1, 1, 2],
+    [3, 2, 2, 0, 1, 0],
+    [3, 3, 2, 2, 4, 0],
+    [4, 4, 3, 1, 3, 0],
+    [4, 6, 5, 4, 5, 0],
+    [3, 0, 1, 1, 2, 0],
     // steps longer than the mesh
-    [3, 12, 4, 400, 0],
-    [3, 12, 4, 90, 4],
-    [4, 20, 3, 60, 6],
+    [3, 12, 4, 400, 0, 0],
+    [3, 12, 4, 90, 4, 0],
+    [4, 20, 3, 60, 6, 0],
     // across the whole box
-    [3, 268_435_456, 268_435_456, 536_870_912, 3],
-    [4, 268_435_456, 1_000_000, 536_870_912, 2],
-    [4, 268_435_456, 30_000_000, 20_000_000, 4],
-    [3, 50_000_000, 50_000_000, 5, 1],
-    [2, 268_435_456, 536_870_912, 536_870_912, 0],
+    [3, 268_435_456, 268_435_456, 536_870_912, 3, 0],
+    [4, 268_435_456, 1_000_000, 536_870_912, 2, 0],
+    [4, 268_435_456, 30_000_000, 20_000_000, 4, 0],
+    [3, 50_000_000, 50_000_000, 5, 1, 0],
+    [2, 268_435_456, 536_870_912, 536_870_912, 0, 0],
+    // thrown far, as wholes and not
+    [4, 40, 8, 0, 0, 5_000],
+    [6, 20, 6, 2, 2, 700],
+    [6, 6, 5, 0, 3, 40],
+    [5, 60, 9, 1, 1, 200_000_000],
+    [6, 300, 40, 30, 4, 1_000],
+    [4, 268_435_456, 30_000_000, 0, 2, 536_870_912],
 ];
 
 #[test]
@@ -153,17 +160,18 @@ fn the_scans_find_what_a_loop_over_all_pairs_does(rt: HostRuntime) -> Result<(),
     let mut none: u32 = 0;
     let mut some: u32 = 0;
     for round in 0..2 {
-        for [bodies, spread, size, step, depth] in PLANS {
+        for [bodies, spread, size, step, depth, throw] in PLANS {
             let plan = Plan {
                 bodies,
                 spread,
                 size,
                 step,
+                throw,
             };
             let depth = depth as u8;
             assert!(rt; depth <= DEPTH_MAX);
             let mesh = mesh_by(alloc, plan, &mut numbers, &rt)?;
-            let by = shifts_by(alloc, &mesh, plan.step, &mut numbers, &rt)?;
+            let by = shifts_by(alloc, &mesh, plan, &mut numbers, &rt)?;
             let plain = plainly(alloc, &mesh, by.as_slice(), depth, &rt)?;
             let found = failing(alloc, &mesh, &by, depth)?;
             assert_eq!(rt; found.as_slice(), plain.failing.as_slice(), "round {round}");

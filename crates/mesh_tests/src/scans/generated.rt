@@ -50,14 +50,15 @@ impl Numbers {
     }
 }
 
-/// How a mesh is generated: so many tetrahedra, how far they stand from the origin, how large they are, and how far their
-/// vertices move.
+/// How a mesh is generated: so many tetrahedra, how far they stand from the origin, how large they are, how far their
+/// vertices move, and how far the tetrahedra are thrown besides, one in four of them the other way.
 #[derive(Clone, Copy)]
 pub(crate) struct Plan {
     pub(crate) bodies: u32,
     pub(crate) spread: u32,
     pub(crate) size: u32,
     pub(crate) step: u32,
+    pub(crate) throw: u32,
 }
 
 fn put_body(
@@ -101,11 +102,25 @@ pub(crate) fn mesh_by(
     PlainMesh::of(alloc, &lists)
 }
 
-/// The shift from one point to another; none for some vertices.
-fn shift_to(from: Point, to: Point, v: VertexId, rt: &impl Abort) -> Shift
+/// A coordinate so far on, and in the box.
+fn along(c: i32, by: i64) -> i32 {
+    let limit = i64::from(BOX);
+    i64::from(c).wrapping_add(by).clamp(-limit, limit) as i32
+}
+
+/// Where a vertex is thrown to.
+fn thrown(from: Point, v: VertexId, throw: u32, rt: &impl Abort) -> Point {
+    let far = i64::from(throw);
+    let body = v.0.wrapping_sub(1) / 4;
+    let by = if body % 4 == 1 { -far } else { far };
+    Point::new(along(from.x, by), along(from.y, by / 2), from.z).expect(rt, "a point in the box")
+}
+
+/// The shift from one point to another; none, where the vertex rests.
+fn shift_to(from: Point, to: Point, rests: bool, rt: &impl Abort) -> Shift
     ensures { is_within BOX (plus (position_of from) (displacement_of result)) ≡ true }
 {
-    if v.0 % 3 == 0 {
+    if rests {
         return Shift { x: 0, y: 0, z: 0 };
     }
     let by = Shift::new(
@@ -121,7 +136,7 @@ fn shift_to(from: Point, to: Point, v: VertexId, rt: &impl Abort) -> Shift
 fn shift_by<S: Surface>(
     mesh: &S,
     v: VertexId,
-    step: u32,
+    plan: Plan,
     numbers: &mut Numbers,
     rt: &impl Abort,
 ) -> ShiftOf
@@ -129,18 +144,19 @@ fn shift_by<S: Surface>(
     ensures in_box { is_within BOX (plus (rest_positions (S.mesh mesh.now) v) (displacement_of result.by)) ≡ true }
 {
     let from = mesh.point(v).expect(rt, "a live vertex");
-    let to = numbers.point_near(from, step, rt);
+    let to = numbers.point_near(thrown(from, v, plan.throw, rt), plan.step, rt);
+    let rests = plan.throw == 0 && v.0 % 3 == 0;
     ShiftOf {
         v,
-        by: shift_to(from, to, v, rt),
+        by: shift_to(from, to, rests, rt),
     }
 }
 
-/// A shift of each vertex of at most this size; none for each third.
+/// A shift of each vertex by the plan; where no body is thrown, none for each third.
 pub(crate) fn shifts_by<S: Surface>(
     alloc: Global,
     mesh: &S,
-    step: u32,
+    plan: Plan,
     numbers: &mut Numbers,
     rt: &impl Abort,
 ) -> Result<Shifts, NoMemory>
@@ -150,7 +166,7 @@ pub(crate) fn shifts_by<S: Surface>(
     let ids = live_vertices(alloc, mesh)?;
     let mut by = Shifts::new(alloc);
     for v in ids.as_slice() {
-        by.push(shift_by(mesh, *v, step, numbers, rt))?;
+        by.push(shift_by(mesh, *v, plan, numbers, rt))?;
     }
     Ok(by)
 }
