@@ -78,6 +78,17 @@ impl<B: Undoable> Journal<B> {
         self.inner.room(n)
     }
 
+    /// Gives up the journal and what is buried. Takes time in proportion to the mesh.
+    fn clear(&mut self)
+        ensures mesh { mesh_in self.new ≡ mesh_in self.old }
+        ensures kept { kept_in self.new ≡ mesh_in self.old ∷ [] }
+        ensures spare { spare_in self.old ≤ spare_in self.new }
+    {
+        self.boxes.settle(&self.inner, &self.entries);
+        self.inner.forget();
+        self.entries.truncate(0);
+    }
+
     /// Undoes the newest change.
     fn step_back(&mut self)
         requires { 0 < length self.old.entries.items }
@@ -333,15 +344,16 @@ impl<B: Undoable> Surface for Journal<B> {
         }
     }
 
-    /// Keeps the mesh alone.
+    /// Keeps the mesh alone. Takes no time where nothing has changed since.
     fn settle(&mut self)
         ensures mesh { mesh_in self.new ≡ mesh_in self.old }
         ensures kept { kept_in self.new ≡ mesh_in self.old ∷ [] }
         ensures spare { spare_in self.old ≤ spare_in self.new }
     {
-        self.boxes.settle(&self.inner, &self.entries);
-        self.inner.forget();
-        self.entries.truncate(0);
+        if self.entries.is_empty() {
+            return;
+        }
+        self.clear();
     }
 }
 
