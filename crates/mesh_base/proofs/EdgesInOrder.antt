@@ -14,6 +14,7 @@ use Rattle.std.proofs.lemmas.List.Kept.{IsStrictlySortedBy-dedup, Contains-dedup
 use Rattle.std.proofs.lemmas.List.Sorted.{list_any-IsPermutation}
 use Rattle.std.proofs.lemmas.Bool.{false≢true}
 use Rattle.std.proofs.lemmas.Bool.Decides.{nat_tests}
+use Rattle.grid_base.specs.declared.TheConstants.{ID_MAX}
 use Rattle.mesh_base.specs.declared.ids.Corners.{Corners}
 use Rattle.mesh_base.specs.Mesh.{Mesh, IsSound, HasCorners}
 use Rattle.mesh_base.specs.Sides.{follows, runs, IsEdge}
@@ -201,7 +202,7 @@ sides_are_small m faces sides sound is u v h =
     let face = any_found (seen m u v) faces (and_second (nat_lt u v) _ both) in
     let live = (edge_live m u v sound (seen_edge m face.0 u v face.1)).1 in
     let made = (sound.is_mesh.vertex_ids v live).1 in
-    let within : m.next_vertex ≤ 2147483649 = sound.limits.vertex_ids.1 in
+    let within : m.next_vertex ≤ ID_MAX + 1 = sound.limits.vertex_ids.1 in
     omega (arith, made, within)
 
 -- a list in order that has the sides of the faces has the edges

@@ -4,6 +4,7 @@ use Rattle.std.specs.List.{filter, flat_map}
 use Rattle.std.specs.FinMap as finite
 use Rattle.std.specs.FinMap.{len-entries}
 use Rattle.std.proofs.lemmas.List.{length-map}
+use Rattle.grid_base.specs.declared.TheConstants.{VERTICES_MAX}
 use Rattle.mesh_base.specs.Mesh.{Mesh, IsSound}
 use Rattle.mesh_base.specs.Pairs.{id_pairs, edges, is_edge}
 use Rattle.edit_base.specs.declared.Asked.{Asked}
@@ -27,7 +28,7 @@ made_few f n few (x ∷ xs) =
 pairs_few : (ids : List ℕ) → length (id_pairs ids) ≤ length ids * length ids
 pairs_few ids = made_few (λ u. map (λ v. (u, v)) (filter (λ v. nat_lt u v) ids)) (length ids) (λ u. let same = length-map {B = ℕ × ℕ} (filter (λ v. nat_lt u v) ids) (λ v. (u, v)) in let few = filter_few (λ v. nat_lt u v) ids in omega (arith, same, few)) ids
 
-square_few : (n : ℕ) → n ≤ 65536 → n * n ≤ 2 ^ 32
+square_few : (n : ℕ) → n ≤ VERTICES_MAX → n * n ≤ 2 ^ 32
 square_few n h = grind arith
 
 pub edges_few : (m : Mesh) → IsSound m → length (edges m) ≤ 2 ^ 32
@@ -36,7 +37,7 @@ edges_few m sound =
     let entries = length-map (finite.entries m.points) (λ e. e.0) in
     let count = len-entries m.points in
     let most = sound.limits.vertices in
-    let live : n ≤ 65536 = omega (arith, entries, count, most) in
+    let live : n ≤ VERTICES_MAX = omega (arith, entries, count, most) in
     let one = filter_few (λ e. is_edge m e.0 e.1) (id_pairs (finite.keys m.points)) in
     let two = pairs_few (finite.keys m.points) in
     let three = square_few n live in
