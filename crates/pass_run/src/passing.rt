@@ -85,7 +85,7 @@ fn is_over(grouped: bool, count: PassCount) -> bool
 }
 
 /// What is asked, at its time: its edit, its line and its count, if it is due.
-fn take_one<S: Surface, K: Sink>(
+fn take_ready<S: Surface, K: Sink>(
     alloc: Global,
     mesh: &mut S,
     terms: PassTerms,
@@ -108,6 +108,26 @@ fn take_one<S: Surface, K: Sink>(
             Ok(count_of(&line))
         }
     }
+}
+
+/// The same, of a mesh that is made ready for the check of an edit first, where what was moved since calls for it.
+fn take_one<S: Surface, K: Sink>(
+    alloc: Global,
+    mesh: &mut S,
+    terms: PassTerms,
+    what: Asked,
+    out: &mut K,
+) -> Result<PassCount, PassFault>
+    requires closed { IsClosed (S.mesh mesh.old) }
+    requires clear { IsClearMesh (S.mesh mesh.old) }
+    requires depth { terms.depth ≤ DEPTH_MAX }
+    ensures takes { let old = stage S.mesh S.kept K.written K.faults mesh.old out.old in
+        let new = stage S.mesh S.kept K.written K.faults mesh.new out.new in
+        PassResult (lines_of (exactly terms) old.mesh what) old new result }
+    ensures sum { IfOk result (λ count. count.done + count.refused ≤ 1) }
+{
+    mesh.index();
+    take_ready(alloc, mesh, terms, what, out)
 }
 
 /// What is asked, each at its time, in order.
@@ -193,25 +213,6 @@ fn take_all<S: Surface, K: Sink>(
     }
 }
 
-/// The same, of a mesh that is made ready for many checks of edits first.
-fn take_all_indexed<S: Surface, K: Sink>(
-    alloc: Global,
-    mesh: &mut S,
-    terms: PassTerms,
-    out: &mut K,
-) -> Result<PassCount, PassFault>
-    requires closed { IsClosed (S.mesh mesh.old) }
-    requires clear { IsClearMesh (S.mesh mesh.old) }
-    requires depth { terms.depth ≤ DEPTH_MAX }
-    ensures { let old = stage S.mesh S.kept K.written K.faults mesh.old out.old in
-        let new = stage S.mesh S.kept K.written K.faults mesh.new out.new in
-        let asked = candidates old.mesh terms.kind in
-        PassResult (lines_from (exactly terms) old.mesh asked) old new result }
-{
-    mesh.index();
-    take_all(alloc, mesh, terms, out)
-}
-
 /// Does one pass over a mesh. The first line tells the pass. What it asks is settled at its start: of each edge that the mesh
 /// then has, in order of the smaller and then of the larger id; of each two of these edges, in order of the first and then of
 /// the second; or of each vertex, by rising id. Each that at its time still stands and meets the condition of the pass is asked
@@ -276,5 +277,5 @@ pub fn pass<S: Surface, K: Sink>(
         depth,
         grouped,
     };
-    take_all_indexed(alloc, mesh, terms, out)
+    take_all(alloc, mesh, terms, out)
 }

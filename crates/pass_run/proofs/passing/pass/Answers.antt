@@ -19,7 +19,7 @@ pub returns-clause-said : goal.returns-clause-said
 returns-clause-said g c =
     let m = g.S.Surface.mesh c.args.mesh.now in
     let terms = terms_of c.args.kind c.args.depth c.args.grouped in
-    opened_and_then m _ _ _ _ c.args.kind (lines_from (exactly terms) m (candidates m c.args.kind)) c.take_all_indexed.result c.in_ok-write_line.ensures.whole c.take_all_indexed.ensures.said
+    opened_and_then m _ _ _ _ c.args.kind (lines_from (exactly terms) m (candidates m c.args.kind)) c.take_all.result c.in_ok-write_line.ensures.whole c.take_all.ensures.said
 
 pub returns-in_err-write_line-clause-motions : goal.returns-in_err-write_line-clause-motions
 returns-in_err-write_line-clause-motions g c = pass_keeps c.args.kind c.args.depth c.args.grouped (g.S.Surface.mesh c.args.mesh.now) (g.met.S.Surface.sound c.args.mesh.now) c.requires.closed c.requires.clear
@@ -31,4 +31,4 @@ pub returns-clause-mesh : goal.returns-clause-mesh
 returns-clause-mesh g c =
     let m = g.S.Surface.mesh c.args.mesh.now in
     let rules = exactly (terms_of c.args.kind c.args.depth c.args.grouped) in
-    leads_to _ _ _ _ c.take_all_indexed.result (lines_make rules (at_mesh m) (candidates m c.args.kind)) c.take_all_indexed.ensures
+    leads_to _ _ _ _ c.take_all.result (lines_make rules (at_mesh m) (candidates m c.args.kind)) c.take_all.ensures

@@ -5,7 +5,7 @@ use Rattle.pass_run.specs.PassLines.{exactly, lines_of, mesh_from}
 use Rattle.pass_run.proofs.Asking.{asked_makes, one_due, leads_where}
 use Rattle.pass_run.proofs.SinkFaults.{sink_fault_is}
 use Rattle.pass_run.proofs.Stages.{wanting, one_in_part}
-use Rattle.pass_run.proofs.passing.take_one.Goals as goal
+use Rattle.pass_run.proofs.passing.take_ready.Goals as goal
 
 pub returns-in_err-write_line-in-Ok-Some-clause-takes : goal.returns-in_err-write_line-in-Ok-Some-clause-takes
 returns-in_err-write_line-in-Ok-Some-clause-takes g c =
