@@ -82,8 +82,8 @@ impl HalfMesh {
 /// The calls for a journal: what is dropped can be buried and raised again, and what was made last can be unmade. All but
 /// `room` take no memory.
 impl HalfMesh {
-    ghost use Rattle.std.specs.Prelude.{true, [], OnOk};
-    ghost use Rattle.mesh_base.specs.Mesh.{IsLiveVertex, IsLiveFace, is_solid};
+    ghost use Rattle.std.specs.Prelude.{[], OnOk};
+    ghost use Rattle.mesh_base.specs.Mesh.{IsLiveVertex, IsLiveFace};
     ghost use Rattle.mesh_base.specs.Sides.{faces_at};
     ghost use Rattle.mesh_base.specs.Changes.{with_point};
     ghost use Rattle.half_mesh.specs.Half.{mesh_in, kept_in, state_in, spare_in};
@@ -160,10 +160,9 @@ impl HalfMesh {
         self.now.place(v, p);
     }
 
-    /// Takes the mark of a live vertex that is solid away.
+    /// Takes the mark as solid of a live vertex away, if it has one.
     pub fn unmake_solid(&mut self, v: VertexId)
-        requires live { IsLiveVertex (mesh_in self.old) v }
-        requires marked { is_solid (mesh_in self.old) v ≡ true }
+        requires { IsLiveVertex (mesh_in self.old) v }
         ensures state { state_in self.new ≡ with_mesh (state_in self.old) (without_solid (mesh_in self.old) v) }
         ensures kept { kept_in self.new ≡ kept_in self.old }
         ensures spare { spare_in self.old ≤ spare_in self.new }

@@ -1,5 +1,5 @@
-ghost use Rattle.std.specs.Prelude.{◌≡◌, ◌≤◌, ◌+◌, ℕ, [], true, IfOk, IsOk, OnOk, OnErr, IsErrOf};
-ghost use Rattle.mesh_base.specs.Mesh.{IsLiveVertex, IsLiveFace, is_solid};
+ghost use Rattle.std.specs.Prelude.{◌≡◌, ◌≤◌, ◌+◌, ℕ, [], IfOk, IsOk, OnOk, OnErr, IsErrOf};
+ghost use Rattle.mesh_base.specs.Mesh.{IsLiveVertex, IsLiveFace};
 ghost use Rattle.mesh_base.specs.Sides.{faces_at};
 ghost use Rattle.mesh_base.specs.Changes.{corners_of, with_point, with_solid, IsFresh, IsFullOfVertices, IsFullOfFaces};
 ghost use Rattle.half_mesh.specs.States.{State, none_buried, with_mesh, without_solid, bury_face, bury_vertex, raise_face, raise_vertex, unmake_face, unmake_vertex, CanRaiseFace, CanRaiseVertex, CanUnmakeFace, CanUnmakeVertex, AreApart};
@@ -87,10 +87,9 @@ pub trait Undoable: Surface {
         ensures state { state self.new ≡ with_mesh (state self.old) (with_solid (state self.old).mesh v) }
         ensures spare { spare self.old ≤ spare self.new };
 
-    /// Takes the mark of a live vertex that is solid away.
+    /// Takes the mark as solid of a live vertex away, if it has one.
     fn unmake_solid(&mut self, v: VertexId)
-        requires live { IsLiveVertex (state self.old).mesh v }
-        requires marked { is_solid (state self.old).mesh v ≡ true }
+        requires { IsLiveVertex (state self.old).mesh v }
         ensures state { state self.new ≡ with_mesh (state self.old) (without_solid (state self.old).mesh v) }
         ensures spare { spare self.old ≤ spare self.new };
 
