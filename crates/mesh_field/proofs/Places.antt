@@ -22,7 +22,7 @@ only_place names name place distinct found =
     record {
       here = here;
       only = λ i there. one_place place i
-        (λ above. distinct place i above (slice_get_within names i name there) (here ∙ sym there))
-        (λ below. distinct i place below at.0 (there ∙ sym here))
-        (ltb place i) (ltb i place) refl refl;
+          (λ above. distinct place i above (slice_get_within names i name there) (here ∙ sym there))
+          (λ below. distinct i place below at.0 (there ∙ sym here))
+          (ltb place i) (ltb i place) refl refl;
     }

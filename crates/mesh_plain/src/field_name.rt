@@ -5,9 +5,8 @@ ghost use Rattle.mesh_plain.specs.FieldNames.{IsFieldName, field_name_of};
 
 use crate::FIELD_NAME_MAX;
 use arrayvec::ArrayString;
-use std::fmt;
 use std::marker::Model;
-use std::str;
+use std::{fmt, str};
 
 /// The name of a stored field: a text of 1 to `FIELD_NAME_MAX` bytes. A contract sees it as the list of its bytes.
 #[derive(Drop)]

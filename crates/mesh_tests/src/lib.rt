@@ -4,6 +4,8 @@
 #[cfg(test)]
 mod choices;
 #[cfg(test)]
+mod fields;
+#[cfg(test)]
 mod half_edges;
 #[cfg(test)]
 mod impulses;

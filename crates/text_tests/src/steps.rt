@@ -4,14 +4,20 @@ ghost use Rattle.grid_base.specs.declared.TheConstants.{TEXT_MAX};
 use edit_base::PassKind;
 use grid_base::Shift;
 use line_text::{ReadFault, TextFault, TextWhy};
+use mesh_plain::FieldName;
 use std::test::Fail;
 use step_text::{Directive, Placed, read_steps};
+
+// A name of 32 bytes and 31 characters.
+const LONGEST: &[u8] = b"\xc3\xa4bcdefghijklmnopqrstuvwxyz01234";
 
 #[test]
 fn each_form_is_read(rt: HostRuntime) -> Result<(), Fail> {
     let by = Shift::new(-40, 0, 7).ok_or("a shift")?;
+    let name = FieldName::new(b"swirl").ok_or("a name")?;
+    let longest = FieldName::new(LONGEST).ok_or("a name")?;
     let text =
-        b"set depth 0\nset passes 100\nset zones 0\n\n# slower\r\nset halvings 27\n\tshift all -40 0 7 # all\nshift 2147483648 -40 -0 07\nstep\nsplit 0\nsplit 1073741824\nflip # edges\ncollapse 7\nzip 0\npinch\nsave\nsolid 12\ngroup\n group # inner\nclose\nclose";
+        b"set depth 0\nset passes 100\nset zones 0\n\n# slower\r\nset halvings 27\n\tshift all -40 0 7 # all\nshift 2147483648 -40 -0 07\nstep\nsplit 0\nsplit 1073741824\nflip # edges\ncollapse 7\nzip 0\npinch\nsave\nsolid 12\ngroup\n group # inner\nclose\nclose\ndrive swirl # round\ndrive \xc3\xa4bcdefghijklmnopqrstuvwxyz01234";
     let found = read_steps(rt.alloc(), text)?;
     let want = [
         (1, Directive::SetDepth(0)),
@@ -44,6 +50,8 @@ fn each_form_is_read(rt: HostRuntime) -> Result<(), Fail> {
         (19, Directive::Group),
         (20, Directive::Close),
         (21, Directive::Close),
+        (22, Directive::Drive { name }),
+        (23, Directive::Drive { name: longest }),
     ];
     assert_eq!(rt; found.len(), want.len());
     for (found, (line, what)) in found.as_slice().iter().zip(want) {
@@ -53,7 +61,7 @@ fn each_form_is_read(rt: HostRuntime) -> Result<(), Fail> {
 }
 
 // Texts with the line and the reason of their fault.
-const FAULTS: [(&[u8], u32, TextWhy); 50] = [
+const FAULTS: [(&[u8], u32, TextWhy); 56] = [
     (b"set", 1, TextWhy::Short),
     (b"set speed", 1, TextWhy::Unknown),
     (b"set speed 1", 1, TextWhy::Unknown),
@@ -91,7 +99,17 @@ const FAULTS: [(&[u8], u32, TextWhy); 50] = [
     (b"zip 1 2", 1, TextWhy::Long),
     (b"zip near", 1, TextWhy::Number),
     (b"pinch 5", 1, TextWhy::Long),
-    (b"drive", 1, TextWhy::Unknown),
+    (b"drive", 1, TextWhy::Short),
+    (b"drive # swirl", 1, TextWhy::Short),
+    (b"drive swirl swirl", 1, TextWhy::Long),
+    (
+        b"drive abcdefghijklmnopqrstuvwxyz0123456",
+        1,
+        TextWhy::Range,
+    ),
+    (b"drive \xff", 1, TextWhy::Range),
+    (b"drive swirl\xc3", 1, TextWhy::Range),
+    (b"drives swirl", 1, TextWhy::Unknown),
     (b"group", 1, TextWhy::Nesting),
     (b"close", 1, TextWhy::Nesting),
     (b"close now", 1, TextWhy::Long),
