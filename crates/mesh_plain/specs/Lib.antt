@@ -5,3 +5,4 @@ pub mod Balance
 pub mod Plain
 pub mod Laws
 pub mod Numbered
+pub mod FieldNames

@@ -3,11 +3,13 @@
 #![tactic(auto)]
 
 mod balance;
+mod field_name;
 mod good_shape;
 pub mod laws;
 mod plain;
 mod tables;
 
+pub use field_name::FieldName;
 pub use good_shape::shape;
 pub use mesh_base::{
     AddFault, Corners, Edges, FaceId, FaceIds, FileWord, How, Ids, Mark, MeshLists, PairName,
@@ -15,3 +17,6 @@ pub use mesh_base::{
     edges_in_order, live_faces, live_vertices,
 };
 pub use plain::PlainMesh;
+
+/// The greatest number of bytes of a field's name.
+pub const FIELD_NAME_MAX: usize = 32;

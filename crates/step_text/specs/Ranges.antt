@@ -4,9 +4,10 @@ use Rattle.std.specs.List.{AllByRecursion}
 use Rattle.grid_base.specs.declared.TheConstants.{DEPTH_MAX, HALVINGS_MAX, ID_MAX, LENGTH_MAX}
 use Rattle.edit_base.specs.declared.PassKind.{PassKind}
 use Rattle.edit_base.specs.declared.PassKind.TheVariants as pass
+use Rattle.mesh_plain.specs.FieldNames.{IsFieldName}
 use Rattle.step_text.specs.declared.TheConstants.{GROUPS_MAX, PASSES_MAX}
 use Rattle.step_text.specs.declared.directive.Directive.{Directive}
-use Rattle.step_text.specs.declared.directive.Directive.TheVariants.{SetDepth, SetPasses, SetZones, SetHalvings, ShiftOne, ShiftAll, Solid, Step, Pass, Save, Group, Close}
+use Rattle.step_text.specs.declared.directive.Directive.TheVariants.{SetDepth, SetPasses, SetZones, SetHalvings, ShiftOne, ShiftAll, Drive, Solid, Step, Pass, Save, Group, Close}
 use Rattle.step_text.specs.declared.directive.Placed.{Placed}
 
 -- from low to high
@@ -21,8 +22,8 @@ IsPassInRange pass.Flip = Unit {0}
 IsPassInRange (pass.Zip within) = within ≤ LENGTH_MAX
 IsPassInRange pass.Pinch = Unit {0}
 
--- Settings are at most the greatest, and ids and lengths are from the least to the greatest. Shifts are within their limit by
--- their type.
+-- Settings are at most the greatest, ids and lengths are from the least to the greatest, and names are names of fields. Shifts
+-- are within their limit by their type.
 abbrev pub IsInRange : Directive → Type 0
 IsInRange (SetDepth depth) = depth ≤ DEPTH_MAX
 IsInRange (SetPasses passes) = passes ≤ PASSES_MAX
@@ -30,6 +31,7 @@ IsInRange (SetZones on) = Unit {0}
 IsInRange (SetHalvings halvings) = halvings ≤ HALVINGS_MAX
 IsInRange (ShiftOne v by) = IsFrom 1 ID_MAX v
 IsInRange (ShiftAll by) = Unit {0}
+IsInRange (Drive name) = IsFieldName name
 IsInRange (Solid v) = IsFrom 1 ID_MAX v
 IsInRange Step = Unit {0}
 IsInRange (Pass kind) = IsPassInRange kind

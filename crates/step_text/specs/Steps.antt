@@ -1,18 +1,19 @@
 -- The grammar of steps: the directives that the lines give, or the first line outside it.
-use Rattle.std.specs.Prelude.{ℕ, ◌-◌, ◌==◌, if◌then◌else◌, nat_lt, List, [], ◌∷◌, ◌++◌, length, take, Result, Ok, Err, codes}
+use Rattle.std.specs.Prelude.{ℕ, ◌-◌, ◌==◌, if◌then◌else◌, nat_lt, List, [], ◌∷◌, ◌++◌, length, take, Option, Some, None, Result, Ok, Err, codes}
 use Rattle.std.specs.Str.{bytes_eq}
 use Rattle.grid_base.specs.declared.TheConstants.{SHIFT_MAX, DEPTH_MAX, HALVINGS_MAX, ID_MAX, LENGTH_MAX}
 use Rattle.grid_base.specs.declared.grid.Shift.{Shift}
 use Rattle.grid_base.specs.Points.{shift_by}
 use Rattle.line_text.specs.declared.TextWhy.{TextWhy}
-use Rattle.line_text.specs.declared.TextWhy.TheVariants.{Short, Unknown, Nesting}
+use Rattle.line_text.specs.declared.TextWhy.TheVariants.{Short, Range, Unknown, Nesting}
 use Rattle.line_text.specs.declared.TextFault.{TextFault}
 use Rattle.line_text.specs.Faults.{◌>>=◌, at_line}
 use Rattle.line_text.specs.Texts.{words_of, numbered_lines}
 use Rattle.edit_base.specs.declared.PassKind.TheVariants as pass
+use Rattle.mesh_plain.specs.FieldNames.{field_name_of}
 use Rattle.step_text.specs.declared.TheConstants.{GROUPS_MAX, PASSES_MAX}
 use Rattle.step_text.specs.declared.directive.Directive.{Directive}
-use Rattle.step_text.specs.declared.directive.Directive.TheVariants.{SetDepth, SetPasses, SetZones, SetHalvings, ShiftOne, ShiftAll, Solid, Step, Pass, Save, Group, Close}
+use Rattle.step_text.specs.declared.directive.Directive.TheVariants.{SetDepth, SetPasses, SetZones, SetHalvings, ShiftOne, ShiftAll, Drive, Solid, Step, Pass, Save, Group, Close}
 use Rattle.step_text.specs.declared.directive.Placed.{Placed}
 use Rattle.line_text.specs.Fields.{count_is, number_at, signed_at}
 
@@ -60,6 +61,18 @@ shift_of (who ∷ words) = do
   counted ← count_is 3 words
   (if bytes_eq who (codes "all") then (shift_at words >>= λ by. Ok (ShiftAll by)) else shift_one_of (who ∷ words))
 
+-- a drive by the field of this name, if it is one
+abbrev pub drive_or_range : Option (List ℕ) → Result Directive TextWhy
+drive_or_range (Some name) = Ok (Drive name)
+drive_or_range None = Err Range
+
+-- the name of a field
+unfoldable pub drive_of : List (List ℕ) → Result Directive TextWhy
+drive_of [] = Err Short
+drive_of (word ∷ words) = do
+  counted ← count_is 0 words
+  drive_or_range (field_name_of word)
+
 -- the id of a vertex
 unfoldable pub solid_of : List (List ℕ) → Result Directive TextWhy
 solid_of words = do
@@ -85,6 +98,7 @@ unfoldable pub directive_of : List ℕ → List (List ℕ) → Result Directive 
 directive_of first words =
     if bytes_eq first (codes "set") then set_of words
     else if bytes_eq first (codes "shift") then shift_of words
+    else if bytes_eq first (codes "drive") then drive_of words
     else if bytes_eq first (codes "solid") then solid_of words
     else if bytes_eq first (codes "step") then alone Step words
     else if bytes_eq first (codes "split") then (length_of words >>= λ over. Ok (Pass (pass.Split over)))

@@ -1,8 +1,9 @@
 use edit_base::PassKind;
 use grid_base::{Items, Shift};
+use mesh_plain::FieldName;
 
 /// What one line of a step text asks for.
-#[derive(Clone, Copy, Debug, PartialEq, Eq)]
+#[derive(Debug, Drop, PartialEq, Eq)]
 pub enum Directive {
     /// Test motions to this depth of time halving from here on.
     SetDepth(u8),
@@ -16,6 +17,8 @@ pub enum Directive {
     ShiftOne { v: u32, by: Shift },
     /// Add the shift to the asked shift of every live vertex.
     ShiftAll { by: Shift },
+    /// Add what the field of this name answers at each live vertex to the vertex's asked shift.
+    Drive { name: FieldName },
     /// Mark a vertex as solid from here on, and ask no shift of it.
     Solid { v: u32 },
     /// Take the asked shifts.
@@ -31,7 +34,7 @@ pub enum Directive {
 }
 
 /// A directive and its line, counted from 1.
-#[derive(Clone, Copy, Debug, PartialEq, Eq)]
+#[derive(Debug, Drop, PartialEq, Eq)]
 pub struct Placed {
     /// The line, from 1.
     pub line: u32,

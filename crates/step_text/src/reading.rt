@@ -14,6 +14,7 @@ use line_text::{
     Lines, ReadFault, TextFault, TextWhy, Words, count_is, is_word, number_at, shift_with,
     signed_at, words,
 };
+use mesh_plain::FieldName;
 use std::alloc::Global;
 
 #[tactic(auto, unfolding(crate::specs::Steps::set_of))]
@@ -84,6 +85,22 @@ fn shift(words: Words<'_>) -> Result<Directive, TextWhy>
     shift_one(words)
 }
 
+// The name of the field that drives.
+#[tactic(auto, unfolding(crate::specs::Steps::drive_of))]
+fn drive(words: Words<'_>) -> Result<Directive, TextWhy>
+    ensures { result ≡ spec.drive_of (words_left words.entry) }
+{
+    let mut words = words;
+    let Some(word) = words.next() else {
+        return Err(TextWhy::Short);
+    };
+    count_is(0, words)?;
+    match FieldName::new(word) {
+        Some(name) => Ok(Directive::Drive { name }),
+        None => Err(TextWhy::Range),
+    }
+}
+
 #[tactic(auto, unfolding(crate::specs::Steps::solid_of))]
 fn solid(words: Words<'_>) -> Result<Directive, TextWhy>
     ensures { result ≡ spec.solid_of (words_left words.entry) }
@@ -121,6 +138,9 @@ fn directive(first: &[u8], words: Words<'_>) -> Result<Directive, TextWhy>
     }
     if is_word(first, b"shift") {
         return shift(words);
+    }
+    if is_word(first, b"drive") {
+        return drive(words);
     }
     if is_word(first, b"solid") {
         return solid(words);
