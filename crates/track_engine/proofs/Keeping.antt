@@ -58,7 +58,7 @@ use Rattle.mesh_base.specs.Valid.{IsValidSurface}
 use Rattle.track_engine.proofs.Passing.{pass_keeps}
 use Rattle.track_engine.proofs.ReadAgain.{read_again}
 use Rattle.track_engine.specs.Invariant.{IsAskedWell, IsRunInvariant}
-use Rattle.track_engine.specs.Effects.{Effect, Proceeds, Refused, ExpectedLog, effect_of, shift_effect, set_effect, solid_effect, close_effect, step_effect, kept_whole, taken_back, is_whole, summed, first_beyond, all_summed, sum_or_range, sum_of_all, passed_lines, passed_mesh, after_pass, one_summed, sum_at, sum_of_one, first_outside, hits, taken, moves, moving, moved_mesh, hit_lines, block_lines, move_lines, way_lines, lines_of_step, all_still, one_still, step_lines, after_step, and_then, log_from}
+use Rattle.track_engine.specs.Effects.{Effect, Proceeds, Refused, ExpectedLog, effect_of, shift_effect, set_effect, solid_effect, close_effect, step_effect, kept_whole, taken_back, is_whole, summed, first_beyond, all_summed, sum_or_range, sum_of_all, sum_of_answer, passed_lines, passed_mesh, after_pass, one_summed, sum_at, sum_of_one, first_outside, hits, taken, moves, moving, moved_mesh, hit_lines, block_lines, move_lines, way_lines, lines_of_step, all_still, one_still, step_lines, after_step, and_then, log_from}
 use Rattle.track_engine.specs.Answers.{Answer, Answers, first, later}
 use Rattle.track_engine.proofs.NoFiles.{after-step_lines, after-moves, after-hits, after-blocks}
 use Rattle.track_engine.proofs.StepLemmas.{all_inside, ids_of_still}
@@ -259,6 +259,10 @@ one_well v by s now e = well_of_one s.mesh v by s.asked now (asked_of v s.asked)
 all_well : (by : ℕ → Shift) (s : State) (now : Shifts) → sum_of_all s.mesh by s.asked ≡ Ok now → AsksWell s.mesh s.asked now
 all_well by s now e = well_of_all s.mesh by s.asked now (first_beyond s.mesh by s.asked) e
 
+answer_well : (given : Answer) (s : State) (now : Shifts) → sum_of_answer given s.mesh s.asked ≡ Ok now → AsksWell s.mesh s.asked now
+answer_well (Some by) s now e = all_well by s now e
+answer_well None s now e = absurd cc
+
 pub kept_by_one : (v : ℕ) (by : Shift) (s : State) (now : Shifts) (o : Option UseWhy) → IsRunInvariant s → AsksNow (sum_of_one s.mesh v by s.asked) now o → o ≡ None → IsRunInvariant (record s { asked = now })
 kept_by_one v by s now o kept asks e = kept_asked s (sum_of_one s.mesh v by s.asked) now o kept (one_well v by s) asks e
 
@@ -321,6 +325,7 @@ keeps_effect given (directive.SetZones zones) s kept = keeps_set s (record s.set
 keeps_effect given (directive.SetHalvings halvings) s kept = keeps_set s (record s.set { halvings = halvings }) kept
 keeps_effect given (directive.ShiftOne v by) s kept = keeps_shift s kept (sum_of_one s.mesh v by s.asked) (one_well v by s)
 keeps_effect given (directive.ShiftAll by) s kept = keeps_shift s kept (sum_of_all s.mesh (λ v. by) s.asked) (all_well (λ v. by) s)
+keeps_effect given (directive.Drive name) s kept = keeps_shift s kept (sum_of_answer given s.mesh s.asked) (answer_well given s)
 keeps_effect given (directive.Solid v) s kept = keeps_solid s v kept (is_some (finite.get s.mesh.points v)) refl
 keeps_effect given directive.Step s kept = keeps_step_effect s kept (first_outside s.mesh s.asked) refl
 keeps_effect given (directive.Pass kind) s kept =

@@ -18,7 +18,7 @@ use Rattle.log_text.specs.declared.LogLine.TheVariants.{First}
 use Rattle.log_replay.specs.Replay.{after, closed}
 use Rattle.mesh_base.specs.Valid.{IsValidSurface}
 use Rattle.track_engine.specs.State.{Group, State, start, standing}
-use Rattle.track_engine.specs.Effects.{Effect, Proceeds, Refused, ExpectedLog, effect_of, mesh_line, and_then, log_from, shift_effect, solid_effect, close_effect, step_effect, kept_whole, taken_back, sum_of_one, sum_of_all, first_outside}
+use Rattle.track_engine.specs.Effects.{Effect, Proceeds, Refused, ExpectedLog, effect_of, mesh_line, and_then, log_from, shift_effect, solid_effect, close_effect, step_effect, kept_whole, taken_back, sum_of_one, sum_of_all, sum_of_answer, first_outside}
 use Rattle.track_engine.specs.Answers.{Answer}
 use Rattle.track_engine.specs.Invariant.{IsRunInvariant}
 use Rattle.log_replay.proofs.Replaying.{after-append}
@@ -61,6 +61,7 @@ replays given (directive.SetZones zones) s = refl
 replays given (directive.SetHalvings halvings) s = refl
 replays given (directive.ShiftOne v by) s = shift_replays s (sum_of_one s.mesh v by s.asked)
 replays given (directive.ShiftAll by) s = shift_replays s (sum_of_all s.mesh (λ v. by) s.asked)
+replays given (directive.Drive name) s = shift_replays s (sum_of_answer given s.mesh s.asked)
 replays given directive.Step s = step_replays s (first_outside s.mesh s.asked)
 replays given (directive.Pass kind) s = pass_replays kind s
 replays given directive.Save s = refl

@@ -112,6 +112,11 @@ so_far_nothing to all left first now old mid new stop some s same =
 
 -- ---- the directives, as the fields answer
 
+-- where the run stopped, no answers are asked for
+pub none_answered : (fields : Known) (left : List Placed) (s : State) → AreAnswered fields false [] left s
+none_answered fields [] s = tt
+none_answered fields (p ∷ left) s = refl
+
 -- Of the directives so far these are the answers; whichever answers come next, the lines so far are written, and what is left is answered
 -- as the rest.
 pub record Answering (fields : Known) (to : Target) (steps left : List Placed) (first now : State) (old new : Contents) : Type 0 where
@@ -177,14 +182,9 @@ module _ (fields : Known) (to : Target) (steps : List Placed) (i : ℕ) (p : Pla
   }
   effect_part then stop (inr takes) = record {
     answers = here.given ++ takes.0 ∷ [];
-    answered = here.answered false (takes.0 ∷ []) (takes.1, λ lines next goes. cut (drop (i + 1) steps) next);
+    answered = here.answered false (takes.0 ∷ []) (takes.1, λ lines next goes. none_answered fields (drop (i + 1) steps) next);
     follows = so_far_part to (all_with takes.0 []) p.line (effect_of takes.0 p.what now) (log_from [] (drop (i + 1) steps)) first now old mid new stop (λ s. log_left [] (drop (i + 1) steps) s) (here.so_far (takes.0 ∷ [])) takes.2;
   }
-    where
-      -- beyond it the run did not come
-      cut : (left : List Placed) (s : State) → AreAnswered fields false [] left s
-      cut [] s = tt
-      cut (q ∷ left) s = refl
 
   -- it is refused, and the last line is written, or a part of it
   pub is_refused : (then : State) (o : Option UseWhy) (why : UseWhy) → o ≡ Some why → AdvancesAnswered fields to p.what now then mid new (Ok o) → Ends fields to (RefusedLine (StepUse p.line why)) (Some (StepUse p.line why)) steps first now old new

@@ -1,10 +1,13 @@
 -- When answers are those of the stored fields.
 use Rattle.std.specs.Prelude.{◌≡◌, ℕ, Bool, false, is_ok, List, [], ◌∷◌, Option, Some, None, Result}
 use Rattle.std.specs.FinMap as finite
+use Rattle.std.specs.Fn.{Shared}
 use Rattle.grid_base.specs.declared.Point.{Point}
 use Rattle.grid_base.specs.declared.Shift.{Shift}
 use Rattle.mesh_base.specs.Mesh.{Mesh, is_solid}
+use Rattle.mesh_field.specs.Stored.{StoredFields, place_of, MayAnswer}
 use Rattle.step_text.specs.declared.Directive.{Directive}
+use Rattle.step_text.specs.declared.Directive.TheVariants.{Drive}
 use Rattle.step_text.specs.declared.Placed.{Placed}
 use Rattle.log_text.specs.declared.LogLine.{LogLine}
 use Rattle.log_text.specs.declared.Refusal.{Refusal}
@@ -20,8 +23,13 @@ pub record Known : Type 1 where
   pub names : List (List ℕ)
   pub may_answer : ℕ → Point → Shift → Type 0
 
+-- what a run sees of stored fields, by what their closure may answer
+abbrev pub known : {F : Type 0} → Shared F (ℕ × (Point × Unit {0})) Shift → StoredFields F → Known
+known closures fields = record { names = fields.names; may_answer = MayAnswer closures fields }
+
 -- the number of the field that a directive names; only `drive` names one
 abbrev pub named_field : List (List ℕ) → Directive → Option ℕ
+named_field names (Drive name) = place_of names name
 named_field names _ = None
 
 -- what a field may answer at a vertex: at one that may move, an answer at the point where it stands

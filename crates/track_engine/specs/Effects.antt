@@ -240,6 +240,7 @@ effect_of given (directive.SetZones zones) s = set_effect (record s.set { zones 
 effect_of given (directive.SetHalvings halvings) s = set_effect (record s.set { halvings = halvings }) s
 effect_of given (directive.ShiftOne v by) s = shift_effect (sum_of_one s.mesh v by s.asked) s
 effect_of given (directive.ShiftAll by) s = shift_effect (sum_of_all s.mesh (λ v. by) s.asked) s
+effect_of given (directive.Drive name) s = shift_effect (sum_of_answer given s.mesh s.asked) s
 effect_of given (directive.Solid v) s = solid_effect (is_some (finite.get s.mesh.points v)) v s
 effect_of given directive.Step s = step_effect (first_outside s.mesh s.asked) s
 effect_of given (directive.Pass kind) s = Proceeds (passed_lines kind s) (after_pass kind s)

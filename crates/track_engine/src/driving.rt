@@ -1,8 +1,9 @@
 //! Directives that name a field: what it answers at each vertex is added to what is asked of it.
-ghost use Rattle.std.specs.Prelude.{◌≡◌, ◌≤◌, ◌<◌, ◌+◌, ◌^◌, ℕ, length, IfOk, IfErr, IsSome};
+ghost use Rattle.std.specs.Prelude.{◌≡◌, ◌≤◌, ◌<◌, ◌+◌, ◌^◌, ℕ, length, IfOk, IfErr, IfSome, IsSome};
 ghost use Rattle.grid_base.specs.declared.Shift.{Shift};
 ghost use Rattle.mesh_base.specs.Shifts.{NameLive};
-ghost use Rattle.track_engine.specs.Answered.{named_field, IsAnswerAt, AreAnswersOf, known};
+ghost use Rattle.mesh_field.specs.Stored.{MayAnswer, IsWellKept};
+ghost use Rattle.track_engine.specs.Answered.{named_field, IsAnswerAt, AreAnswersOf};
 ghost use Rattle.track_engine.specs.Effects.{sum_of_all};
 ghost use Rattle.track_engine.specs.Shifting.{Sums, AsksNow};
 
@@ -10,14 +11,16 @@ use crate::run_state::RunState;
 use crate::shifting::{NO_SHIFT, summed_unless_solid};
 use crate::stop::Stop;
 use grid_base::{NoMemory, Point, Shift};
+use mesh_base::point_of;
 use mesh_field::Fields;
-use mesh_plain::{ShiftOf, Shifts, Surface, UseWhy, VertexId, point_of};
+use mesh_plain::{ShiftOf, Shifts, Surface, UseWhy, VertexId};
 use std::alloc::Global;
 use step_text::Directive;
 
 /// The number of the field that a directive names; None, where it names none that is there.
 pub(crate) fn field_of<F: Fn(u8, Point) -> Shift>(fields: &Fields<F>, what: &Directive) -> Option<u8>
-    ensures { result ≡ named_field (known F.Fn fields.now).names what.now }
+    ensures value { result ≡ named_field fields.now.names what.now }
+    ensures within { IfSome result (λ which. which < length fields.now.names) }
 {
     match what {
         Directive::Drive { name } => fields.find(name),
@@ -27,8 +30,9 @@ pub(crate) fn field_of<F: Fn(u8, Point) -> Shift>(fields: &Fields<F>, what: &Dir
 
 // What a field answers at a vertex, at the point where it stands. It is not asked at a solid one.
 fn answer_at<S: Surface, F: Fn(u8, Point) -> Shift>(mesh: &S, fields: &Fields<F>, which: u8, v: VertexId) -> Shift
-    requires { which < length (known F.Fn fields.now).names }
-    ensures { IsAnswerAt ((known F.Fn fields.now).may_answer which) (S.mesh mesh.now) v result }
+    requires there { which < length fields.now.names }
+    requires kept { IsWellKept F.Fn fields.now }
+    ensures { IsAnswerAt (MayAnswer F.Fn fields.now which) (S.mesh mesh.now) v result }
 {
     if mesh.solid(v) {
         return NO_SHIFT;
@@ -45,9 +49,10 @@ fn all_driven<S: Surface, F: Fn(u8, Point) -> Shift>(
     fields: &Fields<F>,
     which: u8,
 ) -> Result<Result<Shifts, VertexId>, NoMemory>
-    requires there { which < length (known F.Fn fields.now).names }
+    requires there { which < length fields.now.names }
+    requires kept { IsWellKept F.Fn fields.now }
     requires named { NameLive (S.mesh mesh.now) asked.now }
-    ensures { IfOk result (λ sums. (by : ℕ → Shift) × AreAnswersOf ((known F.Fn fields.now).may_answer which) (S.mesh mesh.now) by
+    ensures { IfOk result (λ sums. (by : ℕ → Shift) × AreAnswersOf (MayAnswer F.Fn fields.now which) (S.mesh mesh.now) by
         × Sums (S.mesh mesh.now) by asked.now sums) }
 {
     let mut shifts = Shifts::new(alloc);
@@ -73,9 +78,10 @@ pub(crate) fn drive<S: Surface, F: Fn(u8, Point) -> Shift>(
     fields: &Fields<F>,
     which: u8,
 ) -> Result<Option<UseWhy>, Stop>
-    requires there { which < length (known F.Fn fields.now).names }
+    requires there { which < length fields.now.names }
+    requires kept { IsWellKept F.Fn fields.now }
     requires named { NameLive (S.mesh mesh.now) run.old.asked }
-    ensures asks { IfOk result (λ refused. (by : ℕ → Shift) × AreAnswersOf ((known F.Fn fields.now).may_answer which) (S.mesh mesh.now) by
+    ensures asks { IfOk result (λ refused. (by : ℕ → Shift) × AreAnswersOf (MayAnswer F.Fn fields.now which) (S.mesh mesh.now) by
         × AsksNow (sum_of_all (S.mesh mesh.now) by run.old.asked) run.new.asked refused) }
     ensures rest { run.new ≡ record run.old { asked = run.new.asked } }
     ensures left { IfOk result (λ refused. IsSome refused → run.new ≡ run.old) }

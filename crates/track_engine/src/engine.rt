@@ -8,6 +8,7 @@ ghost use Rattle.track_engine.specs.Engines.{state_in};
 ghost use Rattle.track_engine.specs.Targets.{target_of};
 ghost use Rattle.track_engine.specs.Invariant.{IsRunInvariant, MarksHold, left_by, MayAdvance, HasAdvanced};
 ghost use Rattle.track_engine.specs.World.{contents, world, HasCauses};
+ghost use Rattle.mesh_field.specs.Stored.{IsWellKept};
 ghost use Rattle.track_engine.specs.Answered.{known, FollowsAnswers};
 ghost use Rattle.track_engine.specs.Parts.{Saves};
 
@@ -43,20 +44,21 @@ impl<S: Surface> Engine<S> {
     pub fn advance<D: Desk, K: Sink, F: Fn(u8, Point) -> Shift>(
         &mut self,
         alloc: Global,
-        what: Directive,
+        what: &Directive,
         to: Target<'_>,
         desk: &mut D,
         out: &mut K,
         fields: &Fields<F>,
     ) -> Result<Option<UseWhy>, Stop>
         requires few { to.decimals ≤ DECIMALS_MAX }
-        requires may { MayAdvance what (state_in S.mesh S.kept self.old) }
+        requires may { MayAdvance what.now (state_in S.mesh S.kept self.old) }
         requires marks { MarksHold S.beyond (S.kept self.old.mesh) self.old.run.groups }
-        ensures does { HasAdvanced (known F.Fn fields.now) (target_of to.entry) what (state_in S.mesh S.kept self.old) (state_in S.mesh S.kept self.new)
+        requires fields { IsWellKept F.Fn fields.now }
+        ensures does { HasAdvanced (known F.Fn fields.now) (target_of to.entry) what.now (state_in S.mesh S.kept self.old) (state_in S.mesh S.kept self.new)
             (world D.files D.faults K.written K.faults desk.old out.old)
             (world D.files D.faults K.written K.faults desk.new out.new) result }
         ensures marks { MarksHold S.beyond (S.kept self.new.mesh) self.new.run.groups }
-        ensures begins { BeginsWith (S.kept self.new.mesh) (left_by what self.old.run.groups (S.kept self.old.mesh)) }
+        ensures begins { BeginsWith (S.kept self.new.mesh) (left_by what.now self.old.run.groups (S.kept self.old.mesh)) }
     {
         take_directive(alloc, what, to, &mut self.mesh, &mut self.run, desk, out, fields)
     }
@@ -103,6 +105,7 @@ impl<S: Surface> Engine<S> {
         requires limits { AreWithinLimits self.old.run.set }
         requires steps_room { self.old.run.steps + length steps.now < 2 ^ 32 }
         requires saved_room { self.old.run.saved + length steps.now < 2 ^ 32 }
+        requires fields { IsWellKept F.Fn fields.now }
         ensures follows { FollowsAnswers (known F.Fn fields.now) (target_of to.entry) steps.now (state_in S.mesh S.kept self.old)
             (contents D.files K.written desk.old out.old) (contents D.files K.written desk.new out.new) result }
         ensures causes { HasCauses (world D.files D.faults K.written K.faults desk.old out.old)

@@ -6,6 +6,7 @@ ghost use Rattle.track_engine.specs.State.{groups_of, state_of};
 ghost use Rattle.track_engine.specs.Invariant.{IsRunInvariant, MarksHold};
 ghost use Rattle.track_engine.specs.Targets.{target_of};
 ghost use Rattle.track_engine.specs.World.{contents, world, HasCauses};
+ghost use Rattle.mesh_field.specs.Stored.{IsWellKept};
 ghost use Rattle.track_engine.specs.Answered.{known, FollowsAnswers};
 
 use crate::directing::take_directive;
@@ -52,13 +53,14 @@ pub(crate) fn follow<S: Surface, D: Desk, K: Sink, F: Fn(u8, Point) -> Shift>(
     requires limits { AreWithinLimits run.old.set }
     requires steps_room { run.old.steps + length steps.now < 2 ^ 32 }
     requires saved_room { run.old.saved + length steps.now < 2 ^ 32 }
+    requires fields { IsWellKept F.Fn fields.now }
     ensures follows { FollowsAnswers (known F.Fn fields.now) (target_of to.entry) steps.now (state_of (S.mesh mesh.old) (S.kept mesh.old) run.old)
         (contents D.files K.written desk.old out.old) (contents D.files K.written desk.new out.new) result }
     ensures causes { HasCauses (world D.files D.faults K.written K.faults desk.old out.old)
         (world D.files D.faults K.written K.faults desk.new out.new) result }
 {
     for placed in steps {
-        match take_directive(alloc, placed.what, to, mesh, run, desk, out, fields)? {
+        match take_directive(alloc, &placed.what, to, mesh, run, desk, out, fields)? {
             None => settle_outside_groups(mesh, &run.groups),
             Some(why) => {
                 let line = placed.line;
