@@ -1,6 +1,5 @@
 -- Stored fields: their names, what their closure may answer, and what is kept of them.
-use Rattle.std.specs.Prelude.{◌≡◌, ◌≢◌, ℕ, ◌<◌, ◌≤◌, List, length, slice_get, Option, Some, refl}
-use Rattle.std.specs.List.{position_from}
+use Rattle.std.specs.Prelude.{◌≡◌, ◌≢◌, ℕ, ◌<◌, ◌≤◌, List, length, slice_get, Option, Some, position, refl}
 use Rattle.std.specs.Str.{bytes_eq}
 use Rattle.std.specs.Fn.{Shared}
 use Rattle.std.specs.Coded.{Coded, code_by, coded×, coded_ℕ, coded_list}
@@ -32,7 +31,7 @@ AreDistinct names = (i j : ℕ) → i < j → j < length names → slice_get nam
 
 -- the place of a name among these, from 0
 abbrev pub place_of : List (List ℕ) → List ℕ → Option ℕ
-place_of names name = position_from (λ other. bytes_eq other name) 0 names
+place_of names name = position (λ other. bytes_eq other name) names
 
 -- the name stands there and nowhere else
 pub record IsOnlyPlace (names : List (List ℕ)) (name : List ℕ) (place : ℕ) : Type 0 where

@@ -53,7 +53,7 @@ impl<F: Fn(u8, Point) -> Shift> Fields<F> {
         // No other field has the name.
         ensures only { IfSome result (IsOnlyPlace self.now.names name.now) }
     {
-        let place = self.names.iter().position(|other| other == name)?;
+        let place = place(self.names.as_slice(), name)?;
         Some(place as u8)
     }
 
@@ -66,6 +66,14 @@ impl<F: Fn(u8, Point) -> Shift> Fields<F> {
     {
         (self.closure)(which, p)
     }
+}
+
+// The place of a name among these.
+fn place(names: &[FieldName], name: &FieldName) -> Option<usize>
+    ensures value { result ≡ place_of names.now name.now }
+    ensures few { IfSome result (λ place. place < length names.now) }
+{
+    names.iter().position(|other| other == name)
 }
 
 /// No field at all, with a closure that is never asked.
