@@ -18,7 +18,10 @@ use std::alloc::Global;
 use step_text::Directive;
 
 /// The number of the field that a directive names; None, where it names none that is there.
-pub(crate) fn field_of<F: Fn(u8, Point) -> Shift>(fields: &Fields<F>, what: &Directive) -> Option<u8>
+pub(crate) fn field_of<F: Fn(u8, Point) -> Shift>(
+    fields: &Fields<F>,
+    what: &Directive,
+) -> Option<u8>
     ensures value { result ≡ named_field fields.now.names what.now }
     ensures within { IfSome result (λ which. which < length fields.now.names) }
 {
@@ -29,7 +32,12 @@ pub(crate) fn field_of<F: Fn(u8, Point) -> Shift>(fields: &Fields<F>, what: &Dir
 }
 
 // What a field answers at a vertex, at the point where it stands. It is not asked at a solid one.
-fn answer_at<S: Surface, F: Fn(u8, Point) -> Shift>(mesh: &S, fields: &Fields<F>, which: u8, v: VertexId) -> Shift
+fn answer_at<S: Surface, F: Fn(u8, Point) -> Shift>(
+    mesh: &S,
+    fields: &Fields<F>,
+    which: u8,
+    v: VertexId,
+) -> Shift
     requires there { which < length fields.now.names }
     requires kept { IsWellKept F.Fn fields.now }
     ensures { IsAnswerAt (MayAnswer F.Fn fields.now which) (S.mesh mesh.now) v result }

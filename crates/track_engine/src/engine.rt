@@ -60,7 +60,16 @@ impl<S: Surface> Engine<S> {
         ensures marks { MarksHold S.beyond (S.kept self.new.mesh) self.new.run.groups }
         ensures begins { BeginsWith (S.kept self.new.mesh) (left_by what.now self.old.run.groups (S.kept self.old.mesh)) }
     {
-        take_directive(alloc, what, to, &mut self.mesh, &mut self.run, desk, out, fields)
+        take_directive(
+            alloc,
+            what,
+            to,
+            &mut self.mesh,
+            &mut self.run,
+            desk,
+            out,
+            fields,
+        )
     }
 
     /// Saves the mesh: its line is written, and then the mesh is stored. After Ok, one mesh more is saved.
@@ -111,7 +120,16 @@ impl<S: Surface> Engine<S> {
         ensures causes { HasCauses (world D.files D.faults K.written K.faults desk.old out.old)
             (world D.files D.faults K.written K.faults desk.new out.new) result }
     {
-        follow(alloc, to, steps, &mut self.mesh, &mut self.run, desk, out, fields)
+        follow(
+            alloc,
+            to,
+            steps,
+            &mut self.mesh,
+            &mut self.run,
+            desk,
+            out,
+            fields,
+        )
     }
 }
 
