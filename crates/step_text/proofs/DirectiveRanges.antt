@@ -1,8 +1,11 @@
 -- Each directive that words give is in range.
-use Rattle.std.proofs.Common.{◌≡◌, ℕ, ◌≤◌, Bool, eqb, leb, ◌&&◌, List, [], ◌∷◌, Option, Some, None, Ok, Err, subst, arith}
+use Rattle.std.proofs.Common.{◌≡◌, ℕ, ◌≤◌, Bool, eqb, leb, ◌&&◌, List, [], ◌∷◌, Option, Some, None, Ok, Err, refl, subst, length, arith}
 use Rattle.std.specs.Prelude.{codes, if◌then◌else◌}
 use Rattle.std.specs.Str.{bytes_eq}
+use Rattle.std.specs.Str.{is_utf8}
 use Rattle.std.proofs.lemmas.Bool.{leb-true, eqb-true, and_parts}
+use Rattle.std.proofs.lemmas.Option.{same_Some}
+use Rattle.std.proofs.lemmas.Str.{IsUtf8-from_is_utf8}
 use Rattle.grid_base.specs.declared.TheConstants.{DEPTH_MAX, HALVINGS_MAX, ID_MAX, LENGTH_MAX}
 use Rattle.grid_base.specs.declared.grid.Shift.{Shift}
 use Rattle.line_text.specs.declared.TextWhy.TheVariants.{Short, Number, Range, Unknown}
@@ -12,11 +15,13 @@ use Rattle.line_text.specs.Numbers.{whole_parts}
 use Rattle.line_text.proofs.ReadSteps.{bound, ok_same, by_test, fault_value}
 use Rattle.edit_base.specs.declared.PassKind.{PassKind}
 use Rattle.edit_base.specs.declared.PassKind.TheVariants as pass
+use Rattle.mesh_plain.specs.declared.TheConstants.{FIELD_NAME_MAX}
+use Rattle.mesh_plain.specs.FieldNames.{IsFieldName, is_field_name, field_name_of}
 use Rattle.step_text.specs.declared.TheConstants.{PASSES_MAX}
 use Rattle.step_text.specs.declared.directive.Directive.{Directive}
-use Rattle.step_text.specs.declared.directive.Directive.TheVariants.{SetDepth, SetPasses, SetZones, SetHalvings, ShiftOne, ShiftAll, Solid, Step, Pass, Save, Group, Close}
+use Rattle.step_text.specs.declared.directive.Directive.TheVariants.{SetDepth, SetPasses, SetZones, SetHalvings, ShiftOne, ShiftAll, Drive, Solid, Step, Pass, Save, Group, Close}
 use Rattle.step_text.specs.Ranges.{IsFrom, IsPassInRange, IsInRange}
-use Rattle.step_text.specs.Steps.{set_of, shift_at, shift_one_of, shift_of, solid_of, length_of, alone, directive_of}
+use Rattle.step_text.specs.Steps.{set_of, shift_at, shift_one_of, shift_of, drive_or_range, drive_of, solid_of, length_of, alone, directive_of}
 
 -- ---- numbers
 
@@ -78,6 +83,26 @@ shift_range (who ∷ words) what h =
     subst IsInRange (ok_same (ShiftOne b.value.0 s.value) what s.after) (number_at-range 1 ID_MAX (who ∷ words) b.value b.first))
     c.after
 
+-- the name that bytes are is the name of a field
+names_field : (bytes name : List ℕ) → field_name_of bytes ≡ Some name → IsFieldName name
+names_field bytes name h = by_test (is_field_name bytes) (Some bytes) None (Some name)
+    (λ t e.
+    let parts = and_parts (leb 1 (length bytes) && leb (length bytes) FIELD_NAME_MAX) (is_utf8 bytes) t in
+    let sizes = and_parts (leb 1 (length bytes)) (leb (length bytes) FIELD_NAME_MAX) parts.0 in
+    subst IsFieldName (same_Some bytes name e)
+    (record { some = leb-true 1 (length bytes) sizes.0; few = leb-true (length bytes) FIELD_NAME_MAX sizes.1; text = IsUtf8-from_is_utf8 bytes parts.1 }))
+    (λ t e. absurd (let no : ⊥ = cc in no))
+    h
+
+name_range : (named : Option (List ℕ)) (what : Directive) → ((name : List ℕ) → named ≡ Some name → IsFieldName name) → drive_or_range named ≡ Ok what → IsInRange what
+name_range None what is h = fault_value Range what h
+name_range (Some name) what is h = subst IsInRange (ok_same (Drive name) what h) (is name refl)
+
+drive_range : (words : List (List ℕ)) (what : Directive) → drive_of words ≡ Ok what → IsInRange what
+unfolding drive_of
+drive_range [] what h = fault_value Short what h
+drive_range (word ∷ words) what h = name_range (field_name_of word) what (names_field word) (bound (count_is 0 words) (λ (u : Unit {0}). drive_or_range (field_name_of word)) what h).after
+
 solid_range : (words : List (List ℕ)) (what : Directive) → solid_of words ≡ Ok what → IsInRange what
 unfolding solid_of
 solid_range words what h = one_number 1 ID_MAX Solid (λ n r. r) words what h
@@ -107,6 +132,7 @@ unfolding directive_of
 directive_range first words what h =
     by_test (bytes_eq first (codes "set")) _ _ (Ok what) (λ t e. set_range words what e)
     (λ t e. by_test (bytes_eq first (codes "shift")) _ _ (Ok what) (λ t e. shift_range words what e)
+    (λ t e. by_test (bytes_eq first (codes "drive")) _ _ (Ok what) (λ t e. drive_range words what e)
     (λ t e. by_test (bytes_eq first (codes "solid")) _ _ (Ok what) (λ t e. solid_range words what e)
     (λ t e. by_test (bytes_eq first (codes "step")) _ _ (Ok what) (λ t e. alone_range Step tt words what e)
     (λ t e. by_test (bytes_eq first (codes "split")) _ _ (Ok what) (λ t e. pass_range pass.Split (λ n r. r) words what e)
@@ -118,4 +144,4 @@ directive_range first words what h =
     (λ t e. by_test (bytes_eq first (codes "group")) _ _ (Ok what) (λ t e. alone_range Group tt words what e)
     (λ t e. by_test (bytes_eq first (codes "close")) _ _ (Ok what) (λ t e. alone_range Close tt words what e)
     (λ t e. fault_value Unknown what e)
-    e) e) e) e) e) e) e) e) e) e) e) h
+    e) e) e) e) e) e) e) e) e) e) e) e) h

@@ -16,7 +16,7 @@ use Rattle.line_text.proofs.LineCuts.{few_lines}
 use Rattle.line_text.proofs.ReadSteps.{bound, ok_same, by_test, fault_value}
 use Rattle.step_text.specs.declared.TheConstants.{GROUPS_MAX}
 use Rattle.step_text.specs.declared.directive.Directive.{Directive}
-use Rattle.step_text.specs.declared.directive.Directive.TheVariants.{SetDepth, SetPasses, SetZones, SetHalvings, ShiftOne, ShiftAll, Solid, Step, Pass, Save, Group, Close}
+use Rattle.step_text.specs.declared.directive.Directive.TheVariants.{SetDepth, SetPasses, SetZones, SetHalvings, ShiftOne, ShiftAll, Drive, Solid, Step, Pass, Save, Group, Close}
 use Rattle.step_text.specs.declared.directive.Placed.{Placed}
 use Rattle.step_text.specs.Ranges.{IsFrom, IsInRange, AreInRange, AreOnLines, Nests, open_behind, AreNested}
 use Rattle.step_text.specs.Steps.{directive_of, SoFar, so_far, groups_behind, words_add, lines_add, closed_or_nesting, steps_of}
@@ -54,6 +54,7 @@ groups_nested count line (SetZones b) groups behind here on h = groups_kept coun
 groups_nested count line (SetHalvings n) groups behind here on h = groups_kept count (SetHalvings n) groups behind on tt refl h
 groups_nested count line (ShiftOne v by) groups behind here on h = groups_kept count (ShiftOne v by) groups behind on tt refl h
 groups_nested count line (ShiftAll by) groups behind here on h = groups_kept count (ShiftAll by) groups behind on tt refl h
+groups_nested count line (Drive name) groups behind here on h = groups_kept count (Drive name) groups behind on tt refl h
 groups_nested count line (Solid v) groups behind here on h = groups_kept count (Solid v) groups behind on tt refl h
 groups_nested count line Step groups behind here on h = groups_kept count Step groups behind on tt refl h
 groups_nested count line (Pass kind) groups behind here on h = groups_kept count (Pass kind) groups behind on tt refl h
