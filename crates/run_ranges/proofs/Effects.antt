@@ -13,7 +13,7 @@ use Rattle.mesh_base.specs.declared.ShiftOf.{ShiftOf}
 use Rattle.mesh_base.specs.declared.How.{How}
 use Rattle.mesh_base.specs.declared.How.TheVariants.{Whole, Impulse, Zones, Halved, Zero}
 use Rattle.mesh_base.specs.declared.UseWhy.{UseWhy}
-use Rattle.mesh_base.specs.declared.UseWhy.TheVariants.{ShiftRange}
+use Rattle.mesh_base.specs.declared.UseWhy.TheVariants.{ShiftRange, NoField}
 use Rattle.mesh_base.specs.Mesh.{Mesh, IsSound, IsLiveVertex, is_solid}
 use Rattle.mesh_base.specs.Shifts.{Shifts}
 use Rattle.mesh_base.proofs.MovesNamed.{name_once}
@@ -43,7 +43,8 @@ use Rattle.log_ranges.proofs.StepLines.{step_in_range, mesh_in_range}
 use Rattle.log_ranges.specs.Texts.{IsPlacedInRange}
 use Rattle.log_ranges.proofs.Texts.{pass_told}
 use Rattle.track_engine.specs.State.{Group, State, asked_of, is_open}
-use Rattle.track_engine.specs.Effects.{Effect, Proceeds, Refused, ExpectedLog, summed, is_beyond, first_beyond, sum_or_range, sum_of_all, one_summed, sum_at, sum_of_one, moves, moving, end_of, first_outside, hits, taken, step_lines, after_step, passed_lines, after_pass, shift_effect, step_effect, mesh_line, after_solid, solid_effect, kept_whole, taken_back, close_effect, effect_of, and_then, log_from}
+use Rattle.track_engine.specs.Answers.{Answer, Answers, first, later}
+use Rattle.track_engine.specs.Effects.{Effect, Proceeds, Refused, ExpectedLog, summed, is_beyond, first_beyond, sum_or_range, sum_of_all, sum_of_answer, one_summed, sum_at, sum_of_one, moves, moving, end_of, first_outside, hits, taken, step_lines, after_step, passed_lines, after_pass, shift_effect, step_effect, mesh_line, after_solid, solid_effect, kept_whole, taken_back, close_effect, effect_of, and_then, log_from}
 use Rattle.track_engine.specs.Invariant.{IsRunInvariant}
 use Rattle.track_engine.specs.Promise.{blocks_moved}
 use Rattle.track_engine.proofs.StepLemmas.{all_inside}
@@ -108,9 +109,16 @@ module _ (s : State) (room : HasRoomFor 1 s) where
       by_test true e = absurd cc
       by_test false e = let same : ShiftRange v ≡ why = cc in subst IsUseInRange same id
 
-  all_why : (by : Shift) (o : Option ℕ) → IfSome o IsId → (why : UseWhy) → sum_or_range o s.mesh by s.asked ≡ Err why → IsUseInRange why
+  all_why : (by : ℕ → Shift) (o : Option ℕ) → IfSome o IsId → (why : UseWhy) → sum_or_range o s.mesh by s.asked ≡ Err why → IsUseInRange why
   all_why by None h why e = absurd cc
   all_why by (Some v) h why e = let same : ShiftRange v ≡ why = cc in subst IsUseInRange same h
+
+  answer_why : (given : Answer) (why : UseWhy) → sum_of_answer given s.mesh s.asked ≡ Err why → IsUseInRange why
+  answer_why (Some by) why e = all_why by (first_beyond s.mesh by s.asked) (found_id (is_beyond s.mesh by)) why e
+  answer_why None why e = subst IsUseInRange (same_why NoField why e) tt
+    where
+      same_why : (a b : UseWhy) → ◌≡◌ {A = Result Shifts UseWhy} (Err a) (Err b) → a ≡ b
+      same_why a b e = cc
 
   by_solid : (v : ℕ) → IsId v → (b : Bool) → IsGood s (solid_effect b v s)
   by_solid v id true = (one_line (Solid v) (id, tt), record { limits = room.limits; steps = omega arith; saved = omega arith })
@@ -163,24 +171,26 @@ module _ (s : State) (room : HasRoomFor 1 s) where
       by_test true = (one_line (Close false) (tt, tt), record { limits = room.limits; steps = omega arith; saved = omega arith })
       by_test false = (one_line (Close true) (tt, tt), record { limits = room.limits; steps = omega arith; saved = omega arith })
 
-  effect_good : (what : Directive) → IsInRange what → IsGood s (effect_of what s)
-  effect_good (directive.SetDepth depth) range = (no_lines, record { limits = record { depth = range; passes = room.limits.passes; halvings = room.limits.halvings }; steps = omega arith; saved = omega arith })
-  effect_good (directive.SetPasses passes) range = (no_lines, record { limits = record { depth = room.limits.depth; passes = range; halvings = room.limits.halvings }; steps = omega arith; saved = omega arith })
-  effect_good (directive.SetZones zones) range = (no_lines, record { limits = record { depth = room.limits.depth; passes = room.limits.passes; halvings = room.limits.halvings }; steps = omega arith; saved = omega arith })
-  effect_good (directive.SetHalvings halvings) range = (no_lines, record { limits = record { depth = room.limits.depth; passes = room.limits.passes; halvings = range }; steps = omega arith; saved = omega arith })
-  effect_good (directive.ShiftOne v by) range = by_shift (sum_of_one s.mesh v by s.asked) (one_why v by range (asked_of v s.asked) (is_solid s.mesh v))
-  effect_good (directive.ShiftAll by) range = by_shift (sum_of_all s.mesh by s.asked) (all_why by (first_beyond s.mesh by s.asked) (found_id (is_beyond s.mesh by)))
-  effect_good (directive.Solid v) range = by_solid v range (is_some (finite.get s.mesh.points v))
-  effect_good directive.Step range = by_step (first_outside s.mesh s.asked) refl (found_id (λ a. not (is_within BOX (end_of s.mesh a))))
-  effect_good (directive.Pass kind) range = (by_pass kind range, record { limits = room.limits; steps = omega arith; saved = omega arith })
-  effect_good directive.Save range =
+  effect_good : (given : Answer) (what : Directive) → IsInRange what → IsGood s (effect_of given what s)
+  effect_good given (directive.SetDepth depth) range = (no_lines, record { limits = record { depth = range; passes = room.limits.passes; halvings = room.limits.halvings }; steps = omega arith; saved = omega arith })
+  effect_good given (directive.SetPasses passes) range = (no_lines, record { limits = record { depth = room.limits.depth; passes = range; halvings = room.limits.halvings }; steps = omega arith; saved = omega arith })
+  effect_good given (directive.SetZones zones) range = (no_lines, record { limits = record { depth = room.limits.depth; passes = room.limits.passes; halvings = room.limits.halvings }; steps = omega arith; saved = omega arith })
+  effect_good given (directive.SetHalvings halvings) range = (no_lines, record { limits = record { depth = room.limits.depth; passes = room.limits.passes; halvings = range }; steps = omega arith; saved = omega arith })
+  effect_good given (directive.ShiftOne v by) range = by_shift (sum_of_one s.mesh v by s.asked) (one_why v by range (asked_of v s.asked) (is_solid s.mesh v))
+  effect_good given (directive.ShiftAll by) range =
+      let each : ℕ → Shift = λ v. by in by_shift (sum_of_all s.mesh each s.asked) (all_why each (first_beyond s.mesh each s.asked) (found_id (is_beyond s.mesh each)))
+  effect_good given (directive.Drive name) range = by_shift (sum_of_answer given s.mesh s.asked) (answer_why given)
+  effect_good given (directive.Solid v) range = by_solid v range (is_some (finite.get s.mesh.points v))
+  effect_good given directive.Step range = by_step (first_outside s.mesh s.asked) refl (found_id (λ a. not (is_within BOX (end_of s.mesh a))))
+  effect_good given (directive.Pass kind) range = (by_pass kind range, record { limits = room.limits; steps = omega arith; saved = omega arith })
+  effect_good given directive.Save range =
       let count = room.saved in
       (one_line (mesh_line s.saved s.mesh) (mesh_in_range s.mesh s.saved sound (omega (arith, count))), record { limits = room.limits; steps = omega arith; saved = omega arith })
-  effect_good directive.Group range = (one_line GroupLine (tt, tt), record { limits = room.limits; steps = omega arith; saved = omega arith })
-  effect_good directive.Close range = by_close s.groups
+  effect_good given directive.Group range = (one_line GroupLine (tt, tt), record { limits = room.limits; steps = omega arith; saved = omega arith })
+  effect_good given directive.Close range = by_close s.groups
 
 pub effects_in_range : EffectsAreInRange
-effects_in_range what s room range = by_effect (effect_of what s) (effect_good s room what range)
+effects_in_range given what s room range = by_effect (effect_of given what s) (effect_good s room given what range)
   where
     by_effect : (t : Effect) → IsGood s t → IsEffectInRange t
     by_effect (Proceeds lines next) good = good.0
@@ -193,20 +203,21 @@ fewer n s room =
     let b = room.saved in
     record { kept = room.kept; limits = room.limits; steps = omega (arith, a); saved = omega (arith, b) }
 
-all_good : (steps : List Placed) (s : State) → HasRoomFor (length steps) s → AllByRecursion IsPlacedInRange steps → AreInRange (log_from steps s).lines
-all_good [] s room placed = one_line End (tt, tt)
-all_good (one ∷ more) s room placed = by_effect (effect_of one.what s) refl (effect_good s (fewer (length more) s room) one.what placed.0.1) (λ next h. all_good more next h placed.1)
+all_good : (answers : Answers) (steps : List Placed) (s : State) → HasRoomFor (length steps) s → AllByRecursion IsPlacedInRange steps → AreInRange (log_from answers steps s).lines
+all_good answers [] s room placed = one_line End (tt, tt)
+all_good answers (one ∷ more) s room placed =
+    by_effect (effect_of (first answers) one.what s) refl (effect_good s (fewer (length more) s room) (first answers) one.what placed.0.1) (λ next h. all_good (later answers) more next h placed.1)
   where
-    by_effect : (t : Effect) → effect_of one.what s ≡ t → IsGood s t → ((next : State) → HasRoomFor (length more) next → AreInRange (log_from more next).lines) → AreInRange (and_then one.line t (log_from more)).lines
+    by_effect : (t : Effect) → effect_of (first answers) one.what s ≡ t → IsGood s t → ((next : State) → HasRoomFor (length more) next → AreInRange (log_from (later answers) more next).lines) → AreInRange (and_then one.line t (log_from (later answers) more)).lines
     by_effect (Proceeds lines next) e good later =
         let on = good.1 in
         let a = room.steps in
         let b = room.saved in
         let c = on.steps in
         let d = on.saved in
-        All-append MayFollow lines (log_from more next).lines good.0
-        (later next (record { kept = kept_next one.what s next lines room.kept e; limits = on.limits; steps = omega (arith, a, c); saved = omega (arith, b, d) }))
+        All-append MayFollow lines (log_from (later answers) more next).lines good.0
+        (later next (record { kept = kept_next (first answers) one.what s next lines room.kept e; limits = on.limits; steps = omega (arith, a, c); saved = omega (arith, b, d) }))
     by_effect (Refused why) e good later = one_line (RefusedLine (StepUse one.line why)) ((placed.0.0, good), tt)
 
 pub logs_in_range : LogsAreInRange
-logs_in_range steps s room placed = all_good steps s room (recursion_from_All IsPlacedInRange steps placed)
+logs_in_range answers steps s room placed = all_good answers steps s room (recursion_from_All IsPlacedInRange steps placed)

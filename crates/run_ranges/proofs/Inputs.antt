@@ -56,9 +56,9 @@ pub inputs_in_range : InputsAreInRange
 inputs_in_range job mesh steps = by_files job.decimals job.mesh_file job.step_file mesh steps
 
 pub mesh_logs_in_range : LogsOfMeshesAreInRange
-mesh_logs_in_range m steps good counted =
+mesh_logs_in_range answers m steps good counted =
     let few = counted.few in
-    All-cons MayFollow (mesh_line 0 m) (log_from steps (start m)).lines (mesh_in_range m 0 good.sound (omega arith))
-    (logs_in_range steps (start m)
+    All-cons MayFollow (mesh_line 0 m) (log_from answers steps (start m)).lines (mesh_in_range m 0 good.sound (omega arith))
+    (logs_in_range answers steps (start m)
     (record { kept = kept_start m good; limits = record { depth = omega arith; passes = omega arith; halvings = omega arith }; steps = omega (arith, few); saved = omega (arith, few) })
     counted.placed)

@@ -10,6 +10,7 @@ use Rattle.log_text.specs.Laws.{IsUseInRange}
 use Rattle.log_ranges.specs.Lines.{AreInRange}
 use Rattle.log_ranges.specs.Texts.{IsPlacedInRange}
 use Rattle.track_engine.specs.State.{State}
+use Rattle.track_engine.specs.Answers.{Answer, Answers}
 use Rattle.track_engine.specs.Effects.{Effect, Proceeds, Refused, effect_of, log_from}
 use Rattle.track_engine.specs.Invariant.{IsRunInvariant}
 
@@ -25,10 +26,11 @@ abbrev pub IsEffectInRange : Effect → Type 0
 IsEffectInRange (Proceeds lines next) = AreInRange lines
 IsEffectInRange (Refused why) = IsUseInRange why
 
--- what a directive of a step file gives
+-- what a directive of a step file gives, whatever a field answers
 abbrev pub EffectsAreInRange : Type 0
-EffectsAreInRange = (what : Directive) (s : State) → HasRoomFor 1 s → IsInRange what → IsEffectInRange (effect_of what s)
+EffectsAreInRange = (given : Answer) (what : Directive) (s : State) → HasRoomFor 1 s → IsInRange what → IsEffectInRange (effect_of given what s)
 
--- the log of directives
+-- the log of directives, whatever fields answer
 abbrev pub LogsAreInRange : Type 0
-LogsAreInRange = (steps : List Placed) (s : State) → HasRoomFor (length steps) s → All IsPlacedInRange steps → AreInRange (log_from steps s).lines
+LogsAreInRange =
+    (answers : Answers) (steps : List Placed) (s : State) → HasRoomFor (length steps) s → All IsPlacedInRange steps → AreInRange (log_from answers steps s).lines

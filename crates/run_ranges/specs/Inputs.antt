@@ -14,6 +14,7 @@ use Rattle.log_ranges.specs.Texts.{IsPlacedInRange}
 use Rattle.track_input.specs.Source.{Source, Bytes, Absent, TooLong}
 use Rattle.track_input.specs.Job.{Job, Input, input_of, mesh_of_lists}
 use Rattle.track_engine.specs.State.{start}
+use Rattle.track_engine.specs.Answers.{Answers}
 use Rattle.track_engine.specs.Effects.{mesh_line, log_from}
 
 -- what was fetched has at most as many bytes as may be read, or is seen to have more, in a number of the log
@@ -42,6 +43,7 @@ IsInputInRange (Err why) = IsRefusalInRange why
 abbrev pub InputsAreInRange : Type 0
 InputsAreInRange = (job : Job) → IsSeen job.mesh_file → IsSeen job.step_file → IsInputInRange (input_of job)
 
--- the log of a mesh and directives, from the line of the mesh on
+-- the log of a mesh and directives, from the line of the mesh on, whatever fields answer
 abbrev pub LogsOfMeshesAreInRange : Type 0
-LogsOfMeshesAreInRange = (m : Mesh) (steps : List Placed) → IsValidSurface m → AreCounted steps → AreInRange (mesh_line 0 m ∷ (log_from steps (start m)).lines)
+LogsOfMeshesAreInRange =
+    (answers : Answers) (m : Mesh) (steps : List Placed) → IsValidSurface m → AreCounted steps → AreInRange (mesh_line 0 m ∷ (log_from answers steps (start m)).lines)

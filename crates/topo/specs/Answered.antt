@@ -3,6 +3,7 @@ use Rattle.std.specs.Prelude.{◌≡◌, ◌≤◌, ◌⊎◌, ℕ, List, Option
 use Rattle.outside_io.specs.Causes.{Rose}
 use Rattle.outside_io.specs.Sink.{appended, AppendsPart}
 use Rattle.track_input.specs.Words.{Named}
+use Rattle.track_engine.specs.Answered.{Known}
 use Rattle.track_engine.specs.World.{World}
 use Rattle.track_run.specs.declared.outcome.Outcome.{Outcome}
 use Rattle.track_run.specs.declared.outcome.Outcome.TheVariants.{Done, SinkFault}
@@ -25,8 +26,8 @@ pub record Tells (text : List ℕ) (status : ℕ) (old new : World) : Type 0 whe
   pub desk : new.desk_faults ≡ old.desk_faults
   pub sink : old.sink_faults ≤ new.sink_faults
 
--- it is a run for these words, and the status is that of its outcome
-pub record RunsTo (named : Option Named) (status : ℕ) (old new : World) : Type 0 where
+-- it is a run for these words with these stored fields, and the status is that of its outcome
+pub record RunsTo (fields : Known) (named : Option Named) (status : ℕ) (old new : World) : Type 0 where
   pub outcome : Outcome
   pub status_is : status ≡ status_of outcome
-  pub runs : Runs named outcome old new
+  pub runs : Runs fields named outcome old new

@@ -1,11 +1,15 @@
 //! What the words of a command line are answered with.
 ghost use Rattle.std.specs.Prelude.{◌≡◌, true, false, List, map, string_bytes};
 ghost use Rattle.track_input.specs.Words.{named_in};
+ghost use Rattle.mesh_field.specs.Stored.{IsWellKept};
+ghost use Rattle.track_engine.specs.Answered.{known};
 ghost use Rattle.track_engine.specs.World.{world};
 ghost use Rattle.topo.specs.Asked.{is_help, is_version};
 ghost use Rattle.topo.specs.Answered.{Tells, RunsTo};
 
+use grid_base::{Point, Shift};
 use line_text::is_word;
+use mesh_field::Fields;
 use outside_io::{Desk, Sink, put_all};
 use std::alloc::Global;
 use track_run::{Outcome, run};
@@ -70,12 +74,14 @@ fn tell<D: Desk, K: Sink>(text: &str, desk: &D, out: &mut K) -> u8
 
 /// Answers the words that follow the program's name, and gives the exit status. `--help` or `-h` alone writes how the program is called,
 /// `--version` alone the line of the version, and all other words are a run's.
-pub(crate) fn answer<D: Desk, K: Sink>(
+pub(crate) fn answer<D: Desk, K: Sink, F: Fn(u8, Point) -> Shift>(
     alloc: Global,
     words: &[String],
     desk: &mut D,
     out: &mut K,
+    fields: &Fields<F>,
 ) -> u8
+    requires { IsWellKept F.Fn fields.now }
     ensures help { is_help (map (λ word. string_bytes word) words.now) ≡ true → Tells USAGE.now result
         (world D.files D.faults K.written K.faults desk.old out.old)
         (world D.files D.faults K.written K.faults desk.new out.new) }
@@ -84,7 +90,7 @@ pub(crate) fn answer<D: Desk, K: Sink>(
         (world D.files D.faults K.written K.faults desk.new out.new) }
     ensures runs { is_help (map (λ word. string_bytes word) words.now) ≡ false →
         is_version (map (λ word. string_bytes word) words.now) ≡ false →
-        RunsTo (named_in (map (λ word. string_bytes word) words.now)) result
+        RunsTo (known F.Fn fields.now) (named_in (map (λ word. string_bytes word) words.now)) result
         (world D.files D.faults K.written K.faults desk.old out.old)
         (world D.files D.faults K.written K.faults desk.new out.new) }
 {
@@ -94,5 +100,5 @@ pub(crate) fn answer<D: Desk, K: Sink>(
     if is_version(words) {
         return tell(VERSION_LINE, desk, out);
     }
-    run(alloc, words, desk, out).status()
+    run(alloc, words, desk, out, fields).status()
 }

@@ -5,6 +5,8 @@
 mod answering;
 
 use answering::{USAGE, answer};
+use grid_base::{Point, Shift};
+use mesh_field::no_fields;
 use outside_io::{FileDesk, StdSink};
 use std::io::ErrorKind;
 use std::process::ExitCode;
@@ -32,6 +34,7 @@ fn main(rt: HostRuntime) -> ExitCode {
             &words,
             &mut FileDesk::new(&rt),
             &mut StdSink::new(&rt),
+            &no_fields(|_which: u8, _at: Point| Shift { x: 0, y: 0, z: 0 }),
         ),
     };
     if status == Outcome::Usage.status() {

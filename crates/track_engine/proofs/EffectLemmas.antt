@@ -19,24 +19,24 @@ use Rattle.track_engine.specs.Saved.{Target}
 use Rattle.track_engine.specs.World.{Contents, Logs, StopsIn}
 use Rattle.track_engine.specs.Parts.{Takes, Advances}
 
-pub ids_of_sums : (m : Mesh) (by : Shift) (asked : Shifts) → map (λ s. s.v) (all_summed m by asked) ≡ map (λ s. s.v) asked
+pub ids_of_sums : (m : Mesh) (by : ℕ → Shift) (asked : Shifts) → map (λ s. s.v) (all_summed m by asked) ≡ map (λ s. s.v) asked
 ids_of_sums m by [] = refl
 ids_of_sums m by (s ∷ rest) = ap (λ id. id ∷ map (λ x. x.v) (all_summed m by rest)) (by_test (is_solid m s.v)) ∙ ap (λ ids. s.v ∷ ids) (ids_of_sums m by rest)
   where
-    by_test : (b : Bool) → (cond b s (with_shift s (summed by s))).v ≡ s.v
+    by_test : (b : Bool) → (cond b s (with_shift s (summed (by s.v) s))).v ≡ s.v
     by_test true = refl
     by_test false = refl
 
 -- a save
-pub save_whole : (to : Target) (what : Directive) (s : State) (old new : Contents) → what ≡ directive.Save → Logs to (standing s) (mesh_line s.saved s.mesh ∷ []) old new → Takes to (effect_of what s) s (record s { saved = s.saved + 1 }) old new
+pub save_whole : (to : Target) (what : Directive) (s : State) (old new : Contents) → what ≡ directive.Save → Logs to (standing s) (mesh_line s.saved s.mesh ∷ []) old new → Takes to (effect_of None what s) s (record s { saved = s.saved + 1 }) old new
 save_whole to what s old new is logs =
-    let P : Directive → Type 0 = λ what. Takes to (effect_of what s) s (record s { saved = s.saved + 1 }) old new in
+    let P : Directive → Type 0 = λ what. Takes to (effect_of None what s) s (record s { saved = s.saved + 1 }) old new in
     subst P (sym is) (record { lines = mesh_line s.saved s.mesh ∷ []; goes = refl; logs = logs; replay = refl })
 
 -- a save that stops in its line, or before its mesh is stored
-pub save_part : (stop : Stop) (to : Target) (what : Directive) (s t : State) (old new : Contents) → what ≡ directive.Save → StopsIn stop to (standing s) (mesh_line s.saved s.mesh ∷ []) old new → Advances to (effect_of what s) s t old new (Err stop)
+pub save_part : (stop : Stop) (to : Target) (what : Directive) (s t : State) (old new : Contents) → what ≡ directive.Save → StopsIn stop to (standing s) (mesh_line s.saved s.mesh ∷ []) old new → Advances to (effect_of None what s) s t old new (Err stop)
 save_part stop to what s t old new is stops =
-    let P : Directive → Type 0 = λ what. Advances to (effect_of what s) s t old new (Err stop) in
+    let P : Directive → Type 0 = λ what. Advances to (effect_of None what s) s t old new (Err stop) in
     subst P (sym is) (inr (record { lines = mesh_line s.saved s.mesh ∷ []; next = record s { saved = s.saved + 1 }; goes = refl; stops = stops }))
 
 -- at first no vertex is asked to move

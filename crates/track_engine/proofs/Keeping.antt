@@ -58,7 +58,8 @@ use Rattle.mesh_base.specs.Valid.{IsValidSurface}
 use Rattle.track_engine.proofs.Passing.{pass_keeps}
 use Rattle.track_engine.proofs.ReadAgain.{read_again}
 use Rattle.track_engine.specs.Invariant.{IsAskedWell, IsRunInvariant}
-use Rattle.track_engine.specs.Effects.{Effect, Proceeds, Refused, ExpectedLog, effect_of, shift_effect, set_effect, solid_effect, close_effect, step_effect, kept_whole, taken_back, is_whole, summed, first_beyond, all_summed, sum_or_range, sum_of_all, passed_lines, passed_mesh, after_pass, one_summed, sum_at, sum_of_one, first_outside, hits, taken, moves, moving, moved_mesh, hit_lines, block_lines, move_lines, way_lines, lines_of_step, all_still, one_still, step_lines, after_step, and_then, log_from}
+use Rattle.track_engine.specs.Effects.{Effect, Proceeds, Refused, ExpectedLog, effect_of, shift_effect, set_effect, solid_effect, close_effect, step_effect, kept_whole, taken_back, is_whole, summed, first_beyond, all_summed, sum_or_range, sum_of_all, sum_of_answer, passed_lines, passed_mesh, after_pass, one_summed, sum_at, sum_of_one, first_outside, hits, taken, moves, moving, moved_mesh, hit_lines, block_lines, move_lines, way_lines, lines_of_step, all_still, one_still, step_lines, after_step, and_then, log_from}
+use Rattle.track_engine.specs.Answers.{Answer, Answers, first, later}
 use Rattle.track_engine.proofs.NoFiles.{after-step_lines, after-moves, after-hits, after-blocks}
 use Rattle.track_engine.proofs.StepLemmas.{all_inside, ids_of_still}
 use Rattle.pass_run.specs.PassLines.{refused_in}
@@ -217,7 +218,7 @@ asked_still m asked (v ∷ ids) = (by_test (is_solid m v) refl, asked_still m as
 abbrev AsksWell : Mesh → Shifts → Shifts → Type 0
 AsksWell m asked now = (map (λ s. s.v) now ≡ map (λ s. s.v) asked) × (SolidsAreStill m asked → SolidsAreStill m now)
 
-well_of_all : (m : Mesh) (by : Shift) (asked now : Shifts) (o : Option ℕ) → sum_or_range o m by asked ≡ Ok now → AsksWell m asked now
+well_of_all : (m : Mesh) (by : ℕ → Shift) (asked now : Shifts) (o : Option ℕ) → sum_or_range o m by asked ≡ Ok now → AsksWell m asked now
 well_of_all m by asked now None e =
     let same : all_summed m by asked ≡ now = cc in
     let P : Shifts → Type 0 = λ l. AsksWell m asked l in
@@ -255,13 +256,17 @@ kept_asked s sum now (Some why) kept well asks e = absurd cc
 one_well : (v : ℕ) (by : Shift) (s : State) (now : Shifts) → sum_of_one s.mesh v by s.asked ≡ Ok now → AsksWell s.mesh s.asked now
 one_well v by s now e = well_of_one s.mesh v by s.asked now (asked_of v s.asked) (is_solid s.mesh v) refl e
 
-all_well : (by : Shift) (s : State) (now : Shifts) → sum_of_all s.mesh by s.asked ≡ Ok now → AsksWell s.mesh s.asked now
+all_well : (by : ℕ → Shift) (s : State) (now : Shifts) → sum_of_all s.mesh by s.asked ≡ Ok now → AsksWell s.mesh s.asked now
 all_well by s now e = well_of_all s.mesh by s.asked now (first_beyond s.mesh by s.asked) e
+
+answer_well : (given : Answer) (s : State) (now : Shifts) → sum_of_answer given s.mesh s.asked ≡ Ok now → AsksWell s.mesh s.asked now
+answer_well (Some by) s now e = all_well by s now e
+answer_well None s now e = absurd cc
 
 pub kept_by_one : (v : ℕ) (by : Shift) (s : State) (now : Shifts) (o : Option UseWhy) → IsRunInvariant s → AsksNow (sum_of_one s.mesh v by s.asked) now o → o ≡ None → IsRunInvariant (record s { asked = now })
 kept_by_one v by s now o kept asks e = kept_asked s (sum_of_one s.mesh v by s.asked) now o kept (one_well v by s) asks e
 
-pub kept_by_all : (by : Shift) (s : State) (now : Shifts) (r : Result (Option UseWhy) Stop) → IsRunInvariant s → IfOk r (AsksNow (sum_of_all s.mesh by s.asked) now) → r ≡ Ok None → IsRunInvariant (record s { asked = now })
+pub kept_by_all : (by : ℕ → Shift) (s : State) (now : Shifts) (r : Result (Option UseWhy) Stop) → IsRunInvariant s → IfOk r (AsksNow (sum_of_all s.mesh by s.asked) now) → r ≡ Ok None → IsRunInvariant (record s { asked = now })
 kept_by_all by s now r kept asks e =
     let P : Result (Option UseWhy) Stop → Type 0 = λ x. IfOk x (AsksNow (sum_of_all s.mesh by s.asked) now) in
     kept_asked s (sum_of_all s.mesh by s.asked) now None kept (all_well by s) (subst P e asks) refl
@@ -313,16 +318,17 @@ keeps_step_effect s kept (Some v) e = tt
 pub saved_well : (r : Replay) → IsValidSurface r.mesh → IsSavedWell r (finite.len r.mesh.points) (finite.len r.mesh.faces)
 saved_well r good = record { vertex_count = refl; face_count = refl; sound = good.sound; closed = good.closed; clear = good.clear; read_again = read_again r.mesh good.sound good.closed good.clear }
 
-keeps_effect : (what : Directive) (s : State) → IsRunInvariant s → KeepsEffect s (effect_of what s)
-keeps_effect (directive.SetDepth depth) s kept = keeps_set s (record s.set { depth = depth }) kept
-keeps_effect (directive.SetPasses passes) s kept = keeps_set s (record s.set { passes = passes }) kept
-keeps_effect (directive.SetZones zones) s kept = keeps_set s (record s.set { zones = zones }) kept
-keeps_effect (directive.SetHalvings halvings) s kept = keeps_set s (record s.set { halvings = halvings }) kept
-keeps_effect (directive.ShiftOne v by) s kept = keeps_shift s kept (sum_of_one s.mesh v by s.asked) (one_well v by s)
-keeps_effect (directive.ShiftAll by) s kept = keeps_shift s kept (sum_of_all s.mesh by s.asked) (all_well by s)
-keeps_effect (directive.Solid v) s kept = keeps_solid s v kept (is_some (finite.get s.mesh.points v)) refl
-keeps_effect directive.Step s kept = keeps_step_effect s kept (first_outside s.mesh s.asked) refl
-keeps_effect (directive.Pass kind) s kept =
+keeps_effect : (given : Answer) (what : Directive) (s : State) → IsRunInvariant s → KeepsEffect s (effect_of given what s)
+keeps_effect given (directive.SetDepth depth) s kept = keeps_set s (record s.set { depth = depth }) kept
+keeps_effect given (directive.SetPasses passes) s kept = keeps_set s (record s.set { passes = passes }) kept
+keeps_effect given (directive.SetZones zones) s kept = keeps_set s (record s.set { zones = zones }) kept
+keeps_effect given (directive.SetHalvings halvings) s kept = keeps_set s (record s.set { halvings = halvings }) kept
+keeps_effect given (directive.ShiftOne v by) s kept = keeps_shift s kept (sum_of_one s.mesh v by s.asked) (one_well v by s)
+keeps_effect given (directive.ShiftAll by) s kept = keeps_shift s kept (sum_of_all s.mesh (λ v. by) s.asked) (all_well (λ v. by) s)
+keeps_effect given (directive.Drive name) s kept = keeps_shift s kept (sum_of_answer given s.mesh s.asked) (answer_well given s)
+keeps_effect given (directive.Solid v) s kept = keeps_solid s v kept (is_some (finite.get s.mesh.points v)) refl
+keeps_effect given directive.Step s kept = keeps_step_effect s kept (first_outside s.mesh s.asked) refl
+keeps_effect given (directive.Pass kind) s kept =
     let kept_pass = pass_keeps kind s kept.now.good in (
       kept_pass.lines,
       kept_pass.replay,
@@ -331,33 +337,34 @@ keeps_effect (directive.Pass kind) s kept =
         groups = groups_kept (nat_lt 0 (refused_in (passed_lines kind s))) s.groups kept.groups;
       },
     )
-keeps_effect directive.Save s kept = ((saved_well (standing s) kept.now.good, tt), refl, record { now = kept.now; groups = kept.groups })
-keeps_effect directive.Group s kept = ((tt, tt), refl, record { now = kept.now; groups = (kept.now, kept.groups) })
-keeps_effect directive.Close s kept = keeps_close s kept s.groups refl
+keeps_effect given directive.Save s kept = ((saved_well (standing s) kept.now.good, tt), refl, record { now = kept.now; groups = kept.groups })
+keeps_effect given directive.Group s kept = ((tt, tt), refl, record { now = kept.now; groups = (kept.now, kept.groups) })
+keeps_effect given directive.Close s kept = keeps_close s kept s.groups refl
 
 -- an effect that is taken leads to where a run stands well
-pub kept_next : (what : Directive) (s next : State) (lines : List LogLine) → IsRunInvariant s → effect_of what s ≡ Proceeds lines next → IsRunInvariant next
-kept_next what s next lines kept goes = let P : Effect → Type 0 = λ t. KeepsEffect s t in (subst P goes (keeps_effect what s kept)).2
+pub kept_next : (given : Answer) (what : Directive) (s next : State) (lines : List LogLine) → IsRunInvariant s → effect_of given what s ≡ Proceeds lines next → IsRunInvariant next
+kept_next given what s next lines kept goes = let P : Effect → Type 0 = λ t. KeepsEffect s t in (subst P goes (keeps_effect given what s kept)).2
 
 pub kept_stepped : (s t : State) (a b : Option (List ℕ)) (r : Result (Option UseWhy) Stop) → IsRunInvariant s → StepTakes s t a b r → r ≡ Ok None → IsRunInvariant t
 kept_stepped s t a b r kept takes e =
     let P : Result (Option UseWhy) Stop → Type 0 = λ x. StepTakes s t a b x in
-    kept_next directive.Step s t (step_lines s) kept (subst P e takes).0
+    kept_next None directive.Step s t (step_lines s) kept (subst P e takes).0
 
 pub kept_passed : (kind : PassKind) (s t : State) (a b : Option (List ℕ)) (r : Result (Option UseWhy) Stop) → IsRunInvariant s → PassTakes kind s t a b r → r ≡ Ok None → IsRunInvariant t
 kept_passed kind s t a b r kept takes e =
     let P : Result (Option UseWhy) Stop → Type 0 = λ x. PassTakes kind s t a b x in
     let Q : State → Type 0 = λ x. IsRunInvariant x in
-    subst Q (sym (subst P e takes).0) (kept_next (directive.Pass kind) s (after_pass kind s) (passed_lines kind s) kept refl)
+    subst Q (sym (subst P e takes).0) (kept_next None (directive.Pass kind) s (after_pass kind s) (passed_lines kind s) kept refl)
 
 keeps_and_then : (line : ℕ) (s : State) (t : Effect) (next : State → ExpectedLog) → KeepsEffect s t → ((n : State) → IsRunInvariant n → LogIsSafe (standing n) (next n).lines) → LogIsSafe (standing s) (and_then line t next).lines
 keeps_and_then line s (Proceeds lines n) next k h =
     let P : Replay → Type 0 = λ r. LogIsSafe r (next n).lines in keeps_append lines (next n).lines (standing s) k.0 (subst P (sym k.1) (h n k.2))
 keeps_and_then line s (Refused why) next k h = (tt, tt)
 
-pub keeps_told : (steps : List Placed) (s : State) → IsRunInvariant s → LogIsSafe (standing s) (log_from steps s).lines
-keeps_told [] s kept = (tt, tt)
-keeps_told (p ∷ steps) s kept = keeps_and_then p.line s (effect_of p.what s) (log_from steps) (keeps_effect p.what s kept) (λ n k. keeps_told steps n k)
+pub keeps_told : (answers : Answers) (steps : List Placed) (s : State) → IsRunInvariant s → LogIsSafe (standing s) (log_from answers steps s).lines
+keeps_told answers [] s kept = (tt, tt)
+keeps_told answers (p ∷ steps) s kept =
+    keeps_and_then p.line s (effect_of (first answers) p.what s) (log_from (later answers) steps) (keeps_effect (first answers) p.what s kept) (λ n k. keeps_told (later answers) steps n k)
 
 -- ---- where the directives begin
 

@@ -14,8 +14,10 @@ pub mod PassTaken
 pub mod ShapeAgain
 pub mod ReadAgain
 pub mod Still
+pub mod DriveLemmas
 pub mod Keeping
 pub mod Replayed
 pub mod WritesTaken
+pub mod DriveTaken
 pub mod StepTaken
 pub mod Promises

@@ -138,8 +138,8 @@ after-step_lines s =
     after-lines_of_step (standing s) (s.steps + 1) (hits s) (taken s)
     ∙ ap (λ (l : List Mesh). record { mesh = moved_mesh s.mesh (taken s).taken; moves = []; stack = l }) (sym (stack_failed (not (is_whole (taken s).how)) s.groups))
 
-takes_step : (to : Target) (s t : State) (files : Option Files) (old new : Option (List ℕ)) → effect_of directive.Step s ≡ Proceeds (step_lines s) t → t ≡ after_step s → new ≡ appended old (text_of_lines (step_lines s))
-    → Takes to (effect_of directive.Step s) s t (record { files = files; written = old }) (record { files = files; written = new })
+takes_step : (to : Target) (s t : State) (files : Option Files) (old new : Option (List ℕ)) → effect_of None directive.Step s ≡ Proceeds (step_lines s) t → t ≡ after_step s → new ≡ appended old (text_of_lines (step_lines s))
+    → Takes to (effect_of None directive.Step s) s t (record { files = files; written = old }) (record { files = files; written = new })
 takes_step to s t files old new goes is said = record {
   lines = step_lines s;
   goes = goes;
@@ -149,7 +149,7 @@ takes_step to s t files old new goes is said = record {
 
 -- a step, as an effect
 pub advances_step : (to : Target) (s t : State) (files : Option Files) (old new : Option (List ℕ)) (r : Result (Option UseWhy) Stop) → StepTakes s t old new r
-    → Advances to (effect_of directive.Step s) s t (record { files = files; written = old }) (record { files = files; written = new }) r
+    → Advances to (effect_of None directive.Step s) s t (record { files = files; written = old }) (record { files = files; written = new }) r
 advances_step to s t files old new (Ok None) takes = takes_step to s t files old new takes.0 takes.1 takes.2
 advances_step to s t files old new (Ok (Some why)) takes = (takes.0, ap (λ (w : Option (List ℕ)). record { files = files; written = w }) takes.1)
 advances_step to s t files old new (Err stop) (inl same) = inl (ap (λ (w : Option (List ℕ)). record { files = files; written = w }) same)

@@ -52,7 +52,7 @@ module _ (kind : PassKind) (s : State) (grouped : Bool) (same : grouped ≡ is_o
 
 -- a pass, as an effect
 pub advances_pass : (to : Target) (kind : PassKind) (s t : State) (files : Option Files) (old new : Option (List ℕ)) (r : Result (Option UseWhy) Stop) → PassTakes kind s t old new r
-    → Advances to (effect_of (directive.Pass kind) s) s t (record { files = files; written = old }) (record { files = files; written = new }) r
+    → Advances to (effect_of None (directive.Pass kind) s) s t (record { files = files; written = old }) (record { files = files; written = new }) r
 advances_pass to kind s t files old new (Ok None) takes = record {
   lines = passed_lines kind s;
   goes = ap (Proceeds (passed_lines kind s)) (sym takes.0);

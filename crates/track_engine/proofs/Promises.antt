@@ -26,6 +26,7 @@ use Rattle.step_text.specs.declared.Directive.TheVariants as directive
 use Rattle.log_text.specs.declared.LogLine.{LogLine}
 use Rattle.track_engine.specs.State.{State}
 use Rattle.track_engine.specs.Effects.{Effect, Proceeds, Refused, effect_of, step_effect, first_outside, hits, taken, is_whole, step_lines, lines_of_step}
+use Rattle.track_engine.specs.Answers.{Answer}
 use Rattle.track_engine.specs.Invariant.{IsAskedWell}
 use Rattle.track_engine.specs.Promise.{EachPasses, blocks_moved, StepIsTold}
 
@@ -144,5 +145,5 @@ effect_told s next lines (Some v) e = absurd (goes_not e)
     goes_not e = false≢true (ap goes e)
 
 -- a step, wherever it is taken
-pub step_is_told : (s next : State) (lines : List LogLine) → effect_of directive.Step s ≡ Proceeds lines next → StepIsTold s lines
-step_is_told s next lines e = effect_told s next lines (first_outside s.mesh s.asked) e
+pub step_is_told : (given : Answer) (s next : State) (lines : List LogLine) → effect_of given directive.Step s ≡ Proceeds lines next → StepIsTold s lines
+step_is_told given s next lines e = effect_told s next lines (first_outside s.mesh s.asked) e

@@ -15,6 +15,7 @@ use Rattle.log_text.specs.declared.Refusal.TheVariants as refusal
 use Rattle.log_text.specs.declared.LogLine.TheVariants.{End, Refused as RefusedLine}
 use Rattle.track_engine.specs.State.{State, start}
 use Rattle.track_engine.specs.Effects.{Effect, Proceeds, Refused, ExpectedLog, effect_of, and_then, log_from, refused, mesh_line}
+use Rattle.track_engine.specs.Answers.{Answers, first, later}
 use Rattle.track_engine.proofs.Worlds.{one_line, more_lines}
 
 -- it has lines
@@ -29,6 +30,6 @@ then_left line (Proceeds lines s) next some = more_lines lines (next s).lines (s
 then_left line (Refused why) next some = refusal_left (refusal.StepUse line why)
 
 -- the log of directives
-pub log_left : (steps : List Placed) (s : State) → HasLines (log_from steps s)
-log_left [] s = one_line End []
-log_left (p ∷ more) s = then_left p.line (effect_of p.what s) (log_from more) (λ n. log_left more n)
+pub log_left : (answers : Answers) (steps : List Placed) (s : State) → HasLines (log_from answers steps s)
+log_left answers [] s = one_line End []
+log_left answers (p ∷ more) s = then_left p.line (effect_of (first answers) p.what s) (log_from (later answers) more) (λ n. log_left (later answers) more n)

@@ -18,7 +18,8 @@ use Rattle.log_text.specs.declared.LogLine.TheVariants.{First}
 use Rattle.log_replay.specs.Replay.{after, closed}
 use Rattle.mesh_base.specs.Valid.{IsValidSurface}
 use Rattle.track_engine.specs.State.{Group, State, start, standing}
-use Rattle.track_engine.specs.Effects.{Effect, Proceeds, Refused, ExpectedLog, effect_of, mesh_line, and_then, log_from, shift_effect, solid_effect, close_effect, step_effect, kept_whole, taken_back, sum_of_one, sum_of_all, first_outside}
+use Rattle.track_engine.specs.Effects.{Effect, Proceeds, Refused, ExpectedLog, effect_of, mesh_line, and_then, log_from, shift_effect, solid_effect, close_effect, step_effect, kept_whole, taken_back, sum_of_one, sum_of_all, sum_of_answer, first_outside}
+use Rattle.track_engine.specs.Answers.{Answer}
 use Rattle.track_engine.specs.Invariant.{IsRunInvariant}
 use Rattle.log_replay.proofs.Replaying.{after-append}
 use Rattle.track_engine.proofs.NoFiles.{after-step_lines}
@@ -53,19 +54,20 @@ step_replays : (s : State) (o : Option ℕ) → Replays s (step_effect o s)
 step_replays s None = after-step_lines s
 step_replays s (Some v) = tt
 
-replays : (d : Directive) (s : State) → Replays s (effect_of d s)
-replays (directive.SetDepth depth) s = refl
-replays (directive.SetPasses passes) s = refl
-replays (directive.SetZones zones) s = refl
-replays (directive.SetHalvings halvings) s = refl
-replays (directive.ShiftOne v by) s = shift_replays s (sum_of_one s.mesh v by s.asked)
-replays (directive.ShiftAll by) s = shift_replays s (sum_of_all s.mesh by s.asked)
-replays directive.Step s = step_replays s (first_outside s.mesh s.asked)
-replays (directive.Pass kind) s = pass_replays kind s
-replays directive.Save s = refl
-replays (directive.Solid v) s = solid_replays v s (is_some (finite.get s.mesh.points v))
-replays directive.Group s = refl
-replays directive.Close s = close_replays s s.groups refl
+replays : (given : Answer) (d : Directive) (s : State) → Replays s (effect_of given d s)
+replays given (directive.SetDepth depth) s = refl
+replays given (directive.SetPasses passes) s = refl
+replays given (directive.SetZones zones) s = refl
+replays given (directive.SetHalvings halvings) s = refl
+replays given (directive.ShiftOne v by) s = shift_replays s (sum_of_one s.mesh v by s.asked)
+replays given (directive.ShiftAll by) s = shift_replays s (sum_of_all s.mesh (λ v. by) s.asked)
+replays given (directive.Drive name) s = shift_replays s (sum_of_answer given s.mesh s.asked)
+replays given directive.Step s = step_replays s (first_outside s.mesh s.asked)
+replays given (directive.Pass kind) s = pass_replays kind s
+replays given directive.Save s = refl
+replays given (directive.Solid v) s = solid_replays v s (is_some (finite.get s.mesh.points v))
+replays given directive.Group s = refl
+replays given directive.Close s = close_replays s s.groups refl
 
-pub effect_replayed : (d : Directive) (s next : State) (lines : List LogLine) → effect_of d s ≡ Proceeds lines next → after (standing s) lines ≡ standing next
-effect_replayed d s next lines goes = let P : Effect → Type 0 = λ t. Replays s t in subst P goes (replays d s)
+pub effect_replayed : (given : Answer) (d : Directive) (s next : State) (lines : List LogLine) → effect_of given d s ≡ Proceeds lines next → after (standing s) lines ≡ standing next
+effect_replayed given d s next lines goes = let P : Effect → Type 0 = λ t. Replays s t in subst P goes (replays given d s)

@@ -43,25 +43,25 @@ summed_as by r s e = ap (λ (b : Shift). record { v = s.v; by = b }) (sym (shift
 
 -- ---- the sum of a vertex, unless it is solid
 
-module _ (m : Mesh) (by : Shift) (s : ShiftOf) where
+module _ (m : Mesh) (by : ℕ → Shift) (s : ShiftOf) where
   pub sums_solid : is_solid m s.v ≡ true → SumsOne m by s (Some s)
-  sums_solid e = (ap (λ b. not (b || is_within SHIFT_MAX (summed by s))) e, sym (ap (λ b. cond b s (with_shift s (summed by s))) e))
+  sums_solid e = (ap (λ b. not (b || is_within SHIFT_MAX (summed (by s.v) s))) e, sym (ap (λ b. cond b s (with_shift s (summed (by s.v) s))) e))
 
-  pub sums_other : (r : Shift) → is_solid m s.v ≡ false → displacement_of r ≡ summed by s → IsWithin SHIFT_MAX (summed by s) → SumsOne m by s (Some (record { v = s.v; by = r }))
+  pub sums_other : (r : Shift) → is_solid m s.v ≡ false → displacement_of r ≡ summed (by s.v) s → IsWithin SHIFT_MAX (summed (by s.v) s) → SumsOne m by s (Some (record { v = s.v; by = r }))
   sums_other r e sum within = (
-    ap (λ b. not (b || is_within SHIFT_MAX (summed by s))) e ∙ ap not (of_within SHIFT_MAX (summed by s) within),
-    summed_as by r s sum ∙ sym (ap (λ b. cond b s (with_shift s (summed by s))) e),
+    ap (λ b. not (b || is_within SHIFT_MAX (summed (by s.v) s))) e ∙ ap not (of_within SHIFT_MAX (summed (by s.v) s) within),
+    summed_as (by s.v) r s sum ∙ sym (ap (λ b. cond b s (with_shift s (summed (by s.v) s))) e),
   )
 
-  pub sums_none : is_solid m s.v ≡ false → (IsWithin SHIFT_MAX (summed by s) → ⊥) → SumsOne m by s None
-  sums_none e out = ap (λ b. not (b || is_within SHIFT_MAX (summed by s))) e ∙ by_test (is_within SHIFT_MAX (summed by s)) refl
+  pub sums_none : is_solid m s.v ≡ false → (IsWithin SHIFT_MAX (summed (by s.v) s) → ⊥) → SumsOne m by s None
+  sums_none e out = ap (λ b. not (b || is_within SHIFT_MAX (summed (by s.v) s))) e ∙ by_test (is_within SHIFT_MAX (summed (by s.v) s)) refl
     where
-      by_test : (b : Bool) → is_within SHIFT_MAX (summed by s) ≡ b → not (is_within SHIFT_MAX (summed by s)) ≡ true
-      by_test true t = absurd (out (within_of SHIFT_MAX (summed by s) t))
+      by_test : (b : Bool) → is_within SHIFT_MAX (summed (by s.v) s) ≡ b → not (is_within SHIFT_MAX (summed (by s.v) s)) ≡ true
+      by_test true t = absurd (out (within_of SHIFT_MAX (summed (by s.v) s) t))
       by_test false t = ap not t
 
 -- what is sought among those to come, where one is reached
-sought : (m : Mesh) (by : Shift) (asked : Shifts) (i : ℕ) (s : ShiftOf) → i < length asked → s ≡ get_or asked i s → first_beyond m by (drop i asked) ≡ cond (is_beyond m by s) (Some s.v) (first_beyond m by (drop (i + 1) asked))
+sought : (m : Mesh) (by : ℕ → Shift) (asked : Shifts) (i : ℕ) (s : ShiftOf) → i < length asked → s ≡ get_or asked i s → first_beyond m by (drop i asked) ≡ cond (is_beyond m by s) (Some s.v) (first_beyond m by (drop (i + 1) asked))
 sought m by asked i s h at =
     ap (first_beyond m by) (drop-cons asked i s h)
     ∙ ap (λ z. first_beyond m by (z ∷ drop (suc i) asked)) (sym at)
@@ -73,12 +73,12 @@ sought m by asked i s h at =
     chosen false = refl
 
 -- the sum of the next one is within the limit
-pub beyond_later : (m : Mesh) (by : Shift) (asked : Shifts) (i : ℕ) (s : ShiftOf) (all : Option ℕ) → i < length asked → s ≡ get_or asked i s → is_beyond m by s ≡ false → first_beyond m by (drop i asked) ≡ all → first_beyond m by (drop (i + 1) asked) ≡ all
+pub beyond_later : (m : Mesh) (by : ℕ → Shift) (asked : Shifts) (i : ℕ) (s : ShiftOf) (all : Option ℕ) → i < length asked → s ≡ get_or asked i s → is_beyond m by s ≡ false → first_beyond m by (drop i asked) ≡ all → first_beyond m by (drop (i + 1) asked) ≡ all
 beyond_later m by asked i s all h at within e =
     sym (ap (λ b. cond b (Some s.v) (first_beyond m by (drop (i + 1) asked))) within) ∙ sym (sought m by asked i s h at) ∙ e
 
 -- the sum of the next one is above the limit
-pub beyond_here : (m : Mesh) (by : Shift) (asked : Shifts) (i : ℕ) (s : ShiftOf) (all : Option ℕ) → i < length asked → s ≡ get_or asked i s → is_beyond m by s ≡ true → first_beyond m by (drop i asked) ≡ all → all ≡ Some s.v
+pub beyond_here : (m : Mesh) (by : ℕ → Shift) (asked : Shifts) (i : ℕ) (s : ShiftOf) (all : Option ℕ) → i < length asked → s ≡ get_or asked i s → is_beyond m by s ≡ true → first_beyond m by (drop i asked) ≡ all → all ≡ Some s.v
 beyond_here m by asked i s all h at out e =
     sym e ∙ sought m by asked i s h at ∙ ap (λ b. cond b (Some s.v) (first_beyond m by (drop (i + 1) asked))) out
 
@@ -95,7 +95,7 @@ changed_at v f asked = map (λ s. cond (s.v == v) (f s) s) asked
 not_later : (k y v : ℕ) → k ≡ v → nat_cmp k y ≡ Less → (y == v) ≡ false
 not_later k y v e h = grind (arith, nat_tests)
 
-not_earlier : (k y v : ℕ) → y ≡ v → nat_cmp k y ≡ Less → (k == v) ≡ false
+pub not_earlier : (k y v : ℕ) → y ≡ v → nat_cmp k y ≡ Less → (k == v) ≡ false
 not_earlier k y v e h = grind (arith, nat_tests)
 
 -- those after it stay as they are
@@ -104,7 +104,7 @@ others_stay v k f [] e h = refl
 others_stay v k f (s ∷ rest) e h =
     ap (λ b. cond b (f s) s ∷ changed_at v f rest) (not_later k s.v v e h.0) ∙ ap (λ l. s ∷ l) (others_stay v k f rest e h.1)
 
-below_at : (k : ℕ) (asked : Shifts) (i : ℕ) (s : ShiftOf) → AllByRecursion (λ y. nat_cmp k y ≡ Less) (map (λ t. t.v) asked) → slice_get asked i ≡ Some s → nat_cmp k s.v ≡ Less
+pub below_at : (k : ℕ) (asked : Shifts) (i : ℕ) (s : ShiftOf) → AllByRecursion (λ y. nat_cmp k y ≡ Less) (map (λ t. t.v) asked) → slice_get asked i ≡ Some s → nat_cmp k s.v ≡ Less
 below_at k [] i s h e = cc
 below_at k (t ∷ rest) zero s h e = let is : t ≡ s = cc in subst (λ (u : ShiftOf). nat_cmp k u.v ≡ Less) is h.0
 below_at k (t ∷ rest) (suc i) s h e = below_at k rest i s h.1 e

@@ -1,11 +1,12 @@
 -- The directives, one after another.
-use Rattle.std.proofs.Common.{◌≡◌, ℕ, List, [], ◌∷◌, ◌++◌, refl, ap, sym, ◌∙◌, ◌⊎◌, inl, inr, ◌+◌, ◌<◌, ◌≤◌, length, get_or, drop, add-one, suc, subst, append_assoc, Ok, Err, Result, IfOk, OnErr}
+use Rattle.std.proofs.Common.{◌≡◌, ℕ, List, [], ◌∷◌, ◌++◌, refl, ap, sym, ◌∙◌, ◌⊎◌, inl, inr, ◌+◌, ◌<◌, ◌≤◌, length, get_or, drop, add-one, suc, subst, append_assoc, Ok, Err, Result, IfOk, OnErr, Bool, true, false, is_ok}
+use Rattle.std.proofs.lemmas.Bool.{false≢true}
 use Rattle.std.proofs.Math.Seq.{drop-cons}
 use Rattle.std.proofs.lemmas.List.{drop_all}
 use Rattle.std.specs.declared.option.Option.TheVariants.{None, Some}
 use Rattle.std.specs.declared.option.Option.{Option}
 use Rattle.log_text.specs.declared.LogLine.{LogLine}
-use Rattle.log_text.specs.declared.LogLine.TheVariants.{End}
+use Rattle.log_text.specs.declared.LogLine.TheVariants.{End, Refused as RefusedLine}
 use Rattle.mesh_base.specs.declared.UseWhy.{UseWhy}
 use Rattle.log_text.specs.declared.Refusal.TheVariants.{StepUse}
 use Rattle.step_text.specs.declared.Placed.{Placed}
@@ -20,7 +21,9 @@ use Rattle.track_engine.specs.Effects.{ExpectedLog, Effect, Proceeds, Refused, e
 use Rattle.log_replay.specs.Replay.{Replay, after}
 use Rattle.track_engine.specs.Saved.{Target, files_of, stored}
 use Rattle.log_write.specs.Written.{Written}
-use Rattle.track_engine.specs.Parts.{Takes, TakesInPart, Advances}
+use Rattle.track_engine.specs.Answers.{Answer, Answers}
+use Rattle.track_engine.specs.Answered.{Known, IsAnswer, AreAnswered, FollowsAnswers}
+use Rattle.track_engine.specs.Parts.{Takes, TakesInPart, AdvancesAnswered}
 use Rattle.track_engine.specs.World.{Contents, Logs, StopsIn, StopsShort, Follows}
 use Rattle.track_engine.proofs.Worlds.{logs_then, short_then, short_more, short_nothing, short_line}
 use Rattle.log_replay.proofs.Replaying.{after-append}
@@ -88,6 +91,12 @@ so_far_last_part to all line ending first now old mid new stop s stops =
     let Q : List LogLine → Type 0 = λ l. StopsShort stop to (standing first) l old new in
     subst Q s.whole (short_then stop to (standing first) s.done (line ∷ []) old mid new s.logs (stops _))
 
+-- All directives are answered, and one line is left.
+pub record Ends (fields : Known) (to : Target) (line : LogLine) (ending : Option Refusal) (steps : List Placed) (first now : State) (old new : Contents) : Type 0 where
+  pub answers : Answers
+  pub so_far : SoFar to (log_from answers steps first) (record { lines = line ∷ []; ending = ending }) first now old new
+  pub answered : (whole : Bool) → AreAnswered fields whole answers steps first
+
 -- a refused directive
 pub so_far_refused : (to : Target) (all : ExpectedLog) (line : ℕ) (t : Effect) (why : UseWhy) (next : State → ExpectedLog) (first now : State) (old mid : Contents)
     → SoFar to all (and_then line t next) first now old mid → t ≡ Refused why → SoFar to all (refused (StepUse line why)) first now old mid
@@ -101,46 +110,124 @@ so_far_nothing to all left first now old mid new stop some s same =
     let P : Contents → Type 0 = λ w. StopsShort stop to (after (standing first) s.done) left.lines mid w in
     subst Q s.whole (short_then stop to (standing first) s.done left.lines old mid new s.logs (subst P (sym same) (short_nothing stop to _ left.lines mid some)))
 
--- what is left, where a directive is
-left_is : (steps : List Placed) (i : ℕ) (p : Placed) (s : State) → i < length steps → p ≡ get_or steps i p → log_from (drop i steps) s ≡ and_then p.line (effect_of p.what s) (log_from (drop (i + 1) steps))
-left_is steps i p s h at =
-    ap (λ l. log_from l s) (drop-cons steps i p h)
-    ∙ ap (λ q. and_then q.line (effect_of q.what s) (log_from (drop (suc i) steps))) (sym at)
-    ∙ ap (λ n. and_then p.line (effect_of p.what s) (log_from (drop n steps))) (sym (add-one i))
+-- ---- the directives, as the fields answer
 
-module _ (to : Target) (all : ExpectedLog) (steps : List Placed) (i : ℕ) (p : Placed) (h : i < length steps) (at : p ≡ get_or steps i p) (first now : State) (old mid new : Contents) (so_far : SoFar to all (log_from (drop i steps) now) first now old mid) where
-  here : SoFar to all (and_then p.line (effect_of p.what now) (log_from (drop (i + 1) steps))) first now old mid
-  here = let P : ExpectedLog → Type 0 = λ left. SoFar to all left first now old mid in subst P (left_is steps i p now h at) so_far
+-- where the run stopped, no answers are asked for
+pub none_answered : (fields : Known) (left : List Placed) (s : State) → AreAnswered fields false [] left s
+none_answered fields [] s = tt
+none_answered fields (p ∷ left) s = refl
+
+-- Of the directives so far these are the answers; whichever answers come next, the lines so far are written, and what is left is answered
+-- as the rest.
+pub record Answering (fields : Known) (to : Target) (steps left : List Placed) (first now : State) (old new : Contents) : Type 0 where
+  pub given : Answers
+  pub so_far : (more : Answers) → SoFar to (log_from (given ++ more) steps first) (log_from more left now) first now old new
+  pub answered : (whole : Bool) (more : Answers) → AreAnswered fields whole more left now → AreAnswered fields whole (given ++ more) steps first
+
+pub answering_none : (fields : Known) (to : Target) (steps : List Placed) (first : State) (old : Contents) → Answering fields to steps steps first first old old
+answering_none fields to steps first old = record {
+  given = [];
+  so_far = λ more. so_far_none to (log_from more steps first) first old;
+  answered = λ whole more h. h;
+}
+
+-- the next directive, and those after it
+next_is : (steps : List Placed) (i : ℕ) (p : Placed) → i < length steps → p ≡ get_or steps i p → drop i steps ≡ p ∷ drop (i + 1) steps
+next_is steps i p h at = drop-cons steps i p h ∙ ap (λ q. q ∷ drop (suc i) steps) (sym at) ∙ ap (λ n. p ∷ drop n steps) (sym (add-one i))
+
+-- one more answer
+one_more : (given : Answers) (answer : Answer) (more : Answers) → (given ++ answer ∷ []) ++ more ≡ given ++ answer ∷ more
+one_more given answer more = append_assoc given (answer ∷ []) more
+
+module _ (fields : Known) (to : Target) (steps : List Placed) (i : ℕ) (p : Placed) (h : i < length steps) (at : p ≡ get_or steps i p) (first now : State) (old mid new : Contents) (so_far : Answering fields to steps (drop i steps) first now old mid) where
+  here : Answering fields to steps (p ∷ drop (i + 1) steps) first now old mid
+  here = let P : List Placed → Type 0 = λ left. Answering fields to steps left first now old mid in subst P (next_is steps i p h at) so_far
+
+  -- the log of all, where the next answer is this one
+  abbrev all_with : Answer → Answers → ExpectedLog
+  all_with answer more = log_from (here.given ++ answer ∷ more) steps first
 
   -- an effect is taken
-  pub goes_on : (then : State) (o : Option UseWhy) → o ≡ None → Advances to (effect_of p.what now) now then mid new (Ok o) → SoFar to all (log_from (drop (i + 1) steps) then) first then old new
+  goes_with : (then : State) (answer : Answer) → IsAnswer fields now.mesh p.what answer → Takes to (effect_of answer p.what now) now then mid new → Answering fields to steps (drop (i + 1) steps) first then old new
+  goes_with then answer is takes = record {
+    given = here.given ++ answer ∷ [];
+    so_far = λ more.
+        let P : Answers → Type 0 = λ l. SoFar to (log_from l steps first) (log_from more (drop (i + 1) steps) then) first then old new in
+        subst P (sym (one_more here.given answer more))
+        (so_far_more to (all_with answer more) p.line (effect_of answer p.what now) (log_from more (drop (i + 1) steps)) first now then old mid new (here.so_far (answer ∷ more)) takes);
+    answered = λ whole more rest.
+        let P : Answers → Type 0 = λ l. AreAnswered fields whole l steps first in
+        subst P (sym (one_more here.given answer more)) (here.answered whole (answer ∷ more) (is, λ lines next goes. others whole more rest (sym takes.goes ∙ goes)));
+  }
+    where
+      state_in : Effect → State
+      state_in (Proceeds lines next) = next
+      state_in (Refused why) = then
+
+      others : {lines lines' : List LogLine} {next : State} (whole : Bool) (more : Answers) → AreAnswered fields whole more (drop (i + 1) steps) then → Proceeds lines then ≡ Proceeds lines' next → AreAnswered fields whole more (drop (i + 1) steps) next
+      others whole more rest e = let P : State → Type 0 = λ s. AreAnswered fields whole more (drop (i + 1) steps) s in subst P (ap state_in e) rest
+
+  pub goes_on : (then : State) (o : Option UseWhy) → o ≡ None → AdvancesAnswered fields to p.what now then mid new (Ok o) → Answering fields to steps (drop (i + 1) steps) first then old new
   goes_on then o e advances =
-      let P : Option UseWhy → Type 0 = λ o. Advances to (effect_of p.what now) now then mid new (Ok o) in
-      so_far_more to all p.line (effect_of p.what now) (log_from (drop (i + 1) steps)) first now then old mid new here (subst P e advances)
+      let P : Option UseWhy → Type 0 = λ o. AdvancesAnswered fields to p.what now then mid new (Ok o) in
+      let took = subst P e advances in
+      goes_with then took.0 took.1 took.2
 
   -- it stops in its lines, or before them
-  pub effect_part : (stop : Stop) → (new ≡ mid) ⊎ TakesInPart stop to (effect_of p.what now) now mid new → StopsShort stop to (standing first) all.lines old new
-  effect_part stop (inl same) = so_far_nothing to all _ first now old mid new stop (log_left (drop i steps) now) so_far same
-  effect_part stop (inr takes) = so_far_part to all p.line (effect_of p.what now) (log_from (drop (i + 1) steps)) first now old mid new stop (λ s. log_left (drop (i + 1) steps) s) here takes
+  pub effect_part : (then : State) (stop : Stop) → AdvancesAnswered fields to p.what now then mid new (Err stop) → FollowsAnswers fields to steps first old new (Err stop)
+  effect_part then stop (inl same) = record {
+    answers = here.given ++ [];
+    answered = here.answered false [] refl;
+    follows = so_far_nothing to _ _ first now old mid new stop (log_left [] (p ∷ drop (i + 1) steps) now) (here.so_far []) same;
+  }
+  effect_part then stop (inr takes) = record {
+    answers = here.given ++ takes.0 ∷ [];
+    answered = here.answered false (takes.0 ∷ []) (takes.1, λ lines next goes. none_answered fields (drop (i + 1) steps) next);
+    follows = so_far_part to (all_with takes.0 []) p.line (effect_of takes.0 p.what now) (log_from [] (drop (i + 1) steps)) first now old mid new stop (λ s. log_left [] (drop (i + 1) steps) s) (here.so_far (takes.0 ∷ [])) takes.2;
+  }
 
-  -- it is refused
-  pub is_refused : (then : State) (o : Option UseWhy) (why : UseWhy) → o ≡ Some why → Advances to (effect_of p.what now) now then mid new (Ok o) → SoFar to all (refused (StepUse p.line why)) first now old new
+  -- it is refused, and the last line is written, or a part of it
+  pub is_refused : (then : State) (o : Option UseWhy) (why : UseWhy) → o ≡ Some why → AdvancesAnswered fields to p.what now then mid new (Ok o) → Ends fields to (RefusedLine (StepUse p.line why)) (Some (StepUse p.line why)) steps first now old new
   is_refused then o why e advances =
-      let P : Option UseWhy → Type 0 = λ o. Advances to (effect_of p.what now) now then mid new (Ok o) in
+      let P : Option UseWhy → Type 0 = λ o. AdvancesAnswered fields to p.what now then mid new (Ok o) in
       let stopped = subst P e advances in
-      let Q : Contents → Type 0 = λ w. SoFar to all (refused (StepUse p.line why)) first now old w in
-      subst Q (sym stopped.1) (so_far_refused to all p.line (effect_of p.what now) why (log_from (drop (i + 1) steps)) first now old mid here stopped.0)
+      let answer = stopped.0 in
+      let Q : Contents → Type 0 = λ w. SoFar to (all_with answer []) (refused (StepUse p.line why)) first now old w in
+      record {
+        answers = here.given ++ answer ∷ [];
+        so_far = subst Q (sym stopped.2.1) (so_far_refused to (all_with answer []) p.line (effect_of answer p.what now) why (log_from [] (drop (i + 1) steps)) first now old mid (here.so_far (answer ∷ [])) stopped.2.0);
+        answered = λ whole. here.answered whole (answer ∷ []) (stopped.1, λ lines next goes. absurd (never (sym stopped.2.0 ∙ goes)));
+      }
+    where
+      proceeds : Effect → Bool
+      proceeds (Proceeds lines next) = true
+      proceeds (Refused why) = false
+
+      never : {lines : List LogLine} {next : State} → Refused why ≡ Proceeds lines next → ⊥
+      never e = false≢true (ap proceeds e)
 
 -- no directive is left
-pub at_end : (to : Target) (all : ExpectedLog) (steps : List Placed) (i : ℕ) (first now : State) (old mid : Contents) → length steps ≤ i → SoFar to all (log_from (drop i steps) now) first now old mid → SoFar to all (record { lines = End ∷ []; ending = None }) first now old mid
-at_end to all steps i first now old mid h s = let P : List Placed → Type 0 = λ l. SoFar to all (log_from l now) first now old mid in subst P (drop_all i steps h) s
+pub at_end : (fields : Known) (to : Target) (steps : List Placed) (i : ℕ) (first now : State) (old mid : Contents) → length steps ≤ i → Answering fields to steps (drop i steps) first now old mid → Ends fields to End None steps first now old mid
+at_end fields to steps i first now old mid h s =
+    let P : List Placed → Type 0 = λ l. Answering fields to steps l first now old mid in
+    let done = subst P (drop_all i steps h) s in
+    record { answers = done.given ++ []; so_far = done.so_far []; answered = λ whole. done.answered whole [] tt }
 
 -- the last line, which names no file
-pub finished : (to : Target) (all : ExpectedLog) (line : LogLine) (ending : Option Refusal) (first now : State) (old : Contents) (files : Option Files) (mid new : Option (List ℕ)) (r : Result (Option Refusal) Stop) → ((from : Replay) → stored (files_of to from (line ∷ [])) files ≡ files)
+last_said : (to : Target) (all : ExpectedLog) (line : LogLine) (ending : Option Refusal) (first now : State) (old : Contents) (files : Option Files) (mid new : Option (List ℕ)) (r : Result (Option Refusal) Stop) → ((from : Replay) → stored (files_of to from (line ∷ [])) files ≡ files)
     → SoFar to all (record { lines = line ∷ []; ending = ending }) first now old (record { files = files; written = mid }) → Written mid new (line ∷ []) r → OnErr r (AppendsPart mid new (text_of_line line)) → IfOk r (λ e. e ≡ ending)
     → Follows to (standing first) all old (record { files = files; written = new }) r
-finished to all line ending first now old files mid new (Ok e) none s said part is =
+last_said to all line ending first now old files mid new (Ok e) none s said part is =
     let last = so_far_last to all line ending first now old _ (record { files = files; written = new }) s (λ from. record { written = said; files = sym (none from) }) in
     (last.0, is ∙ last.1)
-finished to all line ending first now old files mid new (Err stop) none s said part is =
+last_said to all line ending first now old files mid new (Err stop) none s said part is =
     so_far_last_part to all line ending first now old _ (record { files = files; written = new }) stop s (λ from. short_line stop to from line [] files mid new part)
+
+pub finished : (fields : Known) (to : Target) (line : LogLine) (ending : Option Refusal) (steps : List Placed) (first now : State) (old : Contents) (files : Option Files) (mid new : Option (List ℕ)) (r : Result (Option Refusal) Stop) → ((from : Replay) → stored (files_of to from (line ∷ [])) files ≡ files)
+    → Ends fields to line ending steps first now old (record { files = files; written = mid }) → Written mid new (line ∷ []) r → OnErr r (AppendsPart mid new (text_of_line line)) → IfOk r (λ e. e ≡ ending)
+    → FollowsAnswers fields to steps first old (record { files = files; written = new }) r
+finished fields to line ending steps first now old files mid new r none ends said part is = record {
+  answers = ends.answers;
+  answered = ends.answered (is_ok r);
+  follows = last_said to (log_from ends.answers steps first) line ending first now old files mid new r none ends.so_far said part is;
+}

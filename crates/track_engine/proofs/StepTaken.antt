@@ -37,7 +37,7 @@ module _ (s : State) (choice : Choice) (inside : first_outside s.mesh s.asked �
       let fails : groups ≡ fail_if (not (is_whole (taken s).how)) s.groups = failed ∙ ap (λ (w : Way). fail_if (not (is_whole w.how)) s.groups) (way_is s (way_of choice) chosen) in
       λ i. record s { mesh = mesh i; asked = rest i; steps = s.steps + 1; groups = fails i }
 
-  goes : effect_of Step s ≡ Proceeds (step_lines s) (after_step s)
+  goes : effect_of None Step s ≡ Proceeds (step_lines s) (after_step s)
   goes = ap (λ o. step_effect o s) inside
 
   pub step_taken : (m : Mesh) (still : Shifts) (groups : List Group) (old new : Option (List ℕ)) → m ≡ moved_mesh s.mesh choice.taken → still ≡ all_still s.asked → groups ≡ fail_if (not (is_whole choice.how)) s.groups → new ≡ appended old (text_of_lines (lines_of_step (s.steps + 1) choice.hits (way_of choice)))

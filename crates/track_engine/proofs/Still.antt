@@ -78,13 +78,13 @@ pub none_asked : (m : Mesh) (ids : List ℕ) → SolidsAreStill m (map still_at 
 none_asked m [] = tt
 none_asked m (v ∷ ids) = (λ solid. refl, none_asked m ids)
 
-pub sums_still : (m : Mesh) (by : Shift) (asked : Shifts) → SolidsAreStill m asked → SolidsAreStill m (all_summed m by asked)
+pub sums_still : (m : Mesh) (by : ℕ → Shift) (asked : Shifts) → SolidsAreStill m asked → SolidsAreStill m (all_summed m by asked)
 sums_still m by [] still = tt
 sums_still m by (s ∷ rest) still = (by_test (is_solid m s.v) refl, sums_still m by rest still.1)
   where
     by_test : (b : Bool) → is_solid m s.v ≡ b → is_solid m (summed_unless_solid m by s).v ≡ true → displacement_of (summed_unless_solid m by s).by ≡ origin
-    by_test true e solid = ap (λ c. displacement_of (cond c s (with_shift s (summed by s))).by) e ∙ still.0 e
-    by_test false e solid = absurd (false≢true (sym e ∙ sym (ap (λ c. is_solid m (cond c s (with_shift s (summed by s))).v) e) ∙ solid))
+    by_test true e solid = ap (λ c. displacement_of (cond c s (with_shift s (summed (by s.v) s))).by) e ∙ still.0 e
+    by_test false e solid = absurd (false≢true (sym e ∙ sym (ap (λ c. is_solid m (cond c s (with_shift s (summed (by s.v) s))).v) e) ∙ solid))
 
 pub one_still_sum : (m : Mesh) (v : ℕ) (by : Shift) → is_solid m v ≡ false → (asked : Shifts) → SolidsAreStill m asked → SolidsAreStill m (one_summed v by asked)
 one_still_sum m v by free [] still = tt

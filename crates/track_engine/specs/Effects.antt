@@ -10,7 +10,7 @@ use Rattle.grid_base.specs.Points.{displacement_of, is_within}
 use Rattle.mesh_base.specs.declared.ShiftOf.{ShiftOf}
 use Rattle.mesh_base.specs.declared.PairName.{PairName}
 use Rattle.mesh_base.specs.declared.UseWhy.{UseWhy}
-use Rattle.mesh_base.specs.declared.UseWhy.TheVariants.{NoVertex, ShiftRange, Box, Solid as SolidVertex}
+use Rattle.mesh_base.specs.declared.UseWhy.TheVariants.{NoVertex, ShiftRange, Box, NoField, Solid as SolidVertex}
 use Rattle.mesh_base.specs.declared.How.{How}
 use Rattle.mesh_base.specs.declared.How.TheVariants.{Whole}
 use Rattle.mesh_base.specs.Mesh.{Mesh, is_solid}
@@ -31,6 +31,7 @@ use Rattle.log_text.specs.declared.LogLine.TheVariants.{Step, Solid, Hit, Block,
 use Rattle.edit_base.specs.declared.PassKind.{PassKind}
 use Rattle.pass_run.specs.PassLines.{lines_due, mesh_due, refused_in}
 use Rattle.track_engine.specs.State.{Group, State, still_at, asked_of, asked_in, is_open}
+use Rattle.track_engine.specs.Answers.{Answer, Answers, first, later}
 
 -- ---- shifts that are asked
 
@@ -39,28 +40,33 @@ abbrev pub summed : Shift → ShiftOf → Triple
 summed by s = plus (displacement_of s.by) (displacement_of by)
 
 -- whether the summed shift of a vertex that may move is above the limit
-abbrev pub is_beyond : Mesh → Shift → ShiftOf → Bool
-is_beyond m by s = not (is_solid m s.v || is_within SHIFT_MAX (summed by s))
+abbrev pub is_beyond : Mesh → (ℕ → Shift) → ShiftOf → Bool
+is_beyond m by s = not (is_solid m s.v || is_within SHIFT_MAX (summed (by s.v) s))
 
 -- the first vertex of which that holds
-abbrev pub first_beyond : Mesh → Shift → Shifts → Option ℕ
+abbrev pub first_beyond : Mesh → (ℕ → Shift) → Shifts → Option ℕ
 first_beyond m by asked = option_map (λ s. s.v) (find (is_beyond m by) asked)
 
--- the shift is added to what is asked of a vertex, unless that is solid
-abbrev pub summed_unless_solid : Mesh → Shift → ShiftOf → ShiftOf
-summed_unless_solid m by s = if is_solid m s.v then s else with_shift s (summed by s)
+-- a shift for each vertex is added to what is asked of a vertex, unless that is solid
+abbrev pub summed_unless_solid : Mesh → (ℕ → Shift) → ShiftOf → ShiftOf
+summed_unless_solid m by s = if is_solid m s.v then s else with_shift s (summed (by s.v) s)
 
 -- the same of each vertex
-abbrev pub all_summed : Mesh → Shift → Shifts → Shifts
+abbrev pub all_summed : Mesh → (ℕ → Shift) → Shifts → Shifts
 all_summed m by asked = map (summed_unless_solid m by) asked
 
 -- the same, or the first vertex whose summed shift is above the limit
-abbrev pub sum_or_range : Option ℕ → Mesh → Shift → Shifts → Result Shifts UseWhy
+abbrev pub sum_or_range : Option ℕ → Mesh → (ℕ → Shift) → Shifts → Result Shifts UseWhy
 sum_or_range None m by asked = Ok (all_summed m by asked)
 sum_or_range (Some v) m by asked = Err (ShiftRange v)
 
-abbrev pub sum_of_all : Mesh → Shift → Shifts → Result Shifts UseWhy
+abbrev pub sum_of_all : Mesh → (ℕ → Shift) → Shifts → Result Shifts UseWhy
 sum_of_all m by asked = sum_or_range (first_beyond m by asked) m by asked
+
+-- the same with what a field answers, or that there is no such field
+abbrev pub sum_of_answer : Answer → Mesh → Shifts → Result Shifts UseWhy
+sum_of_answer (Some by) m asked = sum_of_all m by asked
+sum_of_answer None m asked = Err NoField
 
 -- the shift is added to what is asked of one vertex
 abbrev pub one_summed : ℕ → Shift → Shifts → Shifts
@@ -226,19 +232,21 @@ close_effect [] s = Proceeds [] s
 close_effect (group ∷ outer) s =
     Proceeds (Close (not group.failed) ∷ []) (if group.failed then taken_back group outer s else kept_whole outer s)
 
-abbrev pub effect_of : Directive → State → Effect
-effect_of (directive.SetDepth depth) s = set_effect (record s.set { depth = depth }) s
-effect_of (directive.SetPasses passes) s = set_effect (record s.set { passes = passes }) s
-effect_of (directive.SetZones zones) s = set_effect (record s.set { zones = zones }) s
-effect_of (directive.SetHalvings halvings) s = set_effect (record s.set { halvings = halvings }) s
-effect_of (directive.ShiftOne v by) s = shift_effect (sum_of_one s.mesh v by s.asked) s
-effect_of (directive.ShiftAll by) s = shift_effect (sum_of_all s.mesh by s.asked) s
-effect_of (directive.Solid v) s = solid_effect (is_some (finite.get s.mesh.points v)) v s
-effect_of directive.Step s = step_effect (first_outside s.mesh s.asked) s
-effect_of (directive.Pass kind) s = Proceeds (passed_lines kind s) (after_pass kind s)
-effect_of directive.Save s = Proceeds (mesh_line s.saved s.mesh ∷ []) (record s { saved = s.saved + 1 })
-effect_of directive.Group s = Proceeds (GroupLine ∷ []) (opened s)
-effect_of directive.Close s = close_effect s.groups s
+-- What a directive does, by what the field that it names answers. Only `drive` names a field.
+abbrev pub effect_of : Answer → Directive → State → Effect
+effect_of given (directive.SetDepth depth) s = set_effect (record s.set { depth = depth }) s
+effect_of given (directive.SetPasses passes) s = set_effect (record s.set { passes = passes }) s
+effect_of given (directive.SetZones zones) s = set_effect (record s.set { zones = zones }) s
+effect_of given (directive.SetHalvings halvings) s = set_effect (record s.set { halvings = halvings }) s
+effect_of given (directive.ShiftOne v by) s = shift_effect (sum_of_one s.mesh v by s.asked) s
+effect_of given (directive.ShiftAll by) s = shift_effect (sum_of_all s.mesh (λ v. by) s.asked) s
+effect_of given (directive.Drive name) s = shift_effect (sum_of_answer given s.mesh s.asked) s
+effect_of given (directive.Solid v) s = solid_effect (is_some (finite.get s.mesh.points v)) v s
+effect_of given directive.Step s = step_effect (first_outside s.mesh s.asked) s
+effect_of given (directive.Pass kind) s = Proceeds (passed_lines kind s) (after_pass kind s)
+effect_of given directive.Save s = Proceeds (mesh_line s.saved s.mesh ∷ []) (record s { saved = s.saved + 1 })
+effect_of given directive.Group s = Proceeds (GroupLine ∷ []) (opened s)
+effect_of given directive.Close s = close_effect s.groups s
 
 -- ---- all directives
 
@@ -261,7 +269,7 @@ abbrev pub and_then : ℕ → Effect → (State → ExpectedLog) → ExpectedLog
 and_then line (Proceeds lines s) next = record { lines = lines ++ (next s).lines; ending = (next s).ending }
 and_then line (Refused why) next = refused (StepUse line why)
 
--- the log of the directives, from a state on
-abbrev pub log_from : List Placed → State → ExpectedLog
-log_from [] s = record { lines = End ∷ []; ending = None }
-log_from (placed ∷ more) s = and_then placed.line (effect_of placed.what s) (log_from more)
+-- the log of the directives, from a state on, by what fields answer
+abbrev pub log_from : Answers → List Placed → State → ExpectedLog
+log_from answers [] s = record { lines = End ∷ []; ending = None }
+log_from answers (placed ∷ more) s = and_then placed.line (effect_of (first answers) placed.what s) (log_from (later answers) more)

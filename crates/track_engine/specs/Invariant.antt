@@ -14,10 +14,10 @@ use Rattle.step_text.specs.Ranges.{IsInRange}
 use Rattle.track_engine.specs.declared.open_group.OpenGroup.{OpenGroup}
 use Rattle.track_engine.specs.declared.stop.Stop.{Stop}
 use Rattle.track_engine.specs.State.{Group, State}
-use Rattle.track_engine.specs.Effects.{effect_of}
+use Rattle.track_engine.specs.Answered.{Known}
 use Rattle.track_engine.specs.Saved.{Target}
 use Rattle.track_engine.specs.World.{World, HasCauses}
-use Rattle.track_engine.specs.Parts.{Advances}
+use Rattle.track_engine.specs.Parts.{AdvancesAnswered}
 
 -- the mesh is sound, closed and clear, and a shift is asked of each live vertex, by rising id, which is zero where the vertex is solid
 pub record IsAskedWell (m : Mesh) (asked : Shifts) : Type 0 where
@@ -51,10 +51,10 @@ pub record MayAdvance (what : Directive) (s : State) : Type 0 where
   pub steps : s.steps + 1 < 2 ^ 32
   pub saved : s.saved + 1 < 2 ^ 32
 
--- What a directive does: its effect is taken, or refused with nothing done, or it stops in its lines. After one that is taken the state
+-- What a directive does, as the fields answer: its effect is taken, or refused with nothing done, or it stops in its lines. After one that is taken the state
 -- is again as each directive leaves it.
-pub record HasAdvanced (to : Target) (what : Directive) (s t : State) (old new : World) (result : Result (Option UseWhy) Stop) : Type 0 where
-  pub advances : Advances to (effect_of what s) s t old.holds new.holds result
+pub record HasAdvanced (fields : Known) (to : Target) (what : Directive) (s t : State) (old new : World) (result : Result (Option UseWhy) Stop) : Type 0 where
+  pub advances : AdvancesAnswered fields to what s t old.holds new.holds result
   pub left : IfOk result (λ refused. IsSome refused → t ≡ s)
   pub kept : result ≡ Ok None → IsRunInvariant t
   pub limits : AreWithinLimits t.set

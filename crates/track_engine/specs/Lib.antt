@@ -1,7 +1,9 @@
 pub mod Groups
 pub mod State
+pub mod Answers
 pub mod Engines
 pub mod Effects
+pub mod Answered
 pub mod Saved
 pub mod Targets
 pub mod World

@@ -1,6 +1,7 @@
 -- What the parts of the engine do.
 use Rattle.std.specs.Prelude.{◌≡◌, ◌⊎◌, ℕ, List, [], ◌∷◌, Option, Some, None, Result, Ok, Err}
 use Rattle.mesh_base.specs.declared.UseWhy.{UseWhy}
+use Rattle.step_text.specs.declared.Directive.{Directive}
 use Rattle.step_text.specs.declared.Directive.TheVariants.{Step}
 use Rattle.edit_base.specs.declared.PassKind.{PassKind}
 use Rattle.log_text.specs.Lines.{text_of_lines}
@@ -9,6 +10,8 @@ use Rattle.log_replay.specs.Replay.{Replay, after}
 use Rattle.outside_io.specs.Sink.{appended}
 use Rattle.track_engine.specs.declared.stop.Stop.{Stop}
 use Rattle.track_engine.specs.State.{State, standing}
+use Rattle.track_engine.specs.Answers.{Answer}
+use Rattle.track_engine.specs.Answered.{Known, IsAnswer}
 use Rattle.track_engine.specs.Effects.{Effect, Proceeds, Refused, effect_of, step_lines, after_step, passed_lines, after_pass, mesh_line}
 use Rattle.log_write.specs.Written.{WrittenInPart}
 use Rattle.track_engine.specs.Saved.{Target}
@@ -39,6 +42,13 @@ Advances to effect old_state new_state old new (Ok None) = Takes to effect old_s
 Advances to effect old_state new_state old new (Ok (Some why)) = (effect ≡ Refused why) × (new ≡ old)
 Advances to effect old_state new_state old new (Err stop) = (new ≡ old) ⊎ TakesInPart stop to effect old_state old new
 
+-- a directive, as the fields answer: its effect by their answer is taken or refused, or it stops in its lines, or with nothing done
+abbrev pub AdvancesAnswered : Known → Target → Directive → State → State → Contents → Contents → Result (Option UseWhy) Stop → Type 0
+AdvancesAnswered fields to what old_state new_state old new (Ok refused) =
+    (given : Answer) × IsAnswer fields old_state.mesh what given × Advances to (effect_of given what old_state) old_state new_state old new (Ok refused)
+AdvancesAnswered fields to what old_state new_state old new (Err stop) =
+    (new ≡ old) ⊎ ((given : Answer) × IsAnswer fields old_state.mesh what given × TakesInPart stop to (effect_of given what old_state) old_state old new)
+
 -- a directive that stores nothing, by what it writes
 abbrev pub Writes : Effect → State → Option (List ℕ) → Option (List ℕ) → Result (Option UseWhy) Stop → Type 0
 Writes effect new_state old new (Ok None) = (lines : List LogLine) × (effect ≡ Proceeds lines new_state) × (new ≡ appended old (text_of_lines lines))
@@ -47,9 +57,9 @@ Writes effect new_state old new (Err stop) = (new ≡ old) ⊎ ((lines : List Lo
 
 -- a step, by what it writes
 abbrev pub StepTakes : State → State → Option (List ℕ) → Option (List ℕ) → Result (Option UseWhy) Stop → Type 0
-StepTakes old_state new_state old new (Ok None) = (effect_of Step old_state ≡ Proceeds (step_lines old_state) new_state) × (new_state ≡ after_step old_state) × (new ≡ appended old (text_of_lines (step_lines old_state)))
-StepTakes old_state new_state old new (Ok (Some why)) = (effect_of Step old_state ≡ Refused why) × (new ≡ old)
-StepTakes old_state new_state old new (Err stop) = (new ≡ old) ⊎ ((effect_of Step old_state ≡ Proceeds (step_lines old_state) (after_step old_state)) × WrittenInPart old new (step_lines old_state))
+StepTakes old_state new_state old new (Ok None) = (effect_of None Step old_state ≡ Proceeds (step_lines old_state) new_state) × (new_state ≡ after_step old_state) × (new ≡ appended old (text_of_lines (step_lines old_state)))
+StepTakes old_state new_state old new (Ok (Some why)) = (effect_of None Step old_state ≡ Refused why) × (new ≡ old)
+StepTakes old_state new_state old new (Err stop) = (new ≡ old) ⊎ ((effect_of None Step old_state ≡ Proceeds (step_lines old_state) (after_step old_state)) × WrittenInPart old new (step_lines old_state))
 
 -- a pass, by what it writes
 abbrev pub PassTakes : PassKind → State → State → Option (List ℕ) → Option (List ℕ) → Result (Option UseWhy) Stop → Type 0

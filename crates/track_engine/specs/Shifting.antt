@@ -8,12 +8,12 @@ use Rattle.mesh_base.specs.Shifts.{Shifts}
 use Rattle.track_engine.specs.Effects.{is_beyond, summed_unless_solid, first_beyond, all_summed}
 
 -- the sum of one vertex, unless it is solid; none, where it is above the limit
-abbrev pub SumsOne : Mesh → Shift → ShiftOf → Option ShiftOf → Type 0
+abbrev pub SumsOne : Mesh → (ℕ → Shift) → ShiftOf → Option ShiftOf → Type 0
 SumsOne m by s (Some sum) = (is_beyond m by s ≡ false) × (sum ≡ summed_unless_solid m by s)
 SumsOne m by s None = is_beyond m by s ≡ true
 
 -- the sums, or the first vertex whose sum is above the limit
-abbrev pub Sums : Mesh → Shift → Shifts → Result Shifts ℕ → Type 0
+abbrev pub Sums : Mesh → (ℕ → Shift) → Shifts → Result Shifts ℕ → Type 0
 Sums m by asked (Ok sums) = (first_beyond m by asked ≡ None) × (sums ≡ all_summed m by asked)
 Sums m by asked (Err v) = first_beyond m by asked ≡ Some v
 

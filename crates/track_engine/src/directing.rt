@@ -4,14 +4,17 @@ ghost use Rattle.step_choose.specs.Settings.{AreWithinLimits};
 ghost use Rattle.outside_io.specs.Causes.{Rose};
 ghost use Rattle.track_engine.specs.State.{state_of};
 ghost use Rattle.track_engine.specs.Effects.{effect_of, sum_of_all, is_whole};
+ghost use Rattle.mesh_field.specs.Stored.{IsWellKept};
+ghost use Rattle.track_engine.specs.Answered.{known};
 ghost use Rattle.track_engine.specs.Targets.{target_of};
 ghost use Rattle.track_engine.specs.World.{contents, world, HasCauses};
 ghost use Rattle.mesh_base.specs.Kept.{BeginsWith};
 ghost use Rattle.grid_base.specs.declared.TheConstants.{DECIMALS_MAX};
-ghost use Rattle.track_engine.specs.Parts.{Advances, StepTakes, PassTakes};
+ghost use Rattle.track_engine.specs.Parts.{Advances, AdvancesAnswered, StepTakes, PassTakes};
 ghost use Rattle.track_engine.specs.Shifting.{AsksNow};
 ghost use Rattle.track_engine.specs.Invariant.{IsRunInvariant, MarksHold, left_by};
 
+use crate::driving::{drive, field_of};
 use crate::grouping::{close_group, open_group};
 use crate::placing::{first_outside, place_all};
 use crate::run_state::RunState;
@@ -22,7 +25,8 @@ use crate::stepping::say_step;
 use crate::stop::Stop;
 use crate::target::Target;
 use edit_base::PassKind;
-use grid_base::Shift;
+use grid_base::{Point, Shift};
+use mesh_field::Fields;
 use mesh_plain::{How, Surface, UseWhy};
 use outside_io::{Desk, Sink};
 use pass_run::{PassFault, pass};
@@ -37,7 +41,7 @@ fn add_to_all<S: Surface>(
     run: &mut RunState,
     by: Shift,
 ) -> Result<Option<UseWhy>, Stop>
-    ensures asks { IfOk result (AsksNow (sum_of_all (S.mesh mesh.now) by run.old.asked) run.new.asked) }
+    ensures asks { IfOk result (AsksNow (sum_of_all (S.mesh mesh.now) (λ v. by) run.old.asked) run.new.asked) }
     ensures rest { run.new ≡ record run.old { asked = run.new.asked } }
     ensures left { IfOk result (λ refused. IsSome refused → run.new ≡ run.old) }
     ensures stops { IfErr result (λ stop. stop ≡ Stop.NoMemory) }
@@ -135,10 +139,10 @@ fn take_pass<S: Surface, K: Sink>(
     Ok(None)
 }
 
-/// Does one directive: its lines are written, or it is refused.
-pub(crate) fn take_directive<S: Surface, D: Desk, K: Sink>(
+// Does one directive to which no field answers: its lines are written, or it is refused.
+fn take_plain<S: Surface, D: Desk, K: Sink>(
     alloc: Global,
-    what: Directive,
+    what: &Directive,
     to: Target<'_>,
     mesh: &mut S,
     run: &mut RunState,
@@ -146,19 +150,19 @@ pub(crate) fn take_directive<S: Surface, D: Desk, K: Sink>(
     out: &mut K,
 ) -> Result<Option<UseWhy>, Stop>
     requires few { to.decimals ≤ DECIMALS_MAX }
-    requires range { IsInRange what }
+    requires range { IsInRange what.now }
     requires kept { IsRunInvariant (state_of (S.mesh mesh.old) (S.kept mesh.old) run.old) }
     requires marks { MarksHold S.beyond (S.kept mesh.old) run.old.groups }
     requires limits { AreWithinLimits run.old.set }
     requires steps { run.old.steps + 1 < 2 ^ 32 }
     requires saved { run.old.saved + 1 < 2 ^ 32 }
     ensures advances { let old = state_of (S.mesh mesh.old) (S.kept mesh.old) run.old in
-        Advances (target_of to.entry) (effect_of what old) old (state_of (S.mesh mesh.new) (S.kept mesh.new) run.new)
+        Advances (target_of to.entry) (effect_of None what.now old) old (state_of (S.mesh mesh.new) (S.kept mesh.new) run.new)
         (contents D.files K.written desk.old out.old) (contents D.files K.written desk.new out.new) result }
     // A refusal leaves the state as it was.
     ensures left { IfOk result (λ refused. IsSome refused → state_of (S.mesh mesh.new) (S.kept mesh.new) run.new ≡ state_of (S.mesh mesh.old) (S.kept mesh.old) run.old) }
     ensures marks { MarksHold S.beyond (S.kept mesh.new) run.new.groups }
-    ensures begins { BeginsWith (S.kept mesh.new) (left_by what run.old.groups (S.kept mesh.old)) }
+    ensures begins { BeginsWith (S.kept mesh.new) (left_by what.now run.old.groups (S.kept mesh.old)) }
     ensures kept { result ≡ Ok None → IsRunInvariant (state_of (S.mesh mesh.new) (S.kept mesh.new) run.new) }
     ensures limits { AreWithinLimits run.new.set }
     ensures steps_count { run.new.steps ≤ run.old.steps + 1 }
@@ -168,26 +172,27 @@ pub(crate) fn take_directive<S: Surface, D: Desk, K: Sink>(
 {
     match what {
         Directive::SetDepth(depth) => {
-            run.set.depth = depth;
+            run.set.depth = *depth;
             Ok(None)
         }
         Directive::SetPasses(passes) => {
-            run.set.passes = passes;
+            run.set.passes = *passes;
             Ok(None)
         }
         Directive::SetZones(zones) => {
-            run.set.zones = zones;
+            run.set.zones = *zones;
             Ok(None)
         }
         Directive::SetHalvings(halvings) => {
-            run.set.halvings = halvings;
+            run.set.halvings = *halvings;
             Ok(None)
         }
-        Directive::ShiftOne { v, by } => Ok(sum_one(mesh, &mut run.asked, v, by)),
-        Directive::ShiftAll { by } => add_to_all(alloc, mesh, run, by),
-        Directive::Solid { v } => take_solid(alloc, mesh, run, v, out),
+        Directive::ShiftOne { v, by } => Ok(sum_one(mesh, &mut run.asked, *v, *by)),
+        Directive::ShiftAll { by } => add_to_all(alloc, mesh, run, *by),
+        Directive::Drive { .. } => Ok(Some(UseWhy::NoField)),
+        Directive::Solid { v } => take_solid(alloc, mesh, run, *v, out),
         Directive::Step => take_step(alloc, mesh, run, out),
-        Directive::Pass(kind) => take_pass(alloc, mesh, run, kind, out),
+        Directive::Pass(kind) => take_pass(alloc, mesh, run, *kind, out),
         Directive::Save => {
             save(alloc, to, run.saved, mesh, desk, out)?;
             run.saved += 1;
@@ -195,5 +200,44 @@ pub(crate) fn take_directive<S: Surface, D: Desk, K: Sink>(
         }
         Directive::Group => open_group(alloc, mesh, run, out),
         Directive::Close => close_group(alloc, mesh, run, out),
+    }
+}
+
+/// Does one directive: its lines are written, or it is refused. A field that it names is asked.
+pub(crate) fn take_directive<S: Surface, D: Desk, K: Sink, F: Fn(u8, Point) -> Shift>(
+    alloc: Global,
+    what: &Directive,
+    to: Target<'_>,
+    mesh: &mut S,
+    run: &mut RunState,
+    desk: &mut D,
+    out: &mut K,
+    fields: &Fields<F>,
+) -> Result<Option<UseWhy>, Stop>
+    requires few { to.decimals ≤ DECIMALS_MAX }
+    requires range { IsInRange what.now }
+    requires kept { IsRunInvariant (state_of (S.mesh mesh.old) (S.kept mesh.old) run.old) }
+    requires marks { MarksHold S.beyond (S.kept mesh.old) run.old.groups }
+    requires limits { AreWithinLimits run.old.set }
+    requires steps { run.old.steps + 1 < 2 ^ 32 }
+    requires saved { run.old.saved + 1 < 2 ^ 32 }
+    requires fields { IsWellKept F.Fn fields.now }
+    ensures advances { let old = state_of (S.mesh mesh.old) (S.kept mesh.old) run.old in
+        AdvancesAnswered (known F.Fn fields.now) (target_of to.entry) what.now old (state_of (S.mesh mesh.new) (S.kept mesh.new) run.new)
+        (contents D.files K.written desk.old out.old) (contents D.files K.written desk.new out.new) result }
+    // A refusal leaves the state as it was.
+    ensures left { IfOk result (λ refused. IsSome refused → state_of (S.mesh mesh.new) (S.kept mesh.new) run.new ≡ state_of (S.mesh mesh.old) (S.kept mesh.old) run.old) }
+    ensures marks { MarksHold S.beyond (S.kept mesh.new) run.new.groups }
+    ensures begins { BeginsWith (S.kept mesh.new) (left_by what.now run.old.groups (S.kept mesh.old)) }
+    ensures kept { result ≡ Ok None → IsRunInvariant (state_of (S.mesh mesh.new) (S.kept mesh.new) run.new) }
+    ensures limits { AreWithinLimits run.new.set }
+    ensures steps_count { run.new.steps ≤ run.old.steps + 1 }
+    ensures saved_count { run.new.saved ≤ run.old.saved + 1 }
+    ensures causes { HasCauses (world D.files D.faults K.written K.faults desk.old out.old)
+        (world D.files D.faults K.written K.faults desk.new out.new) result }
+{
+    match field_of(fields, what) {
+        Some(which) => drive(alloc, mesh, run, fields, which),
+        None => take_plain(alloc, what, to, mesh, run, desk, out),
     }
 }

@@ -5,10 +5,11 @@ ghost use Rattle.step_text.specs.Ranges.{AreInRange};
 ghost use Rattle.step_choose.specs.Settings.{AreWithinLimits};
 ghost use Rattle.track_engine.specs.State.{standing, unsaved};
 ghost use Rattle.track_engine.specs.Engines.{state_in};
-ghost use Rattle.track_engine.specs.Effects.{log_from};
 ghost use Rattle.track_engine.specs.Targets.{target_of};
 ghost use Rattle.track_engine.specs.Invariant.{IsRunInvariant, MarksHold, left_by, MayAdvance, HasAdvanced};
-ghost use Rattle.track_engine.specs.World.{contents, world, HasCauses, Follows};
+ghost use Rattle.track_engine.specs.World.{contents, world, HasCauses};
+ghost use Rattle.mesh_field.specs.Stored.{IsWellKept};
+ghost use Rattle.track_engine.specs.Answered.{known, FollowsAnswers};
 ghost use Rattle.track_engine.specs.Parts.{Saves};
 
 use crate::directing::take_directive;
@@ -19,8 +20,9 @@ use crate::saving::save;
 use crate::shifting::no_shifts;
 use crate::stop::Stop;
 use crate::target::Target;
-use grid_base::NoMemory;
+use grid_base::{NoMemory, Point, Shift};
 use log_text::Refusal;
+use mesh_field::Fields;
 use mesh_plain::{Surface, UseWhy};
 use outside_io::{Desk, Sink};
 use std::alloc::Global;
@@ -36,26 +38,38 @@ pub struct Engine<S> {
 
 impl<S: Surface> Engine<S> {
     /// Does one directive: its lines are written and its mesh is stored, or it is refused with nothing written or stored and the
-    /// state as it was, or the engine stops in its lines. Earlier marks of the mesh hold, but for those that were made since the opening
+    /// state as it was, or the engine stops in its lines. A drive asks its field once for each live vertex that is not solid, by
+    /// rising id, at the point where it stands. Earlier marks of the mesh hold, but for those that were made since the opening
     /// of a group that is taken back.
-    pub fn advance<D: Desk, K: Sink>(
+    pub fn advance<D: Desk, K: Sink, F: Fn(u8, Point) -> Shift>(
         &mut self,
         alloc: Global,
-        what: Directive,
+        what: &Directive,
         to: Target<'_>,
         desk: &mut D,
         out: &mut K,
+        fields: &Fields<F>,
     ) -> Result<Option<UseWhy>, Stop>
         requires few { to.decimals ≤ DECIMALS_MAX }
-        requires may { MayAdvance what (state_in S.mesh S.kept self.old) }
+        requires may { MayAdvance what.now (state_in S.mesh S.kept self.old) }
         requires marks { MarksHold S.beyond (S.kept self.old.mesh) self.old.run.groups }
-        ensures does { HasAdvanced (target_of to.entry) what (state_in S.mesh S.kept self.old) (state_in S.mesh S.kept self.new)
+        requires fields { IsWellKept F.Fn fields.now }
+        ensures does { HasAdvanced (known F.Fn fields.now) (target_of to.entry) what.now (state_in S.mesh S.kept self.old) (state_in S.mesh S.kept self.new)
             (world D.files D.faults K.written K.faults desk.old out.old)
             (world D.files D.faults K.written K.faults desk.new out.new) result }
         ensures marks { MarksHold S.beyond (S.kept self.new.mesh) self.new.run.groups }
-        ensures begins { BeginsWith (S.kept self.new.mesh) (left_by what self.old.run.groups (S.kept self.old.mesh)) }
+        ensures begins { BeginsWith (S.kept self.new.mesh) (left_by what.now self.old.run.groups (S.kept self.old.mesh)) }
     {
-        take_directive(alloc, what, to, &mut self.mesh, &mut self.run, desk, out)
+        take_directive(
+            alloc,
+            what,
+            to,
+            &mut self.mesh,
+            &mut self.run,
+            desk,
+            out,
+            fields,
+        )
     }
 
     /// Saves the mesh: its line is written, and then the mesh is stored. After Ok, one mesh more is saved.
@@ -84,13 +98,14 @@ impl<S: Surface> Engine<S> {
 
     /// Does the directives in order and writes the last line of the log, which tells the first that is refused, with its line in the
     /// step file, or the end. After each directive that is taken while no group is open, the mesh is settled.
-    pub fn follow<D: Desk, K: Sink>(
+    pub fn follow<D: Desk, K: Sink, F: Fn(u8, Point) -> Shift>(
         &mut self,
         alloc: Global,
         to: Target<'_>,
         steps: &[Placed],
         desk: &mut D,
         out: &mut K,
+        fields: &Fields<F>,
     ) -> Result<Option<Refusal>, Stop>
         requires few { to.decimals ≤ DECIMALS_MAX }
         requires ranges { AreInRange steps.now }
@@ -99,13 +114,22 @@ impl<S: Surface> Engine<S> {
         requires limits { AreWithinLimits self.old.run.set }
         requires steps_room { self.old.run.steps + length steps.now < 2 ^ 32 }
         requires saved_room { self.old.run.saved + length steps.now < 2 ^ 32 }
-        ensures follows { let s = state_in S.mesh S.kept self.old in
-            Follows (target_of to.entry) (standing s) (log_from steps.now s)
+        requires fields { IsWellKept F.Fn fields.now }
+        ensures follows { FollowsAnswers (known F.Fn fields.now) (target_of to.entry) steps.now (state_in S.mesh S.kept self.old)
             (contents D.files K.written desk.old out.old) (contents D.files K.written desk.new out.new) result }
         ensures causes { HasCauses (world D.files D.faults K.written K.faults desk.old out.old)
             (world D.files D.faults K.written K.faults desk.new out.new) result }
     {
-        follow(alloc, to, steps, &mut self.mesh, &mut self.run, desk, out)
+        follow(
+            alloc,
+            to,
+            steps,
+            &mut self.mesh,
+            &mut self.run,
+            desk,
+            out,
+            fields,
+        )
     }
 }
 

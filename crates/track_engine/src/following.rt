@@ -2,11 +2,12 @@ ghost use Rattle.grid_base.specs.declared.TheConstants.{DECIMALS_MAX};
 ghost use Rattle.std.specs.Prelude.{◌≡◌, ◌≤◌, ◌<◌, ◌+◌, ◌^◌, length};
 ghost use Rattle.step_text.specs.Ranges.{AreInRange};
 ghost use Rattle.step_choose.specs.Settings.{AreWithinLimits};
-ghost use Rattle.track_engine.specs.State.{groups_of, state_of, standing};
-ghost use Rattle.track_engine.specs.Effects.{log_from};
+ghost use Rattle.track_engine.specs.State.{groups_of, state_of};
 ghost use Rattle.track_engine.specs.Invariant.{IsRunInvariant, MarksHold};
 ghost use Rattle.track_engine.specs.Targets.{target_of};
-ghost use Rattle.track_engine.specs.World.{contents, world, HasCauses, Follows};
+ghost use Rattle.track_engine.specs.World.{contents, world, HasCauses};
+ghost use Rattle.mesh_field.specs.Stored.{IsWellKept};
+ghost use Rattle.track_engine.specs.Answered.{known, FollowsAnswers};
 
 use crate::directing::take_directive;
 use crate::lines::finish;
@@ -14,7 +15,9 @@ use crate::open_groups::OpenGroups;
 use crate::run_state::RunState;
 use crate::stop::Stop;
 use crate::target::Target;
+use grid_base::{Point, Shift};
 use log_text::{LogLine, Refusal};
+use mesh_field::Fields;
 use mesh_plain::Surface;
 use outside_io::{Desk, Sink};
 use std::alloc::Global;
@@ -33,7 +36,7 @@ fn settle_outside_groups<S: Surface>(mesh: &mut S, groups: &OpenGroups)
 }
 
 /// The directives from a state on, and the last line.
-pub(crate) fn follow<S: Surface, D: Desk, K: Sink>(
+pub(crate) fn follow<S: Surface, D: Desk, K: Sink, F: Fn(u8, Point) -> Shift>(
     alloc: Global,
     to: Target<'_>,
     steps: &[Placed],
@@ -41,6 +44,7 @@ pub(crate) fn follow<S: Surface, D: Desk, K: Sink>(
     run: &mut RunState,
     desk: &mut D,
     out: &mut K,
+    fields: &Fields<F>,
 ) -> Result<Option<Refusal>, Stop>
     requires few { to.decimals ≤ DECIMALS_MAX }
     requires ranges { AreInRange steps.now }
@@ -49,14 +53,14 @@ pub(crate) fn follow<S: Surface, D: Desk, K: Sink>(
     requires limits { AreWithinLimits run.old.set }
     requires steps_room { run.old.steps + length steps.now < 2 ^ 32 }
     requires saved_room { run.old.saved + length steps.now < 2 ^ 32 }
-    ensures follows { let s = state_of (S.mesh mesh.old) (S.kept mesh.old) run.old in
-        Follows (target_of to.entry) (standing s) (log_from steps.now s)
+    requires fields { IsWellKept F.Fn fields.now }
+    ensures follows { FollowsAnswers (known F.Fn fields.now) (target_of to.entry) steps.now (state_of (S.mesh mesh.old) (S.kept mesh.old) run.old)
         (contents D.files K.written desk.old out.old) (contents D.files K.written desk.new out.new) result }
     ensures causes { HasCauses (world D.files D.faults K.written K.faults desk.old out.old)
         (world D.files D.faults K.written K.faults desk.new out.new) result }
 {
     for placed in steps {
-        match take_directive(alloc, placed.what, to, mesh, run, desk, out)? {
+        match take_directive(alloc, &placed.what, to, mesh, run, desk, out, fields)? {
             None => settle_outside_groups(mesh, &run.groups),
             Some(why) => {
                 let line = placed.line;

@@ -6,6 +6,7 @@
 #![tactic(auto)]
 
 mod directing;
+mod driving;
 mod engine;
 mod following;
 mod grouping;

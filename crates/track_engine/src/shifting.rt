@@ -15,7 +15,7 @@ use mesh_plain::{ShiftOf, Shifts, Surface, UseWhy, VertexId, live_vertices};
 use pair_scan::place_of;
 use std::alloc::Global;
 
-const NO_SHIFT: Shift = Shift { x: 0, y: 0, z: 0 };
+pub(crate) const NO_SHIFT: Shift = Shift { x: 0, y: 0, z: 0 };
 
 /// No shift for each live vertex, by rising id.
 pub(crate) fn no_shifts<S: Surface>(alloc: Global, mesh: &S) -> Result<Shifts, NoMemory>
@@ -61,9 +61,9 @@ fn sum(a: Shift, b: Shift) -> Option<Shift>
     )
 }
 
-// The same of a vertex with a shift added, unless it is solid; None where the sum is above the limit.
-fn summed_unless_solid<S: Surface>(mesh: &S, s: ShiftOf, by: Shift) -> Option<ShiftOf>
-    ensures { SumsOne (S.mesh mesh.now) by s result }
+/// The same of a vertex with a shift added, unless it is solid; None where the sum is above the limit.
+pub(crate) fn summed_unless_solid<S: Surface>(mesh: &S, s: ShiftOf, by: Shift) -> Option<ShiftOf>
+    ensures { SumsOne (S.mesh mesh.now) (λ v. by) s result }
 {
     if mesh.solid(s.v) {
         return Some(s);
@@ -81,7 +81,7 @@ pub(crate) fn all_summed<S: Surface>(
     asked: &[ShiftOf],
     by: Shift,
 ) -> Result<Result<Shifts, VertexId>, NoMemory>
-    ensures { IfOk result (Sums (S.mesh mesh.now) by asked.now) }
+    ensures { IfOk result (Sums (S.mesh mesh.now) (λ v. by) asked.now) }
 {
     let mut shifts = Shifts::new(alloc);
     for s in asked {

@@ -22,23 +22,24 @@ use Rattle.run_ranges.proofs.Inputs.{inputs_in_range, mesh_logs_in_range}
 use Rattle.outside_io.specs.Desk.{Files}
 use Rattle.track_input.specs.Source.{Source, Bytes, Absent, TooLong, IsSource}
 use Rattle.track_input.specs.Job.{Job, Input, IsJob, input_of, mesh_of_lists}
+use Rattle.track_engine.specs.Answers.{Answers}
 use Rattle.track_run.specs.Job.{log_of, log_of_input, log_of_test, met_first}
 use Rattle.track_run.specs.Headline.{IsReadBack}
 
 -- the only line
-refused_alone : (why : Refusal) → MayFollow (RefusedLine why) → AreInRange (log_of_input (Err why)).lines
+refused_alone : (why : Refusal) → MayFollow (RefusedLine why) → AreInRange (log_of_input [] (Err why)).lines
 refused_alone why h = All-cons MayFollow (RefusedLine why) [] h (All-nil MayFollow)
 
-test_in_range : (m : Mesh) (steps : List Placed) → IsSound m → IsClosed m → AreCounted steps → (o : Option PairName) → met_first m ≡ o → AreInRange (log_of_test m steps o).lines
-test_in_range m steps sound closed counted (Some pair) e =
+test_in_range : (answers : Answers) (m : Mesh) (steps : List Placed) → IsSound m → IsClosed m → AreCounted steps → (o : Option PairName) → met_first m ≡ o → AreInRange (log_of_test answers m steps o).lines
+test_in_range answers m steps sound closed counted (Some pair) e =
     let P : Option PairName → Type 0 = λ o. IfSome o IsPairInRange in
     refused_alone (refusal.Meets pair) (subst P e (meeting_in_range meets_exactly m (rest_positions m) sound), tt)
-test_in_range m steps sound closed counted None e =
-    mesh_logs_in_range m steps (record { sound = sound; closed = closed; clear = (clear_exactly m None sound (sym e)).0 refl }) counted
+test_in_range answers m steps sound closed counted None e =
+    mesh_logs_in_range answers m steps (record { sound = sound; closed = closed; clear = (clear_exactly m None sound (sym e)).0 refl }) counted
 
-input_in_range : (r : Result Input Refusal) → IsInputInRange r → AreInRange (log_of_input r).lines
-input_in_range (Err why) h = refused_alone why (h, tt)
-input_in_range (Ok input) h = test_in_range (mesh_of_lists input.lists) input.steps h.sound h.closed h.steps (met_first (mesh_of_lists input.lists)) refl
+input_in_range : (answers : Answers) (r : Result Input Refusal) → IsInputInRange r → AreInRange (log_of_input answers r).lines
+input_in_range answers (Err why) h = refused_alone why (h, tt)
+input_in_range answers (Ok input) h = test_in_range answers (mesh_of_lists input.lists) input.steps h.sound h.closed h.steps (met_first (mesh_of_lists input.lists)) refl
 
 seen_of : (files : Told Files) (name : List ℕ) (source : Source) → IsSource files name source → IsSeen source
 seen_of files name (Bytes bytes) is = is.0
@@ -46,7 +47,7 @@ seen_of files name Absent is = tt
 seen_of files name (TooLong seen) is = is.1
 
 -- the log of a job whose files a desk held
-pub read_back : (files : Told Files) (mesh_name step_name : List ℕ) (decimals : ℕ) (job : Job) → IsJob files mesh_name step_name decimals job → IsReadBack job
-read_back files mesh_name step_name decimals job is =
-    written_logs_are_read_lem (log_of_input (input_of job)).lines
-    (input_in_range (input_of job) (inputs_in_range job (seen_of files mesh_name job.mesh_file is.mesh) (seen_of files step_name job.step_file is.steps)))
+pub read_back : (answers : Answers) (files : Told Files) (mesh_name step_name : List ℕ) (decimals : ℕ) (job : Job) → IsJob files mesh_name step_name decimals job → IsReadBack job answers
+read_back answers files mesh_name step_name decimals job is =
+    written_logs_are_read_lem (log_of_input answers (input_of job)).lines
+    (input_in_range answers (input_of job) (inputs_in_range job (seen_of files mesh_name job.mesh_file is.mesh) (seen_of files step_name job.step_file is.steps)))

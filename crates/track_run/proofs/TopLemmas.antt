@@ -1,5 +1,5 @@
 -- The whole of a run from its parts.
-use Rattle.std.proofs.Common.{◌≡◌, ℕ, ◌+◌, ◌<◌, ◌≤◌, ◌^◌, List, [], ◌∷◌, refl, ap, sym, ◌∙◌, subst, length, IfOk, OnErr, Result, Ok, Err, inl, inr}
+use Rattle.std.proofs.Common.{◌≡◌, ℕ, ◌+◌, ◌<◌, ◌≤◌, ◌^◌, List, [], ◌∷◌, refl, ap, sym, ◌∙◌, subst, length, IfOk, OnErr, Result, Ok, Err, inl, inr, false, is_ok}
 use Rattle.std.specs.Prelude.{◌⊎◌}
 use Rattle.std.specs.declared.option.Option.{Option}
 use Rattle.std.specs.declared.option.Option.TheVariants.{None, Some}
@@ -31,12 +31,15 @@ use Rattle.track_input.proofs.ReadLemmas.{same_mesh}
 use Rattle.track_engine.specs.declared.stop.Stop.{Stop}
 use Rattle.track_engine.specs.declared.stop.Stop.TheVariants as stop
 use Rattle.track_engine.specs.State.{State, start, unsaved, standing}
+use Rattle.track_engine.specs.Answers.{Answers}
+use Rattle.track_engine.specs.Answered.{Known, AreAnswered, FollowsAnswers}
 use Rattle.track_engine.specs.Effects.{ExpectedLog, log_from, mesh_line, refused}
 use Rattle.track_engine.specs.Saved.{Target}
 use Rattle.track_engine.specs.Invariant.{IsRunInvariant}
 use Rattle.track_engine.specs.World.{World, Contents, Logs, StopsIn, StopsShort, Follows, HasCauses}
 use Rattle.track_engine.proofs.Worlds.{logs_then, short_then, short_more, short_nothing, short_line}
 use Rattle.track_engine.proofs.Remaining.{log_left}
+use Rattle.track_engine.proofs.SoFars.{none_answered}
 use Rattle.track_engine.proofs.Keeping.{kept_start}
 use Rattle.track_engine.proofs.Replayed.{effect_replayed}
 use Rattle.track_engine.proofs.Promises.{step_is_told}
@@ -44,6 +47,7 @@ use Rattle.track_run.specs.declared.outcome.Outcome.{Outcome}
 use Rattle.track_run.specs.declared.outcome.Outcome.TheVariants as outcome
 use Rattle.track_run.specs.Outcomes.{outcome_of, outcome_at, outcome_from}
 use Rattle.track_run.specs.Job.{log_of, log_of_input, log_of_mesh, log_of_test, met_first, replay_of}
+use Rattle.track_run.specs.Answered.{IsInputAnswered, FollowsMesh, FollowsTest}
 use Rattle.track_run.specs.Causes.{Cause, IsStopped}
 use Rattle.track_run.specs.Headline.{TracksJob, TracksCommand, Runs, LogPromises, IsCaused, FaultsAreCounted}
 use Rattle.track_run.proofs.JobLogs.{test_left, input_left, keeps_log}
@@ -51,19 +55,30 @@ use Rattle.track_run.proofs.Agreeing.{agrees_well}
 use Rattle.track_run.proofs.ReadBack.{read_back}
 use Rattle.track_run.proofs.CauseLemmas.{log_cause, cause_ends}
 
+-- ---- nothing is asked
+
+-- what was read is not begun with
+none_begun : (fields : Known) (r : Result Input Refusal) → IsInputAnswered fields false [] r
+none_begun fields (Err why) = tt
+none_begun fields (Ok input) = λ clear. none_answered fields input.steps (start (mesh_of_lists input.lists))
+
 -- ---- the first mesh, and then the directives
 
 -- an engine of the mesh, of which the first mesh is then saved
-module _ (to : Target) (m : Mesh) (steps : List Placed) (first : State) (new : first ≡ unsaved m) where
-  -- it stops before
-  pub begin_nothing : (a : Contents) (stop : Stop) → StopsShort stop to (at_mesh m) (log_of_mesh m steps).lines a a
-  begin_nothing a stop = short_nothing stop to (at_mesh m) _ a (test_left m steps None)
+module _ (fields : Known) (to : Target) (m : Mesh) (steps : List Placed) (first : State) (new : first ≡ unsaved m) where
+  -- it stops before the first directive
+  begin_stopped : (a b : Contents) (stop : Stop) → StopsShort stop to (at_mesh m) (log_of_mesh [] m steps).lines a b → FollowsMesh fields to m steps a b (Err stop)
+  begin_stopped a b stop short = record { answers = []; answered = none_answered fields steps (start m); follows = short }
+
+  -- it stops before the first line
+  pub begin_nothing : (a : Contents) (stop : Stop) → FollowsMesh fields to m steps a a (Err stop)
+  begin_nothing a stop = begin_stopped a a stop (short_nothing stop to (at_mesh m) _ a (test_left [] m steps None))
 
   -- it stops in that line
-  pub begin_part : (a b : Contents) (stop : Stop) → StopsIn stop to (standing first) (mesh_line first.saved first.mesh ∷ []) a b → StopsShort stop to (at_mesh m) (log_of_mesh m steps).lines a b
+  pub begin_part : (a b : Contents) (stop : Stop) → StopsIn stop to (standing first) (mesh_line first.saved first.mesh ∷ []) a b → FollowsMesh fields to m steps a b (Err stop)
   begin_part a b stop stops =
       let P : State → Type 0 = λ s. StopsIn stop to (standing s) (mesh_line s.saved s.mesh ∷ []) a b in
-      short_more stop to (at_mesh m) (mesh_line 0 m ∷ []) (log_from steps (start m)).lines a b (log_left steps (start m)) (subst P new stops)
+      begin_stopped a b stop (short_more stop to (at_mesh m) (mesh_line 0 m ∷ []) (log_from [] steps (start m)).lines a b (log_left [] steps (start m)) (subst P new stops))
 
   -- where the directives begin
   pub saved_first : (next : State) → next ≡ record first { saved = first.saved + 1 } → next ≡ start m
@@ -72,54 +87,66 @@ module _ (to : Target) (m : Mesh) (steps : List Placed) (first : State) (new : f
   pub kept_first : (next : State) → next ≡ record first { saved = first.saved + 1 } → IsValidSurface m → IsRunInvariant next
   kept_first next saved good = let P : State → Type 0 = λ s. IsRunInvariant s in subst P (sym (saved_first next saved)) (kept_start m good)
 
-  follows_first : (a b c : Contents) (r : Result (Option Refusal) Stop) → Logs to (at_mesh m) (mesh_line 0 m ∷ []) a b → Follows to (at_mesh m) (log_from steps (start m)) b c r → Follows to (at_mesh m) (log_of_mesh m steps) a c r
-  follows_first a b c (Ok ending) l f = (logs_then to (at_mesh m) (mesh_line 0 m ∷ []) (log_from steps (start m)).lines a b c l f.0, f.1)
-  follows_first a b c (Err stop) l f = short_then stop to (at_mesh m) (mesh_line 0 m ∷ []) (log_from steps (start m)).lines a b c l f
+  follows_first : (answers : Answers) (a b c : Contents) (r : Result (Option Refusal) Stop) → Logs to (at_mesh m) (mesh_line 0 m ∷ []) a b → Follows to (at_mesh m) (log_from answers steps (start m)) b c r → Follows to (at_mesh m) (log_of_mesh answers m steps) a c r
+  follows_first answers a b c (Ok ending) l f = (logs_then to (at_mesh m) (mesh_line 0 m ∷ []) (log_from answers steps (start m)).lines a b c l f.0, f.1)
+  follows_first answers a b c (Err stop) l f = short_then stop to (at_mesh m) (mesh_line 0 m ∷ []) (log_from answers steps (start m)).lines a b c l f
 
   pub begin_follows : (next : State) (given_steps : List Placed) (a b c : Contents) (r : Result (Option Refusal) Stop) → next ≡ record first { saved = first.saved + 1 } → given_steps ≡ steps
-      → Logs to (standing first) (mesh_line first.saved first.mesh ∷ []) a b → Follows to (standing next) (log_from given_steps next) b c r → Follows to (at_mesh m) (log_of_mesh m steps) a c r
+      → Logs to (standing first) (mesh_line first.saved first.mesh ∷ []) a b → FollowsAnswers fields to given_steps next b c r → FollowsMesh fields to m steps a c r
   begin_follows next given_steps a b c r saved same logs f =
-      let P : State → Type 0 = λ s. Follows to (standing s) (log_from steps s) b c r in
+      let P : State → Type 0 = λ s. FollowsAnswers fields to steps s b c r in
       let Q : State → Type 0 = λ s. Logs to (standing s) (mesh_line s.saved s.mesh ∷ []) a b in
-      let R : List Placed → Type 0 = λ l. Follows to (standing next) (log_from l next) b c r in
-      follows_first a b c r (subst Q new logs) (subst P (saved_first next saved) (subst R same f))
+      let R : List Placed → Type 0 = λ l. FollowsAnswers fields to l next b c r in
+      let told = subst P (saved_first next saved) (subst R same f) in
+      record { answers = told.answers; answered = told.answered; follows = follows_first told.answers a b c r (subst Q new logs) told.follows }
 
 -- ---- the mesh is tested
 
--- no pair meets
-pub tested_clear : (to : Target) (m : Mesh) (steps : List Placed) (a b : Contents) (r : Result (Option Refusal) Stop) (o : Option PairName) → o ≡ met_first m → o ≡ None → Follows to (at_mesh m) (log_of_mesh m steps) a b r → Follows to (at_mesh m) (log_of_test m steps (met_first m)) a b r
-tested_clear to m steps a b r o first none f = let P : Option PairName → Type 0 = λ o. Follows to (at_mesh m) (log_of_test m steps o) a b r in subst P (sym none ∙ first) f
+module _ (fields : Known) (to : Target) (m : Mesh) (steps : List Placed) where
+  -- no pair meets
+  pub tested_clear : (a b : Contents) (r : Result (Option Refusal) Stop) (o : Option PairName) → o ≡ met_first m → o ≡ None → FollowsMesh fields to m steps a b r → FollowsTest fields to m steps a b r
+  tested_clear a b r o first none f =
+      let P : Option PairName → Type 0 = λ o. Follows to (at_mesh m) (log_of_test f.answers m steps o) a b r in
+      record { answers = f.answers; answered = λ clear. f.answered; follows = subst P (sym none ∙ first) f.follows }
 
-meets_at_first : (to : Target) (m : Mesh) (steps : List Placed) (files : Option Files) (old new : Option (List ℕ)) (pair : PairName) (r : Result (Option Refusal) Stop) → Written old new (RefusedLine (refusal.Meets pair) ∷ []) r → OnErr r (AppendsPart old new (text_of_line (RefusedLine (refusal.Meets pair)))) → IfOk r (λ e. e ≡ Some (refusal.Meets pair))
-    → Follows to (at_mesh m) (log_of_test m steps (Some pair)) (record { files = files; written = old }) (record { files = files; written = new }) r
-meets_at_first to m steps files old new pair (Ok e) said part ending = (record { written = said; files = refl }, ending)
-meets_at_first to m steps files old new pair (Err stop) said part ending = short_line stop to (at_mesh m) (RefusedLine (refusal.Meets pair)) [] files old new part
+  meets_at_first : (files : Option Files) (old new : Option (List ℕ)) (pair : PairName) (r : Result (Option Refusal) Stop) → Written old new (RefusedLine (refusal.Meets pair) ∷ []) r → OnErr r (AppendsPart old new (text_of_line (RefusedLine (refusal.Meets pair)))) → IfOk r (λ e. e ≡ Some (refusal.Meets pair))
+      → Follows to (at_mesh m) (log_of_test [] m steps (Some pair)) (record { files = files; written = old }) (record { files = files; written = new }) r
+  meets_at_first files old new pair (Ok e) said part ending = (record { written = said; files = refl }, ending)
+  meets_at_first files old new pair (Err stop) said part ending = short_line stop to (at_mesh m) (RefusedLine (refusal.Meets pair)) [] files old new part
 
--- the mesh is not tested, and nothing is done
-pub tested_nothing : (to : Target) (m : Mesh) (steps : List Placed) (w : Contents) (stop : Stop) → StopsShort stop to (at_mesh m) (log_of_test m steps (met_first m)).lines w w
-tested_nothing to m steps w stop = short_nothing stop to (at_mesh m) _ w (test_left m steps (met_first m))
+  -- the mesh is not tested, and nothing is done
+  pub tested_nothing : (w : Contents) (stop : Stop) → FollowsTest fields to m steps w w (Err stop)
+  tested_nothing w stop = record {
+    answers = [];
+    answered = λ clear. none_answered fields steps (start m);
+    follows = short_nothing stop to (at_mesh m) _ w (test_left [] m steps (met_first m));
+  }
 
--- a pair meets, and is told
-pub tested_meets : (to : Target) (m : Mesh) (steps : List Placed) (files : Option Files) (old new : Option (List ℕ)) (pair : PairName) (r : Result (Option Refusal) Stop) (o : Option PairName) → o ≡ met_first m → o ≡ Some pair
-    → Written old new (RefusedLine (refusal.Meets pair) ∷ []) r → OnErr r (AppendsPart old new (text_of_line (RefusedLine (refusal.Meets pair)))) → IfOk r (λ e. e ≡ Some (refusal.Meets pair))
-    → Follows to (at_mesh m) (log_of_test m steps (met_first m)) (record { files = files; written = old }) (record { files = files; written = new }) r
-tested_meets to m steps files old new pair r o first some said part ending =
-    let P : Option PairName → Type 0 = λ o. Follows to (at_mesh m) (log_of_test m steps o) (record { files = files; written = old }) (record { files = files; written = new }) r in
-    subst P (sym some ∙ first) (meets_at_first to m steps files old new pair r said part ending)
+  -- a pair meets, and is told
+  pub tested_meets : (files : Option Files) (old new : Option (List ℕ)) (pair : PairName) (r : Result (Option Refusal) Stop) (o : Option PairName) → o ≡ met_first m → o ≡ Some pair
+      → Written old new (RefusedLine (refusal.Meets pair) ∷ []) r → OnErr r (AppendsPart old new (text_of_line (RefusedLine (refusal.Meets pair)))) → IfOk r (λ e. e ≡ Some (refusal.Meets pair))
+      → FollowsTest fields to m steps (record { files = files; written = old }) (record { files = files; written = new }) r
+  tested_meets files old new pair r o first some said part ending =
+      let P : Option PairName → Type 0 = λ o. Follows to (at_mesh m) (log_of_test [] m steps o) (record { files = files; written = old }) (record { files = files; written = new }) r in
+      record {
+        answers = [];
+        answered = λ clear. let never : ◌≡◌ {A = Option PairName} (Some pair) None = sym some ∙ first ∙ clear in absurd cc;
+        follows = subst P (sym some ∙ first) (meets_at_first files old new pair r said part ending);
+      }
 
 -- ---- the whole log
 
 -- the log of what was read
-abbrev log_of_ready : Ready → ExpectedLog
-log_of_ready (ready.No why) = refused why
-log_of_ready (ready.Yes lists steps) = log_of_test (given lists) steps (met_first (given lists))
+abbrev log_of_ready : Answers → Ready → ExpectedLog
+log_of_ready answers (ready.No why) = refused why
+log_of_ready answers (ready.Yes lists steps) = log_of_test answers (given lists) steps (met_first (given lists))
 
-ready_log : (r : Ready) → log_of_input (input_by r) ≡ log_of_ready r
-ready_log (ready.No why) = refl
-ready_log (ready.Yes lists steps) = ap (λ m. log_of_test m steps (met_first m)) (same_mesh lists)
+ready_log : (answers : Answers) (r : Ready) → log_of_input answers (input_by r) ≡ log_of_ready answers r
+ready_log answers (ready.No why) = refl
+ready_log answers (ready.Yes lists steps) = ap (λ m. log_of_test answers m steps (met_first m)) (same_mesh lists)
 
 -- the first line of the log is written, before a file is fetched
-module _ (mesh_name step_name : List ℕ) (to : Target) (files : Option Files) where
+module _ (fields : Known) (mesh_name step_name : List ℕ) (to : Target) (files : Option Files) where
   any_job : Job
   any_job = record { decimals = to.decimals; mesh_file = (some_source files mesh_name).0; step_file = (some_source files step_name).0 }
 
@@ -134,88 +161,103 @@ module _ (mesh_name step_name : List ℕ) (to : Target) (files : Option Files) w
   prepared_at a b e p = let P : Ready → Type 0 = λ x. Prepares files mesh_name step_name to.decimals x in subst P e p
 
   -- it is not whole
-  pub tracks_first : (old new : Option (List ℕ)) (stop : Stop) → AppendsPart old new (text_of_line (First VERSION)) → TracksJob mesh_name step_name to (at old) (at new) (Err stop)
+  pub tracks_first : (old new : Option (List ℕ)) (stop : Stop) → AppendsPart old new (text_of_line (First VERSION)) → TracksJob fields mesh_name step_name to (at old) (at new) (Err stop)
   tracks_first old new stop part = record {
     job = any_job;
     is_job = any_is_job;
-    follows = short_line stop to _ (First VERSION) (log_of_input (input_of any_job)).lines files old new part;
+    answers = [];
+    answered = none_begun fields (input_of any_job);
+    follows = short_line stop to _ (First VERSION) (log_of_input [] (input_of any_job)).lines files old new part;
   }
 
   module _ (w0 w1 : Option (List ℕ)) (first : w1 ≡ appended w0 (text_of_lines (First VERSION ∷ []))) where
     first_logs : (from : Replay) → Logs to from (First VERSION ∷ []) (at w0) (at w1)
     first_logs from = record { written = first; files = refl }
 
-    whole_follows : (from : Replay) (job : Job) (new : Contents) (r : Result (Option Refusal) Stop) → Follows to from (log_of_input (input_of job)) (at w1) new r → Follows to from (log_of job) (at w0) new r
-    whole_follows from job new (Ok ending) f = (logs_then to from (First VERSION ∷ []) (log_of_input (input_of job)).lines _ _ new (first_logs from) f.0, f.1)
-    whole_follows from job new (Err stop) f = short_then stop to from (First VERSION ∷ []) (log_of_input (input_of job)).lines _ _ new (first_logs from) f
+    whole_follows : (answers : Answers) (from : Replay) (job : Job) (new : Contents) (r : Result (Option Refusal) Stop) → Follows to from (log_of_input answers (input_of job)) (at w1) new r → Follows to from (log_of job answers) (at w0) new r
+    whole_follows answers from job new (Ok ending) f = (logs_then to from (First VERSION ∷ []) (log_of_input answers (input_of job)).lines _ _ new (first_logs from) f.0, f.1)
+    whole_follows answers from job new (Err stop) f = short_then stop to from (First VERSION ∷ []) (log_of_input answers (input_of job)).lines _ _ new (first_logs from) f
 
     -- nothing after it
-    pub tracks_second : (stop : Stop) → TracksJob mesh_name step_name to (at w0) (at w1) (Err stop)
+    pub tracks_second : (stop : Stop) → TracksJob fields mesh_name step_name to (at w0) (at w1) (Err stop)
     tracks_second stop = record {
       job = any_job;
       is_job = any_is_job;
-      follows = whole_follows (replay_of any_job) any_job (at w1) (Err stop) (short_nothing stop to _ _ _ (input_left (input_of any_job)));
+      answers = [];
+      answered = none_begun fields (input_of any_job);
+      follows = whole_follows [] (replay_of any_job) any_job (at w1) (Err stop) (short_nothing stop to _ _ _ (input_left [] (input_of any_job)));
     }
 
-    tracks_then : (found : Ready) (p : Prepares files mesh_name step_name to.decimals found) (new : Contents) (r : Result (Option Refusal) Stop) → Follows to (replay_of p.job) (log_of_ready found) (at w1) new r → TracksJob mesh_name step_name to (at w0) new r
-    tracks_then found p new r f =
+    tracks_then : (answers : Answers) (found : Ready) (p : Prepares files mesh_name step_name to.decimals found) (new : Contents) (r : Result (Option Refusal) Stop) → IsInputAnswered fields (is_ok r) answers (input_by found)
+        → Follows to (replay_of p.job) (log_of_ready answers found) (at w1) new r → TracksJob fields mesh_name step_name to (at w0) new r
+    tracks_then answers found p new r answered f =
         let P : ExpectedLog → Type 0 = λ t. Follows to (replay_of p.job) t (at w1) new r in
-        record { job = p.job; is_job = p.is_job; follows = whole_follows (replay_of p.job) p.job new r (subst P (sym (ap log_of_input p.input ∙ ready_log found)) f) }
+        let Q : Result Input Refusal → Type 0 = λ i. IsInputAnswered fields (is_ok r) answers i in
+        record {
+          job = p.job;
+          is_job = p.is_job;
+          answers = answers;
+          answered = subst Q (sym p.input) answered;
+          follows = whole_follows answers (replay_of p.job) p.job new r (subst P (sym (ap (log_of_input answers) p.input ∙ ready_log answers found)) f);
+        }
 
     -- the refusal that was read is written, as far as it goes
     pub tracks_no : (w2 : Option (List ℕ)) (why : Refusal) (r : Result (Option Refusal) Stop) → Prepares files mesh_name step_name to.decimals (ready.No why)
-        → Written w1 w2 (RefusedLine why ∷ []) r → OnErr r (AppendsPart w1 w2 (text_of_line (RefusedLine why))) → IfOk r (λ e. e ≡ Some why) → TracksJob mesh_name step_name to (at w0) (at w2) r
-    tracks_no w2 why (Ok e) p said part ending = tracks_then (ready.No why) p _ (Ok e) (record { written = said; files = refl }, ending)
-    tracks_no w2 why (Err stop) p said part ending = tracks_then (ready.No why) p _ (Err stop) (short_line stop to _ (RefusedLine why) [] files w1 w2 part)
+        → Written w1 w2 (RefusedLine why ∷ []) r → OnErr r (AppendsPart w1 w2 (text_of_line (RefusedLine why))) → IfOk r (λ e. e ≡ Some why) → TracksJob fields mesh_name step_name to (at w0) (at w2) r
+    tracks_no w2 why (Ok e) p said part ending = tracks_then [] (ready.No why) p _ (Ok e) tt (record { written = said; files = refl }, ending)
+    tracks_no w2 why (Err stop) p said part ending = tracks_then [] (ready.No why) p _ (Err stop) tt (short_line stop to _ (RefusedLine why) [] files w1 w2 part)
 
     -- a mesh and directives, and nothing is done with them
-    pub tracks_third : (lists : MeshLists) (steps : List Placed) (stop : Stop) → Prepares files mesh_name step_name to.decimals (ready.Yes lists steps) → TracksJob mesh_name step_name to (at w0) (at w1) (Err stop)
-    tracks_third lists steps stop p = tracks_then (ready.Yes lists steps) p _ (Err stop) (short_nothing stop to _ _ _ (test_left (given lists) steps (met_first (given lists))))
+    pub tracks_third : (lists : MeshLists) (steps : List Placed) (stop : Stop) → Prepares files mesh_name step_name to.decimals (ready.Yes lists steps) → TracksJob fields mesh_name step_name to (at w0) (at w1) (Err stop)
+    tracks_third lists steps stop p =
+        tracks_then [] (ready.Yes lists steps) p _ (Err stop) (none_begun fields (input_by (ready.Yes lists steps))) (short_nothing stop to _ _ _ (test_left [] (given lists) steps (met_first (given lists))))
 
     -- a mesh and directives
     pub tracks_ready : (now : Option Files) (lists : MeshLists) (steps : List Placed) (m : Mesh) (new : Contents) (r : Result (Option Refusal) Stop) → Prepares files mesh_name step_name to.decimals (ready.Yes lists steps) → now ≡ files
-        → m ≡ given lists → Follows to (at_mesh m) (log_of_test m steps (met_first m)) (record { files = now; written = w1 }) new r → TracksJob mesh_name step_name to (at w0) new r
+        → m ≡ given lists → FollowsTest fields to m steps (record { files = now; written = w1 }) new r → TracksJob fields mesh_name step_name to (at w0) new r
     tracks_ready now lists steps m new r p kept same f =
-        let P : Mesh → Type 0 = λ n. Follows to (at_mesh n) (log_of_test (given lists) steps (met_first (given lists))) (at w1) new r in
-        let Q : Mesh → Type 0 = λ n. Follows to (at_mesh n) (log_of_test n steps (met_first n)) (at w1) new r in
-        let R : Option Files → Type 0 = λ now. Follows to (at_mesh m) (log_of_test m steps (met_first m)) (record { files = now; written = w1 }) new r in
-        tracks_then (ready.Yes lists steps) p new r (subst P p.ready.mesh (subst Q same (subst R kept f)))
+        let answers = f.answers in
+        let P : Mesh → Type 0 = λ n. Follows to (at_mesh n) (log_of_test answers (given lists) steps (met_first (given lists))) (at w1) new r in
+        let Q : Mesh → Type 0 = λ n. Follows to (at_mesh n) (log_of_test answers n steps (met_first n)) (at w1) new r in
+        let R : Option Files → Type 0 = λ now. Follows to (at_mesh m) (log_of_test answers m steps (met_first m)) (record { files = now; written = w1 }) new r in
+        let A : Mesh → Type 0 = λ n. met_first n ≡ None → AreAnswered fields (is_ok r) answers steps (start n) in
+        tracks_then answers (ready.Yes lists steps) p new r (subst A (same ∙ sym (same_mesh lists)) f.answered) (subst P p.ready.mesh (subst Q same (subst R kept f.follows)))
 
 -- ---- the headline
 
 -- where the whole log is written, the job's cause is the outcome's
-whole_cause : (job : Job) (result : Outcome) (ending : Option Refusal) → result ≡ outcome_of ending → ending ≡ (log_of job).ending → Cause job result
-whole_cause job result ending e same = let P : Outcome → Type 0 = λ o. Cause job o in subst P (sym (e ∙ ap outcome_of same)) (log_cause job)
+whole_cause : (answers : Answers) (job : Job) (result : Outcome) (ending : Option Refusal) → result ≡ outcome_of ending → ending ≡ (log_of job answers).ending → Cause job answers result
+whole_cause answers job result ending e same = let P : Outcome → Type 0 = λ o. Cause job answers o in subst P (sym (e ∙ ap outcome_of same)) (log_cause answers job)
 
-whole_alone : (job : Job) (result : Outcome) (ending : Option Refusal) → result ≡ outcome_of ending → ending ≡ (log_of job).ending → (other : Outcome) → Cause job other → (result ≡ other) ⊎ IsStopped other ⊎ IsStopped result
-whole_alone job result ending e same other h = by_end (cause_ends job other h)
+whole_alone : (answers : Answers) (job : Job) (result : Outcome) (ending : Option Refusal) → result ≡ outcome_of ending → ending ≡ (log_of job answers).ending → (other : Outcome) → Cause job answers other → (result ≡ other) ⊎ IsStopped other ⊎ IsStopped result
+whole_alone answers job result ending e same other h = by_end (cause_ends answers job other h)
   where
-    by_end : (outcome_of (log_of job).ending ≡ other) ⊎ IsStopped other → (result ≡ other) ⊎ IsStopped other ⊎ IsStopped result
+    by_end : (outcome_of (log_of job answers).ending ≡ other) ⊎ IsStopped other → (result ≡ other) ⊎ IsStopped other ⊎ IsStopped result
     by_end (inl is) = inl (e ∙ ap outcome_of same ∙ is)
     by_end (inr stopped) = inr (inl stopped)
 
-stop_cause : (job : Job) (stop : Stop) → Cause job (outcome_at stop)
-stop_cause job stop.NoMemory = tt
-stop_cause job stop.DeskFault = tt
-stop_cause job stop.SinkFault = tt
+stop_cause : (answers : Answers) (job : Job) (stop : Stop) → Cause job answers (outcome_at stop)
+stop_cause answers job stop.NoMemory = tt
+stop_cause answers job stop.DeskFault = tt
+stop_cause answers job stop.SinkFault = tt
 
 stop_stops : (stop : Stop) → IsStopped (outcome_at stop)
 stop_stops stop.NoMemory = tt
 stop_stops stop.DeskFault = tt
 stop_stops stop.SinkFault = tt
 
-is_caused : (job : Job) (to : Target) (result : Outcome) (ended : Result (Option Refusal) Stop) (old new : Contents) → result ≡ outcome_from ended → Follows to (replay_of job) (log_of job) old new ended → IsCaused job result
-is_caused job to result (Ok ending) old new e follows = record { cause = whole_cause job result ending e follows.1; no_other = whole_alone job result ending e follows.1 }
-is_caused job to result (Err stop) old new e follows = record {
-  cause = (let P : Outcome → Type 0 = λ o. Cause job o in subst P (sym e) (stop_cause job stop));
+is_caused : (answers : Answers) (job : Job) (to : Target) (result : Outcome) (ended : Result (Option Refusal) Stop) (old new : Contents) → result ≡ outcome_from ended → Follows to (replay_of job) (log_of job answers) old new ended → IsCaused job answers result
+is_caused answers job to result (Ok ending) old new e follows = record { cause = whole_cause answers job result ending e follows.1; no_other = whole_alone answers job result ending e follows.1 }
+is_caused answers job to result (Err stop) old new e follows = record {
+  cause = (let P : Outcome → Type 0 = λ o. Cause job answers o in subst P (sym e) (stop_cause answers job stop));
   no_other = λ other h. inr (inr (let P : Outcome → Type 0 = λ o. IsStopped o in subst P (sym e) (stop_stops stop)));
 }
 
-log_promises : (job : Job) → LogPromises job
-log_promises job = record {
-  safe = keeps_log job;
+log_promises : (answers : Answers) (job : Job) → LogPromises job answers
+log_promises answers job = record {
+  safe = keeps_log answers job;
   told = record { steps = step_is_told; replayed = effect_replayed };
-  reached = agrees_well job;
+  reached = agrees_well job answers;
 }
 
 -- a whole log has no outcome of a fault
@@ -245,25 +287,27 @@ faults_counted old new (Err stop.NoMemory) h = record { desk = h.desk; sink = h.
 faults_counted old new (Err stop.DeskFault) h = record { desk = h.desk; sink = h.out; desk_fault = λ e. h.desk_fault refl; sink_fault = λ e. absurd cc }
 faults_counted old new (Err stop.SinkFault) h = record { desk = h.desk; sink = h.out; desk_fault = λ e. absurd cc; sink_fault = λ e. h.sink_fault refl }
 
-pub run_ends : (mesh_name step_name : List ℕ) (to : Target) (old new : World) (result : Outcome) (ended : Result (Option Refusal) Stop) → result ≡ outcome_from ended → HasCauses old new ended
-    → TracksJob mesh_name step_name to old.holds new.holds ended → TracksCommand mesh_name step_name to result old new
-run_ends mesh_name step_name to old new result ended e causes t = record {
+pub run_ends : (fields : Known) (mesh_name step_name : List ℕ) (to : Target) (old new : World) (result : Outcome) (ended : Result (Option Refusal) Stop) → result ≡ outcome_from ended → HasCauses old new ended
+    → TracksJob fields mesh_name step_name to old.holds new.holds ended → TracksCommand fields mesh_name step_name to result old new
+run_ends fields mesh_name step_name to old new result ended e causes t = record {
   job = t.job;
   is_job = t.is_job;
   tracks = record {
+    answers = t.answers;
     ended = ended;
+    answered = t.answered;
     outcome_is = e;
     log = t.follows;
-    promises = log_promises t.job;
-    caused = is_caused t.job to result ended old.holds new.holds e t.follows;
+    promises = log_promises t.answers t.job;
+    caused = is_caused t.answers t.job to result ended old.holds new.holds e t.follows;
   };
-  read_back = read_back old.holds.files mesh_name step_name to.decimals t.job t.is_job;
+  read_back = read_back t.answers old.holds.files mesh_name step_name to.decimals t.job t.is_job;
   faults = (let P : Outcome → Type 0 = λ o. FaultsAreCounted old new o in subst P (sym e) (faults_counted old new ended causes));
 }
 
 -- a run for the words of a command
-pub runs_command : (f g : Command) (named : Option Named) (result : Outcome) (old new : World) → f ≡ g → Some (named_by f) ≡ named → Runs (Some (named_by g)) result old new → Runs named result old new
-runs_command f g named result old new is e runs =
-    let P : Command → Type 0 = λ x. Runs (Some (named_by x)) result old new in
-    let Q : Option Named → Type 0 = λ n. Runs n result old new in
+pub runs_command : (fields : Known) (f g : Command) (named : Option Named) (result : Outcome) (old new : World) → f ≡ g → Some (named_by f) ≡ named → Runs fields (Some (named_by g)) result old new → Runs fields named result old new
+runs_command fields f g named result old new is e runs =
+    let P : Command → Type 0 = λ x. Runs fields (Some (named_by x)) result old new in
+    let Q : Option Named → Type 0 = λ n. Runs fields n result old new in
     subst Q e (subst P (sym is) runs)

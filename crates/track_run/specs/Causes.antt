@@ -14,6 +14,7 @@ use Rattle.log_text.specs.declared.LogLine.{LogLine}
 use Rattle.track_run.specs.declared.outcome.Outcome.{Outcome}
 use Rattle.track_run.specs.declared.outcome.Outcome.TheVariants as outcome
 use Rattle.track_engine.specs.State.{State, start}
+use Rattle.track_engine.specs.Answers.{Answers, first, later}
 use Rattle.track_engine.specs.Effects.{Proceeds, Refused, effect_of}
 use Rattle.track_input.specs.Source.{Source, Bytes, Absent, TooLong}
 use Rattle.track_input.specs.Job.{Job, mesh_of_lists}
@@ -53,40 +54,47 @@ pub record MeetsFirst (m : Mesh) (pair : PairName) : Type 0 where
   pub meets : IsMeeting m pair
   pub none_before : NoneMeetsBefore m pair
 
--- all of these directives are taken, from one state to the other
-abbrev pub Reaches : State → List Placed → State → Type 0
-Reaches s [] t = s ≡ t
-Reaches s (placed ∷ more) t = (lines : List LogLine) × (next : State) × (effect_of placed.what s ≡ Proceeds lines next) × Reaches next more t
+-- all of these directives are taken as they are answered, from one state to the other
+abbrev pub Reaches : Answers → State → List Placed → State → Type 0
+Reaches answers s [] t = s ≡ t
+Reaches answers s (placed ∷ more) t =
+    (lines : List LogLine) × (next : State) × (effect_of (first answers) placed.what s ≡ Proceeds lines next) × Reaches (later answers) next more t
+
+-- the answers to the directives after these
+abbrev pub answers_after : List Placed → Answers → Answers
+answers_after [] answers = answers
+answers_after (placed ∷ more) answers = answers_after more (later answers)
 
 -- the directives before one are all taken, and that one, at this line of the step file, is refused
-pub record IsRefusedAt (s : State) (directives : List Placed) (line : ℕ) (why : UseWhy) : Type 0 where
+pub record IsRefusedAt (answers : Answers) (s : State) (directives : List Placed) (line : ℕ) (why : UseWhy) : Type 0 where
   pub front : List Placed
   pub placed : Placed
   pub rest : List Placed
   pub split : directives ≡ front ++ placed ∷ rest
   pub state : State
-  pub reached : Reaches s front state
-  pub refused : effect_of placed.what state ≡ Refused why
+  pub reached : Reaches answers s front state
+  pub refused : effect_of (first (answers_after front answers)) placed.what state ≡ Refused why
   pub line_is : line ≡ placed.line
 
--- Why a job has an outcome. Each cause holds what must have gone well before it, so no job has two.
-abbrev pub Cause : Job → Outcome → Type 0
-Cause job outcome.Done = (lists : Lists) × (directives : List Placed) × HasClear job lists directives × (end : State) × Reaches (start (mesh_of_lists lists)) directives end
-Cause job (outcome.TooLong file.Mesh seen) = job.mesh_file ≡ TooLong seen
-Cause job (outcome.TooLong file.Steps seen) = IsThere job.mesh_file × (job.step_file ≡ TooLong seen)
-Cause job (outcome.Missing file.Mesh) = job.mesh_file ≡ Absent
-Cause job (outcome.Missing file.Steps) = IsThere job.mesh_file × (job.step_file ≡ Absent)
-Cause job (outcome.MeshText fault) = (bytes : List ℕ) × (job.mesh_file ≡ Bytes bytes) × IsThere job.step_file × (lists_of job.decimals bytes ≡ Err fault)
-Cause job (outcome.MeshShape fault) = (lists : Lists) × (steps : List ℕ) × HasLists job lists steps × (shape_fault (length lists.points) lists.faces ≡ Some fault)
-Cause job (outcome.StepText fault) = (lists : Lists) × (steps : List ℕ) × HasMesh job lists steps × (steps_of steps ≡ Err fault)
-Cause job (outcome.StepUse line why) = (lists : Lists) × (directives : List Placed) × HasClear job lists directives × IsRefusedAt (start (mesh_of_lists lists)) directives line why
-Cause job (outcome.MeshMeets pair) = (lists : Lists) × (directives : List Placed) × HasSteps job lists directives × MeetsFirst (mesh_of_lists lists) pair
+-- Why a job has an outcome, by what fields answer to its directives. Each cause holds what must have gone well before it, so no job has
+-- two.
+abbrev pub Cause : Job → Answers → Outcome → Type 0
+Cause job answers outcome.Done = (lists : Lists) × (directives : List Placed) × HasClear job lists directives × (end : State) × Reaches answers (start (mesh_of_lists lists)) directives end
+Cause job answers (outcome.TooLong file.Mesh seen) = job.mesh_file ≡ TooLong seen
+Cause job answers (outcome.TooLong file.Steps seen) = IsThere job.mesh_file × (job.step_file ≡ TooLong seen)
+Cause job answers (outcome.Missing file.Mesh) = job.mesh_file ≡ Absent
+Cause job answers (outcome.Missing file.Steps) = IsThere job.mesh_file × (job.step_file ≡ Absent)
+Cause job answers (outcome.MeshText fault) = (bytes : List ℕ) × (job.mesh_file ≡ Bytes bytes) × IsThere job.step_file × (lists_of job.decimals bytes ≡ Err fault)
+Cause job answers (outcome.MeshShape fault) = (lists : Lists) × (steps : List ℕ) × HasLists job lists steps × (shape_fault (length lists.points) lists.faces ≡ Some fault)
+Cause job answers (outcome.StepText fault) = (lists : Lists) × (steps : List ℕ) × HasMesh job lists steps × (steps_of steps ≡ Err fault)
+Cause job answers (outcome.StepUse line why) = (lists : Lists) × (directives : List Placed) × HasClear job lists directives × IsRefusedAt answers (start (mesh_of_lists lists)) directives line why
+Cause job answers (outcome.MeshMeets pair) = (lists : Lists) × (directives : List Placed) × HasSteps job lists directives × MeetsFirst (mesh_of_lists lists) pair
 -- no job is of words that name none
-Cause job outcome.Usage = ⊥
+Cause job answers outcome.Usage = ⊥
 -- these stop a run, whatever its job
-Cause job outcome.NoMemory = Unit {0}
-Cause job outcome.DeskFault = Unit {0}
-Cause job outcome.SinkFault = Unit {0}
+Cause job answers outcome.NoMemory = Unit {0}
+Cause job answers outcome.DeskFault = Unit {0}
+Cause job answers outcome.SinkFault = Unit {0}
 
 -- the run was stopped before the end of its log
 abbrev pub IsStopped : Outcome → Type 0

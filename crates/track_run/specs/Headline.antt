@@ -1,5 +1,5 @@
 -- The headline: what a run does.
-use Rattle.std.specs.Prelude.{◌≡◌, ◌≤◌, ◌⊎◌, ℕ, List, Option, Some, None, Result, Ok}
+use Rattle.std.specs.Prelude.{◌≡◌, ◌≤◌, ◌⊎◌, ℕ, List, is_ok, Option, Some, None, Result, Ok}
 use Rattle.step_text.specs.declared.Directive.{Directive}
 use Rattle.step_text.specs.declared.Directive.TheVariants as directive
 use Rattle.log_text.specs.declared.LogLine.{LogLine}
@@ -11,9 +11,11 @@ use Rattle.outside_io.specs.Causes.{Rose}
 use Rattle.track_convert.specs.declared.ConvertFault.{ConvertFault}
 use Rattle.track_convert.specs.Headline.{Converts}
 use Rattle.track_input.specs.Words.{MeshName, Named, Track, Convert}
-use Rattle.track_input.specs.Job.{Job, IsJob}
+use Rattle.track_input.specs.Job.{Job, IsJob, input_of}
 use Rattle.track_engine.specs.declared.stop.Stop.{Stop}
 use Rattle.track_engine.specs.State.{State, standing}
+use Rattle.track_engine.specs.Answers.{Answer, Answers}
+use Rattle.track_engine.specs.Answered.{Known}
 use Rattle.track_engine.specs.Effects.{Proceeds, effect_of}
 use Rattle.track_engine.specs.Saved.{Target}
 use Rattle.track_engine.specs.Kept.{LogIsSafe}
@@ -24,18 +26,20 @@ use Rattle.track_run.specs.declared.outcome.Outcome.TheVariants as outcome
 use Rattle.track_run.specs.Job.{log_of, replay_of}
 use Rattle.track_run.specs.Reached.{IsReached, AgreesWithReplay}
 use Rattle.track_run.specs.Outcomes.{outcome_from, outcome_of_conversion}
-use Rattle.track_run.specs.Causes.{Cause, IsStopped}
+use Rattle.track_run.specs.Answered.{IsInputAnswered}
+use Rattle.track_run.specs.Causes.{Cause, IsStopped, answers_after}
 
 -- THE HEADLINE, read from here down, each part explained where it stands. A run of a job writes the job's log and stores the meshes
 -- that it names, or, where it is stopped, the first of it and not the whole; the log keeps what it promises; and the outcome has its
 -- cause in the job.
 
--- What holds of each directive, in whichever state it is taken. A step whose pairs all pass is taken unaltered; otherwise each pair that
+-- What holds of each directive, in whichever state it is taken, whatever a field that it names answers. A step whose pairs all pass is taken unaltered; otherwise each pair that
 -- does not pass is logged, and it is taken by the first way that applies. The lines of a directive, replayed from where the run stood
 -- before it, lead to where it stands after it.
 pub record DirectivesAreTold : Type 0 where
-  pub steps : (s next : State) (lines : List LogLine) → effect_of directive.Step s ≡ Proceeds lines next → StepIsTold s lines
-  pub replayed : (d : Directive) (s next : State) (lines : List LogLine) → effect_of d s ≡ Proceeds lines next →
+  pub steps : (given : Answer) (s next : State) (lines : List LogLine) → effect_of given directive.Step s ≡ Proceeds lines next →
+      StepIsTold s lines
+  pub replayed : (given : Answer) (d : Directive) (s next : State) (lines : List LogLine) → effect_of given d s ≡ Proceeds lines next →
       after (standing s) lines ≡ standing next
 
 -- What the log of a job promises. In every mesh that it saves no edge meets a face that shares no vertex with it, and the mesh is
@@ -45,23 +49,26 @@ pub record DirectivesAreTold : Type 0 where
 -- stands between two directives, the replay of the log up to there stands too, so the pairs of a step are tested in the mesh that the log
 -- tells; and that mesh, and each at which a group that is still open was opened, is sound, closed and clear, with a shift asked of each
 -- live vertex, and none of a solid one.
-pub record LogPromises (job : Job) : Type 0 where
-  pub safe : LogIsSafe (replay_of job) (log_of job).lines
+pub record LogPromises (job : Job) (answers : Answers) : Type 0 where
+  pub safe : LogIsSafe (replay_of job) (log_of job answers).lines
   pub told : DirectivesAreTold
-  pub reached : (s : State) (there : IsReached job s) → AgreesWithReplay job s there.rest
+  pub reached : (s : State) (there : IsReached job answers s) → AgreesWithReplay job answers s there.rest (answers_after there.front answers)
 
--- The outcome has its cause in the job, and the job has a cause for no other outcome but those that stop a run.
-pub record IsCaused (job : Job) (result : Outcome) : Type 0 where
-  pub cause : Cause job result
-  pub no_other : (other : Outcome) → Cause job other → (result ≡ other) ⊎ IsStopped other ⊎ IsStopped result
+-- The outcome has its cause in the job and in what fields answered, and there is a cause for no other outcome but those that stop a run.
+pub record IsCaused (job : Job) (answers : Answers) (result : Outcome) : Type 0 where
+  pub cause : Cause job answers result
+  pub no_other : (other : Outcome) → Cause job answers other → (result ≡ other) ⊎ IsStopped other ⊎ IsStopped result
 
--- A run of a job: how it ended, the lines that it wrote and the meshes that it stored, what its log promises, and why it has its outcome.
-pub record Tracks (job : Job) (to : Target) (result : Outcome) (old new : Contents) : Type 0 where
+-- A run of a job: what the stored fields answered to its directives, each asked where its vertices then stood, how it ended, the lines that
+-- it wrote and the meshes that it stored, what its log promises, and why it has its outcome.
+pub record Tracks (fields : Known) (job : Job) (to : Target) (result : Outcome) (old new : Contents) : Type 0 where
+  pub answers : Answers
   pub ended : Result (Option Refusal) Stop
+  pub answered : IsInputAnswered fields (is_ok ended) answers (input_of job)
   pub outcome_is : result ≡ outcome_from ended
-  pub log : Follows to (replay_of job) (log_of job) old new ended
-  pub promises : LogPromises job
-  pub caused : IsCaused job result
+  pub log : Follows to (replay_of job) (log_of job answers) old new ended
+  pub promises : LogPromises job answers
+  pub caused : IsCaused job answers result
 
 -- No count of faults has fallen, and at a fault the one of its side has risen.
 pub record FaultsAreCounted (old new : World) (result : Outcome) : Type 0 where
@@ -71,15 +78,15 @@ pub record FaultsAreCounted (old new : World) (result : Outcome) : Type 0 where
   pub sink_fault : result ≡ outcome.SinkFault → Rose old.sink_faults new.sink_faults
 
 -- The text of a job's log is read as exactly its lines, so whoever reads the log reads what it promises.
-abbrev pub IsReadBack : Job → Type 0
-IsReadBack job = lines_of_text (text_of_lines (log_of job).lines) ≡ Ok (log_of job).lines
+abbrev pub IsReadBack : Job → Answers → Type 0
+IsReadBack job answers = lines_of_text (text_of_lines (log_of job answers).lines) ≡ Ok (log_of job answers).lines
 
 -- the job of a command, which is what the desk held at entry, is tracked
-pub record TracksCommand (mesh_name step_name : List ℕ) (to : Target) (result : Outcome) (old new : World) : Type 0 where
+pub record TracksCommand (fields : Known) (mesh_name step_name : List ℕ) (to : Target) (result : Outcome) (old new : World) : Type 0 where
   pub job : Job
   pub is_job : IsJob old.holds.files mesh_name step_name to.decimals job
-  pub tracks : Tracks job to result old.holds new.holds
-  pub read_back : IsReadBack job
+  pub tracks : Tracks fields job to result old.holds new.holds
+  pub read_back : IsReadBack job tracks.answers
   pub faults : FaultsAreCounted old new result
 
 -- the mesh of the one file is converted to the other; the parts are explained where `Converts` stands
@@ -88,15 +95,17 @@ pub record ConvertsCommand (from to : MeshName) (decimals : ℕ) (result : Outco
   pub outcome_is : result ≡ outcome_of_conversion ended
   pub converts : Converts from to decimals ended old new
 
--- a run for these words: nothing is done for words that are no command
-abbrev pub Runs : Option Named → Outcome → World → World → Type 0
-Runs None result old new = (result ≡ outcome.Usage) × (new ≡ old)
-Runs (Some (Track mesh steps prefix decimals)) result old new =
-    TracksCommand mesh steps (record { prefix = prefix; decimals = decimals }) result old new
-Runs (Some (Convert from to decimals)) result old new = ConvertsCommand from to decimals result old new
+-- a run for these words with these stored fields: nothing is done for words that are no command
+abbrev pub Runs : Known → Option Named → Outcome → World → World → Type 0
+Runs fields None result old new = (result ≡ outcome.Usage) × (new ≡ old)
+Runs fields (Some (Track mesh steps prefix decimals)) result old new =
+    TracksCommand fields mesh steps (record { prefix = prefix; decimals = decimals }) result old new
+Runs fields (Some (Convert from to decimals)) result old new = ConvertsCommand from to decimals result old new
 
--- what a job's run writes and stores, by how it ended
-pub record TracksJob (mesh_name step_name : List ℕ) (to : Target) (old new : Contents) (result : Result (Option Refusal) Stop) : Type 0 where
+-- what a job's run writes and stores as the fields answer, by how it ended
+pub record TracksJob (fields : Known) (mesh_name step_name : List ℕ) (to : Target) (old new : Contents) (result : Result (Option Refusal) Stop) : Type 0 where
   pub job : Job
   pub is_job : IsJob old.files mesh_name step_name to.decimals job
-  pub follows : Follows to (replay_of job) (log_of job) old new result
+  pub answers : Answers
+  pub answered : IsInputAnswered fields (is_ok result) answers (input_of job)
+  pub follows : Follows to (replay_of job) (log_of job answers) old new result

@@ -13,32 +13,33 @@ use Rattle.log_text.specs.declared.LogLine.TheVariants.{First}
 use Rattle.log_replay.specs.Replay.{Replay, at_mesh}
 use Rattle.track_input.specs.Job.{Job, Input, input_of, mesh_of_lists, mesh_of_job}
 use Rattle.track_engine.specs.State.{start}
+use Rattle.track_engine.specs.Answers.{Answers}
 use Rattle.track_engine.specs.Effects.{ExpectedLog, log_from, refused, mesh_line}
 
 -- the first edge and face of a mesh that meet where its vertices stand
 abbrev pub met_first : Mesh → Option PairName
 met_first m = first_meeting meets_exactly m (rest_positions m)
 
--- the log from the first mesh that is saved on
-abbrev pub log_of_mesh : Mesh → List Placed → ExpectedLog
-log_of_mesh m steps =
-    let rest = log_from steps (start m) in
+-- the log from the first mesh that is saved on, by what fields answer
+abbrev pub log_of_mesh : Answers → Mesh → List Placed → ExpectedLog
+log_of_mesh answers m steps =
+    let rest = log_from answers steps (start m) in
     record { lines = mesh_line 0 m ∷ rest.lines; ending = rest.ending }
 
 -- the log from the test of the mesh on
-abbrev pub log_of_test : Mesh → List Placed → Option PairName → ExpectedLog
-log_of_test m steps (Some pair) = refused (refusal.Meets pair)
-log_of_test m steps None = log_of_mesh m steps
+abbrev pub log_of_test : Answers → Mesh → List Placed → Option PairName → ExpectedLog
+log_of_test answers m steps (Some pair) = refused (refusal.Meets pair)
+log_of_test answers m steps None = log_of_mesh answers m steps
 
 -- the log of what was read: the refusal, or the test of the mesh, and then the directives
-abbrev pub log_of_input : Result Input Refusal → ExpectedLog
-log_of_input (Err why) = refused why
-log_of_input (Ok input) = let m = mesh_of_lists input.lists in log_of_test m input.steps (met_first m)
+abbrev pub log_of_input : Answers → Result Input Refusal → ExpectedLog
+log_of_input answers (Err why) = refused why
+log_of_input answers (Ok input) = let m = mesh_of_lists input.lists in log_of_test answers m input.steps (met_first m)
 
--- the whole log of a job, and the refusal that it tells, if it tells one
-abbrev pub log_of : Job → ExpectedLog
-log_of job =
-    let rest = log_of_input (input_of job) in
+-- the whole log of a job, by what fields answer to its directives, and the refusal that it tells, if it tells one
+abbrev pub log_of : Job → Answers → ExpectedLog
+log_of job answers =
+    let rest = log_of_input answers (input_of job) in
     record { lines = First VERSION ∷ rest.lines; ending = rest.ending }
 
 -- the replay begins with the mesh of the job

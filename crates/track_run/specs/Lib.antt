@@ -1,5 +1,6 @@
 pub mod Status
 pub mod Job
+pub mod Answered
 pub mod Causes
 pub mod Reached
 pub mod Outcomes

@@ -6,25 +6,26 @@ use Rattle.log_text.specs.declared.LogLine.{LogLine}
 use Rattle.log_replay.specs.Replay.{after}
 use Rattle.track_input.specs.Job.{Job, mesh_of_lists}
 use Rattle.track_engine.specs.State.{State, start, standing}
+use Rattle.track_engine.specs.Answers.{Answers}
 use Rattle.track_engine.specs.Effects.{log_from}
 use Rattle.track_engine.specs.Invariant.{IsRunInvariant}
 use Rattle.track_run.specs.Job.{log_of, replay_of}
 use Rattle.track_run.specs.Causes.{HasClear, Reaches}
 
--- a run of the job stands there when the first of its directives are all taken
-pub record IsReached (job : Job) (s : State) : Type 0 where
+-- a run of the job, answered so, stands there when the first of its directives are all taken
+pub record IsReached (job : Job) (answers : Answers) (s : State) : Type 0 where
   pub lists : Lists
   pub directives : List Placed
   pub clear : HasClear job lists directives
   pub front : List Placed
   pub rest : List Placed
   pub split : directives ≡ front ++ rest
-  pub reached : Reaches (start (mesh_of_lists lists)) front s
+  pub reached : Reaches answers (start (mesh_of_lists lists)) front s
 
--- What holds where a run stands before the directives to come: the log is the lines so far and then theirs, and the replay of the
--- lines so far stands there too.
-pub record AgreesWithReplay (job : Job) (s : State) (rest : List Placed) : Type 0 where
+-- What holds where a run stands before the directives to come, to which the answers to come are left: the log is the lines so far and then
+-- theirs, and the replay of the lines so far stands there too.
+pub record AgreesWithReplay (job : Job) (answers : Answers) (s : State) (rest : List Placed) (left : Answers) : Type 0 where
   pub so_far : List LogLine
-  pub log : (log_of job).lines ≡ so_far ++ (log_from rest s).lines
+  pub log : (log_of job answers).lines ≡ so_far ++ (log_from left rest s).lines
   pub replay : after (replay_of job) so_far ≡ standing s
   pub kept : IsRunInvariant s

@@ -4,16 +4,19 @@ ghost use Rattle.mesh_base.specs.Sides.{IsClosed};
 ghost use Rattle.mesh_base.specs.Valid.{IsValidSurface};
 ghost use Rattle.step_text.specs.Ranges.{AreInRange};
 ghost use Rattle.track_input.specs.Words.{named_in};
-ghost use Rattle.log_replay.specs.Replay.{at_mesh};
+ghost use Rattle.mesh_field.specs.Stored.{IsWellKept};
 ghost use Rattle.track_engine.specs.Targets.{target_of};
-ghost use Rattle.track_engine.specs.World.{contents, world, HasCauses, Follows};
-ghost use Rattle.track_run.specs.Job.{log_of_mesh, log_of_test, met_first};
+ghost use Rattle.track_engine.specs.World.{contents, world, HasCauses};
+ghost use Rattle.track_engine.specs.Answered.{known};
+ghost use Rattle.track_run.specs.Answered.{FollowsMesh, FollowsTest};
 ghost use Rattle.track_run.specs.Outcomes.{outcome_of, outcome_from, outcome_of_conversion};
 ghost use Rattle.track_run.specs.Headline.{Runs, TracksJob};
 
 use crate::outcome::Outcome;
+use grid_base::{Point, Shift};
 use log_text::{LogLine, Refusal, VERSION};
 use mesh_base::Surface;
+use mesh_field::Fields;
 use mesh_journal::JournalMesh;
 use outside_io::{Desk, Sink};
 use pair_scan::first_meeting;
@@ -64,19 +67,21 @@ fn outcome_of_conversion(ended: Result<Option<Refusal>, ConvertFault>) -> Outcom
 }
 
 // The first mesh, which is sound, closed and clear, is saved, and then the directives are followed.
-fn begin<S: Surface + Drop, D: Desk, K: Sink>(
+fn begin<S: Surface + Drop, D: Desk, K: Sink, F: Fn(u8, Point) -> Shift>(
     alloc: Global,
     to: Target<'_>,
     mesh: S,
     steps: &Directives,
     desk: &mut D,
     out: &mut K,
+    fields: &Fields<F>,
 ) -> Result<Option<Refusal>, Stop>
     requires few { to.decimals ≤ DECIMALS_MAX }
     requires good { IsValidSurface (S.mesh mesh) }
     requires ranges { AreInRange steps.now }
     requires count { length steps.now < 2 ^ 31 }
-    ensures follows { Follows (target_of to.entry) (at_mesh (S.mesh mesh)) (log_of_mesh (S.mesh mesh) steps.now)
+    requires fields { IsWellKept F.Fn fields.now }
+    ensures follows { FollowsMesh (known F.Fn fields.now) (target_of to.entry) (S.mesh mesh) steps.now
         (contents D.files K.written desk.old out.old) (contents D.files K.written desk.new out.new) result }
     ensures causes { HasCauses (world D.files D.faults K.written K.faults desk.old out.old)
         (world D.files D.faults K.written K.faults desk.new out.new) result }
@@ -85,46 +90,49 @@ fn begin<S: Surface + Drop, D: Desk, K: Sink>(
         return Err(Stop::NoMemory);
     };
     engine.save(alloc, to, desk, out)?;
-    engine.follow(alloc, to, steps.as_slice(), desk, out)
+    engine.follow(alloc, to, steps.as_slice(), desk, out, fields)
 }
 
 // The mesh is tested, and begun with where no edge meets a face that shares no vertex with it.
-fn test_and_begin<S: Surface + Drop, D: Desk, K: Sink>(
+fn test_and_begin<S: Surface + Drop, D: Desk, K: Sink, F: Fn(u8, Point) -> Shift>(
     alloc: Global,
     to: Target<'_>,
     mesh: S,
     steps: &Directives,
     desk: &mut D,
     out: &mut K,
+    fields: &Fields<F>,
 ) -> Result<Option<Refusal>, Stop>
     requires few { to.decimals ≤ DECIMALS_MAX }
     requires closed { IsClosed (S.mesh mesh) }
     requires ranges { AreInRange steps.now }
     requires count { length steps.now < 2 ^ 31 }
-    ensures follows { let m = S.mesh mesh in
-        Follows (target_of to.entry) (at_mesh m) (log_of_test m steps.now (met_first m))
+    requires fields { IsWellKept F.Fn fields.now }
+    ensures follows { FollowsTest (known F.Fn fields.now) (target_of to.entry) (S.mesh mesh) steps.now
         (contents D.files K.written desk.old out.old) (contents D.files K.written desk.new out.new) result }
     ensures causes { HasCauses (world D.files D.faults K.written K.faults desk.old out.old)
         (world D.files D.faults K.written K.faults desk.new out.new) result }
 {
     match first_meeting(alloc, &mesh) {
-        Ok(None) => begin(alloc, to, mesh, steps, desk, out),
+        Ok(None) => begin(alloc, to, mesh, steps, desk, out, fields),
         Ok(Some(pair)) => finish(alloc, out, LogLine::Refused(Refusal::Meets(pair))),
         Err(_) => Err(Stop::NoMemory),
     }
 }
 
 // The whole log of the job of two files.
-fn track<D: Desk, K: Sink>(
+fn track<D: Desk, K: Sink, F: Fn(u8, Point) -> Shift>(
     alloc: Global,
     mesh_name: &str,
     step_name: &str,
     to: Target<'_>,
     desk: &mut D,
     out: &mut K,
+    fields: &Fields<F>,
 ) -> Result<Option<Refusal>, Stop>
-    requires { to.decimals ≤ DECIMALS_MAX }
-    ensures tracks { TracksJob mesh_name.now step_name.now (target_of to.entry)
+    requires few { to.decimals ≤ DECIMALS_MAX }
+    requires fields { IsWellKept F.Fn fields.now }
+    ensures tracks { TracksJob (known F.Fn fields.now) mesh_name.now step_name.now (target_of to.entry)
         (contents D.files K.written desk.old out.old) (contents D.files K.written desk.new out.new) result }
     ensures causes { HasCauses (world D.files D.faults K.written K.faults desk.old out.old)
         (world D.files D.faults K.written K.faults desk.new out.new) result }
@@ -133,7 +141,7 @@ fn track<D: Desk, K: Sink>(
     match prepare(alloc, mesh_name, step_name, to.decimals, desk) {
         Ok(Ready::No(why)) => finish(alloc, out, LogLine::Refused(why)),
         Ok(Ready::Yes(lists, steps)) => match JournalMesh::of(alloc, &lists) {
-            Ok(mesh) => test_and_begin(alloc, to, mesh, &steps, desk, out),
+            Ok(mesh) => test_and_begin(alloc, to, mesh, &steps, desk, out, fields),
             Err(_) => Err(Stop::NoMemory),
         },
         Err(InputFault::NoMemory) => Err(Stop::NoMemory),
@@ -145,10 +153,18 @@ fn track<D: Desk, K: Sink>(
 /// one digit N from 0 to 6. To track it, the mesh and the steps are fetched from the desk and read, the log is written to the sink, a
 /// line at a time, and meshes are stored under the prefix, a dash, a number of at least six digits, and `.obj`. To convert it, the mesh
 /// of the one file is stored in the other, each in the format of its ending, and one line is written. Answers Usage for all other words.
+/// A directive that drives asks the stored field that it names.
 ///
 /// The tracker is that of Brochu and Bridson, "Robust topological operations for dynamic explicit surfaces" (2009).
-pub fn run<D: Desk, K: Sink>(alloc: Global, words: &[String], desk: &mut D, out: &mut K) -> Outcome
-    ensures headline { Runs (named_in (map (λ word. string_bytes word) words.now)) result
+pub fn run<D: Desk, K: Sink, F: Fn(u8, Point) -> Shift>(
+    alloc: Global,
+    words: &[String],
+    desk: &mut D,
+    out: &mut K,
+    fields: &Fields<F>,
+) -> Outcome
+    requires { IsWellKept F.Fn fields.now }
+    ensures headline { Runs (known F.Fn fields.now) (named_in (map (λ word. string_bytes word) words.now)) result
         (world D.files D.faults K.written K.faults desk.old out.old)
         (world D.files D.faults K.written K.faults desk.new out.new) }
 {
@@ -163,7 +179,7 @@ pub fn run<D: Desk, K: Sink>(alloc: Global, words: &[String], desk: &mut D, out:
             },
         ) => {
             let to = Target { prefix, decimals };
-            let ended = track(alloc, mesh, steps, to, desk, out);
+            let ended = track(alloc, mesh, steps, to, desk, out, fields);
             outcome_from(ended)
         }
         Some(Command::Convert { from, to, decimals }) => {

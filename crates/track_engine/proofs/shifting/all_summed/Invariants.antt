@@ -7,6 +7,6 @@ abbrev pub invariant-loop-s : goal.invariant-loop-s
 invariant-loop-s g l =
     let m = g.S.Surface.mesh l.mesh in
     record {
-      sums : l.shifts ++ all_summed m l.by (drop l.s-index l.asked) ≡ all_summed m l.by l.asked;
-      beyond : first_beyond m l.by (drop l.s-index l.asked) ≡ first_beyond m l.by l.asked;
+      sums : l.shifts ++ all_summed m (λ v. l.by) (drop l.s-index l.asked) ≡ all_summed m (λ v. l.by) l.asked;
+      beyond : first_beyond m (λ v. l.by) (drop l.s-index l.asked) ≡ first_beyond m (λ v. l.by) l.asked;
     }
