@@ -1,6 +1,5 @@
 //! What the words of a command line are answered with.
 ghost use Rattle.std.specs.Prelude.{◌≡◌, true, false, List, map, string_bytes};
-ghost use Rattle.track_input.specs.Words.{named_in};
 ghost use Rattle.track_engine.specs.World.{world};
 ghost use Rattle.topo.specs.Asked.{is_help, is_version};
 ghost use Rattle.topo.specs.Answered.{Tells, RunsTo};
@@ -84,7 +83,7 @@ pub(crate) fn answer<D: Desk, K: Sink>(
         (world D.files D.faults K.written K.faults desk.new out.new) }
     ensures runs { is_help (map (λ word. string_bytes word) words.now) ≡ false →
         is_version (map (λ word. string_bytes word) words.now) ≡ false →
-        RunsTo (named_in (map (λ word. string_bytes word) words.now)) result
+        RunsTo (map (λ word. string_bytes word) words.now) result
         (world D.files D.faults K.written K.faults desk.old out.old)
         (world D.files D.faults K.written K.faults desk.new out.new) }
 {
