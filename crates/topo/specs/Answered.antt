@@ -1,14 +1,13 @@
 -- What the program does for its words, and with which status it ends.
-use Rattle.std.specs.Prelude.{◌≡◌, ◌≤◌, ◌⊎◌, ℕ, List, Option}
+use Rattle.std.specs.Prelude.{◌≡◌, ◌≤◌, ◌⊎◌, ℕ, List}
 use Rattle.outside_io.specs.Causes.{Rose}
 use Rattle.outside_io.specs.Sink.{appended, AppendsPart}
-use Rattle.track_input.specs.Words.{Named}
 use Rattle.track_engine.specs.Answered.{Known}
 use Rattle.track_engine.specs.World.{World}
 use Rattle.track_run.specs.declared.outcome.Outcome.{Outcome}
 use Rattle.track_run.specs.declared.outcome.Outcome.TheVariants.{Done, SinkFault}
 use Rattle.track_run.specs.Status.{status_of}
-use Rattle.track_run.specs.Headline.{Runs}
+use Rattle.track_run.specs.Headline.{RunsFor}
 
 -- the text is written whole
 abbrev pub IsTold : List ℕ → ℕ → World → World → Type 0
@@ -27,7 +26,7 @@ pub record Tells (text : List ℕ) (status : ℕ) (old new : World) : Type 0 whe
   pub sink : old.sink_faults ≤ new.sink_faults
 
 -- it is a run for these words with these stored fields, and the status is that of its outcome
-pub record RunsTo (fields : Known) (named : Option Named) (status : ℕ) (old new : World) : Type 0 where
+pub record RunsTo (fields : Known) (words : List (List ℕ)) (status : ℕ) (old new : World) : Type 0 where
   pub outcome : Outcome
   pub status_is : status ≡ status_of outcome
-  pub runs : Runs fields named outcome old new
+  pub runs : RunsFor fields words outcome old new

@@ -1,6 +1,5 @@
 //! What the words of a command line are answered with.
 ghost use Rattle.std.specs.Prelude.{◌≡◌, true, false, List, map, string_bytes};
-ghost use Rattle.track_input.specs.Words.{named_in};
 ghost use Rattle.mesh_field.specs.Stored.{IsWellKept};
 ghost use Rattle.track_engine.specs.Answered.{known};
 ghost use Rattle.track_engine.specs.World.{world};
@@ -90,7 +89,7 @@ pub(crate) fn answer<D: Desk, K: Sink, F: Fn(u8, Point) -> Shift>(
         (world D.files D.faults K.written K.faults desk.new out.new) }
     ensures runs { is_help (map (λ word. string_bytes word) words.now) ≡ false →
         is_version (map (λ word. string_bytes word) words.now) ≡ false →
-        RunsTo (known F.Fn fields.now) (named_in (map (λ word. string_bytes word) words.now)) result
+        RunsTo (known F.Fn fields.now) (map (λ word. string_bytes word) words.now) result
         (world D.files D.faults K.written K.faults desk.old out.old)
         (world D.files D.faults K.written K.faults desk.new out.new) }
 {

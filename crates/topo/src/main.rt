@@ -3,9 +3,11 @@
 #![tactic(auto)]
 
 mod answering;
+mod help;
 
 use answering::{USAGE, answer};
 use grid_base::{Point, Shift};
+use help::usage_error;
 use mesh_field::no_fields;
 use outside_io::{FileDesk, StdSink};
 use std::io::ErrorKind;
@@ -25,17 +27,28 @@ fn words(rt: &(impl Env + AllocGlobal)) -> io::Result<Vec<String>> {
     Ok(words)
 }
 
+// The status of the words, and what is wrong with them, where they are of no listed form.
+fn answer_words(rt: &HostRuntime, words: &[String]) -> u8 {
+    let status = answer(
+        rt.alloc(),
+        words,
+        &mut FileDesk::new(rt),
+        &mut StdSink::new(rt),
+        &no_fields(|_which: u8, _at: Point| Shift { x: 0, y: 0, z: 0 }),
+    );
+    if status == Outcome::Usage.status() {
+        if let Ok(text) = usage_error(rt.alloc(), words) {
+            let _ = eprintln!(rt; "{text}");
+        }
+    }
+    status
+}
+
 fn main(rt: HostRuntime) -> ExitCode {
     let status = match words(&rt) {
         Err(error) if error.kind() == ErrorKind::OutOfMemory => Outcome::NoMemory.status(),
         Err(_) => Outcome::Usage.status(),
-        Ok(words) => answer(
-            rt.alloc(),
-            &words,
-            &mut FileDesk::new(&rt),
-            &mut StdSink::new(&rt),
-            &no_fields(|_which: u8, _at: Point| Shift { x: 0, y: 0, z: 0 }),
-        ),
+        Ok(words) => answer_words(&rt, &words),
     };
     if status == Outcome::Usage.status() {
         let _ = eprint!(rt; "{USAGE}");

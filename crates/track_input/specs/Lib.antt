@@ -1,5 +1,7 @@
 pub mod Words
 pub mod Named
+pub mod Taken
+pub mod Commands
 pub mod Source
 pub mod Fetched
 pub mod Job

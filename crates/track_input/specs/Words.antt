@@ -1,4 +1,4 @@
--- The words of a command line.
+-- The words of a command line, and the listed forms.
 use Rattle.std.specs.Prelude.{ℕ, Bool, false, List, [], ◌∷◌, length, if◌then◌else◌, ◌==◌, ◌+◌, ◌-◌, ◌&&◌, not, nat_le, Option, Some, None, codes, slice_index, slice_index_or}
 use Rattle.std.specs.List.{ends_with}
 use Rattle.std.specs.Option.{option_and_then, option_map}
@@ -45,31 +45,33 @@ mesh_name_of word =
 abbrev pub is_decimals : List ℕ → Bool
 is_decimals word = length word == 1 && (nat_le 48 (slice_index word 0) && nat_le (slice_index word 0) (48 + DECIMALS_MAX))
 
--- the decimals that the words behind the first so many tell: 0 where there are none, and N where they are `--decimals N`
-abbrev pub decimals_behind : ℕ → List (List ℕ) → Option ℕ
-decimals_behind count words =
-    if length words == count then Some 0
-    else if length words == count + 2 && (bytes_eq (word_at words count) (codes "--decimals") && is_decimals (word_at words (count + 1)))
-    then Some (slice_index (word_at words (count + 1)) 0 - 48)
-    else None
+-- the decimals that the words behind the files tell: 0 where there are none, and N where they are `--decimals N`
+abbrev pub decimals_in : List (List ℕ) → Option ℕ
+decimals_in [] = Some 0
+decimals_in (option ∷ digit ∷ []) =
+    if bytes_eq option (codes "--decimals") && is_decimals digit then Some (slice_index digit 0 - 48) else None
+decimals_in _ = None
 
--- ---- commands
+-- ---- listed forms
 
--- MESH STEPS PREFIX behind the first word, and the decimals
+-- MESH STEPS PREFIX, and the decimals
 abbrev pub track_in : List (List ℕ) → Option Named
-track_in words =
-    if is_file_word (word_at words 1) && (is_file_word (word_at words 2) && is_file_word (word_at words 3))
-    then option_map (λ decimals. Track (word_at words 1) (word_at words 2) (word_at words 3) decimals) (decimals_behind 4 words)
+track_in (mesh ∷ steps ∷ prefix ∷ behind) =
+    if is_file_word mesh && (is_file_word steps && is_file_word prefix)
+    then option_map (λ decimals. Track mesh steps prefix decimals) (decimals_in behind)
     else None
+track_in _ = None
 
--- FROM TO behind the first word, and the decimals
+-- FROM TO, and the decimals
 abbrev pub convert_in : List (List ℕ) → Option Named
-convert_in words =
-    option_and_then (λ from. option_and_then (λ to. option_map (λ decimals. Convert from to decimals) (decimals_behind 3 words)) (mesh_name_of (word_at words 2))) (mesh_name_of (word_at words 1))
+convert_in (from ∷ to ∷ behind) =
+    option_and_then (λ from. option_and_then (λ to. option_map (λ decimals. Convert from to decimals) (decimals_in behind)) (mesh_name_of to)) (mesh_name_of from)
+convert_in _ = None
 
--- `track MESH STEPS PREFIX` or `convert FROM TO`, or one of these and `--decimals N`
+-- The command that listed words name: `track MESH STEPS PREFIX` or `convert FROM TO`, or one of these and `--decimals N`.
 abbrev pub named_in : List (List ℕ) → Option Named
-named_in words =
-    if bytes_eq (word_at words 0) (codes "track") then track_in words
-    else if bytes_eq (word_at words 0) (codes "convert") then convert_in words
+named_in [] = None
+named_in (first ∷ words) =
+    if bytes_eq first (codes "track") then track_in words
+    else if bytes_eq first (codes "convert") then convert_in words
     else None

@@ -1,11 +1,16 @@
-ghost use Rattle.std.specs.Prelude.{◌≡◌, ◌≤◌, length, map, option_map, IfSome, string_bytes};
+ghost use Rattle.std.specs.Prelude.{◌≡◌, ◌≤◌, map, option_map, IfOk, IfSome, string_bytes};
+ghost use Rattle.clap.specs.Words.{found_of, first_value};
 ghost use Rattle.grid_base.specs.declared.TheConstants.{DECIMALS_MAX};
-ghost use Rattle.track_input.specs.Words.{is_decimals, decimals_behind, track_in, convert_in, named_in};
+ghost use Rattle.track_input.specs.Words.{is_decimals, decimals_in};
+ghost use Rattle.track_input.specs.Taken.{behind, IsReading};
+ghost use Rattle.track_input.specs.Commands.{track_read, convert_read, track_app, convert_app, IsReadBy};
 ghost use Rattle.track_input.specs.Named.{named_by, HasFewDecimals};
 
 use crate::mesh_file::{MeshFile, is_file_word, mesh_file};
-use grid_base::DECIMALS_MAX;
-use line_text::is_word;
+use crate::taking::{convert_command, found_in, track_command};
+use clap::ArgMatches;
+use grid_base::{DECIMALS_MAX, NoMemory};
+use std::alloc::Global;
 
 /// What the words of a command line ask for.
 #[derive(Clone, Copy)]
@@ -32,88 +37,94 @@ fn is_decimals(word: &[u8]) -> bool
     word.len() == 1 && (b'0' <= word[0] && word[0] <= b'0' + DECIMALS_MAX)
 }
 
-// The decimals that the words behind the first so many tell.
-fn decimals_behind(words: &[String], count: usize) -> Option<u8>
-    requires { count ≤ length words.now }
-    ensures told { result ≡ decimals_behind count (map (λ word. string_bytes word) words.now) }
+// The decimals that N tells, or 0 where there is none.
+fn decimals_of(digit: Option<&str>) -> Option<u8>
+    ensures told { result ≡ decimals_in (behind (option_map (λ s. s.now) digit.entry)) }
     ensures few { IfSome result (λ decimals. decimals ≤ DECIMALS_MAX) }
 {
-    let behind = &words[count..];
-    if behind.is_empty() {
-        return Some(0);
-    }
-    if behind.len() != 2 {
-        return None;
-    }
-    let digit = behind[1].as_bytes();
-    if is_word(behind[0].as_bytes(), b"--decimals") && is_decimals(digit) {
-        Some(digit[0] - b'0')
-    } else {
-        None
+    match digit {
+        None => Some(0),
+        Some(digit) => {
+            let digit = digit.as_bytes();
+            if is_decimals(digit) {
+                Some(digit[0] - b'0')
+            } else {
+                None
+            }
+        }
     }
 }
 
-// The command that words are whose first is `track`.
-fn track_in(words: &[String]) -> Option<Command<'_>>
-    ensures command { option_map named_by result ≡ track_in (map (λ word. string_bytes word) words.now) }
+// The command of the words that were found behind `track`.
+fn track_read<'a>(found: &ArgMatches<'a>) -> Option<Command<'a>>
+    ensures command { option_map named_by result ≡ track_read (first_value (found_of found.now)) }
     ensures few { IfSome result HasFewDecimals }
 {
-    if words.len() < 4 {
-        return None;
-    }
-    let mesh = words[1].as_str();
-    let steps = words[2].as_str();
-    let prefix = words[3].as_str();
+    let mesh = found.get_str("mesh")?;
+    let steps = found.get_str("steps")?;
+    let prefix = found.get_str("prefix")?;
     if !(is_file_word(mesh) && (is_file_word(steps) && is_file_word(prefix))) {
         return None;
     }
-    match decimals_behind(words, 4) {
-        Some(decimals) => Some(Command::Track {
-            mesh,
-            steps,
-            prefix,
-            decimals,
-        }),
-        None => None,
-    }
+    let decimals = decimals_of(found.get_str("decimals"))?;
+    Some(Command::Track {
+        mesh,
+        steps,
+        prefix,
+        decimals,
+    })
 }
 
-// The command that words are whose first is `convert`.
-fn convert_in(words: &[String]) -> Option<Command<'_>>
-    ensures command { option_map named_by result ≡ convert_in (map (λ word. string_bytes word) words.now) }
+// The command of the words that were found behind `convert`.
+fn convert_read<'a>(found: &ArgMatches<'a>) -> Option<Command<'a>>
+    ensures command { option_map named_by result ≡ convert_read (first_value (found_of found.now)) }
     ensures few { IfSome result HasFewDecimals }
 {
-    if words.len() < 3 {
-        return None;
-    }
-    let Some(from) = mesh_file(words[1].as_str()) else {
-        return None;
-    };
-    let Some(to) = mesh_file(words[2].as_str()) else {
-        return None;
-    };
-    match decimals_behind(words, 3) {
-        Some(decimals) => Some(Command::Convert { from, to, decimals }),
-        None => None,
+    let from = mesh_file(found.get_str("from")?)?;
+    let to = mesh_file(found.get_str("to")?)?;
+    let decimals = decimals_of(found.get_str("decimals"))?;
+    Some(Command::Convert { from, to, decimals })
+}
+
+// The command of words whose first is `track`.
+fn track_in<'a>(alloc: Global, words: &'a [String]) -> Result<Option<Command<'a>>, NoMemory>
+    ensures read { let texts = map (λ word. string_bytes word) words.entry.now in
+        IfOk result (λ found. IsReadBy track_read track_app texts (option_map named_by found)) }
+    ensures few { IfOk result (λ found. IfSome found HasFewDecimals) }
+{
+    match found_in(track_command(alloc)?, words)? {
+        Some(found) => Ok(track_read(&found)),
+        None => Ok(None),
     }
 }
 
-/// The command that the words are: `track MESH STEPS PREFIX` or `convert FROM TO`, or one of these and `--decimals N` with one
+// The command of words whose first is `convert`.
+fn convert_in<'a>(alloc: Global, words: &'a [String]) -> Result<Option<Command<'a>>, NoMemory>
+    ensures read { let texts = map (λ word. string_bytes word) words.entry.now in
+        IfOk result (λ found. IsReadBy convert_read convert_app texts (option_map named_by found)) }
+    ensures few { IfOk result (λ found. IfSome found HasFewDecimals) }
+{
+    match found_in(convert_command(alloc)?, words)? {
+        Some(found) => Ok(convert_read(&found)),
+        None => Ok(None),
+    }
+}
+
+/// The command that the words are read as: `track MESH STEPS PREFIX` or `convert FROM TO`, or one of these and `--decimals N` with one
 /// digit N from 0 to 6. A file word is not empty and has no dash in front, and both of `convert` end in `.obj`, `.off` or `.ply`.
-/// All other words are no command.
-pub fn command_of(words: &[String]) -> Option<Command<'_>>
-    ensures command { option_map named_by result ≡ named_in (map (λ word. string_bytes word) words.now) }
-    ensures few { IfSome result HasFewDecimals }
+/// Words of no such form are taken as one of the same first word whose words are among them (options may stand before the files, as
+/// `--decimals=N` too), or they are no command. NoMemory at any words.
+pub fn command_of<'a>(alloc: Global, words: &'a [String]) -> Result<Option<Command<'a>>, NoMemory>
+    ensures read { let texts = map (λ word. string_bytes word) words.entry.now in
+        IfOk result (λ found. IsReading texts (option_map named_by found)) }
+    ensures few { IfOk result (λ found. IfSome found HasFewDecimals) }
 {
-    if words.is_empty() {
-        return None;
-    }
-    let first = words[0].as_bytes();
-    if is_word(first, b"track") {
-        track_in(words)
-    } else if is_word(first, b"convert") {
-        convert_in(words)
-    } else {
-        None
+    let Some(first) = words.first() else {
+        return Ok(None);
+    };
+    match first.as_str() {
+        "track" => track_in(alloc, words),
+        "convert" => convert_in(alloc, words),
+        _ => Ok(None),
     }
 }

@@ -7,6 +7,7 @@ mod fault;
 mod fetching;
 mod mesh_file;
 mod reading;
+mod taking;
 
 pub use command::{Command, command_of};
 pub use fault::InputFault;

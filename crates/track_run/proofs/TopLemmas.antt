@@ -1,6 +1,6 @@
 -- The whole of a run from its parts.
 use Rattle.std.proofs.Common.{◌≡◌, ℕ, ◌+◌, ◌<◌, ◌≤◌, ◌^◌, List, [], ◌∷◌, refl, ap, sym, ◌∙◌, subst, length, IfOk, OnErr, Result, Ok, Err, inl, inr, false, is_ok}
-use Rattle.std.specs.Prelude.{◌⊎◌}
+use Rattle.std.specs.Prelude.{◌⊎◌, option_map}
 use Rattle.std.specs.declared.option.Option.{Option}
 use Rattle.std.specs.declared.option.Option.TheVariants.{None, Some}
 use Rattle.mesh_base.specs.declared.PairName.{PairName}
@@ -20,7 +20,7 @@ use Rattle.outside_io.specs.Desk.{Files}
 use Rattle.outside_io.specs.Sink.{appended, AppendsPart}
 use Rattle.log_write.specs.Written.{Written}
 use Rattle.track_input.specs.declared.command.Command.{Command}
-use Rattle.track_input.specs.Words.{Named}
+use Rattle.track_input.specs.Taken.{IsReading}
 use Rattle.track_input.specs.Named.{named_by}
 use Rattle.track_input.specs.declared.reading.Ready.{Ready}
 use Rattle.track_input.specs.declared.reading.Ready.TheVariants as ready
@@ -49,7 +49,7 @@ use Rattle.track_run.specs.Outcomes.{outcome_of, outcome_at, outcome_from}
 use Rattle.track_run.specs.Job.{log_of, log_of_input, log_of_mesh, log_of_test, met_first, replay_of}
 use Rattle.track_run.specs.Answered.{IsInputAnswered, FollowsMesh, FollowsTest}
 use Rattle.track_run.specs.Causes.{Cause, IsStopped}
-use Rattle.track_run.specs.Headline.{TracksJob, TracksCommand, Runs, LogPromises, IsCaused, FaultsAreCounted}
+use Rattle.track_run.specs.Headline.{TracksJob, TracksCommand, Runs, RunsFor, LogPromises, IsCaused, FaultsAreCounted}
 use Rattle.track_run.proofs.JobLogs.{test_left, input_left, keeps_log}
 use Rattle.track_run.proofs.Agreeing.{agrees_well}
 use Rattle.track_run.proofs.ReadBack.{read_back}
@@ -305,9 +305,17 @@ run_ends fields mesh_name step_name to old new result ended e causes t = record 
   faults = (let P : Outcome → Type 0 = λ o. FaultsAreCounted old new o in subst P (sym e) (faults_counted old new ended causes));
 }
 
+-- ---- the words
+
 -- a run for the words of a command
-pub runs_command : (fields : Known) (f g : Command) (named : Option Named) (result : Outcome) (old new : World) → f ≡ g → Some (named_by f) ≡ named → Runs fields (Some (named_by g)) result old new → Runs fields named result old new
-runs_command fields f g named result old new is e runs =
-    let P : Command → Type 0 = λ x. Runs fields (Some (named_by x)) result old new in
-    let Q : Option Named → Type 0 = λ n. Runs fields n result old new in
-    subst Q e (subst P (sym is) runs)
+pub runs_command : (fields : Known) (o : Option Command) (f g : Command) (words : List (List ℕ)) (result : Outcome) (old new : World) → o ≡ Some f → f ≡ g → IsReading words (option_map named_by o) → Runs fields (Some (named_by g)) result old new → RunsFor fields words result old new
+runs_command fields o f g words result old new some is read runs =
+    let P : Option Command → Type 0 = λ x. IsReading words (option_map named_by x) in
+    let here : o ≡ Some g = some ∙ ap Some is in
+    inl (record { named = Some (named_by g); read = subst P here read; runs = runs })
+
+-- words that are no command
+pub runs_nothing : (fields : Known) (o : Option Command) (words : List (List ℕ)) (w : World) → o ≡ None → IsReading words (option_map named_by o) → RunsFor fields words outcome.Usage w w
+runs_nothing fields o words w none read =
+    let P : Option Command → Type 0 = λ x. IsReading words (option_map named_by x) in
+    inl (record { named = None; read = subst P none read; runs = (refl, refl) })

@@ -11,6 +11,7 @@ use Rattle.outside_io.specs.Causes.{Rose}
 use Rattle.track_convert.specs.declared.ConvertFault.{ConvertFault}
 use Rattle.track_convert.specs.Headline.{Converts}
 use Rattle.track_input.specs.Words.{MeshName, Named, Track, Convert}
+use Rattle.track_input.specs.Taken.{IsReading}
 use Rattle.track_input.specs.Job.{Job, IsJob, input_of}
 use Rattle.track_engine.specs.declared.stop.Stop.{Stop}
 use Rattle.track_engine.specs.State.{State, standing}
@@ -95,12 +96,22 @@ pub record ConvertsCommand (from to : MeshName) (decimals : ℕ) (result : Outco
   pub outcome_is : result ≡ outcome_of_conversion ended
   pub converts : Converts from to decimals ended old new
 
--- a run for these words with these stored fields: nothing is done for words that are no command
+-- a run for a command with these stored fields, or for none: then nothing is done
 abbrev pub Runs : Known → Option Named → Outcome → World → World → Type 0
 Runs fields None result old new = (result ≡ outcome.Usage) × (new ≡ old)
 Runs fields (Some (Track mesh steps prefix decimals)) result old new =
     TracksCommand fields mesh steps (record { prefix = prefix; decimals = decimals }) result old new
 Runs fields (Some (Convert from to decimals)) result old new = ConvertsCommand from to decimals result old new
+
+-- a run for what the words are read as: a command, or none where they are of no listed form
+pub record RunsReading (fields : Known) (words : List (List ℕ)) (result : Outcome) (old new : World) : Type 0 where
+  pub named : Option Named
+  pub read : IsReading words named
+  pub runs : Runs fields named result old new
+
+-- A run for these words; or there was no memory to read them, and nothing is done.
+abbrev pub RunsFor : Known → List (List ℕ) → Outcome → World → World → Type 0
+RunsFor fields words result old new = RunsReading fields words result old new ⊎ ((result ≡ outcome.NoMemory) × (new ≡ old))
 
 -- what a job's run writes and stores as the fields answer, by how it ended
 pub record TracksJob (fields : Known) (mesh_name step_name : List ℕ) (to : Target) (old new : Contents) (result : Result (Option Refusal) Stop) : Type 0 where

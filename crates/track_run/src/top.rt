@@ -3,14 +3,13 @@ ghost use Rattle.grid_base.specs.declared.TheConstants.{DECIMALS_MAX};
 ghost use Rattle.mesh_base.specs.Sides.{IsClosed};
 ghost use Rattle.mesh_base.specs.Valid.{IsValidSurface};
 ghost use Rattle.step_text.specs.Ranges.{AreInRange};
-ghost use Rattle.track_input.specs.Words.{named_in};
 ghost use Rattle.mesh_field.specs.Stored.{IsWellKept};
 ghost use Rattle.track_engine.specs.Targets.{target_of};
 ghost use Rattle.track_engine.specs.World.{contents, world, HasCauses};
 ghost use Rattle.track_engine.specs.Answered.{known};
 ghost use Rattle.track_run.specs.Answered.{FollowsMesh, FollowsTest};
 ghost use Rattle.track_run.specs.Outcomes.{outcome_of, outcome_from, outcome_of_conversion};
-ghost use Rattle.track_run.specs.Headline.{Runs, TracksJob};
+ghost use Rattle.track_run.specs.Headline.{RunsFor, TracksJob};
 
 use crate::outcome::Outcome;
 use grid_base::{Point, Shift};
@@ -152,8 +151,9 @@ fn track<D: Desk, K: Sink, F: Fn(u8, Point) -> Shift>(
 /// Tracks or converts a mesh as the words say: `track MESH STEPS PREFIX` or `convert FROM TO`, or one of these and `--decimals N` with
 /// one digit N from 0 to 6. To track it, the mesh and the steps are fetched from the desk and read, the log is written to the sink, a
 /// line at a time, and meshes are stored under the prefix, a dash, a number of at least six digits, and `.obj`. To convert it, the mesh
-/// of the one file is stored in the other, each in the format of its ending, and one line is written. Answers Usage for all other words.
-/// A directive that drives asks the stored field that it names.
+/// of the one file is stored in the other, each in the format of its ending, and one line is written. All other words are taken as one of
+/// these forms with the same first word whose words are among them, or answered with Usage. A directive that drives asks the stored field
+/// that it names.
 ///
 /// The tracker is that of Brochu and Bridson, "Robust topological operations for dynamic explicit surfaces" (2009).
 pub fn run<D: Desk, K: Sink, F: Fn(u8, Point) -> Shift>(
@@ -164,11 +164,14 @@ pub fn run<D: Desk, K: Sink, F: Fn(u8, Point) -> Shift>(
     fields: &Fields<F>,
 ) -> Outcome
     requires { IsWellKept F.Fn fields.now }
-    ensures headline { Runs (known F.Fn fields.now) (named_in (map (λ word. string_bytes word) words.now)) result
+    ensures headline { RunsFor (known F.Fn fields.now) (map (λ word. string_bytes word) words.now) result
         (world D.files D.faults K.written K.faults desk.old out.old)
         (world D.files D.faults K.written K.faults desk.new out.new) }
 {
-    match command_of(words) {
+    let Ok(command) = command_of(alloc, words) else {
+        return Outcome::NoMemory;
+    };
+    match command {
         None => Outcome::Usage,
         Some(
             Command::Track {

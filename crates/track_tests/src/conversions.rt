@@ -40,7 +40,7 @@ fn answer(
     out: &mut MemorySink,
 ) -> Result<Option<Result<Option<Refusal>, ConvertFault>>, Fail> {
     let words = words_of(alloc, words)?;
-    match command_of(&words) {
+    match command_of(alloc, &words)? {
         Some(Command::Convert { from, to, decimals }) => {
             Ok(Some(convert(alloc, from, to, decimals, desk, out)))
         }

@@ -1,0 +1,138 @@
+//! The texts of help: how each command is called, and what is wrong with words of no listed form.
+use clap::error::ErrorKind;
+use clap::{Arg, ArgAction, Command};
+use grid_base::NoMemory;
+use std::alloc::{AllocError, Global};
+
+static DIGITS: [&str; 7] = ["0", "1", "2", "3", "4", "5", "6"];
+
+const STEP_TEXT: &str = "\
+The text of steps, a directive a line; V is the id of a vertex, and # begins a comment:
+  shift V DX DY DZ, shift all DX DY DZ   add to the shift that is asked, in units of the grid
+  step                                   move each vertex as is asked, as far as no surfaces meet
+  save                                   write the mesh
+  solid V                                nothing moves vertex V from here on
+  split L, collapse L                    split each edge longer than L, collapse each shorter one
+  flip                                   flip each edge that is longer than the one across it
+  zip D                                  join edges that are at most D apart by tunnels
+  pinch                                  part the surface where it hangs together at a vertex
+  group, close                           what stands between is kept or taken back as a whole
+  set depth D, set halvings H, set passes P, set zones Z   how steps are tested and shortened
+
+docs/FORMATS.md has all texts: meshes, steps and the log. `topo --help` lists the exit statuses.";
+
+const FORMATS: &str = "\
+The ending of each name picks its format: .obj (Wavefront OBJ), .off (OFF) or .ply (ASCII PLY).
+
+docs/FORMATS.md has all texts. `topo --help` lists the exit statuses.";
+
+// A word that has to be given.
+fn word<'a>(alloc: Global, name: &'a str, help: &'a str) -> Arg<'a> {
+    Arg::new(alloc, name)
+        .value_name(name)
+        .help(help)
+        .required(true)
+        .action(ArgAction::Set)
+}
+
+fn decimals<'a>(alloc: Global) -> Arg<'a> {
+    Arg::new(alloc, "decimals")
+        .long("decimals")
+        .value_name("N")
+        .help("A unit of the grid is 10 to the power -N; 0 if it is left out")
+        .value_parser(DIGITS.as_slice())
+}
+
+fn track<'a>(alloc: Global) -> Result<Command<'a>, AllocError> {
+    Command::new(alloc, "track")
+        .about("Moves and edits a closed triangle mesh, and keeps it free of self-intersections")
+        .after_help(STEP_TEXT)
+        .arg(word(alloc, "MESH", "The Wavefront OBJ file of the mesh"))?
+        .arg(word(alloc, "STEPS", "The file of the steps"))?
+        .arg(word(
+            alloc,
+            "PREFIX",
+            "Meshes are stored as PREFIX-000000.obj and so on",
+        ))?
+        .arg(decimals(alloc))
+}
+
+fn convert<'a>(alloc: Global) -> Result<Command<'a>, AllocError> {
+    Command::new(alloc, "convert")
+        .about("Stores a mesh in another format")
+        .after_help(FORMATS)
+        .arg(word(alloc, "FROM", "The file of the mesh"))?
+        .arg(word(alloc, "TO", "The file that it is stored in"))?
+        .arg(decimals(alloc))
+}
+
+fn whole<'a>(alloc: Global) -> Result<Command<'a>, AllocError> {
+    Command::new(alloc, "topo")
+        .no_binary_name(true)
+        .bin_name("topo")?
+        .subcommand_required(true)
+        .disable_help_subcommand(true)
+        .subcommand(track(alloc)?)?
+        .subcommand(convert(alloc)?)
+}
+
+/// How the command is called; None, where there is no such command.
+pub(crate) fn command_help(alloc: Global, name: &str) -> Result<Option<String>, AllocError> {
+    match name {
+        "track" => {
+            let mut command = track(alloc)?.bin_name("topo track")?;
+            Ok(Some(command.render_help()?))
+        }
+        "convert" => {
+            let mut command = convert(alloc)?.bin_name("topo convert")?;
+            Ok(Some(command.render_help()?))
+        }
+        _ => Ok(None),
+    }
+}
+
+// The text without its advice to put a word behind `--`: no file word has a dash in front there either.
+fn without_bad_tip(alloc: Global, text: &str) -> Result<String, AllocError> {
+    let mut kept = String::new(alloc);
+    for line in text.lines() {
+        if !line.starts_with("  tip: to pass ") {
+            kept.push_str(line)?;
+            kept.push_str("\n")?;
+        }
+    }
+    Ok(kept)
+}
+
+// What is wrong with words whose number and options are right.
+fn fault_of_word(alloc: Global, words: &[String]) -> Result<String, AllocError> {
+    for word in words {
+        if word.is_empty() {
+            return String::from_str(alloc, "error: a file word is empty\n");
+        }
+        if word.as_str().starts_with("-") && word.as_str() != "--" && !word.as_str().starts_with("--decimals") {
+            return format!(in alloc; "error: no file word begins with '-', as {:?} does: put ./ before it\n", word.as_str());
+        }
+    }
+    String::from_str(
+        alloc,
+        "error: each of FROM and TO has to end in .obj, .off or .ply\n",
+    )
+}
+
+/// What is wrong with words of no listed form: the word at fault and the nearest form.
+pub(crate) fn usage_error(alloc: Global, words: &[String]) -> Result<String, NoMemory> {
+    match whole(alloc)?.try_get_matches_from(words) {
+        Ok(_) => Ok(fault_of_word(alloc, words)?),
+        Err(error) => match error.kind() {
+            ErrorKind::OutOfMemory => Err(NoMemory),
+            ErrorKind::DisplayHelp => Ok(String::from_str(
+                alloc,
+                "error: --help stands alone, or alone behind a command\n",
+            )?),
+            _ => {
+                let text = format!(in alloc; "{error}")?;
+                Ok(without_bad_tip(alloc, text.as_str())?)
+            }
+        },
+    }
+}

@@ -1,0 +1,294 @@
+-- From what a command finds to how the words are read.
+use Rattle.std.proofs.Common.{String, Global, string_bytes, map, inl, inr, ◌≡◌, ◌∙◌, ◌&&◌, ◌||◌, cond, ℕ, Bool, true, false, refl, sym, ap, subst, List, [], ◌∷◌, ◌++◌, Option, Some, None, Result, Ok, Err, IfOk, codes}
+use Rattle.std.specs.Prelude.{◌⊎◌, All, Contains, IfSome, option_map, slice_get}
+use Rattle.std.specs.Option.{option_and_then}
+use Rattle.std.specs.Str.{bytes_eq}
+use Rattle.std.proofs.lemmas.Bool.{cases_Bool, and_parts}
+use Rattle.std.proofs.lemmas.List.Elements.{All-nil, All-cons}
+use Rattle.std.proofs.lemmas.Slice.Eq.{bytes_eq-Decides}
+use Rattle.clap.specs.Words.{App, HasMatchesOf, Row, first_of, first_value, found_of, is_simple, matches_of, rows_of, takes}
+use Rattle.clap.specs.declared.parser.matches.ArgMatches.{ArgMatches}
+use Rattle.clap.proofs.WalkLemmas.{first_value-rows}
+use Rattle.clap.specs.Simple.{built}
+use Rattle.clap.specs.Walk.{Rule, takes_values}
+use Rattle.track_input.specs.Words.{MeshName, Named, Track, Convert, named_in, track_in, convert_in, decimals_in, mesh_name_of, is_file_word, is_decimals}
+use Rattle.track_input.specs.Named.{named_by}
+use Rattle.track_input.specs.declared.command.Command.{Command}
+use Rattle.track_input.specs.Taken.{AreTakenAs, IsReading}
+use Rattle.track_input.specs.Commands.{Values, IsFound, IsReadBy, values_in, track_app, track_of, track_read, convert_app, convert_of, convert_read}
+use Rattle.track_input.proofs.Walks.{plain_word, plain_digit, track_taken, track_found, track_taken_with, track_found_with, convert_taken, convert_found, convert_taken_with, convert_found_with}
+use Rattle.track_input.proofs.Among.{AreSafe, FoundLong, IsSetRule, RowsFrom, rows_from, first_from, contains_here, contains_later}
+
+-- ---- the reading
+
+-- what a command finds of listed words
+pub record Finds (read : Values → Option Named) (app : App) (words : List (List ℕ)) (x : Named) : Type 0 where
+  pub taken : takes app words ≡ true
+  pub found : read (values_in app words) ≡ Some x
+
+-- listed words are found, and what is found is taken from them
+pub record Serves (read : Values → Option Named) (app : App) (words : List (List ℕ)) : Type 0 where
+  pub listed : (x : Named) → named_in words ≡ Some x → Finds read app words x
+  pub among : (x : Named) → read (values_in app words) ≡ Some x → AreTakenAs words x
+
+reading : (read : Values → Option Named) (app : App) (words : List (List ℕ)) → Serves read app words → (found : Option Named) → IsReadBy read app words found → IsReading words found
+reading read app words serves found by = at (named_in words) refl found by
+  where
+    at : (o : Option Named) → named_in words ≡ o → (found : Option Named) → IsReadBy read app words found → IsReading words found
+    at None is None by = is
+    at None is (Some x) (inl e) = inr (is, serves.among x e)
+    at None is (Some x) (inr p) = absurd (let e = p.1 in cc)
+    at (Some y) is found (inl e) =
+        let same : Some y ≡ found = sym (serves.listed y is).found ∙ e in
+        subst (λ (f : Option Named). IsReading words f) same (inl is)
+    at (Some y) is found (inr p) = absurd (p.0 (serves.listed y is).taken)
+
+-- ---- a call of the command
+
+module _ (read : Values → Option Named) (app same : App) (words : List (List ℕ)) (is : app ≡ same) where
+  pub finds : (o : Option ArgMatches) → IsFound app words o → (m : ArgMatches) → o ≡ Some m → is_simple same ≡ true → read (first_value (found_of m)) ≡ read (λ id. first_of id (rows_of (found_of m)))
+      → (named : Option Named) → named ≡ read (first_value (found_of m)) → IsReadBy read same words named
+  finds o found m some simple by_rows named e =
+      let has : HasMatchesOf app words m = subst (λ (f : Option ArgMatches). IsFound app words f) some found in
+      let there : HasMatchesOf same words m = subst (λ (a : App). HasMatchesOf a words m) is has in
+      let rows : rows_of (found_of m) ≡ matches_of same words = (there simple).0 in
+      inl (ap (λ (r : List Row). read (λ id. first_of id r)) (sym rows) ∙ sym by_rows ∙ sym e)
+
+  pub finds_none : (o : Option ArgMatches) → IsFound app words o → o ≡ None → IsReadBy read same words None
+  finds_none o found none =
+      let not_taken : IsFound app words None = subst (λ (f : Option ArgMatches). IsFound app words f) none found in
+      inr ((λ taken. not_taken (subst (λ (a : App). takes a words ≡ true) (sym is) taken)), refl)
+
+pub track_by_rows : (m : ArgMatches) → track_read (first_value (found_of m)) ≡ track_read (λ id. first_of id (rows_of (found_of m)))
+track_by_rows m = rw (first_value-rows (found_of m) (codes "mesh"), first_value-rows (found_of m) (codes "steps"), first_value-rows (found_of m) (codes "prefix"), first_value-rows (found_of m) (codes "decimals")) refl
+
+pub convert_by_rows : (m : ArgMatches) → convert_read (first_value (found_of m)) ≡ convert_read (λ id. first_of id (rows_of (found_of m)))
+convert_by_rows m = rw (first_value-rows (found_of m) (codes "from"), first_value-rows (found_of m) (codes "to"), first_value-rows (found_of m) (codes "decimals")) refl
+
+-- ---- words that are listed
+
+option_is : (o : List ℕ) → bytes_eq o (codes "--decimals") ≡ true → codes "--decimals" ≡ o
+option_is o e = sym ((bytes_eq-Decides o (codes "--decimals")).0 e)
+
+track_listed : (zeroth : List ℕ) (rest : List (List ℕ)) (x : Named) → track_in rest ≡ Some x → Finds track_read track_app (zeroth ∷ rest) x
+track_listed zeroth [] x e = absurd (cc)
+track_listed zeroth (a ∷ []) x e = absurd (cc)
+track_listed zeroth (a ∷ b ∷ []) x e = absurd (cc)
+track_listed zeroth (a ∷ b ∷ c ∷ rest) x e = elim (cases_Bool (is_file_word a && (is_file_word b && is_file_word c))) [
+  | inr fails ↦ absurd (let g = rw fails at e in cc)
+  | inl all ↦
+      let p = and_parts _ _ all in
+      let q = and_parts _ _ p.1 in
+      at_rest rest p.0 q.0 q.1 e (rw all at e)
+]
+  where
+    make : ℕ → Named
+    make n = Track a b c n
+
+    at_rest : (rest : List (List ℕ)) → is_file_word a ≡ true → is_file_word b ≡ true → is_file_word c ≡ true → track_in (a ∷ b ∷ c ∷ rest) ≡ Some x
+        → option_map (λ n. Track a b c n) (decimals_in rest) ≡ Some x → Finds track_read track_app (zeroth ∷ a ∷ b ∷ c ∷ rest) x
+    at_rest [] ha hb hc e g =
+        let f = track_found zeroth a b (plain_word a ha) (plain_word b hb) c (plain_word c hc) in
+        record { taken = track_taken zeroth a b (plain_word a ha) (plain_word b hb) c (plain_word c hc); found = rw (f.mesh, f.steps, f.prefix, f.decimals) e }
+    at_rest (o ∷ []) ha hb hc e g = absurd (cc)
+    at_rest (o ∷ d ∷ y ∷ ys) ha hb hc e g = absurd (cc)
+    at_rest (o ∷ d ∷ []) ha hb hc e g = elim (cases_Bool (bytes_eq o (codes "--decimals") && is_decimals d)) [
+      | inr fails ↦ absurd (let h = rw fails at g in cc)
+      | inl all ↦
+          let p = and_parts _ _ all in
+          let option : codes "--decimals" ≡ o = option_is o p.0 in
+          let listed : track_in (a ∷ b ∷ c ∷ codes "--decimals" ∷ d ∷ []) ≡ Some x = subst (λ (w : List ℕ). track_in (a ∷ b ∷ c ∷ w ∷ d ∷ []) ≡ Some x) (sym option) e in
+          let f = track_found_with zeroth a b (plain_word a ha) (plain_word b hb) c (plain_word c hc) d (plain_digit d p.1) in
+          let here : Finds track_read track_app (zeroth ∷ a ∷ b ∷ c ∷ codes "--decimals" ∷ d ∷ []) x = record {
+            taken = track_taken_with zeroth a b (plain_word a ha) (plain_word b hb) c (plain_word c hc) d (plain_digit d p.1);
+            found = rw (f.mesh, f.steps, f.prefix, f.decimals) listed;
+          } in
+          subst (λ (w : List ℕ). Finds track_read track_app (zeroth ∷ a ∷ b ∷ c ∷ w ∷ d ∷ []) x) option here
+    ]
+
+-- a mesh file is named by a file word
+mesh_word : (word : List ℕ) (m : MeshName) → mesh_name_of word ≡ Some m → is_file_word word ≡ true
+mesh_word word m e = elim (cases_Bool (is_file_word word)) [
+  | inl is ↦ is
+  | inr fails ↦ absurd (let g = rw fails at e in cc)
+]
+
+convert_listed : (zeroth : List ℕ) (rest : List (List ℕ)) (x : Named) → convert_in rest ≡ Some x → Finds convert_read convert_app (zeroth ∷ rest) x
+convert_listed zeroth [] x e = absurd (cc)
+convert_listed zeroth (a ∷ []) x e = absurd (cc)
+convert_listed zeroth (a ∷ b ∷ rest) x e = at_names (mesh_name_of a) (mesh_name_of b) refl refl (e)
+  where
+    at_rest : (from to : MeshName) (rest : List (List ℕ)) → is_file_word a ≡ true → is_file_word b ≡ true → convert_in (a ∷ b ∷ rest) ≡ Some x
+        → option_map (λ n. Convert from to n) (decimals_in rest) ≡ Some x → Finds convert_read convert_app (zeroth ∷ a ∷ b ∷ rest) x
+    at_rest from to [] ha hb e g =
+        let f = convert_found zeroth a b (plain_word a ha) (plain_word b hb) in
+        record { taken = convert_taken zeroth a b (plain_word a ha) (plain_word b hb); found = rw (f.from, f.to, f.decimals) e }
+    at_rest from to (o ∷ []) ha hb e g = absurd (cc)
+    at_rest from to (o ∷ d ∷ y ∷ ys) ha hb e g = absurd (cc)
+    at_rest from to (o ∷ d ∷ []) ha hb e g = elim (cases_Bool (bytes_eq o (codes "--decimals") && is_decimals d)) [
+      | inr fails ↦ absurd (let h = rw fails at g in cc)
+      | inl all ↦
+          let p = and_parts _ _ all in
+          let option : codes "--decimals" ≡ o = option_is o p.0 in
+          let listed : convert_in (a ∷ b ∷ codes "--decimals" ∷ d ∷ []) ≡ Some x = subst (λ (w : List ℕ). convert_in (a ∷ b ∷ w ∷ d ∷ []) ≡ Some x) (sym option) e in
+          let f = convert_found_with zeroth a b (plain_word a ha) (plain_word b hb) d (plain_digit d p.1) in
+          let here : Finds convert_read convert_app (zeroth ∷ a ∷ b ∷ codes "--decimals" ∷ d ∷ []) x = record {
+            taken = convert_taken_with zeroth a b (plain_word a ha) (plain_word b hb) d (plain_digit d p.1);
+            found = rw (f.from, f.to, f.decimals) listed;
+          } in
+          subst (λ (w : List ℕ). Finds convert_read convert_app (zeroth ∷ a ∷ b ∷ w ∷ d ∷ []) x) option here
+    ]
+
+    at_names : (m n : Option MeshName) → mesh_name_of a ≡ m → mesh_name_of b ≡ n
+        → option_and_then (λ from. option_and_then (λ to. option_map (λ n. Convert from to n) (decimals_in rest)) n) m ≡ Some x → Finds convert_read convert_app (zeroth ∷ a ∷ b ∷ rest) x
+    at_names None n is_m is_n g = absurd (cc)
+    at_names (Some from) None is_m is_n g = absurd (cc)
+    at_names (Some from) (Some to) is_m is_n g = at_rest from to rest (mesh_word a from is_m) (mesh_word b to is_n) e g
+
+-- ---- words that are taken
+
+long_found : (words : List (List ℕ)) (rule : Rule) (long : List ℕ) → IsSetRule rule → rule.id ≡ codes "decimals" → takes_values rule ≡ true → (b : Bool) → bytes_eq (codes "decimals") long ≡ b → FoundLong words long (cond (b || false) (Some rule) None)
+long_found words rule long set id takes_some true e = (set, id, sym ((bytes_eq-Decides (codes "decimals") long).0 e), takes_some)
+long_found words rule long set id takes_some false e = tt
+
+track_is_safe : (words : List (List ℕ)) → AreSafe words (built track_app).top.rules
+track_is_safe words = record {
+  set = (record { action = refl; missing = refl; defaults = refl }, (record { action = refl; missing = refl; defaults = refl }, (record { action = refl; missing = refl; defaults = refl }, (record { action = refl; missing = refl; defaults = refl }, tt))));
+  long = λ long. long_found words _ long (record { action = refl; missing = refl; defaults = refl }) refl refl (bytes_eq (codes "decimals") long) refl;
+  short = λ x. refl;
+}
+
+convert_is_safe : (words : List (List ℕ)) → AreSafe words (built convert_app).top.rules
+convert_is_safe words = record {
+  set = (record { action = refl; missing = refl; defaults = refl }, (record { action = refl; missing = refl; defaults = refl }, (record { action = refl; missing = refl; defaults = refl }, tt)));
+  long = λ long. long_found words _ long (record { action = refl; missing = refl; defaults = refl }) refl refl (bytes_eq (codes "decimals") long) refl;
+  short = λ x. refl;
+}
+
+module _ (words : List (List ℕ)) (rows : List Row) (from : RowsFrom words rows) where
+  word_among : (id v : List ℕ) → (id ≡ codes "decimals" → ⊥) → first_of id rows ≡ Some v → Contains words v
+  word_among id v other e = elim (first_from words id rows v from e) [
+    | inl within ↦ within
+    | inr named ↦ absurd (other named.0)
+  ]
+
+  digit_among : (d : Option (List ℕ)) → first_of (codes "decimals") rows ≡ d → IfSome d (λ n. Contains words n ⊎ Contains words (codes "--decimals=" ++ n))
+  digit_among None e = tt
+  digit_among (Some n) e = elim (first_from words (codes "decimals") rows n from e) [
+    | inl within ↦ inl within
+    | inr named ↦ inr named.1
+  ]
+
+-- a word, and then others, stand among these
+more : (words : List (List ℕ)) (v : List ℕ) (vs : List (List ℕ)) → Contains words v → All (Contains words) vs → All (Contains words) (v ∷ vs)
+more words v vs here rest = All-cons (Contains words) v vs here rest
+
+track_among : (rest : List (List ℕ)) (rows : List Row) → RowsFrom (codes "track" ∷ rest) rows → (x : Named) → track_read (λ id. first_of id rows) ≡ Some x → AreTakenAs (codes "track" ∷ rest) x
+track_among rest rows from x e = at (first_of (codes "mesh") rows) (first_of (codes "steps") rows) (first_of (codes "prefix") rows) (first_of (codes "decimals") rows) refl refl refl refl e
+  where
+    at : (m s p d : Option (List ℕ)) → first_of (codes "mesh") rows ≡ m → first_of (codes "steps") rows ≡ s → first_of (codes "prefix") rows ≡ p → first_of (codes "decimals") rows ≡ d
+        → track_of m s p d ≡ Some x → AreTakenAs (codes "track" ∷ rest) x
+    at None s p d em es ep ed e = absurd (cc)
+    at (Some a) None p d em es ep ed e = absurd (cc)
+    at (Some a) (Some b) None d em es ep ed e = absurd (cc)
+    at (Some a) (Some b) (Some c) d em es ep ed e =
+        let words = codes "track" ∷ rest in
+        let ma : Contains words a = word_among words rows from (codes "mesh") a (λ w. absurd (cc)) em in
+        let mb : Contains words b = word_among words rows from (codes "steps") b (λ w. absurd (cc)) es in
+        let mc : Contains words c = word_among words rows from (codes "prefix") c (λ w. absurd (cc)) ep in
+        record {
+          form = codes "track" ∷ a ∷ b ∷ c ∷ [];
+          digit = d;
+          is_listed = e;
+          first = refl;
+          among = more words (codes "track") (a ∷ b ∷ c ∷ []) (contains_here (codes "track") rest)
+              (more words a (b ∷ c ∷ []) ma (more words b (c ∷ []) mb (more words c [] mc (All-nil (Contains words)))));
+          decimals = digit_among words rows from d ed;
+        }
+
+convert_among : (rest : List (List ℕ)) (rows : List Row) → RowsFrom (codes "convert" ∷ rest) rows → (x : Named) → convert_read (λ id. first_of id rows) ≡ Some x → AreTakenAs (codes "convert" ∷ rest) x
+convert_among rest rows from x e = at (first_of (codes "from") rows) (first_of (codes "to") rows) (first_of (codes "decimals") rows) refl refl refl e
+  where
+    at : (f t d : Option (List ℕ)) → first_of (codes "from") rows ≡ f → first_of (codes "to") rows ≡ t → first_of (codes "decimals") rows ≡ d
+        → convert_of f t d ≡ Some x → AreTakenAs (codes "convert" ∷ rest) x
+    at None t d ef et ed e = absurd (cc)
+    at (Some a) None d ef et ed e = absurd (cc)
+    at (Some a) (Some b) d ef et ed e =
+        let words = codes "convert" ∷ rest in
+        let ma : Contains words a = word_among words rows from (codes "from") a (λ w. absurd (cc)) ef in
+        let mb : Contains words b = word_among words rows from (codes "to") b (λ w. absurd (cc)) et in
+        record {
+          form = codes "convert" ∷ a ∷ b ∷ [];
+          digit = d;
+          is_listed = e;
+          first = refl;
+          among = more words (codes "convert") (a ∷ b ∷ []) (contains_here (codes "convert") rest)
+              (more words a (b ∷ []) ma (more words b [] mb (All-nil (Contains words))));
+          decimals = digit_among words rows from d ed;
+        }
+
+-- ---- each command
+
+track_serves : (rest : List (List ℕ)) → Serves track_read track_app (codes "track" ∷ rest)
+track_serves rest = record {
+  listed = λ x e. track_listed (codes "track") rest x e;
+  among = λ x e. track_among rest (matches_of track_app (codes "track" ∷ rest))
+      (rows_from (codes "track" ∷ rest) _ (track_is_safe (codes "track" ∷ rest)) _ rest (λ v i. contains_later (codes "track") v rest i)) x e;
+}
+
+convert_serves : (rest : List (List ℕ)) → Serves convert_read convert_app (codes "convert" ∷ rest)
+convert_serves rest = record {
+  listed = λ x e. convert_listed (codes "convert") rest x e;
+  among = λ x e. convert_among rest (matches_of convert_app (codes "convert" ∷ rest))
+      (rows_from (codes "convert" ∷ rest) _ (convert_is_safe (codes "convert" ∷ rest)) _ rest (λ v i. contains_later (codes "convert") v rest i)) x e;
+}
+
+-- ---- the first word
+
+-- the words begin with this name
+abbrev pub BeginWith : List ℕ → List (List ℕ) → Type 0
+BeginWith name words = slice_get words 0 ≡ Some name
+
+pub begin : (name : List ℕ) (words : List (String Global)) (word : String Global) (text : List ℕ) → Some word ≡ slice_get words 0 → text ≡ string_bytes word → text ≡ name → BeginWith name (map (λ w. string_bytes w) words)
+begin name [] word text first is e = absurd (cc)
+begin name (w ∷ rest) word text first is e = let same : word ≡ w = cc in ap Some (ap (λ (x : String Global). string_bytes x) (sym same) ∙ sym is ∙ e)
+
+at_name : (name : List ℕ) (read : Values → Option Named) (app : App) → ((rest : List (List ℕ)) → Serves read app (name ∷ rest)) → (words : List (List ℕ)) → BeginWith name words → (found : Option Named) → IsReadBy read app words found → IsReading words found
+at_name name read app serves [] begins found by = absurd (cc)
+at_name name read app serves (zeroth ∷ rest) begins found by =
+    let same : zeroth ≡ name = cc in
+    reading read app (zeroth ∷ rest) (subst (λ (w : List ℕ). Serves read app (w ∷ rest)) (sym same) (serves rest)) found by
+
+module _ {E : Type 0} (words : List (List ℕ)) (r : Result (Option Command) E) where
+  pub reads_track : BeginWith (codes "track") words → IfOk r (λ found. IsReadBy track_read track_app words (option_map named_by found)) → IfOk r (λ found. IsReading words (option_map named_by found))
+  reads_track begins = at r
+    where
+      at : (r : Result (Option Command) E) → IfOk r (λ found. IsReadBy track_read track_app words (option_map named_by found)) → IfOk r (λ found. IsReading words (option_map named_by found))
+      at (Ok found) by = at_name (codes "track") track_read track_app track_serves words begins (option_map named_by found) by
+      at (Err e) by = tt
+
+  pub reads_convert : BeginWith (codes "convert") words → IfOk r (λ found. IsReadBy convert_read convert_app words (option_map named_by found)) → IfOk r (λ found. IsReading words (option_map named_by found))
+  reads_convert begins = at r
+    where
+      at : (r : Result (Option Command) E) → IfOk r (λ found. IsReadBy convert_read convert_app words (option_map named_by found)) → IfOk r (λ found. IsReading words (option_map named_by found))
+      at (Ok found) by = at_name (codes "convert") convert_read convert_app convert_serves words begins (option_map named_by found) by
+      at (Err e) by = tt
+
+differs : (word name : List ℕ) → (word ≡ name → ⊥) → bytes_eq word name ≡ false
+differs word name other = elim (cases_Bool (bytes_eq word name)) [
+  | inl e ↦ absurd (other ((bytes_eq-Decides word name).0 e))
+  | inr e ↦ e
+]
+
+-- words that begin otherwise are of no listed form
+pub unlisted : (words : List (String Global)) (word : String Global) (text : List ℕ) → Some word ≡ slice_get words 0 → text ≡ string_bytes word
+    → (text ≡ codes "track" → ⊥) → (text ≡ codes "convert" → ⊥) → named_in (map (λ w. string_bytes w) words) ≡ None
+unlisted [] word text first is a b = refl
+unlisted (w ∷ rest) word text first is a b =
+    let same : word ≡ w = cc in
+    let here : text ≡ string_bytes w = is ∙ ap (λ (y : String Global). string_bytes y) same in
+    rw (← here, differs text (codes "track") a, differs text (codes "convert") b) refl
+
+pub unlisted_nothing : (words : List (String Global)) → slice_get words 0 ≡ None → named_in (map (λ w. string_bytes w) words) ≡ None
+unlisted_nothing [] e = refl
+unlisted_nothing (w ∷ rest) e = absurd (cc)

@@ -1,0 +1,64 @@
+-- The commands by which `clap` reads the words, and what is read of the values that it finds.
+use Rattle.std.specs.Prelude.{◌≡◌, ◌⊎◌, ℕ, true, List, ◌∷◌, Option, Some, None, codes}
+use Rattle.clap.specs.declared.builder.action.ArgAction.TheVariants.{Set}
+use Rattle.clap.specs.declared.parser.matches.ArgMatches.{ArgMatches}
+use Rattle.clap.specs.Words.{App, HasMatchesOf, Rule, first_of, matches_of, new_app, new_rule, takes, with_rule}
+use Rattle.track_input.specs.Words.{Named, track_in, convert_in}
+use Rattle.track_input.specs.Taken.{behind}
+
+-- a word that has to be given
+abbrev pub given_rule : List ℕ → Rule
+given_rule id = record (new_rule id) { required = true; action = Some Set }
+
+-- `--decimals N`
+abbrev pub decimals_rule : Rule
+decimals_rule = record (new_rule (codes "decimals")) { long = Some (codes "decimals"); action = Some Set }
+
+-- a command without flags
+abbrev pub bare_app : List ℕ → App
+bare_app name = record (new_app name) { top = record (new_app name).top { disable_help_flag = true } }
+
+abbrev pub pair_app : List ℕ → List ℕ → List ℕ → App
+pair_app name first second = with_rule (with_rule (bare_app name) (given_rule first)) (given_rule second)
+
+abbrev pub track_app : App
+track_app =
+    with_rule (with_rule (pair_app (codes "track") (codes "mesh") (codes "steps")) (given_rule (codes "prefix"))) decimals_rule
+
+abbrev pub convert_app : App
+convert_app = with_rule (pair_app (codes "convert") (codes "from") (codes "to")) decimals_rule
+
+-- ---- what is read
+
+-- the value of each name, if it has one
+abbrev pub Values : Type 0
+Values = List ℕ → Option (List ℕ)
+
+abbrev pub track_of : Option (List ℕ) → Option (List ℕ) → Option (List ℕ) → Option (List ℕ) → Option Named
+track_of (Some mesh) (Some steps) (Some prefix) digit = track_in (mesh ∷ steps ∷ prefix ∷ behind digit)
+track_of _ _ _ digit = None
+
+abbrev pub convert_of : Option (List ℕ) → Option (List ℕ) → Option (List ℕ) → Option Named
+convert_of (Some from) (Some to) digit = convert_in (from ∷ to ∷ behind digit)
+convert_of _ _ digit = None
+
+abbrev pub track_read : Values → Option Named
+track_read value = track_of (value (codes "mesh")) (value (codes "steps")) (value (codes "prefix")) (value (codes "decimals"))
+
+abbrev pub convert_read : Values → Option Named
+convert_read value = convert_of (value (codes "from")) (value (codes "to")) (value (codes "decimals"))
+
+-- ---- what a command finds
+
+-- its matches, or nothing, where it does not take the words
+abbrev pub IsFound : App → List (List ℕ) → Option ArgMatches → Type 0
+IsFound app words (Some found) = HasMatchesOf app words found
+IsFound app words None = takes app words ≡ true → ⊥
+
+abbrev pub values_in : App → List (List ℕ) → Values
+values_in app words id = first_of id (matches_of app words)
+
+-- what is read of the values that a command finds, or nothing, where it does not take the words
+abbrev pub IsReadBy : (Values → Option Named) → App → List (List ℕ) → Option Named → Type 0
+IsReadBy read app words named =
+    (read (values_in app words) ≡ named) ⊎ ((takes app words ≡ true → ⊥) × (named ≡ None))

@@ -1,0 +1,73 @@
+ghost use Rattle.std.specs.Prelude.{◌≡◌, IfOk, false, map, string_bytes};
+ghost use Rattle.clap.specs.Words.{app_of, rule_of};
+ghost use Rattle.track_input.specs.Commands.{given_rule, decimals_rule, pair_app, track_app, convert_app, IsFound};
+
+use clap::error::ErrorKind;
+use clap::{Arg, ArgAction, ArgMatches, Command};
+use grid_base::NoMemory;
+use std::alloc::{AllocError, Global};
+
+// A word that has to be given.
+fn given<'a>(alloc: Global, id: &'a str) -> Arg<'a>
+    ensures rule { rule_of result ≡ given_rule id.entry.now }
+    ensures local { result.global ≡ false }
+{
+    Arg::new(alloc, id).required(true).action(ArgAction::Set)
+}
+
+// `--decimals N`.
+fn decimals<'a>(alloc: Global) -> Arg<'a>
+    ensures rule { rule_of result ≡ decimals_rule }
+    ensures local { result.global ≡ false }
+{
+    Arg::new(alloc, "decimals")
+        .long("decimals")
+        .action(ArgAction::Set)
+}
+
+// Takes two words behind the first.
+fn pair_command<'a>(
+    alloc: Global,
+    name: &'a str,
+    first: &'a str,
+    second: &'a str,
+) -> Result<Command<'a>, AllocError>
+    ensures { let app = pair_app name.entry.now first.entry.now second.entry.now in
+        IfOk result (λ command. app_of command ≡ app) }
+{
+    Command::new(alloc, name)
+        .disable_help_flag(true)
+        .arg(given(alloc, first))?
+        .arg(given(alloc, second))
+}
+
+// Takes the words of `track`, the first of them included.
+pub(crate) fn track_command<'a>(alloc: Global) -> Result<Command<'a>, AllocError>
+    ensures { IfOk result (λ command. app_of command ≡ track_app) }
+{
+    pair_command(alloc, "track", "mesh", "steps")?
+        .arg(given(alloc, "prefix"))?
+        .arg(decimals(alloc))
+}
+
+// Takes the words of `convert`, the first of them included.
+pub(crate) fn convert_command<'a>(alloc: Global) -> Result<Command<'a>, AllocError>
+    ensures { IfOk result (λ command. app_of command ≡ convert_app) }
+{
+    pair_command(alloc, "convert", "from", "to")?.arg(decimals(alloc))
+}
+
+// What a command finds of the words; None where it does not take them.
+pub(crate) fn found_in<'a>(
+    command: Command<'a>,
+    words: &'a [String],
+) -> Result<Option<ArgMatches<'a>>, NoMemory>
+    ensures { let texts = map (λ word. string_bytes word) words.entry.now in
+        IfOk result (IsFound (app_of command.entry) texts) }
+{
+    match command.try_get_matches_from(words) {
+        Ok(found) => Ok(Some(found)),
+        Err(error) if error.kind() == ErrorKind::OutOfMemory => Err(NoMemory),
+        Err(_) => Ok(None),
+    }
+}
