@@ -1,7 +1,7 @@
 -- The cubes make a mesh within its limits that is closed.
 use Rattle.std.proofs.Common.{◌≡◌, ◌≢◌, ℕ, zero, suc, ◌+◌, ◌*◌, ◌-◌, ◌<◌, ◌≤◌, ◌==◌, ◌&&◌, ◌||◌, Bool, true, false, List, [], ◌∷◌, ◌++◌, Some, None, map, length, nat_lt, nat_le, slice_get, refl, sym, ap, subst, ◌∙◌, ⊎_elim, arith}
 use Rattle.std.proofs.Common.{is_some, cond, ◌⊎◌, inl, inr}
-use Rattle.std.specs.Prelude.{IsTrue}
+use Rattle.std.specs.Prelude.{IsTrue, ◌↔◌}
 use Rattle.std.specs.List.{enumerate_from, flat_map, range_with_len}
 use Rattle.std.specs.FinMap as finite
 use Rattle.std.specs.FinMap.{get-from_entries}
@@ -24,6 +24,7 @@ use Rattle.mesh_base.proofs.Tests.{and_first, or_either, both_ways}
 use Rattle.mesh_plain.specs.Shape.{runs_in, shape_fault, is_vertex, HasNoFault}
 use Rattle.mesh_plain.proofs.Lists.{numbered, of_live, get_map, is_live, few_vertices, few_faces}
 use Rattle.mesh_plain.proofs.Faults.{runs_given, no_fault}
+use Rattle.step_text.specs.Ranges.{IsFrom}
 use Rattle.mesh_make.specs.Cubes.{IsRow, corner_offsets, squares, cubes_of, cube_points, cube_faces, cubes_lists, cubes_mesh}
 use Rattle.mesh_make.proofs.Growing.{cubes-few}
 use Rattle.mesh_make.proofs.Pieces.{HaveLength, length-pieces, in_piece, of_piece}
@@ -79,11 +80,14 @@ face_at n (suc i) c h =
 numbered_vertex : (n v : ℕ) → 1 ≤ v → v ≤ n → is_vertex n v ≡ true
 numbered_vertex n v h h' = grind (arith, nat_tests)
 
+pub vertices_numbered : (n v : ℕ) → (IsLiveVertex (cubes_mesh n) v ↔ IsFrom 1 (8 * (n * n * n)) v)
+vertices_numbered n v =
+    let points = map point_at (cubes_lists n).points in
+    let count : length points ≡ 8 * (n * n * n) = length-map (cubes_lists n).points point_at ∙ count-points n in
+    (λ live. let ids = of_live points v live in (ids.0, omega (arith, ids.1)), λ from. is_live points v (numbered_vertex (length points) v from.0 (omega (arith, from.1))))
+
 vertex_lives : (n cube v : ℕ) → cube < n * n * n → IsOfCube v → IsLiveVertex (cubes_mesh n) (8 * cube + v)
-vertex_lives n cube v there of_cube =
-    let count : length (map point_at (cubes_lists n).points) ≡ 8 * (n * n * n) = length-map (cubes_lists n).points point_at ∙ count-points n in
-    is_live (map point_at (cubes_lists n).points) (8 * cube + v)
-    (numbered_vertex (length (map point_at (cubes_lists n).points)) (8 * cube + v) (omega (arith, of_cube.from)) (omega (arith, count, there, of_cube.to)))
+vertex_lives n cube v there of_cube = (vertices_numbered n (8 * cube + v)).1 (omega (arith, of_cube.from), omega (arith, there, of_cube.to))
 
 corners_live : (n f : ℕ) (c : Corners) → HasCorners (cubes_mesh n) f c → AreLive (cubes_mesh n) c
 corners_live n f c h =

@@ -1,24 +1,26 @@
 -- The directives of the job of cubes: three steps in which each cube moves by a shift of its own, then a split and a save.
-use Rattle.std.specs.Prelude.{ℕ, ◌+◌, ◌-◌, ◌*◌, ◌/◌, ◌%◌, List, [], ◌∷◌, ◌++◌, map, pos}
+use Rattle.std.specs.Prelude.{ℕ, ◌+◌, ◌-◌, ◌*◌, ◌/◌, ◌%◌, List, [], ◌∷◌, ◌++◌, map}
 use Rattle.std.specs.List.{range_with_len, enumerate_from}
 use Rattle.grid_base.specs.declared.grid.Shift.{Shift}
+use Rattle.grid_base.specs.Triples.{Triple}
 use Rattle.grid_base.specs.Points.{shift_by}
 use Rattle.edit_base.specs.declared.PassKind.TheVariants as pass
 use Rattle.step_text.specs.declared.directive.Directive.{Directive}
 use Rattle.step_text.specs.declared.directive.Directive.TheVariants.{ShiftOne, Step, Pass, Save}
 use Rattle.step_text.specs.declared.directive.Placed.{Placed}
+use Rattle.mesh_make.specs.Cubes.{at}
 
 -- how far a cube, of this number from 1, moves in a step along an axis: 0 for x, 1 for y, 2 for z
 abbrev pub moved_along : ℕ → ℕ → ℕ → ℕ → ℕ
 moved_along key step number axis = 1 + (key + 31 * step + 7 * number + 13 * axis) % 9
 
+-- the same along the three axes
+abbrev pub moved_by : ℕ → ℕ → ℕ → Triple
+moved_by key step number = at (moved_along key step number 0) (moved_along key step number 1) (moved_along key step number 2)
+
 -- its shift in that step
 abbrev pub cube_shift : ℕ → ℕ → ℕ → Shift
-cube_shift key step number = shift_by (record {
-  x = pos (moved_along key step number 0);
-  y = pos (moved_along key step number 1);
-  z = pos (moved_along key step number 2);
-})
+cube_shift key step number = shift_by (moved_by key step number)
 
 -- the number, from 1, of the cube that has a vertex
 abbrev pub cube_with : ℕ → ℕ

@@ -1,8 +1,9 @@
 -- The mesh of n * n * n separate cubes in rows, as lists. Cubes are counted from 0, along x first, then along y, then along z.
-use Rattle.std.specs.Prelude.{ℕ, ◌+◌, ◌*◌, ◌/◌, ◌%◌, ◌≤◌, List, [], ◌∷◌, map, pos}
+use Rattle.std.specs.Prelude.{◌≡◌, ℕ, ◌+◌, ◌*◌, ◌/◌, ◌%◌, ◌≤◌, List, [], ◌∷◌, ◌++◌, map, pos}
 use Rattle.std.specs.List.{flat_map, range_with_len}
 use Rattle.grid_base.specs.Triples.{Triple, plus}
-use Rattle.grid_base.specs.Points.{point_at}
+use Rattle.grid_base.specs.declared.Point.{Point}
+use Rattle.grid_base.specs.Points.{position_of, point_at}
 use Rattle.mesh_base.specs.Mesh.{Mesh}
 use Rattle.mesh_base.specs.Given.{Faces, mesh_of}
 use Rattle.obj_text.specs.Obj.{Lists, fan}
@@ -35,6 +36,14 @@ unfoldable pub squares : Faces
 squares =
     (1 ∷ 4 ∷ 3 ∷ 2 ∷ []) ∷ (5 ∷ 6 ∷ 7 ∷ 8 ∷ []) ∷ (1 ∷ 2 ∷ 6 ∷ 5 ∷ [])
     ∷ (2 ∷ 3 ∷ 7 ∷ 6 ∷ []) ∷ (3 ∷ 4 ∷ 8 ∷ 7 ∷ []) ∷ (4 ∷ 1 ∷ 5 ∷ 8 ∷ []) ∷ []
+
+-- where the vertex of a cube at this offset stands
+abbrev pub vertex_at : ℕ → ℕ → ℕ × ℕ × ℕ → Triple
+vertex_at n cube o = plus (least_corner n cube) (at o.0 o.1 o.2)
+
+-- points stand where others do, and then at these places
+abbrev pub StandAlso : List Point → List Point → List Triple → Type 0
+StandAlso new old places = map position_of new ≡ map position_of old ++ places
 
 -- where the vertices of a cube stand
 abbrev pub cube_points : ℕ → ℕ → List Triple

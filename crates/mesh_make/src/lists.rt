@@ -1,11 +1,9 @@
 //! The points and the faces of the cubes.
 
-ghost use Rattle.std.specs.Prelude.{ℕ, ◌≡◌, ◌*◌, ◌<◌, ◌≤◌, ◌++◌, ◌∷◌, [], map, IfOk, OnOk};
-ghost use Rattle.std.specs.List.{flat_map};
+ghost use Rattle.std.specs.Prelude.{◌≡◌, ◌*◌, ◌<◌, ◌≤◌, ◌++◌, ◌∷◌, [], map, IfOk, OnOk};
 ghost use Rattle.grid_base.specs.Points.{position_of};
-ghost use Rattle.grid_base.specs.Triples.{plus};
 ghost use Rattle.obj_text.specs.Obj.{fan};
-ghost use Rattle.mesh_make.specs.Cubes.{IsRow, at, least_corner, cubes_of, cube_points, cube_faces};
+ghost use Rattle.mesh_make.specs.Cubes.{IsRow, StandAlso, vertex_at, cube_points, cube_faces, cubes_lists};
 
 use grid_base::{Items, NoMemory, Point};
 use mesh_base::{Points, Triangles};
@@ -33,7 +31,7 @@ fn push_corner(
     requires x { offset.0 ≤ 40 }
     requires y { offset.1 ≤ 40 }
     requires z { offset.2 ≤ 40 }
-    ensures { OnOk result (map position_of points.new ≡ map position_of points.old ++ plus (least_corner n cube) (at offset.0 offset.1 offset.2) ∷ []) }
+    ensures { OnOk result (StandAlso points.new points.old (vertex_at n cube offset ∷ [])) }
 {
     let n = u32::from(n);
     let x = 100 * (cube % n) + offset.0;
@@ -51,7 +49,7 @@ fn push_corner(
 fn push_vertices(points: &mut Points, n: u8, cube: u32) -> Result<(), NoMemory>
     requires row { IsRow n }
     requires cube { cube < 1728 }
-    ensures { OnOk result (map position_of points.new ≡ map position_of points.old ++ cube_points n cube) }
+    ensures { OnOk result (StandAlso points.new points.old (cube_points n cube)) }
 {
     push_corner(points, n, cube, (0, 0, 0))?;
     push_corner(points, n, cube, (40, 0, 0))?;
@@ -67,7 +65,7 @@ fn push_vertices(points: &mut Points, n: u8, cube: u32) -> Result<(), NoMemory>
 /// The points of the cubes.
 pub(crate) fn points_of_cubes(alloc: Global, n: u8) -> Result<Points, NoMemory>
     requires { IsRow n }
-    ensures { IfOk result (λ points. map position_of points ≡ flat_map (cube_points n) (cubes_of n)) }
+    ensures { IfOk result (λ points. map position_of points ≡ (cubes_lists n).points) }
 {
     let mut points = Items::new(alloc);
     for cube in 0..cube_count(n) {
@@ -104,7 +102,7 @@ fn push_faces(faces: &mut Triangles, cube: u32) -> Result<(), NoMemory>
 /// The faces of the cubes.
 pub(crate) fn faces_of_cubes(alloc: Global, n: u8) -> Result<Triangles, NoMemory>
     requires { IsRow n }
-    ensures { IfOk result (λ faces. faces ≡ flat_map cube_faces (cubes_of n)) }
+    ensures { IfOk result (λ faces. faces ≡ (cubes_lists n).faces) }
 {
     let mut faces = Items::new(alloc);
     for cube in 0..cube_count(n) {
