@@ -1,0 +1,15 @@
+-- What holds of the cubes.
+use Rattle.std.specs.Prelude.{ℕ, ◌≡◌, ◌*◌, ◌↔◌, length, None}
+use Rattle.mesh_base.specs.Mesh.{IsLiveVertex}
+use Rattle.mesh_plain.specs.Shape.{shape_fault}
+use Rattle.obj_text.specs.Obj.{Lists}
+use Rattle.step_text.specs.Ranges.{IsFrom}
+use Rattle.mesh_make.specs.Cubes.{cubes_mesh}
+
+-- lists are of good shape
+abbrev pub HasNoFault : Lists → Type 0
+HasNoFault lists = shape_fault (length lists.points) lists.faces ≡ None
+
+-- the live vertices are numbered from 1, eight for each cube
+abbrev pub VerticesAreNumbered : Type 0
+VerticesAreNumbered = (n v : ℕ) → (IsLiveVertex (cubes_mesh n) v ↔ IsFrom 1 (8 * (n * n * n)) v)
