@@ -24,19 +24,20 @@ fn words(rt: &(impl Env + AllocGlobal)) -> io::Result<Vec<String>> {
 }
 
 fn main(rt: HostRuntime) -> ExitCode {
-    let status = match words(&rt) {
-        Err(error) if error.kind() == ErrorKind::OutOfMemory => Outcome::NoMemory.status(),
-        Err(_) => Outcome::Usage.status(),
+    let outcome = match words(&rt) {
+        Err(error) if error.kind() == ErrorKind::OutOfMemory => Outcome::NoMemory,
+        Err(_) => Outcome::Usage,
         Ok(words) => answer(
             rt.alloc(),
             &words,
-            &mut FileDesk::new(&rt),
+            &mut FileDesk::new(rt.alloc(), &rt),
             &mut StdSink::new(&rt),
         ),
     };
-    if status == Outcome::Usage.status() {
+    if outcome == Outcome::Usage {
         let _ = eprint!(rt; "{USAGE}");
     }
+    let status = outcome.status();
     if status != 0 {
         let _ = eprintln!(rt; "topo: status {status}");
     }
