@@ -3,15 +3,23 @@
 #![tactic(auto)]
 
 mod desk;
+mod line_counts;
 mod listed;
 mod memory_desk;
 mod memory_sink;
+mod placing;
+mod reading;
 mod real;
 mod shelf;
 mod sink;
+mod tally;
+mod told;
+mod trouble;
 
 pub use desk::{Desk, FetchFault, StoreFault};
 pub use memory_desk::MemoryDesk;
 pub use memory_sink::MemorySink;
 pub use real::{FileDesk, StdSink};
 pub use sink::{Failed, Sink, put_all};
+pub use tally::{TallyDesk, TallySink};
+pub use trouble::{Step, Trouble};

@@ -4,19 +4,21 @@ ghost use Rattle.outside_io.specs.Causes.{HasCause, Rose, next_count};
 ghost use Rattle.outside_io.specs.Desk.{HoldsFile, with_file};
 ghost use Rattle.outside_io.specs.Sink.{appended};
 
+use crate::placing::store_whole;
+use crate::reading::{Unread, open_whole};
+use crate::trouble::{Refusal, Step, Trouble};
 use crate::{Desk, Failed, FetchFault, Sink, StoreFault};
-use std::fs;
-use std::io::{ErrorKind, Read, Write};
+use std::alloc::Global;
+use std::io;
 use std::rt::Files;
-
-// How many bytes of a file are asked for at a time.
-const PIECE: usize = 65_536;
 
 /// The files of the system, by their paths. It counts each error of the system but that an opened name holds no file.
 #[derive(Drop)]
 pub struct FileDesk<'a, R: Files> {
+    alloc: Global,
     rt: &'a R,
     faults: u64,
+    trouble: Option<Trouble>,
     ghost few: { faults ≤ 2 ^ 64 - 1 },
 }
 
@@ -24,86 +26,31 @@ impl<'a, R: Files> FileDesk<'a, R> {
     ghost use Rattle.outside_io.specs.Real.{desk_faults};
 
     /// The files that a runtime reaches.
-    pub fn new(rt: &'a R) -> Self
+    pub fn new(alloc: Global, rt: &'a R) -> Self
         ensures { desk_faults result ≡ 0 }
     {
-        FileDesk { rt, faults: 0 }
-    }
-}
-
-// Puts the next bytes of a file behind those of `into`, and says how many came: none at the file's end.
-fn read_piece<F: Read>(file: &mut F, into: &mut Vec<u8>) -> Result<usize, FetchFault>
-    ensures ok { IfOk result (λ n. vec_len into.new ≡ vec_len into.old + n) }
-    ensures long { (seen : ℕ) → IsErrOf result (FetchFault.TooLong seen) → ⊥ }
-    ensures missing { IsErrOf result FetchFault.Missing → ⊥ }
-{
-    let len = into.len();
-    if into.resize(len + PIECE, 0).is_err() {
-        return Err(FetchFault::NoMemory);
-    }
-    match file.read(&mut into[len..]) {
-        Ok(count) => {
-            into.truncate(len + count);
-            Ok(count)
-        }
-        Err(_) => Err(FetchFault::Failed),
-    }
-}
-
-// Reads to the end, but not past the limit.
-fn read_whole<F: Read>(file: &mut F, limit: usize, into: &mut Vec<u8>) -> Result<(), FetchFault>
-    ensures within { OnOk result (length into.new.items ≤ limit) }
-    ensures long { (seen : ℕ) → IsErrOf result (FetchFault.TooLong seen) → limit < seen }
-    ensures missing { IsErrOf result FetchFault.Missing → ⊥ }
-{
-    into.clear();
-    'pieces: for _ in 0..u64::MAX {
-        if read_piece(file, into)? == 0 {
-            return Ok(());
-        }
-        if into.len() > limit {
-            return Err(FetchFault::TooLong {
-                seen: into.len() as u64,
-            });
+        FileDesk {
+            alloc,
+            rt,
+            faults: 0,
+            trouble: None,
         }
     }
-    Err(FetchFault::Failed)
-}
 
-// Writes all of the bytes.
-fn write_whole<F: Write>(file: &mut F, bytes: &[u8]) -> Result<(), Failed> {
-    let mut done = 0;
-    while done < bytes.len() {
-        match file.write(&bytes[done..]) {
-            Ok(count) if count > 0 => done += count,
-            _ => return Err(Failed),
-        }
+    /// The last error of the system that was counted; `None` where none was, or its file's name found no memory.
+    pub fn trouble(&self) -> Option<&Trouble> {
+        self.trouble.as_ref()
     }
-    Ok(())
-}
 
-// Creates or empties the file of a name, and writes the bytes.
-fn create_whole<R: Files>(rt: &R, name: &str, bytes: &[u8]) -> Result<(), Failed> {
-    match fs::create(rt, name) {
-        Ok(mut file) => write_whole(&mut file, bytes),
-        Err(_) => Err(Failed),
-    }
-}
-
-// Opens the file of a name and reads it to the end, but not past the limit.
-fn open_whole<R: Files>(
-    rt: &R,
-    name: &str,
-    limit: usize,
-    into: &mut Vec<u8>,
-) -> Result<(), FetchFault>
-    ensures within { OnOk result (length into.new.items ≤ limit) }
-    ensures long { (seen : ℕ) → IsErrOf result (FetchFault.TooLong seen) → limit < seen }
-{
-    match fs::open(rt, name) {
-        Ok(mut file) => read_whole(&mut file, limit, into),
-        Err(e) if e.kind() == ErrorKind::NotFound => Err(FetchFault::Missing),
-        Err(_) => Err(FetchFault::Failed),
+    // Counts an error of the system, and keeps it with the file's name.
+    fn count(&mut self, name: &str, step: Step, error: io::Error)
+        ensures { desk_faults self.new ≡ next_count (desk_faults self.old) }
+    {
+        self.faults = self.faults.saturating_add(1);
+        self.trouble = match String::from_str(self.alloc, name) {
+            Ok(name) => Some(Trouble { name, step, error }),
+            Err(_) => None,
+        };
     }
 }
 
@@ -131,26 +78,33 @@ impl<'a, R: Files> Desk for FileDesk<'a, R> {
         if result.is_err() {
             into.clear();
         }
-        if result == Err(FetchFault::Failed) {
-            self.faults = self.faults.saturating_add(1);
+        match result {
+            Ok(()) => Ok(()),
+            Err(Unread::Missing) => Err(FetchFault::Missing),
+            Err(Unread::TooLong { seen }) => Err(FetchFault::TooLong { seen }),
+            Err(Unread::Refused(Refusal::NoMemory)) => Err(FetchFault::NoMemory),
+            Err(Unread::Refused(Refusal::System(step, error))) => {
+                self.count(name, step, error);
+                Err(FetchFault::Failed)
+            }
         }
-        result
     }
 
-    /// Creates or empties the file of a name, and writes the bytes. One fault is counted where it fails, and none where it
-    /// does not; it needs no memory.
+    /// Writes a file beside the one of the name and puts it in its place, so that where it fails that one is as it was, and no
+    /// other file is left. What is no file, as a device, is written to. One fault is counted where it fails, and none where
+    /// it does not.
     fn store(&mut self, name: &str, bytes: &[u8]) -> Result<(), StoreFault>
         ensures stored { OnOk result (None ≡ with_file None name.now bytes.now) }
-        ensures able { ¬ IsErrOf result StoreFault.NoMemory }
         ensures later { desk_faults self.old ≤ desk_faults self.new }
         ensures failed { IsErrOf result StoreFault.Failed → Rose (desk_faults self.old) (desk_faults self.new) }
-        ensures one { OnErr result (desk_faults self.new ≡ next_count (desk_faults self.old)) }
-        ensures none { OnOk result (desk_faults self.new ≡ desk_faults self.old) }
+        ensures one { IsErrOf result StoreFault.Failed → desk_faults self.new ≡ next_count (desk_faults self.old) }
+        ensures none { ¬ IsErrOf result StoreFault.Failed → desk_faults self.new ≡ desk_faults self.old }
     {
-        match create_whole(self.rt, name, bytes) {
+        match store_whole(self.alloc, self.rt, name, bytes) {
             Ok(()) => Ok(()),
-            Err(Failed) => {
-                self.faults = self.faults.saturating_add(1);
+            Err(Refusal::NoMemory) => Err(StoreFault::NoMemory),
+            Err(Refusal::System(step, error)) => {
+                self.count(name, step, error);
                 Err(StoreFault::Failed)
             }
         }

@@ -81,7 +81,7 @@ fn a_piece_is_put_byte_by_byte(rt: HostRuntime) -> Result<(), Fail> {
 fn standard_output_and_real_files_are_reached(rt: HostRuntime) -> Result<(), Fail> {
     let mut out = StdSink::new(&rt);
     assert_eq!(rt; put_all(&mut out, b"to standard output\n"), Ok(()));
-    let mut desk = FileDesk::new(&rt);
+    let mut desk = FileDesk::new(rt.alloc(), &rt);
     let mut into = Vec::new(rt.alloc());
     assert_eq!(rt;
         desk.fetch("no_such_folder/no_such_file", 9, &mut into),

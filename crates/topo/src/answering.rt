@@ -4,7 +4,8 @@ ghost use Rattle.mesh_field.specs.Stored.{IsWellKept};
 ghost use Rattle.track_engine.specs.Answered.{known};
 ghost use Rattle.track_engine.specs.World.{world};
 ghost use Rattle.topo.specs.Asked.{is_help, is_version};
-ghost use Rattle.topo.specs.Answered.{Tells, RunsTo};
+ghost use Rattle.track_run.specs.Headline.{RunsFor};
+ghost use Rattle.topo.specs.Answered.{Tells};
 
 use grid_base::{Point, Shift};
 use line_text::is_word;
@@ -59,19 +60,19 @@ fn is_version(words: &[String]) -> bool
     words.len() == 1 && is_word(words[0].as_bytes(), b"--version")
 }
 
-// Writes a text, and answers the status: that of a run that is done, or of one whose sink failed.
-fn tell<D: Desk, K: Sink>(text: &str, desk: &D, out: &mut K) -> u8
+// Writes a text, and answers the outcome: that of a run that is done, or of one whose sink failed.
+fn tell<D: Desk, K: Sink>(text: &str, desk: &D, out: &mut K) -> Outcome
     ensures { Tells text.now result
         (world D.files D.faults K.written K.faults desk.now out.old)
         (world D.files D.faults K.written K.faults desk.now out.new) }
 {
     match put_all(out, text.as_bytes()) {
-        Ok(()) => Outcome::Done.status(),
-        Err(_) => Outcome::SinkFault.status(),
+        Ok(()) => Outcome::Done,
+        Err(_) => Outcome::SinkFault,
     }
 }
 
-/// Answers the words that follow the program's name, and gives the exit status. `--help` or `-h` alone writes how the program is called,
+/// Answers the words that follow the program's name, and gives the outcome. `--help` or `-h` alone writes how the program is called,
 /// `--version` alone the line of the version, and all other words are a run's.
 pub(crate) fn answer<D: Desk, K: Sink, F: Fn(u8, Point) -> Shift>(
     alloc: Global,
@@ -79,7 +80,7 @@ pub(crate) fn answer<D: Desk, K: Sink, F: Fn(u8, Point) -> Shift>(
     desk: &mut D,
     out: &mut K,
     fields: &Fields<F>,
-) -> u8
+) -> Outcome
     requires { IsWellKept F.Fn fields.now }
     ensures help { is_help (map (λ word. string_bytes word) words.now) ≡ true → Tells USAGE.now result
         (world D.files D.faults K.written K.faults desk.old out.old)
@@ -89,7 +90,7 @@ pub(crate) fn answer<D: Desk, K: Sink, F: Fn(u8, Point) -> Shift>(
         (world D.files D.faults K.written K.faults desk.new out.new) }
     ensures runs { is_help (map (λ word. string_bytes word) words.now) ≡ false →
         is_version (map (λ word. string_bytes word) words.now) ≡ false →
-        RunsTo (known F.Fn fields.now) (map (λ word. string_bytes word) words.now) result
+        RunsFor (known F.Fn fields.now) (map (λ word. string_bytes word) words.now) result
         (world D.files D.faults K.written K.faults desk.old out.old)
         (world D.files D.faults K.written K.faults desk.new out.new) }
 {
@@ -99,5 +100,5 @@ pub(crate) fn answer<D: Desk, K: Sink, F: Fn(u8, Point) -> Shift>(
     if is_version(words) {
         return tell(VERSION_LINE, desk, out);
     }
-    run(alloc, words, desk, out, fields).status()
+    run(alloc, words, desk, out, fields)
 }

@@ -27,32 +27,33 @@ fn words(rt: &(impl Env + AllocGlobal)) -> io::Result<Vec<String>> {
     Ok(words)
 }
 
-// The status of the words, and what is wrong with them, where they are of no listed form.
-fn answer_words(rt: &HostRuntime, words: &[String]) -> u8 {
-    let status = answer(
+// The outcome of the words; what is wrong with them is told, where they are of no listed form.
+fn answer_words(rt: &HostRuntime, words: &[String]) -> Outcome {
+    let outcome = answer(
         rt.alloc(),
         words,
-        &mut FileDesk::new(rt),
+        &mut FileDesk::new(rt.alloc(), rt),
         &mut StdSink::new(rt),
         &no_fields(|_which: u8, _at: Point| Shift { x: 0, y: 0, z: 0 }),
     );
-    if status == Outcome::Usage.status() {
+    if outcome == Outcome::Usage {
         if let Ok(text) = usage_error(rt.alloc(), words) {
             let _ = eprintln!(rt; "{text}");
         }
     }
-    status
+    outcome
 }
 
 fn main(rt: HostRuntime) -> ExitCode {
-    let status = match words(&rt) {
-        Err(error) if error.kind() == ErrorKind::OutOfMemory => Outcome::NoMemory.status(),
-        Err(_) => Outcome::Usage.status(),
+    let outcome = match words(&rt) {
+        Err(error) if error.kind() == ErrorKind::OutOfMemory => Outcome::NoMemory,
+        Err(_) => Outcome::Usage,
         Ok(words) => answer_words(&rt, &words),
     };
-    if status == Outcome::Usage.status() {
+    if outcome == Outcome::Usage {
         let _ = eprint!(rt; "{USAGE}");
     }
+    let status = outcome.status();
     if status != 0 {
         let _ = eprintln!(rt; "topo: status {status}");
     }
