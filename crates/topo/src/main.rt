@@ -4,12 +4,13 @@
 
 mod answering;
 mod help;
+mod shipped;
 
 use answering::{USAGE, answer};
-use grid_base::{Point, Shift};
 use help::usage_error;
-use mesh_field::no_fields;
+use mesh_field::{Fields, no_fields};
 use outside_io::{FileDesk, StdSink};
+use shipped::{REACH, shipped_names, shipped_shift};
 use std::io::ErrorKind;
 use std::process::ExitCode;
 use std::rt::Env;
@@ -29,12 +30,16 @@ fn words(rt: &(impl Env + AllocGlobal)) -> io::Result<Vec<String>> {
 
 // The outcome of the words; what is wrong with them is told, where they are of no listed form.
 fn answer_words(rt: &HostRuntime, words: &[String]) -> Outcome {
+    let fields = match shipped_names() {
+        Some(names) => Fields::new(names, REACH, shipped_shift),
+        None => no_fields(shipped_shift),
+    };
     let outcome = answer(
         rt.alloc(),
         words,
         &mut FileDesk::new(rt.alloc(), rt),
         &mut StdSink::new(rt),
-        &no_fields(|_which: u8, _at: Point| Shift { x: 0, y: 0, z: 0 }),
+        &fields,
     );
     if outcome == Outcome::Usage {
         if let Ok(text) = usage_error(rt.alloc(), words) {
