@@ -1,5 +1,5 @@
 -- No pair of the cubes meets: two cubes are apart on an axis, and a pair of one cube stands as one of the first cube does, moved.
-use Rattle.std.proofs.Common.{◌≡◌, ℕ, ◌+◌, ◌*◌, ◌-◌, ◌/◌, ◌%◌, ◌<◌, ◌≤◌, Bool, true, false, Some, slice_get, ℤ, pos, negsuc, ◌+ℤ◌, ◌-ℤ◌, ◌≤ℤ◌, ◌<ℤ◌, refl, sym, ap, subst, ◌∙◌, ⊎_elim, arith}
+use Rattle.std.proofs.Common.{◌≡◌, ℕ, ◌+◌, ◌*◌, ◌-◌, ◌/◌, ◌%◌, ◌<◌, ◌≤◌, true, false, Some, slice_get, ℤ, pos, negsuc, ◌+ℤ◌, ◌-ℤ◌, ◌≤ℤ◌, ◌<ℤ◌, sym, ap, subst, ◌∙◌, ⊎_elim, arith}
 use Rattle.std.specs.Prelude.{neg_ℤ}
 use Rattle.std.proofs.lemmas.Int.{ints}
 use Rattle.std.proofs.lemmas.Bool.{cases_lt, cases_eq}
@@ -7,18 +7,15 @@ use Rattle.std.proofs.Math.Nat.{div-add-mod}
 use Rattle.grid_base.specs.declared.Positions.{Positions}
 use Rattle.grid_base.specs.Triples.{Triple, plus, minus, dot}
 use Rattle.grid_base.specs.Meeting.{MeetAt}
-use Rattle.grid_base.specs.Separation.{IsBelow, MoveTogether}
 use Rattle.grid_base.proofs.MeetingLaws.{same_triple, Meets-not_below, MoveTogether-never_meet}
 use Rattle.grid_base.proofs.SeparationLaws.{NeverMeet-at_end}
 use Rattle.mesh_base.specs.declared.ids.Corners.{Corners}
-use Rattle.mesh_base.specs.Mesh.{HasCorners}
 use Rattle.mesh_base.specs.Sides.{runs, follows, has_corner}
-use Rattle.mesh_base.specs.Pairs.{Pair, IsPair}
 use Rattle.mesh_base.specs.Placements.{positions, rest_positions, IsClearMesh}
 use Rattle.mesh_base.proofs.Listed.{running_face}
 use Rattle.mesh_make.specs.Cubes.{IsRow, least_corner, cubes_mesh}
 use Rattle.mesh_make.proofs.OneCube.{triangles, lifted, IsOfCube, AreOfCube, corners_of_cube, follows-lifted, has_corner-lifted}
-use Rattle.mesh_make.proofs.Shape.{IsFaceAt, face_at, cubes_are_closed}
+use Rattle.mesh_make.proofs.Shape.{face_at, cubes_are_closed}
 use Rattle.mesh_make.proofs.Standing.{offset, place, IsInSide, offset_in_cube, stands}
 use Rattle.mesh_make.proofs.Table.{first_positions, on_side, first_is_clear}
 

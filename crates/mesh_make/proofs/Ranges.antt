@@ -1,5 +1,5 @@
 -- The directives of the job are within their limits.
-use Rattle.std.proofs.Common.{◌≡◌, ℕ, zero, suc, ◌+◌, ◌*◌, ◌%◌, ◌<◌, ◌≤◌, List, [], ◌∷◌, ◌++◌, map, lit≤, le_trans, arith}
+use Rattle.std.proofs.Common.{◌≡◌, ℕ, zero, suc, ◌+◌, ◌*◌, ◌%◌, ◌≤◌, List, [], ◌∷◌, ◌++◌, map, lit≤, le_trans, arith}
 use Rattle.std.specs.List.{AllByRecursion, range_with_len, enumerate_from}
 use Rattle.grid_base.specs.declared.TheConstants.{ID_MAX, LENGTH_MAX, SHIFT_MAX}
 use Rattle.grid_base.specs.Points.{displacement_of}
@@ -7,7 +7,6 @@ use Rattle.grid_base.proofs.PointLaws.{displacement_of-shift_by}
 use Rattle.mesh_base.proofs.ListedPairs.{all_joined}
 use Rattle.step_text.specs.declared.Directive.{Directive}
 use Rattle.step_text.specs.declared.Directive.TheVariants.{ShiftOne}
-use Rattle.step_text.specs.declared.Placed.{Placed}
 use Rattle.step_text.specs.Ranges.{IsFrom, IsInRange, AreInRange}
 use Rattle.mesh_make.specs.Cubes.{IsRow}
 use Rattle.mesh_make.specs.CubeSteps.{moved_along, moved_by, cube_shift, cube_with, shifts_in, step_of, cubes_directives, cubes_steps}

@@ -1,34 +1,30 @@
 -- The cubes make a mesh within its limits that is closed.
-use Rattle.std.proofs.Common.{◌≡◌, ◌≢◌, ℕ, zero, suc, ◌+◌, ◌*◌, ◌-◌, ◌<◌, ◌≤◌, ◌==◌, ◌&&◌, ◌||◌, Bool, true, false, List, [], ◌∷◌, ◌++◌, Some, None, map, length, nat_lt, nat_le, slice_get, refl, sym, ap, subst, ◌∙◌, ⊎_elim, arith}
+use Rattle.std.proofs.Common.{◌≡◌, ℕ, zero, suc, ◌+◌, ◌*◌, ◌<◌, ◌≤◌, ◌==◌, ◌&&◌, ◌||◌, Bool, true, false, List, Some, None, map, length, nat_lt, slice_get, refl, sym, ap, subst, ◌∙◌, ⊎_elim, arith}
 use Rattle.std.proofs.Common.{is_some, cond, ◌⊎◌, inl, inr}
-use Rattle.std.specs.Prelude.{IsTrue, ◌↔◌}
+use Rattle.std.specs.Prelude.{◌↔◌}
 use Rattle.std.specs.List.{enumerate_from, flat_map, range_with_len}
-use Rattle.std.specs.FinMap as finite
 use Rattle.std.specs.FinMap.{get-from_entries}
-use Rattle.std.specs.Ordering.{nat_cmp}
 use Rattle.std.specs.Cmp.{nat_cmp_total}
-use Rattle.std.proofs.lemmas.List.{length-map, length-append}
+use Rattle.std.proofs.lemmas.List.{length-map}
 use Rattle.std.proofs.lemmas.List.Sums.{sum_by-append}
 use Rattle.std.proofs.lemmas.Bool.{eqb-true, eq-eqb}
 use Rattle.std.proofs.lemmas.Bool.Decides.{nat_tests}
-use Rattle.grid_base.specs.declared.Point.{Point}
 use Rattle.grid_base.specs.declared.TheConstants.{VERTICES_MAX, FACES_MAX}
 use Rattle.grid_base.specs.Points.{point_at}
 use Rattle.mesh_base.specs.declared.ids.Corners.{Corners}
-use Rattle.mesh_base.specs.Mesh.{IsMesh, IsSound, IsLiveVertex, AreLive, AreDifferent, HasCorners, equal_up_to_rotation}
+use Rattle.mesh_base.specs.Mesh.{IsSound, IsLiveVertex, AreLive, AreDifferent, HasCorners, equal_up_to_rotation}
 use Rattle.mesh_base.specs.Sides.{follows, IsClosed}
 use Rattle.mesh_base.specs.Changes.{corners_of, corner_list}
-use Rattle.mesh_base.specs.Given.{Faces, mesh_of}
 use Rattle.mesh_base.proofs.Finite.{none_in_empty}
 use Rattle.mesh_base.proofs.Tests.{and_first, or_either, both_ways}
-use Rattle.mesh_plain.specs.Shape.{runs_in, shape_fault, is_vertex, HasNoFault}
+use Rattle.mesh_plain.specs.Shape.{runs_in, shape_fault, is_vertex}
 use Rattle.mesh_plain.proofs.Lists.{numbered, of_live, get_map, is_live, few_vertices, few_faces}
 use Rattle.mesh_plain.proofs.Faults.{runs_given, no_fault}
 use Rattle.step_text.specs.Ranges.{IsFrom}
-use Rattle.mesh_make.specs.Cubes.{IsRow, corner_offsets, squares, cubes_of, cube_points, cube_faces, cubes_lists, cubes_mesh}
+use Rattle.mesh_make.specs.Cubes.{IsRow, corner_offsets, squares, cube_points, cube_faces, cubes_lists, cubes_mesh}
 use Rattle.mesh_make.proofs.Growing.{cubes-few}
-use Rattle.mesh_make.proofs.Pieces.{HaveLength, length-pieces, in_piece, of_piece}
-use Rattle.mesh_make.proofs.OneCube.{triangle, triangles, lifted, cube_faces-lifted, IsOfCube, AreOfCube, corners_of_cube, corners_differ, faces_differ, cube_is_closed}
+use Rattle.mesh_make.proofs.Pieces.{HaveLength, length-pieces, in_piece}
+use Rattle.mesh_make.proofs.OneCube.{triangles, lifted, cube_faces-lifted, IsOfCube, AreOfCube, corners_of_cube, corners_differ, faces_differ, cube_is_closed}
 
 -- ---- how many there are
 pub eight_points : (n : ℕ) → HaveLength 8 (cube_points n)
