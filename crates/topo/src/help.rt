@@ -109,8 +109,14 @@ fn fault_of_word(alloc: Global, words: &[String]) -> Result<String, AllocError> 
         if word.is_empty() {
             return String::from_str(alloc, "error: a file word is empty\n");
         }
-        if word.as_str().starts_with("-") && word.as_str() != "--" && !word.as_str().starts_with("--decimals") {
-            return format!(in alloc; "error: no file word begins with '-', as {:?} does: put ./ before it\n", word.as_str());
+        if word.as_str().starts_with("-")
+            && word.as_str() != "--"
+            && !word.as_str().starts_with("--decimals")
+        {
+            return format!(in alloc;
+                "error: no file word begins with '-', as {:?} does: put ./ before it\n",
+                word.as_str()
+            );
         }
     }
     String::from_str(

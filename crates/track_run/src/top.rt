@@ -168,24 +168,24 @@ pub fn run<D: Desk, K: Sink, F: Fn(u8, Point) -> Shift>(
         (world D.files D.faults K.written K.faults desk.old out.old)
         (world D.files D.faults K.written K.faults desk.new out.new) }
 {
-    let Ok(command) = command_of(alloc, words) else {
+    let Ok(found) = command_of(alloc, words) else {
         return Outcome::NoMemory;
     };
+    let Some(command) = found else {
+        return Outcome::Usage;
+    };
     match command {
-        None => Outcome::Usage,
-        Some(
-            Command::Track {
-                mesh,
-                steps,
-                prefix,
-                decimals,
-            },
-        ) => {
+        Command::Track {
+            mesh,
+            steps,
+            prefix,
+            decimals,
+        } => {
             let to = Target { prefix, decimals };
             let ended = track(alloc, mesh, steps, to, desk, out, fields);
             outcome_from(ended)
         }
-        Some(Command::Convert { from, to, decimals }) => {
+        Command::Convert { from, to, decimals } => {
             let ended = convert(alloc, from, to, decimals, desk, out);
             outcome_of_conversion(ended)
         }

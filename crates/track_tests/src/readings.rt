@@ -1,0 +1,81 @@
+//! Worked examples: words that are read as a command, and words that are not.
+use std::alloc::Global;
+use std::process::Abort;
+use std::test::Fail;
+use track_input::{Command, command_of};
+
+fn words_of(alloc: Global, words: &[&str]) -> Result<Vec<String>, Fail> {
+    let mut all = Vec::new(alloc);
+    for word in words {
+        all.push(String::from_str(alloc, word)?)?;
+    }
+    Ok(all)
+}
+
+// What the words are read as, in the words of a listed form.
+fn read(alloc: Global, words: &[&str]) -> Result<String, Fail> {
+    let words = words_of(alloc, words)?;
+    Ok(match command_of(alloc, &words)? {
+        Some(
+            Command::Track {
+                mesh,
+                steps,
+                prefix,
+                decimals,
+            },
+        ) => format!(in alloc; "track {mesh} {steps} {prefix} {decimals}")?,
+        Some(Command::Convert { from, to, decimals }) => {
+            format!(in alloc; "convert {} {} {decimals}", from.name, to.name)?
+        }
+        None => String::from_str(alloc, "none")?,
+    })
+}
+
+// The words are read so.
+fn is_read(rt: &impl Abort, alloc: Global, words: &[&str], wanted: &str) -> Result<(), Fail> {
+    let found = read(alloc, words)?;
+    assert_eq!(rt; found.as_str(), wanted);
+    Ok(())
+}
+
+#[test]
+fn words_are_read_as_commands(rt: HostRuntime) -> Result<(), Fail> {
+    let alloc = rt.alloc();
+    // Listed forms.
+    is_read(&rt, alloc, &["track", "m", "s", "p"], "track m s p 0")?;
+    let words = ["track", "m", "s", "p", "--decimals", "6"];
+    is_read(&rt, alloc, &words, "track m s p 6")?;
+    let words = ["convert", "m.obj", "n.ply", "--decimals", "0"];
+    is_read(&rt, alloc, &words, "convert m.obj n.ply 0")?;
+    // Words that are taken as these.
+    let words = ["track", "--decimals", "3", "m", "s", "p"];
+    is_read(&rt, alloc, &words, "track m s p 3")?;
+    let words = ["track", "m", "s", "p", "--decimals=3"];
+    is_read(&rt, alloc, &words, "track m s p 3")?;
+    let words = ["convert", "--decimals=2", "--", "m.off", "n.obj"];
+    is_read(&rt, alloc, &words, "convert m.off n.obj 2")
+}
+
+#[test]
+fn words_of_no_form_are_no_command(rt: HostRuntime) -> Result<(), Fail> {
+    let alloc = rt.alloc();
+    let table: [&[&str]; 13] = [
+        &[],
+        &["track"],
+        &["Track", "m", "s", "p"],
+        &["track", "m", "s"],
+        &["track", "m", "s", "p", "q"],
+        &["track", "m", "", "p"],
+        &["track", "m", "s", "-p"],
+        &["track", "--", "m", "s", "-p"],
+        &["track", "m", "s", "p", "--decimals"],
+        &["track", "m", "s", "p", "--decimals", "7"],
+        &["track", "m", "s", "p", "--decimals", "03"],
+        &["track", "m", "s", "p", "--decimal", "3"],
+        &["track", "m", "s", "p", "--decimals", "3", "--decimals", "3"],
+    ];
+    for words in table {
+        is_read(&rt, alloc, words, "none")?;
+    }
+    Ok(())
+}
