@@ -3,7 +3,7 @@ use Rattle.std.proofs.Common.{◌≡◌, ◌≢◌, ℕ, ◌+◌, Bool, true, fa
 use Rattle.std.proofs.lemmas.Bool.{eqb-true, false_from_ne_true}
 use Rattle.mesh_base.specs.declared.ids.Corners.{Corners}
 use Rattle.mesh_base.specs.Mesh.{AreDifferent}
-use Rattle.mesh_base.specs.Sides.{follows, runs}
+use Rattle.mesh_base.specs.Sides.{follows}
 use Rattle.edit_base.specs.Edges.{opposite_vertex}
 use Rattle.mesh_base.proofs.Listed.{and_first, and_second, or_either}
 

@@ -1,6 +1,5 @@
 -- A flip whose motion is clear leaves a clear mesh.
-use Rattle.std.proofs.Common.{◌≡◌, ◌≢◌, ◌⊎◌, ℕ, zero, suc, ◌+◌, ◌<◌, true, false, ◌&&◌, ◌||◌, ◌==◌, is_some, inl, inr, ⊎_elim, refl, sym, ap, subst, ◌∙◌, arith}
-use Rattle.std.proofs.lemmas.Bool.{eqb-true}
+use Rattle.std.proofs.Common.{◌≡◌, ◌≢◌, ◌⊎◌, ℕ, ◌+◌, ◌<◌, true, false, is_some, inl, inr, ⊎_elim, refl, sym, ap, subst, ◌∙◌, arith}
 use Rattle.std.proofs.lemmas.Bool.Decides.{nat_tests}
 use Rattle.grid_base.specs.Triples.{Triple, plus}
 use Rattle.grid_base.specs.Meeting.{Meets, MeetAt}
@@ -9,7 +8,7 @@ use Rattle.mesh_base.specs.declared.ids.Corners.{Corners}
 use Rattle.mesh_base.specs.Mesh.{Mesh, IsSound, IsLiveVertex, HasCorners}
 use Rattle.mesh_base.specs.Sides.{follows, has_corner, runs, IsEdge}
 use Rattle.mesh_base.specs.Placements.{rest_positions, IsClear, IsClearMesh, IsClearAlong}
-use Rattle.mesh_base.proofs.Listed.{running_face, edge_live, and_first, and_second, or_either}
+use Rattle.mesh_base.proofs.Listed.{running_face, edge_live}
 use Rattle.edit_base.specs.Scaffold.{motion_of}
 use Rattle.edit_base.specs.Edges.{Edge, corners_from}
 use Rattle.edit_flip.specs.Flip.{flip_scaffold}
@@ -17,7 +16,7 @@ use Rattle.edit_base.specs.Beside.{IsBeside}
 use Rattle.edit_base.proofs.Ends.{clear_at_end, clear_after_along}
 use Rattle.edit_flip.proofs.Midway.{face_is_two_faces, edge_is_two_edges}
 use Rattle.edit_acts.proofs.Exchanged.{Meets-exchanged, plus_comm}
-use Rattle.edit_acts.proofs.FaceCorners.{runs_there, no_corner, step_one, step_two, step_three, steps_of, either_way, edge_of_step, edge_turned}
+use Rattle.edit_acts.proofs.FaceCorners.{no_corner, step_two, step_three, steps_of, either_way, edge_of_step, edge_turned}
 use Rattle.edit_flip.proofs.FlipFaces.{bare, first, second, third, fourth, scaffold, one, two, result, first_there, second_there, third_there, fourth_there, was, old_there, faces_of, end, end_new, end_old}
 
 off_corner : (x y z v : ℕ) → x ≢ v → y ≢ v → z ≢ v → has_corner (corners_from x y z) v ≡ false

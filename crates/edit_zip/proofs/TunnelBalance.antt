@@ -1,5 +1,5 @@
 -- The eight faces between two rims of four vertices.
-use Rattle.std.proofs.Common.{◌≡◌, ◌≢◌, ℕ, ◌+◌, cond, List, [], ◌∷◌, sym, arith}
+use Rattle.std.proofs.Common.{◌≡◌, ◌≢◌, ℕ, ◌+◌, cond, List, [], ◌∷◌, arith}
 use Rattle.std.proofs.Math.Logic.{Ne-symm}
 use Rattle.std.specs.List.{AllByRecursion}
 use Rattle.mesh_base.specs.declared.ids.Corners.{Corners}

@@ -1,7 +1,7 @@
 -- What a done zip leaves.
 use Rattle.std.proofs.Common.{◌≡◌, ℕ, Bool, true, false, not, ◌||◌, ◌==◌, ◌++◌, min, max, [], ◌∷◌, Option, Some, None, is_none, refl, sym, ap, subst, ◌∙◌}
 use Rattle.std.proofs.lemmas.Bool.{false≢true, not-false}
-use Rattle.std.specs.List.{find, filter, count_by, AllByRecursion}
+use Rattle.std.specs.List.{find, count_by, AllByRecursion}
 use Rattle.std.specs.Option.{option_map_or, option_or, unwrap_or}
 use Rattle.grid_base.specs.declared.Positions.{Positions}
 use Rattle.grid_base.specs.SeparationTests.{IsExact}

@@ -1,7 +1,6 @@
 -- The numbers of a fault of shape are in range.
 use Rattle.std.proofs.Common.{◌≡◌, ℕ, zero, suc, ◌+◌, ◌<◌, ◌≤◌, Bool, true, false, cond, nat_lt, List, [], ◌∷◌, map, length, Option, Some, None, refl, arith}
 use Rattle.std.proofs.lemmas.Bool.{ltb-false}
-use Rattle.std.proofs.lemmas.Bool.Decides.{nat_tests}
 use Rattle.std.specs.Prelude.{◌==◌, not, IfSome}
 use Rattle.std.specs.List.{AllByRecursion, find, flat_map, position_from, range_with_len}
 use Rattle.std.specs.Option.{option_or, option_map}

@@ -1,9 +1,8 @@
 -- What zips answer is in range.
-use Rattle.std.proofs.Common.{◌≡◌, ℕ, ◌≤◌, Bool, true, false, not, ◌||◌, ◌==◌, ◌++◌, List, [], ◌∷◌, Option, Some, None, is_none, refl, arith}
+use Rattle.std.proofs.Common.{◌≡◌, ℕ, ◌≤◌, Bool, false, not, ◌||◌, ◌++◌, List, [], ◌∷◌, Option, Some, None, is_none, refl, arith}
 use Rattle.edit_zip.proofs.ZipDone.{all_tried, not_either}
-use Rattle.std.proofs.lemmas.Bool.{not-false}
 use Rattle.std.specs.Prelude.{IfSome}
-use Rattle.std.specs.List.{AllByRecursion, filter, count_by, last_or}
+use Rattle.std.specs.List.{AllByRecursion, last_or}
 use Rattle.std.specs.Option.{option_map_or, option_and_then, unwrap_or}
 use Rattle.grid_base.specs.declared.Positions.{Positions}
 use Rattle.mesh_base.specs.Mesh.{Mesh, IsSound}
@@ -11,7 +10,7 @@ use Rattle.mesh_base.specs.Pairs.{is_edge, is_crowded}
 use Rattle.mesh_base.specs.Placements.{rest_positions}
 use Rattle.mesh_base.specs.Failing.{first_meeting}
 use Rattle.mesh_base.specs.Limits.{is_over_limits}
-use Rattle.mesh_base.proofs.ListedPairs.{all_flat_mapped, all_filtered, all_weaker, all_always}
+use Rattle.mesh_base.proofs.ListedPairs.{all_weaker}
 use Rattle.edit_base.specs.declared.answers.Why.{Why}
 use Rattle.edit_base.specs.declared.answers.Why.TheVariants.{NoEdge, Crowded, Shared, Full, Doubled}
 use Rattle.edit_base.specs.declared.answers.Change.TheVariants.{Zip}
@@ -20,9 +19,8 @@ use Rattle.edit_base.specs.declared.answers.Edit.TheVariants.{Done, No}
 use Rattle.edit_base.specs.Reasons.{reason_if}
 use Rattle.edit_base.specs.Edges.{Edge, edge_of, doubles_a_face}
 use Rattle.edit_base.proofs.Beside.{beside_of}
-use Rattle.edit_base.proofs.ReasonLaws.{first_false, second_false}
 use Rattle.edit_acts.proofs.Found.{found_both}
-use Rattle.edit_zip.specs.Zip.{zip_mesh, turns, tried, is_before, turn_reason, taken_turn, last_reason, four_ids, repeats}
+use Rattle.edit_zip.specs.Zip.{zip_mesh, turns, tried, turn_reason, taken_turn, last_reason, four_ids, repeats}
 use Rattle.edit_zip.specs.Answer.{zip_answer}
 use Rattle.edit_zip.proofs.ZipTurns.{disjoint_of, turns_are_sound}
 use Rattle.log_text.specs.declared.TheConstants.{TURN_MAX}
