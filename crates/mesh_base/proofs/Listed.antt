@@ -63,7 +63,7 @@ at_live {X} P m k h live = by_answer (finite.get m k) refl live
 
 -- each entry is found at its key
 apart_from : (k x : ℕ) → T (is_lt (nat_cmp k x)) → eq_by_cmp nat_cmp x k ≡ false
-apart_from k x h = unsigned_tied x k ∙ untied (above.lt-ltb k x h)
+apart_from k x h = unsigned_tied x k ∙ untied (above.less_true k x h)
   where
     untied : nat_lt k x ≡ true → (x == k) ≡ false
     untied h = grind (arith, nat_tests)
