@@ -52,8 +52,8 @@ pub either_way : (k l : ℕ) → 0 < k + l → (0 < k) ⊎ (0 < l)
 either_way zero l h = inr (omega arith)
 either_way (suc k) l h = inl (omega arith)
 
-pub edge_forth : (m : Mesh) (f : ℕ) (c : Corners) (u v : ℕ) → HasCorners m f c → follows c u v ≡ true → IsEdge m u v
-edge_forth m f c u v there step = let some = runs_there m f c u v there step in omega arith
+pub edge_of_step : (m : Mesh) (f : ℕ) (c : Corners) (u v : ℕ) → HasCorners m f c → follows c u v ≡ true → IsEdge m u v
+edge_of_step m f c u v there step = let some = runs_there m f c u v there step in omega arith
 
-pub edge_back : (m : Mesh) (u v : ℕ) → IsEdge m u v → IsEdge m v u
-edge_back m u v h = omega arith
+pub edge_turned : (m : Mesh) (u v : ℕ) → IsEdge m u v → IsEdge m v u
+edge_turned m u v h = omega arith

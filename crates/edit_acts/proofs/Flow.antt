@@ -1,6 +1,6 @@
 -- How often one vertex follows another, as faces are made and dropped.
 use Rattle.std.proofs.Common.{◌≡◌, ◌≢◌, ℕ, ◌+◌, ◌<◌, Bool, true, false, cond, ◌==◌, List, [], ◌∷◌, Option, Some, None, IsSome, is_some, refl, sym, ap, subst, ◌∙◌, arith}
-use Rattle.std.proofs.lemmas.Bool.{false≢true, eqb-true}
+use Rattle.std.proofs.lemmas.Bool.{false≢true, eqb-true, false_from_ne_true}
 use Rattle.std.specs.Ordering.{nat_cmp, eq_by_cmp}
 use Rattle.std.specs.Cmp.{nat_cmp_total, unsigned_tied}
 use Rattle.std.specs.FinMap as finite
@@ -11,7 +11,7 @@ use Rattle.mesh_base.specs.Sides.{follows, runs}
 use Rattle.mesh_base.specs.Changes.{with_face, without_face}
 use Rattle.edit_base.specs.Edges.{corners_from, with_faces}
 use Rattle.mesh_base.proofs.Counts.{runs-with_face}
-use Rattle.edit_base.proofs.Arcs.{three_arcs, round, is_not}
+use Rattle.edit_base.proofs.Arcs.{three_arcs, round}
 
 -- each live face is below the next id
 abbrev pub AreBelow : Mesh → Type 0
@@ -51,7 +51,7 @@ runs-with_faces m (c ∷ cs) u v below =
     omega (arith, rest, one)
 
 pub still_there : (m : Mesh) (f g : ℕ) (c : Corners) → f ≢ g → HasCorners m g c → HasCorners (without_face m f) g c
-still_there m f g c apart h = get-remove nat_cmp_total m.faces f g ∙ ap (λ b. cond b None (finite.get m.faces g)) (unsigned_tied g f ∙ is_not (g == f) (λ e. apart (sym (eqb-true g f e)))) ∙ h
+still_there m f g c apart h = get-remove nat_cmp_total m.faces f g ∙ ap (λ b. cond b None (finite.get m.faces g)) (unsigned_tied g f ∙ false_from_ne_true (g == f) (λ e. apart (sym (eqb-true g f e)))) ∙ h
 
 pub below_next : (m : Mesh) → IsSound m → AreBelow m
 below_next m sound f live = (sound.is_mesh.face_ids f live).1

@@ -1,5 +1,6 @@
 -- The laws of a mesh after faces are dropped and made, and its limits at the end alone.
 use Rattle.std.proofs.Common.{◌≡◌, ◌≢◌, ◌⊎◌, ℕ, ◌+◌, ◌≤◌, Bool, true, false, ◌||◌, ◌&&◌, ◌==◌, nat_lt, List, [], ◌∷◌, refl, sym, subst, ◌∙◌, ⊎_elim, arith}
+use Rattle.mesh_base.proofs.Tests.{not_both}
 use Rattle.std.proofs.lemmas.Bool.Decides.{nat_tests}
 use Rattle.std.specs.FinMap as map
 use Rattle.grid_base.specs.declared.TheConstants.{VERTICES_MAX, FACES_MAX, ID_MAX}
@@ -11,9 +12,6 @@ use Rattle.mesh_base.specs.Limits.{is_over_limits}
 use Rattle.mesh_base.proofs.Finite.{got_after_insert, live_after_insert, live_stays, got_after_remove, live_after_remove}
 use Rattle.mesh_base.proofs.MeshLaws.{equal_symmetric}
 use Rattle.edit_base.specs.Edges.{AreFresh, corners_from, with_faces}
-
-not_both : {b : Bool} → b ≡ true → b ≡ false → ⊥
-not_both h h' = cc
 
 -- ---- the laws after one change
 pub mesh-without_face : (m : Mesh) (f : ℕ) → IsMesh m → IsMesh (without_face m f)

@@ -1,13 +1,14 @@
 //! Faces made one after another, and midpoints.
-ghost use Rattle.std.specs.Prelude.{◌≡◌, ◌≤◌, ◌+◌, ◌*ℤ◌, ◌+ℤ◌, ℕ, List, map, length, pos, unsigned_abs, OnOk, OnErr, IfOk};
+ghost use Rattle.std.specs.Prelude.{◌≡◌, ◌≤◌, ◌+◌, ◌*ℤ◌, ◌+ℤ◌, map, length, unsigned_abs, OnOk, OnErr};
 ghost use Rattle.grid_base.specs.declared.TheConstants.{BOX, HALF_MAX};
-ghost use Rattle.grid_base.specs.Triples.{plus, times, IsWithin};
+ghost use Rattle.grid_base.specs.Triples.{plus, IsWithin};
 ghost use Rattle.grid_base.specs.Points.{position_of};
 ghost use Rattle.mesh_base.specs.Changes.{corners_of, with_face, IsFresh, IsFullOfFaces, IsFullOfVertices, with_vertex};
 ghost use Rattle.mesh_base.specs.Kept.{BeginsWith};
 ghost use Rattle.edit_base.specs.Edges.{exact_mid, with_faces, AreFresh};
 ghost use Rattle.mesh_base.specs.Placements.{point_of};
 ghost use Rattle.edit_base.specs.Required.{HasRoomFor};
+ghost use Rattle.edit_base.specs.Clauses.{OnOkIs};
 
 use grid_base::{BOX, NoMemory, Point, Wide};
 use mesh_base::{AddFault, Surface, VertexId, point_of};
@@ -15,9 +16,10 @@ use mesh_base::{AddFault, Surface, VertexId, point_of};
 /// Makes a vertex where no limit is in the way, and answers its id. Where memory is wanting, all is as it was.
 pub fn make_vertex<S: Surface>(mesh: &mut S, at: Point) -> Result<VertexId, NoMemory>
     requires { ¬ IsFullOfVertices (S.mesh mesh.old) }
-    ensures id { IfOk result (λ v. v ≡ (S.mesh mesh.old).next_vertex) }
+    ensures id { OnOkIs result (S.mesh mesh.old).next_vertex }
     ensures made { OnOk result (S.mesh mesh.new ≡ with_vertex (S.mesh mesh.old) at) }
-    ensures left { OnErr result ((S.mesh mesh.new ≡ S.mesh mesh.old) × (S.kept mesh.new ≡ S.kept mesh.old)) }
+    ensures left { OnErr result
+        ((S.mesh mesh.new ≡ S.mesh mesh.old) × (S.kept mesh.new ≡ S.kept mesh.old)) }
     ensures marks { BeginsWith (S.kept mesh.new) (S.kept mesh.old) }
 {
     match mesh.add_vertex(at) {
@@ -32,7 +34,8 @@ pub fn make_face<S: Surface>(mesh: &mut S, c: [VertexId; 3]) -> Result<(), NoMem
     requires fresh { IsFresh (S.mesh mesh.old) (corners_of c) }
     requires room { ¬ IsFullOfFaces (S.mesh mesh.old) }
     ensures made { OnOk result (S.mesh mesh.new ≡ with_face (S.mesh mesh.old) (corners_of c)) }
-    ensures left { OnErr result ((S.mesh mesh.new ≡ S.mesh mesh.old) × (S.kept mesh.new ≡ S.kept mesh.old)) }
+    ensures left { OnErr result
+        ((S.mesh mesh.new ≡ S.mesh mesh.old) × (S.kept mesh.new ≡ S.kept mesh.old)) }
     ensures marks { BeginsWith (S.kept mesh.new) (S.kept mesh.old) }
 {
     match mesh.add_face(c) {
@@ -46,7 +49,8 @@ pub fn make_face<S: Surface>(mesh: &mut S, c: [VertexId; 3]) -> Result<(), NoMem
 pub fn make_faces<S: Surface>(mesh: &mut S, faces: &[[VertexId; 3]]) -> Result<(), NoMemory>
     requires fresh { AreFresh (S.mesh mesh.old) (map corners_of faces.now) }
     requires room { HasRoomFor (length faces.now) (S.mesh mesh.old) }
-    ensures made { OnOk result (S.mesh mesh.new ≡ with_faces (S.mesh mesh.old) (map corners_of faces.now)) }
+    ensures made { OnOk result
+        (S.mesh mesh.new ≡ with_faces (S.mesh mesh.old) (map corners_of faces.now)) }
     ensures marks { BeginsWith (S.kept mesh.new) (S.kept mesh.old) }
 {
     for c in faces {

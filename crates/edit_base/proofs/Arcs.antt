@@ -1,9 +1,9 @@
 -- The steps of a face from one corner to the next.
 use Rattle.std.proofs.Common.{◌≡◌, ◌≢◌, ℕ, ◌+◌, Bool, true, false, cond, ◌&&◌, ◌||◌, ◌==◌, ◌⊎◌, ⊎_elim, refl, sym, ap, ◌∙◌, if◌then◌else◌, arith}
-use Rattle.std.proofs.lemmas.Bool.{eqb-true}
+use Rattle.std.proofs.lemmas.Bool.{eqb-true, false_from_ne_true}
 use Rattle.mesh_base.specs.declared.ids.Corners.{Corners}
 use Rattle.mesh_base.specs.Mesh.{AreDifferent}
-use Rattle.mesh_base.specs.Sides.{follows, runs}
+use Rattle.mesh_base.specs.Sides.{follows}
 use Rattle.edit_base.specs.Edges.{opposite_vertex}
 use Rattle.mesh_base.proofs.Listed.{and_first, and_second, or_either}
 
@@ -48,22 +48,18 @@ round a b c u v = arc a b u v + arc b c u v + arc c a u v
 pub same_arcs : {a b c a' b' c' : ℕ} (u v : ℕ) → a' ≡ a → b' ≡ b → c' ≡ c → round a' b' c' u v ≡ round a b c u v
 same_arcs u v e f g = λ i. round (e i) (f i) (g i) u v
 
-pub is_not : (b : Bool) → (b ≡ true → ⊥) → b ≡ false
-is_not true never = absurd (never refl)
-is_not false never = refl
-
 pub first_way : (C : Corners) (a b : ℕ) → (C.first == a) ≡ true → opposite_vertex C a b ≡ C.third
 first_way C a b e = ap (λ t. if t then C.third else (if C.second == a then C.first else C.second)) e
 
 pub second_way : (C : Corners) (a b : ℕ) → AreDifferent C → (C.second == a) ≡ true → opposite_vertex C a b ≡ C.first
 second_way C a b different e =
-    ap (λ t. if t then C.third else (if C.second == a then C.first else C.second)) (is_not (C.first == a) (λ f. not_both C.first C.second a different.first_second f e))
+    ap (λ t. if t then C.third else (if C.second == a then C.first else C.second)) (false_from_ne_true (C.first == a) (λ f. not_both C.first C.second a different.first_second f e))
     ∙ ap (λ t. if t then C.first else C.second) e
 
 pub third_way : (C : Corners) (a b : ℕ) → AreDifferent C → (C.third == a) ≡ true → opposite_vertex C a b ≡ C.second
 third_way C a b different e =
-    ap (λ t. if t then C.third else (if C.second == a then C.first else C.second)) (is_not (C.first == a) (λ f. not_both C.third C.first a different.third_first e f))
-    ∙ ap (λ t. if t then C.first else C.second) (is_not (C.second == a) (λ f. not_both C.second C.third a different.second_third f e))
+    ap (λ t. if t then C.third else (if C.second == a then C.first else C.second)) (false_from_ne_true (C.first == a) (λ f. not_both C.third C.first a different.third_first e f))
+    ∙ ap (λ t. if t then C.first else C.second) (false_from_ne_true (C.second == a) (λ f. not_both C.second C.third a different.second_third f e))
 
 -- a face that runs a to b counts the steps a to b, b to its opposite vertex, and from there to a
 pub round_of : (C : Corners) (a b u v : ℕ) → AreDifferent C → follows C a b ≡ true → cond (follows C u v) 1 0 ≡ round a b (opposite_vertex C a b) u v

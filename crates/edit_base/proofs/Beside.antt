@@ -78,11 +78,11 @@ none_of x y u v apart = by_tests (x == u) (y == v) refl refl
     by_tests false false e f = refl
 
 pub not_both_ways : (C : Corners) (a b : ℕ) → AreDifferent C → follows C a b ≡ true → follows C b a ≡ true → ⊥
-not_both_ways C a b d forth back =
-    let turn = are_round C a b d forth in
+not_both_ways C a b d step step_back =
+    let turn = are_round C a b d step in
     let c = opposite_vertex C a b in
-    let count = round_of C a b b a d forth in
-    let one : ◌≡◌ {A = ℕ} (cond (follows C b a) 1 0) 1 = ap (λ t. cond t 1 0) back in
+    let count = round_of C a b b a d step in
+    let one : ◌≡◌ {A = ℕ} (cond (follows C b a) 1 0) 1 = ap (λ t. cond t 1 0) step_back in
     clash _ _ _ (sym one ∙ count) (none_of a b b a (inl turn.a_b)) (none_of b c b a (inr turn.c_a)) (none_of c a b a (inl (λ h. turn.b_c (sym h))))
   where
     clash : (x y z : ℕ) → 1 ≡ x + y + z → x ≡ 0 → y ≡ 0 → z ≡ 0 → ⊥

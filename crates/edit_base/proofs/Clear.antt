@@ -1,6 +1,6 @@
 -- Where no pair of a scaffold fails to do what is required, its motion is clear.
-use Rattle.std.proofs.Common.{◌≡◌, ℕ, ◌<◌, ◌≤◌, Bool, true, false, cond, not, List, [], ◌∷◌, Option, Some, None, refl, sym, subst, arith}
-use Rattle.std.proofs.lemmas.Bool.{false≢true}
+use Rattle.std.proofs.Common.{◌≡◌, ℕ, ◌<◌, ◌≤◌, Bool, true, false, cond, not, List, [], ◌∷◌, Option, Some, None, refl, subst, arith}
+use Rattle.std.proofs.lemmas.Bool.{not-false}
 use Rattle.std.specs.List.{find, AllByRecursion}
 use Rattle.std.specs.Option.{option_map}
 use Rattle.grid_base.specs.declared.Positions.{Positions}
@@ -29,15 +29,11 @@ pub no_name : {X Y : Type 0} (f : X → Y) (o : Option X) → option_map f o ≡
 no_name f (Some x) e = absurd cc
 no_name f None e = refl
 
-stands : (b : Bool) → not b ≡ false → b ≡ true
-stands true e = refl
-stands false e = absurd (false≢true (sym e))
-
 -- each pair is as required
 pub as_required : (meets : Positions → Bool) (s : Scaffold) (depth : ℕ) → IsSound s.mesh → first_failing meets s depth ≡ None → (p : Pair) → IsPair s.mesh p → is_as_required meets s depth p ≡ true
 as_required meets s depth sound none p is_pair =
     let found = not_found (λ q. not (is_as_required meets s depth q)) (pairs s.mesh) (no_name (λ q. q.name) (find (λ q. not (is_as_required meets s depth q)) (pairs s.mesh)) none) in
-    stands _ (listed s.mesh (λ q. not (is_as_required meets s depth q) ≡ false) sound found p is_pair)
+    not-false _ (listed s.mesh (λ q. not (is_as_required meets s depth q) ≡ false) sound found p is_pair)
 
 either_of : (b x y : Bool) → cond b x y ≡ true → (P : Type 0) → (x ≡ true → P) → (y ≡ true → P) → P
 either_of true x y e P f g = f e

@@ -1,7 +1,6 @@
 -- Where an edit is done no reason holds; and the edge of an edge's ends is that edge.
-use Rattle.std.proofs.Common.{◌≡◌, ◌≢◌, ℕ, Bool, true, false, not, ◌||◌, ◌==◌, min, max, List, ◌∷◌, Option, Some, None, refl, sym, arith}
+use Rattle.std.proofs.Common.{◌≡◌, ◌≢◌, ℕ, Bool, true, false, ◌||◌, min, max, List, ◌∷◌, Option, Some, None, refl, sym, arith}
 use Rattle.std.proofs.lemmas.Bool.{false≢true}
-use Rattle.std.proofs.lemmas.Bool.Decides.{nat_tests}
 use Rattle.edit_base.specs.declared.answers.Why.{Why}
 use Rattle.edit_base.specs.declared.answers.Change.{Change}
 use Rattle.edit_base.specs.declared.answers.Edit.TheVariants.{Done}
@@ -21,10 +20,6 @@ pub does_not_hold : (b : Bool) (why : Why) → reason_if b why ≡ None → b �
 does_not_hold true why e = absurd cc
 does_not_hold false why e = refl
 
-pub stands : (b : Bool) → not b ≡ false → b ≡ true
-stands true e = refl
-stands false e = absurd (false≢true (sym e))
-
 pub first_false : (a b : Bool) → (a || b) ≡ false → a ≡ false
 first_false true b e = e
 first_false false b e = refl
@@ -32,9 +27,6 @@ first_false false b e = refl
 pub second_false : (a b : Bool) → (a || b) ≡ false → b ≡ false
 second_false true b e = absurd (false≢true (sym e))
 second_false false b e = e
-
-pub apart_of : (x y : ℕ) → (x == y) ≡ false → x ≢ y
-apart_of x y e h = grind (arith, nat_tests)
 
 -- ---- the edge of an edge's ends is that edge
 ordered_min : (u v : ℕ) → min (min u v) (max u v) ≡ min u v

@@ -1,12 +1,21 @@
 -- What the call of an edit promises. `result` says what a done edit makes of a mesh, and `scaffold` on what it was tested.
-use Rattle.std.specs.Prelude.{⊤, IfSome, Option, Result, Ok, Err}
+use Rattle.std.specs.Prelude.{⊤, ◌≡◌, ℕ, IfSome, IfOk, IfErr, Option, Result, Ok, Err}
 use Rattle.grid_base.specs.declared.NoMemory.{NoMemory}
 use Rattle.edit_base.specs.declared.answers.Change.{Change}
+use Rattle.edit_base.specs.declared.answers.Why.{Why}
 use Rattle.edit_base.specs.declared.answers.Edit.{Edit}
 use Rattle.edit_base.specs.declared.answers.Edit.TheVariants.{Done, No}
 use Rattle.mesh_base.specs.Mesh.{Mesh}
 use Rattle.mesh_base.specs.Sides.{IsClosed}
 use Rattle.edit_base.specs.Scaffold.{Scaffold, motion_of, IsClearBut}
+
+-- where the answer is Ok, its value is this one
+abbrev pub OnOkIs : {A E : Type 0} → Result A E → A → Type 0
+OnOkIs result value = IfOk result (λ found. found ≡ value)
+
+-- where the answer is a reason, the edit is refused for it, to whatever depth it is tested
+abbrev pub OnErrRefuses : {A : Type 0} → Result A Why → (ℕ → Edit) → Type 0
+OnErrRefuses result answer = IfErr result (λ why. (depth : ℕ) → No why ≡ answer depth)
 
 -- the mesh that an answer leaves
 abbrev pub mesh_after : (Mesh → Change → Mesh) → Mesh → Edit → Mesh

@@ -1,5 +1,5 @@
 -- An edge with the two faces beside it, and changes that edits share.
-use Rattle.std.specs.Prelude.{⊤, ℕ, ◌==◌, ◌||◌, Bool, false, List, [], ◌∷◌, min, max, slice_index, if◌then◌else◌}
+use Rattle.std.specs.Prelude.{⊤, ℕ, ◌==◌, ◌&&◌, ◌||◌, Bool, false, List, [], ◌∷◌, min, max, nat_lt, slice_index, if◌then◌else◌}
 use Rattle.std.specs.Option.{unwrap_or}
 use Rattle.std.specs.List.{fold, list_any}
 use Rattle.std.specs.FinMap as finite
@@ -7,7 +7,8 @@ use Rattle.grid_base.specs.declared.Point.{Point}
 use Rattle.grid_base.specs.Triples.{Triple, plus, floor_mid_of}
 use Rattle.mesh_base.specs.declared.ids.Corners.{Corners}
 use Rattle.mesh_base.specs.Mesh.{Mesh, equal_up_to_rotation}
-use Rattle.mesh_base.specs.Sides.{faces_running}
+use Rattle.mesh_base.specs.Sides.{runs, faces_running}
+use Rattle.mesh_base.specs.Pairs.{is_edge}
 use Rattle.mesh_base.specs.Changes.{with_face, without_face, IsFresh}
 use Rattle.grid_base.specs.Points.{position_of, point_at}
 use Rattle.mesh_base.specs.Placements.{rest_positions}
@@ -33,14 +34,31 @@ pub record Edge : Type 0 where
 abbrev pub face_running : Mesh → ℕ → ℕ → ℕ
 face_running m u v = slice_index (faces_running m u v) 0
 
+-- the opposite vertex of that face
+abbrev pub opposite_beside : Mesh → ℕ → ℕ → ℕ
+opposite_beside m u v = opposite_vertex (corners_at m (face_running m u v)) u v
+
+-- a face runs u to v, and one back
+abbrev pub runs_both_ways : Mesh → ℕ → ℕ → Bool
+runs_both_ways m u v = nat_lt 0 (runs m u v) && nat_lt 0 (runs m v u)
+
+-- two ids, in any order, are the ends of an edge
+abbrev pub are_ends : Mesh → ℕ → ℕ → Bool
+are_ends m u v = is_edge m (min u v) (max u v)
+
 -- the edge of two ids in any order
 abbrev pub edge_of : Mesh → ℕ → ℕ → Edge
 edge_of m u v =
     let a = min u v in
     let b = max u v in
-    let left_face = face_running m a b in
-    let right_face = face_running m b a in
-    record { a = a; b = b; c = opposite_vertex (corners_at m left_face) a b; d = opposite_vertex (corners_at m right_face) b a; left_face = left_face; right_face = right_face }
+    record {
+      a = a;
+      b = b;
+      c = opposite_beside m a b;
+      d = opposite_beside m b a;
+      left_face = face_running m a b;
+      right_face = face_running m b a;
+    }
 
 -- the midpoint, each component rounded down
 abbrev pub floor_mid : Point → Point → Point

@@ -1,5 +1,5 @@
 -- The laws of edits, as statements.
-use Rattle.std.specs.Prelude.{◌≡◌, ◌↔◌, ℕ, Bool, List, Option}
+use Rattle.std.specs.Prelude.{◌≡◌, ◌↔◌, ℕ, Bool, true, List, Option}
 use Rattle.std.specs.List.{Contains}
 use Rattle.std.proofs.Common.{None}
 use Rattle.grid_base.specs.declared.Positions.{Positions}
@@ -10,6 +10,7 @@ use Rattle.mesh_base.specs.Mesh.{Mesh, IsSound}
 use Rattle.mesh_base.specs.Sides.{IsClosed}
 use Rattle.mesh_base.specs.Placements.{IsClearMesh}
 use Rattle.edit_base.specs.Scaffold.{Scaffold, motion_of, first_failing, IsClearBut}
+use Rattle.edit_base.specs.Edges.{Edge, edge_of, are_ends}
 use Rattle.edit_base.specs.Clauses.{MovesClear}
 use Rattle.edit_base.specs.Classes.{Linked, class_of}
 
@@ -17,6 +18,10 @@ use Rattle.edit_base.specs.Classes.{Linked, class_of}
 abbrev pub NoneFailingIsClear : (Positions → Bool) → Type 0
 NoneFailingIsClear meets =
     (s : Scaffold) (depth : ℕ) → IsSound s.mesh → first_failing meets s depth ≡ None → IsClearBut s.touch s.mesh (motion_of s)
+
+-- what holds of each edge of a sound and closed mesh, named by its two ends in any order
+abbrev pub OfEachEdge : (Mesh → Edge → Type 0) → Type 0
+OfEachEdge law = (m : Mesh) (u v : ℕ) → IsSound m → IsClosed m → are_ends m u v ≡ true → law m (edge_of m u v)
 
 -- an edit, by its answer
 abbrev pub Answer : Type 0

@@ -4,6 +4,7 @@ use Rattle.std.specs.Option.{option_map, unwrap_or}
 use Rattle.std.specs.List.{find, list_any}
 use Rattle.std.proofs.Common.{Option}
 use Rattle.grid_base.specs.declared.Positions.{Positions}
+use Rattle.grid_base.specs.Triples.{Triple}
 use Rattle.edit_base.specs.declared.scaffold.Touch.{Touch}
 use Rattle.edit_base.specs.declared.scaffold.Touch.TheVariants.{Never, Start, End}
 use Rattle.edit_base.specs.declared.scaffold.Move.{Move}
@@ -24,6 +25,10 @@ pub record Scaffold : Type 0 where
 -- the move of a vertex, if it is named
 abbrev pub move_of : List Move → ℕ → Option Move
 move_of moves v = find (λ move. move.v == v) moves
+
+-- the way of a vertex from where it stands to an end, in half units
+abbrev pub move_from_rest : Mesh → ℕ → Triple → Move
+move_from_rest m v end = record { v = v; start = rest_positions_doubled m v; end = end }
 
 -- the named vertices move, and each other one stays at twice its point
 abbrev pub motion_by : Mesh → List Move → Motion

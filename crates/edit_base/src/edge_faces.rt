@@ -2,7 +2,7 @@
 ghost use Rattle.std.specs.Prelude.{◌≡◌, ◌≤◌, ◌&&◌, ℕ, min, max, nat_lt, is_some, IfSome};
 ghost use Rattle.mesh_base.specs.Sides.{runs, IsClosed};
 ghost use Rattle.mesh_base.specs.Pairs.{is_edge, is_crowded};
-ghost use Rattle.edit_base.specs.Edges.{opposite_vertex, corners_at, face_running, edge_of};
+ghost use Rattle.edit_base.specs.Edges.{opposite_vertex, face_running, edge_of, opposite_beside, runs_both_ways, are_ends};
 
 use mesh_base::{Corners, FaceId, Surface, VertexId};
 use std::marker::Model;
@@ -66,7 +66,7 @@ struct FaceCorner {
 /// The first face that runs from `u` to `v`, with its opposite vertex.
 fn face_beside<S: Surface>(mesh: &S, u: VertexId, v: VertexId) -> Option<FaceCorner>
     ensures face { IfSome result (λ f. f.face ≡ face_running (S.mesh mesh.now) u v) }
-    ensures corner { IfSome result (λ f. f.corner ≡ opposite_vertex (corners_at (S.mesh mesh.now) (face_running (S.mesh mesh.now) u v)) u v) }
+    ensures corner { IfSome result (λ f. f.corner ≡ opposite_beside (S.mesh mesh.now) u v) }
     ensures some { is_some result ≡ nat_lt 0 (runs (S.mesh mesh.now) u v) }
 {
     let face = mesh.run_face(u, v, 0)?;
@@ -81,7 +81,7 @@ fn face_beside<S: Surface>(mesh: &S, u: VertexId, v: VertexId) -> Option<FaceCor
 fn beside_ordered<S: Surface>(mesh: &S, a: VertexId, b: VertexId) -> Option<EdgeFaces>
     requires { a ≤ b }
     ensures edge { IfSome result (λ e. e ≡ edge_of (S.mesh mesh.now) a b) }
-    ensures some { is_some result ≡ (nat_lt 0 (runs (S.mesh mesh.now) a b) && nat_lt 0 (runs (S.mesh mesh.now) b a)) }
+    ensures some { is_some result ≡ runs_both_ways (S.mesh mesh.now) a b }
 {
     let left_face = face_beside(mesh, a, b)?;
     let right_face = face_beside(mesh, b, a)?;
@@ -99,8 +99,8 @@ fn beside_ordered<S: Surface>(mesh: &S, a: VertexId, b: VertexId) -> Option<Edge
 /// where there is one each way; in a closed mesh that is where the two are an edge.
 pub fn edge_beside<S: Surface>(mesh: &S, u: VertexId, v: VertexId) -> Option<EdgeFaces>
     ensures edge { IfSome result (λ e. e ≡ edge_of (S.mesh mesh.now) u v) }
-    ensures some { IsClosed (S.mesh mesh.now) → is_some result ≡ is_edge (S.mesh mesh.now) (min u v) (max u v) }
-    ensures each_way { is_some result ≡ (nat_lt 0 (runs (S.mesh mesh.now) (min u v) (max u v)) && nat_lt 0 (runs (S.mesh mesh.now) (max u v) (min u v))) }
+    ensures some { IsClosed (S.mesh mesh.now) → is_some result ≡ are_ends (S.mesh mesh.now) u v }
+    ensures each_way { is_some result ≡ runs_both_ways (S.mesh mesh.now) (min u v) (max u v) }
 {
     if u <= v {
         beside_ordered(mesh, u, v)

@@ -1,14 +1,10 @@
 //! Laws of edits. Each is the contract of a function that does nothing.
 
-ghost use Rattle.std.specs.Prelude.{ℕ, Bool, true, ◌≡◌, min, max};
+ghost use Rattle.std.specs.Prelude.{Bool, ◌≡◌};
 ghost use Rattle.grid_base.specs.declared.Positions.{Positions};
 ghost use Rattle.grid_base.specs.SeparationTests.{IsExact};
-ghost use Rattle.mesh_base.specs.Mesh.{Mesh, IsSound};
-ghost use Rattle.mesh_base.specs.Sides.{IsClosed};
-ghost use Rattle.mesh_base.specs.Pairs.{is_edge};
-ghost use Rattle.edit_base.specs.Edges.{edge_of};
 ghost use Rattle.edit_base.specs.Beside.{IsBeside};
-ghost use Rattle.edit_base.specs.Laws.{NoneFailingIsClear, ClassesAreLinked};
+ghost use Rattle.edit_base.specs.Laws.{NoneFailingIsClear, ClassesAreLinked, OfEachEdge};
 
 /// Where no pair of a scaffold fails to do what is required of it, by an exact test of meeting, no pair meets at any fraction of
 /// the motion, but at the start, or the end, where two may touch there.
@@ -18,7 +14,7 @@ pub fn no_failing_pair_is_a_clear_motion()
 
 /// Beside an edge of a sound and closed mesh, named by its two ends in any order, are two faces, one each way.
 pub fn edges_have_two_faces()
-    ensures { (m : Mesh) (u v : ℕ) → IsSound m → IsClosed m → is_edge m (min u v) (max u v) ≡ true → IsBeside m (edge_of m u v) }
+    ensures { OfEachEdge IsBeside }
 {}
 
 /// A class of numbers, as a fan of faces is one, has those to which a chain leads whose neighbours touch, and no others.

@@ -15,7 +15,7 @@ use Rattle.edit_base.specs.declared.Move.{Move}
 use Rattle.edit_base.specs.Scaffold.{move_of}
 use Rattle.edit_base.specs.Edges.{with_faces, without_faces}
 use Rattle.edit_acts.proofs.Changed.{next_face-without_faces, points-without_faces, points-with_faces}
-use Rattle.edit_acts.proofs.FaceCorners.{edge_forth, edge_back}
+use Rattle.edit_acts.proofs.FaceCorners.{edge_of_step, edge_turned}
 use Rattle.edit_check.specs.Untouched.{IsUntouched, IsClearWhereUntouched}
 use Rattle.edit_check.specs.Agreeing.{AgreesWhereOld}
 
@@ -37,8 +37,8 @@ module _ (old new : Mesh) (moves : List Move) (sound : IsSound old) (agrees : Ag
       let side = untouched.old_edge in
       let there = agrees.faces side.face side.corners side.is_face side.is_old in
       ⊎_elim
-      (λ e. edge_forth old side.face side.corners p.name.a p.name.b there e)
-      (λ e. edge_back old p.name.b p.name.a (edge_forth old side.face side.corners p.name.b p.name.a there e))
+      (λ e. edge_of_step old side.face side.corners p.name.a p.name.b there e)
+      (λ e. edge_turned old p.name.b p.name.a (edge_of_step old side.face side.corners p.name.b p.name.a there e))
       side.side
 
   was_face : HasCorners old p.name.face p.corners

@@ -20,9 +20,9 @@ use Rattle.edit_base.specs.Reasons.{reason_if, first_reason, done_unless, is_ful
 use Rattle.edit_base.specs.Scaffold.{first_failing}
 use Rattle.edit_base.specs.Edges.{doubles_a_face}
 use Rattle.edit_collapse.specs.Collapse.{are_both_solid, collapse_mesh, collapse_point, collapse_scaffold, joined_faces}
-use Rattle.edit_collapse.specs.Answer.{collapse_answer}
+use Rattle.edit_collapse.specs.Answer.{collapse_answer, answer_of}
 use Rattle.edit_base.proofs.Beside.{beside_of}
-use Rattle.edit_collapse.specs.Tried.{answer_of, MayBeTried}
+use Rattle.edit_collapse.specs.Tried.{MayBeTried}
 
 -- the answer by its tests
 abbrev answer_by : (edge solid doubled full : Bool) → Option PairName → Mesh → ℕ → ℕ → Edit

@@ -19,16 +19,13 @@ use Rattle.mesh_base.specs.Changes.{without_vertex, corner_list}
 use Rattle.mesh_base.proofs.Listed.{all_filter, at_key, running_face, and_first, and_second, or_either}
 use Rattle.mesh_base.proofs.ListedPairs.{all_weaker}
 use Rattle.mesh_base.proofs.Finite.{live_after_remove, live_but_removed}
-use Rattle.mesh_base.proofs.Tests.{or_first, or_second, both_ways}
+use Rattle.mesh_base.proofs.Tests.{or_first, or_second, both_ways, turned_test}
 use Rattle.edit_collapse.specs.Collapse.{joined_faces, has_face, without_bare}
 use Rattle.edit_collapse.proofs.CollapseMesh.{dropped_faces, dropped_next, has_face_of}
 use Rattle.edit_collapse.proofs.JoinedFaces.{joined, joined_solid, lacks_b}
 use Rattle.edit_collapse.specs.Tried.{corners_near, others_than, without_if_bare}
 use Rattle.edit_collapse.proofs.Acts.{faces_kept_at, each_at, one_stays}
 use Rattle.edit_collapse.proofs.Three.{three_cut, two_stays}
-
-turned_tests : (x y : ℕ) → (x == y) ≡ (y == x)
-turned_tests x y = grind (arith, nat_tests)
 
 -- the list has the number
 abbrev has : List ℕ → ℕ → Bool
@@ -44,14 +41,14 @@ got_dropped : (vs : List ℕ) (n : Mesh) (v : ℕ) → finite.get (fold without_
 got_dropped [] n v = refl
 got_dropped (w ∷ vs) n v =
     got_dropped vs (without_vertex n w) v
-    ∙ ap (λ o. cond (has vs v) None o) (get-remove nat_cmp_total n.points w v ∙ ap (λ t. cond t None (finite.get n.points v)) (unsigned_tied v w ∙ turned_tests v w))
+    ∙ ap (λ o. cond (has vs v) None o) (get-remove nat_cmp_total n.points w v ∙ ap (λ t. cond t None (finite.get n.points v)) (unsigned_tied v w ∙ turned_test v w))
     ∙ both_dropped (w == v) (has vs v) (finite.get n.points v)
 
 marks_dropped : (vs : List ℕ) (n : Mesh) (v : ℕ) → finite.get (fold without_vertex n vs).solid v ≡ cond (has vs v) None (finite.get n.solid v)
 marks_dropped [] n v = refl
 marks_dropped (w ∷ vs) n v =
     marks_dropped vs (without_vertex n w) v
-    ∙ ap (λ o. cond (has vs v) None o) (get-remove nat_cmp_total n.solid w v ∙ ap (λ t. cond t None (finite.get n.solid v)) (unsigned_tied v w ∙ turned_tests v w))
+    ∙ ap (λ o. cond (has vs v) None o) (get-remove nat_cmp_total n.solid w v ∙ ap (λ t. cond t None (finite.get n.solid v)) (unsigned_tied v w ∙ turned_test v w))
     ∙ both_dropped (w == v) (has vs v) (finite.get n.solid v)
 
 same_faces_once : (n : Mesh) (w : ℕ) → (without_if_bare n w).faces ≡ n.faces
@@ -87,7 +84,7 @@ got_once : (n : Mesh) (w v : ℕ) → finite.get (without_if_bare n w).points v 
 got_once n w v = by_tests (has_face n w) refl (finite.get n.points w) refl
   where
     removed : finite.get (without_vertex n w).points v ≡ cond (w == v) None (finite.get n.points v)
-    removed = get-remove nat_cmp_total n.points w v ∙ ap (λ t. cond t None (finite.get n.points v)) (unsigned_tied v w ∙ turned_tests v w)
+    removed = get-remove nat_cmp_total n.points w v ∙ ap (λ t. cond t None (finite.get n.points v)) (unsigned_tied v w ∙ turned_test v w)
 
     by_tests : (t : Bool) → has_face n w ≡ t → (o : Option Point) → finite.get n.points w ≡ o → finite.get (if not t && is_some o then without_vertex n w else n).points v ≡ cond ((w == v) && not (has_face n v)) None (finite.get n.points v)
     by_tests true f o e = rests n w v (finite.get n.points) (w == v) refl true (λ same. ap (has_face n) (sym (eqb-true w v same)) ∙ f) (λ same. refl)
@@ -113,7 +110,7 @@ mark_once : (n : Mesh) (w v : ℕ) → AreMarksLive n → finite.get (without_if
 mark_once n w v live = by_tests (has_face n w) refl (finite.get n.points w) refl
   where
     removed : finite.get (without_vertex n w).solid v ≡ cond (w == v) None (finite.get n.solid v)
-    removed = get-remove nat_cmp_total n.solid w v ∙ ap (λ t. cond t None (finite.get n.solid v)) (unsigned_tied v w ∙ turned_tests v w)
+    removed = get-remove nat_cmp_total n.solid w v ∙ ap (λ t. cond t None (finite.get n.solid v)) (unsigned_tied v w ∙ turned_test v w)
 
     no_mark : finite.get n.points w ≡ None → finite.get n.solid w ≡ None
     no_mark none = by_answer (finite.get n.solid w) refl
@@ -263,12 +260,12 @@ module _ (m : Mesh) (a b : ℕ) (sound : IsSound m) (closed : IsClosed m) (apart
   -- each end is near the other
   ends_near : (has near_first b ≡ true) × (has near_second a ≡ true)
   ends_near =
-      let face = running_face m a b (forth (runs m a b) (runs m b a) edge (closed a b)) in
+      let face = running_face m a b (first_runs (runs m a b) (runs m b a) edge (closed a b)) in
       let ends = held_ends (face.0).1 a b face.1 in
       (near_has m a b (face.0).0 (face.0).1 face.2 ends.0 ends.1, near_has m b a (face.0).0 (face.0).1 face.2 ends.1 ends.0)
     where
-      forth : (x y : ℕ) → nat_lt 0 (x + y) ≡ true → x ≡ y → 0 < x
-      forth x y e same = grind (arith, nat_tests)
+      first_runs : (x y : ℕ) → nat_lt 0 (x + y) ≡ true → x ≡ y → 0 < x
+      first_runs x y e same = grind (arith, nat_tests)
 
   -- the two lists of vertices that go are one
   one_list : (v : ℕ) → ((has near_first v || has near_second v) && not (has_face three v)) ≡ test v
@@ -323,7 +320,7 @@ module _ (m : Mesh) (a b : ℕ) (sound : IsSound m) (closed : IsClosed m) (apart
 
   keys_have : (v : ℕ) (ks : List ℕ) → has ks v ≡ list_any (eq_by_cmp nat_cmp v) ks
   keys_have v [] = refl
-  keys_have v (k ∷ ks) = λ i. (turned_tests k v ∙ sym (unsigned_tied v k)) i || keys_have v ks i
+  keys_have v (k ∷ ks) = λ i. (turned_test k v ∙ sym (unsigned_tied v k)) i || keys_have v ks i
 
   -- only what is there goes
   only_there : {A : Type 0} (t : Bool) (o : Option A) (u : Bool) → (is_some o ≡ true → u ≡ true) → cond (t && u) None o ≡ cond t None o

@@ -18,7 +18,7 @@ use Rattle.edit_base.specs.Scaffold.{joins_contacts}
 use Rattle.edit_base.specs.Edges.{renamed}
 use Rattle.edit_collapse.specs.Collapse.{joined_faces, collapse_mesh}
 use Rattle.edit_acts.proofs.Exchanged.{Meets-exchanged}
-use Rattle.edit_acts.proofs.FaceCorners.{step_one, step_two, step_three, steps_of, either_way, edge_forth, edge_back}
+use Rattle.edit_acts.proofs.FaceCorners.{step_one, step_two, step_three, steps_of, either_way, edge_of_step, edge_turned}
 use Rattle.edit_collapse.proofs.Carried.{moved, tested, moved_either, moved_stays, moved_goes, which_corner}
 use Rattle.edit_collapse.proofs.Joined.{Stage, first_held, second_held, third_held}
 use Rattle.edit_collapse.proofs.JoinedFaces.{is_renamed, joined}
@@ -92,7 +92,7 @@ module _ (m : Mesh) (a b : ℕ) (at : Point) (sound : IsSound m) (closed : IsClo
       record {
         from = before.from;
         to = before.to;
-        edge = edge_forth m old.face old.from before.from before.to old.there before.step;
+        edge = edge_of_step m old.face old.from before.from before.to old.there before.step;
         goes_from = before.goes_from;
         goes_to = before.goes_to;
         face = (found.0).0;
@@ -107,7 +107,7 @@ module _ (m : Mesh) (a b : ℕ) (at : Point) (sound : IsSound m) (closed : IsClo
       (λ some. let e = old_step y x some in record {
         from = e.to;
         to = e.from;
-        edge = edge_back m e.from e.to e.edge;
+        edge = edge_turned m e.from e.to e.edge;
         goes_from = e.goes_to;
         goes_to = e.goes_from;
         face = e.face;
@@ -208,7 +208,7 @@ module _ (m : Mesh) (a b : ℕ) (at : Point) (sound : IsSound m) (closed : IsClo
         let two : e.from ≢ e.to = λ h. less_apart p.name.a p.name.b is_pair.ordered (sym e.goes_from ∙ ap (moved b a) h ∙ e.goes_to) in
         ⊎_elim
         (λ less. never e.from e.to old.face k less e.edge old.there not_x not_y met)
-        (λ more. never e.to e.from old.face k more (edge_back m e.from e.to e.edge) old.there not_y not_x (Meets-exchanged _ _ _ _ _ met))
+        (λ more. never e.to e.from old.face k more (edge_turned m e.from e.to e.edge) old.there not_y not_x (Meets-exchanged _ _ _ _ _ met))
         (either_order e.from e.to two)
       where
         less_apart : (x y : ℕ) → x < y → x ≢ y

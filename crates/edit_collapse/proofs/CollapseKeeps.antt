@@ -1,5 +1,6 @@
 -- A done collapse leaves a sound, closed and clear mesh; so does one to another point, on the same conditions.
 use Rattle.std.proofs.Common.{◌≡◌, ◌≢◌, ◌⊎◌, inl, inr, ℕ, Bool, true, false, not, ◌==◌, cond, min, max, [], ◌∷◌, Some, None, if◌then◌else◌, refl, sym, ap, subst, ◌∙◌, arith}
+use Rattle.std.proofs.lemmas.Bool.{not-false}
 use Rattle.std.proofs.lemmas.Bool.Decides.{nat_tests}
 use Rattle.std.specs.Option.{option_map, unwrap_or}
 use Rattle.grid_base.specs.declared.Point.{Point}
@@ -31,7 +32,7 @@ use Rattle.edit_collapse.specs.Answer.{collapse_answer}
 use Rattle.edit_base.specs.Laws.{StaysSound, StaysClosed, StaysClear}
 use Rattle.edit_base.proofs.Beside.{beside_of}
 use Rattle.edit_base.proofs.Clear.{as_required, no_name}
-use Rattle.edit_base.proofs.ReasonLaws.{done_is, none_first, does_not_hold, stands, second_false}
+use Rattle.edit_base.proofs.ReasonLaws.{done_is, none_first, does_not_hold, second_false}
 use Rattle.edit_collapse.proofs.CollapseMesh.{collapse_is_closed, collapse_is_sound}
 use Rattle.edit_collapse.proofs.CollapseClear.{collapse_is_clear}
 
@@ -122,7 +123,7 @@ module _ (meets : Positions → Bool) (u v depth : ℕ) (m : Mesh) (change : Cha
       let one = none_first (reason_if (is_full scaffold.mesh result) Full) hits two.1 in
       let last = none_first (hit_in meets scaffold depth) [] one.1 in
       record {
-        edge = stands (is_edge m a b) (does_not_hold (not (is_edge m a b)) NoEdge four.0);
+        edge = not-false (is_edge m a b) (does_not_hold (not (is_edge m a b)) NoEdge four.0);
         may_move = does_not_hold (are_both_solid m a b) Solid three.0;
         undoubled = does_not_hold (doubles_a_face (joined_faces m a b)) Doubled two.0;
         fits = second_false (is_over_limits scaffold.mesh) (is_over_limits result) (does_not_hold (is_full scaffold.mesh result) Full one.0);

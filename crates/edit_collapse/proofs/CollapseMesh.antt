@@ -1,5 +1,6 @@
 -- What a collapse leaves: a closed and sound mesh, whatever the point at which the edge's first end is put.
 use Rattle.std.proofs.Common.{◌≡◌, ◌≢◌, ◌⊎◌, inr, ⊎_elim, ℕ, ◌<◌, ◌≤◌, Bool, true, false, cond, not, ◌&&◌, ◌||◌, ◌==◌, List, [], ◌∷◌, length, Some, None, IsSome, is_some, slice_get, map, if◌then◌else◌, refl, sym, ap, subst, ◌∙◌, arith}
+use Rattle.mesh_base.proofs.Tests.{untied}
 use Rattle.std.proofs.lemmas.Bool.{false≢true}
 use Rattle.std.proofs.lemmas.Bool.Decides.{nat_tests}
 use Rattle.std.specs.List.{filter, fold, AllByRecursion}
@@ -36,9 +37,6 @@ dropped_next (v ∷ vs) n = dropped_next vs (without_vertex n v)
 pub dropped_live : (vs : List ℕ) (n : Mesh) (v : ℕ) → IsLiveVertex (fold without_vertex n vs) v → IsLiveVertex n v
 dropped_live [] n v live = live
 dropped_live (w ∷ vs) n v live = (live_after_remove n.points w v (dropped_live vs (without_vertex n w) v live)).1
-
-untied : (x y : ℕ) → x ≢ y → (x == y) ≡ false
-untied x y k = grind (arith, nat_tests)
 
 -- a vertex that is left stays where it is
 pub dropped_points : (vs : List ℕ) (n : Mesh) (v : ℕ) → IsLiveVertex (fold without_vertex n vs) v → finite.get (fold without_vertex n vs).points v ≡ finite.get n.points v

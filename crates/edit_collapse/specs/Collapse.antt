@@ -12,9 +12,9 @@ use Rattle.edit_base.specs.declared.scaffold.Touch.TheVariants.{End}
 use Rattle.mesh_base.specs.Mesh.{Mesh, is_solid, equal_up_to_rotation}
 use Rattle.mesh_base.specs.Sides.{has_corner, faces_where, faces_at}
 use Rattle.mesh_base.specs.Changes.{without_vertex, with_point, with_solid}
-use Rattle.mesh_base.specs.Placements.{rest_positions_doubled, point_of}
+use Rattle.mesh_base.specs.Placements.{point_of}
 use Rattle.edit_base.specs.Edges.{floor_mid, corners_from, without_faces, with_all_renamed}
-use Rattle.edit_base.specs.Scaffold.{Scaffold}
+use Rattle.edit_base.specs.Scaffold.{Scaffold, move_from_rest}
 
 -- First act: the faces that hold both are dropped.
 abbrev pub without_shared : Mesh → ℕ → ℕ → Mesh
@@ -99,7 +99,7 @@ collapse_scaffold m a b at =
     let end = times 2 (position_of at) in
     record {
       mesh = m;
-      moves = record { v = a; start = rest_positions_doubled m a; end = end } ∷ record { v = b; start = rest_positions_doubled m b; end = end } ∷ [];
+      moves = move_from_rest m a end ∷ move_from_rest m b end ∷ [];
       touch = End;
       together = a ∷ b ∷ [];
     }

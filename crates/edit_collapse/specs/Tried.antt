@@ -1,39 +1,25 @@
 -- When a collapse is tried, and what is left of the faces at its end.
-use Rattle.std.specs.Prelude.{◌≡◌, ℕ, zero, suc, ◌+◌, ◌==◌, is_some, if◌then◌else◌, ◌&&◌, not, false, true, List, ◌∷◌, [], slice_get, Bool}
+use Rattle.std.specs.Prelude.{◌≡◌, ◌≢◌, ℕ, zero, suc, ◌+◌, ◌==◌, is_some, if◌then◌else◌, ◌&&◌, not, false, true, List, ◌∷◌, [], slice_get, Bool}
 use Rattle.std.specs.Option.{option_map, option_map_or, unwrap_or}
 use Rattle.std.proofs.Common.{Option}
 use Rattle.std.specs.List.{filter, filter_map, flat_map, find, list_any}
 use Rattle.std.specs.FinMap as finite
-use Rattle.grid_base.specs.declared.Positions.{Positions}
 use Rattle.mesh_base.specs.declared.ids.Corners.{Corners}
-use Rattle.mesh_base.specs.Mesh.{Mesh}
+use Rattle.mesh_base.specs.Mesh.{Mesh, IsSound}
 use Rattle.mesh_base.specs.Sides.{has_corner, faces_at}
 use Rattle.mesh_base.specs.Pairs.{is_edge}
-use Rattle.edit_base.specs.declared.answers.Why.TheVariants.{NoEdge, Solid, Full, Doubled}
-use Rattle.edit_base.specs.declared.answers.Change.TheVariants.{Collapse}
-use Rattle.edit_base.specs.declared.answers.Edit.{Edit}
 use Rattle.edit_base.specs.Edges.{doubles_a_face, renamed, with_renamed}
 use Rattle.mesh_base.specs.Changes.{without_face, without_vertex, corner_list}
-use Rattle.edit_base.specs.Reasons.{reason_if, first_reason, done_unless, is_full, hit_in}
-use Rattle.edit_collapse.specs.Collapse.{are_both_solid, has_face, collapse_mesh, collapse_point, collapse_scaffold, joined_faces, are_opposite, without_shared, with_joined}
-
--- what a collapse answers, by its ends in order
-abbrev pub answer_of : (Positions → Bool) → Mesh → ℕ → ℕ → ℕ → Edit
-answer_of meets m a b depth =
-    let at = collapse_point m a b in
-    let scaffold = collapse_scaffold m a b at in
-    done_unless
-    (first_reason (
-    reason_if (not (is_edge m a b)) NoEdge
-    ∷ reason_if (are_both_solid m a b) Solid
-    ∷ reason_if (doubles_a_face (joined_faces m a b)) Doubled
-    ∷ reason_if (is_full scaffold.mesh (collapse_mesh m a b at)) Full
-    ∷ hit_in meets scaffold depth ∷ []))
-    (Collapse a b at)
+use Rattle.edit_base.specs.Reasons.{is_full}
+use Rattle.edit_collapse.specs.Collapse.{are_both_solid, has_face, collapse_mesh, collapse_point, joined_faces, are_opposite, without_shared, with_joined}
 
 -- the faces at the vertex that is left, after the third act
 abbrev pub left_at : Mesh → ℕ → ℕ → List (ℕ × Corners)
 left_at m a b = filter (λ e. has_corner e.1 a) (finite.entries (joined_faces m a b).faces)
+
+-- after the third act no two faces are equal up to rotation, which the faces at its end tell
+abbrev pub TellsDoubled : List (ℕ × Corners) → Bool → Type 0
+TellsDoubled left answer = (m : Mesh) (a b : ℕ) → IsSound m → a ≢ b → left ≡ left_at m a b → answer ≡ doubles_a_face (joined_faces m a b)
 
 -- the ends are an edge and not both solid, no face is doubled, and no limit passed
 pub record MayBeTried (m : Mesh) (a b : ℕ) : Type 0 where

@@ -1,19 +1,19 @@
 //! The collapse itself: its reasons, its test and its changes under a mark.
-ghost use Rattle.std.specs.Prelude.{◌≡◌, ◌≢◌, ◌≤◌, IfOk, OnOk, OnErr, true};
+ghost use Rattle.std.specs.Prelude.{◌≡◌, ◌≢◌, ◌≤◌, IfOk, OnOk, OnErr};
 ghost use Rattle.grid_base.specs.declared.TheConstants.{HALF_MAX};
 ghost use Rattle.grid_base.specs.Triples.{IsWithin};
 ghost use Rattle.grid_decided.specs.Decided.{meets_exactly};
 ghost use Rattle.mesh_base.specs.Sides.{IsClosed};
 ghost use Rattle.mesh_base.specs.Pairs.{is_edge};
-ghost use Rattle.mesh_base.specs.Placements.{IsClearMesh, rest_positions_doubled};
+ghost use Rattle.mesh_base.specs.Placements.{IsClearMesh};
 ghost use Rattle.mesh_base.specs.Kept.{BeginsWith};
 ghost use Rattle.edit_collapse.specs.Collapse.{are_both_solid, collapse_mesh, collapse_point, collapse_scaffold};
-ghost use Rattle.edit_base.specs.Scaffold.{first_failing};
-ghost use Rattle.edit_collapse.specs.Answer.{collapse_answer};
-ghost use Rattle.edit_base.specs.Clauses.{mesh_after_call, MovesClearOnDone};
+ghost use Rattle.edit_base.specs.Scaffold.{first_failing, move_from_rest};
+ghost use Rattle.edit_collapse.specs.Answer.{answer_of, collapse_answer};
+ghost use Rattle.edit_base.specs.Clauses.{mesh_after_call, MovesClearOnDone, OnOkIs};
 ghost use Rattle.edit_collapse.specs.Done.{collapse_result, collapse_tested_on};
 ghost use Rattle.edit_check.specs.Untouched.{MoveFits};
-ghost use Rattle.edit_collapse.specs.Tried.{answer_of, left_at, MayBeTried};
+ghost use Rattle.edit_collapse.specs.Tried.{left_at, MayBeTried};
 
 use crate::cancelling::LeftFaces;
 use crate::joining::{apply_collapse, is_doubled, is_over, left_at};
@@ -46,7 +46,7 @@ fn collapse_point<S: Surface>(mesh: &S, a: VertexId, b: VertexId) -> Point
 /// The move of a vertex from where it stands.
 fn move_to<S: Surface>(mesh: &S, v: VertexId, end: Wide) -> Move
     requires { IsWithin HALF_MAX end }
-    ensures value { result ≡ record { v = v; start = rest_positions_doubled (S.mesh mesh.now) v; end = end } }
+    ensures value { result ≡ move_from_rest (S.mesh mesh.now) v end }
     ensures fits { MoveFits result }
 {
     Move {
@@ -67,7 +67,8 @@ fn first_hit<S: Surface>(
 ) -> Result<Option<PairName>, NoMemory>
     requires clear { IsClearMesh (S.mesh mesh.now) }
     requires depth { depth ≤ DEPTH_MAX }
-    ensures { IfOk result (λ found. found ≡ first_failing meets_exactly (collapse_scaffold (S.mesh mesh.now) a b at) depth) }
+    ensures { OnOkIs result
+        (first_failing meets_exactly (collapse_scaffold (S.mesh mesh.now) a b at) depth) }
 {
     let end = at.doubled();
     let first = move_to(mesh, a, end);
@@ -123,7 +124,7 @@ fn collapse_or_leave<S: Surface>(
     requires apart { a ≢ b }
     requires tried { MayBeTried (S.mesh mesh.old) a b }
     requires left { left.now ≡ left_at (S.mesh mesh.old) a b }
-    ensures answer { IfOk result (λ edit. edit ≡ answer_of meets_exactly (S.mesh mesh.old) a b depth) }
+    ensures answer { OnOkIs result (answer_of meets_exactly (S.mesh mesh.old) a b depth) }
     ensures mesh { S.mesh mesh.new ≡ mesh_after_call collapse_result (S.mesh mesh.old) result }
     ensures marks { BeginsWith (S.kept mesh.new) (S.kept mesh.old) }
 {
@@ -150,7 +151,7 @@ fn collapse_ordered<S: Surface>(
     requires depth { depth ≤ DEPTH_MAX }
     requires ordered { a ≤ b }
     ensures ordered { a ≤ b }
-    ensures answer { IfOk result (λ edit. edit ≡ answer_of meets_exactly (S.mesh mesh.old) a b depth) }
+    ensures answer { OnOkIs result (answer_of meets_exactly (S.mesh mesh.old) a b depth) }
     ensures mesh { S.mesh mesh.new ≡ mesh_after_call collapse_result (S.mesh mesh.old) result }
     ensures marks { BeginsWith (S.kept mesh.new) (S.kept mesh.old) }
 {
@@ -195,13 +196,14 @@ pub fn collapse<S: Surface>(
     requires closed { IsClosed (S.mesh mesh.old) }
     requires clear { IsClearMesh (S.mesh mesh.old) }
     requires depth { depth ≤ DEPTH_MAX }
-    ensures answer { IfOk result (λ edit. edit ≡ collapse_answer meets_exactly (S.mesh mesh.old) a b depth) }
+    ensures answer { OnOkIs result (collapse_answer meets_exactly (S.mesh mesh.old) a b depth) }
     ensures mesh { S.mesh mesh.new ≡ mesh_after_call collapse_result (S.mesh mesh.old) result }
     // The mesh stays closed and clear.
     ensures closed { IsClosed (S.mesh mesh.new) }
     ensures clear { IsClearMesh (S.mesh mesh.new) }
     // Until both ends are at the point nothing meets.
-    ensures motion { IfOk result (λ edit. MovesClearOnDone collapse_tested_on (S.mesh mesh.old) edit) }
+    ensures motion { IfOk result
+        (λ edit. MovesClearOnDone collapse_tested_on (S.mesh mesh.old) edit) }
     ensures marks { BeginsWith (S.kept mesh.new) (S.kept mesh.old) }
 {
     if a <= b {

@@ -1,15 +1,16 @@
 //! The faces at the joined vertex, and the changes of a collapse.
-ghost use Rattle.std.specs.Prelude.{◌≡◌, ◌≤◌, ◌≢◌, not, IsTrue, IfOk, OnOk, length, ℕ};
+ghost use Rattle.std.specs.Prelude.{◌≡◌, ◌≤◌, ◌≢◌, not, IsTrue, IfOk, OnOk, length};
 ghost use Rattle.std.specs.List.{filter, fold};
 ghost use Rattle.grid_base.specs.declared.TheConstants.{ID_MAX, FACES_MAX};
-ghost use Rattle.mesh_base.specs.Mesh.{Mesh, IsSound, IsLiveVertex};
+ghost use Rattle.mesh_base.specs.Mesh.{IsLiveVertex};
 ghost use Rattle.mesh_base.specs.Sides.{IsClosed, faces_at};
 ghost use Rattle.mesh_base.specs.Changes.{without_face, IsFresh};
 ghost use Rattle.mesh_base.specs.Kept.{BeginsWith};
-ghost use Rattle.edit_base.specs.Edges.{renamed, corners_at, doubles_a_face, without_faces};
+ghost use Rattle.edit_base.specs.Edges.{renamed, corners_at, without_faces};
 ghost use Rattle.edit_collapse.specs.Collapse.{joined_faces, has_solid_end, collapse_mesh, collapse_point, placed, placed_if_left};
 ghost use Rattle.edit_base.specs.Reasons.{is_full};
-ghost use Rattle.edit_collapse.specs.Tried.{only_at, joined_at, left_at, MayBeTried, has_id_in, with_joined_or_gone, corners_near, others_than, without_if_bare};
+ghost use Rattle.edit_collapse.specs.Tried.{only_at, joined_at, left_at, MayBeTried, has_id_in, with_joined_or_gone, corners_near, others_than, without_if_bare, TellsDoubled};
+ghost use Rattle.edit_base.specs.Clauses.{OnOkIs};
 
 use crate::cancelling::{LeftFaces, cancelled, has_id, repeats};
 use edit_acts::{make_face, renamed};
@@ -24,7 +25,7 @@ fn only_at<S: Surface>(
     v: VertexId,
     other: VertexId,
 ) -> Result<LeftFaces, NoMemory>
-    ensures faces { IfOk result (λ faces. faces ≡ only_at (S.mesh mesh.now) v other) }
+    ensures faces { OnOkIs result (only_at (S.mesh mesh.now) v other) }
     ensures few { IfOk result (λ faces. length faces ≤ FACES_MAX) }
 {
     let mut ids = Vec::new(alloc);
@@ -50,7 +51,7 @@ fn joined_at<S: Surface>(
     b: VertexId,
 ) -> Result<LeftFaces, NoMemory>
     requires { a ≢ b }
-    ensures { IfOk result (λ faces. faces ≡ joined_at (S.mesh mesh.now) a b) }
+    ensures { OnOkIs result (joined_at (S.mesh mesh.now) a b) }
 {
     let mut faces = only_at(alloc, mesh, a, b)?;
     let joining = only_at(alloc, mesh, b, a)?;
@@ -70,7 +71,7 @@ pub(crate) fn left_at<S: Surface>(
     b: VertexId,
 ) -> Result<LeftFaces, NoMemory>
     requires { a ≢ b }
-    ensures { IfOk result (λ left. left ≡ left_at (S.mesh mesh.now) a b) }
+    ensures { OnOkIs result (left_at (S.mesh mesh.now) a b) }
 {
     let faces = joined_at(alloc, mesh, a, b)?;
     cancelled(alloc, faces)
@@ -78,7 +79,7 @@ pub(crate) fn left_at<S: Surface>(
 
 /// Whether two faces would be equal up to rotation after the third act. Only those at the joined vertex can be.
 pub(crate) fn is_doubled(left: &LeftFaces) -> bool
-    ensures { (m : Mesh) (a b : ℕ) → IsSound m → a ≢ b → left.now ≡ left_at m a b → result ≡ doubles_a_face (joined_faces m a b) }
+    ensures { TellsDoubled left.now result }
 {
     repeats(left.as_slice())
 }
@@ -92,7 +93,8 @@ pub(crate) fn is_over<S: Surface>(
     b: VertexId,
 ) -> Result<bool, NoMemory>
     requires apart { a ≢ b }
-    ensures { IfOk result (λ over. over ≡ is_full (S.mesh mesh.now) (collapse_mesh (S.mesh mesh.now) a b (collapse_point (S.mesh mesh.now) a b))) }
+    ensures { let m = S.mesh mesh.now in
+        OnOkIs result (is_full m (collapse_mesh m a b (collapse_point m a b))) }
 {
     let joining = only_at(alloc, mesh, b, a)?;
     Ok(u64::from(mesh.next_face()) + joining.len() as u64 > u64::from(ID_MAX) + 1)
@@ -116,7 +118,9 @@ fn drop_gone<S: Surface>(
     a: VertexId,
     left: &LeftFaces,
 ) -> Result<(), NoMemory>
-    ensures made { OnOk result (S.mesh mesh.new ≡ without_faces (S.mesh mesh.old) (filter (λ f. not (has_id_in left.now f)) (faces_at (S.mesh mesh.old) a))) }
+    ensures made { let m = S.mesh mesh.old in
+        let gone = filter (λ f. not (has_id_in left.now f)) (faces_at m a) in
+        OnOk result (S.mesh mesh.new ≡ without_faces m gone) }
     ensures marks { BeginsWith (S.kept mesh.new) (S.kept mesh.old) }
 {
     let mut ids = Vec::new(alloc);
@@ -140,8 +144,10 @@ fn join_face<S: Surface>(
 ) -> Result<(), NoMemory>
     requires room { (S.mesh mesh.old).next_face ≤ ID_MAX }
     requires ends { a ≢ b }
-    requires fresh { IsTrue (has_id_in left.now (S.mesh mesh.old).next_face) → IsFresh (without_face (S.mesh mesh.old) f) (renamed b a (corners_at (S.mesh mesh.old) f)) }
-    ensures made { OnOk result (S.mesh mesh.new ≡ with_joined_or_gone b a left.now (S.mesh mesh.old) f) }
+    requires fresh { let m = S.mesh mesh.old in IsTrue (has_id_in left.now m.next_face) →
+        IsFresh (without_face m f) (renamed b a (corners_at m f)) }
+    ensures made { OnOk result
+        (S.mesh mesh.new ≡ with_joined_or_gone b a left.now (S.mesh mesh.old) f) }
     ensures marks { BeginsWith (S.kept mesh.new) (S.kept mesh.old) }
 {
     if let Some(list) = mesh.corners(f) {
@@ -187,7 +193,7 @@ fn corners_near<S: Surface>(
     mesh: &S,
     v: VertexId,
 ) -> Result<Items<VertexId>, NoMemory>
-    ensures { IfOk result (λ near. near ≡ corners_near (S.mesh mesh.now) v) }
+    ensures { OnOkIs result (corners_near (S.mesh mesh.now) v) }
 {
     let mut ids = Vec::new(alloc);
     mesh.faces_at(v, &mut ids)?;
@@ -222,7 +228,8 @@ fn drop_bare<S: Surface>(
     near: &[VertexId],
     but: VertexId,
 ) -> Result<(), NoMemory>
-    ensures made { OnOk result (S.mesh mesh.new ≡ fold without_if_bare (S.mesh mesh.old) (others_than but near.now)) }
+    ensures made { OnOk result
+        (S.mesh mesh.new ≡ fold without_if_bare (S.mesh mesh.old) (others_than but near.now)) }
     ensures marks { BeginsWith (S.kept mesh.new) (S.kept mesh.old) }
 {
     for v in near {

@@ -1,5 +1,6 @@
 -- Solid vertices stay in each edit.
 use Rattle.std.proofs.Common.{◌≡◌, ◌≢◌, ℕ, ◌<◌, Bool, true, false, cond, ◌||◌, ◌==◌, drop, Option, Some, None, is_some, refl, sym, ap, subst, ◌∙◌, arith}
+use Rattle.mesh_base.proofs.Tests.{untied}
 use Rattle.std.proofs.lemmas.Bool.{false≢true, eqb-true}
 use Rattle.std.proofs.lemmas.Bool.Decides.{nat_tests}
 use Rattle.std.specs.Ordering.{nat_cmp}
@@ -34,9 +35,6 @@ use Rattle.edit_pinch.proofs.PinchDone.{kept_point}
 use Rattle.edit_pinch.proofs.SolidVertices.{pinches_none_solid, same_marks}
 use Rattle.edit_dispatch.specs.Dispatch.{answer_to, edited}
 use Rattle.edit_dispatch.specs.SolidVertices.{SolidVerticesStay, SolidVerticesAlwaysStay}
-
-untied : (x y : ℕ) → x ≢ y → (x == y) ≡ false
-untied x y h = grind (arith, nat_tests)
 
 -- an insertion at another key is not seen
 got_elsewhere : (points : finite.FinMap nat_cmp Point) (k : ℕ) (at : Point) (v : ℕ) → v ≢ k → finite.get (finite.insert points k at) v ≡ finite.get points v

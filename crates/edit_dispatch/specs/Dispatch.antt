@@ -1,12 +1,14 @@
 -- The five edits as one: what is answered to what is asked, and what a done edit makes of a mesh.
 use Rattle.std.specs.Prelude.{ℕ, Bool, Option, None}
 use Rattle.grid_base.specs.declared.Positions.{Positions}
+use Rattle.grid_base.specs.SeparationTests.{IsExact}
 use Rattle.mesh_base.specs.Mesh.{Mesh}
 use Rattle.edit_base.specs.declared.asked.Asked.{Asked}
 use Rattle.edit_base.specs.declared.answers.Change.{Change}
 use Rattle.edit_base.specs.declared.answers.Change.TheVariants.{Split, Flip, Collapse, Zip, Pinch}
 use Rattle.edit_base.specs.declared.answers.Edit.{Edit}
 use Rattle.edit_base.specs.Scaffold.{Scaffold}
+use Rattle.edit_base.specs.Laws.{Answer}
 use Rattle.edit_split.specs.Answer.{split_answer}
 use Rattle.edit_split.specs.Done.{split_result, split_tested_on}
 use Rattle.edit_flip.specs.Answer.{flip_answer}
@@ -41,3 +43,11 @@ scaffold_of m (Flip a b) = flip_tested_on m (Flip a b)
 scaffold_of m (Collapse a b at) = collapse_tested_on m (Collapse a b at)
 scaffold_of m (Zip a b e f turn) = None
 scaffold_of m (Pinch v at copies) = pinch_tested_on m (Pinch v at copies)
+
+-- what holds of each edit: of whatever is asked for, tested by whatever test of meeting to whatever depth
+abbrev pub OfEdits : (Answer → Type 0) → Type 0
+OfEdits law = (meets : Positions → Bool) (depth : ℕ) (what : Asked) → law (λ m. answer_to meets m depth what)
+
+-- what holds of each edit that is tested by an exact test of meeting
+abbrev pub OfExactEdits : (Answer → Type 0) → Type 0
+OfExactEdits law = (meets : Positions → Bool) → IsExact meets → (depth : ℕ) (what : Asked) → law (λ m. answer_to meets m depth what)

@@ -5,7 +5,7 @@ ghost use Rattle.grid_decided.specs.Decided.{meets_exactly};
 ghost use Rattle.mesh_base.specs.Sides.{IsClosed};
 ghost use Rattle.mesh_base.specs.Placements.{IsClearMesh};
 ghost use Rattle.mesh_base.specs.Kept.{BeginsWith};
-ghost use Rattle.edit_base.specs.Clauses.{mesh_after_call, MovesClearOnDone};
+ghost use Rattle.edit_base.specs.Clauses.{mesh_after_call, MovesClearOnDone, OnOkIs};
 ghost use Rattle.edit_dispatch.specs.Dispatch.{answer_to, edited, scaffold_of};
 
 use edit_base::{Asked, Edit};
@@ -31,7 +31,7 @@ pub fn edit<S: Surface>(
     requires closed { IsClosed (S.mesh mesh.old) }
     requires clear { IsClearMesh (S.mesh mesh.old) }
     requires depth { depth ≤ DEPTH_MAX }
-    ensures answer { IfOk result (λ edit. edit ≡ answer_to meets_exactly (S.mesh mesh.old) depth what) }
+    ensures answer { OnOkIs result (answer_to meets_exactly (S.mesh mesh.old) depth what) }
     ensures mesh { S.mesh mesh.new ≡ mesh_after_call edited (S.mesh mesh.old) result }
     // The mesh stays closed and clear.
     ensures closed { IsClosed (S.mesh mesh.new) }

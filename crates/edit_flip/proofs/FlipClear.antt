@@ -1,6 +1,5 @@
 -- A flip whose motion is clear leaves a clear mesh.
-use Rattle.std.proofs.Common.{◌≡◌, ◌≢◌, ◌⊎◌, ℕ, zero, suc, ◌+◌, ◌<◌, true, false, ◌&&◌, ◌||◌, ◌==◌, is_some, inl, inr, ⊎_elim, refl, sym, ap, subst, ◌∙◌, arith}
-use Rattle.std.proofs.lemmas.Bool.{eqb-true}
+use Rattle.std.proofs.Common.{◌≡◌, ◌≢◌, ◌⊎◌, ℕ, ◌+◌, ◌<◌, true, false, is_some, inl, inr, ⊎_elim, refl, sym, ap, subst, ◌∙◌, arith}
 use Rattle.std.proofs.lemmas.Bool.Decides.{nat_tests}
 use Rattle.grid_base.specs.Triples.{Triple, plus}
 use Rattle.grid_base.specs.Meeting.{Meets, MeetAt}
@@ -9,7 +8,7 @@ use Rattle.mesh_base.specs.declared.ids.Corners.{Corners}
 use Rattle.mesh_base.specs.Mesh.{Mesh, IsSound, IsLiveVertex, HasCorners}
 use Rattle.mesh_base.specs.Sides.{follows, has_corner, runs, IsEdge}
 use Rattle.mesh_base.specs.Placements.{rest_positions, IsClear, IsClearMesh, IsClearAlong}
-use Rattle.mesh_base.proofs.Listed.{running_face, edge_live, and_first, and_second, or_either}
+use Rattle.mesh_base.proofs.Listed.{running_face, edge_live}
 use Rattle.edit_base.specs.Scaffold.{motion_of}
 use Rattle.edit_base.specs.Edges.{Edge, corners_from}
 use Rattle.edit_flip.specs.Flip.{flip_scaffold}
@@ -17,7 +16,7 @@ use Rattle.edit_base.specs.Beside.{IsBeside}
 use Rattle.edit_base.proofs.Ends.{clear_at_end, clear_after_along}
 use Rattle.edit_flip.proofs.Midway.{face_is_two_faces, edge_is_two_edges}
 use Rattle.edit_acts.proofs.Exchanged.{Meets-exchanged, plus_comm}
-use Rattle.edit_acts.proofs.FaceCorners.{runs_there, no_corner, step_one, step_two, step_three, steps_of, either_way, edge_forth, edge_back}
+use Rattle.edit_acts.proofs.FaceCorners.{no_corner, step_two, step_three, steps_of, either_way, edge_of_step, edge_turned}
 use Rattle.edit_flip.proofs.FlipFaces.{bare, first, second, third, fourth, scaffold, one, two, result, first_there, second_there, third_there, fourth_there, was, old_there, faces_of, end, end_new, end_old}
 
 off_corner : (x y z v : ℕ) → x ≢ v → y ≢ v → z ≢ v → has_corner (corners_from x y z) v ≡ false
@@ -32,21 +31,21 @@ module _ (m : Mesh) (s : Edge) (sound : IsSound m) (beside : IsBeside m s) where
   step_kind : (u v f : ℕ) (k : Corners) → HasCorners (result m s) f k → follows k u v ≡ true → IsEdge (scaffold m s) u v ⊎ AreThird s u v
   step_kind u v f k there step = ⊎_elim
       (λ e. ⊎_elim
-      (λ t. inl (at s.a s.d t (edge_back (scaffold m s) s.d s.a (back (m.next_face + 1 + 1 + 1) (fourth m s) s.a s.d (fourth_there m s) (step_two m.next_vertex s.a s.d)))))
+      (λ t. inl (at s.a s.d t (edge_turned (scaffold m s) s.d s.a (back (m.next_face + 1 + 1 + 1) (fourth m s) s.a s.d (fourth_there m s) (step_two m.next_vertex s.a s.d)))))
       (λ rest. ⊎_elim
       (λ t. inr (inr t))
-      (λ t. inl (at s.c s.a t (edge_forth (scaffold m s) m.next_face (first m s) s.c s.a (first_there m s) (step_three s.a m.next_vertex s.c))))
+      (λ t. inl (at s.c s.a t (edge_of_step (scaffold m s) m.next_face (first m s) s.c s.a (first_there m s) (step_three s.a m.next_vertex s.c))))
       rest)
       (steps_of s.a s.d s.c u v (subst (λ c. follows c u v ≡ true) (sym e) step)))
       (λ others. ⊎_elim
       (λ e. ⊎_elim
-      (λ t. inl (at s.b s.c t (edge_forth (scaffold m s) (m.next_face + 1) (second m s) s.b s.c (second_there m s) (step_two m.next_vertex s.b s.c))))
+      (λ t. inl (at s.b s.c t (edge_of_step (scaffold m s) (m.next_face + 1) (second m s) s.b s.c (second_there m s) (step_two m.next_vertex s.b s.c))))
       (λ rest. ⊎_elim
       (λ t. inr (inl t))
-      (λ t. inl (at s.d s.b t (edge_forth (scaffold m s) (m.next_face + 1 + 1) (third m s) s.d s.b (third_there m s) (step_three s.b m.next_vertex s.d))))
+      (λ t. inl (at s.d s.b t (edge_of_step (scaffold m s) (m.next_face + 1 + 1) (third m s) s.d s.b (third_there m s) (step_three s.b m.next_vertex s.d))))
       rest)
       (steps_of s.b s.c s.d u v (subst (λ c. follows c u v ≡ true) (sym e) step)))
-      (λ old. inl (edge_forth (scaffold m s) f k u v (old_there m s f k (below f k old) old) step))
+      (λ old. inl (edge_of_step (scaffold m s) f k u v (old_there m s f k (below f k old) old) step))
       others)
       (faces_of m s f k there)
     where
@@ -54,7 +53,7 @@ module _ (m : Mesh) (s : Edge) (sound : IsSound m) (beside : IsBeside m s) where
       at x y t edge = subst (λ z. IsEdge (scaffold m s) z v) t.0 (subst (λ z. IsEdge (scaffold m s) x z) t.1 edge)
 
       back : (g : ℕ) (c : Corners) (x y : ℕ) → HasCorners (scaffold m s) g c → follows c x y ≡ true → IsEdge (scaffold m s) y x
-      back g c x y here run = edge_back (scaffold m s) x y (edge_forth (scaffold m s) g c x y here run)
+      back g c x y here run = edge_turned (scaffold m s) x y (edge_of_step (scaffold m s) g c x y here run)
 
       below : (g : ℕ) (c : Corners) → HasCorners (bare m s) g c → g < m.next_face
       below g c old = (sound.is_mesh.face_ids g (ap is_some (was m s g c old))).1
@@ -66,7 +65,7 @@ module _ (m : Mesh) (s : Edge) (sound : IsSound m) (beside : IsBeside m s) where
   edge_kind : (u v : ℕ) → IsEdge (result m s) u v → IsEdge (scaffold m s) u v ⊎ AreThird s u v
   edge_kind u v edge = ⊎_elim
       (λ some. let f = running_face (result m s) u v some in step_kind u v (f.0).0 (f.0).1 f.2 f.1)
-      (λ some. let f = running_face (result m s) v u some in ⊎_elim (λ e. inl (edge_back (scaffold m s) v u e)) (λ t. inr (turned u v t)) (step_kind v u (f.0).0 (f.0).1 f.2 f.1))
+      (λ some. let f = running_face (result m s) v u some in ⊎_elim (λ e. inl (edge_turned (scaffold m s) v u e)) (λ t. inr (turned u v t)) (step_kind v u (f.0).0 (f.0).1 f.2 f.1))
       (either_way (runs (result m s) u v) (runs (result m s) v u) edge)
 
   -- ---- what may not meet at the end of the motion
@@ -131,10 +130,10 @@ module _ (m : Mesh) (s : Edge) (sound : IsSound m) (beside : IsBeside m s) where
         let there = old_there m s f k (sound.is_mesh.face_ids f (ap is_some (was m s f k old))).1 old in
         ⊎_elim
         (λ h. never s.c m.next_vertex f k _ _ _ _ _ beside.c_below
-        (edge_forth (scaffold m s) (m.next_face + 1) (second m s) s.c m.next_vertex (second_there m s) (step_three m.next_vertex s.b s.c)) there not_c not_new
+        (edge_of_step (scaffold m s) (m.next_face + 1) (second m s) s.c m.next_vertex (second_there m s) (step_three m.next_vertex s.b s.c)) there not_c not_new
         (end_old m s s.c beside.c_below) (end_new m s) (end_old m s k.first a) (end_old m s k.second b) (end_old m s k.third c) h)
         (λ h. never s.d m.next_vertex f k _ _ _ _ _ beside.d_below
-        (edge_forth (scaffold m s) (m.next_face + 1 + 1 + 1) (fourth m s) s.d m.next_vertex (fourth_there m s) (step_three m.next_vertex s.a s.d)) there not_d not_new
+        (edge_of_step (scaffold m s) (m.next_face + 1 + 1 + 1) (fourth m s) s.d m.next_vertex (fourth_there m s) (step_three m.next_vertex s.a s.d)) there not_d not_new
         (end_old m s s.d beside.d_below) (end_new m s) (end_old m s k.first a) (end_old m s k.second b) (end_old m s k.third c) (Meets-exchanged _ _ _ _ _ h))
         (edge_is_two_edges (rest_positions m s.c) (rest_positions m s.d) (rest_positions m k.first) (rest_positions m k.second) (rest_positions m k.third) meets)
 

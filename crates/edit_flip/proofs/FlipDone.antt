@@ -1,5 +1,6 @@
 -- What a done flip leaves.
 use Rattle.std.proofs.Common.{◌≡◌, ◌≢◌, ℕ, Bool, true, false, not, ◌||◌, ◌==◌, min, max, [], ◌∷◌, None, sym, ap, subst, ◌∙◌}
+use Rattle.std.proofs.lemmas.Bool.{not-false, eqb-false}
 use Rattle.grid_base.specs.declared.Positions.{Positions}
 use Rattle.grid_base.specs.SeparationTests.{IsExact}
 use Rattle.mesh_base.specs.Mesh.{Mesh, IsSound}
@@ -20,7 +21,7 @@ use Rattle.edit_flip.specs.Answer.{flip_answer}
 use Rattle.edit_base.specs.Clauses.{MovesClear}
 use Rattle.edit_base.specs.Laws.{StaysSound, StaysClosed, StaysClear, MotionIsClear, AlwaysMakes}
 use Rattle.edit_base.proofs.Clear.{none_failing_is_clear, no_name}
-use Rattle.edit_base.proofs.ReasonLaws.{done_is, none_first, does_not_hold, stands, first_false, second_false, apart_of, edge_again}
+use Rattle.edit_base.proofs.ReasonLaws.{done_is, none_first, does_not_hold, first_false, second_false, edge_again}
 use Rattle.edit_acts.proofs.Flow.{below_next}
 use Rattle.edit_base.specs.Beside.{IsBeside}
 use Rattle.edit_split.proofs.SplitClosed.{split_is_closed}
@@ -58,8 +59,8 @@ module _ (meets : Positions → Bool) (u v depth : ℕ) (m : Mesh) (change : Cha
       let no_edge = does_not_hold _ _ two.0 in
       let fits = does_not_hold _ _ one.0 in
       record {
-        edge = stands _ (does_not_hold _ _ four.0);
-        c_d = apart_of e.c e.d (first_false (e.c == e.d) _ no_edge);
+        edge = not-false _ (does_not_hold _ _ four.0);
+        c_d = eqb-false e.c e.d (first_false (e.c == e.d) _ no_edge);
         no_edge = second_false (e.c == e.d) _ no_edge;
         scaffold_fits = first_false (is_over_limits scaffold.mesh) _ fits;
         result_fits = second_false (is_over_limits scaffold.mesh) _ fits;

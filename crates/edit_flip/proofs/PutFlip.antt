@@ -1,5 +1,6 @@
 -- What the changes of a flip require, and that the result passes no limit where the test passes none.
 use Rattle.std.proofs.Common.{◌≡◌, ◌+◌, ◌≤◌, false, ◌==◌, [], ◌∷◌, sym, ◌∙◌, arith}
+use Rattle.std.proofs.lemmas.Bool.{eqb-false}
 use Rattle.std.specs.FinMap as finite
 use Rattle.grid_base.specs.declared.TheConstants.{FACES_MAX, ID_MAX}
 use Rattle.mesh_base.specs.Mesh.{Mesh, IsSound, IsLiveFace}
@@ -17,7 +18,7 @@ use Rattle.edit_flip.proofs.FlipCounts.{flip_fits}
 use Rattle.edit_flip.proofs.FlipSound.{both_fresh as flip_is_fresh}
 use Rattle.edit_base.proofs.EdgeThere.{beside_it}
 use Rattle.edit_split.proofs.PutSplit.{left_is_live, right_is_live}
-use Rattle.edit_base.proofs.ReasonLaws.{first_false, second_false, apart_of}
+use Rattle.edit_base.proofs.ReasonLaws.{first_false, second_false}
 use Rattle.edit_flip.specs.Tried.{MayBeTried}
 
 -- ---- limits
@@ -47,7 +48,7 @@ module _ (m : Mesh) (s : Edge) (sound : IsSound m) (closed : IsClosed m) (tried 
 
   pub both_fresh : AreFresh bare (corners_from s.a s.d s.c ∷ corners_from s.b s.c s.d ∷ [])
   both_fresh = flip_is_fresh m s sound beside
-      (apart_of s.c s.d (first_false (s.c == s.d) (is_edge m s.c s.d) tried.other_may_be_made))
+      (eqb-false s.c s.d (first_false (s.c == s.d) (is_edge m s.c s.d) tried.other_may_be_made))
       (second_false (s.c == s.d) (is_edge m s.c s.d) tried.other_may_be_made)
 
   pub room_for_both : HasRoomFor 2 bare

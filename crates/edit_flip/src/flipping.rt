@@ -6,7 +6,7 @@ ghost use Rattle.mesh_base.specs.Placements.{IsClearMesh};
 ghost use Rattle.mesh_base.specs.Kept.{BeginsWith};
 ghost use Rattle.edit_flip.specs.Flip.{flip_mesh};
 ghost use Rattle.edit_flip.specs.Answer.{flip_answer};
-ghost use Rattle.edit_base.specs.Clauses.{mesh_after_call, MovesClearOnDone};
+ghost use Rattle.edit_base.specs.Clauses.{mesh_after_call, MovesClearOnDone, OnOkIs};
 ghost use Rattle.edit_flip.specs.Done.{flip_result, flip_tested_on};
 ghost use Rattle.edit_flip.specs.Tried.{MayBeTried};
 
@@ -57,7 +57,8 @@ fn flip_or_leave<S: Surface>(
     requires clear { IsClearMesh (S.mesh mesh.old) }
     requires depth { depth ≤ DEPTH_MAX }
     requires tried { MayBeTried (S.mesh mesh.old) e.now }
-    ensures answer { IfOk result (λ edit. edit ≡ flip_answer meets_exactly (S.mesh mesh.old) e.now.a e.now.b depth) }
+    ensures answer { OnOkIs result
+        (flip_answer meets_exactly (S.mesh mesh.old) e.now.a e.now.b depth) }
     ensures mesh { S.mesh mesh.new ≡ mesh_after_call flip_result (S.mesh mesh.old) result }
     ensures marks { BeginsWith (S.kept mesh.new) (S.kept mesh.old) }
 {
@@ -92,7 +93,7 @@ pub fn flip<S: Surface>(
     requires closed { IsClosed (S.mesh mesh.old) }
     requires clear { IsClearMesh (S.mesh mesh.old) }
     requires depth { depth ≤ DEPTH_MAX }
-    ensures answer { IfOk result (λ edit. edit ≡ flip_answer meets_exactly (S.mesh mesh.old) a b depth) }
+    ensures answer { OnOkIs result (flip_answer meets_exactly (S.mesh mesh.old) a b depth) }
     ensures mesh { S.mesh mesh.new ≡ mesh_after_call flip_result (S.mesh mesh.old) result }
     // The mesh stays closed and clear.
     ensures closed { IsClosed (S.mesh mesh.new) }

@@ -1,16 +1,16 @@
 //! Whether a flip may be tried, and the test of one.
-ghost use Rattle.std.specs.Prelude.{◌≡◌, ◌≤◌, ◌||◌, ◌==◌, ℕ, IfOk, IfErr, OnOk};
+ghost use Rattle.std.specs.Prelude.{◌≡◌, ◌≤◌, ◌||◌, ◌==◌, IfOk};
 ghost use Rattle.grid_decided.specs.Decided.{meets_exactly};
 ghost use Rattle.mesh_base.specs.Sides.{IsClosed};
 ghost use Rattle.mesh_base.specs.Pairs.{is_edge};
 ghost use Rattle.mesh_base.specs.Placements.{IsClearMesh};
 ghost use Rattle.mesh_base.specs.Kept.{BeginsWith};
-ghost use Rattle.edit_base.specs.declared.answers.Edit.TheVariants.{No};
 ghost use Rattle.edit_base.specs.Edges.{edge_of};
 ghost use Rattle.edit_flip.specs.Flip.{flip_scaffold};
 ghost use Rattle.edit_base.specs.Scaffold.{first_failing};
 ghost use Rattle.edit_flip.specs.Answer.{flip_answer};
 ghost use Rattle.edit_flip.specs.Tried.{MayBeTried};
+ghost use Rattle.edit_base.specs.Clauses.{OnOkIs, OnErrRefuses};
 
 use edit_acts::exact_mid;
 use edit_base::{EdgeFaces, Move, Touch, Why, edge_beside, is_crowded, is_edge};
@@ -31,9 +31,9 @@ fn is_made_already<S: Surface>(mesh: &S, e: &EdgeFaces) -> bool
 /// flip has no more of anything than the test of it, so the limits are tried on the test alone.
 pub(crate) fn edge_to_flip<S: Surface>(mesh: &S, a: VertexId, b: VertexId) -> Result<EdgeFaces, Why>
     requires closed { IsClosed (S.mesh mesh.now) }
-    ensures edge { IfOk result (λ e. e ≡ edge_of (S.mesh mesh.now) a b) }
+    ensures edge { OnOkIs result (edge_of (S.mesh mesh.now) a b) }
     ensures tried { IfOk result (λ e. MayBeTried (S.mesh mesh.now) e) }
-    ensures refused { IfErr result (λ why. (depth : ℕ) → No why ≡ flip_answer meets_exactly (S.mesh mesh.now) a b depth) }
+    ensures refused { OnErrRefuses result (flip_answer meets_exactly (S.mesh mesh.now) a b) }
 {
     match edge_beside(mesh, a, b) {
         None => Err(Why::NoEdge),
@@ -63,7 +63,8 @@ fn put_and_check<S: Surface>(
     requires clear { IsClearMesh (S.mesh mesh.old) }
     requires depth { depth ≤ DEPTH_MAX }
     requires tried { MayBeTried (S.mesh mesh.old) e.now }
-    ensures first { IfOk result (λ found. found ≡ first_failing meets_exactly (flip_scaffold (S.mesh mesh.old) e.now) depth) }
+    ensures first { OnOkIs result
+        (first_failing meets_exactly (flip_scaffold (S.mesh mesh.old) e.now) depth) }
     ensures marks { BeginsWith (S.kept mesh.new) (S.kept mesh.old) }
 {
     let fresh_from = mesh.next_face();
@@ -88,7 +89,8 @@ pub(crate) fn first_hit<S: Surface>(
     requires clear { IsClearMesh (S.mesh mesh.old) }
     requires depth { depth ≤ DEPTH_MAX }
     requires tried { MayBeTried (S.mesh mesh.old) e.now }
-    ensures first { IfOk result (λ found. found ≡ first_failing meets_exactly (flip_scaffold (S.mesh mesh.old) e.now) depth) }
+    ensures first { OnOkIs result
+        (first_failing meets_exactly (flip_scaffold (S.mesh mesh.old) e.now) depth) }
     ensures mesh { S.mesh mesh.new ≡ S.mesh mesh.old }
     ensures marks { BeginsWith (S.kept mesh.new) (S.kept mesh.old) }
 {

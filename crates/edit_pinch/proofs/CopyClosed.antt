@@ -13,7 +13,7 @@ use Rattle.mesh_base.specs.Sides.{follows, has_corner, runs, IsClosed}
 use Rattle.mesh_base.specs.Changes.{without_face, with_vertex, with_point}
 use Rattle.mesh_base.proofs.Counts.{runs-with_face, runs-without_face}
 use Rattle.mesh_base.proofs.ListedPairs.{all_weaker}
-use Rattle.mesh_base.proofs.Tests.{or_either}
+use Rattle.mesh_base.proofs.Tests.{or_either, untied}
 use Rattle.edit_base.specs.Classes.{is_one_of}
 use Rattle.edit_base.specs.Edges.{corners_at, renamed, with_renamed, with_all_renamed}
 use Rattle.edit_pinch.specs.Pinch.{with_copy, pinch_mesh, fans}
@@ -32,9 +32,6 @@ pub record IsWithout (w : ℕ) (c : Corners) : Type 0 where
   pub first : c.first ≢ w
   pub second : c.second ≢ w
   pub third : c.third ≢ w
-
-untied : (x y : ℕ) → x ≢ y → (x == y) ≡ false
-untied x y h = grind (arith, nat_tests)
 
 one_test : (v w x a : ℕ) → v ≢ w → x ≢ w → (cond (x == v) w x == a) ≡ (not (a == v) && (x == old_for v w a))
 one_test v w x a v_w x_w = by_tests (x == v) (a == v) (a == w) refl refl refl

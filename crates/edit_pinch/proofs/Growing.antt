@@ -1,6 +1,6 @@
 -- A class grows by those that touch one of its members, until all its members are gone through.
 use Rattle.std.proofs.Common.{◌≡◌, ◌⊎◌, ℕ, zero, suc, ◌+◌, ◌-◌, ◌<◌, ◌≤◌, Bool, true, false, not, ◌==◌, List, [], ◌∷◌, ◌++◌, length, get_or, ⊎_elim, inl, inr, refl, sym, ap, subst, ◌∙◌, below_more, arith}
-use Rattle.std.proofs.lemmas.Bool.{false≢true, eqb-true}
+use Rattle.std.proofs.lemmas.Bool.{false≢true, eqb-true, not-true}
 use Rattle.std.proofs.lemmas.List.{get_or_append_left, length-append}
 use Rattle.std.proofs.lemmas.List.Filters.{length-filter_both}
 use Rattle.std.proofs.lemmas.List.Folds.{list_any-append}
@@ -34,10 +34,6 @@ test_of false = inr refl
 
 pub not_false : (b : Bool) → b ≡ false → not b ≡ true
 not_false b e = ap not e
-
-pub not_true : (b : Bool) → not b ≡ true → b ≡ false
-not_true true e = absurd (false≢true e)
-not_true false e = refl
 
 -- ---- growing
 module _ (touch : ℕ → ℕ → Bool) (all : List ℕ) (x : ℕ) where
@@ -93,7 +89,7 @@ module _ (touch : ℕ → ℕ → Bool) (all : List ℕ) (x : ℕ) where
           (h.covers y has);
       apart = below_more (λ k. (y : ℕ) → Has rest y → touch (get_or (class ++ more) k 0) y ≡ false) i
           (λ k low y has. subst (λ z. touch z y ≡ false) (sym (get_or_append_left class more 0 k (omega (arith, low, below)))) (h.apart k low y (passed (λ y. not (touch near y)) left y has).0))
-          (λ y has. subst (λ z. touch z y ≡ false) (sym (get_or_append_left class more 0 i below)) (not_true (touch near y) (passed (λ y. not (touch near y)) left y has).1));
+          (λ y has. subst (λ z. touch z y ≡ false) (sym (get_or_append_left class more 0 i below)) (not-true (touch near y) (passed (λ y. not (touch near y)) left y has).1));
     }
 
     -- the same by equations, as a step of a loop has them

@@ -1,6 +1,6 @@
 -- A number of a list begins a class where no class that begins before has it.
 use Rattle.std.proofs.Common.{◌≡◌, ◌⊎◌, ℕ, ◌+◌, ◌<◌, Bool, true, false, cond, not, ◌||◌, ◌==◌, List, [], ◌∷◌, ◌++◌, map, take, drop, length, get_or, slice_index, ⊎_elim, inl, inr, refl, sym, ap, subst, ◌∙◌, add-one}
-use Rattle.std.proofs.lemmas.Bool.{false≢true, eqb-true}
+use Rattle.std.proofs.lemmas.Bool.{false≢true, eqb-true, not-true}
 use Rattle.std.proofs.lemmas.List.{take-append-drop, map-append, append-nil, get_or_default}
 use Rattle.std.proofs.lemmas.List.Elements.{filter-append}
 use Rattle.std.proofs.Math.Seq.{take-suc}
@@ -10,7 +10,7 @@ use Rattle.pair_scan.proofs.Lists.{rest_at}
 use Rattle.edit_base.specs.Classes.{is_one_of, Linked, class_of}
 use Rattle.edit_base.proofs.Chains.{Has, either_first, either_second, equal_itself, passed, passes, near_is, test_at, linked_has}
 use Rattle.edit_pinch.proofs.FansApart.{IsSymmetric, Differ, classes_same}
-use Rattle.edit_pinch.proofs.Growing.{had_first, had_second, had_either, test_of, not_true}
+use Rattle.edit_pinch.proofs.Growing.{had_first, had_second, had_either, test_of}
 
 not_before : (before after : List ℕ) (x : ℕ) → Differ (before ++ x ∷ after) → Has before x → ⊥
 not_before [] after x differ has = false≢true has
@@ -135,7 +135,7 @@ module _ (touch : ℕ → ℕ → Bool) (all : List ℕ) (both : IsSymmetric tou
     if_met met = more_here ∙ none (is_least here) (not_true_is (is_least here) (sym (met_is (take i all) (drop (i + 1) all) here split_here) ∙ met))
       where
         not_true_is : (b : Bool) → not b ≡ true → b ≡ false
-        not_true_is b e = not_true b e
+        not_true_is b e = not-true b e
 
         none : (b : Bool) → b ≡ false → begun i ++ map of (cond b (here ∷ []) []) ≡ begun i
         none true e = absurd (false≢true (sym e))

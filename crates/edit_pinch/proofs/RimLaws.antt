@@ -1,6 +1,6 @@
 -- The vertices of a fan, as they are found face by face, are those of the definition, each once: sums over them are the same.
 use Rattle.std.proofs.Common.{◌≡◌, ◌⊎◌, ℕ, ◌+◌, Bool, true, false, cond, T, not, ◌||◌, ◌&&◌, ◌==◌, nat_lt, List, [], ◌∷◌, ◌++◌, map, length, ⊎_elim, inl, inr, refl, sym, ap, subst, ◌∙◌, arith}
-use Rattle.std.proofs.lemmas.Bool.{false≢true, eqb-true}
+use Rattle.std.proofs.lemmas.Bool.{false≢true, eqb-true, not-true}
 use Rattle.std.proofs.lemmas.Bool.Decides.{nat_tests}
 use Rattle.std.proofs.lemmas.Int.{ints}
 use Rattle.std.specs.Ordering.{nat_cmp}
@@ -25,7 +25,7 @@ use Rattle.edit_base.proofs.Chains.{Has, equal_itself, each_is_one, any_found, p
 use Rattle.edit_pinch.proofs.FanBalance.{listed_corner, corner_listed}
 use Rattle.edit_pinch.proofs.FansApart.{Differ, differ-filter}
 use Rattle.edit_pinch.specs.Rims.{with_other, with_corners, found_rim, with_way, ways}
-use Rattle.edit_pinch.proofs.Growing.{had_first, had_second, had_either, not_false, not_true}
+use Rattle.edit_pinch.proofs.Growing.{had_first, had_second, had_either, not_false}
 
 -- ---- lists of the same numbers, none twice
 abbrev other_than : ℕ → ℕ → Bool
@@ -60,7 +60,7 @@ module _ {A : Type 0} (step : A → ℕ → A) (swap : (a : A) (u w : ℕ) → s
   same_fold (y ∷ ys) xs a dy dx to from =
       same_fold ys (filter (other_than y) xs) (step a y) dy.1 (differ-filter (other_than y) xs dx)
       (λ u has. passes (other_than y) xs u (to u (or_second (y == u) (is_one_of ys u) has)) (not_false (u == y) (not_it u has)))
-      (λ u has. let p = passed (other_than y) xs u has in ⊎_elim (λ e. absurd (it_is u e (not_true (u == y) p.1))) (λ h. h) (or_either (y == u) (is_one_of ys u) (from u p.0)))
+      (λ u has. let p = passed (other_than y) xs u has in ⊎_elim (λ e. absurd (it_is u e (not-true (u == y) p.1))) (λ h. h) (or_either (y == u) (is_one_of ys u) (from u p.0)))
       ∙ sym (first_taken xs a y (to y (or_first (y == y) (is_one_of ys y) (equal_itself y))) dx)
     where
       not_it : (u : ℕ) → Has ys u → (u == y) ≡ false
@@ -228,7 +228,7 @@ module _ (m : Mesh) (v : ℕ) (fan : List ℕ) (sound : IsSound m) (live : (f : 
   from_rim : (w : ℕ) → Has (rim m v fan) w → Has (found_rim m v fan) w
   from_rim w has =
       let p = (passed in_rim (finite.keys m.points) w has).1 in
-      rim_new v m fan [] w (and_second (not (w == v)) _ p) (not_true (w == v) (and_first (not (w == v)) _ p))
+      rim_new v m fan [] w (and_second (not (w == v)) _ p) (not-true (w == v) (and_first (not (w == v)) _ p))
 
   rim_once : Differ (rim m v fan)
   rim_once = differ-filter in_rim (finite.keys m.points) (differ-keys (finite.entries m.points) (entries_sorted m.points))

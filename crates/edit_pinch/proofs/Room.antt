@@ -1,5 +1,6 @@
 -- Where a pinch passes no limit, each of its changes can be made when its turn comes.
 use Rattle.std.proofs.Common.{◌≡◌, ℕ, suc, ◌+◌, ◌-◌, ◌≤◌, Bool, true, false, cond, ◌||◌, nat_lt, List, [], ◌∷◌, length, map, drop, sum, ⊎_elim, refl, sym, ap, ◌∙◌, arith, is_some}
+use Rattle.std.proofs.lemmas.Bool.{ltb-false}
 use Rattle.std.proofs.lemmas.Bool.Decides.{nat_tests}
 use Rattle.std.proofs.lemmas.List.Sums.{sum_by-cons}
 use Rattle.std.specs.List.{zip}
@@ -76,9 +77,6 @@ copied_in_turn m v mesh n (d ∷ ds) (p ∷ ps) h room =
     )
 
 -- ---- the limits
-not_less : (a b : ℕ) → nat_lt a b ≡ false → b ≤ a
-not_less a b e = grind (arith, nat_tests)
-
 module _ (m : Mesh) (v : ℕ) (at : Point) (sound : IsSound m) (closed : IsClosed m) (live : IsLiveVertex m v) (fits : is_over_limits (pinch_scaffold m v).mesh ≡ false) where
   abbrev others : List (List ℕ)
   others = drop 1 (fans m v)
@@ -95,12 +93,12 @@ module _ (m : Mesh) (v : ℕ) (at : Point) (sound : IsSound m) (closed : IsClose
       let three = first_false _ _ over in
       let two = first_false _ _ three in
       let there : finite.len (finite.insert m.points v at) ≡ finite.len m.points = len-insert nat_cmp_total m.points v at ∙ ap (λ b. cond b (finite.len m.points) (finite.len m.points + 1)) live in
-      let few = not_less VERTICES_MAX (finite.len m.points + n) (first_false _ _ two) in
+      let few = ltb-false VERTICES_MAX (finite.len m.points + n) (first_false _ _ two) in
       record {
         vertices = omega (arith, few, there);
         faces = sound.limits.faces;
-        vertex_ids = not_less (ID_MAX + 1) (m.next_vertex + n) (second_false _ _ three);
-        face_ids = not_less (ID_MAX + 1) (m.next_face + faces_in others) (second_false _ _ over);
+        vertex_ids = ltb-false (ID_MAX + 1) (m.next_vertex + n) (second_false _ _ three);
+        face_ids = ltb-false (ID_MAX + 1) (m.next_face + faces_in others) (second_false _ _ over);
       }
 
   pub pinched_in_turn : (points : List Point) → CopiedInTurn v (with_point m v at) (zip (drop 1 (fans m v)) points)

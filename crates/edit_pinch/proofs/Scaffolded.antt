@@ -13,12 +13,11 @@ use Rattle.mesh_base.specs.Placements.{rest_positions_doubled, IsClearMesh, poin
 use Rattle.edit_base.specs.declared.answers.CopyAt.{CopyAt}
 use Rattle.edit_base.specs.declared.scaffold.Move.{Move}
 use Rattle.edit_base.specs.declared.scaffold.Touch.TheVariants.{Start}
-use Rattle.edit_pinch.specs.Pinch.{fans, with_copy, copy_points, first_point, later_copies, pinch_scaffold}
+use Rattle.edit_pinch.specs.Pinch.{fans, with_copy, copy_points, first_point, later_copies, pinch_scaffold, move_to, moves_from, vertex_and_copies}
 use Rattle.edit_base.specs.Scaffold.{Scaffold}
 use Rattle.mesh_base.proofs.PointOf.{position_of-point_of}
 use Rattle.edit_check.specs.Untouched.{IsClearWhereUntouched, MoveFits}
 use Rattle.edit_pinch.proofs.PinchPremise.{pinch_may_be_checked}
-use Rattle.edit_pinch.specs.Tried.{move_to, moves_from, vertex_and_copies}
 use Rattle.edit_pinch.proofs.CopiesMade.{listed_from}
 
 -- ---- the ways fit

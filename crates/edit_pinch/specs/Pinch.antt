@@ -6,6 +6,7 @@ use Rattle.grid_base.specs.declared.Point.{Point}
 use Rattle.grid_base.specs.Points.{position_of, point_at}
 use Rattle.grid_base.specs.Triples.{Triple, plus, minus, times}
 use Rattle.edit_base.specs.declared.scaffold.Touch.TheVariants.{Start}
+use Rattle.edit_base.specs.declared.Move.{Move}
 use Rattle.edit_base.specs.declared.answers.CopyAt.{CopyAt}
 use Rattle.mesh_base.specs.Mesh.{Mesh}
 use Rattle.mesh_base.specs.Sides.{has_corner, faces_at}
@@ -52,22 +53,37 @@ pinch_mesh m v at points = fold (with_copy v) (with_point m v at) (zip (drop 1 (
 abbrev pub first_point : Mesh → ℕ → Point
 first_point m v = fan_point m v (slice_index_or (fans m v) 0 [])
 
--- the copies of the later fans, with their points
+-- the copies for fans, under the next vertex ids, with their points
+abbrev pub copies_for : Mesh → ℕ → List (List ℕ) → List CopyAt
+copies_for m v fans = map (λ e. record { w = e.0; at = fan_point m v e.1 }) (enumerate_from m.next_vertex fans)
+
+-- those of the later fans
 abbrev pub later_copies : Mesh → ℕ → List CopyAt
-later_copies m v = map (λ e. record { w = e.0; at = fan_point m v e.1 }) (enumerate_from m.next_vertex (drop 1 (fans m v)))
+later_copies m v = copies_for m v (drop 1 (fans m v))
 
 abbrev pub copy_points : List CopyAt → List Point
 copy_points copies = map (λ copy. copy.at) copies
 
+-- the way to a point
+abbrev pub move_to : Triple → ℕ → Point → Move
+move_to here v at = record { v = v; start = here; end = times 2 (position_of at) }
+
+-- the ways of v and its copies from where it stands
+abbrev pub moves_from : Triple → ℕ → Point → List CopyAt → List Move
+moves_from here v at copies = move_to here v at ∷ map (λ copy. move_to here copy.w copy.at) copies
+
+-- v and its copies
+abbrev pub vertex_and_copies : ℕ → List CopyAt → List ℕ
+vertex_and_copies v copies = v ∷ map (λ copy. copy.w) copies
+
 -- The result, with v and each copy going from the old place to its own. A pair whose members hold two of them is to open.
 abbrev pub pinch_scaffold : Mesh → ℕ → Scaffold
 pinch_scaffold m v =
-    let here = rest_positions_doubled m v in
     let at = first_point m v in
     let copies = later_copies m v in
     record {
       mesh = pinch_mesh m v at (copy_points copies);
-      moves = record { v = v; start = here; end = times 2 (position_of at) } ∷ map (λ copy. record { v = copy.w; start = here; end = times 2 (position_of copy.at) }) copies;
+      moves = moves_from (rest_positions_doubled m v) v at copies;
       touch = Start;
-      together = v ∷ map (λ copy. copy.w) copies;
+      together = vertex_and_copies v copies;
     }

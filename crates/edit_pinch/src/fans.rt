@@ -5,6 +5,7 @@ ghost use Rattle.mesh_base.specs.Sides.{faces_at};
 ghost use Rattle.edit_base.specs.Classes.{is_one_of, class_of};
 ghost use Rattle.edit_base.specs.Edges.{corners_at};
 ghost use Rattle.edit_pinch.specs.Pinch.{share_second, fans};
+ghost use Rattle.edit_base.specs.Clauses.{OnOkIs};
 
 use edit_acts::corners_at;
 use grid_base::{Items, NoMemory};
@@ -56,8 +57,10 @@ fn joined<S: Surface>(
     left: &[FaceId],
     fan: &mut Fan,
 ) -> Result<Fan, NoMemory>
-    ensures left { IfOk result (λ rest. rest ≡ filter (λ g. not (share_second (S.mesh mesh.now) v f g)) left.now) }
-    ensures fan { OnOk result (fan.new ≡ fan.old ++ filter (λ g. share_second (S.mesh mesh.now) v f g) left.now) }
+    ensures left { let share = share_second (S.mesh mesh.now) v f in
+        OnOkIs result (filter (λ g. not (share g)) left.now) }
+    ensures fan { let share = share_second (S.mesh mesh.now) v f in
+        OnOk result (fan.new ≡ fan.old ++ filter (λ g. share g) left.now) }
 {
     let mut rest = Items::new(alloc);
     for g in left {
@@ -79,7 +82,8 @@ fn found<S: Surface>(
     faces: &[FaceId],
 ) -> Result<Fan, NoMemory>
     requires { is_one_of faces.now f ≡ true }
-    ensures { IfOk result (λ found. (g : ℕ) → is_one_of found g ≡ is_one_of (class_of (share_second (S.mesh mesh.now) v) faces.now f) g) }
+    ensures { let members = class_of (share_second (S.mesh mesh.now) v) faces.now f in
+        IfOk result (λ found. (g : ℕ) → is_one_of found g ≡ is_one_of members g) }
 {
     let mut fan = Items::new(alloc);
     fan.push(f)?;
@@ -95,7 +99,7 @@ fn found<S: Surface>(
 
 /// The faces of a list but one.
 fn others(alloc: Global, faces: &[FaceId], f: FaceId) -> Result<Fan, NoMemory>
-    ensures { IfOk result (λ rest. rest ≡ filter (λ g. not (g == f)) faces.now) }
+    ensures { OnOkIs result (filter (λ g. not (g == f)) faces.now) }
 {
     let mut rest = Items::new(alloc);
     for g in faces {
@@ -108,7 +112,7 @@ fn others(alloc: Global, faces: &[FaceId], f: FaceId) -> Result<Fan, NoMemory>
 
 /// Those of a list that are among some members, in the order of the list.
 fn in_order(alloc: Global, faces: &[FaceId], members: &[FaceId]) -> Result<Fan, NoMemory>
-    ensures { IfOk result (λ fan. fan ≡ filter (is_one_of members.now) faces.now) }
+    ensures { OnOkIs result (filter (is_one_of members.now) faces.now) }
 {
     let mut fan = Items::new(alloc);
     for g in faces {
@@ -128,7 +132,7 @@ fn fan_of<S: Surface>(
     faces: &[FaceId],
 ) -> Result<Fan, NoMemory>
     requires { is_one_of faces.now f ≡ true }
-    ensures { IfOk result (λ fan. fan ≡ class_of (share_second (S.mesh mesh.now) v) faces.now f) }
+    ensures { OnOkIs result (class_of (share_second (S.mesh mesh.now) v) faces.now f) }
 {
     let members = found(alloc, mesh, v, f, faces)?;
     in_order(alloc, faces, members.as_slice())
@@ -137,7 +141,7 @@ fn fan_of<S: Surface>(
 /// The fans of faces at a vertex, in order of their least faces. A fan is the faces at the vertex that a chain leads to
 /// from one of them, in which each face shares another vertex with the next.
 pub(crate) fn fans<S: Surface>(alloc: Global, mesh: &S, v: VertexId) -> Result<Fans, NoMemory>
-    ensures { IfOk result (λ all. all ≡ fans (S.mesh mesh.now) v) }
+    ensures { OnOkIs result (fans (S.mesh mesh.now) v) }
 {
     let mut fans = Items::new(alloc);
     let mut faces = Vec::new(alloc);
@@ -155,7 +159,7 @@ pub(crate) fn fans<S: Surface>(alloc: Global, mesh: &S, v: VertexId) -> Result<F
 /// "share another vertex, and so on": a face, and those that a chain leads to from it, in which each face has a second
 /// vertex in common with the next. Round a vertex of a manifold there is one. Refuses only where there is no memory.
 pub fn fan_count<S: Surface>(alloc: Global, mesh: &S, v: VertexId) -> Result<u32, NoMemory>
-    ensures { IfOk result (λ n. n ≡ length (fans (S.mesh mesh.now) v)) }
+    ensures { OnOkIs result (length (fans (S.mesh mesh.now) v)) }
 {
     let fans = fans(alloc, mesh, v)?;
     Ok(fans.len() as u32)

@@ -1,14 +1,13 @@
 //! The changes of a pinch.
-ghost use Rattle.std.specs.Prelude.{ℕ, ◌≡◌, ◌||◌, length, map, sum, drop, nat_lt, OnOk};
+ghost use Rattle.std.specs.Prelude.{◌≡◌, ◌||◌, length, map, sum, nat_lt, OnOk};
 ghost use Rattle.std.specs.List.{fold, zip};
 ghost use Rattle.mesh_base.specs.Mesh.{IsLiveVertex};
-ghost use Rattle.mesh_base.specs.Sides.{IsClosed};
 ghost use Rattle.mesh_base.specs.Changes.{with_point};
 ghost use Rattle.mesh_base.specs.Kept.{BeginsWith};
-ghost use Rattle.mesh_base.specs.Limits.{is_over_limits};
 ghost use Rattle.edit_base.specs.Edges.{renamed, with_renamed};
-ghost use Rattle.edit_pinch.specs.Pinch.{fans, copy_points, with_copy, pinch_scaffold};
+ghost use Rattle.edit_pinch.specs.Pinch.{fans, copy_points, with_copy};
 ghost use Rattle.edit_pinch.specs.InTurn.{MayBeRemade, MayBeCopied, CopiedInTurn};
+ghost use Rattle.edit_pinch.specs.Tried.{TellsOver};
 
 use crate::fans::Fan;
 use edit_acts::{corners_at, make_face, make_vertex, renamed};
@@ -40,7 +39,7 @@ fn is_too_much(count: usize, vertices: usize, vertex_ids: usize, more_faces: boo
 /// Whether a pinch would pass a limit, with these fans after its first: it takes a vertex and a vertex id for each, and a
 /// face id for each of their faces, and has as many faces as before.
 pub(crate) fn is_over<S: Surface>(mesh: &S, others: &[Fan]) -> bool
-    ensures { (v : ℕ) → IsClosed (S.mesh mesh.now) → IsLiveVertex (S.mesh mesh.now) v → others.now ≡ drop 1 (fans (S.mesh mesh.now) v) → result ≡ is_over_limits (pinch_scaffold (S.mesh mesh.now) v).mesh }
+    ensures { TellsOver (S.mesh mesh.now) others.now result }
 {
     is_too_much(
         others.len(),
@@ -89,7 +88,8 @@ fn put_copies<S: Surface>(
 ) -> Result<(), NoMemory>
     requires same { length fans.now ≡ length copies.now }
     requires turns { CopiedInTurn v (S.mesh mesh.old) (zip fans.now (copy_points copies.now)) }
-    ensures made { OnOk result (S.mesh mesh.new ≡ fold (with_copy v) (S.mesh mesh.old) (zip fans.now (copy_points copies.now))) }
+    ensures made { let placed = zip fans.now (copy_points copies.now) in
+        OnOk result (S.mesh mesh.new ≡ fold (with_copy v) (S.mesh mesh.old) placed) }
     ensures marks { BeginsWith (S.kept mesh.new) (S.kept mesh.old) }
 {
     for i in 0..fans.len() {
@@ -109,8 +109,10 @@ pub(crate) fn apply_pinch<S: Surface>(
 ) -> Result<(), NoMemory>
     requires live { IsLiveVertex (S.mesh mesh.old) v }
     requires same { length fans.now ≡ length copies.now }
-    requires turns { CopiedInTurn v (with_point (S.mesh mesh.old) v at) (zip fans.now (copy_points copies.now)) }
-    ensures made { OnOk result (S.mesh mesh.new ≡ fold (with_copy v) (with_point (S.mesh mesh.old) v at) (zip fans.now (copy_points copies.now))) }
+    requires turns { let placed = zip fans.now (copy_points copies.now) in
+        CopiedInTurn v (with_point (S.mesh mesh.old) v at) placed }
+    ensures made { let placed = zip fans.now (copy_points copies.now) in
+        OnOk result (S.mesh mesh.new ≡ fold (with_copy v) (with_point (S.mesh mesh.old) v at) placed) }
     ensures marks { BeginsWith (S.kept mesh.new) (S.kept mesh.old) }
 {
     mesh.place(v, at)?;

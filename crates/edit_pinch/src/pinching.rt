@@ -7,11 +7,11 @@ ghost use Rattle.mesh_base.specs.Sides.{IsClosed};
 ghost use Rattle.mesh_base.specs.Placements.{IsClearMesh};
 ghost use Rattle.mesh_base.specs.Kept.{BeginsWith};
 ghost use Rattle.edit_base.specs.Scaffold.{first_failing};
-ghost use Rattle.edit_pinch.specs.Pinch.{fans, first_point, later_copies, pinch_scaffold};
+ghost use Rattle.edit_pinch.specs.Pinch.{fans, first_point, later_copies, moves_from, vertex_and_copies, pinch_scaffold};
 ghost use Rattle.edit_pinch.specs.Answer.{pinch_answer};
-ghost use Rattle.edit_base.specs.Clauses.{mesh_after_call, MovesClearOnDone};
+ghost use Rattle.edit_base.specs.Clauses.{mesh_after_call, MovesClearOnDone, OnOkIs};
 ghost use Rattle.edit_pinch.specs.Done.{pinch_result, pinch_tested_on};
-ghost use Rattle.edit_pinch.specs.Tried.{MayBeTried, moves_from, vertex_and_copies, left_by};
+ghost use Rattle.edit_pinch.specs.Tried.{MayBeTried, left_by};
 
 use crate::fans::{Fan, fans};
 use crate::making::{apply_pinch, is_over};
@@ -31,7 +31,7 @@ fn moves_of(
     copies: &[CopyAt],
 ) -> Result<Items<Move>, NoMemory>
     requires { IsWithin HALF_MAX here }
-    ensures { IfOk result (λ moves. moves ≡ moves_from here v at copies.now) }
+    ensures { OnOkIs result (moves_from here v at copies.now) }
 {
     let mut moves = Items::new(alloc);
     moves.push(Move {
@@ -51,7 +51,7 @@ fn moves_of(
 
 /// A vertex and its copies.
 fn together_of(alloc: Global, v: VertexId, copies: &[CopyAt]) -> Result<Items<VertexId>, NoMemory>
-    ensures { IfOk result (λ together. together ≡ vertex_and_copies v copies.now) }
+    ensures { OnOkIs result (vertex_and_copies v copies.now) }
 {
     let mut together = Items::new(alloc);
     together.push(v)?;
@@ -80,7 +80,8 @@ fn put_and_check<S: Surface>(
     requires others { others.now ≡ drop 1 (fans (S.mesh mesh.old) v) }
     requires point { at ≡ first_point (S.mesh mesh.old) v }
     requires copies { copies.now ≡ later_copies (S.mesh mesh.old) v }
-    ensures first { IfOk result (λ found. found ≡ first_failing meets_exactly (pinch_scaffold (S.mesh mesh.old) v) depth) }
+    ensures first { OnOkIs result
+        (first_failing meets_exactly (pinch_scaffold (S.mesh mesh.old) v) depth) }
     ensures made { OnOk result (S.mesh mesh.new ≡ (pinch_scaffold (S.mesh mesh.old) v).mesh) }
     ensures marks { BeginsWith (S.kept mesh.new) (S.kept mesh.old) }
 {
@@ -118,8 +119,10 @@ fn apply_or_roll_back<S: Surface>(
     requires others { others.now ≡ drop 1 (fans (S.mesh mesh.old) v) }
     requires point { at ≡ first_point (S.mesh mesh.old) v }
     requires copies { copies.now ≡ later_copies (S.mesh mesh.old) v }
-    ensures first { IfOk result (λ found. found ≡ first_failing meets_exactly (pinch_scaffold (S.mesh mesh.old) v) depth) }
-    ensures mesh { S.mesh mesh.new ≡ left_by (S.mesh mesh.old) (pinch_scaffold (S.mesh mesh.old) v).mesh result }
+    ensures first { OnOkIs result
+        (first_failing meets_exactly (pinch_scaffold (S.mesh mesh.old) v) depth) }
+    ensures mesh { let m = S.mesh mesh.old in
+        S.mesh mesh.new ≡ left_by m (pinch_scaffold m v).mesh result }
     ensures marks { BeginsWith (S.kept mesh.new) (S.kept mesh.old) }
 {
     let mark = mesh.mark()?;
@@ -149,7 +152,7 @@ fn pinch_or_leave<S: Surface>(
     requires depth { depth ≤ DEPTH_MAX }
     requires tried { MayBeTried (S.mesh mesh.old) v }
     requires fans { parts.now ≡ fans (S.mesh mesh.old) v }
-    ensures answer { IfOk result (λ edit. edit ≡ pinch_answer meets_exactly (S.mesh mesh.old) v depth) }
+    ensures answer { OnOkIs result (pinch_answer meets_exactly (S.mesh mesh.old) v depth) }
     ensures mesh { S.mesh mesh.new ≡ mesh_after_call pinch_result (S.mesh mesh.old) result }
     ensures marks { BeginsWith (S.kept mesh.new) (S.kept mesh.old) }
 {
@@ -185,7 +188,7 @@ pub fn pinch<S: Surface>(
     requires closed { IsClosed (S.mesh mesh.old) }
     requires clear { IsClearMesh (S.mesh mesh.old) }
     requires depth { depth ≤ DEPTH_MAX }
-    ensures answer { IfOk result (λ edit. edit ≡ pinch_answer meets_exactly (S.mesh mesh.old) v depth) }
+    ensures answer { OnOkIs result (pinch_answer meets_exactly (S.mesh mesh.old) v depth) }
     ensures mesh { S.mesh mesh.new ≡ mesh_after_call pinch_result (S.mesh mesh.old) result }
     // The mesh stays closed and clear.
     ensures closed { IsClosed (S.mesh mesh.new) }

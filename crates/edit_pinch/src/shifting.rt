@@ -1,12 +1,12 @@
 //! Where the copies for fans go.
-ghost use Rattle.std.specs.Prelude.{ℕ, true, ◌≡◌, ◌≤◌, ◌+◌, ◌*◌, ◌^◌, ◌+ℤ◌, ◌-ℤ◌, int_div, unsigned_abs, pos, map, length, IfOk, OnOk};
-ghost use Rattle.std.specs.List.{enumerate_from, AllByRecursion};
+ghost use Rattle.std.specs.Prelude.{◌≡◌, ◌≤◌, ◌+◌, ◌*◌, ◌^◌, ◌+ℤ◌, ◌-ℤ◌, int_div, unsigned_abs, pos, length, OnOk};
+ghost use Rattle.std.specs.List.{AllByRecursion};
 ghost use Rattle.grid_base.specs.declared.TheConstants.{BOX, ID_MAX};
 ghost use Rattle.grid_base.specs.Points.{position_of};
 ghost use Rattle.grid_base.specs.Triples.{IsWithin, plus, minus};
-ghost use Rattle.edit_base.specs.Classes.{is_one_of};
-ghost use Rattle.edit_pinch.specs.Pinch.{fan_point, divided};
+ghost use Rattle.edit_pinch.specs.Pinch.{fan_point, divided, copies_for};
 ghost use Rattle.edit_pinch.specs.Rims.{with_other, with_corners, found_rim, ways, AreLiveFaces};
+ghost use Rattle.edit_base.specs.Clauses.{OnOkIs};
 
 use crate::fans::Fan;
 use edit_acts::corners_at;
@@ -48,7 +48,7 @@ fn rim<S: Surface>(
     v: VertexId,
     fan: &[FaceId],
 ) -> Result<Items<VertexId>, NoMemory>
-    ensures { IfOk result (λ found. found ≡ found_rim (S.mesh mesh.now) v fan.now) }
+    ensures { OnOkIs result (found_rim (S.mesh mesh.now) v fan.now) }
 {
     let mut found = Items::new(alloc);
     for f in fan {
@@ -137,7 +137,7 @@ pub(crate) fn fan_point<S: Surface>(
     fan: &[FaceId],
 ) -> Result<Point, NoMemory>
     requires { AreLiveFaces (S.mesh mesh.now) fan.now }
-    ensures { IfOk result (λ at. at ≡ fan_point (S.mesh mesh.now) v fan.now) }
+    ensures { OnOkIs result (fan_point (S.mesh mesh.now) v fan.now) }
 {
     let us = rim(alloc, mesh, v, fan)?;
     let sum = ways(mesh, v, us.as_slice());
@@ -153,7 +153,7 @@ pub(crate) fn copies_for<S: Surface>(
 ) -> Result<Copies, NoMemory>
     requires live { AllByRecursion (AreLiveFaces (S.mesh mesh.now)) fans.now }
     requires ids { (S.mesh mesh.now).next_vertex + length fans.now ≤ ID_MAX + 1 }
-    ensures { IfOk result (λ made. made ≡ map (λ e. record { w = e.0; at = fan_point (S.mesh mesh.now) v e.1 }) (enumerate_from (S.mesh mesh.now).next_vertex fans.now)) }
+    ensures { OnOkIs result (copies_for (S.mesh mesh.now) v fans.now) }
 {
     let mut made = Items::new(alloc);
     let mut w = mesh.next_vertex();

@@ -1,5 +1,6 @@
 -- What a done split leaves.
 use Rattle.std.proofs.Common.{◌≡◌, ℕ, Bool, true, false, not, min, max, [], ◌∷◌, None, sym, ap, subst, ◌∙◌}
+use Rattle.std.proofs.lemmas.Bool.{not-false}
 use Rattle.grid_base.specs.declared.Positions.{Positions}
 use Rattle.grid_base.specs.SeparationTests.{IsExact}
 use Rattle.mesh_base.specs.Mesh.{Mesh, IsSound}
@@ -19,7 +20,7 @@ use Rattle.edit_split.specs.Answer.{split_answer}
 use Rattle.edit_base.specs.Clauses.{MovesClear}
 use Rattle.edit_base.specs.Laws.{StaysSound, StaysClosed, StaysClear, MotionIsClear, AlwaysMakes}
 use Rattle.edit_base.proofs.Clear.{none_failing_is_clear, no_name}
-use Rattle.edit_base.proofs.ReasonLaws.{done_is, none_first, does_not_hold, stands, edge_again}
+use Rattle.edit_base.proofs.ReasonLaws.{done_is, none_first, does_not_hold, edge_again}
 use Rattle.edit_acts.proofs.Flow.{below_next}
 use Rattle.edit_base.specs.Beside.{IsBeside}
 use Rattle.edit_split.proofs.SplitClosed.{split_is_closed}
@@ -41,7 +42,7 @@ module _ (meets : Positions → Bool) (u v depth : ℕ) (m : Mesh) (change : Cha
       let two = none_first (reason_if (is_crowded m e.a e.b) Crowded) fulls three.1 in
       let one = none_first (reason_if (is_over_limits scaffold.mesh) Full) hits two.1 in
       let last = none_first (hit_in meets scaffold depth) [] one.1 in (
-        stands _ (does_not_hold _ _ three.0),
+        not-false _ (does_not_hold _ _ three.0),
         does_not_hold _ _ one.0,
         no_name (λ p. Hit p) (first_failing meets scaffold depth) last.0,
         ap (split_result m) (sym four.1) ∙ ap (λ e. split_mesh m e (split_point m (edge_of m u v))) (edge_again m u v),

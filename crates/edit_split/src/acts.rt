@@ -24,7 +24,8 @@ pub fn split_point<S: Surface>(mesh: &S, e: &EdgeFaces) -> Point
 /// one vertex more, two faces more, one vertex id and four face ids.
 pub fn is_split_over<S: Surface>(mesh: &S) -> bool
     ensures counts { result ≡ split_is_over (S.mesh mesh.now) }
-    ensures over { (s : Edge) (at : Point) → IsClosed (S.mesh mesh.now) → HasEdge (S.mesh mesh.now) s → result ≡ is_over_limits (split_mesh (S.mesh mesh.now) s at) }
+    ensures over { let m = S.mesh mesh.now in (s : Edge) (at : Point) →
+        IsClosed m → HasEdge m s → result ≡ is_over_limits (split_mesh m s at) }
 {
     are_over(
         mesh.vertices() + 1,

@@ -1,4 +1,4 @@
-ghost use Rattle.std.specs.Prelude.{◌≡◌, ◌≤◌, ℕ, IfOk, IfErr, OnOk};
+ghost use Rattle.std.specs.Prelude.{◌≡◌, ◌≤◌, IfOk, OnOk};
 ghost use Rattle.grid_decided.specs.Decided.{meets_exactly};
 ghost use Rattle.mesh_base.specs.Sides.{IsClosed};
 ghost use Rattle.mesh_base.specs.Placements.{IsClearMesh};
@@ -8,7 +8,7 @@ ghost use Rattle.edit_base.specs.Edges.{edge_of};
 ghost use Rattle.edit_split.specs.Split.{split_mesh, split_point, split_scaffold};
 ghost use Rattle.edit_base.specs.Scaffold.{first_failing};
 ghost use Rattle.edit_split.specs.Answer.{split_answer};
-ghost use Rattle.edit_base.specs.Clauses.{mesh_after_call, MovesClearOnDone};
+ghost use Rattle.edit_base.specs.Clauses.{mesh_after_call, MovesClearOnDone, OnOkIs, OnErrRefuses};
 ghost use Rattle.edit_split.specs.Done.{split_result, split_tested_on};
 ghost use Rattle.edit_split.specs.Tried.{MayBeTried};
 
@@ -23,9 +23,9 @@ use std::alloc::Global;
 /// The edge of two ids with the faces beside it, if its split may be tried, and else why it is not split.
 fn edge_to_split<S: Surface>(mesh: &S, a: VertexId, b: VertexId) -> Result<EdgeFaces, Why>
     requires closed { IsClosed (S.mesh mesh.now) }
-    ensures edge { IfOk result (λ e. e ≡ edge_of (S.mesh mesh.now) a b) }
+    ensures edge { OnOkIs result (edge_of (S.mesh mesh.now) a b) }
     ensures tried { IfOk result (λ e. MayBeTried (S.mesh mesh.now) e) }
-    ensures refused { IfErr result (λ why. (depth : ℕ) → No why ≡ split_answer meets_exactly (S.mesh mesh.now) a b depth) }
+    ensures refused { OnErrRefuses result (split_answer meets_exactly (S.mesh mesh.now) a b) }
 {
     match edge_beside(mesh, a, b) {
         None => Err(Why::NoEdge),
@@ -55,7 +55,8 @@ fn put_and_check<S: Surface>(
     requires depth { depth ≤ DEPTH_MAX }
     requires tried { MayBeTried (S.mesh mesh.old) e.now }
     requires point { at ≡ split_point (S.mesh mesh.old) e.now }
-    ensures first { IfOk result (λ found. found ≡ first_failing meets_exactly (split_scaffold (S.mesh mesh.old) e.now) depth) }
+    ensures first { OnOkIs result
+        (first_failing meets_exactly (split_scaffold (S.mesh mesh.old) e.now) depth) }
     ensures made { OnOk result (S.mesh mesh.new ≡ split_mesh (S.mesh mesh.old) e.now at) }
     ensures marks { BeginsWith (S.kept mesh.new) (S.kept mesh.old) }
 {
@@ -80,7 +81,8 @@ fn split_or_go_back<S: Surface>(
     requires clear { IsClearMesh (S.mesh mesh.old) }
     requires depth { depth ≤ DEPTH_MAX }
     requires tried { MayBeTried (S.mesh mesh.old) e.now }
-    ensures answer { IfOk result (λ edit. edit ≡ split_answer meets_exactly (S.mesh mesh.old) e.now.a e.now.b depth) }
+    ensures answer { OnOkIs result
+        (split_answer meets_exactly (S.mesh mesh.old) e.now.a e.now.b depth) }
     ensures mesh { S.mesh mesh.new ≡ mesh_after_call split_result (S.mesh mesh.old) result }
     ensures marks { BeginsWith (S.kept mesh.new) (S.kept mesh.old) }
 {
@@ -125,7 +127,7 @@ pub fn split<S: Surface>(
     requires closed { IsClosed (S.mesh mesh.old) }
     requires clear { IsClearMesh (S.mesh mesh.old) }
     requires depth { depth ≤ DEPTH_MAX }
-    ensures answer { IfOk result (λ edit. edit ≡ split_answer meets_exactly (S.mesh mesh.old) a b depth) }
+    ensures answer { OnOkIs result (split_answer meets_exactly (S.mesh mesh.old) a b depth) }
     ensures mesh { S.mesh mesh.new ≡ mesh_after_call split_result (S.mesh mesh.old) result }
     // The mesh stays closed and clear.
     ensures closed { IsClosed (S.mesh mesh.new) }

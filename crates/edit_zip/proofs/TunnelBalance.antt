@@ -1,5 +1,6 @@
 -- The eight faces between two rims of four vertices.
-use Rattle.std.proofs.Common.{◌≡◌, ◌≢◌, ℕ, ◌+◌, cond, List, [], ◌∷◌, sym, arith}
+use Rattle.std.proofs.Common.{◌≡◌, ◌≢◌, ℕ, ◌+◌, cond, List, [], ◌∷◌, arith}
+use Rattle.std.proofs.Math.Logic.{Ne-symm}
 use Rattle.std.specs.List.{AllByRecursion}
 use Rattle.mesh_base.specs.declared.ids.Corners.{Corners}
 use Rattle.mesh_base.specs.Mesh.{Mesh, IsLiveVertex, AreDifferent}
@@ -38,22 +39,19 @@ pub record AreAllLive (m : Mesh) (p0 p1 p2 p3 : ℕ) : Type 0 where
   pub fourth : IsLiveVertex m p3
 
 module _ (p0 p1 p2 p3 r0 r1 r2 r3 : ℕ) (p : IsRim p0 p1 p2 p3) (r : IsRim r0 r1 r2 r3) (f0 : AreFar p0 r0 r1 r2 r3) (f1 : AreFar p1 r0 r1 r2 r3) (f2 : AreFar p2 r0 r1 r2 r3) (f3 : AreFar p3 r0 r1 r2 r3) where
-  back : {x y : ℕ} → x ≢ y → y ≢ x
-  back h e = h (sym e)
-
   of : (x y z : ℕ) → x ≢ y → y ≢ z → z ≢ x → AreDifferent (corners_from x y z)
   of x y z a b c = record { first_second = a; second_third = b; third_first = c }
 
   pub may_be_made : (m : Mesh) → AreAllLive m p0 p1 p2 p3 → AreAllLive m r0 r1 r2 r3 → AllByRecursion (MayBeMade m) (tunnel p0 p1 p2 p3 r0 r1 r2 r3)
   may_be_made m lp lr =
-      let one : MayBeMade m (corners_from p0 p1 r0) = ((lp.first, lp.second, lr.first), of p0 p1 r0 p.first f1.first (back f0.first)) in
-      let two : MayBeMade m (corners_from p1 r1 r0) = ((lp.second, lr.second, lr.first), of p1 r1 r0 f1.second (back r.first) (back f1.first)) in
-      let three : MayBeMade m (corners_from p1 p2 r1) = ((lp.second, lp.third, lr.second), of p1 p2 r1 p.second f2.second (back f1.second)) in
-      let four : MayBeMade m (corners_from p2 r2 r1) = ((lp.third, lr.third, lr.second), of p2 r2 r1 f2.third (back r.second) (back f2.second)) in
-      let five : MayBeMade m (corners_from p2 p3 r2) = ((lp.third, lp.fourth, lr.third), of p2 p3 r2 p.third f3.third (back f2.third)) in
-      let six : MayBeMade m (corners_from p3 r3 r2) = ((lp.fourth, lr.fourth, lr.third), of p3 r3 r2 f3.fourth (back r.third) (back f3.third)) in
-      let seven : MayBeMade m (corners_from p3 p0 r3) = ((lp.fourth, lp.first, lr.fourth), of p3 p0 r3 p.fourth f0.fourth (back f3.fourth)) in
-      let eight : MayBeMade m (corners_from p0 r0 r3) = ((lp.first, lr.first, lr.fourth), of p0 r0 r3 f0.first (back r.fourth) (back f0.fourth)) in
+      let one : MayBeMade m (corners_from p0 p1 r0) = ((lp.first, lp.second, lr.first), of p0 p1 r0 p.first f1.first (Ne-symm f0.first)) in
+      let two : MayBeMade m (corners_from p1 r1 r0) = ((lp.second, lr.second, lr.first), of p1 r1 r0 f1.second (Ne-symm r.first) (Ne-symm f1.first)) in
+      let three : MayBeMade m (corners_from p1 p2 r1) = ((lp.second, lp.third, lr.second), of p1 p2 r1 p.second f2.second (Ne-symm f1.second)) in
+      let four : MayBeMade m (corners_from p2 r2 r1) = ((lp.third, lr.third, lr.second), of p2 r2 r1 f2.third (Ne-symm r.second) (Ne-symm f2.second)) in
+      let five : MayBeMade m (corners_from p2 p3 r2) = ((lp.third, lp.fourth, lr.third), of p2 p3 r2 p.third f3.third (Ne-symm f2.third)) in
+      let six : MayBeMade m (corners_from p3 r3 r2) = ((lp.fourth, lr.fourth, lr.third), of p3 r3 r2 f3.fourth (Ne-symm r.third) (Ne-symm f3.third)) in
+      let seven : MayBeMade m (corners_from p3 p0 r3) = ((lp.fourth, lp.first, lr.fourth), of p3 p0 r3 p.fourth f0.fourth (Ne-symm f3.fourth)) in
+      let eight : MayBeMade m (corners_from p0 r0 r3) = ((lp.first, lr.first, lr.fourth), of p0 r0 r3 f0.first (Ne-symm r.fourth) (Ne-symm f0.fourth)) in
       (one, (two, (three, (four, (five, (six, (seven, (eight, tt))))))))
 
   -- ---- how often a step is made
@@ -85,10 +83,10 @@ module _ (p0 p1 p2 p3 r0 r1 r2 r3 : ℕ) (p : IsRim p0 p1 p2 p3) (r : IsRim r0 r
   tunnel_flow : (u v : ℕ) → flow (tunnel p0 p1 p2 p3 r0 r1 r2 r3) u v ≡ rims u v + across u v
   unfolding across two_ways
   tunnel_flow u v = total _ _ _ _ _ _ _ _ _ _ _ _ _ _ _ _ _ _ _ _ _ _ _ _ _ _ _ _ _ _ _ _
-      (count p0 p1 r0 u v p.first f1.first (back f0.first)) (count p1 r1 r0 u v f1.second (back r.first) (back f1.first))
-      (count p1 p2 r1 u v p.second f2.second (back f1.second)) (count p2 r2 r1 u v f2.third (back r.second) (back f2.second))
-      (count p2 p3 r2 u v p.third f3.third (back f2.third)) (count p3 r3 r2 u v f3.fourth (back r.third) (back f3.third))
-      (count p3 p0 r3 u v p.fourth f0.fourth (back f3.fourth)) (count p0 r0 r3 u v f0.first (back r.fourth) (back f0.fourth))
+      (count p0 p1 r0 u v p.first f1.first (Ne-symm f0.first)) (count p1 r1 r0 u v f1.second (Ne-symm r.first) (Ne-symm f1.first))
+      (count p1 p2 r1 u v p.second f2.second (Ne-symm f1.second)) (count p2 r2 r1 u v f2.third (Ne-symm r.second) (Ne-symm f2.second))
+      (count p2 p3 r2 u v p.third f3.third (Ne-symm f2.third)) (count p3 r3 r2 u v f3.fourth (Ne-symm r.third) (Ne-symm f3.third))
+      (count p3 p0 r3 u v p.fourth f0.fourth (Ne-symm f3.fourth)) (count p0 r0 r3 u v f0.first (Ne-symm r.fourth) (Ne-symm f0.fourth))
     where
       total : (c0 d0 c1 d1 c2 d2 c3 d3 p01 p1r0 r0p0 p1r1 r1r0 r0p1 p12 p2r1 r1p1 p2r2 r2r1 r1p2 p23 p3r2 r2p2 p3r3 r3r2 r2p3 p30 p0r3 r3p3 p0r0 r0r3 r3p0 : ℕ) →
           c0 ≡ p01 + p1r0 + r0p0 → d0 ≡ p1r1 + r1r0 + r0p1 → c1 ≡ p12 + p2r1 + r1p1 → d1 ≡ p2r2 + r2r1 + r1p2 →

@@ -1,5 +1,6 @@
 -- A zip leaves a closed mesh closed.
 use Rattle.std.proofs.Common.{◌≡◌, ◌≢◌, ℕ, ◌+◌, true, cond, [], ◌∷◌, inl, refl, sym, ap, subst, ◌∙◌, arith}
+use Rattle.std.proofs.Math.Logic.{Ne-symm}
 use Rattle.mesh_base.specs.declared.ids.Corners.{Corners}
 use Rattle.mesh_base.specs.Mesh.{Mesh, IsSound, HasCorners, AreDifferent}
 use Rattle.mesh_base.specs.Sides.{follows, runs, IsClosed}
@@ -36,26 +37,23 @@ module _ (m : Mesh) (s t : Edge) (sound : IsSound m) (beside_s : IsBeside m s) (
   abbrev pub bare : Mesh
   bare = without_faces m (s.left_face ∷ s.right_face ∷ t.left_face ∷ t.right_face ∷ [])
 
-  back : {x y : ℕ} → x ≢ y → y ≢ x
-  back h e = h (sym e)
-
   third_off : (v : ℕ) → v ≢ t.c → opposite_vertex beside_t.left_corners t.a t.b ≢ v
   third_off v h e = h (sym e ∙ beside_t.third)
 
   fourth_off : (v : ℕ) → v ≢ t.d → opposite_vertex beside_t.right_corners t.b t.a ≢ v
   fourth_off v h e = h (sym e ∙ beside_t.fourth)
 
-  pub forth_forth : s.left_face ≢ t.left_face
-  forth_forth = faces_apart m s.left_face t.left_face beside_s.left_corners beside_t.left_corners s.a s.b t.a t.b beside_s.left_face beside_t.left_face beside_s.left_runs beside_t.left_runs beside_t.left_different (back apart.a.third) (back apart.a.first) (third_off s.a apart.a.fourth)
+  pub left_left : s.left_face ≢ t.left_face
+  left_left = faces_apart m s.left_face t.left_face beside_s.left_corners beside_t.left_corners s.a s.b t.a t.b beside_s.left_face beside_t.left_face beside_s.left_runs beside_t.left_runs beside_t.left_different (Ne-symm apart.a.third) (Ne-symm apart.a.first) (third_off s.a apart.a.fourth)
 
-  pub forth_back : s.left_face ≢ t.right_face
-  forth_back = faces_apart m s.left_face t.right_face beside_s.left_corners beside_t.right_corners s.a s.b t.b t.a beside_s.left_face beside_t.right_face beside_s.left_runs beside_t.right_runs beside_t.right_different (back apart.a.first) (back apart.a.third) (fourth_off s.a apart.a.second)
+  pub left_right : s.left_face ≢ t.right_face
+  left_right = faces_apart m s.left_face t.right_face beside_s.left_corners beside_t.right_corners s.a s.b t.b t.a beside_s.left_face beside_t.right_face beside_s.left_runs beside_t.right_runs beside_t.right_different (Ne-symm apart.a.first) (Ne-symm apart.a.third) (fourth_off s.a apart.a.second)
 
-  pub back_forth : s.right_face ≢ t.left_face
-  back_forth = faces_apart m s.right_face t.left_face beside_s.right_corners beside_t.left_corners s.b s.a t.a t.b beside_s.right_face beside_t.left_face beside_s.right_runs beside_t.left_runs beside_t.left_different (back apart.b.third) (back apart.b.first) (third_off s.b apart.b.fourth)
+  pub right_left : s.right_face ≢ t.left_face
+  right_left = faces_apart m s.right_face t.left_face beside_s.right_corners beside_t.left_corners s.b s.a t.a t.b beside_s.right_face beside_t.left_face beside_s.right_runs beside_t.left_runs beside_t.left_different (Ne-symm apart.b.third) (Ne-symm apart.b.first) (third_off s.b apart.b.fourth)
 
-  pub back_back : s.right_face ≢ t.right_face
-  back_back = faces_apart m s.right_face t.right_face beside_s.right_corners beside_t.right_corners s.b s.a t.b t.a beside_s.right_face beside_t.right_face beside_s.right_runs beside_t.right_runs beside_t.right_different (back apart.b.first) (back apart.b.third) (fourth_off s.b apart.b.second)
+  pub right_right : s.right_face ≢ t.right_face
+  right_right = faces_apart m s.right_face t.right_face beside_s.right_corners beside_t.right_corners s.b s.a t.b t.a beside_s.right_face beside_t.right_face beside_s.right_runs beside_t.right_runs beside_t.right_different (Ne-symm apart.b.first) (Ne-symm apart.b.third) (fourth_off s.b apart.b.second)
 
   abbrev m1 : Mesh
   m1 = without_face m s.left_face
@@ -77,8 +75,8 @@ module _ (m : Mesh) (s t : Edge) (sound : IsSound m) (beside_s : IsBeside m s) (
       let C4 = beside_t.right_corners in
       let first = runs-without_face m s.left_face beside_s.left_corners u v beside_s.left_face in
       let second = runs-without_face m1 s.right_face beside_s.right_corners u v (still_there m s.left_face s.right_face beside_s.right_corners beside_s.two_faces beside_s.right_face) in
-      let third = runs-without_face m2 t.left_face C3 u v (still_there m1 s.right_face t.left_face C3 back_forth (still_there m s.left_face t.left_face C3 forth_forth beside_t.left_face)) in
-      let fourth = runs-without_face m3 t.right_face C4 u v (still_there m2 t.left_face t.right_face C4 beside_t.two_faces (still_there m1 s.right_face t.right_face C4 back_back (still_there m s.left_face t.right_face C4 forth_back beside_t.right_face))) in
+      let third = runs-without_face m2 t.left_face C3 u v (still_there m1 s.right_face t.left_face C3 right_left (still_there m s.left_face t.left_face C3 left_left beside_t.left_face)) in
+      let fourth = runs-without_face m3 t.right_face C4 u v (still_there m2 t.left_face t.right_face C4 beside_t.two_faces (still_there m1 s.right_face t.right_face C4 right_right (still_there m s.left_face t.right_face C4 left_right beside_t.right_face))) in
       let f = round_of beside_s.left_corners s.a s.b u v beside_s.left_different beside_s.left_runs ∙ same_arcs u v refl refl beside_s.third in
       let g = round_of beside_s.right_corners s.b s.a u v beside_s.right_different beside_s.right_runs ∙ same_arcs u v refl refl beside_s.fourth in
       let h = round_of C3 t.a t.b u v beside_t.left_different beside_t.left_runs ∙ same_arcs u v refl refl beside_t.third in

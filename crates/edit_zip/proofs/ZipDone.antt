@@ -1,7 +1,7 @@
 -- What a done zip leaves.
 use Rattle.std.proofs.Common.{◌≡◌, ℕ, Bool, true, false, not, ◌||◌, ◌==◌, ◌++◌, min, max, [], ◌∷◌, Option, Some, None, is_none, refl, sym, ap, subst, ◌∙◌}
-use Rattle.std.proofs.lemmas.Bool.{false≢true}
-use Rattle.std.specs.List.{find, filter, count_by, AllByRecursion}
+use Rattle.std.proofs.lemmas.Bool.{false≢true, not-false}
+use Rattle.std.specs.List.{find, count_by, AllByRecursion}
 use Rattle.std.specs.Option.{option_map_or, option_or, unwrap_or}
 use Rattle.grid_base.specs.declared.Positions.{Positions}
 use Rattle.grid_base.specs.SeparationTests.{IsExact}
@@ -20,12 +20,12 @@ use Rattle.edit_base.specs.declared.answers.Change.TheVariants.{Zip}
 use Rattle.edit_base.specs.declared.answers.Edit.TheVariants.{Done, No}
 use Rattle.edit_base.specs.Reasons.{reason_if, first_reason}
 use Rattle.edit_base.specs.Edges.{Edge, edge_of, doubles_a_face}
-use Rattle.edit_zip.specs.Zip.{zip_mesh, turns, tried, is_before, turn_reason, taken_turn, last_reason, four_ids, repeats}
+use Rattle.edit_zip.specs.Zip.{zip_mesh, turns, tried, is_before, turn_reason, taken_turn, last_reason, four_ids, repeats, turns_of_rank}
 use Rattle.edit_zip.specs.Done.{zip_result, IsZip}
 use Rattle.edit_zip.specs.Answer.{zip_answer}
 use Rattle.edit_base.specs.Laws.{StaysSound, StaysClosed, StaysClear, AlwaysMakes}
 use Rattle.edit_base.proofs.Clear.{not_found, no_name}
-use Rattle.edit_base.proofs.ReasonLaws.{none_first, does_not_hold, stands, first_false, second_false, edge_again}
+use Rattle.edit_base.proofs.ReasonLaws.{none_first, does_not_hold, first_false, second_false, edge_again}
 use Rattle.edit_base.specs.Beside.{IsBeside}
 use Rattle.edit_base.proofs.Beside.{beside_of}
 use Rattle.edit_zip.proofs.ZipTurns.{disjoint_of, turns_are_closed, turns_are_sound}
@@ -34,10 +34,10 @@ use Rattle.edit_acts.proofs.Found.{found_both}
 -- ---- the turn that is taken
 
 -- each turn that is tried is one of the four
-all_tried : (P : ℕ → Type 0) (m : Mesh) (s t : Edge) → AllByRecursion P turns → AllByRecursion P (tried m s t)
+pub all_tried : (P : ℕ → Type 0) (m : Mesh) (s t : Edge) → AllByRecursion P turns → AllByRecursion P (tried m s t)
 all_tried P m s t h =
-    all_flat_mapped P (λ n. filter (λ k. count_by (λ l. is_before m s t l k) turns == n) turns) turns
-    (all_always (λ n. AllByRecursion P (filter (λ k. count_by (λ l. is_before m s t l k) turns == n) turns)) turns
+    all_flat_mapped P (turns_of_rank m s t) turns
+    (all_always (λ n. AllByRecursion P (turns_of_rank m s t n)) turns
     (λ n. all_filtered P (λ k. count_by (λ l. is_before m s t l k) turns == n) turns (all_weaker P (λ k. (count_by (λ l. is_before m s t l k) turns == n) ≡ true → P k) turns (λ k h _. h) h)))
 
 none_is : {X : Type 0} (o : Option X) → is_none o ≡ true → o ≡ None
@@ -61,8 +61,8 @@ done_of (Some why) turn make else_why change e = absurd cc
 done_of None None make else_why change e = absurd cc
 done_of None (Some k) make else_why change e = let same : make k ≡ change = cc in (refl, (k, refl, same))
 
-not_either : (a b : Bool) → (not a || not b) ≡ false → (a ≡ true) × (b ≡ true)
-not_either a b e = (stands a (first_false (not a) (not b) e), stands b (second_false (not a) (not b) e))
+pub not_either : (a b : Bool) → (not a || not b) ≡ false → (a ≡ true) × (b ≡ true)
+not_either a b e = (not-false a (first_false (not a) (not b) e), not-false b (second_false (not a) (not b) e))
 
 module _ (meets : Positions → Bool) (u v x y : ℕ) (m : Mesh) (change : Change) (sound : IsSound m) (closed : IsClosed m) (done : zip_answer meets m u v x y ≡ Done change) where
   record Facts : Type 0 where

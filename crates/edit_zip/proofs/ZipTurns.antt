@@ -1,5 +1,6 @@
 -- The four turns of a zip: each leaves a closed mesh, and a sound one where no face is doubled.
 use Rattle.std.proofs.Common.{◌≡◌, ◌≢◌, ℕ, ◌+◌, ◌≤◌, false, ◌||◌, ◌==◌, nat_lt, List, [], ◌∷◌, ◌++◌, sym, ap, ◌∙◌, arith}
+use Rattle.std.proofs.Math.Logic.{Ne-symm}
 use Rattle.std.proofs.lemmas.Bool.Decides.{nat_tests}
 use Rattle.std.specs.List.{AllByRecursion}
 use Rattle.std.specs.FinMap as finite
@@ -50,24 +51,21 @@ disjoint_of s t h =
     }
 
 -- ---- the rims, turned
-turned_rim : {a b c d : ℕ} → IsRim a b c d → IsRim b c d a
+pub turned_rim : {a b c d : ℕ} → IsRim a b c d → IsRim b c d a
 turned_rim r = record { first = r.second; second = r.third; third = r.fourth; fourth = r.first }
 
-turned_far : {p a b c d : ℕ} → AreFar p a b c d → AreFar p b c d a
+pub turned_far : {p a b c d : ℕ} → AreFar p a b c d → AreFar p b c d a
 turned_far f = record { first = f.second; second = f.third; third = f.fourth; fourth = f.first }
 
-turned_live : (m : Mesh) {a b c d : ℕ} → AreAllLive m a b c d → AreAllLive m b c d a
+pub turned_live : (m : Mesh) {a b c d : ℕ} → AreAllLive m a b c d → AreAllLive m b c d a
 turned_live m l = record { first = l.second; second = l.third; third = l.fourth; fourth = l.first }
 
 module _ (m : Mesh) (s t : Edge) (sound : IsSound m) (beside_s : IsBeside m s) (beside_t : IsBeside m t) (apart : AreDisjoint s t) where
-  back : {x y : ℕ} → x ≢ y → y ≢ x
-  back h e = h (sym e)
-
   first_rim : IsRim s.b s.c s.a s.d
   first_rim = record { first = beside_s.b_c; second = beside_s.c_a; third = beside_s.a_d; fourth = beside_s.d_b }
 
   second_rim : IsRim t.b t.d t.a t.c
-  second_rim = record { first = back beside_t.d_b; second = back beside_t.a_d; third = back beside_t.c_a; fourth = back beside_t.b_c }
+  second_rim = record { first = Ne-symm beside_t.d_b; second = Ne-symm beside_t.a_d; third = Ne-symm beside_t.c_a; fourth = Ne-symm beside_t.b_c }
 
   first_live : AreAllLive m s.b s.c s.a s.d
   first_live = record { first = beside_s.b_live; second = beside_s.c_live; third = beside_s.a_live; fourth = beside_s.d_live }

@@ -65,9 +65,13 @@ abbrev pub is_before : Mesh → Edge → Edge → ℕ → ℕ → Bool
 is_before m s t k l =
     int_lt (squares m s t k) (squares m s t l) || (not (int_lt (squares m s t l) (squares m s t k)) && nat_lt k l)
 
+-- the turns with so many before them, of which there is one
+abbrev pub turns_of_rank : Mesh → Edge → Edge → ℕ → List ℕ
+turns_of_rank m s t n = filter (λ k. count_by (λ l. is_before m s t l k) turns == n) turns
+
 -- the turns in the order in which they are tried: the one with none before it, with one, with two, with three
 abbrev pub tried : Mesh → Edge → Edge → List ℕ
-tried m s t = flat_map (λ n. filter (λ k. count_by (λ l. is_before m s t l k) turns == n) turns) turns
+tried m s t = flat_map (λ n. turns_of_rank m s t n) turns
 
 -- what is wrong with a turn: it doubles a face, or its result is not clear
 abbrev pub turn_reason : (Positions → Bool) → Mesh → Edge → Edge → ℕ → Option Why

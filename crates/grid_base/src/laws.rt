@@ -61,12 +61,14 @@ pub fn closing_never_meets_before_end()
 
 /// A pair that one of the 23 directions keeps apart at both ends is separated at each depth.
 pub fn kept_apart_is_separated()
-    ensures { (depth : ℕ) (s t : Positions) → Any (KeepsApart s t) (directions s t) → AreSeparated depth s t }
+    ensures { (depth : ℕ) (s t : Positions) →
+        Any (KeepsApart s t) (directions s t) → AreSeparated depth s t }
 {}
 
 /// A pair that one of the 23 directions takes apart opens at each depth.
 pub fn taken_apart_opens()
-    ensures { (depth : ℕ) (s t : Positions) → Any (TakesApart s t) (directions s t) → Opens depth s t }
+    ensures { (depth : ℕ) (s t : Positions) →
+        Any (TakesApart s t) (directions s t) → Opens depth s t }
 {}
 
 /// A direction brings a pair together exactly where it takes the pair apart in the motion backwards.
@@ -90,12 +92,14 @@ pub fn ends_are_apart()
 
 /// The test of separation is true exactly where the definition holds.
 pub fn separation_is_tested()
-    ensures { (depth : ℕ) (s t : Positions) → (IsTrue (are_separated depth s t) ↔ AreSeparated depth s t) }
+    ensures { (depth : ℕ) (s t : Positions) →
+        (IsTrue (are_separated depth s t) ↔ AreSeparated depth s t) }
 {}
 
 /// The test of passing is true exactly where the definition holds, by any exact test of meeting.
 pub fn passing_is_tested()
-    ensures { (meets : Positions → Bool) → IsExact meets → (depth : ℕ) (s t : Positions) → (IsTrue (passes meets depth s t) ↔ Passes depth s t) }
+    ensures { (meets : Positions → Bool) → IsExact meets →
+        (depth : ℕ) (s t : Positions) → (IsTrue (passes meets depth s t) ↔ Passes depth s t) }
 {}
 
 /// The test of opening is true exactly where the definition holds.

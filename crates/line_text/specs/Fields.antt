@@ -4,7 +4,10 @@ use Rattle.line_text.specs.declared.fault.TextWhy.{TextWhy}
 use Rattle.line_text.specs.declared.fault.TextWhy.TheVariants.{Number, Range, Short, Long}
 use Rattle.line_text.specs.declared.number.NumberWhy.{NumberWhy}
 use Rattle.line_text.specs.declared.number.NumberWhy.TheVariants as number
+use Rattle.line_text.specs.declared.blank_words.Words.{Words}
+use Rattle.line_text.specs.declared.pieces.Parts.{Parts}
 use Rattle.line_text.specs.Faults.{◌>>=◌}
+use Rattle.line_text.specs.Remaining.{words_left, parts_left}
 use Rattle.line_text.specs.Numbers.{whole_parts, with_sign, grid_number_of}
 
 -- exactly so many words
@@ -49,3 +52,11 @@ coordinate_of decimals word = coordinate_or_why (grid_number_of decimals word)
 abbrev pub Takes : {X : Type 0} → List (List ℕ) → Result X TextWhy → Result (X × List (List ℕ)) TextWhy → Type 0
 Takes left (Ok x) read = read ≡ Ok (x, left)
 Takes left (Err why) read = read ≡ Err why
+
+-- the same, of the words that were left before and those that are left behind it
+abbrev pub TakesWords : {X : Type 0} → Words → Words → Result X TextWhy → (List (List ℕ) → Result (X × List (List ℕ)) TextWhy) → Type 0
+TakesWords old new result read = Takes (words_left new) result (read (words_left old))
+
+-- the same where a line is cut at each single space
+abbrev pub TakesParts : {X : Type 0} → Parts → Parts → Result X TextWhy → (List (List ℕ) → Result (X × List (List ℕ)) TextWhy) → Type 0
+TakesParts old new result read = Takes (parts_left new) result (read (parts_left old))

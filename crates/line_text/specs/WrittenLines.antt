@@ -1,5 +1,5 @@
 -- Lines that are written word by word.
-use Rattle.std.specs.Prelude.{◌≡◌, ℕ, List, [], ◌∷◌, ◌++◌, length, take, decimal}
+use Rattle.std.specs.Prelude.{◌≡◌, ℕ, List, [], ◌∷◌, ◌++◌, length, take, decimal, Result, OnOk, Vec}
 use Rattle.std.specs.Fmt.{signed_decimal}
 use Rattle.line_text.specs.declared.putting.Field.{Field}
 use Rattle.line_text.specs.declared.putting.Field.TheVariants.{Text, Number, Signed}
@@ -21,6 +21,10 @@ abbrev pub word_of : Field → List ℕ
 word_of (Text text) = text.now
 word_of (Number n) = decimal n
 word_of (Signed n) = signed_decimal n
+
+-- where there was memory, these bytes stand behind those from before
+abbrev pub Appends : {A E Z : Type 0} → Result A E → Vec ℕ Z → Vec ℕ Z → List ℕ → Type 0
+Appends result old new bytes = OnOk result (new.items ≡ old.items ++ bytes)
 
 -- what stood there stands in front
 abbrev pub Keeps : List ℕ → List ℕ → Type 0

@@ -42,7 +42,8 @@ fn word_len(line: &[u8]) -> usize
 
 // The first word and what follows it, if there is a word.
 fn first_word(line: &[u8]) -> Option<(&[u8], &[u8])>
-    ensures { MatchOption result (spec.words_of line.now ≡ []) (λ found. spec.HasFirstWord line.now found.0.now found.1.now) }
+    ensures { MatchOption result (spec.words_of line.now ≡ [])
+        (λ found. spec.HasFirstWord line.now found.0.now found.1.now) }
 {
     let (_, from) = line.split_at(blank_len(line));
     if from.is_empty() {

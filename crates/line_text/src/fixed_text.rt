@@ -1,6 +1,7 @@
-ghost use Rattle.std.specs.Prelude.{◌≡◌, ◌≤◌, ◌<◌, ◌^◌, ◌/◌, ◌-◌, ◌++◌, ◌∷◌, [], length, drop, OnOk, OnErr};
+ghost use Rattle.std.specs.Prelude.{◌≡◌, ◌≤◌, ◌<◌, ◌^◌, ◌/◌, ◌-◌, ◌++◌, ◌∷◌, [], length, drop, OnErr, OnOk};
 ghost use Rattle.grid_base.specs.declared.TheConstants.{DECIMALS_MAX};
 ghost use Rattle.line_text.specs.Numbers as spec;
+ghost use Rattle.line_text.specs.WrittenLines.{Appends};
 
 use grid_base::NoMemory;
 use itoa::write_digits;
@@ -47,7 +48,7 @@ fn put_size(size: u64, decimals: u8, buffer: &mut [u8]) -> usize
 /// a point and exactly so many digits. On refusal `into` is as before.
 pub fn fixed(value: i32, decimals: u8, into: &mut Vec<u8>) -> Result<(), NoMemory>
     requires { decimals ≤ DECIMALS_MAX }
-    ensures ok { OnOk result (into.new.items ≡ into.old.items ++ spec.fixed_text decimals value) }
+    ensures ok { Appends result into.old into.new (spec.fixed_text decimals value) }
     ensures err { OnErr result (into.new.items ≡ into.old.items) }
 {
     let mut buffer = [0; ROOM];
@@ -65,7 +66,8 @@ pub fn fixed(value: i32, decimals: u8, into: &mut Vec<u8>) -> Result<(), NoMemor
 /// Appends the text of a value on the grid, as `fixed` writes it, and the byte behind it. On refusal `out` is as before.
 pub fn put_coordinate(out: &mut Vec<u8>, value: i32, decimals: u8, end: u8) -> Result<(), NoMemory>
     requires { decimals ≤ DECIMALS_MAX }
-    ensures ok { OnOk result (out.new.items ≡ out.old.items ++ spec.fixed_text decimals value ++ end ∷ []) }
+    ensures ok { OnOk result
+        (out.new.items ≡ out.old.items ++ spec.fixed_text decimals value ++ end ∷ []) }
     ensures err { OnErr result (out.new.items ≡ out.old.items) }
 {
     let start = out.len();

@@ -1,5 +1,5 @@
-ghost use Rattle.std.specs.Prelude.{◌≡◌, ◌++◌, ◌∷◌, [], length, take, map, OnOk, OnErr};
-ghost use Rattle.line_text.specs.WrittenLines.{word_of, line_of_words, Keeps};
+ghost use Rattle.std.specs.Prelude.{◌≡◌, ◌++◌, ◌∷◌, [], map, OnErr, OnOk};
+ghost use Rattle.line_text.specs.WrittenLines.{word_of, line_of_words, Keeps, Appends};
 
 use grid_base::NoMemory;
 use itoa::Buffer;
@@ -18,7 +18,7 @@ pub enum Field<'a> {
 
 /// Appends a word, or changes nothing.
 pub fn put_word(field: &Field<'_>, into: &mut Vec<u8>) -> Result<(), NoMemory>
-    ensures ok { OnOk result (into.new.items ≡ into.old.items ++ word_of field.now) }
+    ensures ok { Appends result into.old into.new (word_of field.now) }
     ensures err { OnErr result (into.new.items ≡ into.old.items) }
 {
     let mut buffer = Buffer::new();
@@ -43,7 +43,7 @@ fn put_field(field: &Field<'_>, end: u8, into: &mut Vec<u8>) -> Result<(), NoMem
 /// Appends a line of these words, with one space between them and LF behind the last; nothing where there is no word.
 /// On refusal `into` is as before.
 pub fn put_line(fields: &[Field<'_>], into: &mut Vec<u8>) -> Result<(), NoMemory>
-    ensures ok { OnOk result (into.new.items ≡ into.old.items ++ line_of_words (map word_of fields.now)) }
+    ensures ok { Appends result into.old into.new (line_of_words (map word_of fields.now)) }
     ensures err { OnErr result (into.new.items ≡ into.old.items) }
 {
     let start = into.len();

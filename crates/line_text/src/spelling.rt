@@ -1,6 +1,6 @@
 ghost use Rattle.std.specs.Prelude.{◌≡◌, ◌≤◌, ◌<◌, ◌^◌, unsigned_abs, min, length, IfOk, IfSome};
 ghost use Rattle.line_text.specs.declared.number.TheConstants.{DIGITS_MAX};
-ghost use Rattle.line_text.specs.Fields.{Takes};
+ghost use Rattle.line_text.specs.Fields.{TakesParts};
 ghost use Rattle.line_text.specs.Numbers as numbers;
 ghost use Rattle.line_text.specs.Remaining.{parts_left};
 ghost use Rattle.line_text.specs.Spellings as spec;
@@ -58,7 +58,7 @@ pub fn spelled_from(word: &[u8], low: u64, high: u64) -> Result<u64, TextWhy>
 /// there is no word.
 #[tactic(auto, unfolding(crate::specs::Spellings::spelled_at))]
 pub fn spelled_at(words: &mut Parts<'_>, low: u64, high: u64) -> Result<u64, TextWhy>
-    ensures value { Takes (parts_left words.new) result (spec.spelled_at low high (parts_left words.old)) }
+    ensures value { TakesParts words.old words.new result (spec.spelled_at low high) }
     ensures above { IfOk result (λ n. low ≤ n) }
     ensures below { IfOk result (λ n. n ≤ high) }
 {
@@ -73,7 +73,7 @@ pub fn spelled_at(words: &mut Parts<'_>, low: u64, high: u64) -> Result<u64, Tex
 #[tactic(auto, unfolding(crate::specs::Spellings::spelled_signed_at))]
 pub fn spelled_signed_at(words: &mut Parts<'_>, most: u32) -> Result<i32, TextWhy>
     requires { most < 2 ^ 31 }
-    ensures value { Takes (parts_left words.new) result (spec.spelled_signed_at most (parts_left words.old)) }
+    ensures value { TakesParts words.old words.new result (spec.spelled_signed_at most) }
     ensures within { IfOk result (λ n. unsigned_abs n ≤ most) }
 {
     let Some(word) = words.next() else {
@@ -92,7 +92,7 @@ pub fn spelled_signed_at(words: &mut Parts<'_>, most: u32) -> Result<i32, TextWh
 #[tactic(auto, unfolding(crate::specs::Spellings::spelled_signed_at))]
 pub fn spelled_wide_at(words: &mut Parts<'_>, most: u128) -> Result<i128, TextWhy>
     requires { most < 2 ^ 127 }
-    ensures value { Takes (parts_left words.new) result (spec.spelled_signed_at most (parts_left words.old)) }
+    ensures value { TakesParts words.old words.new result (spec.spelled_signed_at most) }
     ensures within { IfOk result (λ n. unsigned_abs n ≤ most) }
 {
     let Some(word) = words.next() else {

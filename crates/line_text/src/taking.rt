@@ -50,7 +50,7 @@ pub fn count_is(count: usize, words: Words<'_>) -> Result<(), TextWhy>
 /// digits, Range where its number is below `low` or above `high`; `-0` is 0. Short where there is no word.
 #[tactic(auto, unfolding(crate::specs::Fields::number_at))]
 pub fn number_at(words: &mut Words<'_>, low: u32, high: u32) -> Result<u32, TextWhy>
-    ensures value { spec.Takes (words_left words.new) result (spec.number_at low high (words_left words.old)) }
+    ensures value { spec.TakesWords words.old words.new result (spec.number_at low high) }
     ensures above { IfOk result (λ n. low ≤ n) }
     ensures below { IfOk result (λ n. n ≤ high) }
 {
@@ -74,7 +74,7 @@ pub fn number_at(words: &mut Words<'_>, low: u32, high: u32) -> Result<u32, Text
 #[tactic(auto, unfolding(crate::specs::Fields::signed_at))]
 pub fn signed_at(words: &mut Words<'_>, most: u32) -> Result<i32, TextWhy>
     requires { most < 2 ^ 31 }
-    ensures value { spec.Takes (words_left words.new) result (spec.signed_at most (words_left words.old)) }
+    ensures value { spec.TakesWords words.old words.new result (spec.signed_at most) }
     ensures within { IfOk result (λ n. unsigned_abs n ≤ most) }
 {
     let Some(word) = words.next() else {

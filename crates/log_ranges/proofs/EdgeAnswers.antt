@@ -1,5 +1,6 @@
 -- What splits, flips and collapses answer is in range.
 use Rattle.std.proofs.Common.{◌≢◌, ℕ, ◌+◌, ◌<◌, ◌≤◌, Bool, not, ◌||◌, ◌==◌, min, max, [], ◌∷◌, arith}
+use Rattle.std.proofs.lemmas.Bool.{not-false}
 use Rattle.grid_base.specs.declared.Positions.{Positions}
 use Rattle.grid_base.specs.declared.TheConstants.{ID_MAX}
 use Rattle.mesh_base.specs.Mesh.{Mesh, IsSound}
@@ -14,7 +15,7 @@ use Rattle.edit_base.specs.Reasons.{reason_if, is_full, hit_in}
 use Rattle.edit_base.specs.Scaffold.{Scaffold, first_failing, is_as_required}
 use Rattle.edit_base.specs.Beside.{IsBeside}
 use Rattle.edit_base.proofs.Beside.{beside_of}
-use Rattle.edit_base.proofs.ReasonLaws.{stands, first_false}
+use Rattle.edit_base.proofs.ReasonLaws.{first_false}
 use Rattle.edit_split.specs.Split.{split_point, split_scaffold}
 use Rattle.edit_split.specs.Answer.{split_answer}
 use Rattle.edit_split.proofs.SplitSound.{split_is_sound}
@@ -56,7 +57,7 @@ split_in_range meets u v depth m sound closed =
     unless_first (not (is_edge m s.a s.b)) NoEdge crowds done tt (λ edge.
     unless_first (is_crowded m s.a s.b) Crowded fulls done tt (λ alone.
     unless_first (is_over_limits scaffold.mesh) Full hits done tt (λ fits.
-    let beside = beside_of m u v sound closed (stands _ edge) in
+    let beside = beside_of m u v sound closed (not-false _ edge) in
     let after = split_is_sound m s at sound beside fits in
     unless_scaffold_hit meets scaffold depth done after
     (ends_in_range m u v sound beside, new_id m.next_vertex sound.limits.vertex_ids.0 after.limits.vertex_ids.1))))
@@ -74,7 +75,7 @@ flip_in_range meets u v depth m sound closed =
     unless_first (is_crowded m s.a s.b) Crowded edges done tt (λ alone.
     unless_first ((s.c == s.d) || is_edge m s.c s.d) IsAnEdge fulls done tt (λ apart.
     unless_first (is_full scaffold.mesh (flip_mesh m s)) Full hits done tt (λ fits.
-    let beside = beside_of m u v sound closed (stands _ edge) in
+    let beside = beside_of m u v sound closed (not-false _ edge) in
     unless_scaffold_hit meets scaffold depth done
     (split_is_sound m s (split_point m s) sound beside (first_false (is_over_limits scaffold.mesh) _ fits))
     (ends_in_range m u v sound beside)))))
@@ -95,4 +96,4 @@ collapse_in_range meets u v depth m sound closed =
     unless_first (doubles_a_face (joined_faces m a b)) Doubled fulls done tt (λ once.
     unless_first (is_full scaffold.mesh (collapse_mesh m a b at)) Full hits done tt (λ fits.
     unless_scaffold_hit meets scaffold depth done sound
-    (ends_in_range m u v sound (beside_of m u v sound closed (stands _ edge)))))))
+    (ends_in_range m u v sound (beside_of m u v sound closed (not-false _ edge)))))))

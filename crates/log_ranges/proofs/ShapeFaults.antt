@@ -1,6 +1,6 @@
 -- The numbers of a fault of shape are in range.
 use Rattle.std.proofs.Common.{◌≡◌, ℕ, zero, suc, ◌+◌, ◌<◌, ◌≤◌, Bool, true, false, cond, nat_lt, List, [], ◌∷◌, map, length, Option, Some, None, refl, arith}
-use Rattle.std.proofs.lemmas.Bool.Decides.{nat_tests}
+use Rattle.std.proofs.lemmas.Bool.{ltb-false}
 use Rattle.std.specs.Prelude.{◌==◌, not, IfSome}
 use Rattle.std.specs.List.{AllByRecursion, find, flat_map, position_from, range_with_len}
 use Rattle.std.specs.Option.{option_or, option_map}
@@ -107,9 +107,6 @@ told : {X : Type 0} (P : X → Type 0) (make : X → ShapeFault) (o : Option X) 
 told P make (Some x) good h = good x h
 told P make None good h = tt
 
-not_less : (a b : ℕ) → nat_lt a b ≡ false → b ≤ a
-not_less a b e = grind (arith, nat_tests)
-
 module _ (n : ℕ) (fs : Faces) where
   abbrev at_corner : Option ShapeFault
   at_corner = option_map (λ p. NoVertex p.0 p.1) (no_vertex_from n 1 fs)
@@ -144,8 +141,8 @@ module _ (n : ℕ) (fs : Faces) where
     where
       by_faces : (b : Bool) → nat_lt FACES_MAX (length fs) ≡ b → IfSome (option_or (by_count b (TooManyFaces (length fs))) of_faces) IsShapeInRange
       by_faces true e = faces_seen
-      by_faces false e = of_faces_good (not_less FACES_MAX (length fs) e)
+      by_faces false e = of_faces_good (ltb-false FACES_MAX (length fs) e)
 
       by_vertices : (b : Bool) → nat_lt VERTICES_MAX n ≡ b → IfSome (option_or (option_or (by_count b (TooManyVertices n)) (option_or (by_count (nat_lt FACES_MAX (length fs)) (TooManyFaces (length fs))) of_faces)) unbalanced) IsShapeInRange
       by_vertices true e = seen
-      by_vertices false e = or_later (option_or (by_count (nat_lt FACES_MAX (length fs)) (TooManyFaces (length fs))) of_faces) unbalanced (by_faces (nat_lt FACES_MAX (length fs)) refl) (unbalanced_good (not_less VERTICES_MAX n e))
+      by_vertices false e = or_later (option_or (by_count (nat_lt FACES_MAX (length fs)) (TooManyFaces (length fs))) of_faces) unbalanced (by_faces (nat_lt FACES_MAX (length fs)) refl) (unbalanced_good (ltb-false VERTICES_MAX n e))

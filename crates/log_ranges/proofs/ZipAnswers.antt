@@ -1,7 +1,8 @@
 -- What zips answer is in range.
-use Rattle.std.proofs.Common.{◌≡◌, ℕ, ◌≤◌, Bool, true, false, not, ◌||◌, ◌==◌, ◌++◌, List, [], ◌∷◌, Option, Some, None, is_none, refl, arith}
+use Rattle.std.proofs.Common.{◌≡◌, ℕ, ◌≤◌, Bool, false, not, ◌||◌, ◌++◌, List, [], ◌∷◌, Option, Some, None, is_none, refl, arith}
+use Rattle.edit_zip.proofs.ZipDone.{all_tried, not_either}
 use Rattle.std.specs.Prelude.{IfSome}
-use Rattle.std.specs.List.{AllByRecursion, filter, count_by, last_or}
+use Rattle.std.specs.List.{AllByRecursion, last_or}
 use Rattle.std.specs.Option.{option_map_or, option_and_then, unwrap_or}
 use Rattle.grid_base.specs.declared.Positions.{Positions}
 use Rattle.mesh_base.specs.Mesh.{Mesh, IsSound}
@@ -9,7 +10,7 @@ use Rattle.mesh_base.specs.Pairs.{is_edge, is_crowded}
 use Rattle.mesh_base.specs.Placements.{rest_positions}
 use Rattle.mesh_base.specs.Failing.{first_meeting}
 use Rattle.mesh_base.specs.Limits.{is_over_limits}
-use Rattle.mesh_base.proofs.ListedPairs.{all_flat_mapped, all_filtered, all_weaker, all_always}
+use Rattle.mesh_base.proofs.ListedPairs.{all_weaker}
 use Rattle.edit_base.specs.declared.answers.Why.{Why}
 use Rattle.edit_base.specs.declared.answers.Why.TheVariants.{NoEdge, Crowded, Shared, Full, Doubled}
 use Rattle.edit_base.specs.declared.answers.Change.TheVariants.{Zip}
@@ -18,9 +19,8 @@ use Rattle.edit_base.specs.declared.answers.Edit.TheVariants.{Done, No}
 use Rattle.edit_base.specs.Reasons.{reason_if}
 use Rattle.edit_base.specs.Edges.{Edge, edge_of, doubles_a_face}
 use Rattle.edit_base.proofs.Beside.{beside_of}
-use Rattle.edit_base.proofs.ReasonLaws.{stands, first_false, second_false}
 use Rattle.edit_acts.proofs.Found.{found_both}
-use Rattle.edit_zip.specs.Zip.{zip_mesh, turns, tried, is_before, turn_reason, taken_turn, last_reason, four_ids, repeats}
+use Rattle.edit_zip.specs.Zip.{zip_mesh, turns, tried, turn_reason, taken_turn, last_reason, four_ids, repeats}
 use Rattle.edit_zip.specs.Answer.{zip_answer}
 use Rattle.edit_zip.proofs.ZipTurns.{disjoint_of, turns_are_sound}
 use Rattle.log_text.specs.declared.TheConstants.{TURN_MAX}
@@ -29,13 +29,6 @@ use Rattle.log_ranges.specs.Answers.{IsAnswerInRange, AnswersInRange}
 use Rattle.log_ranges.proofs.Names.{meeting_in_range}
 use Rattle.log_ranges.proofs.Reasons.{unless_first, either_in_range, hit_reason}
 use Rattle.log_ranges.proofs.EdgeAnswers.{ends_in_range}
-
--- each turn that is tried is one of the four
-all_tried : (P : ℕ → Type 0) (m : Mesh) (s t : Edge) → AllByRecursion P turns → AllByRecursion P (tried m s t)
-all_tried P m s t h =
-    all_flat_mapped P (λ n. filter (λ k. count_by (λ l. is_before m s t l k) turns == n) turns) turns
-    (all_always (λ n. AllByRecursion P (filter (λ k. count_by (λ l. is_before m s t l k) turns == n) turns)) turns
-    (λ n. all_filtered P (λ k. count_by (λ l. is_before m s t l k) turns == n) turns (all_weaker P (λ k. (count_by (λ l. is_before m s t l k) turns == n) ≡ true → P k) turns (λ k h _. h) h)))
 
 -- what holds of each of a list holds of its last, if there is one
 of_last : {X : Type 0} (P : X → Type 0) (before : Option X) (xs : List X) → IfSome before P → AllByRecursion P xs → IfSome (last_or before xs) P
@@ -55,9 +48,6 @@ last_told reason_of (Some k) why good h = or_told (reason_of k) h
 or_turn : (turn : Option ℕ) (make : ℕ → Edit) (other : Edit) → ((k : ℕ) → turn ≡ Some k → IsAnswerInRange (make k)) → IsAnswerInRange other → IsAnswerInRange (option_map_or make turn other)
 or_turn (Some k) make other made not_made = made k refl
 or_turn None make other made not_made = not_made
-
-not_either : (a b : Bool) → (not a || not b) ≡ false → (a ≡ true) × (b ≡ true)
-not_either a b e = (stands a (first_false (not a) (not b) e), stands b (second_false (not a) (not b) e))
 
 four_turns : AllByRecursion (λ k. k ≤ TURN_MAX) turns
 four_turns = (omega arith, (omega arith, (omega arith, (omega arith, tt))))

@@ -1,14 +1,11 @@
 //! Laws of the ranges of a log's lines. Each is the contract of a function that does nothing.
 
-ghost use Rattle.std.specs.Prelude.{ℕ, Bool};
-ghost use Rattle.grid_base.specs.declared.Positions.{Positions};
-ghost use Rattle.edit_base.specs.declared.Asked.{Asked};
-ghost use Rattle.edit_dispatch.specs.Dispatch.{answer_to};
-ghost use Rattle.edit_split.specs.Answer.{split_answer};
-ghost use Rattle.edit_flip.specs.Answer.{flip_answer};
-ghost use Rattle.edit_collapse.specs.Answer.{collapse_answer};
-ghost use Rattle.edit_zip.specs.Answer.{zip_answer};
-ghost use Rattle.edit_pinch.specs.Answer.{pinch_answer};
+ghost use Rattle.edit_dispatch.specs.Dispatch.{OfEdits};
+ghost use Rattle.edit_split.specs.Answer.{OfSplits};
+ghost use Rattle.edit_flip.specs.Answer.{OfFlips};
+ghost use Rattle.edit_collapse.specs.Answer.{OfCollapses};
+ghost use Rattle.edit_zip.specs.Answer.{OfZips};
+ghost use Rattle.edit_pinch.specs.Answer.{OfPinches};
 ghost use Rattle.log_ranges.specs.Names.{VerticesAreInRange, FacesAreInRange, EdgesAreInRange, PairsAreInRange, FailingPairsAreInRange, FirstMeetingIsInRange, BlocksAreInRange};
 ghost use Rattle.log_ranges.specs.Answers.{AnswersInRange};
 ghost use Rattle.log_ranges.specs.Lines.{CandidatesAreInRange, PassLinesAreInRange, StepLinesAreInRange, WaysAreInRange, MeshLinesAreInRange};
@@ -29,12 +26,12 @@ pub fn names_are_in_range()
 /// What each edit answers of a sound and closed mesh is in the log's ranges: the change that is done, or the reason against it with
 /// the pair that is hit.
 pub fn answers_are_in_range()
-    ensures split { (meets : Positions → Bool) (u v depth : ℕ) → AnswersInRange (λ m. split_answer meets m u v depth) }
-    ensures flip { (meets : Positions → Bool) (u v depth : ℕ) → AnswersInRange (λ m. flip_answer meets m u v depth) }
-    ensures collapse { (meets : Positions → Bool) (u v depth : ℕ) → AnswersInRange (λ m. collapse_answer meets m u v depth) }
-    ensures zip { (meets : Positions → Bool) (u v x y : ℕ) → AnswersInRange (λ m. zip_answer meets m u v x y) }
-    ensures pinch { (meets : Positions → Bool) (v depth : ℕ) → AnswersInRange (λ m. pinch_answer meets m v depth) }
-    ensures any { (meets : Positions → Bool) (depth : ℕ) (what : Asked) → AnswersInRange (λ m. answer_to meets m depth what) }
+    ensures split { OfSplits AnswersInRange }
+    ensures flip { OfFlips AnswersInRange }
+    ensures collapse { OfCollapses AnswersInRange }
+    ensures zip { OfZips AnswersInRange }
+    ensures pinch { OfPinches AnswersInRange }
+    ensures any { OfEdits AnswersInRange }
 {}
 
 /// What a pass asks of a sound mesh is in the log's ranges; and of a sound and closed mesh so are all lines of a pass whose length is.

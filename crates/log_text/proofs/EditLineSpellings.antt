@@ -26,10 +26,10 @@ use Rattle.log_text.specs.Values.{edge_at, position_at, place_at, reason_of, rea
 use Rattle.log_text.specs.EditLines.{pass_of, split_of, flip_of, collapse_of, zip_of, reason_with_end, asked_of, no_of, edit_of, at_least, ids_add, block_of, places_add, first_place, pinch_of}
 use Rattle.log_text.specs.Laws.{IsFrom, IsEdgeInRange, IsPassInRange, IsChangeInRange, IsAskedInRange, IsReasonOfVersion, IsInRange}
 use Rattle.line_text.proofs.ReadSteps.{bound, ok_same, picked, fault_value}
-use Rattle.log_text.proofs.Exactness.{IsExact, count_with_end-length, count_with_end-back, spelled_at-exact}
+use Rattle.log_text.proofs.Exactness.{IsExact, count_with_end-length, count_with_end-of_read, spelled_at-exact}
 use Rattle.log_text.proofs.Spellings.{both-exact, one}
 use Rattle.log_text.proofs.EditSpellings.{Edge, edge_words, EdgeFits, edge_at-exact, position_at-exact, PlaceFits, place_at-exact, ReasonFits, reason_at-exact}
-use Rattle.log_text.proofs.Lists.{at_least-length, at_least-back, ids_add-back, ids_add-forth, places_add-back, places_add-forth, first_place-back, first_place-forth}
+use Rattle.log_text.proofs.Lists.{at_least-length, at_least-of_read, ids_add-of_read, ids_add-of_written, places_add-of_read, places_add-of_written, first_place-of_read, first_place-of_written}
 use Rattle.log_text.proofs.LineForms.{IsSpelling, again, spelled, alone_again, alone_spelled, one_again, one_spelled}
 
 -- ---- passes
@@ -119,36 +119,36 @@ zip_back version ended words l h = spelled (both edge_at (both edge_at (spelled_
 
 -- ---- edits that are not done
 
-reason_with_end-forth : (version : ℕ) (w : Why) → IsReasonOfVersion version w → reason_with_end version true (reason_words w) ≡ Ok tt
+reason_with_end-of_written : (version : ℕ) (w : Why) → IsReasonOfVersion version w → reason_with_end version true (reason_words w) ≡ Ok tt
 unfolding reason_with_end reason_of
-reason_with_end-forth version reason.NoEdge o = count_with_end-length 0 [] refl
-reason_with_end-forth version reason.Crowded o = count_with_end-length 0 [] refl
-reason_with_end-forth version reason.Edge o = count_with_end-length 0 [] refl
-reason_with_end-forth version reason.Shared o = count_with_end-length 0 [] refl
-reason_with_end-forth version reason.Full o = count_with_end-length 0 [] refl
-reason_with_end-forth version reason.Doubled o = count_with_end-length 0 [] refl
-reason_with_end-forth version reason.OneFan o = count_with_end-length 0 [] refl
-reason_with_end-forth version (reason.Hit pair) o = count_with_end-length 3 (pair_words pair) refl
-reason_with_end-forth version reason.Solid o = let P : ℕ → Type 0 = λ n. reason_with_end n true (codes "solid" ∷ []) ≡ Ok tt in subst P (sym o) (count_with_end-length 0 [] refl)
+reason_with_end-of_written version reason.NoEdge o = count_with_end-length 0 [] refl
+reason_with_end-of_written version reason.Crowded o = count_with_end-length 0 [] refl
+reason_with_end-of_written version reason.Edge o = count_with_end-length 0 [] refl
+reason_with_end-of_written version reason.Shared o = count_with_end-length 0 [] refl
+reason_with_end-of_written version reason.Full o = count_with_end-length 0 [] refl
+reason_with_end-of_written version reason.Doubled o = count_with_end-length 0 [] refl
+reason_with_end-of_written version reason.OneFan o = count_with_end-length 0 [] refl
+reason_with_end-of_written version (reason.Hit pair) o = count_with_end-length 3 (pair_words pair) refl
+reason_with_end-of_written version reason.Solid o = let P : ℕ → Type 0 = λ n. reason_with_end n true (codes "solid" ∷ []) ≡ Ok tt in subst P (sym o) (count_with_end-length 0 [] refl)
 
 nothing : (ws : List (List ℕ)) → length ws ≡ 0 → ws ≡ []
 nothing [] e = refl
 nothing (w ∷ ws) e = absurd (omega (arith, e))
 
 one_word : (ended : Bool) (rest : List (List ℕ)) (u : Unit {0}) → count_with_end ended 0 rest ≡ Ok u → (ended ≡ true) × (rest ≡ [])
-one_word ended rest u h = let c = count_with_end-back ended 0 rest u h in (c.0, nothing rest c.1)
+one_word ended rest u h = let c = count_with_end-of_read ended 0 rest u h in (c.0, nothing rest c.1)
 
-reason_with_end-back : (version : ℕ) (w : Why) → IsReasonOfVersion version w → (ended : Bool) (rest : List (List ℕ)) (u : Unit {0}) → reason_with_end version ended (reason_words w ++ rest) ≡ Ok u → (ended ≡ true) × (rest ≡ [])
+reason_with_end-of_read : (version : ℕ) (w : Why) → IsReasonOfVersion version w → (ended : Bool) (rest : List (List ℕ)) (u : Unit {0}) → reason_with_end version ended (reason_words w ++ rest) ≡ Ok u → (ended ≡ true) × (rest ≡ [])
 unfolding reason_with_end reason_of
-reason_with_end-back version reason.NoEdge o ended rest u h = one_word ended rest u h
-reason_with_end-back version reason.Crowded o ended rest u h = one_word ended rest u h
-reason_with_end-back version reason.Edge o ended rest u h = one_word ended rest u h
-reason_with_end-back version reason.Shared o ended rest u h = one_word ended rest u h
-reason_with_end-back version reason.Full o ended rest u h = one_word ended rest u h
-reason_with_end-back version reason.Doubled o ended rest u h = one_word ended rest u h
-reason_with_end-back version reason.OneFan o ended rest u h = one_word ended rest u h
-reason_with_end-back version (reason.Hit pair) o ended rest u h = let c = count_with_end-back ended 3 (pair_words pair ++ rest) u h in (c.0, nothing rest (omega (arith, c.1)))
-reason_with_end-back version reason.Solid o ended rest u h = let P : ℕ → Type 0 = λ n. reason_with_end n ended (codes "solid" ∷ rest) ≡ Ok u in one_word ended rest u (subst P o h)
+reason_with_end-of_read version reason.NoEdge o ended rest u h = one_word ended rest u h
+reason_with_end-of_read version reason.Crowded o ended rest u h = one_word ended rest u h
+reason_with_end-of_read version reason.Edge o ended rest u h = one_word ended rest u h
+reason_with_end-of_read version reason.Shared o ended rest u h = one_word ended rest u h
+reason_with_end-of_read version reason.Full o ended rest u h = one_word ended rest u h
+reason_with_end-of_read version reason.Doubled o ended rest u h = one_word ended rest u h
+reason_with_end-of_read version reason.OneFan o ended rest u h = one_word ended rest u h
+reason_with_end-of_read version (reason.Hit pair) o ended rest u h = let c = count_with_end-of_read ended 3 (pair_words pair ++ rest) u h in (c.0, nothing rest (omega (arith, c.1)))
+reason_with_end-of_read version reason.Solid o ended rest u h = let P : ℕ → Type 0 = λ n. reason_with_end n ended (codes "solid" ∷ rest) ≡ Ok u in one_word ended rest u (subst P o h)
 
 drop_front : (xs ys : List (List ℕ)) → drop (length xs) (xs ++ ys) ≡ ys
 drop_front [] ys = refl
@@ -167,8 +167,8 @@ module _ {A : Type 0} (version count : ℕ) (read : Reader A) (wa : A → List (
   asked_again : (a : A) (w : Why) → R a → ReasonFits version w → asked_of version true count read (wa a ++ reason_words w) ≡ Ok (a, w)
   unfolding asked_of
   asked_again a w r q =
-      let counted : reason_with_end version true (drop count (wa a ++ reason_words w)) ≡ Ok tt = ap (reason_with_end version true) (behind a (reason_words w)) ∙ reason_with_end-forth version w q.1 in
-      let found : both read (reason_at version) (wa a ++ reason_words w) ≡ Ok ((a, w), []) = ap (both read (reason_at version)) (sym (append-nil (wa a ++ reason_words w))) ∙ with_reason-exact.forth (a, w) [] (r, q) in
+      let counted : reason_with_end version true (drop count (wa a ++ reason_words w)) ≡ Ok tt = ap (reason_with_end version true) (behind a (reason_words w)) ∙ reason_with_end-of_written version w q.1 in
+      let found : both read (reason_at version) (wa a ++ reason_words w) ≡ Ok ((a, w), []) = ap (both read (reason_at version)) (sym (append-nil (wa a ++ reason_words w))) ∙ with_reason-exact.of_written (a, w) [] (r, q) in
       rw (counted, found) refl
 
   record AskedSpelled (ended : Bool) (words : List (List ℕ)) (p : Pair) : Type 0 where
@@ -182,11 +182,11 @@ module _ {A : Type 0} (version count : ℕ) (read : Reader A) (wa : A → List (
   asked_back ended words p h =
       let c = bound (reason_with_end version ended (drop count words)) (λ (u : Unit {0}). both read (reason_at version) words >>= λ found. Ok found.0) p h in
       let x = bound (both read (reason_at version) words) (λ (found : Pair × List (List ℕ)). Ok found.0) p c.after in
-      let b = with_reason-exact.back words x.value.0 x.value.1 x.first in
+      let b = with_reason-exact.of_read words x.value.0 x.value.1 x.first in
       let front = wa x.value.0.0 in
       let reason = reason_words x.value.0.1 in
       let cut : drop count words ≡ reason ++ x.value.1 = ap (drop count) (b.0 ∙ append_assoc front reason x.value.1) ∙ behind x.value.0.0 (reason ++ x.value.1) in
-      let n = reason_with_end-back version x.value.0.1 b.1.1.1 ended x.value.1 c.value (ap (reason_with_end version ended) (sym cut) ∙ c.first) in
+      let n = reason_with_end-of_read version x.value.0.1 b.1.1.1 ended x.value.1 c.value (ap (reason_with_end version ended) (sym cut) ∙ c.first) in
       let here : AskedSpelled ended words x.value.0 = record { has_end = n.0; same = b.0 ∙ ap (λ (t : List (List ℕ)). (front ++ reason) ++ t) n.1 ∙ append-nil (front ++ reason); fits = b.1.0; reason_fits = b.1.1 } in
       subst (AskedSpelled ended words) (ok_same x.value.0 p x.after) here
 
@@ -258,15 +258,15 @@ edit_back version ended first words l h =
 
 pub block_again : (ids : List ℕ) → IsInRange (line.Block ids) → block_of true (map decimal ids) ≡ Ok (line.Block ids)
 unfolding block_of
-block_again ids r = rw (at_least-length 2 (map decimal ids) (omega (arith, length-map ids decimal, r.0)), ids_add-forth [] 1 ids r.1) refl
+block_again ids r = rw (at_least-length 2 (map decimal ids) (omega (arith, length-map ids decimal, r.0)), ids_add-of_written [] 1 ids r.1) refl
 
 pub block_back : (version : ℕ) (ended : Bool) (words : List (List ℕ)) (l : LogLine) → block_of ended words ≡ Ok l → IsSpelling version ended (codes "block" ∷ words) l
 unfolding block_of
 block_back version ended words l h =
     let c = bound (at_least ended 2 words) (λ (u : Unit {0}). ids_add [] 1 words >>= λ ids. Ok (line.Block ids)) l h in
     let b = bound (ids_add [] 1 words) (λ (ids : List ℕ). Ok (line.Block ids)) l c.after in
-    let n = at_least-back ended 2 words c.value c.first in
-    let i = ids_add-back [] 1 words b.value b.first in
+    let n = at_least-of_read ended 2 words c.value c.first in
+    let i = ids_add-of_read [] 1 words b.value b.first in
     let long : 2 ≤ length i.more = omega (arith, ap length i.same, length-map i.more decimal, n.1) in
     let here : IsSpelling version ended (codes "block" ∷ words) (line.Block i.more) = record { has_end = n.0; same = ap (λ (t : List (List ℕ)). codes "block" ∷ t) (sym i.same); fits = (long, i.rising); of_version = tt } in
     subst (IsSpelling version ended (codes "block" ∷ words)) (ap line.Block (sym i.all) ∙ ok_same (line.Block b.value) l b.after) here
@@ -285,8 +285,8 @@ pinch_with first copies = line.Did (change.Pinch first.w first.at copies)
 pub pinch_again : (v : ℕ) (at : Point) (copies : List CopyAt) → IsInRange (line.Did (change.Pinch v at copies)) → pinch_of true (places_words (place v at ∷ copies)) ≡ Ok (line.Did (change.Pinch v at copies))
 unfolding pinch_of
 pinch_again v at copies r =
-    ap (λ (found : Result (CopyAt × List (List ℕ)) TextWhy). found >>= λ first. places_add [] first.1 >>= λ copies. Ok (pinch_with first.0 copies)) (first_place-forth (place v at) copies r.0 r.1)
-    ∙ ap (λ (found : Result (List CopyAt) TextWhy). found >>= λ copies. Ok (pinch_with (place v at) copies)) (places_add-forth [] copies (recursion_from_All Fits copies r.2))
+    ap (λ (found : Result (CopyAt × List (List ℕ)) TextWhy). found >>= λ first. places_add [] first.1 >>= λ copies. Ok (pinch_with first.0 copies)) (first_place-of_written (place v at) copies r.0 r.1)
+    ∙ ap (λ (found : Result (List CopyAt) TextWhy). found >>= λ copies. Ok (pinch_with (place v at) copies)) (places_add-of_written [] copies (recursion_from_All Fits copies r.2))
 
 some_places : (places : List CopyAt) → 0 < length (places_words places) → 0 < length places
 some_places [] some = absurd (omega arith)
@@ -297,8 +297,8 @@ unfolding pinch_of
 pinch_back version ended words l h =
     let x = bound (first_place ended words) (λ (first : CopyAt × List (List ℕ)). places_add [] first.1 >>= λ copies. Ok (pinch_with first.0 copies)) l h in
     let y = bound (places_add [] x.value.1) (λ (copies : List CopyAt). Ok (pinch_with x.value.0 copies)) l x.after in
-    let f = first_place-back ended words x.value.0 x.value.1 x.first in
-    let p = places_add-back [] x.value.1 y.value y.first in
+    let f = first_place-of_read ended words x.value.0 x.value.1 x.first in
+    let p = places_add-of_read [] x.value.1 y.value y.first in
     let some : 0 < length p.more = some_places p.more (omega (arith, f.some, ap length p.same)) in
     let same : places_words (x.value.0 ∷ p.more) ≡ words = sym (f.same ∙ ap (λ (t : List (List ℕ)). place_words x.value.0 ++ t) p.same) in
     let here : IsSpelling version ended (codes "pinch" ∷ words) (pinch_with x.value.0 p.more) = record { has_end = f.has_end; same = ap (λ (t : List (List ℕ)). codes "pinch" ∷ t) same; fits = (f.fits, some, All-from_recursion Fits p.more p.fit); of_version = tt } in

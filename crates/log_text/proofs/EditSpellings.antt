@@ -91,18 +91,18 @@ reason_of-some version word w h =
 abbrev Found : Type 0
 Found = Why × List (List ℕ)
 
-reason_at-back : (version : ℕ) (words : List (List ℕ)) (w : Why) (rest : List (List ℕ)) → reason_at version words ≡ Ok (w, rest) → (words ≡ reason_words w ++ rest) × ReasonFits version w
+reason_at-of_read : (version : ℕ) (words : List (List ℕ)) (w : Why) (rest : List (List ℕ)) → reason_at version words ≡ Ok (w, rest) → (words ≡ reason_words w ++ rest) × ReasonFits version w
 unfolding reason_at
-reason_at-back version [] w rest h = absurd (let no : ⊥ = cc in no)
-reason_at-back version (word ∷ words) w rest h =
+reason_at-of_read version [] w rest h = absurd (let no : ⊥ = cc in no)
+reason_at-of_read version (word ∷ words) w rest h =
     let P : List ℕ → Type 0 = λ t. (t ∷ words ≡ reason_words w ++ rest) × ReasonFits version w in
     picked P word (codes "hit") (pair_at words >>= λ pair. Ok (reason.Hit pair.0, pair.1)) (or_number (reason_of version word) >>= λ found. Ok (found, words)) (Ok (w, rest))
     (λ e.
     let b = bound (pair_at words) (λ (pair : PairName × List (List ℕ)). Ok (reason.Hit pair.0, pair.1)) (w, rest) e in
     let same : ◌≡◌ {A = Found} (reason.Hit b.value.0, b.value.1) (w, rest) = ok_same (reason.Hit b.value.0, b.value.1) (w, rest) b.after in
-    let back = pair_at-exact.back words b.value.0 b.value.1 b.first in
+    let of_read = pair_at-exact.of_read words b.value.0 b.value.1 b.first in
     let Q : Found → Type 0 = λ f. (codes "hit" ∷ words ≡ reason_words f.0 ++ f.1) × ReasonFits version f.0 in
-    subst Q same (ap (λ (t : List (List ℕ)). codes "hit" ∷ t) back.0, (back.1, tt)))
+    subst Q same (ap (λ (t : List (List ℕ)). codes "hit" ∷ t) of_read.0, (of_read.1, tt)))
     (λ e.
     let b = bound (or_number (reason_of version word)) (λ (found : Why). Ok (found, words)) (w, rest) e in
     let same : ◌≡◌ {A = Found} (b.value, words) (w, rest) = ok_same (b.value, words) (w, rest) b.after in
@@ -111,17 +111,17 @@ reason_at-back version (word ∷ words) w rest h =
     subst Q same (ap (λ (t : List (List ℕ)). t ++ words) some.0, some.1))
     h
 
-reason_at-forth : (version : ℕ) (w : Why) (words : List (List ℕ)) → ReasonFits version w → reason_at version (reason_words w ++ words) ≡ Ok (w, words)
+reason_at-of_written : (version : ℕ) (w : Why) (words : List (List ℕ)) → ReasonFits version w → reason_at version (reason_words w ++ words) ≡ Ok (w, words)
 unfolding reason_at reason_of
-reason_at-forth version reason.NoEdge words r = refl
-reason_at-forth version reason.Crowded words r = refl
-reason_at-forth version reason.Edge words r = refl
-reason_at-forth version reason.Shared words r = refl
-reason_at-forth version reason.Full words r = refl
-reason_at-forth version reason.Doubled words r = refl
-reason_at-forth version reason.OneFan words r = refl
-reason_at-forth version (reason.Hit pair) words r = ap (λ (found : Result (PairName × List (List ℕ)) TextWhy). found >>= λ pair. Ok (reason.Hit pair.0, pair.1)) (pair_at-exact.forth pair words r.0)
-reason_at-forth version reason.Solid words r = let P : ℕ → Type 0 = λ n. reason_at n (codes "solid" ∷ words) ≡ Ok (reason.Solid, words) in subst P (sym r.1) refl
+reason_at-of_written version reason.NoEdge words r = refl
+reason_at-of_written version reason.Crowded words r = refl
+reason_at-of_written version reason.Edge words r = refl
+reason_at-of_written version reason.Shared words r = refl
+reason_at-of_written version reason.Full words r = refl
+reason_at-of_written version reason.Doubled words r = refl
+reason_at-of_written version reason.OneFan words r = refl
+reason_at-of_written version (reason.Hit pair) words r = ap (λ (found : Result (PairName × List (List ℕ)) TextWhy). found >>= λ pair. Ok (reason.Hit pair.0, pair.1)) (pair_at-exact.of_written pair words r.0)
+reason_at-of_written version reason.Solid words r = let P : ℕ → Type 0 = λ n. reason_at n (codes "solid" ∷ words) ≡ Ok (reason.Solid, words) in subst P (sym r.1) refl
 
 pub reason_at-exact : (version : ℕ) → IsExact (reason_at version) reason_words (ReasonFits version)
-reason_at-exact version = record { forth = reason_at-forth version; back = reason_at-back version }
+reason_at-exact version = record { of_written = reason_at-of_written version; of_read = reason_at-of_read version }

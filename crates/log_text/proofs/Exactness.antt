@@ -43,65 +43,65 @@ or_number-some (Some b) a h = ap Some (ok_same b a h)
 
 -- reading gives a value exactly where its words stand in front and it is in range
 pub record IsExact {A : Type 0} (read : Reader A) (words_of : A → List (List ℕ)) (InRange : A → Type 0) : Type 0 where
-  pub forth : (a : A) (words : List (List ℕ)) → InRange a → read (words_of a ++ words) ≡ Ok (a, words)
-  pub back : (words : List (List ℕ)) (a : A) (rest : List (List ℕ)) → read words ≡ Ok (a, rest) → (words ≡ words_of a ++ rest) × InRange a
+  pub of_written : (a : A) (words : List (List ℕ)) → InRange a → read (words_of a ++ words) ≡ Ok (a, words)
+  pub of_read : (words : List (List ℕ)) (a : A) (rest : List (List ℕ)) → read words ≡ Ok (a, rest) → (words ≡ words_of a ++ rest) × InRange a
 
-spelled_at-back : (low high : ℕ) → high < 2 ^ 64 → (words : List (List ℕ)) (n : ℕ) (rest : List (List ℕ)) → spelled_at low high words ≡ Ok (n, rest) → (words ≡ decimal n ∷ rest) × ((low ≤ n) × (n ≤ high))
+spelled_at-of_read : (low high : ℕ) → high < 2 ^ 64 → (words : List (List ℕ)) (n : ℕ) (rest : List (List ℕ)) → spelled_at low high words ≡ Ok (n, rest) → (words ≡ decimal n ∷ rest) × ((low ≤ n) × (n ≤ high))
 unfolding spelled_at
-spelled_at-back low high small [] n rest h = absurd (let no : ⊥ = cc in no)
-spelled_at-back low high small (word ∷ words) n rest h =
+spelled_at-of_read low high small [] n rest h = absurd (let no : ⊥ = cc in no)
+spelled_at-of_read low high small (word ∷ words) n rest h =
     let b = bound (spelled_from low high (spelled_number word)) (λ (m : ℕ). Ok (m, words)) (n, rest) h in
     let e : ◌≡◌ {A = ℕ × List (List ℕ)} (b.value, words) (n, rest) = ok_same (b.value, words) (n, rest) b.after in
     let s = word_number-some low high b.value word small b.first in
     let P : ℕ × List (List ℕ) → Type 0 = λ r. (word ∷ words ≡ decimal r.0 ∷ r.1) × ((low ≤ r.0) × (r.0 ≤ high)) in
     subst P e (ap (λ w. w ∷ words) s.0, (s.1, s.2))
 
-spelled_at-forth : (low high : ℕ) → high < 2 ^ 64 → (n : ℕ) (words : List (List ℕ)) → (low ≤ n) × (n ≤ high) → spelled_at low high (decimal n ∷ words) ≡ Ok (n, words)
+spelled_at-of_written : (low high : ℕ) → high < 2 ^ 64 → (n : ℕ) (words : List (List ℕ)) → (low ≤ n) × (n ≤ high) → spelled_at low high (decimal n ∷ words) ≡ Ok (n, words)
 unfolding spelled_at
-spelled_at-forth low high small n words r = ap (λ (found : Result ℕ TextWhy). found >>= λ n. Ok (n, words)) (word_number-decimal low high n r.0 r.1 small)
+spelled_at-of_written low high small n words r = ap (λ (found : Result ℕ TextWhy). found >>= λ n. Ok (n, words)) (word_number-decimal low high n r.0 r.1 small)
 
 pub spelled_at-exact : (low high : ℕ) → high < 2 ^ 64 → IsExact (spelled_at low high) (λ n. decimal n ∷ []) (λ n. (low ≤ n) × (n ≤ high))
-spelled_at-exact low high small = record { forth = spelled_at-forth low high small; back = spelled_at-back low high small }
+spelled_at-exact low high small = record { of_written = spelled_at-of_written low high small; of_read = spelled_at-of_read low high small }
 
 module _ {A B : Type 0} (first : Reader A) (second : A → Reader B) (wa : A → List (List ℕ)) (wb : A → B → List (List ℕ)) (R : A → Type 0) (S : A → B → Type 0) (f : IsExact first wa R) (g : (a : A) → IsExact (second a) (wb a) (S a)) where
-  in_turn-forth : (p : A × B) (words : List (List ℕ)) → R p.0 × S p.0 p.1 → in_turn first second ((wa p.0 ++ wb p.0 p.1) ++ words) ≡ Ok (p, words)
-  in_turn-forth p words r = rw (append_assoc, f.forth p.0 (wb p.0 p.1 ++ words) r.0, (g p.0).forth p.1 words r.1) refl
+  in_turn-of_written : (p : A × B) (words : List (List ℕ)) → R p.0 × S p.0 p.1 → in_turn first second ((wa p.0 ++ wb p.0 p.1) ++ words) ≡ Ok (p, words)
+  in_turn-of_written p words r = rw (append_assoc, f.of_written p.0 (wb p.0 p.1 ++ words) r.0, (g p.0).of_written p.1 words r.1) refl
 
-  in_turn-back : (words : List (List ℕ)) (p : A × B) (rest : List (List ℕ)) → in_turn first second words ≡ Ok (p, rest) → (words ≡ (wa p.0 ++ wb p.0 p.1) ++ rest) × (R p.0 × S p.0 p.1)
-  in_turn-back words p rest h =
+  in_turn-of_read : (words : List (List ℕ)) (p : A × B) (rest : List (List ℕ)) → in_turn first second words ≡ Ok (p, rest) → (words ≡ (wa p.0 ++ wb p.0 p.1) ++ rest) × (R p.0 × S p.0 p.1)
+  in_turn-of_read words p rest h =
       let x = bound (first words) (λ (a : A × List (List ℕ)). second a.0 a.1 >>= λ b. Ok ((a.0, b.0), b.1)) (p, rest) h in
       let y = bound (second x.value.0 x.value.1) (λ (b : B × List (List ℕ)). Ok ((x.value.0, b.0), b.1)) (p, rest) x.after in
       let e : ◌≡◌ {A = (A × B) × List (List ℕ)} ((x.value.0, y.value.0), y.value.1) (p, rest) = ok_same ((x.value.0, y.value.0), y.value.1) (p, rest) y.after in
-      let fb = f.back words x.value.0 x.value.1 x.first in
-      let sb = (g x.value.0).back x.value.1 y.value.0 y.value.1 y.first in
+      let fb = f.of_read words x.value.0 x.value.1 x.first in
+      let sb = (g x.value.0).of_read x.value.1 y.value.0 y.value.1 y.first in
       let P : (A × B) × List (List ℕ) → Type 0 = λ q. (words ≡ (wa q.0.0 ++ wb q.0.0 q.0.1) ++ q.1) × (R q.0.0 × S q.0.0 q.0.1) in
       subst P e (fb.0 ∙ ap (λ (t : List (List ℕ)). wa x.value.0 ++ t) sb.0 ∙ sym (append_assoc (wa x.value.0) (wb x.value.0 y.value.0) y.value.1), (fb.1, sb.1))
 
   pub in_turn-exact : IsExact (in_turn first second) (λ p. wa p.0 ++ wb p.0 p.1) (λ p. R p.0 × S p.0 p.1)
-  in_turn-exact = record { forth = in_turn-forth; back = in_turn-back }
+  in_turn-exact = record { of_written = in_turn-of_written; of_read = in_turn-of_read }
 
 -- values that are made of what was read
 module _ {A B : Type 0} (read : Reader A) (wa : A → List (List ℕ)) (R : A → Type 0) (wb : B → List (List ℕ)) (S : B → Type 0) (make : A → B) (parts : B → A) (f : IsExact read wa R) (made : (a : A) → R a → (wb (make a) ≡ wa a) × S (make a)) (again : (b : B) → S b → (make (parts b) ≡ b) × R (parts b)) where
   abbrev made_reader : Reader B
   made_reader words = read words >>= λ found. Ok (make found.0, found.1)
 
-  made-forth : (b : B) (words : List (List ℕ)) → S b → made_reader (wb b ++ words) ≡ Ok (b, words)
-  made-forth b words s =
+  made-of_written : (b : B) (words : List (List ℕ)) → S b → made_reader (wb b ++ words) ≡ Ok (b, words)
+  made-of_written b words s =
       let r = again b s in
       let same : wb b ≡ wa (parts b) = ap wb (sym r.0) ∙ (made (parts b) r.1).0 in
-      ap (λ (t : List (List ℕ)). made_reader (t ++ words)) same ∙ ap (λ (found : Result (A × List (List ℕ)) TextWhy). found >>= λ found. Ok (make found.0, found.1)) (f.forth (parts b) words r.1) ∙ ap (λ (c : B). Ok (c, words)) r.0
+      ap (λ (t : List (List ℕ)). made_reader (t ++ words)) same ∙ ap (λ (found : Result (A × List (List ℕ)) TextWhy). found >>= λ found. Ok (make found.0, found.1)) (f.of_written (parts b) words r.1) ∙ ap (λ (c : B). Ok (c, words)) r.0
 
-  made-back : (words : List (List ℕ)) (b : B) (rest : List (List ℕ)) → made_reader words ≡ Ok (b, rest) → (words ≡ wb b ++ rest) × S b
-  made-back words b rest h =
+  made-of_read : (words : List (List ℕ)) (b : B) (rest : List (List ℕ)) → made_reader words ≡ Ok (b, rest) → (words ≡ wb b ++ rest) × S b
+  made-of_read words b rest h =
       let x = bound (read words) (λ (found : A × List (List ℕ)). Ok (make found.0, found.1)) (b, rest) h in
       let e : ◌≡◌ {A = B × List (List ℕ)} (make x.value.0, x.value.1) (b, rest) = ok_same (make x.value.0, x.value.1) (b, rest) x.after in
-      let fb = f.back words x.value.0 x.value.1 x.first in
+      let fb = f.of_read words x.value.0 x.value.1 x.first in
       let m = made x.value.0 fb.1 in
       let P : B × List (List ℕ) → Type 0 = λ q. (words ≡ wb q.0 ++ q.1) × S q.0 in
       subst P e (fb.0 ∙ ap (λ (t : List (List ℕ)). t ++ x.value.1) (sym m.0), m.1)
 
   pub made-exact : IsExact made_reader wb S
-  made-exact = record { forth = made-forth; back = made-back }
+  made-exact = record { of_written = made-of_written; of_read = made-of_read }
 
 -- ---- how many words
 
@@ -112,9 +112,9 @@ count_with_end-length count words e =
     let b : ltb count (length words) ≡ false = le-ltb count (length words) (omega arith) in
     rw (a, b) refl
 
-pub count_with_end-back : (ended : Bool) (count : ℕ) (words : List (List ℕ)) (u : Unit {0}) → count_with_end ended count words ≡ Ok u → (ended ≡ true) × (length words ≡ count)
+pub count_with_end-of_read : (ended : Bool) (count : ℕ) (words : List (List ℕ)) (u : Unit {0}) → count_with_end ended count words ≡ Ok u → (ended ≡ true) × (length words ≡ count)
 unfolding count_with_end
-count_with_end-back ended count words u h =
+count_with_end-of_read ended count words u h =
     by_test (ltb (length words) count) (Err Short) (if ended then (if ltb count (length words) then Err Long else Ok tt) else Err Short) (Ok u)
     (λ t e. fault_value Short u e)
     (λ t e. by_test ended (if ltb count (length words) then Err Long else Ok tt) (Err Short) (Ok u)
@@ -133,17 +133,17 @@ none_left xs [] e = refl
 none_left xs (y ∷ ys) e = absurd (omega (arith, e, length-append xs (y ∷ ys)))
 
 module _ {A : Type 0} (read : Reader A) (wa : A → List (List ℕ)) (R : A → Type 0) (f : IsExact read wa R) (count : ℕ) (long : (a : A) → length (wa a) ≡ count) where
-  pub whole-forth : (a : A) → R a → whole true count read (wa a) ≡ Ok a
-  whole-forth a r =
-      let e : read (wa a) ≡ Ok (a, []) = ap read (sym (append-nil (wa a))) ∙ f.forth a [] r in
+  pub whole-of_written : (a : A) → R a → whole true count read (wa a) ≡ Ok a
+  whole-of_written a r =
+      let e : read (wa a) ≡ Ok (a, []) = ap read (sym (append-nil (wa a))) ∙ f.of_written a [] r in
       rw (count_with_end-length count (wa a) (long a), e) refl
 
-  pub whole-back : (ended : Bool) (words : List (List ℕ)) (a : A) → whole ended count read words ≡ Ok a → (ended ≡ true) × (words ≡ wa a) × R a
-  whole-back ended words a h =
+  pub whole-of_read : (ended : Bool) (words : List (List ℕ)) (a : A) → whole ended count read words ≡ Ok a → (ended ≡ true) × (words ≡ wa a) × R a
+  whole-of_read ended words a h =
       let c = bound (count_with_end ended count words) (λ (u : Unit {0}). read words >>= λ found. Ok found.0) a h in
       let x = bound (read words) (λ (found : A × List (List ℕ)). Ok found.0) a c.after in
-      let n = count_with_end-back ended count words c.value c.first in
-      let b = f.back words x.value.0 x.value.1 x.first in
+      let n = count_with_end-of_read ended count words c.value c.first in
+      let b = f.of_read words x.value.0 x.value.1 x.first in
       let none : x.value.1 ≡ [] = none_left (wa x.value.0) x.value.1 (sym (ap length b.0) ∙ n.1 ∙ sym (long x.value.0)) in
       let same : words ≡ wa x.value.0 = b.0 ∙ ap (λ (t : List (List ℕ)). wa x.value.0 ++ t) none ∙ append-nil (wa x.value.0) in
       let P : A → Type 0 = λ v. (ended ≡ true) × (words ≡ wa v) × R v in
@@ -186,19 +186,19 @@ size_in_range most z le = rw (le-leb (unsigned_abs z) most le) (ap Ok (sign_agai
 word_signed-decimal : (most : ℕ) (z : ℤ) → unsigned_abs z ≤ most → most < 2 ^ 32 → spelled_up_to most (spelled_parts (signed_decimal z)) ≡ Ok z
 word_signed-decimal most z le small = ap (spelled_up_to most) (spelled_parts-decimal z (omega (arith, le, small))) ∙ size_in_range most z le
 
-spelled_signed_at-back : (most : ℕ) → most < 2 ^ 32 → (words : List (List ℕ)) (n : ℤ) (rest : List (List ℕ)) → spelled_signed_at most words ≡ Ok (n, rest) → (words ≡ signed_decimal n ∷ rest) × (unsigned_abs n ≤ most)
+spelled_signed_at-of_read : (most : ℕ) → most < 2 ^ 32 → (words : List (List ℕ)) (n : ℤ) (rest : List (List ℕ)) → spelled_signed_at most words ≡ Ok (n, rest) → (words ≡ signed_decimal n ∷ rest) × (unsigned_abs n ≤ most)
 unfolding spelled_signed_at
-spelled_signed_at-back most small [] n rest h = fault_value Short (n, rest) h
-spelled_signed_at-back most small (word ∷ words) n rest h =
+spelled_signed_at-of_read most small [] n rest h = fault_value Short (n, rest) h
+spelled_signed_at-of_read most small (word ∷ words) n rest h =
     let b = bound (spelled_up_to most (spelled_parts word)) (λ (m : ℤ). Ok (m, words)) (n, rest) h in
     let e : ◌≡◌ {A = ℤ × List (List ℕ)} (b.value, words) (n, rest) = ok_same (b.value, words) (n, rest) b.after in
     let s = word_signed-some most b.value word small b.first in
     let P : ℤ × List (List ℕ) → Type 0 = λ r. (word ∷ words ≡ signed_decimal r.0 ∷ r.1) × (unsigned_abs r.0 ≤ most) in
     subst P e (ap (λ w. w ∷ words) s.0, s.1)
 
-spelled_signed_at-forth : (most : ℕ) → most < 2 ^ 32 → (n : ℤ) (words : List (List ℕ)) → unsigned_abs n ≤ most → spelled_signed_at most (signed_decimal n ∷ words) ≡ Ok (n, words)
+spelled_signed_at-of_written : (most : ℕ) → most < 2 ^ 32 → (n : ℤ) (words : List (List ℕ)) → unsigned_abs n ≤ most → spelled_signed_at most (signed_decimal n ∷ words) ≡ Ok (n, words)
 unfolding spelled_signed_at
-spelled_signed_at-forth most small n words r = ap (λ (found : Result ℤ TextWhy). found >>= λ n. Ok (n, words)) (word_signed-decimal most n r small)
+spelled_signed_at-of_written most small n words r = ap (λ (found : Result ℤ TextWhy). found >>= λ n. Ok (n, words)) (word_signed-decimal most n r small)
 
 pub spelled_signed_at-exact : (most : ℕ) → most < 2 ^ 32 → IsExact (spelled_signed_at most) (λ n. signed_decimal n ∷ []) (λ n. unsigned_abs n ≤ most)
-spelled_signed_at-exact most small = record { forth = spelled_signed_at-forth most small; back = spelled_signed_at-back most small }
+spelled_signed_at-exact most small = record { of_written = spelled_signed_at-of_written most small; of_read = spelled_signed_at-of_read most small }

@@ -12,7 +12,7 @@ use Rattle.log_text.specs.Lines.{line_words, pair_words}
 use Rattle.log_text.specs.Values.{whole, alone, pair_at, fault_at}
 use Rattle.log_text.specs.Laws.{IsFrom, IsPairInRange, IsInRange, IsOfVersion}
 use Rattle.line_text.proofs.ReadSteps.{bound, ok_same}
-use Rattle.log_text.proofs.Exactness.{IsExact, count_with_end-length, count_with_end-back, whole-forth, whole-back, spelled_at-exact}
+use Rattle.log_text.proofs.Exactness.{IsExact, count_with_end-length, count_with_end-of_read, whole-of_written, whole-of_read, spelled_at-exact}
 use Rattle.log_text.proofs.Spellings.{two_numbers, pair_at-exact, FaultFits, fault_at-exact, fault_words}
 
 -- the words are those of a line in range, and LF stands behind them
@@ -28,12 +28,12 @@ Makes {A} version front wa R make = (a : A) → R a → (line_words (make a) ≡
 
 module _ {A : Type 0} (read : Reader A) (wa : A → List (List ℕ)) (R : A → Type 0) (f : IsExact read wa R) (count : ℕ) (long : (a : A) → length (wa a) ≡ count) (make : A → LogLine) where
   pub again : (a : A) → R a → (whole true count read (wa a) >>= λ a. Ok (make a)) ≡ Ok (make a)
-  again a r = ap (λ (found : Result A TextWhy). found >>= λ a. Ok (make a)) (whole-forth read wa R f count long a r)
+  again a r = ap (λ (found : Result A TextWhy). found >>= λ a. Ok (make a)) (whole-of_written read wa R f count long a r)
 
   pub spelled : (version : ℕ) (front : List (List ℕ)) → Makes version front wa R make → (ended : Bool) (words : List (List ℕ)) (l : LogLine) → (whole ended count read words >>= λ a. Ok (make a)) ≡ Ok l → IsSpelling version ended (front ++ words) l
   spelled version front makes ended words l h =
       let b = bound (whole ended count read words) (λ (a : A). Ok (make a)) l h in
-      let w = whole-back read wa R f count long ended words b.value b.first in
+      let w = whole-of_read read wa R f count long ended words b.value b.first in
       let m = makes b.value w.2 in
       let here : IsSpelling version ended (front ++ words) (make b.value) = record { has_end = w.0; same = m.0 ∙ ap (λ (t : List (List ℕ)). front ++ t) (sym w.1); fits = m.1; of_version = m.2 } in
       subst (IsSpelling version ended (front ++ words)) (ok_same (make b.value) l b.after) here
@@ -45,7 +45,7 @@ alone_again l = ap (λ (found : Result (Unit {0}) TextWhy). found >>= λ u. Ok l
 pub alone_spelled : (version : ℕ) (front : List (List ℕ)) (ended : Bool) (k : LogLine) (words : List (List ℕ)) (l : LogLine) → line_words k ≡ front ++ [] → IsInRange k → IsOfVersion version k → alone ended k words ≡ Ok l → IsSpelling version ended (front ++ words) l
 alone_spelled version front ended k words l same range of h =
     let b = bound (count_with_end ended 0 words) (λ (u : Unit {0}). Ok k) l h in
-    let n = count_with_end-back ended 0 words b.value b.first in
+    let n = count_with_end-of_read ended 0 words b.value b.first in
     let here : IsSpelling version ended (front ++ words) k = record { has_end = n.0; same = same ∙ ap (λ (t : List (List ℕ)). front ++ t) (sym (none words n.1)); fits = range; of_version = of } in
     subst (IsSpelling version ended (front ++ words)) (ok_same k l b.after) here
   where

@@ -29,7 +29,7 @@ use Rattle.log_text.specs.Laws.{IsFrom, IsUseInRange, IsInRange, IsUseOfVersion,
 use Rattle.line_text.proofs.ReadSteps.{bound, ok_same, picked, picked_if, fault_value}
 use Rattle.log_text.proofs.LineForms.{IsSpelling, again, spelled, alone_again, alone_spelled, number_of, one_again, one_spelled, Two, two_again, two_spelled, pair_again, pair_spelled, fault_again, fault_spelled}
 use Rattle.log_text.proofs.EditLineSpellings.{pass_again, split_again, flip_again, collapse_again, zip_again, no_again, block_again, pinch_again, edit_back, block_back, pinch_back}
-use Rattle.log_text.proofs.Exactness.{IsExact, count_with_end-length, count_with_end-back, word_number-decimal, word_number-some}
+use Rattle.log_text.proofs.Exactness.{IsExact, count_with_end-length, count_with_end-of_read, word_number-decimal, word_number-some}
 use Rattle.log_text.proofs.Spellings.{three_numbers, shift_of_at-exact, shift_of_words, file_of-word, file_of-some}
 
 -- ---- what is printed is read
@@ -39,7 +39,7 @@ unfolding use_numbers
 use_again make at v a b =
     let c = count_with_end-length 1 (decimal v ∷ []) refl in
     let n = word_number-decimal 1 COUNT_MAX at a.0 a.1 (lit< tt) in
-    let m = (number_of 1 ID_MAX (lit< tt)).forth v [] b in
+    let m = (number_of 1 ID_MAX (lit< tt)).of_written v [] b in
     rw (c, n, m) refl
 
 field_again : (at : ℕ) → IsFrom 1 COUNT_MAX at → (use_line true (decimal at) [] >>= λ n. refused (refusal.StepUse n using.NoField)) ≡ Ok (line.Refused (refusal.StepUse at using.NoField))
@@ -215,15 +215,15 @@ nothing : (ws : List (List ℕ)) → length ws ≡ 0 → ws ≡ []
 nothing [] e = refl
 nothing (w ∷ ws) e = absurd (omega (arith, e))
 
-use_numbers-back : (ended : Bool) (at : List ℕ) (words : List (List ℕ)) (n : Two) → use_numbers ended at words ≡ Ok n → UseSpelled ended at words n
+use_numbers-of_read : (ended : Bool) (at : List ℕ) (words : List (List ℕ)) (n : Two) → use_numbers ended at words ≡ Ok n → UseSpelled ended at words n
 unfolding use_numbers
-use_numbers-back ended at words n h =
+use_numbers-of_read ended at words n h =
     let c = bound (count_with_end ended 1 words) (λ (u : Unit {0}). spelled_from 1 COUNT_MAX (spelled_number at) >>= λ number. spelled_at 1 ID_MAX words >>= λ v. Ok (number, v.0)) n h in
     let k = bound (spelled_from 1 COUNT_MAX (spelled_number at)) (λ (number : ℕ). spelled_at 1 ID_MAX words >>= λ v. Ok (number, v.0)) n c.after in
     let v = bound (spelled_at 1 ID_MAX words) (λ (v : ℕ × List (List ℕ)). Ok (k.value, v.0)) n k.after in
-    let counted = count_with_end-back ended 1 words c.value c.first in
+    let counted = count_with_end-of_read ended 1 words c.value c.first in
     let at_is = word_number-some 1 COUNT_MAX k.value at (lit< tt) k.first in
-    let found = (number_of 1 ID_MAX (lit< tt)).back words v.value.0 v.value.1 v.first in
+    let found = (number_of 1 ID_MAX (lit< tt)).of_read words v.value.0 v.value.1 v.first in
     let rest : v.value.1 ≡ [] = nothing v.value.1 (omega (arith, ap length found.0, counted.1)) in
     let here : UseSpelled ended at words (k.value, v.value.0) = record { has_end = counted.0; at_is = at_is.0; words_are = found.0 ∙ ap (λ (t : List (List ℕ)). decimal v.value.0 ∷ t) rest; at_fits = (at_is.1, at_is.2); fits = found.1 } in
     subst (UseSpelled ended at words) (ok_same (k.value, v.value.0) n v.after) here
@@ -231,7 +231,7 @@ use_numbers-back ended at words n h =
 use_spelled : (version : ℕ) (make : ℕ → UseWhy) (word : List ℕ) → ((v : ℕ) → use_words (make v) ≡ word ∷ decimal v ∷ []) → ((v : ℕ) → IsFrom 1 ID_MAX v → IsUseInRange (make v)) → ((v : ℕ) → IsUseOfVersion version (make v)) → (ended : Bool) (at : List ℕ) (words : List (List ℕ)) (l : LogLine) → (use_numbers ended at words >>= λ n. refused (refusal.StepUse n.0 (make n.1))) ≡ Ok l → IsSpelling version ended (codes "refused" ∷ codes "use" ∷ at ∷ word ∷ words) l
 use_spelled version make word same fits of ended at words l h =
     let b = bound (use_numbers ended at words) (λ (n : Two). refused (refusal.StepUse n.0 (make n.1))) l h in
-    let u = use_numbers-back ended at words b.value b.first in
+    let u = use_numbers-of_read ended at words b.value b.first in
     let ws : line_words (line.Refused (refusal.StepUse b.value.0 (make b.value.1))) ≡ codes "refused" ∷ codes "use" ∷ at ∷ word ∷ words =
     ap (λ (t : List (List ℕ)). codes "refused" ∷ codes "use" ∷ decimal b.value.0 ∷ t) (same b.value.1) ∙ ap (λ (t : List (List ℕ)). codes "refused" ∷ codes "use" ∷ decimal b.value.0 ∷ word ∷ t) (sym u.words_are) ∙ ap (λ (t : List ℕ). codes "refused" ∷ codes "use" ∷ t ∷ word ∷ words) (sym u.at_is) in
     let here : IsSpelling version ended (codes "refused" ∷ codes "use" ∷ at ∷ word ∷ words) (line.Refused (refusal.StepUse b.value.0 (make b.value.1))) = record { has_end = u.has_end; same = ws; fits = (u.at_fits, fits b.value.1 u.fits); of_version = of b.value.1 } in
@@ -242,7 +242,7 @@ unfolding use_line
 field_spelled version ended at words l h =
     let b = bound (use_line ended at words) (λ (n : ℕ). refused (refusal.StepUse n using.NoField)) l h in
     let c = bound (count_with_end ended 0 words) (λ (u : Unit {0}). spelled_from 1 COUNT_MAX (spelled_number at)) b.value b.first in
-    let counted = count_with_end-back ended 0 words c.value c.first in
+    let counted = count_with_end-of_read ended 0 words c.value c.first in
     let at_is = word_number-some 1 COUNT_MAX b.value at (lit< tt) c.after in
     let none : words ≡ [] = nothing words counted.1 in
     let ws : line_words (line.Refused (refusal.StepUse b.value using.NoField)) ≡ codes "refused" ∷ codes "use" ∷ at ∷ codes "field" ∷ words =

@@ -24,9 +24,9 @@ pub at_least-length : (count : ℕ) (words : List (List ℕ)) → count ≤ leng
 unfolding at_least
 at_least-length count words le = rw (le-ltb (length words) count le) refl
 
-pub at_least-back : (ended : Bool) (count : ℕ) (words : List (List ℕ)) (u : Unit {0}) → at_least ended count words ≡ Ok u → (ended ≡ true) × (count ≤ length words)
+pub at_least-of_read : (ended : Bool) (count : ℕ) (words : List (List ℕ)) (u : Unit {0}) → at_least ended count words ≡ Ok u → (ended ≡ true) × (count ≤ length words)
 unfolding at_least
-at_least-back ended count words u h =
+at_least-of_read ended count words u h =
     by_test (ltb (length words) count) (Err Short) (if ended then Ok tt else Err Short) (Ok u)
     (λ t e. fault_value Short u e)
     (λ t e. by_test ended (Ok tt) (Err Short) (Ok u) (λ s g. (s, ltb-false (length words) count t)) (λ s g. fault_value Short u g) e)
@@ -41,12 +41,12 @@ pub record IdsAdded (before : List ℕ) (low : ℕ) (words : List (List ℕ)) (i
   pub same : words ≡ map decimal more
   pub rising : AreRising low more
 
-pub ids_add-back : (before : List ℕ) (low : ℕ) (words : List (List ℕ)) (ids : List ℕ) → ids_add before low words ≡ Ok ids → IdsAdded before low words ids
-ids_add-back before low [] ids h = record { more = []; all = sym (ok_same before ids h) ∙ sym (append-nil before); same = refl; rising = tt }
-ids_add-back before low (word ∷ words) ids h =
+pub ids_add-of_read : (before : List ℕ) (low : ℕ) (words : List (List ℕ)) (ids : List ℕ) → ids_add before low words ≡ Ok ids → IdsAdded before low words ids
+ids_add-of_read before low [] ids h = record { more = []; all = sym (ok_same before ids h) ∙ sym (append-nil before); same = refl; rising = tt }
+ids_add-of_read before low (word ∷ words) ids h =
     let b = bound (spelled_from low ID_MAX (spelled_number word)) (λ (v : ℕ). ids_add (before ++ v ∷ []) (v + 1) words) ids h in
     let s = word_number-some low ID_MAX b.value word (lit< tt) b.first in
-    let i = ids_add-back (before ++ b.value ∷ []) (b.value + 1) words ids b.after in
+    let i = ids_add-of_read (before ++ b.value ∷ []) (b.value + 1) words ids b.after in
     record {
       more = b.value ∷ i.more;
       all = i.all ∙ append_assoc before (b.value ∷ []) i.more;
@@ -54,11 +54,11 @@ ids_add-back before low (word ∷ words) ids h =
       rising = ((s.1, s.2), i.rising);
     }
 
-pub ids_add-forth : (before : List ℕ) (low : ℕ) (ids : List ℕ) → AreRising low ids → ids_add before low (map decimal ids) ≡ Ok (before ++ ids)
-ids_add-forth before low [] r = ap Ok (sym (append-nil before))
-ids_add-forth before low (v ∷ ids) r =
+pub ids_add-of_written : (before : List ℕ) (low : ℕ) (ids : List ℕ) → AreRising low ids → ids_add before low (map decimal ids) ≡ Ok (before ++ ids)
+ids_add-of_written before low [] r = ap Ok (sym (append-nil before))
+ids_add-of_written before low (v ∷ ids) r =
     ap (λ (found : Result ℕ TextWhy). found >>= λ v. ids_add (before ++ v ∷ []) (v + 1) (map decimal ids)) (word_number-decimal low ID_MAX v r.0.0 r.0.1 (lit< tt))
-    ∙ ids_add-forth (before ++ v ∷ []) (v + 1) ids r.1
+    ∙ ids_add-of_written (before ++ v ∷ []) (v + 1) ids r.1
     ∙ ap Ok (append_assoc before (v ∷ []) ids)
 
 -- ---- vertices and their points
@@ -68,11 +68,11 @@ AllFit places = AllByRecursion PlaceFits places
 
 -- the words of a place, and those behind it
 pub place_cut : (words : List (List ℕ)) (place : CopyAt) (rest : List (List ℕ)) → place_at words ≡ Ok (place, rest) → words ≡ place_words place ++ rest
-place_cut words place rest h = (place_at-exact.back words place rest h).0
+place_cut words place rest h = (place_at-exact.of_read words place rest h).0
 
 -- one place is added
 pub place_adds : (before : List CopyAt) (place : CopyAt) (rest : List (List ℕ)) → PlaceFits place → places_add before (place_words place ++ rest) ≡ places_add (before ++ place ∷ []) rest
-place_adds before place rest r = ap (λ (found : Result (CopyAt × List (List ℕ)) TextWhy). found >>= λ place. places_add (before ++ place.0 ∷ []) rest) (place_at-exact.forth place rest r)
+place_adds before place rest r = ap (λ (found : Result (CopyAt × List (List ℕ)) TextWhy). found >>= λ place. places_add (before ++ place.0 ∷ []) rest) (place_at-exact.of_written place rest r)
 
 -- the places that were added to those so far
 pub record PlacesAdded (before : List CopyAt) (words : List (List ℕ)) (places : List CopyAt) : Type 0 where
@@ -81,15 +81,15 @@ pub record PlacesAdded (before : List CopyAt) (words : List (List ℕ)) (places 
   pub same : words ≡ places_words more
   pub fit : AllFit more
 
-pub places_add-back : (before : List CopyAt) (words : List (List ℕ)) (places : List CopyAt) → places_add before words ≡ Ok places → PlacesAdded before words places
-places_add-back before [] places h = record { more = []; all = sym (ok_same before places h) ∙ sym (append-nil before); same = refl; fit = tt }
-places_add-back before (w ∷ []) places h = fault_value Short places h
-places_add-back before (w ∷ x ∷ []) places h = fault_value Short places h
-places_add-back before (w ∷ x ∷ y ∷ []) places h = fault_value Short places h
-places_add-back before (w ∷ x ∷ y ∷ z ∷ words) places h =
+pub places_add-of_read : (before : List CopyAt) (words : List (List ℕ)) (places : List CopyAt) → places_add before words ≡ Ok places → PlacesAdded before words places
+places_add-of_read before [] places h = record { more = []; all = sym (ok_same before places h) ∙ sym (append-nil before); same = refl; fit = tt }
+places_add-of_read before (w ∷ []) places h = fault_value Short places h
+places_add-of_read before (w ∷ x ∷ []) places h = fault_value Short places h
+places_add-of_read before (w ∷ x ∷ y ∷ []) places h = fault_value Short places h
+places_add-of_read before (w ∷ x ∷ y ∷ z ∷ words) places h =
     let b = bound (place_at (w ∷ x ∷ y ∷ z ∷ words)) (λ (place : CopyAt × List (List ℕ)). places_add (before ++ place.0 ∷ []) words) places h in
-    let p = place_at-exact.back (w ∷ x ∷ y ∷ z ∷ words) b.value.0 b.value.1 b.first in
-    let i = places_add-back (before ++ b.value.0 ∷ []) words places b.after in
+    let p = place_at-exact.of_read (w ∷ x ∷ y ∷ z ∷ words) b.value.0 b.value.1 b.first in
+    let i = places_add-of_read (before ++ b.value.0 ∷ []) words places b.after in
     record {
       more = b.value.0 ∷ i.more;
       all = i.all ∙ append_assoc before (b.value.0 ∷ []) i.more;
@@ -97,11 +97,11 @@ places_add-back before (w ∷ x ∷ y ∷ z ∷ words) places h =
       fit = (p.1, i.fit);
     }
 
-pub places_add-forth : (before places : List CopyAt) → AllFit places → places_add before (places_words places) ≡ Ok (before ++ places)
-places_add-forth before [] r = ap Ok (sym (append-nil before))
-places_add-forth before (place ∷ places) r =
+pub places_add-of_written : (before places : List CopyAt) → AllFit places → places_add before (places_words places) ≡ Ok (before ++ places)
+places_add-of_written before [] r = ap Ok (sym (append-nil before))
+places_add-of_written before (place ∷ places) r =
     place_adds before place (places_words places) r.0
-    ∙ places_add-forth (before ++ place ∷ []) places r.1
+    ∙ places_add-of_written (before ++ place ∷ []) places r.1
     ∙ ap Ok (append_assoc before (place ∷ []) places)
 
 pub four_by_four-places : (places : List CopyAt) → four_by_four (places_words places) ≡ Ok tt
@@ -116,13 +116,13 @@ pub record FirstPlace (ended : Bool) (words : List (List ℕ)) (place : CopyAt) 
   pub whole : four_by_four rest ≡ Ok tt
   pub fits : PlaceFits place
 
-pub first_place-back : (ended : Bool) (words : List (List ℕ)) (place : CopyAt) (rest : List (List ℕ)) → first_place ended words ≡ Ok (place, rest) → FirstPlace ended words place rest
+pub first_place-of_read : (ended : Bool) (words : List (List ℕ)) (place : CopyAt) (rest : List (List ℕ)) → first_place ended words ≡ Ok (place, rest) → FirstPlace ended words place rest
 unfolding first_place
-first_place-back ended words place rest h =
+first_place-of_read ended words place rest h =
     let c = bound (at_least ended 8 words) (λ (u : Unit {0}). four_by_four words >>= λ whole. place_at words) (place, rest) h in
     let f = bound (four_by_four words) (λ (u : Unit {0}). place_at words) (place, rest) c.after in
-    let n = at_least-back ended 8 words c.value c.first in
-    let p = place_at-exact.back words place rest f.after in
+    let n = at_least-of_read ended 8 words c.value c.first in
+    let p = place_at-exact.of_read words place rest f.after in
     record {
       has_end = n.0;
       same = p.0;
@@ -131,10 +131,10 @@ first_place-back ended words place rest h =
       fits = p.1;
     }
 
-pub first_place-forth : (place : CopyAt) (copies : List CopyAt) → PlaceFits place → 0 < length copies → first_place true (place_words place ++ places_words copies) ≡ Ok (place, places_words copies)
+pub first_place-of_written : (place : CopyAt) (copies : List CopyAt) → PlaceFits place → 0 < length copies → first_place true (place_words place ++ places_words copies) ≡ Ok (place, places_words copies)
 unfolding first_place
-first_place-forth place copies r some =
-    rw (at_least-length 8 (place_words place ++ places_words copies) (long copies some), four_by_four-places copies) (place_at-exact.forth place (places_words copies) r)
+first_place-of_written place copies r some =
+    rw (at_least-length 8 (place_words place ++ places_words copies) (long copies some), four_by_four-places copies) (place_at-exact.of_written place (places_words copies) r)
   where
     long : (copies : List CopyAt) → 0 < length copies → 8 ≤ length (place_words place ++ places_words copies)
     long [] some = absurd (omega arith)
@@ -149,7 +149,7 @@ pub record PlacesLeft (places : List CopyAt) (words all : List (List ℕ)) : Typ
 
 pub PlacesLeft-more : (places : List CopyAt) (words all : List (List ℕ)) (place : CopyAt) (rest : List (List ℕ)) → place_at words ≡ Ok (place, rest) → PlacesLeft places words all → PlacesLeft (places ++ place ∷ []) rest all
 PlacesLeft-more places words all place rest h left =
-    let p = place_at-exact.back words place rest h in
+    let p = place_at-exact.of_read words place rest h in
     record {
       same = sym (place_adds places place rest p.1) ∙ ap (places_add places) (sym p.0) ∙ left.same;
       whole = sym (ap four_by_four p.0) ∙ left.whole;

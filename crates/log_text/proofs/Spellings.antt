@@ -149,22 +149,22 @@ why_of-some groups word w h =
     (λ e. absurd (let no : ⊥ = cc in no)))))))))
     h
 
-why_at-back : (groups : Bool) (words : List (List ℕ)) (w : TextWhy) (rest : List (List ℕ)) → why_at groups words ≡ Ok (w, rest) → (words ≡ why_word w ∷ rest) × IsWhyOf groups w
+why_at-of_read : (groups : Bool) (words : List (List ℕ)) (w : TextWhy) (rest : List (List ℕ)) → why_at groups words ≡ Ok (w, rest) → (words ≡ why_word w ∷ rest) × IsWhyOf groups w
 unfolding why_at
-why_at-back groups [] w rest h = absurd (let no : ⊥ = cc in no)
-why_at-back groups (word ∷ words) w rest h =
+why_at-of_read groups [] w rest h = absurd (let no : ⊥ = cc in no)
+why_at-of_read groups (word ∷ words) w rest h =
     let b = bound (or_number (why_of groups word)) (λ (m : TextWhy). Ok (m, words)) (w, rest) h in
     let e : ◌≡◌ {A = TextWhy × List (List ℕ)} (b.value, words) (w, rest) = ok_same (b.value, words) (w, rest) b.after in
     let s = why_of-some groups word b.value (or_number-some (why_of groups word) b.value b.first) in
     let P : TextWhy × List (List ℕ) → Type 0 = λ r. (word ∷ words ≡ why_word r.0 ∷ r.1) × IsWhyOf groups r.0 in
     subst P e (ap (λ w. w ∷ words) s.0, s.1)
 
-why_at-forth : (groups : Bool) (w : TextWhy) (words : List (List ℕ)) → IsWhyOf groups w → why_at groups (why_word w ∷ words) ≡ Ok (w, words)
+why_at-of_written : (groups : Bool) (w : TextWhy) (words : List (List ℕ)) → IsWhyOf groups w → why_at groups (why_word w ∷ words) ≡ Ok (w, words)
 unfolding why_at
-why_at-forth groups w words r = ap (λ o. or_number o >>= λ n. Ok (n, words)) (why_of-word groups w r)
+why_at-of_written groups w words r = ap (λ o. or_number o >>= λ n. Ok (n, words)) (why_of-word groups w r)
 
 pub why_at-exact : (groups : Bool) → IsExact (why_at groups) (λ w. why_word w ∷ []) (IsWhyOf groups)
-why_at-exact groups = record { forth = why_at-forth groups; back = why_at-back groups }
+why_at-exact groups = record { of_written = why_at-of_written groups; of_read = why_at-of_read groups }
 
 abbrev FaultParts : Type 0
 FaultParts = ℕ × TextWhy

@@ -125,7 +125,8 @@ fn asked_edges(
     ended: bool,
     words: Parts<'_>,
 ) -> Result<(((VertexId, VertexId), (VertexId, VertexId)), Why), TextWhy>
-    ensures { result ≡ spec.asked_of version ended 4 (both edge_at edge_at) (parts_left words.entry) }
+    ensures { result ≡
+        spec.asked_of version ended 4 (both edge_at edge_at) (parts_left words.entry) }
 {
     let mut words = words;
     reason_with_end(version, ended, behind(4, words))?;
@@ -138,7 +139,8 @@ fn asked_edges(
 // A vertex, and the reason.
 #[tactic(auto, unfolding(crate::specs::EditLines::asked_of))]
 fn asked_vertex(version: u8, ended: bool, words: Parts<'_>) -> Result<(u32, Why), TextWhy>
-    ensures { result ≡ spec.asked_of version ended 1 (spelled_at 1 ID_MAX) (parts_left words.entry) }
+    ensures { result ≡
+        spec.asked_of version ended 1 (spelled_at 1 ID_MAX) (parts_left words.entry) }
 {
     let mut words = words;
     reason_with_end(version, ended, behind(1, words))?;

@@ -1,5 +1,5 @@
-ghost use Rattle.std.specs.Prelude.{◌≡◌, ◌++◌, ◌∷◌, OnOk, OnErr};
-ghost use Rattle.line_text.specs.WrittenLines.{Keeps};
+ghost use Rattle.std.specs.Prelude.{OnErr};
+ghost use Rattle.line_text.specs.WrittenLines.{Keeps, Appends};
 ghost use Rattle.log_text.specs.Lines as spec;
 
 use crate::log_line::LogLine;
@@ -10,7 +10,7 @@ use line_text::Field;
 use mesh_base::VertexId;
 
 pub(crate) fn print_pass(pass: PassKind, into: &mut Vec<u8>) -> Result<(), NoMemory>
-    ensures ok { OnOk result (into.new.items ≡ into.old.items ++ spec.text_of_line (LogLine.Pass pass)) }
+    ensures ok { Appends result into.old into.new (spec.text_of_line (LogLine.Pass pass)) }
     ensures err { OnErr result (Keeps into.old.items into.new.items) }
 {
     let name = Field::Text(b"pass");
@@ -38,7 +38,7 @@ pub(crate) fn print_pass(pass: PassKind, into: &mut Vec<u8>) -> Result<(), NoMem
 
 // Appends the vertex, and then each copy, with its point, each word with a space in front.
 fn put_fans(v: VertexId, at: Point, copies: &[CopyAt], into: &mut Vec<u8>) -> Result<(), NoMemory>
-    ensures ok { OnOk result (into.new.items ≡ into.old.items ++ spec.spaced_pinch v at copies.now) }
+    ensures ok { Appends result into.old into.new (spec.spaced_pinch v at copies.now) }
     ensures err { OnErr result (Keeps into.old.items into.new.items) }
 {
     put_place(CopyAt { w: v, at }, into)?;
@@ -46,7 +46,7 @@ fn put_fans(v: VertexId, at: Point, copies: &[CopyAt], into: &mut Vec<u8>) -> Re
 }
 
 fn print_pinch(v: VertexId, at: Point, copies: &Copies, into: &mut Vec<u8>) -> Result<(), NoMemory>
-    ensures ok { OnOk result (into.new.items ≡ into.old.items ++ spec.done_text (Change.Pinch v at copies.now)) }
+    ensures ok { Appends result into.old into.new (spec.done_text (Change.Pinch v at copies.now)) }
     ensures err { OnErr result (Keeps into.old.items into.new.items) }
 {
     into.extend_from_slice(b"pinch")?;
@@ -56,7 +56,7 @@ fn print_pinch(v: VertexId, at: Point, copies: &Copies, into: &mut Vec<u8>) -> R
 }
 
 pub(crate) fn print_change(change: &Change, into: &mut Vec<u8>) -> Result<(), NoMemory>
-    ensures ok { OnOk result (into.new.items ≡ into.old.items ++ spec.text_of_line (LogLine.Did change.now)) }
+    ensures ok { Appends result into.old into.new (spec.text_of_line (LogLine.Did change.now)) }
     ensures err { OnErr result (Keeps into.old.items into.new.items) }
 {
     match change {
@@ -108,7 +108,7 @@ pub(crate) fn print_change(change: &Change, into: &mut Vec<u8>) -> Result<(), No
 
 // Appends what was asked, each word with a space in front.
 fn put_asked(what: Asked, into: &mut Vec<u8>) -> Result<(), NoMemory>
-    ensures ok { OnOk result (into.new.items ≡ into.old.items ++ spec.spaced (spec.asked_words what)) }
+    ensures ok { Appends result into.old into.new (spec.spaced (spec.asked_words what)) }
     ensures err { OnErr result (Keeps into.old.items into.new.items) }
 {
     match what {
@@ -155,7 +155,7 @@ fn put_asked(what: Asked, into: &mut Vec<u8>) -> Result<(), NoMemory>
 
 // Appends why an edit isn't done, each word with a space in front.
 fn put_reason(why: Why, into: &mut Vec<u8>) -> Result<(), NoMemory>
-    ensures ok { OnOk result (into.new.items ≡ into.old.items ++ spec.spaced (spec.reason_words why)) }
+    ensures ok { Appends result into.old into.new (spec.spaced (spec.reason_words why)) }
     ensures err { OnErr result (Keeps into.old.items into.new.items) }
 {
     match why {
@@ -181,7 +181,7 @@ fn put_reason(why: Why, into: &mut Vec<u8>) -> Result<(), NoMemory>
 
 // Appends what was asked and why it isn't done, each word with a space in front.
 fn put_refused(what: Asked, why: Why, into: &mut Vec<u8>) -> Result<(), NoMemory>
-    ensures ok { OnOk result (into.new.items ≡ into.old.items ++ spec.spaced_refusal what why) }
+    ensures ok { Appends result into.old into.new (spec.spaced_refusal what why) }
     ensures err { OnErr result (Keeps into.old.items into.new.items) }
 {
     put_asked(what, into)?;
@@ -189,7 +189,7 @@ fn put_refused(what: Asked, why: Why, into: &mut Vec<u8>) -> Result<(), NoMemory
 }
 
 pub(crate) fn print_no(what: Asked, why: Why, into: &mut Vec<u8>) -> Result<(), NoMemory>
-    ensures ok { OnOk result (into.new.items ≡ into.old.items ++ spec.text_of_line (LogLine.No what why)) }
+    ensures ok { Appends result into.old into.new (spec.text_of_line (LogLine.No what why)) }
     ensures err { OnErr result (Keeps into.old.items into.new.items) }
 {
     into.extend_from_slice(b"no")?;

@@ -1,5 +1,5 @@
 ghost use Rattle.std.specs.Prelude.{◌≡◌, drop};
-ghost use Rattle.line_text.specs.Fields.{Takes};
+ghost use Rattle.line_text.specs.Fields.{TakesParts};
 ghost use Rattle.line_text.specs.Remaining.{parts_left};
 ghost use Rattle.log_text.specs.EditLines as lines;
 ghost use Rattle.log_text.specs.Values as spec;
@@ -13,7 +13,7 @@ use mesh_base::VertexId;
 
 #[tactic(auto, unfolding(crate::specs::Values::edge_at))]
 pub(crate) fn edge_at(words: &mut Parts<'_>) -> Result<(VertexId, VertexId), TextWhy>
-    ensures { Takes (parts_left words.new) result (spec.edge_at (parts_left words.old)) }
+    ensures { TakesParts words.old words.new result spec.edge_at }
 {
     let a = count_at(words, 1, ID_MAX)?;
     let b = count_at(words, a + 1, ID_MAX)?;
@@ -22,7 +22,7 @@ pub(crate) fn edge_at(words: &mut Parts<'_>) -> Result<(VertexId, VertexId), Tex
 
 #[tactic(auto, unfolding(crate::specs::Values::position_at))]
 pub(crate) fn position_at(words: &mut Parts<'_>) -> Result<Point, TextWhy>
-    ensures { Takes (parts_left words.new) result (spec.position_at (parts_left words.old)) }
+    ensures { TakesParts words.old words.new result spec.position_at }
 {
     let x = spelled_signed_at(words, BOX)?;
     let y = spelled_signed_at(words, BOX)?;
@@ -32,7 +32,7 @@ pub(crate) fn position_at(words: &mut Parts<'_>) -> Result<Point, TextWhy>
 
 #[tactic(auto, unfolding(crate::specs::Values::place_at))]
 pub(crate) fn place_at(words: &mut Parts<'_>) -> Result<CopyAt, TextWhy>
-    ensures { Takes (parts_left words.new) result (spec.place_at (parts_left words.old)) }
+    ensures { TakesParts words.old words.new result spec.place_at }
 {
     let w = count_at(words, 1, ID_MAX)?;
     let at = position_at(words)?;
@@ -72,7 +72,7 @@ fn reason_of(version: u8, word: &[u8]) -> Option<Why>
 
 #[tactic(auto, unfolding(crate::specs::Values::reason_at))]
 pub(crate) fn reason_at(version: u8, words: &mut Parts<'_>) -> Result<Why, TextWhy>
-    ensures { Takes (parts_left words.new) result (spec.reason_at version (parts_left words.old)) }
+    ensures { TakesParts words.old words.new result (spec.reason_at version) }
 {
     let Some(word) = words.next() else {
         return Err(TextWhy::Short);

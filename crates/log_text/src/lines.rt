@@ -1,5 +1,5 @@
 ghost use Rattle.std.specs.Prelude.{◌≡◌};
-ghost use Rattle.line_text.specs.Faults.{Gives, at_line};
+ghost use Rattle.line_text.specs.Faults.{GivesAt};
 ghost use Rattle.line_text.specs.Remaining.{parts_left};
 ghost use Rattle.line_text.specs.Spellings.{spaced_words};
 ghost use Rattle.log_text.specs.Reading as spec;
@@ -176,7 +176,7 @@ fn plain(version: u8, ended: bool, form: &[u8], words: Parts<'_>) -> Result<LogL
 
 // What was read of a line, with its number at a fault.
 fn placed(read: Result<LogLine, TextWhy>, number: u32) -> Result<LogLine, ReadFault>
-    ensures { Gives (λ l. l) result (at_line number read) }
+    ensures { GivesAt number result read }
 {
     match read {
         Ok(line) => Ok(line),
@@ -192,7 +192,7 @@ pub(crate) fn read_line(
     text: &[u8],
     number: u32,
 ) -> Result<LogLine, ReadFault>
-    ensures { Gives (λ l. l) result (at_line number (spec.line_of version ended (spaced_words text.now))) }
+    ensures { GivesAt number result (spec.line_of version ended (spaced_words text.now)) }
 {
     let mut words = Parts::new(b' ', text);
     let Some(form) = words.next() else {

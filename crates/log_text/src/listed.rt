@@ -1,6 +1,6 @@
 ghost use Rattle.std.specs.Prelude.{◌≡◌, [], Ok};
-ghost use Rattle.line_text.specs.Faults.{Gives, at_line};
-ghost use Rattle.line_text.specs.Fields.{Takes};
+ghost use Rattle.line_text.specs.Faults.{GivesAt};
+ghost use Rattle.line_text.specs.Fields.{TakesParts};
 ghost use Rattle.line_text.specs.Remaining.{parts_left};
 ghost use Rattle.log_text.specs.EditLines as spec;
 
@@ -25,7 +25,7 @@ fn at_least(ended: bool, count: usize, words: Parts<'_>) -> Result<(), TextWhy>
 
 // The ids that the words spell, each above the one before.
 fn ids(alloc: Global, words: Parts<'_>, number: u32) -> Result<Ids, ReadFault>
-    ensures { Gives (λ ids. ids) result (at_line number (spec.ids_add [] 1 (parts_left words.entry))) }
+    ensures { GivesAt number result (spec.ids_add [] 1 (parts_left words.entry)) }
 {
     let mut ids = Ids::new(alloc);
     let mut low = 1;
@@ -48,7 +48,7 @@ pub(crate) fn block(
     words: Parts<'_>,
     number: u32,
 ) -> Result<LogLine, ReadFault>
-    ensures { Gives (λ l. l) result (at_line number (spec.block_of ended (parts_left words.entry))) }
+    ensures { GivesAt number result (spec.block_of ended (parts_left words.entry)) }
 {
     match at_least(ended, 2, words) {
         Ok(()) => {
@@ -81,7 +81,7 @@ fn four_by_four(words: Parts<'_>) -> Result<(), TextWhy>
 // The places that the words spell, four words each.
 fn places(alloc: Global, words: Parts<'_>, number: u32) -> Result<Copies, ReadFault>
     requires { spec.four_by_four (parts_left words) ≡ Ok tt }
-    ensures { Gives (λ places. places) result (at_line number (spec.places_add [] (parts_left words.entry))) }
+    ensures { GivesAt number result (spec.places_add [] (parts_left words.entry)) }
 {
     let mut places = Copies::new(alloc);
     let mut words = words;
@@ -100,7 +100,7 @@ fn places(alloc: Global, words: Parts<'_>, number: u32) -> Result<Copies, ReadFa
 // The vertex and its point, where one copy or more stands behind it.
 #[tactic(auto, unfolding(crate::specs::EditLines::first_place))]
 fn first_place(ended: bool, words: &mut Parts<'_>) -> Result<CopyAt, TextWhy>
-    ensures { Takes (parts_left words.new) result (spec.first_place ended (parts_left words.old)) }
+    ensures { TakesParts words.old words.new result (spec.first_place ended) }
 {
     at_least(ended, 8, *words)?;
     four_by_four(*words)?;
@@ -114,7 +114,7 @@ pub(crate) fn pinch(
     words: Parts<'_>,
     number: u32,
 ) -> Result<LogLine, ReadFault>
-    ensures { Gives (λ l. l) result (at_line number (spec.pinch_of ended (parts_left words.entry))) }
+    ensures { GivesAt number result (spec.pinch_of ended (parts_left words.entry)) }
 {
     let mut words = words;
     match first_place(ended, &mut words) {

@@ -1,5 +1,5 @@
-ghost use Rattle.std.specs.Prelude.{◌≡◌, ◌++◌, OnOk, OnErr};
-ghost use Rattle.line_text.specs.WrittenLines.{Keeps};
+ghost use Rattle.std.specs.Prelude.{◌≡◌, OnErr};
+ghost use Rattle.line_text.specs.WrittenLines.{Keeps, Appends};
 ghost use Rattle.mesh_base.specs.declared.UseWhy.TheVariants.{NoField};
 ghost use Rattle.log_text.specs.Lines as spec;
 
@@ -35,7 +35,7 @@ fn why_word(why: TextWhy) -> &'static [u8]
 }
 
 fn print_first(version: u8, into: &mut Vec<u8>) -> Result<(), NoMemory>
-    ensures ok { OnOk result (into.new.items ≡ into.old.items ++ spec.text_of_line (LogLine.First version)) }
+    ensures ok { Appends result into.old into.new (spec.text_of_line (LogLine.First version)) }
     ensures err { OnErr result (Keeps into.old.items into.new.items) }
 {
     put_words(
@@ -49,7 +49,7 @@ fn print_first(version: u8, into: &mut Vec<u8>) -> Result<(), NoMemory>
 }
 
 fn print_mesh(k: u32, vertices: u32, faces: u32, into: &mut Vec<u8>) -> Result<(), NoMemory>
-    ensures ok { OnOk result (into.new.items ≡ into.old.items ++ spec.mesh_text k vertices faces) }
+    ensures ok { Appends result into.old into.new (spec.mesh_text k vertices faces) }
     ensures err { OnErr result (Keeps into.old.items into.new.items) }
 {
     put_words(
@@ -64,14 +64,14 @@ fn print_mesh(k: u32, vertices: u32, faces: u32, into: &mut Vec<u8>) -> Result<(
 }
 
 fn print_step(k: u32, into: &mut Vec<u8>) -> Result<(), NoMemory>
-    ensures ok { OnOk result (into.new.items ≡ into.old.items ++ spec.text_of_line (LogLine.Step k)) }
+    ensures ok { Appends result into.old into.new (spec.text_of_line (LogLine.Step k)) }
     ensures err { OnErr result (Keeps into.old.items into.new.items) }
 {
     put_words(&[Field::Text(b"step"), Field::Number(u64::from(k))], into)
 }
 
 fn print_solid(v: VertexId, into: &mut Vec<u8>) -> Result<(), NoMemory>
-    ensures ok { OnOk result (into.new.items ≡ into.old.items ++ spec.text_of_line (LogLine.Solid v)) }
+    ensures ok { Appends result into.old into.new (spec.text_of_line (LogLine.Solid v)) }
     ensures err { OnErr result (Keeps into.old.items into.new.items) }
 {
     put_words(
@@ -81,7 +81,7 @@ fn print_solid(v: VertexId, into: &mut Vec<u8>) -> Result<(), NoMemory>
 }
 
 fn print_close(kept: bool, into: &mut Vec<u8>) -> Result<(), NoMemory>
-    ensures ok { OnOk result (into.new.items ≡ into.old.items ++ spec.text_of_line (LogLine.Close kept)) }
+    ensures ok { Appends result into.old into.new (spec.text_of_line (LogLine.Close kept)) }
     ensures err { OnErr result (Keeps into.old.items into.new.items) }
 {
     if kept {
@@ -91,7 +91,7 @@ fn print_close(kept: bool, into: &mut Vec<u8>) -> Result<(), NoMemory>
 }
 
 fn print_hit(pair: PairName, into: &mut Vec<u8>) -> Result<(), NoMemory>
-    ensures ok { OnOk result (into.new.items ≡ into.old.items ++ spec.text_of_line (LogLine.Hit pair)) }
+    ensures ok { Appends result into.old into.new (spec.text_of_line (LogLine.Hit pair)) }
     ensures err { OnErr result (Keeps into.old.items into.new.items) }
 {
     put_words(
@@ -106,7 +106,7 @@ fn print_hit(pair: PairName, into: &mut Vec<u8>) -> Result<(), NoMemory>
 }
 
 fn print_move(s: ShiftOf, into: &mut Vec<u8>) -> Result<(), NoMemory>
-    ensures ok { OnOk result (into.new.items ≡ into.old.items ++ spec.text_of_line (LogLine.Move s)) }
+    ensures ok { Appends result into.old into.new (spec.text_of_line (LogLine.Move s)) }
     ensures err { OnErr result (Keeps into.old.items into.new.items) }
 {
     put_words(
@@ -122,7 +122,7 @@ fn print_move(s: ShiftOf, into: &mut Vec<u8>) -> Result<(), NoMemory>
 }
 
 fn print_moved(how: How, into: &mut Vec<u8>) -> Result<(), NoMemory>
-    ensures ok { OnOk result (into.new.items ≡ into.old.items ++ spec.text_of_line (LogLine.Moved how)) }
+    ensures ok { Appends result into.old into.new (spec.text_of_line (LogLine.Moved how)) }
     ensures err { OnErr result (Keeps into.old.items into.new.items) }
 {
     let moved = Field::Text(b"moved");
@@ -158,7 +158,7 @@ fn print_moved(how: How, into: &mut Vec<u8>) -> Result<(), NoMemory>
 
 // Appends the line that refuses the points and faces of a mesh file.
 fn print_shape(fault: ShapeFault, into: &mut Vec<u8>) -> Result<(), NoMemory>
-    ensures ok { OnOk result (into.new.items ≡ into.old.items ++ spec.refused_text (Refusal.Shape fault)) }
+    ensures ok { Appends result into.old into.new (spec.refused_text (Refusal.Shape fault)) }
     ensures err { OnErr result (Keeps into.old.items into.new.items) }
 {
     let refused = Field::Text(b"refused");
@@ -221,7 +221,7 @@ fn print_shape(fault: ShapeFault, into: &mut Vec<u8>) -> Result<(), NoMemory>
 
 // Appends the line that refuses a directive which names no field.
 fn print_no_field(at: u32, into: &mut Vec<u8>) -> Result<(), NoMemory>
-    ensures ok { OnOk result (into.new.items ≡ into.old.items ++ spec.refused_text (Refusal.StepUse at NoField)) }
+    ensures ok { Appends result into.old into.new (spec.refused_text (Refusal.StepUse at NoField)) }
     ensures err { OnErr result (Keeps into.old.items into.new.items) }
 {
     put_words(
@@ -237,7 +237,7 @@ fn print_no_field(at: u32, into: &mut Vec<u8>) -> Result<(), NoMemory>
 
 // Appends the line that refuses a directive.
 fn print_use(at: u32, why: UseWhy, into: &mut Vec<u8>) -> Result<(), NoMemory>
-    ensures ok { OnOk result (into.new.items ≡ into.old.items ++ spec.refused_text (Refusal.StepUse at why)) }
+    ensures ok { Appends result into.old into.new (spec.refused_text (Refusal.StepUse at why)) }
     ensures err { OnErr result (Keeps into.old.items into.new.items) }
 {
     let (word, v) = match why {
@@ -260,7 +260,7 @@ fn print_use(at: u32, why: UseWhy, into: &mut Vec<u8>) -> Result<(), NoMemory>
 }
 
 fn print_refused(why: Refusal, into: &mut Vec<u8>) -> Result<(), NoMemory>
-    ensures ok { OnOk result (into.new.items ≡ into.old.items ++ spec.text_of_line (LogLine.Refused why)) }
+    ensures ok { Appends result into.old into.new (spec.text_of_line (LogLine.Refused why)) }
     ensures err { OnErr result (Keeps into.old.items into.new.items) }
 {
     let refused = Field::Text(b"refused");
@@ -317,7 +317,7 @@ fn print_refused(why: Refusal, into: &mut Vec<u8>) -> Result<(), NoMemory>
 
 // Appends the line. On refusal the bytes from before still stand in front.
 fn put_any(line: &LogLine, into: &mut Vec<u8>) -> Result<(), NoMemory>
-    ensures ok { OnOk result (into.new.items ≡ into.old.items ++ spec.text_of_line line.now) }
+    ensures ok { Appends result into.old into.new (spec.text_of_line line.now) }
     ensures err { OnErr result (Keeps into.old.items into.new.items) }
 {
     match line {
@@ -341,7 +341,7 @@ fn put_any(line: &LogLine, into: &mut Vec<u8>) -> Result<(), NoMemory>
 
 /// Appends the one spelling of the line, with LF at its end, or changes nothing.
 pub fn print_line(line: &LogLine, into: &mut Vec<u8>) -> Result<(), NoMemory>
-    ensures ok { OnOk result (into.new.items ≡ into.old.items ++ spec.text_of_line line.now) }
+    ensures ok { Appends result into.old into.new (spec.text_of_line line.now) }
     ensures err { OnErr result (into.new.items ≡ into.old.items) }
 {
     let start = into.len();

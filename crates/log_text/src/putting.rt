@@ -1,5 +1,5 @@
-ghost use Rattle.std.specs.Prelude.{◌≡◌, ◌++◌, ◌∷◌, [], ◌<◌, length, map, decimal, OnOk, OnErr};
-ghost use Rattle.line_text.specs.WrittenLines.{word_of, Keeps};
+ghost use Rattle.std.specs.Prelude.{◌∷◌, ◌<◌, length, map, decimal, OnErr};
+ghost use Rattle.line_text.specs.WrittenLines.{word_of, Keeps, Appends};
 ghost use Rattle.log_text.specs.Lines.{spaced, place_words, places_words, line_of_fields, text_of_line};
 
 use crate::log_line::LogLine;
@@ -11,7 +11,7 @@ use mesh_base::{Ids, VertexId};
 // Appends the words with one space between them and LF behind them.
 pub(crate) fn put_words(fields: &[Field<'_>], into: &mut Vec<u8>) -> Result<(), NoMemory>
     requires { 0 < length fields.now }
-    ensures ok { OnOk result (into.new.items ≡ into.old.items ++ line_of_fields fields.now) }
+    ensures ok { Appends result into.old into.new (line_of_fields fields.now) }
     ensures err { OnErr result (Keeps into.old.items into.new.items) }
 {
     put_line(fields, into)
@@ -19,7 +19,7 @@ pub(crate) fn put_words(fields: &[Field<'_>], into: &mut Vec<u8>) -> Result<(), 
 
 // Appends a space and a word.
 fn put_next(field: &Field<'_>, into: &mut Vec<u8>) -> Result<(), NoMemory>
-    ensures ok { OnOk result (into.new.items ≡ into.old.items ++ 32 ∷ word_of field.now) }
+    ensures ok { Appends result into.old into.new (32 ∷ word_of field.now) }
     ensures err { OnErr result (Keeps into.old.items into.new.items) }
 {
     into.push(b' ')?;
@@ -28,7 +28,7 @@ fn put_next(field: &Field<'_>, into: &mut Vec<u8>) -> Result<(), NoMemory>
 
 // Appends each word with a space in front.
 pub(crate) fn put_spaced(fields: &[Field<'_>], into: &mut Vec<u8>) -> Result<(), NoMemory>
-    ensures ok { OnOk result (into.new.items ≡ into.old.items ++ spaced (map word_of fields.now)) }
+    ensures ok { Appends result into.old into.new (spaced (map word_of fields.now)) }
     ensures err { OnErr result (Keeps into.old.items into.new.items) }
 {
     for field in fields {
@@ -42,7 +42,7 @@ pub(crate) fn put_spaced(fields: &[Field<'_>], into: &mut Vec<u8>) -> Result<(),
 
 // Appends each id with a space in front.
 fn put_ids(ids: &[VertexId], into: &mut Vec<u8>) -> Result<(), NoMemory>
-    ensures ok { OnOk result (into.new.items ≡ into.old.items ++ spaced (map decimal ids.now)) }
+    ensures ok { Appends result into.old into.new (spaced (map decimal ids.now)) }
     ensures err { OnErr result (Keeps into.old.items into.new.items) }
 {
     for v in ids {
@@ -56,7 +56,7 @@ fn put_ids(ids: &[VertexId], into: &mut Vec<u8>) -> Result<(), NoMemory>
 
 // Appends a vertex and the point where it stands, each word with a space in front.
 pub(crate) fn put_place(place: CopyAt, into: &mut Vec<u8>) -> Result<(), NoMemory>
-    ensures ok { OnOk result (into.new.items ≡ into.old.items ++ spaced (place_words place)) }
+    ensures ok { Appends result into.old into.new (spaced (place_words place)) }
     ensures err { OnErr result (Keeps into.old.items into.new.items) }
 {
     put_spaced(
@@ -72,7 +72,7 @@ pub(crate) fn put_place(place: CopyAt, into: &mut Vec<u8>) -> Result<(), NoMemor
 
 // Appends each vertex and the point where it stands, each word with a space in front.
 pub(crate) fn put_places(places: &[CopyAt], into: &mut Vec<u8>) -> Result<(), NoMemory>
-    ensures ok { OnOk result (into.new.items ≡ into.old.items ++ spaced (places_words places.now)) }
+    ensures ok { Appends result into.old into.new (spaced (places_words places.now)) }
     ensures err { OnErr result (Keeps into.old.items into.new.items) }
 {
     for place in places {
@@ -85,7 +85,7 @@ pub(crate) fn put_places(places: &[CopyAt], into: &mut Vec<u8>) -> Result<(), No
 }
 
 pub(crate) fn print_block(ids: &Ids, into: &mut Vec<u8>) -> Result<(), NoMemory>
-    ensures ok { OnOk result (into.new.items ≡ into.old.items ++ text_of_line (LogLine.Block ids.now)) }
+    ensures ok { Appends result into.old into.new (text_of_line (LogLine.Block ids.now)) }
     ensures err { OnErr result (Keeps into.old.items into.new.items) }
 {
     into.extend_from_slice(b"block")?;

@@ -31,7 +31,8 @@ fn add_line(
     text: &[u8],
     number: u32,
 ) -> Result<(), ReadFault>
-    ensures { Leaves log.new result (at_line number (spec.line_adds version log.old ended text.now)) }
+    ensures { Leaves log.new result
+        (at_line number (spec.line_adds version log.old ended text.now)) }
 {
     let line = read_line(alloc, version, ended, text, number)?;
     push_line(log, line)?;

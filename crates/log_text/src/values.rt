@@ -1,5 +1,5 @@
 ghost use Rattle.std.specs.Prelude.{◌≡◌, ◌≤◌, IfOk};
-ghost use Rattle.line_text.specs.Fields.{Takes};
+ghost use Rattle.line_text.specs.Fields.{TakesParts};
 ghost use Rattle.line_text.specs.Remaining.{parts_left};
 ghost use Rattle.line_text.specs.Spellings as spelling;
 ghost use Rattle.log_text.specs.Reading as reading;
@@ -25,7 +25,7 @@ pub(crate) fn number_of(word: &[u8], low: u32, high: u32) -> Result<u32, TextWhy
 
 // The number that the next word spells, from low to high.
 pub(crate) fn count_at(words: &mut Parts<'_>, low: u32, high: u32) -> Result<u32, TextWhy>
-    ensures value { Takes (parts_left words.new) result (spelling.spelled_at low high (parts_left words.old)) }
+    ensures value { TakesParts words.old words.new result (spelling.spelled_at low high) }
     ensures above { IfOk result (λ n. low ≤ n) }
     ensures below { IfOk result (λ n. n ≤ high) }
 {
@@ -35,7 +35,7 @@ pub(crate) fn count_at(words: &mut Parts<'_>, low: u32, high: u32) -> Result<u32
 
 #[tactic(auto, unfolding(crate::specs::Values::pair_at))]
 pub(crate) fn pair_at(words: &mut Parts<'_>) -> Result<PairName, TextWhy>
-    ensures { Takes (parts_left words.new) result (spec.pair_at (parts_left words.old)) }
+    ensures { TakesParts words.old words.new result spec.pair_at }
 {
     let a = count_at(words, 1, ID_MAX)?;
     let b = count_at(words, a + 1, ID_MAX)?;
@@ -49,7 +49,7 @@ pub(crate) fn pair_at(words: &mut Parts<'_>) -> Result<PairName, TextWhy>
 
 #[tactic(auto, unfolding(crate::specs::Values::shift_of_at))]
 pub(crate) fn shift_of_at(words: &mut Parts<'_>) -> Result<ShiftOf, TextWhy>
-    ensures { Takes (parts_left words.new) result (spec.shift_of_at (parts_left words.old)) }
+    ensures { TakesParts words.old words.new result spec.shift_of_at }
 {
     let v = count_at(words, 1, ID_MAX)?;
     let x = spelled_signed_at(words, SHIFT_MAX)?;
@@ -94,7 +94,7 @@ fn why_of(groups: bool, word: &[u8]) -> Option<TextWhy>
 
 #[tactic(auto, unfolding(crate::specs::Values::why_at))]
 fn why_at(groups: bool, words: &mut Parts<'_>) -> Result<TextWhy, TextWhy>
-    ensures { Takes (parts_left words.new) result (spec.why_at groups (parts_left words.old)) }
+    ensures { TakesParts words.old words.new result (spec.why_at groups) }
 {
     let Some(word) = words.next() else {
         return Err(TextWhy::Short);
@@ -107,7 +107,7 @@ fn why_at(groups: bool, words: &mut Parts<'_>) -> Result<TextWhy, TextWhy>
 
 #[tactic(auto, unfolding(crate::specs::Values::fault_at))]
 pub(crate) fn fault_at(groups: bool, words: &mut Parts<'_>) -> Result<TextFault, TextWhy>
-    ensures { Takes (parts_left words.new) result (spec.fault_at groups (parts_left words.old)) }
+    ensures { TakesParts words.old words.new result (spec.fault_at groups) }
 {
     let line = count_at(words, 1, COUNT_MAX)?;
     let why = why_at(groups, words)?;

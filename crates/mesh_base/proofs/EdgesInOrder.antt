@@ -12,7 +12,7 @@ use Rattle.std.proofs.lemmas.Map.Lookups.{CmpEqualImpliesEq, exact_pairs, exact_
 use Rattle.std.proofs.lemmas.Map.Views.{tells_apart, list_any-from_Contains, Contains-from_any}
 use Rattle.std.proofs.lemmas.List.Kept.{IsStrictlySortedBy-dedup, Contains-dedup, Contains-from_dedup}
 use Rattle.std.proofs.lemmas.List.Sorted.{list_any-IsPermutation}
-use Rattle.std.proofs.lemmas.Bool.{false≢true}
+use Rattle.std.proofs.lemmas.Bool.{false≢true, ltb-true, lt-ltb}
 use Rattle.std.proofs.lemmas.Bool.Decides.{nat_tests}
 use Rattle.grid_base.specs.declared.TheConstants.{ID_MAX}
 use Rattle.mesh_base.specs.declared.ids.Corners.{Corners}
@@ -188,12 +188,6 @@ pub sides_stay : (sides sorted left : List (ℕ × ℕ)) → IsPermutation sides
 sides_stay sides sorted left moved is a b =
     ap (λ xs. has_side xs a b) is ∙ has_once sorted a b ∙ sym (list_any-IsPermutation (eq_by_cmp edge_cmp (a, b)) sides sorted moved)
 
-below_true : (a b : ℕ) → nat_lt a b ≡ true → a < b
-below_true a b h = grind (arith, nat_tests)
-
-true_below : (a b : ℕ) → a < b → nat_lt a b ≡ true
-true_below a b h = grind (arith, nat_tests)
-
 -- the ends of the sides of the faces are ids, which are below 2^32
 pub sides_are_small : (m : Mesh) (faces : List ℕ) (sides : List (ℕ × ℕ)) → IsSound m
     → ((a b : ℕ) → has_side sides a b ≡ (nat_lt a b && list_any (λ f. neighbours_in (finite.get m.faces f) a b) faces)) → HasSmallEnds sides
@@ -215,7 +209,7 @@ sides_are_edges m sides sound in_order is = btree_set_from_contains edge_total (
         (λ h.
         let both : (nat_lt a b && list_any (seen m a b) (finite.keys m.faces)) ≡ true = sym (is a b) ∙ h in
         let face = any_found (seen m a b) (finite.keys m.faces) (and_second (nat_lt a b) _ both) in
-        has_contained (edges m) a b ((edge_listed m sound a b).1 (below_true a b (and_first (nat_lt a b) _ both), seen_edge m face.0 a b face.1)))
+        has_contained (edges m) a b ((edge_listed m sound a b).1 (ltb-true a b (and_first (nat_lt a b) _ both), seen_edge m face.0 a b face.1)))
         (λ h.
         let edge = (edge_listed m sound a b).0 (contained (edges m) a b h) in
-        is a b ∙ and_both (nat_lt a b) _ (true_below a b edge.0) (edge_seen m a b edge.1))
+        is a b ∙ and_both (nat_lt a b) _ (lt-ltb a b edge.0) (edge_seen m a b edge.1))

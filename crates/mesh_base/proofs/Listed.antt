@@ -1,6 +1,6 @@
 -- What holds of each pair in the list of pairs holds of every pair.
 use Rattle.std.proofs.Common.{◌≡◌, ℕ, zero, suc, ◌<◌, ◌+◌, Bool, true, false, cond, ◌&&◌, ◌||◌, ◌==◌, not, T, List, [], ◌∷◌, ◌++◌, map, length, Option, Some, None, IsSome, nat_lt, ◌⊎◌, ⊎_elim, inl, inr, refl, sym, ap, subst, ◌∙◌, arith}
-use Rattle.std.proofs.lemmas.Bool.{false≢true}
+use Rattle.std.proofs.lemmas.Bool.{false≢true, lt-ltb}
 use Rattle.std.proofs.lemmas.Bool.{eqb-true}
 use Rattle.std.proofs.lemmas.Bool.Decides.{nat_tests}
 use Rattle.std.proofs.lemmas.Map.Lookups.{exact_unsigned}
@@ -128,9 +128,6 @@ edge_live m u v sound edge = ⊎_elim
     either (suc a) b h = inl (omega arith)
 
 -- ---- pairs
-pub less_true : (a b : ℕ) → a < b → nat_lt a b ≡ true
-less_true a b h = grind (arith, nat_tests)
-
 pub neither : (a b : Bool) → a ≡ false → b ≡ false → not (a || b) ≡ true
 neither a b e f = cc
 
@@ -145,7 +142,7 @@ listed m P sound h p is_pair =
     (all_flat_map of_edge (λ u. map (λ v. (u, v)) (filter (λ v. nat_lt u v) ids)) ids by_edge) live.0 in
     let by_second = at_live (λ v. nat_lt p.name.a v ≡ true → of_edge (p.name.a, v)) m.points p.name.b
     (all_filter (λ v. of_edge (p.name.a, v)) (λ v. nat_lt p.name.a v) ids (all_map of_edge (λ v. (p.name.a, v)) (filter (λ v. nat_lt p.name.a v) ids) by_first)) live.1 in
-    let here = by_second (less_true _ _ is_pair.ordered) (less_true _ _ is_pair.edge) in
+    let here = by_second (lt-ltb _ _ is_pair.ordered) (lt-ltb _ _ is_pair.edge) in
     let apart : ℕ × Corners → Bool = λ f. not (has_corner f.1 p.name.a || has_corner f.1 p.name.b) in
     let named : ℕ × Corners → Pair = λ f. record { name = record { a = p.name.a; b = p.name.b; face = f.0 }; corners = f.1 } in
     at_key (λ f. apart f ≡ true → P (named f)) m.faces p.name.face p.corners

@@ -5,14 +5,14 @@ use Rattle.std.specs.Ordering.{nat_cmp}
 use Rattle.std.specs.FinMap as finite
 use Rattle.std.specs.FinMap.{entries_sorted, get-entries}
 use Rattle.std.specs.FinMap.Entries.{find}
-use Rattle.std.proofs.lemmas.Bool.{false≢true}
+use Rattle.std.proofs.lemmas.Bool.{false≢true, ltb-true, lt-ltb}
 use Rattle.std.proofs.lemmas.Bool.Decides.{nat_tests}
 use Rattle.std.proofs.lemmas.List.Elements.{All-from_recursion, recursion_from_All, All-contains_itself, All-contains}
 use Rattle.mesh_base.specs.declared.ids.Corners.{Corners}
 use Rattle.mesh_base.specs.Mesh.{Mesh, IsSound, HasCorners}
 use Rattle.mesh_base.specs.Sides.{has_corner, runs, IsEdge}
 use Rattle.mesh_base.specs.Pairs.{Pair, IsPair, is_edge, id_pairs, edges, pairs_of, pairs}
-use Rattle.mesh_base.proofs.Listed.{listed, each_found, all_flat_map, all_map, all_filter, at_live, edge_live, less_true}
+use Rattle.mesh_base.proofs.Listed.{listed, each_found, all_flat_map, all_map, all_filter, at_live, edge_live}
 
 -- ---- what holds of each element that a list is made of
 pub all_joined : {X : Type 0} (P : X → Type 0) (xs ys : List X) → AllByRecursion P xs → AllByRecursion P ys → AllByRecursion P (xs ++ ys)
@@ -44,9 +44,6 @@ all_always P [] w = tt
 all_always P (x ∷ xs) w = (w x, all_always P xs w)
 
 -- ---- edges
-less_from : (a b : ℕ) → nat_lt a b ≡ true → a < b
-less_from a b h = grind (arith, nat_tests)
-
 listed_edges : (m : Mesh) → AllByRecursion (λ e. (e.0 < e.1) × IsEdge m e.0 e.1) (edges m)
 listed_edges m =
     let ids = finite.keys m.points in
@@ -56,7 +53,7 @@ listed_edges m =
     (λ u. all_mapped (λ e. is_edge m e.0 e.1 ≡ true → (e.0 < e.1) × IsEdge m e.0 e.1) (λ v. (u, v)) (filter (λ v. nat_lt u v) ids)
     (all_filtered (λ v. is_edge m u v ≡ true → (u < v) × IsEdge m u v) (λ v. nat_lt u v) ids
     (all_always (λ v. nat_lt u v ≡ true → is_edge m u v ≡ true → (u < v) × IsEdge m u v) ids
-    (λ v less edge. (less_from u v less, less_from 0 (runs m u v + runs m v u) edge)))))))
+    (λ v less edge. (ltb-true u v less, ltb-true 0 (runs m u v + runs m v u) edge)))))))
 
 -- what holds of each listed edge holds of every edge
 every_edge : (m : Mesh) (P : ℕ × ℕ → Type 0) → IsSound m → AllByRecursion P (edges m) → (u v : ℕ) → u < v → IsEdge m u v → P (u, v)
@@ -68,7 +65,7 @@ every_edge m P sound h u v less edge =
     (all_flat_map of_edge (λ a. map (λ b. (a, b)) (filter (λ b. nat_lt a b) ids)) ids (all_filter P (λ e. is_edge m e.0 e.1) (id_pairs ids) h)) live.0 in
     at_live (λ b. nat_lt u b ≡ true → of_edge (u, b)) m.points v
     (all_filter (λ b. of_edge (u, b)) (λ b. nat_lt u b) ids (all_map of_edge (λ b. (u, b)) (filter (λ b. nat_lt u b) ids) by_first)) live.1
-    (less_true u v less) (less_true 0 (runs m u v + runs m v u) edge)
+    (lt-ltb u v less) (lt-ltb 0 (runs m u v + runs m v u) edge)
 
 pub edge_listed : (m : Mesh) → IsSound m → (u v : ℕ) → Contains (edges m) (u, v) ↔ ((u < v) × IsEdge m u v)
 edge_listed m sound u v = (

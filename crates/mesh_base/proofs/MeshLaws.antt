@@ -14,7 +14,7 @@ use Rattle.grid_base.specs.declared.Point.{Point}
 use Rattle.mesh_base.specs.declared.ids.Corners.{Corners}
 use Rattle.mesh_base.specs.Mesh.{Mesh, IsMesh, IsSound, AreLive, AreDifferent, IsLiveVertex, HasCorners, equal_up_to_rotation}
 use Rattle.mesh_base.specs.Changes.{with_vertex, with_face, without_face, without_vertex, with_point, with_solid, IsFresh}
-use Rattle.mesh_base.proofs.Tests.{or_first, or_second, or_either}
+use Rattle.mesh_base.proofs.Tests.{or_first, or_second, or_either, not_both}
 use Rattle.mesh_base.proofs.Finite.{got_after_insert, live_after_insert, live_stays, got_after_remove, live_after_remove, live_but_removed, live_inserted}
 
 -- an insertion adds one at most, and none at a key that is there
@@ -118,9 +118,6 @@ symmetric a b c d e f h =
 
 pub equal_symmetric : (c d : Corners) → equal_up_to_rotation c d ≡ true → equal_up_to_rotation d c ≡ true
 equal_symmetric c d h = symmetric c.first c.second c.third d.first d.second d.third h
-
-not_both : {b : Bool} → b ≡ true → b ≡ false → ⊥
-not_both h h' = cc
 
 -- a face is made
 pub sound-with_face : (m : Mesh) (c : Corners) → IsSound m → IsFresh m c → map.len m.faces < FACES_MAX → m.next_face < (ID_MAX + 1) → IsSound (with_face m c)

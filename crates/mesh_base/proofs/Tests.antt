@@ -1,5 +1,5 @@
 -- Tests that are joined by "and" and "or", and tests of equality.
-use Rattle.std.proofs.Common.{◌≡◌, ℕ, ◌==◌, Bool, true, false, ◌&&◌, ◌||◌, ◌⊎◌, inl, inr, refl, sym, arith}
+use Rattle.std.proofs.Common.{◌≡◌, ℕ, ◌==◌, Bool, true, false, ◌&&◌, ◌||◌, ◌⊎◌, inl, inr, refl, ◌≢◌, sym, arith}
 use Rattle.std.specs.Ordering.{is_eq, ordering_then}
 use Rattle.std.specs.declared.cmp.Ordering.{Ordering}
 use Rattle.std.specs.declared.cmp.Ordering.TheVariants.{Less, Equal, Greater}
@@ -44,3 +44,12 @@ pub tied_then : (o p : Ordering) → is_eq (ordering_then o p) ≡ (is_eq o && i
 tied_then Less p = refl
 tied_then Equal p = refl
 tied_then Greater p = refl
+
+pub not_both : {b : Bool} → b ≡ true → b ≡ false → ⊥
+not_both h h' = cc
+
+pub untied : (x y : ℕ) → x ≢ y → (x == y) ≡ false
+untied x y apart = grind (arith, nat_tests)
+
+pub turned_test : (x y : ℕ) → (x == y) ≡ (y == x)
+turned_test x y = grind (arith, nat_tests)

@@ -17,7 +17,8 @@ type Sides = Vec<(VertexId, VertexId)>;
 
 /// Puts a side at the end of the list, unless its ends are one.
 fn put_side(sides: &mut Sides, u: VertexId, v: VertexId) -> Result<(), NoMemory>
-    ensures { IsOk result → AddsSides sides.old.items sides.new.items (λ a b. (u == a && v == b) || (u == b && v == a)) }
+    ensures { IsOk result → AddsSides sides.old.items sides.new.items
+        (λ a b. (u == a && v == b) || (u == b && v == a)) }
 {
     if u.0 < v.0 {
         sides.push((u, v))?;
@@ -41,7 +42,8 @@ fn put_sides(sides: &mut Sides, c: Corners) -> Result<(), NoMemory>
 
 /// Puts the sides of a face at the end of the list, if it is live.
 fn put_face<S: Surface>(sides: &mut Sides, mesh: &S, f: FaceId) -> Result<(), NoMemory>
-    ensures { IsOk result → AddsSides sides.old.items sides.new.items (neighbours_at (S.mesh mesh.now) f) }
+    ensures { IsOk result →
+        AddsSides sides.old.items sides.new.items (neighbours_at (S.mesh mesh.now) f) }
 {
     match mesh.corners(f) {
         Some(c) => put_sides(sides, Corners::of(c)),
@@ -51,7 +53,8 @@ fn put_face<S: Surface>(sides: &mut Sides, mesh: &S, f: FaceId) -> Result<(), No
 
 /// The sides of faces.
 fn sides_of<S: Surface>(alloc: Global, mesh: &S, faces: &[FaceId]) -> Result<Sides, NoMemory>
-    ensures { IfOk result (λ sides. HasSides sides.items (neighbours_in_any (S.mesh mesh.now) faces.now)) }
+    ensures { IfOk result
+        (λ sides. HasSides sides.items (neighbours_in_any (S.mesh mesh.now) faces.now)) }
 {
     // Room for all of them is taken at once: 24 bytes a face. A list that doubles as it grows takes up to twice that,
     // and copies on the way.
@@ -88,7 +91,8 @@ pub fn sides_in_order<S: Surface>(
     faces: &[FaceId],
 ) -> Result<Edges, NoMemory>
     ensures order { IfOk result (λ found. IsStrictlySortedBy edge_cmp found) }
-    ensures sides { IfOk result (λ found. HasSides found (neighbours_in_any (S.mesh mesh.now) faces.now)) }
+    ensures sides { IfOk result
+        (λ found. HasSides found (neighbours_in_any (S.mesh mesh.now) faces.now)) }
 {
     let mut sides = sides_of(alloc, mesh, faces)?;
     put_in_order(&mut sides);

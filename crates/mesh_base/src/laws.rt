@@ -25,11 +25,14 @@ pub fn moves_keep_the_mesh()
     ensures places { MovesAddShifts }
     ensures live { MovesKeepLive }
     ensures faces { (m : Mesh) (moves : Shifts) → (with_moves m moves).faces ≡ m.faces }
-    ensures next_vertex { (m : Mesh) (moves : Shifts) → (with_moves m moves).next_vertex ≡ m.next_vertex }
+    ensures next_vertex { (m : Mesh) (moves : Shifts) →
+        (with_moves m moves).next_vertex ≡ m.next_vertex }
     ensures next_face { (m : Mesh) (moves : Shifts) → (with_moves m moves).next_face ≡ m.next_face }
-    ensures sound { (m : Mesh) (moves : Shifts) → IsSound m → NameOnce m moves → IsSound (with_moves m moves) }
+    ensures sound { (m : Mesh) (moves : Shifts) →
+        IsSound m → NameOnce m moves → IsSound (with_moves m moves) }
     ensures closed { (m : Mesh) (moves : Shifts) → IsClosed m → IsClosed (with_moves m moves) }
-    ensures pairs { (m : Mesh) (moves : Shifts) → (p : Pair) → (IsPair (with_moves m moves) p ↔ IsPair m p) }
+    ensures pairs { (m : Mesh) (moves : Shifts) →
+        (p : Pair) → (IsPair (with_moves m moves) p ↔ IsPair m p) }
 {}
 
 /// Shifts of the live vertices, by rising id, name each once. Where some that shift nothing are left out, each vertex has

@@ -109,7 +109,8 @@ fn put_if_near<T: FaceTable>(
     f: FaceId,
     into: &mut Vec<FaceId>,
 ) -> Result<(), NoMemory>
-    ensures { OnOk result (into.new.items ≡ into.old.items ++ filter (λ f. is_face_near (T.mesh table.now) at.now f) (f ∷ [])) }
+    ensures { let near = filter (λ f. is_face_near (T.mesh table.now) at.now f) (f ∷ []) in
+        OnOk result (into.new.items ≡ into.old.items ++ near) }
 {
     if is_face_near(table, at, f) {
         into.push(f)?;

@@ -100,7 +100,8 @@ pub trait Surface {
 
         // What was kept stays, and a refusal changes nothing.
         ensures marks { BeginsWith (kept self.new) (kept self.old) }
-        ensures err { OnErr result ((mesh self.new ≡ mesh self.old) × (kept self.new ≡ kept self.old)) };
+        ensures err { OnErr result
+            ((mesh self.new ≡ mesh self.old) × (kept self.new ≡ kept self.old)) };
 
     /// Makes a face of three different live vertices which no live face equals up to rotation, and answers its id, the
     /// next. Full exactly where `FACES_MAX` faces are live or the id `ID_MAX` is given.
@@ -111,14 +112,16 @@ pub trait Surface {
         ensures full { IsErrOf result AddFault.Full → IsFullOfFaces (mesh self.old) }
         ensures room { IsOk result → ¬ IsFullOfFaces (mesh self.old) }
         ensures marks { BeginsWith (kept self.new) (kept self.old) }
-        ensures err { OnErr result ((mesh self.new ≡ mesh self.old) × (kept self.new ≡ kept self.old)) };
+        ensures err { OnErr result
+            ((mesh self.new ≡ mesh self.old) × (kept self.new ≡ kept self.old)) };
 
     /// Drops a live face. Its vertices stay, and its id is not given again.
     fn drop_face(&mut self, f: FaceId) -> Result<(), NoMemory>
         requires { IsLiveFace (mesh self.old) f }
         ensures ok { OnOk result (mesh self.new ≡ without_face (mesh self.old) f) }
         ensures marks { BeginsWith (kept self.new) (kept self.old) }
-        ensures err { OnErr result ((mesh self.new ≡ mesh self.old) × (kept self.new ≡ kept self.old)) };
+        ensures err { OnErr result
+            ((mesh self.new ≡ mesh self.old) × (kept self.new ≡ kept self.old)) };
 
     /// Drops a live vertex that has no face, and its mark as solid. Its id is not given again.
     fn drop_vertex(&mut self, v: VertexId) -> Result<(), NoMemory>
@@ -126,21 +129,24 @@ pub trait Surface {
         requires bare { faces_at (mesh self.old) v ≡ [] }
         ensures ok { OnOk result (mesh self.new ≡ without_vertex (mesh self.old) v) }
         ensures marks { BeginsWith (kept self.new) (kept self.old) }
-        ensures err { OnErr result ((mesh self.new ≡ mesh self.old) × (kept self.new ≡ kept self.old)) };
+        ensures err { OnErr result
+            ((mesh self.new ≡ mesh self.old) × (kept self.new ≡ kept self.old)) };
 
     /// Puts a live vertex at a point.
     fn place(&mut self, v: VertexId, p: Point) -> Result<(), NoMemory>
         requires { IsLiveVertex (mesh self.old) v }
         ensures ok { OnOk result (mesh self.new ≡ with_point (mesh self.old) v p) }
         ensures marks { BeginsWith (kept self.new) (kept self.old) }
-        ensures err { OnErr result ((mesh self.new ≡ mesh self.old) × (kept self.new ≡ kept self.old)) };
+        ensures err { OnErr result
+            ((mesh self.new ≡ mesh self.old) × (kept self.new ≡ kept self.old)) };
 
     /// Marks a live vertex as solid, as it stays until it is dropped or a return takes the mark back.
     fn make_solid(&mut self, v: VertexId) -> Result<(), NoMemory>
         requires { IsLiveVertex (mesh self.old) v }
         ensures ok { OnOk result (mesh self.new ≡ with_solid (mesh self.old) v) }
         ensures marks { BeginsWith (kept self.new) (kept self.old) }
-        ensures err { OnErr result ((mesh self.new ≡ mesh self.old) × (kept self.new ≡ kept self.old)) };
+        ensures err { OnErr result
+            ((mesh self.new ≡ mesh self.old) × (kept self.new ≡ kept self.old)) };
 
     /// Keeps the mesh as it is. The mark stands for it, and a return to it leaves what is kept before this call.
     fn mark(&mut self) -> Result<Mark, NoMemory>

@@ -1,5 +1,6 @@
 -- A fault of lists names what is at fault in their mesh, and a mesh that is sound and closed has none.
 use Rattle.std.proofs.Common.{◌≡◌, ◌≢◌, ℕ, zero, suc, ◌+◌, ◌<◌, ◌≤◌, ◌==◌, ◌&&◌, ◌||◌, not, Bool, true, false, cond, List, [], ◌∷◌, Option, Some, None, IsSome, map, length, nat_lt, nat_le, slice_get, if◌then◌else◌, option_map, refl, sym, ap, subst, ◌∙◌, ◌⊎◌, inl, inr, ⊎_elim, arith}
+use Rattle.mesh_base.proofs.Tests.{not_both}
 use Rattle.std.specs.Option.{option_or}
 use Rattle.std.specs.List.{filter, position_from, enumerate_from}
 use Rattle.std.specs.FinMap as finite
@@ -38,9 +39,6 @@ tested false x a h = cc
 pub mapped : {A B : Type 0} (g : A → B) (o : Option A) (b : B) → option_map g o ≡ Some b → (a : A) × (o ≡ Some a) × (g a ≡ b)
 mapped g None b h = cc
 mapped g (Some a) b h = (a, refl, cc)
-
-not_both : {b : Bool} → b ≡ true → b ≡ false → ⊥
-not_both h h' = cc
 
 -- ---- faces of the list in the mesh
 got_mapped : {A B : Type 0} (g : A → B) (xs : List A) (i : ℕ) (x : A) → slice_get xs i ≡ Some x → slice_get (map g xs) i ≡ Some (g x)

@@ -1,5 +1,6 @@
 -- The mesh of lists of good shape is sound.
 use Rattle.std.proofs.Common.{◌≡◌, ◌≢◌, ℕ, zero, suc, ◌+◌, ◌<◌, ◌≤◌, ◌==◌, ◌&&◌, ◌||◌, Bool, true, false, cond, List, [], ◌∷◌, ◌++◌, Option, Some, None, IsSome, is_some, map, length, nat_lt, nat_le, slice_get, if◌then◌else◌, option_map, T, refl, sym, ap, subst, ◌∙◌, ⊎_elim, arith}
+use Rattle.mesh_base.proofs.Tests.{not_both}
 use Rattle.std.specs.Option.{option_or}
 use Rattle.std.specs.List.{position_from, enumerate_from}
 use Rattle.std.specs.Ordering.{nat_cmp, is_lt}
@@ -157,9 +158,6 @@ none_doubled k (f ∷ fs) zero (suc j) l r h less e e' =
     subst (λ x. equal_up_to_rotation (corners_of x) (corners_of r) ≡ false) same (nowhere (λ g. equal_up_to_rotation (corners_of f) (corners_of g)) (k + 1) fs j r (none_mapped _ _ (none_of _ (doubled_from (k + 1) fs) h).0) e')
 none_doubled k (f ∷ fs) (suc i) (suc j) l r h less e e' =
     none_doubled (k + 1) fs i j l r (none_of (option_map (λ second. (k, second)) (position_from (λ g. equal_up_to_rotation (corners_of f) (corners_of g)) (k + 1) fs)) _ h).1 (omega arith) e e'
-
-not_both : {b : Bool} → b ≡ true → b ≡ false → ⊥
-not_both h h' = cc
 
 different : (c : Corners) → repeats c ≡ false → AreDifferent c
 different c h = let apart = three c.first c.second c.third h in record { first_second = apart.0; second_third = apart.1; third_first = apart.2 }

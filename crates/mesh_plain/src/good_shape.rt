@@ -22,7 +22,8 @@ pub fn shape(alloc: Global, lists: &MeshLists) -> Result<(), ShapeRefusal>
     ensures closed { IsOk result → IsClosed (mesh_of lists.now.points lists.now.faces) }
 
     // A fault: the first. What it names is at fault, and the parts before the one that it denies hold.
-    ensures first { IfErr result (IsRefusal (shape_fault (length lists.now.points) lists.now.faces)) }
+    ensures first { IfErr result
+        (IsRefusal (shape_fault (length lists.now.points) lists.now.faces)) }
     ensures just { IfErr result (IsJust (mesh_of lists.now.points lists.now.faces)) }
     ensures earlier { IfErr result (EarlierHold (mesh_of lists.now.points lists.now.faces)) }
 {
@@ -130,7 +131,8 @@ fn doubled_by_key(alloc: Global, faces: &[[u32; 3]]) -> Result<Option<(u32, u32)
 
 /// What is wrong with lists but their balance.
 fn fault_but_balance(alloc: Global, lists: &MeshLists) -> Result<Option<ShapeFault>, NoMemory>
-    ensures { IfOk result (λ fault. fault ≡ fault_but_balance (length lists.now.points) lists.now.faces) }
+    ensures { IfOk result
+        (λ fault. fault ≡ fault_but_balance (length lists.now.points) lists.now.faces) }
 {
     let points = lists.points.len();
     let faces = lists.faces.as_slice();

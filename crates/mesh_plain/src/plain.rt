@@ -46,7 +46,8 @@ impl PlainMesh {
         requires shape { shape_fault (length lists.now.points) lists.now.faces ≡ None }
         requires vertex { MayBeNext (length lists.now.points) next_vertex }
         requires face { MayBeNext (length lists.now.faces) next_face }
-        ensures mesh { IfOk result (λ s. mesh_in s ≡ numbered (mesh_of lists.now.points lists.now.faces) next_vertex next_face) }
+        ensures mesh { let listed = mesh_of lists.now.points lists.now.faces in
+        IfOk result (λ s. mesh_in s ≡ numbered listed next_vertex next_face) }
         ensures kept { IfOk result (λ s. kept_in s ≡ []) }
     {
         let mut now = Tables::of(alloc, lists)?;
@@ -220,7 +221,8 @@ impl Surface for PlainMesh {
         ensures stands { IfOk result (λ m. StandsFor (kept_in self.new) m (mesh_in self.old)) }
         ensures under { IfOk result (λ m. m.under ≡ length (kept_in self.old)) }
         ensures place { IfOk result (λ m. m.place ≡ m.under) }
-        ensures kept { IfOk result (λ m. kept_in self.new ≡ kept_in self.old ++ mesh_in self.old ∷ []) }
+        ensures kept { IfOk result
+        (λ m. kept_in self.new ≡ kept_in self.old ++ mesh_in self.old ∷ []) }
         ensures mesh { mesh_in self.new ≡ mesh_in self.old }
         ensures marks { BeginsWith (kept_in self.new) (kept_in self.old) }
         ensures err { OnErr result (kept_in self.new ≡ kept_in self.old) }

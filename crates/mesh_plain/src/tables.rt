@@ -1,6 +1,6 @@
 //! The ordered maps of one mesh.
 ghost use Rattle.grid_base.specs.declared.TheConstants.{VERTICES_MAX, FACES_MAX};
-ghost use Rattle.mesh_base.specs.Given.{mesh_of};
+ghost use Rattle.mesh_base.specs.Given.{mesh_of, empty_mesh};
 ghost use Rattle.mesh_plain.specs.Numbered.{numbered};
 ghost use Rattle.std.specs.Prelude.{◌≤◌, ◌≡◌, ◌<◌, ◌+◌, ◌^◌, IfOk, OnOk, OnErr, IsNone, slice_get, length, []};
 ghost use Rattle.std.specs.Option.{option_map};
@@ -61,7 +61,7 @@ impl FaceTable for Tables {
 
 impl Tables {
     pub(crate) fn new(alloc: Global) -> Tables
-        ensures { result ≡ record { points = map.empty; faces = map.empty; solid = map.empty; next_vertex = 1; next_face = 1 } }
+        ensures { result ≡ empty_mesh }
     {
         Tables {
             points: BTreeMap::new(alloc),

@@ -7,7 +7,8 @@ use Rattle.mesh_base.specs.declared.marks.Mark.{Mark}
 use Rattle.mesh_base.specs.Mesh.{Mesh}
 use Rattle.mesh_base.specs.Kept.{BeginsWith, MarkHolds, StandsFor}
 use Rattle.mesh_base.proofs.MarksHold.{slice_get-take, fits, holds_along}
-use Rattle.mesh_play.specs.Play.{Played, empty_mesh, stood_for, marked_by, AreMarks}
+use Rattle.mesh_base.specs.Given.{empty_mesh}
+use Rattle.mesh_play.specs.Play.{Played, stood_for, marked_by, AreMarks}
 
 same_there : (new old : List Mesh) (i : ℕ) → BeginsWith new old → i < length old → slice_get new i ≡ slice_get old i
 same_there new old i h less = sym (slice_get-take (length old) i new less) ∙ ap (λ kept. slice_get kept i) h

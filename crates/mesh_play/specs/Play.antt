@@ -8,6 +8,7 @@ use Rattle.mesh_base.specs.declared.marks.Mark.{Mark}
 use Rattle.mesh_base.specs.Mesh.{Mesh, IsLiveVertex, IsLiveFace, is_solid}
 use Rattle.mesh_base.specs.Sides.{above, runs, faces_running, faces_at}
 use Rattle.mesh_base.specs.Changes.{corners_of, corner_list, with_vertex, with_face, without_face, without_vertex, with_point, with_solid, IsFresh}
+use Rattle.mesh_base.specs.Given.{empty_mesh}
 use Rattle.mesh_base.specs.Kept.{MarkHolds}
 use Rattle.mesh_play.specs.declared.calls.Call.{Call}
 use Rattle.mesh_play.specs.declared.calls.Call.TheVariants.{Ask, Make, MakeMark, BackTo, Settle}
@@ -26,10 +27,6 @@ pub record Played : Type 0 where
 -- a mesh of which no mark was made
 abbrev pub start_of : Mesh → Played
 start_of m = record { mesh = m; marked = [] }
-
--- a mesh with nothing in it
-abbrev pub empty_mesh : Mesh
-empty_mesh = record { points = finite.empty; faces = finite.empty; solid = finite.empty; next_vertex = 1; next_face = 1 }
 
 -- the mesh for which a mark stands that holds
 abbrev pub stood_for : List Mesh → Mark → Mesh

@@ -1,8 +1,9 @@
-ghost use Rattle.std.specs.Prelude.{◌≡◌, ◌≤◌, ◌++◌, map, OnOk, IfOk};
+ghost use Rattle.std.specs.Prelude.{◌≡◌, ◌≤◌, map, IfOk};
 ghost use Rattle.grid_base.specs.declared.TheConstants.{DECIMALS_MAX};
 ghost use Rattle.grid_base.specs.Points.{position_of};
 ghost use Rattle.obj_text.specs.Views.{lists_view};
 ghost use Rattle.obj_text.specs.ListsWritten.{triangle_line, points_text, triangles_text, lists_text};
+ghost use Rattle.line_text.specs.WrittenLines.{Appends};
 
 use crate::writing::put_vertex;
 use grid_base::{NoMemory, Point};
@@ -12,7 +13,7 @@ use std::alloc::Global;
 
 // Appends the line of a face.
 fn put_triangle(out: &mut Vec<u8>, corners: [u32; 3]) -> Result<(), NoMemory>
-    ensures { OnOk result (out.new.items ≡ out.old.items ++ triangle_line corners) }
+    ensures { Appends result out.old out.new (triangle_line corners) }
 {
     let [a, b, c] = corners;
     put_line(
@@ -29,7 +30,7 @@ fn put_triangle(out: &mut Vec<u8>, corners: [u32; 3]) -> Result<(), NoMemory>
 // Appends the lines of the points.
 fn put_points(out: &mut Vec<u8>, points: &[Point], decimals: u8) -> Result<(), NoMemory>
     requires { decimals ≤ DECIMALS_MAX }
-    ensures { OnOk result (out.new.items ≡ out.old.items ++ points_text decimals (map position_of points.now)) }
+    ensures { Appends result out.old out.new (points_text decimals (map position_of points.now)) }
 {
     for p in points {
         put_vertex(out, *p, decimals)?;
@@ -39,7 +40,7 @@ fn put_points(out: &mut Vec<u8>, points: &[Point], decimals: u8) -> Result<(), N
 
 // Appends the lines of the faces.
 fn put_triangles(out: &mut Vec<u8>, faces: &[[u32; 3]]) -> Result<(), NoMemory>
-    ensures { OnOk result (out.new.items ≡ out.old.items ++ triangles_text faces.now) }
+    ensures { Appends result out.old out.new (triangles_text faces.now) }
 {
     for f in faces {
         put_triangle(out, *f)?;

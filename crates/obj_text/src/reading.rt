@@ -78,7 +78,8 @@ fn add_fan(
 // Adds the triangles of a face.
 #[tactic(auto, unfolding(crate::specs::Obj::face_of, crate::specs::Obj::corners_of))]
 fn add_face(faces: &mut Triangles, words: Words<'_>, read: u32, line: u32) -> Result<(), ReadFault>
-    ensures { Leaves faces.new result (at_line line (faces_after read faces.old (words_left words.entry))) }
+    ensures { Leaves faces.new result
+        (at_line line (faces_after read faces.old (words_left words.entry))) }
 {
     let mut words = words;
     let Some(a) = words.next() else {

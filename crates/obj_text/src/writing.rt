@@ -1,8 +1,8 @@
-ghost use Rattle.std.specs.Prelude.{◌≡◌, ◌≤◌, ◌++◌, ◌∷◌, [], length, map, nat_le, codes, decimal, OnOk, IfOk};
+ghost use Rattle.std.specs.Prelude.{◌≡◌, ◌≤◌, nat_le, IfOk};
 ghost use Rattle.std.specs.List.Sorted.{IsNonDecreasing};
 ghost use Rattle.std.specs.FinMap as finite;
-ghost use Rattle.grid_base.specs.declared.TheConstants.{VERTICES_MAX, DECIMALS_MAX};
-ghost use Rattle.line_text.specs.WrittenLines.{line_of_words};
+ghost use Rattle.grid_base.specs.declared.TheConstants.{DECIMALS_MAX};
+ghost use Rattle.line_text.specs.WrittenLines.{Appends};
 ghost use Rattle.obj_text.specs.Written.{rank_among, ranked_line, vertex_line, vertices_text, faces_text, mesh_text};
 
 use grid_base::{NoMemory, Point};
@@ -13,7 +13,7 @@ use std::alloc::Global;
 // Appends the line of a vertex.
 pub(crate) fn put_vertex(out: &mut Vec<u8>, p: Point, decimals: u8) -> Result<(), NoMemory>
     requires { decimals ≤ DECIMALS_MAX }
-    ensures { OnOk result (out.new.items ≡ out.old.items ++ vertex_line decimals p) }
+    ensures { Appends result out.old out.new (vertex_line decimals p) }
 {
     out.extend_from_slice(b"v ")?;
     put_coordinate(out, p.x, decimals, b' ')?;
@@ -38,7 +38,7 @@ fn rank(ids: &[VertexId], v: VertexId) -> u64
 // Appends the line of a face with these corners.
 fn put_face(out: &mut Vec<u8>, ids: &[VertexId], corners: [VertexId; 3]) -> Result<(), NoMemory>
     requires rising { IsNonDecreasing ids.now }
-    ensures { OnOk result (out.new.items ≡ out.old.items ++ ranked_line ids.now corners) }
+    ensures { Appends result out.old out.new (ranked_line ids.now corners) }
 {
     let [a, b, c] = corners;
     put_line(
@@ -61,7 +61,7 @@ fn put_vertices<S: Surface>(
 ) -> Result<(), NoMemory>
     requires places { decimals ≤ DECIMALS_MAX }
     requires live { ids.now ≡ finite.keys (S.mesh mesh.now).points }
-    ensures { OnOk result (out.new.items ≡ out.old.items ++ vertices_text decimals (S.mesh mesh.now)) }
+    ensures { Appends result out.old out.new (vertices_text decimals (S.mesh mesh.now)) }
 {
     for v in ids {
         let p = mesh.point(*v).unwrap();
@@ -79,7 +79,7 @@ fn put_faces<S: Surface>(
 ) -> Result<(), NoMemory>
     requires live { ids.now ≡ finite.keys (S.mesh mesh.now).points }
     requires live_faces { faces.now ≡ finite.keys (S.mesh mesh.now).faces }
-    ensures { OnOk result (out.new.items ≡ out.old.items ++ faces_text (S.mesh mesh.now)) }
+    ensures { Appends result out.old out.new (faces_text (S.mesh mesh.now)) }
 {
     for f in faces {
         let corners = mesh.corners(*f).unwrap();

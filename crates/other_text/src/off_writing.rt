@@ -1,8 +1,9 @@
-ghost use Rattle.std.specs.Prelude.{◌≡◌, ◌≤◌, ◌++◌, ◌∷◌, [], map, OnOk, IfOk};
+ghost use Rattle.std.specs.Prelude.{◌≡◌, ◌≤◌, map, IfOk};
 ghost use Rattle.grid_base.specs.declared.TheConstants.{DECIMALS_MAX};
 ghost use Rattle.grid_base.specs.Points.{position_of};
 ghost use Rattle.obj_text.specs.Views.{lists_view};
 ghost use Rattle.other_text.specs.OffWritten.{point_line, face_line, points_text, faces_text, rows_text, off_text};
+ghost use Rattle.line_text.specs.WrittenLines.{Appends};
 
 use grid_base::{NoMemory, Point};
 use line_text::{Field, put_coordinate, put_line};
@@ -12,7 +13,7 @@ use std::alloc::Global;
 // Appends the row of a point.
 fn put_point(out: &mut Vec<u8>, p: Point, decimals: u8) -> Result<(), NoMemory>
     requires { decimals ≤ DECIMALS_MAX }
-    ensures { OnOk result (out.new.items ≡ out.old.items ++ point_line decimals (position_of p)) }
+    ensures { Appends result out.old out.new (point_line decimals (position_of p)) }
 {
     put_coordinate(out, p.x, decimals, b' ')?;
     put_coordinate(out, p.y, decimals, b' ')?;
@@ -22,7 +23,7 @@ fn put_point(out: &mut Vec<u8>, p: Point, decimals: u8) -> Result<(), NoMemory>
 
 // Appends the row of a face.
 fn put_face(out: &mut Vec<u8>, corners: [u32; 3]) -> Result<(), NoMemory>
-    ensures { OnOk result (out.new.items ≡ out.old.items ++ face_line corners) }
+    ensures { Appends result out.old out.new (face_line corners) }
 {
     let [a, b, c] = corners;
     put_line(
@@ -39,7 +40,7 @@ fn put_face(out: &mut Vec<u8>, corners: [u32; 3]) -> Result<(), NoMemory>
 // Appends the rows of the points.
 fn put_points(out: &mut Vec<u8>, points: &[Point], decimals: u8) -> Result<(), NoMemory>
     requires { decimals ≤ DECIMALS_MAX }
-    ensures { OnOk result (out.new.items ≡ out.old.items ++ points_text decimals (map position_of points.now)) }
+    ensures { Appends result out.old out.new (points_text decimals (map position_of points.now)) }
 {
     for p in points {
         put_point(out, *p, decimals)?;
@@ -49,7 +50,7 @@ fn put_points(out: &mut Vec<u8>, points: &[Point], decimals: u8) -> Result<(), N
 
 // Appends the rows of the faces.
 fn put_faces(out: &mut Vec<u8>, faces: &[[u32; 3]]) -> Result<(), NoMemory>
-    ensures { OnOk result (out.new.items ≡ out.old.items ++ faces_text faces.now) }
+    ensures { Appends result out.old out.new (faces_text faces.now) }
 {
     for f in faces {
         put_face(out, *f)?;
@@ -60,7 +61,7 @@ fn put_faces(out: &mut Vec<u8>, faces: &[[u32; 3]]) -> Result<(), NoMemory>
 // Appends the rows of the points and then of the faces.
 pub(crate) fn put_rows(out: &mut Vec<u8>, lists: &MeshLists, decimals: u8) -> Result<(), NoMemory>
     requires { decimals ≤ DECIMALS_MAX }
-    ensures { OnOk result (out.new.items ≡ out.old.items ++ rows_text decimals (lists_view lists.now)) }
+    ensures { Appends result out.old out.new (rows_text decimals (lists_view lists.now)) }
 {
     put_points(out, lists.points.as_slice(), decimals)?;
     put_faces(out, lists.faces.as_slice())

@@ -102,7 +102,8 @@ fn coordinates(
 fn point(roles: &[Role], words: Words<'_>, decimals: u8) -> Result<Point, TextWhy>
     requires places { decimals ≤ DECIMALS_MAX }
     requires few { length roles.now < 2 ^ 32 }
-    ensures { GivesWhy position_of result (spec.point_of decimals roles.now (words_left words.entry)) }
+    ensures { GivesWhy position_of result
+        (spec.point_of decimals roles.now (words_left words.entry)) }
 {
     count_is(roles.len(), words)?;
     coordinates(roles, words, Point { x: 0, y: 0, z: 0 }, decimals)

@@ -95,7 +95,8 @@ fn add_fan(
 // Adds the triangles of a face of two corners and so many more.
 #[tactic(auto, unfolding(crate::specs::Rows::ring_of))]
 fn add_ring(faces: &mut Triangles, more: u64, words: Words<'_>, line: u32) -> Result<(), ReadFault>
-    ensures { AddsFace faces.old faces.new result line (spec.ring_of more (words_left words.entry)) }
+    ensures { AddsFace faces.old faces.new result line
+        (spec.ring_of more (words_left words.entry)) }
 {
     let mut words = words;
     let Some(a) = words.next() else {
@@ -147,7 +148,8 @@ pub(crate) fn add_face(
     line: u32,
 ) -> Result<(), ReadFault>
     requires { IfSome behind (λ more. more < 2 ^ 32) }
-    ensures { AddsFace faces.old faces.new result line (spec.face_of behind (words_left words.entry)) }
+    ensures { AddsFace faces.old faces.new result line
+        (spec.face_of behind (words_left words.entry)) }
 {
     let mut words = words;
     let Some(first) = words.next() else {

@@ -2,4 +2,8 @@ use Rattle.edit_collapse.proofs.CollapseKeeps.{to_point_is_sound, to_point_is_cl
 use Rattle.edit_collapse.proofs.laws.collapses_to_any_point.Goals as goal
 
 pub returns : goal.returns
-returns c = record { closed = to_point_is_closed; sound = to_point_is_sound; clear = λ meets exact m u v at depth sound closed edge none. to_point_is_clear m u v at sound closed edge meets exact depth none }
+returns c = record {
+  closed = λ m u v sound closed edge at. to_point_is_closed m u v at sound closed edge;
+  sound = λ m u v sound closed edge at. to_point_is_sound m u v at sound closed edge;
+  clear = λ meets exact m u v sound closed edge at depth none. to_point_is_clear m u v at sound closed edge meets exact depth none;
+}

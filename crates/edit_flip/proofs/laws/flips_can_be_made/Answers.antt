@@ -6,6 +6,6 @@ use Rattle.edit_flip.proofs.laws.flips_can_be_made.Goals as goal
 
 pub returns : goal.returns
 returns c = record {
-  room = λ m u v at sound closed edge. flip_over m (edge_of m u v) sound (beside_of m u v sound closed edge) at;
+  room = λ m u v sound closed edge at. flip_over m (edge_of m u v) sound (beside_of m u v sound closed edge) at;
   faces = λ m u v sound closed edge c_d no_edge. both_fresh m (edge_of m u v) sound (beside_of m u v sound closed edge) c_d no_edge;
 }

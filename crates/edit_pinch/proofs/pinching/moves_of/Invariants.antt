@@ -1,5 +1,5 @@
 use Rattle.std.proofs.Common.{◌≡◌, ◌++◌, drop, map}
-use Rattle.edit_pinch.specs.Tried.{move_to, moves_from}
+use Rattle.edit_pinch.specs.Pinch.{move_to, moves_from}
 use Rattle.edit_pinch.proofs.pinching.moves_of.Given as goal
 
 -- the ways so far, and those of the copies that are left, are all

@@ -1,5 +1,5 @@
 use Rattle.std.proofs.Common.{◌≡◌, ◌++◌, drop, map}
-use Rattle.edit_pinch.specs.Tried.{vertex_and_copies}
+use Rattle.edit_pinch.specs.Pinch.{vertex_and_copies}
 use Rattle.edit_pinch.proofs.pinching.together_of.Given as goal
 
 -- those so far, and the copies that are left, are all
