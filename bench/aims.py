@@ -1,0 +1,225 @@
+#!/usr/bin/env python3
+"""Measures a built program against what it is to cost, and beside a second program where one is given.
+
+    bench/aims.py PROGRAM [OTHER [BEST_OF]]
+
+PROGRAM and OTHER are paths of executables with the command line of `topo`. Makes its own meshes, runs each job BEST_OF (3) times, and prints a
+table: the job, the least processor seconds of the whole process, those of the other program (a dash where it can't do the job, or takes more
+than 30 s), their ratio, and the aim. Rates are those of a pass beside a pass over the same mesh that finds nothing to do.
+"""
+
+import math
+import os
+import random
+import sys
+import tempfile
+
+from cliffs import put, small_ones
+from job import cubes, put_mesh, squared_lengths, torus
+from there_and_back import steps_of
+
+BOX = 67_108_864
+
+
+class Run:
+    """The least seconds of some runs of one job, its most memory, and the lines of its log."""
+
+    def __init__(self, program, folder, best_of, seconds_at_most):
+        self.seconds, self.memory = math.inf, 0
+        for _ in range(best_of):
+            with open(os.path.join(folder, "log"), "wb") as log:
+                words = ["timeout", str(seconds_at_most), program, "track", "mesh.obj", "steps.txt", "t"]
+                actions = [(os.POSIX_SPAWN_DUP2, log.fileno(), 1), (os.POSIX_SPAWN_OPEN, 2, os.devnull, os.O_WRONLY, 0)]
+                child = os.posix_spawnp("timeout", words, os.environ, file_actions=actions)
+                _, status, used = os.wait4(child, 0)
+            self.status = os.waitstatus_to_exitcode(status)
+            if self.status == 124:
+                break
+            self.seconds = min(self.seconds, used.ru_utime + used.ru_stime)
+            self.memory = max(self.memory, used.ru_maxrss / 1024)
+        with open(os.path.join(folder, "log"), "rb") as log:
+            self.lines = log.read().split(b"\n")[:-1]
+
+    def counted(self, word):
+        return sum(line.startswith(word + b" ") for line in self.lines)
+
+
+class Programs:
+    """The program, and the other one where there is one, on one mesh and then another."""
+
+    def __init__(self, program, other, best_of):
+        self.program, self.other, self.best_of = program, other, best_of
+
+    def run(self, mesh, steps):
+        """The runs of both."""
+        with tempfile.TemporaryDirectory() as folder:
+            put_mesh(folder, *mesh)
+            with open(os.path.join(folder, "steps.txt"), "w") as out:
+                out.writelines(steps)
+            here = os.getcwd()
+            os.chdir(folder)
+            try:
+                mine = Run(self.program, folder, self.best_of, 600)
+                theirs = Run(self.other, folder, self.best_of, 30) if self.other else None
+            finally:
+                os.chdir(here)
+        if theirs and (theirs.status != mine.status or len(theirs.lines) != len(mine.lines)):
+            theirs = None
+        return mine, theirs
+
+
+def row(what, mine, theirs, aim):
+    """Prints a row of two figures."""
+    beside = "-" if theirs is None else f"{theirs:.3g}"
+    ratio = "-" if not theirs else f"{mine / theirs:.2f}"
+    print(f"| {what} | {mine:.3g} | {beside} | {ratio} | {aim} |", flush=True)
+
+
+def seconds(run):
+    return None if run is None else run.seconds
+
+
+def turned(around, across):
+    """A ring, and the shifts that take each vertex to where the next one round the ring stands."""
+    points, faces = torus(around, across)
+    steps = []
+    for i in range(around):
+        for j in range(across):
+            at, to = points[i * across + j], points[(i + 1) % around * across + j]
+            steps.append("shift %d %d %d %d\n" % ((i * across + j + 1,) + tuple(q - p for p, q in zip(at, to))))
+    return (points, faces), steps + ["step\n"]
+
+
+def thrown_cubes(n, apart, by):
+    """N * N * N cubes of side 40, each with a shift of its own by this length."""
+    dice = random.Random(7)
+    points, faces = cubes(n)
+    points = [tuple(x // 100 * apart + x % 100 for x in p) for p in points]
+    steps = []
+    for cube in range(n ** 3):
+        way = [dice.gauss(0, 1) for _ in range(3)]
+        size = math.sqrt(sum(x * x for x in way))
+        for v in range(8 * cube + 1, 8 * cube + 9):
+            steps.append("shift %d %d %d %d\n" % ((v,) + tuple(round(x * by / size) for x in way)))
+    return (points, faces), steps + ["step\n"]
+
+
+def sheets(side, step, gap, count):
+    """COUNT sheets of SIDE * SIDE squares, each with two sides and no thickness, one over the other."""
+    points, faces = [], []
+    for k in range(count):
+        base = len(points) + 1
+        points += [(i * step, j * step, k * gap) for i in range(side + 1) for j in range(side + 1)]
+        at = lambda i, j: base + i * (side + 1) + j
+        for i in range(side):
+            for j in range(side):
+                a, c, d, e = at(i, j), at(i + 1, j), at(i + 1, j + 1), at(i, j + 1)
+                faces += [(a, c, d), (a, d, e), (a, d, c), (a, e, d)]
+    return points, faces
+
+
+def rough(around, across):
+    dice = random.Random(3)
+    points, faces = torus(around, across, radius=4_000_000, tube=1_500_000)
+    return [tuple(x + dice.randint(-9_000, 9_000) for x in p) for p in points], faces
+
+
+def steps_and_rest(programs):
+    """Steps and tests at rest, small and large: the figures, by what they are of."""
+    mine, theirs = programs.run(cubes(12), steps_of(8 * 12 ** 3, 64))
+    row("64 steps of 20,736 faces of cubes", mine.seconds, seconds(theirs), "-")
+    found = {}
+    for around, across in ((128, 79), (256, 256)):
+        ring, steps = turned(around, across)
+        for what, these in (("at rest", []), ("turned by an edge length", steps)):
+            mine, theirs = programs.run(ring, these)
+            found[what, around] = mine.seconds
+            row(f"{len(ring[1]):,} faces, {what}", mine.seconds, seconds(theirs), "-")
+    for what in ("at rest", "turned by an edge length"):
+        row(f"{what}, 6.48 times the faces: how many times the seconds", found[what, 256] / found[what, 128], None, "at most 7")
+    return found["at rest", 256]
+
+
+def whole_motions(programs, rest):
+    sheet = sheets(181, 1_000, 0, 1)
+    still, _ = programs.run(sheet, [])
+    row(f"a sheet of {len(sheet[1]):,} faces at rest", still.seconds, None, "-")
+    for by in (1_000, 16_000, 1_000_000):
+        mine, theirs = programs.run(sheet, ["shift all %d 0 0\n" % by, "step\n"])
+        row(f"the same moved as a whole by {by:,}", mine.seconds, seconds(theirs), f"twice as at rest: {2 * still.seconds:.2f}")
+
+
+def thrown(programs):
+    one, _ = programs.run(*thrown_cubes(12, 3_000, 40))
+    row("1,728 cubes, each thrown its own way by an edge length", one.seconds, None, "-")
+    mine, theirs = programs.run(*thrown_cubes(12, 3_000, 4_000))
+    row(f"by a hundred edge lengths ({mine.counted(b'hit')} failing pairs)", mine.seconds, seconds(theirs), f"10 times that: {10 * one.seconds:.2f}")
+
+
+def halved(programs):
+    mesh = sheets(50, 1_000, 1, 2)
+    half = len(mesh[0]) // 2
+    down = ["set passes 0\n", "set zones 0\n"] + ["shift %d 0 0 -60000000\n" % v for v in range(half + 1, 2 * half + 1)]
+    first, _ = programs.run(mesh, down + ["set halvings 0\n", "step\n"])
+    row(f"two sheets of 10,000 faces, one through the other: {first.counted(b'hit')} failing pairs", first.seconds, None, "-")
+    mine, _ = programs.run(mesh, down + ["set halvings 27\n", "step\n"])
+    row(f"the same, {next((x.decode() for x in mine.lines if x.startswith(b'moved')), 'not ended')}".strip(), mine.seconds, None, f"twice that: {2 * first.seconds:.2f}")
+
+
+def passes(programs):
+    for around, across in ((140, 72), (280, 143), (256, 256)):
+        mesh = rough(around, across)
+        lengths = squared_lengths(*mesh)
+        many = len(mesh[1]) // 4
+        idle, idle_there = programs.run(mesh, ["split 268435456\n"])
+        for word, step, aim in (("split", f"split {math.isqrt(lengths[-many])}", 100_000), ("collapse", f"collapse {math.isqrt(lengths[many // 4])}", 30_000), ("flip", "flip", 80_000)):
+            mine, theirs = programs.run(mesh, [step + "\n"])
+            tried = mine.counted(word.encode()) + mine.counted(b"no " + word.encode())
+            rate = tried / max(mine.seconds - idle.seconds, 0.001)
+            beside = None if theirs is None else tried / max(theirs.seconds - idle_there.seconds, 0.001)
+            row(f"{word}s a second, {len(mesh[1]):,} faces ({mine.counted(word.encode())} done, {mine.counted(b'no ' + word.encode())} refused)", rate, beside, f"{aim:,}")
+            if word == "split":
+                row(f"MiB at most, of which {idle.memory:.0f} without a split", mine.memory, theirs and theirs.memory, f"3 times: {3 * idle.memory:.0f}")
+
+
+def sizes(programs):
+    mesh = small_ones(16_000)
+    plain, _ = programs.run(mesh, [])
+    row("64,000 faces of small bodies at rest", plain.seconds, None, "-")
+    aim = f"3 times that: {3 * plain.seconds:.2f}"
+    put(mesh, (-60_000_000,) * 3, 320_000_000)
+    named = [("the same in one huge body", mesh)]
+    mesh = small_ones(8_192, 3, 5)
+    for i in range(8_192):
+        put(mesh, (1_000_000 + i % 128 * 20_000, i // 128 * 20_000, 0), 15_000)
+    named.append(("65,536 faces, half tiny and half large", mesh))
+    mesh = ([], [])
+    for i in range(16_384):
+        put(mesh, (-60_000_000, i % 128 * 1_000, i // 128 * 1_000), (120_000_000, 400, 400))
+    named.append(("65,536 faces of parallel needles", mesh))
+    mesh = ([], [])
+    for level in range(20):
+        size, apart = 2 ** (level + 1), 2 * BOX // 30
+        for i in range(819):
+            put(mesh, (-BOX + i % 29 * apart, -BOX + i // 29 * apart, -BOX + 10 + 3 * size), min(size, apart - 2))
+    named.append(("65,520 faces of twenty sizes", mesh))
+    for what, mesh in named:
+        mine, theirs = programs.run(mesh, [])
+        row(what, mine.seconds, seconds(theirs), aim)
+
+
+def main():
+    words = sys.argv[1:]
+    program, other = (os.path.abspath(w) if w else None for w in (words + [None])[:2])
+    programs = Programs(program, other, int(words[2]) if len(words) > 2 else 3)
+    print("| job | seconds | other program | ratio | aim |\n|---|---|---|---|---|")
+    rest = steps_and_rest(programs)
+    whole_motions(programs, rest)
+    thrown(programs)
+    halved(programs)
+    passes(programs)
+    sizes(programs)
+
+
+if __name__ == "__main__":
+    main()
