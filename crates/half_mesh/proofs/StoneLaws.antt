@@ -12,7 +12,7 @@ use Rattle.std.specs.FinMap.Entries.{find, is_sorted, below_all}
 use Rattle.mesh_base.specs.Sides.{above}
 use Rattle.mesh_base.proofs.Ordered.{entries-of_sorted}
 use Rattle.half_mesh.specs.declared.rows.Item.{Item}
-use Rattle.half_mesh.specs.Stones.{held_of, RiseFrom, IsLower, IsFound, find_id}
+use Rattle.half_mesh.specs.Stones.{held_of, RiseFrom, IsLower, AreBelow, AreOver, IsFound, find_id}
 
 both_true : (a b : Bool) → IsT a → IsT b → IsT (a && b)
 both_true true b p q = q
@@ -35,6 +35,20 @@ module _ {T : Type 0} where
       omega arith
   rise_between low (x ∷ xs) (suc i) zero a b r at_i at_j h = absurd (omega arith)
   rise_between low (x ∷ xs) (suc i) (suc j) a b r at_i at_j h = rise_between (x.id + 1) xs i j a b r.1 at_i at_j (omega arith)
+
+  -- an id below a number, and so those before it
+  pub below_up : (id i n : ℕ) (xs : List (Item T)) (e : Item T) → RiseFrom 0 xs → slice_get xs i ≡ Some e → e.id < id → n ≤ i + 1 → AreBelow id n xs
+  below_up id i n xs e r at less h = λ k f at_k under. let between = rise_between 0 xs k i f e r at_k at (omega arith) in omega arith
+
+  -- an id not below a number, and so those after it
+  pub over_down : (id i n : ℕ) (xs : List (Item T)) (e : Item T) → RiseFrom 0 xs → slice_get xs i ≡ Some e → id ≤ e.id → i ≤ n → AreOver id n xs
+  over_down id i n xs e r at more h = λ k f at_k past. let between = rise_between 0 xs i k e f r at at_k (omega arith) in omega arith
+
+  -- there are none from the end on
+  pub none_past : (id n : ℕ) (xs : List (Item T)) → length xs ≤ n → (k : ℕ) (e : Item T) → slice_get xs k ≡ Some e → n ≤ k → id ≤ e.id
+  none_past id n [] h k e at past = cc
+  none_past id n (x ∷ xs) h zero e at past = absurd (omega arith)
+  none_past id n (x ∷ xs) h (suc k) e at past = none_past id k xs (omega arith) k e at (omega arith)
 
   -- a place that parts the ids
   pub lower_from : (id n : ℕ) (xs : List (Item T)) → n ≤ length xs → ((k : ℕ) (e : Item T) → slice_get xs k ≡ Some e → k < n → e.id < id) → ((k : ℕ) (e : Item T) → slice_get xs k ≡ Some e → n ≤ k → id ≤ e.id) → IsLower id n xs

@@ -3,7 +3,7 @@ ghost use Rattle.std.specs.Prelude.{◌≡◌, ⊤, ℕ, is_some, ◌≤◌, ◌
 ghost use Rattle.std.specs.List.{filter};
 ghost use Rattle.std.specs.FinMap as map;
 ghost use Rattle.mesh_base.specs.Sides.{above};
-ghost use Rattle.half_mesh.specs.Stones.{held_of, buried_of, is_held, is_left, RiseFrom, IsLower, IsFound, Holds};
+ghost use Rattle.half_mesh.specs.Stones.{held_of, buried_of, is_held, is_left, RiseFrom, IsLower, AreBelow, AreOver, IsAround, IsFound, Holds};
 
 use grid_base::{NoMemory, Point};
 use std::alloc::{AllocError, Global};
@@ -255,6 +255,12 @@ fn find<T: Copy>(items: &[Item<T>], id: u32) -> Result<usize, usize>
     requires { RiseFrom 0 items.now }
     ensures { IsFound items.now id result }
 {
+    let likely = guess(items, id as u64);
+    if likely < items.len() {
+        if items[likely].id == id {
+            return Ok(likely);
+        }
+    }
     let at = lower(items, id as u64);
     if at < items.len() {
         if items[at].id == id {
@@ -262,6 +268,21 @@ fn find<T: Copy>(items: &[Item<T>], id: u32) -> Result<usize, usize>
         }
     }
     Err(at)
+}
+
+/// A place near which the number may belong: the very place, where the ids rise by one.
+fn guess<T: Copy>(items: &[Item<T>], id: u64) -> usize {
+    if items.is_empty() {
+        return 0;
+    }
+    let last = items.len() - 1;
+    let first = items[0].id as u64;
+    let span = (items[last].id as u64).saturating_sub(first);
+    let after = id.saturating_sub(first);
+    if span == last as u64 || span == 0 {
+        return after as usize;
+    }
+    (after.min(span).saturating_mul(last as u64) / span) as usize
 }
 
 /// Takes out the items of which nothing is left, where they are more than half.
@@ -346,8 +367,9 @@ fn lower<T: Copy>(items: &[Item<T>], id: u64) -> usize
     requires { RiseFrom 0 items.now }
     ensures { IsLower id result items.now }
 {
-    let mut low = 0;
-    let mut high = items.len();
+    let (from, to) = around(items, id);
+    let mut low = from;
+    let mut high = to;
     while low < high {
         let mid = low + (high - low) / 2;
         if (items[mid].id as u64) < id {
@@ -357,6 +379,68 @@ fn lower<T: Copy>(items: &[Item<T>], id: u64) -> usize
         }
     }
     low
+}
+
+/// Two places between which a number belongs, near the guess.
+fn around<T: Copy>(items: &[Item<T>], id: u64) -> (usize, usize)
+    requires { RiseFrom 0 items.now }
+    ensures { IsAround id items.now result }
+{
+    let at = guess(items, id);
+    if at >= items.len() {
+        return downward(items, id, items.len());
+    }
+    if (items[at].id as u64) < id {
+        upward(items, id, at)
+    } else {
+        downward(items, id, at)
+    }
+}
+
+/// The next step, twice as long.
+fn grown(step: usize) -> usize
+    requires { 0 < step }
+    ensures { 0 < result }
+{
+    if step < 1_000_000_000 { step * 2 } else { step }
+}
+
+/// The same, where the number belongs after the place. Each step is twice as long as the one before.
+fn upward<T: Copy>(items: &[Item<T>], id: u64, at: usize) -> (usize, usize)
+    requires rise { RiseFrom 0 items.now }
+    requires after { at < length items.now }
+    requires below { AreBelow id (at + 1) items.now }
+    ensures { IsAround id items.now result }
+{
+    let mut low = at;
+    let mut step = 1;
+    while step < items.len() - low {
+        if items[low + step].id as u64 >= id {
+            return (low + 1, low + step);
+        }
+        low += step;
+        step = grown(step);
+    }
+    (low + 1, items.len())
+}
+
+/// The same, where the number belongs at the place or before.
+fn downward<T: Copy>(items: &[Item<T>], id: u64, at: usize) -> (usize, usize)
+    requires rise { RiseFrom 0 items.now }
+    requires inside { at ≤ length items.now }
+    requires over { AreOver id at items.now }
+    ensures { IsAround id items.now result }
+{
+    let mut high = at;
+    let mut step = 1;
+    while step <= high {
+        if (items[high - step].id as u64) < id {
+            return (high - step + 1, high);
+        }
+        high -= step;
+        step = grown(step);
+    }
+    (0, high)
 }
 
 /// The first id from a place on of which something is held.
