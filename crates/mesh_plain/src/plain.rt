@@ -47,7 +47,7 @@ impl PlainMesh {
         requires vertex { MayBeNext (length lists.now.points) next_vertex }
         requires face { MayBeNext (length lists.now.faces) next_face }
         ensures mesh { let listed = mesh_of lists.now.points lists.now.faces in
-        IfOk result (λ s. mesh_in s ≡ numbered listed next_vertex next_face) }
+            IfOk result (λ s. mesh_in s ≡ numbered listed next_vertex next_face) }
         ensures kept { IfOk result (λ s. kept_in s ≡ []) }
     {
         let mut now = Tables::of(alloc, lists)?;
@@ -222,7 +222,7 @@ impl Surface for PlainMesh {
         ensures under { IfOk result (λ m. m.under ≡ length (kept_in self.old)) }
         ensures place { IfOk result (λ m. m.place ≡ m.under) }
         ensures kept { IfOk result
-        (λ m. kept_in self.new ≡ kept_in self.old ++ mesh_in self.old ∷ []) }
+            (λ m. kept_in self.new ≡ kept_in self.old ++ mesh_in self.old ∷ []) }
         ensures mesh { mesh_in self.new ≡ mesh_in self.old }
         ensures marks { BeginsWith (kept_in self.new) (kept_in self.old) }
         ensures err { OnErr result (kept_in self.new ≡ kept_in self.old) }
