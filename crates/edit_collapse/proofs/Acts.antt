@@ -18,7 +18,7 @@ use Rattle.mesh_base.proofs.Counts.{entries-remove}
 use Rattle.mesh_base.proofs.Finite.{got_after_remove}
 use Rattle.mesh_base.proofs.Listed.{or_either}
 use Rattle.mesh_base.proofs.ListedPairs.{all_weaker, all_mapped, all_filtered, all_always}
-use Rattle.mesh_base.proofs.Tests.{or_first, or_second, turned_test}
+use Rattle.mesh_base.proofs.Tests.{or_first, or_second, test_either_way}
 use Rattle.mesh_base.proofs.WalkSteps.{both_of}
 use Rattle.edit_base.specs.Edges.{renamed, corners_from, without_faces, with_renamed, with_all_renamed}
 use Rattle.edit_collapse.specs.Collapse.{without_shared, with_joined, are_opposite, least_opposite, with_opposites, with_one_cancelled, cancelled_times}
@@ -97,7 +97,7 @@ kind_without test n k =
     ∙ filter_twice (λ e. test e.1) (λ e. not (eq_by_cmp nat_cmp k e.0)) (finite.entries n.faces)
     ∙ filter_same (λ e. not (eq_by_cmp nat_cmp k e.0) && test e.1) (λ e. test e.1 && not (e.0 == k)) (finite.entries n.faces)
     (all_always (λ (e : ℕ × Corners). (not (eq_by_cmp nat_cmp k e.0) && test e.1) ≡ (test e.1 && not (e.0 == k))) (finite.entries n.faces)
-    (λ e. ap (λ t. not t && test e.1) (unsigned_tied k e.0 ∙ turned_test k e.0) ∙ and_turned (not (e.0 == k)) (test e.1)))
+    (λ e. ap (λ t. not t && test e.1) (unsigned_tied k e.0 ∙ test_either_way k e.0) ∙ and_turned (not (e.0 == k)) (test e.1)))
     ∙ sym (filter_twice (λ e. not (e.0 == k)) (λ e. test e.1) (finite.entries n.faces))
 
 kept_all : (test : Corners → Bool) (n : Mesh) (k : ℕ) → ((c : Corners) → HasCorners n k c → test c ≡ false) → kind test (without_face n k) ≡ kind test n

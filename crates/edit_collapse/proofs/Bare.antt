@@ -19,7 +19,7 @@ use Rattle.mesh_base.specs.Changes.{without_vertex, corner_list}
 use Rattle.mesh_base.proofs.Listed.{all_filter, at_key, running_face, and_first, and_second, or_either}
 use Rattle.mesh_base.proofs.ListedPairs.{all_weaker}
 use Rattle.mesh_base.proofs.Finite.{live_after_remove, live_but_removed}
-use Rattle.mesh_base.proofs.Tests.{or_first, or_second, both_ways, turned_test}
+use Rattle.mesh_base.proofs.Tests.{or_first, or_second, both_ways, test_either_way}
 use Rattle.edit_collapse.specs.Collapse.{joined_faces, has_face, without_bare}
 use Rattle.edit_collapse.proofs.CollapseMesh.{dropped_faces, dropped_next, has_face_of}
 use Rattle.edit_collapse.proofs.JoinedFaces.{joined, joined_solid, lacks_b}
@@ -41,14 +41,14 @@ got_dropped : (vs : List ℕ) (n : Mesh) (v : ℕ) → finite.get (fold without_
 got_dropped [] n v = refl
 got_dropped (w ∷ vs) n v =
     got_dropped vs (without_vertex n w) v
-    ∙ ap (λ o. cond (has vs v) None o) (get-remove nat_cmp_total n.points w v ∙ ap (λ t. cond t None (finite.get n.points v)) (unsigned_tied v w ∙ turned_test v w))
+    ∙ ap (λ o. cond (has vs v) None o) (get-remove nat_cmp_total n.points w v ∙ ap (λ t. cond t None (finite.get n.points v)) (unsigned_tied v w ∙ test_either_way v w))
     ∙ both_dropped (w == v) (has vs v) (finite.get n.points v)
 
 marks_dropped : (vs : List ℕ) (n : Mesh) (v : ℕ) → finite.get (fold without_vertex n vs).solid v ≡ cond (has vs v) None (finite.get n.solid v)
 marks_dropped [] n v = refl
 marks_dropped (w ∷ vs) n v =
     marks_dropped vs (without_vertex n w) v
-    ∙ ap (λ o. cond (has vs v) None o) (get-remove nat_cmp_total n.solid w v ∙ ap (λ t. cond t None (finite.get n.solid v)) (unsigned_tied v w ∙ turned_test v w))
+    ∙ ap (λ o. cond (has vs v) None o) (get-remove nat_cmp_total n.solid w v ∙ ap (λ t. cond t None (finite.get n.solid v)) (unsigned_tied v w ∙ test_either_way v w))
     ∙ both_dropped (w == v) (has vs v) (finite.get n.solid v)
 
 same_faces_once : (n : Mesh) (w : ℕ) → (without_if_bare n w).faces ≡ n.faces
@@ -84,7 +84,7 @@ got_once : (n : Mesh) (w v : ℕ) → finite.get (without_if_bare n w).points v 
 got_once n w v = by_tests (has_face n w) refl (finite.get n.points w) refl
   where
     removed : finite.get (without_vertex n w).points v ≡ cond (w == v) None (finite.get n.points v)
-    removed = get-remove nat_cmp_total n.points w v ∙ ap (λ t. cond t None (finite.get n.points v)) (unsigned_tied v w ∙ turned_test v w)
+    removed = get-remove nat_cmp_total n.points w v ∙ ap (λ t. cond t None (finite.get n.points v)) (unsigned_tied v w ∙ test_either_way v w)
 
     by_tests : (t : Bool) → has_face n w ≡ t → (o : Option Point) → finite.get n.points w ≡ o → finite.get (if not t && is_some o then without_vertex n w else n).points v ≡ cond ((w == v) && not (has_face n v)) None (finite.get n.points v)
     by_tests true f o e = rests n w v (finite.get n.points) (w == v) refl true (λ same. ap (has_face n) (sym (eqb-true w v same)) ∙ f) (λ same. refl)
@@ -110,7 +110,7 @@ mark_once : (n : Mesh) (w v : ℕ) → AreMarksLive n → finite.get (without_if
 mark_once n w v live = by_tests (has_face n w) refl (finite.get n.points w) refl
   where
     removed : finite.get (without_vertex n w).solid v ≡ cond (w == v) None (finite.get n.solid v)
-    removed = get-remove nat_cmp_total n.solid w v ∙ ap (λ t. cond t None (finite.get n.solid v)) (unsigned_tied v w ∙ turned_test v w)
+    removed = get-remove nat_cmp_total n.solid w v ∙ ap (λ t. cond t None (finite.get n.solid v)) (unsigned_tied v w ∙ test_either_way v w)
 
     no_mark : finite.get n.points w ≡ None → finite.get n.solid w ≡ None
     no_mark none = by_answer (finite.get n.solid w) refl
@@ -320,7 +320,7 @@ module _ (m : Mesh) (a b : ℕ) (sound : IsSound m) (closed : IsClosed m) (apart
 
   keys_have : (v : ℕ) (ks : List ℕ) → has ks v ≡ list_any (eq_by_cmp nat_cmp v) ks
   keys_have v [] = refl
-  keys_have v (k ∷ ks) = λ i. (turned_test k v ∙ sym (unsigned_tied v k)) i || keys_have v ks i
+  keys_have v (k ∷ ks) = λ i. (test_either_way k v ∙ sym (unsigned_tied v k)) i || keys_have v ks i
 
   -- only what is there goes
   only_there : {A : Type 0} (t : Bool) (o : Option A) (u : Bool) → (is_some o ≡ true → u ≡ true) → cond (t && u) None o ≡ cond t None o

@@ -36,7 +36,16 @@ both_ways true b to from = sym (to refl)
 both_ways false true to from = from refl
 both_ways false false to from = refl
 
+pub not_both : {b : Bool} → b ≡ true → b ≡ false → ⊥
+not_both h h' = cc
+
 -- ---- tests of equality
+pub test_either_way : (a b : ℕ) → (a == b) ≡ (b == a)
+test_either_way a b = grind (arith, nat_tests)
+
+pub untied : (a b : ℕ) → a ≢ b → (a == b) ≡ false
+untied a b apart = grind (arith, nat_tests)
+
 pub turned_test : (a b : ℕ) → (a == b) ≡ false → (b == a) ≡ false
 turned_test a b h = grind (arith, nat_tests)
 
@@ -44,12 +53,3 @@ pub tied_then : (o p : Ordering) → is_eq (ordering_then o p) ≡ (is_eq o && i
 tied_then Less p = refl
 tied_then Equal p = refl
 tied_then Greater p = refl
-
-pub not_both : {b : Bool} → b ≡ true → b ≡ false → ⊥
-not_both h h' = cc
-
-pub untied : (x y : ℕ) → x ≢ y → (x == y) ≡ false
-untied x y apart = grind (arith, nat_tests)
-
-pub turned_test : (x y : ℕ) → (x == y) ≡ (y == x)
-turned_test x y = grind (arith, nat_tests)
