@@ -4,4 +4,6 @@
 #[cfg(test)]
 mod conversions;
 #[cfg(test)]
+mod drives;
+#[cfg(test)]
 mod runs;
