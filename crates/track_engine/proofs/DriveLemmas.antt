@@ -11,22 +11,25 @@ use Rattle.std.specs.Option.{option_map, option_or, unwrap_or}
 use Rattle.std.specs.Ordering.{nat_cmp, eq_by_cmp}
 use Rattle.std.specs.declared.cmp.Ordering.TheVariants.{Less}
 use Rattle.std.proofs.Math.Seq.{take-suc}
-use Rattle.std.proofs.lemmas.Bool.{eq-eqb, false≢true}
-use Rattle.std.proofs.lemmas.List.{map-append}
+use Rattle.std.proofs.lemmas.Bool.{eq-eqb, eqb-true, false≢true}
+use Rattle.std.proofs.lemmas.List.{map-append, take_all}
 use Rattle.std.proofs.lemmas.List.Folds.{find-append}
 use Rattle.std.proofs.lemmas.Map.Keys.{sorted_head, sorted_tail}
 use Rattle.grid_base.specs.declared.TheConstants.{SHIFT_MAX}
 use Rattle.grid_base.specs.declared.Point.{Point}
 use Rattle.grid_base.specs.declared.Shift.{Shift}
-use Rattle.grid_base.specs.Points.{is_within}
+use Rattle.grid_base.specs.Points.{is_within, point_at}
+use Rattle.grid_base.proofs.PointLaws.{point_at-position_of}
 use Rattle.mesh_base.specs.declared.ShiftOf.{ShiftOf}
 use Rattle.mesh_base.specs.Mesh.{Mesh, is_solid}
+use Rattle.mesh_base.specs.declared.UseWhy.TheVariants.{ShiftRange}
+use Rattle.mesh_base.specs.Placements.{point_of, position_or_origin}
 use Rattle.mesh_base.specs.Shifts.{Shifts, NameLive, with_shift}
 use Rattle.mesh_base.proofs.Listed.{all_map}
 use Rattle.mesh_base.proofs.ListedPairs.{all_mapped}
 use Rattle.pair_scan.proofs.Paths.{ids_sorted}
 use Rattle.track_engine.specs.Answered.{IsAnswerAt, AreAnswersOf}
-use Rattle.track_engine.specs.Effects.{summed, is_beyond, first_beyond, summed_unless_solid, all_summed}
+use Rattle.track_engine.specs.Effects.{summed, is_beyond, first_beyond, summed_unless_solid, all_summed, sum_or_range, sum_of_all}
 use Rattle.track_engine.specs.Shifting.{SumsOne, Sums}
 use Rattle.track_engine.proofs.ShiftLemmas.{below_at, not_earlier}
 
@@ -88,8 +91,8 @@ pub record Driving (may_answer : Point → Shift → Type 0) (m : Mesh) (asked s
   pub found : first_beyond m by asked ≡ beyond
   pub summed : beyond ≡ None → sums ≡ all_summed m by asked
 
-pub driving_none : (may_answer : Point → Shift → Type 0) (m : Mesh) (unasked : Shift) → Driving may_answer m [] [] None
-driving_none may_answer m unasked = record { by = λ v. unasked; answered = tt; found = refl; summed = λ e. refl }
+pub driving_none : (may_answer : Point → Shift → Type 0) (m : Mesh) (unasked : Shift) (sums : Shifts) → sums ≡ [] → Driving may_answer m [] sums None
+driving_none may_answer m unasked sums e = record { by = λ v. unasked; answered = tt; found = refl; summed = λ none. e }
 
 module _ (may_answer : Point → Shift → Type 0) (m : Mesh) (asked : Shifts) (i : ℕ) (s : ShiftOf) (sorted : IsStrictlySortedBy nat_cmp (map (λ t. t.v) asked)) (h : i < length asked) (at : s ≡ get_or asked i s)
     (sums : Shifts) (beyond : Option ℕ) (driving : Driving may_answer m (take i asked) sums beyond) (answer : Shift) (is : IsAnswerAt may_answer m s.v answer) where
@@ -120,16 +123,16 @@ module _ (may_answer : Point → Shift → Type 0) (m : Mesh) (asked : Shifts) (
       named None false = refl
 
   -- its sum is within the limit
-  pub driven_within : (sum : ShiftOf) (after : Shifts) → SumsOne m (λ v. answer) s (Some sum) → after ≡ sums ++ sum ∷ [] → Driving may_answer m (take (i + 1) asked) after beyond
-  driven_within sum after one e =
+  pub driven_within : (sum : ShiftOf) (after : Shifts) (told : Option ℕ) → SumsOne m (λ v. answer) s (Some sum) → after ≡ sums ++ sum ∷ [] → told ≡ beyond → Driving may_answer m (take (i + 1) asked) after told
+  driven_within sum after told one e same =
       let here = sums_one (Some sum) one in
-      let P : Shifts → Type 0 = λ l. Driving may_answer m l after beyond in
+      let P : Shifts → Type 0 = λ l. Driving may_answer m l after told in
       subst P (sym (one_further asked i s h at)) (record {
         by = now;
         answered = answered;
-        found = found_with false here.0 ∙ none_or beyond;
+        found = found_with false here.0 ∙ none_or beyond ∙ sym same;
         summed = λ none.
-            e ∙ ap (λ l. l ++ sum ∷ []) (driving.summed none ∙ sym (same_sums may_answer m driving.by s.v answer (take i asked) others))
+            e ∙ ap (λ l. l ++ sum ∷ []) (driving.summed (sym same ∙ none) ∙ sym (same_sums may_answer m driving.by s.v answer (take i asked) others))
             ∙ ap (λ x. all_summed m now (take i asked) ++ x ∷ []) here.1
             ∙ sym (map-append (summed_unless_solid m now) (take i asked) (s ∷ []));
       })
@@ -139,14 +142,14 @@ module _ (may_answer : Point → Shift → Type 0) (m : Mesh) (asked : Shifts) (
       none_or None = refl
 
   -- its sum is above the limit
-  pub driven_beyond : SumsOne m (λ v. answer) s None → Driving may_answer m (take (i + 1) asked) sums (option_or beyond (Some s.v))
-  driven_beyond one =
-      let P : Shifts → Type 0 = λ l. Driving may_answer m l sums (option_or beyond (Some s.v)) in
+  pub driven_beyond : (after : Shifts) (told : Option ℕ) → SumsOne m (λ v. answer) s None → told ≡ option_or beyond (Some s.v) → Driving may_answer m (take (i + 1) asked) after told
+  driven_beyond after told one is_told =
+      let P : Shifts → Type 0 = λ l. Driving may_answer m l after told in
       subst P (sym (one_further asked i s h at)) (record {
         by = now;
         answered = answered;
-        found = found_with true (sums_one None one);
-        summed = λ none. absurd (some_or beyond none);
+        found = found_with true (sums_one None one) ∙ sym is_told;
+        summed = λ none. absurd (some_or beyond (sym is_told ∙ none));
       })
     where
       some_or : (o : Option ℕ) → option_or o (Some s.v) ≡ None → ⊥
@@ -160,7 +163,7 @@ found_key P [] v x all e = absurd cc
 found_key P (k ∷ es) v x all e = by_test (found_key P es v x all.1) (eq_by_cmp nat_cmp v k.0) refl e
   where
     by_test : (entries.find nat_cmp v es ≡ Some x → P v) → (b : Bool) → eq_by_cmp nat_cmp v k.0 ≡ b → cond b (Some k.1) (entries.find nat_cmp v es) ≡ Some x → P v
-    by_test later true t e = subst P (sym (unsigned_tied v k.0 t)) all.0
+    by_test later true t e = subst P (sym (eqb-true v k.0 (sym (unsigned_tied v k.0) ∙ t))) all.0
     by_test later false t e = later e
 
 each_live : (may_answer : Point → Shift → Type 0) (m : Mesh) (asked : Shifts) (by : ℕ → Shift) → NameLive m asked → AllByRecursion (λ s. IsAnswerAt may_answer m s.v (by s.v)) asked → AreAnswersOf may_answer m by
@@ -170,7 +173,7 @@ each_live may_answer m asked by named all v p stands free =
 
 module _ (may_answer : Point → Shift → Type 0) (m : Mesh) (asked : Shifts) (named : NameLive m asked) (i : ℕ) (over : length asked ≤ i) (sums : Shifts) (beyond : Option ℕ) (driving : Driving may_answer m (take i asked) sums beyond) where
   whole : Driving may_answer m asked sums beyond
-  whole = let P : Shifts → Type 0 = λ l. Driving may_answer m l sums beyond in subst P (take_all asked i over) driving
+  whole = let P : Shifts → Type 0 = λ l. Driving may_answer m l sums beyond in subst P (take_all i asked over) driving
 
   -- each sum is within the limit
   pub driven_all : beyond ≡ None → (by : ℕ → Shift) × AreAnswersOf may_answer m by × Sums m by asked (Ok sums)
@@ -179,3 +182,27 @@ module _ (may_answer : Point → Shift → Type 0) (m : Mesh) (asked : Shifts) (
   -- the first that is not
   pub driven_over : (v : ℕ) → beyond ≡ Some v → (by : ℕ → Shift) × AreAnswersOf may_answer m by × Sums m by asked (Err v)
   driven_over v some = (whole.by, each_live may_answer m asked whole.by named whole.answered, whole.found ∙ some)
+
+-- ---- what is asked from here on
+
+-- a vertex stands at its point
+pub stands_at : (m : Mesh) (v : ℕ) (p : Point) → finite.get m.points v ≡ Some p → point_of m v ≡ p
+stands_at m v p stands = ap (λ (o : Option Point). point_at (position_or_origin o)) stands ∙ point_at-position_of p
+
+module _ (may_answer : Point → Shift → Type 0) (m : Mesh) (asked given : Shifts) (same : given ≡ asked) (r : Result Shifts ℕ) (driven : (by : ℕ → Shift) × AreAnswersOf may_answer m by × Sums m by given r) where
+  sums_at : (x : Result Shifts ℕ) → r ≡ x → Sums m driven.0 given x
+  sums_at x e = let P : Result Shifts ℕ → Type 0 = λ y. Sums m driven.0 given y in subst P e driven.2
+
+  -- the first vertex whose sum is above the limit is told
+  pub asks_over : (v w : ℕ) → r ≡ Err v → w ≡ v → (by : ℕ → Shift) × AreAnswersOf may_answer m by × (sum_of_all m by asked ≡ Err (ShiftRange w))
+  asks_over v w is named = (
+    driven.0,
+    driven.1,
+    ap (sum_of_all m driven.0) (sym same) ∙ ap (λ o. sum_or_range o m driven.0 given) (sums_at (Err v) is) ∙ ap (λ x. Err (ShiftRange x)) (sym named),
+  )
+
+  -- the sums are asked
+  pub asks_all : (sums : Shifts) → r ≡ Ok sums → (by : ℕ → Shift) × AreAnswersOf may_answer m by × (sum_of_all m by asked ≡ Ok sums)
+  asks_all sums is =
+      let parts = sums_at (Ok sums) is in
+      (driven.0, driven.1, ap (sum_of_all m driven.0) (sym same) ∙ ap (λ o. sum_or_range o m driven.0 given) parts.0 ∙ ap Ok (sym parts.1))

@@ -3,6 +3,7 @@ use Rattle.std.proofs.Common.{◌≡◌, ℕ, List, [], ◌∷◌, Option, Some,
 use Rattle.grid_base.specs.declared.Shift.{Shift}
 use Rattle.mesh_base.specs.declared.UseWhy.{UseWhy}
 use Rattle.mesh_base.specs.Kept.{BeginsWith}
+use Rattle.mesh_base.proofs.MarksHold.{begins_itself}
 use Rattle.mesh_base.specs.Mesh.{Mesh}
 use Rattle.mesh_base.specs.Shifts.{Shifts}
 use Rattle.outside_io.proofs.Written.{appended-nil}

@@ -4,6 +4,8 @@
 #[cfg(test)]
 mod conversions;
 #[cfg(test)]
+mod drives;
+#[cfg(test)]
 mod readings;
 #[cfg(test)]
 mod runs;

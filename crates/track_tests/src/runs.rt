@@ -1,4 +1,6 @@
 //! Faults outside in mid-run, and a mesh file that ends anywhere. What a run writes is shown by the cases that the program is run on.
+use grid_base::{Point, Shift};
+use mesh_field::no_fields;
 use outside_io::{MemoryDesk, MemorySink};
 use std::alloc::Global;
 use std::test::Fail;
@@ -58,7 +60,8 @@ fn sink_of(alloc: Global) -> Result<MemorySink, Fail> {
 // The run of the two files.
 fn track(desk: &mut MemoryDesk, out: &mut MemorySink, alloc: Global) -> Result<Outcome, Fail> {
     let words = words_of(alloc, &["track", "mesh.obj", "steps.txt", "t"])?;
-    Ok(run(alloc, &words, desk, out))
+    let fields = no_fields(|_which: u8, _at: Point| Shift { x: 0, y: 0, z: 0 });
+    Ok(run(alloc, &words, desk, out, &fields))
 }
 
 #[test]

@@ -1,4 +1,4 @@
-use Rattle.std.proofs.Common.{sym, subst}
+use Rattle.std.proofs.Common.{None, sym, subst}
 use Rattle.std.proofs.lemmas.Result.{err_from_is_err_and}
 use Rattle.step_text.specs.declared.Directive.{Directive}
 use Rattle.step_text.specs.declared.Directive.TheVariants as directive
@@ -34,12 +34,12 @@ pub sum_one-requires : goal.sum_one-requires
 sum_one-requires g c = ids_sorted (g.S.Surface.mesh c.args.mesh.now) c.args.run.now.asked c.requires.kept.now.names
 
 pub returns-in-ShiftOne-clause-kept : goal.returns-in-ShiftOne-clause-kept
-returns-in-ShiftOne-clause-kept g c = λ e. kept_by_one c.in-ShiftOne.v.now c.in-ShiftOne.by.now (state_of (g.S.Surface.mesh c.args.mesh.now) (g.S.Surface.kept c.args.mesh.now) c.args.run.now) c.sum_one.new.asked c.sum_one.result c.requires.kept c.sum_one.ensures.sum (cc)
+returns-in-ShiftOne-clause-kept g c = λ e. kept_by_one c.in-ShiftOne.v c.in-ShiftOne.by (state_of (g.S.Surface.mesh c.args.mesh.now) (g.S.Surface.kept c.args.mesh.now) c.args.run.now) c.sum_one.new.asked c.sum_one.result c.requires.kept c.sum_one.ensures.sum (cc)
 
 pub returns-in-ShiftAll-clause-kept : goal.returns-in-ShiftAll-clause-kept
 returns-in-ShiftAll-clause-kept g c = λ e.
     let P : RunState → Type 0 = λ run. IsRunInvariant (state_of (g.S.Surface.mesh c.args.mesh.now) (g.S.Surface.kept c.args.mesh.now) run) in
-    subst P (sym c.add_to_all.ensures.rest) (kept_by_all (λ v. c.in-ShiftAll.by.now) (state_of (g.S.Surface.mesh c.args.mesh.now) (g.S.Surface.kept c.args.mesh.now) c.args.run.now) c.add_to_all.new.run.asked c.add_to_all.result c.requires.kept c.add_to_all.ensures.asks e)
+    subst P (sym c.add_to_all.ensures.rest) (kept_by_all (λ v. c.in-ShiftAll.by) (state_of (g.S.Surface.mesh c.args.mesh.now) (g.S.Surface.kept c.args.mesh.now) c.args.run.now) c.add_to_all.new.run.asked c.add_to_all.result c.requires.kept c.add_to_all.ensures.asks e)
 
 pub returns-in-Step-clause-kept : goal.returns-in-Step-clause-kept
 returns-in-Step-clause-kept g c = kept_stepped (state_of (g.S.Surface.mesh c.args.mesh.now) (g.S.Surface.kept c.args.mesh.now) c.args.run.now) (state_of (g.S.Surface.mesh c.take_step.new.mesh) (g.S.Surface.kept c.take_step.new.mesh) c.take_step.new.run) _ _ c.take_step.result c.requires.kept c.take_step.ensures.takes
@@ -50,11 +50,11 @@ returns-in-Pass-clause-advances g c =
     let kept = g.S.Surface.kept in
     let P : Directive → Type 0 = λ what. Advances (target_of c.args.to) (effect_of None what (state_of (mesh c.args.mesh.now) (kept c.args.mesh.now) c.args.run.now)) (state_of (mesh c.args.mesh.now) (kept c.args.mesh.now) c.args.run.now) (state_of (mesh c.take_pass.new.mesh) (kept c.take_pass.new.mesh) c.take_pass.new.run)
     (contents g.D.Desk.files g.K.Sink.written c.args.desk.now c.args.out.now) (contents g.D.Desk.files g.K.Sink.written c.args.desk.now c.take_pass.new.out) c.take_pass.result in
-    subst P (sym c.in-Pass.is) (advances_pass (target_of c.args.to) c.in-Pass.kind.now (state_of (mesh c.args.mesh.now) (kept c.args.mesh.now) c.args.run.now) (state_of (mesh c.take_pass.new.mesh) (kept c.take_pass.new.mesh) c.take_pass.new.run) (g.D.Desk.files c.args.desk.now) (g.K.Sink.written c.args.out.now) (g.K.Sink.written c.take_pass.new.out) c.take_pass.result c.take_pass.ensures.passes)
+    subst P (sym c.in-Pass.is) (advances_pass (target_of c.args.to) c.in-Pass.kind (state_of (mesh c.args.mesh.now) (kept c.args.mesh.now) c.args.run.now) (state_of (mesh c.take_pass.new.mesh) (kept c.take_pass.new.mesh) c.take_pass.new.run) (g.D.Desk.files c.args.desk.now) (g.K.Sink.written c.args.out.now) (g.K.Sink.written c.take_pass.new.out) c.take_pass.result c.take_pass.ensures.passes)
 
 pub returns-in-Pass-clause-kept : goal.returns-in-Pass-clause-kept
 returns-in-Pass-clause-kept g c =
-    kept_passed c.in-Pass.kind.now (state_of (g.S.Surface.mesh c.args.mesh.now) (g.S.Surface.kept c.args.mesh.now) c.args.run.now) (state_of (g.S.Surface.mesh c.take_pass.new.mesh) (g.S.Surface.kept c.take_pass.new.mesh) c.take_pass.new.run) _ _ c.take_pass.result c.requires.kept c.take_pass.ensures.passes
+    kept_passed c.in-Pass.kind (state_of (g.S.Surface.mesh c.args.mesh.now) (g.S.Surface.kept c.args.mesh.now) c.args.run.now) (state_of (g.S.Surface.mesh c.take_pass.new.mesh) (g.S.Surface.kept c.take_pass.new.mesh) c.take_pass.new.run) _ _ c.take_pass.result c.requires.kept c.take_pass.ensures.passes
 
 pub returns-in-Solid-clause-advances : goal.returns-in-Solid-clause-advances
 returns-in-Solid-clause-advances g c =
@@ -64,11 +64,11 @@ returns-in-Solid-clause-advances g c =
     let t = state_of (mesh c.take_solid.new.mesh) (kept c.take_solid.new.mesh) c.take_solid.new.run in
     let P : Directive → Type 0 = λ what. Advances (target_of c.args.to) (effect_of None what s) s t
     (contents g.D.Desk.files g.K.Sink.written c.args.desk.now c.args.out.now) (contents g.D.Desk.files g.K.Sink.written c.args.desk.now c.take_solid.new.out) c.take_solid.result in
-    subst P (sym c.in-Solid.is) (advances_solid (target_of c.args.to) s t (g.D.Desk.files c.args.desk.now) (g.K.Sink.written c.args.out.now) (g.K.Sink.written c.take_solid.new.out) c.take_solid.result c.in-Solid.v.now c.take_solid.ensures.writes)
+    subst P (sym c.in-Solid.is) (advances_solid (target_of c.args.to) s t (g.D.Desk.files c.args.desk.now) (g.K.Sink.written c.args.out.now) (g.K.Sink.written c.take_solid.new.out) c.take_solid.result c.in-Solid.v c.take_solid.ensures.writes)
 
 pub returns-in-Solid-clause-kept : goal.returns-in-Solid-clause-kept
 returns-in-Solid-clause-kept g c =
-    kept_written (directive.Solid c.in-Solid.v.now) (state_of (g.S.Surface.mesh c.args.mesh.now) (g.S.Surface.kept c.args.mesh.now) c.args.run.now) (state_of (g.S.Surface.mesh c.take_solid.new.mesh) (g.S.Surface.kept c.take_solid.new.mesh) c.take_solid.new.run) _ _ c.take_solid.result c.requires.kept c.take_solid.ensures.writes
+    kept_written (directive.Solid c.in-Solid.v) (state_of (g.S.Surface.mesh c.args.mesh.now) (g.S.Surface.kept c.args.mesh.now) c.args.run.now) (state_of (g.S.Surface.mesh c.take_solid.new.mesh) (g.S.Surface.kept c.take_solid.new.mesh) c.take_solid.new.run) _ _ c.take_solid.result c.requires.kept c.take_solid.ensures.writes
 
 pub returns-in-Group-clause-advances : goal.returns-in-Group-clause-advances
 returns-in-Group-clause-advances g c =

@@ -30,7 +30,11 @@ take_directive-requires-clause-range g c = (range_here c.args.steps.now c.loop-p
 pub returns-in_err-take_directive-clause-follows : goal.returns-in_err-take_directive-clause-follows
 returns-in_err-take_directive-clause-follows g c =
     let p = err_from_is_err_and c.from_residual.result c.from_residual.ensures.1 in
-    rw (p.1, p.2) (effect_part (known g.F.Fn c.args.fields.now) (target_of c.args.to) c.args.steps.now c.loop-placed.placed-index c.placed-item.result c.loop-placed-test.true c.placed-item.is _ _ _ _ _ c.loop-placed.invariant.so_far _ _ c.in_err-take_directive.ensures.advances)
+    let fields = known g.F.Fn c.args.fields.now in
+    let first = state_of (g.S.Surface.mesh c.args.mesh.now) (g.S.Surface.kept c.args.mesh.now) c.args.run.now in
+    let now = state_of (g.S.Surface.mesh c.loop-placed.mesh) (g.S.Surface.kept c.loop-placed.mesh) c.loop-placed.run in
+    let then = state_of (g.S.Surface.mesh c.take_directive.new.mesh) (g.S.Surface.kept c.take_directive.new.mesh) c.take_directive.new.run in
+    rw (p.1, p.2) (effect_part fields (target_of c.args.to) c.args.steps.now c.loop-placed.placed-index c.placed-item.result c.loop-placed-test.true c.placed-item.is first now _ _ _ c.loop-placed.invariant.so_far then _ c.in_err-take_directive.ensures.advances)
 
 pub returns-in-Some-clause-follows : goal.returns-in-Some-clause-follows
 returns-in-Some-clause-follows g c =
