@@ -63,15 +63,15 @@ fn unplaced(alloc: Global, n: u8, key: u32) -> Result<Items<Directive>, NoMemory
 }
 
 // Each directive on a line of its own.
-fn placed(alloc: Global, directives: &[Directive]) -> Result<Directives, NoMemory>
-    requires { length directives.now < 2 ^ 32 }
-    ensures { IfOk result (λ placed. placed ≡ spec.on_lines directives.now) }
+fn placed(alloc: Global, directives: Items<Directive>) -> Result<Directives, NoMemory>
+    requires { length directives < 2 ^ 32 }
+    ensures { IfOk result (λ placed. placed ≡ spec.on_lines directives) }
 {
     let mut placed = Items::new(alloc);
     let mut line = 0;
-    for what in directives {
+    for what in directives.into_vec() {
         line += 1;
-        placed.push(Placed { line, what: *what })?;
+        placed.push(Placed { line, what })?;
     }
     Ok(placed)
 }
@@ -82,5 +82,5 @@ pub(crate) fn steps_of_cubes(alloc: Global, n: u8, key: u32) -> Result<Directive
     ensures { IfOk result (λ directives. directives ≡ spec.cubes_steps n key) }
 {
     let directives = unplaced(alloc, n, key)?;
-    placed(alloc, directives.as_slice())
+    placed(alloc, directives)
 }
