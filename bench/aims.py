@@ -11,6 +11,7 @@ than 30 s), their ratio, and the aim. Rates are those of a pass beside a pass ov
 import math
 import os
 import random
+import subprocess
 import sys
 import tempfile
 
@@ -19,24 +20,33 @@ from job import cubes, put_mesh, squared_lengths, torus
 from there_and_back import steps_of
 
 BOX = 67_108_864
+FACES_MAX = 131_072
+
+
+# Runs the words after the first for at most that many seconds, and prints the status, the processor seconds and the most memory in KiB. A
+# process of its own, as small as may be, since a program counts the memory of what starts it.
+ONE = """
+import os, sys
+child = os.posix_spawnp("timeout", ["timeout"] + sys.argv[1:], os.environ, file_actions=[(os.POSIX_SPAWN_OPEN, 2, os.devnull, os.O_WRONLY, 0)])
+_, status, used = os.wait4(child, 0)
+sys.stderr.write("%d %f %d" % (os.waitstatus_to_exitcode(status), used.ru_utime + used.ru_stime, used.ru_maxrss))
+"""
 
 
 class Run:
     """The least seconds of some runs of one job, its most memory, and the lines of its log."""
 
     def __init__(self, program, folder, best_of, seconds_at_most):
-        self.seconds, self.memory = math.inf, 0
+        self.seconds, self.memory, self.status = math.inf, 0, None
         for _ in range(best_of):
-            with open(os.path.join(folder, "log"), "wb") as log:
-                words = ["timeout", str(seconds_at_most), program, "track", "mesh.obj", "steps.txt", "t"]
-                actions = [(os.POSIX_SPAWN_DUP2, log.fileno(), 1), (os.POSIX_SPAWN_OPEN, 2, os.devnull, os.O_WRONLY, 0)]
-                child = os.posix_spawnp("timeout", words, os.environ, file_actions=actions)
-                _, status, used = os.wait4(child, 0)
-            self.status = os.waitstatus_to_exitcode(status)
             if self.status == 124:
                 break
-            self.seconds = min(self.seconds, used.ru_utime + used.ru_stime)
-            self.memory = max(self.memory, used.ru_maxrss / 1024)
+            words = [sys.executable, "-S", "-c", ONE, str(seconds_at_most), program, "track", "mesh.obj", "steps.txt", "t"]
+            with open(os.path.join(folder, "log"), "wb") as log:
+                said = subprocess.run(words, cwd=folder, stdout=log, stderr=subprocess.PIPE, check=True).stderr.split()
+            self.status = int(said[0])
+            self.seconds = min(self.seconds, float(said[1]))
+            self.memory = max(self.memory, int(said[2]) / 1024)
         with open(os.path.join(folder, "log"), "rb") as log:
             self.lines = log.read().split(b"\n")[:-1]
 
@@ -56,13 +66,8 @@ class Programs:
             put_mesh(folder, *mesh)
             with open(os.path.join(folder, "steps.txt"), "w") as out:
                 out.writelines(steps)
-            here = os.getcwd()
-            os.chdir(folder)
-            try:
-                mine = Run(self.program, folder, self.best_of, 600)
-                theirs = Run(self.other, folder, self.best_of, 30) if self.other else None
-            finally:
-                os.chdir(here)
+            mine = Run(self.program, folder, self.best_of, 600)
+            theirs = Run(self.other, folder, self.best_of, 30) if self.other else None
         if theirs and (theirs.status != mine.status or len(theirs.lines) != len(mine.lines)):
             theirs = None
         return mine, theirs
@@ -167,10 +172,10 @@ def halved(programs):
 
 
 def passes(programs):
-    for around, across in ((140, 72), (280, 143), (256, 256)):
+    for around, across in ((140, 72), (280, 143), (245, 240)):
         mesh = rough(around, across)
         lengths = squared_lengths(*mesh)
-        many = len(mesh[1]) // 4
+        many = min(len(mesh[1]) // 4, (FACES_MAX - len(mesh[1])) // 2 - 10)
         idle, idle_there = programs.run(mesh, ["split 268435456\n"])
         for word, step, aim in (("split", f"split {math.isqrt(lengths[-many])}", 100_000), ("collapse", f"collapse {math.isqrt(lengths[many // 4])}", 30_000), ("flip", "flip", 80_000)):
             mine, theirs = programs.run(mesh, [step + "\n"])

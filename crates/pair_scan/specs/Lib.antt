@@ -1,6 +1,5 @@
 pub mod Scan
 pub mod Failed
-pub mod Passing
 pub mod Lookup
 pub mod Named
 pub mod Solids
