@@ -3,14 +3,19 @@
 #![tactic(auto)]
 
 mod answering;
+mod explaining;
+mod warning;
 
 use answering::{USAGE, answer};
+use explaining::explain;
 use outside_io::{FileDesk, StdSink};
+use std::alloc::AllocError;
 use std::io::ErrorKind;
 use std::process::ExitCode;
 use std::rt::Env;
 use std::{env, io};
 use track_run::Outcome;
+use warning::warnings;
 
 // The words after the program's name.
 fn words(rt: &(impl Env + AllocGlobal)) -> io::Result<Vec<String>> {
@@ -23,23 +28,49 @@ fn words(rt: &(impl Env + AllocGlobal)) -> io::Result<Vec<String>> {
     Ok(words)
 }
 
-fn main(rt: HostRuntime) -> ExitCode {
-    let outcome = match words(&rt) {
-        Err(error) if error.kind() == ErrorKind::OutOfMemory => Outcome::NoMemory,
-        Err(_) => Outcome::Usage,
-        Ok(words) => answer(
-            rt.alloc(),
-            &words,
-            &mut FileDesk::new(rt.alloc(), &rt),
-            &mut StdSink::new(&rt),
-        ),
-    };
+// Tells how the program is called where that is wanted, and why the job did not end as done, and gives the status.
+fn end(rt: &impl Eprint, outcome: Outcome, why: Result<String, AllocError>) -> ExitCode {
     if outcome == Outcome::Usage {
         let _ = eprint!(rt; "{USAGE}");
     }
     let status = outcome.status();
     if status != 0 {
+        if let Ok(why) = why {
+            let _ = eprintln!(rt; "topo: {why}");
+        }
         let _ = eprintln!(rt; "topo: status {status}");
     }
     ExitCode::from(status)
+}
+
+// Tells what may be amiss, a line each.
+fn warn(rt: &impl Eprint, warnings: Result<Vec<String>, AllocError>) {
+    if let Ok(warnings) = warnings {
+        for warning in &warnings {
+            let _ = eprintln!(rt; "topo: warning: {warning}");
+        }
+    }
+}
+
+fn main(rt: HostRuntime) -> ExitCode {
+    let alloc = rt.alloc();
+    match words(&rt) {
+        Ok(words) => {
+            let mut desk = FileDesk::new(alloc, &rt);
+            let outcome = answer(alloc, &words, &mut desk, &mut StdSink::new(&rt));
+            if outcome == Outcome::Done {
+                warn(&rt, warnings(alloc, &words, &rt));
+            }
+            let why = explain(alloc, &words, outcome, desk.trouble(), &rt);
+            end(&rt, outcome, why)
+        }
+        Err(error) if error.kind() == ErrorKind::OutOfMemory => {
+            let why = String::from_str(alloc, "there is not enough memory");
+            end(&rt, Outcome::NoMemory, why)
+        }
+        Err(error) => {
+            let why = format!(in alloc; "the words can not be had as text ({error})");
+            end(&rt, Outcome::Usage, why)
+        }
+    }
 }
