@@ -20,12 +20,14 @@ pub(crate) fn line_at(bytes: &[u8], number: u32) -> &[u8]
     &[]
 }
 
-// The word of a line at a place from 0; an empty one where there are not so many.
-pub(crate) fn word_at(line: &[u8], place: usize) -> &[u8] {
-    for (i, word) in words(line).enumerate() {
-        if i == place {
+// The word of a line behind so many others; an empty one where there are not so many.
+pub(crate) fn word_at(line: &[u8], before: usize) -> &[u8] {
+    let mut left = before;
+    for word in words(line) {
+        if left == 0 {
             return word;
         }
+        left -= 1;
     }
     &[]
 }

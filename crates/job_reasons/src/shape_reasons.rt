@@ -83,6 +83,15 @@ fn unbalanced_reason(
     format!(in alloc; "{front}; {meaning}")
 }
 
+// How many words a line has.
+fn word_count(line: &[u8]) -> u64 {
+    let mut count: u64 = 0;
+    for _word in words(line) {
+        count = count.saturating_add(1);
+    }
+    count
+}
+
 // The line of the face of a number, in an OBJ text, where a polygon of k corners is k - 2 faces; 0 where there is none.
 fn line_of_face(bytes: &[u8], face: u32) -> u32
     requires { length bytes.now ≤ TEXT_MAX }
@@ -90,8 +99,7 @@ fn line_of_face(bytes: &[u8], face: u32) -> u32
     let mut count: u64 = 0;
     for line in Lines::new(bytes) {
         if word_at(line.bytes, 0) == b"f".as_slice() {
-            let corners = words(line.bytes).count() as u64;
-            count = count.saturating_add(corners.saturating_sub(3));
+            count = count.saturating_add(word_count(line.bytes).saturating_sub(3));
         }
         if count >= u64::from(face) {
             return line.number;

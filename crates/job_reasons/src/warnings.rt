@@ -72,7 +72,7 @@ pub fn rounding_warning(
     if count == 0 {
         return Ok(None);
     }
-    let all = fine.points.len() as u64 * 3;
+    let all = (fine.points.len() as u64).saturating_mul(3);
     let most = f64::from(most) / f64::from(ten_to(fine_decimals));
     let keeps = decimals_that_keep(fine, fine_decimals, decimals);
     let said = format!(in alloc;
