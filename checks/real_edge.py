@@ -5,8 +5,10 @@
 
 Each case must end with its status, with `topo: status N` as the last line of standard error where N is not 0, and never by a signal.
 What it writes to standard output must be the first lines of the log that the job is due, or none where the words name no job.
+Files that a case must leave have to hold what they held, and no case may leave a file that it wrote beside another.
 """
 
+import contextlib
 import os
 import shutil
 import subprocess
@@ -18,7 +20,10 @@ TOPO = os.path.join(ROOT, "topo")
 PROGRAM = os.path.join(ROOT, "crates/topo/out/topo")
 # whom the program is run as where a folder is to refuse it: root may write everywhere
 NOBODY = {"user": 65534, "group": 65534, "extra_groups": []} if os.geteuid() == 0 else {}
+# the mesh, and the same with a line that a stored mesh hasn't
 MESH = "v 0 0 0\nv 4 0 0\nv 0 4 0\nv 0 0 4\nf 1 3 2\nf 1 2 4\nf 2 3 4\nf 1 4 3\n"
+COMMENTED = "# as it was\n" + MESH
+STEPS = "shift all 1 2 3\nstep\nsave\n"
 JOB = ["track", "mesh.obj", "steps.txt", "t"]
 LOG = "topo log 2\nmesh 0 4 4\nstep 1\n" + "".join(f"move {v} 1 2 3\n" for v in (1, 2, 3, 4)) + "moved whole\nmesh 1 4 4\nend\n"
 
@@ -30,17 +35,41 @@ def closed_pipe():
     return writing
 
 
+def small_device(folder):
+    """A full device in a folder: the mesh, the steps, and no room for more. False where nothing can be mounted."""
+    os.mkdir(folder)
+    mounted = subprocess.run(["mount", "-t", "tmpfs", "-o", "size=64k,mode=1777", "tmpfs", folder], capture_output=True)
+    if mounted.returncode != 0:
+        return False
+    for name, text in (("t-000000.obj", MESH), ("steps.txt", STEPS)):
+        with open(os.path.join(folder, name), "w") as out:
+            out.write(text)
+        os.chmod(os.path.join(folder, name), 0o666)
+    with open(os.path.join(folder, "filler"), "wb", buffering=0) as out:
+        try:
+            while True:
+                out.write(bytes(4096))
+        except OSError:
+            pass
+    return True
+
+
+def parts(folder):
+    """The files that stand beside others, as a store that is under way has them."""
+    return sorted(os.path.join(at, name) for at, _, names in os.walk(folder) for name in names if name.endswith(".part"))
+
+
 def main():
     subprocess.run([TOPO, "--version"], check=True, stdout=subprocess.DEVNULL)
     failed = 0
-    with tempfile.TemporaryDirectory() as folder:
+    with tempfile.TemporaryDirectory() as folder, contextlib.ExitStack() as at_end:
         os.chmod(folder, 0o755)
         at = lambda name: os.path.join(folder, name)
         shutil.copy(PROGRAM, at("topo"))
         with open(at("mesh.obj"), "w") as out:
             out.write(MESH)
         with open(at("steps.txt"), "w") as out:
-            out.write("shift all 1 2 3\nstep\nsave\n")
+            out.write(STEPS)
         os.mkdir(at("folder"))
         os.mkdir(at("taken-000000.obj"))
         with open(at("long.obj"), "wb") as out:
@@ -48,13 +77,28 @@ def main():
         with open(at("secret.obj"), "w") as out:
             out.write(MESH)
         os.chmod(at("secret.obj"), 0o000)
-        os.mkdir(at("shut"), 0o555)
+        os.mkdir(at("shut"))
         os.mkdir(at("open"))
         os.chmod(at("open"), 0o777)
+        # files that are the mesh and its own name as the first one that is stored: in a folder that may be written, in one that
+        # may not, one that may not be written itself, and one that a link leads to
+        for name in ("shut/own-000000.obj", "open/own-000000.obj", "open/locked-000000.obj", "open/behind.obj"):
+            with open(at(name), "w") as out:
+                out.write(COMMENTED)
+            os.chmod(at(name), 0o666)
+        os.chmod(at("open/locked-000000.obj"), 0o444)
+        os.symlink("behind.obj", at("open/link-000000.obj"))
+        with open(at("open/own-000000.obj.0.part"), "w") as out:
+            out.write("of someone else")
+        os.chmod(at("shut"), 0o555)
+        device = small_device(at("device"))
+        if device:
+            at_end.callback(subprocess.run, ["umount", at("device")], check=True)
         os.symlink("/dev/full", at("full-000000.obj"))
         os.symlink("/dev/full", at("open/late-000001.obj"))
         cases = [
-            # what is asked, its words, where standard output goes, its status, and the last line of the log where it tells one
+            # what is asked, its words, where standard output goes, its status, the last line of the log where it tells one, and
+            # perhaps what files hold at the end
             ("the job is done", JOB, None, 0, "end"),
             ("no words", [], None, 2, None),
             ("an unknown word", ["trick"], None, 2, None),
@@ -83,11 +127,27 @@ def main():
             ("a full device for the first mesh", ["track", "mesh.obj", "steps.txt", "full"], None, 3, "mesh 0 4 4"),
             ("a full device for the second mesh", ["track", "mesh.obj", "steps.txt", "open/late"], None, 3, "mesh 1 4 4"),
             ("a name longer than names may be", ["track", "mesh.obj", "steps.txt", "open/" + 300 * "t"], None, 3, "mesh 0 4 4"),
+            ("the input's own name", ["track", "open/own-000000.obj", "steps.txt", "open/own"], None, 0, "end",
+             {"open/own-000000.obj": MESH, "open/own-000000.obj.0.part": "of someone else"}),
+            ("the input's own name in a folder that may not be written", ["track", "shut/own-000000.obj", "steps.txt", "shut/own"], None, 3, "mesh 0 4 4",
+             {"shut/own-000000.obj": COMMENTED}),
+            ("the input's own name, which may not be written", ["track", "open/locked-000000.obj", "steps.txt", "open/locked"], None, 3, "mesh 0 4 4",
+             {"open/locked-000000.obj": COMMENTED}),
+            ("the input's own name, which is a link", ["track", "open/link-000000.obj", "steps.txt", "open/link"], None, 0, "end",
+             {"open/behind.obj": MESH}),
+            ("the input's own name on a full device", ["track", "device/t-000000.obj", "steps.txt", "device/t"], None, 3, "mesh 0 4 4",
+             {"device/t-000000.obj": MESH, "device/steps.txt": STEPS}),
+            ("a new name on a full device", ["track", "device/t-000000.obj", "steps.txt", "device/new"], None, 3, "mesh 0 4 4",
+             {"device/t-000000.obj": MESH, "device/new-000000.obj": None}),
             ("a full device for the log", JOB, lambda: os.open("/dev/full", os.O_WRONLY), 4, None),
             ("a closed pipe", JOB, closed_pipe, 4, None),
             ("help to a full device", ["--help"], lambda: os.open("/dev/full", os.O_WRONLY), 4, None),
         ]
-        for what, words, to, status, end in cases:
+        if not device:
+            print("skipped: the cases on a full device, since nothing can be mounted here")
+            cases = [case for case in cases if not any("device/" in str(word) for word in case[1])]
+        beside = parts(folder)
+        for what, words, to, status, end, *files in cases:
             words = [f"open/{it}" if it == "t" else it for it in words]
             out = to() if to else subprocess.PIPE
             ended = subprocess.run([at("topo"), *words], cwd=folder, stdout=out, stderr=subprocess.PIPE, timeout=60, **NOBODY)
@@ -103,9 +163,10 @@ def main():
                 is_due = front == "topo log 2" and tail.startswith(end) and wrote.endswith("\n")
             else:
                 is_due = tail == end and LOG.startswith(wrote)
-            good = ended.returncode == status and told and is_due
+            holds = all((open(at(name)).read() if os.path.isfile(at(name)) else None) == text for name, text in (files[0] if files else {}).items())
+            good = ended.returncode == status and told and is_due and holds and parts(folder) == beside
             failed += not good
-            print(("ok     " if good else "FAILED ") + f"{what}: status {ended.returncode}" + ("" if good else f", {status} was due; {last}; {wrote[-200:]!r}"))
+            print(("ok     " if good else "FAILED ") + f"{what}: status {ended.returncode}" + ("" if good else f", {status} was due; {last}; {wrote[-200:]!r}; {'files as due' if holds else 'other files'}; {parts(folder)}"))
     print(f"{len(cases) - failed} as they should be, {failed} not")
     sys.exit(1 if failed else 0)
 

@@ -1,6 +1,7 @@
 use drip::Drip;
 use outside_io::{
-    Desk, Failed, FetchFault, FileDesk, MemoryDesk, MemorySink, Sink, StdSink, StoreFault, put_all,
+    Desk, Failed, FetchFault, FileDesk, MemoryDesk, MemorySink, Sink, StdSink, Step, StoreFault,
+    TallyDesk, TallySink, put_all,
 };
 use std::fs;
 use std::test::Fail;
@@ -78,6 +79,25 @@ fn a_piece_is_put_byte_by_byte(rt: HostRuntime) -> Result<(), Fail> {
 }
 
 #[test]
+fn a_tally_counts_lines_however_they_come(rt: HostRuntime) -> Result<(), Fail> {
+    let mut out = TallySink::new();
+    for piece in [
+        b"topo log 2\nmoved wh".as_slice(),
+        b"ole\nsplit 1 2 5 2 0 0\n".as_slice(),
+        b"no split 1 3 full\nmoved whole 1\nmoved whole".as_slice(),
+    ] {
+        assert_eq!(rt; out.write(piece), Ok(piece.len()));
+    }
+    assert_eq!(rt; (out.lines(), out.whole_steps(), out.splits()), (5, 1, 1));
+    let mut desk = TallyDesk::new();
+    let mut into = vec![in rt.alloc(); b'a']?;
+    assert_eq!(rt; desk.store("a", b"text"), Ok(()));
+    assert_eq!(rt; desk.fetch("a", 9, &mut into), Ok(()));
+    assert_eq!(rt; (into.len(), desk.stores()), (0, 1));
+    Ok(())
+}
+
+#[test]
 fn standard_output_and_real_files_are_reached(rt: HostRuntime) -> Result<(), Fail> {
     let mut out = StdSink::new(&rt);
     assert_eq!(rt; put_all(&mut out, b"to standard output\n"), Ok(()));
@@ -104,6 +124,14 @@ fn standard_output_and_real_files_are_reached(rt: HostRuntime) -> Result<(), Fai
         Err(FetchFault::TooLong { seen: 4 })
     );
     assert_eq!(rt; into.len(), 0);
+    assert_eq!(rt; desk.store("outside_io_test.txt", b"anew"), Ok(()));
+    assert_eq!(rt; desk.fetch("outside_io_test.txt", 4, &mut into), Ok(()));
+    assert_eq!(rt; into.as_slice(), b"anew".as_slice());
+    assert_eq!(rt;
+        desk.trouble().map(|trouble| trouble.step),
+        Some(Step::Create),
+        "the store into no folder was the last that failed"
+    );
     fs::remove_file(&rt, "outside_io_test.txt")?;
     Ok(())
 }

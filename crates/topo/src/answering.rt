@@ -60,8 +60,8 @@ fn is_version(words: &[String]) -> bool
     words.len() == 1 && is_word(words[0].as_bytes(), b"--version")
 }
 
-// Writes a text, and answers the outcome: that of a run that is done, or of one whose sink failed.
-fn tell<D: Desk, K: Sink>(text: &str, desk: &D, out: &mut K) -> Outcome
+/// Writes a text, and answers the outcome: that of a run that is done, or of one whose sink failed.
+pub(crate) fn tell<D: Desk, K: Sink>(text: &str, desk: &D, out: &mut K) -> Outcome
     ensures { Tells text.now result
         (world D.files D.faults K.written K.faults desk.now out.old)
         (world D.files D.faults K.written K.faults desk.now out.new) }

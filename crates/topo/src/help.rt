@@ -1,7 +1,5 @@
-//! The texts of help: how each command is called, and what is wrong with words of no listed form.
-use clap::error::ErrorKind;
+//! The texts of help: how each command is called.
 use clap::{Arg, ArgAction, Command};
-use grid_base::NoMemory;
 use std::alloc::{AllocError, Global};
 
 static DIGITS: [&str; 7] = ["0", "1", "2", "3", "4", "5", "6"];
@@ -9,6 +7,8 @@ static DIGITS: [&str; 7] = ["0", "1", "2", "3", "4", "5", "6"];
 const STEP_TEXT: &str = "\
 The text of steps, a directive a line; V is the id of a vertex, and # begins a comment:
   shift V DX DY DZ, shift all DX DY DZ   add to the shift that is asked, in units of the grid
+  drive NAME                             add what the field NAME gives where each vertex stands: swirl, swell or
+                                         shrink, a 64th about the z axis, from the origin or to it
   step                                   move each vertex as is asked, as far as no surfaces meet
   save                                   write the mesh
   solid V                                nothing moves vertex V from here on
@@ -66,16 +66,6 @@ fn convert<'a>(alloc: Global) -> Result<Command<'a>, AllocError> {
         .arg(decimals(alloc))
 }
 
-fn whole<'a>(alloc: Global) -> Result<Command<'a>, AllocError> {
-    Command::new(alloc, "topo")
-        .no_binary_name(true)
-        .bin_name("topo")?
-        .subcommand_required(true)
-        .disable_help_subcommand(true)
-        .subcommand(track(alloc)?)?
-        .subcommand(convert(alloc)?)
-}
-
 /// How the command is called; None, where there is no such command.
 pub(crate) fn command_help(alloc: Global, name: &str) -> Result<Option<String>, AllocError> {
     match name {
@@ -88,57 +78,5 @@ pub(crate) fn command_help(alloc: Global, name: &str) -> Result<Option<String>, 
             Ok(Some(command.render_help()?))
         }
         _ => Ok(None),
-    }
-}
-
-// The text without its advice to put a word behind `--`: no file word has a dash in front there either.
-fn without_bad_tip(alloc: Global, text: &str) -> Result<String, AllocError> {
-    let mut kept = String::new(alloc);
-    for line in text.lines() {
-        if !line.starts_with("  tip: to pass ") {
-            kept.push_str(line)?;
-            kept.push_str("\n")?;
-        }
-    }
-    Ok(kept)
-}
-
-// What is wrong with words whose number and options are right.
-fn fault_of_word(alloc: Global, words: &[String]) -> Result<String, AllocError> {
-    for word in words {
-        if word.is_empty() {
-            return String::from_str(alloc, "error: a file word is empty\n");
-        }
-        if word.as_str().starts_with("-")
-            && word.as_str() != "--"
-            && !word.as_str().starts_with("--decimals")
-        {
-            return format!(in alloc;
-                "error: no file word begins with '-', as {:?} does: put ./ before it\n",
-                word.as_str()
-            );
-        }
-    }
-    String::from_str(
-        alloc,
-        "error: each of FROM and TO has to end in .obj, .off or .ply\n",
-    )
-}
-
-/// What is wrong with words of no listed form: the word at fault and the nearest form.
-pub(crate) fn usage_error(alloc: Global, words: &[String]) -> Result<String, NoMemory> {
-    match whole(alloc)?.try_get_matches_from(words) {
-        Ok(_) => Ok(fault_of_word(alloc, words)?),
-        Err(error) => match error.kind() {
-            ErrorKind::OutOfMemory => Err(NoMemory),
-            ErrorKind::DisplayHelp => Ok(String::from_str(
-                alloc,
-                "error: --help stands alone, or alone behind a command\n",
-            )?),
-            _ => {
-                let text = format!(in alloc; "{error}")?;
-                Ok(without_bad_tip(alloc, text.as_str())?)
-            }
-        },
     }
 }

@@ -3,19 +3,24 @@
 #![tactic(auto)]
 
 mod answering;
+mod explaining;
 mod help;
 mod shipped;
+mod warning;
 
-use answering::{USAGE, answer};
-use help::usage_error;
+use answering::{USAGE, answer, tell};
+use explaining::explain;
+use help::command_help;
 use mesh_field::{Fields, no_fields};
 use outside_io::{FileDesk, StdSink};
 use shipped::{REACH, shipped_names, shipped_shift};
+use std::alloc::{AllocError, Global};
 use std::io::ErrorKind;
 use std::process::ExitCode;
 use std::rt::Env;
 use std::{env, io};
 use track_run::Outcome;
+use warning::warnings;
 
 // The words after the program's name.
 fn words(rt: &(impl Env + AllocGlobal)) -> io::Result<Vec<String>> {
@@ -28,39 +33,67 @@ fn words(rt: &(impl Env + AllocGlobal)) -> io::Result<Vec<String>> {
     Ok(words)
 }
 
-// The outcome of the words; what is wrong with them is told, where they are of no listed form.
-fn answer_words(rt: &HostRuntime, words: &[String]) -> Outcome {
-    let fields = match shipped_names() {
-        Some(names) => Fields::new(names, REACH, shipped_shift),
-        None => no_fields(shipped_shift),
-    };
-    let outcome = answer(
-        rt.alloc(),
-        words,
-        &mut FileDesk::new(rt.alloc(), rt),
-        &mut StdSink::new(rt),
-        &fields,
-    );
-    if outcome == Outcome::Usage {
-        if let Ok(text) = usage_error(rt.alloc(), words) {
-            let _ = eprintln!(rt; "{text}");
+// The help of a command, where the words ask for that alone.
+fn asked_help(alloc: Global, words: &[String]) -> Option<String> {
+    match words {
+        [name, asked] if asked.as_str() == "--help" || asked.as_str() == "-h" => {
+            command_help(alloc, name.as_str()).ok()?
         }
+        _ => None,
     }
-    outcome
 }
 
-fn main(rt: HostRuntime) -> ExitCode {
-    let outcome = match words(&rt) {
-        Err(error) if error.kind() == ErrorKind::OutOfMemory => Outcome::NoMemory,
-        Err(_) => Outcome::Usage,
-        Ok(words) => answer_words(&rt, &words),
-    };
+// Tells how the program is called where that is wanted, and why the job did not end as done, and gives the status.
+fn end(rt: &impl Eprint, outcome: Outcome, why: Result<String, AllocError>) -> ExitCode {
     if outcome == Outcome::Usage {
         let _ = eprint!(rt; "{USAGE}");
     }
     let status = outcome.status();
     if status != 0 {
+        if let Ok(why) = why {
+            let _ = eprintln!(rt; "topo: {why}");
+        }
         let _ = eprintln!(rt; "topo: status {status}");
     }
     ExitCode::from(status)
+}
+
+// Tells what may be amiss, a line each.
+fn warn(rt: &impl Eprint, warnings: Result<Vec<String>, AllocError>) {
+    if let Ok(warnings) = warnings {
+        for warning in &warnings {
+            let _ = eprintln!(rt; "topo: warning: {warning}");
+        }
+    }
+}
+
+fn main(rt: HostRuntime) -> ExitCode {
+    let alloc = rt.alloc();
+    match words(&rt) {
+        Ok(words) => {
+            let mut desk = FileDesk::new(alloc, &rt);
+            let mut out = StdSink::new(&rt);
+            let fields = match shipped_names() {
+                Some(names) => Fields::new(names, REACH, shipped_shift),
+                None => no_fields(shipped_shift),
+            };
+            let outcome = match asked_help(alloc, &words) {
+                Some(help) => tell(help.as_str(), &desk, &mut out),
+                None => answer(alloc, &words, &mut desk, &mut out, &fields),
+            };
+            if outcome == Outcome::Done {
+                warn(&rt, warnings(alloc, &words, &rt));
+            }
+            let why = explain(alloc, &words, outcome, desk.trouble(), &rt);
+            end(&rt, outcome, why)
+        }
+        Err(error) if error.kind() == ErrorKind::OutOfMemory => {
+            let why = String::from_str(alloc, "there is not enough memory");
+            end(&rt, Outcome::NoMemory, why)
+        }
+        Err(error) => {
+            let why = format!(in alloc; "the words can not be had as text ({error})");
+            end(&rt, Outcome::Usage, why)
+        }
+    }
 }

@@ -1,0 +1,39 @@
+// Why a file could not be had or stored.
+use grid_base::TEXT_MAX;
+use outside_io::{Step, Trouble};
+use std::alloc::{AllocError, Global};
+
+// What the system was asked to do, as it is said behind `could not`.
+fn doing(step: Step) -> &'static str {
+    match step {
+        Step::Open => "be opened",
+        Step::Read => "be read",
+        Step::Look => "be stored: what has its name can not be replaced",
+        Step::Create => "be stored: no file can be made in its folder",
+        Step::Write => "be stored: it can not be written",
+        Step::Rename => "be stored: it can not take its place",
+    }
+}
+
+/// Says which file could not be read or stored, and why.
+pub fn trouble_reason(alloc: Global, trouble: Option<&Trouble>) -> Result<String, AllocError> {
+    match trouble {
+        None => String::from_str(alloc, "a file could not be read or stored"),
+        Some(trouble) => {
+            let name = trouble.name.as_str();
+            let what = doing(trouble.step);
+            let error = trouble.error;
+            format!(in alloc; "{name} could not {what} ({error})")
+        }
+    }
+}
+
+/// Says that there is no file of a name.
+pub fn missing_reason(alloc: Global, name: &str) -> Result<String, AllocError> {
+    format!(in alloc; "there is no file {name}")
+}
+
+/// Says that a file is too long.
+pub fn long_reason(alloc: Global, name: &str) -> Result<String, AllocError> {
+    format!(in alloc; "{name} is too long: a file may have up to {TEXT_MAX} bytes")
+}

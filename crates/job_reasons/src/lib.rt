@@ -1,0 +1,18 @@
+//! Why a job did not end as done, and what may be amiss in one that did, in sentences for people. They are made from a
+//! refusal and from the texts that it speaks of.
+#![tactic(auto)]
+
+mod desk_reasons;
+mod mesh_reasons;
+mod places;
+mod shape_reasons;
+mod step_reasons;
+mod warnings;
+mod word_reasons;
+
+pub use desk_reasons::{long_reason, missing_reason, trouble_reason};
+pub use mesh_reasons::mesh_text_reason;
+pub use shape_reasons::{meeting_reason, shape_reason};
+pub use step_reasons::{step_text_reason, use_reason};
+pub use warnings::{asks_in_vain, is_inside_out, rounding_warning};
+pub use word_reasons::words_reason;

@@ -1,0 +1,165 @@
+// What is wrong with the shape of a mesh.
+ghost use Rattle.std.specs.Prelude.{◌≤◌, length};
+ghost use Rattle.grid_base.specs.declared.TheConstants.{TEXT_MAX};
+
+use crate::places::word_at;
+use grid_base::{FACES_MAX, VERTICES_MAX};
+use line_text::{Lines, words};
+use mesh_plain::{MeshLists, PairName, ShapeFault};
+use std::alloc::{AllocError, Global};
+
+// How many sides of faces run from a vertex to another.
+fn sides(faces: &[[u32; 3]], from: u32, to: u32) -> u32 {
+    let mut count: u32 = 0;
+    for face in faces {
+        let [a, b, c] = *face;
+        if (a == from && b == to) || (b == from && c == to) || (c == from && a == to) {
+            count = count.saturating_add(1);
+        }
+    }
+    count
+}
+
+// The number of another vertex at the place of this one, if there is one; both numbered from 1.
+fn twin(lists: &MeshLists, vertex: u32) -> Option<u32> {
+    if vertex == 0 {
+        return None;
+    }
+    let point = *lists.points.get(vertex as usize - 1)?;
+    let mut number: u32 = 0;
+    for other in lists.points.as_slice() {
+        number = number.saturating_add(1);
+        if number != vertex && *other == point {
+            return Some(number);
+        }
+    }
+    None
+}
+
+// What it means that faces run so often one way and so often the other.
+fn meaning(there: u32, back: u32) -> &'static str {
+    match (there, back) {
+        (1, 0) | (0, 1) => "the surface has a border there",
+        (2, 0) | (0, 2) => "one of the two faces along this edge is turned over",
+        _ => "the faces along this edge do not go in pairs, one each way",
+    }
+}
+
+// That two vertices stand at one place, if the vertex has another there.
+fn seam(alloc: Global, lists: &MeshLists, vertex: u32) -> Result<Option<String>, AllocError> {
+    match twin(lists, vertex) {
+        None => Ok(None),
+        Some(twin) => {
+            let said = format!(in alloc;
+                "the vertices {vertex} and {twin} stand at one place, so this may be a seam: make them one vertex"
+            )?;
+            Ok(Some(said))
+        }
+    }
+}
+
+// Says that faces do not run as often one way as the other, how often they run where the lists are had, and what that means.
+fn unbalanced_reason(
+    alloc: Global,
+    lists: Option<&MeshLists>,
+    from: u32,
+    to: u32,
+) -> Result<String, AllocError> {
+    let Some(lists) = lists else {
+        return format!(in alloc; "the surface is not closed between the vertices {from} and {to}");
+    };
+    let there = sides(lists.faces.as_slice(), from, to);
+    let back = sides(lists.faces.as_slice(), to, from);
+    let front = format!(in alloc;
+        "the surface is not closed: from vertex {from} to vertex {to} run {there} faces, and back run {back}"
+    )?;
+    if let Some(seam) = seam(alloc, lists, from)? {
+        return format!(in alloc; "{front}; {seam}");
+    }
+    if let Some(seam) = seam(alloc, lists, to)? {
+        return format!(in alloc; "{front}; {seam}");
+    }
+    let meaning = meaning(there, back);
+    format!(in alloc; "{front}; {meaning}")
+}
+
+// How many words a line has.
+fn word_count(line: &[u8]) -> u64 {
+    let mut count: u64 = 0;
+    for _word in words(line) {
+        count = count.saturating_add(1);
+    }
+    count
+}
+
+// The line of the face of a number, in an OBJ text, where a polygon of k corners is k - 2 faces; 0 where there is none.
+fn line_of_face(bytes: &[u8], face: u32) -> u32
+    requires { length bytes.now ≤ TEXT_MAX }
+{
+    let mut count: u64 = 0;
+    for line in Lines::new(bytes) {
+        if word_at(line.bytes, 0) == b"f".as_slice() {
+            count = count.saturating_add(word_count(line.bytes).saturating_sub(3));
+        }
+        if count >= u64::from(face) {
+            return line.number;
+        }
+    }
+    0
+}
+
+// `face F (line N)`.
+fn face_place(alloc: Global, bytes: &[u8], face: u32) -> Result<String, AllocError>
+    requires { length bytes.now ≤ TEXT_MAX }
+{
+    match line_of_face(bytes, face) {
+        0 => format!(in alloc; "face {face}"),
+        line => format!(in alloc; "face {face} (line {line})"),
+    }
+}
+
+/// Says what is wrong with the shape of the mesh of a text, with the lists that it gives where they are had. Faces are triangles, which
+/// count through polygons.
+pub fn shape_reason(
+    alloc: Global,
+    name: &str,
+    bytes: &[u8],
+    lists: Option<&MeshLists>,
+    fault: ShapeFault,
+) -> Result<String, AllocError>
+    requires { length bytes.now ≤ TEXT_MAX }
+{
+    let what = match fault {
+        ShapeFault::TooManyVertices { count } => format!(in alloc;
+            "there are {count} vertices, of at most {VERTICES_MAX}"
+        )?,
+        ShapeFault::TooManyFaces { count } => format!(in alloc;
+            "there are {count} faces, of at most {FACES_MAX}"
+        )?,
+        ShapeFault::NoVertex { face, corner } => {
+            let face = face_place(alloc, bytes, face)?;
+            format!(in alloc; "corner {corner} of {face} names no vertex")?
+        }
+        ShapeFault::Repeated { face } => {
+            let face = face_place(alloc, bytes, face)?;
+            format!(in alloc; "{face} has one vertex twice")?
+        }
+        ShapeFault::Doubled { first, second } => {
+            let first = face_place(alloc, bytes, first)?;
+            let second = face_place(alloc, bytes, second)?;
+            format!(in alloc; "{first} and {second} have the same corners in the same order")?
+        }
+        ShapeFault::Unbalanced { from, to } => unbalanced_reason(alloc, lists, from, to)?,
+    };
+    format!(in alloc; "{name}; {what}")
+}
+
+/// Says which edge and face of a mesh meet.
+pub fn meeting_reason(alloc: Global, name: &str, pair: PairName) -> Result<String, AllocError> {
+    let a = pair.a.0;
+    let b = pair.b.0;
+    let face = pair.face.0;
+    format!(in alloc;
+        "{name}; the surface meets itself: the edge of the vertices {a} and {b} and face {face}, which has neither, have a common point"
+    )
+}

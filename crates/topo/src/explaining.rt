@@ -1,0 +1,133 @@
+// Why a job did not end as done, in one sentence.
+ghost use Rattle.std.specs.Prelude.{◌≤◌, length};
+ghost use Rattle.grid_base.specs.declared.TheConstants.{TEXT_MAX, DECIMALS_MAX};
+
+use grid_base::TEXT_MAX;
+use job_reasons::{
+    long_reason, meeting_reason, mesh_text_reason, missing_reason, shape_reason, step_text_reason,
+    trouble_reason, use_reason, words_reason,
+};
+use line_text::TextFault;
+use mesh_plain::{FileWord, ShapeFault};
+use obj_text::read_obj;
+use outside_io::{Desk, FileDesk, Trouble};
+use std::alloc::{AllocError, Global};
+use std::fs;
+use std::rt::Files;
+use track_input::{Command, command_of};
+use track_run::Outcome;
+
+// The names of a job's two files, and the decimals of its points. A conversion has the file that it reads as both.
+#[derive(Clone, Copy)]
+pub(crate) struct Names<'a> {
+    pub(crate) mesh: &'a str,
+    pub(crate) steps: &'a str,
+    pub(crate) decimals: u8,
+    ghost few: { decimals ≤ DECIMALS_MAX },
+}
+
+// The names that the words tell, if they are of a listed form.
+pub(crate) fn names_of(alloc: Global, words: &[String]) -> Option<Names<'_>> {
+    match command_of(alloc, words).ok()?? {
+        Command::Track {
+            mesh,
+            steps,
+            decimals,
+            ..
+        } => Some(Names {
+            mesh,
+            steps,
+            decimals,
+        }),
+        Command::Convert { from, decimals, .. } => Some(Names {
+            mesh: from.name,
+            steps: from.name,
+            decimals,
+        }),
+    }
+}
+
+// The name of one of the two files.
+fn name_of<'a>(names: Names<'a>, file: FileWord) -> &'a str {
+    match file {
+        FileWord::Mesh => names.mesh,
+        FileWord::Steps => names.steps,
+    }
+}
+
+// The bytes of a file once more; none where it can not be had, or is no file that gives them twice, as a pipe.
+pub(crate) fn bytes_of<R: Files>(alloc: Global, rt: &R, name: &str) -> Vec<u8>
+    ensures { length result.items ≤ TEXT_MAX }
+{
+    let mut bytes = Vec::new(alloc);
+    match fs::metadata(rt, name) {
+        Ok(about) if about.is_file() => {
+            let _ = FileDesk::new(alloc, rt).fetch(name, TEXT_MAX, &mut bytes);
+        }
+        _ => {}
+    }
+    bytes
+}
+
+// What is wrong with a line of the mesh file.
+fn mesh_sentence<R: Files>(
+    alloc: Global,
+    names: Names<'_>,
+    fault: TextFault,
+    rt: &R,
+) -> Result<String, AllocError> {
+    let bytes = bytes_of(alloc, rt, names.mesh);
+    mesh_text_reason(alloc, names.mesh, &bytes, names.decimals, fault)
+}
+
+// What is wrong with a line of the step file.
+fn step_sentence<R: Files>(
+    alloc: Global,
+    names: Names<'_>,
+    fault: TextFault,
+    rt: &R,
+) -> Result<String, AllocError> {
+    let bytes = bytes_of(alloc, rt, names.steps);
+    step_text_reason(alloc, names.steps, &bytes, names.decimals, fault)
+}
+
+// What is wrong with the shape of the mesh.
+fn shape_sentence<R: Files>(
+    alloc: Global,
+    names: Names<'_>,
+    fault: ShapeFault,
+    rt: &R,
+) -> Result<String, AllocError> {
+    let bytes = bytes_of(alloc, rt, names.mesh);
+    let lists = read_obj(alloc, &bytes, names.decimals).ok();
+    shape_reason(alloc, names.mesh, &bytes, lists.as_ref(), fault)
+}
+
+/// Says in one sentence why a run for these words ended as it did, where it is not done: it looks into the files once more.
+pub(crate) fn explain<R: Files>(
+    alloc: Global,
+    words: &[String],
+    outcome: Outcome,
+    trouble: Option<&Trouble>,
+    rt: &R,
+) -> Result<String, AllocError> {
+    let names = names_of(alloc, words).unwrap_or(Names {
+        mesh: "the mesh",
+        steps: "the steps",
+        decimals: 0,
+    });
+    match outcome {
+        Outcome::Done => Ok(String::new(alloc)),
+        Outcome::NoMemory => String::from_str(alloc, "there is not enough memory"),
+        Outcome::Usage => words_reason(alloc, words),
+        Outcome::DeskFault => trouble_reason(alloc, trouble),
+        Outcome::SinkFault => String::from_str(alloc, "standard output could not be written"),
+        Outcome::TooLong { file, .. } => long_reason(alloc, name_of(names, file)),
+        Outcome::MeshText(fault) => mesh_sentence(alloc, names, fault, rt),
+        Outcome::MeshShape(fault) => shape_sentence(alloc, names, fault, rt),
+        Outcome::MeshMeets(pair) => meeting_reason(alloc, names.mesh, pair),
+        Outcome::StepText(fault) => step_sentence(alloc, names, fault, rt),
+        Outcome::StepUse { line, why } => use_reason(alloc, names.steps, line, why),
+        Outcome::Missing { file } => missing_reason(alloc, name_of(names, file)),
+    }
+}
