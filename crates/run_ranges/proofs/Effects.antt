@@ -209,15 +209,15 @@ all_good answers (one ∷ more) s room placed =
     by_effect (effect_of (first answers) one.what s) refl (effect_good s (fewer (length more) s room) (first answers) one.what placed.0.1) (λ next h. all_good (later answers) more next h placed.1)
   where
     by_effect : (t : Effect) → effect_of (first answers) one.what s ≡ t → IsGood s t → ((next : State) → HasRoomFor (length more) next → AreInRange (log_from (later answers) more next).lines) → AreInRange (and_then one.line t (log_from (later answers) more)).lines
-    by_effect (Proceeds lines next) e good later =
+    by_effect (Proceeds lines next) e good others =
         let on = good.1 in
         let a = room.steps in
         let b = room.saved in
         let c = on.steps in
         let d = on.saved in
         All-append MayFollow lines (log_from (later answers) more next).lines good.0
-        (later next (record { kept = kept_next (first answers) one.what s next lines room.kept e; limits = on.limits; steps = omega (arith, a, c); saved = omega (arith, b, d) }))
-    by_effect (Refused why) e good later = one_line (RefusedLine (StepUse one.line why)) ((placed.0.0, good), tt)
+        (others next (record { kept = kept_next (first answers) one.what s next lines room.kept e; limits = on.limits; steps = omega (arith, a, c); saved = omega (arith, b, d) }))
+    by_effect (Refused why) e good others = one_line (RefusedLine (StepUse one.line why)) ((placed.0.0, good), tt)
 
 pub logs_in_range : LogsAreInRange
 logs_in_range answers steps s room placed = all_good answers steps s room (recursion_from_All IsPlacedInRange steps placed)
