@@ -13,6 +13,7 @@ fn form(word: &[u8]) -> Option<&'static str> {
     match word {
         b"set" => Some("`set depth D`, `set halvings H`, `set passes P` or `set zones Z`"),
         b"shift" => Some("`shift V DX DY DZ` or `shift all DX DY DZ`"),
+        b"drive" => Some("`drive NAME`"),
         b"solid" => Some("`solid V`"),
         b"split" => Some("`split L`"),
         b"collapse" => Some("`collapse L`"),
@@ -36,6 +37,7 @@ fn limits(word: &[u8], next: &[u8]) -> &'static str {
         (b"set", b"zones") => "zones are 0 or 1",
         (b"shift", _) =>
             "a vertex is 1 to 2147483648, and a component of a shift at most 536870912 in size",
+        (b"drive", _) => "a name of a field is a text of 1 to 32 bytes",
         (b"solid", _) => "a vertex is 1 to 2147483648",
         _ => "a length is 0 to 1073741824",
     }
@@ -66,7 +68,7 @@ fn expected(why: TextWhy, word: &[u8], next: &[u8], decimals: u8) -> &'static st
             "this looks like a mesh: the mesh comes first, and then the steps"
         }
         _ =>
-            "a line begins with set, shift, solid, split, collapse, flip, zip, pinch, step, save, group or close",
+            "a line begins with set, shift, drive, solid, split, collapse, flip, zip, pinch, step, save, group or close",
     }
 }
 

@@ -120,9 +120,11 @@ pub fn is_inside_out(lists: &MeshLists) -> bool {
 pub fn asks_in_vain(directives: &Directives) -> bool {
     let mut asked = false;
     for placed in directives.as_slice() {
-        match placed.what {
+        match &placed.what {
             Directive::Step => asked = false,
-            Directive::ShiftOne { .. } | Directive::ShiftAll { .. } => asked = true,
+            Directive::ShiftOne { .. } | Directive::ShiftAll { .. } | Directive::Drive { .. } => {
+                asked = true;
+            }
             _ => {}
         }
     }
