@@ -16,11 +16,15 @@ const MESH: &[u8] = b"v 0 0 0\nv 4 0 0\nv 0 4 0\nv 0 0 4\nf 1 3 2\nf 1 2 4\nf 2 
 fn logs(rt: &impl Abort, alloc: Global, steps: &str, lines: &str, status: u8) -> Result<(), Fail> {
     let mut names = ArrayVec::new();
     names.push(FieldName::new(b"away").ok_or("a name")?);
-    let fields = Fields::new(names, BOX, |_which: u8, at: Point| Shift {
-        x: at.x,
-        y: at.y,
-        z: at.z,
-    });
+    let fields = Fields::new(
+        names,
+        BOX,
+        |_which: u8, at: Point| Shift {
+            x: at.x,
+            y: at.y,
+            z: at.z,
+        },
+    );
     let mut words = Vec::new(alloc);
     for word in ["track", "mesh.obj", "steps.txt", "t"] {
         words.push(String::from_str(alloc, word)?)?;
@@ -46,7 +50,8 @@ step 2\nmove 2 8 0 0\nmove 3 0 8 0\nmove 4 0 0 8\nmoved whole\nend\n";
     logs(&rt, alloc, twice, moves, 0)?;
     // The answers are added to what is asked.
     let added = "shift all 1 0 0\ndrive away\ndrive away\nstep\n";
-    let moves = "step 1\nmove 1 1 0 0\nmove 2 9 0 0\nmove 3 1 8 0\nmove 4 1 0 8\nmoved whole\nend\n";
+    let moves =
+        "step 1\nmove 1 1 0 0\nmove 2 9 0 0\nmove 3 1 8 0\nmove 4 1 0 8\nmoved whole\nend\n";
     logs(&rt, alloc, added, moves, 0)?;
     // A solid vertex is passed over.
     let solid = "solid 2\ndrive away\nstep\n";

@@ -17,7 +17,7 @@ loop-s-preserved g c =
     let sorted = ids_sorted m asked c.requires.named in
     let now = c.match-summed_unless_solid in
     elim now.branch [
-      in-Some+in_ok-push-in-Some w ↦ driven_within may m asked c.loop-s.s-index c.s-item.result sorted c.loop-s-test.true c.s-item.is c.loop-s.shifts c.loop-s.beyond c.loop-s.invariant c.answer_at-by.result c.answer_at-by.ensures w.in-Some.summed now.shifts now.beyond w.in-Some.ensures (w.shifts-is ∙ w.in_ok-push-in-Some.ensures.ok) w.beyond-is
+      | in-Some+in_ok-push-in-Some w ↦ driven_within may m asked c.loop-s.s-index c.s-item.result sorted c.loop-s-test.true c.s-item.is c.loop-s.shifts c.loop-s.beyond c.loop-s.invariant c.answer_at-by.result c.answer_at-by.ensures w.in-Some.summed now.shifts now.beyond w.in-Some.ensures (w.shifts-is ∙ w.in_ok-push-in-Some.ensures.ok) w.beyond-is
       | in-None w ↦ driven_beyond may m asked c.loop-s.s-index c.s-item.result sorted c.loop-s-test.true c.s-item.is c.loop-s.shifts c.loop-s.beyond c.loop-s.invariant c.answer_at-by.result c.answer_at-by.ensures now.shifts now.beyond w.in-None.ensures (w.beyond-is ∙ w.or-beyond.ensures)
     ]
 
