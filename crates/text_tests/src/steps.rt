@@ -6,7 +6,7 @@ use grid_base::Shift;
 use line_text::{ReadFault, TextFault, TextWhy};
 use mesh_plain::FieldName;
 use std::test::Fail;
-use step_text::{Directive, Placed, read_steps};
+use step_text::{Directive, read_steps};
 
 // A name of 32 bytes and 31 characters.
 const LONGEST: &[u8] = b"\xc3\xa4bcdefghijklmnopqrstuvwxyz01234";
@@ -14,10 +14,8 @@ const LONGEST: &[u8] = b"\xc3\xa4bcdefghijklmnopqrstuvwxyz01234";
 #[test]
 fn each_form_is_read(rt: HostRuntime) -> Result<(), Fail> {
     let by = Shift::new(-40, 0, 7).ok_or("a shift")?;
-    let name = FieldName::new(b"swirl").ok_or("a name")?;
-    let longest = FieldName::new(LONGEST).ok_or("a name")?;
     let text =
-        b"set depth 0\nset passes 100\nset zones 0\n\n# slower\r\nset halvings 27\n\tshift all -40 0 7 # all\nshift 2147483648 -40 -0 07\nstep\nsplit 0\nsplit 1073741824\nflip # edges\ncollapse 7\nzip 0\npinch\nsave\nsolid 12\ngroup\n group # inner\nclose\nclose\ndrive swirl # round\ndrive \xc3\xa4bcdefghijklmnopqrstuvwxyz01234";
+        b"set depth 0\nset passes 100\nset zones 0\n\n# slower\r\nset halvings 27\n\tshift all -40 0 7 # all\nshift 2147483648 -40 -0 07\nstep\nsplit 0\nsplit 1073741824\nflip # edges\ncollapse 7\nzip 0\npinch\nsave\nsolid 12\ngroup\n group # inner\nclose\nclose";
     let found = read_steps(rt.alloc(), text)?;
     let want = [
         (1, Directive::SetDepth(0)),
@@ -50,12 +48,23 @@ fn each_form_is_read(rt: HostRuntime) -> Result<(), Fail> {
         (19, Directive::Group),
         (20, Directive::Close),
         (21, Directive::Close),
-        (22, Directive::Drive { name }),
-        (23, Directive::Drive { name: longest }),
     ];
     assert_eq!(rt; found.len(), want.len());
-    for (found, (line, what)) in found.as_slice().iter().zip(want) {
-        assert_eq!(rt; *found, Placed { line, what });
+    for (found, (line, what)) in found.as_slice().iter().zip(&want) {
+        assert_eq!(rt; found.line, *line);
+        assert!(rt; found.what == *what);
+    }
+    Ok(())
+}
+
+#[test]
+fn drives_are_read(rt: HostRuntime) -> Result<(), Fail> {
+    let text = b"drive swirl # round\ndrive \xc3\xa4bcdefghijklmnopqrstuvwxyz01234";
+    let found = read_steps(rt.alloc(), text)?;
+    assert_eq!(rt; found.len(), 2);
+    for (found, name) in found.as_slice().iter().zip([b"swirl".as_slice(), LONGEST]) {
+        let name = FieldName::new(name).ok_or("a name")?;
+        assert!(rt; found.what == Directive::Drive { name });
     }
     Ok(())
 }
