@@ -1,5 +1,5 @@
 -- What the stored fields of the program are.
-use Rattle.std.specs.Prelude.{◌≡◌, ℕ, List, [], ◌∷◌, codes, ℤ, pos, neg_ℤ, int_div}
+use Rattle.std.specs.Prelude.{ℕ, ◌==◌, if◌then◌else◌, List, [], ◌∷◌, codes, ℤ, pos, neg_ℤ, int_div}
 use Rattle.grid_base.specs.Triples.{Triple}
 use Rattle.grid_base.specs.declared.Point.{Point}
 
@@ -25,6 +25,4 @@ shrunk p = record { x = neg_ℤ (part p.x); y = neg_ℤ (part p.y); z = neg_ℤ 
 
 -- what the field of a number gives at a point
 abbrev pub shipped_at : ℕ → Point → Triple
-shipped_at 0 p = swirled p
-shipped_at 1 p = swelled p
-shipped_at _ p = shrunk p
+shipped_at which p = if which == 0 then swirled p else if which == 1 then swelled p else shrunk p
