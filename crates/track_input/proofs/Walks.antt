@@ -1,6 +1,6 @@
 -- How the commands walk the words of a listed form.
 use Rattle.std.proofs.Common.{inl, inr, ◌≡◌, ◌≤◌, ◌∙◌, ℕ, true, false, refl, sym, ap, List, [], ◌∷◌, Option, Some, None, codes, not, eqb, arith, length}
-use Rattle.std.specs.Prelude.{◌&&◌, nat_le, nat_lt}
+use Rattle.std.specs.Prelude.{◌&&◌, Bool, if◌then◌else◌, nat_le, nat_lt}
 use Rattle.std.specs.List.{list_all}
 use Rattle.std.specs.Str.{bytes_eq}
 use Rattle.std.proofs.lemmas.Bool.{cases_Bool, and_parts, ne_eqb, leb-true, eqb-true}
@@ -36,12 +36,14 @@ plain_digit [] h = absurd (cc)
 plain_digit (b ∷ []) h = begins_plain b [] (ne_eqb b 45 (λ e. let le : 48 ≤ b = leb-true 48 b (and_parts _ _ h).0 in omega arith))
 plain_digit (b ∷ d ∷ bs) h = absurd (let e : length (b ∷ d ∷ bs) ≡ 1 = eqb-true _ _ (and_parts _ _ h).0 in omega (arith, e))
 
+-- no digits are no number
+no_number : (zero_first : Bool) (n : ℕ) → (if zero_first && nat_lt 1 (length {A = ℕ} []) then None else number_within DIGITS_MAX []) ≡ Some n → ⊥
+no_number true n e = cc
+no_number false n e = cc
+
 -- the word of a number
 pub plain_number : (w : List ℕ) (n : ℕ) → spelled_number w ≡ Some n → IsPlainWord w
-plain_number [] n e = elim (cases_Bool (begins_with 48 [] && nat_lt 1 (length {A = ℕ} []))) [
-  | inl zero ↦ absurd (let g = rw zero at e in cc)
-  | inr fine ↦ absurd (let g = rw fine at e in cc)
-]
+plain_number [] n e = absurd (no_number (begins_with 48 []) n e)
 plain_number (b ∷ bs) n e = elim (cases_Bool (begins_with 48 (b ∷ bs) && nat_lt 1 (length (b ∷ bs)))) [
   | inl zero ↦ absurd (let g = rw zero at e in cc)
   | inr fine ↦ at_digits (rw fine at e)

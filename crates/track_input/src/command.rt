@@ -31,7 +31,10 @@ pub enum Command<'a> {
         decimals: u8,
     },
     /// A job of so many cubes along an edge is made by a key and run, and its log is summed up.
-    Try { cubes: u8, key: u32 },
+    Try {
+        cubes: u8,
+        key: u32,
+    },
 }
 
 /// The greatest number of cubes along an edge of a job that is made.
