@@ -8,8 +8,8 @@ ghost use Rattle.pair_paths.specs.Moving.{moving_face};
 ghost use Rattle.edit_check.specs.Reach.{HasFace, Reaches, ReachesAt, ReachesMoves, ReachesTouched, Widens};
 
 use crate::moves::{Moved, Standing};
-use grid_base::{Extent, Items, NoMemory};
-use mesh_base::{Corners, FaceId, Surface, VertexId};
+use grid_base::{Extent, NoMemory};
+use mesh_base::{Corners, FaceId, FaceIds, Surface, VertexId, live_faces_above};
 use pair_paths::{HasBounds, MovingFace, Paths};
 use std::alloc::Global;
 
@@ -121,20 +121,10 @@ fn reach_vertices<S: Surface>(
 }
 
 /// The live faces from an id on, by rising id.
-fn fresh_faces<S: Surface>(
-    alloc: Global,
-    mesh: &S,
-    fresh_from: u32,
-) -> Result<Items<FaceId>, NoMemory>
+fn fresh_faces<S: Surface>(alloc: Global, mesh: &S, fresh_from: u32) -> Result<FaceIds, NoMemory>
     ensures { IfOk result (λ ids. ids ≡ above (fresh_from - 1) (map.keys (S.mesh mesh.now).faces)) }
 {
-    let mut ids = Items::new(alloc);
-    let mut last = fresh_from.saturating_sub(1);
-    while let Some(f) = mesh.face_after(last) {
-        ids.push(f)?;
-        last = f.0;
-    }
-    Ok(ids)
+    live_faces_above(alloc, mesh, fresh_from.saturating_sub(1))
 }
 
 /// A box that has each touched face; None, where there is none.

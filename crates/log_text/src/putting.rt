@@ -32,10 +32,7 @@ pub(crate) fn put_spaced(fields: &[Field<'_>], into: &mut Vec<u8>) -> Result<(),
     ensures err { OnErr result (Keeps into.old.items into.new.items) }
 {
     for field in fields {
-        match put_next(field, into) {
-            Ok(()) => {}
-            Err(NoMemory) => return Err(NoMemory),
-        }
+        put_next(field, into)?;
     }
     Ok(())
 }
@@ -46,10 +43,7 @@ fn put_ids(ids: &[VertexId], into: &mut Vec<u8>) -> Result<(), NoMemory>
     ensures err { OnErr result (Keeps into.old.items into.new.items) }
 {
     for v in ids {
-        match put_next(&Field::Number(u64::from(v.0)), into) {
-            Ok(()) => {}
-            Err(NoMemory) => return Err(NoMemory),
-        }
+        put_next(&Field::Number(u64::from(v.0)), into)?;
     }
     Ok(())
 }
@@ -76,10 +70,7 @@ pub(crate) fn put_places(places: &[CopyAt], into: &mut Vec<u8>) -> Result<(), No
     ensures err { OnErr result (Keeps into.old.items into.new.items) }
 {
     for place in places {
-        match put_place(*place, into) {
-            Ok(()) => {}
-            Err(NoMemory) => return Err(NoMemory),
-        }
+        put_place(*place, into)?;
     }
     Ok(())
 }

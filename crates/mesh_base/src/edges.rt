@@ -105,6 +105,5 @@ pub fn edges_in_order<S: Surface>(alloc: Global, mesh: &S) -> Result<Edges, NoMe
     ensures { IfOk result (λ found. found ≡ edges (S.mesh mesh.now)) }
 {
     let faces = live_faces(alloc, mesh)?;
-    let found = sides_in_order(alloc, mesh, faces.as_slice())?;
-    Ok(found)
+    sides_in_order(alloc, mesh, faces.as_slice())
 }

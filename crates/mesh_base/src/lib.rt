@@ -25,4 +25,4 @@ pub use refusals::{FileWord, UseWhy};
 pub use standing::point_of;
 pub use steps::{How, ShiftOf};
 pub use surface::Surface;
-pub use walk::{live_faces, live_vertices};
+pub use walk::{live_faces, live_faces_above, live_vertices};

@@ -7,7 +7,7 @@ use Rattle.grid_base.specs.Separation.{IsBelow, IsAbove}
 use Rattle.grid_base.proofs.Polynomials.{num, add, sub, mul, same_polynomial}
 use Rattle.grid_base.proofs.TermTriples.{var3, dot_t, components}
 
-negative : (z : ℤ) → neg_ℤ z ≡ pos 0 -ℤ z
+pub negative : (z : ℤ) → neg_ℤ z ≡ pos 0 -ℤ z
 negative z = omega (arith, ints)
 
 dot-opposite : (n t : Triple) → dot (opposite n) t ≡ pos 0 -ℤ dot n t

@@ -1,5 +1,5 @@
 ghost use Rattle.std.specs.Prelude.{◌≡◌, ◌↔◌, IsTrue, ◌<ℤ◌, ◌≤ℤ◌};
-ghost use Rattle.grid_base.specs.Triples.{IsWithin, dot};
+ghost use Rattle.grid_base.specs.Triples.{IsWithin, dot, opposite};
 ghost use Rattle.grid_base.specs.Meeting.{AreWithin};
 ghost use Rattle.motion_test.specs.declared.one_direction.Side.TheVariants.{Below, Above};
 ghost use Rattle.grid_base.specs.Separation.{IsBelow, IsAbove, IsWeaklyBelow, IsWeaklyAbove, KeepsApart, TakesApart, BringsTogether};
@@ -153,18 +153,7 @@ fn is_above(n: Wide, f: &Positions, small: bool) -> bool
     requires f_fits { AreWithin (position_max small) f.now }
     ensures { IsTrue result ↔ IsAbove n f.now }
 {
-    let a = height(n, f.a, small);
-    let b = height(n, f.b, small);
-    let c = height(n, f.c, small);
-    if !both_above(a, b, c) {
-        return false;
-    }
-    let d = height(n, f.d, small);
-    if !both_above(a, b, d) {
-        return false;
-    }
-    let e = height(n, f.e, small);
-    both_above(a, b, e)
+    is_below(opposite(n, small), f, small)
 }
 
 // Whether both edge ends are at or below all corners.
@@ -193,18 +182,20 @@ fn is_weakly_above(n: Wide, f: &Positions, small: bool) -> bool
     requires f_fits { AreWithin (position_max small) f.now }
     ensures { IsTrue result ↔ IsWeaklyAbove n f.now }
 {
-    let a = height(n, f.a, small);
-    let b = height(n, f.b, small);
-    let c = height(n, f.c, small);
-    if !both_at_least(a, b, c) {
-        return false;
+    is_weakly_below(opposite(n, small), f, small)
+}
+
+// The direction the other way.
+fn opposite(n: Wide, small: bool) -> Wide
+    requires { IsWithin (direction_max small) n }
+    ensures value { result ≡ opposite n }
+    ensures fits { IsWithin (direction_max small) result }
+{
+    Wide {
+        x: -n.x,
+        y: -n.y,
+        z: -n.z,
     }
-    let d = height(n, f.d, small);
-    if !both_at_least(a, b, d) {
-        return false;
-    }
-    let e = height(n, f.e, small);
-    both_at_least(a, b, e)
 }
 
 // Whether the first two numbers are below the third.
@@ -226,11 +217,4 @@ fn both_at_most(a: i128, b: i128, c: i128) -> bool
     ensures { IsTrue result ↔ ((a ≤ℤ c) × (b ≤ℤ c)) }
 {
     a <= c && b <= c
-}
-
-// Whether the first two numbers are at least the third.
-fn both_at_least(a: i128, b: i128, c: i128) -> bool
-    ensures { IsTrue result ↔ ((c ≤ℤ a) × (c ≤ℤ b)) }
-{
-    c <= a && c <= b
 }

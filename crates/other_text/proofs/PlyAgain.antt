@@ -27,8 +27,9 @@ use Rattle.other_text.specs.Rows.{has_words, sized_ring_of, face_of}
 use Rattle.other_text.specs.OffWritten.{point_words, face_words}
 use Rattle.other_text.specs.PlyWritten.{ply_text}
 use Rattle.other_text.specs.Laws.{PlyIsRead}
-use Rattle.other_text.proofs.LinesAgain.{Adds, lists_after, items_add, line_adds}
-use Rattle.other_text.proofs.RowsAgain.{coordinate_again, spelled_point, count_again, three_again, ring_again, spelled_count, spelled_face, IsCorner}
+use Rattle.other_text.proofs.LinesAgain.{line_adds}
+use Rattle.other_text.proofs.ListsAgain.{PointAdds, FaceAdds, nothing, rows_add}
+use Rattle.other_text.proofs.RowsAgain.{coordinate_again, count_again, three_again, ring_again, spelled_count, IsCorner}
 
 abbrev all_roles : List Role
 all_roles = X ∷ Y ∷ Z ∷ []
@@ -39,7 +40,7 @@ rows_from v f lists = record { wanted = Rows; roles = all_roles; x_stands = true
 
 -- within the head
 abbrev head_at : Wanted → List Role → Bool → Bool → Bool → ℕ → ℕ → Progress
-head_at wanted roles x y z v f = record { wanted = wanted; roles = roles; x_stands = x; y_stands = y; z_stands = z; extra = 0; points_left = v; faces_left = f; lists = record { points = []; faces = [] } }
+head_at wanted roles x y z v f = record { wanted = wanted; roles = roles; x_stands = x; y_stands = y; z_stands = z; extra = 0; points_left = v; faces_left = f; lists = nothing }
 
 -- ---- points
 
@@ -52,32 +53,12 @@ module _ (decimals : ℕ) (places : decimals ≤ DECIMALS_MAX) (count : ℕ) whe
   unfolding point_of coordinates_of placed
   point_again p = rw (three_words (fixed_text decimals p.x) (fixed_text decimals p.y) (fixed_text decimals p.z), coordinate_again decimals places p.x p.in_box.x_fits, coordinate_again decimals places p.y p.in_box.y_fits, coordinate_again decimals places p.z p.in_box.z_fits) refl
 
-  abbrev point_first : Point → List ℕ
-  point_first p = fixed_text decimals p.x
-
-  abbrev point_others : Point → List (List ℕ)
-  point_others p = fixed_text decimals p.y ∷ fixed_text decimals p.z ∷ []
-
-  abbrev with_point : Lists → Point → Lists
-  with_point lists p = record { points = lists.points ++ position_of p ∷ []; faces = lists.faces }
-
-  abbrev at_point : List Point → Lists → Progress
-  at_point ps lists = rows_from (length ps) count lists
-
-  point_adds : (p : Point) (ps : List Point) (lists : Lists) → words_add decimals (at_point (p ∷ ps) lists) (point_words decimals (position_of p)) ≡ Ok (at_point ps (with_point lists p))
+  point_adds : (p : Point) → PointAdds (words_add decimals) rows_from decimals count p
   unfolding words_add wanted_adds row_adds
   point_adds p ps lists =
       let some : eqb (length (p ∷ ps)) 0 ≡ false = ne_eqb _ _ (omega arith) in
       let one_less : length (p ∷ ps) - 1 ≡ length ps = omega arith in
       rw (some, point_again p, one_less) refl
-
-  each_point_adds : (ps : List Point) → AllByRecursion (Adds (words_add decimals) point_first point_others at_point with_point) ps
-  each_point_adds [] = tt
-  each_point_adds (p ∷ ps) = (record { spelled = spelled_point decimals places p; adds = point_adds p }, each_point_adds ps)
-
-  points_after : (lists : Lists) (ps : List Point) → lists_after (words_add decimals) point_first point_others at_point with_point lists ps ≡ record { points = lists.points ++ map position_of ps; faces = lists.faces }
-  points_after lists [] = ap (λ ps. record { points = ps; faces = lists.faces }) (sym (append-nil lists.points))
-  points_after lists (p ∷ ps) = points_after (with_point lists p) ps ∙ ap (λ xs. record { points = xs; faces = lists.faces }) (append_assoc lists.points (position_of p ∷ []) (map position_of ps))
 
 -- ---- faces
 
@@ -89,51 +70,12 @@ face_again : (a b c : ℕ) → IsCorner a → IsCorner b → IsCorner c → face
 unfolding face_of sized_ring_of has_words
 face_again a b c i j k = rw (three_again, four_words (decimal (a - 1)) (decimal (b - 1)) (decimal (c - 1))) (ring_again a b c i j k)
 
-module _ (decimals : ℕ) where
-  abbrev face_others : List ℕ → List (List ℕ)
-  face_others corners = map (λ c. decimal (c - 1)) corners
-
-  abbrev with_face : Lists → List ℕ → Lists
-  with_face lists f = record { points = lists.points; faces = lists.faces ++ f ∷ [] }
-
-  abbrev at_face : List (List ℕ) → Lists → Progress
-  at_face fs lists = rows_from 0 (length fs) lists
-
-  face_adds : (a b c : ℕ) → IsCorner a → IsCorner b → IsCorner c → (fs : List (List ℕ)) (lists : Lists) → words_add decimals (at_face ((a ∷ b ∷ c ∷ []) ∷ fs) lists) (face_words (a ∷ b ∷ c ∷ [])) ≡ Ok (at_face fs (with_face lists (a ∷ b ∷ c ∷ [])))
-  unfolding words_add wanted_adds row_adds
-  face_adds a b c i j k fs lists =
-      let some : eqb (length ((a ∷ b ∷ c ∷ []) ∷ fs)) 0 ≡ false = ne_eqb _ _ (omega arith) in
-      let one_less : length ((a ∷ b ∷ c ∷ []) ∷ fs) - 1 ≡ length fs = omega arith in
-      rw (some, face_again a b c i j k, one_less) refl
-
-  abbrev FaceAdds : List ℕ → Type 0
-  FaceAdds = Adds (words_add decimals) (λ f. codes "3") face_others at_face with_face
-
-  module _ (n : ℕ) (small : n ≤ VERTICES_MAX) where
-    three : (f : List ℕ) → length f ≡ 3 → bad_corner n (changes.corners_of f) ≡ None → FaceAdds f
-    three [] h good = absurd (omega arith)
-    three (a ∷ []) h good = absurd (omega arith)
-    three (a ∷ b ∷ []) h good = absurd (omega arith)
-    three (a ∷ b ∷ c ∷ d ∷ more) h good = absurd (omega arith)
-    three (a ∷ b ∷ c ∷ []) h good =
-        let all = all_vertices n (changes.corners_of (a ∷ b ∷ c ∷ [])) good in
-        let i = between n a all.0 in
-        let j = between n b all.1 in
-        let k = between n c all.2 in
-        let ca : IsCorner a = record { low = i.0; high = omega arith } in
-        let cb : IsCorner b = record { low = j.0; high = omega arith } in
-        let cc' : IsCorner c = record { low = k.0; high = omega arith } in
-        record { spelled = spelled_face a b c ca cb cc'; adds = face_adds a b c ca cb cc' }
-
-    each_face_adds : (m : ℕ) (fs : List (List ℕ)) → AllByRecursion (λ f. length f ≡ 3) fs → no_vertex_from n m fs ≡ None → AllByRecursion FaceAdds fs
-    each_face_adds m [] sizes h = tt
-    each_face_adds m (f ∷ fs) sizes h =
-        let parts = none_of _ (no_vertex_from n (m + 1) fs) h in
-        (three f sizes.0 (none_mapped _ _ parts.0), each_face_adds (m + 1) fs sizes.1 parts.1)
-
-  faces_after : (lists : Lists) (fs : List (List ℕ)) → lists_after (words_add decimals) (λ f. codes "3") face_others at_face with_face lists fs ≡ record { points = lists.points; faces = lists.faces ++ fs }
-  faces_after lists [] = ap (λ fs. record { points = lists.points; faces = fs }) (sym (append-nil lists.faces))
-  faces_after lists (f ∷ fs) = faces_after (with_face lists f) fs ∙ ap (λ xs. record { points = lists.points; faces = xs }) (append_assoc lists.faces (f ∷ []) fs)
+face_adds : (decimals a b c : ℕ) → IsCorner a → IsCorner b → IsCorner c → FaceAdds (words_add decimals) rows_from decimals a b c
+unfolding words_add wanted_adds row_adds
+face_adds decimals a b c i j k fs lists =
+    let some : eqb (length ((a ∷ b ∷ c ∷ []) ∷ fs)) 0 ≡ false = ne_eqb _ _ (omega arith) in
+    let one_less : length ((a ∷ b ∷ c ∷ []) ∷ fs) - 1 ≡ length fs = omega arith in
+    rw (some, face_again a b c i j k, one_less) refl
 
 -- ---- the head
 
@@ -225,8 +167,6 @@ whole points faces decimals good sizes places =
     let f = length faces in
     let few_v : v < 10 ^ 10 = omega arith in
     let few_f : f < 10 ^ 10 = omega arith in
-    let nothing : Lists = record { points = []; faces = [] } in
-    let placed_lists : Lists = record { points = map position_of points; faces = [] } in
     let lists : Lists = record { points = map position_of points; faces = faces } in
     let faces_text = flat_map (λ c. line_of_words (face_words c)) faces in
     let rows = flat_map (λ p. line_of_words (point_words decimals (position_of p))) points ++ faces_text in
@@ -236,11 +176,7 @@ whole points faces decimals good sizes places =
     ap (λ (t : List ℕ). lines_add (words_add decimals) start (numbered_lines 1 t)) text
     ∙ head_adds decimals (length (map position_of points)) f few_same few_f rows
     ∙ ap (λ (k : ℕ). lines_add (words_add decimals) (rows_from k f nothing) (numbered_lines 10 rows)) same
-    ∙ items_add (words_add decimals) (point_first decimals places f) (point_others decimals places f) (at_point decimals places f) (with_point decimals places f) points (each_point_adds decimals places f points) nothing 10 faces_text
-    ∙ ap (λ (l : Lists). lines_add (words_add decimals) (rows_from 0 f l) (numbered_lines (10 + v) faces_text)) (points_after decimals places f nothing points)
-    ∙ ap (λ (t : List ℕ). lines_add (words_add decimals) (rows_from 0 f placed_lists) (numbered_lines (10 + v) t)) (sym (append-nil faces_text))
-    ∙ items_add (words_add decimals) (λ c. codes "3") (face_others decimals) (at_face decimals) (with_face decimals) faces (each_face_adds decimals v few_points 1 faces sizes none_wrong.corners) placed_lists (10 + v) []
-    ∙ ap (λ (l : Lists). Ok (rows_from 0 0 l)) (faces_after decimals placed_lists faces)
+    ∙ rows_add (words_add decimals) rows_from decimals places points faces 10 (point_adds decimals places f) (face_adds decimals) few_points sizes none_wrong.corners
 
 pub ply_is_read_lem : PlyIsRead
 unfolding lists_of

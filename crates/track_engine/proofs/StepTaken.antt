@@ -1,5 +1,5 @@
 -- What a step that is chosen and said is.
-use Rattle.std.proofs.Common.{◌≡◌, ℕ, ◌+◌, not, List, Option, None, Ok, Err, ap, sym, ◌∙◌, subst, inr}
+use Rattle.std.proofs.Common.{◌≡◌, ℕ, ◌+◌, not, List, [], ◌∷◌, ◌++◌, Option, None, Ok, Err, refl, ap, sym, ◌∙◌, subst, inr}
 use Rattle.grid_decided.specs.Decided.{meets_exactly}
 use Rattle.mesh_base.specs.declared.PairName.{PairName}
 use Rattle.mesh_base.specs.Mesh.{Mesh}
@@ -9,13 +9,15 @@ use Rattle.step_choose.specs.declared.Choice.{Choice}
 use Rattle.step_choose.specs.Choice.{Way, way_taken}
 use Rattle.step_choose.specs.Chosen.{way_of}
 use Rattle.log_text.specs.declared.LogLine.{LogLine}
+use Rattle.log_text.specs.declared.LogLine.TheVariants.{Step as StepLine}
 use Rattle.log_text.specs.Lines.{text_of_lines}
 use Rattle.step_text.specs.declared.Directive.TheVariants.{Step}
 use Rattle.outside_io.specs.Sink.{appended}
 use Rattle.track_engine.specs.declared.stop.Stop.{Stop}
 use Rattle.track_engine.specs.State.{Group, State}
 use Rattle.log_write.specs.Written.{WrittenInPart}
-use Rattle.track_engine.specs.Effects.{Proceeds, effect_of, step_effect, first_outside, hits, taken, moved_mesh, all_still, is_whole, fail_if, lines_of_step, step_lines, after_step}
+use Rattle.log_write.proofs.WrittenLines.{written_then, written_nothing, part_then, part_more}
+use Rattle.track_engine.specs.Effects.{Proceeds, effect_of, step_effect, first_outside, hits, taken, moved_mesh, all_still, is_whole, fail_if, hit_lines, way_lines, step_lines, after_step}
 use Rattle.track_engine.specs.Parts.{StepTakes}
 
 hits_are : (s : State) (pairs : List PairName) → pairs ≡ failing meets_exactly s.mesh s.asked s.set.depth → pairs ≡ hits s
@@ -26,9 +28,32 @@ way_is : (s : State) (way : Way) → way ≡ way_taken meets_exactly s.mesh s.as
 unfolding taken
 way_is s way e = e
 
+-- the line that tells that a step begins
+abbrev pub begin_line : State → List LogLine
+begin_line s = StepLine (s.steps + 1) ∷ []
+
+-- ---- a step that stops before it is chosen
+
+module _ (s : State) (inside : first_outside s.mesh s.asked ≡ None) where
+  goes : effect_of None Step s ≡ Proceeds (step_lines s) (after_step s)
+  goes = ap (λ o. step_effect o s) inside
+
+  abbrev others : List LogLine
+  others = hit_lines (hits s) ++ way_lines (taken s)
+
+  -- its first line is written in part
+  pub step_begins_in_part : (t : State) (stop : Stop) (old new : Option (List ℕ)) → WrittenInPart old new (begin_line s) → StepTakes s t old new (Err stop)
+  step_begins_in_part t stop old new part = inr (goes, part_more old new (begin_line s) others part)
+
+  -- its first line is written
+  pub step_begins : (t : State) (stop : Stop) (old new : Option (List ℕ)) → new ≡ appended old (text_of_lines (begin_line s)) → StepTakes s t old new (Err stop)
+  step_begins t stop old new said = inr (goes, part_then old new new (begin_line s) others said (written_nothing new new others refl))
+
+-- ---- a step that is chosen
+
 module _ (s : State) (choice : Choice) (inside : first_outside s.mesh s.asked ≡ None) (found : choice.hits ≡ failing meets_exactly s.mesh s.asked s.set.depth) (chosen : way_of choice ≡ way_taken meets_exactly s.mesh s.asked s.set) where
-  lines_are : lines_of_step (s.steps + 1) choice.hits (way_of choice) ≡ step_lines s
-  lines_are = ap (λ pairs. lines_of_step (s.steps + 1) pairs (way_of choice)) (hits_are s choice.hits found) ∙ ap (lines_of_step (s.steps + 1) (hits s)) (way_is s (way_of choice) chosen)
+  others_are : hit_lines choice.hits ++ way_lines (way_of choice) ≡ hit_lines (hits s) ++ way_lines (taken s)
+  others_are = ap (λ pairs. hit_lines pairs ++ way_lines (way_of choice)) (hits_are s choice.hits found) ∙ ap (λ way. hit_lines (hits s) ++ way_lines way) (way_is s (way_of choice) chosen)
 
   after_is : (m : Mesh) (still : Shifts) → (groups : List Group) → m ≡ moved_mesh s.mesh choice.taken → still ≡ all_still s.asked → groups ≡ fail_if (not (is_whole choice.how)) s.groups
       → ◌≡◌ {A = State} (record s { mesh = m; asked = still; steps = s.steps + 1; groups = groups }) (after_step s)
@@ -37,17 +62,18 @@ module _ (s : State) (choice : Choice) (inside : first_outside s.mesh s.asked �
       let fails : groups ≡ fail_if (not (is_whole (taken s).how)) s.groups = failed ∙ ap (λ (w : Way). fail_if (not (is_whole w.how)) s.groups) (way_is s (way_of choice) chosen) in
       λ i. record s { mesh = mesh i; asked = rest i; steps = s.steps + 1; groups = fails i }
 
-  goes : effect_of None Step s ≡ Proceeds (step_lines s) (after_step s)
-  goes = ap (λ o. step_effect o s) inside
-
-  pub step_taken : (m : Mesh) (still : Shifts) (groups : List Group) (old new : Option (List ℕ)) → m ≡ moved_mesh s.mesh choice.taken → still ≡ all_still s.asked → groups ≡ fail_if (not (is_whole choice.how)) s.groups → new ≡ appended old (text_of_lines (lines_of_step (s.steps + 1) choice.hits (way_of choice)))
+  pub step_taken : (m : Mesh) (still : Shifts) (groups : List Group) (old mid new : Option (List ℕ)) → m ≡ moved_mesh s.mesh choice.taken → still ≡ all_still s.asked → groups ≡ fail_if (not (is_whole choice.how)) s.groups
+      → mid ≡ appended old (text_of_lines (begin_line s)) → new ≡ appended mid (text_of_lines (hit_lines choice.hits ++ way_lines (way_of choice)))
       → StepTakes s (record s { mesh = m; asked = still; steps = s.steps + 1; groups = groups }) old new (Ok None)
-  step_taken m still groups old new moved rest failed said =
-      let after = after_is m still groups moved rest failed in (
-        goes ∙ ap (Proceeds (step_lines s)) (sym after),
+  step_taken m still groups old mid new moved rest failed begun said =
+      let after = after_is m still groups moved rest failed in
+      let lines = said ∙ ap (λ (l : List LogLine). appended mid (text_of_lines l)) others_are in (
+        goes s inside ∙ ap (Proceeds (step_lines s)) (sym after),
         after,
-        said ∙ ap (λ (l : List LogLine). appended old (text_of_lines l)) lines_are,
+        written_then old mid new (begin_line s) (others s inside) begun lines,
       )
 
-  pub step_in_part : (t : State) (stop : Stop) (old new : Option (List ℕ)) → WrittenInPart old new (lines_of_step (s.steps + 1) choice.hits (way_of choice)) → StepTakes s t old new (Err stop)
-  step_in_part t stop old new part = let P : List LogLine → Type 0 = λ l. WrittenInPart old new l in inr (goes, subst P lines_are part)
+  pub step_in_part : (t : State) (stop : Stop) (old mid new : Option (List ℕ)) → mid ≡ appended old (text_of_lines (begin_line s)) → WrittenInPart mid new (hit_lines choice.hits ++ way_lines (way_of choice)) → StepTakes s t old new (Err stop)
+  step_in_part t stop old mid new begun part =
+      let P : List LogLine → Type 0 = λ l. WrittenInPart mid new l in
+      inr (goes s inside, part_then old mid new (begin_line s) (others s inside) begun (subst P others_are part))

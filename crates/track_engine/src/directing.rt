@@ -16,16 +16,18 @@ ghost use Rattle.track_engine.specs.Invariant.{IsRunInvariant, MarksHold, left_b
 
 use crate::driving::{drive, field_of};
 use crate::grouping::{close_group, open_group};
+use crate::lines::say;
 use crate::placing::{first_outside, place_all};
 use crate::run_state::RunState;
 use crate::saving::save;
 use crate::shifting::{all_summed, asked_in, no_shifts, sum_one};
 use crate::solids::take_solid;
-use crate::stepping::say_step;
+use crate::stepping::say_choice;
 use crate::stop::Stop;
 use crate::target::Target;
 use edit_base::PassKind;
 use grid_base::{Point, Shift};
+use log_text::LogLine;
 use mesh_field::Fields;
 use mesh_plain::{How, Surface, UseWhy};
 use outside_io::{Desk, Sink};
@@ -66,7 +68,8 @@ fn is_whole(how: How) -> bool
     }
 }
 
-// A step is taken, or a vertex would leave the box. One that is not taken whole makes the innermost open group fail.
+// A step is taken, or a vertex would leave the box. Its first line is written before its pairs are tested, so that who reads the log sees
+// that it is under way. One that is not taken whole makes the innermost open group fail.
 fn take_step<S: Surface, K: Sink>(
     alloc: Global,
     mesh: &mut S,
@@ -91,6 +94,8 @@ fn take_step<S: Surface, K: Sink>(
     if let Some(v) = first_outside(mesh, run.asked.as_slice()) {
         return Ok(Some(UseWhy::Box { v: v.0 }));
     }
+    let k = run.steps + 1;
+    say(alloc, out, &LogLine::Step { k })?;
     let Ok(choice) = choose(alloc, mesh, &run.asked, &run.set) else {
         return Err(Stop::NoMemory);
     };
@@ -100,9 +105,9 @@ fn take_step<S: Surface, K: Sink>(
     if place_all(mesh, choice.taken.as_slice()).is_err() {
         return Err(Stop::NoMemory);
     }
-    say_step(alloc, run.steps + 1, &choice, out)?;
+    say_choice(alloc, &choice, out)?;
     run.asked = still;
-    run.steps += 1;
+    run.steps = k;
     run.groups.fail_if(!is_whole(choice.how));
     Ok(None)
 }

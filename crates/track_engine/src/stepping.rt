@@ -1,8 +1,8 @@
-ghost use Rattle.std.specs.Prelude.{◌≡◌, ◌≤◌, ◌∷◌, [], IsErrOf};
+ghost use Rattle.std.specs.Prelude.{◌≡◌, ◌≤◌, ◌∷◌, ◌++◌, [], IsErrOf};
 ghost use Rattle.log_text.specs.declared.LogLine.TheVariants.{Block};
 ghost use Rattle.step_choose.specs.Chosen.{way_of};
 ghost use Rattle.outside_io.specs.Causes.{Rose};
-ghost use Rattle.track_engine.specs.Effects.{hit_lines, block_lines, move_lines, way_lines, lines_of_step};
+ghost use Rattle.track_engine.specs.Effects.{hit_lines, block_lines, move_lines, way_lines};
 ghost use Rattle.log_write.specs.Written.{Written};
 
 use crate::lines::say;
@@ -93,19 +93,14 @@ fn say_way<K: Sink>(alloc: Global, choice: &Choice, out: &mut K) -> Result<(), S
     Ok(())
 }
 
-/// The lines of step `k`, taken as it was chosen.
-pub(crate) fn say_step<K: Sink>(
-    alloc: Global,
-    k: u32,
-    choice: &Choice,
-    out: &mut K,
-) -> Result<(), Stop>
-    ensures said { Written (K.written out.old) (K.written out.new) (lines_of_step k choice.now.hits (way_of choice.now)) result }
+/// The lines of a step after its first, taken as it was chosen: the pairs that do not pass, and the way.
+pub(crate) fn say_choice<K: Sink>(alloc: Global, choice: &Choice, out: &mut K) -> Result<(), Stop>
+    ensures said { let lines = hit_lines choice.now.hits ++ way_lines (way_of choice.now) in
+        Written (K.written out.old) (K.written out.new) lines result }
     ensures later { K.faults out.old ≤ K.faults out.new }
     ensures cause { IsErrOf result Stop.SinkFault → Rose (K.faults out.old) (K.faults out.new) }
     ensures desk { IsErrOf result Stop.DeskFault → ⊥ }
 {
-    say(alloc, out, &LogLine::Step { k })?;
     say_hits(alloc, choice.hits.as_slice(), out)?;
     say_way(alloc, choice, out)?;
     Ok(())

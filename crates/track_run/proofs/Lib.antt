@@ -3,3 +3,4 @@ mod CauseLemmas
 mod Agreeing
 mod ReadBack
 mod TopLemmas
+mod Completeness

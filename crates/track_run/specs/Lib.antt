@@ -5,3 +5,4 @@ pub mod Causes
 pub mod Reached
 pub mod Outcomes
 pub mod Headline
+pub mod Complete

@@ -2,6 +2,7 @@
 //! replayed.
 #![tactic(auto)]
 
+pub mod laws;
 mod outcome;
 mod top;
 

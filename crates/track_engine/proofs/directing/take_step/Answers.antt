@@ -10,7 +10,7 @@ use Rattle.track_engine.specs.Groups.{failed_if}
 use Rattle.track_engine.proofs.OpenMarks.{groups_failed_along, marks_along, marks_failed_along}
 use Rattle.track_engine.specs.Placing.{AreLive, CanPlace}
 use Rattle.track_engine.proofs.StepLemmas.{asked_are_live, all_inside, can_place_taken, still_is}
-use Rattle.track_engine.proofs.StepTaken.{step_taken, step_in_part}
+use Rattle.track_engine.proofs.StepTaken.{step_begins, step_begins_in_part, step_taken, step_in_part}
 use Rattle.track_engine.proofs.directing.take_step.Goals as goal
 
 pub first_outside-requires : goal.first_outside-requires
@@ -30,12 +30,20 @@ place_all-requires g c =
     let P : Shifts → Type 0 = λ taken. CanPlace m taken in
     subst P (sym c.as_slice-2.ensures) (can_place_taken m c.in-Ok.choice.taken c.in-Ok.ensures.names c.in-Ok.ensures.ends)
 
-pub returns-in_err-say_step-clause-takes : goal.returns-in_err-say_step-clause-takes
-returns-in_err-say_step-clause-takes g c =
+pub returns-in_err-say-clause-takes : goal.returns-in_err-say-clause-takes
+returns-in_err-say-clause-takes g c =
     let p = err_from_is_err_and c.from_residual.result c.from_residual.ensures.1 in
     let m = g.S.Surface.mesh c.args.mesh.now in
     let inside : first_outside m c.args.run.now.asked ≡ None = ap (first_outside m) (sym c.as_slice.ensures) ∙ sym c.first_outside.ensures ∙ c.in_default.is in
-    rw p.1 (step_in_part (state_of m (g.S.Surface.kept c.args.mesh.now) c.args.run.now) c.in-Ok.choice inside c.in-Ok.ensures.hits c.in-Ok.ensures.way (state_of (g.S.Surface.mesh c.place_all.new.mesh) (g.S.Surface.kept c.place_all.new.mesh) c.args.run.now) p.0 _ _ c.in_err-say_step.ensures.said)
+    let s = state_of m (g.S.Surface.kept c.args.mesh.now) c.args.run.now in
+    rw p.1 (step_begins_in_part s inside s p.0 _ _ c.in_err-say.ensures.said)
+
+pub returns-in_err-say_choice-clause-takes : goal.returns-in_err-say_choice-clause-takes
+returns-in_err-say_choice-clause-takes g c =
+    let p = err_from_is_err_and c.from_residual-in_err-say_choice.result c.from_residual-in_err-say_choice.ensures.1 in
+    let m = g.S.Surface.mesh c.args.mesh.now in
+    let inside : first_outside m c.args.run.now.asked ≡ None = ap (first_outside m) (sym c.as_slice.ensures) ∙ sym c.first_outside.ensures ∙ c.in_default.is in
+    rw p.1 (step_in_part (state_of m (g.S.Surface.kept c.args.mesh.now) c.args.run.now) c.in-Ok.choice inside c.in-Ok.ensures.hits c.in-Ok.ensures.way (state_of (g.S.Surface.mesh c.place_all.new.mesh) (g.S.Surface.kept c.place_all.new.mesh) c.args.run.now) p.0 _ _ _ c.in_ok-say.ensures.said c.in_err-say_choice.ensures.said)
 
 pub returns-clause-takes : goal.returns-clause-takes
 returns-clause-takes g c =
@@ -44,14 +52,14 @@ returns-clause-takes g c =
     let moved : g.S.Surface.mesh c.place_all.new.mesh ≡ moved_mesh m c.as_slice-2.result.now = search rules in
     let begins : BeginsWith (g.S.Surface.kept c.place_all.new.mesh) (g.S.Surface.kept c.args.mesh.now) = c.place_all.ensures.marks in
     let failed = ap (groups_of (g.S.Surface.kept c.place_all.new.mesh)) (c.fail_if.ensures ∙ ap (λ b. failed_if (not b) c.args.run.now.groups) c.is_whole.ensures) ∙ groups_failed_along g.S.Surface.beyond _ _ _ c.args.run.now.groups begins c.requires.marks in
-    step_taken (state_of m (g.S.Surface.kept c.args.mesh.now) c.args.run.now) c.in-Ok.choice inside c.in-Ok.ensures.hits c.in-Ok.ensures.way (g.S.Surface.mesh c.place_all.new.mesh) c.in-Ok-no_shifts.still (groups_of (g.S.Surface.kept c.place_all.new.mesh) c.fail_if.new.self) _ _
-    (moved ∙ ap (moved_mesh m) c.as_slice-2.ensures) (c.in-Ok-no_shifts.ensures ∙ still_is m c.args.run.now.asked c.requires.kept.now.names) failed c.in_ok-say_step.ensures.said
+    step_taken (state_of m (g.S.Surface.kept c.args.mesh.now) c.args.run.now) c.in-Ok.choice inside c.in-Ok.ensures.hits c.in-Ok.ensures.way (g.S.Surface.mesh c.place_all.new.mesh) c.in-Ok-no_shifts.still (groups_of (g.S.Surface.kept c.place_all.new.mesh) c.fail_if.new.self) _ _ _
+    (moved ∙ ap (moved_mesh m) c.as_slice-2.ensures) (c.in-Ok-no_shifts.ensures ∙ still_is m c.args.run.now.asked c.requires.kept.now.names) failed c.in_ok-say.ensures.said c.in_ok-say_choice.ensures.said
 
 pub returns-then-is_err-clause-marks : goal.returns-then-is_err-clause-marks
 returns-then-is_err-clause-marks g c = marks_along g.S.Surface.beyond (g.S.Surface.kept c.place_all.new.mesh) (g.S.Surface.kept c.args.mesh.now) c.args.run.now.groups c.place_all.ensures.marks c.requires.marks
 
-pub returns-in_err-say_step-clause-marks : goal.returns-in_err-say_step-clause-marks
-returns-in_err-say_step-clause-marks g c = marks_along g.S.Surface.beyond (g.S.Surface.kept c.place_all.new.mesh) (g.S.Surface.kept c.args.mesh.now) c.args.run.now.groups c.place_all.ensures.marks c.requires.marks
+pub returns-in_err-say_choice-clause-marks : goal.returns-in_err-say_choice-clause-marks
+returns-in_err-say_choice-clause-marks g c = marks_along g.S.Surface.beyond (g.S.Surface.kept c.place_all.new.mesh) (g.S.Surface.kept c.args.mesh.now) c.args.run.now.groups c.place_all.ensures.marks c.requires.marks
 
 pub returns-clause-marks : goal.returns-clause-marks
 returns-clause-marks g c =

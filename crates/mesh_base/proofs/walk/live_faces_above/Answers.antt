@@ -1,11 +1,11 @@
-use Rattle.std.proofs.Common.{◌≡◌, ◌++◌, [], ◌∷◌, Some, append_assoc, append-nil, ap, sym, ◌∙◌, arith}
+use Rattle.std.proofs.Common.{◌≡◌, ◌++◌, [], ◌∷◌, Some, append_assoc, append-nil, ap, refl, sym, ◌∙◌, arith}
 use Rattle.std.specs.FinMap as map
 use Rattle.mesh_base.specs.Sides.{above}
 use Rattle.mesh_base.proofs.WalkSteps.{above-step, above-end}
-use Rattle.edit_check.proofs.reach.fresh_faces.Goals as goal
+use Rattle.mesh_base.proofs.walk.live_faces_above.Goals as goal
 
 pub loop-f-init : goal.loop-f-init
-loop-f-init g c = rw c.new-ids.ensures (ap (λ n. above n (map.keys (g.S.Surface.mesh c.args.mesh.now).faces)) c.saturating_sub-last.ensures)
+loop-f-init g c = rw c.new-ids.ensures refl
 
 pub loop-f-smaller : goal.loop-f-smaller
 loop-f-smaller g c =
