@@ -50,28 +50,59 @@ abbrev pub is_split_line : LogLine → Bool
 is_split_line (Did (Split a b w at)) = true
 is_split_line _ = false
 
+-- how many lines a log has, and how many of them are of each of these kinds
+pub record Counts : Type 0 where
+  pub lines : ℕ
+  pub steps : ℕ
+  pub whole_steps : ℕ
+  pub splits : ℕ
+
+-- the counts of these lines
+abbrev pub counts_of : List LogLine → Counts
+counts_of lines = record {
+  lines = length lines;
+  steps = count_by is_step_line lines;
+  whole_steps = count_by is_whole_step_line lines;
+  splits = count_by is_split_line lines;
+}
+
 -- ---- the summary
 
--- how many lines of a log are of a kind, as digits; a count stands still at 2 ^ 64 - 1, which no log reaches
-abbrev pub count_word : (LogLine → Bool) → List LogLine → List ℕ
-count_word kind lines = decimal (capped (count_by kind lines))
+-- a count as digits; it stands still at 2 ^ 64 - 1, which no log reaches
+abbrev pub count_word : ℕ → List ℕ
+count_word count = decimal (capped count)
 
--- where vertex 1 stands; there is no such line where it does not live
+-- the lines that tell the job: what was asked for, and how many cubes there are
+abbrev pub job_text : ℕ → ℕ → List ℕ
+job_text n key =
+    line_of_words (codes "try" ∷ decimal n ∷ decimal key ∷ [])
+    ++ line_of_words (codes "cubes" ∷ decimal (n * n * n) ∷ [])
+
+-- the lines that tell the steps, those of them that were taken whole, and the splits
+abbrev pub kinds_text : Counts → List ℕ
+kinds_text counts =
+    line_of_words (codes "steps" ∷ count_word counts.steps ∷ codes "whole" ∷ count_word counts.whole_steps ∷ [])
+    ++ line_of_words (codes "splits" ∷ count_word counts.splits ∷ [])
+
+-- the line that tells where vertex 1 stands; where it does not live nothing is told of it, and there is no such line
 abbrev pub corner_text : Option Point → List ℕ
 corner_text (Some p) = line_of_words (codes "corner" ∷ point_words p)
 corner_text None = []
 
--- what a summary tells of the job of so many cubes and this key, with the log and the mesh to which it led
-abbrev pub summary_text : ℕ → ℕ → List LogLine → Mesh → List ℕ
-summary_text n key lines m =
-    line_of_words (codes "try" ∷ decimal n ∷ decimal key ∷ [])
-    ++ line_of_words (codes "cubes" ∷ decimal (n * n * n) ∷ [])
-    ++ line_of_words (codes "steps" ∷ count_word is_step_line lines ∷ codes "whole" ∷ count_word is_whole_step_line lines ∷ [])
-    ++ line_of_words (codes "splits" ∷ count_word is_split_line lines ∷ [])
-    ++ line_of_words (codes "mesh" ∷ decimal (finite.len m.points) ∷ decimal (finite.len m.faces) ∷ [])
+-- the lines that tell the mesh: its live vertices and faces, and where vertex 1 stands
+abbrev pub end_text : Mesh → List ℕ
+end_text m =
+    line_of_words (codes "mesh" ∷ decimal (finite.len m.points) ∷ decimal (finite.len m.faces) ∷ [])
     ++ corner_text (finite.get m.points 1)
-    ++ line_of_words (codes "lines" ∷ decimal (capped (length lines)) ∷ [])
+
+-- the line that tells how long the log is
+abbrev pub length_text : Counts → List ℕ
+length_text counts = line_of_words (codes "lines" ∷ count_word counts.lines ∷ [])
+
+-- a summary: the job, the counts of its log, and the mesh at its end
+abbrev pub summary_text : ℕ → ℕ → Counts → Mesh → List ℕ
+summary_text n key counts m = job_text n key ++ kinds_text counts ++ end_text m ++ length_text counts
 
 -- the summary of the job of cubes, by its log and by the mesh to which the replay of the log leads
 abbrev pub summary_of : ℕ → ℕ → List ℕ
-summary_of n key = summary_text n key (log_of_cubes n key) (replay_of_cubes n key).mesh
+summary_of n key = summary_text n key (counts_of (log_of_cubes n key)) (replay_of_cubes n key).mesh

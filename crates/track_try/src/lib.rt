@@ -2,6 +2,9 @@
 #![tactic(auto)]
 
 mod faults;
+pub mod laws;
+mod running;
+mod summing;
 mod trying;
 
 pub use faults::TryFault;

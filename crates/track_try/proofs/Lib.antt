@@ -1,0 +1,3 @@
+pub mod NoEnds
+pub mod Kinds
+pub mod Counts
