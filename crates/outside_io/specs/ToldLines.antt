@@ -24,6 +24,10 @@ ended_lines text = ended_behind [] text
 abbrev pub open_line : List ℕ → List ℕ
 open_line text = open_behind [] text
 
+-- whether a line tells that a step begins
+abbrev pub tells_step : List ℕ → Bool
+tells_step line = starts_with nat_eq line (codes "step ")
+
 -- whether a line tells a step that is taken with the asked shifts
 abbrev pub tells_whole_step : List ℕ → Bool
 tells_whole_step line = bytes_eq line (codes "moved whole")
@@ -32,9 +36,12 @@ tells_whole_step line = bytes_eq line (codes "moved whole")
 abbrev pub tells_split : List ℕ → Bool
 tells_split line = starts_with nat_eq line (codes "split ")
 
--- how many lines of a text have ended, and how many of them tell such a step, or a split
+-- how many lines of a text have ended, and how many of them tell a step, such a step, or a split
 abbrev pub lines_in : List ℕ → ℕ
 lines_in text = length (ended_lines text)
+
+abbrev pub steps_in : List ℕ → ℕ
+steps_in text = count_by tells_step (ended_lines text)
 
 abbrev pub whole_steps_in : List ℕ → ℕ
 whole_steps_in text = count_by tells_whole_step (ended_lines text)

@@ -5,11 +5,12 @@ ghost use Rattle.outside_io.specs.ToldLines.{LF, capped};
 // How many of a line's first bytes are kept: more than tell one kind of line from the others.
 const KEPT: usize = 12;
 
-// How many lines have ended, how many of them tell a step that is taken whole, and how many a split; and the first bytes of the
-// line that has not ended.
+// How many lines have ended, how many of them tell a step, how many one that is taken whole, and how many a split; and the first
+// bytes of the line that has not ended.
 #[derive(Clone, Copy)]
 pub(crate) struct LineCounts {
     pub(crate) lines: u64,
+    pub(crate) steps: u64,
     pub(crate) whole_steps: u64,
     pub(crate) splits: u64,
     front: [u8; KEPT],
@@ -38,6 +39,7 @@ impl LineCounts {
     {
         LineCounts {
             lines: 0,
+            steps: 0,
             whole_steps: 0,
             splits: 0,
             front: [0; KEPT],
@@ -50,9 +52,11 @@ impl LineCounts {
         ensures { (text : List ℕ) → AreOf self.old text → AreOf self.new (text ++ LF ∷ []) }
     {
         let front = &self.front[..self.len];
+        let is_step = front.starts_with(b"step ");
         let is_whole_step = front == b"moved whole".as_slice();
         let is_split = front.starts_with(b"split ");
         self.lines = counted(self.lines, true);
+        self.steps = counted(self.steps, is_step);
         self.whole_steps = counted(self.whole_steps, is_whole_step);
         self.splits = counted(self.splits, is_split);
         self.len = 0;

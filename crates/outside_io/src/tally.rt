@@ -3,7 +3,7 @@ ghost use Rattle.std.specs.Prelude.{◌≡◌, ◌<◌, ◌≤◌, ◌-◌, ◌^
 ghost use Rattle.std.proofs.Common.{lit≤};
 ghost use Rattle.outside_io.specs.Causes.{HasCause};
 ghost use Rattle.outside_io.specs.Counted.{AreOf};
-ghost use Rattle.outside_io.specs.ToldLines.{lines_in, whole_steps_in, splits_in, capped};
+ghost use Rattle.outside_io.specs.ToldLines.{lines_in, steps_in, whole_steps_in, splits_in, capped};
 ghost use Rattle.outside_io.specs.Desk.{HoldsFile, with_file};
 ghost use Rattle.outside_io.specs.Sink.{appended};
 
@@ -38,6 +38,13 @@ impl TallySink {
         ensures { result ≡ capped (lines_in (told_to self.now)) }
     {
         self.counts.lines
+    }
+
+    /// How many of them tell that a step begins.
+    pub fn steps(&self) -> u64
+        ensures { result ≡ capped (steps_in (told_to self.now)) }
+    {
+        self.counts.steps
     }
 
     /// How many of them tell a step that is taken with the asked shifts.

@@ -1,0 +1,5 @@
+pub mod NoEnds
+pub mod Kinds
+pub mod Counts
+pub mod Running
+pub mod OfCubes

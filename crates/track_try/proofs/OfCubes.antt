@@ -1,0 +1,80 @@
+-- The job of cubes may be run, and its summary is that of its log.
+use Rattle.std.proofs.Common.{◌≡◌, ℕ, ◌+◌, ◌*◌, ◌^◌, ◌<◌, ◌≤◌, List, [], ◌∷◌, ◌++◌, map, length, refl, sym, ap, ◌∙◌, subst, arith, None, length-append}
+use Rattle.std.specs.List.{enumerate_from}
+use Rattle.std.proofs.lemmas.List.{length-map}
+use Rattle.std.proofs.lemmas.List.FromFn.{length-map-range_with_len}
+use Rattle.grid_base.specs.declared.grid.Point.{Point}
+use Rattle.grid_base.specs.Points.{position_of, point_at}
+use Rattle.grid_base.proofs.PointLaws.{point_at-position_of}
+use Rattle.mesh_base.specs.declared.MeshLists.{MeshLists}
+use Rattle.mesh_base.specs.Given.{mesh_of}
+use Rattle.mesh_base.specs.Mesh.{Mesh}
+use Rattle.mesh_plain.specs.Shape.{shape_fault}
+use Rattle.obj_text.specs.Obj.{Lists}
+use Rattle.obj_text.specs.Views.{lists_view}
+use Rattle.edit_base.specs.declared.PassKind.TheVariants as pass
+use Rattle.step_text.specs.declared.Directive.{Directive}
+use Rattle.step_text.specs.declared.Directive.TheVariants.{ShiftOne, Step, Pass, Save}
+use Rattle.step_text.specs.declared.Placed.{Placed}
+use Rattle.mesh_make.specs.Cubes.{IsRow, cubes_lists, cubes_mesh}
+use Rattle.mesh_make.specs.CubeSteps.{cube_shift, cube_with, shifts_in, step_of, cubes_directives, cubes_steps, on_lines}
+use Rattle.mesh_make.proofs.Growing.{cubes-few}
+use Rattle.mesh_make.proofs.Shape.{cubes_have_no_fault}
+use Rattle.track_try.specs.Summary.{log_of_cubes, counts_of, summary_text, summary_of}
+use Rattle.track_try.specs.Told.{counts_in, HasRun}
+use Rattle.track_try.proofs.Counts.{counts_told}
+
+-- ---- the mesh
+
+same_points : (points : List Point) → map point_at (map position_of points) ≡ points
+same_points [] = refl
+same_points (p ∷ points) = ap (λ q. q ∷ map point_at (map position_of points)) (point_at-position_of p) ∙ ap (λ l. p ∷ l) (same_points points)
+
+pub mesh_is : (lists : MeshLists) (n : ℕ) → lists_view lists ≡ cubes_lists n → mesh_of lists.points lists.faces ≡ cubes_mesh n
+mesh_is lists n view =
+    ap (λ points. mesh_of points lists.faces) (sym (same_points lists.points))
+    ∙ ap (λ (l : Lists). mesh_of (map point_at l.points) l.faces) view
+
+pub shape_is : (lists : MeshLists) (n : ℕ) → IsRow n → lists_view lists ≡ cubes_lists n → shape_fault (length lists.points) lists.faces ≡ None
+shape_is lists n row view =
+    ap (λ k. shape_fault k lists.faces) (sym (length-map lists.points position_of))
+    ∙ ap (λ (l : Lists). shape_fault (length l.points) l.faces) view
+    ∙ cubes_have_no_fault n row
+
+-- ---- the directives
+
+length-on_lines : (k : ℕ) (xs : List Directive) → length (map (λ (d : ℕ × Directive). let p : Placed = record { line = d.0; what = d.1 } in p) (enumerate_from k xs)) ≡ length xs
+length-on_lines k [] = refl
+length-on_lines k (x ∷ xs) = ap (λ n. n + 1) (length-on_lines (k + 1) xs)
+
+step_length : (n key step : ℕ) → length (step_of n key step) ≡ 8 * (n * n * n) + 1
+step_length n key step =
+    let count = length-map-range_with_len (λ v. ShiftOne v (cube_shift key step (cube_with v))) 1 (8 * (n * n * n)) in
+    length-append (shifts_in n key step) (Step ∷ []) ∙ ap (λ (k : ℕ). k + 1) count
+
+-- there are few
+pub steps_few : (n key : ℕ) → IsRow n → length (cubes_steps n key) < 2 ^ 31
+steps_few n key row =
+    let few = cubes-few n row in
+    let one = step_of n key 1 in
+    let two = step_of n key 2 in
+    let three = step_of n key 3 in
+    let last = Pass (pass.Split 50) ∷ Save ∷ [] in
+    few_of (length-on_lines 1 (cubes_directives n key)) (length-append (one ++ two ++ three) last) (length-append one (two ++ three)) (length-append two three) (step_length n key 1) (step_length n key 2) (step_length n key 3) few
+  where
+    few_of : {placed whole all both a b c cubes : ℕ} → placed ≡ whole → whole ≡ all + 2 → all ≡ a + both → both ≡ b + c → a ≡ 8 * cubes + 1 → b ≡ 8 * cubes + 1 → c ≡ 8 * cubes + 1 → cubes ≤ 1728 → placed < 2 ^ 31
+    few_of o p q r s t u few = omega arith
+
+-- ---- the summary
+
+-- by the counts of what a sink was told, and by the mesh at the end
+pub sums_up : (n key : ℕ) (m now : Mesh) (told text : List ℕ) → m ≡ cubes_mesh n → HasRun m (cubes_steps n key) told now → text ≡ summary_text n key (counts_in told) now → text ≡ summary_of n key
+sums_up n key m now told text same run is =
+    let P : Mesh → Type 0 = λ m. HasRun m (cubes_steps n key) told now in
+    let ran = subst P same run in
+    let counts : counts_in told ≡ counts_of (log_of_cubes n key) = ap counts_in ran.log ∙ counts_told (log_of_cubes n key) in
+    is ∙ ap (λ c. summary_text n key c now) counts ∙ ap (summary_text n key (counts_of (log_of_cubes n key))) ran.mesh
+
+-- it is not empty
+pub some_summary : (n key : ℕ) → 0 < length (summary_of n key)
+some_summary n key = omega arith

@@ -1,0 +1,53 @@
+//! A job is run over a sink and a desk that only count.
+ghost use Rattle.std.specs.Prelude.{◌≡◌, ◌<◌, ◌^◌, [], length, IfOk};
+ghost use Rattle.mesh_base.specs.Valid.{IsValidSurface};
+ghost use Rattle.mesh_field.specs.Stored.{IsWellKept};
+ghost use Rattle.outside_io.specs.Tally.{told_to};
+ghost use Rattle.step_text.specs.Ranges.{AreInRange};
+ghost use Rattle.track_try.specs.Told.{HasRun};
+
+use grid_base::{NoMemory, Point, Shift};
+use log_text::{LogLine, VERSION};
+use mesh_field::Fields;
+use mesh_plain::Surface;
+use outside_io::{TallyDesk, TallySink};
+use std::alloc::Global;
+use step_text::Placed;
+use track_engine::{Engine, Target, say};
+
+/// Runs the job of a mesh and directives that name no stored field: its whole log goes to the sink, and the engine is left as it stands
+/// at the end. Neither side ever fails, so nothing but want of memory stops it.
+pub(crate) fn run<S: Surface + Drop, F: Fn(u8, Point) -> Shift>(
+    alloc: Global,
+    mesh: S,
+    steps: &[Placed],
+    told: &mut TallySink,
+    fields: &Fields<F>,
+) -> Result<Engine<S>, NoMemory>
+    requires good { IsValidSurface (S.mesh mesh) }
+    requires ranges { AreInRange steps.now }
+    requires count { length steps.now < 2 ^ 31 }
+    requires fresh { told_to told.old ≡ [] }
+    requires none { fields.now.names ≡ [] }
+    requires fields { IsWellKept F.Fn fields.now }
+    ensures { IfOk result (λ engine.
+        HasRun (S.mesh mesh) steps.now (told_to told.new) (S.mesh engine.mesh)) }
+{
+    let to = Target {
+        prefix: "",
+        decimals: 0,
+    };
+    let mut desk = TallyDesk::new();
+    let mut engine = Engine::new(alloc, mesh)?;
+    let first = LogLine::First { version: VERSION };
+    let Ok(()) = say(alloc, told, &first) else {
+        return Err(NoMemory);
+    };
+    let Ok(()) = engine.save(alloc, to, &mut desk, told) else {
+        return Err(NoMemory);
+    };
+    let Ok(_) = engine.follow(alloc, to, steps, &mut desk, told, fields) else {
+        return Err(NoMemory);
+    };
+    Ok(engine)
+}

@@ -1,0 +1,49 @@
+ghost use Rattle.std.specs.Prelude.{◌≡◌, ◌≤◌, IfOk, OnOk, OnErr, IsErrOf};
+ghost use Rattle.mesh_make.specs.Cubes.{IsRow};
+ghost use Rattle.outside_io.specs.Causes.{Rose};
+ghost use Rattle.outside_io.specs.Sink.{appended, AppendsPart};
+ghost use Rattle.track_try.specs.Summary.{summary_of};
+
+use crate::faults::TryFault;
+use crate::running::run;
+use crate::summing::summed_up;
+use grid_base::{NoMemory, Point, Shift};
+use mesh_field::no_fields;
+use mesh_journal::JournalMesh;
+use mesh_make::cubes;
+use outside_io::{Sink, TallySink, put_all};
+use std::alloc::Global;
+
+// What a field that is not there would answer.
+fn no_shift(_which: u8, _at: Point) -> Shift {
+    Shift { x: 0, y: 0, z: 0 }
+}
+
+// The summary of the job of `n` * `n` * `n` cubes that `key` picks.
+fn summary(alloc: Global, n: u8, key: u32) -> Result<Vec<u8>, NoMemory>
+    requires { IsRow n }
+    ensures { IfOk result (λ text. text.items ≡ summary_of n key) }
+{
+    let job = cubes(alloc, n, key)?;
+    let mesh = JournalMesh::of(alloc, &job.mesh)?;
+    let fields = no_fields(no_shift);
+    let mut told = TallySink::new();
+    let engine = run(alloc, mesh, job.directives.as_slice(), &mut told, &fields)?;
+    summed_up(alloc, n, key, &told, &engine.mesh)
+}
+
+/// Makes the job of `n` * `n` * `n` cubes that `key` picks, runs it over a sink and a desk that only count, and then writes what it came
+/// to: seven lines, which tell the job, the number of cubes, of steps and of those that were taken with the asked shifts, of splits, of
+/// vertices and faces at the end, where vertex 1 then stands, and of lines of the log. A fault leaves a part of the summary that is not all
+/// of it; want of memory leaves nothing.
+pub fn try_cubes<K: Sink>(alloc: Global, n: u8, key: u32, out: &mut K) -> Result<(), TryFault>
+    requires { IsRow n }
+    ensures done { OnOk result (K.written out.new ≡ appended (K.written out.old) (summary_of n key)) }
+    ensures stopped { OnErr result (AppendsPart (K.written out.old) (K.written out.new) (summary_of n key)) }
+    ensures later { K.faults out.old ≤ K.faults out.new }
+    ensures cause { IsErrOf result TryFault.SinkFault → Rose (K.faults out.old) (K.faults out.new) }
+{
+    let text = summary(alloc, n, key)?;
+    put_all(out, &text)?;
+    Ok(())
+}
