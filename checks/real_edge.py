@@ -10,10 +10,12 @@ Files that a case must leave have to hold what they held, and no case may leave 
 
 import contextlib
 import os
+import pty
 import shutil
 import subprocess
 import sys
 import tempfile
+import tty
 
 ROOT = os.path.dirname(os.path.dirname(os.path.abspath(__file__)))
 TOPO = os.path.join(ROOT, "topo")
@@ -52,6 +54,22 @@ def small_device(folder):
         except OSError:
             pass
     return True
+
+
+def on_terminal(words, folder, both):
+    """Runs the words with a terminal for standard error, and for both outputs where that is asked: the status, what standard output had,
+    and what the terminal had."""
+    ours, its = pty.openpty()
+    tty.setraw(its)
+    out = its if both else subprocess.PIPE
+    ended = subprocess.run(words, cwd=folder, stdout=out, stderr=its, timeout=60, **NOBODY)
+    os.close(its)
+    told = b""
+    with contextlib.suppress(OSError):
+        while more := os.read(ours, 4096):
+            told += more
+    os.close(ours)
+    return ended.returncode, (ended.stdout or b"").decode(), told.decode()
 
 
 def parts(folder):
@@ -107,10 +125,14 @@ def main():
             ("an empty word", ["track", "", "steps.txt", "t"], None, 2, None),
             ("a word with a dash", ["track", "mesh.obj", "-s", "t"], None, 2, None),
             ("a word that is no text", ["track", b"\xff\xfe", "steps.txt", "t"], None, 2, None),
+            ("a generated job", ["try", "1", "0"], None, 0, None),
+            ("no generated job", ["try", "0", "0"], None, 2, None),
+            ("a generated job to a full device", ["try", "1", "0"], lambda: os.open("/dev/full", os.O_WRONLY), 4, None),
             ("help", ["--help"], None, 0, None),
             ("help, short", ["-h"], None, 0, None),
             ("version", ["--version"], None, 0, None),
             ("help of a command", ["track", "--help"], None, 0, None),
+            ("help of a generated job", ["try", "--help"], None, 0, None),
             ("help among other words", ["track", "--help", "mesh.obj"], None, 2, None),
             ("no such mesh file", ["track", "none.obj", "steps.txt", "t"], None, 11, "refused missing mesh"),
             ("no such step file", ["track", "mesh.obj", "none.txt", "t"], None, 11, "refused missing steps"),
@@ -168,7 +190,15 @@ def main():
             good = ended.returncode == status and told and is_due and holds and parts(folder) == beside
             failed += not good
             print(("ok     " if good else "FAILED ") + f"{what}: status {ended.returncode}" + ("" if good else f", {status} was due; {last}; {wrote[-200:]!r}; {'files as due' if holds else 'other files'}; {parts(folder)}"))
-    print(f"{len(cases) - failed} as they should be, {failed} not")
+        job = [at("topo"), "track", "mesh.obj", "steps.txt", "open/t"]
+        status, wrote, told = on_terminal(job, folder, False)
+        shown = status == 0 and wrote == LOG and told.startswith("\rstep 1, 3 lines of the log") and told.endswith("\r\x1b[K")
+        print(("ok     " if shown else "FAILED ") + "a terminal for standard error alone: it tells how far the log has come, and is wiped" + ("" if shown else f"; {told!r}"))
+        status, _, told = on_terminal(job, folder, True)
+        alone = status == 0 and told == LOG
+        print(("ok     " if alone else "FAILED ") + "a terminal for both: it has the log alone" + ("" if alone else f"; {told!r}"))
+        failed += (not shown) + (not alone)
+    print(f"{len(cases) + 2 - failed} as they should be, {failed} not")
     sys.exit(1 if failed else 0)
 
 
