@@ -12,10 +12,10 @@ use answering::{USAGE, answer, tell};
 use explaining::explain;
 use help::command_help;
 use mesh_field::{Fields, no_fields};
-use outside_io::{FileDesk, StdSink};
+use outside_io::{FileDesk, ProgressSink, StdSink};
 use shipped::{REACH, shipped_names, shipped_shift};
 use std::alloc::{AllocError, Global};
-use std::io::ErrorKind;
+use std::io::{ErrorKind, IsTerminal};
 use std::process::ExitCode;
 use std::rt::Env;
 use std::{env, io};
@@ -77,8 +77,15 @@ fn main(rt: HostRuntime) -> ExitCode {
                 Some(names) => Fields::new(names, REACH, shipped_shift),
                 None => no_fields(shipped_shift),
             };
+            let is_watched = rt.stderr().is_terminal() && !rt.stdout().is_terminal();
             let outcome = match asked_help(alloc, &words) {
                 Some(help) => tell(help.as_str(), &desk, &mut out),
+                None if is_watched => {
+                    let mut watched = ProgressSink::new(out, &rt);
+                    let outcome = answer(alloc, &words, &mut desk, &mut watched, &fields);
+                    watched.wipe();
+                    outcome
+                }
                 None => answer(alloc, &words, &mut desk, &mut out, &fields),
             };
             if outcome == Outcome::Done {
