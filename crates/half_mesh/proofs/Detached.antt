@@ -2,7 +2,7 @@
 use Rattle.std.proofs.Common.{◌≡◌, ◌≢◌, ℕ, ◌-◌, ◌<◌, ◌==◌, ◌^◌, true, false, cond, List, [], ◌∷◌, Some, None, map, length, sym, ap, subst, ◌∙◌, arith}
 use Rattle.slab.specs.Slab.{Slab, get}
 use Rattle.half_mesh.specs.declared.halves.Half.{Half}
-use Rattle.half_mesh.specs.declared.rows.Row.{Row}
+use Rattle.half_mesh.specs.declared.row.Row.{Row}
 use Rattle.half_mesh.specs.Fans.{without, without_spoke}
 use Rattle.half_mesh.specs.Walks.{Keyed, walk, key_before, cut, spoke_of, fan_of, IsChain, IsFanned, IsLinkedPast, Resets}
 use Rattle.half_mesh.proofs.Chains.{IsBefore, walk-chain, walk-none, chain_stays, chain-higher, keys_differ, before-chain, chain-cut, cut-chain, cut-absent}

@@ -5,7 +5,7 @@ use Rattle.std.specs.FinMap as finite
 use Rattle.slab.specs.Slab.{Slab, get, Updates}
 use Rattle.mesh_base.proofs.Finite.{got_after_remove}
 use Rattle.half_mesh.specs.declared.halves.Half.{Half}
-use Rattle.half_mesh.specs.declared.rows.Row.{Row}
+use Rattle.half_mesh.specs.declared.row.Row.{Row}
 use Rattle.half_mesh.specs.Fans.{Fan, Woven, spokes_at, IsNewest}
 use Rattle.std.specs.Option.{option_map}
 use Rattle.half_mesh.specs.Mapped.{mapped}

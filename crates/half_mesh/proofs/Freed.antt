@@ -2,7 +2,7 @@
 use Rattle.std.proofs.Common.{◌≡◌, ◌≢◌, ℕ, ◌^◌, List, [], ◌∷◌, Some, map, sym, ◌∙◌}
 use Rattle.slab.specs.Slab.{Slab, get}
 use Rattle.half_mesh.specs.declared.halves.Half.{Half}
-use Rattle.half_mesh.specs.declared.rows.Row.{Row}
+use Rattle.half_mesh.specs.declared.row.Row.{Row}
 use Rattle.half_mesh.specs.Fans.{IsOutside}
 use Rattle.half_mesh.specs.Walks.{Keyed, spoke_of, fan_of, IsChain, IsFanned}
 use Rattle.half_mesh.proofs.Fanned.{fan-fanned}

@@ -3,11 +3,11 @@ use Rattle.std.proofs.Common.{◌≡◌, ℕ, true, Option, Some, None, is_some,
 use Rattle.std.specs.Option.{option_map}
 use Rattle.std.specs.Ordering.{nat_cmp}
 use Rattle.std.specs.FinMap as finite
-use Rattle.half_mesh.specs.declared.rows.Vertex.{Vertex}
+use Rattle.half_mesh.specs.declared.row.Vertex.{Vertex}
 use Rattle.half_mesh.specs.Fans.{Woven}
 use Rattle.half_mesh.specs.Ground.{Ground}
 use Rattle.half_mesh.specs.Mapped.{mapped}
-use Rattle.half_mesh.specs.declared.rows.Row.{Row}
+use Rattle.half_mesh.specs.declared.row.Row.{Row}
 use Rattle.half_mesh.proofs.Mapped.{get-mapped}
 
 pub ground_same : (a b : Woven) (c d : finite.FinMap nat_cmp Vertex) (m n : ℕ) → a ≡ b → c ≡ d → m ≡ n → ◌≡◌ {A = Ground} (record { woven = a; buried = c; seats = m }) (record { woven = b; buried = d; seats = n })

@@ -14,8 +14,6 @@ pub mod VertexChanges
 pub mod Copies
 pub mod GivenLists
 pub mod AcrossLaws
-pub mod StoneLaws
-pub mod BuriedItems
 pub mod Grounds
 pub mod ChainPut
 pub mod Newer

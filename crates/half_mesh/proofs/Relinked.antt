@@ -3,7 +3,7 @@ use Rattle.std.proofs.Common.{◌≡◌, ◌≢◌, ⊎_elim, ℕ, ◌+◌, ◌-
 use Rattle.std.proofs.lemmas.Bool.Decides.{nat_tests}
 use Rattle.slab.specs.Slab.{Slab, get}
 use Rattle.half_mesh.specs.declared.halves.Half.{Half}
-use Rattle.half_mesh.specs.declared.rows.Row.{Row}
+use Rattle.half_mesh.specs.declared.row.Row.{Row}
 use Rattle.half_mesh.specs.Fans.{Spoke, put_spoke, IsOutside}
 use Rattle.half_mesh.specs.Walks.{Keyed, walk, spoke_of, fan_of, IsChain, IsFanned, Resets, last_newer, IsPutAfter, put_in, IsLinkedIn}
 use Rattle.half_mesh.proofs.Chains.{walk-chain, chain_stays, keys_differ}

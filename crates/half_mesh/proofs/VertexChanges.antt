@@ -4,7 +4,7 @@ use Rattle.std.specs.Option.{option_map}
 use Rattle.std.specs.FinMap as finite
 use Rattle.grid_base.specs.declared.Point.{Point}
 use Rattle.mesh_base.specs.Changes.{with_point, with_solid, without_vertex}
-use Rattle.half_mesh.specs.declared.rows.Vertex.{Vertex}
+use Rattle.half_mesh.specs.declared.row.Vertex.{Vertex}
 use Rattle.half_mesh.specs.Fans.{Fan, Fans, Woven, bare}
 use Rattle.half_mesh.specs.Vertices.{VertexMap, vertices_in, points_in, is_marked, solid_in}
 use Rattle.half_mesh.specs.Tied.{Keys, woven_mesh}

@@ -2,7 +2,7 @@
 use Rattle.std.specs.Prelude.{ℕ}
 use Rattle.std.specs.Ordering.{nat_cmp}
 use Rattle.std.specs.FinMap as finite
-use Rattle.half_mesh.specs.declared.rows.Vertex.{Vertex}
+use Rattle.half_mesh.specs.declared.row.Vertex.{Vertex}
 use Rattle.half_mesh.specs.Fans.{Woven}
 
 -- the fans of the live vertices and the half-edges, the buried vertices, and how many vertices more find memory

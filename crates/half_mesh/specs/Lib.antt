@@ -1,8 +1,7 @@
-pub mod Stock
 pub mod Mapped
-pub mod Stones
 pub mod Fans
 pub mod Ground
+pub mod FanChanges
 pub mod Vertices
 pub mod States
 pub mod Coded

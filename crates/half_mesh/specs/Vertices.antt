@@ -4,7 +4,7 @@ use Rattle.std.specs.Ordering.{nat_cmp}
 use Rattle.std.specs.FinMap as finite
 use Rattle.grid_base.specs.declared.Point.{Point}
 use Rattle.mesh_base.specs.Mesh.{IdSet}
-use Rattle.half_mesh.specs.declared.rows.Vertex.{Vertex}
+use Rattle.half_mesh.specs.declared.row.Vertex.{Vertex}
 use Rattle.half_mesh.specs.Fans.{Fans}
 use Rattle.half_mesh.specs.Mapped.{mapped}
 

@@ -5,10 +5,10 @@ use Rattle.std.specs.Ordering.{nat_cmp}
 use Rattle.std.specs.FinMap as finite
 use Rattle.slab.specs.Slab.{Slab, get, slab_len}
 use Rattle.half_mesh.specs.declared.halves.Half.{Half}
-use Rattle.half_mesh.specs.declared.rows.Row.{Row}
+use Rattle.half_mesh.specs.declared.row.Row.{Row}
 use Rattle.half_mesh.specs.Fans.{Spoke, Fan, Side, Woven}
 use Rattle.half_mesh.specs.Mapped.{mapped}
-use Rattle.half_mesh.specs.Stock.{Stock}
+use Rattle.id_rows.specs.Stock.{Stock}
 use Rattle.half_mesh.specs.Ground.{Ground}
 
 -- a half-edge, with its key

@@ -4,13 +4,15 @@ ghost use Rattle.std.specs.FinMap as map;
 ghost use Rattle.mesh_base.specs.Mesh.{IsSound, IsLiveVertex, IsLiveFace, AreDifferent};
 ghost use Rattle.mesh_base.specs.Sides.{faces_at};
 ghost use Rattle.half_mesh.specs.Fans.{Side, side_at, spokes_at, IsOutside};
+ghost use Rattle.half_mesh.specs.FanChanges.{KeepsSides, KeepsSidesOutside};
 ghost use Rattle.half_mesh.specs.States.{AreApart, none_buried, with_mesh, without_solid, bury_face, bury_vertex, raise_face, raise_vertex, unmake_face, unmake_vertex, CanRaiseFace, CanRaiseVertex};
 ghost use Rattle.half_mesh.specs.Tied.{HaveFans, HasRaised, HasLost, IsRing};
 
 use crate::fans::Fans;
-use crate::rows::{Rows, Vertex};
+use crate::row::Vertex;
 use crate::tables::{Tables, corners_from};
 use grid_base::NoMemory;
+use id_rows::Rows;
 use mesh_base::{FaceId, VertexId};
 
 impl Tables {
@@ -132,7 +134,8 @@ impl Tables {
 fn free_rings(fans: &mut Fans, keys: &Rows<usize>)
     requires { (f v : ℕ) → IsSome (map.get keys.now.buried f) → IsOutside f (spokes_at fans.old.woven.fans v) }
     ensures fans { fans.new.woven.fans ≡ fans.old.woven.fans }
-    ensures sides { (k : ℕ) (side : Side) → side_at fans.old.woven.sides k ≡ Some side → map.get keys.now.buried side.face ≡ None → side_at fans.new.woven.sides k ≡ Some side }
+    ensures sides { (k : ℕ) (side : Side) → side_at fans.old.woven.sides k ≡ Some side →
+        map.get keys.now.buried side.face ≡ None → side_at fans.new.woven.sides k ≡ Some side }
     ensures kept { (fans.new.buried ≡ fans.old.buried) × (fans.new.seats ≡ fans.old.seats) }
     ensures room { fans.old.woven.room ≤ fans.new.woven.room }
 {
@@ -149,7 +152,7 @@ fn free_rings(fans: &mut Fans, keys: &Rows<usize>)
 fn free_ring(fans: &mut Fans, key: usize, f: u32)
     requires { (v : ℕ) → IsOutside f (spokes_at fans.old.woven.fans v) }
     ensures fans { fans.new.woven.fans ≡ fans.old.woven.fans }
-    ensures sides { (k : ℕ) (side : Side) → side_at fans.old.woven.sides k ≡ Some side → side.face ≢ f → side_at fans.new.woven.sides k ≡ Some side }
+    ensures sides { KeepsSidesOutside f fans.old.woven.sides fans.new.woven.sides }
     ensures kept { (fans.new.buried ≡ fans.old.buried) × (fans.new.seats ≡ fans.old.seats) }
     ensures room { fans.old.woven.room ≤ fans.new.woven.room }
 {
@@ -165,7 +168,7 @@ fn bury_ring(fans: &mut Fans, id: u32, a: u32, b: u32, c: u32)
     requires different { AreDifferent (record { first = a; second = b; third = c }) }
     requires live { HaveFans fans.old.woven.fans (record { first = a; second = b; third = c }) }
     ensures lost { HasLost fans.old.woven fans.new.woven id (record { first = a; second = b; third = c }) }
-    ensures sides { (key : ℕ) → side_at fans.new.woven.sides key ≡ side_at fans.old.woven.sides key }
+    ensures sides { KeepsSides fans.old.woven.sides fans.new.woven.sides }
     ensures kept { (fans.new.buried ≡ fans.old.buried) × (fans.new.seats ≡ fans.old.seats) }
     ensures room { fans.new.woven.room ≡ fans.old.woven.room }
 {

@@ -4,14 +4,16 @@ ghost use Rattle.std.specs.Option.{option_map};
 ghost use Rattle.std.specs.FinMap as map;
 ghost use Rattle.mesh_base.specs.Sides.{above};
 ghost use Rattle.half_mesh.specs.Fans.{Fan, Side, side_at, with_spoke, without_spoke, put_spoke, spokes_at, spokes_to, faces_of, bare, IsNewest, IsOutside, CanRelink};
+ghost use Rattle.half_mesh.specs.FanChanges.{with_fans, with_side, ChangesFan, KeepsRest, KeepsSides, KeepsOtherSides, KeepsSidesOutside};
 ghost use Rattle.half_mesh.specs.Walks.{walk, spoke_of, side_of, key_before, last_newer, IsLinkedPast, IsLinkedIn, Joins, Resets};
 ghost use Rattle.slab.specs.Slab.{get, slab_len};
 ghost use Rattle.half_mesh.specs.Across.{below};
 ghost use Rattle.half_mesh.specs.Tied.{origin_at, to_at, next_at};
 
 use crate::halves::Half;
-use crate::rows::{Row, Rows, Vertex};
+use crate::row::{Row, Vertex};
 use grid_base::NoMemory;
+use id_rows::Rows;
 use mesh_base::FaceId;
 use slab::Slab;
 use std::alloc::Global;
@@ -85,7 +87,8 @@ impl Fans {
     pub(crate) fn add(&mut self, v: u32, vertex: Vertex) -> Result<(), NoMemory>
         requires new { map.get self.old.woven.fans v ≡ None }
         requires few { map.len self.old.woven.fans < 2 ^ 32 }
-        ensures ok { OnOk result (self.new ≡ record self.old { woven = record self.old.woven { fans = map.insert self.old.woven.fans v (bare vertex) }; seats = self.new.seats }) }
+        ensures ok { let fans = map.insert self.old.woven.fans v (bare vertex) in
+            OnOk result (self.new ≡ record (with_fans self.old fans) { seats = self.new.seats }) }
         ensures err { OnErr result (self.new ≡ self.old) }
         ensures memory { OnErr result (self.old.seats ≡ 0) }
         ensures seats { self.old.seats ≤ self.new.seats + 1 }
@@ -103,7 +106,8 @@ impl Fans {
     /// Has another vertex under its id, with the same half-edges. Takes no memory.
     pub(crate) fn set(&mut self, v: u32, vertex: Vertex)
         requires { IsSome (map.get self.old.woven.fans v) }
-        ensures { (fan : Fan) → map.get self.old.woven.fans v ≡ Some fan → self.new ≡ record self.old { woven = record self.old.woven { fans = map.insert self.old.woven.fans v (record fan { vertex = vertex }) } } }
+        ensures { (fan : Fan) → map.get self.old.woven.fans v ≡ Some fan →
+            self.new ≡ with_fans self.old (map.insert self.old.woven.fans v (record fan { vertex = vertex })) }
     {
         if let Some(row) = self.rows.get(v) {
             self.rows.set(v, Row { vertex, ..row });
@@ -112,7 +116,8 @@ impl Fans {
 
     pub(crate) fn remove(&mut self, v: u32)
         requires { IsSome (map.get self.old.woven.fans v) }
-        ensures kept { self.new ≡ record self.old { woven = record self.old.woven { fans = map.remove self.old.woven.fans v }; seats = self.new.seats } }
+        ensures kept { let fans = map.remove self.old.woven.fans v in
+            self.new ≡ record (with_fans self.old fans) { seats = self.new.seats } }
         ensures seats { self.old.seats ≤ self.new.seats }
     {
         self.rows.remove(v);
@@ -135,12 +140,13 @@ impl Fans {
         requires room { 1 ≤ self.old.woven.room }
         requires newest { IsNewest face (spokes_at self.old.woven.fans v) }
         requires few { length (spokes_at self.old.woven.fans v) < 2 ^ 32 }
-        ensures fans { (fan : Fan) → map.get self.old.woven.fans v ≡ Some fan → self.new.woven.fans ≡ map.insert self.old.woven.fans v (with_spoke fan (record { face = face; to = to })) }
+        ensures fans { ChangesFan self.old self.new v (λ fan. with_spoke fan (record { face = face; to = to })) }
         ensures fresh { side_at self.old.woven.sides result ≡ None }
-        ensures side { side_at self.new.woven.sides result ≡ Some (record { origin = v; to = to; face = face; next = next }) }
-        ensures sides { (key : ℕ) → key ≢ result → side_at self.new.woven.sides key ≡ side_at self.old.woven.sides key }
+        ensures side { let side = record { origin = v; to = to; face = face; next = next } in
+            side_at self.new.woven.sides result ≡ Some side }
+        ensures sides { KeepsOtherSides result self.old.woven.sides self.new.woven.sides }
         ensures room { self.old.woven.room ≤ self.new.woven.room + 1 }
-        ensures kept { (self.new.buried ≡ self.old.buried) × (self.new.seats ≡ self.old.seats) }
+        ensures kept { KeepsRest self.old self.new }
     {
         let row = self.rows.get(v).unwrap();
         let key = self.halves.insert_reserved(Half {
@@ -164,20 +170,21 @@ impl Fans {
     /// Has another half-edge follow one in its face.
     pub(crate) fn join(&mut self, key: usize, next: usize)
         ensures fans { self.new.woven.fans ≡ self.old.woven.fans }
-        ensures side { (side : Side) → side_at self.old.woven.sides key ≡ Some side → side_at self.new.woven.sides key ≡ Some (record side { next = next }) }
-        ensures sides { (other : ℕ) → other ≢ key → side_at self.new.woven.sides other ≡ side_at self.old.woven.sides other }
+        ensures side { (side : Side) → side_at self.old.woven.sides key ≡ Some side →
+            side_at self.new.woven.sides key ≡ Some (record side { next = next }) }
+        ensures sides { KeepsOtherSides key self.old.woven.sides self.new.woven.sides }
         ensures room { self.new.woven.room ≡ self.old.woven.room }
-        ensures kept { (self.new.buried ≡ self.old.buried) × (self.new.seats ≡ self.old.seats) }
+        ensures kept { KeepsRest self.old self.new }
     {
         join_half(&mut self.halves, key, next);
     }
 
     /// Takes out the half-edge that leaves `v` in the face.
     pub(crate) fn detach(&mut self, v: u32, face: u32)
-        ensures fans { (fan : Fan) → map.get self.old.woven.fans v ≡ Some fan → self.new.woven.fans ≡ map.insert self.old.woven.fans v (without_spoke fan face) }
-        ensures sides { (key : ℕ) (side : Side) → side_at self.old.woven.sides key ≡ Some side → side.face ≢ face → side_at self.new.woven.sides key ≡ Some side }
+        ensures fans { ChangesFan self.old self.new v (λ fan. without_spoke fan face) }
+        ensures sides { KeepsSidesOutside face self.old.woven.sides self.new.woven.sides }
         ensures room { self.old.woven.room ≤ self.new.woven.room }
-        ensures kept { (self.new.buried ≡ self.old.buried) × (self.new.seats ≡ self.old.seats) }
+        ensures kept { KeepsRest self.old self.new }
     {
         let Some(row) = self.rows.get(v) else {
             return;
@@ -214,7 +221,9 @@ impl Fans {
     /// Buries a vertex. Takes no memory.
     pub(crate) fn bury(&mut self, v: u32)
         requires { IsSome (map.get self.old.woven.fans v) }
-        ensures { (fan : Fan) → map.get self.old.woven.fans v ≡ Some fan → self.new ≡ record self.old { woven = record self.old.woven { fans = map.remove self.old.woven.fans v }; buried = map.insert self.old.buried v fan.vertex } }
+        ensures { (fan : Fan) → map.get self.old.woven.fans v ≡ Some fan →
+            let rest = with_fans self.old (map.remove self.old.woven.fans v) in
+            self.new ≡ record rest { buried = map.insert self.old.buried v fan.vertex } }
     {
         self.rows.bury(v);
     }
@@ -224,7 +233,9 @@ impl Fans {
         requires buried { IsSome (map.get self.old.buried v) }
         requires new { map.get self.old.woven.fans v ≡ None }
         requires few { map.len self.old.woven.fans < 2 ^ 32 }
-        ensures { (vertex : Vertex) → map.get self.old.buried v ≡ Some vertex → self.new ≡ record self.old { woven = record self.old.woven { fans = map.insert self.old.woven.fans v (bare vertex) }; buried = map.remove self.old.buried v } }
+        ensures { (vertex : Vertex) → map.get self.old.buried v ≡ Some vertex →
+            let raised = with_fans self.old (map.insert self.old.woven.fans v (bare vertex)) in
+            self.new ≡ record raised { buried = map.remove self.old.buried v } }
     {
         if let Some(row) = self.rows.get_buried(v) {
             self.rows.raise(
@@ -240,10 +251,10 @@ impl Fans {
 
     /// Takes the half-edge that leaves `v` in the face out of those that leave `v`. It stays at its key.
     pub(crate) fn unlink(&mut self, v: u32, face: u32)
-        ensures fans { (fan : Fan) → map.get self.old.woven.fans v ≡ Some fan → self.new.woven.fans ≡ map.insert self.old.woven.fans v (without_spoke fan face) }
-        ensures sides { (key : ℕ) → side_at self.new.woven.sides key ≡ side_at self.old.woven.sides key }
+        ensures fans { ChangesFan self.old self.new v (λ fan. without_spoke fan face) }
+        ensures sides { KeepsSides self.old.woven.sides self.new.woven.sides }
         ensures room { self.new.woven.room ≡ self.old.woven.room }
-        ensures kept { (self.new.buried ≡ self.old.buried) × (self.new.seats ≡ self.old.seats) }
+        ensures kept { KeepsRest self.old self.new }
     {
         let Some(row) = self.rows.get(v) else {
             return;
@@ -281,10 +292,12 @@ impl Fans {
     pub(crate) fn relink(&mut self, v: u32, key: usize)
         requires can { CanRelink self.old.woven v key }
         requires few { length (spokes_at self.old.woven.fans v) < 2 ^ 32 }
-        ensures fans { (fan : Fan) (side : Side) → map.get self.old.woven.fans v ≡ Some fan → side_at self.old.woven.sides key ≡ Some side → self.new.woven.fans ≡ map.insert self.old.woven.fans v (record fan { spokes = put_spoke (record { face = side.face; to = side.to }) fan.spokes }) }
-        ensures sides { (other : ℕ) → side_at self.new.woven.sides other ≡ side_at self.old.woven.sides other }
+        ensures fans { (fan : Fan) (side : Side) → map.get self.old.woven.fans v ≡ Some fan →
+            side_at self.old.woven.sides key ≡ Some side →
+            self.new.woven.fans ≡ map.insert self.old.woven.fans v (with_side fan side) }
+        ensures sides { KeepsSides self.old.woven.sides self.new.woven.sides }
         ensures room { self.new.woven.room ≡ self.old.woven.room }
-        ensures kept { (self.new.buried ≡ self.old.buried) × (self.new.seats ≡ self.old.seats) }
+        ensures kept { KeepsRest self.old self.new }
     {
         let row = self.rows.get(v).unwrap();
         let half = self.halves.get(key).copied().unwrap();
@@ -303,9 +316,9 @@ impl Fans {
     pub(crate) fn free(&mut self, key: usize, face: u32)
         requires { (v : ℕ) → IsOutside face (spokes_at self.old.woven.fans v) }
         ensures fans { self.new.woven.fans ≡ self.old.woven.fans }
-        ensures sides { (k : ℕ) (side : Side) → side_at self.old.woven.sides k ≡ Some side → side.face ≢ face → side_at self.new.woven.sides k ≡ Some side }
+        ensures sides { KeepsSidesOutside face self.old.woven.sides self.new.woven.sides }
         ensures room { self.old.woven.room ≤ self.new.woven.room }
-        ensures kept { (self.new.buried ≡ self.old.buried) × (self.new.seats ≡ self.old.seats) }
+        ensures kept { KeepsRest self.old self.new }
     {
         free_half(&mut self.halves, key, face);
     }

@@ -15,8 +15,9 @@ ghost use Rattle.half_mesh.specs.Across.{corner_at, corner_after, side_from, bel
 ghost use Rattle.half_mesh.specs.Tied.{corners_at, HaveFans, HasRing};
 
 use crate::fans::Fans;
-use crate::rows::{Rows, Vertex};
+use crate::row::Vertex;
 use grid_base::{NoMemory, Point};
+use id_rows::Rows;
 use mesh_base::{Corners, FaceId, FaceTable, MeshLists, VertexId};
 use std::alloc::Global;
 use std::marker::Model;

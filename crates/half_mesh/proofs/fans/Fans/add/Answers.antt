@@ -1,11 +1,11 @@
 use Rattle.std.proofs.Common.{ap, refl, ◌∙◌, arith}
-use Rattle.half_mesh.specs.declared.rows.Row.{Row}
+use Rattle.half_mesh.specs.declared.row.Row.{Row}
 use Rattle.half_mesh.specs.Walks.{fan_of, woven_of, AreFanned}
 use Rattle.half_mesh.specs.Fans.{Woven, bare}
 use Rattle.std.specs.FinMap as finite
 use Rattle.half_mesh.specs.Ground.{Ground}
 use Rattle.half_mesh.proofs.Mapped.{mapped-insert, len-mapped}
-use Rattle.half_mesh.specs.Stock.{Stock}
+use Rattle.id_rows.specs.Stock.{Stock}
 use Rattle.half_mesh.specs.Mapped.{mapped}
 use Rattle.half_mesh.proofs.Grounds.{ground_same}
 use Rattle.half_mesh.proofs.Outcomes.{on_ok, on_err}

@@ -5,8 +5,8 @@ use Rattle.std.specs.FinMap as finite
 use Rattle.slab.specs.Slab.{slab_len}
 use Rattle.half_mesh.specs.Fans.{Woven}
 use Rattle.half_mesh.specs.Mapped.{mapped}
-use Rattle.half_mesh.specs.Stock.{Stock}
-use Rattle.half_mesh.specs.declared.rows.Row.{Row}
+use Rattle.id_rows.specs.Stock.{Stock}
+use Rattle.half_mesh.specs.declared.row.Row.{Row}
 use Rattle.half_mesh.specs.Walks.{fan_of, side_of}
 use Rattle.half_mesh.specs.Ground.{Ground}
 use Rattle.half_mesh.proofs.Copies.{slots-copied}

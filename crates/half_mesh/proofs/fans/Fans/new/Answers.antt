@@ -2,7 +2,7 @@ use Rattle.std.proofs.Common.{◌≡◌, None, ap, ◌∙◌}
 use Rattle.std.specs.Ordering.{nat_cmp}
 use Rattle.std.specs.FinMap as finite
 use Rattle.std.specs.FinMap.{get-empty}
-use Rattle.half_mesh.specs.declared.rows.Row.{Row}
+use Rattle.half_mesh.specs.declared.row.Row.{Row}
 use Rattle.half_mesh.specs.Mapped.{mapped}
 use Rattle.half_mesh.specs.Walks.{fan_of}
 use Rattle.half_mesh.proofs.Mapped.{mapped-empty}

@@ -4,8 +4,8 @@ use Rattle.std.proofs.lemmas.List.{length-map}
 use Rattle.std.specs.FinMap as finite
 use Rattle.slab.specs.Slab.{get}
 use Rattle.half_mesh.specs.declared.halves.Half.{Half}
-use Rattle.half_mesh.specs.declared.rows.Row.{Row}
-use Rattle.half_mesh.specs.Stock.{Stock}
+use Rattle.half_mesh.specs.declared.row.Row.{Row}
+use Rattle.id_rows.specs.Stock.{Stock}
 use Rattle.half_mesh.specs.Ground.{Ground}
 use Rattle.half_mesh.specs.Fans.{Fan, Side, put_spoke, IsOutside}
 use Rattle.half_mesh.specs.Walks.{woven_of, spoke_of, side_of}

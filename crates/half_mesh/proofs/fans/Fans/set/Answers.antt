@@ -1,12 +1,12 @@
 use Rattle.std.proofs.Common.{◌≡◌, ap, sym, ◌∙◌, is_some}
-use Rattle.half_mesh.specs.declared.rows.Row.{Row}
+use Rattle.half_mesh.specs.declared.row.Row.{Row}
 use Rattle.half_mesh.specs.Walks.{fan_of, woven_of}
 use Rattle.std.specs.FinMap as finite
 use Rattle.half_mesh.specs.Mapped.{mapped}
 use Rattle.half_mesh.proofs.Grounds.{ground_same}
 use Rattle.half_mesh.specs.Fans.{Fan, Woven}
 use Rattle.half_mesh.specs.Ground.{Ground}
-use Rattle.half_mesh.specs.Stock.{Stock}
+use Rattle.id_rows.specs.Stock.{Stock}
 use Rattle.half_mesh.proofs.Fanned.{fanned-insert, woven-insert, fan-at, no_fan}
 use Rattle.half_mesh.proofs.fans.Fans.set.Goals as goal
 

@@ -3,7 +3,7 @@ use Rattle.std.specs.Option.{option_map}
 use Rattle.std.specs.FinMap as finite
 use Rattle.mesh_base.specs.declared.ids.Corners.{Corners}
 use Rattle.mesh_base.specs.Changes.{without_face}
-use Rattle.half_mesh.specs.Stock.{Stock}
+use Rattle.id_rows.specs.Stock.{Stock}
 use Rattle.half_mesh.specs.Tied.{AreTied, AreRings, woven_mesh, corners_at, faces_in, ledger_in}
 use Rattle.half_mesh.specs.States.{AreApart}
 use Rattle.half_mesh.proofs.Ledgers.{SidesStay, rings-stay, faces-stay, apart-key, state_same, buried_same}

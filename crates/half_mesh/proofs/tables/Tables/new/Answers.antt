@@ -1,6 +1,6 @@
 use Rattle.std.proofs.Common.{ap, ◌∙◌}
 use Rattle.half_mesh.specs.Fans.{Fan}
-use Rattle.half_mesh.specs.declared.rows.Vertex.{Vertex}
+use Rattle.half_mesh.specs.declared.row.Vertex.{Vertex}
 use Rattle.half_mesh.specs.Mapped.{mapped}
 use Rattle.half_mesh.specs.Vertices.{vertices_in, points_in, solid_in}
 use Rattle.half_mesh.proofs.Vertices.{solid-empty}

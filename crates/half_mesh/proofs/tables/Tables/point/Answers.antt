@@ -1,6 +1,6 @@
 use Rattle.std.proofs.Common.{sym, ap, ◌∙◌}
 use Rattle.std.specs.Option.{option_map}
-use Rattle.half_mesh.specs.declared.rows.Vertex.{Vertex}
+use Rattle.half_mesh.specs.declared.row.Vertex.{Vertex}
 use Rattle.half_mesh.proofs.Mapped.{get-mapped}
 use Rattle.half_mesh.proofs.Vertices.{get-vertices}
 use Rattle.half_mesh.specs.Vertices.{vertices_in}

@@ -2,7 +2,7 @@ use Rattle.std.proofs.Common.{is_some, refl, sym, ap, subst, ◌∙◌, arith}
 use Rattle.half_mesh.specs.Ground.{Ground}
 use Rattle.half_mesh.specs.Fans.{bare}
 use Rattle.half_mesh.specs.States.{Ledger, AreApart, CanRaiseVertex, raise_vertex}
-use Rattle.half_mesh.specs.declared.rows.Vertex.{Vertex}
+use Rattle.half_mesh.specs.declared.row.Vertex.{Vertex}
 use Rattle.half_mesh.specs.Vertices.{points_in, solid_in}
 use Rattle.half_mesh.specs.Tied.{woven_mesh, ledger_in, spare_in, faces_in}
 use Rattle.half_mesh.proofs.Mapped.{mapped-remove}

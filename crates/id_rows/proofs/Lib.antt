@@ -1,0 +1,3 @@
+pub mod Copies
+pub mod StoneLaws
+pub mod BuriedItems

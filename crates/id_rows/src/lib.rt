@@ -1,0 +1,7 @@
+//! A table by ids that rise: one list with tombstones, found by binary search. What is taken out of it can be buried, so that it can be
+//! put back with no memory.
+#![tactic(auto)]
+
+mod rows;
+
+pub use rows::Rows;
