@@ -156,7 +156,7 @@ impl<T: Copy> Rows<T> {
         }
     }
 
-    /// Takes no memory.
+    /// Takes an id out of the live ones; what is buried of it stays. Takes no memory.
     pub fn remove(&mut self, id: u32)
         requires { IsSome (map.get self.old.live id) }
         ensures kept { Removes self.old self.new id }
@@ -232,6 +232,7 @@ impl<T: Copy> Rows<T> {
         self.down = 0;
     }
 
+    /// The same table once more, or want of memory.
     pub fn copy(&self) -> Result<Rows<T>, NoMemory>
         ensures { IfOk result (λ copy. copy ≡ record self.now { room = copy.room }) }
     {
