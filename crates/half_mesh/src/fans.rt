@@ -29,7 +29,7 @@ pub(crate) struct Fans {
 impl Model for Fans {
     ghost use Rattle.half_mesh.specs.Ground.{Ground};
     ghost use Rattle.half_mesh.specs.Coded.{ground_code};
-    ghost use Rattle.half_mesh.specs.contracts.rows.Vertex as vertex;
+    ghost use Rattle.half_mesh.specs.contracts.row.Vertex as vertex;
 
     ghost Value = { Ground };
 
