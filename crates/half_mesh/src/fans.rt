@@ -142,8 +142,8 @@ impl Fans {
         requires few { length (spokes_at self.old.woven.fans v) < 2 ^ 32 }
         ensures fans { ChangesFan self.old self.new v (λ fan. with_spoke fan (record { face = face; to = to })) }
         ensures fresh { side_at self.old.woven.sides result ≡ None }
-        ensures side { let side = record { origin = v; to = to; face = face; next = next } in
-            side_at self.new.woven.sides result ≡ Some side }
+        ensures side { side_at self.new.woven.sides result ≡
+            Some (record { origin = v; to = to; face = face; next = next }) }
         ensures sides { KeepsOtherSides result self.old.woven.sides self.new.woven.sides }
         ensures room { self.old.woven.room ≤ self.new.woven.room + 1 }
         ensures kept { KeepsRest self.old self.new }
