@@ -1,5 +1,5 @@
 -- The job of cubes may be run, and its summary is that of its log.
-use Rattle.std.proofs.Common.{◌≡◌, ℕ, ◌+◌, ◌*◌, ◌^◌, ◌<◌, ◌≤◌, List, [], ◌∷◌, ◌++◌, map, length, refl, sym, ap, ◌∙◌, subst, arith, None, length-append}
+use Rattle.std.proofs.Common.{◌≡◌, ℕ, suc, ◌+◌, ◌*◌, ◌^◌, ◌<◌, ◌≤◌, List, [], ◌∷◌, ◌++◌, map, length, refl, sym, ap, ◌∙◌, subst, arith, None, length-append}
 use Rattle.std.specs.List.{enumerate_from}
 use Rattle.std.proofs.lemmas.List.{length-map}
 use Rattle.std.proofs.lemmas.List.FromFn.{length-map-range_with_len}
@@ -45,7 +45,7 @@ shape_is lists n row view =
 
 length-on_lines : (k : ℕ) (xs : List Directive) → length (map (λ (d : ℕ × Directive). let p : Placed = record { line = d.0; what = d.1 } in p) (enumerate_from k xs)) ≡ length xs
 length-on_lines k [] = refl
-length-on_lines k (x ∷ xs) = ap (λ n. n + 1) (length-on_lines (k + 1) xs)
+length-on_lines k (x ∷ xs) = ap suc (length-on_lines (k + 1) xs)
 
 step_length : (n key step : ℕ) → length (step_of n key step) ≡ 8 * (n * n * n) + 1
 step_length n key step =
@@ -60,9 +60,9 @@ steps_few n key row =
     let two = step_of n key 2 in
     let three = step_of n key 3 in
     let last = Pass (pass.Split 50) ∷ Save ∷ [] in
-    few_of (length-on_lines 1 (cubes_directives n key)) (length-append (one ++ two ++ three) last) (length-append one (two ++ three)) (length-append two three) (step_length n key 1) (step_length n key 2) (step_length n key 3) few
+    few_of (length-on_lines 1 (cubes_directives n key)) (length-append (one ++ two ++ three) last) (length-append (one ++ two) three) (length-append one two) (step_length n key 1) (step_length n key 2) (step_length n key 3) few
   where
-    few_of : {placed whole all both a b c cubes : ℕ} → placed ≡ whole → whole ≡ all + 2 → all ≡ a + both → both ≡ b + c → a ≡ 8 * cubes + 1 → b ≡ 8 * cubes + 1 → c ≡ 8 * cubes + 1 → cubes ≤ 1728 → placed < 2 ^ 31
+    few_of : {placed whole all both a b c cubes : ℕ} → placed ≡ whole → whole ≡ all + 2 → all ≡ both + c → both ≡ a + b → a ≡ 8 * cubes + 1 → b ≡ 8 * cubes + 1 → c ≡ 8 * cubes + 1 → cubes ≤ 1728 → placed < 2 ^ 31
     few_of o p q r s t u few = omega arith
 
 -- ---- the summary
