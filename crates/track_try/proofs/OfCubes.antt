@@ -1,5 +1,6 @@
 -- The job of cubes may be run, and its summary is that of its log.
 use Rattle.std.proofs.Common.{◌≡◌, ℕ, suc, ◌+◌, ◌*◌, ◌^◌, ◌<◌, ◌≤◌, List, [], ◌∷◌, ◌++◌, map, length, refl, sym, ap, ◌∙◌, subst, arith, None, length-append}
+use Rattle.std.specs.declared.option.Option.{Option}
 use Rattle.std.specs.List.{enumerate_from}
 use Rattle.std.proofs.lemmas.List.{length-map}
 use Rattle.std.proofs.lemmas.List.FromFn.{length-map-range_with_len}
@@ -20,6 +21,8 @@ use Rattle.mesh_make.specs.Cubes.{IsRow, cubes_lists, cubes_mesh}
 use Rattle.mesh_make.specs.CubeSteps.{cube_shift, cube_with, shifts_in, step_of, cubes_directives, cubes_steps, on_lines}
 use Rattle.mesh_make.proofs.Growing.{cubes-few}
 use Rattle.mesh_make.proofs.Shape.{cubes_have_no_fault}
+use Rattle.outside_io.specs.Sink.{AppendsPart}
+use Rattle.outside_io.proofs.Written.{appended-nil}
 use Rattle.track_try.specs.Summary.{log_of_cubes, counts_of, summary_text, summary_of}
 use Rattle.track_try.specs.Told.{counts_in, HasRun}
 use Rattle.track_try.proofs.Counts.{counts_told}
@@ -69,6 +72,7 @@ steps_few n key row =
 
 -- by the counts of what a sink was told, and by the mesh at the end
 pub sums_up : (n key : ℕ) (m now : Mesh) (told text : List ℕ) → m ≡ cubes_mesh n → HasRun m (cubes_steps n key) told now → text ≡ summary_text n key (counts_in told) now → text ≡ summary_of n key
+unfolding summary_of
 sums_up n key m now told text same run is =
     let P : Mesh → Type 0 = λ m. HasRun m (cubes_steps n key) told now in
     let ran = subst P same run in
@@ -76,5 +80,10 @@ sums_up n key m now told text same run is =
     is ∙ ap (λ c. summary_text n key c now) counts ∙ ap (summary_text n key (counts_of (log_of_cubes n key))) ran.mesh
 
 -- it is not empty
-pub some_summary : (n key : ℕ) → 0 < length (summary_of n key)
+some_summary : (n key : ℕ) → 0 < length (summary_of n key)
+unfolding summary_of
 some_summary n key = omega arith
+
+-- so nothing is a part of it
+pub nothing_of_summary : (n key : ℕ) (held : Option (List ℕ)) → AppendsPart held held (summary_of n key)
+nothing_of_summary n key held = (0, some_summary n key, sym (appended-nil held))
