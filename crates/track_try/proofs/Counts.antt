@@ -1,5 +1,5 @@
 -- The counts of a text of lines are those of its lines.
-use Rattle.std.proofs.Common.{◌≡◌, ℕ, ◌+◌, Bool, true, false, ◌==◌, cond, if◌then◌else◌, List, [], ◌∷◌, ◌++◌, map, length, count_by, refl, sym, ap, ◌∙◌, append_assoc, append-nil, arith}
+use Rattle.std.proofs.Common.{◌≡◌, ℕ, suc, ◌+◌, Bool, true, false, ◌==◌, cond, if◌then◌else◌, List, [], ◌∷◌, ◌++◌, map, length, count_by, refl, sym, ap, ◌∙◌, append_assoc, append-nil, arith}
 use Rattle.std.proofs.lemmas.List.Sums.{sum_by-cons}
 use Rattle.log_text.specs.declared.log_line.LogLine.{LogLine}
 use Rattle.log_text.specs.Lines.{body_of, text_of_line, text_of_lines}
@@ -7,7 +7,7 @@ use Rattle.outside_io.specs.ToldLines.{LF, ended_behind, ended_lines, lines_in, 
 use Rattle.track_try.specs.Summary.{is_step_line, is_whole_step_line, is_split_line, counts_of}
 use Rattle.track_try.specs.Told.{counts_in}
 use Rattle.track_try.proofs.NoEnds.{HasNoEnd, body_has_no_end}
-use Rattle.track_try.proofs.Kinds.{step_told, whole_told, split_told}
+use Rattle.track_try.proofs.Beginnings.{step_told, whole_told, split_told}
 
 -- a line that ends, behind what stands in front of it
 ended_line : (front body rest : List ℕ) → HasNoEnd body → ended_behind front (body ++ LF ∷ rest) ≡ (front ++ body) ∷ ended_behind [] rest
@@ -27,7 +27,7 @@ ended_bodies (l ∷ ls) =
 
 length_bodies : (lines : List LogLine) → length (map body_of lines) ≡ length lines
 length_bodies [] = refl
-length_bodies (l ∷ ls) = ap (λ n. n + 1) (length_bodies ls)
+length_bodies (l ∷ ls) = ap suc (length_bodies ls)
 
 -- the lines that a test tells by their spellings
 count_bodies : (tells : List ℕ → Bool) (kind : LogLine → Bool) → ((l : LogLine) → tells (body_of l) ≡ kind l) → (lines : List LogLine) → count_by tells (map body_of lines) ≡ count_by kind lines

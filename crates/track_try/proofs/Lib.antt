@@ -1,5 +1,5 @@
 pub mod NoEnds
-pub mod Kinds
+pub mod Beginnings
 pub mod Counts
-pub mod Running
+pub mod Ran
 pub mod OfCubes

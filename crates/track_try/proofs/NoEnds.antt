@@ -1,7 +1,7 @@
 -- No line's spelling has LF in it, whatever the line's values are.
-use Rattle.std.proofs.Common.{◌≡◌, ℕ, zero, suc, ◌+◌, ◌/◌, ◌%◌, Bool, true, false, eqb, ◌==◌, not, if◌then◌else◌, List, [], ◌∷◌, ◌++◌, ℤ, pos, negsuc, refl, arith}
+use Rattle.std.proofs.Common.{◌≡◌, ℕ, zero, suc, ◌+◌, ◌/◌, ◌%◌, Bool, true, false, eqb, ◌==◌, not, if◌then◌else◌, List, [], ◌∷◌, ◌++◌, ℤ, pos, negsuc, refl, sym, arith}
 use Rattle.std.specs.Prelude.{decimal, codes, map, nat_lt}
-use Rattle.core.specs.Fmt.{digit_glyph, digits_onto, digits}
+use Rattle.std.specs.Fmt.{digit_glyph, digits_onto, digits}
 use Rattle.std.specs.Fmt.{signed_decimal}
 use Rattle.std.specs.List.{list_all, AllByRecursion, join_with_byte}
 use Rattle.std.proofs.lemmas.Bool.{and_parts, ne_eqb}
@@ -42,6 +42,7 @@ HaveNoEnd words = AllByRecursion HasNoEnd words
 -- ---- words
 
 no_end : (b : Bool) → not b ≡ true → b ≡ false
+no_end true h = sym h
 no_end false h = refl
 
 -- of fixed words a test computes

@@ -1,5 +1,6 @@
 -- The job of cubes may be run, and its summary is that of its log.
-use Rattle.std.proofs.Common.{◌≡◌, ℕ, ◌+◌, ◌*◌, ◌^◌, ◌<◌, ◌≤◌, List, [], ◌∷◌, ◌++◌, map, length, refl, sym, ap, ◌∙◌, subst, arith, None, length-append}
+use Rattle.std.proofs.Common.{◌≡◌, ℕ, suc, ◌+◌, ◌*◌, ◌^◌, ◌<◌, ◌≤◌, List, [], ◌∷◌, ◌++◌, map, length, refl, sym, ap, ◌∙◌, subst, arith, None, length-append}
+use Rattle.std.specs.declared.option.Option.{Option}
 use Rattle.std.specs.List.{enumerate_from}
 use Rattle.std.proofs.lemmas.List.{length-map}
 use Rattle.std.proofs.lemmas.List.FromFn.{length-map-range_with_len}
@@ -9,17 +10,23 @@ use Rattle.grid_base.proofs.PointLaws.{point_at-position_of}
 use Rattle.mesh_base.specs.declared.MeshLists.{MeshLists}
 use Rattle.mesh_base.specs.Given.{mesh_of}
 use Rattle.mesh_base.specs.Mesh.{Mesh}
+use Rattle.mesh_base.specs.Valid.{IsValidSurface}
 use Rattle.mesh_plain.specs.Shape.{shape_fault}
 use Rattle.obj_text.specs.Obj.{Lists}
 use Rattle.obj_text.specs.Views.{lists_view}
 use Rattle.edit_base.specs.declared.PassKind.TheVariants as pass
+use Rattle.step_text.specs.Ranges.{AreInRange}
 use Rattle.step_text.specs.declared.Directive.{Directive}
 use Rattle.step_text.specs.declared.Directive.TheVariants.{ShiftOne, Step, Pass, Save}
 use Rattle.step_text.specs.declared.Placed.{Placed}
 use Rattle.mesh_make.specs.Cubes.{IsRow, cubes_lists, cubes_mesh}
 use Rattle.mesh_make.specs.CubeSteps.{cube_shift, cube_with, shifts_in, step_of, cubes_directives, cubes_steps, on_lines}
 use Rattle.mesh_make.proofs.Growing.{cubes-few}
-use Rattle.mesh_make.proofs.Shape.{cubes_have_no_fault}
+use Rattle.mesh_make.proofs.Shape.{cubes_are_sound, cubes_are_closed, cubes_have_no_fault}
+use Rattle.mesh_make.proofs.Clear.{cubes_are_clear}
+use Rattle.mesh_make.proofs.Ranges.{steps_in_range}
+use Rattle.outside_io.specs.Sink.{AppendsPart}
+use Rattle.outside_io.proofs.Written.{appended-nil}
 use Rattle.track_try.specs.Summary.{log_of_cubes, counts_of, summary_text, summary_of}
 use Rattle.track_try.specs.Told.{counts_in, HasRun}
 use Rattle.track_try.proofs.Counts.{counts_told}
@@ -41,11 +48,17 @@ shape_is lists n row view =
     ∙ ap (λ (l : Lists). shape_fault (length l.points) l.faces) view
     ∙ cubes_have_no_fault n row
 
+valid : (n : ℕ) → IsRow n → IsValidSurface (cubes_mesh n)
+valid n row = record { sound = cubes_are_sound n row; closed = cubes_are_closed n; clear = cubes_are_clear n row }
+
+pub good_mesh : (n : ℕ) (m : Mesh) → IsRow n → m ≡ cubes_mesh n → IsValidSurface m
+good_mesh n m row same = subst IsValidSurface (sym same) (valid n row)
+
 -- ---- the directives
 
 length-on_lines : (k : ℕ) (xs : List Directive) → length (map (λ (d : ℕ × Directive). let p : Placed = record { line = d.0; what = d.1 } in p) (enumerate_from k xs)) ≡ length xs
 length-on_lines k [] = refl
-length-on_lines k (x ∷ xs) = ap (λ n. n + 1) (length-on_lines (k + 1) xs)
+length-on_lines k (x ∷ xs) = ap suc (length-on_lines (k + 1) xs)
 
 step_length : (n key step : ℕ) → length (step_of n key step) ≡ 8 * (n * n * n) + 1
 step_length n key step =
@@ -53,28 +66,41 @@ step_length n key step =
     length-append (shifts_in n key step) (Step ∷ []) ∙ ap (λ (k : ℕ). k + 1) count
 
 -- there are few
-pub steps_few : (n key : ℕ) → IsRow n → length (cubes_steps n key) < 2 ^ 31
+steps_few : (n key : ℕ) → IsRow n → length (cubes_steps n key) < 2 ^ 31
 steps_few n key row =
     let few = cubes-few n row in
     let one = step_of n key 1 in
     let two = step_of n key 2 in
     let three = step_of n key 3 in
     let last = Pass (pass.Split 50) ∷ Save ∷ [] in
-    few_of (length-on_lines 1 (cubes_directives n key)) (length-append (one ++ two ++ three) last) (length-append one (two ++ three)) (length-append two three) (step_length n key 1) (step_length n key 2) (step_length n key 3) few
+    few_of (length-on_lines 1 (cubes_directives n key)) (length-append (one ++ two ++ three) last) (length-append (one ++ two) three) (length-append one two) (step_length n key 1) (step_length n key 2) (step_length n key 3) few
   where
-    few_of : {placed whole all both a b c cubes : ℕ} → placed ≡ whole → whole ≡ all + 2 → all ≡ a + both → both ≡ b + c → a ≡ 8 * cubes + 1 → b ≡ 8 * cubes + 1 → c ≡ 8 * cubes + 1 → cubes ≤ 1728 → placed < 2 ^ 31
+    few_of : {placed whole all both a b c cubes : ℕ} → placed ≡ whole → whole ≡ all + 2 → all ≡ both + c → both ≡ a + b → a ≡ 8 * cubes + 1 → b ≡ 8 * cubes + 1 → c ≡ 8 * cubes + 1 → cubes ≤ 1728 → placed < 2 ^ 31
     few_of o p q r s t u few = omega arith
+
+pub few_steps : (n key : ℕ) (steps : List Placed) → IsRow n → steps ≡ cubes_steps n key → length steps < 2 ^ 31
+few_steps n key steps row same = let P : List Placed → Type 0 = λ l. length l < 2 ^ 31 in subst P (sym same) (steps_few n key row)
+
+pub good_steps : (n key : ℕ) (steps : List Placed) → IsRow n → steps ≡ cubes_steps n key → AreInRange steps
+good_steps n key steps row same = subst AreInRange (sym same) (steps_in_range n key row)
 
 -- ---- the summary
 
 -- by the counts of what a sink was told, and by the mesh at the end
-pub sums_up : (n key : ℕ) (m now : Mesh) (told text : List ℕ) → m ≡ cubes_mesh n → HasRun m (cubes_steps n key) told now → text ≡ summary_text n key (counts_in told) now → text ≡ summary_of n key
-sums_up n key m now told text same run is =
+pub sums_up : (n key : ℕ) (m now : Mesh) (steps : List Placed) (told text : List ℕ) → m ≡ cubes_mesh n → steps ≡ cubes_steps n key → HasRun m steps told now → text ≡ summary_text n key (counts_in told) now → text ≡ summary_of n key
+unfolding summary_of
+sums_up n key m now steps told text same_mesh same_steps run is =
     let P : Mesh → Type 0 = λ m. HasRun m (cubes_steps n key) told now in
-    let ran = subst P same run in
+    let Q : List Placed → Type 0 = λ l. HasRun m l told now in
+    let ran = subst P same_mesh (subst Q same_steps run) in
     let counts : counts_in told ≡ counts_of (log_of_cubes n key) = ap counts_in ran.log ∙ counts_told (log_of_cubes n key) in
     is ∙ ap (λ c. summary_text n key c now) counts ∙ ap (summary_text n key (counts_of (log_of_cubes n key))) ran.mesh
 
 -- it is not empty
-pub some_summary : (n key : ℕ) → 0 < length (summary_of n key)
+some_summary : (n key : ℕ) → 0 < length (summary_of n key)
+unfolding summary_of
 some_summary n key = omega arith
+
+-- so nothing is a part of it
+pub nothing_of_summary : (n key : ℕ) (held : Option (List ℕ)) → AppendsPart held held (summary_of n key)
+nothing_of_summary n key held = (0, some_summary n key, sym (appended-nil held))

@@ -104,5 +104,5 @@ abbrev pub summary_text : ℕ → ℕ → Counts → Mesh → List ℕ
 summary_text n key counts m = job_text n key ++ kinds_text counts ++ end_text m ++ length_text counts
 
 -- the summary of the job of cubes, by its log and by the mesh to which the replay of the log leads
-abbrev pub summary_of : ℕ → ℕ → List ℕ
+unfoldable pub summary_of : ℕ → ℕ → List ℕ
 summary_of n key = summary_text n key (counts_of (log_of_cubes n key)) (replay_of_cubes n key).mesh

@@ -46,8 +46,8 @@ pub(crate) fn run<S: Surface + Drop, F: Fn(u8, Point) -> Shift>(
     let Ok(()) = engine.save(alloc, to, &mut desk, told) else {
         return Err(NoMemory);
     };
-    let Ok(_) = engine.follow(alloc, to, steps, &mut desk, told, fields) else {
-        return Err(NoMemory);
-    };
-    Ok(engine)
+    match engine.follow(alloc, to, steps, &mut desk, told, fields) {
+        Ok(_) => Ok(engine),
+        Err(_) => Err(NoMemory),
+    }
 }

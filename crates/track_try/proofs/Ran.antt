@@ -1,5 +1,5 @@
 -- What a run over counting sides comes to.
-use Rattle.std.proofs.Common.{◌≡◌, ℕ, ◌+◌, List, [], ◌∷◌, refl, ap, sym, ◌∙◌, subst, Some, Ok}
+use Rattle.std.proofs.Common.{◌≡◌, ℕ, ◌+◌, true, List, [], ◌∷◌, ap, sym, ◌∙◌, subst, Some, Ok}
 use Rattle.std.specs.declared.option.Option.{Option}
 use Rattle.mesh_base.specs.Mesh.{Mesh}
 use Rattle.mesh_base.specs.Valid.{IsValidSurface}
@@ -19,7 +19,7 @@ use Rattle.track_engine.specs.Invariant.{IsRunInvariant}
 use Rattle.track_engine.specs.Saved.{Target}
 use Rattle.track_engine.specs.World.{Contents, Logs}
 use Rattle.track_engine.proofs.Keeping.{kept_start}
-use Rattle.track_engine.proofs.Unasked.{unasked}
+use Rattle.track_engine.proofs.NoFields.{without_fields}
 use Rattle.track_try.specs.Summary.{whole_log}
 use Rattle.track_try.specs.Told.{HasRun}
 
@@ -35,7 +35,7 @@ module _ (m : Mesh) (first next : State) (new : first ≡ unsaved m) (saved : ne
   -- its log is whole, and its replay leads to where the engine then stands
   module _ (fields : Known) (none : fields.names ≡ []) (to : Target) (steps : List Placed) (last : State) (b c : Contents) (ending : Option Refusal) (f : FollowsAnswers fields to steps next last b c (Ok ending)) where
     same_log : log_from f.answers steps next ≡ log_from [] steps (start m)
-    same_log = unasked fields f.answers steps next none f.answered ∙ ap (log_from [] steps) begins
+    same_log = without_fields fields true f.answers steps next none f.answered ∙ ap (log_from [] steps) begins
 
     same_lines : (log_from f.answers steps next).lines ≡ (log_from [] steps (start m)).lines
     same_lines = ap (λ (l : ExpectedLog). l.lines) same_log
