@@ -1,4 +1,4 @@
-use Rattle.std.proofs.Common.{◌≡◌, sym, ap, refl, ◌∙◌}
+use Rattle.std.proofs.Common.{ap, refl, ◌∙◌}
 use Rattle.pair_scan.specs.Failed.{failed}
 use Rattle.pair_scan.specs.Passing.{has_none}
 use Rattle.pair_paths.specs.Frames.{HoldsFaceIn}
