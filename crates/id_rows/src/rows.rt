@@ -264,19 +264,32 @@ fn find<T: Copy>(items: &[Item<T>], id: u32) -> Result<usize, usize>
     Err(at)
 }
 
-/// A place near which the number may belong: the very place, where the ids rise by one.
+/// A place near which the number may belong: the very place, where the ids rise by one from the first up to it, or from it up
+/// to the last.
 fn guess<T: Copy>(items: &[Item<T>], id: u64) -> usize {
     if items.is_empty() {
         return 0;
     }
     let last = items.len() - 1;
-    let first = items[0].id as u64;
-    let span = (items[last].id as u64).saturating_sub(first);
-    let after = id.saturating_sub(first);
-    if span == last as u64 || span == 0 {
-        return after as usize;
+    let front = id.saturating_sub(items[0].id as u64) as usize;
+    if front <= last {
+        if items[front].id as u64 == id {
+            return front;
+        }
     }
-    (after.min(span).saturating_mul(last as u64) / span) as usize
+    let back = last.saturating_sub((items[last].id as u64).saturating_sub(id) as usize);
+    if items[back].id as u64 == id {
+        return back;
+    }
+    let between = spread(items[0].id as u64, items[last].id as u64, last as u64, id);
+    between.min(front as u64).max(back as u64) as usize
+}
+
+/// Where a number belongs if the ids rise evenly from the first to the last.
+fn spread(first: u64, end: u64, last: u64, id: u64) -> u64 {
+    let span = end.saturating_sub(first).max(1);
+    let after = id.saturating_sub(first).min(span);
+    after.saturating_mul(last) / span
 }
 
 /// Takes out the items of which nothing is left, where they are more than half.

@@ -45,6 +45,15 @@ stands-empty es s m none is sound =
       marks_buried = marks-none m;
     }))
 
+-- with no entry, whatever is buried
+pub stands-cleared : (es : List Entry) (s : State) (m : Mesh) → es ≡ [] → m ≡ s.mesh → MarksAreBuried s → IsSound m → Stands es s
+stands-cleared es s m none same marks sound =
+    subst (λ xs. Stands xs s) (sym none) (record {
+      undoable = tt;
+      trail_sound = All-cons IsSound s.mesh [] (subst IsSound same sound) (all_empty IsSound);
+      marks_buried = marks;
+    })
+
 -- ---- one change undone
 module _ (es rest : List Entry) (e : Entry) (s : State) (more : es ≡ rest ++ e ∷ []) (stood : Stands es s) where
   pub can_undo-last : CanUndo e s

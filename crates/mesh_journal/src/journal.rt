@@ -22,6 +22,8 @@ pub struct Journal<B: Undoable> {
     inner: B,
     entries: Vec<Entry>,
     boxes: Index,
+    // How many changes were settled since what is buried was last given up.
+    settled: usize,
     ghost undoable: { CanUndoAll entries.items (B.state inner) } by { CanUndoAll-prop entries.items (B.state inner) },
     ghost trail_sound: { All IsSound (trail entries.items (B.state inner)) },
     ghost marks_buried: { MarksAreBuried (B.state inner) },
@@ -46,6 +48,7 @@ impl<B: Undoable> Journal<B> {
             inner,
             entries: Vec::new(alloc),
             boxes: Index::none(),
+            settled: 0,
         }
     }
 
@@ -78,14 +81,16 @@ impl<B: Undoable> Journal<B> {
         self.inner.room(n)
     }
 
-    /// Gives up the journal and what is buried. Takes time in proportion to the mesh.
+    /// Gives up the journal. What is buried is given up too, now and then, so that a change costs no more for it than a few
+    /// looks.
     fn clear(&mut self)
         ensures mesh { mesh_in self.new ≡ mesh_in self.old }
         ensures kept { kept_in self.new ≡ mesh_in self.old ∷ [] }
         ensures spare { spare_in self.old ≤ spare_in self.new }
     {
         self.boxes.settle(&self.inner, &self.entries);
-        self.inner.forget();
+        let settled = self.settled.saturating_add(self.entries.len());
+        self.settled = forget_often(&mut self.inner, settled);
         self.entries.truncate(0);
     }
 
@@ -101,6 +106,21 @@ impl<B: Undoable> Journal<B> {
             self.boxes.cut(self.entries.len());
         }
     }
+}
+
+/// Gives up what is buried of a mesh, which takes time in proportion to the mesh, where so many settled changes pay for it.
+/// Answers how many were settled since.
+fn forget_often<B: Undoable>(mesh: &mut B, settled: usize) -> usize
+    ensures mesh { B.mesh mesh.new ≡ B.mesh mesh.old }
+    ensures state { (B.state mesh.new).mesh ≡ (B.state mesh.old).mesh }
+    ensures marks { MarksAreBuried (B.state mesh.old) → MarksAreBuried (B.state mesh.new) }
+    ensures spare { B.spare mesh.old ≤ B.spare mesh.new }
+{
+    if settled < mesh.faces() as usize / 8 {
+        return settled;
+    }
+    mesh.forget();
+    0
 }
 
 /// Undoes the change of an entry.

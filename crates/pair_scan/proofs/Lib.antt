@@ -6,6 +6,7 @@ pub mod ShiftSearch
 pub mod Paths
 pub mod Kept
 pub mod Fails
+pub mod NoneFail
 pub mod InOrder
 pub mod PairNames
 pub mod AllEnd

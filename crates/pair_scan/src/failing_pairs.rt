@@ -47,7 +47,7 @@ fn failed_with(e: &MovingEdge, f: &MovingFace, depth: u8) -> Option<PairName>
 }
 
 /// The same of the face of this number.
-fn failed_at(e: &MovingEdge, faces: &[MovingFace], k: u64, depth: u8) -> Option<PairName>
+pub(crate) fn failed_at(e: &MovingEdge, faces: &[MovingFace], k: u64, depth: u8) -> Option<PairName>
     requires depth_fits { depth ≤ DEPTH_MAX }
     ensures { result ≡ failed_with depth e.now (slice_get faces.now k) }
 {

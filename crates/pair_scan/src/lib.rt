@@ -8,6 +8,7 @@ mod lookup;
 mod meeting;
 mod motions;
 mod named;
+mod passing;
 mod views;
 
 pub use ends::end_in_box;
@@ -15,3 +16,4 @@ pub use failing_pairs::{Pairs, failing};
 pub use lookup::place_of;
 pub use meeting::first_meeting;
 pub use named::five_of;
+pub use passing::all_pass;

@@ -11,7 +11,7 @@ use crate::found::Found;
 use crate::settings::Settings;
 use grid_base::{NoMemory, Shift, halved};
 use mesh_base::{How, ShiftOf, Shifts, Surface};
-use pair_scan::failing;
+use pair_scan::all_pass;
 use std::alloc::Global;
 use step_zones::Blocks;
 
@@ -61,7 +61,8 @@ pub(crate) fn by_halving<S: Surface>(
     for k in 0..set.halvings {
         let times = k + 1;
         let taken = halved_times(alloc, asked.as_slice(), times)?;
-        if failing(alloc, mesh, &taken, set.depth)?.len() == 0 {
+        let pass = all_pass(alloc, mesh, &taken, set.depth)?;
+        if pass {
             return Ok(Some(Found {
                 how: How::Halved { times },
                 taken,

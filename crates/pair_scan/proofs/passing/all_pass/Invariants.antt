@@ -1,0 +1,13 @@
+use Rattle.std.proofs.Common.{◌≡◌, drop}
+use Rattle.std.specs.List.{flat_map}
+use Rattle.mesh_base.specs.Pairs.{pairs_of}
+use Rattle.pair_scan.specs.Failed.{failing_of}
+use Rattle.pair_scan.specs.Passing.{has_none}
+use Rattle.pair_scan.proofs.passing.all_pass.Given as goal
+
+-- whether all pass is whether the pairs of the edges that are left do
+abbrev pub invariant-loop-a : goal.invariant-loop-a
+invariant-loop-a g l =
+    let m = g.S.Surface.mesh l.mesh in
+    has_none (flat_map (λ e. failing_of m l.by l.depth (pairs_of m e)) (drop l.a-index l.a-items))
+    ≡ has_none (flat_map (λ e. failing_of m l.by l.depth (pairs_of m e)) l.a-items)

@@ -1,0 +1,110 @@
+//! Whether all pairs pass in a motion: the scan for pairs that do not, ended at the first.
+ghost use Rattle.std.specs.Prelude.{◌≡◌, ◌≤◌, IsTrue, IfOk, IfSome};
+ghost use Rattle.mesh_base.specs.Failing.{failing};
+ghost use Rattle.grid_base.specs.declared.TheConstants.{DEPTH_MAX};
+ghost use Rattle.grid_decided.specs.Decided.{meets_exactly};
+ghost use Rattle.mesh_base.specs.Placements.{IsClearAlong};
+ghost use Rattle.mesh_base.specs.Shifts.{NameLive, end_in_box, moved_by};
+ghost use Rattle.pair_paths.specs.Bounds.{AreBoxes};
+ghost use Rattle.pair_paths.specs.Frames.{HoldsFaceIn};
+ghost use Rattle.pair_scan.specs.Failed.{failing_at, failing_among};
+ghost use Rattle.pair_scan.specs.Passing.{has_none};
+
+use crate::failing_pairs::failed_at;
+use crate::motions::Shifted;
+use crate::views::{View, Views, goes_with, views_of};
+use grid_base::{DEPTH_MAX, NoMemory};
+use mesh_base::{Shifts, Surface, edges_in_order};
+use pair_paths::{
+    HasBoundsIn, KnownPaths, MovingEdge, MovingFace, moving_edge, moving_faces, paths_of,
+};
+use std::alloc::Global;
+
+/// Whether the edge passes those of the faces of these numbers with which it is a pair.
+fn passes_near(e: &MovingEdge, faces: &[MovingFace], depth: u8, near: &[u64]) -> bool
+    requires depth_fits { depth ≤ DEPTH_MAX }
+    ensures { result ≡ has_none (failing_at depth e.now faces.now near.now) }
+{
+    for k in near {
+        if let Some(_name) = failed_at(e, faces, *k, depth) {
+            return false;
+        }
+    }
+    true
+}
+
+/// Whether the pairs of an edge pass. Sets `near` to the numbers of the faces whose boxes in the view's frame meet the edge's.
+fn passes_seen(
+    e: &MovingEdge,
+    faces: &[MovingFace],
+    view: &View,
+    depth: u8,
+    near: &mut Vec<u64>,
+) -> Result<bool, NoMemory>
+    requires depth_fits { depth ≤ DEPTH_MAX }
+    requires boxes { AreBoxes (HoldsFaceIn view.now.frame) faces.now view.now.boxes }
+    ensures { IfOk result (λ pass. pass ≡ has_none (failing_among depth e.now faces.now)) }
+{
+    view.boxes.overlapping(e.bounds_in(&view.frame), near)?;
+    Ok(passes_near(e, faces, depth, near))
+}
+
+/// The same, by the view whose frame goes more as the edge does.
+fn passes_of_edge(
+    e: &MovingEdge,
+    faces: &[MovingFace],
+    views: &Views,
+    depth: u8,
+    near: &mut Vec<u64>,
+) -> Result<bool, NoMemory>
+    requires depth_fits { depth ≤ DEPTH_MAX }
+    requires first { AreBoxes (HoldsFaceIn views.now.first.frame) faces.now views.now.first.boxes }
+    requires other { IfSome views.now.other (λ v. AreBoxes (HoldsFaceIn v.frame) faces.now v.boxes) }
+    ensures { IfOk result (λ pass. pass ≡ has_none (failing_among depth e.now faces.now)) }
+{
+    if let Some(other) = &views.other {
+        if goes_with(e, &other.frame, &views.first.frame) {
+            return passes_seen(e, faces, other, depth, near);
+        }
+    }
+    passes_seen(e, faces, &views.first, depth, near)
+}
+
+/// Whether all pairs pass where each vertex goes from its point by its shift: whether `failing` tells none. It ends at the
+/// first that does not pass. The shifts name the live vertices, by rising id, and end in the box. Refuses only where there is
+/// no memory.
+pub fn all_pass<S: Surface>(
+    alloc: Global,
+    mesh: &S,
+    by: &Shifts,
+    depth: u8,
+) -> Result<bool, NoMemory>
+    requires named { NameLive (S.mesh mesh.now) by.now }
+    requires in_box { IsTrue (end_in_box (S.mesh mesh.now) by.now) }
+    requires depth { depth ≤ DEPTH_MAX }
+    ensures exact { IfOk result (λ pass. pass ≡ has_none (failing meets_exactly (S.mesh mesh.now) by.now depth)) }
+    // All pass: no pair meets on the way.
+    ensures clear { IfOk result (λ pass. IsTrue pass → IsClearAlong (S.mesh mesh.now) (moved_by (S.mesh mesh.now) by.now)) }
+{
+    let shifted = Shifted {
+        mesh,
+        by: by.as_slice(),
+    };
+    let known = paths_of(alloc, mesh, &shifted)?;
+    let paths = KnownPaths {
+        paths: &shifted,
+        known: known.as_slice(),
+    };
+    let faces = moving_faces(alloc, mesh, &paths)?;
+    let views = views_of(alloc, faces.as_slice(), shifted.by)?;
+    let mut near = Vec::new(alloc);
+    let edges = edges_in_order(alloc, mesh)?;
+    for (a, b) in edges.as_slice() {
+        let e = moving_edge(&paths, *a, *b);
+        let pass = passes_of_edge(&e, faces.as_slice(), &views, depth, &mut near)?;
+        if !pass {
+            return Ok(false);
+        }
+    }
+    Ok(true)
+}
