@@ -7,13 +7,14 @@ use Rattle.grid_base.specs.declared.Point.{Point}
 use Rattle.mesh_base.specs.declared.marks.Mark.{Mark}
 use Rattle.mesh_base.specs.Mesh.{Mesh, IsLiveVertex, IsLiveFace, is_solid}
 use Rattle.mesh_base.specs.Sides.{above, runs, faces_running, faces_at}
+use Rattle.mesh_base.specs.Near.{faces_near}
 use Rattle.mesh_base.specs.Changes.{corners_of, corner_list, with_vertex, with_face, without_face, without_vertex, with_point, with_solid, IsFresh}
 use Rattle.mesh_base.specs.Given.{empty_mesh}
 use Rattle.mesh_base.specs.Kept.{MarkHolds}
 use Rattle.mesh_play.specs.declared.calls.Call.{Call}
 use Rattle.mesh_play.specs.declared.calls.Call.TheVariants.{Ask, Make, MakeMark, BackTo, Settle}
 use Rattle.mesh_play.specs.declared.calls.Question.{Question}
-use Rattle.mesh_play.specs.declared.calls.Question.TheVariants.{CountVertices, CountFaces, NextVertex, NextFace, VertexAfter, FaceAfter, PointOf, IsSolid, CornersOf, CountRuns, RunFace, FacesAt}
+use Rattle.mesh_play.specs.declared.calls.Question.TheVariants.{CountVertices, CountFaces, NextVertex, NextFace, VertexAfter, FaceAfter, PointOf, IsSolid, CornersOf, CountRuns, RunFace, FacesAt, FacesNear}
 use Rattle.mesh_play.specs.declared.calls.Act.{Act}
 use Rattle.mesh_play.specs.declared.calls.Act.TheVariants.{AddVertex, AddFace, DropFace, DropVertex, Place, MakeSolid}
 use Rattle.mesh_play.specs.declared.calls.Answer.{Answer}
@@ -81,6 +82,7 @@ told m (CornersOf f) = CornersFound (option_map corner_list (finite.get m.faces 
 told m (CountRuns u v) = Number (runs m u v)
 told m (RunFace u v nth) = FaceFound (slice_get (faces_running m u v) nth)
 told m (FacesAt v) = faces_answer (faces_at m v)
+told m (FacesNear at) = faces_answer (faces_near m at)
 
 -- what an act makes of the mesh
 abbrev pub acted : Mesh → Act → Mesh

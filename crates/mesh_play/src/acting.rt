@@ -7,8 +7,8 @@ use crate::calls::{Act, Answer};
 use grid_base::{NoMemory, Point};
 use mesh_base::{AddFault, Surface, VertexId};
 
-/// Does an act. What was kept stays.
-pub(crate) fn do_act<S: Surface>(surface: &mut S, act: &Act) -> Result<Answer, NoMemory>
+/// Does an act, and answers what was made. What was kept stays.
+pub fn do_act<S: Surface>(surface: &mut S, act: &Act) -> Result<Answer, NoMemory>
     requires { IsAllowed (S.mesh surface.old) act.now }
     ensures answer { IfOk result (λ answer. answer ≡ act_answer (S.mesh surface.old) act.now) }
     ensures mesh { OnOk result (S.mesh surface.new ≡ acted (S.mesh surface.old) act.now) }

@@ -1,9 +1,10 @@
 ghost use Rattle.std.specs.Prelude.{◌≡◌, IfOk};
+ghost use Rattle.mesh_base.specs.Near.{faces_near};
 ghost use Rattle.mesh_base.specs.Sides.{faces_at};
 ghost use Rattle.mesh_play.specs.Play.{told, faces_answer};
 
 use crate::calls::{Answer, Question};
-use grid_base::NoMemory;
+use grid_base::{Extent, NoMemory};
 use mesh_base::{FaceIds, Surface, VertexId};
 use std::alloc::Global;
 
@@ -47,17 +48,29 @@ pub(crate) fn answer_to<S: Surface>(
         Question::RunFace { u, v, nth } => Answer::FaceFound {
             f: surface.run_face(u, v, nth),
         },
-        Question::FacesAt { v } => faces_found(alloc, surface, v)?,
+        Question::FacesAt { v } => found_at(alloc, surface, v)?,
+        Question::FacesNear { at } => found_near(alloc, surface, at)?,
     };
     Ok(answer)
 }
 
 /// The faces at a vertex.
-fn faces_found<S: Surface>(alloc: Global, surface: &S, v: VertexId) -> Result<Answer, NoMemory>
+fn found_at<S: Surface>(alloc: Global, surface: &S, v: VertexId) -> Result<Answer, NoMemory>
     ensures { IfOk result (λ answer. answer ≡ faces_answer (faces_at (S.mesh surface.now) v)) }
 {
     let mut found = Vec::new(alloc);
     surface.faces_at(v, &mut found)?;
+    Ok(Answer::FacesFound {
+        faces: FaceIds::from_vec(found),
+    })
+}
+
+/// The faces near an extent.
+fn found_near<S: Surface>(alloc: Global, surface: &S, at: Extent) -> Result<Answer, NoMemory>
+    ensures { IfOk result (λ answer. answer ≡ faces_answer (faces_near (S.mesh surface.now) at)) }
+{
+    let mut found = Vec::new(alloc);
+    surface.faces_near(at, &mut found)?;
     Ok(Answer::FacesFound {
         faces: FaceIds::from_vec(found),
     })

@@ -1,4 +1,4 @@
-use grid_base::{Items, Point};
+use grid_base::{Extent, Items, Point};
 use mesh_base::{FaceId, FaceIds, VertexId};
 
 /// A call of a surface.
@@ -32,6 +32,7 @@ pub enum Question {
     CountRuns { u: VertexId, v: VertexId },
     RunFace { u: VertexId, v: VertexId, nth: u32 },
     FacesAt { v: VertexId },
+    FacesNear { at: Extent },
 }
 
 /// A call that changes the mesh.
@@ -64,7 +65,7 @@ pub enum Answer {
     PointFound { p: Option<Point> },
     /// The corners of the face, if it lives.
     CornersFound { c: Option<[VertexId; 3]> },
-    /// The faces at the vertex.
+    /// The faces at the vertex, or near the extent.
     FacesFound { faces: FaceIds },
     /// The vertex that was made.
     VertexMade { v: VertexId },

@@ -6,5 +6,6 @@ mod asking;
 mod calls;
 mod playing;
 
+pub use acting::do_act;
 pub use calls::{Act, Answer, Answers, Call, Question};
-pub use playing::{play, play_both};
+pub use playing::{play, play_both, play_one};

@@ -41,8 +41,9 @@ pub fn play_both<S: Surface, T: Surface>(
     Ok((first, second))
 }
 
-/// One call, made of the surface. Where memory is wanting nothing is said.
-fn play_one<S: Surface>(
+/// One call, made of the surface. `marks` are those that were made and not taken back, the oldest first. Where memory is
+/// wanting nothing is said.
+pub fn play_one<S: Surface>(
     alloc: Global,
     surface: &mut S,
     marks: &mut Vec<Mark>,
