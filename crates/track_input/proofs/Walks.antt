@@ -41,6 +41,13 @@ no_number : (zero_first : Bool) (n : ℕ) → (if zero_first && nat_lt 1 (length
 no_number true n e = cc
 no_number false n e = cc
 
+-- digits begin no option
+digits_plain : (b : ℕ) (bs : List ℕ) → list_all is_digit (b ∷ bs) ≡ true → IsPlainWord (b ∷ bs)
+digits_plain b bs digits =
+    let digit : is_digit b ≡ true = (and_parts (is_digit b) (list_all is_digit bs) digits).0 in
+    let at_least : 48 ≤ b = leb-true 48 b (and_parts (nat_le 48 b) (nat_le b 57) digit).0 in
+    begins_plain b bs (ne_eqb b 45 (λ e. omega (arith, e, at_least)))
+
 -- the word of a number
 pub plain_number : (w : List ℕ) (n : ℕ) → spelled_number w ≡ Some n → IsPlainWord w
 plain_number [] n e = absurd (no_number (begins_with 48 []) n e)
@@ -52,10 +59,7 @@ plain_number (b ∷ bs) n e = elim (cases_Bool (begins_with 48 (b ∷ bs) && nat
     at_digits : number_within DIGITS_MAX (b ∷ bs) ≡ Some n → IsPlainWord (b ∷ bs)
     at_digits g = elim (cases_Bool (nat_le 1 (length (b ∷ bs)) && nat_le (length (b ∷ bs)) DIGITS_MAX && list_all is_digit (b ∷ bs))) [
       | inr fails ↦ absurd (let h = rw fails at g in cc)
-      | inl all ↦
-          let digits : list_all is_digit (b ∷ bs) ≡ true = (and_parts _ _ all).1 in
-          let digit : is_digit b ≡ true = (and_parts _ _ digits).0 in
-          begins_plain b bs (ne_eqb b 45 (λ e. let le : 48 ≤ b = leb-true 48 b (and_parts _ _ digit).0 in omega arith))
+      | inl all ↦ digits_plain b bs (and_parts (nat_le 1 (length (b ∷ bs)) && nat_le (length (b ∷ bs)) DIGITS_MAX) (list_all is_digit (b ∷ bs)) all).1
     ]
 
 -- what stands in the rows for each word
