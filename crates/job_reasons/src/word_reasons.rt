@@ -1,4 +1,5 @@
 // Why the words of a command line are of no listed form.
+use line_text::spelled_number;
 use std::alloc::{AllocError, Global};
 
 // Whether a word may name a file: it is not empty and has no dash in front.
@@ -14,72 +15,225 @@ fn has_format(word: &[u8]) -> bool {
     word.ends_with(b".obj") || word.ends_with(b".off") || word.ends_with(b".ply")
 }
 
-// Says what is wrong with the words behind the files, of which there is one or more.
-fn behind_reason(alloc: Global, behind: &[String]) -> Result<String, AllocError> {
-    match behind {
-        [option] if option.as_str() == "--decimals" => {
-            String::from_str(alloc, "`--decimals` wants a digit from 0 to 6")
-        }
-        [option, digit] if option.as_str() == "--decimals" => {
-            let digit = digit.as_str();
-            format!(in alloc; "{digit:?} are no decimals, which are one digit from 0 to 6")
-        }
-        [option, _, word, ..] if option.as_str() == "--decimals" => {
-            let word = word.as_str();
-            format!(in alloc; "{word:?} is a word too many")
-        }
-        [word, ..] => {
-            let word = word.as_str();
-            format!(in alloc;
-                "{word:?} is a word too many: only `--decimals N` may stand behind the files"
-            )
-        }
-        [] => String::from_str(alloc, "the words are of no listed form"),
+// Whether a word is one digit from 0 to 6.
+fn is_decimals(word: &[u8]) -> bool {
+    match word {
+        [digit] => *digit >= b'0' && *digit <= b'6',
+        _ => false,
     }
 }
 
-// Says what is wrong with the words behind a command that wants so many files, which end in a format's ending or need not.
-fn files_reason(
+// Whether a word is a number from `low` to `high`, in digits with no needless zero in front.
+fn is_number_in(low: u32, high: u32, word: &[u8]) -> bool {
+    match spelled_number(word) {
+        Some(n) => u128::from(low) <= n && n <= u128::from(high),
+        None => false,
+    }
+}
+
+// What the next word behind `track` or `convert` can be.
+#[derive(Clone, Copy, PartialEq, Eq)]
+enum Awaited {
+    // The name of a file, or an option.
+    Any,
+    // The digit of `--decimals`.
+    Digit,
+    // The name of a file alone, behind `--`.
+    File,
+}
+
+// What a word behind `track` or `convert` is taken as.
+#[derive(Clone, Copy)]
+enum Taken<'a> {
+    // The end of the options, `--`.
+    Dashes,
+    // `--decimals`, whose digit is the next word.
+    Decimals,
+    // What `--decimals=` has behind it.
+    DecimalsWith(&'a str),
+    // The word behind `--decimals`.
+    Digit(&'a str),
+    // An option that there is not.
+    Unknown(&'a str),
+    // The name of a file.
+    File(&'a str),
+}
+
+// What a word is taken as. Options may stand before the files, among them and behind them.
+fn taken_as(awaited: Awaited, word: &str) -> Taken<'_> {
+    match awaited {
+        Awaited::Digit => Taken::Digit(word),
+        Awaited::File => Taken::File(word),
+        Awaited::Any => match word.strip_prefix("--decimals=") {
+            Some(digit) => Taken::DecimalsWith(digit),
+            None => match word.as_bytes() {
+                b"--" => Taken::Dashes,
+                b"--decimals" => Taken::Decimals,
+                [b'-', _, ..] => Taken::Unknown(word),
+                _ => Taken::File(word),
+            },
+        },
+    }
+}
+
+// Says what is wrong with a word as the decimals, if anything is; `again` says that they were given before.
+fn decimals_reason(alloc: Global, digit: &str, again: bool) -> Result<Option<String>, AllocError> {
+    if again {
+        return Ok(Some(String::from_str(alloc, "`--decimals` is given twice")?));
+    }
+    if is_decimals(digit.as_bytes()) {
+        return Ok(None);
+    }
+    let said = format!(in alloc; "{digit:?} are no decimals, which are one digit from 0 to 6")?;
+    Ok(Some(said))
+}
+
+// Says that there is no such option.
+fn unknown_reason(alloc: Global, word: &str) -> Result<String, AllocError> {
+    match word.as_bytes() {
+        b"--help" | b"-h" => format!(in alloc; "{word} stands alone, or alone behind a command"),
+        _ => format!(in alloc;
+            "{word:?} has a dash in front, so it is no name of a file, and the only option is `--decimals N`"
+        ),
+    }
+}
+
+// What a command wants: how it is called, so many files, and whether each has to end in a format's ending.
+#[derive(Clone, Copy)]
+struct Wanted {
+    form: &'static str,
+    files: usize,
+    formats: bool,
+}
+
+// Says what is wrong with a word as the name of a file, if anything is; so many stand before it.
+fn file_reason(
     alloc: Global,
-    form: &str,
-    count: usize,
-    wants_format: bool,
-    words: &[String],
-) -> Result<String, AllocError> {
-    let given = words.len();
-    if given < count {
-        return format!(in alloc;
-            "`topo {form}` wants {count} names of files, and {given} are given"
-        );
+    wanted: Wanted,
+    before: usize,
+    word: &str,
+) -> Result<Option<String>, AllocError> {
+    let form = wanted.form;
+    if before >= wanted.files {
+        let said = format!(in alloc;
+            "{word:?} is a word too many: behind the files of `topo {form}` only `--decimals N` may stand"
+        )?;
+        return Ok(Some(said));
     }
-    for word in &words[..count] {
-        let word = word.as_str();
-        if !is_file_word(word.as_bytes()) {
-            return format!(in alloc;
-                "{word:?} is no name of a file here: it is empty, or has a dash in front"
-            );
-        }
-        if wants_format && !has_format(word.as_bytes()) {
-            return format!(in alloc; "{word:?} ends neither in .obj nor in .off nor in .ply");
-        }
+    if !is_file_word(word.as_bytes()) {
+        let said = format!(in alloc;
+            "{word:?} is no name of a file here: it is empty, or has a dash in front"
+        )?;
+        return Ok(Some(said));
     }
-    behind_reason(alloc, &words[count..])
+    if wanted.formats && !has_format(word.as_bytes()) {
+        let said = format!(in alloc; "{word:?} ends neither in .obj nor in .off nor in .ply")?;
+        return Ok(Some(said));
+    }
+    Ok(None)
 }
 
-/// Says which word of a command line is at fault, where the words are of no listed form.
-pub fn words_reason(alloc: Global, words: &[String]) -> Result<String, AllocError> {
+// Says what is wrong with the words behind `track` or `convert`: it tells the first word that is at fault, in the order in which they
+// are taken, or what is lacking at their end.
+fn files_reason(alloc: Global, wanted: Wanted, words: &[String]) -> Result<String, AllocError> {
+    let mut awaited = Awaited::Any;
+    let mut files: usize = 0;
+    let mut has_decimals = false;
+    for word in words {
+        let reason = match taken_as(awaited, word.as_str()) {
+            Taken::Dashes => {
+                awaited = Awaited::File;
+                None
+            }
+            Taken::Decimals => {
+                awaited = Awaited::Digit;
+                None
+            }
+            Taken::Digit(digit) | Taken::DecimalsWith(digit) => {
+                let reason = decimals_reason(alloc, digit, has_decimals)?;
+                awaited = Awaited::Any;
+                has_decimals = true;
+                reason
+            }
+            Taken::Unknown(word) => Some(unknown_reason(alloc, word)?),
+            Taken::File(word) => {
+                let reason = file_reason(alloc, wanted, files, word)?;
+                files = files.saturating_add(1);
+                reason
+            }
+        };
+        if let Some(reason) = reason {
+            return Ok(reason);
+        }
+    }
+    if awaited == Awaited::Digit {
+        return String::from_str(alloc, "`--decimals` wants a digit from 0 to 6");
+    }
+    let (form, wants) = (wanted.form, wanted.files);
+    format!(in alloc; "`topo {form}` wants {wants} names of files, and {files} are given")
+}
+
+// Says what is wrong with the words behind `try`: it tells the first that is at fault, or that there are too few.
+fn numbers_reason(alloc: Global, most_cubes: u8, words: &[String]) -> Result<String, AllocError> {
+    let most_key = u32::MAX;
+    let mut numbers: usize = 0;
+    let mut has_dashes = false;
+    for word in words {
+        let word = word.as_str();
+        if word == "--" && !has_dashes {
+            has_dashes = true;
+        } else if numbers == 0 && !is_number_in(1, u32::from(most_cubes), word.as_bytes()) {
+            return format!(in alloc;
+                "{word:?} is no N of `topo try N KEY`: N is 1 to {most_cubes}, in digits with no needless zero in front"
+            );
+        } else if numbers == 1 && !is_number_in(0, most_key, word.as_bytes()) {
+            return format!(in alloc;
+                "{word:?} is no KEY of `topo try N KEY`: KEY is 0 to {most_key}, in digits with no needless zero in front"
+            );
+        } else if numbers >= 2 {
+            return format!(in alloc;
+                "{word:?} is a word too many: `topo try N KEY` wants two numbers"
+            );
+        } else {
+            numbers += 1;
+        }
+    }
+    format!(in alloc;
+        "`topo try N KEY` wants two numbers, and {numbers} are given: N is 1 to {most_cubes}, KEY is 0 to {most_key}"
+    )
+}
+
+/// Says which word of a command line is at fault, where the words are of no listed form. N of `try` is at most `most_cubes`.
+pub fn words_reason(alloc: Global, words: &[String], most_cubes: u8) -> Result<String, AllocError> {
     match words {
         [] => String::from_str(alloc, "no command is given"),
         [command, others @ ..] => match command.as_bytes() {
-            b"track" => files_reason(alloc, "track MESH STEPS PREFIX", 3, false, others),
-            b"convert" => files_reason(alloc, "convert FROM TO", 2, true, others),
+            b"track" => {
+                let wanted = Wanted {
+                    form: "track MESH STEPS PREFIX",
+                    files: 3,
+                    formats: false,
+                };
+                files_reason(alloc, wanted, others)
+            }
+            b"convert" => {
+                let wanted = Wanted {
+                    form: "convert FROM TO",
+                    files: 2,
+                    formats: true,
+                };
+                files_reason(alloc, wanted, others)
+            }
+            b"try" => numbers_reason(alloc, most_cubes, others),
             b"--help" | b"-h" | b"--version" => {
                 let command = command.as_str();
                 format!(in alloc; "{command} stands alone")
             }
             _ => {
                 let command = command.as_str();
-                format!(in alloc; "{command:?} is no command")
+                format!(in alloc;
+                    "{command:?} is no command: the commands are `track`, `convert` and `try`"
+                )
             }
         },
     }

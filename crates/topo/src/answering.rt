@@ -18,12 +18,15 @@ use track_run::{Outcome, run};
 pub(crate) const USAGE: &str = "\
 usage: topo track MESH STEPS PREFIX [--decimals N]
        topo convert FROM TO [--decimals N]
+       topo try N KEY
+       topo track --help | convert --help | try --help
        topo --help | --version
 
 Reads the Wavefront OBJ mesh MESH and the text of steps STEPS, moves the closed triangle surface by
 the steps and edits it, writes the log to standard output, and stores the meshes as PREFIX-000000.obj,
 PREFIX-000001.obj and so on. `convert` stores the mesh FROM under TO, each in the format of its ending:
-.obj, .off (OFF) or .ply (ASCII PLY).
+.obj, .off (OFF) or .ply (ASCII PLY). `try` makes a job of N * N * N cubes by KEY, runs it, and writes a
+summary of its log (N from 1 to 12, KEY from 0 to 4294967295); it reads and stores no file.
 
 --decimals N    a unit of the grid is 10 to the power -N (N from 0 to 6; 0 if left out)
 

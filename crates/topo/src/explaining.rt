@@ -14,7 +14,7 @@ use outside_io::{Desk, FileDesk, Trouble};
 use std::alloc::{AllocError, Global};
 use std::fs;
 use std::rt::Files;
-use track_input::{Command, command_of};
+use track_input::{CUBES_MAX, Command, command_of};
 use track_run::Outcome;
 
 // The names of a job's two files, and the decimals of its points. A conversion has the file that it reads as both.
@@ -26,7 +26,7 @@ pub(crate) struct Names<'a> {
     ghost few: { decimals ≤ DECIMALS_MAX },
 }
 
-// The names that the words tell, if they are of a listed form.
+// The names that the words tell, if they are of a listed form that has files.
 pub(crate) fn names_of(alloc: Global, words: &[String]) -> Option<Names<'_>> {
     match command_of(alloc, words).ok()?? {
         Command::Track {
@@ -44,6 +44,7 @@ pub(crate) fn names_of(alloc: Global, words: &[String]) -> Option<Names<'_>> {
             steps: from.name,
             decimals,
         }),
+        Command::Try { .. } => None,
     }
 }
 
@@ -119,7 +120,7 @@ pub(crate) fn explain<R: Files>(
     match outcome {
         Outcome::Done => Ok(String::new(alloc)),
         Outcome::NoMemory => String::from_str(alloc, "there is not enough memory"),
-        Outcome::Usage => words_reason(alloc, words),
+        Outcome::Usage => words_reason(alloc, words, CUBES_MAX),
         Outcome::DeskFault => trouble_reason(alloc, trouble),
         Outcome::SinkFault => String::from_str(alloc, "standard output could not be written"),
         Outcome::TooLong { file, .. } => long_reason(alloc, name_of(names, file)),

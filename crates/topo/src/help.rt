@@ -26,6 +26,22 @@ The ending of each name picks its format: .obj (Wavefront OBJ), .off (OFF) or .p
 
 docs/FORMATS.md has all texts. `topo --help` lists the exit statuses.";
 
+const SUMMARY: &str = "\
+N is 1 to 12 and KEY 0 to 4294967295, both in digits with no needless zero in front.
+
+The job has N * N * N cubes of side 40, 100 apart. In each of three steps each cube moves as a whole by 1 to 9
+along each axis, as KEY picks; then edges longer than 50 are split, and the mesh is saved. Nothing is read or
+stored. What is written, of the job's whole log:
+  try N KEY         the words
+  cubes C           how many cubes there are
+  steps S whole W   how many steps there are, and how many of them are taken unaltered
+  splits X          how many edges are split
+  mesh V F          how many vertices and faces the mesh has at the end
+  corner X Y Z      where vertex 1 then stands
+  lines L           how many lines the log has
+
+docs/FORMATS.md has all texts. `topo --help` lists the exit statuses.";
+
 // A word that has to be given.
 fn word<'a>(alloc: Global, name: &'a str, help: &'a str) -> Arg<'a> {
     Arg::new(alloc, name)
@@ -66,6 +82,14 @@ fn convert<'a>(alloc: Global) -> Result<Command<'a>, AllocError> {
         .arg(decimals(alloc))
 }
 
+fn try_cubes<'a>(alloc: Global) -> Result<Command<'a>, AllocError> {
+    Command::new(alloc, "try")
+        .about("Makes a job of cubes by a key, runs it, and sums up its log")
+        .after_help(SUMMARY)
+        .arg(word(alloc, "N", "How many cubes stand in a row"))?
+        .arg(word(alloc, "KEY", "Picks how each cube moves"))
+}
+
 /// How the command is called; None, where there is no such command.
 pub(crate) fn command_help(alloc: Global, name: &str) -> Result<Option<String>, AllocError> {
     match name {
@@ -75,6 +99,10 @@ pub(crate) fn command_help(alloc: Global, name: &str) -> Result<Option<String>, 
         }
         "convert" => {
             let mut command = convert(alloc)?.bin_name("topo convert")?;
+            Ok(Some(command.render_help()?))
+        }
+        "try" => {
+            let mut command = try_cubes(alloc)?.bin_name("topo try")?;
             Ok(Some(command.render_help()?))
         }
         _ => Ok(None),

@@ -1,5 +1,5 @@
 -- From what a command finds to how the words are read.
-use Rattle.std.proofs.Common.{String, Global, string_bytes, map, inl, inr, ◌≡◌, ◌∙◌, ◌&&◌, ◌||◌, cond, ℕ, Bool, true, false, refl, sym, ap, subst, List, [], ◌∷◌, ◌++◌, Option, Some, None, Result, Ok, Err, IfOk, codes}
+use Rattle.std.proofs.Common.{String, Global, string_bytes, map, inl, inr, ◌≡◌, ◌∙◌, ◌&&◌, ◌||◌, cond, ℕ, Bool, true, false, refl, sym, ap, subst, List, [], ◌∷◌, ◌++◌, ◌-◌, ◌^◌, Option, Some, None, Result, Ok, Err, IfOk, codes}
 use Rattle.std.specs.Prelude.{◌⊎◌, All, Contains, IfSome, option_map, slice_get}
 use Rattle.std.specs.Option.{option_and_then}
 use Rattle.std.specs.Str.{bytes_eq}
@@ -11,12 +11,14 @@ use Rattle.clap.specs.declared.parser.matches.ArgMatches.{ArgMatches}
 use Rattle.clap.proofs.WalkLemmas.{first_value-rows}
 use Rattle.clap.specs.Simple.{built}
 use Rattle.clap.specs.Walk.{Rule, takes_values}
-use Rattle.track_input.specs.Words.{MeshName, Named, Track, Convert, named_in, track_in, convert_in, decimals_in, mesh_name_of, is_file_word, is_decimals}
+use Rattle.line_text.specs.Spellings.{spelled_number}
+use Rattle.track_input.specs.declared.command.TheConstants.{CUBES_MAX}
+use Rattle.track_input.specs.Words.{MeshName, Named, Track, Convert, Try, named_in, track_in, convert_in, try_in, between, number_in, decimals_in, mesh_name_of, is_file_word, is_decimals}
 use Rattle.track_input.specs.Named.{named_by}
 use Rattle.track_input.specs.declared.command.Command.{Command}
 use Rattle.track_input.specs.Taken.{AreTakenAs, IsReading}
-use Rattle.track_input.specs.Commands.{Values, IsFound, IsReadBy, values_in, track_app, track_of, track_read, convert_app, convert_of, convert_read}
-use Rattle.track_input.proofs.Walks.{plain_word, plain_digit, track_taken, track_found, track_taken_with, track_found_with, convert_taken, convert_found, convert_taken_with, convert_found_with}
+use Rattle.track_input.specs.Commands.{Values, IsFound, IsReadBy, values_in, track_app, track_of, track_read, convert_app, convert_of, convert_read, try_app, try_of, try_read}
+use Rattle.track_input.proofs.Walks.{IsPlainWord, plain_word, plain_digit, plain_number, try_taken, try_found, track_taken, track_found, track_taken_with, track_found_with, convert_taken, convert_found, convert_taken_with, convert_found_with}
 use Rattle.track_input.proofs.Among.{AreSafe, FoundLong, IsSetRule, RowsFrom, rows_from, first_from, contains_here, contains_later}
 
 -- ---- the reading
@@ -61,6 +63,9 @@ module _ (read : Values → Option Named) (app same : App) (words : List (List �
 
 pub track_by_rows : (m : ArgMatches) → track_read (first_value (found_of m)) ≡ track_read (λ id. first_of id (rows_of (found_of m)))
 track_by_rows m = rw (first_value-rows (found_of m) (codes "mesh"), first_value-rows (found_of m) (codes "steps"), first_value-rows (found_of m) (codes "prefix"), first_value-rows (found_of m) (codes "decimals")) refl
+
+pub try_by_rows : (m : ArgMatches) → try_read (first_value (found_of m)) ≡ try_read (λ id. first_of id (rows_of (found_of m)))
+try_by_rows m = rw (first_value-rows (found_of m) (codes "cubes"), first_value-rows (found_of m) (codes "key")) refl
 
 pub convert_by_rows : (m : ArgMatches) → convert_read (first_value (found_of m)) ≡ convert_read (λ id. first_of id (rows_of (found_of m)))
 convert_by_rows m = rw (first_value-rows (found_of m) (codes "from"), first_value-rows (found_of m) (codes "to"), first_value-rows (found_of m) (codes "decimals")) refl
@@ -145,6 +150,28 @@ convert_listed zeroth (a ∷ b ∷ rest) x e = at_names (mesh_name_of a) (mesh_n
     at_names (Some from) None is_m is_n g = absurd (cc)
     at_names (Some from) (Some to) is_m is_n g = at_rest from to rest (mesh_word a from is_m) (mesh_word b to is_n) e g
 
+number_word : (low high : ℕ) (word : List ℕ) (n : ℕ) → number_in low high word ≡ Some n → IsPlainWord word
+number_word low high word n e = at (spelled_number word) refl e
+  where
+    at : (o : Option ℕ) → spelled_number word ≡ o → between low high o ≡ Some n → IsPlainWord word
+    at None is g = absurd (cc)
+    at (Some m) is g = plain_number word m is
+
+try_listed : (zeroth : List ℕ) (rest : List (List ℕ)) (x : Named) → try_in rest ≡ Some x → Finds try_read try_app (zeroth ∷ rest) x
+try_listed zeroth [] x e = absurd (cc)
+try_listed zeroth (a ∷ []) x e = absurd (cc)
+try_listed zeroth (a ∷ b ∷ y ∷ ys) x e = absurd (cc)
+try_listed zeroth (a ∷ b ∷ []) x e = at (number_in 1 CUBES_MAX a) (number_in 0 (2 ^ 32 - 1) b) refl refl e
+  where
+    at : (m n : Option ℕ) → number_in 1 CUBES_MAX a ≡ m → number_in 0 (2 ^ 32 - 1) b ≡ n → option_and_then (λ i. option_map (λ k. Try i k) n) m ≡ Some x → Finds try_read try_app (zeroth ∷ a ∷ b ∷ []) x
+    at None n is_m is_n g = absurd (cc)
+    at (Some i) None is_m is_n g = absurd (cc)
+    at (Some i) (Some k) is_m is_n g =
+        let pa = number_word 1 CUBES_MAX a i is_m in
+        let pb = number_word 0 (2 ^ 32 - 1) b k is_n in
+        let f = try_found zeroth a b pa pb in
+        record { taken = try_taken zeroth a b pa pb; found = rw (f.cubes, f.key) e }
+
 -- ---- words that are taken
 
 long_found : (words : List (List ℕ)) (rule : Rule) (long : List ℕ) → IsSetRule rule → rule.id ≡ codes "decimals" → takes_values rule ≡ true → (b : Bool) → bytes_eq (codes "decimals") long ≡ b → FoundLong words long (cond (b || false) (Some rule) None)
@@ -162,6 +189,13 @@ convert_is_safe : (words : List (List ℕ)) → AreSafe words (built convert_app
 convert_is_safe words = record {
   set = (record { action = refl; missing = refl; defaults = refl }, (record { action = refl; missing = refl; defaults = refl }, (record { action = refl; missing = refl; defaults = refl }, tt)));
   long = λ long. long_found words _ long (record { action = refl; missing = refl; defaults = refl }) refl refl (bytes_eq (codes "decimals") long) refl;
+  short = λ x. refl;
+}
+
+try_is_safe : (words : List (List ℕ)) → AreSafe words (built try_app).top.rules
+try_is_safe words = record {
+  set = (record { action = refl; missing = refl; defaults = refl }, (record { action = refl; missing = refl; defaults = refl }, tt));
+  long = λ long. tt;
   short = λ x. refl;
 }
 
@@ -227,6 +261,26 @@ convert_among rest rows from x e = at (first_of (codes "from") rows) (first_of (
           decimals = digit_among words rows from d ed;
         }
 
+try_among : (rest : List (List ℕ)) (rows : List Row) → RowsFrom (codes "try" ∷ rest) rows → (x : Named) → try_read (λ id. first_of id rows) ≡ Some x → AreTakenAs (codes "try" ∷ rest) x
+try_among rest rows from x e = at (first_of (codes "cubes") rows) (first_of (codes "key") rows) refl refl e
+  where
+    at : (n k : Option (List ℕ)) → first_of (codes "cubes") rows ≡ n → first_of (codes "key") rows ≡ k → try_of n k ≡ Some x → AreTakenAs (codes "try" ∷ rest) x
+    at None k en ek e = absurd (cc)
+    at (Some a) None en ek e = absurd (cc)
+    at (Some a) (Some b) en ek e =
+        let words = codes "try" ∷ rest in
+        let ma : Contains words a = word_among words rows from (codes "cubes") a (λ w. absurd (cc)) en in
+        let mb : Contains words b = word_among words rows from (codes "key") b (λ w. absurd (cc)) ek in
+        record {
+          form = codes "try" ∷ a ∷ b ∷ [];
+          digit = None;
+          is_listed = e;
+          first = refl;
+          among = more words (codes "try") (a ∷ b ∷ []) (contains_here (codes "try") rest)
+              (more words a (b ∷ []) ma (more words b [] mb (All-nil (Contains words))));
+          decimals = tt;
+        }
+
 -- ---- each command
 
 track_serves : (rest : List (List ℕ)) → Serves track_read track_app (codes "track" ∷ rest)
@@ -241,6 +295,13 @@ convert_serves rest = record {
   listed = λ x e. convert_listed (codes "convert") rest x e;
   among = λ x e. convert_among rest (matches_of convert_app (codes "convert" ∷ rest))
       (rows_from (codes "convert" ∷ rest) _ (convert_is_safe (codes "convert" ∷ rest)) _ rest (λ v i. contains_later (codes "convert") v rest i)) x e;
+}
+
+try_serves : (rest : List (List ℕ)) → Serves try_read try_app (codes "try" ∷ rest)
+try_serves rest = record {
+  listed = λ x e. try_listed (codes "try") rest x e;
+  among = λ x e. try_among rest (matches_of try_app (codes "try" ∷ rest))
+      (rows_from (codes "try" ∷ rest) _ (try_is_safe (codes "try" ∷ rest)) _ rest (λ v i. contains_later (codes "try") v rest i)) x e;
 }
 
 -- ---- the first word
@@ -274,6 +335,13 @@ module _ {E : Type 0} (words : List (List ℕ)) (r : Result (Option Command) E) 
       at (Ok found) by = at_name (codes "convert") convert_read convert_app convert_serves words begins (option_map named_by found) by
       at (Err e) by = tt
 
+  pub reads_try : BeginWith (codes "try") words → IfOk r (λ found. IsReadBy try_read try_app words (option_map named_by found)) → IfOk r (λ found. IsReading words (option_map named_by found))
+  reads_try begins = at r
+    where
+      at : (r : Result (Option Command) E) → IfOk r (λ found. IsReadBy try_read try_app words (option_map named_by found)) → IfOk r (λ found. IsReading words (option_map named_by found))
+      at (Ok found) by = at_name (codes "try") try_read try_app try_serves words begins (option_map named_by found) by
+      at (Err e) by = tt
+
 differs : (word name : List ℕ) → (word ≡ name → ⊥) → bytes_eq word name ≡ false
 differs word name other = elim (cases_Bool (bytes_eq word name)) [
   | inl e ↦ absurd (other ((bytes_eq-Decides word name).0 e))
@@ -282,12 +350,12 @@ differs word name other = elim (cases_Bool (bytes_eq word name)) [
 
 -- words that begin otherwise are of no listed form
 pub unlisted : (words : List (String Global)) (word : String Global) (text : List ℕ) → Some word ≡ slice_get words 0 → text ≡ string_bytes word
-    → (text ≡ codes "track" → ⊥) → (text ≡ codes "convert" → ⊥) → named_in (map (λ w. string_bytes w) words) ≡ None
-unlisted [] word text first is a b = refl
-unlisted (w ∷ rest) word text first is a b =
+    → (text ≡ codes "track" → ⊥) → (text ≡ codes "convert" → ⊥) → (text ≡ codes "try" → ⊥) → named_in (map (λ w. string_bytes w) words) ≡ None
+unlisted [] word text first is a b c = refl
+unlisted (w ∷ rest) word text first is a b c =
     let same : word ≡ w = cc in
     let here : text ≡ string_bytes w = is ∙ ap (λ (y : String Global). string_bytes y) same in
-    rw (← here, differs text (codes "track") a, differs text (codes "convert") b) refl
+    rw (← here, differs text (codes "track") a, differs text (codes "convert") b, differs text (codes "try") c) refl
 
 pub unlisted_nothing : (words : List (String Global)) → slice_get words 0 ≡ None → named_in (map (λ w. string_bytes w) words) ≡ None
 unlisted_nothing [] e = refl

@@ -1,5 +1,7 @@
 -- How the commands walk the words of a listed form.
 use Rattle.std.proofs.Common.{inl, inr, ◌≡◌, ◌≤◌, ◌∙◌, ℕ, true, false, refl, sym, ap, List, [], ◌∷◌, Option, Some, None, codes, not, eqb, arith, length}
+use Rattle.std.specs.Prelude.{◌&&◌, Bool, if◌then◌else◌, nat_le, nat_lt}
+use Rattle.std.specs.List.{list_all}
 use Rattle.std.specs.Str.{bytes_eq}
 use Rattle.std.proofs.lemmas.Bool.{cases_Bool, and_parts, ne_eqb, leb-true, eqb-true}
 use Rattle.clap.specs.Lexer.{long_of, short_of}
@@ -7,8 +9,11 @@ use Rattle.clap.specs.Simple.{matches_of}
 use Rattle.clap.specs.Takes.{takes}
 use Rattle.clap.specs.Walk.{Row, first_of}
 use Rattle.clap.proofs.OnLiterals.{clap_on_literals}
+use Rattle.line_text.specs.Numbers.{number_within, is_digit, begins_with}
+use Rattle.line_text.specs.Spellings.{spelled_number}
+use Rattle.line_text.specs.declared.number.TheConstants.{DIGITS_MAX}
 use Rattle.track_input.specs.Words.{is_file_word, is_decimals}
-use Rattle.track_input.specs.Commands.{track_app, convert_app}
+use Rattle.track_input.specs.Commands.{track_app, convert_app, try_app}
 
 -- a word that begins no option
 pub record IsPlainWord (w : List ℕ) : Type 0 where
@@ -31,6 +36,32 @@ plain_digit [] h = absurd (cc)
 plain_digit (b ∷ []) h = begins_plain b [] (ne_eqb b 45 (λ e. let le : 48 ≤ b = leb-true 48 b (and_parts _ _ h).0 in omega arith))
 plain_digit (b ∷ d ∷ bs) h = absurd (let e : length (b ∷ d ∷ bs) ≡ 1 = eqb-true _ _ (and_parts _ _ h).0 in omega (arith, e))
 
+-- no digits are no number
+no_number : (zero_first : Bool) (n : ℕ) → (if zero_first && nat_lt 1 (length {A = ℕ} []) then None else number_within DIGITS_MAX []) ≡ Some n → ⊥
+no_number true n e = cc
+no_number false n e = cc
+
+-- digits begin no option
+digits_plain : (b : ℕ) (bs : List ℕ) → list_all is_digit (b ∷ bs) ≡ true → IsPlainWord (b ∷ bs)
+digits_plain b bs digits =
+    let digit : is_digit b ≡ true = (and_parts (is_digit b) (list_all is_digit bs) digits).0 in
+    let at_least : 48 ≤ b = leb-true 48 b (and_parts (nat_le 48 b) (nat_le b 57) digit).0 in
+    begins_plain b bs (ne_eqb b 45 (λ e. omega (arith, e, at_least)))
+
+-- the word of a number
+pub plain_number : (w : List ℕ) (n : ℕ) → spelled_number w ≡ Some n → IsPlainWord w
+plain_number [] n e = absurd (no_number (begins_with 48 []) n e)
+plain_number (b ∷ bs) n e = elim (cases_Bool (begins_with 48 (b ∷ bs) && nat_lt 1 (length (b ∷ bs)))) [
+  | inl zero ↦ absurd (let g = rw zero at e in cc)
+  | inr fine ↦ at_digits (rw fine at e)
+]
+  where
+    at_digits : number_within DIGITS_MAX (b ∷ bs) ≡ Some n → IsPlainWord (b ∷ bs)
+    at_digits g = elim (cases_Bool (nat_le 1 (length (b ∷ bs)) && nat_le (length (b ∷ bs)) DIGITS_MAX && list_all is_digit (b ∷ bs))) [
+      | inr fails ↦ absurd (let h = rw fails at g in cc)
+      | inl all ↦ digits_plain b bs (and_parts (nat_le 1 (length (b ∷ bs)) && nat_le (length (b ∷ bs)) DIGITS_MAX) (list_all is_digit (b ∷ bs)) all).1
+    ]
+
 -- what stands in the rows for each word
 pub record FindsTrack (rows : List Row) (a b c : List ℕ) (n : Option (List ℕ)) : Type 0 where
   pub mesh : first_of (codes "mesh") rows ≡ Some a
@@ -43,7 +74,19 @@ pub record FindsConvert (rows : List Row) (a b : List ℕ) (n : Option (List ℕ
   pub to : first_of (codes "to") rows ≡ Some b
   pub decimals : first_of (codes "decimals") rows ≡ n
 
+pub record FindsTry (rows : List Row) (a b : List ℕ) : Type 0 where
+  pub cubes : first_of (codes "cubes") rows ≡ Some a
+  pub key : first_of (codes "key") rows ≡ Some b
+
 module _ (zeroth a b : List ℕ) (pa : IsPlainWord a) (pb : IsPlainWord b) where
+  pub try_taken : takes try_app (zeroth ∷ a ∷ b ∷ []) ≡ true
+  unfolding clap_on_literals
+  try_taken = rw (pa.long, pa.short, pa.dashes, pb.long, pb.short, pb.dashes) refl
+
+  pub try_found : FindsTry (matches_of try_app (zeroth ∷ a ∷ b ∷ [])) a b
+  unfolding clap_on_literals
+  try_found = rw (pa.long, pa.short, pa.dashes, pb.long, pb.short, pb.dashes) (record { cubes = refl; key = refl })
+
   pub convert_taken : takes convert_app (zeroth ∷ a ∷ b ∷ []) ≡ true
   unfolding clap_on_literals
   convert_taken = rw (pa.long, pa.short, pa.dashes, pb.long, pb.short, pb.dashes) refl

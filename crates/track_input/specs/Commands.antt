@@ -1,9 +1,9 @@
 -- The commands by which `clap` reads the words, and what is read of the values that it finds.
-use Rattle.std.specs.Prelude.{◌≡◌, ◌⊎◌, ℕ, true, List, ◌∷◌, Option, Some, None, codes}
+use Rattle.std.specs.Prelude.{◌≡◌, ◌⊎◌, ℕ, true, List, [], ◌∷◌, Option, Some, None, codes}
 use Rattle.clap.specs.declared.builder.action.ArgAction.TheVariants.{Set}
 use Rattle.clap.specs.declared.parser.matches.ArgMatches.{ArgMatches}
 use Rattle.clap.specs.Words.{App, HasMatchesOf, Rule, first_of, matches_of, new_app, new_rule, takes, with_rule}
-use Rattle.track_input.specs.Words.{Named, track_in, convert_in}
+use Rattle.track_input.specs.Words.{Named, track_in, convert_in, try_in}
 use Rattle.track_input.specs.Taken.{behind}
 
 -- a word that has to be given
@@ -28,6 +28,9 @@ track_app =
 abbrev pub convert_app : App
 convert_app = with_rule (pair_app (codes "convert") (codes "from") (codes "to")) decimals_rule
 
+abbrev pub try_app : App
+try_app = pair_app (codes "try") (codes "cubes") (codes "key")
+
 -- ---- what is read
 
 -- the value of each name, if it has one
@@ -42,11 +45,18 @@ abbrev pub convert_of : Option (List ℕ) → Option (List ℕ) → Option (List
 convert_of (Some from) (Some to) digit = convert_in (from ∷ to ∷ behind digit)
 convert_of _ _ digit = None
 
+abbrev pub try_of : Option (List ℕ) → Option (List ℕ) → Option Named
+try_of (Some cubes) (Some key) = try_in (cubes ∷ key ∷ [])
+try_of _ _ = None
+
 abbrev pub track_read : Values → Option Named
 track_read value = track_of (value (codes "mesh")) (value (codes "steps")) (value (codes "prefix")) (value (codes "decimals"))
 
 abbrev pub convert_read : Values → Option Named
 convert_read value = convert_of (value (codes "from")) (value (codes "to")) (value (codes "decimals"))
+
+abbrev pub try_read : Values → Option Named
+try_read value = try_of (value (codes "cubes")) (value (codes "key"))
 
 -- ---- what a command finds
 

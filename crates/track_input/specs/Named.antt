@@ -1,10 +1,11 @@
 -- A command, its words as bytes.
 use Rattle.std.specs.Prelude.{◌≤◌}
 use Rattle.grid_base.specs.declared.TheConstants.{DECIMALS_MAX}
+use Rattle.track_input.specs.declared.command.TheConstants.{CUBES_MAX}
 use Rattle.track_input.specs.declared.command.Command.{Command}
 use Rattle.track_input.specs.declared.command.Command.TheVariants as command
 use Rattle.track_input.specs.declared.mesh_file.MeshFile.{MeshFile}
-use Rattle.track_input.specs.Words.{MeshName, Named, Track, Convert}
+use Rattle.track_input.specs.Words.{MeshName, Named, Track, Convert, Try}
 
 abbrev pub mesh_name : MeshFile → MeshName
 mesh_name file = record { name = file.name.now; format = file.format }
@@ -12,8 +13,10 @@ mesh_name file = record { name = file.name.now; format = file.format }
 abbrev pub named_by : Command → Named
 named_by (command.Track mesh steps prefix decimals) = Track mesh.now steps.now prefix.now decimals
 named_by (command.Convert from to decimals) = Convert (mesh_name from) (mesh_name to) decimals
+named_by (command.Try cubes key) = Try cubes key
 
--- its points have no more decimals than a text may have
-abbrev pub HasFewDecimals : Command → Type 0
-HasFewDecimals (command.Track mesh steps prefix decimals) = decimals ≤ DECIMALS_MAX
-HasFewDecimals (command.Convert from to decimals) = decimals ≤ DECIMALS_MAX
+-- its points have no more decimals than a text may have, and its cubes are few
+abbrev pub IsInLimits : Command → Type 0
+IsInLimits (command.Track mesh steps prefix decimals) = decimals ≤ DECIMALS_MAX
+IsInLimits (command.Convert from to decimals) = decimals ≤ DECIMALS_MAX
+IsInLimits (command.Try cubes key) = (1 ≤ cubes) × (cubes ≤ CUBES_MAX)

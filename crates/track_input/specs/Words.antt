@@ -1,9 +1,11 @@
 -- The words of a command line, and the listed forms.
-use Rattle.std.specs.Prelude.{ℕ, Bool, false, List, [], ◌∷◌, length, if◌then◌else◌, ◌==◌, ◌+◌, ◌-◌, ◌&&◌, not, nat_le, Option, Some, None, codes, slice_index, slice_index_or}
+use Rattle.std.specs.Prelude.{ℕ, Bool, false, List, [], ◌∷◌, length, if◌then◌else◌, ◌==◌, ◌+◌, ◌-◌, ◌^◌, ◌&&◌, not, nat_le, Option, Some, None, codes, slice_index, slice_index_or}
 use Rattle.std.specs.List.{ends_with}
 use Rattle.std.specs.Option.{option_and_then, option_map}
 use Rattle.std.specs.Str.{bytes_eq}
 use Rattle.grid_base.specs.declared.TheConstants.{DECIMALS_MAX}
+use Rattle.line_text.specs.Spellings.{spelled_number}
+use Rattle.track_input.specs.declared.command.TheConstants.{CUBES_MAX}
 use Rattle.track_input.specs.declared.mesh_file.Format.{Format}
 use Rattle.track_input.specs.declared.mesh_file.Format.TheVariants.{Obj, Off, Ply}
 
@@ -12,10 +14,12 @@ pub record MeshName : Type 0 where
   pub name : List ℕ
   pub format : Format
 
--- what a command line asks for: of `track`, the three file words, and the decimals; of `convert`, the two files, and the decimals
+-- what a command line asks for: of `track`, the three file words, and the decimals; of `convert`, the two files, and the decimals;
+-- of `try`, the number of cubes along an edge, and the key
 pub data Named : Type 0 where
   Track : (mesh : List ℕ) (steps : List ℕ) (prefix : List ℕ) (decimals : ℕ) → Named
   Convert : (from : MeshName) (to : MeshName) (decimals : ℕ) → Named
+  Try : (cubes : ℕ) (key : ℕ) → Named
 
 -- ---- words
 
@@ -52,6 +56,15 @@ decimals_in (option ∷ digit ∷ []) =
     if bytes_eq option (codes "--decimals") && is_decimals digit then Some (slice_index digit 0 - 48) else None
 decimals_in _ = None
 
+-- a number from low to high
+abbrev pub between : ℕ → ℕ → Option ℕ → Option ℕ
+between low high None = None
+between low high (Some n) = if nat_le low n && nat_le n high then Some n else None
+
+-- the number from low to high that digits write, with no sign and no needless zero in front
+abbrev pub number_in : ℕ → ℕ → List ℕ → Option ℕ
+number_in low high word = between low high (spelled_number word)
+
 -- ---- listed forms
 
 -- MESH STEPS PREFIX, and the decimals
@@ -68,10 +81,17 @@ convert_in (from ∷ to ∷ behind) =
     option_and_then (λ from. option_and_then (λ to. option_map (λ decimals. Convert from to decimals) (decimals_in behind)) (mesh_name_of to)) (mesh_name_of from)
 convert_in _ = None
 
--- The command that listed words name: `track MESH STEPS PREFIX` or `convert FROM TO`, or one of these and `--decimals N`.
+-- N KEY
+abbrev pub try_in : List (List ℕ) → Option Named
+try_in (cubes ∷ key ∷ []) =
+    option_and_then (λ n. option_map (λ k. Try n k) (number_in 0 (2 ^ 32 - 1) key)) (number_in 1 CUBES_MAX cubes)
+try_in _ = None
+
+-- The command that listed words name: `track MESH STEPS PREFIX` or `convert FROM TO`, or one of these and `--decimals N`; or `try N KEY`.
 abbrev pub named_in : List (List ℕ) → Option Named
 named_in [] = None
 named_in (first ∷ words) =
     if bytes_eq first (codes "track") then track_in words
     else if bytes_eq first (codes "convert") then convert_in words
+    else if bytes_eq first (codes "try") then try_in words
     else None

@@ -1,15 +1,16 @@
 ghost use Rattle.std.specs.Prelude.{◌≡◌, ◌≤◌, map, option_map, IfOk, IfSome, string_bytes};
 ghost use Rattle.clap.specs.Words.{found_of, first_value};
 ghost use Rattle.grid_base.specs.declared.TheConstants.{DECIMALS_MAX};
-ghost use Rattle.track_input.specs.Words.{is_decimals, decimals_in};
+ghost use Rattle.track_input.specs.Words.{is_decimals, decimals_in, number_in};
 ghost use Rattle.track_input.specs.Taken.{behind, IsReading};
-ghost use Rattle.track_input.specs.Commands.{track_read, convert_read, track_app, convert_app, IsReadBy};
-ghost use Rattle.track_input.specs.Named.{named_by, HasFewDecimals};
+ghost use Rattle.track_input.specs.Commands.{track_read, convert_read, try_read, track_app, convert_app, try_app, IsReadBy};
+ghost use Rattle.track_input.specs.Named.{named_by, IsInLimits};
 
 use crate::mesh_file::{MeshFile, is_file_word, mesh_file};
-use crate::taking::{convert_command, found_in, track_command};
+use crate::taking::{convert_command, found_in, track_command, try_command};
 use clap::ArgMatches;
 use grid_base::{DECIMALS_MAX, NoMemory};
+use line_text::spelled_number;
 use std::alloc::Global;
 
 /// What the words of a command line ask for.
@@ -29,7 +30,15 @@ pub enum Command<'a> {
         to: MeshFile<'a>,
         decimals: u8,
     },
+    /// A job of so many cubes along an edge is made by a key and run, and its log is summed up.
+    Try {
+        cubes: u8,
+        key: u32,
+    },
 }
+
+/// The greatest number of cubes along an edge of a job that is made.
+pub const CUBES_MAX: u8 = 12;
 
 fn is_decimals(word: &[u8]) -> bool
     ensures { result ≡ is_decimals word.now }
@@ -58,7 +67,7 @@ fn decimals_of(digit: Option<&str>) -> Option<u8>
 // The command of the words that were found behind `track`.
 fn track_read<'a>(found: &ArgMatches<'a>) -> Option<Command<'a>>
     ensures command { option_map named_by result ≡ track_read (first_value (found_of found.now)) }
-    ensures few { IfSome result HasFewDecimals }
+    ensures few { IfSome result IsInLimits }
 {
     let mesh = found.get_str("mesh")?;
     let steps = found.get_str("steps")?;
@@ -78,7 +87,7 @@ fn track_read<'a>(found: &ArgMatches<'a>) -> Option<Command<'a>>
 // The command of the words that were found behind `convert`.
 fn convert_read<'a>(found: &ArgMatches<'a>) -> Option<Command<'a>>
     ensures command { option_map named_by result ≡ convert_read (first_value (found_of found.now)) }
-    ensures few { IfSome result HasFewDecimals }
+    ensures few { IfSome result IsInLimits }
 {
     let from = mesh_file(found.get_str("from")?)?;
     let to = mesh_file(found.get_str("to")?)?;
@@ -86,11 +95,38 @@ fn convert_read<'a>(found: &ArgMatches<'a>) -> Option<Command<'a>>
     Some(Command::Convert { from, to, decimals })
 }
 
+// The number from `low` to `high` that digits write, with no sign and no needless zero in front.
+fn number_in(low: u32, high: u32, word: &str) -> Option<u32>
+    ensures told { result ≡ number_in low high word.now }
+    ensures above { IfSome result (λ n. low ≤ n) }
+    ensures below { IfSome result (λ n. n ≤ high) }
+{
+    let n = spelled_number(word.as_bytes())?;
+    if u128::from(low) <= n && n <= u128::from(high) {
+        Some(n as u32)
+    } else {
+        None
+    }
+}
+
+// The command of the words that were found behind `try`.
+fn try_read(found: &ArgMatches<'_>) -> Option<Command<'static>>
+    ensures command { option_map named_by result ≡ try_read (first_value (found_of found.now)) }
+    ensures few { IfSome result IsInLimits }
+{
+    let cubes = number_in(1, CUBES_MAX as u32, found.get_str("cubes")?)?;
+    let key = number_in(0, u32::MAX, found.get_str("key")?)?;
+    Some(Command::Try {
+        cubes: cubes as u8,
+        key,
+    })
+}
+
 // The command of words whose first is `track`.
 fn track_in<'a>(alloc: Global, words: &'a [String]) -> Result<Option<Command<'a>>, NoMemory>
     ensures read { let texts = map (λ word. string_bytes word) words.entry.now in
         IfOk result (λ found. IsReadBy track_read track_app texts (option_map named_by found)) }
-    ensures few { IfOk result (λ found. IfSome found HasFewDecimals) }
+    ensures few { IfOk result (λ found. IfSome found IsInLimits) }
 {
     match found_in(track_command(alloc)?, words)? {
         Some(found) => Ok(track_read(&found)),
@@ -102,7 +138,7 @@ fn track_in<'a>(alloc: Global, words: &'a [String]) -> Result<Option<Command<'a>
 fn convert_in<'a>(alloc: Global, words: &'a [String]) -> Result<Option<Command<'a>>, NoMemory>
     ensures read { let texts = map (λ word. string_bytes word) words.entry.now in
         IfOk result (λ found. IsReadBy convert_read convert_app texts (option_map named_by found)) }
-    ensures few { IfOk result (λ found. IfSome found HasFewDecimals) }
+    ensures few { IfOk result (λ found. IfSome found IsInLimits) }
 {
     match found_in(convert_command(alloc)?, words)? {
         Some(found) => Ok(convert_read(&found)),
@@ -110,14 +146,27 @@ fn convert_in<'a>(alloc: Global, words: &'a [String]) -> Result<Option<Command<'
     }
 }
 
+// The command of words whose first is `try`.
+fn try_in<'a>(alloc: Global, words: &'a [String]) -> Result<Option<Command<'a>>, NoMemory>
+    ensures read { let texts = map (λ word. string_bytes word) words.entry.now in
+        IfOk result (λ found. IsReadBy try_read try_app texts (option_map named_by found)) }
+    ensures few { IfOk result (λ found. IfSome found IsInLimits) }
+{
+    match found_in(try_command(alloc)?, words)? {
+        Some(found) => Ok(try_read(&found)),
+        None => Ok(None),
+    }
+}
+
 /// The command that the words are read as: `track MESH STEPS PREFIX` or `convert FROM TO`, or one of these and `--decimals N` with one
-/// digit N from 0 to 6. A file word is not empty and has no dash in front, and both of `convert` end in `.obj`, `.off` or `.ply`.
+/// digit N from 0 to 6, or `try N KEY`. A file word is not empty and has no dash in front, and both of `convert` end in `.obj`, `.off` or
+/// `.ply`. N of `try` is 1 to 12 and KEY 0 to 4,294,967,295, both digits with no needless zero in front.
 /// Words of no such form are taken as one of the same first word whose words are among them (options may stand before the files, as
 /// `--decimals=N` too), or they are no command. NoMemory at any words.
 pub fn command_of<'a>(alloc: Global, words: &'a [String]) -> Result<Option<Command<'a>>, NoMemory>
     ensures read { let texts = map (λ word. string_bytes word) words.entry.now in
         IfOk result (λ found. IsReading texts (option_map named_by found)) }
-    ensures few { IfOk result (λ found. IfSome found HasFewDecimals) }
+    ensures few { IfOk result (λ found. IfSome found IsInLimits) }
 {
     let Some(first) = words.first() else {
         return Ok(None);
@@ -125,6 +174,7 @@ pub fn command_of<'a>(alloc: Global, words: &'a [String]) -> Result<Option<Comma
     match first.as_str() {
         "track" => track_in(alloc, words),
         "convert" => convert_in(alloc, words),
+        "try" => try_in(alloc, words),
         _ => Ok(None),
     }
 }

@@ -9,7 +9,7 @@ mod mesh_file;
 mod reading;
 mod taking;
 
-pub use command::{Command, command_of};
+pub use command::{CUBES_MAX, Command, command_of};
 pub use fault::InputFault;
 pub use fetching::{Fetched, fetch_file};
 pub use mesh_file::{Format, MeshFile};

@@ -1,6 +1,6 @@
 ghost use Rattle.std.specs.Prelude.{◌≡◌, IfOk, false, map, string_bytes};
 ghost use Rattle.clap.specs.Words.{app_of, rule_of};
-ghost use Rattle.track_input.specs.Commands.{given_rule, decimals_rule, pair_app, track_app, convert_app, IsFound};
+ghost use Rattle.track_input.specs.Commands.{given_rule, decimals_rule, pair_app, track_app, convert_app, try_app, IsFound};
 
 use clap::error::ErrorKind;
 use clap::{Arg, ArgAction, ArgMatches, Command};
@@ -55,6 +55,13 @@ pub(crate) fn convert_command<'a>(alloc: Global) -> Result<Command<'a>, AllocErr
     ensures { IfOk result (λ command. app_of command ≡ convert_app) }
 {
     pair_command(alloc, "convert", "from", "to")?.arg(decimals(alloc))
+}
+
+// Takes the words of `try`, the first of them included.
+pub(crate) fn try_command<'a>(alloc: Global) -> Result<Command<'a>, AllocError>
+    ensures { IfOk result (λ command. app_of command ≡ try_app) }
+{
+    pair_command(alloc, "try", "cubes", "key")
 }
 
 // What a command finds of the words; None where it does not take them.

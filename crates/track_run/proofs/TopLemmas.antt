@@ -1,6 +1,6 @@
 -- The whole of a run from its parts.
-use Rattle.std.proofs.Common.{◌≡◌, ℕ, ◌+◌, ◌<◌, ◌≤◌, ◌^◌, List, [], ◌∷◌, refl, ap, sym, ◌∙◌, subst, length, IfOk, OnErr, Result, Ok, Err, inl, inr, false, is_ok}
-use Rattle.std.specs.Prelude.{◌⊎◌, option_map}
+use Rattle.std.proofs.Common.{◌≡◌, ℕ, ◌+◌, ◌<◌, ◌≤◌, ◌^◌, List, [], ◌∷◌, refl, ap, sym, ◌∙◌, subst, length, IfOk, OnOk, OnErr, Result, Ok, Err, inl, inr, false, is_ok}
+use Rattle.std.specs.Prelude.{◌⊎◌, IfSome, IsErrOf, option_map}
 use Rattle.std.specs.declared.option.Option.{Option}
 use Rattle.std.specs.declared.option.Option.TheVariants.{None, Some}
 use Rattle.mesh_base.specs.declared.PairName.{PairName}
@@ -19,15 +19,21 @@ use Rattle.outside_io.specs.Causes.{Rose}
 use Rattle.outside_io.specs.Desk.{Files}
 use Rattle.outside_io.specs.Sink.{appended, AppendsPart}
 use Rattle.log_write.specs.Written.{Written}
+use Rattle.mesh_make.specs.Cubes.{IsRow}
+use Rattle.track_input.specs.declared.command.TheConstants.{CUBES_MAX}
 use Rattle.track_input.specs.declared.command.Command.{Command}
+use Rattle.track_input.specs.declared.command.Command.TheVariants as command
 use Rattle.track_input.specs.Taken.{IsReading}
-use Rattle.track_input.specs.Named.{named_by}
+use Rattle.track_input.specs.Named.{named_by, IsInLimits}
 use Rattle.track_input.specs.declared.reading.Ready.{Ready}
 use Rattle.track_input.specs.declared.reading.Ready.TheVariants as ready
 use Rattle.track_input.specs.Job.{Job, IsJob, Input, input_of, mesh_of_lists}
 use Rattle.track_input.specs.Reading.{Prepares, IsReadyAt, given, input_by}
 use Rattle.track_input.proofs.Sources.{some_source}
 use Rattle.track_input.proofs.ReadLemmas.{same_mesh}
+use Rattle.track_try.specs.declared.TryFault.{TryFault}
+use Rattle.track_try.specs.declared.TryFault.TheVariants as tried
+use Rattle.track_try.specs.Summary.{summary_of}
 use Rattle.track_engine.specs.declared.stop.Stop.{Stop}
 use Rattle.track_engine.specs.declared.stop.Stop.TheVariants as stop
 use Rattle.track_engine.specs.State.{State, start, unsaved, standing}
@@ -45,11 +51,11 @@ use Rattle.track_engine.proofs.Replayed.{effect_replayed}
 use Rattle.track_engine.proofs.Promises.{step_is_told}
 use Rattle.track_run.specs.declared.outcome.Outcome.{Outcome}
 use Rattle.track_run.specs.declared.outcome.Outcome.TheVariants as outcome
-use Rattle.track_run.specs.Outcomes.{outcome_of, outcome_at, outcome_from}
+use Rattle.track_run.specs.Outcomes.{outcome_of, outcome_at, outcome_from, outcome_of_try}
 use Rattle.track_run.specs.Job.{log_of, log_of_input, log_of_mesh, log_of_test, met_first, replay_of}
 use Rattle.track_run.specs.Answered.{IsInputAnswered, FollowsMesh, FollowsTest}
 use Rattle.track_run.specs.Causes.{Cause, IsStopped}
-use Rattle.track_run.specs.Headline.{TracksJob, TracksCommand, Runs, RunsFor, LogPromises, IsCaused, FaultsAreCounted}
+use Rattle.track_run.specs.Headline.{TracksJob, TracksCommand, TriesCommand, Runs, RunsFor, LogPromises, IsCaused, FaultsAreCounted}
 use Rattle.track_run.proofs.JobLogs.{test_left, input_left, keeps_log}
 use Rattle.track_run.proofs.Agreeing.{agrees_well}
 use Rattle.track_run.proofs.ReadBack.{read_back}
@@ -304,6 +310,26 @@ run_ends fields mesh_name step_name to old new result ended e causes t = record 
   read_back = read_back t.answers old.holds.files mesh_name step_name to.decimals t.job t.is_job;
   faults = (let P : Outcome → Type 0 = λ o. FaultsAreCounted old new o in subst P (sym e) (faults_counted old new ended causes));
 }
+
+-- ---- a try
+
+-- the words of a try tell few enough cubes in a row
+pub is_row : (o : Option Command) (f : Command) (cubes key : ℕ) → o ≡ Some f → f ≡ command.Try cubes key → IfSome o IsInLimits → IsRow cubes
+is_row o f cubes key some is few =
+    let P : Option Command → Type 0 = λ x. IfSome x IsInLimits in
+    let limits : (1 ≤ cubes) × (cubes ≤ CUBES_MAX) = subst P (some ∙ ap Some is) few in
+    record { some = limits.0; few = limits.1 }
+
+-- how a try ended is what the command promises of it
+pub tries : (cubes key : ℕ) (old new : World) (result : Outcome) (ended : Result (Unit {0}) TryFault) → result ≡ outcome_of_try ended → new.holds.files ≡ old.holds.files → new.desk_faults ≡ old.desk_faults
+    → OnOk ended (new.holds.written ≡ appended old.holds.written (summary_of cubes key)) → OnErr ended (AppendsPart old.holds.written new.holds.written (summary_of cubes key))
+    → old.sink_faults ≤ new.sink_faults → (IsErrOf ended tried.SinkFault → Rose old.sink_faults new.sink_faults) → TriesCommand cubes key result old new
+tries cubes key old new result (Ok d) e files desk done stopped later cause =
+    record { ended = Ok d; outcome_is = e; summary = done; files = files; desk = desk; sink = later; sink_fault = λ s. absurd (cc) }
+tries cubes key old new result (Err tried.NoMemory) e files desk done stopped later cause =
+    record { ended = Err tried.NoMemory; outcome_is = e; summary = stopped; files = files; desk = desk; sink = later; sink_fault = λ s. absurd (cc) }
+tries cubes key old new result (Err tried.SinkFault) e files desk done stopped later cause =
+    record { ended = Err tried.SinkFault; outcome_is = e; summary = stopped; files = files; desk = desk; sink = later; sink_fault = λ s. cause refl }
 
 -- ---- the words
 

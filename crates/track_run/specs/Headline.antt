@@ -1,5 +1,5 @@
 -- The headline: what a run does.
-use Rattle.std.specs.Prelude.{◌≡◌, ◌≤◌, ◌⊎◌, ℕ, List, is_ok, Option, Some, None, Result, Ok}
+use Rattle.std.specs.Prelude.{◌≡◌, ◌≤◌, ◌⊎◌, ℕ, List, is_ok, Option, Some, None, Result, Ok, Err}
 use Rattle.step_text.specs.declared.Directive.{Directive}
 use Rattle.step_text.specs.declared.Directive.TheVariants as directive
 use Rattle.log_text.specs.declared.LogLine.{LogLine}
@@ -8,9 +8,12 @@ use Rattle.log_text.specs.Lines.{text_of_lines}
 use Rattle.log_text.specs.Reading.{log_of as lines_of_text}
 use Rattle.log_replay.specs.Replay.{after}
 use Rattle.outside_io.specs.Causes.{Rose}
+use Rattle.outside_io.specs.Sink.{appended, AppendsPart}
 use Rattle.track_convert.specs.declared.ConvertFault.{ConvertFault}
 use Rattle.track_convert.specs.Headline.{Converts}
-use Rattle.track_input.specs.Words.{MeshName, Named, Track, Convert}
+use Rattle.track_try.specs.declared.TryFault.{TryFault}
+use Rattle.track_try.specs.Summary.{summary_of}
+use Rattle.track_input.specs.Words.{MeshName, Named, Track, Convert, Try}
 use Rattle.track_input.specs.Taken.{IsReading}
 use Rattle.track_input.specs.Job.{Job, IsJob, input_of}
 use Rattle.track_engine.specs.declared.stop.Stop.{Stop}
@@ -26,7 +29,7 @@ use Rattle.track_run.specs.declared.outcome.Outcome.{Outcome}
 use Rattle.track_run.specs.declared.outcome.Outcome.TheVariants as outcome
 use Rattle.track_run.specs.Job.{log_of, replay_of}
 use Rattle.track_run.specs.Reached.{IsReached, AgreesWithReplay}
-use Rattle.track_run.specs.Outcomes.{outcome_from, outcome_of_conversion}
+use Rattle.track_run.specs.Outcomes.{outcome_from, outcome_of_conversion, outcome_of_try}
 use Rattle.track_run.specs.Answered.{IsInputAnswered}
 use Rattle.track_run.specs.Causes.{Cause, IsStopped, answers_after}
 
@@ -96,12 +99,29 @@ pub record ConvertsCommand (from to : MeshName) (decimals : ℕ) (result : Outco
   pub outcome_is : result ≡ outcome_of_conversion ended
   pub converts : Converts from to decimals ended old new
 
+-- the text is written whole, or the first of it, perhaps nothing, and not all
+abbrev pub IsWrittenBy : List ℕ → Result (Unit {0}) TryFault → Option (List ℕ) → Option (List ℕ) → Type 0
+IsWrittenBy text (Ok done) old new = new ≡ appended old text
+IsWrittenBy text (Err fault) old new = AppendsPart old new text
+
+-- The job of so many cubes in a row and of this key is made and run, and the summary of its log is written, or a part of it where the
+-- try is stopped. The desk is left alone. At a fault of the sink its count has risen.
+pub record TriesCommand (cubes key : ℕ) (result : Outcome) (old new : World) : Type 0 where
+  pub ended : Result (Unit {0}) TryFault
+  pub outcome_is : result ≡ outcome_of_try ended
+  pub summary : IsWrittenBy (summary_of cubes key) ended old.holds.written new.holds.written
+  pub files : new.holds.files ≡ old.holds.files
+  pub desk : new.desk_faults ≡ old.desk_faults
+  pub sink : old.sink_faults ≤ new.sink_faults
+  pub sink_fault : result ≡ outcome.SinkFault → Rose old.sink_faults new.sink_faults
+
 -- a run for a command with these stored fields, or for none: then nothing is done
 abbrev pub Runs : Known → Option Named → Outcome → World → World → Type 0
 Runs fields None result old new = (result ≡ outcome.Usage) × (new ≡ old)
 Runs fields (Some (Track mesh steps prefix decimals)) result old new =
     TracksCommand fields mesh steps (record { prefix = prefix; decimals = decimals }) result old new
 Runs fields (Some (Convert from to decimals)) result old new = ConvertsCommand from to decimals result old new
+Runs fields (Some (Try cubes key)) result old new = TriesCommand cubes key result old new
 
 -- a run for what the words are read as: a command, or none where they are of no listed form
 pub record RunsReading (fields : Known) (words : List (List ℕ)) (result : Outcome) (old new : World) : Type 0 where

@@ -4,6 +4,8 @@ use Rattle.log_text.specs.declared.Refusal.{Refusal}
 use Rattle.log_text.specs.declared.Refusal.TheVariants as refusal
 use Rattle.track_convert.specs.declared.ConvertFault.{ConvertFault}
 use Rattle.track_convert.specs.declared.ConvertFault.TheVariants as convert
+use Rattle.track_try.specs.declared.TryFault.{TryFault}
+use Rattle.track_try.specs.declared.TryFault.TheVariants as tried
 use Rattle.track_engine.specs.declared.stop.Stop.{Stop}
 use Rattle.track_engine.specs.declared.stop.Stop.TheVariants.{NoMemory, DeskFault, SinkFault}
 use Rattle.track_run.specs.declared.outcome.Outcome.{Outcome}
@@ -37,3 +39,9 @@ outcome_of_conversion (Ok ending) = outcome_of ending
 outcome_of_conversion (Err convert.NoMemory) = outcome.NoMemory
 outcome_of_conversion (Err convert.DeskFault) = outcome.DeskFault
 outcome_of_conversion (Err convert.SinkFault) = outcome.SinkFault
+
+-- how a try ended: with its whole summary, or stopped before its end
+abbrev pub outcome_of_try : Result (Unit {0}) TryFault → Outcome
+outcome_of_try (Ok done) = outcome.Done
+outcome_of_try (Err tried.NoMemory) = outcome.NoMemory
+outcome_of_try (Err tried.SinkFault) = outcome.SinkFault

@@ -8,7 +8,7 @@ ghost use Rattle.track_engine.specs.Targets.{target_of};
 ghost use Rattle.track_engine.specs.World.{contents, world, HasCauses};
 ghost use Rattle.track_engine.specs.Answered.{known};
 ghost use Rattle.track_run.specs.Answered.{FollowsMesh, FollowsTest};
-ghost use Rattle.track_run.specs.Outcomes.{outcome_of, outcome_from, outcome_of_conversion};
+ghost use Rattle.track_run.specs.Outcomes.{outcome_of, outcome_from, outcome_of_conversion, outcome_of_try};
 ghost use Rattle.track_run.specs.Headline.{RunsFor, TracksJob};
 
 use crate::outcome::Outcome;
@@ -24,6 +24,7 @@ use step_text::Directives;
 use track_convert::{ConvertFault, convert};
 use track_engine::{Engine, Stop, Target, finish, say};
 use track_input::{Command, InputFault, Ready, command_of, prepare};
+use track_try::{TryFault, try_cubes};
 
 // The outcome that the last line of a whole log tells.
 fn outcome_of(ending: Option<Refusal>) -> Outcome
@@ -62,6 +63,17 @@ fn outcome_of_conversion(ended: Result<Option<Refusal>, ConvertFault>) -> Outcom
         Err(ConvertFault::NoMemory) => Outcome::NoMemory,
         Err(ConvertFault::DeskFault) => Outcome::DeskFault,
         Err(ConvertFault::SinkFault) => Outcome::SinkFault,
+    }
+}
+
+// The outcome of a try that ended so.
+fn outcome_of_try(ended: Result<(), TryFault>) -> Outcome
+    ensures { result ≡ outcome_of_try ended }
+{
+    match ended {
+        Ok(()) => Outcome::Done,
+        Err(TryFault::NoMemory) => Outcome::NoMemory,
+        Err(TryFault::SinkFault) => Outcome::SinkFault,
     }
 }
 
@@ -148,12 +160,13 @@ fn track<D: Desk, K: Sink, F: Fn(u8, Point) -> Shift>(
     }
 }
 
-/// Tracks or converts a mesh as the words say: `track MESH STEPS PREFIX` or `convert FROM TO`, or one of these and `--decimals N` with
-/// one digit N from 0 to 6. To track it, the mesh and the steps are fetched from the desk and read, the log is written to the sink, a
-/// line at a time, and meshes are stored under the prefix, a dash, a number of at least six digits, and `.obj`. To convert it, the mesh
-/// of the one file is stored in the other, each in the format of its ending, and one line is written. All other words are taken as one of
-/// these forms with the same first word whose words are among them, or answered with Usage. A directive that drives asks the stored field
-/// that it names.
+/// Tracks or converts a mesh, or tries a job that is made, as the words say: `track MESH STEPS PREFIX` or `convert FROM TO`, or one of
+/// these and `--decimals N` with one digit N from 0 to 6, or `try N KEY` with N from 1 to 12 and KEY below 2^32. To track a mesh, the
+/// mesh and the steps are fetched from the desk and read, the log is written to the sink, a line at a time, and meshes are stored under
+/// the prefix, a dash, a number of at least six digits, and `.obj`. To convert it, the mesh of the one file is stored in the other, each
+/// in the format of its ending, and one line is written. To try a job, N * N * N cubes are made and moved as KEY picks, and the log of
+/// that is summed up in seven lines; no file is read or stored. All other words are taken as one of these forms with the same first word
+/// whose words are among them, or answered with Usage. A directive that drives asks the stored field that it names.
 ///
 /// The tracker is that of Brochu and Bridson, "Robust topological operations for dynamic explicit surfaces" (2009).
 pub fn run<D: Desk, K: Sink, F: Fn(u8, Point) -> Shift>(
@@ -188,6 +201,10 @@ pub fn run<D: Desk, K: Sink, F: Fn(u8, Point) -> Shift>(
         Command::Convert { from, to, decimals } => {
             let ended = convert(alloc, from, to, decimals, desk, out);
             outcome_of_conversion(ended)
+        }
+        Command::Try { cubes, key } => {
+            let ended = try_cubes(alloc, cubes, key, out);
+            outcome_of_try(ended)
         }
     }
 }

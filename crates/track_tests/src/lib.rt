@@ -9,3 +9,5 @@ mod drives;
 mod readings;
 #[cfg(test)]
 mod runs;
+#[cfg(test)]
+mod tries;

@@ -27,6 +27,7 @@ fn read(alloc: Global, words: &[&str]) -> Result<String, Fail> {
         Some(Command::Convert { from, to, decimals }) => {
             format!(in alloc; "convert {} {} {decimals}", from.name, to.name)?
         }
+        Some(Command::Try { cubes, key }) => format!(in alloc; "try {cubes} {key}")?,
         None => String::from_str(alloc, "none")?,
     })
 }
@@ -47,19 +48,23 @@ fn words_are_read_as_commands(rt: HostRuntime) -> Result<(), Fail> {
     is_read(&rt, alloc, &words, "track m s p 6")?;
     let words = ["convert", "m.obj", "n.ply", "--decimals", "0"];
     is_read(&rt, alloc, &words, "convert m.obj n.ply 0")?;
+    is_read(&rt, alloc, &["try", "1", "0"], "try 1 0")?;
+    let words = ["try", "12", "4294967295"];
+    is_read(&rt, alloc, &words, "try 12 4294967295")?;
     // Words that are taken as these.
     let words = ["track", "--decimals", "3", "m", "s", "p"];
     is_read(&rt, alloc, &words, "track m s p 3")?;
     let words = ["track", "m", "s", "p", "--decimals=3"];
     is_read(&rt, alloc, &words, "track m s p 3")?;
     let words = ["convert", "--decimals=2", "--", "m.off", "n.obj"];
-    is_read(&rt, alloc, &words, "convert m.off n.obj 2")
+    is_read(&rt, alloc, &words, "convert m.off n.obj 2")?;
+    is_read(&rt, alloc, &["try", "--", "2", "7"], "try 2 7")
 }
 
 #[test]
 fn words_of_no_form_are_no_command(rt: HostRuntime) -> Result<(), Fail> {
     let alloc = rt.alloc();
-    let table: [&[&str]; 13] = [
+    let table: [&[&str]; 20] = [
         &[],
         &["track"],
         &["Track", "m", "s", "p"],
@@ -73,6 +78,13 @@ fn words_of_no_form_are_no_command(rt: HostRuntime) -> Result<(), Fail> {
         &["track", "m", "s", "p", "--decimals", "03"],
         &["track", "m", "s", "p", "--decimal", "3"],
         &["track", "m", "s", "p", "--decimals", "3", "--decimals", "3"],
+        &["try", "2"],
+        &["try", "0", "1"],
+        &["try", "13", "1"],
+        &["try", "02", "1"],
+        &["try", "2", "-1"],
+        &["try", "2", "4294967296"],
+        &["try", "2", "7", "7"],
     ];
     for words in table {
         is_read(&rt, alloc, words, "none")?;

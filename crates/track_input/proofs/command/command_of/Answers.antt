@@ -1,5 +1,5 @@
 use Rattle.std.proofs.Common.{codes}
-use Rattle.track_input.proofs.Readings.{begin, reads_track, reads_convert, unlisted}
+use Rattle.track_input.proofs.Readings.{begin, reads_track, reads_convert, reads_try, unlisted}
 use Rattle.track_input.proofs.command.command_of.Goals as goal
 
 pub returns-in-track-clause-read : goal.returns-in-track-clause-read
@@ -8,6 +8,9 @@ returns-in-track-clause-read c = reads_track _ c.track_in.result (begin (codes "
 pub returns-in-convert-clause-read : goal.returns-in-convert-clause-read
 returns-in-convert-clause-read c = reads_convert _ c.convert_in.result (begin (codes "convert") c.args.words.now c.in-Some.first.now c.as_str.result.now c.in-Some.ensures.value c.as_str.ensures.value c.in-convert.is) c.convert_in.ensures.read
 
+pub returns-in-try-clause-read : goal.returns-in-try-clause-read
+returns-in-try-clause-read c = reads_try _ c.try_in.result (begin (codes "try") c.args.words.now c.in-Some.first.now c.as_str.result.now c.in-Some.ensures.value c.as_str.ensures.value c.in-try.is) c.try_in.ensures.read
+
 pub returns-in_default-as_str-clause-read : goal.returns-in_default-as_str-clause-read
 returns-in_default-as_str-clause-read c =
-    unlisted c.args.words.now c.in-Some.first.now c.as_str.result.now c.in-Some.ensures.value c.as_str.ensures.value c.in_default-as_str.not-track c.in_default-as_str.not-convert
+    unlisted c.args.words.now c.in-Some.first.now c.as_str.result.now c.in-Some.ensures.value c.as_str.ensures.value c.in_default-as_str.not-track c.in_default-as_str.not-convert c.in_default-as_str.not-try
