@@ -1,6 +1,7 @@
 use Rattle.std.proofs.Common.{rules, not, List, ◌≡◌, true, None, ap, sym, ◌∙◌, subst}
 use Rattle.std.proofs.lemmas.Result.{err_from_is_err_and}
 use Rattle.mesh_base.specs.Shifts.{Shifts, end_in_box}
+use Rattle.track_engine.specs.declared.stop.Stop.TheVariants.{NoMemory}
 use Rattle.track_engine.specs.State.{groups_of, state_of}
 use Rattle.track_engine.specs.Effects.{first_outside, moved_mesh}
 use Rattle.mesh_base.specs.Kept.{BeginsWith}
@@ -37,6 +38,27 @@ returns-in_err-say-clause-takes g c =
     let inside : first_outside m c.args.run.now.asked ≡ None = ap (first_outside m) (sym c.as_slice.ensures) ∙ sym c.first_outside.ensures ∙ c.in_default.is in
     let s = state_of m (g.S.Surface.kept c.args.mesh.now) c.args.run.now in
     rw p.1 (step_begins_in_part s inside s p.0 _ _ c.in_err-say.ensures.said)
+
+pub returns-in_default-choose-clause-takes : goal.returns-in_default-choose-clause-takes
+returns-in_default-choose-clause-takes g c =
+    let m = g.S.Surface.mesh c.args.mesh.now in
+    let inside : first_outside m c.args.run.now.asked ≡ None = ap (first_outside m) (sym c.as_slice.ensures) ∙ sym c.first_outside.ensures ∙ c.in_default.is in
+    let s = state_of m (g.S.Surface.kept c.args.mesh.now) c.args.run.now in
+    step_begins s inside s NoMemory _ _ c.in_ok-say.ensures.said
+
+pub returns-in_default-no_shifts-clause-takes : goal.returns-in_default-no_shifts-clause-takes
+returns-in_default-no_shifts-clause-takes g c =
+    let m = g.S.Surface.mesh c.args.mesh.now in
+    let inside : first_outside m c.args.run.now.asked ≡ None = ap (first_outside m) (sym c.as_slice.ensures) ∙ sym c.first_outside.ensures ∙ c.in_default.is in
+    let s = state_of m (g.S.Surface.kept c.args.mesh.now) c.args.run.now in
+    step_begins s inside s NoMemory _ _ c.in_ok-say.ensures.said
+
+pub returns-then-is_err-clause-takes : goal.returns-then-is_err-clause-takes
+returns-then-is_err-clause-takes g c =
+    let m = g.S.Surface.mesh c.args.mesh.now in
+    let inside : first_outside m c.args.run.now.asked ≡ None = ap (first_outside m) (sym c.as_slice.ensures) ∙ sym c.first_outside.ensures ∙ c.in_default.is in
+    let s = state_of m (g.S.Surface.kept c.args.mesh.now) c.args.run.now in
+    step_begins s inside s NoMemory _ _ c.in_ok-say.ensures.said
 
 pub returns-in_err-say_choice-clause-takes : goal.returns-in_err-say_choice-clause-takes
 returns-in_err-say_choice-clause-takes g c =
