@@ -210,7 +210,7 @@ module _ (fields : Known) (to : Target) (steps : List Placed) (i : ℕ) (p : Pla
 
 -- a refused directive leaves the state
 pub left_as_it_was : {s t : State} (o : Option UseWhy) (why : UseWhy) → o ≡ Some why → (IsSome o → t ≡ s) → t ≡ s
-left_as_it_was (Some other) why e left = left tt
+left_as_it_was (Some other) why e left = left refl
 left_as_it_was None why e left = absurd cc
 
 -- no directive is left
