@@ -86,7 +86,7 @@ keeps_blocks (ids ∷ blocks) from = (tt, keeps_blocks blocks from)
 
 -- ---- a step
 
-no_move : (s : ShiftOf) → moves s ≡ false → displacement_of s.by ≡ origin
+pub no_move : (s : ShiftOf) → moves s ≡ false → displacement_of s.by ≡ origin
 no_move s e =
     let h = within_of 0 (displacement_of s.by) (not_false (is_within 0 (displacement_of s.by)) e) in
     same_triple (displacement_of s.by) origin (zero_of (displacement_of s.by).x h.x_fits) (zero_of (displacement_of s.by).y h.y_fits) (zero_of (displacement_of s.by).z h.z_fits)

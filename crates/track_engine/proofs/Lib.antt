@@ -21,3 +21,4 @@ pub mod WritesTaken
 pub mod DriveTaken
 pub mod StepTaken
 pub mod Promises
+pub mod NoFields

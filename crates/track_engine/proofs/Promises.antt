@@ -34,7 +34,7 @@ use Rattle.track_engine.specs.Promise.{EachPasses, blocks_moved, StepIsTold}
 all_of_none : {X : Type 0} (xs : List X) → xs ≡ [] → (length xs == 0) ≡ true
 all_of_none xs e = ap (λ l. length l == 0) e
 
-taken_whole : (s : State) → hits s ≡ [] → taken s ≡ way Whole s.asked
+pub taken_whole : (s : State) → hits s ≡ [] → taken s ≡ way Whole s.asked
 unfolding hits taken
 taken_whole s e = whole_taken s.mesh s.asked s.set (all_of_none (failing meets_exactly s.mesh s.asked s.set.depth) e)
 

@@ -1,5 +1,5 @@
 -- The directives, one after another.
-use Rattle.std.proofs.Common.{◌≡◌, ℕ, List, [], ◌∷◌, ◌++◌, refl, ap, sym, ◌∙◌, ◌⊎◌, inl, inr, ◌+◌, ◌<◌, ◌≤◌, length, get_or, drop, add-one, suc, subst, append_assoc, Ok, Err, Result, IfOk, OnErr, Bool, true, false, is_ok}
+use Rattle.std.proofs.Common.{◌≡◌, ℕ, List, [], ◌∷◌, ◌++◌, refl, ap, sym, ◌∙◌, ◌⊎◌, inl, inr, ◌+◌, ◌<◌, ◌≤◌, length, get_or, drop, add-one, suc, subst, append_assoc, Ok, Err, Result, IfOk, IsSome, OnErr, Bool, true, false, is_ok}
 use Rattle.std.proofs.lemmas.Bool.{false≢true}
 use Rattle.std.proofs.Math.Seq.{drop-cons}
 use Rattle.std.proofs.lemmas.List.{drop_all}
@@ -18,7 +18,7 @@ use Rattle.track_engine.specs.declared.stop.Stop.{Stop}
 use Rattle.log_text.specs.declared.Refusal.{Refusal}
 use Rattle.track_engine.specs.State.{State, standing}
 use Rattle.track_engine.specs.Effects.{ExpectedLog, Effect, Proceeds, Refused, effect_of, and_then, log_from, refused}
-use Rattle.log_replay.specs.Replay.{Replay, after}
+use Rattle.log_replay.specs.Replay.{Replay, replayed, after}
 use Rattle.track_engine.specs.Saved.{Target, files_of, stored}
 use Rattle.log_write.specs.Written.{Written}
 use Rattle.track_engine.specs.Answers.{Answer, Answers}
@@ -174,16 +174,18 @@ module _ (fields : Known) (to : Target) (steps : List Placed) (i : ℕ) (p : Pla
       goes_with then took.0 took.1 took.2
 
   -- it stops in its lines, or before them
-  pub effect_part : (then : State) (stop : Stop) → AdvancesAnswered fields to p.what now then mid new (Err stop) → FollowsAnswers fields to steps first old new (Err stop)
+  pub effect_part : (then : State) (stop : Stop) → AdvancesAnswered fields to p.what now then mid new (Err stop) → FollowsAnswers fields to steps first then old new (Err stop)
   effect_part then stop (inl same) = record {
     answers = here.given ++ [];
     answered = here.answered false [] refl;
     follows = so_far_nothing to _ _ first now old mid new stop (log_left [] (p ∷ drop (i + 1) steps) now) (here.so_far []) same;
+    stands = tt;
   }
   effect_part then stop (inr takes) = record {
     answers = here.given ++ takes.0 ∷ [];
     answered = here.answered false (takes.0 ∷ []) (takes.1, λ lines next goes. none_answered fields (drop (i + 1) steps) next);
     follows = so_far_part to (all_with takes.0 []) p.line (effect_of takes.0 p.what now) (log_from [] (drop (i + 1) steps)) first now old mid new stop (λ s. log_left [] (drop (i + 1) steps) s) (here.so_far (takes.0 ∷ [])) takes.2;
+    stands = tt;
   }
 
   -- it is refused, and the last line is written, or a part of it
@@ -206,6 +208,11 @@ module _ (fields : Known) (to : Target) (steps : List Placed) (i : ℕ) (p : Pla
       never : {lines : List LogLine} {next : State} → Refused why ≡ Proceeds lines next → ⊥
       never e = false≢true (ap proceeds e)
 
+-- a refused directive leaves the state
+pub left_as_it_was : {s t : State} (o : Option UseWhy) (why : UseWhy) → o ≡ Some why → (IsSome o → t ≡ s) → t ≡ s
+left_as_it_was (Some other) why e left = left refl
+left_as_it_was None why e left = absurd cc
+
 -- no directive is left
 pub at_end : (fields : Known) (to : Target) (steps : List Placed) (i : ℕ) (first now : State) (old mid : Contents) → length steps ≤ i → Answering fields to steps (drop i steps) first now old mid → Ends fields to End None steps first now old mid
 at_end fields to steps i first now old mid h s =
@@ -223,11 +230,20 @@ last_said to all line ending first now old files mid new (Ok e) none s said part
 last_said to all line ending first now old files mid new (Err stop) none s said part is =
     so_far_last_part to all line ending first now old _ (record { files = files; written = new }) stop s (λ from. short_line stop to from line [] files mid new part)
 
-pub finished : (fields : Known) (to : Target) (line : LogLine) (ending : Option Refusal) (steps : List Placed) (first now : State) (old : Contents) (files : Option Files) (mid new : Option (List ℕ)) (r : Result (Option Refusal) Stop) → ((from : Replay) → stored (files_of to from (line ∷ [])) files ≡ files)
-    → Ends fields to line ending steps first now old (record { files = files; written = mid }) → Written mid new (line ∷ []) r → OnErr r (AppendsPart mid new (text_of_line line)) → IfOk r (λ e. e ≡ ending)
-    → FollowsAnswers fields to steps first old (record { files = files; written = new }) r
-finished fields to line ending steps first now old files mid new r none ends said part is = record {
+-- the last line changes nothing in a replay
+stands_last : (to : Target) (all : ExpectedLog) (line : LogLine) (ending : Option Refusal) (first now then : State) (old mid : Contents) (r : Result (Option Refusal) Stop) → ((from : Replay) → replayed from line ≡ from)
+    → SoFar to all (record { lines = line ∷ []; ending = ending }) first now old mid → then ≡ now → IfOk r (λ _. after (standing first) all.lines ≡ standing then)
+stands_last to all line ending first now then old mid (Ok e) still s same =
+    ap (after (standing first)) (sym s.whole) ∙ after-append (standing first) s.done (line ∷ []) ∙ ap (λ r. replayed r line) s.replay ∙ still (standing now) ∙ ap standing (sym same)
+stands_last to all line ending first now then old mid (Err stop) still s same = tt
+
+-- the last line, at the state after it
+pub finished : (fields : Known) (to : Target) (line : LogLine) (ending : Option Refusal) (steps : List Placed) (first now then : State) (old : Contents) (files : Option Files) (mid new : Option (List ℕ)) (r : Result (Option Refusal) Stop) → ((from : Replay) → stored (files_of to from (line ∷ [])) files ≡ files) → ((from : Replay) → replayed from line ≡ from)
+    → then ≡ now → Ends fields to line ending steps first now old (record { files = files; written = mid }) → Written mid new (line ∷ []) r → OnErr r (AppendsPart mid new (text_of_line line)) → IfOk r (λ e. e ≡ ending)
+    → FollowsAnswers fields to steps first then old (record { files = files; written = new }) r
+finished fields to line ending steps first now then old files mid new r none still same ends said part is = record {
   answers = ends.answers;
   answered = ends.answered (is_ok r);
   follows = last_said to (log_from ends.answers steps first) line ending first now old files mid new r none ends.so_far said part is;
+  stands = stands_last to (log_from ends.answers steps first) line ending first now then old _ r still ends.so_far same;
 }

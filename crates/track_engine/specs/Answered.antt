@@ -1,5 +1,5 @@
 -- When answers are those of the stored fields.
-use Rattle.std.specs.Prelude.{◌≡◌, ℕ, Bool, false, is_ok, List, [], ◌∷◌, Option, Some, None, Result}
+use Rattle.std.specs.Prelude.{◌≡◌, ℕ, Bool, false, is_ok, List, [], ◌∷◌, Option, Some, None, Result, IfOk}
 use Rattle.std.specs.FinMap as finite
 use Rattle.std.specs.Fn.{Shared}
 use Rattle.grid_base.specs.declared.Point.{Point}
@@ -11,6 +11,7 @@ use Rattle.step_text.specs.declared.Directive.TheVariants.{Drive}
 use Rattle.step_text.specs.declared.Placed.{Placed}
 use Rattle.log_text.specs.declared.LogLine.{LogLine}
 use Rattle.log_text.specs.declared.Refusal.{Refusal}
+use Rattle.log_replay.specs.Replay.{after}
 use Rattle.track_engine.specs.declared.stop.Stop.{Stop}
 use Rattle.track_engine.specs.State.{State, standing}
 use Rattle.track_engine.specs.Answers.{Answer, Answers}
@@ -59,8 +60,10 @@ AreAnswered fields whole (given ∷ answers) (placed ∷ more) s =
     × ((lines : List LogLine) (next : State) → effect_of given placed.what s ≡ Proceeds lines next → AreAnswered fields whole answers more next)
 
 -- A part of a run follows directives as the fields answer: it writes the lines that are expected by their answers and stores their
--- meshes, or the first of them and not all.
-pub record FollowsAnswers (fields : Known) (to : Target) (steps : List Placed) (s : State) (old new : Contents) (result : Result (Option Refusal) Stop) : Type 0 where
+-- meshes, or the first of them and not all. It began at s and ended at t: where it came to the end of its log, the replay of the log's lines
+-- stands where the run then stands.
+pub record FollowsAnswers (fields : Known) (to : Target) (steps : List Placed) (s t : State) (old new : Contents) (result : Result (Option Refusal) Stop) : Type 0 where
   pub answers : Answers
   pub answered : AreAnswered fields (is_ok result) answers steps s
   pub follows : Follows to (standing s) (log_from answers steps s) old new result
+  pub stands : IfOk result (λ _. after (standing s) (log_from answers steps s).lines ≡ standing t)

@@ -30,7 +30,7 @@ use Rattle.log_text.specs.declared.LogLine.{LogLine}
 use Rattle.log_text.specs.declared.LogLine.TheVariants.{Step, Solid, Hit, Block, Move, Moved, Mesh as MeshLine, Group as GroupLine, Close, End, Refused as RefusedLine}
 use Rattle.edit_base.specs.declared.PassKind.{PassKind}
 use Rattle.pass_run.specs.PassLines.{lines_due, mesh_due, refused_in}
-use Rattle.track_engine.specs.State.{Group, State, still_at, asked_of, asked_in, is_open}
+use Rattle.track_engine.specs.State.{Group, State, start, still_at, asked_of, asked_in, is_open}
 use Rattle.track_engine.specs.Answers.{Answer, Answers, first, later}
 
 -- ---- shifts that are asked
@@ -273,3 +273,9 @@ and_then line (Refused why) next = refused (StepUse line why)
 abbrev pub log_from : Answers → List Placed → State → ExpectedLog
 log_from answers [] s = record { lines = End ∷ []; ending = None }
 log_from answers (placed ∷ more) s = and_then placed.line (effect_of (first answers) placed.what s) (log_from (later answers) more)
+
+-- the log from the first mesh that is saved on, by what fields answer
+abbrev pub log_of_mesh : Answers → Mesh → List Placed → ExpectedLog
+log_of_mesh answers m steps =
+    let rest = log_from answers steps (start m) in
+    record { lines = mesh_line 0 m ∷ rest.lines; ending = rest.ending }

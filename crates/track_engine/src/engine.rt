@@ -97,7 +97,8 @@ impl<S: Surface> Engine<S> {
     }
 
     /// Does the directives in order and writes the last line of the log, which tells the first that is refused, with its line in the
-    /// step file, or the end. After each directive that is taken while no group is open, the mesh is settled.
+    /// step file, or the end. After each directive that is taken while no group is open, the mesh is settled. At the end of the whole
+    /// log the replay of its lines has the engine's mesh, and the meshes at which the open groups were opened.
     pub fn follow<D: Desk, K: Sink, F: Fn(u8, Point) -> Shift>(
         &mut self,
         alloc: Global,
@@ -115,7 +116,8 @@ impl<S: Surface> Engine<S> {
         requires steps_room { self.old.run.steps + length steps.now < 2 ^ 32 }
         requires saved_room { self.old.run.saved + length steps.now < 2 ^ 32 }
         requires fields { IsWellKept F.Fn fields.now }
-        ensures follows { FollowsAnswers (known F.Fn fields.now) (target_of to.entry) steps.now (state_in S.mesh S.kept self.old)
+        ensures follows { FollowsAnswers (known F.Fn fields.now) (target_of to.entry) steps.now
+            (state_in S.mesh S.kept self.old) (state_in S.mesh S.kept self.new)
             (contents D.files K.written desk.old out.old) (contents D.files K.written desk.new out.new) result }
         ensures causes { HasCauses (world D.files D.faults K.written K.faults desk.old out.old)
             (world D.files D.faults K.written K.faults desk.new out.new) result }

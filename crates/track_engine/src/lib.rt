@@ -10,6 +10,7 @@ mod driving;
 mod engine;
 mod following;
 mod grouping;
+pub mod laws;
 mod lines;
 mod lists;
 mod open_group;

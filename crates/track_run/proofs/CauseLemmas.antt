@@ -24,10 +24,10 @@ use Rattle.track_run.specs.declared.outcome.Outcome.{Outcome}
 use Rattle.track_run.specs.declared.outcome.Outcome.TheVariants as outcome
 use Rattle.track_engine.specs.State.{State, start}
 use Rattle.track_engine.specs.Answers.{Answers, first, later}
-use Rattle.track_engine.specs.Effects.{Effect, Proceeds, Refused, ExpectedLog, effect_of, and_then, log_from, refused}
+use Rattle.track_engine.specs.Effects.{Effect, Proceeds, Refused, ExpectedLog, effect_of, and_then, log_from, log_of_mesh, refused}
 use Rattle.track_input.specs.Source.{Source, Bytes, Absent, TooLong}
 use Rattle.track_input.specs.Job.{Job, mesh_of_lists}
-use Rattle.track_run.specs.Job.{log_of, log_of_mesh, log_of_test, met_first}
+use Rattle.track_run.specs.Job.{log_of, log_of_test, met_first}
 use Rattle.track_run.proofs.JobLogs.{log_of_files, log_of_lists, log_of_shape, log_of_steps}
 use Rattle.track_run.specs.Outcomes.{outcome_of}
 use Rattle.track_run.specs.Causes.{Cause, HasLists, HasMesh, HasSteps, HasClear, Reaches, IsRefusedAt, IsStopped, answers_after}

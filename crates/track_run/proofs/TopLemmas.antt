@@ -39,7 +39,7 @@ use Rattle.track_engine.specs.declared.stop.Stop.TheVariants as stop
 use Rattle.track_engine.specs.State.{State, start, unsaved, standing}
 use Rattle.track_engine.specs.Answers.{Answers}
 use Rattle.track_engine.specs.Answered.{Known, AreAnswered, FollowsAnswers}
-use Rattle.track_engine.specs.Effects.{ExpectedLog, log_from, mesh_line, refused}
+use Rattle.track_engine.specs.Effects.{ExpectedLog, log_from, log_of_mesh, mesh_line, refused}
 use Rattle.track_engine.specs.Saved.{Target}
 use Rattle.track_engine.specs.Invariant.{IsRunInvariant}
 use Rattle.track_engine.specs.World.{World, Contents, Logs, StopsIn, StopsShort, Follows, HasCauses}
@@ -52,7 +52,7 @@ use Rattle.track_engine.proofs.Promises.{step_is_told}
 use Rattle.track_run.specs.declared.outcome.Outcome.{Outcome}
 use Rattle.track_run.specs.declared.outcome.Outcome.TheVariants as outcome
 use Rattle.track_run.specs.Outcomes.{outcome_of, outcome_at, outcome_from, outcome_of_try}
-use Rattle.track_run.specs.Job.{log_of, log_of_input, log_of_mesh, log_of_test, met_first, replay_of}
+use Rattle.track_run.specs.Job.{log_of, log_of_input, log_of_test, met_first, replay_of}
 use Rattle.track_run.specs.Answered.{IsInputAnswered, FollowsMesh, FollowsTest}
 use Rattle.track_run.specs.Causes.{Cause, IsStopped}
 use Rattle.track_run.specs.Headline.{TracksJob, TracksCommand, TriesCommand, Runs, RunsFor, LogPromises, IsCaused, FaultsAreCounted}
@@ -97,12 +97,12 @@ module _ (fields : Known) (to : Target) (m : Mesh) (steps : List Placed) (first 
   follows_first answers a b c (Ok ending) l f = (logs_then to (at_mesh m) (mesh_line 0 m ∷ []) (log_from answers steps (start m)).lines a b c l f.0, f.1)
   follows_first answers a b c (Err stop) l f = short_then stop to (at_mesh m) (mesh_line 0 m ∷ []) (log_from answers steps (start m)).lines a b c l f
 
-  pub begin_follows : (next : State) (given_steps : List Placed) (a b c : Contents) (r : Result (Option Refusal) Stop) → next ≡ record first { saved = first.saved + 1 } → given_steps ≡ steps
-      → Logs to (standing first) (mesh_line first.saved first.mesh ∷ []) a b → FollowsAnswers fields to given_steps next b c r → FollowsMesh fields to m steps a c r
-  begin_follows next given_steps a b c r saved same logs f =
-      let P : State → Type 0 = λ s. FollowsAnswers fields to steps s b c r in
+  pub begin_follows : (next last : State) (given_steps : List Placed) (a b c : Contents) (r : Result (Option Refusal) Stop) → next ≡ record first { saved = first.saved + 1 } → given_steps ≡ steps
+      → Logs to (standing first) (mesh_line first.saved first.mesh ∷ []) a b → FollowsAnswers fields to given_steps next last b c r → FollowsMesh fields to m steps a c r
+  begin_follows next last given_steps a b c r saved same logs f =
+      let P : State → Type 0 = λ s. FollowsAnswers fields to steps s last b c r in
       let Q : State → Type 0 = λ s. Logs to (standing s) (mesh_line s.saved s.mesh ∷ []) a b in
-      let R : List Placed → Type 0 = λ l. FollowsAnswers fields to l next b c r in
+      let R : List Placed → Type 0 = λ l. FollowsAnswers fields to l next last b c r in
       let told = subst P (saved_first next saved) (subst R same f) in
       record { answers = told.answers; answered = told.answered; follows = follows_first told.answers a b c r (subst Q new logs) told.follows }
 

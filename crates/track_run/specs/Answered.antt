@@ -9,9 +9,10 @@ use Rattle.track_engine.specs.declared.stop.Stop.{Stop}
 use Rattle.track_engine.specs.State.{start}
 use Rattle.track_engine.specs.Answers.{Answers}
 use Rattle.track_engine.specs.Answered.{Known, AreAnswered}
+use Rattle.track_engine.specs.Effects.{log_of_mesh}
 use Rattle.track_engine.specs.Saved.{Target}
 use Rattle.track_engine.specs.World.{Contents, Follows}
-use Rattle.track_run.specs.Job.{log_of_mesh, log_of_test, met_first}
+use Rattle.track_run.specs.Job.{log_of_test, met_first}
 
 -- the directives of what was read are answered so, from where they begin, if no pair of its mesh meets
 abbrev pub IsInputAnswered : Known → Bool → Answers → Result Input Refusal → Type 0

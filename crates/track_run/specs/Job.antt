@@ -12,19 +12,12 @@ use Rattle.log_text.specs.declared.Refusal.TheVariants as refusal
 use Rattle.log_text.specs.declared.LogLine.TheVariants.{First}
 use Rattle.log_replay.specs.Replay.{Replay, at_mesh}
 use Rattle.track_input.specs.Job.{Job, Input, input_of, mesh_of_lists, mesh_of_job}
-use Rattle.track_engine.specs.State.{start}
 use Rattle.track_engine.specs.Answers.{Answers}
-use Rattle.track_engine.specs.Effects.{ExpectedLog, log_from, refused, mesh_line}
+use Rattle.track_engine.specs.Effects.{ExpectedLog, log_of_mesh, refused}
 
 -- the first edge and face of a mesh that meet where its vertices stand
 abbrev pub met_first : Mesh → Option PairName
 met_first m = first_meeting meets_exactly m (rest_positions m)
-
--- the log from the first mesh that is saved on, by what fields answer
-abbrev pub log_of_mesh : Answers → Mesh → List Placed → ExpectedLog
-log_of_mesh answers m steps =
-    let rest = log_from answers steps (start m) in
-    record { lines = mesh_line 0 m ∷ rest.lines; ending = rest.ending }
 
 -- the log from the test of the mesh on
 abbrev pub log_of_test : Answers → Mesh → List Placed → Option PairName → ExpectedLog

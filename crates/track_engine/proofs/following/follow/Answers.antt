@@ -7,7 +7,7 @@ use Rattle.track_engine.specs.State.{State, state_of}
 use Rattle.track_engine.specs.Answered.{known}
 use Rattle.track_engine.specs.Targets.{target_of}
 use Rattle.track_engine.specs.World.{contents}
-use Rattle.track_engine.proofs.SoFars.{Answering, answering_none, goes_on, is_refused, effect_part, at_end, finished}
+use Rattle.track_engine.proofs.SoFars.{Answering, answering_none, goes_on, is_refused, left_as_it_was, effect_part, at_end, finished}
 use Rattle.track_engine.proofs.EffectLemmas.{range_here}
 use Rattle.track_engine.proofs.following.follow.Goals as goal
 
@@ -43,8 +43,10 @@ returns-in-Some-clause-follows g c =
     let now = state_of (g.S.Surface.mesh c.loop-placed.mesh) (g.S.Surface.kept c.loop-placed.mesh) c.loop-placed.run in
     let old = contents g.D.Desk.files g.K.Sink.written c.args.desk.now c.args.out.now in
     let new = contents g.D.Desk.files g.K.Sink.written c.take_directive.new.desk c.take_directive.new.out in
-    finished fields (target_of c.args.to) (RefusedLine (StepUse c.placed-item.result.line c.in-Some.why)) _ c.args.steps.now first now old (g.D.Desk.files c.take_directive.new.desk) _ _ c.finish.result (λ r. refl)
-    (is_refused fields (target_of c.args.to) c.args.steps.now c.loop-placed.placed-index c.placed-item.result c.loop-placed-test.true c.placed-item.is first now old _ new c.loop-placed.invariant.so_far (state_of (g.S.Surface.mesh c.take_directive.new.mesh) (g.S.Surface.kept c.take_directive.new.mesh) c.take_directive.new.run) c.in_ok-take_directive.field-0 c.in-Some.why c.in-Some.is c.in_ok-take_directive.ensures.advances)
+    let then = state_of (g.S.Surface.mesh c.take_directive.new.mesh) (g.S.Surface.kept c.take_directive.new.mesh) c.take_directive.new.run in
+    finished fields (target_of c.args.to) (RefusedLine (StepUse c.placed-item.result.line c.in-Some.why)) _ c.args.steps.now first now then old (g.D.Desk.files c.take_directive.new.desk) _ _ c.finish.result (λ r. refl) (λ r. refl)
+    (left_as_it_was c.in_ok-take_directive.field-0 c.in-Some.why c.in-Some.is c.in_ok-take_directive.ensures.left)
+    (is_refused fields (target_of c.args.to) c.args.steps.now c.loop-placed.placed-index c.placed-item.result c.loop-placed-test.true c.placed-item.is first now old _ new c.loop-placed.invariant.so_far then c.in_ok-take_directive.field-0 c.in-Some.why c.in-Some.is c.in_ok-take_directive.ensures.advances)
     c.finish.ensures.said c.finish.ensures.part c.finish.ensures.ending
 
 pub loop-placed-preserved : goal.loop-placed-preserved
@@ -79,6 +81,6 @@ returns-clause-follows g c =
     let now = state_of (g.S.Surface.mesh c.loop-placed.mesh) (g.S.Surface.kept c.loop-placed.mesh) c.loop-placed.run in
     let old = contents g.D.Desk.files g.K.Sink.written c.args.desk.now c.args.out.now in
     let mid = contents g.D.Desk.files g.K.Sink.written c.loop-placed.desk c.loop-placed.out in
-    finished fields (target_of c.args.to) End None c.args.steps.now first now old (g.D.Desk.files c.loop-placed.desk) _ _ c.finish-2.result (λ r. refl)
+    finished fields (target_of c.args.to) End None c.args.steps.now first now now old (g.D.Desk.files c.loop-placed.desk) _ _ c.finish-2.result (λ r. refl) (λ r. refl) refl
     (at_end fields (target_of c.args.to) c.args.steps.now c.loop-placed.placed-index first now old mid c.loop-placed-test.false c.loop-placed.invariant.so_far)
     c.finish-2.ensures.said c.finish-2.ensures.part c.finish-2.ensures.ending
