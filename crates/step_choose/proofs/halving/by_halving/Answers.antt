@@ -1,11 +1,11 @@
-use Rattle.std.proofs.Common.{◌≡◌, ◌+◌, ℕ, Bool, true, false, ap, sym, ◌∙◌, subst, length, ◌==◌, Option, Some, nat_eq}
+use Rattle.std.proofs.Common.{◌≡◌, ◌+◌, ℕ, Bool, true, false, ap, sym, ◌∙◌, subst, Some}
 use Rattle.std.specs.Option.{option_map}
 use Rattle.std.specs.List.{find, range_with_len}
 use Rattle.grid_decided.specs.Decided.{meets_exactly}
 use Rattle.mesh_base.specs.Shifts.{NameLive, end_in_box, Shifts}
 use Rattle.mesh_base.specs.declared.How.TheVariants as How
 use Rattle.mesh_base.specs.Failing.{failing}
-use Rattle.step_choose.specs.Choice.{Way, way, halved_times, all_pass, halving}
+use Rattle.step_choose.specs.Choice.{halved_times, all_pass, halving}
 use Rattle.step_choose.proofs.Shortened.{names_halved, ends_halved}
 use Rattle.pair_scan.proofs.NoneFail.{by_length}
 use Rattle.step_choose.proofs.Searching.{later, here}
