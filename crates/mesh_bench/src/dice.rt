@@ -4,7 +4,7 @@ ghost use Rattle.std.specs.Prelude.{◌<◌};
 use grid_base::{Extent, Point};
 use mesh_base::{FaceId, Surface, VertexId};
 
-/// In place of a point that is not in the box.
+/// The middle of the box.
 pub(crate) const ORIGIN: Point = Point { x: 0, y: 0, z: 0 };
 
 /// The state from which the next number comes.
