@@ -98,6 +98,11 @@ fn unknown_reason(alloc: Global, word: &str) -> Result<String, AllocError> {
     }
 }
 
+// The verb for so many words.
+fn are(count: usize) -> &'static str {
+    if count == 1 { "is" } else { "are" }
+}
+
 // What a command wants: how it is called, so many files, and whether each has to end in a format's ending.
 #[derive(Clone, Copy)]
 struct Wanted {
@@ -169,8 +174,8 @@ fn files_reason(alloc: Global, wanted: Wanted, words: &[String]) -> Result<Strin
     if awaited == Awaited::Digit {
         return String::from_str(alloc, "`--decimals` wants a digit from 0 to 6");
     }
-    let (form, wants) = (wanted.form, wanted.files);
-    format!(in alloc; "`topo {form}` wants {wants} names of files, and {files} are given")
+    let (form, wants, are) = (wanted.form, wanted.files, are(files));
+    format!(in alloc; "`topo {form}` wants {wants} names of files, and {files} {are} given")
 }
 
 // Says what is wrong with the words behind `try`: it tells the first that is at fault, or that there are too few.
@@ -198,8 +203,9 @@ fn numbers_reason(alloc: Global, most_cubes: u8, words: &[String]) -> Result<Str
             numbers += 1;
         }
     }
+    let are = are(numbers);
     format!(in alloc;
-        "`topo try N KEY` wants two numbers, and {numbers} are given: N is 1 to {most_cubes}, KEY is 0 to {most_key}"
+        "`topo try N KEY` wants two numbers, and {numbers} {are} given: N is 1 to {most_cubes}, KEY is 0 to {most_key}"
     )
 }
 
