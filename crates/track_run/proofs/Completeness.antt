@@ -84,5 +84,5 @@ module _ (fields : Known) (mesh_name step_name : List ℕ) (to : Target) (result
   pub ends_well : IsEnd
   ends_well = by_end run.tracks.ended run.tracks.outcome_is run.tracks.answered
 
-pub lawful_jobs_are_done : LawfulJobsAreDone
+pub lawful_jobs_are_done : (fields : Known) → LawfulJobsAreDone fields
 lawful_jobs_are_done = ends_well

@@ -29,8 +29,8 @@ pub record NoneFailed (old new : World) : Type 0 where
   pub sink : ¬ Rose old.sink_faults new.sink_faults
 
 -- Where neither side fails, a run of such a job is done, or finds no memory.
-abbrev pub LawfulJobsAreDone : Type 1
-LawfulJobsAreDone =
-    (fields : Known) (mesh_name step_name : List ℕ) (to : Target) (result : Outcome) (old new : World)
+abbrev pub LawfulJobsAreDone : Known → Type 0
+LawfulJobsAreDone fields =
+    (mesh_name step_name : List ℕ) (to : Target) (result : Outcome) (old new : World)
     → (run : TracksCommand fields mesh_name step_name to result old new) → IsLawful fields run.job → NoneFailed old new
     → (result ≡ Done) ⊎ (result ≡ NoMemory)

@@ -1,9 +1,13 @@
 //! What holds of all runs. Each law is the contract of a function that does nothing.
 
+ghost use Rattle.mesh_field.specs.Stored.{StoredFields};
+ghost use Rattle.track_engine.specs.Answered.{known};
 ghost use Rattle.track_run.specs.Complete.{LawfulJobsAreDone};
 
+use grid_base::{Point, Shift};
+
 /// A job whose files are there and are read without a fault, whose mesh is of good shape and clear, and whose directives are all taken,
-/// whatever fields may answer, is done, where neither the desk nor the sink fails and there is memory.
-pub fn jobs_of_which_nothing_is_refused_are_done()
-    ensures { LawfulJobsAreDone }
+/// whatever the stored fields may answer, is done, where neither the desk nor the sink fails and there is memory.
+pub fn jobs_of_which_nothing_is_refused_are_done<F: Fn(u8, Point) -> Shift>()
+    ensures { (fields : StoredFields F) → LawfulJobsAreDone (known F.Fn fields) }
 {}

@@ -1,5 +1,6 @@
+use Rattle.track_engine.specs.Answered.{known}
 use Rattle.track_run.proofs.Completeness.{lawful_jobs_are_done}
 use Rattle.track_run.proofs.laws.jobs_of_which_nothing_is_refused_are_done.Goals as goal
 
 pub returns : goal.returns
-returns c = lawful_jobs_are_done
+returns g c = λ fields. lawful_jobs_are_done (known g.F.Fn fields)
