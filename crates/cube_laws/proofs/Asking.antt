@@ -1,5 +1,5 @@
 -- A shift is asked of each vertex in turn.
-use Rattle.std.proofs.Common.{◌≡◌, ℕ, zero, suc, ◌+◌, ◌<◌, ◌≤◌, ◌==◌, nat_lt, Bool, true, false, cond, List, [], ◌∷◌, map, Option, Some, None, Ok, Err, ℤ, pos, ◌+ℤ◌, refl, ap, sym, subst, ◌∙◌, ⊎_elim, arith}
+use Rattle.std.proofs.Common.{◌≡◌, ℕ, zero, suc, ◌+◌, ◌<◌, ◌≤◌, ◌==◌, nat_lt, Bool, true, false, cond, List, [], ◌∷◌, map, Some, Ok, Err, ℤ, pos, ◌+ℤ◌, refl, ap, sym, subst, ◌∙◌, ⊎_elim, arith}
 use Rattle.std.proofs.lemmas.Int.{ints}
 use Rattle.std.proofs.lemmas.Bool.{false≢true, eqb-true, cases_eq, cases_lt}
 use Rattle.std.proofs.lemmas.Bool.Decides.{nat_tests}
@@ -15,10 +15,9 @@ use Rattle.mesh_base.specs.declared.ShiftOf.{ShiftOf}
 use Rattle.mesh_base.specs.declared.UseWhy.TheVariants.{ShiftRange}
 use Rattle.mesh_base.specs.Mesh.{Mesh, is_solid}
 use Rattle.mesh_base.specs.Shifts.{Shifts, with_shift}
-use Rattle.step_text.specs.declared.Directive.{Directive}
 use Rattle.step_text.specs.declared.Directive.TheVariants.{ShiftOne}
-use Rattle.track_engine.specs.State.{State, still_at, asked_of}
-use Rattle.track_engine.specs.Effects.{Proceeds, effect_of, shift_effect, sum_of_one, sum_at, summed, one_summed}
+use Rattle.track_engine.specs.State.{State, still_at}
+use Rattle.track_engine.specs.Effects.{shift_effect, sum_of_one, sum_at, summed, one_summed}
 use Rattle.cube_laws.proofs.Taking.{AreTaken}
 
 -- the shift of a vertex
@@ -121,8 +120,7 @@ asked_from by count s free a zero h h' e =
 asked_from by count s free a (suc c) h h' e =
     let next : State = record s { asked = map (given (up_to by (a + 1))) (range_with_len 1 count) } in
     let same : (a + 1) + c ≡ a + suc c = omega arith in
-    let rest = asked_from by count next free (a + 1) c (omega arith) (omega arith) refl in
-    (
+    let rest = asked_from by count next free (a + 1) c (omega arith) (omega arith) refl in (
       next,
       0,
       0,

@@ -1,5 +1,5 @@
 -- Cubes that move as wholes: no vertex leaves the grid's box, and all pairs pass.
-use Rattle.std.proofs.Common.{◌≡◌, ℕ, zero, suc, ◌+◌, ◌-◌, ◌*◌, ◌/◌, ◌%◌, ◌<◌, ◌≤◌, Bool, true, false, cond, not, List, [], ◌∷◌, ◌++◌, map, Option, Some, None, refl, ap, sym, subst, ◌∙◌, ⊎_elim, inr, arith}
+use Rattle.std.proofs.Common.{◌≡◌, ℕ, zero, suc, ◌+◌, ◌-◌, ◌*◌, ◌/◌, ◌%◌, ◌<◌, ◌≤◌, true, false, cond, not, List, map, Some, None, refl, ap, sym, subst, ◌∙◌, ⊎_elim, inr, arith}
 use Rattle.std.specs.Option.{option_map, unwrap_or}
 use Rattle.std.specs.List.{find, range_with_len}
 use Rattle.std.specs.FinMap as finite
@@ -136,34 +136,34 @@ module _ (n key k : ℕ) (row : IsRow n) (few : k < 3) (m : Mesh) (asked : Shift
       let end : Positions = positions (moved_by m asked).end p in
       ⊎_elim
       (λ same.
-        let first = sym (way_of p.name.a side.cube side.start side.start_is side.there side.of_start) in
-        let back = ap (λ (c : ℕ). cube_moved_by key (suc k) (c + 1)) (sym same) ∙ first in
-        inr (
-          record {
-            b = way_of p.name.b side.cube side.end side.end_is side.there side.of_end ∙ first;
-            c = way_of p.corners.first face.cube face.face.first c_is face.there of.first ∙ back;
-            d = way_of p.corners.second face.cube face.face.second d_is face.there of.second ∙ back;
-            e = way_of p.corners.third face.cube face.face.third e_is face.there of.third ∙ back;
-          },
-          clear p is,
-        ))
+      let first = sym (way_of p.name.a side.cube side.start side.start_is side.there side.of_start) in
+      let back = ap (λ (c : ℕ). cube_moved_by key (suc k) (c + 1)) (sym same) ∙ first in
+      inr (
+        record {
+          b = way_of p.name.b side.cube side.end side.end_is side.there side.of_end ∙ first;
+          c = way_of p.corners.first face.cube face.face.first c_is face.there of.first ∙ back;
+          d = way_of p.corners.second face.cube face.face.second d_is face.there of.second ∙ back;
+          e = way_of p.corners.third face.cube face.face.third e_is face.there of.third ∙ back;
+        },
+        clear p is,
+      ))
       (λ differ.
-        let edge_box = box n side.cube (not_many side.cube side.there) in
-        let face_box = box n face.cube (not_many face.cube face.there) in
-        passes_apart depth edge_box face_box start end
-        (record {
-          a = begins_in p.name.a side.cube side.start side.start_is side.there side.of_start;
-          b = begins_in p.name.b side.cube side.end side.end_is side.there side.of_end;
-          c = begins_in p.corners.first face.cube face.face.first c_is face.there of.first;
-          d = begins_in p.corners.second face.cube face.face.second d_is face.there of.second;
-          e = begins_in p.corners.third face.cube face.face.third e_is face.there of.third;
-        })
-        (record {
-          a = ends_in p.name.a side.cube side.start side.start_is side.there side.of_start;
-          b = ends_in p.name.b side.cube side.end side.end_is side.there side.of_end;
-          c = ends_in p.corners.first face.cube face.face.first c_is face.there of.first;
-          d = ends_in p.corners.second face.cube face.face.second d_is face.there of.second;
-          e = ends_in p.corners.third face.cube face.face.third e_is face.there of.third;
-        })
-        (boxes_apart n side.cube face.cube (not_many side.cube side.there) (not_many face.cube face.there) differ))
+      let edge_box = box n side.cube (not_many side.cube side.there) in
+      let face_box = box n face.cube (not_many face.cube face.there) in
+      passes_apart depth edge_box face_box start end
+      (record {
+        a = begins_in p.name.a side.cube side.start side.start_is side.there side.of_start;
+        b = begins_in p.name.b side.cube side.end side.end_is side.there side.of_end;
+        c = begins_in p.corners.first face.cube face.face.first c_is face.there of.first;
+        d = begins_in p.corners.second face.cube face.face.second d_is face.there of.second;
+        e = begins_in p.corners.third face.cube face.face.third e_is face.there of.third;
+      })
+      (record {
+        a = ends_in p.name.a side.cube side.start side.start_is side.there side.of_start;
+        b = ends_in p.name.b side.cube side.end side.end_is side.there side.of_end;
+        c = ends_in p.corners.first face.cube face.face.first c_is face.there of.first;
+        d = ends_in p.corners.second face.cube face.face.second d_is face.there of.second;
+        e = ends_in p.corners.third face.cube face.face.third e_is face.there of.third;
+      })
+      (boxes_apart n side.cube face.cube (not_many side.cube side.there) (not_many face.cube face.there) differ))
       (cases_eq side.cube face.cube)

@@ -1,13 +1,11 @@
 -- A step in which each cube moves as a whole is taken whole, and the cubes stand again.
-use Rattle.std.proofs.Common.{◌≡◌, ℕ, zero, suc, ◌+◌, ◌-◌, ◌*◌, ◌/◌, ◌%◌, ◌<◌, ◌≤◌, Bool, true, false, cond, not, List, [], ◌∷◌, ◌++◌, map, Option, Some, None, refl, ap, sym, subst, ◌∙◌, ⊎_elim, inr, arith}
+use Rattle.std.proofs.Common.{◌≡◌, ℕ, suc, ◌+◌, ◌*◌, ◌<◌, [], ◌∷◌, ◌++◌, map, None, refl, ap, sym, subst, ◌∙◌}
 use Rattle.std.specs.Option.{option_map}
 use Rattle.std.specs.List.{AllByRecursion}
-use Rattle.std.specs.FinMap as finite
 use Rattle.grid_base.specs.Triples.{plus}
 use Rattle.grid_decided.specs.Decided.{meets_exactly}
 use Rattle.mesh_base.specs.declared.ShiftOf.{ShiftOf}
 use Rattle.mesh_base.specs.Mesh.{Mesh, is_solid}
-use Rattle.mesh_base.specs.Pairs.{Pair}
 use Rattle.mesh_base.specs.Placements.{rest_positions}
 use Rattle.mesh_base.specs.Failing.{failing}
 use Rattle.mesh_base.specs.Shifts.{Shifts, with_move, with_moves}
@@ -17,12 +15,11 @@ use Rattle.mesh_base.proofs.MovesNamed.{name_once, name_once_filtered, shift_fil
 use Rattle.mesh_base.proofs.KeysKept.{keys-with_moves}
 use Rattle.step_choose.specs.Choice.{Way}
 use Rattle.step_text.specs.declared.Directive.TheVariants.{Step as StepDirective}
-use Rattle.log_text.specs.declared.LogLine.{LogLine}
 use Rattle.log_text.specs.declared.LogLine.TheVariants.{Step, Move, Moved}
 use Rattle.mesh_base.specs.declared.How.TheVariants.{Whole}
 use Rattle.mesh_make.specs.Cubes.{IsRow}
 use Rattle.track_engine.specs.State.{State, still_at}
-use Rattle.track_engine.specs.Effects.{Proceeds, effect_of, step_effect, first_outside, end_of, moves, moving, moved_mesh, move_lines, hits, taken, step_lines, after_step}
+use Rattle.track_engine.specs.Effects.{Proceeds, effect_of, step_effect, first_outside, moves, moving, moved_mesh, move_lines, hits, step_lines, after_step}
 use Rattle.track_engine.specs.Invariant.{IsRunInvariant}
 use Rattle.track_engine.specs.Promise.{EachPasses}
 use Rattle.track_engine.proofs.Promises.{step_is_told, taken_whole}

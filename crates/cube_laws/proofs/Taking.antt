@@ -1,5 +1,5 @@
 -- Directives that are taken one after another, and the log of them.
-use Rattle.std.proofs.Common.{◌≡◌, ℕ, suc, ◌+◌, Bool, true, false, cond, List, [], ◌∷◌, ◌++◌, map, length, None, refl, ap, sym, subst, arith}
+use Rattle.std.proofs.Common.{◌≡◌, ℕ, ◌+◌, Bool, true, false, cond, List, [], ◌∷◌, ◌++◌, map, length, None, refl, sym, subst, arith}
 use Rattle.std.specs.List.{AllByRecursion, enumerate_from, filter}
 use Rattle.mesh_base.proofs.ListedPairs.{all_joined}
 use Rattle.step_text.specs.declared.Directive.{Directive}

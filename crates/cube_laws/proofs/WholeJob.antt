@@ -1,18 +1,16 @@
 -- The three steps of the job, and the pass and the save after them.
-use Rattle.std.proofs.Common.{◌≡◌, ℕ, suc, ◌+◌, ◌*◌, ◌<◌, ◌≤◌, Bool, true, false, cond, List, [], ◌∷◌, ◌++◌, map, length, None, refl, ap, sym, subst, ◌∙◌, arith}
+use Rattle.std.proofs.Common.{◌≡◌, ℕ, suc, ◌+◌, ◌*◌, ◌<◌, false, cond, List, [], ◌∷◌, ◌++◌, map, length, refl, ap, ◌∙◌, arith}
 use Rattle.std.specs.List.{AllByRecursion, enumerate_from, range_with_len, filter}
 use Rattle.std.specs.FinMap as finite
 use Rattle.std.specs.Map.{keys_of}
 use Rattle.std.proofs.lemmas.List.{length-map}
 use Rattle.grid_base.specs.Points.{point_at}
 use Rattle.grid_decided.specs.Decided.{meets_exactly}
-use Rattle.mesh_base.specs.Valid.{IsValidSurface}
 use Rattle.mesh_base.proofs.Ordered.{entries-of_sorted}
 use Rattle.mesh_base.proofs.Finite.{none_in_empty}
 use Rattle.mesh_plain.proofs.Lists.{sorted_numbers}
 use Rattle.edit_base.specs.declared.PassKind.{PassKind}
 use Rattle.edit_base.specs.declared.PassKind.TheVariants as pass
-use Rattle.step_text.specs.declared.Directive.{Directive}
 use Rattle.step_text.specs.declared.Directive.TheVariants as directive
 use Rattle.log_text.specs.declared.LogLine.{LogLine}
 use Rattle.log_text.specs.declared.LogLine.TheVariants.{Pass, Did, No}
@@ -32,7 +30,7 @@ use Rattle.cube_laws.specs.Whole.{MovesWhole, is_moved, moved_in, log_of_cubes}
 use Rattle.cube_laws.proofs.Taking.{IsTaken, AreTaken, taken_then, taken_kept, IsTold, told}
 use Rattle.cube_laws.proofs.Places.{spot-zero}
 use Rattle.cube_laws.proofs.Asking.{given, all_asked}
-use Rattle.cube_laws.proofs.Moving.{ids_of, AreMoved, shift_in}
+use Rattle.cube_laws.proofs.Moving.{ids_of, shift_in}
 use Rattle.cube_laws.proofs.Stepping.{AreBetween, step_taken, between_again}
 
 -- ---- where the job begins
