@@ -92,7 +92,7 @@ against_z : (x y z : ℤ) → dot (way (pos 0) (pos 0) (negsuc 0)) (way x y z) �
 against_z x y z = omega (arith, ints)
 
 -- a cube is told by its three places
-same_places : (n cube other : ℕ) → cube % n ≡ other % n → cube / n % n ≡ other / n % n → cube / n / n ≡ other / n / n → cube ≡ other
+pub same_places : (n cube other : ℕ) → cube % n ≡ other % n → cube / n % n ≡ other / n % n → cube / n / n ≡ other / n / n → cube ≡ other
 same_places n cube other x y z =
     let rows : cube / n ≡ other / n = sym (div-add-mod (cube / n) n) ∙ ap (λ (k : ℕ). n * k + cube / n % n) z ∙ ap (λ (k : ℕ). n * (other / n / n) + k) y ∙ div-add-mod (other / n) n in
     sym (div-add-mod cube n) ∙ ap (λ (k : ℕ). n * k + cube % n) rows ∙ ap (λ (k : ℕ). n * (other / n) + k) x ∙ div-add-mod other n
@@ -115,21 +115,21 @@ apart_cubes n cube other u v t differ =
     (cases_lt (other % n) (cube % n))) (cases_lt (cube % n) (other % n))
 
 -- ---- an edge of the mesh is an edge of the first cube at some cube
-record IsSideAt (n u v : ℕ) : Type 0 where
-  cube : ℕ
-  spot : ℕ
-  face : Corners
-  there : cube < n * n * n
-  listed : slice_get triangles spot ≡ Some face
-  start : ℕ
-  end : ℕ
-  of_start : IsOfCube start
-  of_end : IsOfCube end
-  start_is : u ≡ 8 * cube + start
-  end_is : v ≡ 8 * cube + end
-  follow : follows face start end ≡ true
+pub record IsSideAt (n u v : ℕ) : Type 0 where
+  pub cube : ℕ
+  pub spot : ℕ
+  pub face : Corners
+  pub there : cube < n * n * n
+  pub listed : slice_get triangles spot ≡ Some face
+  pub start : ℕ
+  pub end : ℕ
+  pub of_start : IsOfCube start
+  pub of_end : IsOfCube end
+  pub start_is : u ≡ 8 * cube + start
+  pub end_is : v ≡ 8 * cube + end
+  pub follow : follows face start end ≡ true
 
-side_at : (n u v : ℕ) → 0 < runs (cubes_mesh n) u v → IsSideAt n u v
+pub side_at : (n u v : ℕ) → 0 < runs (cubes_mesh n) u v → IsSideAt n u v
 side_at n u v some =
     let found = running_face (cubes_mesh n) u v some in
     let at = face_at n (found.0).0 (found.0).1 found.2 in

@@ -1,0 +1,6 @@
+pub mod Taking
+pub mod Places
+pub mod Asking
+pub mod Moving
+pub mod Stepping
+pub mod WholeJob
