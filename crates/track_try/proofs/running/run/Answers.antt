@@ -18,8 +18,8 @@ follow-requires-clause-marks g c =
     let P : List OpenGroup → Type 0 = λ groups. MarksHold g.S.Surface.beyond (g.S.Surface.kept c.save.new.self.mesh) groups in
     subst P (sym (c.in-Ok-save.ensures.rest.1 ∙ c.in_ok-engine.ensures.groups)) tt
 
-pub returns-in-Ok : goal.returns-in-Ok
-returns-in-Ok g c =
+pub returns-in-Ok-follow : goal.returns-in-Ok-follow
+returns-in-Ok-follow g c =
     has_run (g.S.Surface.mesh c.args.mesh) (state_in g.S.Surface.mesh g.S.Surface.kept c.in_ok-engine.engine) (state_in g.S.Surface.mesh g.S.Surface.kept c.save.new.self) c.in_ok-engine.ensures.state c.in-Ok-save.ensures.state
     (known g.F.Fn c.args.fields.now) c.requires.none (target_of c.to) c.args.steps.now (state_in g.S.Surface.mesh g.S.Surface.kept c.follow.new.self) _ _ _ c.in-Ok-follow.ensures.follows
     (told_to c.args.told.now) (told_to c.follow.new.out) (Some (told_to c.say.new.out)) c.requires.fresh refl c.in-Ok.ensures.said c.in-Ok-save.ensures.saves

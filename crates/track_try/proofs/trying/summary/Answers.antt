@@ -1,7 +1,5 @@
 use Rattle.std.proofs.Common.{◌∙◌}
-use Rattle.mesh_journal.specs.Journal.{mesh_in}
-use Rattle.outside_io.specs.Tally.{told_to}
-use Rattle.track_try.proofs.OfCubes.{mesh_is, shape_is, good_mesh, good_steps, few_steps, sums_up}
+use Rattle.track_try.proofs.OfCubes.{mesh_is, shape_is, good_mesh, good_steps, few_steps, summed}
 use Rattle.track_try.proofs.trying.summary.Goals as goal
 
 pub of-requires : goal.of-requires
@@ -17,4 +15,5 @@ pub run-requires-clause-count : goal.run-requires-clause-count
 run-requires-clause-count c = few_steps c.args.n c.args.key _ c.requires (c.as_slice.ensures ∙ c.in_ok-job.ensures.directives)
 
 pub returns : goal.returns
-returns c = ?
+returns c =
+    summed c.args.n c.args.key _ _ _ _ c.summed_up.result (c.in_ok-mesh.ensures.mesh ∙ mesh_is c.in_ok-job.job.mesh c.args.n c.in_ok-job.ensures.mesh) (c.as_slice.ensures ∙ c.in_ok-job.ensures.directives) c.in_ok-engine.ensures c.summed_up.ensures
