@@ -1,5 +1,6 @@
 -- The job of cubes may be run, and its summary is that of its log.
 use Rattle.std.proofs.Common.{◌≡◌, ℕ, suc, ◌+◌, ◌*◌, ◌^◌, ◌<◌, ◌≤◌, List, [], ◌∷◌, ◌++◌, map, length, refl, sym, ap, ◌∙◌, subst, arith, None, length-append}
+use Rattle.std.specs.Prelude.{Vec, Result, Ok, Err, IfOk}
 use Rattle.std.specs.declared.option.Option.{Option}
 use Rattle.std.specs.List.{enumerate_from}
 use Rattle.std.proofs.lemmas.List.{length-map}
@@ -87,7 +88,7 @@ good_steps n key steps row same = subst AreInRange (sym same) (steps_in_range n 
 -- ---- the summary
 
 -- by the counts of what a sink was told, and by the mesh at the end
-pub sums_up : (n key : ℕ) (m now : Mesh) (steps : List Placed) (told text : List ℕ) → m ≡ cubes_mesh n → steps ≡ cubes_steps n key → HasRun m steps told now → text ≡ summary_text n key (counts_in told) now → text ≡ summary_of n key
+sums_up : (n key : ℕ) (m now : Mesh) (steps : List Placed) (told text : List ℕ) → m ≡ cubes_mesh n → steps ≡ cubes_steps n key → HasRun m steps told now → text ≡ summary_text n key (counts_in told) now → text ≡ summary_of n key
 unfolding summary_of
 sums_up n key m now steps told text same_mesh same_steps run is =
     let P : Mesh → Type 0 = λ m. HasRun m (cubes_steps n key) told now in
@@ -95,6 +96,12 @@ sums_up n key m now steps told text same_mesh same_steps run is =
     let ran = subst P same_mesh (subst Q same_steps run) in
     let counts : counts_in told ≡ counts_of (log_of_cubes n key) = ap counts_in ran.log ∙ counts_told (log_of_cubes n key) in
     is ∙ ap (λ c. summary_text n key c now) counts ∙ ap (summary_text n key (counts_of (log_of_cubes n key))) ran.mesh
+
+-- of what a call gives, where it gives something
+pub summed : {Z E : Type 0} (n key : ℕ) (m now : Mesh) (steps : List Placed) (told : List ℕ) (r : Result (Vec ℕ Z) E) → m ≡ cubes_mesh n → steps ≡ cubes_steps n key → HasRun m steps told now
+    → IfOk r (λ text. text.items ≡ summary_text n key (counts_in told) now) → IfOk r (λ text. text.items ≡ summary_of n key)
+summed n key m now steps told (Ok text) same_mesh same_steps run is = sums_up n key m now steps told text.items same_mesh same_steps run is
+summed n key m now steps told (Err e) same_mesh same_steps run is = tt
 
 -- it is not empty
 some_summary : (n key : ℕ) → 0 < length (summary_of n key)

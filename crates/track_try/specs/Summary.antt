@@ -15,15 +15,13 @@ use Rattle.outside_io.specs.ToldLines.{capped}
 use Rattle.mesh_make.specs.Cubes.{cubes_mesh}
 use Rattle.mesh_make.specs.CubeSteps.{cubes_steps}
 use Rattle.step_text.specs.declared.Placed.{Placed}
-use Rattle.track_engine.specs.State.{start}
-use Rattle.track_engine.specs.Effects.{log_from, mesh_line}
+use Rattle.track_engine.specs.Effects.{log_of_mesh}
 
 -- ---- the job's log, and where its replay leads
 
--- The log of a job whose directives name no stored field: its first line, the line of the mesh that is saved first, and those of the
--- directives.
+-- the whole log of a job of a mesh and directives where no field is stored: its first line, and the log from the first mesh that is saved on
 abbrev pub whole_log : Mesh → List Placed → List LogLine
-whole_log m steps = First VERSION ∷ mesh_line 0 m ∷ (log_from [] steps (start m)).lines
+whole_log m steps = First VERSION ∷ (log_of_mesh [] m steps).lines
 
 -- the log of the job of cubes
 abbrev pub log_of_cubes : ℕ → ℕ → List LogLine
