@@ -1,5 +1,5 @@
 -- Which kind a line is of is told by the beginning of its spelling.
-use Rattle.std.proofs.Common.{◌≡◌, ℕ, Bool, true, false, List, [], ◌∷◌, ◌++◌, refl, ap, sym, ◌∙◌, append-nil}
+use Rattle.std.proofs.Common.{◌≡◌, ℕ, Bool, false, List, [], ◌∷◌, ◌++◌, refl, ap, sym, ◌∙◌, append-nil}
 use Rattle.std.specs.Prelude.{codes, decimal, map}
 use Rattle.std.specs.List.{join_with_byte}
 use Rattle.edit_base.specs.declared.Change.{Change}
@@ -8,7 +8,7 @@ use Rattle.mesh_base.specs.declared.How.{How}
 use Rattle.mesh_base.specs.declared.How.TheVariants.{Whole, Impulse, Zones, Halved, Zero}
 use Rattle.log_text.specs.declared.log_line.LogLine.{LogLine}
 use Rattle.log_text.specs.declared.log_line.LogLine.TheVariants as line
-use Rattle.log_text.specs.Lines.{body_of, line_words, asked_words, reason_words, refusal_words, pass_words, how_words, places_words}
+use Rattle.log_text.specs.Lines.{body_of, asked_words, reason_words, refusal_words, pass_words, how_words}
 use Rattle.outside_io.specs.ToldLines.{tells_step, tells_whole_step, tells_split}
 use Rattle.track_try.specs.Summary.{is_step_line, is_whole_step_line, is_split_line}
 

@@ -1,8 +1,8 @@
 -- The counts of a text of lines are those of its lines.
-use Rattle.std.proofs.Common.{◌≡◌, ℕ, suc, ◌+◌, Bool, true, false, ◌==◌, cond, if◌then◌else◌, List, [], ◌∷◌, ◌++◌, map, length, count_by, refl, sym, ap, ◌∙◌, append_assoc, append-nil, arith}
+use Rattle.std.proofs.Common.{◌≡◌, ℕ, suc, ◌+◌, Bool, cond, if◌then◌else◌, List, [], ◌∷◌, ◌++◌, map, length, count_by, refl, sym, ap, ◌∙◌, append_assoc, append-nil}
 use Rattle.std.proofs.lemmas.List.Sums.{sum_by-cons}
 use Rattle.log_text.specs.declared.log_line.LogLine.{LogLine}
-use Rattle.log_text.specs.Lines.{body_of, text_of_line, text_of_lines}
+use Rattle.log_text.specs.Lines.{body_of, text_of_lines}
 use Rattle.outside_io.specs.ToldLines.{LF, ended_behind, ended_lines, lines_in, steps_in, whole_steps_in, splits_in, tells_step, tells_whole_step, tells_split}
 use Rattle.track_try.specs.Summary.{is_step_line, is_whole_step_line, is_split_line, counts_of}
 use Rattle.track_try.specs.Told.{counts_in}

@@ -21,7 +21,7 @@ use Rattle.step_text.specs.declared.Directive.{Directive}
 use Rattle.step_text.specs.declared.Directive.TheVariants.{ShiftOne, Step, Pass, Save}
 use Rattle.step_text.specs.declared.Placed.{Placed}
 use Rattle.mesh_make.specs.Cubes.{IsRow, cubes_lists, cubes_mesh}
-use Rattle.mesh_make.specs.CubeSteps.{cube_shift, cube_with, shifts_in, step_of, cubes_directives, cubes_steps, on_lines}
+use Rattle.mesh_make.specs.CubeSteps.{cube_shift, cube_with, shifts_in, step_of, cubes_directives, cubes_steps}
 use Rattle.mesh_make.proofs.Growing.{cubes-few}
 use Rattle.mesh_make.proofs.Shape.{cubes_are_sound, cubes_are_closed, cubes_have_no_fault}
 use Rattle.mesh_make.proofs.Clear.{cubes_are_clear}

@@ -6,7 +6,6 @@ use Rattle.mesh_base.specs.Valid.{IsValidSurface}
 use Rattle.step_text.specs.declared.Placed.{Placed}
 use Rattle.log_text.specs.Lines.{text_of_lines}
 use Rattle.log_text.specs.declared.TheConstants.{VERSION}
-use Rattle.log_text.specs.declared.LogLine.{LogLine}
 use Rattle.log_text.specs.declared.LogLine.TheVariants.{First}
 use Rattle.log_text.specs.declared.Refusal.{Refusal}
 use Rattle.log_replay.specs.Replay.{Replay, at_mesh, after}

@@ -4,7 +4,6 @@ use Rattle.track_engine.specs.Engines.{state_in}
 use Rattle.track_engine.specs.declared.OpenGroup.{OpenGroup}
 use Rattle.track_engine.specs.Invariant.{MarksHold}
 use Rattle.track_engine.specs.Answered.{known}
-use Rattle.track_engine.specs.Targets.{target_of}
 use Rattle.track_try.proofs.Ran.{kept_first, has_run}
 use Rattle.track_try.proofs.running.run.Goals as goal
 
@@ -21,5 +20,5 @@ follow-requires-clause-marks g c =
 pub returns-in-Ok-follow : goal.returns-in-Ok-follow
 returns-in-Ok-follow g c =
     has_run (g.S.Surface.mesh c.args.mesh) (state_in g.S.Surface.mesh g.S.Surface.kept c.in_ok-engine.engine) (state_in g.S.Surface.mesh g.S.Surface.kept c.save.new.self) c.in_ok-engine.ensures.state c.in-Ok-save.ensures.state
-    (known g.F.Fn c.args.fields.now) c.requires.none (target_of c.to) c.args.steps.now (state_in g.S.Surface.mesh g.S.Surface.kept c.follow.new.self) _ _ _ c.in-Ok-follow.ensures.follows
+    (known g.F.Fn c.args.fields.now) c.requires.none _ c.args.steps.now (state_in g.S.Surface.mesh g.S.Surface.kept c.follow.new.self) _ _ _ c.in-Ok-follow.ensures.follows
     (told_to c.args.told.now) (told_to c.follow.new.out) (Some (told_to c.say.new.out)) c.requires.fresh refl c.in-Ok.ensures.said c.in-Ok-save.ensures.saves
