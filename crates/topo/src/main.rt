@@ -1,5 +1,6 @@
-//! The program `topo`. It makes the real desk and sink and answers the words of the command line: it tracks or converts a mesh, tries a job that it
-//! makes, or says how to call it. What is to be believed is here alone: that the words are those of the command line, and that the status is handed out.
+//! The program `topo`. It makes the real desk and sink and answers the words of the command line: it tracks or converts a mesh, tries a
+//! job that it makes, or says how to call it. What is to be believed is here alone: that the words are those of the command line, and
+//! that the status is handed out.
 #![tactic(auto)]
 
 mod answering;
