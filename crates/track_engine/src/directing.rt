@@ -43,7 +43,8 @@ fn add_to_all<S: Surface>(
     run: &mut RunState,
     by: Shift,
 ) -> Result<Option<UseWhy>, Stop>
-    ensures asks { IfOk result (AsksNow (sum_of_all (S.mesh mesh.now) (λ v. by) run.old.asked) run.new.asked) }
+    ensures asks { let sums = sum_of_all (S.mesh mesh.now) (λ v. by) run.old.asked in
+        IfOk result (AsksNow sums run.new.asked) }
     ensures rest { run.new ≡ record run.old { asked = run.new.asked } }
     ensures left { IfOk result (λ refused. IsSome refused → run.new ≡ run.old) }
     ensures stops { IfErr result (λ stop. stop ≡ Stop.NoMemory) }
@@ -80,8 +81,12 @@ fn take_step<S: Surface, K: Sink>(
     requires marks { MarksHold S.beyond (S.kept mesh.old) run.old.groups }
     requires limits { AreWithinLimits run.old.set }
     requires steps { run.old.steps + 1 < 2 ^ 32 }
-    ensures takes { StepTakes (state_of (S.mesh mesh.old) (S.kept mesh.old) run.old) (state_of (S.mesh mesh.new) (S.kept mesh.new) run.new) (K.written out.old) (K.written out.new) result }
-    ensures left { IfOk result (λ refused. IsSome refused → state_of (S.mesh mesh.new) (S.kept mesh.new) run.new ≡ state_of (S.mesh mesh.old) (S.kept mesh.old) run.old) }
+    ensures takes { let old = state_of (S.mesh mesh.old) (S.kept mesh.old) run.old in
+        let new = state_of (S.mesh mesh.new) (S.kept mesh.new) run.new in
+        StepTakes old new (K.written out.old) (K.written out.new) result }
+    ensures left { let old = state_of (S.mesh mesh.old) (S.kept mesh.old) run.old in
+        let new = state_of (S.mesh mesh.new) (S.kept mesh.new) run.new in
+        IfOk result (λ refused. IsSome refused → new ≡ old) }
     ensures marks { MarksHold S.beyond (S.kept mesh.new) run.new.groups }
     ensures begins { BeginsWith (S.kept mesh.new) (S.kept mesh.old) }
     ensures saved { run.new.saved ≡ run.old.saved }
@@ -123,7 +128,9 @@ fn take_pass<S: Surface, K: Sink>(
     requires kept { IsRunInvariant (state_of (S.mesh mesh.old) (S.kept mesh.old) run.old) }
     requires marks { MarksHold S.beyond (S.kept mesh.old) run.old.groups }
     requires limits { AreWithinLimits run.old.set }
-    ensures passes { PassTakes kind (state_of (S.mesh mesh.old) (S.kept mesh.old) run.old) (state_of (S.mesh mesh.new) (S.kept mesh.new) run.new) (K.written out.old) (K.written out.new) result }
+    ensures passes { let old = state_of (S.mesh mesh.old) (S.kept mesh.old) run.old in
+        let new = state_of (S.mesh mesh.new) (S.kept mesh.new) run.new in
+        PassTakes kind old new (K.written out.old) (K.written out.new) result }
     ensures marks { MarksHold S.beyond (S.kept mesh.new) run.new.groups }
     ensures begins { BeginsWith (S.kept mesh.new) (S.kept mesh.old) }
     ensures rest { run.new ≡ record run.old { asked = run.new.asked; groups = run.new.groups } }
@@ -162,13 +169,19 @@ fn take_plain<S: Surface, D: Desk, K: Sink>(
     requires steps { run.old.steps + 1 < 2 ^ 32 }
     requires saved { run.old.saved + 1 < 2 ^ 32 }
     ensures advances { let old = state_of (S.mesh mesh.old) (S.kept mesh.old) run.old in
-        Advances (target_of to.entry) (effect_of None what.now old) old (state_of (S.mesh mesh.new) (S.kept mesh.new) run.new)
-        (contents D.files K.written desk.old out.old) (contents D.files K.written desk.new out.new) result }
+        let new = state_of (S.mesh mesh.new) (S.kept mesh.new) run.new in
+        Advances (target_of to.entry) (effect_of None what.now old) old new
+        (contents D.files K.written desk.old out.old)
+        (contents D.files K.written desk.new out.new) result }
     // A refusal leaves the state as it was.
-    ensures left { IfOk result (λ refused. IsSome refused → state_of (S.mesh mesh.new) (S.kept mesh.new) run.new ≡ state_of (S.mesh mesh.old) (S.kept mesh.old) run.old) }
+    ensures left { let old = state_of (S.mesh mesh.old) (S.kept mesh.old) run.old in
+        let new = state_of (S.mesh mesh.new) (S.kept mesh.new) run.new in
+        IfOk result (λ refused. IsSome refused → new ≡ old) }
     ensures marks { MarksHold S.beyond (S.kept mesh.new) run.new.groups }
-    ensures begins { BeginsWith (S.kept mesh.new) (left_by what.now run.old.groups (S.kept mesh.old)) }
-    ensures kept { result ≡ Ok None → IsRunInvariant (state_of (S.mesh mesh.new) (S.kept mesh.new) run.new) }
+    ensures begins { let left = left_by what.now run.old.groups (S.kept mesh.old) in
+        BeginsWith (S.kept mesh.new) left }
+    ensures kept { result ≡ Ok None →
+        IsRunInvariant (state_of (S.mesh mesh.new) (S.kept mesh.new) run.new) }
     ensures limits { AreWithinLimits run.new.set }
     ensures steps_count { run.new.steps ≤ run.old.steps + 1 }
     ensures saved_count { run.new.saved ≤ run.old.saved + 1 }
@@ -228,13 +241,19 @@ pub(crate) fn take_directive<S: Surface, D: Desk, K: Sink, F: Fn(u8, Point) -> S
     requires saved { run.old.saved + 1 < 2 ^ 32 }
     requires fields { IsWellKept F.Fn fields.now }
     ensures advances { let old = state_of (S.mesh mesh.old) (S.kept mesh.old) run.old in
-        AdvancesAnswered (known F.Fn fields.now) (target_of to.entry) what.now old (state_of (S.mesh mesh.new) (S.kept mesh.new) run.new)
-        (contents D.files K.written desk.old out.old) (contents D.files K.written desk.new out.new) result }
+        let new = state_of (S.mesh mesh.new) (S.kept mesh.new) run.new in
+        AdvancesAnswered (known F.Fn fields.now) (target_of to.entry) what.now old new
+        (contents D.files K.written desk.old out.old)
+        (contents D.files K.written desk.new out.new) result }
     // A refusal leaves the state as it was.
-    ensures left { IfOk result (λ refused. IsSome refused → state_of (S.mesh mesh.new) (S.kept mesh.new) run.new ≡ state_of (S.mesh mesh.old) (S.kept mesh.old) run.old) }
+    ensures left { let old = state_of (S.mesh mesh.old) (S.kept mesh.old) run.old in
+        let new = state_of (S.mesh mesh.new) (S.kept mesh.new) run.new in
+        IfOk result (λ refused. IsSome refused → new ≡ old) }
     ensures marks { MarksHold S.beyond (S.kept mesh.new) run.new.groups }
-    ensures begins { BeginsWith (S.kept mesh.new) (left_by what.now run.old.groups (S.kept mesh.old)) }
-    ensures kept { result ≡ Ok None → IsRunInvariant (state_of (S.mesh mesh.new) (S.kept mesh.new) run.new) }
+    ensures begins { let left = left_by what.now run.old.groups (S.kept mesh.old) in
+        BeginsWith (S.kept mesh.new) left }
+    ensures kept { result ≡ Ok None →
+        IsRunInvariant (state_of (S.mesh mesh.new) (S.kept mesh.new) run.new) }
     ensures limits { AreWithinLimits run.new.set }
     ensures steps_count { run.new.steps ≤ run.old.steps + 1 }
     ensures saved_count { run.new.saved ≤ run.old.saved + 1 }

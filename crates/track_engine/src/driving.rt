@@ -60,7 +60,8 @@ fn all_driven<S: Surface, F: Fn(u8, Point) -> Shift>(
     requires there { which < length fields.now.names }
     requires kept { IsWellKept F.Fn fields.now }
     requires named { NameLive (S.mesh mesh.now) asked.now }
-    ensures { IfOk result (λ sums. (by : ℕ → Shift) × AreAnswersOf (MayAnswer F.Fn fields.now which) (S.mesh mesh.now) by
+    ensures { IfOk result (λ sums. (by : ℕ → Shift)
+        × AreAnswersOf (MayAnswer F.Fn fields.now which) (S.mesh mesh.now) by
         × Sums (S.mesh mesh.now) by asked.now sums) }
 {
     let mut shifts = Shifts::new(alloc);
@@ -89,7 +90,8 @@ pub(crate) fn drive<S: Surface, F: Fn(u8, Point) -> Shift>(
     requires there { which < length fields.now.names }
     requires kept { IsWellKept F.Fn fields.now }
     requires named { NameLive (S.mesh mesh.now) run.old.asked }
-    ensures asks { IfOk result (λ refused. (by : ℕ → Shift) × AreAnswersOf (MayAnswer F.Fn fields.now which) (S.mesh mesh.now) by
+    ensures asks { IfOk result (λ refused. (by : ℕ → Shift)
+        × AreAnswersOf (MayAnswer F.Fn fields.now which) (S.mesh mesh.now) by
         × AsksNow (sum_of_all (S.mesh mesh.now) by run.old.asked) run.new.asked refused) }
     ensures rest { run.new ≡ record run.old { asked = run.new.asked } }
     ensures left { IfOk result (λ refused. IsSome refused → run.new ≡ run.old) }

@@ -54,11 +54,13 @@ impl<S: Surface> Engine<S> {
         requires may { MayAdvance what.now (state_in S.mesh S.kept self.old) }
         requires marks { MarksHold S.beyond (S.kept self.old.mesh) self.old.run.groups }
         requires fields { IsWellKept F.Fn fields.now }
-        ensures does { HasAdvanced (known F.Fn fields.now) (target_of to.entry) what.now (state_in S.mesh S.kept self.old) (state_in S.mesh S.kept self.new)
+        ensures does { HasAdvanced (known F.Fn fields.now) (target_of to.entry) what.now
+            (state_in S.mesh S.kept self.old) (state_in S.mesh S.kept self.new)
             (world D.files D.faults K.written K.faults desk.old out.old)
             (world D.files D.faults K.written K.faults desk.new out.new) result }
         ensures marks { MarksHold S.beyond (S.kept self.new.mesh) self.new.run.groups }
-        ensures begins { BeginsWith (S.kept self.new.mesh) (left_by what.now self.old.run.groups (S.kept self.old.mesh)) }
+        ensures begins { let left = left_by what.now self.old.run.groups (S.kept self.old.mesh) in
+            BeginsWith (S.kept self.new.mesh) left }
     {
         take_directive(
             alloc,
@@ -82,12 +84,16 @@ impl<S: Surface> Engine<S> {
     ) -> Result<(), Stop>
         requires few { to.decimals ≤ DECIMALS_MAX }
         requires room { self.old.run.saved + 1 < 2 ^ 32 }
-        ensures saves { Saves (target_of to.entry) self.old.run.saved (standing (state_in S.mesh S.kept self.old))
-            (contents D.files K.written desk.old out.old) (contents D.files K.written desk.new out.new) result }
+        ensures saves { let from = standing (state_in S.mesh S.kept self.old) in
+            Saves (target_of to.entry) self.old.run.saved from
+            (contents D.files K.written desk.old out.old)
+            (contents D.files K.written desk.new out.new) result }
         ensures state { let old = state_in S.mesh S.kept self.old in
             OnOk result (state_in S.mesh S.kept self.new ≡ record old { saved = old.saved + 1 }) }
-        ensures rest { (self.new.mesh ≡ self.old.mesh) × (self.new.run.groups ≡ self.old.run.groups) }
-        ensures left { OnErr result (state_in S.mesh S.kept self.new ≡ state_in S.mesh S.kept self.old) }
+        ensures rest { (self.new.mesh ≡ self.old.mesh)
+            × (self.new.run.groups ≡ self.old.run.groups) }
+        ensures left { OnErr result
+            (state_in S.mesh S.kept self.new ≡ state_in S.mesh S.kept self.old) }
         ensures causes { HasCauses (world D.files D.faults K.written K.faults desk.old out.old)
             (world D.files D.faults K.written K.faults desk.new out.new) result }
     {
@@ -118,7 +124,8 @@ impl<S: Surface> Engine<S> {
         requires fields { IsWellKept F.Fn fields.now }
         ensures follows { FollowsAnswers (known F.Fn fields.now) (target_of to.entry) steps.now
             (state_in S.mesh S.kept self.old) (state_in S.mesh S.kept self.new)
-            (contents D.files K.written desk.old out.old) (contents D.files K.written desk.new out.new) result }
+            (contents D.files K.written desk.old out.old)
+            (contents D.files K.written desk.new out.new) result }
         ensures causes { HasCauses (world D.files D.faults K.written K.faults desk.old out.old)
             (world D.files D.faults K.written K.faults desk.new out.new) result }
     {
@@ -138,7 +145,8 @@ impl<S: Surface> Engine<S> {
 impl<S: Surface + Drop> Engine<S> {
     /// An engine of the mesh, of whose vertices nothing is asked; its settings are the first, no mesh is saved, and no group is open.
     pub fn new(alloc: Global, mesh: S) -> Result<Engine<S>, NoMemory>
-        ensures state { IfOk result (λ engine. state_in S.mesh S.kept engine ≡ unsaved (S.mesh mesh)) }
+        ensures state { IfOk result
+            (λ engine. state_in S.mesh S.kept engine ≡ unsaved (S.mesh mesh)) }
         ensures mesh { IfOk result (λ engine. engine.mesh ≡ mesh) }
         ensures groups { IfOk result (λ engine. engine.run.groups ≡ []) }
     {

@@ -55,8 +55,10 @@ pub(crate) fn follow<S: Surface, D: Desk, K: Sink, F: Fn(u8, Point) -> Shift>(
     requires saved_room { run.old.saved + length steps.now < 2 ^ 32 }
     requires fields { IsWellKept F.Fn fields.now }
     ensures follows { FollowsAnswers (known F.Fn fields.now) (target_of to.entry) steps.now
-        (state_of (S.mesh mesh.old) (S.kept mesh.old) run.old) (state_of (S.mesh mesh.new) (S.kept mesh.new) run.new)
-        (contents D.files K.written desk.old out.old) (contents D.files K.written desk.new out.new) result }
+        (state_of (S.mesh mesh.old) (S.kept mesh.old) run.old)
+        (state_of (S.mesh mesh.new) (S.kept mesh.new) run.new)
+        (contents D.files K.written desk.old out.old)
+        (contents D.files K.written desk.new out.new) result }
     ensures causes { HasCauses (world D.files D.faults K.written K.faults desk.old out.old)
         (world D.files D.faults K.written K.faults desk.new out.new) result }
 {

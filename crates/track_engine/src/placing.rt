@@ -37,7 +37,8 @@ pub(crate) fn first_outside<S: Surface>(mesh: &S, asked: &[ShiftOf]) -> Option<V
 
 // Moves a vertex by its shift.
 fn place_one<S: Surface>(mesh: &mut S, s: &ShiftOf) -> Result<(), NoMemory>
-    requires { moves s.now ≡ true → IsLiveVertex (S.mesh mesh.old) s.now.v × IsWithin BOX (end_of (S.mesh mesh.old) s.now) }
+    requires { moves s.now ≡ true →
+        IsLiveVertex (S.mesh mesh.old) s.now.v × IsWithin BOX (end_of (S.mesh mesh.old) s.now) }
     ensures moved { OnOk result (S.mesh mesh.new ≡ moved_one (S.mesh mesh.old) s.now) }
     ensures marks { BeginsWith (S.kept mesh.new) (S.kept mesh.old) }
 {

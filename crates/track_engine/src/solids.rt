@@ -27,8 +27,11 @@ pub(crate) fn take_solid<S: Surface, K: Sink>(
     requires kept { IsRunInvariant (state_of (S.mesh mesh.old) (S.kept mesh.old) run.old) }
     requires marks { MarksHold S.beyond (S.kept mesh.old) run.old.groups }
     ensures writes { Writes (effect_of None (Solid v) (state_of (S.mesh mesh.old) (S.kept mesh.old) run.old))
-        (state_of (S.mesh mesh.new) (S.kept mesh.new) run.new) (K.written out.old) (K.written out.new) result }
-    ensures left { IfOk result (λ refused. IsSome refused → state_of (S.mesh mesh.new) (S.kept mesh.new) run.new ≡ state_of (S.mesh mesh.old) (S.kept mesh.old) run.old) }
+        (state_of (S.mesh mesh.new) (S.kept mesh.new) run.new)
+        (K.written out.old) (K.written out.new) result }
+    ensures left { let old = state_of (S.mesh mesh.old) (S.kept mesh.old) run.old in
+        let new = state_of (S.mesh mesh.new) (S.kept mesh.new) run.new in
+        IfOk result (λ refused. IsSome refused → new ≡ old) }
     ensures rest { run.new ≡ record run.old { asked = run.new.asked } }
     ensures marks { MarksHold S.beyond (S.kept mesh.new) run.new.groups }
     ensures begins { BeginsWith (S.kept mesh.new) (S.kept mesh.old) }

@@ -15,10 +15,12 @@ use Rattle.track_engine.specs.World.{World}
 use Rattle.track_run.specs.declared.outcome.Outcome.{Outcome}
 use Rattle.track_run.specs.declared.outcome.Outcome.TheVariants as outcome
 use Rattle.track_run.specs.Answered.{IsInputAnswered}
-use Rattle.track_run.specs.Outcomes.{outcome_from}
+use Rattle.track_try.specs.declared.TryFault.{TryFault}
+use Rattle.track_try.specs.declared.TryFault.TheVariants as fault
+use Rattle.track_run.specs.Outcomes.{outcome_from, outcome_of_try}
 use Rattle.track_run.specs.Causes.{Cause, IsStopped, HasClear}
-use Rattle.track_run.specs.Headline.{TracksCommand}
-use Rattle.track_run.specs.Complete.{IsLawful, NoneFailed, LawfulJobsAreDone}
+use Rattle.track_run.specs.Headline.{TracksCommand, TriesCommand}
+use Rattle.track_run.specs.Complete.{IsLawful, NoneFailed, LawfulJobsAreDone, TriesAreDone}
 
 -- what a job gives whose files are read without a fault
 input_read : (job : Job) (lists : Lists) (directives : List Placed) → HasClear job lists directives → input_of job ≡ Ok (record { lists = lists; steps = directives })
@@ -86,3 +88,13 @@ module _ (fields : Known) (mesh_name step_name : List ℕ) (to : Target) (result
 
 pub lawful_jobs_are_done : (fields : Known) → LawfulJobsAreDone fields
 lawful_jobs_are_done = ends_well
+
+-- ---- a try
+
+pub tries_are_done : TriesAreDone
+tries_are_done cubes key result old new run none = by_end run.ended run.outcome_is
+  where
+    by_end : (ended : Result (Unit {0}) TryFault) → result ≡ outcome_of_try ended → (result ≡ outcome.Done) ⊎ (result ≡ outcome.NoMemory)
+    by_end (Ok done) is = inl is
+    by_end (Err fault.NoMemory) is = inr is
+    by_end (Err fault.SinkFault) is = absurd (none (run.sink_fault is))

@@ -12,7 +12,7 @@ use Rattle.track_engine.specs.World.{World}
 use Rattle.track_run.specs.declared.outcome.Outcome.{Outcome}
 use Rattle.track_run.specs.declared.outcome.Outcome.TheVariants.{Done, NoMemory}
 use Rattle.track_run.specs.Causes.{HasClear, Reaches}
-use Rattle.track_run.specs.Headline.{TracksCommand}
+use Rattle.track_run.specs.Headline.{TracksCommand, TriesCommand}
 
 -- Nothing of a job is refused: both files are there, no longer than a text may be, and are read without a fault; the mesh is of good
 -- shape, and no edge of it meets a face that shares no vertex with it; and each directive is taken, whatever the fields may answer.
@@ -33,4 +33,11 @@ abbrev pub LawfulJobsAreDone : Known → Type 0
 LawfulJobsAreDone fields =
     (mesh_name step_name : List ℕ) (to : Target) (result : Outcome) (old new : World)
     → (run : TracksCommand fields mesh_name step_name to result old new) → IsLawful fields run.job → NoneFailed old new
+    → (result ≡ Done) ⊎ (result ≡ NoMemory)
+
+-- Where the sink does not fail, a try is done, or finds no memory.
+abbrev pub TriesAreDone : Type 0
+TriesAreDone =
+    (cubes key : ℕ) (result : Outcome) (old new : World)
+    → TriesCommand cubes key result old new → ¬ Rose old.sink_faults new.sink_faults
     → (result ≡ Done) ⊎ (result ≡ NoMemory)

@@ -2,7 +2,7 @@
 
 ghost use Rattle.mesh_field.specs.Stored.{StoredFields};
 ghost use Rattle.track_engine.specs.Answered.{known};
-ghost use Rattle.track_run.specs.Complete.{LawfulJobsAreDone};
+ghost use Rattle.track_run.specs.Complete.{LawfulJobsAreDone, TriesAreDone};
 
 use grid_base::{Point, Shift};
 
@@ -10,4 +10,9 @@ use grid_base::{Point, Shift};
 /// whatever the stored fields may answer, is done, where neither the desk nor the sink fails and there is memory.
 pub fn jobs_of_which_nothing_is_refused_are_done<F: Fn(u8, Point) -> Shift>()
     ensures { (fields : StoredFields F) → LawfulJobsAreDone (known F.Fn fields) }
+{}
+
+/// A try is done, where the sink does not fail and there is memory.
+pub fn tries_are_done()
+    ensures { TriesAreDone }
 {}
