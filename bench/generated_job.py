@@ -44,6 +44,7 @@ def main():
         put_mesh(folder, *cubes(ROW))
         status, _, lines = run(folder, steps_of(key))
         after = seconds()
+        lines = [line.decode() for line in lines]
         with open(os.path.join(folder, "t-000001.obj"), encoding="utf-8") as mesh:
             stored = mesh.read().split("\n")
     count = lambda begin: sum(line.startswith(begin) for line in lines)
