@@ -7,14 +7,16 @@ use Rattle.std.specs.FinMap as finite
 use Rattle.std.specs.FinMap.{FinMap, get-insert, same_map, nat_cmp-IsAntisymmetric, len-entries}
 use Rattle.grid_base.specs.declared.TheConstants.{FACES_MAX}
 use Rattle.mesh_base.specs.declared.ids.Corners.{Corners}
-use Rattle.mesh_base.specs.Mesh.{Mesh, IsSound, IsLiveFace, AreDifferent, AreLive}
+use Rattle.mesh_base.specs.Mesh.{Mesh, IsLiveFace, AreDifferent, AreLive}
 use Rattle.mesh_base.proofs.Finite.{got_after_remove}
-use Rattle.half_mesh.specs.Fans.{Fan, Side, Sides, Woven, side_at, spokes_at, without, without_spoke, IsNewest}
+use Rattle.half_mesh.specs.Fans.{Side, Sides, Woven, side_at, spokes_at, without, IsNewest}
+use Rattle.half_mesh.specs.FanChanges.{KeepsSidesOutside}
+use Rattle.half_mesh.specs.Vertices.{vertices_in}
 use Rattle.half_mesh.specs.Tied.{Keys, IsRing, HasRing, HasLost, HaveFans, AreTied, to_at, corners_at, faces_in, woven_mesh, falling, spoke_in}
 use Rattle.half_mesh.proofs.Mapped.{mapped-insert, mapped-remove, mapped-alike, got_after}
 use Rattle.half_mesh.proofs.Falling.{entries-insert_last, falling-last, falling-remove, falling-without, falling-newest, falling-few}
 use Rattle.half_mesh.proofs.TiedLaws.{live_fan}
-use Rattle.half_mesh.proofs.Rings.{HasSpokes, no_corner, has-without_spoke}
+use Rattle.half_mesh.proofs.Rings.{HasSpokes, no_corner}
 
 -- the corners that a ring has
 pub corners-ring : (sides : Sides) (f : ℕ) (c : Corners) (key : ℕ) → IsRing sides f c key → corners_at sides key ≡ c
@@ -154,17 +156,13 @@ insert_twice m k x y = same_map nat_cmp_total nat_cmp-IsAntisymmetric _ _ (λ q.
     ∙ elim (eq_by_cmp nat_cmp q k) as (λ b. cond b (Some y) (cond b (Some x) (finite.get m q)) ≡ cond b (Some y) (finite.get m q)) [ true ↦ refl | false ↦ refl ]
     ∙ sym (get-insert nat_cmp_total m k y q))
 
--- a fan loses its spoke in a face, and the sides of other faces stay
-pub record Detaches (w x : Woven) (v f : ℕ) : Type 0 where
-  pub fans : (fan : Fan) → finite.get w.fans v ≡ Some fan → x.fans ≡ finite.insert w.fans v (without_spoke fan f)
-  pub sides : (k : ℕ) (side : Side) → side_at w.sides k ≡ Some side → side.face ≢ f → side_at x.sides k ≡ Some side
-
-pub lost-detached : (w0 w1 w2 w3 : Woven) (keys : Keys) (nv nf : ℕ) (m : Mesh) (f : ℕ) (c : Corners) → woven_mesh w0 keys nv nf ≡ m → IsSound m → finite.get (faces_in w0.sides keys) f ≡ Some c
-    → Detaches w0 w1 c.first f → Detaches w1 w2 c.second f → Detaches w2 w3 c.third f → HasLost w0 w3 f c
-lost-detached w0 w1 w2 w3 keys nv nf m f c view sound there d1 d2 d3 =
-    let at : finite.get m.faces f ≡ Some c = sym (ap (λ x. finite.get x.faces f) view) ∙ there in
-    let fans = have_fans w0 keys nv nf m c view (sound.is_mesh.live_corners f c at) in
-    let a = has-without_spoke w0.fans w1.fans c.first f d1.fans fans.0 in
-    let b = has-without_spoke w1.fans w2.fans c.second f d2.fans (a.live c.second fans.1) in
-    let e = has-without_spoke w2.fans w3.fans c.third f d3.fans (b.live c.third (a.live c.third fans.2)) in
-    lost-made w0 w1 w2 w3 f c (sound.is_mesh.different_corners f c at) a b e d1.sides d2.sides d3.sides
+-- what has lost a face has lost it too once no half-edge of the face is left at its key
+pub lost-freed : (w x y : Woven) (f : ℕ) (c : Corners) → HasLost w x f c → y.fans ≡ x.fans → KeepsSidesOutside f x.sides y.sides → HasLost w y f c
+lost-freed w x y f c lost fans sides = record {
+  sides = λ k side there other. sides k side (lost.sides k side there other) other;
+  first = ap (λ m. spokes_at m c.first) fans ∙ lost.first;
+  second = ap (λ m. spokes_at m c.second) fans ∙ lost.second;
+  third = ap (λ m. spokes_at m c.third) fans ∙ lost.third;
+  others = λ v p q r. ap (λ m. spokes_at m v) fans ∙ lost.others v p q r;
+  vertices = ap vertices_in fans ∙ lost.vertices;
+}

@@ -1,8 +1,7 @@
 -- How the half-edges that leave vertices change.
 use Rattle.std.specs.Prelude.{ℕ, ◌≡◌, ◌≢◌, Some}
 use Rattle.std.specs.FinMap as finite
-use Rattle.half_mesh.specs.declared.row.Vertex.{Vertex}
-use Rattle.half_mesh.specs.Fans.{Fan, Fans, Side, Sides, Spoke, side_at, put_spoke}
+use Rattle.half_mesh.specs.Fans.{Fan, Fans, Side, Sides, side_at, put_spoke}
 use Rattle.half_mesh.specs.Ground.{Ground}
 
 -- the same with other fans

@@ -149,7 +149,7 @@ fn free_rings(fans: &mut Fans, keys: &Rows<usize>)
 }
 
 /// Takes the three half-edges of a face, of which none is linked, out of the slab. The first stands at the key.
-fn free_ring(fans: &mut Fans, key: usize, f: u32)
+pub(crate) fn free_ring(fans: &mut Fans, key: usize, f: u32)
     requires { (v : ℕ) → IsOutside f (spokes_at fans.old.woven.fans v) }
     ensures fans { fans.new.woven.fans ≡ fans.old.woven.fans }
     ensures sides { KeepsSidesOutside f fans.old.woven.sides fans.new.woven.sides }
@@ -164,7 +164,7 @@ fn free_ring(fans: &mut Fans, key: usize, f: u32)
 }
 
 /// Takes the three sides of a face out of those that leave its corners. They stay at their keys. Takes no memory.
-fn bury_ring(fans: &mut Fans, id: u32, a: u32, b: u32, c: u32)
+pub(crate) fn bury_ring(fans: &mut Fans, id: u32, a: u32, b: u32, c: u32)
     requires different { AreDifferent (record { first = a; second = b; third = c }) }
     requires live { HaveFans fans.old.woven.fans (record { first = a; second = b; third = c }) }
     ensures lost { HasLost fans.old.woven fans.new.woven id (record { first = a; second = b; third = c }) }

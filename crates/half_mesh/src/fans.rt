@@ -5,7 +5,7 @@ ghost use Rattle.std.specs.FinMap as map;
 ghost use Rattle.mesh_base.specs.Sides.{above};
 ghost use Rattle.half_mesh.specs.Fans.{Fan, Side, side_at, with_spoke, without_spoke, put_spoke, spokes_at, spokes_to, faces_of, bare, IsNewest, IsOutside, CanRelink};
 ghost use Rattle.half_mesh.specs.FanChanges.{with_fans, with_side, ChangesFan, KeepsRest, KeepsSides, KeepsOtherSides, KeepsSidesOutside};
-ghost use Rattle.half_mesh.specs.Walks.{walk, spoke_of, side_of, key_before, last_newer, IsLinkedPast, IsLinkedIn, Joins, Resets};
+ghost use Rattle.half_mesh.specs.Walks.{walk, spoke_of, side_of, key_before, last_newer, IsLinkedIn, Joins, Resets};
 ghost use Rattle.slab.specs.Slab.{get, slab_len};
 ghost use Rattle.half_mesh.specs.Across.{below};
 ghost use Rattle.half_mesh.specs.Tied.{origin_at, to_at, next_at};
@@ -177,45 +177,6 @@ impl Fans {
         ensures kept { KeepsRest self.old self.new }
     {
         join_half(&mut self.halves, key, next);
-    }
-
-    /// Takes out the half-edge that leaves `v` in the face.
-    pub(crate) fn detach(&mut self, v: u32, face: u32)
-        ensures fans { ChangesFan self.old self.new v (λ fan. without_spoke fan face) }
-        ensures sides { KeepsSidesOutside face self.old.woven.sides self.new.woven.sides }
-        ensures room { self.old.woven.room ≤ self.new.woven.room }
-        ensures kept { KeepsRest self.old self.new }
-    {
-        let Some(row) = self.rows.get(v) else {
-            return;
-        };
-        if row.count == 0 {
-            return;
-        }
-        let Some(first) = self.halves.get(row.first).copied() else {
-            return;
-        };
-        let count = row.count - 1;
-        if first.face == face {
-            self.halves.remove(row.first);
-            self.rows.set(
-                v,
-                Row {
-                    first: first.after,
-                    count,
-                    ..row
-                },
-            );
-            return;
-        }
-        let Some((key, half)) = before(&self.halves, row.first, first, count, face) else {
-            return;
-        };
-        let Some(gone) = self.halves.get(half.after).copied() else {
-            return;
-        };
-        link_past(&mut self.halves, key, half, gone);
-        self.rows.set(v, Row { count, ..row });
     }
 
     /// Buries a vertex. Takes no memory.
@@ -592,20 +553,6 @@ fn free_half(halves: &mut Slab<Half>, key: usize, face: u32)
             halves.remove(key);
         }
     }
-}
-
-/// Links a half-edge past the one after it, which is removed.
-fn link_past(halves: &mut Slab<Half>, key: usize, half: Half, gone: Half)
-    requires there { get halves.old key ≡ Some half }
-    requires after { get halves.old half.after ≡ Some gone }
-    requires apart { half.after ≢ key }
-    ensures past { IsLinkedPast halves.old halves.new (key, half) gone }
-    ensures room { halves.old.capacity - slab_len halves.old ≤ halves.new.capacity - slab_len halves.new }
-{
-    if let Some(place) = halves.get_mut(key) {
-        place.after = gone.after;
-    }
-    halves.remove(half.after);
 }
 
 /// The half-edge before the first of a face, among so many that are linked after one.

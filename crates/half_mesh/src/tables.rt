@@ -14,6 +14,7 @@ ghost use Rattle.half_mesh.specs.States.{AreApart, none_buried, with_mesh};
 ghost use Rattle.half_mesh.specs.Across.{corner_at, corner_after, side_from, below, across, across_side};
 ghost use Rattle.half_mesh.specs.Tied.{corners_at, HaveFans, HasRing};
 
+use crate::burial::{bury_ring, free_ring};
 use crate::fans::Fans;
 use crate::row::Vertex;
 use grid_base::{NoMemory, Point};
@@ -347,9 +348,8 @@ impl Tables {
         if let Some(key) = self.keys.get(f.0) {
             let (a, b, c) = corners_from(&self.fans, key);
             self.keys.remove(f.0);
-            self.fans.detach(a, f.0);
-            self.fans.detach(b, f.0);
-            self.fans.detach(c, f.0);
+            bury_ring(&mut self.fans, f.0, a, b, c);
+            free_ring(&mut self.fans, key, f.0);
         }
     }
 
