@@ -2,7 +2,7 @@
 use line_text::{
     Field, Lines, NumberWhy, Parts, TextWhy, coordinate, count_is, count_with_end, fixed,
     grid_number, is_word, number_at, put_line, put_word, signed_at, spelled_at, spelled_from,
-    spelled_signed_at, spelled_wide_at, whole, words,
+    spelled_signed_at, whole, words,
 };
 use std::process::Abort;
 use std::test::Fail;
@@ -162,8 +162,8 @@ fn spelled_numbers_have_one_spelling(rt: HostRuntime) {
     assert_eq!(rt; spelled_at(&mut spelled, 0, 9), Err(TextWhy::Number));
     assert_eq!(rt; spelled_signed_at(&mut spelled, 9), Err(TextWhy::Number));
     assert_eq!(rt; spelled_at(&mut spelled, 0, 9), Err(TextWhy::Number));
-    assert_eq!(rt; spelled_wide_at(&mut spelled, 1), Err(TextWhy::Number));
-    assert_eq!(rt; spelled_wide_at(&mut spelled, 1), Err(TextWhy::Short));
+    assert_eq!(rt; spelled_signed_at(&mut spelled, 1), Err(TextWhy::Number));
+    assert_eq!(rt; spelled_signed_at(&mut spelled, 1), Err(TextWhy::Short));
     assert_eq!(rt; spelled_from(b"7", 1, 7), Ok(7));
     assert_eq!(rt; spelled_from(b"8", 1, 7), Err(TextWhy::Number));
 }
