@@ -10,8 +10,9 @@ ghost use Rattle.grid_base.specs.Meeting.{Meets};
 ghost use Rattle.grid_meets.specs.Segments.{MeetsSide};
 
 use axes::axis_keeps_apart;
+use grid_base::narrow::{normal, product, span};
 use grid_base::{HALF_MAX, Wide, orient};
-use lines::{normal, product, segments_meet, span};
+use lines::segments_meet;
 
 /// Whether the edge from `a` to `b` and the triangle with the corners `c`, `d` and `e` share a position,
 /// ends, sides and corners counted. Exact. The triangle may have no area, and the edge no length.
