@@ -7,6 +7,7 @@ pub mod laws;
 mod list;
 mod memory;
 mod moving;
+pub mod narrow;
 mod pair_positions;
 mod vector;
 
@@ -15,8 +16,9 @@ pub use grid::{Point, Shift};
 pub use list::Items;
 pub use memory::NoMemory;
 pub use moving::{floor_mid, halved, moved};
+pub use narrow::orient;
 pub use pair_positions::Positions;
-pub use vector::{Wide, orient};
+pub use vector::Wide;
 
 /// The greatest size of a point's coordinate.
 pub const BOX: u32 = 268_435_456;

@@ -1,7 +1,7 @@
 ghost use Rattle.std.specs.Prelude.{◌≡◌, ◌≤◌, ◌-ℤ◌, ◌+ℤ◌, ◌*ℤ◌, unsigned_abs};
-ghost use Rattle.grid_base.specs.Triples.{IsWithin, minus, cross, dot, orientation};
+ghost use Rattle.grid_base.specs.Triples.{IsWithin, minus, cross, dot};
 
-use crate::{DIFFERENCE_MAX, DIRECTION_MAX, HALF_MAX, PRODUCT_MAX, WIDE_MAX};
+use crate::{DIFFERENCE_MAX, DIRECTION_MAX, PRODUCT_MAX, WIDE_MAX};
 
 /// Three whole numbers.
 // It has no ghost field: definitions speak of it as of three whole numbers of any size.
@@ -53,17 +53,6 @@ impl Wide {
             product(self.z, o.z),
         )
     }
-}
-
-/// The determinant of `b - a`, `c - a` and `d - a`.
-pub fn orient(a: Wide, b: Wide, c: Wide, d: Wide) -> i128
-    requires first { IsWithin HALF_MAX a }
-    requires second { IsWithin HALF_MAX b }
-    requires third { IsWithin HALF_MAX c }
-    requires fourth { IsWithin HALF_MAX d }
-    ensures { result ≡ orientation a b c d }
-{
-    b.minus(a).cross(c.minus(a)).dot(d.minus(a))
 }
 
 // The difference of two positions' components.

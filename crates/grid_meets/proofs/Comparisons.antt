@@ -3,7 +3,7 @@ use Rattle.std.proofs.Common.{◌≡◌, ◌≤◌, unsigned_abs, ℤ, pos, ◌+
 use Rattle.std.specs.Prelude.{int_lt, int_le}
 use Rattle.std.specs.Int.{w128}
 use Rattle.std.proofs.lemmas.Int.{ints, by_lt_z}
-use Rattle.grid_meets.specs.declared.lines.TheConstants.{TOTAL_MAX}
+use Rattle.grid_base.specs.declared.narrow.TheConstants.{TOTAL_MAX}
 
 pub below_zero : (r v : ℤ) → SFits w128 r → r ≡ v → int_lt (to_z w128 (of_z w128 r)) (pos 0) ≡ true → v <ℤ pos 0
 below_zero r v f e t = omega (arith, ints)

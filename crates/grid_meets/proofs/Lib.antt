@@ -6,6 +6,5 @@ pub mod Sides
 pub mod Segments
 pub mod OnOneLine
 pub mod Flat
-pub mod CrossSize
 pub mod Swaps
 pub mod BeyondLaws

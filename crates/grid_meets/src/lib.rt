@@ -10,12 +10,13 @@ ghost use Rattle.grid_base.specs.Meeting.{Meets};
 ghost use Rattle.grid_meets.specs.Segments.{MeetsSide};
 
 use axes::axis_keeps_apart;
+use grid_base::narrow::{normal, product, span};
 use grid_base::{HALF_MAX, Wide, orient};
-use lines::{normal, product, segments_meet, span};
+use lines::segments_meet;
 
-/// Whether the edge from `a` to `b` and the triangle with the corners `c`, `d` and `e` share a position,
-/// ends, sides and corners counted. Exact. The triangle may have no area, and the edge no length.
-/// Sizes are in half units, up to `HALF_MAX`.
+/// Whether the edge from `a` to `b` and the triangle with the corners `c`, `d` and `e` share a
+/// position, ends, sides and corners counted. Exact. The triangle may have no area, and the edge no
+/// length. Sizes are in half units, up to `HALF_MAX`.
 pub fn meets(a: Wide, b: Wide, c: Wide, d: Wide, e: Wide) -> bool
     requires a_fits { IsWithin HALF_MAX a }
     requires b_fits { IsWithin HALF_MAX b }
@@ -39,8 +40,9 @@ fn meets_by_volumes(a: Wide, b: Wide, c: Wide, d: Wide, e: Wide) -> bool
     requires e_fits { IsWithin HALF_MAX e }
     ensures { IsTrue result ↔ Meets a b c d e }
 {
-    let over_a = orient(c, d, e, a);
-    let over_b = orient(c, d, e, b);
+    let n = normal(span(d, c), span(e, c));
+    let over_a = product(n, span(a, c));
+    let over_b = product(n, span(b, c));
     if over_a < over_b {
         return crosses_downward(b, a, c, d, e, over_b, over_a);
     }

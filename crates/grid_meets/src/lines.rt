@@ -1,69 +1,10 @@
-ghost use Rattle.std.specs.Prelude.{◌≡◌, ◌↔◌, ◌≤◌, ◌<ℤ◌, ◌+ℤ◌, ◌*ℤ◌, pos, unsigned_abs, IsTrue};
+ghost use Rattle.std.specs.Prelude.{◌≡◌, ◌↔◌, ◌<ℤ◌, pos, IsTrue};
 ghost use Rattle.grid_base.specs.Triples.{IsWithin, minus, cross, dot};
 ghost use Rattle.grid_base.specs.Meeting.{Meets};
 ghost use Rattle.grid_meets.specs.Segments.{HasNoLength};
 
+use grid_base::narrow::{normal, product, span};
 use grid_base::{HALF_MAX, Wide};
-
-// The greatest size of a difference of two positions.
-const SPAN_MAX: u64 = 2 * (HALF_MAX as u64);
-// The greatest size of a cross product of two such differences.
-const NORMAL_MAX: u64 = 2 * (SPAN_MAX * SPAN_MAX);
-// The greatest size of a product of two components of these.
-const AREA_MAX: u128 = (NORMAL_MAX as u128) * (NORMAL_MAX as u128);
-// The greatest size of a dot product of these.
-const TOTAL_MAX: u128 = 3 * AREA_MAX;
-
-// The difference, with its size.
-pub(crate) fn span(a: Wide, b: Wide) -> Wide
-    requires a_fits { IsWithin HALF_MAX a }
-    requires b_fits { IsWithin HALF_MAX b }
-    ensures value { result ≡ minus a b }
-    ensures within { IsWithin SPAN_MAX result }
-{
-    a.minus(b)
-}
-
-// The cross product of two differences, with its size.
-pub(crate) fn normal(a: Wide, b: Wide) -> Wide
-    requires a_fits { IsWithin SPAN_MAX a }
-    requires b_fits { IsWithin SPAN_MAX b }
-    ensures value { result ≡ cross a b }
-    ensures within { IsWithin NORMAL_MAX result }
-{
-    a.cross(b)
-}
-
-// The dot product of differences or of their cross products.
-pub(crate) fn product(a: Wide, b: Wide) -> i128
-    requires a_fits { IsWithin NORMAL_MAX a }
-    requires b_fits { IsWithin NORMAL_MAX b }
-    ensures value { result ≡ dot a b }
-    ensures within { unsigned_abs result ≤ TOTAL_MAX }
-{
-    sum(times(a.x, b.x), times(a.y, b.y), times(a.z, b.z))
-}
-
-// The product of two components of these.
-fn times(a: i128, b: i128) -> i128
-    requires a_fits { unsigned_abs a ≤ NORMAL_MAX }
-    requires b_fits { unsigned_abs b ≤ NORMAL_MAX }
-    ensures value { result ≡ a *ℤ b }
-    ensures within { unsigned_abs result ≤ AREA_MAX }
-{
-    a * b
-}
-
-// The sum of three such products.
-fn sum(a: i128, b: i128, c: i128) -> i128
-    requires a_fits { unsigned_abs a ≤ AREA_MAX }
-    requires b_fits { unsigned_abs b ≤ AREA_MAX }
-    requires c_fits { unsigned_abs c ≤ AREA_MAX }
-    ensures value { result ≡ a +ℤ b +ℤ c }
-    ensures within { unsigned_abs result ≤ TOTAL_MAX }
-{
-    a + b + c
-}
 
 // Whether two segments of parallel directions meet, the first of some length.
 fn lines_meet(a: Wide, b: Wide, c: Wide, d: Wide) -> bool

@@ -6,7 +6,7 @@ ghost use Rattle.grid_base.specs.Separation.{ten_directions, directions};
 ghost use Rattle.motion_test.specs.Pairs.{origin};
 ghost use Rattle.motion_test.specs.Small.{position_max, direction_max};
 
-use crate::small::{difference, product};
+use crate::small::{cross, difference};
 use grid_base::{DIRECTION_MAX, Positions, WIDE_MAX, Wide};
 
 /// The 23 directions over an interval from `s` to `t`, in the order in which they are tried: the three axes;
@@ -55,22 +55,22 @@ pub(crate) fn direction_of(i: usize, f: &Positions, small: bool) -> Wide
     ensures within { IsWithin (direction_max small) result }
 {
     match i {
-        0 => product(
+        0 => cross(
             difference(f.d, f.c, small),
             difference(f.e, f.c, small),
             small,
         ),
-        1 => product(
+        1 => cross(
             difference(f.b, f.a, small),
             difference(f.d, f.c, small),
             small,
         ),
-        2 => product(
+        2 => cross(
             difference(f.b, f.a, small),
             difference(f.e, f.d, small),
             small,
         ),
-        3 => product(
+        3 => cross(
             difference(f.b, f.a, small),
             difference(f.c, f.e, small),
             small,

@@ -8,15 +8,19 @@ use Rattle.grid_meets.proofs.meets_by_volumes.Goals as goal
 
 pub crosses_downward-requires-clause-apart : goal.crosses_downward-requires-clause-apart
 crosses_downward-requires-clause-apart c =
-    let a_fits : SFits w128 c.orient-over_a.result = search rules in
-    let b_fits : SFits w128 c.orient-over_b.result = search rules in
-    test_less _ _ _ _ a_fits b_fits c.orient-over_a.ensures c.orient-over_b.ensures c.if-over_a-over_b.true
+    let a_fits : SFits w128 c.product-over_a.result = search rules in
+    let a_is = rw (c.normal-n.ensures.value, c.span.ensures.value, c.span-2.ensures.value, c.span-3.ensures.value) at c.product-over_a.ensures.value in
+    let b_fits : SFits w128 c.product-over_b.result = search rules in
+    let b_is = rw (c.normal-n.ensures.value, c.span.ensures.value, c.span-2.ensures.value, c.span-4.ensures.value) at c.product-over_b.ensures.value in
+    test_less _ _ _ _ a_fits b_fits a_is b_is c.if-over_a-over_b.true
 
 pub crosses_downward-requires-then-over_b-over_a-clause-apart : goal.crosses_downward-requires-then-over_b-over_a-clause-apart
 crosses_downward-requires-then-over_b-over_a-clause-apart c =
-    let a_fits : SFits w128 c.orient-over_a.result = search rules in
-    let b_fits : SFits w128 c.orient-over_b.result = search rules in
-    test_less _ _ _ _ b_fits a_fits c.orient-over_b.ensures c.orient-over_a.ensures c.if-over_b-over_a.true
+    let a_fits : SFits w128 c.product-over_a.result = search rules in
+    let a_is = rw (c.normal-n.ensures.value, c.span.ensures.value, c.span-2.ensures.value, c.span-3.ensures.value) at c.product-over_a.ensures.value in
+    let b_fits : SFits w128 c.product-over_b.result = search rules in
+    let b_is = rw (c.normal-n.ensures.value, c.span.ensures.value, c.span-2.ensures.value, c.span-4.ensures.value) at c.product-over_b.ensures.value in
+    test_less _ _ _ _ b_fits a_fits b_is a_is c.if-over_b-over_a.true
 
 pub returns-then-over_a-over_b : goal.returns-then-over_a-over_b
 returns-then-over_a-over_b c = (
@@ -26,20 +30,24 @@ returns-then-over_a-over_b c = (
 
 pub returns-then-over_a-lt0 : goal.returns-then-over_a-lt0
 returns-then-over_a-lt0 c =
-    let a_fits : SFits w128 c.orient-over_a.result = search rules in
-    let b_fits : SFits w128 c.orient-over_b.result = search rules in
-    let a_over = test_not_less _ _ _ _ a_fits b_fits c.orient-over_a.ensures c.orient-over_b.ensures c.if-over_a-over_b.false in
-    let b_over = test_not_less _ _ _ _ b_fits a_fits c.orient-over_b.ensures c.orient-over_a.ensures c.if-over_b-over_a.false in
-    let under = below_zero _ _ a_fits c.orient-over_a.ensures c.if-over_a-lt0.true in
+    let a_fits : SFits w128 c.product-over_a.result = search rules in
+    let a_is = rw (c.normal-n.ensures.value, c.span.ensures.value, c.span-2.ensures.value, c.span-3.ensures.value) at c.product-over_a.ensures.value in
+    let b_fits : SFits w128 c.product-over_b.result = search rules in
+    let b_is = rw (c.normal-n.ensures.value, c.span.ensures.value, c.span-2.ensures.value, c.span-4.ensures.value) at c.product-over_b.ensures.value in
+    let a_over = test_not_less _ _ _ _ a_fits b_fits a_is b_is c.if-over_a-over_b.false in
+    let b_over = test_not_less _ _ _ _ b_fits a_fits b_is a_is c.if-over_b-over_a.false in
+    let under = below_zero _ _ a_fits a_is c.if-over_a-lt0.true in
     (λ no. absurd (false≢true no), λ w. absurd (not_level_under c.args.a c.args.b c.args.c c.args.d c.args.e under (level_below _ _ b_over a_over under) w))
 
 pub returns-then-over_a-gt0 : goal.returns-then-over_a-gt0
 returns-then-over_a-gt0 c =
-    let a_fits : SFits w128 c.orient-over_a.result = search rules in
-    let b_fits : SFits w128 c.orient-over_b.result = search rules in
-    let a_over = test_not_less _ _ _ _ a_fits b_fits c.orient-over_a.ensures c.orient-over_b.ensures c.if-over_a-over_b.false in
-    let b_over = test_not_less _ _ _ _ b_fits a_fits c.orient-over_b.ensures c.orient-over_a.ensures c.if-over_b-over_a.false in
-    let over = above_zero _ _ a_fits c.orient-over_a.ensures c.if-over_a-gt0.true in
+    let a_fits : SFits w128 c.product-over_a.result = search rules in
+    let a_is = rw (c.normal-n.ensures.value, c.span.ensures.value, c.span-2.ensures.value, c.span-3.ensures.value) at c.product-over_a.ensures.value in
+    let b_fits : SFits w128 c.product-over_b.result = search rules in
+    let b_is = rw (c.normal-n.ensures.value, c.span.ensures.value, c.span-2.ensures.value, c.span-4.ensures.value) at c.product-over_b.ensures.value in
+    let a_over = test_not_less _ _ _ _ a_fits b_fits a_is b_is c.if-over_a-over_b.false in
+    let b_over = test_not_less _ _ _ _ b_fits a_fits b_is a_is c.if-over_b-over_a.false in
+    let over = above_zero _ _ a_fits a_is c.if-over_a-gt0.true in
     (λ no. absurd (false≢true no), λ w. absurd (not_level_over c.args.a c.args.b c.args.c c.args.d c.args.e over (level_above _ _ b_over a_over over) w))
 
 pub returns-then-side_meets : goal.returns-then-side_meets
@@ -47,8 +55,9 @@ returns-then-side_meets c = (λ yes. Meets-side c.args.a c.args.b c.args.c c.arg
 
 pub starts_inside-requires-clause-flat : goal.starts_inside-requires-clause-flat
 starts_inside-requires-clause-flat c =
-    let a_fits : SFits w128 c.orient-over_a.result = search rules in
-    exactly_zero _ (not_below_zero _ _ a_fits c.orient-over_a.ensures c.if-over_a-lt0.false) (not_above_zero _ _ a_fits c.orient-over_a.ensures c.if-over_a-gt0.false)
+    let a_fits : SFits w128 c.product-over_a.result = search rules in
+    let a_is = rw (c.normal-n.ensures.value, c.span.ensures.value, c.span-2.ensures.value, c.span-3.ensures.value) at c.product-over_a.ensures.value in
+    exactly_zero _ (not_below_zero _ _ a_fits a_is c.if-over_a-lt0.false) (not_above_zero _ _ a_fits a_is c.if-over_a-gt0.false)
 
 pub returns : goal.returns
 returns c = (

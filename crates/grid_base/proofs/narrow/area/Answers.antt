@@ -2,7 +2,7 @@ use Rattle.std.proofs.Common.{◌≡◌, ◌-ℤ◌, SFits, to_z, of_z, ◌∙�
 use Rattle.std.specs.Int.{w128}
 use Rattle.std.proofs.lemmas.Int.{ints, to_z-of_z}
 use Rattle.grid_base.proofs.Sizes.{same_difference}
-use Rattle.motion_test.proofs.small.area.Goals as goal
+use Rattle.grid_base.proofs.narrow.area.Goals as goal
 
 pub returns-clause-value : goal.returns-clause-value
 returns-clause-value c =
