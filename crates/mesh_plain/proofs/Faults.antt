@@ -9,7 +9,7 @@ use Rattle.std.specs.Ordering.{nat_cmp}
 use Rattle.std.specs.Cmp.{nat_cmp_total}
 use Rattle.std.proofs.lemmas.List.{length-map}
 use Rattle.std.proofs.lemmas.List.Sums.{length-filter}
-use Rattle.std.proofs.lemmas.Bool.{false≢true, eqb-true, eq-eqb}
+use Rattle.std.proofs.lemmas.Bool.{false≢true, eq-eqb}
 use Rattle.std.proofs.lemmas.Bool.Decides.{nat_tests}
 use Rattle.grid_base.specs.declared.TheConstants.{VERTICES_MAX, FACES_MAX}
 use Rattle.grid_base.specs.declared.Point.{Point}
@@ -23,9 +23,8 @@ use Rattle.mesh_base.specs.Given.{Faces, mesh_of}
 use Rattle.mesh_base.proofs.Ordered.{entries-of_sorted}
 use Rattle.mesh_base.proofs.ListLaws.{found_passes}
 use Rattle.mesh_plain.specs.Shape.{is_vertex, bad_corner, no_vertex_from, repeats, repeated_from, doubled_from, runs_in, first_unbalanced, fault_but_balance, shape_fault, Denied, IsAtFault}
-use Rattle.mesh_plain.specs.Balance.{covers, least_side}
 use Rattle.mesh_plain.proofs.Lists.{numbered, sorted_numbers, len_numbered, of_live, none_of, none_mapped, first_false, no_fault_but_balance}
-use Rattle.mesh_plain.proofs.LeastSide.{least_is_first, unbalanced-covered}
+use Rattle.mesh_plain.proofs.FirstDifference.{all_balanced}
 
 -- ---- options
 pub some_of : {A : Type 0} (x y : Option A) (a : A) → option_or x y ≡ Some a → (x ≡ Some a) ⊎ (y ≡ Some a)
@@ -189,17 +188,13 @@ denied m (Unbalanced from to) at closed = at (closed from to)
 
 -- lists of good shape make a closed mesh
 pub closed-mesh_of : (ps : List Point) (fs : Faces) → shape_fault (length ps) fs ≡ None → IsClosed (mesh_of ps fs)
-closed-mesh_of ps fs h u v = runs_given ps fs u v ∙ by_test (runs_in fs u v == runs_in fs v u) refl ∙ sym (runs_given ps fs v u)
+closed-mesh_of ps fs h u v = runs_given ps fs u v ∙ all_balanced (length ps) fs vertices none_found u v ∙ sym (runs_given ps fs v u)
   where
     vertices : no_vertex_from (length ps) 1 fs ≡ None
     vertices = (no_fault_but_balance (length ps) fs (none_of (fault_but_balance (length ps) fs) _ h).0).corners
 
-    none_found : least_side (runs_in fs) None fs ≡ None
-    none_found = least_is_first (length ps) (runs_in fs) fs (λ x y. refl) vertices ∙ none_mapped _ _ (none_of (fault_but_balance (length ps) fs) _ h).1
-
-    by_test : (b : Bool) → (runs_in fs u v == runs_in fs v u) ≡ b → runs_in fs u v ≡ runs_in fs v u
-    by_test true e = eqb-true _ _ e
-    by_test false e = absurd (false≢true (sym (ap (λ o. covers o u v) none_found) ∙ unbalanced-covered (runs_in fs) fs u v (λ x y. refl) e))
+    none_found : first_unbalanced (length ps) fs ≡ None
+    none_found = none_mapped _ _ (none_of (fault_but_balance (length ps) fs) _ h).1
 
 -- all that a fault may deny
 all_hold : (m : Mesh) → IsSound m → IsClosed m → (fault : ShapeFault) → Denied fault m

@@ -1,7 +1,13 @@
-use Rattle.mesh_plain.specs.Balance.{side_count}
-use Rattle.mesh_plain.proofs.LeastSide.{least_is_first}
-use Rattle.std.proofs.Common.{◌∙◌}
+use Rattle.std.proofs.Common.{ap, arith, ◌∙◌}
+use Rattle.mesh_plain.specs.Balance.{first_difference}
+use Rattle.mesh_plain.proofs.FirstDifference.{difference_is_first}
 use Rattle.mesh_plain.proofs.balance.first_unbalanced.Goals as goal
 
 pub returns : goal.returns
-returns c = c.least_side.ensures ∙ least_is_first c.args.n (side_count c.in_ok-counts.counts) c.args.faces.now c.in_ok-counts.ensures c.requires.vertices
+returns c =
+    c.first_difference.ensures
+    ∙ ap (λ ss. first_difference ss c.deref-2.result.now) c.deref.ensures.value
+    ∙ ap (λ ts. first_difference c.put_in_order.new.sides.items ts) c.deref-2.ensures.value
+    ∙ difference_is_first c.args.n c.args.faces.now _ _ (omega arith) c.requires.vertices c.put_in_order.ensures.order c.put_in_order-2.ensures.order
+    (λ u v. c.put_in_order.ensures.same u v ∙ c.in_ok-sides.ensures.up u v)
+    (λ u v. c.put_in_order-2.ensures.same u v ∙ c.in_ok-sides.ensures.down u v)
