@@ -67,7 +67,7 @@ pub(crate) fn with_box(boxes: Option<Grid>, f: FaceId, around: Extent) -> Option
 }
 
 /// The box of a face, made wide enough for a position.
-fn wider_box(grid: &Grid, f: FaceId, p: Wide) -> Extent
+pub(crate) fn wider_box(grid: &Grid, f: FaceId, p: Wide) -> Extent
     requires { IsWithin HALF_MAX p }
     ensures old { (e : Box) (q : Triple) → map.get grid.now f ≡ Some e → IsIn e q → IsIn result q }
     ensures new { IsIn result p }
@@ -77,19 +77,6 @@ fn wider_box(grid: &Grid, f: FaceId, p: Wide) -> Extent
         Some(e) => e.united(&at),
         None => at,
     }
-}
-
-/// The boxes with that of a face made wide enough for a position; None where memory is wanting.
-pub(crate) fn with_wider(boxes: Option<Grid>, f: FaceId, p: Wide) -> Option<Grid>
-    requires { IsWithin HALF_MAX p }
-    ensures at { Holds result f p }
-    ensures keeps { (q : ℕ) (t : Triple) → Holds boxes q t → Holds result q t }
-{
-    let around = match &boxes {
-        Some(grid) => wider_box(grid, f, p),
-        None => return None,
-    };
-    with_box(boxes, f, around)
 }
 
 /// The boxes without that of a face.

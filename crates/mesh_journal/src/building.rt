@@ -12,7 +12,7 @@ use mesh_base::{FaceId, Surface};
 use std::alloc::Global;
 
 /// The length of a box's longest side, or a greater number where that is not below 2^32.
-fn longest_side(e: &Extent) -> u32 {
+pub(crate) fn longest_side(e: &Extent) -> u32 {
     let x = e.high.x.wrapping_sub(e.low.x);
     let y = e.high.y.wrapping_sub(e.low.y);
     let z = e.high.z.wrapping_sub(e.low.z);
@@ -39,7 +39,7 @@ fn sides_added<B: Surface>(mesh: &B) -> u64 {
 }
 
 /// A size of cells that suits the faces: about twice the mean of their boxes' longest sides.
-fn cell_for<B: Surface>(mesh: &B) -> u32
+pub(crate) fn cell_for<B: Surface>(mesh: &B) -> u32
     ensures { 0 < result }
 {
     let count = u64::from(mesh.faces()).max(1);
@@ -71,20 +71,22 @@ fn put_all<B: Surface>(mesh: &B, grid: &mut Grid) -> Result<(), NoMemory>
     Ok(())
 }
 
-/// A grid of the boxes of all faces. Refuses only where there is no memory.
-fn grid_of<B: Surface>(alloc: Global, mesh: &B) -> Result<Grid, NoMemory>
+/// A grid of the boxes of all faces, over cells of this size. Refuses only where there is no memory.
+fn grid_of<B: Surface>(alloc: Global, mesh: &B, cell: u32) -> Result<Grid, NoMemory>
+    requires { 0 < cell }
     ensures { IfOk result (λ grid. AreBoxed (Some grid) (B.mesh mesh.now)) }
 {
-    let mut grid = Grid::new(alloc, cell_for(mesh))?;
+    let mut grid = Grid::new(alloc, cell)?;
     put_all(mesh, &mut grid)?;
     Ok(grid)
 }
 
-/// The boxes of all faces; None where memory is wanting.
-pub(crate) fn boxes_of<B: Surface>(alloc: Global, mesh: &B) -> Option<Grid>
+/// The boxes of all faces, over cells of this size; None where memory is wanting.
+pub(crate) fn boxes_of<B: Surface>(alloc: Global, mesh: &B, cell: u32) -> Option<Grid>
+    requires { 0 < cell }
     ensures { AreBoxed result (B.mesh mesh.now) }
 {
-    match grid_of(alloc, mesh) {
+    match grid_of(alloc, mesh, cell) {
         Ok(grid) => Some(grid),
         Err(_) => None,
     }

@@ -7,8 +7,8 @@ ghost use Rattle.grid_base.specs.Extents.{IsIn};
 ghost use Rattle.mesh_base.specs.Sides.{faces_at};
 ghost use Rattle.mesh_journal.specs.Boxed.{Boxes, Holds, AreBoxed};
 
-use crate::boxes::{with_box, with_wider, without_box};
-use crate::building::boxes_of;
+use crate::boxes::{wider_box, with_box, without_box};
+use crate::building::{boxes_of, cell_for, longest_side};
 use crate::entries::Entry;
 use cell_grid::Grid;
 use grid_base::{Extent, Point, Wide};
@@ -23,8 +23,12 @@ pub(crate) struct Index {
     pub grid: Option<Grid>,
     /// The length of the journal when the grid was made.
     pub since: usize,
-    /// How many boxes were widened since.
+    /// A box is long if its longest side is above this.
+    long: u32,
+    /// How many boxes were widened since the index was asked for.
     pub widened: u32,
+    /// How many widenings left a long box since the grid was made.
+    worn: u32,
 }
 
 impl Index {
@@ -36,7 +40,9 @@ impl Index {
         Index {
             grid: None,
             since: 0,
+            long: 0,
             widened: 0,
+            worn: 0,
         }
     }
 
@@ -45,16 +51,30 @@ impl Index {
         ensures boxed { AreBoxed result.grid (B.mesh mesh.now) }
         ensures since { result.since ≡ len }
     {
+        let cell = cell_for(mesh);
         Index {
-            grid: boxes_of(alloc, mesh),
+            grid: boxes_of(alloc, mesh, cell),
             since: len,
+            long: cell.saturating_mul(2),
             widened: 0,
+            worn: 0,
         }
     }
 
-    /// Whether it is to be made anew: it has no boxes, or an eighth of the faces were widened.
+    /// Whether it is to be made anew: it has no boxes, or long boxes were widened as often as an eighth of the faces.
     pub(crate) fn is_worn(&self, faces: u32) -> bool {
-        self.grid.is_none() || self.widened > faces / 8
+        self.grid.is_none() || self.worn > faces / 8
+    }
+
+    /// Counts a widening that left this box.
+    fn note_widened(&mut self, around: &Extent)
+        ensures grid { self.new.grid ≡ self.old.grid }
+        ensures since { self.new.since ≡ self.old.since }
+    {
+        self.widened = self.widened.saturating_add(1);
+        if longest_side(around) > self.long {
+            self.worn = self.worn.saturating_add(1);
+        }
     }
 
     /// Sets the box of a face. Where memory is wanting, the boxes are given up.
@@ -73,8 +93,12 @@ impl Index {
         ensures keeps { (q : ℕ) (t : Triple) → Holds self.old.grid q t → Holds self.new.grid q t }
         ensures since { self.new.since ≡ self.old.since }
     {
-        self.widened = self.widened.saturating_add(1);
-        self.grid = with_wider(self.grid.take(), f, p);
+        let around = match &self.grid {
+            Some(grid) => wider_box(grid, f, p),
+            None => return,
+        };
+        self.note_widened(&around);
+        self.grid = with_box(self.grid.take(), f, around);
     }
 
     /// Makes the boxes of faces wide enough for a position.
@@ -90,7 +114,8 @@ impl Index {
     }
 
     /// Makes the boxes of the faces at a vertex wide enough for a point. Where memory is wanting, and where many boxes
-    /// were widened, the boxes are given up: a step moves every vertex, and need not pay for boxes that are of no use.
+    /// were widened since the index was asked for, the boxes are given up: a step moves every vertex, and need not pay
+    /// for boxes that are of no use.
     pub(crate) fn widen_at<B: Surface>(&mut self, alloc: Global, mesh: &B, v: VertexId, p: Point)
         ensures at { All (λ f. Holds self.new.grid f (times 2 (position_of p))) (faces_at (B.mesh mesh.now) v) }
         ensures keeps { (q : ℕ) (t : Triple) → Holds self.old.grid q t → Holds self.new.grid q t }

@@ -216,16 +216,18 @@ impl<B: Undoable> Surface for Journal<B> {
         }
     }
 
-    /// Puts boxes of the faces into a grid, where there is none or many of its boxes were widened. A return to a mark that
+    /// Puts boxes of the faces into a grid, where there is none or many of its boxes became long. A return to a mark that
     /// was made before gives the boxes up again.
     fn index(&mut self)
         ensures mesh { mesh_in self.new ≡ mesh_in self.old }
         ensures kept { kept_in self.new ≡ kept_in self.old }
         ensures spare { spare_in self.old ≤ spare_in self.new }
     {
-        if self.boxes.is_worn(self.inner.faces()) {
-            self.boxes = Index::of(self.alloc, &self.inner, self.entries.len());
+        if !self.boxes.is_worn(self.inner.faces()) {
+            self.boxes.widened = 0;
+            return;
         }
+        self.boxes = Index::of(self.alloc, &self.inner, self.entries.len());
     }
 
     fn add_vertex(&mut self, p: Point) -> Result<VertexId, AddFault>
