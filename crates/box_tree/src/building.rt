@@ -38,7 +38,8 @@ fn hull(nodes: &[Node], from: usize) -> SmallBox
 fn gather(nodes: &mut Vec<Node>, from: usize) -> Result<(), NoMemory>
     requires { IsTree (reverse nodes.old.items) }
     ensures tree { OnOk result (IsTree (reverse nodes.new.items)) }
-    ensures same { OnOk result (entries (reverse nodes.new.items) ≡ entries (reverse nodes.old.items)) }
+    ensures same { OnOk result
+        (entries (reverse nodes.new.items) ≡ entries (reverse nodes.old.items)) }
 {
     if from < nodes.len() {
         let at = hull(nodes, from);

@@ -8,7 +8,8 @@ use grid_base::NoMemory;
 /// Adds the items whose boxes have a common point with this one, the last node's first.
 pub(crate) fn walk(nodes: &[Node], at: &SmallBox, into: &mut Vec<u64>) -> Result<(), NoMemory>
     requires { IsTree (reverse nodes.now) }
-    ensures { OnOk result (into.new.items ≡ into.old.items ++ meeting at.now (entries (reverse nodes.now))) }
+    ensures { OnOk result
+        (into.new.items ≡ into.old.items ++ meeting at.now (entries (reverse nodes.now))) }
 {
     let mut i = nodes.len();
     while i > 0 {

@@ -93,7 +93,8 @@ impl Tables {
     /// Takes the mark of a live vertex as solid away. Takes no memory.
     pub(crate) fn unmake_solid(&mut self, v: VertexId)
         requires { IsLiveVertex self.old.state.mesh v }
-        ensures state { self.new.state ≡ with_mesh self.old.state (without_solid self.old.state.mesh v) }
+        ensures state { self.new.state ≡ with_mesh self.old.state
+            (without_solid self.old.state.mesh v) }
         ensures spare { self.new.spare ≡ self.old.spare }
     {
         if let Some(vertex) = self.fans.vertex(v.0) {
@@ -110,7 +111,8 @@ impl Tables {
     /// Gives up what is buried. Takes no memory.
     pub(crate) fn forget(&mut self)
         requires { AreApart self.old.state }
-        ensures state { self.new.state ≡ record { mesh = self.old.state.mesh; buried = none_buried } }
+        ensures state { self.new.state ≡
+            record { mesh = self.old.state.mesh; buried = none_buried } }
         ensures spare { self.old.spare ≤ self.new.spare }
     {
         free_rings(&mut self.fans, &self.keys);
@@ -132,7 +134,8 @@ impl Tables {
 
 /// Takes the half-edges of the buried faces out of the slab. Takes no memory.
 fn free_rings(fans: &mut Fans, keys: &Rows<usize>)
-    requires { (f v : ℕ) → IsSome (map.get keys.now.buried f) → IsOutside f (spokes_at fans.old.woven.fans v) }
+    requires { (f v : ℕ) → IsSome (map.get keys.now.buried f) →
+        IsOutside f (spokes_at fans.old.woven.fans v) }
     ensures fans { fans.new.woven.fans ≡ fans.old.woven.fans }
     ensures sides { (k : ℕ) (side : Side) → side_at fans.old.woven.sides k ≡ Some side →
         map.get keys.now.buried side.face ≡ None → side_at fans.new.woven.sides k ≡ Some side }
@@ -167,7 +170,8 @@ pub(crate) fn free_ring(fans: &mut Fans, key: usize, f: u32)
 pub(crate) fn bury_ring(fans: &mut Fans, id: u32, a: u32, b: u32, c: u32)
     requires different { AreDifferent (record { first = a; second = b; third = c }) }
     requires live { HaveFans fans.old.woven.fans (record { first = a; second = b; third = c }) }
-    ensures lost { HasLost fans.old.woven fans.new.woven id (record { first = a; second = b; third = c }) }
+    ensures lost { HasLost fans.old.woven fans.new.woven id
+        (record { first = a; second = b; third = c }) }
     ensures sides { KeepsSides fans.old.woven.sides fans.new.woven.sides }
     ensures kept { (fans.new.buried ≡ fans.old.buried) × (fans.new.seats ≡ fans.old.seats) }
     ensures room { fans.new.woven.room ≡ fans.old.woven.room }
@@ -182,10 +186,12 @@ pub(crate) fn bury_ring(fans: &mut Fans, id: u32, a: u32, b: u32, c: u32)
 fn raise_ring(fans: &mut Fans, id: u32, a: u32, b: u32, c: u32, key: usize)
     requires different { AreDifferent (record { first = a; second = b; third = c }) }
     requires live { HaveFans fans.old.woven.fans (record { first = a; second = b; third = c }) }
-    requires ring { IsRing fans.old.woven.sides id (record { first = a; second = b; third = c }) key }
+    requires ring { IsRing fans.old.woven.sides id
+        (record { first = a; second = b; third = c }) key }
     requires outside { (v : ℕ) → IsOutside id (spokes_at fans.old.woven.fans v) }
     requires few { (v : ℕ) → length (spokes_at fans.old.woven.fans v) < 2 ^ 32 }
-    ensures raised { HasRaised fans.old.woven fans.new.woven id (record { first = a; second = b; third = c }) }
+    ensures raised { HasRaised fans.old.woven fans.new.woven id
+        (record { first = a; second = b; third = c }) }
     ensures kept { (fans.new.buried ≡ fans.old.buried) × (fans.new.seats ≡ fans.old.seats) }
     ensures room { fans.new.woven.room ≡ fans.old.woven.room }
 {

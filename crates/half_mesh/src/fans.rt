@@ -54,7 +54,8 @@ impl Fans {
     }
 
     pub(crate) fn copy(&self) -> Result<Fans, NoMemory>
-        ensures { IfOk result (λ copy. copy ≡ record self.now { woven = record self.now.woven { room = copy.woven.room }; seats = copy.seats }) }
+        ensures { IfOk result (λ copy. copy ≡ record self.now {
+            woven = record self.now.woven { room = copy.woven.room }; seats = copy.seats }) }
     {
         Ok(Fans {
             rows: self.rows.copy()?,
@@ -128,7 +129,8 @@ impl Fans {
         ensures room { OnOk result (more ≤ self.new.woven.room) }
         ensures memory { OnErr result (0 < more → self.old.woven.room < more) }
         ensures grows { self.old.woven.room ≤ self.new.woven.room }
-        ensures kept { self.new ≡ record self.old { woven = record self.old.woven { room = self.new.woven.room } } }
+        ensures kept { self.new ≡
+            record self.old { woven = record self.old.woven { room = self.new.woven.room } } }
     {
         self.halves.reserve(more)?;
         Ok(())
@@ -140,7 +142,8 @@ impl Fans {
         requires room { 1 ≤ self.old.woven.room }
         requires newest { IsNewest face (spokes_at self.old.woven.fans v) }
         requires few { length (spokes_at self.old.woven.fans v) < 2 ^ 32 }
-        ensures fans { ChangesFan self.old self.new v (λ fan. with_spoke fan (record { face = face; to = to })) }
+        ensures fans { ChangesFan self.old self.new v
+            (λ fan. with_spoke fan (record { face = face; to = to })) }
         ensures fresh { side_at self.old.woven.sides result ≡ None }
         ensures side { side_at self.new.woven.sides result ≡
             Some (record { origin = v; to = to; face = face; next = next }) }
@@ -286,7 +289,8 @@ impl Fans {
 
     /// Gives up the buried vertices, none of which lives. Takes no memory.
     pub(crate) fn forget(&mut self)
-        requires { (v : ℕ) → IsSome (map.get self.old.buried v) → map.get self.old.woven.fans v ≡ None }
+        requires { (v : ℕ) → IsSome (map.get self.old.buried v) →
+            map.get self.old.woven.fans v ≡ None }
         ensures kept { self.new ≡ record self.old { buried = map.empty; seats = self.new.seats } }
         ensures seats { self.old.seats ≤ self.new.seats }
     {
@@ -342,7 +346,8 @@ impl Fans {
 
     /// The face of the `nth` half-edge, from 0, that runs from `u` to `v`, by falling face.
     pub(crate) fn pick(&self, u: u32, v: u32, nth: usize) -> Option<u32>
-        ensures { result ≡ slice_get (faces_of (spokes_to v (spokes_at self.now.woven.fans u))) nth }
+        ensures { result ≡ slice_get
+            (faces_of (spokes_to v (spokes_at self.now.woven.fans u))) nth }
     {
         match self.rows.get(u) {
             Some(row) => pick_to(&self.halves, row.first, row.count, v, nth),
@@ -352,7 +357,8 @@ impl Fans {
 
     /// Sets `into` to the faces at `v`, by rising id.
     pub(crate) fn faces(&self, v: u32, into: &mut Vec<FaceId>) -> Result<(), NoMemory>
-        ensures ok { OnOk result (into.new.items ≡ reverse (faces_of (spokes_at self.now.woven.fans v))) }
+        ensures ok { OnOk result
+            (into.new.items ≡ reverse (faces_of (spokes_at self.now.woven.fans v))) }
         ensures err { OnErr result (into.new.items ≡ []) }
     {
         match self.rows.get(v) {
@@ -387,7 +393,8 @@ fn count_to(halves: &Slab<Half>, first: usize, count: usize, v: u32) -> usize
 
 /// How many of them run to `v` in faces older than one.
 fn count_older(halves: &Slab<Half>, first: usize, count: usize, v: u32, face: u32) -> usize
-    ensures { result ≡ below face (faces_of (spokes_to v (map_list spoke_of (walk halves.now count first)))) }
+    ensures { result ≡ below face
+        (faces_of (spokes_to v (map_list spoke_of (walk halves.now count first)))) }
 {
     let mut found: usize = 0;
     let mut at = first;
@@ -409,7 +416,8 @@ fn count_older(halves: &Slab<Half>, first: usize, count: usize, v: u32, face: u3
 
 /// The face of the `nth` of them that runs to `v`.
 fn pick_to(halves: &Slab<Half>, first: usize, count: usize, v: u32, nth: usize) -> Option<u32>
-    ensures { result ≡ slice_get (faces_of (spokes_to v (map_list spoke_of (walk halves.now count first)))) nth }
+    ensures { result ≡ slice_get
+        (faces_of (spokes_to v (map_list spoke_of (walk halves.now count first)))) nth }
 {
     let mut skip = nth;
     let mut at = first;
@@ -437,7 +445,8 @@ fn list(
     count: usize,
     into: &mut Vec<FaceId>,
 ) -> Result<(), NoMemory>
-    ensures ok { OnOk result (into.new.items ≡ reverse (faces_of (map_list spoke_of (walk halves.now count first)))) }
+    ensures ok { OnOk result
+        (into.new.items ≡ reverse (faces_of (map_list spoke_of (walk halves.now count first)))) }
     ensures err { OnErr result (into.new.items ≡ []) }
 {
     gather(halves, first, count, into)?;
@@ -452,7 +461,8 @@ fn gather(
     count: usize,
     into: &mut Vec<FaceId>,
 ) -> Result<(), NoMemory>
-    ensures ok { OnOk result (into.new.items ≡ faces_of (map_list spoke_of (walk halves.now count first))) }
+    ensures ok { OnOk result
+        (into.new.items ≡ faces_of (map_list spoke_of (walk halves.now count first))) }
     ensures err { OnErr result (into.new.items ≡ []) }
 {
     into.clear();
@@ -475,7 +485,8 @@ fn gather(
 /// Has another half-edge follow the one at the key in its face.
 fn join_half(halves: &mut Slab<Half>, key: usize, next: usize)
     ensures joins { Joins halves.old halves.new key next }
-    ensures room { halves.new.capacity - slab_len halves.new ≡ halves.old.capacity - slab_len halves.old }
+    ensures room { halves.new.capacity - slab_len halves.new ≡
+        halves.old.capacity - slab_len halves.old }
 {
     if let Some(half) = halves.get_mut(key) {
         half.next = next;
@@ -535,8 +546,10 @@ fn newer(halves: &Slab<Half>, key: usize, half: Half, count: usize, face: u32) -
 /// Has another half-edge follow the one at the key among those that leave its vertex.
 fn set_after(halves: &mut Slab<Half>, key: usize, after: usize)
     ensures resets { Resets halves.old halves.new key after }
-    ensures sides { (k : ℕ) → option_map side_of (get halves.new k) ≡ option_map side_of (get halves.old k) }
-    ensures room { halves.new.capacity - slab_len halves.new ≡ halves.old.capacity - slab_len halves.old }
+    ensures sides { (k : ℕ) →
+        option_map side_of (get halves.new k) ≡ option_map side_of (get halves.old k) }
+    ensures room { halves.new.capacity - slab_len halves.new ≡
+        halves.old.capacity - slab_len halves.old }
 {
     if let Some(half) = halves.get_mut(key) {
         half.after = after;
@@ -545,8 +558,10 @@ fn set_after(halves: &mut Slab<Half>, key: usize, after: usize)
 
 /// Takes the half-edge at the key out, if it is one of the face.
 fn free_half(halves: &mut Slab<Half>, key: usize, face: u32)
-    ensures others { (k : ℕ) (h : Half) → get halves.old k ≡ Some h → h.face ≢ face → get halves.new k ≡ Some h }
-    ensures room { halves.old.capacity - slab_len halves.old ≤ halves.new.capacity - slab_len halves.new }
+    ensures others { (k : ℕ) (h : Half) → get halves.old k ≡ Some h → h.face ≢ face →
+        get halves.new k ≡ Some h }
+    ensures room { halves.old.capacity - slab_len halves.old ≤
+        halves.new.capacity - slab_len halves.new }
 {
     if let Some(half) = halves.get(key).copied() {
         if half.face == face {

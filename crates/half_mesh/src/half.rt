@@ -54,7 +54,9 @@ impl HalfMesh {
         requires shape { shape_fault (length lists.now.points) lists.now.faces ≡ None }
         requires vertex { MayBeNext (length lists.now.points) next_vertex }
         requires face { MayBeNext (length lists.now.faces) next_face }
-        ensures mesh { IfOk result (λ s. mesh_in s ≡ numbered (mesh_of lists.now.points lists.now.faces) next_vertex next_face) }
+        ensures mesh { IfOk result
+            (λ s. mesh_in s ≡ numbered
+                (mesh_of lists.now.points lists.now.faces) next_vertex next_face) }
         ensures buried { IfOk result (λ s. (state_in s).buried ≡ none_buried) }
         ensures kept { IfOk result (λ s. kept_in s ≡ []) }
     {
@@ -73,7 +75,8 @@ impl HalfMesh {
         requires live { IsLiveFace (mesh_in self.now) f }
         requires side { side < 3 }
         ensures value { result ≡ across (mesh_in self.entry.now) f side }
-        ensures back { (g turn : ℕ) → result ≡ Some (g, turn) → across (mesh_in self.entry.now) g turn ≡ Some (f, side) }
+        ensures back { (g turn : ℕ) → result ≡ Some (g, turn) →
+            across (mesh_in self.entry.now) g turn ≡ Some (f, side) }
     {
         self.now.across(f, side)
     }
@@ -153,7 +156,8 @@ impl HalfMesh {
     /// Puts a live vertex at a point.
     pub fn place_now(&mut self, v: VertexId, p: Point)
         requires { IsLiveVertex (mesh_in self.old) v }
-        ensures state { state_in self.new ≡ with_mesh (state_in self.old) (with_point (mesh_in self.old) v p) }
+        ensures state { state_in self.new ≡ with_mesh (state_in self.old)
+            (with_point (mesh_in self.old) v p) }
         ensures kept { kept_in self.new ≡ kept_in self.old }
         ensures spare { spare_in self.old ≤ spare_in self.new }
     {
@@ -163,7 +167,8 @@ impl HalfMesh {
     /// Takes the mark as solid of a live vertex away, if it has one.
     pub fn unmake_solid(&mut self, v: VertexId)
         requires { IsLiveVertex (mesh_in self.old) v }
-        ensures state { state_in self.new ≡ with_mesh (state_in self.old) (without_solid (mesh_in self.old) v) }
+        ensures state { state_in self.new ≡ with_mesh (state_in self.old)
+            (without_solid (mesh_in self.old) v) }
         ensures kept { kept_in self.new ≡ kept_in self.old }
         ensures spare { spare_in self.old ≤ spare_in self.new }
     {
@@ -172,7 +177,8 @@ impl HalfMesh {
 
     /// Gives up what is buried.
     pub fn forget(&mut self)
-        ensures state { state_in self.new ≡ record { mesh = mesh_in self.old; buried = none_buried } }
+        ensures state { state_in self.new ≡
+            record { mesh = mesh_in self.old; buried = none_buried } }
         ensures kept { kept_in self.new ≡ kept_in self.old }
         ensures spare { spare_in self.old ≤ spare_in self.new }
     {
@@ -381,7 +387,8 @@ impl Surface for HalfMesh {
         ensures stands { IfOk result (λ m. StandsFor (kept_in self.new) m (mesh_in self.old)) }
         ensures under { IfOk result (λ m. m.under ≡ length (kept_in self.old)) }
         ensures place { IfOk result (λ m. m.place ≡ m.under) }
-        ensures kept { IfOk result (λ m. kept_in self.new ≡ kept_in self.old ++ mesh_in self.old ∷ []) }
+        ensures kept { IfOk result
+            (λ m. kept_in self.new ≡ kept_in self.old ++ mesh_in self.old ∷ []) }
         ensures mesh { mesh_in self.new ≡ mesh_in self.old }
         ensures marks { BeginsWith (kept_in self.new) (kept_in self.old) }
         ensures err { OnErr result (kept_in self.new ≡ kept_in self.old) }

@@ -72,7 +72,10 @@ impl FaceTable for Tables {
 
 impl Tables {
     pub(crate) fn new(alloc: Global) -> Tables
-        ensures { result.state ≡ record { mesh = record { points = map.empty; faces = map.empty; solid = map.empty; next_vertex = 1; next_face = 1 }; buried = none_buried } }
+        ensures { result.state ≡ record {
+            mesh = record {
+                points = map.empty; faces = map.empty; solid = map.empty; next_vertex = 1; next_face = 1 };
+            buried = none_buried } }
     {
         Tables {
             fans: Fans::new(alloc),
@@ -85,7 +88,9 @@ impl Tables {
     /// The tables of lists, numbered from 1.
     pub(crate) fn of(alloc: Global, lists: &MeshLists) -> Result<Tables, NoMemory>
         requires { shape_fault (length lists.now.points) lists.now.faces ≡ None }
-        ensures { IfOk result (λ t. t.state ≡ record { mesh = mesh_of lists.now.points lists.now.faces; buried = none_buried }) }
+        ensures { IfOk result
+            (λ t. t.state ≡
+                record { mesh = mesh_of lists.now.points lists.now.faces; buried = none_buried }) }
     {
         let mut tables = Tables::new(alloc);
         for p in lists.points.as_slice() {
@@ -99,7 +104,8 @@ impl Tables {
 
     /// Sets the next ids.
     pub(crate) fn number(&mut self, next_vertex: u32, next_face: u32)
-        ensures state { self.new.state ≡ with_mesh self.old.state (numbered self.old.state.mesh next_vertex next_face) }
+        ensures state { self.new.state ≡ with_mesh self.old.state
+            (numbered self.old.state.mesh next_vertex next_face) }
         ensures spare { self.new.spare ≡ self.old.spare }
     {
         self.next_vertex = next_vertex;
@@ -263,10 +269,12 @@ impl Tables {
 
     pub(crate) fn add_vertex(&mut self, p: Point) -> Result<VertexId, NoMemory>
         requires next { self.old.state.mesh.next_vertex + 1 < 2 ^ 32 }
-        requires ids { (v : ℕ) → IsLiveVertex self.old.state.mesh v → v < self.old.state.mesh.next_vertex }
+        requires ids { (v : ℕ) → IsLiveVertex self.old.state.mesh v →
+            v < self.old.state.mesh.next_vertex }
         requires few { map.len self.old.state.mesh.points ≤ VERTICES_MAX }
         ensures id { IfOk result (λ v. v ≡ self.old.state.mesh.next_vertex) }
-        ensures ok { OnOk result (self.new.state ≡ with_mesh self.old.state (with_vertex self.old.state.mesh p)) }
+        ensures ok { OnOk result
+            (self.new.state ≡ with_mesh self.old.state (with_vertex self.old.state.mesh p)) }
         ensures err { OnErr result (self.new.state ≡ self.old.state) }
         ensures memory { OnErr result (self.old.spare ≡ 0) }
         ensures spare { self.old.spare ≤ self.new.spare + 1 }
@@ -286,7 +294,8 @@ impl Tables {
     /// Takes no memory.
     pub(crate) fn place(&mut self, v: VertexId, p: Point)
         requires { IsLiveVertex self.old.state.mesh v }
-        ensures state { self.new.state ≡ with_mesh self.old.state (with_point self.old.state.mesh v p) }
+        ensures state { self.new.state ≡ with_mesh self.old.state
+            (with_point self.old.state.mesh v p) }
         ensures spare { self.new.spare ≡ self.old.spare }
     {
         if let Some(vertex) = self.fans.vertex(v.0) {
@@ -297,7 +306,8 @@ impl Tables {
     /// Takes no memory.
     pub(crate) fn make_solid(&mut self, v: VertexId)
         requires { IsLiveVertex self.old.state.mesh v }
-        ensures state { self.new.state ≡ with_mesh self.old.state (with_solid self.old.state.mesh v) }
+        ensures state { self.new.state ≡ with_mesh self.old.state
+            (with_solid self.old.state.mesh v) }
         ensures spare { self.new.spare ≡ self.old.spare }
     {
         if let Some(vertex) = self.fans.vertex(v.0) {
@@ -318,12 +328,15 @@ impl Tables {
         c: VertexId,
     ) -> Result<FaceId, NoMemory>
         requires next { self.old.state.mesh.next_face + 1 < 2 ^ 32 }
-        requires ids { (f : ℕ) → IsLiveFace self.old.state.mesh f → f < self.old.state.mesh.next_face }
+        requires ids { (f : ℕ) → IsLiveFace self.old.state.mesh f →
+            f < self.old.state.mesh.next_face }
         requires few { map.len self.old.state.mesh.faces ≤ FACES_MAX }
         requires live { AreLive self.old.state.mesh (record { first = a; second = b; third = c }) }
         requires different { AreDifferent (record { first = a; second = b; third = c }) }
         ensures id { IfOk result (λ f. f ≡ self.old.state.mesh.next_face) }
-        ensures ok { OnOk result (self.new.state ≡ with_mesh self.old.state (with_face self.old.state.mesh (record { first = a; second = b; third = c }))) }
+        ensures ok { OnOk result
+            (self.new.state ≡ with_mesh self.old.state
+                (with_face self.old.state.mesh (record { first = a; second = b; third = c }))) }
         ensures err { OnErr result (self.new.state ≡ self.old.state) }
         ensures memory { OnErr result (self.old.spare ≡ 0) }
         ensures spare { self.old.spare ≤ self.new.spare + 1 }
@@ -342,7 +355,8 @@ impl Tables {
         requires live { IsLiveFace self.old.state.mesh f }
         requires sound { IsSound self.old.state.mesh }
         requires apart { AreApart self.old.state }
-        ensures state { self.new.state ≡ with_mesh self.old.state (without_face self.old.state.mesh f) }
+        ensures state { self.new.state ≡ with_mesh self.old.state
+            (without_face self.old.state.mesh f) }
         ensures spare { self.old.spare ≤ self.new.spare }
     {
         if let Some(key) = self.keys.get(f.0) {
@@ -357,7 +371,8 @@ impl Tables {
     pub(crate) fn drop_vertex(&mut self, v: VertexId)
         requires live { IsLiveVertex self.old.state.mesh v }
         requires bare { faces_at self.old.state.mesh v ≡ [] }
-        ensures state { self.new.state ≡ with_mesh self.old.state (without_vertex self.old.state.mesh v) }
+        ensures state { self.new.state ≡ with_mesh self.old.state
+            (without_vertex self.old.state.mesh v) }
         ensures spare { self.old.spare ≤ self.new.spare }
     {
         self.fans.remove(v.0);
@@ -406,7 +421,8 @@ fn put_ring(fans: &mut Fans, id: u32, a: u32, b: u32, c: u32) -> usize
     requires newest { (v : ℕ) → IsNewest id (spokes_at fans.old.woven.fans v) }
     requires few { (v : ℕ) → length (spokes_at fans.old.woven.fans v) < 2 ^ 32 }
     requires room { 3 ≤ fans.old.woven.room }
-    ensures ring { HasRing fans.old.woven fans.new.woven id (record { first = a; second = b; third = c }) result }
+    ensures ring { HasRing fans.old.woven fans.new.woven id
+        (record { first = a; second = b; third = c }) result }
     ensures kept { (fans.new.buried ≡ fans.old.buried) × (fans.new.seats ≡ fans.old.seats) }
     ensures room { fans.old.woven.room ≤ fans.new.woven.room + 3 }
 {
@@ -419,7 +435,8 @@ fn put_ring(fans: &mut Fans, id: u32, a: u32, b: u32, c: u32) -> usize
 
 /// The corners of the face whose first side stands at the key.
 pub(crate) fn corners_from(fans: &Fans, key: usize) -> (u32, u32, u32)
-    ensures { record { first = result.0; second = result.1; third = result.2 } ≡ corners_at fans.now.woven.sides key }
+    ensures { record { first = result.0; second = result.1; third = result.2 } ≡
+        corners_at fans.now.woven.sides key }
 {
     let first = fans.side(key);
     let second = fans.side(first.next);

@@ -341,9 +341,11 @@ fn is_left<T: Copy>(item: &Item<T>) -> bool
 fn put<T: Copy>(items: &mut Vec<Item<T>>, id: u32, row: T) -> Result<(), NoMemory>
     requires { RiseFrom 0 items.old.items }
     ensures ok { OnOk result (Holds items.old.items items.new.items id row) }
-    ensures err { OnErr result ((items.new.items ≡ items.old.items) × (vec_capacity items.new ≡ vec_capacity items.old)) }
+    ensures err { OnErr result
+        ((items.new.items ≡ items.old.items) × (vec_capacity items.new ≡ vec_capacity items.old)) }
     ensures memory { OnErr result (vec_capacity items.old ≤ vec_len items.old) }
-    ensures room { vec_capacity items.old - vec_len items.old ≤ (vec_capacity items.new - vec_len items.new) + 1 }
+    ensures room { vec_capacity items.old - vec_len items.old ≤
+        (vec_capacity items.new - vec_len items.new) + 1 }
 {
     match find(items.as_slice(), id) {
         Ok(at) => {

@@ -13,13 +13,16 @@ use std::alloc::Global;
 /// Writes one line of a log, with its end. A fault leaves the first bytes of the line and not all of them, perhaps none; at want of
 /// memory none. It is the sink's fault only where the sink counts one more.
 pub fn write_line<K: Sink>(alloc: Global, out: &mut K, line: &LogLine) -> Result<(), WriteFault>
-    ensures whole { OnOk result (K.written out.new ≡ appended (K.written out.old) (text_of_line line.now)) }
-    ensures part { OnErr result (AppendsPart (K.written out.old) (K.written out.new) (text_of_line line.now)) }
+    ensures whole { OnOk result
+        (K.written out.new ≡ appended (K.written out.old) (text_of_line line.now)) }
+    ensures part { OnErr result
+        (AppendsPart (K.written out.old) (K.written out.new) (text_of_line line.now)) }
     // The same of a list of lines, as callers put them together.
     ensures said { Written (K.written out.old) (K.written out.new) (line.now ∷ []) result }
     ensures none { IsErrOf result WriteFault.NoMemory → K.written out.new ≡ K.written out.old }
     ensures later { K.faults out.old ≤ K.faults out.new }
-    ensures cause { IsErrOf result WriteFault.SinkFault → Rose (K.faults out.old) (K.faults out.new) }
+    ensures cause { IsErrOf result WriteFault.SinkFault →
+        Rose (K.faults out.old) (K.faults out.new) }
 {
     let mut text = Vec::new(alloc);
     print_line(line, &mut text)?;

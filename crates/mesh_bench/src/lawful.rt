@@ -10,7 +10,8 @@ use std::alloc::Global;
 
 /// Whether the corners live and differ, and no face runs along the first side.
 fn is_fresh<S: Surface>(surface: &S, a: VertexId, b: VertexId, c: VertexId) -> bool
-    ensures { result ≡ true → IsFresh (S.mesh surface.now) (record { first = a; second = b; third = c }) }
+    ensures { result ≡ true →
+        IsFresh (S.mesh surface.now) (record { first = a; second = b; third = c }) }
 {
     if surface.point(a).is_none() {
         return false;

@@ -21,7 +21,8 @@ pub fn cubes_make_a_valid_surface()
 
 /// Each shift of the job moves by what is said, which is from 1 to 9 along each axis.
 pub fn cubes_move_a_little()
-    ensures by { (key step number : ℕ) → displacement_of (cube_shift key step number) ≡ moved_by key step number }
+    ensures by { (key step number : ℕ) →
+        displacement_of (cube_shift key step number) ≡ moved_by key step number }
     ensures little { (key step number axis : ℕ) → IsFrom 1 9 (moved_along key step number axis) }
 {}
 

@@ -13,8 +13,10 @@ use std::alloc::Global;
 /// calls are made.
 pub fn play<S: Surface>(alloc: Global, surface: &mut S, calls: &[Call]) -> Result<Answers, NoMemory>
     requires { AreLawful (start_of (S.mesh surface.old)) calls.now }
-    ensures answers { IfOk result (λ told. told ≡ answers_of (start_of (S.mesh surface.old)) calls.now) }
-    ensures mesh { OnOk result (S.mesh surface.new ≡ (after_all (start_of (S.mesh surface.old)) calls.now).mesh) }
+    ensures answers { IfOk result
+        (λ told. told ≡ answers_of (start_of (S.mesh surface.old)) calls.now) }
+    ensures mesh { OnOk result
+        (S.mesh surface.new ≡ (after_all (start_of (S.mesh surface.old)) calls.now).mesh) }
 {
     let mut marks: Vec<Mark> = Vec::new(alloc);
     let mut answers = Answers::new(alloc);
@@ -51,7 +53,8 @@ pub fn play_one<S: Surface>(
 ) -> Result<Answer, NoMemory>
     requires lawful { IsLawful (seen S.mesh S.kept surface.old marks.old.items) call.now }
     requires marks { AreMarks S.beyond (S.kept surface.old) marks.old.items }
-    ensures answer { IfOk result (λ it. it ≡ answer_of (seen S.mesh S.kept surface.old marks.old.items) call.now) }
+    ensures answer { IfOk result
+        (λ it. it ≡ answer_of (seen S.mesh S.kept surface.old marks.old.items) call.now) }
     ensures after { OnOk result (seen S.mesh S.kept surface.new marks.new.items
         ≡ after (seen S.mesh S.kept surface.old marks.old.items) call.now) }
     ensures marks { OnOk result (AreMarks S.beyond (S.kept surface.new) marks.new.items) }

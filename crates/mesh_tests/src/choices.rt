@@ -20,7 +20,8 @@ use step_choose::{Choice, PASSES_MAX, Settings, choose};
 // A shift of a vertex along x, and none of a solid one.
 fn shift_of<S: Surface>(mesh: &S, v: VertexId, x: i32, rt: &impl Abort) -> ShiftOf
     ensures named { result.v ≡ v }
-    ensures in_box { is_within BOX (plus (rest_positions (S.mesh mesh.now) v) (displacement_of result.by)) ≡ true }
+    ensures in_box { is_within BOX
+        (plus (rest_positions (S.mesh mesh.now) v) (displacement_of result.by)) ≡ true }
     ensures solid { is_solid (S.mesh mesh.now) v ≡ true → displacement_of result.by ≡ origin }
 {
     let from = mesh.point(v).expect(rt, "a live vertex");

@@ -53,19 +53,24 @@ pub trait Desk {
         ensures long { (seen : ℕ) → IsErrOf result (FetchFault.TooLong seen) → limit < seen }
         ensures seen { (seen : ℕ) → IsErrOf result (FetchFault.TooLong seen) →
             HoldsAtLeast (files self.old) name.now seen }
-        ensures missing { IsErrOf result FetchFault.Missing → HoldsNoFile (files self.old) name.now }
+        ensures missing { IsErrOf result FetchFault.Missing →
+            HoldsNoFile (files self.old) name.now }
         ensures calm { IsErrOf result FetchFault.Missing → faults self.new ≡ faults self.old }
         ensures later { faults self.old ≤ faults self.new }
-        ensures failed { IsErrOf result FetchFault.Failed → Rose (faults self.old) (faults self.new) };
+        ensures failed { IsErrOf result FetchFault.Failed →
+            Rose (faults self.old) (faults self.new) };
 
     /// Puts a file in the place of the one of that name, if there is one. Where the desk fails, nothing is said of
     /// this file.
     fn store(&mut self, name: &str, bytes: &[u8]) -> Result<(), StoreFault>
-        ensures stored { OnOk result (files self.new ≡ with_file (files self.old) name.now bytes.now) }
+        ensures stored { OnOk result
+            (files self.new ≡ with_file (files self.old) name.now bytes.now) }
         ensures refused { IsErrOf result StoreFault.NoMemory → files self.new ≡ files self.old }
-        ensures others { IsErrOf result StoreFault.Failed → SameBut name.now (files self.old) (files self.new) }
+        ensures others { IsErrOf result StoreFault.Failed →
+            SameBut name.now (files self.old) (files self.new) }
         ensures later { faults self.old ≤ faults self.new }
-        ensures failed { IsErrOf result StoreFault.Failed → Rose (faults self.old) (faults self.new) };
+        ensures failed { IsErrOf result StoreFault.Failed →
+            Rose (faults self.old) (faults self.new) };
 
     /// The count of faults ends at the greatest `u64`, and stands still there.
     ghost few: { (desk : Self) → faults desk ≤ 2 ^ 64 - 1 };

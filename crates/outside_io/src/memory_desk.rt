@@ -48,7 +48,8 @@ impl MemoryDesk {
 
     /// Sets the file of a name, and counts no store. Where there is no memory, nothing changes.
     pub fn put(&mut self, name: &str, bytes: &[u8]) -> Result<(), NoMemory>
-        ensures ok { OnOk result (files_in self.new ≡ insert (files_in self.old) name.now bytes.now) }
+        ensures ok { OnOk result
+            (files_in self.new ≡ insert (files_in self.old) name.now bytes.now) }
         ensures err { OnErr result (files_in self.new ≡ files_in self.old) }
         ensures fetches { fetches_of self.new ≡ fetches_of self.old }
         ensures stores { stores_of self.new ≡ stores_of self.old }
@@ -97,7 +98,8 @@ impl Desk for MemoryDesk {
         ensures failing_stores { failing_stores_of self.new ≡ failing_stores_of self.old }
         ensures later { faults_of self.old ≤ faults_of self.new }
         ensures calm { ¬ RefusesFetch self.old → faults_of self.new ≡ faults_of self.old }
-        ensures risen { RefusesFetch self.old → faults_of self.new ≡ next_count (faults_of self.old) }
+        ensures risen { RefusesFetch self.old →
+            faults_of self.new ≡ next_count (faults_of self.old) }
     {
         into.clear();
         self.fetches = self.fetches.saturating_add(1);
@@ -114,7 +116,8 @@ impl Desk for MemoryDesk {
     /// Puts a file in the place of the one of that name, if there is one. It fails exactly where its list names the
     /// store, and the files are then as before.
     fn store(&mut self, name: &str, bytes: &[u8]) -> Result<(), StoreFault>
-        ensures stored { OnOk result (files_in self.new ≡ insert (files_in self.old) name.now bytes.now) }
+        ensures stored { OnOk result
+            (files_in self.new ≡ insert (files_in self.old) name.now bytes.now) }
         ensures refused { OnErr result (files_in self.new ≡ files_in self.old) }
         ensures exactly { IsErrOf result StoreFault.Failed ↔ RefusesStore self.old }
         ensures fetches { fetches_of self.new ≡ fetches_of self.old }
@@ -123,7 +126,8 @@ impl Desk for MemoryDesk {
         ensures failing_stores { failing_stores_of self.new ≡ failing_stores_of self.old }
         ensures later { faults_of self.old ≤ faults_of self.new }
         ensures calm { ¬ RefusesStore self.old → faults_of self.new ≡ faults_of self.old }
-        ensures risen { RefusesStore self.old → faults_of self.new ≡ next_count (faults_of self.old) }
+        ensures risen { RefusesStore self.old →
+            faults_of self.new ≡ next_count (faults_of self.old) }
     {
         self.stores = self.stores.saturating_add(1);
         if is_listed(&self.failing_stores, self.stores) {

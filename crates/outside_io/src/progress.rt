@@ -64,7 +64,8 @@ impl<'a, K: Sink, P: Eprint> Sink for ProgressSink<'a, K, P> {
     /// Gives the other sink the first bytes of a piece.
     fn write(&mut self, bytes: &[u8]) -> Result<usize, Failed>
         ensures within { IfOk result (λ n. n ≤ length bytes.now) }
-        ensures taken { IfOk result (λ n. K.written self.new.sink ≡ appended (K.written self.old.sink) (take n bytes.now)) }
+        ensures taken { IfOk result
+            (λ n. K.written self.new.sink ≡ appended (K.written self.old.sink) (take n bytes.now)) }
         ensures some { IfOk result (λ n. 0 < length bytes.now → 0 < n) }
         ensures refused { OnErr result (K.written self.new.sink ≡ K.written self.old.sink) }
         ensures cause { HasCause (K.faults self.old.sink) (K.faults self.new.sink) result }

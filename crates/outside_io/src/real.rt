@@ -68,11 +68,15 @@ impl<'a, R: Files> Desk for FileDesk<'a, R> {
         ensures within { OnOk result (length into.new.items ≤ limit) }
         ensures refused { OnErr result (into.new.items ≡ []) }
         ensures long { (seen : ℕ) → IsErrOf result (FetchFault.TooLong seen) → limit < seen }
-        ensures calm { IsErrOf result FetchFault.Missing → desk_faults self.new ≡ desk_faults self.old }
+        ensures calm { IsErrOf result FetchFault.Missing →
+            desk_faults self.new ≡ desk_faults self.old }
         ensures later { desk_faults self.old ≤ desk_faults self.new }
-        ensures failed { IsErrOf result FetchFault.Failed → Rose (desk_faults self.old) (desk_faults self.new) }
-        ensures one { IsErrOf result FetchFault.Failed → desk_faults self.new ≡ next_count (desk_faults self.old) }
-        ensures none { ¬ IsErrOf result FetchFault.Failed → desk_faults self.new ≡ desk_faults self.old }
+        ensures failed { IsErrOf result FetchFault.Failed →
+            Rose (desk_faults self.old) (desk_faults self.new) }
+        ensures one { IsErrOf result FetchFault.Failed →
+            desk_faults self.new ≡ next_count (desk_faults self.old) }
+        ensures none { ¬ IsErrOf result FetchFault.Failed →
+            desk_faults self.new ≡ desk_faults self.old }
     {
         let result = open_whole(self.rt, name, limit, into);
         if result.is_err() {
@@ -96,9 +100,12 @@ impl<'a, R: Files> Desk for FileDesk<'a, R> {
     fn store(&mut self, name: &str, bytes: &[u8]) -> Result<(), StoreFault>
         ensures stored { OnOk result (None ≡ with_file None name.now bytes.now) }
         ensures later { desk_faults self.old ≤ desk_faults self.new }
-        ensures failed { IsErrOf result StoreFault.Failed → Rose (desk_faults self.old) (desk_faults self.new) }
-        ensures one { IsErrOf result StoreFault.Failed → desk_faults self.new ≡ next_count (desk_faults self.old) }
-        ensures none { ¬ IsErrOf result StoreFault.Failed → desk_faults self.new ≡ desk_faults self.old }
+        ensures failed { IsErrOf result StoreFault.Failed →
+            Rose (desk_faults self.old) (desk_faults self.new) }
+        ensures one { IsErrOf result StoreFault.Failed →
+            desk_faults self.new ≡ next_count (desk_faults self.old) }
+        ensures none { ¬ IsErrOf result StoreFault.Failed →
+            desk_faults self.new ≡ desk_faults self.old }
     {
         match store_whole(self.alloc, self.rt, name, bytes) {
             Ok(()) => Ok(()),

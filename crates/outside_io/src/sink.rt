@@ -22,7 +22,8 @@ pub trait Sink {
     /// Takes the first bytes of a piece, at least one where there is one, and says how many.
     fn write(&mut self, bytes: &[u8]) -> Result<usize, Failed>
         ensures within { IfOk result (λ n. n ≤ length bytes.now) }
-        ensures taken { IfOk result (λ n. written self.new ≡ appended (written self.old) (take n bytes.now)) }
+        ensures taken { IfOk result
+            (λ n. written self.new ≡ appended (written self.old) (take n bytes.now)) }
         ensures some { IfOk result (λ n. 0 < length bytes.now → 0 < n) }
         ensures refused { OnErr result (written self.new ≡ written self.old) }
         ensures cause { HasCause (faults self.old) (faults self.new) result };
@@ -35,7 +36,8 @@ pub trait Sink {
 /// not all of them.
 pub fn put_all<K: Sink>(sink: &mut K, bytes: &[u8]) -> Result<(), Failed>
     ensures ok { OnOk result (K.written sink.new ≡ appended (K.written sink.old) bytes.now) }
-    ensures failed { OnErr result (AppendsPart (K.written sink.old) (K.written sink.new) bytes.now) }
+    ensures failed { OnErr result
+        (AppendsPart (K.written sink.old) (K.written sink.new) bytes.now) }
     ensures cause { HasCause (K.faults sink.old) (K.faults sink.new) result }
 {
     let mut done = 0;

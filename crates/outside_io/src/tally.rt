@@ -72,7 +72,8 @@ impl Sink for TallySink {
     /// Takes the piece whole.
     fn write(&mut self, bytes: &[u8]) -> Result<usize, Failed>
         ensures within { IfOk result (λ n. n ≤ length bytes.now) }
-        ensures taken { IfOk result (λ n. Some (told_to self.new) ≡ appended (Some (told_to self.old)) (take n bytes.now)) }
+        ensures taken { IfOk result
+            (λ n. Some (told_to self.new) ≡ appended (Some (told_to self.old)) (take n bytes.now)) }
         ensures some { IfOk result (λ n. 0 < length bytes.now → 0 < n) }
         ensures refused { OnErr result (told_to self.new ≡ told_to self.old) }
         ensures cause { HasCause 0 0 result }

@@ -120,7 +120,8 @@ fn reach_of(within: u32) -> u32
 fn below(a: i128, reach: u32) -> i128
     requires within { unsigned_abs a ≤ HALF_MAX }
     requires short { reach ≤ EXTENT_MAX }
-    ensures ends { (b : ℤ) → unsigned_abs b ≤ HALF_MAX → unsigned_abs (a -ℤ b) ≤ reach → result ≤ℤ b }
+    ensures ends { (b : ℤ) → unsigned_abs b ≤ HALF_MAX → unsigned_abs (a -ℤ b) ≤ reach →
+        result ≤ℤ b }
     ensures size { unsigned_abs result ≤ EXTENT_MAX }
     ensures order { result ≤ℤ a }
 {
@@ -133,7 +134,8 @@ fn below(a: i128, reach: u32) -> i128
 fn above(a: i128, reach: u32) -> i128
     requires within { unsigned_abs a ≤ HALF_MAX }
     requires short { reach ≤ EXTENT_MAX }
-    ensures ends { (b : ℤ) → unsigned_abs b ≤ HALF_MAX → unsigned_abs (a -ℤ b) ≤ reach → b ≤ℤ result }
+    ensures ends { (b : ℤ) → unsigned_abs b ≤ HALF_MAX → unsigned_abs (a -ℤ b) ≤ reach →
+        b ≤ℤ result }
     ensures size { unsigned_abs result ≤ EXTENT_MAX }
     ensures order { a ≤ℤ result }
 {
@@ -146,7 +148,8 @@ fn above(a: i128, reach: u32) -> i128
 fn corner_below(p: Wide, reach: u32) -> Wide
     requires within { IsWithin HALF_MAX p }
     requires short { reach ≤ EXTENT_MAX }
-    ensures ends { (q : Triple) → IsWithin HALF_MAX q → IsWithin reach (minus p q) → IsUnder result q }
+    ensures ends { (q : Triple) → IsWithin HALF_MAX q → IsWithin reach (minus p q) →
+        IsUnder result q }
     ensures size { IsWithin EXTENT_MAX result }
     ensures order { IsUnder result p }
 {
@@ -161,7 +164,8 @@ fn corner_below(p: Wide, reach: u32) -> Wide
 fn corner_above(p: Wide, reach: u32) -> Wide
     requires within { IsWithin HALF_MAX p }
     requires short { reach ≤ EXTENT_MAX }
-    ensures ends { (q : Triple) → IsWithin HALF_MAX q → IsWithin reach (minus p q) → IsUnder q result }
+    ensures ends { (q : Triple) → IsWithin HALF_MAX q → IsWithin reach (minus p q) →
+        IsUnder q result }
     ensures size { IsWithin EXTENT_MAX result }
     ensures order { IsUnder p result }
 {

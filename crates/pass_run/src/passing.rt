@@ -269,7 +269,8 @@ pub fn pass<S: Surface, K: Sink>(
     ensures clear { IsClearMesh (S.mesh mesh.new) }
     ensures marks { BeginsWith (S.kept mesh.new) (S.kept mesh.old) }
     ensures later { K.faults out.old ≤ K.faults out.new }
-    ensures cause { IsErrOf result PassFault.SinkFault → Rose (K.faults out.old) (K.faults out.new) }
+    ensures cause { IsErrOf result PassFault.SinkFault →
+        Rose (K.faults out.old) (K.faults out.new) }
 {
     write_line(alloc, out, &LogLine::Pass(kind))?;
     let terms = PassTerms {

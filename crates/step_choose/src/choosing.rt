@@ -47,7 +47,8 @@ fn first_way<S: Surface>(
     requires clear { IsClearMesh (S.mesh mesh.now) }
     requires hits { hits.now ≡ failing meets_exactly (S.mesh mesh.now) asked.now set.depth }
     requires limits { AreWithinLimits set }
-    ensures { IfOk result (λ found. way_by found ≡ way_taken meets_exactly (S.mesh mesh.now) asked.now set) }
+    ensures { IfOk result
+        (λ found. way_by found ≡ way_taken meets_exactly (S.mesh mesh.now) asked.now set) }
 {
     if hits.len() == 0 {
         return Ok(Found {
@@ -93,13 +94,17 @@ pub fn choose<S: Surface>(
     requires clear { IsClearMesh (S.mesh mesh.now) }
     requires solid { SolidsRest (S.mesh mesh.now) asked.now }
     requires limits { AreWithinLimits set.now }
-    ensures hits { IfOk result (λ c. c.hits ≡ failing meets_exactly (S.mesh mesh.now) asked.now set.now.depth) }
-    ensures way { IfOk result (λ c. way_of c ≡ way_taken meets_exactly (S.mesh mesh.now) asked.now set.now) }
-    ensures first { IfOk result (λ c. IsFirstWay meets_exactly (S.mesh mesh.now) asked.now set.now c.how c.taken) }
+    ensures hits { IfOk result
+        (λ c. c.hits ≡ failing meets_exactly (S.mesh mesh.now) asked.now set.now.depth) }
+    ensures way { IfOk result
+        (λ c. way_of c ≡ way_taken meets_exactly (S.mesh mesh.now) asked.now set.now) }
+    ensures first { IfOk result
+        (λ c. IsFirstWay meets_exactly (S.mesh mesh.now) asked.now set.now c.how c.taken) }
 
     // The shifts taken name the live vertices, end in the box, leave solid vertices where they are, and keep the mesh clear
     // at every fraction.
-    ensures clear_along { IfOk result (λ c. IsClearAlong (S.mesh mesh.now) (moved_by (S.mesh mesh.now) c.taken)) }
+    ensures clear_along { IfOk result
+        (λ c. IsClearAlong (S.mesh mesh.now) (moved_by (S.mesh mesh.now) c.taken)) }
     ensures names { IfOk result (λ c. NameLive (S.mesh mesh.now) c.taken) }
     ensures ends { IfOk result (λ c. IsTrue (end_in_box (S.mesh mesh.now) c.taken)) }
     ensures solid { IfOk result (λ c. SolidsRest (S.mesh mesh.now) c.taken) }

@@ -56,7 +56,9 @@ pub(crate) fn by_halving<S: Surface>(
     requires named { NameLive (S.mesh mesh.now) asked.now }
     requires in_box { IsTrue (end_in_box (S.mesh mesh.now) asked.now) }
     requires limits { AreWithinLimits set }
-    ensures { IfOk result (λ found. option_map way_by found ≡ halved_way meets_exactly (S.mesh mesh.now) asked.now set.depth set.halvings) }
+    ensures { IfOk result
+        (λ found. option_map way_by found ≡ halved_way meets_exactly
+            (S.mesh mesh.now) asked.now set.depth set.halvings) }
 {
     for k in 0..set.halvings {
         let times = k + 1;

@@ -29,7 +29,9 @@ pub(crate) fn by_impulses<S: Surface>(
     requires named { NameLive (S.mesh mesh.now) asked.now }
     requires hits { hits.now ≡ failing meets_exactly (S.mesh mesh.now) asked.now set.depth }
     requires limits { AreWithinLimits set }
-    ensures { IfOk result (λ found. option_map way_by found ≡ impulse_way meets_exactly (S.mesh mesh.now) asked.now set.depth set.passes) }
+    ensures { IfOk result
+        (λ found. option_map way_by found ≡ impulse_way meets_exactly
+            (S.mesh mesh.now) asked.now set.depth set.passes) }
 {
     let mut taken = copy_of(alloc, asked.as_slice())?;
     let mut failed = copy_of(alloc, hits.as_slice())?;

@@ -25,7 +25,9 @@ pub(crate) fn by_zones<S: Surface>(
     requires named { NameLive (S.mesh mesh.now) asked.now }
     requires clear { IsClearMesh (S.mesh mesh.now) }
     requires limits { AreWithinLimits set }
-    ensures { IfOk result (λ found. option_map way_by found ≡ zones_way meets_exactly (S.mesh mesh.now) asked.now set.depth set.zones) }
+    ensures { IfOk result
+        (λ found. option_map way_by found ≡ zones_way meets_exactly
+            (S.mesh mesh.now) asked.now set.depth set.zones) }
 {
     if !set.zones {
         return Ok(None);

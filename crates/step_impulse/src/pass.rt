@@ -93,7 +93,8 @@ fn put_five(shifts: &mut Shifts, ids: &[VertexId; 5], by: &[Shift; 5])
 // One impulse on a pair of the mesh.
 fn impulse_on<S: Surface>(mesh: &S, name: &PairName, shifts: &mut Shifts)
     requires { IsStrictlySortedBy nat_cmp (map (λ s. s.v) shifts.old) }
-    ensures { shifts.new ≡ after_pair (S.mesh mesh.now) shifts.old (pair_named (S.mesh mesh.now) name.now) }
+    ensures { shifts.new ≡ after_pair (S.mesh mesh.now) shifts.old
+        (pair_named (S.mesh mesh.now) name.now) }
 {
     let ids = five_of(mesh, name);
     let start = five_points(mesh, &ids);
@@ -111,7 +112,8 @@ fn impulse_on<S: Surface>(mesh: &S, name: &PairName, shifts: &mut Shifts)
 /// Bridson 2009).
 pub fn impulse_pass<S: Surface>(mesh: &S, hits: &Pairs, shifts: &mut Shifts)
     requires { NameLive (S.mesh mesh.now) shifts.old }
-    ensures after { shifts.new ≡ after_pass (S.mesh mesh.now) (pairs_named (S.mesh mesh.now) hits.now) shifts.old }
+    ensures after { shifts.new ≡ after_pass (S.mesh mesh.now)
+        (pairs_named (S.mesh mesh.now) hits.now) shifts.old }
     ensures names { NameLive (S.mesh mesh.now) shifts.new }
     // A solid vertex that had no shift has none.
     ensures solid { SolidsStay (S.mesh mesh.now) shifts.old shifts.new }

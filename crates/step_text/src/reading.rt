@@ -180,7 +180,8 @@ fn directive(first: &[u8], words: Words<'_>) -> Result<Directive, TextWhy>
 
 // Opens the group of a line, or closes the innermost one, if the directive is to.
 fn nest(groups: &mut Vec<u32>, what: &Directive, line: u32) -> Result<(), ReadFault>
-    ensures { Leaves groups.new.items result (at_line line (spec.groups_behind line what.now groups.old.items)) }
+    ensures { Leaves groups.new.items result
+        (at_line line (spec.groups_behind line what.now groups.old.items)) }
 {
     let why = TextWhy::Nesting;
     match what {

@@ -42,7 +42,8 @@ pub(crate) fn zone_shifts<S: Surface>(
     requires each { length labels.now ≡ length asked.now }
     requires few { length asked.now ≤ VERTICES_MAX }
     requires named { AreNamed asked.now labels.now }
-    ensures { IfOk result (λ shifts. shifts ≡ labelled_shifts (S.mesh mesh.now) asked.now labels.now) }
+    ensures { IfOk result
+        (λ shifts. shifts ≡ labelled_shifts (S.mesh mesh.now) asked.now labels.now) }
 {
     let totals = totals_of(alloc, mesh, asked, labels)?;
     let mut shifts = Shifts::new(alloc);
@@ -65,7 +66,9 @@ fn members(
 ) -> Result<Ids, NoMemory>
     requires rising { IsStrictlySortedBy nat_cmp (map (λ s. s.v) asked.now) }
     requires each { length labels.now ≡ length asked.now }
-    ensures { IfOk result (λ ids. ids ≡ filter (λ v. label_by asked.now labels.now v == l) (map (λ s. s.v) asked.now)) }
+    ensures { IfOk result
+        (λ ids. ids ≡ filter
+            (λ v. label_by asked.now labels.now v == l) (map (λ s. s.v) asked.now)) }
 {
     let mut ids = Ids::new(alloc);
     for (i, s) in asked.iter().enumerate() {
@@ -93,7 +96,8 @@ pub(crate) fn blocks_of<S: Surface>(
     requires rising { IsStrictlySortedBy nat_cmp (map (λ s. s.v) asked.now) }
     requires each { length labels.now ≡ length asked.now }
     requires few { length asked.now ≤ VERTICES_MAX }
-    ensures { IfOk result (λ blocks. blocks ≡ labelled_blocks (S.mesh mesh.now) asked.now labels.now) }
+    ensures { IfOk result
+        (λ blocks. blocks ≡ labelled_blocks (S.mesh mesh.now) asked.now labels.now) }
 {
     let totals = totals_of(alloc, mesh, asked, labels)?;
     let mut blocks = Blocks::new(alloc);

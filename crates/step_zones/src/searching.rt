@@ -30,14 +30,16 @@ pub fn zones<S: Surface>(
     requires named { NameLive (S.mesh mesh.now) asked.now }
     requires clear { IsClearMesh (S.mesh mesh.now) }
     requires depth { depth ≤ DEPTH_MAX }
-    ensures zoned { IfOk result (λ z. z ≡ zoned_taken meets_exactly (S.mesh mesh.now) asked.now depth) }
+    ensures zoned { IfOk result
+        (λ z. z ≡ zoned_taken meets_exactly (S.mesh mesh.now) asked.now depth) }
     // None: a round leaves the box before one serves. Some: the round serves, and none before it does.
     ensures first { IfOk result (ServesFirst meets_exactly (S.mesh mesh.now) asked.now depth) }
     // Where a vertex lives there are fewer rounds than live vertices.
     ensures few { IfOk result (λ z. IfSome z (IsBelowVertices (S.mesh mesh.now))) }
     ensures names { IfOk result (λ z. IfSome z (λ r. NameLive (S.mesh mesh.now) r.taken)) }
     // A solid vertex of which no shift is asked gets none.
-    ensures solid { IfOk result (λ z. IfSome z (λ r. SolidsStay (S.mesh mesh.now) asked.now r.taken)) }
+    ensures solid { IfOk result
+        (λ z. IfSome z (λ r. SolidsStay (S.mesh mesh.now) asked.now r.taken)) }
 {
     let mut labels = alone(alloc, asked.as_slice())?;
     let mut rounds = 0;

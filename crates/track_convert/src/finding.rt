@@ -51,7 +51,8 @@ pub(crate) fn find<D: Desk>(
     ensures finds { IfOk result (Finds (D.files desk.old) (mesh_name from.entry) decimals) }
     ensures kept { D.files desk.new ≡ D.files desk.old }
     ensures later { D.faults desk.old ≤ D.faults desk.new }
-    ensures cause { IsErrOf result InputFault.DeskFault → Rose (D.faults desk.old) (D.faults desk.new) }
+    ensures cause { IsErrOf result InputFault.DeskFault →
+        Rose (D.faults desk.old) (D.faults desk.new) }
 {
     let bytes = match fetch_file(alloc, desk, from.name)? {
         Fetched::Bytes(bytes) => bytes,

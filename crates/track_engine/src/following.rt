@@ -28,7 +28,8 @@ fn settle_outside_groups<S: Surface>(mesh: &mut S, groups: &OpenGroups)
     requires { MarksHold S.beyond (S.kept mesh.old) groups.now }
     ensures mesh { S.mesh mesh.new ≡ S.mesh mesh.old }
     ensures marks { MarksHold S.beyond (S.kept mesh.new) groups.now }
-    ensures groups { groups_of (S.kept mesh.new) groups.now ≡ groups_of (S.kept mesh.old) groups.now }
+    ensures groups { groups_of (S.kept mesh.new) groups.now ≡ groups_of
+        (S.kept mesh.old) groups.now }
 {
     if !groups.is_open() {
         mesh.settle();

@@ -25,7 +25,8 @@ fn group_here<S: Surface>(
     asked: &[ShiftOf],
 ) -> Result<OpenGroup, NoMemory>
     ensures holds { IfOk result (λ group. MarkHolds S.beyond (S.kept mesh.new) group.mark) }
-    ensures stands { IfOk result (λ group. StandsFor (S.kept mesh.new) group.mark (S.mesh mesh.old)) }
+    ensures stands { IfOk result
+        (λ group. StandsFor (S.kept mesh.new) group.mark (S.mesh mesh.old)) }
     ensures under { IfOk result (λ group. group.mark.under ≡ length (S.kept mesh.old)) }
     ensures asked { IfOk result (λ group. group.asked ≡ asked.now) }
     ensures failed { IfOk result (λ group. group.failed ≡ false) }

@@ -15,7 +15,8 @@ use std::alloc::Global;
 pub fn say<K: Sink>(alloc: Global, out: &mut K, line: &LogLine) -> Result<(), Stop>
     ensures said { Written (K.written out.old) (K.written out.new) (line.now ∷ []) result }
     // An error leaves a part of the line that is not all of it, perhaps nothing.
-    ensures part { OnErr result (AppendsPart (K.written out.old) (K.written out.new) (text_of_line line.now)) }
+    ensures part { OnErr result
+        (AppendsPart (K.written out.old) (K.written out.new) (text_of_line line.now)) }
     ensures later { K.faults out.old ≤ K.faults out.new }
     ensures cause { IsErrOf result Stop.SinkFault → Rose (K.faults out.old) (K.faults out.new) }
     ensures desk { IsErrOf result Stop.DeskFault → ⊥ }
@@ -40,7 +41,8 @@ fn ending_of(last: &LogLine) -> Option<Refusal>
 /// Writes the last line of the log, and answers the refusal that it tells, if it tells one.
 pub fn finish<K: Sink>(alloc: Global, out: &mut K, last: LogLine) -> Result<Option<Refusal>, Stop>
     ensures said { Written (K.written out.old) (K.written out.new) (last ∷ []) result }
-    ensures part { OnErr result (AppendsPart (K.written out.old) (K.written out.new) (text_of_line last)) }
+    ensures part { OnErr result
+        (AppendsPart (K.written out.old) (K.written out.new) (text_of_line last)) }
     ensures ending { IfOk result (λ ending. ending ≡ ending_of last) }
     ensures later { K.faults out.old ≤ K.faults out.new }
     ensures cause { IsErrOf result Stop.SinkFault → Rose (K.faults out.old) (K.faults out.new) }

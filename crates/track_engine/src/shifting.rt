@@ -51,8 +51,10 @@ fn component_sum(a: i32, b: i32) -> i32
 
 // The sum of two shifts, where it is one.
 fn sum(a: Shift, b: Shift) -> Option<Shift>
-    ensures made { IfSome result (λ s. displacement_of s ≡ plus (displacement_of a) (displacement_of b)) }
-    ensures some { IsSome result ↔ IsWithin SHIFT_MAX (plus (displacement_of a) (displacement_of b)) }
+    ensures made { IfSome result
+        (λ s. displacement_of s ≡ plus (displacement_of a) (displacement_of b)) }
+    ensures some { IsSome result ↔ IsWithin SHIFT_MAX
+        (plus (displacement_of a) (displacement_of b)) }
 {
     Shift::new(
         component_sum(a.x, b.x),

@@ -17,7 +17,8 @@ use step_choose::Choice;
 
 // The line of a shift, where it is not zero.
 fn say_move<K: Sink>(alloc: Global, s: &ShiftOf, out: &mut K) -> Result<(), Stop>
-    ensures said { Written (K.written out.old) (K.written out.new) (move_lines (s.now ∷ [])) result }
+    ensures said { Written (K.written out.old) (K.written out.new)
+        (move_lines (s.now ∷ [])) result }
     ensures later { K.faults out.old ≤ K.faults out.new }
     ensures cause { IsErrOf result Stop.SinkFault → Rose (K.faults out.old) (K.faults out.new) }
     ensures desk { IsErrOf result Stop.DeskFault → ⊥ }
@@ -82,7 +83,8 @@ fn say_blocks<K: Sink>(alloc: Global, blocks: &[Ids], out: &mut K) -> Result<(),
 
 // The lines of the blocks, of the shifts that are taken, and of the way.
 fn say_way<K: Sink>(alloc: Global, choice: &Choice, out: &mut K) -> Result<(), Stop>
-    ensures said { Written (K.written out.old) (K.written out.new) (way_lines (way_of choice.now)) result }
+    ensures said { Written (K.written out.old) (K.written out.new)
+        (way_lines (way_of choice.now)) result }
     ensures later { K.faults out.old ≤ K.faults out.new }
     ensures cause { IsErrOf result Stop.SinkFault → Rose (K.faults out.old) (K.faults out.new) }
     ensures desk { IsErrOf result Stop.DeskFault → ⊥ }

@@ -24,7 +24,8 @@ pub fn fetch_file<D: Desk>(alloc: Global, desk: &mut D, name: &str) -> Result<Fe
     ensures source { IfOk result (λ found. IsSource (D.files desk.old) name.now (source_of found)) }
     ensures kept { D.files desk.new ≡ D.files desk.old }
     ensures later { D.faults desk.old ≤ D.faults desk.new }
-    ensures cause { IsErrOf result InputFault.DeskFault → Rose (D.faults desk.old) (D.faults desk.new) }
+    ensures cause { IsErrOf result InputFault.DeskFault →
+        Rose (D.faults desk.old) (D.faults desk.new) }
 {
     let mut bytes = Vec::new(alloc);
     match desk.fetch(name, TEXT_MAX, &mut bytes) {

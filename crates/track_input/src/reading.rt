@@ -57,10 +57,12 @@ pub fn prepare<D: Desk>(
     desk: &mut D,
 ) -> Result<Ready, InputFault>
     requires few { decimals ≤ DECIMALS_MAX }
-    ensures prepares { IfOk result (Prepares (D.files desk.old) mesh_name.now step_name.now decimals) }
+    ensures prepares { IfOk result
+        (Prepares (D.files desk.old) mesh_name.now step_name.now decimals) }
     ensures kept { D.files desk.new ≡ D.files desk.old }
     ensures later { D.faults desk.old ≤ D.faults desk.new }
-    ensures cause { IsErrOf result InputFault.DeskFault → Rose (D.faults desk.old) (D.faults desk.new) }
+    ensures cause { IsErrOf result InputFault.DeskFault →
+        Rose (D.faults desk.old) (D.faults desk.new) }
 {
     let mesh = match fetch_file(alloc, desk, mesh_name)? {
         Fetched::Bytes(bytes) => bytes,

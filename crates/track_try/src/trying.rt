@@ -38,8 +38,10 @@ fn summary(alloc: Global, n: u8, key: u32) -> Result<Vec<u8>, NoMemory>
 /// of it; want of memory leaves nothing.
 pub fn try_cubes<K: Sink>(alloc: Global, n: u8, key: u32, out: &mut K) -> Result<(), TryFault>
     requires { IsRow n }
-    ensures done { OnOk result (K.written out.new ≡ appended (K.written out.old) (summary_of n key)) }
-    ensures stopped { OnErr result (AppendsPart (K.written out.old) (K.written out.new) (summary_of n key)) }
+    ensures done { OnOk result
+        (K.written out.new ≡ appended (K.written out.old) (summary_of n key)) }
+    ensures stopped { OnErr result
+        (AppendsPart (K.written out.old) (K.written out.new) (summary_of n key)) }
     ensures later { K.faults out.old ≤ K.faults out.new }
     ensures cause { IsErrOf result TryFault.SinkFault → Rose (K.faults out.old) (K.faults out.new) }
 {

@@ -141,7 +141,8 @@ fn shift_by<S: Surface>(
     rt: &impl Abort,
 ) -> ShiftOf
     ensures named { result.v ≡ v }
-    ensures in_box { is_within BOX (plus (rest_positions (S.mesh mesh.now) v) (displacement_of result.by)) ≡ true }
+    ensures in_box { is_within BOX
+        (plus (rest_positions (S.mesh mesh.now) v) (displacement_of result.by)) ≡ true }
 {
     let from = mesh.point(v).expect(rt, "a live vertex");
     let to = numbers.point_near(thrown(from, v, plan.throw, rt), plan.step, rt);
