@@ -61,7 +61,8 @@ fn put(nodes: &mut Vec<Node>, boxes: &[SmallBox], order: &[u64]) -> Result<(), N
     requires { IsTree (reverse nodes.old.items) }
     ensures tree { OnOk result (IsTree (reverse nodes.new.items)) }
     ensures all { let items = filter_map (placed boxes.now) order.now in
-        OnOk result (entries (reverse nodes.new.items) ≡ items ++ entries (reverse nodes.old.items)) }
+        OnOk result
+            (entries (reverse nodes.new.items) ≡ items ++ entries (reverse nodes.old.items)) }
 {
     let mut k = order.len();
     while k > 0 {
@@ -79,7 +80,8 @@ pub(crate) fn grow(nodes: &mut Vec<Node>, boxes: &[SmallBox], order: &[u64]) -> 
     requires { IsTree (reverse nodes.old.items) }
     ensures tree { OnOk result (IsTree (reverse nodes.new.items)) }
     ensures all { let items = filter_map (placed boxes.now) order.now in
-        OnOk result (entries (reverse nodes.new.items) ≡ items ++ entries (reverse nodes.old.items)) }
+        OnOk result
+            (entries (reverse nodes.new.items) ≡ items ++ entries (reverse nodes.old.items)) }
 {
     let from = nodes.len();
     if order.len() <= LEAF {

@@ -38,7 +38,8 @@ impl Model for BoxTree {
 
     ghost view = { λ t. map.from_entries (entries (reverse t.nodes.items)) };
 
-    ghost invariant = { λ t. IsTree (reverse t.nodes.items) × AreFoundByFirst (entries (reverse t.nodes.items)) };
+    ghost invariant = { λ t. IsTree (reverse t.nodes.items) ×
+        AreFoundByFirst (entries (reverse t.nodes.items)) };
 }
 
 // Puts the numbers in order, each of them once.

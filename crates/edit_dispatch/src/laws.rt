@@ -31,5 +31,6 @@ pub fn new_points_are_midpoints()
     ensures split { (m : Mesh) (s : Edge) →
         position_of (split_point m s) ≡ floor_mid_of (rest_positions m s.a) (rest_positions m s.b) }
     ensures collapse { (m : Mesh) (a b : ℕ) → has_solid_end m a b ≡ false →
-        position_of (collapse_point m a b) ≡ floor_mid_of (rest_positions m a) (rest_positions m b) }
+        position_of (collapse_point m a b) ≡
+            floor_mid_of (rest_positions m a) (rest_positions m b) }
 {}

@@ -108,7 +108,8 @@ impl Fans {
     pub(crate) fn set(&mut self, v: u32, vertex: Vertex)
         requires { IsSome (map.get self.old.woven.fans v) }
         ensures { (fan : Fan) → map.get self.old.woven.fans v ≡ Some fan →
-            self.new ≡ with_fans self.old (map.insert self.old.woven.fans v (record fan { vertex = vertex })) }
+            self.new ≡ with_fans self.old
+                (map.insert self.old.woven.fans v (record fan { vertex = vertex })) }
     {
         if let Some(row) = self.rows.get(v) {
             self.rows.set(v, Row { vertex, ..row });

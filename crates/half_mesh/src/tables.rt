@@ -74,7 +74,8 @@ impl Tables {
     pub(crate) fn new(alloc: Global) -> Tables
         ensures { result.state ≡ record {
             mesh = record {
-                points = map.empty; faces = map.empty; solid = map.empty; next_vertex = 1; next_face = 1 };
+                points = map.empty; faces = map.empty; solid = map.empty;
+                next_vertex = 1; next_face = 1 };
             buried = none_buried } }
     {
         Tables {

@@ -85,10 +85,12 @@ pub(crate) fn answer<D: Desk, K: Sink, F: Fn(u8, Point) -> Shift>(
     fields: &Fields<F>,
 ) -> Outcome
     requires { IsWellKept F.Fn fields.now }
-    ensures help { is_help (map (λ word. string_bytes word) words.now) ≡ true → Tells USAGE.now result
+    ensures help { is_help (map (λ word. string_bytes word) words.now) ≡ true →
+        Tells USAGE.now result
         (world D.files D.faults K.written K.faults desk.old out.old)
         (world D.files D.faults K.written K.faults desk.new out.new) }
-    ensures version { is_version (map (λ word. string_bytes word) words.now) ≡ true → Tells VERSION_LINE.now result
+    ensures version { is_version (map (λ word. string_bytes word) words.now) ≡ true →
+        Tells VERSION_LINE.now result
         (world D.files D.faults K.written K.faults desk.old out.old)
         (world D.files D.faults K.written K.faults desk.new out.new) }
     ensures runs { is_help (map (λ word. string_bytes word) words.now) ≡ false →

@@ -52,7 +52,8 @@ fn refuse<D: Desk, K: Sink>(
     out: &mut K,
 ) -> Result<Option<Refusal>, ConvertFault>
     ensures ends { Ends (mesh_name to.entry) decimals (Err why.now) result
-        (contents D.files K.written desk.now out.old) (contents D.files K.written desk.now out.new) }
+        (contents D.files K.written desk.now out.old)
+        (contents D.files K.written desk.now out.new) }
     ensures causes { HasCauses (world D.files D.faults K.written K.faults desk.now out.old)
         (world D.files D.faults K.written K.faults desk.now out.new) result }
 {
@@ -76,7 +77,8 @@ fn store_and_tell<D: Desk, K: Sink>(
     requires few { decimals ≤ DECIMALS_MAX }
     requires good { shape_fault (length lists.now.points) lists.now.faces ≡ None }
     ensures ends { Ends (mesh_name to.entry) decimals (Ok (lists_view lists.now)) result
-        (contents D.files K.written desk.old out.old) (contents D.files K.written desk.new out.new) }
+        (contents D.files K.written desk.old out.old)
+        (contents D.files K.written desk.new out.new) }
     ensures causes { HasCauses (world D.files D.faults K.written K.faults desk.old out.old)
         (world D.files D.faults K.written K.faults desk.new out.new) result }
 {

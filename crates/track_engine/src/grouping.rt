@@ -50,7 +50,8 @@ pub(crate) fn open_group<S: Surface, K: Sink>(
     out: &mut K,
 ) -> Result<Option<UseWhy>, Stop>
     requires { MarksHold S.beyond (S.kept mesh.old) run.old.groups }
-    ensures writes { Writes (effect_of None Group (state_of (S.mesh mesh.old) (S.kept mesh.old) run.old))
+    ensures writes { Writes
+        (effect_of None Group (state_of (S.mesh mesh.old) (S.kept mesh.old) run.old))
         (state_of (S.mesh mesh.new) (S.kept mesh.new) run.new)
         (K.written out.old) (K.written out.new) result }
     ensures taken { IfOk result (λ refused. refused ≡ None) }
@@ -85,7 +86,8 @@ pub(crate) fn close_group<S: Surface, K: Sink>(
     out: &mut K,
 ) -> Result<Option<UseWhy>, Stop>
     requires { MarksHold S.beyond (S.kept mesh.old) run.old.groups }
-    ensures writes { Writes (effect_of None Close (state_of (S.mesh mesh.old) (S.kept mesh.old) run.old))
+    ensures writes { Writes
+        (effect_of None Close (state_of (S.mesh mesh.old) (S.kept mesh.old) run.old))
         (state_of (S.mesh mesh.new) (S.kept mesh.new) run.new)
         (K.written out.old) (K.written out.new) result }
     ensures taken { IfOk result (λ refused. refused ≡ None) }

@@ -12,7 +12,8 @@ use grid_base::{Point, Shift};
 
 /// Where no field is stored, whatever type they would have, answers to directives are as good as none: the log is the same.
 pub fn logs_without_fields_need_no_answers<F: Fn(u8, Point) -> Shift>()
-    ensures { (fields : StoredFields F) (whole : Bool) (answers : Answers) (steps : List Placed) (s : State) →
+    ensures { (fields : StoredFields F) (whole : Bool) (answers : Answers) (steps : List Placed)
+        (s : State) →
         fields.names ≡ [] → AreAnswered (known F.Fn fields) whole answers steps s →
         log_from answers steps s ≡ log_from [] steps s }
 {}

@@ -56,7 +56,8 @@ pub(crate) fn save<S: Surface, D: Desk, K: Sink>(
     out: &mut K,
 ) -> Result<(), Stop>
     requires { to.decimals ≤ DECIMALS_MAX }
-    ensures saves { (stack : List Mesh) → Saves (target_of to.entry) k (at_mesh_in_groups (S.mesh mesh.now) stack)
+    ensures saves { (stack : List Mesh) →
+        Saves (target_of to.entry) k (at_mesh_in_groups (S.mesh mesh.now) stack)
         (contents D.files K.written desk.old out.old)
         (contents D.files K.written desk.new out.new) result }
     ensures causes { HasCauses (world D.files D.faults K.written K.faults desk.old out.old)

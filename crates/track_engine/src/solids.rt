@@ -26,7 +26,8 @@ pub(crate) fn take_solid<S: Surface, K: Sink>(
 ) -> Result<Option<UseWhy>, Stop>
     requires kept { IsRunInvariant (state_of (S.mesh mesh.old) (S.kept mesh.old) run.old) }
     requires marks { MarksHold S.beyond (S.kept mesh.old) run.old.groups }
-    ensures writes { Writes (effect_of None (Solid v) (state_of (S.mesh mesh.old) (S.kept mesh.old) run.old))
+    ensures writes { Writes
+        (effect_of None (Solid v) (state_of (S.mesh mesh.old) (S.kept mesh.old) run.old))
         (state_of (S.mesh mesh.new) (S.kept mesh.new) run.new)
         (K.written out.old) (K.written out.new) result }
     ensures left { let old = state_of (S.mesh mesh.old) (S.kept mesh.old) run.old in

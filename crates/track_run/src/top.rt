@@ -92,8 +92,10 @@ fn begin<S: Surface + Drop, D: Desk, K: Sink, F: Fn(u8, Point) -> Shift>(
     requires ranges { AreInRange steps.now }
     requires count { length steps.now < 2 ^ 31 }
     requires fields { IsWellKept F.Fn fields.now }
-    ensures follows { FollowsMesh (known F.Fn fields.now) (target_of to.entry) (S.mesh mesh) steps.now
-        (contents D.files K.written desk.old out.old) (contents D.files K.written desk.new out.new) result }
+    ensures follows { FollowsMesh (known F.Fn fields.now) (target_of to.entry)
+        (S.mesh mesh) steps.now
+        (contents D.files K.written desk.old out.old)
+        (contents D.files K.written desk.new out.new) result }
     ensures causes { HasCauses (world D.files D.faults K.written K.faults desk.old out.old)
         (world D.files D.faults K.written K.faults desk.new out.new) result }
 {
@@ -119,8 +121,10 @@ fn test_and_begin<S: Surface + Drop, D: Desk, K: Sink, F: Fn(u8, Point) -> Shift
     requires ranges { AreInRange steps.now }
     requires count { length steps.now < 2 ^ 31 }
     requires fields { IsWellKept F.Fn fields.now }
-    ensures follows { FollowsTest (known F.Fn fields.now) (target_of to.entry) (S.mesh mesh) steps.now
-        (contents D.files K.written desk.old out.old) (contents D.files K.written desk.new out.new) result }
+    ensures follows { FollowsTest (known F.Fn fields.now) (target_of to.entry)
+        (S.mesh mesh) steps.now
+        (contents D.files K.written desk.old out.old)
+        (contents D.files K.written desk.new out.new) result }
     ensures causes { HasCauses (world D.files D.faults K.written K.faults desk.old out.old)
         (world D.files D.faults K.written K.faults desk.new out.new) result }
 {
@@ -143,8 +147,10 @@ fn track<D: Desk, K: Sink, F: Fn(u8, Point) -> Shift>(
 ) -> Result<Option<Refusal>, Stop>
     requires few { to.decimals ≤ DECIMALS_MAX }
     requires fields { IsWellKept F.Fn fields.now }
-    ensures tracks { TracksJob (known F.Fn fields.now) mesh_name.now step_name.now (target_of to.entry)
-        (contents D.files K.written desk.old out.old) (contents D.files K.written desk.new out.new) result }
+    ensures tracks { TracksJob (known F.Fn fields.now) mesh_name.now step_name.now
+        (target_of to.entry)
+        (contents D.files K.written desk.old out.old)
+        (contents D.files K.written desk.new out.new) result }
     ensures causes { HasCauses (world D.files D.faults K.written K.faults desk.old out.old)
         (world D.files D.faults K.written K.faults desk.new out.new) result }
 {
@@ -177,7 +183,8 @@ pub fn run<D: Desk, K: Sink, F: Fn(u8, Point) -> Shift>(
     fields: &Fields<F>,
 ) -> Outcome
     requires { IsWellKept F.Fn fields.now }
-    ensures headline { RunsFor (known F.Fn fields.now) (map (λ word. string_bytes word) words.now) result
+    ensures headline { RunsFor (known F.Fn fields.now)
+        (map (λ word. string_bytes word) words.now) result
         (world D.files D.faults K.written K.faults desk.old out.old)
         (world D.files D.faults K.written K.faults desk.new out.new) }
 {
