@@ -300,10 +300,11 @@ least_is_doubled fs list sorted is small moved up =
 
 -- ---- steps of the two loops
 -- one face more
-pub keyed_more : (fs : Faces) (i n : ℕ) (list : List Entry) (key : Corners) → i < length fs → n ≡ i + 1 → list ≡ enumerate_from 1 (map key_of (take i fs)) → key ≡ key_of (get_or fs i []) → list ++ (n, key) ∷ [] ≡ enumerate_from 1 (map key_of (take (i + 1) fs))
-keyed_more fs i n list key inside n_is list_is key_is =
+pub keyed_more : (fs : Faces) (i n : ℕ) (list more : List Entry) (key : Corners) → more ≡ list ++ (n, key) ∷ [] → i < length fs → n ≡ i + 1 → list ≡ enumerate_from 1 (map key_of (take i fs)) → key ≡ key_of (get_or fs i []) → more ≡ enumerate_from 1 (map key_of (take (i + 1) fs))
+keyed_more fs i n list more key more_is inside n_is list_is key_is =
     let len : n ≡ 1 + length (map key_of (take i fs)) = omega (arith, n_is, length-map (take i fs) key_of, length-take-le i fs (omega (arith, inside))) in
-    ap (λ es. es ++ (n, key) ∷ []) list_is
+    more_is
+    ∙ ap (λ es. es ++ (n, key) ∷ []) list_is
     ∙ ap (λ m. enumerate_from 1 (map key_of (take i fs)) ++ (m, key) ∷ []) len
     ∙ ap (λ c. enumerate_from 1 (map key_of (take i fs)) ++ (1 + length (map key_of (take i fs)), c) ∷ []) key_is
     ∙ sym (ap (λ xs. enumerate_from 1 (map key_of xs)) (take_more fs i [] inside) ∙ ap (enumerate_from 1) (map_push key_of (take i fs) (get_or fs i [])) ∙ numbered_push 1 (map key_of (take i fs)) (key_of (get_or fs i [])))

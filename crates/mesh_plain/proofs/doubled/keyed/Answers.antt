@@ -1,4 +1,4 @@
-use Rattle.std.proofs.Common.{◌<◌, ◌^◌, length, ◌∙◌, arith}
+use Rattle.std.proofs.Common.{◌<◌, ◌^◌, length, arith}
 use Rattle.std.proofs.lemmas.List.Elements.{All-push, All-same}
 use Rattle.mesh_plain.specs.Turned.{IsSmall}
 use Rattle.mesh_plain.proofs.LeastPair.{keyed_more}
@@ -14,6 +14,6 @@ loop-f-preserved c =
     let low : n < 2 ^ 32 = omega arith in
     record {
       numbered = omega arith;
-      so_far = c.in_ok-push.ensures.items ∙ keyed_more fs i n c.loop-f.list.items key inside c.loop-f.invariant.numbered c.loop-f.invariant.so_far c.least_first.ensures.key;
+      so_far = keyed_more fs i n c.loop-f.list.items _ key c.in_ok-push.ensures.items inside c.loop-f.invariant.numbered c.loop-f.invariant.so_far c.least_first.ensures.key;
       small = All-same IsSmall _ _ c.in_ok-push.ensures.items (All-push IsSmall c.loop-f.list.items (n, key) c.loop-f.invariant.small (low, c.least_first.ensures.small));
     }
