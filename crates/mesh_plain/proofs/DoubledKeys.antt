@@ -2,39 +2,19 @@
 use Rattle.std.proofs.Common.{◌≤◌, length, ◌≡◌, ◌⊎◌, ℕ, ◌+◌, ◌==◌, ◌&&◌, ◌||◌, Bool, true, false, cond, List, [], ◌∷◌, Option, Some, None, nat_lt, if◌then◌else◌, option_map, refl, sym, ap, subst, ◌∙◌, inl, inr, ⊎_elim, arith}
 use Rattle.std.specs.Option.{option_or}
 use Rattle.std.specs.List.{position_from}
-use Rattle.std.specs.Ordering.{nat_cmp, is_eq, ordering_then}
-use Rattle.std.specs.declared.cmp.Ordering.TheVariants.{Equal}
-use Rattle.std.specs.Cmp.{unsigned_tied}
-use Rattle.std.specs.Cmp.Lexicographic.{slice_cmp}
 use Rattle.std.proofs.lemmas.Bool.Decides.{nat_tests}
 use Rattle.grid_base.specs.declared.TheConstants.{VERTICES_MAX, FACES_MAX}
 use Rattle.mesh_base.specs.declared.ids.Corners.{Corners}
 use Rattle.mesh_base.specs.Mesh.{turned, same_corners, equal_up_to_rotation}
 use Rattle.mesh_base.specs.Changes.{corners_of}
 use Rattle.mesh_base.specs.Given.{Faces}
-use Rattle.mesh_base.proofs.Tests.{or_either, both_ways, tied_then}
+use Rattle.mesh_base.proofs.Tests.{or_either, both_ways}
 use Rattle.mesh_plain.proofs.Lists.{none_here}
 use Rattle.mesh_plain.specs.Shape.{doubled_from, repeats, repeated_from, no_vertex_from, fault_but_balance}
 use Rattle.mesh_base.specs.declared.faults.ShapeFault.TheVariants.{Doubled}
-use Rattle.mesh_plain.specs.Turned.{least_first, key_of, same_key, doubled_by_key}
+use Rattle.mesh_plain.specs.Turned.{least_first, key_of, has_key, doubled_by_key}
 
-pub last_one : (b : Bool) → (b && true) ≡ b
-last_one true = refl
-last_one false = refl
-
--- keys tie where the corners are the same
-tied_keys : (a b c d e f : ℕ) → is_eq (slice_cmp nat_cmp (a ∷ b ∷ c ∷ []) (d ∷ e ∷ f ∷ [])) ≡ (a == d && b == e && c == f)
-tied_keys a b c d e f =
-    tied_then (nat_cmp a d) _
-    ∙ ap (λ t. t && is_eq (ordering_then (nat_cmp b e) (ordering_then (nat_cmp c f) Equal))) (unsigned_tied a d)
-    ∙ ap (λ t. (a == d) && t) (tied_then (nat_cmp b e) _ ∙ ap (λ t. t && is_eq (ordering_then (nat_cmp c f) Equal)) (unsigned_tied b e) ∙ ap (λ t. (b == e) && t) (tied_then (nat_cmp c f) Equal ∙ last_one _ ∙ unsigned_tied c f))
-    ∙ regrouped (a == d) (b == e) (c == f)
-  where
-    regrouped : (p q r : Bool) → (p && (q && r)) ≡ (p && q && r)
-    regrouped true q r = refl
-    regrouped false q r = refl
-
-same_from_facts : (c d : Corners) → same_corners c d ≡ true → c ≡ d
+pub same_from_facts : (c d : Corners) → same_corners c d ≡ true → c ≡ d
 same_from_facts c d h =
     let fields = facts c.first c.second c.third d.first d.second d.third h in
     λ i. record { first = fields.0 i; second = fields.1 i; third = fields.2 i }
@@ -42,7 +22,7 @@ same_from_facts c d h =
     facts : (a b c d e f : ℕ) → (a == d && b == e && c == f) ≡ true → (a ≡ d) × (b ≡ e) × (c ≡ f)
     facts a b c d e f h = (grind (arith, nat_tests), grind (arith, nat_tests), grind (arith, nat_tests))
 
-same_itself : (c : Corners) → same_corners c c ≡ true
+pub same_itself : (c : Corners) → same_corners c c ≡ true
 same_itself c = itself c.first c.second c.third
   where
     itself : (a b c : ℕ) → (a == a && b == b && c == c) ≡ true
@@ -129,16 +109,13 @@ equal_of_keys c d e =
     (a_turn d)
 
 -- the two tests agree
-pub same_tests : (f g : List ℕ) → repeats (corners_of f) ≡ false → equal_up_to_rotation (corners_of f) (corners_of g) ≡ same_key (key_of f) g
+pub same_tests : (f g : List ℕ) → repeats (corners_of f) ≡ false → equal_up_to_rotation (corners_of f) (corners_of g) ≡ has_key (key_of f) g
 same_tests f g h =
     let c : Corners = corners_of f in
     let d : Corners = corners_of g in
-    let lc : Corners = least_first c in
-    let ld : Corners = least_first d in
-    let tied : same_key (key_of f) g ≡ same_corners ld lc = tied_keys ld.first ld.second ld.third lc.first lc.second lc.third in
     both_ways _ _
-    (λ e. tied ∙ subst (λ x. same_corners x lc ≡ true) (sym (keys_of_equal c d h e)) (same_itself lc))
-    (λ e. equal_of_keys c d (same_from_facts ld lc (sym tied ∙ e)))
+    (λ e. subst (λ x. same_corners (least_first c) x ≡ true) (sym (keys_of_equal c d h e)) (same_itself (least_first c)))
+    (λ e. equal_of_keys c d (sym (same_from_facts (least_first c) (least_first d) e)))
 
 position_same : {A : Type 0} (p q : A → Bool) → ((x : A) → p x ≡ q x) → (k : ℕ) (xs : List A) → position_from p k xs ≡ position_from q k xs
 position_same p q same k [] = refl
@@ -149,8 +126,8 @@ pub doubled_from_keys : (j k : ℕ) (fs : Faces) → repeated_from j fs ≡ None
 doubled_from_keys j k [] h = refl
 doubled_from_keys j k (f ∷ fs) h =
     let parts = none_here (repeats (corners_of f)) j (repeated_from (j + 1) fs) h in
-    ap (λ p. option_or (option_map (λ second. (k, second)) p) (doubled_from (k + 1) fs)) (position_same (λ g. equal_up_to_rotation (corners_of f) (corners_of g)) (λ g. same_key (key_of f) g) (λ g. same_tests f g parts.0) (k + 1) fs)
-    ∙ ap (option_or (option_map (λ second. (k, second)) (position_from (λ g. same_key (key_of f) g) (k + 1) fs))) (doubled_from_keys (j + 1) (k + 1) fs parts.1)
+    ap (λ p. option_or (option_map (λ second. (k, second)) p) (doubled_from (k + 1) fs)) (position_same (λ g. equal_up_to_rotation (corners_of f) (corners_of g)) (has_key (key_of f)) (λ g. same_tests f g parts.0) (k + 1) fs)
+    ∙ ap (option_or (option_map (λ second. (k, second)) (position_from (has_key (key_of f)) (k + 1) fs))) (doubled_from_keys (j + 1) (k + 1) fs parts.1)
 
 not_more : (n limit : ℕ) → n ≤ limit → nat_lt limit n ≡ false
 not_more n limit h = grind (arith, nat_tests)

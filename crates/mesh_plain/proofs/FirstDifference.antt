@@ -98,9 +98,6 @@ only_vertices n fs u v vertices h = by_counts (runs_in fs u v) (runs_in fs v u) 
     by_counts (suc a) b e e' = let ends = run_between n 1 fs u v vertices (omega (arith, e)) in h ends.0 ends.1
     by_counts zero (suc b) e e' = let ends = run_between n 1 fs v u vertices (omega (arith, e')) in h ends.1 ends.0
 
-unbalanced : Faces → ℕ × ℕ → Bool
-unbalanced fs p = not (runs_in fs p.0 p.1 == runs_in fs p.1 p.0)
-
 is_balanced : (a b : ℕ) → a ≡ b → not (a == b) ≡ false
 is_balanced a b e = grind (arith, nat_tests)
 
@@ -131,7 +128,7 @@ has_head : (s : ℕ × ℕ) (ss : List (ℕ × ℕ)) → 0 < times (s ∷ ss) s.
 has_head s ss = let one : cond {A = ℕ} (same_ends s s) 1 0 ≡ 1 = ap (λ t. cond {A = ℕ} t 1 0) (same_itself s) in omega (arith, one, times_more s ss s.0 s.1)
 
 -- the second ends of what the list has are small
-abbrev pub AreSmall : List (ℕ × ℕ) → Type 0
+abbrev AreSmall : List (ℕ × ℕ) → Type 0
 AreSmall ss = (u v : ℕ) → 0 < times ss u v → v < 2 ^ 32
 
 small_rest : (s : ℕ × ℕ) (ss : List (ℕ × ℕ)) → AreSmall (s ∷ ss) → AreSmall ss
@@ -180,7 +177,7 @@ same_heads (Some p) s t ss ts e h =
       λ u v less. let more = times_more s ss u v in let more' = times_more t ts u v in let head = alike u v in let rest = h.1 u v less in omega (arith, more, more', head, rest),
     )
 
-pub differ : (ss ts : List (ℕ × ℕ)) → IsNonDecreasingBy side_rank ss → IsNonDecreasingBy side_rank ts → AreSmall ss → AreSmall ts → IsDifference (first_difference ss ts) ss ts
+differ : (ss ts : List (ℕ × ℕ)) → IsNonDecreasingBy side_rank ss → IsNonDecreasingBy side_rank ts → AreSmall ss → AreSmall ts → IsDifference (first_difference ss ts) ss ts
 differ [] [] up up' small small' = λ u v. refl
 differ [] (t ∷ ts) up up' small small' = turned_difference (Some t) (t ∷ ts) [] (first_alone t ts [] up' (λ u v h. refl))
 differ (s ∷ ss) [] up up' small small' = first_alone s ss [] up (λ u v h. refl)
@@ -226,8 +223,8 @@ ends_rise ss runs u v has some = by_test (nat_lt u v) refl (subst (λ n. 0 < n) 
     by_test true e h = is_less u v e
     by_test false e h = absurd (omega arith)
 
-pub lists_small : (n : ℕ) (fs : Faces) (ss : List (ℕ × ℕ)) (runs : ℕ → ℕ → ℕ) → n < 2 ^ 32 → HasRuns ss runs → ((u v : ℕ) → 0 < runs u v → is_vertex n v ≡ true) → AreSmall ss
-lists_small n fs ss runs few has vertices u v some =
+lists_small : (n : ℕ) (ss : List (ℕ × ℕ)) (runs : ℕ → ℕ → ℕ) → n < 2 ^ 32 → HasRuns ss runs → ((u v : ℕ) → 0 < runs u v → is_vertex n v ≡ true) → AreSmall ss
+lists_small n ss runs few has vertices u v some =
     let less = ends_rise ss runs u v has some in
     let bounds = between n v (vertices u v (subst (λ n. 0 < n) (runs_up ss runs u v has less) some)) in
     omega (arith, few, bounds)
@@ -242,8 +239,8 @@ pub difference_is_first : (n : ℕ) (fs : Faces) (up down : List (ℕ × ℕ)) �
 difference_is_first n fs up down few vertices rises rises' has has' =
     by_found (first_difference up down) refl
     (differ up down rises rises'
-    (lists_small n fs up (λ u v. runs_in fs u v) few has (λ u v some. (run_between n 1 fs u v vertices some).1))
-    (lists_small n fs down (λ u v. runs_in fs v u) few has' (λ u v some. (run_between n 1 fs v u vertices some).0)))
+    (lists_small n up (λ u v. runs_in fs u v) few has (λ u v some. (run_between n 1 fs u v vertices some).1))
+    (lists_small n down (λ u v. runs_in fs v u) few has' (λ u v some. (run_between n 1 fs v u vertices some).0)))
   where
     test : ℕ × ℕ → Bool
     test p = not (runs_in fs p.0 p.1 == runs_in fs p.1 p.0)

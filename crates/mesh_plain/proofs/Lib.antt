@@ -1,7 +1,7 @@
 pub mod Lists
 pub mod Outcomes
-pub mod DoubledStep
 pub mod DoubledKeys
+pub mod LeastPair
 pub mod FirstDifference
 pub mod Faults
 pub mod Earlier

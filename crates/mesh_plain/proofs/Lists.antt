@@ -49,7 +49,7 @@ none_past [] i h = refl
 none_past (x ∷ xs) zero h = absurd (omega arith)
 none_past (x ∷ xs) (suc i) h = none_past xs i (omega arith)
 
-numbered_push : {A : Type 0} (k : ℕ) (xs : List A) (y : A) → enumerate_from k (xs ++ y ∷ []) ≡ enumerate_from k xs ++ (k + length xs, y) ∷ []
+pub numbered_push : {A : Type 0} (k : ℕ) (xs : List A) (y : A) → enumerate_from k (xs ++ y ∷ []) ≡ enumerate_from k xs ++ (k + length xs, y) ∷ []
 numbered_push k [] y = let e : k ≡ k + 0 = omega arith in ap (λ n. (n, y) ∷ []) e
 numbered_push k (x ∷ xs) y =
     let e : (k + 1) + length xs ≡ k + suc (length xs) = omega arith in
@@ -252,7 +252,7 @@ sound-mesh_of ps fs h =
       };
     }
 
-map_push : {A B : Type 0} (g : A → B) (xs : List A) (x : A) → map g (xs ++ x ∷ []) ≡ map g xs ++ g x ∷ []
+pub map_push : {A B : Type 0} (g : A → B) (xs : List A) (x : A) → map g (xs ++ x ∷ []) ≡ map g xs ++ g x ∷ []
 map_push g [] x = refl
 map_push g (y ∷ xs) x = ap (λ ys. g y ∷ ys) (map_push g xs x)
 

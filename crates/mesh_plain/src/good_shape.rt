@@ -4,14 +4,13 @@ ghost use Rattle.mesh_base.specs.Mesh.{IsSound};
 ghost use Rattle.mesh_base.specs.Sides.{IsClosed};
 ghost use Rattle.mesh_base.specs.Changes.{corners_of};
 ghost use Rattle.mesh_base.specs.Given.{mesh_of};
-ghost use Rattle.mesh_plain.specs.Turned.{key_of, doubled_by_key};
 ghost use Rattle.mesh_plain.specs.Shape.{bad_corner, no_vertex_from, repeats, repeated_from, fault_but_balance, shape_fault, IsRefusal, IsJust, EarlierHold};
 
 use crate::balance::first_unbalanced;
+use crate::doubled::doubled_by_key;
 use grid_base::{FACES_MAX, NoMemory, VERTICES_MAX};
 use mesh_base::{MeshLists, ShapeFault, ShapeRefusal};
 use std::alloc::Global;
-use std::collections::BTreeMap;
 
 /// Whether lists make a closed mesh within the limits. If not, the first fault, in the order of `ShapeFault`, at its
 /// least place: the least face, then corner, or the least two numbers, the first compared first.
@@ -96,37 +95,6 @@ fn first_repeated(faces: &[[u32; 3]]) -> Option<u32>
         number += 1;
     }
     None
-}
-
-/// The corners from the least on.
-fn least_first(f: &[u32; 3]) -> [u32; 3]
-    ensures { result ≡ key_of f.now }
-{
-    if f[0] < f[1] && f[0] < f[2] {
-        [f[0], f[1], f[2]]
-    } else if f[1] < f[2] {
-        [f[1], f[2], f[0]]
-    } else {
-        [f[2], f[0], f[1]]
-    }
-}
-
-/// The first face that a later one equals up to rotation, and the first such, by their keys.
-fn doubled_by_key(alloc: Global, faces: &[[u32; 3]]) -> Result<Option<(u32, u32)>, NoMemory>
-    requires { length faces.now ≤ FACES_MAX }
-    ensures { IfOk result (λ found. found ≡ doubled_by_key 1 faces.now) }
-{
-    let mut later: BTreeMap<[u32; 3], u32> = BTreeMap::new(alloc);
-    let mut found = None;
-    let mut i = faces.len();
-    while i > 0 {
-        let number = i as u32;
-        i -= 1;
-        if let Some(second) = later.insert(least_first(&faces[i]), number)? {
-            found = Some((number, second));
-        }
-    }
-    Ok(found)
 }
 
 /// What is wrong with lists but their balance.

@@ -3,6 +3,7 @@
 #![tactic(auto)]
 
 mod balance;
+mod doubled;
 mod field_name;
 mod good_shape;
 pub mod laws;
