@@ -1,5 +1,6 @@
-//! Differences and products of positions before a motion is halved, in 64 bits: what is within `HALF_MAX` has
-//! differences and cross products that 64 bits hold, and products of these that 128 bits hold.
+//! Differences and products of positions before a motion is halved, in 64 bits: what is within
+//! `HALF_MAX` has differences and cross products that 64 bits hold, and products of these that 128
+//! bits hold.
 
 ghost use Rattle.std.specs.Prelude.{◌≡◌, ◌≤◌, ◌+ℤ◌, ◌-ℤ◌, ◌*◌, ◌*ℤ◌, unsigned_abs};
 ghost use Rattle.grid_base.specs.Triples.{IsWithin, minus, cross, dot, orientation};

@@ -1,12 +1,13 @@
 -- Heights along an axis are coordinates, and heights tell what directions do.
-use Rattle.std.proofs.Common.{◌≡◌, ℤ, pos, ◌+ℤ◌, ◌*ℤ◌, ◌<ℤ◌, inl, inr, SFits, to_z, of_z, ◌∙◌, arith}
+use Rattle.std.proofs.Common.{◌≡◌, ℤ, pos, ◌+ℤ◌, ◌*ℤ◌, inl, inr, SFits, to_z, of_z, ◌∙◌, arith}
 use Rattle.std.specs.Int.{w128}
 use Rattle.std.proofs.lemmas.Int.{ints, to_z-of_z}
 use Rattle.grid_base.specs.Triples.{Triple, dot}
 use Rattle.grid_base.specs.declared.Positions.{Positions}
 use Rattle.grid_base.specs.Separation.{IsBelow, IsAbove, IsWeaklyBelow, IsWeaklyAbove, KeepsApart, TakesApart}
 use Rattle.motion_test.specs.declared.heights.Heights.{Heights}
-use Rattle.motion_test.specs.Heights.{axis_x, axis_y, axis_z, heights_along, LieBelow, LieAbove, LieWeaklyBelow, LieWeaklyAbove, KeepApart, TakeApart}
+use Rattle.motion_test.specs.declared.side.Side.TheVariants.{Below, Above}
+use Rattle.motion_test.specs.Heights.{axis_x, axis_y, axis_z, heights_along, LieOn, LieWeaklyOn, KeepApart, TakeApart}
 use Rattle.motion_test.proofs.OtherWay.{above_of, of_above, weakly_above_of, of_weakly_above}
 
 -- ---- coordinates
@@ -33,49 +34,51 @@ pub same_heights : (a b c d e a' b' c' d' e' : ℤ) → a ≡ a' → b ≡ b' �
 same_heights a b c d e a' b' c' d' e' p q r s t = cc
 
 -- ---- sides
-below_of : (n : Triple) (f : Positions) → LieBelow (heights_along n f) → IsBelow n f
-below_of n f h = record { ac = h.0.than_c; ad = h.0.than_d; ae = h.0.than_e; bc = h.1.than_c; bd = h.1.than_d; be = h.1.than_e }
+below_of : (n : Triple) (f : Positions) → LieOn Below (heights_along n f) → IsBelow n f
+below_of n f h = record { ac = h.of_c.0; ad = h.of_d.0; ae = h.of_e.0; bc = h.of_c.1; bd = h.of_d.1; be = h.of_e.1 }
 
-of_below : (n : Triple) (f : Positions) → IsBelow n f → LieBelow (heights_along n f)
-of_below n f h = (record { than_c = h.ac; than_d = h.ad; than_e = h.ae }, record { than_c = h.bc; than_d = h.bd; than_e = h.be })
+of_below : (n : Triple) (f : Positions) → IsBelow n f → LieOn Below (heights_along n f)
+of_below n f h = record { of_c = (h.ac, h.bc); of_d = (h.ad, h.bd); of_e = (h.ae, h.be) }
 
-weakly_below_of : (n : Triple) (f : Positions) → LieWeaklyBelow (heights_along n f) → IsWeaklyBelow n f
-weakly_below_of n f h = record { ac = h.0.than_c; ad = h.0.than_d; ae = h.0.than_e; bc = h.1.than_c; bd = h.1.than_d; be = h.1.than_e }
+weakly_below_of : (n : Triple) (f : Positions) → LieWeaklyOn Below (heights_along n f) → IsWeaklyBelow n f
+weakly_below_of n f h = record { ac = h.of_c.0; ad = h.of_d.0; ae = h.of_e.0; bc = h.of_c.1; bd = h.of_d.1; be = h.of_e.1 }
 
-of_weakly_below : (n : Triple) (f : Positions) → IsWeaklyBelow n f → LieWeaklyBelow (heights_along n f)
-of_weakly_below n f h = (record { than_c = h.ac; than_d = h.ad; than_e = h.ae }, record { than_c = h.bc; than_d = h.bd; than_e = h.be })
+of_weakly_below : (n : Triple) (f : Positions) → IsWeaklyBelow n f → LieWeaklyOn Below (heights_along n f)
+of_weakly_below n f h = record { of_c = (h.ac, h.bc); of_d = (h.ad, h.bd); of_e = (h.ae, h.be) }
 
-above_by : (n : Triple) (f : Positions) → LieAbove (heights_along n f) → IsAbove n f
+above_by : (n : Triple) (f : Positions) → LieOn Above (heights_along n f) → IsAbove n f
 above_by n f h = record {
-  ac = above_of n f.a f.c h.0.than_c;
-  ad = above_of n f.a f.d h.0.than_d;
-  ae = above_of n f.a f.e h.0.than_e;
-  bc = above_of n f.b f.c h.1.than_c;
-  bd = above_of n f.b f.d h.1.than_d;
-  be = above_of n f.b f.e h.1.than_e;
+  ac = above_of n f.a f.c h.of_c.0;
+  ad = above_of n f.a f.d h.of_d.0;
+  ae = above_of n f.a f.e h.of_e.0;
+  bc = above_of n f.b f.c h.of_c.1;
+  bd = above_of n f.b f.d h.of_d.1;
+  be = above_of n f.b f.e h.of_e.1;
 }
 
-by_above : (n : Triple) (f : Positions) → IsAbove n f → LieAbove (heights_along n f)
-by_above n f h = (
-  record { than_c = of_above n f.a f.c h.ac; than_d = of_above n f.a f.d h.ad; than_e = of_above n f.a f.e h.ae },
-  record { than_c = of_above n f.b f.c h.bc; than_d = of_above n f.b f.d h.bd; than_e = of_above n f.b f.e h.be },
-)
+by_above : (n : Triple) (f : Positions) → IsAbove n f → LieOn Above (heights_along n f)
+by_above n f h = record {
+  of_c = (of_above n f.a f.c h.ac, of_above n f.b f.c h.bc);
+  of_d = (of_above n f.a f.d h.ad, of_above n f.b f.d h.bd);
+  of_e = (of_above n f.a f.e h.ae, of_above n f.b f.e h.be);
+}
 
-weakly_above_by : (n : Triple) (f : Positions) → LieWeaklyAbove (heights_along n f) → IsWeaklyAbove n f
+weakly_above_by : (n : Triple) (f : Positions) → LieWeaklyOn Above (heights_along n f) → IsWeaklyAbove n f
 weakly_above_by n f h = record {
-  ac = weakly_above_of n f.a f.c h.0.than_c;
-  ad = weakly_above_of n f.a f.d h.0.than_d;
-  ae = weakly_above_of n f.a f.e h.0.than_e;
-  bc = weakly_above_of n f.b f.c h.1.than_c;
-  bd = weakly_above_of n f.b f.d h.1.than_d;
-  be = weakly_above_of n f.b f.e h.1.than_e;
+  ac = weakly_above_of n f.a f.c h.of_c.0;
+  ad = weakly_above_of n f.a f.d h.of_d.0;
+  ae = weakly_above_of n f.a f.e h.of_e.0;
+  bc = weakly_above_of n f.b f.c h.of_c.1;
+  bd = weakly_above_of n f.b f.d h.of_d.1;
+  be = weakly_above_of n f.b f.e h.of_e.1;
 }
 
-by_weakly_above : (n : Triple) (f : Positions) → IsWeaklyAbove n f → LieWeaklyAbove (heights_along n f)
-by_weakly_above n f h = (
-  record { than_c = of_weakly_above n f.a f.c h.ac; than_d = of_weakly_above n f.a f.d h.ad; than_e = of_weakly_above n f.a f.e h.ae },
-  record { than_c = of_weakly_above n f.b f.c h.bc; than_d = of_weakly_above n f.b f.d h.bd; than_e = of_weakly_above n f.b f.e h.be },
-)
+by_weakly_above : (n : Triple) (f : Positions) → IsWeaklyAbove n f → LieWeaklyOn Above (heights_along n f)
+by_weakly_above n f h = record {
+  of_c = (of_weakly_above n f.a f.c h.ac, of_weakly_above n f.b f.c h.bc);
+  of_d = (of_weakly_above n f.a f.d h.ad, of_weakly_above n f.b f.d h.bd);
+  of_e = (of_weakly_above n f.a f.e h.ae, of_weakly_above n f.b f.e h.be);
+}
 
 -- ---- what a direction does
 pub keeps_of : (n : Triple) (s t : Positions) → KeepApart (heights_along n s) (heights_along n t) → KeepsApart s t n
@@ -93,10 +96,3 @@ takes_of n s t (inr h) = inr (weakly_above_by n s h.0, above_by n t h.1)
 pub of_takes : (n : Triple) (s t : Positions) → TakesApart s t n → TakeApart (heights_along n s) (heights_along n t)
 of_takes n s t (inl h) = inl (of_weakly_below n s h.0, of_below n t h.1)
 of_takes n s t (inr h) = inr (by_weakly_above n s h.0, by_above n t h.1)
-
--- an edge is not on both sides
-pub one_side_only : (h : Heights) → LieBelow h → LieAbove h → ⊥
-one_side_only h below above = clash h.a h.c below.0.than_c above.0.than_c
-  where
-    clash : (a c : ℤ) → a <ℤ c → c <ℤ a → ⊥
-    clash a c h k = omega (arith, ints)

@@ -2,12 +2,10 @@
 use Rattle.std.proofs.Common.{◌≡◌, ℤ, pos, ◌-ℤ◌, ◌<ℤ◌, ◌≤ℤ◌, neg_ℤ, [], ◌∷◌, refl, arith}
 use Rattle.std.proofs.lemmas.Int.{ints}
 use Rattle.grid_base.specs.Triples.{Triple, opposite, dot}
-use Rattle.grid_base.specs.declared.Positions.{Positions}
-use Rattle.grid_base.specs.Separation.{IsBelow, IsAbove}
 use Rattle.grid_base.proofs.Polynomials.{num, add, sub, mul, same_polynomial}
 use Rattle.grid_base.proofs.TermTriples.{var3, dot_t, components}
 
-pub negative : (z : ℤ) → neg_ℤ z ≡ pos 0 -ℤ z
+negative : (z : ℤ) → neg_ℤ z ≡ pos 0 -ℤ z
 negative z = omega (arith, ints)
 
 dot-opposite : (n t : Triple) → dot (opposite n) t ≡ pos 0 -ℤ dot n t
@@ -41,10 +39,3 @@ weakly_above_of n a c h = most_over _ _ _ _ (dot-opposite n a) (dot-opposite n c
 
 pub of_weakly_above : (n a c : Triple) → dot (opposite n) a ≤ℤ dot (opposite n) c → dot n c ≤ℤ dot n a
 of_weakly_above n a c h = most_back _ _ _ _ (dot-opposite n a) (dot-opposite n c) h
-
--- an edge is not on both sides
-pub one_side : (n : Triple) (f : Positions) → IsBelow n f → IsAbove n f → ⊥
-one_side n f below above = clash (dot n f.a) (dot n f.c) below.ac (of_above n f.a f.c above.ac)
-  where
-    clash : (a c : ℤ) → a <ℤ c → c <ℤ a → ⊥
-    clash a c h k = omega (arith, ints)

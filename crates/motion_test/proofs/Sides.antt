@@ -1,60 +1,57 @@
--- Where an edge lies along a direction: by the first corner, and then by the other two.
-use Rattle.std.proofs.Common.{◌≡◌, ◌<ℤ◌, ℤ, arith}
+-- The side that an edge is on: there is one at most, and it tells what keeps or takes the edge apart.
+use Rattle.std.proofs.Common.{◌≡◌, inl, inr, refl, Some, None, ℤ, ◌<ℤ◌, arith}
+use Rattle.std.specs.Prelude.{Option}
 use Rattle.std.proofs.lemmas.Int.{ints}
-use Rattle.grid_base.specs.Triples.{Triple, dot}
-use Rattle.grid_base.specs.declared.Positions.{Positions}
-use Rattle.grid_base.specs.Separation.{IsBelow, IsAbove}
-use Rattle.motion_test.specs.declared.one_direction.Side.TheVariants.{Below, Above, Neither}
-use Rattle.motion_test.proofs.OtherWay.{above_of, of_above}
+use Rattle.motion_test.specs.declared.heights.Heights.{Heights}
+use Rattle.motion_test.specs.declared.side.Side.{Side}
+use Rattle.motion_test.specs.declared.side.Side.TheVariants.{Below, Above}
+use Rattle.motion_test.specs.Heights.{AreOn, LieOn, LieWeaklyOn, KeepApart, TakeApart}
 
--- ---- the three answers differ
-pub below≢above : Below ≡ Above → ⊥
-below≢above e = cc
+clash : (a c : ℤ) → a <ℤ c → c <ℤ a → ⊥
+clash a c h k = omega (arith, ints)
 
-pub above≢below : Above ≡ Below → ⊥
-above≢below e = cc
+-- two heights are on one side of a third at most
+pub one_side : (side other : Side) (a b c : ℤ) → AreOn side a b c → AreOn other a b c → side ≡ other
+one_side Below Below a b c p q = refl
+one_side Below Above a b c p q = absurd (clash a c p.0 q.0)
+one_side Above Below a b c p q = absurd (clash a c q.0 p.0)
+one_side Above Above a b c p q = refl
 
-pub neither≢below : Neither ≡ Below → ⊥
-neither≢below e = cc
+pub none≢some : (side : Side) → ◌≡◌ {A = Option Side} None (Some side) → ⊥
+none≢some side e = cc
 
-pub neither≢above : Neither ≡ Above → ⊥
-neither≢above e = cc
+pub some_same : (side other : Side) → Some side ≡ Some other → side ≡ other
+some_same side other e = cc
 
--- ---- two heights and a third
-abbrev pub Under : Triple → Positions → Triple → Type 0
-Under n f t = (dot n f.a <ℤ dot n t) × (dot n f.b <ℤ dot n t)
+pub some_of : (side other : Side) → side ≡ other → Some side ≡ Some other
+some_of side other e = cc
 
-abbrev pub Over : Triple → Positions → Triple → Type 0
-Over n f t = (dot n t <ℤ dot n f.a) × (dot n t <ℤ dot n f.b)
+-- ---- kept apart
+pub keep_by : (side : Side) (s t : Heights) → LieOn side s → LieOn side t → KeepApart s t
+keep_by Below s t p q = inl (p, q)
+keep_by Above s t p q = inr (p, q)
 
-pub below_from : (n : Triple) (f : Positions) → Under n f f.c → Under n f f.d × Under n f f.e → IsBelow n f
-below_from n f first rest = record { ac = first.0; ad = rest.0.0; ae = rest.1.0; bc = first.1; bd = rest.0.1; be = rest.1.1 }
+pub by_keep : (side : Side) (s t : Heights) → LieOn side s → KeepApart s t → LieOn side t
+by_keep Below s t p (inl h) = h.1
+by_keep Below s t p (inr h) = absurd (clash s.a s.c p.of_c.0 h.0.of_c.0)
+by_keep Above s t p (inl h) = absurd (clash s.a s.c h.0.of_c.0 p.of_c.0)
+by_keep Above s t p (inr h) = h.1
 
-pub first_below : (n : Triple) (f : Positions) → IsBelow n f → Under n f f.c
-first_below n f h = (h.ac, h.bc)
+pub keep_side : (s t : Heights) → ((side : Side) → LieOn side s → ⊥) → KeepApart s t → ⊥
+keep_side s t none (inl h) = none Below h.0
+keep_side s t none (inr h) = none Above h.0
 
-pub rest_below : (n : Triple) (f : Positions) → IsBelow n f → Under n f f.d × Under n f f.e
-rest_below n f h = ((h.ad, h.bd), (h.ae, h.be))
+-- ---- taken apart
+pub take_by : (side : Side) (s t : Heights) → LieOn side t → LieWeaklyOn side s → TakeApart s t
+take_by Below s t p q = inl (q, p)
+take_by Above s t p q = inr (q, p)
 
-pub above_from : (n : Triple) (f : Positions) → Over n f f.c → Over n f f.d × Over n f f.e → IsAbove n f
-above_from n f first rest = record {
-  ac = above_of n f.a f.c first.0;
-  ad = above_of n f.a f.d rest.0.0;
-  ae = above_of n f.a f.e rest.1.0;
-  bc = above_of n f.b f.c first.1;
-  bd = above_of n f.b f.d rest.0.1;
-  be = above_of n f.b f.e rest.1.1;
-}
+pub by_take : (side : Side) (s t : Heights) → LieOn side t → TakeApart s t → LieWeaklyOn side s
+by_take Below s t p (inl h) = h.0
+by_take Below s t p (inr h) = absurd (clash t.a t.c p.of_c.0 h.1.of_c.0)
+by_take Above s t p (inl h) = absurd (clash t.a t.c h.1.of_c.0 p.of_c.0)
+by_take Above s t p (inr h) = h.0
 
-pub first_above : (n : Triple) (f : Positions) → IsAbove n f → Over n f f.c
-first_above n f h = (of_above n f.a f.c h.ac, of_above n f.b f.c h.bc)
-
-pub rest_above : (n : Triple) (f : Positions) → IsAbove n f → Over n f f.d × Over n f f.e
-rest_above n f h = ((of_above n f.a f.d h.ad, of_above n f.b f.d h.bd), (of_above n f.a f.e h.ae, of_above n f.b f.e h.be))
-
--- what is under the first corner is not above
-pub not_above : (n : Triple) (f : Positions) → Under n f f.c → IsAbove n f → ⊥
-not_above n f under above = clash (dot n f.a) (dot n f.c) under.0 (of_above n f.a f.c above.ac)
-  where
-    clash : (a c : ℤ) → a <ℤ c → c <ℤ a → ⊥
-    clash a c h k = omega (arith, ints)
+pub take_side : (s t : Heights) → ((side : Side) → LieOn side t → ⊥) → TakeApart s t → ⊥
+take_side s t none (inl h) = none Below h.1
+take_side s t none (inr h) = none Above h.1

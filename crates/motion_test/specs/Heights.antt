@@ -3,6 +3,8 @@ use Rattle.std.specs.Prelude.{ℤ, ◌⊎◌, pos, ◌<ℤ◌, ◌≤ℤ◌}
 use Rattle.grid_base.specs.Triples.{Triple, dot}
 use Rattle.grid_base.specs.declared.Positions.{Positions}
 use Rattle.motion_test.specs.declared.heights.Heights.{Heights}
+use Rattle.motion_test.specs.declared.side.Side.{Side}
+use Rattle.motion_test.specs.declared.side.Side.TheVariants.{Below, Above}
 
 abbrev pub axis_x : Triple
 axis_x = record { x = pos 1; y = pos 0; z = pos 0 }
@@ -14,54 +16,41 @@ abbrev pub axis_z : Triple
 axis_z = record { x = pos 0; y = pos 0; z = pos 1 }
 
 abbrev pub heights_along : Triple → Positions → Heights
-heights_along n f = record { a = dot n f.a; b = dot n f.b; c = dot n f.c; d = dot n f.d; e = dot n f.e }
+heights_along n f = record {
+  a = dot n f.a;
+  b = dot n f.b;
+  c = dot n f.c;
+  d = dot n f.d;
+  e = dot n f.e;
+}
 
--- two heights are below a third, or above it
-abbrev pub AreUnder : ℤ → ℤ → ℤ → Type 0
-AreUnder a b c = (a <ℤ c) × (b <ℤ c)
+-- two heights are strictly on a side of a third
+abbrev pub AreOn : Side → ℤ → ℤ → ℤ → Type 0
+AreOn Below a b c = (a <ℤ c) × (b <ℤ c)
+AreOn Above a b c = (c <ℤ a) × (c <ℤ b)
 
-abbrev pub AreOver : ℤ → ℤ → ℤ → Type 0
-AreOver a b c = (c <ℤ a) × (c <ℤ b)
+-- the same, where they may be level with it
+abbrev pub AreWeaklyOn : Side → ℤ → ℤ → ℤ → Type 0
+AreWeaklyOn Below a b c = (a ≤ℤ c) × (b ≤ℤ c)
+AreWeaklyOn Above a b c = (c ≤ℤ a) × (c ≤ℤ b)
 
--- one height is below three others, or above them
-pub record IsLower (a c d e : ℤ) : Type 0 where
-  pub than_c : a <ℤ c
-  pub than_d : a <ℤ d
-  pub than_e : a <ℤ e
+-- both edge ends are strictly on a side of all three corners
+pub record LieOn (side : Side) (h : Heights) : Type 0 where
+  pub of_c : AreOn side h.a h.b h.c
+  pub of_d : AreOn side h.a h.b h.d
+  pub of_e : AreOn side h.a h.b h.e
 
-pub record IsHigher (a c d e : ℤ) : Type 0 where
-  pub than_c : c <ℤ a
-  pub than_d : d <ℤ a
-  pub than_e : e <ℤ a
-
--- the same, where it may be equal
-pub record IsAtMost (a c d e : ℤ) : Type 0 where
-  pub than_c : a ≤ℤ c
-  pub than_d : a ≤ℤ d
-  pub than_e : a ≤ℤ e
-
-pub record IsAtLeast (a c d e : ℤ) : Type 0 where
-  pub than_c : c ≤ℤ a
-  pub than_d : d ≤ℤ a
-  pub than_e : e ≤ℤ a
-
--- both edge ends are so
-abbrev pub LieBelow : Heights → Type 0
-LieBelow h = IsLower h.a h.c h.d h.e × IsLower h.b h.c h.d h.e
-
-abbrev pub LieAbove : Heights → Type 0
-LieAbove h = IsHigher h.a h.c h.d h.e × IsHigher h.b h.c h.d h.e
-
-abbrev pub LieWeaklyBelow : Heights → Type 0
-LieWeaklyBelow h = IsAtMost h.a h.c h.d h.e × IsAtMost h.b h.c h.d h.e
-
-abbrev pub LieWeaklyAbove : Heights → Type 0
-LieWeaklyAbove h = IsAtLeast h.a h.c h.d h.e × IsAtLeast h.b h.c h.d h.e
+-- the same, where they may be level with them
+pub record LieWeaklyOn (side : Side) (h : Heights) : Type 0 where
+  pub of_c : AreWeaklyOn side h.a h.b h.c
+  pub of_d : AreWeaklyOn side h.a h.b h.d
+  pub of_e : AreWeaklyOn side h.a h.b h.e
 
 -- the edge is below at the start and at the end, or above at both
 abbrev pub KeepApart : Heights → Heights → Type 0
-KeepApart start end = (LieBelow start × LieBelow end) ⊎ (LieAbove start × LieAbove end)
+KeepApart start end = (LieOn Below start × LieOn Below end) ⊎ (LieOn Above start × LieOn Above end)
 
 -- the edge is weakly below at the start and below at the end, or weakly above and then above
 abbrev pub TakeApart : Heights → Heights → Type 0
-TakeApart start end = (LieWeaklyBelow start × LieBelow end) ⊎ (LieWeaklyAbove start × LieAbove end)
+TakeApart start end =
+    (LieWeaklyOn Below start × LieOn Below end) ⊎ (LieWeaklyOn Above start × LieOn Above end)

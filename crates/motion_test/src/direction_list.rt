@@ -9,9 +9,9 @@ ghost use Rattle.motion_test.specs.Small.{position_max, direction_max};
 use crate::small::{cross, difference};
 use grid_base::{DIRECTION_MAX, Positions, WIDE_MAX, Wide};
 
-/// The 23 directions over an interval from `s` to `t`, in the order in which they are tried: the three axes;
-/// then at the start, and then at the end, the triangle's normal, the cross products of the edge with the
-/// triangle's three sides, and the six differences of a corner and an edge end.
+/// The 23 directions over an interval from `s` to `t`, in the order in which they are tried: the
+/// three axes; then at the start, and then at the end, the triangle's normal, the cross products of
+/// the edge with the triangle's three sides, and the six differences of a corner and an edge end.
 pub fn directions(s: &Positions, t: &Positions) -> [Wide; 23]
     requires s_fits { AreWithin WIDE_MAX s.now }
     requires t_fits { AreWithin WIDE_MAX t.now }

@@ -7,8 +7,8 @@ ghost use Rattle.motion_test.specs.Small.{position_max_at};
 use crate::some_direction::{direction_keeps_apart, direction_takes_apart};
 use grid_base::{DEPTH_MAX, Positions, WIDE_MAX, Wide};
 
-// Whether the pair is separated to the depth. Each halving doubles the sizes, and leaves one depth less. Before the
-// first halving all is small.
+// Whether the pair is separated to the depth. Each halving doubles the sizes, and leaves one depth
+// less. Before the first halving all is small.
 pub(crate) fn separated_at(s: &Positions, t: &Positions, depth: u8, small: bool) -> bool
     requires depth_fits { depth ≤ DEPTH_MAX }
     requires s_fits { AreWithin (position_max_at depth small) s.now }

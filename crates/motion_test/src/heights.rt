@@ -1,10 +1,12 @@
-ghost use Rattle.std.specs.Prelude.{◌≡◌, ◌↔◌, IsTrue};
-ghost use Rattle.motion_test.specs.Heights.{IsLower, IsHigher, IsAtMost, IsAtLeast, axis_x, axis_y, axis_z, heights_along};
-ghost use Rattle.motion_test.specs.Heights.{LieBelow, LieAbove, LieWeaklyBelow, LieWeaklyAbove, KeepApart, TakeApart};
+ghost use Rattle.std.specs.Prelude.{◌≡◌, ◌↔◌, IsTrue, Some};
+ghost use Rattle.motion_test.specs.Heights.{axis_x, axis_y, axis_z, heights_along};
+ghost use Rattle.motion_test.specs.Heights.{LieOn, LieWeaklyOn, KeepApart, TakeApart};
 
+use crate::side::{Side, both_on, both_weakly_on, side_by};
 use grid_base::Positions;
 
-// How far an edge's ends `a` and `b` and a triangle's corners `c`, `d` and `e` lie along a direction.
+// How far an edge's ends `a` and `b` and a triangle's corners `c`, `d` and `e` lie along a
+// direction.
 #[derive(Clone, Copy)]
 pub(crate) struct Heights {
     a: i128,
@@ -57,92 +59,52 @@ pub(crate) fn along_z(f: &Positions) -> Heights
 pub(crate) fn heights_keep_apart(s: Heights, t: Heights) -> bool
     ensures { IsTrue result ↔ KeepApart s t }
 {
-    if lie_below(s) {
-        return lie_below(t);
+    match side_along(s) {
+        Some(side) => lie_on(side, t),
+        None => false,
     }
-    if lie_above(s) {
-        return lie_above(t);
-    }
-    false
 }
 
 // Whether the edge is weakly on one side at the start, and strictly there at the end.
 pub(crate) fn heights_take_apart(s: Heights, t: Heights) -> bool
     ensures { IsTrue result ↔ TakeApart s t }
 {
-    if lie_below(t) {
-        return lie_weakly_below(s);
+    match side_along(t) {
+        Some(side) => lie_weakly_on(side, s),
+        None => false,
     }
-    if lie_above(t) {
-        return lie_weakly_above(s);
-    }
-    false
 }
 
-// Whether both edge ends are below all corners.
-fn lie_below(h: Heights) -> bool
-    ensures { IsTrue result ↔ LieBelow h }
+// The side of all corners that both edge ends are strictly on, if they are on one.
+fn side_along(h: Heights) -> Option<Side>
+    ensures { (side : Side) → (result ≡ Some side) ↔ LieOn side h }
 {
-    if !is_lower(h.a, h.c, h.d, h.e) {
+    let side = side_by(h.a, h.b, h.c)?;
+    if lie_on(side, h) { Some(side) } else { None }
+}
+
+// Whether both edge ends are strictly on the side of all corners.
+fn lie_on(side: Side, h: Heights) -> bool
+    ensures { IsTrue result ↔ LieOn side h }
+{
+    if !both_on(side, h.a, h.b, h.c) {
         return false;
     }
-    is_lower(h.b, h.c, h.d, h.e)
-}
-
-// Whether both edge ends are above all corners.
-fn lie_above(h: Heights) -> bool
-    ensures { IsTrue result ↔ LieAbove h }
-{
-    if !is_higher(h.a, h.c, h.d, h.e) {
+    if !both_on(side, h.a, h.b, h.d) {
         return false;
     }
-    is_higher(h.b, h.c, h.d, h.e)
+    both_on(side, h.a, h.b, h.e)
 }
 
-// Whether both edge ends are at or below all corners.
-fn lie_weakly_below(h: Heights) -> bool
-    ensures { IsTrue result ↔ LieWeaklyBelow h }
+// Whether both edge ends are on the side of all corners, or level with them.
+fn lie_weakly_on(side: Side, h: Heights) -> bool
+    ensures { IsTrue result ↔ LieWeaklyOn side h }
 {
-    if !is_at_most(h.a, h.c, h.d, h.e) {
+    if !both_weakly_on(side, h.a, h.b, h.c) {
         return false;
     }
-    is_at_most(h.b, h.c, h.d, h.e)
-}
-
-// Whether both edge ends are at or above all corners.
-fn lie_weakly_above(h: Heights) -> bool
-    ensures { IsTrue result ↔ LieWeaklyAbove h }
-{
-    if !is_at_least(h.a, h.c, h.d, h.e) {
+    if !both_weakly_on(side, h.a, h.b, h.d) {
         return false;
     }
-    is_at_least(h.b, h.c, h.d, h.e)
-}
-
-// Whether the first height is below the others.
-fn is_lower(a: i128, c: i128, d: i128, e: i128) -> bool
-    ensures { IsTrue result ↔ IsLower a c d e }
-{
-    a < c && a < d && a < e
-}
-
-// Whether the first height is above the others.
-fn is_higher(a: i128, c: i128, d: i128, e: i128) -> bool
-    ensures { IsTrue result ↔ IsHigher a c d e }
-{
-    c < a && d < a && e < a
-}
-
-// Whether the first height is at most the others.
-fn is_at_most(a: i128, c: i128, d: i128, e: i128) -> bool
-    ensures { IsTrue result ↔ IsAtMost a c d e }
-{
-    a <= c && a <= d && a <= e
-}
-
-// Whether the first height is at least the others.
-fn is_at_least(a: i128, c: i128, d: i128, e: i128) -> bool
-    ensures { IsTrue result ↔ IsAtLeast a c d e }
-{
-    c <= a && d <= a && e <= a
+    both_weakly_on(side, h.a, h.b, h.e)
 }

@@ -1,4 +1,5 @@
-//! The written test of a motion: directions that keep an edge and a triangle apart, and halves of the time.
+//! The written test of a motion: directions that keep an edge and a triangle apart, and halves of
+//! the time.
 #![tactic(auto)]
 
 mod axes;
@@ -6,6 +7,7 @@ mod direction_list;
 mod halving;
 mod heights;
 mod one_direction;
+mod side;
 mod small;
 mod some_direction;
 
@@ -21,8 +23,9 @@ use grid_meets::meets;
 use halving::{opens_at, separated_at};
 pub use one_direction::{brings_together, keeps_apart, takes_apart};
 
-/// An edge and a triangle that move in straight lines. At the start and at the end it has five positions:
-/// the edge's two ends, and then the triangle's three corners. They are in half units, up to `HALF_MAX`.
+/// An edge and a triangle that move in straight lines. At the start and at the end it has five
+/// positions: the edge's two ends, and then the triangle's three corners. They are in half units,
+/// up to `HALF_MAX`.
 #[derive(Clone, Copy, Debug, PartialEq, Eq)]
 pub struct Pair {
     /// The positions at the start.
@@ -31,57 +34,65 @@ pub struct Pair {
     pub end: [Wide; 5],
 }
 
-/// Whether the pair is separated: one of the 23 directions keeps the edge strictly on one side of the triangle
-/// at the start and at the end; or, where depth is left, both halves of the motion are separated with one depth
-/// less. Then it meets at no fraction of the motion. Separating axes after El Topo (Brochu and Bridson 2009).
+/// Whether the pair is separated: one of the 23 directions keeps the edge strictly on one side of
+/// the triangle at the start and at the end; or, where depth is left, both halves of the motion are
+/// separated with one depth less. Then it meets at no fraction of the motion. Separating axes after
+/// El Topo (Brochu and Bridson 2009).
 pub fn separated(p: &Pair, depth: u8) -> bool
     requires depth_fits { depth ≤ DEPTH_MAX }
     requires start_fits { AreWithin HALF_MAX (positions_of p.now.start) }
     requires end_fits { AreWithin HALF_MAX (positions_of p.now.end) }
-    ensures exact { IsTrue result ↔ AreSeparated depth (positions_of p.now.start) (positions_of p.now.end) }
+    ensures exact { IsTrue result ↔
+        AreSeparated depth (positions_of p.now.start) (positions_of p.now.end) }
     ensures clear { IsTrue result → NeverMeet (positions_of p.now.start) (positions_of p.now.end) }
 {
     separated_at(&positions(&p.start), &positions(&p.end), depth, true)
 }
 
-/// Whether the pair passes: it is separated to the depth, or its five positions move by one shift and do not
-/// meet at the start. Then it meets at no fraction of the motion.
+/// Whether the pair passes: it is separated to the depth, or its five positions move by one shift
+/// and do not meet at the start. Then it meets at no fraction of the motion.
 pub fn passes(p: &Pair, depth: u8) -> bool
     requires depth_fits { depth ≤ DEPTH_MAX }
     requires start_fits { AreWithin HALF_MAX (positions_of p.now.start) }
     requires end_fits { AreWithin HALF_MAX (positions_of p.now.end) }
-    ensures exact { IsTrue result ↔ Passes depth (positions_of p.now.start) (positions_of p.now.end) }
+    ensures exact { IsTrue result ↔
+        Passes depth (positions_of p.now.start) (positions_of p.now.end) }
     ensures clear { IsTrue result → NeverMeet (positions_of p.now.start) (positions_of p.now.end) }
 {
     passes_at(p, depth)
 }
 
-/// Whether the pair opens: one of the 23 directions has the edge weakly on one side at the start and strictly
-/// there at the end; or, where depth is left, the first half opens and the second is separated, with one depth
-/// less. Then it meets at no fraction above zero.
+/// Whether the pair opens: one of the 23 directions has the edge weakly on one side at the start
+/// and strictly there at the end; or, where depth is left, the first half opens and the second is
+/// separated, with one depth less. Then it meets at no fraction above zero.
 pub fn opens(p: &Pair, depth: u8) -> bool
     requires depth_fits { depth ≤ DEPTH_MAX }
     requires start_fits { AreWithin HALF_MAX (positions_of p.now.start) }
     requires end_fits { AreWithin HALF_MAX (positions_of p.now.end) }
-    ensures exact { IsTrue result ↔ Opens depth (positions_of p.now.start) (positions_of p.now.end) }
-    ensures clear { IsTrue result → NeverMeetAfterStart (positions_of p.now.start) (positions_of p.now.end) }
+    ensures exact { IsTrue result ↔
+        Opens depth (positions_of p.now.start) (positions_of p.now.end) }
+    ensures clear { IsTrue result →
+        NeverMeetAfterStart (positions_of p.now.start) (positions_of p.now.end) }
 {
     opens_at(&positions(&p.start), &positions(&p.end), depth, true)
 }
 
-/// Whether the pair closes: with its start and its end exchanged it opens. Then it meets at no fraction below one.
+/// Whether the pair closes: with its start and its end exchanged it opens. Then it meets at no
+/// fraction below one.
 pub fn closes(p: &Pair, depth: u8) -> bool
     requires depth_fits { depth ≤ DEPTH_MAX }
     requires start_fits { AreWithin HALF_MAX (positions_of p.now.start) }
     requires end_fits { AreWithin HALF_MAX (positions_of p.now.end) }
-    ensures exact { IsTrue result ↔ Closes depth (positions_of p.now.start) (positions_of p.now.end) }
-    ensures clear { IsTrue result → NeverMeetBeforeEnd (positions_of p.now.start) (positions_of p.now.end) }
+    ensures exact { IsTrue result ↔
+        Closes depth (positions_of p.now.start) (positions_of p.now.end) }
+    ensures clear { IsTrue result →
+        NeverMeetBeforeEnd (positions_of p.now.start) (positions_of p.now.end) }
 {
     opens_at(&positions(&p.end), &positions(&p.start), depth, true)
 }
 
-// Whether the pair passes to the depth. What moves as one passes exactly where it does not meet at the start, so it is
-// asked for no direction.
+// Whether the pair passes to the depth. What moves as one passes exactly where it does not meet at
+// the start, so it is asked for no direction.
 fn passes_at(p: &Pair, depth: u8) -> bool
     requires depth_fits { depth ≤ DEPTH_MAX }
     requires start_fits { AreWithin HALF_MAX (positions_of p.now.start) }

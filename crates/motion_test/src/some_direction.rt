@@ -9,7 +9,8 @@ use crate::direction_list::direction_of;
 use crate::one_direction::{keeps, takes};
 use grid_base::Positions;
 
-// Whether one of the 23 directions keeps the edge on one side. The axes come first, which separate most pairs.
+// Whether one of the 23 directions keeps the edge on one side. The axes come first, which separate
+// most pairs.
 pub(crate) fn direction_keeps_apart(s: &Positions, t: &Positions, small: bool) -> bool
     requires s_fits { AreWithin (position_max small) s.now }
     requires t_fits { AreWithin (position_max small) t.now }
@@ -24,7 +25,8 @@ pub(crate) fn direction_keeps_apart(s: &Positions, t: &Positions, small: bool) -
     own_keeps_apart(t, s, t, small)
 }
 
-// Whether one of the ten directions of `f` keeps the edge on one side. Each is computed where those before it did not.
+// Whether one of the ten directions of `f` keeps the edge on one side. Each is computed where those
+// before it did not.
 fn own_keeps_apart(f: &Positions, s: &Positions, t: &Positions, small: bool) -> bool
     requires f_fits { AreWithin (position_max small) f.now }
     requires s_fits { AreWithin (position_max small) s.now }
@@ -54,7 +56,8 @@ pub(crate) fn direction_takes_apart(s: &Positions, t: &Positions, small: bool) -
     own_takes_apart(t, s, t, small)
 }
 
-// Whether one of the ten directions of `f` takes the edge to one side. Each is computed where those before it did not.
+// Whether one of the ten directions of `f` takes the edge to one side. Each is computed where those
+// before it did not.
 fn own_takes_apart(f: &Positions, s: &Positions, t: &Positions, small: bool) -> bool
     requires f_fits { AreWithin (position_max small) f.now }
     requires s_fits { AreWithin (position_max small) s.now }

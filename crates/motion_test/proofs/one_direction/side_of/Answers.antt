@@ -1,112 +1,51 @@
-use Rattle.std.proofs.Common.{rules, ◌≡◌, refl, to_z, of_z}
+use Rattle.std.proofs.Common.{rules, ◌≡◌, refl, sym, subst, ◌∙◌, to_z, of_z}
 use Rattle.std.specs.Int.{w128}
 use Rattle.std.proofs.lemmas.Bool.{false≢true}
 use Rattle.grid_base.specs.Triples.{dot}
-use Rattle.motion_test.proofs.Sides.{below≢above, above≢below, neither≢below, neither≢above, below_from, first_below, rest_below, above_from, first_above, rest_above, not_above}
+use Rattle.motion_test.specs.Heights.{LieOn, heights_along}
+use Rattle.motion_test.proofs.Sides.{none≢some, some_same, some_of, one_side}
 use Rattle.motion_test.proofs.one_direction.side_of.Goals as goal
 
-pub returns-then-rest_below-clause-below : goal.returns-then-rest_below-clause-below
-returns-then-rest_below-clause-below c =
+pub returns-in_err-side : goal.returns-in_err-side
+returns-in_err-side c =
     let n = c.args.n in
     let f = c.args.f.now in
     let a_is : to_z w128 (of_z w128 c.height-a.result) ≡ dot n f.a = search rules in
     let b_is : to_z w128 (of_z w128 c.height-b.result) ≡ dot n f.b = search rules in
     let c_is : to_z w128 (of_z w128 c.height-c.result) ≡ dot n f.c = search rules in
-    let under = simp (a_is, b_is, c_is) at c.if-both_below.ensures in
-    let rest = simp (a_is, b_is) at c.if-rest_below.ensures in
-    (λ _. below_from n f (under.0 refl) (rest.0 refl), λ _. refl)
+    let sides = simp (a_is, b_is, c_is) at c.side_by.ensures in
+    λ side. (λ e. absurd (none≢some side (sym c.from_residual.ensures ∙ e)), λ on. absurd (none≢some side (sym c.in_err-side.was ∙ (sides side).1 on.of_c)))
 
-pub returns-then-rest_below-clause-above : goal.returns-then-rest_below-clause-above
-returns-then-rest_below-clause-above c =
+pub returns-then-rest_on : goal.returns-then-rest_on
+returns-then-rest_on c =
     let n = c.args.n in
     let f = c.args.f.now in
     let a_is : to_z w128 (of_z w128 c.height-a.result) ≡ dot n f.a = search rules in
     let b_is : to_z w128 (of_z w128 c.height-b.result) ≡ dot n f.b = search rules in
     let c_is : to_z w128 (of_z w128 c.height-c.result) ≡ dot n f.c = search rules in
-    let under = simp (a_is, b_is, c_is) at c.if-both_below.ensures in
-    (λ e. absurd (below≢above e), λ above. absurd (not_above n f (under.0 refl) above))
+    let here = c.in_ok-side.side in
+    let on_c = ((simp (a_is, b_is, c_is) at c.side_by.ensures) here).0 c.in_ok-side.was in
+    let rest = (simp (a_is, b_is) at c.if-rest_on.ensures).0 refl in
+    let on_here : LieOn here (heights_along n f) = record { of_c = on_c; of_d = rest.0; of_e = rest.1 } in
+    λ side. (
+      λ e. subst (λ s. LieOn s (heights_along n f)) (some_same here side e) on_here,
+      λ on. some_of here side (one_side here side _ _ _ on_c on.of_c),
+    )
 
-pub returns-then-both_below-clause-below : goal.returns-then-both_below-clause-below
-returns-then-both_below-clause-below c =
+pub returns-else-rest_on : goal.returns-else-rest_on
+returns-else-rest_on c =
     let n = c.args.n in
     let f = c.args.f.now in
     let a_is : to_z w128 (of_z w128 c.height-a.result) ≡ dot n f.a = search rules in
     let b_is : to_z w128 (of_z w128 c.height-b.result) ≡ dot n f.b = search rules in
     let c_is : to_z w128 (of_z w128 c.height-c.result) ≡ dot n f.c = search rules in
-    let under = simp (a_is, b_is, c_is) at c.if-both_below.ensures in
-    let rest = simp (a_is, b_is) at c.if-rest_below.ensures in
-    (λ e. absurd (neither≢below e), λ below. absurd (false≢true (rest.1 (rest_below n f below))))
-
-pub returns-then-both_below-clause-above : goal.returns-then-both_below-clause-above
-returns-then-both_below-clause-above c =
-    let n = c.args.n in
-    let f = c.args.f.now in
-    let a_is : to_z w128 (of_z w128 c.height-a.result) ≡ dot n f.a = search rules in
-    let b_is : to_z w128 (of_z w128 c.height-b.result) ≡ dot n f.b = search rules in
-    let c_is : to_z w128 (of_z w128 c.height-c.result) ≡ dot n f.c = search rules in
-    let under = simp (a_is, b_is, c_is) at c.if-both_below.ensures in
-    (λ e. absurd (neither≢above e), λ above. absurd (not_above n f (under.0 refl) above))
-
-pub returns-then-rest_above-clause-below : goal.returns-then-rest_above-clause-below
-returns-then-rest_above-clause-below c =
-    let n = c.args.n in
-    let f = c.args.f.now in
-    let a_is : to_z w128 (of_z w128 c.height-a.result) ≡ dot n f.a = search rules in
-    let b_is : to_z w128 (of_z w128 c.height-b.result) ≡ dot n f.b = search rules in
-    let c_is : to_z w128 (of_z w128 c.height-c.result) ≡ dot n f.c = search rules in
-    let under = simp (a_is, b_is, c_is) at c.if-both_below.ensures in
-    (λ e. absurd (above≢below e), λ below. absurd (false≢true (under.1 (first_below n f below))))
-
-pub returns-then-rest_above-clause-above : goal.returns-then-rest_above-clause-above
-returns-then-rest_above-clause-above c =
-    let n = c.args.n in
-    let f = c.args.f.now in
-    let a_is : to_z w128 (of_z w128 c.height-a.result) ≡ dot n f.a = search rules in
-    let b_is : to_z w128 (of_z w128 c.height-b.result) ≡ dot n f.b = search rules in
-    let c_is : to_z w128 (of_z w128 c.height-c.result) ≡ dot n f.c = search rules in
-    let under = simp (a_is, b_is, c_is) at c.if-both_below.ensures in
-    let over = simp (a_is, b_is, c_is) at c.if-both_above.ensures in
-    let rest = simp (a_is, b_is) at c.if-rest_above.ensures in
-    (λ _. above_from n f (over.0 refl) (rest.0 refl), λ _. refl)
-
-pub returns-else-rest_above-clause-below : goal.returns-else-rest_above-clause-below
-returns-else-rest_above-clause-below c =
-    let n = c.args.n in
-    let f = c.args.f.now in
-    let a_is : to_z w128 (of_z w128 c.height-a.result) ≡ dot n f.a = search rules in
-    let b_is : to_z w128 (of_z w128 c.height-b.result) ≡ dot n f.b = search rules in
-    let c_is : to_z w128 (of_z w128 c.height-c.result) ≡ dot n f.c = search rules in
-    let under = simp (a_is, b_is, c_is) at c.if-both_below.ensures in
-    (λ e. absurd (neither≢below e), λ below. absurd (false≢true (under.1 (first_below n f below))))
-
-pub returns-else-rest_above-clause-above : goal.returns-else-rest_above-clause-above
-returns-else-rest_above-clause-above c =
-    let n = c.args.n in
-    let f = c.args.f.now in
-    let a_is : to_z w128 (of_z w128 c.height-a.result) ≡ dot n f.a = search rules in
-    let b_is : to_z w128 (of_z w128 c.height-b.result) ≡ dot n f.b = search rules in
-    let c_is : to_z w128 (of_z w128 c.height-c.result) ≡ dot n f.c = search rules in
-    let under = simp (a_is, b_is, c_is) at c.if-both_below.ensures in
-    let rest = simp (a_is, b_is) at c.if-rest_above.ensures in
-    (λ e. absurd (neither≢above e), λ above. absurd (false≢true (rest.1 (rest_above n f above))))
-
-pub returns-else-both_above-clause-below : goal.returns-else-both_above-clause-below
-returns-else-both_above-clause-below c =
-    let n = c.args.n in
-    let f = c.args.f.now in
-    let a_is : to_z w128 (of_z w128 c.height-a.result) ≡ dot n f.a = search rules in
-    let b_is : to_z w128 (of_z w128 c.height-b.result) ≡ dot n f.b = search rules in
-    let c_is : to_z w128 (of_z w128 c.height-c.result) ≡ dot n f.c = search rules in
-    let under = simp (a_is, b_is, c_is) at c.if-both_below.ensures in
-    (λ e. absurd (neither≢below e), λ below. absurd (false≢true (under.1 (first_below n f below))))
-
-pub returns-else-both_above-clause-above : goal.returns-else-both_above-clause-above
-returns-else-both_above-clause-above c =
-    let n = c.args.n in
-    let f = c.args.f.now in
-    let a_is : to_z w128 (of_z w128 c.height-a.result) ≡ dot n f.a = search rules in
-    let b_is : to_z w128 (of_z w128 c.height-b.result) ≡ dot n f.b = search rules in
-    let c_is : to_z w128 (of_z w128 c.height-c.result) ≡ dot n f.c = search rules in
-    let under = simp (a_is, b_is, c_is) at c.if-both_below.ensures in
-    let over = simp (a_is, b_is, c_is) at c.if-both_above.ensures in
-    (λ e. absurd (neither≢above e), λ above. absurd (false≢true (over.1 (first_above n f above))))
+    let here = c.in_ok-side.side in
+    let on_c = ((simp (a_is, b_is, c_is) at c.side_by.ensures) here).0 c.in_ok-side.was in
+    let rest = simp (a_is, b_is) at c.if-rest_on.ensures in
+    λ side. (
+      λ e. absurd (none≢some side e),
+      λ on.
+          let same = one_side side here _ _ _ on.of_c on_c in
+          let on_here = subst (λ s. LieOn s (heights_along n f)) same on in
+          absurd (false≢true (rest.1 (on_here.of_d, on_here.of_e))),
+    )

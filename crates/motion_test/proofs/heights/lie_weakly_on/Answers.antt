@@ -1,7 +1,7 @@
 use Rattle.std.proofs.Common.{rules, refl, SFits}
 use Rattle.std.specs.Int.{w128}
 use Rattle.std.proofs.lemmas.Int.{to_z-of_z}
-use Rattle.motion_test.proofs.heights.lie_weakly_above.Goals as goal
+use Rattle.motion_test.proofs.heights.lie_weakly_on.Goals as goal
 
 pub returns : goal.returns
 returns c =
@@ -11,6 +11,7 @@ returns c =
     let c_fits : SFits w128 h.c = search rules in
     let d_fits : SFits w128 h.d = search rules in
     let e_fits : SFits w128 h.e = search rules in
-    let first = (simp to_z-of_z at c.if-not-is_at_least.ensures).0 refl in
-    let second = simp to_z-of_z at c.is_at_least-2.ensures in
-    (λ yes. (first, second.0 yes), λ both. second.1 both.1)
+    let first = (simp to_z-of_z at c.if-not-both_weakly_on.ensures).0 refl in
+    let second = (simp to_z-of_z at c.if-not-both_weakly_on-2.ensures).0 refl in
+    let third = simp to_z-of_z at c.both_weakly_on-3.ensures in
+    (λ yes. record { of_c = first; of_d = second; of_e = third.0 yes }, λ on. third.1 on.of_e)
