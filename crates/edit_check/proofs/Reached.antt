@@ -31,7 +31,7 @@ wider_still o p q first second box is =
     let two = second one.0 one.1.0 in
     (two.0, (two.1.0, λ t h. two.1.1 t (one.1.1 t h)))
 
-path_in : (w : Path) (box wide : Extent) → ((p : Triple) → IsIn box p → IsIn wide p) → HoldsPath w box → HoldsPath w wide
+pub path_in : (w : Path) (box wide : Extent) → ((p : Triple) → IsIn box p → IsIn wide p) → HoldsPath w box → HoldsPath w wide
 path_in w box wide has h = record { start = has w.start h.start; end = has w.end h.end }
 
 pub face_in : (f : MovingFace) (box wide : Extent) → ((p : Triple) → IsIn box p → IsIn wide p) → HoldsFace f box → HoldsFace f wide

@@ -10,7 +10,7 @@ use Rattle.mesh_base.specs.Pairs.{Pair, pairs_of}
 use Rattle.edit_base.specs.declared.Move.{Move}
 use Rattle.edit_base.specs.declared.Touch.{Touch}
 use Rattle.edit_base.specs.Scaffold.{Scaffold, is_as_required}
-use Rattle.edit_check.specs.declared.checking.Terms.{Terms}
+use Rattle.edit_check.specs.declared.terms.Terms.{Terms}
 
 -- the mesh, with the moves, and the vertices of which two may touch
 abbrev pub scaffold_by : Mesh → List Move → Touch → List ℕ → Scaffold

@@ -13,9 +13,15 @@ use Rattle.mesh_base.specs.Near.{is_face_near}
 use Rattle.edit_base.specs.declared.Move.{Move}
 use Rattle.edit_base.specs.Scaffold.{motion_by}
 use Rattle.pair_paths.specs.declared.MovingFace.{MovingFace}
+use Rattle.pair_paths.specs.Paths.{path_along}
 use Rattle.pair_paths.specs.Moving.{moving_face, moving_faces}
-use Rattle.pair_paths.specs.Bounds.{HoldsFace}
+use Rattle.pair_paths.specs.Bounds.{HoldsPath, HoldsFace}
 use Rattle.edit_check.specs.Touched.{is_touched}
+
+-- the box has all the way of the vertex, and the vertex where it stands
+pub record HasVertex (m : Mesh) (moves : List Move) (v : ℕ) (box : Extent) : Type 0 where
+  pub way : HoldsPath (path_along (motion_by m moves) v) box
+  pub standing : HoldsPath (path_along (motion_by m []) v) box
 
 -- the box has all the way of the face, and the face where it stands
 pub record HasFace (m : Mesh) (moves : List Move) (f : ℕ × Corners) (box : Extent) : Type 0 where

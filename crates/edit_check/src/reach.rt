@@ -4,25 +4,24 @@ ghost use Rattle.std.specs.FinMap as map;
 ghost use Rattle.grid_base.specs.Triples.{Triple};
 ghost use Rattle.grid_base.specs.Extents.{IsIn};
 ghost use Rattle.mesh_base.specs.Sides.{above, faces_at};
-ghost use Rattle.pair_paths.specs.Moving.{moving_face};
-ghost use Rattle.edit_check.specs.Reach.{HasFace, Reaches, ReachesAt, ReachesMoves, ReachesTouched, Widens};
+ghost use Rattle.edit_check.specs.Reach.{HasVertex, HasFace, Reaches, ReachesAt, ReachesMoves, ReachesTouched, Widens};
 
-use crate::moves::{Moved, Standing};
+use crate::moves::{Moved, Standing, is_moved};
 use grid_base::{Extent, NoMemory};
 use mesh_base::{Corners, FaceId, FaceIds, Surface, VertexId, live_faces_above};
-use pair_paths::{HasBounds, MovingFace, Paths};
+use pair_paths::{HasBounds, Paths};
 use std::alloc::Global;
 
-/// A face of these corners, with their paths.
-pub(crate) fn face_with_paths<P: Paths>(paths: &P, face: FaceId, corners: &Corners) -> MovingFace
-    ensures { result ≡ moving_face (P.motion paths.now) (face, corners.now) }
+/// A box that has the vertex where it stands, and all its way. One that no move names stands where it goes.
+fn box_of_vertex<S: Surface>(paths: &Moved<S>, v: VertexId) -> Extent
+    ensures { HasVertex (S.mesh paths.now.mesh.now) paths.now.moves.now v result }
 {
-    MovingFace {
-        face,
-        corners: *corners,
-        c: paths.path_of(corners.first),
-        d: paths.path_of(corners.second),
-        e: paths.path_of(corners.third),
+    let way = paths.path_of(v).bounds();
+    if is_moved(paths.moves, v) {
+        let standing = Standing { mesh: paths.mesh };
+        way.united(&standing.path_of(v).bounds())
+    } else {
+        way
     }
 }
 
@@ -30,9 +29,8 @@ pub(crate) fn face_with_paths<P: Paths>(paths: &P, face: FaceId, corners: &Corne
 fn box_of<S: Surface>(paths: &Moved<S>, face: FaceId, corners: &Corners) -> Extent
     ensures { HasFace (S.mesh paths.now.mesh.now) paths.now.moves.now (face, corners.now) result }
 {
-    let standing = Standing { mesh: paths.mesh };
-    let way = face_with_paths(paths, face, corners).bounds();
-    way.united(&face_with_paths(&standing, face, corners).bounds())
+    let two = box_of_vertex(paths, corners.first).united(&box_of_vertex(paths, corners.second));
+    two.united(&box_of_vertex(paths, corners.third))
 }
 
 /// The box, or the other alone where there is none, so that it has the other too.
