@@ -9,3 +9,4 @@ pub mod Boxed
 pub mod Sides
 pub mod Neighbourhood
 pub mod Searching
+pub mod Looking

@@ -30,9 +30,14 @@ fn first_in_reach<S: Surface>(
     fresh_from: u32,
     reach: Extent,
 ) -> Result<Option<PairName>, NoMemory>
-    requires reached { ReachesTouched (S.mesh paths.now.mesh.now) paths.now.moves.now terms.together.now fresh_from (Some reach) }
-    requires clear { IsClearWhereUntouched (S.mesh paths.now.mesh.now) paths.now.moves.now fresh_from }
-    ensures { IfOk result (λ found. found ≡ first_failing meets_exactly (scaffold_by (S.mesh paths.now.mesh.now) paths.now.moves.now terms.entry.touch terms.entry.together.now) terms.entry.depth) }
+    requires reached { let m = S.mesh paths.now.mesh.now in
+        ReachesTouched m paths.now.moves.now terms.together.now fresh_from (Some reach) }
+    requires clear { let m = S.mesh paths.now.mesh.now in
+        IsClearWhereUntouched m paths.now.moves.now fresh_from }
+    ensures { let m = S.mesh paths.now.mesh.now in
+        let t = terms.entry in
+        let s = scaffold_by m paths.now.moves.now t.touch t.together.now in
+        IfOk result (λ found. found ≡ first_failing meets_exactly s t.depth) }
 {
     let mut ids = Vec::new(alloc);
     paths.mesh.faces_near(reach, &mut ids)?;
@@ -70,9 +75,11 @@ pub fn check<S: Surface>(
     requires depth { depth ≤ DEPTH_MAX }
     requires fits { All MoveFits moves.now }
     requires clear { IsClearWhereUntouched (S.mesh mesh.now) moves.now fresh_from }
-    ensures first { IfOk result (λ found. found ≡ first_failing meets_exactly (scaffold_by (S.mesh mesh.now) moves.now touch together.now) depth) }
+    ensures first { IfOk result (λ found. found ≡ first_failing meets_exactly
+        (scaffold_by (S.mesh mesh.now) moves.now touch together.now) depth) }
     // None: the motion is clear.
-    ensures clear { IfOk result (λ found. IsNone found → IsClearBut touch (S.mesh mesh.now) (motion_by (S.mesh mesh.now) moves.now)) }
+    ensures clear { IfOk result (λ found. IsNone found →
+        IsClearBut touch (S.mesh mesh.now) (motion_by (S.mesh mesh.now) moves.now)) }
 {
     let terms = Terms {
         touch,
@@ -95,7 +102,8 @@ pub fn check_still<S: Surface>(
     fresh_from: u32,
 ) -> Result<Option<PairName>, NoMemory>
     requires { IsClearWhereUntouched (S.mesh mesh.now) [] fresh_from }
-    ensures first { IfOk result (λ found. found ≡ first_meeting meets_exactly (S.mesh mesh.now) (rest_positions (S.mesh mesh.now))) }
+    ensures first { IfOk result (λ found. found ≡
+        first_meeting meets_exactly (S.mesh mesh.now) (rest_positions (S.mesh mesh.now))) }
     // None: the mesh is clear.
     ensures clear { IfOk result (λ found. IsNone found → IsClearMesh (S.mesh mesh.now)) }
 {

@@ -28,7 +28,8 @@ fn face_with_paths<P: Paths>(paths: &P, face: FaceId, corners: &Corners) -> Movi
 
 /// A face, with the paths of its corners, if it is live.
 fn face_along<S: Surface>(paths: &Moved<S>, f: FaceId) -> Option<MovingFace>
-    ensures { result ≡ live_face (S.mesh paths.now.mesh.now) (motion_by (S.mesh paths.now.mesh.now) paths.now.moves.now) f }
+    ensures { let m = S.mesh paths.now.mesh.now in
+        result ≡ live_face m (motion_by m paths.now.moves.now) f }
 {
     match paths.mesh.corners(f) {
         Some(ids) => Some(face_with_paths(paths, f, &Corners::of(ids))),
@@ -42,7 +43,8 @@ pub(crate) fn faces_along<S: Surface>(
     paths: &Moved<S>,
     ids: &[FaceId],
 ) -> Result<Items<BoxedFace>, NoMemory>
-    ensures { IfOk result (λ faces. faces_in faces ≡ faces_among (S.mesh paths.now.mesh.now) paths.now.moves.now ids.now) }
+    ensures { let m = S.mesh paths.now.mesh.now in
+        IfOk result (λ faces. faces_in faces ≡ faces_among m paths.now.moves.now ids.now) }
 {
     let mut faces = Vec::with_capacity(alloc, ids.len())?;
     for f in ids {

@@ -4,7 +4,8 @@ ghost use Rattle.std.specs.FinMap as map;
 ghost use Rattle.grid_base.specs.Triples.{Triple};
 ghost use Rattle.grid_base.specs.Extents.{IsIn};
 ghost use Rattle.mesh_base.specs.Sides.{above, faces_at};
-ghost use Rattle.edit_check.specs.Reach.{HasVertex, HasFace, Reaches, ReachesAt, ReachesMoves, ReachesTouched, Widens};
+ghost use Rattle.edit_check.specs.Reach.{HasVertex, HasFace, Reaches, ReachesAt, ReachesMoves};
+ghost use Rattle.edit_check.specs.Reach.{ReachesTouched, Widens};
 
 use crate::moves::{Moved, Standing, is_moved};
 use grid_base::{Extent, NoMemory};
@@ -61,7 +62,8 @@ fn reach_faces<S: Surface>(
     faces: &[FaceId],
     reach: Option<Extent>,
 ) -> Option<Extent>
-    ensures reaches { All (Reaches (S.mesh paths.now.mesh.now) paths.now.moves.now result) faces.now }
+    ensures reaches { let m = S.mesh paths.now.mesh.now in
+        All (Reaches m paths.now.moves.now result) faces.now }
     ensures keeps { Widens reach result }
 {
     let mut wide = reach;
@@ -78,7 +80,8 @@ fn reach_at<S: Surface>(
     at: &mut Vec<FaceId>,
     reach: Option<Extent>,
 ) -> Result<Option<Extent>, NoMemory>
-    ensures reaches { IfOk result (λ wide. ReachesAt (S.mesh paths.now.mesh.now) paths.now.moves.now wide v) }
+    ensures reaches { let m = S.mesh paths.now.mesh.now in
+        IfOk result (λ wide. ReachesAt m paths.now.moves.now wide v) }
     ensures keeps { IfOk result (λ wide. Widens reach wide) }
 {
     paths.mesh.faces_at(v, at)?;
@@ -91,7 +94,8 @@ fn reach_moves<S: Surface>(
     at: &mut Vec<FaceId>,
     reach: Option<Extent>,
 ) -> Result<Option<Extent>, NoMemory>
-    ensures reaches { IfOk result (λ wide. ReachesMoves (S.mesh paths.now.mesh.now) paths.now.moves.now wide) }
+    ensures reaches { let m = S.mesh paths.now.mesh.now in
+        IfOk result (λ wide. ReachesMoves m paths.now.moves.now wide) }
     ensures keeps { IfOk result (λ wide. Widens reach wide) }
 {
     let mut wide = reach;
@@ -108,7 +112,8 @@ fn reach_vertices<S: Surface>(
     at: &mut Vec<FaceId>,
     reach: Option<Extent>,
 ) -> Result<Option<Extent>, NoMemory>
-    ensures reaches { IfOk result (λ wide. All (ReachesAt (S.mesh paths.now.mesh.now) paths.now.moves.now wide) vertices.now) }
+    ensures reaches { let m = S.mesh paths.now.mesh.now in
+        IfOk result (λ wide. All (ReachesAt m paths.now.moves.now wide) vertices.now) }
     ensures keeps { IfOk result (λ wide. Widens reach wide) }
 {
     let mut wide = reach;
@@ -120,7 +125,8 @@ fn reach_vertices<S: Surface>(
 
 /// The live faces from an id on, by rising id.
 fn fresh_faces<S: Surface>(alloc: Global, mesh: &S, fresh_from: u32) -> Result<FaceIds, NoMemory>
-    ensures { IfOk result (λ ids. ids ≡ above (fresh_from - 1) (map.keys (S.mesh mesh.now).faces)) }
+    ensures { let m = S.mesh mesh.now in
+        IfOk result (λ ids. ids ≡ above (fresh_from - 1) (map.keys m.faces)) }
 {
     live_faces_above(alloc, mesh, fresh_from.saturating_sub(1))
 }
@@ -132,7 +138,8 @@ pub(crate) fn reach_of<S: Surface>(
     together: &[VertexId],
     fresh_from: u32,
 ) -> Result<Option<Extent>, NoMemory>
-    ensures { IfOk result (λ reach. ReachesTouched (S.mesh paths.now.mesh.now) paths.now.moves.now together.now fresh_from reach) }
+    ensures { let m = S.mesh paths.now.mesh.now in
+        IfOk result (ReachesTouched m paths.now.moves.now together.now fresh_from) }
 {
     let fresh = fresh_faces(alloc, paths.mesh, fresh_from)?;
     let mut at = Vec::new(alloc);

@@ -1,8 +1,9 @@
 //! The search for the first pair that is not as required, along the sides of the faces of a neighbourhood.
 ghost use Rattle.std.specs.Prelude.{◌≡◌, None, nat_lt};
-ghost use Rattle.std.specs.List.{fold, All};
-ghost use Rattle.edit_check.specs.Neighbourhood.{HasNoneApart};
-ghost use Rattle.edit_check.specs.Searching.{first_near, is_settled, with_edge, edges_at, edges_of, with_faces};
+ghost use Rattle.std.specs.List.{All};
+ghost use Rattle.edit_check.specs.Searching.{is_settled, with_edge, with_faces};
+ghost use Rattle.edit_check.specs.Looking.{first_there, HasNoneThere, edges_along, edges_round};
+ghost use Rattle.edit_check.specs.Looking.{once_looked_at};
 
 use crate::boxed::BoxedEdge;
 use crate::boxing::boxed_edge;
@@ -25,7 +26,7 @@ fn is_settled(found: &Option<PairName>, a: VertexId, b: VertexId) -> bool
 /// The first pair of an edge that is not as required. An edge that is a side of a touched face is tested with all faces,
 /// and any other one with the touched faces only.
 fn first_near(near: &Neighbourhood, e: &BoxedEdge) -> Option<PairName>
-    ensures { result ≡ first_near near.now.terms near.now.faces.now near.now.touched.now e.now.edge }
+    ensures { result ≡ first_there near.now e.now.edge }
 {
     let t = near.terms;
     let tested = if is_side_of_some(e.edge.a, e.edge.b, near.touched) {
@@ -39,8 +40,8 @@ fn first_near(near: &Neighbourhood, e: &BoxedEdge) -> Option<PairName>
 /// What is found once an edge more is looked at. One whose box has no common point with that of the touched faces is no
 /// side of one, and does as required with each of them.
 fn with_edge(near: &Neighbourhood, edge: &MovingEdge, found: Option<PairName>) -> Option<PairName>
-    requires { HasNoneApart near.now.terms near.now.reach near.now.faces.now near.now.touched.now edge.now }
-    ensures { result ≡ with_edge (first_near near.now.terms near.now.faces.now near.now.touched.now) found edge.now }
+    requires { HasNoneThere near.now edge.now }
+    ensures { result ≡ with_edge (first_there near.now) found edge.now }
 {
     if is_settled(&found, edge.a, edge.b) {
         return found;
@@ -64,8 +65,8 @@ fn is_below(u: VertexId, v: VertexId) -> bool
 
 /// What is found once a side more is looked at, unless another face runs the other way: there it is looked at.
 fn with_side(near: &Neighbourhood, side: &MovingEdge, found: Option<PairName>) -> Option<PairName>
-    requires { All (HasNoneApart near.now.terms near.now.reach near.now.faces.now near.now.touched.now) (edges_at near.now.faces.now side.now) }
-    ensures { result ≡ fold (with_edge (first_near near.now.terms near.now.faces.now near.now.touched.now)) found (edges_at near.now.faces.now side.now) }
+    requires { All (HasNoneThere near.now) (edges_along near.now side.now) }
+    ensures { result ≡ once_looked_at near.now found (edges_along near.now side.now) }
 {
     if is_below(side.a, side.b) {
         return with_edge(near, side, found);
@@ -78,8 +79,8 @@ fn with_side(near: &Neighbourhood, side: &MovingEdge, found: Option<PairName>) -
 
 /// What is found once the sides of a face more are looked at.
 fn with_face(near: &Neighbourhood, f: &MovingFace, found: Option<PairName>) -> Option<PairName>
-    requires { All (HasNoneApart near.now.terms near.now.reach near.now.faces.now near.now.touched.now) (edges_of near.now.faces.now f.now) }
-    ensures { result ≡ fold (with_edge (first_near near.now.terms near.now.faces.now near.now.touched.now)) found (edges_of near.now.faces.now f.now) }
+    requires { All (HasNoneThere near.now) (edges_round near.now f.now) }
+    ensures { result ≡ once_looked_at near.now found (edges_round near.now f.now) }
 {
     let one = with_side(near, &first_side(f), found);
     let two = with_side(near, &second_side(f), one);
@@ -88,7 +89,8 @@ fn with_face(near: &Neighbourhood, f: &MovingFace, found: Option<PairName>) -> O
 
 /// What is found once all sides of the faces are looked at.
 pub(crate) fn first_along(near: &Neighbourhood) -> Option<PairName>
-    ensures { result ≡ with_faces near.now.terms near.now.faces.now near.now.touched.now None near.now.faces.now }
+    ensures { let n = near.now in
+        result ≡ with_faces n.terms n.faces.now n.touched.now None n.faces.now }
 {
     let mut found = None;
     for f in near.faces {

@@ -1,6 +1,7 @@
 //! The sides of faces, as edges.
 ghost use Rattle.std.specs.Prelude.{◌≡◌};
-ghost use Rattle.edit_check.specs.Sides.{first_side, second_side, third_side, turned, is_run_by_some};
+ghost use Rattle.edit_check.specs.Sides.{first_side, second_side, third_side};
+ghost use Rattle.edit_check.specs.Sides.{turned, is_run_by_some};
 
 use crate::boxed::BoxedFace;
 use mesh_base::VertexId;

@@ -44,7 +44,8 @@ pub(crate) fn touched_of(
     fresh_from: u32,
     faces: &[BoxedFace],
 ) -> Result<Items<BoxedFace>, NoMemory>
-    ensures { IfOk result (λ touched. touched ≡ touched_boxed moves.now together.now fresh_from faces.now) }
+    ensures { IfOk result (λ touched. touched ≡
+        touched_boxed moves.now together.now fresh_from faces.now) }
 {
     let mut touched = Items::new(alloc);
     for f in faces {
