@@ -1,5 +1,5 @@
 -- What is nearby is enough: an edge and a face of which one is out of reach do as required.
-use Rattle.std.proofs.Common.{◌≡◌, ℕ, ◌<◌, Bool, true, false, cond, ◌&&◌, ◌||◌, ◌==◌, not, List, [], ◌∷◌, ◌++◌, map, Option, Some, None, is_some, ⊎_elim, inl, inr, refl, sym, ap, subst, ◌∙◌, arith}
+use Rattle.std.proofs.Common.{◌≡◌, ℕ, ◌<◌, Bool, true, false, cond, ◌&&◌, ◌||◌, ◌==◌, not, List, [], ◌∷◌, ◌++◌, map, Option, Some, None, ⊎_elim, inl, inr, refl, sym, ap, subst, ◌∙◌, arith}
 use Rattle.std.specs.List.{filter, find, list_any, flat_map, AllByRecursion}
 use Rattle.std.specs.Option.{option_map}
 use Rattle.std.specs.FinMap as finite
@@ -16,10 +16,9 @@ use Rattle.mesh_base.specs.declared.ids.Corners.{Corners}
 use Rattle.mesh_base.specs.Mesh.{Mesh, HasCorners}
 use Rattle.mesh_base.specs.Sides.{has_corner, IsEdge}
 use Rattle.mesh_base.specs.Pairs.{pairs_of}
-use Rattle.mesh_base.specs.SideList.{are_neighbours, neighbours_in, neighbours_at, neighbours_in_any}
+use Rattle.mesh_base.specs.SideList.{are_neighbours}
 use Rattle.mesh_base.specs.Near.{is_near, is_some_near}
 use Rattle.mesh_base.specs.Placements.{Motion, rest_positions_doubled}
-use Rattle.mesh_base.proofs.Listed.{at_live}
 use Rattle.mesh_base.proofs.ListedPairs.{all_mapped, all_weaker, all_filtered}
 use Rattle.edit_base.specs.declared.Move.{Move}
 use Rattle.edit_base.specs.declared.Touch.{Touch}
@@ -39,7 +38,7 @@ use Rattle.edit_check.specs.Nearby.{as_list, faces_among}
 use Rattle.edit_check.proofs.Far.{IsOneOf, face_separated, edge_separated, held_is_near}
 use Rattle.edit_check.proofs.Still.{find-filter}
 use Rattle.edit_check.proofs.Untouched.{start_stays, end_stays}
-use Rattle.edit_check.proofs.Scans.{IsOldFace, old_face, corner_rests, step_corners, none_kept, rests, old_side, among_all, among_touched}
+use Rattle.edit_check.proofs.Scans.{IsOldFace, old_face, corner_rests, step_corners, rests, old_side, among_all, among_touched}
 
 -- ---- lists
 -- the faces of the ids that are kept are the faces that are kept
@@ -79,7 +78,7 @@ some_kept {X} P keep test (x ∷ xs) h e = by_test (some_kept P keep test xs h.1
     by_test rest true k e = ⊎_elim (λ t. (x, (k, (t, h.0)))) rest (or_cases (test x) (list_any test (filter keep xs)) e)
     by_test rest false k e = rest e
 
-none_found : {X : Type 0} (test : X → Bool) (xs : List X) → AllByRecursion (λ x. test x ≡ false) xs → find test xs ≡ None
+pub none_found : {X : Type 0} (test : X → Bool) (xs : List X) → AllByRecursion (λ x. test x ≡ false) xs → find test xs ≡ None
 none_found test [] h = refl
 none_found test (x ∷ xs) h = ap (λ b. cond b (Some x) (find test xs)) h.0 ∙ none_found test xs h.1
 
@@ -107,11 +106,11 @@ false_and : (t u : Bool) → t ≡ false → (t && u) ≡ false
 false_and true u e = absurd (false≢true (sym e))
 false_and false u e = refl
 
-first_and : (t u : Bool) → (t && u) ≡ true → t ≡ true
+pub first_and : (t u : Bool) → (t && u) ≡ true → t ≡ true
 first_and true u e = refl
 first_and false u e = e
 
-second_and : (t u : Bool) → (t && u) ≡ true → u ≡ true
+pub second_and : (t u : Bool) → (t && u) ≡ true → u ≡ true
 second_and true u e = e
 second_and false u e = absurd (false≢true e)
 
@@ -126,7 +125,7 @@ corner_at at c v h = ⊎_elim
     (or_cases ((c.first == v) || (c.second == v)) (c.third == v) h)
 
 -- a corner's path is in the box of the face
-corner_held : (w : Motion) (f : ℕ × Corners) (v : ℕ) (box : Extent) → HoldsFace (moving_face w f) box → has_corner f.1 v ≡ true → HoldsPath (path_along w v) box
+pub corner_held : (w : Motion) (f : ℕ × Corners) (v : ℕ) (box : Extent) → HoldsFace (moving_face w f) box → has_corner f.1 v ≡ true → HoldsPath (path_along w v) box
 corner_held w f v box h corner = ⊎_elim
     (λ two. ⊎_elim (λ e. at f.1.first e h.c) (λ e. at f.1.second e h.d) (or_cases (f.1.first == v) (f.1.second == v) two))
     (λ e. at f.1.third e h.e)
@@ -140,7 +139,7 @@ passes_apart depth s t h = of_passes meets_exactly meets_exactly-is_exact depth 
 
 -- ---- pairs of which one is far
 module _ (m : Mesh) (moves : List Move) (touch : Touch) (together : List ℕ) (depth fresh_from : ℕ) where
-  abbrev w : Motion
+  abbrev pub w : Motion
   w = motion_by m moves
 
   abbrev rest : ℕ → Triple
@@ -224,25 +223,25 @@ module _ (m : Mesh) (moves : List Move) (touch : Touch) (together : List ℕ) (d
 
   -- ---- with a box that has each touched face
   module _ (reach : Option Extent) (reached : ReachesTouched m moves together fresh_from reach) where
-    abbrev in_reach : MovingFace → Bool
+    abbrev pub in_reach : MovingFace → Bool
     in_reach f = is_face_in_reach m reach f.face
 
-    abbrev new : MovingFace → Bool
+    abbrev pub new : MovingFace → Bool
     new f = is_touched moves together fresh_from f
 
-    abbrev all : List MovingFace
+    abbrev pub all : List MovingFace
     all = moving_faces m w
 
-    abbrev IsFace : MovingFace → Type 0
+    abbrev pub IsFace : MovingFace → Type 0
     IsFace f = HasCorners m f.face f.corners × (moving_face w (f.face, f.corners) ≡ f)
 
-    all_faces : AllByRecursion IsFace all
+    pub all_faces : AllByRecursion IsFace all
     all_faces = all_mapped IsFace (moving_face w) (finite.entries m.faces) (all_weaker (λ e. HasCorners m e.0 e.1) (λ e. IsFace (moving_face w e)) (finite.entries m.faces) (λ e there. (there, refl)) (found_entries m.faces))
 
     at_box : (f : ℕ) (c : Corners) (box : Extent) → reach ≡ Some box → HasCorners m f c → is_face_in_reach m reach f ≡ is_near m box c
     at_box f c box is there = ap (λ o. is_face_in_reach m o f) is ∙ ap (is_some_near m box) there
 
-    has_of : (f : MovingFace) → IsFace f → new f ≡ true → HasFaceIn m moves (f.face, f.corners) reach
+    pub has_of : (f : MovingFace) → IsFace f → new f ≡ true → HasFaceIn m moves (f.face, f.corners) reach
     has_of f is t = reached f.face f.corners is.0 (ap new is.1 ∙ t)
 
     touched_in_reach : (f : MovingFace) → IsFace f → new f ≡ true → in_reach f ≡ true
@@ -294,13 +293,7 @@ module _ (m : Mesh) (moves : List Move) (touch : Touch) (together : List ℕ) (d
             ∙ among_touched m moves touch together depth a b fresh_from clear ordered is_edge (sym (ap (is_side_of_some a b) touched_nearby) ∙ alone)
 
         -- an edge that is no side of a face in reach: each pair of it does as required
-        module _ (beyond : neighbours_in_any m (faces_in_reach m reach) a b ≡ false) where
-          no_neighbours : (f : ℕ) (c : Corners) → HasCorners m f c → is_face_in_reach m reach f ≡ true → are_neighbours c a b ≡ false
-          no_neighbours f c there near =
-              sym (ap (λ o. neighbours_in o a b) there)
-              ∙ at_live (λ k. is_face_in_reach m reach k ≡ true → neighbours_at m k a b ≡ false) m.faces f
-              (none_kept (λ k. is_face_in_reach m reach k) (λ k. neighbours_at m k a b) (finite.keys m.faces) beyond) (ap is_some there) near
-
+        module _ (no_neighbours : (f : ℕ) (c : Corners) → HasCorners m f c → is_face_in_reach m reach f ≡ true → are_neighbours c a b ≡ false) where
           alone : is_side_of_some a b (filter new all) ≡ false
           alone = by_test (is_side_of_some a b (filter new all)) refl
             where

@@ -1,5 +1,5 @@
 -- A box that is widened has what it had.
-use Rattle.std.proofs.Common.{◌≡◌, ℕ, ◌≤◌, ◌-◌, ◌==◌, ◌||◌, Bool, true, false, cond, List, [], ◌∷◌, Option, Some, None, is_some, nat_le, nat_lt, ⊎_elim, refl, ap, subst, arith}
+use Rattle.std.proofs.Common.{◌≡◌, ℕ, ◌≤◌, ◌-◌, ◌==◌, ◌||◌, Bool, true, false, cond, List, [], ◌∷◌, Option, Some, is_some, nat_le, nat_lt, ⊎_elim, refl, ap, subst, arith}
 use Rattle.std.specs.List.{All, list_any, filter, AllByRecursion}
 use Rattle.std.specs.FinMap as finite
 use Rattle.std.proofs.lemmas.Bool.{false≢true, or_cases, eqb-true}
@@ -19,7 +19,7 @@ use Rattle.pair_paths.specs.declared.moving.MovingFace.{MovingFace}
 use Rattle.pair_paths.specs.Moving.{moving_face}
 use Rattle.pair_paths.specs.Bounds.{HoldsPath, HoldsFace}
 use Rattle.edit_check.specs.Touched.{is_moved}
-use Rattle.edit_check.specs.Reach.{HasFace, HasFaceIn, Reaches, ReachesAt, ReachesMoves, ReachesTouched, Widens, faces_in_reach}
+use Rattle.edit_check.specs.Reach.{HasFace, HasFaceIn, Reaches, ReachesAt, ReachesMoves, ReachesTouched, Widens}
 
 -- ---- wider boxes
 pub as_wide : (o : Option Extent) → Widens o o
@@ -31,7 +31,7 @@ wider_still o p q first second box is =
     let two = second one.0 one.1.0 in
     (two.0, (two.1.0, λ t h. two.1.1 t (one.1.1 t h)))
 
-path_in : (w : Path) (box wide : Extent) → ((p : Triple) → IsIn box p → IsIn wide p) → HoldsPath w box → HoldsPath w wide
+pub path_in : (w : Path) (box wide : Extent) → ((p : Triple) → IsIn box p → IsIn wide p) → HoldsPath w box → HoldsPath w wide
 path_in w box wide has h = record { start = has w.start h.start; end = has w.end h.end }
 
 pub face_in : (f : MovingFace) (box wide : Extent) → ((p : Triple) → IsIn box p → IsIn wide p) → HoldsFace f box → HoldsFace f wide
@@ -126,11 +126,3 @@ module _ (m : Mesh) (moves : List Move) (together : List ℕ) (fresh_from : ℕ)
       (or_cases (nat_le fresh_from f || is_moved moves c.first || is_moved moves c.second) (is_moved moves c.third) four))
       (λ e. at_joined f c there e)
       (or_cases (nat_le fresh_from f || is_moved moves c.first || is_moved moves c.second || is_moved moves c.third) (list_any (λ v. has_corner c v) together) h)
-
--- ---- without a box
-none_of : (xs : List ℕ) → filter (λ x. false) xs ≡ []
-none_of [] = refl
-none_of (x ∷ xs) = none_of xs
-
-pub none_in_reach : (m : Mesh) → faces_in_reach m None ≡ []
-none_in_reach m = none_of (finite.keys m.faces)

@@ -31,7 +31,7 @@ use Rattle.edit_check.proofs.Still.{find-filter}
 use Rattle.edit_check.proofs.Untouched.{untouched_is_as_required}
 
 -- ---- tests
-none : {X : Type 0} (o : Option X) → is_some o ≡ false → o ≡ None
+pub none : {X : Type 0} (o : Option X) → is_some o ≡ false → o ≡ None
 none (Some x) e = absurd cc
 none None e = refl
 

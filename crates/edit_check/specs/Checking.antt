@@ -6,11 +6,10 @@ use Rattle.std.proofs.Common.{Option}
 use Rattle.grid_decided.specs.Decided.{meets_exactly}
 use Rattle.mesh_base.specs.declared.ids.PairName.{PairName}
 use Rattle.mesh_base.specs.Mesh.{Mesh}
-use Rattle.mesh_base.specs.Pairs.{Pair, pairs_of}
+use Rattle.mesh_base.specs.Pairs.{Pair}
 use Rattle.edit_base.specs.declared.Move.{Move}
 use Rattle.edit_base.specs.declared.Touch.{Touch}
 use Rattle.edit_base.specs.Scaffold.{Scaffold, is_as_required}
-use Rattle.edit_check.specs.declared.checking.Terms.{Terms}
 
 -- the mesh, with the moves, and the vertices of which two may touch
 abbrev pub scaffold_by : Mesh → List Move → Touch → List ℕ → Scaffold
@@ -19,7 +18,3 @@ scaffold_by m moves touch together = record { mesh = m; moves = moves; touch = t
 -- the name of the first of the pairs that is not as required
 abbrev pub first_of : Scaffold → ℕ → List Pair → Option PairName
 first_of s depth ps = option_map (λ p. p.name) (find (λ p. not (is_as_required meets_exactly s depth p)) ps)
-
--- the same of the pairs of an edge
-abbrev pub first_of_edge : Mesh → List Move → Terms → ℕ × ℕ → Option PairName
-first_of_edge m moves t e = first_of (scaffold_by m moves t.touch t.together.now) t.depth (pairs_of m e)

@@ -6,3 +6,7 @@ pub mod Agreeing
 pub mod Reach
 pub mod Nearby
 pub mod Boxed
+pub mod Sides
+pub mod Neighbourhood
+pub mod Searching
+pub mod Looking

@@ -1,10 +1,8 @@
--- The faces of a list of ids, and the edges that are sides of them.
+-- The faces of a list of ids.
 use Rattle.std.specs.Prelude.{ℕ, List, [], ◌∷◌}
-use Rattle.std.specs.List.{flat_map, filter}
+use Rattle.std.specs.List.{flat_map}
 use Rattle.std.proofs.Common.{Option, Some, None}
 use Rattle.mesh_base.specs.Mesh.{Mesh}
-use Rattle.mesh_base.specs.Pairs.{edges}
-use Rattle.mesh_base.specs.SideList.{neighbours_in_any}
 use Rattle.edit_base.specs.declared.Move.{Move}
 use Rattle.edit_base.specs.Scaffold.{motion_by}
 use Rattle.pair_paths.specs.declared.MovingFace.{MovingFace}
@@ -18,7 +16,3 @@ as_list (Some x) = x ∷ []
 -- those of the ids that are faces, with where their corners go
 abbrev pub faces_among : Mesh → List Move → List ℕ → List MovingFace
 faces_among m moves ids = flat_map (λ f. as_list (live_face m (motion_by m moves) f)) ids
-
--- the edges that are sides of these faces, in order
-abbrev pub edges_among : Mesh → List ℕ → List (ℕ × ℕ)
-edges_among m ids = filter (λ e. neighbours_in_any m ids e.0 e.1) (edges m)

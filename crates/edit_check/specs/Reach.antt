@@ -12,10 +12,15 @@ use Rattle.mesh_base.specs.Sides.{faces_at}
 use Rattle.mesh_base.specs.Near.{is_face_near}
 use Rattle.edit_base.specs.declared.Move.{Move}
 use Rattle.edit_base.specs.Scaffold.{motion_by}
-use Rattle.pair_paths.specs.declared.MovingFace.{MovingFace}
-use Rattle.pair_paths.specs.Moving.{moving_face, moving_faces}
-use Rattle.pair_paths.specs.Bounds.{HoldsFace}
+use Rattle.pair_paths.specs.Paths.{path_along}
+use Rattle.pair_paths.specs.Moving.{moving_face}
+use Rattle.pair_paths.specs.Bounds.{HoldsPath, HoldsFace}
 use Rattle.edit_check.specs.Touched.{is_touched}
+
+-- the box has all the way of the vertex, and the vertex where it stands
+pub record HasVertex (m : Mesh) (moves : List Move) (v : ℕ) (box : Extent) : Type 0 where
+  pub way : HoldsPath (path_along (motion_by m moves) v) box
+  pub standing : HoldsPath (path_along (motion_by m []) v) box
 
 -- the box has all the way of the face, and the face where it stands
 pub record HasFace (m : Mesh) (moves : List Move) (f : ℕ × Corners) (box : Extent) : Type 0 where
@@ -55,15 +60,3 @@ is_face_in_reach m None f = false
 -- the faces in reach, rising
 abbrev pub faces_in_reach : Mesh → Option Extent → List ℕ
 faces_in_reach m reach = filter (λ f. is_face_in_reach m reach f) (finite.keys m.faces)
-
--- the ids are those of the faces in reach of a box that has each touched face
-pub record AreNearby (m : Mesh) (moves : List Move) (together : List ℕ) (fresh_from : ℕ) (ids : List ℕ) : Type 0 where
-  pub reach : Option Extent
-  pub reached : ReachesTouched m moves together fresh_from reach
-  pub all : ids ≡ faces_in_reach m reach
-
--- the faces are such, with where their corners go
-pub record AreNearbyFaces (m : Mesh) (moves : List Move) (together : List ℕ) (fresh_from : ℕ) (faces : List MovingFace) : Type 0 where
-  pub reach : Option Extent
-  pub reached : ReachesTouched m moves together fresh_from reach
-  pub all : faces ≡ filter (λ f. is_face_in_reach m reach f.face) (moving_faces m (motion_by m moves))

@@ -6,7 +6,8 @@ ghost use Rattle.grid_base.specs.SeparationTests.{opens, closes};
 ghost use Rattle.motion_test.specs.Pairs.{positions_of};
 ghost use Rattle.edit_base.specs.Scaffold.{joins_contacts};
 ghost use Rattle.pair_paths.specs.Pairing.{pair_with};
-ghost use Rattle.edit_check.specs.Failing.{pair_passes, pair_meets_contact_rule, do_as_required, fails};
+ghost use Rattle.edit_check.specs.Failing.{pair_passes, pair_meets_contact_rule};
+ghost use Rattle.edit_check.specs.Failing.{do_as_required, fails};
 ghost use Rattle.edit_check.specs.Boxed.{first_failing_boxed, is_side_of_boxed};
 
 use crate::boxed::{BoxedEdge, BoxedFace};

@@ -8,7 +8,11 @@ mod failing;
 pub mod laws;
 mod moves;
 mod nearby;
+mod neighbourhood;
 mod reach;
+mod searching;
+mod sides;
+mod terms;
 mod touched;
 
 pub use checking::{check, check_still};

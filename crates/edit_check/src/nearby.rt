@@ -1,52 +1,35 @@
-//! The neighbourhood of what is touched: faces, and their sides.
+//! Faces with their boxes, by their ids.
 ghost use Rattle.std.specs.Prelude.{◌≡◌, IfOk};
 ghost use Rattle.edit_base.specs.Scaffold.{motion_by};
-ghost use Rattle.pair_paths.specs.Moving.{live_face};
-ghost use Rattle.edit_check.specs.Reach.{faces_in_reach, AreNearby};
-ghost use Rattle.edit_check.specs.Nearby.{faces_among, edges_among};
+ghost use Rattle.pair_paths.specs.Moving.{moving_face, live_face};
+ghost use Rattle.edit_check.specs.Boxed.{faces_in};
+ghost use Rattle.edit_check.specs.Nearby.{faces_among};
 
+use crate::boxed::BoxedFace;
+use crate::boxing::boxed_face;
 use crate::moves::Moved;
-use crate::reach::{face_with_paths, reach_of};
-use grid_base::{Extent, Items, NoMemory};
-use mesh_base::{Corners, Edges, FaceId, Surface, VertexId, sides_in_order};
-use pair_paths::MovingFace;
+use grid_base::{Items, NoMemory};
+use mesh_base::{Corners, FaceId, Surface};
+use pair_paths::{MovingFace, Paths};
 use std::alloc::Global;
 
-/// The faces near the box, by rising id; none, where there is no box.
-fn faces_in_reach<S: Surface>(
-    alloc: Global,
-    mesh: &S,
-    reach: Option<Extent>,
-) -> Result<Vec<FaceId>, NoMemory>
-    ensures { IfOk result (λ ids. ids.items ≡ faces_in_reach (S.mesh mesh.now) reach) }
+/// A face of these corners, with their paths.
+fn face_with_paths<P: Paths>(paths: &P, face: FaceId, corners: &Corners) -> MovingFace
+    ensures { result ≡ moving_face (P.motion paths.now) (face, corners.now) }
 {
-    let mut ids = Vec::new(alloc);
-    match reach {
-        Some(at) => {
-            mesh.faces_near(at, &mut ids)?;
-            Ok(ids)
-        }
-        None => Ok(ids),
+    MovingFace {
+        face,
+        corners: *corners,
+        c: paths.path_of(corners.first),
+        d: paths.path_of(corners.second),
+        e: paths.path_of(corners.third),
     }
-}
-
-/// The faces that a check looks at: those near a box that has each touched face, by rising id.
-pub(crate) fn nearby<S: Surface>(
-    alloc: Global,
-    paths: &Moved<S>,
-    together: &[VertexId],
-    fresh_from: u32,
-) -> Result<Vec<FaceId>, NoMemory>
-    ensures { IfOk result (λ ids. AreNearby (S.mesh paths.now.mesh.now) paths.now.moves.now together.now fresh_from ids.items) }
-{
-    let reach = reach_of(alloc, paths, together, fresh_from)?;
-    let ids = faces_in_reach(alloc, paths.mesh, reach)?;
-    Ok(ids)
 }
 
 /// A face, with the paths of its corners, if it is live.
 fn face_along<S: Surface>(paths: &Moved<S>, f: FaceId) -> Option<MovingFace>
-    ensures { result ≡ live_face (S.mesh paths.now.mesh.now) (motion_by (S.mesh paths.now.mesh.now) paths.now.moves.now) f }
+    ensures { let m = S.mesh paths.now.mesh.now in
+        result ≡ live_face m (motion_by m paths.now.moves.now) f }
 {
     match paths.mesh.corners(f) {
         Some(ids) => Some(face_with_paths(paths, f, &Corners::of(ids))),
@@ -54,31 +37,20 @@ fn face_along<S: Surface>(paths: &Moved<S>, f: FaceId) -> Option<MovingFace>
     }
 }
 
-/// The faces of these ids, with the paths of their corners.
+/// The faces of these ids, with the paths of their corners and their boxes.
 pub(crate) fn faces_along<S: Surface>(
     alloc: Global,
     paths: &Moved<S>,
     ids: &[FaceId],
-) -> Result<Items<MovingFace>, NoMemory>
-    ensures { IfOk result (λ faces. faces ≡ faces_among (S.mesh paths.now.mesh.now) paths.now.moves.now ids.now) }
+) -> Result<Items<BoxedFace>, NoMemory>
+    ensures { let m = S.mesh paths.now.mesh.now in
+        IfOk result (λ faces. faces_in faces ≡ faces_among m paths.now.moves.now ids.now) }
 {
-    let mut faces = Items::new(alloc);
+    let mut faces = Vec::with_capacity(alloc, ids.len())?;
     for f in ids {
         if let Some(face) = face_along(paths, *f) {
-            faces.push(face)?;
+            faces.push(boxed_face(face))?;
         }
     }
-    Ok(faces)
-}
-
-/// The edges that are sides of these faces, in order.
-pub(crate) fn edges_among<S: Surface>(
-    alloc: Global,
-    mesh: &S,
-    faces: &[FaceId],
-) -> Result<Edges, NoMemory>
-    ensures { IfOk result (λ found. found ≡ edges_among (S.mesh mesh.now) faces.now) }
-{
-    let found = sides_in_order(alloc, mesh, faces)?;
-    Ok(found)
+    Ok(Items::from_vec(faces))
 }

@@ -4,25 +4,25 @@ ghost use Rattle.std.specs.FinMap as map;
 ghost use Rattle.grid_base.specs.Triples.{Triple};
 ghost use Rattle.grid_base.specs.Extents.{IsIn};
 ghost use Rattle.mesh_base.specs.Sides.{above, faces_at};
-ghost use Rattle.pair_paths.specs.Moving.{moving_face};
-ghost use Rattle.edit_check.specs.Reach.{HasFace, Reaches, ReachesAt, ReachesMoves, ReachesTouched, Widens};
+ghost use Rattle.edit_check.specs.Reach.{HasVertex, HasFace, Reaches, ReachesAt, ReachesMoves};
+ghost use Rattle.edit_check.specs.Reach.{ReachesTouched, Widens};
 
-use crate::moves::{Moved, Standing};
+use crate::moves::{Moved, Standing, is_moved};
 use grid_base::{Extent, NoMemory};
 use mesh_base::{Corners, FaceId, FaceIds, Surface, VertexId, live_faces_above};
-use pair_paths::{HasBounds, MovingFace, Paths};
+use pair_paths::{HasBounds, Paths};
 use std::alloc::Global;
 
-/// A face of these corners, with their paths.
-pub(crate) fn face_with_paths<P: Paths>(paths: &P, face: FaceId, corners: &Corners) -> MovingFace
-    ensures { result ≡ moving_face (P.motion paths.now) (face, corners.now) }
+/// A box that has the vertex where it stands, and all its way. One that no move names stands where it goes.
+fn box_of_vertex<S: Surface>(paths: &Moved<S>, v: VertexId) -> Extent
+    ensures { HasVertex (S.mesh paths.now.mesh.now) paths.now.moves.now v result }
 {
-    MovingFace {
-        face,
-        corners: *corners,
-        c: paths.path_of(corners.first),
-        d: paths.path_of(corners.second),
-        e: paths.path_of(corners.third),
+    let way = paths.path_of(v).bounds();
+    if is_moved(paths.moves, v) {
+        let standing = Standing { mesh: paths.mesh };
+        way.united(&standing.path_of(v).bounds())
+    } else {
+        way
     }
 }
 
@@ -30,9 +30,8 @@ pub(crate) fn face_with_paths<P: Paths>(paths: &P, face: FaceId, corners: &Corne
 fn box_of<S: Surface>(paths: &Moved<S>, face: FaceId, corners: &Corners) -> Extent
     ensures { HasFace (S.mesh paths.now.mesh.now) paths.now.moves.now (face, corners.now) result }
 {
-    let standing = Standing { mesh: paths.mesh };
-    let way = face_with_paths(paths, face, corners).bounds();
-    way.united(&face_with_paths(&standing, face, corners).bounds())
+    let two = box_of_vertex(paths, corners.first).united(&box_of_vertex(paths, corners.second));
+    two.united(&box_of_vertex(paths, corners.third))
 }
 
 /// The box, or the other alone where there is none, so that it has the other too.
@@ -63,7 +62,8 @@ fn reach_faces<S: Surface>(
     faces: &[FaceId],
     reach: Option<Extent>,
 ) -> Option<Extent>
-    ensures reaches { All (Reaches (S.mesh paths.now.mesh.now) paths.now.moves.now result) faces.now }
+    ensures reaches { let m = S.mesh paths.now.mesh.now in
+        All (Reaches m paths.now.moves.now result) faces.now }
     ensures keeps { Widens reach result }
 {
     let mut wide = reach;
@@ -80,7 +80,8 @@ fn reach_at<S: Surface>(
     at: &mut Vec<FaceId>,
     reach: Option<Extent>,
 ) -> Result<Option<Extent>, NoMemory>
-    ensures reaches { IfOk result (λ wide. ReachesAt (S.mesh paths.now.mesh.now) paths.now.moves.now wide v) }
+    ensures reaches { let m = S.mesh paths.now.mesh.now in
+        IfOk result (λ wide. ReachesAt m paths.now.moves.now wide v) }
     ensures keeps { IfOk result (λ wide. Widens reach wide) }
 {
     paths.mesh.faces_at(v, at)?;
@@ -93,7 +94,8 @@ fn reach_moves<S: Surface>(
     at: &mut Vec<FaceId>,
     reach: Option<Extent>,
 ) -> Result<Option<Extent>, NoMemory>
-    ensures reaches { IfOk result (λ wide. ReachesMoves (S.mesh paths.now.mesh.now) paths.now.moves.now wide) }
+    ensures reaches { let m = S.mesh paths.now.mesh.now in
+        IfOk result (λ wide. ReachesMoves m paths.now.moves.now wide) }
     ensures keeps { IfOk result (λ wide. Widens reach wide) }
 {
     let mut wide = reach;
@@ -110,7 +112,8 @@ fn reach_vertices<S: Surface>(
     at: &mut Vec<FaceId>,
     reach: Option<Extent>,
 ) -> Result<Option<Extent>, NoMemory>
-    ensures reaches { IfOk result (λ wide. All (ReachesAt (S.mesh paths.now.mesh.now) paths.now.moves.now wide) vertices.now) }
+    ensures reaches { let m = S.mesh paths.now.mesh.now in
+        IfOk result (λ wide. All (ReachesAt m paths.now.moves.now wide) vertices.now) }
     ensures keeps { IfOk result (λ wide. Widens reach wide) }
 {
     let mut wide = reach;
@@ -122,7 +125,8 @@ fn reach_vertices<S: Surface>(
 
 /// The live faces from an id on, by rising id.
 fn fresh_faces<S: Surface>(alloc: Global, mesh: &S, fresh_from: u32) -> Result<FaceIds, NoMemory>
-    ensures { IfOk result (λ ids. ids ≡ above (fresh_from - 1) (map.keys (S.mesh mesh.now).faces)) }
+    ensures { let m = S.mesh mesh.now in
+        IfOk result (λ ids. ids ≡ above (fresh_from - 1) (map.keys m.faces)) }
 {
     live_faces_above(alloc, mesh, fresh_from.saturating_sub(1))
 }
@@ -134,7 +138,8 @@ pub(crate) fn reach_of<S: Surface>(
     together: &[VertexId],
     fresh_from: u32,
 ) -> Result<Option<Extent>, NoMemory>
-    ensures { IfOk result (λ reach. ReachesTouched (S.mesh paths.now.mesh.now) paths.now.moves.now together.now fresh_from reach) }
+    ensures { let m = S.mesh paths.now.mesh.now in
+        IfOk result (ReachesTouched m paths.now.moves.now together.now fresh_from) }
 {
     let fresh = fresh_faces(alloc, paths.mesh, fresh_from)?;
     let mut at = Vec::new(alloc);

@@ -2,8 +2,10 @@
 ghost use Rattle.std.specs.Prelude.{◌≡◌, IfOk};
 ghost use Rattle.std.specs.List.{list_any};
 ghost use Rattle.mesh_base.specs.Sides.{has_corner};
-ghost use Rattle.edit_check.specs.Touched.{is_touched, touched_among};
+ghost use Rattle.edit_check.specs.Touched.{is_touched};
+ghost use Rattle.edit_check.specs.Boxed.{touched_boxed};
 
+use crate::boxed::BoxedFace;
 use crate::moves::is_moved;
 use edit_base::Move;
 use grid_base::{Items, NoMemory};
@@ -40,13 +42,14 @@ pub(crate) fn touched_of(
     moves: &[Move],
     together: &[VertexId],
     fresh_from: u32,
-    faces: &[MovingFace],
-) -> Result<Items<MovingFace>, NoMemory>
-    ensures { IfOk result (λ touched. touched ≡ touched_among moves.now together.now fresh_from faces.now) }
+    faces: &[BoxedFace],
+) -> Result<Items<BoxedFace>, NoMemory>
+    ensures { IfOk result (λ touched. touched ≡
+        touched_boxed moves.now together.now fresh_from faces.now) }
 {
     let mut touched = Items::new(alloc);
     for f in faces {
-        if is_touched(moves, together, fresh_from, f) {
+        if is_touched(moves, together, fresh_from, &f.face) {
             touched.push(*f)?;
         }
     }

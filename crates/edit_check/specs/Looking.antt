@@ -1,0 +1,29 @@
+-- What is looked for in a neighbourhood.
+use Rattle.std.specs.Prelude.{List}
+use Rattle.std.specs.List.{fold}
+use Rattle.std.proofs.Common.{Option}
+use Rattle.mesh_base.specs.declared.ids.PairName.{PairName}
+use Rattle.pair_paths.specs.declared.MovingEdge.{MovingEdge}
+use Rattle.pair_paths.specs.declared.MovingFace.{MovingFace}
+use Rattle.edit_check.specs.declared.neighbourhood.Neighbourhood.{Neighbourhood}
+use Rattle.edit_check.specs.Neighbourhood.{HasNoneApart}
+use Rattle.edit_check.specs.Searching.{first_near, with_edge, edges_at, edges_of}
+
+-- the first pair of the edge
+abbrev pub first_there : Neighbourhood → MovingEdge → Option PairName
+first_there n e = first_near n.terms n.faces.now n.touched.now e
+
+-- no pair of the edge is found, if it has a box apart from the one that has the touched faces
+abbrev pub HasNoneThere : Neighbourhood → MovingEdge → Type 0
+HasNoneThere n e = HasNoneApart n.terms n.reach n.faces.now n.touched.now e
+
+-- the edges that are looked at along a side, and along a face
+abbrev pub edges_along : Neighbourhood → MovingEdge → List MovingEdge
+edges_along n side = edges_at n.faces.now side
+
+abbrev pub edges_round : Neighbourhood → MovingFace → List MovingEdge
+edges_round n f = edges_of n.faces.now f
+
+-- what is found once these edges are looked at, one by one
+abbrev pub once_looked_at : Neighbourhood → Option PairName → List MovingEdge → Option PairName
+once_looked_at n found es = fold (with_edge (first_there n)) found es
