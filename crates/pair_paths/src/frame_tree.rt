@@ -7,8 +7,8 @@ use box_tree::{BoxTree, SmallBox};
 use grid_base::NoMemory;
 use std::alloc::Global;
 
-/// The boxes of faces in a frame, in their order.
-fn boxes_in<F: HasBoundsIn>(
+/// The boxes of faces in a frame, in their order. Refuses only where there is no memory.
+pub fn boxes_in<F: HasBoundsIn>(
     alloc: Global,
     faces: &[F],
     frame: &Frame,

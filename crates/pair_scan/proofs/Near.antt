@@ -10,7 +10,9 @@ use Rattle.grid_base.specs.Extents.{overlaps}
 use Rattle.cell_grid.specs.Overlapping.{overlapping}
 use Rattle.pair_paths.specs.declared.MovingEdge.{MovingEdge}
 use Rattle.pair_paths.specs.declared.MovingFace.{MovingFace}
-use Rattle.pair_paths.specs.Bounds.{HoldsEdge, HoldsFace, AreBoxes}
+use Rattle.pair_paths.specs.declared.Frame.{Frame}
+use Rattle.pair_paths.specs.Bounds.{AreBoxes}
+use Rattle.pair_paths.specs.Frames.{edge_in, face_in, HoldsEdgeIn, HoldsFaceIn}
 use Rattle.pair_paths.specs.Pairing.{have_a_vertex_in_common, name_with, starts}
 use Rattle.pair_paths.proofs.Apart.{never_meet, starts_held}
 use Rattle.pair_paths.proofs.Near.{near_make_all}
@@ -45,16 +47,16 @@ first_met e (f ∷ fs) = ap (option_or (met_with e (Some f))) (first_met e fs) �
     by_test false = refl
 
 -- ---- a face whose box is apart answers nothing
-meets_none : (e : MovingEdge) (f : MovingFace) (its edge : Extent) → HoldsEdge e edge → HoldsFace f its → overlaps its edge ≡ false → meets_face e f ≡ false
-meets_none e f its edge E F off =
+meets_none : (frame : Frame) (e : MovingEdge) (f : MovingFace) (its edge : Extent) → HoldsEdgeIn frame e edge → HoldsFaceIn frame f its → overlaps its edge ≡ false → meets_face e f ≡ false
+meets_none frame e f its edge E F off =
     let other = not (have_a_vertex_in_common e f) in
-    ap (λ b. other && b) (apart (starts e f) (never_meet edge its (starts e f) (starts_held e f edge its E F) off)) ∙ and_false other
+    ap (λ b. other && b) (apart (starts e f) (never_meet edge its (starts e f) (starts_held (edge_in frame e) (face_in frame f) edge its E F) off)) ∙ and_false other
 
-pub near_is_all : (e : MovingEdge) (faces : List MovingFace) (m : finite.FinMap nat_cmp Extent) (edge : Extent) (near : List ℕ) → AreBoxes HoldsFace faces m → HoldsEdge e edge → near ≡ overlapping m edge
+pub near_is_all : (frame : Frame) (e : MovingEdge) (faces : List MovingFace) (m : finite.FinMap nat_cmp Extent) (edge : Extent) (near : List ℕ) → AreBoxes (HoldsFaceIn frame) faces m → HoldsEdgeIn frame e edge → near ≡ overlapping m edge
     → first_some (λ k. met_with e (slice_get faces k)) near ≡ option_map (name_with e) (find (meets_face e) faces)
-near_is_all e faces m edge near boxes E is =
+near_is_all frame e faces m edge near boxes E is =
     first_listed (λ k. met_with e (slice_get faces k)) near
-    ∙ ap (λ names. slice_get names 0) (near_make_all HoldsFace (λ o. one_or_none (met_with e o)) faces m edge boxes refl
-    (λ f its F off. ap (λ b. one_or_none (cond b (Some (name_with e f)) None)) (meets_none e f its edge E F off)) near is)
+    ∙ ap (λ names. slice_get names 0) (near_make_all (HoldsFaceIn frame) (λ o. one_or_none (met_with e o)) faces m edge boxes refl
+    (λ f its F off. ap (λ b. one_or_none (cond b (Some (name_with e f)) None)) (meets_none frame e f its edge E F off)) near is)
     ∙ sym (first_listed (λ f. met_with e (Some f)) faces)
     ∙ first_met e faces

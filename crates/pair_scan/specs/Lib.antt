@@ -4,3 +4,5 @@ pub mod Passing
 pub mod Lookup
 pub mod Named
 pub mod Solids
+pub mod Asked
+pub mod Views

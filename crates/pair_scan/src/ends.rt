@@ -11,7 +11,8 @@ use mesh_base::{ShiftOf, Surface, point_of};
 
 // Whether a vertex ends in the box.
 fn ends_in_box<S: Surface>(mesh: &S, s: ShiftOf) -> bool
-    ensures { result ≡ is_within BOX (plus (rest_positions (S.mesh mesh.now) s.v) (displacement_of s.by)) }
+    ensures { result ≡ is_within BOX
+        (plus (rest_positions (S.mesh mesh.now) s.v) (displacement_of s.by)) }
 {
     moved(point_of(mesh, s.v), s.by).is_some()
 }

@@ -1,5 +1,5 @@
 //! The pairs that do not pass in a motion.
-ghost use Rattle.std.specs.Prelude.{◌≡◌, ◌≤◌, ◌++◌, [], Some, IsTrue, IfOk, IfSome, OnOk, slice_get};
+ghost use Rattle.std.specs.Prelude.{◌≡◌, ◌≤◌, ◌++◌, [], Some, IsTrue, IfOk, OnOk, slice_get};
 ghost use Rattle.grid_base.specs.declared.TheConstants.{DEPTH_MAX};
 ghost use Rattle.grid_decided.specs.Decided.{meets_exactly};
 ghost use Rattle.mesh_base.specs.Placements.{IsClearAlong};
@@ -7,15 +7,17 @@ ghost use Rattle.mesh_base.specs.Shifts.{NameLive, end_in_box, moved_by};
 ghost use Rattle.mesh_base.specs.Failing.{failing};
 ghost use Rattle.pair_paths.specs.Bounds.{AreBoxes};
 ghost use Rattle.pair_paths.specs.Frames.{HoldsFaceIn};
+ghost use Rattle.pair_scan.specs.Views.{AreViews};
 ghost use Rattle.pair_scan.specs.Failed.{fails_with, failed_with, failing_at, failing_among, AreFailing};
 
 use crate::motions::Shifted;
+use crate::neighbours::{Coming, near_edge};
 use crate::views::{View, Views, goes_with, views_of};
 use grid_base::{DEPTH_MAX, Items, NoMemory};
 use mesh_base::{PairName, Shifts, Surface, edges_in_order};
 use motion_test::passes;
 use pair_paths::{
-    HasBoundsIn, KnownPaths, MovingEdge, MovingFace, moving_edge, moving_faces, name_of, pair_of,
+    KnownPaths, MovingEdge, MovingFace, Paths, moving_edge, moving_faces, name_of, pair_of,
     paths_of, share_a_vertex,
 };
 use std::alloc::Global;
@@ -78,42 +80,56 @@ fn put_failing(
 
 /// Puts the pairs of an edge that do not pass at the end. Sets `near` to the numbers of the faces whose boxes in the view's
 /// frame meet the edge's.
-fn put_failing_seen(
+fn put_failing_seen<P: Paths>(
     e: &MovingEdge,
     faces: &[MovingFace],
-    view: &View,
+    view: &mut View,
     depth: u8,
+    paths: &P,
+    coming: &Coming,
     near: &mut Vec<u64>,
     found: &mut Pairs,
 ) -> Result<(), NoMemory>
     requires depth_fits { depth ≤ DEPTH_MAX }
-    requires boxes { AreBoxes (HoldsFaceIn view.now.frame) faces.now view.now.boxes }
-    ensures { OnOk result (found.new ≡ found.old ++ failing_among depth e.now faces.now) }
+    requires boxes { AreBoxes (HoldsFaceIn view.old.frame) faces.now view.old.boxes }
+    ensures boxes { AreBoxes (HoldsFaceIn view.new.frame) faces.now view.new.boxes }
+    ensures found { OnOk result (found.new ≡ found.old ++ failing_among depth e.now faces.now) }
 {
-    view.boxes.overlapping(e.bounds_in(&view.frame), near)?;
+    near_edge(e, view, paths, coming, near)?;
     put_failing(e, faces, depth, near, found)
 }
 
 /// The same, by the view whose frame goes more as the edge does.
-fn put_failing_of_edge(
+fn put_failing_of_edge<P: Paths>(
     e: &MovingEdge,
     faces: &[MovingFace],
-    views: &Views,
+    views: &mut Views,
     depth: u8,
+    paths: &P,
+    coming: &Coming,
     near: &mut Vec<u64>,
     found: &mut Pairs,
 ) -> Result<(), NoMemory>
     requires depth_fits { depth ≤ DEPTH_MAX }
-    requires first { AreBoxes (HoldsFaceIn views.now.first.frame) faces.now views.now.first.boxes }
-    requires other { IfSome views.now.other (λ v. AreBoxes (HoldsFaceIn v.frame) faces.now v.boxes) }
-    ensures { OnOk result (found.new ≡ found.old ++ failing_among depth e.now faces.now) }
+    requires views { AreViews faces.now views.old }
+    ensures views { AreViews faces.now views.new }
+    ensures found { OnOk result (found.new ≡ found.old ++ failing_among depth e.now faces.now) }
 {
-    if let Some(other) = &views.other {
+    if let Some(other) = &mut views.other {
         if goes_with(e, &other.frame, &views.first.frame) {
-            return put_failing_seen(e, faces, other, depth, near, found);
+            return put_failing_seen(e, faces, other, depth, paths, coming, near, found);
         }
     }
-    put_failing_seen(e, faces, &views.first, depth, near, found)
+    put_failing_seen(
+        e,
+        faces,
+        &mut views.first,
+        depth,
+        paths,
+        coming,
+        near,
+        found,
+    )
 }
 
 /// All pairs that do not pass where each vertex goes from its point by its shift, in order of the edge and then of the
@@ -131,11 +147,13 @@ pub fn failing<S: Surface>(
     requires named { NameLive (S.mesh mesh.now) by.now }
     requires in_box { IsTrue (end_in_box (S.mesh mesh.now) by.now) }
     requires depth { depth ≤ DEPTH_MAX }
-    ensures failing { IfOk result (λ pairs. pairs ≡ failing meets_exactly (S.mesh mesh.now) by.now depth) }
+    ensures failing { IfOk result
+        (λ pairs. pairs ≡ failing meets_exactly (S.mesh mesh.now) by.now depth) }
     // Each pair that does not pass, and no other, in order.
     ensures all { IfOk result (AreFailing (S.mesh mesh.now) by.now depth) }
     // None fails: no pair meets on the way.
-    ensures clear { IfOk result (λ pairs. pairs ≡ [] → IsClearAlong (S.mesh mesh.now) (moved_by (S.mesh mesh.now) by.now)) }
+    ensures clear { IfOk result
+        (λ pairs. pairs ≡ [] → IsClearAlong (S.mesh mesh.now) (moved_by (S.mesh mesh.now) by.now)) }
 {
     let shifted = Shifted {
         mesh,
@@ -147,13 +165,23 @@ pub fn failing<S: Surface>(
         known: known.as_slice(),
     };
     let faces = moving_faces(alloc, mesh, &paths)?;
-    let views = views_of(alloc, faces.as_slice(), shifted.by)?;
+    let all = faces.as_slice();
+    let mut views = views_of(alloc, all, shifted.by)?;
     let mut near = Vec::new(alloc);
     let mut found = Pairs::new(alloc);
     let edges = edges_in_order(alloc, mesh)?;
+    let listed = edges.as_slice();
+    let mut past: usize = 0;
     for (a, b) in edges.as_slice() {
+        past = past.saturating_add(1);
+        let coming = Coming {
+            edges: listed,
+            past,
+        };
         let e = moving_edge(&paths, *a, *b);
-        put_failing_of_edge(&e, faces.as_slice(), &views, depth, &mut near, &mut found)?;
+        put_failing_of_edge(
+            &e, all, &mut views, depth, &paths, &coming, &mut near, &mut found,
+        )?;
     }
     Ok(found)
 }

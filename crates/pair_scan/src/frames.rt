@@ -4,6 +4,13 @@ use mesh_base::ShiftOf;
 use pair_paths::{Frame, MovingFace, Position};
 use std::alloc::Global;
 
+/// The frame that stays where it is.
+pub(crate) fn resting_frame() -> Frame {
+    Frame {
+        end: Position::of(Wide { x: 0, y: 0, z: 0 }),
+    }
+}
+
 // The shift in the middle of the list; none, where the list is empty.
 fn middle(shifts: &[Shift]) -> Shift {
     match shifts.get(shifts.len() / 2) {

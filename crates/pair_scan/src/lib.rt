@@ -1,6 +1,7 @@
 //! The pairs of a mesh that meet, and those that do not pass in a motion.
 #![tactic(auto)]
 
+mod asked_tree;
 mod ends;
 mod failing_pairs;
 mod frames;
@@ -8,6 +9,7 @@ mod lookup;
 mod meeting;
 mod motions;
 mod named;
+mod neighbours;
 mod passing;
 mod views;
 

@@ -4,19 +4,22 @@ ghost use Rattle.grid_decided.specs.Decided.{meets_exactly};
 ghost use Rattle.mesh_base.specs.Pairs.{pairs_of};
 ghost use Rattle.mesh_base.specs.Placements.{rest_positions, IsClearMesh};
 ghost use Rattle.mesh_base.specs.Failing.{first_meeting};
-ghost use Rattle.pair_paths.specs.Bounds.{HoldsFace, AreBoxes};
+ghost use Rattle.pair_paths.specs.Bounds.{AreBoxes};
+ghost use Rattle.pair_paths.specs.Frames.{HoldsFaceIn};
 ghost use Rattle.pair_paths.specs.Moving.{moving_faces};
 ghost use Rattle.pair_paths.specs.Paths.{at_rest};
 ghost use Rattle.pair_scan.specs.Scan.{meets_face, met_with, first_some, first_of, IsMeeting, NoneMeetsBefore};
 
+use crate::frames::resting_frame;
 use crate::motions::AtRest;
-use box_tree::BoxTree;
+use crate::neighbours::{Coming, near_edge};
+use crate::views::{View, view_of};
 use grid_base::NoMemory;
 use grid_meets::meets;
 use mesh_base::{PairName, Surface, VertexId, edges_in_order};
 use pair_paths::{
-    HasBounds, KnownPaths, MovingEdge, MovingFace, moving_edge, moving_faces, name_of, paths_of,
-    share_a_vertex, starts_of, tree_of,
+    KnownPaths, MovingEdge, MovingFace, moving_edge, moving_faces, name_of, paths_of,
+    share_a_vertex, starts_of,
 };
 use std::alloc::Global;
 
@@ -64,28 +67,35 @@ fn first_near(e: &MovingEdge, faces: &[MovingFace], near: &[u64]) -> Option<Pair
     None
 }
 
-/// The first pair of an edge that meets. Sets `near` to the numbers of the faces whose boxes meet the edge's.
+/// The first pair of an edge that meets. Sets `near` to the numbers of the faces whose boxes in the view's frame meet the
+/// edge's.
 fn first_of_edge<S: Surface>(
     paths: &KnownPaths<AtRest<S>>,
+    coming: &Coming,
     faces: &[MovingFace],
-    boxes: &BoxTree,
+    view: &mut View,
     near: &mut Vec<u64>,
     a: VertexId,
     b: VertexId,
 ) -> Result<Option<PairName>, NoMemory>
-    requires faces { let m = S.mesh paths.now.paths.now.mesh.now in faces.now ≡ moving_faces m (at_rest m) }
-    requires boxes { AreBoxes HoldsFace faces.now boxes.now }
-    ensures { let m = S.mesh paths.now.paths.now.mesh.now in IfOk result (λ r. r ≡ first_of m (pairs_of m (a, b))) }
+    requires faces { let m = S.mesh paths.now.paths.now.mesh.now in
+        faces.now ≡ moving_faces m (at_rest m) }
+    requires boxes { AreBoxes (HoldsFaceIn view.old.frame) faces.now view.old.boxes }
+    ensures boxes { AreBoxes (HoldsFaceIn view.new.frame) faces.now view.new.boxes }
+    ensures met { let m = S.mesh paths.now.paths.now.mesh.now in
+        IfOk result (λ r. r ≡ first_of m (pairs_of m (a, b))) }
 {
     let e = moving_edge(paths, a, b);
-    boxes.overlapping(e.bounds(), near)?;
+    near_edge(&e, view, paths, coming, near)?;
     Ok(first_near(&e, faces, near))
 }
 
 /// The first pair of a mesh that meets, in order of the edge and then of the face, where its vertices stand; None exactly
 /// where the mesh is clear. Refuses only where there is no memory.
 pub fn first_meeting<S: Surface>(alloc: Global, mesh: &S) -> Result<Option<PairName>, NoMemory>
-    ensures first { IfOk result (λ r. r ≡ first_meeting meets_exactly (S.mesh mesh.now) (rest_positions (S.mesh mesh.now))) }
+    ensures first { IfOk result
+        (λ r. r ≡ first_meeting meets_exactly (S.mesh mesh.now)
+        (rest_positions (S.mesh mesh.now))) }
     // None: no pair meets. Some: a pair that meets, and none that meets comes before it.
     ensures clear { IfOk result (λ r. IsNone r ↔ IsClearMesh (S.mesh mesh.now)) }
     ensures meets { IfOk result (λ r. IfSome r (IsMeeting (S.mesh mesh.now))) }
@@ -98,11 +108,19 @@ pub fn first_meeting<S: Surface>(alloc: Global, mesh: &S) -> Result<Option<PairN
         known: known.as_slice(),
     };
     let faces = moving_faces(alloc, mesh, &paths)?;
-    let boxes = tree_of(alloc, faces.as_slice())?;
+    let all = faces.as_slice();
+    let mut view = view_of(alloc, all, resting_frame())?;
     let mut near = Vec::new(alloc);
     let edges = edges_in_order(alloc, mesh)?;
+    let listed = edges.as_slice();
+    let mut past: usize = 0;
     for (a, b) in edges.as_slice() {
-        if let Some(found) = first_of_edge(&paths, faces.as_slice(), &boxes, &mut near, *a, *b)? {
+        past = past.saturating_add(1);
+        let coming = Coming {
+            edges: listed,
+            past,
+        };
+        if let Some(found) = first_of_edge(&paths, &coming, all, &mut view, &mut near, *a, *b)? {
             return Ok(Some(found));
         }
     }

@@ -54,7 +54,8 @@ impl<'a, S: Surface> Paths for Shifted<'a, S> {
 
 /// Where a point ends: at the origin, where the shift takes it out of the box.
 fn end_of(from: Point, by: Option<Shift>) -> Point
-    ensures { result ≡ point_at (plus (position_of from) (unwrap_or (option_map displacement_of by) origin)) }
+    ensures { result ≡ point_at
+        (plus (position_of from) (unwrap_or (option_map displacement_of by) origin)) }
 {
     match by {
         Some(s) => moved_or_origin(from, s),

@@ -8,16 +8,16 @@ ghost use Rattle.mesh_base.specs.Shifts.{NameLive, end_in_box, moved_by};
 ghost use Rattle.pair_paths.specs.Bounds.{AreBoxes};
 ghost use Rattle.pair_paths.specs.Frames.{HoldsFaceIn};
 ghost use Rattle.pair_scan.specs.Failed.{failing_at, failing_among};
+ghost use Rattle.pair_scan.specs.Views.{AreViews};
 ghost use Rattle.pair_scan.specs.Passing.{has_none};
 
 use crate::failing_pairs::failed_at;
 use crate::motions::Shifted;
+use crate::neighbours::{Coming, near_edge};
 use crate::views::{View, Views, goes_with, views_of};
 use grid_base::{DEPTH_MAX, NoMemory};
 use mesh_base::{Shifts, Surface, edges_in_order};
-use pair_paths::{
-    HasBoundsIn, KnownPaths, MovingEdge, MovingFace, moving_edge, moving_faces, paths_of,
-};
+use pair_paths::{KnownPaths, MovingEdge, MovingFace, Paths, moving_edge, moving_faces, paths_of};
 use std::alloc::Global;
 
 /// Whether the edge passes those of the faces of these numbers with which it is a pair.
@@ -34,40 +34,45 @@ fn passes_near(e: &MovingEdge, faces: &[MovingFace], depth: u8, near: &[u64]) ->
 }
 
 /// Whether the pairs of an edge pass. Sets `near` to the numbers of the faces whose boxes in the view's frame meet the edge's.
-fn passes_seen(
+fn passes_seen<P: Paths>(
     e: &MovingEdge,
     faces: &[MovingFace],
-    view: &View,
+    view: &mut View,
     depth: u8,
+    paths: &P,
+    coming: &Coming,
     near: &mut Vec<u64>,
 ) -> Result<bool, NoMemory>
     requires depth_fits { depth ≤ DEPTH_MAX }
-    requires boxes { AreBoxes (HoldsFaceIn view.now.frame) faces.now view.now.boxes }
-    ensures { IfOk result (λ pass. pass ≡ has_none (failing_among depth e.now faces.now)) }
+    requires boxes { AreBoxes (HoldsFaceIn view.old.frame) faces.now view.old.boxes }
+    ensures boxes { AreBoxes (HoldsFaceIn view.new.frame) faces.now view.new.boxes }
+    ensures pass { IfOk result (λ pass. pass ≡ has_none (failing_among depth e.now faces.now)) }
 {
-    view.boxes.overlapping(e.bounds_in(&view.frame), near)?;
+    near_edge(e, view, paths, coming, near)?;
     Ok(passes_near(e, faces, depth, near))
 }
 
 /// The same, by the view whose frame goes more as the edge does.
-fn passes_of_edge(
+fn passes_of_edge<P: Paths>(
     e: &MovingEdge,
     faces: &[MovingFace],
-    views: &Views,
+    views: &mut Views,
     depth: u8,
+    paths: &P,
+    coming: &Coming,
     near: &mut Vec<u64>,
 ) -> Result<bool, NoMemory>
     requires depth_fits { depth ≤ DEPTH_MAX }
-    requires first { AreBoxes (HoldsFaceIn views.now.first.frame) faces.now views.now.first.boxes }
-    requires other { IfSome views.now.other (λ v. AreBoxes (HoldsFaceIn v.frame) faces.now v.boxes) }
-    ensures { IfOk result (λ pass. pass ≡ has_none (failing_among depth e.now faces.now)) }
+    requires views { AreViews faces.now views.old }
+    ensures views { AreViews faces.now views.new }
+    ensures pass { IfOk result (λ pass. pass ≡ has_none (failing_among depth e.now faces.now)) }
 {
-    if let Some(other) = &views.other {
+    if let Some(other) = &mut views.other {
         if goes_with(e, &other.frame, &views.first.frame) {
-            return passes_seen(e, faces, other, depth, near);
+            return passes_seen(e, faces, other, depth, paths, coming, near);
         }
     }
-    passes_seen(e, faces, &views.first, depth, near)
+    passes_seen(e, faces, &mut views.first, depth, paths, coming, near)
 }
 
 /// Whether all pairs pass where each vertex goes from its point by its shift: whether `failing` tells none. It ends at the
@@ -82,9 +87,11 @@ pub fn all_pass<S: Surface>(
     requires named { NameLive (S.mesh mesh.now) by.now }
     requires in_box { IsTrue (end_in_box (S.mesh mesh.now) by.now) }
     requires depth { depth ≤ DEPTH_MAX }
-    ensures exact { IfOk result (λ pass. pass ≡ has_none (failing meets_exactly (S.mesh mesh.now) by.now depth)) }
+    ensures exact { IfOk result
+        (λ pass. pass ≡ has_none (failing meets_exactly (S.mesh mesh.now) by.now depth)) }
     // All pass: no pair meets on the way.
-    ensures clear { IfOk result (λ pass. IsTrue pass → IsClearAlong (S.mesh mesh.now) (moved_by (S.mesh mesh.now) by.now)) }
+    ensures clear { IfOk result
+        (λ pass. IsTrue pass → IsClearAlong (S.mesh mesh.now) (moved_by (S.mesh mesh.now) by.now)) }
 {
     let shifted = Shifted {
         mesh,
@@ -96,12 +103,20 @@ pub fn all_pass<S: Surface>(
         known: known.as_slice(),
     };
     let faces = moving_faces(alloc, mesh, &paths)?;
-    let views = views_of(alloc, faces.as_slice(), shifted.by)?;
+    let all = faces.as_slice();
+    let mut views = views_of(alloc, all, shifted.by)?;
     let mut near = Vec::new(alloc);
     let edges = edges_in_order(alloc, mesh)?;
+    let listed = edges.as_slice();
+    let mut past: usize = 0;
     for (a, b) in edges.as_slice() {
+        past = past.saturating_add(1);
+        let coming = Coming {
+            edges: listed,
+            past,
+        };
         let e = moving_edge(&paths, *a, *b);
-        let pass = passes_of_edge(&e, faces.as_slice(), &views, depth, &mut near)?;
+        let pass = passes_of_edge(&e, all, &mut views, depth, &paths, &coming, &mut near)?;
         if !pass {
             return Ok(false);
         }

@@ -3,18 +3,19 @@ ghost use Rattle.std.specs.Prelude.{IfOk, IfSome};
 ghost use Rattle.pair_paths.specs.Bounds.{AreBoxes};
 ghost use Rattle.pair_paths.specs.Frames.{HoldsFaceIn};
 
+use crate::asked_tree::AskedTree;
 use crate::frames::{common_frame, gap, other_frame};
-use box_tree::BoxTree;
 use grid_base::NoMemory;
 use mesh_base::ShiftOf;
-use pair_paths::{Frame, MovingEdge, MovingFace, tree_in};
+use pair_paths::{Frame, MovingEdge, MovingFace, boxes_in};
 use std::alloc::Global;
 
-/// A tree of the boxes of faces in a frame.
+/// A tree of the boxes of faces in a frame, and how many edges its next question looks ahead.
 #[derive(Drop)]
 pub(crate) struct View {
     pub(crate) frame: Frame,
-    pub(crate) boxes: BoxTree,
+    pub(crate) boxes: AskedTree,
+    pub(crate) ahead: usize,
 }
 
 /// The faces as the frame of most sees them, and as that of those that go otherwise does, where there are such.
@@ -25,11 +26,15 @@ pub(crate) struct Views {
 }
 
 /// The faces as a frame sees them.
-fn view_of(alloc: Global, faces: &[MovingFace], frame: Frame) -> Result<View, NoMemory>
+pub(crate) fn view_of(alloc: Global, faces: &[MovingFace], frame: Frame) -> Result<View, NoMemory>
     ensures { IfOk result (λ v. AreBoxes (HoldsFaceIn v.frame) faces.now v.boxes) }
 {
-    let boxes = tree_in(alloc, faces, &frame)?;
-    Ok(View { frame, boxes })
+    let list = boxes_in(alloc, faces, &frame)?;
+    Ok(View {
+        frame,
+        boxes: AskedTree::of(alloc, list)?,
+        ahead: 1,
+    })
 }
 
 /// The same, where there is a frame.
@@ -52,8 +57,10 @@ pub(crate) fn views_of(
     faces: &[MovingFace],
     by: &[ShiftOf],
 ) -> Result<Views, NoMemory>
-    ensures first { IfOk result (λ w. AreBoxes (HoldsFaceIn w.first.frame) faces.now w.first.boxes) }
-    ensures other { IfOk result (λ w. IfSome w.other (λ v. AreBoxes (HoldsFaceIn v.frame) faces.now v.boxes)) }
+    ensures first { IfOk result
+        (λ w. AreBoxes (HoldsFaceIn w.first.frame) faces.now w.first.boxes) }
+    ensures other { IfOk result
+        (λ w. IfSome w.other (λ v. AreBoxes (HoldsFaceIn v.frame) faces.now v.boxes)) }
 {
     let frame = common_frame(alloc, by)?;
     let other = other_frame(alloc, faces, by, &frame)?;

@@ -20,14 +20,17 @@ loop-a-preserved g c =
     let one : ℕ × ℕ → List PairName = λ e. failing_of m by depth (pairs_of m e) in
     let w = moved_by m by in
     let edge = c.moving_edge-e.ensures ∙ ap (λ shifts. moving_edge (moved_by m shifts) x.0 x.1) c.as_slice.ensures in
-    let faces = c.as_slice-in-loop-a.ensures ∙ c.in_ok-faces.ensures ∙ ap (λ shifts. moving_faces m (moved_by m shifts)) c.as_slice.ensures in
-    let made = ap (λ e. failing_among depth e c.as_slice-in-loop-a.result.now) edge
+    let faces = c.as_slice-all.ensures ∙ c.in_ok-faces.ensures ∙ ap (λ shifts. moving_faces m (moved_by m shifts)) c.as_slice.ensures in
+    let made = ap (λ e. failing_among depth e c.as_slice-all.result.now) edge
     ∙ ap (failing_among depth (moving_edge w x.0 x.1)) faces
     ∙ of_edge m by depth x.0 x.1
     ∙ ap one c.loop-a-item.is in
-    made_more one items c.loop-a.a-index x c.loop-a.found c.put_failing_of_edge.new.found (flat_map one items) c.loop-a-test.true
-    (c.in_ok-put_failing_of_edge.ensures ∙ ap (λ zs. c.loop-a.found ++ zs) made)
-    c.loop-a.invariant
+    record {
+      put = made_more one items c.loop-a.a-index x c.loop-a.found c.put_failing_of_edge.new.found (flat_map one items) c.loop-a-test.true
+          (c.in_ok-put_failing_of_edge.ensures.found ∙ ap (λ zs. c.loop-a.found ++ zs) made)
+          c.loop-a.invariant.put;
+      views = c.in_ok-put_failing_of_edge.ensures.views;
+    }
 
 pub returns-clause-failing : goal.returns-clause-failing
 returns-clause-failing g c =
@@ -35,7 +38,7 @@ returns-clause-failing g c =
     let items = c.as_slice-a-items.result.now in
     let one : ℕ × ℕ → List PairName = λ e. failing_of m c.args.by.now c.args.depth (pairs_of m e) in
     let all : items ≡ edges m = c.as_slice-a-items.ensures ∙ c.in_ok-edges.ensures in
-    sym (made_all one items c.loop-a.a-index c.loop-a.found c.loop-a-test.false) ∙ c.loop-a.invariant ∙ ap (flat_map one) all ∙ by_edges m c.args.by.now c.args.depth
+    sym (made_all one items c.loop-a.a-index c.loop-a.found c.loop-a-test.false) ∙ c.loop-a.invariant.put ∙ ap (flat_map one) all ∙ by_edges m c.args.by.now c.args.depth
 
 pub returns-clause-all : goal.returns-clause-all
 returns-clause-all g c =

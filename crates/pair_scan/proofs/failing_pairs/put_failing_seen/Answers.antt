@@ -6,10 +6,12 @@ use Rattle.pair_paths.proofs.Near.{near_make_all}
 use Rattle.pair_scan.proofs.Fails.{passed_apart}
 use Rattle.pair_scan.proofs.failing_pairs.put_failing_seen.Goals as goal
 
-pub returns : goal.returns
-returns c =
+pub returns-clause-found : goal.returns-clause-found
+returns-clause-found g c =
     let e = c.args.e.now in
-    let all = near_make_all (HoldsFaceIn c.args.view.now.frame) (failed c.args.depth e) c.args.faces.now c.args.view.now.boxes c.bounds_in.result c.requires.boxes refl
-    (λ f box held off. passed_apart c.args.depth c.args.view.now.frame e f box c.bounds_in.result c.bounds_in.ensures held off)
-    c.deref.result.now (c.deref.ensures.value ∙ c.in_ok-overlapping.ensures.ok) in
+    let frame = c.args.view.now.frame in
+    let near = c.in_ok-near_edge.ensures.near in
+    let all = near_make_all (HoldsFaceIn frame) (failed c.args.depth e) c.args.faces.now c.args.view.now.boxes near.at c.requires.boxes refl
+    (λ f box held off. passed_apart c.args.depth frame e f box near.at near.held held off)
+    c.deref.result.now (c.deref.ensures.value ∙ near.found) in
     subst (λ zs. OnOk c.put_failing.result (c.put_failing.new.found ≡ (c.args.found.now ++ zs))) all c.put_failing.ensures

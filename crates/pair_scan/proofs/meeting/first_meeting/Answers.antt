@@ -17,8 +17,11 @@ loop-a-preserved g c =
     let of : ℕ × ℕ → List Pair = λ e. pairs_of m e in
     let name : Pair → PairName = λ p. p.name in
     let met : Pair → Bool = λ p. meets_exactly (positions (rest_positions m) p) in
-    let none : first_of m (of (get_or items c.loop-a.a-index c.loop-a-item.result)) ≡ None = ap (λ e. first_of m (of e)) (sym c.loop-a-item.is) ∙ sym c.in_ok-found.ensures ∙ c.in_default.is in
-    sym (first_behind name met of items c.loop-a.a-index c.loop-a-item.result c.loop-a-test.true none) ∙ c.loop-a.invariant
+    let none : first_of m (of (get_or items c.loop-a.a-index c.loop-a-item.result)) ≡ None = ap (λ e. first_of m (of e)) (sym c.loop-a-item.is) ∙ sym c.in_ok-found.ensures.met ∙ c.in_default.is in
+    record {
+      met = sym (first_behind name met of items c.loop-a.a-index c.loop-a-item.result c.loop-a-test.true none) ∙ c.loop-a.invariant.met;
+      boxes = c.in_ok-found.ensures.boxes;
+    }
 
 pub returns-in-Some-clause-first : goal.returns-in-Some-clause-first
 returns-in-Some-clause-first g c =
@@ -28,8 +31,8 @@ returns-in-Some-clause-first g c =
     let name : Pair → PairName = λ p. p.name in
     let met : Pair → Bool = λ p. meets_exactly (positions (rest_positions m) p) in
     let all : items ≡ edges m = c.as_slice-a-items.ensures ∙ c.in_ok-edges.ensures in
-    let some : first_of m (of (get_or items c.loop-a.a-index c.loop-a-item.result)) ≡ Some c.in-Some.found = ap (λ e. first_of m (of e)) (sym c.loop-a-item.is) ∙ sym c.in_ok-found.ensures ∙ c.in-Some.is in
-    sym (first_here name met of items c.loop-a.a-index c.loop-a-item.result c.in-Some.found c.loop-a-test.true some) ∙ c.loop-a.invariant ∙ ap (λ es. first_of m (flat_map of es)) all
+    let some : first_of m (of (get_or items c.loop-a.a-index c.loop-a-item.result)) ≡ Some c.in-Some.found = ap (λ e. first_of m (of e)) (sym c.loop-a-item.is) ∙ sym c.in_ok-found.ensures.met ∙ c.in-Some.is in
+    sym (first_here name met of items c.loop-a.a-index c.loop-a-item.result c.in-Some.found c.loop-a-test.true some) ∙ c.loop-a.invariant.met ∙ ap (λ es. first_of m (flat_map of es)) all
 
 pub returns-in-Some-clause-clear : goal.returns-in-Some-clause-clear
 returns-in-Some-clause-clear g c = clear_exactly (g.S.Surface.mesh c.args.mesh.now) (Some c.in-Some.found) (g.met.S.Surface.sound c.args.mesh.now) (returns-in-Some-clause-first g c)
@@ -48,7 +51,7 @@ returns-clause-first g c =
     let name : Pair → PairName = λ p. p.name in
     let met : Pair → Bool = λ p. meets_exactly (positions (rest_positions m) p) in
     let all : items ≡ edges m = c.as_slice-a-items.ensures ∙ c.in_ok-edges.ensures in
-    sym (first_ended name met of items c.loop-a.a-index c.loop-a-test.false) ∙ c.loop-a.invariant ∙ ap (λ es. first_of m (flat_map of es)) all
+    sym (first_ended name met of items c.loop-a.a-index c.loop-a-test.false) ∙ c.loop-a.invariant.met ∙ ap (λ es. first_of m (flat_map of es)) all
 
 pub returns-clause-clear : goal.returns-clause-clear
 returns-clause-clear g c = clear_exactly (g.S.Surface.mesh c.args.mesh.now) None (g.met.S.Surface.sound c.args.mesh.now) (returns-clause-first g c)
