@@ -14,7 +14,7 @@ use Rattle.cell_grid.specs.Cells.{place_along, Touches, Covers, nth_cell}
 div_mono : (a b k : ℕ) → 0 < k → a ≤ b → a / k ≤ b / k
 div_mono a b k some h = let e = div-mul-le_self a k in le-div (a / k) b k some (omega arith)
 
-moved_mono : (a b : ℤ) → unsigned_abs a ≤ EXTENT_MAX → unsigned_abs b ≤ EXTENT_MAX → a ≤ℤ b → unsigned_abs (a +ℤ pos EXTENT_MAX) ≤ unsigned_abs (b +ℤ pos EXTENT_MAX)
+pub moved_mono : (a b : ℤ) → unsigned_abs a ≤ EXTENT_MAX → unsigned_abs b ≤ EXTENT_MAX → a ≤ℤ b → unsigned_abs (a +ℤ pos EXTENT_MAX) ≤ unsigned_abs (b +ℤ pos EXTENT_MAX)
 moved_mono a b p q h = omega (arith, ints)
 
 pub place_along-mono : (cell : ℕ) (a b : ℤ) → 0 < cell → unsigned_abs a ≤ EXTENT_MAX → unsigned_abs b ≤ EXTENT_MAX → a ≤ℤ b → place_along cell a ≤ place_along cell b
@@ -28,7 +28,7 @@ record Meet (a b c d : ℤ) : Type 0 where
   one : a ≤ℤ d
   other : c ≤ℤ b
 
-true_test : (b : Bool) → b ≡ true → T b
+pub true_test : (b : Bool) → b ≡ true → T b
 true_test b e = subst T (sym e) tt
 
 meet_from : (a b c d : ℤ) → a ≤ℤ b → c ≤ℤ d → meet_along a b c d ≡ true → Meet a b c d

@@ -1,7 +1,8 @@
-// The cells that an extent touches.
+// The cells that an extent touches, and what stands at them.
 ghost use Rattle.std.specs.Prelude.{◌≡◌, ◌<◌, ◌≤◌, IfSome, unsigned_abs};
 ghost use Rattle.cell_grid.specs.Usable.{IsUsable};
 
+use crate::bounds::Bounds;
 use crate::{CELLS_MAX, Extent};
 use grid_base::EXTENT_MAX;
 
@@ -11,6 +12,13 @@ pub(crate) struct Cell {
     pub x: u32,
     pub y: u32,
     pub z: u32,
+}
+
+/// An item that stands at a cell, with bounds that have its extent.
+#[derive(Clone, Copy)]
+pub(crate) struct Entry {
+    pub item: u64,
+    pub around: Bounds,
 }
 
 /// A few cells: so many along each axis, from the first one on.

@@ -1,56 +1,102 @@
 // Where items stand: in the lists of the cells, or in the list of the large ones.
-ghost use Rattle.std.specs.Prelude.{◌≡◌, ◌≢◌, ℕ, ◌<◌, ◌++◌, [], ◌∷◌, not, ◌==◌, ◌||◌, IsTrue, OnOk, OnErr, IfOk};
+ghost use Rattle.std.specs.Prelude.{◌≡◌, ◌≢◌, ℕ, ◌<◌, ◌++◌, [], ◌∷◌, not, ◌==◌, ◌||◌, IsTrue, OnOk, OnErr, IfOk, IfSome, Some, slice_get, option_map};
 ghost use Rattle.std.specs.List.{filter};
 ghost use Rattle.cell_grid.specs.declared.cells.Cell.{Cell as CellAt};
 ghost use Rattle.cell_grid.specs.Cells.{nth_cell};
-ghost use Rattle.cell_grid.specs.Filed.{has, held, KeepsAll, KeepsOthers, KeepsElsewhere, KeepsTouched, KeepsSeen, KeepsOthersSeen, StandsAlong, IsSeenOver};
+ghost use Rattle.cell_grid.specs.Filed.{has, held, IsFoundIn, KeepsFound, KeepsAll, KeepsOthers, KeepsElsewhere};
+ghost use Rattle.cell_grid.specs.Filed.{KeepsTouched, KeepsSeen, KeepsOthersSeen, StandsAlong, IsSeenOver};
 
 use crate::Extent;
-use crate::cells::{Cell, Span, nth_cell, span_of, touches};
+use crate::bounds::Bounds;
+use crate::cells::{Cell, Entry, Span, nth_cell, span_of, touches};
 use grid_base::NoMemory;
 use std::alloc::Global;
 use std::collections::HashMap;
 
-// Puts the item into the list, if it is not there.
-fn put(list: &mut Vec<u64>, item: u64) -> Result<(), NoMemory>
-    ensures ok { OnOk result (IsTrue (has item list.new.items)) }
-    ensures keeps { (i : ℕ) → IsTrue (has i list.old.items) → IsTrue (has i list.new.items) }
+// Puts the item into the list of the large ones, if it is not there.
+fn put_large(large: &mut Vec<u64>, item: u64) -> Result<(), NoMemory>
+    ensures ok { OnOk result (IsTrue (has item large.new.items)) }
+    ensures keeps { (i : ℕ) → IsTrue (has i large.old.items) → IsTrue (has i large.new.items) }
 {
-    if !list.contains(&item) {
-        list.push(item)?;
+    if !large.contains(&item) {
+        large.push(item)?;
     }
     Ok(())
 }
 
-// Takes the item out of the list.
-fn take_out(list: &mut Vec<u64>, item: u64)
-    ensures { list.new.items ≡ filter (λ i. not (i == item)) list.old.items }
+// Where the item's entry stands in the list.
+fn place_of(list: &[Entry], item: u64) -> Option<usize>
+    ensures { IfSome result (λ n. option_map (λ k. k.item) (slice_get list.now n) ≡ Some item) }
 {
-    list.retain(|i| *i != item);
+    for n in 0..list.len() {
+        if list[n].item == item {
+            return Some(n);
+        }
+    }
+    None
 }
 
-// Puts the item into a cell's list.
+// Makes the entry that stands at a place wide enough for another one of its item.
+fn widen(list: &mut Vec<Entry>, n: usize, k: Entry)
+    requires { option_map (λ e. e.item) (slice_get list.old.items n) ≡ Some k.item }
+    ensures found { IsFoundIn k.item k.around list.new.items }
+    ensures keeps { KeepsFound list.old.items list.new.items }
+{
+    let around = list[n].around.united(k.around);
+    list[n] = Entry {
+        item: k.item,
+        around,
+    };
+}
+
+// Puts the entry into the list, or makes that of its item wide enough.
+fn put(list: &mut Vec<Entry>, k: Entry) -> Result<(), NoMemory>
+    ensures ok { OnOk result (IsFoundIn k.item k.around list.new.items) }
+    ensures keeps { KeepsFound list.old.items list.new.items }
+{
+    match place_of(list, k.item) {
+        Some(n) => widen(list, n, k),
+        None => list.push(k)?,
+    }
+    Ok(())
+}
+
+// Takes the item out of the list of the large ones.
+fn take_out_large(large: &mut Vec<u64>, item: u64)
+    ensures { large.new.items ≡ filter (λ i. not (i == item)) large.old.items }
+{
+    large.retain(|i| *i != item);
+}
+
+// Takes the item's entries out of the list.
+fn take_out(list: &mut Vec<Entry>, item: u64)
+    ensures { list.new.items ≡ filter (λ k. not (k.item == item)) list.old.items }
+{
+    list.retain(|k| k.item != item);
+}
+
+// Puts the entry into a cell's list.
 fn put_at(
     alloc: Global,
-    cells: &mut HashMap<Cell, Vec<u64>>,
+    cells: &mut HashMap<Cell, Vec<Entry>>,
     at: Cell,
-    item: u64,
+    k: Entry,
 ) -> Result<(), NoMemory>
-    ensures ok { OnOk result (IsTrue (has item (held cells.new at))) }
+    ensures ok { OnOk result (IsFoundIn k.item k.around (held cells.new at)) }
     ensures keeps { KeepsAll cells.old cells.new }
 {
     if let Some(list) = cells.get_mut(&at) {
-        put(list, item)?;
+        put(list, k)?;
         return Ok(());
     }
     let mut list = Vec::new(alloc);
-    list.push(item)?;
+    list.push(k)?;
     cells.insert(at, list)?;
     Ok(())
 }
 
 // Takes the item out of a cell's list.
-fn take_out_at(cells: &mut HashMap<Cell, Vec<u64>>, at: Cell, item: u64)
+fn take_out_at(cells: &mut HashMap<Cell, Vec<Entry>>, at: Cell, item: u64)
     ensures keeps { KeepsOthers item cells.old cells.new }
     ensures elsewhere { KeepsElsewhere at cells.old cells.new }
 {
@@ -59,7 +105,7 @@ fn take_out_at(cells: &mut HashMap<Cell, Vec<u64>>, at: Cell, item: u64)
 }
 
 // Takes the item out of a cell's list, and leaves the list.
-fn take_out_within(cells: &mut HashMap<Cell, Vec<u64>>, at: Cell, item: u64)
+fn take_out_within(cells: &mut HashMap<Cell, Vec<Entry>>, at: Cell, item: u64)
     ensures keeps { KeepsOthers item cells.old cells.new }
     ensures elsewhere { KeepsElsewhere at cells.old cells.new }
 {
@@ -69,7 +115,7 @@ fn take_out_within(cells: &mut HashMap<Cell, Vec<u64>>, at: Cell, item: u64)
 }
 
 // Whether the cell has an empty list.
-fn is_empty_at(cells: &HashMap<Cell, Vec<u64>>, at: Cell) -> bool
+fn is_empty_at(cells: &HashMap<Cell, Vec<Entry>>, at: Cell) -> bool
     ensures { IsTrue result → held cells.now at ≡ [] }
 {
     match cells.get(&at) {
@@ -79,7 +125,7 @@ fn is_empty_at(cells: &HashMap<Cell, Vec<u64>>, at: Cell) -> bool
 }
 
 // Takes the cell's list out of the map, if it is empty.
-fn drop_empty(cells: &mut HashMap<Cell, Vec<u64>>, at: Cell)
+fn drop_empty(cells: &mut HashMap<Cell, Vec<Entry>>, at: Cell)
     ensures { (c : CellAt) → held cells.new c ≡ held cells.old c }
 {
     if is_empty_at(cells, at) {
@@ -87,18 +133,18 @@ fn drop_empty(cells: &mut HashMap<Cell, Vec<u64>>, at: Cell)
     }
 }
 
-// Puts the item into the list of each cell of the span.
+// Puts the entry into the list of each cell of the span.
 fn put_along(
     alloc: Global,
-    cells: &mut HashMap<Cell, Vec<u64>>,
+    cells: &mut HashMap<Cell, Vec<Entry>>,
     s: &Span,
-    item: u64,
+    k: Entry,
 ) -> Result<(), NoMemory>
-    ensures ok { OnOk result (StandsAlong item s.now cells.new) }
+    ensures ok { OnOk result (StandsAlong k s.now cells.new) }
     ensures keeps { KeepsAll cells.old cells.new }
 {
     for n in 0..s.count {
-        put_at(alloc, cells, nth_cell(s, n), item)?;
+        put_at(alloc, cells, nth_cell(s, n), k)?;
     }
     Ok(())
 }
@@ -109,7 +155,7 @@ pub(crate) fn file(
     alloc: Global,
     cell: u32,
     large: &mut Vec<u64>,
-    cells: &mut HashMap<Cell, Vec<u64>>,
+    cells: &mut HashMap<Cell, Vec<Entry>>,
     item: u64,
     at: &Extent,
 ) -> Result<(), NoMemory>
@@ -118,13 +164,22 @@ pub(crate) fn file(
     ensures keeps { KeepsSeen large.old.items cells.old large.new.items cells.new }
 {
     match span_of(at, cell) {
-        Some(span) => put_along(alloc, cells, &span, item),
-        None => put(large, item),
+        Some(span) => {
+            let around = Bounds::of(at);
+            put_along(alloc, cells, &span, Entry { item, around })
+        }
+        None => put_large(large, item),
     }
 }
 
 // Takes the item out of the list of each cell of the span, but for those that the other extent touches.
-fn take_out_along(cell: u32, cells: &mut HashMap<Cell, Vec<u64>>, s: &Span, item: u64, but: &Extent)
+fn take_out_along(
+    cell: u32,
+    cells: &mut HashMap<Cell, Vec<Entry>>,
+    s: &Span,
+    item: u64,
+    but: &Extent,
+)
     requires { 0 < cell }
     ensures others { KeepsOthers item cells.old cells.new }
     ensures spared { KeepsTouched cell but.now cells.old cells.new }
@@ -138,7 +193,7 @@ fn take_out_along(cell: u32, cells: &mut HashMap<Cell, Vec<u64>>, s: &Span, item
 }
 
 // Takes the item out of the list of each cell of the span.
-fn take_out_all(cells: &mut HashMap<Cell, Vec<u64>>, s: &Span, item: u64)
+fn take_out_all(cells: &mut HashMap<Cell, Vec<Entry>>, s: &Span, item: u64)
     ensures { KeepsOthers item cells.old cells.new }
 {
     for n in 0..s.count {
@@ -150,7 +205,7 @@ fn take_out_all(cells: &mut HashMap<Cell, Vec<u64>>, s: &Span, item: u64)
 /// Among the large ones it stays.
 pub(crate) fn unfile_but(
     cell: u32,
-    cells: &mut HashMap<Cell, Vec<u64>>,
+    cells: &mut HashMap<Cell, Vec<Entry>>,
     item: u64,
     was: &Extent,
     but: &Extent,
@@ -168,14 +223,14 @@ pub(crate) fn unfile_but(
 pub(crate) fn unfile(
     cell: u32,
     large: &mut Vec<u64>,
-    cells: &mut HashMap<Cell, Vec<u64>>,
+    cells: &mut HashMap<Cell, Vec<Entry>>,
     item: u64,
     was: &Extent,
 )
     requires { 0 < cell }
     ensures { KeepsOthersSeen item large.old.items cells.old large.new.items cells.new }
 {
-    take_out(large, item);
+    take_out_large(large, item);
     if let Some(span) = span_of(was, cell) {
         take_out_all(cells, &span, item);
     }

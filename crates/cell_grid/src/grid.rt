@@ -1,26 +1,28 @@
-ghost use Rattle.std.specs.Prelude.{◌≡◌, ◌<◌, IsOk, OnOk, OnErr, IfOk, []};
+ghost use Rattle.std.specs.Prelude.{◌≡◌, ◌<◌, ℕ, IsOk, OnOk, OnErr, IfOk, [], Contains};
+ghost use Rattle.std.specs.List.Sorted.{IsStrictlyIncreasing};
 ghost use Rattle.std.specs.FinMap as map;
-ghost use Rattle.cell_grid.specs.Overlapping.{overlapping};
+ghost use Rattle.cell_grid.specs.Overlapping.{overlapping, IsItemAt};
 
 use crate::Extent;
-use crate::cells::Cell;
-use crate::looking::look;
-use crate::setting::{rising, set, take};
+use crate::cells::{Cell, Entry};
+use crate::looking::{keep_met, look_rising};
+use crate::setting::{set, take};
 use grid_base::NoMemory;
 use std::alloc::Global;
 use std::collections::HashMap;
 use std::marker::Model;
 
 /// A map from items to extents. A question finds the items near an extent by the cells that it touches (a hashed grid,
-/// as broad phases use). An extent that touches more than 64 cells is kept in a list of its own, which every question
-/// looks through; a question whose extent touches more than 64 cells looks at every item.
+/// as broad phases use), where each stands with bounds that have its extent. An extent that touches more than 64 cells is
+/// kept in a list of its own, which every question looks through; a question whose extent touches more than 64 cells
+/// looks at every item.
 #[derive(Drop)]
 pub struct Grid {
     alloc: Global,
     cell: u32,
     items: HashMap<u64, Extent>,
     large: Vec<u64>,
-    cells: HashMap<Cell, Vec<u64>>,
+    cells: HashMap<Cell, Vec<Entry>>,
 }
 
 impl Model for Grid {
@@ -103,12 +105,18 @@ impl Grid {
         ensures ok { OnOk result (into.new.items ≡ overlapping self.now at) }
         ensures err { OnErr result (into.new.items ≡ []) }
     {
-        into.clear();
-        if let Err(e) = look(self.cell, &self.items, &self.large, &self.cells, &at, into) {
-            into.clear();
-            return Err(e);
-        }
-        rising(into);
+        look_rising(self.cell, &self.items, &self.large, &self.cells, &at, into)?;
+        keep_met(&self.items, &at, into);
         Ok(())
+    }
+
+    /// Sets the list to items among which are all whose extents have a common point with this one, rising. It costs less
+    /// than `overlapping`, for callers that test what they find. Where there is no memory, the list is empty.
+    pub fn near(&self, at: Extent, into: &mut Vec<u64>) -> Result<(), NoMemory>
+        ensures rising { OnOk result (IsStrictlyIncreasing into.new.items) }
+        ensures all { OnOk result ((i : ℕ) → IsItemAt self.now at i → Contains into.new.items i) }
+        ensures err { OnErr result (into.new.items ≡ []) }
+    {
+        look_rising(self.cell, &self.items, &self.large, &self.cells, &at, into)
     }
 }

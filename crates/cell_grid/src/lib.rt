@@ -1,6 +1,7 @@
 //! A map from items to extents that finds the items near an extent by the cells that they touch.
 #![tactic(auto)]
 
+mod bounds;
 mod cells;
 mod filing;
 mod grid;

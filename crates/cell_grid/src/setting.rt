@@ -6,7 +6,7 @@ ghost use Rattle.std.specs.Ordering.{nat_cmp};
 ghost use Rattle.cell_grid.specs.Filed.{has, AreFiled, SetsExtent};
 
 use crate::Extent;
-use crate::cells::Cell;
+use crate::cells::{Cell, Entry};
 use crate::filing::{file, unfile, unfile_but};
 use grid_base::NoMemory;
 use std::alloc::Global;
@@ -18,7 +18,7 @@ pub(crate) fn set(
     cell: u32,
     items: &mut HashMap<u64, Extent>,
     large: &mut Vec<u64>,
-    cells: &mut HashMap<Cell, Vec<u64>>,
+    cells: &mut HashMap<Cell, Vec<Entry>>,
     item: u64,
     at: &Extent,
 ) -> Result<(), NoMemory>
@@ -43,7 +43,7 @@ pub(crate) fn take(
     cell: u32,
     items: &mut HashMap<u64, Extent>,
     large: &mut Vec<u64>,
-    cells: &mut HashMap<Cell, Vec<u64>>,
+    cells: &mut HashMap<Cell, Vec<Entry>>,
     item: u64,
 ) -> Option<Extent>
     requires some_size { 0 < cell }
