@@ -3,9 +3,8 @@
 #![tactic(auto)]
 
 mod bounds;
-mod face_tree;
 mod frame;
-mod frame_tree;
+mod frame_boxes;
 mod known;
 pub mod laws;
 mod moving;
@@ -14,9 +13,8 @@ mod path;
 mod position;
 
 pub use bounds::HasBounds;
-pub use face_tree::tree_of;
 pub use frame::{Frame, HasBoundsIn};
-pub use frame_tree::{boxes_in, tree_in};
+pub use frame_boxes::boxes_in;
 pub use known::{KnownPaths, PathOf, paths_of};
 pub use moving::{MovingEdge, MovingFace, moving_edge, moving_faces};
 pub use pairing::{ends_of, name_of, pair_of, share_a_vertex, starts_of};

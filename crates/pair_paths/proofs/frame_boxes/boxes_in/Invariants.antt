@@ -1,7 +1,7 @@
 use Rattle.std.proofs.Common.{◌≡◌, ℕ, ◌<◌, length, Some}
 use Rattle.std.specs.Prelude.{slice_get}
 use Rattle.grid_base.specs.declared.Extent.{Extent}
-use Rattle.pair_paths.proofs.frame_tree.boxes_in.Given as goal
+use Rattle.pair_paths.proofs.frame_boxes.boxes_in.Given as goal
 
 -- the boxes so far
 abbrev pub invariant-loop-f : goal.invariant-loop-f

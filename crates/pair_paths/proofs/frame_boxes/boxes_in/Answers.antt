@@ -1,6 +1,6 @@
 use Rattle.std.proofs.Common.{◌∙◌, ◌++◌, [], ◌∷◌, ap, length, arith}
 use Rattle.pair_paths.proofs.Boxed.{AreBoxedTo, boxed_more, all_boxed}
-use Rattle.pair_paths.proofs.frame_tree.boxes_in.Goals as goal
+use Rattle.pair_paths.proofs.frame_boxes.boxes_in.Goals as goal
 
 pub loop-f-init : goal.loop-f-init
 loop-f-init g c = record { as_long = ap length c.new-boxes.ensures.items; boxed = λ k x lt h. absurd (omega arith) }

@@ -1,9 +1,9 @@
-//! A tree of the boxes of faces in a frame.
+//! The boxes of faces in a frame.
 ghost use Rattle.std.specs.Prelude.{IfOk};
-ghost use Rattle.pair_paths.specs.Bounds.{AreBoxes, AreBoxesOf};
+ghost use Rattle.pair_paths.specs.Bounds.{AreBoxesOf};
 
 use crate::frame::{Frame, HasBoundsIn};
-use box_tree::{BoxTree, SmallBox};
+use box_tree::SmallBox;
 use grid_base::NoMemory;
 use std::alloc::Global;
 
@@ -20,16 +20,4 @@ pub fn boxes_in<F: HasBoundsIn>(
         boxes.push(SmallBox::of(&f.bounds_in(frame)))?;
     }
     Ok(boxes)
-}
-
-/// A tree of the faces' boxes in a frame, by their places in the list. Refuses only where there is no memory.
-pub fn tree_in<F: HasBoundsIn>(
-    alloc: Global,
-    faces: &[F],
-    frame: &Frame,
-) -> Result<BoxTree, NoMemory>
-    ensures { IfOk result (AreBoxes (F.holds_in frame.now) faces.now) }
-{
-    let boxes = boxes_in(alloc, faces, frame)?;
-    BoxTree::of(alloc, &boxes)
 }
