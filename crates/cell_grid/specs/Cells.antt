@@ -12,7 +12,11 @@ place_along cell a = unsigned_abs (a +ℤ pos EXTENT_MAX) / cell
 
 -- the cell of a point
 abbrev pub cell_of : ℕ → Triple → Cell
-cell_of cell p = record { x = place_along cell p.x; y = place_along cell p.y; z = place_along cell p.z }
+cell_of cell p = record {
+  x = place_along cell p.x;
+  y = place_along cell p.y;
+  z = place_along cell p.z;
+}
 
 -- whether two cells are one
 abbrev pub same_cell : Cell → Cell → Bool
@@ -36,4 +40,8 @@ pub record Covers (cell : ℕ) (e : Extent) (s : Span) : Type 0 where
 
 -- the nth cell of a span
 abbrev pub nth_cell : Span → ℕ → Cell
-nth_cell s n = record { x = s.first.x + n % s.nx; y = s.first.y + n / s.nx % s.ny; z = s.first.z + n / s.nx / s.ny }
+nth_cell s n = record {
+  x = s.first.x + n % s.nx;
+  y = s.first.y + n / s.nx % s.ny;
+  z = s.first.z + n / s.nx / s.ny;
+}

@@ -48,8 +48,10 @@ impl Interval {
 
     /// An interval that has both.
     fn united(self, other: Interval) -> Interval
-        ensures first { (q : Along) → IsTrue (intervals_meet self q) → IsTrue (intervals_meet result q) }
-        ensures second { (q : Along) → IsTrue (intervals_meet other q) → IsTrue (intervals_meet result q) }
+        ensures first { (q : Along) → IsTrue (intervals_meet self q)
+            → IsTrue (intervals_meet result q) }
+        ensures second { (q : Along) → IsTrue (intervals_meet other q)
+            → IsTrue (intervals_meet result q) }
     {
         Interval {
             low: self.low.min(other.low),

@@ -49,15 +49,18 @@ fn widen(list: &mut Vec<Entry>, n: usize, k: Entry)
     };
 }
 
-// Puts the entry into the list, or makes that of its item wide enough.
-fn put(list: &mut Vec<Entry>, k: Entry) -> Result<(), NoMemory>
+// Puts the entry into the list; unless its item is new, it makes the one that is there wide enough, if any is.
+fn put(list: &mut Vec<Entry>, k: Entry, is_new: bool) -> Result<(), NoMemory>
     ensures ok { OnOk result (IsFoundIn k.item k.around list.new.items) }
     ensures keeps { KeepsFound list.old.items list.new.items }
 {
-    match place_of(list, k.item) {
-        Some(n) => widen(list, n, k),
-        None => list.push(k)?,
+    if !is_new {
+        if let Some(n) = place_of(list, k.item) {
+            widen(list, n, k);
+            return Ok(());
+        }
     }
+    list.push(k)?;
     Ok(())
 }
 
@@ -81,12 +84,13 @@ fn put_at(
     cells: &mut HashMap<Cell, Vec<Entry>>,
     at: Cell,
     k: Entry,
+    is_new: bool,
 ) -> Result<(), NoMemory>
     ensures ok { OnOk result (IsFoundIn k.item k.around (held cells.new at)) }
     ensures keeps { KeepsAll cells.old cells.new }
 {
     if let Some(list) = cells.get_mut(&at) {
-        put(list, k)?;
+        put(list, k, is_new)?;
         return Ok(());
     }
     let mut list = Vec::new(alloc);
@@ -139,18 +143,19 @@ fn put_along(
     cells: &mut HashMap<Cell, Vec<Entry>>,
     s: &Span,
     k: Entry,
+    is_new: bool,
 ) -> Result<(), NoMemory>
     ensures ok { OnOk result (StandsAlong k s.now cells.new) }
     ensures keeps { KeepsAll cells.old cells.new }
 {
     for n in 0..s.count {
-        put_at(alloc, cells, nth_cell(s, n), k)?;
+        put_at(alloc, cells, nth_cell(s, n), k, is_new)?;
     }
     Ok(())
 }
 
 /// Files the item under each cell that its extent touches, or among the large ones.
-/// What was filed stays, also where memory runs out.
+/// What was filed stays, also where memory runs out. An item that is new is not looked for.
 pub(crate) fn file(
     alloc: Global,
     cell: u32,
@@ -158,6 +163,7 @@ pub(crate) fn file(
     cells: &mut HashMap<Cell, Vec<Entry>>,
     item: u64,
     at: &Extent,
+    is_new: bool,
 ) -> Result<(), NoMemory>
     requires { 0 < cell }
     ensures ok { OnOk result (IsSeenOver cell at.now item large.new.items cells.new) }
@@ -166,7 +172,7 @@ pub(crate) fn file(
     match span_of(at, cell) {
         Some(span) => {
             let around = Bounds::of(at);
-            put_along(alloc, cells, &span, Entry { item, around })
+            put_along(alloc, cells, &span, Entry { item, around }, is_new)
         }
         None => put_large(large, item),
     }

@@ -69,7 +69,8 @@ fn look_along(
     into: &mut Vec<u64>,
 ) -> Result<(), NoMemory>
     ensures found { OnOk result (FindsAlong cells.now s.now at.now into.new.items) }
-    ensures keeps { OnOk result ((i : ℕ) → IsTrue (has i into.old.items) → IsTrue (has i into.new.items)) }
+    ensures keeps { OnOk result ((i : ℕ)
+        → IsTrue (has i into.old.items) → IsTrue (has i into.new.items)) }
 {
     for n in 0..s.count {
         look_at(cells, nth_cell(s, n), at, into)?;

@@ -28,7 +28,8 @@ pub(crate) fn set(
     ensures ok { OnOk result (SetsExtent item at.now items.old items.new) }
     ensures err { OnErr result (items.new.entries ≡ items.old.entries) }
 {
-    file(alloc, cell, large, cells, item, at)?;
+    let is_new = !items.contains_key(&item);
+    file(alloc, cell, large, cells, item, at, is_new)?;
     match items.insert(item, *at)? {
         Some(was) => {
             unfile_but(cell, cells, item, &was, at);
@@ -50,7 +51,8 @@ pub(crate) fn take(
     requires filed { AreFiled cell items.old large.old.items cells.old }
     ensures filed { AreFiled cell items.new large.new.items cells.new }
     ensures value { result ≡ get nat_eq items.old item }
-    ensures removed { (q : ℕ) → get nat_eq items.new q ≡ cond (nat_eq item q) None (get nat_eq items.old q) }
+    ensures removed { (q : ℕ)
+        → get nat_eq items.new q ≡ cond (nat_eq item q) None (get nat_eq items.old q) }
 {
     match items.remove(&item) {
         Some(was) => {

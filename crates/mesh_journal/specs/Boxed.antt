@@ -40,4 +40,5 @@ AreBoxed o m = (f : ℕ) (c : Corners) → HasCorners m f c → HoldsCorners o m
 
 -- so it is in each of these meshes from a place on
 abbrev pub AreBoxedFrom : ℕ → Option Boxes → List Mesh → Type 0
-AreBoxedFrom since o kept = (k : ℕ) (m : Mesh) → since ≤ k → slice_get kept k ≡ Some m → AreBoxed o m
+AreBoxedFrom since o kept = (k : ℕ) (m : Mesh) → since ≤ k
+    → slice_get kept k ≡ Some m → AreBoxed o m

@@ -51,7 +51,8 @@ CanUndoAll (e ∷ es) s = CanUndo e (back es s) × CanUndoAll es s
 
 -- of what is buried, vertices alone are solid
 abbrev pub MarksAreBuried : State → Type 0
-MarksAreBuried s = (v : ℕ) → is_some (map.get s.buried.solid v) ≡ true → IsSome (map.get s.buried.points v)
+MarksAreBuried s = (v : ℕ) → is_some (map.get s.buried.solid v) ≡ true
+    → IsSome (map.get s.buried.points v)
 
 pub CanUndo-prop : (e : Entry) (s : State) → IsProp (CanUndo e s)
 CanUndo-prop (FaceMade f) s = hlevel props

@@ -51,7 +51,8 @@ pub(crate) fn cell_for<B: Surface>(mesh: &B) -> u32
 fn put_face<B: Surface>(mesh: &B, f: FaceId, grid: &mut Grid) -> Result<(), NoMemory>
     ensures at { let m = B.mesh mesh.now in
         OnOk result ((c : Corners) → HasCorners m f c → HoldsCorners (Some grid.new) m f c) }
-    ensures others { OnOk result ((q : ℕ) (p : Triple) → q ≢ f → Holds (Some grid.old) q p → Holds (Some grid.new) q p) }
+    ensures others { OnOk result ((q : ℕ) (p : Triple) → q ≢ f
+        → Holds (Some grid.old) q p → Holds (Some grid.new) q p) }
 {
     if let Some(c) = mesh.corners(f) {
         grid.insert(u64::from(f.0), box_of(mesh, c))?;

@@ -80,7 +80,8 @@ impl Index {
     /// Sets the box of a face. Where memory is wanting, the boxes are given up.
     pub(crate) fn set(&mut self, f: FaceId, around: Extent)
         ensures at { (p : Triple) → IsIn around p → Holds self.new.grid f p }
-        ensures others { (q : ℕ) (p : Triple) → q ≢ f → Holds self.old.grid q p → Holds self.new.grid q p }
+        ensures others { (q : ℕ) (p : Triple) → q ≢ f
+            → Holds self.old.grid q p → Holds self.new.grid q p }
         ensures since { self.new.since ≡ self.old.since }
     {
         self.grid = with_box(self.grid.take(), f, around);
@@ -117,7 +118,8 @@ impl Index {
     /// were widened since the index was asked for, the boxes are given up: a step moves every vertex, and need not pay
     /// for boxes that are of no use.
     pub(crate) fn widen_at<B: Surface>(&mut self, alloc: Global, mesh: &B, v: VertexId, p: Point)
-        ensures at { All (λ f. Holds self.new.grid f (times 2 (position_of p))) (faces_at (B.mesh mesh.now) v) }
+        ensures at { let t = times 2 (position_of p) in
+            All (λ f. Holds self.new.grid f t) (faces_at (B.mesh mesh.now) v) }
         ensures keeps { (q : ℕ) (t : Triple) → Holds self.old.grid q t → Holds self.new.grid q t }
         ensures since { self.new.since ≡ self.old.since }
     {
@@ -139,7 +141,8 @@ impl Index {
     /// Gives the boxes up, where the journal is shorter than when they were made.
     pub(crate) fn cut(&mut self, len: usize)
         ensures since { self.new.since ≤ len }
-        ensures grid { (b : Boxes) → self.new.grid ≡ Some b → (self.old.grid ≡ Some b) × (self.old.since ≤ self.new.since) }
+        ensures grid { (b : Boxes) → self.new.grid ≡ Some b
+            → (self.old.grid ≡ Some b) × (self.old.since ≤ self.new.since) }
     {
         if len < self.since {
             *self = Index::none();
@@ -148,7 +151,8 @@ impl Index {
 
     /// Takes out the box of a face that is not live.
     fn drop_gone<B: Surface>(&mut self, mesh: &B, f: FaceId)
-        ensures { AreBoxed self.old.grid (B.mesh mesh.now) → AreBoxed self.new.grid (B.mesh mesh.now) }
+        ensures { let m = B.mesh mesh.now in
+            AreBoxed self.old.grid m → AreBoxed self.new.grid m }
     {
         if let Some(_) = mesh.corners(f) {
             return;
@@ -158,7 +162,8 @@ impl Index {
 
     /// Takes out the box of a face that the entry dropped and that is not live.
     fn drop_dropped<B: Surface>(&mut self, mesh: &B, e: &Entry)
-        ensures { AreBoxed self.old.grid (B.mesh mesh.now) → AreBoxed self.new.grid (B.mesh mesh.now) }
+        ensures { let m = B.mesh mesh.now in
+            AreBoxed self.old.grid m → AreBoxed self.new.grid m }
     {
         if let Entry::FaceDropped(f) = e {
             self.drop_gone(mesh, *f);
@@ -167,7 +172,8 @@ impl Index {
 
     /// Takes out the boxes of faces that entries dropped and that are not live. The journal begins anew.
     pub(crate) fn settle<B: Surface>(&mut self, mesh: &B, entries: &[Entry])
-        ensures boxed { AreBoxed self.old.grid (B.mesh mesh.now) → AreBoxed self.new.grid (B.mesh mesh.now) }
+        ensures boxed { let m = B.mesh mesh.now in
+            AreBoxed self.old.grid m → AreBoxed self.new.grid m }
         ensures since { self.new.since ≡ 0 }
     {
         for e in entries {

@@ -103,7 +103,8 @@ impl Journal<HalfMesh> {
         requires shape { shape_fault (length lists.now.points) lists.now.faces ≡ None }
         requires vertex { MayBeNext (length lists.now.points) next_vertex }
         requires face { MayBeNext (length lists.now.faces) next_face }
-        ensures mesh { IfOk result (λ s. mesh_in s ≡ numbered (mesh_of lists.now.points lists.now.faces) next_vertex next_face) }
+        ensures mesh { IfOk result (λ s. mesh_in s
+            ≡ numbered (mesh_of lists.now.points lists.now.faces) next_vertex next_face) }
         ensures kept { IfOk result (λ s. kept_in s ≡ mesh_in s ∷ []) }
     {
         let mesh = HalfMesh::of_numbered(alloc, lists, next_vertex, next_face)?;

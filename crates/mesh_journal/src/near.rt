@@ -31,7 +31,8 @@ fn put_if_near<T: FaceTable>(
     into: &mut Vec<FaceId>,
 ) -> Result<(), NoMemory>
     requires { IsSound (T.mesh table.now) }
-    ensures { OnOk result (into.new.items ≡ into.old.items ++ filter (λ f. is_face_near (T.mesh table.now) at.now f) (item ∷ [])) }
+    ensures { OnOk result (into.new.items ≡ into.old.items
+        ++ filter (λ f. is_face_near (T.mesh table.now) at.now f) (item ∷ [])) }
 {
     if let Some(f) = near_face(table, at, item) {
         into.push(f)?;
@@ -47,7 +48,8 @@ fn put_near<T: FaceTable>(
     into: &mut Vec<FaceId>,
 ) -> Result<(), NoMemory>
     requires { IsSound (T.mesh table.now) }
-    ensures { OnOk result (into.new.items ≡ into.old.items ++ filter (λ f. is_face_near (T.mesh table.now) at.now f) items.now) }
+    ensures { OnOk result (into.new.items ≡ into.old.items
+        ++ filter (λ f. is_face_near (T.mesh table.now) at.now f) items.now) }
 {
     for item in items {
         put_if_near(table, at, *item, into)?;

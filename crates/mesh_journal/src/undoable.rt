@@ -78,24 +78,28 @@ pub trait Undoable: Surface {
     /// Puts a live vertex at a point.
     fn place_now(&mut self, v: VertexId, p: Point)
         requires { IsLiveVertex (state self.old).mesh v }
-        ensures state { state self.new ≡ with_mesh (state self.old) (with_point (state self.old).mesh v p) }
+        ensures state { state self.new
+            ≡ with_mesh (state self.old) (with_point (state self.old).mesh v p) }
         ensures spare { spare self.old ≤ spare self.new };
 
     /// Marks a live vertex as solid.
     fn make_solid_now(&mut self, v: VertexId)
         requires { IsLiveVertex (state self.old).mesh v }
-        ensures state { state self.new ≡ with_mesh (state self.old) (with_solid (state self.old).mesh v) }
+        ensures state { state self.new
+            ≡ with_mesh (state self.old) (with_solid (state self.old).mesh v) }
         ensures spare { spare self.old ≤ spare self.new };
 
     /// Takes the mark as solid of a live vertex away, if it has one.
     fn unmake_solid(&mut self, v: VertexId)
         requires { IsLiveVertex (state self.old).mesh v }
-        ensures state { state self.new ≡ with_mesh (state self.old) (without_solid (state self.old).mesh v) }
+        ensures state { state self.new
+            ≡ with_mesh (state self.old) (without_solid (state self.old).mesh v) }
         ensures spare { spare self.old ≤ spare self.new };
 
     /// Gives up what is buried.
     fn forget(&mut self)
-        ensures state { state self.new ≡ record { mesh = (state self.old).mesh; buried = none_buried } }
+        ensures state { state self.new
+            ≡ record { mesh = (state self.old).mesh; buried = none_buried } }
         ensures spare { spare self.old ≤ spare self.new };
 
     /// Finds memory for `n` additions: while `spare` is above 0 they don't answer that memory is wanting.
