@@ -62,7 +62,7 @@ fn put(nodes: &mut Vec<Node>, boxes: &[SmallBox], order: &[u64]) -> Result<(), N
     ensures tree { OnOk result (IsTree (reverse nodes.new.items)) }
     ensures all { let items = filter_map (placed boxes.now) order.now in
         OnOk result
-            (entries (reverse nodes.new.items) ≡ items ++ entries (reverse nodes.old.items)) }
+        (entries (reverse nodes.new.items) ≡ items ++ entries (reverse nodes.old.items)) }
 {
     let mut k = order.len();
     while k > 0 {
@@ -81,7 +81,7 @@ pub(crate) fn grow(nodes: &mut Vec<Node>, boxes: &[SmallBox], order: &[u64]) -> 
     ensures tree { OnOk result (IsTree (reverse nodes.new.items)) }
     ensures all { let items = filter_map (placed boxes.now) order.now in
         OnOk result
-            (entries (reverse nodes.new.items) ≡ items ++ entries (reverse nodes.old.items)) }
+        (entries (reverse nodes.new.items) ≡ items ++ entries (reverse nodes.old.items)) }
 {
     let from = nodes.len();
     if order.len() <= LEAF {

@@ -25,10 +25,22 @@ impl Model for EdgeFaces {
     ghost Value = { Edge };
 
     ghost view = { λ e. record {
-        a = e.a; b = e.b; c = e.c; d = e.d; left_face = e.left_face; right_face = e.right_face } };
+      a = e.a;
+      b = e.b;
+      c = e.c;
+      d = e.d;
+      left_face = e.left_face;
+      right_face = e.right_face;
+    } };
 
     ghost inverse = { λ s. record {
-        a = s.a; b = s.b; c = s.c; d = s.d; left_face = s.left_face; right_face = s.right_face } };
+      a = s.a;
+      b = s.b;
+      c = s.c;
+      d = s.d;
+      left_face = s.left_face;
+      right_face = s.right_face;
+    } };
 }
 
 /// Whether some face has both as neighbours.

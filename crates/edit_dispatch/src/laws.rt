@@ -32,5 +32,5 @@ pub fn new_points_are_midpoints()
         position_of (split_point m s) ≡ floor_mid_of (rest_positions m s.a) (rest_positions m s.b) }
     ensures collapse { (m : Mesh) (a b : ℕ) → has_solid_end m a b ≡ false →
         position_of (collapse_point m a b) ≡
-            floor_mid_of (rest_positions m a) (rest_positions m b) }
+        floor_mid_of (rest_positions m a) (rest_positions m b) }
 {}

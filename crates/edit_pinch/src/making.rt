@@ -113,7 +113,7 @@ pub(crate) fn apply_pinch<S: Surface>(
         CopiedInTurn v (with_point (S.mesh mesh.old) v at) placed }
     ensures made { let placed = zip fans.now (copy_points copies.now) in
         OnOk result (S.mesh mesh.new ≡ fold (with_copy v)
-            (with_point (S.mesh mesh.old) v at) placed) }
+        (with_point (S.mesh mesh.old) v at) placed) }
     ensures marks { BeginsWith (S.kept mesh.new) (S.kept mesh.old) }
 {
     mesh.place(v, at)?;

@@ -55,7 +55,9 @@ impl Fans {
 
     pub(crate) fn copy(&self) -> Result<Fans, NoMemory>
         ensures { IfOk result (λ copy. copy ≡ record self.now {
-            woven = record self.now.woven { room = copy.woven.room }; seats = copy.seats }) }
+          woven = record self.now.woven { room = copy.woven.room };
+          seats = copy.seats;
+        }) }
     {
         Ok(Fans {
             rows: self.rows.copy()?,
@@ -109,7 +111,7 @@ impl Fans {
         requires { IsSome (map.get self.old.woven.fans v) }
         ensures { (fan : Fan) → map.get self.old.woven.fans v ≡ Some fan →
             self.new ≡ with_fans self.old
-                (map.insert self.old.woven.fans v (record fan { vertex = vertex })) }
+            (map.insert self.old.woven.fans v (record fan { vertex = vertex })) }
     {
         if let Some(row) = self.rows.get(v) {
             self.rows.set(v, Row { vertex, ..row });

@@ -56,7 +56,7 @@ impl HalfMesh {
         requires face { MayBeNext (length lists.now.faces) next_face }
         ensures mesh { IfOk result
             (λ s. mesh_in s ≡ numbered
-                (mesh_of lists.now.points lists.now.faces) next_vertex next_face) }
+            (mesh_of lists.now.points lists.now.faces) next_vertex next_face) }
         ensures buried { IfOk result (λ s. (state_in s).buried ≡ none_buried) }
         ensures kept { IfOk result (λ s. kept_in s ≡ []) }
     {

@@ -73,10 +73,15 @@ impl FaceTable for Tables {
 impl Tables {
     pub(crate) fn new(alloc: Global) -> Tables
         ensures { result.state ≡ record {
-            mesh = record {
-                points = map.empty; faces = map.empty; solid = map.empty;
-                next_vertex = 1; next_face = 1 };
-            buried = none_buried } }
+          mesh = record {
+            points = map.empty;
+            faces = map.empty;
+            solid = map.empty;
+            next_vertex = 1;
+            next_face = 1;
+          };
+          buried = none_buried;
+        } }
     {
         Tables {
             fans: Fans::new(alloc),
@@ -91,7 +96,7 @@ impl Tables {
         requires { shape_fault (length lists.now.points) lists.now.faces ≡ None }
         ensures { IfOk result
             (λ t. t.state ≡
-                record { mesh = mesh_of lists.now.points lists.now.faces; buried = none_buried }) }
+            record { mesh = mesh_of lists.now.points lists.now.faces; buried = none_buried }) }
     {
         let mut tables = Tables::new(alloc);
         for p in lists.points.as_slice() {
@@ -337,7 +342,7 @@ impl Tables {
         ensures id { IfOk result (λ f. f ≡ self.old.state.mesh.next_face) }
         ensures ok { OnOk result
             (self.new.state ≡ with_mesh self.old.state
-                (with_face self.old.state.mesh (record { first = a; second = b; third = c }))) }
+            (with_face self.old.state.mesh (record { first = a; second = b; third = c }))) }
         ensures err { OnErr result (self.new.state ≡ self.old.state) }
         ensures memory { OnErr result (self.old.spare ≡ 0) }
         ensures spare { self.old.spare ≤ self.new.spare + 1 }

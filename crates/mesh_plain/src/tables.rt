@@ -40,7 +40,13 @@ impl Model for Tables {
 
     ghost use Rattle.std.specs.FinMap as map;
 
-    ghost view = { λ t. record { points = map.from_entries t.points.entries; faces = map.from_entries t.faces.entries; solid = map.from_entries t.solid.entries; next_vertex = t.next_vertex; next_face = t.next_face } };
+    ghost view = { λ t. record {
+      points = map.from_entries t.points.entries;
+      faces = map.from_entries t.faces.entries;
+      solid = map.from_entries t.solid.entries;
+      next_vertex = t.next_vertex;
+      next_face = t.next_face;
+    } };
 }
 
 impl FaceTable for Tables {

@@ -169,7 +169,7 @@ fn add_line(lists: &mut MeshLists, decimals: u8, line: Line<'_>) -> Result<(), R
     requires few { length lists.old.points < 2 ^ 32 }
     ensures value { Leaves (lists_view lists.new) result
         (at_line line.entry.number
-            (spec.line_adds decimals (lists_view lists.old) line.entry.bytes.now)) }
+        (spec.line_adds decimals (lists_view lists.old) line.entry.bytes.now)) }
     ensures more { length lists.new.points ≤ length lists.old.points + 1 }
 {
     if let [.., b'\\'] = line.bytes {

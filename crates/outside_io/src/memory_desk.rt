@@ -92,7 +92,7 @@ impl Desk for MemoryDesk {
         ensures whole { (seen : ℕ) → IsErrOf result (FetchFault.TooLong seen) ↔
             (¬ RefusesFetch self.old
             × IsSomeAnd (get (files_in self.old) name.now)
-                (λ bytes. (seen ≡ length bytes) × (limit < seen))) }
+            (λ bytes. (seen ≡ length bytes) × (limit < seen))) }
         ensures fetches { fetches_of self.new ≡ next_count (fetches_of self.old) }
         ensures stores { stores_of self.new ≡ stores_of self.old }
         ensures failing_fetches { failing_fetches_of self.new ≡ failing_fetches_of self.old }

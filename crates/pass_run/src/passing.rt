@@ -253,7 +253,7 @@ pub fn pass<S: Surface, K: Sink>(
     // Ok: all lines are written. A fault: the first of them, and perhaps a part of the next.
     ensures said { let lines = lines_due kind depth grouped (S.mesh mesh.old) in
         Said (S.mesh mesh.old) (S.mesh mesh.new) (K.written out.old)
-            (K.written out.new) lines result }
+        (K.written out.new) lines result }
     ensures mesh { OnOk result (S.mesh mesh.new ≡ mesh_due kind depth grouped (S.mesh mesh.old)) }
     ensures done { let lines = lines_due kind depth grouped (S.mesh mesh.old) in
         IfOk result (λ count. count.done ≡ done_in lines) }

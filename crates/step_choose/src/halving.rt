@@ -58,7 +58,7 @@ pub(crate) fn by_halving<S: Surface>(
     requires limits { AreWithinLimits set }
     ensures { IfOk result
         (λ found. option_map way_by found ≡ halved_way meets_exactly
-            (S.mesh mesh.now) asked.now set.depth set.halvings) }
+        (S.mesh mesh.now) asked.now set.depth set.halvings) }
 {
     for k in 0..set.halvings {
         let times = k + 1;

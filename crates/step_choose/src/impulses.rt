@@ -31,7 +31,7 @@ pub(crate) fn by_impulses<S: Surface>(
     requires limits { AreWithinLimits set }
     ensures { IfOk result
         (λ found. option_map way_by found ≡ impulse_way meets_exactly
-            (S.mesh mesh.now) asked.now set.depth set.passes) }
+        (S.mesh mesh.now) asked.now set.depth set.passes) }
 {
     let mut taken = copy_of(alloc, asked.as_slice())?;
     let mut failed = copy_of(alloc, hits.as_slice())?;

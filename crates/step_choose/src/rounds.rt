@@ -27,7 +27,7 @@ pub(crate) fn by_zones<S: Surface>(
     requires limits { AreWithinLimits set }
     ensures { IfOk result
         (λ found. option_map way_by found ≡ zones_way meets_exactly
-            (S.mesh mesh.now) asked.now set.depth set.zones) }
+        (S.mesh mesh.now) asked.now set.depth set.zones) }
 {
     if !set.zones {
         return Ok(None);

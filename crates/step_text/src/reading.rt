@@ -210,7 +210,8 @@ fn add_words(
 ) -> Result<(), ReadFault>
     ensures value { Leaves (spec.so_far directives.new groups.new.items) result
         (at_line line
-            (spec.words_add line (spec.so_far directives.old groups.old.items) (words_left words.entry))) }
+        (spec.words_add line (spec.so_far directives.old groups.old.items)
+        (words_left words.entry))) }
     ensures more { length directives.new ≤ length directives.old + 1 }
 {
     let mut words = words;

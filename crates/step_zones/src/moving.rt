@@ -68,7 +68,7 @@ fn members(
     requires each { length labels.now ≡ length asked.now }
     ensures { IfOk result
         (λ ids. ids ≡ filter
-            (λ v. label_by asked.now labels.now v == l) (map (λ s. s.v) asked.now)) }
+        (λ v. label_by asked.now labels.now v == l) (map (λ s. s.v) asked.now)) }
 {
     let mut ids = Ids::new(alloc);
     for (i, s) in asked.iter().enumerate() {

@@ -84,8 +84,8 @@ pub(crate) fn totals_of<S: Surface>(
     requires few { length asked.now ≤ VERTICES_MAX }
     ensures { IfOk result
         (λ totals. totals.items ≡ map
-            (λ s. total_of (S.mesh mesh.now)
-            (label_by asked.now labels.now) s.v asked.now) asked.now) }
+        (λ s. total_of (S.mesh mesh.now)
+        (label_by asked.now labels.now) s.v asked.now) asked.now) }
 {
     let mut totals = none_yet(alloc, asked)?;
     for (i, s) in asked.iter().enumerate() {
