@@ -1,7 +1,6 @@
-ghost use Rattle.std.specs.Prelude.{◌≡◌, ◌<◌, ℕ, IsOk, OnOk, OnErr, IfOk, [], Contains};
-ghost use Rattle.std.specs.List.Sorted.{IsStrictlyIncreasing};
+ghost use Rattle.std.specs.Prelude.{◌≡◌, ◌<◌, IsOk, OnOk, OnErr, IfOk, []};
 ghost use Rattle.std.specs.FinMap as map;
-ghost use Rattle.cell_grid.specs.Overlapping.{overlapping, IsItemAt};
+ghost use Rattle.cell_grid.specs.Overlapping.{overlapping};
 
 use crate::Extent;
 use crate::cells::{Cell, Entry};
@@ -108,15 +107,5 @@ impl Grid {
         look_rising(self.cell, &self.items, &self.large, &self.cells, &at, into)?;
         keep_met(&self.items, &at, into);
         Ok(())
-    }
-
-    /// Sets the list to items among which are all whose extents have a common point with this one, rising. It costs less
-    /// than `overlapping`, for callers that test what they find. Where there is no memory, the list is empty.
-    pub fn near(&self, at: Extent, into: &mut Vec<u64>) -> Result<(), NoMemory>
-        ensures rising { OnOk result (IsStrictlyIncreasing into.new.items) }
-        ensures all { OnOk result ((i : ℕ) → IsItemAt self.now at i → Contains into.new.items i) }
-        ensures err { OnErr result (into.new.items ≡ []) }
-    {
-        look_rising(self.cell, &self.items, &self.large, &self.cells, &at, into)
     }
 }

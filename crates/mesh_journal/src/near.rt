@@ -71,7 +71,7 @@ fn put_found<T: FaceTable>(
     ensures { OnOk result (into.new.items ≡ faces_near (T.mesh table.now) at.now) }
 {
     let mut found = Vec::new(alloc);
-    grid.near(*at, &mut found)?;
+    grid.overlapping(*at, &mut found)?;
     put_near(table, at, &found, into)
 }
 
