@@ -1,5 +1,5 @@
 -- The edges that are looked at along faces.
-use Rattle.std.proofs.Common.{◌≡◌, ℕ, ◌<◌, Bool, true, false, cond, not, ◌&&◌, ◌||◌, ◌==◌, nat_lt, List, [], ◌∷◌, ◌++◌, ◌⊎◌, ⊎_elim, inl, inr, refl, sym, ap, subst, ◌∙◌, arith}
+use Rattle.std.proofs.Common.{◌≡◌, ℕ, ◌<◌, Bool, true, false, cond, not, ◌&&◌, ◌||◌, ◌==◌, nat_lt, List, [], ◌∷◌, ◌++◌, ◌⊎◌, ⊎_elim, inl, inr, refl, sym, ap, subst, ◌∙◌, fold, arith}
 use Rattle.std.proofs.lemmas.Bool.{or_cases, eqb-true}
 use Rattle.std.proofs.lemmas.Bool.Decides.{nat_tests}
 use Rattle.std.proofs.lemmas.List.Elements.{recursion_from_All, All-from_recursion}
@@ -34,6 +34,26 @@ at_turned faces e h off =
     ap (λ t. cond t (e ∷ []) (cond (nat_lt e.b e.a && not (is_run_by_some e.b e.a faces)) (turned e ∷ []) [])) (not_below e.b e.a h)
     ∙ ap (λ t. cond (t && not (is_run_by_some e.b e.a faces)) (turned e ∷ []) []) (below e.b e.a h)
     ∙ ap (λ t. cond (not t) (turned e ∷ []) []) off
+
+-- what a search makes of a side that runs up, and of one that does not
+pub fold_up : {A : Type 0} (look : A → MovingEdge → A) (found : A) (faces : List BoxedFace) (e : MovingEdge) → nat_lt e.a e.b ≡ true → look found e ≡ fold look found (edges_at faces e)
+fold_up look found faces e h = sym (ap (fold look found) (at_up faces e (from_below e.a e.b h)))
+
+pub fold_down : {A : Type 0} (look : A → MovingEdge → A) (found : A) (faces : List BoxedFace) (e : MovingEdge) → nat_lt e.b e.a ≡ true
+    → cond (is_run_by_some e.b e.a faces) found (look found (turned e)) ≡ fold look found (edges_at faces e)
+fold_down look found faces e h = by_test (is_run_by_some e.b e.a faces) refl
+  where
+    below_false : nat_lt e.a e.b ≡ false
+    below_false = not_below e.b e.a (from_below e.b e.a h)
+
+    opened : edges_at faces e ≡ cond (not (is_run_by_some e.b e.a faces)) (turned e ∷ []) []
+    opened =
+        ap (λ t. cond t (e ∷ []) (cond (nat_lt e.b e.a && not (is_run_by_some e.b e.a faces)) (turned e ∷ []) [])) below_false
+        ∙ ap (λ t. cond (t && not (is_run_by_some e.b e.a faces)) (turned e ∷ []) []) h
+
+    by_test : (run : Bool) → is_run_by_some e.b e.a faces ≡ run → cond run found (look found (turned e)) ≡ fold look found (edges_at faces e)
+    by_test true is = sym (ap (fold look found) (opened ∙ ap (λ t. cond (not t) (turned e ∷ []) []) is))
+    by_test false is = sym (ap (fold look found) (opened ∙ ap (λ t. cond (not t) (turned e ∷ []) []) is))
 
 module _ (P : MovingEdge → Type 0) (faces : List BoxedFace) where
   only : (es : List MovingEdge) (e : MovingEdge) → es ≡ e ∷ [] → All P es → P e

@@ -19,7 +19,7 @@ use Rattle.pair_paths.specs.declared.moving.MovingFace.{MovingFace}
 use Rattle.pair_paths.specs.Moving.{moving_face}
 use Rattle.pair_paths.specs.Bounds.{HoldsPath, HoldsFace}
 use Rattle.edit_check.specs.Touched.{is_moved}
-use Rattle.edit_check.specs.Reach.{HasFace, HasFaceIn, Reaches, ReachesAt, ReachesMoves, ReachesTouched, Widens}
+use Rattle.edit_check.specs.Reach.{HasFace, HasFaceIn, Reaches, ReachesAt, ReachesMoves, ReachesTouched, Widens, old_ones}
 
 -- ---- wider boxes
 pub as_wide : (o : Option Extent) → Widens o o
@@ -52,23 +52,25 @@ reaches_more m moves o p f wide h c there =
 pub all_reached_more : (m : Mesh) (moves : List Move) (o p : Option Extent) (fs : List ℕ) → Widens o p → All (Reaches m moves o) fs → All (Reaches m moves p) fs
 all_reached_more m moves o p fs wide h = All-weaker (Reaches m moves o) (Reaches m moves p) (λ f r. reaches_more m moves o p f wide r) fs h
 
-pub at_reached_more : (m : Mesh) (moves : List Move) (o p : Option Extent) (v : ℕ) → Widens o p → ReachesAt m moves o v → ReachesAt m moves p v
-at_reached_more m moves o p v wide h = all_reached_more m moves o p (faces_at m v) wide h
+pub at_reached_more : (m : Mesh) (moves : List Move) (fresh_from : ℕ) (o p : Option Extent) (v : ℕ) → Widens o p → ReachesAt m moves fresh_from o v → ReachesAt m moves fresh_from p v
+at_reached_more m moves fresh_from o p v wide h = all_reached_more m moves o p (old_ones fresh_from (faces_at m v)) wide h
 
-pub all_at_more : (m : Mesh) (moves : List Move) (o p : Option Extent) (vs : List ℕ) → Widens o p → All (ReachesAt m moves o) vs → All (ReachesAt m moves p) vs
-all_at_more m moves o p vs wide h = All-weaker (ReachesAt m moves o) (ReachesAt m moves p) (λ v r. at_reached_more m moves o p v wide r) vs h
+pub all_at_more : (m : Mesh) (moves : List Move) (fresh_from : ℕ) (o p : Option Extent) (vs : List ℕ) → Widens o p → All (ReachesAt m moves fresh_from o) vs → All (ReachesAt m moves fresh_from p) vs
+all_at_more m moves fresh_from o p vs wide h = All-weaker (ReachesAt m moves fresh_from o) (ReachesAt m moves fresh_from p) (λ v r. at_reached_more m moves fresh_from o p v wide r) vs h
 
-pub all_moves_more : (m : Mesh) (moves : List Move) (o p : Option Extent) (ms : List Move) → Widens o p → All (λ move. ReachesAt m moves o move.v) ms → All (λ move. ReachesAt m moves p move.v) ms
-all_moves_more m moves o p ms wide h = All-weaker (λ move. ReachesAt m moves o move.v) (λ move. ReachesAt m moves p move.v) (λ move r. at_reached_more m moves o p move.v wide r) ms h
+pub all_moves_more : (m : Mesh) (moves : List Move) (fresh_from : ℕ) (o p : Option Extent) (ms : List Move) → Widens o p → All (λ move. ReachesAt m moves fresh_from o move.v) ms → All (λ move. ReachesAt m moves fresh_from p move.v) ms
+all_moves_more m moves fresh_from o p ms wide h = All-weaker (λ move. ReachesAt m moves fresh_from o move.v) (λ move. ReachesAt m moves fresh_from p move.v) (λ move r. at_reached_more m moves fresh_from o p move.v wide r) ms h
 
 -- ---- each touched face is reached
--- a face at a vertex that is reached
-at_vertex : (m : Mesh) (moves : List Move) (o : Option Extent) (v f : ℕ) (c : Corners) → ReachesAt m moves o v → HasCorners m f c → has_corner c v ≡ true → HasFaceIn m moves (f, c) o
-at_vertex m moves o v f c h there corner =
-    at_key (λ e. has_corner e.1 v ≡ true → Reaches m moves o e.0) m.faces f c
-    (all_filter (λ e. Reaches m moves o e.0) (λ e. has_corner e.1 v) (finite.entries m.faces)
-    (all_map (Reaches m moves o) (λ e. e.0) (filter (λ e. has_corner e.1 v) (finite.entries m.faces)) (recursion_from_All (Reaches m moves o) (faces_at m v) h)))
-    there corner c there
+-- an old face at a vertex that is reached
+at_vertex : (m : Mesh) (moves : List Move) (fresh_from : ℕ) (o : Option Extent) (v f : ℕ) (c : Corners) → ReachesAt m moves fresh_from o v → HasCorners m f c → has_corner c v ≡ true → nat_lt f fresh_from ≡ true → HasFaceIn m moves (f, c) o
+at_vertex m moves fresh_from o v f c h there corner old =
+    let P : ℕ → Type 0 = λ k. nat_lt k fresh_from ≡ true → Reaches m moves o k in
+    at_key (λ e. has_corner e.1 v ≡ true → P e.0) m.faces f c
+    (all_filter (λ e. P e.0) (λ e. has_corner e.1 v) (finite.entries m.faces)
+    (all_map P (λ e. e.0) (filter (λ e. has_corner e.1 v) (finite.entries m.faces))
+    (all_filter (Reaches m moves o) (λ k. nat_lt k fresh_from) (faces_at m v) (recursion_from_All (Reaches m moves o) (old_ones fresh_from (faces_at m v)) h))))
+    there corner old c there
 
 named : (P : Move → Type 0) (ms : List Move) (v : ℕ) → AllByRecursion P ms → is_some (move_of ms v) ≡ true → (move : Move) × ((move.v ≡ v) × P move)
 named P [] v h e = absurd (false≢true e)
@@ -94,23 +96,34 @@ corner_third c = grind (arith, nat_tests)
 from_fresh : (n f : ℕ) → 1 ≤ f → nat_le n f ≡ true → nat_lt (n - 1) f ≡ true
 from_fresh n f one h = grind (arith, nat_tests)
 
+below_fresh : (n f : ℕ) → nat_le n f ≡ false → nat_lt f n ≡ true
+below_fresh n f h = grind (arith, nat_tests)
+
 module _ (m : Mesh) (moves : List Move) (together : List ℕ) (fresh_from : ℕ) (o : Option Extent) (sound : IsSound m)
-    (new : All (Reaches m moves o) (above (fresh_from - 1) (finite.keys m.faces))) (moving : ReachesMoves m moves o) (joined : All (ReachesAt m moves o) together) where
-  at_moved : (v f : ℕ) (c : Corners) → HasCorners m f c → has_corner c v ≡ true → is_moved moves v ≡ true → HasFaceIn m moves (f, c) o
-  at_moved v f c there corner e =
-      let move = named (λ move. ReachesAt m moves o move.v) moves v (recursion_from_All (λ move. ReachesAt m moves o move.v) moves moving) e in
-      at_vertex m moves o v f c (subst (ReachesAt m moves o) move.1.0 move.1.1) there corner
-
-  at_joined : (f : ℕ) (c : Corners) → HasCorners m f c → list_any (λ v. has_corner c v) together ≡ true → HasFaceIn m moves (f, c) o
-  at_joined f c there e =
-      let v = one_of (ReachesAt m moves o) (λ v. has_corner c v) together (recursion_from_All (ReachesAt m moves o) together joined) e in
-      at_vertex m moves o v.0 f c v.1.1 there v.1.0
-
+    (new : All (Reaches m moves o) (above (fresh_from - 1) (finite.keys m.faces))) (moving : ReachesMoves m moves fresh_from o) (joined : All (ReachesAt m moves fresh_from o) together) where
   at_fresh : (f : ℕ) (c : Corners) → HasCorners m f c → nat_le fresh_from f ≡ true → HasFaceIn m moves (f, c) o
   at_fresh f c there e =
       at_live (λ k. nat_lt (fresh_from - 1) k ≡ true → Reaches m moves o k) m.faces f
       (all_filter (Reaches m moves o) (λ k. nat_lt (fresh_from - 1) k) (finite.keys m.faces) (recursion_from_All (Reaches m moves o) (above (fresh_from - 1) (finite.keys m.faces)) new))
       (ap is_some there) (from_fresh fresh_from f (sound.is_mesh.face_ids f (ap is_some there)).0 e) c there
+
+  -- a face at a vertex that is reached, new or old
+  at_either : (v f : ℕ) (c : Corners) → ReachesAt m moves fresh_from o v → HasCorners m f c → has_corner c v ≡ true → HasFaceIn m moves (f, c) o
+  at_either v f c h there corner = by_test (nat_le fresh_from f) refl
+    where
+      by_test : (t : Bool) → nat_le fresh_from f ≡ t → HasFaceIn m moves (f, c) o
+      by_test true e = at_fresh f c there e
+      by_test false e = at_vertex m moves fresh_from o v f c h there corner (below_fresh fresh_from f e)
+
+  at_moved : (v f : ℕ) (c : Corners) → HasCorners m f c → has_corner c v ≡ true → is_moved moves v ≡ true → HasFaceIn m moves (f, c) o
+  at_moved v f c there corner e =
+      let move = named (λ move. ReachesAt m moves fresh_from o move.v) moves v (recursion_from_All (λ move. ReachesAt m moves fresh_from o move.v) moves moving) e in
+      at_either v f c (subst (ReachesAt m moves fresh_from o) move.1.0 move.1.1) there corner
+
+  at_joined : (f : ℕ) (c : Corners) → HasCorners m f c → list_any (λ v. has_corner c v) together ≡ true → HasFaceIn m moves (f, c) o
+  at_joined f c there e =
+      let v = one_of (ReachesAt m moves fresh_from o) (λ v. has_corner c v) together (recursion_from_All (ReachesAt m moves fresh_from o) together joined) e in
+      at_either v.0 f c v.1.1 there v.1.0
 
   pub reached_touched : ReachesTouched m moves together fresh_from o
   reached_touched f c there h = ⊎_elim

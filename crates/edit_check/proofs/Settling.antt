@@ -1,5 +1,5 @@
 -- What is found once edges are looked at, in any order.
-use Rattle.std.proofs.Common.{◌≡◌, ℕ, Bool, true, false, cond, ◌&&◌, ◌||◌, ◌==◌, nat_lt, nat_le, List, [], ◌∷◌, Option, Some, None, ◌⊎◌, ⊎_elim, inl, inr, refl, ap, ◌∙◌, arith}
+use Rattle.std.proofs.Common.{◌≡◌, ℕ, Bool, true, false, cond, ◌&&◌, ◌||◌, ◌==◌, nat_lt, nat_le, List, [], ◌∷◌, Option, Some, None, ◌⊎◌, ⊎_elim, inl, inr, refl, sym, ap, ◌∙◌, arith}
 use Rattle.std.proofs.lemmas.Bool.{false≢true}
 use Rattle.std.proofs.lemmas.Bool.Decides.{nat_tests}
 use Rattle.std.specs.List.{fold, AllByRecursion}
@@ -68,3 +68,18 @@ module _ (first : MovingEdge → Option PairName) (named : (e : MovingEdge) (n :
       (λ now. ⊎_elim (λ before. inl before) (λ is. inr (e, (all.0, is))) (is_of_one found e n now))
       (λ later. inr later)
       (found_of_one P es (with_edge first found e) n all.1 h)
+
+-- ---- an edge that is passed over
+pub passed_over : (run : Bool) (found with_it : Option PairName) → (run ≡ false → with_it ≡ found) → found ≡ cond run found with_it
+passed_over true found with_it h = refl
+passed_over false found with_it h = sym (h refl)
+
+pub settled_already : (first : MovingEdge → Option PairName) (found : Option PairName) (e : MovingEdge) → is_settled found e.a e.b ≡ true → with_edge first found e ≡ found
+settled_already first found e h = ap (λ t. cond t found (option_or (first e) found)) h
+
+pub none_there : (first : MovingEdge → Option PairName) (found : Option PairName) (e : MovingEdge) → first e ≡ None → with_edge first found e ≡ found
+none_there first found e h = ap (λ o. cond (is_settled found e.a e.b) found (option_or o found)) h ∙ alike (is_settled found e.a e.b)
+  where
+    alike : (t : Bool) → cond t found found ≡ found
+    alike true = refl
+    alike false = refl

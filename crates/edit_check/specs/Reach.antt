@@ -1,5 +1,5 @@
 -- A box that has the touched faces of a check, and the faces that are near it.
-use Rattle.std.specs.Prelude.{◌≡◌, ℕ, true, false, Bool, List, []}
+use Rattle.std.specs.Prelude.{◌≡◌, ℕ, true, false, Bool, List, [], nat_lt}
 use Rattle.std.specs.List.{All, filter}
 use Rattle.std.specs.FinMap as finite
 use Rattle.std.proofs.Common.{Option, Some, None}
@@ -35,13 +35,17 @@ HasFaceIn m moves f reach = (box : Extent) × ((reach ≡ Some box) × HasFace m
 abbrev pub Reaches : Mesh → List Move → Option Extent → ℕ → Type 0
 Reaches m moves reach f = (c : Corners) → HasCorners m f c → HasFaceIn m moves (f, c) reach
 
--- the same of the faces at a vertex
-abbrev pub ReachesAt : Mesh → List Move → Option Extent → ℕ → Type 0
-ReachesAt m moves reach v = All (Reaches m moves reach) (faces_at m v)
+-- the ids below the first new one
+abbrev pub old_ones : ℕ → List ℕ → List ℕ
+old_ones fresh_from ids = filter (λ f. nat_lt f fresh_from) ids
 
--- the same of the faces at each vertex that moves
-abbrev pub ReachesMoves : Mesh → List Move → Option Extent → Type 0
-ReachesMoves m moves reach = All (λ move. ReachesAt m moves reach move.v) moves
+-- the same of the old faces at a vertex
+abbrev pub ReachesAt : Mesh → List Move → ℕ → Option Extent → ℕ → Type 0
+ReachesAt m moves fresh_from reach v = All (Reaches m moves reach) (old_ones fresh_from (faces_at m v))
+
+-- the same of the old faces at each vertex that moves
+abbrev pub ReachesMoves : Mesh → List Move → ℕ → Option Extent → Type 0
+ReachesMoves m moves fresh_from reach = All (λ move. ReachesAt m moves fresh_from reach move.v) moves
 
 -- the same of each touched face
 abbrev pub ReachesTouched : Mesh → List Move → List ℕ → ℕ → Option Extent → Type 0

@@ -5,7 +5,7 @@ ghost use Rattle.grid_base.specs.Triples.{Triple};
 ghost use Rattle.grid_base.specs.Extents.{IsIn};
 ghost use Rattle.mesh_base.specs.Sides.{above, faces_at};
 ghost use Rattle.edit_check.specs.Reach.{HasVertex, HasFace, Reaches, ReachesAt, ReachesMoves};
-ghost use Rattle.edit_check.specs.Reach.{ReachesTouched, Widens};
+ghost use Rattle.edit_check.specs.Reach.{ReachesTouched, Widens, old_ones};
 
 use crate::moves::{Moved, Standing, is_moved};
 use grid_base::{Extent, NoMemory};
@@ -73,52 +73,64 @@ fn reach_faces<S: Surface>(
     wide
 }
 
-/// The box, made to have the faces at a vertex.
+/// Leaves the ids below the first new one.
+fn keep_old(faces: &mut Vec<FaceId>, fresh_from: u32)
+    ensures { faces.new.items ≡ old_ones fresh_from faces.old.items }
+{
+    faces.retain(|f| f.0 < fresh_from);
+}
+
+/// The box, made to have the old faces at a vertex.
 fn reach_at<S: Surface>(
     paths: &Moved<S>,
+    fresh_from: u32,
     v: VertexId,
     at: &mut Vec<FaceId>,
     reach: Option<Extent>,
 ) -> Result<Option<Extent>, NoMemory>
     ensures reaches { let m = S.mesh paths.now.mesh.now in
-        IfOk result (λ wide. ReachesAt m paths.now.moves.now wide v) }
+        IfOk result (λ wide. ReachesAt m paths.now.moves.now fresh_from wide v) }
     ensures keeps { IfOk result (λ wide. Widens reach wide) }
 {
     paths.mesh.faces_at(v, at)?;
+    keep_old(at, fresh_from);
     Ok(reach_faces(paths, at.as_slice(), reach))
 }
 
-/// The box, made to have the faces at each vertex that moves.
+/// The box, made to have the old faces at each vertex that moves.
 fn reach_moves<S: Surface>(
     paths: &Moved<S>,
+    fresh_from: u32,
     at: &mut Vec<FaceId>,
     reach: Option<Extent>,
 ) -> Result<Option<Extent>, NoMemory>
     ensures reaches { let m = S.mesh paths.now.mesh.now in
-        IfOk result (λ wide. ReachesMoves m paths.now.moves.now wide) }
+        IfOk result (λ wide. ReachesMoves m paths.now.moves.now fresh_from wide) }
     ensures keeps { IfOk result (λ wide. Widens reach wide) }
 {
     let mut wide = reach;
     for m in paths.moves {
-        wide = reach_at(paths, m.v, at, wide)?;
+        wide = reach_at(paths, fresh_from, m.v, at, wide)?;
     }
     Ok(wide)
 }
 
-/// The box, made to have the faces at each of the vertices.
+/// The box, made to have the old faces at each of the vertices.
 fn reach_vertices<S: Surface>(
     paths: &Moved<S>,
+    fresh_from: u32,
     vertices: &[VertexId],
     at: &mut Vec<FaceId>,
     reach: Option<Extent>,
 ) -> Result<Option<Extent>, NoMemory>
     ensures reaches { let m = S.mesh paths.now.mesh.now in
-        IfOk result (λ wide. All (ReachesAt m paths.now.moves.now wide) vertices.now) }
+        let moves = paths.now.moves.now in
+        IfOk result (λ wide. All (ReachesAt m moves fresh_from wide) vertices.now) }
     ensures keeps { IfOk result (λ wide. Widens reach wide) }
 {
     let mut wide = reach;
     for v in vertices {
-        wide = reach_at(paths, *v, at, wide)?;
+        wide = reach_at(paths, fresh_from, *v, at, wide)?;
     }
     Ok(wide)
 }
@@ -131,7 +143,8 @@ fn fresh_faces<S: Surface>(alloc: Global, mesh: &S, fresh_from: u32) -> Result<F
     live_faces_above(alloc, mesh, fresh_from.saturating_sub(1))
 }
 
-/// A box that has each touched face; None, where there is none.
+/// A box that has each touched face; None, where there is none. New faces are taken by their ids, and so old ones alone at
+/// the vertices.
 pub(crate) fn reach_of<S: Surface>(
     alloc: Global,
     paths: &Moved<S>,
@@ -144,7 +157,7 @@ pub(crate) fn reach_of<S: Surface>(
     let fresh = fresh_faces(alloc, paths.mesh, fresh_from)?;
     let mut at = Vec::new(alloc);
     let new = reach_faces(paths, fresh.as_slice(), None);
-    let moving = reach_moves(paths, &mut at, new)?;
-    let all = reach_vertices(paths, together, &mut at, moving)?;
+    let moving = reach_moves(paths, fresh_from, &mut at, new)?;
+    let all = reach_vertices(paths, fresh_from, together, &mut at, moving)?;
     Ok(all)
 }

@@ -1,9 +1,9 @@
 //! The search for the first pair that is not as required, along the sides of the faces of a neighbourhood.
-ghost use Rattle.std.specs.Prelude.{◌≡◌, None, nat_lt};
+ghost use Rattle.std.specs.Prelude.{◌≡◌, None, false, nat_lt};
 ghost use Rattle.std.specs.List.{All};
-ghost use Rattle.edit_check.specs.Searching.{is_settled, with_edge, with_faces};
+ghost use Rattle.edit_check.specs.Searching.{is_settled, with_faces};
 ghost use Rattle.edit_check.specs.Looking.{first_there, HasNoneThere, edges_along, edges_round};
-ghost use Rattle.edit_check.specs.Looking.{once_looked_at};
+ghost use Rattle.edit_check.specs.Looking.{once_looked_at, is_run_if_turned, with_edge_there};
 
 use crate::boxed::BoxedEdge;
 use crate::boxing::boxed_edge;
@@ -37,17 +37,25 @@ fn first_near(near: &Neighbourhood, e: &BoxedEdge) -> Option<PairName>
     first_failing_among(t.touch, t.together, t.depth, e, tested)
 }
 
-/// What is found once an edge more is looked at. One whose box has no common point with that of the touched faces is no
-/// side of one, and does as required with each of them.
-fn with_edge(near: &Neighbourhood, edge: &MovingEdge, found: Option<PairName>) -> Option<PairName>
-    requires { HasNoneThere near.now edge.now }
-    ensures { result ≡ with_edge (first_there near.now) found edge.now }
+/// What is found once an edge more is looked at; one that was turned, where no face runs its way. One whose box has no
+/// common point with that of the touched faces is no side of one, and does as required with each of them.
+fn with_edge(
+    near: &Neighbourhood,
+    edge: &MovingEdge,
+    is_turned: bool,
+    found: Option<PairName>,
+) -> Option<PairName>
+    requires { is_run_if_turned near.now is_turned edge.now ≡ false → HasNoneThere near.now edge.now }
+    ensures { result ≡ with_edge_there near.now is_turned found edge.now }
 {
     if is_settled(&found, edge.a, edge.b) {
         return found;
     }
     let e = boxed_edge(*edge);
     if !near.reach.overlaps(&e.bounds) {
+        return found;
+    }
+    if is_turned && is_run_by_some(edge.a, edge.b, near.faces) {
         return found;
     }
     match first_near(near, &e) {
@@ -69,10 +77,10 @@ fn with_side(near: &Neighbourhood, side: &MovingEdge, found: Option<PairName>) -
     ensures { result ≡ once_looked_at near.now found (edges_along near.now side.now) }
 {
     if is_below(side.a, side.b) {
-        return with_edge(near, side, found);
+        return with_edge(near, side, false, found);
     }
-    if is_below(side.b, side.a) && !is_run_by_some(side.b, side.a, near.faces) {
-        return with_edge(near, &turned(side), found);
+    if is_below(side.b, side.a) {
+        return with_edge(near, &turned(side), true, found);
     }
     found
 }

@@ -18,5 +18,5 @@ returns g c =
     let second = all_reached_more m moves moving all c.as_slice.result.now c.in_ok-all.ensures.keeps first in
     reached_touched m moves c.args.together.now c.args.fresh_from all (g.met.S.Surface.sound c.args.paths.now.mesh.now)
     (subst (All (Reaches m moves all)) fresh second)
-    (all_moves_more m moves moving all moves c.in_ok-all.ensures.keeps c.in_ok-moving.ensures.reaches)
+    (all_moves_more m moves c.args.fresh_from moving all moves c.in_ok-all.ensures.keeps c.in_ok-moving.ensures.reaches)
     c.in_ok-all.ensures.reaches

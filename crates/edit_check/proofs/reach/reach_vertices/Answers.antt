@@ -17,14 +17,14 @@ loop-v-preserved g c =
     let i = c.loop-v.v-index in
     let new = c.in_ok-wide.wide in
     record {
-      reached = All-more (ReachesAt m moves new) vertices i c.v-item.result c.loop-v-test.true (all_at_more m moves c.loop-v.wide new (take i vertices) c.in_ok-wide.ensures.keeps c.loop-v.invariant.reached) (subst (ReachesAt m moves new) c.v-item.is c.in_ok-wide.ensures.reaches);
+      reached = All-more (ReachesAt m moves c.args.fresh_from new) vertices i c.v-item.result c.loop-v-test.true (all_at_more m moves c.args.fresh_from c.loop-v.wide new (take i vertices) c.in_ok-wide.ensures.keeps c.loop-v.invariant.reached) (subst (ReachesAt m moves c.args.fresh_from new) c.v-item.is c.in_ok-wide.ensures.reaches);
       kept = wider_still c.args.reach c.loop-v.wide new c.loop-v.invariant.kept c.in_ok-wide.ensures.keeps;
     }
 
 pub returns-clause-reaches : goal.returns-clause-reaches
 returns-clause-reaches g c =
     let m = g.S.Surface.mesh c.args.paths.now.mesh.now in
-    subst (All (ReachesAt m c.args.paths.now.moves.now c.loop-v.wide)) (take_all c.loop-v.v-index c.args.vertices.now c.loop-v-test.false) c.loop-v.invariant.reached
+    subst (All (ReachesAt m c.args.paths.now.moves.now c.args.fresh_from c.loop-v.wide)) (take_all c.loop-v.v-index c.args.vertices.now c.loop-v-test.false) c.loop-v.invariant.reached
 
 pub returns-clause-keeps : goal.returns-clause-keeps
 returns-clause-keeps g c = c.loop-v.invariant.kept
