@@ -45,7 +45,8 @@ fn with_edge(
     is_turned: bool,
     found: Option<PairName>,
 ) -> Option<PairName>
-    requires { is_run_if_turned near.now is_turned edge.now ≡ false → HasNoneThere near.now edge.now }
+    requires { is_run_if_turned near.now is_turned edge.now ≡ false →
+        HasNoneThere near.now edge.now }
     ensures { result ≡ with_edge_there near.now is_turned found edge.now }
 {
     if is_settled(&found, edge.a, edge.b) {
