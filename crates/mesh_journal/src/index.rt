@@ -29,6 +29,8 @@ pub(crate) struct Index {
     pub widened: u32,
     /// How many widenings left a long box since the grid was made.
     worn: u32,
+    /// How many faces the mesh had when the grid was made.
+    faces: u32,
 }
 
 impl Index {
@@ -43,6 +45,7 @@ impl Index {
             long: 0,
             widened: 0,
             worn: 0,
+            faces: 0,
         }
     }
 
@@ -58,12 +61,17 @@ impl Index {
             long: cell.saturating_mul(2),
             widened: 0,
             worn: 0,
+            faces: mesh.faces(),
         }
     }
 
-    /// Whether it is to be made anew: it has no boxes, or long boxes were widened as often as an eighth of the faces.
+    /// Whether it is to be made anew: it has no boxes, long boxes were widened as often as an eighth of the faces, or the
+    /// faces have become twice as many or half as many, so that its cells are too large or too small for them.
     pub(crate) fn is_worn(&self, faces: u32) -> bool {
-        self.grid.is_none() || self.worn > faces / 8
+        self.grid.is_none()
+            || self.worn > faces / 8
+            || faces / 2 > self.faces
+            || self.faces / 2 > faces
     }
 
     /// Counts a widening that left this box.
