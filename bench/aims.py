@@ -187,6 +187,23 @@ def passes(programs):
                 row(f"MiB at most, of which {idle.memory:.0f} without a split", mine.memory, theirs and theirs.memory, f"3 times: {3 * idle.memory:.0f}")
 
 
+def refined(programs):
+    """A coarse mesh refined by passes of splits, and a fine one made coarse by passes of collapses."""
+    coarse = torus(24, 12, radius=4_000_000, tube=1_500_000)
+    longest = math.isqrt(max(squared_lengths(*coarse)))
+    splits = [f"split {int(longest / 1.5 ** k)}\n" for k in range(1, 12)]
+    fine = rough(280, 143)
+    lengths = squared_lengths(*fine)
+    middle = math.isqrt(lengths[len(lengths) // 2])
+    collapses = [f"collapse {int(middle * 1.3 ** k)}\n" for k in range(9)]
+    for word, mesh, steps in (("split", coarse, splits), ("collapse", fine, collapses)):
+        mine, theirs = programs.run(mesh, steps)
+        done, refused = mine.counted(word.encode()), mine.counted(b"no " + word.encode())
+        rate = (done + refused) / mine.seconds
+        beside = None if theirs is None else (done + refused) / theirs.seconds
+        row(f"{word}s a second in {len(steps)} passes, from {len(mesh[1]):,} faces ({done} done, {refused} refused)", rate, beside, "-")
+
+
 def sizes(programs):
     mesh = small_ones(16_000)
     plain, _ = programs.run(mesh, [])
@@ -223,6 +240,7 @@ def main():
     thrown(programs)
     halved(programs)
     passes(programs)
+    refined(programs)
     sizes(programs)
 
 
