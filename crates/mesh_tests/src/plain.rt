@@ -1,14 +1,9 @@
-//! Worked examples: a tetrahedron, lists with each fault, and marks.
-ghost use Rattle.std.specs.Prelude.{◌≢◌};
-ghost use Rattle.mesh_base.specs.Mesh.{IsLiveVertex};
-ghost use Rattle.mesh_base.specs.Kept.{BeginsWith};
-ghost use Rattle.mesh_plain.specs.Plain.{mesh_in, kept_in};
-
+//! Worked examples: a tetrahedron, lists with each fault, and a full mesh.
 use crate::meshes::{SIDES, TETRAHEDRON, lists_of};
 use grid_base::{NoMemory, Point};
 use mesh_plain::{
     AddFault, FaceId, MeshLists, PlainMesh, ShapeFault, ShapeRefusal, Surface, VertexId,
-    edges_in_order, live_faces, live_vertices, shape,
+    edges_in_order, shape,
 };
 use std::alloc::Global;
 use std::process::Abort;
@@ -32,53 +27,6 @@ fn mesh_of(alloc: Global, lists: &MeshLists, rt: &impl Abort) -> Result<PlainMes
     let found = shape(alloc, lists);
     assert!(rt; found.is_ok());
     PlainMesh::of(alloc, lists)
-}
-
-/// The live vertices with their points, the live faces with their corners, and the next ids.
-fn assert_is(
-    mesh: &PlainMesh,
-    alloc: Global,
-    points: &[(u32, [i32; 3])],
-    faces: &[(u32, [u32; 3])],
-    next: (u32, u32),
-    rt: &impl Abort,
-) -> Result<(), NoMemory> {
-    let vertices = live_vertices(alloc, mesh)?;
-    assert_eq!(rt; vertices.len(), points.len());
-    assert_eq!(rt; mesh.vertices() as usize, points.len());
-    for (id, p) in points {
-        let at = Point::new(p[0], p[1], p[2]);
-        assert!(rt; at.is_some());
-        assert_eq!(rt; mesh.point(VertexId(*id)), at);
-    }
-    let live = live_faces(alloc, mesh)?;
-    assert_eq!(rt; live.len(), faces.len());
-    assert_eq!(rt; mesh.faces() as usize, faces.len());
-    for (id, c) in faces {
-        assert_eq!(rt;
-            mesh.corners(FaceId(*id)),
-            Some([VertexId(c[0]), VertexId(c[1]), VertexId(c[2])])
-        );
-    }
-    assert_eq!(rt; (mesh.next_vertex(), mesh.next_face()), next);
-    Ok(())
-}
-
-/// A new vertex, with the face from `a` over `b` to it.
-fn fan_out(
-    mesh: &mut PlainMesh,
-    p: Point,
-    a: VertexId,
-    b: VertexId,
-) -> Result<(VertexId, FaceId), AddFault>
-    requires first { IsLiveVertex (mesh_in mesh.old) a }
-    requires second { IsLiveVertex (mesh_in mesh.old) b }
-    requires apart { a ≢ b }
-    ensures { BeginsWith (kept_in mesh.new) (kept_in mesh.old) }
-{
-    let v = mesh.add_vertex(p)?;
-    let f = mesh.add_face([a, b, v])?;
-    Ok((v, f))
 }
 
 #[test]
@@ -162,45 +110,6 @@ fn faults_are_named_at_their_least_place(rt: HostRuntime) -> Result<(), Fail> {
 }
 
 #[test]
-fn a_return_gives_ids_again(rt: HostRuntime) -> Result<(), Fail> {
-    let mut mesh = mesh_of(
-        rt.alloc(),
-        &lists_of(rt.alloc(), &TETRAHEDRON, &SIDES)?,
-        &rt,
-    )?;
-    let start: [(u32, [i32; 3]); 4] = [
-        (1, [0, 0, 0]),
-        (2, [4, 0, 0]),
-        (3, [0, 4, 0]),
-        (4, [0, 0, 4]),
-    ];
-    let sides: [(u32, [u32; 3]); 4] = [
-        (1, [1, 3, 2]),
-        (2, [1, 2, 4]),
-        (3, [2, 3, 4]),
-        (4, [1, 4, 3]),
-    ];
-    assert_is(&mesh, rt.alloc(), &start, &sides, (5, 5), &rt)?;
-    let mark = mesh.mark()?;
-    let p = Point::new(9, 9, 9).expect(&rt, "a point");
-    assert!(rt; mesh.point(VertexId(1)).is_some() && mesh.point(VertexId(2)).is_some());
-    let made = fan_out(&mut mesh, p, VertexId(1), VertexId(2))?;
-    assert_eq!(rt; made, (VertexId(5), FaceId(5)));
-    assert!(rt; mesh.point(VertexId(1)).is_some());
-    mesh.make_solid(VertexId(1))?;
-    assert_eq!(rt;
-        (mesh.solid(VertexId(1)), mesh.solid(VertexId(2))),
-        (true, false)
-    );
-    mesh.back_to(mark);
-    assert_eq!(rt; mesh.solid(VertexId(1)), false);
-    assert_is(&mesh, rt.alloc(), &start, &sides, (5, 5), &rt)?;
-    mesh.settle();
-    assert_is(&mesh, rt.alloc(), &start, &sides, (5, 5), &rt)?;
-    Ok(())
-}
-
-#[test]
 fn faces_at_a_vertex_rise(rt: HostRuntime) -> Result<(), Fail> {
     let mesh = mesh_of(
         rt.alloc(),
@@ -224,30 +133,6 @@ fn faces_at_a_vertex_rise(rt: HostRuntime) -> Result<(), Fail> {
     for (i, (a, b)) in pairs.iter().enumerate() {
         assert_eq!(rt; edges.get(i), Some(&(VertexId(*a), VertexId(*b))));
     }
-    Ok(())
-}
-
-#[test]
-fn a_vertex_is_placed_and_a_face_dropped(rt: HostRuntime) -> Result<(), Fail> {
-    let mut mesh = mesh_of(
-        rt.alloc(),
-        &lists_of(rt.alloc(), &TETRAHEDRON, &SIDES)?,
-        &rt,
-    )?;
-    let p = Point::new(0, 0, -1).expect(&rt, "a point");
-    assert!(rt; mesh.point(VertexId(1)).is_some());
-    mesh.place(VertexId(1), p)?;
-    assert!(rt; mesh.corners(FaceId(1)).is_some());
-    mesh.drop_face(FaceId(1))?;
-    assert_eq!(rt; mesh.faces(), 3);
-    let points: [(u32, [i32; 3]); 4] = [
-        (1, [0, 0, -1]),
-        (2, [4, 0, 0]),
-        (3, [0, 4, 0]),
-        (4, [0, 0, 4]),
-    ];
-    let sides: [(u32, [u32; 3]); 3] = [(2, [1, 2, 4]), (3, [2, 3, 4]), (4, [1, 4, 3])];
-    assert_is(&mesh, rt.alloc(), &points, &sides, (5, 5), &rt)?;
     Ok(())
 }
 

@@ -1,0 +1,194 @@
+#!/usr/bin/env python3
+"""Runs random jobs with the program and with another one of the same command line, and compares status, log and files.
+
+    checks/random_jobs.py OTHER [COUNT [SEED [SECONDS]]]
+
+The other program should be written apart from this one; what both answer alike is then hardly a slip of either. COUNT jobs (100 at first) are
+made from SEED on (1 at first), each of a few bodies that stand near one another and a text of steps, some with a fault. A job that one of
+the two does not end within SECONDS (20 at first) is told and not compared. The last line tells how many were alike; at a difference the job
+is kept and the exit status is 1.
+"""
+
+import os
+import random
+import subprocess
+import sys
+import tempfile
+
+ROOT = os.path.dirname(os.path.dirname(os.path.abspath(__file__)))
+TOPO = os.path.join(ROOT, "topo")
+
+TETRAHEDRON = [(0, 0, 0), (4, 0, 0), (0, 4, 0), (0, 0, 4)], [(0, 2, 1), (0, 1, 3), (1, 2, 3), (0, 3, 2)]
+CUBE = (
+    [(0, 0, 0), (4, 0, 0), (4, 4, 0), (0, 4, 0), (0, 0, 4), (4, 0, 4), (4, 4, 4), (0, 4, 4)],
+    [f for a, b, c, d in [(0, 3, 2, 1), (4, 5, 6, 7), (0, 1, 5, 4), (1, 2, 6, 5), (2, 3, 7, 6), (3, 0, 4, 7)] for f in [(a, b, c), (a, c, d)]],
+)
+OCTAHEDRON = (
+    [(4, 0, 0), (-4, 0, 0), (0, 4, 0), (0, -4, 0), (0, 0, 4), (0, 0, -4)],
+    [(0, 2, 4), (2, 1, 4), (1, 3, 4), (3, 0, 4), (2, 0, 5), (1, 2, 5), (3, 1, 5), (0, 3, 5)],
+)
+
+
+def ring(n):
+    """A closed ring of N times 3 vertices."""
+    points = []
+    for i in range(n):
+        x, y = [(8, 0), (4, 7), (-4, 7), (-8, 0), (-4, -7), (4, -7)][i * 6 // n % 6]
+        points += [(2 * x, 2 * y, 0), (x, y, 3), (x, y, -3)]
+    at = lambda i, j: 3 * (i % n) + j % 3
+    faces = []
+    for i in range(n):
+        for j in range(3):
+            faces += [(at(i, j), at(i + 1, j), at(i + 1, j + 1)), (at(i, j), at(i + 1, j + 1), at(i, j + 1))]
+    return points, faces
+
+
+def mesh_of(dice):
+    """Points and faces, from 1: a few bodies, and sometimes a vertex or an edge that two of them share."""
+    points, faces = [], []
+    scale = dice.choice([1, 1, 2, 5, 20, 1000])
+    spread = dice.choice([3, 5, 8])
+    for body in range(dice.choice([1, 1, 2, 2, 3, 4, 6])):
+        some, sides = dice.choice([TETRAHEDRON, TETRAHEDRON, CUBE, OCTAHEDRON, ring(6)])
+        # most stand apart, in a row that wavers
+        away = [dice.randint(-spread, spread) * scale for _ in range(3)]
+        away[0] += body * dice.choice([8, 12, 16, 16, 24, 36]) * scale
+        size = [dice.choice([1, 1, 1, 2]) * scale for _ in range(3)]
+        jitter = dice.choice([0, 0, 1])
+        base = len(points)
+        for p in some:
+            points.append([c * s + a + dice.randint(-jitter, jitter) for c, s, a in zip(p, size, away)])
+        faces += [[base + v + 1 for v in f] for f in sides]
+    if dice.random() < 0.2 and len(points) > 6:
+        # two vertices are one
+        a, b = dice.sample(range(1, len(points) + 1), 2)
+        if not any(a in f and b in f for f in faces):
+            faces = [[a if v == b else v for v in f] for f in faces]
+    if dice.random() < 0.1:
+        dice.shuffle(faces)
+    if dice.random() < 0.03:
+        faces.pop()
+    return points, faces, scale
+
+
+def shift_of(dice, scale):
+    far = dice.choice([0, 1, 2, 4, 8, 30]) * scale
+    return " ".join(str(dice.randint(-far, far)) for _ in range(3))
+
+
+def directive(dice, vertices, scale, depth):
+    kind = dice.random()
+    vertex = dice.randint(1, vertices + (3 if dice.random() < 0.1 else 0))
+    if kind < 0.30:
+        return f"shift {vertex} {shift_of(dice, scale)}"
+    if kind < 0.36:
+        return f"shift all {shift_of(dice, scale)}"
+    if kind < 0.40:
+        return f"drive {dice.choice(['swirl', 'swell', 'shrink'] if dice.random() < 0.95 else ['nothing'])}"
+    if kind < 0.43:
+        return f"solid {vertex}"
+    if kind < 0.50:
+        return f"split {dice.choice([2, 4, 6, 9]) * scale}"
+    if kind < 0.58:
+        return f"collapse {dice.choice([1, 2, 4, 5, 7]) * scale}"
+    if kind < 0.63:
+        return "flip"
+    if kind < 0.68:
+        return f"zip {dice.choice([0, 1, 2, 4, 6]) * scale}"
+    if kind < 0.72:
+        return "pinch"
+    if kind < 0.88:
+        return "step"
+    if kind < 0.91:
+        return "save"
+    if kind < 0.96:
+        name, most = dice.choice([("depth", 10), ("halvings", 10), ("passes", 5), ("zones", 1)])
+        return f"set {name} {dice.randint(0, most)}"
+    return dice.choice(["group", "close"] if depth[0] else ["group"])
+
+
+def steps_of(dice, vertices, scale):
+    lines, depth = [], [0]
+    for _ in range(dice.randint(1, 24)):
+        line = directive(dice, vertices, scale, depth)
+        if line == "group" and depth[0] == 8:
+            continue
+        depth[0] += {"group": 1, "close": -1}.get(line, 0)
+        lines.append(line)
+    lines += ["close"] * depth[0]
+    if dice.random() < 0.03:
+        lines.insert(dice.randint(0, len(lines)), dice.choice(["walk", "split", "split x", "shift 0 1 1 1", "set depth 11", "close", "step 1", "# nothing"]))
+    return "".join(line + "\n" for line in lines)
+
+
+def obj_of(dice, points, faces, places):
+    """The text of the mesh, with so many digits behind the point."""
+    word = lambda c: f"{c / 10**places:.{places}f}"
+    lines = ["v " + " ".join(word(c) for c in p) for p in points]
+    lines += ["f " + " ".join(str(v) for v in f) for f in faces]
+    if dice.random() < 0.03:
+        lines.insert(dice.randint(0, len(lines)), dice.choice(["v 1 2", "f 1 2", "v 1 x 3", "vn 1 2 3", "g body", "f 1 2 9999", "thing"]))
+    return "".join(line + "\n" for line in lines)
+
+
+def job_of(seed):
+    dice = random.Random(seed)
+    points, faces, scale = mesh_of(dice)
+    places = dice.choice([0, 0, 0, 1, 3, 6])
+    words = ["track", "m.obj", "s.txt", "out"] + ([] if places == 0 else ["--decimals", str(places)])
+    if dice.random() < 0.03:
+        words = ["convert", "m.obj", "m." + dice.choice(["off", "ply", "obj"])] + words[4:]
+    return obj_of(dice, points, faces, places), steps_of(dice, len(points), scale), words
+
+
+def outcome(program, mesh, steps, words, seconds):
+    with tempfile.TemporaryDirectory() as folder:
+        for name, text in (("m.obj", mesh), ("s.txt", steps)):
+            with open(os.path.join(folder, name), "w", encoding="utf-8", newline="") as it:
+                it.write(text)
+        try:
+            ran = subprocess.run([program, *words], cwd=folder, stdout=subprocess.PIPE, stderr=subprocess.DEVNULL, timeout=seconds)
+        except subprocess.TimeoutExpired:
+            return None
+        files = {}
+        for name in os.listdir(folder):
+            with open(os.path.join(folder, name), "rb") as it:
+                files[name] = it.read()
+        return ran.returncode, ran.stdout, files
+
+
+def keep(seed, mesh, steps, words):
+    folder = tempfile.mkdtemp(prefix=f"job-{seed}-")
+    for name, text in (("m.obj", mesh), ("s.txt", steps), ("words", " ".join(words) + "\n")):
+        with open(os.path.join(folder, name), "w", encoding="utf-8", newline="") as it:
+            it.write(text)
+    return folder
+
+
+def main():
+    if len(sys.argv) < 2:
+        sys.exit(__doc__)
+    other = os.path.abspath(sys.argv[1])
+    count, seed, seconds = (int(word) for word in (sys.argv[2:] + ["100", "1", "20"][len(sys.argv) - 2 :])[:3])
+    alike = late = unlike = 0
+    lines = {}
+    for number in range(seed, seed + count):
+        job = job_of(number)
+        one, two = outcome(TOPO, *job, seconds), outcome(other, *job, seconds)
+        if one is None or two is None:
+            late += 1
+        elif one == two:
+            alike += 1
+            for line in one[1].split(b"\n"):
+                word = line.split(b" ")[0].decode()
+                lines[word] = lines.get(word, 0) + 1
+        else:
+            unlike += 1
+            print(f"job {number}: {'status' if one[0] != two[0] else 'log' if one[1] != two[1] else 'files'} differ; it is kept in {keep(number, *job)}")
+    print("lines of these logs:", ", ".join(f"{word} {n}" for word, n in sorted(lines.items()) if word))
+    print(f"{alike} alike, {unlike} not, {late} not ended in time")
+    return 1 if unlike else 0
+
+
+if __name__ == "__main__":
+    sys.exit(main())
