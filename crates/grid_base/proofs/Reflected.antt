@@ -108,8 +108,8 @@ pub separated_of : (depth : ℕ) (s t : Positions) → are_separated depth s t �
 separated_of zero s t e = any_of (KeepsApart s t) (keeps_apart s t) (apart_of s t) (directions s t) e
 separated_of (suc depth) s t e = ⊎_elim
     (λ one. inl (any_of (KeepsApart s t) (keeps_apart s t) (apart_of s t) (directions s t) one))
-    (λ two. inr (separated_of depth (double s) (middle s t) (and_parts (are_separated depth (double s) (middle s t)) _ two).0, separated_of depth (middle s t) (double t) (and_parts (are_separated depth (double s) (middle s t)) _ two).1))
-    (or_cases (list_any (keeps_apart s t) (directions s t)) _ e)
+    (λ two. inr (halves_of (are_separated depth (double s) (middle s t)) (are_separated depth (middle s t) (double t)) (separated_of depth (double s) (middle s t)) (separated_of depth (middle s t) (double t)) two))
+    (or_cases (list_any (keeps_apart s t) (directions s t)) (are_separated depth (double s) (middle s t) && are_separated depth (middle s t) (double t)) e)
 
 pub of_separated : (depth : ℕ) (s t : Positions) → AreSeparated depth s t → are_separated depth s t ≡ true
 of_separated zero s t h = of_any (KeepsApart s t) (keeps_apart s t) (of_apart s t) (directions s t) h.0 h.1 h.2 h.3 h.4
