@@ -147,6 +147,21 @@ const CASES: [(bool, [i32; 8], (u8, bool, u8), (How, usize, [i32; 8])); 8] = [
     ),
 ];
 
+// How a step is taken, how many pairs fail, and by how much each vertex moves along x; where it is by zones, the one block.
+fn assert_choice(rt: &impl Abort, choice: &Choice, how: How, hits: usize, moves: [i32; 8]) {
+    assert_eq!(rt; choice.how, how);
+    assert_eq!(rt; choice.hits.len(), hits);
+    assert_eq!(rt; taken_along(choice), moves);
+    let is_zoned = matches!(&choice.how, How::Zones { .. });
+    assert_eq!(rt; choice.blocks.len(), if is_zoned { 1 } else { 0 });
+    if let Some(block) = choice.blocks.get(0) {
+        assert_eq!(rt;
+            block.as_slice(),
+            [1, 2, 3, 5, 6, 7, 8].map(|v| VertexId(v)).as_slice()
+        );
+    }
+}
+
 #[test]
 fn a_step_is_taken_by_the_first_way_that_applies(rt: HostRuntime) -> Result<(), Fail> {
     for (solid, xs, (passes, zones, halvings), (how, hits, moves)) in CASES {
@@ -157,22 +172,16 @@ fn a_step_is_taken_by_the_first_way_that_applies(rt: HostRuntime) -> Result<(), 
             halvings,
         };
         let choice = chosen(rt.alloc(), solid, &xs, set, &rt)?;
-        assert_eq!(rt; choice.how, how);
-        assert_eq!(rt; choice.hits.len(), hits);
-        assert_eq!(rt; taken_along(&choice), moves);
-        let is_zoned = matches!(&choice.how, How::Zones { .. });
-        assert_eq!(rt; choice.blocks.len(), if is_zoned { 1 } else { 0 });
-        if let Some(block) = choice.blocks.get(0) {
-            assert_eq!(rt;
-                block.as_slice(),
-                [1, 2, 3, 5, 6, 7, 8].map(|v| VertexId(v)).as_slice()
-            );
-        }
+        assert_choice(&rt, &choice, how, hits, moves);
     }
+    Ok(())
+}
+
+#[test]
+fn all_ways_are_tried_at_first(rt: HostRuntime) {
     let first = Settings::at_first();
     assert_eq!(rt;
         (first.depth, first.passes, first.zones, first.halvings),
         (6, 3, true, 6)
     );
-    Ok(())
 }

@@ -1,4 +1,4 @@
-//! What half-edges answer that other meshes do not, and the faces at a vertex.
+//! What half-edges answer that other meshes do not.
 use crate::meshes::tetrahedron;
 use half_mesh::HalfMesh;
 use mesh_plain::{FaceId, Surface, VertexId, shape};
@@ -11,12 +11,6 @@ fn the_face_across_is_the_one_beside(rt: HostRuntime) -> Result<(), Fail> {
     let mesh = HalfMesh::of(rt.alloc(), &lists)?;
     assert!(rt; mesh.corners(FaceId(2)).is_some());
     assert_eq!(rt; mesh.across(FaceId(2), 0), Some((FaceId(1), 2)));
-    let mut faces = vec![in rt.alloc(); FaceId(7)]?;
-    mesh.faces_at(VertexId(1), &mut faces)?;
-    assert_eq!(rt;
-        faces.as_slice(),
-        [FaceId(1), FaceId(2), FaceId(4)].as_slice()
-    );
     Ok(())
 }
 

@@ -10,8 +10,6 @@ mod half_edges;
 #[cfg(test)]
 mod impulses;
 #[cfg(test)]
-mod journals;
-#[cfg(test)]
 mod meshes;
 #[cfg(test)]
 mod plain;

@@ -6,6 +6,7 @@ ghost use Rattle.mesh_play.specs.Play.{IsAllowed};
 use crate::meshes::tetrahedron;
 use grid_base::{NoMemory, Point};
 use half_mesh::HalfMesh;
+use mesh_journal::JournalMesh;
 use mesh_plain::{FaceId, FaceIds, PlainMesh, Surface, VertexId, shape};
 use mesh_play::{Act, Answer, Answers, Call, Question, play_both};
 use std::alloc::Global;
@@ -280,14 +281,33 @@ fn play_row<S: Surface, T: Surface>(
 fn plain_meshes_and_half_edges_answer_alike(rt: HostRuntime) -> Result<(), Fail> {
     let lists = tetrahedron(rt.alloc())?;
     assert!(rt; shape(rt.alloc(), &lists).is_ok());
-    assert_eq!(rt; (lists.points.len(), lists.faces.len()), (4, 4));
     let mut plain = PlainMesh::of(rt.alloc(), &lists)?;
     let mut half = HalfMesh::of(rt.alloc(), &lists)?;
     for row in &ROWS {
         play_row(&rt, rt.alloc(), &mut plain, &mut half, row)?;
     }
-    plain = PlainMesh::of_numbered(rt.alloc(), &lists, 2_147_483_649, 5)?;
-    half = HalfMesh::of_numbered(rt.alloc(), &lists, 2_147_483_649, 5)?;
+    Ok(())
+}
+
+#[test]
+fn the_last_ids_are_given(rt: HostRuntime) -> Result<(), Fail> {
+    let lists = tetrahedron(rt.alloc())?;
+    assert!(rt; shape(rt.alloc(), &lists).is_ok());
+    assert_eq!(rt; (lists.points.len(), lists.faces.len()), (4, 4));
+    let mut plain = PlainMesh::of_numbered(rt.alloc(), &lists, 2_147_483_649, 5)?;
+    let mut half = HalfMesh::of_numbered(rt.alloc(), &lists, 2_147_483_649, 5)?;
     play_row(&rt, rt.alloc(), &mut plain, &mut half, &FULL)?;
+    Ok(())
+}
+
+#[test]
+fn the_last_ids_are_given_by_a_journal(rt: HostRuntime) -> Result<(), Fail> {
+    let lists = tetrahedron(rt.alloc())?;
+    assert!(rt; shape(rt.alloc(), &lists).is_ok());
+    assert_eq!(rt; (lists.points.len(), lists.faces.len()), (4, 4));
+    let mut plain = PlainMesh::of_numbered(rt.alloc(), &lists, 2_147_483_649, 5)?;
+    let mut journal = JournalMesh::of_numbered(rt.alloc(), &lists, 2_147_483_649, 5)?;
+    journal.reserve(3)?;
+    play_row(&rt, rt.alloc(), &mut plain, &mut journal, &FULL)?;
     Ok(())
 }
