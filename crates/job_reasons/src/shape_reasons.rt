@@ -58,6 +58,40 @@ fn seam(alloc: Global, lists: &MeshLists, vertex: u32) -> Result<Option<String>,
     }
 }
 
+// That two vertices stand at one place, if one of the two has another there.
+fn seam_of_edge(
+    alloc: Global,
+    lists: &MeshLists,
+    from: u32,
+    to: u32,
+) -> Result<Option<String>, AllocError> {
+    match seam(alloc, lists, from)? {
+        Some(said) => Ok(Some(said)),
+        None => seam(alloc, lists, to),
+    }
+}
+
+// How often faces run one way and the other, and what that means.
+fn sides_reason(
+    alloc: Global,
+    lists: &MeshLists,
+    from: u32,
+    to: u32,
+) -> Result<String, AllocError> {
+    let there = sides(lists.faces.as_slice(), from, to);
+    let back = sides(lists.faces.as_slice(), to, from);
+    let front = format!(in alloc;
+        "the surface is not closed: from vertex {from} to vertex {to} run {there} faces, and back run {back}"
+    )?;
+    match seam_of_edge(alloc, lists, from, to)? {
+        Some(seam) => format!(in alloc; "{front}; {seam}"),
+        None => {
+            let meaning = meaning(there, back);
+            format!(in alloc; "{front}; {meaning}")
+        }
+    }
+}
+
 // Says that faces do not run as often one way as the other, how often they run where the lists are had, and what that means.
 fn unbalanced_reason(
     alloc: Global,
@@ -65,22 +99,10 @@ fn unbalanced_reason(
     from: u32,
     to: u32,
 ) -> Result<String, AllocError> {
-    let Some(lists) = lists else {
-        return format!(in alloc; "the surface is not closed between the vertices {from} and {to}");
-    };
-    let there = sides(lists.faces.as_slice(), from, to);
-    let back = sides(lists.faces.as_slice(), to, from);
-    let front = format!(in alloc;
-        "the surface is not closed: from vertex {from} to vertex {to} run {there} faces, and back run {back}"
-    )?;
-    if let Some(seam) = seam(alloc, lists, from)? {
-        return format!(in alloc; "{front}; {seam}");
+    match lists {
+        Some(lists) => sides_reason(alloc, lists, from, to),
+        None => format!(in alloc; "the surface is not closed between the vertices {from} and {to}"),
     }
-    if let Some(seam) = seam(alloc, lists, to)? {
-        return format!(in alloc; "{front}; {seam}");
-    }
-    let meaning = meaning(there, back);
-    format!(in alloc; "{front}; {meaning}")
 }
 
 // How many words a line has.
@@ -118,6 +140,59 @@ fn face_place(alloc: Global, bytes: &[u8], face: u32) -> Result<String, AllocErr
     }
 }
 
+// That a corner of a face names no vertex.
+fn corner_reason(alloc: Global, bytes: &[u8], face: u32, corner: u8) -> Result<String, AllocError>
+    requires { length bytes.now ≤ TEXT_MAX }
+{
+    let face = face_place(alloc, bytes, face)?;
+    format!(in alloc; "corner {corner} of {face} names no vertex")
+}
+
+// That a face has one vertex twice.
+fn repeated_reason(alloc: Global, bytes: &[u8], face: u32) -> Result<String, AllocError>
+    requires { length bytes.now ≤ TEXT_MAX }
+{
+    let face = face_place(alloc, bytes, face)?;
+    format!(in alloc; "{face} has one vertex twice")
+}
+
+// That two faces have the same corners.
+fn doubled_reason(
+    alloc: Global,
+    bytes: &[u8],
+    first: u32,
+    second: u32,
+) -> Result<String, AllocError>
+    requires { length bytes.now ≤ TEXT_MAX }
+{
+    let first = face_place(alloc, bytes, first)?;
+    let second = face_place(alloc, bytes, second)?;
+    format!(in alloc; "{first} and {second} have the same corners in the same order")
+}
+
+// What is wrong with the shape of a mesh.
+fn what_is_wrong(
+    alloc: Global,
+    bytes: &[u8],
+    lists: Option<&MeshLists>,
+    fault: ShapeFault,
+) -> Result<String, AllocError>
+    requires { length bytes.now ≤ TEXT_MAX }
+{
+    match fault {
+        ShapeFault::TooManyVertices { count } => format!(in alloc;
+            "there are {count} vertices, of at most {VERTICES_MAX}"
+        ),
+        ShapeFault::TooManyFaces { count } => format!(in alloc;
+            "there are {count} faces, of at most {FACES_MAX}"
+        ),
+        ShapeFault::NoVertex { face, corner } => corner_reason(alloc, bytes, face, corner),
+        ShapeFault::Repeated { face } => repeated_reason(alloc, bytes, face),
+        ShapeFault::Doubled { first, second } => doubled_reason(alloc, bytes, first, second),
+        ShapeFault::Unbalanced { from, to } => unbalanced_reason(alloc, lists, from, to),
+    }
+}
+
 /// Says what is wrong with the shape of the mesh of a text, with the lists that it gives where they are had. Faces are triangles, which
 /// count through polygons.
 pub fn shape_reason(
@@ -129,28 +204,7 @@ pub fn shape_reason(
 ) -> Result<String, AllocError>
     requires { length bytes.now ≤ TEXT_MAX }
 {
-    let what = match fault {
-        ShapeFault::TooManyVertices { count } => format!(in alloc;
-            "there are {count} vertices, of at most {VERTICES_MAX}"
-        )?,
-        ShapeFault::TooManyFaces { count } => format!(in alloc;
-            "there are {count} faces, of at most {FACES_MAX}"
-        )?,
-        ShapeFault::NoVertex { face, corner } => {
-            let face = face_place(alloc, bytes, face)?;
-            format!(in alloc; "corner {corner} of {face} names no vertex")?
-        }
-        ShapeFault::Repeated { face } => {
-            let face = face_place(alloc, bytes, face)?;
-            format!(in alloc; "{face} has one vertex twice")?
-        }
-        ShapeFault::Doubled { first, second } => {
-            let first = face_place(alloc, bytes, first)?;
-            let second = face_place(alloc, bytes, second)?;
-            format!(in alloc; "{first} and {second} have the same corners in the same order")?
-        }
-        ShapeFault::Unbalanced { from, to } => unbalanced_reason(alloc, lists, from, to)?,
-    };
+    let what = what_is_wrong(alloc, bytes, lists, fault)?;
     format!(in alloc; "{name}; {what}")
 }
 

@@ -1,5 +1,5 @@
 // Why the words of a command line are of no listed form.
-use line_text::spelled_number;
+use line_text::{is_word, spelled_number};
 use std::alloc::{AllocError, Global};
 
 // Whether a word may name a file: it is not empty and has no dash in front.
@@ -59,6 +59,21 @@ enum Taken<'a> {
     File(&'a str),
 }
 
+// What a word is taken as that may be an option with nothing behind it, or the name of a file.
+fn option_or_file(word: &str) -> Taken<'_> {
+    let bytes = word.as_bytes();
+    if is_word(bytes, b"--") {
+        return Taken::Dashes;
+    }
+    if is_word(bytes, b"--decimals") {
+        return Taken::Decimals;
+    }
+    match bytes {
+        [b'-', _, ..] => Taken::Unknown(word),
+        _ => Taken::File(word),
+    }
+}
+
 // What a word is taken as. Options may stand before the files, among them and behind them.
 fn taken_as(awaited: Awaited, word: &str) -> Taken<'_> {
     match awaited {
@@ -66,12 +81,7 @@ fn taken_as(awaited: Awaited, word: &str) -> Taken<'_> {
         Awaited::File => Taken::File(word),
         Awaited::Any => match word.strip_prefix("--decimals=") {
             Some(digit) => Taken::DecimalsWith(digit),
-            None => match word.as_bytes() {
-                b"--" => Taken::Dashes,
-                b"--decimals" => Taken::Decimals,
-                [b'-', _, ..] => Taken::Unknown(word),
-                _ => Taken::File(word),
-            },
+            None => option_or_file(word),
         },
     }
 }
@@ -90,12 +100,12 @@ fn decimals_reason(alloc: Global, digit: &str, again: bool) -> Result<Option<Str
 
 // Says that there is no such option.
 fn unknown_reason(alloc: Global, word: &str) -> Result<String, AllocError> {
-    match word.as_bytes() {
-        b"--help" | b"-h" => format!(in alloc; "{word} stands alone, or alone behind a command"),
-        _ => format!(in alloc;
-            "{word:?} has a dash in front, so it is no name of a file, and the only option is `--decimals N`"
-        ),
+    if is_word(word.as_bytes(), b"--help") || is_word(word.as_bytes(), b"-h") {
+        return format!(in alloc; "{word} stands alone, or alone behind a command");
     }
+    format!(in alloc;
+        "{word:?} has a dash in front, so it is no name of a file, and the only option is `--decimals N`"
+    )
 }
 
 // The verb for so many words.
@@ -110,6 +120,20 @@ struct Wanted {
     files: usize,
     formats: bool,
 }
+
+// What `track` wants.
+const TRACK: Wanted = Wanted {
+    form: "track MESH STEPS PREFIX",
+    files: 3,
+    formats: false,
+};
+
+// What `convert` wants.
+const CONVERT: Wanted = Wanted {
+    form: "convert FROM TO",
+    files: 2,
+    formats: true,
+};
 
 // Says what is wrong with a word as the name of a file, if anything is; so many stand before it.
 fn file_reason(
@@ -136,6 +160,12 @@ fn file_reason(
         return Ok(Some(said));
     }
     Ok(None)
+}
+
+// Says that there are too few files.
+fn few_files_reason(alloc: Global, wanted: Wanted, files: usize) -> Result<String, AllocError> {
+    let (form, wants, are) = (wanted.form, wanted.files, are(files));
+    format!(in alloc; "`topo {form}` wants {wants} names of files, and {files} {are} given")
 }
 
 // Says what is wrong with the words behind `track` or `convert`: it tells the first word that is at fault, in the order in which they
@@ -174,8 +204,29 @@ fn files_reason(alloc: Global, wanted: Wanted, words: &[String]) -> Result<Strin
     if awaited == Awaited::Digit {
         return String::from_str(alloc, "`--decimals` wants a digit from 0 to 6");
     }
-    let (form, wants, are) = (wanted.form, wanted.files, are(files));
-    format!(in alloc; "`topo {form}` wants {wants} names of files, and {files} {are} given")
+    few_files_reason(alloc, wanted, files)
+}
+
+// Says what is wrong with a word as a number behind `try`, if anything is; so many stand before it.
+fn number_reason(
+    alloc: Global,
+    most_cubes: u8,
+    before: usize,
+    word: &str,
+) -> Result<Option<String>, AllocError> {
+    let most_key = u32::MAX;
+    let said = match before {
+        0 if is_number_in(1, u32::from(most_cubes), word.as_bytes()) => return Ok(None),
+        1 if is_number_in(0, most_key, word.as_bytes()) => return Ok(None),
+        0 => format!(in alloc;
+            "{word:?} is no N of `topo try N KEY`: N is 1 to {most_cubes}, in digits with no needless zero in front"
+        ),
+        1 => format!(in alloc;
+            "{word:?} is no KEY of `topo try N KEY`: KEY is 0 to {most_key}, in digits with no needless zero in front"
+        ),
+        _ => format!(in alloc; "{word:?} is a word too many: `topo try N KEY` wants two numbers"),
+    }?;
+    Ok(Some(said))
 }
 
 // Says what is wrong with the words behind `try`: it tells the first that is at fault, or that there are too few.
@@ -187,20 +238,10 @@ fn numbers_reason(alloc: Global, most_cubes: u8, words: &[String]) -> Result<Str
         let word = word.as_str();
         if word == "--" && !has_dashes {
             has_dashes = true;
-        } else if numbers == 0 && !is_number_in(1, u32::from(most_cubes), word.as_bytes()) {
-            return format!(in alloc;
-                "{word:?} is no N of `topo try N KEY`: N is 1 to {most_cubes}, in digits with no needless zero in front"
-            );
-        } else if numbers == 1 && !is_number_in(0, most_key, word.as_bytes()) {
-            return format!(in alloc;
-                "{word:?} is no KEY of `topo try N KEY`: KEY is 0 to {most_key}, in digits with no needless zero in front"
-            );
-        } else if numbers >= 2 {
-            return format!(in alloc;
-                "{word:?} is a word too many: `topo try N KEY` wants two numbers"
-            );
+        } else if let Some(reason) = number_reason(alloc, most_cubes, numbers, word)? {
+            return Ok(reason);
         } else {
-            numbers += 1;
+            numbers = numbers.saturating_add(1);
         }
     }
     let are = are(numbers);
@@ -209,38 +250,29 @@ fn numbers_reason(alloc: Global, most_cubes: u8, words: &[String]) -> Result<Str
     )
 }
 
+// Says what is wrong with the word of a command that has no words behind it, or is none.
+fn command_reason(alloc: Global, command: &str) -> Result<String, AllocError> {
+    let bytes = command.as_bytes();
+    if is_word(bytes, b"--help") || is_word(bytes, b"-h") || is_word(bytes, b"--version") {
+        return format!(in alloc; "{command} stands alone");
+    }
+    format!(in alloc; "{command:?} is no command: the commands are `track`, `convert` and `try`")
+}
+
 /// Says which word of a command line is at fault, where the words are of no listed form. N of `try` is at most `most_cubes`.
 pub fn words_reason(alloc: Global, words: &[String], most_cubes: u8) -> Result<String, AllocError> {
-    match words {
-        [] => String::from_str(alloc, "no command is given"),
-        [command, others @ ..] => match command.as_bytes() {
-            b"track" => {
-                let wanted = Wanted {
-                    form: "track MESH STEPS PREFIX",
-                    files: 3,
-                    formats: false,
-                };
-                files_reason(alloc, wanted, others)
-            }
-            b"convert" => {
-                let wanted = Wanted {
-                    form: "convert FROM TO",
-                    files: 2,
-                    formats: true,
-                };
-                files_reason(alloc, wanted, others)
-            }
-            b"try" => numbers_reason(alloc, most_cubes, others),
-            b"--help" | b"-h" | b"--version" => {
-                let command = command.as_str();
-                format!(in alloc; "{command} stands alone")
-            }
-            _ => {
-                let command = command.as_str();
-                format!(in alloc;
-                    "{command:?} is no command: the commands are `track`, `convert` and `try`"
-                )
-            }
-        },
+    let Some((command, others)) = words.split_first() else {
+        return String::from_str(alloc, "no command is given");
+    };
+    let command = command.as_str();
+    if is_word(command.as_bytes(), b"track") {
+        return files_reason(alloc, TRACK, others);
     }
+    if is_word(command.as_bytes(), b"convert") {
+        return files_reason(alloc, CONVERT, others);
+    }
+    if is_word(command.as_bytes(), b"try") {
+        return numbers_reason(alloc, most_cubes, others);
+    }
+    command_reason(alloc, command)
 }

@@ -22,7 +22,7 @@ use Rattle.line_text.specs.Spellings.{spelled_number, spelled_from, spelled_at, 
 use Rattle.log_text.specs.Fields.{Reader, both}
 use Rattle.log_text.specs.Lines.{line_words, file_word, kept_word, how_words, shape_words, use_words, refusal_words}
 use Rattle.log_text.specs.Values.{is_latest, whole, alone, shift_of_at}
-use Rattle.log_text.specs.Reading.{first_of, mesh_of, step_of, hit_of, move_of, moved_of, or_unknown, file_of, refused, long_of, missing_of, shape_of, use_numbers, use_line, use_of, refused_of, solid_of, close_of, plain_of, line_of}
+use Rattle.log_text.specs.Reading.{first_of, mesh_of, step_of, hit_of, move_of, moved_of, or_unknown, file_of, refused, long_of, missing_of, shape_of, use_numbers, use_line, why_of_use, use_of, refused_of, solid_of, close_of, plain_of, line_of}
 use Rattle.log_text.specs.EditLines.{edit_of}
 use Rattle.edit_base.specs.declared.Change.TheVariants as change
 use Rattle.log_text.specs.Laws.{IsFrom, IsUseInRange, IsInRange, IsUseOfVersion, IsRefusalOfVersion, IsOfVersion}
@@ -75,7 +75,7 @@ unfolding missing_of
 missing_again name = rw (file_of-word name) (alone_again (line.Refused (refusal.Missing name)))
 
 used_again : (version at : ℕ) (w : UseWhy) → IsInRange (line.Refused (refusal.StepUse at w)) → IsUseOfVersion version w → use_of version true (decimal at ∷ use_words w) ≡ Ok (line.Refused (refusal.StepUse at w))
-unfolding use_of
+unfolding use_of why_of_use
 used_again version at (using.NoVertex v) r o = use_again using.NoVertex at v r.0 r.1
 used_again version at (using.ShiftRange v) r o = use_again using.ShiftRange at v r.0 r.1
 used_again version at (using.Box v) r o = use_again using.Box at v r.0 r.1
@@ -255,7 +255,7 @@ misspelt true l h = fault_value why.Number l h
 misspelt false l h = fault_value why.Short l h
 
 use_back : (version : ℕ) (ended : Bool) (words : List (List ℕ)) (l : LogLine) → use_of version ended words ≡ Ok l → IsSpelling version ended (codes "refused" ∷ codes "use" ∷ words) l
-unfolding use_of
+unfolding use_of why_of_use
 use_back version ended [] l h = fault_value why.Short l h
 use_back version ended (at ∷ []) l h = fault_value why.Short l h
 use_back version ended (at ∷ word ∷ words) l h =

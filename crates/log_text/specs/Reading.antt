@@ -112,10 +112,8 @@ unfoldable pub use_line : Bool → List ℕ → List (List ℕ) → Result ℕ T
 use_line ended at words = count_with_end ended 0 words >>= λ counted. spelled_from 1 COUNT_MAX (spelled_number at)
 
 -- The word behind the line's number says how many follow; a misspelt one asks for as many as follow.
-unfoldable pub use_of : ℕ → Bool → List (List ℕ) → Result LogLine TextWhy
-use_of version ended [] = Err why.Short
-use_of version ended (at ∷ []) = Err why.Short
-use_of version ended (at ∷ word ∷ words) =
+unfoldable pub why_of_use : ℕ → Bool → List ℕ → List ℕ → List (List ℕ) → Result LogLine TextWhy
+why_of_use version ended at word words =
     if bytes_eq word (codes "vertex") then (use_numbers ended at words >>= λ n. refused (refusal.StepUse n.0 (using.NoVertex n.1)))
     else if bytes_eq word (codes "range") then (use_numbers ended at words >>= λ n. refused (refusal.StepUse n.0 (using.ShiftRange n.1)))
     else if bytes_eq word (codes "box") then (use_numbers ended at words >>= λ n. refused (refusal.StepUse n.0 (using.Box n.1)))
@@ -123,6 +121,12 @@ use_of version ended (at ∷ word ∷ words) =
     else if bytes_eq word (codes "solid") && is_latest version then (use_numbers ended at words >>= λ n. refused (refusal.StepUse n.0 (using.Solid n.1)))
     else if ended then Err why.Number
     else Err why.Short
+
+-- refused use: the number of the directive's line, and why
+unfoldable pub use_of : ℕ → Bool → List (List ℕ) → Result LogLine TextWhy
+use_of version ended [] = Err why.Short
+use_of version ended (at ∷ []) = Err why.Short
+use_of version ended (at ∷ word ∷ words) = why_of_use version ended at word words
 
 -- refused: what, by its next word
 unfoldable pub refused_of : ℕ → Bool → List (List ℕ) → Result LogLine TextWhy

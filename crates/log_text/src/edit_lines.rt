@@ -9,7 +9,7 @@ ghost use Rattle.log_text.specs.EditLines as spec;
 use crate::TURN_MAX;
 use crate::edit_values::{behind, edge_at, place_at, position_at, reason_at, reason_with_end};
 use crate::log_line::LogLine;
-use crate::values::{alone, count_at};
+use crate::values::{alone, count_at, only_count};
 use edit_base::{Asked, Change, PassKind, Why};
 use grid_base::{ID_MAX, LENGTH_MAX};
 use line_text::{Parts, TextWhy, count_with_end, is_word};
@@ -19,9 +19,7 @@ use mesh_base::VertexId;
 fn length(ended: bool, words: Parts<'_>) -> Result<u32, TextWhy>
     ensures { result ≡ spec.length_of ended (parts_left words.entry) }
 {
-    let mut words = words;
-    count_with_end(ended, 1, words)?;
-    count_at(&mut words, 0, LENGTH_MAX)
+    only_count(ended, 0, LENGTH_MAX, words)
 }
 
 #[tactic(auto, unfolding(crate::specs::EditLines::pass_of))]

@@ -1,4 +1,4 @@
-ghost use Rattle.std.specs.Prelude.{OnErr};
+ghost use Rattle.std.specs.Prelude.{◌∷◌, [], decimal, OnErr};
 ghost use Rattle.line_text.specs.WrittenLines.{Keeps, Appends};
 ghost use Rattle.log_text.specs.Lines as spec;
 
@@ -7,33 +7,21 @@ use crate::putting::{put_place, put_places, put_spaced, put_words};
 use edit_base::{Asked, Change, Copies, CopyAt, PassKind, Why};
 use grid_base::{NoMemory, Point};
 use line_text::Field;
-use mesh_base::VertexId;
+use mesh_base::{PairName, VertexId};
 
 pub(crate) fn print_pass(pass: PassKind, into: &mut Vec<u8>) -> Result<(), NoMemory>
     ensures ok { Appends result into.old into.new (spec.text_of_line (LogLine.Pass pass)) }
     ensures err { OnErr result (Keeps into.old.items into.new.items) }
 {
     let name = Field::Text(b"pass");
-    match pass {
-        PassKind::Split { over } => put_words(
-            &[name, Field::Text(b"split"), Field::Number(u64::from(over))],
-            into,
-        ),
-        PassKind::Collapse { under } => put_words(
-            &[
-                name,
-                Field::Text(b"collapse"),
-                Field::Number(u64::from(under)),
-            ],
-            into,
-        ),
-        PassKind::Flip => put_words(&[name, Field::Text(b"flip")], into),
-        PassKind::Zip { within } => put_words(
-            &[name, Field::Text(b"zip"), Field::Number(u64::from(within))],
-            into,
-        ),
-        PassKind::Pinch => put_words(&[name, Field::Text(b"pinch")], into),
-    }
+    let (kind, length) = match pass {
+        PassKind::Split { over } => (Field::Text(b"split"), over),
+        PassKind::Collapse { under } => (Field::Text(b"collapse"), under),
+        PassKind::Zip { within } => (Field::Text(b"zip"), within),
+        PassKind::Flip => return put_words(&[name, Field::Text(b"flip")], into),
+        PassKind::Pinch => return put_words(&[name, Field::Text(b"pinch")], into),
+    };
+    put_words(&[name, kind, Field::Number(u64::from(length))], into)
 }
 
 // Appends the vertex, and then each copy, with its point, each word with a space in front.
@@ -55,55 +43,135 @@ fn print_pinch(v: VertexId, at: Point, copies: &Copies, into: &mut Vec<u8>) -> R
     Ok(())
 }
 
+fn print_split(
+    a: VertexId,
+    b: VertexId,
+    w: VertexId,
+    at: Point,
+    into: &mut Vec<u8>,
+) -> Result<(), NoMemory>
+    ensures ok { Appends result into.old into.new (spec.done_text (Change.Split a b w at)) }
+    ensures err { OnErr result (Keeps into.old.items into.new.items) }
+{
+    put_words(
+        &[
+            Field::Text(b"split"),
+            Field::Number(u64::from(a.0)),
+            Field::Number(u64::from(b.0)),
+            Field::Number(u64::from(w.0)),
+            Field::Signed(at.x),
+            Field::Signed(at.y),
+            Field::Signed(at.z),
+        ],
+        into,
+    )
+}
+
+fn print_flip(a: VertexId, b: VertexId, into: &mut Vec<u8>) -> Result<(), NoMemory>
+    ensures ok { Appends result into.old into.new (spec.done_text (Change.Flip a b)) }
+    ensures err { OnErr result (Keeps into.old.items into.new.items) }
+{
+    put_words(
+        &[
+            Field::Text(b"flip"),
+            Field::Number(u64::from(a.0)),
+            Field::Number(u64::from(b.0)),
+        ],
+        into,
+    )
+}
+
+fn print_collapse(a: VertexId, b: VertexId, end: Point, into: &mut Vec<u8>) -> Result<(), NoMemory>
+    ensures ok { Appends result into.old into.new (spec.done_text (Change.Collapse a b end)) }
+    ensures err { OnErr result (Keeps into.old.items into.new.items) }
+{
+    put_words(
+        &[
+            Field::Text(b"collapse"),
+            Field::Number(u64::from(a.0)),
+            Field::Number(u64::from(b.0)),
+            Field::Signed(end.x),
+            Field::Signed(end.y),
+            Field::Signed(end.z),
+        ],
+        into,
+    )
+}
+
+fn print_zip(
+    a: VertexId,
+    b: VertexId,
+    e: VertexId,
+    f: VertexId,
+    turn: u8,
+    into: &mut Vec<u8>,
+) -> Result<(), NoMemory>
+    ensures ok { Appends result into.old into.new (spec.done_text (Change.Zip a b e f turn)) }
+    ensures err { OnErr result (Keeps into.old.items into.new.items) }
+{
+    put_words(
+        &[
+            Field::Text(b"zip"),
+            Field::Number(u64::from(a.0)),
+            Field::Number(u64::from(b.0)),
+            Field::Number(u64::from(e.0)),
+            Field::Number(u64::from(f.0)),
+            Field::Number(u64::from(turn)),
+        ],
+        into,
+    )
+}
+
 pub(crate) fn print_change(change: &Change, into: &mut Vec<u8>) -> Result<(), NoMemory>
     ensures ok { Appends result into.old into.new (spec.text_of_line (LogLine.Did change.now)) }
     ensures err { OnErr result (Keeps into.old.items into.new.items) }
 {
     match change {
-        Change::Split { a, b, w, at } => put_words(
-            &[
-                Field::Text(b"split"),
-                Field::Number(u64::from(a.0)),
-                Field::Number(u64::from(b.0)),
-                Field::Number(u64::from(w.0)),
-                Field::Signed(at.x),
-                Field::Signed(at.y),
-                Field::Signed(at.z),
-            ],
-            into,
-        ),
-        Change::Flip { a, b } => put_words(
-            &[
-                Field::Text(b"flip"),
-                Field::Number(u64::from(a.0)),
-                Field::Number(u64::from(b.0)),
-            ],
-            into,
-        ),
-        Change::Collapse { a, b, at: end } => put_words(
-            &[
-                Field::Text(b"collapse"),
-                Field::Number(u64::from(a.0)),
-                Field::Number(u64::from(b.0)),
-                Field::Signed(end.x),
-                Field::Signed(end.y),
-                Field::Signed(end.z),
-            ],
-            into,
-        ),
-        Change::Zip { a, b, e, f, turn } => put_words(
-            &[
-                Field::Text(b"zip"),
-                Field::Number(u64::from(a.0)),
-                Field::Number(u64::from(b.0)),
-                Field::Number(u64::from(e.0)),
-                Field::Number(u64::from(f.0)),
-                Field::Number(u64::from(*turn)),
-            ],
-            into,
-        ),
+        Change::Split { a, b, w, at } => print_split(*a, *b, *w, *at, into),
+        Change::Flip { a, b } => print_flip(*a, *b, into),
+        Change::Collapse { a, b, at } => print_collapse(*a, *b, *at, into),
+        Change::Zip { a, b, e, f, turn } => print_zip(*a, *b, *e, *f, *turn, into),
         Change::Pinch { v, at, copies } => print_pinch(*v, *at, copies, into),
     }
+}
+
+// Appends a word and an edge, each word with a space in front.
+fn put_edge(word: &[u8], a: VertexId, b: VertexId, into: &mut Vec<u8>) -> Result<(), NoMemory>
+    ensures ok { let words = word.now ∷ decimal a ∷ decimal b ∷ [] in
+        Appends result into.old into.new (spec.spaced words) }
+    ensures err { OnErr result (Keeps into.old.items into.new.items) }
+{
+    put_spaced(
+        &[
+            Field::Text(word),
+            Field::Number(u64::from(a.0)),
+            Field::Number(u64::from(b.0)),
+        ],
+        into,
+    )
+}
+
+// Appends that a zip of two edges was asked for, each word with a space in front.
+fn put_zip(
+    a: VertexId,
+    b: VertexId,
+    e: VertexId,
+    f: VertexId,
+    into: &mut Vec<u8>,
+) -> Result<(), NoMemory>
+    ensures ok { Appends result into.old into.new (spec.spaced (spec.asked_words (Asked.Zip a b e f))) }
+    ensures err { OnErr result (Keeps into.old.items into.new.items) }
+{
+    put_spaced(
+        &[
+            Field::Text(b"zip"),
+            Field::Number(u64::from(a.0)),
+            Field::Number(u64::from(b.0)),
+            Field::Number(u64::from(e.0)),
+            Field::Number(u64::from(f.0)),
+        ],
+        into,
+    )
 }
 
 // Appends what was asked, each word with a space in front.
@@ -112,40 +180,10 @@ fn put_asked(what: Asked, into: &mut Vec<u8>) -> Result<(), NoMemory>
     ensures err { OnErr result (Keeps into.old.items into.new.items) }
 {
     match what {
-        Asked::Split { a, b } => put_spaced(
-            &[
-                Field::Text(b"split"),
-                Field::Number(u64::from(a.0)),
-                Field::Number(u64::from(b.0)),
-            ],
-            into,
-        ),
-        Asked::Flip { a, b } => put_spaced(
-            &[
-                Field::Text(b"flip"),
-                Field::Number(u64::from(a.0)),
-                Field::Number(u64::from(b.0)),
-            ],
-            into,
-        ),
-        Asked::Collapse { a, b } => put_spaced(
-            &[
-                Field::Text(b"collapse"),
-                Field::Number(u64::from(a.0)),
-                Field::Number(u64::from(b.0)),
-            ],
-            into,
-        ),
-        Asked::Zip { a, b, e, f } => put_spaced(
-            &[
-                Field::Text(b"zip"),
-                Field::Number(u64::from(a.0)),
-                Field::Number(u64::from(b.0)),
-                Field::Number(u64::from(e.0)),
-                Field::Number(u64::from(f.0)),
-            ],
-            into,
-        ),
+        Asked::Split { a, b } => put_edge(b"split", a, b, into),
+        Asked::Flip { a, b } => put_edge(b"flip", a, b, into),
+        Asked::Collapse { a, b } => put_edge(b"collapse", a, b, into),
+        Asked::Zip { a, b, e, f } => put_zip(a, b, e, f, into),
         Asked::Pinch { v } => put_spaced(
             &[Field::Text(b"pinch"), Field::Number(u64::from(v.0))],
             into,
@@ -153,30 +191,40 @@ fn put_asked(what: Asked, into: &mut Vec<u8>) -> Result<(), NoMemory>
     }
 }
 
+// Appends that a pair meets, each word with a space in front.
+fn put_hit(pair: PairName, into: &mut Vec<u8>) -> Result<(), NoMemory>
+    ensures ok { let why = Why.Hit pair in
+        Appends result into.old into.new (spec.spaced (spec.reason_words why)) }
+    ensures err { OnErr result (Keeps into.old.items into.new.items) }
+{
+    put_spaced(
+        &[
+            Field::Text(b"hit"),
+            Field::Number(u64::from(pair.a.0)),
+            Field::Number(u64::from(pair.b.0)),
+            Field::Number(u64::from(pair.face.0)),
+        ],
+        into,
+    )
+}
+
 // Appends why an edit isn't done, each word with a space in front.
 fn put_reason(why: Why, into: &mut Vec<u8>) -> Result<(), NoMemory>
     ensures ok { Appends result into.old into.new (spec.spaced (spec.reason_words why)) }
     ensures err { OnErr result (Keeps into.old.items into.new.items) }
 {
-    match why {
-        Why::NoEdge => put_spaced(&[Field::Text(b"noedge")], into),
-        Why::Crowded => put_spaced(&[Field::Text(b"crowded")], into),
-        Why::Edge => put_spaced(&[Field::Text(b"edge")], into),
-        Why::Shared => put_spaced(&[Field::Text(b"shared")], into),
-        Why::Full => put_spaced(&[Field::Text(b"full")], into),
-        Why::Doubled => put_spaced(&[Field::Text(b"doubled")], into),
-        Why::OneFan => put_spaced(&[Field::Text(b"onefan")], into),
-        Why::Hit(pair) => put_spaced(
-            &[
-                Field::Text(b"hit"),
-                Field::Number(u64::from(pair.a.0)),
-                Field::Number(u64::from(pair.b.0)),
-                Field::Number(u64::from(pair.face.0)),
-            ],
-            into,
-        ),
-        Why::Solid => put_spaced(&[Field::Text(b"solid")], into),
-    }
+    let word: &[u8] = match why {
+        Why::NoEdge => b"noedge",
+        Why::Crowded => b"crowded",
+        Why::Edge => b"edge",
+        Why::Shared => b"shared",
+        Why::Full => b"full",
+        Why::Doubled => b"doubled",
+        Why::OneFan => b"onefan",
+        Why::Hit(pair) => return put_hit(pair, into),
+        Why::Solid => b"solid",
+    };
+    put_spaced(&[Field::Text(word)], into)
 }
 
 // Appends what was asked and why it isn't done, each word with a space in front.

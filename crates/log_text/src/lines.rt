@@ -8,7 +8,7 @@ use crate::edit_lines::edit;
 use crate::listed::{block, pinch};
 use crate::log_line::LogLine;
 use crate::refusals::refused;
-use crate::values::{alone, count_at, pair_at, shift_of_at};
+use crate::values::{alone, count_at, only_count, only_pair, shift_of_at};
 use crate::{COUNT_MAX, PASSES_MAX, ROUNDS_MAX, VERSION};
 use grid_base::{FACES_MAX, HALVINGS_MAX, ID_MAX, VERTICES_MAX};
 use line_text::{Parts, ReadFault, TextFault, TextWhy, count_with_end, is_word};
@@ -24,8 +24,7 @@ fn first(version: u8, ended: bool, words: Parts<'_>) -> Result<LogLine, TextWhy>
         return Err(TextWhy::Short);
     };
     if is_word(name, b"log") {
-        count_with_end(ended, 1, words)?;
-        let version = count_at(&mut words, u32::from(version), u32::from(version))?;
+        let version = only_count(ended, u32::from(version), u32::from(version), words)?;
         return Ok(LogLine::First {
             version: version as u8,
         });
@@ -49,9 +48,7 @@ fn mesh(ended: bool, words: Parts<'_>) -> Result<LogLine, TextWhy>
 fn step(ended: bool, words: Parts<'_>) -> Result<LogLine, TextWhy>
     ensures { result ≡ spec.step_of ended (parts_left words.entry) }
 {
-    let mut words = words;
-    count_with_end(ended, 1, words)?;
-    let k = count_at(&mut words, 1, COUNT_MAX)?;
+    let k = only_count(ended, 1, COUNT_MAX, words)?;
     Ok(LogLine::Step { k })
 }
 
@@ -59,9 +56,7 @@ fn step(ended: bool, words: Parts<'_>) -> Result<LogLine, TextWhy>
 fn hit(ended: bool, words: Parts<'_>) -> Result<LogLine, TextWhy>
     ensures { result ≡ spec.hit_of ended (parts_left words.entry) }
 {
-    let mut words = words;
-    count_with_end(ended, 3, words)?;
-    let pair = pair_at(&mut words)?;
+    let pair = only_pair(ended, words)?;
     Ok(LogLine::Hit(pair))
 }
 
@@ -87,18 +82,15 @@ fn moved(ended: bool, words: Parts<'_>) -> Result<LogLine, TextWhy>
         return alone(ended, LogLine::Moved(How::Whole), words);
     }
     if is_word(how, b"impulse") {
-        count_with_end(ended, 1, words)?;
-        let n = count_at(&mut words, 1, u32::from(PASSES_MAX))?;
+        let n = only_count(ended, 1, u32::from(PASSES_MAX), words)?;
         return Ok(LogLine::Moved(How::Impulse { passes: n as u8 }));
     }
     if is_word(how, b"zones") {
-        count_with_end(ended, 1, words)?;
-        let rounds = count_at(&mut words, 1, ROUNDS_MAX)?;
+        let rounds = only_count(ended, 1, ROUNDS_MAX, words)?;
         return Ok(LogLine::Moved(How::Zones { rounds }));
     }
     if is_word(how, b"halved") {
-        count_with_end(ended, 1, words)?;
-        let n = count_at(&mut words, 1, u32::from(HALVINGS_MAX))?;
+        let n = only_count(ended, 1, u32::from(HALVINGS_MAX), words)?;
         return Ok(LogLine::Moved(How::Halved { times: n as u8 }));
     }
     if is_word(how, b"zero") {
@@ -111,9 +103,7 @@ fn moved(ended: bool, words: Parts<'_>) -> Result<LogLine, TextWhy>
 fn solid(ended: bool, words: Parts<'_>) -> Result<LogLine, TextWhy>
     ensures { result ≡ spec.solid_of ended (parts_left words.entry) }
 {
-    let mut words = words;
-    count_with_end(ended, 1, words)?;
-    let v = count_at(&mut words, 1, ID_MAX)?;
+    let v = only_count(ended, 1, ID_MAX, words)?;
     Ok(LogLine::Solid { v: VertexId(v) })
 }
 

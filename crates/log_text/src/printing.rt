@@ -1,4 +1,5 @@
-ghost use Rattle.std.specs.Prelude.{◌≡◌, OnErr};
+ghost use Rattle.std.specs.Prelude.{◌≡◌, ◌∷◌, ◌++◌, [], codes, decimal, OnErr};
+ghost use Rattle.std.specs.List.{join_with_byte};
 ghost use Rattle.line_text.specs.WrittenLines.{Keeps, Appends};
 ghost use Rattle.mesh_base.specs.declared.UseWhy.TheVariants.{NoField};
 ghost use Rattle.log_text.specs.Lines as spec;
@@ -126,34 +127,31 @@ fn print_moved(how: How, into: &mut Vec<u8>) -> Result<(), NoMemory>
     ensures err { OnErr result (Keeps into.old.items into.new.items) }
 {
     let moved = Field::Text(b"moved");
-    match how {
-        How::Whole => put_words(&[moved, Field::Text(b"whole")], into),
-        How::Impulse { passes } => put_words(
-            &[
-                moved,
-                Field::Text(b"impulse"),
-                Field::Number(u64::from(passes)),
-            ],
-            into,
-        ),
-        How::Zones { rounds } => put_words(
-            &[
-                moved,
-                Field::Text(b"zones"),
-                Field::Number(u64::from(rounds)),
-            ],
-            into,
-        ),
-        How::Halved { times } => put_words(
-            &[
-                moved,
-                Field::Text(b"halved"),
-                Field::Number(u64::from(times)),
-            ],
-            into,
-        ),
-        How::Zero => put_words(&[moved, Field::Text(b"zero")], into),
-    }
+    let (word, n) = match how {
+        How::Impulse { passes } => (Field::Text(b"impulse"), u32::from(passes)),
+        How::Zones { rounds } => (Field::Text(b"zones"), rounds),
+        How::Halved { times } => (Field::Text(b"halved"), u32::from(times)),
+        How::Whole => return put_words(&[moved, Field::Text(b"whole")], into),
+        How::Zero => return put_words(&[moved, Field::Text(b"zero")], into),
+    };
+    put_words(&[moved, word, Field::Number(u64::from(n))], into)
+}
+
+// Appends the line that refuses a mesh file by one number.
+fn print_shape_by_one(word: &[u8], n: u64, into: &mut Vec<u8>) -> Result<(), NoMemory>
+    ensures ok { let words = codes "refused" ∷ codes "shape" ∷ word.now ∷ decimal n ∷ [] in
+        Appends result into.old into.new (join_with_byte 32 words ++ 10 ∷ []) }
+    ensures err { OnErr result (Keeps into.old.items into.new.items) }
+{
+    put_words(
+        &[
+            Field::Text(b"refused"),
+            Field::Text(b"shape"),
+            Field::Text(word),
+            Field::Number(n),
+        ],
+        into,
+    )
 }
 
 // Appends the line that refuses the points and faces of a mesh file.
@@ -161,62 +159,28 @@ fn print_shape(fault: ShapeFault, into: &mut Vec<u8>) -> Result<(), NoMemory>
     ensures ok { Appends result into.old into.new (spec.refused_text (Refusal.Shape fault)) }
     ensures err { OnErr result (Keeps into.old.items into.new.items) }
 {
-    let refused = Field::Text(b"refused");
-    let shape = Field::Text(b"shape");
-    match fault {
-        ShapeFault::TooManyVertices { count } => put_words(
-            &[
-                refused,
-                shape,
-                Field::Text(b"vertices"),
-                Field::Number(count),
-            ],
-            into,
-        ),
-        ShapeFault::TooManyFaces { count } => put_words(
-            &[refused, shape, Field::Text(b"faces"), Field::Number(count)],
-            into,
-        ),
-        ShapeFault::NoVertex { face, corner } => put_words(
-            &[
-                refused,
-                shape,
-                Field::Text(b"corner"),
-                Field::Number(u64::from(face)),
-                Field::Number(u64::from(corner)),
-            ],
-            into,
-        ),
-        ShapeFault::Repeated { face } => put_words(
-            &[
-                refused,
-                shape,
-                Field::Text(b"repeated"),
-                Field::Number(u64::from(face)),
-            ],
-            into,
-        ),
-        ShapeFault::Doubled { first, second } => put_words(
-            &[
-                refused,
-                shape,
-                Field::Text(b"doubled"),
-                Field::Number(u64::from(first)),
-                Field::Number(u64::from(second)),
-            ],
-            into,
-        ),
-        ShapeFault::Unbalanced { from, to } => put_words(
-            &[
-                refused,
-                shape,
-                Field::Text(b"unbalanced"),
-                Field::Number(u64::from(from)),
-                Field::Number(u64::from(to)),
-            ],
-            into,
-        ),
-    }
+    let (word, first, second) = match fault {
+        ShapeFault::TooManyVertices { count } => {
+            return print_shape_by_one(b"vertices", count, into);
+        }
+        ShapeFault::TooManyFaces { count } => return print_shape_by_one(b"faces", count, into),
+        ShapeFault::Repeated { face } => {
+            return print_shape_by_one(b"repeated", u64::from(face), into);
+        }
+        ShapeFault::NoVertex { face, corner } => (Field::Text(b"corner"), face, u32::from(corner)),
+        ShapeFault::Doubled { first, second } => (Field::Text(b"doubled"), first, second),
+        ShapeFault::Unbalanced { from, to } => (Field::Text(b"unbalanced"), from, to),
+    };
+    put_words(
+        &[
+            Field::Text(b"refused"),
+            Field::Text(b"shape"),
+            word,
+            Field::Number(u64::from(first)),
+            Field::Number(u64::from(second)),
+        ],
+        into,
+    )
 }
 
 // Appends the line that refuses a directive which names no field.
@@ -259,6 +223,41 @@ fn print_use(at: u32, why: UseWhy, into: &mut Vec<u8>) -> Result<(), NoMemory>
     )
 }
 
+// Appends the line that refuses a file for one of its lines.
+fn print_fault(file: FileWord, fault: TextFault, into: &mut Vec<u8>) -> Result<(), NoMemory>
+    ensures ok { let words = codes "refused" ∷ spec.file_word file ∷ decimal fault.line
+        ∷ spec.why_word fault.why ∷ [] in
+        Appends result into.old into.new (join_with_byte 32 words ++ 10 ∷ []) }
+    ensures err { OnErr result (Keeps into.old.items into.new.items) }
+{
+    put_words(
+        &[
+            Field::Text(b"refused"),
+            Field::Text(file_word(file)),
+            Field::Number(u64::from(fault.line)),
+            Field::Text(why_word(fault.why)),
+        ],
+        into,
+    )
+}
+
+// Appends the line that refuses a mesh which isn't clear.
+fn print_meets(pair: PairName, into: &mut Vec<u8>) -> Result<(), NoMemory>
+    ensures ok { Appends result into.old into.new (spec.refused_text (Refusal.Meets pair)) }
+    ensures err { OnErr result (Keeps into.old.items into.new.items) }
+{
+    put_words(
+        &[
+            Field::Text(b"refused"),
+            Field::Text(b"meets"),
+            Field::Number(u64::from(pair.a.0)),
+            Field::Number(u64::from(pair.b.0)),
+            Field::Number(u64::from(pair.face.0)),
+        ],
+        into,
+    )
+}
+
 fn print_refused(why: Refusal, into: &mut Vec<u8>) -> Result<(), NoMemory>
     ensures ok { Appends result into.old into.new (spec.text_of_line (LogLine.Refused why)) }
     ensures err { OnErr result (Keeps into.old.items into.new.items) }
@@ -282,35 +281,10 @@ fn print_refused(why: Refusal, into: &mut Vec<u8>) -> Result<(), NoMemory>
             ],
             into,
         ),
-        Refusal::Mesh(TextFault { line, why }) => put_words(
-            &[
-                refused,
-                Field::Text(b"mesh"),
-                Field::Number(u64::from(line)),
-                Field::Text(why_word(why)),
-            ],
-            into,
-        ),
+        Refusal::Mesh(fault) => print_fault(FileWord::Mesh, fault, into),
         Refusal::Shape(fault) => print_shape(fault, into),
-        Refusal::Meets(pair) => put_words(
-            &[
-                refused,
-                Field::Text(b"meets"),
-                Field::Number(u64::from(pair.a.0)),
-                Field::Number(u64::from(pair.b.0)),
-                Field::Number(u64::from(pair.face.0)),
-            ],
-            into,
-        ),
-        Refusal::Steps(TextFault { line, why }) => put_words(
-            &[
-                refused,
-                Field::Text(b"steps"),
-                Field::Number(u64::from(line)),
-                Field::Text(why_word(why)),
-            ],
-            into,
-        ),
+        Refusal::Meets(pair) => print_meets(pair, into),
+        Refusal::Steps(fault) => print_fault(FileWord::Steps, fault, into),
         Refusal::StepUse { line, why } => print_use(line, why, into),
     }
 }

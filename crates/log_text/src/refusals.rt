@@ -1,14 +1,27 @@
 ghost use Rattle.std.specs.Prelude.{◌≡◌, ◌≤◌, IfOk};
 ghost use Rattle.line_text.specs.Remaining.{parts_left};
-ghost use Rattle.log_text.specs.declared.TheConstants.{COUNT_MAX};
+ghost use Rattle.line_text.specs.Spellings as spelling;
+ghost use Rattle.log_text.specs.Values.{whole};
 ghost use Rattle.log_text.specs.Reading as spec;
 
 use crate::log_line::{LogLine, Refusal};
-use crate::values::{alone, count_at, fault_at, file_of, number_of, pair_at};
+use crate::values::{
+    alone, count_at, file_of, number_of, only_count, only_fault, only_pair, two_counts,
+};
 use crate::{CORNER_MAX, COUNT_MAX, SEEN_MAX, VERSION};
 use grid_base::ID_MAX;
 use line_text::{Parts, TextWhy, count_with_end, is_word, spelled_at};
 use mesh_base::{ShapeFault, UseWhy};
+
+// The one further word, how much was seen.
+fn only_seen(ended: bool, words: Parts<'_>) -> Result<u64, TextWhy>
+    ensures { let read = spelling.spelled_at 0 SEEN_MAX in
+        result ≡ whole ended 1 read (parts_left words.entry) }
+{
+    let mut words = words;
+    count_with_end(ended, 1, words)?;
+    spelled_at(&mut words, 0, SEEN_MAX)
+}
 
 #[tactic(auto, unfolding(crate::specs::Reading::long_of))]
 fn long(ended: bool, words: Parts<'_>) -> Result<LogLine, TextWhy>
@@ -21,8 +34,7 @@ fn long(ended: bool, words: Parts<'_>) -> Result<LogLine, TextWhy>
     match file_of(word) {
         None => Err(TextWhy::Unknown),
         Some(file) => {
-            count_with_end(ended, 1, words)?;
-            let seen = spelled_at(&mut words, 0, SEEN_MAX)?;
+            let seen = only_seen(ended, words)?;
             Ok(LogLine::Refused(Refusal::Long { file, seen }))
         }
     }
@@ -51,36 +63,28 @@ fn shape(ended: bool, words: Parts<'_>) -> Result<LogLine, TextWhy>
         return Err(TextWhy::Short);
     };
     if is_word(word, b"vertices") {
-        count_with_end(ended, 1, words)?;
-        let count = spelled_at(&mut words, 0, SEEN_MAX)?;
+        let count = only_seen(ended, words)?;
         return Ok(LogLine::Refused(Refusal::Shape(ShapeFault::TooManyVertices { count })));
     }
     if is_word(word, b"faces") {
-        count_with_end(ended, 1, words)?;
-        let count = spelled_at(&mut words, 0, SEEN_MAX)?;
+        let count = only_seen(ended, words)?;
         return Ok(LogLine::Refused(Refusal::Shape(ShapeFault::TooManyFaces { count })));
     }
     if is_word(word, b"corner") {
-        count_with_end(ended, 2, words)?;
-        let face = count_at(&mut words, 1, COUNT_MAX)?;
-        let corner = count_at(&mut words, 1, u32::from(CORNER_MAX))? as u8;
+        let (face, n) = two_counts(ended, u32::from(CORNER_MAX), words)?;
+        let corner = n as u8;
         return Ok(LogLine::Refused(Refusal::Shape(ShapeFault::NoVertex { face, corner })));
     }
     if is_word(word, b"repeated") {
-        count_with_end(ended, 1, words)?;
-        let face = count_at(&mut words, 1, COUNT_MAX)?;
+        let face = only_count(ended, 1, COUNT_MAX, words)?;
         return Ok(LogLine::Refused(Refusal::Shape(ShapeFault::Repeated { face })));
     }
     if is_word(word, b"doubled") {
-        count_with_end(ended, 2, words)?;
-        let first = count_at(&mut words, 1, COUNT_MAX)?;
-        let second = count_at(&mut words, 1, COUNT_MAX)?;
+        let (first, second) = two_counts(ended, COUNT_MAX, words)?;
         return Ok(LogLine::Refused(Refusal::Shape(ShapeFault::Doubled { first, second })));
     }
     if is_word(word, b"unbalanced") {
-        count_with_end(ended, 2, words)?;
-        let from = count_at(&mut words, 1, COUNT_MAX)?;
-        let to = count_at(&mut words, 1, COUNT_MAX)?;
+        let (from, to) = two_counts(ended, COUNT_MAX, words)?;
         return Ok(LogLine::Refused(Refusal::Shape(ShapeFault::Unbalanced { from, to })));
     }
     Err(TextWhy::Unknown)
@@ -107,17 +111,17 @@ fn use_line(ended: bool, at: &[u8], words: Parts<'_>) -> Result<u32, TextWhy>
     number_of(at, 1, COUNT_MAX)
 }
 
-#[tactic(auto, unfolding(crate::specs::Reading::use_of))]
-fn directive_use(version: u8, ended: bool, words: Parts<'_>) -> Result<LogLine, TextWhy>
-    ensures { result ≡ spec.use_of version ended (parts_left words.entry) }
+// The refusal of a directive, by the number of its line, the reason and the words behind that.
+#[tactic(auto, unfolding(crate::specs::Reading::why_of_use))]
+fn why_of_use(
+    version: u8,
+    ended: bool,
+    at: &[u8],
+    word: &[u8],
+    words: Parts<'_>,
+) -> Result<LogLine, TextWhy>
+    ensures { result ≡ spec.why_of_use version ended at.now word.now (parts_left words.entry) }
 {
-    let mut words = words;
-    let Some(at) = words.next() else {
-        return Err(TextWhy::Short);
-    };
-    let Some(word) = words.next() else {
-        return Err(TextWhy::Short);
-    };
     if is_word(word, b"vertex") {
         let (line, v) = use_numbers(ended, at, words)?;
         let why = UseWhy::NoVertex { v };
@@ -149,6 +153,20 @@ fn directive_use(version: u8, ended: bool, words: Parts<'_>) -> Result<LogLine, 
     Err(TextWhy::Short)
 }
 
+#[tactic(auto, unfolding(crate::specs::Reading::use_of))]
+fn directive_use(version: u8, ended: bool, words: Parts<'_>) -> Result<LogLine, TextWhy>
+    ensures { result ≡ spec.use_of version ended (parts_left words.entry) }
+{
+    let mut words = words;
+    let Some(at) = words.next() else {
+        return Err(TextWhy::Short);
+    };
+    let Some(word) = words.next() else {
+        return Err(TextWhy::Short);
+    };
+    why_of_use(version, ended, at, word, words)
+}
+
 #[tactic(auto, unfolding(crate::specs::Reading::refused_of))]
 pub(crate) fn refused(version: u8, ended: bool, words: Parts<'_>) -> Result<LogLine, TextWhy>
     ensures { result ≡ spec.refused_of version ended (parts_left words.entry) }
@@ -164,21 +182,18 @@ pub(crate) fn refused(version: u8, ended: bool, words: Parts<'_>) -> Result<LogL
         return missing(ended, words);
     }
     if is_word(word, b"mesh") {
-        count_with_end(ended, 2, words)?;
-        let fault = fault_at(false, &mut words)?;
+        let fault = only_fault(false, ended, words)?;
         return Ok(LogLine::Refused(Refusal::Mesh(fault)));
     }
     if is_word(word, b"shape") {
         return shape(ended, words);
     }
     if is_word(word, b"meets") {
-        count_with_end(ended, 3, words)?;
-        let pair = pair_at(&mut words)?;
+        let pair = only_pair(ended, words)?;
         return Ok(LogLine::Refused(Refusal::Meets(pair)));
     }
     if is_word(word, b"steps") {
-        count_with_end(ended, 2, words)?;
-        let fault = fault_at(version == VERSION, &mut words)?;
+        let fault = only_fault(version == VERSION, ended, words)?;
         return Ok(LogLine::Refused(Refusal::Steps(fault)));
     }
     if is_word(word, b"use") {

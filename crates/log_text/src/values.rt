@@ -3,6 +3,7 @@ ghost use Rattle.line_text.specs.Fields.{TakesParts};
 ghost use Rattle.line_text.specs.Remaining.{parts_left};
 ghost use Rattle.line_text.specs.Spellings as spelling;
 ghost use Rattle.log_text.specs.Reading as reading;
+ghost use Rattle.log_text.specs.Fields.{both};
 ghost use Rattle.log_text.specs.Values as spec;
 
 use crate::COUNT_MAX;
@@ -106,12 +107,55 @@ fn why_at(groups: bool, words: &mut Parts<'_>) -> Result<TextWhy, TextWhy>
 }
 
 #[tactic(auto, unfolding(crate::specs::Values::fault_at))]
-pub(crate) fn fault_at(groups: bool, words: &mut Parts<'_>) -> Result<TextFault, TextWhy>
+fn fault_at(groups: bool, words: &mut Parts<'_>) -> Result<TextFault, TextWhy>
     ensures { TakesParts words.old words.new result (spec.fault_at groups) }
 {
     let line = count_at(words, 1, COUNT_MAX)?;
     let why = why_at(groups, words)?;
     Ok(TextFault { line, why })
+}
+
+// The one further word, a number from low to high.
+pub(crate) fn only_count(ended: bool, low: u32, high: u32, words: Parts<'_>) -> Result<u32, TextWhy>
+    ensures value { let read = spelling.spelled_at low high in
+        result ≡ spec.whole ended 1 read (parts_left words.entry) }
+    ensures above { IfOk result (λ n. low ≤ n) }
+    ensures below { IfOk result (λ n. n ≤ high) }
+{
+    let mut words = words;
+    count_with_end(ended, 1, words)?;
+    count_at(&mut words, low, high)
+}
+
+// The two further words, numbers from 1.
+pub(crate) fn two_counts(ended: bool, high: u32, words: Parts<'_>) -> Result<(u32, u32), TextWhy>
+    ensures value { let read = both (spelling.spelled_at 1 COUNT_MAX) (spelling.spelled_at 1 high) in
+        result ≡ spec.whole ended 2 read (parts_left words.entry) }
+    ensures below { IfOk result (λ n. n.1 ≤ high) }
+{
+    let mut words = words;
+    count_with_end(ended, 2, words)?;
+    let first = count_at(&mut words, 1, COUNT_MAX)?;
+    let second = count_at(&mut words, 1, high)?;
+    Ok((first, second))
+}
+
+// The three further words, a pair.
+pub(crate) fn only_pair(ended: bool, words: Parts<'_>) -> Result<PairName, TextWhy>
+    ensures { result ≡ spec.whole ended 3 spec.pair_at (parts_left words.entry) }
+{
+    let mut words = words;
+    count_with_end(ended, 3, words)?;
+    pair_at(&mut words)
+}
+
+// The two further words, the number of a line and the reason why it can't be read.
+pub(crate) fn only_fault(groups: bool, ended: bool, words: Parts<'_>) -> Result<TextFault, TextWhy>
+    ensures { result ≡ spec.whole ended 2 (spec.fault_at groups) (parts_left words.entry) }
+{
+    let mut words = words;
+    count_with_end(ended, 2, words)?;
+    fault_at(groups, &mut words)
 }
 
 pub(crate) fn alone(ended: bool, line: LogLine, words: Parts<'_>) -> Result<LogLine, TextWhy>

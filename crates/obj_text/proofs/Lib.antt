@@ -1,6 +1,7 @@
 pub mod Cuts
 pub mod Fans
 pub mod Ranks
+pub mod LinesOfItems
 pub mod Lookups
 pub mod RankBounds
 pub mod Again

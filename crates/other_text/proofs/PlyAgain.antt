@@ -1,16 +1,15 @@
 -- Lists of good shape that are written as PLY are read again.
-use Rattle.std.proofs.Common.{◌≡◌, ℕ, ◌+◌, ◌-◌, ◌^◌, ◌<◌, ◌≤◌, Bool, true, false, eqb, List, [], ◌∷◌, ◌++◌, length, map, None, Ok, refl, sym, ap, ◌∙◌, arith, append_assoc, Some}
+use Rattle.std.proofs.Common.{◌≡◌, ℕ, ◌-◌, ◌^◌, ◌<◌, ◌≤◌, Bool, true, false, eqb, List, [], ◌∷◌, ◌++◌, length, map, None, Ok, refl, ap, ◌∙◌, arith, Some}
 use Rattle.std.specs.Prelude.{codes, decimal}
 use Rattle.std.specs.List.{AllByRecursion, flat_map}
 use Rattle.std.proofs.lemmas.Bool.{ne_eqb}
-use Rattle.std.proofs.lemmas.List.{append-nil, length-map}
+use Rattle.std.proofs.lemmas.List.{length-map}
 use Rattle.std.proofs.lemmas.List.Folds.{flat_map-map}
 use Rattle.grid_base.specs.declared.TheConstants.{VERTICES_MAX, FACES_MAX, DECIMALS_MAX}
 use Rattle.grid_base.specs.declared.Point.{Point}
 use Rattle.grid_base.specs.Points.{position_of}
-use Rattle.mesh_base.specs.Changes as changes
-use Rattle.mesh_plain.specs.Shape.{shape_fault, fault_but_balance, no_vertex_from, bad_corner}
-use Rattle.mesh_plain.proofs.Lists.{none_of, none_mapped, few, all_vertices, between, no_fault_but_balance}
+use Rattle.mesh_plain.specs.Shape.{shape_fault, fault_but_balance}
+use Rattle.mesh_plain.proofs.Lists.{none_of, few, no_fault_but_balance}
 use Rattle.line_text.specs.Texts.{numbered_lines}
 use Rattle.line_text.specs.Numbers.{fixed_text}
 use Rattle.line_text.specs.Fields.{count_is}

@@ -21,3 +21,9 @@ returns-in-Err-DeskFault g c =
     record {
       headline = fault_ends (mesh_name c.args.from) (mesh_name c.args.to) c.args.decimals (g.D.Desk.files c.args.desk.now) (g.D.Desk.files c.find.new.desk) c.in-Err-DeskFault.ensures.kept (g.D.Desk.faults c.args.desk.now) (g.D.Desk.faults c.find.new.desk) c.in-Err-DeskFault.ensures.later (g.K.Sink.written c.args.out.now) (g.K.Sink.faults c.args.out.now) (c.in-Err-DeskFault.ensures.cause (ap Err c.in-Err-DeskFault.field-0-is));
     }
+
+pub returns-in-Ok-Lists : goal.returns-in-Ok-Lists
+returns-in-Ok-Lists g c =
+    record {
+      headline = found_ends (mesh_name c.args.from) (mesh_name c.args.to) c.args.decimals (g.D.Desk.files c.args.desk.now) (g.D.Desk.files c.find.new.desk) c.in-Ok-Lists.ensures.kept (g.D.Desk.faults c.args.desk.now) (g.D.Desk.faults c.find.new.desk) c.in-Ok-Lists.ensures.later (g.K.Sink.written c.args.out.now) (g.K.Sink.faults c.args.out.now) c.in-Ok-Lists.field-0 (found.Lists c.in-Ok-Lists.lists) c.in-Ok-Lists.field-0-is c.in-Ok-Lists.ensures.finds _ _ _ _ c.store_and_tell.result c.store_and_tell.ensures.ends c.store_and_tell.ensures.causes;
+    }
