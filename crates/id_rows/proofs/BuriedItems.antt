@@ -1,6 +1,7 @@
 -- What is buried, after changes of the list: the laws of what is held, of the items with the two exchanged.
-use Rattle.std.proofs.Common.{◌≡◌, ℕ, zero, suc, ◌+◌, ◌≤◌, ◌==◌, ◌||◌, Bool, true, false, cond, List, [], ◌∷◌, Option, Some, None, Result, Ok, Err, is_some, map, set, slice_get, option_map, refl, sym, ap, ◌∙◌, arith}
-use Rattle.std.proofs.lemmas.List.{map-set}
+use Rattle.std.proofs.Common.{◌≡◌, ℕ, zero, suc, ◌+◌, ◌<◌, ◌≤◌, ◌==◌, ◌||◌, Bool, true, false, cond, List, [], ◌∷◌, Option, Some, None, Result, Ok, Err, is_some, length, map, drop, set, get_or, slice_get, option_map, refl, sym, ap, ◌∙◌, arith}
+use Rattle.std.proofs.lemmas.List.{map-set, drop-map, length-map}
+use Rattle.std.proofs.Math.ListN.{get_or-map}
 use Rattle.std.proofs.lemmas.Bool.Decides.{nat_tests}
 use Rattle.std.specs.List.{filter, insert}
 use Rattle.std.specs.Ordering.{nat_cmp}
@@ -11,7 +12,7 @@ use Rattle.std.specs.Cmp.{nat_cmp_total, unsigned_tied}
 use Rattle.id_rows.specs.declared.rows.Item.{Item}
 use Rattle.id_rows.specs.Stones.{held_of, buried_of, swapped, is_held, is_left, RiseFrom, IsLower, IsFound, find_id}
 use Rattle.id_rows.specs.Stock.{Stock}
-use Rattle.id_rows.proofs.StoneLaws.{view_of, get-view, find-set, find-at, find-put_at, put_at, got_none, view-insert, view-remove}
+use Rattle.id_rows.proofs.StoneLaws.{first_id, first_here, first_later, view_of, get-view, find-set, find-at, find-put_at, put_at, got_none, view-insert, view-remove}
 
 pub stock_same : {T : Type 0} (a b : FinMap nat_cmp T) (c d : FinMap nat_cmp T) (m n : ℕ) → a ≡ b → c ≡ d → m ≡ n → ◌≡◌ {A = Stock T} (record { live = a; buried = c; room = m }) (record { live = b; buried = d; room = n })
 stock_same a b c d m n p q r = λ i. record { live = p i; buried = q i; room = r i }
@@ -49,6 +50,22 @@ module _ {T : Type 0} where
   pub found_swapped : (xs : List (Item T)) (id : ℕ) (r : Result ℕ ℕ) → IsFound xs id r → IsFound (map swapped xs) id r
   found_swapped xs id (Ok n) f = (swapped f.0, at_swapped xs n f.0 f.1, f.2)
   found_swapped xs id (Err n) f = (lower_swapped id n xs f.0, none_swapped id n xs f.1)
+
+  read_swapped : (xs : List (Item T)) (i : ℕ) (e : Item T) → get_or (map swapped xs) i (swapped e) ≡ swapped (get_or xs i e)
+  read_swapped xs i e = get_or-map swapped xs i e
+
+  -- the first id from a place on of which something is buried
+  pub first_buried_here : (xs : List (Item T)) (i : ℕ) (a b : Item T) → i < length xs → is_some (get_or xs i a).buried ≡ true → first_id (map swapped (drop i xs)) ≡ Some (get_or xs i b).id
+  first_buried_here xs i a b h buried =
+      ap first_id (sym (drop-map swapped i xs))
+      ∙ first_here (map swapped xs) i (swapped a) (swapped b) (omega (arith, length-map xs swapped)) (ap (λ e. is_some e.held) (read_swapped xs i a) ∙ buried)
+      ∙ ap (λ e. Some e.id) (read_swapped xs i b)
+
+  pub first_buried_later : (xs : List (Item T)) (i : ℕ) (a : Item T) → i < length xs → is_some (get_or xs i a).buried ≡ false → first_id (map swapped (drop (i + 1) xs)) ≡ first_id (map swapped (drop i xs))
+  first_buried_later xs i a h none =
+      ap first_id (sym (drop-map swapped (i + 1) xs))
+      ∙ first_later (map swapped xs) i (swapped a) (omega (arith, length-map xs swapped)) (ap (λ e. is_some e.held) (read_swapped xs i a) ∙ none)
+      ∙ ap first_id (drop-map swapped i xs)
 
   insert_swapped : (xs : List (Item T)) (n : ℕ) (f : Item T) → map swapped (insert xs n f) ≡ insert (map swapped xs) n (swapped f)
   insert_swapped [] zero f = refl

@@ -1,6 +1,7 @@
 -- Lists of ids that rise, after changes.
-use Rattle.std.proofs.Common.{◌≡◌, ℕ, zero, suc, ◌+◌, ◌-◌, ◌<◌, ◌≤◌, ◌==◌, Bool, true, false, cond, T as IsT, List, [], ◌∷◌, Option, Some, None, Ok, Err, is_some, length, drop, set, slice_get, nat_lt, refl, sym, ap, subst, ◌∙◌, arith, ◌&&◌}
+use Rattle.std.proofs.Common.{◌≡◌, ℕ, zero, suc, ◌+◌, ◌-◌, ◌<◌, ◌≤◌, ◌==◌, ◌≢◌, Bool, true, false, cond, T as IsT, List, [], ◌∷◌, Option, Some, None, Ok, Err, is_some, length, map, drop, set, get_or, slice_get, nat_lt, refl, sym, ap, subst, ◌∙◌, add-one, arith, ◌&&◌}
 use Rattle.std.proofs.lemmas.Bool.Decides.{nat_tests}
+use Rattle.std.proofs.lemmas.Option.{slice_get_within, slice_get_read, slice_get_past}
 use Rattle.std.specs.List.{insert}
 use Rattle.std.specs.Ordering.{nat_cmp, eq_by_cmp, is_lt}
 use Rattle.std.specs.declared.cmp.Ordering.TheVariants.{Less, Equal, Greater}
@@ -199,6 +200,50 @@ module _ {T : Type 0} where
 
   pub get-view : (xs : List (Item T)) (q : ℕ) → finite.get (view_of xs) q ≡ find nat_cmp q (held_of xs)
   get-view xs q = get-from_entries nat_cmp_total (held_of xs) q
+
+  -- the first id of which something is held
+  abbrev pub first_id : List (Item T) → Option ℕ
+  first_id xs = slice_get (map (λ (e : ℕ × T). e.0) (held_of xs)) 0
+
+  -- from a place on: that of the place, where something is held of it, and otherwise one later
+  pub first_here : (xs : List (Item T)) (i : ℕ) (a b : Item T) → i < length xs → is_some (get_or xs i a).held ≡ true → first_id (drop i xs) ≡ Some (get_or xs i b).id
+  first_here [] i a b h held = absurd (omega arith)
+  first_here (x ∷ xs) zero a b h held = by_held x.held held
+    where
+      by_held : (o : Option T) → is_some o ≡ true → slice_get (map (λ (e : ℕ × T). e.0) (elim o [ None ↦ held_of xs | Some y ↦ (x.id, y) ∷ held_of xs ])) 0 ≡ Some x.id
+      by_held (Some y) held = refl
+      by_held None held = absurd cc
+  first_here (x ∷ xs) (suc i) a b h held = first_here xs i a b (omega arith) held
+
+  first_after : (xs : List (Item T)) (i : ℕ) (a : Item T) → i < length xs → is_some (get_or xs i a).held ≡ false → first_id (drop (suc i) xs) ≡ first_id (drop i xs)
+  first_after [] i a h none = absurd (omega arith)
+  first_after (x ∷ xs) zero a h none = by_held x.held none
+    where
+      by_held : (o : Option T) → is_some o ≡ false → first_id xs ≡ slice_get (map (λ (e : ℕ × T). e.0) (elim o [ None ↦ held_of xs | Some y ↦ (x.id, y) ∷ held_of xs ])) 0
+      by_held (Some y) none = absurd cc
+      by_held None none = refl
+  first_after (x ∷ xs) (suc i) a h none = first_after xs i a (omega arith) none
+
+  pub first_later : (xs : List (Item T)) (i : ℕ) (a : Item T) → i < length xs → is_some (get_or xs i a).held ≡ false → first_id (drop (i + 1) xs) ≡ first_id (drop i xs)
+  first_later xs i a h none = ap (λ k. first_id (drop k xs)) (add-one i) ∙ first_after xs i a h none
+
+  -- what is found stands in the list
+  pub found_inside : (xs : List (Item T)) (id i n : ℕ) → IsFound xs id (Ok i) → length xs ≡ n → i < n
+  found_inside xs id i n f len = subst (λ m. i < m) len (slice_get_within xs i f.0 f.1)
+
+  -- an id is found where it is read
+  pub found_at : (xs : List (Item T)) (id i : ℕ) (e : Item T) → i < length xs → e ≡ get_or xs i e → (get_or xs i e).id ≡ id → IsFound xs id (Ok i)
+  found_at xs id i e inside is ids = (e, slice_get_read xs (length xs) i e refl inside is, ap (λ y. y.id) is ∙ ids)
+
+  -- and it belongs where its place is taken by another, or where nothing stands
+  pub belongs_at : (xs : List (Item T)) (id i : ℕ) (e : Item T) → IsLower id i xs → i < length xs → e ≡ get_or xs i e → (get_or xs i e).id ≢ id → IsFound xs id (Err i)
+  belongs_at xs id i e lower inside is others = (lower, ap (find_id id) (slice_get_read xs (length xs) i e refl inside is) ∙ other e.id (λ same. others (ap (λ y. y.id) (sym is) ∙ same)))
+    where
+      other : (n : ℕ) → n ≢ id → (n == id) ≡ false
+      other n h = grind (arith, nat_tests)
+
+  pub belongs_last : (xs : List (Item T)) (id i : ℕ) → IsLower id i xs → length xs ≤ i → IsFound xs id (Err i)
+  belongs_last xs id i lower past = (lower, ap (find_id id) (slice_get_past xs i past))
 
   pub got_at : (xs : List (Item T)) (id i : ℕ) → RiseFrom 0 xs → IsFound xs id (Ok i) → (e : Item T) × (slice_get xs i ≡ Some e) × (finite.get (view_of xs) id ≡ e.held)
   got_at xs id i r f = (f.0, f.1, get-view xs id ∙ ap (λ k. find nat_cmp k (held_of xs)) (sym f.2) ∙ find-at 0 i xs f.0 r f.1)

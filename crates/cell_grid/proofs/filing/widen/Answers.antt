@@ -1,5 +1,3 @@
-use Rattle.std.proofs.Common.{subst, sym}
-use Rattle.cell_grid.specs.Filed.{IsFoundIn}
 use Rattle.cell_grid.proofs.Held.{placed, keeps-set, found-set}
 use Rattle.cell_grid.proofs.filing.widen.Goals as goal
 

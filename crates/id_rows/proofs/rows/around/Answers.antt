@@ -1,7 +1,10 @@
 use Rattle.std.proofs.Common.{◌≡◌, ◌<◌, ◌+◌, Some, length, slice_get, refl, ap, arith}
 use Rattle.std.proofs.lemmas.Option.{slice_get_read}
-use Rattle.id_rows.proofs.StoneLaws.{below_up, over_down}
+use Rattle.id_rows.proofs.StoneLaws.{below_up, over_down, none_past}
 use Rattle.id_rows.proofs.rows.around.Goals as goal
+
+pub downward-requires-clause-over : goal.downward-requires-clause-over
+downward-requires-clause-over g c = none_past c.args.id (length c.args.items.now) c.args.items.now (omega arith)
 
 pub upward-requires-clause-below : goal.upward-requires-clause-below
 upward-requires-clause-below g c =

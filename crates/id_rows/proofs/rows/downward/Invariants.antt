@@ -1,4 +1,4 @@
-use Rattle.std.proofs.Common.{ℕ, ◌≤◌, ◌<◌, length}
+use Rattle.std.proofs.Common.{◌≤◌, ◌<◌, length}
 use Rattle.id_rows.specs.Stones.{AreOver}
 use Rattle.id_rows.proofs.rows.downward.Given as goal
 

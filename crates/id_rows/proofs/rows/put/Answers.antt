@@ -3,11 +3,20 @@ use Rattle.std.proofs.lemmas.Option.{get_or_from_slice_get}
 use Rattle.id_rows.specs.declared.rows.Item.{Item}
 use Rattle.std.specs.Ordering.{nat_cmp}
 use Rattle.std.specs.FinMap.Entries.{find}
-use Rattle.id_rows.specs.Stones.{IsFound, Holds, held_of}
+use Rattle.id_rows.specs.Stones.{IsFound, Holds, held_of, RiseFrom}
 use Rattle.std.specs.List.{insert}
-use Rattle.id_rows.proofs.StoneLaws.{rise_set, find-set, rise_put, find-put_at, lower_inside}
+use Rattle.id_rows.proofs.StoneLaws.{found_inside, rise_set, find-set, rise_put, find-put_at, lower_inside}
 use Rattle.id_rows.proofs.BuriedItems.{buried_stays, buried-put}
 use Rattle.id_rows.proofs.rows.put.Goals as goal
+
+pub find-requires : goal.find-requires
+find-requires g c = subst (RiseFrom 0) (sym c.as_slice.ensures.value) c.requires
+
+pub index-item-requires : goal.index-item-requires
+index-item-requires g c = found_inside _ c.args.id c.in-Ok.at _ c.in-Ok.ensures c.as_slice.ensures.len
+
+pub index_mut-requires : goal.index_mut-requires
+index_mut-requires g c = found_inside _ c.args.id c.in-Ok.at _ c.in-Ok.ensures c.as_slice.ensures.len
 
 pub insert-requires : goal.insert-requires
 insert-requires g c =

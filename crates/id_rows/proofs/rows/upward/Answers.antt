@@ -1,4 +1,4 @@
-use Rattle.std.proofs.Common.{◌≡◌, ◌<◌, ◌+◌, ◌-◌, Some, length, slice_get, refl, ap, arith}
+use Rattle.std.proofs.Common.{◌≡◌, ◌<◌, ◌+◌, Some, length, slice_get, refl, ap, arith}
 use Rattle.std.proofs.lemmas.Option.{slice_get_read}
 use Rattle.id_rows.proofs.StoneLaws.{below_up, over_down, none_past}
 use Rattle.id_rows.proofs.rows.upward.Goals as goal

@@ -4,10 +4,19 @@ use Rattle.std.specs.Ordering.{nat_cmp}
 use Rattle.std.specs.FinMap as finite
 use Rattle.id_rows.specs.declared.rows.Item.{Item}
 use Rattle.id_rows.specs.Stock.{Stock}
-use Rattle.id_rows.specs.Stones.{IsFound, swapped}
-use Rattle.id_rows.proofs.StoneLaws.{rise_set, got_none}
+use Rattle.id_rows.specs.Stones.{IsFound, swapped, RiseFrom}
+use Rattle.id_rows.proofs.StoneLaws.{found_inside, rise_set, got_none}
 use Rattle.id_rows.proofs.BuriedItems.{stock_same, rise_swapped, found_swapped, place_kept, buried_removed, remove_none}
 use Rattle.id_rows.proofs.rows.Rows.discard.Goals as goal
+
+pub find-requires : goal.find-requires
+find-requires g c = subst (RiseFrom 0) (sym c.as_slice.ensures.value) c.self.invariant.rise
+
+pub index-item-requires : goal.index-item-requires
+index-item-requires g c = found_inside _ c.args.id c.in-Ok.at _ c.in-Ok.ensures c.as_slice.ensures.len
+
+pub index_mut-requires : goal.index_mut-requires
+index_mut-requires g c = found_inside _ c.args.id c.in-Ok.at _ c.in-Ok.ensures c.as_slice.ensures.len
 
 pub invariant_of-self : goal.invariant_of-self
 invariant_of-self g c =

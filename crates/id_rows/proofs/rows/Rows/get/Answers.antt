@@ -3,10 +3,16 @@ use Rattle.std.proofs.lemmas.Option.{get_or_from_slice_get}
 use Rattle.std.specs.FinMap as finite
 use Rattle.id_rows.specs.declared.rows.Item.{Item}
 use Rattle.id_rows.specs.Stock.{Stock}
-use Rattle.id_rows.specs.Stones.{IsFound}
-use Rattle.id_rows.proofs.StoneLaws.{got_none}
+use Rattle.id_rows.specs.Stones.{IsFound, RiseFrom}
+use Rattle.id_rows.proofs.StoneLaws.{found_inside, got_none}
 use Rattle.id_rows.proofs.BuriedItems.{live_there}
 use Rattle.id_rows.proofs.rows.Rows.get.Goals as goal
+
+pub find-requires : goal.find-requires
+find-requires g c = subst (RiseFrom 0) (sym c.as_slice.ensures.value) c.self.invariant.rise
+
+pub index-requires : goal.index-requires
+index-requires g c = found_inside _ c.args.id c.in-Ok.at _ c.in-Ok.ensures c.as_slice.ensures.len
 
 pub returns-in-Ok : goal.returns-in-Ok
 returns-in-Ok g c =

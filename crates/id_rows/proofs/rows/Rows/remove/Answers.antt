@@ -4,10 +4,19 @@ use Rattle.std.specs.Ordering.{nat_cmp}
 use Rattle.std.specs.FinMap as finite
 use Rattle.id_rows.specs.declared.rows.Item.{Item}
 use Rattle.id_rows.specs.Stock.{Stock}
-use Rattle.id_rows.specs.Stones.{IsFound}
-use Rattle.id_rows.proofs.StoneLaws.{view_of, rise_set, got_none, len-gone, len-some}
+use Rattle.id_rows.specs.Stones.{IsFound, RiseFrom}
+use Rattle.id_rows.proofs.StoneLaws.{found_inside, view_of, rise_set, got_none, len-gone, len-some}
 use Rattle.id_rows.proofs.BuriedItems.{stock_same, place_removed, buried_stays, no_none}
 use Rattle.id_rows.proofs.rows.Rows.remove.Goals as goal
+
+pub find-requires : goal.find-requires
+find-requires g c = subst (RiseFrom 0) (sym c.as_slice.ensures.value) c.self.invariant.rise
+
+pub index-item-requires : goal.index-item-requires
+index-item-requires g c = found_inside _ c.args.id c.in-Ok.at _ c.in-Ok.ensures c.as_slice.ensures.len
+
+pub index_mut-requires : goal.index_mut-requires
+index_mut-requires g c = found_inside _ c.args.id c.in-Ok.at _ c.in-Ok.ensures c.as_slice.ensures.len
 
 pub overflow_sub-self : goal.overflow_sub-self
 overflow_sub-self g c =
