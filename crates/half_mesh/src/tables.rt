@@ -91,6 +91,33 @@ impl Tables {
         }
     }
 
+    /// Puts the points of lists into tables that have nothing, numbered from 1.
+    fn add_points(&mut self, lists: &MeshLists) -> Result<(), NoMemory>
+        requires fit { shape_fault (length lists.now.points) lists.now.faces ≡ None }
+        requires nothing { self.old.state ≡ record { mesh = mesh_of [] []; buried = none_buried } }
+        ensures { OnOk result (self.new.state
+            ≡ record { mesh = mesh_of lists.now.points []; buried = none_buried }) }
+    {
+        for p in lists.points.as_slice() {
+            self.add_vertex(*p)?;
+        }
+        Ok(())
+    }
+
+    /// Puts the faces of lists into tables that have their points alone, numbered from 1.
+    fn add_faces(&mut self, lists: &MeshLists) -> Result<(), NoMemory>
+        requires fit { shape_fault (length lists.now.points) lists.now.faces ≡ None }
+        requires points { self.old.state
+            ≡ record { mesh = mesh_of lists.now.points []; buried = none_buried } }
+        ensures { OnOk result (self.new.state
+            ≡ record { mesh = mesh_of lists.now.points lists.now.faces; buried = none_buried }) }
+    {
+        for f in lists.faces.as_slice() {
+            self.add_face(VertexId(f[0]), VertexId(f[1]), VertexId(f[2]))?;
+        }
+        Ok(())
+    }
+
     /// The tables of lists, numbered from 1.
     pub(crate) fn of(alloc: Global, lists: &MeshLists) -> Result<Tables, NoMemory>
         requires { shape_fault (length lists.now.points) lists.now.faces ≡ None }
@@ -99,12 +126,8 @@ impl Tables {
             record { mesh = mesh_of lists.now.points lists.now.faces; buried = none_buried }) }
     {
         let mut tables = Tables::new(alloc);
-        for p in lists.points.as_slice() {
-            tables.add_vertex(*p)?;
-        }
-        for f in lists.faces.as_slice() {
-            tables.add_face(VertexId(f[0]), VertexId(f[1]), VertexId(f[2]))?;
-        }
+        tables.add_points(lists)?;
+        tables.add_faces(lists)?;
         Ok(tables)
     }
 

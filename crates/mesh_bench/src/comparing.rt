@@ -53,22 +53,40 @@ fn corner_alike<S: Surface, T: Surface>(one: &S, other: &T, faces: &[FaceId]) ->
     true
 }
 
+/// Whether the same vertices live, at the same points, and the same of them are solid.
+fn have_same_vertices<S: Surface, T: Surface>(
+    alloc: Global,
+    one: &S,
+    other: &T,
+) -> Result<bool, NoMemory> {
+    let vertices = live_vertices(alloc, one)?;
+    let found = live_vertices(alloc, other)?;
+    Ok(vertices.as_slice() == found.as_slice() && stand_alike(one, other, vertices.as_slice()))
+}
+
+/// Whether the same faces live, with the same corners.
+fn have_same_faces<S: Surface, T: Surface>(
+    alloc: Global,
+    one: &S,
+    other: &T,
+) -> Result<bool, NoMemory> {
+    let faces = live_faces(alloc, one)?;
+    let found = live_faces(alloc, other)?;
+    Ok(faces.as_slice() == found.as_slice() && corner_alike(one, other, faces.as_slice()))
+}
+
+/// Whether the next ids are the same.
+fn go_on_alike<S: Surface, T: Surface>(one: &S, other: &T) -> bool {
+    one.next_vertex() == other.next_vertex() && one.next_face() == other.next_face()
+}
+
 /// Whether two meshes are one mesh: in their points, faces, solid vertices and next ids.
 pub(crate) fn are_alike<S: Surface, T: Surface>(
     alloc: Global,
     one: &S,
     other: &T,
 ) -> Result<bool, NoMemory> {
-    let vertices = live_vertices(alloc, one)?;
-    let faces = live_faces(alloc, one)?;
-    let other_vertices = live_vertices(alloc, other)?;
-    let other_faces = live_faces(alloc, other)?;
-    Ok(
-        one.next_vertex() == other.next_vertex()
-            && one.next_face() == other.next_face()
-            && vertices.as_slice() == other_vertices.as_slice()
-            && faces.as_slice() == other_faces.as_slice()
-            && stand_alike(one, other, vertices.as_slice())
-            && corner_alike(one, other, faces.as_slice()),
-    )
+    let vertices = have_same_vertices(alloc, one, other)?;
+    let faces = have_same_faces(alloc, one, other)?;
+    Ok(vertices && faces && go_on_alike(one, other))
 }

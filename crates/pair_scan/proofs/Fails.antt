@@ -1,5 +1,5 @@
 -- The pairs that do not pass, edge by edge; and where there is none, the motion is clear.
-use Rattle.std.proofs.Common.{◌≡◌, ◌↔◌, ℕ, Bool, true, false, cond, ◌&&◌, ◌||◌, not, [], Some, None, refl, sym, ap, ◌∙◌, IsTrue}
+use Rattle.std.proofs.Common.{◌≡◌, ◌↔◌, ℕ, Bool, true, false, cond, ◌&&◌, ◌||◌, not, List, [], ◌∷◌, ◌++◌, Some, None, refl, sym, ap, ◌∙◌, IsTrue}
 use Rattle.std.specs.List.{flat_map}
 use Rattle.std.specs.FinMap as finite
 use Rattle.std.proofs.lemmas.Bool.{false≢true}
@@ -29,7 +29,7 @@ use Rattle.pair_paths.specs.Frames.{edge_in, face_in, HoldsEdgeIn, HoldsFaceIn}
 use Rattle.pair_paths.specs.Moving.{moving_edge, moving_face, moving_faces}
 use Rattle.pair_paths.specs.Pairing.{have_a_vertex_in_common, name_with, starts, ends}
 use Rattle.pair_paths.proofs.Apart.{passes_apart_seen, starts_held, ends_held}
-use Rattle.pair_scan.specs.Failed.{failed, failing_of, failing_among}
+use Rattle.pair_scan.specs.Failed.{failed, failing_of, failing_among, failing_along}
 use Rattle.pair_scan.specs.Scan.{one_or_none}
 use Rattle.pair_scan.proofs.Kept.{kept_by_list, kept_of_taken, nothing_kept}
 use Rattle.pair_scan.proofs.Scans.{and_false}
@@ -51,7 +51,7 @@ passed_apart depth frame e f its edge E F off =
     nothing other passed p = ap (λ b. one_or_none (cond (other && not b) (Some (name_with e f)) None)) p ∙ ap (λ b. one_or_none (cond b (Some (name_with e f)) None)) (and_false other)
 
 -- ---- the pairs of an edge
-pub of_edge : (m : Mesh) (by : Shifts) (depth a b : ℕ) → let w = moved_by m by in failing_among depth (moving_edge w a b) (moving_faces m w) ≡ failing_of m by depth (pairs_of m (a, b))
+of_edge : (m : Mesh) (by : Shifts) (depth a b : ℕ) → let w = moved_by m by in failing_among depth (moving_edge w a b) (moving_faces m w) ≡ failing_of m by depth (pairs_of m (a, b))
 of_edge m by depth a b =
     let w = moved_by m by in
     let e = moving_edge w a b in
@@ -63,8 +63,19 @@ of_edge m by depth a b =
     ∙ kept_of_taken apart pair fails (λ p. p.name) (λ f. failed depth e (Some (moving_face w f))) (λ f. refl) es
 
 -- all pairs, edge by edge
-pub by_edges : (m : Mesh) (by : Shifts) (depth : ℕ) → flat_map (λ e. failing_of m by depth (pairs_of m e)) (edges m) ≡ failing meets_exactly m by depth
+by_edges : (m : Mesh) (by : Shifts) (depth : ℕ) → flat_map (λ e. failing_of m by depth (pairs_of m e)) (edges m) ≡ failing meets_exactly m by depth
 by_edges m by depth = sym (kept_by_list (λ p. p.name) (λ p. not (pair_passes meets_exactly depth (moved_by m by) p)) (λ e. pairs_of m e) (edges m))
+
+-- the same along the edges of the mesh
+pub along_edges : (m : Mesh) (by : Shifts) (depth : ℕ) → let w = moved_by m by in failing_along depth w (moving_faces m w) (edges m) ≡ failing meets_exactly m by depth
+along_edges m by depth =
+    let w = moved_by m by in
+    each_alike (λ e. failing_among depth (moving_edge w e.0 e.1) (moving_faces m w)) (λ e. failing_of m by depth (pairs_of m e)) (λ e. of_edge m by depth e.0 e.1) (edges m)
+    ∙ by_edges m by depth
+  where
+    each_alike : {X Y : Type 0} (f g : X → List Y) → ((x : X) → f x ≡ g x) → (xs : List X) → flat_map f xs ≡ flat_map g xs
+    each_alike f g same [] = refl
+    each_alike f g same (x ∷ xs) = ap (λ ys. ys ++ flat_map f xs) (same x) ∙ ap (λ ys. g x ++ ys) (each_alike f g same xs)
 
 -- ---- where every pair passes, none meets on the way
 pub clear_along : (m : Mesh) (by : Shifts) (depth : ℕ) → IsSound m → failing meets_exactly m by depth ≡ [] → IsClearAlong m (moved_by m by)

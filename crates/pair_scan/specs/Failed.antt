@@ -15,6 +15,7 @@ use Rattle.mesh_base.specs.Pairs.{Pair, IsPair, name_cmp}
 use Rattle.mesh_base.specs.Shifts.{Shifts, moved_by}
 use Rattle.pair_paths.specs.declared.MovingEdge.{MovingEdge}
 use Rattle.pair_paths.specs.declared.MovingFace.{MovingFace}
+use Rattle.pair_paths.specs.Moving.{moving_edge}
 use Rattle.pair_paths.specs.Pairing.{have_a_vertex_in_common, name_with, starts, ends}
 use Rattle.pair_scan.specs.Scan.{one_or_none}
 
@@ -38,6 +39,10 @@ failing_at depth e faces places = flat_map (λ k. failed depth e (slice_get face
 -- the same of all the faces
 abbrev pub failing_among : ℕ → MovingEdge → List MovingFace → List PairName
 failing_among depth e faces = flat_map (λ f. failed depth e (Some f)) faces
+
+-- the same of each of the edges, edge by edge
+abbrev pub failing_along : ℕ → Motion → List MovingFace → List (ℕ × ℕ) → List PairName
+failing_along depth w faces edges = flat_map (λ e. failing_among depth (moving_edge w e.0 e.1) faces) edges
 
 -- the names of those of these pairs that do not pass
 abbrev pub failing_of : Mesh → Shifts → ℕ → List Pair → List PairName

@@ -6,3 +6,4 @@ pub mod Named
 pub mod Solids
 pub mod Asked
 pub mod Views
+pub mod Scene

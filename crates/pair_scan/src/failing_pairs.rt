@@ -5,20 +5,23 @@ ghost use Rattle.grid_decided.specs.Decided.{meets_exactly};
 ghost use Rattle.mesh_base.specs.Placements.{IsClearAlong};
 ghost use Rattle.mesh_base.specs.Shifts.{NameLive, end_in_box, moved_by};
 ghost use Rattle.mesh_base.specs.Failing.{failing};
+ghost use Rattle.mesh_base.specs.Pairs.{edges};
 ghost use Rattle.pair_paths.specs.Bounds.{AreBoxes};
 ghost use Rattle.pair_paths.specs.Frames.{HoldsFaceIn};
+ghost use Rattle.pair_paths.specs.Moving.{moving_faces};
 ghost use Rattle.pair_scan.specs.Views.{AreViews};
-ghost use Rattle.pair_scan.specs.Failed.{fails_with, failed_with, failing_at, failing_among, AreFailing};
+ghost use Rattle.pair_scan.specs.Failed.{fails_with, failed_with, failing_at, failing_among, failing_along, AreFailing};
 
 use crate::motions::Shifted;
 use crate::neighbours::{Coming, near_edge};
-use crate::views::{View, Views, goes_with, views_of};
+use crate::scene::scene_of;
+use crate::views::{View, Views, goes_with};
 use grid_base::{DEPTH_MAX, Items, NoMemory};
-use mesh_base::{PairName, Shifts, Surface, edges_in_order};
+use mesh_base::{PairName, ShiftOf, Shifts, Surface, VertexId};
 use motion_test::passes;
 use pair_paths::{
-    KnownPaths, MovingEdge, MovingFace, Paths, moving_edge, moving_faces, name_of, pair_of,
-    paths_of, share_a_vertex,
+    KnownPaths, MovingEdge, MovingFace, Paths, moving_edge, name_of, pair_of, paths_of,
+    share_a_vertex,
 };
 use std::alloc::Global;
 
@@ -132,6 +135,52 @@ fn put_failing_of_edge<P: Paths>(
     )
 }
 
+/// The pairs of these edges that do not pass, edge by edge.
+fn failing_of_edges<P: Paths>(
+    alloc: Global,
+    edges: &[(VertexId, VertexId)],
+    faces: &[MovingFace],
+    views: &mut Views,
+    depth: u8,
+    paths: &P,
+) -> Result<Pairs, NoMemory>
+    requires depth_fits { depth ≤ DEPTH_MAX }
+    requires views { AreViews faces.now views.old }
+    ensures { IfOk result
+        (λ pairs. pairs ≡ failing_along depth (P.motion paths.now) faces.now edges.now) }
+{
+    let mut near = Vec::new(alloc);
+    let mut found = Pairs::new(alloc);
+    let mut past: usize = 0;
+    for (a, b) in edges {
+        past = past.saturating_add(1);
+        let coming = Coming { edges, past };
+        let e = moving_edge(paths, *a, *b);
+        put_failing_of_edge(
+            &e, faces, views, depth, paths, &coming, &mut near, &mut found,
+        )?;
+    }
+    Ok(found)
+}
+
+/// The pairs of a mesh that do not pass, its faces seen from frames of these shifts.
+fn failing_of_mesh<S: Surface, P: Paths>(
+    alloc: Global,
+    mesh: &S,
+    by: &[ShiftOf],
+    depth: u8,
+    paths: &P,
+) -> Result<Pairs, NoMemory>
+    requires { depth ≤ DEPTH_MAX }
+    ensures { let m = S.mesh mesh.now in let w = P.motion paths.now in
+        IfOk result (λ pairs. pairs ≡ failing_along depth w (moving_faces m w) (edges m)) }
+{
+    let mut scene = scene_of(alloc, mesh, paths, by)?;
+    let edges = scene.edges.as_slice();
+    let faces = scene.faces.as_slice();
+    failing_of_edges(alloc, edges, faces, &mut scene.views, depth, paths)
+}
+
 /// All pairs that do not pass where each vertex goes from its point by its shift, in order of the edge and then of the
 /// face: those that are not separated to the depth and do not move as one while they are apart. Where there is none, no
 /// pair meets at any fraction of the way. The shifts name the live vertices, by rising id, and end in the box. Refuses only
@@ -164,24 +213,6 @@ pub fn failing<S: Surface>(
         paths: &shifted,
         known: known.as_slice(),
     };
-    let faces = moving_faces(alloc, mesh, &paths)?;
-    let all = faces.as_slice();
-    let mut views = views_of(alloc, all, shifted.by)?;
-    let mut near = Vec::new(alloc);
-    let mut found = Pairs::new(alloc);
-    let edges = edges_in_order(alloc, mesh)?;
-    let listed = edges.as_slice();
-    let mut past: usize = 0;
-    for (a, b) in edges.as_slice() {
-        past = past.saturating_add(1);
-        let coming = Coming {
-            edges: listed,
-            past,
-        };
-        let e = moving_edge(&paths, *a, *b);
-        put_failing_of_edge(
-            &e, all, &mut views, depth, &paths, &coming, &mut near, &mut found,
-        )?;
-    }
-    Ok(found)
+    let pairs = failing_of_mesh(alloc, mesh, shifted.by, depth, &paths)?;
+    Ok(pairs)
 }

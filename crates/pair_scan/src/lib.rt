@@ -11,6 +11,7 @@ mod motions;
 mod named;
 mod neighbours;
 mod passing;
+mod scene;
 mod views;
 
 pub use ends::end_in_box;

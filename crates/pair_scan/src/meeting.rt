@@ -1,7 +1,8 @@
 //! The first pair that meets.
 ghost use Rattle.std.specs.Prelude.{◌≡◌, ◌↔◌, IfOk, IfSome, IsNone, slice_get};
+ghost use Rattle.std.specs.List.{flat_map};
 ghost use Rattle.grid_decided.specs.Decided.{meets_exactly};
-ghost use Rattle.mesh_base.specs.Pairs.{pairs_of};
+ghost use Rattle.mesh_base.specs.Pairs.{pairs, pairs_of};
 ghost use Rattle.mesh_base.specs.Placements.{rest_positions, IsClearMesh};
 ghost use Rattle.mesh_base.specs.Failing.{first_meeting};
 ghost use Rattle.pair_paths.specs.Bounds.{AreBoxes};
@@ -90,6 +91,47 @@ fn first_of_edge<S: Surface>(
     Ok(first_near(&e, faces, near))
 }
 
+/// The first pair of these edges that meets, edge by edge.
+fn first_of_edges<S: Surface>(
+    alloc: Global,
+    paths: &KnownPaths<AtRest<S>>,
+    edges: &[(VertexId, VertexId)],
+    faces: &[MovingFace],
+    view: &mut View,
+) -> Result<Option<PairName>, NoMemory>
+    requires faces { let m = S.mesh paths.now.paths.now.mesh.now in
+        faces.now ≡ moving_faces m (at_rest m) }
+    requires boxes { AreBoxes (HoldsFaceIn view.old.frame) faces.now view.old.boxes }
+    ensures { let m = S.mesh paths.now.paths.now.mesh.now in
+        IfOk result (λ r. r ≡ first_of m (flat_map (λ e. pairs_of m e) edges.now)) }
+{
+    let mut near = Vec::new(alloc);
+    let mut past: usize = 0;
+    for (a, b) in edges {
+        past = past.saturating_add(1);
+        let coming = Coming { edges, past };
+        if let Some(found) = first_of_edge(paths, &coming, faces, view, &mut near, *a, *b)? {
+            return Ok(Some(found));
+        }
+    }
+    Ok(None)
+}
+
+/// The first pair of the mesh of these paths that meets.
+fn first_of_mesh<S: Surface>(
+    alloc: Global,
+    paths: &KnownPaths<AtRest<S>>,
+) -> Result<Option<PairName>, NoMemory>
+    ensures { let m = S.mesh paths.now.paths.now.mesh.now in
+        IfOk result (λ r. r ≡ first_of m (pairs m)) }
+{
+    let mesh = paths.paths.mesh;
+    let edges = edges_in_order(alloc, mesh)?;
+    let faces = moving_faces(alloc, mesh, paths)?;
+    let mut view = view_of(alloc, faces.as_slice(), resting_frame())?;
+    first_of_edges(alloc, paths, edges.as_slice(), faces.as_slice(), &mut view)
+}
+
 /// The first pair of a mesh that meets, in order of the edge and then of the face, where its vertices stand; None exactly
 /// where the mesh is clear. Refuses only where there is no memory.
 pub fn first_meeting<S: Surface>(alloc: Global, mesh: &S) -> Result<Option<PairName>, NoMemory>
@@ -107,22 +149,6 @@ pub fn first_meeting<S: Surface>(alloc: Global, mesh: &S) -> Result<Option<PairN
         paths: &resting,
         known: known.as_slice(),
     };
-    let faces = moving_faces(alloc, mesh, &paths)?;
-    let all = faces.as_slice();
-    let mut view = view_of(alloc, all, resting_frame())?;
-    let mut near = Vec::new(alloc);
-    let edges = edges_in_order(alloc, mesh)?;
-    let listed = edges.as_slice();
-    let mut past: usize = 0;
-    for (a, b) in edges.as_slice() {
-        past = past.saturating_add(1);
-        let coming = Coming {
-            edges: listed,
-            past,
-        };
-        if let Some(found) = first_of_edge(&paths, &coming, all, &mut view, &mut near, *a, *b)? {
-            return Ok(Some(found));
-        }
-    }
-    Ok(None)
+    let first = first_of_mesh(alloc, &paths)?;
+    Ok(first)
 }

@@ -1,23 +1,26 @@
 //! Whether all pairs pass in a motion: the scan for pairs that do not, ended at the first.
 ghost use Rattle.std.specs.Prelude.{◌≡◌, ◌≤◌, IsTrue, IfOk, IfSome};
 ghost use Rattle.mesh_base.specs.Failing.{failing};
+ghost use Rattle.mesh_base.specs.Pairs.{edges};
 ghost use Rattle.grid_base.specs.declared.TheConstants.{DEPTH_MAX};
 ghost use Rattle.grid_decided.specs.Decided.{meets_exactly};
 ghost use Rattle.mesh_base.specs.Placements.{IsClearAlong};
 ghost use Rattle.mesh_base.specs.Shifts.{NameLive, end_in_box, moved_by};
 ghost use Rattle.pair_paths.specs.Bounds.{AreBoxes};
 ghost use Rattle.pair_paths.specs.Frames.{HoldsFaceIn};
-ghost use Rattle.pair_scan.specs.Failed.{failing_at, failing_among};
+ghost use Rattle.pair_paths.specs.Moving.{moving_faces};
+ghost use Rattle.pair_scan.specs.Failed.{failing_at, failing_among, failing_along};
 ghost use Rattle.pair_scan.specs.Views.{AreViews};
 ghost use Rattle.pair_scan.specs.Passing.{has_none};
 
 use crate::failing_pairs::failed_at;
 use crate::motions::Shifted;
 use crate::neighbours::{Coming, near_edge};
-use crate::views::{View, Views, goes_with, views_of};
+use crate::scene::scene_of;
+use crate::views::{View, Views, goes_with};
 use grid_base::{DEPTH_MAX, NoMemory};
-use mesh_base::{Shifts, Surface, edges_in_order};
-use pair_paths::{KnownPaths, MovingEdge, MovingFace, Paths, moving_edge, moving_faces, paths_of};
+use mesh_base::{ShiftOf, Shifts, Surface, VertexId};
+use pair_paths::{KnownPaths, MovingEdge, MovingFace, Paths, moving_edge, paths_of};
 use std::alloc::Global;
 
 /// Whether the edge passes those of the faces of these numbers with which it is a pair.
@@ -75,6 +78,52 @@ fn passes_of_edge<P: Paths>(
     passes_seen(e, faces, &mut views.first, depth, paths, coming, near)
 }
 
+/// Whether all pairs of these edges pass. It ends at the first that does not.
+fn passes_of_edges<P: Paths>(
+    alloc: Global,
+    edges: &[(VertexId, VertexId)],
+    faces: &[MovingFace],
+    views: &mut Views,
+    depth: u8,
+    paths: &P,
+) -> Result<bool, NoMemory>
+    requires depth_fits { depth ≤ DEPTH_MAX }
+    requires views { AreViews faces.now views.old }
+    ensures { IfOk result
+        (λ pass. pass ≡ has_none (failing_along depth (P.motion paths.now) faces.now edges.now)) }
+{
+    let mut near = Vec::new(alloc);
+    let mut past: usize = 0;
+    for (a, b) in edges {
+        past = past.saturating_add(1);
+        let coming = Coming { edges, past };
+        let e = moving_edge(paths, *a, *b);
+        let pass = passes_of_edge(&e, faces, views, depth, paths, &coming, &mut near)?;
+        if !pass {
+            return Ok(false);
+        }
+    }
+    Ok(true)
+}
+
+/// Whether all pairs of a mesh pass, its faces seen from frames of these shifts.
+fn passes_of_mesh<S: Surface, P: Paths>(
+    alloc: Global,
+    mesh: &S,
+    by: &[ShiftOf],
+    depth: u8,
+    paths: &P,
+) -> Result<bool, NoMemory>
+    requires { depth ≤ DEPTH_MAX }
+    ensures { let m = S.mesh mesh.now in let w = P.motion paths.now in
+        IfOk result (λ pass. pass ≡ has_none (failing_along depth w (moving_faces m w) (edges m))) }
+{
+    let mut scene = scene_of(alloc, mesh, paths, by)?;
+    let edges = scene.edges.as_slice();
+    let faces = scene.faces.as_slice();
+    passes_of_edges(alloc, edges, faces, &mut scene.views, depth, paths)
+}
+
 /// Whether all pairs pass where each vertex goes from its point by its shift: whether `failing` tells none. It ends at the
 /// first that does not pass. The shifts name the live vertices, by rising id, and end in the box. Refuses only where there is
 /// no memory.
@@ -102,24 +151,6 @@ pub fn all_pass<S: Surface>(
         paths: &shifted,
         known: known.as_slice(),
     };
-    let faces = moving_faces(alloc, mesh, &paths)?;
-    let all = faces.as_slice();
-    let mut views = views_of(alloc, all, shifted.by)?;
-    let mut near = Vec::new(alloc);
-    let edges = edges_in_order(alloc, mesh)?;
-    let listed = edges.as_slice();
-    let mut past: usize = 0;
-    for (a, b) in edges.as_slice() {
-        past = past.saturating_add(1);
-        let coming = Coming {
-            edges: listed,
-            past,
-        };
-        let e = moving_edge(&paths, *a, *b);
-        let pass = passes_of_edge(&e, all, &mut views, depth, &paths, &coming, &mut near)?;
-        if !pass {
-            return Ok(false);
-        }
-    }
-    Ok(true)
+    let pass = passes_of_mesh(alloc, mesh, shifted.by, depth, &paths)?;
+    Ok(pass)
 }

@@ -7,7 +7,7 @@ use Rattle.std.specs.Ordering.{nat_cmp}
 use Rattle.std.specs.declared.cmp.Ordering.TheVariants.{Less}
 use Rattle.std.proofs.lemmas.Int.{ints}
 use Rattle.std.proofs.lemmas.Bool.Decides.{nat_tests}
-use Rattle.std.proofs.lemmas.List.{take_more}
+use Rattle.std.proofs.lemmas.List.{take_more, length-map}
 use Rattle.std.proofs.lemmas.Map.Keys.{sorted_head, sorted_tail}
 use Rattle.std.proofs.lemmas.Option.{slice_get_read}
 use Rattle.grid_base.specs.declared.TheConstants.{SHIFT_MAX, VERTICES_MAX}
@@ -126,6 +126,10 @@ pub read_mapped : {X Y : Type 0} (f : X → Y) (xs : List X) (p : ℕ) (x : X) (
 read_mapped f [] p x e at = cc
 read_mapped f (y ∷ xs) zero x e at = let this : y ≡ x = cc in ap f this
 read_mapped f (y ∷ xs) (suc p) x e at = read_mapped f xs p x e at
+
+-- a place of a list is one of what is made of it
+pub place_made : {X Y : Type 0} (f : X → Y) (xs : List X) (ys : List Y) (len p : ℕ) → len ≡ length ys → ys ≡ map f xs → p < length xs → p < len
+place_made f xs ys len p long made h = subst (λ n. p < n) (sym (long ∙ ap length made ∙ length-map xs f)) h
 
 length_take : {X : Type 0} (n : ℕ) (xs : List X) → length (take n xs) ≤ n
 length_take zero xs = omega arith

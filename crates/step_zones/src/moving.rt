@@ -1,5 +1,5 @@
 //! What the vertices of a round move by, and its blocks.
-ghost use Rattle.std.specs.Prelude.{◌≡◌, ℕ, ◌==◌, ◌&&◌, ◌<◌, ◌≤◌, nat_lt, map, length, IfOk, IsTrue};
+ghost use Rattle.std.specs.Prelude.{◌≡◌, ℕ, ◌==◌, ◌&&◌, ◌<◌, ◌≤◌, ◌++◌, [], ◌∷◌, nat_lt, map, length, IfOk, OnOk, IsTrue};
 ghost use Rattle.std.specs.List.{filter};
 ghost use Rattle.std.specs.List.Sorted.{IsStrictlySortedBy};
 ghost use Rattle.std.specs.Ordering.{nat_cmp};
@@ -79,6 +79,23 @@ fn members(
     Ok(ids)
 }
 
+// Puts the vertices with a label at the end.
+fn push_members(
+    alloc: Global,
+    asked: &[ShiftOf],
+    labels: &[VertexId],
+    l: VertexId,
+    blocks: &mut Blocks,
+) -> Result<(), NoMemory>
+    requires rising { IsStrictlySortedBy nat_cmp (map (λ s. s.v) asked.now) }
+    requires each { length labels.now ≡ length asked.now }
+    ensures { OnOk result (blocks.new ≡ blocks.old ++ filter
+        (λ v. label_by asked.now labels.now v == l) (map (λ s. s.v) asked.now) ∷ []) }
+{
+    let ids = members(alloc, asked, labels, l)?;
+    blocks.push(ids)
+}
+
 // Whether a vertex is the least of a block of two or more.
 fn is_head(l: VertexId, v: VertexId, t: Total) -> bool
     ensures { result ≡ ((l == v) && nat_lt 1 t.count) }
@@ -103,7 +120,7 @@ pub(crate) fn blocks_of<S: Surface>(
     let mut blocks = Blocks::new(alloc);
     for (i, s) in asked.iter().enumerate() {
         if is_head(labels[i], s.v, totals[i]) {
-            blocks.push(members(alloc, asked, labels, s.v)?)?;
+            push_members(alloc, asked, labels, s.v, &mut blocks)?;
         }
     }
     Ok(blocks)

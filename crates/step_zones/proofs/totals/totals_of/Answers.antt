@@ -3,13 +3,34 @@ use Rattle.mesh_base.specs.declared.steps.ShiftOf.{ShiftOf}
 use Rattle.step_zones.specs.declared.totals.Total.{Total}
 use Rattle.step_zones.specs.Ranks.{label_by}
 use Rattle.mesh_base.specs.Mesh.{is_solid}
+use Rattle.mesh_base.specs.Shifts.{Shifts}
+use Rattle.std.proofs.lemmas.List.{take_all}
+use Rattle.std.proofs.lemmas.Option.{slice_get_within}
 use Rattle.std.specs.Prelude.{slice_set}
 use Rattle.std.specs.declared.vec.Vec.{Vec}
 use Rattle.std.specs.declared.alloc.Global.{Global}
 use Rattle.step_zones.specs.Totals.{with_one, total_of}
-use Rattle.step_zones.proofs.Summed.{summed_more, summed_none, total_here, room_for_one, room_for_sum}
+use Rattle.step_zones.proofs.Summed.{place_made, summed_more, summed_none, total_here, room_for_one, room_for_sum}
 use Rattle.step_zones.proofs.totals.totals_of.Goals as goal
 use Rattle.step_zones.proofs.totals.totals_of.Goals.{in-Some, in_default}
+
+pub index-requires : goal.index-requires
+index-requires g c =
+    let m = g.S.Surface.mesh c.args.mesh.now in
+    let found = c.in-Some.ensures in
+    place_made (λ (x : ShiftOf). total_of m (label_by c.args.asked.now c.args.labels.now) x.v (take c.loop-i.i c.args.asked.now)) c.args.asked.now c.loop-i.totals.items c.loop-i.totals.len c.in-Some.place c.loop-i.totals.ok.0 c.loop-i.invariant (slice_get_within c.args.asked.now c.in-Some.place found.0 found.1)
+
+pub index_mut-requires : goal.index_mut-requires
+index_mut-requires g c =
+    let m = g.S.Surface.mesh c.args.mesh.now in
+    let found = c.in-Some.ensures in
+    place_made (λ (x : ShiftOf). total_of m (label_by c.args.asked.now c.args.labels.now) x.v (take c.loop-i.i c.args.asked.now)) c.args.asked.now c.loop-i.totals.items c.loop-i.totals.len c.in-Some.place c.loop-i.totals.ok.0 c.loop-i.invariant (slice_get_within c.args.asked.now c.in-Some.place found.0 found.1)
+
+pub returns : goal.returns
+returns g c =
+    let m = g.S.Surface.mesh c.args.mesh.now in
+    let at = label_by c.args.asked.now c.args.labels.now in
+    c.loop-i.invariant ∙ ap (λ (l : Shifts). map (λ (x : ShiftOf). total_of m at x.v l) c.args.asked.now) (take_all c.loop-i.i c.args.asked.now c.loop-i-test.false)
 
 pub with_one-requires-clause-few : goal.with_one-requires-clause-few
 with_one-requires-clause-few g c =

@@ -1,4 +1,4 @@
-use Rattle.mesh_base.specs.Changes.{corners_of}
+use Rattle.mesh_base.specs.Changes.{corners_of, IsFresh}
 use Rattle.mesh_journal.specs.Undoable.{make_face}
 use Rattle.mesh_journal.specs.declared.entries.Entry.TheVariants.{FaceMade}
 use Rattle.mesh_journal.proofs.Undone.{made_face}
@@ -10,6 +10,9 @@ use Rattle.half_mesh.specs.States.{State}
 use Rattle.mesh_journal.specs.Boxed.{AreBoxed, IsAround}
 use Rattle.mesh_journal.proofs.Covers.{IsIndexed, present, grown, renumbered, with_new_face, boxed-with_face}
 use Rattle.mesh_journal.proofs.journal.JournalSurface.add_face.Goals as goal
+
+pub make_face-requires : goal.make_face-requires
+make_face-requires g c = subst (λ m. IsFresh m (corners_of c.args.c)) (g.met.B.Undoable.same_mesh c.args.self.now.inner) c.requires
 
 pub invariant_of-self-2 : goal.invariant_of-self-2
 invariant_of-self-2 g c =
