@@ -1,5 +1,5 @@
 //! The fans of faces at a vertex.
-ghost use Rattle.std.specs.Prelude.{ℕ, true, ◌≡◌, ◌≤◌, ◌==◌, ◌++◌, ◌∷◌, not, length, IfOk, OnOk};
+ghost use Rattle.std.specs.Prelude.{ℕ, true, ◌≡◌, ◌≤◌, ◌==◌, ◌++◌, ◌∷◌, [], not, length, IfOk, OnOk, if◌then◌else◌};
 ghost use Rattle.std.specs.List.{filter, list_any};
 ghost use Rattle.mesh_base.specs.Sides.{faces_at};
 ghost use Rattle.edit_base.specs.Classes.{is_one_of, class_of};
@@ -48,6 +48,20 @@ fn is_in_one(fans: &[Fan], f: FaceId) -> bool
     false
 }
 
+/// Puts a face at the end of the one of two lists.
+fn put_in_one(f: FaceId, in_first: bool, first: &mut Fan, second: &mut Fan) -> Result<(), NoMemory>
+    ensures first { OnOk result
+        (first.new ≡ (if in_first then first.old ++ f ∷ [] else first.old)) }
+    ensures second { OnOk result
+        (second.new ≡ (if in_first then second.old else second.old ++ f ∷ [])) }
+{
+    if in_first {
+        first.push(f)
+    } else {
+        second.push(f)
+    }
+}
+
 /// Puts the faces of a list that share a vertex other than `v` with `f` at the end of a fan, and answers the others.
 fn joined<S: Surface>(
     alloc: Global,
@@ -64,11 +78,7 @@ fn joined<S: Surface>(
 {
     let mut rest = Items::new(alloc);
     for g in left {
-        if share_second(mesh, v, f, *g) {
-            fan.push(*g)?;
-        } else {
-            rest.push(*g)?;
-        }
+        put_in_one(*g, share_second(mesh, v, f, *g), fan, &mut rest)?;
     }
     Ok(rest)
 }
