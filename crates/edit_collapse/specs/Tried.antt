@@ -54,6 +54,10 @@ cancelled_in (suc n) es = cancelled_in n (one_cancelled_in es)
 abbrev pub joined_at : Mesh → ℕ → ℕ → List (ℕ × Corners)
 joined_at m a b = filter (λ e. has_corner e.1 a) (finite.entries (with_joined (without_shared m a b) a b).faces)
 
+-- a face with its corners, as a list of one, if it is live and does not hold the vertex
+abbrev pub if_apart : Mesh → ℕ → ℕ → List (ℕ × Corners)
+if_apart m other f = option_map_or (λ c. if has_corner c other then [] else (f, c) ∷ []) (finite.get m.faces f) []
+
 -- the faces that hold the one vertex and not the other, rising
 abbrev pub only_at : Mesh → ℕ → ℕ → List (ℕ × Corners)
 only_at m v other = filter (λ e. has_corner e.1 v && not (has_corner e.1 other)) (finite.entries m.faces)

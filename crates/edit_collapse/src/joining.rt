@@ -1,5 +1,5 @@
 //! The faces at the joined vertex, and the changes of a collapse.
-ghost use Rattle.std.specs.Prelude.{◌≡◌, ◌≤◌, ◌≢◌, ◌==◌, ◌++◌, not, IsTrue, IfOk, OnOk, length, if◌then◌else◌};
+ghost use Rattle.std.specs.Prelude.{◌≡◌, ◌≤◌, ◌≢◌, ◌==◌, ◌+◌, ◌++◌, not, IsTrue, IfOk, OnOk, length, if◌then◌else◌};
 ghost use Rattle.std.specs.List.{filter, fold};
 ghost use Rattle.grid_base.specs.declared.TheConstants.{ID_MAX, FACES_MAX};
 ghost use Rattle.mesh_base.specs.Mesh.{IsLiveVertex, IsLiveFace};
@@ -9,7 +9,7 @@ ghost use Rattle.mesh_base.specs.Kept.{BeginsWith};
 ghost use Rattle.edit_base.specs.Edges.{renamed, corners_at, without_faces};
 ghost use Rattle.edit_collapse.specs.Collapse.{joined_faces, without_bare, has_solid_end, collapse_mesh, collapse_point, placed, placed_if_left};
 ghost use Rattle.edit_base.specs.Reasons.{is_full};
-ghost use Rattle.edit_collapse.specs.Tried.{only_at, joined_at, left_at, MayBeTried, has_id_in, with_id_used_up, with_joined_or_gone, corners_if_live, corners_near, others_than, without_if_bare, TellsDoubled};
+ghost use Rattle.edit_collapse.specs.Tried.{if_apart, only_at, numbered, joined_at, left_at, MayBeTried, has_id_in, with_id_used_up, with_joined_or_gone, corners_if_live, corners_near, others_than, without_if_bare, TellsDoubled};
 ghost use Rattle.edit_base.specs.Clauses.{OnOkIs};
 
 use crate::cancelling::{LeftFaces, cancelled, has_id, repeats};
@@ -17,6 +17,24 @@ use edit_acts::{make_face, renamed};
 use grid_base::{ID_MAX, Items, NoMemory, Point};
 use mesh_base::{Corners, FaceId, Surface, VertexId};
 use std::alloc::Global;
+
+/// Puts a face with its corners at the end of a list, if it is live and does not hold a vertex.
+fn put_apart<S: Surface>(
+    mesh: &S,
+    f: FaceId,
+    other: VertexId,
+    faces: &mut LeftFaces,
+) -> Result<(), NoMemory>
+    ensures { OnOk result (faces.new ≡ faces.old ++ if_apart (S.mesh mesh.now) other f) }
+{
+    if let Some(list) = mesh.corners(f) {
+        let c = Corners::of(list);
+        if !c.has_corner(other) {
+            faces.push((f, c))?;
+        }
+    }
+    Ok(())
+}
 
 /// The faces that hold the one vertex and not the other, by rising id.
 fn only_at<S: Surface>(
@@ -32,14 +50,29 @@ fn only_at<S: Surface>(
     mesh.faces_at(v, &mut ids)?;
     let mut faces = Items::new(alloc);
     for f in &ids {
-        if let Some(list) = mesh.corners(*f) {
-            let c = Corners::of(list);
-            if !c.has_corner(other) {
-                faces.push((*f, c))?;
-            }
-        }
+        put_apart(mesh, *f, other, &mut faces)?;
     }
     Ok(faces)
+}
+
+/// Puts faces at the end of a list, under rising ids from the first on, with `a` in the place of `b`.
+fn put_numbered(
+    faces: &mut LeftFaces,
+    joining: &[(FaceId, Corners)],
+    a: VertexId,
+    b: VertexId,
+    first: u32,
+) -> Result<(), NoMemory>
+    requires first { first ≤ ID_MAX + 1 }
+    requires few { length joining.now ≤ FACES_MAX }
+    ensures { OnOk result (faces.new ≡ faces.old ++ numbered b a first joining.now) }
+{
+    let mut next = first;
+    for e in joining {
+        faces.push((FaceId(next), renamed(e.1, b, a)))?;
+        next += 1;
+    }
+    Ok(())
 }
 
 /// The faces at the joined vertex after the second act: those at `a` that do not hold `b`, and, under the next ids, those
@@ -55,11 +88,7 @@ fn joined_at<S: Surface>(
 {
     let mut faces = only_at(alloc, mesh, a, b)?;
     let joining = only_at(alloc, mesh, b, a)?;
-    let mut next = mesh.next_face();
-    for e in joining.as_slice() {
-        faces.push((FaceId(next), renamed(e.1, b, a)))?;
-        next += 1;
-    }
+    put_numbered(&mut faces, joining.as_slice(), a, b, mesh.next_face())?;
     Ok(faces)
 }
 
