@@ -5,7 +5,7 @@ use Rattle.std.proofs.lemmas.List.{get_or_append_left, length-append}
 use Rattle.std.proofs.lemmas.List.Filters.{length-filter_both}
 use Rattle.std.proofs.lemmas.List.Folds.{list_any-append}
 use Rattle.std.specs.Prelude.{if◌then◌else◌}
-use Rattle.std.specs.List.{filter}
+use Rattle.std.specs.List.{filter, fold}
 use Rattle.pair_scan.proofs.Lists.{rest_at}
 use Rattle.mesh_base.proofs.Tests.{or_either, both_ways}
 use Rattle.edit_base.specs.Classes.{is_one_of, Linked, class_of}
@@ -50,6 +50,12 @@ next_kept p xs i x b kept more below is passes put =
     ap (λ l. l ++ filter p (drop (i + 1) xs)) (put ∙ ap (λ t. if t then kept ++ x ∷ [] else kept) passes)
     ∙ one_kept p kept x (drop (i + 1) xs)
     ∙ sym (ap (λ l. kept ++ filter p l) (rest_at xs i x below ∙ ap (λ k. k ∷ drop (i + 1) xs) (sym is)))
+
+-- a walk goes on with the next
+pub next_folded : {A : Type 0} (step : A → ℕ → A) (xs : List ℕ) (i x : ℕ) (made more : A) → i < length xs → x ≡ get_or xs i x → more ≡ step made x → fold step more (drop (i + 1) xs) ≡ fold step made (drop i xs)
+next_folded step xs i x made more below is put =
+    ap (λ a. fold step a (drop (i + 1) xs)) put
+    ∙ sym (ap (fold step made) (rest_at xs i x below ∙ ap (λ k. k ∷ drop (i + 1) xs) (sym is)))
 
 pub turned : {A : Type 0} (b : Bool) (x y : A) → (if b then x else y) ≡ (if not b then y else x)
 turned true x y = refl
