@@ -10,7 +10,7 @@ ghost use Rattle.edit_check.specs.Reach.{ReachesTouched};
 ghost use Rattle.edit_check.specs.Checking.{scaffold_by};
 
 use crate::moves::Moved;
-use crate::nearby::faces_along;
+use crate::nearby::faces_near;
 use crate::neighbourhood::Neighbourhood;
 use crate::reach::reach_of;
 use crate::searching::first_along;
@@ -39,9 +39,7 @@ fn first_in_reach<S: Surface>(
         let s = scaffold_by m paths.now.moves.now t.touch t.together.now in
         IfOk result (λ found. found ≡ first_failing meets_exactly s t.depth) }
 {
-    let mut ids = Vec::new(alloc);
-    paths.mesh.faces_near(reach, &mut ids)?;
-    let all = faces_along(alloc, paths, ids.as_slice())?;
+    let all = faces_near(alloc, paths, reach)?;
     let faces = all.as_slice();
     let touched = touched_of(alloc, paths.moves, terms.together, fresh_from, faces)?;
     let near = Neighbourhood {

@@ -1,14 +1,14 @@
 //! Faces with their boxes, by their ids.
-ghost use Rattle.std.specs.Prelude.{◌≡◌, IfOk};
+ghost use Rattle.std.specs.Prelude.{◌≡◌, ◌++◌, IfOk, OnOk};
 ghost use Rattle.edit_base.specs.Scaffold.{motion_by};
 ghost use Rattle.pair_paths.specs.Moving.{moving_face, live_face};
 ghost use Rattle.edit_check.specs.Boxed.{faces_in};
-ghost use Rattle.edit_check.specs.Nearby.{faces_among};
+ghost use Rattle.edit_check.specs.Nearby.{as_list, faces_among, near_faces};
 
 use crate::boxed::BoxedFace;
 use crate::boxing::boxed_face;
 use crate::moves::Moved;
-use grid_base::{Items, NoMemory};
+use grid_base::{Extent, Items, NoMemory};
 use mesh_base::{Corners, FaceId, Surface};
 use pair_paths::{MovingFace, Paths};
 use std::alloc::Global;
@@ -37,6 +37,22 @@ fn face_along<S: Surface>(paths: &Moved<S>, f: FaceId) -> Option<MovingFace>
     }
 }
 
+/// Puts a face with the paths of its corners and its box at the end of a list, if it is live.
+fn put_face<S: Surface>(
+    paths: &Moved<S>,
+    f: FaceId,
+    faces: &mut Vec<BoxedFace>,
+) -> Result<(), NoMemory>
+    ensures { let m = S.mesh paths.now.mesh.now in
+        let face = live_face m (motion_by m paths.now.moves.now) f in
+        OnOk result (faces_in faces.new.items ≡ faces_in faces.old.items ++ as_list face) }
+{
+    if let Some(face) = face_along(paths, f) {
+        faces.push(boxed_face(face))?;
+    }
+    Ok(())
+}
+
 /// The faces of these ids, with the paths of their corners and their boxes.
 pub(crate) fn faces_along<S: Surface>(
     alloc: Global,
@@ -48,9 +64,21 @@ pub(crate) fn faces_along<S: Surface>(
 {
     let mut faces = Vec::with_capacity(alloc, ids.len())?;
     for f in ids {
-        if let Some(face) = face_along(paths, *f) {
-            faces.push(boxed_face(face))?;
-        }
+        put_face(paths, *f, &mut faces)?;
     }
     Ok(Items::from_vec(faces))
+}
+
+/// The faces near an extent, with the paths of their corners and their boxes.
+pub(crate) fn faces_near<S: Surface>(
+    alloc: Global,
+    paths: &Moved<S>,
+    reach: Extent,
+) -> Result<Items<BoxedFace>, NoMemory>
+    ensures { let m = S.mesh paths.now.mesh.now in
+        IfOk result (λ faces. faces_in faces ≡ near_faces m paths.now.moves.now reach) }
+{
+    let mut ids = Vec::new(alloc);
+    paths.mesh.faces_near(reach, &mut ids)?;
+    faces_along(alloc, paths, ids.as_slice())
 }

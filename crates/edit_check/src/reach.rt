@@ -135,6 +135,26 @@ fn reach_vertices<S: Surface>(
     Ok(wide)
 }
 
+/// The box, made to have the old faces at each vertex that moves and at each of the vertices.
+fn reach_old<S: Surface>(
+    alloc: Global,
+    paths: &Moved<S>,
+    fresh_from: u32,
+    vertices: &[VertexId],
+    reach: Option<Extent>,
+) -> Result<Option<Extent>, NoMemory>
+    ensures moves { let m = S.mesh paths.now.mesh.now in
+        IfOk result (λ wide. ReachesMoves m paths.now.moves.now fresh_from wide) }
+    ensures vertices { let m = S.mesh paths.now.mesh.now in
+        let moves = paths.now.moves.now in
+        IfOk result (λ wide. All (ReachesAt m moves fresh_from wide) vertices.now) }
+    ensures keeps { IfOk result (λ wide. Widens reach wide) }
+{
+    let mut at = Vec::new(alloc);
+    let moving = reach_moves(paths, fresh_from, &mut at, reach)?;
+    reach_vertices(paths, fresh_from, vertices, &mut at, moving)
+}
+
 /// The live faces from an id on, by rising id.
 fn fresh_faces<S: Surface>(alloc: Global, mesh: &S, fresh_from: u32) -> Result<FaceIds, NoMemory>
     ensures { let m = S.mesh mesh.now in
@@ -155,9 +175,7 @@ pub(crate) fn reach_of<S: Surface>(
         IfOk result (ReachesTouched m paths.now.moves.now together.now fresh_from) }
 {
     let fresh = fresh_faces(alloc, paths.mesh, fresh_from)?;
-    let mut at = Vec::new(alloc);
     let new = reach_faces(paths, fresh.as_slice(), None);
-    let moving = reach_moves(paths, fresh_from, &mut at, new)?;
-    let all = reach_vertices(paths, fresh_from, together, &mut at, moving)?;
+    let all = reach_old(alloc, paths, fresh_from, together, new)?;
     Ok(all)
 }

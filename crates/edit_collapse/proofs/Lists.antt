@@ -4,7 +4,7 @@ use Rattle.std.proofs.Math.Seq.{drop-cons}
 use Rattle.std.proofs.lemmas.Bool.{false≢true, eqb-true}
 use Rattle.std.proofs.lemmas.Bool.Decides.{nat_tests}
 use Rattle.std.specs.Option.{option_map, option_map_or}
-use Rattle.std.specs.List.{filter, filter_map, cons_option, find, list_any, AllByRecursion}
+use Rattle.std.specs.List.{filter, fold, filter_map, cons_option, find, list_any, AllByRecursion}
 use Rattle.std.specs.Ordering.{nat_cmp, is_lt}
 use Rattle.std.specs.declared.cmp.Ordering.TheVariants.{Greater}
 use Rattle.std.specs.Cmp.{nat_cmp_is}
@@ -208,3 +208,16 @@ pub repeats_at : (es : List (ℕ × Corners)) (i : ℕ) (x : ℕ × Corners) →
 repeats_at es i x more is =
     ap (λ (xs : List (ℕ × Corners)). has_equal (map (λ e. e.1) xs)) (rest_at es i x more ∙ ap (λ (y : ℕ × Corners). y ∷ drop (i + 1) es) (sym is))
     ∙ ap (λ t. t || has_equal (map (λ e. e.1) (drop (i + 1) es))) (any_mapped x.1 (drop (i + 1) es))
+
+-- ---- a walk on which some are skipped
+pub next_unless : {M : Type 0} (step : M → ℕ → M) (skip : ℕ → Bool) (xs : List ℕ) (i x : ℕ) (m n : M) → i < length xs → x ≡ get_or xs i x → n ≡ cond (skip x) m (step m x) →
+    fold step n (filter (λ y. not (skip y)) (drop (i + 1) xs)) ≡ fold step m (filter (λ y. not (skip y)) (drop i xs))
+next_unless step skip xs i x m n below is made =
+    ap (λ k. fold step k (filter (λ y. not (skip y)) (drop (i + 1) xs))) made
+    ∙ by_test (skip x)
+    ∙ sym (ap (λ l. fold step m (filter (λ y. not (skip y)) l)) (rest_at xs i x below ∙ ap (λ k. k ∷ drop (i + 1) xs) (sym is)))
+  where
+    by_test : (t : Bool) → fold step (cond t m (step m x)) (filter (λ y. not (skip y)) (drop (i + 1) xs))
+        ≡ fold step m (cond (not t) (x ∷ filter (λ y. not (skip y)) (drop (i + 1) xs)) (filter (λ y. not (skip y)) (drop (i + 1) xs)))
+    by_test true = refl
+    by_test false = refl

@@ -1,5 +1,5 @@
 -- The faces of a list of ids that do not hold a vertex, with their corners.
-use Rattle.std.proofs.Common.{◌≡◌, ℕ, ◌<◌, ◌≤◌, ◌+◌, Bool, true, false, cond, not, ◌&&◌, List, [], ◌∷◌, ◌++◌, map, length, get_or, drop, Some, None, refl, sym, ap, ◌∙◌, append_assoc, arith}
+use Rattle.std.proofs.Common.{◌≡◌, ℕ, ◌<◌, ◌≤◌, ◌+◌, Bool, true, false, cond, not, ◌&&◌, List, [], ◌∷◌, ◌++◌, map, length, get_or, drop, Option, Some, None, refl, sym, ap, ◌∙◌, append_assoc, arith}
 use Rattle.std.specs.Option.{option_map_or}
 use Rattle.std.specs.List.{filter, AllByRecursion}
 use Rattle.std.specs.FinMap as finite
@@ -10,7 +10,7 @@ use Rattle.mesh_base.specs.Mesh.{Mesh, IsSound, HasCorners}
 use Rattle.mesh_base.specs.Sides.{has_corner, faces_at}
 use Rattle.mesh_base.proofs.ListedPairs.{all_weaker, all_filtered}
 use Rattle.edit_collapse.proofs.Joined.{each_there}
-use Rattle.edit_collapse.specs.Tried.{only_at}
+use Rattle.edit_collapse.specs.Tried.{if_apart, only_at}
 use Rattle.edit_collapse.proofs.Lists.{filter_twice, fewer_filtered, rest_at}
 
 abbrev pub picked : Mesh → ℕ → List ℕ → List (ℕ × Corners)
@@ -42,22 +42,23 @@ few_at m v other sound =
     let limit = sound.limits.faces in
     omega (arith, few, count, limit)
 
--- one step of the walk, by what is found
-module _ (m : Mesh) (other : ℕ) (fs : List ℕ) (i : ℕ) (more : i < length fs) (got : List (ℕ × Corners)) where
-  abbrev rest : List (ℕ × Corners)
-  rest = picked m other (drop (i + 1) fs)
+-- one step of the walk
+picked_first : (m : Mesh) (other f : ℕ) (fs : List ℕ) → if_apart m other f ++ picked m other fs ≡ picked m other (f ∷ fs)
+picked_first m other f fs = by_found (finite.get m.faces f)
+  where
+    by_corner : (c : Corners) (t : Bool) → cond t [] ((f, c) ∷ []) ++ picked m other fs ≡ cond t (picked m other fs) ((f, c) ∷ picked m other fs)
+    by_corner c true = refl
+    by_corner c false = refl
 
-  abbrev f : ℕ
-  f = get_or fs i 0
+    by_found : (o : Option Corners) → option_map_or (λ c. cond (has_corner c other) [] ((f, c) ∷ [])) o [] ++ picked m other fs
+        ≡ option_map_or (λ c. cond (has_corner c other) (picked m other fs) ((f, c) ∷ picked m other fs)) o (picked m other fs)
+    by_found None = refl
+    by_found (Some c) = by_corner c (has_corner c other)
 
-  step : picked m other (drop i fs) ≡ option_map_or (λ c. cond (has_corner c other) rest ((f, c) ∷ rest)) (finite.get m.faces f) rest
-  step = ap (picked m other) (rest_at fs i 0 more)
-
-  pub step_none : finite.get m.faces f ≡ None → got ++ rest ≡ got ++ picked m other (drop i fs)
-  step_none e = ap (λ xs. got ++ xs) (sym (step ∙ ap (λ o. option_map_or (λ c. cond (has_corner c other) rest ((f, c) ∷ rest)) o rest) e))
-
-  pub step_held : (c : Corners) → finite.get m.faces f ≡ Some c → has_corner c other ≡ true → got ++ rest ≡ got ++ picked m other (drop i fs)
-  step_held c e held = ap (λ xs. got ++ xs) (sym (step ∙ ap (λ o. option_map_or (λ c. cond (has_corner c other) rest ((f, c) ∷ rest)) o rest) e ∙ ap (λ t. cond t rest ((f, c) ∷ rest)) held))
-
-  pub step_picked : (c : Corners) → finite.get m.faces f ≡ Some c → has_corner c other ≡ false → (got ++ (f, c) ∷ []) ++ rest ≡ got ++ picked m other (drop i fs)
-  step_picked c e held = append_assoc got ((f, c) ∷ []) rest ∙ ap (λ xs. got ++ xs) (sym (step ∙ ap (λ o. option_map_or (λ c. cond (has_corner c other) rest ((f, c) ∷ rest)) o rest) e ∙ ap (λ t. cond t rest ((f, c) ∷ rest)) held))
+pub picked_on : (m : Mesh) (other : ℕ) (fs : List ℕ) (i f : ℕ) (got more : List (ℕ × Corners)) → i < length fs → f ≡ get_or fs i f → more ≡ got ++ if_apart m other f →
+    more ++ picked m other (drop (i + 1) fs) ≡ got ++ picked m other (drop i fs)
+picked_on m other fs i f got more below is put =
+    let rest = picked m other (drop (i + 1) fs) in
+    ap (λ xs. xs ++ rest) put
+    ∙ append_assoc got (if_apart m other f) rest
+    ∙ ap (λ xs. got ++ xs) (picked_first m other f (drop (i + 1) fs) ∙ ap (picked m other) (sym (rest_at fs i f below ∙ ap (λ k. k ∷ drop (i + 1) fs) (sym is))))

@@ -15,7 +15,7 @@ use Rattle.std.proofs.lemmas.Map.Lookups.{exact_unsigned}
 use Rattle.std.proofs.lemmas.Map.Views.{tells_apart}
 use Rattle.edit_base.specs.Edges.{with_renamed}
 use Rattle.edit_acts.proofs.Flow.{not_live, below-without}
-use Rattle.edit_collapse.specs.Tried.{has_id_in, with_joined_or_gone}
+use Rattle.edit_collapse.specs.Tried.{has_id_in, with_id_used_up, with_joined_or_gone}
 use Rattle.edit_acts.proofs.Counting.{len-without}
 
 not_true : (b : Bool) → ¬ (b ≡ true) → b ≡ false
@@ -63,10 +63,15 @@ gone q k v none =
         ] refl
 
 -- the face is gone, and one id is used up
-pub spent : (m : Mesh) (f : ℕ) (c : Corners) (from to : ℕ) (left : List (ℕ × Corners)) (g : ℕ) (one two three : Mesh) → IsSound m → HasCorners m f c → has_id_in left m.next_face ≡ false →
-    one ≡ without_face m f → two ≡ with_face one c → three ≡ without_face two g → g ≡ m.next_face → three ≡ with_joined_or_gone from to left m f
-spent m f c from to left g one two three sound there absent e1 e2 e3 is =
+pub used_up : (m : Mesh) (f : ℕ) (c : Corners) (g : ℕ) (two : Mesh) → IsSound m → two ≡ with_face (without_face m f) c → g ≡ m.next_face → without_face two g ≡ with_id_used_up m f
+used_up m f c g two sound e is =
     let bare = not_live (without_face m f) (below-without m f (λ k h. (sound.is_mesh.face_ids k h).1)) in
-    e3 ∙ (λ i. without_face (e2 i) (is i)) ∙ (λ i. without_face (with_face (e1 i) c) m.next_face)
+    (λ i. without_face (e i) (is i))
     ∙ ap (λ fs. record m { faces = fs; next_face = m.next_face + 1 }) (gone (finite.remove m.faces f) m.next_face c bare)
-    ∙ sym (λ i. if is_some (there i) then (if absent i then with_renamed from to m f else record (without_face m f) { next_face = m.next_face + 1 }) else m)
+
+-- what is made of a live face, by whether it is left, and of one that is not live
+pub joined_there : (m : Mesh) (f : ℕ) (c : Corners) (from to : ℕ) (left : List (ℕ × Corners)) → HasCorners m f c → has_id_in left m.next_face ≡ true → with_renamed from to m f ≡ with_joined_or_gone from to left m f
+joined_there m f c from to left there is = sym (λ i. if is_some (there i) then (if is i then with_renamed from to m f else with_id_used_up m f) else m)
+
+pub joined_used_up : (m : Mesh) (f : ℕ) (c : Corners) (from to : ℕ) (left : List (ℕ × Corners)) → HasCorners m f c → has_id_in left m.next_face ≡ false → with_id_used_up m f ≡ with_joined_or_gone from to left m f
+joined_used_up m f c from to left there is = sym (λ i. if is_some (there i) then (if is i then with_renamed from to m f else with_id_used_up m f) else m)

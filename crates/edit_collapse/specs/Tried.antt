@@ -54,6 +54,10 @@ cancelled_in (suc n) es = cancelled_in n (one_cancelled_in es)
 abbrev pub joined_at : Mesh → ℕ → ℕ → List (ℕ × Corners)
 joined_at m a b = filter (λ e. has_corner e.1 a) (finite.entries (with_joined (without_shared m a b) a b).faces)
 
+-- a face with its corners, as a list of one, if it is live and does not hold the vertex
+abbrev pub if_apart : Mesh → ℕ → ℕ → List (ℕ × Corners)
+if_apart m other f = option_map_or (λ c. if has_corner c other then [] else (f, c) ∷ []) (finite.get m.faces f) []
+
 -- the faces that hold the one vertex and not the other, rising
 abbrev pub only_at : Mesh → ℕ → ℕ → List (ℕ × Corners)
 only_at m v other = filter (λ e. has_corner e.1 v && not (has_corner e.1 other)) (finite.entries m.faces)
@@ -63,9 +67,13 @@ abbrev pub numbered : ℕ → ℕ → ℕ → List (ℕ × Corners) → List (�
 numbered from to next [] = []
 numbered from to next (e ∷ es) = (next, renamed from to e.1) ∷ numbered from to (next + 1) es
 
+-- the corners of a face, if it is live
+abbrev pub corners_if_live : Mesh → ℕ → List ℕ
+corners_if_live m f = unwrap_or (option_map corner_list (finite.get m.faces f)) []
+
 -- the corners of the faces at a vertex, each as often as it is one
 abbrev pub corners_near : Mesh → ℕ → List ℕ
-corners_near m v = flat_map (λ f. unwrap_or (option_map corner_list (finite.get m.faces f)) []) (faces_at m v)
+corners_near m v = flat_map (λ f. corners_if_live m f) (faces_at m v)
 
 -- the numbers of the list but one
 abbrev pub others_than : ℕ → List ℕ → List ℕ
@@ -79,10 +87,13 @@ without_if_bare m v = if not (has_face m v) && is_some (finite.get m.points v) t
 abbrev pub has_id_in : List (ℕ × Corners) → ℕ → Bool
 has_id_in es f = list_any (λ e. e.0 == f) es
 
+-- a face is dropped, and the next id used up
+abbrev pub with_id_used_up : Mesh → ℕ → Mesh
+with_id_used_up m f = record (without_face m f) { next_face = m.next_face + 1 }
+
 -- a live face is dropped, and made again with one vertex in another's place if its new id is one of the list's; else the new id is used up
 abbrev pub with_joined_or_gone : ℕ → ℕ → List (ℕ × Corners) → Mesh → ℕ → Mesh
 with_joined_or_gone from to left m f =
     if is_some (finite.get m.faces f) then
-    (if has_id_in left m.next_face then with_renamed from to m f
-    else record (without_face m f) { next_face = m.next_face + 1 })
+    (if has_id_in left m.next_face then with_renamed from to m f else with_id_used_up m f)
     else m

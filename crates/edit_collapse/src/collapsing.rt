@@ -1,5 +1,5 @@
 //! The collapse itself: its reasons, its test and its changes under a mark.
-ghost use Rattle.std.specs.Prelude.{◌≡◌, ◌≢◌, ◌≤◌, IfOk, OnOk, OnErr};
+ghost use Rattle.std.specs.Prelude.{◌≡◌, ◌≢◌, ◌≤◌, true, false, IfOk, OnOk, OnErr};
 ghost use Rattle.grid_base.specs.declared.TheConstants.{HALF_MAX};
 ghost use Rattle.grid_base.specs.Triples.{IsWithin};
 ghost use Rattle.grid_decided.specs.Decided.{meets_exactly};
@@ -138,6 +138,35 @@ fn collapse_or_leave<S: Surface>(
     }
 }
 
+/// Collapses an edge of which an end may move, or leaves all as it was: the other reasons.
+fn collapse_movable<S: Surface>(
+    alloc: Global,
+    mesh: &mut S,
+    a: VertexId,
+    b: VertexId,
+    depth: u8,
+) -> Result<Edit, NoMemory>
+    requires closed { IsClosed (S.mesh mesh.old) }
+    requires clear { IsClearMesh (S.mesh mesh.old) }
+    requires depth { depth ≤ DEPTH_MAX }
+    requires apart { a ≢ b }
+    requires edge { is_edge (S.mesh mesh.old) a b ≡ true }
+    requires may_move { are_both_solid (S.mesh mesh.old) a b ≡ false }
+    ensures answer { OnOkIs result (answer_of meets_exactly (S.mesh mesh.old) a b depth) }
+    ensures mesh { S.mesh mesh.new ≡ mesh_after_call collapse_result (S.mesh mesh.old) result }
+    ensures marks { BeginsWith (S.kept mesh.new) (S.kept mesh.old) }
+{
+    let left = left_at(alloc, mesh, a, b)?;
+    let doubled = is_doubled(&left);
+    if doubled {
+        Ok(Edit::No(Why::Doubled))
+    } else if is_over(alloc, mesh, a, b)? {
+        Ok(Edit::No(Why::Full))
+    } else {
+        collapse_or_leave(alloc, mesh, a, b, &left, depth)
+    }
+}
+
 /// The same of two ids in order: reason by reason.
 fn collapse_ordered<S: Surface>(
     alloc: Global,
@@ -161,15 +190,7 @@ fn collapse_ordered<S: Surface>(
     if are_both_solid(mesh, a, b) {
         return Ok(Edit::No(Why::Solid));
     }
-    let left = left_at(alloc, mesh, a, b)?;
-    let doubled = is_doubled(&left);
-    if doubled {
-        Ok(Edit::No(Why::Doubled))
-    } else if is_over(alloc, mesh, a, b)? {
-        Ok(Edit::No(Why::Full))
-    } else {
-        collapse_or_leave(alloc, mesh, a, b, &left, depth)
-    }
+    collapse_movable(alloc, mesh, a, b, depth)
 }
 
 /// Collapses the edge of two ids, in any order, to the end that is solid, or, where neither is, to its midpoint, each

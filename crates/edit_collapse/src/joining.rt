@@ -1,15 +1,15 @@
 //! The faces at the joined vertex, and the changes of a collapse.
-ghost use Rattle.std.specs.Prelude.{◌≡◌, ◌≤◌, ◌≢◌, not, IsTrue, IfOk, OnOk, length};
+ghost use Rattle.std.specs.Prelude.{◌≡◌, ◌≤◌, ◌≢◌, ◌==◌, ◌+◌, ◌++◌, not, IsTrue, IfOk, OnOk, length, if◌then◌else◌};
 ghost use Rattle.std.specs.List.{filter, fold};
 ghost use Rattle.grid_base.specs.declared.TheConstants.{ID_MAX, FACES_MAX};
-ghost use Rattle.mesh_base.specs.Mesh.{IsLiveVertex};
+ghost use Rattle.mesh_base.specs.Mesh.{IsLiveVertex, IsLiveFace};
 ghost use Rattle.mesh_base.specs.Sides.{IsClosed, faces_at};
-ghost use Rattle.mesh_base.specs.Changes.{without_face, IsFresh};
+ghost use Rattle.mesh_base.specs.Changes.{corners_of, corner_list, with_face, without_face, IsFresh, IsFullOfFaces};
 ghost use Rattle.mesh_base.specs.Kept.{BeginsWith};
 ghost use Rattle.edit_base.specs.Edges.{renamed, corners_at, without_faces};
-ghost use Rattle.edit_collapse.specs.Collapse.{joined_faces, has_solid_end, collapse_mesh, collapse_point, placed, placed_if_left};
+ghost use Rattle.edit_collapse.specs.Collapse.{joined_faces, without_bare, has_solid_end, collapse_mesh, collapse_point, placed, placed_if_left};
 ghost use Rattle.edit_base.specs.Reasons.{is_full};
-ghost use Rattle.edit_collapse.specs.Tried.{only_at, joined_at, left_at, MayBeTried, has_id_in, with_joined_or_gone, corners_near, others_than, without_if_bare, TellsDoubled};
+ghost use Rattle.edit_collapse.specs.Tried.{if_apart, only_at, numbered, joined_at, left_at, MayBeTried, has_id_in, with_id_used_up, with_joined_or_gone, corners_if_live, corners_near, others_than, without_if_bare, TellsDoubled};
 ghost use Rattle.edit_base.specs.Clauses.{OnOkIs};
 
 use crate::cancelling::{LeftFaces, cancelled, has_id, repeats};
@@ -17,6 +17,24 @@ use edit_acts::{make_face, renamed};
 use grid_base::{ID_MAX, Items, NoMemory, Point};
 use mesh_base::{Corners, FaceId, Surface, VertexId};
 use std::alloc::Global;
+
+/// Puts a face with its corners at the end of a list, if it is live and does not hold a vertex.
+fn put_apart<S: Surface>(
+    mesh: &S,
+    f: FaceId,
+    other: VertexId,
+    faces: &mut LeftFaces,
+) -> Result<(), NoMemory>
+    ensures { OnOk result (faces.new ≡ faces.old ++ if_apart (S.mesh mesh.now) other f) }
+{
+    if let Some(list) = mesh.corners(f) {
+        let c = Corners::of(list);
+        if !c.has_corner(other) {
+            faces.push((f, c))?;
+        }
+    }
+    Ok(())
+}
 
 /// The faces that hold the one vertex and not the other, by rising id.
 fn only_at<S: Surface>(
@@ -32,14 +50,29 @@ fn only_at<S: Surface>(
     mesh.faces_at(v, &mut ids)?;
     let mut faces = Items::new(alloc);
     for f in &ids {
-        if let Some(list) = mesh.corners(*f) {
-            let c = Corners::of(list);
-            if !c.has_corner(other) {
-                faces.push((*f, c))?;
-            }
-        }
+        put_apart(mesh, *f, other, &mut faces)?;
     }
     Ok(faces)
+}
+
+/// Puts faces at the end of a list, under rising ids from the first on, with `a` in the place of `b`.
+fn put_numbered(
+    faces: &mut LeftFaces,
+    joining: &[(FaceId, Corners)],
+    a: VertexId,
+    b: VertexId,
+    first: u32,
+) -> Result<(), NoMemory>
+    requires first { first ≤ ID_MAX + 1 }
+    requires few { length joining.now ≤ FACES_MAX }
+    ensures { OnOk result (faces.new ≡ faces.old ++ numbered b a first joining.now) }
+{
+    let mut next = first;
+    for e in joining {
+        faces.push((FaceId(next), renamed(e.1, b, a)))?;
+        next += 1;
+    }
+    Ok(())
 }
 
 /// The faces at the joined vertex after the second act: those at `a` that do not hold `b`, and, under the next ids, those
@@ -55,11 +88,7 @@ fn joined_at<S: Surface>(
 {
     let mut faces = only_at(alloc, mesh, a, b)?;
     let joining = only_at(alloc, mesh, b, a)?;
-    let mut next = mesh.next_face();
-    for e in joining.as_slice() {
-        faces.push((FaceId(next), renamed(e.1, b, a)))?;
-        next += 1;
-    }
+    put_numbered(&mut faces, joining.as_slice(), a, b, mesh.next_face())?;
     Ok(faces)
 }
 
@@ -111,6 +140,19 @@ fn drop_if_there<S: Surface>(mesh: &mut S, f: FaceId) -> Result<(), NoMemory>
     Ok(())
 }
 
+/// Drops a face, if it is there, unless it is left.
+fn drop_unless_left<S: Surface>(mesh: &mut S, left: &LeftFaces, f: FaceId) -> Result<(), NoMemory>
+    ensures made { let m = S.mesh mesh.old in
+        OnOk result (S.mesh mesh.new ≡ (if has_id_in left.now f then m else without_face m f)) }
+    ensures marks { BeginsWith (S.kept mesh.new) (S.kept mesh.old) }
+{
+    if has_id(left.as_slice(), f) {
+        Ok(())
+    } else {
+        drop_if_there(mesh, f)
+    }
+}
+
 /// Drops the faces at `a` that are not left: those that hold both ends, and those that the third act drops.
 fn drop_gone<S: Surface>(
     alloc: Global,
@@ -126,11 +168,35 @@ fn drop_gone<S: Surface>(
     let mut ids = Vec::new(alloc);
     mesh.faces_at(a, &mut ids)?;
     for f in &ids {
-        if !has_id(left.as_slice(), *f) {
-            drop_if_there(mesh, *f)?;
-        }
+        drop_unless_left(mesh, left, *f)?;
     }
     Ok(())
+}
+
+/// Drops a face, and makes one of these corners. Where memory is wanting, it may be dropped.
+fn make_again<S: Surface>(mesh: &mut S, f: FaceId, list: [VertexId; 3]) -> Result<(), NoMemory>
+    requires live { IsLiveFace (S.mesh mesh.old) f }
+    requires fresh { IsFresh (without_face (S.mesh mesh.old) f) (corners_of list) }
+    requires room { ¬ IsFullOfFaces (without_face (S.mesh mesh.old) f) }
+    ensures made { let m = S.mesh mesh.old in
+        OnOk result (S.mesh mesh.new ≡ with_face (without_face m f) (corners_of list)) }
+    ensures marks { BeginsWith (S.kept mesh.new) (S.kept mesh.old) }
+{
+    mesh.drop_face(f)?;
+    make_face(mesh, list)
+}
+
+/// Drops a face, and uses up an id: it is given to these corners, and that face dropped.
+fn use_up_id<S: Surface>(mesh: &mut S, f: FaceId, list: [VertexId; 3]) -> Result<(), NoMemory>
+    requires live { IsLiveFace (S.mesh mesh.old) f }
+    requires fresh { IsFresh (without_face (S.mesh mesh.old) f) (corners_of list) }
+    requires room { ¬ IsFullOfFaces (without_face (S.mesh mesh.old) f) }
+    ensures made { OnOk result (S.mesh mesh.new ≡ with_id_used_up (S.mesh mesh.old) f) }
+    ensures marks { BeginsWith (S.kept mesh.new) (S.kept mesh.old) }
+{
+    let g = FaceId(mesh.next_face());
+    make_again(mesh, f, list)?;
+    mesh.drop_face(g)
 }
 
 /// Drops a face, and makes it again with `a` in the place of `b`, if that is left, under the next id. Where it is not, the
@@ -151,13 +217,10 @@ fn join_face<S: Surface>(
     ensures marks { BeginsWith (S.kept mesh.new) (S.kept mesh.old) }
 {
     if let Some(list) = mesh.corners(f) {
-        let g = FaceId(mesh.next_face());
-        mesh.drop_face(f)?;
-        if has_id(left.as_slice(), g) {
-            make_face(mesh, renamed(Corners::of(list), b, a).list())?;
+        if has_id(left.as_slice(), FaceId(mesh.next_face())) {
+            make_again(mesh, f, renamed(Corners::of(list), b, a).list())?;
         } else {
-            make_face(mesh, list)?;
-            mesh.drop_face(g)?;
+            use_up_id(mesh, f, list)?;
         }
     }
     Ok(())
@@ -187,6 +250,29 @@ fn put_joined<S: Surface>(
     Ok(())
 }
 
+/// Puts corners at the end of a list.
+fn put_corners(near: &mut Items<VertexId>, c: Corners) -> Result<(), NoMemory>
+    ensures { OnOk result (near.new ≡ near.old ++ corner_list c) }
+{
+    near.push(c.first)?;
+    near.push(c.second)?;
+    near.push(c.third)
+}
+
+/// Puts the corners of a face at the end of a list, if it is live.
+fn put_corners_of<S: Surface>(
+    mesh: &S,
+    f: FaceId,
+    near: &mut Items<VertexId>,
+) -> Result<(), NoMemory>
+    ensures { OnOk result (near.new ≡ near.old ++ corners_if_live (S.mesh mesh.now) f) }
+{
+    match mesh.corners(f) {
+        Some(list) => put_corners(near, Corners::of(list)),
+        None => Ok(()),
+    }
+}
+
 /// The corners of the faces at a vertex, each as often as it is one.
 fn corners_near<S: Surface>(
     alloc: Global,
@@ -199,11 +285,7 @@ fn corners_near<S: Surface>(
     mesh.faces_at(v, &mut ids)?;
     let mut near = Items::new(alloc);
     for f in &ids {
-        if let Some(list) = mesh.corners(*f) {
-            near.push(list[0])?;
-            near.push(list[1])?;
-            near.push(list[2])?;
-        }
+        put_corners_of(mesh, *f, &mut near)?;
     }
     Ok(near)
 }
@@ -221,6 +303,24 @@ fn drop_if_bare<S: Surface>(alloc: Global, mesh: &mut S, v: VertexId) -> Result<
     Ok(())
 }
 
+/// Drops a vertex, if it is live and has no face, unless it is the one.
+fn drop_if_bare_but<S: Surface>(
+    alloc: Global,
+    mesh: &mut S,
+    v: VertexId,
+    but: VertexId,
+) -> Result<(), NoMemory>
+    ensures made { let m = S.mesh mesh.old in
+        OnOk result (S.mesh mesh.new ≡ (if v == but then m else without_if_bare m v)) }
+    ensures marks { BeginsWith (S.kept mesh.new) (S.kept mesh.old) }
+{
+    if v == but {
+        Ok(())
+    } else {
+        drop_if_bare(alloc, mesh, v)
+    }
+}
+
 /// Drops each vertex of the list, but the one, that has no face.
 fn drop_bare<S: Surface>(
     alloc: Global,
@@ -233,11 +333,26 @@ fn drop_bare<S: Surface>(
     ensures marks { BeginsWith (S.kept mesh.new) (S.kept mesh.old) }
 {
     for v in near {
-        if *v != but {
-            drop_if_bare(alloc, mesh, *v)?;
-        }
+        drop_if_bare_but(alloc, mesh, *v, but)?;
     }
     Ok(())
+}
+
+/// Drops each vertex of two lists that has no face, but the one end of the first list and the other of the second.
+fn drop_bare_ends<S: Surface>(
+    alloc: Global,
+    mesh: &mut S,
+    a: VertexId,
+    b: VertexId,
+    first: &[VertexId],
+    second: &[VertexId],
+) -> Result<(), NoMemory>
+    ensures made { let one = fold without_if_bare (S.mesh mesh.old) (others_than a first.now) in
+        OnOk result (S.mesh mesh.new ≡ fold without_if_bare one (others_than b second.now)) }
+    ensures marks { BeginsWith (S.kept mesh.new) (S.kept mesh.old) }
+{
+    drop_bare(alloc, mesh, first, a)?;
+    drop_bare(alloc, mesh, second, b)
 }
 
 /// Whether an end at least is solid.
@@ -276,6 +391,29 @@ fn place_if_left<S: Surface>(
     Ok(())
 }
 
+/// The four acts of a collapse. Where memory is wanting, some of it may be done.
+fn apply_acts<S: Surface>(
+    alloc: Global,
+    mesh: &mut S,
+    a: VertexId,
+    b: VertexId,
+    left: &LeftFaces,
+) -> Result<(), NoMemory>
+    requires closed { IsClosed (S.mesh mesh.old) }
+    requires apart { a ≢ b }
+    requires tried { MayBeTried (S.mesh mesh.old) a b }
+    requires left { left.now ≡ left_at (S.mesh mesh.old) a b }
+    ensures made { let m = S.mesh mesh.old in
+        OnOk result (S.mesh mesh.new ≡ without_bare m b (joined_faces m a b)) }
+    ensures marks { BeginsWith (S.kept mesh.new) (S.kept mesh.old) }
+{
+    let first = corners_near(alloc, mesh, a)?;
+    let second = corners_near(alloc, mesh, b)?;
+    put_joined(alloc, mesh, a, b, left)?;
+    // The face of their edge has each end among the corners near the other.
+    drop_bare_ends(alloc, mesh, a, b, first.as_slice(), second.as_slice())
+}
+
 /// All acts of a collapse, and the point. Where memory is wanting, some of it may be done.
 pub(crate) fn apply_collapse<S: Surface>(
     alloc: Global,
@@ -294,11 +432,6 @@ pub(crate) fn apply_collapse<S: Surface>(
 {
     // An end's mark goes with the end, so it is read before.
     let solid = has_solid_end(mesh, a, b);
-    let near_first = corners_near(alloc, mesh, a)?;
-    let near_second = corners_near(alloc, mesh, b)?;
-    put_joined(alloc, mesh, a, b, left)?;
-    // The face of their edge has each end among the corners near the other.
-    drop_bare(alloc, mesh, near_first.as_slice(), a)?;
-    drop_bare(alloc, mesh, near_second.as_slice(), b)?;
+    apply_acts(alloc, mesh, a, b, left)?;
     place_if_left(mesh, a, at, solid)
 }

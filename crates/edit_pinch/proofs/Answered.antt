@@ -1,5 +1,5 @@
 -- What a pinch answers where its reasons are known.
-use Rattle.std.proofs.Common.{◌≡◌, ℕ, ◌-◌, ◌≤◌, Bool, true, false, nat_lt, List, [], ◌∷◌, length, take, drop, get_or, Option, None, is_some, sym, ap, refl, ◌∙◌, arith}
+use Rattle.std.proofs.Common.{◌≡◌, ℕ, ◌-◌, ◌≤◌, Bool, true, false, nat_lt, List, [], ◌∷◌, length, take, drop, get_or, Option, None, Some, is_some, sym, ap, refl, ◌∙◌, arith}
 use Rattle.std.proofs.lemmas.List.{take_all}
 use Rattle.std.specs.Option.{option_map}
 use Rattle.std.specs.List.{AllByRecursion}
@@ -45,6 +45,9 @@ module _ (m : Mesh) (v depth : ℕ) where
 
   pub full_is_refused : nat_lt (length (fans m v)) 2 ≡ false → is_solid m v ≡ false → is_over_limits (pinch_scaffold m v).mesh ≡ true → No Full ≡ pinch_answer meets_exactly m v depth
   full_is_refused two free over = sym (λ i. answer_by (two i) (free i) (over i) found done)
+
+  pub hit_is_refused : MayBeTried m v → (p : PairName) → Some p ≡ found → No (Hit p) ≡ pinch_answer meets_exactly m v depth
+  hit_is_refused tried p e = sym (λ i. answer_by (tried.two_fans i) (tried.may_move i) (tried.fits i) (sym e i) done)
 
   pub no_hit_is_done : MayBeTried m v → None ≡ found → Done done ≡ pinch_answer meets_exactly m v depth
   no_hit_is_done tried e = sym (λ i. answer_by (tried.two_fans i) (tried.may_move i) (tried.fits i) (sym e i) done)

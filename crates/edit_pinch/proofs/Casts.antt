@@ -36,13 +36,27 @@ module _ (here sum : ℤ) (n : ℕ) (near : unsigned_abs here ≤ BOX) (few : un
   moved_stays result e = subst (λ z. unsigned_abs z ≤ BOX) (sym (moved_held result e)) stays
 
 -- the sum of a coordinate and a part, as it is read and written
-pub sum_held : (here part from eighth : ℤ) → SFits w32 here → from ≡ to_z w32 (of_z w32 here) → eighth ≡ part → unsigned_abs (here +ℤ part) ≤ BOX →
-    to_z w32 (of_z w32 (to_z w128 (of_z w128 (to_z w128 (of_z w128 from) +ℤ to_z w128 (of_z w128 eighth))))) ≡ here +ℤ part
-sum_held here part from eighth fits from_is eighth_is stays =
-    let small : unsigned_abs here ≤ 2 ^ 31 = omega (arith, ints, fits) in
-    let few : unsigned_abs part ≤ 2 ^ 33 = omega (arith, ints, small, stays) in
-    let first = ap (λ z. to_z w128 (of_z w128 z)) (from_is ∙ to_z-of_z w32 here fits) ∙ wide_held here (omega (arith, small)) in
-    let second = ap (λ z. to_z w128 (of_z w128 z)) eighth_is ∙ wide_held part (omega (arith, few)) in
-    (λ i. to_z w32 (of_z w32 (to_z w128 (of_z w128 (first i +ℤ second i)))))
-    ∙ ap (λ z. to_z w32 (of_z w32 z)) (wide_held (here +ℤ part) (omega (arith, stays)))
-    ∙ coordinate_held (here +ℤ part) stays
+module _ (here part from eighth : ℤ) (fits : SFits w32 here) (from_is : from ≡ to_z w32 (of_z w32 here)) (eighth_is : eighth ≡ part) (stays : unsigned_abs (here +ℤ part) ≤ BOX) where
+  -- the two as they are read
+  abbrev two : ℤ
+  two = to_z w128 (of_z w128 from) +ℤ to_z w128 (of_z w128 eighth)
+
+  two_are : two ≡ here +ℤ part
+  two_are =
+      let small : unsigned_abs here ≤ 2 ^ 31 = omega (arith, ints, fits) in
+      let few : unsigned_abs part ≤ 2 ^ 33 = omega (arith, ints, small, stays) in
+      let first = ap (λ z. to_z w128 (of_z w128 z)) (from_is ∙ to_z-of_z w32 here fits) ∙ wide_held here (omega (arith, small)) in
+      let second = ap (λ z. to_z w128 (of_z w128 z)) eighth_is ∙ wide_held part (omega (arith, few)) in
+      λ i. first i +ℤ second i
+
+  held : to_z w128 (of_z w128 two) ≡ here +ℤ part
+  held = ap (λ z. to_z w128 (of_z w128 z)) two_are ∙ wide_held (here +ℤ part) (omega (arith, stays))
+
+  pub sum_fits : SFits w128 two
+  sum_fits = subst (SFits w128) (sym two_are) (fits_signed_from_abs w128 (here +ℤ part) (omega (arith, stays)))
+
+  pub cast_fits : SFits w32 (to_z w128 (of_z w128 two))
+  cast_fits = subst (SFits w32) (sym held) (fits_signed_from_abs w32 (here +ℤ part) (omega (arith, stays)))
+
+  pub sum_held : to_z w32 (of_z w32 (to_z w128 (of_z w128 two))) ≡ here +ℤ part
+  sum_held = ap (λ z. to_z w32 (of_z w32 z)) held ∙ coordinate_held (here +ℤ part) stays

@@ -8,6 +8,14 @@ use Rattle.mesh_base.specs.Mesh.{Mesh}
 use Rattle.edit_base.specs.declared.answers.CopyAt.{CopyAt}
 use Rattle.edit_pinch.specs.Pinch.{fan_point}
 
+-- what is made of the next copy goes to the end
+pub next_mapped : {Y : Type 0} (f : CopyAt → Y) (copies : List CopyAt) (i : ℕ) (copy : CopyAt) (made more : List Y) → i < length copies → copy ≡ get_or copies i copy → more ≡ made ++ f copy ∷ [] →
+    more ++ map f (drop (i + 1) copies) ≡ made ++ map f (drop i copies)
+next_mapped f copies i copy made more below is put =
+    ap (λ l. l ++ map f (drop (i + 1) copies)) put
+    ∙ append_assoc made (f copy ∷ []) (map f (drop (i + 1) copies))
+    ∙ ap (λ l. made ++ map f l) (sym (rest_at copies i copy below ∙ ap (λ k. k ∷ drop (i + 1) copies) (sym is)))
+
 module _ (m : Mesh) (v : ℕ) where
   abbrev pub listed_from : ℕ → List (List ℕ) → List CopyAt
   listed_from k fans = map (λ e. record { w = e.0; at = fan_point m v e.1 }) (enumerate_from k fans)

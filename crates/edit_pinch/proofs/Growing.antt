@@ -1,10 +1,12 @@
 -- A class grows by those that touch one of its members, until all its members are gone through.
-use Rattle.std.proofs.Common.{◌≡◌, ◌⊎◌, ℕ, zero, suc, ◌+◌, ◌-◌, ◌<◌, ◌≤◌, Bool, true, false, not, ◌==◌, List, [], ◌∷◌, ◌++◌, length, get_or, ⊎_elim, inl, inr, refl, sym, ap, subst, ◌∙◌, below_more, arith}
+use Rattle.std.proofs.Common.{◌≡◌, ◌⊎◌, ℕ, zero, suc, ◌+◌, ◌-◌, ◌<◌, ◌≤◌, Bool, true, false, cond, not, ◌==◌, List, [], ◌∷◌, ◌++◌, length, drop, get_or, append_assoc, ⊎_elim, inl, inr, refl, sym, ap, subst, ◌∙◌, below_more, arith}
 use Rattle.std.proofs.lemmas.Bool.{false≢true, eqb-true, not-true}
 use Rattle.std.proofs.lemmas.List.{get_or_append_left, length-append}
 use Rattle.std.proofs.lemmas.List.Filters.{length-filter_both}
 use Rattle.std.proofs.lemmas.List.Folds.{list_any-append}
-use Rattle.std.specs.List.{filter}
+use Rattle.std.specs.Prelude.{if◌then◌else◌}
+use Rattle.std.specs.List.{filter, fold}
+use Rattle.pair_scan.proofs.Lists.{rest_at}
 use Rattle.mesh_base.proofs.Tests.{or_either, both_ways}
 use Rattle.edit_base.specs.Classes.{is_one_of, Linked, class_of}
 use Rattle.edit_base.proofs.Chains.{Has, has_contained, contains_had, either_first, either_second, equal_itself, passed, passes, near_is, test_at, is_linked, linked_has}
@@ -34,6 +36,30 @@ test_of false = inr refl
 
 pub not_false : (b : Bool) → b ≡ false → not b ≡ true
 not_false b e = ap not e
+
+-- ---- the numbers of a list that pass, one after another
+one_kept : (p : ℕ → Bool) (kept : List ℕ) (x : ℕ) (ys : List ℕ) → (if p x then kept ++ x ∷ [] else kept) ++ filter p ys ≡ kept ++ filter p (x ∷ ys)
+one_kept p kept x ys = elim (p x) as (λ b. (if b then kept ++ x ∷ [] else kept) ++ filter p ys ≡ kept ++ cond b (x ∷ filter p ys) (filter p ys)) [
+  | true ↦ append_assoc kept (x ∷ []) (filter p ys)
+  | false ↦ refl
+]
+
+pub next_kept : (p : ℕ → Bool) (xs : List ℕ) (i x : ℕ) (b : Bool) (kept more : List ℕ) → i < length xs → x ≡ get_or xs i x → b ≡ p x →
+    more ≡ (if b then kept ++ x ∷ [] else kept) → more ++ filter p (drop (i + 1) xs) ≡ kept ++ filter p (drop i xs)
+next_kept p xs i x b kept more below is passes put =
+    ap (λ l. l ++ filter p (drop (i + 1) xs)) (put ∙ ap (λ t. if t then kept ++ x ∷ [] else kept) passes)
+    ∙ one_kept p kept x (drop (i + 1) xs)
+    ∙ sym (ap (λ l. kept ++ filter p l) (rest_at xs i x below ∙ ap (λ k. k ∷ drop (i + 1) xs) (sym is)))
+
+-- a walk goes on with the next
+pub next_folded : {A : Type 0} (step : A → ℕ → A) (xs : List ℕ) (i x : ℕ) (made more : A) → i < length xs → x ≡ get_or xs i x → more ≡ step made x → fold step more (drop (i + 1) xs) ≡ fold step made (drop i xs)
+next_folded step xs i x made more below is put =
+    ap (λ a. fold step a (drop (i + 1) xs)) put
+    ∙ sym (ap (fold step made) (rest_at xs i x below ∙ ap (λ k. k ∷ drop (i + 1) xs) (sym is)))
+
+pub turned : {A : Type 0} (b : Bool) (x y : A) → (if b then x else y) ≡ (if not b then y else x)
+turned true x y = refl
+turned false x y = refl
 
 -- ---- growing
 module _ (touch : ℕ → ℕ → Bool) (all : List ℕ) (x : ℕ) where

@@ -163,12 +163,19 @@ module _ (touch : ℕ → ℕ → Bool) (all : List ℕ) (both : IsSymmetric tou
     any_is : list_any (λ c. is_one_of c (get_or all i 0)) (begun i) ≡ list_any (λ c. is_one_of c x) fans
     any_is = sym (λ j. list_any (λ c. is_one_of c (x_is j)) (so_far j))
 
-    pub met_on : list_any (λ c. is_one_of c x) fans ≡ true → fans ≡ begun (i + 1)
+    met_on : list_any (λ c. is_one_of c x) fans ≡ true → fans ≡ begun (i + 1)
     met_on met = so_far ∙ sym (if_met i below_all (any_is ∙ met))
 
-    pub new_on : (given : List ℕ) (fan : List ℕ) (more : List (List ℕ)) → given ≡ all → fan ≡ class_of touch given x → more ≡ fans ++ fan ∷ [] → list_any (λ c. is_one_of c x) fans ≡ false → more ≡ begun (i + 1)
+    new_on : (given : List ℕ) (fan : List ℕ) (more : List (List ℕ)) → given ≡ all → fan ≡ class_of touch given x → more ≡ fans ++ fan ∷ [] → list_any (λ c. is_one_of c x) fans ≡ false → more ≡ begun (i + 1)
     new_on given fan more same fan_is more_is new =
         more_is
         ∙ (λ j. so_far j ++ fan_is j ∷ [])
         ∙ (λ j. begun i ++ class_of touch (same j) (x_is j) ∷ [])
         ∙ sym (if_new i below_all (any_is ∙ new))
+
+    pub step_on : (given : List ℕ) (more : List (List ℕ)) → given ≡ all → more ≡ cond (list_any (λ c. is_one_of c x) fans) fans (fans ++ class_of touch given x ∷ []) → more ≡ begun (i + 1)
+    step_on given more same put = by_test (list_any (λ c. is_one_of c x) fans) refl put
+      where
+        by_test : (t : Bool) → list_any (λ c. is_one_of c x) fans ≡ t → more ≡ cond t fans (fans ++ class_of touch given x ∷ []) → more ≡ begun (i + 1)
+        by_test true is e = e ∙ met_on is
+        by_test false is e = new_on given (class_of touch given x) more same refl e is

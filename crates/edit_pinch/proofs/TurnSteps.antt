@@ -1,11 +1,14 @@
--- The copies of a vertex, one fan and point after another.
+-- The copies of a vertex, one fan and point after another, and the faces of each, one after another.
 use Rattle.std.proofs.Common.{◌≡◌, ℕ, zero, suc, ◌+◌, ◌<◌, ◌≤◌, List, [], ◌∷◌, length, drop, get_or, refl, sym, ap, subst, ◌∙◌, add-one, arith}
 use Rattle.std.specs.List.{fold, zip}
 use Rattle.grid_base.specs.declared.Point.{Point}
 use Rattle.mesh_base.specs.Mesh.{Mesh}
+use Rattle.mesh_base.specs.Changes.{with_vertex}
+use Rattle.pair_scan.proofs.Lists.{rest_at, ended}
+use Rattle.edit_base.specs.Edges.{with_renamed, with_all_renamed}
 use Rattle.edit_base.specs.declared.answers.CopyAt.{CopyAt}
 use Rattle.edit_pinch.specs.Pinch.{with_copy, copy_points}
-use Rattle.edit_pinch.specs.InTurn.{MayBeCopied, CopiedInTurn}
+use Rattle.edit_pinch.specs.InTurn.{MayBeRemade, RemadeInTurn, MayBeCopied, CopiedInTurn}
 
 zip_front : (fans : List (List ℕ)) (copies : List CopyAt) (i : ℕ) (d : List ℕ) (e : CopyAt) → i < length fans → length fans ≡ length copies →
     drop i (zip fans (copy_points copies)) ≡ (get_or fans i d, (get_or copies i e).at) ∷ drop (suc i) (zip fans (copy_points copies))
@@ -47,3 +50,27 @@ module _ (v : ℕ) (old m : Mesh) (fans : List (List ℕ)) (copies : List CopyAt
 
   pub all_made : length fans ≤ i → ToCome m i → m ≡ fold (with_copy v) old all
   all_made end h = sym (ap (fold (with_copy v) m) (zip_end fans copies i end)) ∙ h.1
+
+-- ---- the faces of a fan
+module _ (v : ℕ) (old : Mesh) (at : Point) (fan : List ℕ) where
+  -- the faces that are left may be made again with the copy in v's place, and then all are
+  abbrev pub FacesToCome : ℕ → Mesh → List ℕ → Type 0
+  FacesToCome w m left = RemadeInTurn v w m left × (with_all_renamed v w m left ≡ with_copy v old (fan, at))
+
+  pub faces_begun : (w : ℕ) (m : Mesh) → MayBeCopied v old fan at → w ≡ old.next_vertex → m ≡ with_vertex old at → FacesToCome w m fan
+  faces_begun w m may id made =
+      subst (λ (n : Mesh). FacesToCome w n fan) (sym made) (subst (λ u. FacesToCome u (with_vertex old at) fan) (sym id) (may.faces, refl))
+
+  module _ (w : ℕ) (m : Mesh) (i f : ℕ) (h : FacesToCome w m (drop i fan)) where
+    module _ (below : i < length fan) (is : f ≡ get_or fan i f) where
+      next_face : FacesToCome w m (f ∷ drop (i + 1) fan)
+      next_face = subst (FacesToCome w m) (rest_at fan i f below ∙ ap (λ k. k ∷ drop (i + 1) fan) (sym is)) h
+
+      pub face_may_be : MayBeRemade v w m f
+      face_may_be = next_face.0.0
+
+      pub face_remade : (n : Mesh) → n ≡ with_renamed v w m f → FacesToCome w n (drop (i + 1) fan)
+      face_remade n made = subst (λ (k : Mesh). FacesToCome w k (drop (i + 1) fan)) (sym made) (next_face.0.1, next_face.1)
+
+    pub faces_remade : length fan ≤ i → m ≡ with_copy v old (fan, at)
+    faces_remade end = sym (ap (with_all_renamed v w m) (ended fan i end)) ∙ h.1

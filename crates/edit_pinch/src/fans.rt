@@ -1,7 +1,7 @@
 //! The fans of faces at a vertex.
-ghost use Rattle.std.specs.Prelude.{ℕ, true, ◌≡◌, ◌≤◌, ◌==◌, ◌++◌, ◌∷◌, not, length, IfOk, OnOk};
+ghost use Rattle.std.specs.Prelude.{ℕ, true, ◌≡◌, ◌≤◌, ◌==◌, ◌&&◌, ◌++◌, ◌∷◌, [], not, length, IfOk, OnOk, if◌then◌else◌};
 ghost use Rattle.std.specs.List.{filter, list_any};
-ghost use Rattle.mesh_base.specs.Sides.{faces_at};
+ghost use Rattle.mesh_base.specs.Sides.{faces_at, has_corner};
 ghost use Rattle.edit_base.specs.Classes.{is_one_of, class_of};
 ghost use Rattle.edit_base.specs.Edges.{corners_at};
 ghost use Rattle.edit_pinch.specs.Pinch.{share_second, fans};
@@ -9,7 +9,7 @@ ghost use Rattle.edit_base.specs.Clauses.{OnOkIs};
 
 use edit_acts::corners_at;
 use grid_base::{Items, NoMemory};
-use mesh_base::{FaceId, Surface, VertexId};
+use mesh_base::{Corners, FaceId, Surface, VertexId};
 use std::alloc::Global;
 
 /// Faces, by rising id.
@@ -18,15 +18,20 @@ pub(crate) type Fan = Items<FaceId>;
 /// Fans of faces, in order of their least faces.
 pub(crate) type Fans = Items<Fan>;
 
+/// Whether a vertex other than `v` is a corner.
+fn has_other(c: &Corners, v: VertexId, u: VertexId) -> bool
+    ensures { result ≡ (not (u == v) && has_corner c.now u) }
+{
+    u != v && c.has_corner(u)
+}
+
 /// Whether two faces share a vertex other than `v`.
 fn share_second<S: Surface>(mesh: &S, v: VertexId, f: FaceId, g: FaceId) -> bool
     ensures { result ≡ share_second (S.mesh mesh.now) v f g }
 {
     let c = corners_at(mesh, f);
     let d = corners_at(mesh, g);
-    c.first != v && d.has_corner(c.first)
-        || c.second != v && d.has_corner(c.second)
-        || c.third != v && d.has_corner(c.third)
+    has_other(&d, v, c.first) || has_other(&d, v, c.second) || has_other(&d, v, c.third)
 }
 
 /// Whether a face is one of several.
@@ -48,6 +53,20 @@ fn is_in_one(fans: &[Fan], f: FaceId) -> bool
     false
 }
 
+/// Puts a face at the end of the one of two lists.
+fn put_in_one(f: FaceId, in_first: bool, first: &mut Fan, second: &mut Fan) -> Result<(), NoMemory>
+    ensures first { OnOk result
+        (first.new ≡ (if in_first then first.old ++ f ∷ [] else first.old)) }
+    ensures second { OnOk result
+        (second.new ≡ (if in_first then second.old else second.old ++ f ∷ [])) }
+{
+    if in_first {
+        first.push(f)
+    } else {
+        second.push(f)
+    }
+}
+
 /// Puts the faces of a list that share a vertex other than `v` with `f` at the end of a fan, and answers the others.
 fn joined<S: Surface>(
     alloc: Global,
@@ -64,11 +83,7 @@ fn joined<S: Surface>(
 {
     let mut rest = Items::new(alloc);
     for g in left {
-        if share_second(mesh, v, f, *g) {
-            fan.push(*g)?;
-        } else {
-            rest.push(*g)?;
-        }
+        put_in_one(*g, share_second(mesh, v, f, *g), fan, &mut rest)?;
     }
     Ok(rest)
 }
@@ -138,6 +153,27 @@ fn fan_of<S: Surface>(
     in_order(alloc, faces, members.as_slice())
 }
 
+/// Puts the fan of a face at the end of the fans, unless the face is in one of them.
+fn put_fan<S: Surface>(
+    alloc: Global,
+    mesh: &S,
+    v: VertexId,
+    f: FaceId,
+    faces: &[FaceId],
+    fans: &mut Fans,
+) -> Result<(), NoMemory>
+    requires { is_one_of faces.now f ≡ true }
+    ensures { let fan = class_of (share_second (S.mesh mesh.now) v) faces.now f in
+        let is_in_one = list_any (λ fan. is_one_of fan f) fans.old in
+        OnOk result (fans.new ≡ (if is_in_one then fans.old else fans.old ++ fan ∷ [])) }
+{
+    if !is_in_one(fans.as_slice(), f) {
+        let fan = fan_of(alloc, mesh, v, f, faces)?;
+        fans.push(fan)?;
+    }
+    Ok(())
+}
+
 /// The fans of faces at a vertex, in order of their least faces. A fan is the faces at the vertex that a chain leads to
 /// from one of them, in which each face shares another vertex with the next.
 pub(crate) fn fans<S: Surface>(alloc: Global, mesh: &S, v: VertexId) -> Result<Fans, NoMemory>
@@ -147,10 +183,7 @@ pub(crate) fn fans<S: Surface>(alloc: Global, mesh: &S, v: VertexId) -> Result<F
     let mut faces = Vec::new(alloc);
     mesh.faces_at(v, &mut faces)?;
     for f in &faces {
-        if !is_in_one(fans.as_slice(), *f) {
-            let fan = fan_of(alloc, mesh, v, *f, faces.as_slice())?;
-            fans.push(fan)?;
-        }
+        put_fan(alloc, mesh, v, *f, faces.as_slice(), &mut fans)?;
     }
     Ok(fans)
 }

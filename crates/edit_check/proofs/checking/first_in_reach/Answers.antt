@@ -3,7 +3,6 @@ use Rattle.std.specs.List.{filter}
 use Rattle.edit_base.specs.Scaffold.{motion_by}
 use Rattle.pair_paths.specs.Moving.{moving_faces}
 use Rattle.edit_check.specs.Boxed.{faces_in, touched_boxed}
-use Rattle.edit_check.specs.Nearby.{faces_among}
 use Rattle.edit_check.specs.Neighbourhood.{HaveNoneApart}
 use Rattle.edit_check.specs.Reach.{is_face_in_reach}
 use Rattle.edit_check.proofs.Beyond.{faces_of_reach}
@@ -17,10 +16,10 @@ invariant_of-near g c =
     let t = c.args.terms in
     let box = c.args.reach in
     let faces = c.as_slice-faces.result.now in
-    let touched = c.as_slice-2.result.now in
+    let touched = c.as_slice.result.now in
     let near : faces_in faces ≡ filter (λ f. is_face_in_reach m (Some box) f.face) (moving_faces m (motion_by m moves)) =
-    ap faces_in c.as_slice-faces.ensures ∙ c.in_ok-all.ensures ∙ ap (faces_among m moves) (c.as_slice.ensures.value ∙ c.in_ok-faces_near.ensures.ok) ∙ faces_of_reach m moves (Some box) in
-    let new : touched ≡ touched_boxed moves t.together.now c.args.fresh_from faces = c.as_slice-2.ensures ∙ c.in_ok-touched.ensures in
+    ap faces_in c.as_slice-faces.ensures ∙ c.in_ok-all.ensures ∙ faces_of_reach m moves (Some box) in
+    let new : touched ≡ touched_boxed moves t.together.now c.args.fresh_from faces = c.as_slice.ensures ∙ c.in_ok-touched.ensures in
     record { apart = subst (λ b. HaveNoneApart t b faces touched faces) (sym c.of.ensures) (none_apart m moves t c.args.fresh_from box c.requires.reached faces touched near new) }
 
 pub returns : goal.returns
@@ -30,8 +29,8 @@ returns g c =
     let t = c.args.terms in
     let box = c.args.reach in
     let faces = c.as_slice-faces.result.now in
-    let touched = c.as_slice-2.result.now in
+    let touched = c.as_slice.result.now in
     let near : faces_in faces ≡ filter (λ f. is_face_in_reach m (Some box) f.face) (moving_faces m (motion_by m moves)) =
-    ap faces_in c.as_slice-faces.ensures ∙ c.in_ok-all.ensures ∙ ap (faces_among m moves) (c.as_slice.ensures.value ∙ c.in_ok-faces_near.ensures.ok) ∙ faces_of_reach m moves (Some box) in
-    let new : touched ≡ touched_boxed moves t.together.now c.args.fresh_from faces = c.as_slice-2.ensures ∙ c.in_ok-touched.ensures in
+    ap faces_in c.as_slice-faces.ensures ∙ c.in_ok-all.ensures ∙ faces_of_reach m moves (Some box) in
+    let new : touched ≡ touched_boxed moves t.together.now c.args.fresh_from faces = c.as_slice.ensures ∙ c.in_ok-touched.ensures in
     c.first_along.ensures ∙ is_first_failing m moves t c.args.fresh_from box c.requires.reached faces touched near new (g.met.S.Surface.sound c.args.paths.now.mesh.now) c.requires.clear

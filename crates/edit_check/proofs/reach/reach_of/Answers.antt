@@ -3,7 +3,7 @@ use Rattle.std.specs.List.{All}
 use Rattle.std.specs.FinMap as map
 use Rattle.mesh_base.specs.Sides.{above}
 use Rattle.edit_check.specs.Reach.{Reaches}
-use Rattle.edit_check.proofs.Reached.{reached_touched, all_reached_more, all_moves_more}
+use Rattle.edit_check.proofs.Reached.{reached_touched, all_reached_more}
 use Rattle.edit_check.proofs.reach.reach_of.Goals as goal
 
 pub returns : goal.returns
@@ -11,12 +11,9 @@ returns g c =
     let m = g.S.Surface.mesh c.args.paths.now.mesh.now in
     let moves = c.args.paths.now.moves.now in
     let fresh : c.as_slice.result.now ≡ above (c.args.fresh_from - 1) (map.keys m.faces) = c.as_slice.ensures ∙ c.in_ok-fresh.ensures in
-    let new = c.reach_faces-new.result in
-    let moving = c.in_ok-moving.moving in
     let all = c.in_ok-all.all in
-    let first = all_reached_more m moves new moving c.as_slice.result.now c.in_ok-moving.ensures.keeps c.reach_faces-new.ensures.reaches in
-    let second = all_reached_more m moves moving all c.as_slice.result.now c.in_ok-all.ensures.keeps first in
+    let new = all_reached_more m moves c.reach_faces-new.result all c.as_slice.result.now c.in_ok-all.ensures.keeps c.reach_faces-new.ensures.reaches in
     reached_touched m moves c.args.together.now c.args.fresh_from all (g.met.S.Surface.sound c.args.paths.now.mesh.now)
-    (subst (All (Reaches m moves all)) fresh second)
-    (all_moves_more m moves c.args.fresh_from moving all moves c.in_ok-all.ensures.keeps c.in_ok-moving.ensures.reaches)
-    c.in_ok-all.ensures.reaches
+    (subst (All (Reaches m moves all)) fresh new)
+    c.in_ok-all.ensures.moves
+    c.in_ok-all.ensures.vertices

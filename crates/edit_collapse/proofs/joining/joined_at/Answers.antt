@@ -1,51 +1,24 @@
-use Rattle.std.proofs.Common.{◌≡◌, ◌<◌, ◌+◌, ◌++◌, ℕ, List, [], ◌∷◌, length, drop, get_or, sym, ap, ◌∙◌, append_assoc, arith}
-use Rattle.mesh_base.specs.declared.ids.Corners.{Corners}
-use Rattle.edit_base.specs.Edges.{renamed}
+use Rattle.std.proofs.Common.{◌++◌, length, sym, ap, ◌∙◌, arith}
 use Rattle.edit_collapse.specs.Tried.{numbered}
-use Rattle.edit_collapse.proofs.Lists.{rest_at, ended, nothing_more}
 use Rattle.edit_collapse.proofs.Acts.{joined_list}
 use Rattle.edit_collapse.proofs.joining.joined_at.Goals as goal
 
-pub loop-e-init : goal.loop-e-init
-loop-e-init g c =
-    let items = c.as_slice-e-items.ensures ∙ c.in_ok-joining.ensures.faces in
+pub put_numbered-requires-clause-first : goal.put_numbered-requires-clause-first
+put_numbered-requires-clause-first g c =
     let limit = (g.met.S.Surface.sound c.args.mesh.now).limits.face_ids.1 in
-    let next = c.next_face-next.ensures in (
-      λ i. c.in_ok-faces.ensures.faces i ++ numbered c.args.b c.args.a (next i) (items i),
-      omega (arith, limit, next),
-    )
+    let next = c.next_face.ensures in
+    omega (arith, limit, next)
 
-pub overflow_add-next : goal.overflow_add-next
-overflow_add-next g c =
+pub put_numbered-requires-clause-few : goal.put_numbered-requires-clause-few
+put_numbered-requires-clause-few g c =
     let few = c.in_ok-joining.ensures.few in
-    let same = ap length c.as_slice-e-items.ensures in
-    let below = c.loop-e.invariant.1 in
-    let more = c.loop-e-test.true in
-    omega (arith, few, same, below, more)
-
--- one face more has its number
-numbered_at : (a b next : ℕ) (faces : List (ℕ × Corners)) (es : List (ℕ × Corners)) (i : ℕ) (x : ℕ × Corners) → i < length es → x ≡ get_or es i x →
-    (faces ++ (next, renamed b a x.1) ∷ []) ++ numbered b a (next + 1) (drop (i + 1) es) ≡ faces ++ numbered b a next (drop i es)
-numbered_at a b next faces es i x more is =
-    append_assoc faces ((next, renamed b a x.1) ∷ []) (numbered b a (next + 1) (drop (i + 1) es))
-    ∙ ap (λ (xs : List (ℕ × Corners)). faces ++ numbered b a next xs) (sym (rest_at es i x more ∙ ap (λ (y : ℕ × Corners). y ∷ drop (i + 1) es) (sym is)))
-
-pub loop-e-preserved : goal.loop-e-preserved
-loop-e-preserved g c =
-    let items = c.as_slice-e-items.result.now in
-    let next = c.loop-e.next in
-    let below = c.loop-e.invariant.1 in
-    let made = c.in_ok-push.ensures.ok ∙ ap (λ (d : Corners). c.loop-e.faces ++ (next, d) ∷ []) c.renamed.ensures in (
-      ap (λ (xs : List (ℕ × Corners)). xs ++ numbered c.args.b c.args.a (next + 1) (drop (c.loop-e.e-index + 1) items)) made
-          ∙ numbered_at c.args.a c.args.b next c.loop-e.faces items c.loop-e.e-index c.e-item.result c.loop-e-test.true c.e-item.is
-          ∙ c.loop-e.invariant.0,
-      omega (arith, below),
-    )
+    let same = ap length c.as_slice.ensures in
+    omega (arith, few, same)
 
 pub returns : goal.returns
 returns g c =
     let m = g.S.Surface.mesh c.args.mesh.now in
-    sym (nothing_more c.loop-e.faces)
-    ∙ ap (λ (xs : List (ℕ × Corners)). c.loop-e.faces ++ numbered c.args.b c.args.a c.loop-e.next xs) (sym (ended c.as_slice-e-items.result.now c.loop-e.e-index c.loop-e-test.false))
-    ∙ c.loop-e.invariant.0
+    let items = c.as_slice.ensures ∙ c.in_ok-joining.ensures.faces in
+    c.in_ok-put_numbered.ensures
+    ∙ (λ i. c.in_ok-faces.ensures.faces i ++ numbered c.args.b c.args.a (c.next_face.ensures i) (items i))
     ∙ sym (joined_list m c.args.a c.args.b (g.met.S.Surface.sound c.args.mesh.now) c.requires)

@@ -2,8 +2,13 @@ use Rattle.std.proofs.Common.{◌≤◌, ◌++◌, ℕ, List, length, sym, ap, s
 use Rattle.grid_base.specs.declared.TheConstants.{FACES_MAX}
 use Rattle.mesh_base.specs.declared.ids.Corners.{Corners}
 use Rattle.edit_collapse.proofs.Lists.{ended, nothing_more}
-use Rattle.edit_collapse.proofs.Picked.{picked, picked_all, few_at}
+use Rattle.edit_collapse.proofs.Picked.{picked, picked_on, picked_all, few_at}
 use Rattle.edit_collapse.proofs.joining.only_at.Goals as goal
+
+pub loop-f-preserved : goal.loop-f-preserved
+loop-f-preserved g c =
+    picked_on (g.S.Surface.mesh c.args.mesh.now) c.args.other c.deref-f-items.result.now c.loop-f.f-index c.f-item.result c.loop-f.faces c.put_apart.new.faces c.loop-f-test.true c.f-item.is c.in_ok-put_apart.ensures
+    ∙ c.loop-f.invariant
 
 pub returns-clause-faces : goal.returns-clause-faces
 returns-clause-faces g c =

@@ -55,6 +55,17 @@ loop-i-preserved g c =
       begins_along (kept c.join_face.new.mesh) (kept c.loop-i.mesh) (kept c.args.mesh.now) c.join_face.ensures.marks c.loop-i.invariant.1,
     )
 
+pub returns-in_err-drop_gone-clause-marks : goal.returns-in_err-drop_gone-clause-marks
+returns-in_err-drop_gone-clause-marks g c = c.drop_gone.ensures.marks
+
+pub returns-in_err-join_face-clause-marks : goal.returns-in_err-join_face-clause-marks
+returns-in_err-join_face-clause-marks g c =
+    let kept = g.S.Surface.kept in
+    begins_along (kept c.join_face.new.mesh) (kept c.loop-i.mesh) (kept c.args.mesh.now) c.join_face.ensures.marks c.loop-i.invariant.1
+
+pub returns-clause-marks : goal.returns-clause-marks
+returns-clause-marks g c = c.loop-i.invariant.1
+
 pub returns-clause-made : goal.returns-clause-made
 returns-clause-made g c =
     let m = g.S.Surface.mesh c.args.mesh.now in

@@ -1,7 +1,8 @@
-use Rattle.std.proofs.Common.{drop, sym, ap, subst, ◌∙◌}
+use Rattle.std.proofs.Common.{drop, refl, sym, ap, subst, ◌∙◌}
 use Rattle.grid_decided.specs.Decided.{meets_exactly, meets_exactly-is_exact}
 use Rattle.mesh_base.specs.Sides.{IsClosed}
 use Rattle.mesh_base.specs.Placements.{IsClearMesh}
+use Rattle.mesh_base.proofs.MarksHold.{begins_itself}
 use Rattle.edit_pinch.specs.Answer.{pinch_answer}
 use Rattle.edit_base.specs.Laws.{Answer}
 use Rattle.edit_pinch.specs.Done.{pinch_result, pinch_tested_on}
@@ -25,6 +26,21 @@ returns-then-is_over-clause-answer g c =
     let two = two_or_more m v c.in_ok-parts.parts c.len.result c.in_ok-parts.ensures c.len.ensures c.if-len-lt2.false in
     let later = later_are c.as_slice.result.now ∙ ap (drop 1) (c.as_slice.ensures ∙ c.in_ok-parts.ensures) in
     full_is_refused m v c.args.depth two (sym c.solid.ensures ∙ c.if-solid.false) (sym (c.is_over.ensures v c.requires.closed (pinched_live m v sound two) later) ∙ c.if-is_over.true)
+
+pub returns-then-solid-clause-mesh : goal.returns-then-solid-clause-mesh
+returns-then-solid-clause-mesh g c = refl
+
+pub returns-then-solid-clause-marks : goal.returns-then-solid-clause-marks
+returns-then-solid-clause-marks g c = begins_itself (g.S.Surface.kept c.args.mesh.now)
+
+pub returns-then-is_over-clause-mesh : goal.returns-then-is_over-clause-mesh
+returns-then-is_over-clause-mesh g c = refl
+
+pub returns-then-is_over-clause-marks : goal.returns-then-is_over-clause-marks
+returns-then-is_over-clause-marks g c = begins_itself (g.S.Surface.kept c.args.mesh.now)
+
+pub pinch_or_leave-requires-clause-fans : goal.pinch_or_leave-requires-clause-fans
+pinch_or_leave-requires-clause-fans g c = c.as_slice-else-is_over.ensures ∙ c.in_ok-parts.ensures
 
 pub pinch_or_leave-requires-clause-tried : goal.pinch_or_leave-requires-clause-tried
 pinch_or_leave-requires-clause-tried g c =

@@ -6,7 +6,7 @@ use Rattle.edit_pinch.proofs.CopyClosed.{all_later}
 use Rattle.edit_pinch.proofs.PinchDone.{pinched_live}
 use Rattle.edit_pinch.specs.Rims.{AreLiveFaces}
 use Rattle.edit_pinch.specs.Tried.{left_by}
-use Rattle.edit_pinch.proofs.Answered.{fans_live, first_of_two, later_are, first_point_is, later_copies_are, done_answer, done_mesh}
+use Rattle.edit_pinch.proofs.Answered.{fans_live, first_of_two, later_are, first_point_is, later_copies_are, hit_is_refused, done_answer, done_mesh}
 use Rattle.edit_pinch.proofs.Room.{room_at_first}
 use Rattle.edit_pinch.proofs.pinching.pinch_or_leave.Goals as goal
 
@@ -34,6 +34,9 @@ copies_for-requires-clause-ids g c =
     let same = ap length (later_are c.args.parts.now ∙ ap (drop 1) c.requires.fans) in
     omega (arith, room, same)
 
+pub apply_or_roll_back-requires-clause-others : goal.apply_or_roll_back-requires-clause-others
+apply_or_roll_back-requires-clause-others g c = later_are c.args.parts.now ∙ ap (drop 1) c.requires.fans
+
 pub apply_or_roll_back-requires-clause-point : goal.apply_or_roll_back-requires-clause-point
 apply_or_roll_back-requires-clause-point g c =
     first_point_is (g.S.Surface.mesh c.args.mesh.now) c.args.v c.args.parts.now c.index-parts-0.result c.as_slice.result.now c.in_ok-at.at c.requires.tried.two_fans c.requires.fans c.index-parts-0.is c.as_slice.ensures c.in_ok-at.ensures
@@ -41,6 +44,21 @@ apply_or_roll_back-requires-clause-point g c =
 pub apply_or_roll_back-requires-clause-copies : goal.apply_or_roll_back-requires-clause-copies
 apply_or_roll_back-requires-clause-copies g c =
     c.as_slice-2.ensures ∙ later_copies_are (g.S.Surface.mesh c.args.mesh.now) c.args.v c.args.parts.now c.in_ok-copies.copies c.requires.fans c.in_ok-copies.ensures
+
+pub returns-in-Some-clause-answer : goal.returns-in-Some-clause-answer
+returns-in-Some-clause-answer g c =
+    hit_is_refused (g.S.Surface.mesh c.args.mesh.now) c.args.v c.args.depth c.requires.tried c.in-Some.p (sym c.in-Some.is ∙ c.in_ok-p.ensures.first)
+
+pub returns-in-Some-clause-mesh : goal.returns-in-Some-clause-mesh
+returns-in-Some-clause-mesh g c =
+    let m = g.S.Surface.mesh c.args.mesh.now in
+    c.in_ok-p.ensures.mesh ∙ ap (λ o. left_by m (pinch_scaffold m c.args.v).mesh (Ok o)) c.in-Some.is
+
+pub returns-in-Some-clause-marks : goal.returns-in-Some-clause-marks
+returns-in-Some-clause-marks g c = c.in_ok-p.ensures.marks
+
+pub returns-in-None-clause-marks : goal.returns-in-None-clause-marks
+returns-in-None-clause-marks g c = c.in_ok-p.ensures.marks
 
 pub returns-in-None-clause-answer : goal.returns-in-None-clause-answer
 returns-in-None-clause-answer g c =
@@ -59,3 +77,6 @@ returns-in-None-clause-mesh g c =
     c.in_ok-p.ensures.mesh
     ∙ ap (λ o. left_by m (pinch_scaffold m v).mesh (Ok o)) c.in-None.is
     ∙ done_mesh m v c.args.depth c.in_ok-at.at c.in_ok-copies.copies point copies
+
+pub returns-in_err-p-clause-marks : goal.returns-in_err-p-clause-marks
+returns-in_err-p-clause-marks g c = c.apply_or_roll_back.ensures.marks

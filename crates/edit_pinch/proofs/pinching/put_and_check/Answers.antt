@@ -47,3 +47,9 @@ returns-clause-first g c =
     (is_scaffold m c.args.v c.args.others.now c.args.at c.args.copies.now c.requires.others c.requires.point c.requires.copies c.doubled-here.result here
     (g.S.Surface.mesh c.apply_pinch.new.mesh) c.as_slice.result.now c.as_slice-2.result.now c.in_ok-apply_pinch.ensures.made (c.as_slice.ensures ∙ c.in_ok-moves.ensures) (c.as_slice-2.ensures ∙ c.in_ok-together.ensures))
     c.check.ensures.first
+
+pub returns-in_err-apply_pinch-clause-marks : goal.returns-in_err-apply_pinch-clause-marks
+returns-in_err-apply_pinch-clause-marks g c = c.apply_pinch.ensures.marks
+
+pub returns-clause-marks : goal.returns-clause-marks
+returns-clause-marks g c = c.apply_pinch.ensures.marks
