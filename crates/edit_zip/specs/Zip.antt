@@ -1,5 +1,5 @@
 -- The zip of two edges: the openings of their faces are joined by a tube.
-use Rattle.std.specs.Prelude.{ℕ, ◌+◌, ◌%◌, ◌==◌, ◌&&◌, ◌||◌, not, Bool, false, List, [], ◌∷◌, is_none, slice_index, nat_lt, ℤ, pos, ◌+ℤ◌, int_lt}
+use Rattle.std.specs.Prelude.{ℕ, ◌+◌, ◌%◌, ◌==◌, ◌&&◌, ◌||◌, not, Bool, false, List, [], ◌∷◌, ◌++◌, is_none, slice_index, nat_lt, ℤ, pos, ◌+ℤ◌, int_lt}
 use Rattle.std.specs.Option.{option_or, option_map, option_and_then}
 use Rattle.std.specs.List.{filter, find, flat_map, fold, count_by, last_or}
 use Rattle.std.proofs.Common.{Option, None}
@@ -23,6 +23,11 @@ four_ids s = s.a ∷ s.b ∷ s.c ∷ s.d ∷ []
 abbrev pub repeats : List ℕ → Bool
 repeats [] = false
 repeats (x ∷ xs) = is_one_of xs x || repeats xs
+
+-- some number of the first stands again after it, there or in the second
+abbrev pub repeats_before : List ℕ → List ℕ → Bool
+repeats_before [] ys = false
+repeats_before (x ∷ xs) ys = is_one_of (xs ++ ys) x || repeats_before xs ys
 
 -- the four turns
 abbrev pub turns : List ℕ

@@ -5,6 +5,7 @@ use Rattle.edit_base.specs.Edges.{Edge, corners_from, AreFresh}
 use Rattle.edit_base.specs.Required.{HasRoomFor}
 use Rattle.edit_flip.specs.Tried.{MayBeTried}
 use Rattle.edit_flip.proofs.PutFlip.{first_is_live, second_is_live, both_fresh, room_for_both}
+use Rattle.mesh_base.proofs.MarksHold.{begins_along}
 use Rattle.edit_flip.proofs.flipping.apply_flip.Goals as goal
 
 pub drop_face-requires : goal.drop_face-requires
@@ -36,3 +37,14 @@ make_faces-requires-clause-room g c =
     let tried : MayBeTried m s = subst (MayBeTried m) (sym c.e.view_is) c.requires.tried in
     let bare = c.in_ok-drop_face-2.ensures.ok ∙ ap (λ n. without_face n s.right_face) c.in_ok-drop_face.ensures.ok in
     subst (HasRoomFor 2) (sym bare) (room_for_both m s (g.met.S.Surface.sound c.args.mesh.now) c.requires.closed tried)
+
+pub returns-in_err-drop_face-2-clause-marks : goal.returns-in_err-drop_face-2-clause-marks
+returns-in_err-drop_face-2-clause-marks g c =
+    let kept = g.S.Surface.kept in
+    begins_along (kept c.drop_face-2.new.self) (kept c.drop_face.new.self) (kept c.args.mesh.now) c.drop_face-2.ensures.marks c.drop_face.ensures.marks
+
+pub returns-clause-marks : goal.returns-clause-marks
+returns-clause-marks g c =
+    let kept = g.S.Surface.kept in
+    let bare = begins_along (kept c.drop_face-2.new.self) (kept c.drop_face.new.self) (kept c.args.mesh.now) c.drop_face-2.ensures.marks c.drop_face.ensures.marks in
+    begins_along (kept c.make_faces.new.mesh) (kept c.drop_face-2.new.self) (kept c.args.mesh.now) c.make_faces.ensures.marks bare
