@@ -1,6 +1,7 @@
 use Rattle.std.proofs.Common.{not, ◌≡◌, None, Ok, ap, sym, ◌∙◌, subst}
 use Rattle.std.proofs.lemmas.Result.{err_from_is_err_and}
 use Rattle.mesh_base.specs.Shifts.{Shifts}
+use Rattle.mesh_base.proofs.MarksHold.{begins_itself}
 use Rattle.track_engine.specs.declared.run_state.RunState.{RunState}
 use Rattle.track_engine.specs.declared.stop.Stop.TheVariants.{NoMemory}
 use Rattle.track_engine.specs.State.{groups_of, state_of}
@@ -70,3 +71,39 @@ returns-clause-takes g c =
     let still = c.in-Ok-no_shifts.ensures ∙ still_is m run.asked c.requires.kept.now.names in
     let P : RunState → Type 0 = λ now. StepTakes s (state_of moved kept now) (g.K.Sink.written c.args.out.now) (g.K.Sink.written c.take_chosen.new.out) (Ok None) in
     subst P (sym c.in_ok-take_chosen.ensures.run) (step_taken s c.in-Ok.choice inside c.in-Ok.ensures.hits c.in-Ok.ensures.way moved c.in-Ok-no_shifts.still (groups_of kept (failed_if fails run.groups)) _ _ _ c.in_ok-take_chosen.ensures.moved still failed c.in_ok-say.ensures.said c.in_ok-take_chosen.ensures.said)
+
+pub returns-in-Some-clause-marks : goal.returns-in-Some-clause-marks
+returns-in-Some-clause-marks g c = c.requires.marks
+
+pub returns-in-Some-clause-begins : goal.returns-in-Some-clause-begins
+returns-in-Some-clause-begins g c = begins_itself (g.S.Surface.kept c.args.mesh.now)
+
+pub returns-in_err-say-clause-marks : goal.returns-in_err-say-clause-marks
+returns-in_err-say-clause-marks g c = c.requires.marks
+
+pub returns-in_err-say-clause-begins : goal.returns-in_err-say-clause-begins
+returns-in_err-say-clause-begins g c = begins_itself (g.S.Surface.kept c.args.mesh.now)
+
+pub returns-in_default-choose-clause-marks : goal.returns-in_default-choose-clause-marks
+returns-in_default-choose-clause-marks g c = c.requires.marks
+
+pub returns-in_default-choose-clause-begins : goal.returns-in_default-choose-clause-begins
+returns-in_default-choose-clause-begins g c = begins_itself (g.S.Surface.kept c.args.mesh.now)
+
+pub returns-in_default-no_shifts-clause-marks : goal.returns-in_default-no_shifts-clause-marks
+returns-in_default-no_shifts-clause-marks g c = c.requires.marks
+
+pub returns-in_default-no_shifts-clause-begins : goal.returns-in_default-no_shifts-clause-begins
+returns-in_default-no_shifts-clause-begins g c = begins_itself (g.S.Surface.kept c.args.mesh.now)
+
+pub returns-in_err-take_chosen-clause-marks : goal.returns-in_err-take_chosen-clause-marks
+returns-in_err-take_chosen-clause-marks g c = c.take_chosen.ensures.marks
+
+pub returns-in_err-take_chosen-clause-begins : goal.returns-in_err-take_chosen-clause-begins
+returns-in_err-take_chosen-clause-begins g c = c.take_chosen.ensures.begins
+
+pub returns-clause-marks : goal.returns-clause-marks
+returns-clause-marks g c = c.take_chosen.ensures.marks
+
+pub returns-clause-begins : goal.returns-clause-begins
+returns-clause-begins g c = c.take_chosen.ensures.begins
