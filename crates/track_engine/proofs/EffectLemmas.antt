@@ -14,7 +14,9 @@ use Rattle.step_text.specs.declared.Directive.{Directive}
 use Rattle.step_text.specs.declared.Directive.TheVariants as directive
 use Rattle.track_engine.specs.declared.stop.Stop.{Stop}
 use Rattle.track_engine.specs.State.{State, standing, no_shifts, still_at}
-use Rattle.track_engine.specs.Effects.{effect_of, mesh_line, summed, all_summed}
+use Rattle.step_choose.specs.declared.Settings.{Settings}
+use Rattle.outside_io.proofs.Written.{appended-nil}
+use Rattle.track_engine.specs.Effects.{effect_of, set_effect, mesh_line, summed, all_summed}
 use Rattle.track_engine.specs.Saved.{Target}
 use Rattle.track_engine.specs.World.{Contents, Logs, StopsIn}
 use Rattle.track_engine.specs.Parts.{Takes, Advances}
@@ -26,6 +28,10 @@ ids_of_sums m by (s ∷ rest) = ap (λ id. id ∷ map (λ x. x.v) (all_summed m 
     by_test : (b : Bool) → (cond b s (with_shift s (summed (by s.v) s))).v ≡ s.v
     by_test true = refl
     by_test false = refl
+
+-- a setting
+pub advances_set : (to : Target) (set : Settings) (what : Directive) (s : State) (old : Contents) → effect_of None what s ≡ set_effect set s → Takes to (effect_of None what s) s (record s { set = set }) old old
+advances_set to set what s old goes = record { lines = []; goes = goes; logs = record { written = sym (appended-nil old.written); files = refl }; replay = refl }
 
 -- a save
 pub save_whole : (to : Target) (what : Directive) (s : State) (old new : Contents) → what ≡ directive.Save → Logs to (standing s) (mesh_line s.saved s.mesh ∷ []) old new → Takes to (effect_of None what s) s (record s { saved = s.saved + 1 }) old new

@@ -134,6 +134,15 @@ module _ (beyond : ℕ) (m : Mesh) (kept : List Mesh) (run : RunState) (group : 
       groups_along beyond back front outer begins these.1 ∙ sym (groups_along beyond kept front outer (front_begins group.mark.under kept) these.1) in
       λ i. record { mesh = mesh i; asked = same i; set = run.set; steps = run.steps; saved = run.saved; groups = rest i }
 
+-- the kept meshes begin with those that are left
+pub begins_left : (kept : List Mesh) (groups : List OpenGroup) → BeginsWith kept (left_by directive.Close groups kept)
+begins_left kept [] = begins_itself kept
+begins_left kept (group ∷ outer) = by_test group.failed
+  where
+    by_test : (b : Bool) → BeginsWith kept (cond b (take group.mark.under kept) kept)
+    by_test true = front_begins group.mark.under kept
+    by_test false = begins_itself kept
+
 -- ---- what closing a group is
 
 -- where none is open

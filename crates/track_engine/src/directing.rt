@@ -1,9 +1,13 @@
-ghost use Rattle.std.specs.Prelude.{◌≡◌, ◌≤◌, ◌<◌, ◌+◌, ◌^◌, IfOk, IfErr, IsErrOf, IsSome};
+ghost use Rattle.std.specs.Prelude.{◌≡◌, ◌≤◌, ◌<◌, ◌+◌, ◌++◌, ◌^◌, not, IfOk, IfErr, OnOk, OnErr, IsErrOf, IsSome};
 ghost use Rattle.step_text.specs.Ranges.{IsInRange};
 ghost use Rattle.step_choose.specs.Settings.{AreWithinLimits};
 ghost use Rattle.outside_io.specs.Causes.{Rose};
 ghost use Rattle.track_engine.specs.State.{state_of};
-ghost use Rattle.track_engine.specs.Effects.{effect_of, sum_of_all, is_whole};
+ghost use Rattle.track_engine.specs.Effects.{effect_of, sum_of_all, is_whole, moved_mesh, hit_lines, way_lines};
+ghost use Rattle.track_engine.specs.Groups.{failed_if};
+ghost use Rattle.track_engine.specs.Placing.{CanPlace};
+ghost use Rattle.step_choose.specs.Chosen.{way_of};
+ghost use Rattle.log_write.specs.Written.{Written};
 ghost use Rattle.mesh_field.specs.Stored.{IsWellKept};
 ghost use Rattle.track_engine.specs.Answered.{known};
 ghost use Rattle.track_engine.specs.Targets.{target_of};
@@ -29,11 +33,11 @@ use edit_base::PassKind;
 use grid_base::{Point, Shift};
 use log_text::LogLine;
 use mesh_field::Fields;
-use mesh_plain::{How, Surface, UseWhy};
+use mesh_plain::{How, Shifts, Surface, UseWhy};
 use outside_io::{Desk, Sink};
 use pass_run::{PassFault, pass};
 use std::alloc::Global;
-use step_choose::choose;
+use step_choose::{Choice, choose};
 use step_text::Directive;
 
 // A shift is added to what is asked of each vertex. No line is written.
@@ -69,8 +73,46 @@ fn is_whole(how: How) -> bool
     }
 }
 
+// A step is taken as it was chosen, and its lines after the first are written. One that is not taken whole makes the innermost open group
+// fail. An error may leave the mesh moved.
+fn take_chosen<S: Surface, K: Sink>(
+    alloc: Global,
+    mesh: &mut S,
+    run: &mut RunState,
+    choice: Choice,
+    still: Shifts,
+    out: &mut K,
+) -> Result<(), Stop>
+    requires places { CanPlace (S.mesh mesh.old) choice.taken }
+    requires marks { MarksHold S.beyond (S.kept mesh.old) run.old.groups }
+    requires steps { run.old.steps + 1 < 2 ^ 32 }
+    ensures moved { OnOk result (S.mesh mesh.new ≡ moved_mesh (S.mesh mesh.old) choice.taken) }
+    ensures run { OnOk result (run.new ≡ record run.old {
+      asked = still;
+      steps = run.old.steps + 1;
+      groups = failed_if (not (is_whole choice.how)) run.old.groups;
+    }) }
+    ensures left { OnErr result (run.new ≡ run.old) }
+    ensures said { let lines = hit_lines choice.hits ++ way_lines (way_of choice) in
+        Written (K.written out.old) (K.written out.new) lines result }
+    ensures marks { MarksHold S.beyond (S.kept mesh.new) run.new.groups }
+    ensures begins { BeginsWith (S.kept mesh.new) (S.kept mesh.old) }
+    ensures later { K.faults out.old ≤ K.faults out.new }
+    ensures cause { IsErrOf result Stop.SinkFault → Rose (K.faults out.old) (K.faults out.new) }
+    ensures desk { IsErrOf result Stop.DeskFault → ⊥ }
+{
+    if place_all(mesh, choice.taken.as_slice()).is_err() {
+        return Err(Stop::NoMemory);
+    }
+    say_choice(alloc, &choice, out)?;
+    run.asked = still;
+    run.steps += 1;
+    run.groups.fail_if(!is_whole(choice.how));
+    Ok(())
+}
+
 // A step is taken, or a vertex would leave the box. Its first line is written before its pairs are tested, so that who reads the log sees
-// that it is under way. One that is not taken whole makes the innermost open group fail.
+// that it is under way.
 fn take_step<S: Surface, K: Sink>(
     alloc: Global,
     mesh: &mut S,
@@ -107,13 +149,7 @@ fn take_step<S: Surface, K: Sink>(
     let Ok(still) = no_shifts(alloc, mesh) else {
         return Err(Stop::NoMemory);
     };
-    if place_all(mesh, choice.taken.as_slice()).is_err() {
-        return Err(Stop::NoMemory);
-    }
-    say_choice(alloc, &choice, out)?;
-    run.asked = still;
-    run.steps = k;
-    run.groups.fail_if(!is_whole(choice.how));
+    take_chosen(alloc, mesh, run, choice, still, out)?;
     Ok(None)
 }
 

@@ -1,10 +1,12 @@
-use Rattle.std.proofs.Common.{None, sym, subst}
+use Rattle.std.proofs.Common.{None, ap, sym, subst}
 use Rattle.std.proofs.lemmas.Result.{err_from_is_err_and}
 use Rattle.step_text.specs.declared.Directive.{Directive}
 use Rattle.step_text.specs.declared.Directive.TheVariants as directive
 use Rattle.track_engine.specs.State.{state_of}
 use Rattle.track_engine.specs.declared.run_state.RunState.{RunState}
-use Rattle.track_engine.specs.Invariant.{IsRunInvariant}
+use Rattle.mesh_base.specs.Kept.{BeginsWith}
+use Rattle.mesh_base.proofs.MarksHold.{begins_itself}
+use Rattle.track_engine.specs.Invariant.{IsRunInvariant, left_by}
 use Rattle.track_engine.specs.Effects.{effect_of}
 use Rattle.track_engine.specs.Targets.{target_of}
 use Rattle.track_engine.specs.Parts.{Advances}
@@ -14,7 +16,7 @@ use Rattle.pair_scan.proofs.Paths.{ids_sorted}
 use Rattle.track_engine.proofs.Keeping.{kept_by_one, kept_by_all, kept_stepped, kept_passed}
 use Rattle.track_engine.proofs.PassTaken.{advances_pass}
 use Rattle.track_engine.proofs.WritesTaken.{advances_solid, advances_group, advances_close, kept_written, never_refused}
-use Rattle.track_engine.proofs.EffectLemmas.{save_whole, save_part}
+use Rattle.track_engine.proofs.EffectLemmas.{advances_set, save_whole, save_part}
 use Rattle.track_engine.proofs.directing.take_plain.Goals as goal
 
 pub returns-in-Step-clause-advances : goal.returns-in-Step-clause-advances
@@ -108,3 +110,59 @@ pub returns-in_ok-save-in-Save-clause-advances : goal.returns-in_ok-save-in-Save
 returns-in_ok-save-in-Save-clause-advances g c =
     let s = state_of (g.S.Surface.mesh c.args.mesh.now) (g.S.Surface.kept c.args.mesh.now) c.args.run.now in
     save_whole (target_of c.args.to) c.args.what.now s _ _ c.in-Save.is (c.in_ok-save-in-Save.ensures.saves _)
+
+pub returns-in-SetDepth-clause-advances : goal.returns-in-SetDepth-clause-advances
+returns-in-SetDepth-clause-advances g c =
+    let s = state_of (g.S.Surface.mesh c.args.mesh.now) (g.S.Surface.kept c.args.mesh.now) c.args.run.now in
+    advances_set (target_of c.args.to) (record s.set { depth = c.in-SetDepth.depth }) c.args.what.now s (contents g.D.Desk.files g.K.Sink.written c.args.desk.now c.args.out.now) (ap (λ what. effect_of None what s) c.in-SetDepth.is)
+
+pub returns-in-SetDepth-clause-kept : goal.returns-in-SetDepth-clause-kept
+returns-in-SetDepth-clause-kept g c = λ e. record { now = c.requires.kept.now; groups = c.requires.kept.groups }
+
+pub returns-in-SetDepth-clause-begins : goal.returns-in-SetDepth-clause-begins
+returns-in-SetDepth-clause-begins g c =
+    let kept = g.S.Surface.kept c.args.mesh.now in
+    let P : Directive → Type 0 = λ what. BeginsWith kept (left_by what c.args.run.now.groups kept) in
+    subst P (sym c.in-SetDepth.is) (begins_itself kept)
+
+pub returns-in-SetPasses-clause-advances : goal.returns-in-SetPasses-clause-advances
+returns-in-SetPasses-clause-advances g c =
+    let s = state_of (g.S.Surface.mesh c.args.mesh.now) (g.S.Surface.kept c.args.mesh.now) c.args.run.now in
+    advances_set (target_of c.args.to) (record s.set { passes = c.in-SetPasses.passes }) c.args.what.now s (contents g.D.Desk.files g.K.Sink.written c.args.desk.now c.args.out.now) (ap (λ what. effect_of None what s) c.in-SetPasses.is)
+
+pub returns-in-SetPasses-clause-kept : goal.returns-in-SetPasses-clause-kept
+returns-in-SetPasses-clause-kept g c = λ e. record { now = c.requires.kept.now; groups = c.requires.kept.groups }
+
+pub returns-in-SetPasses-clause-begins : goal.returns-in-SetPasses-clause-begins
+returns-in-SetPasses-clause-begins g c =
+    let kept = g.S.Surface.kept c.args.mesh.now in
+    let P : Directive → Type 0 = λ what. BeginsWith kept (left_by what c.args.run.now.groups kept) in
+    subst P (sym c.in-SetPasses.is) (begins_itself kept)
+
+pub returns-in-SetZones-clause-advances : goal.returns-in-SetZones-clause-advances
+returns-in-SetZones-clause-advances g c =
+    let s = state_of (g.S.Surface.mesh c.args.mesh.now) (g.S.Surface.kept c.args.mesh.now) c.args.run.now in
+    advances_set (target_of c.args.to) (record s.set { zones = c.in-SetZones.zones }) c.args.what.now s (contents g.D.Desk.files g.K.Sink.written c.args.desk.now c.args.out.now) (ap (λ what. effect_of None what s) c.in-SetZones.is)
+
+pub returns-in-SetZones-clause-kept : goal.returns-in-SetZones-clause-kept
+returns-in-SetZones-clause-kept g c = λ e. record { now = c.requires.kept.now; groups = c.requires.kept.groups }
+
+pub returns-in-SetZones-clause-begins : goal.returns-in-SetZones-clause-begins
+returns-in-SetZones-clause-begins g c =
+    let kept = g.S.Surface.kept c.args.mesh.now in
+    let P : Directive → Type 0 = λ what. BeginsWith kept (left_by what c.args.run.now.groups kept) in
+    subst P (sym c.in-SetZones.is) (begins_itself kept)
+
+pub returns-in-SetHalvings-clause-advances : goal.returns-in-SetHalvings-clause-advances
+returns-in-SetHalvings-clause-advances g c =
+    let s = state_of (g.S.Surface.mesh c.args.mesh.now) (g.S.Surface.kept c.args.mesh.now) c.args.run.now in
+    advances_set (target_of c.args.to) (record s.set { halvings = c.in-SetHalvings.halvings }) c.args.what.now s (contents g.D.Desk.files g.K.Sink.written c.args.desk.now c.args.out.now) (ap (λ what. effect_of None what s) c.in-SetHalvings.is)
+
+pub returns-in-SetHalvings-clause-kept : goal.returns-in-SetHalvings-clause-kept
+returns-in-SetHalvings-clause-kept g c = λ e. record { now = c.requires.kept.now; groups = c.requires.kept.groups }
+
+pub returns-in-SetHalvings-clause-begins : goal.returns-in-SetHalvings-clause-begins
+returns-in-SetHalvings-clause-begins g c =
+    let kept = g.S.Surface.kept c.args.mesh.now in
+    let P : Directive → Type 0 = λ what. BeginsWith kept (left_by what c.args.run.now.groups kept) in
+    subst P (sym c.in-SetHalvings.is) (begins_itself kept)

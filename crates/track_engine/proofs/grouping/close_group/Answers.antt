@@ -1,10 +1,12 @@
-use Rattle.std.proofs.Common.{◌≡◌, not, List, [], ◌∷◌, Some, refl, ap, sym, ◌∙◌, inr}
+use Rattle.std.proofs.Common.{◌≡◌, not, List, [], ◌∷◌, Some, refl, ap, sym, subst, ◌∙◌, inr}
 use Rattle.std.proofs.lemmas.Result.{err_from_is_err_and}
+use Rattle.mesh_base.specs.Mesh.{Mesh}
+use Rattle.mesh_base.specs.Kept.{BeginsWith}
 use Rattle.log_text.specs.declared.LogLine.TheVariants.{Close}
 use Rattle.outside_io.proofs.Written.{appended-nil}
 use Rattle.track_engine.specs.State.{groups_of, state_of}
 use Rattle.track_engine.specs.Effects.{Proceeds}
-use Rattle.track_engine.proofs.OpenMarks.{none_closed, close_line, goes_back, stays_open, state_back, marks_back, marks_kept, mark_holds}
+use Rattle.track_engine.proofs.OpenMarks.{begins_left, left_back, none_closed, close_line, goes_back, stays_open, state_back, marks_back, marks_kept, mark_holds}
 use Rattle.track_engine.proofs.grouping.close_group.Goals as goal
 
 pub returns-in_default-clause-writes : goal.returns-in_default-clause-writes
@@ -49,3 +51,29 @@ returns-else-failed-clause-writes g c =
 pub returns-else-failed-clause-marks : goal.returns-else-failed-clause-marks
 returns-else-failed-clause-marks g c =
     marks_kept g.S.Surface.beyond (g.S.Surface.mesh c.args.mesh.now) (g.S.Surface.kept c.args.mesh.now) c.args.run.now c.in-Some-close.group c.close.new.self c.in-Some-close.ensures c.requires
+
+pub returns-in_default-clause-marks : goal.returns-in_default-clause-marks
+returns-in_default-clause-marks g c = c.requires
+
+pub returns-in_err-say-clause-marks : goal.returns-in_err-say-clause-marks
+returns-in_err-say-clause-marks g c = c.requires
+
+pub returns-in_default-clause-begins : goal.returns-in_default-clause-begins
+returns-in_default-clause-begins g c = begins_left (g.S.Surface.kept c.args.mesh.now) c.args.run.now.groups
+
+pub returns-in_err-say-clause-begins : goal.returns-in_err-say-clause-begins
+returns-in_err-say-clause-begins g c = begins_left (g.S.Surface.kept c.args.mesh.now) c.args.run.now.groups
+
+pub returns-else-failed-clause-begins : goal.returns-else-failed-clause-begins
+returns-else-failed-clause-begins g c = begins_left (g.S.Surface.kept c.args.mesh.now) c.args.run.now.groups
+
+pub back_to-requires : goal.back_to-requires
+back_to-requires g c = mark_holds g.S.Surface.beyond (g.S.Surface.mesh c.args.mesh.now) (g.S.Surface.kept c.args.mesh.now) c.args.run.now c.in-Some-close.group c.close.new.self c.in-Some-close.ensures c.requires
+
+pub returns-then-failed-clause-begins : goal.returns-then-failed-clause-begins
+returns-then-failed-clause-begins g c =
+    let kept = g.S.Surface.kept c.args.mesh.now in
+    let run = c.args.run.now in
+    let s = state_of (g.S.Surface.mesh c.args.mesh.now) kept run in
+    let P : List Mesh → Type 0 = λ left. BeginsWith (g.S.Surface.kept c.back_to.new.self) left in
+    subst P (sym (left_back kept run.groups s c.in-Some.failed c.in-Some-close.group c.close.new.self c.in-Some-close.ensures c.in-Some.ensures c.if-failed.true)) c.back_to.ensures.marks

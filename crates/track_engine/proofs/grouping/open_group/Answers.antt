@@ -53,3 +53,15 @@ returns-clause-marks g c =
     let pushed : c.open.new.self ≡ c.in-Ok.group ∷ run.groups = search rules in
     let P : List OpenGroup → Type 0 = λ groups. MarksHold g.S.Surface.beyond new groups in
     subst P (sym pushed) (marks_opened g.S.Surface.beyond (g.S.Surface.mesh c.args.mesh.now) (g.S.Surface.kept c.args.mesh.now) new run c.requires made.begins c.in-Ok.group made.holds made.under)
+
+pub returns-in_default-clause-begins : goal.returns-in_default-clause-begins
+returns-in_default-clause-begins g c = c.group_here.ensures.begins
+
+pub returns-then-is_err-clause-begins : goal.returns-then-is_err-clause-begins
+returns-then-is_err-clause-begins g c = c.group_here.ensures.begins
+
+pub returns-in-Err-clause-begins : goal.returns-in-Err-clause-begins
+returns-in-Err-clause-begins g c = c.group_here.ensures.begins
+
+pub returns-clause-begins : goal.returns-clause-begins
+returns-clause-begins g c = c.group_here.ensures.begins

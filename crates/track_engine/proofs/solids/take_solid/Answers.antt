@@ -7,6 +7,7 @@ use Rattle.log_text.specs.Lines.{text_of_lines}
 use Rattle.log_text.specs.declared.LogLine.TheVariants.{Solid}
 use Rattle.outside_io.specs.Sink.{appended}
 use Rattle.pair_scan.proofs.Paths.{ids_sorted}
+use Rattle.mesh_base.proofs.MarksHold.{begins_itself}
 use Rattle.mesh_base.specs.Changes.{with_solid}
 use Rattle.track_engine.specs.State.{state_of}
 use Rattle.track_engine.specs.Effects.{Proceeds, effect_of, solid_effect, after_solid, one_still}
@@ -44,3 +45,21 @@ returns-clause-writes g c =
 
 pub returns-clause-marks : goal.returns-clause-marks
 returns-clause-marks g c = marks_along g.S.Surface.beyond (g.S.Surface.kept c.make_solid.new.self) (g.S.Surface.kept c.args.mesh.now) c.args.run.now.groups c.make_solid.ensures.marks c.requires.marks
+
+pub returns-then-is_none-clause-marks : goal.returns-then-is_none-clause-marks
+returns-then-is_none-clause-marks g c = c.requires.marks
+
+pub returns-then-is_none-clause-begins : goal.returns-then-is_none-clause-begins
+returns-then-is_none-clause-begins g c = begins_itself (g.S.Surface.kept c.args.mesh.now)
+
+pub returns-then-is_err-clause-marks : goal.returns-then-is_err-clause-marks
+returns-then-is_err-clause-marks g c = marks_along g.S.Surface.beyond (g.S.Surface.kept c.make_solid.new.self) (g.S.Surface.kept c.args.mesh.now) c.args.run.now.groups c.make_solid.ensures.marks c.requires.marks
+
+pub returns-then-is_err-clause-begins : goal.returns-then-is_err-clause-begins
+returns-then-is_err-clause-begins g c = c.make_solid.ensures.marks
+
+pub returns-in_err-say-clause-begins : goal.returns-in_err-say-clause-begins
+returns-in_err-say-clause-begins g c = c.make_solid.ensures.marks
+
+pub returns-clause-begins : goal.returns-clause-begins
+returns-clause-begins g c = c.make_solid.ensures.marks
