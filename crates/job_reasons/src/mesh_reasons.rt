@@ -3,7 +3,7 @@ ghost use Rattle.std.specs.Prelude.{◌≤◌, length};
 ghost use Rattle.grid_base.specs.declared.TheConstants.{TEXT_MAX};
 
 use crate::places::{encoding, line_at, place, word_at};
-use line_text::{TextFault, TextWhy, is_word};
+use line_text::{TextFault, TextWhy};
 use std::alloc::{AllocError, Global};
 
 // The greatest size of a coordinate on a grid of so many decimals.
@@ -19,52 +19,32 @@ fn greatest(decimals: u8) -> &'static str {
     }
 }
 
-// Whether a word begins an OFF file.
-fn begins_off(word: &[u8]) -> bool {
-    is_word(word, b"OFF")
-        || is_word(word, b"COFF")
-        || is_word(word, b"NOFF")
-        || is_word(word, b"4OFF")
-}
-
-// Whether a word begins a line of a text of steps that sets, moves, ends or asks for no pass.
-fn begins_step(word: &[u8]) -> bool {
-    is_word(word, b"set")
-        || is_word(word, b"shift")
-        || is_word(word, b"step")
-        || is_word(word, b"save")
-        || is_word(word, b"group")
-}
-
-// Whether a word begins a line of a text of steps that asks for a pass.
-fn begins_pass(word: &[u8]) -> bool {
-    is_word(word, b"split")
-        || is_word(word, b"collapse")
-        || is_word(word, b"flip")
-        || is_word(word, b"zip")
-        || is_word(word, b"pinch")
-}
-
 // What a mesh file that is no OBJ text may be.
 fn other_format(line: &[u8]) -> Option<&'static str> {
-    let word = word_at(line, 0);
-    if begins_off(word) {
-        return Some(
-            "this looks like an OFF file: `topo convert FILE.off FILE.obj` makes it one that is tracked",
-        );
-    }
-    if is_word(word, b"ply") {
-        return Some(
+    match word_at(line, 0) {
+        b"OFF" | b"COFF" | b"NOFF" | b"4OFF" => {
+            Some(
+                "this looks like an OFF file: `topo convert FILE.off FILE.obj` makes it one that is tracked",
+            )
+        }
+        b"ply" => Some(
             "this looks like a PLY file: `topo convert FILE.ply FILE.obj` makes it one that is tracked",
-        );
+        ),
+        b"solid" | b"facet" => Some("this looks like an STL file, which is not read"),
+        b"set"
+        | b"shift"
+        | b"step"
+        | b"split"
+        | b"collapse"
+        | b"flip"
+        | b"zip"
+        | b"pinch"
+        | b"save"
+        | b"group" => {
+            Some("this looks like a text of steps: the mesh comes first, and then the steps")
+        }
+        _ => None,
     }
-    if is_word(word, b"solid") || is_word(word, b"facet") {
-        return Some("this looks like an STL file, which is not read");
-    }
-    if begins_step(word) || begins_pass(word) {
-        return Some("this looks like a text of steps: the mesh comes first, and then the steps");
-    }
-    None
 }
 
 // What a line should be, by the reason.

@@ -4,109 +4,43 @@ ghost use Rattle.grid_base.specs.declared.TheConstants.{TEXT_MAX};
 
 use crate::places::{encoding, line_at, place, word_at};
 use grid_base::{BOX, SHIFT_MAX};
-use line_text::{TextFault, TextWhy, is_word};
+use line_text::{TextFault, TextWhy};
 use mesh_plain::UseWhy;
 use std::alloc::{AllocError, Global};
 
-// How a directive is written that moves vertices or holds them, or sets how steps are taken, by its first word.
-fn form_of_step(word: &[u8]) -> Option<&'static str> {
-    if is_word(word, b"set") {
-        return Some("`set depth D`, `set halvings H`, `set passes P` or `set zones Z`");
-    }
-    if is_word(word, b"shift") {
-        return Some("`shift V DX DY DZ` or `shift all DX DY DZ`");
-    }
-    if is_word(word, b"drive") {
-        return Some("`drive NAME`");
-    }
-    if is_word(word, b"solid") {
-        return Some("`solid V`");
-    }
-    if is_word(word, b"step") {
-        return Some("`step` alone");
-    }
-    None
-}
-
-// How a directive is written that asks for a pass, by its first word.
-fn form_of_pass(word: &[u8]) -> Option<&'static str> {
-    if is_word(word, b"split") {
-        return Some("`split L`");
-    }
-    if is_word(word, b"collapse") {
-        return Some("`collapse L`");
-    }
-    if is_word(word, b"zip") {
-        return Some("`zip D`");
-    }
-    if is_word(word, b"flip") {
-        return Some("`flip` alone");
-    }
-    if is_word(word, b"pinch") {
-        return Some("`pinch` alone");
-    }
-    None
-}
-
-// How another directive is written, by its first word.
-fn form_of_other(word: &[u8]) -> Option<&'static str> {
-    if is_word(word, b"save") {
-        return Some("`save` alone");
-    }
-    if is_word(word, b"group") {
-        return Some("`group` alone");
-    }
-    if is_word(word, b"close") {
-        return Some("`close` alone");
-    }
-    None
-}
-
 // How a directive is written, by its first word.
 fn form(word: &[u8]) -> Option<&'static str> {
-    if let Some(form) = form_of_step(word) {
-        return Some(form);
+    match word {
+        b"set" => Some("`set depth D`, `set halvings H`, `set passes P` or `set zones Z`"),
+        b"shift" => Some("`shift V DX DY DZ` or `shift all DX DY DZ`"),
+        b"drive" => Some("`drive NAME`"),
+        b"solid" => Some("`solid V`"),
+        b"split" => Some("`split L`"),
+        b"collapse" => Some("`collapse L`"),
+        b"zip" => Some("`zip D`"),
+        b"flip" => Some("`flip` alone"),
+        b"pinch" => Some("`pinch` alone"),
+        b"step" => Some("`step` alone"),
+        b"save" => Some("`save` alone"),
+        b"group" => Some("`group` alone"),
+        b"close" => Some("`close` alone"),
+        _ => None,
     }
-    if let Some(form) = form_of_pass(word) {
-        return Some(form);
-    }
-    form_of_other(word)
-}
-
-// The limits of what `set` sets, by the next word.
-fn limits_of_set(next: &[u8]) -> Option<&'static str> {
-    if is_word(next, b"depth") {
-        return Some("a depth is 0 to 10");
-    }
-    if is_word(next, b"halvings") {
-        return Some("halvings are 0 to 27");
-    }
-    if is_word(next, b"passes") {
-        return Some("passes are 0 to 100");
-    }
-    if is_word(next, b"zones") {
-        return Some("zones are 0 or 1");
-    }
-    None
 }
 
 // The limits of a directive's values, by its first word and the next.
 fn limits(word: &[u8], next: &[u8]) -> &'static str {
-    if is_word(word, b"set")
-        && let Some(limits) = limits_of_set(next)
-    {
-        return limits;
+    match (word, next) {
+        (b"set", b"depth") => "a depth is 0 to 10",
+        (b"set", b"halvings") => "halvings are 0 to 27",
+        (b"set", b"passes") => "passes are 0 to 100",
+        (b"set", b"zones") => "zones are 0 or 1",
+        (b"shift", _) =>
+            "a vertex is 1 to 2147483648, and a component of a shift at most 536870912 in size",
+        (b"drive", _) => "a name of a field is a text of 1 to 32 bytes",
+        (b"solid", _) => "a vertex is 1 to 2147483648",
+        _ => "a length is 0 to 1073741824",
     }
-    if is_word(word, b"shift") {
-        return "a vertex is 1 to 2147483648, and a component of a shift at most 536870912 in size";
-    }
-    if is_word(word, b"drive") {
-        return "a name of a field is a text of 1 to 32 bytes";
-    }
-    if is_word(word, b"solid") {
-        return "a vertex is 1 to 2147483648";
-    }
-    "a length is 0 to 1073741824"
 }
 
 // That values count units of the grid, on a grid of so many decimals.
