@@ -159,7 +159,8 @@ fn put_zip(
     f: VertexId,
     into: &mut Vec<u8>,
 ) -> Result<(), NoMemory>
-    ensures ok { Appends result into.old into.new (spec.spaced (spec.asked_words (Asked.Zip a b e f))) }
+    ensures ok { let what = Asked.Zip a b e f in
+        Appends result into.old into.new (spec.spaced (spec.asked_words what)) }
     ensures err { OnErr result (Keeps into.old.items into.new.items) }
 {
     put_spaced(

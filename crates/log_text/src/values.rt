@@ -129,7 +129,8 @@ pub(crate) fn only_count(ended: bool, low: u32, high: u32, words: Parts<'_>) -> 
 
 // The two further words, numbers from 1.
 pub(crate) fn two_counts(ended: bool, high: u32, words: Parts<'_>) -> Result<(u32, u32), TextWhy>
-    ensures value { let read = both (spelling.spelled_at 1 COUNT_MAX) (spelling.spelled_at 1 high) in
+    ensures value { let first = spelling.spelled_at 1 COUNT_MAX in
+        let read = both first (spelling.spelled_at 1 high) in
         result ≡ spec.whole ended 2 read (parts_left words.entry) }
     ensures below { IfOk result (λ n. n.1 ≤ high) }
 {
