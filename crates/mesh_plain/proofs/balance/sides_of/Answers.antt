@@ -1,9 +1,11 @@
-use Rattle.std.proofs.Common.{◌≡◌, ℕ, ◌+◌, ◌<◌, ◌&&◌, Bool, true, false, cond, List, length, take, get_or, nat_lt, if◌then◌else◌, refl, sym, ap, ◌∙◌, arith}
+use Rattle.std.proofs.Common.{◌≡◌, ℕ, ◌+◌, ◌<◌, ◌≤◌, ◌&&◌, Bool, true, false, cond, List, length, take, get_or, nat_lt, if◌then◌else◌, refl, sym, ap, subst, ◌∙◌, arith}
 use Rattle.std.specs.List.{count_by}
+use Rattle.std.proofs.Math.Seq.{take-length}
 use Rattle.std.proofs.lemmas.List.Sums.{count_by_more_yes, count_by_more_no}
 use Rattle.mesh_base.specs.Sides.{follows}
 use Rattle.mesh_base.specs.Given.{Faces}
 use Rattle.mesh_base.specs.Changes.{corners_of}
+use Rattle.mesh_plain.specs.Shape.{runs_in}
 use Rattle.mesh_plain.specs.Balance.{times, HasRuns, AddsRuns}
 use Rattle.mesh_plain.proofs.balance.sides_of.Goals as goal
 
@@ -20,6 +22,9 @@ with_next : (test : List ℕ → ℕ → ℕ → Bool) (faces : Faces) (i : ℕ)
 with_next test faces i d old new h had adds = λ u v.
     where_less (nat_lt u v) (test (get_or faces i d) u v) (times old u v) (times new u v) _ _ (adds u v) (had u v) (one_more (λ f. test f u v) faces i d h (test (get_or faces i d) u v) refl)
 
+all_taken : (faces : Faces) (i : ℕ) → i ≤ length faces → length faces ≤ i → take i faces ≡ faces
+all_taken faces i h k = let same : i ≡ length faces = omega arith in ap (λ n. take n faces) same ∙ take-length faces
+
 pub overflow_mul-room : goal.overflow_mul-room
 overflow_mul-room c = omega arith
 
@@ -31,3 +36,9 @@ loop-f-preserved c =
       up = with_next (λ f u v. follows (corners_of f) u v) faces i _ c.loop-f.sides.up.items c.put_sides.new.sides.up.items c.loop-f-test.true c.loop-f.invariant.up (c.in_ok-put_sides.ensures.up refl);
       down = with_next (λ f u v. follows (corners_of f) v u) faces i _ c.loop-f.sides.down.items c.put_sides.new.sides.down.items c.loop-f-test.true c.loop-f.invariant.down (c.in_ok-put_sides.ensures.down refl);
     }
+
+pub returns-clause-up : goal.returns-clause-up
+returns-clause-up c = subst (λ faces. HasRuns c.loop-f.sides.up.items (λ u v. runs_in faces u v)) (all_taken c.args.faces.now c.loop-f.f-index c.loop-f.auto.f-index-end c.loop-f-test.false) c.loop-f.invariant.up
+
+pub returns-clause-down : goal.returns-clause-down
+returns-clause-down c = subst (λ faces. HasRuns c.loop-f.sides.down.items (λ u v. runs_in faces v u)) (all_taken c.args.faces.now c.loop-f.f-index c.loop-f.auto.f-index-end c.loop-f-test.false) c.loop-f.invariant.down
