@@ -1,5 +1,5 @@
 -- A flip that passes no limit leaves a sound mesh.
-use Rattle.std.proofs.Common.{◌≡◌, ◌≢◌, ℕ, ◌+◌, ◌<◌, Bool, true, false, cond, nat_lt, [], ◌∷◌, inl, refl, sym, ap, ◌∙◌, arith}
+use Rattle.std.proofs.Common.{◌≡◌, ◌≢◌, ℕ, ◌+◌, ◌<◌, Bool, true, false, nat_lt, [], ◌∷◌, inl, refl, sym, ◌∙◌, arith}
 use Rattle.std.proofs.lemmas.Bool.{false≢true}
 use Rattle.std.proofs.lemmas.Bool.Decides.{nat_tests}
 use Rattle.mesh_base.specs.declared.ids.Corners.{Corners}
@@ -8,7 +8,6 @@ use Rattle.mesh_base.specs.Sides.{follows, runs}
 use Rattle.mesh_base.specs.Pairs.{is_edge}
 use Rattle.mesh_base.specs.Changes.{without_face, IsFresh}
 use Rattle.mesh_base.specs.Limits.{is_over_limits}
-use Rattle.mesh_base.proofs.Counts.{runs-without_face}
 use Rattle.mesh_base.proofs.Finite.{got_after_remove}
 use Rattle.edit_base.specs.Edges.{AreFresh, Edge, corners_from, without_faces}
 use Rattle.edit_flip.specs.Flip.{flip_mesh}

@@ -1,12 +1,12 @@
 -- A triangle cut from a corner to the middle of the opposite side: what meets it meets one of its two parts. The same of an edge cut in its middle.
-use Rattle.std.proofs.Common.{◌≡◌, ℕ, zero, suc, ◌+◌, ℤ, pos, ◌+ℤ◌, ◌*ℤ◌, ◌⊎◌, ⊎_elim, inl, inr, [], ◌∷◌, refl, ap, subst, ◌∙◌, arith}
+use Rattle.std.proofs.Common.{◌≡◌, ℕ, zero, suc, ◌+◌, ℤ, pos, ◌+ℤ◌, ◌*ℤ◌, ◌⊎◌, ⊎_elim, inl, inr, [], ◌∷◌, refl, ap, subst, arith}
 use Rattle.std.proofs.Math.IntN.{+ℤ_comm}
 use Rattle.grid_base.specs.Triples.{Triple, plus, times}
 use Rattle.grid_base.specs.Meeting.{Meets}
 use Rattle.grid_base.proofs.Polynomials.{var, num, add, sub, mul, same_by_known}
 use Rattle.grid_base.proofs.MeetingLaws.{same_triple}
 use Rattle.edit_flip.specs.Halves.{FaceIsTwoFaces, EdgeIsTwoEdges}
-use Rattle.edit_acts.proofs.Exchanged.{plus_comm, Meets-exchanged}
+use Rattle.edit_acts.proofs.Exchanged.{Meets-exchanged}
 
 -- one component: the weight of d is at most that of c
 first_way : (i j k l n m : ℕ) (x y a c d : ℤ) → m ≡ l + n →

@@ -1,15 +1,14 @@
 -- What the changes of a split require, one after another.
-use Rattle.std.proofs.Common.{◌≡◌, ℕ, ◌+◌, ◌≤◌, true, false, min, max, [], ◌∷◌, is_some, ⊎_elim, sym, ap, subst, arith}
+use Rattle.std.proofs.Common.{◌≡◌, ◌+◌, ◌≤◌, false, [], ◌∷◌, is_some, ⊎_elim, sym, ap, arith}
 use Rattle.std.specs.FinMap as finite
 use Rattle.grid_base.specs.declared.TheConstants.{FACES_MAX, ID_MAX}
 use Rattle.grid_base.specs.declared.Point.{Point}
 use Rattle.mesh_base.specs.Mesh.{Mesh, IsSound, IsLiveFace}
 use Rattle.mesh_base.specs.Sides.{IsClosed}
-use Rattle.mesh_base.specs.Pairs.{is_edge}
 use Rattle.mesh_base.specs.Changes.{with_vertex, without_face, IsFullOfVertices}
 use Rattle.mesh_base.specs.Limits.{is_over_limits}
 use Rattle.mesh_base.proofs.Finite.{live_but_removed}
-use Rattle.edit_base.specs.Edges.{Edge, edge_of, corners_from, without_faces, AreFresh}
+use Rattle.edit_base.specs.Edges.{Edge, corners_from, without_faces, AreFresh}
 use Rattle.edit_split.specs.Split.{split_mesh, split_is_over}
 use Rattle.edit_base.specs.Required.{HasEdge, HasRoomFor}
 use Rattle.edit_base.specs.Beside.{IsBeside}

@@ -1,5 +1,4 @@
-use Rattle.std.proofs.Common.{◌≡◌, Bool, true, false, not, ◌||◌, ◌&&◌, ◌++◌, min, max, refl, sym, ap, is_some, ◌∙◌}
-use Rattle.mesh_base.specs.Mesh.{Mesh}
+use Rattle.std.proofs.Common.{◌≡◌, Bool, true, false, not, ◌||◌, ◌&&◌, ◌++◌, refl, sym, ap, ◌∙◌}
 use Rattle.mesh_base.specs.Pairs.{is_edge, is_crowded}
 use Rattle.edit_base.specs.Edges.{Edge, edge_of}
 use Rattle.edit_zip.specs.Zip.{four_ids, repeats}
