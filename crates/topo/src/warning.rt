@@ -66,6 +66,20 @@ fn mesh_warnings(
     }
 }
 
+// The warnings that a text of steps gives.
+fn steps_warnings(alloc: Global, bytes: &[u8], into: &mut Vec<String>) -> Result<(), AllocError>
+    requires { length bytes.now ≤ TEXT_MAX }
+{
+    let Ok(directives) = read_steps(alloc, bytes) else {
+        return Ok(());
+    };
+    if asks_in_vain(&directives) {
+        let vain = "shifts are asked behind the last `step`, and nothing takes them";
+        warn(alloc, vain, into)?;
+    }
+    Ok(())
+}
+
 /// Says what may be amiss in a job that is done, from its files, which it looks into once more.
 pub(crate) fn warnings<R: Files>(
     alloc: Global,
@@ -79,11 +93,6 @@ pub(crate) fn warnings<R: Files>(
     let mesh = bytes_of(alloc, rt, names.mesh);
     mesh_warnings(alloc, &mesh, names.decimals, &mut said)?;
     let steps = bytes_of(alloc, rt, names.steps);
-    if let Ok(directives) = read_steps(alloc, &steps) {
-        if asks_in_vain(&directives) {
-            let vain = "shifts are asked behind the last `step`, and nothing takes them";
-            warn(alloc, vain, &mut said)?;
-        }
-    }
+    steps_warnings(alloc, &steps, &mut said)?;
     Ok(said)
 }
