@@ -75,6 +75,24 @@ pub(crate) fn tell<D: Desk, K: Sink>(text: &str, desk: &D, out: &mut K) -> Outco
     }
 }
 
+// Writes how the program is called.
+fn tell_usage<D: Desk, K: Sink>(desk: &D, out: &mut K) -> Outcome
+    ensures { Tells USAGE.now result
+        (world D.files D.faults K.written K.faults desk.now out.old)
+        (world D.files D.faults K.written K.faults desk.now out.new) }
+{
+    tell(USAGE, desk, out)
+}
+
+// Writes the line of the version.
+fn tell_version<D: Desk, K: Sink>(desk: &D, out: &mut K) -> Outcome
+    ensures { Tells VERSION_LINE.now result
+        (world D.files D.faults K.written K.faults desk.now out.old)
+        (world D.files D.faults K.written K.faults desk.now out.new) }
+{
+    tell(VERSION_LINE, desk, out)
+}
+
 /// Answers the words that follow the program's name, and gives the outcome. `--help` or `-h` alone writes how the program is called,
 /// `--version` alone the line of the version, and all other words are a run's.
 pub(crate) fn answer<D: Desk, K: Sink, F: Fn(u8, Point) -> Shift>(
@@ -100,10 +118,10 @@ pub(crate) fn answer<D: Desk, K: Sink, F: Fn(u8, Point) -> Shift>(
         (world D.files D.faults K.written K.faults desk.new out.new) }
 {
     if is_help(words) {
-        return tell(USAGE, desk, out);
+        return tell_usage(desk, out);
     }
     if is_version(words) {
-        return tell(VERSION_LINE, desk, out);
+        return tell_version(desk, out);
     }
     run(alloc, words, desk, out, fields)
 }

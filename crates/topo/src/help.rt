@@ -90,21 +90,31 @@ fn try_cubes<'a>(alloc: Global) -> Result<Command<'a>, AllocError> {
         .arg(word(alloc, "KEY", "Picks how each cube moves"))
 }
 
+// How a command is called, under its name after the program's.
+fn rendered<'a>(command: Command<'a>, name: &'a str) -> Result<String, AllocError> {
+    let mut command = command.bin_name(name)?;
+    command.render_help()
+}
+
+fn track_help(alloc: Global) -> Result<String, AllocError> {
+    rendered(track(alloc)?, "topo track")
+}
+
+fn convert_help(alloc: Global) -> Result<String, AllocError> {
+    rendered(convert(alloc)?, "topo convert")
+}
+
+fn try_help(alloc: Global) -> Result<String, AllocError> {
+    rendered(try_cubes(alloc)?, "topo try")
+}
+
 /// How the command is called; None, where there is no such command.
 pub(crate) fn command_help(alloc: Global, name: &str) -> Result<Option<String>, AllocError> {
-    match name {
-        "track" => {
-            let mut command = track(alloc)?.bin_name("topo track")?;
-            Ok(Some(command.render_help()?))
-        }
-        "convert" => {
-            let mut command = convert(alloc)?.bin_name("topo convert")?;
-            Ok(Some(command.render_help()?))
-        }
-        "try" => {
-            let mut command = try_cubes(alloc)?.bin_name("topo try")?;
-            Ok(Some(command.render_help()?))
-        }
-        _ => Ok(None),
-    }
+    let help = match name {
+        "track" => track_help(alloc)?,
+        "convert" => convert_help(alloc)?,
+        "try" => try_help(alloc)?,
+        _ => return Ok(None),
+    };
+    Ok(Some(help))
 }

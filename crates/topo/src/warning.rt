@@ -24,6 +24,33 @@ fn finest(alloc: Global, bytes: &[u8], decimals: u8) -> Option<(MeshLists, u8)>
     None
 }
 
+// Adds a warning.
+fn warn(alloc: Global, warning: &str, into: &mut Vec<String>) -> Result<(), AllocError> {
+    into.push(String::from_str(alloc, warning)?)?;
+    Ok(())
+}
+
+// The warnings that the lists of a mesh give.
+fn lists_warnings(
+    alloc: Global,
+    lists: &MeshLists,
+    fine: u8,
+    decimals: u8,
+    into: &mut Vec<String>,
+) -> Result<(), AllocError> {
+    if lists.points.len() == 0 {
+        warn(alloc, "the mesh is empty", into)?;
+    }
+    if let Some(rounded) = rounding_warning(alloc, lists, fine, decimals)? {
+        into.push(rounded)?;
+    }
+    if is_inside_out(lists) {
+        let said = "the surface is turned inside out: its volume is below zero";
+        warn(alloc, said, into)?;
+    }
+    Ok(())
+}
+
 // The warnings that a mesh file gives.
 fn mesh_warnings(
     alloc: Global,
@@ -33,18 +60,22 @@ fn mesh_warnings(
 ) -> Result<(), AllocError>
     requires { length bytes.now ≤ TEXT_MAX }
 {
-    let Some((lists, fine)) = finest(alloc, bytes, decimals) else {
+    match finest(alloc, bytes, decimals) {
+        Some((lists, fine)) => lists_warnings(alloc, &lists, fine, decimals, into),
+        None => Ok(()),
+    }
+}
+
+// The warnings that a text of steps gives.
+fn steps_warnings(alloc: Global, bytes: &[u8], into: &mut Vec<String>) -> Result<(), AllocError>
+    requires { length bytes.now ≤ TEXT_MAX }
+{
+    let Ok(directives) = read_steps(alloc, bytes) else {
         return Ok(());
     };
-    if lists.points.len() == 0 {
-        into.push(String::from_str(alloc, "the mesh is empty")?)?;
-    }
-    if let Some(rounded) = rounding_warning(alloc, &lists, fine, decimals)? {
-        into.push(rounded)?;
-    }
-    if is_inside_out(&lists) {
-        let said = "the surface is turned inside out: its volume is below zero";
-        into.push(String::from_str(alloc, said)?)?;
+    if asks_in_vain(&directives) {
+        let vain = "shifts are asked behind the last `step`, and nothing takes them";
+        warn(alloc, vain, into)?;
     }
     Ok(())
 }
@@ -62,11 +93,6 @@ pub(crate) fn warnings<R: Files>(
     let mesh = bytes_of(alloc, rt, names.mesh);
     mesh_warnings(alloc, &mesh, names.decimals, &mut said)?;
     let steps = bytes_of(alloc, rt, names.steps);
-    if let Ok(directives) = read_steps(alloc, &steps) {
-        if asks_in_vain(&directives) {
-            let vain = "shifts are asked behind the last `step`, and nothing takes them";
-            said.push(String::from_str(alloc, vain)?)?;
-        }
-    }
+    steps_warnings(alloc, &steps, &mut said)?;
     Ok(said)
 }

@@ -1,5 +1,6 @@
 ghost use Rattle.std.specs.Prelude.{◌≡◌, ◌≤◌, IfOk, OnOk, OnErr, IsErrOf};
-ghost use Rattle.mesh_make.specs.Cubes.{IsRow};
+ghost use Rattle.mesh_make.specs.Cubes.{IsRow, cubes_mesh};
+ghost use Rattle.mesh_make.specs.CubeSteps.{cubes_steps};
 ghost use Rattle.outside_io.specs.Causes.{Rose};
 ghost use Rattle.outside_io.specs.Sink.{appended, AppendsPart};
 ghost use Rattle.track_try.specs.Summary.{summary_of};
@@ -11,12 +12,33 @@ use grid_base::{NoMemory, Point, Shift};
 use mesh_field::no_fields;
 use mesh_journal::JournalMesh;
 use mesh_make::cubes;
+use mesh_plain::Surface;
 use outside_io::{Sink, TallySink, put_all};
 use std::alloc::Global;
+use step_text::Placed;
 
 // What a field that is not there would answer.
 fn no_shift(_which: u8, _at: Point) -> Shift {
     Shift { x: 0, y: 0, z: 0 }
+}
+
+// The summary of a job of cubes, by its mesh and its directives.
+fn summary_of_run<S: Surface + Drop>(
+    alloc: Global,
+    n: u8,
+    key: u32,
+    mesh: S,
+    steps: &[Placed],
+) -> Result<Vec<u8>, NoMemory>
+    requires row { IsRow n }
+    requires mesh { S.mesh mesh ≡ cubes_mesh n }
+    requires steps { steps.now ≡ cubes_steps n key }
+    ensures { IfOk result (λ text. text.items ≡ summary_of n key) }
+{
+    let fields = no_fields(no_shift);
+    let mut told = TallySink::new();
+    let engine = run(alloc, mesh, steps, &mut told, &fields)?;
+    summed_up(alloc, n, key, &told, &engine.mesh)
 }
 
 // The summary of the job of `n` * `n` * `n` cubes that `key` picks.
@@ -26,10 +48,7 @@ fn summary(alloc: Global, n: u8, key: u32) -> Result<Vec<u8>, NoMemory>
 {
     let job = cubes(alloc, n, key)?;
     let mesh = JournalMesh::of(alloc, &job.mesh)?;
-    let fields = no_fields(no_shift);
-    let mut told = TallySink::new();
-    let engine = run(alloc, mesh, job.directives.as_slice(), &mut told, &fields)?;
-    summed_up(alloc, n, key, &told, &engine.mesh)
+    summary_of_run(alloc, n, key, mesh, job.directives.as_slice())
 }
 
 /// Makes the job of `n` * `n` * `n` cubes that `key` picks, runs it over a sink and a desk that only count, and then writes what it came
