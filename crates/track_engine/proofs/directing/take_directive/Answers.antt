@@ -33,3 +33,14 @@ returns-in-Some-clause-begins g c = begins_named (known g.F.Fn c.args.fields.now
 
 pub returns-in-None-clause-advances : goal.returns-in-None-clause-advances
 returns-in-None-clause-advances g c = advances_plain (known g.F.Fn c.args.fields.now) (target_of c.args.to) c.args.what.now _ _ _ _ c.take_plain.result (sym c.in-None.ensures.value) c.take_plain.ensures.advances
+
+pub returns-in-Some-clause-marks : goal.returns-in-Some-clause-marks
+returns-in-Some-clause-marks g c =
+    let P : RunState → Type 0 = λ run. MarksHold g.S.Surface.beyond (g.S.Surface.kept c.args.mesh.now) run.groups in
+    subst P (sym c.drive.ensures.rest) c.requires.marks
+
+pub returns-in-None-clause-marks : goal.returns-in-None-clause-marks
+returns-in-None-clause-marks g c = c.take_plain.ensures.marks
+
+pub returns-in-None-clause-begins : goal.returns-in-None-clause-begins
+returns-in-None-clause-begins g c = c.take_plain.ensures.begins
