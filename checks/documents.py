@@ -4,7 +4,8 @@
     checks/documents.py
 
 The statuses that README.md and docs/FORMATS.md list are those of `topo --help`, word for word; each log that README.md and docs/EXAMPLES.md
-show is a part of that of the command before it, run anew; each crate has its line in README.md and in docs/ARCHITECTURE.md, and each file that a document names is there.
+show is a part of that of the command before it, run anew; each crate has its line in README.md and in docs/ARCHITECTURE.md, and each file that a document names is there;
+and what docs/ARCHITECTURE.md and docs/HARDENING.md count, files on a way and wrong edits, is as many.
 """
 
 import os
@@ -58,6 +59,22 @@ def edits_of(crate, folder):
     return sum(name.endswith(".edit") for name in os.listdir(path)) if os.path.isdir(path) else 0
 
 
+def ways_in(text):
+    """Each table of ways that is followed by how many files it names, with those files as pairs of a crate and a file."""
+    ways = []
+    for table, count in re.findall(r"((?:^\|.*\n)+)\n.*?(\d+) files\.", text, re.M):
+        files = set()
+        for part in re.findall(r"`\w+`: `\w+\.rt`[^;|]*", table):
+            crate = re.match(r"`(\w+)`", part).group(1)
+            files |= {(crate, file) for file in re.findall(r"`(\w+\.rt)`", part)}
+        ways.append((int(count), files))
+    return ways
+
+
+def is_in_src(crate, file):
+    return any(file in files for _, _, files in os.walk(os.path.join(ROOT, "crates", crate, "src")))
+
+
 def main():
     # where the program is to be built first, that takes its time
     subprocess.run([TOPO, "--version"], check=True, stdout=subprocess.DEVNULL)
@@ -85,6 +102,11 @@ def main():
         named = re.findall(r"`((?:crates|docs|checks|bench|examples|\.ci)/[\w./*-]+)`", text_of(name))
         lost = [it for it in named if "*" not in it and not os.path.exists(os.path.join(ROOT, it))]
         checks.append((f"each file that {name} names is there {' '.join(lost)}".rstrip(), not lost))
+    ways = ways_in(text_of("docs/ARCHITECTURE.md"))
+    checks.append(("docs/ARCHITECTURE.md has the ways of a vertex and of a pair", len(ways) == 2))
+    for count, files in ways:
+        lost = [f"{crate}/{file}" for crate, file in sorted(files) if not is_in_src(crate, file)]
+        checks.append((f"docs/ARCHITECTURE.md names {count} files on a way, all there {' '.join(lost)}".rstrip(), len(files) == count and not lost))
     for crate, edits, further in re.findall(r"(?m)^\| `(\w+)` \| \d+ \| (\d+) \| (\d+) \|", text_of("docs/HARDENING.md")):
         there = tuple(edits_of(crate, folder) for folder in ("must-fail", "must-fail-more"))
         checks.append((f"docs/HARDENING.md counts the edits of {crate}", there == (int(edits), int(further))))
