@@ -8,3 +8,4 @@ pub mod FirstRunning
 pub mod ReasonLaws
 pub mod EdgeThere
 pub mod Left
+pub mod Deeper

@@ -10,6 +10,7 @@ ghost use Rattle.edit_split.specs.Split.{split_point};
 ghost use Rattle.edit_collapse.specs.Collapse.{collapse_point, has_solid_end};
 ghost use Rattle.edit_dispatch.specs.SolidVertices.{SolidVerticesAlwaysStay};
 ghost use Rattle.edit_dispatch.specs.Dispatch.{edited, scaffold_of, OfEdits, OfExactEdits};
+ghost use Rattle.edit_dispatch.specs.Answered.{EditsStayDone, ChangesTellTheEdit};
 
 /// Whatever edit is asked for: where it is done, a sound, closed and clear mesh is so again, and the motion of the edit is clear.
 pub fn edits_keep_the_mesh()
@@ -33,4 +34,11 @@ pub fn new_points_are_midpoints()
     ensures collapse { (m : Mesh) (a b : ℕ) → has_solid_end m a b ≡ false →
         position_of (collapse_point m a b) ≡
         floor_mid_of (rest_positions m a) (rest_positions m b) }
+{}
+
+/// Whatever edit is asked for: where it is done, tested to some depth, it is done with the same change at each greater depth,
+/// and where it is asked for again in the words of its change, with the ids in their order.
+pub fn done_edits_are_done_again()
+    ensures deeper { EditsStayDone }
+    ensures by_change { ChangesTellTheEdit }
 {}

@@ -9,7 +9,7 @@ ghost use Rattle.edit_pinch.specs.Pinch.{fans, copy_points, with_copy};
 ghost use Rattle.edit_pinch.specs.InTurn.{MayBeRemade, MayBeCopied, CopiedInTurn};
 ghost use Rattle.edit_pinch.specs.Tried.{TellsOver};
 
-use crate::fans::Fan;
+use crate::parting::Fan;
 use edit_acts::{corners_at, make_face, make_vertex, renamed};
 use edit_base::CopyAt;
 use grid_base::{ID_MAX, NoMemory, Point, VERTICES_MAX};
@@ -100,7 +100,7 @@ fn put_copies<S: Surface>(
 
 /// Puts a vertex at the point of its first fan, and makes the copies for the others. Where memory is wanting, some of it
 /// may be done.
-pub(crate) fn apply_pinch<S: Surface>(
+pub fn apply_pinch<S: Surface>(
     mesh: &mut S,
     v: VertexId,
     at: Point,

@@ -13,8 +13,8 @@ ghost use Rattle.edit_base.specs.Clauses.{mesh_after_call, MovesClearOnDone, OnO
 ghost use Rattle.edit_pinch.specs.Done.{pinch_result, pinch_tested_on};
 ghost use Rattle.edit_pinch.specs.Tried.{MayBeTried, left_by};
 
-use crate::fans::{Fan, fans};
 use crate::making::{apply_pinch, is_over};
+use crate::parting::{Fan, fans};
 use crate::shifting::{copies_for, fan_point};
 use edit_base::{Change, CopyAt, Edit, Move, Touch, Why};
 use edit_check::check;
@@ -163,6 +163,45 @@ fn pinch_or_leave<S: Surface>(
         Some(p) => Ok(Edit::No(Why::Hit(p))),
         None => Ok(Edit::Done(Change::Pinch { v, at, copies })),
     }
+}
+
+/// Makes the changes of a pinch that may be tried, with its fans. Where memory is wanting, some of them may be made.
+fn put_parts<S: Surface>(
+    mesh: &mut S,
+    v: VertexId,
+    parts: &[Fan],
+    at: Point,
+    copies: &[CopyAt],
+) -> Result<(), NoMemory>
+    requires closed { IsClosed (S.mesh mesh.old) }
+    requires tried { MayBeTried (S.mesh mesh.old) v }
+    requires fans { parts.now ≡ fans (S.mesh mesh.old) v }
+    requires point { at ≡ first_point (S.mesh mesh.old) v }
+    requires copies { copies.now ≡ later_copies (S.mesh mesh.old) v }
+    ensures { OnOk result (S.mesh mesh.new ≡ (pinch_scaffold (S.mesh mesh.old) v).mesh) }
+{
+    let others = &parts[1..];
+    apply_pinch(mesh, v, at, others, copies)?;
+    Ok(())
+}
+
+/// Makes the changes of a pinch that may be tried, where the point of its first fan and the copies for the others are known: the mesh
+/// on which the pinch is tested. Where memory is wanting, some of them may be made.
+pub fn put_pinch<S: Surface>(
+    alloc: Global,
+    mesh: &mut S,
+    v: VertexId,
+    at: Point,
+    copies: &[CopyAt],
+) -> Result<(), NoMemory>
+    requires closed { IsClosed (S.mesh mesh.old) }
+    requires tried { MayBeTried (S.mesh mesh.old) v }
+    requires point { at ≡ first_point (S.mesh mesh.old) v }
+    requires copies { copies.now ≡ later_copies (S.mesh mesh.old) v }
+    ensures { OnOk result (S.mesh mesh.new ≡ (pinch_scaffold (S.mesh mesh.old) v).mesh) }
+{
+    let parts = fans(alloc, mesh, v)?;
+    put_parts(mesh, v, parts.as_slice(), at, copies)
 }
 
 /// Pinches a vertex at which several fans of faces meet: the first fan, by its least face, keeps the vertex, and each later

@@ -8,7 +8,7 @@ ghost use Rattle.edit_pinch.specs.Pinch.{fan_point, divided, copies_for};
 ghost use Rattle.edit_pinch.specs.Rims.{with_other, with_corners, found_rim, ways, AreLiveFaces};
 ghost use Rattle.edit_base.specs.Clauses.{OnOkIs};
 
-use crate::fans::Fan;
+use crate::parting::Fan;
 use edit_acts::corners_at;
 use edit_base::{Copies, CopyAt};
 use grid_base::{BOX, ID_MAX, Items, NoMemory, Point, Wide};
@@ -130,7 +130,7 @@ fn moved_by(here: Point, sum: Wide, count: usize) -> Point
 
 /// Where the copy for a fan goes: an eighth of the way to the mean of the fan's other vertices, each component rounded
 /// toward zero.
-pub(crate) fn fan_point<S: Surface>(
+pub fn fan_point<S: Surface>(
     alloc: Global,
     mesh: &S,
     v: VertexId,
@@ -145,7 +145,7 @@ pub(crate) fn fan_point<S: Surface>(
 }
 
 /// The copies for fans, with the next vertex ids, and where they go.
-pub(crate) fn copies_for<S: Surface>(
+pub fn copies_for<S: Surface>(
     alloc: Global,
     mesh: &S,
     v: VertexId,

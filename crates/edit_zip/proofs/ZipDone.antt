@@ -55,7 +55,7 @@ none_meets meets exact m sound none p is_pair meet =
     false≢true (sym (listed m (λ q. meets (positions (rest_positions m) q) ≡ false) sound off p is_pair) ∙ (exact (positions (rest_positions m) p)).1 meet)
 
 -- ---- the answer
-done_of : (reason : Option Why) (turn : Option ℕ) (make : ℕ → Change) (else_why : Why) (change : Change) →
+pub done_of : (reason : Option Why) (turn : Option ℕ) (make : ℕ → Change) (else_why : Why) (change : Change) →
     option_map_or (λ why. No why) reason (option_map_or (λ k. Done (make k)) turn (No else_why)) ≡ Done change → (reason ≡ None) × ((k : ℕ) × (turn ≡ Some k) × (make k ≡ change))
 done_of (Some why) turn make else_why change e = absurd cc
 done_of None None make else_why change e = absurd cc

@@ -6,5 +6,6 @@ pub mod PointLaws
 pub mod MeetingLaws
 pub mod SeparationLaws
 pub mod Reflected
+pub mod Deeper
 pub mod ExtentReading
 pub mod Boxed

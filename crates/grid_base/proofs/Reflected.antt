@@ -65,13 +65,13 @@ of_weakly n f h = and_from _ _
     (and_from _ _ (and_from _ _ (of_most _ _ h.ac) (of_most _ _ h.ad)) (of_most _ _ h.ae))
     (and_from _ _ (and_from _ _ (of_most _ _ h.bc) (of_most _ _ h.bd)) (of_most _ _ h.be))
 
-apart_of : (s t : Positions) (n : Triple) → keeps_apart s t n ≡ true → KeepsApart s t n
+pub apart_of : (s t : Positions) (n : Triple) → keeps_apart s t n ≡ true → KeepsApart s t n
 apart_of s t n e = ⊎_elim
     (λ b. inl (below_of n s (and_parts (is_below n s) _ b).0, below_of n t (and_parts (is_below n s) _ b).1))
     (λ a. inr (below_of (opposite n) s (and_parts (is_below (opposite n) s) _ a).0, below_of (opposite n) t (and_parts (is_below (opposite n) s) _ a).1))
     (or_cases (is_below n s && is_below n t) _ e)
 
-of_apart : (s t : Positions) (n : Triple) → KeepsApart s t n → keeps_apart s t n ≡ true
+pub of_apart : (s t : Positions) (n : Triple) → KeepsApart s t n → keeps_apart s t n ≡ true
 of_apart s t n h = ⊎_elim
     (λ b. or_left (is_below n s && is_below n t) _ (and_from _ _ (of_below n s b.0) (of_below n t b.1)))
     (λ a. or_right (is_below n s && is_below n t) _ (and_from _ _ (of_below (opposite n) s a.0) (of_below (opposite n) t a.1))) h
@@ -88,14 +88,14 @@ of_taken s t n h = ⊎_elim
     (λ a. or_right (is_weakly_below n s && is_below n t) _ (and_from _ _ (of_weakly (opposite n) s a.0) (of_below (opposite n) t a.1))) h
 
 -- ---- some direction
-any_of : {X : Type 0} (P : X → Type 0) (test : X → Bool) → ((x : X) → test x ≡ true → P x) → (xs : List X) → list_any test xs ≡ true → Any P xs
+pub any_of : {X : Type 0} (P : X → Type 0) (test : X → Bool) → ((x : X) → test x ≡ true → P x) → (xs : List X) → list_any test xs ≡ true → Any P xs
 any_of P test each [] e = absurd (false≢true e)
 any_of P test each (x ∷ xs) e = ⊎_elim
     (λ here. (0, x, omega arith, refl, each x here))
     (λ later. let found = any_of P test each xs later in let within = found.2 in (suc found.0, found.1, omega arith, found.3, found.4))
     (or_cases (test x) _ e)
 
-of_any : {X : Type 0} (P : X → Type 0) (test : X → Bool) → ((x : X) → P x → test x ≡ true) → (xs : List X) (k : ℕ) (x : X) → k < length xs → slice_index_or xs k x ≡ x → P x → list_any test xs ≡ true
+pub of_any : {X : Type 0} (P : X → Type 0) (test : X → Bool) → ((x : X) → P x → test x ≡ true) → (xs : List X) (k : ℕ) (x : X) → k < length xs → slice_index_or xs k x ≡ x → P x → list_any test xs ≡ true
 of_any P test each [] k x h e p = absurd (omega arith)
 of_any P test each (y ∷ ys) zero x h e p = or_left (test y) _ (each y (subst P (sym e) p))
 of_any P test each (y ∷ ys) (suc k) x h e p = or_right (test y) _ (of_any P test each ys k x (omega arith) e p)
@@ -154,7 +154,7 @@ triples_of s t e =
 of_triples : (s t : Triple) → s ≡ t → same_triple s t ≡ true
 of_triples s t e = and_from _ _ (and_from _ _ (of_zero _ _ (ap (λ (r : Triple). r.x) e)) (of_zero _ _ (ap (λ (r : Triple). r.y) e))) (of_zero _ _ (ap (λ (r : Triple). r.z) e))
 
-together_of : (s t : Positions) → move_together s t ≡ true → MoveTogether s t
+pub together_of : (s t : Positions) → move_together s t ≡ true → MoveTogether s t
 together_of s t e =
     let b = same_triple (minus t.b s.b) (minus t.a s.a) in
     let c = same_triple (minus t.c s.c) (minus t.a s.a) in
@@ -168,14 +168,14 @@ together_of s t e =
       e = triples_of _ _ (and_parts (b && c && d) _ e).1;
     }
 
-of_together : (s t : Positions) → MoveTogether s t → move_together s t ≡ true
+pub of_together : (s t : Positions) → MoveTogether s t → move_together s t ≡ true
 of_together s t h = and_from _ _ (and_from _ _ (and_from _ _ (of_triples _ _ h.b) (of_triples _ _ h.c)) (of_triples _ _ h.d)) (of_triples _ _ h.e)
 
-apart_if : (meets : Positions → Bool) → IsExact meets → (f : Positions) (b : Bool) → meets f ≡ b → not b ≡ true → MeetAt f → ⊥
+pub apart_if : (meets : Positions → Bool) → IsExact meets → (f : Positions) (b : Bool) → meets f ≡ b → not b ≡ true → MeetAt f → ⊥
 apart_if meets exact f true e t w = false≢true t
 apart_if meets exact f false e t w = false≢true (sym e ∙ (exact f).1 w)
 
-if_apart : (meets : Positions → Bool) → IsExact meets → (f : Positions) (b : Bool) → meets f ≡ b → (MeetAt f → ⊥) → not b ≡ true
+pub if_apart : (meets : Positions → Bool) → IsExact meets → (f : Positions) (b : Bool) → meets f ≡ b → (MeetAt f → ⊥) → not b ≡ true
 if_apart meets exact f true e never = absurd (never ((exact f).0 e))
 if_apart meets exact f false e never = refl
 

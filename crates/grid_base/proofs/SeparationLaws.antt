@@ -69,11 +69,11 @@ below_along n s t h k p q some within = record {
     one : (s t s' t' : Triple) → dot n s <ℤ dot n t → dot n s' <ℤ dot n t' → dot n (position_at p q s s') <ℤ dot n (position_at p q t t')
     one s t s' t' h k = rw (dot-position_at n p q s s', dot-position_at n p q t t') (mean_strict (q - p) p (dot n s) (dot n t) (dot n s') (dot n t') whole h k)
 
-KeepsApart-never_meet : (start end : Positions) (n : Triple) → KeepsApart start end n → NeverMeet start end
+pub KeepsApart-never_meet : (start end : Positions) (n : Triple) → KeepsApart start end n → NeverMeet start end
 KeepsApart-never_meet s t n (inl h) p q some within w = Meets-not_below n (positions_at p q s t) (below_along n s t h.0 h.1 p q some within) w
 KeepsApart-never_meet s t n (inr h) p q some within w = Meets-not_below (opposite n) (positions_at p q s t) (below_along (opposite n) s t h.0 h.1 p q some within) w
 
-TakesApart-never_meet : (start end : Positions) (n : Triple) → TakesApart start end n → NeverMeetAfterStart start end
+pub TakesApart-never_meet : (start end : Positions) (n : Triple) → TakesApart start end n → NeverMeetAfterStart start end
 TakesApart-never_meet s t n (inl h) p q some within w = Meets-not_below n (positions_at p q s t) (below_after_start n s t h.0 h.1 p q some) w
 TakesApart-never_meet s t n (inr h) p q some within w = Meets-not_below (opposite n) (positions_at p q s t) (below_after_start (opposite n) s t h.0 h.1 p q some) w
 
@@ -82,7 +82,7 @@ same_parts : (a b c d e a' b' c' d' e' : Triple) → a ≡ a' → b ≡ b' → c
     ◌≡◌ {A = Positions} (record { a = a; b = b; c = c; d = d; e = e }) (record { a = a'; b = b'; c = c'; d = d'; e = e' })
 same_parts a b c d e a' b' c' d' e' p q r s t = cc
 
-same_five : (f g : Positions) → f.a ≡ g.a → f.b ≡ g.b → f.c ≡ g.c → f.d ≡ g.d → f.e ≡ g.e → f ≡ g
+pub same_five : (f g : Positions) → f.a ≡ g.a → f.b ≡ g.b → f.c ≡ g.c → f.d ≡ g.d → f.e ≡ g.e → f ≡ g
 same_five f g a b c d e = same_parts f.a f.b f.c f.d f.e g.a g.b g.c g.d g.e a b c d e
 
 -- at p/q of the way, with at most half of it gone, the doubled positions are those at 2p/q of the first half
@@ -112,27 +112,43 @@ second_half p q s t within h = same_five _ _ (one s.a t.a) (one s.b t.b) (one s.
         let gone : p ≡ q - p + (p + p - q) = omega arith in
         same_triple _ _ (number (q - p) p (p + p - q) _ a.x b.x gone left) (number (q - p) p (p + p - q) _ a.y b.y gone left) (number (q - p) p (p + p - q) _ a.z b.z gone left)
 
--- ---- every fraction
-Any-never : {P : Triple → Type 0} {Q : Type 0} (xs : List Triple) → ((n : Triple) → P n → Q) → Any P xs → Q
-Any-never xs f h = f h.1 h.4
-
 halves : {Q : Type 0} (p q : ℕ) → (p + p ≤ q → Q) → (q ≤ p + p → Q) → Q
 halves p q f g = ⊎_elim f g (order (p + p) q)
   where
     order : (m n : ℕ) → (m ≤ n) ⊎ (n ≤ m)
     order m n = grind arith
 
+-- from halves to the whole
+pub NeverMeet-in_halves : (s t : Positions) → NeverMeet (double s) (middle s t) → NeverMeet (middle s t) (double t) → NeverMeet s t
+NeverMeet-in_halves s t first second p q some within w =
+    let twice : MeetAt (double (positions_at p q s t)) = Meets-multiple 2 (positions_at p q s t) w in
+    halves p q
+    (λ h. first (p + p) q some h (subst MeetAt (first_half p q s t h) twice))
+    (λ h. second (p + p - q) q some (omega arith) (subst MeetAt (second_half p q s t within h) twice))
+
+pub NeverMeetAfterStart-in_halves : (s t : Positions) → NeverMeetAfterStart (double s) (middle s t) → NeverMeet (middle s t) (double t) → NeverMeetAfterStart s t
+NeverMeetAfterStart-in_halves s t first second p q some within w =
+    let twice : MeetAt (double (positions_at p q s t)) = Meets-multiple 2 (positions_at p q s t) w in
+    halves p q
+    (λ h. first (p + p) q (omega arith) h (subst MeetAt (first_half p q s t h) twice))
+    (λ h. second (p + p - q) q (omega arith) (omega arith) (subst MeetAt (second_half p q s t within h) twice))
+
+pub NeverMeetBeforeEnd-in_halves : (s t : Positions) → NeverMeet (double s) (middle s t) → NeverMeetBeforeEnd (middle s t) (double t) → NeverMeetBeforeEnd s t
+NeverMeetBeforeEnd-in_halves s t first second p q below w =
+    let within : p ≤ q = omega arith in
+    let twice : MeetAt (double (positions_at p q s t)) = Meets-multiple 2 (positions_at p q s t) w in
+    halves p q
+    (λ h. first (p + p) q (omega arith) h (subst MeetAt (first_half p q s t h) twice))
+    (λ h. second (p + p - q) q (omega arith) (subst MeetAt (second_half p q s t within h) twice))
+
+-- ---- every fraction
+Any-never : {P : Triple → Type 0} {Q : Type 0} (xs : List Triple) → ((n : Triple) → P n → Q) → Any P xs → Q
+Any-never xs f h = f h.1 h.4
+
 pub AreSeparated-never_meet : (depth : ℕ) (start end : Positions) → AreSeparated depth start end → NeverMeet start end
 AreSeparated-never_meet zero s t h = Any-never (directions s t) (KeepsApart-never_meet s t) h
 AreSeparated-never_meet (suc depth) s t (inl h) = Any-never (directions s t) (KeepsApart-never_meet s t) h
-AreSeparated-never_meet (suc depth) s t (inr h) = in_halves (AreSeparated-never_meet depth (double s) (middle s t) h.0) (AreSeparated-never_meet depth (middle s t) (double t) h.1)
-  where
-    in_halves : NeverMeet (double s) (middle s t) → NeverMeet (middle s t) (double t) → NeverMeet s t
-    in_halves first second p q some within w =
-        let twice : MeetAt (double (positions_at p q s t)) = Meets-multiple 2 (positions_at p q s t) w in
-        halves p q
-        (λ h. first (p + p) q some h (subst MeetAt (first_half p q s t h) twice))
-        (λ h. second (p + p - q) q some (omega arith) (subst MeetAt (second_half p q s t within h) twice))
+AreSeparated-never_meet (suc depth) s t (inr h) = NeverMeet-in_halves s t (AreSeparated-never_meet depth (double s) (middle s t) h.0) (AreSeparated-never_meet depth (middle s t) (double t) h.1)
 
 pub Passes-never_meet : (depth : ℕ) (start end : Positions) → Passes depth start end → NeverMeet start end
 Passes-never_meet depth s t (inl h) = AreSeparated-never_meet depth s t h
@@ -141,14 +157,7 @@ Passes-never_meet depth s t (inr h) = MoveTogether-never_meet s t h.0 h.1
 pub Opens-never_meet : (depth : ℕ) (start end : Positions) → Opens depth start end → NeverMeetAfterStart start end
 Opens-never_meet zero s t h = Any-never (directions s t) (TakesApart-never_meet s t) h
 Opens-never_meet (suc depth) s t (inl h) = Any-never (directions s t) (TakesApart-never_meet s t) h
-Opens-never_meet (suc depth) s t (inr h) = in_halves (Opens-never_meet depth (double s) (middle s t) h.0) (AreSeparated-never_meet depth (middle s t) (double t) h.1)
-  where
-    in_halves : NeverMeetAfterStart (double s) (middle s t) → NeverMeet (middle s t) (double t) → NeverMeetAfterStart s t
-    in_halves first second p q some within w =
-        let twice : MeetAt (double (positions_at p q s t)) = Meets-multiple 2 (positions_at p q s t) w in
-        halves p q
-        (λ h. first (p + p) q (omega arith) h (subst MeetAt (first_half p q s t h) twice))
-        (λ h. second (p + p - q) q (omega arith) (omega arith) (subst MeetAt (second_half p q s t within h) twice))
+Opens-never_meet (suc depth) s t (inr h) = NeverMeetAfterStart-in_halves s t (Opens-never_meet depth (double s) (middle s t) h.0) (AreSeparated-never_meet depth (middle s t) (double t) h.1)
 
 -- a fraction of the way there is the rest of the way back
 exchanged : (p q : ℕ) (start end : Positions) → p ≤ q → positions_at p q start end ≡ positions_at (q - p) q end start
@@ -174,6 +183,10 @@ brought_backwards s t n (inr h) = inr (h.1, h.0)
 pub taken_backwards : (start end : Positions) (n : Triple) → TakesApart start end n → BringsTogether end start n
 taken_backwards s t n (inl h) = inl (h.1, h.0)
 taken_backwards s t n (inr h) = inr (h.1, h.0)
+
+pub BringsTogether-never_meet : (start end : Positions) (n : Triple) → BringsTogether start end n → NeverMeetBeforeEnd start end
+BringsTogether-never_meet s t n h p q below w =
+    TakesApart-never_meet t s n (brought_backwards s t n h) (q - p) q (omega arith) (omega arith) (subst MeetAt (exchanged p q s t (omega arith)) w)
 
 -- ---- one direction serves at each depth
 pub AreSeparated-at_once : (depth : ℕ) (start end : Positions) → Any (KeepsApart start end) (directions start end) → AreSeparated depth start end

@@ -4,6 +4,7 @@ pub mod Meeting
 pub mod Motion
 pub mod Separation
 pub mod SeparationTests
+pub mod Deeper
 pub mod Points
 pub mod Ordered
 pub mod Extents

@@ -11,6 +11,7 @@ ghost use Rattle.grid_base.specs.Meeting.{Positions, MeetAt};
 ghost use Rattle.grid_base.specs.Motion.{NeverMeet, NeverMeetAfterStart, NeverMeetBeforeEnd};
 ghost use Rattle.grid_base.specs.Separation.{IsBelow, KeepsApart, TakesApart, BringsTogether, MoveTogether, AreSeparated, Passes, Opens, Closes, directions, multiple};
 ghost use Rattle.grid_base.specs.SeparationTests.{IsExact, are_separated, passes, opens, closes};
+ghost use Rattle.grid_base.specs.Deeper.{HoldsDeeper};
 
 /// The point at the position of a point is that point; the point at a position within the box stands there.
 pub fn points_are_positions()
@@ -110,4 +111,17 @@ pub fn opening_is_tested()
 /// The test of closing is true exactly where the definition holds.
 pub fn closing_is_tested()
     ensures { (depth : ℕ) (s t : Positions) → (IsTrue (closes depth s t) ↔ Closes depth s t) }
+{}
+
+/// What is separated, passes, opens or closes to some depth does so to each greater one; by the tests too, where that of
+/// passing takes any test of meeting.
+pub fn more_depth_keeps_what_passes()
+    ensures separated { HoldsDeeper AreSeparated }
+    ensures passes { HoldsDeeper Passes }
+    ensures opens { HoldsDeeper Opens }
+    ensures closes { HoldsDeeper Closes }
+    ensures passing_test { (meets : Positions → Bool) →
+        HoldsDeeper (λ depth s t. IsTrue (passes meets depth s t)) }
+    ensures opening_test { HoldsDeeper (λ depth s t. IsTrue (opens depth s t)) }
+    ensures closing_test { HoldsDeeper (λ depth s t. IsTrue (closes depth s t)) }
 {}

@@ -15,3 +15,4 @@ pub mod InOrder
 pub mod EdgesInOrder
 pub mod PointOf
 pub mod NearReading
+pub mod Deeper

@@ -1,10 +1,14 @@
-/// Which of the two files of a job.
+/// Which of the files that a command reads.
 #[derive(Clone, Copy, Debug, PartialEq, Eq)]
 pub enum FileWord {
     /// The mesh.
     Mesh,
     /// The steps.
     Steps,
+    /// A log.
+    Log,
+    /// The proof of a log.
+    Proof,
 }
 
 /// Why a directive is refused, with the least vertex that it is refused for, if it is refused for one.

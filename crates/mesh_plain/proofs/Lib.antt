@@ -7,3 +7,4 @@ pub mod Faults
 pub mod Earlier
 pub mod Numbers
 mod FieldNaming
+mod Copies

@@ -6,3 +6,4 @@ pub mod Plain
 pub mod Laws
 pub mod Numbered
 pub mod FieldNames
+pub mod Copying

@@ -57,6 +57,18 @@ impl PlainMesh {
             before: Vec::new(alloc),
         })
     }
+
+    /// A mesh equal to the given one, however that is kept: with its ids, next ids and solid vertices, and with nothing kept.
+    pub fn copy_of<S: Surface>(alloc: Global, mesh: &S) -> Result<PlainMesh, NoMemory>
+        ensures mesh { IfOk result (λ s. mesh_in s ≡ S.mesh mesh.now) }
+        ensures kept { IfOk result (λ s. kept_in s ≡ []) }
+    {
+        let now = Tables::copy_of(alloc, mesh)?;
+        Ok(PlainMesh {
+            now,
+            before: Vec::new(alloc),
+        })
+    }
 }
 
 impl Surface for PlainMesh {

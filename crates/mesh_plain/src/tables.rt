@@ -8,9 +8,10 @@ ghost use Rattle.std.specs.FinMap as map;
 ghost use Rattle.mesh_base.specs.Changes.{corner_list, with_vertex, with_face, without_face, without_vertex, with_point, with_solid};
 ghost use Rattle.mesh_base.specs.Mesh.{is_solid};
 ghost use Rattle.mesh_base.specs.Sides.{above, faces_at, faces_running, runs};
+ghost use Rattle.mesh_plain.specs.Copying.{with_vertex_of, with_face_of, with_vertices_of, with_faces_of};
 
 use grid_base::{NoMemory, Point};
-use mesh_base::{Corners, FaceId, FaceTable, MeshLists, VertexId};
+use mesh_base::{Corners, FaceId, FaceTable, MeshLists, Surface, VertexId, point_of};
 use std::alloc::Global;
 use std::collections::BTreeMap;
 use std::marker::Model;
@@ -91,6 +92,72 @@ impl Tables {
         for f in lists.faces.as_slice() {
             tables.add_face(Corners::of([VertexId(f[0]), VertexId(f[1]), VertexId(f[2])]))?;
         }
+        Ok(tables)
+    }
+
+    /// Puts a vertex of a mesh, with its mark as solid, if it has one.
+    fn put_vertex<S: Surface>(&mut self, mesh: &S, v: VertexId) -> Result<(), NoMemory>
+        ensures { OnOk result (self.new ≡ with_vertex_of (S.mesh mesh.now) self.old v) }
+    {
+        self.place(v, point_of(mesh, v))?;
+        if mesh.solid(v) {
+            self.make_solid(v)?;
+        }
+        Ok(())
+    }
+
+    /// Puts all vertices of a mesh.
+    fn put_vertices<S: Surface>(&mut self, mesh: &S) -> Result<(), NoMemory>
+        ensures { OnOk result (self.new ≡ with_vertices_of (S.mesh mesh.now) self.old) }
+    {
+        let mut last = 0;
+        while let Some(v) = mesh.vertex_after(last) {
+            self.put_vertex(mesh, v)?;
+            last = v.0;
+        }
+        Ok(())
+    }
+
+    /// Puts a face at an id.
+    fn set_face(&mut self, f: FaceId, c: Corners) -> Result<(), NoMemory>
+        ensures ok { OnOk result
+            (self.new ≡ record self.old { faces = map.insert self.old.faces f c }) }
+        ensures err { OnErr result (self.new ≡ self.old) }
+    {
+        self.faces.insert(f.0, c)?;
+        Ok(())
+    }
+
+    /// Puts a face of a mesh.
+    fn put_face<S: Surface>(&mut self, mesh: &S, f: FaceId) -> Result<(), NoMemory>
+        ensures { OnOk result (self.new ≡ with_face_of (S.mesh mesh.now) self.old f) }
+    {
+        match mesh.corners(f) {
+            Some(c) => self.set_face(f, Corners::of(c)),
+            None => Ok(()),
+        }
+    }
+
+    /// Puts all faces of a mesh.
+    fn put_faces<S: Surface>(&mut self, mesh: &S) -> Result<(), NoMemory>
+        ensures { OnOk result (self.new ≡ with_faces_of (S.mesh mesh.now) self.old) }
+    {
+        let mut last = 0;
+        while let Some(f) = mesh.face_after(last) {
+            self.put_face(mesh, f)?;
+            last = f.0;
+        }
+        Ok(())
+    }
+
+    /// The tables of a mesh, however it is kept.
+    pub(crate) fn copy_of<S: Surface>(alloc: Global, mesh: &S) -> Result<Tables, NoMemory>
+        ensures { IfOk result (λ t. t ≡ S.mesh mesh.now) }
+    {
+        let mut tables = Tables::new(alloc);
+        tables.put_vertices(mesh)?;
+        tables.put_faces(mesh)?;
+        tables.number(mesh.next_vertex(), mesh.next_face());
         Ok(tables)
     }
 

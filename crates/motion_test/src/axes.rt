@@ -5,8 +5,8 @@ ghost use Rattle.grid_base.specs.Separation.{KeepsApart, TakesApart, axes};
 use crate::heights::{along_x, along_y, along_z, heights_keep_apart, heights_take_apart};
 use grid_base::Positions;
 
-// Whether one of the three axes keeps the edge on one side. No product is needed for it.
-pub(crate) fn axis_keeps_apart(s: &Positions, t: &Positions) -> bool
+/// Whether one of the three axes keeps the edge on one side at both ends. No product is needed for it.
+pub fn axis_keeps_apart(s: &Positions, t: &Positions) -> bool
     ensures { IsTrue result ↔ Any (KeepsApart s.now t.now) axes }
 {
     if heights_keep_apart(along_x(s), along_x(t)) {

@@ -48,8 +48,8 @@ pub(crate) fn opens_at(s: &Positions, t: &Positions, depth: u8, small: bool) -> 
     separated_at(&halfway, &double(t), depth - 1, false)
 }
 
-// The middle of an interval, double.
-fn middle(s: &Positions, t: &Positions) -> Positions
+/// The middle of an interval, double: the end of its first half, and the start of its second.
+pub fn middle(s: &Positions, t: &Positions) -> Positions
     requires s_fits { AreWithin WIDE_MAX s.now }
     requires t_fits { AreWithin WIDE_MAX t.now }
     ensures { result ≡ middle s.now t.now }
@@ -63,8 +63,8 @@ fn middle(s: &Positions, t: &Positions) -> Positions
     }
 }
 
-// The outer positions of a half, double.
-fn double(s: &Positions) -> Positions
+/// The outer positions of a half, double, as its middle is.
+pub fn double(s: &Positions) -> Positions
     requires { AreWithin WIDE_MAX s.now }
     ensures { result ≡ double s.now }
 {

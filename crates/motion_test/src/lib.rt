@@ -17,9 +17,11 @@ ghost use Rattle.grid_base.specs.Motion.{NeverMeet, NeverMeetAfterStart, NeverMe
 ghost use Rattle.grid_base.specs.Separation.{AreSeparated, MoveTogether, Passes, Opens, Closes};
 ghost use Rattle.motion_test.specs.Pairs.{positions_of};
 
+pub use axes::axis_keeps_apart;
 pub use direction_list::directions;
 use grid_base::{DEPTH_MAX, HALF_MAX, Positions, WIDE_MAX, Wide};
 use grid_meets::meets;
+pub use halving::{double, middle};
 use halving::{opens_at, separated_at};
 pub use one_direction::{brings_together, keeps_apart, takes_apart};
 
@@ -107,8 +109,8 @@ fn passes_at(p: &Pair, depth: u8) -> bool
     separated_at(&s, &t, depth, true)
 }
 
-// Whether the five positions move by one shift.
-fn moves_together(s: &Positions, t: &Positions) -> bool
+/// Whether the five positions move by one shift.
+pub fn moves_together(s: &Positions, t: &Positions) -> bool
     requires s_fits { AreWithin WIDE_MAX s.now }
     requires t_fits { AreWithin WIDE_MAX t.now }
     ensures { IsTrue result ↔ MoveTogether s.now t.now }

@@ -7,7 +7,7 @@ use Rattle.grid_base.specs.declared.Extent.{Extent}
 use Rattle.grid_base.specs.declared.Positions.{Positions}
 use Rattle.grid_base.specs.Extents.{IsIn, overlaps, meet_along}
 use Rattle.grid_base.specs.Meeting.{MeetAt}
-use Rattle.grid_base.specs.Separation.{IsBelow, IsAbove, KeepsApart, AreSeparated, Passes, directions}
+use Rattle.grid_base.specs.Separation.{IsBelow, IsAbove, KeepsApart, AreSeparated, Passes, axes, directions}
 use Rattle.grid_base.specs.Triples.{Triple, minus, dot, opposite}
 use Rattle.pair_paths.specs.declared.moving.MovingEdge.{MovingEdge}
 use Rattle.pair_paths.specs.declared.moving.MovingFace.{MovingFace}
@@ -96,26 +96,32 @@ minus_y x y z = omega (arith, ints)
 minus_z : (x y z : ℤ) → neg_ℤ (pos 0) *ℤ x +ℤ neg_ℤ (pos 0) *ℤ y +ℤ neg_ℤ (pos 1) *ℤ z ≡ neg_ℤ z
 minus_z x y z = omega (arith, ints)
 
--- the directions begin with the axes; u stands where t does, but for what keeps no direction from keeping apart
-some_axis_like : (edge face : Extent) (s u t : Positions) → ((n : Triple) → KeepsApart s u n → KeepsApart s t n) → HoldPositions edge face s → HoldPositions edge face u → overlaps face edge ≡ false → Any (KeepsApart s t) (directions s t)
-some_axis_like edge face s u t like h i off =
+-- An axis keeps apart what boxes with no common point hold; u stands where t does, but for what keeps no direction from keeping apart.
+some_axis_like : {Q : Type 0} (edge face : Extent) (s u t : Positions) → ((n : Triple) → KeepsApart s u n → KeepsApart s t n) → HoldPositions edge face s → HoldPositions edge face u → overlaps face edge ≡ false
+    → (KeepsApart s t along_x → Q) → (KeepsApart s t along_y → Q) → (KeepsApart s t along_z → Q) → Q
+some_axis_like edge face s u t like h i off if_x if_y if_z =
     let x = meet_along face.low.x face.high.x edge.low.x edge.high.x in
     let y = meet_along face.low.y face.high.y edge.low.y edge.high.y in
     let z = meet_along face.low.z face.high.z edge.low.z edge.high.z in
     ⊎_elim
     (λ xy. ⊎_elim
-    (λ off_x. (0, along_x, lit< tt, refl, like along_x (keeps_apart along_x (λ p. p.x) (λ b. b.low.x) (λ b. b.high.x) (λ p. read_x p.x p.y p.z) (λ p. minus_x p.x p.y p.z) (λ b p k. k.x_low) (λ b p k. k.x_high) edge face s u h i off_x)))
-    (λ off_y. (1, along_y, lit< tt, refl, like along_y (keeps_apart along_y (λ p. p.y) (λ b. b.low.y) (λ b. b.high.y) (λ p. read_y p.x p.y p.z) (λ p. minus_y p.x p.y p.z) (λ b p k. k.y_low) (λ b p k. k.y_high) edge face s u h i off_y)))
+    (λ off_x. if_x (like along_x (keeps_apart along_x (λ p. p.x) (λ b. b.low.x) (λ b. b.high.x) (λ p. read_x p.x p.y p.z) (λ p. minus_x p.x p.y p.z) (λ b p k. k.x_low) (λ b p k. k.x_high) edge face s u h i off_x)))
+    (λ off_y. if_y (like along_y (keeps_apart along_y (λ p. p.y) (λ b. b.low.y) (λ b. b.high.y) (λ p. read_y p.x p.y p.z) (λ p. minus_y p.x p.y p.z) (λ b p k. k.y_low) (λ b p k. k.y_high) edge face s u h i off_y)))
     (and_cases x y xy))
-    (λ off_z. (2, along_z, lit< tt, refl, like along_z (keeps_apart along_z (λ p. p.z) (λ b. b.low.z) (λ b. b.high.z) (λ p. read_z p.x p.y p.z) (λ p. minus_z p.x p.y p.z) (λ b p k. k.z_low) (λ b p k. k.z_high) edge face s u h i off_z)))
+    (λ off_z. if_z (like along_z (keeps_apart along_z (λ p. p.z) (λ b. b.low.z) (λ b. b.high.z) (λ p. read_z p.x p.y p.z) (λ p. minus_z p.x p.y p.z) (λ b p k. k.z_low) (λ b p k. k.z_high) edge face s u h i off_z)))
     (and_cases (x && y) z off)
 
-some_axis : (edge face : Extent) (s t : Positions) → HoldPositions edge face s → HoldPositions edge face t → overlaps face edge ≡ false → Any (KeepsApart s t) (directions s t)
-some_axis edge face s t h i off = some_axis_like edge face s t t (λ n k. k) h i off
+-- the directions begin with the axes
+some_direction_like : (edge face : Extent) (s u t : Positions) → ((n : Triple) → KeepsApart s u n → KeepsApart s t n) → HoldPositions edge face s → HoldPositions edge face u → overlaps face edge ≡ false → Any (KeepsApart s t) (directions s t)
+some_direction_like edge face s u t like h i off = some_axis_like edge face s u t like h i off
+    (λ k. (0, along_x, lit< tt, refl, k)) (λ k. (1, along_y, lit< tt, refl, k)) (λ k. (2, along_z, lit< tt, refl, k))
+
+some_direction : (edge face : Extent) (s t : Positions) → HoldPositions edge face s → HoldPositions edge face t → overlaps face edge ≡ false → Any (KeepsApart s t) (directions s t)
+some_direction edge face s t h i off = some_direction_like edge face s t t (λ n k. k) h i off
 
 -- Boxes with no common point keep what they hold at the start and at the end separated, to any depth.
 pub separated : (depth : ℕ) (edge face : Extent) (s t : Positions) → HoldPositions edge face s → HoldPositions edge face t → overlaps face edge ≡ false → AreSeparated depth s t
-separated depth edge face s t h i off = AreSeparated-at_once depth s t (some_axis edge face s t h i off)
+separated depth edge face s t h i off = AreSeparated-at_once depth s t (some_direction edge face s t h i off)
 
 -- Boxes with no common point keep what they hold from meeting.
 pub never_meet : (edge face : Extent) (f : Positions) → HoldPositions edge face f → overlaps face edge ≡ false → ¬ (MeetAt f)
@@ -160,4 +166,9 @@ keeps_apart_unseen o s t n h = ⊎_elim (λ k. inl (k.0, below_unseen n o t k.1)
 
 -- Boxes with no common point, one position seeing what they hold at the end, keep it separated to any depth; so it passes.
 pub passes_apart_seen : (depth : ℕ) (edge face : Extent) (o : Triple) (s t : Positions) → HoldPositions edge face s → HoldPositions edge face (seen_from o t) → overlaps face edge ≡ false → Passes depth s t
-passes_apart_seen depth edge face o s t h i off = inl (AreSeparated-at_once depth s t (some_axis_like edge face s (seen_from o t) t (keeps_apart_unseen o s t) h i off))
+passes_apart_seen depth edge face o s t h i off = inl (AreSeparated-at_once depth s t (some_direction_like edge face s (seen_from o t) t (keeps_apart_unseen o s t) h i off))
+
+-- And so does one of the axes, as they stand.
+pub some_axis_seen : (edge face : Extent) (o : Triple) (s t : Positions) → HoldPositions edge face s → HoldPositions edge face (seen_from o t) → overlaps face edge ≡ false → Any (KeepsApart s t) axes
+some_axis_seen edge face o s t h i off = some_axis_like edge face s (seen_from o t) t (keeps_apart_unseen o s t) h i off
+    (λ k. (0, along_x, lit< tt, refl, k)) (λ k. (1, along_y, lit< tt, refl, k)) (λ k. (2, along_z, lit< tt, refl, k))

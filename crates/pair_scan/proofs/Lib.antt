@@ -2,6 +2,7 @@ pub mod Lists
 pub mod Scans
 pub mod Clear
 pub mod Near
+pub mod IdSearch
 pub mod ShiftSearch
 pub mod Paths
 pub mod Kept
