@@ -5,6 +5,7 @@ pub mod Searching
 pub mod Ways
 pub mod Least
 pub mod Served
+pub mod AtRest
 pub mod Taken
 pub mod FirstWay
 pub mod SolidTests

@@ -1,9 +1,9 @@
-ghost use Rattle.std.specs.Prelude.{◌≡◌, IsTrue, IfOk};
+ghost use Rattle.std.specs.Prelude.{◌≡◌, ◌≤◌, IsTrue, IfOk};
+ghost use Rattle.grid_base.specs.declared.TheConstants.{DEPTH_MAX, HALVINGS_MAX};
 ghost use Rattle.grid_decided.specs.Decided.{meets_exactly};
 ghost use Rattle.mesh_base.specs.Failing.{failing};
 ghost use Rattle.mesh_base.specs.Placements.{IsClearMesh, IsClearAlong};
 ghost use Rattle.mesh_base.specs.Shifts.{NameLive, end_in_box, moved_by};
-ghost use Rattle.step_choose.specs.Settings.{AreWithinLimits};
 ghost use Rattle.pair_scan.specs.Solids.{SolidsRest};
 ghost use Rattle.step_choose.specs.Choice.{way_taken, IsFirstWay};
 ghost use Rattle.step_choose.specs.Chosen.{way_of};
@@ -46,7 +46,8 @@ fn first_way<S: Surface>(
     requires in_box { IsTrue (end_in_box (S.mesh mesh.now) asked.now) }
     requires clear { IsClearMesh (S.mesh mesh.now) }
     requires hits { hits.now ≡ failing meets_exactly (S.mesh mesh.now) asked.now set.depth }
-    requires limits { AreWithinLimits set }
+    requires depth { set.depth ≤ DEPTH_MAX }
+    requires halvings { set.halvings ≤ HALVINGS_MAX }
     ensures { IfOk result
         (λ found. way_by found ≡ way_taken meets_exactly (S.mesh mesh.now) asked.now set) }
 {
@@ -93,7 +94,8 @@ pub fn choose<S: Surface>(
     requires in_box { IsTrue (end_in_box (S.mesh mesh.now) asked.now) }
     requires clear { IsClearMesh (S.mesh mesh.now) }
     requires solid { SolidsRest (S.mesh mesh.now) asked.now }
-    requires limits { AreWithinLimits set.now }
+    requires depth { set.now.depth ≤ DEPTH_MAX }
+    requires halvings { set.now.halvings ≤ HALVINGS_MAX }
     ensures hits { IfOk result
         (λ c. c.hits ≡ failing meets_exactly (S.mesh mesh.now) asked.now set.now.depth) }
     ensures way { IfOk result

@@ -1,9 +1,8 @@
 ghost use Rattle.std.specs.Prelude.{◌≡◌, ◌≤◌, IsTrue, IfOk};
 ghost use Rattle.std.specs.Option.{option_map};
-ghost use Rattle.grid_base.specs.declared.TheConstants.{HALVINGS_MAX};
+ghost use Rattle.grid_base.specs.declared.TheConstants.{DEPTH_MAX, HALVINGS_MAX};
 ghost use Rattle.grid_decided.specs.Decided.{meets_exactly};
 ghost use Rattle.mesh_base.specs.Shifts.{NameLive, end_in_box};
-ghost use Rattle.step_choose.specs.Settings.{AreWithinLimits};
 ghost use Rattle.step_choose.specs.Choice.{halved_times, all_at_rest, halved_way};
 ghost use Rattle.step_choose.specs.Found.{way_by};
 
@@ -55,7 +54,8 @@ pub(crate) fn by_halving<S: Surface>(
 ) -> Result<Option<Found>, NoMemory>
     requires named { NameLive (S.mesh mesh.now) asked.now }
     requires in_box { IsTrue (end_in_box (S.mesh mesh.now) asked.now) }
-    requires limits { AreWithinLimits set }
+    requires depth { set.depth ≤ DEPTH_MAX }
+    requires halvings { set.halvings ≤ HALVINGS_MAX }
     ensures { IfOk result
         (λ found. option_map way_by found ≡ halved_way meets_exactly
         (S.mesh mesh.now) asked.now set.depth set.halvings) }

@@ -1,9 +1,9 @@
-ghost use Rattle.std.specs.Prelude.{◌≡◌, IsTrue, IfOk};
+ghost use Rattle.std.specs.Prelude.{◌≡◌, ◌≤◌, IsTrue, IfOk};
 ghost use Rattle.std.specs.Option.{option_map};
+ghost use Rattle.grid_base.specs.declared.TheConstants.{DEPTH_MAX};
 ghost use Rattle.grid_decided.specs.Decided.{meets_exactly};
 ghost use Rattle.mesh_base.specs.Failing.{failing};
 ghost use Rattle.mesh_base.specs.Shifts.{NameLive, end_in_box};
-ghost use Rattle.step_choose.specs.Settings.{AreWithinLimits};
 ghost use Rattle.step_choose.specs.Choice.{impulse_way};
 ghost use Rattle.step_choose.specs.Found.{way_by};
 
@@ -28,7 +28,7 @@ pub(crate) fn by_impulses<S: Surface>(
 ) -> Result<Option<Found>, NoMemory>
     requires named { NameLive (S.mesh mesh.now) asked.now }
     requires hits { hits.now ≡ failing meets_exactly (S.mesh mesh.now) asked.now set.depth }
-    requires limits { AreWithinLimits set }
+    requires depth { set.depth ≤ DEPTH_MAX }
     ensures { IfOk result
         (λ found. option_map way_by found ≡ impulse_way meets_exactly
         (S.mesh mesh.now) asked.now set.depth set.passes) }

@@ -1,9 +1,9 @@
-ghost use Rattle.std.specs.Prelude.{◌≡◌, IfOk};
+ghost use Rattle.std.specs.Prelude.{◌≡◌, ◌≤◌, IfOk};
 ghost use Rattle.std.specs.Option.{option_map};
+ghost use Rattle.grid_base.specs.declared.TheConstants.{DEPTH_MAX};
 ghost use Rattle.grid_decided.specs.Decided.{meets_exactly};
 ghost use Rattle.mesh_base.specs.Placements.{IsClearMesh};
 ghost use Rattle.mesh_base.specs.Shifts.{NameLive};
-ghost use Rattle.step_choose.specs.Settings.{AreWithinLimits};
 ghost use Rattle.step_choose.specs.Choice.{zones_way};
 ghost use Rattle.step_choose.specs.Found.{way_by};
 
@@ -24,7 +24,7 @@ pub(crate) fn by_zones<S: Surface>(
 ) -> Result<Option<Found>, NoMemory>
     requires named { NameLive (S.mesh mesh.now) asked.now }
     requires clear { IsClearMesh (S.mesh mesh.now) }
-    requires limits { AreWithinLimits set }
+    requires depth { set.depth ≤ DEPTH_MAX }
     ensures { IfOk result
         (λ found. option_map way_by found ≡ zones_way meets_exactly
         (S.mesh mesh.now) asked.now set.depth set.zones) }
