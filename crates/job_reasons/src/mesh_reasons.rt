@@ -63,6 +63,7 @@ fn expected(why: TextWhy) -> &'static str {
         TextWhy::Continuation =>
             "a line may not go on in the next one: join the two, without the \\",
         TextWhy::Nesting => "groups are not nested",
+        TextWhy::Order => "a line is out of order",
     }
 }
 

@@ -2,7 +2,7 @@
 use Rattle.std.specs.Prelude.{◌≡◌, ℕ, List, [], ◌∷◌, ◌++◌, length, take, decimal, Result, OnOk, Vec}
 use Rattle.std.specs.Fmt.{signed_decimal}
 use Rattle.line_text.specs.declared.putting.Field.{Field}
-use Rattle.line_text.specs.declared.putting.Field.TheVariants.{Text, Number, Signed}
+use Rattle.line_text.specs.declared.putting.Field.TheVariants.{Text, Number, Signed, Wide}
 
 -- a space behind each word, and LF behind the last
 abbrev pub line_of_words : List (List ℕ) → List ℕ
@@ -21,6 +21,7 @@ abbrev pub word_of : Field → List ℕ
 word_of (Text text) = text.now
 word_of (Number n) = decimal n
 word_of (Signed n) = signed_decimal n
+word_of (Wide n) = signed_decimal n
 
 -- where there was memory, these bytes stand behind those from before
 abbrev pub Appends : {A E Z : Type 0} → Result A E → Vec ℕ Z → Vec ℕ Z → List ℕ → Type 0

@@ -33,6 +33,9 @@ pub enum TextWhy {
     /// A group that would lie too deep or is never closed, or a close of none.
     #[error("groups are not nested")]
     Nesting = 8,
+    /// A line that no text of its form has there.
+    #[error("a line is out of order")]
+    Order = 9,
 }
 
 /// The first line that is outside the grammar, by its number from 1, and why.

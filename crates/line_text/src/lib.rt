@@ -27,7 +27,7 @@ pub use pieces::{Parts, cut_at};
 pub use putting::{Field, put_line, put_word};
 pub use spelling::{
     count_parts_up_to, count_with_end, spelled_at, spelled_from, spelled_number, spelled_parts,
-    spelled_signed_at,
+    spelled_signed_at, spelled_wide_at,
 };
 pub use taking::{coordinate, count_is, count_up_to, is_word, number_at, signed_at};
 pub use text_lines::{Line, Lines};

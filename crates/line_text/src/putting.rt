@@ -14,6 +14,8 @@ pub enum Field<'a> {
     Number(u64),
     /// The digits, behind `-` where the number is negative.
     Signed(i32),
+    /// The same of a number of up to 128 bits.
+    Wide(i128),
 }
 
 /// Appends a word, or changes nothing.
@@ -26,6 +28,7 @@ pub fn put_word(field: &Field<'_>, into: &mut Vec<u8>) -> Result<(), NoMemory>
         Field::Text(text) => into.extend_from_slice(text)?,
         Field::Number(n) => into.extend_from_slice(buffer.format(*n).as_bytes())?,
         Field::Signed(n) => into.extend_from_slice(buffer.format(*n).as_bytes())?,
+        Field::Wide(n) => into.extend_from_slice(buffer.format(*n).as_bytes())?,
     }
     Ok(())
 }

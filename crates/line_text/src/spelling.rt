@@ -88,6 +88,36 @@ pub fn spelled_signed_at(words: &mut Parts<'_>, most: u32) -> Result<i32, TextWh
     Ok(narrow(negative, size))
 }
 
+/// The number that the next word spells, of a size up to `most`, which may have more than 32 bits; Number where the word spells
+/// none of them, and Short where there is no word.
+#[tactic(auto, unfolding(crate::specs::Spellings::spelled_signed_at))]
+pub fn spelled_wide_at(words: &mut Parts<'_>, most: u128) -> Result<i128, TextWhy>
+    requires { most < 2 ^ 127 }
+    ensures value { TakesParts words.old words.new result (spec.spelled_signed_at most) }
+    ensures within { IfOk result (λ n. unsigned_abs n ≤ most) }
+{
+    let Some(word) = words.next() else {
+        return Err(TextWhy::Short);
+    };
+    let Some((negative, size)) = spelled_parts(word) else {
+        return Err(TextWhy::Number);
+    };
+    if size > most {
+        return Err(TextWhy::Number);
+    }
+    Ok(with_wide_sign(negative, size))
+}
+
+// The number of this sign and size.
+fn with_wide_sign(negative: bool, size: u128) -> i128
+    requires { size < 2 ^ 127 }
+    ensures value { result ≡ numbers.with_sign negative size }
+    ensures within { unsigned_abs result ≡ size }
+{
+    let size = size as i128;
+    if negative { -size } else { size }
+}
+
 // The number of this sign and size.
 fn narrow(negative: bool, size: u128) -> i32
     requires { size < 2 ^ 31 }

@@ -4,12 +4,12 @@ use Rattle.std.specs.Prelude.{decimal, if◌then◌else◌, option_map, unsigned
 use Rattle.std.specs.Fmt.{signed_decimal}
 use Rattle.std.specs.List.{list_all}
 use Rattle.std.proofs.lemmas.Bool.{and_parts, and_from, leb-true, lt-ltb, ne_eqb, eqb-true, eq-eqb, cases_Bool}
-use Rattle.std.proofs.lemmas.Fmt.{decimal_by_steps}
+use Rattle.std.proofs.lemmas.Fmt.{decimal_by_steps_wide}
 use Rattle.std.proofs.lemmas.List.{length-append}
 use Rattle.line_text.specs.Numbers.{number, number_after, number_within, is_digit, begins_with, with_sign}
 use Rattle.line_text.specs.Spellings.{spelled_number, spelled_parts, negated_size}
 use Rattle.line_text.proofs.Rounding.{number_after-append}
-use Rattle.line_text.proofs.Decimals.{Writes-decimal, number_within-decimal, no_zero}
+use Rattle.line_text.proofs.Decimals.{Writes-decimal_wide, number_within-decimal_wide, no_zero_wide}
 use Rattle.line_text.proofs.ReadSteps.{some_same, by_test}
 
 record Canonical (word : List ℕ) : Type 0 where
@@ -85,8 +85,8 @@ more_digits n ds le h (d ∷ rest) c e =
     some_init [] f = absurd (f refl)
     some_init (x ∷ xs) f = omega arith
 
-digits_are_decimal : (word : List ℕ) → Canonical word → number word < 2 ^ 64 → word ≡ decimal (number word)
-digits_are_decimal word c lt = decimal_by_steps Is one_digit more_digits (number word) lt word c refl
+digits_are_decimal : (word : List ℕ) → Canonical word → number word < 10 ^ 64 → word ≡ decimal (number word)
+digits_are_decimal word c lt = decimal_by_steps_wide Is one_digit more_digits (number word) lt word c refl
 
 if_none : (t : Bool) (o : Option ℕ) (n : ℕ) → ◌≡◌ {A = Option ℕ} (if t then None else o) (Some n) → (t ≡ false) × (o ≡ Some n)
 if_none true o n h = absurd (let no : ⊥ = cc in no)
@@ -104,8 +104,8 @@ no_zero_front (d ∷ ds) h t lt = elim (cases_Bool (eqb d 48)) [
 ]
 
 -- a word that spells a number is its decimal digits
-pub spelled_number-some : (word : List ℕ) (n : ℕ) → n < 2 ^ 64 → spelled_number word ≡ Some n → word ≡ decimal n
-spelled_number-some word n lt h =
+pub spelled_number-some_wide : (word : List ℕ) (n : ℕ) → n < 10 ^ 64 → spelled_number word ≡ Some n → word ≡ decimal n
+spelled_number-some_wide word n lt h =
     let p = if_none (begins_with 48 word && ltb 1 (length word)) (number_within 38 word) n h in
     let q = if_some (leb 1 (length word) && leb (length word) 38 && list_all is_digit word) (number word) n p.1 in
     let r = and_parts (leb 1 (length word) && leb (length word) 38) (list_all is_digit word) q.0 in
@@ -114,8 +114,16 @@ spelled_number-some word n lt h =
     let c : Canonical word = record { digits = r.1; some = some; front = no_zero_front word r.1 p.0 } in
     digits_are_decimal word c (omega (arith, q.1, lt)) ∙ ap decimal q.1
 
+pub spelled_number-some : (word : List ℕ) (n : ℕ) → n < 2 ^ 64 → spelled_number word ≡ Some n → word ≡ decimal n
+spelled_number-some word n lt h = spelled_number-some_wide word n (omega (arith, lt)) h
+
+pub spelled_number-decimal_wide : (n : ℕ) → n < 10 ^ 38 → spelled_number (decimal n) ≡ Some n
+spelled_number-decimal_wide n lt =
+    let wide : n < 10 ^ 64 = omega (arith, lt) in
+    rw (no_zero_wide n wide, number_within-decimal_wide 38 n (omega arith) lt wide) refl
+
 pub spelled_number-decimal : (n : ℕ) → n < 2 ^ 64 → spelled_number (decimal n) ≡ Some n
-spelled_number-decimal n lt = rw (no_zero n lt, number_within-decimal 38 n (omega arith) (omega (arith, lt)) lt) refl
+spelled_number-decimal n lt = spelled_number-decimal_wide n (omega (arith, lt))
 
 -- ---- signed numbers
 
@@ -128,14 +136,14 @@ abbrev pub sign_of : ℤ → Bool
 sign_of (pos n) = false
 sign_of (negsuc n) = true
 
-pub spelled_parts-decimal : (z : ℤ) → unsigned_abs z < 2 ^ 32 → spelled_parts (signed_decimal z) ≡ Some (sign_of z, unsigned_abs z)
+pub spelled_parts-decimal : (z : ℤ) → unsigned_abs z < 10 ^ 38 → spelled_parts (signed_decimal z) ≡ Some (sign_of z, unsigned_abs z)
 spelled_parts-decimal (pos n) lt =
-    let small : n < 2 ^ 64 = omega (arith, lt) in
-    rw (not_minus (decimal n) (Writes-decimal n small).digits, spelled_number-decimal n small) refl
+    let small : n < 10 ^ 38 = lt in
+    rw (not_minus (decimal n) (Writes-decimal_wide n (omega (arith, small))).digits, spelled_number-decimal_wide n small) refl
 spelled_parts-decimal (negsuc n) lt =
-    let small : suc n < 2 ^ 64 = omega (arith, lt) in
+    let small : suc n < 10 ^ 38 = lt in
     let some : eqb (suc n) 0 ≡ false = ne_eqb (suc n) 0 (omega arith) in
-    rw (spelled_number-decimal (suc n) small, some) refl
+    rw (spelled_number-decimal_wide (suc n) small, some) refl
 
 negated-some : (o : Option ℕ) (p : Bool × ℕ) → negated_size o ≡ Some p → (o ≡ Some p.1) × (p.0 ≡ true) × (p.1 ≡ 0 → ⊥)
 negated-some None p h = absurd (let no : ⊥ = cc in no)
@@ -164,12 +172,12 @@ signed_digits zero f = absurd (f refl)
 signed_digits (suc n) f = refl
 
 -- a word that spells a sign and a size is the decimal text of the number
-pub spelled_parts-some : (word : List ℕ) (p : Bool × ℕ) → p.1 < 2 ^ 64 → spelled_parts word ≡ Some p → word ≡ signed_decimal (with_sign p.0 p.1)
+pub spelled_parts-some : (word : List ℕ) (p : Bool × ℕ) → p.1 < 10 ^ 64 → spelled_parts word ≡ Some p → word ≡ signed_decimal (with_sign p.0 p.1)
 spelled_parts-some word p lt h = by_test (begins_with 45 word) (negated_size (spelled_number (drop 1 word))) (option_map (λ n. (false, n)) (spelled_number word)) (Some p)
     (λ t e.
     let q = negated-some (spelled_number (drop 1 word)) p e in
-    minus_front word t ∙ ap (λ (w : List ℕ). 45 ∷ w) (spelled_number-some (drop 1 word) p.1 lt q.0) ∙ sym (signed_digits p.1 q.2) ∙ ap (λ (b : Bool). signed_decimal (with_sign b p.1)) (sym q.1))
+    minus_front word t ∙ ap (λ (w : List ℕ). 45 ∷ w) (spelled_number-some_wide (drop 1 word) p.1 lt q.0) ∙ sym (signed_digits p.1 q.2) ∙ ap (λ (b : Bool). signed_decimal (with_sign b p.1)) (sym q.1))
     (λ t e.
     let q = mapped-some (spelled_number word) p e in
-    spelled_number-some word p.1 lt q.0 ∙ ap (λ (b : Bool). signed_decimal (with_sign b p.1)) (sym q.1))
+    spelled_number-some_wide word p.1 lt q.0 ∙ ap (λ (b : Bool). signed_decimal (with_sign b p.1)) (sym q.1))
     h

@@ -1,6 +1,7 @@
 -- The lines that tell of blocks, passes and edits are read exactly from their words.
 use Rattle.std.proofs.Common.{◌≡◌, ℕ, ◌<◌, ◌≤◌, Bool, true, List, [], ◌∷◌, ◌++◌, length, drop, map, Result, Ok, refl, sym, ap, subst, ◌∙◌, arith, lit<, append_assoc}
 use Rattle.std.specs.Prelude.{decimal, codes}
+use Rattle.std.proofs.lemmas.Bool.{eqb-true}
 use Rattle.std.proofs.lemmas.List.{append-nil, length-map}
 use Rattle.std.proofs.lemmas.List.Elements.{All-from_recursion, recursion_from_All}
 use Rattle.edit_base.specs.declared.Asked.{Asked}
@@ -17,15 +18,15 @@ use Rattle.line_text.specs.declared.TextWhy.{TextWhy}
 use Rattle.line_text.specs.declared.TextWhy.TheVariants as why
 use Rattle.line_text.specs.Faults.{◌>>=◌}
 use Rattle.line_text.specs.Spellings.{spelled_at, count_with_end}
-use Rattle.log_text.specs.declared.TheConstants.{TURN_MAX}
+use Rattle.log_text.specs.declared.TheConstants.{TURN_MAX, VERSION}
 use Rattle.log_text.specs.declared.log_line.LogLine.{LogLine}
 use Rattle.log_text.specs.declared.log_line.LogLine.TheVariants as line
 use Rattle.log_text.specs.Fields.{Reader, both}
 use Rattle.log_text.specs.Lines.{line_words, pair_words, point_words, place_words, places_words, pass_words, asked_words, reason_words}
-use Rattle.log_text.specs.Values.{edge_at, position_at, place_at, reason_of, reason_at}
+use Rattle.log_text.specs.Values.{is_latest, edge_at, position_at, place_at, reason_of, reason_at}
 use Rattle.log_text.specs.EditLines.{pass_of, split_of, flip_of, collapse_of, zip_of, reason_with_end, asked_of, no_of, edit_of, at_least, ids_add, block_of, places_add, first_place, pinch_of}
 use Rattle.log_text.specs.Laws.{IsFrom, IsEdgeInRange, IsPassInRange, IsChangeInRange, IsAskedInRange, IsReasonOfVersion, IsInRange}
-use Rattle.line_text.proofs.ReadSteps.{bound, ok_same, picked, fault_value}
+use Rattle.line_text.proofs.ReadSteps.{bound, ok_same, picked, picked_if, fault_value}
 use Rattle.log_text.proofs.Exactness.{IsExact, count_with_end-length, count_with_end-of_read, spelled_at-exact}
 use Rattle.log_text.proofs.Spellings.{both-exact, one}
 use Rattle.log_text.proofs.EditSpellings.{Edge, edge_words, EdgeFits, edge_at-exact, position_at-exact, PlaceFits, place_at-exact, ReasonFits, reason_at-exact}
@@ -34,15 +35,19 @@ use Rattle.log_text.proofs.LineForms.{IsSpelling, again, spelled, alone_again, a
 
 -- ---- passes
 
-pub pass_again : (kind : PassKind) → IsPassInRange kind → pass_of true (pass_words kind) ≡ Ok (line.Pass kind)
+pub pass_again : (version : ℕ) (kind : PassKind) → IsPassInRange kind → pass_of version true (pass_words kind) ≡ Ok (line.Pass kind)
 unfolding pass_of
-pass_again (pass.Split n) r = one_again 0 LENGTH_MAX (lit< tt) (λ n. line.Pass (pass.Split n)) n (omega arith, r)
-pass_again (pass.Collapse n) r = one_again 0 LENGTH_MAX (lit< tt) (λ n. line.Pass (pass.Collapse n)) n (omega arith, r)
-pass_again pass.Flip r = alone_again (line.Pass pass.Flip)
-pass_again (pass.Zip n) r = one_again 0 LENGTH_MAX (lit< tt) (λ n. line.Pass (pass.Zip n)) n (omega arith, r)
-pass_again pass.Pinch r = alone_again (line.Pass pass.Pinch)
+pass_again version (pass.Split n) r = one_again 0 LENGTH_MAX (lit< tt) (λ n. line.Pass (pass.Split n)) n (omega arith, r)
+pass_again version (pass.Collapse n) r = one_again 0 LENGTH_MAX (lit< tt) (λ n. line.Pass (pass.Collapse n)) n (omega arith, r)
+pass_again version pass.Flip r = alone_again (line.Pass pass.Flip)
+pass_again version (pass.Zip n) r = one_again 0 LENGTH_MAX (lit< tt) (λ n. line.Pass (pass.Zip n)) n (omega arith, r)
+pass_again version pass.Pinch r = alone_again (line.Pass pass.Pinch)
 
-pass_back : (version : ℕ) (ended : Bool) (words : List (List ℕ)) (l : LogLine) → pass_of ended words ≡ Ok l → IsSpelling version ended (codes "pass" ∷ words) l
+pub fit_again : pass_of VERSION true (codes "fit" ∷ []) ≡ Ok line.PassFit
+unfolding pass_of
+fit_again = alone_again line.PassFit
+
+pass_back : (version : ℕ) (ended : Bool) (words : List (List ℕ)) (l : LogLine) → pass_of version ended words ≡ Ok l → IsSpelling version ended (codes "pass" ∷ words) l
 unfolding pass_of
 pass_back version ended [] l h = fault_value why.Short l h
 pass_back version ended (kind ∷ words) l h =
@@ -53,7 +58,8 @@ pass_back version ended (kind ∷ words) l h =
     (picked P kind (codes "flip") _ _ (Ok l) (alone_spelled version (front (codes "flip")) ended (line.Pass pass.Flip) words l refl tt tt)
     (picked P kind (codes "zip") _ _ (Ok l) (one_spelled version 0 LENGTH_MAX (lit< tt) (λ n. line.Pass (pass.Zip n)) (front (codes "zip")) (λ n r. (refl, r.1, tt)) ended words l)
     (picked P kind (codes "pinch") _ _ (Ok l) (alone_spelled version (front (codes "pinch")) ended (line.Pass pass.Pinch) words l refl tt tt)
-    (fault_value why.Unknown l)))))
+    (picked_if P kind (codes "fit") (is_latest version) _ _ (Ok l) (λ t. alone_spelled version (front (codes "fit")) ended line.PassFit words l refl tt (eqb-true version VERSION t))
+    (fault_value why.Unknown l))))))
     h
 
 -- ---- edits that are done

@@ -169,7 +169,7 @@ size_of_sign true zero = refl
 size_of_sign true (suc n) = refl
 size_of_sign false n = refl
 
-word_signed-some : (most : ℕ) (z : ℤ) (word : List ℕ) → most < 2 ^ 32 → spelled_up_to most (spelled_parts word) ≡ Ok z → (word ≡ signed_decimal z) × (unsigned_abs z ≤ most)
+word_signed-some : (most : ℕ) (z : ℤ) (word : List ℕ) → most < 10 ^ 38 → spelled_up_to most (spelled_parts word) ≡ Ok z → (word ≡ signed_decimal z) × (unsigned_abs z ≤ most)
 word_signed-some most z word small h =
     let u = up_to-some most (spelled_parts word) z h in
     let fits : unsigned_abs (with_sign u.parts.0 u.parts.1) ≤ most = omega (arith, size_of_sign u.parts.0 u.parts.1, u.fits) in
@@ -183,10 +183,10 @@ sign_again (negsuc n) = refl
 size_in_range : (most : ℕ) (z : ℤ) → unsigned_abs z ≤ most → spelled_up_to most (Some (sign_of z, unsigned_abs z)) ≡ Ok z
 size_in_range most z le = rw (le-leb (unsigned_abs z) most le) (ap Ok (sign_again z))
 
-word_signed-decimal : (most : ℕ) (z : ℤ) → unsigned_abs z ≤ most → most < 2 ^ 32 → spelled_up_to most (spelled_parts (signed_decimal z)) ≡ Ok z
+word_signed-decimal : (most : ℕ) (z : ℤ) → unsigned_abs z ≤ most → most < 10 ^ 38 → spelled_up_to most (spelled_parts (signed_decimal z)) ≡ Ok z
 word_signed-decimal most z le small = ap (spelled_up_to most) (spelled_parts-decimal z (omega (arith, le, small))) ∙ size_in_range most z le
 
-spelled_signed_at-of_read : (most : ℕ) → most < 2 ^ 32 → (words : List (List ℕ)) (n : ℤ) (rest : List (List ℕ)) → spelled_signed_at most words ≡ Ok (n, rest) → (words ≡ signed_decimal n ∷ rest) × (unsigned_abs n ≤ most)
+spelled_signed_at-of_read : (most : ℕ) → most < 10 ^ 38 → (words : List (List ℕ)) (n : ℤ) (rest : List (List ℕ)) → spelled_signed_at most words ≡ Ok (n, rest) → (words ≡ signed_decimal n ∷ rest) × (unsigned_abs n ≤ most)
 unfolding spelled_signed_at
 spelled_signed_at-of_read most small [] n rest h = fault_value Short (n, rest) h
 spelled_signed_at-of_read most small (word ∷ words) n rest h =
@@ -196,9 +196,12 @@ spelled_signed_at-of_read most small (word ∷ words) n rest h =
     let P : ℤ × List (List ℕ) → Type 0 = λ r. (word ∷ words ≡ signed_decimal r.0 ∷ r.1) × (unsigned_abs r.0 ≤ most) in
     subst P e (ap (λ w. w ∷ words) s.0, s.1)
 
-spelled_signed_at-of_written : (most : ℕ) → most < 2 ^ 32 → (n : ℤ) (words : List (List ℕ)) → unsigned_abs n ≤ most → spelled_signed_at most (signed_decimal n ∷ words) ≡ Ok (n, words)
+spelled_signed_at-of_written : (most : ℕ) → most < 10 ^ 38 → (n : ℤ) (words : List (List ℕ)) → unsigned_abs n ≤ most → spelled_signed_at most (signed_decimal n ∷ words) ≡ Ok (n, words)
 unfolding spelled_signed_at
 spelled_signed_at-of_written most small n words r = ap (λ (found : Result ℤ TextWhy). found >>= λ n. Ok (n, words)) (word_signed-decimal most n r small)
 
+pub spelled_signed_at-exact_wide : (most : ℕ) → most < 10 ^ 38 → IsExact (spelled_signed_at most) (λ n. signed_decimal n ∷ []) (λ n. unsigned_abs n ≤ most)
+spelled_signed_at-exact_wide most small = record { of_written = spelled_signed_at-of_written most small; of_read = spelled_signed_at-of_read most small }
+
 pub spelled_signed_at-exact : (most : ℕ) → most < 2 ^ 32 → IsExact (spelled_signed_at most) (λ n. signed_decimal n ∷ []) (λ n. unsigned_abs n ≤ most)
-spelled_signed_at-exact most small = record { of_written = spelled_signed_at-of_written most small; of_read = spelled_signed_at-of_read most small }
+spelled_signed_at-exact most small = spelled_signed_at-exact_wide most (omega (arith, small))

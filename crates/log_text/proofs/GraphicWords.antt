@@ -20,7 +20,7 @@ use Rattle.grid_base.specs.declared.grid.Point.{Point}
 use Rattle.line_text.specs.declared.TextWhy.{TextWhy}
 use Rattle.line_text.specs.declared.TextWhy.TheVariants as why
 use Rattle.line_text.specs.Numbers.{is_digit}
-use Rattle.line_text.proofs.Decimals.{Writes-decimal}
+use Rattle.line_text.proofs.Decimals.{Writes-decimal_wide}
 use Rattle.mesh_base.specs.declared.FileWord.{FileWord}
 use Rattle.mesh_base.specs.declared.FileWord.TheVariants as file
 use Rattle.mesh_base.specs.declared.How.{How}
@@ -43,11 +43,11 @@ use Rattle.log_text.specs.Laws.{IsFrom, IsPairInRange, IsHowInRange, IsShapeInRa
 abbrev pub IsGraphic : List ℕ → Type 0
 IsGraphic word = AllByRecursion (λ b. 32 < b) word
 
-abbrev AreGraphic : List (List ℕ) → Type 0
+abbrev pub AreGraphic : List (List ℕ) → Type 0
 AreGraphic words = AllByRecursion IsGraphic words
 
 -- of fixed words a test computes
-text : (word : List ℕ) → list_all (λ b. ltb 32 b) word ≡ true → IsGraphic word
+pub text : (word : List ℕ) → list_all (λ b. ltb 32 b) word ≡ true → IsGraphic word
 text [] h = tt
 text (b ∷ word) h = let p = and_parts (ltb 32 b) (list_all (λ b. ltb 32 b) word) h in (ltb-true 32 b p.0, text word p.1)
 
@@ -58,15 +58,18 @@ digits (d ∷ ds) h =
     let q = and_parts (leb 48 d) (leb d 57) p.0 in
     ((let low : 48 ≤ d = leb-true 48 d q.0 in omega (arith, low)), digits ds p.1)
 
+number_wide : (n : ℕ) → n < 10 ^ 64 → IsGraphic (decimal n)
+number_wide n lt = digits (decimal n) (Writes-decimal_wide n lt).digits
+
 number : (n : ℕ) → n < 2 ^ 64 → IsGraphic (decimal n)
-number n lt = digits (decimal n) (Writes-decimal n lt).digits
+number n lt = number_wide n (omega (arith, lt))
 
 up_to : (low high n : ℕ) → high < 2 ^ 64 → IsFrom low high n → IsGraphic (decimal n)
 up_to low high n small r = number n (omega (arith, r.1))
 
-component : (most : ℕ) (z : ℤ) → most < 2 ^ 32 → unsigned_abs z ≤ most → IsGraphic (signed_decimal z)
-component most (pos n) small h = number n (omega (arith, h, small))
-component most (negsuc n) small h = (omega arith, number (suc n) (omega (arith, h, small)))
+pub component : (most : ℕ) (z : ℤ) → most < 10 ^ 38 → unsigned_abs z ≤ most → IsGraphic (signed_decimal z)
+component most (pos n) small h = number_wide n (omega (arith, h, small))
+component most (negsuc n) small h = (omega arith, number_wide (suc n) (omega (arith, h, small)))
 
 shift_part : (z : ℤ) → unsigned_abs z ≤ SHIFT_MAX → IsGraphic (signed_decimal z)
 shift_part z h = component SHIFT_MAX z (lit< tt) h
@@ -77,7 +80,7 @@ coordinate z h = component BOX z (lit< tt) h
 id : (n : ℕ) → IsFrom 1 ID_MAX n → IsGraphic (decimal n)
 id n r = up_to 1 ID_MAX n (lit< tt) r
 
-count : (n : ℕ) → IsFrom 1 COUNT_MAX n → IsGraphic (decimal n)
+pub count : (n : ℕ) → IsFrom 1 COUNT_MAX n → IsGraphic (decimal n)
 count n r = up_to 1 COUNT_MAX n (lit< tt) r
 
 seen : (n : ℕ) → n ≤ SEEN_MAX → IsGraphic (decimal n)
@@ -86,6 +89,8 @@ seen n r = number n (omega (arith, r))
 file_graphic : (f : FileWord) → IsGraphic (file_word f)
 file_graphic file.Mesh = text (codes "mesh") refl
 file_graphic file.Steps = text (codes "steps") refl
+file_graphic file.Log = text (codes "log") refl
+file_graphic file.Proof = text (codes "proof") refl
 
 why_graphic : (w : TextWhy) → IsGraphic (why_word w)
 why_graphic why.Number = text (codes "number") refl
@@ -96,8 +101,9 @@ why_graphic why.Long = text (codes "long") refl
 why_graphic why.Unknown = text (codes "unknown") refl
 why_graphic why.Continuation = text (codes "continuation") refl
 why_graphic why.Nesting = text (codes "nesting") refl
+why_graphic why.Order = text (codes "order") refl
 
-pair_graphic : (p : PairName) → IsPairInRange p → AreGraphic (pair_words p)
+pub pair_graphic : (p : PairName) → IsPairInRange p → AreGraphic (pair_words p)
 pair_graphic p r = (id p.a r.a, (id p.b r.b, (id p.face r.face, tt)))
 
 how_graphic : (how : How) → IsHowInRange how → AreGraphic (how_words how)
@@ -128,7 +134,7 @@ refusal_graphic (refusal.Missing name) r = (text (codes "missing") refl, (file_g
 refusal_graphic (refusal.Mesh fault) r = (text (codes "mesh") refl, (count fault.line r.0, (why_graphic fault.why, tt)))
 refusal_graphic (refusal.Shape fault) r = (text (codes "shape") refl, shape_graphic fault r)
 refusal_graphic (refusal.Meets pair) r = (text (codes "meets") refl, pair_graphic pair r)
-refusal_graphic (refusal.Steps fault) r = (text (codes "steps") refl, (count fault.line r, (why_graphic fault.why, tt)))
+refusal_graphic (refusal.Steps fault) r = (text (codes "steps") refl, (count fault.line r.0, (why_graphic fault.why, tt)))
 refusal_graphic (refusal.StepUse at w) r = (text (codes "use") refl, (count at r.0, use_graphic w r.1))
 
 graphic-append : (xs ys : List (List ℕ)) → AreGraphic xs → AreGraphic ys → AreGraphic (xs ++ ys)
@@ -197,6 +203,7 @@ line_graphic version small (line.Block ids) r e = (text (codes "block") refl, id
 line_graphic version small (line.Move s) r e = (text (codes "move") refl, (id s.v r, (shift_part s.by.x s.by.in_range.x_fits, (shift_part s.by.y s.by.in_range.y_fits, (shift_part s.by.z s.by.in_range.z_fits, tt)))))
 line_graphic version small (line.Moved how) r e = (text (codes "moved") refl, how_graphic how r)
 line_graphic version small (line.Pass kind) r e = (text (codes "pass") refl, pass_graphic kind r)
+line_graphic version small line.PassFit r e = (text (codes "pass") refl, (text (codes "fit") refl, tt))
 line_graphic version small (line.Did done) r e = change_graphic done r
 line_graphic version small (line.No what w) r e = (text (codes "no") refl, graphic-append (asked_words what) (reason_words w) (asked_graphic what r.0) (reason_graphic w r.1))
 line_graphic version small (line.Refused w) r e = (text (codes "refused") refl, refusal_graphic w r)
@@ -235,6 +242,7 @@ some_words (line.Block ids) = omega arith
 some_words (line.Move s) = omega arith
 some_words (line.Moved how) = omega arith
 some_words (line.Pass kind) = omega arith
+some_words line.PassFit = omega arith
 some_words (line.Did done) = some_change done
 some_words (line.No what w) = omega arith
 some_words (line.Refused w) = omega arith

@@ -1,9 +1,10 @@
 -- Each line that names no other version is one of the version that is written.
-use Rattle.std.proofs.Common.{refl}
+use Rattle.std.proofs.Common.{refl, true}
 use Rattle.edit_base.specs.declared.Why.{Why}
 use Rattle.edit_base.specs.declared.Why.TheVariants as reason
 use Rattle.line_text.specs.declared.TextWhy.{TextWhy}
-use Rattle.line_text.specs.declared.TextWhy.TheVariants as why
+use Rattle.mesh_base.specs.declared.FileWord.{FileWord}
+use Rattle.mesh_base.specs.declared.FileWord.TheVariants as file
 use Rattle.mesh_base.specs.declared.UseWhy.{UseWhy}
 use Rattle.mesh_base.specs.declared.UseWhy.TheVariants as using
 use Rattle.log_text.specs.declared.TheConstants.{VERSION}
@@ -12,11 +13,10 @@ use Rattle.log_text.specs.declared.log_line.LogLine.TheVariants as line
 use Rattle.log_text.specs.declared.log_line.Refusal.{Refusal}
 use Rattle.log_text.specs.declared.log_line.Refusal.TheVariants as refusal
 use Rattle.log_text.specs.Values.{is_latest}
-use Rattle.log_text.specs.Laws.{IsWhyOf, IsReasonOfVersion, IsUseOfVersion, IsRefusalOfVersion, IsOfVersion, NamesNoOther}
+use Rattle.log_text.specs.Laws.{IsWhyOf, IsFileOfVersion, IsRefusalInRange, IsInRange, IsReasonOfVersion, IsUseOfVersion, IsRefusalOfVersion, IsOfVersion, NamesNoOther}
 
-pub latest_why : (w : TextWhy) → IsWhyOf (is_latest VERSION) w
-latest_why why.Nesting = refl
-latest_why _ = tt
+pub latest_why : (w : TextWhy) → IsWhyOf true w → IsWhyOf (is_latest VERSION) w
+latest_why w r = r
 
 pub latest_reason : (w : Why) → IsReasonOfVersion VERSION w
 latest_reason reason.Solid = refl
@@ -26,16 +26,24 @@ pub latest_use : (w : UseWhy) → IsUseOfVersion VERSION w
 latest_use (using.Solid v) = refl
 latest_use _ = tt
 
-pub latest_refusal : (w : Refusal) → IsRefusalOfVersion VERSION w
-latest_refusal (refusal.Steps fault) = latest_why fault.why
-latest_refusal (refusal.StepUse at w) = latest_use w
-latest_refusal _ = tt
+pub latest_file : (f : FileWord) → IsFileOfVersion VERSION f
+latest_file file.Log = refl
+latest_file file.Proof = refl
+latest_file _ = tt
 
-pub latest_line : (l : LogLine) → NamesNoOther l → IsOfVersion VERSION l
-latest_line (line.First v) n = n
-latest_line (line.Solid v) n = refl
-latest_line line.Group n = refl
-latest_line (line.Close kept) n = refl
-latest_line (line.No what w) n = latest_reason w
-latest_line (line.Refused w) n = latest_refusal w
-latest_line _ n = tt
+pub latest_refusal : (w : Refusal) → IsRefusalInRange w → IsRefusalOfVersion VERSION w
+latest_refusal (refusal.Long name seen) r = latest_file name
+latest_refusal (refusal.Missing name) r = latest_file name
+latest_refusal (refusal.Steps fault) r = latest_why fault.why r.1
+latest_refusal (refusal.StepUse at w) r = latest_use w
+latest_refusal _ r = tt
+
+pub latest_line : (l : LogLine) → IsInRange l → NamesNoOther l → IsOfVersion VERSION l
+latest_line (line.First v) r n = n
+latest_line (line.Solid v) r n = refl
+latest_line line.PassFit r n = refl
+latest_line line.Group r n = refl
+latest_line (line.Close kept) r n = refl
+latest_line (line.No what w) r n = latest_reason w
+latest_line (line.Refused w) r n = latest_refusal w r
+latest_line _ r n = tt

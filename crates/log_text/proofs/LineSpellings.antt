@@ -25,10 +25,10 @@ use Rattle.log_text.specs.Values.{is_latest, whole, alone, shift_of_at}
 use Rattle.log_text.specs.Reading.{first_of, mesh_of, step_of, hit_of, move_of, moved_of, or_unknown, file_of, refused, long_of, missing_of, shape_of, use_numbers, use_line, why_of_use, use_of, refused_of, solid_of, close_of, plain_of, line_of}
 use Rattle.log_text.specs.EditLines.{edit_of}
 use Rattle.edit_base.specs.declared.Change.TheVariants as change
-use Rattle.log_text.specs.Laws.{IsFrom, IsUseInRange, IsInRange, IsUseOfVersion, IsRefusalOfVersion, IsOfVersion}
+use Rattle.log_text.specs.Laws.{IsFrom, IsWhyOf, IsFileOfVersion, IsUseInRange, IsInRange, IsUseOfVersion, IsRefusalOfVersion, IsOfVersion}
 use Rattle.line_text.proofs.ReadSteps.{bound, ok_same, picked, picked_if, fault_value}
 use Rattle.log_text.proofs.LineForms.{IsSpelling, again, spelled, alone_again, alone_spelled, number_of, one_again, one_spelled, Two, two_again, two_spelled, pair_again, pair_spelled, fault_again, fault_spelled}
-use Rattle.log_text.proofs.EditLineSpellings.{pass_again, split_again, flip_again, collapse_again, zip_again, no_again, block_again, pinch_again, edit_back, block_back, pinch_back}
+use Rattle.log_text.proofs.EditLineSpellings.{pass_again, fit_again, split_again, flip_again, collapse_again, zip_again, no_again, block_again, pinch_again, edit_back, block_back, pinch_back}
 use Rattle.log_text.proofs.Exactness.{IsExact, count_with_end-length, count_with_end-of_read, word_number-decimal, word_number-some}
 use Rattle.log_text.proofs.Spellings.{three_numbers, shift_of_at-exact, shift_of_words, file_of-word, file_of-some}
 
@@ -66,13 +66,13 @@ shape_again (shape.Repeated face) r = one_again 1 COUNT_MAX (lit< tt) (λ n. lin
 shape_again (shape.Doubled first second) r = two_again 1 COUNT_MAX 1 COUNT_MAX (lit< tt) (lit< tt) (λ n. line.Refused (refusal.Shape (shape.Doubled n.0 n.1))) (first, second) r
 shape_again (shape.Unbalanced from to) r = two_again 1 COUNT_MAX 1 COUNT_MAX (lit< tt) (lit< tt) (λ n. line.Refused (refusal.Shape (shape.Unbalanced n.0 n.1))) (from, to) r
 
-long_again : (name : FileWord) (seen : ℕ) → seen ≤ SEEN_MAX → long_of true (file_word name ∷ decimal seen ∷ []) ≡ Ok (line.Refused (refusal.Long name seen))
+long_again : (version : ℕ) (name : FileWord) (seen : ℕ) → seen ≤ SEEN_MAX → IsFileOfVersion version name → long_of version true (file_word name ∷ decimal seen ∷ []) ≡ Ok (line.Refused (refusal.Long name seen))
 unfolding long_of
-long_again name seen r = rw (file_of-word name) (one_again 0 SEEN_MAX (lit< tt) (λ n. line.Refused (refusal.Long name n)) seen (omega arith, r))
+long_again version name seen r o = rw (file_of-word version name o) (one_again 0 SEEN_MAX (lit< tt) (λ n. line.Refused (refusal.Long name n)) seen (omega arith, r))
 
-missing_again : (name : FileWord) → missing_of true (file_word name ∷ []) ≡ Ok (line.Refused (refusal.Missing name))
+missing_again : (version : ℕ) (name : FileWord) → IsFileOfVersion version name → missing_of version true (file_word name ∷ []) ≡ Ok (line.Refused (refusal.Missing name))
 unfolding missing_of
-missing_again name = rw (file_of-word name) (alone_again (line.Refused (refusal.Missing name)))
+missing_again version name o = rw (file_of-word version name o) (alone_again (line.Refused (refusal.Missing name)))
 
 used_again : (version at : ℕ) (w : UseWhy) → IsInRange (line.Refused (refusal.StepUse at w)) → IsUseOfVersion version w → use_of version true (decimal at ∷ use_words w) ≡ Ok (line.Refused (refusal.StepUse at w))
 unfolding use_of why_of_use
@@ -84,12 +84,12 @@ used_again version at (using.Solid v) r o = let P : ℕ → Type 0 = λ n. use_o
 
 refused_again : (version : ℕ) (w : Refusal) → IsInRange (line.Refused w) → IsRefusalOfVersion version w → refused_of version true (refusal_words w) ≡ Ok (line.Refused w)
 unfolding refused_of
-refused_again version (refusal.Long name seen) r o = long_again name seen r
-refused_again version (refusal.Missing name) r o = missing_again name
+refused_again version (refusal.Long name seen) r o = long_again version name seen r o
+refused_again version (refusal.Missing name) r o = missing_again version name o
 refused_again version (refusal.Mesh fault) r o = fault_again false (λ f. line.Refused (refusal.Mesh f)) fault r
 refused_again version (refusal.Shape fault) r o = shape_again fault r
 refused_again version (refusal.Meets pair) r o = pair_again (λ p. line.Refused (refusal.Meets p)) pair r
-refused_again version (refusal.Steps fault) r o = fault_again (is_latest version) (λ f. line.Refused (refusal.Steps f)) fault (r, o)
+refused_again version (refusal.Steps fault) r o = fault_again (is_latest version) (λ f. line.Refused (refusal.Steps f)) fault (r.0, o)
 refused_again version (refusal.StepUse at w) r o = used_again version at w r o
 
 solid_again : (v : ℕ) → IsFrom 1 ID_MAX v → solid_of true (decimal v ∷ []) ≡ Ok (line.Solid v)
@@ -133,7 +133,8 @@ printed_is_read version small (line.Hit pair) r e = pair_again line.Hit pair r
 printed_is_read version small (line.Block ids) r e = block_again ids r
 printed_is_read version small (line.Move s) r e = again shift_of_at shift_of_words (λ s. IsFrom 1 ID_MAX s.v) shift_of_at-exact 4 (λ s. refl) line.Move s r
 printed_is_read version small (line.Moved how) r e = moved_again how r
-printed_is_read version small (line.Pass kind) r e = pass_again kind r
+printed_is_read version small (line.Pass kind) r e = pass_again version kind r
+printed_is_read version small line.PassFit r e = let P : ℕ → Type 0 = λ n. line_of n true (line_words line.PassFit) ≡ Ok line.PassFit in subst P (sym e) fit_again
 printed_is_read version small (line.Did (change.Split a b w at)) r e = split_again a b w at r
 printed_is_read version small (line.Did (change.Flip a b)) r e = flip_again a b r
 printed_is_read version small (line.Did (change.Collapse a b at)) r e = collapse_again a b at r
@@ -170,23 +171,23 @@ or_unknown-some : {A : Type 0} (o : Option A) (a : A) → or_unknown o ≡ Ok a 
 or_unknown-some None a h = fault_value why.Unknown a h
 or_unknown-some (Some b) a h = ap Some (ok_same b a h)
 
-long_back : (version : ℕ) (ended : Bool) (words : List (List ℕ)) (l : LogLine) → long_of ended words ≡ Ok l → IsSpelling version ended (codes "refused" ∷ codes "long" ∷ words) l
+long_back : (version : ℕ) (ended : Bool) (words : List (List ℕ)) (l : LogLine) → long_of version ended words ≡ Ok l → IsSpelling version ended (codes "refused" ∷ codes "long" ∷ words) l
 unfolding long_of
 long_back version ended [] l h = fault_value why.Short l h
 long_back version ended (word ∷ words) l h =
-    let b = bound (or_unknown (file_of word)) (λ (name : FileWord). whole ended 1 (spelled_at 0 SEEN_MAX) words >>= λ seen. refused (refusal.Long name seen)) l h in
-    let same : word ≡ file_word b.value = file_of-some word b.value (or_unknown-some (file_of word) b.value b.first) in
-    subst (λ (w : List ℕ). IsSpelling version ended (codes "refused" ∷ codes "long" ∷ w ∷ words) l) (sym same)
-    (one_spelled version 0 SEEN_MAX (lit< tt) (λ n. line.Refused (refusal.Long b.value n)) (codes "refused" ∷ codes "long" ∷ file_word b.value ∷ []) (λ n r. (refl, r.1, tt)) ended words l b.after)
+    let b = bound (or_unknown (file_of version word)) (λ (name : FileWord). whole ended 1 (spelled_at 0 SEEN_MAX) words >>= λ seen. refused (refusal.Long name seen)) l h in
+    let named = file_of-some version word b.value (or_unknown-some (file_of version word) b.value b.first) in
+    subst (λ (w : List ℕ). IsSpelling version ended (codes "refused" ∷ codes "long" ∷ w ∷ words) l) (sym named.0)
+    (one_spelled version 0 SEEN_MAX (lit< tt) (λ n. line.Refused (refusal.Long b.value n)) (codes "refused" ∷ codes "long" ∷ file_word b.value ∷ []) (λ n r. (refl, r.1, named.1)) ended words l b.after)
 
-missing_back : (version : ℕ) (ended : Bool) (words : List (List ℕ)) (l : LogLine) → missing_of ended words ≡ Ok l → IsSpelling version ended (codes "refused" ∷ codes "missing" ∷ words) l
+missing_back : (version : ℕ) (ended : Bool) (words : List (List ℕ)) (l : LogLine) → missing_of version ended words ≡ Ok l → IsSpelling version ended (codes "refused" ∷ codes "missing" ∷ words) l
 unfolding missing_of
 missing_back version ended [] l h = fault_value why.Short l h
 missing_back version ended (word ∷ words) l h =
-    let b = bound (or_unknown (file_of word)) (λ (name : FileWord). alone ended (line.Refused (refusal.Missing name)) words) l h in
-    let same : word ≡ file_word b.value = file_of-some word b.value (or_unknown-some (file_of word) b.value b.first) in
-    subst (λ (w : List ℕ). IsSpelling version ended (codes "refused" ∷ codes "missing" ∷ w ∷ words) l) (sym same)
-    (alone_spelled version (codes "refused" ∷ codes "missing" ∷ file_word b.value ∷ []) ended (line.Refused (refusal.Missing b.value)) words l refl tt tt b.after)
+    let b = bound (or_unknown (file_of version word)) (λ (name : FileWord). alone ended (line.Refused (refusal.Missing name)) words) l h in
+    let named = file_of-some version word b.value (or_unknown-some (file_of version word) b.value b.first) in
+    subst (λ (w : List ℕ). IsSpelling version ended (codes "refused" ∷ codes "missing" ∷ w ∷ words) l) (sym named.0)
+    (alone_spelled version (codes "refused" ∷ codes "missing" ∷ file_word b.value ∷ []) ended (line.Refused (refusal.Missing b.value)) words l refl tt named.1 b.after)
 
 shape_back : (version : ℕ) (ended : Bool) (words : List (List ℕ)) (l : LogLine) → shape_of ended words ≡ Ok l → IsSpelling version ended (codes "refused" ∷ codes "shape" ∷ words) l
 unfolding shape_of
@@ -268,6 +269,12 @@ use_back version ended (at ∷ word ∷ words) l h =
     (misspelt ended l)))))
     h
 
+-- a reason with or without groups
+any_groups : (groups : Bool) (w : TextWhy) → IsWhyOf groups w → IsWhyOf true w
+any_groups groups why.Nesting r = refl
+any_groups groups why.Order r = r
+any_groups groups _ r = tt
+
 refused_back : (version : ℕ) (ended : Bool) (words : List (List ℕ)) (l : LogLine) → refused_of version ended words ≡ Ok l → IsSpelling version ended (codes "refused" ∷ words) l
 unfolding refused_of
 refused_back version ended [] l h = fault_value why.Short l h
@@ -278,7 +285,7 @@ refused_back version ended (word ∷ words) l h =
     (picked P word (codes "mesh") _ _ (Ok l) (fault_spelled version false (λ f. line.Refused (refusal.Mesh f)) (codes "refused" ∷ codes "mesh" ∷ []) (λ f r. (refl, r, tt)) ended words l)
     (picked P word (codes "shape") _ _ (Ok l) (shape_back version ended words l)
     (picked P word (codes "meets") _ _ (Ok l) (pair_spelled version (λ p. line.Refused (refusal.Meets p)) (codes "refused" ∷ codes "meets" ∷ []) (λ p r. (refl, r, tt)) ended words l)
-    (picked P word (codes "steps") _ _ (Ok l) (fault_spelled version (is_latest version) (λ f. line.Refused (refusal.Steps f)) (codes "refused" ∷ codes "steps" ∷ []) (λ f r. (refl, r.0, r.1)) ended words l)
+    (picked P word (codes "steps") _ _ (Ok l) (fault_spelled version (is_latest version) (λ f. line.Refused (refusal.Steps f)) (codes "refused" ∷ codes "steps" ∷ []) (λ f r. (refl, (r.0, any_groups (is_latest version) f.why r.1), r.1)) ended words l)
     (picked P word (codes "use") _ _ (Ok l) (use_back version ended words l)
     (fault_value why.Unknown l)))))))
     h

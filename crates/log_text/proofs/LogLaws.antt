@@ -123,4 +123,4 @@ written_logs_are_read_lem ls h =
     let text = text_of_lines (First VERSION ∷ ls) in
     let here : IsLineOf VERSION (First VERSION) = (tt, refl) in
     let named : VERSION ≡ version_of text = version_named text (body_of (First VERSION)) (parts_of_text (text_of_lines ls)) (first_part VERSION small (First VERSION) ls here) (ap (λ (b : List ℕ). bytes_eq b (codes "topo log 2")) latest_body) in
-    ap (λ v. parts_add v [] 1 (parts_of_text text)) (sym named) ∙ read_again VERSION small (First VERSION ∷ ls) [] 1 (here, recursion_from_All (IsLineOf VERSION) ls (All-weaker (λ l. IsInRange l × NamesNoOther l) (IsLineOf VERSION) (λ l r. (r.0, latest_line l r.1)) ls h))
+    ap (λ v. parts_add v [] 1 (parts_of_text text)) (sym named) ∙ read_again VERSION small (First VERSION ∷ ls) [] 1 (here, recursion_from_All (IsLineOf VERSION) ls (All-weaker (λ l. IsInRange l × NamesNoOther l) (IsLineOf VERSION) (λ l r. (r.0, latest_line l r.0 r.1)) ls h))

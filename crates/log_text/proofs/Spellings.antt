@@ -2,6 +2,7 @@
 use Rattle.std.proofs.Common.{◌≡◌, ℕ, ◌+◌, ◌<◌, ◌≤◌, ◌^◌, Bool, List, [], ◌∷◌, ◌++◌, Option, Some, None, Ok, ℤ, refl, sym, ap, subst, arith, lit<}
 use Rattle.std.specs.Prelude.{decimal, codes, unsigned_abs}
 use Rattle.std.specs.Fmt.{signed_decimal}
+use Rattle.std.proofs.lemmas.Bool.{eqb-true}
 use Rattle.grid_base.specs.declared.TheConstants.{ID_MAX, SHIFT_MAX}
 use Rattle.grid_base.specs.declared.grid.Shift.{Shift}
 use Rattle.grid_base.specs.Triples.{Triple}
@@ -15,13 +16,13 @@ use Rattle.mesh_base.specs.declared.FileWord.{FileWord}
 use Rattle.mesh_base.specs.declared.FileWord.TheVariants as file
 use Rattle.mesh_base.specs.declared.PairName.{PairName}
 use Rattle.mesh_base.specs.declared.ShiftOf.{ShiftOf}
-use Rattle.log_text.specs.declared.TheConstants.{COUNT_MAX}
+use Rattle.log_text.specs.declared.TheConstants.{COUNT_MAX, VERSION}
 use Rattle.line_text.specs.Spellings.{spelled_at, spelled_signed_at}
 use Rattle.log_text.specs.Fields.{Reader, in_turn, both, or_number}
 use Rattle.log_text.specs.Lines.{file_word, why_word, pair_words}
-use Rattle.log_text.specs.Values.{pair_at, shift_of_at, why_of, why_at, fault_at}
+use Rattle.log_text.specs.Values.{is_latest, pair_at, shift_of_at, why_of, why_at, fault_at}
 use Rattle.log_text.specs.Reading.{file_of}
-use Rattle.log_text.specs.Laws.{IsFrom, IsPairInRange, IsWhyOf}
+use Rattle.log_text.specs.Laws.{IsFrom, IsPairInRange, IsWhyOf, IsFileOfVersion}
 use Rattle.line_text.proofs.ReadSteps.{bound, ok_same, some_same, picked, picked_if}
 use Rattle.log_text.proofs.Exactness.{IsExact, or_number-some, spelled_at-exact, spelled_signed_at-exact, in_turn-exact, made-exact}
 
@@ -130,6 +131,7 @@ why_of-word groups why.Short r = refl
 why_of-word groups why.Long r = refl
 why_of-word groups why.Unknown r = refl
 why_of-word groups why.Continuation r = refl
+why_of-word groups why.Order r = absurd r
 why_of-word groups why.Nesting r = let P : Bool → Type 0 = λ b. why_of b (why_word why.Nesting) ≡ Some why.Nesting in subst P (sym r) refl
 
 why_of-some : (groups : Bool) (word : List ℕ) (w : TextWhy) → why_of groups word ≡ Some w → (word ≡ why_word w) × IsWhyOf groups w
@@ -179,16 +181,22 @@ pub fault_at-exact : (groups : Bool) → IsExact (fault_at groups) fault_words (
 unfolding fault_at
 fault_at-exact groups = made-exact (both (spelled_at 1 COUNT_MAX) (why_at groups)) (λ p. decimal p.0 ∷ why_word p.1 ∷ []) (λ p. IsFrom 1 COUNT_MAX p.0 × IsWhyOf groups p.1) fault_words (FaultFits groups) (λ (p : FaultParts). record { line = p.0; why = p.1 }) (λ f. (f.line, f.why)) (both-exact (spelled_at 1 COUNT_MAX) (why_at groups) one (λ w. why_word w ∷ []) (IsFrom 1 COUNT_MAX) (IsWhyOf groups) (spelled_at-exact 1 COUNT_MAX (lit< tt)) (why_at-exact groups)) (λ p h. (refl, h)) (λ f h. (refl, h))
 
-pub file_of-word : (f : FileWord) → file_of (file_word f) ≡ Some f
+pub file_of-word : (version : ℕ) (f : FileWord) → IsFileOfVersion version f → file_of version (file_word f) ≡ Some f
 unfolding file_of
-file_of-word file.Mesh = refl
-file_of-word file.Steps = refl
+file_of-word version file.Mesh r = refl
+file_of-word version file.Steps r = refl
+file_of-word version file.Log r = let P : ℕ → Type 0 = λ n. file_of n (file_word file.Log) ≡ Some file.Log in subst P (sym r) refl
+file_of-word version file.Proof r = let P : ℕ → Type 0 = λ n. file_of n (file_word file.Proof) ≡ Some file.Proof in subst P (sym r) refl
 
-pub file_of-some : (word : List ℕ) (f : FileWord) → file_of word ≡ Some f → word ≡ file_word f
+pub file_of-some : (version : ℕ) (word : List ℕ) (f : FileWord) → file_of version word ≡ Some f → (word ≡ file_word f) × IsFileOfVersion version f
 unfolding file_of
-file_of-some word f h =
-    let P : List ℕ → Type 0 = λ t. t ≡ file_word f in
-    picked P word (codes "mesh") (Some file.Mesh) _ (Some f) (λ e. ap file_word (some_same file.Mesh f e))
-    (picked P word (codes "steps") (Some file.Steps) None (Some f) (λ e. ap file_word (some_same file.Steps f e))
-    (λ e. absurd (let no : ⊥ = cc in no)))
+file_of-some version word f h =
+    let P : List ℕ → Type 0 = λ t. (t ≡ file_word f) × IsFileOfVersion version f in
+    let Q : List ℕ → FileWord → Type 0 = λ t g. (t ≡ file_word g) × IsFileOfVersion version g in
+    let here : (g : FileWord) → IsFileOfVersion version g → ◌≡◌ {A = Option FileWord} (Some g) (Some f) → P (file_word g) = λ g r e. subst (Q (file_word g)) (some_same g f e) (refl, r) in
+    picked P word (codes "mesh") (Some file.Mesh) _ (Some f) (here file.Mesh tt)
+    (picked P word (codes "steps") (Some file.Steps) _ (Some f) (here file.Steps tt)
+    (picked_if P word (codes "log") (is_latest version) (Some file.Log) _ (Some f) (λ t. here file.Log (eqb-true version VERSION t))
+    (picked_if P word (codes "proof") (is_latest version) (Some file.Proof) None (Some f) (λ t. here file.Proof (eqb-true version VERSION t))
+    (λ e. absurd (let no : ⊥ = cc in no)))))
     h

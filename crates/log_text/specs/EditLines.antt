@@ -1,5 +1,5 @@
 -- The grammar of the lines that tell of blocks, passes and edits.
-use Rattle.std.specs.Prelude.{ℕ, ◌+◌, Bool, if◌then◌else◌, List, [], ◌∷◌, ◌++◌, length, drop, nat_lt, is_some, Result, Ok, Err, codes}
+use Rattle.std.specs.Prelude.{ℕ, ◌+◌, ◌&&◌, Bool, if◌then◌else◌, List, [], ◌∷◌, ◌++◌, length, drop, nat_lt, is_some, Result, Ok, Err, codes}
 use Rattle.std.specs.Str.{bytes_eq}
 use Rattle.edit_base.specs.declared.Asked.TheVariants as asked
 use Rattle.edit_base.specs.declared.Change.TheVariants as change
@@ -15,7 +15,7 @@ use Rattle.log_text.specs.declared.TheConstants.{TURN_MAX}
 use Rattle.log_text.specs.declared.log_line.LogLine.{LogLine}
 use Rattle.log_text.specs.declared.log_line.LogLine.TheVariants as line
 use Rattle.log_text.specs.Fields.{Reader, both}
-use Rattle.log_text.specs.Values.{edge_at, position_at, place_at, reason_of, reason_at, whole, alone}
+use Rattle.log_text.specs.Values.{is_latest, edge_at, position_at, place_at, reason_of, reason_at, whole, alone}
 
 -- ---- passes
 
@@ -23,15 +23,16 @@ use Rattle.log_text.specs.Values.{edge_at, position_at, place_at, reason_of, rea
 abbrev pub length_of : Bool → List (List ℕ) → Result ℕ TextWhy
 length_of ended words = whole ended 1 (spelled_at 0 LENGTH_MAX) words
 
--- pass: the kind, and the length of those that go by one
-unfoldable pub pass_of : Bool → List (List ℕ) → Result LogLine TextWhy
-pass_of ended [] = Err why.Short
-pass_of ended (kind ∷ words) =
+-- pass: the kind, and the length of those that go by one; only the version that is written tells of a pass by the sizing
+unfoldable pub pass_of : ℕ → Bool → List (List ℕ) → Result LogLine TextWhy
+pass_of version ended [] = Err why.Short
+pass_of version ended (kind ∷ words) =
     if bytes_eq kind (codes "split") then (length_of ended words >>= λ n. Ok (line.Pass (pass.Split n)))
     else if bytes_eq kind (codes "collapse") then (length_of ended words >>= λ n. Ok (line.Pass (pass.Collapse n)))
     else if bytes_eq kind (codes "flip") then alone ended (line.Pass pass.Flip) words
     else if bytes_eq kind (codes "zip") then (length_of ended words >>= λ n. Ok (line.Pass (pass.Zip n)))
     else if bytes_eq kind (codes "pinch") then alone ended (line.Pass pass.Pinch) words
+    else if bytes_eq kind (codes "fit") && is_latest version then alone ended line.PassFit words
     else Err why.Unknown
 
 -- ---- edits that are done
@@ -84,7 +85,7 @@ no_of version ended (edit ∷ words) =
 -- the line of a pass or an edit, by its first word
 unfoldable pub edit_of : ℕ → Bool → List ℕ → List (List ℕ) → Result LogLine TextWhy
 edit_of version ended first words =
-    if bytes_eq first (codes "pass") then pass_of ended words
+    if bytes_eq first (codes "pass") then pass_of version ended words
     else if bytes_eq first (codes "split") then split_of ended words
     else if bytes_eq first (codes "flip") then flip_of ended words
     else if bytes_eq first (codes "collapse") then collapse_of ended words

@@ -11,6 +11,8 @@ use Rattle.edit_base.specs.declared.Why.{Why}
 use Rattle.edit_base.specs.declared.Why.TheVariants as reason
 use Rattle.line_text.specs.declared.TextWhy.{TextWhy}
 use Rattle.line_text.specs.declared.TextWhy.TheVariants as why
+use Rattle.mesh_base.specs.declared.FileWord.{FileWord}
+use Rattle.mesh_base.specs.declared.FileWord.TheVariants as file
 use Rattle.mesh_base.specs.declared.How.{How}
 use Rattle.mesh_base.specs.declared.How.TheVariants.{Whole, Impulse, Zones, Halved, Zero}
 use Rattle.mesh_base.specs.declared.PairName.{PairName}
@@ -64,10 +66,17 @@ IsUseInRange (using.Box v) = IsFrom 1 ID_MAX v
 IsUseInRange using.NoField = Unit {0}
 IsUseInRange (using.Solid v) = IsFrom 1 ID_MAX v
 
--- Nesting is a reason of a text with groups alone.
+-- Nesting is a reason of a text with groups alone, and Order of no text that a log tells of.
 abbrev pub IsWhyOf : Bool → TextWhy → Type 0
+IsWhyOf groups why.Number = Unit {0}
+IsWhyOf groups why.Corner = Unit {0}
+IsWhyOf groups why.Range = Unit {0}
+IsWhyOf groups why.Short = Unit {0}
+IsWhyOf groups why.Long = Unit {0}
+IsWhyOf groups why.Unknown = Unit {0}
+IsWhyOf groups why.Continuation = Unit {0}
 IsWhyOf groups why.Nesting = groups ≡ true
-IsWhyOf groups _ = Unit {0}
+IsWhyOf groups why.Order = ⊥
 
 -- the numbers of a refusal; no groups are in a mesh file
 abbrev pub IsRefusalInRange : Refusal → Type 0
@@ -76,7 +85,7 @@ IsRefusalInRange (refusal.Missing name) = Unit {0}
 IsRefusalInRange (refusal.Mesh fault) = IsFrom 1 COUNT_MAX fault.line × IsWhyOf false fault.why
 IsRefusalInRange (refusal.Shape fault) = IsShapeInRange fault
 IsRefusalInRange (refusal.Meets pair) = IsPairInRange pair
-IsRefusalInRange (refusal.Steps fault) = IsFrom 1 COUNT_MAX fault.line
+IsRefusalInRange (refusal.Steps fault) = IsFrom 1 COUNT_MAX fault.line × IsWhyOf true fault.why
 IsRefusalInRange (refusal.StepUse at why) = IsFrom 1 COUNT_MAX at × IsUseInRange why
 
 -- ids up to the greatest: the smaller end from 1 on, and the larger above it
@@ -128,6 +137,7 @@ IsInRange (line.Block ids) = (2 ≤ length ids) × AreRising 1 ids
 IsInRange (line.Move s) = IsFrom 1 ID_MAX s.v
 IsInRange (line.Moved how) = IsHowInRange how
 IsInRange (line.Pass kind) = IsPassInRange kind
+IsInRange line.PassFit = Unit {0}
 IsInRange (line.Did done) = IsChangeInRange done
 IsInRange (line.No what why) = IsAskedInRange what × IsReasonInRange why
 IsInRange line.Group = Unit {0}
@@ -147,17 +157,29 @@ abbrev pub IsUseOfVersion : ℕ → UseWhy → Type 0
 IsUseOfVersion version (using.Solid v) = version ≡ VERSION
 IsUseOfVersion version _ = Unit {0}
 
--- no refusal in the old version tells of groups or solid vertices
+-- no file that the old version tells of is a log or a proof
+abbrev pub IsFileOfVersion : ℕ → FileWord → Type 0
+IsFileOfVersion version file.Mesh = Unit {0}
+IsFileOfVersion version file.Steps = Unit {0}
+IsFileOfVersion version file.Log = version ≡ VERSION
+IsFileOfVersion version file.Proof = version ≡ VERSION
+
+-- no refusal in the old version tells of groups, solid vertices, logs or proofs
 abbrev pub IsRefusalOfVersion : ℕ → Refusal → Type 0
+IsRefusalOfVersion version (refusal.Long name seen) = IsFileOfVersion version name
+IsRefusalOfVersion version (refusal.Missing name) = IsFileOfVersion version name
+IsRefusalOfVersion version (refusal.Mesh fault) = Unit {0}
+IsRefusalOfVersion version (refusal.Shape fault) = Unit {0}
+IsRefusalOfVersion version (refusal.Meets pair) = Unit {0}
 IsRefusalOfVersion version (refusal.Steps fault) = IsWhyOf (is_latest version) fault.why
 IsRefusalOfVersion version (refusal.StepUse at why) = IsUseOfVersion version why
-IsRefusalOfVersion version _ = Unit {0}
 
 -- The line is one of this version's lines: a first line names the version, and only the one that is written tells of solid
--- vertices and groups.
+-- vertices, of passes by the sizing, of groups, and of logs and proofs.
 abbrev pub IsOfVersion : ℕ → LogLine → Type 0
 IsOfVersion version (line.First v) = v ≡ version
 IsOfVersion version (line.Solid v) = version ≡ VERSION
+IsOfVersion version line.PassFit = version ≡ VERSION
 IsOfVersion version line.Group = version ≡ VERSION
 IsOfVersion version (line.Close kept) = version ≡ VERSION
 IsOfVersion version (line.No what why) = IsReasonOfVersion version why

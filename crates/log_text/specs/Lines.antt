@@ -34,6 +34,8 @@ use Rattle.log_text.specs.declared.log_line.Refusal.TheVariants as refusal
 abbrev pub file_word : FileWord → List ℕ
 file_word file.Mesh = codes "mesh"
 file_word file.Steps = codes "steps"
+file_word file.Log = codes "log"
+file_word file.Proof = codes "proof"
 
 -- the word of a text's reason
 abbrev pub why_word : TextWhy → List ℕ
@@ -45,6 +47,7 @@ why_word why.Long = codes "long"
 why_word why.Unknown = codes "unknown"
 why_word why.Continuation = codes "continuation"
 why_word why.Nesting = codes "nesting"
+why_word why.Order = codes "order"
 
 -- the smaller end, the larger end, and the face
 abbrev pub pair_words : PairName → List (List ℕ)
@@ -154,6 +157,7 @@ line_words (line.Block ids) = codes "block" ∷ map decimal ids
 line_words (line.Move s) = codes "move" ∷ decimal s.v ∷ signed_decimal s.by.x ∷ signed_decimal s.by.y ∷ signed_decimal s.by.z ∷ []
 line_words (line.Moved how) = codes "moved" ∷ how_words how
 line_words (line.Pass kind) = codes "pass" ∷ pass_words kind
+line_words line.PassFit = codes "pass" ∷ codes "fit" ∷ []
 line_words (line.Did done) = change_words done
 line_words (line.No what why) = codes "no" ∷ asked_words what ++ reason_words why
 line_words line.Group = codes "group" ∷ []

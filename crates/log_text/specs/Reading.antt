@@ -58,11 +58,13 @@ moved_of ended (how ∷ words) =
     else if bytes_eq how (codes "zero") then alone ended (line.Moved Zero) words
     else Err why.Unknown
 
--- the file that a word names
-unfoldable pub file_of : List ℕ → Option FileWord
-file_of word =
+-- the file that a word names by a version
+unfoldable pub file_of : ℕ → List ℕ → Option FileWord
+file_of version word =
     if bytes_eq word (codes "mesh") then Some file.Mesh
     else if bytes_eq word (codes "steps") then Some file.Steps
+    else if bytes_eq word (codes "log") && is_latest version then Some file.Log
+    else if bytes_eq word (codes "proof") && is_latest version then Some file.Proof
     else None
 
 -- a word that leads to no form
@@ -75,17 +77,17 @@ abbrev pub refused : Refusal → Result LogLine TextWhy
 refused why = Ok (line.Refused why)
 
 -- refused long: the file, and how much was seen of it
-unfoldable pub long_of : Bool → List (List ℕ) → Result LogLine TextWhy
-long_of ended [] = Err why.Short
-long_of ended (word ∷ words) = do
-  name ← or_unknown (file_of word)
+unfoldable pub long_of : ℕ → Bool → List (List ℕ) → Result LogLine TextWhy
+long_of version ended [] = Err why.Short
+long_of version ended (word ∷ words) = do
+  name ← or_unknown (file_of version word)
   seen ← whole ended 1 (spelled_at 0 SEEN_MAX) words
   refused (refusal.Long name seen)
 
 -- refused missing: the file
-unfoldable pub missing_of : Bool → List (List ℕ) → Result LogLine TextWhy
-missing_of ended [] = Err why.Short
-missing_of ended (word ∷ words) = or_unknown (file_of word) >>= λ name. alone ended (line.Refused (refusal.Missing name)) words
+unfoldable pub missing_of : ℕ → Bool → List (List ℕ) → Result LogLine TextWhy
+missing_of version ended [] = Err why.Short
+missing_of version ended (word ∷ words) = or_unknown (file_of version word) >>= λ name. alone ended (line.Refused (refusal.Missing name)) words
 
 -- refused shape: what is too many, or which corner, face or side is wrong
 unfoldable pub shape_of : Bool → List (List ℕ) → Result LogLine TextWhy
@@ -132,8 +134,8 @@ use_of version ended (at ∷ word ∷ words) = why_of_use version ended at word 
 unfoldable pub refused_of : ℕ → Bool → List (List ℕ) → Result LogLine TextWhy
 refused_of version ended [] = Err why.Short
 refused_of version ended (word ∷ words) =
-    if bytes_eq word (codes "long") then long_of ended words
-    else if bytes_eq word (codes "missing") then missing_of ended words
+    if bytes_eq word (codes "long") then long_of version ended words
+    else if bytes_eq word (codes "missing") then missing_of version ended words
     else if bytes_eq word (codes "mesh") then (whole ended 2 (fault_at false) words >>= λ fault. refused (refusal.Mesh fault))
     else if bytes_eq word (codes "shape") then shape_of ended words
     else if bytes_eq word (codes "meets") then (whole ended 3 pair_at words >>= λ pair. refused (refusal.Meets pair))

@@ -6,10 +6,10 @@ ghost use Rattle.log_text.specs.Fields.{both};
 ghost use Rattle.log_text.specs.Values.{edge_at};
 ghost use Rattle.log_text.specs.EditLines as spec;
 
-use crate::TURN_MAX;
 use crate::edit_values::{behind, edge_at, place_at, position_at, reason_at, reason_with_end};
 use crate::log_line::LogLine;
 use crate::values::{alone, count_at, only_count};
+use crate::{TURN_MAX, VERSION};
 use edit_base::{Asked, Change, PassKind, Why};
 use grid_base::{ID_MAX, LENGTH_MAX};
 use line_text::{Parts, TextWhy, count_with_end, is_word};
@@ -23,8 +23,8 @@ fn length(ended: bool, words: Parts<'_>) -> Result<u32, TextWhy>
 }
 
 #[tactic(auto, unfolding(crate::specs::EditLines::pass_of))]
-fn pass(ended: bool, words: Parts<'_>) -> Result<LogLine, TextWhy>
-    ensures { result ≡ spec.pass_of ended (parts_left words.entry) }
+fn pass(version: u8, ended: bool, words: Parts<'_>) -> Result<LogLine, TextWhy>
+    ensures { result ≡ spec.pass_of version ended (parts_left words.entry) }
 {
     let mut words = words;
     let Some(kind) = words.next() else {
@@ -47,6 +47,9 @@ fn pass(ended: bool, words: Parts<'_>) -> Result<LogLine, TextWhy>
     }
     if is_word(kind, b"pinch") {
         return alone(ended, LogLine::Pass(PassKind::Pinch), words);
+    }
+    if is_word(kind, b"fit") && version == VERSION {
+        return alone(ended, LogLine::PassFit, words);
     }
     Err(TextWhy::Unknown)
 }
@@ -193,7 +196,7 @@ pub(crate) fn edit(
     ensures { result ≡ spec.edit_of version ended form.now (parts_left words.entry) }
 {
     if is_word(form, b"pass") {
-        return pass(ended, words);
+        return pass(version, ended, words);
     }
     if is_word(form, b"split") {
         return split(ended, words);

@@ -17,6 +17,7 @@ mod values;
 pub use log_line::{Log, LogLine, Refusal};
 pub use printing::print_line;
 pub use reading::read_log;
+pub use values::pair_at;
 
 /// The version that is written, and by which a log is read whose first line names it.
 pub const VERSION: u8 = 2;

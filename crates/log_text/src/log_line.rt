@@ -43,6 +43,8 @@ pub enum LogLine {
     Moved(How),
     /// A pass begins.
     Pass(PassKind),
+    /// A pass by the sizing begins.
+    PassFit,
     /// An edit is done.
     Did(Change),
     /// An edit that was asked for isn't done.

@@ -17,6 +17,8 @@ fn file_word(file: FileWord) -> &'static [u8]
     match file {
         FileWord::Mesh => b"mesh",
         FileWord::Steps => b"steps",
+        FileWord::Log => b"log",
+        FileWord::Proof => b"proof",
     }
 }
 
@@ -32,6 +34,7 @@ fn why_word(why: TextWhy) -> &'static [u8]
         TextWhy::Unknown => b"unknown",
         TextWhy::Continuation => b"continuation",
         TextWhy::Nesting => b"nesting",
+        TextWhy::Order => b"order",
     }
 }
 
@@ -304,6 +307,7 @@ fn put_any(line: &LogLine, into: &mut Vec<u8>) -> Result<(), NoMemory>
         LogLine::Move(s) => print_move(*s, into),
         LogLine::Moved(how) => print_moved(*how, into),
         LogLine::Pass(pass) => print_pass(*pass, into),
+        LogLine::PassFit => put_words(&[Field::Text(b"pass"), Field::Text(b"fit")], into),
         LogLine::Did(change) => print_change(change, into),
         LogLine::No { what, why } => print_no(*what, *why, into),
         LogLine::Group => put_words(&[Field::Text(b"group")], into),

@@ -24,14 +24,14 @@ fn only_seen(ended: bool, words: Parts<'_>) -> Result<u64, TextWhy>
 }
 
 #[tactic(auto, unfolding(crate::specs::Reading::long_of))]
-fn long(ended: bool, words: Parts<'_>) -> Result<LogLine, TextWhy>
-    ensures { result ≡ spec.long_of ended (parts_left words.entry) }
+fn long(version: u8, ended: bool, words: Parts<'_>) -> Result<LogLine, TextWhy>
+    ensures { result ≡ spec.long_of version ended (parts_left words.entry) }
 {
     let mut words = words;
     let Some(word) = words.next() else {
         return Err(TextWhy::Short);
     };
-    match file_of(word) {
+    match file_of(version, word) {
         None => Err(TextWhy::Unknown),
         Some(file) => {
             let seen = only_seen(ended, words)?;
@@ -41,14 +41,14 @@ fn long(ended: bool, words: Parts<'_>) -> Result<LogLine, TextWhy>
 }
 
 #[tactic(auto, unfolding(crate::specs::Reading::missing_of))]
-fn missing(ended: bool, words: Parts<'_>) -> Result<LogLine, TextWhy>
-    ensures { result ≡ spec.missing_of ended (parts_left words.entry) }
+fn missing(version: u8, ended: bool, words: Parts<'_>) -> Result<LogLine, TextWhy>
+    ensures { result ≡ spec.missing_of version ended (parts_left words.entry) }
 {
     let mut words = words;
     let Some(word) = words.next() else {
         return Err(TextWhy::Short);
     };
-    match file_of(word) {
+    match file_of(version, word) {
         None => Err(TextWhy::Unknown),
         Some(file) => alone(ended, LogLine::Refused(Refusal::Missing { file }), words),
     }
@@ -176,10 +176,10 @@ pub(crate) fn refused(version: u8, ended: bool, words: Parts<'_>) -> Result<LogL
         return Err(TextWhy::Short);
     };
     if is_word(word, b"long") {
-        return long(ended, words);
+        return long(version, ended, words);
     }
     if is_word(word, b"missing") {
-        return missing(ended, words);
+        return missing(version, ended, words);
     }
     if is_word(word, b"mesh") {
         let fault = only_fault(false, ended, words)?;

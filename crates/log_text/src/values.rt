@@ -6,8 +6,8 @@ ghost use Rattle.log_text.specs.Reading as reading;
 ghost use Rattle.log_text.specs.Fields.{both};
 ghost use Rattle.log_text.specs.Values as spec;
 
-use crate::COUNT_MAX;
 use crate::log_line::LogLine;
+use crate::{COUNT_MAX, VERSION};
 use grid_base::{ID_MAX, SHIFT_MAX};
 use line_text::{
     Parts, TextFault, TextWhy, count_with_end, is_word, shift_with, spelled_at, spelled_from,
@@ -34,8 +34,10 @@ pub(crate) fn count_at(words: &mut Parts<'_>, low: u32, high: u32) -> Result<u32
     Ok(n as u32)
 }
 
+/// The pair that the next three words spell: the smaller end of an edge, its larger end, and a face; Number where a word spells
+/// none of them, and Short where there are fewer.
 #[tactic(auto, unfolding(crate::specs::Values::pair_at))]
-pub(crate) fn pair_at(words: &mut Parts<'_>) -> Result<PairName, TextWhy>
+pub fn pair_at(words: &mut Parts<'_>) -> Result<PairName, TextWhy>
     ensures { TakesParts words.old words.new result spec.pair_at }
 {
     let a = count_at(words, 1, ID_MAX)?;
@@ -167,14 +169,20 @@ pub(crate) fn alone(ended: bool, line: LogLine, words: Parts<'_>) -> Result<LogL
 }
 
 #[tactic(auto, unfolding(crate::specs::Reading::file_of))]
-pub(crate) fn file_of(word: &[u8]) -> Option<FileWord>
-    ensures { result ≡ reading.file_of word.now }
+pub(crate) fn file_of(version: u8, word: &[u8]) -> Option<FileWord>
+    ensures { result ≡ reading.file_of version word.now }
 {
     if is_word(word, b"mesh") {
         return Some(FileWord::Mesh);
     }
     if is_word(word, b"steps") {
         return Some(FileWord::Steps);
+    }
+    if is_word(word, b"log") && version == VERSION {
+        return Some(FileWord::Log);
+    }
+    if is_word(word, b"proof") && version == VERSION {
+        return Some(FileWord::Proof);
     }
     None
 }

@@ -238,6 +238,20 @@ fn put_latest(into: &mut Vec<u8>) -> Result<(), NoMemory> {
         no(Asked::Pinch { v: VertexId(3) }, Why::Solid),
         LogLine::Refused(Refusal::Steps(fault(9, TextWhy::Nesting))),
         LogLine::Refused(refused_use(2, UseWhy::Solid { v: 1 })),
+        LogLine::Refused(Refusal::Long {
+            file: FileWord::Log,
+            seen: 67_108_865,
+        }),
+        LogLine::Refused(Refusal::Long {
+            file: FileWord::Proof,
+            seen: 0,
+        }),
+        LogLine::Refused(Refusal::Missing {
+            file: FileWord::Log,
+        }),
+        LogLine::Refused(Refusal::Missing {
+            file: FileWord::Proof,
+        }),
     ];
     put(&lines, into)
 }
@@ -286,7 +300,8 @@ close kept\nend\n";
 
 // Each line that is of the version that is written alone.
 const LATEST: &[u8] = b"topo log 2\nsolid 2147483648\ngroup\nclose kept\nclose undone\n\
-no collapse 1 2 solid\nno pinch 3 solid\nrefused steps 9 nesting\nrefused use 2 solid 1\n";
+no collapse 1 2 solid\nno pinch 3 solid\nrefused steps 9 nesting\nrefused use 2 solid 1\n\
+refused long log 67108865\nrefused long proof 0\nrefused missing log\nrefused missing proof\n";
 
 const EDITED: &[u8] = b"topo log 1\nblock 1 2147483648\npass split 1073741824\n\
 split 1 2147483648 5 -268435456 268435456 0\nno split 1 2 hit 3 4 9\npass flip\nflip 1 2\n\
@@ -334,6 +349,7 @@ const NO_LOGS: [(TextWhy, &[u8]); 4] = [
     (
         TextWhy::Unknown,
         b"\n|# end\n|end\r\n| end\n|solid 3\n|topo lag\n|moved away\n|refused long log 9\n\
+|refused long proof 9\n|refused missing log\n|refused missing proof\n|refused log 3 number\n\
 |refused shape round\n|ended|pass jump 3\n|no jump 1 2 edge\n|solid 3|group\n|close kept\n|close",
     ),
     (
@@ -368,24 +384,27 @@ const NO_LOGS: [(TextWhy, &[u8]); 4] = [
 const NO_LATEST_LINES: [(TextWhy, &[u8]); 4] = [
     (
         TextWhy::Unknown,
-        b"\n|close now\n|close \n|closed kept\n|groups\n|group1\n|solids 3\n|topo lag\n|topo proof 1\n",
+        b"\n|close now\n|close \n|closed kept\n|groups\n|group1\n|solids 3\n|topo lag\n|topo proof 1\n\
+|refused long logs 9\n|refused missing proofs\n|refused log 3 number\n|refused proof 3 order\n\
+|refused replay 3\n|refused motion 4 nomotion\n",
     ),
     (
         TextWhy::Short,
         b"solid\n|solid 1|group|group 1|close\n|close|close kept|close undone|no pinch 1 solid\
-|refused use 3 solid\n|refused use 3 solid 1|topo log\n|topo log 2",
+|refused use 3 solid\n|refused use 3 solid 1|topo log\n|topo log 2|refused long log\n|refused missing proof",
     ),
     (
         TextWhy::Long,
         b"solid x 2\n|group 1\n|close kept 1\n|close undone x\n|no split 2 1 solid 3\n\
-|no pinch 0 solid 1\n|refused use 3 solid x 2\n|refused steps x nesting 4\n|topo log 1 2\n",
+|no pinch 0 solid 1\n|refused use 3 solid x 2\n|refused steps x nesting 4\n|topo log 1 2\n\
+|refused missing log 1\n|refused long proof 1 2\n",
     ),
     (
         TextWhy::Number,
         b"solid 0\n|solid 01\n|solid 2147483649\n|solid all\n|no split 2 1 solid\n\
 |no pinch 1 Solid\n|no pinch 1 solidly 1\n|refused use 3 solid 0\n|refused use 0 solid 1\n\
 |refused use 3 solids 1 2\n|refused steps 3 nested\n|refused steps 0 nesting\n|refused mesh 3 nesting\n\
-|topo log 1\n|topo log 3\n",
+|refused steps 3 order\n|refused mesh 3 order\n|refused long log 01\n|topo log 1\n|topo log 3\n",
     ),
 ];
 

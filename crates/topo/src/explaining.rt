@@ -48,11 +48,11 @@ pub(crate) fn names_of(alloc: Global, words: &[String]) -> Option<Names<'_>> {
     }
 }
 
-// The name of one of the two files.
+// The name of one of the two files. No command has a log or a proof as its other file yet.
 fn name_of<'a>(names: Names<'a>, file: FileWord) -> &'a str {
     match file {
         FileWord::Mesh => names.mesh,
-        FileWord::Steps => names.steps,
+        FileWord::Steps | FileWord::Log | FileWord::Proof => names.steps,
     }
 }
 
