@@ -3,7 +3,7 @@ use Rattle.std.proofs.Common.{◌≡◌, ◌++◌, List, [], ◌∷◌, refl, ap
 use Rattle.std.specs.List.{AllByRecursion}
 use Rattle.mesh_base.specs.Mesh.{Mesh}
 use Rattle.log_text.specs.declared.LogLine.{LogLine}
-use Rattle.log_text.specs.declared.LogLine.TheVariants.{Pass, Did, No}
+use Rattle.log_text.specs.declared.LogLine.TheVariants.{Pass, PassFit, Did, No}
 use Rattle.log_replay.specs.Replay.{Replay, replayed, after, at_mesh, EachAt}
 use Rattle.log_replay.specs.OfPass.{IsOfPass, AreOfPass}
 use Rattle.log_replay.specs.Laws.{ReplaysGoOn, PassesChangeTheMeshAlone}
@@ -38,6 +38,7 @@ of_pass_then (x ∷ xs) ys h k = (h.0, of_pass_then xs ys h.1 k)
 -- a line of a pass changes the mesh alone
 pub line_replays : (r : Replay) (line : LogLine) → IsOfPass line → replayed r line ≡ record r { mesh = (replayed (at_mesh r.mesh) line).mesh }
 line_replays r (Pass kind) h = refl
+line_replays r PassFit h = refl
 line_replays r (Did change) h = refl
 line_replays r (No what why) h = refl
 line_replays r line h = absurd h

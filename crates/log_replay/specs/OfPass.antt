@@ -2,11 +2,12 @@
 use Rattle.std.specs.Prelude.{⊤, List}
 use Rattle.std.specs.List.{AllByRecursion}
 use Rattle.log_text.specs.declared.LogLine.{LogLine}
-use Rattle.log_text.specs.declared.LogLine.TheVariants.{Pass, Did, No}
+use Rattle.log_text.specs.declared.LogLine.TheVariants.{Pass, PassFit, Did, No}
 
--- the line of a pass, of a done edit, or of one that is not done
+-- the line of a pass, by edges alike or by a sizing, of a done edit, or of one that is not done
 abbrev pub IsOfPass : LogLine → Type 0
 IsOfPass (Pass kind) = ⊤
+IsOfPass PassFit = ⊤
 IsOfPass (Did change) = ⊤
 IsOfPass (No what why) = ⊤
 IsOfPass _ = ⊥
