@@ -1,0 +1,4 @@
+pub mod Volume
+pub mod Shape
+pub mod Walk
+pub mod Laws

@@ -1,0 +1,16 @@
+pub mod TreeLaws
+pub mod TreeHalves
+pub mod MadeTrees
+pub mod Ways
+pub mod Decided
+pub mod NeedsTested
+pub mod WaySearch
+pub mod NeedsApart
+pub mod NeedingList
+pub mod Firsts
+pub mod AcceptanceLaws
+pub mod Rising
+pub mod AcceptSteps
+pub mod MakeSteps
+pub mod Deeper
+pub mod Doubled

@@ -1,0 +1,21 @@
+//! Certificates: proofs that no pair of a motion meets, which anyone can check, and their maker.
+#![tactic(auto)]
+
+mod accept;
+mod certificate;
+mod certificates;
+mod going;
+mod halves;
+pub mod laws;
+mod maker;
+mod needs;
+mod placed;
+mod scan;
+mod serving;
+mod trees;
+mod valid;
+
+pub use accept::accepts;
+pub use certificate::{Certificate, Claim, Entries, Entry, Made, Tree, Verdict, Way};
+pub use maker::certify;
+pub use valid::is_valid;
