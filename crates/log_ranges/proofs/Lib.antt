@@ -11,4 +11,5 @@ pub mod Ways
 pub mod StepLines
 pub mod ShapeFaults
 pub mod MeshText
+pub mod StepReasons
 pub mod Texts

@@ -1,19 +1,20 @@
 -- The lines of a pass are in range.
-use Rattle.std.proofs.Common.{◌≡◌, Bool, true, false, cond, List, [], ◌∷◌, refl}
+use Rattle.std.proofs.Common.{◌≡◌, Bool, true, false, cond, List, [], ◌∷◌, Option, Some, None, refl, subst}
 use Rattle.std.specs.List.{AllByRecursion}
 use Rattle.std.proofs.lemmas.List.Elements.{All-from_recursion}
 use Rattle.mesh_base.specs.Mesh.{Mesh, IsSound}
 use Rattle.mesh_base.specs.Sides.{IsClosed}
 use Rattle.mesh_base.proofs.ListedPairs.{all_joined}
 use Rattle.edit_base.specs.declared.Asked.{Asked}
+use Rattle.edit_base.specs.declared.PassKind.{PassKind}
 use Rattle.edit_base.specs.declared.answers.Edit.{Edit}
 use Rattle.edit_base.specs.declared.answers.Edit.TheVariants.{Done, No}
 use Rattle.edit_base.specs.Clauses.{mesh_after}
 use Rattle.edit_dispatch.specs.Dispatch.{edited}
 use Rattle.edit_dispatch.proofs.Asked.{asked_stays_sound, asked_stays_closed}
 use Rattle.log_text.specs.Laws.{IsAskedInRange}
-use Rattle.pass_run.specs.Candidates.{candidates}
-use Rattle.pass_run.specs.PassLines.{PassRules, rules_of, line_of, answer_by, lines_of, mesh_from, ends, lines_from, pass_lines}
+use Rattle.pass_run.specs.Candidates.{candidates, is_due, choice_in}
+use Rattle.pass_run.specs.PassLines.{PassRules, rules_of, line_of, answer_by, lines_asked, mesh_asked, lines_of, mesh_from, ends, lines_from, pass_lines}
 use Rattle.log_ranges.specs.Answers.{IsAnswerInRange}
 use Rattle.log_ranges.specs.Lines.{MayFollow, CandidatesAreInRange, PassLinesAreInRange}
 use Rattle.log_ranges.proofs.AskedAnswers.{answer_in_range}
@@ -32,7 +33,15 @@ answer_line : (what : Asked) (edit : Edit) → IsAskedInRange what → IsAnswerI
 answer_line what (Done change) asked answer = (answer, tt)
 answer_line what (No why) asked answer = ((asked, answer), tt)
 
-module _ (rules : PassRules) where
+-- what a kind of pass chooses is its candidate
+kind_chooses : (kind : PassKind) (m : Mesh) (what other : Asked) → choice_in kind m what ≡ Some other → IsAskedInRange what → IsAskedInRange other
+kind_chooses kind m what other e asked = by_test (is_due m kind what) e
+  where
+    by_test : (b : Bool) → cond b (Some what) None ≡ Some other → IsAskedInRange other
+    by_test true e = let same : what ≡ other = cc in subst IsAskedInRange same asked
+    by_test false e = absurd cc
+
+module _ (rules : PassRules) (chooses : (m : Mesh) (what other : Asked) → rules.choice m what ≡ Some other → IsAskedInRange what → IsAskedInRange other) where
   -- the mesh that an answer leaves
   left_good : (m : Mesh) → IsGood m → (what : Asked) (edit : Edit) → answer_by rules m what ≡ edit → IsGood (mesh_after edited m edit)
   left_good m good what (Done change) e = record {
@@ -41,15 +50,17 @@ module _ (rules : PassRules) where
   }
   left_good m good what (No why) e = good
 
-  -- what is asked, at its time
+  -- a candidate, at its turn
   one_in_range : (m : Mesh) → IsGood m → (what : Asked) → IsAskedInRange what → AllByRecursion MayFollow (lines_of rules m what) × IsGood (mesh_from rules m what)
-  one_in_range m good what asked = by_test (rules.due m what)
+  one_in_range m good what asked = by_call (rules.choice m what) refl
     where
-      by_test : (b : Bool) → AllByRecursion MayFollow (cond b (line_of what (answer_by rules m what) ∷ []) []) × IsGood (cond b (mesh_after edited m (answer_by rules m what)) m)
-      by_test true = ((answer_line what (answer_by rules m what) asked (answer_in_range rules.meets rules.depth what m good.sound good.closed), tt), left_good m good what (answer_by rules m what) refl)
-      by_test false = (tt, good)
+      by_call : (call : Option Asked) → rules.choice m what ≡ call → AllByRecursion MayFollow (lines_asked (answer_by rules m) call) × IsGood (mesh_asked (answer_by rules m) m call)
+      by_call (Some other) e =
+          let inside = chooses m what other e asked in
+          ((answer_line other (answer_by rules m other) inside (answer_in_range rules.meets rules.depth other m good.sound good.closed), tt), left_good m good other (answer_by rules m other) refl)
+      by_call None e = (tt, good)
 
-  -- all that is asked
+  -- all candidates
   all_in_range : (m : Mesh) → IsGood m → (all : List Asked) → AllByRecursion IsAskedInRange all → AllByRecursion MayFollow (lines_from rules m all)
   all_in_range m good [] asked = tt
   all_in_range m good (what ∷ rest) asked =
@@ -63,4 +74,4 @@ module _ (rules : PassRules) where
 
 pub pass_in_range : PassLinesAreInRange
 pass_in_range meets terms m sound closed kind = All-from_recursion MayFollow (pass_lines meets terms m)
-    ((kind, tt), all_in_range (rules_of meets terms) m (record { sound = sound; closed = closed }) (candidates m terms.kind) (asked_in_range m terms.kind sound))
+    ((kind, tt), all_in_range (rules_of meets terms) (kind_chooses terms.kind) m (record { sound = sound; closed = closed }) (candidates m terms.kind) (asked_in_range m terms.kind sound))

@@ -23,6 +23,7 @@ use Rattle.log_text.specs.Laws.{IsFrom, IsPassInRange, IsShapeInRange}
 use Rattle.log_ranges.specs.Texts.{MeshFaultsAreInRange, ShapeFaultsAreInRange, StepFaultsAreInRange, IsPlacedInRange, DirectivesAreInRange, DirectivesAreFew}
 use Rattle.log_ranges.proofs.MeshText.{line_count as mesh_lines, fault_at_line, few_given}
 use Rattle.log_ranges.proofs.ShapeFaults.{shape_in_range}
+use Rattle.log_ranges.proofs.StepReasons.{step_reason}
 
 -- lines of a text that is not too long are few
 counted : (n i : ℕ) → n ≤ TEXT_MAX → IsFrom 1 n i → IsFrom 1 COUNT_MAX i
@@ -48,7 +49,7 @@ few_lines : (bytes : List ℕ) (line : ℕ) → length bytes ≤ TEXT_MAX → Is
 few_lines bytes line short at = counted (line_count bytes) line (omega (arith, short, lines_are_few_lem bytes)) at
 
 pub step_faults_in_range : StepFaultsAreInRange
-step_faults_in_range bytes fault short e = few_lines bytes fault.line short (faults_are_on_lines_lem bytes fault e)
+step_faults_in_range bytes fault short e = (few_lines bytes fault.line short (faults_are_on_lines_lem bytes fault e), step_reason bytes fault e)
 
 -- the length of a pass, in a text and in a log
 pub pass_told : (kind : PassKind) → steps.IsPassInRange kind → IsPassInRange kind

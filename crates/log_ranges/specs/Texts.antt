@@ -23,7 +23,7 @@ ShapeFaultsAreInRange = (decimals : ℕ) (bytes : List ℕ) (lists : Lists) (fau
     length bytes ≤ TEXT_MAX → lists_of decimals bytes ≡ Ok lists → shape_fault (length lists.points) lists.faces ≡ Some fault →
     IsRefusalInRange (Shape fault)
 
--- a step text outside its grammar: the line
+-- a step text outside its grammar: the line, and a reason that a step text may have
 abbrev pub StepFaultsAreInRange : Type 0
 StepFaultsAreInRange = (bytes : List ℕ) (fault : TextFault) → length bytes ≤ TEXT_MAX → steps_of bytes ≡ Err fault → IsRefusalInRange (Steps fault)
 

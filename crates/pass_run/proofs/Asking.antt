@@ -1,5 +1,5 @@
 -- What is asked at its time, and what is left.
-use Rattle.std.proofs.Common.{suc, Bool, true, false, cond, ◌≡◌, ℕ, ◌+◌, ◌<◌, ◌≤◌, List, [], ◌∷◌, ◌++◌, Some, None, refl, ap, sym, ◌∙◌, length, drop, get_or, add-one, append_assoc, append-nil}
+use Rattle.std.proofs.Common.{suc, Bool, true, false, cond, ◌≡◌, ℕ, ◌+◌, ◌<◌, ◌≤◌, List, [], ◌∷◌, ◌++◌, Option, Some, None, refl, ap, sym, ◌∙◌, length, drop, get_or, add-one, append_assoc, append-nil}
 use Rattle.std.proofs.Math.Seq.{drop-cons}
 use Rattle.std.proofs.Math.ListN.{drop_of_length-le}
 use Rattle.mesh_base.specs.Mesh.{Mesh}
@@ -8,12 +8,11 @@ use Rattle.edit_base.specs.declared.Edit.{Edit}
 use Rattle.edit_base.specs.declared.Edit.TheVariants.{Done, No}
 use Rattle.edit_base.specs.Clauses.{mesh_after}
 use Rattle.log_text.specs.declared.LogLine.{LogLine}
-use Rattle.log_replay.specs.Replay.{Replay, replayed, after, at_mesh, mesh_after_lines}
+use Rattle.log_replay.specs.Replay.{Replay, replayed, after, at_mesh}
 use Rattle.log_replay.proofs.Replaying.{after_then}
 use Rattle.pass_run.specs.Candidates.{candidates}
-use Rattle.pass_run.specs.PassLines.{PassRules, rules_of, line_of, answer_by, lines_of, mesh_from, ends, lines_from, mesh_after_all}
+use Rattle.pass_run.specs.PassLines.{PassRules, rules_of, line_of, answer_by, lines_asked, mesh_asked, lines_of, mesh_from, ends, lines_from, mesh_after_all}
 use Rattle.pass_run.specs.Promises.{LinesTellTheMesh}
-use Rattle.pass_run.specs.Results.{line_due}
 use Rattle.pass_run.specs.Said.{LeadTo}
 use Rattle.pass_run.proofs.SaidLines.{ends_then}
 use Rattle.edit_dispatch.specs.Dispatch.{edited}
@@ -31,6 +30,11 @@ leads_where m end lines to made is = made ∙ ap at_mesh (sym is)
 pub leads_there : (m end : Mesh) (lines : List LogLine) (to : Mesh) → after (at_mesh m) lines ≡ at_mesh end → LeadTo lines m to → to ≡ end
 leads_there m end lines to made leads = ap (λ r. r.mesh) (sym leads ∙ made)
 
+-- the lines of what is asked, if anything, make the mesh that it leaves
+pub call_makes : (answer : Asked → Edit) (r : Replay) (call : Option Asked) → after r (lines_asked answer call) ≡ record r { mesh = mesh_asked answer r.mesh call }
+call_makes answer r (Some what) = line_makes r what (answer what)
+call_makes answer r None = refl
+
 module _ (rules : PassRules) where
   abbrev lines : Mesh → List Asked → List LogLine
   lines m all = lines_from rules m all
@@ -38,39 +42,11 @@ module _ (rules : PassRules) where
   abbrev last : Mesh → List Asked → Mesh
   last m all = mesh_after_all rules m all
 
-  -- what is not due has no line
-  pub none_due : (m : Mesh) (what : Asked) → line_due rules m what ≡ None → lines_of rules m what ≡ []
-  none_due m what = by_test (rules.due m what)
-    where
-      by_test : (b : Bool) → cond b (Some (line_of what (answer_by rules m what))) None ≡ None → cond b (line_of what (answer_by rules m what) ∷ []) [] ≡ []
-      by_test true e = cc
-      by_test false e = refl
-
-  -- and leaves the mesh
-  pub none_changes : (m : Mesh) (what : Asked) → line_due rules m what ≡ None → mesh_from rules m what ≡ m
-  none_changes m what = by_test (rules.due m what)
-    where
-      by_test : (b : Bool) → cond b (Some (line_of what (answer_by rules m what))) None ≡ None → cond b (mesh_after edited m (answer_by rules m what)) m ≡ m
-      by_test true e = cc
-      by_test false e = refl
-
-  -- what is due has one
-  pub one_due : (m : Mesh) (what : Asked) (line : LogLine) → line_due rules m what ≡ Some line → lines_of rules m what ≡ line ∷ []
-  one_due m what line = by_test (rules.due m what)
-    where
-      by_test : (b : Bool) → cond b (Some (line_of what (answer_by rules m what))) None ≡ Some line → cond b (line_of what (answer_by rules m what) ∷ []) [] ≡ line ∷ []
-      by_test true e = let same : line_of what (answer_by rules m what) ≡ line = cc in ap (λ l. l ∷ []) same
-      by_test false e = cc
-
-  -- the lines of what is asked make the mesh that it leaves
+  -- and so do those of a candidate
   pub asked_makes : (r : Replay) (what : Asked) → after r (lines_of rules r.mesh what) ≡ record r { mesh = mesh_from rules r.mesh what }
-  asked_makes r what = by_test (rules.due r.mesh what)
-    where
-      by_test : (b : Bool) → after r (cond b (line_of what (answer_by rules r.mesh what) ∷ []) []) ≡ record r { mesh = cond b (mesh_after edited r.mesh (answer_by rules r.mesh what)) r.mesh }
-      by_test true = line_makes r what (answer_by rules r.mesh what)
-      by_test false = refl
+  asked_makes r what = call_makes (answer_by rules r.mesh) r (rules.choice r.mesh what)
 
-  -- and so do those of all that is asked
+  -- and so do those of all candidates
   pub lines_make : (r : Replay) (all : List Asked) → after r (lines_from rules r.mesh all) ≡ record r { mesh = mesh_after_all rules r.mesh all }
   lines_make r [] = refl
   lines_make r (what ∷ rest) =
@@ -123,12 +99,3 @@ next_one items i e inside at = drop-cons items i e inside ∙ ap (λ t. t ∷ dr
 -- none is left
 pub none_left : {X : Type 0} (items : List X) (i : ℕ) → length items ≤ i → drop i items ≡ []
 none_left items i over = drop_of_length-le items over
-
--- the lines of the next of a list, and then those of the others
-pub left_here : (rules : PassRules) (m : Mesh) (items : List Asked) (i : ℕ) (what : Asked) → i < length items → what ≡ get_or items i what
-    → lines_from rules m (drop i items)
-    ≡ lines_of rules m what ++ cond (ends rules.grouped (lines_of rules m what)) [] (lines_from rules (mesh_after_lines m (lines_of rules m what)) (drop (i + 1) items))
-left_here rules m items i what inside at =
-    let here = lines_of rules m what in
-    ap (lines_from rules m) (next_one items i what inside at)
-    ∙ ap (λ n. here ++ cond (ends rules.grouped here) [] (lines_from rules n (drop (i + 1) items))) (sym (ap (λ r. r.mesh) (asked_makes rules (at_mesh m) what)))

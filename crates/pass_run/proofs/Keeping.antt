@@ -20,7 +20,7 @@ use Rattle.log_replay.specs.Replay.{Replay, at_mesh}
 use Rattle.log_replay.specs.Safe.{NoSolidMoves, LineKeepsTheMesh, LinesKeepTheMesh}
 use Rattle.log_replay.proofs.Replaying.{each_then}
 use Rattle.pass_run.specs.Candidates.{candidates}
-use Rattle.pass_run.specs.PassLines.{PassRules, rules_of, terms_of, line_of, answer_by, lines_of, mesh_from, ends, lines_from, mesh_after_all, lines_due}
+use Rattle.pass_run.specs.PassLines.{PassRules, rules_of, terms_of, line_of, answer_by, lines_asked, mesh_asked, lines_of, mesh_from, ends, lines_from, mesh_after_all, lines_due}
 use Rattle.pass_run.specs.Promises.{PassesKeepTheMesh}
 use Rattle.pass_run.proofs.Asking.{asked_makes}
 use Rattle.pass_run.proofs.SolidEdits.{none_moves}
@@ -45,16 +45,14 @@ module _ (meets : Positions → Bool) (exact : IsExact meets) (depth : ℕ) wher
 module _ (rules : PassRules) (exact : IsExact rules.meets) where
   -- what is asked, at its time
   one_keeps : (r : Replay) → IsValidSurface r.mesh → (what : Asked) → LinesKeepTheMesh r (lines_of rules r.mesh what) × IsValidSurface (mesh_from rules r.mesh what)
-  one_keeps r good what = by_test (rules.due r.mesh what) (asked_keeps rules.meets exact rules.depth r good what)
+  one_keeps r good what = by_call (rules.choice r.mesh what)
     where
-      by_test : (b : Bool)
-          → LinesKeepTheMesh r (line_of what (answer_by rules r.mesh what) ∷ []) × IsValidSurface (mesh_after edited r.mesh (answer_by rules r.mesh what))
-          → LinesKeepTheMesh r (cond b (line_of what (answer_by rules r.mesh what) ∷ []) []) × IsValidSurface (cond b (mesh_after edited r.mesh (answer_by rules r.mesh what)) r.mesh)
-      by_test true kept = kept
-      by_test false kept = (tt, good)
+      by_call : (call : Option Asked) → LinesKeepTheMesh r (lines_asked (answer_by rules r.mesh) call) × IsValidSurface (mesh_asked (answer_by rules r.mesh) r.mesh call)
+      by_call (Some other) = asked_keeps rules.meets exact rules.depth r good other
+      by_call None = (tt, good)
 
   -- all that is asked
-  all_keep : (r : Replay) → IsValidSurface r.mesh → (all : List Asked) → LinesKeepTheMesh r (lines_from rules r.mesh all) × IsValidSurface (mesh_after_all rules r.mesh all)
+  pub all_keep : (r : Replay) → IsValidSurface r.mesh → (all : List Asked) → LinesKeepTheMesh r (lines_from rules r.mesh all) × IsValidSurface (mesh_after_all rules r.mesh all)
   all_keep r good [] = (tt, good)
   all_keep r good (what ∷ rest) = by_test (ends rules.grouped here) (all_keep (record r { mesh = next }) kept.1 rest)
     where

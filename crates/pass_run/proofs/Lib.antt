@@ -11,3 +11,9 @@ pub mod Room
 pub mod Reading
 pub mod Replaying
 pub mod SinkFaults
+pub mod Calling
+pub mod Turning
+pub mod Chosen
+pub mod Squares
+pub mod Fitted
+pub mod Again

@@ -22,7 +22,7 @@ use Rattle.log_text.specs.declared.LogLine.{LogLine}
 use Rattle.pass_run.specs.Candidates.{candidates, is_due, zip_of, with_later}
 use Rattle.pass_run.specs.Near.{is_near, near_zips}
 use Rattle.log_replay.specs.Replay.{at_mesh, mesh_after_lines}
-use Rattle.pass_run.specs.PassLines.{PassRules, exactly, line_of, answer_by, lines_of, mesh_from, ends, lines_from, mesh_after_all}
+use Rattle.pass_run.specs.PassLines.{PassRules, exactly, answer_by, lines_asked, mesh_asked, lines_of, mesh_from, ends, lines_from, mesh_after_all}
 use Rattle.pass_run.specs.declared.terms.PassTerms.{PassTerms}
 use Rattle.pass_run.specs.Said.{LeadTo}
 use Rattle.pass_run.proofs.FarApart.{far_apart}
@@ -31,7 +31,7 @@ use Rattle.pass_run.proofs.Asking.{lines_make, leads_there, lines_then, next_one
 -- ---- what is never due
 module _ (rules : PassRules) {X : Type 0} (ask : X → Asked) (Keeps : Mesh → Type 0) (p : X → Bool)
     (stays : (m : Mesh) (x : X) → Keeps m → Keeps (mesh_from rules m (ask x)))
-    (never : (m : Mesh) (x : X) → Keeps m → p x ≡ false → rules.due m (ask x) ≡ false) where
+    (never : (m : Mesh) (x : X) → Keeps m → p x ≡ false → rules.choice m (ask x) ≡ None) where
   abbrev lines : Mesh → List Asked → List LogLine
   lines m all = lines_from rules m all
 
@@ -47,13 +47,13 @@ module _ (rules : PassRules) {X : Type 0} (ask : X → Asked) (Keeps : Mesh → 
       by_test : (b : Bool) → p x ≡ b → ((n : Mesh) → Keeps n → lines n (map ask xs) ≡ lines n (map ask (filter p xs)))
           → lines m (ask x ∷ map ask xs) ≡ lines m (map ask (cond b (x ∷ filter p xs) (filter p xs)))
       by_test true e rest = ap (λ l. lines_of rules m (ask x) ++ cond (ends rules.grouped (lines_of rules m (ask x))) [] l) (rest (mesh_from rules m (ask x)) (stays m x keeps))
-      by_test false e rest = skipped (rules.due m (ask x)) (never m x keeps e)
+      by_test false e rest = skipped (rules.choice m (ask x)) (never m x keeps e)
         where
-          skipped : (d : Bool) → d ≡ false →
-              (let here = cond d (line_of (ask x) (answer_by rules m (ask x)) ∷ []) [] in
-              here ++ cond (ends rules.grouped here) [] (lines (cond d (mesh_after edited m (answer_by rules m (ask x))) m) (map ask xs))) ≡ lines m (map ask (filter p xs))
-          skipped false h = nothing rules.grouped ∙ rest m keeps
-          skipped true h = cc
+          skipped : (call : Option Asked) → call ≡ None →
+              (let here = lines_asked (answer_by rules m) call in
+              here ++ cond (ends rules.grouped here) [] (lines (mesh_asked (answer_by rules m) m call) (map ask xs))) ≡ lines m (map ask (filter p xs))
+          skipped None h = nothing rules.grouped ∙ rest m keeps
+          skipped (Some what) h = cc
 
 -- ---- a zip moves nothing
 zip_mesh_points : (m : Mesh) (s t : Edge) (turn : ℕ) → (zip_mesh m s t turn).points ≡ m.points
@@ -71,23 +71,23 @@ zip_keeps_points rules m e f = left_points m _ _ (λ turn. Zip (edge_of m e.0 e.
     again : ℕ × ℕ → Edge
     again g = edge_of m (edge_of m g.0 g.1).a (edge_of m g.0 g.1).b
 
-one_keeps_points : (rules : PassRules) (m : Mesh) (e f : ℕ × ℕ) → (mesh_from rules m (zip_of e f)).points ≡ m.points
-one_keeps_points rules m e f = by_test (rules.due m (zip_of e f))
+one_keeps_points : (terms : PassTerms) (m : Mesh) (e f : ℕ × ℕ) → (mesh_from (exactly terms) m (zip_of e f)).points ≡ m.points
+one_keeps_points terms m e f = by_test (is_due m terms.kind (zip_of e f))
   where
-    by_test : (b : Bool) → (cond b (mesh_after edited m (answer_by rules m (zip_of e f))) m).points ≡ m.points
-    by_test true = zip_keeps_points rules m e f
+    by_test : (b : Bool) → (mesh_asked (answer_by (exactly terms) m) m (cond b (Some (zip_of e f)) None)).points ≡ m.points
+    by_test true = zip_keeps_points (exactly terms) m e f
     by_test false = refl
 
-pub all_keep_points : (rules : PassRules) (m : Mesh) (e : ℕ × ℕ) (fs : List (ℕ × ℕ)) → (mesh_after_all rules m (map (zip_of e) fs)).points ≡ m.points
-all_keep_points rules m e [] = refl
-all_keep_points rules m e (f ∷ fs) = by_test (ends rules.grouped (lines_of rules m (zip_of e f))) (all_keep_points rules next e fs)
+pub all_keep_points : (terms : PassTerms) (m : Mesh) (e : ℕ × ℕ) (fs : List (ℕ × ℕ)) → (mesh_after_all (exactly terms) m (map (zip_of e) fs)).points ≡ m.points
+all_keep_points terms m e [] = refl
+all_keep_points terms m e (f ∷ fs) = by_test (ends terms.grouped (lines_of (exactly terms) m (zip_of e f))) (all_keep_points terms next e fs)
   where
     next : Mesh
-    next = mesh_from rules m (zip_of e f)
+    next = mesh_from (exactly terms) m (zip_of e f)
 
-    by_test : (b : Bool) → (mesh_after_all rules next (map (zip_of e) fs)).points ≡ next.points → (cond b next (mesh_after_all rules next (map (zip_of e) fs))).points ≡ m.points
-    by_test true h = one_keeps_points rules m e f
-    by_test false h = h ∙ one_keeps_points rules m e f
+    by_test : (b : Bool) → (mesh_after_all (exactly terms) next (map (zip_of e) fs)).points ≡ next.points → (cond b next (mesh_after_all (exactly terms) next (map (zip_of e) fs))).points ≡ m.points
+    by_test true h = one_keeps_points terms m e f
+    by_test false h = h ∙ one_keeps_points terms m e f
 
 -- ---- near or not
 near_by_points : (m n : Mesh) (within : ℕ) (e f : ℕ × ℕ) → n.points ≡ m.points → is_near n within e f ≡ is_near m within e f
@@ -111,11 +111,18 @@ first_then e (f ∷ es) rest = ap (λ l. zip_of e f ∷ l) (first_then e es rest
 abbrev pub pairs_left : PassRules → Mesh → List (ℕ × ℕ) → List LogLine
 pairs_left rules m es = lines_from rules m (map (λ p. zip_of p.0 p.1) (with_later es))
 
-module _ (rules : PassRules) (within : ℕ) (never : (m : Mesh) (e f : ℕ × ℕ) → is_near m within e f ≡ false → rules.due m (zip_of e f) ≡ false) where
+-- what is not near is never asked in a pass that zips
+never_asked : (terms : PassTerms) (within : ℕ) → terms.kind ≡ kinds.Zip within → (m : Mesh) (e f : ℕ × ℕ) → is_near m within e f ≡ false → (exactly terms).choice m (zip_of e f) ≡ None
+never_asked terms within zips m e f off = ap (λ b. cond b (Some (zip_of e f)) None) (off_is_not_due terms within zips m e f off)
+
+module _ (terms : PassTerms) (within : ℕ) (zips : terms.kind ≡ kinds.Zip within) where
+  abbrev rules : PassRules
+  rules = exactly terms
+
   near_lines : (m : Mesh) (e : ℕ × ℕ) (es : List (ℕ × ℕ)) → lines_from rules m (map (zip_of e) es) ≡ lines_from rules m (near_zips m within e es)
   near_lines m e es = lines_of_due rules (zip_of e) (λ n. n.points ≡ m.points) (is_near m within e)
-      (λ n f same. one_keeps_points rules n e f ∙ same)
-      (λ n f same off. never n e f (near_by_points m n within e f same ∙ off))
+      (λ n f same. one_keeps_points terms n e f ∙ same)
+      (λ n f same off. never_asked terms within zips n e f (near_by_points m n within e f same ∙ off))
       m refl es
 
   -- the lines of its near pairs, and then those of the later edges
@@ -139,15 +146,11 @@ module _ (rules : PassRules) (within : ℕ) (never : (m : Mesh) (e f : ℕ × �
       subst P (sym is) (pairs_next m items i e inside at)
 
 -- and its points stay
-pub points_stay : (rules : PassRules) (within : ℕ) (m next : Mesh) (items : List (ℕ × ℕ)) (e : ℕ × ℕ) (all : List Asked) → all ≡ near_zips m within e items → LeadTo (lines_from rules m all) m next → next.points ≡ m.points
-points_stay rules within m next items e all is leads =
-    ap (λ n. n.points) (leads_there m (mesh_after_all rules m all) (lines_from rules m all) next (lines_make rules (at_mesh m) all) leads)
-    ∙ ap (λ l. (mesh_after_all rules m l).points) is
-    ∙ all_keep_points rules m e (filter (is_near m within e) items)
-
--- what is not near is never due in a pass that zips
-pub never_due : (terms : PassTerms) (within : ℕ) → terms.kind ≡ kinds.Zip within → (m : Mesh) (e f : ℕ × ℕ) → is_near m within e f ≡ false → (exactly terms).due m (zip_of e f) ≡ false
-never_due terms within zips m e f off = off_is_not_due terms within zips m e f off
+pub points_stay : (terms : PassTerms) (within : ℕ) (m next : Mesh) (items : List (ℕ × ℕ)) (e : ℕ × ℕ) (all : List Asked) → all ≡ near_zips m within e items → LeadTo (lines_from (exactly terms) m all) m next → next.points ≡ m.points
+points_stay terms within m next items e all is leads =
+    ap (λ n. n.points) (leads_there m (mesh_after_all (exactly terms) m all) (lines_from (exactly terms) m all) next (lines_make (exactly terms) (at_mesh m) all) leads)
+    ∙ ap (λ l. (mesh_after_all (exactly terms) m l).points) is
+    ∙ all_keep_points terms m e (filter (is_near m within e) items)
 
 -- all pairs are left
 pub all_pairs_left : (rules : PassRules) (kind : PassKind) (within : ℕ) → kind ≡ kinds.Zip within → (m : Mesh) (items : List (ℕ × ℕ)) → items ≡ edges m → pairs_left rules m items ≡ lines_from rules m (candidates m kind)

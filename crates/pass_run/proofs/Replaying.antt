@@ -1,5 +1,5 @@
 -- The lines of a pass are lines that a pass may have.
-use Rattle.std.proofs.Common.{Bool, true, false, cond, List, [], ◌∷◌}
+use Rattle.std.proofs.Common.{Bool, true, false, cond, List, [], ◌∷◌, Option, Some, None}
 use Rattle.grid_base.specs.declared.Positions.{Positions}
 use Rattle.mesh_base.specs.Mesh.{Mesh}
 use Rattle.edit_base.specs.declared.Asked.{Asked}
@@ -9,7 +9,7 @@ use Rattle.log_replay.specs.OfPass.{IsOfPass, AreOfPass}
 use Rattle.log_replay.proofs.Replaying.{of_pass_then}
 use Rattle.pass_run.specs.declared.terms.PassTerms.{PassTerms}
 use Rattle.pass_run.specs.Candidates.{candidates}
-use Rattle.pass_run.specs.PassLines.{PassRules, rules_of, line_of, answer_by, lines_of, mesh_from, ends, lines_from, pass_lines}
+use Rattle.pass_run.specs.PassLines.{PassRules, rules_of, line_of, answer_by, lines_asked, lines_of, mesh_from, ends, lines_from, pass_lines}
 
 line_is : (what : Asked) (answer : Edit) → IsOfPass (line_of what answer)
 line_is what (edit.Done change) = tt
@@ -17,11 +17,11 @@ line_is what (edit.No why) = tt
 
 module _ (rules : PassRules) where
   one_is : (m : Mesh) (what : Asked) → AreOfPass (lines_of rules m what)
-  one_is m what = by_test (rules.due m what)
+  one_is m what = by_call (rules.choice m what)
     where
-      by_test : (b : Bool) → AreOfPass (cond b (line_of what (answer_by rules m what) ∷ []) [])
-      by_test true = (line_is what (answer_by rules m what), tt)
-      by_test false = tt
+      by_call : (call : Option Asked) → AreOfPass (lines_asked (answer_by rules m) call)
+      by_call (Some other) = (line_is other (answer_by rules m other), tt)
+      by_call None = tt
 
   lines_are : (m : Mesh) (all : List Asked) → AreOfPass (lines_from rules m all)
   lines_are m [] = tt

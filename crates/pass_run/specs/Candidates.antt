@@ -1,5 +1,5 @@
--- What a pass asks, in order, and when what is asked is due.
-use Rattle.std.specs.Prelude.{ℕ, ◌*◌, ◌&&◌, not, Bool, List, [], ◌∷◌, ◌++◌, map, length, nat_le, ℤ, pos, ◌*ℤ◌, int_lt, int_le, Option, Some, None}
+-- The candidates of a pass, in order, and when each is due.
+use Rattle.std.specs.Prelude.{ℕ, ◌*◌, ◌&&◌, not, Bool, List, [], ◌∷◌, ◌++◌, map, length, nat_le, ℤ, pos, ◌*ℤ◌, int_lt, int_le, Option, Some, None, if◌then◌else◌}
 use Rattle.std.specs.FinMap as finite
 use Rattle.grid_base.specs.Triples.{minus}
 use Rattle.edit_base.specs.declared.Asked.{Asked}
@@ -89,6 +89,6 @@ is_due m kind (asked.Flip a b) =
 is_due m kind (asked.Zip a b e f) = is_zip_ready m a b e f && are_near m a b e f (limit_of kind)
 is_due m kind (asked.Pinch v) = nat_le 2 (length (fans m v))
 
--- the condition of a kind of pass
-abbrev pub due_in : PassKind → Mesh → Asked → Bool
-due_in kind m what = is_due m kind what
+-- what is asked at a candidate's turn: the candidate itself where it is due, and else nothing
+abbrev pub choice_in : PassKind → Mesh → Asked → Option Asked
+choice_in kind m what = if is_due m kind what then Some what else None

@@ -2,6 +2,9 @@ pub mod Candidates
 pub mod Near
 pub mod PassLines
 pub mod Results
+pub mod Turns
 pub mod Said
 pub mod Promises
 pub mod Faults
+pub mod Fits
+pub mod Again

@@ -1,5 +1,5 @@
 -- The lines of a pass, and the mesh that it leaves.
-use Rattle.std.specs.Prelude.{ℕ, ◌&&◌, Bool, true, false, List, [], ◌∷◌, ◌++◌, length, if◌then◌else◌}
+use Rattle.std.specs.Prelude.{ℕ, ◌&&◌, Bool, true, false, List, [], ◌∷◌, ◌++◌, length, Option, Some, None, if◌then◌else◌}
 use Rattle.std.specs.List.{filter, list_any}
 use Rattle.grid_base.specs.declared.Positions.{Positions}
 use Rattle.grid_decided.specs.Decided.{meets_exactly}
@@ -13,19 +13,19 @@ use Rattle.edit_base.specs.Clauses.{mesh_after}
 use Rattle.log_text.specs.declared.LogLine.{LogLine}
 use Rattle.log_text.specs.declared.LogLine.TheVariants as line
 use Rattle.pass_run.specs.declared.terms.PassTerms.{PassTerms}
-use Rattle.pass_run.specs.Candidates.{candidates, due_in}
+use Rattle.pass_run.specs.Candidates.{candidates, choice_in}
 
--- By what a pass answers: a test that tells whether five positions meet, the condition that what is asked is to meet in a mesh, the
--- number of time halvings of the written test, and whether the first `no` line ends the pass.
+-- By what a pass answers: a test that tells whether five positions meet, what is asked at a candidate's turn in a mesh, if anything,
+-- the number of time halvings of the written test, and whether the first `no` line ends the pass.
 pub record PassRules : Type 0 where
   pub meets : Positions → Bool
-  pub due : Mesh → Asked → Bool
+  pub choice : Mesh → Asked → Option Asked
   pub depth : ℕ
   pub grouped : Bool
 
 -- those of a pass that goes by these terms, with a test
 abbrev pub rules_of : (Positions → Bool) → PassTerms → PassRules
-rules_of meets terms = record { meets = meets; due = due_in terms.kind; depth = terms.depth; grouped = terms.grouped }
+rules_of meets terms = record { meets = meets; choice = choice_in terms.kind; depth = terms.depth; grouped = terms.grouped }
 
 -- the same with the exact test
 abbrev pub exactly : PassTerms → PassRules
@@ -58,30 +58,42 @@ refused_in lines = length (filter is_refused lines)
 abbrev pub ends : Bool → List LogLine → Bool
 ends grouped lines = grouped && list_any is_refused lines
 
--- ---- what is asked, at its time
+-- ---- what is asked, if anything
 
--- what the edit answers
+-- the lines of what is asked: that of its answer, or none where nothing is
+abbrev pub lines_asked : (Asked → Edit) → Option Asked → List LogLine
+lines_asked answer (Some what) = line_of what (answer what) ∷ []
+lines_asked answer None = []
+
+-- the mesh that it leaves
+abbrev pub mesh_asked : (Asked → Edit) → Mesh → Option Asked → Mesh
+mesh_asked answer m (Some what) = mesh_after edited m (answer what)
+mesh_asked answer m None = m
+
+-- ---- a candidate, at its turn
+
+-- what an edit answers
 abbrev pub answer_by : PassRules → Mesh → Asked → Edit
 answer_by rules m what = answer_to rules.meets m rules.depth what
 
--- its lines: that of its answer where it is due, and none otherwise
+-- the lines of what is asked at the turn
 abbrev pub lines_of : PassRules → Mesh → Asked → List LogLine
-lines_of rules m what = if rules.due m what then line_of what (answer_by rules m what) ∷ [] else []
+lines_of rules m what = lines_asked (answer_by rules m) (rules.choice m what)
 
 -- the mesh that it leaves
 abbrev pub mesh_from : PassRules → Mesh → Asked → Mesh
-mesh_from rules m what = if rules.due m what then mesh_after edited m (answer_by rules m what) else m
+mesh_from rules m what = mesh_asked (answer_by rules m) m (rules.choice m what)
 
--- ---- all that is asked
+-- ---- all candidates
 
--- the lines, from a mesh on, of what is asked, each of which finds the mesh that the one before it leaves
+-- the lines, from a mesh on, of candidates, each of which finds the mesh that the one before it leaves
 abbrev pub lines_from : PassRules → Mesh → List Asked → List LogLine
 lines_from rules m [] = []
 lines_from rules m (what ∷ rest) =
     let lines = lines_of rules m what in
     lines ++ (if ends rules.grouped lines then [] else lines_from rules (mesh_from rules m what) rest)
 
--- the mesh after all of it
+-- the mesh after all of them
 abbrev pub mesh_after_all : PassRules → Mesh → List Asked → Mesh
 mesh_after_all rules m [] = m
 mesh_after_all rules m (what ∷ rest) =

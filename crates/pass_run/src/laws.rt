@@ -1,6 +1,7 @@
 //! Laws of passes. Each is the contract of a function that does nothing.
 
 ghost use Rattle.pass_run.specs.Promises.{LinesTellTheMesh, PassesKeepTheMesh};
+ghost use Rattle.pass_run.specs.Again.{PassesAreAgain};
 
 /// The lines of a pass, replayed one after another from its opening mesh, give the mesh that it leaves, and change nothing else
 /// of the replay.
@@ -13,4 +14,10 @@ pub fn lines_tell_the_mesh()
 /// the pass leaves.
 pub fn passes_keep_the_mesh()
     ensures { PassesKeepTheMesh }
+{}
+
+/// A pass over any mesh, tested to a depth within the limit: each edit that its lines tell as done, asked for again in the mesh
+/// that the lines before it make, and tested to the greatest depth, is done with the same ids, points and turn.
+pub fn edits_of_passes_are_done_again()
+    ensures { PassesAreAgain }
 {}

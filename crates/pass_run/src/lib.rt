@@ -1,7 +1,9 @@
 //! Passes over a mesh: each candidate in turn, with the line of each edit.
 #![tactic(auto)]
 
+mod choosing;
 mod faults;
+mod fitting;
 pub mod laws;
 mod lengths;
 mod listing;
@@ -11,5 +13,6 @@ mod terms;
 mod turns;
 
 pub use faults::PassFault;
+pub use fitting::fit_pass;
 pub use passing::{PassCount, pass};
 pub use terms::PassTerms;

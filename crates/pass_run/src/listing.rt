@@ -18,7 +18,7 @@ pub(crate) fn pairs_within(kind: PassKind) -> Option<u32>
 }
 
 /// The splits of all edges.
-fn splits<S: Surface>(alloc: Global, mesh: &S) -> Result<Vec<Asked>, NoMemory>
+pub(crate) fn splits<S: Surface>(alloc: Global, mesh: &S) -> Result<Vec<Asked>, NoMemory>
     ensures { IfOk result (λ found. found.items ≡ all_splits (S.mesh mesh.now)) }
 {
     let edges = edges_in_order(alloc, mesh)?;

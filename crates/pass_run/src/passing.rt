@@ -8,15 +8,17 @@ ghost use Rattle.outside_io.specs.Causes.{Rose};
 ghost use Rattle.log_replay.specs.Replay.{at_mesh};
 ghost use Rattle.log_replay.specs.Safe.{LinesKeepTheMesh};
 ghost use Rattle.pass_run.specs.Candidates.{candidates};
-ghost use Rattle.pass_run.specs.PassLines.{exactly, lines_of, lines_from, lines_due, mesh_due, done_in, refused_in};
-ghost use Rattle.pass_run.specs.Results.{PassResult, stage};
+ghost use Rattle.pass_run.specs.PassLines.{exactly, lines_asked, lines_from, lines_due, mesh_due, done_in, refused_in};
+ghost use Rattle.pass_run.specs.Results.{PassResult, exact_answer, stage};
+ghost use Rattle.pass_run.specs.Turns.{TakesTurns};
 ghost use Rattle.pass_run.specs.Said.{Said};
 
+use crate::choosing::Chooses;
 use crate::faults::PassFault;
 use crate::listing::{listed, pairs_within};
 use crate::pairing::{midpoints, near_pairs};
 use crate::terms::PassTerms;
-use crate::turns::line_if_due;
+use crate::turns::line_of_call;
 use edit_base::{Asked, PassKind};
 use grid_base::DEPTH_MAX;
 use log_text::LogLine;
@@ -84,23 +86,23 @@ fn is_over(grouped: bool, count: PassCount) -> bool
     grouped && count.refused > 0
 }
 
-/// What is asked, at its time: its edit, its line and its count, if it is due.
+/// What is asked, if anything: its edit, its line and its count.
 fn take_ready<S: Surface, K: Sink>(
     alloc: Global,
     mesh: &mut S,
-    terms: PassTerms,
-    what: Asked,
+    depth: u8,
+    call: Option<Asked>,
     out: &mut K,
 ) -> Result<PassCount, PassFault>
     requires closed { IsClosed (S.mesh mesh.old) }
     requires clear { IsClearMesh (S.mesh mesh.old) }
-    requires depth { terms.depth ≤ DEPTH_MAX }
+    requires depth { depth ≤ DEPTH_MAX }
     ensures takes { let old = stage S.mesh S.kept K.written K.faults mesh.old out.old in
         let new = stage S.mesh S.kept K.written K.faults mesh.new out.new in
-        PassResult (lines_of (exactly terms) old.mesh what) old new result }
+        PassResult (lines_asked (exact_answer depth old.mesh) call) old new result }
     ensures sum { IfOk result (λ count. count.done + count.refused ≤ 1) }
 {
-    match line_if_due(alloc, mesh, terms, what) {
+    match line_of_call(alloc, mesh, depth, call) {
         Err(_) => Err(PassFault::NoMemory),
         Ok(None) => Ok(no_edit()),
         Ok(Some(line)) => {
@@ -114,23 +116,54 @@ fn take_ready<S: Surface, K: Sink>(
 fn take_one<S: Surface, K: Sink>(
     alloc: Global,
     mesh: &mut S,
-    terms: PassTerms,
-    what: Asked,
+    depth: u8,
+    call: Option<Asked>,
     out: &mut K,
 ) -> Result<PassCount, PassFault>
     requires closed { IsClosed (S.mesh mesh.old) }
     requires clear { IsClearMesh (S.mesh mesh.old) }
-    requires depth { terms.depth ≤ DEPTH_MAX }
+    requires depth { depth ≤ DEPTH_MAX }
     ensures takes { let old = stage S.mesh S.kept K.written K.faults mesh.old out.old in
         let new = stage S.mesh S.kept K.written K.faults mesh.new out.new in
-        PassResult (lines_of (exactly terms) old.mesh what) old new result }
+        PassResult (lines_asked (exact_answer depth old.mesh) call) old new result }
     ensures sum { IfOk result (λ count. count.done + count.refused ≤ 1) }
 {
     mesh.index();
-    take_ready(alloc, mesh, terms, what, out)
+    take_ready(alloc, mesh, depth, call, out)
 }
 
-/// What is asked, each at its time, in order.
+/// Candidates, each in turn: what is chosen there is asked.
+pub(crate) fn take_turns<S: Surface, K: Sink, C: Chooses>(
+    alloc: Global,
+    mesh: &mut S,
+    by: &C,
+    depth: u8,
+    grouped: bool,
+    candidates: &[Asked],
+    out: &mut K,
+) -> Result<PassCount, PassFault>
+    requires closed { IsClosed (S.mesh mesh.old) }
+    requires clear { IsClearMesh (S.mesh mesh.old) }
+    requires depth { depth ≤ DEPTH_MAX }
+    requires can { C.can_choose by.now }
+    ensures takes { let old = stage S.mesh S.kept K.written K.faults mesh.old out.old in
+        let new = stage S.mesh S.kept K.written K.faults mesh.new out.new in
+        TakesTurns (C.may_choose by.now) (exact_answer depth) grouped candidates.now old new result }
+    ensures sum { IfOk result (λ count. count.done + count.refused ≤ length candidates.now) }
+{
+    let mut count = no_edit();
+    for what in candidates {
+        if is_over(grouped, count) {
+            return Ok(count);
+        }
+        let call = by.choice(alloc, mesh, *what)?;
+        let more = take_one(alloc, mesh, depth, call, out)?;
+        count = sum(count, more);
+    }
+    Ok(count)
+}
+
+/// The candidates of a kind of pass, each in turn.
 fn take_asked<S: Surface, K: Sink>(
     alloc: Global,
     mesh: &mut S,
@@ -146,15 +179,15 @@ fn take_asked<S: Surface, K: Sink>(
         PassResult (lines_from (exactly terms) old.mesh asked.now) old new result }
     ensures sum { IfOk result (λ count. count.done + count.refused ≤ length asked.now) }
 {
-    let mut count = no_edit();
-    for what in asked {
-        if is_over(terms.grouped, count) {
-            return Ok(count);
-        }
-        let more = take_one(alloc, mesh, terms, *what, out)?;
-        count = sum(count, more);
-    }
-    Ok(count)
+    take_turns(
+        alloc,
+        mesh,
+        &terms.kind,
+        terms.depth,
+        terms.grouped,
+        asked,
+        out,
+    )
 }
 
 /// What a pass over pairs of edges asks: for each edge in order, its pairs with the later edges that are near it.

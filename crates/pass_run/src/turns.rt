@@ -1,17 +1,16 @@
-//! What is asked, at its time.
-ghost use Rattle.std.specs.Prelude.{◌≡◌, ◌≤◌, int_lt, nat_le, length, IfOk};
+//! What is asked at a candidate's turn.
+ghost use Rattle.std.specs.Prelude.{◌≡◌, ◌≤◌, ⊤, Some, None, if◌then◌else◌, int_lt, nat_le, length, IfOk};
 ghost use Rattle.grid_base.specs.declared.TheConstants.{DEPTH_MAX};
-ghost use Rattle.grid_decided.specs.Decided.{meets_exactly};
 ghost use Rattle.mesh_base.specs.Sides.{IsClosed};
 ghost use Rattle.mesh_base.specs.Placements.{IsClearMesh};
 ghost use Rattle.mesh_base.specs.Kept.{BeginsWith};
 ghost use Rattle.edit_base.specs.declared.Asked.TheVariants as asked;
-ghost use Rattle.pass_run.specs.Candidates.{is_due, limit_of, length_squared};
-ghost use Rattle.pass_run.specs.PassLines.{exactly, line_of};
-ghost use Rattle.pass_run.specs.Results.{line_due, mesh_then};
+ghost use Rattle.pass_run.specs.Candidates.{is_due, choice_in, limit_of, length_squared};
+ghost use Rattle.pass_run.specs.PassLines.{line_of};
+ghost use Rattle.pass_run.specs.Results.{exact_answer, line_asked, mesh_then};
 
+use crate::choosing::Chooses;
 use crate::lengths::{are_near, is_longer, is_shorter, length_squared};
-use crate::terms::PassTerms;
 use edit_base::{Asked, EdgeFaces, Edit, PassKind, edge_beside, is_crowded, is_edge};
 use edit_dispatch::edit;
 use edit_pinch::fan_count;
@@ -107,6 +106,30 @@ fn is_due<S: Surface>(
     }
 }
 
+/// What is asked where it is due.
+fn asked_if(due: bool, what: Asked) -> Option<Asked>
+    ensures { result ≡ if due then Some what else None }
+{
+    if due { Some(what) } else { None }
+}
+
+impl Chooses for PassKind {
+    ghost can_choose = { λ kind. ⊤ };
+
+    ghost may_choose = { λ kind m what call. call ≡ choice_in kind m what };
+
+    fn choice<S: Surface>(
+        &self,
+        alloc: Global,
+        mesh: &S,
+        what: Asked,
+    ) -> Result<Option<Asked>, NoMemory> {
+        let asked = &what;
+        let due = is_due(alloc, mesh, *self, *asked)?;
+        Ok(asked_if(due, *asked))
+    }
+}
+
 /// The line of an answer.
 fn line_of(what: Asked, edit: Edit) -> LogLine
     ensures { result ≡ line_of what edit }
@@ -117,25 +140,27 @@ fn line_of(what: Asked, edit: Edit) -> LogLine
     }
 }
 
-/// The edit that is asked, and its line, if it is due.
-pub(crate) fn line_if_due<S: Surface>(
+/// The edit that is asked, if one is, and its line.
+pub(crate) fn line_of_call<S: Surface>(
     alloc: Global,
     mesh: &mut S,
-    terms: PassTerms,
-    what: Asked,
+    depth: u8,
+    call: Option<Asked>,
 ) -> Result<Option<LogLine>, NoMemory>
     requires closed { IsClosed (S.mesh mesh.old) }
     requires clear { IsClearMesh (S.mesh mesh.old) }
-    requires depth { terms.depth ≤ DEPTH_MAX }
-    ensures line { IfOk result (λ line. line ≡ line_due (exactly terms) (S.mesh mesh.old) what) }
-    ensures mesh { S.mesh mesh.new ≡ mesh_then (exactly terms) (S.mesh mesh.old) what result }
+    requires depth { depth ≤ DEPTH_MAX }
+    ensures line { IfOk result
+        (λ line. line ≡ line_asked (exact_answer depth (S.mesh mesh.old)) call) }
+    ensures mesh { S.mesh mesh.new ≡ mesh_then (exact_answer depth (S.mesh mesh.old))
+        (S.mesh mesh.old) call result }
     ensures closed { IsClosed (S.mesh mesh.new) }
     ensures clear { IsClearMesh (S.mesh mesh.new) }
     ensures marks { BeginsWith (S.kept mesh.new) (S.kept mesh.old) }
 {
-    if !is_due(alloc, mesh, terms.kind, what)? {
+    let Some(what) = &call else {
         return Ok(None);
-    }
-    let edit = edit(alloc, mesh, terms.depth, what)?;
-    Ok(Some(line_of(what, edit)))
+    };
+    let edit = edit(alloc, mesh, depth, *what)?;
+    Ok(Some(line_of(*what, edit)))
 }

@@ -6,7 +6,7 @@ use Rattle.pass_run.specs.Candidates.{zip_of}
 use Rattle.pass_run.specs.Near.{is_near, near_zips}
 use Rattle.pass_run.specs.PassLines.{exactly, lines_from}
 use Rattle.pass_run.proofs.Asking.{none_left}
-use Rattle.pass_run.proofs.NearPairs.{pairs_left, pairs_here, points_stay, all_pairs_left, never_due}
+use Rattle.pass_run.proofs.NearPairs.{pairs_left, pairs_here, points_stay, all_pairs_left}
 use Rattle.pass_run.proofs.NearPlaces.{midpoints_stay}
 use Rattle.pass_run.proofs.Room.{edges_few, near_few}
 use Rattle.pass_run.proofs.Stages.{wanting, goes_nowhere, so_far_none, so_far_over, so_far_all, so_far_wanting, step_done, step_in_part}
@@ -56,7 +56,7 @@ returns-in_err-more g c =
     let is : all ≡ near_zips m c.args.within e (drop (c.loop-i.i + 1) items) = c.as_slice.ensures ∙ c.in_ok-asked.ensures in
     let rest : Mesh → List LogLine = λ n. pairs_left rules n (drop (c.loop-i.i + 1) items) in
     rw p.1 (step_in_part _ _ _ c.args.terms.grouped _ (lines_from rules m all) _ rest c.loop-i.count
-    (pairs_here rules c.args.within (never_due c.args.terms c.args.within c.requires.zips) m items c.loop-i.i e c.loop-i-test.true c.index-edges-i.is all is)
+    (pairs_here c.args.terms c.args.within c.requires.zips m items c.loop-i.i e c.loop-i-test.true c.index-edges-i.is all is)
     c.loop-i.invariant.so_far (sym c.is_over.ensures ∙ c.if-is_over.false) p.0 c.in_err-more.field-0.0 p.2 c.in_err-more.ensures.takes)
 
 pub sum-count-requires : goal.sum-count-requires
@@ -85,9 +85,9 @@ loop-i-preserved g c =
     let fewer = near_few (zip_of e) (is_near m c.args.within e) items c.loop-i.i all c.loop-i-test.true is in
     record {
       so_far = step_done _ _ _ c.args.terms.grouped _ (lines_from rules m all) _ rest c.loop-i.count
-          (pairs_here rules c.args.within (never_due c.args.terms c.args.within c.requires.zips) m items c.loop-i.i e c.loop-i-test.true c.index-edges-i.is all is)
+          (pairs_here c.args.terms c.args.within c.requires.zips m items c.loop-i.i e c.loop-i-test.true c.index-edges-i.is all is)
           c.loop-i.invariant.so_far (sym c.is_over.ensures ∙ c.if-is_over.false) _ c.sum-count.result c.in_ok-more.ensures.takes c.sum-count.ensures.done c.sum-count.ensures.refused;
-      points = points_stay rules c.args.within m _ (drop (c.loop-i.i + 1) items) e all is c.in_ok-more.ensures.takes.said.0 ∙ c.loop-i.invariant.points;
+      points = points_stay c.args.terms c.args.within m _ (drop (c.loop-i.i + 1) items) e all is c.in_ok-more.ensures.takes.said.0 ∙ c.loop-i.invariant.points;
       sum = omega (arith, few, same, fewer, c.in_ok-more.ensures.sum, c.loop-i.invariant.sum, c.sum-count.ensures.done, c.sum-count.ensures.refused);
     }
 

@@ -1,0 +1,122 @@
+//! The pass by a sizing: each edge in turn, with the edit that is wanted of it there.
+ghost use Rattle.std.specs.Prelude.{◌≡◌, ◌≤◌, IsErrOf};
+ghost use Rattle.grid_base.specs.declared.TheConstants.{DEPTH_MAX};
+ghost use Rattle.mesh_base.specs.Sides.{IsClosed};
+ghost use Rattle.mesh_base.specs.Placements.{IsClearMesh};
+ghost use Rattle.mesh_base.specs.Kept.{BeginsWith};
+ghost use Rattle.mesh_sizing.specs.Sizes.{IsWellKept, MayAnswer};
+ghost use Rattle.outside_io.specs.Causes.{Rose};
+ghost use Rattle.pass_run.specs.Candidates.{all_splits};
+ghost use Rattle.pass_run.specs.Results.{exact_answer, stage};
+ghost use Rattle.pass_run.specs.Turns.{TakesTurns};
+ghost use Rattle.pass_run.specs.Fits.{Calls, MayCall, Fits};
+
+use crate::choosing::Chooses;
+use crate::faults::PassFault;
+use crate::lengths::length_squared;
+use crate::listing::splits;
+use crate::passing::{PassCount, take_turns};
+use edit_base::{Asked, is_edge};
+use grid_base::{DEPTH_MAX, NoMemory, Point, floor_mid};
+use log_text::LogLine;
+use log_write::write_line;
+use mesh_base::{Surface, VertexId, point_of};
+use mesh_sizing::{Band, Sizing, Want};
+use outside_io::Sink;
+use std::alloc::Global;
+
+/// The edit that an edge calls for, if it stands: by its length and what the sizing says at its middle.
+fn called<S: Surface, G: Fn(Point) -> Band>(
+    mesh: &S,
+    sizing: &Sizing<G>,
+    a: VertexId,
+    b: VertexId,
+) -> Option<Asked>
+    requires { IsWellKept G.Fn sizing.now }
+    ensures { Calls (MayAnswer G.Fn sizing.now) (S.mesh mesh.now) (a, b) result }
+{
+    if !is_edge(mesh, a, b) {
+        return None;
+    }
+    let middle = floor_mid(point_of(mesh, a), point_of(mesh, b));
+    match sizing.want(middle, length_squared(mesh, a, b)) {
+        Want::Split => Some(Asked::Split { a, b }),
+        Want::Collapse => Some(Asked::Collapse { a, b }),
+        Want::Leave => None,
+    }
+}
+
+impl<G: Fn(Point) -> Band> Chooses for Sizing<G> {
+    ghost can_choose = { λ sizing. IsWellKept G.Fn sizing };
+
+    ghost may_choose = { λ sizing m what call. MayCall (MayAnswer G.Fn sizing) m what call };
+
+    fn choice<S: Surface>(
+        &self,
+        _alloc: Global,
+        mesh: &S,
+        what: Asked,
+    ) -> Result<Option<Asked>, NoMemory> {
+        match what {
+            Asked::Split { a, b } => Ok(called(mesh, self, a, b)),
+            _ => Ok(None),
+        }
+    }
+}
+
+/// The edges of the mesh, each in turn.
+fn take_edges<S: Surface, K: Sink, G: Fn(Point) -> Band>(
+    alloc: Global,
+    mesh: &mut S,
+    sizing: &Sizing<G>,
+    depth: u8,
+    grouped: bool,
+    out: &mut K,
+) -> Result<PassCount, PassFault>
+    requires closed { IsClosed (S.mesh mesh.old) }
+    requires clear { IsClearMesh (S.mesh mesh.old) }
+    requires depth { depth ≤ DEPTH_MAX }
+    requires sizing { IsWellKept G.Fn sizing.now }
+    ensures { let old = stage S.mesh S.kept K.written K.faults mesh.old out.old in
+        let new = stage S.mesh S.kept K.written K.faults mesh.new out.new in
+        TakesTurns (MayCall (MayAnswer G.Fn sizing.now)) (exact_answer depth) grouped
+        (all_splits old.mesh) old new result }
+{
+    let edges = splits(alloc, mesh)?;
+    take_turns(alloc, mesh, sizing, depth, grouped, edges.as_slice(), out)
+}
+
+/// Does one pass over a mesh by a sizing. The first line tells the pass. Then comes each edge that the mesh has at the start, in order
+/// of the smaller and then of the larger id. At its turn the sizing is asked at its middle, each component rounded down, if it still
+/// stands: it is split where it is longer than `high`, and collapsed where it is shorter than `low`. Each edit that is so called for
+/// has one line: that it is done, or why it is refused. An edge that calls for nothing has none.
+///
+/// All else is as in `pass`: a pass that is `grouped` ends with its first `no` line; `depth` is the number of time halvings of the
+/// written test; lengths are compared by exact squares; the mesh stays closed and clear, after a fault too, and earlier marks hold.
+pub fn fit_pass<S: Surface, K: Sink, G: Fn(Point) -> Band>(
+    alloc: Global,
+    mesh: &mut S,
+    sizing: &Sizing<G>,
+    depth: u8,
+    grouped: bool,
+    out: &mut K,
+) -> Result<PassCount, PassFault>
+    requires closed { IsClosed (S.mesh mesh.old) }
+    requires clear { IsClearMesh (S.mesh mesh.old) }
+    requires depth { depth ≤ DEPTH_MAX }
+    requires sizing { IsWellKept G.Fn sizing.now }
+    // Ok: all lines are written. A fault: the first of them, and perhaps a part of the next.
+    ensures fits { Fits (MayAnswer G.Fn sizing.now) depth grouped
+        (S.mesh mesh.old) (S.mesh mesh.new) (K.written out.old) (K.written out.new) result }
+
+    // After every answer.
+    ensures closed { IsClosed (S.mesh mesh.new) }
+    ensures clear { IsClearMesh (S.mesh mesh.new) }
+    ensures marks { BeginsWith (S.kept mesh.new) (S.kept mesh.old) }
+    ensures later { K.faults out.old ≤ K.faults out.new }
+    ensures cause { IsErrOf result PassFault.SinkFault →
+        Rose (K.faults out.old) (K.faults out.new) }
+{
+    write_line(alloc, out, &LogLine::PassFit)?;
+    take_edges(alloc, mesh, sizing, depth, grouped, out)
+}
