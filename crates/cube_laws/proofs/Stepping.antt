@@ -19,6 +19,7 @@ use Rattle.log_text.specs.declared.LogLine.TheVariants.{Step, Move, Moved}
 use Rattle.mesh_base.specs.declared.How.TheVariants.{Whole}
 use Rattle.mesh_make.specs.Cubes.{IsRow}
 use Rattle.track_engine.specs.State.{State, still_at}
+use Rattle.track_engine.specs.Answers.{Nothing}
 use Rattle.track_engine.specs.Effects.{Proceeds, effect_of, step_effect, first_outside, moves, moving, moved_mesh, move_lines, hits, step_lines, after_step}
 use Rattle.track_engine.specs.Invariant.{IsRunInvariant}
 use Rattle.track_engine.specs.Promise.{EachPasses}
@@ -62,14 +63,14 @@ module _ (n key k : ℕ) (row : IsRow n) (few : k < 3) (s : State) (at : AreMove
   each_passes : EachPasses s.mesh s.set.depth s.asked
   each_passes = passes n key k row few s.mesh s.asked at kept.now.good.clear asked s.set.depth
 
-  goes : effect_of None StepDirective s ≡ Proceeds (step_lines s) (after_step s)
+  goes : effect_of Nothing StepDirective s ≡ Proceeds (step_lines s) (after_step s)
   goes = ap (λ o. step_effect o s) none_outside
 
   none_fails : failing meets_exactly s.mesh s.asked s.set.depth ≡ []
-  none_fails = ((step_is_told None s (after_step s) (step_lines s) goes).none_fails kept.now.good.sound s.asked).1 each_passes
+  none_fails = ((step_is_told Nothing s (after_step s) (step_lines s) goes).none_fails kept.now.good.sound s.asked).1 each_passes
 
   lines_are : step_lines s ≡ Step (s.steps + 1) ∷ (move_lines s.asked ++ Moved Whole ∷ [])
-  lines_are = (step_is_told None s (after_step s) (step_lines s) goes).unaltered (hits_none s none_fails)
+  lines_are = (step_is_told Nothing s (after_step s) (step_lines s) goes).unaltered (hits_none s none_fails)
 
   pub step_taken : IsTaken StepDirective s (after_step s) 1
   step_taken = record {
@@ -97,6 +98,6 @@ module _ (n key k : ℕ) (row : IsRow n) (few : k < 3) (s : State) (at : AreMove
   pub between_again : AreBetween n key (suc k) (after_step s)
   between_again = record {
     moved = subst (λ (l : Shifts). AreMoved n key (suc k) (moved_mesh s.mesh l)) (sym (ap (λ (w : Way). w.taken) (taken_whole s (hits_none s none_fails)))) moved_again;
-    kept = kept_next None StepDirective s (after_step s) (step_lines s) kept goes;
+    kept = kept_next Nothing StepDirective s (after_step s) (step_lines s) kept goes;
     asked = sym (still_is s.mesh s.asked kept.now.names) ∙ ap (map still_at) at.ids;
   }

@@ -6,7 +6,8 @@ use Rattle.step_text.specs.declared.Directive.{Directive}
 use Rattle.step_text.specs.declared.Placed.{Placed}
 use Rattle.log_text.specs.declared.LogLine.{LogLine}
 use Rattle.track_engine.specs.State.{State}
-use Rattle.track_engine.specs.Effects.{Effect, Proceeds, ExpectedLog, effect_of, and_then, log_from}
+use Rattle.track_engine.specs.Answers.{without_field, without_fields}
+use Rattle.track_engine.specs.Effects.{Effect, Proceeds, ExpectedLog, Ended, effect_of, and_then, log_from}
 use Rattle.track_engine.specs.Invariant.{IsRunInvariant}
 use Rattle.track_engine.proofs.Keeping.{kept_next}
 use Rattle.cube_laws.specs.Whole.{MovesWhole, is_moved, moved_in}
@@ -14,7 +15,7 @@ use Rattle.cube_laws.specs.Whole.{MovesWhole, is_moved, moved_in}
 -- a directive leads from one state to another, by lines that tell so many steps and nothing in the way
 pub record IsTaken (d : Directive) (s t : State) (steps : ℕ) : Type 0 where
   pub lines : List LogLine
-  pub goes : effect_of None d s ≡ Proceeds lines t
+  pub goes : effect_of (without_field d) d s ≡ Proceeds lines t
   pub whole : AllByRecursion MovesWhole lines
   pub count : moved_in lines ≡ steps
 
@@ -35,7 +36,7 @@ taken_then (x ∷ xs) ys s t u a b c first second sum =
 -- a state that is as each directive leaves it leads to such states
 pub taken_kept : (ds : List Directive) (s t : State) (steps : ℕ) → IsRunInvariant s → AreTaken ds s t steps → IsRunInvariant t
 taken_kept [] s t steps kept taken = subst (λ (z : State). IsRunInvariant z) taken.0 kept
-taken_kept (d ∷ ds) s t steps kept taken = taken_kept ds taken.0 t taken.2 (kept_next None d s taken.0 (taken.3).lines kept (taken.3).goes) taken.4
+taken_kept (d ∷ ds) s t steps kept taken = taken_kept ds taken.0 t taken.2 (kept_next (without_field d) d s taken.0 (taken.3).lines kept (taken.3).goes) taken.4
 
 pub moved-append : (xs ys : List LogLine) → moved_in (xs ++ ys) ≡ moved_in xs + moved_in ys
 moved-append [] ys = omega arith
@@ -47,7 +48,7 @@ moved-append (x ∷ xs) ys = by_test (is_moved x) (moved-append xs ys)
 
 -- what a log tells
 pub record IsTold (log : ExpectedLog) (steps : ℕ) : Type 0 where
-  pub ending : log.ending ≡ None
+  pub ending : log.ending ≡ Ended None
   pub whole : AllByRecursion MovesWhole log.lines
   pub count : moved_in log.lines ≡ steps
 
@@ -55,12 +56,12 @@ pub record IsTold (log : ExpectedLog) (steps : ℕ) : Type 0 where
 abbrev pub on_lines_from : ℕ → List Directive → List Placed
 on_lines_from line ds = map (λ d. record { line = d.0; what = d.1 }) (enumerate_from line ds)
 
-pub told : (line : ℕ) (ds : List Directive) (s t : State) (steps : ℕ) → AreTaken ds s t steps → IsTold (log_from [] (on_lines_from line ds) s) steps
+pub told : (line : ℕ) (ds : List Directive) (s t : State) (steps : ℕ) → AreTaken ds s t steps → IsTold (log_from (without_fields (on_lines_from line ds)) (on_lines_from line ds) s) steps
 told line [] s t steps taken = record { ending = refl; whole = (tt, tt); count = sym taken.1 }
 told line (d ∷ ds) s t steps taken =
     let next : State = taken.0 in
     let lines = (taken.3).lines in
-    let others : State → ExpectedLog = log_from [] (on_lines_from (line + 1) ds) in
+    let others : State → ExpectedLog = log_from (without_fields (on_lines_from (line + 1) ds)) (on_lines_from (line + 1) ds) in
     let rest = told (line + 1) ds next t taken.2 taken.4 in
     let here : moved_in lines ≡ taken.1 = (taken.3).count in
     let later : moved_in (others next).lines ≡ taken.2 = rest.count in

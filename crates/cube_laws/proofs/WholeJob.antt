@@ -13,7 +13,7 @@ use Rattle.edit_base.specs.declared.PassKind.{PassKind}
 use Rattle.edit_base.specs.declared.PassKind.TheVariants as pass
 use Rattle.step_text.specs.declared.Directive.TheVariants as directive
 use Rattle.log_text.specs.declared.LogLine.{LogLine}
-use Rattle.log_text.specs.declared.LogLine.TheVariants.{Pass, Did, No}
+use Rattle.log_text.specs.declared.LogLine.TheVariants.{Pass, PassFit, Did, No}
 use Rattle.log_replay.specs.OfPass.{IsOfPass, AreOfPass}
 use Rattle.pass_run.specs.PassLines.{terms_of}
 use Rattle.pass_run.proofs.Replaying.{pass_is}
@@ -77,6 +77,7 @@ step_goes n key k row few s at =
 -- ---- the pass and the save
 line_of_pass : (line : LogLine) → IsOfPass line → MovesWhole line × (is_moved line ≡ false)
 line_of_pass (Pass kind) h = (tt, refl)
+line_of_pass PassFit h = (tt, refl)
 line_of_pass (Did change) h = (tt, refl)
 line_of_pass (No what why) h = (tt, refl)
 line_of_pass line h = absurd h

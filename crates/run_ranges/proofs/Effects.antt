@@ -43,8 +43,8 @@ use Rattle.log_ranges.proofs.StepLines.{step_in_range, mesh_in_range}
 use Rattle.log_ranges.specs.Texts.{IsPlacedInRange}
 use Rattle.log_ranges.proofs.Texts.{pass_told}
 use Rattle.track_engine.specs.State.{Group, State, asked_of, is_open}
-use Rattle.track_engine.specs.Answers.{Answer, Answers, first, later}
-use Rattle.track_engine.specs.Effects.{Effect, Proceeds, Refused, ExpectedLog, summed, is_beyond, first_beyond, sum_or_range, sum_of_all, sum_of_answer, one_summed, sum_at, sum_of_one, moves, moving, end_of, first_outside, hits, taken, step_lines, after_step, passed_lines, after_pass, shift_effect, step_effect, mesh_line, after_solid, solid_effect, kept_whole, taken_back, close_effect, effect_of, and_then, log_from}
+use Rattle.track_engine.specs.Answers.{Answer, Nothing, NoSuchField, FieldShifts, Answers, first, later}
+use Rattle.track_engine.specs.Effects.{Effect, Proceeds, Refused, Unanswered, ExpectedLog, summed, is_beyond, first_beyond, sum_or_range, sum_of_all, drive_effect, one_summed, sum_at, sum_of_one, moves, moving, end_of, first_outside, hits, taken, step_lines, after_step, passed_lines, after_pass, shift_effect, step_effect, mesh_line, after_solid, solid_effect, kept_whole, taken_back, close_effect, effect_of, and_then, log_from}
 use Rattle.track_engine.specs.Invariant.{IsRunInvariant}
 use Rattle.track_engine.specs.Promise.{blocks_moved}
 use Rattle.track_engine.proofs.StepLemmas.{all_inside}
@@ -65,6 +65,7 @@ record GoesOn (s next : State) : Type 0 where
 abbrev IsGood : State → Effect → Type 0
 IsGood s (Proceeds lines next) = AreInRange lines × GoesOn s next
 IsGood s (Refused why) = IsUseInRange why
+IsGood s Unanswered = Unit {0}
 
 as_before : (s : State) → AreWithinLimits s.set → GoesOn s s
 as_before s limits = record { limits = limits; steps = omega arith; saved = omega arith }
@@ -113,12 +114,13 @@ module _ (s : State) (room : HasRoomFor 1 s) where
   all_why by None h why e = absurd cc
   all_why by (Some v) h why e = let same : ShiftRange v ≡ why = cc in subst IsUseInRange same h
 
-  answer_why : (given : Answer) (why : UseWhy) → sum_of_answer given s.mesh s.asked ≡ Err why → IsUseInRange why
-  answer_why (Some by) why e = all_why by (first_beyond s.mesh by s.asked) (found_id (is_beyond s.mesh by)) why e
-  answer_why None why e = subst IsUseInRange (same_why NoField why e) tt
-    where
-      same_why : (a b : UseWhy) → ◌≡◌ {A = Result Shifts UseWhy} (Err a) (Err b) → a ≡ b
-      same_why a b e = cc
+  by_all : (by : ℕ → Shift) → IsGood s (shift_effect (sum_of_all s.mesh by s.asked) s)
+  by_all by = by_shift (sum_of_all s.mesh by s.asked) (all_why by (first_beyond s.mesh by s.asked) (found_id (is_beyond s.mesh by)))
+
+  by_drive : (given : Answer) → IsGood s (drive_effect given s)
+  by_drive (FieldShifts by) = by_all by
+  by_drive NoSuchField = tt
+  by_drive Nothing = tt
 
   by_solid : (v : ℕ) → IsId v → (b : Bool) → IsGood s (solid_effect b v s)
   by_solid v id true = (one_line (Solid v) (id, tt), record { limits = room.limits; steps = omega arith; saved = omega arith })
@@ -177,9 +179,8 @@ module _ (s : State) (room : HasRoomFor 1 s) where
   effect_good given (directive.SetZones zones) range = (no_lines, record { limits = record { depth = room.limits.depth; passes = room.limits.passes; halvings = room.limits.halvings }; steps = omega arith; saved = omega arith })
   effect_good given (directive.SetHalvings halvings) range = (no_lines, record { limits = record { depth = room.limits.depth; passes = room.limits.passes; halvings = range }; steps = omega arith; saved = omega arith })
   effect_good given (directive.ShiftOne v by) range = by_shift (sum_of_one s.mesh v by s.asked) (one_why v by range (asked_of v s.asked) (is_solid s.mesh v))
-  effect_good given (directive.ShiftAll by) range =
-      let each : ℕ → Shift = λ v. by in by_shift (sum_of_all s.mesh each s.asked) (all_why each (first_beyond s.mesh each s.asked) (found_id (is_beyond s.mesh each)))
-  effect_good given (directive.Drive name) range = by_shift (sum_of_answer given s.mesh s.asked) (answer_why given)
+  effect_good given (directive.ShiftAll by) range = by_all (λ v. by)
+  effect_good given (directive.Drive name) range = by_drive given
   effect_good given (directive.Solid v) range = by_solid v range (is_some (finite.get s.mesh.points v))
   effect_good given directive.Step range = by_step (first_outside s.mesh s.asked) refl (found_id (λ a. not (is_within BOX (end_of s.mesh a))))
   effect_good given (directive.Pass kind) range = (by_pass kind range, record { limits = room.limits; steps = omega arith; saved = omega arith })
@@ -195,6 +196,7 @@ effects_in_range given what s room range = by_effect (effect_of given what s) (e
     by_effect : (t : Effect) → IsGood s t → IsEffectInRange t
     by_effect (Proceeds lines next) good = good.0
     by_effect (Refused why) good = good
+    by_effect Unanswered good = tt
 
 -- ---- all directives
 fewer : (n : ℕ) (s : State) → HasRoomFor (suc n) s → HasRoomFor 1 s
@@ -218,6 +220,7 @@ all_good answers (one ∷ more) s room placed =
         All-append MayFollow lines (log_from (later answers) more next).lines good.0
         (others next (record { kept = kept_next (first answers) one.what s next lines room.kept e; limits = on.limits; steps = omega (arith, a, c); saved = omega (arith, b, d) }))
     by_effect (Refused why) e good others = one_line (RefusedLine (StepUse one.line why)) ((placed.0.0, good), tt)
+    by_effect Unanswered e good others = no_lines
 
 pub logs_in_range : LogsAreInRange
 logs_in_range answers steps s room placed = all_good answers steps s room (recursion_from_All IsPlacedInRange steps placed)

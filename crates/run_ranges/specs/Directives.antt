@@ -11,7 +11,7 @@ use Rattle.log_ranges.specs.Lines.{AreInRange}
 use Rattle.log_ranges.specs.Texts.{IsPlacedInRange}
 use Rattle.track_engine.specs.State.{State}
 use Rattle.track_engine.specs.Answers.{Answer, Answers}
-use Rattle.track_engine.specs.Effects.{Effect, Proceeds, Refused, effect_of, log_from}
+use Rattle.track_engine.specs.Effects.{Effect, Proceeds, Refused, Unanswered, effect_of, log_from}
 use Rattle.track_engine.specs.Invariant.{IsRunInvariant}
 
 -- the run stands as each directive leaves it, and its numbers have room for so many directives more
@@ -21,16 +21,17 @@ pub record HasRoomFor (count : ℕ) (s : State) : Type 0 where
   pub steps : s.steps + count ≤ COUNT_MAX
   pub saved : s.saved + count ≤ COUNT_MAX
 
--- the lines of a directive, or the reason against it
+-- the lines of a directive, or the reason against it; one that is not answered has neither
 abbrev pub IsEffectInRange : Effect → Type 0
 IsEffectInRange (Proceeds lines next) = AreInRange lines
 IsEffectInRange (Refused why) = IsUseInRange why
+IsEffectInRange Unanswered = Unit {0}
 
--- what a directive of a step file gives, whatever a field answers
+-- what a directive of a step file gives, whatever is given to it
 abbrev pub EffectsAreInRange : Type 0
 EffectsAreInRange = (given : Answer) (what : Directive) (s : State) → HasRoomFor 1 s → IsInRange what → IsEffectInRange (effect_of given what s)
 
--- the log of directives, whatever fields answer
+-- the log of directives, whatever is given to them
 abbrev pub LogsAreInRange : Type 0
 LogsAreInRange =
     (answers : Answers) (steps : List Placed) (s : State) → HasRoomFor (length steps) s → All IsPlacedInRange steps → AreInRange (log_from answers steps s).lines

@@ -43,7 +43,7 @@ IsInputInRange (Err why) = IsRefusalInRange why
 abbrev pub InputsAreInRange : Type 0
 InputsAreInRange = (job : Job) → IsSeen job.mesh_file → IsSeen job.step_file → IsInputInRange (input_of job)
 
--- the log of a mesh and directives, from the line of the mesh on, whatever fields answer
+-- the log of a mesh and directives, from the line of the mesh on, whatever is given to the directives
 abbrev pub LogsOfMeshesAreInRange : Type 0
 LogsOfMeshesAreInRange =
     (answers : Answers) (m : Mesh) (steps : List Placed) → IsValidSurface m → AreCounted steps → AreInRange (mesh_line 0 m ∷ (log_from answers steps (start m)).lines)

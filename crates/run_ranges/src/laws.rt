@@ -4,7 +4,7 @@ ghost use Rattle.run_ranges.specs.Directives.{EffectsAreInRange, LogsAreInRange}
 ghost use Rattle.run_ranges.specs.Inputs.{InputsAreInRange, LogsOfMeshesAreInRange};
 
 /// Where a run stands well and its counts have room, the lines of a directive are in the log's ranges, and so is the reason against it,
-/// whatever a field that it names answers.
+/// whatever is given to it.
 /// So are the lines of all directives of a step file, one after the other, and the last line that tells how they ended.
 pub fn directives_are_in_range()
     ensures effects { EffectsAreInRange }

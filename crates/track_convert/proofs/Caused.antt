@@ -60,8 +60,12 @@ module _ (c : Conversion) where
   cause_told None h = ap refusal_told (lists_told h.0 h.1 ∙ ap (found_of_shape h.0) h.2)
   cause_told (Some (refusal.Long file.Mesh seen)) h = ap refusal_told (source_told (TooLong seen) h)
   cause_told (Some (refusal.Long file.Steps seen)) h = absurd h
+  cause_told (Some (refusal.Long file.Log seen)) h = absurd h
+  cause_told (Some (refusal.Long file.Proof seen)) h = absurd h
   cause_told (Some (refusal.Missing file.Mesh)) h = ap refusal_told (source_told Absent h)
   cause_told (Some (refusal.Missing file.Steps)) h = absurd h
+  cause_told (Some (refusal.Missing file.Log)) h = absurd h
+  cause_told (Some (refusal.Missing file.Proof)) h = absurd h
   cause_told (Some (refusal.Mesh fault)) h = ap refusal_told (source_told (Bytes h.0) h.1 ∙ ap found_of_lists h.2)
   cause_told (Some (refusal.Shape fault)) h = ap refusal_told (lists_told h.0 h.1 ∙ ap (found_of_shape h.0) h.2)
   cause_told (Some (refusal.Meets pair)) h = absurd h

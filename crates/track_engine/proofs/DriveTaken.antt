@@ -7,12 +7,13 @@ use Rattle.mesh_base.proofs.MarksHold.{begins_itself}
 use Rattle.mesh_base.specs.Mesh.{Mesh}
 use Rattle.mesh_base.specs.Shifts.{Shifts}
 use Rattle.outside_io.proofs.Written.{appended-nil}
+use Rattle.mesh_field.specs.Stored.{place_of}
 use Rattle.step_text.specs.declared.Directive.{Directive}
 use Rattle.step_text.specs.declared.Directive.TheVariants as directive
 use Rattle.track_engine.specs.declared.open_group.OpenGroup.{OpenGroup}
 use Rattle.track_engine.specs.declared.stop.Stop.{Stop}
 use Rattle.track_engine.specs.State.{State, standing}
-use Rattle.track_engine.specs.Answers.{Answer}
+use Rattle.track_engine.specs.Answers.{NoSuchField, FieldShifts, without_field}
 use Rattle.track_engine.specs.Answered.{Known, named_field, AreAnswersOf, IsAnswerOf, IsAnswer}
 use Rattle.track_engine.specs.Effects.{Effect, Proceeds, Refused, effect_of, shift_effect, sum_of_all}
 use Rattle.track_engine.specs.Invariant.{IsRunInvariant, left_by}
@@ -44,8 +45,8 @@ drive_named names directive.Group which e = absurd cc
 drive_named names directive.Close which e = absurd cc
 
 -- its effect
-effect_named : (names : List (List ℕ)) (what : Directive) (which : ℕ) (by : ℕ → Shift) (s : State) → named_field names what ≡ Some which → effect_of (Some by) what s ≡ shift_effect (sum_of_all s.mesh by s.asked) s
-effect_named names what which by s e = ap (λ d. effect_of (Some by) d s) (drive_named names what which e).1
+effect_named : (names : List (List ℕ)) (what : Directive) (which : ℕ) (by : ℕ → Shift) (s : State) → named_field names what ≡ Some which → effect_of (FieldShifts by) what s ≡ shift_effect (sum_of_all s.mesh by s.asked) s
+effect_named names what which by s e = ap (λ d. effect_of (FieldShifts by) d s) (drive_named names what which e).1
 
 left_named : (names : List (List ℕ)) (what : Directive) (which : ℕ) (groups : List OpenGroup) (kept : List Mesh) → named_field names what ≡ Some which → left_by what groups kept ≡ kept
 left_named names what which groups kept e = ap (λ d. left_by d groups kept) (drive_named names what which e).1
@@ -61,10 +62,15 @@ abbrev pub Drives : Known → ℕ → State → Shifts → Result (Option UseWhy
 Drives fields which s now r = IfOk r (λ refused. (by : ℕ → Shift) × AreAnswersOf (fields.may_answer which) s.mesh by × AsksNow (sum_of_all s.mesh by s.asked) now refused)
 
 module _ (fields : Known) (to : Target) (what : Directive) (which : ℕ) (named : named_field fields.names what ≡ Some which) (s : State) (now : Shifts) where
-  is_answer : (by : ℕ → Shift) → AreAnswersOf (fields.may_answer which) s.mesh by → IsAnswer fields s.mesh what (Some by)
-  is_answer by answers = let P : Option ℕ → Type 0 = λ w. IsAnswerOf fields s.mesh w (Some by) in subst P (sym named) (by, refl, answers)
+  is_answer : (by : ℕ → Shift) → AreAnswersOf (fields.may_answer which) s.mesh by → IsAnswer fields s.mesh what (FieldShifts by)
+  is_answer by answers =
+      let drives = drive_named fields.names what which named in
+      let P : Directive → Type 0 = λ d. IsAnswer fields s.mesh d (FieldShifts by) in
+      let Q : Option ℕ → Type 0 = λ w. IsAnswerOf fields s.mesh w (FieldShifts by) in
+      let here : Some which ≡ place_of fields.names drives.0 = sym named ∙ ap (named_field fields.names) drives.1 in
+      subst P (sym drives.1) (subst Q here (by, refl, answers))
 
-  advances_by : (old : Contents) (by : ℕ → Shift) (o : Option UseWhy) → AsksNow (sum_of_all s.mesh by s.asked) now o → Advances to (effect_of (Some by) what s) s (record s { asked = now }) old old (Ok o)
+  advances_by : (old : Contents) (by : ℕ → Shift) (o : Option UseWhy) → AsksNow (sum_of_all s.mesh by s.asked) now o → Advances to (effect_of (FieldShifts by) what s) s (record s { asked = now }) old old (Ok o)
   advances_by old by None asks = record {
     lines = [];
     goes = effect_named fields.names what which by s named ∙ ap (λ r. shift_effect r s) asks;
@@ -74,7 +80,7 @@ module _ (fields : Known) (to : Target) (what : Directive) (which : ℕ) (named 
   advances_by old by (Some why) asks = (effect_named fields.names what which by s named ∙ ap (λ r. shift_effect r s) asks, refl)
 
   pub advances_drive : (old : Contents) (r : Result (Option UseWhy) Stop) → Drives fields which s now r → AdvancesAnswered fields to what s (record s { asked = now }) old old r
-  advances_drive old (Ok o) drives = (Some drives.0, is_answer drives.0 drives.1, advances_by old drives.0 o drives.2)
+  advances_drive old (Ok o) drives = (FieldShifts drives.0, is_answer drives.0 drives.1, advances_by old drives.0 o drives.2)
   advances_drive old (Err stop) drives = inl refl
 
   pub kept_drive : (r : Result (Option UseWhy) Stop) → IsRunInvariant s → Drives fields which s now r → r ≡ Ok None → IsRunInvariant (record s { asked = now })
@@ -85,13 +91,15 @@ module _ (fields : Known) (to : Target) (what : Directive) (which : ℕ) (named 
 
 -- ---- a directive to which no field answers
 
-pub advances_plain : (fields : Known) (to : Target) (what : Directive) (s t : State) (old new : Contents) (r : Result (Option UseWhy) Stop) → named_field fields.names what ≡ None → Advances to (effect_of None what s) s t old new r → AdvancesAnswered fields to what s t old new r
+plain_answer : (fields : Known) (m : Mesh) (what : Directive) → named_field fields.names what ≡ None → IsAnswer fields m what (without_field what)
+plain_answer fields m (directive.Drive name) named = let P : Option ℕ → Type 0 = λ w. IsAnswerOf fields m w NoSuchField in subst P (sym named) refl
+plain_answer fields m what named = refl
+
+pub advances_plain : (fields : Known) (to : Target) (what : Directive) (s t : State) (old new : Contents) (r : Result (Option UseWhy) Stop) → named_field fields.names what ≡ None → Advances to (effect_of (without_field what) what s) s t old new r
+    → AdvancesAnswered fields to what s t old new r
 advances_plain fields to what s t old new r named advances = by_result r advances
   where
-    none : IsAnswer fields s.mesh what None
-    none = let P : Option ℕ → Type 0 = λ w. IsAnswerOf fields s.mesh w None in subst P (sym named) refl
-
-    by_result : (x : Result (Option UseWhy) Stop) → Advances to (effect_of None what s) s t old new x → AdvancesAnswered fields to what s t old new x
-    by_result (Ok o) a = (None, none, a)
+    by_result : (x : Result (Option UseWhy) Stop) → Advances to (effect_of (without_field what) what s) s t old new x → AdvancesAnswered fields to what s t old new x
+    by_result (Ok o) a = (without_field what, plain_answer fields s.mesh what named, a)
     by_result (Err stop) (inl same) = inl same
-    by_result (Err stop) (inr part) = inr (None, none, part)
+    by_result (Err stop) (inr part) = inr (without_field what, plain_answer fields s.mesh what named, part)

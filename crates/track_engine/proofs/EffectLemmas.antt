@@ -16,6 +16,7 @@ use Rattle.track_engine.specs.declared.stop.Stop.{Stop}
 use Rattle.track_engine.specs.State.{State, standing, no_shifts, still_at}
 use Rattle.step_choose.specs.declared.Settings.{Settings}
 use Rattle.outside_io.proofs.Written.{appended-nil}
+use Rattle.track_engine.specs.Answers.{without_field}
 use Rattle.track_engine.specs.Effects.{effect_of, set_effect, mesh_line, summed, all_summed}
 use Rattle.track_engine.specs.Saved.{Target}
 use Rattle.track_engine.specs.World.{Contents, Logs, StopsIn}
@@ -30,19 +31,19 @@ ids_of_sums m by (s ∷ rest) = ap (λ id. id ∷ map (λ x. x.v) (all_summed m 
     by_test false = refl
 
 -- a setting
-pub advances_set : (to : Target) (set : Settings) (what : Directive) (s : State) (old : Contents) → effect_of None what s ≡ set_effect set s → Takes to (effect_of None what s) s (record s { set = set }) old old
+pub advances_set : (to : Target) (set : Settings) (what : Directive) (s : State) (old : Contents) → effect_of (without_field what) what s ≡ set_effect set s → Takes to (effect_of (without_field what) what s) s (record s { set = set }) old old
 advances_set to set what s old goes = record { lines = []; goes = goes; logs = record { written = sym (appended-nil old.written); files = refl }; replay = refl }
 
 -- a save
-pub save_whole : (to : Target) (what : Directive) (s : State) (old new : Contents) → what ≡ directive.Save → Logs to (standing s) (mesh_line s.saved s.mesh ∷ []) old new → Takes to (effect_of None what s) s (record s { saved = s.saved + 1 }) old new
+pub save_whole : (to : Target) (what : Directive) (s : State) (old new : Contents) → what ≡ directive.Save → Logs to (standing s) (mesh_line s.saved s.mesh ∷ []) old new → Takes to (effect_of (without_field what) what s) s (record s { saved = s.saved + 1 }) old new
 save_whole to what s old new is logs =
-    let P : Directive → Type 0 = λ what. Takes to (effect_of None what s) s (record s { saved = s.saved + 1 }) old new in
+    let P : Directive → Type 0 = λ what. Takes to (effect_of (without_field what) what s) s (record s { saved = s.saved + 1 }) old new in
     subst P (sym is) (record { lines = mesh_line s.saved s.mesh ∷ []; goes = refl; logs = logs; replay = refl })
 
 -- a save that stops in its line, or before its mesh is stored
-pub save_part : (stop : Stop) (to : Target) (what : Directive) (s t : State) (old new : Contents) → what ≡ directive.Save → StopsIn stop to (standing s) (mesh_line s.saved s.mesh ∷ []) old new → Advances to (effect_of None what s) s t old new (Err stop)
+pub save_part : (stop : Stop) (to : Target) (what : Directive) (s t : State) (old new : Contents) → what ≡ directive.Save → StopsIn stop to (standing s) (mesh_line s.saved s.mesh ∷ []) old new → Advances to (effect_of (without_field what) what s) s t old new (Err stop)
 save_part stop to what s t old new is stops =
-    let P : Directive → Type 0 = λ what. Advances to (effect_of None what s) s t old new (Err stop) in
+    let P : Directive → Type 0 = λ what. Advances to (effect_of (without_field what) what s) s t old new (Err stop) in
     subst P (sym is) (inr (record { lines = mesh_line s.saved s.mesh ∷ []; next = record s { saved = s.saved + 1 }; goes = refl; stops = stops }))
 
 -- at first no vertex is asked to move

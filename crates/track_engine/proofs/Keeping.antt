@@ -58,8 +58,8 @@ use Rattle.mesh_base.specs.Valid.{IsValidSurface}
 use Rattle.track_engine.proofs.Passing.{pass_keeps}
 use Rattle.track_engine.proofs.ReadAgain.{read_again}
 use Rattle.track_engine.specs.Invariant.{IsAskedWell, IsRunInvariant}
-use Rattle.track_engine.specs.Effects.{Effect, Proceeds, Refused, ExpectedLog, effect_of, shift_effect, set_effect, solid_effect, close_effect, step_effect, kept_whole, taken_back, is_whole, summed, first_beyond, all_summed, sum_or_range, sum_of_all, sum_of_answer, passed_lines, passed_mesh, after_pass, one_summed, sum_at, sum_of_one, first_outside, hits, taken, moves, moving, moved_mesh, hit_lines, block_lines, move_lines, way_lines, lines_of_step, all_still, one_still, step_lines, after_step, and_then, log_from}
-use Rattle.track_engine.specs.Answers.{Answer, Answers, first, later}
+use Rattle.track_engine.specs.Effects.{Effect, Proceeds, Refused, Unanswered, ExpectedLog, effect_of, shift_effect, drive_effect, set_effect, solid_effect, close_effect, step_effect, kept_whole, taken_back, is_whole, summed, first_beyond, all_summed, sum_or_range, sum_of_all, passed_lines, passed_mesh, after_pass, one_summed, sum_at, sum_of_one, first_outside, hits, taken, moves, moving, moved_mesh, hit_lines, block_lines, move_lines, way_lines, lines_of_step, all_still, one_still, step_lines, after_step, and_then, log_from}
+use Rattle.track_engine.specs.Answers.{Answer, Nothing, NoSuchField, FieldShifts, Answers, first, later}
 use Rattle.track_engine.proofs.NoFiles.{after-step_lines, after-moves, after-hits, after-blocks}
 use Rattle.track_engine.proofs.StepLemmas.{all_inside, ids_of_still}
 use Rattle.pass_run.specs.PassLines.{refused_in}
@@ -105,7 +105,7 @@ clear_alike m xs ys same along p q some within pair is meet =
     (subst MeetAt (same_positions (at_fraction p q (moved_by m xs)) (at_fraction p q (moved_by m ys)) pair (λ v. ap (λ t. position_at p q (rest_positions m v) (plus (rest_positions m v) t)) (same v))) meet)
 
 -- the lines of a step that goes well and moves no solid vertex, and the mesh after it
-module _ (m : Mesh) (good : IsValidSurface m) (k : ℕ) (pairs : List PairName) (way : Way) (well : GoesWell m way.taken) where
+module _ {depth : ℕ} (m : Mesh) (good : IsValidSurface m) (k : ℕ) (pairs : List PairName) (way : Way) (well : GoesWell m depth way.taken) where
   names : NameOnce m way.taken
   names = name_once m way.taken well.named
 
@@ -148,7 +148,7 @@ module _ (m : Mesh) (good : IsValidSurface m) (k : ℕ) (pairs : List PairName) 
   keys_after asked named = ids_of_still asked ∙ named ∙ sym (keys-with_moves m (moving way.taken) once.live)
 
 -- the way that is taken goes well
-well_taken : (s : State) → IsRunInvariant s → first_outside s.mesh s.asked ≡ None → GoesWell s.mesh (taken s).taken
+pub well_taken : (s : State) → IsRunInvariant s → first_outside s.mesh s.asked ≡ None → GoesWell s.mesh s.set.depth (taken s).taken
 unfolding taken
 well_taken s kept inside = taken_well s.mesh s.asked s.set kept.now.good.sound kept.now.good.clear kept.now.names (all_inside s.mesh s.asked inside) kept.now.still
 
@@ -172,6 +172,7 @@ keeps_step s kept inside = keeps_lines s.mesh kept.now.good (s.steps + 1) (hits 
 abbrev KeepsEffect : State → Effect → Type 0
 KeepsEffect s (Proceeds lines next) = LogIsSafe (standing s) lines × (after (standing s) lines ≡ standing next) × IsRunInvariant next
 KeepsEffect s (Refused why) = Unit {0}
+KeepsEffect s Unanswered = Unit {0}
 
 ids_of_one : (v : ℕ) (by : Shift) (asked : Shifts) → map (λ s. s.v) (one_summed v by asked) ≡ map (λ s. s.v) asked
 ids_of_one v by [] = refl
@@ -259,10 +260,6 @@ one_well v by s now e = well_of_one s.mesh v by s.asked now (asked_of v s.asked)
 all_well : (by : ℕ → Shift) (s : State) (now : Shifts) → sum_of_all s.mesh by s.asked ≡ Ok now → AsksWell s.mesh s.asked now
 all_well by s now e = well_of_all s.mesh by s.asked now (first_beyond s.mesh by s.asked) e
 
-answer_well : (given : Answer) (s : State) (now : Shifts) → sum_of_answer given s.mesh s.asked ≡ Ok now → AsksWell s.mesh s.asked now
-answer_well (Some by) s now e = all_well by s now e
-answer_well None s now e = absurd cc
-
 pub kept_by_one : (v : ℕ) (by : Shift) (s : State) (now : Shifts) (o : Option UseWhy) → IsRunInvariant s → AsksNow (sum_of_one s.mesh v by s.asked) now o → o ≡ None → IsRunInvariant (record s { asked = now })
 kept_by_one v by s now o kept asks e = kept_asked s (sum_of_one s.mesh v by s.asked) now o kept (one_well v by s) asks e
 
@@ -270,6 +267,11 @@ pub kept_by_all : (by : ℕ → Shift) (s : State) (now : Shifts) (r : Result (O
 kept_by_all by s now r kept asks e =
     let P : Result (Option UseWhy) Stop → Type 0 = λ x. IfOk x (AsksNow (sum_of_all s.mesh by s.asked) now) in
     kept_asked s (sum_of_all s.mesh by s.asked) now None kept (all_well by s) (subst P e asks) refl
+
+keeps_drive : (given : Answer) (s : State) → IsRunInvariant s → KeepsEffect s (drive_effect given s)
+keeps_drive (FieldShifts by) s kept = keeps_shift s kept (sum_of_all s.mesh by s.asked) (all_well by s)
+keeps_drive NoSuchField s kept = tt
+keeps_drive Nothing s kept = tt
 
 keeps_set : (s : State) (set : Settings) → IsRunInvariant s → KeepsEffect s (set_effect set s)
 keeps_set s set kept = (tt, refl, record { now = kept.now; groups = kept.groups })
@@ -325,7 +327,7 @@ keeps_effect given (directive.SetZones zones) s kept = keeps_set s (record s.set
 keeps_effect given (directive.SetHalvings halvings) s kept = keeps_set s (record s.set { halvings = halvings }) kept
 keeps_effect given (directive.ShiftOne v by) s kept = keeps_shift s kept (sum_of_one s.mesh v by s.asked) (one_well v by s)
 keeps_effect given (directive.ShiftAll by) s kept = keeps_shift s kept (sum_of_all s.mesh (λ v. by) s.asked) (all_well (λ v. by) s)
-keeps_effect given (directive.Drive name) s kept = keeps_shift s kept (sum_of_answer given s.mesh s.asked) (answer_well given s)
+keeps_effect given (directive.Drive name) s kept = keeps_drive given s kept
 keeps_effect given (directive.Solid v) s kept = keeps_solid s v kept (is_some (finite.get s.mesh.points v)) refl
 keeps_effect given directive.Step s kept = keeps_step_effect s kept (first_outside s.mesh s.asked) refl
 keeps_effect given (directive.Pass kind) s kept =
@@ -348,18 +350,19 @@ kept_next given what s next lines kept goes = let P : Effect → Type 0 = λ t. 
 pub kept_stepped : (s t : State) (a b : Option (List ℕ)) (r : Result (Option UseWhy) Stop) → IsRunInvariant s → StepTakes s t a b r → r ≡ Ok None → IsRunInvariant t
 kept_stepped s t a b r kept takes e =
     let P : Result (Option UseWhy) Stop → Type 0 = λ x. StepTakes s t a b x in
-    kept_next None directive.Step s t (step_lines s) kept (subst P e takes).0
+    kept_next Nothing directive.Step s t (step_lines s) kept (subst P e takes).0
 
 pub kept_passed : (kind : PassKind) (s t : State) (a b : Option (List ℕ)) (r : Result (Option UseWhy) Stop) → IsRunInvariant s → PassTakes kind s t a b r → r ≡ Ok None → IsRunInvariant t
 kept_passed kind s t a b r kept takes e =
     let P : Result (Option UseWhy) Stop → Type 0 = λ x. PassTakes kind s t a b x in
     let Q : State → Type 0 = λ x. IsRunInvariant x in
-    subst Q (sym (subst P e takes).0) (kept_next None (directive.Pass kind) s (after_pass kind s) (passed_lines kind s) kept refl)
+    subst Q (sym (subst P e takes).0) (kept_next Nothing (directive.Pass kind) s (after_pass kind s) (passed_lines kind s) kept refl)
 
 keeps_and_then : (line : ℕ) (s : State) (t : Effect) (next : State → ExpectedLog) → KeepsEffect s t → ((n : State) → IsRunInvariant n → LogIsSafe (standing n) (next n).lines) → LogIsSafe (standing s) (and_then line t next).lines
 keeps_and_then line s (Proceeds lines n) next k h =
     let P : Replay → Type 0 = λ r. LogIsSafe r (next n).lines in keeps_append lines (next n).lines (standing s) k.0 (subst P (sym k.1) (h n k.2))
 keeps_and_then line s (Refused why) next k h = (tt, tt)
+keeps_and_then line s Unanswered next k h = tt
 
 pub keeps_told : (answers : Answers) (steps : List Placed) (s : State) → IsRunInvariant s → LogIsSafe (standing s) (log_from answers steps s).lines
 keeps_told answers [] s kept = (tt, tt)

@@ -22,3 +22,5 @@ pub mod DriveTaken
 pub mod StepTaken
 pub mod Promises
 pub mod NoFields
+pub mod Limits
+pub mod Again

@@ -9,13 +9,14 @@ use Rattle.step_choose.specs.Choice.{Way}
 use Rattle.mesh_base.specs.declared.UseWhy.{UseWhy}
 use Rattle.log_text.specs.Lines.{text_of_lines}
 use Rattle.log_text.specs.declared.LogLine.{LogLine}
-use Rattle.log_text.specs.declared.LogLine.TheVariants.{First, Step, Solid, Hit, Block, Move, Moved, Pass, Did, No, Mesh as MeshLine, Group as GroupLine, Close, End, Refused as RefusedLine}
+use Rattle.log_text.specs.declared.LogLine.TheVariants.{First, Step, Solid, Hit, Block, Move, Moved, Pass, PassFit, Did, No, Mesh as MeshLine, Group as GroupLine, Close, End, Refused as RefusedLine}
 use Rattle.log_replay.specs.Replay.{Replay, after, replayed, at_mesh}
 use Rattle.step_text.specs.declared.Directive.TheVariants as directive
 use Rattle.outside_io.specs.Desk.{Files}
 use Rattle.outside_io.specs.Sink.{appended}
 use Rattle.track_engine.specs.declared.stop.Stop.{Stop}
 use Rattle.track_engine.specs.State.{State, standing}
+use Rattle.track_engine.specs.Answers.{Nothing}
 use Rattle.track_engine.specs.Effects.{effect_of, Proceeds, hits, taken, moving, moved_mesh, hit_lines, block_lines, move_lines, way_lines, lines_of_step, is_whole, step_lines, after_step}
 use Rattle.log_write.specs.Written.{WrittenInPart}
 use Rattle.track_engine.specs.Saved.{Target, files_of, stored}
@@ -40,6 +41,7 @@ files_of-none to (Close kept ∷ lines) from none = files_of-none to lines (repl
 files_of-none to (Hit p ∷ lines) from none = files_of-none to lines (replayed from (Hit p)) none
 files_of-none to (Block ids ∷ lines) from none = files_of-none to lines (replayed from (Block ids)) none
 files_of-none to (Pass kind ∷ lines) from none = files_of-none to lines (replayed from (Pass kind)) none
+files_of-none to (PassFit ∷ lines) from none = files_of-none to lines (replayed from PassFit) none
 files_of-none to (Did change ∷ lines) from none = files_of-none to lines (replayed from (Did change)) none
 files_of-none to (No what why ∷ lines) from none = files_of-none to lines (replayed from (No what why)) none
 files_of-none to (Move s ∷ lines) from none = files_of-none to lines (replayed from (Move s)) none
@@ -58,6 +60,7 @@ front_none (Close kept ∷ xs) ys none = front_none xs ys none
 front_none (Hit p ∷ xs) ys none = front_none xs ys none
 front_none (Block ids ∷ xs) ys none = front_none xs ys none
 front_none (Pass kind ∷ xs) ys none = front_none xs ys none
+front_none (PassFit ∷ xs) ys none = front_none xs ys none
 front_none (Did change ∷ xs) ys none = front_none xs ys none
 front_none (No what why ∷ xs) ys none = front_none xs ys none
 front_none (Move s ∷ xs) ys none = front_none xs ys none
@@ -138,8 +141,8 @@ after-step_lines s =
     after-lines_of_step (standing s) (s.steps + 1) (hits s) (taken s)
     ∙ ap (λ (l : List Mesh). record { mesh = moved_mesh s.mesh (taken s).taken; moves = []; stack = l }) (sym (stack_failed (not (is_whole (taken s).how)) s.groups))
 
-takes_step : (to : Target) (s t : State) (files : Option Files) (old new : Option (List ℕ)) → effect_of None directive.Step s ≡ Proceeds (step_lines s) t → t ≡ after_step s → new ≡ appended old (text_of_lines (step_lines s))
-    → Takes to (effect_of None directive.Step s) s t (record { files = files; written = old }) (record { files = files; written = new })
+takes_step : (to : Target) (s t : State) (files : Option Files) (old new : Option (List ℕ)) → effect_of Nothing directive.Step s ≡ Proceeds (step_lines s) t → t ≡ after_step s → new ≡ appended old (text_of_lines (step_lines s))
+    → Takes to (effect_of Nothing directive.Step s) s t (record { files = files; written = old }) (record { files = files; written = new })
 takes_step to s t files old new goes is said = record {
   lines = step_lines s;
   goes = goes;
@@ -149,7 +152,7 @@ takes_step to s t files old new goes is said = record {
 
 -- a step, as an effect
 pub advances_step : (to : Target) (s t : State) (files : Option Files) (old new : Option (List ℕ)) (r : Result (Option UseWhy) Stop) → StepTakes s t old new r
-    → Advances to (effect_of None directive.Step s) s t (record { files = files; written = old }) (record { files = files; written = new }) r
+    → Advances to (effect_of Nothing directive.Step s) s t (record { files = files; written = old }) (record { files = files; written = new }) r
 advances_step to s t files old new (Ok None) takes = takes_step to s t files old new takes.0 takes.1 takes.2
 advances_step to s t files old new (Ok (Some why)) takes = (takes.0, ap (λ (w : Option (List ℕ)). record { files = files; written = w }) takes.1)
 advances_step to s t files old new (Err stop) (inl same) = inl (ap (λ (w : Option (List ℕ)). record { files = files; written = w }) same)

@@ -17,6 +17,7 @@ use Rattle.log_write.proofs.WrittenLines.{written_whole}
 use Rattle.track_engine.specs.declared.stop.Stop.{Stop}
 use Rattle.track_engine.specs.Saved.{Target}
 use Rattle.track_engine.specs.State.{Group, State, standing, asked_in, is_open}
+use Rattle.track_engine.specs.Answers.{Nothing}
 use Rattle.track_engine.specs.Effects.{Proceeds, effect_of, passed_lines, passed_mesh, after_pass, fail_if}
 use Rattle.track_engine.specs.Parts.{Advances, PassTakes}
 use Rattle.track_engine.proofs.NoFiles.{files_of-none, logs_from_said, stops_from_said}
@@ -52,7 +53,7 @@ module _ (kind : PassKind) (s : State) (grouped : Bool) (same : grouped ≡ is_o
 
 -- a pass, as an effect
 pub advances_pass : (to : Target) (kind : PassKind) (s t : State) (files : Option Files) (old new : Option (List ℕ)) (r : Result (Option UseWhy) Stop) → PassTakes kind s t old new r
-    → Advances to (effect_of None (directive.Pass kind) s) s t (record { files = files; written = old }) (record { files = files; written = new }) r
+    → Advances to (effect_of Nothing (directive.Pass kind) s) s t (record { files = files; written = old }) (record { files = files; written = new }) r
 advances_pass to kind s t files old new (Ok None) takes = record {
   lines = passed_lines kind s;
   goes = ap (Proceeds (passed_lines kind s)) (sym takes.0);

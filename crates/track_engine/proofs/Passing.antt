@@ -5,7 +5,7 @@ use Rattle.grid_decided.specs.Decided.{meets_exactly, meets_exactly-is_exact}
 use Rattle.mesh_base.specs.Mesh.{Mesh}
 use Rattle.edit_base.specs.declared.PassKind.{PassKind}
 use Rattle.log_text.specs.declared.LogLine.{LogLine}
-use Rattle.log_text.specs.declared.LogLine.TheVariants.{Pass, Did, No}
+use Rattle.log_text.specs.declared.LogLine.TheVariants.{Pass, PassFit, Did, No}
 use Rattle.log_replay.specs.Replay.{Replay, after, replayed}
 use Rattle.log_replay.specs.OfPass.{IsOfPass, AreOfPass}
 use Rattle.log_replay.specs.Safe.{LineIsSafe, LinesKeepTheMesh}
@@ -22,6 +22,7 @@ use Rattle.track_engine.proofs.NoFiles.{NoFiles}
 
 line_holds : (r : Replay) (line : LogLine) → IsOfPass line → LineIsSafe r line → LineHolds r line
 line_holds r (Pass kind) h k = tt
+line_holds r PassFit h k = tt
 line_holds r (Did change) h k = k
 line_holds r (No what why) h k = tt
 line_holds r line h k = absurd h
@@ -61,6 +62,7 @@ pass_keeps kind s good =
 -- lines of a pass name no file
 no_file : (line : LogLine) (lines : List LogLine) → IsOfPass line → NoFiles lines → NoFiles (line ∷ lines)
 no_file (Pass kind) lines h k = k
+no_file PassFit lines h k = k
 no_file (Did change) lines h k = k
 no_file (No what why) lines h k = k
 no_file line lines h k = absurd h

@@ -25,7 +25,7 @@ use Rattle.pair_scan.proofs.InOrder.{are_failing}
 use Rattle.step_text.specs.declared.Directive.TheVariants as directive
 use Rattle.log_text.specs.declared.LogLine.{LogLine}
 use Rattle.track_engine.specs.State.{State}
-use Rattle.track_engine.specs.Effects.{Effect, Proceeds, Refused, effect_of, step_effect, first_outside, hits, taken, is_whole, step_lines, lines_of_step}
+use Rattle.track_engine.specs.Effects.{Effect, Proceeds, Refused, Unanswered, effect_of, step_effect, first_outside, hits, taken, is_whole, step_lines, lines_of_step}
 use Rattle.track_engine.specs.Answers.{Answer}
 use Rattle.track_engine.specs.Invariant.{IsAskedWell}
 use Rattle.track_engine.specs.Promise.{EachPasses, blocks_moved, StepIsTold}
@@ -132,6 +132,7 @@ effect_told s next lines None e = let P : List LogLine → Type 0 = λ l. StepIs
     lines_in : Effect → List LogLine
     lines_in (Proceeds ls n) = ls
     lines_in (Refused why) = []
+    lines_in Unanswered = []
 
     same_lines : step_effect None s ≡ Proceeds lines next → step_lines s ≡ lines
     same_lines e = ap lines_in e
@@ -140,6 +141,7 @@ effect_told s next lines (Some v) e = absurd (goes_not e)
     goes : Effect → Bool
     goes (Proceeds ls n) = true
     goes (Refused why) = false
+    goes Unanswered = false
 
     goes_not : step_effect (Some v) s ≡ Proceeds lines next → ⊥
     goes_not e = false≢true (ap goes e)

@@ -18,8 +18,8 @@ use Rattle.log_text.specs.declared.LogLine.TheVariants.{First}
 use Rattle.log_replay.specs.Replay.{after, closed}
 use Rattle.mesh_base.specs.Valid.{IsValidSurface}
 use Rattle.track_engine.specs.State.{Group, State, start, standing}
-use Rattle.track_engine.specs.Effects.{Effect, Proceeds, Refused, ExpectedLog, effect_of, mesh_line, and_then, log_from, shift_effect, solid_effect, close_effect, step_effect, kept_whole, taken_back, sum_of_one, sum_of_all, sum_of_answer, first_outside}
-use Rattle.track_engine.specs.Answers.{Answer}
+use Rattle.track_engine.specs.Effects.{Effect, Proceeds, Refused, Unanswered, effect_of, shift_effect, drive_effect, solid_effect, close_effect, step_effect, kept_whole, taken_back, sum_of_one, sum_of_all, first_outside}
+use Rattle.track_engine.specs.Answers.{Answer, Nothing, NoSuchField, FieldShifts}
 use Rattle.track_engine.specs.Invariant.{IsRunInvariant}
 use Rattle.log_replay.proofs.Replaying.{after-append}
 use Rattle.track_engine.proofs.NoFiles.{after-step_lines}
@@ -32,10 +32,16 @@ use Rattle.track_engine.proofs.Keeping.{kept_next, kept_start}
 abbrev Replays : State → Effect → Type 0
 Replays s (Proceeds lines next) = after (standing s) lines ≡ standing next
 Replays s (Refused why) = Unit {0}
+Replays s Unanswered = Unit {0}
 
 shift_replays : (s : State) (r : Result Shifts UseWhy) → Replays s (shift_effect r s)
 shift_replays s (Ok asked) = refl
 shift_replays s (Err why) = tt
+
+drive_replays : (given : Answer) (s : State) → Replays s (drive_effect given s)
+drive_replays (FieldShifts by) s = shift_replays s (sum_of_all s.mesh by s.asked)
+drive_replays NoSuchField s = tt
+drive_replays Nothing s = tt
 
 solid_replays : (v : ℕ) (s : State) (b : Bool) → Replays s (solid_effect b v s)
 solid_replays v s true = refl
@@ -61,7 +67,7 @@ replays given (directive.SetZones zones) s = refl
 replays given (directive.SetHalvings halvings) s = refl
 replays given (directive.ShiftOne v by) s = shift_replays s (sum_of_one s.mesh v by s.asked)
 replays given (directive.ShiftAll by) s = shift_replays s (sum_of_all s.mesh (λ v. by) s.asked)
-replays given (directive.Drive name) s = shift_replays s (sum_of_answer given s.mesh s.asked)
+replays given (directive.Drive name) s = drive_replays given s
 replays given directive.Step s = step_replays s (first_outside s.mesh s.asked)
 replays given (directive.Pass kind) s = pass_replays kind s
 replays given directive.Save s = refl

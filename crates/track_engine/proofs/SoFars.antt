@@ -17,7 +17,7 @@ use Rattle.outside_io.proofs.Written.{appended-nil}
 use Rattle.track_engine.specs.declared.stop.Stop.{Stop}
 use Rattle.log_text.specs.declared.Refusal.{Refusal}
 use Rattle.track_engine.specs.State.{State, standing}
-use Rattle.track_engine.specs.Effects.{ExpectedLog, Effect, Proceeds, Refused, effect_of, and_then, log_from, refused}
+use Rattle.track_engine.specs.Effects.{ExpectedLog, Ended, Effect, Proceeds, Refused, Unanswered, effect_of, and_then, with_log, log_from, refused}
 use Rattle.log_replay.specs.Replay.{Replay, replayed, after}
 use Rattle.track_engine.specs.Saved.{Target, files_of, stored}
 use Rattle.log_write.specs.Written.{Written}
@@ -25,15 +25,14 @@ use Rattle.track_engine.specs.Answers.{Answer, Answers}
 use Rattle.track_engine.specs.Answered.{Known, IsAnswer, AreAnswered, FollowsAnswers}
 use Rattle.track_engine.specs.Parts.{Takes, TakesInPart, AdvancesAnswered}
 use Rattle.track_engine.specs.World.{Contents, Logs, StopsIn, StopsShort, Follows}
-use Rattle.track_engine.proofs.Worlds.{logs_then, short_then, short_more, short_nothing, short_line}
+use Rattle.track_engine.proofs.Worlds.{GoesOn, logs_then, short_then, short_more, short_nothing, short_line}
 use Rattle.log_replay.proofs.Replaying.{after-append}
-use Rattle.track_engine.proofs.Remaining.{HasLines, log_left}
+use Rattle.track_engine.proofs.Remaining.{log_left}
 
 -- The lines so far are written, and with those that are left they are all. The replay stands at the state.
 pub record SoFar (to : Target) (all left : ExpectedLog) (first now : State) (old new : Contents) : Type 0 where
   pub done : List LogLine
-  pub whole : done ++ left.lines ≡ all.lines
-  pub ending : left.ending ≡ all.ending
+  pub whole : with_log done left ≡ all
   pub logs : Logs to (standing first) done old new
   pub replay : after (standing first) done ≡ standing now
 
@@ -41,17 +40,20 @@ pub so_far_none : (to : Target) (all : ExpectedLog) (first : State) (old : Conte
 so_far_none to all first old = record {
   done = [];
   whole = refl;
-  ending = refl;
   logs = record { written = sym (appended-nil old.written); files = refl };
   replay = refl;
 }
 
 -- the lines of an effect, and then the others
-and_then-proceeds : (line : ℕ) (t : Effect) (lines : List LogLine) (s : State) (next : State → ExpectedLog) → t ≡ Proceeds lines s → and_then line t next ≡ record { lines = lines ++ (next s).lines; ending = (next s).ending }
+and_then-proceeds : (line : ℕ) (t : Effect) (lines : List LogLine) (s : State) (next : State → ExpectedLog) → t ≡ Proceeds lines s → and_then line t next ≡ with_log lines (next s)
 and_then-proceeds line t lines s next e = ap (λ t. and_then line t next) e
 
 and_then-refused : (line : ℕ) (t : Effect) (why : UseWhy) (next : State → ExpectedLog) → t ≡ Refused why → and_then line t next ≡ refused (StepUse line why)
 and_then-refused line t why next e = ap (λ t. and_then line t next) e
+
+-- some lines, and then more, before a log
+with_more : (xs ys : List LogLine) (rest : ExpectedLog) → with_log (xs ++ ys) rest ≡ with_log xs (with_log ys rest)
+with_more xs ys rest = λ i. record { lines = append_assoc xs ys rest.lines i; ending = rest.ending }
 
 -- one more effect
 pub so_far_more : (to : Target) (all : ExpectedLog) (line : ℕ) (t : Effect) (next : State → ExpectedLog) (first now then : State) (old mid new : Contents)
@@ -61,40 +63,43 @@ so_far_more to all line t next first now then old mid new s takes =
     let P : Replay → Type 0 = λ r. Logs to r takes.lines mid new in
     record {
       done = s.done ++ takes.lines;
-      whole = append_assoc s.done takes.lines (next then).lines ∙ ap (λ (t : ExpectedLog). s.done ++ t.lines) (sym e) ∙ s.whole;
-      ending = ap (λ (t : ExpectedLog). t.ending) (sym e) ∙ s.ending;
+      whole = with_more s.done takes.lines (next then) ∙ ap (with_log s.done) (sym e) ∙ s.whole;
       logs = logs_then to (standing first) s.done takes.lines old mid new s.logs (subst P (sym s.replay) takes.logs);
       replay = after-append (standing first) s.done takes.lines ∙ ap (λ r. after r takes.lines) s.replay ∙ takes.replay;
     }
 
 -- an effect that stops in its lines, which others follow
-pub so_far_part : (to : Target) (all : ExpectedLog) (line : ℕ) (t : Effect) (next : State → ExpectedLog) (first now : State) (old mid new : Contents) (stop : Stop) → ((s : State) → HasLines (next s))
-    → SoFar to all (and_then line t next) first now old mid → TakesInPart stop to t now mid new → StopsShort stop to (standing first) all.lines old new
+pub so_far_part : (to : Target) (all : ExpectedLog) (line : ℕ) (t : Effect) (next : State → ExpectedLog) (first now : State) (old mid new : Contents) (stop : Stop) → ((s : State) → GoesOn (next s))
+    → SoFar to all (and_then line t next) first now old mid → TakesInPart stop to t now mid new → StopsShort stop to (standing first) all old new
 so_far_part to all line t next first now old mid new stop others s takes =
     let e = and_then-proceeds line t takes.lines takes.next next takes.goes in
     let P : Replay → Type 0 = λ r. StopsIn stop to r takes.lines mid new in
-    let Q : List LogLine → Type 0 = λ l. StopsShort stop to (standing first) l old new in
-    subst Q (ap (λ (t : ExpectedLog). s.done ++ t.lines) (sym e) ∙ s.whole)
-    (short_then stop to (standing first) s.done (takes.lines ++ (next takes.next).lines) old mid new s.logs
-    (short_more stop to (after (standing first) s.done) takes.lines (next takes.next).lines mid new (others takes.next) (subst P (sym s.replay) takes.stops)))
+    let Q : ExpectedLog → Type 0 = λ l. StopsShort stop to (standing first) l old new in
+    subst Q (ap (with_log s.done) (sym e) ∙ s.whole)
+    (short_then stop to (standing first) s.done (with_log takes.lines (next takes.next)) old mid new s.logs
+    (short_more stop to (after (standing first) s.done) takes.lines (next takes.next) mid new (others takes.next) (subst P (sym s.replay) takes.stops)))
+
+-- a last line is left
+abbrev pub last_only : LogLine → Option Refusal → ExpectedLog
+last_only line told = record { lines = line ∷ []; ending = Ended told }
 
 -- the last line is written
-pub so_far_last : (to : Target) (all : ExpectedLog) (line : LogLine) (ending : Option Refusal) (first now : State) (old mid new : Contents)
-    → SoFar to all (record { lines = line ∷ []; ending = ending }) first now old mid → ((r : Replay) → Logs to r (line ∷ []) mid new) → Logs to (standing first) all.lines old new × (ending ≡ all.ending)
-so_far_last to all line ending first now old mid new s logs =
-    let Q : List LogLine → Type 0 = λ l. Logs to (standing first) l old new in
-    (subst Q s.whole (logs_then to (standing first) s.done (line ∷ []) old mid new s.logs (logs _)), s.ending)
+pub so_far_last : (to : Target) (all : ExpectedLog) (line : LogLine) (told : Option Refusal) (first now : State) (old mid new : Contents)
+    → SoFar to all (last_only line told) first now old mid → ((r : Replay) → Logs to r (line ∷ []) mid new) → Logs to (standing first) all.lines old new × (all.ending ≡ Ended told)
+so_far_last to all line told first now old mid new s logs =
+    let Q : ExpectedLog → Type 0 = λ l. Logs to (standing first) l.lines old new in
+    (subst Q s.whole (logs_then to (standing first) s.done (line ∷ []) old mid new s.logs (logs _)), ap (λ (l : ExpectedLog). l.ending) (sym s.whole))
 
-pub so_far_last_part : (to : Target) (all : ExpectedLog) (line : LogLine) (ending : Option Refusal) (first now : State) (old mid new : Contents) (stop : Stop)
-    → SoFar to all (record { lines = line ∷ []; ending = ending }) first now old mid → ((r : Replay) → StopsShort stop to r (line ∷ []) mid new) → StopsShort stop to (standing first) all.lines old new
-so_far_last_part to all line ending first now old mid new stop s stops =
-    let Q : List LogLine → Type 0 = λ l. StopsShort stop to (standing first) l old new in
-    subst Q s.whole (short_then stop to (standing first) s.done (line ∷ []) old mid new s.logs (stops _))
+pub so_far_last_part : (to : Target) (all : ExpectedLog) (line : LogLine) (told : Option Refusal) (first now : State) (old mid new : Contents) (stop : Stop)
+    → SoFar to all (last_only line told) first now old mid → ((r : Replay) → StopsShort stop to r (last_only line told) mid new) → StopsShort stop to (standing first) all old new
+so_far_last_part to all line told first now old mid new stop s stops =
+    let Q : ExpectedLog → Type 0 = λ l. StopsShort stop to (standing first) l old new in
+    subst Q s.whole (short_then stop to (standing first) s.done (last_only line told) old mid new s.logs (stops _))
 
 -- All directives are answered, and one line is left.
-pub record Ends (fields : Known) (to : Target) (line : LogLine) (ending : Option Refusal) (steps : List Placed) (first now : State) (old new : Contents) : Type 0 where
+pub record Ends (fields : Known) (to : Target) (line : LogLine) (told : Option Refusal) (steps : List Placed) (first now : State) (old new : Contents) : Type 0 where
   pub answers : Answers
-  pub so_far : SoFar to (log_from answers steps first) (record { lines = line ∷ []; ending = ending }) first now old new
+  pub so_far : SoFar to (log_from answers steps first) (last_only line told) first now old new
   pub answered : (whole : Bool) → AreAnswered fields whole answers steps first
 
 -- a refused directive
@@ -104,11 +109,11 @@ so_far_refused to all line t why next first now old mid s e =
     let P : ExpectedLog → Type 0 = λ left. SoFar to all left first now old mid in subst P (and_then-refused line t why next e) s
 
 -- nothing more is written
-so_far_nothing : (to : Target) (all left : ExpectedLog) (first now : State) (old mid new : Contents) (stop : Stop) → HasLines left → SoFar to all left first now old mid → new ≡ mid → StopsShort stop to (standing first) all.lines old new
+so_far_nothing : (to : Target) (all left : ExpectedLog) (first now : State) (old mid new : Contents) (stop : Stop) → GoesOn left → SoFar to all left first now old mid → new ≡ mid → StopsShort stop to (standing first) all old new
 so_far_nothing to all left first now old mid new stop some s same =
-    let Q : List LogLine → Type 0 = λ l. StopsShort stop to (standing first) l old new in
-    let P : Contents → Type 0 = λ w. StopsShort stop to (after (standing first) s.done) left.lines mid w in
-    subst Q s.whole (short_then stop to (standing first) s.done left.lines old mid new s.logs (subst P (sym same) (short_nothing stop to _ left.lines mid some)))
+    let Q : ExpectedLog → Type 0 = λ l. StopsShort stop to (standing first) l old new in
+    let P : Contents → Type 0 = λ w. StopsShort stop to (after (standing first) s.done) left mid w in
+    subst Q s.whole (short_then stop to (standing first) s.done left old mid new s.logs (subst P (sym same) (short_nothing stop to _ left mid some)))
 
 -- ---- the directives, as the fields answer
 
@@ -163,6 +168,7 @@ module _ (fields : Known) (to : Target) (steps : List Placed) (i : ℕ) (p : Pla
       state_in : Effect → State
       state_in (Proceeds lines next) = next
       state_in (Refused why) = then
+      state_in Unanswered = then
 
       others : {lines lines' : List LogLine} {next : State} (whole : Bool) (more : Answers) → AreAnswered fields whole more (drop (i + 1) steps) then → Proceeds lines then ≡ Proceeds lines' next → AreAnswered fields whole more (drop (i + 1) steps) next
       others whole more rest e = let P : State → Type 0 = λ s. AreAnswered fields whole more (drop (i + 1) steps) s in subst P (ap state_in e) rest
@@ -178,7 +184,7 @@ module _ (fields : Known) (to : Target) (steps : List Placed) (i : ℕ) (p : Pla
   effect_part then stop (inl same) = record {
     answers = here.given ++ [];
     answered = here.answered false [] refl;
-    follows = so_far_nothing to _ _ first now old mid new stop (log_left [] (p ∷ drop (i + 1) steps) now) (here.so_far []) same;
+    follows = so_far_nothing to (log_from (here.given ++ []) steps first) (log_from [] (p ∷ drop (i + 1) steps) now) first now old mid new stop (log_left [] (p ∷ drop (i + 1) steps) now) (here.so_far []) same;
     stands = tt;
   }
   effect_part then stop (inr takes) = record {
@@ -204,6 +210,7 @@ module _ (fields : Known) (to : Target) (steps : List Placed) (i : ℕ) (p : Pla
       proceeds : Effect → Bool
       proceeds (Proceeds lines next) = true
       proceeds (Refused why) = false
+      proceeds Unanswered = false
 
       never : {lines : List LogLine} {next : State} → Refused why ≡ Proceeds lines next → ⊥
       never e = false≢true (ap proceeds e)
@@ -221,29 +228,29 @@ at_end fields to steps i first now old mid h s =
     record { answers = done.given ++ []; so_far = done.so_far []; answered = λ whole. done.answered whole [] tt }
 
 -- the last line, which names no file
-last_said : (to : Target) (all : ExpectedLog) (line : LogLine) (ending : Option Refusal) (first now : State) (old : Contents) (files : Option Files) (mid new : Option (List ℕ)) (r : Result (Option Refusal) Stop) → ((from : Replay) → stored (files_of to from (line ∷ [])) files ≡ files)
-    → SoFar to all (record { lines = line ∷ []; ending = ending }) first now old (record { files = files; written = mid }) → Written mid new (line ∷ []) r → OnErr r (AppendsPart mid new (text_of_line line)) → IfOk r (λ e. e ≡ ending)
+last_said : (to : Target) (all : ExpectedLog) (line : LogLine) (told : Option Refusal) (first now : State) (old : Contents) (files : Option Files) (mid new : Option (List ℕ)) (r : Result (Option Refusal) Stop) → ((from : Replay) → stored (files_of to from (line ∷ [])) files ≡ files)
+    → SoFar to all (last_only line told) first now old (record { files = files; written = mid }) → Written mid new (line ∷ []) r → OnErr r (AppendsPart mid new (text_of_line line)) → IfOk r (λ e. e ≡ told)
     → Follows to (standing first) all old (record { files = files; written = new }) r
-last_said to all line ending first now old files mid new (Ok e) none s said part is =
-    let last = so_far_last to all line ending first now old _ (record { files = files; written = new }) s (λ from. record { written = said; files = sym (none from) }) in
-    (last.0, is ∙ last.1)
-last_said to all line ending first now old files mid new (Err stop) none s said part is =
-    so_far_last_part to all line ending first now old _ (record { files = files; written = new }) stop s (λ from. short_line stop to from line [] files mid new part)
+last_said to all line told first now old files mid new (Ok e) none s said part is =
+    let last = so_far_last to all line told first now old _ (record { files = files; written = new }) s (λ from. record { written = said; files = sym (none from) }) in
+    (last.0, last.1 ∙ ap Ended (sym is))
+last_said to all line told first now old files mid new (Err stop) none s said part is =
+    so_far_last_part to all line told first now old _ (record { files = files; written = new }) stop s (λ from. short_line stop to from line (record { lines = []; ending = Ended told }) files mid new part)
 
 -- the last line changes nothing in a replay
-stands_last : (to : Target) (all : ExpectedLog) (line : LogLine) (ending : Option Refusal) (first now then : State) (old mid : Contents) (r : Result (Option Refusal) Stop) → ((from : Replay) → replayed from line ≡ from)
-    → SoFar to all (record { lines = line ∷ []; ending = ending }) first now old mid → then ≡ now → IfOk r (λ _. after (standing first) all.lines ≡ standing then)
-stands_last to all line ending first now then old mid (Ok e) still s same =
-    ap (after (standing first)) (sym s.whole) ∙ after-append (standing first) s.done (line ∷ []) ∙ ap (λ r. replayed r line) s.replay ∙ still (standing now) ∙ ap standing (sym same)
-stands_last to all line ending first now then old mid (Err stop) still s same = tt
+stands_last : (to : Target) (all : ExpectedLog) (line : LogLine) (told : Option Refusal) (first now then : State) (old mid : Contents) (r : Result (Option Refusal) Stop) → ((from : Replay) → replayed from line ≡ from)
+    → SoFar to all (last_only line told) first now old mid → then ≡ now → IfOk r (λ _. after (standing first) all.lines ≡ standing then)
+stands_last to all line told first now then old mid (Ok e) still s same =
+    ap (λ (l : ExpectedLog). after (standing first) l.lines) (sym s.whole) ∙ after-append (standing first) s.done (line ∷ []) ∙ ap (λ r. replayed r line) s.replay ∙ still (standing now) ∙ ap standing (sym same)
+stands_last to all line told first now then old mid (Err stop) still s same = tt
 
 -- the last line, at the state after it
-pub finished : (fields : Known) (to : Target) (line : LogLine) (ending : Option Refusal) (steps : List Placed) (first now then : State) (old : Contents) (files : Option Files) (mid new : Option (List ℕ)) (r : Result (Option Refusal) Stop) → ((from : Replay) → stored (files_of to from (line ∷ [])) files ≡ files) → ((from : Replay) → replayed from line ≡ from)
-    → then ≡ now → Ends fields to line ending steps first now old (record { files = files; written = mid }) → Written mid new (line ∷ []) r → OnErr r (AppendsPart mid new (text_of_line line)) → IfOk r (λ e. e ≡ ending)
+pub finished : (fields : Known) (to : Target) (line : LogLine) (told : Option Refusal) (steps : List Placed) (first now then : State) (old : Contents) (files : Option Files) (mid new : Option (List ℕ)) (r : Result (Option Refusal) Stop) → ((from : Replay) → stored (files_of to from (line ∷ [])) files ≡ files) → ((from : Replay) → replayed from line ≡ from)
+    → then ≡ now → Ends fields to line told steps first now old (record { files = files; written = mid }) → Written mid new (line ∷ []) r → OnErr r (AppendsPart mid new (text_of_line line)) → IfOk r (λ e. e ≡ told)
     → FollowsAnswers fields to steps first then old (record { files = files; written = new }) r
-finished fields to line ending steps first now then old files mid new r none still same ends said part is = record {
+finished fields to line told steps first now then old files mid new r none still same ends said part is = record {
   answers = ends.answers;
   answered = ends.answered (is_ok r);
-  follows = last_said to (log_from ends.answers steps first) line ending first now old files mid new r none ends.so_far said part is;
-  stands = stands_last to (log_from ends.answers steps first) line ending first now then old _ r still ends.so_far same;
+  follows = last_said to (log_from ends.answers steps first) line told first now old files mid new r none ends.so_far said part is;
+  stands = stands_last to (log_from ends.answers steps first) line told first now then old _ r still ends.so_far same;
 }

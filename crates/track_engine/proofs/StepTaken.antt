@@ -17,6 +17,7 @@ use Rattle.track_engine.specs.declared.stop.Stop.{Stop}
 use Rattle.track_engine.specs.State.{Group, State}
 use Rattle.log_write.specs.Written.{WrittenInPart}
 use Rattle.log_write.proofs.WrittenLines.{written_then, written_nothing, part_then, part_more}
+use Rattle.track_engine.specs.Answers.{Nothing}
 use Rattle.track_engine.specs.Effects.{Proceeds, effect_of, step_effect, first_outside, hits, taken, moved_mesh, all_still, is_whole, fail_if, hit_lines, way_lines, step_lines, after_step}
 use Rattle.track_engine.specs.Parts.{StepTakes}
 
@@ -35,7 +36,7 @@ begin_line s = StepLine (s.steps + 1) ∷ []
 -- ---- a step that stops before it is chosen
 
 module _ (s : State) (inside : first_outside s.mesh s.asked ≡ None) where
-  goes : effect_of None Step s ≡ Proceeds (step_lines s) (after_step s)
+  goes : effect_of Nothing Step s ≡ Proceeds (step_lines s) (after_step s)
   goes = ap (λ o. step_effect o s) inside
 
   abbrev others : List LogLine

@@ -9,6 +9,7 @@ use Rattle.outside_io.specs.Desk.{Files}
 use Rattle.track_engine.specs.declared.stop.Stop.{Stop}
 use Rattle.log_replay.specs.Replay.{Replay, after, replayed}
 use Rattle.track_engine.specs.Saved.{Target, files_of, file_at, stored, file_name}
+use Rattle.track_engine.specs.Effects.{ExpectedLog, CutShort, with_log}
 use Rattle.track_engine.specs.World.{Contents, Logs, StopsIn, StopsShort, LastIsOpen, IsOpen}
 use Rattle.outside_io.specs.Sink.{appended, AppendsPart}
 use Rattle.log_replay.proofs.Replaying.{after-append}
@@ -80,27 +81,35 @@ stops_open stop to from k vertices faces files now old new said is_open = record
 pub one_line : (line : LogLine) (lines : List LogLine) → line ∷ lines ≢ []
 one_line line lines e = absurd cc
 
-pub more_lines : (xs ys : List LogLine) → ys ≢ [] → xs ++ ys ≢ []
+-- a log has lines, or it is cut short
+abbrev pub GoesOn : ExpectedLog → Type 0
+GoesOn log = (log.lines ≢ []) ⊎ (log.ending ≡ CutShort)
+
+more_lines : (xs ys : List LogLine) → ys ≢ [] → xs ++ ys ≢ []
 more_lines [] ys some = some
 more_lines (x ∷ xs) ys some = one_line x (xs ++ ys)
 
--- in the lines after others
-pub short_then : (stop : Stop) (to : Target) (from : Replay) (xs ys : List LogLine) (a b c : Contents) → Logs to from xs a b → StopsShort stop to (after from xs) ys b c → StopsShort stop to from (xs ++ ys) a c
-unfolding stops_then
-short_then stop to from xs ys a b c p s = record { in_part = stops_then stop to from xs ys a b c p s.in_part; left = s.left }
+pub more_left : (xs : List LogLine) (rest : ExpectedLog) → GoesOn rest → GoesOn (with_log xs rest)
+more_left xs rest (inl some) = inl (more_lines xs rest.lines some)
+more_left xs rest (inr cut) = inr cut
 
--- a stop in some lines is before the end of more
-pub short_more : (stop : Stop) (to : Target) (from : Replay) (xs ys : List LogLine) (a b : Contents) → ys ≢ [] → StopsIn stop to from xs a b → StopsShort stop to from (xs ++ ys) a b
+-- in a log after some lines
+pub short_then : (stop : Stop) (to : Target) (from : Replay) (xs : List LogLine) (rest : ExpectedLog) (a b c : Contents) → Logs to from xs a b → StopsShort stop to (after from xs) rest b c → StopsShort stop to from (with_log xs rest) a c
+unfolding stops_then
+short_then stop to from xs rest a b c p s = record { in_part = stops_then stop to from xs rest.lines a b c p s.in_part; left = s.left }
+
+-- a stop in some lines is before the end of a log that goes on
+pub short_more : (stop : Stop) (to : Target) (from : Replay) (xs : List LogLine) (rest : ExpectedLog) (a b : Contents) → GoesOn rest → StopsIn stop to from xs a b → StopsShort stop to from (with_log xs rest) a b
 unfolding stops_more
-short_more stop to from xs ys a b some s = record { in_part = stops_more stop to from xs ys a b s; left = more_lines s.text.rest ys some }
+short_more stop to from xs rest a b some s = record { in_part = stops_more stop to from xs rest.lines a b s; left = more_left s.text.rest rest some }
 
 -- nothing was done
-pub short_nothing : (stop : Stop) (to : Target) (from : Replay) (lines : List LogLine) (w : Contents) → lines ≢ [] → StopsShort stop to from lines w w
+pub short_nothing : (stop : Stop) (to : Target) (from : Replay) (log : ExpectedLog) (w : Contents) → GoesOn log → StopsShort stop to from log w w
 unfolding stops_nothing
-short_nothing stop to from lines w some = record { in_part = stops_nothing stop to from lines w; left = some }
+short_nothing stop to from log w some = record { in_part = stops_nothing stop to from log.lines w; left = some }
 
 -- the first line is written in part
-pub short_line : (stop : Stop) (to : Target) (from : Replay) (line : LogLine) (lines : List LogLine) (files : Option Files) (old new : Option (List ℕ)) → AppendsPart old new (text_of_line line)
-    → StopsShort stop to from (line ∷ lines) (record { files = files; written = old }) (record { files = files; written = new })
+pub short_line : (stop : Stop) (to : Target) (from : Replay) (line : LogLine) (rest : ExpectedLog) (files : Option Files) (old new : Option (List ℕ)) → AppendsPart old new (text_of_line line)
+    → StopsShort stop to from (with_log (line ∷ []) rest) (record { files = files; written = old }) (record { files = files; written = new })
 unfolding stops_line
-short_line stop to from line lines files old new part = record { in_part = stops_line stop to from line lines files old new part; left = one_line line lines }
+short_line stop to from line rest files old new part = record { in_part = stops_line stop to from line rest.lines files old new part; left = inl (one_line line rest.lines) }

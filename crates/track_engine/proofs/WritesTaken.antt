@@ -10,7 +10,8 @@ use Rattle.step_text.specs.declared.Directive.{Directive}
 use Rattle.step_text.specs.declared.Directive.TheVariants as directive
 use Rattle.track_engine.specs.declared.stop.Stop.{Stop}
 use Rattle.track_engine.specs.State.{Group, State, standing}
-use Rattle.track_engine.specs.Effects.{Effect, Proceeds, Refused, effect_of, solid_effect, close_effect, kept_whole, taken_back}
+use Rattle.track_engine.specs.Effects.{Effect, Proceeds, Refused, Unanswered, effect_of, solid_effect, close_effect, kept_whole, taken_back}
+use Rattle.track_engine.specs.Answers.{Nothing}
 use Rattle.track_engine.specs.Saved.{Target}
 use Rattle.track_engine.specs.Invariant.{IsRunInvariant}
 use Rattle.track_engine.specs.Parts.{Advances, Writes}
@@ -22,6 +23,7 @@ use Rattle.track_engine.proofs.Replayed.{effect_replayed}
 abbrev NamesNone : Effect → Type 0
 NamesNone (Proceeds lines next) = NoFiles lines
 NamesNone (Refused why) = Unit {0}
+NamesNone Unanswered = Unit {0}
 
 solid_names : (v : ℕ) (s : State) (b : Bool) → NamesNone (solid_effect b v s)
 solid_names v s true = tt
@@ -32,15 +34,15 @@ close_names s [] = tt
 close_names s (group ∷ outer) = tt
 
 -- what it writes is what it does
-writes_advance : (to : Target) (what : Directive) (s t : State) (files : Option Files) (old new : Option (List ℕ)) (r : Result (Option UseWhy) Stop) → NamesNone (effect_of None what s) → Writes (effect_of None what s) t old new r
-    → Advances to (effect_of None what s) s t (record { files = files; written = old }) (record { files = files; written = new }) r
+writes_advance : (to : Target) (what : Directive) (s t : State) (files : Option Files) (old new : Option (List ℕ)) (r : Result (Option UseWhy) Stop) → NamesNone (effect_of Nothing what s) → Writes (effect_of Nothing what s) t old new r
+    → Advances to (effect_of Nothing what s) s t (record { files = files; written = old }) (record { files = files; written = new }) r
 writes_advance to what s t files old new (Ok None) none w =
     let names : NoFiles w.0 = subst NamesNone w.1 none in
     record {
       lines = w.0;
       goes = w.1;
       logs = logs_from_said to (standing s) w.0 files old new (files_of-none to w.0 (standing s) names) w.2;
-      replay = effect_replayed None what s t w.0 w.1;
+      replay = effect_replayed Nothing what s t w.0 w.1;
     }
 writes_advance to what s t files old new (Ok (Some why)) none w = (w.0, ap (λ (x : Option (List ℕ)). record { files = files; written = x }) w.1)
 writes_advance to what s t files old new (Err stop) none (inl same) = inl (ap (λ (x : Option (List ℕ)). record { files = files; written = x }) same)
@@ -49,21 +51,21 @@ writes_advance to what s t files old new (Err stop) none (inr w) =
     inr (record { lines = w.0; next = w.1; goes = w.2; stops = stops_from_said stop to (standing s) w.0 files old new names w.3 })
 
 module _ (to : Target) (s t : State) (files : Option Files) (old new : Option (List ℕ)) (r : Result (Option UseWhy) Stop) where
-  pub advances_solid : (v : ℕ) → Writes (effect_of None (directive.Solid v) s) t old new r → Advances to (effect_of None (directive.Solid v) s) s t (record { files = files; written = old }) (record { files = files; written = new }) r
+  pub advances_solid : (v : ℕ) → Writes (effect_of Nothing (directive.Solid v) s) t old new r → Advances to (effect_of Nothing (directive.Solid v) s) s t (record { files = files; written = old }) (record { files = files; written = new }) r
   advances_solid v w = writes_advance to (directive.Solid v) s t files old new r (solid_names v s (is_some (finite.get s.mesh.points v))) w
 
-  pub advances_group : Writes (effect_of None directive.Group s) t old new r → Advances to (effect_of None directive.Group s) s t (record { files = files; written = old }) (record { files = files; written = new }) r
+  pub advances_group : Writes (effect_of Nothing directive.Group s) t old new r → Advances to (effect_of Nothing directive.Group s) s t (record { files = files; written = old }) (record { files = files; written = new }) r
   advances_group w = writes_advance to directive.Group s t files old new r tt w
 
-  pub advances_close : Writes (effect_of None directive.Close s) t old new r → Advances to (effect_of None directive.Close s) s t (record { files = files; written = old }) (record { files = files; written = new }) r
+  pub advances_close : Writes (effect_of Nothing directive.Close s) t old new r → Advances to (effect_of Nothing directive.Close s) s t (record { files = files; written = old }) (record { files = files; written = new }) r
   advances_close w = writes_advance to directive.Close s t files old new r (close_names s s.groups) w
 
 -- the state after it is as each directive leaves it
-pub kept_written : (what : Directive) (s t : State) (old new : Option (List ℕ)) (r : Result (Option UseWhy) Stop) → IsRunInvariant s → Writes (effect_of None what s) t old new r → r ≡ Ok None → IsRunInvariant t
+pub kept_written : (what : Directive) (s t : State) (old new : Option (List ℕ)) (r : Result (Option UseWhy) Stop) → IsRunInvariant s → Writes (effect_of Nothing what s) t old new r → r ≡ Ok None → IsRunInvariant t
 kept_written what s t old new r kept w e =
-    let P : Result (Option UseWhy) Stop → Type 0 = λ x. Writes (effect_of None what s) t old new x in
-    let taken : Writes (effect_of None what s) t old new (Ok None) = subst P e w in
-    kept_next None what s t taken.0 kept taken.1
+    let P : Result (Option UseWhy) Stop → Type 0 = λ x. Writes (effect_of Nothing what s) t old new x in
+    let taken : Writes (effect_of Nothing what s) t old new (Ok None) = subst P e w in
+    kept_next Nothing what s t taken.0 kept taken.1
 
 -- a directive that is never refused leaves nothing to say of a refusal
 pub never_refused : (r : Result (Option UseWhy) Stop) (P : Type 0) → IfOk r (λ refused. refused ≡ None) → IfOk r (λ refused. IsSome refused → P)

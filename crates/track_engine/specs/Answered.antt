@@ -1,4 +1,4 @@
--- When answers are those of the stored fields.
+-- When what is given to directives is what the stored fields answer.
 use Rattle.std.specs.Prelude.{◌≡◌, ℕ, Bool, false, is_ok, List, [], ◌∷◌, Option, Some, None, Result, IfOk}
 use Rattle.std.specs.FinMap as finite
 use Rattle.std.specs.Fn.{Shared}
@@ -14,7 +14,7 @@ use Rattle.log_text.specs.declared.Refusal.{Refusal}
 use Rattle.log_replay.specs.Replay.{after}
 use Rattle.track_engine.specs.declared.stop.Stop.{Stop}
 use Rattle.track_engine.specs.State.{State, standing}
-use Rattle.track_engine.specs.Answers.{Answer, Answers}
+use Rattle.track_engine.specs.Answers.{Answer, Nothing, NoSuchField, FieldShifts, Answers}
 use Rattle.track_engine.specs.Effects.{Proceeds, effect_of, log_from}
 use Rattle.track_engine.specs.Saved.{Target}
 use Rattle.track_engine.specs.World.{Contents, Follows}
@@ -41,17 +41,18 @@ IsAnswerAt may_answer m v by = (p : Point) → finite.get m.points v ≡ Some p 
 abbrev pub AreAnswersOf : (Point → Shift → Type 0) → Mesh → (ℕ → Shift) → Type 0
 AreAnswersOf may_answer m by = (v : ℕ) → IsAnswerAt may_answer m v (by v)
 
--- the answer of a field to a directive; none where there is no such field
+-- the answer to a drive: the shifts of the field of this number, or that there is none
 abbrev pub IsAnswerOf : Known → Mesh → Option ℕ → Answer → Type 0
-IsAnswerOf fields m (Some which) given = (by : ℕ → Shift) × (given ≡ Some by) × AreAnswersOf (fields.may_answer which) m by
-IsAnswerOf fields m None given = given ≡ None
+IsAnswerOf fields m (Some which) given = (by : ℕ → Shift) × (given ≡ FieldShifts by) × AreAnswersOf (fields.may_answer which) m by
+IsAnswerOf fields m None given = given ≡ NoSuchField
 
--- the answer to a directive that is given where the mesh is this one
+-- the answer to a directive that is given where the mesh is this one: to a drive that of the field that it names, to another nothing
 abbrev pub IsAnswer : Known → Mesh → Directive → Answer → Type 0
-IsAnswer fields m what given = IsAnswerOf fields m (named_field fields.names what) given
+IsAnswer fields m (Drive name) given = IsAnswerOf fields m (place_of fields.names name) given
+IsAnswer fields m _ given = given ≡ Nothing
 
--- Each directive, as far as the run came, was answered so, in the state to which those before it led. The run came to the end of its log
--- where it is whole.
+-- Each directive was answered so, in the state to which those before it led, as far as there are answers. A run that came to the end of
+-- its log, which then is whole, has them all.
 abbrev pub AreAnswered : Known → Bool → Answers → List Placed → State → Type 0
 AreAnswered fields whole answers [] s = Unit {0}
 AreAnswered fields whole [] (placed ∷ more) s = whole ≡ false
@@ -60,8 +61,8 @@ AreAnswered fields whole (given ∷ answers) (placed ∷ more) s =
     × ((lines : List LogLine) (next : State) → effect_of given placed.what s ≡ Proceeds lines next → AreAnswered fields whole answers more next)
 
 -- A part of a run follows directives as the fields answer: it writes the lines that are expected by their answers and stores their
--- meshes, or the first of them and not all. It began at s and ended at t: where it came to the end of its log, the replay of the log's lines
--- stands where the run then stands.
+-- meshes, or is stopped before the end of them, and beyond a drive that was not answered it writes nothing. It began at s and ended at t:
+-- where it came to the end of its log, the replay of the log's lines stands where the run then stands.
 pub record FollowsAnswers (fields : Known) (to : Target) (steps : List Placed) (s t : State) (old new : Contents) (result : Result (Option Refusal) Stop) : Type 0 where
   pub answers : Answers
   pub answered : AreAnswered fields (is_ok result) answers steps s

@@ -31,7 +31,7 @@ use Rattle.log_text.specs.declared.LogLine.TheVariants.{Step, Solid, Hit, Block,
 use Rattle.edit_base.specs.declared.PassKind.{PassKind}
 use Rattle.pass_run.specs.PassLines.{lines_due, mesh_due, refused_in}
 use Rattle.track_engine.specs.State.{Group, State, start, still_at, asked_of, asked_in, is_open}
-use Rattle.track_engine.specs.Answers.{Answer, Answers, first, later}
+use Rattle.track_engine.specs.Answers.{Answer, Nothing, NoSuchField, FieldShifts, Answers, first, later}
 
 -- ---- shifts that are asked
 
@@ -62,11 +62,6 @@ sum_or_range (Some v) m by asked = Err (ShiftRange v)
 
 abbrev pub sum_of_all : Mesh → (ℕ → Shift) → Shifts → Result Shifts UseWhy
 sum_of_all m by asked = sum_or_range (first_beyond m by asked) m by asked
-
--- the same with what a field answers, or that there is no such field
-abbrev pub sum_of_answer : Answer → Mesh → Shifts → Result Shifts UseWhy
-sum_of_answer (Some by) m asked = sum_of_all m by asked
-sum_of_answer None m asked = Err NoField
 
 -- the shift is added to what is asked of one vertex
 abbrev pub one_summed : ℕ → Shift → Shifts → Shifts
@@ -184,14 +179,21 @@ after_pass kind s = record s {
 
 -- ---- a directive
 
--- what a directive gives: its lines and the state after it, or a reason against it
+-- what a directive gives: its lines and the state after it, or a reason against it, or, where it is not answered, neither
 pub data Effect : Type 0 where
   Proceeds : (lines : List LogLine) (next : State) → Effect
   Refused : (why : UseWhy) → Effect
+  Unanswered : Effect
 
 abbrev pub shift_effect : Result Shifts UseWhy → State → Effect
 shift_effect (Ok asked) s = Proceeds [] (record s { asked = asked })
 shift_effect (Err why) s = Refused why
+
+-- The shifts that a field answers are added to what is asked, or there is no such field. A drive that is not answered waits.
+abbrev pub drive_effect : Answer → State → Effect
+drive_effect (FieldShifts by) s = shift_effect (sum_of_all s.mesh by s.asked) s
+drive_effect NoSuchField s = Refused NoField
+drive_effect Nothing s = Unanswered
 
 -- from here on the settings are these
 abbrev pub set_effect : Settings → State → Effect
@@ -232,7 +234,7 @@ close_effect [] s = Proceeds [] s
 close_effect (group ∷ outer) s =
     Proceeds (Close (not group.failed) ∷ []) (if group.failed then taken_back group outer s else kept_whole outer s)
 
--- What a directive does, by what the field that it names answers. Only `drive` names a field.
+-- What a directive does, by what is given to it. Only `drive` asks for something.
 abbrev pub effect_of : Answer → Directive → State → Effect
 effect_of given (directive.SetDepth depth) s = set_effect (record s.set { depth = depth }) s
 effect_of given (directive.SetPasses passes) s = set_effect (record s.set { passes = passes }) s
@@ -240,7 +242,7 @@ effect_of given (directive.SetZones zones) s = set_effect (record s.set { zones 
 effect_of given (directive.SetHalvings halvings) s = set_effect (record s.set { halvings = halvings }) s
 effect_of given (directive.ShiftOne v by) s = shift_effect (sum_of_one s.mesh v by s.asked) s
 effect_of given (directive.ShiftAll by) s = shift_effect (sum_of_all s.mesh (λ v. by) s.asked) s
-effect_of given (directive.Drive name) s = shift_effect (sum_of_answer given s.mesh s.asked) s
+effect_of given (directive.Drive name) s = drive_effect given s
 effect_of given (directive.Solid v) s = solid_effect (is_some (finite.get s.mesh.points v)) v s
 effect_of given directive.Step s = step_effect (first_outside s.mesh s.asked) s
 effect_of given (directive.Pass kind) s = Proceeds (passed_lines kind s) (after_pass kind s)
@@ -250,10 +252,15 @@ effect_of given directive.Close s = close_effect s.groups s
 
 -- ---- all directives
 
--- a log, and the refusal that its last line tells, if it tells one
+-- how a log ends: by a last line, which tells a refusal or none; or it is cut short before a directive that is not answered
+pub data Ending : Type 0 where
+  Ended : (told : Option Refusal) → Ending
+  CutShort : Ending
+
+-- a log, and how it ends
 pub record ExpectedLog : Type 0 where
   pub lines : List LogLine
-  pub ending : Option Refusal
+  pub ending : Ending
 
 -- the refusal that a last line tells
 abbrev pub ending_of : LogLine → Option Refusal
@@ -262,20 +269,27 @@ ending_of _ = None
 
 -- a log whose last line is a refusal
 abbrev pub refused : Refusal → ExpectedLog
-refused why = record { lines = RefusedLine why ∷ []; ending = Some why }
+refused why = record { lines = RefusedLine why ∷ []; ending = Ended (Some why) }
 
--- the lines of a directive at a line of the step file, and then the others'
+-- no line more, of this directive or of one after it
+abbrev pub cut_short : ExpectedLog
+cut_short = record { lines = []; ending = CutShort }
+
+-- lines, and then a log
+abbrev pub with_log : List LogLine → ExpectedLog → ExpectedLog
+with_log lines rest = record { lines = lines ++ rest.lines; ending = rest.ending }
+
+-- The lines of a directive at a line of the step file, and then the others'. Where it is not answered, the log is cut short.
 abbrev pub and_then : ℕ → Effect → (State → ExpectedLog) → ExpectedLog
-and_then line (Proceeds lines s) next = record { lines = lines ++ (next s).lines; ending = (next s).ending }
+and_then line (Proceeds lines s) next = with_log lines (next s)
 and_then line (Refused why) next = refused (StepUse line why)
+and_then line Unanswered next = cut_short
 
--- the log of the directives, from a state on, by what fields answer
+-- the log of the directives, from a state on, as far as they are answered
 abbrev pub log_from : Answers → List Placed → State → ExpectedLog
-log_from answers [] s = record { lines = End ∷ []; ending = None }
+log_from answers [] s = record { lines = End ∷ []; ending = Ended None }
 log_from answers (placed ∷ more) s = and_then placed.line (effect_of (first answers) placed.what s) (log_from (later answers) more)
 
--- the log from the first mesh that is saved on, by what fields answer
+-- the log from the first mesh that is saved on, as far as the directives are answered
 abbrev pub log_of_mesh : Answers → Mesh → List Placed → ExpectedLog
-log_of_mesh answers m steps =
-    let rest = log_from answers steps (start m) in
-    record { lines = mesh_line 0 m ∷ rest.lines; ending = rest.ending }
+log_of_mesh answers m steps = with_log (mesh_line 0 m ∷ []) (log_from answers steps (start m))

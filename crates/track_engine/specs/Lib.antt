@@ -3,6 +3,7 @@ pub mod State
 pub mod Answers
 pub mod Engines
 pub mod Effects
+pub mod FirstParts
 pub mod Answered
 pub mod Saved
 pub mod Targets
@@ -13,3 +14,4 @@ pub mod Promise
 pub mod Placing
 pub mod Shifting
 pub mod Parts
+pub mod Again

@@ -10,7 +10,7 @@ use Rattle.log_replay.specs.Replay.{Replay, after}
 use Rattle.outside_io.specs.Sink.{appended}
 use Rattle.track_engine.specs.declared.stop.Stop.{Stop}
 use Rattle.track_engine.specs.State.{State, standing}
-use Rattle.track_engine.specs.Answers.{Answer}
+use Rattle.track_engine.specs.Answers.{Answer, Nothing}
 use Rattle.track_engine.specs.Answered.{Known, IsAnswer}
 use Rattle.track_engine.specs.Effects.{Effect, Proceeds, Refused, effect_of, step_lines, after_step, passed_lines, after_pass, mesh_line}
 use Rattle.log_write.specs.Written.{WrittenInPart}
@@ -57,9 +57,9 @@ Writes effect new_state old new (Err stop) = (new ≡ old) ⊎ ((lines : List Lo
 
 -- a step, by what it writes
 abbrev pub StepTakes : State → State → Option (List ℕ) → Option (List ℕ) → Result (Option UseWhy) Stop → Type 0
-StepTakes old_state new_state old new (Ok None) = (effect_of None Step old_state ≡ Proceeds (step_lines old_state) new_state) × (new_state ≡ after_step old_state) × (new ≡ appended old (text_of_lines (step_lines old_state)))
-StepTakes old_state new_state old new (Ok (Some why)) = (effect_of None Step old_state ≡ Refused why) × (new ≡ old)
-StepTakes old_state new_state old new (Err stop) = (new ≡ old) ⊎ ((effect_of None Step old_state ≡ Proceeds (step_lines old_state) (after_step old_state)) × WrittenInPart old new (step_lines old_state))
+StepTakes old_state new_state old new (Ok None) = (effect_of Nothing Step old_state ≡ Proceeds (step_lines old_state) new_state) × (new_state ≡ after_step old_state) × (new ≡ appended old (text_of_lines (step_lines old_state)))
+StepTakes old_state new_state old new (Ok (Some why)) = (effect_of Nothing Step old_state ≡ Refused why) × (new ≡ old)
+StepTakes old_state new_state old new (Err stop) = (new ≡ old) ⊎ ((effect_of Nothing Step old_state ≡ Proceeds (step_lines old_state) (after_step old_state)) × WrittenInPart old new (step_lines old_state))
 
 -- a pass, by what it writes
 abbrev pub PassTakes : PassKind → State → State → Option (List ℕ) → Option (List ℕ) → Result (Option UseWhy) Stop → Type 0

@@ -13,7 +13,7 @@ use Rattle.track_engine.specs.declared.stop.Stop.{Stop}
 use Rattle.track_engine.specs.declared.stop.Stop.TheVariants.{NoMemory, DeskFault, SinkFault}
 use Rattle.log_write.specs.Written.{WrittenInPart}
 use Rattle.track_engine.specs.Saved.{Target, files_of, file_name, stored}
-use Rattle.track_engine.specs.Effects.{ExpectedLog}
+use Rattle.track_engine.specs.Effects.{ExpectedLog, Ended, CutShort}
 
 -- From old to new these lines were written, and the meshes that they name were stored.
 pub record Logs (to : Target) (from : Replay) (lines : List LogLine) (old new : Contents) : Type 0 where
@@ -41,10 +41,11 @@ pub record StopsIn (stop : Stop) (to : Target) (from : Replay) (lines : List Log
   pub text : WrittenInPart old.written new.written lines
   pub files : (new.files ≡ stored (files_of to from text.done) old.files) ⊎ LastIsOpen stop to from text.done old.files new.files
 
--- A run was stopped in these lines before their end: what is left of them begins with a line that is not written whole.
-pub record StopsShort (stop : Stop) (to : Target) (from : Replay) (lines : List LogLine) (old new : Contents) : Type 0 where
-  pub in_part : StopsIn stop to from lines old new
-  pub left : in_part.text.rest ≢ []
+-- A run was stopped in a log before its end: what is left of the log begins with a line that is not written whole, or the log is cut
+-- short, and beyond that nothing is written.
+pub record StopsShort (stop : Stop) (to : Target) (from : Replay) (expected : ExpectedLog) (old new : Contents) : Type 0 where
+  pub in_part : StopsIn stop to from expected.lines old new
+  pub left : (in_part.text.rest ≢ []) ⊎ (expected.ending ≡ CutShort)
 
 -- the counts of faults have not fallen, and at a fault the one of its side has risen
 pub record HasCauses {T : Type 0} (old new : World) (result : Result T Stop) : Type 0 where
@@ -53,7 +54,7 @@ pub record HasCauses {T : Type 0} (old new : World) (result : Result T Stop) : T
   pub desk_fault : IsErrOf result DeskFault → Rose old.desk_faults new.desk_faults
   pub sink_fault : IsErrOf result SinkFault → Rose old.sink_faults new.sink_faults
 
--- A part of a run writes the lines that are expected and stores their meshes, or the first of them and not all.
+-- A part of a run writes the lines that are expected, to a last one, and stores their meshes, or it is stopped before the end.
 abbrev pub Follows : Target → Replay → ExpectedLog → Contents → Contents → Result (Option Refusal) Stop → Type 0
-Follows to from expected old new (Ok ending) = Logs to from expected.lines old new × (ending ≡ expected.ending)
-Follows to from expected old new (Err stop) = StopsShort stop to from expected.lines old new
+Follows to from expected old new (Ok told) = Logs to from expected.lines old new × (expected.ending ≡ Ended told)
+Follows to from expected old new (Err stop) = StopsShort stop to from expected old new

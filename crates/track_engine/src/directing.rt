@@ -3,6 +3,7 @@ ghost use Rattle.step_text.specs.Ranges.{IsInRange};
 ghost use Rattle.step_choose.specs.Settings.{AreWithinLimits};
 ghost use Rattle.outside_io.specs.Causes.{Rose};
 ghost use Rattle.track_engine.specs.State.{state_of};
+ghost use Rattle.track_engine.specs.Answers.{without_field};
 ghost use Rattle.track_engine.specs.Effects.{effect_of, sum_of_all, is_whole, moved_mesh, hit_lines, way_lines};
 ghost use Rattle.track_engine.specs.Groups.{failed_if};
 ghost use Rattle.track_engine.specs.Placing.{CanPlace};
@@ -187,7 +188,7 @@ fn take_pass<S: Surface, K: Sink>(
     Ok(None)
 }
 
-// Does one directive to which no field answers: its lines are written, or it is refused.
+// Does one directive to which no field answers, a drive as one of no field: its lines are written, or it is refused.
 fn take_plain<S: Surface, D: Desk, K: Sink>(
     alloc: Global,
     what: &Directive,
@@ -206,7 +207,8 @@ fn take_plain<S: Surface, D: Desk, K: Sink>(
     requires saved { run.old.saved + 1 < 2 ^ 32 }
     ensures advances { let old = state_of (S.mesh mesh.old) (S.kept mesh.old) run.old in
         let new = state_of (S.mesh mesh.new) (S.kept mesh.new) run.new in
-        Advances (target_of to.entry) (effect_of None what.now old) old new
+        let effect = effect_of (without_field what.now) what.now old in
+        Advances (target_of to.entry) effect old new
         (contents D.files K.written desk.old out.old)
         (contents D.files K.written desk.new out.new) result }
     // A refusal leaves the state as it was.

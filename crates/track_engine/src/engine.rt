@@ -104,7 +104,8 @@ impl<S: Surface> Engine<S> {
 
     /// Does the directives in order and writes the last line of the log, which tells the first that is refused, with its line in the
     /// step file, or the end. After each directive that is taken while no group is open, the mesh is settled. At the end of the whole
-    /// log the replay of its lines has the engine's mesh, and the meshes at which the open groups were opened.
+    /// log the replay of its lines has the engine's mesh, and the meshes at which the open groups were opened. Where it stops before the
+    /// field of a drive has answered, nothing is written of that drive or beyond.
     pub fn follow<D: Desk, K: Sink, F: Fn(u8, Point) -> Shift>(
         &mut self,
         alloc: Global,

@@ -3,6 +3,7 @@ ghost use Rattle.mesh_base.specs.Kept.{BeginsWith, MarkHolds, StandsFor};
 ghost use Rattle.step_text.specs.declared.Directive.TheVariants.{Group, Close};
 ghost use Rattle.outside_io.specs.Causes.{Rose};
 ghost use Rattle.track_engine.specs.State.{state_of};
+ghost use Rattle.track_engine.specs.Answers.{Nothing};
 ghost use Rattle.track_engine.specs.Effects.{effect_of};
 ghost use Rattle.track_engine.specs.Parts.{Writes};
 ghost use Rattle.track_engine.specs.Invariant.{MarksHold, left_by};
@@ -51,7 +52,7 @@ pub(crate) fn open_group<S: Surface, K: Sink>(
 ) -> Result<Option<UseWhy>, Stop>
     requires { MarksHold S.beyond (S.kept mesh.old) run.old.groups }
     ensures writes { Writes
-        (effect_of None Group (state_of (S.mesh mesh.old) (S.kept mesh.old) run.old))
+        (effect_of Nothing Group (state_of (S.mesh mesh.old) (S.kept mesh.old) run.old))
         (state_of (S.mesh mesh.new) (S.kept mesh.new) run.new)
         (K.written out.old) (K.written out.new) result }
     ensures taken { IfOk result (λ refused. refused ≡ None) }
@@ -87,7 +88,7 @@ pub(crate) fn close_group<S: Surface, K: Sink>(
 ) -> Result<Option<UseWhy>, Stop>
     requires { MarksHold S.beyond (S.kept mesh.old) run.old.groups }
     ensures writes { Writes
-        (effect_of None Close (state_of (S.mesh mesh.old) (S.kept mesh.old) run.old))
+        (effect_of Nothing Close (state_of (S.mesh mesh.old) (S.kept mesh.old) run.old))
         (state_of (S.mesh mesh.new) (S.kept mesh.new) run.new)
         (K.written out.old) (K.written out.new) result }
     ensures taken { IfOk result (λ refused. refused ≡ None) }

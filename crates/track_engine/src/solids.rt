@@ -3,6 +3,7 @@ ghost use Rattle.mesh_base.specs.Kept.{BeginsWith};
 ghost use Rattle.step_text.specs.declared.Directive.TheVariants.{Solid};
 ghost use Rattle.outside_io.specs.Causes.{Rose};
 ghost use Rattle.track_engine.specs.State.{state_of};
+ghost use Rattle.track_engine.specs.Answers.{Nothing};
 ghost use Rattle.track_engine.specs.Effects.{effect_of};
 ghost use Rattle.track_engine.specs.Parts.{Writes};
 ghost use Rattle.track_engine.specs.Invariant.{IsRunInvariant, MarksHold};
@@ -27,7 +28,7 @@ pub(crate) fn take_solid<S: Surface, K: Sink>(
     requires kept { IsRunInvariant (state_of (S.mesh mesh.old) (S.kept mesh.old) run.old) }
     requires marks { MarksHold S.beyond (S.kept mesh.old) run.old.groups }
     ensures writes { Writes
-        (effect_of None (Solid v) (state_of (S.mesh mesh.old) (S.kept mesh.old) run.old))
+        (effect_of Nothing (Solid v) (state_of (S.mesh mesh.old) (S.kept mesh.old) run.old))
         (state_of (S.mesh mesh.new) (S.kept mesh.new) run.new)
         (K.written out.old) (K.written out.new) result }
     ensures left { let old = state_of (S.mesh mesh.old) (S.kept mesh.old) run.old in

@@ -1,10 +1,14 @@
 -- A job: two files and the decimals of the points, and what they give.
 use Rattle.std.specs.Prelude.{◌≡◌, ℕ, List, [], length, map, Option, Some, None, Result, Ok, Err}
 use Rattle.grid_base.specs.Points.{point_at}
+use Rattle.grid_decided.specs.Decided.{meets_exactly}
+use Rattle.mesh_base.specs.declared.PairName.{PairName}
 use Rattle.mesh_base.specs.declared.ShapeFault.{ShapeFault}
 use Rattle.mesh_base.specs.declared.FileWord.TheVariants as file
 use Rattle.mesh_base.specs.Mesh.{Mesh}
 use Rattle.mesh_base.specs.Given.{mesh_of}
+use Rattle.mesh_base.specs.Placements.{rest_positions}
+use Rattle.mesh_base.specs.Failing.{first_meeting}
 use Rattle.mesh_plain.specs.Shape.{shape_fault}
 use Rattle.line_text.specs.declared.TextFault.{TextFault}
 use Rattle.obj_text.specs.Obj.{Lists, lists_of}
@@ -42,6 +46,10 @@ mesh_in decimals _ = mesh_of [] []
 -- the mesh of a job; the empty one, where its file gives none
 abbrev pub mesh_of_job : Job → Mesh
 mesh_of_job job = mesh_in job.decimals job.mesh_file
+
+-- the first edge and face of a mesh that meet where its vertices stand
+abbrev pub met_first : Mesh → Option PairName
+met_first m = first_meeting meets_exactly m (rest_positions m)
 
 -- what a job gives that is read without a fault: lists of good shape, and directives
 pub record Input : Type 0 where

@@ -8,7 +8,10 @@ use Rattle.mesh_base.specs.Mesh.{Mesh}
 use Rattle.mesh_plain.specs.Shape.{shape_fault}
 use Rattle.mesh_plain.proofs.Lists.{sound-mesh_of}
 use Rattle.mesh_plain.proofs.Faults.{closed-mesh_of}
+use Rattle.step_choose.specs.Settings.{AreWithinLimits}
 use Rattle.step_text.specs.declared.Placed.{Placed}
+use Rattle.step_text.specs.Ranges.{AreInRange}
+use Rattle.step_text.proofs.StepLaws.{steps_are_in_range_lem}
 use Rattle.step_text.specs.declared.Directive.{Directive}
 use Rattle.step_text.specs.declared.Directive.TheVariants as directive
 use Rattle.obj_text.specs.Obj.{Lists}
@@ -28,6 +31,7 @@ use Rattle.log_replay.proofs.Replaying.{after-append}
 use Rattle.track_run.proofs.CauseLemmas.{clear_told}
 use Rattle.track_engine.proofs.Replayed.{effect_replayed}
 use Rattle.track_engine.proofs.Keeping.{kept_next, kept_start}
+use Rattle.track_engine.proofs.Limits.{limits_next, limits_start}
 
 -- ---- the states that the directives of a job reach
 
@@ -44,6 +48,23 @@ reached_kept job answers s at =
     let sound = sound-mesh_of points at.lists.faces none in
     let good : IsValidSurface m = record { sound = sound; closed = closed-mesh_of points at.lists.faces none; clear = at.clear.none_meets } in
     reaches_kept answers at.front at.rest (start m) s (kept_start m good) at.reached
+
+-- ---- the settings there
+
+first_in_range : (front rest : List Placed) → AreInRange (front ++ rest) → AreInRange front
+first_in_range [] rest range = tt
+first_in_range (p ∷ front) rest range = (range.0, first_in_range front rest range.1)
+
+reaches_limits : (answers : Answers) (front : List Placed) (s t : State) → AreInRange front → AreWithinLimits s.set → Reaches answers s front t → AreWithinLimits t.set
+reaches_limits answers [] s t range limits same = let P : State → Type 0 = λ x. AreWithinLimits x.set in subst P same limits
+reaches_limits answers (p ∷ front) s t range limits reached =
+    reaches_limits (later answers) front reached.1 t range.1 (limits_next (first answers) p.what s reached.1 reached.0 range.0 limits reached.2) reached.3
+
+reached_limits : (job : Job) (answers : Answers) (s : State) → IsReached job answers s → AreWithinLimits s.set
+reached_limits job answers s at =
+    let read = at.clear.steps_read in
+    let range = (steps_are_in_range_lem read.steps at.directives read.read).0 in
+    reaches_limits answers at.front (start (mesh_of_lists at.lists)) s (first_in_range at.front at.rest (subst AreInRange at.split range)) (limits_start (mesh_of_lists at.lists)) at.reached
 
 -- ---- the log up to there
 
@@ -81,4 +102,5 @@ agrees_well job answers s there =
           ∙ ap (λ l. opening ++ l) lines.log;
       replay = ap (λ n. after (at_mesh n) lines.so_far) (mesh_given job there.lists _ there.clear.steps_read.mesh_read.lists_read) ∙ lines.replay;
       kept = reached_kept job answers s there;
+      limits = reached_limits job answers s there;
     }

@@ -24,25 +24,26 @@ use Rattle.track_run.specs.declared.outcome.Outcome.{Outcome}
 use Rattle.track_run.specs.declared.outcome.Outcome.TheVariants as outcome
 use Rattle.track_engine.specs.State.{State, start}
 use Rattle.track_engine.specs.Answers.{Answers, first, later}
-use Rattle.track_engine.specs.Effects.{Effect, Proceeds, Refused, ExpectedLog, effect_of, and_then, log_from, log_of_mesh, refused}
+use Rattle.track_engine.specs.Effects.{Effect, Proceeds, Refused, Unanswered, ExpectedLog, Ending, Ended, CutShort, effect_of, and_then, log_from, log_of_mesh, refused}
 use Rattle.track_input.specs.Source.{Source, Bytes, Absent, TooLong}
-use Rattle.track_input.specs.Job.{Job, mesh_of_lists}
-use Rattle.track_run.specs.Job.{log_of, log_of_test, met_first}
+use Rattle.track_input.specs.Job.{Job, mesh_of_lists, met_first}
+use Rattle.track_run.specs.Job.{log_of, log_of_test}
 use Rattle.track_run.proofs.JobLogs.{log_of_files, log_of_lists, log_of_shape, log_of_steps}
 use Rattle.track_run.specs.Outcomes.{outcome_of}
 use Rattle.track_run.specs.Causes.{Cause, HasLists, HasMesh, HasSteps, HasClear, Reaches, IsRefusedAt, IsStopped, answers_after}
 
 -- ---- the directives
 
--- how the directives end: all taken, or one is refused
-abbrev Ends : Answers → State → List Placed → Option Refusal → Type 0
-Ends answers s directives None = (end : State) × Reaches answers s directives end
-Ends answers s directives (Some (refusal.StepUse line why)) = IsRefusedAt answers s directives line why
-Ends answers s directives (Some _) = ⊥
+-- how the directives end: all taken, or one is refused, unless one is not answered
+abbrev Ends : Answers → State → List Placed → Ending → Type 0
+Ends answers s directives (Ended None) = (end : State) × Reaches answers s directives end
+Ends answers s directives (Ended (Some (refusal.StepUse line why))) = IsRefusedAt answers s directives line why
+Ends answers s directives (Ended (Some _)) = ⊥
+Ends answers s directives CutShort = Unit {0}
 
-one_more : (answers : Answers) (p : Placed) (s n : State) (lines : List LogLine) (more : List Placed) (o : Option Refusal) → effect_of (first answers) p.what s ≡ Proceeds lines n → Ends (later answers) n more o → Ends answers s (p ∷ more) o
-one_more answers p s n lines more None e h = (h.0, (lines, n, e, h.1))
-one_more answers p s n lines more (Some (refusal.StepUse line why)) e h = record {
+one_more : (answers : Answers) (p : Placed) (s n : State) (lines : List LogLine) (more : List Placed) (o : Ending) → effect_of (first answers) p.what s ≡ Proceeds lines n → Ends (later answers) n more o → Ends answers s (p ∷ more) o
+one_more answers p s n lines more (Ended None) e h = (h.0, (lines, n, e, h.1))
+one_more answers p s n lines more (Ended (Some (refusal.StepUse line why))) e h = record {
   front = p ∷ h.front;
   placed = h.placed;
   rest = h.rest;
@@ -52,16 +53,18 @@ one_more answers p s n lines more (Some (refusal.StepUse line why)) e h = record
   refused = h.refused;
   line_is = h.line_is;
 }
-one_more answers p s n lines more (Some (refusal.Long f seen)) e h = absurd h
-one_more answers p s n lines more (Some (refusal.Missing f)) e h = absurd h
-one_more answers p s n lines more (Some (refusal.Mesh f)) e h = absurd h
-one_more answers p s n lines more (Some (refusal.Shape f)) e h = absurd h
-one_more answers p s n lines more (Some (refusal.Meets f)) e h = absurd h
-one_more answers p s n lines more (Some (refusal.Steps f)) e h = absurd h
+one_more answers p s n lines more (Ended (Some (refusal.Long f seen))) e h = absurd h
+one_more answers p s n lines more (Ended (Some (refusal.Missing f))) e h = absurd h
+one_more answers p s n lines more (Ended (Some (refusal.Mesh f))) e h = absurd h
+one_more answers p s n lines more (Ended (Some (refusal.Shape f))) e h = absurd h
+one_more answers p s n lines more (Ended (Some (refusal.Meets f))) e h = absurd h
+one_more answers p s n lines more (Ended (Some (refusal.Steps f))) e h = absurd h
+one_more answers p s n lines more CutShort e h = tt
 
 by_effect : (answers : Answers) (p : Placed) (s : State) (more : List Placed) (next : (n : State) → Ends (later answers) n more (log_from (later answers) more n).ending) (t : Effect) → effect_of (first answers) p.what s ≡ t → Ends answers s (p ∷ more) (and_then p.line t (log_from (later answers) more)).ending
 by_effect answers p s more next (Proceeds lines n) e = one_more answers p s n lines more (log_from (later answers) more n).ending e (next n)
 by_effect answers p s more next (Refused why) e = record { front = []; placed = p; rest = more; split = refl; state = s; reached = refl; refused = e; line_is = refl }
+by_effect answers p s more next Unanswered e = tt
 
 told_ends : (answers : Answers) (directives : List Placed) (s : State) → Ends answers s directives (log_from answers directives s).ending
 told_ends answers [] s = (s, refl)
@@ -69,15 +72,21 @@ told_ends answers (p ∷ more) s = by_effect answers p s more (λ n. told_ends (
 
 -- ---- the files
 
-use_cause : (answers : Answers) (job : Job) (lists : Lists) (directives : List Placed) (o : Option Refusal) → HasClear job lists directives → Ends answers (start (mesh_of_lists lists)) directives o → Cause job answers (outcome_of o)
-use_cause answers job lists directives None read h = (lists, directives, read, h.0, h.1)
-use_cause answers job lists directives (Some (refusal.StepUse line why)) read h = (lists, directives, read, h)
-use_cause answers job lists directives (Some (refusal.Long f seen)) read h = absurd h
-use_cause answers job lists directives (Some (refusal.Missing f)) read h = absurd h
-use_cause answers job lists directives (Some (refusal.Mesh f)) read h = absurd h
-use_cause answers job lists directives (Some (refusal.Shape f)) read h = absurd h
-use_cause answers job lists directives (Some (refusal.Meets f)) read h = absurd h
-use_cause answers job lists directives (Some (refusal.Steps f)) read h = absurd h
+-- the cause of how a log ends, by a last line
+abbrev pub CauseOf : Job → Answers → Ending → Type 0
+CauseOf job answers (Ended told) = Cause job answers (outcome_of told)
+CauseOf job answers CutShort = Unit {0}
+
+use_cause : (answers : Answers) (job : Job) (lists : Lists) (directives : List Placed) (o : Ending) → HasClear job lists directives → Ends answers (start (mesh_of_lists lists)) directives o → CauseOf job answers o
+use_cause answers job lists directives (Ended None) read h = (lists, directives, read, h.0, h.1)
+use_cause answers job lists directives (Ended (Some (refusal.StepUse line why))) read h = (lists, directives, read, h)
+use_cause answers job lists directives (Ended (Some (refusal.Long f seen))) read h = absurd h
+use_cause answers job lists directives (Ended (Some (refusal.Missing f))) read h = absurd h
+use_cause answers job lists directives (Ended (Some (refusal.Mesh f))) read h = absurd h
+use_cause answers job lists directives (Ended (Some (refusal.Shape f))) read h = absurd h
+use_cause answers job lists directives (Ended (Some (refusal.Meets f))) read h = absurd h
+use_cause answers job lists directives (Ended (Some (refusal.Steps f))) read h = absurd h
+use_cause answers job lists directives CutShort read h = tt
 
 -- lists of good shape give a sound mesh
 lists_sound : (lists : Lists) → shape_fault (length lists.points) lists.faces ≡ None → IsSound (mesh_of_lists lists)
@@ -85,7 +94,7 @@ lists_sound lists good =
     let points = map point_at lists.points in
     sound-mesh_of points lists.faces (ap (λ n. shape_fault n lists.faces) (length-map lists.points point_at) ∙ good)
 
-meeting_cause : (answers : Answers) (job : Job) (lists : Lists) (directives : List Placed) (o : Option PairName) → HasSteps job lists directives → met_first (mesh_of_lists lists) ≡ o → Cause job answers (outcome_of (log_of_test answers (mesh_of_lists lists) directives o).ending)
+meeting_cause : (answers : Answers) (job : Job) (lists : Lists) (directives : List Placed) (o : Option PairName) → HasSteps job lists directives → met_first (mesh_of_lists lists) ≡ o → CauseOf job answers (log_of_test answers (mesh_of_lists lists) directives o).ending
 meeting_cause answers job lists directives (Some pair) h e =
     let m = mesh_of_lists lists in
     (lists, directives, h, record { found = e; meets = answer_meets m (Some pair) (sym e); none_before = answer_is_first m (Some pair) (lists_sound lists h.mesh_read.good) (sym e) })
@@ -93,41 +102,41 @@ meeting_cause answers job lists directives None h e =
     let clear : IsClearMesh (mesh_of_lists lists) = (clear_exactly (mesh_of_lists lists) None (lists_sound lists h.mesh_read.good) (sym e)).0 refl in
     use_cause answers job lists directives (log_of_mesh answers (mesh_of_lists lists) directives).ending (record { steps_read = h; clear = e; none_meets = clear }) (told_ends answers directives (start (mesh_of_lists lists)))
 
-steps_cause : (answers : Answers) (job : Job) (lists : Lists) (steps : List ℕ) (r : Result (List Placed) TextFault) → HasMesh job lists steps → steps_of steps ≡ r → Cause job answers (outcome_of (log_of_steps answers lists r).ending)
+steps_cause : (answers : Answers) (job : Job) (lists : Lists) (steps : List ℕ) (r : Result (List Placed) TextFault) → HasMesh job lists steps → steps_of steps ≡ r → CauseOf job answers (log_of_steps answers lists r).ending
 steps_cause answers job lists steps (Err fault) h e = (lists, steps, h, e)
 steps_cause answers job lists steps (Ok directives) h e =
     meeting_cause answers job lists directives (met_first (mesh_of_lists lists)) (record { steps = steps; mesh_read = h; read = e }) refl
 
-shape_cause : (answers : Answers) (job : Job) (lists : Lists) (steps : List ℕ) (o : Option ShapeFault) → HasLists job lists steps → shape_fault (length lists.points) lists.faces ≡ o → Cause job answers (outcome_of (log_of_shape answers lists o steps).ending)
+shape_cause : (answers : Answers) (job : Job) (lists : Lists) (steps : List ℕ) (o : Option ShapeFault) → HasLists job lists steps → shape_fault (length lists.points) lists.faces ≡ o → CauseOf job answers (log_of_shape answers lists o steps).ending
 shape_cause answers job lists steps (Some fault) h e = (lists, steps, h, e)
 shape_cause answers job lists steps None h e = steps_cause answers job lists steps (steps_of steps) (record { lists_read = h; good = e }) refl
 
 abbrev job_with : ℕ → Source → Source → Job
 job_with decimals mesh steps = record { mesh_file = mesh; step_file = steps; decimals = decimals }
 
-lists_cause : (answers : Answers) (decimals : ℕ) (mesh steps : List ℕ) (r : Result Lists TextFault) → lists_of decimals mesh ≡ r → Cause (job_with decimals (Bytes mesh) (Bytes steps)) answers (outcome_of (log_of_lists answers r steps).ending)
+lists_cause : (answers : Answers) (decimals : ℕ) (mesh steps : List ℕ) (r : Result Lists TextFault) → lists_of decimals mesh ≡ r → CauseOf (job_with decimals (Bytes mesh) (Bytes steps)) answers (log_of_lists answers r steps).ending
 lists_cause answers decimals mesh steps (Err fault) e = (mesh, refl, (steps, refl), e)
 lists_cause answers decimals mesh steps (Ok lists) e =
     shape_cause answers (job_with decimals (Bytes mesh) (Bytes steps)) lists steps (shape_fault (length lists.points) lists.faces) (record { mesh = mesh; mesh_file = refl; step_file = refl; read = e }) refl
 
-files_cause : (answers : Answers) (decimals : ℕ) (mesh steps : Source) → Cause (job_with decimals mesh steps) answers (outcome_of (log_of_files answers decimals mesh steps).ending)
+files_cause : (answers : Answers) (decimals : ℕ) (mesh steps : Source) → CauseOf (job_with decimals mesh steps) answers (log_of_files answers decimals mesh steps).ending
 files_cause answers decimals (TooLong seen) steps = refl
 files_cause answers decimals Absent steps = refl
 files_cause answers decimals (Bytes mesh) (TooLong seen) = ((mesh, refl), refl)
 files_cause answers decimals (Bytes mesh) Absent = ((mesh, refl), refl)
 files_cause answers decimals (Bytes mesh) (Bytes steps) = lists_cause answers decimals mesh steps (lists_of decimals mesh) refl
 
-pub log_cause : (answers : Answers) (job : Job) → Cause job answers (outcome_of (log_of job answers).ending)
+pub log_cause : (answers : Answers) (job : Job) → CauseOf job answers (log_of job answers).ending
 log_cause answers job = files_cause answers job.decimals job.mesh_file job.step_file
 
 -- ---- and a cause has no other outcome
 
-ends_reached : (answers : Answers) (directives : List Placed) (s end : State) → Reaches answers s directives end → (log_from answers directives s).ending ≡ None
+ends_reached : (answers : Answers) (directives : List Placed) (s end : State) → Reaches answers s directives end → (log_from answers directives s).ending ≡ Ended None
 ends_reached answers [] s end h = refl
 ends_reached answers (p ∷ more) s end h = ap (λ t. (and_then p.line t (log_from (later answers) more)).ending) h.2 ∙ ends_reached (later answers) more h.1 end h.3
 
 ends_refused : (answers : Answers) (front rest : List Placed) (p : Placed) (s state : State) (why : UseWhy) → Reaches answers s front state → effect_of (first (answers_after front answers)) p.what state ≡ Refused why
-    → (log_from answers (front ++ p ∷ rest) s).ending ≡ Some (refusal.StepUse p.line why)
+    → (log_from answers (front ++ p ∷ rest) s).ending ≡ Ended (Some (refusal.StepUse p.line why))
 ends_refused answers [] rest p s state why h e =
     ap (λ z. (and_then p.line (effect_of (first answers) p.what z) (log_from (later answers) rest)).ending) h ∙ ap (λ t. (and_then p.line t (log_from (later answers) rest)).ending) e
 ends_refused answers (q ∷ front) rest p s state why h e =
@@ -152,27 +161,40 @@ module _ (answers : Answers) (job : Job) where
   pub clear_told : (lists : Lists) (directives : List Placed) → HasClear job lists directives → log_of_files answers job.decimals job.mesh_file job.step_file ≡ log_of_mesh answers (mesh_of_lists lists) directives
   clear_told lists directives h = steps_told lists directives h.steps_read ∙ ap (log_of_test answers (mesh_of_lists lists) directives) h.clear
 
-  ended : (told : ExpectedLog) → log_of_files answers job.decimals job.mesh_file job.step_file ≡ told → outcome_of (log_of job answers).ending ≡ outcome_of told.ending
-  ended told e = ap (λ (t : ExpectedLog). outcome_of t.ending) e
+  ended : (told : ExpectedLog) → log_of_files answers job.decimals job.mesh_file job.step_file ≡ told → (log_of job answers).ending ≡ told.ending
+  ended told e = ap (λ (t : ExpectedLog). t.ending) e
+
+  -- its log ends by a last line, which tells that outcome
+  abbrev pub EndsAs : Outcome → Type 0
+  EndsAs o = (told : Option Refusal) × ((log_of job answers).ending ≡ Ended told) × (outcome_of told ≡ o)
+
+  refused_as : (why : Refusal) → log_of_files answers job.decimals job.mesh_file job.step_file ≡ refused why → EndsAs (outcome_of (Some why))
+  refused_as why e = (Some why, ended (refused why) e, refl)
 
   -- a job with a cause ends so, or is stopped
-  pub cause_ends : (o : Outcome) → Cause job answers o → (outcome_of (log_of job answers).ending ≡ o) ⊎ IsStopped o
-  cause_ends outcome.Done h = inl (ended (log_of_mesh answers (mesh_of_lists h.0) h.1) (clear_told h.0 h.1 h.2) ∙ ap outcome_of (ends_reached answers h.1 (start (mesh_of_lists h.0)) h.3 h.4))
-  cause_ends (outcome.TooLong file.Mesh seen) h = inl (ended (refused (refusal.Long file.Mesh seen)) (mesh_told (TooLong seen) h))
-  cause_ends (outcome.TooLong file.Steps seen) h = inl (ended (refused (refusal.Long file.Steps seen)) (both_told h.0.0 (TooLong seen) h.0.1 h.1))
-  cause_ends (outcome.Missing file.Mesh) h = inl (ended (refused (refusal.Missing file.Mesh)) (mesh_told Absent h))
-  cause_ends (outcome.Missing file.Steps) h = inl (ended (refused (refusal.Missing file.Steps)) (both_told h.0.0 Absent h.0.1 h.1))
-  cause_ends (outcome.MeshText fault) h = inl (ended (refused (refusal.Mesh fault)) (both_told h.0 (Bytes h.2.0) h.1 h.2.1 ∙ ap (λ r. log_of_lists answers r h.2.0) h.3))
-  cause_ends (outcome.MeshShape fault) h = inl (ended (refused (refusal.Shape fault)) (lists_told h.0 h.1 h.2 ∙ ap (λ o. log_of_shape answers h.0 o h.1) h.3))
-  cause_ends (outcome.StepText fault) h = inl (ended (refused (refusal.Steps fault)) (mesh_good h.0 h.1 h.2 ∙ ap (log_of_steps answers h.0) h.3))
+  pub cause_ends : (o : Outcome) → Cause job answers o → EndsAs o ⊎ IsStopped o
+  cause_ends outcome.Done h = inl (None, ended (log_of_mesh answers (mesh_of_lists h.0) h.1) (clear_told h.0 h.1 h.2) ∙ ends_reached answers h.1 (start (mesh_of_lists h.0)) h.3 h.4, refl)
+  cause_ends (outcome.TooLong file.Mesh seen) h = inl (refused_as (refusal.Long file.Mesh seen) (mesh_told (TooLong seen) h))
+  cause_ends (outcome.TooLong file.Steps seen) h = inl (refused_as (refusal.Long file.Steps seen) (both_told h.0.0 (TooLong seen) h.0.1 h.1))
+  cause_ends (outcome.Missing file.Mesh) h = inl (refused_as (refusal.Missing file.Mesh) (mesh_told Absent h))
+  cause_ends (outcome.Missing file.Steps) h = inl (refused_as (refusal.Missing file.Steps) (both_told h.0.0 Absent h.0.1 h.1))
+  cause_ends (outcome.TooLong file.Log seen) h = absurd h
+  cause_ends (outcome.TooLong file.Proof seen) h = absurd h
+  cause_ends (outcome.Missing file.Log) h = absurd h
+  cause_ends (outcome.Missing file.Proof) h = absurd h
+  cause_ends (outcome.MeshText fault) h = inl (refused_as (refusal.Mesh fault) (both_told h.0 (Bytes h.2.0) h.1 h.2.1 ∙ ap (λ r. log_of_lists answers r h.2.0) h.3))
+  cause_ends (outcome.MeshShape fault) h = inl (refused_as (refusal.Shape fault) (lists_told h.0 h.1 h.2 ∙ ap (λ o. log_of_shape answers h.0 o h.1) h.3))
+  cause_ends (outcome.StepText fault) h = inl (refused_as (refusal.Steps fault) (mesh_good h.0 h.1 h.2 ∙ ap (log_of_steps answers h.0) h.3))
   cause_ends (outcome.StepUse line why) h =
       let at = h.3 in
       let m = mesh_of_lists h.0 in
-      inl (ended (log_of_mesh answers m h.1) (clear_told h.0 h.1 h.2)
-      ∙ ap (λ l. outcome_of (log_from answers l (start m)).ending) at.split
-      ∙ ap outcome_of (ends_refused answers at.front at.rest at.placed (start m) at.state why at.reached at.refused)
-      ∙ ap (λ n. outcome.StepUse n why) (sym at.line_is))
-  cause_ends (outcome.MeshMeets pair) h = inl (ended (refused (refusal.Meets pair)) (steps_told h.0 h.1 h.2 ∙ ap (log_of_test answers (mesh_of_lists h.0) h.1) h.3.found))
+      let ending : (log_of job answers).ending ≡ Ended (Some (refusal.StepUse line why)) =
+      ended (log_of_mesh answers m h.1) (clear_told h.0 h.1 h.2)
+      ∙ ap (λ l. (log_from answers l (start m)).ending) at.split
+      ∙ ends_refused answers at.front at.rest at.placed (start m) at.state why at.reached at.refused
+      ∙ ap (λ n. Ended (Some (refusal.StepUse n why))) (sym at.line_is) in
+      inl (Some (refusal.StepUse line why), ending, refl)
+  cause_ends (outcome.MeshMeets pair) h = inl (refused_as (refusal.Meets pair) (steps_told h.0 h.1 h.2 ∙ ap (log_of_test answers (mesh_of_lists h.0) h.1) h.3.found))
   cause_ends outcome.Usage h = absurd h
   cause_ends outcome.NoMemory h = inr tt
   cause_ends outcome.DeskFault h = inr tt

@@ -1,5 +1,5 @@
--- The log of the parts of a job: each has lines, and each keeps its promise.
-use Rattle.std.proofs.Common.{◌≡◌, ℕ, List, [], ◌∷◌, map, length, Option, Some, None, Result, Ok, Err, refl, ap, sym, ◌∙◌}
+-- The log of the parts of a job: each goes on to its end, and each keeps its promise.
+use Rattle.std.proofs.Common.{◌≡◌, ℕ, List, [], ◌∷◌, map, length, Option, Some, None, Result, Ok, Err, refl, ap, sym, ◌∙◌, inl}
 use Rattle.std.proofs.lemmas.List.{length-map}
 use Rattle.grid_base.specs.Points.{point_at}
 use Rattle.mesh_base.specs.declared.PairName.{PairName}
@@ -18,16 +18,16 @@ use Rattle.step_text.specs.Steps.{steps_of}
 use Rattle.log_text.specs.declared.Refusal.{Refusal}
 use Rattle.log_text.specs.declared.Refusal.TheVariants as refusal
 use Rattle.track_input.specs.Source.{Source, Bytes, Absent, TooLong}
-use Rattle.track_input.specs.Job.{Job, Input, input_of_files, input_of_lists, input_of_shape, input_of_steps, mesh_of_lists, mesh_read, mesh_in}
+use Rattle.track_input.specs.Job.{Job, Input, input_of_files, input_of_lists, input_of_shape, input_of_steps, mesh_of_lists, mesh_read, mesh_in, met_first}
 use Rattle.log_replay.specs.Replay.{at_mesh}
 use Rattle.track_engine.specs.State.{start}
 use Rattle.track_engine.specs.Answers.{Answers}
 use Rattle.track_engine.specs.Effects.{ExpectedLog, log_from, mesh_line}
 use Rattle.track_engine.specs.Kept.{LogIsSafe}
-use Rattle.track_engine.proofs.Worlds.{one_line}
-use Rattle.track_engine.proofs.Remaining.{HasLines, refusal_left}
+use Rattle.track_engine.proofs.Worlds.{GoesOn, one_line}
+use Rattle.track_engine.proofs.Remaining.{refusal_left}
 use Rattle.track_engine.proofs.Keeping.{saved_well, keeps_told, kept_start}
-use Rattle.track_run.specs.Job.{log_of, log_of_input, log_of_test, met_first, replay_of}
+use Rattle.track_run.specs.Job.{log_of, log_of_input, log_of_test, replay_of}
 
 -- ---- the log of two files, of their texts and of their lists
 
@@ -43,13 +43,13 @@ log_of_lists answers lists steps = log_of_input answers (input_of_lists lists st
 abbrev pub log_of_files : Answers → ℕ → Source → Source → ExpectedLog
 log_of_files answers decimals mesh steps = log_of_input answers (input_of_files decimals mesh steps)
 
--- ---- it has lines
+-- ---- it goes on to its end
 
-pub test_left : (answers : Answers) (m : Mesh) (steps : List Placed) (o : Option PairName) → HasLines (log_of_test answers m steps o)
+pub test_left : (answers : Answers) (m : Mesh) (steps : List Placed) (o : Option PairName) → GoesOn (log_of_test answers m steps o)
 test_left answers m steps (Some pair) = refusal_left (refusal.Meets pair)
-test_left answers m steps None = one_line (mesh_line 0 m) (log_from answers steps (start m)).lines
+test_left answers m steps None = inl (one_line (mesh_line 0 m) (log_from answers steps (start m)).lines)
 
-pub input_left : (answers : Answers) (r : Result Input Refusal) → HasLines (log_of_input answers r)
+pub input_left : (answers : Answers) (r : Result Input Refusal) → GoesOn (log_of_input answers r)
 input_left answers (Err why) = refusal_left why
 input_left answers (Ok input) = test_left answers (mesh_of_lists input.lists) input.steps (met_first (mesh_of_lists input.lists))
 

@@ -1,4 +1,5 @@
-mod JobLogs
+pub mod JobLogs
+mod Again
 mod CauseLemmas
 mod Agreeing
 mod ReadBack

@@ -27,7 +27,7 @@ use Rattle.track_input.specs.Taken.{IsReading}
 use Rattle.track_input.specs.Named.{named_by, IsInLimits}
 use Rattle.track_input.specs.declared.reading.Ready.{Ready}
 use Rattle.track_input.specs.declared.reading.Ready.TheVariants as ready
-use Rattle.track_input.specs.Job.{Job, IsJob, Input, input_of, mesh_of_lists}
+use Rattle.track_input.specs.Job.{Job, IsJob, Input, input_of, mesh_of_lists, met_first}
 use Rattle.track_input.specs.Reading.{Prepares, IsReadyAt, given, input_by}
 use Rattle.track_input.proofs.Sources.{some_source}
 use Rattle.track_input.proofs.ReadLemmas.{same_mesh}
@@ -39,7 +39,7 @@ use Rattle.track_engine.specs.declared.stop.Stop.TheVariants as stop
 use Rattle.track_engine.specs.State.{State, start, unsaved, standing}
 use Rattle.track_engine.specs.Answers.{Answers}
 use Rattle.track_engine.specs.Answered.{Known, AreAnswered, FollowsAnswers}
-use Rattle.track_engine.specs.Effects.{ExpectedLog, log_from, log_of_mesh, mesh_line, refused}
+use Rattle.track_engine.specs.Effects.{ExpectedLog, Ending, Ended, CutShort, log_from, log_of_mesh, mesh_line, refused}
 use Rattle.track_engine.specs.Saved.{Target}
 use Rattle.track_engine.specs.Invariant.{IsRunInvariant}
 use Rattle.track_engine.specs.World.{World, Contents, Logs, StopsIn, StopsShort, Follows, HasCauses}
@@ -52,14 +52,15 @@ use Rattle.track_engine.proofs.Promises.{step_is_told}
 use Rattle.track_run.specs.declared.outcome.Outcome.{Outcome}
 use Rattle.track_run.specs.declared.outcome.Outcome.TheVariants as outcome
 use Rattle.track_run.specs.Outcomes.{outcome_of, outcome_at, outcome_from, outcome_of_try}
-use Rattle.track_run.specs.Job.{log_of, log_of_input, log_of_test, met_first, replay_of}
+use Rattle.track_run.specs.Job.{log_of, log_of_input, log_of_test, replay_of}
 use Rattle.track_run.specs.Answered.{IsInputAnswered, FollowsMesh, FollowsTest}
 use Rattle.track_run.specs.Causes.{Cause, IsStopped}
 use Rattle.track_run.specs.Headline.{TracksJob, TracksCommand, TriesCommand, Runs, RunsFor, LogPromises, IsCaused, FaultsAreCounted}
 use Rattle.track_run.proofs.JobLogs.{test_left, input_left, keeps_log}
+use Rattle.track_run.proofs.Again.{log_again}
 use Rattle.track_run.proofs.Agreeing.{agrees_well}
 use Rattle.track_run.proofs.ReadBack.{read_back}
-use Rattle.track_run.proofs.CauseLemmas.{log_cause, cause_ends}
+use Rattle.track_run.proofs.CauseLemmas.{CauseOf, EndsAs, log_cause, cause_ends}
 
 -- ---- nothing is asked
 
@@ -73,18 +74,18 @@ none_begun fields (Ok input) = λ clear. none_answered fields input.steps (start
 -- an engine of the mesh, of which the first mesh is then saved
 module _ (fields : Known) (to : Target) (m : Mesh) (steps : List Placed) (first : State) (new : first ≡ unsaved m) where
   -- it stops before the first directive
-  begin_stopped : (a b : Contents) (stop : Stop) → StopsShort stop to (at_mesh m) (log_of_mesh [] m steps).lines a b → FollowsMesh fields to m steps a b (Err stop)
+  begin_stopped : (a b : Contents) (stop : Stop) → StopsShort stop to (at_mesh m) (log_of_mesh [] m steps) a b → FollowsMesh fields to m steps a b (Err stop)
   begin_stopped a b stop short = record { answers = []; answered = none_answered fields steps (start m); follows = short }
 
   -- it stops before the first line
   pub begin_nothing : (a : Contents) (stop : Stop) → FollowsMesh fields to m steps a a (Err stop)
-  begin_nothing a stop = begin_stopped a a stop (short_nothing stop to (at_mesh m) _ a (test_left [] m steps None))
+  begin_nothing a stop = begin_stopped a a stop (short_nothing stop to (at_mesh m) (log_of_mesh [] m steps) a (test_left [] m steps None))
 
   -- it stops in that line
   pub begin_part : (a b : Contents) (stop : Stop) → StopsIn stop to (standing first) (mesh_line first.saved first.mesh ∷ []) a b → FollowsMesh fields to m steps a b (Err stop)
   begin_part a b stop stops =
       let P : State → Type 0 = λ s. StopsIn stop to (standing s) (mesh_line s.saved s.mesh ∷ []) a b in
-      begin_stopped a b stop (short_more stop to (at_mesh m) (mesh_line 0 m ∷ []) (log_from [] steps (start m)).lines a b (log_left [] steps (start m)) (subst P new stops))
+      begin_stopped a b stop (short_more stop to (at_mesh m) (mesh_line 0 m ∷ []) (log_from [] steps (start m)) a b (log_left [] steps (start m)) (subst P new stops))
 
   -- where the directives begin
   pub saved_first : (next : State) → next ≡ record first { saved = first.saved + 1 } → next ≡ start m
@@ -95,7 +96,7 @@ module _ (fields : Known) (to : Target) (m : Mesh) (steps : List Placed) (first 
 
   follows_first : (answers : Answers) (a b c : Contents) (r : Result (Option Refusal) Stop) → Logs to (at_mesh m) (mesh_line 0 m ∷ []) a b → Follows to (at_mesh m) (log_from answers steps (start m)) b c r → Follows to (at_mesh m) (log_of_mesh answers m steps) a c r
   follows_first answers a b c (Ok ending) l f = (logs_then to (at_mesh m) (mesh_line 0 m ∷ []) (log_from answers steps (start m)).lines a b c l f.0, f.1)
-  follows_first answers a b c (Err stop) l f = short_then stop to (at_mesh m) (mesh_line 0 m ∷ []) (log_from answers steps (start m)).lines a b c l f
+  follows_first answers a b c (Err stop) l f = short_then stop to (at_mesh m) (mesh_line 0 m ∷ []) (log_from answers steps (start m)) a b c l f
 
   pub begin_follows : (next last : State) (given_steps : List Placed) (a b c : Contents) (r : Result (Option Refusal) Stop) → next ≡ record first { saved = first.saved + 1 } → given_steps ≡ steps
       → Logs to (standing first) (mesh_line first.saved first.mesh ∷ []) a b → FollowsAnswers fields to given_steps next last b c r → FollowsMesh fields to m steps a c r
@@ -117,15 +118,15 @@ module _ (fields : Known) (to : Target) (m : Mesh) (steps : List Placed) where
 
   meets_at_first : (files : Option Files) (old new : Option (List ℕ)) (pair : PairName) (r : Result (Option Refusal) Stop) → Written old new (RefusedLine (refusal.Meets pair) ∷ []) r → OnErr r (AppendsPart old new (text_of_line (RefusedLine (refusal.Meets pair)))) → IfOk r (λ e. e ≡ Some (refusal.Meets pair))
       → Follows to (at_mesh m) (log_of_test [] m steps (Some pair)) (record { files = files; written = old }) (record { files = files; written = new }) r
-  meets_at_first files old new pair (Ok e) said part ending = (record { written = said; files = refl }, ending)
-  meets_at_first files old new pair (Err stop) said part ending = short_line stop to (at_mesh m) (RefusedLine (refusal.Meets pair)) [] files old new part
+  meets_at_first files old new pair (Ok e) said part ending = (record { written = said; files = refl }, ap Ended (sym ending))
+  meets_at_first files old new pair (Err stop) said part ending = short_line stop to (at_mesh m) (RefusedLine (refusal.Meets pair)) (record { lines = []; ending = Ended (Some (refusal.Meets pair)) }) files old new part
 
   -- the mesh is not tested, and nothing is done
   pub tested_nothing : (w : Contents) (stop : Stop) → FollowsTest fields to m steps w w (Err stop)
   tested_nothing w stop = record {
     answers = [];
     answered = λ clear. none_answered fields steps (start m);
-    follows = short_nothing stop to (at_mesh m) _ w (test_left [] m steps (met_first m));
+    follows = short_nothing stop to (at_mesh m) (log_of_test [] m steps (met_first m)) w (test_left [] m steps (met_first m));
   }
 
   -- a pair meets, and is told
@@ -173,7 +174,7 @@ module _ (fields : Known) (mesh_name step_name : List ℕ) (to : Target) (files 
     is_job = any_is_job;
     answers = [];
     answered = none_begun fields (input_of any_job);
-    follows = short_line stop to _ (First VERSION) (log_of_input [] (input_of any_job)).lines files old new part;
+    follows = short_line stop to _ (First VERSION) (log_of_input [] (input_of any_job)) files old new part;
   }
 
   module _ (w0 w1 : Option (List ℕ)) (first : w1 ≡ appended w0 (text_of_lines (First VERSION ∷ []))) where
@@ -182,7 +183,7 @@ module _ (fields : Known) (mesh_name step_name : List ℕ) (to : Target) (files 
 
     whole_follows : (answers : Answers) (from : Replay) (job : Job) (new : Contents) (r : Result (Option Refusal) Stop) → Follows to from (log_of_input answers (input_of job)) (at w1) new r → Follows to from (log_of job answers) (at w0) new r
     whole_follows answers from job new (Ok ending) f = (logs_then to from (First VERSION ∷ []) (log_of_input answers (input_of job)).lines _ _ new (first_logs from) f.0, f.1)
-    whole_follows answers from job new (Err stop) f = short_then stop to from (First VERSION ∷ []) (log_of_input answers (input_of job)).lines _ _ new (first_logs from) f
+    whole_follows answers from job new (Err stop) f = short_then stop to from (First VERSION ∷ []) (log_of_input answers (input_of job)) _ _ new (first_logs from) f
 
     -- nothing after it
     pub tracks_second : (stop : Stop) → TracksJob fields mesh_name step_name to (at w0) (at w1) (Err stop)
@@ -191,7 +192,7 @@ module _ (fields : Known) (mesh_name step_name : List ℕ) (to : Target) (files 
       is_job = any_is_job;
       answers = [];
       answered = none_begun fields (input_of any_job);
-      follows = whole_follows [] (replay_of any_job) any_job (at w1) (Err stop) (short_nothing stop to _ _ _ (input_left [] (input_of any_job)));
+      follows = whole_follows [] (replay_of any_job) any_job (at w1) (Err stop) (short_nothing stop to _ (log_of_input [] (input_of any_job)) _ (input_left [] (input_of any_job)));
     }
 
     tracks_then : (answers : Answers) (found : Ready) (p : Prepares files mesh_name step_name to.decimals found) (new : Contents) (r : Result (Option Refusal) Stop) → IsInputAnswered fields (is_ok r) answers (input_by found)
@@ -210,13 +211,13 @@ module _ (fields : Known) (mesh_name step_name : List ℕ) (to : Target) (files 
     -- the refusal that was read is written, as far as it goes
     pub tracks_no : (w2 : Option (List ℕ)) (why : Refusal) (r : Result (Option Refusal) Stop) → Prepares files mesh_name step_name to.decimals (ready.No why)
         → Written w1 w2 (RefusedLine why ∷ []) r → OnErr r (AppendsPart w1 w2 (text_of_line (RefusedLine why))) → IfOk r (λ e. e ≡ Some why) → TracksJob fields mesh_name step_name to (at w0) (at w2) r
-    tracks_no w2 why (Ok e) p said part ending = tracks_then [] (ready.No why) p _ (Ok e) tt (record { written = said; files = refl }, ending)
-    tracks_no w2 why (Err stop) p said part ending = tracks_then [] (ready.No why) p _ (Err stop) tt (short_line stop to _ (RefusedLine why) [] files w1 w2 part)
+    tracks_no w2 why (Ok e) p said part ending = tracks_then [] (ready.No why) p _ (Ok e) tt (record { written = said; files = refl }, ap Ended (sym ending))
+    tracks_no w2 why (Err stop) p said part ending = tracks_then [] (ready.No why) p _ (Err stop) tt (short_line stop to _ (RefusedLine why) (record { lines = []; ending = Ended (Some why) }) files w1 w2 part)
 
     -- a mesh and directives, and nothing is done with them
     pub tracks_third : (lists : MeshLists) (steps : List Placed) (stop : Stop) → Prepares files mesh_name step_name to.decimals (ready.Yes lists steps) → TracksJob fields mesh_name step_name to (at w0) (at w1) (Err stop)
     tracks_third lists steps stop p =
-        tracks_then [] (ready.Yes lists steps) p _ (Err stop) (none_begun fields (input_by (ready.Yes lists steps))) (short_nothing stop to _ _ _ (test_left [] (given lists) steps (met_first (given lists))))
+        tracks_then [] (ready.Yes lists steps) p _ (Err stop) (none_begun fields (input_by (ready.Yes lists steps))) (short_nothing stop to _ (log_of_test [] (given lists) steps (met_first (given lists))) _ (test_left [] (given lists) steps (met_first (given lists))))
 
     -- a mesh and directives
     pub tracks_ready : (now : Option Files) (lists : MeshLists) (steps : List Placed) (m : Mesh) (new : Contents) (r : Result (Option Refusal) Stop) → Prepares files mesh_name step_name to.decimals (ready.Yes lists steps) → now ≡ files
@@ -232,14 +233,25 @@ module _ (fields : Known) (mesh_name step_name : List ℕ) (to : Target) (files 
 -- ---- the headline
 
 -- where the whole log is written, the job's cause is the outcome's
-whole_cause : (answers : Answers) (job : Job) (result : Outcome) (ending : Option Refusal) → result ≡ outcome_of ending → ending ≡ (log_of job answers).ending → Cause job answers result
-whole_cause answers job result ending e same = let P : Outcome → Type 0 = λ o. Cause job answers o in subst P (sym (e ∙ ap outcome_of same)) (log_cause answers job)
+whole_cause : (answers : Answers) (job : Job) (result : Outcome) (told : Option Refusal) → result ≡ outcome_of told → (log_of job answers).ending ≡ Ended told → Cause job answers result
+whole_cause answers job result told e same =
+    let P : Outcome → Type 0 = λ o. Cause job answers o in
+    let Q : Ending → Type 0 = λ x. CauseOf job answers x in
+    subst P (sym e) (subst Q same (log_cause answers job))
 
-whole_alone : (answers : Answers) (job : Job) (result : Outcome) (ending : Option Refusal) → result ≡ outcome_of ending → ending ≡ (log_of job answers).ending → (other : Outcome) → Cause job answers other → (result ≡ other) ⊎ IsStopped other ⊎ IsStopped result
-whole_alone answers job result ending e same other h = by_end (cause_ends answers job other h)
+-- a last line tells one refusal, or none
+told_alike : (x : Ending) (a b : Option Refusal) → x ≡ Ended a → x ≡ Ended b → a ≡ b
+told_alike x a b p q = ap told_by (sym p ∙ q)
   where
-    by_end : (outcome_of (log_of job answers).ending ≡ other) ⊎ IsStopped other → (result ≡ other) ⊎ IsStopped other ⊎ IsStopped result
-    by_end (inl is) = inl (e ∙ ap outcome_of same ∙ is)
+    told_by : Ending → Option Refusal
+    told_by (Ended told) = told
+    told_by CutShort = None
+
+whole_alone : (answers : Answers) (job : Job) (result : Outcome) (told : Option Refusal) → result ≡ outcome_of told → (log_of job answers).ending ≡ Ended told → (other : Outcome) → Cause job answers other → (result ≡ other) ⊎ IsStopped other ⊎ IsStopped result
+whole_alone answers job result told e same other h = by_end (cause_ends answers job other h)
+  where
+    by_end : EndsAs answers job other ⊎ IsStopped other → (result ≡ other) ⊎ IsStopped other ⊎ IsStopped result
+    by_end (inl ends) = inl (e ∙ ap outcome_of (told_alike (log_of job answers).ending told ends.0 same ends.1) ∙ ends.2)
     by_end (inr stopped) = inr (inl stopped)
 
 stop_cause : (answers : Answers) (job : Job) (stop : Stop) → Cause job answers (outcome_at stop)
@@ -262,6 +274,7 @@ is_caused answers job to result (Err stop) old new e follows = record {
 log_promises : (answers : Answers) (job : Job) → LogPromises job answers
 log_promises answers job = record {
   safe = keeps_log answers job;
+  again = log_again answers job;
   told = record { steps = step_is_told; replayed = effect_replayed };
   reached = agrees_well job answers;
 }

@@ -4,7 +4,7 @@ use Rattle.mesh_base.specs.Mesh.{Mesh}
 use Rattle.step_text.specs.declared.Placed.{Placed}
 use Rattle.log_text.specs.declared.Refusal.{Refusal}
 use Rattle.log_replay.specs.Replay.{at_mesh}
-use Rattle.track_input.specs.Job.{Input, mesh_of_lists}
+use Rattle.track_input.specs.Job.{Input, mesh_of_lists, met_first}
 use Rattle.track_engine.specs.declared.stop.Stop.{Stop}
 use Rattle.track_engine.specs.State.{start}
 use Rattle.track_engine.specs.Answers.{Answers}
@@ -12,7 +12,7 @@ use Rattle.track_engine.specs.Answered.{Known, AreAnswered}
 use Rattle.track_engine.specs.Effects.{log_of_mesh}
 use Rattle.track_engine.specs.Saved.{Target}
 use Rattle.track_engine.specs.World.{Contents, Follows}
-use Rattle.track_run.specs.Job.{log_of_test, met_first}
+use Rattle.track_run.specs.Job.{log_of_test}
 
 -- the directives of what was read are answered so, from where they begin, if no pair of its mesh meets
 abbrev pub IsInputAnswered : Known → Bool → Answers → Result Input Refusal → Type 0

@@ -17,8 +17,7 @@ use Rattle.track_engine.specs.State.{State, start}
 use Rattle.track_engine.specs.Answers.{Answers, first, later}
 use Rattle.track_engine.specs.Effects.{Proceeds, Refused, effect_of}
 use Rattle.track_input.specs.Source.{Source, Bytes, Absent, TooLong}
-use Rattle.track_input.specs.Job.{Job, mesh_of_lists}
-use Rattle.track_run.specs.Job.{met_first}
+use Rattle.track_input.specs.Job.{Job, mesh_of_lists, met_first}
 
 -- the file is there, and no longer than a text may be
 abbrev pub IsThere : Source → Type 0
@@ -84,6 +83,11 @@ Cause job answers (outcome.TooLong file.Mesh seen) = job.mesh_file ≡ TooLong s
 Cause job answers (outcome.TooLong file.Steps seen) = IsThere job.mesh_file × (job.step_file ≡ TooLong seen)
 Cause job answers (outcome.Missing file.Mesh) = job.mesh_file ≡ Absent
 Cause job answers (outcome.Missing file.Steps) = IsThere job.mesh_file × (job.step_file ≡ Absent)
+-- a job has no log and no proof of one
+Cause job answers (outcome.TooLong file.Log seen) = ⊥
+Cause job answers (outcome.TooLong file.Proof seen) = ⊥
+Cause job answers (outcome.Missing file.Log) = ⊥
+Cause job answers (outcome.Missing file.Proof) = ⊥
 Cause job answers (outcome.MeshText fault) = (bytes : List ℕ) × (job.mesh_file ≡ Bytes bytes) × IsThere job.step_file × (lists_of job.decimals bytes ≡ Err fault)
 Cause job answers (outcome.MeshShape fault) = (lists : Lists) × (steps : List ℕ) × HasLists job lists steps × (shape_fault (length lists.points) lists.faces ≡ Some fault)
 Cause job answers (outcome.StepText fault) = (lists : Lists) × (steps : List ℕ) × HasMesh job lists steps × (steps_of steps ≡ Err fault)

@@ -7,6 +7,7 @@ use Rattle.log_text.specs.declared.Refusal.{Refusal}
 use Rattle.log_text.specs.Lines.{text_of_lines}
 use Rattle.log_text.specs.Reading.{log_of as lines_of_text}
 use Rattle.log_replay.specs.Replay.{after}
+use Rattle.log_replay.specs.Again.{LinesAreAgain}
 use Rattle.outside_io.specs.Causes.{Rose}
 use Rattle.outside_io.specs.Sink.{appended, AppendsPart}
 use Rattle.track_convert.specs.declared.ConvertFault.{ConvertFault}
@@ -34,10 +35,10 @@ use Rattle.track_run.specs.Answered.{IsInputAnswered}
 use Rattle.track_run.specs.Causes.{Cause, IsStopped, answers_after}
 
 -- THE HEADLINE, read from here down, each part explained where it stands. A run of a job writes the job's log and stores the meshes
--- that it names, or, where it is stopped, the first of it and not the whole; the log keeps what it promises; and the outcome has its
--- cause in the job.
+-- that it names, or, where it is stopped, the first of it and not the whole, and nothing beyond a drive that was not answered; the log keeps
+-- what it promises; and the outcome has its cause in the job.
 
--- What holds of each directive, in whichever state it is taken, whatever a field that it names answers. A step whose pairs all pass is taken unaltered; otherwise each pair that
+-- What holds of each directive, in whichever state it is taken, whatever is given to it. A step whose pairs all pass is taken unaltered; otherwise each pair that
 -- does not pass is logged, and it is taken by the first way that applies. The lines of a directive, replayed from where the run stood
 -- before it, lead to where it stands after it.
 pub record DirectivesAreTold : Type 0 where
@@ -49,12 +50,15 @@ pub record DirectivesAreTold : Type 0 where
 -- What the log of a job promises. In every mesh that it saves no edge meets a face that shares no vertex with it, and the mesh is
 -- closed, with the live numbers that its line tells; and its text is read again as that mesh, numbered anew, so that a run takes it as its
 -- own. Every motion and every edit that it tells begins and ends in a mesh that is sound, closed and clear, and is clear on the way: at
--- every fraction, of a pinch above zero, of a collapse below one; a zip has none. None moves a solid vertex. Wherever a run of the job
--- stands between two directives, the replay of the log up to there stands too, so the pairs of a step are tested in the mesh that the log
--- tells; and that mesh, and each at which a group that is still open was opened, is sound, closed and clear, with a shift asked of each
--- live vertex, and none of a solid one.
+-- every fraction, of a pinch above zero, of a collapse below one; a zip has none. None moves a solid vertex. All this can be done again by
+-- the log alone: each `move` line names a live vertex that is not solid and was not named before in its step, and ends in the box; each pair
+-- of a motion passes, tested to the greatest depth; and each edit, asked for again by what its line tells and tested to that depth, is done
+-- with the same ids, points and turn. Wherever a run of the job stands between two directives, the replay of the log up to there stands
+-- too, so the pairs of a step are tested in the mesh that the log tells; that mesh, and each at which a group that is still open was opened,
+-- is sound, closed and clear, with a shift asked of each live vertex, and none of a solid one; and the settings are within their limits.
 pub record LogPromises (job : Job) (answers : Answers) : Type 0 where
   pub safe : LogIsSafe (replay_of job) (log_of job answers).lines
+  pub again : LinesAreAgain (replay_of job) (log_of job answers).lines
   pub told : DirectivesAreTold
   pub reached : (s : State) (there : IsReached job answers s) → AgreesWithReplay job answers s there.rest (answers_after there.front answers)
 
@@ -100,7 +104,7 @@ pub record ConvertsCommand (from to : MeshName) (decimals : ℕ) (result : Outco
   pub converts : Converts from to decimals ended old new
 
 -- the text is written whole, or the first of it, perhaps nothing, and not all
-abbrev pub IsWrittenBy : List ℕ → Result (Unit {0}) TryFault → Option (List ℕ) → Option (List ℕ) → Type 0
+abbrev pub IsWrittenBy : {T E : Type 0} → List ℕ → Result T E → Option (List ℕ) → Option (List ℕ) → Type 0
 IsWrittenBy text (Ok done) old new = new ≡ appended old text
 IsWrittenBy text (Err fault) old new = AppendsPart old new text
 

@@ -1,5 +1,6 @@
 -- Where a run of a job stands between two directives, and what holds there.
 use Rattle.std.specs.Prelude.{◌≡◌, List, ◌++◌}
+use Rattle.step_choose.specs.Settings.{AreWithinLimits}
 use Rattle.obj_text.specs.Obj.{Lists}
 use Rattle.step_text.specs.declared.Placed.{Placed}
 use Rattle.log_text.specs.declared.LogLine.{LogLine}
@@ -23,9 +24,10 @@ pub record IsReached (job : Job) (answers : Answers) (s : State) : Type 0 where
   pub reached : Reaches answers (start (mesh_of_lists lists)) front s
 
 -- What holds where a run stands before the directives to come, to which the answers to come are left: the log is the lines so far and then
--- theirs, and the replay of the lines so far stands there too.
+-- theirs, the replay of the lines so far stands there too, and the settings are within their limits.
 pub record AgreesWithReplay (job : Job) (answers : Answers) (s : State) (rest : List Placed) (left : Answers) : Type 0 where
   pub so_far : List LogLine
   pub log : (log_of job answers).lines ≡ so_far ++ (log_from left rest s).lines
   pub replay : after (replay_of job) so_far ≡ standing s
   pub kept : IsRunInvariant s
+  pub limits : AreWithinLimits s.set

@@ -72,6 +72,8 @@ signed (negsuc n) = (refl, number (suc n))
 file_part : (f : FileWord) → HasNoEnd (file_word f)
 file_part file.Mesh = text (codes "mesh") refl
 file_part file.Steps = text (codes "steps") refl
+file_part file.Log = text (codes "log") refl
+file_part file.Proof = text (codes "proof") refl
 
 why_part : (w : TextWhy) → HasNoEnd (why_word w)
 why_part why.Number = text (codes "number") refl
@@ -82,6 +84,7 @@ why_part why.Long = text (codes "long") refl
 why_part why.Unknown = text (codes "unknown") refl
 why_part why.Continuation = text (codes "continuation") refl
 why_part why.Nesting = text (codes "nesting") refl
+why_part why.Order = text (codes "order") refl
 
 kept_part : (kept : Bool) → HasNoEnd (kept_word kept)
 kept_part true = text (codes "kept") refl
@@ -178,6 +181,7 @@ line_parts (line.Block ids) = (text (codes "block") refl, ids_parts ids)
 line_parts (line.Move s) = (text (codes "move") refl, (number s.v, (signed s.by.x, (signed s.by.y, (signed s.by.z, tt)))))
 line_parts (line.Moved how) = (text (codes "moved") refl, how_parts how)
 line_parts (line.Pass kind) = (text (codes "pass") refl, pass_parts kind)
+line_parts line.PassFit = (text (codes "pass") refl, (text (codes "fit") refl, tt))
 line_parts (line.Did done) = change_parts done
 line_parts (line.No what w) = (text (codes "no") refl, parts-append (asked_words what) (reason_words w) (asked_parts what) (reason_parts w))
 line_parts line.Group = (text (codes "group") refl, tt)

@@ -12,13 +12,14 @@ use Rattle.log_replay.specs.Replay.{Replay, at_mesh, after}
 use Rattle.log_write.proofs.WrittenLines.{written_then}
 use Rattle.outside_io.specs.Sink.{appended}
 use Rattle.track_engine.specs.State.{State, start, unsaved, standing}
+use Rattle.track_engine.specs.Answers.{without_fields}
 use Rattle.track_engine.specs.Answered.{Known, FollowsAnswers}
 use Rattle.track_engine.specs.Effects.{ExpectedLog, log_from, mesh_line}
 use Rattle.track_engine.specs.Invariant.{IsRunInvariant}
 use Rattle.track_engine.specs.Saved.{Target}
 use Rattle.track_engine.specs.World.{Contents, Logs}
 use Rattle.track_engine.proofs.Keeping.{kept_start}
-use Rattle.track_engine.proofs.NoFields.{without_fields}
+use Rattle.track_engine.proofs.NoFields.{one_log}
 use Rattle.track_try.specs.Summary.{whole_log}
 use Rattle.track_try.specs.Told.{HasRun}
 
@@ -33,19 +34,19 @@ module _ (m : Mesh) (first next : State) (new : first ≡ unsaved m) (saved : ne
 
   -- its log is whole, and its replay leads to where the engine then stands
   module _ (fields : Known) (none : fields.names ≡ []) (to : Target) (steps : List Placed) (last : State) (b c : Contents) (ending : Option Refusal) (f : FollowsAnswers fields to steps next last b c (Ok ending)) where
-    same_log : log_from f.answers steps next ≡ log_from [] steps (start m)
-    same_log = without_fields fields true f.answers steps next none f.answered ∙ ap (log_from [] steps) begins
+    same_log : log_from f.answers steps next ≡ log_from (without_fields steps) steps (start m)
+    same_log = one_log fields f.answers steps next none f.answered ∙ ap (log_from (without_fields steps) steps) begins
 
-    same_lines : (log_from f.answers steps next).lines ≡ (log_from [] steps (start m)).lines
+    same_lines : (log_from f.answers steps next).lines ≡ (log_from (without_fields steps) steps (start m)).lines
     same_lines = ap (λ (l : ExpectedLog). l.lines) same_log
 
-    stands : after (at_mesh m) (log_from [] steps (start m)).lines ≡ standing last
-    stands = ap (λ (r : Replay). after r (log_from [] steps (start m)).lines) (sym (ap standing begins)) ∙ ap (after (standing next)) (sym same_lines) ∙ f.stands
+    stands : after (at_mesh m) (log_from (without_fields steps) steps (start m)).lines ≡ standing last
+    stands = ap (λ (r : Replay). after r (log_from (without_fields steps) steps (start m)).lines) (sym (ap standing begins)) ∙ ap (after (standing next)) (sym same_lines) ∙ f.stands
 
     told : (o a : Option (List ℕ)) → a ≡ appended o (text_of_lines (First VERSION ∷ [])) → b.written ≡ appended a (text_of_lines (mesh_line first.saved first.mesh ∷ [])) → c.written ≡ appended o (text_of_lines (whole_log m steps))
     told o a p q =
         let P : State → Type 0 = λ s. b.written ≡ appended a (text_of_lines (mesh_line s.saved s.mesh ∷ [])) in
-        let lines = (log_from [] steps (start m)).lines in
+        let lines = (log_from (without_fields steps) steps (start m)).lines in
         let r : c.written ≡ appended b.written (text_of_lines lines) = f.follows.0.written ∙ ap (λ ls. appended b.written (text_of_lines ls)) same_lines in
         written_then o a c.written (First VERSION ∷ []) (mesh_line 0 m ∷ lines) p (written_then a b.written c.written (mesh_line 0 m ∷ []) lines (subst P new q) r)
 

@@ -15,13 +15,14 @@ use Rattle.outside_io.specs.ToldLines.{capped}
 use Rattle.mesh_make.specs.Cubes.{cubes_mesh}
 use Rattle.mesh_make.specs.CubeSteps.{cubes_steps}
 use Rattle.step_text.specs.declared.Placed.{Placed}
+use Rattle.track_engine.specs.Answers.{without_fields}
 use Rattle.track_engine.specs.Effects.{log_of_mesh}
 
 -- ---- the job's log, and where its replay leads
 
 -- the whole log of a job of a mesh and directives where no field is stored: its first line, and the log from the first mesh that is saved on
 abbrev pub whole_log : Mesh → List Placed → List LogLine
-whole_log m steps = First VERSION ∷ (log_of_mesh [] m steps).lines
+whole_log m steps = First VERSION ∷ (log_of_mesh (without_fields steps) m steps).lines
 
 -- the log of the job of cubes
 abbrev pub log_of_cubes : ℕ → ℕ → List LogLine

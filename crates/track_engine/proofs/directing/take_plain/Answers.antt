@@ -7,6 +7,7 @@ use Rattle.track_engine.specs.declared.run_state.RunState.{RunState}
 use Rattle.mesh_base.specs.Kept.{BeginsWith}
 use Rattle.mesh_base.proofs.MarksHold.{begins_itself}
 use Rattle.track_engine.specs.Invariant.{IsRunInvariant, left_by}
+use Rattle.track_engine.specs.Answers.{without_field}
 use Rattle.track_engine.specs.Effects.{effect_of}
 use Rattle.track_engine.specs.Targets.{target_of}
 use Rattle.track_engine.specs.Parts.{Advances}
@@ -23,7 +24,7 @@ pub returns-in-Step-clause-advances : goal.returns-in-Step-clause-advances
 returns-in-Step-clause-advances g c =
     let mesh = g.S.Surface.mesh in
     let kept = g.S.Surface.kept in
-    let P : Directive → Type 0 = λ what. Advances (target_of c.args.to) (effect_of None what (state_of (mesh c.args.mesh.now) (kept c.args.mesh.now) c.args.run.now)) (state_of (mesh c.args.mesh.now) (kept c.args.mesh.now) c.args.run.now) (state_of (mesh c.take_step.new.mesh) (kept c.take_step.new.mesh) c.take_step.new.run)
+    let P : Directive → Type 0 = λ what. Advances (target_of c.args.to) (effect_of (without_field what) what (state_of (mesh c.args.mesh.now) (kept c.args.mesh.now) c.args.run.now)) (state_of (mesh c.args.mesh.now) (kept c.args.mesh.now) c.args.run.now) (state_of (mesh c.take_step.new.mesh) (kept c.take_step.new.mesh) c.take_step.new.run)
     (contents g.D.Desk.files g.K.Sink.written c.args.desk.now c.args.out.now) (contents g.D.Desk.files g.K.Sink.written c.args.desk.now c.take_step.new.out) c.take_step.result in
     subst P (sym c.in-Step.is) (advances_step (target_of c.args.to) (state_of (mesh c.args.mesh.now) (kept c.args.mesh.now) c.args.run.now) (state_of (mesh c.take_step.new.mesh) (kept c.take_step.new.mesh) c.take_step.new.run) (g.D.Desk.files c.args.desk.now) (g.K.Sink.written c.args.out.now) (g.K.Sink.written c.take_step.new.out) c.take_step.result c.take_step.ensures.takes)
 
@@ -50,7 +51,7 @@ pub returns-in-Pass-clause-advances : goal.returns-in-Pass-clause-advances
 returns-in-Pass-clause-advances g c =
     let mesh = g.S.Surface.mesh in
     let kept = g.S.Surface.kept in
-    let P : Directive → Type 0 = λ what. Advances (target_of c.args.to) (effect_of None what (state_of (mesh c.args.mesh.now) (kept c.args.mesh.now) c.args.run.now)) (state_of (mesh c.args.mesh.now) (kept c.args.mesh.now) c.args.run.now) (state_of (mesh c.take_pass.new.mesh) (kept c.take_pass.new.mesh) c.take_pass.new.run)
+    let P : Directive → Type 0 = λ what. Advances (target_of c.args.to) (effect_of (without_field what) what (state_of (mesh c.args.mesh.now) (kept c.args.mesh.now) c.args.run.now)) (state_of (mesh c.args.mesh.now) (kept c.args.mesh.now) c.args.run.now) (state_of (mesh c.take_pass.new.mesh) (kept c.take_pass.new.mesh) c.take_pass.new.run)
     (contents g.D.Desk.files g.K.Sink.written c.args.desk.now c.args.out.now) (contents g.D.Desk.files g.K.Sink.written c.args.desk.now c.take_pass.new.out) c.take_pass.result in
     subst P (sym c.in-Pass.is) (advances_pass (target_of c.args.to) c.in-Pass.kind (state_of (mesh c.args.mesh.now) (kept c.args.mesh.now) c.args.run.now) (state_of (mesh c.take_pass.new.mesh) (kept c.take_pass.new.mesh) c.take_pass.new.run) (g.D.Desk.files c.args.desk.now) (g.K.Sink.written c.args.out.now) (g.K.Sink.written c.take_pass.new.out) c.take_pass.result c.take_pass.ensures.passes)
 
@@ -64,7 +65,7 @@ returns-in-Solid-clause-advances g c =
     let kept = g.S.Surface.kept in
     let s = state_of (mesh c.args.mesh.now) (kept c.args.mesh.now) c.args.run.now in
     let t = state_of (mesh c.take_solid.new.mesh) (kept c.take_solid.new.mesh) c.take_solid.new.run in
-    let P : Directive → Type 0 = λ what. Advances (target_of c.args.to) (effect_of None what s) s t
+    let P : Directive → Type 0 = λ what. Advances (target_of c.args.to) (effect_of (without_field what) what s) s t
     (contents g.D.Desk.files g.K.Sink.written c.args.desk.now c.args.out.now) (contents g.D.Desk.files g.K.Sink.written c.args.desk.now c.take_solid.new.out) c.take_solid.result in
     subst P (sym c.in-Solid.is) (advances_solid (target_of c.args.to) s t (g.D.Desk.files c.args.desk.now) (g.K.Sink.written c.args.out.now) (g.K.Sink.written c.take_solid.new.out) c.take_solid.result c.in-Solid.v c.take_solid.ensures.writes)
 
@@ -78,7 +79,7 @@ returns-in-Group-clause-advances g c =
     let kept = g.S.Surface.kept in
     let s = state_of (mesh c.args.mesh.now) (kept c.args.mesh.now) c.args.run.now in
     let t = state_of (mesh c.open_group.new.mesh) (kept c.open_group.new.mesh) c.open_group.new.run in
-    let P : Directive → Type 0 = λ what. Advances (target_of c.args.to) (effect_of None what s) s t
+    let P : Directive → Type 0 = λ what. Advances (target_of c.args.to) (effect_of (without_field what) what s) s t
     (contents g.D.Desk.files g.K.Sink.written c.args.desk.now c.args.out.now) (contents g.D.Desk.files g.K.Sink.written c.args.desk.now c.open_group.new.out) c.open_group.result in
     subst P (sym c.in-Group.is) (advances_group (target_of c.args.to) s t (g.D.Desk.files c.args.desk.now) (g.K.Sink.written c.args.out.now) (g.K.Sink.written c.open_group.new.out) c.open_group.result c.open_group.ensures.writes)
 
@@ -95,7 +96,7 @@ returns-in-Close-clause-advances g c =
     let kept = g.S.Surface.kept in
     let s = state_of (mesh c.args.mesh.now) (kept c.args.mesh.now) c.args.run.now in
     let t = state_of (mesh c.close_group.new.mesh) (kept c.close_group.new.mesh) c.close_group.new.run in
-    let P : Directive → Type 0 = λ what. Advances (target_of c.args.to) (effect_of None what s) s t
+    let P : Directive → Type 0 = λ what. Advances (target_of c.args.to) (effect_of (without_field what) what s) s t
     (contents g.D.Desk.files g.K.Sink.written c.args.desk.now c.args.out.now) (contents g.D.Desk.files g.K.Sink.written c.args.desk.now c.close_group.new.out) c.close_group.result in
     subst P (sym c.in-Close.is) (advances_close (target_of c.args.to) s t (g.D.Desk.files c.args.desk.now) (g.K.Sink.written c.args.out.now) (g.K.Sink.written c.close_group.new.out) c.close_group.result c.close_group.ensures.writes)
 
@@ -114,7 +115,7 @@ returns-in_ok-save-in-Save-clause-advances g c =
 pub returns-in-SetDepth-clause-advances : goal.returns-in-SetDepth-clause-advances
 returns-in-SetDepth-clause-advances g c =
     let s = state_of (g.S.Surface.mesh c.args.mesh.now) (g.S.Surface.kept c.args.mesh.now) c.args.run.now in
-    advances_set (target_of c.args.to) (record s.set { depth = c.in-SetDepth.depth }) c.args.what.now s (contents g.D.Desk.files g.K.Sink.written c.args.desk.now c.args.out.now) (ap (λ what. effect_of None what s) c.in-SetDepth.is)
+    advances_set (target_of c.args.to) (record s.set { depth = c.in-SetDepth.depth }) c.args.what.now s (contents g.D.Desk.files g.K.Sink.written c.args.desk.now c.args.out.now) (ap (λ what. effect_of (without_field what) what s) c.in-SetDepth.is)
 
 pub returns-in-SetDepth-clause-kept : goal.returns-in-SetDepth-clause-kept
 returns-in-SetDepth-clause-kept g c = λ e. record { now = c.requires.kept.now; groups = c.requires.kept.groups }
@@ -128,7 +129,7 @@ returns-in-SetDepth-clause-begins g c =
 pub returns-in-SetPasses-clause-advances : goal.returns-in-SetPasses-clause-advances
 returns-in-SetPasses-clause-advances g c =
     let s = state_of (g.S.Surface.mesh c.args.mesh.now) (g.S.Surface.kept c.args.mesh.now) c.args.run.now in
-    advances_set (target_of c.args.to) (record s.set { passes = c.in-SetPasses.passes }) c.args.what.now s (contents g.D.Desk.files g.K.Sink.written c.args.desk.now c.args.out.now) (ap (λ what. effect_of None what s) c.in-SetPasses.is)
+    advances_set (target_of c.args.to) (record s.set { passes = c.in-SetPasses.passes }) c.args.what.now s (contents g.D.Desk.files g.K.Sink.written c.args.desk.now c.args.out.now) (ap (λ what. effect_of (without_field what) what s) c.in-SetPasses.is)
 
 pub returns-in-SetPasses-clause-kept : goal.returns-in-SetPasses-clause-kept
 returns-in-SetPasses-clause-kept g c = λ e. record { now = c.requires.kept.now; groups = c.requires.kept.groups }
@@ -142,7 +143,7 @@ returns-in-SetPasses-clause-begins g c =
 pub returns-in-SetZones-clause-advances : goal.returns-in-SetZones-clause-advances
 returns-in-SetZones-clause-advances g c =
     let s = state_of (g.S.Surface.mesh c.args.mesh.now) (g.S.Surface.kept c.args.mesh.now) c.args.run.now in
-    advances_set (target_of c.args.to) (record s.set { zones = c.in-SetZones.zones }) c.args.what.now s (contents g.D.Desk.files g.K.Sink.written c.args.desk.now c.args.out.now) (ap (λ what. effect_of None what s) c.in-SetZones.is)
+    advances_set (target_of c.args.to) (record s.set { zones = c.in-SetZones.zones }) c.args.what.now s (contents g.D.Desk.files g.K.Sink.written c.args.desk.now c.args.out.now) (ap (λ what. effect_of (without_field what) what s) c.in-SetZones.is)
 
 pub returns-in-SetZones-clause-kept : goal.returns-in-SetZones-clause-kept
 returns-in-SetZones-clause-kept g c = λ e. record { now = c.requires.kept.now; groups = c.requires.kept.groups }
@@ -156,7 +157,7 @@ returns-in-SetZones-clause-begins g c =
 pub returns-in-SetHalvings-clause-advances : goal.returns-in-SetHalvings-clause-advances
 returns-in-SetHalvings-clause-advances g c =
     let s = state_of (g.S.Surface.mesh c.args.mesh.now) (g.S.Surface.kept c.args.mesh.now) c.args.run.now in
-    advances_set (target_of c.args.to) (record s.set { halvings = c.in-SetHalvings.halvings }) c.args.what.now s (contents g.D.Desk.files g.K.Sink.written c.args.desk.now c.args.out.now) (ap (λ what. effect_of None what s) c.in-SetHalvings.is)
+    advances_set (target_of c.args.to) (record s.set { halvings = c.in-SetHalvings.halvings }) c.args.what.now s (contents g.D.Desk.files g.K.Sink.written c.args.desk.now c.args.out.now) (ap (λ what. effect_of (without_field what) what s) c.in-SetHalvings.is)
 
 pub returns-in-SetHalvings-clause-kept : goal.returns-in-SetHalvings-clause-kept
 returns-in-SetHalvings-clause-kept g c = λ e. record { now = c.requires.kept.now; groups = c.requires.kept.groups }

@@ -34,7 +34,10 @@ returns-in_err-take_directive-clause-follows g c =
     let first = state_of (g.S.Surface.mesh c.args.mesh.now) (g.S.Surface.kept c.args.mesh.now) c.args.run.now in
     let now = state_of (g.S.Surface.mesh c.loop-placed.mesh) (g.S.Surface.kept c.loop-placed.mesh) c.loop-placed.run in
     let then = state_of (g.S.Surface.mesh c.take_directive.new.mesh) (g.S.Surface.kept c.take_directive.new.mesh) c.take_directive.new.run in
-    rw (p.1, p.2) (effect_part fields (target_of c.args.to) c.args.steps.now c.loop-placed.placed-index c.placed-item.result c.loop-placed-test.true c.placed-item.is first now _ _ _ c.loop-placed.invariant.so_far then _ c.in_err-take_directive.ensures.advances)
+    let old = contents g.D.Desk.files g.K.Sink.written c.args.desk.now c.args.out.now in
+    let mid = contents g.D.Desk.files g.K.Sink.written c.loop-placed.desk c.loop-placed.out in
+    let new = contents g.D.Desk.files g.K.Sink.written c.take_directive.new.desk c.take_directive.new.out in
+    rw (p.1, p.2) (effect_part fields (target_of c.args.to) c.args.steps.now c.loop-placed.placed-index c.placed-item.result c.loop-placed-test.true c.placed-item.is first now old mid new c.loop-placed.invariant.so_far then _ c.in_err-take_directive.ensures.advances)
 
 pub returns-in-Some-clause-follows : goal.returns-in-Some-clause-follows
 returns-in-Some-clause-follows g c =
