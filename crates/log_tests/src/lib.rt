@@ -1,0 +1,11 @@
+//! Worked examples on logs that are replayed, on what there is to measure of a mesh, and on passes by a sizing.
+#![tactic(auto)]
+
+#[cfg(test)]
+mod measures;
+#[cfg(test)]
+mod meshes;
+#[cfg(test)]
+mod replays;
+#[cfg(test)]
+mod sizings;

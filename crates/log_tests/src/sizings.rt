@@ -1,0 +1,102 @@
+//! Passes by a sizing, and what an edge calls for by one.
+ghost use Rattle.std.specs.Prelude.{IfOk};
+ghost use Rattle.mesh_base.specs.Placements.{IsClearMesh};
+ghost use Rattle.mesh_base.specs.Sides.{IsClosed};
+
+use crate::meshes::{EVEN, RIGHT, TETRAHEDRON, lists_of};
+use grid_base::Point;
+use mesh_plain::{PlainMesh, Surface, shape};
+use mesh_sizing::{Band, Sizing, Want};
+use outside_io::MemorySink;
+use pair_scan::first_meeting;
+use pass_run::{PassCount, PassFault, fit_pass};
+use std::alloc::Global;
+use std::process::Abort;
+use std::test::Fail;
+
+const SPLITS: &[u8] = b"pass fit\nsplit 1 2 5 50 0 0\nsplit 1 3 6 0 50 0\nsplit 1 4 7 0 0 50\n\
+split 2 3 8 50 50 0\nsplit 2 4 9 50 0 50\nsplit 3 4 10 0 50 50\n";
+
+// A mesh of good shape, which is clear.
+fn clear_mesh(alloc: Global, text: &[u8], rt: &impl Abort) -> Result<PlainMesh, Fail>
+    ensures closed { IfOk result (λ s. IsClosed (⟦<PlainMesh as Surface>⟧.mesh s)) }
+    ensures clear { IfOk result (λ s. IsClearMesh (⟦<PlainMesh as Surface>⟧.mesh s)) }
+{
+    let lists = lists_of(alloc, text, rt)?;
+    let shaped = shape(alloc, &lists);
+    assert!(rt; shaped.is_ok());
+    let mesh = PlainMesh::of(alloc, &lists)?;
+    let meeting = first_meeting(alloc, &mesh)?;
+    assert!(rt; meeting.is_none());
+    Ok(mesh)
+}
+
+// What a pass does by the band of the program at the origin: how it ended, and how many vertices and faces there are then.
+fn fitted(
+    alloc: Global,
+    text: &[u8],
+    grouped: bool,
+    out: &mut MemorySink,
+    rt: &impl Abort,
+) -> Result<(Result<PassCount, PassFault>, u32, u32), Fail> {
+    let mut mesh = clear_mesh(alloc, text, rt)?;
+    let sizing = Sizing::new(|_: Point| Band { low: 20, high: 60 });
+    let count = fit_pass(alloc, &mut mesh, &sizing, 6, grouped, out);
+    Ok((count, mesh.vertices(), mesh.faces()))
+}
+
+// A pass writes these lines, and leaves so many vertices and faces.
+fn is_fitted(
+    rt: &impl Abort,
+    alloc: Global,
+    text: &[u8],
+    grouped: bool,
+    done: u64,
+    left: (u32, u32),
+    lines: &[u8],
+) -> Result<(), Fail> {
+    let mut out = MemorySink::new(alloc, 1_000, Vec::new(alloc))?;
+    let found = fitted(alloc, text, grouped, &mut out, rt)?;
+    let count = PassCount { done, refused: 0 };
+    assert!(rt; found == (Ok(count), left.0, left.1));
+    assert!(rt; out.bytes() == lines);
+    Ok(())
+}
+
+#[test]
+fn edges_are_split_collapsed_and_left(rt: HostRuntime) -> Result<(), Fail> {
+    let alloc = rt.alloc();
+    is_fitted(&rt, alloc, EVEN, false, 6, (10, 16), SPLITS)?;
+    is_fitted(
+        &rt,
+        alloc,
+        TETRAHEDRON,
+        false,
+        1,
+        (0, 0),
+        b"pass fit\ncollapse 1 2 2 0 0\n",
+    )?;
+    is_fitted(&rt, alloc, RIGHT, true, 0, (4, 4), b"pass fit\n")
+}
+
+#[test]
+fn a_sink_may_fail_in_between(rt: HostRuntime) -> Result<(), Fail> {
+    let alloc = rt.alloc();
+    let mut out = MemorySink::new(alloc, 1_000, vec![in alloc; 3]?)?;
+    let found = fitted(alloc, EVEN, false, &mut out, &rt)?;
+    assert!(rt; found.0 == Err(PassFault::SinkFault));
+    let first: &[u8] = b"pass fit\nsplit 1 2 5 50 0 0\n";
+    assert!(rt; out.bytes() == first);
+    Ok(())
+}
+
+#[test]
+fn an_edge_of_the_given_length_is_left(rt: HostRuntime) -> Result<(), Fail> {
+    let sizing = Sizing::new(|_: Point| Band { low: 4, high: 5 });
+    let here = Point::new(0, 0, 0).ok_or("a point")?;
+    assert!(rt; sizing.want(here, 15) == Want::Collapse);
+    assert!(rt; sizing.want(here, 16) == Want::Leave);
+    assert!(rt; sizing.want(here, 25) == Want::Leave);
+    assert!(rt; sizing.want(here, 26) == Want::Split);
+    Ok(())
+}

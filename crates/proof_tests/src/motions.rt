@@ -1,0 +1,459 @@
+//! Worked motions: what is made of them, and verdicts on what is made and on what is not.
+ghost use Rattle.std.specs.Prelude.{◌↔◌, IfOk, IsTrue};
+ghost use Rattle.grid_base.specs.declared.TheConstants.{HALF_MAX};
+ghost use Rattle.grid_base.specs.Triples.{IsWithin};
+ghost use Rattle.motion_proof.specs.Acceptance.{AreWays};
+
+use grid_base::{HALF_MAX, NoMemory, Point, Wide};
+use mesh_plain::{FaceId, MeshLists, PairName, PlainMesh, Points, Triangles, VertexId, shape};
+use motion_proof::{
+    Certificate, Claim, Entries, Entry, Made, Tree, Verdict, Way, accepts, certify,
+};
+use std::alloc::Global;
+use std::process::Abort;
+use std::test::Fail;
+
+// A node of a tree, in order: a leaf with its direction, or halves.
+#[derive(Clone, Copy, Debug, PartialEq, Eq)]
+enum Node {
+    Leaf([i128; 3]),
+    Halves,
+}
+
+const TETRAHEDRON: [[i32; 3]; 4] = [[0, 0, 0], [4, 0, 0], [0, 4, 0], [0, 0, 4]];
+
+const TETRAHEDRON_FACES: [[u32; 3]; 4] = [[1, 3, 2], [1, 2, 4], [2, 3, 4], [1, 4, 3]];
+
+const TWO: [[u32; 3]; 8] = [
+    [1, 3, 2],
+    [1, 2, 4],
+    [2, 3, 4],
+    [1, 4, 3],
+    [5, 7, 6],
+    [5, 6, 8],
+    [6, 7, 8],
+    [5, 8, 7],
+];
+
+// Two tetrahedra, of which the vertex 5 of the second stands before the face 3 of the first.
+const APART: [[i32; 3]; 8] = [
+    [0, 0, 0],
+    [4, 0, 0],
+    [0, 4, 0],
+    [0, 0, 4],
+    [8, 2, 2],
+    [12, 2, 2],
+    [12, 6, 2],
+    [12, 2, 6],
+];
+
+// Two tetrahedra with a corner each at the origin.
+const TOUCHING: [[i32; 3]; 8] = [
+    [0, 0, 0],
+    [3, 1, 2],
+    [2, 4, 1],
+    [1, 2, 5],
+    [0, 0, 0],
+    [-3, -1, 1],
+    [-2, -4, -2],
+    [-1, 2, -5],
+];
+
+// A tetrahedron whose edge 1 2 is split at 5, and stands at 2 0 0.
+const SPLIT: [[i32; 3]; 5] = [[0, 0, 0], [5, 0, 0], [2, 2, 0], [2, 0, 2], [2, 0, 0]];
+
+const SPLIT_FACES: [[u32; 3]; 6] = [
+    [2, 3, 4],
+    [1, 4, 3],
+    [1, 5, 4],
+    [5, 2, 4],
+    [2, 5, 3],
+    [5, 1, 3],
+];
+
+// The vertex 5 moves half a unit, to where it stands.
+const SPLIT_WAYS: [(u32, [i64; 3], [i64; 3]); 1] = [(5, [5, 0, 0], [4, 0, 0])];
+
+const SPLIT_NAMES: [[u32; 3]; 6] = [
+    [1, 3, 4],
+    [1, 4, 5],
+    [1, 5, 1],
+    [2, 3, 3],
+    [2, 4, 6],
+    [2, 5, 2],
+];
+
+const SPLIT_NODES: [Node; 6] = [
+    Node::Leaf([16, -16, 24]),
+    Node::Leaf([-16, -4, 16]),
+    Node::Leaf([16, 24, 24]),
+    Node::Leaf([16, 24, 4]),
+    Node::Leaf([-16, 16, -24]),
+    Node::Leaf([-16, 16, 16]),
+];
+
+// Two triangles, each with a face on either side. The first moves, and passes the second round a corner.
+const SHEETS: [[i32; 3]; 6] = [
+    [-3, 3, 3],
+    [-4, 1, 4],
+    [-1, 4, -3],
+    [-1, 2, 2],
+    [2, 0, 0],
+    [-3, -4, 0],
+];
+
+const SHEET_FACES: [[u32; 3]; 4] = [[1, 2, 3], [1, 3, 2], [4, 5, 6], [4, 6, 5]];
+
+const SHEET_WAYS: [(u32, [i64; 3], [i64; 3]); 3] = [
+    (1, [-6, 6, 6], [0, 6, 8]),
+    (2, [-8, 2, 8], [-6, 4, 12]),
+    (3, [-2, 8, -6], [-10, 10, 2]),
+];
+
+fn whole(p: [i64; 3]) -> Wide {
+    Wide {
+        x: i128::from(p[0]),
+        y: i128::from(p[1]),
+        z: i128::from(p[2]),
+    }
+}
+
+fn point(p: [i32; 3], rt: &impl Abort) -> Point {
+    Point::new(p[0], p[1], p[2]).expect(rt, "a point in the box")
+}
+
+fn mesh_at(
+    alloc: Global,
+    points: &[[i32; 3]],
+    faces: &[[u32; 3]],
+    rt: &impl Abort,
+) -> Result<PlainMesh, NoMemory> {
+    let mut lists = MeshLists {
+        points: Points::new(alloc),
+        faces: Triangles::new(alloc),
+    };
+    for p in points {
+        lists.points.push(point(*p, rt))?;
+    }
+    for f in faces {
+        lists.faces.push(*f)?;
+    }
+    let shaped = shape(alloc, &lists);
+    assert!(rt; shaped.is_ok());
+    PlainMesh::of(alloc, &lists)
+}
+
+fn is_within(p: Wide) -> bool
+    ensures { IsTrue result ↔ IsWithin HALF_MAX p }
+{
+    let most = HALF_MAX as u128;
+    p.x.unsigned_abs() <= most && p.y.unsigned_abs() <= most && p.z.unsigned_abs() <= most
+}
+
+fn ways_of(
+    alloc: Global,
+    list: &[(u32, [i64; 3], [i64; 3])],
+    rt: &impl Abort,
+) -> Result<Vec<Way>, NoMemory>
+    ensures { IfOk result (λ ways. AreWays ways.items) }
+{
+    let mut ways = Vec::new(alloc);
+    for (v, start, end) in list {
+        let way = Way {
+            v: VertexId(*v),
+            start: whole(*start),
+            end: whole(*end),
+        };
+        assert!(rt; is_within(way.start) && is_within(way.end));
+        ways.push(way)?;
+    }
+    Ok(ways)
+}
+
+fn name(ids: [u32; 3]) -> PairName {
+    PairName {
+        a: VertexId(ids[0]),
+        b: VertexId(ids[1]),
+        face: FaceId(ids[2]),
+    }
+}
+
+fn put_nodes(tree: &Tree, into: &mut Vec<Node>) -> Result<(), NoMemory> {
+    match tree {
+        Tree::Leaf(n) => {
+            into.push(Node::Leaf([n.x, n.y, n.z]))?;
+            Ok(())
+        }
+        Tree::Halves(first, second) => {
+            into.push(Node::Halves)?;
+            put_nodes(first, into)?;
+            put_nodes(second, into)
+        }
+    }
+}
+
+const SHEET_NAMES: [[u32; 3]; 6] = [
+    [2, 3, 3],
+    [2, 3, 4],
+    [4, 5, 1],
+    [4, 5, 2],
+    [4, 6, 1],
+    [4, 6, 2],
+];
+
+const SHEET_NODES: [Node; 14] = [
+    Node::Leaf([-112, 140, 12]),
+    Node::Leaf([-192, 80, -48]),
+    Node::Halves,
+    Node::Leaf([176, -64, 48]),
+    Node::Leaf([72, -180, -84]),
+    Node::Halves,
+    Node::Leaf([-176, 64, -48]),
+    Node::Leaf([-72, 180, 84]),
+    Node::Halves,
+    Node::Leaf([176, -64, 48]),
+    Node::Leaf([72, -180, -84]),
+    Node::Halves,
+    Node::Leaf([-176, 64, -48]),
+    Node::Leaf([-72, 180, 84]),
+];
+
+// What a certificate has: the names of its pairs, and the nodes of its trees, one tree after another.
+#[derive(Drop)]
+struct Listing {
+    names: Vec<PairName>,
+    nodes: Vec<Node>,
+}
+
+fn listing_of(alloc: Global, c: &Certificate) -> Result<Listing, NoMemory> {
+    let mut s = Listing {
+        names: Vec::new(alloc),
+        nodes: Vec::new(alloc),
+    };
+    for e in c.entries.as_slice() {
+        s.names.push(e.pair)?;
+        put_nodes(&e.tree, &mut s.nodes)?;
+    }
+    Ok(s)
+}
+
+fn has_names(s: &Listing, names: &[[u32; 3]]) -> bool {
+    if s.names.len() != names.len() {
+        return false;
+    }
+    for (n, ids) in s.names.iter().zip(names) {
+        if *n != name(*ids) {
+            return false;
+        }
+    }
+    true
+}
+
+// An answer, in words of its own: the failing pair, or whether the names and the nodes are these, and the verdict.
+fn is_certified(
+    alloc: Global,
+    mesh: &PlainMesh,
+    ways: &[Way],
+    claim: Claim,
+    names: &[[u32; 3]],
+    nodes: &[Node],
+) -> Result<bool, NoMemory>
+    requires { AreWays ways.now }
+{
+    match certify(alloc, mesh, ways, claim)? {
+        Made::Proof(c) => {
+            let s = listing_of(alloc, &c)?;
+            let verdict = accepts(alloc, mesh, ways, &c)?;
+            Ok(has_names(&s, names) && s.nodes.as_slice() == nodes && verdict == Verdict::Accepted)
+        }
+        Made::Fails(_name) => Ok(false),
+    }
+}
+
+fn first_failing(
+    alloc: Global,
+    mesh: &PlainMesh,
+    ways: &[Way],
+    claim: Claim,
+) -> Result<Option<PairName>, NoMemory>
+    requires { AreWays ways.now }
+{
+    match certify(alloc, mesh, ways, claim)? {
+        Made::Proof(_c) => Ok(None),
+        Made::Fails(n) => Ok(Some(n)),
+    }
+}
+
+#[test]
+fn a_tetrahedron_has_no_pair(rt: HostRuntime) -> Result<(), Fail> {
+    let alloc = rt.alloc();
+    let mesh = mesh_at(alloc, &TETRAHEDRON, &TETRAHEDRON_FACES, &rt)?;
+    let ways = ways_of(
+        alloc,
+        &[
+            (1, [0, 0, 0], [2, 4, 6]),
+            (2, [8, 0, 0], [10, 4, 6]),
+            (3, [0, 8, 0], [2, 12, 6]),
+            (4, [0, 0, 8], [2, 4, 14]),
+        ],
+        &rt,
+    )?;
+    assert!(rt; is_certified(alloc, &mesh, &ways, Claim::Along, &[], &[])?);
+    Ok(())
+}
+
+#[test]
+fn a_split_has_an_entry_for_each_pair_that_no_axis_keeps_apart(
+    rt: HostRuntime,
+) -> Result<(), Fail> {
+    let alloc = rt.alloc();
+    let mesh = mesh_at(alloc, &SPLIT, &SPLIT_FACES, &rt)?;
+    let ways = ways_of(alloc, &SPLIT_WAYS, &rt)?;
+    assert!(rt;
+        is_certified(
+            alloc,
+            &mesh,
+            &ways,
+            Claim::Along,
+            &SPLIT_NAMES,
+            &SPLIT_NODES
+        )?
+    );
+    Ok(())
+}
+
+#[test]
+fn an_axis_keeps_a_vertex_apart(rt: HostRuntime) -> Result<(), Fail> {
+    let alloc = rt.alloc();
+    let mesh = mesh_at(alloc, &APART, &TWO, &rt)?;
+    let ways = ways_of(alloc, &[(5, [16, 4, 4], [18, 4, 4])], &rt)?;
+    assert!(rt; is_certified(alloc, &mesh, &ways, Claim::Along, &[], &[])?);
+    let ways = ways_of(alloc, &[(5, [16, 4, 4], [0, 4, 4])], &rt)?;
+    let failing = first_failing(alloc, &mesh, &ways, Claim::Along)?;
+    assert_eq!(rt; failing, Some(name([3, 4, 5])));
+    Ok(())
+}
+
+#[test]
+fn two_that_touch_part_or_come_together(rt: HostRuntime) -> Result<(), Fail> {
+    let alloc = rt.alloc();
+    let mesh = mesh_at(alloc, &TOUCHING, &TWO, &rt)?;
+    let parting = ways_of(
+        alloc,
+        &[(1, [0, 0, 0], [2, 2, 2]), (5, [0, 0, 0], [-2, -2, -2])],
+        &rt,
+    )?;
+    let coming = ways_of(
+        alloc,
+        &[(1, [2, 2, 2], [0, 0, 0]), (5, [-2, -2, -2], [0, 0, 0])],
+        &rt,
+    )?;
+    let names = [
+        [1, 2, 5],
+        [1, 2, 6],
+        [1, 2, 8],
+        [1, 3, 5],
+        [1, 3, 6],
+        [1, 3, 8],
+        [1, 4, 5],
+        [1, 4, 6],
+        [1, 4, 8],
+        [5, 6, 1],
+        [5, 6, 2],
+        [5, 6, 4],
+        [5, 7, 1],
+        [5, 7, 2],
+        [5, 7, 4],
+        [5, 8, 1],
+        [5, 8, 2],
+        [5, 8, 4],
+    ];
+    let nodes = [Node::Leaf([1, 0, 0]); 18];
+    assert!(rt; is_certified(alloc, &mesh, &parting, Claim::After, &names, &nodes)?);
+    assert!(rt; is_certified(alloc, &mesh, &coming, Claim::Before, &names, &nodes)?);
+    for (ways, claim) in [
+        (&parting, Claim::Along),
+        (&parting, Claim::Before),
+        (&coming, Claim::Along),
+        (&coming, Claim::After),
+    ] {
+        let failing = first_failing(alloc, &mesh, ways, claim)?;
+        assert_eq!(rt; failing, Some(name([1, 2, 5])));
+    }
+    Ok(())
+}
+
+#[test]
+fn a_sheet_goes_round_a_corner_in_two_halves(rt: HostRuntime) -> Result<(), Fail> {
+    let alloc = rt.alloc();
+    let mesh = mesh_at(alloc, &SHEETS, &SHEET_FACES, &rt)?;
+    let ways = ways_of(alloc, &SHEET_WAYS, &rt)?;
+    assert!(rt;
+        is_certified(
+            alloc,
+            &mesh,
+            &ways,
+            Claim::Along,
+            &SHEET_NAMES,
+            &SHEET_NODES
+        )?
+    );
+    Ok(())
+}
+
+// Entries with one leaf each.
+fn leaves(alloc: Global, list: &[([u32; 3], [i64; 3])]) -> Result<Entries, NoMemory> {
+    let mut entries = Entries::new(alloc);
+    for (ids, n) in list {
+        entries.push(Entry {
+            pair: name(*ids),
+            tree: Tree::Leaf(whole(*n)),
+        })?;
+    }
+    Ok(entries)
+}
+
+// The verdict on these entries for the split; None where they are no certificate.
+fn verdict_on_split(
+    alloc: Global,
+    list: &[([u32; 3], [i64; 3])],
+    claim: Claim,
+    rt: &impl Abort,
+) -> Result<Option<Verdict>, NoMemory> {
+    let mesh = mesh_at(alloc, &SPLIT, &SPLIT_FACES, rt)?;
+    let ways = ways_of(alloc, &SPLIT_WAYS, rt)?;
+    let entries = leaves(alloc, list)?;
+    match Certificate::of(claim, entries) {
+        Some(c) => Ok(Some(accepts(alloc, &mesh, &ways, &c)?)),
+        None => Ok(None),
+    }
+}
+
+#[test]
+fn a_certificate_is_refused_at_the_first_fault(rt: HostRuntime) -> Result<(), Fail> {
+    let alloc = rt.alloc();
+    let mut list = [
+        ([1, 3, 4], [2, -2, 3]),
+        ([1, 4, 5], [-16, -4, 16]),
+        ([1, 5, 1], [16, 24, 24]),
+        ([2, 3, 3], [16, 24, 4]),
+        ([2, 4, 6], [-16, 16, -24]),
+        ([2, 5, 2], [-16, 16, 16]),
+    ];
+    let verdict = verdict_on_split(alloc, &list, Claim::Along, &rt)?;
+    assert_eq!(rt; verdict, Some(Verdict::Accepted));
+    let verdict = verdict_on_split(alloc, &list[1..], Claim::Along, &rt)?;
+    assert_eq!(rt; verdict, Some(Verdict::Missing(name([1, 3, 4]))));
+    let verdict = verdict_on_split(alloc, &[], Claim::Before, &rt)?;
+    assert_eq!(rt; verdict, Some(Verdict::Missing(name([1, 3, 4]))));
+    list[0].1 = [1, 0, 0];
+    let verdict = verdict_on_split(alloc, &list, Claim::Along, &rt)?;
+    assert_eq!(rt; verdict, Some(Verdict::Invalid(name([1, 3, 4]))));
+    list[5].0 = [3, 4, 1];
+    let verdict = verdict_on_split(alloc, &list, Claim::Along, &rt)?;
+    assert_eq!(rt; verdict, Some(Verdict::Stranger(name([3, 4, 1]))));
+    list[5].0 = [2, 3, 2];
+    let verdict = verdict_on_split(alloc, &list, Claim::Along, &rt)?;
+    assert_eq!(rt; verdict, None);
+    Ok(())
+}
