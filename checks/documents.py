@@ -94,7 +94,7 @@ def main():
             if command:
                 checks.append((f"what {name} shows of `{command}` is its log", is_part(lines, log_of(command.split()[2:]))))
     checks.append(("README.md shows the steps of the example", is_part(steps.splitlines(), [line.strip() for line in readme.splitlines()])))
-    crates = [line.partition(":")[0] for line in text_of("crates.txt").splitlines() if ":" in line]
+    crates = [line.partition(":")[0] for line in text_of("crates.txt").splitlines() if ":" in line and not line.startswith("#")]
     for name in ("README.md", "docs/ARCHITECTURE.md"):
         lacking = [crate for crate in crates if f"`{crate}`" not in text_of(name)]
         checks.append((f"{name} names each crate {' '.join(lacking)}".rstrip(), not lacking))
