@@ -88,3 +88,6 @@ impl Shift {
         }
     }
 }
+
+/// No shift at all.
+pub const NO_SHIFT: Shift = Shift { x: 0, y: 0, z: 0 };

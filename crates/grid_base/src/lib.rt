@@ -12,8 +12,8 @@ mod pair_positions;
 mod vector;
 
 pub use extent::Extent;
-pub use grid::{Point, Shift};
-pub use list::Items;
+pub use grid::{NO_SHIFT, Point, Shift};
+pub use list::{Items, copy_of};
 pub use memory::NoMemory;
 pub use moving::{floor_mid, halved, moved};
 pub use narrow::orient;

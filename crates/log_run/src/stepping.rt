@@ -10,12 +10,10 @@ ghost use Rattle.log_run.specs.Parts.{StepHolds, Holds, Takes};
 use crate::moving::{ends_outside, place_all};
 use crate::settling::settle_if_none;
 use crate::standing::{Standing, StepSoFar};
-use grid_base::{Items, NoMemory, Shift};
+use grid_base::{Items, NO_SHIFT, NoMemory};
 use mesh_base::{ShiftOf, Shifts, Surface, VertexId, live_vertices};
 use pair_scan::place_of;
 use std::alloc::Global;
-
-const NO_SHIFT: Shift = Shift { x: 0, y: 0, z: 0 };
 
 // No shift for each of the vertices.
 fn all_still(alloc: Global, ids: &[VertexId]) -> Result<Shifts, NoMemory>

@@ -8,13 +8,11 @@ ghost use Rattle.step_choose.specs.Found.{way_by};
 
 use crate::found::Found;
 use crate::settings::Settings;
-use grid_base::{NoMemory, Shift, halved};
+use grid_base::{NO_SHIFT, NoMemory, halved};
 use mesh_base::{How, ShiftOf, Shifts, Surface};
 use pair_scan::all_pass;
 use std::alloc::Global;
 use step_zones::Blocks;
-
-const NO_SHIFT: Shift = Shift { x: 0, y: 0, z: 0 };
 
 // Each shift halved so many times.
 fn halved_times(alloc: Global, asked: &[ShiftOf], times: u8) -> Result<Shifts, NoMemory>

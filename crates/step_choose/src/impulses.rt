@@ -8,9 +8,8 @@ ghost use Rattle.step_choose.specs.Choice.{impulse_way};
 ghost use Rattle.step_choose.specs.Found.{way_by};
 
 use crate::found::Found;
-use crate::lists::copy_of;
 use crate::settings::Settings;
-use grid_base::NoMemory;
+use grid_base::{NoMemory, copy_of};
 use mesh_base::{How, Shifts, Surface};
 use pair_scan::{Pairs, end_in_box, failing};
 use std::alloc::Global;

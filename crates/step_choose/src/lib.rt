@@ -6,7 +6,6 @@ mod choosing;
 mod found;
 mod halving;
 mod impulses;
-mod lists;
 mod rounds;
 mod settings;
 

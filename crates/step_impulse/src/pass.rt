@@ -10,11 +10,9 @@ ghost use Rattle.pair_scan.specs.Named.{pair_named, pairs_named};
 ghost use Rattle.step_impulse.specs.Passes.{with_shift_of, with_shifts_of, after_pair, after_pass};
 
 use crate::impulse::axis_impulse;
-use grid_base::{Point, Shift};
+use grid_base::{NO_SHIFT, Point, Shift};
 use mesh_base::{PairName, ShiftOf, Shifts, Surface, VertexId, point_of};
 use pair_scan::{Pairs, five_of, place_of};
-
-const NO_SHIFT: Shift = Shift { x: 0, y: 0, z: 0 };
 
 // The shift of a vertex; none, where none is named.
 fn shift_at(shifts: &[ShiftOf], v: VertexId) -> Shift

@@ -10,7 +10,7 @@ ghost use Rattle.step_zones.specs.Zones.{divided};
 ghost use Rattle.step_zones.specs.Ranks.{label_by};
 ghost use Rattle.step_zones.specs.Totals.{no_total, with_one, total_of, total_by};
 
-use grid_base::{NoMemory, Shift, Wide};
+use grid_base::{NO_SHIFT, NoMemory, Shift, Wide};
 use mesh_base::{ShiftOf, Surface, VertexId};
 use pair_scan::place_of;
 use std::alloc::Global;
@@ -28,8 +28,6 @@ const NO_TOTAL: Total = Total {
     sum: Wide { x: 0, y: 0, z: 0 },
     solid: false,
 };
-
-const NO_SHIFT: Shift = Shift { x: 0, y: 0, z: 0 };
 
 // The sum of so many components and one more.
 fn component_sum(a: i128, b: i32) -> i128

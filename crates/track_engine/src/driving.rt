@@ -8,9 +8,9 @@ ghost use Rattle.track_engine.specs.Effects.{sum_of_all};
 ghost use Rattle.track_engine.specs.Shifting.{Sums, AsksNow};
 
 use crate::run_state::RunState;
-use crate::shifting::{NO_SHIFT, summed_unless_solid};
+use crate::shifting::summed_unless_solid;
 use crate::stop::Stop;
-use grid_base::{NoMemory, Point, Shift};
+use grid_base::{NO_SHIFT, NoMemory, Point, Shift};
 use mesh_base::point_of;
 use mesh_field::Fields;
 use mesh_plain::{ShiftOf, Shifts, Surface, UseWhy, VertexId};

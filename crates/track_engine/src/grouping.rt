@@ -9,11 +9,10 @@ ghost use Rattle.track_engine.specs.Parts.{Writes};
 ghost use Rattle.track_engine.specs.Invariant.{MarksHold, left_by};
 
 use crate::lines::say;
-use crate::lists::copy_of;
 use crate::open_group::OpenGroup;
 use crate::run_state::RunState;
 use crate::stop::Stop;
-use grid_base::NoMemory;
+use grid_base::{NoMemory, copy_of};
 use log_text::LogLine;
 use mesh_plain::{ShiftOf, Surface, UseWhy};
 use outside_io::Sink;

@@ -12,7 +12,6 @@ mod following;
 mod grouping;
 pub mod laws;
 mod lines;
-mod lists;
 mod open_group;
 mod open_groups;
 mod placing;

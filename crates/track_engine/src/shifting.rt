@@ -10,12 +10,10 @@ ghost use Rattle.std.specs.Ordering.{nat_cmp};
 ghost use Rattle.track_engine.specs.Effects.{sum_of_one, one_still};
 ghost use Rattle.track_engine.specs.Shifting.{SumsOne, Sums, AsksNow};
 
-use grid_base::{NoMemory, SHIFT_MAX, Shift};
+use grid_base::{NO_SHIFT, NoMemory, SHIFT_MAX, Shift};
 use mesh_plain::{ShiftOf, Shifts, Surface, UseWhy, VertexId, live_vertices};
 use pair_scan::place_of;
 use std::alloc::Global;
-
-pub(crate) const NO_SHIFT: Shift = Shift { x: 0, y: 0, z: 0 };
 
 /// No shift for each live vertex, by rising id.
 pub(crate) fn no_shifts<S: Surface>(alloc: Global, mesh: &S) -> Result<Shifts, NoMemory>

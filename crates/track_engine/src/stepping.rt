@@ -6,9 +6,9 @@ ghost use Rattle.track_engine.specs.Effects.{hit_lines, block_lines, move_lines,
 ghost use Rattle.log_write.specs.Written.{Written};
 
 use crate::lines::say;
-use crate::lists::copy_of;
 use crate::shifting::moves;
 use crate::stop::Stop;
+use grid_base::copy_of;
 use log_text::LogLine;
 use mesh_plain::{Ids, PairName, ShiftOf, VertexId};
 use outside_io::Sink;

@@ -1,5 +1,5 @@
 use Rattle.std.proofs.Common.{◌≡◌, ◌++◌, drop}
-use Rattle.track_engine.proofs.lists.copy_of.Given as goal
+use Rattle.grid_base.proofs.list.copy_of.Given as goal
 
 -- the items so far and those to come are all
 abbrev pub invariant-loop-x : goal.invariant-loop-x

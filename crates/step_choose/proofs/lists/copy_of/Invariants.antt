@@ -1,6 +1,0 @@
-use Rattle.std.proofs.Common.{◌≡◌, ◌++◌, drop}
-use Rattle.step_choose.proofs.lists.copy_of.Given as goal
-
--- the items so far and those to come are all
-abbrev pub invariant-loop-x : goal.invariant-loop-x
-invariant-loop-x g l = l.copy ++ drop l.x-index l.items ≡ l.items
