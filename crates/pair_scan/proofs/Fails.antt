@@ -17,7 +17,7 @@ use Rattle.mesh_base.specs.declared.ids.Corners.{Corners}
 use Rattle.mesh_base.specs.Failing.{failing, pair_passes}
 use Rattle.mesh_base.specs.Mesh.{Mesh, IsSound}
 use Rattle.mesh_base.specs.Pairs.{Pair, edges, pairs, pairs_of}
-use Rattle.mesh_base.specs.Placements.{positions, IsClearAlong}
+use Rattle.mesh_base.specs.Placements.{Motion, positions, IsClearAlong}
 use Rattle.mesh_base.specs.Shifts.{Shifts, moved_by}
 use Rattle.mesh_base.specs.Sides.{has_corner}
 use Rattle.mesh_base.proofs.ListedPairs.{pair_listed}
@@ -51,9 +51,8 @@ passed_apart depth frame e f its edge E F off =
     nothing other passed p = ap (λ b. one_or_none (cond (other && not b) (Some (name_with e f)) None)) p ∙ ap (λ b. one_or_none (cond b (Some (name_with e f)) None)) (and_false other)
 
 -- ---- the pairs of an edge
-of_edge : (m : Mesh) (by : Shifts) (depth a b : ℕ) → let w = moved_by m by in failing_among depth (moving_edge w a b) (moving_faces m w) ≡ failing_of m by depth (pairs_of m (a, b))
-of_edge m by depth a b =
-    let w = moved_by m by in
+of_edge : (m : Mesh) (w : Motion) (depth a b : ℕ) → failing_among depth (moving_edge w a b) (moving_faces m w) ≡ failing_of depth w (pairs_of m (a, b))
+of_edge m w depth a b =
     let e = moving_edge w a b in
     let es = finite.entries m.faces in
     let pair : ℕ × Corners → Pair = λ f. record { name = record { a = a; b = b; face = f.0 }; corners = f.1 } in
@@ -63,15 +62,14 @@ of_edge m by depth a b =
     ∙ kept_of_taken apart pair fails (λ p. p.name) (λ f. failed depth e (Some (moving_face w f))) (λ f. refl) es
 
 -- all pairs, edge by edge
-by_edges : (m : Mesh) (by : Shifts) (depth : ℕ) → flat_map (λ e. failing_of m by depth (pairs_of m e)) (edges m) ≡ failing meets_exactly m by depth
-by_edges m by depth = sym (kept_by_list (λ p. p.name) (λ p. not (pair_passes meets_exactly depth (moved_by m by) p)) (λ e. pairs_of m e) (edges m))
+by_edges : (m : Mesh) (w : Motion) (depth : ℕ) → flat_map (λ e. failing_of depth w (pairs_of m e)) (edges m) ≡ failing_of depth w (pairs m)
+by_edges m w depth = sym (kept_by_list (λ p. p.name) (λ p. not (pair_passes meets_exactly depth w p)) (λ e. pairs_of m e) (edges m))
 
 -- the same along the edges of the mesh
-pub along_edges : (m : Mesh) (by : Shifts) (depth : ℕ) → let w = moved_by m by in failing_along depth w (moving_faces m w) (edges m) ≡ failing meets_exactly m by depth
-along_edges m by depth =
-    let w = moved_by m by in
-    each_alike (λ e. failing_among depth (moving_edge w e.0 e.1) (moving_faces m w)) (λ e. failing_of m by depth (pairs_of m e)) (λ e. of_edge m by depth e.0 e.1) (edges m)
-    ∙ by_edges m by depth
+pub along_edges : (m : Mesh) (w : Motion) (depth : ℕ) → failing_along depth w (moving_faces m w) (edges m) ≡ failing_of depth w (pairs m)
+along_edges m w depth =
+    each_alike (λ e. failing_among depth (moving_edge w e.0 e.1) (moving_faces m w)) (λ e. failing_of depth w (pairs_of m e)) (λ e. of_edge m w depth e.0 e.1) (edges m)
+    ∙ by_edges m w depth
   where
     each_alike : {X Y : Type 0} (f g : X → List Y) → ((x : X) → f x ≡ g x) → (xs : List X) → flat_map f xs ≡ flat_map g xs
     each_alike f g same [] = refl

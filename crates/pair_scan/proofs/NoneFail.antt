@@ -1,33 +1,17 @@
--- Whether a list made of lists has nothing.
-use Rattle.std.proofs.Common.{◌≡◌, ℕ, ◌+◌, ◌<◌, ◌≤◌, ◌==◌, true, false, List, [], ◌∷◌, ◌++◌, length, get_or, drop, suc, refl, sym, ap, ◌∙◌, arith}
-use Rattle.std.specs.List.{flat_map}
+-- What a scan finds, and whether it is nothing.
+use Rattle.std.proofs.Common.{◌≡◌, ◌==◌, Bool, true, false, List, [], ◌∷◌, ◌++◌, length, suc, refl, sym, ap, ◌∙◌, arith}
 use Rattle.std.proofs.lemmas.Bool.{ne_eqb, false≢true}
-use Rattle.pair_paths.proofs.Walks.{rest_at, ended}
-use Rattle.pair_scan.specs.Passing.{has_none}
+use Rattle.mesh_base.specs.declared.ids.PairName.{PairName}
+use Rattle.pair_scan.specs.Found.{has_none, AreFound}
 
-none_then : {X : Type 0} (xs ys : List X) → has_none xs ≡ true → has_none (xs ++ ys) ≡ has_none ys
-none_then [] ys e = refl
-none_then (x ∷ xs) ys e = absurd (false≢true e)
+-- ---- a scan that is over
+pub found_whole : (ends_early : Bool) (all found : List PairName) → found ≡ all → AreFound ends_early all found
+found_whole ends_early all found same = record { whole = λ _. same; none = ap has_none same }
 
-some_then : {X : Type 0} (xs ys : List X) → has_none xs ≡ false → has_none (xs ++ ys) ≡ false
-some_then [] ys e = absurd (false≢true (sym e))
-some_then (x ∷ xs) ys e = refl
-
-module _ {X Y : Type 0} (f : X → List Y) (xs : List X) (i : ℕ) where
-  parts : (d : X) → i < length xs → flat_map f (drop i xs) ≡ f (get_or xs i d) ++ flat_map f (drop (i + 1) xs)
-  parts d inside = ap (flat_map f) (rest_at xs i d inside)
-
-  -- the item at hand makes nothing
-  pub none_behind : (d : X) → i < length xs → has_none (f (get_or xs i d)) ≡ true → has_none (flat_map f (drop i xs)) ≡ has_none (flat_map f (drop (i + 1) xs))
-  none_behind d inside none = ap has_none (parts d inside) ∙ none_then (f (get_or xs i d)) (flat_map f (drop (i + 1) xs)) none
-
-  -- it makes something
-  pub some_here : (d : X) → i < length xs → has_none (f (get_or xs i d)) ≡ false → has_none (flat_map f (drop i xs)) ≡ false
-  some_here d inside some = ap has_none (parts d inside) ∙ some_then (f (get_or xs i d)) (flat_map f (drop (i + 1) xs)) some
-
-  -- none is left
-  pub none_left : length xs ≤ i → has_none (flat_map f (drop i xs)) ≡ true
-  none_left over = ap (λ zs. has_none (flat_map f zs)) (ended xs i over)
+-- what is found is not all yet, and has something
+pub found_early : (ends_early : Bool) (found rest all : List PairName) → ends_early ≡ true → has_none found ≡ false → found ++ rest ≡ all → AreFound ends_early all found
+found_early ends_early [] rest all early some is = absurd (false≢true (sym some))
+found_early ends_early (x ∷ xs) rest all early some is = record { whole = λ late. absurd (false≢true (sym late ∙ early)); none = ap has_none is }
 
 -- ---- a list that has nothing
 pub nothing : {X : Type 0} (xs : List X) → has_none xs ≡ true → xs ≡ []

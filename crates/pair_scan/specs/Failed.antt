@@ -44,9 +44,9 @@ failing_among depth e faces = flat_map (λ f. failed depth e (Some f)) faces
 abbrev pub failing_along : ℕ → Motion → List MovingFace → List (ℕ × ℕ) → List PairName
 failing_along depth w faces edges = flat_map (λ e. failing_among depth (moving_edge w e.0 e.1) faces) edges
 
--- the names of those of these pairs that do not pass
-abbrev pub failing_of : Mesh → Shifts → ℕ → List Pair → List PairName
-failing_of m by depth ps = map (λ p. p.name) (filter (λ p. not (pair_passes meets_exactly depth (moved_by m by) p)) ps)
+-- the names of those of these pairs that do not pass in the motion
+abbrev pub failing_of : ℕ → Motion → List Pair → List PairName
+failing_of depth w ps = map (λ p. p.name) (filter (λ p. not (pair_passes meets_exactly depth w p)) ps)
 
 -- the pair does not pass in the motion
 abbrev pub DoesNotPass : ℕ → Motion → Pair → Type 0

@@ -1,6 +1,6 @@
 pub mod Scan
 pub mod Failed
-pub mod Passing
+pub mod Found
 pub mod Lookup
 pub mod Named
 pub mod Solids

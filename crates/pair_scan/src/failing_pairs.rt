@@ -1,185 +1,18 @@
-//! The pairs that do not pass in a motion.
-ghost use Rattle.std.specs.Prelude.{◌≡◌, ◌≤◌, ◌++◌, [], Some, IsTrue, IfOk, OnOk, slice_get};
+//! The pairs that do not pass where vertices go by shifts, and whether there is none.
+ghost use Rattle.std.specs.Prelude.{◌≡◌, ◌≤◌, [], IsTrue, IfOk};
 ghost use Rattle.grid_base.specs.declared.TheConstants.{DEPTH_MAX};
 ghost use Rattle.grid_decided.specs.Decided.{meets_exactly};
 ghost use Rattle.mesh_base.specs.Placements.{IsClearAlong};
 ghost use Rattle.mesh_base.specs.Shifts.{NameLive, end_in_box, moved_by};
 ghost use Rattle.mesh_base.specs.Failing.{failing};
-ghost use Rattle.mesh_base.specs.Pairs.{edges};
-ghost use Rattle.pair_paths.specs.Bounds.{AreBoxes};
-ghost use Rattle.pair_paths.specs.Frames.{HoldsFaceIn};
-ghost use Rattle.pair_paths.specs.Moving.{moving_faces};
-ghost use Rattle.pair_scan.specs.Views.{AreViews};
-ghost use Rattle.pair_scan.specs.Failed.{fails_with, failed_with, failing_at, failing_among, failing_along, AreFailing};
+ghost use Rattle.pair_scan.specs.Failed.{AreFailing};
+ghost use Rattle.pair_scan.specs.Found.{has_none};
 
 use crate::motions::Shifted;
-use crate::neighbours::{Coming, near_edge};
-use crate::scene::scene_of;
-use crate::views::{View, Views, goes_with};
-use grid_base::{DEPTH_MAX, Items, NoMemory};
-use mesh_base::{PairName, ShiftOf, Shifts, Surface, VertexId};
-use motion_test::passes;
-use pair_paths::{
-    KnownPaths, MovingEdge, MovingFace, Paths, moving_edge, name_of, pair_of, paths_of,
-    share_a_vertex,
-};
+use crate::scan::{Pairs, failing_in, has_none};
+use grid_base::{DEPTH_MAX, NoMemory};
+use mesh_base::{Shifts, Surface};
 use std::alloc::Global;
-
-/// Names of pairs, in order.
-pub type Pairs = Items<PairName>;
-
-/// Whether the edge and the face are a pair and do not pass.
-fn fails_with(e: &MovingEdge, f: &MovingFace, depth: u8) -> bool
-    requires depth_fits { depth ≤ DEPTH_MAX }
-    ensures { result ≡ fails_with depth e.now f.now }
-{
-    if share_a_vertex(e, f) {
-        return false;
-    }
-    !passes(&pair_of(e, f), depth)
-}
-
-/// The edge with the face, where they are a pair and do not pass.
-fn failed_with(e: &MovingEdge, f: &MovingFace, depth: u8) -> Option<PairName>
-    requires depth_fits { depth ≤ DEPTH_MAX }
-    ensures { result ≡ failed_with depth e.now (Some f.now) }
-{
-    if fails_with(e, f, depth) {
-        Some(name_of(e, f))
-    } else {
-        None
-    }
-}
-
-/// The same of the face of this number.
-pub(crate) fn failed_at(e: &MovingEdge, faces: &[MovingFace], k: u64, depth: u8) -> Option<PairName>
-    requires depth_fits { depth ≤ DEPTH_MAX }
-    ensures { result ≡ failed_with depth e.now (slice_get faces.now k) }
-{
-    match faces.get(k as usize) {
-        Some(f) => failed_with(e, f, depth),
-        None => None,
-    }
-}
-
-/// Puts the edge with those of the faces of these numbers that it does not pass at the end.
-fn put_failing(
-    e: &MovingEdge,
-    faces: &[MovingFace],
-    depth: u8,
-    near: &[u64],
-    found: &mut Pairs,
-) -> Result<(), NoMemory>
-    requires depth_fits { depth ≤ DEPTH_MAX }
-    ensures { OnOk result (found.new ≡ found.old ++ failing_at depth e.now faces.now near.now) }
-{
-    for k in near {
-        if let Some(name) = failed_at(e, faces, *k, depth) {
-            found.push(name)?;
-        }
-    }
-    Ok(())
-}
-
-/// Puts the pairs of an edge that do not pass at the end. Sets `near` to the numbers of the faces whose boxes in the view's
-/// frame meet the edge's.
-fn put_failing_seen<P: Paths>(
-    e: &MovingEdge,
-    faces: &[MovingFace],
-    view: &mut View,
-    depth: u8,
-    paths: &P,
-    coming: &Coming,
-    near: &mut Vec<u64>,
-    found: &mut Pairs,
-) -> Result<(), NoMemory>
-    requires depth_fits { depth ≤ DEPTH_MAX }
-    requires boxes { AreBoxes (HoldsFaceIn view.old.frame) faces.now view.old.boxes }
-    ensures boxes { AreBoxes (HoldsFaceIn view.new.frame) faces.now view.new.boxes }
-    ensures found { OnOk result (found.new ≡ found.old ++ failing_among depth e.now faces.now) }
-{
-    near_edge(e, view, paths, coming, near)?;
-    put_failing(e, faces, depth, near, found)
-}
-
-/// The same, by the view whose frame goes more as the edge does.
-fn put_failing_of_edge<P: Paths>(
-    e: &MovingEdge,
-    faces: &[MovingFace],
-    views: &mut Views,
-    depth: u8,
-    paths: &P,
-    coming: &Coming,
-    near: &mut Vec<u64>,
-    found: &mut Pairs,
-) -> Result<(), NoMemory>
-    requires depth_fits { depth ≤ DEPTH_MAX }
-    requires views { AreViews faces.now views.old }
-    ensures views { AreViews faces.now views.new }
-    ensures found { OnOk result (found.new ≡ found.old ++ failing_among depth e.now faces.now) }
-{
-    if let Some(other) = &mut views.other {
-        if goes_with(e, &other.frame, &views.first.frame) {
-            return put_failing_seen(e, faces, other, depth, paths, coming, near, found);
-        }
-    }
-    put_failing_seen(
-        e,
-        faces,
-        &mut views.first,
-        depth,
-        paths,
-        coming,
-        near,
-        found,
-    )
-}
-
-/// The pairs of these edges that do not pass, edge by edge.
-fn failing_of_edges<P: Paths>(
-    alloc: Global,
-    edges: &[(VertexId, VertexId)],
-    faces: &[MovingFace],
-    views: &mut Views,
-    depth: u8,
-    paths: &P,
-) -> Result<Pairs, NoMemory>
-    requires depth_fits { depth ≤ DEPTH_MAX }
-    requires views { AreViews faces.now views.old }
-    ensures { IfOk result
-        (λ pairs. pairs ≡ failing_along depth (P.motion paths.now) faces.now edges.now) }
-{
-    let mut near = Vec::new(alloc);
-    let mut found = Pairs::new(alloc);
-    let mut past: usize = 0;
-    for (a, b) in edges {
-        past = past.saturating_add(1);
-        let coming = Coming { edges, past };
-        let e = moving_edge(paths, *a, *b);
-        put_failing_of_edge(
-            &e, faces, views, depth, paths, &coming, &mut near, &mut found,
-        )?;
-    }
-    Ok(found)
-}
-
-/// The pairs of a mesh that do not pass, its faces seen from frames of these shifts.
-fn failing_of_mesh<S: Surface, P: Paths>(
-    alloc: Global,
-    mesh: &S,
-    by: &[ShiftOf],
-    depth: u8,
-    paths: &P,
-) -> Result<Pairs, NoMemory>
-    requires { depth ≤ DEPTH_MAX }
-    ensures { let m = S.mesh mesh.now in let w = P.motion paths.now in
-        IfOk result (λ pairs. pairs ≡ failing_along depth w (moving_faces m w) (edges m)) }
-{
-    let mut scene = scene_of(alloc, mesh, paths, by)?;
-    let edges = scene.edges.as_slice();
-    let faces = scene.faces.as_slice();
-    failing_of_edges(alloc, edges, faces, &mut scene.views, depth, paths)
-}
 
 /// All pairs that do not pass where each vertex goes from its point by its shift, in order of the edge and then of the
 /// face: those that are not separated to the depth and do not move as one while they are apart. Where there is none, no
@@ -208,11 +41,32 @@ pub fn failing<S: Surface>(
         mesh,
         by: by.as_slice(),
     };
-    let known = paths_of(alloc, mesh, &shifted)?;
-    let paths = KnownPaths {
-        paths: &shifted,
-        known: known.as_slice(),
-    };
-    let pairs = failing_of_mesh(alloc, mesh, shifted.by, depth, &paths)?;
+    let pairs = failing_in(alloc, mesh, &shifted, shifted.by, depth, false)?;
     Ok(pairs)
+}
+
+/// Whether all pairs pass where each vertex goes from its point by its shift: whether `failing` tells none. It ends at the
+/// first edge with a pair that does not. The shifts name the live vertices, by rising id, and end in the box. Refuses only
+/// where there is no memory.
+pub fn all_pass<S: Surface>(
+    alloc: Global,
+    mesh: &S,
+    by: &Shifts,
+    depth: u8,
+) -> Result<bool, NoMemory>
+    requires named { NameLive (S.mesh mesh.now) by.now }
+    requires in_box { IsTrue (end_in_box (S.mesh mesh.now) by.now) }
+    requires depth { depth ≤ DEPTH_MAX }
+    ensures exact { IfOk result
+        (λ pass. pass ≡ has_none (failing meets_exactly (S.mesh mesh.now) by.now depth)) }
+    // All pass: no pair meets on the way.
+    ensures clear { IfOk result
+        (λ pass. IsTrue pass → IsClearAlong (S.mesh mesh.now) (moved_by (S.mesh mesh.now) by.now)) }
+{
+    let shifted = Shifted {
+        mesh,
+        by: by.as_slice(),
+    };
+    let found = failing_in(alloc, mesh, &shifted, shifted.by, depth, true)?;
+    Ok(has_none(&found))
 }

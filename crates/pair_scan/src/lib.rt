@@ -1,4 +1,5 @@
-//! The pairs of a mesh that meet, and those that do not pass in a motion.
+//! The pairs of an edge and a face of a mesh: those that do not pass in a motion, whether there is none, and the first that
+//! meets where the vertices stand. One scan serves the first two; whether there is none, one such pair tells.
 #![tactic(auto)]
 
 mod asked_tree;
@@ -10,13 +11,13 @@ mod meeting;
 mod motions;
 mod named;
 mod neighbours;
-mod passing;
+mod scan;
 mod scene;
 mod views;
 
 pub use ends::end_in_box;
-pub use failing_pairs::{Pairs, failing};
+pub use failing_pairs::{all_pass, failing};
 pub use lookup::place_of;
 pub use meeting::first_meeting;
 pub use named::five_of;
-pub use passing::all_pass;
+pub use scan::Pairs;

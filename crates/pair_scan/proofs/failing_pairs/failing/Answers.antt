@@ -1,15 +1,15 @@
-use Rattle.std.proofs.Common.{ap, sym, subst, ◌∙◌}
+use Rattle.std.proofs.Common.{refl, ap, sym, subst, ◌∙◌}
 use Rattle.grid_decided.specs.Decided.{meets_exactly}
 use Rattle.mesh_base.specs.Failing.{failing}
 use Rattle.pair_scan.specs.Failed.{AreFailing}
-use Rattle.pair_scan.proofs.Fails.{along_edges, clear_along}
+use Rattle.pair_scan.proofs.Fails.{clear_along}
 use Rattle.pair_scan.proofs.InOrder.{are_failing}
 use Rattle.pair_scan.proofs.failing_pairs.failing.Goals as goal
 
 pub returns-clause-failing : goal.returns-clause-failing
 returns-clause-failing g c =
     let m = g.S.Surface.mesh c.args.mesh.now in
-    c.in_ok-pairs.ensures ∙ along_edges m c.as_slice.result.now c.args.depth ∙ ap (λ by. failing meets_exactly m by c.args.depth) c.as_slice.ensures
+    c.in_ok-pairs.ensures.whole refl ∙ ap (λ by. failing meets_exactly m by c.args.depth) c.as_slice.ensures
 
 pub returns-clause-all : goal.returns-clause-all
 returns-clause-all g c =
