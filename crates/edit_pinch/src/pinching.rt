@@ -178,7 +178,8 @@ fn put_parts<S: Surface>(
     requires fans { parts.now ≡ fans (S.mesh mesh.old) v }
     requires point { at ≡ first_point (S.mesh mesh.old) v }
     requires copies { copies.now ≡ later_copies (S.mesh mesh.old) v }
-    ensures { OnOk result (S.mesh mesh.new ≡ (pinch_scaffold (S.mesh mesh.old) v).mesh) }
+    ensures made { OnOk result (S.mesh mesh.new ≡ (pinch_scaffold (S.mesh mesh.old) v).mesh) }
+    ensures marks { BeginsWith (S.kept mesh.new) (S.kept mesh.old) }
 {
     let others = &parts[1..];
     apply_pinch(mesh, v, at, others, copies)?;
@@ -198,7 +199,8 @@ pub fn put_pinch<S: Surface>(
     requires tried { MayBeTried (S.mesh mesh.old) v }
     requires point { at ≡ first_point (S.mesh mesh.old) v }
     requires copies { copies.now ≡ later_copies (S.mesh mesh.old) v }
-    ensures { OnOk result (S.mesh mesh.new ≡ (pinch_scaffold (S.mesh mesh.old) v).mesh) }
+    ensures made { OnOk result (S.mesh mesh.new ≡ (pinch_scaffold (S.mesh mesh.old) v).mesh) }
+    ensures marks { BeginsWith (S.kept mesh.new) (S.kept mesh.old) }
 {
     let parts = fans(alloc, mesh, v)?;
     put_parts(mesh, v, parts.as_slice(), at, copies)

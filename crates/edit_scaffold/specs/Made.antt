@@ -1,12 +1,14 @@
 -- What is made of the scaffold of a done edit.
-use Rattle.std.specs.Prelude.{◌≡◌, ℕ, Option, IfOk, Result}
-use Rattle.std.proofs.Common.{Some, None}
+use Rattle.std.specs.Prelude.{◌≡◌, ⊤, ℕ, List, IsNone, Result, Ok, Err}
+use Rattle.std.proofs.Common.{Option, Some, None}
+use Rattle.grid_base.specs.declared.NoMemory.{NoMemory}
 use Rattle.grid_decided.specs.Decided.{meets_exactly}
 use Rattle.mesh_base.specs.Mesh.{Mesh}
 use Rattle.mesh_plain.specs.Plain.{mesh_in}
 use Rattle.edit_base.specs.declared.Asked.{Asked}
 use Rattle.edit_base.specs.declared.Change.{Change}
 use Rattle.edit_base.specs.declared.Edit.TheVariants.{Done}
+use Rattle.edit_base.specs.declared.Move.{Move}
 use Rattle.edit_base.specs.declared.Touch.{Touch}
 use Rattle.edit_base.specs.declared.Touch.TheVariants.{Never, Start, End}
 use Rattle.edit_base.specs.Scaffold as edits
@@ -14,6 +16,7 @@ use Rattle.motion_proof.specs.declared.Claim.{Claim}
 use Rattle.motion_proof.specs.declared.Claim.TheVariants.{Along, After, Before}
 use Rattle.edit_dispatch.specs.Dispatch.{answer_to}
 use Rattle.edit_scaffold.specs.declared.scaffold.Scaffold.{Scaffold}
+use Rattle.edit_scaffold.specs.declared.scaffold.Laid.{Laid}
 
 -- the change is what some edit of the mesh does, tested to some depth
 pub record IsDone (m : Mesh) (change : Change) : Type 0 where
@@ -28,14 +31,29 @@ claim_of Never = Along
 claim_of Start = After
 claim_of End = Before
 
--- the same mesh and ways, and the claim for the touch
-pub record IsMadeOf (made : Scaffold) (s : edits.Scaffold) : Type 0 where
-  pub mesh : mesh_in made.mesh ≡ s.mesh
-  pub ways : made.ways ≡ s.moves
-  pub claim : made.claim ≡ claim_of s.touch
+-- these are the mesh and the ways of a scaffold, and the claim for its touch
+pub record ArePartsOf (s : edits.Scaffold) (m : Mesh) (moves : List Move) (when : Claim) : Type 0 where
+  pub mesh : m ≡ s.mesh
+  pub ways : moves ≡ s.moves
+  pub claim : when ≡ claim_of s.touch
 
--- it is that of the edit, where that has one
-abbrev pub IsMade : Option Scaffold → Option edits.Scaffold → Type 0
-IsMade None None = Unit {0}
-IsMade (Some made) (Some s) = IsMadeOf made s
-IsMade _ _ = ⊥
+-- there is a scaffold, and these are its
+abbrev pub IsTestedOn : Option edits.Scaffold → Mesh → List Move → Claim → Type 0
+IsTestedOn None m moves when = ⊥
+IsTestedOn (Some s) m moves when = ArePartsOf s m moves when
+
+-- what is made is of the edit's scaffold, where that has one
+abbrev pub IsMade : Option edits.Scaffold → Option Scaffold → Type 0
+IsMade scaffold None = IsNone scaffold
+IsMade scaffold (Some made) = IsTestedOn scaffold (mesh_in made.mesh) made.ways made.claim
+
+-- the mesh before is made that of the edit's scaffold, where that has one, and else it stays
+abbrev pub IsLaid : Option edits.Scaffold → Mesh → Mesh → Option Laid → Type 0
+IsLaid scaffold before now None = IsNone scaffold × (now ≡ before)
+IsLaid scaffold before now (Some laid) = IsTestedOn scaffold now laid.ways laid.claim
+
+-- of what is laid, where something is
+abbrev pub OnLaid : Result (Option Laid) NoMemory → (Laid → Type 0) → Type 0
+OnLaid (Ok (Some laid)) P = P laid
+OnLaid (Ok None) P = ⊤
+OnLaid (Err fault) P = ⊤

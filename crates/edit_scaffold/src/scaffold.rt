@@ -1,4 +1,5 @@
 use grid_base::Items;
+use mesh_base::Mark;
 use mesh_plain::PlainMesh;
 use motion_proof::{Claim, Way};
 
@@ -8,4 +9,19 @@ pub struct Scaffold {
     pub mesh: PlainMesh,
     pub ways: Items<Way>,
     pub claim: Claim,
+}
+
+/// The same, where that mesh is made of the edited one itself. The mark stands for the mesh from before.
+#[derive(Drop)]
+pub struct Laid {
+    pub mark: Mark,
+    pub ways: Items<Way>,
+    pub claim: Claim,
+}
+
+/// How the vertices move on what an edit is tested, and what is claimed of it.
+#[derive(Drop)]
+pub(crate) struct Motion {
+    pub(crate) ways: Items<Way>,
+    pub(crate) claim: Claim,
 }

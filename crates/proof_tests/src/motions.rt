@@ -110,7 +110,7 @@ const SHEET_WAYS: [(u32, [i64; 3], [i64; 3]); 3] = [
     (3, [-2, 8, -6], [-10, 10, 2]),
 ];
 
-fn whole(p: [i64; 3]) -> Wide {
+pub(crate) fn whole(p: [i64; 3]) -> Wide {
     Wide {
         x: i128::from(p[0]),
         y: i128::from(p[1]),

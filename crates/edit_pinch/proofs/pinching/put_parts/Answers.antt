@@ -25,7 +25,7 @@ apply_pinch-requires-clause-turns g c =
     subst (λ l. CopiedInTurn v (with_point m v c.args.at) (zip l (copy_points c.args.copies.now))) (sym (later_are c.args.parts.now ∙ ap (drop 1) c.requires.fans))
     (pinched_in_turn m v c.args.at sound c.requires.closed live c.requires.tried.fits (copy_points c.args.copies.now))
 
-pub returns : goal.returns
-returns g c =
+pub returns-clause-made : goal.returns-clause-made
+returns-clause-made g c =
     c.in_ok-apply_pinch.ensures.made
     ∙ mesh_is (g.S.Surface.mesh c.args.mesh.now) c.args.v _ c.args.at c.args.copies.now (later_are c.args.parts.now ∙ ap (drop 1) c.requires.fans) c.requires.point c.requires.copies
