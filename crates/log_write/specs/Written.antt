@@ -2,6 +2,8 @@
 use Rattle.std.specs.Prelude.{◌≡◌, ℕ, ◌<◌, List, [], ◌∷◌, ◌++◌, length, take, Option, Result, Ok, Err}
 use Rattle.log_text.specs.Lines.{text_of_line, text_of_lines}
 use Rattle.log_text.specs.declared.LogLine.{LogLine}
+use Rattle.outside_io.specs.declared.stop.Stop.{Stop}
+use Rattle.outside_io.specs.Outside.{Around, StoresNothing}
 use Rattle.outside_io.specs.Sink.{appended}
 
 -- nothing, or a part of the first line that is not all of it
@@ -22,3 +24,8 @@ pub record WrittenInPart (old new : Option (List ℕ)) (lines : List LogLine) : 
 abbrev pub Written : {T E : Type 0} → Option (List ℕ) → Option (List ℕ) → List LogLine → Result T E → Type 0
 Written old new lines (Ok x) = new ≡ appended old (text_of_lines lines)
 Written old new lines (Err error) = WrittenInPart old new lines
+
+-- these lines are written, or the first of them, and nothing is stored
+pub record Says {T : Type 0} (lines : List LogLine) (old new : Around) (result : Result T Stop) : Type 0 where
+  pub written : Written old.world.holds.written new.world.holds.written lines result
+  pub nothing_stored : StoresNothing old new result

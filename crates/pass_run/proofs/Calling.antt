@@ -1,5 +1,5 @@
 -- The lines of what is asked, if anything.
-use Rattle.std.proofs.Common.{◌≡◌, [], ◌∷◌, Option, Some, None, refl, ap}
+use Rattle.std.proofs.Common.{◌≡◌, [], ◌∷◌, Option, Some, None, ap}
 use Rattle.mesh_base.specs.Mesh.{Mesh}
 use Rattle.edit_base.specs.declared.Asked.{Asked}
 use Rattle.edit_base.specs.declared.Edit.{Edit}
@@ -11,15 +11,6 @@ use Rattle.pass_run.specs.Said.{LeadTo}
 use Rattle.pass_run.proofs.Asking.{call_makes, leads_where}
 
 module _ (answer : Asked → Edit) where
-  -- where nothing is asked there is none, and the mesh stays
-  pub none_asked : (call : Option Asked) → line_asked answer call ≡ None → lines_asked answer call ≡ []
-  none_asked None e = refl
-  none_asked (Some what) e = cc
-
-  pub none_moved : (m : Mesh) (call : Option Asked) → line_asked answer call ≡ None → mesh_asked answer m call ≡ m
-  none_moved m None e = refl
-  none_moved m (Some what) e = cc
-
   -- what is asked has one
   pub one_asked : (call : Option Asked) (line : LogLine) → line_asked answer call ≡ Some line → lines_asked answer call ≡ line ∷ []
   one_asked None line e = cc

@@ -4,12 +4,12 @@ use Rattle.std.proofs.lemmas.Bool.{false≢true}
 use Rattle.mesh_base.specs.Mesh.{Mesh}
 use Rattle.edit_base.specs.declared.Asked.{Asked}
 use Rattle.log_text.specs.declared.LogLine.{LogLine}
-use Rattle.pass_run.specs.declared.faults.PassFault.{PassFault}
+use Rattle.outside_io.specs.declared.stop.Stop.{Stop}
 use Rattle.pass_run.specs.declared.passing.PassCount.{PassCount}
 use Rattle.pass_run.specs.declared.terms.PassTerms.{PassTerms}
 use Rattle.pass_run.specs.Candidates.{choice_in}
 use Rattle.pass_run.specs.PassLines.{PassRules, exactly, answer_by, lines_asked, mesh_asked, ends, lines_from}
-use Rattle.pass_run.specs.Results.{Stage, PassResult, exact_answer}
+use Rattle.pass_run.specs.Results.{Stage, written_at, PassResult, exact_answer}
 use Rattle.pass_run.specs.Said.{SaidInPart}
 use Rattle.pass_run.specs.Turns.{lines_at_turns, AreChosen, TakesTurns}
 use Rattle.pass_run.proofs.SaidLines.{said_part_more}
@@ -21,18 +21,14 @@ pub record IsFirstPart (whole : Bool) (part all : List LogLine) : Type 0 where
   pub none : whole ≡ true → more ≡ []
 
 -- where a first part was said, a first part of all was
-pub part_result : (part all : List LogLine) (old new : Stage) (result : Result PassCount PassFault) → IsFirstPart (is_ok result) part all → PassResult part old new result → PassResult all old new result
+pub part_result : (part all : List LogLine) (old new : Stage) (result : Result PassCount Stop) → IsFirstPart (is_ok result) part all → PassResult part old new result → PassResult all old new result
 part_result part all old new (Ok count) p r =
     subst (λ l. PassResult l old new (Ok count)) (sym (append-nil part) ∙ ap (λ l. part ++ l) (sym (p.none refl)) ∙ p.is) r
-part_result part all old new (Err fault) p r = record {
-  said = subst (λ l. SaidInPart old.mesh new.mesh old.written new.written l) p.is (said_part_more old.mesh new.mesh old.written new.written part p.more r.said);
+part_result part all old new (Err stop) p r = record {
+  said = subst (λ l. SaidInPart old.mesh new.mesh (written_at old) (written_at new) l) p.is (said_part_more old.mesh new.mesh (written_at old) (written_at new) part p.more r.said);
   done = tt;
   refused = tt;
-  closed = r.closed;
-  clear = r.clear;
-  marks = r.marks;
-  later = r.later;
-  cause = r.cause;
+  keeps = r.keeps;
 }
 
 module _ (rules : PassRules) (whole : Bool) where
@@ -75,7 +71,7 @@ module _ (rules : PassRules) (whole : Bool) where
           }
 
 -- the turns of the candidates of a kind of pass
-pub kind_turns : (terms : PassTerms) (candidates : List Asked) (old new : Stage) (result : Result PassCount PassFault)
+pub kind_turns : (terms : PassTerms) (candidates : List Asked) (old new : Stage) (result : Result PassCount Stop)
     → TakesTurns (λ m what call. call ≡ choice_in terms.kind m what) (exact_answer terms.depth) terms.grouped candidates old new result → PassResult (lines_from (exactly terms) old.mesh candidates) old new result
 kind_turns terms candidates old new result t =
     part_result (lines_at_turns (exact_answer terms.depth) terms.grouped old.mesh t.calls) (lines_from (exactly terms) old.mesh candidates) old new result

@@ -1,5 +1,5 @@
--- The line of a pass by a sizing is written, and then the others or a part of them; what is wanted of its edges; and what its lines keep.
-use Rattle.std.proofs.Common.{◌≡◌, ℕ, Bool, true, false, cond, List, [], ◌∷◌, ◌++◌, map, Option, None, Result, Ok, Err, ℤ, refl, ap, sym, subst, ◌∙◌, append-nil}
+-- What is wanted of the edges of a pass by a sizing, and what its lines keep.
+use Rattle.std.proofs.Common.{◌≡◌, ℕ, Bool, true, false, cond, is_ok, List, [], ◌∷◌, ◌++◌, map, Option, None, Result, Ok, Err, ℤ, refl, ap, sym, subst, ◌∙◌, append-nil}
 use Rattle.std.specs.List.{AllByRecursion}
 use Rattle.std.specs.List.Sorted.{IsStrictlySortedBy}
 use Rattle.std.specs.Ordering.{is_eq, eq_by_cmp}
@@ -24,33 +24,20 @@ use Rattle.mesh_sizing.specs.declared.sizing.Want.{Want}
 use Rattle.mesh_sizing.specs.declared.sizing.Want.TheVariants.{Leave}
 use Rattle.mesh_sizing.specs.Sizes.{want_of}
 use Rattle.edit_base.specs.declared.Asked.{Asked}
-use Rattle.log_text.specs.Lines.{text_of_line}
 use Rattle.log_text.specs.declared.LogLine.{LogLine}
 use Rattle.log_text.specs.declared.LogLine.TheVariants as line
-use Rattle.log_replay.specs.Replay.{at_mesh}
+use Rattle.log_replay.specs.Replay.{after, at_mesh}
 use Rattle.log_replay.specs.Safe.{LinesKeepTheMesh}
-use Rattle.log_write.proofs.WrittenLines.{written_line, written_then}
-use Rattle.outside_io.specs.Sink.{appended, AppendsPart}
-use Rattle.pass_run.specs.declared.faults.PassFault.{PassFault}
+use Rattle.outside_io.specs.declared.stop.Stop.{Stop}
 use Rattle.pass_run.specs.declared.passing.PassCount.{PassCount}
 use Rattle.pass_run.specs.Candidates.{length_squared}
-use Rattle.pass_run.specs.Said.{SaidInPart, Said}
 use Rattle.pass_run.specs.PassLines.{PassRules, lines_asked, mesh_asked, ends, lines_from}
-use Rattle.pass_run.specs.Results.{Stage, PassResult, exact_answer}
+use Rattle.pass_run.specs.Results.{Stage, written_at, PassResult, exact_answer}
 use Rattle.pass_run.specs.Turns.{lines_at_turns, AreChosen}
-use Rattle.pass_run.specs.Fits.{call_of, call_in, turn_of, fit_rules, middle_of, IsWanted, AreWanted, Calls, MayCall}
-use Rattle.pass_run.proofs.SaidLines.{said_part, said_part_then}
+use Rattle.pass_run.specs.Fits.{call_of, call_in, turn_of, fit_rules, middle_of, IsWanted, AreWanted, Calls, MayCall, AreFitLines, Fits, mesh_after_fit}
+use Rattle.pass_run.proofs.Asking.{lines_make}
 use Rattle.pass_run.proofs.Keeping.{all_keep}
-
--- ---- the first line
--- it is written in part
-pub fit_in_part : (m : Mesh) (old new : Option (List ℕ)) → AppendsPart old new (text_of_line line.PassFit) → SaidInPart m m old new (line.PassFit ∷ [])
-fit_in_part m old new part = said_part m m old new line.PassFit refl part
-
--- it is written, and then the others or a part of them
-pub fit_and_then : {T : Type 0} (m to : Mesh) (a b c : Option (List ℕ)) (more : List LogLine) (r : Result T PassFault) → b ≡ appended a (text_of_line line.PassFit) → Said m to b c more r → Said m to a c (line.PassFit ∷ more) r
-fit_and_then m to a b c more (Ok x) p s = (s.0, written_then a b c (line.PassFit ∷ []) more (written_line a b line.PassFit p) s.1)
-fit_and_then m to a b c more (Err fault) p s = said_part_then m m to a b c (line.PassFit ∷ []) more refl (written_line a b line.PassFit p) s
+use Rattle.pass_run.proofs.Stages.{leads_to}
 
 -- ---- what is wanted of one edge
 pub calls_it : (may_answer : Point → Band → Type 0) (m : Mesh) (a b : ℕ) (want found : Want) (band : Band) (square : ℤ) (middle : Point) → middle ≡ middle_of m (a, b) → may_answer middle band
@@ -176,27 +163,47 @@ module _ (may_answer : Point → Band → Type 0) (depth : ℕ) (grouped whole :
           }
 
   -- of all edges of a mesh
-  pub record Turned (m : Mesh) (calls : List (Option Asked)) : Type 0 where
-    pub wants : ℕ × ℕ → Want
-    pub first : List (ℕ × ℕ)
-    pub rest : List (ℕ × ℕ)
-    pub split : first ++ rest ≡ edges m
-    pub all : whole ≡ true → rest ≡ []
-    pub wanted : AreWanted may_answer (fit_rules meets_exactly wants depth grouped) wants m first
-    pub same : lines_at_turns (exact_answer depth) grouped m calls ≡ lines_from (fit_rules meets_exactly wants depth grouped) m (map turn_of first)
-
-  pub edges_turned : (m : Mesh) (calls : List (Option Asked)) → AreChosen (MayCall may_answer) (exact_answer depth) grouped whole m (map turn_of (edges m)) calls → Turned m calls
+  pub edges_turned : (m : Mesh) (calls : List (Option Asked)) → AreChosen (MayCall may_answer) (exact_answer depth) grouped whole m (map turn_of (edges m)) calls
+      → (end : Mesh) × AreFitLines may_answer meets_exactly depth grouped whole m (line.PassFit ∷ lines_at_turns (exact_answer depth) grouped m calls) end
   edges_turned m calls h =
       let t = had_turns m (edges m) calls (edges_sorted m) h in
-      let both = t.wanted t.wants (all_the_same t.wants (edges m)) in
-      record { wants = t.wants; first = t.first; rest = t.rest; split = t.split; all = t.all; wanted = both.0; same = both.1 }
-
--- the same lines were said
-pub same_said : (lines all : List LogLine) (old new : Stage) (result : Result PassCount PassFault) → lines ≡ all → PassResult lines old new result → PassResult all old new result
-same_said lines all old new result same r = subst (λ l. PassResult l old new result) same r
+      let both = t.wanted t.wants (all_the_same t.wants (edges m)) in (
+        mesh_after_fit meets_exactly t.wants depth grouped m t.first,
+        record { wants = t.wants; first = t.first; rest = t.rest; split = t.split; all = t.all; wanted = both.0; are = ap (λ l. line.PassFit ∷ l) both.1; leaves = refl },
+      )
 
 -- ---- whatever is wanted, the lines keep the mesh
 pub fit_keeps : (wants : ℕ × ℕ → Want) (depth : ℕ) (grouped : Bool) (m : Mesh) (turns : List Asked) → IsSound m → IsClosed m → IsClearMesh m → LinesKeepTheMesh (at_mesh m) (line.PassFit ∷ lines_from (fit_rules meets_exactly wants depth grouped) m turns)
 fit_keeps wants depth grouped m turns sound closed clear =
     let good : IsValidSurface m = record { sound = sound; closed = closed; clear = clear } in
     ((tt, good), (all_keep (fit_rules meets_exactly wants depth grouped) meets_exactly-is_exact (at_mesh m) good turns).0)
+
+-- ---- the whole pass
+module _ (may_answer : Point → Band → Type 0) (depth : ℕ) (grouped : Bool) (old new : Stage) (sound : IsSound old.mesh) (closed : IsClosed old.mesh) (clear : IsClearMesh old.mesh) where
+  -- its lines are said
+  pub fits_said : (lines : List LogLine) (end : Mesh) (r : Result PassCount Stop) → AreFitLines may_answer meets_exactly depth grouped (is_ok r) old.mesh lines end → PassResult lines old new r → Fits may_answer depth grouped old.mesh new.mesh (written_at old) (written_at new) r
+  fits_said lines end r fit result =
+      let turns = map turn_of fit.first in
+      record {
+        lines = lines;
+        end = end;
+        fit = fit;
+        said = result.said;
+        mesh = leads_to lines end old new r (ap (after (at_mesh old.mesh)) fit.are ∙ lines_make (fit_rules meets_exactly fit.wants depth grouped) (at_mesh old.mesh) turns ∙ ap at_mesh (sym fit.leaves)) result;
+        done = result.done;
+        refused = result.refused;
+        motions = subst (λ l. LinesKeepTheMesh (at_mesh old.mesh) l) (sym fit.are) (fit_keeps fit.wants depth grouped old.mesh turns sound closed clear);
+      }
+
+  -- it stops in its first line
+  pub fits_begun : (stop : Stop) → PassResult (line.PassFit ∷ []) old new (Err stop) → Fits may_answer depth grouped old.mesh new.mesh (written_at old) (written_at new) (Err stop)
+  fits_begun stop result =
+      fits_said (line.PassFit ∷ []) old.mesh (Err stop) (record { wants = λ e. Leave; first = []; rest = edges old.mesh; split = refl; all = λ w. absurd (false≢true w); wanted = tt; are = refl; leaves = refl }) result
+
+-- ---- the same of a pass that stops by another name
+module _ {E F : Type 0} (may_answer : Point → Band → Type 0) (depth : ℕ) (grouped : Bool) (from to : Mesh) (old new : Option (List ℕ)) where
+  pub fits_counted : (count : PassCount) → Fits {E = E} may_answer depth grouped from to old new (Ok count) → Fits {E = F} may_answer depth grouped from to old new (Ok count)
+  fits_counted count f = record { lines = f.lines; end = f.end; fit = f.fit; said = f.said; mesh = f.mesh; done = f.done; refused = f.refused; motions = f.motions }
+
+  pub fits_cut : (stop : E) (fault : F) → Fits may_answer depth grouped from to old new (Err stop) → Fits may_answer depth grouped from to old new (Err fault)
+  fits_cut stop fault f = record { lines = f.lines; end = f.end; fit = f.fit; said = f.said; mesh = tt; done = tt; refused = tt; motions = f.motions }

@@ -11,7 +11,6 @@ use Rattle.edit_base.specs.declared.Asked.{Asked}
 use Rattle.edit_base.specs.declared.answers.Change.{Change}
 use Rattle.edit_base.specs.declared.Edit.{Edit}
 use Rattle.edit_base.specs.declared.Edit.TheVariants.{Done, No}
-use Rattle.edit_base.specs.declared.PassKind.{PassKind}
 use Rattle.edit_dispatch.specs.Dispatch.{answer_to, edited, scaffold_of}
 use Rattle.edit_base.specs.Clauses.{mesh_after}
 use Rattle.edit_base.specs.Laws.{Answer, StaysSound, StaysClosed, StaysClear, MotionIsClear}
@@ -19,8 +18,9 @@ use Rattle.log_text.specs.declared.LogLine.{LogLine}
 use Rattle.log_replay.specs.Replay.{Replay, at_mesh}
 use Rattle.log_replay.specs.Safe.{NoSolidMoves, LineKeepsTheMesh, LinesKeepTheMesh}
 use Rattle.log_replay.proofs.Replaying.{each_then}
+use Rattle.pass_run.specs.declared.terms.PassTerms.{PassTerms}
 use Rattle.pass_run.specs.Candidates.{candidates}
-use Rattle.pass_run.specs.PassLines.{PassRules, rules_of, terms_of, line_of, answer_by, lines_asked, mesh_asked, lines_of, mesh_from, ends, lines_from, mesh_after_all, lines_due}
+use Rattle.pass_run.specs.PassLines.{PassRules, rules_of, line_of, answer_by, lines_asked, mesh_asked, lines_of, mesh_from, ends, lines_from, mesh_after_all, pass_lines}
 use Rattle.pass_run.specs.Promises.{PassesKeepTheMesh}
 use Rattle.pass_run.proofs.Asking.{asked_makes}
 use Rattle.pass_run.proofs.SolidEdits.{none_moves}
@@ -78,5 +78,5 @@ passes_keep meets exact r terms good =
     (((tt, good), kept.0), kept.1)
 
 -- the lines of a pass by the exact test
-pub pass_keeps : (kind : PassKind) (depth : ℕ) (grouped : Bool) (m : Mesh) → IsSound m → IsClosed m → IsClearMesh m → LinesKeepTheMesh (at_mesh m) (lines_due kind depth grouped m)
-pass_keeps kind depth grouped m sound closed clear = (passes_keep meets_exactly meets_exactly-is_exact (at_mesh m) (terms_of kind depth grouped) (record { sound = sound; closed = closed; clear = clear })).0
+pub pass_keeps : (terms : PassTerms) (m : Mesh) → IsSound m → IsClosed m → IsClearMesh m → LinesKeepTheMesh (at_mesh m) (pass_lines meets_exactly terms m)
+pass_keeps terms m sound closed clear = (passes_keep meets_exactly meets_exactly-is_exact (at_mesh m) terms (record { sound = sound; closed = closed; clear = clear })).0

@@ -1,6 +1,5 @@
 pub mod SaidLines
 pub mod Asking
-pub mod Opening
 pub mod Stages
 pub mod SolidEdits
 pub mod Keeping
@@ -10,7 +9,6 @@ pub mod NearPlaces
 pub mod Room
 pub mod Reading
 pub mod Replaying
-pub mod SinkFaults
 pub mod Calling
 pub mod Turning
 pub mod Chosen

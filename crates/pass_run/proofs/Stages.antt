@@ -1,5 +1,6 @@
 -- Where a pass stands after some of its lines.
-use Rattle.std.proofs.Common.{◌≡◌, ℕ, ◌+◌, ◌≤◌, ◌&&◌, Bool, true, false, cond, nat_lt, inl, List, [], ◌∷◌, ◌++◌, Result, Ok, Err, subst, refl, ap, sym, ◌∙◌, append_assoc, append-nil, arith}
+use Rattle.std.proofs.Common.{◌≡◌, ◌+◌, ◌&&◌, Bool, true, false, cond, nat_lt, inl, List, [], ◌∷◌, ◌++◌, length, Result, Ok, Err, subst, refl, ap, sym, ◌∙◌, append_assoc, append-nil}
+use Rattle.std.specs.List.{filter}
 use Rattle.std.specs.Result.{OnOk}
 use Rattle.mesh_base.specs.Mesh.{Mesh}
 use Rattle.mesh_base.specs.Sides.{IsClosed}
@@ -9,120 +10,112 @@ use Rattle.mesh_base.proofs.MarksHold.{begins_itself, begins_along}
 use Rattle.log_text.specs.Lines.{text_of_lines, text_of_line}
 use Rattle.log_text.specs.declared.LogLine.{LogLine}
 use Rattle.log_replay.specs.Replay.{after, at_mesh, mesh_after_lines}
-use Rattle.log_write.proofs.WrittenLines.{begun_nothing, written_line, written_then}
-use Rattle.outside_io.specs.Causes.{Rose}
+use Rattle.log_write.proofs.WrittenLines.{begun_nothing, written_then}
+use Rattle.outside_io.specs.declared.stop.Stop.{Stop}
+use Rattle.outside_io.specs.declared.stop.Stop.TheVariants.{NoMemory}
+use Rattle.outside_io.specs.Outside.{StoresNothing}
 use Rattle.outside_io.specs.Sink.{appended, AppendsPart}
+use Rattle.outside_io.proofs.Outsides.{nothing_unremembered, nothing_done, nothing_then, nothing_whole}
 use Rattle.outside_io.proofs.Written.{appended-nil}
-use Rattle.pass_run.specs.declared.faults.PassFault.{PassFault}
-use Rattle.pass_run.specs.declared.faults.PassFault.TheVariants.{NoMemory, SinkFault}
 use Rattle.pass_run.specs.declared.passing.PassCount.{PassCount}
-use Rattle.pass_run.specs.PassLines.{ends, done_in, refused_in}
-use Rattle.pass_run.specs.Results.{Stage, PassResult}
+use Rattle.pass_run.specs.PassLines.{is_done, is_refused, ends, done_in, refused_in}
+use Rattle.pass_run.specs.Results.{Stage, written_at, Keeps, PassResult}
 use Rattle.pass_run.specs.Said.{LeadTo, SaidInPart}
 use Rattle.pass_run.proofs.Asking.{leads_there}
-use Rattle.pass_run.proofs.SaidLines.{done_in-append, refused_in-append, lead_nowhere, lead_then, said_nothing, said_part, said_part_then, said_part_more, none_ends, ends_then, ends_by_count}
+use Rattle.pass_run.proofs.SaidLines.{done_in-append, refused_in-append, lead_then, said_nothing, said_part, said_part_then, said_part_more, none_ends, ends_then, ends_by_count}
 
--- ---- faults
+-- ---- what stays
 
-along : (a b c : ℕ) → a ≤ b → b ≤ c → a ≤ c
-along a b c h k = omega arith
+-- the mesh stays, and the desk is left alone
+pub still_kept : {T : Type 0} (old new : Stage) (r : Result T Stop) → new.mesh ≡ old.mesh → new.kept ≡ old.kept → IsClosed old.mesh → IsClearMesh old.mesh → StoresNothing old.around new.around r → Keeps old new r
+still_kept old new r mesh kept closed clear nothing = record {
+  closed = subst IsClosed (sym mesh) closed;
+  clear = subst IsClearMesh (sym mesh) clear;
+  marks = subst (λ l. BeginsWith l old.kept) (sym kept) (begins_itself old.kept);
+  nothing_stored = nothing;
+}
 
--- a count that rose later rose
-rose_later : (a b c : ℕ) → a ≤ b → Rose b c → Rose a c
-rose_later a b c h rose = omega arith
+-- one part after another
+pub keeps_then : {T U : Type 0} (a b c : Stage) (p : Result T Stop) (q : Result U Stop) → Keeps a b p → Keeps b c q → Keeps a c q
+keeps_then a b c p q x y = record {
+  closed = y.closed;
+  clear = y.clear;
+  marks = begins_along c.kept b.kept a.kept y.marks x.marks;
+  nothing_stored = nothing_then a.around b.around c.around p q x.nothing_stored y.nothing_stored;
+}
 
--- want of memory is no fault of the sink
-not_the_sink : (fault : PassFault) → fault ≡ NoMemory → (let r : Result PassCount PassFault = Err fault in r ≡ Err SinkFault) → ⊥
-not_the_sink fault is e = cc
-
--- the same fault is one where the other is
-same_fault : (fault was : PassFault) → fault ≡ was → (let r : Result PassCount PassFault = Err fault in r ≡ Err SinkFault) → (let r : Result PassCount PassFault = Err was in r ≡ Err SinkFault)
-same_fault fault was is e = cc
-
--- an answer that is Ok is no fault
-no_fault : (count : PassCount) → (let r : Result PassCount PassFault = Ok count in r ≡ Err SinkFault) → ⊥
-no_fault count e = cc
+-- by another answer that is no stop
+pub keeps_whole : {T U : Type 0} (a b : Stage) (p : Result T Stop) (y : U) → Keeps a b p → Keeps a b (Ok y)
+keeps_whole a b p y x = record { closed = x.closed; clear = x.clear; marks = x.marks; nothing_stored = nothing_whole a.around b.around p y x.nothing_stored }
 
 -- ---- what one part of a pass leaves
 
--- the mesh is closed and clear, earlier marks hold, and the sink has failed no less often
-pub record Goes (old new : Stage) : Type 0 where
-  pub closed : IsClosed new.mesh
-  pub clear : IsClearMesh new.mesh
-  pub marks : BeginsWith new.kept old.kept
-  pub later : old.faults ≤ new.faults
-
--- where nothing is done
-pub goes_nowhere : (s : Stage) → IsClosed s.mesh → IsClearMesh s.mesh → Goes s s
-goes_nowhere s closed clear = record { closed = closed; clear = clear; marks = begins_itself s.kept; later = itself s.faults }
-  where
-    itself : (n : ℕ) → n ≤ n
-    itself n = omega arith
-
 -- memory was wanting before the first line
-pub wanting : (lines : List LogLine) (old new : Stage) (fault : PassFault) → fault ≡ NoMemory → new.mesh ≡ old.mesh → new.written ≡ old.written → Goes old new → PassResult lines old new (Err fault)
-wanting lines old new fault is kept same goes = record {
-  said = said_nothing old.mesh new.mesh old.written new.written lines kept same;
+pub wanting : (lines : List LogLine) (old new : Stage) → new.mesh ≡ old.mesh → new.around ≡ old.around → IsClosed new.mesh → IsClearMesh new.mesh → BeginsWith new.kept old.kept → PassResult lines old new (Err NoMemory)
+wanting lines old new kept same closed clear marks = record {
+  said = said_nothing old.mesh new.mesh (written_at old) (written_at new) lines kept (ap (λ a. a.world.holds.written) same);
   done = tt;
   refused = tt;
-  closed = goes.closed;
-  clear = goes.clear;
-  marks = goes.marks;
-  later = goes.later;
-  cause = λ e. absurd (not_the_sink fault is e);
+  keeps = record {
+    closed = closed;
+    clear = clear;
+    marks = marks;
+    nothing_stored = subst (λ a. StoresNothing {T = PassCount} old.around a (Err NoMemory)) (sym same) (nothing_unremembered {T = PassCount} old.around);
+  };
 }
 
--- there is no line
-pub none_said : (lines : List LogLine) (old new : Stage) (count : PassCount) → lines ≡ [] → new.mesh ≡ old.mesh → new.written ≡ old.written → count.done ≡ 0 → count.refused ≡ 0 → Goes old new → PassResult lines old new (Ok count)
-none_said lines old new count none kept same done refused goes = record {
-  said = (let P : List LogLine → Type 0 = λ l. LeadTo l old.mesh new.mesh in subst P (sym none) (lead_nowhere old.mesh new.mesh kept), same ∙ sym (appended-nil old.written) ∙ ap (λ l. appended old.written (text_of_lines l)) (sym none));
-  done = done ∙ ap done_in (sym none);
-  refused = refused ∙ ap refused_in (sym none);
-  closed = goes.closed;
-  clear = goes.clear;
-  marks = goes.marks;
-  later = goes.later;
-  cause = λ e. absurd (no_fault count e);
-}
+-- and nothing was done
+pub nothing_yet : (lines : List LogLine) (s : Stage) → IsClosed s.mesh → IsClearMesh s.mesh → PassResult lines s s (Err NoMemory)
+nothing_yet lines s closed clear = wanting lines s s refl refl closed clear (begins_itself s.kept)
 
 -- there is one line, and it is written
-pub one_said : (lines : List LogLine) (line : LogLine) (old new : Stage) (count : PassCount) → lines ≡ line ∷ [] → LeadTo lines old.mesh new.mesh → new.written ≡ appended old.written (text_of_line line)
-    → count.done ≡ done_in (line ∷ []) → count.refused ≡ refused_in (line ∷ []) → Goes old new → PassResult lines old new (Ok count)
-one_said lines line old new count one leads whole done refused goes = record {
-  said = (leads, written_line old.written new.written line whole ∙ ap (λ l. appended old.written (text_of_lines l)) (sym one));
+pub one_said : (lines : List LogLine) (line : LogLine) (old new : Stage) (count : PassCount) → lines ≡ line ∷ [] → LeadTo lines old.mesh new.mesh → written_at new ≡ appended (written_at old) (text_of_lines (line ∷ []))
+    → count.done ≡ done_in (line ∷ []) → count.refused ≡ refused_in (line ∷ []) → Keeps old new (Ok count) → PassResult lines old new (Ok count)
+one_said lines line old new count one leads whole done refused keeps = record {
+  said = (leads, whole ∙ ap (λ l. appended (written_at old) (text_of_lines l)) (sym one));
   done = done ∙ ap done_in (sym one);
   refused = refused ∙ ap refused_in (sym one);
-  closed = goes.closed;
-  clear = goes.clear;
-  marks = goes.marks;
-  later = goes.later;
-  cause = λ e. absurd (no_fault count e);
+  keeps = keeps;
 }
 
--- and it is written in part
-pub one_in_part : (lines : List LogLine) (line : LogLine) (old new : Stage) (fault : PassFault) → lines ≡ line ∷ [] → LeadTo lines old.mesh new.mesh → AppendsPart old.written new.written (text_of_line line)
-    → (fault ≡ SinkFault → Rose old.faults new.faults) → Goes old new → PassResult lines old new (Err fault)
-one_in_part lines line old new fault one leads part rose goes =
+-- the first line is written in part
+pub first_in_part : (line : LogLine) (more : List LogLine) (old new : Stage) (stop : Stop) → LeadTo (line ∷ []) old.mesh new.mesh → AppendsPart (written_at old) (written_at new) (text_of_line line)
+    → Keeps {T = PassCount} old new (Err stop) → PassResult (line ∷ more) old new (Err stop)
+first_in_part line more old new stop leads part keeps = record {
+  said = said_part_more old.mesh new.mesh (written_at old) (written_at new) (line ∷ []) more (said_part old.mesh new.mesh (written_at old) (written_at new) line leads part);
+  done = tt;
+  refused = tt;
+  keeps = keeps;
+}
+
+-- there is one line, and it is written in part
+pub one_in_part : (lines : List LogLine) (line : LogLine) (old new : Stage) (stop : Stop) → lines ≡ line ∷ [] → LeadTo lines old.mesh new.mesh → AppendsPart (written_at old) (written_at new) (text_of_line line)
+    → Keeps {T = PassCount} old new (Err stop) → PassResult lines old new (Err stop)
+one_in_part lines line old new stop one leads part keeps =
     let P : List LogLine → Type 0 = λ l. LeadTo l old.mesh new.mesh in
-    let Q : List LogLine → Type 0 = λ l. SaidInPart old.mesh new.mesh old.written new.written l in
-    record {
-      said = subst Q (sym one) (said_part old.mesh new.mesh old.written new.written line (subst P one leads) part);
-      done = tt;
-      refused = tt;
-      closed = goes.closed;
-      clear = goes.clear;
-      marks = goes.marks;
-      later = goes.later;
-      cause = λ e. rose (fault_is fault e);
-    }
-  where
-    fault_is : (fault : PassFault) → (let r : Result PassCount PassFault = Err fault in r ≡ Err SinkFault) → fault ≡ SinkFault
-    fault_is fault e = cc
+    let Q : List LogLine → Type 0 = λ l. PassResult l old new (Err stop) in
+    subst Q (sym one) (first_in_part line [] old new stop (subst P one leads) part keeps)
+
+-- the first line is written and is of no edit, and then the others are said
+pub first_said : {T : Type 0} (line : LogLine) (more : List LogLine) (a b c : Stage) (x : T) (r : Result PassCount Stop) → LeadTo (line ∷ []) a.mesh b.mesh → is_done line ≡ false → is_refused line ≡ false
+    → written_at b ≡ appended (written_at a) (text_of_lines (line ∷ [])) → Keeps a b (Ok x) → PassResult more b c r → PassResult (line ∷ more) a c r
+first_said line more a b c x (Ok count) leads no_edit no_refusal whole keeps r = record {
+  said = (lead_then a.mesh b.mesh c.mesh (line ∷ []) more leads r.said.0, written_then (written_at a) (written_at b) (written_at c) (line ∷ []) more whole r.said.1);
+  done = r.done ∙ sym (ap (λ b. length (cond b (line ∷ filter is_done more) (filter is_done more))) no_edit);
+  refused = r.refused ∙ sym (ap (λ b. length (cond b (line ∷ filter is_refused more) (filter is_refused more))) no_refusal);
+  keeps = keeps_then a b c (Ok x) (Ok count) keeps r.keeps;
+}
+first_said line more a b c x (Err stop) leads no_edit no_refusal whole keeps r = record {
+  said = said_part_then a.mesh b.mesh c.mesh (written_at a) (written_at b) (written_at c) (line ∷ []) more leads whole r.said;
+  done = tt;
+  refused = tt;
+  keeps = keeps_then a b c (Ok x) (Err stop) keeps r.keeps;
+}
 
 -- where all lines are said that make this mesh, that is the mesh
-pub leads_to : (lines : List LogLine) (end : Mesh) (old new : Stage) (r : Result PassCount PassFault) → after (at_mesh old.mesh) lines ≡ at_mesh end → PassResult lines old new r → OnOk r (new.mesh ≡ end)
+pub leads_to : (lines : List LogLine) (end : Mesh) (old new : Stage) (r : Result PassCount Stop) → after (at_mesh old.mesh) lines ≡ at_mesh end → PassResult lines old new r → OnOk r (new.mesh ≡ end)
 leads_to lines end old new (Ok count) made result = leads_there old.mesh end lines new.mesh made result.said.0
-leads_to lines end old new (Err fault) made result = tt
+leads_to lines end old new (Err stop) made result = tt
 
 -- ---- some of the lines
 
@@ -131,10 +124,10 @@ pub record SoFar (from now : Stage) (grouped : Bool) (rest all : List LogLine) (
   pub said : List LogLine
   pub whole : said ++ cond (ends grouped said) [] rest ≡ all
   pub leads : LeadTo said from.mesh now.mesh
-  pub written : now.written ≡ appended from.written (text_of_lines said)
+  pub written : written_at now ≡ appended (written_at from) (text_of_lines said)
   pub done : count.done ≡ done_in said
   pub refused : count.refused ≡ refused_in said
-  pub goes : Goes from now
+  pub keeps : Keeps from now (Ok count)
 
 -- none is written yet
 pub so_far_none : (s : Stage) (grouped : Bool) (rest all : List LogLine) (count : PassCount) → rest ≡ all → IsClosed s.mesh → IsClearMesh s.mesh → count.done ≡ 0 → count.refused ≡ 0 → SoFar s s grouped rest all count
@@ -142,10 +135,10 @@ so_far_none s grouped rest all count same closed clear done refused = record {
   said = [];
   whole = ap (λ b. cond b [] rest) (none_ends grouped) ∙ same;
   leads = refl;
-  written = sym (appended-nil s.written);
+  written = sym (appended-nil (written_at s));
   done = done;
   refused = refused;
-  goes = goes_nowhere s closed clear;
+  keeps = still_kept s s (Ok count) refl refl closed clear (nothing_done s.around count);
 }
 
 module _ (from now : Stage) (grouped : Bool) (rest all : List LogLine) (count : PassCount) (s : SoFar from now grouped rest all count) where
@@ -154,14 +147,10 @@ module _ (from now : Stage) (grouped : Bool) (rest all : List LogLine) (count : 
 
   all_said : s.said ≡ all → PassResult all from now (Ok count)
   all_said same = record {
-    said = (let P : List LogLine → Type 0 = λ l. LeadTo l from.mesh now.mesh in subst P same s.leads, s.written ∙ ap (λ l. appended from.written (text_of_lines l)) same);
+    said = (let P : List LogLine → Type 0 = λ l. LeadTo l from.mesh now.mesh in subst P same s.leads, s.written ∙ ap (λ l. appended (written_at from) (text_of_lines l)) same);
     done = s.done ∙ ap done_in same;
     refused = s.refused ∙ ap refused_in same;
-    closed = s.goes.closed;
-    clear = s.goes.clear;
-    marks = s.goes.marks;
-    later = s.goes.later;
-    cause = λ e. absurd (no_fault count e);
+    keeps = s.keeps;
   }
 
   -- they have ended the pass
@@ -177,19 +166,15 @@ module _ (from now : Stage) (grouped : Bool) (rest all : List LogLine) (count : 
       nothing false = refl
 
   -- memory is wanting before the next
-  pub so_far_wanting : (fault : PassFault) → fault ≡ NoMemory → PassResult all from now (Err fault)
-  so_far_wanting fault is = record {
+  pub so_far_wanting : PassResult all from now (Err NoMemory)
+  so_far_wanting = record {
     said = record {
-      text = record { done = s.said; rest = cond (ends grouped s.said) [] rest; split = sym s.whole; part = []; begun = begun_nothing (cond (ends grouped s.said) [] rest); written = s.written ∙ ap (appended from.written) (sym (append-nil (text_of_lines s.said))) };
+      text = record { done = s.said; rest = cond (ends grouped s.said) [] rest; split = sym s.whole; part = []; begun = begun_nothing (cond (ends grouped s.said) [] rest); written = s.written ∙ ap (appended (written_at from)) (sym (append-nil (text_of_lines s.said))) };
       mesh = inl s.leads;
     };
     done = tt;
     refused = tt;
-    closed = s.goes.closed;
-    clear = s.goes.clear;
-    marks = s.goes.marks;
-    later = s.goes.later;
-    cause = λ e. absurd (not_the_sink fault is e);
+    keeps = keeps_then from now now (Ok count) (Err NoMemory) s.keeps (still_kept now now (Err NoMemory) refl refl s.keeps.closed s.keeps.clear (nothing_unremembered now.around));
   }
 
 -- A step of a loop says the next lines. `rest` tells what is left from a mesh on.
@@ -215,28 +200,19 @@ module _ (from now next : Stage) (grouped : Bool) (left xs all : List LogLine) (
     said = s.said ++ xs;
     whole = ap (λ n. (s.said ++ xs) ++ cond (ends grouped (s.said ++ xs)) [] (rest n)) (sym (ap (λ q. q.mesh) r.said.0)) ∙ whole_more;
     leads = lead_then from.mesh now.mesh next.mesh s.said xs s.leads r.said.0;
-    written = written_then from.written now.written next.written s.said xs s.written r.said.1;
+    written = written_then (written_at from) (written_at now) (written_at next) s.said xs s.written r.said.1;
     done = done ∙ ap (λ n. n + more.done) s.done ∙ ap (λ n. done_in s.said + n) r.done ∙ sym (done_in-append s.said xs);
     refused = refused ∙ ap (λ n. n + more.refused) s.refused ∙ ap (λ n. refused_in s.said + n) r.refused ∙ sym (refused_in-append s.said xs);
-    goes = record {
-      closed = r.closed;
-      clear = r.clear;
-      marks = begins_along next.kept now.kept from.kept r.marks s.goes.marks;
-      later = along from.faults now.faults next.faults s.goes.later r.later;
-    };
+    keeps = keeps_whole from next (Ok more) counted (keeps_then from now next (Ok count) (Ok more) s.keeps r.keeps);
   }
 
   -- they are written in part
-  pub step_in_part : (fault was : PassFault) → fault ≡ was → PassResult xs now next (Err was) → PassResult all from next (Err fault)
-  step_in_part fault was is r =
-      let P : List LogLine → Type 0 = λ l. SaidInPart from.mesh next.mesh from.written next.written l in
+  pub step_in_part : (stop : Stop) → PassResult xs now next (Err stop) → PassResult all from next (Err stop)
+  step_in_part stop r =
+      let P : List LogLine → Type 0 = λ l. SaidInPart from.mesh next.mesh (written_at from) (written_at next) l in
       record {
-        said = subst P all_is (said_part_then from.mesh now.mesh next.mesh from.written now.written next.written s.said (xs ++ others) s.leads s.written (said_part_more now.mesh next.mesh now.written next.written xs others r.said));
+        said = subst P all_is (said_part_then from.mesh now.mesh next.mesh (written_at from) (written_at now) (written_at next) s.said (xs ++ others) s.leads s.written (said_part_more now.mesh next.mesh (written_at now) (written_at next) xs others r.said));
         done = tt;
         refused = tt;
-        closed = r.closed;
-        clear = r.clear;
-        marks = begins_along next.kept now.kept from.kept r.marks s.goes.marks;
-        later = along from.faults now.faults next.faults s.goes.later r.later;
-        cause = λ e. rose_later from.faults now.faults next.faults s.goes.later (r.cause (same_fault fault was is e));
+        keeps = keeps_then from now next (Ok count) (Err stop) s.keeps r.keeps;
       }

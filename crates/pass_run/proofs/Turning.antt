@@ -10,8 +10,8 @@ use Rattle.edit_base.specs.declared.Asked.{Asked}
 use Rattle.edit_base.specs.declared.Edit.{Edit}
 use Rattle.log_text.specs.declared.LogLine.{LogLine}
 use Rattle.log_replay.specs.Replay.{at_mesh, mesh_after_lines}
-use Rattle.pass_run.specs.declared.faults.PassFault.{PassFault}
-use Rattle.pass_run.specs.declared.faults.PassFault.TheVariants.{NoMemory}
+use Rattle.outside_io.specs.declared.stop.Stop.{Stop}
+use Rattle.outside_io.specs.declared.stop.Stop.TheVariants.{NoMemory}
 use Rattle.pass_run.specs.declared.passing.PassCount.{PassCount}
 use Rattle.pass_run.specs.PassLines.{lines_asked, mesh_asked, ends, refused_in}
 use Rattle.pass_run.specs.Results.{Stage, PassResult}
@@ -93,11 +93,11 @@ module _ (may_choose : Mesh → Asked → Option Asked → Type 0) (answer : Mes
         by_test false = subst (λ rest. AreChosen may_choose answer grouped true now.mesh rest []) (sym (none_left candidates i end)) tt
 
     -- memory is wanting where the next is chosen
-    pub taking_wanting : (fault : PassFault) → fault ≡ NoMemory → TakesTurns may_choose answer grouped candidates from now (Err fault)
-    taking_wanting fault is = record {
+    pub taking_wanting : TakesTurns may_choose answer grouped candidates from now (Err NoMemory)
+    taking_wanting = record {
       calls = s.calls ++ [];
       chosen = s.goes false [] (by_test (grouped && nat_lt 0 count.refused));
-      takes = so_far_wanting from now grouped (lines now.mesh []) (lines from.mesh (s.calls ++ [])) count (s.so_far []) fault is;
+      takes = so_far_wanting from now grouped (lines now.mesh []) (lines from.mesh (s.calls ++ [])) count (s.so_far []);
     }
       where
         by_test : (b : Bool) → Left b false now.mesh (drop i candidates) []
@@ -143,11 +143,11 @@ module _ (may_choose : Mesh → Asked → Option Asked → Type 0) (answer : Mes
         by_test whole later true is h = here whole later (λ e. absurd (false≢true (sym e ∙ is)))
         by_test whole later false is h = here whole later (λ e. subst (λ m. AreChosen may_choose answer grouped whole m (drop (i + 1) candidates) later) same h)
 
-    -- a fault
-    pub taking_in_part : (fault was : PassFault) → fault ≡ was → PassResult (lines_asked (answer now.mesh) call) now next (Err was) → TakesTurns may_choose answer grouped candidates from next (Err fault)
-    taking_in_part fault was is r = record {
+    -- it stops there
+    pub taking_in_part : (stop : Stop) → PassResult (lines_asked (answer now.mesh) call) now next (Err stop) → TakesTurns may_choose answer grouped candidates from next (Err stop)
+    taking_in_part stop r = record {
       calls = s.calls ++ (call ∷ []);
       chosen = here false [] (λ e. cut_off end (drop (i + 1) candidates));
       takes = step_in_part from now next grouped (lines now.mesh (call ∷ [])) new (lines from.mesh (s.calls ++ (call ∷ []))) (λ m. lines m []) count
-          (call_split now.mesh call []) (s.so_far (call ∷ [])) going fault was is r;
+          (call_split now.mesh call []) (s.so_far (call ∷ [])) going stop r;
     }

@@ -17,7 +17,6 @@ use Rattle.log_text.specs.declared.LogLine.{LogLine}
 use Rattle.log_text.specs.declared.LogLine.TheVariants as line
 use Rattle.log_replay.specs.Replay.{at_mesh}
 use Rattle.log_replay.specs.Safe.{LinesKeepTheMesh}
-use Rattle.pass_run.specs.declared.faults.PassFault.{PassFault}
 use Rattle.pass_run.specs.declared.passing.PassCount.{PassCount}
 use Rattle.pass_run.specs.Candidates.{length_squared}
 use Rattle.pass_run.specs.PassLines.{PassRules, lines_of, mesh_from, ends, lines_from, mesh_after_all, done_in, refused_in}
@@ -98,7 +97,7 @@ pub record AreFitLines (may_answer : Point → Band → Type 0) (meets : Positio
 
 -- The lines of a pass by a sizing were said, or the first of them, and counted. Each edit that they tell is safe where it stands, and each line
 -- leaves a mesh that is sound, closed and clear.
-pub record Fits (may_answer : Point → Band → Type 0) (depth : ℕ) (grouped : Bool) (from to : Mesh) (old new : Option (List ℕ)) (result : Result PassCount PassFault) : Type 0 where
+pub record Fits {E : Type 0} (may_answer : Point → Band → Type 0) (depth : ℕ) (grouped : Bool) (from to : Mesh) (old new : Option (List ℕ)) (result : Result PassCount E) : Type 0 where
   pub lines : List LogLine
   pub end : Mesh
   pub fit : AreFitLines may_answer meets_exactly depth grouped (is_ok result) from lines end

@@ -5,6 +5,5 @@ pub mod Results
 pub mod Turns
 pub mod Said
 pub mod Promises
-pub mod Faults
 pub mod Fits
 pub mod Again

@@ -1,5 +1,5 @@
 -- What the parts of a pass do.
-use Rattle.std.specs.Prelude.{◌≡◌, ◌≤◌, ℕ, List, Result, Ok, Err, IfOk, IsErrOf, Option, Some, None}
+use Rattle.std.specs.Prelude.{◌≡◌, ℕ, List, Result, Ok, Err, IfOk, Option, Some, None}
 use Rattle.grid_base.specs.declared.NoMemory.{NoMemory}
 use Rattle.grid_decided.specs.Decided.{meets_exactly}
 use Rattle.mesh_base.specs.Mesh.{Mesh}
@@ -10,9 +10,8 @@ use Rattle.edit_base.specs.declared.Asked.{Asked}
 use Rattle.edit_base.specs.declared.Edit.{Edit}
 use Rattle.edit_dispatch.specs.Dispatch.{answer_to}
 use Rattle.log_text.specs.declared.LogLine.{LogLine}
-use Rattle.outside_io.specs.Causes.{Rose}
-use Rattle.pass_run.specs.declared.faults.PassFault.{PassFault}
-use Rattle.pass_run.specs.declared.faults.PassFault.TheVariants.{SinkFault}
+use Rattle.outside_io.specs.declared.stop.Stop.{Stop}
+use Rattle.outside_io.specs.Outside.{Around, StoresNothing}
 use Rattle.pass_run.specs.declared.passing.PassCount.{PassCount}
 use Rattle.pass_run.specs.PassLines.{line_of, mesh_asked, done_in, refused_in}
 use Rattle.pass_run.specs.Said.{Said}
@@ -31,24 +30,29 @@ abbrev pub mesh_then : (Asked → Edit) → Mesh → Option Asked → Result (Op
 mesh_then answer m call (Ok line) = mesh_asked answer m call
 mesh_then answer m call (Err fault) = m
 
--- Where a pass stands: the mesh, the meshes that are kept for marks, what the sink holds, where it tells, and how often it has failed.
+-- Where a pass stands: the mesh, the meshes that are kept for marks, and what is outside.
 pub record Stage : Type 0 where
   pub mesh : Mesh
   pub kept : List Mesh
-  pub written : Option (List ℕ)
-  pub faults : ℕ
+  pub around : Around
 
-abbrev pub stage : {S K : Type 0} → (S → Mesh) → (S → List Mesh) → (K → Option (List ℕ)) → (K → ℕ) → S → K → Stage
-stage mesh kept written faults surface sink = record { mesh = mesh surface; kept = kept surface; written = written sink; faults = faults sink }
+abbrev pub stage : {S O : Type 0} → (S → Mesh) → (S → List Mesh) → (O → Around) → S → O → Stage
+stage mesh kept around surface outside = record { mesh = mesh surface; kept = kept surface; around = around outside }
 
--- From old to new these lines were said and counted, or the first of them. The mesh is closed and clear, and earlier marks hold. The
--- sink has failed no less often, and more often where it is at fault.
-pub record PassResult (lines : List LogLine) (old new : Stage) (result : Result PassCount PassFault) : Type 0 where
-  pub said : Said old.mesh new.mesh old.written new.written lines result
-  pub done : IfOk result (λ count. count.done ≡ done_in lines)
-  pub refused : IfOk result (λ count. count.refused ≡ refused_in lines)
+-- what the sink then holds, where it tells
+abbrev pub written_at : Stage → Option (List ℕ)
+written_at s = s.around.world.holds.written
+
+-- The mesh is closed and clear, earlier marks hold, and the desk is left alone.
+pub record Keeps {T : Type 0} (old new : Stage) (result : Result T Stop) : Type 0 where
   pub closed : IsClosed new.mesh
   pub clear : IsClearMesh new.mesh
   pub marks : BeginsWith new.kept old.kept
-  pub later : old.faults ≤ new.faults
-  pub cause : IsErrOf result SinkFault → Rose old.faults new.faults
+  pub nothing_stored : StoresNothing old.around new.around result
+
+-- From old to new these lines were said and counted, or the first of them.
+pub record PassResult (lines : List LogLine) (old new : Stage) (result : Result PassCount Stop) : Type 0 where
+  pub said : Said old.mesh new.mesh (written_at old) (written_at new) lines result
+  pub done : IfOk result (λ count. count.done ≡ done_in lines)
+  pub refused : IfOk result (λ count. count.refused ≡ refused_in lines)
+  pub keeps : Keeps old new result

@@ -6,7 +6,6 @@ use Rattle.log_text.specs.declared.LogLine.{LogLine}
 use Rattle.log_replay.specs.Replay.{after, at_mesh}
 use Rattle.log_write.specs.Written.{WrittenInPart}
 use Rattle.outside_io.specs.Sink.{appended}
-use Rattle.pass_run.specs.declared.faults.PassFault.{PassFault}
 
 -- the replay of these lines leads from the one mesh to the other
 abbrev pub LeadTo : List LogLine → Mesh → Mesh → Type 0
@@ -18,6 +17,6 @@ pub record SaidInPart (from to : Mesh) (old new : Option (List ℕ)) (lines : Li
   pub mesh : LeadTo text.done from to ⊎ LeadTo (text.done ++ take 1 text.rest) from to
 
 -- these lines were written and lead to the mesh, or the first of them
-abbrev pub Said : {T : Type 0} → Mesh → Mesh → Option (List ℕ) → Option (List ℕ) → List LogLine → Result T PassFault → Type 0
+abbrev pub Said : {T E : Type 0} → Mesh → Mesh → Option (List ℕ) → Option (List ℕ) → List LogLine → Result T E → Type 0
 Said from to old new lines (Ok x) = LeadTo lines from to × (new ≡ appended old (text_of_lines lines))
 Said from to old new lines (Err fault) = SaidInPart from to old new lines

@@ -4,7 +4,7 @@ use Rattle.mesh_base.specs.Mesh.{Mesh}
 use Rattle.edit_base.specs.declared.Asked.{Asked}
 use Rattle.edit_base.specs.declared.Edit.{Edit}
 use Rattle.log_text.specs.declared.LogLine.{LogLine}
-use Rattle.pass_run.specs.declared.faults.PassFault.{PassFault}
+use Rattle.outside_io.specs.declared.stop.Stop.{Stop}
 use Rattle.pass_run.specs.declared.passing.PassCount.{PassCount}
 use Rattle.pass_run.specs.PassLines.{lines_asked, mesh_asked, ends}
 use Rattle.pass_run.specs.Results.{Stage, PassResult}
@@ -27,7 +27,7 @@ AreChosen may_choose answer grouped whole m (what ∷ rest) (call ∷ calls) =
     × (ends grouped (lines_asked (answer m) call) ≡ false → AreChosen may_choose answer grouped whole (mesh_asked (answer m) m call) rest calls)
 
 -- the candidates have their turns
-pub record TakesTurns (may_choose : Mesh → Asked → Option Asked → Type 0) (answer : Mesh → Asked → Edit) (grouped : Bool) (candidates : List Asked) (old new : Stage) (result : Result PassCount PassFault) : Type 0 where
+pub record TakesTurns (may_choose : Mesh → Asked → Option Asked → Type 0) (answer : Mesh → Asked → Edit) (grouped : Bool) (candidates : List Asked) (old new : Stage) (result : Result PassCount Stop) : Type 0 where
   pub calls : List (Option Asked)
   pub chosen : AreChosen may_choose answer grouped (is_ok result) old.mesh candidates calls
   pub takes : PassResult (lines_at_turns answer grouped old.mesh calls) old new result

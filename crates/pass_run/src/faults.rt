@@ -1,10 +1,7 @@
 //! Why a pass stops.
 ghost use Rattle.std.specs.Prelude.{◌≡◌};
-ghost use Rattle.pass_run.specs.Faults.{fault_of};
-ghost use Rattle.pass_run.specs.declared.faults.PassFault.TheVariants as faults;
 
-use grid_base::NoMemory;
-use log_write::WriteFault;
+use outside_io::Stop;
 use thiserror::Error;
 
 /// Why a pass stopped before its end.
@@ -18,21 +15,17 @@ pub enum PassFault {
     SinkFault = 2,
 }
 
-impl From<NoMemory> for PassFault {
-    ghost from_gives = { λ _ e. e ≡ faults.NoMemory };
-
-    fn from(_e: NoMemory) -> PassFault {
-        PassFault::NoMemory
-    }
-}
-
-impl From<WriteFault> for PassFault {
-    ghost from_gives = { λ fault e. e ≡ fault_of fault };
-
-    fn from(fault: WriteFault) -> PassFault {
-        match fault {
-            WriteFault::NoMemory => PassFault::NoMemory,
-            WriteFault::SinkFault => PassFault::SinkFault,
+impl PassFault {
+    /// Why a pass stopped that has no desk.
+    pub(crate) fn of(stop: Stop) -> PassFault
+        requires { stop ≡ Stop.DeskFault → ⊥ }
+        ensures memory { result ≡ PassFault.NoMemory → stop ≡ Stop.NoMemory }
+        ensures sink { result ≡ PassFault.SinkFault → stop ≡ Stop.SinkFault }
+    {
+        match stop {
+            Stop::NoMemory => PassFault::NoMemory,
+            Stop::SinkFault => PassFault::SinkFault,
+            Stop::DeskFault => unreachable!(),
         }
     }
 }

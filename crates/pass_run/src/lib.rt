@@ -13,6 +13,6 @@ mod terms;
 mod turns;
 
 pub use faults::PassFault;
-pub use fitting::fit_pass;
-pub use passing::{PassCount, pass};
-pub use terms::PassTerms;
+pub use fitting::{fit_pass, fit_to};
+pub use passing::{PassCount, pass, pass_to};
+pub use terms::{PassTerms, Turns};

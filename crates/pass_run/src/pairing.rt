@@ -16,6 +16,17 @@ use std::alloc::Global;
 /// Edges that are asked to be zipped, in order.
 pub(crate) type Zips = Items<Asked>;
 
+/// An edge of a list at its turn, which is asked to be zipped with the later ones that are near it.
+#[derive(Clone, Copy)]
+pub(crate) struct EdgeTurn<'e> {
+    /// How far apart midpoints may be, in grid units.
+    pub(crate) within: u32,
+    pub(crate) edges: &'e [(VertexId, VertexId)],
+    /// Where the edge stands in the list.
+    pub(crate) place: usize,
+    pub(crate) edge: (VertexId, VertexId),
+}
+
 /// Whether a number has at most this size.
 fn is_small(a: i128, most: u128) -> bool
     ensures { result ≡ nat_le (unsigned_abs a) most }
@@ -44,37 +55,33 @@ fn is_near_along(p: Wide, q: Wide, within: u32) -> bool
 fn near_zip<S: Surface>(
     mesh: &S,
     within: u32,
-    a: VertexId,
-    b: VertexId,
-    e: VertexId,
-    f: VertexId,
+    e: (VertexId, VertexId),
+    f: (VertexId, VertexId),
 ) -> Option<Asked>
-    ensures { result ≡ near_zip (S.mesh mesh.now) within (a, b) (Some (e, f)) }
+    ensures { result ≡ near_zip (S.mesh mesh.now) within e (Some f) }
 {
-    if is_near_along(exact_mid(mesh, a, b), exact_mid(mesh, e, f), within) {
-        Some(Asked::Zip { a, b, e, f })
+    if is_near_along(exact_mid(mesh, e.0, e.1), exact_mid(mesh, f.0, f.1), within) {
+        Some(Asked::Zip {
+            a: e.0,
+            b: e.1,
+            e: f.0,
+            f: f.1,
+        })
     } else {
         None
     }
 }
 
 /// The zip of an edge with the one at a place, where that is later and near.
-fn later_zip<S: Surface>(
-    mesh: &S,
-    within: u32,
-    edges: &[(VertexId, VertexId)],
-    i: usize,
-    a: VertexId,
-    b: VertexId,
-    k: u64,
-) -> Option<Asked>
-    ensures { result ≡ later_zip (S.mesh mesh.now) within edges.now i (a, b) k }
+fn later_zip<S: Surface>(mesh: &S, turn: &EdgeTurn<'_>, k: u64) -> Option<Asked>
+    ensures { let t = turn.now in
+        result ≡ later_zip (S.mesh mesh.now) t.within t.edges.now t.place t.edge k }
 {
-    if k <= i as u64 {
+    if k <= turn.place as u64 {
         return None;
     }
-    match edges.get(k as usize) {
-        Some(other) => near_zip(mesh, within, a, b, other.0, other.1),
+    match turn.edges.get(k as usize) {
+        Some(other) => near_zip(mesh, turn.within, turn.edge, *other),
         None => None,
     }
 }
@@ -82,19 +89,16 @@ fn later_zip<S: Surface>(
 /// Puts the zips of an edge with those of the edges at these places that are later and near at the end.
 fn put_later<S: Surface>(
     mesh: &S,
-    within: u32,
-    edges: &[(VertexId, VertexId)],
-    i: usize,
-    a: VertexId,
-    b: VertexId,
+    turn: &EdgeTurn<'_>,
     places: &[u64],
     asked: &mut Zips,
 ) -> Result<(), NoMemory>
-    ensures { let zips = later_zips (S.mesh mesh.now) within edges.now i (a, b) places.now in
+    ensures { let t = turn.now in
+        let zips = later_zips (S.mesh mesh.now) t.within t.edges.now t.place t.edge places.now in
         OnOk result (asked.new ≡ asked.old ++ zips) }
 {
     for k in places {
-        if let Some(zip) = later_zip(mesh, within, edges, i, a, b, *k) {
+        if let Some(zip) = later_zip(mesh, turn, *k) {
             asked.push(zip)?;
         }
     }
@@ -208,20 +212,18 @@ pub(crate) fn midpoints<S: Surface>(
 pub(crate) fn near_pairs<S: Surface>(
     alloc: Global,
     mesh: &S,
-    within: u32,
-    edges: &[(VertexId, VertexId)],
+    turn: &EdgeTurn<'_>,
     grid: &Grid,
-    i: usize,
-    a: VertexId,
-    b: VertexId,
 ) -> Result<Zips, NoMemory>
-    requires { AreMidpoints (S.mesh mesh.now) edges.now grid.now }
-    ensures { let zips = near_zips (S.mesh mesh.now) within (a, b) (drop (i + 1) edges.now) in
+    requires { AreMidpoints (S.mesh mesh.now) turn.now.edges.now grid.now }
+    ensures { let t = turn.now in
+        let zips = near_zips (S.mesh mesh.now) t.within t.edge (drop (t.place + 1) t.edges.now) in
         IfOk result (λ asked. asked ≡ zips) }
 {
     let mut places = Vec::new(alloc);
-    grid.overlapping(box_round(exact_mid(mesh, a, b), within), &mut places)?;
+    let middle = exact_mid(mesh, turn.edge.0, turn.edge.1);
+    grid.overlapping(box_round(middle, turn.within), &mut places)?;
     let mut asked = Zips::new(alloc);
-    put_later(mesh, within, edges, i, a, b, &places, &mut asked)?;
+    put_later(mesh, turn, &places, &mut asked)?;
     Ok(asked)
 }

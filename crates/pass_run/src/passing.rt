@@ -1,6 +1,7 @@
 //! The passes: what is asked, each at its time, and its line.
 ghost use Rattle.std.specs.Prelude.{◌≡◌, ◌≤◌, ◌<◌, ◌+◌, ◌*◌, ◌^◌, ◌&&◌, [], ◌∷◌, nat_lt, length, Some, IfOk, OnOk, IsErrOf};
 ghost use Rattle.grid_base.specs.declared.TheConstants.{DEPTH_MAX};
+ghost use Rattle.grid_decided.specs.Decided.{meets_exactly};
 ghost use Rattle.mesh_base.specs.Sides.{IsClosed};
 ghost use Rattle.mesh_base.specs.Placements.{IsClearMesh};
 ghost use Rattle.mesh_base.specs.Kept.{BeginsWith};
@@ -8,7 +9,7 @@ ghost use Rattle.outside_io.specs.Causes.{Rose};
 ghost use Rattle.log_replay.specs.Replay.{at_mesh};
 ghost use Rattle.log_replay.specs.Safe.{LinesKeepTheMesh};
 ghost use Rattle.pass_run.specs.Candidates.{candidates};
-ghost use Rattle.pass_run.specs.PassLines.{exactly, lines_asked, lines_from, lines_due, mesh_due, done_in, refused_in};
+ghost use Rattle.pass_run.specs.PassLines.{exactly, lines_asked, lines_from, pass_lines, mesh_after_pass, lines_due, mesh_due, done_in, refused_in};
 ghost use Rattle.pass_run.specs.Results.{PassResult, exact_answer, stage};
 ghost use Rattle.pass_run.specs.Turns.{TakesTurns};
 ghost use Rattle.pass_run.specs.Said.{Said};
@@ -16,15 +17,15 @@ ghost use Rattle.pass_run.specs.Said.{Said};
 use crate::choosing::Chooses;
 use crate::faults::PassFault;
 use crate::listing::{listed, pairs_within};
-use crate::pairing::{midpoints, near_pairs};
-use crate::terms::PassTerms;
+use crate::pairing::{EdgeTurn, midpoints, near_pairs};
+use crate::terms::{PassTerms, Turns};
 use crate::turns::line_of_call;
 use edit_base::{Asked, PassKind};
 use grid_base::DEPTH_MAX;
 use log_text::LogLine;
 use log_write::write_line;
 use mesh_base::{Surface, edges_in_order};
-use outside_io::Sink;
+use outside_io::{Ends, Outside, Sink, Stop, TallyDesk};
 use std::alloc::Global;
 
 /// How many edits of a pass were done and how many were refused, of those that were asked for: of what still stood at its time and
@@ -87,123 +88,100 @@ fn is_over(grouped: bool, count: PassCount) -> bool
 }
 
 /// What is asked, if anything: its edit, its line and its count.
-fn take_ready<S: Surface, K: Sink>(
+fn take_one<S: Surface, O: Outside>(
     alloc: Global,
     mesh: &mut S,
     depth: u8,
     call: Option<Asked>,
-    out: &mut K,
-) -> Result<PassCount, PassFault>
+    outside: &mut O,
+) -> Result<PassCount, Stop>
     requires closed { IsClosed (S.mesh mesh.old) }
     requires clear { IsClearMesh (S.mesh mesh.old) }
     requires depth { depth ≤ DEPTH_MAX }
-    ensures takes { let old = stage S.mesh S.kept K.written K.faults mesh.old out.old in
-        let new = stage S.mesh S.kept K.written K.faults mesh.new out.new in
+    ensures takes { let old = stage S.mesh S.kept O.around mesh.old outside.old in
+        let new = stage S.mesh S.kept O.around mesh.new outside.new in
         PassResult (lines_asked (exact_answer depth old.mesh) call) old new result }
     ensures sum { IfOk result (λ count. count.done + count.refused ≤ 1) }
 {
     match line_of_call(alloc, mesh, depth, call) {
-        Err(_) => Err(PassFault::NoMemory),
+        Err(_) => Err(Stop::NoMemory),
         Ok(None) => Ok(no_edit()),
         Ok(Some(line)) => {
-            write_line(alloc, out, &line)?;
+            write_line(alloc, outside, &line)?;
             Ok(count_of(&line))
         }
     }
 }
 
-/// The same, of a mesh that is made ready for the check of an edit first, where what was moved since calls for it.
-fn take_one<S: Surface, K: Sink>(
-    alloc: Global,
-    mesh: &mut S,
-    depth: u8,
-    call: Option<Asked>,
-    out: &mut K,
-) -> Result<PassCount, PassFault>
-    requires closed { IsClosed (S.mesh mesh.old) }
-    requires clear { IsClearMesh (S.mesh mesh.old) }
-    requires depth { depth ≤ DEPTH_MAX }
-    ensures takes { let old = stage S.mesh S.kept K.written K.faults mesh.old out.old in
-        let new = stage S.mesh S.kept K.written K.faults mesh.new out.new in
-        PassResult (lines_asked (exact_answer depth old.mesh) call) old new result }
-    ensures sum { IfOk result (λ count. count.done + count.refused ≤ 1) }
-{
-    mesh.index();
-    take_ready(alloc, mesh, depth, call, out)
-}
-
 /// Candidates, each in turn: what is chosen there is asked.
-pub(crate) fn take_turns<S: Surface, K: Sink, C: Chooses>(
+pub(crate) fn take_turns<S: Surface, O: Outside, C: Chooses>(
     alloc: Global,
     mesh: &mut S,
-    by: &C,
-    depth: u8,
-    grouped: bool,
+    turns: Turns<'_, C>,
     candidates: &[Asked],
-    out: &mut K,
-) -> Result<PassCount, PassFault>
+    outside: &mut O,
+) -> Result<PassCount, Stop>
     requires closed { IsClosed (S.mesh mesh.old) }
     requires clear { IsClearMesh (S.mesh mesh.old) }
-    requires depth { depth ≤ DEPTH_MAX }
-    requires can { C.can_choose by.now }
-    ensures takes { let old = stage S.mesh S.kept K.written K.faults mesh.old out.old in
-        let new = stage S.mesh S.kept K.written K.faults mesh.new out.new in
-        TakesTurns (C.may_choose by.now) (exact_answer depth) grouped candidates.now old new result }
+    requires depth { turns.depth ≤ DEPTH_MAX }
+    requires can { C.can_choose turns.by.now }
+    ensures takes { let old = stage S.mesh S.kept O.around mesh.old outside.old in
+        let new = stage S.mesh S.kept O.around mesh.new outside.new in
+        let t = turns.entry in
+        TakesTurns (C.may_choose t.by.now) (exact_answer t.depth) t.grouped
+        candidates.now old new result }
     ensures sum { IfOk result (λ count. count.done + count.refused ≤ length candidates.now) }
 {
     let mut count = no_edit();
     for what in candidates {
-        if is_over(grouped, count) {
+        if is_over(turns.grouped, count) {
             return Ok(count);
         }
-        let call = by.choice(alloc, mesh, *what)?;
-        let more = take_one(alloc, mesh, depth, call, out)?;
+        let call = turns.by.choice(alloc, mesh, *what)?;
+        let more = take_one(alloc, mesh, turns.depth, call, outside)?;
         count = sum(count, more);
     }
     Ok(count)
 }
 
 /// The candidates of a kind of pass, each in turn.
-fn take_asked<S: Surface, K: Sink>(
+fn take_asked<S: Surface, O: Outside>(
     alloc: Global,
     mesh: &mut S,
     terms: PassTerms,
     asked: &[Asked],
-    out: &mut K,
-) -> Result<PassCount, PassFault>
+    outside: &mut O,
+) -> Result<PassCount, Stop>
     requires closed { IsClosed (S.mesh mesh.old) }
     requires clear { IsClearMesh (S.mesh mesh.old) }
     requires depth { terms.depth ≤ DEPTH_MAX }
-    ensures takes { let old = stage S.mesh S.kept K.written K.faults mesh.old out.old in
-        let new = stage S.mesh S.kept K.written K.faults mesh.new out.new in
+    ensures takes { let old = stage S.mesh S.kept O.around mesh.old outside.old in
+        let new = stage S.mesh S.kept O.around mesh.new outside.new in
         PassResult (lines_from (exactly terms) old.mesh asked.now) old new result }
     ensures sum { IfOk result (λ count. count.done + count.refused ≤ length asked.now) }
 {
-    take_turns(
-        alloc,
-        mesh,
-        &terms.kind,
-        terms.depth,
-        terms.grouped,
-        asked,
-        out,
-    )
+    let turns = Turns {
+        by: &terms.kind,
+        depth: terms.depth,
+        grouped: terms.grouped,
+    };
+    take_turns(alloc, mesh, turns, asked, outside)
 }
 
 /// What a pass over pairs of edges asks: for each edge in order, its pairs with the later edges that are near it.
-fn take_pairs<S: Surface, K: Sink>(
+fn take_pairs<S: Surface, O: Outside>(
     alloc: Global,
     mesh: &mut S,
     terms: PassTerms,
     within: u32,
-    out: &mut K,
-) -> Result<PassCount, PassFault>
+    outside: &mut O,
+) -> Result<PassCount, Stop>
     requires zips { terms.kind ≡ PassKind.Zip within }
     requires closed { IsClosed (S.mesh mesh.old) }
     requires clear { IsClearMesh (S.mesh mesh.old) }
     requires depth { terms.depth ≤ DEPTH_MAX }
-    ensures { let old = stage S.mesh S.kept K.written K.faults mesh.old out.old in
-        let new = stage S.mesh S.kept K.written K.faults mesh.new out.new in
+    ensures { let old = stage S.mesh S.kept O.around mesh.old outside.old in
+        let new = stage S.mesh S.kept O.around mesh.new outside.new in
         let asked = candidates old.mesh terms.kind in
         PassResult (lines_from (exactly terms) old.mesh asked) old new result }
 {
@@ -215,33 +193,39 @@ fn take_pairs<S: Surface, K: Sink>(
         if is_over(terms.grouped, count) {
             return Ok(count);
         }
-        let asked = near_pairs(alloc, mesh, within, edges, &grid, i, e.0, e.1)?;
-        let more = take_asked(alloc, mesh, terms, asked.as_slice(), out)?;
+        let turn = EdgeTurn {
+            within,
+            edges,
+            place: i,
+            edge: *e,
+        };
+        let asked = near_pairs(alloc, mesh, &turn, &grid)?;
+        let more = take_asked(alloc, mesh, terms, asked.as_slice(), outside)?;
         count = sum(count, more);
     }
     Ok(count)
 }
 
 /// All that a pass asks.
-fn take_all<S: Surface, K: Sink>(
+fn take_all<S: Surface, O: Outside>(
     alloc: Global,
     mesh: &mut S,
     terms: PassTerms,
-    out: &mut K,
-) -> Result<PassCount, PassFault>
+    outside: &mut O,
+) -> Result<PassCount, Stop>
     requires closed { IsClosed (S.mesh mesh.old) }
     requires clear { IsClearMesh (S.mesh mesh.old) }
     requires depth { terms.depth ≤ DEPTH_MAX }
-    ensures { let old = stage S.mesh S.kept K.written K.faults mesh.old out.old in
-        let new = stage S.mesh S.kept K.written K.faults mesh.new out.new in
+    ensures { let old = stage S.mesh S.kept O.around mesh.old outside.old in
+        let new = stage S.mesh S.kept O.around mesh.new outside.new in
         let asked = candidates old.mesh terms.kind in
         PassResult (lines_from (exactly terms) old.mesh asked) old new result }
 {
     match pairs_within(terms.kind) {
-        Some(within) => take_pairs(alloc, mesh, terms, within, out),
+        Some(within) => take_pairs(alloc, mesh, terms, within, outside),
         None => {
             let asked = listed(alloc, mesh, terms.kind)?;
-            take_asked(alloc, mesh, terms, asked.as_slice(), out)
+            take_asked(alloc, mesh, terms, asked.as_slice(), outside)
         }
     }
 }
@@ -263,15 +247,40 @@ fn take_all<S: Surface, K: Sink>(
 /// is how many edits were done and how many were refused, of those that were asked for.
 ///
 /// Lengths are compared by exact squares, in grid units, and distances of midpoints in half units. Edges that are near one
-/// another are found by a grid of their midpoints, as broad phases do. The mesh stays closed and clear, after a fault too, and
+/// another are found by a grid of their midpoints, as broad phases do. The mesh stays closed and clear, after a stop too, and
 /// earlier marks hold. The motion of each done edit is clear at every fraction, of a pinch at those above zero and of a collapse
 /// at those below one; a zip moves nothing.
 ///
-/// A pass stops where memory is wanting, or where the sink fails, which the sink then counts. A fault leaves the first lines
-/// whole, in order, and perhaps a part of the next; the mesh is what the whole lines make of it, or what they and the next one
-/// make.
+/// A pass stops where memory is wanting, or where the sink fails, which the sink then counts; the desk is left alone. A stop leaves
+/// the first lines whole, in order, and perhaps a part of the next; the mesh is what the whole lines make of it, or what they and
+/// the next one make.
 ///
 /// After the mesh passes of El Topo (Brochu and Bridson 2009).
+pub fn pass_to<S: Surface, O: Outside>(
+    alloc: Global,
+    mesh: &mut S,
+    terms: PassTerms,
+    outside: &mut O,
+) -> Result<PassCount, Stop>
+    requires closed { IsClosed (S.mesh mesh.old) }
+    requires clear { IsClearMesh (S.mesh mesh.old) }
+    requires depth { terms.depth ≤ DEPTH_MAX }
+    // Ok: all lines are written. A stop: the first of them, and perhaps a part of the next.
+    ensures takes { let old = stage S.mesh S.kept O.around mesh.old outside.old in
+        let new = stage S.mesh S.kept O.around mesh.new outside.new in
+        PassResult (pass_lines meets_exactly terms old.mesh) old new result }
+    ensures mesh { let end = mesh_after_pass meets_exactly terms (S.mesh mesh.old) in
+        OnOk result (S.mesh mesh.new ≡ end) }
+    // Each edit that the lines tell is safe, from the mesh that the lines before it make, and each line leaves a mesh that is
+    // sound, closed and clear.
+    ensures motions { let m = S.mesh mesh.old in
+        LinesKeepTheMesh (at_mesh m) (pass_lines meets_exactly terms m) }
+{
+    write_line(alloc, outside, &LogLine::Pass(terms.kind))?;
+    take_all(alloc, mesh, terms, outside)
+}
+
+/// Does one pass over a mesh as `pass_to` does, where there is no desk. The terms are told one by one.
 pub fn pass<S: Surface, K: Sink>(
     alloc: Global,
     mesh: &mut S,
@@ -306,11 +315,18 @@ pub fn pass<S: Surface, K: Sink>(
     ensures cause { IsErrOf result PassFault.SinkFault →
         Rose (K.faults out.old) (K.faults out.new) }
 {
-    write_line(alloc, out, &LogLine::Pass(kind))?;
     let terms = PassTerms {
         kind,
         depth,
         grouped,
     };
-    take_all(alloc, mesh, terms, out)
+    let mut desk = TallyDesk::new();
+    let mut ends = Ends {
+        desk: &mut desk,
+        out,
+    };
+    match pass_to(alloc, mesh, terms, &mut ends) {
+        Ok(count) => Ok(count),
+        Err(stop) => Err(PassFault::of(stop)),
+    }
 }

@@ -11,3 +11,14 @@ pub struct PassTerms {
     /// Whether its first `no` line ends it.
     pub grouped: bool,
 }
+
+/// What the candidates of a pass go by at their turns.
+#[derive(Drop)]
+pub struct Turns<'a, C> {
+    /// What chooses the edit that is asked, if any.
+    pub by: &'a C,
+    /// The number of time halvings of the written test, at most `DEPTH_MAX`.
+    pub depth: u8,
+    /// Whether the first `no` line ends the pass.
+    pub grouped: bool,
+}

@@ -73,15 +73,15 @@ fn is_flip_due<S: Surface>(mesh: &S, a: VertexId, b: VertexId) -> bool
 fn is_zip_due<S: Surface>(
     mesh: &S,
     kind: PassKind,
-    a: VertexId,
-    b: VertexId,
-    e: VertexId,
-    f: VertexId,
+    e: (VertexId, VertexId),
+    f: (VertexId, VertexId),
 ) -> bool
     requires { IsClosed (S.mesh mesh.now) }
-    ensures { result ≡ is_due (S.mesh mesh.now) kind (asked.Zip a b e f) }
+    ensures { result ≡ is_due (S.mesh mesh.now) kind (asked.Zip e.0 e.1 f.0 f.1) }
 {
-    are_near(mesh, a, b, e, f, limit_of(kind)) && zip_ready(mesh, a, b, e, f)
+    let (a, b) = e;
+    let (c, d) = f;
+    are_near(mesh, (a, b), (c, d), limit_of(kind)) && zip_ready(mesh, a, b, c, d)
 }
 
 /// Whether what is asked is due.
@@ -98,7 +98,7 @@ fn is_due<S: Surface>(
         Asked::Split { a, b } => Ok(is_split_due(mesh, kind, a, b)),
         Asked::Flip { a, b } => Ok(is_flip_due(mesh, a, b)),
         Asked::Collapse { a, b } => Ok(is_collapse_due(mesh, kind, a, b)),
-        Asked::Zip { a, b, e, f } => Ok(is_zip_due(mesh, kind, a, b, e, f)),
+        Asked::Zip { a, b, e, f } => Ok(is_zip_due(mesh, kind, (a, b), (e, f))),
         Asked::Pinch { v } => {
             let fans = fan_count(alloc, mesh, v)?;
             Ok(2 <= fans)
@@ -140,7 +140,8 @@ fn line_of(what: Asked, edit: Edit) -> LogLine
     }
 }
 
-/// The edit that is asked, if one is, and its line.
+/// The edit that is asked, if one is, and its line. The mesh is made ready for its check first, where what was moved since calls
+/// for it.
 pub(crate) fn line_of_call<S: Surface>(
     alloc: Global,
     mesh: &mut S,
@@ -161,6 +162,7 @@ pub(crate) fn line_of_call<S: Surface>(
     let Some(what) = &call else {
         return Ok(None);
     };
+    mesh.index();
     let edit = edit(alloc, mesh, depth, *what)?;
     Ok(Some(line_of(*what, edit)))
 }

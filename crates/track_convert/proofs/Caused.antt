@@ -12,16 +12,17 @@ use Rattle.mesh_plain.specs.Shape.{shape_fault}
 use Rattle.obj_text.specs.Obj.{Lists}
 use Rattle.log_text.specs.declared.Refusal.{Refusal}
 use Rattle.log_text.specs.declared.Refusal.TheVariants as refusal
+use Rattle.outside_io.specs.declared.stop.Stop.{Stop}
+use Rattle.outside_io.specs.declared.stop.Stop.TheVariants.{NoMemory, DeskFault, SinkFault}
 use Rattle.outside_io.specs.Desk.{Files}
+use Rattle.outside_io.specs.Outside.{HasCauses}
 use Rattle.outside_io.specs.World.{World, Contents}
 use Rattle.track_input.specs.declared.Format.{Format}
 use Rattle.track_input.specs.Source.{Source, Bytes, Absent, TooLong, IsSource}
 use Rattle.track_input.specs.Words.{MeshName}
-use Rattle.track_convert.specs.declared.fault.ConvertFault.{ConvertFault}
-use Rattle.track_convert.specs.declared.fault.ConvertFault.TheVariants.{NoMemory, DeskFault, SinkFault}
 use Rattle.track_convert.specs.Formats.{lists_in}
 use Rattle.track_convert.specs.Conversion.{Conversion, IsConversion, found_of_shape, found_of_lists, found_of_file, found_by, refusal_told}
-use Rattle.track_convert.specs.Endings.{Ends, HasCauses}
+use Rattle.track_convert.specs.Endings.{Ends}
 use Rattle.track_convert.specs.Causes.{HasLists, Cause, IsStopped, IsConvertible}
 use Rattle.track_convert.specs.Headline.{IsCaused, IsComplete, Converts}
 
@@ -72,11 +73,11 @@ module _ (c : Conversion) where
   cause_told (Some (refusal.Steps fault)) h = absurd h
   cause_told (Some (refusal.StepUse line why)) h = absurd h
 
-  alone : (ending : Option Refusal) → ending ≡ refusal_told (found_by c) → (other : Result (Option Refusal) ConvertFault) → Cause c other → ◌≡◌ {A = Result (Option Refusal) ConvertFault} (Ok ending) other ⊎ IsStopped other ⊎ IsStopped (Ok ending)
+  alone : (ending : Option Refusal) → ending ≡ refusal_told (found_by c) → (other : Result (Option Refusal) Stop) → Cause c other → ◌≡◌ {A = Result (Option Refusal) Stop} (Ok ending) other ⊎ IsStopped other ⊎ IsStopped (Ok ending)
   alone ending e (Ok told) h = inl (ap Ok (e ∙ cause_told told h))
   alone ending e (Err fault) h = inr (inl tt)
 
-  pub is_caused : (to : MeshName) (decimals : ℕ) (result : Result (Option Refusal) ConvertFault) (old new : Contents) → Ends to decimals (found_by c) result old new → IsCaused c result
+  pub is_caused : (to : MeshName) (decimals : ℕ) (result : Result (Option Refusal) Stop) (old new : Contents) → Ends to decimals (found_by c) result old new → IsCaused c result
   is_caused to decimals (Ok ending) old new ends = record {
     cause = (let P : Option Refusal → Type 0 = λ o. Cause c (Ok o) in subst P (sym ends.ending_is) (whole_cause c));
     no_other = alone ending ends.ending_is;
@@ -100,7 +101,7 @@ convertible files from decimals c is can =
     let read : lists_in c.from c.decimals can.bytes ≡ Ok can.lists = ap (λ f. lists_in f c.decimals can.bytes) is.from_is ∙ ap (λ d. lists_in from.format d can.bytes) is.decimals_are ∙ can.read in
     (can.lists, record { bytes = can.bytes; file = there; read = read }, can.good)
 
-complete : (from to : MeshName) (decimals : ℕ) (old new : World) (c : Conversion) (result : Result (Option Refusal) ConvertFault) → IsConversion old.holds.files from decimals c → Ends to decimals (found_by c) result old.holds new.holds → HasCauses old new result → IsComplete from decimals result old new
+complete : (from to : MeshName) (decimals : ℕ) (old new : World) (c : Conversion) (result : Result (Option Refusal) Stop) → IsConversion old.holds.files from decimals c → Ends to decimals (found_by c) result old.holds new.holds → HasCauses old new result → IsComplete from decimals result old new
 complete from to decimals old new c (Ok ending) is ends causes can desk sink = inl (ap Ok (ends.ending_is ∙ cause_told c None (convertible old.holds.files from decimals c is can)))
 complete from to decimals old new c (Err NoMemory) is ends causes can desk sink = inr refl
 complete from to decimals old new c (Err DeskFault) is ends causes can desk sink = absurd (desk (causes.desk_fault refl))
@@ -108,7 +109,7 @@ complete from to decimals old new c (Err SinkFault) is ends causes can desk sink
 
 -- ---- the headline
 
-pub converts : (from to : MeshName) (decimals : ℕ) (old new : World) (c : Conversion) (result : Result (Option Refusal) ConvertFault) → IsConversion old.holds.files from decimals c → Ends to decimals (found_by c) result old.holds new.holds → HasCauses old new result → Converts from to decimals result old new
+pub converts : (from to : MeshName) (decimals : ℕ) (old new : World) (c : Conversion) (result : Result (Option Refusal) Stop) → IsConversion old.holds.files from decimals c → Ends to decimals (found_by c) result old.holds new.holds → HasCauses old new result → Converts from to decimals result old new
 converts from to decimals old new c result is ends causes = record {
   conversion = c;
   is_conversion = is;

@@ -4,8 +4,8 @@ use Rattle.std.specs.declared.option.Option.{Option}
 use Rattle.mesh_base.specs.declared.FileWord.TheVariants as file
 use Rattle.log_text.specs.declared.Refusal.TheVariants as refusal
 use Rattle.outside_io.specs.Desk.{Files}
-use Rattle.track_input.specs.declared.Fetched.{Fetched}
-use Rattle.track_input.specs.declared.Fetched.TheVariants as fetched
+use Rattle.outside_io.specs.declared.outside.Fetched.{Fetched}
+use Rattle.outside_io.specs.declared.outside.Fetched.TheVariants as fetched
 use Rattle.track_input.specs.Fetched.{source_of}
 use Rattle.track_input.specs.Source.{Source, Bytes, Absent, TooLong, IsSource}
 use Rattle.track_input.specs.Words.{MeshName}

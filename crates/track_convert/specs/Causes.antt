@@ -7,10 +7,10 @@ use Rattle.mesh_plain.specs.Shape.{shape_fault}
 use Rattle.obj_text.specs.Obj.{Lists}
 use Rattle.log_text.specs.declared.Refusal.{Refusal}
 use Rattle.log_text.specs.declared.Refusal.TheVariants as refusal
+use Rattle.outside_io.specs.declared.stop.Stop.{Stop}
 use Rattle.outside_io.specs.Desk.{Files}
 use Rattle.track_input.specs.Source.{Bytes, Absent, TooLong}
 use Rattle.track_input.specs.Words.{MeshName}
-use Rattle.track_convert.specs.declared.fault.ConvertFault.{ConvertFault}
 use Rattle.track_convert.specs.Formats.{lists_in}
 use Rattle.track_convert.specs.Conversion.{Conversion}
 
@@ -21,7 +21,7 @@ pub record HasLists (c : Conversion) (lists : Lists) : Type 0 where
   pub read : lists_in c.from c.decimals bytes ≡ Ok lists
 
 -- Why a conversion has an ending. Each cause holds what must have gone well before it, so no conversion has two.
-abbrev pub Cause : Conversion → Result (Option Refusal) ConvertFault → Type 0
+abbrev pub Cause : Conversion → Result (Option Refusal) Stop → Type 0
 Cause c (Ok None) = (lists : Lists) × HasLists c lists × (shape_fault (length lists.points) lists.faces ≡ None)
 Cause c (Ok (Some (refusal.Long file.Mesh seen))) = c.source ≡ TooLong seen
 Cause c (Ok (Some (refusal.Missing file.Mesh))) = c.source ≡ Absent
@@ -33,7 +33,7 @@ Cause c (Ok (Some why)) = ⊥
 Cause c (Err fault) = Unit {0}
 
 -- the conversion was stopped before its line was whole
-abbrev pub IsStopped : Result (Option Refusal) ConvertFault → Type 0
+abbrev pub IsStopped : Result (Option Refusal) Stop → Type 0
 IsStopped (Ok ending) = ⊥
 IsStopped (Err fault) = Unit {0}
 

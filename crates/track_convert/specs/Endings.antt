@@ -1,14 +1,13 @@
 -- How a conversion ends, by what its file gave.
-use Rattle.std.specs.Prelude.{◌≡◌, ◌≤◌, ℕ, Option, Result, Ok, Err, IsErrOf}
+use Rattle.std.specs.Prelude.{◌≡◌, ℕ, Option, Result, Ok, Err}
 use Rattle.obj_text.specs.Obj.{Lists}
 use Rattle.log_text.specs.declared.Refusal.{Refusal}
-use Rattle.outside_io.specs.Causes.{Rose}
+use Rattle.outside_io.specs.declared.stop.Stop.{Stop}
+use Rattle.outside_io.specs.declared.stop.Stop.TheVariants.{NoMemory, DeskFault, SinkFault}
 use Rattle.outside_io.specs.Desk.{Files, with_file, SameBut}
 use Rattle.outside_io.specs.Sink.{appended, AppendsPart}
-use Rattle.outside_io.specs.World.{Contents, World}
+use Rattle.outside_io.specs.World.{Contents}
 use Rattle.track_input.specs.Words.{MeshName}
-use Rattle.track_convert.specs.declared.fault.ConvertFault.{ConvertFault}
-use Rattle.track_convert.specs.declared.fault.ConvertFault.TheVariants.{NoMemory, DeskFault, SinkFault}
 use Rattle.track_convert.specs.Formats.{lists_in, text_in}
 use Rattle.track_convert.specs.Conversion.{line_told, refusal_told}
 
@@ -45,15 +44,8 @@ pub record EndsAtSink (to : MeshName) (decimals : ℕ) (found : Result Lists Ref
   pub files : FilesAfter to decimals found old.files new.files
 
 -- by the ending; at want of memory nothing is written or stored
-abbrev pub Ends : MeshName → ℕ → Result Lists Refusal → Result (Option Refusal) ConvertFault → Contents → Contents → Type 0
+abbrev pub Ends : MeshName → ℕ → Result Lists Refusal → Result (Option Refusal) Stop → Contents → Contents → Type 0
 Ends to decimals found (Ok ending) old new = EndsWhole to decimals found ending old new
 Ends to decimals found (Err NoMemory) old new = new ≡ old
 Ends to decimals found (Err DeskFault) old new = EndsAtDesk to found old new
 Ends to decimals found (Err SinkFault) old new = EndsAtSink to decimals found old new
-
--- no count of faults has fallen, and at a fault the one of its side has risen
-pub record HasCauses {T : Type 0} (old new : World) (result : Result T ConvertFault) : Type 0 where
-  pub desk : old.desk_faults ≤ new.desk_faults
-  pub sink : old.sink_faults ≤ new.sink_faults
-  pub desk_fault : IsErrOf result DeskFault → Rose old.desk_faults new.desk_faults
-  pub sink_fault : IsErrOf result SinkFault → Rose old.sink_faults new.sink_faults

@@ -1,6 +1,6 @@
-ghost use Rattle.std.specs.Prelude.{◌≡◌, ◌≤◌, length, IfOk, IsErrOf};
+ghost use Rattle.std.specs.Prelude.{◌≤◌, length, IfOk};
 ghost use Rattle.grid_base.specs.declared.TheConstants.{TEXT_MAX, DECIMALS_MAX};
-ghost use Rattle.outside_io.specs.Causes.{Rose};
+ghost use Rattle.outside_io.specs.Outside.{OnlyLooks};
 ghost use Rattle.track_input.specs.Named.{mesh_name};
 ghost use Rattle.track_convert.specs.Finding.{Finds, Reads};
 
@@ -9,9 +9,9 @@ use grid_base::NoMemory;
 use line_text::ReadFault;
 use log_text::Refusal;
 use mesh_plain::{FileWord, MeshLists, ShapeRefusal, shape};
-use outside_io::Desk;
+use outside_io::{Fetched, Outside, Stop};
 use std::alloc::Global;
-use track_input::{Fetched, Format, InputFault, MeshFile, fetch_file};
+use track_input::{Format, MeshFile, fetch_text};
 
 // What a mesh file gives.
 #[derive(Drop)]
@@ -40,21 +40,19 @@ fn read_all(alloc: Global, format: Format, bytes: &[u8], decimals: u8) -> Result
     }
 }
 
-// Fetches a mesh file, reads it, the points with so many decimals, and tests the shape of its lists. The desk's files stay as they are.
-pub(crate) fn find<D: Desk>(
+// Fetches a mesh file, reads it, the points with so many decimals, and tests the shape of its lists.
+pub(crate) fn find<O: Outside>(
     alloc: Global,
     from: MeshFile<'_>,
     decimals: u8,
-    desk: &mut D,
-) -> Result<Found, InputFault>
+    outside: &mut O,
+) -> Result<Found, Stop>
     requires few { decimals ≤ DECIMALS_MAX }
-    ensures finds { IfOk result (Finds (D.files desk.old) (mesh_name from.entry) decimals) }
-    ensures kept { D.files desk.new ≡ D.files desk.old }
-    ensures later { D.faults desk.old ≤ D.faults desk.new }
-    ensures cause { IsErrOf result InputFault.DeskFault →
-        Rose (D.faults desk.old) (D.faults desk.new) }
+    ensures finds { let files = (O.around outside.old).world.holds.files in
+        IfOk result (Finds files (mesh_name from.entry) decimals) }
+    ensures looks { OnlyLooks (O.around outside.old) (O.around outside.new) result }
 {
-    let bytes = match fetch_file(alloc, desk, from.name)? {
+    let bytes = match fetch_text(alloc, outside, from.name)? {
         Fetched::Bytes(bytes) => bytes,
         Fetched::Absent => {
             return Ok(Found::No(Refusal::Missing {
@@ -68,8 +66,5 @@ pub(crate) fn find<D: Desk>(
             }));
         }
     };
-    match read_all(alloc, from.format, &bytes, decimals) {
-        Ok(found) => Ok(found),
-        Err(NoMemory) => Err(InputFault::NoMemory),
-    }
+    Ok(read_all(alloc, from.format, &bytes, decimals)?)
 }

@@ -2,9 +2,7 @@
 #![tactic(auto)]
 
 mod converting;
-mod fault;
 mod finding;
 mod formats;
 
 pub use converting::convert;
-pub use fault::ConvertFault;

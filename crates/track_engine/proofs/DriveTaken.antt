@@ -11,17 +11,16 @@ use Rattle.mesh_field.specs.Stored.{place_of}
 use Rattle.step_text.specs.declared.Directive.{Directive}
 use Rattle.step_text.specs.declared.Directive.TheVariants as directive
 use Rattle.track_engine.specs.declared.open_group.OpenGroup.{OpenGroup}
-use Rattle.track_engine.specs.declared.stop.Stop.{Stop}
+use Rattle.outside_io.specs.declared.stop.Stop.{Stop}
 use Rattle.track_engine.specs.State.{State, standing}
 use Rattle.track_engine.specs.Answers.{NoSuchField, FieldShifts, without_field}
 use Rattle.track_engine.specs.Answered.{Known, named_field, AreAnswersOf, IsAnswerOf, IsAnswer}
 use Rattle.track_engine.specs.Effects.{Effect, Proceeds, Refused, effect_of, shift_effect, sum_of_all}
-use Rattle.track_engine.specs.Invariant.{IsRunInvariant, left_by}
+use Rattle.track_engine.specs.Invariant.{left_by}
 use Rattle.track_engine.specs.Saved.{Target}
 use Rattle.track_engine.specs.Shifting.{AsksNow}
 use Rattle.track_engine.specs.World.{Contents}
 use Rattle.track_engine.specs.Parts.{Takes, TakesInPart, Advances, AdvancesAnswered}
-use Rattle.track_engine.proofs.Keeping.{kept_by_all}
 
 -- ---- which directive it is
 
@@ -82,12 +81,6 @@ module _ (fields : Known) (to : Target) (what : Directive) (which : ℕ) (named 
   pub advances_drive : (old : Contents) (r : Result (Option UseWhy) Stop) → Drives fields which s now r → AdvancesAnswered fields to what s (record s { asked = now }) old old r
   advances_drive old (Ok o) drives = (FieldShifts drives.0, is_answer drives.0 drives.1, advances_by old drives.0 o drives.2)
   advances_drive old (Err stop) drives = inl refl
-
-  pub kept_drive : (r : Result (Option UseWhy) Stop) → IsRunInvariant s → Drives fields which s now r → r ≡ Ok None → IsRunInvariant (record s { asked = now })
-  kept_drive r kept drives e =
-      let P : Result (Option UseWhy) Stop → Type 0 = λ x. Drives fields which s now x in
-      let taken : Drives fields which s now (Ok None) = subst P e drives in
-      kept_by_all taken.0 s now (Ok None) kept taken.2 refl
 
 -- ---- a directive to which no field answers
 

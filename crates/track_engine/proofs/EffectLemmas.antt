@@ -12,7 +12,7 @@ use Rattle.step_text.specs.declared.Placed.{Placed}
 use Rattle.step_text.specs.Ranges.{IsInRange, AreInRange}
 use Rattle.step_text.specs.declared.Directive.{Directive}
 use Rattle.step_text.specs.declared.Directive.TheVariants as directive
-use Rattle.track_engine.specs.declared.stop.Stop.{Stop}
+use Rattle.outside_io.specs.declared.stop.Stop.{Stop}
 use Rattle.track_engine.specs.State.{State, standing, no_shifts, still_at}
 use Rattle.step_choose.specs.declared.Settings.{Settings}
 use Rattle.outside_io.proofs.Written.{appended-nil}

@@ -46,7 +46,7 @@ use Rattle.step_text.specs.Steps.{steps_of}
 use Rattle.log_text.specs.declared.LogLine.{LogLine}
 use Rattle.log_text.specs.declared.LogLine.TheVariants.{Move, Moved, Close}
 use Rattle.log_replay.specs.Replay.{Replay, after, replayed, closed}
-use Rattle.track_engine.specs.declared.stop.Stop.{Stop}
+use Rattle.outside_io.specs.declared.stop.Stop.{Stop}
 use Rattle.track_engine.specs.Shifting.{AsksNow}
 use Rattle.edit_base.specs.declared.PassKind.{PassKind}
 use Rattle.track_engine.specs.Parts.{StepTakes, PassTakes}
@@ -250,23 +250,11 @@ keeps_shift s kept (Ok asked) well = (tt, refl, kept_with s kept asked (well ask
 keeps_shift s kept (Err why) well = tt
 
 -- what is asked from here on is asked of the same vertices
-kept_asked : (s : State) (sum : Result Shifts UseWhy) (now : Shifts) (o : Option UseWhy) → IsRunInvariant s → ((n : Shifts) → sum ≡ Ok n → AsksWell s.mesh s.asked n) → AsksNow sum now o → o ≡ None → IsRunInvariant (record s { asked = now })
-kept_asked s sum now None kept well asks e = kept_with s kept now (well now asks)
-kept_asked s sum now (Some why) kept well asks e = absurd cc
-
 one_well : (v : ℕ) (by : Shift) (s : State) (now : Shifts) → sum_of_one s.mesh v by s.asked ≡ Ok now → AsksWell s.mesh s.asked now
 one_well v by s now e = well_of_one s.mesh v by s.asked now (asked_of v s.asked) (is_solid s.mesh v) refl e
 
 all_well : (by : ℕ → Shift) (s : State) (now : Shifts) → sum_of_all s.mesh by s.asked ≡ Ok now → AsksWell s.mesh s.asked now
 all_well by s now e = well_of_all s.mesh by s.asked now (first_beyond s.mesh by s.asked) e
-
-pub kept_by_one : (v : ℕ) (by : Shift) (s : State) (now : Shifts) (o : Option UseWhy) → IsRunInvariant s → AsksNow (sum_of_one s.mesh v by s.asked) now o → o ≡ None → IsRunInvariant (record s { asked = now })
-kept_by_one v by s now o kept asks e = kept_asked s (sum_of_one s.mesh v by s.asked) now o kept (one_well v by s) asks e
-
-pub kept_by_all : (by : ℕ → Shift) (s : State) (now : Shifts) (r : Result (Option UseWhy) Stop) → IsRunInvariant s → IfOk r (AsksNow (sum_of_all s.mesh by s.asked) now) → r ≡ Ok None → IsRunInvariant (record s { asked = now })
-kept_by_all by s now r kept asks e =
-    let P : Result (Option UseWhy) Stop → Type 0 = λ x. IfOk x (AsksNow (sum_of_all s.mesh by s.asked) now) in
-    kept_asked s (sum_of_all s.mesh by s.asked) now None kept (all_well by s) (subst P e asks) refl
 
 keeps_drive : (given : Answer) (s : State) → IsRunInvariant s → KeepsEffect s (drive_effect given s)
 keeps_drive (FieldShifts by) s kept = keeps_shift s kept (sum_of_all s.mesh by s.asked) (all_well by s)
@@ -346,17 +334,6 @@ keeps_effect given directive.Close s kept = keeps_close s kept s.groups refl
 -- an effect that is taken leads to where a run stands well
 pub kept_next : (given : Answer) (what : Directive) (s next : State) (lines : List LogLine) → IsRunInvariant s → effect_of given what s ≡ Proceeds lines next → IsRunInvariant next
 kept_next given what s next lines kept goes = let P : Effect → Type 0 = λ t. KeepsEffect s t in (subst P goes (keeps_effect given what s kept)).2
-
-pub kept_stepped : (s t : State) (a b : Option (List ℕ)) (r : Result (Option UseWhy) Stop) → IsRunInvariant s → StepTakes s t a b r → r ≡ Ok None → IsRunInvariant t
-kept_stepped s t a b r kept takes e =
-    let P : Result (Option UseWhy) Stop → Type 0 = λ x. StepTakes s t a b x in
-    kept_next Nothing directive.Step s t (step_lines s) kept (subst P e takes).0
-
-pub kept_passed : (kind : PassKind) (s t : State) (a b : Option (List ℕ)) (r : Result (Option UseWhy) Stop) → IsRunInvariant s → PassTakes kind s t a b r → r ≡ Ok None → IsRunInvariant t
-kept_passed kind s t a b r kept takes e =
-    let P : Result (Option UseWhy) Stop → Type 0 = λ x. PassTakes kind s t a b x in
-    let Q : State → Type 0 = λ x. IsRunInvariant x in
-    subst Q (sym (subst P e takes).0) (kept_next Nothing (directive.Pass kind) s (after_pass kind s) (passed_lines kind s) kept refl)
 
 keeps_and_then : (line : ℕ) (s : State) (t : Effect) (next : State → ExpectedLog) → KeepsEffect s t → ((n : State) → IsRunInvariant n → LogIsSafe (standing n) (next n).lines) → LogIsSafe (standing s) (and_then line t next).lines
 keeps_and_then line s (Proceeds lines n) next k h =

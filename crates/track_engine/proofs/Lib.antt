@@ -18,9 +18,12 @@ pub mod DriveLemmas
 pub mod Keeping
 pub mod Replayed
 pub mod WritesTaken
+pub mod Saves
+pub mod Plain
 pub mod DriveTaken
 pub mod StepTaken
 pub mod Promises
 pub mod NoFields
 pub mod Limits
+pub mod Advanced
 pub mod Again

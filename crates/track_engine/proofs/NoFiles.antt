@@ -14,7 +14,7 @@ use Rattle.log_replay.specs.Replay.{Replay, after, replayed, at_mesh}
 use Rattle.step_text.specs.declared.Directive.TheVariants as directive
 use Rattle.outside_io.specs.Desk.{Files}
 use Rattle.outside_io.specs.Sink.{appended}
-use Rattle.track_engine.specs.declared.stop.Stop.{Stop}
+use Rattle.outside_io.specs.declared.stop.Stop.{Stop}
 use Rattle.track_engine.specs.State.{State, standing}
 use Rattle.track_engine.specs.Answers.{Nothing}
 use Rattle.track_engine.specs.Effects.{effect_of, Proceeds, hits, taken, moving, moved_mesh, hit_lines, block_lines, move_lines, way_lines, lines_of_step, is_whole, step_lines, after_step}

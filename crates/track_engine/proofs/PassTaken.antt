@@ -14,7 +14,7 @@ use Rattle.pass_run.specs.Said.{SaidInPart}
 use Rattle.pass_run.specs.PassLines.{lines_due, mesh_due, refused_in}
 use Rattle.log_write.specs.Written.{WrittenInPart}
 use Rattle.log_write.proofs.WrittenLines.{written_whole}
-use Rattle.track_engine.specs.declared.stop.Stop.{Stop}
+use Rattle.outside_io.specs.declared.stop.Stop.{Stop}
 use Rattle.track_engine.specs.Saved.{Target}
 use Rattle.track_engine.specs.State.{Group, State, standing, asked_in, is_open}
 use Rattle.track_engine.specs.Answers.{Nothing}

@@ -14,7 +14,7 @@ use Rattle.log_text.specs.Lines.{text_of_line}
 use Rattle.outside_io.specs.Desk.{Files}
 use Rattle.outside_io.specs.Sink.{AppendsPart}
 use Rattle.outside_io.proofs.Written.{appended-nil}
-use Rattle.track_engine.specs.declared.stop.Stop.{Stop}
+use Rattle.outside_io.specs.declared.stop.Stop.{Stop}
 use Rattle.log_text.specs.declared.Refusal.{Refusal}
 use Rattle.track_engine.specs.State.{State, standing}
 use Rattle.track_engine.specs.Effects.{ExpectedLog, Ended, Effect, Proceeds, Refused, Unanswered, effect_of, and_then, with_log, log_from, refused}
@@ -244,13 +244,20 @@ stands_last to all line told first now then old mid (Ok e) still s same =
     ap (λ (l : ExpectedLog). after (standing first) l.lines) (sym s.whole) ∙ after-append (standing first) s.done (line ∷ []) ∙ ap (λ r. replayed r line) s.replay ∙ still (standing now) ∙ ap standing (sym same)
 stands_last to all line told first now then old mid (Err stop) still s same = tt
 
--- the last line, at the state after it
-pub finished : (fields : Known) (to : Target) (line : LogLine) (told : Option Refusal) (steps : List Placed) (first now then : State) (old : Contents) (files : Option Files) (mid new : Option (List ℕ)) (r : Result (Option Refusal) Stop) → ((from : Replay) → stored (files_of to from (line ∷ [])) files ≡ files) → ((from : Replay) → replayed from line ≡ from)
+finished_at : (fields : Known) (to : Target) (line : LogLine) (told : Option Refusal) (steps : List Placed) (first now then : State) (old : Contents) (files : Option Files) (mid new : Option (List ℕ)) (r : Result (Option Refusal) Stop) → ((from : Replay) → stored (files_of to from (line ∷ [])) files ≡ files) → ((from : Replay) → replayed from line ≡ from)
     → then ≡ now → Ends fields to line told steps first now old (record { files = files; written = mid }) → Written mid new (line ∷ []) r → OnErr r (AppendsPart mid new (text_of_line line)) → IfOk r (λ e. e ≡ told)
     → FollowsAnswers fields to steps first then old (record { files = files; written = new }) r
-finished fields to line told steps first now then old files mid new r none still same ends said part is = record {
+finished_at fields to line told steps first now then old files mid new r none still same ends said part is = record {
   answers = ends.answers;
   answered = ends.answered (is_ok r);
   follows = last_said to (log_from ends.answers steps first) line told first now old files mid new r none ends.so_far said part is;
   stands = stands_last to (log_from ends.answers steps first) line told first now then old _ r still ends.so_far same;
 }
+
+-- the last line, at the state after it
+pub finished : (fields : Known) (to : Target) (line : LogLine) (told : Option Refusal) (steps : List Placed) (first now then : State) (old mid new : Contents) (r : Result (Option Refusal) Stop)
+    → ((from : Replay) → stored (files_of to from (line ∷ [])) mid.files ≡ mid.files) → ((from : Replay) → replayed from line ≡ from) → then ≡ now → Ends fields to line told steps first now old mid
+    → new.files ≡ mid.files → Written mid.written new.written (line ∷ []) r → OnErr r (AppendsPart mid.written new.written (text_of_line line)) → IfOk r (λ e. e ≡ told) → FollowsAnswers fields to steps first then old new r
+finished fields to line told steps first now then old mid new r none still same ends kept said part is =
+    let P : Option Files → Type 0 = λ f. FollowsAnswers fields to steps first then old (record { files = f; written = new.written }) r in
+    subst P (sym kept) (finished_at fields to line told steps first now then old mid.files mid.written new.written r none still same ends said part is)

@@ -13,7 +13,7 @@ use Rattle.log_text.specs.declared.LogLine.TheVariants.{Step as StepLine}
 use Rattle.log_text.specs.Lines.{text_of_lines}
 use Rattle.step_text.specs.declared.Directive.TheVariants.{Step}
 use Rattle.outside_io.specs.Sink.{appended}
-use Rattle.track_engine.specs.declared.stop.Stop.{Stop}
+use Rattle.outside_io.specs.declared.stop.Stop.{Stop}
 use Rattle.track_engine.specs.State.{Group, State}
 use Rattle.log_write.specs.Written.{WrittenInPart}
 use Rattle.log_write.proofs.WrittenLines.{written_then, written_nothing, part_then, part_more}

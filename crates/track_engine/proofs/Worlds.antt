@@ -6,7 +6,7 @@ use Rattle.log_text.specs.Lines.{text_of_lines, text_of_line}
 use Rattle.log_text.specs.declared.LogLine.{LogLine}
 use Rattle.log_text.specs.declared.LogLine.TheVariants.{Mesh as MeshLine}
 use Rattle.outside_io.specs.Desk.{Files}
-use Rattle.track_engine.specs.declared.stop.Stop.{Stop}
+use Rattle.outside_io.specs.declared.stop.Stop.{Stop}
 use Rattle.log_replay.specs.Replay.{Replay, after, replayed}
 use Rattle.track_engine.specs.Saved.{Target, files_of, file_at, stored, file_name}
 use Rattle.track_engine.specs.Effects.{ExpectedLog, CutShort, with_log}

@@ -8,15 +8,13 @@ use Rattle.log_text.specs.declared.LogLine.{LogLine}
 use Rattle.outside_io.specs.Desk.{Files}
 use Rattle.step_text.specs.declared.Directive.{Directive}
 use Rattle.step_text.specs.declared.Directive.TheVariants as directive
-use Rattle.track_engine.specs.declared.stop.Stop.{Stop}
+use Rattle.outside_io.specs.declared.stop.Stop.{Stop}
 use Rattle.track_engine.specs.State.{Group, State, standing}
 use Rattle.track_engine.specs.Effects.{Effect, Proceeds, Refused, Unanswered, effect_of, solid_effect, close_effect, kept_whole, taken_back}
 use Rattle.track_engine.specs.Answers.{Nothing}
 use Rattle.track_engine.specs.Saved.{Target}
-use Rattle.track_engine.specs.Invariant.{IsRunInvariant}
 use Rattle.track_engine.specs.Parts.{Advances, Writes}
 use Rattle.track_engine.proofs.NoFiles.{NoFiles, files_of-none, logs_from_said, stops_from_said}
-use Rattle.track_engine.proofs.Keeping.{kept_next}
 use Rattle.track_engine.proofs.Replayed.{effect_replayed}
 
 -- its lines name no file
@@ -59,13 +57,6 @@ module _ (to : Target) (s t : State) (files : Option Files) (old new : Option (L
 
   pub advances_close : Writes (effect_of Nothing directive.Close s) t old new r → Advances to (effect_of Nothing directive.Close s) s t (record { files = files; written = old }) (record { files = files; written = new }) r
   advances_close w = writes_advance to directive.Close s t files old new r (close_names s s.groups) w
-
--- the state after it is as each directive leaves it
-pub kept_written : (what : Directive) (s t : State) (old new : Option (List ℕ)) (r : Result (Option UseWhy) Stop) → IsRunInvariant s → Writes (effect_of Nothing what s) t old new r → r ≡ Ok None → IsRunInvariant t
-kept_written what s t old new r kept w e =
-    let P : Result (Option UseWhy) Stop → Type 0 = λ x. Writes (effect_of Nothing what s) t old new x in
-    let taken : Writes (effect_of Nothing what s) t old new (Ok None) = subst P e w in
-    kept_next Nothing what s t taken.0 kept taken.1
 
 -- a directive that is never refused leaves nothing to say of a refusal
 pub never_refused : (r : Result (Option UseWhy) Stop) (P : Type 0) → IfOk r (λ refused. refused ≡ None) → IfOk r (λ refused. IsSome refused → P)

@@ -9,6 +9,7 @@ pub mod Saved
 pub mod Targets
 pub mod World
 pub mod Invariant
+pub mod Ready
 pub mod Kept
 pub mod Promise
 pub mod Placing

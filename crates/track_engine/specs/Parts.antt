@@ -1,5 +1,5 @@
 -- What the parts of the engine do.
-use Rattle.std.specs.Prelude.{◌≡◌, ◌⊎◌, ℕ, List, [], ◌∷◌, Option, Some, None, Result, Ok, Err}
+use Rattle.std.specs.Prelude.{◌≡◌, ◌≤◌, ◌+◌, ◌⊎◌, ℕ, List, [], ◌∷◌, Option, Some, None, Result, Ok, Err, IfOk, IsSome}
 use Rattle.mesh_base.specs.declared.UseWhy.{UseWhy}
 use Rattle.step_text.specs.declared.Directive.{Directive}
 use Rattle.step_text.specs.declared.Directive.TheVariants.{Step}
@@ -7,8 +7,9 @@ use Rattle.edit_base.specs.declared.PassKind.{PassKind}
 use Rattle.log_text.specs.Lines.{text_of_lines}
 use Rattle.log_text.specs.declared.LogLine.{LogLine}
 use Rattle.log_replay.specs.Replay.{Replay, after}
+use Rattle.outside_io.specs.Outside.{Around, Counts, holds_of}
 use Rattle.outside_io.specs.Sink.{appended}
-use Rattle.track_engine.specs.declared.stop.Stop.{Stop}
+use Rattle.outside_io.specs.declared.stop.Stop.{Stop}
 use Rattle.track_engine.specs.State.{State, standing}
 use Rattle.track_engine.specs.Answers.{Answer, Nothing}
 use Rattle.track_engine.specs.Answered.{Known, IsAnswer}
@@ -48,6 +49,15 @@ AdvancesAnswered fields to what old_state new_state old new (Ok refused) =
     (given : Answer) × IsAnswer fields old_state.mesh what given × Advances to (effect_of given what old_state) old_state new_state old new (Ok refused)
 AdvancesAnswered fields to what old_state new_state old new (Err stop) =
     (new ≡ old) ⊎ ((given : Answer) × IsAnswer fields old_state.mesh what given × TakesInPart stop to (effect_of given what old_state) old_state old new)
+
+-- What a directive does, as the fields answer: its effect is taken, or refused with nothing done, or it stops in its lines. At most one
+-- step more was taken by one that is taken, and one mesh more saved.
+pub record HasAdvanced (fields : Known) (to : Target) (what : Directive) (s t : State) (old new : Around) (result : Result (Option UseWhy) Stop) : Type 0 where
+  pub advances : AdvancesAnswered fields to what s t (holds_of old) (holds_of new) result
+  pub left : IfOk result (λ refused. IsSome refused → t ≡ s)
+  pub steps : result ≡ Ok None → t.steps ≤ s.steps + 1
+  pub saved : result ≡ Ok None → t.saved ≤ s.saved + 1
+  pub counts : Counts old new result
 
 -- a directive that stores nothing, by what it writes
 abbrev pub Writes : Effect → State → Option (List ℕ) → Option (List ℕ) → Result (Option UseWhy) Stop → Type 0

@@ -1,16 +1,15 @@
 -- What the engine does to a sink and a desk.
-use Rattle.std.specs.Prelude.{◌≡◌, ◌≢◌, ◌≤◌, ◌⊎◌, ℕ, List, [], ◌∷◌, ◌++◌, Option, Result, Ok, Err, IsErrOf}
+use Rattle.std.specs.Prelude.{◌≡◌, ◌≢◌, ◌⊎◌, ℕ, List, [], ◌∷◌, ◌++◌, Option, Result, Ok, Err}
 use Rattle.log_text.specs.Lines.{text_of_lines}
 use Rattle.log_text.specs.declared.LogLine.{LogLine}
 use Rattle.log_text.specs.declared.LogLine.TheVariants.{Mesh as MeshLine}
 use Rattle.log_text.specs.declared.Refusal.{Refusal}
 use Rattle.log_replay.specs.Replay.{Replay}
-use Rattle.outside_io.specs.Causes.{Rose}
 use Rattle.outside_io.specs.Sink.{appended}
 use Rattle.outside_io.specs.Desk.{Files, SameBut}
 pub use Rattle.outside_io.specs.World.{Contents, contents, World, world}
-use Rattle.track_engine.specs.declared.stop.Stop.{Stop}
-use Rattle.track_engine.specs.declared.stop.Stop.TheVariants.{NoMemory, DeskFault, SinkFault}
+use Rattle.outside_io.specs.declared.stop.Stop.{Stop}
+use Rattle.outside_io.specs.declared.stop.Stop.TheVariants.{NoMemory, DeskFault, SinkFault}
 use Rattle.log_write.specs.Written.{WrittenInPart}
 use Rattle.track_engine.specs.Saved.{Target, files_of, file_name, stored}
 use Rattle.track_engine.specs.Effects.{ExpectedLog, Ended, CutShort}
@@ -46,13 +45,6 @@ pub record StopsIn (stop : Stop) (to : Target) (from : Replay) (lines : List Log
 pub record StopsShort (stop : Stop) (to : Target) (from : Replay) (expected : ExpectedLog) (old new : Contents) : Type 0 where
   pub in_part : StopsIn stop to from expected.lines old new
   pub left : (in_part.text.rest ≢ []) ⊎ (expected.ending ≡ CutShort)
-
--- the counts of faults have not fallen, and at a fault the one of its side has risen
-pub record HasCauses {T : Type 0} (old new : World) (result : Result T Stop) : Type 0 where
-  pub desk : old.desk_faults ≤ new.desk_faults
-  pub out : old.sink_faults ≤ new.sink_faults
-  pub desk_fault : IsErrOf result DeskFault → Rose old.desk_faults new.desk_faults
-  pub sink_fault : IsErrOf result SinkFault → Rose old.sink_faults new.sink_faults
 
 -- A part of a run writes the lines that are expected, to a last one, and stores their meshes, or it is stopped before the end.
 abbrev pub Follows : Target → Replay → ExpectedLog → Contents → Contents → Result (Option Refusal) Stop → Type 0

@@ -7,13 +7,13 @@ ghost use Rattle.track_engine.specs.Answered.{named_field, IsAnswerAt, AreAnswer
 ghost use Rattle.track_engine.specs.Effects.{sum_of_all};
 ghost use Rattle.track_engine.specs.Shifting.{Sums, AsksNow};
 
-use crate::run_state::RunState;
+use crate::engine::Engine;
 use crate::shifting::summed_unless_solid;
-use crate::stop::Stop;
 use grid_base::{NO_SHIFT, NoMemory, Point, Shift};
 use mesh_base::point_of;
 use mesh_field::Fields;
 use mesh_plain::{ShiftOf, Shifts, Surface, UseWhy, VertexId};
+use outside_io::Stop;
 use std::alloc::Global;
 use step_text::Directive;
 
@@ -79,30 +79,33 @@ fn all_driven<S: Surface, F: Fn(u8, Point) -> Shift>(
     }
 }
 
-/// The answers of a field are added to what is asked of each vertex that is not solid. No line is written.
-pub(crate) fn drive<S: Surface, F: Fn(u8, Point) -> Shift>(
-    alloc: Global,
-    mesh: &S,
-    run: &mut RunState,
-    fields: &Fields<F>,
-    which: u8,
-) -> Result<Option<UseWhy>, Stop>
-    requires there { which < length fields.now.names }
-    requires kept { IsWellKept F.Fn fields.now }
-    requires named { NameLive (S.mesh mesh.now) run.old.asked }
-    ensures asks { IfOk result (λ refused. (by : ℕ → Shift)
-        × AreAnswersOf (MayAnswer F.Fn fields.now which) (S.mesh mesh.now) by
-        × AsksNow (sum_of_all (S.mesh mesh.now) by run.old.asked) run.new.asked refused) }
-    ensures rest { run.new ≡ record run.old { asked = run.new.asked } }
-    ensures left { IfOk result (λ refused. IsSome refused → run.new ≡ run.old) }
-    ensures stops { IfErr result (λ stop. stop ≡ Stop.NoMemory) }
-{
-    match all_driven(alloc, mesh, run.asked.as_slice(), fields, which) {
-        Err(_) => Err(Stop::NoMemory),
-        Ok(Err(v)) => Ok(Some(UseWhy::ShiftRange { v: v.0 })),
-        Ok(Ok(asked)) => {
-            run.asked = asked;
-            Ok(None)
+impl<S: Surface> Engine<S> {
+    /// The answers of a field are added to what is asked of each vertex that is not solid. No line is written.
+    pub(crate) fn drive<F: Fn(u8, Point) -> Shift>(
+        &mut self,
+        alloc: Global,
+        fields: &Fields<F>,
+        which: u8,
+    ) -> Result<Option<UseWhy>, Stop>
+        requires there { which < length fields.now.names }
+        requires kept { IsWellKept F.Fn fields.now }
+        requires named { NameLive (S.mesh self.old.mesh) self.old.run.asked }
+        ensures asks { IfOk result (λ refused. (by : ℕ → Shift)
+            × AreAnswersOf (MayAnswer F.Fn fields.now which) (S.mesh self.old.mesh) by
+            × AsksNow (sum_of_all (S.mesh self.old.mesh) by self.old.run.asked)
+            self.new.run.asked refused) }
+        ensures rest { let run = record self.old.run { asked = self.new.run.asked } in
+            self.new ≡ record self.old { run = run } }
+        ensures left { IfOk result (λ refused. IsSome refused → self.new ≡ self.old) }
+        ensures stops { IfErr result (λ stop. stop ≡ Stop.NoMemory) }
+    {
+        match all_driven(alloc, &self.mesh, self.run.asked.as_slice(), fields, which) {
+            Err(_) => Err(Stop::NoMemory),
+            Ok(Err(v)) => Ok(Some(UseWhy::ShiftRange { v: v.0 })),
+            Ok(Ok(asked)) => {
+                self.run.asked = asked;
+                Ok(None)
+            }
         }
     }
 }

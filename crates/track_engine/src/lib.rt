@@ -20,13 +20,13 @@ mod saving;
 mod shifting;
 mod solids;
 mod stepping;
-mod stop;
 mod target;
+mod terms;
 
 pub use engine::Engine;
-pub use lines::{finish, say};
+pub use lines::finish;
 pub use open_group::OpenGroup;
 pub use open_groups::OpenGroups;
 pub use run_state::RunState;
-pub use stop::Stop;
 pub use target::Target;
+pub use terms::RunTerms;

@@ -1,21 +1,23 @@
 ghost use Rattle.grid_base.specs.declared.TheConstants.{DECIMALS_MAX};
-ghost use Rattle.std.specs.Prelude.{◌≡◌, ◌≤◌, List, drop, codes, IfOk, string_bytes};
-ghost use Rattle.track_engine.specs.Targets.{target_of};
-ghost use Rattle.track_engine.specs.Saved.{file_name};
-ghost use Rattle.track_engine.specs.World.{contents, world, HasCauses};
-ghost use Rattle.mesh_base.specs.Mesh.{Mesh};
-ghost use Rattle.log_replay.specs.Replay.{at_mesh_in_groups};
+ghost use Rattle.std.specs.Prelude.{◌≡◌, ◌≤◌, ◌<◌, ◌+◌, ◌^◌, drop, codes, IfOk, OnOk, OnErr, string_bytes};
+ghost use Rattle.outside_io.specs.Outside.{Counts, holds_of};
+ghost use Rattle.track_engine.specs.Effects.{mesh_line};
+ghost use Rattle.track_engine.specs.Engines.{state_in};
 ghost use Rattle.track_engine.specs.Parts.{Saves};
+ghost use Rattle.track_engine.specs.Saved.{file_name};
+ghost use Rattle.track_engine.specs.State.{standing};
+ghost use Rattle.track_engine.specs.Targets.{target_of};
 
-use crate::lines::say;
-use crate::stop::Stop;
+use crate::engine::Engine;
 use crate::target::Target;
+use grid_base::NoMemory;
 use itoa::Buffer;
 use log_text::LogLine;
+use log_write::write_line;
 use mesh_plain::Surface;
 use obj_text::obj_of;
-use outside_io::{Desk, Sink, StoreFault};
-use std::alloc::{AllocError, Global};
+use outside_io::{Outside, Stop};
+use std::alloc::Global;
 
 // What stands before digits that are fewer than six.
 fn zeros(count: usize) -> &'static str
@@ -33,7 +35,7 @@ fn zeros(count: usize) -> &'static str
 }
 
 // The name of the file of a mesh.
-fn name_of(alloc: Global, prefix: &str, k: u32) -> Result<String, AllocError>
+fn name_of(alloc: Global, prefix: &str, k: u32) -> Result<String, NoMemory>
     ensures { IfOk result (λ name. string_bytes name ≡ file_name prefix.now k) }
 {
     let mut buffer = Buffer::new();
@@ -46,40 +48,42 @@ fn name_of(alloc: Global, prefix: &str, k: u32) -> Result<String, AllocError>
     Ok(name)
 }
 
-/// Writes the line of mesh `k`, and then stores the mesh.
-pub(crate) fn save<S: Surface, D: Desk, K: Sink>(
-    alloc: Global,
-    to: Target<'_>,
-    k: u32,
-    mesh: &S,
-    desk: &mut D,
-    out: &mut K,
-) -> Result<(), Stop>
-    requires { to.decimals ≤ DECIMALS_MAX }
-    ensures saves { (stack : List Mesh) →
-        Saves (target_of to.entry) k (at_mesh_in_groups (S.mesh mesh.now) stack)
-        (contents D.files K.written desk.old out.old)
-        (contents D.files K.written desk.new out.new) result }
-    ensures causes { HasCauses (world D.files D.faults K.written K.faults desk.old out.old)
-        (world D.files D.faults K.written K.faults desk.new out.new) result }
-{
-    let text = match obj_of(alloc, mesh, to.decimals) {
-        Ok(text) => text,
-        Err(_) => return Err(Stop::NoMemory),
-    };
-    let name = match name_of(alloc, to.prefix, k) {
-        Ok(name) => name,
-        Err(_) => return Err(Stop::NoMemory),
-    };
-    let line = LogLine::Mesh {
-        k,
-        vertices: mesh.vertices(),
-        faces: mesh.faces(),
-    };
-    say(alloc, out, &line)?;
-    match desk.store(&name, &text) {
-        Ok(()) => Ok(()),
-        Err(StoreFault::NoMemory) => Err(Stop::NoMemory),
-        Err(StoreFault::Failed) => Err(Stop::DeskFault),
+impl<S: Surface> Engine<S> {
+    // The line of the mesh.
+    fn mesh_line(&self) -> LogLine
+        ensures { result ≡ mesh_line self.now.run.saved (S.mesh self.now.mesh) }
+    {
+        LogLine::Mesh {
+            k: self.run.saved,
+            vertices: self.mesh.vertices(),
+            faces: self.mesh.faces(),
+        }
+    }
+
+    /// Saves the mesh: its line is written, and then the mesh is stored. After Ok, one mesh more is saved.
+    pub fn save<O: Outside>(
+        &mut self,
+        alloc: Global,
+        to: Target<'_>,
+        outside: &mut O,
+    ) -> Result<(), Stop>
+        requires few { to.decimals ≤ DECIMALS_MAX }
+        requires room { self.old.run.saved + 1 < 2 ^ 32 }
+        ensures saves { let from = standing (state_in S.mesh S.kept self.old) in
+            Saves (target_of to.entry) self.old.run.saved from
+            (holds_of (O.around outside.old)) (holds_of (O.around outside.new)) result }
+        ensures state { let old = state_in S.mesh S.kept self.old in
+            OnOk result (state_in S.mesh S.kept self.new ≡ record old { saved = old.saved + 1 }) }
+        ensures rest { (self.new.mesh ≡ self.old.mesh)
+            × (self.new.run.groups ≡ self.old.run.groups) }
+        ensures left { OnErr result (self.new ≡ self.old) }
+        ensures counts { Counts (O.around outside.old) (O.around outside.new) result }
+    {
+        let text = obj_of(alloc, &self.mesh, to.decimals)?;
+        let name = name_of(alloc, to.prefix, self.run.saved)?;
+        write_line(alloc, outside, &self.mesh_line())?;
+        outside.store(&name, &text)?;
+        self.run.saved += 1;
+        Ok(())
     }
 }

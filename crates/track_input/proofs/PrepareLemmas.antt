@@ -4,8 +4,8 @@ use Rattle.std.specs.declared.option.Option.{Option}
 use Rattle.mesh_base.specs.declared.FileWord.TheVariants as file
 use Rattle.log_text.specs.declared.Refusal.TheVariants as refusal
 use Rattle.outside_io.specs.Desk.{Files}
-use Rattle.track_input.specs.declared.fetching.Fetched.{Fetched}
-use Rattle.track_input.specs.declared.fetching.Fetched.TheVariants as found
+use Rattle.outside_io.specs.declared.outside.Fetched.{Fetched}
+use Rattle.outside_io.specs.declared.outside.Fetched.TheVariants as found
 use Rattle.track_input.specs.declared.reading.Ready.{Ready}
 use Rattle.track_input.specs.declared.reading.Ready.TheVariants as ready
 use Rattle.track_input.specs.Fetched.{source_of}

@@ -1,6 +1,6 @@
 -- What a fetch found.
-use Rattle.track_input.specs.declared.fetching.Fetched.{Fetched}
-use Rattle.track_input.specs.declared.fetching.Fetched.TheVariants as found
+use Rattle.outside_io.specs.declared.outside.Fetched.{Fetched}
+use Rattle.outside_io.specs.declared.outside.Fetched.TheVariants as found
 use Rattle.track_input.specs.Source.{Source, Bytes, Absent, TooLong}
 
 abbrev pub source_of : Fetched → Source

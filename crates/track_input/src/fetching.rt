@@ -1,38 +1,17 @@
-ghost use Rattle.std.specs.Prelude.{◌≡◌, ◌≤◌, IfOk, IsErrOf};
-ghost use Rattle.outside_io.specs.Causes.{Rose};
-ghost use Rattle.track_input.specs.Source.{IsSource};
+ghost use Rattle.std.specs.Prelude.{IfOk};
+ghost use Rattle.outside_io.specs.Outside.{OnlyLooks};
 ghost use Rattle.track_input.specs.Fetched.{source_of};
+ghost use Rattle.track_input.specs.Source.{IsSource};
 
-use crate::fault::InputFault;
 use grid_base::TEXT_MAX;
-use outside_io::{Desk, FetchFault};
+use outside_io::{Fetched, Outside, Stop};
 use std::alloc::Global;
 
-/// What a desk answered.
-#[derive(Drop)]
-pub enum Fetched {
-    /// The bytes of the file, no more than a text may have.
-    Bytes(Vec<u8>),
-    /// There is no such file.
-    Absent,
-    /// The file is longer than a text may be; so many bytes of it were seen.
-    TooLong(u64),
-}
-
-/// Fetches a file of at most the greatest length of a text. The desk's files stay as they are.
-pub fn fetch_file<D: Desk>(alloc: Global, desk: &mut D, name: &str) -> Result<Fetched, InputFault>
-    ensures source { IfOk result (λ found. IsSource (D.files desk.old) name.now (source_of found)) }
-    ensures kept { D.files desk.new ≡ D.files desk.old }
-    ensures later { D.faults desk.old ≤ D.faults desk.new }
-    ensures cause { IsErrOf result InputFault.DeskFault →
-        Rose (D.faults desk.old) (D.faults desk.new) }
+/// Fetches a file of at most the greatest length of a text.
+pub fn fetch_text<O: Outside>(alloc: Global, outside: &mut O, name: &str) -> Result<Fetched, Stop>
+    ensures source { let files = (O.around outside.old).world.holds.files in
+        IfOk result (λ found. IsSource files name.now (source_of found)) }
+    ensures looks { OnlyLooks (O.around outside.old) (O.around outside.new) result }
 {
-    let mut bytes = Vec::new(alloc);
-    match desk.fetch(name, TEXT_MAX, &mut bytes) {
-        Ok(()) => Ok(Fetched::Bytes(bytes)),
-        Err(FetchFault::Missing) => Ok(Fetched::Absent),
-        Err(FetchFault::TooLong { seen }) => Ok(Fetched::TooLong(seen)),
-        Err(FetchFault::NoMemory) => Err(InputFault::NoMemory),
-        Err(FetchFault::Failed) => Err(InputFault::DeskFault),
-    }
+    outside.fetch(alloc, name, TEXT_MAX)
 }

@@ -3,14 +3,12 @@
 #![tactic(auto)]
 
 mod command;
-mod fault;
 mod fetching;
 mod mesh_file;
 mod reading;
 mod taking;
 
 pub use command::{CUBES_MAX, Command, command_of};
-pub use fault::InputFault;
-pub use fetching::{Fetched, fetch_file};
+pub use fetching::fetch_text;
 pub use mesh_file::{Format, MeshFile};
 pub use reading::{Ready, prepare};

@@ -1,16 +1,15 @@
-ghost use Rattle.std.specs.Prelude.{◌≡◌, ◌≤◌, length, IfOk, IsErrOf};
+ghost use Rattle.std.specs.Prelude.{◌≤◌, length, IfOk};
 ghost use Rattle.grid_base.specs.declared.TheConstants.{TEXT_MAX, DECIMALS_MAX};
-ghost use Rattle.outside_io.specs.Causes.{Rose};
+ghost use Rattle.outside_io.specs.Outside.{OnlyLooks};
 ghost use Rattle.track_input.specs.Reading.{Prepares, Reads};
 
-use crate::fault::InputFault;
-use crate::fetching::{Fetched, fetch_file};
+use crate::fetching::fetch_text;
 use grid_base::NoMemory;
 use line_text::ReadFault;
 use log_text::Refusal;
 use mesh_plain::{FileWord, MeshLists, ShapeRefusal, shape};
 use obj_text::read_obj;
-use outside_io::Desk;
+use outside_io::{Fetched, Outside, Stop};
 use std::alloc::Global;
 use step_text::{Directives, read_steps};
 
@@ -48,23 +47,20 @@ fn read_all(alloc: Global, decimals: u8, mesh: &[u8], steps: &[u8]) -> Result<Re
 }
 
 /// Fetches and reads a mesh file and a step file, the points with so many decimals. Both files are fetched before a text is read, the
-/// mesh file first. The desk's files stay as they are.
-pub fn prepare<D: Desk>(
+/// mesh file first. Nothing is written or stored.
+pub fn prepare<O: Outside>(
     alloc: Global,
     mesh_name: &str,
     step_name: &str,
     decimals: u8,
-    desk: &mut D,
-) -> Result<Ready, InputFault>
+    outside: &mut O,
+) -> Result<Ready, Stop>
     requires few { decimals ≤ DECIMALS_MAX }
-    ensures prepares { IfOk result
-        (Prepares (D.files desk.old) mesh_name.now step_name.now decimals) }
-    ensures kept { D.files desk.new ≡ D.files desk.old }
-    ensures later { D.faults desk.old ≤ D.faults desk.new }
-    ensures cause { IsErrOf result InputFault.DeskFault →
-        Rose (D.faults desk.old) (D.faults desk.new) }
+    ensures prepares { let files = (O.around outside.old).world.holds.files in
+        IfOk result (Prepares files mesh_name.now step_name.now decimals) }
+    ensures looks { OnlyLooks (O.around outside.old) (O.around outside.new) result }
 {
-    let mesh = match fetch_file(alloc, desk, mesh_name)? {
+    let mesh = match fetch_text(alloc, outside, mesh_name)? {
         Fetched::Bytes(bytes) => bytes,
         Fetched::Absent => {
             return Ok(Ready::No(Refusal::Missing {
@@ -78,7 +74,7 @@ pub fn prepare<D: Desk>(
             }));
         }
     };
-    let steps = match fetch_file(alloc, desk, step_name)? {
+    let steps = match fetch_text(alloc, outside, step_name)? {
         Fetched::Bytes(bytes) => bytes,
         Fetched::Absent => {
             return Ok(Ready::No(Refusal::Missing {
@@ -92,8 +88,5 @@ pub fn prepare<D: Desk>(
             }));
         }
     };
-    match read_all(alloc, decimals, &mesh, &steps) {
-        Ok(ready) => Ok(ready),
-        Err(NoMemory) => Err(InputFault::NoMemory),
-    }
+    Ok(read_all(alloc, decimals, &mesh, &steps)?)
 }

@@ -1,9 +1,7 @@
 -- Where a run stands between two directives.
-use Rattle.std.proofs.Common.{◌≡◌, ℕ, List, [], ◌∷◌, ◌++◌, length, map, Option, Some, None, Result, Ok, Err, refl, ap, sym, ◌∙◌, subst, append_assoc}
+use Rattle.std.proofs.Common.{◌≡◌, ℕ, List, [], ◌∷◌, ◌++◌, length, map, None, ap, sym, ◌∙◌, subst, append_assoc}
 use Rattle.std.proofs.lemmas.List.{length-map}
 use Rattle.grid_base.specs.Points.{point_at}
-use Rattle.mesh_base.specs.declared.UseWhy.{UseWhy}
-use Rattle.mesh_base.specs.Shifts.{Shifts}
 use Rattle.mesh_base.specs.Mesh.{Mesh}
 use Rattle.mesh_plain.specs.Shape.{shape_fault}
 use Rattle.mesh_plain.proofs.Lists.{sound-mesh_of}
@@ -12,8 +10,6 @@ use Rattle.step_choose.specs.Settings.{AreWithinLimits}
 use Rattle.step_text.specs.declared.Placed.{Placed}
 use Rattle.step_text.specs.Ranges.{AreInRange}
 use Rattle.step_text.proofs.StepLaws.{steps_are_in_range_lem}
-use Rattle.step_text.specs.declared.Directive.{Directive}
-use Rattle.step_text.specs.declared.Directive.TheVariants as directive
 use Rattle.obj_text.specs.Obj.{Lists}
 use Rattle.log_text.specs.declared.LogLine.{LogLine}
 use Rattle.log_text.specs.declared.LogLine.TheVariants.{First}
@@ -21,7 +17,7 @@ use Rattle.log_replay.specs.Replay.{after, at_mesh}
 use Rattle.mesh_base.specs.Valid.{IsValidSurface}
 use Rattle.track_engine.specs.State.{State, start, standing}
 use Rattle.track_engine.specs.Answers.{Answers, first, later}
-use Rattle.track_engine.specs.Effects.{Effect, Proceeds, Refused, ExpectedLog, effect_of, mesh_line, and_then, log_from, shift_effect, step_effect, sum_of_one, sum_of_all, first_outside}
+use Rattle.track_engine.specs.Effects.{ExpectedLog, mesh_line, and_then, log_from}
 use Rattle.log_text.specs.declared.TheConstants.{VERSION}
 use Rattle.track_input.specs.Job.{Job, mesh_of_lists, mesh_in, mesh_read}
 use Rattle.track_run.specs.Causes.{HasLists, Reaches, answers_after}

@@ -1,25 +1,22 @@
 -- A run of a job of which nothing is refused is done, or finds no memory, where neither side fails.
-use Rattle.std.proofs.Common.{◌≡◌, ◌⊎◌, ℕ, List, Bool, true, Option, Some, None, Result, Ok, Err, is_ok, refl, ap, sym, ◌∙◌, subst, inl, inr, ◌+◌}
+use Rattle.std.proofs.Common.{◌≡◌, ◌⊎◌, ℕ, List, true, Option, Result, Ok, Err, is_ok, refl, ap, ◌∙◌, subst, inl, inr}
 use Rattle.obj_text.specs.Obj.{Lists}
 use Rattle.step_text.specs.declared.Placed.{Placed}
 use Rattle.log_text.specs.declared.Refusal.{Refusal}
 use Rattle.track_input.specs.Source.{Bytes}
 use Rattle.track_input.specs.Job.{Job, Input, input_of, input_of_files, input_of_lists, input_of_shape, input_of_steps, mesh_of_lists}
-use Rattle.track_engine.specs.declared.stop.Stop.{Stop}
-use Rattle.track_engine.specs.declared.stop.Stop.TheVariants as stop
+use Rattle.outside_io.specs.declared.stop.Stop.{Stop}
+use Rattle.outside_io.specs.declared.stop.Stop.TheVariants as stop
 use Rattle.track_engine.specs.State.{start}
-use Rattle.track_engine.specs.Answers.{Answers}
 use Rattle.track_engine.specs.Answered.{Known, AreAnswered}
 use Rattle.track_engine.specs.Saved.{Target}
 use Rattle.track_engine.specs.World.{World}
 use Rattle.track_run.specs.declared.outcome.Outcome.{Outcome}
 use Rattle.track_run.specs.declared.outcome.Outcome.TheVariants as outcome
 use Rattle.track_run.specs.Answered.{IsInputAnswered}
-use Rattle.track_try.specs.declared.TryFault.{TryFault}
-use Rattle.track_try.specs.declared.TryFault.TheVariants as fault
 use Rattle.track_run.specs.Outcomes.{outcome_from, outcome_of_try}
 use Rattle.track_run.specs.Causes.{Cause, IsStopped, HasClear}
-use Rattle.track_run.specs.Headline.{TracksCommand, TriesCommand}
+use Rattle.track_run.specs.Headline.{TracksCommand}
 use Rattle.track_run.specs.Complete.{IsLawful, NoneFailed, LawfulJobsAreDone, TriesAreDone}
 
 -- what a job gives whose files are read without a fault
@@ -92,9 +89,10 @@ lawful_jobs_are_done = ends_well
 -- ---- a try
 
 pub tries_are_done : TriesAreDone
-tries_are_done cubes key result old new run none = by_end run.ended run.outcome_is
+tries_are_done cubes key result old new run none = by_end run.ended run.outcome_is run.no_desk
   where
-    by_end : (ended : Result (Unit {0}) TryFault) → result ≡ outcome_of_try ended → (result ≡ outcome.Done) ⊎ (result ≡ outcome.NoMemory)
-    by_end (Ok done) is = inl is
-    by_end (Err fault.NoMemory) is = inr is
-    by_end (Err fault.SinkFault) is = absurd (none (run.sink_fault is))
+    by_end : (ended : Result (Unit {0}) Stop) → result ≡ outcome_of_try ended → (ended ≡ Err stop.DeskFault → ⊥) → (result ≡ outcome.Done) ⊎ (result ≡ outcome.NoMemory)
+    by_end (Ok done) is no_desk = inl is
+    by_end (Err stop.NoMemory) is no_desk = inr is
+    by_end (Err stop.DeskFault) is no_desk = absurd (no_desk refl)
+    by_end (Err stop.SinkFault) is no_desk = absurd (none (run.sink_fault is))

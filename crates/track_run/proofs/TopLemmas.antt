@@ -1,15 +1,13 @@
 -- The whole of a run from its parts.
-use Rattle.std.proofs.Common.{◌≡◌, ℕ, ◌+◌, ◌<◌, ◌≤◌, ◌^◌, List, [], ◌∷◌, refl, ap, sym, ◌∙◌, subst, length, IfOk, OnOk, OnErr, Result, Ok, Err, inl, inr, false, is_ok}
-use Rattle.std.specs.Prelude.{◌⊎◌, IfSome, IsErrOf, option_map}
+use Rattle.std.proofs.Common.{◌≡◌, ℕ, ◌+◌, ◌≤◌, List, [], ◌∷◌, refl, ap, sym, ◌∙◌, subst, IfOk, OnOk, OnErr, Result, Ok, Err, inl, inr, false, is_ok}
+use Rattle.std.specs.Prelude.{◌⊎◌, IfSome, option_map}
 use Rattle.std.specs.declared.option.Option.{Option}
 use Rattle.std.specs.declared.option.Option.TheVariants.{None, Some}
 use Rattle.mesh_base.specs.declared.PairName.{PairName}
 use Rattle.mesh_base.specs.Mesh.{Mesh}
-use Rattle.mesh_base.specs.Valid.{IsValidSurface}
 use Rattle.mesh_base.specs.declared.MeshLists.{MeshLists}
 use Rattle.step_text.specs.declared.Placed.{Placed}
-use Rattle.step_text.specs.Ranges.{AreInRange}
-use Rattle.log_text.specs.Lines.{text_of_lines, text_of_line}
+use Rattle.log_text.specs.Lines.{text_of_line}
 use Rattle.log_text.specs.declared.TheConstants.{VERSION}
 use Rattle.log_text.specs.declared.Refusal.{Refusal}
 use Rattle.log_text.specs.declared.Refusal.TheVariants as refusal
@@ -17,8 +15,9 @@ use Rattle.log_text.specs.declared.LogLine.TheVariants.{First, Refused as Refuse
 use Rattle.log_replay.specs.Replay.{Replay, at_mesh}
 use Rattle.outside_io.specs.Causes.{Rose}
 use Rattle.outside_io.specs.Desk.{Files}
+use Rattle.outside_io.specs.Outside.{Around, HasCauses, OnlyLooks, StoresNothing, holds_of, written_of}
 use Rattle.outside_io.specs.Sink.{appended, AppendsPart}
-use Rattle.log_write.specs.Written.{Written}
+use Rattle.log_write.specs.Written.{Says, Written}
 use Rattle.mesh_make.specs.Cubes.{IsRow}
 use Rattle.track_input.specs.declared.command.TheConstants.{CUBES_MAX}
 use Rattle.track_input.specs.declared.command.Command.{Command}
@@ -27,26 +26,23 @@ use Rattle.track_input.specs.Taken.{IsReading}
 use Rattle.track_input.specs.Named.{named_by, IsInLimits}
 use Rattle.track_input.specs.declared.reading.Ready.{Ready}
 use Rattle.track_input.specs.declared.reading.Ready.TheVariants as ready
-use Rattle.track_input.specs.Job.{Job, IsJob, Input, input_of, mesh_of_lists, met_first}
-use Rattle.track_input.specs.Reading.{Prepares, IsReadyAt, given, input_by}
+use Rattle.track_input.specs.Job.{Job, IsJob, Input, input_of, mesh_of_job, mesh_of_lists, met_first}
+use Rattle.track_input.specs.Reading.{Prepares, IsReady, given, input_by}
 use Rattle.track_input.proofs.Sources.{some_source}
 use Rattle.track_input.proofs.ReadLemmas.{same_mesh}
-use Rattle.track_try.specs.declared.TryFault.{TryFault}
-use Rattle.track_try.specs.declared.TryFault.TheVariants as tried
 use Rattle.track_try.specs.Summary.{summary_of}
-use Rattle.track_engine.specs.declared.stop.Stop.{Stop}
-use Rattle.track_engine.specs.declared.stop.Stop.TheVariants as stop
+use Rattle.outside_io.specs.declared.stop.Stop.{Stop}
+use Rattle.outside_io.specs.declared.stop.Stop.TheVariants as stop
 use Rattle.track_engine.specs.State.{State, start, unsaved, standing}
 use Rattle.track_engine.specs.Answers.{Answers}
 use Rattle.track_engine.specs.Answered.{Known, AreAnswered, FollowsAnswers}
 use Rattle.track_engine.specs.Effects.{ExpectedLog, Ending, Ended, CutShort, log_from, log_of_mesh, mesh_line, refused}
 use Rattle.track_engine.specs.Saved.{Target}
-use Rattle.track_engine.specs.Invariant.{IsRunInvariant}
-use Rattle.track_engine.specs.World.{World, Contents, Logs, StopsIn, StopsShort, Follows, HasCauses}
+use Rattle.outside_io.specs.World.{world}
+use Rattle.track_engine.specs.World.{World, Contents, Logs, StopsIn, StopsShort, Follows}
 use Rattle.track_engine.proofs.Worlds.{logs_then, short_then, short_more, short_nothing, short_line}
 use Rattle.track_engine.proofs.Remaining.{log_left}
 use Rattle.track_engine.proofs.SoFars.{none_answered}
-use Rattle.track_engine.proofs.Keeping.{kept_start}
 use Rattle.track_engine.proofs.Replayed.{effect_replayed}
 use Rattle.track_engine.proofs.Promises.{step_is_told}
 use Rattle.track_run.specs.declared.outcome.Outcome.{Outcome}
@@ -55,12 +51,16 @@ use Rattle.track_run.specs.Outcomes.{outcome_of, outcome_at, outcome_from, outco
 use Rattle.track_run.specs.Job.{log_of, log_of_input, log_of_test, replay_of}
 use Rattle.track_run.specs.Answered.{IsInputAnswered, FollowsMesh, FollowsTest}
 use Rattle.track_run.specs.Causes.{Cause, IsStopped}
-use Rattle.track_run.specs.Headline.{TracksJob, TracksCommand, TriesCommand, Runs, RunsFor, LogPromises, IsCaused, FaultsAreCounted}
+use Rattle.track_run.specs.Headline.{TracksJob, TracksCommand, TriesCommand, IsWrittenBy, Runs, RunsFor, LogPromises, IsCaused, FaultsAreCounted}
 use Rattle.track_run.proofs.JobLogs.{test_left, input_left, keeps_log}
 use Rattle.track_run.proofs.Again.{log_again}
 use Rattle.track_run.proofs.Agreeing.{agrees_well}
 use Rattle.track_run.proofs.ReadBack.{read_back}
 use Rattle.track_run.proofs.CauseLemmas.{CauseOf, EndsAs, log_cause, cause_ends}
+
+-- what is written changes no file
+unchanged : (P : Contents → Type 0) (a b : Contents) → b.files ≡ a.files → P (record { files = a.files; written = b.written }) → P b
+unchanged P a b same h = let Q : Option Files → Type 0 = λ files. P (record { files = files; written = b.written }) in subst Q (sym same) h
 
 -- ---- nothing is asked
 
@@ -90,9 +90,6 @@ module _ (fields : Known) (to : Target) (m : Mesh) (steps : List Placed) (first 
   -- where the directives begin
   pub saved_first : (next : State) → next ≡ record first { saved = first.saved + 1 } → next ≡ start m
   saved_first next saved = saved ∙ ap (λ (s : State). record s { saved = s.saved + 1 }) new
-
-  pub kept_first : (next : State) → next ≡ record first { saved = first.saved + 1 } → IsValidSurface m → IsRunInvariant next
-  kept_first next saved good = let P : State → Type 0 = λ s. IsRunInvariant s in subst P (sym (saved_first next saved)) (kept_start m good)
 
   follows_first : (answers : Answers) (a b c : Contents) (r : Result (Option Refusal) Stop) → Logs to (at_mesh m) (mesh_line 0 m ∷ []) a b → Follows to (at_mesh m) (log_from answers steps (start m)) b c r → Follows to (at_mesh m) (log_of_mesh answers m steps) a c r
   follows_first answers a b c (Ok ending) l f = (logs_then to (at_mesh m) (mesh_line 0 m ∷ []) (log_from answers steps (start m)).lines a b c l f.0, f.1)
@@ -130,15 +127,17 @@ module _ (fields : Known) (to : Target) (m : Mesh) (steps : List Placed) where
   }
 
   -- a pair meets, and is told
-  pub tested_meets : (files : Option Files) (old new : Option (List ℕ)) (pair : PairName) (r : Result (Option Refusal) Stop) (o : Option PairName) → o ≡ met_first m → o ≡ Some pair
-      → Written old new (RefusedLine (refusal.Meets pair) ∷ []) r → OnErr r (AppendsPart old new (text_of_line (RefusedLine (refusal.Meets pair)))) → IfOk r (λ e. e ≡ Some (refusal.Meets pair))
-      → FollowsTest fields to m steps (record { files = files; written = old }) (record { files = files; written = new }) r
-  tested_meets files old new pair r o first some said part ending =
-      let P : Option PairName → Type 0 = λ o. Follows to (at_mesh m) (log_of_test [] m steps o) (record { files = files; written = old }) (record { files = files; written = new }) r in
+  pub tested_meets : (a b : Around) (pair : PairName) (r : Result (Option Refusal) Stop) (o : Option PairName) → o ≡ met_first m → o ≡ Some pair
+      → Says (RefusedLine (refusal.Meets pair) ∷ []) a b r → OnErr r (AppendsPart (written_of a) (written_of b) (text_of_line (RefusedLine (refusal.Meets pair)))) → IfOk r (λ e. e ≡ Some (refusal.Meets pair))
+      → FollowsTest fields to m steps (holds_of a) (holds_of b) r
+  tested_meets a b pair r o first some says part ending =
+      let P : Option PairName → Type 0 = λ o. Follows to (at_mesh m) (log_of_test [] m steps o) (holds_of a) (holds_of b) r in
+      let Q : Contents → Type 0 = λ w. Follows to (at_mesh m) (log_of_test [] m steps (Some pair)) (holds_of a) w r in
+      let told = meets_at_first (holds_of a).files (written_of a) (written_of b) pair r says.written part ending in
       record {
         answers = [];
         answered = λ clear. let never : ◌≡◌ {A = Option PairName} (Some pair) None = sym some ∙ first ∙ clear in absurd cc;
-        follows = subst P (sym some ∙ first) (meets_at_first files old new pair r said part ending);
+        follows = subst P (sym some ∙ first) (unchanged Q (holds_of a) (holds_of b) says.nothing_stored.files told);
       }
 
 -- ---- the whole log
@@ -152,83 +151,98 @@ ready_log : (answers : Answers) (r : Ready) → log_of_input answers (input_by r
 ready_log answers (ready.No why) = refl
 ready_log answers (ready.Yes lists steps) = ap (λ m. log_of_test answers m steps (met_first m)) (same_mesh lists)
 
--- the first line of the log is written, before a file is fetched
-module _ (fields : Known) (mesh_name step_name : List ℕ) (to : Target) (files : Option Files) where
-  any_job : Job
-  any_job = record { decimals = to.decimals; mesh_file = (some_source files mesh_name).0; step_file = (some_source files step_name).0 }
+module _ (fields : Known) (mesh_name step_name : List ℕ) (to : Target) where
+  any_job : Option Files → Job
+  any_job files = record { decimals = to.decimals; mesh_file = (some_source files mesh_name).0; step_file = (some_source files step_name).0 }
 
-  any_is_job : IsJob files mesh_name step_name to.decimals any_job
+  any_is_job : (files : Option Files) → IsJob files mesh_name step_name to.decimals (any_job files)
   unfolding any_job
-  any_is_job = record { decimals_are = refl; mesh = (some_source files mesh_name).1; steps = (some_source files step_name).1 }
+  any_is_job files = record { decimals_are = refl; mesh = (some_source files mesh_name).1; steps = (some_source files step_name).1 }
 
-  abbrev at : Option (List ℕ) → Contents
-  at written = record { files = files; written = written }
+  abbrev pub PreparesTo : Around → Ready → Type 0
+  PreparesTo a found = Prepares (holds_of a).files mesh_name step_name to.decimals found
 
-  pub prepared_at : (a b : Ready) → a ≡ b → Prepares files mesh_name step_name to.decimals a → Prepares files mesh_name step_name to.decimals b
-  prepared_at a b e p = let P : Ready → Type 0 = λ x. Prepares files mesh_name step_name to.decimals x in subst P e p
+  pub prepared_at : (a : Around) (found is : Ready) → found ≡ is → PreparesTo a found → PreparesTo a is
+  prepared_at a found is e p = let P : Ready → Type 0 = λ x. PreparesTo a x in subst P e p
 
-  -- it is not whole
-  pub tracks_first : (old new : Option (List ℕ)) (stop : Stop) → AppendsPart old new (text_of_line (First VERSION)) → TracksJob fields mesh_name step_name to (at old) (at new) (Err stop)
-  tracks_first old new stop part = record {
-    job = any_job;
-    is_job = any_is_job;
-    answers = [];
-    answered = none_begun fields (input_of any_job);
-    follows = short_line stop to _ (First VERSION) (log_of_input [] (input_of any_job)) files old new part;
-  }
+  -- the first line of the log is written before a file is fetched, and is not whole
+  pub tracks_first : (a b : Around) (stop : Stop) → Says {T = Unit {0}} (First VERSION ∷ []) a b (Err stop) → AppendsPart (written_of a) (written_of b) (text_of_line (First VERSION)) → TracksJob fields mesh_name step_name to (holds_of a) (holds_of b) (Err stop)
+  tracks_first a b stop says part =
+      let job = any_job (holds_of a).files in
+      let P : Contents → Type 0 = λ w. StopsShort stop to (replay_of job) (log_of job []) (holds_of a) w in
+      record {
+        job = job;
+        is_job = any_is_job (holds_of a).files;
+        answers = [];
+        answered = none_begun fields (input_of job);
+        follows = unchanged P (holds_of a) (holds_of b) says.nothing_stored.files (short_line stop to (replay_of job) (First VERSION) (log_of_input [] (input_of job)) (holds_of a).files (written_of a) (written_of b) part);
+      }
 
-  module _ (w0 w1 : Option (List ℕ)) (first : w1 ≡ appended w0 (text_of_lines (First VERSION ∷ []))) where
-    first_logs : (from : Replay) → Logs to from (First VERSION ∷ []) (at w0) (at w1)
-    first_logs from = record { written = first; files = refl }
+  -- it is written, and then the files are read
+  module _ (a b c : Around) (u : Unit {0}) (first : Says (First VERSION ∷ []) a b (Ok u)) (p : Result Ready Stop) (looks : OnlyLooks b c p) where
+    first_logs : (from : Replay) → Logs to from (First VERSION ∷ []) (holds_of a) (holds_of c)
+    first_logs from = record {
+      written = ap (λ (w : Contents). w.written) looks.kept ∙ first.written;
+      files = ap (λ (w : Contents). w.files) looks.kept ∙ first.nothing_stored.files;
+    }
 
-    whole_follows : (answers : Answers) (from : Replay) (job : Job) (new : Contents) (r : Result (Option Refusal) Stop) → Follows to from (log_of_input answers (input_of job)) (at w1) new r → Follows to from (log_of job answers) (at w0) new r
+    whole_follows : (answers : Answers) (from : Replay) (job : Job) (new : Contents) (r : Result (Option Refusal) Stop) → Follows to from (log_of_input answers (input_of job)) (holds_of c) new r → Follows to from (log_of job answers) (holds_of a) new r
     whole_follows answers from job new (Ok ending) f = (logs_then to from (First VERSION ∷ []) (log_of_input answers (input_of job)).lines _ _ new (first_logs from) f.0, f.1)
     whole_follows answers from job new (Err stop) f = short_then stop to from (First VERSION ∷ []) (log_of_input answers (input_of job)) _ _ new (first_logs from) f
 
     -- nothing after it
-    pub tracks_second : (stop : Stop) → TracksJob fields mesh_name step_name to (at w0) (at w1) (Err stop)
-    tracks_second stop = record {
-      job = any_job;
-      is_job = any_is_job;
-      answers = [];
-      answered = none_begun fields (input_of any_job);
-      follows = whole_follows [] (replay_of any_job) any_job (at w1) (Err stop) (short_nothing stop to _ (log_of_input [] (input_of any_job)) _ (input_left [] (input_of any_job)));
-    }
+    pub tracks_second : (stop : Stop) → TracksJob fields mesh_name step_name to (holds_of a) (holds_of c) (Err stop)
+    tracks_second stop =
+        let job = any_job (holds_of a).files in
+        record {
+          job = job;
+          is_job = any_is_job (holds_of a).files;
+          answers = [];
+          answered = none_begun fields (input_of job);
+          follows = whole_follows [] (replay_of job) job (holds_of c) (Err stop) (short_nothing stop to (replay_of job) (log_of_input [] (input_of job)) (holds_of c) (input_left [] (input_of job)));
+        }
 
-    tracks_then : (answers : Answers) (found : Ready) (p : Prepares files mesh_name step_name to.decimals found) (new : Contents) (r : Result (Option Refusal) Stop) → IsInputAnswered fields (is_ok r) answers (input_by found)
-        → Follows to (replay_of p.job) (log_of_ready answers found) (at w1) new r → TracksJob fields mesh_name step_name to (at w0) new r
+    tracks_then : (answers : Answers) (found : Ready) → PreparesTo b found → (new : Contents) (r : Result (Option Refusal) Stop) → IsInputAnswered fields (is_ok r) answers (input_by found)
+        → ((job : Job) → IsReady (mesh_of_job job) found → Follows to (replay_of job) (log_of_ready answers found) (holds_of c) new r) → TracksJob fields mesh_name step_name to (holds_of a) new r
     tracks_then answers found p new r answered f =
-        let P : ExpectedLog → Type 0 = λ t. Follows to (replay_of p.job) t (at w1) new r in
+        let P : ExpectedLog → Type 0 = λ t. Follows to (replay_of p.job) t (holds_of c) new r in
         let Q : Result Input Refusal → Type 0 = λ i. IsInputAnswered fields (is_ok r) answers i in
+        let R : Option Files → Type 0 = λ files. IsJob files mesh_name step_name to.decimals p.job in
         record {
           job = p.job;
-          is_job = p.is_job;
+          is_job = subst R first.nothing_stored.files p.is_job;
           answers = answers;
           answered = subst Q (sym p.input) answered;
-          follows = whole_follows answers (replay_of p.job) p.job new r (subst P (sym (ap (log_of_input answers) p.input ∙ ready_log answers found)) f);
+          follows = whole_follows answers (replay_of p.job) p.job new r (subst P (sym (ap (log_of_input answers) p.input ∙ ready_log answers found)) (f p.job p.ready));
         }
 
     -- the refusal that was read is written, as far as it goes
-    pub tracks_no : (w2 : Option (List ℕ)) (why : Refusal) (r : Result (Option Refusal) Stop) → Prepares files mesh_name step_name to.decimals (ready.No why)
-        → Written w1 w2 (RefusedLine why ∷ []) r → OnErr r (AppendsPart w1 w2 (text_of_line (RefusedLine why))) → IfOk r (λ e. e ≡ Some why) → TracksJob fields mesh_name step_name to (at w0) (at w2) r
-    tracks_no w2 why (Ok e) p said part ending = tracks_then [] (ready.No why) p _ (Ok e) tt (record { written = said; files = refl }, ap Ended (sym ending))
-    tracks_no w2 why (Err stop) p said part ending = tracks_then [] (ready.No why) p _ (Err stop) tt (short_line stop to _ (RefusedLine why) (record { lines = []; ending = Ended (Some why) }) files w1 w2 part)
+    refusal_follows : (d : Around) (why : Refusal) (r : Result (Option Refusal) Stop) (from : Replay) → Says (RefusedLine why ∷ []) c d r → OnErr r (AppendsPart (written_of c) (written_of d) (text_of_line (RefusedLine why))) → IfOk r (λ e. e ≡ Some why)
+        → Follows to from (refused why) (holds_of c) (holds_of d) r
+    refusal_follows d why (Ok e) from says part ending = (record { written = says.written; files = says.nothing_stored.files }, ap Ended (sym ending))
+    refusal_follows d why (Err stop) from says part ending =
+        let P : Contents → Type 0 = λ w. StopsShort stop to from (refused why) (holds_of c) w in
+        unchanged P (holds_of c) (holds_of d) says.nothing_stored.files (short_line stop to from (RefusedLine why) (record { lines = []; ending = Ended (Some why) }) (holds_of c).files (written_of c) (written_of d) part)
+
+    pub tracks_no : (d : Around) (why : Refusal) (r : Result (Option Refusal) Stop) → PreparesTo b (ready.No why) → Says (RefusedLine why ∷ []) c d r → OnErr r (AppendsPart (written_of c) (written_of d) (text_of_line (RefusedLine why))) → IfOk r (λ e. e ≡ Some why)
+        → TracksJob fields mesh_name step_name to (holds_of a) (holds_of d) r
+    tracks_no d why r p says part ending = tracks_then [] (ready.No why) p (holds_of d) r tt (λ job is. refusal_follows d why r (replay_of job) says part ending)
 
     -- a mesh and directives, and nothing is done with them
-    pub tracks_third : (lists : MeshLists) (steps : List Placed) (stop : Stop) → Prepares files mesh_name step_name to.decimals (ready.Yes lists steps) → TracksJob fields mesh_name step_name to (at w0) (at w1) (Err stop)
+    pub tracks_third : (lists : MeshLists) (steps : List Placed) (stop : Stop) → PreparesTo b (ready.Yes lists steps) → TracksJob fields mesh_name step_name to (holds_of a) (holds_of c) (Err stop)
     tracks_third lists steps stop p =
-        tracks_then [] (ready.Yes lists steps) p _ (Err stop) (none_begun fields (input_by (ready.Yes lists steps))) (short_nothing stop to _ (log_of_test [] (given lists) steps (met_first (given lists))) _ (test_left [] (given lists) steps (met_first (given lists))))
+        tracks_then [] (ready.Yes lists steps) p (holds_of c) (Err stop) (none_begun fields (input_by (ready.Yes lists steps)))
+        (λ job is. short_nothing stop to (replay_of job) (log_of_test [] (given lists) steps (met_first (given lists))) (holds_of c) (test_left [] (given lists) steps (met_first (given lists))))
 
     -- a mesh and directives
-    pub tracks_ready : (now : Option Files) (lists : MeshLists) (steps : List Placed) (m : Mesh) (new : Contents) (r : Result (Option Refusal) Stop) → Prepares files mesh_name step_name to.decimals (ready.Yes lists steps) → now ≡ files
-        → m ≡ given lists → FollowsTest fields to m steps (record { files = now; written = w1 }) new r → TracksJob fields mesh_name step_name to (at w0) new r
-    tracks_ready now lists steps m new r p kept same f =
+    pub tracks_ready : (lists : MeshLists) (steps : List Placed) (m : Mesh) (new : Contents) (r : Result (Option Refusal) Stop) → PreparesTo b (ready.Yes lists steps)
+        → m ≡ given lists → FollowsTest fields to m steps (holds_of c) new r → TracksJob fields mesh_name step_name to (holds_of a) new r
+    tracks_ready lists steps m new r p same f =
         let answers = f.answers in
-        let P : Mesh → Type 0 = λ n. Follows to (at_mesh n) (log_of_test answers (given lists) steps (met_first (given lists))) (at w1) new r in
-        let Q : Mesh → Type 0 = λ n. Follows to (at_mesh n) (log_of_test answers n steps (met_first n)) (at w1) new r in
-        let R : Option Files → Type 0 = λ now. Follows to (at_mesh m) (log_of_test answers m steps (met_first m)) (record { files = now; written = w1 }) new r in
+        let P : Mesh → Type 0 = λ n. Follows to (at_mesh n) (log_of_test answers (given lists) steps (met_first (given lists))) (holds_of c) new r in
+        let Q : Mesh → Type 0 = λ n. Follows to (at_mesh n) (log_of_test answers n steps (met_first n)) (holds_of c) new r in
         let A : Mesh → Type 0 = λ n. met_first n ≡ None → AreAnswered fields (is_ok r) answers steps (start n) in
-        tracks_then answers (ready.Yes lists steps) p new r (subst A (same ∙ sym (same_mesh lists)) f.answered) (subst P p.ready.mesh (subst Q same (subst R kept f.follows)))
+        tracks_then answers (ready.Yes lists steps) p new r (subst A (same ∙ sym (same_mesh lists)) f.answered) (λ job is. subst P is.mesh (subst Q same f.follows))
 
 -- ---- the headline
 
@@ -333,16 +347,30 @@ is_row o f cubes key some is few =
     let limits : (1 ≤ cubes) × (cubes ≤ CUBES_MAX) = subst P (some ∙ ap Some is) few in
     record { some = limits.0; few = limits.1 }
 
+-- the sink is at fault only where its count rose
+sink_counted : (old new : World) (ended : Result (Unit {0}) Stop) (result : Outcome) → result ≡ outcome_of_try ended → HasCauses old new ended → result ≡ outcome.SinkFault → Rose old.sink_faults new.sink_faults
+sink_counted old new (Ok d) result e causes s = absurd (cc)
+sink_counted old new (Err stop.NoMemory) result e causes s = absurd (cc)
+sink_counted old new (Err stop.DeskFault) result e causes s = absurd (cc)
+sink_counted old new (Err stop.SinkFault) result e causes s = causes.sink_fault refl
+
+is_summary : (text : List ℕ) (ended : Result (Unit {0}) Stop) (old new : Option (List ℕ)) → OnOk ended (new ≡ appended old text) → OnErr ended (AppendsPart old new text) → IsWrittenBy text ended old new
+is_summary text (Ok d) old new done stopped = done
+is_summary text (Err why) old new done stopped = stopped
+
 -- how a try ended is what the command promises of it
-pub tries : (cubes key : ℕ) (old new : World) (result : Outcome) (ended : Result (Unit {0}) TryFault) → result ≡ outcome_of_try ended → new.holds.files ≡ old.holds.files → new.desk_faults ≡ old.desk_faults
-    → OnOk ended (new.holds.written ≡ appended old.holds.written (summary_of cubes key)) → OnErr ended (AppendsPart old.holds.written new.holds.written (summary_of cubes key))
-    → old.sink_faults ≤ new.sink_faults → (IsErrOf ended tried.SinkFault → Rose old.sink_faults new.sink_faults) → TriesCommand cubes key result old new
-tries cubes key old new result (Ok d) e files desk done stopped later cause =
-    record { ended = Ok d; outcome_is = e; summary = done; files = files; desk = desk; sink = later; sink_fault = λ s. absurd (cc) }
-tries cubes key old new result (Err tried.NoMemory) e files desk done stopped later cause =
-    record { ended = Err tried.NoMemory; outcome_is = e; summary = stopped; files = files; desk = desk; sink = later; sink_fault = λ s. absurd (cc) }
-tries cubes key old new result (Err tried.SinkFault) e files desk done stopped later cause =
-    record { ended = Err tried.SinkFault; outcome_is = e; summary = stopped; files = files; desk = desk; sink = later; sink_fault = λ s. cause refl }
+pub tries : (cubes key : ℕ) (a b : Around) (result : Outcome) (ended : Result (Unit {0}) Stop) → result ≡ outcome_of_try ended → OnOk ended (b.world.holds.written ≡ appended a.world.holds.written (summary_of cubes key))
+    → OnErr ended (AppendsPart a.world.holds.written b.world.holds.written (summary_of cubes key)) → StoresNothing a b ended → TriesCommand cubes key result a.world b.world
+tries cubes key a b result ended e done stopped quiet = record {
+  ended = ended;
+  outcome_is = e;
+  summary = is_summary (summary_of cubes key) ended a.world.holds.written b.world.holds.written done stopped;
+  files = quiet.files;
+  desk = quiet.desk;
+  no_desk = quiet.no_desk;
+  sink = quiet.counts.causes.out;
+  sink_fault = sink_counted a.world b.world ended result e quiet.counts.causes;
+}
 
 -- ---- the words
 
@@ -358,3 +386,11 @@ pub runs_nothing : (fields : Known) (o : Option Command) (words : List (List ℕ
 runs_nothing fields o words w none read =
     let P : Option Command → Type 0 = λ x. IsReading words (option_map named_by x) in
     inl (record { named = None; read = subst P none read; runs = (refl, refl) })
+
+-- a run over two sides that are the same afterwards
+pub runs_at : {D K : Type 0} (files : D → Option Files) (faults : D → ℕ) (written : K → Option (List ℕ)) (sink_faults : K → ℕ) (fields : Known) (words : List (List ℕ)) (result : Outcome) (old : World) (desk left : D) (out told : K) → desk ≡ left → out ≡ told
+    → RunsFor fields words result old (world files faults written sink_faults left told) → RunsFor fields words result old (world files faults written sink_faults desk out)
+runs_at {D = D} {K = K} files faults written sink_faults fields words result old desk left out told same_desk same_out runs =
+    let P : D → Type 0 = λ d. RunsFor fields words result old (world files faults written sink_faults d told) in
+    let Q : K → Type 0 = λ k. RunsFor fields words result old (world files faults written sink_faults desk k) in
+    subst Q (sym same_out) (subst P (sym same_desk) runs)

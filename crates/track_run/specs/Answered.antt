@@ -5,7 +5,7 @@ use Rattle.step_text.specs.declared.Placed.{Placed}
 use Rattle.log_text.specs.declared.Refusal.{Refusal}
 use Rattle.log_replay.specs.Replay.{at_mesh}
 use Rattle.track_input.specs.Job.{Input, mesh_of_lists, met_first}
-use Rattle.track_engine.specs.declared.stop.Stop.{Stop}
+use Rattle.outside_io.specs.declared.stop.Stop.{Stop}
 use Rattle.track_engine.specs.State.{start}
 use Rattle.track_engine.specs.Answers.{Answers}
 use Rattle.track_engine.specs.Answered.{Known, AreAnswered}

@@ -10,14 +10,13 @@ use Rattle.log_replay.specs.Replay.{after}
 use Rattle.log_replay.specs.Again.{LinesAreAgain}
 use Rattle.outside_io.specs.Causes.{Rose}
 use Rattle.outside_io.specs.Sink.{appended, AppendsPart}
-use Rattle.track_convert.specs.declared.ConvertFault.{ConvertFault}
 use Rattle.track_convert.specs.Headline.{Converts}
-use Rattle.track_try.specs.declared.TryFault.{TryFault}
 use Rattle.track_try.specs.Summary.{summary_of}
 use Rattle.track_input.specs.Words.{MeshName, Named, Track, Convert, Try}
 use Rattle.track_input.specs.Taken.{IsReading}
 use Rattle.track_input.specs.Job.{Job, IsJob, input_of}
-use Rattle.track_engine.specs.declared.stop.Stop.{Stop}
+use Rattle.outside_io.specs.declared.stop.Stop.{Stop}
+use Rattle.outside_io.specs.declared.stop.Stop.TheVariants.{DeskFault}
 use Rattle.track_engine.specs.State.{State, standing}
 use Rattle.track_engine.specs.Answers.{Answer, Answers}
 use Rattle.track_engine.specs.Answered.{Known}
@@ -30,7 +29,7 @@ use Rattle.track_run.specs.declared.outcome.Outcome.{Outcome}
 use Rattle.track_run.specs.declared.outcome.Outcome.TheVariants as outcome
 use Rattle.track_run.specs.Job.{log_of, replay_of}
 use Rattle.track_run.specs.Reached.{IsReached, AgreesWithReplay}
-use Rattle.track_run.specs.Outcomes.{outcome_from, outcome_of_conversion, outcome_of_try}
+use Rattle.track_run.specs.Outcomes.{outcome_from, outcome_of_try}
 use Rattle.track_run.specs.Answered.{IsInputAnswered}
 use Rattle.track_run.specs.Causes.{Cause, IsStopped, answers_after}
 
@@ -99,8 +98,8 @@ pub record TracksCommand (fields : Known) (mesh_name step_name : List ℕ) (to :
 
 -- the mesh of the one file is converted to the other; the parts are explained where `Converts` stands
 pub record ConvertsCommand (from to : MeshName) (decimals : ℕ) (result : Outcome) (old new : World) : Type 0 where
-  pub ended : Result (Option Refusal) ConvertFault
-  pub outcome_is : result ≡ outcome_of_conversion ended
+  pub ended : Result (Option Refusal) Stop
+  pub outcome_is : result ≡ outcome_from ended
   pub converts : Converts from to decimals ended old new
 
 -- the text is written whole, or the first of it, perhaps nothing, and not all
@@ -109,13 +108,14 @@ IsWrittenBy text (Ok done) old new = new ≡ appended old text
 IsWrittenBy text (Err fault) old new = AppendsPart old new text
 
 -- The job of so many cubes in a row and of this key is made and run, and the summary of its log is written, or a part of it where the
--- try is stopped. The desk is left alone. At a fault of the sink its count has risen.
+-- try is stopped. The desk is left alone, and is not at fault. At a fault of the sink its count has risen.
 pub record TriesCommand (cubes key : ℕ) (result : Outcome) (old new : World) : Type 0 where
-  pub ended : Result (Unit {0}) TryFault
+  pub ended : Result (Unit {0}) Stop
   pub outcome_is : result ≡ outcome_of_try ended
   pub summary : IsWrittenBy (summary_of cubes key) ended old.holds.written new.holds.written
   pub files : new.holds.files ≡ old.holds.files
   pub desk : new.desk_faults ≡ old.desk_faults
+  pub no_desk : ended ≡ Err DeskFault → ⊥
   pub sink : old.sink_faults ≤ new.sink_faults
   pub sink_fault : result ≡ outcome.SinkFault → Rose old.sink_faults new.sink_faults
 

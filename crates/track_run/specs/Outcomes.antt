@@ -2,12 +2,8 @@
 use Rattle.std.specs.Prelude.{Option, Some, None, Result, Ok, Err}
 use Rattle.log_text.specs.declared.Refusal.{Refusal}
 use Rattle.log_text.specs.declared.Refusal.TheVariants as refusal
-use Rattle.track_convert.specs.declared.ConvertFault.{ConvertFault}
-use Rattle.track_convert.specs.declared.ConvertFault.TheVariants as convert
-use Rattle.track_try.specs.declared.TryFault.{TryFault}
-use Rattle.track_try.specs.declared.TryFault.TheVariants as tried
-use Rattle.track_engine.specs.declared.stop.Stop.{Stop}
-use Rattle.track_engine.specs.declared.stop.Stop.TheVariants.{NoMemory, DeskFault, SinkFault}
+use Rattle.outside_io.specs.declared.stop.Stop.{Stop}
+use Rattle.outside_io.specs.declared.stop.Stop.TheVariants.{NoMemory, DeskFault, SinkFault}
 use Rattle.track_run.specs.declared.outcome.Outcome.{Outcome}
 use Rattle.track_run.specs.declared.outcome.Outcome.TheVariants as outcome
 
@@ -22,26 +18,18 @@ outcome_of (Some (refusal.Meets pair)) = outcome.MeshMeets pair
 outcome_of (Some (refusal.Steps fault)) = outcome.StepText fault
 outcome_of (Some (refusal.StepUse line why)) = outcome.StepUse line why
 
--- the outcome of a stop before the log's end
+-- the outcome of a stop before the end
 abbrev pub outcome_at : Stop → Outcome
 outcome_at NoMemory = outcome.NoMemory
 outcome_at DeskFault = outcome.DeskFault
 outcome_at SinkFault = outcome.SinkFault
 
--- how a run of a job ended: with its whole log, or stopped before the log's end
+-- how a run of a job or a conversion ended: with its last line, or stopped before that
 abbrev pub outcome_from : Result (Option Refusal) Stop → Outcome
 outcome_from (Ok ending) = outcome_of ending
 outcome_from (Err stop) = outcome_at stop
 
--- how a conversion ended: with its whole line, or stopped before its end
-abbrev pub outcome_of_conversion : Result (Option Refusal) ConvertFault → Outcome
-outcome_of_conversion (Ok ending) = outcome_of ending
-outcome_of_conversion (Err convert.NoMemory) = outcome.NoMemory
-outcome_of_conversion (Err convert.DeskFault) = outcome.DeskFault
-outcome_of_conversion (Err convert.SinkFault) = outcome.SinkFault
-
 -- how a try ended: with its whole summary, or stopped before its end
-abbrev pub outcome_of_try : Result (Unit {0}) TryFault → Outcome
+abbrev pub outcome_of_try : Result (Unit {0}) Stop → Outcome
 outcome_of_try (Ok done) = outcome.Done
-outcome_of_try (Err tried.NoMemory) = outcome.NoMemory
-outcome_of_try (Err tried.SinkFault) = outcome.SinkFault
+outcome_of_try (Err stop) = outcome_at stop

@@ -4,27 +4,29 @@ ghost use Rattle.mesh_base.specs.Sides.{IsClosed};
 ghost use Rattle.mesh_base.specs.Valid.{IsValidSurface};
 ghost use Rattle.step_text.specs.Ranges.{AreInRange};
 ghost use Rattle.mesh_field.specs.Stored.{IsWellKept};
+ghost use Rattle.outside_io.specs.Outside.{Counts, holds_of};
+ghost use Rattle.outside_io.specs.World.{world};
 ghost use Rattle.track_engine.specs.Targets.{target_of};
-ghost use Rattle.track_engine.specs.World.{contents, world, HasCauses};
 ghost use Rattle.track_engine.specs.Answered.{known};
 ghost use Rattle.track_run.specs.Answered.{FollowsMesh, FollowsTest};
-ghost use Rattle.track_run.specs.Outcomes.{outcome_of, outcome_from, outcome_of_conversion, outcome_of_try};
+ghost use Rattle.track_run.specs.Outcomes.{outcome_of, outcome_at, outcome_from, outcome_of_try};
 ghost use Rattle.track_run.specs.Headline.{RunsFor, TracksJob};
 
 use crate::outcome::Outcome;
 use grid_base::{Point, Shift};
 use log_text::{LogLine, Refusal, VERSION};
+use log_write::write_line;
 use mesh_base::Surface;
 use mesh_field::Fields;
 use mesh_journal::JournalMesh;
-use outside_io::{Desk, Sink};
+use outside_io::{Desk, Ends, Outside, Sink, Stop};
 use pair_scan::first_meeting;
 use std::alloc::Global;
 use step_text::Directives;
-use track_convert::{ConvertFault, convert};
-use track_engine::{Engine, Stop, Target, finish, say};
-use track_input::{Command, InputFault, Ready, command_of, prepare};
-use track_try::{TryFault, try_cubes};
+use track_convert::convert;
+use track_engine::{Engine, RunTerms, Target, finish};
+use track_input::{Command, Ready, command_of, prepare};
+use track_try::try_cubes;
 
 // The outcome that the last line of a whole log tells.
 fn outcome_of(ending: Option<Refusal>) -> Outcome
@@ -42,127 +44,106 @@ fn outcome_of(ending: Option<Refusal>) -> Outcome
     }
 }
 
+// The outcome of a run that was stopped.
+fn outcome_at(stop: Stop) -> Outcome
+    ensures { result ≡ outcome_at stop }
+{
+    match stop {
+        Stop::NoMemory => Outcome::NoMemory,
+        Stop::DeskFault => Outcome::DeskFault,
+        Stop::SinkFault => Outcome::SinkFault,
+    }
+}
+
 // The outcome of a run that ended so.
 fn outcome_from(ended: Result<Option<Refusal>, Stop>) -> Outcome
     ensures { result ≡ outcome_from ended }
 {
     match ended {
         Ok(ending) => outcome_of(ending),
-        Err(Stop::NoMemory) => Outcome::NoMemory,
-        Err(Stop::DeskFault) => Outcome::DeskFault,
-        Err(Stop::SinkFault) => Outcome::SinkFault,
-    }
-}
-
-// The outcome of a conversion that ended so.
-fn outcome_of_conversion(ended: Result<Option<Refusal>, ConvertFault>) -> Outcome
-    ensures { result ≡ outcome_of_conversion ended }
-{
-    match ended {
-        Ok(told) => outcome_of(told),
-        Err(ConvertFault::NoMemory) => Outcome::NoMemory,
-        Err(ConvertFault::DeskFault) => Outcome::DeskFault,
-        Err(ConvertFault::SinkFault) => Outcome::SinkFault,
+        Err(stop) => outcome_at(stop),
     }
 }
 
 // The outcome of a try that ended so.
-fn outcome_of_try(ended: Result<(), TryFault>) -> Outcome
+fn outcome_of_try(ended: Result<(), Stop>) -> Outcome
     ensures { result ≡ outcome_of_try ended }
 {
     match ended {
         Ok(()) => Outcome::Done,
-        Err(TryFault::NoMemory) => Outcome::NoMemory,
-        Err(TryFault::SinkFault) => Outcome::SinkFault,
+        Err(stop) => outcome_at(stop),
     }
 }
 
 // The first mesh, which is sound, closed and clear, is saved, and then the directives are followed.
-fn begin<S: Surface + Drop, D: Desk, K: Sink, F: Fn(u8, Point) -> Shift>(
+fn begin<S: Surface + Drop, O: Outside, F: Fn(u8, Point) -> Shift>(
     alloc: Global,
-    to: Target<'_>,
+    terms: &RunTerms<'_, F>,
     mesh: S,
     steps: &Directives,
-    desk: &mut D,
-    out: &mut K,
-    fields: &Fields<F>,
+    outside: &mut O,
 ) -> Result<Option<Refusal>, Stop>
-    requires few { to.decimals ≤ DECIMALS_MAX }
+    requires few { terms.now.to.decimals ≤ DECIMALS_MAX }
+    requires fields { IsWellKept F.Fn terms.now.fields.now }
     requires good { IsValidSurface (S.mesh mesh) }
     requires ranges { AreInRange steps.now }
     requires count { length steps.now < 2 ^ 31 }
-    requires fields { IsWellKept F.Fn fields.now }
-    ensures follows { FollowsMesh (known F.Fn fields.now) (target_of to.entry)
+    ensures follows { FollowsMesh (known F.Fn terms.now.fields.now) (target_of terms.now.to)
         (S.mesh mesh) steps.now
-        (contents D.files K.written desk.old out.old)
-        (contents D.files K.written desk.new out.new) result }
-    ensures causes { HasCauses (world D.files D.faults K.written K.faults desk.old out.old)
-        (world D.files D.faults K.written K.faults desk.new out.new) result }
+        (holds_of (O.around outside.old)) (holds_of (O.around outside.new)) result }
+    ensures counts { Counts (O.around outside.old) (O.around outside.new) result }
 {
-    let Ok(mut engine) = Engine::new(alloc, mesh) else {
-        return Err(Stop::NoMemory);
-    };
-    engine.save(alloc, to, desk, out)?;
-    engine.follow(alloc, to, steps.as_slice(), desk, out, fields)
+    let mut engine = Engine::new(alloc, mesh)?;
+    engine.save(alloc, terms.to, outside)?;
+    engine.follow(alloc, terms, steps.as_slice(), outside)
 }
 
 // The mesh is tested, and begun with where no edge meets a face that shares no vertex with it.
-fn test_and_begin<S: Surface + Drop, D: Desk, K: Sink, F: Fn(u8, Point) -> Shift>(
+fn test_and_begin<S: Surface + Drop, O: Outside, F: Fn(u8, Point) -> Shift>(
     alloc: Global,
-    to: Target<'_>,
+    terms: &RunTerms<'_, F>,
     mesh: S,
     steps: &Directives,
-    desk: &mut D,
-    out: &mut K,
-    fields: &Fields<F>,
+    outside: &mut O,
 ) -> Result<Option<Refusal>, Stop>
-    requires few { to.decimals ≤ DECIMALS_MAX }
+    requires few { terms.now.to.decimals ≤ DECIMALS_MAX }
+    requires fields { IsWellKept F.Fn terms.now.fields.now }
     requires closed { IsClosed (S.mesh mesh) }
     requires ranges { AreInRange steps.now }
     requires count { length steps.now < 2 ^ 31 }
-    requires fields { IsWellKept F.Fn fields.now }
-    ensures follows { FollowsTest (known F.Fn fields.now) (target_of to.entry)
+    ensures follows { FollowsTest (known F.Fn terms.now.fields.now) (target_of terms.now.to)
         (S.mesh mesh) steps.now
-        (contents D.files K.written desk.old out.old)
-        (contents D.files K.written desk.new out.new) result }
-    ensures causes { HasCauses (world D.files D.faults K.written K.faults desk.old out.old)
-        (world D.files D.faults K.written K.faults desk.new out.new) result }
+        (holds_of (O.around outside.old)) (holds_of (O.around outside.new)) result }
+    ensures counts { Counts (O.around outside.old) (O.around outside.new) result }
 {
-    match first_meeting(alloc, &mesh) {
-        Ok(None) => begin(alloc, to, mesh, steps, desk, out, fields),
-        Ok(Some(pair)) => finish(alloc, out, LogLine::Refused(Refusal::Meets(pair))),
-        Err(_) => Err(Stop::NoMemory),
+    match first_meeting(alloc, &mesh)? {
+        None => begin(alloc, terms, mesh, steps, outside),
+        Some(pair) => finish(alloc, outside, LogLine::Refused(Refusal::Meets(pair))),
     }
 }
 
 // The whole log of the job of two files.
-fn track<D: Desk, K: Sink, F: Fn(u8, Point) -> Shift>(
+fn track<O: Outside, F: Fn(u8, Point) -> Shift>(
     alloc: Global,
     mesh_name: &str,
     step_name: &str,
-    to: Target<'_>,
-    desk: &mut D,
-    out: &mut K,
-    fields: &Fields<F>,
+    terms: &RunTerms<'_, F>,
+    outside: &mut O,
 ) -> Result<Option<Refusal>, Stop>
-    requires few { to.decimals ≤ DECIMALS_MAX }
-    requires fields { IsWellKept F.Fn fields.now }
-    ensures tracks { TracksJob (known F.Fn fields.now) mesh_name.now step_name.now
-        (target_of to.entry)
-        (contents D.files K.written desk.old out.old)
-        (contents D.files K.written desk.new out.new) result }
-    ensures causes { HasCauses (world D.files D.faults K.written K.faults desk.old out.old)
-        (world D.files D.faults K.written K.faults desk.new out.new) result }
+    requires few { terms.now.to.decimals ≤ DECIMALS_MAX }
+    requires fields { IsWellKept F.Fn terms.now.fields.now }
+    ensures tracks { TracksJob (known F.Fn terms.now.fields.now) mesh_name.now step_name.now
+        (target_of terms.now.to)
+        (holds_of (O.around outside.old)) (holds_of (O.around outside.new)) result }
+    ensures counts { Counts (O.around outside.old) (O.around outside.new) result }
 {
-    say(alloc, out, &LogLine::First { version: VERSION })?;
-    match prepare(alloc, mesh_name, step_name, to.decimals, desk) {
-        Ok(Ready::No(why)) => finish(alloc, out, LogLine::Refused(why)),
-        Ok(Ready::Yes(lists, steps)) => match JournalMesh::of(alloc, &lists) {
-            Ok(mesh) => test_and_begin(alloc, to, mesh, &steps, desk, out, fields),
-            Err(_) => Err(Stop::NoMemory),
-        },
-        Err(InputFault::NoMemory) => Err(Stop::NoMemory),
-        Err(InputFault::DeskFault) => Err(Stop::DeskFault),
+    write_line(alloc, outside, &LogLine::First { version: VERSION })?;
+    match prepare(alloc, mesh_name, step_name, terms.to.decimals, outside)? {
+        Ready::No(why) => finish(alloc, outside, LogLine::Refused(why)),
+        Ready::Yes(lists, steps) => {
+            let mesh = JournalMesh::of(alloc, &lists)?;
+            test_and_begin(alloc, terms, mesh, &steps, outside)
+        }
     }
 }
 
@@ -194,6 +175,7 @@ pub fn run<D: Desk, K: Sink, F: Fn(u8, Point) -> Shift>(
     let Some(command) = found else {
         return Outcome::Usage;
     };
+    let mut ends = Ends { desk, out };
     match command {
         Command::Track {
             mesh,
@@ -202,15 +184,16 @@ pub fn run<D: Desk, K: Sink, F: Fn(u8, Point) -> Shift>(
             decimals,
         } => {
             let to = Target { prefix, decimals };
-            let ended = track(alloc, mesh, steps, to, desk, out, fields);
+            let terms = RunTerms { to, fields };
+            let ended = track(alloc, mesh, steps, &terms, &mut ends);
             outcome_from(ended)
         }
         Command::Convert { from, to, decimals } => {
-            let ended = convert(alloc, from, to, decimals, desk, out);
-            outcome_of_conversion(ended)
+            let ended = convert(alloc, from, to, decimals, &mut ends);
+            outcome_from(ended)
         }
         Command::Try { cubes, key } => {
-            let ended = try_cubes(alloc, cubes, key, out);
+            let ended = try_cubes(alloc, cubes, key, &mut ends);
             outcome_of_try(ended)
         }
     }

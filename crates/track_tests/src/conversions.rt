@@ -1,10 +1,10 @@
 //! Worked examples: a mesh in three formats, and files that are refused.
 use log_text::Refusal;
-use outside_io::{MemoryDesk, MemorySink};
+use outside_io::{Ends, MemoryDesk, MemorySink, Stop};
 use std::alloc::Global;
 use std::process::Abort;
 use std::test::Fail;
-use track_convert::{ConvertFault, convert};
+use track_convert::convert;
 use track_input::{Command, command_of};
 
 // A tetrahedron.
@@ -38,11 +38,12 @@ fn answer(
     words: &[&str],
     desk: &mut MemoryDesk,
     out: &mut MemorySink,
-) -> Result<Option<Result<Option<Refusal>, ConvertFault>>, Fail> {
+) -> Result<Option<Result<Option<Refusal>, Stop>>, Fail> {
     let words = words_of(alloc, words)?;
     match command_of(alloc, &words)? {
         Some(Command::Convert { from, to, decimals }) => {
-            Ok(Some(convert(alloc, from, to, decimals, desk, out)))
+            let mut ends = Ends { desk, out };
+            Ok(Some(convert(alloc, from, to, decimals, &mut ends)))
         }
         _ => Ok(None),
     }
@@ -143,7 +144,7 @@ fn a_store_that_fails_is_told(rt: HostRuntime) -> Result<(), Fail> {
     desk.put("t.obj", OBJ.as_bytes())?;
     let words = ["convert", "t.obj", "t.ply", "--decimals", "3"];
     let ended = answer(alloc, &words, &mut desk, &mut out)?;
-    assert_eq!(rt; ended, Some(Err(ConvertFault::DeskFault)));
+    assert_eq!(rt; ended, Some(Err(Stop::DeskFault)));
     assert_eq!(rt; out.bytes(), b"".as_slice());
     assert_eq!(rt; desk.file("t.obj"), Some(OBJ.as_bytes()));
     Ok(())

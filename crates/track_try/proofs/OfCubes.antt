@@ -1,6 +1,6 @@
 -- The job of cubes may be run, and its summary is that of its log.
 use Rattle.std.proofs.Common.{◌≡◌, ℕ, suc, ◌+◌, ◌*◌, ◌^◌, ◌<◌, ◌≤◌, List, [], ◌∷◌, ◌++◌, map, length, refl, sym, ap, ◌∙◌, subst, arith, None, length-append}
-use Rattle.std.specs.Prelude.{Vec, Result, Ok, Err, IfOk}
+use Rattle.std.specs.Prelude.{Vec, Result, Ok, Err, IfOk, IfErr}
 use Rattle.std.specs.declared.option.Option.{Option}
 use Rattle.std.specs.List.{enumerate_from}
 use Rattle.std.proofs.lemmas.List.{length-map}
@@ -26,6 +26,9 @@ use Rattle.mesh_make.proofs.Growing.{cubes-few}
 use Rattle.mesh_make.proofs.Shape.{cubes_are_sound, cubes_are_closed, cubes_have_no_fault}
 use Rattle.mesh_make.proofs.Clear.{cubes_are_clear}
 use Rattle.mesh_make.proofs.Ranges.{steps_in_range}
+use Rattle.outside_io.specs.declared.stop.Stop.{Stop}
+use Rattle.outside_io.specs.declared.stop.Stop.TheVariants.{DeskFault, SinkFault}
+use Rattle.outside_io.specs.Outside.{Around, Puts, StoresNothing}
 use Rattle.outside_io.specs.Sink.{AppendsPart}
 use Rattle.outside_io.proofs.Written.{appended-nil}
 use Rattle.track_try.specs.Summary.{log_of_cubes, counts_of, summary_text, summary_of}
@@ -111,3 +114,13 @@ some_summary n key = omega arith
 -- so nothing is a part of it
 pub nothing_of_summary : (n key : ℕ) (held : Option (List ℕ)) → AppendsPart held held (summary_of n key)
 nothing_of_summary n key held = (0, some_summary n key, sym (appended-nil held))
+
+-- ---- where it is put
+
+no_desk_fault : (r : Result (Unit {0}) Stop) → IfErr r (λ stop. stop ≡ SinkFault) → r ≡ Err DeskFault → ⊥
+no_desk_fault (Ok u) fault e = absurd cc
+no_desk_fault (Err stop) fault e = absurd cc
+
+-- nothing is stored
+pub put_quietly : (bytes : List ℕ) (a b : Around) (r : Result (Unit {0}) Stop) → Puts bytes a b r → StoresNothing a b r
+put_quietly bytes a b r p = record { files = p.files; desk = p.desk; no_desk = no_desk_fault r p.fault; counts = p.counts }

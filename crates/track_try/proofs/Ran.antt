@@ -1,5 +1,5 @@
 -- What a run over counting sides comes to.
-use Rattle.std.proofs.Common.{◌≡◌, ℕ, ◌+◌, true, List, [], ◌∷◌, ap, sym, ◌∙◌, subst, Some, Ok}
+use Rattle.std.proofs.Common.{◌≡◌, ℕ, ◌+◌, ◌<◌, ◌^◌, arith, List, [], ◌∷◌, ap, sym, ◌∙◌, subst, Some, Ok}
 use Rattle.std.specs.declared.option.Option.{Option}
 use Rattle.mesh_base.specs.Mesh.{Mesh}
 use Rattle.mesh_base.specs.Valid.{IsValidSurface}
@@ -11,11 +11,16 @@ use Rattle.log_text.specs.declared.Refusal.{Refusal}
 use Rattle.log_replay.specs.Replay.{Replay, at_mesh, after}
 use Rattle.log_write.proofs.WrittenLines.{written_then}
 use Rattle.outside_io.specs.Sink.{appended}
+use Rattle.step_choose.specs.Settings.{AreWithinLimits}
+use Rattle.track_engine.specs.declared.engine.Engine.{Engine}
+use Rattle.track_engine.specs.declared.open_group.OpenGroup.{OpenGroup}
+use Rattle.track_engine.specs.Engines.{state_in}
 use Rattle.track_engine.specs.State.{State, start, unsaved, standing}
 use Rattle.track_engine.specs.Answers.{without_fields}
 use Rattle.track_engine.specs.Answered.{Known, FollowsAnswers}
 use Rattle.track_engine.specs.Effects.{ExpectedLog, log_from, mesh_line}
-use Rattle.track_engine.specs.Invariant.{IsRunInvariant}
+use Rattle.track_engine.specs.Invariant.{IsRunInvariant, MarksHold, HasRoom}
+use Rattle.track_engine.specs.Ready.{IsReady}
 use Rattle.track_engine.specs.Saved.{Target}
 use Rattle.track_engine.specs.World.{Contents, Logs}
 use Rattle.track_engine.proofs.Keeping.{kept_start}
@@ -56,3 +61,26 @@ module _ (m : Mesh) (first next : State) (new : first ≡ unsaved m) (saved : ne
       log = let q : Some w ≡ Some (text_of_lines (whole_log m steps)) = sym is ∙ told (Some o) a p logs.written ∙ ap (λ o. appended (Some o) (text_of_lines (whole_log m steps))) empty in (cc);
       mesh = sym (ap (λ (r : Replay). r.mesh) stands);
     }
+
+-- of a text that is the same
+pub told_at : (m : Mesh) (steps : List Placed) (told same : List ℕ) (now : Mesh) → told ≡ same → HasRun m steps same now → HasRun m steps told now
+told_at m steps told same now e h = let P : List ℕ → Type 0 = λ text. HasRun m steps text now in subst P (sym e) h
+
+-- such an engine is ready for directives
+module _ {S : Type 0} (beyond : ℕ) (mesh : S → Mesh) (kept : S → List Mesh) (m : Mesh) (first next : Engine S) (new : state_in mesh kept first ≡ unsaved m) (none : first.run.groups ≡ [])
+    (saved : state_in mesh kept next ≡ record (state_in mesh kept first) { saved = first.run.saved + 1 }) (same : next.run.groups ≡ first.run.groups) where
+  stands_so : state_in mesh kept next ≡ start m
+  stands_so = begins m (state_in mesh kept first) (state_in mesh kept next) new saved
+
+  pub ready_first : IsValidSurface m → IsReady beyond mesh kept next
+  ready_first good = record {
+    invariant = kept_first m (state_in mesh kept first) (state_in mesh kept next) new saved good;
+    marks = (let P : List OpenGroup → Type 0 = λ groups. MarksHold beyond (kept next.mesh) groups in subst P (sym (same ∙ none)) tt);
+    limits = (let P : State → Type 0 = λ s. AreWithinLimits s.set in subst P (sym stands_so) (record { depth = omega arith; passes = omega arith; halvings = omega arith }));
+  }
+
+  pub room_first : (count : ℕ) → count < 2 ^ 31 → HasRoom count next.run
+  room_first count few =
+      let steps : next.run.steps ≡ 0 = ap (λ (s : State). s.steps) stands_so in
+      let one : next.run.saved ≡ 1 = ap (λ (s : State). s.saved) stands_so in
+      record { steps = omega arith; saved = omega arith }

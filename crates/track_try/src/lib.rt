@@ -1,11 +1,9 @@
 //! A generated job is made, run over sides that only count, and summed up.
 #![tactic(auto)]
 
-mod faults;
 pub mod laws;
 mod running;
 mod summing;
 mod trying;
 
-pub use faults::TryFault;
 pub use trying::try_cubes;

@@ -8,12 +8,13 @@ ghost use Rattle.track_try.specs.Told.{HasRun};
 
 use grid_base::{NoMemory, Point, Shift};
 use log_text::{LogLine, VERSION};
+use log_write::write_line;
 use mesh_field::Fields;
 use mesh_plain::Surface;
-use outside_io::{TallyDesk, TallySink};
+use outside_io::{Ends, TallyDesk, TallySink};
 use std::alloc::Global;
 use step_text::Placed;
-use track_engine::{Engine, Target, say};
+use track_engine::{Engine, RunTerms, Target};
 
 /// Runs the job of a mesh and directives that name no stored field: its whole log goes to the sink, and the engine is left as it stands
 /// at the end. Neither side ever fails, so nothing but want of memory stops it.
@@ -37,16 +38,21 @@ pub(crate) fn run<S: Surface + Drop, F: Fn(u8, Point) -> Shift>(
         prefix: "",
         decimals: 0,
     };
+    let terms = RunTerms { to, fields };
     let mut desk = TallyDesk::new();
+    let mut ends = Ends {
+        desk: &mut desk,
+        out: told,
+    };
     let mut engine = Engine::new(alloc, mesh)?;
     let first = LogLine::First { version: VERSION };
-    let Ok(()) = say(alloc, told, &first) else {
+    let Ok(()) = write_line(alloc, &mut ends, &first) else {
         return Err(NoMemory);
     };
-    let Ok(()) = engine.save(alloc, to, &mut desk, told) else {
+    let Ok(()) = engine.save(alloc, to, &mut ends) else {
         return Err(NoMemory);
     };
-    match engine.follow(alloc, to, steps, &mut desk, told, fields) {
+    match engine.follow(alloc, &terms, steps, &mut ends) {
         Ok(_) => Ok(engine),
         Err(_) => Err(NoMemory),
     }

@@ -1,11 +1,10 @@
-ghost use Rattle.std.specs.Prelude.{◌≡◌, ◌≤◌, IfOk, OnOk, OnErr, IsErrOf};
+ghost use Rattle.std.specs.Prelude.{◌≡◌, IfOk, OnOk, OnErr};
 ghost use Rattle.mesh_make.specs.Cubes.{IsRow, cubes_mesh};
 ghost use Rattle.mesh_make.specs.CubeSteps.{cubes_steps};
-ghost use Rattle.outside_io.specs.Causes.{Rose};
+ghost use Rattle.outside_io.specs.Outside.{StoresNothing};
 ghost use Rattle.outside_io.specs.Sink.{appended, AppendsPart};
 ghost use Rattle.track_try.specs.Summary.{summary_of};
 
-use crate::faults::TryFault;
 use crate::running::run;
 use crate::summing::summed_up;
 use grid_base::{NoMemory, Point, Shift};
@@ -13,7 +12,7 @@ use mesh_field::no_fields;
 use mesh_journal::JournalMesh;
 use mesh_make::cubes;
 use mesh_plain::Surface;
-use outside_io::{Sink, TallySink, put_all};
+use outside_io::{Outside, Stop, TallySink};
 use std::alloc::Global;
 use step_text::Placed;
 
@@ -55,16 +54,14 @@ fn summary(alloc: Global, n: u8, key: u32) -> Result<Vec<u8>, NoMemory>
 /// to: seven lines, which tell the job, the number of cubes, of steps and of those that were taken with the asked shifts, of splits, of
 /// vertices and faces at the end, where vertex 1 then stands, and of lines of the log. A fault leaves a part of the summary that is not all
 /// of it; want of memory leaves nothing.
-pub fn try_cubes<K: Sink>(alloc: Global, n: u8, key: u32, out: &mut K) -> Result<(), TryFault>
+pub fn try_cubes<O: Outside>(alloc: Global, n: u8, key: u32, outside: &mut O) -> Result<(), Stop>
     requires { IsRow n }
-    ensures done { OnOk result
-        (K.written out.new ≡ appended (K.written out.old) (summary_of n key)) }
-    ensures stopped { OnErr result
-        (AppendsPart (K.written out.old) (K.written out.new) (summary_of n key)) }
-    ensures later { K.faults out.old ≤ K.faults out.new }
-    ensures cause { IsErrOf result TryFault.SinkFault → Rose (K.faults out.old) (K.faults out.new) }
+    ensures done { OnOk result ((O.around outside.new).world.holds.written
+        ≡ appended (O.around outside.old).world.holds.written (summary_of n key)) }
+    ensures stopped { OnErr result (AppendsPart (O.around outside.old).world.holds.written
+        (O.around outside.new).world.holds.written (summary_of n key)) }
+    ensures quiet { StoresNothing (O.around outside.old) (O.around outside.new) result }
 {
     let text = summary(alloc, n, key)?;
-    put_all(out, &text)?;
-    Ok(())
+    outside.put(&text)
 }

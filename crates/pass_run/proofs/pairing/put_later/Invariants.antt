@@ -6,4 +6,5 @@ use Rattle.pass_run.proofs.pairing.put_later.Given as goal
 abbrev pub invariant-loop-k : goal.invariant-loop-k
 invariant-loop-k g l =
     let m = g.S.Surface.mesh l.mesh in
-    l.asked ++ later_zips m l.within l.edges l.i (l.a, l.b) (drop l.k-index l.places) ≡ l.fn.asked ++ later_zips m l.within l.edges l.i (l.a, l.b) l.places
+    let t = l.turn in
+    l.asked ++ later_zips m t.within t.edges.now t.place t.edge (drop l.k-index l.places) ≡ l.fn.asked ++ later_zips m t.within t.edges.now t.place t.edge l.places

@@ -1,34 +1,12 @@
-use Rattle.std.proofs.lemmas.Result.{err_from_is_err_and}
-use Rattle.log_replay.specs.Replay.{at_mesh}
-use Rattle.pass_run.specs.Candidates.{candidates}
-use Rattle.pass_run.specs.PassLines.{exactly, terms_of, lines_from}
-use Rattle.pass_run.proofs.Keeping.{pass_keeps}
-use Rattle.pass_run.proofs.Asking.{lines_make}
-use Rattle.pass_run.proofs.Opening.{opened_in_part, opened_and_then}
-use Rattle.pass_run.proofs.Stages.{leads_to}
+use Rattle.std.proofs.Common.{rules, ◌≡◌, ℕ, List, Option, sym, subst}
+use Rattle.mesh_base.specs.Mesh.{Mesh}
+use Rattle.log_text.specs.declared.LogLine.{LogLine}
+use Rattle.pass_run.specs.Said.{SaidInPart}
 use Rattle.pass_run.proofs.passing.pass.Goals as goal
 
-pub returns-in_err-write_line-clause-said : goal.returns-in_err-write_line-clause-said
-returns-in_err-write_line-clause-said g c =
-    let p = err_from_is_err_and c.from_residual.result c.from_residual.ensures.1 in
-    let m = g.S.Surface.mesh c.args.mesh.now in
-    let terms = terms_of c.args.kind c.args.depth c.args.grouped in
-    rw p.1 (opened_in_part m _ _ c.args.kind (lines_from (exactly terms) m (candidates m c.args.kind)) c.in_err-write_line.ensures.part)
+-- what is said to a sink that is lent is said to it as it comes back
+said_to_it : {K : Type 0} (written : K → Option (List ℕ)) (from to : Mesh) (old : Option (List ℕ)) (lines : List LogLine) (back lent : K) → back ≡ lent → SaidInPart from to old (written lent) lines → SaidInPart from to old (written back) lines
+said_to_it written from to old lines back lent same said = subst (λ k. SaidInPart from to old (written k) lines) (sym same) said
 
-pub returns-clause-said : goal.returns-clause-said
-returns-clause-said g c =
-    let m = g.S.Surface.mesh c.args.mesh.now in
-    let terms = terms_of c.args.kind c.args.depth c.args.grouped in
-    opened_and_then m _ _ _ _ c.args.kind (lines_from (exactly terms) m (candidates m c.args.kind)) c.take_all.result c.in_ok-write_line.ensures.whole c.take_all.ensures.said
-
-pub returns-in_err-write_line-clause-motions : goal.returns-in_err-write_line-clause-motions
-returns-in_err-write_line-clause-motions g c = pass_keeps c.args.kind c.args.depth c.args.grouped (g.S.Surface.mesh c.args.mesh.now) (g.met.S.Surface.sound c.args.mesh.now) c.requires.closed c.requires.clear
-
-pub returns-clause-motions : goal.returns-clause-motions
-returns-clause-motions g c = pass_keeps c.args.kind c.args.depth c.args.grouped (g.S.Surface.mesh c.args.mesh.now) (g.met.S.Surface.sound c.args.mesh.now) c.requires.closed c.requires.clear
-
-pub returns-clause-mesh : goal.returns-clause-mesh
-returns-clause-mesh g c =
-    let m = g.S.Surface.mesh c.args.mesh.now in
-    let rules = exactly (terms_of c.args.kind c.args.depth c.args.grouped) in
-    leads_to _ _ _ _ c.take_all.result (lines_make rules (at_mesh m) (candidates m c.args.kind)) c.take_all.ensures
+pub returns-in-Err-clause-said : goal.returns-in-Err-clause-said
+returns-in-Err-clause-said g c = said_to_it g.K.Sink.written (g.S.Surface.mesh c.args.mesh.now) (g.S.Surface.mesh c.pass_to.new.mesh) _ _ _ c.pass_to.new.outside.out.now (search rules) c.in-Err.ensures.takes.said

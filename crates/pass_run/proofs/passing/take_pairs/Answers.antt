@@ -9,18 +9,18 @@ use Rattle.pass_run.proofs.Asking.{none_left}
 use Rattle.pass_run.proofs.NearPairs.{pairs_left, pairs_here, points_stay, all_pairs_left}
 use Rattle.pass_run.proofs.NearPlaces.{midpoints_stay}
 use Rattle.pass_run.proofs.Room.{edges_few, near_few}
-use Rattle.pass_run.proofs.Stages.{wanting, goes_nowhere, so_far_none, so_far_over, so_far_all, so_far_wanting, step_done, step_in_part}
+use Rattle.pass_run.proofs.Stages.{nothing_yet, so_far_none, so_far_over, so_far_all, so_far_wanting, step_done, step_in_part}
 use Rattle.pass_run.proofs.passing.take_pairs.Goals as goal
 
 pub returns-in_err-edges : goal.returns-in_err-edges
 returns-in_err-edges g c =
     let p = err_from_is_err_and c.from_residual.result c.from_residual.ensures.1 in
-    rw p.1 (wanting _ _ _ p.0 p.2 refl refl (goes_nowhere _ c.requires.closed c.requires.clear))
+    rw (p.1, p.2) (nothing_yet _ _ c.requires.closed c.requires.clear)
 
 pub returns-in_err-grid : goal.returns-in_err-grid
 returns-in_err-grid g c =
     let p = err_from_is_err_and c.from_residual-in_err-grid.result c.from_residual-in_err-grid.ensures.1 in
-    rw p.1 (wanting _ _ _ p.0 p.2 refl refl (goes_nowhere _ c.requires.closed c.requires.clear))
+    rw (p.1, p.2) (nothing_yet _ _ c.requires.closed c.requires.clear)
 
 pub loop-i-init : goal.loop-i-init
 loop-i-init g c =
@@ -43,7 +43,7 @@ near_pairs-requires g c = midpoints_stay (g.S.Surface.mesh c.args.mesh.now) (g.S
 pub returns-in_err-asked : goal.returns-in_err-asked
 returns-in_err-asked g c =
     let p = err_from_is_err_and c.from_residual-in_err-asked.result c.from_residual-in_err-asked.ensures.1 in
-    rw p.1 (so_far_wanting _ _ c.args.terms.grouped _ _ c.loop-i.count c.loop-i.invariant.so_far p.0 p.2)
+    rw (p.1, p.2) (so_far_wanting _ _ c.args.terms.grouped _ _ c.loop-i.count c.loop-i.invariant.so_far)
 
 pub returns-in_err-more : goal.returns-in_err-more
 returns-in_err-more g c =
@@ -55,9 +55,9 @@ returns-in_err-more g c =
     let all = c.as_slice.result.now in
     let is : all ≡ near_zips m c.args.within e (drop (c.loop-i.i + 1) items) = c.as_slice.ensures ∙ c.in_ok-asked.ensures in
     let rest : Mesh → List LogLine = λ n. pairs_left rules n (drop (c.loop-i.i + 1) items) in
-    rw p.1 (step_in_part _ _ _ c.args.terms.grouped _ (lines_from rules m all) _ rest c.loop-i.count
+    rw (p.1, p.2) (step_in_part _ _ _ c.args.terms.grouped _ (lines_from rules m all) _ rest c.loop-i.count
     (pairs_here c.args.terms c.args.within c.requires.zips m items c.loop-i.i e c.loop-i-test.true c.index-edges-i.is all is)
-    c.loop-i.invariant.so_far (sym c.is_over.ensures ∙ c.if-is_over.false) p.0 c.in_err-more.field-0.0 p.2 c.in_err-more.ensures.takes)
+    c.loop-i.invariant.so_far (sym c.is_over.ensures ∙ c.if-is_over.false) c.in_err-more.field-0.0 c.in_err-more.ensures.takes)
 
 pub sum-count-requires : goal.sum-count-requires
 sum-count-requires g c =

@@ -10,9 +10,9 @@ use Rattle.pass_run.proofs.passing.take_pairs.Given as goal
 abbrev pub invariant-loop-i : goal.invariant-loop-i
 invariant-loop-i g l =
     let surface = g.S.Surface in
-    let sink = g.K.Sink in
-    let first = stage surface.mesh surface.kept sink.written sink.faults l.fn.mesh l.fn.out in
-    let now = stage surface.mesh surface.kept sink.written sink.faults l.mesh l.out in
+    let around = g.O.Outside.around in
+    let first = stage surface.mesh surface.kept around l.fn.mesh l.fn.outside in
+    let now = stage surface.mesh surface.kept around l.mesh l.outside in
     record {
       so_far : SoFar first now l.terms.grouped (pairs_left (exactly l.terms) now.mesh (drop l.i l.edges)) (lines_from (exactly l.terms) first.mesh (candidates first.mesh l.terms.kind)) l.count;
       points : now.mesh.points ≡ first.mesh.points;

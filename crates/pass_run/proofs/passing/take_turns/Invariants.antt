@@ -7,10 +7,11 @@ use Rattle.pass_run.proofs.passing.take_turns.Given as goal
 abbrev pub invariant-loop-what : goal.invariant-loop-what
 invariant-loop-what g l =
     let surface = g.S.Surface in
-    let sink = g.K.Sink in
-    let first = stage surface.mesh surface.kept sink.written sink.faults l.fn.mesh l.fn.out in
-    let now = stage surface.mesh surface.kept sink.written sink.faults l.mesh l.out in
+    let around = g.O.Outside.around in
+    let first = stage surface.mesh surface.kept around l.fn.mesh l.fn.outside in
+    let now = stage surface.mesh surface.kept around l.mesh l.outside in
+    let t = l.turns in
     record {
-      taking : IsTaking (g.C.Chooses.may_choose l.by) (exact_answer l.depth) l.grouped first now l.candidates l.what-index l.count;
+      taking : IsTaking (g.C.Chooses.may_choose t.by.now) (exact_answer t.depth) t.grouped first now l.candidates l.what-index l.count;
       sum : l.count.done + l.count.refused ≤ l.what-index;
     }

@@ -1,6 +1,11 @@
-use Rattle.std.proofs.Common.{refl}
-use Rattle.log_write.proofs.WrittenLines.{written_nothing}
+use Rattle.std.proofs.Common.{◌∷◌, []}
+use Rattle.std.proofs.lemmas.Result.{err_from_is_err_and}
+use Rattle.log_text.specs.declared.LogLine.TheVariants.{Block}
+use Rattle.log_write.specs.Written.{Says}
+use Rattle.log_write.proofs.SaidLines.{says_nothing}
 use Rattle.track_engine.proofs.stepping.say_block.Goals as goal
 
-pub returns-in_default-clause-said : goal.returns-in_default-clause-said
-returns-in_default-clause-said g c = written_nothing _ _ _ refl
+pub returns-in_err-ids : goal.returns-in_err-ids
+returns-in_err-ids g c =
+    let p = err_from_is_err_and c.from_residual.result c.from_residual.ensures.1 in
+    rw (p.1, p.2) (says_nothing (Block c.args.ids.now ∷ []) (g.O.Outside.around c.args.outside.now))

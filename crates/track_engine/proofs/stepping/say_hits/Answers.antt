@@ -1,16 +1,20 @@
-use Rattle.std.proofs.Common.{arith}
 use Rattle.std.proofs.lemmas.Result.{err_from_is_err_and}
 use Rattle.log_text.specs.declared.LogLine.TheVariants.{Hit}
-use Rattle.track_engine.proofs.Saying.{lines_more, lines_part}
+use Rattle.log_write.proofs.SaidLines.{so_far_none}
+use Rattle.track_engine.specs.Effects.{hit_lines}
+use Rattle.track_engine.proofs.Saying.{lines_more, lines_part, lines_all}
 use Rattle.track_engine.proofs.stepping.say_hits.Goals as goal
 
-pub returns-in_err-say-clause-said : goal.returns-in_err-say-clause-said
-returns-in_err-say-clause-said g c =
+pub loop-pair-init : goal.loop-pair-init
+loop-pair-init g c = so_far_none _ (hit_lines c.args.pairs.now)
+
+pub returns-in_err-write_line : goal.returns-in_err-write_line
+returns-in_err-write_line g c =
     let p = err_from_is_err_and c.from_residual.result c.from_residual.ensures.1 in
-    rw p.1 (lines_part (λ p. Hit p) _ _ _ c.args.pairs.now c.loop-pair.pair-index c.pair-item.result _ c.loop-pair-test.true c.pair-item.is c.loop-pair.invariant.said c.in_err-say.ensures.said)
+    rw (p.1, p.2) (lines_part (λ p. Hit p) _ _ _ c.args.pairs.now c.loop-pair.pair-index c.pair-item.result _ c.loop-pair-test.true c.pair-item.is _ c.loop-pair.invariant c.in_err-write_line.ensures.says)
 
 pub loop-pair-preserved : goal.loop-pair-preserved
-loop-pair-preserved g c = record {
-  said = lines_more (λ p. Hit p) _ _ _ c.args.pairs.now c.loop-pair.pair-index c.pair-item.result _ c.loop-pair-test.true c.pair-item.is c.loop-pair.invariant.said c.in_ok-say.ensures.said;
-  later = omega (arith, c.in_ok-say.ensures.later);
-}
+loop-pair-preserved g c = lines_more (λ p. Hit p) _ _ _ c.args.pairs.now c.loop-pair.pair-index c.pair-item.result _ c.loop-pair-test.true c.pair-item.is _ c.loop-pair.invariant c.in_ok-write_line.ensures.says
+
+pub returns : goal.returns
+returns g c = lines_all (λ p. Hit p) _ _ c.args.pairs.now c.loop-pair.pair-index _ c.loop-pair-test.false c.loop-pair.invariant
