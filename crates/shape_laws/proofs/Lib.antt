@@ -1,0 +1,17 @@
+pub mod Lists
+pub mod Numbers
+pub mod Classed
+pub mod Chained
+pub mod Listed
+pub mod Traded
+pub mod Faces
+pub mod SplitShape
+pub mod FlipShape
+pub mod Done
+pub mod CollapseFaces
+pub mod CollapseLink
+pub mod CollapseShape
+pub mod CollapseCount
+pub mod Plain
+pub mod CollapseDone
+pub mod Moved
