@@ -3,6 +3,7 @@ ghost use Rattle.mesh_base.specs.Kept.{BeginsWith, MarkHolds, StandsFor};
 ghost use Rattle.mesh_base.specs.Mesh.{Mesh};
 ghost use Rattle.mesh_base.specs.Sides.{IsClosed};
 ghost use Rattle.edit_dispatch.specs.Dispatch.{scaffold_of};
+ghost use Rattle.motion_proof.specs.Acceptance.{AreWays};
 ghost use Rattle.edit_scaffold.specs.Made.{IsDone, IsMade, IsLaid, OnLaid};
 
 use crate::putting::put;
@@ -62,6 +63,8 @@ pub fn lay<S: Surface>(
     ensures laid { let scaffold = scaffold_of (S.mesh mesh.old) change.now in
         IfOk result (λ laid. IsLaid scaffold (S.mesh mesh.old) (S.mesh mesh.new) laid) }
     ensures err { OnErr result (S.mesh mesh.new ≡ S.mesh mesh.old) }
+    // The ways are such as a certificate needs.
+    ensures fits { OnLaid result (λ laid. AreWays laid.ways) }
     // A return to the mark gives the mesh back.
     ensures holds { OnLaid result (λ laid. MarkHolds S.beyond (S.kept mesh.new) laid.mark) }
     ensures stands { let kept = S.kept mesh.new in

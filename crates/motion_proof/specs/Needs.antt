@@ -1,5 +1,5 @@
 -- Which pairs need an entry, and the list of these.
-use Rattle.std.specs.Prelude.{ℕ, Bool, cond, ◌↔◌, ◌⊎◌, ◌&&◌, ◌||◌, not, List, [], ◌∷◌, map, slice_get}
+use Rattle.std.specs.Prelude.{ℕ, Bool, cond, ◌↔◌, ◌⊎◌, ◌&&◌, ◌||◌, not, List, map, slice_get}
 use Rattle.std.specs.List.{Any, Contains, filter, flat_map, list_any}
 use Rattle.std.specs.List.Sorted.{IsStrictlySortedBy}
 use Rattle.std.proofs.Common.{Option, Some, None}

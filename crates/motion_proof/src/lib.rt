@@ -15,7 +15,9 @@ mod serving;
 mod trees;
 mod valid;
 
-pub use accept::accepts;
+pub use accept::{accepts, verdict_of};
 pub use certificate::{Certificate, Claim, Entries, Entry, Made, Tree, Verdict, Way};
-pub use maker::certify;
+pub use going::Going;
+pub use maker::{certify, made_of};
+pub use scan::{Names, needing_along};
 pub use valid::is_valid;

@@ -15,7 +15,7 @@ use std::test::Fail;
 
 // A node of a tree, in order: a leaf with its direction, or halves.
 #[derive(Clone, Copy, Debug, PartialEq, Eq)]
-enum Node {
+pub(crate) enum Node {
     Leaf([i128; 3]),
     Halves,
 }
@@ -220,12 +220,12 @@ const SHEET_NODES: [Node; 14] = [
 
 // What a certificate has: the names of its pairs, and the nodes of its trees, one tree after another.
 #[derive(Drop)]
-struct Listing {
-    names: Vec<PairName>,
-    nodes: Vec<Node>,
+pub(crate) struct Listing {
+    pub(crate) names: Vec<PairName>,
+    pub(crate) nodes: Vec<Node>,
 }
 
-fn listing_of(alloc: Global, c: &Certificate) -> Result<Listing, NoMemory> {
+pub(crate) fn listing_of(alloc: Global, c: &Certificate) -> Result<Listing, NoMemory> {
     let mut s = Listing {
         names: Vec::new(alloc),
         nodes: Vec::new(alloc),

@@ -20,14 +20,15 @@ use std::process::Abort;
 use std::test::Fail;
 
 // A tetrahedron whose edge 1 2 has its midpoint between two points of the grid.
-const LONG: &[u8] = b"v 0 0 0\nv 5 0 0\nv 2 2 0\nv 2 0 2\nf 1 3 2\nf 1 2 4\nf 2 3 4\nf 1 4 3\n";
+pub(crate) const LONG: &[u8] =
+    b"v 0 0 0\nv 5 0 0\nv 2 2 0\nv 2 0 2\nf 1 3 2\nf 1 2 4\nf 2 3 4\nf 1 4 3\n";
 
 // The same with that edge split: the faces 1 and 2 are gone, and 5 to 8 stand round the vertex 5.
 const LONG_SPLIT: &[u8] =
     b"v 0 0 0\nv 5 0 0\nv 2 2 0\nv 2 0 2\nv 2 0 0\nf 2 3 4\nf 1 4 3\nf 1 5 4\nf 5 2 4\nf 2 5 3\nf 5 1 3\n";
 
 // A flat double pyramid over the triangle 1 2 3, in which 4 and 5 stand near the edge 1 2.
-const FLAT: &[u8] =
+pub(crate) const FLAT: &[u8] =
     b"v 0 0 0\nv 24 0 0\nv 12 20 0\nv 12 6 4\nv 12 6 -4\nf 1 2 4\nf 2 3 4\nf 3 1 4\nf 2 1 5\nf 3 2 5\n\
 f 1 3 5\n";
 
@@ -37,7 +38,7 @@ const FLAT_SPLIT: &[u8] =
 f 1 6 4\nf 6 2 4\nf 2 6 5\nf 6 1 5\n";
 
 // Two tetrahedra with the vertex 1 in common.
-const JOINED: &[u8] =
+pub(crate) const JOINED: &[u8] =
     b"v 0 0 0\nv 8 0 0\nv 8 4 0\nv 8 0 4\nv -8 0 0\nv -8 4 0\nv -8 0 4\nf 1 3 2\nf 1 2 4\nf 2 3 4\nf 1 4 3\n\
 f 1 6 5\nf 1 5 7\nf 5 6 7\nf 1 7 6\n";
 
@@ -47,7 +48,7 @@ const PARTED: &[u8] =
 f 1 4 3\nf 5 6 7\nf 8 6 5\nf 8 5 7\nf 8 7 6\n";
 
 // Two boxes, one beside the other.
-const BOXES: &[u8] =
+pub(crate) const BOXES: &[u8] =
     b"v 10 0 0\nv 10 10 10\nv 10 10 0\nv 10 0 10\nv 0 0 0\nv 0 10 0\nv 0 10 10\nv 0 0 10\nv 14 -5 -5\n\
 v 14 15 15\nv 14 15 -5\nv 14 -5 15\nv 34 -5 -5\nv 34 15 -5\nv 34 15 15\nv 34 -5 15\nf 1 3 2 4\n\
 f 5 8 7 6\nf 1 4 8 5\nf 3 6 7 2\nf 1 5 6 3\nf 4 2 7 8\nf 9 12 10 11\nf 13 14 15 16\nf 9 13 16 12\n\
@@ -67,7 +68,7 @@ fn lists_of(alloc: Global, text: &[u8], rt: &impl Abort) -> Result<MeshLists, Re
     read_obj(alloc, text, 0)
 }
 
-fn mesh_of(alloc: Global, text: &[u8], rt: &impl Abort) -> Result<JournalMesh, Fail>
+pub(crate) fn mesh_of(alloc: Global, text: &[u8], rt: &impl Abort) -> Result<JournalMesh, Fail>
     ensures closed { IfOk result (λ s. IsClosed (⟦<JournalMesh as Surface>⟧.mesh s)) }
     ensures clear { IfOk result (λ s. IsClearMesh (⟦<JournalMesh as Surface>⟧.mesh s)) }
 {
@@ -81,7 +82,11 @@ fn mesh_of(alloc: Global, text: &[u8], rt: &impl Abort) -> Result<JournalMesh, F
 }
 
 // What an edit of the mesh changes, where it is done. The mesh stays.
-fn change_of<S: Surface>(alloc: Global, mesh: &S, what: Asked) -> Result<Option<Change>, NoMemory>
+pub(crate) fn change_of<S: Surface>(
+    alloc: Global,
+    mesh: &S,
+    what: Asked,
+) -> Result<Option<Change>, NoMemory>
     requires closed { IsClosed (S.mesh mesh.now) }
     requires clear { IsClearMesh (S.mesh mesh.now) }
     ensures { IfOk result (λ found. IfSome found (λ change. IsDone (S.mesh mesh.now) change)) }

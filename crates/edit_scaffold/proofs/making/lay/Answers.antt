@@ -4,6 +4,7 @@ use Rattle.mesh_base.specs.Sides.{IsClosed}
 use Rattle.mesh_base.proofs.MarksHold.{begins_along, begins_after_return, holds_along, stands_along, stands_for_one}
 use Rattle.edit_dispatch.specs.Dispatch.{scaffold_of}
 use Rattle.edit_scaffold.specs.Made.{IsDone, IsTestedOn}
+use Rattle.edit_scaffold.proofs.Fitting.{laid_ways_fit}
 use Rattle.edit_scaffold.proofs.Lying.{has_one}
 use Rattle.edit_scaffold.proofs.making.lay.Goals as goal
 
@@ -27,6 +28,12 @@ pub returns-in-Ok-clause-laid : goal.returns-in-Ok-clause-laid
 returns-in-Ok-clause-laid g c =
     let P : Mesh → Type 0 = λ m. IsTestedOn (scaffold_of m c.args.change.now) (g.S.Surface.mesh c.put.new.mesh) c.in-Ok.motion.ways c.in-Ok.motion.claim in
     subst P c.in_ok-mark.ensures.mesh c.in-Ok.ensures.made
+
+pub returns-in-Ok-clause-fits : goal.returns-in-Ok-clause-fits
+returns-in-Ok-clause-fits g c =
+    let m = g.S.Surface.mesh c.mark.new.self in
+    let motion = c.in-Ok.motion in
+    laid_ways_fit m (g.S.Surface.mesh c.put.new.mesh) c.args.change.now motion.ways motion.claim c.in-Ok.ensures.made
 
 pub returns-in-Ok-clause-holds : goal.returns-in-Ok-clause-holds
 returns-in-Ok-clause-holds g c =

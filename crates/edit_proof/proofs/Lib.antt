@@ -1,0 +1,4 @@
+pub mod Beside
+pub mod Enough
+pub mod Kept
+pub mod Reached
