@@ -91,8 +91,10 @@ def directive(dice, vertices, scale, depth):
         return f"split {dice.choice([2, 4, 6, 9]) * scale}"
     if kind < 0.58:
         return f"collapse {dice.choice([1, 2, 4, 5, 7]) * scale}"
-    if kind < 0.63:
+    if kind < 0.61:
         return "flip"
+    if kind < 0.645:
+        return "fit"
     if kind < 0.68:
         return f"zip {dice.choice([0, 1, 2, 4, 6]) * scale}"
     if kind < 0.72:

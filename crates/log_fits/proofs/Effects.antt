@@ -1,9 +1,11 @@
 -- The lines of directives fit.
-use Rattle.std.proofs.Common.{◌≡◌, ℕ, suc, ◌+◌, ◌-◌, ◌<◌, Bool, true, false, cond, not, is_some, List, [], ◌∷◌, length, Option, Some, None, Result, Ok, Err, refl, ap, sym, subst, arith}
+use Rattle.std.proofs.Common.{◌≡◌, ℕ, suc, ◌+◌, ◌-◌, ◌<◌, Bool, true, false, cond, not, is_some, List, [], ◌∷◌, length, take, Option, Some, None, Result, Ok, Err, refl, ap, sym, subst, arith}
 use Rattle.std.specs.FinMap as finite
 use Rattle.std.proofs.lemmas.List.{length-map}
 use Rattle.grid_decided.specs.Decided.{meets_exactly}
 use Rattle.mesh_base.specs.declared.UseWhy.{UseWhy}
+use Rattle.mesh_base.specs.Mesh.{Mesh}
+use Rattle.mesh_base.specs.Pairs.{edges}
 use Rattle.mesh_base.specs.Shifts.{Shifts}
 use Rattle.edit_base.specs.declared.PassKind.{PassKind}
 use Rattle.step_choose.specs.Settings.{AreWithinLimits}
@@ -16,12 +18,14 @@ use Rattle.log_text.specs.declared.LogLine.{LogLine}
 use Rattle.log_text.specs.declared.LogLine.TheVariants.{Close}
 use Rattle.log_replay.specs.Replay.{Replay, after}
 use Rattle.log_replay.specs.OfPass.{AreOfPass}
+use Rattle.log_replay.specs.Again.{LinesAreAgain}
 use Rattle.pass_run.specs.PassLines.{terms_of}
 use Rattle.pass_run.proofs.Replaying.{pass_is}
 use Rattle.track_engine.specs.State.{Group, State, standing, is_open}
-use Rattle.track_engine.specs.Answers.{Answer, Nothing, NoSuchField, FieldShifts, Answers, first, later}
-use Rattle.track_engine.specs.Effects.{Effect, Proceeds, Refused, Unanswered, effect_of, shift_effect, drive_effect, solid_effect, step_effect, close_effect, kept_whole, taken_back, fail_if, sum_of_one, sum_of_all, first_outside, hits, taken, passed_lines, and_then, log_from}
+use Rattle.track_engine.specs.Answers.{Answer, Nothing, NoSuchField, FieldShifts, Wanted, WantedOfFirst, Answers, first, later}
+use Rattle.track_engine.specs.Effects.{Effect, Proceeds, Refused, Unanswered, effect_of, shift_effect, drive_effect, fit_effect, solid_effect, step_effect, close_effect, kept_whole, taken_back, fail_if, sum_of_one, sum_of_all, first_outside, hits, taken, passed_lines, passed_mesh, fitted_lines, fitted_mesh, after_lines, and_then, log_from}
 use Rattle.track_engine.specs.Invariant.{IsRunInvariant}
+use Rattle.track_engine.proofs.Passing.{fit_is}
 use Rattle.track_engine.proofs.Keeping.{kept_next}
 use Rattle.track_engine.proofs.Limits.{limits_next}
 use Rattle.track_engine.proofs.Replayed.{effect_replayed}
@@ -43,7 +47,8 @@ record Fits (open_groups : ℕ) (s next : State) (lines : List LogLine) : Type 0
 
 abbrev EffectFits : ℕ → State → Effect → Type 0
 EffectFits open_groups s (Proceeds lines next) = Fits open_groups s next lines
-EffectFits open_groups s _ = Unit {0}
+EffectFits open_groups s (Unanswered lines) = LinesFit (told false (standing s)) lines
+EffectFits open_groups s (Refused why) = Unit {0}
 
 shift_fits : (s : State) (r : Result Shifts UseWhy) → EffectFits (length s.groups) s (shift_effect r s)
 shift_fits s (Ok asked) = record { fit = tt; ends = refl; count = refl }
@@ -53,6 +58,8 @@ drive_fits : (given : Answer) (s : State) → EffectFits (length s.groups) s (dr
 drive_fits (FieldShifts by) s = shift_fits s (sum_of_all s.mesh by s.asked)
 drive_fits NoSuchField s = tt
 drive_fits Nothing s = tt
+drive_fits (Wanted wants) s = tt
+drive_fits (WantedOfFirst count wants) s = tt
 
 solid_fits : (s : State) (v : ℕ) (b : Bool) → is_some (finite.get s.mesh.points v) ≡ b → EffectFits (length s.groups) s (solid_effect b v s)
 solid_fits s v true live = record { fit = ((refl, live), tt); ends = refl; count = refl }
@@ -69,6 +76,17 @@ step_effect_fits s (Some v) again = tt
 pass_lines_are : (kind : PassKind) (s : State) → AreOfPass (passed_lines kind s)
 unfolding passed_lines
 pass_lines_are kind s = pass_is meets_exactly (terms_of kind s.set.depth (is_open s.groups)) s.mesh
+
+-- a pass, by lines of which each may be of a pass
+lines_fit : (lines : List LogLine) (left : Mesh) (s : State) → AreOfPass lines → LinesAreAgain (standing s) lines → Fits (length s.groups) s (after_lines lines left s) lines
+lines_fit lines left s are again = record { fit = pass_fits (standing s) lines are again; ends = pass_ends lines are; count = same_count _ s.groups }
+
+sizing_fits : (given : Answer) (s : State) → IsAgain s (fit_effect given s) → EffectFits (length s.groups) s (fit_effect given s)
+sizing_fits (Wanted wants) s again = lines_fit (fitted_lines wants (edges s.mesh) s) (fitted_mesh wants (edges s.mesh) s) s (fit_is wants (edges s.mesh) s) again
+sizing_fits (WantedOfFirst count wants) s again = pass_fits (standing s) (fitted_lines wants (take count (edges s.mesh)) s) (fit_is wants (take count (edges s.mesh)) s) again
+sizing_fits (FieldShifts by) s again = tt
+sizing_fits NoSuchField s again = tt
+sizing_fits Nothing s again = tt
 
 close_fits : (s : State) (groups : List Group) → s.groups ≡ groups → 0 < length s.groups → EffectFits (length s.groups - 1) s (close_effect groups s)
 close_fits s [] e some = absurd (let none : length s.groups ≡ 0 = ap length e in omega (arith, none, some))
@@ -94,11 +112,8 @@ effect_fits given (directive.ShiftAll by) s nests again = shift_fits s (sum_of_a
 effect_fits given (directive.Drive name) s nests again = drive_fits given s
 effect_fits given (directive.Solid v) s nests again = solid_fits s v (is_some (finite.get s.mesh.points v)) refl
 effect_fits given directive.Step s nests again = step_effect_fits s (first_outside s.mesh s.asked) again
-effect_fits given (directive.Pass kind) s nests again = record {
-  fit = pass_fits (standing s) (passed_lines kind s) (pass_lines_are kind s) again;
-  ends = pass_ends (passed_lines kind s) (pass_lines_are kind s);
-  count = same_count _ s.groups;
-}
+effect_fits given (directive.Pass kind) s nests again = lines_fit (passed_lines kind s) (passed_mesh kind s) s (pass_lines_are kind s) again
+effect_fits given directive.Fit s nests again = sizing_fits given s again
 effect_fits given directive.Save s nests again = record { fit = ((refl, refl, refl), tt); ends = refl; count = refl }
 effect_fits given directive.Group s nests again = record {
   fit = ((refl, subst (λ n. n < GROUPS_MAX) (sym (length-map s.groups (λ g. g.mesh))) nests), tt);
@@ -127,4 +142,4 @@ fits_from answers (p ∷ steps) s last nested range limits kept =
         fits_append false (standing s) lines rest fits.fit
         (subst Q (sym fits.ends) (subst P (sym (effect_replayed (first answers) p.what s next lines e)) (others next lines e (subst N (sym fits.count) nested.1))))
     by_effect (Refused why) e fits others = (tt, tt)
-    by_effect Unanswered e fits others = tt
+    by_effect (Unanswered lines) e fits others = fits_append false (standing s) lines [] fits tt

@@ -15,10 +15,10 @@ use Rattle.log_ranges.specs.Names.{IsId}
 use Rattle.log_ranges.proofs.Names.{vertices_in_range, edges_in_range, live_keys}
 
 -- two ids in order, as a pair
-abbrev IsOrdered : ℕ × ℕ → Type 0
+abbrev pub IsOrdered : ℕ × ℕ → Type 0
 IsOrdered e = IsEdgeInRange e.0 e.1
 
-edges_listed : (m : Mesh) → IsSound m → AllByRecursion IsOrdered (edges m)
+pub edges_listed : (m : Mesh) → IsSound m → AllByRecursion IsOrdered (edges m)
 edges_listed m sound = recursion_from_All IsOrdered (edges m)
     (All-weaker (Contains (edges m)) IsOrdered (λ e h. let is = (edge_listed m sound e.0 e.1).0 h in edges_in_range m sound e.0 e.1 is.0 is.1) (edges m) (All-contains_itself (edges m)))
 

@@ -1,5 +1,5 @@
 -- The lines of a pass, of a step and of a mesh are in the log's ranges, as statements.
-use Rattle.std.specs.Prelude.{ℕ, ◌≤◌, Bool, List, [], ◌∷◌, ◌++◌, map}
+use Rattle.std.specs.Prelude.{ℕ, ◌≤◌, Bool, List, [], ◌∷◌, ◌++◌, map, take}
 use Rattle.std.specs.List.{All}
 use Rattle.std.specs.FinMap as finite
 use Rattle.grid_base.specs.declared.Positions.{Positions}
@@ -8,6 +8,8 @@ use Rattle.mesh_base.specs.declared.How.{How}
 use Rattle.mesh_base.specs.declared.ids.PairName.{PairName}
 use Rattle.mesh_base.specs.Mesh.{Mesh, IsSound, IsLiveVertex}
 use Rattle.mesh_base.specs.Sides.{IsClosed}
+use Rattle.mesh_base.specs.Pairs.{edges}
+use Rattle.mesh_sizing.specs.declared.sizing.Want.{Want}
 use Rattle.mesh_base.specs.Placements.{IsClearMesh}
 use Rattle.mesh_base.specs.Shifts.{Shifts, NameLive}
 use Rattle.step_choose.specs.declared.settings.Settings.{Settings}
@@ -21,6 +23,7 @@ use Rattle.log_text.specs.Laws.{IsFrom, IsPairInRange, IsHowInRange, IsPassInRan
 use Rattle.pass_run.specs.declared.terms.PassTerms.{PassTerms}
 use Rattle.pass_run.specs.Candidates.{candidates}
 use Rattle.pass_run.specs.PassLines.{pass_lines}
+use Rattle.pass_run.specs.Fits.{fit_lines}
 use Rattle.log_ranges.specs.Names.{IsBlockInRange}
 
 -- The line may stand behind a first line that names the version that is written: it is in its range, and names no other version.
@@ -40,6 +43,12 @@ CandidatesAreInRange = (m : Mesh) (kind : PassKind) → IsSound m → All IsAske
 -- the lines of a pass over a sound and closed mesh
 abbrev pub PassLinesAreInRange : Type 0
 PassLinesAreInRange = (meets : Positions → Bool) (terms : PassTerms) (m : Mesh) → IsSound m → IsClosed m → IsPassInRange terms.kind → AreInRange (pass_lines meets terms m)
+
+-- the lines of a pass by a sizing over the edges of a sound and closed mesh, or over the first of them, whatever is wanted of each
+abbrev pub FitLinesAreInRange : Type 0
+FitLinesAreInRange = (meets : Positions → Bool) (wants : ℕ × ℕ → Want) (depth : ℕ) (grouped : Bool) (m : Mesh) → IsSound m → IsClosed m →
+    AreInRange (fit_lines meets wants depth grouped m (edges m))
+    × ((count : ℕ) → AreInRange (fit_lines meets wants depth grouped m (take count (edges m))))
 
 -- ---- steps
 

@@ -8,7 +8,7 @@ ghost use Rattle.edit_zip.specs.Answer.{OfZips};
 ghost use Rattle.edit_pinch.specs.Answer.{OfPinches};
 ghost use Rattle.log_ranges.specs.Names.{VerticesAreInRange, FacesAreInRange, EdgesAreInRange, PairsAreInRange, FailingPairsAreInRange, FirstMeetingIsInRange, BlocksAreInRange};
 ghost use Rattle.log_ranges.specs.Answers.{AnswersInRange};
-ghost use Rattle.log_ranges.specs.Lines.{CandidatesAreInRange, PassLinesAreInRange, StepLinesAreInRange, WaysAreInRange, MeshLinesAreInRange};
+ghost use Rattle.log_ranges.specs.Lines.{CandidatesAreInRange, PassLinesAreInRange, FitLinesAreInRange, StepLinesAreInRange, WaysAreInRange, MeshLinesAreInRange};
 ghost use Rattle.log_ranges.specs.Texts.{MeshFaultsAreInRange, ShapeFaultsAreInRange, StepFaultsAreInRange, DirectivesAreInRange, DirectivesAreFew};
 
 /// What a sound mesh names is in the log's ranges: its live vertices and faces, its edges by their ends in order, its pairs, also
@@ -34,10 +34,12 @@ pub fn answers_are_in_range()
     ensures any { OfEdits AnswersInRange }
 {}
 
-/// What a pass asks of a sound mesh is in the log's ranges; and of a sound and closed mesh so are all lines of a pass whose length is.
+/// What a pass asks of a sound mesh is in the log's ranges; and of a sound and closed mesh so are all lines of a pass whose length is, and
+/// those of a pass by a sizing, whatever that wants.
 pub fn passes_are_in_range()
     ensures candidates { CandidatesAreInRange }
     ensures lines { PassLinesAreInRange }
+    ensures fits { FitLinesAreInRange }
 {}
 
 /// The lines of a step are in the log's ranges, where its number is, the pairs that fail, the blocks, and the way in which it is taken,

@@ -23,7 +23,7 @@ module _ (rules : PassRules) where
       by_call (Some other) = (line_is other (answer_by rules m other), tt)
       by_call None = tt
 
-  lines_are : (m : Mesh) (all : List Asked) → AreOfPass (lines_from rules m all)
+  pub lines_are : (m : Mesh) (all : List Asked) → AreOfPass (lines_from rules m all)
   lines_are m [] = tt
   lines_are m (what ∷ rest) =
       of_pass_then (lines_of rules m what) _ (one_is m what) (by_test (ends rules.grouped (lines_of rules m what)) (lines_are (mesh_from rules m what) rest))

@@ -1,5 +1,5 @@
 -- What directives give is in range.
-use Rattle.std.proofs.Common.{◌≡◌, ℕ, suc, ◌+◌, ◌≤◌, Bool, true, false, cond, not, is_some, List, [], ◌∷◌, ◌++◌, map, length, Option, Some, None, IsSome, Result, Ok, Err, refl, sym, subst, arith}
+use Rattle.std.proofs.Common.{◌≡◌, ℕ, suc, ◌+◌, ◌≤◌, Bool, true, false, cond, not, is_some, List, [], ◌∷◌, ◌++◌, map, length, take, Option, Some, None, IsSome, Result, Ok, Err, refl, sym, subst, arith}
 use Rattle.std.specs.Prelude.{IfSome, ◌==◌}
 use Rattle.std.specs.List.{All, AllByRecursion, find, filter}
 use Rattle.std.specs.Option.{option_map}
@@ -15,8 +15,10 @@ use Rattle.mesh_base.specs.declared.How.TheVariants.{Whole, Impulse, Zones, Halv
 use Rattle.mesh_base.specs.declared.UseWhy.{UseWhy}
 use Rattle.mesh_base.specs.declared.UseWhy.TheVariants.{ShiftRange, NoField}
 use Rattle.mesh_base.specs.Mesh.{Mesh, IsSound, IsLiveVertex, is_solid}
+use Rattle.mesh_base.specs.Pairs.{edges}
 use Rattle.mesh_base.specs.Shifts.{Shifts}
 use Rattle.mesh_base.proofs.MovesNamed.{name_once}
+use Rattle.mesh_sizing.specs.declared.sizing.Want.{Want}
 use Rattle.edit_base.specs.declared.PassKind.{PassKind}
 use Rattle.edit_acts.proofs.Found.{found_both}
 use Rattle.step_zones.specs.Rounds.{round_labels}
@@ -38,13 +40,13 @@ use Rattle.log_ranges.specs.Lines.{MayFollow, AreInRange}
 use Rattle.log_ranges.proofs.Names.{vertices_in_range, failing_in_range}
 use Rattle.log_ranges.proofs.Blocks.{blocks_in_range}
 use Rattle.log_ranges.proofs.Ways.{ways_in_range}
-use Rattle.log_ranges.proofs.PassLines.{pass_in_range}
+use Rattle.log_ranges.proofs.PassLines.{pass_in_range, fit_in_range}
 use Rattle.log_ranges.proofs.StepLines.{step_in_range, mesh_in_range}
 use Rattle.log_ranges.specs.Texts.{IsPlacedInRange}
 use Rattle.log_ranges.proofs.Texts.{pass_told}
 use Rattle.track_engine.specs.State.{Group, State, asked_of, is_open}
-use Rattle.track_engine.specs.Answers.{Answer, Nothing, NoSuchField, FieldShifts, Answers, first, later}
-use Rattle.track_engine.specs.Effects.{Effect, Proceeds, Refused, Unanswered, ExpectedLog, summed, is_beyond, first_beyond, sum_or_range, sum_of_all, drive_effect, one_summed, sum_at, sum_of_one, moves, moving, end_of, first_outside, hits, taken, step_lines, after_step, passed_lines, after_pass, shift_effect, step_effect, mesh_line, after_solid, solid_effect, kept_whole, taken_back, close_effect, effect_of, and_then, log_from}
+use Rattle.track_engine.specs.Answers.{Answer, Nothing, NoSuchField, FieldShifts, Wanted, WantedOfFirst, Answers, first, later}
+use Rattle.track_engine.specs.Effects.{Effect, Proceeds, Refused, Unanswered, ExpectedLog, summed, is_beyond, first_beyond, sum_or_range, sum_of_all, drive_effect, fit_effect, fitted_lines, one_summed, sum_at, sum_of_one, moves, moving, end_of, first_outside, hits, taken, step_lines, after_step, passed_lines, after_pass, shift_effect, step_effect, mesh_line, after_solid, solid_effect, kept_whole, taken_back, close_effect, effect_of, and_then, log_from}
 use Rattle.track_engine.specs.Invariant.{IsRunInvariant}
 use Rattle.track_engine.specs.Promise.{blocks_moved}
 use Rattle.track_engine.proofs.StepLemmas.{all_inside}
@@ -65,7 +67,7 @@ record GoesOn (s next : State) : Type 0 where
 abbrev IsGood : State → Effect → Type 0
 IsGood s (Proceeds lines next) = AreInRange lines × GoesOn s next
 IsGood s (Refused why) = IsUseInRange why
-IsGood s Unanswered = Unit {0}
+IsGood s (Unanswered lines) = AreInRange lines
 
 as_before : (s : State) → AreWithinLimits s.set → GoesOn s s
 as_before s limits = record { limits = limits; steps = omega arith; saved = omega arith }
@@ -120,7 +122,9 @@ module _ (s : State) (room : HasRoomFor 1 s) where
   by_drive : (given : Answer) → IsGood s (drive_effect given s)
   by_drive (FieldShifts by) = by_all by
   by_drive NoSuchField = tt
-  by_drive Nothing = tt
+  by_drive Nothing = no_lines
+  by_drive (Wanted wants) = no_lines
+  by_drive (WantedOfFirst count wants) = no_lines
 
   by_solid : (v : ℕ) → IsId v → (b : Bool) → IsGood s (solid_effect b v s)
   by_solid v id true = (one_line (Solid v) (id, tt), record { limits = room.limits; steps = omega arith; saved = omega arith })
@@ -165,6 +169,21 @@ module _ (s : State) (room : HasRoomFor 1 s) where
   unfolding passed_lines
   by_pass kind range = pass_in_range meets_exactly (terms_of kind s.set.depth (is_open s.groups)) s.mesh sound room.kept.now.good.closed (pass_told kind range)
 
+  all_fitted : (wants : ℕ × ℕ → Want) → AreInRange (fitted_lines wants (edges s.mesh) s)
+  unfolding fitted_lines
+  all_fitted wants = (fit_in_range meets_exactly wants s.set.depth (is_open s.groups) s.mesh sound room.kept.now.good.closed).0
+
+  first_fitted : (wants : ℕ × ℕ → Want) (count : ℕ) → AreInRange (fitted_lines wants (take count (edges s.mesh)) s)
+  unfolding fitted_lines
+  first_fitted wants count = (fit_in_range meets_exactly wants s.set.depth (is_open s.groups) s.mesh sound room.kept.now.good.closed).1 count
+
+  by_fit : (given : Answer) → IsGood s (fit_effect given s)
+  by_fit (Wanted wants) = (all_fitted wants, record { limits = room.limits; steps = omega arith; saved = omega arith })
+  by_fit (WantedOfFirst count wants) = first_fitted wants count
+  by_fit (FieldShifts by) = no_lines
+  by_fit NoSuchField = no_lines
+  by_fit Nothing = no_lines
+
   by_close : (groups : List Group) → IsGood s (close_effect groups s)
   by_close [] = (no_lines, as_before s room.limits)
   by_close (group ∷ outer) = by_test group.failed
@@ -184,6 +203,7 @@ module _ (s : State) (room : HasRoomFor 1 s) where
   effect_good given (directive.Solid v) range = by_solid v range (is_some (finite.get s.mesh.points v))
   effect_good given directive.Step range = by_step (first_outside s.mesh s.asked) refl (found_id (λ a. not (is_within BOX (end_of s.mesh a))))
   effect_good given (directive.Pass kind) range = (by_pass kind range, record { limits = room.limits; steps = omega arith; saved = omega arith })
+  effect_good given directive.Fit range = by_fit given
   effect_good given directive.Save range =
       let count = room.saved in
       (one_line (mesh_line s.saved s.mesh) (mesh_in_range s.mesh s.saved sound (omega (arith, count))), record { limits = room.limits; steps = omega arith; saved = omega arith })
@@ -196,7 +216,7 @@ effects_in_range given what s room range = by_effect (effect_of given what s) (e
     by_effect : (t : Effect) → IsGood s t → IsEffectInRange t
     by_effect (Proceeds lines next) good = good.0
     by_effect (Refused why) good = good
-    by_effect Unanswered good = tt
+    by_effect (Unanswered lines) good = good
 
 -- ---- all directives
 fewer : (n : ℕ) (s : State) → HasRoomFor (suc n) s → HasRoomFor 1 s
@@ -220,7 +240,7 @@ all_good answers (one ∷ more) s room placed =
         All-append MayFollow lines (log_from (later answers) more next).lines good.0
         (others next (record { kept = kept_next (first answers) one.what s next lines room.kept e; limits = on.limits; steps = omega (arith, a, c); saved = omega (arith, b, d) }))
     by_effect (Refused why) e good others = one_line (RefusedLine (StepUse one.line why)) ((placed.0.0, good), tt)
-    by_effect Unanswered e good others = no_lines
+    by_effect (Unanswered lines) e good others = All-append MayFollow lines [] good no_lines
 
 pub logs_in_range : LogsAreInRange
 logs_in_range answers steps s room placed = all_good answers steps s room (recursion_from_All IsPlacedInRange steps placed)

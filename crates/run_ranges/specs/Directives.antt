@@ -21,11 +21,11 @@ pub record HasRoomFor (count : ℕ) (s : State) : Type 0 where
   pub steps : s.steps + count ≤ COUNT_MAX
   pub saved : s.saved + count ≤ COUNT_MAX
 
--- the lines of a directive, or the reason against it; one that is not answered has neither
+-- the lines of a directive, or the reason against it; of one that is not answered to its end, the lines up to there
 abbrev pub IsEffectInRange : Effect → Type 0
 IsEffectInRange (Proceeds lines next) = AreInRange lines
 IsEffectInRange (Refused why) = IsUseInRange why
-IsEffectInRange Unanswered = Unit {0}
+IsEffectInRange (Unanswered lines) = AreInRange lines
 
 -- what a directive of a step file gives, whatever is given to it
 abbrev pub EffectsAreInRange : Type 0

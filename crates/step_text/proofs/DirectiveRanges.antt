@@ -19,7 +19,7 @@ use Rattle.mesh_plain.specs.declared.TheConstants.{FIELD_NAME_MAX}
 use Rattle.mesh_plain.specs.FieldNames.{IsFieldName, is_field_name, field_name_of}
 use Rattle.step_text.specs.declared.TheConstants.{PASSES_MAX}
 use Rattle.step_text.specs.declared.directive.Directive.{Directive}
-use Rattle.step_text.specs.declared.directive.Directive.TheVariants.{SetDepth, SetPasses, SetZones, SetHalvings, ShiftOne, ShiftAll, Drive, Solid, Step, Pass, Save, Group, Close}
+use Rattle.step_text.specs.declared.directive.Directive.TheVariants.{SetDepth, SetPasses, SetZones, SetHalvings, ShiftOne, ShiftAll, Drive, Solid, Step, Pass, Fit, Save, Group, Close}
 use Rattle.step_text.specs.Ranges.{IsFrom, IsPassInRange, IsInRange}
 use Rattle.step_text.specs.Steps.{set_of, shift_at, shift_one_of, shift_of, drive_or_range, drive_of, solid_of, length_of, alone, directive_of}
 
@@ -140,8 +140,9 @@ directive_range first words what h =
     (λ t e. by_test (bytes_eq first (codes "flip")) _ _ (Ok what) (λ t e. alone_range (Pass pass.Flip) tt words what e)
     (λ t e. by_test (bytes_eq first (codes "zip")) _ _ (Ok what) (λ t e. pass_range pass.Zip (λ n r. r) words what e)
     (λ t e. by_test (bytes_eq first (codes "pinch")) _ _ (Ok what) (λ t e. alone_range (Pass pass.Pinch) tt words what e)
+    (λ t e. by_test (bytes_eq first (codes "fit")) _ _ (Ok what) (λ t e. alone_range Fit tt words what e)
     (λ t e. by_test (bytes_eq first (codes "save")) _ _ (Ok what) (λ t e. alone_range Save tt words what e)
     (λ t e. by_test (bytes_eq first (codes "group")) _ _ (Ok what) (λ t e. alone_range Group tt words what e)
     (λ t e. by_test (bytes_eq first (codes "close")) _ _ (Ok what) (λ t e. alone_range Close tt words what e)
     (λ t e. fault_value Unknown what e)
-    e) e) e) e) e) e) e) e) e) e) e) e) h
+    e) e) e) e) e) e) e) e) e) e) e) e) e) h

@@ -16,7 +16,7 @@ use Rattle.line_text.proofs.LineCuts.{few_lines}
 use Rattle.line_text.proofs.ReadSteps.{bound, ok_same, by_test, fault_value}
 use Rattle.step_text.specs.declared.TheConstants.{GROUPS_MAX}
 use Rattle.step_text.specs.declared.directive.Directive.{Directive}
-use Rattle.step_text.specs.declared.directive.Directive.TheVariants.{SetDepth, SetPasses, SetZones, SetHalvings, ShiftOne, ShiftAll, Drive, Solid, Step, Pass, Save, Group, Close}
+use Rattle.step_text.specs.declared.directive.Directive.TheVariants.{SetDepth, SetPasses, SetZones, SetHalvings, ShiftOne, ShiftAll, Drive, Solid, Step, Pass, Fit, Save, Group, Close}
 use Rattle.step_text.specs.declared.directive.Placed.{Placed}
 use Rattle.step_text.specs.Ranges.{IsFrom, IsInRange, AreInRange, AreOnLines, Nests, open_behind, AreNested}
 use Rattle.step_text.specs.Steps.{directive_of, SoFar, so_far, groups_behind, words_add, lines_add, closed_or_nesting, steps_of}
@@ -58,6 +58,7 @@ groups_nested count line (Drive name) groups behind here on h = groups_kept coun
 groups_nested count line (Solid v) groups behind here on h = groups_kept count (Solid v) groups behind on tt refl h
 groups_nested count line Step groups behind here on h = groups_kept count Step groups behind on tt refl h
 groups_nested count line (Pass kind) groups behind here on h = groups_kept count (Pass kind) groups behind on tt refl h
+groups_nested count line Fit groups behind here on h = groups_kept count Fit groups behind on tt refl h
 groups_nested count line Save groups behind here on h = groups_kept count Save groups behind on tt refl h
 groups_nested count line Group groups behind here on h = by_test (ltb (length groups) GROUPS_MAX) (Ok (groups ++ line ∷ [])) (Err Nesting) (Ok behind)
     (λ t e.

@@ -7,7 +7,7 @@ use Rattle.edit_base.specs.declared.PassKind.TheVariants as pass
 use Rattle.mesh_plain.specs.FieldNames.{IsFieldName}
 use Rattle.step_text.specs.declared.TheConstants.{GROUPS_MAX, PASSES_MAX}
 use Rattle.step_text.specs.declared.directive.Directive.{Directive}
-use Rattle.step_text.specs.declared.directive.Directive.TheVariants.{SetDepth, SetPasses, SetZones, SetHalvings, ShiftOne, ShiftAll, Drive, Solid, Step, Pass, Save, Group, Close}
+use Rattle.step_text.specs.declared.directive.Directive.TheVariants.{SetDepth, SetPasses, SetZones, SetHalvings, ShiftOne, ShiftAll, Drive, Solid, Step, Pass, Fit, Save, Group, Close}
 use Rattle.step_text.specs.declared.directive.Placed.{Placed}
 
 -- from low to high
@@ -35,6 +35,7 @@ IsInRange (Drive name) = IsFieldName name
 IsInRange (Solid v) = IsFrom 1 ID_MAX v
 IsInRange Step = Unit {0}
 IsInRange (Pass kind) = IsPassInRange kind
+IsInRange Fit = Unit {0}
 IsInRange Save = Unit {0}
 IsInRange Group = Unit {0}
 IsInRange Close = Unit {0}

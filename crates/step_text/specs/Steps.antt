@@ -13,7 +13,7 @@ use Rattle.edit_base.specs.declared.PassKind.TheVariants as pass
 use Rattle.mesh_plain.specs.FieldNames.{field_name_of}
 use Rattle.step_text.specs.declared.TheConstants.{GROUPS_MAX, PASSES_MAX}
 use Rattle.step_text.specs.declared.directive.Directive.{Directive}
-use Rattle.step_text.specs.declared.directive.Directive.TheVariants.{SetDepth, SetPasses, SetZones, SetHalvings, ShiftOne, ShiftAll, Drive, Solid, Step, Pass, Save, Group, Close}
+use Rattle.step_text.specs.declared.directive.Directive.TheVariants.{SetDepth, SetPasses, SetZones, SetHalvings, ShiftOne, ShiftAll, Drive, Solid, Step, Pass, Fit, Save, Group, Close}
 use Rattle.step_text.specs.declared.directive.Placed.{Placed}
 use Rattle.line_text.specs.Fields.{count_is, number_at, signed_at}
 
@@ -106,6 +106,7 @@ directive_of first words =
     else if bytes_eq first (codes "flip") then alone (Pass pass.Flip) words
     else if bytes_eq first (codes "zip") then (length_of words >>= λ within. Ok (Pass (pass.Zip within)))
     else if bytes_eq first (codes "pinch") then alone (Pass pass.Pinch) words
+    else if bytes_eq first (codes "fit") then alone Fit words
     else if bytes_eq first (codes "save") then alone Save words
     else if bytes_eq first (codes "group") then alone Group words
     else if bytes_eq first (codes "close") then alone Close words

@@ -25,6 +25,8 @@ pub enum Directive {
     Step,
     /// Make a pass over the edges, the pairs of edges or the vertices of the mesh.
     Pass(PassKind),
+    /// Make a pass over the edges of the mesh by the sizing.
+    Fit,
     /// Store the mesh as it is.
     Save,
     /// Open a group of directives, which is kept whole or taken back whole.

@@ -166,6 +166,9 @@ fn directive(first: &[u8], words: Words<'_>) -> Result<Directive, TextWhy>
     if is_word(first, b"pinch") {
         return alone(Directive::Pass(PassKind::Pinch), words);
     }
+    if is_word(first, b"fit") {
+        return alone(Directive::Fit, words);
+    }
     if is_word(first, b"save") {
         return alone(Directive::Save, words);
     }

@@ -15,7 +15,7 @@ const LONGEST: &[u8] = b"\xc3\xa4bcdefghijklmnopqrstuvwxyz01234";
 fn each_form_is_read(rt: HostRuntime) -> Result<(), Fail> {
     let by = Shift::new(-40, 0, 7).ok_or("a shift")?;
     let text =
-        b"set depth 0\nset passes 100\nset zones 0\n\n# slower\r\nset halvings 27\n\tshift all -40 0 7 # all\nshift 2147483648 -40 -0 07\nstep\nsplit 0\nsplit 1073741824\nflip # edges\ncollapse 7\nzip 0\npinch\nsave\nsolid 12\ngroup\n group # inner\nclose\nclose";
+        b"set depth 0\nset passes 100\nset zones 0\n\n# slower\r\nset halvings 27\n\tshift all -40 0 7 # all\nshift 2147483648 -40 -0 07\nstep\nsplit 0\nsplit 1073741824\nflip # edges\ncollapse 7\nzip 0\npinch\nsave\nsolid 12\ngroup\n group # inner\nclose\nclose\nfit # all";
     let found = read_steps(rt.alloc(), text)?;
     let want = [
         (1, Directive::SetDepth(0)),
@@ -48,6 +48,7 @@ fn each_form_is_read(rt: HostRuntime) -> Result<(), Fail> {
         (19, Directive::Group),
         (20, Directive::Close),
         (21, Directive::Close),
+        (22, Directive::Fit),
     ];
     assert_eq!(rt; found.len(), want.len());
     for (found, (line, what)) in found.as_slice().iter().zip(&want) {
@@ -70,7 +71,7 @@ fn drives_are_read(rt: HostRuntime) -> Result<(), Fail> {
 }
 
 // Texts with the line and the reason of their fault.
-const FAULTS: [(&[u8], u32, TextWhy); 56] = [
+const FAULTS: [(&[u8], u32, TextWhy); 57] = [
     (b"set", 1, TextWhy::Short),
     (b"set speed", 1, TextWhy::Unknown),
     (b"set speed 1", 1, TextWhy::Unknown),
@@ -103,6 +104,7 @@ const FAULTS: [(&[u8], u32, TextWhy); 56] = [
     (b"split 1073741825", 1, TextWhy::Range),
     (b"flip 5", 1, TextWhy::Long),
     (b"flips", 1, TextWhy::Unknown),
+    (b"fit 5", 1, TextWhy::Long),
     (b"collapse", 1, TextWhy::Short),
     (b"collapse 1073741825", 1, TextWhy::Range),
     (b"zip 1 2", 1, TextWhy::Long),

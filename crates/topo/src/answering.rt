@@ -1,6 +1,7 @@
 //! What the words of a command line are answered with.
 ghost use Rattle.std.specs.Prelude.{◌≡◌, true, false, List, map, string_bytes};
 ghost use Rattle.mesh_field.specs.Stored.{IsWellKept};
+ghost use Rattle.mesh_sizing.specs.Sizes.{IsWellKept as SizesWell};
 ghost use Rattle.track_engine.specs.Answered.{known};
 ghost use Rattle.track_engine.specs.World.{world};
 ghost use Rattle.topo.specs.Asked.{is_help, is_version};
@@ -10,6 +11,7 @@ ghost use Rattle.topo.specs.Answered.{Tells};
 use grid_base::{Point, Shift};
 use line_text::is_word;
 use mesh_field::Fields;
+use mesh_sizing::{Band, Sizing};
 use outside_io::{Desk, Sink, put_all};
 use std::alloc::Global;
 use track_run::{Outcome, run};
@@ -95,14 +97,16 @@ fn tell_version<D: Desk, K: Sink>(desk: &D, out: &mut K) -> Outcome
 
 /// Answers the words that follow the program's name, and gives the outcome. `--help` or `-h` alone writes how the program is called,
 /// `--version` alone the line of the version, and all other words are a run's.
-pub(crate) fn answer<D: Desk, K: Sink, F: Fn(u8, Point) -> Shift>(
+pub(crate) fn answer<D: Desk, K: Sink, F: Fn(u8, Point) -> Shift, G: Fn(Point) -> Band>(
     alloc: Global,
     words: &[String],
     desk: &mut D,
     out: &mut K,
     fields: &Fields<F>,
+    sizing: &Sizing<G>,
 ) -> Outcome
-    requires { IsWellKept F.Fn fields.now }
+    requires fields { IsWellKept F.Fn fields.now }
+    requires sizing { SizesWell G.Fn sizing.now }
     ensures help { is_help (map (λ word. string_bytes word) words.now) ≡ true →
         Tells USAGE.now result
         (world D.files D.faults K.written K.faults desk.old out.old)
@@ -113,7 +117,8 @@ pub(crate) fn answer<D: Desk, K: Sink, F: Fn(u8, Point) -> Shift>(
         (world D.files D.faults K.written K.faults desk.new out.new) }
     ensures runs { is_help (map (λ word. string_bytes word) words.now) ≡ false →
         is_version (map (λ word. string_bytes word) words.now) ≡ false →
-        RunsFor (known F.Fn fields.now) (map (λ word. string_bytes word) words.now) result
+        RunsFor (known F.Fn fields.now G.Fn sizing.now)
+        (map (λ word. string_bytes word) words.now) result
         (world D.files D.faults K.written K.faults desk.old out.old)
         (world D.files D.faults K.written K.faults desk.new out.new) }
 {
@@ -123,5 +128,5 @@ pub(crate) fn answer<D: Desk, K: Sink, F: Fn(u8, Point) -> Shift>(
     if is_version(words) {
         return tell_version(desk, out);
     }
-    run(alloc, words, desk, out, fields)
+    run(alloc, words, desk, out, fields, sizing)
 }

@@ -16,6 +16,8 @@ The text of steps, a directive a line; V is the id of a vertex, and # begins a c
   flip                                   flip each edge that is longer than the one across it
   zip D                                  join edges that are at most D apart by tunnels
   pinch                                  part the surface where it hangs together at a vertex
+  fit                                    split each edge longer than 60 + D/16, collapse each shorter than
+                                         20 + D/64, where D is the greatest coordinate at its middle
   group, close                           what stands between is kept or taken back as a whole
   set depth D, set halvings H, set passes P, set zones Z   how steps are tested and shortened
 

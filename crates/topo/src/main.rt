@@ -4,15 +4,18 @@
 #![tactic(auto)]
 
 mod answering;
+mod band;
 mod explaining;
 mod help;
 mod shipped;
 mod warning;
 
 use answering::{USAGE, answer, tell};
+use band::shipped_band;
 use explaining::explain;
 use help::command_help;
 use mesh_field::{Fields, no_fields};
+use mesh_sizing::Sizing;
 use outside_io::{FileDesk, ProgressSink, StdSink};
 use shipped::{REACH, shipped_names, shipped_shift};
 use std::alloc::{AllocError, Global};
@@ -78,16 +81,17 @@ fn main(rt: HostRuntime) -> ExitCode {
                 Some(names) => Fields::new(names, REACH, shipped_shift),
                 None => no_fields(shipped_shift),
             };
+            let sizing = Sizing::new(shipped_band);
             let is_watched = rt.stderr().is_terminal() && !rt.stdout().is_terminal();
             let outcome = match asked_help(alloc, &words) {
                 Some(help) => tell(help.as_str(), &desk, &mut out),
                 None if is_watched => {
                     let mut watched = ProgressSink::new(out, &rt);
-                    let outcome = answer(alloc, &words, &mut desk, &mut watched, &fields);
+                    let outcome = answer(alloc, &words, &mut desk, &mut watched, &fields, &sizing);
                     watched.wipe();
                     outcome
                 }
-                None => answer(alloc, &words, &mut desk, &mut out, &fields),
+                None => answer(alloc, &words, &mut desk, &mut out, &fields, &sizing),
             };
             if outcome == Outcome::Done {
                 warn(&rt, warnings(alloc, &words, &rt));

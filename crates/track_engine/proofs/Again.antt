@@ -3,7 +3,7 @@ use Rattle.std.specs.List.{AllByRecursion, IsDistinct, filter}
 use Rattle.std.proofs.lemmas.List.Elements.{recursion_from_All}
 use Rattle.std.proofs.lemmas.List.Folds.{list_any-append}
 use Rattle.std.proofs.lemmas.Map.Keys.{IsDistinct-head, IsDistinct-tail}
-use Rattle.std.proofs.Common.{◌≡◌, ℕ, ◌+◌, ◌≤◌, ◌==◌, ◌||◌, Bool, true, false, not, eqb, is_some, List, [], ◌∷◌, ◌++◌, map, Option, Some, None, Result, Ok, Err, refl, ap, sym, ◌∙◌, subst}
+use Rattle.std.proofs.Common.{take, ◌≡◌, ℕ, ◌+◌, ◌≤◌, ◌==◌, ◌||◌, Bool, true, false, not, eqb, is_some, List, [], ◌∷◌, ◌++◌, map, Option, Some, None, Result, Ok, Err, refl, ap, sym, ◌∙◌, subst}
 use Rattle.std.specs.FinMap as finite
 use Rattle.grid_base.specs.declared.TheConstants.{BOX, DEPTH_MAX}
 use Rattle.grid_base.specs.Triples.{plus}
@@ -14,7 +14,7 @@ use Rattle.mesh_base.specs.declared.ShiftOf.{ShiftOf}
 use Rattle.mesh_base.specs.declared.UseWhy.{UseWhy}
 use Rattle.mesh_base.specs.Failing.{failing, pair_passes}
 use Rattle.mesh_base.specs.Mesh.{Mesh, IsLiveVertex, is_solid}
-use Rattle.mesh_base.specs.Pairs.{Pair, pairs}
+use Rattle.mesh_base.specs.Pairs.{Pair, pairs, edges}
 use Rattle.mesh_base.specs.Placements.{Motion, rest_positions}
 use Rattle.mesh_base.specs.Shifts.{Shifts, NameOnce, moved_by, end_in_box}
 use Rattle.mesh_base.proofs.Deeper.{none_fails_deeper}
@@ -32,11 +32,13 @@ use Rattle.log_replay.specs.Replay.{Replay}
 use Rattle.log_replay.specs.Moves.{is_named, end_of, AreMoves}
 use Rattle.log_replay.specs.Again.{LineIsAgain, LinesAreAgain}
 use Rattle.log_replay.proofs.Replaying.{each_then}
+use Rattle.mesh_sizing.specs.declared.sizing.Want.{Want}
 use Rattle.pass_run.specs.PassLines.{terms_of}
-use Rattle.pass_run.proofs.Again.{passes_again}
+use Rattle.pass_run.specs.Fits.{turn_of, fit_rules}
+use Rattle.pass_run.proofs.Again.{passes_again, all_again}
 use Rattle.track_engine.specs.State.{Group, State, standing, is_open}
-use Rattle.track_engine.specs.Answers.{Answer, Nothing, NoSuchField, FieldShifts, first, later}
-use Rattle.track_engine.specs.Effects.{Effect, Proceeds, Refused, Unanswered, effect_of, shift_effect, drive_effect, solid_effect, step_effect, close_effect, sum_of_one, sum_of_all, first_outside, hits, taken, moves, moving, hit_lines, block_lines, move_lines, way_lines, lines_of_step, passed_lines, and_then, log_from}
+use Rattle.track_engine.specs.Answers.{Answer, Nothing, NoSuchField, FieldShifts, Wanted, WantedOfFirst, first, later}
+use Rattle.track_engine.specs.Effects.{Effect, Proceeds, Refused, Unanswered, effect_of, shift_effect, drive_effect, fit_effect, fitted_lines, solid_effect, step_effect, close_effect, sum_of_one, sum_of_all, first_outside, hits, taken, moves, moving, hit_lines, block_lines, move_lines, way_lines, lines_of_step, passed_lines, and_then, log_from}
 use Rattle.track_engine.specs.Invariant.{IsRunInvariant}
 use Rattle.track_engine.specs.Again.{LogsAreAgain}
 use Rattle.track_engine.proofs.NoFiles.{after-moves, after-hits, after-blocks}
@@ -132,7 +134,8 @@ module _ (m : Mesh) (depth : ℕ) (most : depth ≤ DEPTH_MAX) (way : Way) (well
 
 abbrev pub IsAgain : State → Effect → Type 0
 IsAgain s (Proceeds lines next) = LinesAreAgain (standing s) lines
-IsAgain s _ = Unit {0}
+IsAgain s (Unanswered lines) = LinesAreAgain (standing s) lines
+IsAgain s (Refused why) = Unit {0}
 
 shift_again : (s : State) (r : Result Shifts UseWhy) → IsAgain s (shift_effect r s)
 shift_again s (Ok asked) = tt
@@ -142,6 +145,8 @@ drive_again : (given : Answer) (s : State) → IsAgain s (drive_effect given s)
 drive_again (FieldShifts by) s = shift_again s (sum_of_all s.mesh by s.asked)
 drive_again NoSuchField s = tt
 drive_again Nothing s = tt
+drive_again (Wanted wants) s = tt
+drive_again (WantedOfFirst count wants) s = tt
 
 solid_again : (s : State) (b : Bool) (v : ℕ) → IsAgain s (solid_effect b v s)
 solid_again s true v = (tt, tt)
@@ -159,6 +164,17 @@ pass_again : (kind : PassKind) (s : State) → AreWithinLimits s.set → LinesAr
 unfolding passed_lines
 pass_again kind s limits = passes_again meets_exactly meets_exactly-is_exact (standing s) (terms_of kind s.set.depth (is_open s.groups)) limits.depth
 
+fit_lines_again : (wants : ℕ × ℕ → Want) (es : List (ℕ × ℕ)) (s : State) → AreWithinLimits s.set → LinesAreAgain (standing s) (fitted_lines wants es s)
+unfolding fitted_lines
+fit_lines_again wants es s limits = (tt, all_again (fit_rules meets_exactly wants s.set.depth (is_open s.groups)) meets_exactly-is_exact limits.depth (standing s) (map turn_of es))
+
+fit_again : (given : Answer) (s : State) → AreWithinLimits s.set → IsAgain s (fit_effect given s)
+fit_again (Wanted wants) s limits = fit_lines_again wants (edges s.mesh) s limits
+fit_again (WantedOfFirst count wants) s limits = fit_lines_again wants (take count (edges s.mesh)) s limits
+fit_again (FieldShifts by) s limits = tt
+fit_again NoSuchField s limits = tt
+fit_again Nothing s limits = tt
+
 pub effect_again : (given : Answer) (what : Directive) (s : State) → AreWithinLimits s.set → IsRunInvariant s → IsAgain s (effect_of given what s)
 effect_again given (directive.SetDepth depth) s limits kept = tt
 effect_again given (directive.SetPasses passes) s limits kept = tt
@@ -170,6 +186,7 @@ effect_again given (directive.Drive name) s limits kept = drive_again given s
 effect_again given (directive.Solid v) s limits kept = solid_again s (is_some (finite.get s.mesh.points v)) v
 effect_again given directive.Step s limits kept = step_again s limits kept (first_outside s.mesh s.asked) refl
 effect_again given (directive.Pass kind) s limits kept = pass_again kind s limits
+effect_again given directive.Fit s limits kept = fit_again given s limits
 effect_again given directive.Save s limits kept = (tt, tt)
 effect_again given directive.Group s limits kept = (tt, tt)
 effect_again given directive.Close s limits kept = close_again s s.groups
@@ -190,4 +207,4 @@ told_again answers (p ∷ steps) s range limits kept =
         let P : Replay → Type 0 = λ r. LinesAreAgain r rest in
         each_then LineIsAgain (standing s) lines rest again (subst P (sym (effect_replayed (first answers) p.what s next lines e)) (others next lines e))
     by_effect (Refused why) e again others = (tt, tt)
-    by_effect Unanswered e again others = tt
+    by_effect (Unanswered lines) e again others = each_then LineIsAgain (standing s) lines [] again tt

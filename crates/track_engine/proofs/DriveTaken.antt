@@ -1,5 +1,6 @@
 -- A directive that names a field, as an effect.
-use Rattle.std.proofs.Common.{◌≡◌, ℕ, List, [], ◌∷◌, Option, Some, None, Result, Ok, Err, IfOk, refl, ap, sym, ◌∙◌, subst, inl, inr}
+use Rattle.std.proofs.lemmas.Bool.{false≢true}
+use Rattle.std.proofs.Common.{◌≡◌, ℕ, Bool, true, false, List, [], ◌∷◌, Option, Some, None, Result, Ok, Err, IfOk, refl, ap, sym, ◌∙◌, subst, inl, inr}
 use Rattle.grid_base.specs.declared.Shift.{Shift}
 use Rattle.mesh_base.specs.declared.UseWhy.{UseWhy}
 use Rattle.mesh_base.specs.Kept.{BeginsWith}
@@ -14,7 +15,7 @@ use Rattle.track_engine.specs.declared.open_group.OpenGroup.{OpenGroup}
 use Rattle.outside_io.specs.declared.stop.Stop.{Stop}
 use Rattle.track_engine.specs.State.{State, standing}
 use Rattle.track_engine.specs.Answers.{NoSuchField, FieldShifts, without_field}
-use Rattle.track_engine.specs.Answered.{Known, named_field, AreAnswersOf, IsAnswerOf, IsAnswer}
+use Rattle.track_engine.specs.Answered.{Known, named_field, is_fit, AreAnswersOf, IsAnswerOf, IsAnswer}
 use Rattle.track_engine.specs.Effects.{Effect, Proceeds, Refused, effect_of, shift_effect, sum_of_all}
 use Rattle.track_engine.specs.Invariant.{left_by}
 use Rattle.track_engine.specs.Saved.{Target}
@@ -39,6 +40,7 @@ drive_named names (directive.ShiftAll by) which e = absurd cc
 drive_named names (directive.Solid v) which e = absurd cc
 drive_named names directive.Step which e = absurd cc
 drive_named names (directive.Pass kind) which e = absurd cc
+drive_named names directive.Fit which e = absurd cc
 drive_named names directive.Save which e = absurd cc
 drive_named names directive.Group which e = absurd cc
 drive_named names directive.Close which e = absurd cc
@@ -61,10 +63,10 @@ abbrev pub Drives : Known → ℕ → State → Shifts → Result (Option UseWhy
 Drives fields which s now r = IfOk r (λ refused. (by : ℕ → Shift) × AreAnswersOf (fields.may_answer which) s.mesh by × AsksNow (sum_of_all s.mesh by s.asked) now refused)
 
 module _ (fields : Known) (to : Target) (what : Directive) (which : ℕ) (named : named_field fields.names what ≡ Some which) (s : State) (now : Shifts) where
-  is_answer : (by : ℕ → Shift) → AreAnswersOf (fields.may_answer which) s.mesh by → IsAnswer fields s.mesh what (FieldShifts by)
+  is_answer : (by : ℕ → Shift) → AreAnswersOf (fields.may_answer which) s.mesh by → IsAnswer fields true s what (FieldShifts by)
   is_answer by answers =
       let drives = drive_named fields.names what which named in
-      let P : Directive → Type 0 = λ d. IsAnswer fields s.mesh d (FieldShifts by) in
+      let P : Directive → Type 0 = λ d. IsAnswer fields true s d (FieldShifts by) in
       let Q : Option ℕ → Type 0 = λ w. IsAnswerOf fields s.mesh w (FieldShifts by) in
       let here : Some which ≡ place_of fields.names drives.0 = sym named ∙ ap (named_field fields.names) drives.1 in
       subst P (sym drives.1) (subst Q here (by, refl, answers))
@@ -82,17 +84,18 @@ module _ (fields : Known) (to : Target) (what : Directive) (which : ℕ) (named 
   advances_drive old (Ok o) drives = (FieldShifts drives.0, is_answer drives.0 drives.1, advances_by old drives.0 o drives.2)
   advances_drive old (Err stop) drives = inl refl
 
--- ---- a directive to which no field answers
+-- ---- a directive to which neither a field nor the sizing answers
 
-plain_answer : (fields : Known) (m : Mesh) (what : Directive) → named_field fields.names what ≡ None → IsAnswer fields m what (without_field what)
-plain_answer fields m (directive.Drive name) named = let P : Option ℕ → Type 0 = λ w. IsAnswerOf fields m w NoSuchField in subst P (sym named) refl
-plain_answer fields m what named = refl
+plain_answer : (fields : Known) (whole : Bool) (s : State) (what : Directive) → is_fit what ≡ false → named_field fields.names what ≡ None → IsAnswer fields whole s what (without_field what)
+plain_answer fields whole s (directive.Drive name) other named = let P : Option ℕ → Type 0 = λ w. IsAnswerOf fields s.mesh w NoSuchField in subst P (sym named) refl
+plain_answer fields whole s directive.Fit other named = absurd (false≢true (sym other))
+plain_answer fields whole s what other named = refl
 
-pub advances_plain : (fields : Known) (to : Target) (what : Directive) (s t : State) (old new : Contents) (r : Result (Option UseWhy) Stop) → named_field fields.names what ≡ None → Advances to (effect_of (without_field what) what s) s t old new r
+pub advances_plain : (fields : Known) (to : Target) (what : Directive) (s t : State) (old new : Contents) (r : Result (Option UseWhy) Stop) → is_fit what ≡ false → named_field fields.names what ≡ None → Advances to (effect_of (without_field what) what s) s t old new r
     → AdvancesAnswered fields to what s t old new r
-advances_plain fields to what s t old new r named advances = by_result r advances
+advances_plain fields to what s t old new r other named advances = by_result r advances
   where
     by_result : (x : Result (Option UseWhy) Stop) → Advances to (effect_of (without_field what) what s) s t old new x → AdvancesAnswered fields to what s t old new x
-    by_result (Ok o) a = (without_field what, plain_answer fields s.mesh what named, a)
+    by_result (Ok o) a = (without_field what, plain_answer fields true s what other named, a)
     by_result (Err stop) (inl same) = inl same
-    by_result (Err stop) (inr part) = inr (without_field what, plain_answer fields s.mesh what named, part)
+    by_result (Err stop) (inr part) = inr (without_field what, plain_answer fields false s what other named, part)

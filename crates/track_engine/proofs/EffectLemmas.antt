@@ -44,7 +44,7 @@ save_whole to what s old new is logs =
 pub save_part : (stop : Stop) (to : Target) (what : Directive) (s t : State) (old new : Contents) → what ≡ directive.Save → StopsIn stop to (standing s) (mesh_line s.saved s.mesh ∷ []) old new → Advances to (effect_of (without_field what) what s) s t old new (Err stop)
 save_part stop to what s t old new is stops =
     let P : Directive → Type 0 = λ what. Advances to (effect_of (without_field what) what s) s t old new (Err stop) in
-    subst P (sym is) (inr (record { lines = mesh_line s.saved s.mesh ∷ []; next = record s { saved = s.saved + 1 }; goes = refl; stops = stops }))
+    subst P (sym is) (inr (record { lines = mesh_line s.saved s.mesh ∷ []; tells = refl; stops = stops }))
 
 -- at first no vertex is asked to move
 ids_at_rest : (ids : List ℕ) → map (λ s. s.v) (map still_at ids) ≡ ids

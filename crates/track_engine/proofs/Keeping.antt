@@ -2,7 +2,7 @@
 use Rattle.std.specs.Prelude.{nat_lt}
 use Rattle.std.specs.List.{AllByRecursion}
 use Rattle.std.proofs.lemmas.Bool.{false≢true}
-use Rattle.std.proofs.Common.{◌≡◌, ℕ, ◌+◌, ◌==◌, Bool, true, false, cond, not, is_some, List, [], ◌∷◌, ◌++◌, map, length, Option, Some, None, Result, Ok, Err, IfOk, refl, ap, sym, ◌∙◌, subst, ℤ, pos, unsigned_abs, ◌≤◌, arith}
+use Rattle.std.proofs.Common.{take, ◌≡◌, ℕ, ◌+◌, ◌==◌, Bool, true, false, cond, not, is_some, List, [], ◌∷◌, ◌++◌, map, length, Option, Some, None, Result, Ok, Err, IfOk, refl, ap, sym, ◌∙◌, subst, ℤ, pos, unsigned_abs, ◌≤◌, arith}
 use Rattle.std.specs.Option.{unwrap_or}
 use Rattle.std.specs.FinMap as finite
 use Rattle.std.proofs.lemmas.Bool.{eqb-true}
@@ -55,11 +55,12 @@ use Rattle.log_replay.specs.Safe.{MotionIsSafe}
 use Rattle.log_replay.proofs.Replaying.{each_then}
 use Rattle.track_engine.specs.State.{Group, State, start, standing, no_shifts, still_at, asked_of, still_asked, asked_in}
 use Rattle.mesh_base.specs.Valid.{IsValidSurface}
-use Rattle.track_engine.proofs.Passing.{pass_keeps}
+use Rattle.track_engine.proofs.Passing.{PassKeeps, pass_keeps, fit_keeps}
 use Rattle.track_engine.proofs.ReadAgain.{read_again}
+use Rattle.mesh_base.specs.Pairs.{edges}
 use Rattle.track_engine.specs.Invariant.{IsAskedWell, IsRunInvariant}
-use Rattle.track_engine.specs.Effects.{Effect, Proceeds, Refused, Unanswered, ExpectedLog, effect_of, shift_effect, drive_effect, set_effect, solid_effect, close_effect, step_effect, kept_whole, taken_back, is_whole, summed, first_beyond, all_summed, sum_or_range, sum_of_all, passed_lines, passed_mesh, after_pass, one_summed, sum_at, sum_of_one, first_outside, hits, taken, moves, moving, moved_mesh, hit_lines, block_lines, move_lines, way_lines, lines_of_step, all_still, one_still, step_lines, after_step, and_then, log_from}
-use Rattle.track_engine.specs.Answers.{Answer, Nothing, NoSuchField, FieldShifts, Answers, first, later}
+use Rattle.track_engine.specs.Effects.{Effect, Proceeds, Refused, Unanswered, ExpectedLog, effect_of, shift_effect, drive_effect, set_effect, solid_effect, close_effect, step_effect, kept_whole, taken_back, is_whole, summed, first_beyond, all_summed, sum_or_range, sum_of_all, passed_lines, passed_mesh, after_lines, fitted_lines, fitted_mesh, fit_effect, one_summed, sum_at, sum_of_one, first_outside, hits, taken, moves, moving, moved_mesh, hit_lines, block_lines, move_lines, way_lines, lines_of_step, all_still, one_still, step_lines, after_step, and_then, log_from}
+use Rattle.track_engine.specs.Answers.{Answer, Nothing, NoSuchField, FieldShifts, Wanted, WantedOfFirst, Answers, first, later}
 use Rattle.track_engine.proofs.NoFiles.{after-step_lines, after-moves, after-hits, after-blocks}
 use Rattle.track_engine.proofs.StepLemmas.{all_inside, ids_of_still}
 use Rattle.pass_run.specs.PassLines.{refused_in}
@@ -172,7 +173,7 @@ keeps_step s kept inside = keeps_lines s.mesh kept.now.good (s.steps + 1) (hits 
 abbrev KeepsEffect : State → Effect → Type 0
 KeepsEffect s (Proceeds lines next) = LogIsSafe (standing s) lines × (after (standing s) lines ≡ standing next) × IsRunInvariant next
 KeepsEffect s (Refused why) = Unit {0}
-KeepsEffect s Unanswered = Unit {0}
+KeepsEffect s (Unanswered lines) = LogIsSafe (standing s) lines
 
 ids_of_one : (v : ℕ) (by : Shift) (asked : Shifts) → map (λ s. s.v) (one_summed v by asked) ≡ map (λ s. s.v) asked
 ids_of_one v by [] = refl
@@ -260,6 +261,26 @@ keeps_drive : (given : Answer) (s : State) → IsRunInvariant s → KeepsEffect 
 keeps_drive (FieldShifts by) s kept = keeps_shift s kept (sum_of_all s.mesh by s.asked) (all_well by s)
 keeps_drive NoSuchField s kept = tt
 keeps_drive Nothing s kept = tt
+keeps_drive (Wanted wants) s kept = tt
+keeps_drive (WantedOfFirst count wants) s kept = tt
+
+-- a pass that keeps the mesh
+keeps_pass : (told : List LogLine) (left : Mesh) (s : State) → IsRunInvariant s → PassKeeps told left s → KeepsEffect s (Proceeds told (after_lines told left s))
+keeps_pass told left s kept pass = (
+  pass.lines,
+  pass.replay,
+  record {
+    now = record { good = pass.good; names = ids_in left s.asked; still = rest_of_still left (asked_in left s.asked) (asked_still left s.asked (finite.keys left.points)) };
+    groups = groups_kept (nat_lt 0 (refused_in told)) s.groups kept.groups;
+  },
+)
+
+keeps_fit : (given : Answer) (s : State) → IsRunInvariant s → KeepsEffect s (fit_effect given s)
+keeps_fit (Wanted wants) s kept = keeps_pass (fitted_lines wants (edges s.mesh) s) (fitted_mesh wants (edges s.mesh) s) s kept (fit_keeps wants (edges s.mesh) s kept.now.good)
+keeps_fit (WantedOfFirst count wants) s kept = (fit_keeps wants (take count (edges s.mesh)) s kept.now.good).lines
+keeps_fit (FieldShifts by) s kept = tt
+keeps_fit NoSuchField s kept = tt
+keeps_fit Nothing s kept = tt
 
 keeps_set : (s : State) (set : Settings) → IsRunInvariant s → KeepsEffect s (set_effect set s)
 keeps_set s set kept = (tt, refl, record { now = kept.now; groups = kept.groups })
@@ -318,15 +339,8 @@ keeps_effect given (directive.ShiftAll by) s kept = keeps_shift s kept (sum_of_a
 keeps_effect given (directive.Drive name) s kept = keeps_drive given s kept
 keeps_effect given (directive.Solid v) s kept = keeps_solid s v kept (is_some (finite.get s.mesh.points v)) refl
 keeps_effect given directive.Step s kept = keeps_step_effect s kept (first_outside s.mesh s.asked) refl
-keeps_effect given (directive.Pass kind) s kept =
-    let kept_pass = pass_keeps kind s kept.now.good in (
-      kept_pass.lines,
-      kept_pass.replay,
-      record {
-        now = record { good = kept_pass.good; names = ids_in (passed_mesh kind s) s.asked; still = rest_of_still (passed_mesh kind s) (asked_in (passed_mesh kind s) s.asked) (asked_still (passed_mesh kind s) s.asked (finite.keys (passed_mesh kind s).points)) };
-        groups = groups_kept (nat_lt 0 (refused_in (passed_lines kind s))) s.groups kept.groups;
-      },
-    )
+keeps_effect given (directive.Pass kind) s kept = keeps_pass (passed_lines kind s) (passed_mesh kind s) s kept (pass_keeps kind s kept.now.good)
+keeps_effect given directive.Fit s kept = keeps_fit given s kept
 keeps_effect given directive.Save s kept = ((saved_well (standing s) kept.now.good, tt), refl, record { now = kept.now; groups = kept.groups })
 keeps_effect given directive.Group s kept = ((tt, tt), refl, record { now = kept.now; groups = (kept.now, kept.groups) })
 keeps_effect given directive.Close s kept = keeps_close s kept s.groups refl
@@ -339,7 +353,7 @@ keeps_and_then : (line : ℕ) (s : State) (t : Effect) (next : State → Expecte
 keeps_and_then line s (Proceeds lines n) next k h =
     let P : Replay → Type 0 = λ r. LogIsSafe r (next n).lines in keeps_append lines (next n).lines (standing s) k.0 (subst P (sym k.1) (h n k.2))
 keeps_and_then line s (Refused why) next k h = (tt, tt)
-keeps_and_then line s Unanswered next k h = tt
+keeps_and_then line s (Unanswered lines) next k h = keeps_append lines [] (standing s) k tt
 
 pub keeps_told : (answers : Answers) (steps : List Placed) (s : State) → IsRunInvariant s → LogIsSafe (standing s) (log_from answers steps s).lines
 keeps_told answers [] s kept = (tt, tt)

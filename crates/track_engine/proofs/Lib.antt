@@ -21,6 +21,7 @@ pub mod WritesTaken
 pub mod Saves
 pub mod Plain
 pub mod DriveTaken
+pub mod FitTaken
 pub mod StepTaken
 pub mod Promises
 pub mod NoFields

@@ -11,8 +11,8 @@ use Rattle.step_text.specs.Ranges.{IsInRange}
 use Rattle.log_text.specs.declared.LogLine.{LogLine}
 use Rattle.log_text.specs.declared.LogLine.TheVariants.{Close}
 use Rattle.track_engine.specs.State.{Group, State, start}
-use Rattle.track_engine.specs.Answers.{Answer, Nothing, NoSuchField, FieldShifts}
-use Rattle.track_engine.specs.Effects.{Effect, Proceeds, effect_of, shift_effect, drive_effect, solid_effect, step_effect, close_effect, kept_whole, taken_back, sum_of_one, sum_of_all, first_outside}
+use Rattle.track_engine.specs.Answers.{Answer, Nothing, NoSuchField, FieldShifts, Wanted, WantedOfFirst}
+use Rattle.track_engine.specs.Effects.{Effect, Proceeds, effect_of, shift_effect, drive_effect, fit_effect, solid_effect, step_effect, close_effect, kept_whole, taken_back, sum_of_one, sum_of_all, first_outside}
 
 -- the settings and the counts after a directive that is taken
 abbrev IsNext : State → State → Type 0
@@ -40,6 +40,15 @@ drive_within : (given : Answer) (s : State) → IsNext s s → StaysWithin s (dr
 drive_within (FieldShifts by) s limits = shift_within s limits (sum_of_all s.mesh by s.asked)
 drive_within NoSuchField s limits = tt
 drive_within Nothing s limits = tt
+drive_within (Wanted wants) s limits = tt
+drive_within (WantedOfFirst count wants) s limits = tt
+
+fit_within : (given : Answer) (s : State) → IsNext s s → StaysWithin s (fit_effect given s)
+fit_within (Wanted wants) s limits = limits
+fit_within (WantedOfFirst count wants) s limits = tt
+fit_within (FieldShifts by) s limits = tt
+fit_within NoSuchField s limits = tt
+fit_within Nothing s limits = tt
 
 solid_within : (s : State) → IsNext s s → (b : Bool) (v : ℕ) → StaysWithin s (solid_effect b v s)
 solid_within s limits true v = limits
@@ -68,6 +77,7 @@ effect_within given (directive.Drive name) s range limits = drive_within given s
 effect_within given (directive.Solid v) s range limits = solid_within s limits (is_some (finite.get s.mesh.points v)) v
 effect_within given directive.Step s range limits = step_within s limits (first_outside s.mesh s.asked)
 effect_within given (directive.Pass kind) s range limits = limits
+effect_within given directive.Fit s range limits = fit_within given s limits
 effect_within given directive.Save s range limits = (limits.0, limits.1, all_of s.saved)
 effect_within given directive.Group s range limits = limits
 effect_within given directive.Close s range limits = close_within s limits s.groups

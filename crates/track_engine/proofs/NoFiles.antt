@@ -17,10 +17,10 @@ use Rattle.outside_io.specs.Sink.{appended}
 use Rattle.outside_io.specs.declared.stop.Stop.{Stop}
 use Rattle.track_engine.specs.State.{State, standing}
 use Rattle.track_engine.specs.Answers.{Nothing}
-use Rattle.track_engine.specs.Effects.{effect_of, Proceeds, hits, taken, moving, moved_mesh, hit_lines, block_lines, move_lines, way_lines, lines_of_step, is_whole, step_lines, after_step}
+use Rattle.track_engine.specs.Effects.{Effect, effect_of, Proceeds, hits, taken, moving, moved_mesh, hit_lines, block_lines, move_lines, way_lines, lines_of_step, is_whole, step_lines, after_step}
 use Rattle.log_write.specs.Written.{WrittenInPart}
 use Rattle.track_engine.specs.Saved.{Target, files_of, stored}
-use Rattle.track_engine.specs.Parts.{StepTakes, Advances, Takes}
+use Rattle.track_engine.specs.Parts.{StepTakes, Advances, Takes, Tells}
 use Rattle.track_engine.specs.World.{Logs, StopsIn}
 use Rattle.log_replay.proofs.Replaying.{after-append}
 use Rattle.track_engine.proofs.OpenMarks.{stack_failed}
@@ -89,6 +89,10 @@ lines_none k pairs way = hits_none pairs (way_lines way) (way_none way)
 step_none : (s : State) → NoFiles (step_lines s)
 step_none s = lines_none (s.steps + 1) (hits s) (taken s)
 
+-- an effect that proceeds tells its lines
+pub tells_all : (t : Effect) (lines : List LogLine) (next : State) → t ≡ Proceeds lines next → Tells t lines
+tells_all t lines next goes = let P : Effect → Type 0 = λ e. Tells e lines in subst P (sym goes) refl
+
 -- lines that name no file leave the files
 pub logs_from_said : (to : Target) (from : Replay) (lines : List LogLine) (files : Option Files) (old new : Option (List ℕ)) → files_of to from lines ≡ [] → new ≡ appended old (text_of_lines lines) → Logs to from lines (record { files = files; written = old }) (record { files = files; written = new })
 logs_from_said to from lines files old new none said = record { written = said; files = ap (λ l. stored l files) (sym none) }
@@ -156,4 +160,4 @@ pub advances_step : (to : Target) (s t : State) (files : Option Files) (old new 
 advances_step to s t files old new (Ok None) takes = takes_step to s t files old new takes.0 takes.1 takes.2
 advances_step to s t files old new (Ok (Some why)) takes = (takes.0, ap (λ (w : Option (List ℕ)). record { files = files; written = w }) takes.1)
 advances_step to s t files old new (Err stop) (inl same) = inl (ap (λ (w : Option (List ℕ)). record { files = files; written = w }) same)
-advances_step to s t files old new (Err stop) (inr part) = inr (record { lines = step_lines s; next = after_step s; goes = part.0; stops = stops_step stop to s files old new part.1 })
+advances_step to s t files old new (Err stop) (inr part) = inr (record { lines = step_lines s; tells = tells_all _ (step_lines s) (after_step s) part.0; stops = stops_step stop to s files old new part.1 })

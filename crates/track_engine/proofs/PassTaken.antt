@@ -18,7 +18,7 @@ use Rattle.outside_io.specs.declared.stop.Stop.{Stop}
 use Rattle.track_engine.specs.Saved.{Target}
 use Rattle.track_engine.specs.State.{Group, State, standing, asked_in, is_open}
 use Rattle.track_engine.specs.Answers.{Nothing}
-use Rattle.track_engine.specs.Effects.{Proceeds, effect_of, passed_lines, passed_mesh, after_pass, fail_if}
+use Rattle.track_engine.specs.Effects.{Proceeds, effect_of, passed_lines, passed_mesh, fail_if}
 use Rattle.track_engine.specs.Parts.{Advances, PassTakes}
 use Rattle.track_engine.proofs.NoFiles.{files_of-none, logs_from_said, stops_from_said}
 use Rattle.track_engine.proofs.Passing.{pass_replays, pass_names_none}
@@ -63,7 +63,6 @@ advances_pass to kind s t files old new (Ok None) takes = record {
 advances_pass to kind s t files old new (Ok (Some why)) takes = absurd takes
 advances_pass to kind s t files old new (Err stop) takes = inr (record {
   lines = passed_lines kind s;
-  next = after_pass kind s;
-  goes = refl;
+  tells = refl;
   stops = stops_from_said stop to (standing s) (passed_lines kind s) files old new (pass_names_none kind s) takes;
 })

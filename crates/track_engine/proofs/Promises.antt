@@ -132,7 +132,7 @@ effect_told s next lines None e = let P : List LogLine → Type 0 = λ l. StepIs
     lines_in : Effect → List LogLine
     lines_in (Proceeds ls n) = ls
     lines_in (Refused why) = []
-    lines_in Unanswered = []
+    lines_in (Unanswered ls) = []
 
     same_lines : step_effect None s ≡ Proceeds lines next → step_lines s ≡ lines
     same_lines e = ap lines_in e
@@ -141,7 +141,7 @@ effect_told s next lines (Some v) e = absurd (goes_not e)
     goes : Effect → Bool
     goes (Proceeds ls n) = true
     goes (Refused why) = false
-    goes Unanswered = false
+    goes (Unanswered ls) = false
 
     goes_not : step_effect (Some v) s ≡ Proceeds lines next → ⊥
     goes_not e = false≢true (ap goes e)

@@ -6,6 +6,7 @@ use Rattle.grid_base.specs.Points.{point_at}
 use Rattle.mesh_base.specs.declared.UseWhy.{UseWhy}
 use Rattle.mesh_base.specs.Shifts.{Shifts}
 use Rattle.mesh_base.specs.Mesh.{Mesh}
+use Rattle.mesh_base.specs.Pairs.{edges}
 use Rattle.mesh_plain.specs.Shape.{shape_fault}
 use Rattle.mesh_plain.proofs.Lists.{sound-mesh_of}
 use Rattle.mesh_plain.proofs.Faults.{closed-mesh_of}
@@ -18,12 +19,12 @@ use Rattle.log_text.specs.declared.LogLine.TheVariants.{First}
 use Rattle.log_replay.specs.Replay.{after, closed}
 use Rattle.mesh_base.specs.Valid.{IsValidSurface}
 use Rattle.track_engine.specs.State.{Group, State, start, standing}
-use Rattle.track_engine.specs.Effects.{Effect, Proceeds, Refused, Unanswered, effect_of, shift_effect, drive_effect, solid_effect, close_effect, step_effect, kept_whole, taken_back, sum_of_one, sum_of_all, first_outside}
-use Rattle.track_engine.specs.Answers.{Answer, Nothing, NoSuchField, FieldShifts}
+use Rattle.track_engine.specs.Effects.{Effect, Proceeds, Refused, Unanswered, effect_of, shift_effect, drive_effect, fit_effect, solid_effect, close_effect, step_effect, kept_whole, taken_back, sum_of_one, sum_of_all, first_outside}
+use Rattle.track_engine.specs.Answers.{Answer, Nothing, NoSuchField, FieldShifts, Wanted, WantedOfFirst}
 use Rattle.track_engine.specs.Invariant.{IsRunInvariant}
 use Rattle.log_replay.proofs.Replaying.{after-append}
 use Rattle.track_engine.proofs.NoFiles.{after-step_lines}
-use Rattle.track_engine.proofs.Passing.{pass_replays}
+use Rattle.track_engine.proofs.Passing.{pass_replays, fit_replays}
 use Rattle.track_engine.proofs.Keeping.{kept_next, kept_start}
 
 -- ---- the replay of a directive's lines
@@ -32,7 +33,7 @@ use Rattle.track_engine.proofs.Keeping.{kept_next, kept_start}
 abbrev Replays : State → Effect → Type 0
 Replays s (Proceeds lines next) = after (standing s) lines ≡ standing next
 Replays s (Refused why) = Unit {0}
-Replays s Unanswered = Unit {0}
+Replays s (Unanswered lines) = Unit {0}
 
 shift_replays : (s : State) (r : Result Shifts UseWhy) → Replays s (shift_effect r s)
 shift_replays s (Ok asked) = refl
@@ -42,6 +43,15 @@ drive_replays : (given : Answer) (s : State) → Replays s (drive_effect given s
 drive_replays (FieldShifts by) s = shift_replays s (sum_of_all s.mesh by s.asked)
 drive_replays NoSuchField s = tt
 drive_replays Nothing s = tt
+drive_replays (Wanted wants) s = tt
+drive_replays (WantedOfFirst count wants) s = tt
+
+sizing_replays : (given : Answer) (s : State) → Replays s (fit_effect given s)
+sizing_replays (Wanted wants) s = fit_replays wants (edges s.mesh) s
+sizing_replays (WantedOfFirst count wants) s = tt
+sizing_replays (FieldShifts by) s = tt
+sizing_replays NoSuchField s = tt
+sizing_replays Nothing s = tt
 
 solid_replays : (v : ℕ) (s : State) (b : Bool) → Replays s (solid_effect b v s)
 solid_replays v s true = refl
@@ -70,6 +80,7 @@ replays given (directive.ShiftAll by) s = shift_replays s (sum_of_all s.mesh (λ
 replays given (directive.Drive name) s = drive_replays given s
 replays given directive.Step s = step_replays s (first_outside s.mesh s.asked)
 replays given (directive.Pass kind) s = pass_replays kind s
+replays given directive.Fit s = sizing_replays given s
 replays given directive.Save s = refl
 replays given (directive.Solid v) s = solid_replays v s (is_some (finite.get s.mesh.points v))
 replays given directive.Group s = refl

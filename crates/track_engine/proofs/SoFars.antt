@@ -17,13 +17,15 @@ use Rattle.outside_io.proofs.Written.{appended-nil}
 use Rattle.outside_io.specs.declared.stop.Stop.{Stop}
 use Rattle.log_text.specs.declared.Refusal.{Refusal}
 use Rattle.track_engine.specs.State.{State, standing}
-use Rattle.track_engine.specs.Effects.{ExpectedLog, Ended, Effect, Proceeds, Refused, Unanswered, effect_of, and_then, with_log, log_from, refused}
+use Rattle.track_engine.specs.Effects.{ExpectedLog, Ended, Effect, Proceeds, Refused, Unanswered, cut_short, effect_of, and_then, with_log, log_from, refused}
 use Rattle.log_replay.specs.Replay.{Replay, replayed, after}
 use Rattle.track_engine.specs.Saved.{Target, files_of, stored}
 use Rattle.log_write.specs.Written.{Written}
-use Rattle.track_engine.specs.Answers.{Answer, Answers}
+use Rattle.step_text.specs.declared.Directive.{Directive}
+use Rattle.step_text.specs.declared.Directive.TheVariants as directive
+use Rattle.track_engine.specs.Answers.{Answer, Nothing, NoSuchField, FieldShifts, Wanted, WantedOfFirst, Answers}
 use Rattle.track_engine.specs.Answered.{Known, IsAnswer, AreAnswered, FollowsAnswers}
-use Rattle.track_engine.specs.Parts.{Takes, TakesInPart, AdvancesAnswered}
+use Rattle.track_engine.specs.Parts.{Takes, TakesInPart, Tells, AdvancesAnswered}
 use Rattle.track_engine.specs.World.{Contents, Logs, StopsIn, StopsShort, Follows}
 use Rattle.track_engine.proofs.Worlds.{GoesOn, logs_then, short_then, short_more, short_nothing, short_line}
 use Rattle.log_replay.proofs.Replaying.{after-append}
@@ -68,16 +70,26 @@ so_far_more to all line t next first now then old mid new s takes =
       replay = after-append (standing first) s.done takes.lines ∙ ap (λ r. after r takes.lines) s.replay ∙ takes.replay;
     }
 
+-- a stop in the lines that are next, which others follow
+in_lines : (to : Target) (all : ExpectedLog) (lines : List LogLine) (rest : ExpectedLog) (first now : State) (old mid new : Contents) (stop : Stop) → GoesOn rest
+    → SoFar to all (with_log lines rest) first now old mid → StopsIn stop to (standing now) lines mid new → StopsShort stop to (standing first) all old new
+in_lines to all lines rest first now old mid new stop more s stops =
+    let P : Replay → Type 0 = λ r. StopsIn stop to r lines mid new in
+    let Q : ExpectedLog → Type 0 = λ l. StopsShort stop to (standing first) l old new in
+    subst Q s.whole
+    (short_then stop to (standing first) s.done (with_log lines rest) old mid new s.logs
+    (short_more stop to (after (standing first) s.done) lines rest mid new more (subst P (sym s.replay) stops)))
+
 -- an effect that stops in its lines, which others follow
 pub so_far_part : (to : Target) (all : ExpectedLog) (line : ℕ) (t : Effect) (next : State → ExpectedLog) (first now : State) (old mid new : Contents) (stop : Stop) → ((s : State) → GoesOn (next s))
     → SoFar to all (and_then line t next) first now old mid → TakesInPart stop to t now mid new → StopsShort stop to (standing first) all old new
 so_far_part to all line t next first now old mid new stop others s takes =
-    let e = and_then-proceeds line t takes.lines takes.next next takes.goes in
-    let P : Replay → Type 0 = λ r. StopsIn stop to r takes.lines mid new in
-    let Q : ExpectedLog → Type 0 = λ l. StopsShort stop to (standing first) l old new in
-    subst Q (ap (with_log s.done) (sym e) ∙ s.whole)
-    (short_then stop to (standing first) s.done (with_log takes.lines (next takes.next)) old mid new s.logs
-    (short_more stop to (after (standing first) s.done) takes.lines (next takes.next) mid new (others takes.next) (subst P (sym s.replay) takes.stops)))
+    by_effect t s takes.tells
+  where
+    by_effect : (e : Effect) → SoFar to all (and_then line e next) first now old mid → Tells e takes.lines → StopsShort stop to (standing first) all old new
+    by_effect (Proceeds told n) f tells = in_lines to all told (next n) first now old mid new stop (others n) f (subst (λ l. StopsIn stop to (standing now) l mid new) (sym tells) takes.stops)
+    by_effect (Unanswered told) f tells = in_lines to all told cut_short first now old mid new stop (inr refl) f (subst (λ l. StopsIn stop to (standing now) l mid new) (sym tells) takes.stops)
+    by_effect (Refused why) f tells = absurd tells
 
 -- a last line is left
 abbrev pub last_only : LogLine → Option Refusal → ExpectedLog
@@ -117,6 +129,15 @@ so_far_nothing to all left first now old mid new stop some s same =
 
 -- ---- the directives, as the fields answer
 
+-- an answer in a whole run is one in any
+any_whole : (fields : Known) (whole : Bool) (s : State) (what : Directive) (given : Answer) → IsAnswer fields true s what given → IsAnswer fields whole s what given
+any_whole fields whole s directive.Fit (Wanted wants) is = is
+any_whole fields whole s directive.Fit (WantedOfFirst count wants) is = absurd (false≢true (sym is.0))
+any_whole fields whole s directive.Fit (FieldShifts by) is = absurd is
+any_whole fields whole s directive.Fit NoSuchField is = absurd is
+any_whole fields whole s directive.Fit Nothing is = absurd is
+any_whole fields whole s what given is = is
+
 -- where the run stopped, no answers are asked for
 pub none_answered : (fields : Known) (left : List Placed) (s : State) → AreAnswered fields false [] left s
 none_answered fields [] s = tt
@@ -153,7 +174,7 @@ module _ (fields : Known) (to : Target) (steps : List Placed) (i : ℕ) (p : Pla
   all_with answer more = log_from (here.given ++ answer ∷ more) steps first
 
   -- an effect is taken
-  goes_with : (then : State) (answer : Answer) → IsAnswer fields now.mesh p.what answer → Takes to (effect_of answer p.what now) now then mid new → Answering fields to steps (drop (i + 1) steps) first then old new
+  goes_with : (then : State) (answer : Answer) → IsAnswer fields true now p.what answer → Takes to (effect_of answer p.what now) now then mid new → Answering fields to steps (drop (i + 1) steps) first then old new
   goes_with then answer is takes = record {
     given = here.given ++ answer ∷ [];
     so_far = λ more.
@@ -162,13 +183,13 @@ module _ (fields : Known) (to : Target) (steps : List Placed) (i : ℕ) (p : Pla
         (so_far_more to (all_with answer more) p.line (effect_of answer p.what now) (log_from more (drop (i + 1) steps)) first now then old mid new (here.so_far (answer ∷ more)) takes);
     answered = λ whole more rest.
         let P : Answers → Type 0 = λ l. AreAnswered fields whole l steps first in
-        subst P (sym (one_more here.given answer more)) (here.answered whole (answer ∷ more) (is, λ lines next goes. others whole more rest (sym takes.goes ∙ goes)));
+        subst P (sym (one_more here.given answer more)) (here.answered whole (answer ∷ more) (any_whole fields whole now p.what answer is, λ lines next goes. others whole more rest (sym takes.goes ∙ goes)));
   }
     where
       state_in : Effect → State
       state_in (Proceeds lines next) = next
       state_in (Refused why) = then
-      state_in Unanswered = then
+      state_in (Unanswered lines) = then
 
       others : {lines lines' : List LogLine} {next : State} (whole : Bool) (more : Answers) → AreAnswered fields whole more (drop (i + 1) steps) then → Proceeds lines then ≡ Proceeds lines' next → AreAnswered fields whole more (drop (i + 1) steps) next
       others whole more rest e = let P : State → Type 0 = λ s. AreAnswered fields whole more (drop (i + 1) steps) s in subst P (ap state_in e) rest
@@ -204,13 +225,13 @@ module _ (fields : Known) (to : Target) (steps : List Placed) (i : ℕ) (p : Pla
       record {
         answers = here.given ++ answer ∷ [];
         so_far = subst Q (sym stopped.2.1) (so_far_refused to (all_with answer []) p.line (effect_of answer p.what now) why (log_from [] (drop (i + 1) steps)) first now old mid (here.so_far (answer ∷ [])) stopped.2.0);
-        answered = λ whole. here.answered whole (answer ∷ []) (stopped.1, λ lines next goes. absurd (never (sym stopped.2.0 ∙ goes)));
+        answered = λ whole. here.answered whole (answer ∷ []) (any_whole fields whole now p.what answer stopped.1, λ lines next goes. absurd (never (sym stopped.2.0 ∙ goes)));
       }
     where
       proceeds : Effect → Bool
       proceeds (Proceeds lines next) = true
       proceeds (Refused why) = false
-      proceeds Unanswered = false
+      proceeds (Unanswered lines) = false
 
       never : {lines : List LogLine} {next : State} → Refused why ≡ Proceeds lines next → ⊥
       never e = false≢true (ap proceeds e)

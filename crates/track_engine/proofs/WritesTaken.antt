@@ -14,14 +14,14 @@ use Rattle.track_engine.specs.Effects.{Effect, Proceeds, Refused, Unanswered, ef
 use Rattle.track_engine.specs.Answers.{Nothing}
 use Rattle.track_engine.specs.Saved.{Target}
 use Rattle.track_engine.specs.Parts.{Advances, Writes}
-use Rattle.track_engine.proofs.NoFiles.{NoFiles, files_of-none, logs_from_said, stops_from_said}
+use Rattle.track_engine.proofs.NoFiles.{NoFiles, files_of-none, tells_all, logs_from_said, stops_from_said}
 use Rattle.track_engine.proofs.Replayed.{effect_replayed}
 
 -- its lines name no file
 abbrev NamesNone : Effect → Type 0
 NamesNone (Proceeds lines next) = NoFiles lines
 NamesNone (Refused why) = Unit {0}
-NamesNone Unanswered = Unit {0}
+NamesNone (Unanswered lines) = NoFiles lines
 
 solid_names : (v : ℕ) (s : State) (b : Bool) → NamesNone (solid_effect b v s)
 solid_names v s true = tt
@@ -46,7 +46,7 @@ writes_advance to what s t files old new (Ok (Some why)) none w = (w.0, ap (λ (
 writes_advance to what s t files old new (Err stop) none (inl same) = inl (ap (λ (x : Option (List ℕ)). record { files = files; written = x }) same)
 writes_advance to what s t files old new (Err stop) none (inr w) =
     let names : NoFiles w.0 = subst NamesNone w.2 none in
-    inr (record { lines = w.0; next = w.1; goes = w.2; stops = stops_from_said stop to (standing s) w.0 files old new names w.3 })
+    inr (record { lines = w.0; tells = tells_all _ w.0 w.1 w.2; stops = stops_from_said stop to (standing s) w.0 files old new names w.3 })
 
 module _ (to : Target) (s t : State) (files : Option Files) (old new : Option (List ℕ)) (r : Result (Option UseWhy) Stop) where
   pub advances_solid : (v : ℕ) → Writes (effect_of Nothing (directive.Solid v) s) t old new r → Advances to (effect_of Nothing (directive.Solid v) s) s t (record { files = files; written = old }) (record { files = files; written = new }) r

@@ -1,5 +1,5 @@
 -- What each directive does, and the log of all of them.
-use Rattle.std.specs.Prelude.{ℕ, ◌+◌, ◌==◌, ◌||◌, Bool, true, false, not, is_some, nat_lt, List, [], ◌∷◌, ◌++◌, map, Option, Some, None, Result, Ok, Err, if◌then◌else◌}
+use Rattle.std.specs.Prelude.{ℕ, ◌+◌, ◌==◌, ◌||◌, Bool, true, false, not, is_some, nat_lt, take, List, [], ◌∷◌, ◌++◌, map, Option, Some, None, Result, Ok, Err, if◌then◌else◌}
 use Rattle.std.specs.Option.{option_map}
 use Rattle.std.specs.List.{find, filter}
 use Rattle.std.specs.FinMap as finite
@@ -15,10 +15,12 @@ use Rattle.mesh_base.specs.declared.How.{How}
 use Rattle.mesh_base.specs.declared.How.TheVariants.{Whole}
 use Rattle.mesh_base.specs.Mesh.{Mesh, is_solid}
 use Rattle.mesh_base.specs.Changes.{with_solid}
+use Rattle.mesh_base.specs.Pairs.{edges}
 use Rattle.mesh_base.specs.Placements.{rest_positions}
 use Rattle.mesh_base.specs.Shifts.{Shifts, with_shift, with_moves}
 use Rattle.mesh_base.specs.Failing.{failing}
 use Rattle.grid_decided.specs.Decided.{meets_exactly}
+use Rattle.mesh_sizing.specs.declared.sizing.Want.{Want}
 use Rattle.step_choose.specs.declared.Settings.{Settings}
 use Rattle.step_choose.specs.Choice.{Way, way_taken}
 use Rattle.step_text.specs.declared.Directive.{Directive}
@@ -30,8 +32,9 @@ use Rattle.log_text.specs.declared.LogLine.{LogLine}
 use Rattle.log_text.specs.declared.LogLine.TheVariants.{Step, Solid, Hit, Block, Move, Moved, Mesh as MeshLine, Group as GroupLine, Close, End, Refused as RefusedLine}
 use Rattle.edit_base.specs.declared.PassKind.{PassKind}
 use Rattle.pass_run.specs.PassLines.{lines_due, mesh_due, refused_in}
+use Rattle.pass_run.specs.Fits.{fit_lines, mesh_after_fit}
 use Rattle.track_engine.specs.State.{Group, State, start, still_at, asked_of, asked_in, is_open}
-use Rattle.track_engine.specs.Answers.{Answer, Nothing, NoSuchField, FieldShifts, Answers, first, later}
+use Rattle.track_engine.specs.Answers.{Answer, NoSuchField, FieldShifts, Wanted, WantedOfFirst, Answers, first, later}
 
 -- ---- shifts that are asked
 
@@ -168,22 +171,39 @@ passed_lines kind s = lines_due kind s.set.depth (is_open s.groups) s.mesh
 unfoldable pub passed_mesh : PassKind → State → Mesh
 passed_mesh kind s = mesh_due kind s.set.depth (is_open s.groups) s.mesh
 
--- A vertex that is kept keeps what is asked of it, a new one and a solid one are asked nothing. A `no` line makes the innermost open
--- group fail.
-abbrev pub after_pass : PassKind → State → State
-after_pass kind s = record s {
-  mesh = passed_mesh kind s;
-  asked = asked_in (passed_mesh kind s) s.asked;
-  groups = fail_if (nat_lt 0 (refused_in (passed_lines kind s))) s.groups;
+-- After a pass by these lines, which leaves this mesh: a vertex that is kept keeps what is asked of it, a new one and a solid one are
+-- asked nothing. A `no` line makes the innermost open group fail.
+abbrev pub after_lines : List LogLine → Mesh → State → State
+after_lines lines m s = record s {
+  mesh = m;
+  asked = asked_in m s.asked;
+  groups = fail_if (nat_lt 0 (refused_in lines)) s.groups;
 }
+
+abbrev pub after_pass : PassKind → State → State
+after_pass kind s = after_lines (passed_lines kind s) (passed_mesh kind s) s
+
+-- ---- a pass by a sizing
+
+-- its lines over these edges of the mesh, by what is wanted of each; in a group its first `no` line ends it
+unfoldable pub fitted_lines : (ℕ × ℕ → Want) → List (ℕ × ℕ) → State → List LogLine
+fitted_lines wants es s = fit_lines meets_exactly wants s.set.depth (is_open s.groups) s.mesh es
+
+-- the mesh that it leaves
+unfoldable pub fitted_mesh : (ℕ × ℕ → Want) → List (ℕ × ℕ) → State → Mesh
+fitted_mesh wants es s = mesh_after_fit meets_exactly wants s.set.depth (is_open s.groups) s.mesh es
+
+abbrev pub after_fit : (ℕ × ℕ → Want) → List (ℕ × ℕ) → State → State
+after_fit wants es s = after_lines (fitted_lines wants es s) (fitted_mesh wants es s) s
 
 -- ---- a directive
 
--- what a directive gives: its lines and the state after it, or a reason against it, or, where it is not answered, neither
+-- what a directive gives: its lines and the state after it, or a reason against it, or, where it is not answered to its end, the lines
+-- up to there
 pub data Effect : Type 0 where
   Proceeds : (lines : List LogLine) (next : State) → Effect
   Refused : (why : UseWhy) → Effect
-  Unanswered : Effect
+  Unanswered : (lines : List LogLine) → Effect
 
 abbrev pub shift_effect : Result Shifts UseWhy → State → Effect
 shift_effect (Ok asked) s = Proceeds [] (record s { asked = asked })
@@ -193,7 +213,13 @@ shift_effect (Err why) s = Refused why
 abbrev pub drive_effect : Answer → State → Effect
 drive_effect (FieldShifts by) s = shift_effect (sum_of_all s.mesh by s.asked) s
 drive_effect NoSuchField s = Refused NoField
-drive_effect Nothing s = Unanswered
+drive_effect _ s = Unanswered []
+
+-- A pass goes over all edges by what is wanted of them. One that is answered of the first alone waits behind these.
+abbrev pub fit_effect : Answer → State → Effect
+fit_effect (Wanted wants) s = Proceeds (fitted_lines wants (edges s.mesh) s) (after_fit wants (edges s.mesh) s)
+fit_effect (WantedOfFirst count wants) s = Unanswered (fitted_lines wants (take count (edges s.mesh)) s)
+fit_effect _ s = Unanswered []
 
 -- from here on the settings are these
 abbrev pub set_effect : Settings → State → Effect
@@ -234,7 +260,7 @@ close_effect [] s = Proceeds [] s
 close_effect (group ∷ outer) s =
     Proceeds (Close (not group.failed) ∷ []) (if group.failed then taken_back group outer s else kept_whole outer s)
 
--- What a directive does, by what is given to it. Only `drive` asks for something.
+-- What a directive does, by what is given to it. Only `drive` and `fit` ask for something.
 abbrev pub effect_of : Answer → Directive → State → Effect
 effect_of given (directive.SetDepth depth) s = set_effect (record s.set { depth = depth }) s
 effect_of given (directive.SetPasses passes) s = set_effect (record s.set { passes = passes }) s
@@ -246,13 +272,14 @@ effect_of given (directive.Drive name) s = drive_effect given s
 effect_of given (directive.Solid v) s = solid_effect (is_some (finite.get s.mesh.points v)) v s
 effect_of given directive.Step s = step_effect (first_outside s.mesh s.asked) s
 effect_of given (directive.Pass kind) s = Proceeds (passed_lines kind s) (after_pass kind s)
+effect_of given directive.Fit s = fit_effect given s
 effect_of given directive.Save s = Proceeds (mesh_line s.saved s.mesh ∷ []) (record s { saved = s.saved + 1 })
 effect_of given directive.Group s = Proceeds (GroupLine ∷ []) (opened s)
 effect_of given directive.Close s = close_effect s.groups s
 
 -- ---- all directives
 
--- how a log ends: by a last line, which tells a refusal or none; or it is cut short before a directive that is not answered
+-- how a log ends: by a last line, which tells a refusal or none; or it is cut short in a directive that is not answered to its end
 pub data Ending : Type 0 where
   Ended : (told : Option Refusal) → Ending
   CutShort : Ending
@@ -271,7 +298,7 @@ ending_of _ = None
 abbrev pub refused : Refusal → ExpectedLog
 refused why = record { lines = RefusedLine why ∷ []; ending = Ended (Some why) }
 
--- no line more, of this directive or of one after it
+-- no line more
 abbrev pub cut_short : ExpectedLog
 cut_short = record { lines = []; ending = CutShort }
 
@@ -279,11 +306,12 @@ cut_short = record { lines = []; ending = CutShort }
 abbrev pub with_log : List LogLine → ExpectedLog → ExpectedLog
 with_log lines rest = record { lines = lines ++ rest.lines; ending = rest.ending }
 
--- The lines of a directive at a line of the step file, and then the others'. Where it is not answered, the log is cut short.
+-- The lines of a directive at a line of the step file, and then the others'. Where it is not answered to its end, the log is cut short
+-- there.
 abbrev pub and_then : ℕ → Effect → (State → ExpectedLog) → ExpectedLog
 and_then line (Proceeds lines s) next = with_log lines (next s)
 and_then line (Refused why) next = refused (StepUse line why)
-and_then line Unanswered next = cut_short
+and_then line (Unanswered lines) next = with_log lines cut_short
 
 -- the log of the directives, from a state on, as far as they are answered
 abbrev pub log_from : Answers → List Placed → State → ExpectedLog

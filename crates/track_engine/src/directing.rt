@@ -1,24 +1,25 @@
-ghost use Rattle.std.specs.Prelude.{◌≡◌, ◌≤◌, ◌<◌, ◌+◌, ◌++◌, ◌^◌, not, Ok, IfOk, IfErr, OnOk, OnErr, IsSome};
+ghost use Rattle.std.specs.Prelude.{◌≡◌, ◌≤◌, ◌<◌, ◌+◌, ◌++◌, ◌^◌, false, not, Ok, IfOk, IfErr, OnOk, OnErr, IsSome};
 ghost use Rattle.grid_base.specs.declared.TheConstants.{DECIMALS_MAX};
 ghost use Rattle.mesh_base.specs.Kept.{BeginsWith};
 ghost use Rattle.mesh_field.specs.Stored.{IsWellKept};
+ghost use Rattle.mesh_sizing.specs.Sizes.{IsWellKept as SizesWell, MayAnswer as MaySize};
 ghost use Rattle.step_text.specs.Ranges.{IsInRange};
 ghost use Rattle.step_choose.specs.Chosen.{way_of};
 ghost use Rattle.log_write.specs.Written.{Says};
 ghost use Rattle.outside_io.specs.Outside.{Counts, StoresNothing, holds_of, written_of};
 ghost use Rattle.track_engine.specs.Answers.{without_field};
-ghost use Rattle.track_engine.specs.Answered.{known};
+ghost use Rattle.track_engine.specs.Answered.{known, is_fit};
 ghost use Rattle.track_engine.specs.Effects.{effect_of, sum_of_all, is_whole, moved_mesh, hit_lines, way_lines};
 ghost use Rattle.track_engine.specs.Engines.{state_in};
 ghost use Rattle.track_engine.specs.Groups.{failed_if};
 ghost use Rattle.track_engine.specs.Invariant.{HasRoom, MarksHold, left_by};
-ghost use Rattle.track_engine.specs.Parts.{Advances, HasAdvanced, StepTakes, PassTakes};
+ghost use Rattle.track_engine.specs.Parts.{Advances, HasAdvanced, StepTakes, PassTakes, FitTakes};
 ghost use Rattle.track_engine.specs.Placing.{CanPlace};
 ghost use Rattle.track_engine.specs.Ready.{IsReady};
 ghost use Rattle.track_engine.specs.Shifting.{AsksNow};
 ghost use Rattle.track_engine.specs.Targets.{target_of};
 
-use crate::driving::field_of;
+use crate::driving::{field_of, is_fit};
 use crate::engine::Engine;
 use crate::placing::{first_outside, place_all};
 use crate::shifting::{all_summed, asked_in, no_shifts, sum_one};
@@ -30,8 +31,9 @@ use grid_base::{Point, Shift};
 use log_text::LogLine;
 use log_write::write_line;
 use mesh_plain::{How, Shifts, Surface, UseWhy};
+use mesh_sizing::{Band, Sizing};
 use outside_io::{Outside, Stop};
-use pass_run::{PassTerms, pass_to};
+use pass_run::{PassTerms, Turns, fit_to, pass_to};
 use std::alloc::Global;
 use step_choose::{Choice, choose};
 use step_text::Directive;
@@ -152,7 +154,37 @@ impl<S: Surface> Engine<S> {
         Ok(None)
     }
 
-    // Does one directive to which no field answers, a drive as one of no field: its lines are written, or it is refused.
+    // A pass by the sizing over the mesh is made, each line of it written. In a group its first `no` line ends it, and makes the group
+    // fail.
+    fn take_fit<O: Outside, G: Fn(Point) -> Band>(
+        &mut self,
+        alloc: Global,
+        sizing: &Sizing<G>,
+        outside: &mut O,
+    ) -> Result<Option<UseWhy>, Stop>
+        requires ready { IsReady S.beyond S.mesh S.kept self.old }
+        requires sizing { SizesWell G.Fn sizing.now }
+        ensures fits { FitTakes (MaySize G.Fn sizing.now)
+            (state_in S.mesh S.kept self.old) (state_in S.mesh S.kept self.new)
+            (written_of (O.around outside.old)) (written_of (O.around outside.new)) result }
+        ensures marks { MarksHold S.beyond (S.kept self.new.mesh) self.new.run.groups }
+        ensures begins { BeginsWith (S.kept self.new.mesh) (S.kept self.old.mesh) }
+        ensures nothing_stored { StoresNothing (O.around outside.old) (O.around outside.new) result }
+    {
+        let turns = Turns {
+            by: sizing,
+            depth: self.run.set.depth,
+            grouped: self.run.groups.is_open(),
+        };
+        let count = fit_to(alloc, &mut self.mesh, turns, outside)?;
+        let asked = asked_in(alloc, &self.mesh, self.run.asked.as_slice())?;
+        self.run.asked = asked;
+        self.run.groups.fail_if(count.refused > 0);
+        Ok(None)
+    }
+
+    // Does one directive to which neither a field nor the sizing answers, a drive as one of no field: its lines are written, or it is
+    // refused.
     fn take_plain<O: Outside>(
         &mut self,
         alloc: Global,
@@ -161,6 +193,7 @@ impl<S: Surface> Engine<S> {
         outside: &mut O,
     ) -> Result<Option<UseWhy>, Stop>
         requires few { to.decimals ≤ DECIMALS_MAX }
+        requires plain { is_fit what.now ≡ false }
         requires ready { IsReady S.beyond S.mesh S.kept self.old }
         requires room { HasRoom 1 self.old.run }
         ensures advances { let old = state_in S.mesh S.kept self.old in
@@ -200,6 +233,7 @@ impl<S: Surface> Engine<S> {
             Directive::Solid { v } => self.take_solid(alloc, *v, outside),
             Directive::Step => self.take_step(alloc, outside),
             Directive::Pass(kind) => self.take_pass(alloc, *kind, outside),
+            Directive::Fit => unreachable!(),
             Directive::Save => {
                 self.save(alloc, to, outside)?;
                 Ok(None)
@@ -211,21 +245,23 @@ impl<S: Surface> Engine<S> {
 
     /// Does one directive: its lines are written and its mesh is stored, or it is refused with nothing written or stored and the
     /// state as it was, or the engine stops in its lines. A drive asks its field once for each live vertex that is not solid, by
-    /// rising id, at the point where it stands. Earlier marks of the mesh hold, but for those that were made since the opening
-    /// of a group that is taken back.
-    pub fn advance<O: Outside, F: Fn(u8, Point) -> Shift>(
+    /// rising id, at the point where it stands. A pass by the sizing asks that at the turn of each edge that still stands, at its
+    /// middle. Earlier marks of the mesh hold, but for those that were made since the opening of a group that is taken back.
+    pub fn advance<O: Outside, F: Fn(u8, Point) -> Shift, G: Fn(Point) -> Band>(
         &mut self,
         alloc: Global,
         what: &Directive,
-        terms: &RunTerms<'_, F>,
+        terms: &RunTerms<'_, F, G>,
         outside: &mut O,
     ) -> Result<Option<UseWhy>, Stop>
         requires few { terms.now.to.decimals ≤ DECIMALS_MAX }
         requires fields { IsWellKept F.Fn terms.now.fields.now }
+        requires sizing { SizesWell G.Fn terms.now.sizing.now }
         requires range { IsInRange what.now }
         requires ready { IsReady S.beyond S.mesh S.kept self.old }
         requires room { HasRoom 1 self.old.run }
-        ensures does { HasAdvanced (known F.Fn terms.now.fields.now)
+        ensures does { HasAdvanced
+            (known F.Fn terms.now.fields.now G.Fn terms.now.sizing.now)
             (target_of terms.now.to) what.now
             (state_in S.mesh S.kept self.old) (state_in S.mesh S.kept self.new)
             (O.around outside.old) (O.around outside.new) result }
@@ -234,6 +270,9 @@ impl<S: Surface> Engine<S> {
         ensures begins { let left = left_by what.now self.old.run.groups (S.kept self.old.mesh) in
             BeginsWith (S.kept self.new.mesh) left }
     {
+        if is_fit(what) {
+            return self.take_fit(alloc, terms.sizing, outside);
+        }
         match field_of(terms.fields, what) {
             Some(which) => self.drive(alloc, terms.fields, which),
             None => self.take_plain(alloc, what, terms.to, outside),

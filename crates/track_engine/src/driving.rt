@@ -3,7 +3,7 @@ ghost use Rattle.std.specs.Prelude.{◌≡◌, ◌≤◌, ◌<◌, ◌+◌, ◌^
 ghost use Rattle.grid_base.specs.declared.Shift.{Shift};
 ghost use Rattle.mesh_base.specs.Shifts.{NameLive};
 ghost use Rattle.mesh_field.specs.Stored.{MayAnswer, IsWellKept};
-ghost use Rattle.track_engine.specs.Answered.{named_field, IsAnswerAt, AreAnswersOf};
+ghost use Rattle.track_engine.specs.Answered.{named_field, is_fit, IsAnswerAt, AreAnswersOf};
 ghost use Rattle.track_engine.specs.Effects.{sum_of_all};
 ghost use Rattle.track_engine.specs.Shifting.{Sums, AsksNow};
 
@@ -16,6 +16,16 @@ use mesh_plain::{ShiftOf, Shifts, Surface, UseWhy, VertexId};
 use outside_io::Stop;
 use std::alloc::Global;
 use step_text::Directive;
+
+/// Whether a directive asks the sizing.
+pub(crate) fn is_fit(what: &Directive) -> bool
+    ensures { result ≡ is_fit what.now }
+{
+    match what {
+        Directive::Fit => true,
+        _ => false,
+    }
+}
 
 /// The number of the field that a directive names; None, where it names none that is there.
 pub(crate) fn field_of<F: Fn(u8, Point) -> Shift>(

@@ -2,6 +2,7 @@ ghost use Rattle.std.specs.Prelude.{◌≡◌, ◌≤◌, length};
 ghost use Rattle.grid_base.specs.declared.TheConstants.{DECIMALS_MAX};
 ghost use Rattle.step_text.specs.Ranges.{AreInRange};
 ghost use Rattle.mesh_field.specs.Stored.{IsWellKept};
+ghost use Rattle.mesh_sizing.specs.Sizes.{IsWellKept as SizesWell};
 ghost use Rattle.outside_io.specs.Outside.{Counts, holds_of};
 ghost use Rattle.track_engine.specs.State.{groups_of};
 ghost use Rattle.track_engine.specs.Engines.{state_in};
@@ -16,6 +17,7 @@ use crate::terms::RunTerms;
 use grid_base::{Point, Shift};
 use log_text::{LogLine, Refusal};
 use mesh_plain::Surface;
+use mesh_sizing::Band;
 use outside_io::{Outside, Stop};
 use std::alloc::Global;
 use step_text::Placed;
@@ -38,20 +40,23 @@ impl<S: Surface> Engine<S> {
     /// Does the directives in order and writes the last line of the log, which tells the first that is refused, with its line in the
     /// step file, or the end. After each directive that is taken while no group is open, the mesh is settled. At the end of the whole
     /// log the replay of its lines has the engine's mesh, and the meshes at which the open groups were opened. Where it stops before the
-    /// field of a drive has answered, nothing is written of that drive or beyond.
-    pub fn follow<O: Outside, F: Fn(u8, Point) -> Shift>(
+    /// field of a drive has answered, nothing is written of that drive or beyond; and where it stops in a pass by the sizing, nothing
+    /// beyond the edges of which the sizing has answered.
+    pub fn follow<O: Outside, F: Fn(u8, Point) -> Shift, G: Fn(Point) -> Band>(
         &mut self,
         alloc: Global,
-        terms: &RunTerms<'_, F>,
+        terms: &RunTerms<'_, F, G>,
         steps: &[Placed],
         outside: &mut O,
     ) -> Result<Option<Refusal>, Stop>
         requires few { terms.now.to.decimals ≤ DECIMALS_MAX }
         requires fields { IsWellKept F.Fn terms.now.fields.now }
+        requires sizing { SizesWell G.Fn terms.now.sizing.now }
         requires ranges { AreInRange steps.now }
         requires ready { IsReady S.beyond S.mesh S.kept self.old }
         requires room { HasRoom (length steps.now) self.old.run }
-        ensures follows { FollowsAnswers (known F.Fn terms.now.fields.now)
+        ensures follows { FollowsAnswers
+            (known F.Fn terms.now.fields.now G.Fn terms.now.sizing.now)
             (target_of terms.now.to) steps.now
             (state_in S.mesh S.kept self.old) (state_in S.mesh S.kept self.new)
             (holds_of (O.around outside.old)) (holds_of (O.around outside.new)) result }

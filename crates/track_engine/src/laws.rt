@@ -4,35 +4,36 @@ ghost use Rattle.std.specs.Prelude.{◌≡◌, true, false, List, [], ◌++◌};
 ghost use Rattle.mesh_field.specs.Stored.{StoredFields};
 ghost use Rattle.step_text.specs.declared.Placed.{Placed};
 ghost use Rattle.track_engine.specs.State.{State};
-ghost use Rattle.track_engine.specs.Answers.{Answers, without_fields};
+ghost use Rattle.track_engine.specs.Answers.{Answers, NoneFits, without_fields};
 ghost use Rattle.track_engine.specs.Answered.{known, AreAnswered};
 ghost use Rattle.track_engine.specs.Effects.{log_from};
 ghost use Rattle.track_engine.specs.FirstParts.{IsFirstPart};
 ghost use Rattle.track_engine.specs.Again.{LogsAreAgain};
 
 use grid_base::{Point, Shift};
+use mesh_sizing::Band;
 
-/// The log by fewer answers is a first part of the log by more: it is cut short before a directive that is not answered, and otherwise
-/// nothing in it hangs on the answers that are to come.
+/// The log by fewer answers is a first part of the log by more: it is cut short before a directive that is not answered, or behind the
+/// edges of a pass by the sizing that are, and otherwise nothing in it hangs on the answers that are to come.
 pub fn fewer_answers_give_a_first_part()
     ensures { (answers more : Answers) (steps : List Placed) (s : State) →
         IsFirstPart (log_from (answers ++ more) steps s) (log_from answers steps s) }
 {}
 
-/// Where no field is stored, whatever type they would have, directives have one log, in which each drive is refused; a run that is stopped
-/// has a first part of it.
-pub fn without_fields_there_is_one_log<F: Fn(u8, Point) -> Shift>()
-    ensures whole { (fields : StoredFields F) (answers : Answers) (steps : List Placed)
-        (s : State) →
-        fields.names ≡ [] → AreAnswered (known F.Fn fields) true answers steps s →
+/// Where no field is stored, whatever type they would have, and no directive is a pass by the sizing, directives have one log, in which
+/// each drive is refused; a run that is stopped has a first part of it.
+pub fn without_fields_there_is_one_log<F: Fn(u8, Point) -> Shift, G: Fn(Point) -> Band>()
+    ensures whole { (fields : StoredFields F) (sizing : G) (answers : Answers)
+        (steps : List Placed) (s : State) → fields.names ≡ [] → NoneFits steps →
+        AreAnswered (known F.Fn fields G.Fn sizing) true answers steps s →
         log_from answers steps s ≡ log_from (without_fields steps) steps s }
-    ensures stopped { (fields : StoredFields F) (answers : Answers) (steps : List Placed)
-        (s : State) →
-        fields.names ≡ [] → AreAnswered (known F.Fn fields) false answers steps s →
+    ensures stopped { (fields : StoredFields F) (sizing : G) (answers : Answers)
+        (steps : List Placed) (s : State) → fields.names ≡ [] → NoneFits steps →
+        AreAnswered (known F.Fn fields G.Fn sizing) false answers steps s →
         IsFirstPart (log_from (without_fields steps) steps s) (log_from answers steps s) }
 {}
 
-/// What the log of directives tells can be done again by the log alone, whatever fields answer, from wherever a run stands: each `move`
+/// What the log of directives tells can be done again by the log alone, whatever fields and the sizing answer, from wherever a run stands: each `move`
 /// line names one more vertex that may move, each pair of a motion passes, tested to the greatest depth, and each edit, asked for again
 /// by what its line tells, is done with the same ids, points and turn.
 pub fn logs_can_be_done_again()

@@ -64,7 +64,7 @@ one_more answers p s n lines more CutShort e h = tt
 by_effect : (answers : Answers) (p : Placed) (s : State) (more : List Placed) (next : (n : State) → Ends (later answers) n more (log_from (later answers) more n).ending) (t : Effect) → effect_of (first answers) p.what s ≡ t → Ends answers s (p ∷ more) (and_then p.line t (log_from (later answers) more)).ending
 by_effect answers p s more next (Proceeds lines n) e = one_more answers p s n lines more (log_from (later answers) more n).ending e (next n)
 by_effect answers p s more next (Refused why) e = record { front = []; placed = p; rest = more; split = refl; state = s; reached = refl; refused = e; line_is = refl }
-by_effect answers p s more next Unanswered e = tt
+by_effect answers p s more next (Unanswered lines) e = tt
 
 told_ends : (answers : Answers) (directives : List Placed) (s : State) → Ends answers s directives (log_from answers directives s).ending
 told_ends answers [] s = (s, refl)

@@ -1,4 +1,4 @@
--- When answers are those of the stored fields to the directives of a job.
+-- When answers are those of the stored fields and the sizing to the directives of a job.
 use Rattle.std.specs.Prelude.{◌≡◌, Bool, is_ok, List, Option, None, Result, Ok, Err}
 use Rattle.mesh_base.specs.Mesh.{Mesh}
 use Rattle.step_text.specs.declared.Placed.{Placed}

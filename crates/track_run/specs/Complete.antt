@@ -15,7 +15,8 @@ use Rattle.track_run.specs.Causes.{HasClear, Reaches}
 use Rattle.track_run.specs.Headline.{TracksCommand, TriesCommand}
 
 -- Nothing of a job is refused: both files are there, no longer than a text may be, and are read without a fault; the mesh is of good
--- shape, and no edge of it meets a face that shares no vertex with it; and each directive is taken, whatever the fields may answer.
+-- shape, and no edge of it meets a face that shares no vertex with it; and each directive is taken, whatever the fields and the sizing may
+-- answer.
 pub record IsLawful (fields : Known) (job : Job) : Type 0 where
   pub lists : Lists
   pub directives : List Placed

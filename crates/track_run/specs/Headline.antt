@@ -34,7 +34,7 @@ use Rattle.track_run.specs.Answered.{IsInputAnswered}
 use Rattle.track_run.specs.Causes.{Cause, IsStopped, answers_after}
 
 -- THE HEADLINE, read from here down, each part explained where it stands. A run of a job writes the job's log and stores the meshes
--- that it names, or, where it is stopped, the first of it and not the whole, and nothing beyond a drive that was not answered; the log keeps
+-- that it names, or, where it is stopped, the first of it and not the whole, and nothing beyond a drive or an edge that was not answered; the log keeps
 -- what it promises; and the outcome has its cause in the job.
 
 -- What holds of each directive, in whichever state it is taken, whatever is given to it. A step whose pairs all pass is taken unaltered; otherwise each pair that
@@ -61,12 +61,13 @@ pub record LogPromises (job : Job) (answers : Answers) : Type 0 where
   pub told : DirectivesAreTold
   pub reached : (s : State) (there : IsReached job answers s) → AgreesWithReplay job answers s there.rest (answers_after there.front answers)
 
--- The outcome has its cause in the job and in what fields answered, and there is a cause for no other outcome but those that stop a run.
+-- The outcome has its cause in the job and in what fields and the sizing answered, and there is a cause for no other outcome but those that stop a run.
 pub record IsCaused (job : Job) (answers : Answers) (result : Outcome) : Type 0 where
   pub cause : Cause job answers result
   pub no_other : (other : Outcome) → Cause job answers other → (result ≡ other) ⊎ IsStopped other ⊎ IsStopped result
 
--- A run of a job: what the stored fields answered to its directives, each asked where its vertices then stood, how it ended, the lines that
+-- A run of a job: what the stored fields answered to its directives, each asked where its vertices then stood, and the sizing, asked at the
+-- turn of each edge at the edge's middle, how it ended, the lines that
 -- it wrote and the meshes that it stored, what its log promises, and why it has its outcome.
 pub record Tracks (fields : Known) (job : Job) (to : Target) (result : Outcome) (old new : Contents) : Type 0 where
   pub answers : Answers
@@ -119,7 +120,7 @@ pub record TriesCommand (cubes key : ℕ) (result : Outcome) (old new : World) :
   pub sink : old.sink_faults ≤ new.sink_faults
   pub sink_fault : result ≡ outcome.SinkFault → Rose old.sink_faults new.sink_faults
 
--- a run for a command with these stored fields, or for none: then nothing is done
+-- a run for a command with these stored fields and this sizing, or for none: then nothing is done
 abbrev pub Runs : Known → Option Named → Outcome → World → World → Type 0
 Runs fields None result old new = (result ≡ outcome.Usage) × (new ≡ old)
 Runs fields (Some (Track mesh steps prefix decimals)) result old new =

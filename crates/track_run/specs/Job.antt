@@ -23,7 +23,7 @@ log_of_input answers (Err why) = refused why
 log_of_input answers (Ok input) = let m = mesh_of_lists input.lists in log_of_test answers m input.steps (met_first m)
 
 -- The log of a job, as far as its directives are answered, and how it ends: it is the whole log, or cut short before the first drive that
--- is not answered.
+-- is not answered, or in the first pass by the sizing that is not answered to its end.
 abbrev pub log_of : Job → Answers → ExpectedLog
 log_of job answers = with_log (First VERSION ∷ []) (log_of_input answers (input_of job))
 

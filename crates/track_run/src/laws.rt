@@ -5,11 +5,13 @@ ghost use Rattle.track_engine.specs.Answered.{known};
 ghost use Rattle.track_run.specs.Complete.{LawfulJobsAreDone, TriesAreDone};
 
 use grid_base::{Point, Shift};
+use mesh_sizing::Band;
 
 /// A job whose files are there and are read without a fault, whose mesh is of good shape and clear, and whose directives are all taken,
-/// whatever the stored fields may answer, is done, where neither the desk nor the sink fails and there is memory.
-pub fn jobs_of_which_nothing_is_refused_are_done<F: Fn(u8, Point) -> Shift>()
-    ensures { (fields : StoredFields F) → LawfulJobsAreDone (known F.Fn fields) }
+/// whatever the stored fields and the sizing may answer, is done, where neither the desk nor the sink fails and there is memory.
+pub fn jobs_of_which_nothing_is_refused_are_done<F: Fn(u8, Point) -> Shift, G: Fn(Point) -> Band>()
+    ensures { (fields : StoredFields F) (sizing : G) →
+        LawfulJobsAreDone (known F.Fn fields G.Fn sizing) }
 {}
 
 /// A try is done, where the sink does not fail and there is memory.

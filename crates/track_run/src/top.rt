@@ -4,6 +4,7 @@ ghost use Rattle.mesh_base.specs.Sides.{IsClosed};
 ghost use Rattle.mesh_base.specs.Valid.{IsValidSurface};
 ghost use Rattle.step_text.specs.Ranges.{AreInRange};
 ghost use Rattle.mesh_field.specs.Stored.{IsWellKept};
+ghost use Rattle.mesh_sizing.specs.Sizes.{IsWellKept as SizesWell};
 ghost use Rattle.outside_io.specs.Outside.{Counts, holds_of};
 ghost use Rattle.outside_io.specs.World.{world};
 ghost use Rattle.track_engine.specs.Targets.{target_of};
@@ -19,6 +20,7 @@ use log_write::write_line;
 use mesh_base::Surface;
 use mesh_field::Fields;
 use mesh_journal::JournalMesh;
+use mesh_sizing::{Band, Sizing};
 use outside_io::{Desk, Ends, Outside, Sink, Stop};
 use pair_scan::first_meeting;
 use std::alloc::Global;
@@ -76,20 +78,22 @@ fn outcome_of_try(ended: Result<(), Stop>) -> Outcome
 }
 
 // The first mesh, which is sound, closed and clear, is saved, and then the directives are followed.
-fn begin<S: Surface + Drop, O: Outside, F: Fn(u8, Point) -> Shift>(
+fn begin<S: Surface + Drop, O: Outside, F: Fn(u8, Point) -> Shift, G: Fn(Point) -> Band>(
     alloc: Global,
-    terms: &RunTerms<'_, F>,
+    terms: &RunTerms<'_, F, G>,
     mesh: S,
     steps: &Directives,
     outside: &mut O,
 ) -> Result<Option<Refusal>, Stop>
     requires few { terms.now.to.decimals ≤ DECIMALS_MAX }
     requires fields { IsWellKept F.Fn terms.now.fields.now }
+    requires sizing { SizesWell G.Fn terms.now.sizing.now }
     requires good { IsValidSurface (S.mesh mesh) }
     requires ranges { AreInRange steps.now }
     requires count { length steps.now < 2 ^ 31 }
-    ensures follows { FollowsMesh (known F.Fn terms.now.fields.now) (target_of terms.now.to)
-        (S.mesh mesh) steps.now
+    ensures follows { FollowsMesh
+        (known F.Fn terms.now.fields.now G.Fn terms.now.sizing.now)
+        (target_of terms.now.to) (S.mesh mesh) steps.now
         (holds_of (O.around outside.old)) (holds_of (O.around outside.new)) result }
     ensures counts { Counts (O.around outside.old) (O.around outside.new) result }
 {
@@ -99,20 +103,22 @@ fn begin<S: Surface + Drop, O: Outside, F: Fn(u8, Point) -> Shift>(
 }
 
 // The mesh is tested, and begun with where no edge meets a face that shares no vertex with it.
-fn test_and_begin<S: Surface + Drop, O: Outside, F: Fn(u8, Point) -> Shift>(
+fn test_and_begin<S: Surface + Drop, O: Outside, F: Fn(u8, Point) -> Shift, G: Fn(Point) -> Band>(
     alloc: Global,
-    terms: &RunTerms<'_, F>,
+    terms: &RunTerms<'_, F, G>,
     mesh: S,
     steps: &Directives,
     outside: &mut O,
 ) -> Result<Option<Refusal>, Stop>
     requires few { terms.now.to.decimals ≤ DECIMALS_MAX }
     requires fields { IsWellKept F.Fn terms.now.fields.now }
+    requires sizing { SizesWell G.Fn terms.now.sizing.now }
     requires closed { IsClosed (S.mesh mesh) }
     requires ranges { AreInRange steps.now }
     requires count { length steps.now < 2 ^ 31 }
-    ensures follows { FollowsTest (known F.Fn terms.now.fields.now) (target_of terms.now.to)
-        (S.mesh mesh) steps.now
+    ensures follows { FollowsTest
+        (known F.Fn terms.now.fields.now G.Fn terms.now.sizing.now)
+        (target_of terms.now.to) (S.mesh mesh) steps.now
         (holds_of (O.around outside.old)) (holds_of (O.around outside.new)) result }
     ensures counts { Counts (O.around outside.old) (O.around outside.new) result }
 {
@@ -123,17 +129,19 @@ fn test_and_begin<S: Surface + Drop, O: Outside, F: Fn(u8, Point) -> Shift>(
 }
 
 // The whole log of the job of two files.
-fn track<O: Outside, F: Fn(u8, Point) -> Shift>(
+fn track<O: Outside, F: Fn(u8, Point) -> Shift, G: Fn(Point) -> Band>(
     alloc: Global,
     mesh_name: &str,
     step_name: &str,
-    terms: &RunTerms<'_, F>,
+    terms: &RunTerms<'_, F, G>,
     outside: &mut O,
 ) -> Result<Option<Refusal>, Stop>
     requires few { terms.now.to.decimals ≤ DECIMALS_MAX }
     requires fields { IsWellKept F.Fn terms.now.fields.now }
-    ensures tracks { TracksJob (known F.Fn terms.now.fields.now) mesh_name.now step_name.now
-        (target_of terms.now.to)
+    requires sizing { SizesWell G.Fn terms.now.sizing.now }
+    ensures tracks { TracksJob
+        (known F.Fn terms.now.fields.now G.Fn terms.now.sizing.now)
+        mesh_name.now step_name.now (target_of terms.now.to)
         (holds_of (O.around outside.old)) (holds_of (O.around outside.new)) result }
     ensures counts { Counts (O.around outside.old) (O.around outside.new) result }
 {
@@ -153,18 +161,21 @@ fn track<O: Outside, F: Fn(u8, Point) -> Shift>(
 /// the prefix, a dash, a number of at least six digits, and `.obj`. To convert it, the mesh of the one file is stored in the other, each
 /// in the format of its ending, and one line is written. To try a job, N * N * N cubes are made and moved as KEY picks, and the log of
 /// that is summed up in seven lines; no file is read or stored. All other words are taken as one of these forms with the same first word
-/// whose words are among them, or answered with Usage. A directive that drives asks the stored field that it names.
+/// whose words are among them, or answered with Usage. A directive that drives asks the stored field that it names, and one
+/// that fits edges asks the sizing.
 ///
 /// The tracker is that of Brochu and Bridson, "Robust topological operations for dynamic explicit surfaces" (2009).
-pub fn run<D: Desk, K: Sink, F: Fn(u8, Point) -> Shift>(
+pub fn run<'a, D: Desk, K: Sink, F: Fn(u8, Point) -> Shift, G: Fn(Point) -> Band>(
     alloc: Global,
     words: &[String],
     desk: &mut D,
     out: &mut K,
-    fields: &Fields<F>,
+    fields: &'a Fields<F>,
+    sizing: &'a Sizing<G>,
 ) -> Outcome
-    requires { IsWellKept F.Fn fields.now }
-    ensures headline { RunsFor (known F.Fn fields.now)
+    requires fields { IsWellKept F.Fn fields.now }
+    requires sizing { SizesWell G.Fn sizing.now }
+    ensures headline { RunsFor (known F.Fn fields.now G.Fn sizing.now)
         (map (λ word. string_bytes word) words.now) result
         (world D.files D.faults K.written K.faults desk.old out.old)
         (world D.files D.faults K.written K.faults desk.new out.new) }
@@ -184,7 +195,7 @@ pub fn run<D: Desk, K: Sink, F: Fn(u8, Point) -> Shift>(
             decimals,
         } => {
             let to = Target { prefix, decimals };
-            let terms = RunTerms { to, fields };
+            let terms = RunTerms { to, fields, sizing };
             let ended = track(alloc, mesh, steps, &terms, &mut ends);
             outcome_from(ended)
         }

@@ -3,6 +3,7 @@ use arrayvec::ArrayVec;
 use grid_base::{BOX, Point, Shift};
 use mesh_field::Fields;
 use mesh_plain::FieldName;
+use mesh_sizing::{Band, Sizing};
 use outside_io::{MemoryDesk, MemorySink};
 use std::alloc::Global;
 use std::process::Abort;
@@ -25,6 +26,7 @@ fn logs(rt: &impl Abort, alloc: Global, steps: &str, lines: &str, status: u8) ->
             z: at.z,
         },
     );
+    let sizing = Sizing::new(|_at: Point| Band { low: 1, high: 2 });
     let mut words = Vec::new(alloc);
     for word in ["track", "mesh.obj", "steps.txt", "t"] {
         words.push(String::from_str(alloc, word)?)?;
@@ -33,7 +35,7 @@ fn logs(rt: &impl Abort, alloc: Global, steps: &str, lines: &str, status: u8) ->
     desk.put("mesh.obj", MESH)?;
     desk.put("steps.txt", steps.as_bytes())?;
     let mut out = MemorySink::new(alloc, 10_000, Vec::new(alloc))?;
-    let outcome = run(alloc, &words, &mut desk, &mut out, &fields);
+    let outcome = run(alloc, &words, &mut desk, &mut out, &fields, &sizing);
     let log = format!(in alloc; "topo log 2\nmesh 0 4 4\n{lines}")?;
     assert_eq!(rt; out.bytes(), log.as_bytes(), "{steps}");
     assert_eq!(rt; outcome.status(), status, "{steps}");

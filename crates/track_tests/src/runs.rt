@@ -1,6 +1,7 @@
 //! Faults outside in mid-run, and a mesh file that ends anywhere. What a run writes is shown by the cases that the program is run on.
 use grid_base::{Point, Shift};
 use mesh_field::no_fields;
+use mesh_sizing::{Band, Sizing};
 use outside_io::{MemoryDesk, MemorySink};
 use std::alloc::Global;
 use std::test::Fail;
@@ -61,7 +62,8 @@ fn sink_of(alloc: Global) -> Result<MemorySink, Fail> {
 fn track(desk: &mut MemoryDesk, out: &mut MemorySink, alloc: Global) -> Result<Outcome, Fail> {
     let words = words_of(alloc, &["track", "mesh.obj", "steps.txt", "t"])?;
     let fields = no_fields(|_which: u8, _at: Point| Shift { x: 0, y: 0, z: 0 });
-    Ok(run(alloc, &words, desk, out, &fields))
+    let sizing = Sizing::new(|_at: Point| Band { low: 1, high: 2 });
+    Ok(run(alloc, &words, desk, out, &fields, &sizing))
 }
 
 #[test]

@@ -1,6 +1,7 @@
 //! A job that is made, run and summed up.
 use grid_base::{Point, Shift};
 use mesh_field::no_fields;
+use mesh_sizing::{Band, Sizing};
 use outside_io::{MemoryDesk, MemorySink};
 use std::alloc::Global;
 use std::test::Fail;
@@ -18,7 +19,8 @@ fn run_of(words: &[&str], out: &mut MemorySink, alloc: Global) -> Result<Outcome
     }
     let mut desk = MemoryDesk::new(alloc, Vec::new(alloc), Vec::new(alloc));
     let fields = no_fields(|_which: u8, _at: Point| Shift { x: 0, y: 0, z: 0 });
-    Ok(run(alloc, &all, &mut desk, out, &fields))
+    let sizing = Sizing::new(|_at: Point| Band { low: 1, high: 2 });
+    Ok(run(alloc, &all, &mut desk, out, &fields, &sizing))
 }
 
 #[test]

@@ -1,24 +1,27 @@
 -- The job of cubes may be run, and its summary is that of its log.
 use Rattle.std.proofs.Common.{◌≡◌, ℕ, suc, ◌+◌, ◌*◌, ◌^◌, ◌<◌, ◌≤◌, List, [], ◌∷◌, ◌++◌, map, length, refl, sym, ap, ◌∙◌, subst, arith, None, length-append}
-use Rattle.std.specs.Prelude.{Vec, Result, Ok, Err, IfOk, IfErr}
+use Rattle.std.specs.Prelude.{◌≢◌, Vec, Result, Ok, Err, IfOk, IfErr}
 use Rattle.std.specs.declared.option.Option.{Option}
-use Rattle.std.specs.List.{enumerate_from}
+use Rattle.std.specs.List.{AllByRecursion, enumerate_from, range_with_len}
+use Rattle.std.proofs.lemmas.Bool.{false≢true}
 use Rattle.std.proofs.lemmas.List.{length-map}
 use Rattle.std.proofs.lemmas.List.FromFn.{length-map-range_with_len}
 use Rattle.grid_base.specs.declared.grid.Point.{Point}
+use Rattle.grid_base.specs.declared.grid.Shift.{Shift}
 use Rattle.grid_base.specs.Points.{position_of, point_at}
 use Rattle.grid_base.proofs.PointLaws.{point_at-position_of}
 use Rattle.mesh_base.specs.declared.MeshLists.{MeshLists}
 use Rattle.mesh_base.specs.Given.{mesh_of}
 use Rattle.mesh_base.specs.Mesh.{Mesh}
 use Rattle.mesh_base.specs.Valid.{IsValidSurface}
+use Rattle.mesh_base.proofs.ListedPairs.{all_joined}
 use Rattle.mesh_plain.specs.Shape.{shape_fault}
 use Rattle.obj_text.specs.Obj.{Lists}
 use Rattle.obj_text.specs.Views.{lists_view}
 use Rattle.edit_base.specs.declared.PassKind.TheVariants as pass
 use Rattle.step_text.specs.Ranges.{AreInRange}
 use Rattle.step_text.specs.declared.Directive.{Directive}
-use Rattle.step_text.specs.declared.Directive.TheVariants.{ShiftOne, Step, Pass, Save}
+use Rattle.step_text.specs.declared.Directive.TheVariants.{ShiftOne, Step, Pass, Fit, Save}
 use Rattle.step_text.specs.declared.Placed.{Placed}
 use Rattle.mesh_make.specs.Cubes.{IsRow, cubes_lists, cubes_mesh}
 use Rattle.mesh_make.specs.CubeSteps.{cube_shift, cube_with, shifts_in, step_of, cubes_directives, cubes_steps}
@@ -31,6 +34,8 @@ use Rattle.outside_io.specs.declared.stop.Stop.TheVariants.{DeskFault, SinkFault
 use Rattle.outside_io.specs.Outside.{Around, Puts, StoresNothing}
 use Rattle.outside_io.specs.Sink.{AppendsPart}
 use Rattle.outside_io.proofs.Written.{appended-nil}
+use Rattle.track_engine.specs.Answers.{NoneFits}
+use Rattle.track_engine.specs.Answered.{is_fit}
 use Rattle.track_try.specs.Summary.{log_of_cubes, counts_of, summary_text, summary_of}
 use Rattle.track_try.specs.Told.{counts_in, HasRun}
 use Rattle.track_try.proofs.Counts.{counts_told}
@@ -87,6 +92,34 @@ few_steps n key steps row same = let P : List Placed → Type 0 = λ l. length l
 
 pub good_steps : (n key : ℕ) (steps : List Placed) → IsRow n → steps ≡ cubes_steps n key → AreInRange steps
 good_steps n key steps row same = subst AreInRange (sym same) (steps_in_range n key row)
+
+-- none of them is a pass by a sizing
+abbrev IsOther : Directive → Type 0
+IsOther d = d ≢ Fit
+
+other_shifts : (f : ℕ → Shift) (vs : List ℕ) → AllByRecursion IsOther (map (λ v. ShiftOne v (f v)) vs)
+other_shifts f [] = tt
+other_shifts f (v ∷ vs) = (λ e. false≢true (ap is_fit e), other_shifts f vs)
+
+other_step : (n key step : ℕ) → AllByRecursion IsOther (step_of n key step)
+other_step n key step =
+    all_joined IsOther (shifts_in n key step) (Step ∷ []) (other_shifts (λ v. cube_shift key step (cube_with v)) (range_with_len 1 (8 * (n * n * n)))) (λ e. false≢true (ap is_fit e), tt)
+
+other_directives : (n key : ℕ) → AllByRecursion IsOther (cubes_directives n key)
+other_directives n key =
+    let one = step_of n key 1 in
+    let two = step_of n key 2 in
+    let three = step_of n key 3 in
+    let both = all_joined IsOther one two (other_step n key 1) (other_step n key 2) in
+    let all = all_joined IsOther (one ++ two) three both (other_step n key 3) in
+    all_joined IsOther (one ++ two ++ three) (Pass (pass.Split 50) ∷ Save ∷ []) all (λ e. false≢true (ap is_fit e), (λ e. false≢true (ap is_fit e), tt))
+
+others_placed : (k : ℕ) (xs : List Directive) → AllByRecursion IsOther xs → NoneFits (map (λ (d : ℕ × Directive). let p : Placed = record { line = d.0; what = d.1 } in p) (enumerate_from k xs))
+others_placed k [] h = tt
+others_placed k (x ∷ xs) h = (h.0, others_placed (k + 1) xs h.1)
+
+pub other_steps : (n key : ℕ) (steps : List Placed) → steps ≡ cubes_steps n key → NoneFits steps
+other_steps n key steps same = subst NoneFits (sym same) (others_placed 1 (cubes_directives n key) (other_directives n key))
 
 -- ---- the summary
 

@@ -16,7 +16,7 @@ use Rattle.track_engine.specs.declared.engine.Engine.{Engine}
 use Rattle.track_engine.specs.declared.open_group.OpenGroup.{OpenGroup}
 use Rattle.track_engine.specs.Engines.{state_in}
 use Rattle.track_engine.specs.State.{State, start, unsaved, standing}
-use Rattle.track_engine.specs.Answers.{without_fields}
+use Rattle.track_engine.specs.Answers.{NoneFits, without_fields}
 use Rattle.track_engine.specs.Answered.{Known, FollowsAnswers}
 use Rattle.track_engine.specs.Effects.{ExpectedLog, log_from, mesh_line}
 use Rattle.track_engine.specs.Invariant.{IsRunInvariant, MarksHold, HasRoom}
@@ -38,9 +38,9 @@ module _ (m : Mesh) (first next : State) (new : first ≡ unsaved m) (saved : ne
   kept_first good = let P : State → Type 0 = λ s. IsRunInvariant s in subst P (sym begins) (kept_start m good)
 
   -- its log is whole, and its replay leads to where the engine then stands
-  module _ (fields : Known) (none : fields.names ≡ []) (to : Target) (steps : List Placed) (last : State) (b c : Contents) (ending : Option Refusal) (f : FollowsAnswers fields to steps next last b c (Ok ending)) where
+  module _ (fields : Known) (none : fields.names ≡ []) (to : Target) (steps : List Placed) (others : NoneFits steps) (last : State) (b c : Contents) (ending : Option Refusal) (f : FollowsAnswers fields to steps next last b c (Ok ending)) where
     same_log : log_from f.answers steps next ≡ log_from (without_fields steps) steps (start m)
-    same_log = one_log fields f.answers steps next none f.answered ∙ ap (log_from (without_fields steps) steps) begins
+    same_log = one_log fields f.answers steps next none others f.answered ∙ ap (log_from (without_fields steps) steps) begins
 
     same_lines : (log_from f.answers steps next).lines ≡ (log_from (without_fields steps) steps (start m)).lines
     same_lines = ap (λ (l : ExpectedLog). l.lines) same_log

@@ -1,6 +1,7 @@
 ghost use Rattle.std.specs.Prelude.{◌≡◌, IfOk, OnOk, OnErr};
 ghost use Rattle.mesh_make.specs.Cubes.{IsRow, cubes_mesh};
 ghost use Rattle.mesh_make.specs.CubeSteps.{cubes_steps};
+ghost use Rattle.mesh_sizing.specs.Sizes.{IsBand};
 ghost use Rattle.outside_io.specs.Outside.{StoresNothing};
 ghost use Rattle.outside_io.specs.Sink.{appended, AppendsPart};
 ghost use Rattle.track_try.specs.Summary.{summary_of};
@@ -12,6 +13,7 @@ use mesh_field::no_fields;
 use mesh_journal::JournalMesh;
 use mesh_make::cubes;
 use mesh_plain::Surface;
+use mesh_sizing::{Band, Sizing};
 use outside_io::{Outside, Stop, TallySink};
 use std::alloc::Global;
 use step_text::Placed;
@@ -19,6 +21,13 @@ use step_text::Placed;
 // What a field that is not there would answer.
 fn no_shift(_which: u8, _at: Point) -> Shift {
     Shift { x: 0, y: 0, z: 0 }
+}
+
+// How long an edge may be by a sizing that is never asked.
+fn any_length(_at: Point) -> Band
+    ensures { IsBand result }
+{
+    Band { low: 1, high: 2 }
 }
 
 // The summary of a job of cubes, by its mesh and its directives.
@@ -35,8 +44,9 @@ fn summary_of_run<S: Surface + Drop>(
     ensures { IfOk result (λ text. text.items ≡ summary_of n key) }
 {
     let fields = no_fields(no_shift);
+    let sizing = Sizing::new(any_length);
     let mut told = TallySink::new();
-    let engine = run(alloc, mesh, steps, &mut told, &fields)?;
+    let engine = run(alloc, mesh, steps, &mut told, &fields, &sizing)?;
     summed_up(alloc, n, key, &told, &engine.mesh)
 }
 

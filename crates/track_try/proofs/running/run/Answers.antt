@@ -19,5 +19,5 @@ returns-in-Ok-follow g c =
     let name = ap (λ (sides : ℕ × ℕ). sides.1) same in
     told_at _ _ _ (told_to c.follow.new.outside.out.now) _ (search (rules, name))
     (has_run (g.S.Surface.mesh c.args.mesh) (state_in g.S.Surface.mesh g.S.Surface.kept c.in_ok-engine.engine) (state_in g.S.Surface.mesh g.S.Surface.kept c.save.new.self) c.in_ok-engine.ensures.state c.in-Ok-save.ensures.state
-    (known g.F.Fn c.args.fields.now) c.requires.none _ c.args.steps.now (state_in g.S.Surface.mesh g.S.Surface.kept c.follow.new.self) _ _ _ c.in-Ok-follow.ensures.follows
+    (known g.F.Fn c.args.fields.now g.G.Fn c.args.sizing.now) c.requires.none _ c.args.steps.now c.requires.none_fits (state_in g.S.Surface.mesh g.S.Surface.kept c.follow.new.self) _ _ _ c.in-Ok-follow.ensures.follows
     (told_to c.args.told.now) (told_to c.follow.new.outside.out.now) (Some (told_to c.write_line.new.outside.out.now)) c.requires.fresh refl c.in-Ok.ensures.says.written c.in-Ok-save.ensures.saves)

@@ -31,7 +31,7 @@ advance-requires-clause-range g c = (range_here c.args.steps.now c.loop-placed.p
 pub returns-in_err-advance-clause-follows : goal.returns-in_err-advance-clause-follows
 returns-in_err-advance-clause-follows g c =
     let p = err_from_is_err_and c.from_residual.result c.from_residual.ensures.1 in
-    let fields = known g.F.Fn c.args.terms.now.fields.now in
+    let fields = known g.F.Fn c.args.terms.now.fields.now g.G.Fn c.args.terms.now.sizing.now in
     let state = state_in g.S.Surface.mesh g.S.Surface.kept in
     let around = g.O.Outside.around in
     rw (p.1, p.2) (effect_part fields (target_of c.args.terms.now.to) c.args.steps.now c.loop-placed.placed-index c.placed-item.result c.loop-placed-test.true c.placed-item.is (state c.args.self.now) (state c.loop-placed.self) (holds_of (around c.args.outside.now)) (holds_of (around c.loop-placed.outside)) (holds_of (around c.advance.new.outside)) c.loop-placed.invariant.so_far (state c.advance.new.self) _ c.in_err-advance.ensures.does.advances)
@@ -43,7 +43,7 @@ returns-in_err-advance-clause-counts g c =
 
 pub returns-in-Some-clause-follows : goal.returns-in-Some-clause-follows
 returns-in-Some-clause-follows g c =
-    let fields = known g.F.Fn c.args.terms.now.fields.now in
+    let fields = known g.F.Fn c.args.terms.now.fields.now g.G.Fn c.args.terms.now.sizing.now in
     let to = target_of c.args.terms.now.to in
     let state = state_in g.S.Surface.mesh g.S.Surface.kept in
     let around = g.O.Outside.around in
@@ -60,7 +60,7 @@ returns-in-Some-clause-counts g c = counts_then _ _ _ _ _ (counts_then _ _ _ _ _
 
 pub loop-placed-preserved : goal.loop-placed-preserved
 loop-placed-preserved g c =
-    let fields = known g.F.Fn c.args.terms.now.fields.now in
+    let fields = known g.F.Fn c.args.terms.now.fields.now g.G.Fn c.args.terms.now.sizing.now in
     let to = target_of c.args.terms.now.to in
     let state = state_in g.S.Surface.mesh g.S.Surface.kept in
     let around = g.O.Outside.around in
@@ -93,7 +93,7 @@ loop-placed-preserved g c =
 
 pub returns-clause-follows : goal.returns-clause-follows
 returns-clause-follows g c =
-    let fields = known g.F.Fn c.args.terms.now.fields.now in
+    let fields = known g.F.Fn c.args.terms.now.fields.now g.G.Fn c.args.terms.now.sizing.now in
     let to = target_of c.args.terms.now.to in
     let state = state_in g.S.Surface.mesh g.S.Surface.kept in
     let around = g.O.Outside.around in

@@ -14,7 +14,7 @@ invariant-loop-placed g l =
     let kept = g.S.Surface.kept in
     let around = g.O.Outside.around in
     record {
-      so_far : Answering (known g.F.Fn l.terms.fields.now) (target_of l.terms.to) l.steps (drop l.placed-index l.steps) (state_in mesh kept l.fn.self) (state_in mesh kept l.self)
+      so_far : Answering (known g.F.Fn l.terms.fields.now g.G.Fn l.terms.sizing.now) (target_of l.terms.to) l.steps (drop l.placed-index l.steps) (state_in mesh kept l.fn.self) (state_in mesh kept l.self)
           (holds_of (around l.fn.outside)) (holds_of (around l.outside));
       ready : IsReady g.S.Surface.beyond mesh kept l.self;
       ranges : AreInRange (drop l.placed-index l.steps);
