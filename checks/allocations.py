@@ -37,6 +37,8 @@ BOXES = (
     "f 9 12 10\nf 9 10 11\nf 13 14 15\nf 13 15 16\nf 9 13 16\nf 9 16 12\nf 11 10 15\nf 11 15 14\nf 9 11 14\nf 9 14 13\nf 12 16 15\nf 12 15 10\n"
 )
 BAR = ("v 12 -6 5\nv 12 60 4\nv 12 60 6\nv 13 60 5\n", "f 17 19 18\nf 17 18 20\nf 18 19 20\nf 17 20 19\n")
+LARGE = TETRAHEDRON.replace("4\nf", "100\nf", 1).replace("v 4 0 0\nv 0 4 0", "v 100 0 0\nv 0 100 0", 1)
+PARTED_LOG = "topo log 2\nmesh 0 8 12\npass collapse 10\ncollapse 1 2 0 0 4\npass pinch\npinch 1 13 0 4 9 -13 0 4\nmesh 1 8 8\nend\n"
 WITH_A_BAR = BOXES.replace("f 1 3 2\n", BAR[0] + "f 1 3 2\n", 1) + BAR[1]
 JOBS = [
     ("a step that is whole", TETRAHEDRON, "shift all 1 2 3\nstep\nsave\n"),
@@ -49,11 +51,14 @@ JOBS = [
     ("a zip that is refused in each turn", WITH_A_BAR, "zip 4\nsave\n"),
     ("a mesh that meets itself", CROSSED, ""),
     ("a bad step text", TETRAHEDRON, "shift all 1 2 3\nstep\nshift al\n"),
+    ("a pass by the sizing", LARGE, "fit\nsave\n"),
+    ("a log that is measured", PARTED, PARTED_LOG, "measure"),
+    ("a log with a line that does not fit", PARTED, PARTED_LOG.replace("0 0 4\n", "0 0 5\n", 1), "measure"),
 ]
 
 
-def run(folder, shim, mesh, steps, fail_at=0):
-    """The status, the bytes written, the files stored and the count of allocations."""
+def run(folder, shim, mesh, steps, command, fail_at=0):
+    """The status, the bytes written, the files stored and the count of allocations. A log that is measured stands in the place of steps."""
     for name in os.listdir(folder):
         os.remove(os.path.join(folder, name))
     for name, text in (("mesh.obj", mesh), ("steps.txt", steps)):
@@ -61,7 +66,8 @@ def run(folder, shim, mesh, steps, fail_at=0):
             out.write(text)
     count = os.path.join(folder, "count")
     env = {"LD_PRELOAD": shim, "FAIL_AT": str(fail_at), "COUNT_TO": count, "PATH": "/usr/bin:/bin"}
-    ran = subprocess.run([PROGRAM, "track", "mesh.obj", "steps.txt", "t"], cwd=folder, stdout=subprocess.PIPE, stderr=subprocess.PIPE, env=env, timeout=60)
+    words = [command, "mesh.obj", "steps.txt"] + (["t"] if command == "track" else [])
+    ran = subprocess.run([PROGRAM, *words], cwd=folder, stdout=subprocess.PIPE, stderr=subprocess.PIPE, env=env, timeout=60)
     files = {}
     for name in os.listdir(folder):
         if name not in ("mesh.obj", "steps.txt", "count"):
@@ -97,13 +103,14 @@ def main():
         shim, folder = os.path.join(room, "failing_alloc.so"), os.path.join(room, "job")
         subprocess.run(["cc", "-O1", "-shared", "-fPIC", "-o", shim, os.path.join(ROOT, "checks/failing_alloc.c")], check=True)
         os.mkdir(folder)
-        for what, mesh, steps in JOBS:
-            whole = run(folder, shim, mesh, steps)
+        for what, mesh, steps, *others in JOBS:
+            command = others[0] if others else "track"
+            whole = run(folder, shim, mesh, steps, command)
             total = whole[3]
             tried = sorted({1 + at * total // min(total, most) for at in range(min(total, most))})
             bad, stopped = [], 0
             for at in tried:
-                ended = run(folder, shim, mesh, steps, at)
+                ended = run(folder, shim, mesh, steps, command, at)
                 stopped += ended[0] == 1
                 if not is_as_promised(whole, ended):
                     bad.append((at, ended[0]))

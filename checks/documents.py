@@ -83,7 +83,7 @@ def main():
     checks = []
     helped = subprocess.run([TOPO, "--help"], stdout=subprocess.PIPE, check=True, timeout=60).stdout.decode()
     told = re.findall(r"(?m)^ +(\d+)  (.+)$", helped)
-    checks.append(("--help tells the statuses 0 to 11", [int(number) for number, _ in told] == list(range(12))))
+    checks.append(("--help tells the statuses 0 to 13", [int(number) for number, _ in told] == list(range(14))))
     checks.append(("README.md has the statuses of --help", statuses_in(readme) == told))
     checks.append(("docs/FORMATS.md has the statuses of --help", statuses_in(formats) == told))
     checks.append(("README.md has the words of the program", helped.splitlines()[0].partition("topo ")[2] in readme))

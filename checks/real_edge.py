@@ -25,6 +25,7 @@ NOBODY = {"user": 65534, "group": 65534, "extra_groups": []} if os.geteuid() == 
 # the mesh, and the same with a line that a stored mesh hasn't
 MESH = "v 0 0 0\nv 4 0 0\nv 0 4 0\nv 0 0 4\nf 1 3 2\nf 1 2 4\nf 2 3 4\nf 1 4 3\n"
 COMMENTED = "# as it was\n" + MESH
+MEASURED = "".join(f"measure {k} volume6 64 components 1 euler 2 genus 0\n" for k in (0, 1)) + "end\n"
 STEPS = "shift all 1 2 3\nstep\nsave\n"
 JOB = ["track", "mesh.obj", "steps.txt", "t"]
 LOG = "topo log 2\nmesh 0 4 4\nstep 1\n" + "".join(f"move {v} 1 2 3\n" for v in (1, 2, 3, 4)) + "moved whole\nmesh 1 4 4\nend\n"
@@ -88,6 +89,8 @@ def main():
             out.write(MESH)
         with open(at("steps.txt"), "w") as out:
             out.write(STEPS)
+        with open(at("log.txt"), "w") as out:
+            out.write(LOG)
         os.mkdir(at("folder"))
         os.mkdir(at("taken-000000.obj"))
         with open(at("long.obj"), "wb") as out:
@@ -134,6 +137,13 @@ def main():
             ("help of a command", ["track", "--help"], None, 0, None),
             ("help of a generated job", ["try", "--help"], None, 0, None),
             ("help among other words", ["track", "--help", "mesh.obj"], None, 2, None),
+            ("help of a measurement", ["measure", "--help"], None, 0, None),
+            ("a log that is measured", ["measure", "mesh.obj", "log.txt"], None, 0, "end"),
+            ("a log that is measured to a full device", ["measure", "mesh.obj", "log.txt"], lambda: os.open("/dev/full", os.O_WRONLY), 4, None),
+            ("no such log", ["measure", "mesh.obj", "none.txt"], None, 11, "refused missing log"),
+            ("a log of 64 MiB and a byte", ["measure", "mesh.obj", "long.obj"], None, 5, "refused long log 67108865"),
+            ("a folder in place of the log", ["measure", "mesh.obj", "folder"], None, 3, None),
+            ("steps in place of the log", ["measure", "mesh.obj", "steps.txt"], None, 12, "refused log 1 unknown"),
             ("no such mesh file", ["track", "none.obj", "steps.txt", "t"], None, 11, "refused missing mesh"),
             ("no such step file", ["track", "mesh.obj", "none.txt", "t"], None, 11, "refused missing steps"),
             ("a mesh file in no folder", ["track", "nowhere/mesh.obj", "steps.txt", "t"], None, 11, "refused missing mesh"),
@@ -180,12 +190,14 @@ def main():
             told = last == ([f"topo: status {status}"] if status else [])
             wrote = (ended.stdout or b"").decode(errors="replace")
             front, _, tail = wrote.removesuffix("\n").rpartition("\n")
+            # what stands before a refusal, and the whole output
+            before, whole = ("", MEASURED) if words[:1] == ["measure"] else ("topo log 2", LOG)
             if end is None:
                 is_due = status == 0 or wrote == ""
             elif end.startswith("refused"):
-                is_due = front == "topo log 2" and tail.startswith(end) and wrote.endswith("\n")
+                is_due = front == before and tail.startswith(end) and wrote.endswith("\n")
             else:
-                is_due = tail == end and LOG.startswith(wrote)
+                is_due = tail == end and whole.startswith(wrote)
             holds = all((open(at(name)).read() if os.path.isfile(at(name)) else None) == text for name, text in (files[0] if files else {}).items())
             good = ended.returncode == status and told and is_due and holds and parts(folder) == beside
             failed += not good

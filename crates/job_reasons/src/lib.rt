@@ -3,6 +3,7 @@
 #![tactic(auto)]
 
 mod desk_reasons;
+mod log_reasons;
 mod mesh_reasons;
 mod places;
 mod shape_reasons;
@@ -11,6 +12,7 @@ mod warnings;
 mod word_reasons;
 
 pub use desk_reasons::{long_reason, missing_reason, trouble_reason};
+pub use log_reasons::{log_text_reason, replay_reason};
 pub use mesh_reasons::mesh_text_reason;
 pub use shape_reasons::{meeting_reason, shape_reason};
 pub use step_reasons::{step_text_reason, use_reason};

@@ -33,14 +33,17 @@ fn other_format(line: &[u8]) -> Option<&'static str> {
         b"solid" | b"facet" => Some("this looks like an STL file, which is not read"),
         b"set"
         | b"shift"
+        | b"drive"
         | b"step"
         | b"split"
         | b"collapse"
         | b"flip"
         | b"zip"
         | b"pinch"
+        | b"fit"
         | b"save"
-        | b"group" => {
+        | b"group"
+        | b"close" => {
             Some("this looks like a text of steps: the mesh comes first, and then the steps")
         }
         _ => None,

@@ -19,6 +19,7 @@ fn form(word: &[u8]) -> Option<&'static str> {
         b"collapse" => Some("`collapse L`"),
         b"zip" => Some("`zip D`"),
         b"flip" => Some("`flip` alone"),
+        b"fit" => Some("`fit` alone"),
         b"pinch" => Some("`pinch` alone"),
         b"step" => Some("`step` alone"),
         b"save" => Some("`save` alone"),
@@ -68,7 +69,7 @@ fn expected(why: TextWhy, word: &[u8], next: &[u8], decimals: u8) -> &'static st
             "this looks like a mesh: the mesh comes first, and then the steps"
         }
         _ =>
-            "a line begins with set, shift, drive, solid, split, collapse, flip, zip, pinch, step, save, group or close",
+            "a line begins with set, shift, drive, solid, split, collapse, flip, zip, pinch, fit, step, save, group or close",
     }
 }
 

@@ -31,7 +31,7 @@ fn is_number_in(low: u32, high: u32, word: &[u8]) -> bool {
     }
 }
 
-// What the next word behind `track` or `convert` can be.
+// What the next word behind a command that takes files can be.
 #[derive(Clone, Copy, PartialEq, Eq)]
 enum Awaited {
     // The name of a file, or an option.
@@ -42,7 +42,7 @@ enum Awaited {
     File,
 }
 
-// What a word behind `track` or `convert` is taken as.
+// What a word behind a command that takes files is taken as.
 #[derive(Clone, Copy)]
 enum Taken<'a> {
     // The end of the options, `--`.
@@ -135,6 +135,13 @@ const CONVERT: Wanted = Wanted {
     formats: true,
 };
 
+// What `measure` wants.
+const MEASURE: Wanted = Wanted {
+    form: "measure MESH LOG",
+    files: 2,
+    formats: false,
+};
+
 // Says what is wrong with a word as the name of a file, if anything is; so many stand before it.
 fn file_reason(
     alloc: Global,
@@ -168,7 +175,7 @@ fn few_files_reason(alloc: Global, wanted: Wanted, files: usize) -> Result<Strin
     format!(in alloc; "`topo {form}` wants {wants} names of files, and {files} {are} given")
 }
 
-// Says what is wrong with the words behind `track` or `convert`: it tells the first word that is at fault, in the order in which they
+// Says what is wrong with the words behind a command that takes files: it tells the first word that is at fault, in the order in which they
 // are taken, or what is lacking at their end.
 fn files_reason(alloc: Global, wanted: Wanted, words: &[String]) -> Result<String, AllocError> {
     let mut awaited = Awaited::Any;
@@ -256,7 +263,9 @@ fn command_reason(alloc: Global, command: &str) -> Result<String, AllocError> {
     if is_word(bytes, b"--help") || is_word(bytes, b"-h") || is_word(bytes, b"--version") {
         return format!(in alloc; "{command} stands alone");
     }
-    format!(in alloc; "{command:?} is no command: the commands are `track`, `convert` and `try`")
+    format!(in alloc;
+        "{command:?} is no command: the commands are `track`, `convert`, `measure` and `try`"
+    )
 }
 
 /// Says which word of a command line is at fault, where the words are of no listed form. N of `try` is at most `most_cubes`.
@@ -270,6 +279,9 @@ pub fn words_reason(alloc: Global, words: &[String], most_cubes: u8) -> Result<S
     }
     if is_word(command.as_bytes(), b"convert") {
         return files_reason(alloc, CONVERT, others);
+    }
+    if is_word(command.as_bytes(), b"measure") {
+        return files_reason(alloc, MEASURE, others);
     }
     if is_word(command.as_bytes(), b"try") {
         return numbers_reason(alloc, most_cubes, others);

@@ -1,3 +1,4 @@
 mod Lines
 mod Effects
 mod Jobs
+mod Measured

@@ -1,5 +1,11 @@
 //! Laws of the logs that runs write. Each is the contract of a function that does nothing.
+ghost use Rattle.mesh_field.specs.Stored.{StoredFields};
+ghost use Rattle.track_engine.specs.Answered.{known};
 ghost use Rattle.log_fits.specs.Fitting.{LogsOfMeshesFit, LogsOfJobsFit};
+ghost use Rattle.log_fits.specs.Measured.{LogsOfRunsAreMeasured, MeshLinesTell};
+
+use grid_base::{Point, Shift};
+use mesh_sizing::Band;
 
 /// Every line of a job's log fits the lines before it, whatever the job and whatever fields and the sizing answer: a replay that
 /// begins with the job's mesh takes each line in turn. So it does where the log ends with a refusal, and, of a mesh and directives as
@@ -7,4 +13,17 @@ ghost use Rattle.log_fits.specs.Fitting.{LogsOfMeshesFit, LogsOfJobsFit};
 pub fn every_line_of_a_log_fits()
     ensures meshes { LogsOfMeshesFit }
     ensures jobs { LogsOfJobsFit }
+{}
+
+/// A `mesh` line that fits tells the numbers of the mesh that the lines before it make.
+pub fn mesh_lines_tell()
+    ensures { MeshLinesTell }
+{}
+
+/// The whole log that a run wrote of a clear mesh, no longer than a text may be, is measured to its end, from the same mesh and with the
+/// same decimals, whether the run came to its own end or a directive was refused: `measure` is done, or finds no memory, where neither side
+/// fails.
+pub fn logs_of_runs_are_measured<F: Fn(u8, Point) -> Shift, G: Fn(Point) -> Band>()
+    ensures { (fields : StoredFields F) (sizing : G) →
+        LogsOfRunsAreMeasured (known F.Fn fields G.Fn sizing) }
 {}

@@ -19,7 +19,7 @@ use std::process::Abort;
 use std::test::Fail;
 
 // The replay of no line yet, over a mesh of good shape.
-pub(crate) fn begun(alloc: Global, mesh: &[u8], rt: &impl Abort) -> Result<LogRun, Fail>
+fn begun(alloc: Global, mesh: &[u8], rt: &impl Abort) -> Result<LogRun, Fail>
     ensures closed { IfOk result AreClosed }
     ensures unspent { IfOk result (λ run. run.is_spent ≡ false) }
 {
@@ -30,7 +30,7 @@ pub(crate) fn begun(alloc: Global, mesh: &[u8], rt: &impl Abort) -> Result<LogRu
     Ok(LogRun::new(alloc, mesh))
 }
 
-pub(crate) fn lines_of(alloc: Global, text: &[u8], rt: &impl Abort) -> Result<Log, ReadFault> {
+fn lines_of(alloc: Global, text: &[u8], rt: &impl Abort) -> Result<Log, ReadFault> {
     assert!(rt; text.len() < 1_000);
     read_log(alloc, text)
 }
@@ -56,12 +56,7 @@ fn may_be_tried(
 }
 
 // Whether a line fits.
-pub(crate) fn fits(
-    alloc: Global,
-    run: &mut LogRun,
-    line: &LogLine,
-    rt: &impl Abort,
-) -> Result<bool, NoMemory>
+fn fits(alloc: Global, run: &mut LogRun, line: &LogLine, rt: &impl Abort) -> Result<bool, NoMemory>
     requires unspent { run.old.is_spent ≡ false }
     requires closed { AreClosed run.old }
     ensures unspent { result ≡ Ok true → run.new.is_spent ≡ false }
@@ -119,7 +114,7 @@ fn leads(rt: &impl Abort, alloc: Global, mesh: &[u8], log: &[u8], end: &[u8]) ->
 const MOVED: &[u8] = b"v 1 2 3\nv 5 2 3\nv 1 6 3\nv 1 2 7\nf 1 3 2\nf 1 2 4\nf 2 3 4\nf 1 4 3\n";
 
 // The log of it.
-pub(crate) const MOVE: &[u8] =
+const MOVE: &[u8] =
     b"topo log 1\nmesh 0 4 4\nstep 1\nmove 1 1 2 3\nmove 2 1 2 3\nmove 3 1 2 3\nmove 4 1 2 3\n\
 moved whole\nmesh 1 4 4\nend\n";
 
@@ -127,8 +122,7 @@ moved whole\nmesh 1 4 4\nend\n";
 const SPLIT: &[u8] = b"topo log 1\nmesh 0 4 4\npass split 4\nsplit 1 2 5 2 0 0\nend\n";
 
 // A crowded edge becomes a vertex with two fans, which are parted.
-pub(crate) const PART: &[u8] =
-    b"topo log 1\nmesh 0 8 12\npass collapse 10\ncollapse 1 2 0 0 4\npass pinch\n\
+const PART: &[u8] = b"topo log 1\nmesh 0 8 12\npass collapse 10\ncollapse 1 2 0 0 4\npass pinch\n\
 pinch 1 13 0 4 9 -13 0 4\nmesh 1 8 8\nend\n";
 
 // An edge is flipped, and others are not.

@@ -27,7 +27,7 @@ has_poor_edge m v = some_near m v (is_poor_edge m v)
 abbrev pub is_other_neighbour : Mesh → Edge → ℕ → Bool
 is_other_neighbour m s x = not (x == s.a) && is_edge m s.b x && not (x == s.c) && not (x == s.d)
 
--- both ends have such a neighbour
+-- the ends have such a neighbour in common
 abbrev pub has_other_neighbour : Mesh → Edge → Bool
 has_other_neighbour m s = some_near m s.a (is_other_neighbour m s)
 

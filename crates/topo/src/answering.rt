@@ -21,14 +21,17 @@ pub(crate) const USAGE: &str = "\
 usage: topo track MESH STEPS PREFIX [--decimals N]
        topo convert FROM TO [--decimals N]
        topo try N KEY
-       topo track --help | convert --help | try --help
+       topo measure MESH LOG [--decimals N]
+       topo track --help | convert --help | try --help | measure --help
        topo --help | --version
 
 Reads the Wavefront OBJ mesh MESH and the text of steps STEPS, moves the closed triangle surface by
 the steps and edits it, writes the log to standard output, and stores the meshes as PREFIX-000000.obj,
 PREFIX-000001.obj and so on. `convert` stores the mesh FROM under TO, each in the format of its ending:
 .obj, .off (OFF) or .ply (ASCII PLY). `try` makes a job of N * N * N cubes by KEY, runs it, and writes a
-summary of its log (N from 1 to 12, KEY from 0 to 4294967295); it reads and stores no file.
+summary of its log (N from 1 to 12, KEY from 0 to 4294967295); it reads and stores no file. `measure`
+takes the lines of the log LOG, which began with the mesh MESH, one after another, and tells what they did
+to volume and shape.
 
 --decimals N    a unit of the grid is 10 to the power -N (N from 0 to 6; 0 if left out)
 
@@ -45,6 +48,8 @@ Exit status:
    9  a line of the step file is outside its grammar
   10  a directive is refused
   11  a file is missing
+  12  a line of the log is outside its grammar
+  13  a line of the log does not fit the lines before it
 ";
 
 /// The line of the version.

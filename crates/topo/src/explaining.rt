@@ -4,8 +4,8 @@ ghost use Rattle.grid_base.specs.declared.TheConstants.{TEXT_MAX, DECIMALS_MAX};
 
 use grid_base::TEXT_MAX;
 use job_reasons::{
-    long_reason, meeting_reason, mesh_text_reason, missing_reason, shape_reason, step_text_reason,
-    trouble_reason, use_reason, words_reason,
+    log_text_reason, long_reason, meeting_reason, mesh_text_reason, missing_reason, replay_reason,
+    shape_reason, step_text_reason, trouble_reason, use_reason, words_reason,
 };
 use line_text::TextFault;
 use mesh_plain::{FileWord, ShapeFault};
@@ -21,7 +21,7 @@ use track_run::Outcome;
 #[derive(Clone, Copy)]
 pub(crate) struct Names<'a> {
     pub(crate) mesh: &'a str,
-    pub(crate) steps: &'a str,
+    pub(crate) other: &'a str,
     pub(crate) decimals: u8,
     ghost few: { decimals ≤ DECIMALS_MAX },
 }
@@ -36,23 +36,28 @@ pub(crate) fn names_of(alloc: Global, words: &[String]) -> Option<Names<'_>> {
             ..
         } => Some(Names {
             mesh,
-            steps,
+            other: steps,
             decimals,
         }),
         Command::Convert { from, decimals, .. } => Some(Names {
             mesh: from.name,
-            steps: from.name,
+            other: from.name,
             decimals,
+        }),
+        Command::Measure(files) => Some(Names {
+            mesh: files.mesh,
+            other: files.log,
+            decimals: files.decimals,
         }),
         Command::Try { .. } => None,
     }
 }
 
-// The name of one of the two files. No command has a log or a proof as its other file yet.
+// The name of one of the two files. No command has a proof as its other file yet.
 fn name_of<'a>(names: Names<'a>, file: FileWord) -> &'a str {
     match file {
         FileWord::Mesh => names.mesh,
-        FileWord::Steps | FileWord::Log | FileWord::Proof => names.steps,
+        FileWord::Steps | FileWord::Log | FileWord::Proof => names.other,
     }
 }
 
@@ -88,8 +93,30 @@ fn step_sentence<R: Files>(
     fault: TextFault,
     rt: &R,
 ) -> Result<String, AllocError> {
-    let bytes = bytes_of(alloc, rt, names.steps);
-    step_text_reason(alloc, names.steps, &bytes, names.decimals, fault)
+    let bytes = bytes_of(alloc, rt, names.other);
+    step_text_reason(alloc, names.other, &bytes, names.decimals, fault)
+}
+
+// What is wrong with a line of the log.
+fn log_sentence<R: Files>(
+    alloc: Global,
+    names: Names<'_>,
+    fault: TextFault,
+    rt: &R,
+) -> Result<String, AllocError> {
+    let bytes = bytes_of(alloc, rt, names.other);
+    log_text_reason(alloc, names.other, &bytes, fault)
+}
+
+// Which line of the log does not fit.
+fn replay_sentence<R: Files>(
+    alloc: Global,
+    names: Names<'_>,
+    line: u32,
+    rt: &R,
+) -> Result<String, AllocError> {
+    let bytes = bytes_of(alloc, rt, names.other);
+    replay_reason(alloc, names.other, &bytes, line)
 }
 
 // What is wrong with the shape of the mesh.
@@ -114,7 +141,7 @@ pub(crate) fn explain<R: Files>(
 ) -> Result<String, AllocError> {
     let names = names_of(alloc, words).unwrap_or(Names {
         mesh: "the mesh",
-        steps: "the steps",
+        other: "the other file",
         decimals: 0,
     });
     match outcome {
@@ -128,7 +155,9 @@ pub(crate) fn explain<R: Files>(
         Outcome::MeshShape(fault) => shape_sentence(alloc, names, fault, rt),
         Outcome::MeshMeets(pair) => meeting_reason(alloc, names.mesh, pair),
         Outcome::StepText(fault) => step_sentence(alloc, names, fault, rt),
-        Outcome::StepUse { line, why } => use_reason(alloc, names.steps, line, why),
+        Outcome::StepUse { line, why } => use_reason(alloc, names.other, line, why),
         Outcome::Missing { file } => missing_reason(alloc, name_of(names, file)),
+        Outcome::LogText(fault) => log_sentence(alloc, names, fault, rt),
+        Outcome::LogUse { line } => replay_sentence(alloc, names, line, rt),
     }
 }

@@ -17,7 +17,7 @@ The text of steps, a directive a line; V is the id of a vertex, and # begins a c
   zip D                                  join edges that are at most D apart by tunnels
   pinch                                  part the surface where it hangs together at a vertex
   fit                                    split each edge longer than 60 + D/16, collapse each shorter than
-                                         20 + D/64, where D is the greatest coordinate at its middle
+                                         20 + D/64, where D is the greatest size of a coordinate at its middle
   group, close                           what stands between is kept or taken back as a whole
   set depth D, set halvings H, set passes P, set zones Z   how steps are tested and shortened
 
@@ -41,6 +41,19 @@ stored. What is written, of the job's whole log:
   mesh V F          how many vertices and faces the mesh has at the end
   corner X Y Z      where vertex 1 then stands
   lines L           how many lines the log has
+
+docs/FORMATS.md has all texts. `topo --help` lists the exit statuses.";
+
+const MEASURES: &str = "\
+Each line of the log is taken where it fits the lines before it: a move in a step that is begun, an edit that
+comes out as told, a step of which each pair of an edge and a face passes the test to depth 10. What is written:
+  measure K volume6 N components C euler X genus G
+                    at mesh K of the log: N is six times its signed volume in cubic units of the grid, C how many
+                    pieces it is in, X the vertices minus the edges plus the faces, and G how many handles it has
+                    in all, or `none` where an edge or a vertex hangs together more than once
+  change LINE components C euler X
+                    behind line LINE of the log, where C or X are others than before
+  end               every line was taken
 
 docs/FORMATS.md has all texts. `topo --help` lists the exit statuses.";
 
@@ -84,6 +97,19 @@ fn convert<'a>(alloc: Global) -> Result<Command<'a>, AllocError> {
         .arg(decimals(alloc))
 }
 
+fn measure<'a>(alloc: Global) -> Result<Command<'a>, AllocError> {
+    Command::new(alloc, "measure")
+        .about("Tells what a log did to volume and shape")
+        .after_help(MEASURES)
+        .arg(word(
+            alloc,
+            "MESH",
+            "The Wavefront OBJ file of the mesh that the log began with",
+        ))?
+        .arg(word(alloc, "LOG", "The file of the log, as `track` wrote it"))?
+        .arg(decimals(alloc))
+}
+
 fn try_cubes<'a>(alloc: Global) -> Result<Command<'a>, AllocError> {
     Command::new(alloc, "try")
         .about("Makes a job of cubes by a key, runs it, and sums up its log")
@@ -110,12 +136,17 @@ fn try_help(alloc: Global) -> Result<String, AllocError> {
     rendered(try_cubes(alloc)?, "topo try")
 }
 
+fn measure_help(alloc: Global) -> Result<String, AllocError> {
+    rendered(measure(alloc)?, "topo measure")
+}
+
 /// How the command is called; None, where there is no such command.
 pub(crate) fn command_help(alloc: Global, name: &str) -> Result<Option<String>, AllocError> {
     let help = match name {
         "track" => track_help(alloc)?,
         "convert" => convert_help(alloc)?,
         "try" => try_help(alloc)?,
+        "measure" => measure_help(alloc)?,
         _ => return Ok(None),
     };
     Ok(Some(help))

@@ -1,6 +1,6 @@
-//! The program `topo`. It makes the real desk and sink and answers the words of the command line: it tracks or converts a mesh, tries a
-//! job that it makes, or says how to call it. What is to be believed is here alone: that the words are those of the command line, and
-//! that the status is handed out.
+//! The program `topo`. It makes the real desk and sink and answers the words of the command line: it tracks or converts a mesh,
+//! measures a log, tries a job that it makes, or says how to call it. What is to be believed is here alone: that the words are those of the
+//! command line, that the fields and the sizing are the shipped ones, and that the status is handed out.
 #![tactic(auto)]
 
 mod answering;
@@ -35,6 +35,14 @@ fn words(rt: &(impl Env + AllocGlobal)) -> io::Result<Vec<String>> {
         }
     }
     Ok(words)
+}
+
+// Whether the words ask for a mesh to be tracked: of such a run a terminal is told how far its log has come.
+fn is_tracked(words: &[String]) -> bool {
+    match words.first() {
+        Some(first) => first.as_str() == "track",
+        None => false,
+    }
 }
 
 // The help of a command, where the words ask for that alone.
@@ -82,7 +90,9 @@ fn main(rt: HostRuntime) -> ExitCode {
                 None => no_fields(shipped_shift),
             };
             let sizing = Sizing::new(shipped_band);
-            let is_watched = rt.stderr().is_terminal() && !rt.stdout().is_terminal();
+            let is_watched = is_tracked(&words)
+                && rt.stderr().is_terminal()
+                && !rt.stdout().is_terminal();
             let outcome = match asked_help(alloc, &words) {
                 Some(help) => tell(help.as_str(), &desk, &mut out),
                 None if is_watched => {

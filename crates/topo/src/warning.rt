@@ -92,7 +92,7 @@ pub(crate) fn warnings<R: Files>(
     };
     let mesh = bytes_of(alloc, rt, names.mesh);
     mesh_warnings(alloc, &mesh, names.decimals, &mut said)?;
-    let steps = bytes_of(alloc, rt, names.steps);
+    let steps = bytes_of(alloc, rt, names.other);
     steps_warnings(alloc, &steps, &mut said)?;
     Ok(said)
 }

@@ -13,8 +13,8 @@ ghost use Rattle.track_engine.specs.Again.{LogsAreAgain};
 use grid_base::{Point, Shift};
 use mesh_sizing::Band;
 
-/// The log by fewer answers is a first part of the log by more: it is cut short before a directive that is not answered, or behind the
-/// edges of a pass by the sizing that are, and otherwise nothing in it hangs on the answers that are to come.
+/// The log by fewer answers is a first part of the log by more: it is cut short before a directive that is not answered, and otherwise
+/// nothing in it hangs on the answers that are to come. (Behind an answer of the first edges of a pass alone both are cut short.)
 pub fn fewer_answers_give_a_first_part()
     ensures { (answers more : Answers) (steps : List Placed) (s : State) →
         IsFirstPart (log_from (answers ++ more) steps s) (log_from answers steps s) }

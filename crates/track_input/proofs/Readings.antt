@@ -13,12 +13,12 @@ use Rattle.clap.specs.Simple.{built}
 use Rattle.clap.specs.Walk.{Rule, takes_values}
 use Rattle.line_text.specs.Spellings.{spelled_number}
 use Rattle.track_input.specs.declared.command.TheConstants.{CUBES_MAX}
-use Rattle.track_input.specs.Words.{MeshName, Named, Track, Convert, Try, named_in, track_in, convert_in, try_in, between, number_in, decimals_in, mesh_name_of, is_file_word, is_decimals}
+use Rattle.track_input.specs.Words.{MeshName, LogNames, Named, Track, Convert, Try, Measure, named_in, track_in, convert_in, try_in, log_in, between, number_in, decimals_in, mesh_name_of, is_file_word, is_decimals}
 use Rattle.track_input.specs.Named.{named_by}
 use Rattle.track_input.specs.declared.command.Command.{Command}
 use Rattle.track_input.specs.Taken.{AreTakenAs, IsReading}
-use Rattle.track_input.specs.Commands.{Values, IsFound, IsReadBy, values_in, track_app, track_of, track_read, convert_app, convert_of, convert_read, try_app, try_of, try_read}
-use Rattle.track_input.proofs.Walks.{IsPlainWord, plain_word, plain_digit, plain_number, try_taken, try_found, track_taken, track_found, track_taken_with, track_found_with, convert_taken, convert_found, convert_taken_with, convert_found_with}
+use Rattle.track_input.specs.Commands.{Values, IsFound, IsReadBy, values_in, track_app, track_of, track_read, convert_app, convert_of, convert_read, try_app, try_of, try_read, log_app, log_of, log_read, measure_app, measure_read}
+use Rattle.track_input.proofs.Walks.{IsPlainWord, plain_word, plain_digit, plain_number, try_taken, try_found, log_taken, log_found, log_taken_with, log_found_with, track_taken, track_found, track_taken_with, track_found_with, convert_taken, convert_found, convert_taken_with, convert_found_with}
 use Rattle.track_input.proofs.Among.{AreSafe, FoundLong, IsSetRule, RowsFrom, rows_from, first_from, contains_here, contains_later}
 
 -- ---- the reading
@@ -69,6 +69,9 @@ try_by_rows m = rw (first_value-rows (found_of m) (codes "cubes"), first_value-r
 
 pub convert_by_rows : (m : ArgMatches) → convert_read (first_value (found_of m)) ≡ convert_read (λ id. first_of id (rows_of (found_of m)))
 convert_by_rows m = rw (first_value-rows (found_of m) (codes "from"), first_value-rows (found_of m) (codes "to"), first_value-rows (found_of m) (codes "decimals")) refl
+
+pub measure_by_rows : (m : ArgMatches) → measure_read (first_value (found_of m)) ≡ measure_read (λ id. first_of id (rows_of (found_of m)))
+measure_by_rows m = rw (first_value-rows (found_of m) (codes "mesh"), first_value-rows (found_of m) (codes "log"), first_value-rows (found_of m) (codes "decimals")) refl
 
 -- ---- words that are listed
 
@@ -150,6 +153,48 @@ convert_listed zeroth (a ∷ b ∷ rest) x e = at_names (mesh_name_of a) (mesh_n
     at_names (Some from) None is_m is_n g = absurd (cc)
     at_names (Some from) (Some to) is_m is_n g = at_rest from to rest (mesh_word a from is_m) (mesh_word b to is_n) e g
 
+-- a mesh and a log are found in words that list them behind the name of a command
+record FindsNames (name : List ℕ) (words : List (List ℕ)) (x : LogNames) : Type 0 where
+  taken : takes (log_app name) words ≡ true
+  found : log_read (values_in (log_app name) words) ≡ Some x
+
+log_listed : (name zeroth : List ℕ) (rest : List (List ℕ)) (x : LogNames) → log_in rest ≡ Some x → FindsNames name (zeroth ∷ rest) x
+log_listed name zeroth [] x e = absurd (cc)
+log_listed name zeroth (a ∷ []) x e = absurd (cc)
+log_listed name zeroth (a ∷ b ∷ rest) x e = elim (cases_Bool (is_file_word a && is_file_word b)) [
+  | inr fails ↦ absurd (let g = rw fails at e in cc)
+  | inl all ↦ let p = and_parts _ _ all in at_rest rest p.0 p.1 e (rw all at e)
+]
+  where
+    at_rest : (rest : List (List ℕ)) → is_file_word a ≡ true → is_file_word b ≡ true → log_in (a ∷ b ∷ rest) ≡ Some x
+        → option_map (λ n. record { mesh = a; log = b; decimals = n }) (decimals_in rest) ≡ Some x → FindsNames name (zeroth ∷ a ∷ b ∷ rest) x
+    at_rest [] ha hb e g =
+        let f = log_found zeroth a b (plain_word a ha) (plain_word b hb) name in
+        record { taken = log_taken zeroth a b (plain_word a ha) (plain_word b hb) name; found = rw (f.mesh, f.log, f.decimals) e }
+    at_rest (o ∷ []) ha hb e g = absurd (cc)
+    at_rest (o ∷ d ∷ y ∷ ys) ha hb e g = absurd (cc)
+    at_rest (o ∷ d ∷ []) ha hb e g = elim (cases_Bool (bytes_eq o (codes "--decimals") && is_decimals d)) [
+      | inr fails ↦ absurd (let h = rw fails at g in cc)
+      | inl all ↦
+          let p = and_parts _ _ all in
+          let option : codes "--decimals" ≡ o = option_is o p.0 in
+          let listed : log_in (a ∷ b ∷ codes "--decimals" ∷ d ∷ []) ≡ Some x = subst (λ (w : List ℕ). log_in (a ∷ b ∷ w ∷ d ∷ []) ≡ Some x) (sym option) e in
+          let f = log_found_with zeroth a b (plain_word a ha) (plain_word b hb) d (plain_digit d p.1) name in
+          let here : FindsNames name (zeroth ∷ a ∷ b ∷ codes "--decimals" ∷ d ∷ []) x = record {
+            taken = log_taken_with zeroth a b (plain_word a ha) (plain_word b hb) d (plain_digit d p.1) name;
+            found = rw (f.mesh, f.log, f.decimals) listed;
+          } in
+          subst (λ (w : List ℕ). FindsNames name (zeroth ∷ a ∷ b ∷ w ∷ d ∷ []) x) option here
+    ]
+
+measure_listed : (zeroth : List ℕ) (rest : List (List ℕ)) (x : Named) → option_map Measure (log_in rest) ≡ Some x → Finds measure_read measure_app (zeroth ∷ rest) x
+measure_listed zeroth rest x e = at (log_in rest) refl e
+  where
+    at : (o : Option LogNames) → log_in rest ≡ o → option_map Measure o ≡ Some x → Finds measure_read measure_app (zeroth ∷ rest) x
+    at None is g = absurd (cc)
+    at (Some names) is g = let f = log_listed (codes "measure") zeroth rest names is in
+        record { taken = f.taken; found = ap (option_map Measure) f.found ∙ g }
+
 number_word : (low high : ℕ) (word : List ℕ) (n : ℕ) → number_in low high word ≡ Some n → IsPlainWord word
 number_word low high word n e = at (spelled_number word) refl e
   where
@@ -187,6 +232,13 @@ track_is_safe words = record {
 
 convert_is_safe : (words : List (List ℕ)) → AreSafe words (built convert_app).top.rules
 convert_is_safe words = record {
+  set = (record { action = refl; missing = refl; defaults = refl }, (record { action = refl; missing = refl; defaults = refl }, (record { action = refl; missing = refl; defaults = refl }, tt)));
+  long = λ long. long_found words _ long (record { action = refl; missing = refl; defaults = refl }) refl refl (bytes_eq (codes "decimals") long) refl;
+  short = λ x. refl;
+}
+
+log_is_safe : (name : List ℕ) (words : List (List ℕ)) → AreSafe words (built (log_app name)).top.rules
+log_is_safe name words = record {
   set = (record { action = refl; missing = refl; defaults = refl }, (record { action = refl; missing = refl; defaults = refl }, (record { action = refl; missing = refl; defaults = refl }, tt)));
   long = λ long. long_found words _ long (record { action = refl; missing = refl; defaults = refl }) refl refl (bytes_eq (codes "decimals") long) refl;
   short = λ x. refl;
@@ -281,6 +333,27 @@ try_among rest rows from x e = at (first_of (codes "cubes") rows) (first_of (cod
           decimals = tt;
         }
 
+measure_among : (rest : List (List ℕ)) (rows : List Row) → RowsFrom (codes "measure" ∷ rest) rows → (x : Named) → measure_read (λ id. first_of id rows) ≡ Some x → AreTakenAs (codes "measure" ∷ rest) x
+measure_among rest rows from x e = at (first_of (codes "mesh") rows) (first_of (codes "log") rows) (first_of (codes "decimals") rows) refl refl refl e
+  where
+    at : (m l d : Option (List ℕ)) → first_of (codes "mesh") rows ≡ m → first_of (codes "log") rows ≡ l → first_of (codes "decimals") rows ≡ d
+        → option_map Measure (log_of m l d) ≡ Some x → AreTakenAs (codes "measure" ∷ rest) x
+    at None l d em el ed e = absurd (cc)
+    at (Some a) None d em el ed e = absurd (cc)
+    at (Some a) (Some b) d em el ed e =
+        let words = codes "measure" ∷ rest in
+        let ma : Contains words a = word_among words rows from (codes "mesh") a (λ w. absurd (cc)) em in
+        let mb : Contains words b = word_among words rows from (codes "log") b (λ w. absurd (cc)) el in
+        record {
+          form = codes "measure" ∷ a ∷ b ∷ [];
+          digit = d;
+          is_listed = e;
+          first = refl;
+          among = more words (codes "measure") (a ∷ b ∷ []) (contains_here (codes "measure") rest)
+              (more words a (b ∷ []) ma (more words b [] mb (All-nil (Contains words))));
+          decimals = digit_among words rows from d ed;
+        }
+
 -- ---- each command
 
 track_serves : (rest : List (List ℕ)) → Serves track_read track_app (codes "track" ∷ rest)
@@ -302,6 +375,13 @@ try_serves rest = record {
   listed = λ x e. try_listed (codes "try") rest x e;
   among = λ x e. try_among rest (matches_of try_app (codes "try" ∷ rest))
       (rows_from (codes "try" ∷ rest) _ (try_is_safe (codes "try" ∷ rest)) _ rest (λ v i. contains_later (codes "try") v rest i)) x e;
+}
+
+measure_serves : (rest : List (List ℕ)) → Serves measure_read measure_app (codes "measure" ∷ rest)
+measure_serves rest = record {
+  listed = λ x e. measure_listed (codes "measure") rest x e;
+  among = λ x e. measure_among rest (matches_of measure_app (codes "measure" ∷ rest))
+      (rows_from (codes "measure" ∷ rest) _ (log_is_safe (codes "measure") (codes "measure" ∷ rest)) _ rest (λ v i. contains_later (codes "measure") v rest i)) x e;
 }
 
 -- ---- the first word
@@ -342,6 +422,13 @@ module _ {E : Type 0} (words : List (List ℕ)) (r : Result (Option Command) E) 
       at (Ok found) by = at_name (codes "try") try_read try_app try_serves words begins (option_map named_by found) by
       at (Err e) by = tt
 
+  pub reads_measure : BeginWith (codes "measure") words → IfOk r (λ found. IsReadBy measure_read measure_app words (option_map named_by found)) → IfOk r (λ found. IsReading words (option_map named_by found))
+  reads_measure begins = at r
+    where
+      at : (r : Result (Option Command) E) → IfOk r (λ found. IsReadBy measure_read measure_app words (option_map named_by found)) → IfOk r (λ found. IsReading words (option_map named_by found))
+      at (Ok found) by = at_name (codes "measure") measure_read measure_app measure_serves words begins (option_map named_by found) by
+      at (Err e) by = tt
+
 differs : (word name : List ℕ) → (word ≡ name → ⊥) → bytes_eq word name ≡ false
 differs word name other = elim (cases_Bool (bytes_eq word name)) [
   | inl e ↦ absurd (other ((bytes_eq-Decides word name).0 e))
@@ -350,12 +437,12 @@ differs word name other = elim (cases_Bool (bytes_eq word name)) [
 
 -- words that begin otherwise are of no listed form
 pub unlisted : (words : List (String Global)) (word : String Global) (text : List ℕ) → Some word ≡ slice_get words 0 → text ≡ string_bytes word
-    → (text ≡ codes "track" → ⊥) → (text ≡ codes "convert" → ⊥) → (text ≡ codes "try" → ⊥) → named_in (map (λ w. string_bytes w) words) ≡ None
-unlisted [] word text first is a b c = refl
-unlisted (w ∷ rest) word text first is a b c =
+    → (text ≡ codes "track" → ⊥) → (text ≡ codes "convert" → ⊥) → (text ≡ codes "try" → ⊥) → (text ≡ codes "measure" → ⊥) → named_in (map (λ w. string_bytes w) words) ≡ None
+unlisted [] word text first is a b c d = refl
+unlisted (w ∷ rest) word text first is a b c d =
     let same : word ≡ w = cc in
     let here : text ≡ string_bytes w = is ∙ ap (λ (y : String Global). string_bytes y) same in
-    rw (← here, differs text (codes "track") a, differs text (codes "convert") b, differs text (codes "try") c) refl
+    rw (← here, differs text (codes "track") a, differs text (codes "convert") b, differs text (codes "try") c, differs text (codes "measure") d) refl
 
 pub unlisted_nothing : (words : List (String Global)) → slice_get words 0 ≡ None → named_in (map (λ w. string_bytes w) words) ≡ None
 unlisted_nothing [] e = refl

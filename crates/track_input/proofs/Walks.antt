@@ -13,7 +13,7 @@ use Rattle.line_text.specs.Numbers.{number_within, is_digit, begins_with}
 use Rattle.line_text.specs.Spellings.{spelled_number}
 use Rattle.line_text.specs.declared.number.TheConstants.{DIGITS_MAX}
 use Rattle.track_input.specs.Words.{is_file_word, is_decimals}
-use Rattle.track_input.specs.Commands.{track_app, convert_app, try_app}
+use Rattle.track_input.specs.Commands.{track_app, convert_app, try_app, log_app}
 
 -- a word that begins no option
 pub record IsPlainWord (w : List ℕ) : Type 0 where
@@ -74,6 +74,11 @@ pub record FindsConvert (rows : List Row) (a b : List ℕ) (n : Option (List ℕ
   pub to : first_of (codes "to") rows ≡ Some b
   pub decimals : first_of (codes "decimals") rows ≡ n
 
+pub record FindsLog (rows : List Row) (a b : List ℕ) (n : Option (List ℕ)) : Type 0 where
+  pub mesh : first_of (codes "mesh") rows ≡ Some a
+  pub log : first_of (codes "log") rows ≡ Some b
+  pub decimals : first_of (codes "decimals") rows ≡ n
+
 pub record FindsTry (rows : List Row) (a b : List ℕ) : Type 0 where
   pub cubes : first_of (codes "cubes") rows ≡ Some a
   pub key : first_of (codes "key") rows ≡ Some b
@@ -95,7 +100,23 @@ module _ (zeroth a b : List ℕ) (pa : IsPlainWord a) (pb : IsPlainWord b) where
   unfolding clap_on_literals
   convert_found = rw (pa.long, pa.short, pa.dashes, pb.long, pb.short, pb.dashes) (record { from = refl; to = refl; decimals = refl })
 
+  pub log_taken : (name : List ℕ) → takes (log_app name) (zeroth ∷ a ∷ b ∷ []) ≡ true
+  unfolding clap_on_literals
+  log_taken name = rw (pa.long, pa.short, pa.dashes, pb.long, pb.short, pb.dashes) refl
+
+  pub log_found : (name : List ℕ) → FindsLog (matches_of (log_app name) (zeroth ∷ a ∷ b ∷ [])) a b None
+  unfolding clap_on_literals
+  log_found name = rw (pa.long, pa.short, pa.dashes, pb.long, pb.short, pb.dashes) (record { mesh = refl; log = refl; decimals = refl })
+
   module _ (n : List ℕ) (pn : IsPlainWord n) where
+    pub log_taken_with : (name : List ℕ) → takes (log_app name) (zeroth ∷ a ∷ b ∷ codes "--decimals" ∷ n ∷ []) ≡ true
+    unfolding clap_on_literals
+    log_taken_with name = rw (pa.long, pa.short, pa.dashes, pb.long, pb.short, pb.dashes, pn.long, pn.short, pn.dashes) refl
+
+    pub log_found_with : (name : List ℕ) → FindsLog (matches_of (log_app name) (zeroth ∷ a ∷ b ∷ codes "--decimals" ∷ n ∷ [])) a b (Some n)
+    unfolding clap_on_literals
+    log_found_with name = rw (pa.long, pa.short, pa.dashes, pb.long, pb.short, pb.dashes, pn.long, pn.short, pn.dashes) (record { mesh = refl; log = refl; decimals = refl })
+
     pub convert_taken_with : takes convert_app (zeroth ∷ a ∷ b ∷ codes "--decimals" ∷ n ∷ []) ≡ true
     unfolding clap_on_literals
     convert_taken_with = rw (pa.long, pa.short, pa.dashes, pb.long, pb.short, pb.dashes, pn.long, pn.short, pn.dashes) refl

@@ -3,7 +3,8 @@ use Rattle.std.specs.Prelude.{◌≡◌, ◌⊎◌, ℕ, true, List, [], ◌∷�
 use Rattle.clap.specs.declared.builder.action.ArgAction.TheVariants.{Set}
 use Rattle.clap.specs.declared.parser.matches.ArgMatches.{ArgMatches}
 use Rattle.clap.specs.Words.{App, HasMatchesOf, Rule, first_of, matches_of, new_app, new_rule, takes, with_rule}
-use Rattle.track_input.specs.Words.{Named, track_in, convert_in, try_in}
+use Rattle.std.specs.Option.{option_map}
+use Rattle.track_input.specs.Words.{LogNames, Named, Measure, track_in, convert_in, try_in, log_in}
 use Rattle.track_input.specs.Taken.{behind}
 
 -- a word that has to be given
@@ -31,6 +32,13 @@ convert_app = with_rule (pair_app (codes "convert") (codes "from") (codes "to"))
 abbrev pub try_app : App
 try_app = pair_app (codes "try") (codes "cubes") (codes "key")
 
+-- the command of this name that takes a mesh and a log
+abbrev pub log_app : List ℕ → App
+log_app name = with_rule (pair_app name (codes "mesh") (codes "log")) decimals_rule
+
+abbrev pub measure_app : App
+measure_app = log_app (codes "measure")
+
 -- ---- what is read
 
 -- the value of each name, if it has one
@@ -49,6 +57,10 @@ abbrev pub try_of : Option (List ℕ) → Option (List ℕ) → Option Named
 try_of (Some cubes) (Some key) = try_in (cubes ∷ key ∷ [])
 try_of _ _ = None
 
+abbrev pub log_of : Option (List ℕ) → Option (List ℕ) → Option (List ℕ) → Option LogNames
+log_of (Some mesh) (Some log) digit = log_in (mesh ∷ log ∷ behind digit)
+log_of _ _ digit = None
+
 abbrev pub track_read : Values → Option Named
 track_read value = track_of (value (codes "mesh")) (value (codes "steps")) (value (codes "prefix")) (value (codes "decimals"))
 
@@ -57,6 +69,12 @@ convert_read value = convert_of (value (codes "from")) (value (codes "to")) (val
 
 abbrev pub try_read : Values → Option Named
 try_read value = try_of (value (codes "cubes")) (value (codes "key"))
+
+abbrev pub log_read : Values → Option LogNames
+log_read value = log_of (value (codes "mesh")) (value (codes "log")) (value (codes "decimals"))
+
+abbrev pub measure_read : Values → Option Named
+measure_read value = option_map Measure (log_read value)
 
 -- ---- what a command finds
 

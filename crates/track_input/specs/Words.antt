@@ -14,12 +14,19 @@ pub record MeshName : Type 0 where
   pub name : List ℕ
   pub format : Format
 
+-- the names of a mesh file and of the file of a log that begins with that mesh, and the decimals
+pub record LogNames : Type 0 where
+  pub mesh : List ℕ
+  pub log : List ℕ
+  pub decimals : ℕ
+
 -- what a command line asks for: of `track`, the three file words, and the decimals; of `convert`, the two files, and the decimals;
--- of `try`, the number of cubes along an edge, and the key
+-- of `try`, the number of cubes along an edge, and the key; of `measure`, the two files, and the decimals
 pub data Named : Type 0 where
   Track : (mesh : List ℕ) (steps : List ℕ) (prefix : List ℕ) (decimals : ℕ) → Named
   Convert : (from : MeshName) (to : MeshName) (decimals : ℕ) → Named
   Try : (cubes : ℕ) (key : ℕ) → Named
+  Measure : (names : LogNames) → Named
 
 -- ---- words
 
@@ -87,11 +94,21 @@ try_in (cubes ∷ key ∷ []) =
     option_and_then (λ n. option_map (λ k. Try n k) (number_in 0 (2 ^ 32 - 1) key)) (number_in 1 CUBES_MAX cubes)
 try_in _ = None
 
--- The command that listed words name: `track MESH STEPS PREFIX` or `convert FROM TO`, or one of these and `--decimals N`; or `try N KEY`.
+-- MESH LOG, and the decimals
+abbrev pub log_in : List (List ℕ) → Option LogNames
+log_in (mesh ∷ log ∷ behind) =
+    if is_file_word mesh && is_file_word log
+    then option_map (λ decimals. record { mesh = mesh; log = log; decimals = decimals }) (decimals_in behind)
+    else None
+log_in _ = None
+
+-- The command that listed words name: `track MESH STEPS PREFIX`, `convert FROM TO` or `measure MESH LOG`, or one of these and
+-- `--decimals N`; or `try N KEY`.
 abbrev pub named_in : List (List ℕ) → Option Named
 named_in [] = None
 named_in (first ∷ words) =
     if bytes_eq first (codes "track") then track_in words
     else if bytes_eq first (codes "convert") then convert_in words
     else if bytes_eq first (codes "try") then try_in words
+    else if bytes_eq first (codes "measure") then option_map Measure (log_in words)
     else None

@@ -3,15 +3,23 @@ ghost use Rattle.clap.specs.Words.{found_of, first_value};
 ghost use Rattle.grid_base.specs.declared.TheConstants.{DECIMALS_MAX};
 ghost use Rattle.track_input.specs.Words.{is_decimals, decimals_in, number_in};
 ghost use Rattle.track_input.specs.Taken.{behind, IsReading};
-ghost use Rattle.track_input.specs.Commands.{track_read, convert_read, try_read, track_app, convert_app, try_app, IsReadBy};
-ghost use Rattle.track_input.specs.Named.{named_by, IsInLimits};
+ghost use Rattle.track_input.specs.Commands.{track_read, convert_read, try_read, log_read, measure_read, track_app, convert_app, try_app, measure_app, IsReadBy};
+ghost use Rattle.track_input.specs.Named.{named_by, log_names, IsInLimits};
 
 use crate::mesh_file::{MeshFile, is_file_word, mesh_file};
-use crate::taking::{convert_command, found_in, track_command, try_command};
+use crate::taking::{convert_command, found_in, log_command, track_command, try_command};
 use clap::ArgMatches;
 use grid_base::{DECIMALS_MAX, NoMemory};
 use line_text::spelled_number;
 use std::alloc::Global;
+
+/// The names of a mesh file and of the file of a log that begins with that mesh, and the decimals of the mesh's points.
+#[derive(Clone, Copy)]
+pub struct LogFiles<'a> {
+    pub mesh: &'a str,
+    pub log: &'a str,
+    pub decimals: u8,
+}
 
 /// What the words of a command line ask for.
 #[derive(Clone, Copy)]
@@ -35,6 +43,8 @@ pub enum Command<'a> {
         cubes: u8,
         key: u32,
     },
+    /// It is told what a log did to volume and shape.
+    Measure(LogFiles<'a>),
 }
 
 /// The greatest number of cubes along an edge of a job that is made.
@@ -122,6 +132,33 @@ fn try_read(found: &ArgMatches<'_>) -> Option<Command<'static>>
     })
 }
 
+// The mesh and the log of the words that were found behind the name of a command.
+fn log_read<'a>(found: &ArgMatches<'a>) -> Option<LogFiles<'a>>
+    ensures names { option_map log_names result ≡ log_read (first_value (found_of found.now)) }
+    ensures few { IfSome result (λ files. files.decimals ≤ DECIMALS_MAX) }
+{
+    let mesh = found.get_str("mesh")?;
+    let log = found.get_str("log")?;
+    if !(is_file_word(mesh) && is_file_word(log)) {
+        return None;
+    }
+    let decimals = decimals_of(found.get_str("decimals"))?;
+    Some(LogFiles {
+        mesh,
+        log,
+        decimals,
+    })
+}
+
+// The command of the words that were found behind `measure`.
+fn measure_read<'a>(found: &ArgMatches<'a>) -> Option<Command<'a>>
+    ensures command { option_map named_by result ≡ measure_read (first_value (found_of found.now)) }
+    ensures few { IfSome result IsInLimits }
+{
+    let files = log_read(found)?;
+    Some(Command::Measure(files))
+}
+
 // The command of words whose first is `track`.
 fn track_in<'a>(alloc: Global, words: &'a [String]) -> Result<Option<Command<'a>>, NoMemory>
     ensures read { let texts = map (λ word. string_bytes word) words.entry.now in
@@ -158,9 +195,21 @@ fn try_in<'a>(alloc: Global, words: &'a [String]) -> Result<Option<Command<'a>>,
     }
 }
 
-/// The command that the words are read as: `track MESH STEPS PREFIX` or `convert FROM TO`, or one of these and `--decimals N` with one
-/// digit N from 0 to 6, or `try N KEY`. A file word is not empty and has no dash in front, and both of `convert` end in `.obj`, `.off` or
-/// `.ply`. N of `try` is 1 to 12 and KEY 0 to 4,294,967,295, both digits with no needless zero in front.
+// The command of words whose first is `measure`.
+fn measure_in<'a>(alloc: Global, words: &'a [String]) -> Result<Option<Command<'a>>, NoMemory>
+    ensures read { let texts = map (λ word. string_bytes word) words.entry.now in
+        IfOk result (λ found. IsReadBy measure_read measure_app texts (option_map named_by found)) }
+    ensures few { IfOk result (λ found. IfSome found IsInLimits) }
+{
+    match found_in(log_command(alloc, "measure")?, words)? {
+        Some(found) => Ok(measure_read(&found)),
+        None => Ok(None),
+    }
+}
+
+/// The command that the words are read as: `track MESH STEPS PREFIX`, `convert FROM TO` or `measure MESH LOG`, or one of these and
+/// `--decimals N` with one digit N from 0 to 6, or `try N KEY`. A file word is not empty and has no dash in front, and both of `convert`
+/// end in `.obj`, `.off` or `.ply`. N of `try` is 1 to 12 and KEY 0 to 4,294,967,295, both digits with no needless zero in front.
 /// Words of no such form are taken as one of the same first word whose words are among them (options may stand before the files, as
 /// `--decimals=N` too), or they are no command. NoMemory at any words.
 pub fn command_of<'a>(alloc: Global, words: &'a [String]) -> Result<Option<Command<'a>>, NoMemory>
@@ -175,6 +224,7 @@ pub fn command_of<'a>(alloc: Global, words: &'a [String]) -> Result<Option<Comma
         "track" => track_in(alloc, words),
         "convert" => convert_in(alloc, words),
         "try" => try_in(alloc, words),
+        "measure" => measure_in(alloc, words),
         _ => Ok(None),
     }
 }

@@ -1,0 +1,4 @@
+mod ShapeKept
+mod LinesTold
+mod Ends
+mod Whole

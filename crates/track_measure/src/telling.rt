@@ -56,17 +56,18 @@ fn change_to(line: u32, before: MeshShape, shape: MeshShape) -> Option<MeasureLi
     Some(MeasureLine::Change { line, shape })
 }
 
-/// What the line of a log with this number tells, where the mesh had one shape before it and is this one behind it.
+/// What the line of a log with this number tells, where the mesh had one shape before it and is this one behind it, of this shape.
 pub fn told<S: Surface>(
     alloc: Global,
     mesh: &S,
     number: u32,
     line: &LogLine,
     before: MeshShape,
+    shape: MeshShape,
 ) -> Result<Option<MeasureLine>, NoMemory>
+    requires { shape ≡ shape_of (S.mesh mesh.now) }
     ensures { IfOk result (λ found. found ≡ told number before (S.mesh mesh.now) line.now) }
 {
-    let shape = shape_of(alloc, mesh)?;
     if let LogLine::Mesh { k, .. } = line {
         let genus = genus(alloc, mesh)?;
         return Ok(Some(MeasureLine::Measure {

@@ -195,6 +195,8 @@ module _ (answers : Answers) (job : Job) where
       ∙ ap (λ n. Ended (Some (refusal.StepUse n why))) (sym at.line_is) in
       inl (Some (refusal.StepUse line why), ending, refl)
   cause_ends (outcome.MeshMeets pair) h = inl (refused_as (refusal.Meets pair) (steps_told h.0 h.1 h.2 ∙ ap (log_of_test answers (mesh_of_lists h.0) h.1) h.3.found))
+  cause_ends (outcome.LogText fault) h = absurd h
+  cause_ends (outcome.LogUse line) h = absurd h
   cause_ends outcome.Usage h = absurd h
   cause_ends outcome.NoMemory h = inr tt
   cause_ends outcome.DeskFault h = inr tt

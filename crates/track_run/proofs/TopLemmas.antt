@@ -20,6 +20,8 @@ use Rattle.outside_io.specs.Sink.{appended, AppendsPart}
 use Rattle.log_write.specs.Written.{Says, Written}
 use Rattle.mesh_make.specs.Cubes.{IsRow}
 use Rattle.track_input.specs.declared.command.TheConstants.{CUBES_MAX}
+use Rattle.grid_base.specs.declared.TheConstants.{DECIMALS_MAX}
+use Rattle.track_input.specs.declared.command.LogFiles.{LogFiles}
 use Rattle.track_input.specs.declared.command.Command.{Command}
 use Rattle.track_input.specs.declared.command.Command.TheVariants as command
 use Rattle.track_input.specs.Taken.{IsReading}
@@ -337,6 +339,14 @@ run_ends fields mesh_name step_name to old new result ended e causes t = record 
   read_back = read_back t.answers old.holds.files mesh_name step_name to.decimals t.job t.is_job;
   faults = (let P : Outcome → Type 0 = λ o. FaultsAreCounted old new o in subst P (sym e) (faults_counted old new ended causes));
 }
+
+-- ---- a log
+
+-- the words of a command that reads a log tell few enough decimals
+pub are_few : (o : Option Command) (f : Command) (files : LogFiles) → o ≡ Some f → f ≡ command.Measure files → IfSome o IsInLimits → files.decimals ≤ DECIMALS_MAX
+are_few o f files some is few =
+    let P : Option Command → Type 0 = λ x. IfSome x IsInLimits in
+    subst P (some ∙ ap Some is) few
 
 -- ---- a try
 

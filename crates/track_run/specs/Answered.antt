@@ -21,7 +21,7 @@ IsInputAnswered fields whole answers (Ok input) =
     let m = mesh_of_lists input.lists in
     met_first m ≡ None → AreAnswered fields whole answers input.steps (start m)
 
--- ---- what parts of a run do, as the fields answer
+-- ---- what parts of a run do, as the fields and the sizing answer
 
 -- the mesh is saved and the directives are followed
 pub record FollowsMesh (fields : Known) (to : Target) (m : Mesh) (steps : List Placed) (old new : Contents) (result : Result (Option Refusal) Stop) : Type 0 where

@@ -75,7 +75,7 @@ pub record IsRefusedAt (answers : Answers) (s : State) (directives : List Placed
   pub refused : effect_of (first (answers_after front answers)) placed.what state ≡ Refused why
   pub line_is : line ≡ placed.line
 
--- Why a job has an outcome, by what fields answer to its directives. Each cause holds what must have gone well before it, so no job has
+-- Why a job has an outcome, by what fields and the sizing answer to its directives. Each cause holds what must have gone well before it, so no job has
 -- two.
 abbrev pub Cause : Job → Answers → Outcome → Type 0
 Cause job answers outcome.Done = (lists : Lists) × (directives : List Placed) × HasClear job lists directives × (end : State) × Reaches answers (start (mesh_of_lists lists)) directives end
@@ -93,6 +93,8 @@ Cause job answers (outcome.MeshShape fault) = (lists : Lists) × (steps : List �
 Cause job answers (outcome.StepText fault) = (lists : Lists) × (steps : List ℕ) × HasMesh job lists steps × (steps_of steps ≡ Err fault)
 Cause job answers (outcome.StepUse line why) = (lists : Lists) × (directives : List Placed) × HasClear job lists directives × IsRefusedAt answers (start (mesh_of_lists lists)) directives line why
 Cause job answers (outcome.MeshMeets pair) = (lists : Lists) × (directives : List Placed) × HasSteps job lists directives × MeetsFirst (mesh_of_lists lists) pair
+Cause job answers (outcome.LogText fault) = ⊥
+Cause job answers (outcome.LogUse line) = ⊥
 -- no job is of words that name none
 Cause job answers outcome.Usage = ⊥
 -- these stop a run, whatever its job

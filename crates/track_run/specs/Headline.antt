@@ -12,11 +12,13 @@ use Rattle.outside_io.specs.Causes.{Rose}
 use Rattle.outside_io.specs.Sink.{appended, AppendsPart}
 use Rattle.track_convert.specs.Headline.{Converts}
 use Rattle.track_try.specs.Summary.{summary_of}
-use Rattle.track_input.specs.Words.{MeshName, Named, Track, Convert, Try}
+use Rattle.track_input.specs.Words.{MeshName, LogNames, Named, Track, Convert, Try, Measure}
 use Rattle.track_input.specs.Taken.{IsReading}
 use Rattle.track_input.specs.Job.{Job, IsJob, input_of}
 use Rattle.outside_io.specs.declared.stop.Stop.{Stop}
 use Rattle.outside_io.specs.declared.stop.Stop.TheVariants.{DeskFault}
+use Rattle.track_replay.specs.declared.LogRefusal.{LogRefusal}
+use Rattle.track_measure.specs.Headline.{Measures}
 use Rattle.track_engine.specs.State.{State, standing}
 use Rattle.track_engine.specs.Answers.{Answer, Answers}
 use Rattle.track_engine.specs.Answered.{Known}
@@ -29,7 +31,7 @@ use Rattle.track_run.specs.declared.outcome.Outcome.{Outcome}
 use Rattle.track_run.specs.declared.outcome.Outcome.TheVariants as outcome
 use Rattle.track_run.specs.Job.{log_of, replay_of}
 use Rattle.track_run.specs.Reached.{IsReached, AgreesWithReplay}
-use Rattle.track_run.specs.Outcomes.{outcome_from, outcome_of_try}
+use Rattle.track_run.specs.Outcomes.{outcome_from, outcome_of_try, outcome_by_log}
 use Rattle.track_run.specs.Answered.{IsInputAnswered}
 use Rattle.track_run.specs.Causes.{Cause, IsStopped, answers_after}
 
@@ -120,6 +122,12 @@ pub record TriesCommand (cubes key : ℕ) (result : Outcome) (old new : World) :
   pub sink : old.sink_faults ≤ new.sink_faults
   pub sink_fault : result ≡ outcome.SinkFault → Rose old.sink_faults new.sink_faults
 
+-- the log of the one file is measured, from the mesh of the other on; the parts are explained where `Measures` stands
+pub record MeasuresCommand (names : LogNames) (result : Outcome) (old new : World) : Type 0 where
+  pub ended : Result (Option LogRefusal) Stop
+  pub outcome_is : result ≡ outcome_by_log ended
+  pub measures : Measures names ended old new
+
 -- a run for a command with these stored fields and this sizing, or for none: then nothing is done
 abbrev pub Runs : Known → Option Named → Outcome → World → World → Type 0
 Runs fields None result old new = (result ≡ outcome.Usage) × (new ≡ old)
@@ -127,6 +135,7 @@ Runs fields (Some (Track mesh steps prefix decimals)) result old new =
     TracksCommand fields mesh steps (record { prefix = prefix; decimals = decimals }) result old new
 Runs fields (Some (Convert from to decimals)) result old new = ConvertsCommand from to decimals result old new
 Runs fields (Some (Try cubes key)) result old new = TriesCommand cubes key result old new
+Runs fields (Some (Measure names)) result old new = MeasuresCommand names result old new
 
 -- a run for what the words are read as: a command, or none where they are of no listed form
 pub record RunsReading (fields : Known) (words : List (List ℕ)) (result : Outcome) (old new : World) : Type 0 where
@@ -138,7 +147,7 @@ pub record RunsReading (fields : Known) (words : List (List ℕ)) (result : Outc
 abbrev pub RunsFor : Known → List (List ℕ) → Outcome → World → World → Type 0
 RunsFor fields words result old new = RunsReading fields words result old new ⊎ ((result ≡ outcome.NoMemory) × (new ≡ old))
 
--- what a job's run writes and stores as the fields answer, by how it ended
+-- what a job's run writes and stores as the fields and the sizing answer, by how it ended
 pub record TracksJob (fields : Known) (mesh_name step_name : List ℕ) (to : Target) (old new : Contents) (result : Result (Option Refusal) Stop) : Type 0 where
   pub job : Job
   pub is_job : IsJob old.files mesh_name step_name to.decimals job

@@ -4,6 +4,8 @@ use Rattle.log_text.specs.declared.Refusal.{Refusal}
 use Rattle.log_text.specs.declared.Refusal.TheVariants as refusal
 use Rattle.outside_io.specs.declared.stop.Stop.{Stop}
 use Rattle.outside_io.specs.declared.stop.Stop.TheVariants.{NoMemory, DeskFault, SinkFault}
+use Rattle.track_replay.specs.declared.LogRefusal.{LogRefusal}
+use Rattle.track_replay.specs.declared.LogRefusal.TheVariants as log
 use Rattle.track_run.specs.declared.outcome.Outcome.{Outcome}
 use Rattle.track_run.specs.declared.outcome.Outcome.TheVariants as outcome
 
@@ -33,3 +35,15 @@ outcome_from (Err stop) = outcome_at stop
 abbrev pub outcome_of_try : Result (Unit {0}) Stop → Outcome
 outcome_of_try (Ok done) = outcome.Done
 outcome_of_try (Err stop) = outcome_at stop
+
+-- the outcome that the last line of a command tells that reads a log
+abbrev pub outcome_of_log : Option LogRefusal → Outcome
+outcome_of_log None = outcome.Done
+outcome_of_log (Some (log.Input why)) = outcome_of (Some why)
+outcome_of_log (Some (log.Log fault)) = outcome.LogText fault
+outcome_of_log (Some (log.Replay line)) = outcome.LogUse line
+
+-- how such a command ended: with its last line, or stopped before that
+abbrev pub outcome_by_log : Result (Option LogRefusal) Stop → Outcome
+outcome_by_log (Ok ending) = outcome_of_log ending
+outcome_by_log (Err stop) = outcome_at stop

@@ -16,3 +16,5 @@ status_of (outcome.MeshMeets pair) = 8
 status_of (outcome.StepText fault) = 9
 status_of (outcome.StepUse line why) = 10
 status_of (outcome.Missing file) = 11
+status_of (outcome.LogText fault) = 12
+status_of (outcome.LogUse line) = 13

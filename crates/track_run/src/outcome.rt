@@ -4,7 +4,7 @@ use mesh_plain::{FileWord, PairName, ShapeFault, UseWhy};
 /// How a run ended.
 #[derive(Clone, Copy, Debug, PartialEq, Eq)]
 pub enum Outcome {
-    /// The directives were all run, and the log is whole.
+    /// What the words ask for was done, to its end.
     Done,
     /// There was no memory.
     NoMemory,
@@ -28,6 +28,10 @@ pub enum Outcome {
     StepUse { line: u32, why: UseWhy },
     /// There is no such file.
     Missing { file: FileWord },
+    /// The log's first line that is outside its grammar.
+    LogText(TextFault),
+    /// The log's first line that does not fit the lines before it.
+    LogUse { line: u32 },
 }
 
 impl Outcome {
@@ -51,6 +55,8 @@ impl Outcome {
             Outcome::StepText(_) => 9,
             Outcome::StepUse { .. } => 10,
             Outcome::Missing { .. } => 11,
+            Outcome::LogText(_) => 12,
+            Outcome::LogUse { .. } => 13,
         }
     }
 }

@@ -10,7 +10,7 @@ ghost use Rattle.outside_io.specs.World.{world};
 ghost use Rattle.track_engine.specs.Targets.{target_of};
 ghost use Rattle.track_engine.specs.Answered.{known};
 ghost use Rattle.track_run.specs.Answered.{FollowsMesh, FollowsTest};
-ghost use Rattle.track_run.specs.Outcomes.{outcome_of, outcome_at, outcome_from, outcome_of_try};
+ghost use Rattle.track_run.specs.Outcomes.{outcome_of, outcome_at, outcome_from, outcome_of_try, outcome_of_log, outcome_by_log};
 ghost use Rattle.track_run.specs.Headline.{RunsFor, TracksJob};
 
 use crate::outcome::Outcome;
@@ -28,6 +28,8 @@ use step_text::Directives;
 use track_convert::convert;
 use track_engine::{Engine, RunTerms, Target, finish};
 use track_input::{Command, Ready, command_of, prepare};
+use track_measure::measure;
+use track_replay::LogRefusal;
 use track_try::try_cubes;
 
 // The outcome that the last line of a whole log tells.
@@ -73,6 +75,28 @@ fn outcome_of_try(ended: Result<(), Stop>) -> Outcome
 {
     match ended {
         Ok(()) => Outcome::Done,
+        Err(stop) => outcome_at(stop),
+    }
+}
+
+// The outcome that the last line of a command tells that reads a log.
+fn outcome_of_log(ending: Option<LogRefusal>) -> Outcome
+    ensures { result ≡ outcome_of_log ending }
+{
+    match ending {
+        None => Outcome::Done,
+        Some(LogRefusal::Input(why)) => outcome_of(Some(why)),
+        Some(LogRefusal::Log(fault)) => Outcome::LogText(fault),
+        Some(LogRefusal::Replay { line }) => Outcome::LogUse { line },
+    }
+}
+
+// The outcome of a command that reads a log and ended so.
+fn outcome_by_log(ended: Result<Option<LogRefusal>, Stop>) -> Outcome
+    ensures { result ≡ outcome_by_log ended }
+{
+    match ended {
+        Ok(ending) => outcome_of_log(ending),
         Err(stop) => outcome_at(stop),
     }
 }
@@ -155,14 +179,16 @@ fn track<O: Outside, F: Fn(u8, Point) -> Shift, G: Fn(Point) -> Band>(
     }
 }
 
-/// Tracks or converts a mesh, or tries a job that is made, as the words say: `track MESH STEPS PREFIX` or `convert FROM TO`, or one of
-/// these and `--decimals N` with one digit N from 0 to 6, or `try N KEY` with N from 1 to 12 and KEY below 2^32. To track a mesh, the
+/// Tracks or converts a mesh, measures a log, or tries a job that is made, as the words say: `track MESH STEPS PREFIX`,
+/// `convert FROM TO` or `measure MESH LOG`, or one of these and `--decimals N` with one digit N from 0 to 6, or `try N KEY` with N from 1
+/// to 12 and KEY below 2^32. To track a mesh, the
 /// mesh and the steps are fetched from the desk and read, the log is written to the sink, a line at a time, and meshes are stored under
 /// the prefix, a dash, a number of at least six digits, and `.obj`. To convert it, the mesh of the one file is stored in the other, each
 /// in the format of its ending, and one line is written. To try a job, N * N * N cubes are made and moved as KEY picks, and the log of
-/// that is summed up in seven lines; no file is read or stored. All other words are taken as one of these forms with the same first word
-/// whose words are among them, or answered with Usage. A directive that drives asks the stored field that it names, and one
-/// that fits edges asks the sizing.
+/// that is summed up in seven lines; no file is read or stored. To measure a log, its lines are taken one after another, from the mesh on,
+/// and it is told what they did to volume and shape, up to the first that does not fit; nothing is stored. All other words are taken as one
+/// of these forms with the same first word whose words are among them, or answered with Usage. A directive that drives asks the stored field
+/// that it names, and one that fits edges asks the sizing.
 ///
 /// The tracker is that of Brochu and Bridson, "Robust topological operations for dynamic explicit surfaces" (2009).
 pub fn run<'a, D: Desk, K: Sink, F: Fn(u8, Point) -> Shift, G: Fn(Point) -> Band>(
@@ -206,6 +232,10 @@ pub fn run<'a, D: Desk, K: Sink, F: Fn(u8, Point) -> Shift, G: Fn(Point) -> Band
         Command::Try { cubes, key } => {
             let ended = try_cubes(alloc, cubes, key, &mut ends);
             outcome_of_try(ended)
+        }
+        Command::Measure(files) => {
+            let ended = measure(alloc, files, &mut ends);
+            outcome_by_log(ended)
         }
     }
 }

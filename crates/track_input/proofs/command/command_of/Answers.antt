@@ -1,5 +1,5 @@
 use Rattle.std.proofs.Common.{codes}
-use Rattle.track_input.proofs.Readings.{begin, reads_track, reads_convert, reads_try, unlisted}
+use Rattle.track_input.proofs.Readings.{begin, reads_track, reads_convert, reads_try, reads_measure, unlisted}
 use Rattle.track_input.proofs.command.command_of.Goals as goal
 
 pub returns-in-track-clause-read : goal.returns-in-track-clause-read
@@ -11,6 +11,9 @@ returns-in-convert-clause-read c = reads_convert _ c.convert_in.result (begin (c
 pub returns-in-try-clause-read : goal.returns-in-try-clause-read
 returns-in-try-clause-read c = reads_try _ c.try_in.result (begin (codes "try") c.args.words.now c.in-Some.first.now c.as_str.result.now c.in-Some.ensures.value c.as_str.ensures.value c.in-try.is) c.try_in.ensures.read
 
+pub returns-in-measure-clause-read : goal.returns-in-measure-clause-read
+returns-in-measure-clause-read c = reads_measure _ c.measure_in.result (begin (codes "measure") c.args.words.now c.in-Some.first.now c.as_str.result.now c.in-Some.ensures.value c.as_str.ensures.value c.in-measure.is) c.measure_in.ensures.read
+
 pub returns-in_default-as_str-clause-read : goal.returns-in_default-as_str-clause-read
 returns-in_default-as_str-clause-read c =
-    unlisted c.args.words.now c.in-Some.first.now c.as_str.result.now c.in-Some.ensures.value c.as_str.ensures.value c.in_default-as_str.not-track c.in_default-as_str.not-convert c.in_default-as_str.not-try
+    unlisted c.args.words.now c.in-Some.first.now c.as_str.result.now c.in-Some.ensures.value c.as_str.ensures.value c.in_default-as_str.not-track c.in_default-as_str.not-convert c.in_default-as_str.not-try c.in_default-as_str.not-measure

@@ -1,0 +1,68 @@
+#!/usr/bin/env python3
+"""Spoils the logs of the worked cases in every way, and compares what two programs measure of them.
+
+    checks/spoilt_logs.py OTHER [SECONDS]
+
+The other program should be written apart from this one. Of each log of the folder `worked` that tells a run of a mesh: each line doubled, left
+out, exchanged with the next, and each number raised by one, one fault at a time. Compared are status and output. The last line tells how many
+were alike, and how many had each status; at a difference the log is kept and the exit status is 1.
+"""
+
+import os
+import sys
+import tempfile
+
+from random_jobs import TOPO, keep
+from random_logs import measured
+from worked_cases import FOLDER, Case
+
+
+def spoilt(lines):
+    """The log with one fault, in each way."""
+    for at, line in enumerate(lines):
+        yield lines[:at] + [line] + lines[at:]
+        yield lines[:at] + lines[at + 1 :]
+        if at + 1 < len(lines):
+            yield lines[:at] + [lines[at + 1], line] + lines[at + 2 :]
+        words = line.split(" ")
+        for i, word in enumerate(words):
+            if word.lstrip("-").isdigit():
+                yield lines[:at] + [" ".join(words[:i] + [str(int(word) + 1)] + words[i + 1 :])] + lines[at + 1 :]
+
+
+def main():
+    if len(sys.argv) < 2:
+        sys.exit(__doc__)
+    other, seconds = os.path.abspath(sys.argv[1]), int((sys.argv[2:] + ["20"])[0])
+    alike = unlike = late = logs = 0
+    statuses = {}
+    for name in sorted(os.listdir(FOLDER)):
+        with open(os.path.join(FOLDER, name)) as it:
+            case = Case(it.read())
+        if case.words[0] != "track" or case.words[1] not in case.inputs or not case.log or len(case.log) > 4_000:
+            continue
+        logs += 1
+        mesh, decimals = case.inputs[case.words[1]], case.words[4:]
+        with tempfile.TemporaryDirectory() as folder:
+            with open(os.path.join(folder, "m.obj"), "w", encoding="utf-8", newline="") as it:
+                it.write(mesh)
+            for lines in spoilt(case.log.split("\n")[:-1]):
+                text = "".join(line + "\n" for line in lines)
+                with open(os.path.join(folder, "log.txt"), "w", encoding="utf-8", newline="") as it:
+                    it.write(text)
+                one, two = measured(TOPO, folder, decimals, seconds), measured(other, folder, decimals, seconds)
+                if one is None or two is None:
+                    late += 1
+                elif one == two:
+                    alike += 1
+                    statuses[one[0]] = statuses.get(one[0], 0) + 1
+                else:
+                    unlike += 1
+                    print(f"{name}: {'status' if one[0] != two[0] else 'output'} differ; the log is kept as s.txt in {keep(0, mesh, text, ['measure', 'm.obj', 's.txt', *decimals])}")
+    print(f"{logs} logs; statuses:", ", ".join(f"{status} {n}" for status, n in sorted(statuses.items())))
+    print(f"{alike} alike, {unlike} not, {late} not ended in time")
+    return 1 if unlike else 0
+
+
+if __name__ == "__main__":
+    sys.exit(main())

@@ -1,0 +1,4 @@
+pub mod ToldTexts
+pub mod PrepareLemmas
+mod TestedSteps
+pub mod Endings

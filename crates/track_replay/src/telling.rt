@@ -1,0 +1,93 @@
+//! Lines that a command tells.
+ghost use Rattle.std.specs.Prelude.{◌≡◌, ◌<◌, ◌∷◌, [], codes, decimal, length, Some, IfOk, OnErr};
+ghost use Rattle.line_text.specs.WrittenLines.{Appends, line_of_words};
+ghost use Rattle.log_text.specs.Lines.{why_word};
+ghost use Rattle.track_replay.specs.Refused.{refused_text};
+ghost use Rattle.track_replay.specs.Telling.{Tells};
+
+use crate::refusal::LogRefusal;
+use grid_base::NoMemory;
+use line_text::{Field, TextFault, TextWhy, put_line};
+use log_text::{LogLine, print_line};
+use outside_io::{Outside, Stop};
+use std::alloc::Global;
+
+// The word of a text's reason.
+fn why_word(why: TextWhy) -> &'static [u8]
+    ensures { result.now ≡ why_word why }
+{
+    match why {
+        TextWhy::Number => b"number",
+        TextWhy::Corner => b"corner",
+        TextWhy::Range => b"range",
+        TextWhy::Short => b"short",
+        TextWhy::Long => b"long",
+        TextWhy::Unknown => b"unknown",
+        TextWhy::Continuation => b"continuation",
+        TextWhy::Nesting => b"nesting",
+        TextWhy::Order => b"order",
+    }
+}
+
+// Appends the line that refuses a line of a log for its spelling.
+fn print_log(fault: TextFault, into: &mut Vec<u8>) -> Result<(), NoMemory>
+    ensures ok { Appends result into.old into.new (refused_text (LogRefusal.Log fault)) }
+{
+    put_line(
+        &[
+            Field::Text(b"refused"),
+            Field::Text(b"log"),
+            Field::Number(u64::from(fault.line)),
+            Field::Text(why_word(fault.why)),
+        ],
+        into,
+    )
+}
+
+// Appends the line that refuses a line of a log that does not fit.
+fn print_replay(line: u32, into: &mut Vec<u8>) -> Result<(), NoMemory>
+    ensures ok { Appends result into.old into.new (refused_text (LogRefusal.Replay line)) }
+{
+    put_line(
+        &[
+            Field::Text(b"refused"),
+            Field::Text(b"replay"),
+            Field::Number(u64::from(line)),
+        ],
+        into,
+    )
+}
+
+// Appends the line of a refusal.
+fn print_refusal(why: &LogRefusal, into: &mut Vec<u8>) -> Result<(), NoMemory>
+    ensures ok { Appends result into.old into.new (refused_text why.now) }
+{
+    match why {
+        LogRefusal::Input(why) => print_line(&LogLine::Refused(*why), into),
+        LogRefusal::Log(fault) => print_log(*fault, into),
+        LogRefusal::Replay { line } => print_replay(*line, into),
+    }
+}
+
+/// Writes a text, which is not empty. A fault leaves the first bytes of it, perhaps none, and not all.
+pub fn put_text<O: Outside>(outside: &mut O, text: &[u8]) -> Result<(), Stop>
+    requires some { 0 < length text.now }
+    ensures { Tells text.now (O.around outside.old) (O.around outside.new) result }
+{
+    outside.put(text)
+}
+
+/// Writes the line of a refusal, and answers the refusal. A stop leaves the first bytes of the line, perhaps none, and not all.
+pub fn refuse<O: Outside>(
+    alloc: Global,
+    why: &LogRefusal,
+    outside: &mut O,
+) -> Result<Option<LogRefusal>, Stop>
+    ensures tells { Tells (refused_text why.now) (O.around outside.old) (O.around outside.new) result }
+    ensures ending { IfOk result (λ ending. ending ≡ Some why.now) }
+{
+    let mut line = Vec::new(alloc);
+    print_refusal(why, &mut line)?;
+    put_text(outside, &line)?;
+    Ok(Some(*why))
+}
