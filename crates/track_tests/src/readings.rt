@@ -28,6 +28,9 @@ fn read(alloc: Global, words: &[&str]) -> Result<String, Fail> {
             format!(in alloc; "convert {} {} {decimals}", from.name, to.name)?
         }
         Some(Command::Try { cubes, key }) => format!(in alloc; "try {cubes} {key}")?,
+        Some(Command::Measure(files)) => {
+            format!(in alloc; "measure {} {} {}", files.mesh, files.log, files.decimals)?
+        }
         None => String::from_str(alloc, "none")?,
     })
 }
@@ -51,6 +54,9 @@ fn words_are_read_as_commands(rt: HostRuntime) -> Result<(), Fail> {
     is_read(&rt, alloc, &["try", "1", "0"], "try 1 0")?;
     let words = ["try", "12", "4294967295"];
     is_read(&rt, alloc, &words, "try 12 4294967295")?;
+    is_read(&rt, alloc, &["measure", "m", "l"], "measure m l 0")?;
+    let words = ["measure", "m", "l", "--decimals", "3"];
+    is_read(&rt, alloc, &words, "measure m l 3")?;
     // Words that are taken as these.
     let words = ["track", "--decimals", "3", "m", "s", "p"];
     is_read(&rt, alloc, &words, "track m s p 3")?;
@@ -64,7 +70,7 @@ fn words_are_read_as_commands(rt: HostRuntime) -> Result<(), Fail> {
 #[test]
 fn words_of_no_form_are_no_command(rt: HostRuntime) -> Result<(), Fail> {
     let alloc = rt.alloc();
-    let table: [&[&str]; 20] = [
+    let table: [&[&str]; 23] = [
         &[],
         &["track"],
         &["Track", "m", "s", "p"],
@@ -78,6 +84,9 @@ fn words_of_no_form_are_no_command(rt: HostRuntime) -> Result<(), Fail> {
         &["track", "m", "s", "p", "--decimals", "03"],
         &["track", "m", "s", "p", "--decimal", "3"],
         &["track", "m", "s", "p", "--decimals", "3", "--decimals", "3"],
+        &["measure", "m"],
+        &["measure", "m", "-l"],
+        &["measure", "m", "l", "p"],
         &["try", "2"],
         &["try", "0", "1"],
         &["try", "13", "1"],
