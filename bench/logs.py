@@ -3,9 +3,9 @@
 
     bench/logs.py PROGRAM [BEST_OF]
 
-PROGRAM is the path of an executable with the command line of `topo`. Makes its own jobs, tracks each, measures its log, each BEST_OF (2)
-times, and prints a table: the job with the lines of its log, the least processor seconds of `track` and of `measure`, how many times the one
-the other is, and the most memory of both in MiB.
+PROGRAM is the path of an executable with the command line of `topo`. Makes its own jobs, tracks each, measures and proves its log and verifies the
+proof, each BEST_OF (2) times, and prints a table: the job with the lines of its log and of its proof, the least processor seconds of `track`,
+`measure`, `prove` and `verify`, of the last three also how many times `track` that is, and the most memory of each in MiB.
 """
 
 import math
@@ -31,26 +31,32 @@ def timed(program, words, folder, best_of):
     return least, most
 
 
+def lines_of(name):
+    with open(name, "rb") as text:
+        return text.read().count(b"\n")
+
+
 def row(program, what, mesh, steps, best_of):
     with tempfile.TemporaryDirectory() as folder:
         put_mesh(folder, *mesh)
         with open(os.path.join(folder, "steps.txt"), "w") as out:
             out.writelines(steps)
         tracked, memory = timed(program, ["track", "mesh.obj", "steps.txt", "t"], folder, best_of)
-        with open(os.path.join(folder, "track"), "rb") as log:
-            lines = log.read().count(b"\n")
-        measured, more = timed(program, ["measure", "mesh.obj", "track"], folder, best_of)
-    if tracked is None or measured is None:
-        print(f"| {what} ({lines:,} lines) | not ended | | | |", flush=True)
-    else:
-        print(f"| {what} ({lines:,} lines) | {tracked:.2f} | {measured:.2f} | {measured / tracked:.2f} | {memory:.0f}, {more:.0f} |", flush=True)
+        measured = timed(program, ["measure", "mesh.obj", "track"], folder, best_of)
+        proved = timed(program, ["prove", "mesh.obj", "track"], folder, best_of)
+        verified = (None, None) if proved[0] is None else timed(program, ["verify", "mesh.obj", "track", "prove"], folder, best_of)
+        lines = [lines_of(os.path.join(folder, name)) for name in ("track", "prove")]
+    cells = ["not ended" if least is None or tracked is None else f"{least:.2f} ({least / tracked:.2f})" for least, _ in (measured, proved, verified)]
+    most = ", ".join("-" if it is None else f"{it:.0f}" for it in (memory, measured[1], proved[1], verified[1]))
+    first = "not ended" if tracked is None else f"{tracked:.2f}"
+    print(f"| {what} ({lines[0]:,} lines, {lines[1]:,} of its proof) | {first} | {' | '.join(cells)} | {most} |", flush=True)
 
 
 def main():
     if len(sys.argv) < 2:
         sys.exit(__doc__)
     program, best_of = os.path.abspath(sys.argv[1]), int((sys.argv[2:] + ["2"])[0])
-    print("| job | track, s | measure, s | times | MiB |\n|---|---|---|---|---|", flush=True)
+    print("| job | track, s | measure, s (times) | prove, s (times) | verify, s (times) | MiB |\n|---|---|---|---|---|---|", flush=True)
     row(program, "64 steps of 20,736 faces of cubes", cubes(12), steps_of(8 * 12 ** 3, 64), best_of)
     row(program, "131,072 faces at rest", torus(256, 256), [], best_of)
     mesh = rough(280, 143)

@@ -4,8 +4,9 @@
     checks/documents.py
 
 The statuses that README.md and docs/FORMATS.md list are those of `topo --help`, word for word; each log that README.md and docs/EXAMPLES.md
-show is a part of that of the command before it, run anew; each crate has its line in README.md and in docs/ARCHITECTURE.md, and each file that a document names is there;
-and what docs/ARCHITECTURE.md and docs/HARDENING.md count, files on a way and wrong edits, is as many.
+show is a part of that of the command before it, run anew; the proof that docs/CERTIFICATES.md shows is that of a worked case; each crate has its
+line in README.md and in docs/ARCHITECTURE.md, and each file that a document names is there; and what docs/ARCHITECTURE.md and docs/HARDENING.md
+count, files on a way and wrong edits, is as many.
 """
 
 import os
@@ -13,6 +14,8 @@ import re
 import subprocess
 import sys
 import tempfile
+
+from worked_cases import Case
 
 ROOT = os.path.dirname(os.path.dirname(os.path.abspath(__file__)))
 TOPO = os.path.join(ROOT, "topo")
@@ -83,7 +86,7 @@ def main():
     checks = []
     helped = subprocess.run([TOPO, "--help"], stdout=subprocess.PIPE, check=True, timeout=60).stdout.decode()
     told = re.findall(r"(?m)^ +(\d+)  (.+)$", helped)
-    checks.append(("--help tells the statuses 0 to 13", [int(number) for number, _ in told] == list(range(14))))
+    checks.append(("--help tells the statuses 0 to 15", [int(number) for number, _ in told] == list(range(16))))
     checks.append(("README.md has the statuses of --help", statuses_in(readme) == told))
     checks.append(("docs/FORMATS.md has the statuses of --help", statuses_in(formats) == told))
     checks.append(("README.md has the words of the program", helped.splitlines()[0].partition("topo ")[2] in readme))
@@ -94,6 +97,9 @@ def main():
             if command:
                 checks.append((f"what {name} shows of `{command}` is its log", is_part(lines, log_of(command.split()[2:]))))
     checks.append(("README.md shows the steps of the example", is_part(steps.splitlines(), [line.strip() for line in readme.splitlines()])))
+    proof = Case(text_of("worked/a_split_is_proved.case")).log.splitlines()
+    explained = [line.strip() for line in text_of("docs/CERTIFICATES.md").splitlines()]
+    checks.append(("docs/CERTIFICATES.md shows the proof of a worked case", is_part(proof, explained)))
     crates = [line.partition(":")[0] for line in text_of("crates.txt").splitlines() if ":" in line and not line.startswith("#")]
     for name in ("README.md", "docs/ARCHITECTURE.md"):
         lacking = [crate for crate in crates if f"`{crate}`" not in text_of(name)]

@@ -1,13 +1,14 @@
 #!/usr/bin/env python3
-"""Measures the logs of random jobs, whole and spoilt, with the program and with another one of the same command line, and compares.
+"""Measures and proves the logs of random jobs, whole and spoilt, with the program and with another one of the same command line, and compares.
 
     checks/random_logs.py OTHER [COUNT [SEED [SECONDS [SPOILT]]]]
 
 The other program should be written apart from this one. COUNT jobs (100 at first) are made from SEED on (1 at first), as random_jobs.py makes
-them, and tracked by the other program; each log is measured by both as it is, and then SPOILT times (3 at first) with a line doubled, left out,
-exchanged with the next, cut short, or with a number raised by one, at a place that dice pick. Compared are status and output; a log that one
-of the two does not end within SECONDS (20 at first) is told and not compared. The last line tells how many were alike, and how many logs had
-each status; at a difference the log is kept and the exit status is 1.
+them, and tracked by the other program; each log is measured and proved by both as it is, and then SPOILT times (3 at first) with a line doubled,
+left out, exchanged with the next, cut short, or with a number raised by one, at a place that dice pick; and the proof of the whole log is
+verified with each of these logs. Compared are status and output; a log that one of the two does not end within SECONDS (20 at first) is told
+and not compared. The last line tells how many were alike, and how many times each status came of each command; at a difference the log is kept
+and the exit status is 1.
 """
 
 import os
@@ -47,12 +48,17 @@ def spoilt(dice, log):
     return ("\n".join(lines) + "\n").encode()
 
 
-def measured(program, folder, decimals, seconds):
+def told(program, words, folder, seconds):
+    """The status and the output of a command, if it ends in time."""
     try:
-        ran = subprocess.run([program, "measure", "m.obj", "log.txt", *decimals], cwd=folder, stdout=subprocess.PIPE, stderr=subprocess.DEVNULL, timeout=seconds)
+        ran = subprocess.run([program, *words], cwd=folder, stdout=subprocess.PIPE, stderr=subprocess.DEVNULL, timeout=seconds)
     except subprocess.TimeoutExpired:
         return None
     return ran.returncode, ran.stdout
+
+
+def measured(program, folder, decimals, seconds):
+    return told(program, ["measure", "m.obj", "log.txt", *decimals], folder, seconds)
 
 
 def main():
@@ -76,20 +82,27 @@ def main():
             except subprocess.TimeoutExpired:
                 late += 1
                 continue
-            for text in [log] + [spoilt(dice, log) for _ in range(times)]:
+            for at, text in enumerate([log] + [spoilt(dice, log) for _ in range(times)]):
                 with open(os.path.join(folder, "log.txt"), "wb") as it:
                     it.write(text)
-                one, two = measured(TOPO, folder, words[4:], seconds), measured(other, folder, words[4:], seconds)
-                if one is None or two is None:
-                    late += 1
-                elif one == two:
-                    alike += 1
-                    statuses[one[0]] = statuses.get(one[0], 0) + 1
-                else:
-                    unlike += 1
-                    kept = keep(number, mesh, text.decode(), ["measure", "m.obj", "s.txt", *words[4:]])
-                    print(f"job {number}: {'status' if one[0] != two[0] else 'output'} differ; the log is kept as s.txt in {kept}")
-    print("statuses:", ", ".join(f"{status} {n}" for status, n in sorted(statuses.items())))
+                for command, *files in (["measure", "m.obj", "log.txt"], ["prove", "m.obj", "log.txt"], ["verify", "m.obj", "log.txt", "proof.txt"]):
+                    if command == "verify" and not os.path.exists(os.path.join(folder, "proof.txt")):
+                        continue
+                    asked = [command, *files, *words[4:]]
+                    one, two = told(TOPO, asked, folder, seconds), told(other, asked, folder, seconds)
+                    if one is None or two is None:
+                        late += 1
+                    elif one == two:
+                        alike += 1
+                        statuses[command, one[0]] = statuses.get((command, one[0]), 0) + 1
+                    else:
+                        unlike += 1
+                        kept = keep(number, mesh, text.decode(), [command, "m.obj", "s.txt", *files[2:], *words[4:]])
+                        print(f"job {number}: {'status' if one[0] != two[0] else 'output'} of {command} differ; the log is kept as s.txt in {kept}")
+                    if command == "prove" and at == 0 and two is not None and two[0] == 0:
+                        with open(os.path.join(folder, "proof.txt"), "wb") as it:
+                            it.write(two[1])
+    print("statuses:", ", ".join(f"{command} {status}: {n}" for (command, status), n in sorted(statuses.items())))
     print(f"{alike} alike, {unlike} not, {late} not ended in time")
     return 1 if unlike else 0
 

@@ -1,5 +1,6 @@
 #!/usr/bin/env python3
 """Runs the program on the worked cases of the folder `worked`, and compares its status, its log and the files that it stores.
+What `verify` is asked is asked of `examples/verify.py` too, which shares nothing with the program and has to accept just what the case accepts.
 
     checks/worked_cases.py [PROGRAM] [NAME ..]
 
@@ -17,6 +18,7 @@ import tempfile
 
 ROOT = os.path.dirname(os.path.dirname(os.path.abspath(__file__)))
 FOLDER = os.path.join(ROOT, "worked")
+CHECKER = os.path.join(ROOT, "examples", "verify.py")
 
 
 class Case:
@@ -57,11 +59,18 @@ def fault_of(program, case):
             with open(os.path.join(folder, name), "w", encoding="utf-8", newline="") as it:
                 it.write(text)
         ran = subprocess.run([program, *case.words], cwd=folder, stdout=subprocess.PIPE, stderr=subprocess.PIPE, timeout=60)
+        if case.words[0] == "verify":
+            checked = subprocess.run([sys.executable, CHECKER, *case.words[1:]], cwd=folder, stdout=subprocess.PIPE, stderr=subprocess.PIPE, timeout=60)
         made = {name: text_of(os.path.join(folder, name)) for name in os.listdir(folder)}
     if ran.returncode != case.status:
         return f"status {case.status} is right, and {ran.returncode} came"
     if ran.stdout.decode() != case.log:
         return first_difference("log", case.log, ran.stdout.decode())
+    if case.words[0] == "verify":
+        # the two may refuse in other words
+        said = checked.stdout.decode()
+        if checked.returncode != (case.status != 0) or (said != case.log if case.status == 0 else not said.startswith("refused ")):
+            return f"examples/verify.py ends with {checked.returncode} and says {said!r}"
     wanted = {**case.inputs, **case.stored}
     if sorted(made) != sorted(wanted):
         return f"the files {sorted(wanted)} are right, and {sorted(made)} are there"

@@ -1,4 +1,5 @@
 pub mod Beside
+pub mod Certifying
 pub mod Enough
 pub mod Kept
 pub mod Reached

@@ -2,9 +2,11 @@
 //! with a look at what is near that alone; the answers are those over all pairs.
 #![tactic(auto)]
 
+mod edits;
 mod faces;
 mod local;
 mod near;
 mod reach;
 
+pub use edits::{certify_edit, judge_edit};
 pub use local::{accepts_near, certify_near};

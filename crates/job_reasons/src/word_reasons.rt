@@ -142,6 +142,32 @@ const MEASURE: Wanted = Wanted {
     formats: false,
 };
 
+// What `prove` wants.
+const PROVE: Wanted = Wanted {
+    form: "prove MESH LOG",
+    files: 2,
+    formats: false,
+};
+
+// What `verify` wants.
+const VERIFY: Wanted = Wanted {
+    form: "verify MESH LOG PROOF",
+    files: 3,
+    formats: false,
+};
+
+// What the command of a name wants, if it takes files.
+fn wanted_by(command: &str) -> Option<Wanted> {
+    match command {
+        "track" => Some(TRACK),
+        "convert" => Some(CONVERT),
+        "measure" => Some(MEASURE),
+        "prove" => Some(PROVE),
+        "verify" => Some(VERIFY),
+        _ => None,
+    }
+}
+
 // Says what is wrong with a word as the name of a file, if anything is; so many stand before it.
 fn file_reason(
     alloc: Global,
@@ -264,7 +290,7 @@ fn command_reason(alloc: Global, command: &str) -> Result<String, AllocError> {
         return format!(in alloc; "{command} stands alone");
     }
     format!(in alloc;
-        "{command:?} is no command: the commands are `track`, `convert`, `measure` and `try`"
+        "{command:?} is no command: the commands are `track`, `convert`, `measure`, `prove`, `verify` and `try`"
     )
 }
 
@@ -274,14 +300,8 @@ pub fn words_reason(alloc: Global, words: &[String], most_cubes: u8) -> Result<S
         return String::from_str(alloc, "no command is given");
     };
     let command = command.as_str();
-    if is_word(command.as_bytes(), b"track") {
-        return files_reason(alloc, TRACK, others);
-    }
-    if is_word(command.as_bytes(), b"convert") {
-        return files_reason(alloc, CONVERT, others);
-    }
-    if is_word(command.as_bytes(), b"measure") {
-        return files_reason(alloc, MEASURE, others);
+    if let Some(wanted) = wanted_by(command) {
+        return files_reason(alloc, wanted, others);
     }
     if is_word(command.as_bytes(), b"try") {
         return numbers_reason(alloc, most_cubes, others);

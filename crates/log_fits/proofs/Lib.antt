@@ -2,3 +2,11 @@ mod Lines
 mod Effects
 mod Jobs
 mod Measured
+mod Scaffolds
+mod Reached
+mod Certified
+mod Lookup
+mod Ranged
+mod Proved
+mod OneAnswer
+mod OneLog

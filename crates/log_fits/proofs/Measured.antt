@@ -73,6 +73,10 @@ each_fits : (s : LogState) (lines : List LogLine) → LinesFit s lines → Lines
 each_fits s [] fit again = tt
 each_fits s (l ∷ lines) fit again = (record { fits = fit.0; passes = step_passes s.replay l again.0 }, each_fits (with_line s l) lines fit.1 again.1)
 
+-- the mesh of a job whose files were read is that of its lists
+pub mesh_is : (job : Job) (lists : Lists) (directives : List Placed) → HasClear job lists directives → mesh_of_job job ≡ mesh_of_lists lists
+mesh_is job lists directives clear = let files = clear.steps_read.mesh_read.lists_read in ap (mesh_in job.decimals) files.mesh_file ∙ ap mesh_read files.read
+
 module _ (job : Job) (lists : Lists) (directives : List Placed) (clear : HasClear job lists directives) (answers : Answers) (read : LogJob) (is : IsWithLogOf job answers read) (back : lines_of_text (text_of_lines (log_of job answers).lines) ≡ Ok (log_of job answers).lines) where
   abbrev lines : List LogLine
   lines = (log_of job answers).lines
@@ -80,7 +84,7 @@ module _ (job : Job) (lists : Lists) (directives : List Placed) (clear : HasClea
   text : List ℕ
   text = text_of_lines lines
 
-  given_is : input_of read ≡ Ok (record { mesh = mesh_of_lists lists; lines = lines })
+  pub given_is : input_of read ≡ Ok (record { mesh = mesh_of_lists lists; lines = lines })
   unfolding text
   given_is =
       let good = clear.steps_read.mesh_read in
@@ -95,13 +99,10 @@ module _ (job : Job) (lists : Lists) (directives : List Placed) (clear : HasClea
       ∙ ap (read_of_log lists) back
       ) ∙ ap (λ o. input_of_test m o lines) clear.clear
 
-  mesh_is : mesh_of_job job ≡ mesh_of_lists lists
-  mesh_is = let files = clear.steps_read.mesh_read.lists_read in ap (mesh_in job.decimals) files.mesh_file ∙ ap mesh_read files.read
-
   all_fit : LinesAreAgain (replay_of job) lines → AllFit FitsTested (without_lines (mesh_of_lists lists)) lines
   all_fit again = record {
     some = λ none. absurd cc;
-    each = (let P : Mesh → Type 0 = λ m. EachFits FitsTested (without_lines m) lines in subst P mesh_is (each_fits (without_lines (mesh_of_job job)) lines (job_logs_fit job answers) again));
+    each = (let P : Mesh → Type 0 = λ m. EachFits FitsTested (without_lines m) lines in subst P (mesh_is job lists directives clear) (each_fits (without_lines (mesh_of_job job)) lines (job_logs_fit job answers) again));
   }
 
   pub ends_well : LinesAreAgain (replay_of job) lines → EndsBy FitsTested (input_of read) None

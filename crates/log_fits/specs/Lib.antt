@@ -1,2 +1,4 @@
 pub mod Fitting
 pub mod Measured
+pub mod Proved
+pub mod OneLog

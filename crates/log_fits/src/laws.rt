@@ -3,6 +3,8 @@ ghost use Rattle.mesh_field.specs.Stored.{StoredFields};
 ghost use Rattle.track_engine.specs.Answered.{known};
 ghost use Rattle.log_fits.specs.Fitting.{LogsOfMeshesFit, LogsOfJobsFit};
 ghost use Rattle.log_fits.specs.Measured.{LogsOfRunsAreMeasured, MeshLinesTell};
+ghost use Rattle.log_fits.specs.OneLog.{JobsHaveOneLog};
+ghost use Rattle.log_fits.specs.Proved.{LogsOfRunsAreProved, ProofsOfRunsAreVerified};
 
 use grid_base::{Point, Shift};
 use mesh_sizing::Band;
@@ -26,4 +28,26 @@ pub fn mesh_lines_tell()
 pub fn logs_of_runs_are_measured<F: Fn(u8, Point) -> Shift, G: Fn(Point) -> Band>()
     ensures { (fields : StoredFields F) (sizing : G) →
         LogsOfRunsAreMeasured (known F.Fn fields G.Fn sizing) }
+{}
+
+/// The whole log that a run wrote of a clear mesh, no longer than a text may be, is proved: `prove` is done with it, from the same mesh
+/// and with the same decimals, or finds no memory, where neither side fails.
+pub fn logs_of_runs_are_proved<F: Fn(u8, Point) -> Shift, G: Fn(Point) -> Band>()
+    ensures { (fields : StoredFields F) (sizing : G) →
+        LogsOfRunsAreProved (known F.Fn fields G.Fn sizing) }
+{}
+
+/// And the proof that `prove` writes of it, no longer than a text may be, is verified: `verify` is done with it, or finds no memory, where
+/// neither side fails.
+pub fn proofs_of_runs_are_verified<F: Fn(u8, Point) -> Shift, G: Fn(Point) -> Band>()
+    ensures { (fields : StoredFields F) (sizing : G) →
+        ProofsOfRunsAreVerified (known F.Fn fields G.Fn sizing) }
+{}
+
+/// Where each stored field has one answer for each number and point, and the sizing has one for each point, a job of which all directives
+/// are answered has one log: two runs of the same files that came to the end of their log wrote the same. (What a log tells of a file
+/// that is too long is how much of it was seen, which is part of the job here.)
+pub fn jobs_have_one_log<F: Fn(u8, Point) -> Shift, G: Fn(Point) -> Band>()
+    ensures { (fields : StoredFields F) (sizing : G) →
+        JobsHaveOneLog (known F.Fn fields G.Fn sizing) }
 {}

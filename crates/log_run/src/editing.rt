@@ -19,7 +19,11 @@ use std::alloc::Global;
 
 /// Does the edit of which a change tells, and answers whether it came out as told. Where it did not, or memory was wanting, nothing is
 /// said of the mesh but that it is closed and clear.
-fn redo<S: Surface>(alloc: Global, mesh: &mut S, change: &Change) -> Result<bool, NoMemory>
+pub(crate) fn redo<S: Surface>(
+    alloc: Global,
+    mesh: &mut S,
+    change: &Change,
+) -> Result<bool, NoMemory>
     requires closed { IsClosed (S.mesh mesh.old) }
     requires clear { IsClearMesh (S.mesh mesh.old) }
     ensures told { IfOk result

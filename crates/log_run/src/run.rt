@@ -4,7 +4,10 @@ ghost use Rattle.log_run.specs.States.{without_lines, with_line};
 ghost use Rattle.log_replay.specs.Moves.{AreMoves};
 ghost use Rattle.log_run.specs.Steps.{shifts_of};
 ghost use Rattle.log_run.specs.Fits.{LineFits, MayBeTried};
+ghost use Rattle.log_run.specs.Laws.{IsValidState};
+ghost use Rattle.log_run.specs.Motions.{IsCertified, IsJudged};
 
+use crate::motions::{certify_line, judge_line};
 use crate::open_marks::OpenMarks;
 use crate::standing::{Standing, StepSoFar};
 use crate::taking::take_line;
@@ -12,6 +15,7 @@ use grid_base::{Items, NoMemory};
 use log_text::LogLine;
 use mesh_base::Shifts;
 use mesh_journal::JournalMesh;
+use motion_proof::{Certificate, Made, Verdict};
 use std::alloc::Global;
 use std::marker::Model;
 
@@ -109,5 +113,41 @@ impl LogRun {
             self.spent = false;
         }
         Ok(fits)
+    }
+
+    /// What the rule makes of the motion of a line that fits: of one that ends a step, that no pair of it meets at any fraction; of a
+    /// done edit, that none meets at any, above zero or below one, by its kind. A certificate, or the first pair that does not pass its
+    /// written test; None where the line does not fit, or tells of no motion. The line is not taken. Refuses only where there is no
+    /// memory.
+    pub fn certify(&mut self, line: &LogLine) -> Result<Option<Made>, NoMemory>
+        requires unspent { self.old.is_spent ≡ false }
+        requires valid { IsValidState self.old }
+        ensures made { IfOk result (IsCertified self.old line.now) }
+        ensures same { self.new ≡ self.old }
+    {
+        if !self.taken {
+            return Ok(None);
+        }
+        certify_line(self.alloc, &mut self.mesh, &self.at, line)
+    }
+
+    /// What is found of a certificate for the motion of a line that fits: NoMotion where it is of another claim than `certify` would
+    /// make, and else the verdict on it; None where the line does not fit, or tells of no motion. The line is not taken. Refuses only
+    /// where there is no memory.
+    pub fn judge(
+        &mut self,
+        line: &LogLine,
+        proof: &Certificate,
+    ) -> Result<Option<Verdict>, NoMemory>
+        requires unspent { self.old.is_spent ≡ false }
+        requires valid { IsValidState self.old }
+        ensures verdict { let claim = proof.now.claim in
+            IfOk result (IsJudged self.old line.now claim proof.now.entries) }
+        ensures same { self.new ≡ self.old }
+    {
+        if !self.taken {
+            return Ok(None);
+        }
+        judge_line(self.alloc, &mut self.mesh, &self.at, line, proof)
     }
 }

@@ -1,4 +1,5 @@
 pub mod Volume
 pub mod Shape
 pub mod Walk
+pub mod Round
 pub mod Laws

@@ -22,7 +22,9 @@ usage: topo track MESH STEPS PREFIX [--decimals N]
        topo convert FROM TO [--decimals N]
        topo try N KEY
        topo measure MESH LOG [--decimals N]
-       topo track --help | convert --help | try --help | measure --help
+       topo prove MESH LOG [--decimals N]
+       topo verify MESH LOG PROOF [--decimals N]
+       topo track --help | convert --help | try --help | measure --help | prove --help | verify --help
        topo --help | --version
 
 Reads the Wavefront OBJ mesh MESH and the text of steps STEPS, moves the closed triangle surface by
@@ -31,7 +33,8 @@ PREFIX-000001.obj and so on. `convert` stores the mesh FROM under TO, each in th
 .obj, .off (OFF) or .ply (ASCII PLY). `try` makes a job of N * N * N cubes by KEY, runs it, and writes a
 summary of its log (N from 1 to 12, KEY from 0 to 4294967295); it reads and stores no file. `measure`
 takes the lines of the log LOG, which began with the mesh MESH, one after another, and tells what they did
-to volume and shape.
+to volume and shape. `prove` takes them so and writes a proof that nothing meets on the way, a certificate
+for each motion of the log, and `verify` checks such a proof PROOF, whoever wrote it.
 
 --decimals N    a unit of the grid is 10 to the power -N (N from 0 to 6; 0 if left out)
 
@@ -50,6 +53,8 @@ Exit status:
   11  a file is missing
   12  a line of the log is outside its grammar
   13  a line of the log does not fit the lines before it
+  14  a line of the proof is outside its grammar
+  15  a motion of the log is not proved
 ";
 
 /// The line of the version.

@@ -4,26 +4,42 @@ ghost use Rattle.grid_base.specs.declared.TheConstants.{TEXT_MAX, DECIMALS_MAX};
 
 use grid_base::TEXT_MAX;
 use job_reasons::{
-    log_text_reason, long_reason, meeting_reason, mesh_text_reason, missing_reason, replay_reason,
-    shape_reason, step_text_reason, trouble_reason, use_reason, words_reason,
+    Unproved, log_text_reason, long_reason, meeting_reason, mesh_text_reason, missing_reason,
+    motion_reason, proof_text_reason, replay_reason, shape_reason, step_text_reason,
+    trouble_reason, use_reason, words_reason,
 };
 use line_text::TextFault;
 use mesh_plain::{FileWord, ShapeFault};
+use motion_proof::Verdict;
 use obj_text::read_obj;
 use outside_io::{Desk, FileDesk, Trouble};
 use std::alloc::{AllocError, Global};
 use std::fs;
 use std::rt::Files;
-use track_input::{CUBES_MAX, Command, command_of};
+use track_input::{CUBES_MAX, Command, LogFiles, command_of};
 use track_run::Outcome;
 
-// The names of a job's two files, and the decimals of its points. A conversion has the file that it reads as both.
+// The names of the files that a command reads, and the decimals of its points. A conversion has the file that it reads as each, and a
+// command without a proof the log or the steps as that.
 #[derive(Clone, Copy)]
 pub(crate) struct Names<'a> {
     pub(crate) mesh: &'a str,
     pub(crate) other: &'a str,
+    pub(crate) proof: &'a str,
     pub(crate) decimals: u8,
     ghost few: { decimals ≤ DECIMALS_MAX },
+}
+
+// The names of a mesh and of a log that is read.
+fn log_names(files: LogFiles<'_>) -> Names<'_>
+    requires { files.decimals ≤ DECIMALS_MAX }
+{
+    Names {
+        mesh: files.mesh,
+        other: files.log,
+        proof: files.log,
+        decimals: files.decimals,
+    }
 }
 
 // The names that the words tell, if they are of a listed form that has files.
@@ -37,27 +53,33 @@ pub(crate) fn names_of(alloc: Global, words: &[String]) -> Option<Names<'_>> {
         } => Some(Names {
             mesh,
             other: steps,
+            proof: steps,
             decimals,
         }),
         Command::Convert { from, decimals, .. } => Some(Names {
             mesh: from.name,
             other: from.name,
+            proof: from.name,
             decimals,
         }),
-        Command::Measure(files) => Some(Names {
-            mesh: files.mesh,
-            other: files.log,
-            decimals: files.decimals,
+        Command::Measure(files) => Some(log_names(files)),
+        Command::Prove(files) => Some(log_names(files)),
+        Command::Verify(given) => Some(Names {
+            mesh: given.files.mesh,
+            other: given.files.log,
+            proof: given.proof,
+            decimals: given.files.decimals,
         }),
         Command::Try { .. } => None,
     }
 }
 
-// The name of one of the two files. No command has a proof as its other file yet.
+// The name of one of the files.
 fn name_of<'a>(names: Names<'a>, file: FileWord) -> &'a str {
     match file {
         FileWord::Mesh => names.mesh,
-        FileWord::Steps | FileWord::Log | FileWord::Proof => names.other,
+        FileWord::Steps | FileWord::Log => names.other,
+        FileWord::Proof => names.proof,
     }
 }
 
@@ -119,6 +141,44 @@ fn replay_sentence<R: Files>(
     replay_reason(alloc, names.other, &bytes, line)
 }
 
+// What is wrong with a line of the proof.
+fn proof_sentence<R: Files>(
+    alloc: Global,
+    names: Names<'_>,
+    fault: TextFault,
+    rt: &R,
+) -> Result<String, AllocError> {
+    let bytes = bytes_of(alloc, rt, names.proof);
+    proof_text_reason(alloc, names.proof, &bytes, fault)
+}
+
+// What is found against a motion, as it is told: a pair that `prove` finds has failed.
+fn finding_of(words: &[String], verdict: Verdict) -> Unproved {
+    let is_prove = match words.first() {
+        Some(first) => first.as_str() == "prove",
+        None => false,
+    };
+    match verdict {
+        Verdict::Accepted | Verdict::NoMotion => Unproved::NoMotion,
+        Verdict::Stranger(pair) => Unproved::Stranger(pair),
+        Verdict::Invalid(pair) => Unproved::Invalid(pair),
+        Verdict::Missing(pair) if is_prove => Unproved::Fails(pair),
+        Verdict::Missing(pair) => Unproved::Missing(pair),
+    }
+}
+
+// What is found against the motion of a line of the log.
+fn motion_sentence<R: Files>(
+    alloc: Global,
+    names: Names<'_>,
+    line: u32,
+    why: Unproved,
+    rt: &R,
+) -> Result<String, AllocError> {
+    let bytes = bytes_of(alloc, rt, names.other);
+    motion_reason(alloc, names.other, &bytes, line, why)
+}
+
 // What is wrong with the shape of the mesh.
 fn shape_sentence<R: Files>(
     alloc: Global,
@@ -142,6 +202,7 @@ pub(crate) fn explain<R: Files>(
     let names = names_of(alloc, words).unwrap_or(Names {
         mesh: "the mesh",
         other: "the other file",
+        proof: "the proof",
         decimals: 0,
     });
     match outcome {
@@ -159,5 +220,9 @@ pub(crate) fn explain<R: Files>(
         Outcome::Missing { file } => missing_reason(alloc, name_of(names, file)),
         Outcome::LogText(fault) => log_sentence(alloc, names, fault, rt),
         Outcome::LogUse { line } => replay_sentence(alloc, names, line, rt),
+        Outcome::ProofText(fault) => proof_sentence(alloc, names, fault, rt),
+        Outcome::ProofBad { line, verdict } => {
+            motion_sentence(alloc, names, line, finding_of(words, verdict), rt)
+        }
     }
 }

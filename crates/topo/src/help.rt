@@ -57,6 +57,33 @@ comes out as told, a step of which each pair of an edge and a face passes the te
 
 docs/FORMATS.md has all texts. `topo --help` lists the exit statuses.";
 
+const PROVES: &str = "\
+Each line of the log is taken where it fits the lines before it: a move in a step that is begun, an edit that
+comes out as told. For each motion that it tells, of a step (`moved`) or of a split, a flip, a collapse or a
+pinch, a certificate is written that no edge meets a face that shares no vertex with it on the way. What is
+written, where all is proved, is read by `topo verify`:
+  topo proof 1
+  motion LINE CLAIM   the motion of line LINE of the log; an edge and a face may touch nowhere on the way (along),
+                      at its start alone (after, of a pinch) or at its end alone (before, of a collapse)
+  pair A B FACE       the edge of the vertices A and B, and a face
+  dir X Y Z           what keeps the two apart: a direction in which they are one behind the other
+  half                one thing keeps them apart over the first half of the way, and another over the second
+  end
+
+docs/FORMATS.md has all texts. `topo --help` lists the exit statuses.";
+
+const VERIFIES: &str = "\
+The log is taken line by line, as `topo prove` does, and each certificate of the proof is checked against the
+motion of its line, whoever wrote it. What is written:
+  verified M        the proof has a certificate for each of the M motions of the log, and each of them proves
+                    that nothing meets on the way
+  refused motion LINE WHY
+                    the first line of the log against whose motion something is found: `nomotion`, where log
+                    and proof do not tell of the same motion, or, with a pair, `stranger` (the mesh has no such
+                    pair), `invalid` (it is not kept apart), `missing` (it needs an entry and has none)
+
+docs/FORMATS.md has all texts. `topo --help` lists the exit statuses.";
+
 // A word that has to be given.
 fn word<'a>(alloc: Global, name: &'a str, help: &'a str) -> Arg<'a> {
     Arg::new(alloc, name)
@@ -97,16 +124,38 @@ fn convert<'a>(alloc: Global) -> Result<Command<'a>, AllocError> {
         .arg(decimals(alloc))
 }
 
-fn measure<'a>(alloc: Global) -> Result<Command<'a>, AllocError> {
-    Command::new(alloc, "measure")
-        .about("Tells what a log did to volume and shape")
-        .after_help(MEASURES)
+// A command that takes a mesh and a log.
+fn of_log<'a>(
+    alloc: Global,
+    name: &'a str,
+    about: &'a str,
+    behind: &'a str,
+) -> Result<Command<'a>, AllocError> {
+    Command::new(alloc, name)
+        .about(about)
+        .after_help(behind)
         .arg(word(
             alloc,
             "MESH",
             "The Wavefront OBJ file of the mesh that the log began with",
         ))?
-        .arg(word(alloc, "LOG", "The file of the log, as `track` wrote it"))?
+        .arg(word(alloc, "LOG", "The file of the log, as `track` wrote it"))
+}
+
+fn measure<'a>(alloc: Global) -> Result<Command<'a>, AllocError> {
+    let about = "Tells what a log did to volume and shape";
+    of_log(alloc, "measure", about, MEASURES)?.arg(decimals(alloc))
+}
+
+fn prove<'a>(alloc: Global) -> Result<Command<'a>, AllocError> {
+    let about = "Writes a proof that nothing meets in the motions of a log";
+    of_log(alloc, "prove", about, PROVES)?.arg(decimals(alloc))
+}
+
+fn verify<'a>(alloc: Global) -> Result<Command<'a>, AllocError> {
+    let about = "Checks a proof that nothing meets in the motions of a log";
+    of_log(alloc, "verify", about, VERIFIES)?
+        .arg(word(alloc, "PROOF", "The file of the proof"))?
         .arg(decimals(alloc))
 }
 
@@ -140,6 +189,14 @@ fn measure_help(alloc: Global) -> Result<String, AllocError> {
     rendered(measure(alloc)?, "topo measure")
 }
 
+fn prove_help(alloc: Global) -> Result<String, AllocError> {
+    rendered(prove(alloc)?, "topo prove")
+}
+
+fn verify_help(alloc: Global) -> Result<String, AllocError> {
+    rendered(verify(alloc)?, "topo verify")
+}
+
 /// How the command is called; None, where there is no such command.
 pub(crate) fn command_help(alloc: Global, name: &str) -> Result<Option<String>, AllocError> {
     let help = match name {
@@ -147,6 +204,8 @@ pub(crate) fn command_help(alloc: Global, name: &str) -> Result<Option<String>, 
         "convert" => convert_help(alloc)?,
         "try" => try_help(alloc)?,
         "measure" => measure_help(alloc)?,
+        "prove" => prove_help(alloc)?,
+        "verify" => verify_help(alloc)?,
         _ => return Ok(None),
     };
     Ok(Some(help))

@@ -1,5 +1,5 @@
 //! The program `topo`. It makes the real desk and sink and answers the words of the command line: it tracks or converts a mesh,
-//! measures a log, tries a job that it makes, or says how to call it. What is to be believed is here alone: that the words are those of the
+//! measures, proves or verifies a log, tries a job that it makes, or says how to call it. What is to be believed is here alone: that the words are those of the
 //! command line, that the fields and the sizing are the shipped ones, and that the status is handed out.
 #![tactic(auto)]
 

@@ -13,12 +13,12 @@ use Rattle.clap.specs.Simple.{built}
 use Rattle.clap.specs.Walk.{Rule, takes_values}
 use Rattle.line_text.specs.Spellings.{spelled_number}
 use Rattle.track_input.specs.declared.command.TheConstants.{CUBES_MAX}
-use Rattle.track_input.specs.Words.{MeshName, LogNames, Named, Track, Convert, Try, Measure, named_in, track_in, convert_in, try_in, log_in, between, number_in, decimals_in, mesh_name_of, is_file_word, is_decimals}
+use Rattle.track_input.specs.Words.{MeshName, LogNames, Named, Track, Convert, Try, Measure, Prove, Verify, named_in, track_in, convert_in, try_in, log_in, verify_in, between, number_in, decimals_in, mesh_name_of, is_file_word, is_decimals}
 use Rattle.track_input.specs.Named.{named_by}
 use Rattle.track_input.specs.declared.command.Command.{Command}
-use Rattle.track_input.specs.Taken.{AreTakenAs, IsReading}
-use Rattle.track_input.specs.Commands.{Values, IsFound, IsReadBy, values_in, track_app, track_of, track_read, convert_app, convert_of, convert_read, try_app, try_of, try_read, log_app, log_of, log_read, measure_app, measure_read}
-use Rattle.track_input.proofs.Walks.{IsPlainWord, plain_word, plain_digit, plain_number, try_taken, try_found, log_taken, log_found, log_taken_with, log_found_with, track_taken, track_found, track_taken_with, track_found_with, convert_taken, convert_found, convert_taken_with, convert_found_with}
+use Rattle.track_input.specs.Taken.{behind, AreTakenAs, IsReading}
+use Rattle.track_input.specs.Commands.{Values, IsFound, IsReadBy, values_in, track_app, track_of, track_read, convert_app, convert_of, convert_read, try_app, try_of, try_read, log_app, log_of, log_read, measure_app, measure_read, prove_app, prove_read, verify_app, verify_of, verify_read}
+use Rattle.track_input.proofs.Walks.{IsPlainWord, plain_word, plain_digit, plain_number, try_taken, try_found, log_taken, log_found, log_taken_with, log_found_with, track_taken, track_found, track_taken_with, track_found_with, convert_taken, convert_found, convert_taken_with, convert_found_with, verify_taken, verify_found, verify_taken_with, verify_found_with}
 use Rattle.track_input.proofs.Among.{AreSafe, FoundLong, IsSetRule, RowsFrom, rows_from, first_from, contains_here, contains_later}
 
 -- ---- the reading
@@ -72,6 +72,12 @@ convert_by_rows m = rw (first_value-rows (found_of m) (codes "from"), first_valu
 
 pub measure_by_rows : (m : ArgMatches) → measure_read (first_value (found_of m)) ≡ measure_read (λ id. first_of id (rows_of (found_of m)))
 measure_by_rows m = rw (first_value-rows (found_of m) (codes "mesh"), first_value-rows (found_of m) (codes "log"), first_value-rows (found_of m) (codes "decimals")) refl
+
+pub prove_by_rows : (m : ArgMatches) → prove_read (first_value (found_of m)) ≡ prove_read (λ id. first_of id (rows_of (found_of m)))
+prove_by_rows m = rw (first_value-rows (found_of m) (codes "mesh"), first_value-rows (found_of m) (codes "log"), first_value-rows (found_of m) (codes "decimals")) refl
+
+pub verify_by_rows : (m : ArgMatches) → verify_read (first_value (found_of m)) ≡ verify_read (λ id. first_of id (rows_of (found_of m)))
+verify_by_rows m = rw (first_value-rows (found_of m) (codes "mesh"), first_value-rows (found_of m) (codes "log"), first_value-rows (found_of m) (codes "proof"), first_value-rows (found_of m) (codes "decimals")) refl
 
 -- ---- words that are listed
 
@@ -187,13 +193,50 @@ log_listed name zeroth (a ∷ b ∷ rest) x e = elim (cases_Bool (is_file_word a
           subst (λ (w : List ℕ). FindsNames name (zeroth ∷ a ∷ b ∷ w ∷ d ∷ []) x) option here
     ]
 
-measure_listed : (zeroth : List ℕ) (rest : List (List ℕ)) (x : Named) → option_map Measure (log_in rest) ≡ Some x → Finds measure_read measure_app (zeroth ∷ rest) x
-measure_listed zeroth rest x e = at (log_in rest) refl e
+-- what a command reads of a mesh and a log
+abbrev pub names_read : (LogNames → Named) → Values → Option Named
+names_read make value = option_map make (log_read value)
+
+names_listed : (name : List ℕ) (make : LogNames → Named) (zeroth : List ℕ) (rest : List (List ℕ)) (x : Named) → option_map make (log_in rest) ≡ Some x → Finds (names_read make) (log_app name) (zeroth ∷ rest) x
+names_listed name make zeroth rest x e = at (log_in rest) refl e
   where
-    at : (o : Option LogNames) → log_in rest ≡ o → option_map Measure o ≡ Some x → Finds measure_read measure_app (zeroth ∷ rest) x
+    at : (o : Option LogNames) → log_in rest ≡ o → option_map make o ≡ Some x → Finds (names_read make) (log_app name) (zeroth ∷ rest) x
     at None is g = absurd (cc)
-    at (Some names) is g = let f = log_listed (codes "measure") zeroth rest names is in
-        record { taken = f.taken; found = ap (option_map Measure) f.found ∙ g }
+    at (Some names) is g = let f = log_listed name zeroth rest names is in
+        record { taken = f.taken; found = ap (option_map make) f.found ∙ g }
+
+verify_listed : (zeroth : List ℕ) (rest : List (List ℕ)) (x : Named) → verify_in rest ≡ Some x → Finds verify_read verify_app (zeroth ∷ rest) x
+verify_listed zeroth [] x e = absurd (cc)
+verify_listed zeroth (a ∷ []) x e = absurd (cc)
+verify_listed zeroth (a ∷ b ∷ []) x e = absurd (cc)
+verify_listed zeroth (a ∷ b ∷ c ∷ rest) x e = elim (cases_Bool (is_file_word a && (is_file_word b && is_file_word c))) [
+  | inr fails ↦ absurd (let g = rw fails at e in cc)
+  | inl all ↦
+      let p = and_parts _ _ all in
+      let q = and_parts _ _ p.1 in
+      at_rest rest p.0 q.0 q.1 e (rw all at e)
+]
+  where
+    at_rest : (rest : List (List ℕ)) → is_file_word a ≡ true → is_file_word b ≡ true → is_file_word c ≡ true → verify_in (a ∷ b ∷ c ∷ rest) ≡ Some x
+        → option_map (λ n. Verify (record { names = record { mesh = a; log = b; decimals = n }; proof = c })) (decimals_in rest) ≡ Some x → Finds verify_read verify_app (zeroth ∷ a ∷ b ∷ c ∷ rest) x
+    at_rest [] ha hb hc e g =
+        let f = verify_found zeroth a b (plain_word a ha) (plain_word b hb) c (plain_word c hc) in
+        record { taken = verify_taken zeroth a b (plain_word a ha) (plain_word b hb) c (plain_word c hc); found = rw (f.mesh, f.log, f.proof, f.decimals) e }
+    at_rest (o ∷ []) ha hb hc e g = absurd (cc)
+    at_rest (o ∷ d ∷ y ∷ ys) ha hb hc e g = absurd (cc)
+    at_rest (o ∷ d ∷ []) ha hb hc e g = elim (cases_Bool (bytes_eq o (codes "--decimals") && is_decimals d)) [
+      | inr fails ↦ absurd (let h = rw fails at g in cc)
+      | inl all ↦
+          let p = and_parts _ _ all in
+          let option : codes "--decimals" ≡ o = option_is o p.0 in
+          let listed : verify_in (a ∷ b ∷ c ∷ codes "--decimals" ∷ d ∷ []) ≡ Some x = subst (λ (w : List ℕ). verify_in (a ∷ b ∷ c ∷ w ∷ d ∷ []) ≡ Some x) (sym option) e in
+          let f = verify_found_with zeroth a b (plain_word a ha) (plain_word b hb) c (plain_word c hc) d (plain_digit d p.1) in
+          let here : Finds verify_read verify_app (zeroth ∷ a ∷ b ∷ c ∷ codes "--decimals" ∷ d ∷ []) x = record {
+            taken = verify_taken_with zeroth a b (plain_word a ha) (plain_word b hb) c (plain_word c hc) d (plain_digit d p.1);
+            found = rw (f.mesh, f.log, f.proof, f.decimals) listed;
+          } in
+          subst (λ (w : List ℕ). Finds verify_read verify_app (zeroth ∷ a ∷ b ∷ c ∷ w ∷ d ∷ []) x) option here
+    ]
 
 number_word : (low high : ℕ) (word : List ℕ) (n : ℕ) → number_in low high word ≡ Some n → IsPlainWord word
 number_word low high word n e = at (spelled_number word) refl e
@@ -225,6 +268,13 @@ long_found words rule long set id takes_some false e = tt
 
 track_is_safe : (words : List (List ℕ)) → AreSafe words (built track_app).top.rules
 track_is_safe words = record {
+  set = (record { action = refl; missing = refl; defaults = refl }, (record { action = refl; missing = refl; defaults = refl }, (record { action = refl; missing = refl; defaults = refl }, (record { action = refl; missing = refl; defaults = refl }, tt))));
+  long = λ long. long_found words _ long (record { action = refl; missing = refl; defaults = refl }) refl refl (bytes_eq (codes "decimals") long) refl;
+  short = λ x. refl;
+}
+
+verify_is_safe : (words : List (List ℕ)) → AreSafe words (built verify_app).top.rules
+verify_is_safe words = record {
   set = (record { action = refl; missing = refl; defaults = refl }, (record { action = refl; missing = refl; defaults = refl }, (record { action = refl; missing = refl; defaults = refl }, (record { action = refl; missing = refl; defaults = refl }, tt))));
   long = λ long. long_found words _ long (record { action = refl; missing = refl; defaults = refl }) refl refl (bytes_eq (codes "decimals") long) refl;
   short = λ x. refl;
@@ -333,24 +383,48 @@ try_among rest rows from x e = at (first_of (codes "cubes") rows) (first_of (cod
           decimals = tt;
         }
 
-measure_among : (rest : List (List ℕ)) (rows : List Row) → RowsFrom (codes "measure" ∷ rest) rows → (x : Named) → measure_read (λ id. first_of id rows) ≡ Some x → AreTakenAs (codes "measure" ∷ rest) x
-measure_among rest rows from x e = at (first_of (codes "mesh") rows) (first_of (codes "log") rows) (first_of (codes "decimals") rows) refl refl refl e
+names_among : (name : List ℕ) (make : LogNames → Named) → ((words : List (List ℕ)) → named_in (name ∷ words) ≡ option_map make (log_in words)) → (rest : List (List ℕ)) (rows : List Row) → RowsFrom (name ∷ rest) rows
+    → (x : Named) → names_read make (λ id. first_of id rows) ≡ Some x → AreTakenAs (name ∷ rest) x
+names_among name make lists rest rows from x e = at (first_of (codes "mesh") rows) (first_of (codes "log") rows) (first_of (codes "decimals") rows) refl refl refl e
   where
     at : (m l d : Option (List ℕ)) → first_of (codes "mesh") rows ≡ m → first_of (codes "log") rows ≡ l → first_of (codes "decimals") rows ≡ d
-        → option_map Measure (log_of m l d) ≡ Some x → AreTakenAs (codes "measure" ∷ rest) x
+        → option_map make (log_of m l d) ≡ Some x → AreTakenAs (name ∷ rest) x
     at None l d em el ed e = absurd (cc)
     at (Some a) None d em el ed e = absurd (cc)
     at (Some a) (Some b) d em el ed e =
-        let words = codes "measure" ∷ rest in
+        let words = name ∷ rest in
         let ma : Contains words a = word_among words rows from (codes "mesh") a (λ w. absurd (cc)) em in
         let mb : Contains words b = word_among words rows from (codes "log") b (λ w. absurd (cc)) el in
         record {
-          form = codes "measure" ∷ a ∷ b ∷ [];
+          form = name ∷ a ∷ b ∷ [];
+          digit = d;
+          is_listed = lists (a ∷ b ∷ behind d) ∙ e;
+          first = refl;
+          among = more words name (a ∷ b ∷ []) (contains_here name rest)
+              (more words a (b ∷ []) ma (more words b [] mb (All-nil (Contains words))));
+          decimals = digit_among words rows from d ed;
+        }
+
+verify_among : (rest : List (List ℕ)) (rows : List Row) → RowsFrom (codes "verify" ∷ rest) rows → (x : Named) → verify_read (λ id. first_of id rows) ≡ Some x → AreTakenAs (codes "verify" ∷ rest) x
+verify_among rest rows from x e = at (first_of (codes "mesh") rows) (first_of (codes "log") rows) (first_of (codes "proof") rows) (first_of (codes "decimals") rows) refl refl refl refl e
+  where
+    at : (m s p d : Option (List ℕ)) → first_of (codes "mesh") rows ≡ m → first_of (codes "log") rows ≡ s → first_of (codes "proof") rows ≡ p → first_of (codes "decimals") rows ≡ d
+        → verify_of m s p d ≡ Some x → AreTakenAs (codes "verify" ∷ rest) x
+    at None s p d em es ep ed e = absurd (cc)
+    at (Some a) None p d em es ep ed e = absurd (cc)
+    at (Some a) (Some b) None d em es ep ed e = absurd (cc)
+    at (Some a) (Some b) (Some c) d em es ep ed e =
+        let words = codes "verify" ∷ rest in
+        let ma : Contains words a = word_among words rows from (codes "mesh") a (λ w. absurd (cc)) em in
+        let mb : Contains words b = word_among words rows from (codes "log") b (λ w. absurd (cc)) es in
+        let mc : Contains words c = word_among words rows from (codes "proof") c (λ w. absurd (cc)) ep in
+        record {
+          form = codes "verify" ∷ a ∷ b ∷ c ∷ [];
           digit = d;
           is_listed = e;
           first = refl;
-          among = more words (codes "measure") (a ∷ b ∷ []) (contains_here (codes "measure") rest)
-              (more words a (b ∷ []) ma (more words b [] mb (All-nil (Contains words))));
+          among = more words (codes "verify") (a ∷ b ∷ c ∷ []) (contains_here (codes "verify") rest)
+              (more words a (b ∷ c ∷ []) ma (more words b (c ∷ []) mb (more words c [] mc (All-nil (Contains words)))));
           decimals = digit_among words rows from d ed;
         }
 
@@ -377,11 +451,24 @@ try_serves rest = record {
       (rows_from (codes "try" ∷ rest) _ (try_is_safe (codes "try" ∷ rest)) _ rest (λ v i. contains_later (codes "try") v rest i)) x e;
 }
 
+names_serve : (name : List ℕ) (make : LogNames → Named) → ((words : List (List ℕ)) → named_in (name ∷ words) ≡ option_map make (log_in words)) → (rest : List (List ℕ)) → Serves (names_read make) (log_app name) (name ∷ rest)
+names_serve name make lists rest = record {
+  listed = λ x e. names_listed name make name rest x (sym (lists rest) ∙ e);
+  among = λ x e. names_among name make lists rest (matches_of (log_app name) (name ∷ rest))
+      (rows_from (name ∷ rest) _ (log_is_safe name (name ∷ rest)) _ rest (λ v i. contains_later name v rest i)) x e;
+}
+
 measure_serves : (rest : List (List ℕ)) → Serves measure_read measure_app (codes "measure" ∷ rest)
-measure_serves rest = record {
-  listed = λ x e. measure_listed (codes "measure") rest x e;
-  among = λ x e. measure_among rest (matches_of measure_app (codes "measure" ∷ rest))
-      (rows_from (codes "measure" ∷ rest) _ (log_is_safe (codes "measure") (codes "measure" ∷ rest)) _ rest (λ v i. contains_later (codes "measure") v rest i)) x e;
+measure_serves = names_serve (codes "measure") Measure (λ words. refl)
+
+prove_serves : (rest : List (List ℕ)) → Serves prove_read prove_app (codes "prove" ∷ rest)
+prove_serves = names_serve (codes "prove") Prove (λ words. refl)
+
+verify_serves : (rest : List (List ℕ)) → Serves verify_read verify_app (codes "verify" ∷ rest)
+verify_serves rest = record {
+  listed = λ x e. verify_listed (codes "verify") rest x e;
+  among = λ x e. verify_among rest (matches_of verify_app (codes "verify" ∷ rest))
+      (rows_from (codes "verify" ∷ rest) _ (verify_is_safe (codes "verify" ∷ rest)) _ rest (λ v i. contains_later (codes "verify") v rest i)) x e;
 }
 
 -- ---- the first word
@@ -401,33 +488,31 @@ at_name name read app serves (zeroth ∷ rest) begins found by =
     reading read app (zeroth ∷ rest) (subst (λ (w : List ℕ). Serves read app (w ∷ rest)) (sym same) (serves rest)) found by
 
 module _ {E : Type 0} (words : List (List ℕ)) (r : Result (Option Command) E) where
-  pub reads_track : BeginWith (codes "track") words → IfOk r (λ found. IsReadBy track_read track_app words (option_map named_by found)) → IfOk r (λ found. IsReading words (option_map named_by found))
-  reads_track begins = at r
+  -- what a command reads of words that begin with its name is what the words are read as
+  reads_by : (name : List ℕ) (read : Values → Option Named) (app : App) → ((rest : List (List ℕ)) → Serves read app (name ∷ rest)) → BeginWith name words → IfOk r (λ found. IsReadBy read app words (option_map named_by found)) → IfOk r (λ found. IsReading words (option_map named_by found))
+  reads_by name read app serves begins = at r
     where
-      at : (r : Result (Option Command) E) → IfOk r (λ found. IsReadBy track_read track_app words (option_map named_by found)) → IfOk r (λ found. IsReading words (option_map named_by found))
-      at (Ok found) by = at_name (codes "track") track_read track_app track_serves words begins (option_map named_by found) by
+      at : (r : Result (Option Command) E) → IfOk r (λ found. IsReadBy read app words (option_map named_by found)) → IfOk r (λ found. IsReading words (option_map named_by found))
+      at (Ok found) by = at_name name read app serves words begins (option_map named_by found) by
       at (Err e) by = tt
+
+  pub reads_track : BeginWith (codes "track") words → IfOk r (λ found. IsReadBy track_read track_app words (option_map named_by found)) → IfOk r (λ found. IsReading words (option_map named_by found))
+  reads_track = reads_by (codes "track") track_read track_app track_serves
 
   pub reads_convert : BeginWith (codes "convert") words → IfOk r (λ found. IsReadBy convert_read convert_app words (option_map named_by found)) → IfOk r (λ found. IsReading words (option_map named_by found))
-  reads_convert begins = at r
-    where
-      at : (r : Result (Option Command) E) → IfOk r (λ found. IsReadBy convert_read convert_app words (option_map named_by found)) → IfOk r (λ found. IsReading words (option_map named_by found))
-      at (Ok found) by = at_name (codes "convert") convert_read convert_app convert_serves words begins (option_map named_by found) by
-      at (Err e) by = tt
+  reads_convert = reads_by (codes "convert") convert_read convert_app convert_serves
 
   pub reads_try : BeginWith (codes "try") words → IfOk r (λ found. IsReadBy try_read try_app words (option_map named_by found)) → IfOk r (λ found. IsReading words (option_map named_by found))
-  reads_try begins = at r
-    where
-      at : (r : Result (Option Command) E) → IfOk r (λ found. IsReadBy try_read try_app words (option_map named_by found)) → IfOk r (λ found. IsReading words (option_map named_by found))
-      at (Ok found) by = at_name (codes "try") try_read try_app try_serves words begins (option_map named_by found) by
-      at (Err e) by = tt
+  reads_try = reads_by (codes "try") try_read try_app try_serves
 
   pub reads_measure : BeginWith (codes "measure") words → IfOk r (λ found. IsReadBy measure_read measure_app words (option_map named_by found)) → IfOk r (λ found. IsReading words (option_map named_by found))
-  reads_measure begins = at r
-    where
-      at : (r : Result (Option Command) E) → IfOk r (λ found. IsReadBy measure_read measure_app words (option_map named_by found)) → IfOk r (λ found. IsReading words (option_map named_by found))
-      at (Ok found) by = at_name (codes "measure") measure_read measure_app measure_serves words begins (option_map named_by found) by
-      at (Err e) by = tt
+  reads_measure = reads_by (codes "measure") measure_read measure_app measure_serves
+
+  pub reads_prove : BeginWith (codes "prove") words → IfOk r (λ found. IsReadBy prove_read prove_app words (option_map named_by found)) → IfOk r (λ found. IsReading words (option_map named_by found))
+  reads_prove = reads_by (codes "prove") prove_read prove_app prove_serves
+
+  pub reads_verify : BeginWith (codes "verify") words → IfOk r (λ found. IsReadBy verify_read verify_app words (option_map named_by found)) → IfOk r (λ found. IsReading words (option_map named_by found))
+  reads_verify = reads_by (codes "verify") verify_read verify_app verify_serves
 
 differs : (word name : List ℕ) → (word ≡ name → ⊥) → bytes_eq word name ≡ false
 differs word name other = elim (cases_Bool (bytes_eq word name)) [
@@ -437,12 +522,12 @@ differs word name other = elim (cases_Bool (bytes_eq word name)) [
 
 -- words that begin otherwise are of no listed form
 pub unlisted : (words : List (String Global)) (word : String Global) (text : List ℕ) → Some word ≡ slice_get words 0 → text ≡ string_bytes word
-    → (text ≡ codes "track" → ⊥) → (text ≡ codes "convert" → ⊥) → (text ≡ codes "try" → ⊥) → (text ≡ codes "measure" → ⊥) → named_in (map (λ w. string_bytes w) words) ≡ None
-unlisted [] word text first is a b c d = refl
-unlisted (w ∷ rest) word text first is a b c d =
+    → (text ≡ codes "track" → ⊥) → (text ≡ codes "convert" → ⊥) → (text ≡ codes "try" → ⊥) → (text ≡ codes "measure" → ⊥) → (text ≡ codes "prove" → ⊥) → (text ≡ codes "verify" → ⊥) → named_in (map (λ w. string_bytes w) words) ≡ None
+unlisted [] word text first is a b c d e f = refl
+unlisted (w ∷ rest) word text first is a b c d e f =
     let same : word ≡ w = cc in
     let here : text ≡ string_bytes w = is ∙ ap (λ (y : String Global). string_bytes y) same in
-    rw (← here, differs text (codes "track") a, differs text (codes "convert") b, differs text (codes "try") c, differs text (codes "measure") d) refl
+    rw (← here, differs text (codes "track") a, differs text (codes "convert") b, differs text (codes "try") c, differs text (codes "measure") d, differs text (codes "prove") e, differs text (codes "verify") f) refl
 
 pub unlisted_nothing : (words : List (String Global)) → slice_get words 0 ≡ None → named_in (map (λ w. string_bytes w) words) ≡ None
 unlisted_nothing [] e = refl

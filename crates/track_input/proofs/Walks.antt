@@ -13,7 +13,7 @@ use Rattle.line_text.specs.Numbers.{number_within, is_digit, begins_with}
 use Rattle.line_text.specs.Spellings.{spelled_number}
 use Rattle.line_text.specs.declared.number.TheConstants.{DIGITS_MAX}
 use Rattle.track_input.specs.Words.{is_file_word, is_decimals}
-use Rattle.track_input.specs.Commands.{track_app, convert_app, try_app, log_app}
+use Rattle.track_input.specs.Commands.{track_app, convert_app, try_app, log_app, verify_app}
 
 -- a word that begins no option
 pub record IsPlainWord (w : List ℕ) : Type 0 where
@@ -79,6 +79,12 @@ pub record FindsLog (rows : List Row) (a b : List ℕ) (n : Option (List ℕ)) :
   pub log : first_of (codes "log") rows ≡ Some b
   pub decimals : first_of (codes "decimals") rows ≡ n
 
+pub record FindsVerify (rows : List Row) (a b c : List ℕ) (n : Option (List ℕ)) : Type 0 where
+  pub mesh : first_of (codes "mesh") rows ≡ Some a
+  pub log : first_of (codes "log") rows ≡ Some b
+  pub proof : first_of (codes "proof") rows ≡ Some c
+  pub decimals : first_of (codes "decimals") rows ≡ n
+
 pub record FindsTry (rows : List Row) (a b : List ℕ) : Type 0 where
   pub cubes : first_of (codes "cubes") rows ≡ Some a
   pub key : first_of (codes "key") rows ≡ Some b
@@ -134,6 +140,14 @@ module _ (zeroth a b : List ℕ) (pa : IsPlainWord a) (pb : IsPlainWord b) where
     unfolding clap_on_literals
     track_found = rw (pa.long, pa.short, pa.dashes, pb.long, pb.short, pb.dashes, pc.long, pc.short, pc.dashes) (record { mesh = refl; steps = refl; prefix = refl; decimals = refl })
 
+    pub verify_taken : takes verify_app (zeroth ∷ a ∷ b ∷ c ∷ []) ≡ true
+    unfolding clap_on_literals
+    verify_taken = rw (pa.long, pa.short, pa.dashes, pb.long, pb.short, pb.dashes, pc.long, pc.short, pc.dashes) refl
+
+    pub verify_found : FindsVerify (matches_of verify_app (zeroth ∷ a ∷ b ∷ c ∷ [])) a b c None
+    unfolding clap_on_literals
+    verify_found = rw (pa.long, pa.short, pa.dashes, pb.long, pb.short, pb.dashes, pc.long, pc.short, pc.dashes) (record { mesh = refl; log = refl; proof = refl; decimals = refl })
+
     module _ (n : List ℕ) (pn : IsPlainWord n) where
       pub track_taken_with : takes track_app (zeroth ∷ a ∷ b ∷ c ∷ codes "--decimals" ∷ n ∷ []) ≡ true
       unfolding clap_on_literals
@@ -142,3 +156,11 @@ module _ (zeroth a b : List ℕ) (pa : IsPlainWord a) (pb : IsPlainWord b) where
       pub track_found_with : FindsTrack (matches_of track_app (zeroth ∷ a ∷ b ∷ c ∷ codes "--decimals" ∷ n ∷ [])) a b c (Some n)
       unfolding clap_on_literals
       track_found_with = rw (pa.long, pa.short, pa.dashes, pb.long, pb.short, pb.dashes, pc.long, pc.short, pc.dashes, pn.long, pn.short, pn.dashes) (record { mesh = refl; steps = refl; prefix = refl; decimals = refl })
+
+      pub verify_taken_with : takes verify_app (zeroth ∷ a ∷ b ∷ c ∷ codes "--decimals" ∷ n ∷ []) ≡ true
+      unfolding clap_on_literals
+      verify_taken_with = rw (pa.long, pa.short, pa.dashes) (rw (pb.long, pb.short, pb.dashes) (rw (pc.long, pc.short, pc.dashes) (rw (pn.long, pn.short, pn.dashes) refl)))
+
+      pub verify_found_with : FindsVerify (matches_of verify_app (zeroth ∷ a ∷ b ∷ c ∷ codes "--decimals" ∷ n ∷ [])) a b c (Some n)
+      unfolding clap_on_literals
+      verify_found_with = rw (pa.long, pa.short, pa.dashes, pb.long, pb.short, pb.dashes, pc.long, pc.short, pc.dashes, pn.long, pn.short, pn.dashes) (record { mesh = refl; log = refl; proof = refl; decimals = refl })

@@ -4,7 +4,7 @@ use Rattle.clap.specs.declared.builder.action.ArgAction.TheVariants.{Set}
 use Rattle.clap.specs.declared.parser.matches.ArgMatches.{ArgMatches}
 use Rattle.clap.specs.Words.{App, HasMatchesOf, Rule, first_of, matches_of, new_app, new_rule, takes, with_rule}
 use Rattle.std.specs.Option.{option_map}
-use Rattle.track_input.specs.Words.{LogNames, Named, Measure, track_in, convert_in, try_in, log_in}
+use Rattle.track_input.specs.Words.{LogNames, Named, Measure, Prove, track_in, convert_in, try_in, log_in, verify_in}
 use Rattle.track_input.specs.Taken.{behind}
 
 -- a word that has to be given
@@ -39,6 +39,13 @@ log_app name = with_rule (pair_app name (codes "mesh") (codes "log")) decimals_r
 abbrev pub measure_app : App
 measure_app = log_app (codes "measure")
 
+abbrev pub prove_app : App
+prove_app = log_app (codes "prove")
+
+abbrev pub verify_app : App
+verify_app =
+    with_rule (with_rule (pair_app (codes "verify") (codes "mesh") (codes "log")) (given_rule (codes "proof"))) decimals_rule
+
 -- ---- what is read
 
 -- the value of each name, if it has one
@@ -61,6 +68,10 @@ abbrev pub log_of : Option (List ℕ) → Option (List ℕ) → Option (List ℕ
 log_of (Some mesh) (Some log) digit = log_in (mesh ∷ log ∷ behind digit)
 log_of _ _ digit = None
 
+abbrev pub verify_of : Option (List ℕ) → Option (List ℕ) → Option (List ℕ) → Option (List ℕ) → Option Named
+verify_of (Some mesh) (Some log) (Some proof) digit = verify_in (mesh ∷ log ∷ proof ∷ behind digit)
+verify_of _ _ _ digit = None
+
 abbrev pub track_read : Values → Option Named
 track_read value = track_of (value (codes "mesh")) (value (codes "steps")) (value (codes "prefix")) (value (codes "decimals"))
 
@@ -75,6 +86,12 @@ log_read value = log_of (value (codes "mesh")) (value (codes "log")) (value (cod
 
 abbrev pub measure_read : Values → Option Named
 measure_read value = option_map Measure (log_read value)
+
+abbrev pub prove_read : Values → Option Named
+prove_read value = option_map Prove (log_read value)
+
+abbrev pub verify_read : Values → Option Named
+verify_read value = verify_of (value (codes "mesh")) (value (codes "log")) (value (codes "proof")) (value (codes "decimals"))
 
 -- ---- what a command finds
 

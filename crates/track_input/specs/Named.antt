@@ -6,7 +6,8 @@ use Rattle.track_input.specs.declared.command.Command.{Command}
 use Rattle.track_input.specs.declared.command.Command.TheVariants as command
 use Rattle.track_input.specs.declared.mesh_file.MeshFile.{MeshFile}
 use Rattle.track_input.specs.declared.command.LogFiles.{LogFiles}
-use Rattle.track_input.specs.Words.{MeshName, LogNames, Named, Track, Convert, Try, Measure}
+use Rattle.track_input.specs.declared.command.ProofFiles.{ProofFiles}
+use Rattle.track_input.specs.Words.{MeshName, LogNames, ProofNames, Named, Track, Convert, Try, Measure, Prove, Verify}
 
 abbrev pub mesh_name : MeshFile → MeshName
 mesh_name file = record { name = file.name.now; format = file.format }
@@ -14,11 +15,16 @@ mesh_name file = record { name = file.name.now; format = file.format }
 abbrev pub log_names : LogFiles → LogNames
 log_names files = record { mesh = files.mesh.now; log = files.log.now; decimals = files.decimals }
 
+abbrev pub proof_names : ProofFiles → ProofNames
+proof_names given = record { names = log_names given.files; proof = given.proof.now }
+
 abbrev pub named_by : Command → Named
 named_by (command.Track mesh steps prefix decimals) = Track mesh.now steps.now prefix.now decimals
 named_by (command.Convert from to decimals) = Convert (mesh_name from) (mesh_name to) decimals
 named_by (command.Try cubes key) = Try cubes key
 named_by (command.Measure files) = Measure (log_names files)
+named_by (command.Prove files) = Prove (log_names files)
+named_by (command.Verify given) = Verify (proof_names given)
 
 -- its points have no more decimals than a text may have, and its cubes are few
 abbrev pub IsInLimits : Command → Type 0
@@ -26,3 +32,5 @@ IsInLimits (command.Track mesh steps prefix decimals) = decimals ≤ DECIMALS_MA
 IsInLimits (command.Convert from to decimals) = decimals ≤ DECIMALS_MAX
 IsInLimits (command.Try cubes key) = (1 ≤ cubes) × (cubes ≤ CUBES_MAX)
 IsInLimits (command.Measure files) = files.decimals ≤ DECIMALS_MAX
+IsInLimits (command.Prove files) = files.decimals ≤ DECIMALS_MAX
+IsInLimits (command.Verify given) = given.files.decimals ≤ DECIMALS_MAX

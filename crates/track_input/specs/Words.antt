@@ -20,13 +20,21 @@ pub record LogNames : Type 0 where
   pub log : List ℕ
   pub decimals : ℕ
 
+-- the same, and the name of the file of a proof of the log's motions
+pub record ProofNames : Type 0 where
+  pub names : LogNames
+  pub proof : List ℕ
+
 -- what a command line asks for: of `track`, the three file words, and the decimals; of `convert`, the two files, and the decimals;
--- of `try`, the number of cubes along an edge, and the key; of `measure`, the two files, and the decimals
+-- of `try`, the number of cubes along an edge, and the key; of `measure` and `prove`, the two files, and the decimals; of `verify`, the
+-- three files, and the decimals
 pub data Named : Type 0 where
   Track : (mesh : List ℕ) (steps : List ℕ) (prefix : List ℕ) (decimals : ℕ) → Named
   Convert : (from : MeshName) (to : MeshName) (decimals : ℕ) → Named
   Try : (cubes : ℕ) (key : ℕ) → Named
   Measure : (names : LogNames) → Named
+  Prove : (names : LogNames) → Named
+  Verify : (names : ProofNames) → Named
 
 -- ---- words
 
@@ -102,8 +110,16 @@ log_in (mesh ∷ log ∷ behind) =
     else None
 log_in _ = None
 
--- The command that listed words name: `track MESH STEPS PREFIX`, `convert FROM TO` or `measure MESH LOG`, or one of these and
--- `--decimals N`; or `try N KEY`.
+-- MESH LOG PROOF, and the decimals
+abbrev pub verify_in : List (List ℕ) → Option Named
+verify_in (mesh ∷ log ∷ proof ∷ behind) =
+    if is_file_word mesh && (is_file_word log && is_file_word proof)
+    then option_map (λ decimals. Verify (record { names = record { mesh = mesh; log = log; decimals = decimals }; proof = proof })) (decimals_in behind)
+    else None
+verify_in _ = None
+
+-- The command that listed words name: `track MESH STEPS PREFIX`, `convert FROM TO`, `measure MESH LOG`, `prove MESH LOG` or
+-- `verify MESH LOG PROOF`, or one of these and `--decimals N`; or `try N KEY`.
 abbrev pub named_in : List (List ℕ) → Option Named
 named_in [] = None
 named_in (first ∷ words) =
@@ -111,4 +127,6 @@ named_in (first ∷ words) =
     else if bytes_eq first (codes "convert") then convert_in words
     else if bytes_eq first (codes "try") then try_in words
     else if bytes_eq first (codes "measure") then option_map Measure (log_in words)
+    else if bytes_eq first (codes "prove") then option_map Prove (log_in words)
+    else if bytes_eq first (codes "verify") then verify_in words
     else None

@@ -3,11 +3,13 @@ ghost use Rattle.clap.specs.Words.{found_of, first_value};
 ghost use Rattle.grid_base.specs.declared.TheConstants.{DECIMALS_MAX};
 ghost use Rattle.track_input.specs.Words.{is_decimals, decimals_in, number_in};
 ghost use Rattle.track_input.specs.Taken.{behind, IsReading};
-ghost use Rattle.track_input.specs.Commands.{track_read, convert_read, try_read, log_read, measure_read, track_app, convert_app, try_app, measure_app, IsReadBy};
+ghost use Rattle.track_input.specs.Commands.{track_read, convert_read, try_read, log_read, measure_read, prove_read, verify_read, track_app, convert_app, try_app, measure_app, prove_app, verify_app, IsReadBy};
 ghost use Rattle.track_input.specs.Named.{named_by, log_names, IsInLimits};
 
 use crate::mesh_file::{MeshFile, is_file_word, mesh_file};
-use crate::taking::{convert_command, found_in, log_command, track_command, try_command};
+use crate::taking::{
+    convert_command, found_in, log_command, track_command, try_command, verify_command,
+};
 use clap::ArgMatches;
 use grid_base::{DECIMALS_MAX, NoMemory};
 use line_text::spelled_number;
@@ -19,6 +21,14 @@ pub struct LogFiles<'a> {
     pub mesh: &'a str,
     pub log: &'a str,
     pub decimals: u8,
+}
+
+/// The names of a mesh file and of the file of a log that begins with that mesh, the decimals of the mesh's points, and the name of the file
+/// of a proof of the log's motions.
+#[derive(Clone, Copy)]
+pub struct ProofFiles<'a> {
+    pub files: LogFiles<'a>,
+    pub proof: &'a str,
 }
 
 /// What the words of a command line ask for.
@@ -45,6 +55,10 @@ pub enum Command<'a> {
     },
     /// It is told what a log did to volume and shape.
     Measure(LogFiles<'a>),
+    /// A certificate is made for each motion of a log.
+    Prove(LogFiles<'a>),
+    /// A proof is checked, that has a certificate for each motion of a log.
+    Verify(ProofFiles<'a>),
 }
 
 /// The greatest number of cubes along an edge of a job that is made.
@@ -159,6 +173,35 @@ fn measure_read<'a>(found: &ArgMatches<'a>) -> Option<Command<'a>>
     Some(Command::Measure(files))
 }
 
+// The command of the words that were found behind `prove`.
+fn prove_read<'a>(found: &ArgMatches<'a>) -> Option<Command<'a>>
+    ensures command { option_map named_by result ≡ prove_read (first_value (found_of found.now)) }
+    ensures few { IfSome result IsInLimits }
+{
+    let files = log_read(found)?;
+    Some(Command::Prove(files))
+}
+
+// The command of the words that were found behind `verify`.
+fn verify_read<'a>(found: &ArgMatches<'a>) -> Option<Command<'a>>
+    ensures command { option_map named_by result ≡ verify_read (first_value (found_of found.now)) }
+    ensures few { IfSome result IsInLimits }
+{
+    let mesh = found.get_str("mesh")?;
+    let log = found.get_str("log")?;
+    let proof = found.get_str("proof")?;
+    if !(is_file_word(mesh) && (is_file_word(log) && is_file_word(proof))) {
+        return None;
+    }
+    let decimals = decimals_of(found.get_str("decimals"))?;
+    let files = LogFiles {
+        mesh,
+        log,
+        decimals,
+    };
+    Some(Command::Verify(ProofFiles { files, proof }))
+}
+
 // The command of words whose first is `track`.
 fn track_in<'a>(alloc: Global, words: &'a [String]) -> Result<Option<Command<'a>>, NoMemory>
     ensures read { let texts = map (λ word. string_bytes word) words.entry.now in
@@ -207,8 +250,32 @@ fn measure_in<'a>(alloc: Global, words: &'a [String]) -> Result<Option<Command<'
     }
 }
 
-/// The command that the words are read as: `track MESH STEPS PREFIX`, `convert FROM TO` or `measure MESH LOG`, or one of these and
-/// `--decimals N` with one digit N from 0 to 6, or `try N KEY`. A file word is not empty and has no dash in front, and both of `convert`
+// The command of words whose first is `prove`.
+fn prove_in<'a>(alloc: Global, words: &'a [String]) -> Result<Option<Command<'a>>, NoMemory>
+    ensures read { let texts = map (λ word. string_bytes word) words.entry.now in
+        IfOk result (λ found. IsReadBy prove_read prove_app texts (option_map named_by found)) }
+    ensures few { IfOk result (λ found. IfSome found IsInLimits) }
+{
+    match found_in(log_command(alloc, "prove")?, words)? {
+        Some(found) => Ok(prove_read(&found)),
+        None => Ok(None),
+    }
+}
+
+// The command of words whose first is `verify`.
+fn verify_in<'a>(alloc: Global, words: &'a [String]) -> Result<Option<Command<'a>>, NoMemory>
+    ensures read { let texts = map (λ word. string_bytes word) words.entry.now in
+        IfOk result (λ found. IsReadBy verify_read verify_app texts (option_map named_by found)) }
+    ensures few { IfOk result (λ found. IfSome found IsInLimits) }
+{
+    match found_in(verify_command(alloc)?, words)? {
+        Some(found) => Ok(verify_read(&found)),
+        None => Ok(None),
+    }
+}
+
+/// The command that the words are read as: `track MESH STEPS PREFIX`, `convert FROM TO`, `measure MESH LOG`, `prove MESH LOG` or
+/// `verify MESH LOG PROOF`, or one of these and `--decimals N` with one digit N from 0 to 6, or `try N KEY`. A file word is not empty and has no dash in front, and both of `convert`
 /// end in `.obj`, `.off` or `.ply`. N of `try` is 1 to 12 and KEY 0 to 4,294,967,295, both digits with no needless zero in front.
 /// Words of no such form are taken as one of the same first word whose words are among them (options may stand before the files, as
 /// `--decimals=N` too), or they are no command. NoMemory at any words.
@@ -225,6 +292,8 @@ pub fn command_of<'a>(alloc: Global, words: &'a [String]) -> Result<Option<Comma
         "convert" => convert_in(alloc, words),
         "try" => try_in(alloc, words),
         "measure" => measure_in(alloc, words),
+        "prove" => prove_in(alloc, words),
+        "verify" => verify_in(alloc, words),
         _ => Ok(None),
     }
 }

@@ -1,6 +1,6 @@
 ghost use Rattle.std.specs.Prelude.{◌≡◌, IfOk, false, map, string_bytes};
 ghost use Rattle.clap.specs.Words.{app_of, rule_of};
-ghost use Rattle.track_input.specs.Commands.{given_rule, decimals_rule, pair_app, track_app, convert_app, try_app, log_app, IsFound};
+ghost use Rattle.track_input.specs.Commands.{given_rule, decimals_rule, pair_app, track_app, convert_app, try_app, log_app, verify_app, IsFound};
 
 use clap::error::ErrorKind;
 use clap::{Arg, ArgAction, ArgMatches, Command};
@@ -69,6 +69,15 @@ pub(crate) fn log_command<'a>(alloc: Global, name: &'a str) -> Result<Command<'a
     ensures { IfOk result (λ command. app_of command ≡ log_app name.entry.now) }
 {
     pair_command(alloc, name, "mesh", "log")?.arg(decimals(alloc))
+}
+
+// Takes the words of `verify`, the first of them included.
+pub(crate) fn verify_command<'a>(alloc: Global) -> Result<Command<'a>, AllocError>
+    ensures { IfOk result (λ command. app_of command ≡ verify_app) }
+{
+    pair_command(alloc, "verify", "mesh", "log")?
+        .arg(given(alloc, "proof"))?
+        .arg(decimals(alloc))
 }
 
 // What a command finds of the words; None where it does not take them.

@@ -155,6 +155,8 @@ module _ (m : Mesh) (lines : List LogLine) where
       subst P (ap (λ l. front_text m l ++ refused_text (log.Replay n)) (sym more.1)) (begins_then front more.0 (refused_text (log.Replay n)) (refused_some (log.Replay n)))
   begins front left split fit (Some (log.Input why)) h = absurd h
   begins front left split fit (Some (log.Log fault)) h = absurd h
+  begins front left split fit (Some (log.Proof fault)) h = absurd h
+  begins front left split fit (Some (log.Motion n verdict)) h = absurd h
 
   -- it stops behind some lines
   pub stops_behind : (front left : List LogLine) → front ++ left ≡ lines → EachFits FitsTested (without_lines m) front → (old new : Option (List ℕ)) (stop : Stop) → new ≡ appended old (front_text m front) → IsToldOf (Ok input) old new (Err stop)

@@ -69,7 +69,7 @@ pub fn told<S: Surface>(
     ensures { IfOk result (λ found. found ≡ told number before (S.mesh mesh.now) line.now) }
 {
     if let LogLine::Mesh { k, .. } = line {
-        let genus = genus(alloc, mesh)?;
+        let genus = genus(alloc, mesh, shape.components, shape.euler)?;
         return Ok(Some(MeasureLine::Measure {
             k: *k,
             volume6: volume6(mesh),

@@ -1,13 +1,12 @@
 -- A replay of lines has one ending.
-use Rattle.std.proofs.Common.{◌≡◌, ◌⊎◌, inl, inr, ℕ, suc, ◌+◌, List, [], ◌∷◌, ◌++◌, length, Option, Some, None, Result, Ok, Err, refl, ap, sym, ◌∙◌, subst, arith}
+use Rattle.std.proofs.Common.{◌≡◌, inl, inr, ℕ, List, [], ◌∷◌, ◌++◌, length, Option, Some, None, Result, Ok, Err, refl, ap, sym, ◌∙◌, subst, arith}
 use Rattle.std.proofs.lemmas.List.{length-append}
 use Rattle.log_text.specs.declared.LogLine.{LogLine}
-use Rattle.log_text.specs.declared.Refusal.{Refusal}
 use Rattle.log_run.specs.States.{LogState, with_line, without_lines}
 use Rattle.track_replay.specs.declared.refusal.LogRefusal.{LogRefusal}
-use Rattle.track_replay.specs.declared.refusal.LogRefusal.TheVariants.{Input, Log, Replay}
+use Rattle.track_replay.specs.declared.refusal.LogRefusal.TheVariants.{Input, Log, Proof, Replay, Motion}
 use Rattle.track_replay.specs.LogJob.{LogInput}
-use Rattle.track_replay.specs.Taking.{with_lines, EachFits, IsFirstUnfit, HasNoLine, IsUnfitAt, AllFit}
+use Rattle.track_replay.specs.Taking.{with_lines, EachFits, IsFirstUnfit, IsUnfitAt, AllFit}
 use Rattle.track_replay.specs.Ending.{EndsBy}
 
 module _ (Fits : LogState → LogLine → Type 0) where
@@ -68,12 +67,18 @@ module _ (Fits : LogState → LogLine → Type 0) where
   of_input input None (Some (Replay n)) h k = absurd (fit_or_not (without_lines input.mesh) input.lines n h k)
   of_input input None (Some (Input why)) h k = absurd k
   of_input input None (Some (Log fault)) h k = absurd k
+  of_input input None (Some (Proof fault)) h k = absurd k
+  of_input input None (Some (Motion n verdict)) h k = absurd k
   of_input input (Some (Replay n)) None h k = absurd (fit_or_not (without_lines input.mesh) input.lines n k h)
   of_input input (Some (Replay m)) (Some (Replay n)) h k = ap (λ n. Some (Replay n)) (unfit_at (without_lines input.mesh) input.lines m n h k)
   of_input input (Some (Replay m)) (Some (Input why)) h k = absurd k
   of_input input (Some (Replay m)) (Some (Log fault)) h k = absurd k
+  of_input input (Some (Replay m)) (Some (Proof fault)) h k = absurd k
+  of_input input (Some (Replay m)) (Some (Motion n verdict)) h k = absurd k
   of_input input (Some (Input why)) b h k = absurd h
   of_input input (Some (Log fault)) b h k = absurd h
+  of_input input (Some (Proof fault)) b h k = absurd h
+  of_input input (Some (Motion n verdict)) b h k = absurd h
 
   pub one_ending : (input : Result LogInput LogRefusal) (a b : Option LogRefusal) → EndsBy Fits input a → EndsBy Fits input b → a ≡ b
   one_ending (Err why) a b h k = h ∙ sym k

@@ -1,5 +1,5 @@
 -- What is prepared, by what was fetched and read.
-use Rattle.std.proofs.Common.{◌≡◌, ℕ, ◌<◌, ◌≤◌, ◌^◌, List, [], ◌∷◌, ◌++◌, length, map, Option, Some, None, Result, Ok, Err, refl, ap, sym, ◌∙◌, subst, arith}
+use Rattle.std.proofs.Common.{Vec, Global, ◌≡◌, ℕ, ◌<◌, ◌≤◌, ◌^◌, List, [], ◌∷◌, length, Option, Some, None, Result, Ok, Err, refl, ap, sym, ◌∙◌, subst, arith}
 use Rattle.std.specs.Prelude.{◌↔◌, IsNone, IfOk}
 use Rattle.std.proofs.lemmas.List.{length-append, length-map}
 use Rattle.grid_base.specs.declared.NoMemory.{NoMemory}
@@ -10,7 +10,6 @@ use Rattle.mesh_base.specs.declared.FileWord.TheVariants as file
 use Rattle.mesh_base.specs.declared.PairName.{PairName}
 use Rattle.mesh_base.specs.declared.ShapeFault.{ShapeFault}
 use Rattle.mesh_base.specs.Mesh.{Mesh}
-use Rattle.mesh_base.specs.Given.{mesh_of}
 use Rattle.mesh_base.specs.Valid.{IsValidSurface}
 use Rattle.mesh_base.specs.Placements.{IsClearMesh}
 use Rattle.mesh_plain.specs.Shape.{shape_fault}
@@ -30,20 +29,23 @@ use Rattle.outside_io.specs.declared.outside.Fetched.{Fetched}
 use Rattle.outside_io.specs.declared.outside.Fetched.TheVariants as found
 use Rattle.outside_io.specs.Desk.{Files}
 use Rattle.track_input.specs.Fetched.{source_of}
-use Rattle.track_input.specs.Source.{Source, Bytes, Absent, TooLong, IsSource}
+use Rattle.track_input.specs.Source.{Bytes, Absent, TooLong, IsSource}
 use Rattle.track_input.specs.Words.{LogNames}
-use Rattle.track_input.specs.Job.{mesh_of_lists, met_first}
+use Rattle.track_input.specs.Job.{met_first}
 use Rattle.track_input.specs.Reading.{given, AreGood}
 use Rattle.track_input.proofs.Sources.{some_source}
 use Rattle.track_input.proofs.ReadLemmas.{same_mesh}
 use Rattle.track_replay.specs.declared.refusal.LogRefusal.{LogRefusal}
 use Rattle.track_replay.specs.declared.refusal.LogRefusal.TheVariants.{Input, Log}
+use Rattle.track_replay.specs.declared.preparing.FetchedLog.{FetchedLog}
+use Rattle.track_replay.specs.declared.preparing.FetchedLog.TheVariants as fetched
 use Rattle.track_replay.specs.declared.preparing.Texts.{Texts}
 use Rattle.track_replay.specs.declared.preparing.Texts.TheVariants as texts
 use Rattle.track_replay.specs.declared.preparing.Prepared.{Prepared}
 use Rattle.track_replay.specs.declared.preparing.Prepared.TheVariants as prepared
-use Rattle.track_replay.specs.LogJob.{LogJob, IsLogJob, TextsRead, LogInput, read_of_log, read_of_shape, read_of_lists, input_of_test, input_of_read, input_of}
-use Rattle.track_replay.specs.Preparing.{read_by, AreTextsGood, ReadsLines, ReadsTexts, input_by, IsPrepared, Tests, ReadsAndTests, PreparesLog}
+use Rattle.track_replay.specs.LogJob.{LogJob, IsLogJob, read_of_log, read_of_shape, read_of_lists, read_of_fetched, input_of_test, input_of_read}
+use Rattle.track_replay.specs.Fetching.{fetched_by, AreShort, FetchesLog}
+use Rattle.track_replay.specs.Preparing.{ReadsLines, ReadsTexts, Tests, ReadsAndTests, PreparesLog}
 
 -- ---- there are no more lines than bytes
 
@@ -51,7 +53,7 @@ few_in_text : (lines : List LogLine) → length lines ≤ length (text_of_lines 
 few_in_text [] = omega arith
 few_in_text (line ∷ lines) = omega (arith, few_in_text lines, text_of_line-some line, length-append (text_of_line line) (text_of_lines lines))
 
-few_lines : (log : List ℕ) (lines : List LogLine) → log_of log ≡ Ok lines → length log ≤ TEXT_MAX → length lines < 2 ^ 31
+pub few_lines : (log : List ℕ) (lines : List LogLine) → log_of log ≡ Ok lines → length log ≤ TEXT_MAX → length lines < 2 ^ 31
 few_lines log lines e small =
     let text : text_of_lines lines ≡ log = ((logs_are_their_lines_lem log lines).0 e).1 in
     omega (arith, few_in_text lines, ap length text)
@@ -136,46 +138,75 @@ module _ (files : Option Files) (names : LogNames) where
     record { decimals_are = refl; mesh = (some_source files names.mesh).1; log = (some_source files names.log).1 },
   )
 
-  pub prepares_absent : (f : Fetched) → f ≡ found.Absent → IsSource files names.mesh (source_of f) → PreparesLog files names (prepared.No (Input (refusal.Missing file.Mesh)))
-  prepares_absent f e h = record {
+  -- ---- what is fetched
+
+  pub fetches_absent : (f : Fetched) → f ≡ found.Absent → IsSource files names.mesh (source_of f) → FetchesLog files names (fetched.No (Input (refusal.Missing file.Mesh)))
+  fetches_absent f e h = record {
     job = record { decimals = names.decimals; mesh_file = Absent; log_file = (some_source files names.log).0 };
     is_job = record { decimals_are = refl; mesh = source_at files names.mesh f found.Absent e h; log = (some_source files names.log).1 };
-    input = refl;
-    ready = tt;
+    fetched = refl;
+    short = tt;
   }
 
-  pub prepares_long : (f : Fetched) (seen : ℕ) → f ≡ found.TooLong seen → IsSource files names.mesh (source_of f) → PreparesLog files names (prepared.No (Input (refusal.Long file.Mesh seen)))
-  prepares_long f seen e h = record {
+  pub fetches_long : (f : Fetched) (seen : ℕ) → f ≡ found.TooLong seen → IsSource files names.mesh (source_of f) → FetchesLog files names (fetched.No (Input (refusal.Long file.Mesh seen)))
+  fetches_long f seen e h = record {
     job = record { decimals = names.decimals; mesh_file = TooLong seen; log_file = (some_source files names.log).0 };
     is_job = record { decimals_are = refl; mesh = source_at files names.mesh f (found.TooLong seen) e h; log = (some_source files names.log).1 };
-    input = refl;
+    fetched = refl;
+    short = tt;
+  }
+
+  module _ (f g : Fetched) (mesh : Vec ℕ Global) (fe : f ≡ found.Bytes mesh) (fs : IsSource files names.mesh (source_of f)) (gs : IsSource files names.log (source_of g)) where
+    mesh_source : IsSource files names.mesh (Bytes mesh.items)
+    mesh_source = source_at files names.mesh f (found.Bytes mesh) fe fs
+
+    pub fetches_absent_log : g ≡ found.Absent → FetchesLog files names (fetched.No (Input (refusal.Missing file.Log)))
+    fetches_absent_log e = record {
+      job = record { decimals = names.decimals; mesh_file = Bytes mesh.items; log_file = Absent };
+      is_job = record { decimals_are = refl; mesh = mesh_source; log = source_at files names.log g found.Absent e gs };
+      fetched = refl;
+      short = tt;
+    }
+
+    pub fetches_long_log : (seen : ℕ) → g ≡ found.TooLong seen → FetchesLog files names (fetched.No (Input (refusal.Long file.Log seen)))
+    fetches_long_log seen e = record {
+      job = record { decimals = names.decimals; mesh_file = Bytes mesh.items; log_file = TooLong seen };
+      is_job = record { decimals_are = refl; mesh = mesh_source; log = source_at files names.log g (found.TooLong seen) e gs };
+      fetched = refl;
+      short = tt;
+    }
+
+    pub fetches_both : (log : Vec ℕ Global) → g ≡ found.Bytes log → FetchesLog files names (fetched.Yes mesh log)
+    fetches_both log e =
+        let log_source = source_at files names.log g (found.Bytes log) e gs in record {
+          job = record { decimals = names.decimals; mesh_file = Bytes mesh.items; log_file = Bytes log.items };
+          is_job = record { decimals_are = refl; mesh = mesh_source; log = log_source };
+          fetched = refl;
+          short = (mesh_source.0, log_source.0);
+        }
+
+  -- ---- what is prepared of it
+
+  pub prepares_refused : (f : FetchedLog) (why : LogRefusal) → f ≡ fetched.No why → FetchesLog files names f → PreparesLog files names (prepared.No why)
+  prepares_refused f why e h = record {
+    job = h.job;
+    is_job = h.is_job;
+    input = ap (λ r. input_of_read (read_of_fetched h.job.decimals r)) (h.fetched ∙ ap fetched_by e);
     ready = tt;
   }
 
-  module _ (f g : Fetched) (bytes : List ℕ) (fe : source_of f ≡ Bytes bytes) (fs : IsSource files names.mesh (source_of f)) (gs : IsSource files names.log (source_of g)) where
-    mesh_source : IsSource files names.mesh (Bytes bytes)
-    mesh_source = let P : Source → Type 0 = λ x. IsSource files names.mesh x in subst P fe fs
+  pub short_at : (f : FetchedLog) (mesh log : Vec ℕ Global) → f ≡ fetched.Yes mesh log → FetchesLog files names f → AreShort (fetched.Yes mesh log)
+  short_at f mesh log e h = subst AreShort e h.short
 
-    pub prepares_absent_log : g ≡ found.Absent → PreparesLog files names (prepared.No (Input (refusal.Missing file.Log)))
-    prepares_absent_log e = record {
-      job = record { decimals = names.decimals; mesh_file = Bytes bytes; log_file = Absent };
-      is_job = record { decimals_are = refl; mesh = mesh_source; log = source_at files names.log g found.Absent e gs };
-      input = refl;
-      ready = tt;
-    }
-
-    pub prepares_long_log : (seen : ℕ) → g ≡ found.TooLong seen → PreparesLog files names (prepared.No (Input (refusal.Long file.Log seen)))
-    prepares_long_log seen e = record {
-      job = record { decimals = names.decimals; mesh_file = Bytes bytes; log_file = TooLong seen };
-      is_job = record { decimals_are = refl; mesh = mesh_source; log = source_at files names.log g (found.TooLong seen) e gs };
-      input = refl;
-      ready = tt;
-    }
-
-    pub prepares_read : (log : List ℕ) → source_of g ≡ Bytes log → (r : Prepared) → ReadsAndTests names.decimals bytes log r → PreparesLog files names r
-    prepares_read log ge r reads = record {
-      job = record { decimals = names.decimals; mesh_file = Bytes bytes; log_file = Bytes log };
-      is_job = record { decimals_are = refl; mesh = mesh_source; log = (let P : Source → Type 0 = λ x. IsSource files names.log x in subst P ge gs) };
-      input = reads.input;
-      ready = reads.ready;
-    }
+  pub prepares_read : (f : FetchedLog) (mesh log : Vec ℕ Global) → f ≡ fetched.Yes mesh log → FetchesLog files names f → (m l : List ℕ) → m ≡ mesh.items → l ≡ log.items → (r : Prepared) → ReadsAndTests names.decimals m l r → PreparesLog files names r
+  prepares_read f mesh log e h m l me le r reads = record {
+    job = h.job;
+    is_job = h.is_job;
+    input =
+        ap (λ x. input_of_read (read_of_fetched h.job.decimals x)) (h.fetched ∙ ap fetched_by e)
+        ∙ ap (λ d. input_of_read (read_of_lists (lists_of d mesh.items) log.items)) h.is_job.decimals_are
+        ∙ ap (λ b. input_of_read (read_of_lists (lists_of names.decimals b) log.items)) (sym me)
+        ∙ ap (λ b. input_of_read (read_of_lists (lists_of names.decimals m) b)) (sym le)
+        ∙ reads.input;
+    ready = reads.ready;
+  }

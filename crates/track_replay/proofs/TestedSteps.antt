@@ -1,6 +1,6 @@
 -- Lines that are taken, a step's motion being tested.
-use Rattle.std.proofs.Common.{◌≡◌, ℕ, Bool, true, false, not, List, [], ◌∷◌, map, Result, Ok, Err, IfOk, refl, ap, sym, ◌∙◌, subst}
-use Rattle.std.specs.Prelude.{◌↔◌, ⊤, IsTrue, MatchBool}
+use Rattle.std.proofs.Common.{◌≡◌, Bool, true, false, not, List, [], ◌∷◌, map, Result, Ok, Err, IfOk, refl, ap, sym, ◌∙◌, subst}
+use Rattle.std.specs.Prelude.{◌↔◌, IsTrue, MatchBool}
 use Rattle.std.specs.List.{filter}
 use Rattle.std.proofs.lemmas.Bool.{false≢true}
 use Rattle.grid_base.specs.declared.NoMemory.{NoMemory}
@@ -16,13 +16,11 @@ use Rattle.mesh_base.specs.Shifts.{Shifts, moved_by}
 use Rattle.pair_scan.specs.Found.{has_none}
 use Rattle.log_text.specs.declared.LogLine.{LogLine}
 use Rattle.log_text.specs.declared.LogLine.TheVariants as line
-use Rattle.log_replay.specs.Moves.{AreMoves}
-use Rattle.log_replay.specs.Replay.{Replay}
 use Rattle.log_run.specs.States.{LogState, with_line}
 use Rattle.log_run.specs.Steps.{shifts_of}
-use Rattle.log_run.specs.Fits.{FitsLater, LineFits, MayBeTried}
-use Rattle.log_run.specs.Laws.{IsValidState, StepIsClear, FittingLinesAreSafe, ShiftsTell}
-use Rattle.track_replay.specs.Taking.{StepPasses, FitsTested}
+use Rattle.log_run.specs.Fits.{LineFits, MayBeTried}
+use Rattle.log_run.specs.Laws.{IsValidState, FittingLinesAreSafe, ShiftsTell}
+use Rattle.track_replay.specs.Taking.{FitsTested}
 use Rattle.track_replay.specs.Passing.{StepIsTested, StepGoes, GoesOn}
 
 -- ---- the test of a step

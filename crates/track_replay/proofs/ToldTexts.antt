@@ -1,5 +1,5 @@
 -- What is told, a text after another.
-use Rattle.std.proofs.Common.{◌≡◌, ℕ, ◌<◌, List, [], ◌∷◌, ◌++◌, length, take, Result, Ok, Err, refl, ap, sym, ◌∙◌, arith, codes, decimal}
+use Rattle.std.proofs.Common.{◌≡◌, ℕ, ◌<◌, List, [], ◌∷◌, length, Result, Ok, Err, sym, arith, codes, decimal}
 use Rattle.std.proofs.lemmas.List.{length-append}
 use Rattle.line_text.specs.WrittenLines.{line_of_words}
 use Rattle.log_text.specs.Lines.{why_word}
@@ -11,8 +11,8 @@ use Rattle.outside_io.specs.Outside.{Around, Puts, written_of}
 use Rattle.outside_io.proofs.Outsides.{nothing_unremembered, nothing_whole, nothing_stopped}
 use Rattle.outside_io.proofs.Written.{appended-nil}
 use Rattle.track_replay.specs.declared.refusal.LogRefusal.{LogRefusal}
-use Rattle.track_replay.specs.declared.refusal.LogRefusal.TheVariants.{Input, Log, Replay}
-use Rattle.track_replay.specs.Refused.{refused_text}
+use Rattle.track_replay.specs.declared.refusal.LogRefusal.TheVariants.{Input, Log, Proof, Replay, Motion}
+use Rattle.track_replay.specs.Refused.{refused_text, verdict_words}
 use Rattle.track_replay.specs.Telling.{Tells}
 
 -- ---- texts that are not empty
@@ -25,7 +25,9 @@ line_some word next words = omega (arith, length-append word (32 ∷ line_of_wor
 pub refused_some : (why : LogRefusal) → 0 < length (refused_text why)
 refused_some (Input why) = text_of_line-some (Refused why)
 refused_some (Log fault) = line_some (codes "refused") (codes "log") (decimal fault.line ∷ why_word fault.why ∷ [])
+refused_some (Proof fault) = line_some (codes "refused") (codes "proof") (decimal fault.line ∷ why_word fault.why ∷ [])
 refused_some (Replay line) = line_some (codes "refused") (codes "replay") (decimal line ∷ [])
+refused_some (Motion line verdict) = line_some (codes "refused") (codes "motion") (decimal line ∷ verdict_words verdict)
 
 -- ---- one text
 

@@ -1,5 +1,5 @@
 -- How a command ends that replays a log.
-use Rattle.std.specs.Prelude.{◌≡◌, ◌⊎◌, Option, Some, None, Result, Ok, Err}
+use Rattle.std.specs.Prelude.{◌≡◌, Option, Some, None, Result, Ok, Err}
 use Rattle.log_text.specs.declared.LogLine.{LogLine}
 use Rattle.log_run.specs.States.{LogState, without_lines}
 use Rattle.track_replay.specs.declared.refusal.LogRefusal.{LogRefusal}

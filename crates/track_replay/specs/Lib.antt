@@ -4,4 +4,5 @@ pub mod Ending
 pub mod Refused
 pub mod Telling
 pub mod Passing
+pub mod Fetching
 pub mod Preparing

@@ -29,6 +29,11 @@ pub record IsLogJob (files : Option Files) (names : LogNames) (job : LogJob) : T
   pub log : IsSource files names.log job.log_file
   pub decimals_are : job.decimals ≡ names.decimals
 
+-- the bytes of a mesh file and of the file of a log
+pub record BothTexts : Type 0 where
+  pub mesh : List ℕ
+  pub log : List ℕ
+
 -- what both texts give that are read without a fault: lists of good shape, and the lines of a log
 pub record TextsRead : Type 0 where
   pub lists : Lists
@@ -55,12 +60,21 @@ abbrev pub read_of_lists : Result Lists TextFault → List ℕ → Result TextsR
 read_of_lists (Err fault) log = Err (Input (refusal.Mesh fault))
 read_of_lists (Ok lists) log = read_of_shape lists (shape_fault (length lists.points) lists.faces) log
 
+-- the bytes of both files, or the first of the two that is missing or too long
+abbrev pub fetched_of : Source → Source → Result BothTexts LogRefusal
+fetched_of (TooLong seen) log = Err (Input (refusal.Long file.Mesh seen))
+fetched_of Absent log = Err (Input (refusal.Missing file.Mesh))
+fetched_of (Bytes mesh) (TooLong seen) = Err (Input (refusal.Long file.Log seen))
+fetched_of (Bytes mesh) Absent = Err (Input (refusal.Missing file.Log))
+fetched_of (Bytes mesh) (Bytes log) = Ok (record { mesh = mesh; log = log })
+
+-- the texts of bytes that were fetched
+abbrev pub read_of_fetched : ℕ → Result BothTexts LogRefusal → Result TextsRead LogRefusal
+read_of_fetched decimals (Err why) = Err why
+read_of_fetched decimals (Ok both) = read_of_lists (lists_of decimals both.mesh) both.log
+
 abbrev pub read_of_files : ℕ → Source → Source → Result TextsRead LogRefusal
-read_of_files decimals (TooLong seen) log = Err (Input (refusal.Long file.Mesh seen))
-read_of_files decimals Absent log = Err (Input (refusal.Missing file.Mesh))
-read_of_files decimals (Bytes mesh) (TooLong seen) = Err (Input (refusal.Long file.Log seen))
-read_of_files decimals (Bytes mesh) Absent = Err (Input (refusal.Missing file.Log))
-read_of_files decimals (Bytes mesh) (Bytes log) = read_of_lists (lists_of decimals mesh) log
+read_of_files decimals mesh log = read_of_fetched decimals (fetched_of mesh log)
 
 -- the texts of a job
 abbrev pub read_of : LogJob → Result TextsRead LogRefusal

@@ -8,6 +8,6 @@ mod refusal;
 mod telling;
 
 pub use following::take_tested;
-pub use preparing::{Prepared, prepare_log};
+pub use preparing::{FetchedLog, Prepared, Texts, fetch_log, prepare_log, read_texts, test_mesh};
 pub use refusal::LogRefusal;
 pub use telling::{put_text, refuse};

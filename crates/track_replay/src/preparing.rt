@@ -4,6 +4,7 @@ ghost use Rattle.grid_base.specs.declared.TheConstants.{TEXT_MAX, DECIMALS_MAX};
 ghost use Rattle.outside_io.specs.Outside.{OnlyLooks};
 ghost use Rattle.track_input.specs.Named.{log_names};
 ghost use Rattle.track_input.specs.Reading.{AreGood};
+ghost use Rattle.track_replay.specs.Fetching.{FetchesLog};
 ghost use Rattle.track_replay.specs.Preparing.{ReadsLines, ReadsTexts, Tests, ReadsAndTests, PreparesLog};
 
 use crate::refusal::LogRefusal;
@@ -18,12 +19,21 @@ use pair_scan::first_meeting;
 use std::alloc::Global;
 use track_input::{LogFiles, fetch_text};
 
-// What two texts give.
+/// The bytes of a mesh file and of the file of a log, or a refusal.
 #[derive(Drop)]
-enum Texts {
-    // The first refusal that applies.
+pub enum FetchedLog {
+    /// The first of the two that is missing or longer than a text may be.
     No(LogRefusal),
-    // Lists of good shape, and the lines of a log.
+    /// The bytes of the mesh file, and those of the log.
+    Yes(Vec<u8>, Vec<u8>),
+}
+
+/// What the texts of a mesh and of a log give.
+#[derive(Drop)]
+pub enum Texts {
+    /// The first refusal that applies: the mesh's text, its shape, the log's text.
+    No(LogRefusal),
+    /// Lists of good shape, and the lines of the log.
     Yes(MeshLists, Log),
 }
 
@@ -49,8 +59,9 @@ fn read_lines(alloc: Global, lists: MeshLists, log: &[u8]) -> Result<Texts, NoMe
     }
 }
 
-// Reads both texts.
-fn read_texts(alloc: Global, decimals: u8, mesh: &[u8], log: &[u8]) -> Result<Texts, NoMemory>
+/// Reads the text of a mesh, the points with so many decimals, tests the shape of its lists, and reads the text of a log. NoMemory at any
+/// texts.
+pub fn read_texts(alloc: Global, decimals: u8, mesh: &[u8], log: &[u8]) -> Result<Texts, NoMemory>
     requires few { decimals ≤ DECIMALS_MAX }
     requires mesh_length { length mesh.now ≤ TEXT_MAX }
     requires log_length { length log.now ≤ TEXT_MAX }
@@ -72,8 +83,9 @@ fn read_texts(alloc: Global, decimals: u8, mesh: &[u8], log: &[u8]) -> Result<Te
     }
 }
 
-// The mesh is tested for a pair that meets.
-fn test_mesh(alloc: Global, lists: &MeshLists, lines: Log) -> Result<Prepared, NoMemory>
+/// Tests the mesh of lists for an edge and a face that meet and share no vertex: the refusal of the first of them, or the mesh and the lines.
+/// NoMemory at any lists.
+pub fn test_mesh(alloc: Global, lists: &MeshLists, lines: Log) -> Result<Prepared, NoMemory>
     requires good { AreGood lists.now }
     ensures { IfOk result (Tests lists.now lines) }
 {
@@ -97,6 +109,42 @@ fn read_and_test(alloc: Global, decimals: u8, mesh: &[u8], log: &[u8]) -> Result
     }
 }
 
+/// Fetches a mesh file and then the file of a log, each of at most the greatest length of a text. Nothing is written or stored.
+pub fn fetch_log<O: Outside>(
+    alloc: Global,
+    files: LogFiles<'_>,
+    outside: &mut O,
+) -> Result<FetchedLog, Stop>
+    ensures fetches { let held = (O.around outside.old).world.holds.files in
+        IfOk result (FetchesLog held (log_names files.entry)) }
+    ensures looks { OnlyLooks (O.around outside.old) (O.around outside.new) result }
+{
+    let mesh = match fetch_text(alloc, outside, files.mesh)? {
+        Fetched::Bytes(bytes) => bytes,
+        Fetched::Absent => {
+            return Ok(FetchedLog::No(LogRefusal::Input(Refusal::Missing {
+                file: FileWord::Mesh,
+            })));
+        }
+        Fetched::TooLong(seen) => {
+            return Ok(FetchedLog::No(LogRefusal::Input(Refusal::Long {
+                file: FileWord::Mesh,
+                seen,
+            })));
+        }
+    };
+    match fetch_text(alloc, outside, files.log)? {
+        Fetched::Bytes(log) => Ok(FetchedLog::Yes(mesh, log)),
+        Fetched::Absent => Ok(FetchedLog::No(LogRefusal::Input(Refusal::Missing {
+            file: FileWord::Log,
+        }))),
+        Fetched::TooLong(seen) => Ok(FetchedLog::No(LogRefusal::Input(Refusal::Long {
+            file: FileWord::Log,
+            seen,
+        }))),
+    }
+}
+
 /// Fetches and reads a mesh file and the file of a log, the points with so many decimals, and tests the mesh for an edge and a face that
 /// meet and share no vertex. Both files are fetched before a text is read, the mesh file first. Nothing is written or stored.
 pub fn prepare_log<O: Outside>(
@@ -109,33 +157,8 @@ pub fn prepare_log<O: Outside>(
         IfOk result (PreparesLog held (log_names files.entry)) }
     ensures looks { OnlyLooks (O.around outside.old) (O.around outside.new) result }
 {
-    let mesh = match fetch_text(alloc, outside, files.mesh)? {
-        Fetched::Bytes(bytes) => bytes,
-        Fetched::Absent => {
-            return Ok(Prepared::No(LogRefusal::Input(Refusal::Missing {
-                file: FileWord::Mesh,
-            })));
-        }
-        Fetched::TooLong(seen) => {
-            return Ok(Prepared::No(LogRefusal::Input(Refusal::Long {
-                file: FileWord::Mesh,
-                seen,
-            })));
-        }
-    };
-    let log = match fetch_text(alloc, outside, files.log)? {
-        Fetched::Bytes(bytes) => bytes,
-        Fetched::Absent => {
-            return Ok(Prepared::No(LogRefusal::Input(Refusal::Missing {
-                file: FileWord::Log,
-            })));
-        }
-        Fetched::TooLong(seen) => {
-            return Ok(Prepared::No(LogRefusal::Input(Refusal::Long {
-                file: FileWord::Log,
-                seen,
-            })));
-        }
-    };
-    Ok(read_and_test(alloc, files.decimals, &mesh, &log)?)
+    match fetch_log(alloc, files, outside)? {
+        FetchedLog::No(why) => Ok(Prepared::No(why)),
+        FetchedLog::Yes(mesh, log) => Ok(read_and_test(alloc, files.decimals, &mesh, &log)?),
+    }
 }

@@ -1,14 +1,16 @@
 //! Lines that a command tells.
 ghost use Rattle.std.specs.Prelude.{◌≡◌, ◌<◌, ◌∷◌, [], codes, decimal, length, Some, IfOk, OnErr};
 ghost use Rattle.line_text.specs.WrittenLines.{Appends, line_of_words};
-ghost use Rattle.log_text.specs.Lines.{why_word};
-ghost use Rattle.track_replay.specs.Refused.{refused_text};
+ghost use Rattle.log_text.specs.Lines.{why_word, pair_words};
+ghost use Rattle.track_replay.specs.Refused.{refused_text, motion_text, verdict_words};
 ghost use Rattle.track_replay.specs.Telling.{Tells};
 
 use crate::refusal::LogRefusal;
 use grid_base::NoMemory;
 use line_text::{Field, TextFault, TextWhy, put_line};
 use log_text::{LogLine, print_line};
+use mesh_plain::PairName;
+use motion_proof::Verdict;
 use outside_io::{Outside, Stop};
 use std::alloc::Global;
 
@@ -44,6 +46,21 @@ fn print_log(fault: TextFault, into: &mut Vec<u8>) -> Result<(), NoMemory>
     )
 }
 
+// Appends the line that refuses a line of a proof for its spelling.
+fn print_proof_fault(fault: TextFault, into: &mut Vec<u8>) -> Result<(), NoMemory>
+    ensures ok { Appends result into.old into.new (refused_text (LogRefusal.Proof fault)) }
+{
+    put_line(
+        &[
+            Field::Text(b"refused"),
+            Field::Text(b"proof"),
+            Field::Number(u64::from(fault.line)),
+            Field::Text(why_word(fault.why)),
+        ],
+        into,
+    )
+}
+
 // Appends the line that refuses a line of a log that does not fit.
 fn print_replay(line: u32, into: &mut Vec<u8>) -> Result<(), NoMemory>
     ensures ok { Appends result into.old into.new (refused_text (LogRefusal.Replay line)) }
@@ -58,6 +75,52 @@ fn print_replay(line: u32, into: &mut Vec<u8>) -> Result<(), NoMemory>
     )
 }
 
+// Appends the line that refuses a motion, and the word that says why.
+fn print_word(line: u32, word: &[u8], into: &mut Vec<u8>) -> Result<(), NoMemory>
+    ensures ok { Appends result into.old into.new (motion_text line (word.now ∷ [])) }
+{
+    put_line(
+        &[
+            Field::Text(b"refused"),
+            Field::Text(b"motion"),
+            Field::Number(u64::from(line)),
+            Field::Text(word),
+        ],
+        into,
+    )
+}
+
+// Appends the line that refuses a motion, the word that says why, and the pair of which it is said.
+fn print_pair(line: u32, word: &[u8], pair: PairName, into: &mut Vec<u8>) -> Result<(), NoMemory>
+    ensures ok { Appends result into.old into.new (motion_text line (word.now ∷ pair_words pair)) }
+{
+    put_line(
+        &[
+            Field::Text(b"refused"),
+            Field::Text(b"motion"),
+            Field::Number(u64::from(line)),
+            Field::Text(word),
+            Field::Number(u64::from(pair.a.0)),
+            Field::Number(u64::from(pair.b.0)),
+            Field::Number(u64::from(pair.face.0)),
+        ],
+        into,
+    )
+}
+
+// Appends the line that refuses a motion.
+fn print_motion(line: u32, verdict: Verdict, into: &mut Vec<u8>) -> Result<(), NoMemory>
+    ensures ok { Appends result into.old into.new (motion_text line (verdict_words verdict)) }
+{
+    match verdict {
+        Verdict::Accepted => print_word(line, b"accepted", into),
+        Verdict::NoMotion => print_word(line, b"nomotion", into),
+        Verdict::Stranger(pair) => print_pair(line, b"stranger", pair, into),
+        Verdict::Invalid(pair) => print_pair(line, b"invalid", pair, into),
+        Verdict::Missing(pair) => print_pair(line, b"missing", pair, into),
+    }
+}
+
 // Appends the line of a refusal.
 fn print_refusal(why: &LogRefusal, into: &mut Vec<u8>) -> Result<(), NoMemory>
     ensures ok { Appends result into.old into.new (refused_text why.now) }
@@ -65,7 +128,9 @@ fn print_refusal(why: &LogRefusal, into: &mut Vec<u8>) -> Result<(), NoMemory>
     match why {
         LogRefusal::Input(why) => print_line(&LogLine::Refused(*why), into),
         LogRefusal::Log(fault) => print_log(*fault, into),
+        LogRefusal::Proof(fault) => print_proof_fault(*fault, into),
         LogRefusal::Replay { line } => print_replay(*line, into),
+        LogRefusal::Motion { line, verdict } => print_motion(*line, *verdict, into),
     }
 }
 

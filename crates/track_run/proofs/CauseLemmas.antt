@@ -197,6 +197,8 @@ module _ (answers : Answers) (job : Job) where
   cause_ends (outcome.MeshMeets pair) h = inl (refused_as (refusal.Meets pair) (steps_told h.0 h.1 h.2 ∙ ap (log_of_test answers (mesh_of_lists h.0) h.1) h.3.found))
   cause_ends (outcome.LogText fault) h = absurd h
   cause_ends (outcome.LogUse line) h = absurd h
+  cause_ends (outcome.ProofText fault) h = absurd h
+  cause_ends (outcome.ProofBad line verdict) h = absurd h
   cause_ends outcome.Usage h = absurd h
   cause_ends outcome.NoMemory h = inr tt
   cause_ends outcome.DeskFault h = inr tt

@@ -47,6 +47,8 @@ stopped_by (outcome.StepUse line why) s = absurd s
 stopped_by (outcome.Missing f) s = absurd s
 stopped_by (outcome.LogText f) s = absurd s
 stopped_by (outcome.LogUse line) s = absurd s
+stopped_by (outcome.ProofText fault) s = absurd s
+stopped_by (outcome.ProofBad line verdict) s = absurd s
 
 module _ (fields : Known) (mesh_name step_name : List ℕ) (to : Target) (result : Outcome) (old new : World) (run : TracksCommand fields mesh_name step_name to result old new) (lawful : IsLawful fields run.job) (none : NoneFailed old new) where
   abbrev IsEnd : Type 0

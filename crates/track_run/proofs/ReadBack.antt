@@ -23,7 +23,7 @@ use Rattle.outside_io.specs.Desk.{Files}
 use Rattle.track_input.specs.Source.{Source, Bytes, Absent, TooLong, IsSource}
 use Rattle.track_input.specs.Job.{Job, Input, IsJob, input_of, mesh_of_lists, met_first}
 use Rattle.track_engine.specs.Answers.{Answers}
-use Rattle.track_run.specs.Job.{log_of, log_of_input, log_of_test}
+use Rattle.track_run.specs.Job.{log_of_input, log_of_test}
 use Rattle.track_run.specs.Headline.{IsReadBack}
 
 -- the only line

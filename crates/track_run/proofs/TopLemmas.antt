@@ -20,8 +20,6 @@ use Rattle.outside_io.specs.Sink.{appended, AppendsPart}
 use Rattle.log_write.specs.Written.{Says, Written}
 use Rattle.mesh_make.specs.Cubes.{IsRow}
 use Rattle.track_input.specs.declared.command.TheConstants.{CUBES_MAX}
-use Rattle.grid_base.specs.declared.TheConstants.{DECIMALS_MAX}
-use Rattle.track_input.specs.declared.command.LogFiles.{LogFiles}
 use Rattle.track_input.specs.declared.command.Command.{Command}
 use Rattle.track_input.specs.declared.command.Command.TheVariants as command
 use Rattle.track_input.specs.Taken.{IsReading}
@@ -340,11 +338,10 @@ run_ends fields mesh_name step_name to old new result ended e causes t = record 
   faults = (let P : Outcome → Type 0 = λ o. FaultsAreCounted old new o in subst P (sym e) (faults_counted old new ended causes));
 }
 
--- ---- a log
+-- ---- what the words of a command tell is within the limits
 
--- the words of a command that reads a log tell few enough decimals
-pub are_few : (o : Option Command) (f : Command) (files : LogFiles) → o ≡ Some f → f ≡ command.Measure files → IfSome o IsInLimits → files.decimals ≤ DECIMALS_MAX
-are_few o f files some is few =
+pub limits_of : (o : Option Command) (f g : Command) → o ≡ Some f → f ≡ g → IfSome o IsInLimits → IsInLimits g
+limits_of o f g some is few =
     let P : Option Command → Type 0 = λ x. IfSome x IsInLimits in
     subst P (some ∙ ap Some is) few
 
@@ -353,8 +350,7 @@ are_few o f files some is few =
 -- the words of a try tell few enough cubes in a row
 pub is_row : (o : Option Command) (f : Command) (cubes key : ℕ) → o ≡ Some f → f ≡ command.Try cubes key → IfSome o IsInLimits → IsRow cubes
 is_row o f cubes key some is few =
-    let P : Option Command → Type 0 = λ x. IfSome x IsInLimits in
-    let limits : (1 ≤ cubes) × (cubes ≤ CUBES_MAX) = subst P (some ∙ ap Some is) few in
+    let limits : (1 ≤ cubes) × (cubes ≤ CUBES_MAX) = limits_of o f (command.Try cubes key) some is few in
     record { some = limits.0; few = limits.1 }
 
 -- the sink is at fault only where its count rose

@@ -95,6 +95,8 @@ Cause job answers (outcome.StepUse line why) = (lists : Lists) × (directives : 
 Cause job answers (outcome.MeshMeets pair) = (lists : Lists) × (directives : List Placed) × HasSteps job lists directives × MeetsFirst (mesh_of_lists lists) pair
 Cause job answers (outcome.LogText fault) = ⊥
 Cause job answers (outcome.LogUse line) = ⊥
+Cause job answers (outcome.ProofText fault) = ⊥
+Cause job answers (outcome.ProofBad line verdict) = ⊥
 -- no job is of words that name none
 Cause job answers outcome.Usage = ⊥
 -- these stop a run, whatever its job

@@ -12,13 +12,14 @@ use Rattle.outside_io.specs.Causes.{Rose}
 use Rattle.outside_io.specs.Sink.{appended, AppendsPart}
 use Rattle.track_convert.specs.Headline.{Converts}
 use Rattle.track_try.specs.Summary.{summary_of}
-use Rattle.track_input.specs.Words.{MeshName, LogNames, Named, Track, Convert, Try, Measure}
+use Rattle.track_input.specs.Words.{MeshName, LogNames, ProofNames, Named, Track, Convert, Try, Measure, Prove, Verify}
 use Rattle.track_input.specs.Taken.{IsReading}
 use Rattle.track_input.specs.Job.{Job, IsJob, input_of}
 use Rattle.outside_io.specs.declared.stop.Stop.{Stop}
 use Rattle.outside_io.specs.declared.stop.Stop.TheVariants.{DeskFault}
 use Rattle.track_replay.specs.declared.LogRefusal.{LogRefusal}
 use Rattle.track_measure.specs.Headline.{Measures}
+use Rattle.track_prove.specs.Headline.{Proves, Verifies}
 use Rattle.track_engine.specs.State.{State, standing}
 use Rattle.track_engine.specs.Answers.{Answer, Answers}
 use Rattle.track_engine.specs.Answered.{Known}
@@ -128,6 +129,18 @@ pub record MeasuresCommand (names : LogNames) (result : Outcome) (old new : Worl
   pub outcome_is : result ≡ outcome_by_log ended
   pub measures : Measures names ended old new
 
+-- the motions of the log of the one file are proved, from the mesh of the other on; the parts are explained where `Proves` stands
+pub record ProvesCommand (names : LogNames) (result : Outcome) (old new : World) : Type 0 where
+  pub ended : Result (Option LogRefusal) Stop
+  pub outcome_is : result ≡ outcome_by_log ended
+  pub proves : Proves names ended old new
+
+-- the proof of the third file is checked, of the motions of that log; the parts are explained where `Verifies` stands
+pub record VerifiesCommand (names : ProofNames) (result : Outcome) (old new : World) : Type 0 where
+  pub ended : Result (Option LogRefusal) Stop
+  pub outcome_is : result ≡ outcome_by_log ended
+  pub verifies : Verifies names ended old new
+
 -- a run for a command with these stored fields and this sizing, or for none: then nothing is done
 abbrev pub Runs : Known → Option Named → Outcome → World → World → Type 0
 Runs fields None result old new = (result ≡ outcome.Usage) × (new ≡ old)
@@ -136,6 +149,8 @@ Runs fields (Some (Track mesh steps prefix decimals)) result old new =
 Runs fields (Some (Convert from to decimals)) result old new = ConvertsCommand from to decimals result old new
 Runs fields (Some (Try cubes key)) result old new = TriesCommand cubes key result old new
 Runs fields (Some (Measure names)) result old new = MeasuresCommand names result old new
+Runs fields (Some (Prove names)) result old new = ProvesCommand names result old new
+Runs fields (Some (Verify names)) result old new = VerifiesCommand names result old new
 
 -- a run for what the words are read as: a command, or none where they are of no listed form
 pub record RunsReading (fields : Known) (words : List (List ℕ)) (result : Outcome) (old new : World) : Type 0 where

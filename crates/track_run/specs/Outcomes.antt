@@ -41,7 +41,9 @@ abbrev pub outcome_of_log : Option LogRefusal → Outcome
 outcome_of_log None = outcome.Done
 outcome_of_log (Some (log.Input why)) = outcome_of (Some why)
 outcome_of_log (Some (log.Log fault)) = outcome.LogText fault
+outcome_of_log (Some (log.Proof fault)) = outcome.ProofText fault
 outcome_of_log (Some (log.Replay line)) = outcome.LogUse line
+outcome_of_log (Some (log.Motion line verdict)) = outcome.ProofBad line verdict
 
 -- how such a command ended: with its last line, or stopped before that
 abbrev pub outcome_by_log : Result (Option LogRefusal) Stop → Outcome

@@ -18,3 +18,5 @@ status_of (outcome.StepUse line why) = 10
 status_of (outcome.Missing file) = 11
 status_of (outcome.LogText fault) = 12
 status_of (outcome.LogUse line) = 13
+status_of (outcome.ProofText fault) = 14
+status_of (outcome.ProofBad line verdict) = 15

@@ -1,5 +1,6 @@
 use line_text::TextFault;
 use mesh_plain::{FileWord, PairName, ShapeFault, UseWhy};
+use motion_proof::Verdict;
 
 /// How a run ended.
 #[derive(Clone, Copy, Debug, PartialEq, Eq)]
@@ -32,6 +33,11 @@ pub enum Outcome {
     LogText(TextFault),
     /// The log's first line that does not fit the lines before it.
     LogUse { line: u32 },
+    /// The proof's first line that is outside its grammar.
+    ProofText(TextFault),
+    /// What is found against the motion of a line of the log; or, with the verdict that it is no motion, the number of a motion of the
+    /// proof that no line of the log tells.
+    ProofBad { line: u32, verdict: Verdict },
 }
 
 impl Outcome {
@@ -57,6 +63,8 @@ impl Outcome {
             Outcome::Missing { .. } => 11,
             Outcome::LogText(_) => 12,
             Outcome::LogUse { .. } => 13,
+            Outcome::ProofText(_) => 14,
+            Outcome::ProofBad { .. } => 15,
         }
     }
 }

@@ -2,7 +2,7 @@
 use std::alloc::Global;
 use std::process::Abort;
 use std::test::Fail;
-use track_input::{Command, command_of};
+use track_input::{Command, LogFiles, command_of};
 
 fn words_of(alloc: Global, words: &[&str]) -> Result<Vec<String>, Fail> {
     let mut all = Vec::new(alloc);
@@ -31,6 +31,17 @@ fn read(alloc: Global, words: &[&str]) -> Result<String, Fail> {
         Some(Command::Measure(files)) => {
             format!(in alloc; "measure {} {} {}", files.mesh, files.log, files.decimals)?
         }
+        Some(Command::Prove(files)) => {
+            format!(in alloc; "prove {} {} {}", files.mesh, files.log, files.decimals)?
+        }
+        Some(Command::Verify(given)) => {
+            let LogFiles {
+                mesh,
+                log,
+                decimals,
+            } = given.files;
+            format!(in alloc; "verify {mesh} {log} {} {decimals}", given.proof)?
+        }
         None => String::from_str(alloc, "none")?,
     })
 }
@@ -57,6 +68,11 @@ fn words_are_read_as_commands(rt: HostRuntime) -> Result<(), Fail> {
     is_read(&rt, alloc, &["measure", "m", "l"], "measure m l 0")?;
     let words = ["measure", "m", "l", "--decimals", "3"];
     is_read(&rt, alloc, &words, "measure m l 3")?;
+    is_read(&rt, alloc, &["prove", "m", "l"], "prove m l 0")?;
+    let words = ["verify", "m", "l", "p"];
+    is_read(&rt, alloc, &words, "verify m l p 0")?;
+    let words = ["verify", "m", "l", "p", "--decimals", "3"];
+    is_read(&rt, alloc, &words, "verify m l p 3")?;
     // Words that are taken as these.
     let words = ["track", "--decimals", "3", "m", "s", "p"];
     is_read(&rt, alloc, &words, "track m s p 3")?;
@@ -70,7 +86,7 @@ fn words_are_read_as_commands(rt: HostRuntime) -> Result<(), Fail> {
 #[test]
 fn words_of_no_form_are_no_command(rt: HostRuntime) -> Result<(), Fail> {
     let alloc = rt.alloc();
-    let table: [&[&str]; 23] = [
+    let table: [&[&str]; 26] = [
         &[],
         &["track"],
         &["Track", "m", "s", "p"],
@@ -87,6 +103,9 @@ fn words_of_no_form_are_no_command(rt: HostRuntime) -> Result<(), Fail> {
         &["measure", "m"],
         &["measure", "m", "-l"],
         &["measure", "m", "l", "p"],
+        &["prove", "m", "l", "p"],
+        &["verify", "m", "l"],
+        &["verify", "m", "l", "p", "q"],
         &["try", "2"],
         &["try", "0", "1"],
         &["try", "13", "1"],

@@ -1,5 +1,5 @@
 use Rattle.std.proofs.Common.{codes}
-use Rattle.track_input.proofs.Readings.{begin, reads_track, reads_convert, reads_try, reads_measure, unlisted}
+use Rattle.track_input.proofs.Readings.{begin, reads_track, reads_convert, reads_try, reads_measure, reads_prove, reads_verify, unlisted}
 use Rattle.track_input.proofs.command.command_of.Goals as goal
 
 pub returns-in-track-clause-read : goal.returns-in-track-clause-read
@@ -14,6 +14,12 @@ returns-in-try-clause-read c = reads_try _ c.try_in.result (begin (codes "try") 
 pub returns-in-measure-clause-read : goal.returns-in-measure-clause-read
 returns-in-measure-clause-read c = reads_measure _ c.measure_in.result (begin (codes "measure") c.args.words.now c.in-Some.first.now c.as_str.result.now c.in-Some.ensures.value c.as_str.ensures.value c.in-measure.is) c.measure_in.ensures.read
 
+pub returns-in-prove-clause-read : goal.returns-in-prove-clause-read
+returns-in-prove-clause-read c = reads_prove _ c.prove_in.result (begin (codes "prove") c.args.words.now c.in-Some.first.now c.as_str.result.now c.in-Some.ensures.value c.as_str.ensures.value c.in-prove.is) c.prove_in.ensures.read
+
+pub returns-in-verify-clause-read : goal.returns-in-verify-clause-read
+returns-in-verify-clause-read c = reads_verify _ c.verify_in.result (begin (codes "verify") c.args.words.now c.in-Some.first.now c.as_str.result.now c.in-Some.ensures.value c.as_str.ensures.value c.in-verify.is) c.verify_in.ensures.read
+
 pub returns-in_default-as_str-clause-read : goal.returns-in_default-as_str-clause-read
 returns-in_default-as_str-clause-read c =
-    unlisted c.args.words.now c.in-Some.first.now c.as_str.result.now c.in-Some.ensures.value c.as_str.ensures.value c.in_default-as_str.not-track c.in_default-as_str.not-convert c.in_default-as_str.not-try c.in_default-as_str.not-measure
+    unlisted c.args.words.now c.in-Some.first.now c.as_str.result.now c.in-Some.ensures.value c.as_str.ensures.value c.in_default-as_str.not-track c.in_default-as_str.not-convert c.in_default-as_str.not-try c.in_default-as_str.not-measure c.in_default-as_str.not-prove c.in_default-as_str.not-verify

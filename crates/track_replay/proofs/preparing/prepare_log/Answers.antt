@@ -1,30 +1,11 @@
-use Rattle.std.proofs.Common.{ap, sym, ◌∙◌, subst}
-use Rattle.outside_io.specs.World.{Contents}
-use Rattle.track_input.specs.Fetched.{source_of}
 use Rattle.track_input.specs.Named.{log_names}
-use Rattle.track_input.specs.Source.{IsSource, Bytes}
-use Rattle.track_replay.proofs.PrepareLemmas.{prepares_absent, prepares_long, prepares_absent_log, prepares_long_log, prepares_read}
+use Rattle.track_replay.proofs.PrepareLemmas.{prepares_refused, prepares_read}
 use Rattle.track_replay.proofs.preparing.prepare_log.Goals as goal
 
-pub returns-in-Absent-clause-prepares : goal.returns-in-Absent-clause-prepares
-returns-in-Absent-clause-prepares g c = prepares_absent _ (log_names c.args.files) c.in_ok-bytes.field-0 c.in-Absent.is c.in_ok-bytes.ensures.source
+pub returns-in-No-clause-prepares : goal.returns-in-No-clause-prepares
+returns-in-No-clause-prepares g c = prepares_refused _ (log_names c.args.files) c.in_ok-why.field-0 c.in-No.why c.in-No.is c.in_ok-why.ensures.fetches
 
-pub returns-in-TooLong-clause-prepares : goal.returns-in-TooLong-clause-prepares
-returns-in-TooLong-clause-prepares g c = prepares_long _ (log_names c.args.files) c.in_ok-bytes.field-0 c.in-TooLong.seen c.in-TooLong.is c.in_ok-bytes.ensures.source
-
-pub returns-in-Absent-2-clause-prepares : goal.returns-in-Absent-2-clause-prepares
-returns-in-Absent-2-clause-prepares g c =
-    let P : Contents → Type 0 = λ holds. IsSource holds.files c.args.files.log.now (source_of c.in_ok-bytes-2.field-0) in
-    prepares_absent_log _ (log_names c.args.files) c.in_ok-bytes.field-0 c.in_ok-bytes-2.field-0 c.in-Bytes.bytes.items (ap source_of c.in-Bytes.is) c.in_ok-bytes.ensures.source (subst P c.in_ok-bytes.ensures.looks.kept c.in_ok-bytes-2.ensures.source) c.in-Absent-2.is
-
-pub returns-in-TooLong-2-clause-prepares : goal.returns-in-TooLong-2-clause-prepares
-returns-in-TooLong-2-clause-prepares g c =
-    let P : Contents → Type 0 = λ holds. IsSource holds.files c.args.files.log.now (source_of c.in_ok-bytes-2.field-0) in
-    prepares_long_log _ (log_names c.args.files) c.in_ok-bytes.field-0 c.in_ok-bytes-2.field-0 c.in-Bytes.bytes.items (ap source_of c.in-Bytes.is) c.in_ok-bytes.ensures.source (subst P c.in_ok-bytes.ensures.looks.kept c.in_ok-bytes-2.ensures.source) c.in-TooLong-2.seen c.in-TooLong-2.is
-
-pub returns-clause-prepares : goal.returns-clause-prepares
-returns-clause-prepares g c =
-    let P : Contents → Type 0 = λ holds. IsSource holds.files c.args.files.log.now (source_of c.in_ok-bytes-2.field-0) in
-    prepares_read _ (log_names c.args.files) c.in_ok-bytes.field-0 c.in_ok-bytes-2.field-0 c.deref.result.now
-    (ap source_of c.in-Bytes.is ∙ ap Bytes (sym c.deref.ensures.value)) c.in_ok-bytes.ensures.source (subst P c.in_ok-bytes.ensures.looks.kept c.in_ok-bytes-2.ensures.source)
-    c.deref-2.result.now (ap source_of c.in-Bytes-2.is ∙ ap Bytes (sym c.deref-2.ensures.value)) c.in_ok-read_and_test.field-0 c.in_ok-read_and_test.ensures
+pub returns-in_ok-read_and_test-in-Yes-clause-prepares : goal.returns-in_ok-read_and_test-in-Yes-clause-prepares
+returns-in_ok-read_and_test-in-Yes-clause-prepares g c =
+    prepares_read _ (log_names c.args.files) c.in_ok-why.field-0 c.in-Yes.mesh c.in-Yes.log c.in-Yes.is c.in_ok-why.ensures.fetches
+    c.deref.result.now c.deref-in-Yes.result.now c.deref.ensures.value c.deref-in-Yes.ensures.value c.in_ok-read_and_test-in-Yes.field-0 c.in_ok-read_and_test-in-Yes.ensures

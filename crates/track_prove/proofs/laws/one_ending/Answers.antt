@@ -1,0 +1,8 @@
+use Rattle.track_prove.proofs.Endings.{one_proved, one_verified}
+use Rattle.track_prove.proofs.laws.one_ending.Goals as goal
+
+pub returns-clause-proves : goal.returns-clause-proves
+returns-clause-proves c = one_proved
+
+pub returns-clause-verifies : goal.returns-clause-verifies
+returns-clause-verifies c = one_verified

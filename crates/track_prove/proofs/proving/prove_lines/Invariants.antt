@@ -1,0 +1,8 @@
+use Rattle.std.proofs.Common.{drop}
+use Rattle.mesh_journal.specs.Journal.{mesh_in}
+use Rattle.track_prove.proofs.ProvedLines.{Proving}
+use Rattle.track_prove.proofs.proving.prove_lines.Given as goal
+
+-- the lines so far stand, and each of their motions has its certificate
+abbrev pub invariant-loop-line : goal.invariant-loop-line
+invariant-loop-line l = Proving (mesh_in l.fn.mesh) l.lines (drop l.line-index l.lines) l.run l.number l.proofs

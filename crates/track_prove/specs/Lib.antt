@@ -1,0 +1,6 @@
+pub mod Judged
+pub mod Proving
+pub mod Verifying
+pub mod Headline
+pub mod Taking
+pub mod Doing
