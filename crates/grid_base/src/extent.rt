@@ -16,15 +16,16 @@ pub struct Extent {
 
 impl Extent {
     ghost use Rattle.grid_base.specs.declared.TheConstants.{EXTENT_MAX};
-    ghost use Rattle.grid_base.specs.Triples.{Triple, IsWithin};
-    ghost use Rattle.grid_base.specs.Extents.{IsIn, overlaps};
+    ghost use Rattle.grid_base.specs.Triples.{IsWithin};
+    ghost use Rattle.grid_base.specs.Extents.{IsIn, IsInside, overlaps};
 
-    /// The box of two positions.
+    /// The box of two positions: the least that has both.
     pub fn around(a: Wide, b: Wide) -> Extent
         requires a_fits { IsWithin EXTENT_MAX a }
         requires b_fits { IsWithin EXTENT_MAX b }
         ensures first { IsIn result a }
         ensures second { IsIn result b }
+        ensures least { (e : Extent) → IsIn e a → IsIn e b → IsInside result e }
     {
         Extent {
             low: lower(a, b),
@@ -32,10 +33,11 @@ impl Extent {
         }
     }
 
-    /// A box that has both.
+    /// The least box that has both.
     pub fn united(&self, other: &Extent) -> Extent
-        ensures first { (p : Triple) → IsIn self.now p → IsIn result p }
-        ensures second { (p : Triple) → IsIn other.now p → IsIn result p }
+        ensures first { IsInside self.now result }
+        ensures second { IsInside other.now result }
+        ensures least { (e : Extent) → IsInside self.now e → IsInside other.now e → IsInside result e }
     {
         Extent {
             low: lower(self.low, other.low),
