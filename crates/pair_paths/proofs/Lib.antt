@@ -5,3 +5,4 @@ pub mod Near
 pub mod Widened
 pub mod Apart
 pub mod Boxed
+mod Listed

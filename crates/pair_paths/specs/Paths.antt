@@ -13,6 +13,10 @@ path_along w v = record { start = w.start v; end = w.end v }
 abbrev pub at_rest : Mesh → Motion
 at_rest m = record { start = rest_positions m; end = rest_positions m }
 
+-- a vertex with its path in a motion
+abbrev pub path_in : Motion → ℕ → PathOf
+path_in w v = record { v = v; path = path_along w v }
+
 -- each path in the list is that of its vertex in the motion
 abbrev pub AreKnown : Motion → List PathOf → Type 0
 AreKnown w known = All (λ k. k.path ≡ path_along w k.v) known

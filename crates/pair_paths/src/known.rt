@@ -1,6 +1,7 @@
 //! Paths of vertices that are kept in a list.
-ghost use Rattle.std.specs.Prelude.{◌≡◌, Contains, IfOk, IfSome};
-ghost use Rattle.pair_paths.specs.Paths.{AreKnown};
+ghost use Rattle.std.specs.Prelude.{◌≡◌, map, Contains, IfOk, IfSome};
+ghost use Rattle.std.specs.FinMap as map;
+ghost use Rattle.pair_paths.specs.Paths.{AreKnown, path_in};
 
 use crate::path::{Path, Paths};
 use grid_base::{Items, NoMemory};
@@ -63,21 +64,33 @@ fn known_path(known: &[PathOf], v: VertexId) -> Option<Path>
     }
 }
 
-/// The paths of the live vertices, by rising id. Refuses only where there is no memory.
-pub fn paths_of<S: Surface, P: Paths>(
+// The paths of these vertices, in their order.
+fn paths_among<P: Paths>(
     alloc: Global,
-    mesh: &S,
+    ids: &[VertexId],
     paths: &P,
 ) -> Result<Items<PathOf>, NoMemory>
-    ensures { IfOk result (AreKnown (P.motion paths.now)) }
+    ensures { IfOk result (λ known. known ≡ map (path_in (P.motion paths.now)) ids.now) }
 {
-    let ids = live_vertices(alloc, mesh)?;
     let mut known = Items::new(alloc);
-    for v in ids.as_slice() {
+    for v in ids {
         known.push(PathOf {
             v: *v,
             path: paths.path_of(*v),
         })?;
     }
     Ok(known)
+}
+
+/// The paths of the live vertices, by rising id. Refuses only where there is no memory.
+pub fn paths_of<S: Surface, P: Paths>(
+    alloc: Global,
+    mesh: &S,
+    paths: &P,
+) -> Result<Items<PathOf>, NoMemory>
+    ensures known { IfOk result (AreKnown (P.motion paths.now)) }
+    ensures all { IfOk result (λ known. known ≡ map (path_in (P.motion paths.now)) (map.keys (S.mesh mesh.now).points)) }
+{
+    let ids = live_vertices(alloc, mesh)?;
+    paths_among(alloc, ids.as_slice(), paths)
 }
