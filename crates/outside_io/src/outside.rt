@@ -1,4 +1,5 @@
 //! The desk and the sink of a run as one.
+ghost use Rattle.std.specs.Prelude.{◌≡◌};
 ghost use Rattle.outside_io.specs.Outside.{Around, Fetches, Stores, Puts};
 ghost use Rattle.outside_io.specs.World.{world};
 
@@ -33,6 +34,10 @@ pub trait Outside {
     /// Writes all of the bytes.
     fn put(&mut self, bytes: &[u8]) -> Result<(), Stop>
         ensures { Puts bytes.now (around self.old) (around self.new) result };
+
+    /// Hears how many lines were taken so far, of work that writes only at its end. Nothing changes.
+    fn progress(&mut self, lines: u32)
+        ensures { around self.new ≡ around self.old };
 }
 
 /// A desk and a sink.
@@ -72,5 +77,9 @@ impl<'d, 'k, D: Desk, K: Sink> Outside for Ends<'d, 'k, D, K> {
             Ok(()) => Ok(()),
             Err(_) => Err(Stop::SinkFault),
         }
+    }
+
+    fn progress(&mut self, lines: u32) {
+        self.out.progress(lines);
     }
 }

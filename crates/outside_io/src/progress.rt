@@ -1,4 +1,4 @@
-//! A sink that tells how far a log has come.
+//! A sink that tells how far the work has come.
 ghost use Rattle.std.specs.Prelude.{◌≡◌, ◌<◌, ◌≤◌, length, take, IfOk, OnErr};
 ghost use Rattle.outside_io.specs.Causes.{HasCause};
 ghost use Rattle.outside_io.specs.Sink.{appended};
@@ -6,11 +6,15 @@ ghost use Rattle.outside_io.specs.Sink.{appended};
 use crate::tally::TallySink;
 use crate::{Failed, Sink};
 
-// After so many more lines the line on standard error is told again.
+// After so many more lines that are written the line on standard error is told again.
 const LINES: u64 = 2048;
 
+// After so many more lines that are taken it is told again.
+const TAKEN: u32 = 256;
+
 /// Passes all on to another sink. Meanwhile it tells on standard error, in one line that is written over and over, how many steps
-/// and lines of a log were passed on. Whether that can be told or not changes nothing of what is passed on.
+/// and lines of a log were passed on, or how many lines were taken of a log that is read. Whether that can be told or not changes
+/// nothing of what is passed on.
 #[derive(Drop)]
 pub struct ProgressSink<'a, K, P> {
     pub sink: K,
@@ -19,6 +23,7 @@ pub struct ProgressSink<'a, K, P> {
     // How many of each were told last.
     steps: u64,
     lines: u64,
+    taken: u32,
 }
 
 impl<'a, K: Sink, P: Eprint> ProgressSink<'a, K, P> {
@@ -32,6 +37,7 @@ impl<'a, K: Sink, P: Eprint> ProgressSink<'a, K, P> {
             tally: TallySink::new(),
             steps: 0,
             lines: 0,
+            taken: 0,
         }
     }
 
@@ -48,9 +54,19 @@ impl<'a, K: Sink, P: Eprint> ProgressSink<'a, K, P> {
         }
     }
 
+    // Tells how many lines of a log were taken, where those are many more.
+    fn tell_taken(&mut self, lines: u32)
+        ensures { self.new.sink ≡ self.old.sink }
+    {
+        if lines >= self.taken.saturating_add(TAKEN) {
+            self.taken = lines;
+            let _ = eprint!(self.rt; "\r{lines} lines of the log are taken\x1b[K");
+        }
+    }
+
     /// Wipes the line on standard error, if one was told.
     pub fn wipe(&self) {
-        if self.lines > 0 {
+        if self.lines > 0 || self.taken > 0 {
             let _ = eprint!(self.rt; "\r\x1b[K");
         }
     }
@@ -74,6 +90,15 @@ impl<'a, K: Sink, P: Eprint> Sink for ProgressSink<'a, K, P> {
         let _ = self.tally.write(&bytes[..count]);
         self.tell();
         Ok(count)
+    }
+
+    /// Tells it, and passes it on.
+    fn progress(&mut self, lines: u32)
+        ensures written { K.written self.new.sink ≡ K.written self.old.sink }
+        ensures faults { K.faults self.new.sink ≡ K.faults self.old.sink }
+    {
+        self.sink.progress(lines);
+        self.tell_taken(lines);
     }
 
     ghost few = { λ s. K.few s.sink };

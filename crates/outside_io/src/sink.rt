@@ -28,6 +28,12 @@ pub trait Sink {
         ensures refused { OnErr result (written self.new ≡ written self.old) }
         ensures cause { HasCause (faults self.old) (faults self.new) result };
 
+    /// Hears how many lines were taken so far, of work that writes only at its end. Nothing is written.
+    fn progress(&mut self, lines: u32)
+        ensures written { written self.new ≡ written self.old }
+        ensures faults { faults self.new ≡ faults self.old }
+    {}
+
     /// The count of faults ends at the greatest `u64`, and stands still there.
     ghost few: { (sink : Self) → faults sink ≤ 2 ^ 64 - 1 };
 }
