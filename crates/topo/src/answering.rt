@@ -1,13 +1,14 @@
 //! What the words of a command line are answered with.
-ghost use Rattle.std.specs.Prelude.{◌≡◌, true, false, List, map, string_bytes};
+ghost use Rattle.std.specs.Prelude.{◌≡◌, ◌⊎◌, true, false, List, map, string_bytes, IfSome};
 ghost use Rattle.mesh_field.specs.Stored.{IsWellKept};
 ghost use Rattle.mesh_sizing.specs.Sizes.{IsWellKept as SizesWell};
 ghost use Rattle.track_engine.specs.Answered.{known};
 ghost use Rattle.track_engine.specs.World.{world};
-ghost use Rattle.topo.specs.Asked.{is_help, is_version};
+ghost use Rattle.topo.specs.Asked.{is_help, is_version, is_command_help};
 ghost use Rattle.track_run.specs.Headline.{RunsFor};
-ghost use Rattle.topo.specs.Answered.{Tells};
+ghost use Rattle.topo.specs.Answered.{Tells, HelpsCommand};
 
+use crate::help::command_help;
 use grid_base::{Point, Shift};
 use line_text::is_word;
 use mesh_field::Fields;
@@ -75,8 +76,22 @@ fn is_version(words: &[String]) -> bool
     words.len() == 1 && is_word(words[0].as_bytes(), b"--version")
 }
 
-/// Writes a text, and answers the outcome: that of a run that is done, or of one whose sink failed.
-pub(crate) fn tell<D: Desk, K: Sink>(text: &str, desk: &D, out: &mut K) -> Outcome
+// The help of a command, where the words ask for that alone and there is memory.
+fn asked_help(alloc: Global, words: &[String]) -> Option<String>
+    ensures { let texts = map (λ word. string_bytes word) words.now in
+        IfSome result (λ text. is_command_help texts ≡ true) }
+{
+    if words.len() == 2
+        && (is_word(words[1].as_bytes(), b"--help") || is_word(words[1].as_bytes(), b"-h"))
+    {
+        command_help(alloc, words[0].as_str()).ok()?
+    } else {
+        None
+    }
+}
+
+// Writes a text, and answers the outcome: that of a run that is done, or of one whose sink failed.
+fn tell<D: Desk, K: Sink>(text: &str, desk: &D, out: &mut K) -> Outcome
     ensures { Tells text.now result
         (world D.files D.faults K.written K.faults desk.now out.old)
         (world D.files D.faults K.written K.faults desk.now out.new) }
@@ -106,7 +121,8 @@ fn tell_version<D: Desk, K: Sink>(desk: &D, out: &mut K) -> Outcome
 }
 
 /// Answers the words that follow the program's name, and gives the outcome. `--help` or `-h` alone writes how the program is called,
-/// `--version` alone the line of the version, and all other words are a run's.
+/// `--version` alone the line of the version, the name of a command and `--help` or `-h` the help of the command, where there is memory
+/// for it, and all other words are a run's.
 pub(crate) fn answer<D: Desk, K: Sink, F: Fn(u8, Point) -> Shift, G: Fn(Point) -> Band>(
     alloc: Global,
     words: &[String],
@@ -125,12 +141,12 @@ pub(crate) fn answer<D: Desk, K: Sink, F: Fn(u8, Point) -> Shift, G: Fn(Point) -
         Tells VERSION_LINE.now result
         (world D.files D.faults K.written K.faults desk.old out.old)
         (world D.files D.faults K.written K.faults desk.new out.new) }
-    ensures runs { is_help (map (λ word. string_bytes word) words.now) ≡ false →
-        is_version (map (λ word. string_bytes word) words.now) ≡ false →
-        RunsFor (known F.Fn fields.now G.Fn sizing.now)
-        (map (λ word. string_bytes word) words.now) result
-        (world D.files D.faults K.written K.faults desk.old out.old)
-        (world D.files D.faults K.written K.faults desk.new out.new) }
+    ensures runs { let texts = map (λ word. string_bytes word) words.now in
+        let before = world D.files D.faults K.written K.faults desk.old out.old in
+        let after = world D.files D.faults K.written K.faults desk.new out.new in
+        is_help texts ≡ false → is_version texts ≡ false
+        → RunsFor (known F.Fn fields.now G.Fn sizing.now) texts result before after
+        ⊎ HelpsCommand texts result before after }
 {
     if is_help(words) {
         return tell_usage(desk, out);
@@ -138,5 +154,8 @@ pub(crate) fn answer<D: Desk, K: Sink, F: Fn(u8, Point) -> Shift, G: Fn(Point) -
     if is_version(words) {
         return tell_version(desk, out);
     }
-    run(alloc, words, desk, out, fields, sizing)
+    match asked_help(alloc, words) {
+        Some(text) => tell(text.as_str(), desk, out),
+        None => run(alloc, words, desk, out, fields, sizing),
+    }
 }

@@ -10,10 +10,9 @@ mod help;
 mod shipped;
 mod warning;
 
-use answering::{USAGE, answer, tell};
+use answering::{USAGE, answer};
 use band::shipped_band;
 use explaining::explain;
-use help::command_help;
 use mesh_field::{Fields, no_fields};
 use mesh_sizing::Sizing;
 use outside_io::{FileDesk, ProgressSink, StdSink};
@@ -37,21 +36,14 @@ fn words(rt: &(impl Env + AllocGlobal)) -> io::Result<Vec<String>> {
     Ok(words)
 }
 
-// Whether the words ask for a mesh to be tracked: of such a run a terminal is told how far its log has come.
-fn is_tracked(words: &[String]) -> bool {
+// Whether the words ask for a command that may take long and writes a file: of such a run a terminal is told how far it has come.
+fn is_long(words: &[String]) -> bool {
     match words.first() {
-        Some(first) => first.as_str() == "track",
+        Some(first) => match first.as_str() {
+            "track" | "prove" | "verify" => true,
+            _ => false,
+        },
         None => false,
-    }
-}
-
-// The help of a command, where the words ask for that alone.
-fn asked_help(alloc: Global, words: &[String]) -> Option<String> {
-    match words {
-        [name, asked] if asked.as_str() == "--help" || asked.as_str() == "-h" => {
-            command_help(alloc, name.as_str()).ok()?
-        }
-        _ => None,
     }
 }
 
@@ -90,18 +82,15 @@ fn main(rt: HostRuntime) -> ExitCode {
                 None => no_fields(shipped_shift),
             };
             let sizing = Sizing::new(shipped_band);
-            let is_watched = is_tracked(&words)
-                && rt.stderr().is_terminal()
-                && !rt.stdout().is_terminal();
-            let outcome = match asked_help(alloc, &words) {
-                Some(help) => tell(help.as_str(), &desk, &mut out),
-                None if is_watched => {
-                    let mut watched = ProgressSink::new(out, &rt);
-                    let outcome = answer(alloc, &words, &mut desk, &mut watched, &fields, &sizing);
-                    watched.wipe();
-                    outcome
-                }
-                None => answer(alloc, &words, &mut desk, &mut out, &fields, &sizing),
+            let is_watched =
+                is_long(&words) && rt.stderr().is_terminal() && !rt.stdout().is_terminal();
+            let outcome = if is_watched {
+                let mut watched = ProgressSink::new(out, &rt);
+                let outcome = answer(alloc, &words, &mut desk, &mut watched, &fields, &sizing);
+                watched.wipe();
+                outcome
+            } else {
+                answer(alloc, &words, &mut desk, &mut out, &fields, &sizing)
             };
             if outcome == Outcome::Done {
                 warn(&rt, warnings(alloc, &words, &rt));

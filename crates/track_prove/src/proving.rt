@@ -99,10 +99,16 @@ fn prove_line(
 
 // The proof of a log's lines, taken one after another; or the refusal of the first that does not fit, or of which the motion has a pair
 // that does not pass.
-fn prove_lines(alloc: Global, mesh: JournalMesh, lines: &[LogLine]) -> Result<Report, NoMemory>
+fn prove_lines<O: Outside>(
+    alloc: Global,
+    mesh: JournalMesh,
+    lines: &[LogLine],
+    outside: &mut O,
+) -> Result<Report, NoMemory>
     requires valid { IsValidSurface (mesh_in mesh) }
     requires few { length lines.now < 2 ^ 31 }
-    ensures { IfOk result (ProvesLines (mesh_in mesh) lines.now) }
+    ensures proves { IfOk result (ProvesLines (mesh_in mesh) lines.now) }
+    ensures same { O.around outside.new ≡ O.around outside.old }
 {
     fitting_lines_are_safe();
     let mut run = LogRun::new(alloc, mesh);
@@ -110,6 +116,7 @@ fn prove_lines(alloc: Global, mesh: JournalMesh, lines: &[LogLine]) -> Result<Re
     let mut number: u32 = 0;
     for line in lines {
         number += 1;
+        outside.progress(number);
         match prove_line(&mut run, number, line, &mut proofs)? {
             Taken::Fits => {}
             Taken::Unfit => {
@@ -143,7 +150,7 @@ fn prove_files<O: Outside>(
 {
     match prepare_log(alloc, files, outside)? {
         Prepared::No(why) => Ok(Report::Refused(why)),
-        Prepared::Yes(mesh, lines) => Ok(prove_lines(alloc, mesh, lines.as_slice())?),
+        Prepared::Yes(mesh, lines) => { Ok(prove_lines(alloc, mesh, lines.as_slice(), outside)?) },
     }
 }
 

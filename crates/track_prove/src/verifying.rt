@@ -150,16 +150,18 @@ fn verified(alloc: Global, motions: usize) -> Result<Report, NoMemory>
 
 // The lines of a log are taken, one after another: the line that tells how many motions are proved; or the refusal of the first line that
 // does not fit, or of which the motion is not proved, or that tells of no motion where the proof has one; or of a motion behind the log.
-fn verify_lines(
+fn verify_lines<O: Outside>(
     alloc: Global,
     mesh: JournalMesh,
     lines: &[LogLine],
     proofs: &[ProofAt],
+    outside: &mut O,
 ) -> Result<Report, NoMemory>
     requires valid { IsValidSurface (mesh_in mesh) }
     requires few { length lines.now < 2 ^ 31 }
     requires order { AreProofs (proofs_view proofs.now) }
-    ensures { IfOk result (VerifiesLines (mesh_in mesh) lines.now (proofs_view proofs.now)) }
+    ensures verifies { IfOk result (VerifiesLines (mesh_in mesh) lines.now (proofs_view proofs.now)) }
+    ensures same { O.around outside.new ≡ O.around outside.old }
 {
     fitting_lines_are_safe();
     let mut run = LogRun::new(alloc, mesh);
@@ -167,6 +169,7 @@ fn verify_lines(
     let mut number: u32 = 0;
     for line in lines {
         number += 1;
+        outside.progress(number);
         match verify_line(&mut run, number, line, rest)? {
             Taken::Fits => {}
             Taken::Unfit => {
@@ -207,7 +210,8 @@ fn verify_files<O: Outside>(
     match prepare_proof(alloc, given, outside)? {
         Given::No(why) => Ok(Report::Refused(why)),
         Given::Yes(mesh, lines, proofs) => {
-            Ok(verify_lines(alloc, mesh, lines.as_slice(), proofs.as_slice())?)
+            let proofs = proofs.as_slice();
+            Ok(verify_lines(alloc, mesh, lines.as_slice(), proofs, outside)?)
         }
     }
 }

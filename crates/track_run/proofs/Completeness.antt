@@ -1,10 +1,20 @@
 -- A run of a job of which nothing is refused is done, or finds no memory, where neither side fails.
-use Rattle.std.proofs.Common.{◌≡◌, ◌⊎◌, ℕ, List, true, Option, Result, Ok, Err, is_ok, refl, ap, ◌∙◌, subst, inl, inr}
-use Rattle.obj_text.specs.Obj.{Lists}
+use Rattle.std.proofs.Common.{◌≡◌, ◌⊎◌, ℕ, List, map, length, true, Option, Some, None, Result, Ok, Err, is_ok, refl, ap, ◌∙◌, subst, inl, inr, sym}
+use Rattle.std.specs.Prelude.{IsNone}
+use Rattle.std.proofs.lemmas.Bool.{false≢true}
+use Rattle.std.proofs.lemmas.List.{length-map}
+use Rattle.grid_base.specs.Points.{point_at}
+use Rattle.mesh_base.specs.declared.PairName.{PairName}
+use Rattle.mesh_plain.specs.Shape.{shape_fault}
+use Rattle.mesh_plain.proofs.Lists.{sound-mesh_of}
+use Rattle.pair_scan.proofs.Clear.{clear_exactly}
+use Rattle.obj_text.specs.Obj.{Lists, lists_of}
+use Rattle.outside_io.specs.Desk.{Files}
 use Rattle.step_text.specs.declared.Placed.{Placed}
 use Rattle.log_text.specs.declared.Refusal.{Refusal}
-use Rattle.track_input.specs.Source.{Bytes}
-use Rattle.track_input.specs.Job.{Job, Input, input_of, input_of_files, input_of_lists, input_of_shape, input_of_steps, mesh_of_lists}
+use Rattle.track_input.specs.Source.{Source, Bytes, IsSource}
+use Rattle.track_input.proofs.Sources.{fetched}
+use Rattle.track_input.specs.Job.{Job, IsJob, Input, met_first, input_of, input_of_files, input_of_lists, input_of_shape, input_of_steps, mesh_of_lists}
 use Rattle.outside_io.specs.declared.stop.Stop.{Stop}
 use Rattle.outside_io.specs.declared.stop.Stop.TheVariants as stop
 use Rattle.track_engine.specs.State.{start}
@@ -17,7 +27,42 @@ use Rattle.track_run.specs.Answered.{IsInputAnswered}
 use Rattle.track_run.specs.Outcomes.{outcome_from, outcome_of_try}
 use Rattle.track_run.specs.Causes.{Cause, IsStopped, HasClear}
 use Rattle.track_run.specs.Headline.{TracksCommand}
-use Rattle.track_run.specs.Complete.{IsLawful, NoneFailed, LawfulJobsAreDone, TriesAreDone}
+use Rattle.track_run.specs.Complete.{IsHeld, IsLawful, NoneFailed, LawfulJobsAreDone, TriesAreDone}
+
+none_is : (o : Option PairName) → IsNone o → o ≡ None
+none_is None h = refl
+none_is (Some pair) h = absurd (false≢true (sym h))
+
+-- ---- what the files give, where nothing is refused
+module _ (fields : Known) (files : Option Files) (mesh_name step_name : List ℕ) (decimals : ℕ) (lawful : IsLawful fields files mesh_name step_name decimals) (job : Job) (is : IsJob files mesh_name step_name decimals job) where
+  held : (name bytes : List ℕ) → IsHeld files name bytes → (s : Source) → IsSource files name s → s ≡ Bytes bytes
+  held name bytes h s source = let P : Option Files → Type 0 = λ f. IsSource f name s in fetched h.told name bytes s h.file h.small (subst P h.files_are source)
+
+  none_met : met_first (mesh_of_lists lawful.lists) ≡ None
+  none_met =
+      let points = map point_at lawful.lists.points in
+      let m = mesh_of_lists lawful.lists in
+      let shaped : shape_fault (length points) lawful.lists.faces ≡ None = ap (λ n. shape_fault n lawful.lists.faces) (length-map lawful.lists.points point_at) ∙ lawful.good in
+      none_is (met_first m) ((clear_exactly m (met_first m) (sound-mesh_of points lawful.lists.faces shaped) refl).1 lawful.clear)
+
+  pub job_is_clear : HasClear job lawful.lists lawful.directives
+  job_is_clear = record {
+    steps_read = record {
+      steps = lawful.steps;
+      mesh_read = record {
+        lists_read = record {
+          mesh = lawful.mesh;
+          mesh_file = held mesh_name lawful.mesh lawful.mesh_file job.mesh_file is.mesh;
+          step_file = held step_name lawful.steps lawful.step_file job.step_file is.steps;
+          read = ap (λ d. lists_of d lawful.mesh) is.decimals_are ∙ lawful.read;
+        };
+        good = lawful.good;
+      };
+      read = lawful.directed;
+    };
+    clear = none_met;
+    none_meets = lawful.clear;
+  }
 
 -- what a job gives whose files are read without a fault
 input_read : (job : Job) (lists : Lists) (directives : List Placed) → HasClear job lists directives → input_of job ≡ Ok (record { lists = lists; steps = directives })
@@ -50,7 +95,10 @@ stopped_by (outcome.LogUse line) s = absurd s
 stopped_by (outcome.ProofText fault) s = absurd s
 stopped_by (outcome.ProofBad line verdict) s = absurd s
 
-module _ (fields : Known) (mesh_name step_name : List ℕ) (to : Target) (result : Outcome) (old new : World) (run : TracksCommand fields mesh_name step_name to result old new) (lawful : IsLawful fields run.job) (none : NoneFailed old new) where
+module _ (fields : Known) (mesh_name step_name : List ℕ) (to : Target) (result : Outcome) (old new : World) (run : TracksCommand fields mesh_name step_name to result old new) (lawful : IsLawful fields old.holds.files mesh_name step_name to.decimals) (none : NoneFailed old new) where
+  clear : HasClear run.job lawful.lists lawful.directives
+  clear = job_is_clear fields old.holds.files mesh_name step_name to.decimals lawful run.job run.is_job
+
   abbrev IsEnd : Type 0
   IsEnd = (result ≡ outcome.Done) ⊎ (result ≡ outcome.NoMemory)
 
@@ -76,13 +124,13 @@ module _ (fields : Known) (mesh_name step_name : List ℕ) (to : Target) (result
   at_whole : AreAnswered fields true run.tracks.answers lawful.directives (start (mesh_of_lists lawful.lists)) → IsEnd
   at_whole answered =
       let there = lawful.taken run.tracks.answers answered in
-      is_done (lawful.lists, lawful.directives, lawful.clear, there.0, there.1)
+      is_done (lawful.lists, lawful.directives, clear, there.0, there.1)
 
   by_end : (ended : Result (Option Refusal) Stop) → result ≡ outcome_from ended → IsInputAnswered fields (is_ok ended) run.tracks.answers (input_of run.job) → IsEnd
   by_end (Err s) is answered = without_faults (at_stop s is)
   by_end (Ok ending) is answered =
       let P : Result Input Refusal → Type 0 = λ r. IsInputAnswered fields true run.tracks.answers r in
-      at_whole (subst P (input_read run.job lawful.lists lawful.directives lawful.clear) answered lawful.clear.clear)
+      at_whole (subst P (input_read run.job lawful.lists lawful.directives clear) answered clear.clear)
 
   pub ends_well : IsEnd
   ends_well = by_end run.tracks.ended run.tracks.outcome_is run.tracks.answered

@@ -1,9 +1,15 @@
 -- Jobs of which nothing is refused, and how a run of one ends.
-use Rattle.std.specs.Prelude.{◌≡◌, ◌⊎◌, ℕ, true, List}
-use Rattle.obj_text.specs.Obj.{Lists}
+use Rattle.std.specs.Prelude.{◌≡◌, ◌≤◌, ◌⊎◌, ℕ, true, List, length, Option, Some, None, Ok}
+use Rattle.std.specs.FinMap.{get}
+use Rattle.grid_base.specs.declared.TheConstants.{TEXT_MAX}
+use Rattle.mesh_base.specs.Placements.{IsClearMesh}
+use Rattle.mesh_plain.specs.Shape.{shape_fault}
+use Rattle.obj_text.specs.Obj.{Lists, lists_of}
 use Rattle.step_text.specs.declared.Placed.{Placed}
+use Rattle.step_text.specs.Steps.{steps_of}
 use Rattle.outside_io.specs.Causes.{Rose}
-use Rattle.track_input.specs.Job.{Job, mesh_of_lists}
+use Rattle.outside_io.specs.Desk.{Files}
+use Rattle.track_input.specs.Job.{mesh_of_lists}
 use Rattle.track_engine.specs.State.{State, start}
 use Rattle.track_engine.specs.Answers.{Answers}
 use Rattle.track_engine.specs.Answered.{Known, AreAnswered}
@@ -11,16 +17,30 @@ use Rattle.track_engine.specs.Saved.{Target}
 use Rattle.track_engine.specs.World.{World}
 use Rattle.track_run.specs.declared.outcome.Outcome.{Outcome}
 use Rattle.track_run.specs.declared.outcome.Outcome.TheVariants.{Done, NoMemory}
-use Rattle.track_run.specs.Causes.{HasClear, Reaches}
+use Rattle.track_run.specs.Causes.{Reaches}
 use Rattle.track_run.specs.Headline.{TracksCommand, TriesCommand}
 
--- Nothing of a job is refused: both files are there, no longer than a text may be, and are read without a fault; the mesh is of good
--- shape, and no edge of it meets a face that shares no vertex with it; and each directive is taken, whatever the fields and the sizing may
--- answer.
-pub record IsLawful (fields : Known) (job : Job) : Type 0 where
+-- the desk tells a file of that name, which is no longer than a text may be
+pub record IsHeld (files : Option Files) (name bytes : List ℕ) : Type 0 where
+  pub told : Files
+  pub files_are : files ≡ Some told
+  pub file : get told name ≡ Some bytes
+  pub small : length bytes ≤ TEXT_MAX
+
+-- Nothing of the job of two names is refused, where the desk tells these files: both are there, no longer than a text may be, and are read
+-- without a fault; the mesh is of good shape, and no edge of it meets a face that shares no vertex with it; and each directive is taken,
+-- whatever the fields and the sizing may answer.
+pub record IsLawful (fields : Known) (files : Option Files) (mesh_name step_name : List ℕ) (decimals : ℕ) : Type 0 where
+  pub mesh : List ℕ
+  pub steps : List ℕ
+  pub mesh_file : IsHeld files mesh_name mesh
+  pub step_file : IsHeld files step_name steps
   pub lists : Lists
+  pub read : lists_of decimals mesh ≡ Ok lists
+  pub good : shape_fault (length lists.points) lists.faces ≡ None
+  pub clear : IsClearMesh (mesh_of_lists lists)
   pub directives : List Placed
-  pub clear : HasClear job lists directives
+  pub directed : steps_of steps ≡ Ok directives
   pub taken : (answers : Answers) → AreAnswered fields true answers directives (start (mesh_of_lists lists))
       → (end : State) × Reaches answers (start (mesh_of_lists lists)) directives end
 
@@ -33,7 +53,8 @@ pub record NoneFailed (old new : World) : Type 0 where
 abbrev pub LawfulJobsAreDone : Known → Type 0
 LawfulJobsAreDone fields =
     (mesh_name step_name : List ℕ) (to : Target) (result : Outcome) (old new : World)
-    → (run : TracksCommand fields mesh_name step_name to result old new) → IsLawful fields run.job → NoneFailed old new
+    → TracksCommand fields mesh_name step_name to result old new → IsLawful fields old.holds.files mesh_name step_name to.decimals
+    → NoneFailed old new
     → (result ≡ Done) ⊎ (result ≡ NoMemory)
 
 -- Where the sink does not fail, a try is done, or finds no memory.
