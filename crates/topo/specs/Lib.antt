@@ -1,3 +1,4 @@
+pub mod Texts
 pub mod Asked
 pub mod Answered
 pub mod Shipped

@@ -6,6 +6,7 @@ ghost use Rattle.track_engine.specs.Answered.{known};
 ghost use Rattle.track_engine.specs.World.{world};
 ghost use Rattle.topo.specs.Asked.{is_help, is_version, is_command_help};
 ghost use Rattle.track_run.specs.Headline.{RunsFor};
+ghost use Rattle.topo.specs.Texts.{usage, version_line};
 ghost use Rattle.topo.specs.Answered.{Tells, HelpsCommand};
 
 use crate::help::command_help;
@@ -104,7 +105,7 @@ fn tell<D: Desk, K: Sink>(text: &str, desk: &D, out: &mut K) -> Outcome
 
 // Writes how the program is called.
 fn tell_usage<D: Desk, K: Sink>(desk: &D, out: &mut K) -> Outcome
-    ensures { Tells USAGE.now result
+    ensures { Tells usage result
         (world D.files D.faults K.written K.faults desk.now out.old)
         (world D.files D.faults K.written K.faults desk.now out.new) }
 {
@@ -113,7 +114,7 @@ fn tell_usage<D: Desk, K: Sink>(desk: &D, out: &mut K) -> Outcome
 
 // Writes the line of the version.
 fn tell_version<D: Desk, K: Sink>(desk: &D, out: &mut K) -> Outcome
-    ensures { Tells VERSION_LINE.now result
+    ensures { Tells version_line result
         (world D.files D.faults K.written K.faults desk.now out.old)
         (world D.files D.faults K.written K.faults desk.now out.new) }
 {
@@ -134,11 +135,11 @@ pub(crate) fn answer<D: Desk, K: Sink, F: Fn(u8, Point) -> Shift, G: Fn(Point) -
     requires fields { IsWellKept F.Fn fields.now }
     requires sizing { SizesWell G.Fn sizing.now }
     ensures help { is_help (map (λ word. string_bytes word) words.now) ≡ true →
-        Tells USAGE.now result
+        Tells usage result
         (world D.files D.faults K.written K.faults desk.old out.old)
         (world D.files D.faults K.written K.faults desk.new out.new) }
     ensures version { is_version (map (λ word. string_bytes word) words.now) ≡ true →
-        Tells VERSION_LINE.now result
+        Tells version_line result
         (world D.files D.faults K.written K.faults desk.old out.old)
         (world D.files D.faults K.written K.faults desk.new out.new) }
     ensures runs { let texts = map (λ word. string_bytes word) words.now in
