@@ -1,6 +1,7 @@
 #!/usr/bin/env python3
 """Runs the program on the worked cases of the folder `worked`, and compares its status, its log and the files that it stores.
-What `verify` is asked is asked of `examples/verify.py` too, which shares nothing with the program and has to accept just what the case accepts.
+What `verify` is asked is asked of `examples/verify.py` too, which shares nothing with the program and has to accept just what the case accepts;
+and `examples/replay.py` has to make the stored meshes of a log again.
 
     checks/worked_cases.py [PROGRAM] [NAME ..]
 
@@ -19,6 +20,7 @@ import tempfile
 ROOT = os.path.dirname(os.path.dirname(os.path.abspath(__file__)))
 FOLDER = os.path.join(ROOT, "worked")
 CHECKER = os.path.join(ROOT, "examples", "verify.py")
+REPLAYER = os.path.join(ROOT, "examples", "replay.py")
 
 
 class Case:
@@ -52,16 +54,46 @@ def first_difference(what, wanted, got):
     return f"{what}: {len(wanted)} bytes are right, and {len(got)} came"
 
 
+def put_files(folder, files):
+    for name, text in files.items():
+        with open(os.path.join(folder, name), "w", encoding="utf-8", newline="") as it:
+            it.write(text)
+
+
+def files_in(folder):
+    return {name: text_of(os.path.join(folder, name)) for name in os.listdir(folder)}
+
+
+def difference_of_files(wanted, made):
+    if sorted(made) != sorted(wanted):
+        return f"the files {sorted(wanted)} are right, and {sorted(made)} are there"
+    for name, text in wanted.items():
+        if made[name] != text:
+            return first_difference(name, text, made[name])
+    return None
+
+
+def fault_of_replay(case):
+    """What is wrong with the meshes that examples/replay.py makes of the case's log, or nothing. The log is given in the place of the steps."""
+    mesh, steps = (word for word in case.words if word in case.inputs)
+    with tempfile.TemporaryDirectory() as folder:
+        given = {mesh: case.inputs[mesh], steps: case.log}
+        put_files(folder, given)
+        ran = subprocess.run([sys.executable, REPLAYER, *case.words[1:]], cwd=folder, stdout=subprocess.PIPE, stderr=subprocess.PIPE, timeout=60)
+        made = files_in(folder)
+    if ran.returncode != 0 or ran.stdout.decode() != f"replayed {len(case.stored)}\n":
+        return f"examples/replay.py ends with {ran.returncode} and says {(ran.stdout + ran.stderr).decode()!r}"
+    return difference_of_files({**given, **case.stored}, made)
+
+
 def fault_of(program, case):
     """What is wrong with the program's run of a case, or nothing."""
     with tempfile.TemporaryDirectory() as folder:
-        for name, text in case.inputs.items():
-            with open(os.path.join(folder, name), "w", encoding="utf-8", newline="") as it:
-                it.write(text)
+        put_files(folder, case.inputs)
         ran = subprocess.run([program, *case.words], cwd=folder, stdout=subprocess.PIPE, stderr=subprocess.PIPE, timeout=60)
         if case.words[0] == "verify":
             checked = subprocess.run([sys.executable, CHECKER, *case.words[1:]], cwd=folder, stdout=subprocess.PIPE, stderr=subprocess.PIPE, timeout=60)
-        made = {name: text_of(os.path.join(folder, name)) for name in os.listdir(folder)}
+        made = files_in(folder)
     if ran.returncode != case.status:
         return f"status {case.status} is right, and {ran.returncode} came"
     if ran.stdout.decode() != case.log:
@@ -71,13 +103,10 @@ def fault_of(program, case):
         said = checked.stdout.decode()
         if checked.returncode != (case.status != 0) or (said != case.log if case.status == 0 else not said.startswith("refused ")):
             return f"examples/verify.py ends with {checked.returncode} and says {said!r}"
-    wanted = {**case.inputs, **case.stored}
-    if sorted(made) != sorted(wanted):
-        return f"the files {sorted(wanted)} are right, and {sorted(made)} are there"
-    for name, text in wanted.items():
-        if made[name] != text:
-            return first_difference(name, text, made[name])
-    return None
+    fault = difference_of_files({**case.inputs, **case.stored}, made)
+    if fault is None and case.words[0] == "track" and case.stored:
+        fault = fault_of_replay(case)
+    return fault
 
 
 def main():
