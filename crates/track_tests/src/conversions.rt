@@ -149,3 +149,17 @@ fn a_store_that_fails_is_told(rt: HostRuntime) -> Result<(), Fail> {
     assert_eq!(rt; desk.file("t.obj"), Some(OBJ.as_bytes()));
     Ok(())
 }
+
+#[test]
+fn a_fetch_that_fails_leaves_what_was_there(rt: HostRuntime) -> Result<(), Fail> {
+    let alloc = rt.alloc();
+    let mut desk = MemoryDesk::new(alloc, vec![in alloc; 1]?, Vec::new(alloc));
+    let mut out = sink_of(alloc)?;
+    desk.put("t.obj", OBJ.as_bytes())?;
+    desk.put("t.ply", b"old")?;
+    let ended = answer(alloc, &["convert", "t.obj", "t.ply"], &mut desk, &mut out)?;
+    assert_eq!(rt; ended, Some(Err(Stop::DeskFault)));
+    assert_eq!(rt; out.bytes(), b"".as_slice());
+    assert_eq!(rt; desk.file("t.ply"), Some(b"old".as_slice()));
+    Ok(())
+}
