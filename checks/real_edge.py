@@ -25,10 +25,14 @@ NOBODY = {"user": 65534, "group": 65534, "extra_groups": []} if os.geteuid() == 
 # the mesh, and the same with a line that a stored mesh hasn't
 MESH = "v 0 0 0\nv 4 0 0\nv 0 4 0\nv 0 0 4\nf 1 3 2\nf 1 2 4\nf 2 3 4\nf 1 4 3\n"
 COMMENTED = "# as it was\n" + MESH
+PROVED = "topo proof 1\nmotion 8 along\nend\n"
 MEASURED = "".join(f"measure {k} volume6 64 components 1 euler 2 genus 0\n" for k in (0, 1)) + "end\n"
 STEPS = "shift all 1 2 3\nstep\nsave\n"
 JOB = ["track", "mesh.obj", "steps.txt", "t"]
 LOG = "topo log 2\nmesh 0 4 4\nstep 1\n" + "".join(f"move {v} 1 2 3\n" for v in (1, 2, 3, 4)) + "moved whole\nmesh 1 4 4\nend\n"
+# the whole output of a command that reads a log, and a log of which a terminal is told before its end
+WHOLE = {"measure": MEASURED, "prove": PROVED, "verify": "verified 1\n"}
+LONG_LOG = LOG.removesuffix("end\n") + "".join(f"step {k}\nmove 1 0 0 {1 - 2 * (k % 2)}\nmoved whole\n" for k in range(2, 102)) + "end\n"
 
 
 def closed_pipe():
@@ -89,8 +93,9 @@ def main():
             out.write(MESH)
         with open(at("steps.txt"), "w") as out:
             out.write(STEPS)
-        with open(at("log.txt"), "w") as out:
-            out.write(LOG)
+        for name, text in (("log.txt", LOG), ("long_log.txt", LONG_LOG), ("proof.txt", PROVED)):
+            with open(at(name), "w") as out:
+                out.write(text)
         os.mkdir(at("folder"))
         os.mkdir(at("taken-000000.obj"))
         with open(at("long.obj"), "wb") as out:
@@ -144,6 +149,17 @@ def main():
             ("a log of 64 MiB and a byte", ["measure", "mesh.obj", "long.obj"], None, 5, "refused long log 67108865"),
             ("a folder in place of the log", ["measure", "mesh.obj", "folder"], None, 3, None),
             ("steps in place of the log", ["measure", "mesh.obj", "steps.txt"], None, 12, "refused log 1 unknown"),
+            ("help of a proof", ["prove", "--help"], None, 0, None),
+            ("a log that is proved", ["prove", "mesh.obj", "log.txt"], None, 0, "end"),
+            ("a log that is proved to a full device", ["prove", "mesh.obj", "log.txt"], lambda: os.open("/dev/full", os.O_WRONLY), 4, None),
+            ("no such log to be proved", ["prove", "mesh.obj", "none.txt"], None, 11, "refused missing log"),
+            ("help of a check", ["verify", "-h"], None, 0, None),
+            ("a proof", ["verify", "mesh.obj", "log.txt", "proof.txt"], None, 0, "verified 1"),
+            ("a proof that is checked to a full device", ["verify", "mesh.obj", "log.txt", "proof.txt"], lambda: os.open("/dev/full", os.O_WRONLY), 4, None),
+            ("no such proof", ["verify", "mesh.obj", "log.txt", "none.txt"], None, 11, "refused missing proof"),
+            ("a proof of 64 MiB and a byte", ["verify", "mesh.obj", "log.txt", "long.obj"], None, 5, "refused long proof 67108865"),
+            ("a folder in place of the proof", ["verify", "mesh.obj", "log.txt", "folder"], None, 3, None),
+            ("the log in place of the proof", ["verify", "mesh.obj", "log.txt", "log.txt"], None, 14, "refused proof 1 number"),
             ("no such mesh file", ["track", "none.obj", "steps.txt", "t"], None, 11, "refused missing mesh"),
             ("no such step file", ["track", "mesh.obj", "none.txt", "t"], None, 11, "refused missing steps"),
             ("a mesh file in no folder", ["track", "nowhere/mesh.obj", "steps.txt", "t"], None, 11, "refused missing mesh"),
@@ -191,7 +207,7 @@ def main():
             wrote = (ended.stdout or b"").decode(errors="replace")
             front, _, tail = wrote.removesuffix("\n").rpartition("\n")
             # what stands before a refusal, and the whole output
-            before, whole = ("", MEASURED) if words[:1] == ["measure"] else ("topo log 2", LOG)
+            before, whole = ("", WHOLE[words[0]]) if words and words[0] in WHOLE else ("topo log 2", LOG)
             if end is None:
                 is_due = status == 0 or wrote == ""
             elif end.startswith("refused"):
@@ -210,7 +226,12 @@ def main():
         alone = status == 0 and told == LOG
         print(("ok     " if alone else "FAILED ") + "a terminal for both: it has the log alone" + ("" if alone else f"; {told!r}"))
         failed += (not shown) + (not alone)
-    print(f"{len(cases) + 2 - failed} as they should be, {failed} not")
+        job = [at("topo"), "prove", "mesh.obj", "long_log.txt"]
+        status, proof, told = on_terminal(job, folder, False)
+        shown = status == 0 and proof.endswith("\nend\n") and told.startswith("\r256 lines of the log are taken") and told.endswith("\r\x1b[K")
+        print(("ok     " if shown else "FAILED ") + "a terminal for standard error alone: it tells how much of a log is proved, and is wiped" + ("" if shown else f"; {told!r}"))
+        failed += not shown
+    print(f"{len(cases) + 3 - failed} as they should be, {failed} not")
     sys.exit(1 if failed else 0)
 
 
