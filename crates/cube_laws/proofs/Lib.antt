@@ -4,3 +4,4 @@ pub mod Asking
 pub mod Moving
 pub mod Stepping
 pub mod WholeJob
+pub mod FirstVertex

@@ -105,15 +105,31 @@ save_taken : (s : State) → IsTaken directive.Save s (record s { saved = s.save
 save_taken s = record { lines = mesh_line s.saved s.mesh ∷ []; goes = refl; whole = (tt, tt); count = refl }
 
 -- ---- the whole job
-pub job_told : (n key : ℕ) → IsRow n → IsTold (log_of_cubes n key) 3
-job_told n key row =
+
+-- after the pass and the save that follow a state
+abbrev pub saved_after : State → State
+saved_after s = let split : State = after_pass (pass.Split 50) s in record split { saved = split.saved + 1 }
+
+-- how the job ends, and where it stood after its third step
+pub record JobEnds (n key : ℕ) : Type 0 where
+  pub third : State
+  pub between : AreBetween n key 3 third
+  pub taken : AreTaken (cubes_directives n key) (start (cubes_mesh n)) (saved_after third) 3
+
+pub job_ends : (n key : ℕ) → IsRow n → JobEnds n key
+job_ends n key row =
     let first = step_goes n key 0 row (let few : 0 < 3 = omega arith in few) (start (cubes_mesh n)) (begins n key row) in
     let second = step_goes n key 1 row (let few : 1 < 3 = omega arith in few) first.then first.between in
     let third = step_goes n key 2 row (let few : 2 < 3 = omega arith in few) second.then second.between in
     let split : State = after_pass (pass.Split 50) third.then in
-    let end : State = record split { saved = split.saved + 1 } in
     let two = taken_then (step_of n key 1) (step_of n key 2) (start (cubes_mesh n)) first.then second.then 1 1 2 first.taken second.taken refl in
     let three = taken_then (step_of n key 1 ++ step_of n key 2) (step_of n key 3) (start (cubes_mesh n)) second.then third.then 2 1 3 two third.taken refl in
-    let all = taken_then (step_of n key 1 ++ step_of n key 2 ++ step_of n key 3) (directive.Pass (pass.Split 50) ∷ directive.Save ∷ []) (start (cubes_mesh n)) third.then end 3 0 3 three
-    (split, 0, 0, pass_taken (pass.Split 50) third.then, (end, 0, 0, save_taken split, (refl, refl), refl), refl) refl in
-    told 1 (cubes_directives n key) (start (cubes_mesh n)) end 3 all
+    record {
+      third = third.then;
+      between = third.between;
+      taken = taken_then (step_of n key 1 ++ step_of n key 2 ++ step_of n key 3) (directive.Pass (pass.Split 50) ∷ directive.Save ∷ []) (start (cubes_mesh n)) third.then (saved_after third.then) 3 0 3 three
+        (split, 0, 0, pass_taken (pass.Split 50) third.then, (saved_after third.then, 0, 0, save_taken split, (refl, refl), refl), refl) refl;
+    }
+
+pub job_told : (n key : ℕ) → IsRow n → IsTold (log_of_cubes n key) 3
+job_told n key row = let ends = job_ends n key row in told 1 (cubes_directives n key) (start (cubes_mesh n)) (saved_after ends.third) 3 ends.taken
