@@ -1,7 +1,7 @@
 #!/usr/bin/env python3
 """Runs the program on the worked cases of the folder `worked`, and compares its status, its log and the files that it stores.
 What `verify` is asked is asked of `examples/verify.py` too, which shares nothing with the program and has to accept just what the case accepts;
-and `examples/replay.py` has to make the stored meshes of a log again.
+`examples/replay.py` has to make the stored meshes of a log again, and `examples/carry.py` to find them.
 
     checks/worked_cases.py [PROGRAM] [NAME ..]
 
@@ -20,7 +20,7 @@ import tempfile
 ROOT = os.path.dirname(os.path.dirname(os.path.abspath(__file__)))
 FOLDER = os.path.join(ROOT, "worked")
 CHECKER = os.path.join(ROOT, "examples", "verify.py")
-REPLAYER = os.path.join(ROOT, "examples", "replay.py")
+REPLAYER, CARRIER = (os.path.join(ROOT, "examples", name) for name in ("replay.py", "carry.py"))
 
 
 class Case:
@@ -81,8 +81,10 @@ def fault_of_replay(case):
         put_files(folder, given)
         ran = subprocess.run([sys.executable, REPLAYER, *case.words[1:]], cwd=folder, stdout=subprocess.PIPE, stderr=subprocess.PIPE, timeout=60)
         made = files_in(folder)
-    if ran.returncode != 0 or ran.stdout.decode() != f"replayed {len(case.stored)}\n":
-        return f"examples/replay.py ends with {ran.returncode} and says {(ran.stdout + ran.stderr).decode()!r}"
+        carried = subprocess.run([sys.executable, CARRIER, *case.words[1:]], cwd=folder, stdout=subprocess.PIPE, stderr=subprocess.PIPE, timeout=60)
+    for name, ended, said in (("replay", ran, "replayed"), ("carry", carried, "carried")):
+        if ended.returncode != 0 or ended.stdout.decode() != f"{said} {len(case.stored)}\n":
+            return f"examples/{name}.py ends with {ended.returncode} and says {(ended.stdout + ended.stderr).decode()!r}"
     return difference_of_files({**given, **case.stored}, made)
 
 

@@ -136,9 +136,9 @@ def text_of(mesh, decimals):
     return "".join(" ".join(words) + "\n" for part in (points, faces) for words in part)
 
 def replay(mesh, log):
-    """The mesh at each `mesh` line, and its number."""
+    """The first word of each line, the others, and the mesh behind the line."""
     step, groups = {}, []
-    for kind, *words in (line.split(" ") for line in log.split("\n")):
+    for kind, *words in (line.split(" ") for line in log.split("\n")[:-1]):
         if kind == "step":
             step = {}
         elif kind == "move":
@@ -154,23 +154,29 @@ def replay(mesh, log):
             state = groups.pop()
             if words == ["undone"]:
                 mesh.take_back(state)
-        elif kind == "mesh":
-            yield int(words[0]), mesh
         elif kind in EDITS:
             EDITS[kind](mesh, *map(int, words))
+        yield kind, words, mesh
+
+def read(name):
+    with open(name, encoding="latin-1", newline="") as it:
+        return it.read()
+
+def write(name, text):
+    with open(name, "w", encoding="ascii", newline="") as it:
+        it.write(text)
 
 def main():
     parser = argparse.ArgumentParser(description=__doc__, formatter_class=argparse.RawDescriptionHelpFormatter)
     parser.add_argument("files", nargs=3, metavar=("MESH", "LOG", "PREFIX"))
     parser.add_argument("--decimals", type=int, choices=range(7), default=0)
     words = parser.parse_args()
-    mesh, log = (open(name, encoding="latin-1", newline="").read() for name in words.files[:2])
     count = 0
     try:
-        for k, made in replay(read_mesh(mesh, words.decimals), log):
-            with open(f"{words.files[2]}-{k:06}.obj", "w", encoding="ascii", newline="") as it:
-                it.write(text_of(made, words.decimals))
-            count += 1
+        for kind, told, mesh in replay(read_mesh(read(words.files[0]), words.decimals), read(words.files[1])):
+            if kind == "mesh":
+                write(f"{words.files[2]}-{int(told[0]):06}.obj", text_of(mesh, words.decimals))
+                count += 1
     except (LookupError, ValueError, TypeError) as why:
         sys.exit(f"replay: the log is of another mesh ({why!r})")
     print("replayed", count)
