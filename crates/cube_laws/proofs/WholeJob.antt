@@ -128,7 +128,7 @@ job_ends n key row =
       third = third.then;
       between = third.between;
       taken = taken_then (step_of n key 1 ++ step_of n key 2 ++ step_of n key 3) (directive.Pass (pass.Split 50) ∷ directive.Save ∷ []) (start (cubes_mesh n)) third.then (saved_after third.then) 3 0 3 three
-        (split, 0, 0, pass_taken (pass.Split 50) third.then, (saved_after third.then, 0, 0, save_taken split, (refl, refl), refl), refl) refl;
+          (split, 0, 0, pass_taken (pass.Split 50) third.then, (saved_after third.then, 0, 0, save_taken split, (refl, refl), refl), refl) refl;
     }
 
 pub job_told : (n key : ℕ) → IsRow n → IsTold (log_of_cubes n key) 3

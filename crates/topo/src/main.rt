@@ -82,8 +82,9 @@ fn main(rt: HostRuntime) -> ExitCode {
                 None => no_fields(shipped_shift),
             };
             let sizing = Sizing::new(shipped_band);
-            let is_watched =
-                is_long(&words) && rt.stderr().is_terminal() && !rt.stdout().is_terminal();
+            let is_watched = is_long(&words)
+                && rt.stderr().is_terminal()
+                && !rt.stdout().is_terminal();
             let outcome = if is_watched {
                 let mut watched = ProgressSink::new(out, &rt);
                 let outcome = answer(alloc, &words, &mut desk, &mut watched, &fields, &sizing);
