@@ -1,33 +1,15 @@
 //! Worked examples of splits.
-use crate::meshes::{TETRAHEDRON, TETRAHEDRON_FACES, TWO_TETRAHEDRA, mesh_at, point, reason_of};
-use edit_base::{Change, Edit, Why};
-use edit_split::split;
+use crate::meshes::{
+    JOINED, JOINED_FACES, TETRAHEDRON, TETRAHEDRON_FACES, TWO_TETRAHEDRA, has_faces, mesh_at,
+    point, reason_of,
+};
+use edit_base::{Change, EdgeFaces, Edit, Why, edge_beside, is_edge};
+use edit_split::{apply_split, is_split_over, split};
 use grid_base::Point;
-use mesh_plain::{FaceId, PairName, PlainMesh, Surface, VertexId};
+use mesh_plain::{FaceId, PairName, Surface, VertexId};
 use std::test::Fail;
 
 const DEPTH: u8 = 6;
-
-// Two tetrahedra with the edge 1 2 in common, one where y and z are 0 or more and the other where they are 0 or less.
-const JOINED: [[i32; 3]; 6] = [
-    [0, 0, 0],
-    [8, 0, 0],
-    [0, 8, 0],
-    [0, 0, 8],
-    [0, -8, 0],
-    [0, 0, -8],
-];
-
-const JOINED_SIDES: [[u32; 3]; 8] = [
-    [1, 3, 2],
-    [1, 2, 4],
-    [2, 3, 4],
-    [1, 4, 3],
-    [1, 5, 2],
-    [1, 2, 6],
-    [2, 5, 6],
-    [1, 6, 5],
-];
 
 // The first lies where 9 z is x or more, and its edge 1 2 has the midpoint (4.5, 0, 0.5), which is rounded to (4, 0, 0).
 // There stands the vertex 5 of the second, which lies where z is 0 or less.
@@ -60,13 +42,15 @@ fn cut_of(edit: &Edit) -> Option<Cut> {
     }
 }
 
-fn corners(mesh: &PlainMesh, f: u32) -> Option<[VertexId; 3]> {
-    mesh.corners(FaceId(f))
-}
-
-fn three(ids: [u32; 3]) -> Option<[VertexId; 3]> {
-    Some([VertexId(ids[0]), VertexId(ids[1]), VertexId(ids[2])])
-}
+// The faces of the tetrahedron after the split of 1 2.
+const SPLIT_FACES: [(u32, [u32; 3]); 6] = [
+    (3, [2, 3, 4]),
+    (4, [1, 4, 3]),
+    (5, [1, 5, 4]),
+    (6, [5, 2, 4]),
+    (7, [2, 5, 3]),
+    (8, [5, 1, 3]),
+];
 
 #[test]
 fn an_edge_of_a_tetrahedron_is_split(rt: HostRuntime) -> Result<(), Fail> {
@@ -81,17 +65,33 @@ fn an_edge_of_a_tetrahedron_is_split(rt: HostRuntime) -> Result<(), Fail> {
     assert_eq!(rt; cut_of(&edit), Some(cut));
     assert_eq!(rt; mesh.point(VertexId(5)), Some(at));
     assert_eq!(rt; (mesh.vertices(), mesh.faces()), (5, 6));
-    for (f, ids) in [
-        (3, [2, 3, 4]),
-        (4, [1, 4, 3]),
-        (5, [1, 5, 4]),
-        (6, [5, 2, 4]),
-        (7, [2, 5, 3]),
-        (8, [5, 1, 3]),
-    ] {
-        assert_eq!(rt; corners(&mesh, f), three(ids));
-    }
+    assert!(rt; has_faces(&mesh, &SPLIT_FACES));
     assert_eq!(rt; (mesh.next_vertex(), mesh.next_face()), (6, 9));
+    Ok(())
+}
+
+#[test]
+fn the_acts_of_a_split_put_the_vertex_where_they_are_told(rt: HostRuntime) -> Result<(), Fail> {
+    let mut mesh = mesh_at(rt.alloc(), &TETRAHEDRON, &TETRAHEDRON_FACES, &rt)?;
+    let e = edge_beside(&mesh, VertexId(2), VertexId(1)).expect(&rt, "an edge");
+    let edge = EdgeFaces {
+        a: VertexId(1),
+        b: VertexId(2),
+        c: VertexId(4),
+        d: VertexId(3),
+        left_face: FaceId(2),
+        right_face: FaceId(1),
+    };
+    assert_eq!(rt; e, edge);
+    assert_eq!(rt; edge_beside(&mesh, e.a, e.b), Some(e));
+    assert!(rt; is_edge(&mesh, e.a, e.b));
+    assert!(rt; !is_split_over(&mesh));
+    // beside the edge, and not at its midpoint
+    let at = point([1, 1, 1], &rt);
+    apply_split(&mut mesh, &e, at)?;
+    assert_eq!(rt; mesh.point(VertexId(5)), Some(at));
+    assert_eq!(rt; (mesh.vertices(), mesh.faces()), (5, 6));
+    assert!(rt; has_faces(&mesh, &SPLIT_FACES));
     Ok(())
 }
 
@@ -106,7 +106,7 @@ fn a_refused_split_leaves_the_mesh(rt: HostRuntime) -> Result<(), Fail> {
         (&TETRAHEDRON, &TETRAHEDRON_FACES, 1, 1, Why::NoEdge),
         (&TETRAHEDRON, &TETRAHEDRON_FACES, 1, 5, Why::NoEdge),
         (&NEAR, &TWO_TETRAHEDRA, 1, 5, Why::NoEdge),
-        (&JOINED, &JOINED_SIDES, 1, 2, Why::Crowded),
+        (&JOINED, &JOINED_FACES, 1, 2, Why::Crowded),
         (&NEAR, &TWO_TETRAHEDRA, 1, 2, hit),
     ];
     for (points, faces, a, b, why) in cases {
