@@ -16,8 +16,8 @@ fn told(ids: [VertexId; 4], at: Point) -> Told {
     (ids.map(|v| v.0), [at.x, at.y, at.z])
 }
 
-// What an answer tells, if it is of the kind that is asked. Nothing stands for an id or a point that there is not; a turn is told as
-// the first coordinate, and the copies of a pinched vertex by the first of them and their number.
+// What an answer tells, if it is of the kind that is asked. Nothing stands for an id or a point that there is not, a turn is told as
+// the first coordinate, and of the copies of a pinched vertex the first.
 fn found(what: Asked, answer: &Edit) -> Option<Result<Told, Why>> {
     let none = VertexId(0);
     match (what, answer) {

@@ -1,4 +1,11 @@
 //! Worked examples of splits.
+ghost use Rattle.std.specs.Prelude.{◌≡◌, false, IfSome};
+ghost use Rattle.grid_base.specs.declared.Point.{Point};
+ghost use Rattle.mesh_base.specs.Limits.{is_over_limits};
+ghost use Rattle.mesh_base.specs.Sides.{IsClosed};
+ghost use Rattle.edit_base.specs.Required.{HasEdge};
+ghost use Rattle.edit_split.specs.Split.{split_mesh};
+
 use crate::meshes::{
     JOINED, JOINED_FACES, TETRAHEDRON, TETRAHEDRON_FACES, TWO_TETRAHEDRA, has_faces, mesh_at,
     point, reason_of,
@@ -70,24 +77,28 @@ fn an_edge_of_a_tetrahedron_is_split(rt: HostRuntime) -> Result<(), Fail> {
     Ok(())
 }
 
+// The edge of two ids with the faces beside it, where its split passes no limit.
+fn edge_to_cut<S: Surface>(mesh: &S, a: VertexId, b: VertexId) -> Option<EdgeFaces>
+    requires { IsClosed (S.mesh mesh.now) }
+    ensures edge { IfSome result (λ e. HasEdge (S.mesh mesh.now) e) }
+    ensures fits { IfSome result
+        (λ e. (at : Point) → is_over_limits (split_mesh (S.mesh mesh.now) e at) ≡ false) }
+{
+    match edge_beside(mesh, a, b) {
+        None => None,
+        Some(e) => { if is_split_over(mesh) { None } else { Some(e) } }
+    }
+}
+
 #[test]
 fn the_acts_of_a_split_put_the_vertex_where_they_are_told(rt: HostRuntime) -> Result<(), Fail> {
     let mut mesh = mesh_at(rt.alloc(), &TETRAHEDRON, &TETRAHEDRON_FACES, &rt)?;
-    let e = edge_beside(&mesh, VertexId(2), VertexId(1)).expect(&rt, "an edge");
-    let edge = EdgeFaces {
-        a: VertexId(1),
-        b: VertexId(2),
-        c: VertexId(4),
-        d: VertexId(3),
-        left_face: FaceId(2),
-        right_face: FaceId(1),
-    };
-    assert_eq!(rt; e, edge);
-    assert_eq!(rt; edge_beside(&mesh, e.a, e.b), Some(e));
-    assert!(rt; is_edge(&mesh, e.a, e.b));
-    assert!(rt; !is_split_over(&mesh));
     // beside the edge, and not at its midpoint
     let at = point([1, 1, 1], &rt);
+    let e = edge_to_cut(&mesh, VertexId(2), VertexId(1)).expect(&rt, "an edge");
+    assert_eq!(rt; (e.a, e.b), (VertexId(1), VertexId(2)));
+    assert_eq!(rt; (e.c, e.d), (VertexId(4), VertexId(3)));
+    assert_eq!(rt; (e.left_face, e.right_face), (FaceId(2), FaceId(1)));
     apply_split(&mut mesh, &e, at)?;
     assert_eq!(rt; mesh.point(VertexId(5)), Some(at));
     assert_eq!(rt; (mesh.vertices(), mesh.faces()), (5, 6));

@@ -200,9 +200,14 @@ const LAST_VERTEX: VertexId = VertexId(2_147_483_648);
 
 const LAST_FACE: FaceId = FaceId(2_147_483_648);
 
+fn point(p: [i32; 3], rt: &impl Abort) -> Point {
+    Point::new(p[0], p[1], p[2]).expect(rt, "a corner in the box")
+}
+
 // The box from one corner to another.
 fn extent(at: [[i32; 3]; 2], rt: &impl Abort) -> Extent {
-    let [low, high] = at.map(|p| Point::new(p[0], p[1], p[2]).expect(rt, "a corner in the box"));
+    let low = point(at[0], rt);
+    let high = point(at[1], rt);
     Extent::around(low.wide(), high.wide())
 }
 
@@ -246,10 +251,12 @@ fn is_lawful<S: Surface>(
     ensures { IfOk result (λ yes. yes ≡ true →
         IsLawful (seen S.mesh S.kept surface.now marks.now.items) call.now) }
 {
-    match call {
-        Call::Make { act } => is_allowed(alloc, surface, act),
-        Call::BackTo { nth } => Ok(*nth < marks.len()),
-        _ => Ok(true),
+    match *call {
+        Call::Ask { .. } => Ok(true),
+        Call::Make { act } => is_allowed(alloc, surface, &act),
+        Call::MakeMark => Ok(true),
+        Call::BackTo { nth } => Ok(nth < marks.len()),
+        Call::Settle => Ok(true),
     }
 }
 
@@ -268,6 +275,16 @@ fn told<S: Surface>(
     play_one(alloc, surface, marks, call)
 }
 
+/// Makes an index, or nothing.
+fn index_if<S: Surface>(surface: &mut S, marks: &Vec<Mark>, is_asked: bool)
+    requires { AreMarks S.beyond (S.kept surface.old) marks.now.items }
+    ensures { AreMarks S.beyond (S.kept surface.new) marks.now.items }
+{
+    if is_asked {
+        surface.index();
+    }
+}
+
 /// Makes calls, and an index before the one at a place; where it is `often`, before each later one too.
 fn play_steps<S: Surface>(
     rt: &impl Abort,
@@ -278,12 +295,13 @@ fn play_steps<S: Surface>(
     often: bool,
 ) -> Result<(), NoMemory> {
     let mut marks = Vec::new(alloc);
-    for (i, step) in steps.iter().enumerate() {
-        if i == place || often && i > place {
-            surface.index();
-        }
-        let answer = told(rt, alloc, surface, &mut marks, &call_of(step, rt))?;
-        assert!(rt; is_wanted(&answer, step), "call {i}, index at {place}");
+    let mut now: usize = 0;
+    for step in steps {
+        index_if(surface, &marks, now == place || often && now > place);
+        let call = call_of(step, rt);
+        let answer = told(rt, alloc, surface, &mut marks, &call)?;
+        assert!(rt; is_wanted(&answer, step), "call {now}, index at {place}");
+        now = now.wrapping_add(1);
     }
     Ok(())
 }

@@ -1,15 +1,28 @@
 //! Worked examples: the paths of vertices and faces that move, and the boxes of the faces in frames.
+ghost use Rattle.std.specs.Prelude.{◌≡◌};
+ghost use Rattle.mesh_base.specs.Placements.{rest_positions};
+
 use crate::meshes::mesh_at;
 use crate::plays::is_allowed;
 use box_tree::SmallBox;
-use grid_base::{Extent, NoMemory, Wide};
-use mesh_base::{FaceId, Surface, VertexId, point_of};
+use grid_base::{Extent, NoMemory, Point, Wide};
+use mesh_base::{FaceId, Surface, VertexId};
 use mesh_plain::PlainMesh;
 use mesh_play::{Act, do_act};
 use pair_paths::{Frame, MovingFace, Path, Paths, Position, boxes_in, moving_faces, paths_of};
 use std::alloc::Global;
 use std::process::Abort;
 use std::test::Fail;
+
+// Where a vertex stands; the origin, where it is not live.
+fn resting<S: Surface>(mesh: &S, v: VertexId) -> Position
+    ensures { result ≡ rest_positions (S.mesh mesh.now) v }
+{
+    match mesh.point(v) {
+        Some(p) => Position::of(p.wide()),
+        None => Position::of(Point { x: 0, y: 0, z: 0 }.wide()),
+    }
+}
 
 /// Each vertex goes from where it stands in one mesh to where it stands in another.
 #[derive(Drop)]
@@ -19,8 +32,6 @@ struct Between<'a, S: Surface> {
 }
 
 impl<'a, S: Surface> Paths for Between<'a, S> {
-    ghost use Rattle.mesh_base.specs.Placements.{rest_positions};
-
     ghost motion = { λ s. record {
       start = rest_positions (S.mesh s.first.now);
       end = rest_positions (S.mesh s.last.now);
@@ -28,8 +39,8 @@ impl<'a, S: Surface> Paths for Between<'a, S> {
 
     fn path_of(&self, v: VertexId) -> Path {
         Path {
-            start: Position::of(point_of(self.first, v).wide()),
-            end: Position::of(point_of(self.last, v).wide()),
+            start: resting(self.first, v),
+            end: resting(self.last, v),
         }
     }
 }
@@ -38,6 +49,9 @@ impl<'a, S: Surface> Paths for Between<'a, S> {
 const POINTS: [[i32; 3]; 5] = [[0, 0, 0], [4, 0, 0], [7, 7, 7], [0, 4, 0], [0, 0, 4]];
 
 const FACES: [[u32; 3]; 4] = [[1, 4, 2], [1, 2, 5], [2, 4, 5], [1, 5, 4]];
+
+// The faces that are left, with their corners.
+const LEFT: [(u32, [u32; 3]); 3] = [(1, [1, 4, 2]), (3, [2, 4, 5]), (4, [1, 5, 4])];
 
 // All go to one place.
 const PLACE: [i32; 3] = [1, 2, -3];
@@ -72,6 +86,11 @@ const BOXES: [([i32; 3], [[[i32; 3]; 2]; 3]); 3] = [
         ],
     ),
 ];
+
+fn position(p: [i32; 3], rt: &impl Abort) -> Position {
+    let p = Point::new(p[0], p[1], p[2]).expect(rt, "a point in the box");
+    Position::of(p.wide())
+}
 
 fn wide(p: [i32; 3]) -> Wide {
     Wide {
@@ -135,13 +154,12 @@ fn live_vertices_and_faces_have_their_paths(rt: HostRuntime) -> Result<(), Fail>
     }
     let faces = moving_faces(rt.alloc(), &first, &between)?;
     assert_eq!(rt; faces.len(), 3);
-    for (face, id) in faces.as_slice().iter().zip(&[1, 3, 4]) {
-        let corners = FACES[*id - 1];
-        assert!(rt; is_face_of(face, *id as u32, corners), "face {id}");
+    for (face, (id, c)) in faces.as_slice().iter().zip(&LEFT) {
+        assert!(rt; is_face_of(face, *id, *c), "face {id}");
     }
     for (end, wanted) in BOXES {
         let end = Frame {
-            end: Position::of(wide(end)),
+            end: position(end, &rt),
         };
         let boxes = boxes_in(rt.alloc(), faces.as_slice(), &end)?;
         assert_eq!(rt; boxes.len(), 3);

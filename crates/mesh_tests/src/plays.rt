@@ -183,7 +183,7 @@ pub(crate) fn is_told(answer: &Answer, want: Want) -> bool {
 }
 
 /// Whether the corners live and differ, and no face runs along the first side.
-pub(crate) fn is_fresh<S: Surface>(surface: &S, a: VertexId, b: VertexId, c: VertexId) -> bool
+fn is_fresh<S: Surface>(surface: &S, a: VertexId, b: VertexId, c: VertexId) -> bool
     ensures { result ≡ true →
         IsFresh (S.mesh surface.now) (record { first = a; second = b; third = c }) }
 {
@@ -286,30 +286,30 @@ fn calls_are_played_in_order(rt: HostRuntime) -> Result<(), Fail> {
     let lists = tetrahedron(rt.alloc())?;
     assert!(rt; shape(rt.alloc(), &lists).is_ok());
     let mut mesh = PlainMesh::of(rt.alloc(), &lists)?;
-    let add = Call::Make {
-        act: Act::AddVertex { p: FAR },
-    };
-    let next = Call::Ask {
-        question: Question::NextVertex,
-    };
     // The return to the first mark takes both back, and the vertices that were made since.
     let calls = [
         Call::MakeMark,
-        add,
+        Call::Make {
+            act: Act::AddVertex { p: FAR },
+        },
         Call::MakeMark,
-        add,
-        next,
+        Call::Make {
+            act: Act::AddVertex { p: FAR },
+        },
         Call::BackTo { nth: 0 },
-        next,
+        Call::Ask {
+            question: Question::NextVertex,
+        },
         Call::Settle,
-        add,
+        Call::Make {
+            act: Act::AddVertex { p: FAR },
+        },
     ];
     let wants = [
         Want::Done,
         Want::VertexMade(VertexId(5)),
         Want::Done,
         Want::VertexMade(VertexId(6)),
-        Want::Number(7),
         Want::Done,
         Want::Number(5),
         Want::Done,
