@@ -86,7 +86,7 @@ const THREE_FACES: [[u32; 3]; 12] = [
 ];
 
 // A tetrahedron in a larger one.
-const NESTED: [[i32; 3]; 8] = [
+pub(crate) const NESTED: [[i32; 3]; 8] = [
     [0, 0, 0],
     [40, 0, 0],
     [0, 40, 0],
@@ -97,7 +97,7 @@ const NESTED: [[i32; 3]; 8] = [
     [2, 2, 4],
 ];
 
-const NESTED_FACES: [[u32; 3]; 8] = [
+pub(crate) const NESTED_FACES: [[u32; 3]; 8] = [
     [1, 3, 2],
     [1, 2, 4],
     [2, 3, 4],

@@ -1,6 +1,6 @@
 //! Worked examples of flips.
 
-use crate::meshes::{FLAT, FLAT_FACES, has_faces, mesh_at, reason_of};
+use crate::meshes::{FLAT, FLAT_FACES, JOINED, JOINED_FACES, has_faces, mesh_at, reason_of};
 use edit_base::{Change, Edit, Why};
 use edit_flip::flip;
 use grid_base::NoMemory;
@@ -136,6 +136,10 @@ fn a_flip_is_refused_by_what_is_there(rt: HostRuntime) -> Result<(), Fail> {
         &rt,
     )?;
     assert_eq!(rt; why, Some(Why::Edge));
+
+    // two faces run each way along the edge that two tetrahedra have in common
+    let why = refusal(rt.alloc(), &JOINED, &JOINED_FACES, [2, 1], &rt)?;
+    assert_eq!(rt; why, Some(Why::Crowded));
 
     // no edge, one id twice, and an id that no vertex has
     for ends in [[4, 5], [3, 3], [1, 9]] {

@@ -6,7 +6,11 @@ mod checks;
 #[cfg(test)]
 mod collapses;
 #[cfg(test)]
+mod edits;
+#[cfg(test)]
 mod flips;
+#[cfg(test)]
+mod limits;
 #[cfg(test)]
 mod meshes;
 #[cfg(test)]

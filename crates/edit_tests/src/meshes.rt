@@ -44,6 +44,36 @@ pub(crate) const FLAT_FACES: [[u32; 3]; 6] = [
     [1, 3, 5],
 ];
 
+// Two tetrahedra with the edge 1 2 in common, one where y and z are 0 or more and the other where they are 0 or less; and a third
+// far from them.
+pub(crate) const JOINED: [[i32; 3]; 10] = [
+    [0, 0, 0],
+    [8, 0, 0],
+    [0, 8, 0],
+    [0, 0, 8],
+    [0, -8, 0],
+    [0, 0, -8],
+    [50, 0, 0],
+    [58, 0, 0],
+    [50, 8, 0],
+    [50, 0, 8],
+];
+
+pub(crate) const JOINED_FACES: [[u32; 3]; 12] = [
+    [1, 3, 2],
+    [1, 2, 4],
+    [2, 3, 4],
+    [1, 4, 3],
+    [1, 5, 2],
+    [1, 2, 6],
+    [2, 5, 6],
+    [1, 6, 5],
+    [7, 9, 8],
+    [7, 8, 10],
+    [8, 9, 10],
+    [7, 10, 9],
+];
+
 pub(crate) fn point(p: [i32; 3], rt: &impl Abort) -> Point {
     Point::new(p[0], p[1], p[2]).expect(rt, "a point in the box")
 }

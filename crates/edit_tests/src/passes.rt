@@ -1,5 +1,8 @@
 //! Worked examples of passes.
+use crate::collapses::{NESTED, NESTED_FACES};
 use crate::meshes::{FLAT, FLAT_FACES, TETRAHEDRON, TETRAHEDRON_FACES, lists_at};
+use crate::pinches::{BOTH_SMALL, TWO, TWO_FACES};
+use crate::zips::{FACES, POINTS};
 use edit_base::PassKind;
 use grid_base::NoMemory;
 use mesh_plain::{MeshLists, PlainMesh, Surface, shape};
@@ -11,6 +14,54 @@ use std::process::Abort;
 use std::test::Fail;
 
 const LONG: [[i32; 3]; 4] = [[0, 0, 0], [40, 0, 0], [0, 4, 0], [0, 0, 4]];
+
+// Two tetrahedra with the long edge 1 2 in common, whose other edges are shorter than 21.
+const LENS: [[i32; 3]; 6] = [
+    [0, 0, 0],
+    [0, 0, 40],
+    [5, -2, 20],
+    [5, 2, 20],
+    [-5, -2, 20],
+    [-5, 2, 20],
+];
+
+const LENS_FACES: [[u32; 3]; 8] = [
+    [1, 3, 2],
+    [1, 2, 4],
+    [2, 3, 4],
+    [1, 4, 3],
+    [1, 5, 2],
+    [1, 2, 6],
+    [2, 5, 6],
+    [1, 6, 5],
+];
+
+// Two double pyramids with the short edge 1 2 in common.
+const WINGS: [[i32; 3]; 8] = [
+    [0, 0, 0],
+    [0, 0, 8],
+    [100, -40, 4],
+    [100, 40, 4],
+    [120, 0, 7],
+    [-100, -40, 4],
+    [-100, 40, 4],
+    [-120, 0, 7],
+];
+
+const WINGS_FACES: [[u32; 3]; 12] = [
+    [1, 2, 3],
+    [1, 3, 4],
+    [1, 4, 2],
+    [5, 3, 2],
+    [5, 4, 3],
+    [5, 2, 4],
+    [2, 1, 6],
+    [1, 7, 6],
+    [1, 2, 7],
+    [8, 2, 6],
+    [8, 6, 7],
+    [8, 7, 2],
+];
 
 // The lines of the splits of all edges of the even tetrahedron.
 const SPLITS: [&[u8]; 7] = [
@@ -104,34 +155,147 @@ fn a_write_that_fails_leaves_whole_lines_and_one_more_edit(rt: HostRuntime) -> R
 }
 
 #[test]
-fn edges_that_are_there_already_are_not_made_by_a_flip(rt: HostRuntime) -> Result<(), Fail> {
-    let alloc = rt.alloc();
-    let lists = lists_at(alloc, &LONG, &TETRAHEDRON_FACES, &rt)?;
-    // A grouped pass ends with its first `no` line.
-    let one: &[u8] = b"pass flip\nno flip 1 2 edge\n";
-    let all: &[u8] = b"pass flip\nno flip 1 2 edge\nno flip 2 3 edge\nno flip 2 4 edge\n";
-    for (grouped, refused, text) in [(true, 1, one), (false, 3, all)] {
-        let mut out = sink_of(alloc, &[])?;
-        let found = done(alloc, &lists, PassKind::Flip, grouped, &mut out, &rt)?;
-        let none = PassCount { done: 0, refused };
-        assert_eq!(rt; found, (Ok(none), 4, 4));
+fn a_pass_asks_what_meets_its_condition_and_tells_each_answer(rt: HostRuntime) -> Result<(), Fail> {
+    // The mesh, the kind of pass, whether it is grouped; how many edits are done and refused, how many vertices and faces there are
+    // then, and the lines.
+    let rows: [(&[[i32; 3]], &[[u32; 3]], PassKind, bool, [u64; 4], &[u8]); 14] = [
+        // one edge is long enough, and crowded
+        (
+            &LENS,
+            &LENS_FACES,
+            PassKind::Split { over: 30 },
+            false,
+            [0, 1, 6, 8],
+            b"pass split 30\nno split 1 2 crowded\n",
+        ),
+        // a grouped pass ends with its first `no` line
+        (
+            &LONG,
+            &TETRAHEDRON_FACES,
+            PassKind::Flip,
+            true,
+            [0, 1, 4, 4],
+            b"pass flip\nno flip 1 2 edge\n",
+        ),
+        // edges that are there already are not made by a flip, and the pass goes on
+        (
+            &LONG,
+            &TETRAHEDRON_FACES,
+            PassKind::Flip,
+            false,
+            [0, 3, 4, 4],
+            b"pass flip\nno flip 1 2 edge\nno flip 2 3 edge\nno flip 2 4 edge\n",
+        ),
+        (
+            &FLAT,
+            &FLAT_FACES,
+            PassKind::Flip,
+            false,
+            [1, 2, 5, 6],
+            b"pass flip\nflip 1 2\nno flip 1 3 edge\nno flip 2 3 edge\n",
+        ),
+        // the first collapse takes all: no later edge stands
+        (
+            &TETRAHEDRON,
+            &TETRAHEDRON_FACES,
+            PassKind::Collapse { under: 5 },
+            false,
+            [1, 0, 0, 0],
+            b"pass collapse 5\ncollapse 1 2 2 0 0\n",
+        ),
+        // the inner of two bodies is small enough
+        (
+            &NESTED,
+            &NESTED_FACES,
+            PassKind::Collapse { under: 5 },
+            false,
+            [1, 0, 4, 4],
+            b"pass collapse 5\ncollapse 5 6 3 2 2\n",
+        ),
+        // it stands in the way of the outer
+        (
+            &NESTED,
+            &NESTED_FACES,
+            PassKind::Collapse { under: 41 },
+            true,
+            [0, 1, 8, 8],
+            b"pass collapse 41\nno collapse 1 2 hit 5 6 4\n",
+        ),
+        // a crowded edge becomes a vertex of two fans
+        (
+            &WINGS,
+            &WINGS_FACES,
+            PassKind::Collapse { under: 10 },
+            false,
+            [1, 0, 7, 8],
+            b"pass collapse 10\ncollapse 1 2 0 0 4\n",
+        ),
+        // the midpoints of 1 2 and 9 10 are 4 apart, and no others are as near
+        (
+            &POINTS[..16],
+            &FACES[..24],
+            PassKind::Zip { within: 4 },
+            false,
+            [1, 0, 16, 28],
+            b"pass zip 4\nzip 1 2 9 10 0\n",
+        ),
+        (
+            &POINTS[..16],
+            &FACES[..24],
+            PassKind::Zip { within: 3 },
+            false,
+            [0, 0, 16, 24],
+            b"pass zip 3\n",
+        ),
+        (
+            &POINTS,
+            &FACES,
+            PassKind::Zip { within: 4 },
+            false,
+            [0, 1, 20, 28],
+            b"pass zip 4\nno zip 1 2 9 10 hit 1 10 29\n",
+        ),
+        (
+            &TWO,
+            &TWO_FACES,
+            PassKind::Pinch,
+            false,
+            [1, 0, 8, 8],
+            b"pass pinch\npinch 1 1 0 0 8 -1 0 0\n",
+        ),
+        (
+            &BOTH_SMALL,
+            &TWO_FACES,
+            PassKind::Pinch,
+            false,
+            [0, 1, 7, 8],
+            b"pass pinch\nno pinch 1 hit 1 2 9\n",
+        ),
+        // each vertex has one fan
+        (
+            &TETRAHEDRON,
+            &TETRAHEDRON_FACES,
+            PassKind::Pinch,
+            false,
+            [0, 0, 4, 4],
+            b"pass pinch\n",
+        ),
+    ];
+    for (points, faces, kind, grouped, [done_count, refused, vertices, left], text) in rows {
+        let lists = lists_at(rt.alloc(), points, faces, &rt)?;
+        let mut out = sink_of(rt.alloc(), &[])?;
+        let found = done(rt.alloc(), &lists, kind, grouped, &mut out, &rt)?;
+        let count = PassCount {
+            done: done_count,
+            refused,
+        };
+        let (counted, found_vertices, found_faces) = found;
+        assert_eq!(rt; counted, Ok(count));
+        assert_eq!(rt;
+            (u64::from(found_vertices), u64::from(found_faces)),
+            (vertices, left)
+        );
         assert_eq!(rt; out.bytes(), text);
     }
-    Ok(())
-}
-
-#[test]
-fn a_pass_goes_on_after_an_edge_that_is_not_flipped(rt: HostRuntime) -> Result<(), Fail> {
-    let alloc = rt.alloc();
-    let lists = lists_at(alloc, &FLAT, &FLAT_FACES, &rt)?;
-    let mut out = sink_of(alloc, &[])?;
-    let found = done(alloc, &lists, PassKind::Flip, false, &mut out, &rt)?;
-    let count = PassCount {
-        done: 1,
-        refused: 2,
-    };
-    assert_eq!(rt; found, (Ok(count), 5, 6));
-    let text = b"pass flip\nflip 1 2\nno flip 1 3 edge\nno flip 2 3 edge\n";
-    assert_eq!(rt; out.bytes(), text.as_slice());
     Ok(())
 }

@@ -10,7 +10,7 @@ use std::test::Fail;
 const DEPTH: u8 = 6;
 
 // Two tetrahedra with the vertex 1 in common, and the same with the second a quarter as wide, and with both.
-const TWO: [[i32; 3]; 7] = [
+pub(crate) const TWO: [[i32; 3]; 7] = [
     [0, 0, 0],
     [8, 0, 0],
     [8, 4, 0],
@@ -30,7 +30,7 @@ const SMALL: [[i32; 3]; 7] = [
     [-2, 0, 1],
 ];
 
-const BOTH_SMALL: [[i32; 3]; 7] = [
+pub(crate) const BOTH_SMALL: [[i32; 3]; 7] = [
     [0, 0, 0],
     [2, 0, 0],
     [2, 1, 0],
@@ -40,7 +40,7 @@ const BOTH_SMALL: [[i32; 3]; 7] = [
     [-2, 0, 1],
 ];
 
-const TWO_FACES: [[u32; 3]; 8] = [
+pub(crate) const TWO_FACES: [[u32; 3]; 8] = [
     [1, 3, 2],
     [1, 2, 4],
     [2, 3, 4],

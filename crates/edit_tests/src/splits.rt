@@ -1,33 +1,22 @@
 //! Worked examples of splits.
-use crate::meshes::{TETRAHEDRON, TETRAHEDRON_FACES, TWO_TETRAHEDRA, mesh_at, point, reason_of};
-use edit_base::{Change, Edit, Why};
-use edit_split::split;
+ghost use Rattle.std.specs.Prelude.{◌≡◌, false, IfSome};
+ghost use Rattle.grid_base.specs.declared.Point.{Point};
+ghost use Rattle.mesh_base.specs.Limits.{is_over_limits};
+ghost use Rattle.mesh_base.specs.Sides.{IsClosed};
+ghost use Rattle.edit_base.specs.Required.{HasEdge};
+ghost use Rattle.edit_split.specs.Split.{split_mesh};
+
+use crate::meshes::{
+    JOINED, JOINED_FACES, TETRAHEDRON, TETRAHEDRON_FACES, TWO_TETRAHEDRA, has_faces, mesh_at,
+    point, reason_of,
+};
+use edit_base::{Change, EdgeFaces, Edit, Why, edge_beside, is_edge};
+use edit_split::{apply_split, is_split_over, split};
 use grid_base::Point;
-use mesh_plain::{FaceId, PairName, PlainMesh, Surface, VertexId};
+use mesh_plain::{FaceId, PairName, Surface, VertexId};
 use std::test::Fail;
 
 const DEPTH: u8 = 6;
-
-// Two tetrahedra with the edge 1 2 in common, one where y and z are 0 or more and the other where they are 0 or less.
-const JOINED: [[i32; 3]; 6] = [
-    [0, 0, 0],
-    [8, 0, 0],
-    [0, 8, 0],
-    [0, 0, 8],
-    [0, -8, 0],
-    [0, 0, -8],
-];
-
-const JOINED_SIDES: [[u32; 3]; 8] = [
-    [1, 3, 2],
-    [1, 2, 4],
-    [2, 3, 4],
-    [1, 4, 3],
-    [1, 5, 2],
-    [1, 2, 6],
-    [2, 5, 6],
-    [1, 6, 5],
-];
 
 // The first lies where 9 z is x or more, and its edge 1 2 has the midpoint (4.5, 0, 0.5), which is rounded to (4, 0, 0).
 // There stands the vertex 5 of the second, which lies where z is 0 or less.
@@ -60,13 +49,15 @@ fn cut_of(edit: &Edit) -> Option<Cut> {
     }
 }
 
-fn corners(mesh: &PlainMesh, f: u32) -> Option<[VertexId; 3]> {
-    mesh.corners(FaceId(f))
-}
-
-fn three(ids: [u32; 3]) -> Option<[VertexId; 3]> {
-    Some([VertexId(ids[0]), VertexId(ids[1]), VertexId(ids[2])])
-}
+// The faces of the tetrahedron after the split of 1 2.
+const SPLIT_FACES: [(u32, [u32; 3]); 6] = [
+    (3, [2, 3, 4]),
+    (4, [1, 4, 3]),
+    (5, [1, 5, 4]),
+    (6, [5, 2, 4]),
+    (7, [2, 5, 3]),
+    (8, [5, 1, 3]),
+];
 
 #[test]
 fn an_edge_of_a_tetrahedron_is_split(rt: HostRuntime) -> Result<(), Fail> {
@@ -81,17 +72,37 @@ fn an_edge_of_a_tetrahedron_is_split(rt: HostRuntime) -> Result<(), Fail> {
     assert_eq!(rt; cut_of(&edit), Some(cut));
     assert_eq!(rt; mesh.point(VertexId(5)), Some(at));
     assert_eq!(rt; (mesh.vertices(), mesh.faces()), (5, 6));
-    for (f, ids) in [
-        (3, [2, 3, 4]),
-        (4, [1, 4, 3]),
-        (5, [1, 5, 4]),
-        (6, [5, 2, 4]),
-        (7, [2, 5, 3]),
-        (8, [5, 1, 3]),
-    ] {
-        assert_eq!(rt; corners(&mesh, f), three(ids));
-    }
+    assert!(rt; has_faces(&mesh, &SPLIT_FACES));
     assert_eq!(rt; (mesh.next_vertex(), mesh.next_face()), (6, 9));
+    Ok(())
+}
+
+// The edge of two ids with the faces beside it, where its split passes no limit.
+fn edge_to_cut<S: Surface>(mesh: &S, a: VertexId, b: VertexId) -> Option<EdgeFaces>
+    requires { IsClosed (S.mesh mesh.now) }
+    ensures edge { IfSome result (λ e. HasEdge (S.mesh mesh.now) e) }
+    ensures fits { IfSome result
+        (λ e. (at : Point) → is_over_limits (split_mesh (S.mesh mesh.now) e at) ≡ false) }
+{
+    match edge_beside(mesh, a, b) {
+        None => None,
+        Some(e) => { if is_split_over(mesh) { None } else { Some(e) } }
+    }
+}
+
+#[test]
+fn the_acts_of_a_split_put_the_vertex_where_they_are_told(rt: HostRuntime) -> Result<(), Fail> {
+    let mut mesh = mesh_at(rt.alloc(), &TETRAHEDRON, &TETRAHEDRON_FACES, &rt)?;
+    // beside the edge, and not at its midpoint
+    let at = point([1, 1, 1], &rt);
+    let e = edge_to_cut(&mesh, VertexId(2), VertexId(1)).expect(&rt, "an edge");
+    assert_eq!(rt; (e.a, e.b), (VertexId(1), VertexId(2)));
+    assert_eq!(rt; (e.c, e.d), (VertexId(4), VertexId(3)));
+    assert_eq!(rt; (e.left_face, e.right_face), (FaceId(2), FaceId(1)));
+    apply_split(&mut mesh, &e, at)?;
+    assert_eq!(rt; mesh.point(VertexId(5)), Some(at));
+    assert_eq!(rt; (mesh.vertices(), mesh.faces()), (5, 6));
+    assert!(rt; has_faces(&mesh, &SPLIT_FACES));
     Ok(())
 }
 
@@ -106,7 +117,7 @@ fn a_refused_split_leaves_the_mesh(rt: HostRuntime) -> Result<(), Fail> {
         (&TETRAHEDRON, &TETRAHEDRON_FACES, 1, 1, Why::NoEdge),
         (&TETRAHEDRON, &TETRAHEDRON_FACES, 1, 5, Why::NoEdge),
         (&NEAR, &TWO_TETRAHEDRA, 1, 5, Why::NoEdge),
-        (&JOINED, &JOINED_SIDES, 1, 2, Why::Crowded),
+        (&JOINED, &JOINED_FACES, 1, 2, Why::Crowded),
         (&NEAR, &TWO_TETRAHEDRA, 1, 2, hit),
     ];
     for (points, faces, a, b, why) in cases {

@@ -1,13 +1,15 @@
 //! Worked examples of zips.
 
-use crate::meshes::{TETRAHEDRON, TETRAHEDRON_FACES, has_faces, mesh_at, reason_of};
+use crate::meshes::{
+    JOINED, JOINED_FACES, TETRAHEDRON, TETRAHEDRON_FACES, has_faces, mesh_at, reason_of,
+};
 use edit_base::{Change, Edit, Why};
 use edit_zip::{zip, zip_ready};
 use mesh_plain::{FaceId, PairName, Surface, VertexId};
 use std::test::Fail;
 
 // Two boxes that face each other, and a bar between them.
-const POINTS: [[i32; 3]; 20] = [
+pub(crate) const POINTS: [[i32; 3]; 20] = [
     [10, 0, 0],
     [10, 10, 10],
     [10, 10, 0],
@@ -30,7 +32,7 @@ const POINTS: [[i32; 3]; 20] = [
     [13, 60, 5],
 ];
 
-const FACES: [[u32; 3]; 28] = [
+pub(crate) const FACES: [[u32; 3]; 28] = [
     [1, 3, 2],
     [1, 2, 4],
     [5, 8, 7],
@@ -157,16 +159,24 @@ fn a_refused_zip_leaves_the_mesh(rt: HostRuntime) -> Result<(), Fail> {
 }
 
 #[test]
-fn edges_across_a_tetrahedron_share_their_vertices(rt: HostRuntime) -> Result<(), Fail> {
-    let mut mesh = mesh_at(rt.alloc(), &TETRAHEDRON, &TETRAHEDRON_FACES, &rt)?;
-    let edit = zip(
-        rt.alloc(),
-        &mut mesh,
-        VertexId(1),
-        VertexId(2),
-        VertexId(3),
-        VertexId(4),
-    )?;
-    assert_eq!(rt; reason_of(&edit), Some(Why::Shared));
+fn crowded_edges_and_shared_vertices_refuse_a_zip(rt: HostRuntime) -> Result<(), Fail> {
+    let cases: [(&[[i32; 3]], &[[u32; 3]], [u32; 4], Why); 5] = [
+        // edges across a tetrahedron
+        (&TETRAHEDRON, &TETRAHEDRON_FACES, [1, 2, 3, 4], Why::Shared),
+        // the edge 1 2 is crowded, be it named first or last, and whether vertices are shared or not
+        (&JOINED, &JOINED_FACES, [1, 2, 7, 8], Why::Crowded),
+        (&JOINED, &JOINED_FACES, [8, 7, 2, 1], Why::Crowded),
+        (&JOINED, &JOINED_FACES, [1, 2, 3, 4], Why::Crowded),
+        (&JOINED, &JOINED_FACES, [1, 3, 2, 4], Why::Shared),
+    ];
+    for (points, faces, [a, b, e, f], why) in cases {
+        let mut mesh = mesh_at(rt.alloc(), points, faces, &rt)?;
+        let [a, b, e, f] = [a, b, e, f].map(|v| VertexId(v));
+        assert!(rt; !zip_ready(&mesh, a, b, e, f));
+        let edit = zip(rt.alloc(), &mut mesh, a, b, e, f)?;
+        assert_eq!(rt; reason_of(&edit), Some(why));
+        assert_eq!(rt; mesh.faces() as usize, faces.len());
+        assert_eq!(rt; mesh.next_face() as usize, faces.len() + 1);
+    }
     Ok(())
 }

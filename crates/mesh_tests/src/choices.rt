@@ -10,8 +10,8 @@ ghost use Rattle.pair_scan.specs.Solids.{SolidsRest};
 
 use crate::meshes::beside;
 use grid_base::{DEPTH_MAX, HALVINGS_MAX, NoMemory, Shift, moved};
-use mesh_base::{How, ShiftOf, Shifts, Surface, VertexId, live_vertices};
-use pair_scan::first_meeting;
+use mesh_base::{FaceId, How, PairName, ShiftOf, Shifts, Surface, VertexId, live_vertices};
+use pair_scan::{all_pass, first_meeting};
 use std::alloc::Global;
 use std::process::Abort;
 use std::test::Fail;
@@ -69,7 +69,10 @@ fn chosen(
     assert!(rt; met.is_none());
     assert!(rt; set.depth <= DEPTH_MAX && set.passes <= PASSES_MAX && set.halvings <= HALVINGS_MAX);
     let asked = shifts_of(alloc, &mesh, xs, rt)?;
-    choose(alloc, &mesh, &asked, &set)
+    let choice = choose(alloc, &mesh, &asked, &set)?;
+    let pass = all_pass(alloc, &mesh, &asked, set.depth)?;
+    assert_eq!(rt; pass, choice.hits.len() == 0);
+    Ok(choice)
 }
 
 // By how much each vertex moves along x.
@@ -84,42 +87,75 @@ fn taken_along(choice: &Choice) -> [i32; 8] {
     xs
 }
 
-// Whether the vertex 1 is solid; what is asked; passes, zones and halvings; and what follows: how the step is taken, how many
-// pairs fail, and by how much each vertex moves along x.
-const CASES: [(bool, [i32; 8], (u8, bool, u8), (How, usize, [i32; 8])); 8] = [
+// The pairs of an edge and a face that fail: none; where the vertex 5 ends in the face 1; and where the second passes through the
+// first, in at the face 1 and out at the face 3.
+const NONE: &[[u32; 3]] = &[];
+
+const AT_THE_END: &[[u32; 3]] = &[[5, 6, 1], [5, 7, 1], [5, 8, 1]];
+
+const ON_THE_WAY: &[[u32; 3]] = &[
+    [5, 6, 1],
+    [5, 6, 3],
+    [5, 7, 1],
+    [5, 7, 3],
+    [5, 8, 1],
+    [5, 8, 3],
+    [6, 7, 1],
+    [6, 7, 3],
+    [6, 8, 1],
+    [6, 8, 3],
+    [7, 8, 1],
+    [7, 8, 3],
+];
+
+// Whether the vertex 1 is solid; what is asked; passes, zones and halvings; and what follows: how the step is taken, which pairs
+// fail in the asked one, and by how much each vertex moves along x.
+const CASES: [(bool, [i32; 8], (u8, bool, u8), (How, &[[u32; 3]], [i32; 8])); 8] = [
     // the vertex 5 stays before the face
     (
         false,
         [0, 0, 0, 0, -7, 0, 0, 0],
         (3, true, 6),
-        (How::Whole, 0, [0, 0, 0, 0, -7, 0, 0, 0]),
+        (How::Whole, NONE, [0, 0, 0, 0, -7, 0, 0, 0]),
     ),
     // it ends in the face
     (
         false,
         [0, 0, 0, 0, -8, 0, 0, 0],
         (0, false, 6),
-        (How::Halved { times: 1 }, 3, [0, 0, 0, 0, -4, 0, 0, 0]),
+        (
+            How::Halved { times: 1 },
+            AT_THE_END,
+            [0, 0, 0, 0, -4, 0, 0, 0],
+        ),
     ),
     // the second passes through the first
     (
         false,
         [0, 0, 0, 0, -40, -40, -40, -40],
         (0, false, 6),
-        (How::Halved { times: 3 }, 12, [0, 0, 0, 0, -5, -5, -5, -5]),
+        (
+            How::Halved { times: 3 },
+            ON_THE_WAY,
+            [0, 0, 0, 0, -5, -5, -5, -5],
+        ),
     ),
     (
         false,
         [0, 0, 0, 0, -8, 0, 0, 0],
         (0, false, 0),
-        (How::Zero, 3, [0; 8]),
+        (How::Zero, AT_THE_END, [0; 8]),
     ),
     // the mean of -8 and six zeros, rounded toward zero
     (
         false,
         [0, 0, 0, 0, -8, 0, 0, 0],
         (0, true, 6),
-        (How::Zones { rounds: 1 }, 3, [-1, -1, -1, 0, -1, -1, -1, -1]),
+        (
+            How::Zones { rounds: 1 },
+            AT_THE_END,
+            [-1, -1, -1, 0, -1, -1, -1, -1],
+        ),
     ),
     // fifths rounded down, and one more for the smallest ids
     (
@@ -128,7 +164,7 @@ const CASES: [(bool, [i32; 8], (u8, bool, u8), (How, usize, [i32; 8])); 8] = [
         (3, true, 6),
         (
             How::Impulse { passes: 1 },
-            3,
+            AT_THE_END,
             [0, -1, -1, 0, -1, -2, -2, -1],
         ),
     ),
@@ -137,20 +173,28 @@ const CASES: [(bool, [i32; 8], (u8, bool, u8), (How, usize, [i32; 8])); 8] = [
         true,
         [0, 0, 0, 0, -8, 0, 0, 0],
         (0, true, 6),
-        (How::Zones { rounds: 1 }, 3, [0; 8]),
+        (How::Zones { rounds: 1 }, AT_THE_END, [0; 8]),
     ),
     (
         true,
         [0, 0, 0, 0, -8, 0, 0, 0],
         (3, true, 6),
-        (How::Impulse { passes: 1 }, 3, [0; 8]),
+        (How::Impulse { passes: 1 }, AT_THE_END, [0; 8]),
     ),
 ];
 
-// How a step is taken, how many pairs fail, and by how much each vertex moves along x; where it is by zones, the one block.
-fn assert_choice(rt: &impl Abort, choice: &Choice, how: How, hits: usize, moves: [i32; 8]) {
+// How a step is taken, which pairs fail, and by how much each vertex moves along x; where it is by zones, the one block.
+fn assert_choice(rt: &impl Abort, choice: &Choice, how: How, hits: &[[u32; 3]], moves: [i32; 8]) {
     assert_eq!(rt; choice.how, how);
-    assert_eq!(rt; choice.hits.len(), hits);
+    assert_eq!(rt; choice.hits.len(), hits.len());
+    for (hit, [a, b, f]) in choice.hits.as_slice().iter().zip(hits) {
+        let wanted = PairName {
+            a: VertexId(*a),
+            b: VertexId(*b),
+            face: FaceId(*f),
+        };
+        assert_eq!(rt; *hit, wanted);
+    }
     assert_eq!(rt; taken_along(choice), moves);
     let is_zoned = matches!(&choice.how, How::Zones { .. });
     assert_eq!(rt; choice.blocks.len(), if is_zoned { 1 } else { 0 });

@@ -10,11 +10,17 @@ mod half_edges;
 #[cfg(test)]
 mod impulses;
 #[cfg(test)]
+mod marks;
+#[cfg(test)]
 mod meshes;
+#[cfg(test)]
+mod paths;
 #[cfg(test)]
 mod plain;
 #[cfg(test)]
 mod plays;
+#[cfg(test)]
+mod rows;
 #[cfg(test)]
 mod scans;
 #[cfg(test)]

@@ -1,6 +1,7 @@
 //! Worked examples: a tetrahedron, lists with each fault, and a full mesh.
 use crate::meshes::{SIDES, TETRAHEDRON, lists_of};
 use grid_base::{NoMemory, Point};
+use mesh_base::sides_in_order;
 use mesh_plain::{
     AddFault, FaceId, MeshLists, PlainMesh, ShapeFault, ShapeRefusal, Surface, VertexId,
     edges_in_order, shape,
@@ -132,6 +133,34 @@ fn faces_at_a_vertex_rise(rt: HostRuntime) -> Result<(), Fail> {
     assert_eq!(rt; edges.len(), pairs.len());
     for (i, (a, b)) in pairs.iter().enumerate() {
         assert_eq!(rt; edges.get(i), Some(&(VertexId(*a), VertexId(*b))));
+    }
+    Ok(())
+}
+
+#[test]
+fn the_sides_of_some_faces_stand_in_order(rt: HostRuntime) -> Result<(), Fail> {
+    let mesh = mesh_of(
+        rt.alloc(),
+        &lists_of(rt.alloc(), &TETRAHEDRON, &SIDES)?,
+        &rt,
+    )?;
+    // Each side stands once, also where two of the faces share it or a face is named twice. A face that is not live has none.
+    let cases: [(&[u32], &[(u32, u32)]); 4] = [
+        (&[], &[]),
+        (&[9], &[]),
+        (&[1, 9, 1], &[(1, 2), (1, 3), (2, 3)]),
+        (&[3, 1], &[(1, 2), (1, 3), (2, 3), (2, 4), (3, 4)]),
+    ];
+    for (ids, pairs) in cases {
+        let mut faces = Vec::new(rt.alloc());
+        for f in ids {
+            faces.push(FaceId(*f))?;
+        }
+        let sides = sides_in_order(rt.alloc(), &mesh, &faces)?;
+        assert_eq!(rt; sides.len(), pairs.len());
+        for (i, (a, b)) in pairs.iter().enumerate() {
+            assert_eq!(rt; sides.get(i), Some(&(VertexId(*a), VertexId(*b))));
+        }
     }
     Ok(())
 }

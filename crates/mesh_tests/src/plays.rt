@@ -8,14 +8,14 @@ use grid_base::{NoMemory, Point};
 use half_mesh::HalfMesh;
 use mesh_journal::JournalMesh;
 use mesh_plain::{FaceId, FaceIds, PlainMesh, Surface, VertexId, shape};
-use mesh_play::{Act, Answer, Answers, Call, Question, play_both};
+use mesh_play::{Act, Answer, Answers, Call, Question, play, play_both};
 use std::alloc::Global;
 use std::process::Abort;
 use std::test::Fail;
 
 /// An answer that is expected.
 #[derive(Clone, Copy)]
-enum Want {
+pub(crate) enum Want {
     Done,
     Full,
     Number(u32),
@@ -166,7 +166,7 @@ fn is_list(faces: &FaceIds, wanted: [Option<FaceId>; 4]) -> bool {
     same
 }
 
-fn is_told(answer: &Answer, want: Want) -> bool {
+pub(crate) fn is_told(answer: &Answer, want: Want) -> bool {
     match (answer, want) {
         (Answer::Done, Want::Done) | (Answer::Full, Want::Full) => true,
         (Answer::Number { n }, Want::Number(wanted)) => *n == wanted,
@@ -209,7 +209,11 @@ fn is_fresh<S: Surface>(surface: &S, a: VertexId, b: VertexId, c: VertexId) -> b
 }
 
 /// Whether the act surely meets its condition.
-fn is_allowed<S: Surface>(alloc: Global, surface: &S, act: &Act) -> Result<bool, NoMemory>
+pub(crate) fn is_allowed<S: Surface>(
+    alloc: Global,
+    surface: &S,
+    act: &Act,
+) -> Result<bool, NoMemory>
     ensures { IfOk result (λ yes. yes ≡ true → IsAllowed (S.mesh surface.now) act.now) }
 {
     let allowed = match *act {
@@ -274,6 +278,45 @@ fn play_row<S: Surface, T: Surface>(
     ];
     assert_told(rt, &first, &wants);
     assert_told(rt, &second, &wants);
+    Ok(())
+}
+
+#[test]
+fn calls_are_played_in_order(rt: HostRuntime) -> Result<(), Fail> {
+    let lists = tetrahedron(rt.alloc())?;
+    assert!(rt; shape(rt.alloc(), &lists).is_ok());
+    let mut mesh = PlainMesh::of(rt.alloc(), &lists)?;
+    // The return to the first mark takes both back, and the vertices that were made since.
+    let calls = [
+        Call::MakeMark,
+        Call::Make {
+            act: Act::AddVertex { p: FAR },
+        },
+        Call::MakeMark,
+        Call::Make {
+            act: Act::AddVertex { p: FAR },
+        },
+        Call::BackTo { nth: 0 },
+        Call::Ask {
+            question: Question::NextVertex,
+        },
+        Call::Settle,
+        Call::Make {
+            act: Act::AddVertex { p: FAR },
+        },
+    ];
+    let wants = [
+        Want::Done,
+        Want::VertexMade(VertexId(5)),
+        Want::Done,
+        Want::VertexMade(VertexId(6)),
+        Want::Done,
+        Want::Number(5),
+        Want::Done,
+        Want::VertexMade(VertexId(5)),
+    ];
+    let told = play(rt.alloc(), &mut mesh, &calls)?;
+    assert_told(&rt, &told, &wants);
     Ok(())
 }
 

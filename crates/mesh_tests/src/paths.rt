@@ -1,0 +1,171 @@
+//! Worked examples: the paths of vertices and faces that move, and the boxes of the faces in frames.
+ghost use Rattle.std.specs.Prelude.{◌≡◌};
+ghost use Rattle.mesh_base.specs.Placements.{rest_positions};
+
+use crate::meshes::mesh_at;
+use crate::plays::is_allowed;
+use box_tree::SmallBox;
+use grid_base::{Extent, NoMemory, Point, Wide};
+use mesh_base::{FaceId, Surface, VertexId};
+use mesh_plain::PlainMesh;
+use mesh_play::{Act, do_act};
+use pair_paths::{Frame, MovingFace, Path, Paths, Position, boxes_in, moving_faces, paths_of};
+use std::alloc::Global;
+use std::process::Abort;
+use std::test::Fail;
+
+// Where a vertex stands; the origin, where it is not live.
+fn resting<S: Surface>(mesh: &S, v: VertexId) -> Position
+    ensures { result ≡ rest_positions (S.mesh mesh.now) v }
+{
+    match mesh.point(v) {
+        Some(p) => Position::of(p.wide()),
+        None => Position::of(Point { x: 0, y: 0, z: 0 }.wide()),
+    }
+}
+
+/// Each vertex goes from where it stands in one mesh to where it stands in another.
+#[derive(Drop)]
+struct Between<'a, S: Surface> {
+    first: &'a S,
+    last: &'a S,
+}
+
+impl<'a, S: Surface> Paths for Between<'a, S> {
+    ghost motion = { λ s. record {
+      start = rest_positions (S.mesh s.first.now);
+      end = rest_positions (S.mesh s.last.now);
+    } };
+
+    fn path_of(&self, v: VertexId) -> Path {
+        Path {
+            start: resting(self.first, v),
+            end: resting(self.last, v),
+        }
+    }
+}
+
+// A tetrahedron, with a vertex 3 that has no face.
+const POINTS: [[i32; 3]; 5] = [[0, 0, 0], [4, 0, 0], [7, 7, 7], [0, 4, 0], [0, 0, 4]];
+
+const FACES: [[u32; 3]; 4] = [[1, 4, 2], [1, 2, 5], [2, 4, 5], [1, 5, 4]];
+
+// The faces that are left, with their corners.
+const LEFT: [(u32, [u32; 3]); 3] = [(1, [1, 4, 2]), (3, [2, 4, 5]), (4, [1, 5, 4])];
+
+// All go to one place.
+const PLACE: [i32; 3] = [1, 2, -3];
+
+// The frame's end, and the boxes of the faces 1, 3 and 4 in it, by their least and greatest corners.
+const BOXES: [([i32; 3], [[[i32; 3]; 2]; 3]); 3] = [
+    // all end at (1, 2, -3)
+    (
+        [0, 0, 0],
+        [
+            [[0, 0, -3], [4, 4, 0]],
+            [[0, 0, -3], [4, 4, 4]],
+            [[0, 0, -3], [1, 4, 4]],
+        ],
+    ),
+    // all end at the origin
+    (
+        [1, 2, -3],
+        [
+            [[0, 0, 0], [4, 4, 0]],
+            [[0, 0, 0], [4, 4, 4]],
+            [[0, 0, 0], [0, 4, 4]],
+        ],
+    ),
+    // all end at (-9, 2, 2)
+    (
+        [10, 0, -5],
+        [
+            [[-9, 0, 0], [4, 4, 2]],
+            [[-9, 0, 0], [4, 4, 4]],
+            [[-9, 0, 0], [0, 4, 4]],
+        ],
+    ),
+];
+
+fn position(p: [i32; 3], rt: &impl Abort) -> Position {
+    let p = Point::new(p[0], p[1], p[2]).expect(rt, "a point in the box");
+    Position::of(p.wide())
+}
+
+fn wide(p: [i32; 3]) -> Wide {
+    Wide {
+        x: i128::from(p[0]),
+        y: i128::from(p[1]),
+        z: i128::from(p[2]),
+    }
+}
+
+// The mesh without the vertex 3 and the face 2.
+fn mesh_left(alloc: Global, points: &[[i32; 3]], rt: &impl Abort) -> Result<PlainMesh, NoMemory> {
+    let mut mesh = mesh_at(alloc, points, &FACES, rt)?;
+    for act in [
+        Act::DropVertex { v: VertexId(3) },
+        Act::DropFace { f: FaceId(2) },
+    ] {
+        assert!(rt; is_allowed(alloc, &mesh, &act)?);
+        do_act(&mut mesh, &act)?;
+    }
+    Ok(mesh)
+}
+
+// The path goes from a vertex's point to the place.
+fn is_way_of(path: &Path, v: VertexId) -> bool {
+    match POINTS.get((v.0 as usize).wrapping_sub(1)) {
+        Some(p) => path.start.wide() == wide(*p) && path.end.wide() == wide(PLACE),
+        None => false,
+    }
+}
+
+// The face has these corners, and their paths.
+fn is_face_of(face: &MovingFace, id: u32, c: [u32; 3]) -> bool {
+    let [first, second, third] = c.map(|v| VertexId(v));
+    face.face == FaceId(id)
+        && face.corners.list() == [first, second, third]
+        && is_way_of(&face.c, first)
+        && is_way_of(&face.d, second)
+        && is_way_of(&face.e, third)
+}
+
+fn is_box(found: &SmallBox, wanted: [[i32; 3]; 2]) -> bool {
+    let e: Extent = found.extent();
+    e.low == wide(wanted[0]) && e.high == wide(wanted[1])
+}
+
+#[test]
+fn live_vertices_and_faces_have_their_paths(rt: HostRuntime) -> Result<(), Fail> {
+    let first = mesh_left(rt.alloc(), &POINTS, &rt)?;
+    let last = mesh_left(rt.alloc(), &[PLACE; 5], &rt)?;
+    let between = Between {
+        first: &first,
+        last: &last,
+    };
+    let paths = paths_of(rt.alloc(), &first, &between)?;
+    assert_eq!(rt; paths.len(), 4);
+    for (k, id) in paths.as_slice().iter().zip(&[1, 2, 4, 5]) {
+        assert!(rt;
+            k.v == VertexId(*id) && is_way_of(&k.path, k.v),
+            "vertex {id}"
+        );
+    }
+    let faces = moving_faces(rt.alloc(), &first, &between)?;
+    assert_eq!(rt; faces.len(), 3);
+    for (face, (id, c)) in faces.as_slice().iter().zip(&LEFT) {
+        assert!(rt; is_face_of(face, *id, *c), "face {id}");
+    }
+    for (end, wanted) in BOXES {
+        let end = Frame {
+            end: position(end, &rt),
+        };
+        let boxes = boxes_in(rt.alloc(), faces.as_slice(), &end)?;
+        assert_eq!(rt; boxes.len(), 3);
+        for (found, at) in boxes.iter().zip(&wanted) {
+            assert!(rt; is_box(found, *at));
+        }
+    }
+    Ok(())
+}
