@@ -1,7 +1,10 @@
 -- A conversion ends as its cause says.
-use Rattle.std.proofs.Common.{◌≡◌, ℕ, List, length, Some, None, Result, Ok, Err, refl, ap, sym, subst, ◌∙◌, inl, inr}
+use Rattle.std.proofs.Common.{◌≡◌, ℕ, ◌≤◌, List, length, Some, None, Result, Ok, Err, refl, ap, sym, subst, ◌∙◌, inl, inr, arith}
 use Rattle.std.specs.Prelude.{◌⊎◌}
+use Rattle.std.specs.Option.{IsSomeAnd}
 use Rattle.std.specs.declared.option.Option.{Option}
+use Rattle.std.specs.FinMap.{get}
+use Rattle.grid_base.specs.declared.TheConstants.{TEXT_MAX}
 use Rattle.line_text.specs.declared.TextFault.{TextFault}
 use Rattle.mesh_base.specs.declared.FileWord.TheVariants as file
 use Rattle.mesh_base.specs.declared.ShapeFault.{ShapeFault}
@@ -17,7 +20,6 @@ use Rattle.outside_io.specs.World.{World, Contents}
 use Rattle.track_input.specs.declared.Format.{Format}
 use Rattle.track_input.specs.Source.{Source, Bytes, Absent, TooLong, IsSource}
 use Rattle.track_input.specs.Words.{MeshName}
-use Rattle.track_input.proofs.Sources.{fetched}
 use Rattle.track_convert.specs.Formats.{lists_in}
 use Rattle.track_convert.specs.Conversion.{Conversion, IsConversion, found_of_shape, found_of_lists, found_of_file, found_by, refusal_told}
 use Rattle.track_convert.specs.Endings.{Ends}
@@ -83,6 +85,14 @@ module _ (c : Conversion) where
   is_caused to decimals (Err fault) old new ends = record { cause = tt; no_other = λ other h. inr (inr tt) }
 
 -- ---- what can be converted is
+
+pub fetched : (told : Files) (name bytes : List ℕ) (source : Source) → get told name ≡ Some bytes → length bytes ≤ TEXT_MAX → IsSource (Some told) name source → source ≡ Bytes bytes
+fetched told name bytes (Bytes found) e small h = let same : Some found ≡ Some bytes = sym h.1 ∙ e in let is : found ≡ bytes = cc in ap Bytes is
+fetched told name bytes Absent e small h = let no : ◌≡◌ {A = Option (List ℕ)} None (Some bytes) = sym h ∙ e in absurd cc
+fetched told name bytes (TooLong seen) e small h =
+    let P : Option (List ℕ) → Type 0 = λ o. IsSomeAnd o (λ bs. seen ≤ length bs) in
+    let le : seen ≤ length bytes = subst P e h.2 in
+    absurd (omega (arith, h.0))
 
 convertible : (files : Option Files) (from : MeshName) (decimals : ℕ) (c : Conversion) → IsConversion files from decimals c → IsConvertible files from decimals → Cause c (Ok None)
 convertible files from decimals c is can =

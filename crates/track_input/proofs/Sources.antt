@@ -23,12 +23,3 @@ found files name (Some bytes) e = held files name bytes e (cases_lt TEXT_MAX (le
 pub some_source : (files : Option Files) (name : List ℕ) → (s : Source) × IsSource files name s
 some_source None name = (Absent, tt)
 some_source (Some files) name = found files name (get files name) refl
-
--- a file that is told, and no longer than a text may be, is what a fetch answers
-pub fetched : (told : Files) (name bytes : List ℕ) (source : Source) → get told name ≡ Some bytes → length bytes ≤ TEXT_MAX → IsSource (Some told) name source → source ≡ Bytes bytes
-fetched told name bytes (Bytes found) e small h = let same : Some found ≡ Some bytes = sym h.1 ∙ e in let is : found ≡ bytes = cc in ap Bytes is
-fetched told name bytes Absent e small h = let no : ◌≡◌ {A = Option (List ℕ)} None (Some bytes) = sym h ∙ e in absurd cc
-fetched told name bytes (TooLong seen) e small h =
-    let P : Option (List ℕ) → Type 0 = λ o. IsSomeAnd o (λ bs. seen ≤ length bs) in
-    let le : seen ≤ length bytes = subst P e h.2 in
-    absurd (omega (arith, h.0))

@@ -13,7 +13,7 @@ use Rattle.outside_io.specs.Desk.{Files}
 use Rattle.step_text.specs.declared.Placed.{Placed}
 use Rattle.log_text.specs.declared.Refusal.{Refusal}
 use Rattle.track_input.specs.Source.{Source, Bytes, IsSource}
-use Rattle.track_input.proofs.Sources.{fetched}
+use Rattle.track_convert.proofs.Caused.{fetched}
 use Rattle.track_input.specs.Job.{Job, IsJob, Input, met_first, input_of, input_of_files, input_of_lists, input_of_shape, input_of_steps, mesh_of_lists}
 use Rattle.outside_io.specs.declared.stop.Stop.{Stop}
 use Rattle.outside_io.specs.declared.stop.Stop.TheVariants as stop
