@@ -4,3 +4,4 @@ pub mod Walk
 pub mod Round
 pub mod Laws
 pub mod Above
+pub mod Ahead

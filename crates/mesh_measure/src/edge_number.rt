@@ -14,7 +14,7 @@ use grid_base::NoMemory;
 use mesh_base::{Corners, FaceId, Surface, VertexId};
 use std::alloc::Global;
 
-/// Puts a vertex at the end of the list, if it is above `v`.
+// Puts a vertex at the end of the list, if it is above `v`.
 fn put_above(near: &mut Vec<u32>, v: VertexId, w: VertexId) -> Result<(), NoMemory>
     ensures { OnOk result (AddsAbove v (w ∷ []) near.old.items near.new.items) }
 {
@@ -25,7 +25,7 @@ fn put_above(near: &mut Vec<u32>, v: VertexId, w: VertexId) -> Result<(), NoMemo
     Ok(())
 }
 
-/// Puts the corners of a face at the end of the list that are above `v`.
+// Puts the corners of a face at the end of the list that are above `v`.
 fn put_corners(near: &mut Vec<u32>, v: VertexId, c: Corners) -> Result<(), NoMemory>
     ensures { OnOk result (AddsAbove v (corner_list c) near.old.items near.new.items) }
 {
@@ -34,7 +34,7 @@ fn put_corners(near: &mut Vec<u32>, v: VertexId, c: Corners) -> Result<(), NoMem
     put_above(near, v, c.third)
 }
 
-/// Puts the corners of some faces at the end of the list that are above `v`.
+// Puts the corners of some faces at the end of the list that are above `v`.
 fn put_around<S: Surface>(
     near: &mut Vec<u32>,
     mesh: &S,
@@ -50,7 +50,7 @@ fn put_around<S: Surface>(
     Ok(())
 }
 
-/// Puts the numbers in order, each of them once.
+// Puts the numbers in order, each of them once.
 fn put_in_order(near: &mut Vec<u32>)
     ensures order { IsStrictlySortedBy nat_cmp near.new.items }
     ensures same { (q : ℕ) → is_one_of near.new.items q ≡ is_one_of near.old.items q }
@@ -59,8 +59,8 @@ fn put_in_order(near: &mut Vec<u32>)
     near.dedup();
 }
 
-/// How many edges lead from a vertex to those above it. Takes time in proportion to the faces at the vertex and the logarithm of
-/// their number.
+// How many edges lead from a vertex to those above it. Takes time in proportion to the faces at the vertex and the logarithm of
+// their number.
 fn edges_from<S: Surface>(
     mesh: &S,
     v: VertexId,
