@@ -37,7 +37,7 @@ second_in c = either_first ((c.first == c.second) || (c.second == c.second)) (c.
 third_in : (c : Corners) → has_corner c c.third ≡ true
 third_in c = either_second ((c.first == c.third) || (c.second == c.third)) (c.third == c.third) (equal_itself c.third)
 
-behind_in : (c : Corners) (v : ℕ) → has_corner c (behind c v) ≡ true
+pub behind_in : (c : Corners) (v : ℕ) → has_corner c (behind c v) ≡ true
 behind_in c v = by_tests (c.first == v) (c.second == v)
   where
     by_tests : (a b : Bool) → has_corner c (cond a c.second (cond b c.third c.first)) ≡ true

@@ -3,3 +3,5 @@ pub mod Shape
 pub mod Walk
 pub mod Round
 pub mod Laws
+pub mod Above
+pub mod Ahead

@@ -9,7 +9,7 @@ use mesh_base::{Corners, FaceId, Surface, VertexId};
 use std::collections::HashMap;
 
 /// The corner behind a vertex, in the corners of a face that has it.
-fn behind(c: &Corners, v: VertexId) -> VertexId
+pub(crate) fn behind(c: &Corners, v: VertexId) -> VertexId
     ensures { result ≡ behind c.now v }
 {
     if c.first == v {

@@ -1,0 +1,17 @@
+use Rattle.std.proofs.Common.{◌≡◌, ◌+◌, length}
+use Rattle.std.specs.List.{flat_map}
+use Rattle.std.specs.FinMap as map
+use Rattle.mesh_base.specs.Pairs.{edges}
+use Rattle.mesh_base.specs.Sides.{above}
+use Rattle.mesh_measure.specs.Above.{edges_from}
+use Rattle.mesh_measure.proofs.edge_number.edge_count.Given as goal
+
+-- the edges counted and those from the vertices above the last are all of them
+abbrev pub invariant-loop-v : goal.invariant-loop-v
+invariant-loop-v g l =
+    let m = g.S.Surface.mesh l.mesh in
+    l.count + length (flat_map (edges_from m) (above l.last (map.keys m.points))) ≡ length (edges m)
+
+-- those above the last become fewer
+abbrev pub decreases-loop-v : goal.decreases-loop-v
+decreases-loop-v g l = length (above l.last (map.keys (g.S.Surface.mesh l.mesh).points))
