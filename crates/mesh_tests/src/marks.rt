@@ -275,12 +275,23 @@ fn told<S: Surface>(
     play_one(alloc, surface, marks, call)
 }
 
-/// Makes an index, or nothing.
-fn index_if<S: Surface>(surface: &mut S, marks: &Vec<Mark>, is_asked: bool)
+/// Whether an index is made before this call.
+fn is_due(now: usize, place: usize, often: bool) -> bool {
+    now == place || often && now > place
+}
+
+/// Makes an index where it is due.
+fn index_if_due<S: Surface>(
+    surface: &mut S,
+    marks: &Vec<Mark>,
+    now: usize,
+    place: usize,
+    often: bool,
+)
     requires { AreMarks S.beyond (S.kept surface.old) marks.now.items }
     ensures { AreMarks S.beyond (S.kept surface.new) marks.now.items }
 {
-    if is_asked {
+    if is_due(now, place, often) {
         surface.index();
     }
 }
@@ -297,7 +308,7 @@ fn play_steps<S: Surface>(
     let mut marks = Vec::new(alloc);
     let mut now: usize = 0;
     for step in steps {
-        index_if(surface, &marks, now == place || often && now > place);
+        index_if_due(surface, &marks, now, place, often);
         let call = call_of(step, rt);
         let answer = told(rt, alloc, surface, &mut marks, &call)?;
         assert!(rt; is_wanted(&answer, step), "call {now}, index at {place}");
