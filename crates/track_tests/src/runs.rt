@@ -2,6 +2,7 @@
 use grid_base::{Point, Shift};
 use mesh_field::no_fields;
 use mesh_sizing::{Band, Sizing};
+use motion_proof::Verdict;
 use outside_io::{MemoryDesk, MemorySink};
 use std::alloc::Global;
 use std::test::Fail;
@@ -58,12 +59,22 @@ fn sink_of(alloc: Global) -> Result<MemorySink, Fail> {
     Ok(MemorySink::new(alloc, 10_000, Vec::new(alloc))?)
 }
 
-// The run of the two files.
-fn track(desk: &mut MemoryDesk, out: &mut MemorySink, alloc: Global) -> Result<Outcome, Fail> {
-    let words = words_of(alloc, &["track", "mesh.obj", "steps.txt", "t"])?;
+// The run of these words.
+fn answer(
+    words: &[&str],
+    desk: &mut MemoryDesk,
+    out: &mut MemorySink,
+    alloc: Global,
+) -> Result<Outcome, Fail> {
+    let words = words_of(alloc, words)?;
     let fields = no_fields(|_which: u8, _at: Point| Shift { x: 0, y: 0, z: 0 });
     let sizing = Sizing::new(|_at: Point| Band { low: 1, high: 2 });
     Ok(run(alloc, &words, desk, out, &fields, &sizing))
+}
+
+// The run of the two files.
+fn track(desk: &mut MemoryDesk, out: &mut MemorySink, alloc: Global) -> Result<Outcome, Fail> {
+    answer(&["track", "mesh.obj", "steps.txt", "t"], desk, out, alloc)
 }
 
 #[test]
@@ -75,6 +86,24 @@ fn a_whole_mesh_is_moved_by_one_step(rt: HostRuntime) -> Result<(), Fail> {
     assert_eq!(rt; out.bytes(), first_lines(alloc, 10)?.as_slice());
     assert_eq!(rt; desk.file("t-000000.obj"), Some(MESH));
     assert_eq!(rt; desk.file("t-000001.obj"), Some(MOVED));
+    Ok(())
+}
+
+#[test]
+fn a_motion_without_a_certificate_is_named(rt: HostRuntime) -> Result<(), Fail> {
+    let alloc = rt.alloc();
+    let log = first_lines(alloc, 10)?;
+    let mut desk = desk_of(alloc, MESH, log.as_slice())?;
+    desk.put("proof.txt", b"topo proof 1\nend\n")?;
+    let mut out = sink_of(alloc)?;
+    let words = ["verify", "mesh.obj", "steps.txt", "proof.txt"];
+    let line = 8;
+    let verdict = Verdict::NoMotion;
+    assert_eq!(rt;
+        answer(&words, &mut desk, &mut out, alloc)?,
+        Outcome::ProofBad { line, verdict }
+    );
+    assert_eq!(rt; out.bytes(), b"refused motion 8 nomotion\n".as_slice());
     Ok(())
 }
 
