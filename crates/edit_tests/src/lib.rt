@@ -6,8 +6,6 @@ mod checks;
 #[cfg(test)]
 mod collapses;
 #[cfg(test)]
-mod edits;
-#[cfg(test)]
 mod flips;
 #[cfg(test)]
 mod limits;
