@@ -2,11 +2,10 @@
 use grid_base::{Point, Shift};
 use mesh_field::no_fields;
 use mesh_sizing::{Band, Sizing};
-use motion_proof::Verdict;
 use outside_io::{MemoryDesk, MemorySink};
 use std::alloc::Global;
 use std::test::Fail;
-use track_run::{Outcome, run};
+use track_run::run;
 
 // A tetrahedron.
 const MESH: &[u8] = b"v 0 0 0\nv 4 0 0\nv 0 4 0\nv 0 0 4\nf 1 3 2\nf 1 2 4\nf 2 3 4\nf 1 4 3\n";
@@ -59,21 +58,22 @@ fn sink_of(alloc: Global) -> Result<MemorySink, Fail> {
     Ok(MemorySink::new(alloc, 10_000, Vec::new(alloc))?)
 }
 
-// The run of these words.
+// The status of the run of these words.
 fn answer(
     words: &[&str],
     desk: &mut MemoryDesk,
     out: &mut MemorySink,
     alloc: Global,
-) -> Result<Outcome, Fail> {
+) -> Result<u8, Fail> {
     let words = words_of(alloc, words)?;
     let fields = no_fields(|_which: u8, _at: Point| Shift { x: 0, y: 0, z: 0 });
     let sizing = Sizing::new(|_at: Point| Band { low: 1, high: 2 });
-    Ok(run(alloc, &words, desk, out, &fields, &sizing))
+    let outcome = run(alloc, &words, desk, out, &fields, &sizing);
+    Ok(outcome.status())
 }
 
-// The run of the two files.
-fn track(desk: &mut MemoryDesk, out: &mut MemorySink, alloc: Global) -> Result<Outcome, Fail> {
+// That of the two files.
+fn track(desk: &mut MemoryDesk, out: &mut MemorySink, alloc: Global) -> Result<u8, Fail> {
     answer(&["track", "mesh.obj", "steps.txt", "t"], desk, out, alloc)
 }
 
@@ -82,7 +82,7 @@ fn a_whole_mesh_is_moved_by_one_step(rt: HostRuntime) -> Result<(), Fail> {
     let alloc = rt.alloc();
     let mut desk = desk_of(alloc, MESH, STEPS)?;
     let mut out = sink_of(alloc)?;
-    assert_eq!(rt; track(&mut desk, &mut out, alloc)?, Outcome::Done);
+    assert_eq!(rt; track(&mut desk, &mut out, alloc)?, 0);
     assert_eq!(rt; out.bytes(), first_lines(alloc, 10)?.as_slice());
     assert_eq!(rt; desk.file("t-000000.obj"), Some(MESH));
     assert_eq!(rt; desk.file("t-000001.obj"), Some(MOVED));
@@ -97,12 +97,7 @@ fn a_motion_without_a_certificate_is_named(rt: HostRuntime) -> Result<(), Fail> 
     desk.put("proof.txt", b"topo proof 1\nend\n")?;
     let mut out = sink_of(alloc)?;
     let words = ["verify", "mesh.obj", "steps.txt", "proof.txt"];
-    let line = 8;
-    let verdict = Verdict::NoMotion;
-    assert_eq!(rt;
-        answer(&words, &mut desk, &mut out, alloc)?,
-        Outcome::ProofBad { line, verdict }
-    );
+    assert_eq!(rt; answer(&words, &mut desk, &mut out, alloc)?, 15);
     assert_eq!(rt; out.bytes(), b"refused motion 8 nomotion\n".as_slice());
     Ok(())
 }
@@ -113,7 +108,7 @@ fn each_write_fails_in_turn(rt: HostRuntime) -> Result<(), Fail> {
     for k in 0..10_usize {
         let mut desk = desk_of(alloc, MESH, STEPS)?;
         let mut out = MemorySink::new(alloc, 1_000, vec![in alloc; k as u64 + 1]?)?;
-        assert_eq!(rt; track(&mut desk, &mut out, alloc)?, Outcome::SinkFault);
+        assert_eq!(rt; track(&mut desk, &mut out, alloc)?, 4);
         assert_eq!(rt; out.bytes(), first_lines(alloc, k)?.as_slice());
         assert_eq!(rt; desk.file("t-000000.obj").is_some(), k >= 2);
         assert_eq!(rt; desk.file("t-000001.obj").is_some(), k >= 9);
@@ -129,13 +124,13 @@ fn each_fetch_and_store_fails_in_turn(rt: HostRuntime) -> Result<(), Fail> {
         desk.put("mesh.obj", MESH)?;
         desk.put("steps.txt", STEPS)?;
         let mut out = sink_of(alloc)?;
-        assert_eq!(rt; track(&mut desk, &mut out, alloc)?, Outcome::DeskFault);
+        assert_eq!(rt; track(&mut desk, &mut out, alloc)?, 3);
         assert_eq!(rt; out.bytes(), first_lines(alloc, 1)?.as_slice());
         let mut desk = MemoryDesk::new(alloc, Vec::new(alloc), vec![in alloc; k]?);
         desk.put("mesh.obj", MESH)?;
         desk.put("steps.txt", STEPS)?;
         let mut out = sink_of(alloc)?;
-        assert_eq!(rt; track(&mut desk, &mut out, alloc)?, Outcome::DeskFault);
+        assert_eq!(rt; track(&mut desk, &mut out, alloc)?, 3);
         let lines = if k == 1 { 2 } else { 9 };
         assert_eq!(rt; out.bytes(), first_lines(alloc, lines)?.as_slice());
         assert_eq!(rt; desk.file("t-000000.obj").is_some(), k == 2);
@@ -179,12 +174,8 @@ fn a_mesh_file_is_cut_after_each_byte(rt: HostRuntime) -> Result<(), Fail> {
         let text = &MESH[..cut];
         let mut desk = desk_of(alloc, text, b"")?;
         let mut out = sink_of(alloc)?;
-        let outcome = track(&mut desk, &mut out, alloc)?;
-        assert_eq!(rt;
-            outcome.status(),
-            status_of_cut(text),
-            "cut after {cut} bytes"
-        );
+        let status = track(&mut desk, &mut out, alloc)?;
+        assert_eq!(rt; status, status_of_cut(text), "cut after {cut} bytes");
     }
     Ok(())
 }
