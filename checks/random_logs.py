@@ -7,7 +7,7 @@ The other program should be written apart from this one. COUNT jobs (100 at firs
 them, and tracked by the other program; each log is measured and proved by both as it is, and then SPOILT times (3 at first) with a line doubled,
 left out, exchanged with the next, cut short, or with a number raised by one, at a place that dice pick; and the proof of the whole log is
 verified with each of these logs. Compared are status and output; a log that one of the two does not end within SECONDS (20 at first) is told
-and not compared. The last line tells how many were alike, and how many times each status came of each command; at a difference the log is kept
+and not compared. The last lines tell how many times each status came of each command, of how many motions the proofs were made and verified alike, and how many runs were alike; at a difference the log is kept
 and the exit status is 1.
 """
 
@@ -66,7 +66,7 @@ def main():
         sys.exit(__doc__)
     other = os.path.abspath(sys.argv[1])
     count, seed, seconds, times = (int(word) for word in (sys.argv[2:] + ["100", "1", "20", "3"][len(sys.argv) - 2 :])[:4])
-    alike = late = unlike = 0
+    alike = late = unlike = motions = 0
     statuses = {}
     for number in range(seed, seed + count):
         mesh, steps, words = job_of(number)
@@ -95,6 +95,7 @@ def main():
                     elif one == two:
                         alike += 1
                         statuses[command, one[0]] = statuses.get((command, one[0]), 0) + 1
+                        motions += int(one[1].split()[1]) if at == 0 and command == "verify" and one[0] == 0 else 0
                     else:
                         unlike += 1
                         kept = keep(number, mesh, text.decode(), [command, "m.obj", "s.txt", *files[2:], *words[4:]])
@@ -103,6 +104,7 @@ def main():
                         with open(os.path.join(folder, "proof.txt"), "wb") as it:
                             it.write(two[1])
     print("statuses:", ", ".join(f"{command} {status}: {n}" for (command, status), n in sorted(statuses.items())))
+    print(f"motions of whole logs, proved and verified alike: {motions}")
     print(f"{alike} alike, {unlike} not, {late} not ended in time")
     return 1 if unlike else 0
 
