@@ -10,9 +10,9 @@ mod half_edges;
 #[cfg(test)]
 mod impulses;
 #[cfg(test)]
-mod marks;
-#[cfg(test)]
 mod meshes;
+#[cfg(test)]
+mod near;
 #[cfg(test)]
 mod paths;
 #[cfg(test)]
