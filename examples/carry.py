@@ -12,7 +12,9 @@ the lines of its vertices. Says `carried K`, the number of meshes. Exit status 1
 import argparse
 import sys
 
-from replay import read, read_mesh, replay, text_of, write
+# nothing is left beside the examples
+sys.dont_write_bytecode = True
+from replay import read, read_mesh, replay, text_of, write  # noqa: E402
 
 def known_of(text):
     """What stands behind the coordinates of each vertex."""
