@@ -19,7 +19,7 @@ import subprocess
 import sys
 import tempfile
 
-from random_jobs import TOPO, job_of
+from random_jobs import TOPO, job_of, keep_files
 
 # how often each text of a job is spoilt
 TIMES = 6
@@ -125,14 +125,6 @@ def texts_of(other, seed, seconds):
         yield "p.txt", {**files, "p.txt": proof[1]}, [["verify", "m.obj", "l.txt", "p.txt", *places]]
 
 
-def keep(seed, words, files):
-    folder = tempfile.mkdtemp(prefix=f"text-{seed}-")
-    for name, text in {**files, "words": " ".join(words).encode() + b"\n"}.items():
-        with open(os.path.join(folder, name), "wb") as it:
-            it.write(text)
-    return folder
-
-
 def main():
     if len(sys.argv) < 2:
         sys.exit(__doc__)
@@ -157,7 +149,7 @@ def main():
                     else:
                         unlike += 1
                         what = "status" if one[0] != two[0] else "output" if one[1] != two[1] else "files"
-                        print(f"job {seed}: {what} of {' '.join(words)} differ; the files are kept in {keep(seed, words, given)}")
+                        print(f"job {seed}: {what} of {' '.join(words)} differ; the files are kept in {keep_files(f'text-{seed}-', words, given)}")
         seed += 1
     print("statuses:", ", ".join(f"{name} {status}: {n}" for (name, status), n in sorted(statuses.items())))
     print(f"{texts} texts: {alike} runs alike, {unlike} not, {late} not ended in time")

@@ -159,12 +159,17 @@ def outcome(program, mesh, steps, words, seconds):
         return ran.returncode, ran.stdout, files
 
 
-def keep(seed, mesh, steps, words):
-    folder = tempfile.mkdtemp(prefix=f"job-{seed}-")
-    for name, text in (("m.obj", mesh), ("s.txt", steps), ("words", " ".join(words) + "\n")):
-        with open(os.path.join(folder, name), "w", encoding="utf-8", newline="") as it:
+def keep_files(prefix, words, files):
+    """A new folder with these files and the words that they are for."""
+    folder = tempfile.mkdtemp(prefix=prefix)
+    for name, text in {**files, "words": " ".join(words).encode() + b"\n"}.items():
+        with open(os.path.join(folder, name), "wb") as it:
             it.write(text)
     return folder
+
+
+def keep(seed, mesh, steps, words):
+    return keep_files(f"job-{seed}-", words, {"m.obj": mesh.encode(), "s.txt": steps.encode()})
 
 
 def main():

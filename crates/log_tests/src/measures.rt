@@ -22,7 +22,7 @@ fn measured<S: Surface>(
 ) -> Result<(i128, u32, i64, Option<u32>), NoMemory> {
     let pieces = components(alloc, mesh)?;
     let number = euler(alloc, mesh)?;
-    let handles = genus(alloc, mesh, pieces, number)?;
+    let handles = genus(alloc, mesh)?;
     Ok((volume6(mesh), pieces, number, handles))
 }
 

@@ -5,7 +5,7 @@ ghost use Rattle.track_measure.specs.MeasureLines.{shape_of, change_to, told};
 use grid_base::NoMemory;
 use log_text::LogLine;
 use mesh_base::Surface;
-use mesh_measure::{components, euler, genus, volume6};
+use mesh_measure::{components, euler, genus_by, volume6};
 use std::alloc::Global;
 
 /// How many pieces a mesh is in, and its Euler number.
@@ -69,7 +69,7 @@ pub fn told<S: Surface>(
     ensures { IfOk result (λ found. found ≡ told number before (S.mesh mesh.now) line.now) }
 {
     if let LogLine::Mesh { k, .. } = line {
-        let genus = genus(alloc, mesh, shape.components, shape.euler)?;
+        let genus = genus_by(alloc, mesh, shape.components, shape.euler)?;
         return Ok(Some(MeasureLine::Measure {
             k: *k,
             volume6: volume6(mesh),

@@ -4,7 +4,7 @@ use Rattle.grid_base.specs.declared.TheConstants.{VERTICES_MAX, FACES_MAX}
 use Rattle.mesh_measure.specs.Shape.{components, euler, half_of}
 use Rattle.mesh_measure.proofs.ShapeSteps.{euler_low, euler_high, at_most}
 use Rattle.mesh_measure.proofs.Halving.{few_components}
-use Rattle.mesh_measure.proofs.genus_number.found_genus.Goals as goal
+use Rattle.mesh_measure.proofs.genus_number.genus_by.Goals as goal
 
 pub twice_genus-twice-requires-clause-few : goal.twice_genus-twice-requires-clause-few
 twice_genus-twice-requires-clause-few g c =
