@@ -7,7 +7,8 @@ use Rattle.track_input.specs.declared.command.Command.TheVariants as command
 use Rattle.track_input.specs.declared.mesh_file.MeshFile.{MeshFile}
 use Rattle.track_input.specs.declared.command.LogFiles.{LogFiles}
 use Rattle.track_input.specs.declared.command.ProofFiles.{ProofFiles}
-use Rattle.track_input.specs.Words.{MeshName, LogNames, ProofNames, Named, Track, Convert, Try, Measure, Prove, Verify}
+use Rattle.track_input.specs.declared.command.ReplayFiles.{ReplayFiles}
+use Rattle.track_input.specs.Words.{MeshName, LogNames, ProofNames, ReplayNames, Named, Track, Convert, Try, Measure, Prove, Verify}
 
 abbrev pub mesh_name : MeshFile → MeshName
 mesh_name file = record { name = file.name.now; format = file.format }
@@ -17,6 +18,9 @@ log_names files = record { mesh = files.mesh.now; log = files.log.now; decimals 
 
 abbrev pub proof_names : ProofFiles → ProofNames
 proof_names given = record { names = log_names given.files; proof = given.proof.now }
+
+abbrev pub replay_names : ReplayFiles → ReplayNames
+replay_names given = record { names = log_names given.files; prefix = given.prefix.now; only = given.only }
 
 abbrev pub named_by : Command → Named
 named_by (command.Track mesh steps prefix decimals) = Track mesh.now steps.now prefix.now decimals

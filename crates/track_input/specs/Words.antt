@@ -25,6 +25,12 @@ pub record ProofNames : Type 0 where
   pub names : LogNames
   pub proof : List ℕ
 
+-- the same, and the prefix under which the meshes of the log are stored, and the number of the one that is, where it is one
+pub record ReplayNames : Type 0 where
+  pub names : LogNames
+  pub prefix : List ℕ
+  pub only : Option ℕ
+
 -- what a command line asks for: of `track`, the three file words, and the decimals; of `convert`, the two files, and the decimals;
 -- of `try`, the number of cubes along an edge, and the key; of `measure` and `prove`, the two files, and the decimals; of `verify`, the
 -- three files, and the decimals

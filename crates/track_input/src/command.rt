@@ -31,6 +31,15 @@ pub struct ProofFiles<'a> {
     pub proof: &'a str,
 }
 
+/// The names of a mesh file and of the file of a log that begins with that mesh, the decimals of the meshes' points, the prefix under which
+/// the meshes of the log are stored, and the number of the one that is, where it is one alone.
+#[derive(Clone, Copy)]
+pub struct ReplayFiles<'a> {
+    pub files: LogFiles<'a>,
+    pub prefix: &'a str,
+    pub only: Option<u32>,
+}
+
 /// What the words of a command line ask for.
 #[derive(Clone, Copy)]
 pub enum Command<'a> {

@@ -8,7 +8,7 @@ mod mesh_file;
 mod reading;
 mod taking;
 
-pub use command::{CUBES_MAX, Command, LogFiles, ProofFiles, command_of};
+pub use command::{CUBES_MAX, Command, LogFiles, ProofFiles, ReplayFiles, command_of};
 pub use fetching::fetch_text;
 pub use mesh_file::{Format, MeshFile};
 pub use reading::{Ready, prepare};
