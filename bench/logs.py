@@ -3,9 +3,9 @@
 
     bench/logs.py PROGRAM [BEST_OF]
 
-PROGRAM is the path of an executable with the command line of `topo`. Makes its own jobs, tracks each, measures and proves its log and verifies the
-proof, each BEST_OF (2) times, and prints a table: the job with the lines of its log and of its proof, the least processor seconds of `track`,
-`measure`, `prove` and `verify`, of the last three also how many times `track` that is, and the most memory of each in MiB.
+PROGRAM is the path of an executable with the command line of `topo`. Makes its own jobs, tracks each, measures, proves and replays its log and
+verifies the proof, each BEST_OF (2) times, and prints a table: the job with the lines of its log and of its proof, the least processor seconds of
+`track`, `measure`, `prove`, `verify` and `replay`, of the last four also how many times `track` that is, and the most memory of each in MiB.
 """
 
 import math
@@ -45,9 +45,10 @@ def row(program, what, mesh, steps, best_of):
         measured = timed(program, ["measure", "mesh.obj", "track"], folder, best_of)
         proved = timed(program, ["prove", "mesh.obj", "track"], folder, best_of)
         verified = (None, None) if proved[0] is None else timed(program, ["verify", "mesh.obj", "track", "prove"], folder, best_of)
+        replayed = timed(program, ["replay", "mesh.obj", "track", "r"], folder, best_of)
         lines = [lines_of(os.path.join(folder, name)) for name in ("track", "prove")]
-    cells = ["not ended" if least is None or tracked is None else f"{least:.2f} ({least / tracked:.2f})" for least, _ in (measured, proved, verified)]
-    most = ", ".join("-" if it is None else f"{it:.0f}" for it in (memory, measured[1], proved[1], verified[1]))
+    cells = ["not ended" if least is None or tracked is None else f"{least:.2f} ({least / tracked:.2f})" for least, _ in (measured, proved, verified, replayed)]
+    most = ", ".join("-" if it is None else f"{it:.0f}" for it in (memory, measured[1], proved[1], verified[1], replayed[1]))
     first = "not ended" if tracked is None else f"{tracked:.2f}"
     print(f"| {what} ({lines[0]:,} lines, {lines[1]:,} of its proof) | {first} | {' | '.join(cells)} | {most} |", flush=True)
 
@@ -56,7 +57,7 @@ def main():
     if len(sys.argv) < 2:
         sys.exit(__doc__)
     program, best_of = os.path.abspath(sys.argv[1]), int((sys.argv[2:] + ["2"])[0])
-    print("| job | track, s | measure, s (times) | prove, s (times) | verify, s (times) | MiB |\n|---|---|---|---|---|---|", flush=True)
+    print("| job | track, s | measure, s (times) | prove, s (times) | verify, s (times) | replay, s (times) | MiB |\n|---|---|---|---|---|---|---|", flush=True)
     row(program, "64 steps of 20,736 faces of cubes", cubes(12), steps_of(8 * 12 ** 3, 64), best_of)
     row(program, "131,072 faces at rest", torus(256, 256), [], best_of)
     mesh = rough(280, 143)

@@ -1,5 +1,5 @@
 #!/usr/bin/env python3
-"""Measures and proves the logs of random jobs, whole and spoilt, with the program and with another one of the same command line, and compares.
+"""Measures, proves and replays the logs of random jobs, whole and spoilt, with the program, and compares with another one of the same command line.
 
     checks/random_logs.py OTHER [COUNT [SEED [SECONDS [SPOILT]]]]
 
@@ -7,8 +7,9 @@ The other program should be written apart from this one. COUNT jobs (100 at firs
 them, and tracked by the other program; each log is measured and proved by both as it is, and then SPOILT times (3 at first) with a line doubled,
 left out, exchanged with the next, cut short, or with a number raised by one, at a place that dice pick; and the proof of the whole log is
 verified with each of these logs. Compared are status and output; a log that one of the two does not end within SECONDS (20 at first) is told
-and not compared. The last lines tell how many times each status came of each command, of how many motions the proofs were made and verified alike, and how many runs were alike; at a difference the log is kept
-and the exit status is 1.
+and not compared. The program replays each log too: with the status that `measure` has, and of a whole log to the meshes that the other program
+stored where it tracked the job. The last lines tell how many times each status came of each command, of how many motions the proofs were made
+and verified alike, how many meshes were replayed, and how many runs were alike; at a difference the log is kept and the exit status is 1.
 """
 
 import os
@@ -61,12 +62,34 @@ def measured(program, folder, decimals, seconds):
     return told(program, ["measure", "m.obj", "log.txt", *decimals], folder, seconds)
 
 
+def stored_in(folder):
+    """The meshes of a folder below."""
+    meshes = {}
+    for name in os.listdir(folder):
+        with open(os.path.join(folder, name), "rb") as it:
+            meshes[name] = it.read()
+    return meshes
+
+
+def fault_of_replay(folder, decimals, measured, tracked, is_whole, seconds):
+    """What is wrong with the replay of a log, if anything is, and how many meshes it stored; None where it did not end."""
+    with tempfile.TemporaryDirectory() as apart:
+        ran = told(TOPO, ["replay", "m.obj", "log.txt", os.path.join(apart, "p"), *decimals], folder, seconds)
+        if ran is None:
+            return None
+        meshes = stored_in(apart)
+    said = b"replayed %d\n" % len(meshes) if ran[0] == 0 else measured[1].splitlines(keepends=True)[-1:] and measured[1].splitlines(keepends=True)[-1]
+    if ran[0] != measured[0] or ran[1] != said:
+        return "status" if ran[0] != measured[0] else "output", len(meshes)
+    return "meshes" if is_whole and meshes != tracked else None, len(meshes)
+
+
 def main():
     if len(sys.argv) < 2:
         sys.exit(__doc__)
     other = os.path.abspath(sys.argv[1])
     count, seed, seconds, times = (int(word) for word in (sys.argv[2:] + ["100", "1", "20", "3"][len(sys.argv) - 2 :])[:4])
-    alike = late = unlike = motions = 0
+    alike = late = unlike = motions = replayed = 0
     statuses = {}
     for number in range(seed, seed + count):
         mesh, steps, words = job_of(number)
@@ -77,11 +100,13 @@ def main():
             for name, text in (("m.obj", mesh), ("s.txt", steps)):
                 with open(os.path.join(folder, name), "w", encoding="utf-8", newline="") as it:
                     it.write(text)
+            os.mkdir(os.path.join(folder, "stored"))
             try:
-                log = subprocess.run([other, *words], cwd=folder, stdout=subprocess.PIPE, stderr=subprocess.DEVNULL, timeout=seconds).stdout
+                log = subprocess.run([other, *words[:3], "stored/p", *words[4:]], cwd=folder, stdout=subprocess.PIPE, stderr=subprocess.DEVNULL, timeout=seconds).stdout
             except subprocess.TimeoutExpired:
                 late += 1
                 continue
+            tracked = stored_in(os.path.join(folder, "stored"))
             for at, text in enumerate([log] + [spoilt(dice, log) for _ in range(times)]):
                 with open(os.path.join(folder, "log.txt"), "wb") as it:
                     it.write(text)
@@ -100,11 +125,24 @@ def main():
                         unlike += 1
                         kept = keep(number, mesh, text.decode(), [command, "m.obj", "s.txt", *files[2:], *words[4:]])
                         print(f"job {number}: {'status' if one[0] != two[0] else 'output'} of {command} differ; the log is kept as s.txt in {kept}")
+                    if command == "measure" and one is not None:
+                        found = fault_of_replay(folder, words[4:], one, tracked, at == 0, seconds)
+                        if found is None:
+                            late += 1
+                        elif found[0] is None:
+                            alike += 1
+                            statuses["replay", one[0]] = statuses.get(("replay", one[0]), 0) + 1
+                            replayed += found[1]
+                        else:
+                            unlike += 1
+                            kept = keep(number, mesh, text.decode(), ["replay", "m.obj", "s.txt", "p", *words[4:]])
+                            print(f"job {number}: {found[0]} of replay differ; the log is kept as s.txt in {kept}")
                     if command == "prove" and at == 0 and two is not None and two[0] == 0:
                         with open(os.path.join(folder, "proof.txt"), "wb") as it:
                             it.write(two[1])
     print("statuses:", ", ".join(f"{command} {status}: {n}" for (command, status), n in sorted(statuses.items())))
     print(f"motions of whole logs, proved and verified alike: {motions}")
+    print(f"meshes replayed: {replayed}")
     print(f"{alike} alike, {unlike} not, {late} not ended in time")
     return 1 if unlike else 0
 

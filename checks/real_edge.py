@@ -30,8 +30,8 @@ MEASURED = "".join(f"measure {k} volume6 64 components 1 euler 2 genus 0\n" for 
 STEPS = "shift all 1 2 3\nstep\nsave\n"
 JOB = ["track", "mesh.obj", "steps.txt", "t"]
 LOG = "topo log 2\nmesh 0 4 4\nstep 1\n" + "".join(f"move {v} 1 2 3\n" for v in (1, 2, 3, 4)) + "moved whole\nmesh 1 4 4\nend\n"
-# the whole output of a command that reads a log, and a log of which a terminal is told before its end
-WHOLE = {"measure": MEASURED, "prove": PROVED, "verify": "verified 1\n"}
+# the whole output of a command that writes no log, and a log of which a terminal is told before its end
+WHOLE = {"measure": MEASURED, "prove": PROVED, "verify": "verified 1\n", "replay": "replayed 2\n", "check": "checked 4 4 faults 0\n"}
 LONG_LOG = LOG.removesuffix("end\n") + "".join(f"step {k}\nmove 1 0 0 {1 - 2 * (k % 2)}\nmoved whole\n" for k in range(2, 102)) + "end\n"
 
 
@@ -160,6 +160,22 @@ def main():
             ("a proof of 64 MiB and a byte", ["verify", "mesh.obj", "log.txt", "long.obj"], None, 5, "refused long proof 67108865"),
             ("a folder in place of the proof", ["verify", "mesh.obj", "log.txt", "folder"], None, 3, None),
             ("the log in place of the proof", ["verify", "mesh.obj", "log.txt", "log.txt"], None, 14, "refused proof 1 number"),
+            ("help of a replay", ["replay", "--help"], None, 0, None),
+            ("a log that is replayed", ["replay", "mesh.obj", "log.txt", "open/again"], None, 0, "replayed 2", {"open/again-000000.obj": MESH}),
+            ("a log of which another mesh is replayed", ["replay", "mesh.obj", "log.txt", "open/none", "--only", "7"], None, 0, None,
+             {"open/none-000000.obj": None}),
+            ("a log that is replayed to a full device", ["replay", "mesh.obj", "log.txt", "open/told"], lambda: os.open("/dev/full", os.O_WRONLY), 4, None,
+             {"open/told-000000.obj": MESH}),
+            ("a log that is replayed to a folder that may not be written", ["replay", "mesh.obj", "log.txt", "shut/t"], None, 3, None),
+            ("no such log to be replayed", ["replay", "mesh.obj", "none.txt", "open/no"], None, 11, "refused missing log", {"open/no-000000.obj": None}),
+            ("steps in place of the log to be replayed", ["replay", "mesh.obj", "steps.txt", "open/no"], None, 12, "refused log 1 unknown"),
+            ("help of a look at a mesh", ["check", "-h"], None, 0, None),
+            ("a mesh that is looked at", ["check", "mesh.obj"], None, 0, "checked 4 4 faults 0"),
+            ("a mesh that is looked at to a full device", ["check", "mesh.obj"], lambda: os.open("/dev/full", os.O_WRONLY), 4, None),
+            ("no such mesh to look at", ["check", "none.obj"], None, 11, "refused missing mesh"),
+            ("a mesh to look at of 64 MiB and a byte", ["check", "long.obj"], None, 5, "refused long mesh 67108865"),
+            ("a mesh to look at of no format", ["check", "steps.txt"], None, 2, None),
+            ("a mesh to look at that may not be read", ["check", "secret.obj"], None, 3, None),
             ("no such mesh file", ["track", "none.obj", "steps.txt", "t"], None, 11, "refused missing mesh"),
             ("no such step file", ["track", "mesh.obj", "none.txt", "t"], None, 11, "refused missing steps"),
             ("a mesh file in no folder", ["track", "nowhere/mesh.obj", "steps.txt", "t"], None, 11, "refused missing mesh"),

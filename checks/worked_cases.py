@@ -1,7 +1,7 @@
 #!/usr/bin/env python3
 """Runs the program on the worked cases of the folder `worked`, and compares its status, its log and the files that it stores.
 What `verify` is asked is asked of `examples/verify.py` too, which shares nothing with the program and has to accept just what the case accepts;
-`examples/replay.py` has to make the stored meshes of a log again, and `examples/carry.py` to find them.
+`replay` and `examples/replay.py` have to make the stored meshes of a log again, and `examples/carry.py` to find them.
 
     checks/worked_cases.py [PROGRAM] [NAME ..]
 
@@ -73,11 +73,20 @@ def difference_of_files(wanted, made):
     return None
 
 
-def fault_of_replay(case):
-    """What is wrong with the meshes that examples/replay.py makes of the case's log, or nothing. The log is given in the place of the steps."""
+def fault_of_replay(program, case):
+    """What is wrong with the meshes that are made of the case's log, or nothing. The log is given in the place of the steps."""
     mesh, steps = (word for word in case.words if word in case.inputs)
+    given = {mesh: case.inputs[mesh], steps: case.log}
     with tempfile.TemporaryDirectory() as folder:
-        given = {mesh: case.inputs[mesh], steps: case.log}
+        put_files(folder, given)
+        ran = subprocess.run([program, "replay", *case.words[1:]], cwd=folder, stdout=subprocess.PIPE, stderr=subprocess.PIPE, timeout=60)
+        made = files_in(folder)
+    if ran.returncode != 0 or ran.stdout.decode() != f"replayed {len(case.stored)}\n":
+        return f"replay ends with {ran.returncode} and says {ran.stdout.decode()!r}"
+    fault = difference_of_files({**given, **case.stored}, made)
+    if fault:
+        return f"replay: {fault}"
+    with tempfile.TemporaryDirectory() as folder:
         put_files(folder, given)
         ran = subprocess.run([sys.executable, REPLAYER, *case.words[1:]], cwd=folder, stdout=subprocess.PIPE, stderr=subprocess.PIPE, timeout=60)
         made = files_in(folder)
@@ -107,7 +116,7 @@ def fault_of(program, case):
             return f"examples/verify.py ends with {checked.returncode} and says {said!r}"
     fault = difference_of_files({**case.inputs, **case.stored}, made)
     if fault is None and case.words[0] == "track" and case.stored:
-        fault = fault_of_replay(case)
+        fault = fault_of_replay(program, case)
     return fault
 
 

@@ -31,13 +31,22 @@ fn is_number_in(low: u32, high: u32, word: &[u8]) -> bool {
     }
 }
 
+// An option of a command that takes files.
+#[derive(Clone, Copy, PartialEq, Eq)]
+enum Named {
+    // `--decimals N`.
+    Decimals,
+    // `--only K`.
+    Only,
+}
+
 // What the next word behind a command that takes files can be.
 #[derive(Clone, Copy, PartialEq, Eq)]
 enum Awaited {
     // The name of a file, or an option.
     Any,
-    // The digit of `--decimals`.
-    Digit,
+    // The value of an option.
+    Value(Named),
     // The name of a file alone, behind `--`.
     File,
 }
@@ -47,12 +56,10 @@ enum Awaited {
 enum Taken<'a> {
     // The end of the options, `--`.
     Dashes,
-    // `--decimals`, whose digit is the next word.
-    Decimals,
-    // What `--decimals=` has behind it.
-    DecimalsWith(&'a str),
-    // The word behind `--decimals`.
-    Digit(&'a str),
+    // An option, whose value is the next word.
+    Option(Named),
+    // The value of an option: the word behind it, or what stands behind `--decimals=` or `--only=`.
+    Value(Named, &'a str),
     // An option that there is not.
     Unknown(&'a str),
     // The name of a file.
@@ -60,13 +67,16 @@ enum Taken<'a> {
 }
 
 // What a word is taken as that may be an option with nothing behind it, or the name of a file.
-fn option_or_file(word: &str) -> Taken<'_> {
+fn option_or_file(wanted: Wanted, word: &str) -> Taken<'_> {
     let bytes = word.as_bytes();
     if is_word(bytes, b"--") {
         return Taken::Dashes;
     }
     if is_word(bytes, b"--decimals") {
-        return Taken::Decimals;
+        return Taken::Option(Named::Decimals);
+    }
+    if wanted.only && is_word(bytes, b"--only") {
+        return Taken::Option(Named::Only);
     }
     match bytes {
         [b'-', _, ..] => Taken::Unknown(word),
@@ -74,23 +84,28 @@ fn option_or_file(word: &str) -> Taken<'_> {
     }
 }
 
-// What a word is taken as. Options may stand before the files, among them and behind them.
-fn taken_as(awaited: Awaited, word: &str) -> Taken<'_> {
-    match awaited {
-        Awaited::Digit => Taken::Digit(word),
-        Awaited::File => Taken::File(word),
-        Awaited::Any => match word.strip_prefix("--decimals=") {
-            Some(digit) => Taken::DecimalsWith(digit),
-            None => option_or_file(word),
-        },
+// What a word is taken as that may be an option.
+fn any_word(wanted: Wanted, word: &str) -> Taken<'_> {
+    if let Some(digit) = word.strip_prefix("--decimals=") {
+        return Taken::Value(Named::Decimals, digit);
+    }
+    match word.strip_prefix("--only=") {
+        Some(number) if wanted.only => Taken::Value(Named::Only, number),
+        _ => option_or_file(wanted, word),
     }
 }
 
-// Says what is wrong with a word as the decimals, if anything is; `again` says that they were given before.
-fn decimals_reason(alloc: Global, digit: &str, again: bool) -> Result<Option<String>, AllocError> {
-    if again {
-        return Ok(Some(String::from_str(alloc, "`--decimals` is given twice")?));
+// What a word is taken as. Options may stand before the files, among them and behind them.
+fn taken_as(wanted: Wanted, awaited: Awaited, word: &str) -> Taken<'_> {
+    match awaited {
+        Awaited::Value(named) => Taken::Value(named, word),
+        Awaited::File => Taken::File(word),
+        Awaited::Any => any_word(wanted, word),
     }
+}
+
+// Says what is wrong with a word as the decimals, if anything is.
+fn decimals_reason(alloc: Global, digit: &str) -> Result<Option<String>, AllocError> {
     if is_decimals(digit.as_bytes()) {
         return Ok(None);
     }
@@ -98,14 +113,59 @@ fn decimals_reason(alloc: Global, digit: &str, again: bool) -> Result<Option<Str
     Ok(Some(said))
 }
 
+// Says what is wrong with a word as the number of a mesh, if anything is.
+fn only_reason(alloc: Global, number: &str) -> Result<Option<String>, AllocError> {
+    let most = u32::MAX;
+    if is_number_in(0, most, number.as_bytes()) {
+        return Ok(None);
+    }
+    let said = format!(in alloc;
+        "{number:?} is no number of a mesh, which is 0 to {most}, in digits with no needless zero in front"
+    )?;
+    Ok(Some(said))
+}
+
+// The word of an option.
+fn option_word(named: Named) -> &'static str {
+    match named {
+        Named::Decimals => "--decimals",
+        Named::Only => "--only",
+    }
+}
+
+// Says what is wrong with the value of an option, if anything is; `again` says that it was given before.
+fn value_reason(
+    alloc: Global,
+    named: Named,
+    value: &str,
+    again: bool,
+) -> Result<Option<String>, AllocError> {
+    if again {
+        let word = option_word(named);
+        return Ok(Some(format!(in alloc; "`{word}` is given twice")?));
+    }
+    match named {
+        Named::Decimals => decimals_reason(alloc, value),
+        Named::Only => only_reason(alloc, value),
+    }
+}
+
+// Which options a command that takes files has.
+fn options_of(wanted: Wanted) -> &'static str {
+    if wanted.only {
+        "the only options are `--decimals N` and `--only K`"
+    } else {
+        "the only option is `--decimals N`"
+    }
+}
+
 // Says that there is no such option.
-fn unknown_reason(alloc: Global, word: &str) -> Result<String, AllocError> {
+fn unknown_reason(alloc: Global, wanted: Wanted, word: &str) -> Result<String, AllocError> {
     if is_word(word.as_bytes(), b"--help") || is_word(word.as_bytes(), b"-h") {
         return format!(in alloc; "{word} stands alone, or alone behind a command");
     }
-    format!(in alloc;
-        "{word:?} has a dash in front, so it is no name of a file, and the only option is `--decimals N`"
-    )
+    let options = options_of(wanted);
+    format!(in alloc; "{word:?} has a dash in front, so it is no name of a file, and {options}")
 }
 
 // The verb for so many words.
@@ -113,12 +173,13 @@ fn are(count: usize) -> &'static str {
     if count == 1 { "is" } else { "are" }
 }
 
-// What a command wants: how it is called, so many files, and whether each has to end in a format's ending.
+// What a command wants: how it is called, so many files, whether each has to end in a format's ending, and whether it takes `--only K`.
 #[derive(Clone, Copy)]
 struct Wanted {
     form: &'static str,
     files: usize,
     formats: bool,
+    only: bool,
 }
 
 // What `track` wants.
@@ -126,6 +187,7 @@ const TRACK: Wanted = Wanted {
     form: "track MESH STEPS PREFIX",
     files: 3,
     formats: false,
+    only: false,
 };
 
 // What `convert` wants.
@@ -133,6 +195,7 @@ const CONVERT: Wanted = Wanted {
     form: "convert FROM TO",
     files: 2,
     formats: true,
+    only: false,
 };
 
 // What `measure` wants.
@@ -140,6 +203,7 @@ const MEASURE: Wanted = Wanted {
     form: "measure MESH LOG",
     files: 2,
     formats: false,
+    only: false,
 };
 
 // What `prove` wants.
@@ -147,6 +211,7 @@ const PROVE: Wanted = Wanted {
     form: "prove MESH LOG",
     files: 2,
     formats: false,
+    only: false,
 };
 
 // What `verify` wants.
@@ -154,6 +219,23 @@ const VERIFY: Wanted = Wanted {
     form: "verify MESH LOG PROOF",
     files: 3,
     formats: false,
+    only: false,
+};
+
+// What `replay` wants.
+const REPLAY: Wanted = Wanted {
+    form: "replay MESH LOG PREFIX",
+    files: 3,
+    formats: false,
+    only: true,
+};
+
+// What `check` wants.
+const CHECK: Wanted = Wanted {
+    form: "check MESH",
+    files: 1,
+    formats: true,
+    only: false,
 };
 
 // What the command of a name wants, if it takes files.
@@ -164,6 +246,8 @@ fn wanted_by(command: &str) -> Option<Wanted> {
         "measure" => Some(MEASURE),
         "prove" => Some(PROVE),
         "verify" => Some(VERIFY),
+        "replay" => Some(REPLAY),
+        "check" => Some(CHECK),
         _ => None,
     }
 }
@@ -177,8 +261,13 @@ fn file_reason(
 ) -> Result<Option<String>, AllocError> {
     let form = wanted.form;
     if before >= wanted.files {
+        let options = if wanted.only {
+            "`--decimals N` and `--only K`"
+        } else {
+            "`--decimals N`"
+        };
         let said = format!(in alloc;
-            "{word:?} is a word too many: behind the files of `topo {form}` only `--decimals N` may stand"
+            "{word:?} is a word too many: behind the files of `topo {form}` only {options} may stand"
         )?;
         return Ok(Some(said));
     }
@@ -198,7 +287,12 @@ fn file_reason(
 // Says that there are too few files.
 fn few_files_reason(alloc: Global, wanted: Wanted, files: usize) -> Result<String, AllocError> {
     let (form, wants, are) = (wanted.form, wanted.files, are(files));
-    format!(in alloc; "`topo {form}` wants {wants} names of files, and {files} {are} given")
+    let names = if wants == 1 {
+        "name of a file"
+    } else {
+        "names of files"
+    };
+    format!(in alloc; "`topo {form}` wants {wants} {names}, and {files} {are} given")
 }
 
 // Says what is wrong with the words behind a command that takes files: it tells the first word that is at fault, in the order in which they
@@ -207,23 +301,30 @@ fn files_reason(alloc: Global, wanted: Wanted, words: &[String]) -> Result<Strin
     let mut awaited = Awaited::Any;
     let mut files: usize = 0;
     let mut has_decimals = false;
+    let mut has_only = false;
     for word in words {
-        let reason = match taken_as(awaited, word.as_str()) {
+        let reason = match taken_as(wanted, awaited, word.as_str()) {
             Taken::Dashes => {
                 awaited = Awaited::File;
                 None
             }
-            Taken::Decimals => {
-                awaited = Awaited::Digit;
+            Taken::Option(named) => {
+                awaited = Awaited::Value(named);
                 None
             }
-            Taken::Digit(digit) | Taken::DecimalsWith(digit) => {
-                let reason = decimals_reason(alloc, digit, has_decimals)?;
+            Taken::Value(Named::Decimals, digit) => {
+                let reason = value_reason(alloc, Named::Decimals, digit, has_decimals)?;
                 awaited = Awaited::Any;
                 has_decimals = true;
                 reason
             }
-            Taken::Unknown(word) => Some(unknown_reason(alloc, word)?),
+            Taken::Value(Named::Only, number) => {
+                let reason = value_reason(alloc, Named::Only, number, has_only)?;
+                awaited = Awaited::Any;
+                has_only = true;
+                reason
+            }
+            Taken::Unknown(word) => Some(unknown_reason(alloc, wanted, word)?),
             Taken::File(word) => {
                 let reason = file_reason(alloc, wanted, files, word)?;
                 files = files.saturating_add(1);
@@ -234,10 +335,15 @@ fn files_reason(alloc: Global, wanted: Wanted, words: &[String]) -> Result<Strin
             return Ok(reason);
         }
     }
-    if awaited == Awaited::Digit {
-        return String::from_str(alloc, "`--decimals` wants a digit from 0 to 6");
+    match awaited {
+        Awaited::Value(Named::Decimals) => {
+            String::from_str(alloc, "`--decimals` wants a digit from 0 to 6")
+        }
+        Awaited::Value(Named::Only) => {
+            String::from_str(alloc, "`--only` wants the number of a mesh")
+        }
+        _ => few_files_reason(alloc, wanted, files),
     }
-    few_files_reason(alloc, wanted, files)
 }
 
 // Says what is wrong with a word as a number behind `try`, if anything is; so many stand before it.
@@ -290,7 +396,7 @@ fn command_reason(alloc: Global, command: &str) -> Result<String, AllocError> {
         return format!(in alloc; "{command} stands alone");
     }
     format!(in alloc;
-        "{command:?} is no command: the commands are `track`, `convert`, `measure`, `prove`, `verify` and `try`"
+        "{command:?} is no command: the commands are `track`, `convert`, `check`, `measure`, `prove`, `verify`, `replay` and `try`"
     )
 }
 

@@ -1,11 +1,10 @@
 -- What the program does for its words, and with which outcome it ends.
-use Rattle.std.specs.Prelude.{◌≡◌, ◌≤◌, ◌⊎◌, ℕ, true, List}
+use Rattle.std.specs.Prelude.{◌≡◌, ◌≤◌, ◌⊎◌, ℕ, List}
 use Rattle.outside_io.specs.Causes.{Rose}
 use Rattle.outside_io.specs.Sink.{appended, AppendsPart}
 use Rattle.track_engine.specs.World.{World}
 use Rattle.track_run.specs.declared.outcome.Outcome.{Outcome}
-use Rattle.track_run.specs.declared.outcome.Outcome.TheVariants.{Done, SinkFault}
-use Rattle.topo.specs.Asked.{is_command_help}
+use Rattle.track_run.specs.declared.outcome.Outcome.TheVariants.{Done, NoMemory, SinkFault}
 
 -- the text is written whole
 abbrev pub IsTold : List ℕ → Outcome → World → World → Type 0
@@ -23,8 +22,11 @@ pub record Tells (text : List ℕ) (outcome : Outcome) (old new : World) : Type 
   pub desk : new.desk_faults ≡ old.desk_faults
   pub sink : old.sink_faults ≤ new.sink_faults
 
--- The words ask for the help of a command, and a text of help is written, or a part of it, and nothing else is done.
-pub record HelpsCommand (words : List (List ℕ)) (outcome : Outcome) (old new : World) : Type 0 where
-  pub asked : is_command_help words ≡ true
+-- a text of help is written, or a part of it, and nothing else is done
+pub record TellsHelp (outcome : Outcome) (old new : World) : Type 0 where
   pub text : List ℕ
   pub tells : Tells text outcome old new
+
+-- That, or there was no memory for the text, and nothing is done.
+abbrev pub HelpsCommand : Outcome → World → World → Type 0
+HelpsCommand outcome old new = TellsHelp outcome old new ⊎ ((outcome ≡ NoMemory) × (new ≡ old))

@@ -1,5 +1,5 @@
 //! What the words of a command line are answered with.
-ghost use Rattle.std.specs.Prelude.{◌≡◌, ◌⊎◌, true, false, List, map, string_bytes, IfSome};
+ghost use Rattle.std.specs.Prelude.{◌≡◌, true, false, List, map, string_bytes, Ok, None, IfOk, IfSome};
 ghost use Rattle.mesh_field.specs.Stored.{IsWellKept};
 ghost use Rattle.mesh_sizing.specs.Sizes.{IsWellKept as SizesWell};
 ghost use Rattle.track_engine.specs.Answered.{known};
@@ -15,30 +15,36 @@ use line_text::is_word;
 use mesh_field::Fields;
 use mesh_sizing::{Band, Sizing};
 use outside_io::{Desk, Sink, put_all};
-use std::alloc::Global;
+use std::alloc::{AllocError, Global};
 use track_run::{Outcome, run};
 
 /// How the program is called.
 pub(crate) const USAGE: &str = "\
 usage: topo track MESH STEPS PREFIX [--decimals N]
        topo convert FROM TO [--decimals N]
-       topo try N KEY
+       topo check MESH [--decimals N]
        topo measure MESH LOG [--decimals N]
        topo prove MESH LOG [--decimals N]
        topo verify MESH LOG PROOF [--decimals N]
-       topo track --help | convert --help | try --help | measure --help | prove --help | verify --help
+       topo replay MESH LOG PREFIX [--decimals N] [--only K]
+       topo try N KEY
+       topo track --help | convert --help | check --help | measure --help | prove --help | verify --help |
+            replay --help | try --help
        topo --help | --version
 
 Reads the Wavefront OBJ mesh MESH and the text of steps STEPS, moves the closed triangle surface by
 the steps and edits it, writes the log to standard output, and stores the meshes as PREFIX-000000.obj,
 PREFIX-000001.obj and so on. `convert` stores the mesh FROM under TO, each in the format of its ending:
-.obj, .off (OFF) or .ply (ASCII PLY). `try` makes a job of N * N * N cubes by KEY, runs it, and writes a
-summary of its log (N from 1 to 12, KEY from 0 to 4294967295); it reads and stores no file. `measure`
-takes the lines of the log LOG, which began with the mesh MESH, one after another, and tells what they did
-to volume and shape. `prove` takes them so and writes a proof that nothing meets on the way, a certificate
-for each motion of the log, and `verify` checks such a proof PROOF, whoever wrote it.
+.obj, .off (OFF) or .ply (ASCII PLY). `check` tells all that is wrong with the mesh MESH of such a format.
+`measure` takes the lines of the log LOG, which began with the mesh MESH, one after another, and tells what
+they did to volume and shape. `prove` takes them so and writes a proof that nothing meets on the way, a
+certificate for each motion of the log, and `verify` checks such a proof PROOF, whoever wrote it. `replay`
+takes them so and stores the meshes that they save, as `track` did. `try` makes a job of N * N * N cubes by
+KEY, runs it, and writes a summary of its log (N from 1 to 12, KEY from 0 to 4294967295); it reads and
+stores no file.
 
 --decimals N    a unit of the grid is 10 to the power -N (N from 0 to 6; 0 if left out)
+--only K        of the meshes of the log, mesh K alone is stored (K from 0 to 4294967295)
 
 Exit status:
    0  done
@@ -77,17 +83,19 @@ fn is_version(words: &[String]) -> bool
     words.len() == 1 && is_word(words[0].as_bytes(), b"--version")
 }
 
-// The help of a command, where the words ask for that alone and there is memory.
-fn asked_help(alloc: Global, words: &[String]) -> Option<String>
-    ensures { let texts = map (λ word. string_bytes word) words.now in
-        IfSome result (λ text. is_command_help texts ≡ true) }
+// The help of a command, where the words ask for that alone.
+fn asked_help(alloc: Global, words: &[String]) -> Result<Option<String>, AllocError>
+    ensures asked { let texts = map (λ word. string_bytes word) words.now in
+        IfOk result (λ help. IfSome help (λ text. is_command_help texts ≡ true)) }
+    ensures other { let texts = map (λ word. string_bytes word) words.now in
+        result ≡ Ok None → is_command_help texts ≡ false }
 {
     if words.len() == 2
         && (is_word(words[1].as_bytes(), b"--help") || is_word(words[1].as_bytes(), b"-h"))
     {
-        command_help(alloc, words[0].as_str()).ok()?
+        command_help(alloc, words[0].as_str())
     } else {
-        None
+        Ok(None)
     }
 }
 
@@ -122,8 +130,8 @@ fn tell_version<D: Desk, K: Sink>(desk: &D, out: &mut K) -> Outcome
 }
 
 /// Answers the words that follow the program's name, and gives the outcome. `--help` or `-h` alone writes how the program is called,
-/// `--version` alone the line of the version, the name of a command and `--help` or `-h` the help of the command, where there is memory
-/// for it, and all other words are a run's.
+/// `--version` alone the line of the version, the name of a command and `--help` or `-h` the help of the command, or NoMemory where
+/// there is none for it, and all other words are a run's.
 pub(crate) fn answer<D: Desk, K: Sink, F: Fn(u8, Point) -> Shift, G: Fn(Point) -> Band>(
     alloc: Global,
     words: &[String],
@@ -142,12 +150,15 @@ pub(crate) fn answer<D: Desk, K: Sink, F: Fn(u8, Point) -> Shift, G: Fn(Point) -
         Tells version_line result
         (world D.files D.faults K.written K.faults desk.old out.old)
         (world D.files D.faults K.written K.faults desk.new out.new) }
+    ensures helps { is_command_help (map (λ word. string_bytes word) words.now) ≡ true →
+        HelpsCommand result
+        (world D.files D.faults K.written K.faults desk.old out.old)
+        (world D.files D.faults K.written K.faults desk.new out.new) }
     ensures runs { let texts = map (λ word. string_bytes word) words.now in
         let before = world D.files D.faults K.written K.faults desk.old out.old in
         let after = world D.files D.faults K.written K.faults desk.new out.new in
-        is_help texts ≡ false → is_version texts ≡ false
-        → RunsFor (known F.Fn fields.now G.Fn sizing.now) texts result before after
-        ⊎ HelpsCommand texts result before after }
+        is_help texts ≡ false → is_version texts ≡ false → is_command_help texts ≡ false
+        → RunsFor (known F.Fn fields.now G.Fn sizing.now) texts result before after }
 {
     if is_help(words) {
         return tell_usage(desk, out);
@@ -156,7 +167,8 @@ pub(crate) fn answer<D: Desk, K: Sink, F: Fn(u8, Point) -> Shift, G: Fn(Point) -
         return tell_version(desk, out);
     }
     match asked_help(alloc, words) {
-        Some(text) => tell(text.as_str(), desk, out),
-        None => run(alloc, words, desk, out, fields, sizing),
+        Ok(Some(text)) => tell(text.as_str(), desk, out),
+        Ok(None) => run(alloc, words, desk, out, fields, sizing),
+        Err(_) => Outcome::NoMemory,
     }
 }

@@ -70,6 +70,13 @@ pub(crate) fn names_of(alloc: Global, words: &[String]) -> Option<Names<'_>> {
             proof: given.proof,
             decimals: given.files.decimals,
         }),
+        Command::Replay(given) => Some(log_names(given.files)),
+        Command::Check { mesh, decimals } => Some(Names {
+            mesh: mesh.name,
+            other: mesh.name,
+            proof: mesh.name,
+            decimals,
+        }),
         Command::Try { .. } => None,
     }
 }

@@ -1,4 +1,7 @@
 //! The texts of help: how each command is called.
+ghost use Rattle.std.specs.Prelude.{◌≡◌, true, false, Ok, None, IfOk, IfSome};
+ghost use Rattle.topo.specs.Asked.{is_command};
+
 use clap::{Arg, ArgAction, Command};
 use std::alloc::{AllocError, Global};
 
@@ -84,6 +87,29 @@ motion of its line, whoever wrote it. What is written:
 
 docs/FORMATS.md has all texts. `topo --help` lists the exit statuses.";
 
+const REPLAYS: &str = "\
+Each line of the log is taken where it fits the lines before it, as `topo measure` does, and at each `mesh` line the
+mesh is stored, byte for byte as `topo track` stored it where it wrote the log. So a log and the mesh that it began
+with are all that has to be kept. What is written:
+  replayed K        how many meshes were stored
+  refused replay LINE
+                    the first line of the log that does not fit; the meshes of the lines before it were stored
+
+docs/FORMATS.md has all texts. `topo --help` lists the exit statuses.";
+
+const CHECKS: &str = "\
+The ending of the name picks its format: .obj (Wavefront OBJ), .off (OFF) or .ply (ASCII PLY). What is written, of
+all that is wrong at most the first million lines:
+  shape WHY ..      a fault of shape: more vertices or faces than the limit (vertices COUNT, faces COUNT); a face with a
+                    corner that is no vertex (corner FACE CORNER), or with one vertex twice (repeated FACE); a face that
+                    a later one equals (doubled FACE LATER); two vertices between which the faces do not run as often
+                    one way as the other, so that the surface has a border there (unbalanced A B)
+  meets A B FACE    where the shape is good: an edge, of the vertices A and B, and a face that meet and share no vertex
+  checked V F faults M
+                    how many vertices and faces the mesh has, and how many lines say what is wrong
+
+docs/FORMATS.md has all texts. `topo --help` lists the exit statuses.";
+
 // A word that has to be given.
 fn word<'a>(alloc: Global, name: &'a str, help: &'a str) -> Arg<'a> {
     Arg::new(alloc, name)
@@ -159,6 +185,32 @@ fn verify<'a>(alloc: Global) -> Result<Command<'a>, AllocError> {
         .arg(decimals(alloc))
 }
 
+fn replay<'a>(alloc: Global) -> Result<Command<'a>, AllocError> {
+    let about = "Makes the meshes of a log again, and stores them";
+    of_log(alloc, "replay", about, REPLAYS)?
+        .arg(word(
+            alloc,
+            "PREFIX",
+            "Meshes are stored as PREFIX-000000.obj and so on",
+        ))?
+        .arg(decimals(alloc))?
+        .arg(
+            Arg::new(alloc, "only")
+                .long("only")
+                .value_name("K")
+                .help("Of the meshes of the log, store mesh K alone")
+                .action(ArgAction::Set),
+        )
+}
+
+fn check<'a>(alloc: Global) -> Result<Command<'a>, AllocError> {
+    Command::new(alloc, "check")
+        .about("Tells all that is wrong with a mesh")
+        .after_help(CHECKS)
+        .arg(word(alloc, "MESH", "The file of the mesh"))?
+        .arg(decimals(alloc))
+}
+
 fn try_cubes<'a>(alloc: Global) -> Result<Command<'a>, AllocError> {
     Command::new(alloc, "try")
         .about("Makes a job of cubes by a key, runs it, and sums up its log")
@@ -197,8 +249,19 @@ fn verify_help(alloc: Global) -> Result<String, AllocError> {
     rendered(verify(alloc)?, "topo verify")
 }
 
+fn replay_help(alloc: Global) -> Result<String, AllocError> {
+    rendered(replay(alloc)?, "topo replay")
+}
+
+fn check_help(alloc: Global) -> Result<String, AllocError> {
+    rendered(check(alloc)?, "topo check")
+}
+
 /// How the command is called; None, where there is no such command.
-pub(crate) fn command_help(alloc: Global, name: &str) -> Result<Option<String>, AllocError> {
+pub(crate) fn command_help(alloc: Global, name: &str) -> Result<Option<String>, AllocError>
+    ensures named { IfOk result (λ help. IfSome help (λ text. is_command name.now ≡ true)) }
+    ensures other { result ≡ Ok None → is_command name.now ≡ false }
+{
     let help = match name {
         "track" => track_help(alloc)?,
         "convert" => convert_help(alloc)?,
@@ -206,6 +269,8 @@ pub(crate) fn command_help(alloc: Global, name: &str) -> Result<Option<String>, 
         "measure" => measure_help(alloc)?,
         "prove" => prove_help(alloc)?,
         "verify" => verify_help(alloc)?,
+        "replay" => replay_help(alloc)?,
+        "check" => check_help(alloc)?,
         _ => return Ok(None),
     };
     Ok(Some(help))

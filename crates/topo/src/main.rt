@@ -1,6 +1,7 @@
-//! The program `topo`. It makes the real desk and sink and answers the words of the command line: it tracks or converts a mesh,
-//! measures, proves or verifies a log, tries a job that it makes, or says how to call it. What is to be believed is here alone: that the words are those of the
-//! command line, that the fields and the sizing are the shipped ones, and that the status is handed out.
+//! The program `topo`. It makes the real desk and sink and answers the words of the command line: it tracks, converts or checks a
+//! mesh, measures, proves, verifies or replays a log, tries a job that it makes, or says how to call it. What is to be believed is here
+//! alone: that the words are those of the command line, that the fields and the sizing are the shipped ones, and that the status is handed
+//! out.
 #![tactic(auto)]
 
 mod answering;

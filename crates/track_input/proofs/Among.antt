@@ -1,6 +1,6 @@
 -- What a command finds comes from the words that it is given.
 use Rattle.std.proofs.Common.{inl, inr, ◌≡◌, ◌∙◌, ℕ, zero, suc, ◌+◌, Bool, true, false, cond, refl, sym, ap, subst, List, [], ◌∷◌, ◌++◌, length, Option, Some, None, codes, eqb, arith}
-use Rattle.std.specs.Prelude.{⊤, ◌⊎◌, Contains, find, fold, slice_get, encode_utf8, take, drop, ◌&&◌}
+use Rattle.std.specs.Prelude.{⊤, ◌⊎◌, Contains, find, fold, slice_get, encode_utf8, take, drop, ◌&&◌, ◌||◌}
 use Rattle.std.specs.List.{before_first, after_first, list_any}
 use Rattle.std.specs.Str.{bytes_eq, chars}
 use Rattle.std.proofs.lemmas.Bool.{cases_Bool, eqb-true}
@@ -39,12 +39,28 @@ pub record IsSetRule (a : Rule) : Type 0 where
   pub missing : a.missing ≡ []
   pub defaults : a.defaults ≡ []
 
+-- the name of an option
+abbrev pub IsOption : Text → Type 0
+IsOption id = (id ≡ codes "decimals") ⊎ (id ≡ codes "only")
+
+-- whether it is one
+abbrev pub is_option : Text → Bool
+is_option id = bytes_eq id (codes "decimals") || bytes_eq id (codes "only")
+
+pub no_option : (id : Text) → is_option id ≡ false → IsOption id → ⊥
+no_option id other (inl is) = let e : true ≡ false = subst (λ (i : Text). is_option i ≡ false) is other in cc
+no_option id other (inr is) = let e : true ≡ false = subst (λ (i : Text). is_option i ≡ false) is other in cc
+
+-- `--name=v`
+abbrev pub named_value : Text → Text → Text
+named_value name v = 45 ∷ 45 ∷ name ++ 61 ∷ v
+
 -- ---- what comes from the words
 
 module _ (words : List Text) where
-  -- a whole word, or what follows `--decimals=`
+  -- a whole word, or what follows the name of an option
   abbrev pub From : Text → Text → Type 0
-  From id v = Contains words v ⊎ ((id ≡ codes "decimals") × Contains words (codes "--decimals=" ++ v))
+  From id v = Contains words v ⊎ (IsOption id × Contains words (named_value id v))
 
   abbrev pub ValuesFrom : Text → List Text → Type 0
   ValuesFrom id [] = ⊤
@@ -110,10 +126,10 @@ module _ (words : List Text) where
   FoundSet None = ⊤
   FoundSet (Some a) = IsSetRule a
 
-  -- a long name is that of `--decimals`
+  -- a long name is that of an option, and of its argument
   abbrev pub FoundLong : Text → Option Rule → Type 0
   FoundLong name None = ⊤
-  FoundLong name (Some a) = IsSetRule a × (a.id ≡ codes "decimals") × (name ≡ codes "decimals") × (takes_values a ≡ true)
+  FoundLong name (Some a) = IsSetRule a × (name ≡ a.id) × IsOption a.id × (takes_values a ≡ true)
 
   abbrev pub AllSet : List Rule → Type 0
   AllSet [] = ⊤
@@ -171,11 +187,13 @@ module _ (words : List Text) where
     -- where the word is `--name=v`, v comes from it
     abbrev TailFrom : Text → Option Text → Type 0
     TailFrom name None = ⊤
-    TailFrom name (Some v) = name ≡ codes "decimals" → Contains words (codes "--decimals=" ++ v)
+    TailFrom name (Some v) = Contains words (named_value name v)
 
-    option_from : (a : Rule) (v : Option Text) (h : Held) (name : Text) → IsSetRule a → a.id ≡ codes "decimals" → name ≡ codes "decimals" → TailFrom name v → HeldFrom h → HeldFrom (option_met c a v h).0
-    option_from a None h name s id named t f = record { rows = (settled_from h f).rows; pending = tt }
-    option_from a (Some v) h name s id named t f = record { rows = used_from a (v ∷ []) (settled c h).rows s (inr (id, t named), tt) (settled_from h f).rows; pending = tt }
+    option_from : (a : Rule) (v : Option Text) (h : Held) (name : Text) → IsSetRule a → name ≡ a.id → IsOption a.id → TailFrom name v → HeldFrom h → HeldFrom (option_met c a v h).0
+    option_from a None h name s named known t f = record { rows = (settled_from h f).rows; pending = tt }
+    option_from a (Some v) h name s named known t f =
+        let from : From a.id v = inr (known, subst (λ (n : Text). Contains words (named_value n v)) named t) in
+        record { rows = used_from a (v ∷ []) (settled c h).rows s (from, tt) (settled_from h f).rows; pending = tt }
 
     long_from : (found : Option Rule) (name : Text) (v : Option Text) (h : Held) → FoundLong name found → TailFrom name v → HeldFrom h → HeldFrom (long_met c found v h).0
     long_from None name v h l t f = f
@@ -222,9 +240,8 @@ module _ (words : List Text) where
           | inl some ↦
               let q = rw some at g in
               let same : ◌≡◌ {A = Text × Option Text} (before_first (λ b. eqb b 61) (z ∷ zs), Some (after_first (λ b. eqb b 61) (z ∷ zs))) p = cc in
-              subst (λ (q : Text × Option Text). TailFrom q.0 q.1) same (λ e.
-              let cut : z ∷ zs ≡ codes "decimals" ++ 61 ∷ after_first (λ b. eqb b 61) (z ∷ zs) = cut_at_byte 61 (z ∷ zs) some ∙ ap (λ (t : Text). t ++ 61 ∷ after_first (λ b. eqb b 61) (z ∷ zs)) e in
-              subst (λ (t : Text). Contains words t) (ap (λ (t : Text). 45 ∷ 45 ∷ t) cut) w)
+              let cut : z ∷ zs ≡ before_first (λ b. eqb b 61) (z ∷ zs) ++ 61 ∷ after_first (λ b. eqb b 61) (z ∷ zs) = cut_at_byte 61 (z ∷ zs) some in
+              subst (λ (q : Text × Option Text). TailFrom q.0 q.1) same (subst (λ (t : Text). Contains words (45 ∷ 45 ∷ t)) cut w)
         ]
 
     long_or_other_from : (waiting : Waiting) (word : Text) (h : Held) → Contains words word → HeldFrom h → HeldFrom (long_or_other c waiting word (long_of word) h).0

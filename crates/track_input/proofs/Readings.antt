@@ -13,13 +13,13 @@ use Rattle.clap.specs.Simple.{built}
 use Rattle.clap.specs.Walk.{Rule, takes_values}
 use Rattle.line_text.specs.Spellings.{spelled_number}
 use Rattle.track_input.specs.declared.command.TheConstants.{CUBES_MAX}
-use Rattle.track_input.specs.Words.{MeshName, LogNames, Named, Track, Convert, Try, Measure, Prove, Verify, named_in, track_in, convert_in, try_in, log_in, verify_in, between, number_in, decimals_in, mesh_name_of, is_file_word, is_decimals}
+use Rattle.track_input.specs.Words.{MeshName, LogNames, Named, Track, Convert, Try, Measure, Prove, Verify, Replay, Check, named_in, track_in, convert_in, try_in, log_in, verify_in, replay_in, check_in, only_in, options_in, between, number_in, decimals_in, mesh_name_of, is_file_word, is_decimals}
 use Rattle.track_input.specs.Named.{named_by}
 use Rattle.track_input.specs.declared.command.Command.{Command}
-use Rattle.track_input.specs.Taken.{behind, AreTakenAs, IsReading}
-use Rattle.track_input.specs.Commands.{Values, IsFound, IsReadBy, values_in, track_app, track_of, track_read, convert_app, convert_of, convert_read, try_app, try_of, try_read, log_app, log_of, log_read, measure_app, measure_read, prove_app, prove_read, verify_app, verify_of, verify_read}
-use Rattle.track_input.proofs.Walks.{IsPlainWord, plain_word, plain_digit, plain_number, try_taken, try_found, log_taken, log_found, log_taken_with, log_found_with, track_taken, track_found, track_taken_with, track_found_with, convert_taken, convert_found, convert_taken_with, convert_found_with, verify_taken, verify_found, verify_taken_with, verify_found_with}
-use Rattle.track_input.proofs.Among.{AreSafe, FoundLong, IsSetRule, RowsFrom, rows_from, first_from, contains_here, contains_later}
+use Rattle.track_input.specs.Taken.{behind, options_behind, AreTakenAs, IsReading}
+use Rattle.track_input.specs.Commands.{Values, IsFound, IsReadBy, values_in, track_app, track_of, track_read, convert_app, convert_of, convert_read, try_app, try_of, try_read, log_app, log_of, log_read, measure_app, measure_read, prove_app, prove_read, verify_app, verify_of, verify_read, replay_app, replay_of, replay_read, check_app, check_of, check_read}
+use Rattle.track_input.proofs.Walks.{IsPlainWord, plain_word, plain_digit, plain_number, try_taken, try_found, log_taken, log_found, log_taken_with, log_found_with, track_taken, track_found, track_taken_with, track_found_with, convert_taken, convert_found, convert_taken_with, convert_found_with, verify_taken, verify_found, verify_taken_with, verify_found_with, replay_taken, replay_found, replay_taken_with, replay_found_with, replay_taken_only, replay_found_only, replay_taken_both, replay_found_both, check_taken, check_found, check_taken_with, check_found_with}
+use Rattle.track_input.proofs.Among.{AreSafe, FoundLong, IsOption, IsSetRule, is_option, named_value, no_option, RowsFrom, rows_from, first_from, contains_here, contains_later}
 
 -- ---- the reading
 
@@ -78,6 +78,12 @@ prove_by_rows m = rw (first_value-rows (found_of m) (codes "mesh"), first_value-
 
 pub verify_by_rows : (m : ArgMatches) → verify_read (first_value (found_of m)) ≡ verify_read (λ id. first_of id (rows_of (found_of m)))
 verify_by_rows m = rw (first_value-rows (found_of m) (codes "mesh"), first_value-rows (found_of m) (codes "log"), first_value-rows (found_of m) (codes "proof"), first_value-rows (found_of m) (codes "decimals")) refl
+
+pub replay_by_rows : (m : ArgMatches) → replay_read (first_value (found_of m)) ≡ replay_read (λ id. first_of id (rows_of (found_of m)))
+replay_by_rows m = rw (first_value-rows (found_of m) (codes "mesh"), first_value-rows (found_of m) (codes "log"), first_value-rows (found_of m) (codes "prefix"), first_value-rows (found_of m) (codes "decimals"), first_value-rows (found_of m) (codes "only")) refl
+
+pub check_by_rows : (m : ArgMatches) → check_read (first_value (found_of m)) ≡ check_read (λ id. first_of id (rows_of (found_of m)))
+check_by_rows m = rw (first_value-rows (found_of m) (codes "mesh"), first_value-rows (found_of m) (codes "decimals")) refl
 
 -- ---- words that are listed
 
@@ -260,11 +266,158 @@ try_listed zeroth (a ∷ b ∷ []) x e = at (number_in 1 CUBES_MAX a) (number_in
         let f = try_found zeroth a b pa pb in
         record { taken = try_taken zeroth a b pa pb; found = rw (f.cubes, f.key) e }
 
+check_listed : (zeroth : List ℕ) (rest : List (List ℕ)) (x : Named) → check_in rest ≡ Some x → Finds check_read check_app (zeroth ∷ rest) x
+check_listed zeroth [] x e = absurd (cc)
+check_listed zeroth (a ∷ rest) x e = at_name (mesh_name_of a) refl e
+  where
+    at_rest : (mesh : MeshName) (rest : List (List ℕ)) → is_file_word a ≡ true → check_in (a ∷ rest) ≡ Some x
+        → option_map (λ n. Check mesh n) (decimals_in rest) ≡ Some x → Finds check_read check_app (zeroth ∷ a ∷ rest) x
+    at_rest mesh [] ha e g =
+        let f = check_found zeroth a (plain_word a ha) in
+        record { taken = check_taken zeroth a (plain_word a ha); found = rw (f.mesh, f.decimals) e }
+    at_rest mesh (o ∷ []) ha e g = absurd (cc)
+    at_rest mesh (o ∷ d ∷ y ∷ ys) ha e g = absurd (cc)
+    at_rest mesh (o ∷ d ∷ []) ha e g = elim (cases_Bool (bytes_eq o (codes "--decimals") && is_decimals d)) [
+      | inr fails ↦ absurd (let h = rw fails at g in cc)
+      | inl all ↦
+          let p = and_parts _ _ all in
+          let option : codes "--decimals" ≡ o = option_is o p.0 in
+          let listed : check_in (a ∷ codes "--decimals" ∷ d ∷ []) ≡ Some x = subst (λ (w : List ℕ). check_in (a ∷ w ∷ d ∷ []) ≡ Some x) (sym option) e in
+          let f = check_found_with zeroth a (plain_word a ha) d (plain_digit d p.1) in
+          let here : Finds check_read check_app (zeroth ∷ a ∷ codes "--decimals" ∷ d ∷ []) x = record {
+            taken = check_taken_with zeroth a (plain_word a ha) d (plain_digit d p.1);
+            found = rw (f.mesh, f.decimals) listed;
+          } in
+          subst (λ (w : List ℕ). Finds check_read check_app (zeroth ∷ a ∷ w ∷ d ∷ []) x) option here
+    ]
+
+    at_name : (m : Option MeshName) → mesh_name_of a ≡ m → option_and_then (λ mesh. option_map (λ n. Check mesh n) (decimals_in rest)) m ≡ Some x → Finds check_read check_app (zeroth ∷ a ∷ rest) x
+    at_name None is g = absurd (cc)
+    at_name (Some mesh) is g = at_rest mesh rest (mesh_word a mesh is) e g
+
+-- ---- the words behind the files of a replay
+
+-- how an option with these two words reads: the first is the option's, and the second is of its kind
+pub record IsDigit (option digit : List ℕ) : Type 0 where
+  pub option_is : codes "--decimals" ≡ option
+  pub is_digit : is_decimals digit ≡ true
+
+digit_of : (option digit : List ℕ) (n : ℕ) → decimals_in (option ∷ digit ∷ []) ≡ Some n → IsDigit option digit
+digit_of o d n e = elim (cases_Bool (bytes_eq o (codes "--decimals") && is_decimals d)) [
+  | inr fails ↦ absurd (let g = rw fails at e in cc)
+  | inl all ↦ let p = and_parts _ _ all in record { option_is = option_is o p.0; is_digit = p.1 }
+]
+
+pub record IsNumber (option number : List ℕ) : Type 0 where
+  pub option_is : codes "--only" ≡ option
+  pub plain : IsPlainWord number
+
+number_of : (option number : List ℕ) (k : ℕ) → only_in option number ≡ Some k → IsNumber option number
+number_of o w k e = elim (cases_Bool (bytes_eq o (codes "--only"))) [
+  | inr fails ↦ absurd (let g = rw fails at e in cc)
+  | inl is ↦ record { option_is = sym ((bytes_eq-Decides o (codes "--only")).0 is); plain = number_word 0 (2 ^ 32 - 1) w k (rw is at e) }
+]
+
+module _ (x : Named) (zeroth a b c : List ℕ) (pa : IsPlainWord a) (pb : IsPlainWord b) (pc : IsPlainWord c) where
+  abbrev make : ℕ × Option ℕ → Named
+  make told = Replay (record { names = record { mesh = a; log = b; decimals = told.0 }; prefix = c; only = told.1 })
+
+  abbrev FindsThese : List (List ℕ) → Type 0
+  FindsThese rest = Finds replay_read replay_app (zeroth ∷ a ∷ b ∷ c ∷ rest) x
+
+  with_digit : (o d : List ℕ) → IsDigit o d → replay_in (a ∷ b ∷ c ∷ o ∷ d ∷ []) ≡ Some x → FindsThese (o ∷ d ∷ [])
+  with_digit o d is e =
+      let listed : replay_in (a ∷ b ∷ c ∷ codes "--decimals" ∷ d ∷ []) ≡ Some x = subst (λ (w : List ℕ). replay_in (a ∷ b ∷ c ∷ w ∷ d ∷ []) ≡ Some x) (sym is.option_is) e in
+      let f = replay_found_with zeroth a b pa pb c pc d (plain_digit d is.is_digit) in
+      let here : FindsThese (codes "--decimals" ∷ d ∷ []) = record {
+        taken = replay_taken_with zeroth a b pa pb c pc d (plain_digit d is.is_digit);
+        found = rw (f.mesh, f.log, f.prefix, f.decimals, f.only) listed;
+      } in
+      subst (λ (w : List ℕ). FindsThese (w ∷ d ∷ [])) is.option_is here
+
+  with_number : (o w : List ℕ) → IsNumber o w → replay_in (a ∷ b ∷ c ∷ o ∷ w ∷ []) ≡ Some x → FindsThese (o ∷ w ∷ [])
+  with_number o w is e =
+      let listed : replay_in (a ∷ b ∷ c ∷ codes "--only" ∷ w ∷ []) ≡ Some x = subst (λ (t : List ℕ). replay_in (a ∷ b ∷ c ∷ t ∷ w ∷ []) ≡ Some x) (sym is.option_is) e in
+      let f = replay_found_only zeroth a b pa pb c pc w is.plain in
+      let here : FindsThese (codes "--only" ∷ w ∷ []) = record {
+        taken = replay_taken_only zeroth a b pa pb c pc w is.plain;
+        found = rw (f.mesh, f.log, f.prefix, f.decimals, f.only) listed;
+      } in
+      subst (λ (t : List ℕ). FindsThese (t ∷ w ∷ [])) is.option_is here
+
+  with_both : (o d p w : List ℕ) → IsDigit o d → IsNumber p w → replay_in (a ∷ b ∷ c ∷ o ∷ d ∷ p ∷ w ∷ []) ≡ Some x → FindsThese (o ∷ d ∷ p ∷ w ∷ [])
+  with_both o d p w is_d is_k e =
+      let first : replay_in (a ∷ b ∷ c ∷ codes "--decimals" ∷ d ∷ p ∷ w ∷ []) ≡ Some x = subst (λ (t : List ℕ). replay_in (a ∷ b ∷ c ∷ t ∷ d ∷ p ∷ w ∷ []) ≡ Some x) (sym is_d.option_is) e in
+      let listed : replay_in (a ∷ b ∷ c ∷ codes "--decimals" ∷ d ∷ codes "--only" ∷ w ∷ []) ≡ Some x = subst (λ (t : List ℕ). replay_in (a ∷ b ∷ c ∷ codes "--decimals" ∷ d ∷ t ∷ w ∷ []) ≡ Some x) (sym is_k.option_is) first in
+      let f = replay_found_both zeroth a b pa pb c pc d (plain_digit d is_d.is_digit) w is_k.plain in
+      let here : FindsThese (codes "--decimals" ∷ d ∷ codes "--only" ∷ w ∷ []) = record {
+        taken = replay_taken_both zeroth a b pa pb c pc d (plain_digit d is_d.is_digit) w is_k.plain;
+        found = rw (f.mesh, f.log, f.prefix, f.decimals, f.only) listed;
+      } in
+      let second : FindsThese (codes "--decimals" ∷ d ∷ p ∷ w ∷ []) = subst (λ (t : List ℕ). FindsThese (codes "--decimals" ∷ d ∷ t ∷ w ∷ [])) is_k.option_is here in
+      subst (λ (t : List ℕ). FindsThese (t ∷ d ∷ p ∷ w ∷ [])) is_d.option_is second
+
+  at_two : (o w : List ℕ) → replay_in (a ∷ b ∷ c ∷ o ∷ w ∷ []) ≡ Some x → (told : ℕ × Option ℕ) → options_in (o ∷ w ∷ []) ≡ Some told → FindsThese (o ∷ w ∷ [])
+  at_two o w e told is = elim (cases_Bool (bytes_eq o (codes "--only"))) [
+    | inl only ↦ at_number (number_in 0 (2 ^ 32 - 1) w) refl (sym ((bytes_eq-Decides o (codes "--only")).0 only)) (rw only at is)
+    | inr other ↦ at_digit (decimals_in (o ∷ w ∷ [])) refl (rw other at is)
+  ]
+    where
+      at_number : (k : Option ℕ) → number_in 0 (2 ^ 32 - 1) w ≡ k → codes "--only" ≡ o → option_map (λ k. (0, Some k)) k ≡ Some told → FindsThese (o ∷ w ∷ [])
+      at_number None is only g = absurd (cc)
+      at_number (Some k) is only g = with_number o w (record { option_is = only; plain = number_word 0 (2 ^ 32 - 1) w k is }) e
+
+      at_digit : (n : Option ℕ) → decimals_in (o ∷ w ∷ []) ≡ n → option_map (λ n. (n, None)) n ≡ Some told → FindsThese (o ∷ w ∷ [])
+      at_digit None is g = absurd (cc)
+      at_digit (Some n) is g = with_digit o w (digit_of o w n is) e
+
+  at_four : (o d p w : List ℕ) → replay_in (a ∷ b ∷ c ∷ o ∷ d ∷ p ∷ w ∷ []) ≡ Some x → (told : ℕ × Option ℕ) → options_in (o ∷ d ∷ p ∷ w ∷ []) ≡ Some told → FindsThese (o ∷ d ∷ p ∷ w ∷ [])
+  at_four o d p w e told is = both (decimals_in (o ∷ d ∷ [])) (only_in p w) refl refl is
+    where
+      both : (n k : Option ℕ) → decimals_in (o ∷ d ∷ []) ≡ n → only_in p w ≡ k → option_and_then (λ n. option_map (λ k. (n, Some k)) k) n ≡ Some told → FindsThese (o ∷ d ∷ p ∷ w ∷ [])
+      both None k is_n is_k g = absurd (cc)
+      both (Some n) None is_n is_k g = absurd (cc)
+      both (Some n) (Some k) is_n is_k g = with_both o d p w (digit_of o d n is_n) (number_of p w k is_k) e
+
+  files_listed : (rest : List (List ℕ)) → replay_in (a ∷ b ∷ c ∷ rest) ≡ Some x → (told : Option (ℕ × Option ℕ)) → options_in rest ≡ told → option_map make told ≡ Some x → FindsThese rest
+  files_listed rest e None is g = absurd (cc)
+  files_listed [] e (Some told) is g =
+      let f = replay_found zeroth a b pa pb c pc in
+      record { taken = replay_taken zeroth a b pa pb c pc; found = rw (f.mesh, f.log, f.prefix, f.decimals, f.only) e }
+  files_listed (o ∷ []) e (Some told) is g = absurd (cc)
+  files_listed (o ∷ w ∷ []) e (Some told) is g = at_two o w e told is
+  files_listed (o ∷ d ∷ p ∷ []) e (Some told) is g = absurd (cc)
+  files_listed (o ∷ d ∷ p ∷ w ∷ []) e (Some told) is g = at_four o d p w e told is
+  files_listed (o ∷ d ∷ p ∷ w ∷ y ∷ ys) e (Some told) is g = absurd (cc)
+
+replay_listed : (zeroth : List ℕ) (rest : List (List ℕ)) (x : Named) → replay_in rest ≡ Some x → Finds replay_read replay_app (zeroth ∷ rest) x
+replay_listed zeroth [] x e = absurd (cc)
+replay_listed zeroth (a ∷ []) x e = absurd (cc)
+replay_listed zeroth (a ∷ b ∷ []) x e = absurd (cc)
+replay_listed zeroth (a ∷ b ∷ c ∷ rest) x e = elim (cases_Bool (is_file_word a && (is_file_word b && is_file_word c))) [
+  | inr fails ↦ absurd (let g = rw fails at e in cc)
+  | inl all ↦
+      let p = and_parts _ _ all in
+      let q = and_parts _ _ p.1 in
+      files_listed x zeroth a b c (plain_word a p.0) (plain_word b q.0) (plain_word c q.1) rest e (options_in rest) refl (rw all at e)
+]
+
 -- ---- words that are taken
 
+-- an argument of this long name is met
+long_met : (words : List (List ℕ)) (rule : Rule) (id long : List ℕ) → IsOption id → IsSetRule rule → rule.id ≡ id → takes_values rule ≡ true → bytes_eq id long ≡ true → FoundLong words long (Some rule)
+long_met words rule id long option set is takes_some e =
+    (set, sym (is ∙ (bytes_eq-Decides id long).0 e), subst IsOption (sym is) option, takes_some)
+
 long_found : (words : List (List ℕ)) (rule : Rule) (long : List ℕ) → IsSetRule rule → rule.id ≡ codes "decimals" → takes_values rule ≡ true → (b : Bool) → bytes_eq (codes "decimals") long ≡ b → FoundLong words long (cond (b || false) (Some rule) None)
-long_found words rule long set id takes_some true e = (set, id, sym ((bytes_eq-Decides (codes "decimals") long).0 e), takes_some)
+long_found words rule long set id takes_some true e = long_met words rule (codes "decimals") long (inl refl) set id takes_some e
 long_found words rule long set id takes_some false e = tt
+
+longs_found : (words : List (List ℕ)) (first second : Rule) (long : List ℕ) → IsSetRule first → IsSetRule second → first.id ≡ codes "decimals" → second.id ≡ codes "only" → takes_values first ≡ true → takes_values second ≡ true
+    → (b c : Bool) → bytes_eq (codes "decimals") long ≡ b → bytes_eq (codes "only") long ≡ c → FoundLong words long (cond (b || false) (Some first) (cond (c || false) (Some second) None))
+longs_found words first second long set_first set_second is_first is_second takes_first takes_second true c e f = long_met words first (codes "decimals") long (inl refl) set_first is_first takes_first e
+longs_found words first second long set_first set_second is_first is_second takes_first takes_second false true e f = long_met words second (codes "only") long (inr refl) set_second is_second takes_second f
+longs_found words first second long set_first set_second is_first is_second takes_first takes_second false false e f = tt
 
 track_is_safe : (words : List (List ℕ)) → AreSafe words (built track_app).top.rules
 track_is_safe words = record {
@@ -294,6 +447,20 @@ log_is_safe name words = record {
   short = λ x. refl;
 }
 
+replay_is_safe : (words : List (List ℕ)) → AreSafe words (built replay_app).top.rules
+replay_is_safe words = record {
+  set = (record { action = refl; missing = refl; defaults = refl }, (record { action = refl; missing = refl; defaults = refl }, (record { action = refl; missing = refl; defaults = refl }, (record { action = refl; missing = refl; defaults = refl }, (record { action = refl; missing = refl; defaults = refl }, tt)))));
+  long = λ long. longs_found words _ _ long (record { action = refl; missing = refl; defaults = refl }) (record { action = refl; missing = refl; defaults = refl }) refl refl refl refl (bytes_eq (codes "decimals") long) (bytes_eq (codes "only") long) refl refl;
+  short = λ x. refl;
+}
+
+check_is_safe : (words : List (List ℕ)) → AreSafe words (built check_app).top.rules
+check_is_safe words = record {
+  set = (record { action = refl; missing = refl; defaults = refl }, (record { action = refl; missing = refl; defaults = refl }, tt));
+  long = λ long. long_found words _ long (record { action = refl; missing = refl; defaults = refl }) refl refl (bytes_eq (codes "decimals") long) refl;
+  short = λ x. refl;
+}
+
 try_is_safe : (words : List (List ℕ)) → AreSafe words (built try_app).top.rules
 try_is_safe words = record {
   set = (record { action = refl; missing = refl; defaults = refl }, (record { action = refl; missing = refl; defaults = refl }, tt));
@@ -302,15 +469,15 @@ try_is_safe words = record {
 }
 
 module _ (words : List (List ℕ)) (rows : List Row) (from : RowsFrom words rows) where
-  word_among : (id v : List ℕ) → (id ≡ codes "decimals" → ⊥) → first_of id rows ≡ Some v → Contains words v
+  word_among : (id v : List ℕ) → is_option id ≡ false → first_of id rows ≡ Some v → Contains words v
   word_among id v other e = elim (first_from words id rows v from e) [
     | inl within ↦ within
-    | inr named ↦ absurd (other named.0)
+    | inr named ↦ absurd (no_option id other named.0)
   ]
 
-  digit_among : (d : Option (List ℕ)) → first_of (codes "decimals") rows ≡ d → IfSome d (λ n. Contains words n ⊎ Contains words (codes "--decimals=" ++ n))
-  digit_among None e = tt
-  digit_among (Some n) e = elim (first_from words (codes "decimals") rows n from e) [
+  value_among : (id : List ℕ) (d : Option (List ℕ)) → first_of id rows ≡ d → IfSome d (λ n. Contains words n ⊎ Contains words (named_value id n))
+  value_among id None e = tt
+  value_among id (Some n) e = elim (first_from words id rows n from e) [
     | inl within ↦ inl within
     | inr named ↦ inr named.1
   ]
@@ -329,9 +496,9 @@ track_among rest rows from x e = at (first_of (codes "mesh") rows) (first_of (co
     at (Some a) (Some b) None d em es ep ed e = absurd (cc)
     at (Some a) (Some b) (Some c) d em es ep ed e =
         let words = codes "track" ∷ rest in
-        let ma : Contains words a = word_among words rows from (codes "mesh") a (λ w. absurd (cc)) em in
-        let mb : Contains words b = word_among words rows from (codes "steps") b (λ w. absurd (cc)) es in
-        let mc : Contains words c = word_among words rows from (codes "prefix") c (λ w. absurd (cc)) ep in
+        let ma : Contains words a = word_among words rows from (codes "mesh") a refl em in
+        let mb : Contains words b = word_among words rows from (codes "steps") b refl es in
+        let mc : Contains words c = word_among words rows from (codes "prefix") c refl ep in
         record {
           form = codes "track" ∷ a ∷ b ∷ c ∷ [];
           digit = d;
@@ -339,7 +506,9 @@ track_among rest rows from x e = at (first_of (codes "mesh") rows) (first_of (co
           first = refl;
           among = more words (codes "track") (a ∷ b ∷ c ∷ []) (contains_here (codes "track") rest)
               (more words a (b ∷ c ∷ []) ma (more words b (c ∷ []) mb (more words c [] mc (All-nil (Contains words)))));
-          decimals = digit_among words rows from d ed;
+          number = None;
+          decimals = value_among words rows from (codes "decimals") d ed;
+          only = tt;
         }
 
 convert_among : (rest : List (List ℕ)) (rows : List Row) → RowsFrom (codes "convert" ∷ rest) rows → (x : Named) → convert_read (λ id. first_of id rows) ≡ Some x → AreTakenAs (codes "convert" ∷ rest) x
@@ -351,8 +520,8 @@ convert_among rest rows from x e = at (first_of (codes "from") rows) (first_of (
     at (Some a) None d ef et ed e = absurd (cc)
     at (Some a) (Some b) d ef et ed e =
         let words = codes "convert" ∷ rest in
-        let ma : Contains words a = word_among words rows from (codes "from") a (λ w. absurd (cc)) ef in
-        let mb : Contains words b = word_among words rows from (codes "to") b (λ w. absurd (cc)) et in
+        let ma : Contains words a = word_among words rows from (codes "from") a refl ef in
+        let mb : Contains words b = word_among words rows from (codes "to") b refl et in
         record {
           form = codes "convert" ∷ a ∷ b ∷ [];
           digit = d;
@@ -360,7 +529,9 @@ convert_among rest rows from x e = at (first_of (codes "from") rows) (first_of (
           first = refl;
           among = more words (codes "convert") (a ∷ b ∷ []) (contains_here (codes "convert") rest)
               (more words a (b ∷ []) ma (more words b [] mb (All-nil (Contains words))));
-          decimals = digit_among words rows from d ed;
+          number = None;
+          decimals = value_among words rows from (codes "decimals") d ed;
+          only = tt;
         }
 
 try_among : (rest : List (List ℕ)) (rows : List Row) → RowsFrom (codes "try" ∷ rest) rows → (x : Named) → try_read (λ id. first_of id rows) ≡ Some x → AreTakenAs (codes "try" ∷ rest) x
@@ -371,16 +542,18 @@ try_among rest rows from x e = at (first_of (codes "cubes") rows) (first_of (cod
     at (Some a) None en ek e = absurd (cc)
     at (Some a) (Some b) en ek e =
         let words = codes "try" ∷ rest in
-        let ma : Contains words a = word_among words rows from (codes "cubes") a (λ w. absurd (cc)) en in
-        let mb : Contains words b = word_among words rows from (codes "key") b (λ w. absurd (cc)) ek in
+        let ma : Contains words a = word_among words rows from (codes "cubes") a refl en in
+        let mb : Contains words b = word_among words rows from (codes "key") b refl ek in
         record {
           form = codes "try" ∷ a ∷ b ∷ [];
           digit = None;
+          number = None;
           is_listed = e;
           first = refl;
           among = more words (codes "try") (a ∷ b ∷ []) (contains_here (codes "try") rest)
               (more words a (b ∷ []) ma (more words b [] mb (All-nil (Contains words))));
           decimals = tt;
+          only = tt;
         }
 
 names_among : (name : List ℕ) (make : LogNames → Named) → ((words : List (List ℕ)) → named_in (name ∷ words) ≡ option_map make (log_in words)) → (rest : List (List ℕ)) (rows : List Row) → RowsFrom (name ∷ rest) rows
@@ -393,8 +566,8 @@ names_among name make lists rest rows from x e = at (first_of (codes "mesh") row
     at (Some a) None d em el ed e = absurd (cc)
     at (Some a) (Some b) d em el ed e =
         let words = name ∷ rest in
-        let ma : Contains words a = word_among words rows from (codes "mesh") a (λ w. absurd (cc)) em in
-        let mb : Contains words b = word_among words rows from (codes "log") b (λ w. absurd (cc)) el in
+        let ma : Contains words a = word_among words rows from (codes "mesh") a refl em in
+        let mb : Contains words b = word_among words rows from (codes "log") b refl el in
         record {
           form = name ∷ a ∷ b ∷ [];
           digit = d;
@@ -402,7 +575,9 @@ names_among name make lists rest rows from x e = at (first_of (codes "mesh") row
           first = refl;
           among = more words name (a ∷ b ∷ []) (contains_here name rest)
               (more words a (b ∷ []) ma (more words b [] mb (All-nil (Contains words))));
-          decimals = digit_among words rows from d ed;
+          number = None;
+          decimals = value_among words rows from (codes "decimals") d ed;
+          only = tt;
         }
 
 verify_among : (rest : List (List ℕ)) (rows : List Row) → RowsFrom (codes "verify" ∷ rest) rows → (x : Named) → verify_read (λ id. first_of id rows) ≡ Some x → AreTakenAs (codes "verify" ∷ rest) x
@@ -415,9 +590,9 @@ verify_among rest rows from x e = at (first_of (codes "mesh") rows) (first_of (c
     at (Some a) (Some b) None d em es ep ed e = absurd (cc)
     at (Some a) (Some b) (Some c) d em es ep ed e =
         let words = codes "verify" ∷ rest in
-        let ma : Contains words a = word_among words rows from (codes "mesh") a (λ w. absurd (cc)) em in
-        let mb : Contains words b = word_among words rows from (codes "log") b (λ w. absurd (cc)) es in
-        let mc : Contains words c = word_among words rows from (codes "proof") c (λ w. absurd (cc)) ep in
+        let ma : Contains words a = word_among words rows from (codes "mesh") a refl em in
+        let mb : Contains words b = word_among words rows from (codes "log") b refl es in
+        let mc : Contains words c = word_among words rows from (codes "proof") c refl ep in
         record {
           form = codes "verify" ∷ a ∷ b ∷ c ∷ [];
           digit = d;
@@ -425,7 +600,53 @@ verify_among rest rows from x e = at (first_of (codes "mesh") rows) (first_of (c
           first = refl;
           among = more words (codes "verify") (a ∷ b ∷ c ∷ []) (contains_here (codes "verify") rest)
               (more words a (b ∷ c ∷ []) ma (more words b (c ∷ []) mb (more words c [] mc (All-nil (Contains words)))));
-          decimals = digit_among words rows from d ed;
+          number = None;
+          decimals = value_among words rows from (codes "decimals") d ed;
+          only = tt;
+        }
+
+replay_among : (rest : List (List ℕ)) (rows : List Row) → RowsFrom (codes "replay" ∷ rest) rows → (x : Named) → replay_read (λ id. first_of id rows) ≡ Some x → AreTakenAs (codes "replay" ∷ rest) x
+replay_among rest rows from x e = at (first_of (codes "mesh") rows) (first_of (codes "log") rows) (first_of (codes "prefix") rows) (first_of (codes "decimals") rows) (first_of (codes "only") rows) refl refl refl refl refl e
+  where
+    at : (m l p d k : Option (List ℕ)) → first_of (codes "mesh") rows ≡ m → first_of (codes "log") rows ≡ l → first_of (codes "prefix") rows ≡ p → first_of (codes "decimals") rows ≡ d → first_of (codes "only") rows ≡ k
+        → replay_of m l p d k ≡ Some x → AreTakenAs (codes "replay" ∷ rest) x
+    at None l p d k em el ep ed ek e = absurd (cc)
+    at (Some a) None p d k em el ep ed ek e = absurd (cc)
+    at (Some a) (Some b) None d k em el ep ed ek e = absurd (cc)
+    at (Some a) (Some b) (Some c) d k em el ep ed ek e =
+        let words = codes "replay" ∷ rest in
+        let ma : Contains words a = word_among words rows from (codes "mesh") a refl em in
+        let mb : Contains words b = word_among words rows from (codes "log") b refl el in
+        let mc : Contains words c = word_among words rows from (codes "prefix") c refl ep in
+        record {
+          form = codes "replay" ∷ a ∷ b ∷ c ∷ [];
+          digit = d;
+          number = k;
+          is_listed = e;
+          first = refl;
+          among = more words (codes "replay") (a ∷ b ∷ c ∷ []) (contains_here (codes "replay") rest)
+              (more words a (b ∷ c ∷ []) ma (more words b (c ∷ []) mb (more words c [] mc (All-nil (Contains words)))));
+          decimals = value_among words rows from (codes "decimals") d ed;
+          only = value_among words rows from (codes "only") k ek;
+        }
+
+check_among : (rest : List (List ℕ)) (rows : List Row) → RowsFrom (codes "check" ∷ rest) rows → (x : Named) → check_read (λ id. first_of id rows) ≡ Some x → AreTakenAs (codes "check" ∷ rest) x
+check_among rest rows from x e = at (first_of (codes "mesh") rows) (first_of (codes "decimals") rows) refl refl e
+  where
+    at : (m d : Option (List ℕ)) → first_of (codes "mesh") rows ≡ m → first_of (codes "decimals") rows ≡ d → check_of m d ≡ Some x → AreTakenAs (codes "check" ∷ rest) x
+    at None d em ed e = absurd (cc)
+    at (Some a) d em ed e =
+        let words = codes "check" ∷ rest in
+        let ma : Contains words a = word_among words rows from (codes "mesh") a refl em in
+        record {
+          form = codes "check" ∷ a ∷ [];
+          digit = d;
+          number = None;
+          is_listed = e;
+          first = refl;
+          among = more words (codes "check") (a ∷ []) (contains_here (codes "check") rest) (more words a [] ma (All-nil (Contains words)));
+          decimals = value_among words rows from (codes "decimals") d ed;
+          only = tt;
         }
 
 -- ---- each command
@@ -471,6 +692,20 @@ verify_serves rest = record {
       (rows_from (codes "verify" ∷ rest) _ (verify_is_safe (codes "verify" ∷ rest)) _ rest (λ v i. contains_later (codes "verify") v rest i)) x e;
 }
 
+replay_serves : (rest : List (List ℕ)) → Serves replay_read replay_app (codes "replay" ∷ rest)
+replay_serves rest = record {
+  listed = λ x e. replay_listed (codes "replay") rest x e;
+  among = λ x e. replay_among rest (matches_of replay_app (codes "replay" ∷ rest))
+      (rows_from (codes "replay" ∷ rest) _ (replay_is_safe (codes "replay" ∷ rest)) _ rest (λ v i. contains_later (codes "replay") v rest i)) x e;
+}
+
+check_serves : (rest : List (List ℕ)) → Serves check_read check_app (codes "check" ∷ rest)
+check_serves rest = record {
+  listed = λ x e. check_listed (codes "check") rest x e;
+  among = λ x e. check_among rest (matches_of check_app (codes "check" ∷ rest))
+      (rows_from (codes "check" ∷ rest) _ (check_is_safe (codes "check" ∷ rest)) _ rest (λ v i. contains_later (codes "check") v rest i)) x e;
+}
+
 -- ---- the first word
 
 -- the words begin with this name
@@ -514,6 +749,12 @@ module _ {E : Type 0} (words : List (List ℕ)) (r : Result (Option Command) E) 
   pub reads_verify : BeginWith (codes "verify") words → IfOk r (λ found. IsReadBy verify_read verify_app words (option_map named_by found)) → IfOk r (λ found. IsReading words (option_map named_by found))
   reads_verify = reads_by (codes "verify") verify_read verify_app verify_serves
 
+  pub reads_replay : BeginWith (codes "replay") words → IfOk r (λ found. IsReadBy replay_read replay_app words (option_map named_by found)) → IfOk r (λ found. IsReading words (option_map named_by found))
+  reads_replay = reads_by (codes "replay") replay_read replay_app replay_serves
+
+  pub reads_check : BeginWith (codes "check") words → IfOk r (λ found. IsReadBy check_read check_app words (option_map named_by found)) → IfOk r (λ found. IsReading words (option_map named_by found))
+  reads_check = reads_by (codes "check") check_read check_app check_serves
+
 differs : (word name : List ℕ) → (word ≡ name → ⊥) → bytes_eq word name ≡ false
 differs word name other = elim (cases_Bool (bytes_eq word name)) [
   | inl e ↦ absurd (other ((bytes_eq-Decides word name).0 e))
@@ -522,12 +763,12 @@ differs word name other = elim (cases_Bool (bytes_eq word name)) [
 
 -- words that begin otherwise are of no listed form
 pub unlisted : (words : List (String Global)) (word : String Global) (text : List ℕ) → Some word ≡ slice_get words 0 → text ≡ string_bytes word
-    → (text ≡ codes "track" → ⊥) → (text ≡ codes "convert" → ⊥) → (text ≡ codes "try" → ⊥) → (text ≡ codes "measure" → ⊥) → (text ≡ codes "prove" → ⊥) → (text ≡ codes "verify" → ⊥) → named_in (map (λ w. string_bytes w) words) ≡ None
-unlisted [] word text first is a b c d e f = refl
-unlisted (w ∷ rest) word text first is a b c d e f =
+    → (text ≡ codes "track" → ⊥) → (text ≡ codes "convert" → ⊥) → (text ≡ codes "try" → ⊥) → (text ≡ codes "measure" → ⊥) → (text ≡ codes "prove" → ⊥) → (text ≡ codes "verify" → ⊥) → (text ≡ codes "replay" → ⊥) → (text ≡ codes "check" → ⊥) → named_in (map (λ w. string_bytes w) words) ≡ None
+unlisted [] word text first is a b c d e f g h = refl
+unlisted (w ∷ rest) word text first is a b c d e f g h =
     let same : word ≡ w = cc in
     let here : text ≡ string_bytes w = is ∙ ap (λ (y : String Global). string_bytes y) same in
-    rw (← here, differs text (codes "track") a, differs text (codes "convert") b, differs text (codes "try") c, differs text (codes "measure") d, differs text (codes "prove") e, differs text (codes "verify") f) refl
+    rw (← here, differs text (codes "track") a, differs text (codes "convert") b, differs text (codes "try") c, differs text (codes "measure") d, differs text (codes "prove") e, differs text (codes "verify") f, differs text (codes "replay") g, differs text (codes "check") h) refl
 
 pub unlisted_nothing : (words : List (String Global)) → slice_get words 0 ≡ None → named_in (map (λ w. string_bytes w) words) ≡ None
 unlisted_nothing [] e = refl

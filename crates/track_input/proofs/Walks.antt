@@ -13,7 +13,7 @@ use Rattle.line_text.specs.Numbers.{number_within, is_digit, begins_with}
 use Rattle.line_text.specs.Spellings.{spelled_number}
 use Rattle.line_text.specs.declared.number.TheConstants.{DIGITS_MAX}
 use Rattle.track_input.specs.Words.{is_file_word, is_decimals}
-use Rattle.track_input.specs.Commands.{track_app, convert_app, try_app, log_app, verify_app}
+use Rattle.track_input.specs.Commands.{track_app, convert_app, try_app, log_app, verify_app, replay_app, check_app}
 
 -- a word that begins no option
 pub record IsPlainWord (w : List ℕ) : Type 0 where
@@ -85,9 +85,38 @@ pub record FindsVerify (rows : List Row) (a b c : List ℕ) (n : Option (List �
   pub proof : first_of (codes "proof") rows ≡ Some c
   pub decimals : first_of (codes "decimals") rows ≡ n
 
+pub record FindsReplay (rows : List Row) (a b c : List ℕ) (n k : Option (List ℕ)) : Type 0 where
+  pub mesh : first_of (codes "mesh") rows ≡ Some a
+  pub log : first_of (codes "log") rows ≡ Some b
+  pub prefix : first_of (codes "prefix") rows ≡ Some c
+  pub decimals : first_of (codes "decimals") rows ≡ n
+  pub only : first_of (codes "only") rows ≡ k
+
+pub record FindsCheck (rows : List Row) (a : List ℕ) (n : Option (List ℕ)) : Type 0 where
+  pub mesh : first_of (codes "mesh") rows ≡ Some a
+  pub decimals : first_of (codes "decimals") rows ≡ n
+
 pub record FindsTry (rows : List Row) (a b : List ℕ) : Type 0 where
   pub cubes : first_of (codes "cubes") rows ≡ Some a
   pub key : first_of (codes "key") rows ≡ Some b
+
+module _ (zeroth a : List ℕ) (pa : IsPlainWord a) where
+  pub check_taken : takes check_app (zeroth ∷ a ∷ []) ≡ true
+  unfolding clap_on_literals
+  check_taken = rw (pa.long, pa.short, pa.dashes) refl
+
+  pub check_found : FindsCheck (matches_of check_app (zeroth ∷ a ∷ [])) a None
+  unfolding clap_on_literals
+  check_found = rw (pa.long, pa.short, pa.dashes) (record { mesh = refl; decimals = refl })
+
+  module _ (n : List ℕ) (pn : IsPlainWord n) where
+    pub check_taken_with : takes check_app (zeroth ∷ a ∷ codes "--decimals" ∷ n ∷ []) ≡ true
+    unfolding clap_on_literals
+    check_taken_with = rw (pa.long, pa.short, pa.dashes, pn.long, pn.short, pn.dashes) refl
+
+    pub check_found_with : FindsCheck (matches_of check_app (zeroth ∷ a ∷ codes "--decimals" ∷ n ∷ [])) a (Some n)
+    unfolding clap_on_literals
+    check_found_with = rw (pa.long, pa.short, pa.dashes, pn.long, pn.short, pn.dashes) (record { mesh = refl; decimals = refl })
 
 module _ (zeroth a b : List ℕ) (pa : IsPlainWord a) (pb : IsPlainWord b) where
   pub try_taken : takes try_app (zeroth ∷ a ∷ b ∷ []) ≡ true
@@ -148,6 +177,14 @@ module _ (zeroth a b : List ℕ) (pa : IsPlainWord a) (pb : IsPlainWord b) where
     unfolding clap_on_literals
     verify_found = rw (pa.long, pa.short, pa.dashes, pb.long, pb.short, pb.dashes, pc.long, pc.short, pc.dashes) (record { mesh = refl; log = refl; proof = refl; decimals = refl })
 
+    pub replay_taken : takes replay_app (zeroth ∷ a ∷ b ∷ c ∷ []) ≡ true
+    unfolding clap_on_literals
+    replay_taken = rw (pa.long, pa.short, pa.dashes, pb.long, pb.short, pb.dashes, pc.long, pc.short, pc.dashes) refl
+
+    pub replay_found : FindsReplay (matches_of replay_app (zeroth ∷ a ∷ b ∷ c ∷ [])) a b c None None
+    unfolding clap_on_literals
+    replay_found = rw (pa.long, pa.short, pa.dashes, pb.long, pb.short, pb.dashes, pc.long, pc.short, pc.dashes) (record { mesh = refl; log = refl; prefix = refl; decimals = refl; only = refl })
+
     module _ (n : List ℕ) (pn : IsPlainWord n) where
       pub track_taken_with : takes track_app (zeroth ∷ a ∷ b ∷ c ∷ codes "--decimals" ∷ n ∷ []) ≡ true
       unfolding clap_on_literals
@@ -164,3 +201,31 @@ module _ (zeroth a b : List ℕ) (pa : IsPlainWord a) (pb : IsPlainWord b) where
       pub verify_found_with : FindsVerify (matches_of verify_app (zeroth ∷ a ∷ b ∷ c ∷ codes "--decimals" ∷ n ∷ [])) a b c (Some n)
       unfolding clap_on_literals
       verify_found_with = rw (pa.long, pa.short, pa.dashes, pb.long, pb.short, pb.dashes, pc.long, pc.short, pc.dashes, pn.long, pn.short, pn.dashes) (record { mesh = refl; log = refl; proof = refl; decimals = refl })
+
+      pub replay_taken_with : takes replay_app (zeroth ∷ a ∷ b ∷ c ∷ codes "--decimals" ∷ n ∷ []) ≡ true
+      unfolding clap_on_literals
+      replay_taken_with = rw (pa.long, pa.short, pa.dashes) (rw (pb.long, pb.short, pb.dashes) (rw (pc.long, pc.short, pc.dashes) (rw (pn.long, pn.short, pn.dashes) refl)))
+
+      pub replay_found_with : FindsReplay (matches_of replay_app (zeroth ∷ a ∷ b ∷ c ∷ codes "--decimals" ∷ n ∷ [])) a b c (Some n) None
+      unfolding clap_on_literals
+      replay_found_with = rw (pa.long, pa.short, pa.dashes, pb.long, pb.short, pb.dashes, pc.long, pc.short, pc.dashes, pn.long, pn.short, pn.dashes) (record { mesh = refl; log = refl; prefix = refl; decimals = refl; only = refl })
+
+      pub replay_taken_only : takes replay_app (zeroth ∷ a ∷ b ∷ c ∷ codes "--only" ∷ n ∷ []) ≡ true
+      unfolding clap_on_literals
+      replay_taken_only = rw (pa.long, pa.short, pa.dashes) (rw (pb.long, pb.short, pb.dashes) (rw (pc.long, pc.short, pc.dashes) (rw (pn.long, pn.short, pn.dashes) refl)))
+
+      pub replay_found_only : FindsReplay (matches_of replay_app (zeroth ∷ a ∷ b ∷ c ∷ codes "--only" ∷ n ∷ [])) a b c None (Some n)
+      unfolding clap_on_literals
+      replay_found_only = rw (pa.long, pa.short, pa.dashes, pb.long, pb.short, pb.dashes, pc.long, pc.short, pc.dashes, pn.long, pn.short, pn.dashes) (record { mesh = refl; log = refl; prefix = refl; decimals = refl; only = refl })
+
+      module _ (k : List ℕ) (pk : IsPlainWord k) where
+        pub replay_taken_both : takes replay_app (zeroth ∷ a ∷ b ∷ c ∷ codes "--decimals" ∷ n ∷ codes "--only" ∷ k ∷ []) ≡ true
+        unfolding clap_on_literals
+        replay_taken_both =
+            rw pa.long (rw pa.short (rw pa.dashes (rw pb.long (rw pb.short (rw pb.dashes (rw pc.long (rw pc.short (rw pc.dashes (rw pn.long (rw pn.short (rw pn.dashes (rw pk.long (rw pk.short (rw pk.dashes (refl)))))))))))))))
+
+        pub replay_found_both : FindsReplay (matches_of replay_app (zeroth ∷ a ∷ b ∷ c ∷ codes "--decimals" ∷ n ∷ codes "--only" ∷ k ∷ [])) a b c (Some n) (Some k)
+        unfolding clap_on_literals
+        replay_found_both =
+            rw (pa.long, pa.short, pa.dashes, pb.long, pb.short, pb.dashes) (rw (pc.long, pc.short, pc.dashes) (rw (pn.long, pn.short, pn.dashes) (rw (pk.long, pk.short, pk.dashes)
+            (record { mesh = refl; log = refl; prefix = refl; decimals = refl; only = refl }))))

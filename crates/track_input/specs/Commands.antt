@@ -4,8 +4,8 @@ use Rattle.clap.specs.declared.builder.action.ArgAction.TheVariants.{Set}
 use Rattle.clap.specs.declared.parser.matches.ArgMatches.{ArgMatches}
 use Rattle.clap.specs.Words.{App, HasMatchesOf, Rule, first_of, matches_of, new_app, new_rule, takes, with_rule}
 use Rattle.std.specs.Option.{option_map}
-use Rattle.track_input.specs.Words.{LogNames, Named, Measure, Prove, track_in, convert_in, try_in, log_in, verify_in}
-use Rattle.track_input.specs.Taken.{behind}
+use Rattle.track_input.specs.Words.{LogNames, Named, Measure, Prove, track_in, convert_in, try_in, log_in, verify_in, replay_in, check_in}
+use Rattle.track_input.specs.Taken.{behind, options_behind}
 
 -- a word that has to be given
 abbrev pub given_rule : List ℕ → Rule
@@ -14,6 +14,10 @@ given_rule id = record (new_rule id) { required = true; action = Some Set }
 -- `--decimals N`
 abbrev pub decimals_rule : Rule
 decimals_rule = record (new_rule (codes "decimals")) { long = Some (codes "decimals"); action = Some Set }
+
+-- `--only K`
+abbrev pub only_rule : Rule
+only_rule = record (new_rule (codes "only")) { long = Some (codes "only"); action = Some Set }
 
 -- a command without flags
 abbrev pub bare_app : List ℕ → App
@@ -46,6 +50,13 @@ abbrev pub verify_app : App
 verify_app =
     with_rule (with_rule (pair_app (codes "verify") (codes "mesh") (codes "log")) (given_rule (codes "proof"))) decimals_rule
 
+abbrev pub replay_app : App
+replay_app =
+    with_rule (with_rule (with_rule (pair_app (codes "replay") (codes "mesh") (codes "log")) (given_rule (codes "prefix"))) decimals_rule) only_rule
+
+abbrev pub check_app : App
+check_app = with_rule (with_rule (bare_app (codes "check")) (given_rule (codes "mesh"))) decimals_rule
+
 -- ---- what is read
 
 -- the value of each name, if it has one
@@ -72,6 +83,14 @@ abbrev pub verify_of : Option (List ℕ) → Option (List ℕ) → Option (List 
 verify_of (Some mesh) (Some log) (Some proof) digit = verify_in (mesh ∷ log ∷ proof ∷ behind digit)
 verify_of _ _ _ digit = None
 
+abbrev pub replay_of : Option (List ℕ) → Option (List ℕ) → Option (List ℕ) → Option (List ℕ) → Option (List ℕ) → Option Named
+replay_of (Some mesh) (Some log) (Some prefix) digit number = replay_in (mesh ∷ log ∷ prefix ∷ options_behind digit number)
+replay_of _ _ _ digit number = None
+
+abbrev pub check_of : Option (List ℕ) → Option (List ℕ) → Option Named
+check_of (Some mesh) digit = check_in (mesh ∷ behind digit)
+check_of _ digit = None
+
 abbrev pub track_read : Values → Option Named
 track_read value = track_of (value (codes "mesh")) (value (codes "steps")) (value (codes "prefix")) (value (codes "decimals"))
 
@@ -92,6 +111,13 @@ prove_read value = option_map Prove (log_read value)
 
 abbrev pub verify_read : Values → Option Named
 verify_read value = verify_of (value (codes "mesh")) (value (codes "log")) (value (codes "proof")) (value (codes "decimals"))
+
+abbrev pub replay_read : Values → Option Named
+replay_read value =
+    replay_of (value (codes "mesh")) (value (codes "log")) (value (codes "prefix")) (value (codes "decimals")) (value (codes "only"))
+
+abbrev pub check_read : Values → Option Named
+check_read value = check_of (value (codes "mesh")) (value (codes "decimals"))
 
 -- ---- what a command finds
 

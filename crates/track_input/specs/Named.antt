@@ -8,7 +8,7 @@ use Rattle.track_input.specs.declared.mesh_file.MeshFile.{MeshFile}
 use Rattle.track_input.specs.declared.command.LogFiles.{LogFiles}
 use Rattle.track_input.specs.declared.command.ProofFiles.{ProofFiles}
 use Rattle.track_input.specs.declared.command.ReplayFiles.{ReplayFiles}
-use Rattle.track_input.specs.Words.{MeshName, LogNames, ProofNames, ReplayNames, Named, Track, Convert, Try, Measure, Prove, Verify}
+use Rattle.track_input.specs.Words.{MeshName, LogNames, ProofNames, ReplayNames, Named, Track, Convert, Try, Measure, Prove, Verify, Replay, Check}
 
 abbrev pub mesh_name : MeshFile → MeshName
 mesh_name file = record { name = file.name.now; format = file.format }
@@ -29,6 +29,8 @@ named_by (command.Try cubes key) = Try cubes key
 named_by (command.Measure files) = Measure (log_names files)
 named_by (command.Prove files) = Prove (log_names files)
 named_by (command.Verify given) = Verify (proof_names given)
+named_by (command.Replay given) = Replay (replay_names given)
+named_by (command.Check mesh decimals) = Check (mesh_name mesh) decimals
 
 -- its points have no more decimals than a text may have, and its cubes are few
 abbrev pub IsInLimits : Command → Type 0
@@ -38,3 +40,5 @@ IsInLimits (command.Try cubes key) = (1 ≤ cubes) × (cubes ≤ CUBES_MAX)
 IsInLimits (command.Measure files) = files.decimals ≤ DECIMALS_MAX
 IsInLimits (command.Prove files) = files.decimals ≤ DECIMALS_MAX
 IsInLimits (command.Verify given) = given.files.decimals ≤ DECIMALS_MAX
+IsInLimits (command.Replay given) = given.files.decimals ≤ DECIMALS_MAX
+IsInLimits (command.Check mesh decimals) = decimals ≤ DECIMALS_MAX

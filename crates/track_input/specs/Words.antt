@@ -33,7 +33,7 @@ pub record ReplayNames : Type 0 where
 
 -- what a command line asks for: of `track`, the three file words, and the decimals; of `convert`, the two files, and the decimals;
 -- of `try`, the number of cubes along an edge, and the key; of `measure` and `prove`, the two files, and the decimals; of `verify`, the
--- three files, and the decimals
+-- three files, and the decimals; of `replay`, the two files, the prefix, and what is told behind; of `check`, the file, and the decimals
 pub data Named : Type 0 where
   Track : (mesh : List ℕ) (steps : List ℕ) (prefix : List ℕ) (decimals : ℕ) → Named
   Convert : (from : MeshName) (to : MeshName) (decimals : ℕ) → Named
@@ -41,6 +41,8 @@ pub data Named : Type 0 where
   Measure : (names : LogNames) → Named
   Prove : (names : LogNames) → Named
   Verify : (names : ProofNames) → Named
+  Replay : (names : ReplayNames) → Named
+  Check : (mesh : MeshName) (decimals : ℕ) → Named
 
 -- ---- words
 
@@ -86,6 +88,21 @@ between low high (Some n) = if nat_le low n && nat_le n high then Some n else No
 abbrev pub number_in : ℕ → ℕ → List ℕ → Option ℕ
 number_in low high word = between low high (spelled_number word)
 
+-- the number of a mesh that `--only K` tells
+abbrev pub only_in : List ℕ → List ℕ → Option ℕ
+only_in option number = if bytes_eq option (codes "--only") then number_in 0 (2 ^ 32 - 1) number else None
+
+-- the decimals, and the number of the one mesh, that the words behind the files of `replay` tell: `--decimals N`, `--only K`, both in this
+-- order, or neither
+abbrev pub options_in : List (List ℕ) → Option (ℕ × Option ℕ)
+options_in [] = Some (0, None)
+options_in (option ∷ word ∷ []) =
+    if bytes_eq option (codes "--only") then option_map (λ k. (0, Some k)) (number_in 0 (2 ^ 32 - 1) word)
+    else option_map (λ n. (n, None)) (decimals_in (option ∷ word ∷ []))
+options_in (option ∷ digit ∷ last ∷ number ∷ []) =
+    option_and_then (λ n. option_map (λ k. (n, Some k)) (only_in last number)) (decimals_in (option ∷ digit ∷ []))
+options_in _ = None
+
 -- ---- listed forms
 
 -- MESH STEPS PREFIX, and the decimals
@@ -124,8 +141,22 @@ verify_in (mesh ∷ log ∷ proof ∷ behind) =
     else None
 verify_in _ = None
 
--- The command that listed words name: `track MESH STEPS PREFIX`, `convert FROM TO`, `measure MESH LOG`, `prove MESH LOG` or
--- `verify MESH LOG PROOF`, or one of these and `--decimals N`; or `try N KEY`.
+-- MESH LOG PREFIX, the decimals, and the number of the one mesh
+abbrev pub replay_in : List (List ℕ) → Option Named
+replay_in (mesh ∷ log ∷ prefix ∷ behind) =
+    if is_file_word mesh && (is_file_word log && is_file_word prefix)
+    then option_map (λ told. Replay (record { names = record { mesh = mesh; log = log; decimals = told.0 }; prefix = prefix; only = told.1 })) (options_in behind)
+    else None
+replay_in _ = None
+
+-- MESH, and the decimals
+abbrev pub check_in : List (List ℕ) → Option Named
+check_in (mesh ∷ behind) = option_and_then (λ mesh. option_map (λ decimals. Check mesh decimals) (decimals_in behind)) (mesh_name_of mesh)
+check_in _ = None
+
+-- The command that listed words name: `track MESH STEPS PREFIX`, `convert FROM TO`, `measure MESH LOG`, `prove MESH LOG`,
+-- `verify MESH LOG PROOF`, `replay MESH LOG PREFIX` or `check MESH`, or one of these and `--decimals N`; `replay` too with `--only K` behind
+-- that; or `try N KEY`.
 abbrev pub named_in : List (List ℕ) → Option Named
 named_in [] = None
 named_in (first ∷ words) =
@@ -135,4 +166,6 @@ named_in (first ∷ words) =
     else if bytes_eq first (codes "measure") then option_map Measure (log_in words)
     else if bytes_eq first (codes "prove") then option_map Prove (log_in words)
     else if bytes_eq first (codes "verify") then verify_in words
+    else if bytes_eq first (codes "replay") then replay_in words
+    else if bytes_eq first (codes "check") then check_in words
     else None

@@ -1,14 +1,15 @@
 ghost use Rattle.std.specs.Prelude.{◌≡◌, ◌≤◌, map, option_map, IfOk, IfSome, string_bytes};
 ghost use Rattle.clap.specs.Words.{found_of, first_value};
 ghost use Rattle.grid_base.specs.declared.TheConstants.{DECIMALS_MAX};
-ghost use Rattle.track_input.specs.Words.{is_decimals, decimals_in, number_in};
-ghost use Rattle.track_input.specs.Taken.{behind, IsReading};
-ghost use Rattle.track_input.specs.Commands.{track_read, convert_read, try_read, log_read, measure_read, prove_read, verify_read, track_app, convert_app, try_app, measure_app, prove_app, verify_app, IsReadBy};
+ghost use Rattle.track_input.specs.Words.{is_decimals, decimals_in, number_in, options_in};
+ghost use Rattle.track_input.specs.Taken.{behind, options_behind, IsReading};
+ghost use Rattle.track_input.specs.Commands.{track_read, convert_read, try_read, log_read, measure_read, prove_read, verify_read, replay_read, check_read, track_app, convert_app, try_app, measure_app, prove_app, verify_app, replay_app, check_app, IsReadBy};
 ghost use Rattle.track_input.specs.Named.{named_by, log_names, IsInLimits};
 
 use crate::mesh_file::{MeshFile, is_file_word, mesh_file};
 use crate::taking::{
-    convert_command, found_in, log_command, track_command, try_command, verify_command,
+    check_command, convert_command, found_in, log_command, replay_command, track_command,
+    try_command, verify_command,
 };
 use clap::ArgMatches;
 use grid_base::{DECIMALS_MAX, NoMemory};
@@ -68,6 +69,13 @@ pub enum Command<'a> {
     Prove(LogFiles<'a>),
     /// A proof is checked, that has a certificate for each motion of a log.
     Verify(ProofFiles<'a>),
+    /// The meshes of a log are made again and stored.
+    Replay(ReplayFiles<'a>),
+    /// It is told what is wrong with the mesh of a file, and the decimals of its points.
+    Check {
+        mesh: MeshFile<'a>,
+        decimals: u8,
+    },
 }
 
 /// The greatest number of cubes along an edge of a job that is made.
@@ -211,6 +219,56 @@ fn verify_read<'a>(found: &ArgMatches<'a>) -> Option<Command<'a>>
     Some(Command::Verify(ProofFiles { files, proof }))
 }
 
+// The decimals that N tells, or 0 where there is none, and the number that K tells, or none.
+fn options_of(digit: Option<&str>, number: Option<&str>) -> Option<(u8, Option<u32>)>
+    ensures told { result ≡ options_in (options_behind
+        (option_map (λ s. s.now) digit.entry) (option_map (λ s. s.now) number.entry)) }
+    ensures few { IfSome result (λ told. told.0 ≤ DECIMALS_MAX) }
+{
+    let decimals = decimals_of(digit)?;
+    match number {
+        None => Some((decimals, None)),
+        Some(word) => {
+            let only = number_in(0, u32::MAX, word)?;
+            Some((decimals, Some(only)))
+        }
+    }
+}
+
+// The command of the words that were found behind `replay`.
+fn replay_read<'a>(found: &ArgMatches<'a>) -> Option<Command<'a>>
+    ensures command { option_map named_by result ≡ replay_read (first_value (found_of found.now)) }
+    ensures few { IfSome result IsInLimits }
+{
+    let mesh = found.get_str("mesh")?;
+    let log = found.get_str("log")?;
+    let prefix = found.get_str("prefix")?;
+    if !(is_file_word(mesh) && (is_file_word(log) && is_file_word(prefix))) {
+        return None;
+    }
+    let told = options_of(found.get_str("decimals"), found.get_str("only"))?;
+    let files = LogFiles {
+        mesh,
+        log,
+        decimals: told.0,
+    };
+    Some(Command::Replay(ReplayFiles {
+        files,
+        prefix,
+        only: told.1,
+    }))
+}
+
+// The command of the words that were found behind `check`.
+fn check_read<'a>(found: &ArgMatches<'a>) -> Option<Command<'a>>
+    ensures command { option_map named_by result ≡ check_read (first_value (found_of found.now)) }
+    ensures few { IfSome result IsInLimits }
+{
+    let mesh = mesh_file(found.get_str("mesh")?)?;
+    let decimals = decimals_of(found.get_str("decimals"))?;
+    Some(Command::Check { mesh, decimals })
+}
+
 // The command of words whose first is `track`.
 fn track_in<'a>(alloc: Global, words: &'a [String]) -> Result<Option<Command<'a>>, NoMemory>
     ensures read { let texts = map (λ word. string_bytes word) words.entry.now in
@@ -283,11 +341,36 @@ fn verify_in<'a>(alloc: Global, words: &'a [String]) -> Result<Option<Command<'a
     }
 }
 
-/// The command that the words are read as: `track MESH STEPS PREFIX`, `convert FROM TO`, `measure MESH LOG`, `prove MESH LOG` or
-/// `verify MESH LOG PROOF`, or one of these and `--decimals N` with one digit N from 0 to 6, or `try N KEY`. A file word is not empty and has no dash in front, and both of `convert`
-/// end in `.obj`, `.off` or `.ply`. N of `try` is 1 to 12 and KEY 0 to 4,294,967,295, both digits with no needless zero in front.
-/// Words of no such form are taken as one of the same first word whose words are among them (options may stand before the files, as
-/// `--decimals=N` too), or they are no command. NoMemory at any words.
+// The command of words whose first is `replay`.
+fn replay_in<'a>(alloc: Global, words: &'a [String]) -> Result<Option<Command<'a>>, NoMemory>
+    ensures read { let texts = map (λ word. string_bytes word) words.entry.now in
+        IfOk result (λ found. IsReadBy replay_read replay_app texts (option_map named_by found)) }
+    ensures few { IfOk result (λ found. IfSome found IsInLimits) }
+{
+    match found_in(replay_command(alloc)?, words)? {
+        Some(found) => Ok(replay_read(&found)),
+        None => Ok(None),
+    }
+}
+
+// The command of words whose first is `check`.
+fn check_in<'a>(alloc: Global, words: &'a [String]) -> Result<Option<Command<'a>>, NoMemory>
+    ensures read { let texts = map (λ word. string_bytes word) words.entry.now in
+        IfOk result (λ found. IsReadBy check_read check_app texts (option_map named_by found)) }
+    ensures few { IfOk result (λ found. IfSome found IsInLimits) }
+{
+    match found_in(check_command(alloc)?, words)? {
+        Some(found) => Ok(check_read(&found)),
+        None => Ok(None),
+    }
+}
+
+/// The command that the words are read as: `track MESH STEPS PREFIX`, `convert FROM TO`, `measure MESH LOG`, `prove MESH LOG`,
+/// `verify MESH LOG PROOF`, `replay MESH LOG PREFIX` or `check MESH`, or one of these and `--decimals N` with one digit N from 0 to 6,
+/// `replay` too with `--only K` behind that, or `try N KEY`. A file word is not empty and has no dash in front, and that of `check` and both of
+/// `convert` end in `.obj`, `.off` or `.ply`. N of `try` is 1 to 12, and K and KEY are 0 to 4,294,967,295, digits with no needless zero in
+/// front. Words of no such form are taken as one of the same first word whose words are among them (options may stand before the files, as
+/// `--decimals=N` and `--only=K` too), or they are no command. NoMemory at any words.
 pub fn command_of<'a>(alloc: Global, words: &'a [String]) -> Result<Option<Command<'a>>, NoMemory>
     ensures read { let texts = map (λ word. string_bytes word) words.entry.now in
         IfOk result (λ found. IsReading texts (option_map named_by found)) }
@@ -303,6 +386,8 @@ pub fn command_of<'a>(alloc: Global, words: &'a [String]) -> Result<Option<Comma
         "measure" => measure_in(alloc, words),
         "prove" => prove_in(alloc, words),
         "verify" => verify_in(alloc, words),
+        "replay" => replay_in(alloc, words),
+        "check" => check_in(alloc, words),
         _ => Ok(None),
     }
 }

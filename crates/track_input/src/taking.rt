@@ -1,6 +1,6 @@
 ghost use Rattle.std.specs.Prelude.{◌≡◌, IfOk, false, map, string_bytes};
 ghost use Rattle.clap.specs.Words.{app_of, rule_of};
-ghost use Rattle.track_input.specs.Commands.{given_rule, decimals_rule, pair_app, track_app, convert_app, try_app, log_app, verify_app, IsFound};
+ghost use Rattle.track_input.specs.Commands.{given_rule, decimals_rule, only_rule, pair_app, track_app, convert_app, try_app, log_app, verify_app, replay_app, check_app, IsFound};
 
 use clap::error::ErrorKind;
 use clap::{Arg, ArgAction, ArgMatches, Command};
@@ -23,6 +23,14 @@ fn decimals<'a>(alloc: Global) -> Arg<'a>
     Arg::new(alloc, "decimals")
         .long("decimals")
         .action(ArgAction::Set)
+}
+
+// `--only K`.
+fn only<'a>(alloc: Global) -> Arg<'a>
+    ensures rule { rule_of result ≡ only_rule }
+    ensures local { result.global ≡ false }
+{
+    Arg::new(alloc, "only").long("only").action(ArgAction::Set)
 }
 
 // Takes two words behind the first.
@@ -77,6 +85,26 @@ pub(crate) fn verify_command<'a>(alloc: Global) -> Result<Command<'a>, AllocErro
 {
     pair_command(alloc, "verify", "mesh", "log")?
         .arg(given(alloc, "proof"))?
+        .arg(decimals(alloc))
+}
+
+// Takes the words of `replay`, the first of them included.
+pub(crate) fn replay_command<'a>(alloc: Global) -> Result<Command<'a>, AllocError>
+    ensures { IfOk result (λ command. app_of command ≡ replay_app) }
+{
+    pair_command(alloc, "replay", "mesh", "log")?
+        .arg(given(alloc, "prefix"))?
+        .arg(decimals(alloc))?
+        .arg(only(alloc))
+}
+
+// Takes the words of `check`, the first of them included.
+pub(crate) fn check_command<'a>(alloc: Global) -> Result<Command<'a>, AllocError>
+    ensures { IfOk result (λ command. app_of command ≡ check_app) }
+{
+    Command::new(alloc, "check")
+        .disable_help_flag(true)
+        .arg(given(alloc, "mesh"))?
         .arg(decimals(alloc))
 }
 

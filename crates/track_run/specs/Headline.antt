@@ -12,7 +12,7 @@ use Rattle.outside_io.specs.Causes.{Rose}
 use Rattle.outside_io.specs.Sink.{appended, AppendsPart}
 use Rattle.track_convert.specs.Headline.{Converts}
 use Rattle.track_try.specs.Summary.{summary_of}
-use Rattle.track_input.specs.Words.{MeshName, LogNames, ProofNames, Named, Track, Convert, Try, Measure, Prove, Verify}
+use Rattle.track_input.specs.Words.{MeshName, LogNames, ProofNames, ReplayNames, Named, Track, Convert, Try, Measure, Prove, Verify, Replay, Check}
 use Rattle.track_input.specs.Taken.{IsReading}
 use Rattle.track_input.specs.Job.{Job, IsJob, input_of}
 use Rattle.outside_io.specs.declared.stop.Stop.{Stop}
@@ -20,6 +20,8 @@ use Rattle.outside_io.specs.declared.stop.Stop.TheVariants.{DeskFault}
 use Rattle.track_replay.specs.declared.LogRefusal.{LogRefusal}
 use Rattle.track_measure.specs.Headline.{Measures}
 use Rattle.track_prove.specs.Headline.{Proves, Verifies}
+use Rattle.track_meshes.specs.Headline.{Replays}
+use Rattle.track_check.specs.Headline.{Checks}
 use Rattle.track_engine.specs.State.{State, standing}
 use Rattle.track_engine.specs.Answers.{Answer, Answers}
 use Rattle.track_engine.specs.Answered.{Known}
@@ -141,6 +143,19 @@ pub record VerifiesCommand (names : ProofNames) (result : Outcome) (old new : Wo
   pub outcome_is : result ≡ outcome_by_log ended
   pub verifies : Verifies names ended old new
 
+-- the meshes of the log of the one file are made again, from the mesh of the other on, and stored; the parts are explained where `Replays`
+-- stands
+pub record ReplaysCommand (names : ReplayNames) (result : Outcome) (old new : World) : Type 0 where
+  pub ended : Result (Option LogRefusal) Stop
+  pub outcome_is : result ≡ outcome_by_log ended
+  pub replays : Replays names ended old new
+
+-- it is told what is wrong with the mesh of the file; the parts are explained where `Checks` stands
+pub record ChecksCommand (mesh : MeshName) (decimals : ℕ) (result : Outcome) (old new : World) : Type 0 where
+  pub ended : Result (Option Refusal) Stop
+  pub outcome_is : result ≡ outcome_from ended
+  pub checks : Checks mesh decimals ended old new
+
 -- a run for a command with these stored fields and this sizing, or for none: then nothing is done
 abbrev pub Runs : Known → Option Named → Outcome → World → World → Type 0
 Runs fields None result old new = (result ≡ outcome.Usage) × (new ≡ old)
@@ -151,6 +166,8 @@ Runs fields (Some (Try cubes key)) result old new = TriesCommand cubes key resul
 Runs fields (Some (Measure names)) result old new = MeasuresCommand names result old new
 Runs fields (Some (Prove names)) result old new = ProvesCommand names result old new
 Runs fields (Some (Verify names)) result old new = VerifiesCommand names result old new
+Runs fields (Some (Replay names)) result old new = ReplaysCommand names result old new
+Runs fields (Some (Check mesh decimals)) result old new = ChecksCommand mesh decimals result old new
 
 -- a run for what the words are read as: a command, or none where they are of no listed form
 pub record RunsReading (fields : Known) (words : List (List ℕ)) (result : Outcome) (old new : World) : Type 0 where

@@ -42,6 +42,21 @@ fn read(alloc: Global, words: &[&str]) -> Result<String, Fail> {
             } = given.files;
             format!(in alloc; "verify {mesh} {log} {} {decimals}", given.proof)?
         }
+        Some(Command::Replay(given)) => {
+            let LogFiles {
+                mesh,
+                log,
+                decimals,
+            } = given.files;
+            let prefix = given.prefix;
+            match given.only {
+                None => format!(in alloc; "replay {mesh} {log} {prefix} {decimals}")?,
+                Some(k) => format!(in alloc; "replay {mesh} {log} {prefix} {decimals} {k}")?,
+            }
+        }
+        Some(Command::Check { mesh, decimals }) => {
+            format!(in alloc; "check {} {decimals}", mesh.name)?
+        }
         None => String::from_str(alloc, "none")?,
     })
 }
@@ -73,6 +88,16 @@ fn words_are_read_as_commands(rt: HostRuntime) -> Result<(), Fail> {
     is_read(&rt, alloc, &words, "verify m l p 0")?;
     let words = ["verify", "m", "l", "p", "--decimals", "3"];
     is_read(&rt, alloc, &words, "verify m l p 3")?;
+    is_read(&rt, alloc, &["replay", "m", "l", "p"], "replay m l p 0")?;
+    let words = ["replay", "m", "l", "p", "--decimals", "3"];
+    is_read(&rt, alloc, &words, "replay m l p 3")?;
+    let words = ["replay", "m", "l", "p", "--only", "4294967295"];
+    is_read(&rt, alloc, &words, "replay m l p 0 4294967295")?;
+    let words = ["replay", "m", "l", "p", "--decimals", "3", "--only", "0"];
+    is_read(&rt, alloc, &words, "replay m l p 3 0")?;
+    is_read(&rt, alloc, &["check", "m.obj"], "check m.obj 0")?;
+    let words = ["check", "m.ply", "--decimals", "2"];
+    is_read(&rt, alloc, &words, "check m.ply 2")?;
     // Words that are taken as these.
     let words = ["track", "--decimals", "3", "m", "s", "p"];
     is_read(&rt, alloc, &words, "track m s p 3")?;
@@ -80,13 +105,17 @@ fn words_are_read_as_commands(rt: HostRuntime) -> Result<(), Fail> {
     is_read(&rt, alloc, &words, "track m s p 3")?;
     let words = ["convert", "--decimals=2", "--", "m.off", "n.obj"];
     is_read(&rt, alloc, &words, "convert m.off n.obj 2")?;
+    let words = ["replay", "m", "l", "p", "--only", "7", "--decimals", "2"];
+    is_read(&rt, alloc, &words, "replay m l p 2 7")?;
+    let words = ["replay", "--only=7", "m", "l", "p"];
+    is_read(&rt, alloc, &words, "replay m l p 0 7")?;
     is_read(&rt, alloc, &["try", "--", "2", "7"], "try 2 7")
 }
 
 #[test]
 fn words_of_no_form_are_no_command(rt: HostRuntime) -> Result<(), Fail> {
     let alloc = rt.alloc();
-    let table: [&[&str]; 26] = [
+    let table: [&[&str]; 32] = [
         &[],
         &["track"],
         &["Track", "m", "s", "p"],
@@ -106,6 +135,12 @@ fn words_of_no_form_are_no_command(rt: HostRuntime) -> Result<(), Fail> {
         &["prove", "m", "l", "p"],
         &["verify", "m", "l"],
         &["verify", "m", "l", "p", "q"],
+        &["replay", "m", "l"],
+        &["replay", "m", "l", "p", "--only"],
+        &["replay", "m", "l", "p", "--only", "4294967296"],
+        &["replay", "m", "l", "p", "--only", "07"],
+        &["check", "m.stl"],
+        &["check", "m.obj", "n.obj"],
         &["try", "2"],
         &["try", "0", "1"],
         &["try", "13", "1"],

@@ -1,5 +1,5 @@
 use Rattle.std.proofs.Common.{codes}
-use Rattle.track_input.proofs.Readings.{begin, reads_track, reads_convert, reads_try, reads_measure, reads_prove, reads_verify, unlisted}
+use Rattle.track_input.proofs.Readings.{begin, reads_track, reads_convert, reads_try, reads_measure, reads_prove, reads_verify, reads_replay, reads_check, unlisted}
 use Rattle.track_input.proofs.command.command_of.Goals as goal
 
 pub returns-in-track-clause-read : goal.returns-in-track-clause-read
@@ -20,6 +20,12 @@ returns-in-prove-clause-read c = reads_prove _ c.prove_in.result (begin (codes "
 pub returns-in-verify-clause-read : goal.returns-in-verify-clause-read
 returns-in-verify-clause-read c = reads_verify _ c.verify_in.result (begin (codes "verify") c.args.words.now c.in-Some.first.now c.as_str.result.now c.in-Some.ensures.value c.as_str.ensures.value c.in-verify.is) c.verify_in.ensures.read
 
+pub returns-in-replay-clause-read : goal.returns-in-replay-clause-read
+returns-in-replay-clause-read c = reads_replay _ c.replay_in.result (begin (codes "replay") c.args.words.now c.in-Some.first.now c.as_str.result.now c.in-Some.ensures.value c.as_str.ensures.value c.in-replay.is) c.replay_in.ensures.read
+
+pub returns-in-check-clause-read : goal.returns-in-check-clause-read
+returns-in-check-clause-read c = reads_check _ c.check_in.result (begin (codes "check") c.args.words.now c.in-Some.first.now c.as_str.result.now c.in-Some.ensures.value c.as_str.ensures.value c.in-check.is) c.check_in.ensures.read
+
 pub returns-in_default-as_str-clause-read : goal.returns-in_default-as_str-clause-read
 returns-in_default-as_str-clause-read c =
-    unlisted c.args.words.now c.in-Some.first.now c.as_str.result.now c.in-Some.ensures.value c.as_str.ensures.value c.in_default-as_str.not-track c.in_default-as_str.not-convert c.in_default-as_str.not-try c.in_default-as_str.not-measure c.in_default-as_str.not-prove c.in_default-as_str.not-verify
+    unlisted c.args.words.now c.in-Some.first.now c.as_str.result.now c.in-Some.ensures.value c.as_str.ensures.value c.in_default-as_str.not-track c.in_default-as_str.not-convert c.in_default-as_str.not-try c.in_default-as_str.not-measure c.in_default-as_str.not-prove c.in_default-as_str.not-verify c.in_default-as_str.not-replay c.in_default-as_str.not-check
