@@ -3,8 +3,10 @@
 #![tactic(auto)]
 
 mod desk_reasons;
+mod face_lines;
 mod log_reasons;
 mod mesh_reasons;
+mod other_reasons;
 mod places;
 mod proof_reasons;
 mod shape_reasons;
@@ -15,8 +17,9 @@ mod word_reasons;
 pub use desk_reasons::{long_reason, missing_reason, trouble_reason};
 pub use log_reasons::{log_text_reason, replay_reason};
 pub use mesh_reasons::mesh_text_reason;
+pub use other_reasons::{off_text_reason, ply_text_reason};
 pub use proof_reasons::{Unproved, motion_reason, proof_text_reason};
 pub use shape_reasons::{meeting_reason, shape_reason};
 pub use step_reasons::{step_text_reason, use_reason};
-pub use warnings::{asks_in_vain, is_inside_out, rounding_warning};
+pub use warnings::{asks_in_vain, is_inside_out, is_unsaved, rounding_warning};
 pub use word_reasons::words_reason;

@@ -7,7 +7,7 @@ use line_text::{TextFault, TextWhy};
 use std::alloc::{AllocError, Global};
 
 // The greatest size of a coordinate on a grid of so many decimals.
-fn greatest(decimals: u8) -> &'static str {
+pub(crate) fn greatest(decimals: u8) -> &'static str {
     match decimals {
         0 => "268435456",
         1 => "26843545.6",

@@ -54,6 +54,8 @@ pub(crate) fn encoding(bytes: &[u8]) -> Option<&'static str> {
         Some("the file begins with a byte order mark: save it without one")
     } else if bytes.starts_with(b"\xff\xfe") || bytes.starts_with(b"\xfe\xff") {
         Some("the file is in UTF-16: save it as ASCII or UTF-8")
+    } else if bytes.contains(&b'\r') && !bytes.contains(&b'\n') {
+        Some("the lines of the file end with CR alone: save it with LF or CRLF at their ends")
     } else {
         None
     }

@@ -2,11 +2,11 @@
 ghost use Rattle.std.specs.Prelude.{◌≤◌, length};
 ghost use Rattle.grid_base.specs.declared.TheConstants.{TEXT_MAX};
 
-use crate::places::word_at;
+use crate::face_lines::line_of_face;
 use grid_base::{FACES_MAX, VERTICES_MAX};
-use line_text::{Lines, words};
 use mesh_plain::{MeshLists, PairName, ShapeFault};
 use std::alloc::{AllocError, Global};
+use track_input::Format;
 
 // How many sides of faces run from a vertex to another.
 fn sides(faces: &[[u32; 3]], from: u32, to: u32) -> u32 {
@@ -105,74 +105,62 @@ fn unbalanced_reason(
     }
 }
 
-// How many words a line has.
-fn word_count(line: &[u8]) -> u64 {
-    let mut count: u64 = 0;
-    for _word in words(line) {
-        count = count.saturating_add(1);
-    }
-    count
-}
-
-// The line of the face of a number, in an OBJ text, where a polygon of k corners is k - 2 faces; 0 where there is none.
-fn line_of_face(bytes: &[u8], face: u32) -> u32
-    requires { length bytes.now ≤ TEXT_MAX }
-{
-    let mut count: u64 = 0;
-    for line in Lines::new(bytes) {
-        if word_at(line.bytes, 0) == b"f".as_slice() {
-            count = count.saturating_add(word_count(line.bytes).saturating_sub(3));
-        }
-        if count >= u64::from(face) {
-            return line.number;
-        }
-    }
-    0
-}
-
 // `face F (line N)`.
-fn face_place(alloc: Global, bytes: &[u8], face: u32) -> Result<String, AllocError>
+fn face_place(alloc: Global, format: Format, bytes: &[u8], face: u32) -> Result<String, AllocError>
     requires { length bytes.now ≤ TEXT_MAX }
 {
-    match line_of_face(bytes, face) {
+    match line_of_face(format, bytes, face) {
         0 => format!(in alloc; "face {face}"),
         line => format!(in alloc; "face {face} (line {line})"),
     }
 }
 
 // That a corner of a face names no vertex.
-fn corner_reason(alloc: Global, bytes: &[u8], face: u32, corner: u8) -> Result<String, AllocError>
+fn corner_reason(
+    alloc: Global,
+    format: Format,
+    bytes: &[u8],
+    face: u32,
+    corner: u8,
+) -> Result<String, AllocError>
     requires { length bytes.now ≤ TEXT_MAX }
 {
-    let face = face_place(alloc, bytes, face)?;
+    let face = face_place(alloc, format, bytes, face)?;
     format!(in alloc; "corner {corner} of {face} names no vertex")
 }
 
 // That a face has one vertex twice.
-fn repeated_reason(alloc: Global, bytes: &[u8], face: u32) -> Result<String, AllocError>
+fn repeated_reason(
+    alloc: Global,
+    format: Format,
+    bytes: &[u8],
+    face: u32,
+) -> Result<String, AllocError>
     requires { length bytes.now ≤ TEXT_MAX }
 {
-    let face = face_place(alloc, bytes, face)?;
+    let face = face_place(alloc, format, bytes, face)?;
     format!(in alloc; "{face} has one vertex twice")
 }
 
 // That two faces have the same corners.
 fn doubled_reason(
     alloc: Global,
+    format: Format,
     bytes: &[u8],
     first: u32,
     second: u32,
 ) -> Result<String, AllocError>
     requires { length bytes.now ≤ TEXT_MAX }
 {
-    let first = face_place(alloc, bytes, first)?;
-    let second = face_place(alloc, bytes, second)?;
+    let first = face_place(alloc, format, bytes, first)?;
+    let second = face_place(alloc, format, bytes, second)?;
     format!(in alloc; "{first} and {second} have the same corners in the same order")
 }
 
 // What is wrong with the shape of a mesh.
 fn what_is_wrong(
     alloc: Global,
+    format: Format,
     bytes: &[u8],
     lists: Option<&MeshLists>,
     fault: ShapeFault,
@@ -186,25 +174,28 @@ fn what_is_wrong(
         ShapeFault::TooManyFaces { count } => format!(in alloc;
             "there are {count} faces, of at most {FACES_MAX}"
         ),
-        ShapeFault::NoVertex { face, corner } => corner_reason(alloc, bytes, face, corner),
-        ShapeFault::Repeated { face } => repeated_reason(alloc, bytes, face),
-        ShapeFault::Doubled { first, second } => doubled_reason(alloc, bytes, first, second),
+        ShapeFault::NoVertex { face, corner } => corner_reason(alloc, format, bytes, face, corner),
+        ShapeFault::Repeated { face } => repeated_reason(alloc, format, bytes, face),
+        ShapeFault::Doubled { first, second } => doubled_reason(
+            alloc, format, bytes, first, second,
+        ),
         ShapeFault::Unbalanced { from, to } => unbalanced_reason(alloc, lists, from, to),
     }
 }
 
-/// Says what is wrong with the shape of the mesh of a text, with the lists that it gives where they are had. Faces are triangles, which
+/// Says what is wrong with the shape of the mesh of a text in a format, with the lists that it gives where they are had. Faces are triangles, which
 /// count through polygons.
 pub fn shape_reason(
     alloc: Global,
     name: &str,
+    format: Format,
     bytes: &[u8],
     lists: Option<&MeshLists>,
     fault: ShapeFault,
 ) -> Result<String, AllocError>
     requires { length bytes.now ≤ TEXT_MAX }
 {
-    let what = what_is_wrong(alloc, bytes, lists, fault)?;
+    let what = what_is_wrong(alloc, format, bytes, lists, fault)?;
     format!(in alloc; "{name}; {what}")
 }
 

@@ -112,7 +112,12 @@ pub fn step_text_reason(
 // Why a directive is refused.
 fn what_is_refused(alloc: Global, why: UseWhy) -> Result<String, AllocError> {
     match why {
-        UseWhy::NoVertex { v } => format!(in alloc; "there is no vertex {v} here"),
+        UseWhy::NoVertex { v: 0 } => {
+            String::from_str(alloc, "there is no vertex 0: vertices are numbered from 1")
+        }
+        UseWhy::NoVertex { v } => format!(in alloc;
+            "there is no vertex {v} here: it was not made yet, or an edit has taken it away"
+        ),
         UseWhy::ShiftRange { v } => format!(in alloc;
             "what is asked of vertex {v} in all is above {SHIFT_MAX} in size"
         ),

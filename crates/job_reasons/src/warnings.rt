@@ -130,3 +130,16 @@ pub fn asks_in_vain(directives: &Directives) -> bool {
     }
     asked
 }
+
+/// Whether something is moved or edited behind the last `save`, so that no mesh that is stored has it.
+pub fn is_unsaved(directives: &Directives) -> bool {
+    let mut unsaved = false;
+    for placed in directives.as_slice() {
+        match &placed.what {
+            Directive::Save => unsaved = false,
+            Directive::Step | Directive::Pass(_) | Directive::Fit => unsaved = true,
+            _ => {}
+        }
+    }
+    unsaved
+}

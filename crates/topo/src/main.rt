@@ -8,6 +8,7 @@ mod answering;
 mod band;
 mod explaining;
 mod help;
+mod rounding;
 mod shipped;
 mod warning;
 

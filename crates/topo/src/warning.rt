@@ -1,28 +1,15 @@
 // What may be amiss in a job that is done, a sentence each.
 ghost use Rattle.std.specs.Prelude.{◌≤◌, length};
-ghost use Rattle.grid_base.specs.declared.TheConstants.{TEXT_MAX, DECIMALS_MAX};
+ghost use Rattle.grid_base.specs.declared.TheConstants.{TEXT_MAX};
 
-use crate::explaining::{bytes_of, names_of};
-use grid_base::DECIMALS_MAX;
-use job_reasons::{asks_in_vain, is_inside_out, rounding_warning};
+use crate::explaining::{bytes_again, names_of};
+use crate::rounding::finest;
+use job_reasons::{asks_in_vain, is_inside_out, is_unsaved, rounding_warning};
 use mesh_plain::MeshLists;
-use obj_text::read_obj;
 use std::alloc::{AllocError, Global};
 use std::rt::Files;
 use step_text::read_steps;
-
-// The lists of a mesh on the finest grid, down to one of so many decimals, on which its coordinates are in the box, and the decimals of that.
-fn finest(alloc: Global, bytes: &[u8], decimals: u8) -> Option<(MeshLists, u8)>
-    requires { length bytes.now ≤ TEXT_MAX }
-{
-    for down in 0..=DECIMALS_MAX.saturating_sub(decimals) {
-        let fine = DECIMALS_MAX - down;
-        if let Ok(lists) = read_obj(alloc, bytes, fine) {
-            return Some((lists, fine));
-        }
-    }
-    None
-}
+use track_input::Format;
 
 // Adds a warning.
 fn warn(alloc: Global, warning: &str, into: &mut Vec<String>) -> Result<(), AllocError> {
@@ -54,13 +41,14 @@ fn lists_warnings(
 // The warnings that a mesh file gives.
 fn mesh_warnings(
     alloc: Global,
+    format: Format,
     bytes: &[u8],
     decimals: u8,
     into: &mut Vec<String>,
 ) -> Result<(), AllocError>
     requires { length bytes.now ≤ TEXT_MAX }
 {
-    match finest(alloc, bytes, decimals) {
+    match finest(alloc, format, bytes, decimals) {
         Some((lists, fine)) => lists_warnings(alloc, &lists, fine, decimals, into),
         None => Ok(()),
     }
@@ -73,6 +61,17 @@ fn steps_warnings(alloc: Global, bytes: &[u8], into: &mut Vec<String>) -> Result
     let Ok(directives) = read_steps(alloc, bytes) else {
         return Ok(());
     };
+    if directives.as_slice().is_empty() {
+        warn(
+            alloc,
+            "there are no steps: mesh 0 is the mesh as it was read",
+            into,
+        )?;
+    }
+    if is_unsaved(&directives) {
+        let unsaved = "what is done behind the last `save` is stored in no mesh";
+        warn(alloc, unsaved, into)?;
+    }
     if asks_in_vain(&directives) {
         let vain = "shifts are asked behind the last `step`, and nothing takes them";
         warn(alloc, vain, into)?;
@@ -80,7 +79,16 @@ fn steps_warnings(alloc: Global, bytes: &[u8], into: &mut Vec<String>) -> Result
     Ok(())
 }
 
-/// Says what may be amiss in a job that is done, from its files, which it looks into once more.
+// Whether the words ask for steps to be taken.
+fn has_steps(words: &[String]) -> bool {
+    match words.first() {
+        Some(first) => first.as_str() == "track",
+        None => false,
+    }
+}
+
+/// Says what may be amiss in a job that is done, from its files, which it looks into once more: of a pipe, which can not be read twice,
+/// nothing is said.
 pub(crate) fn warnings<R: Files>(
     alloc: Global,
     words: &[String],
@@ -90,9 +98,13 @@ pub(crate) fn warnings<R: Files>(
     let Some(names) = names_of(alloc, words) else {
         return Ok(said);
     };
-    let mesh = bytes_of(alloc, rt, names.mesh);
-    mesh_warnings(alloc, &mesh, names.decimals, &mut said)?;
-    let steps = bytes_of(alloc, rt, names.other);
-    steps_warnings(alloc, &steps, &mut said)?;
+    if let Some(mesh) = bytes_again(alloc, rt, names.mesh) {
+        mesh_warnings(alloc, names.format, &mesh, names.decimals, &mut said)?;
+    }
+    if has_steps(words) {
+        if let Some(steps) = bytes_again(alloc, rt, names.other) {
+            steps_warnings(alloc, &steps, &mut said)?;
+        }
+    }
     Ok(said)
 }

@@ -18,7 +18,8 @@ use Rattle.track_input.specs.Named.{named_by}
 use Rattle.track_input.specs.declared.command.Command.{Command}
 use Rattle.track_input.specs.Taken.{behind, options_behind, AreTakenAs, IsReading}
 use Rattle.track_input.specs.Commands.{Values, IsFound, IsReadBy, values_in, track_app, track_of, track_read, convert_app, convert_of, convert_read, try_app, try_of, try_read, log_app, log_of, log_read, measure_app, measure_read, prove_app, prove_read, verify_app, verify_of, verify_read, replay_app, replay_of, replay_read, check_app, check_of, check_read}
-use Rattle.track_input.proofs.Walks.{IsPlainWord, plain_word, plain_digit, plain_number, try_taken, try_found, log_taken, log_found, log_taken_with, log_found_with, track_taken, track_found, track_taken_with, track_found_with, convert_taken, convert_found, convert_taken_with, convert_found_with, verify_taken, verify_found, verify_taken_with, verify_found_with, replay_taken, replay_found, replay_taken_with, replay_found_with, replay_taken_only, replay_found_only, replay_taken_both, replay_found_both, check_taken, check_found, check_taken_with, check_found_with}
+use Rattle.track_input.proofs.Walks.{IsPlainWord, plain_word, plain_digit, plain_number, try_taken, try_found, log_taken, log_found, log_taken_with, log_found_with, track_taken, track_found, track_taken_with, track_found_with, convert_taken, convert_found, convert_taken_with, convert_found_with, verify_taken, verify_found, verify_taken_with, verify_found_with, replay_taken, replay_found, replay_taken_with, replay_found_with, replay_taken_only, replay_found_only, check_taken, check_found, check_taken_with, check_found_with}
+use Rattle.track_input.proofs.BothOptions.{replay_taken_both, replay_found_both}
 use Rattle.track_input.proofs.Among.{AreSafe, FoundLong, IsOption, IsSetRule, is_option, named_value, no_option, RowsFrom, rows_from, first_from, contains_here, contains_later}
 
 -- ---- the reading
@@ -349,9 +350,10 @@ module _ (x : Named) (zeroth a b c : List ℕ) (pa : IsPlainWord a) (pb : IsPlai
   with_both o d p w is_d is_k e =
       let first : replay_in (a ∷ b ∷ c ∷ codes "--decimals" ∷ d ∷ p ∷ w ∷ []) ≡ Some x = subst (λ (t : List ℕ). replay_in (a ∷ b ∷ c ∷ t ∷ d ∷ p ∷ w ∷ []) ≡ Some x) (sym is_d.option_is) e in
       let listed : replay_in (a ∷ b ∷ c ∷ codes "--decimals" ∷ d ∷ codes "--only" ∷ w ∷ []) ≡ Some x = subst (λ (t : List ℕ). replay_in (a ∷ b ∷ c ∷ codes "--decimals" ∷ d ∷ t ∷ w ∷ []) ≡ Some x) (sym is_k.option_is) first in
-      let f = replay_found_both zeroth a b pa pb c pc d (plain_digit d is_d.is_digit) w is_k.plain in
+      let pd = plain_digit d is_d.is_digit in
+      let f = replay_found_both a b c d pa pb pc pd w is_k.plain zeroth in
       let here : FindsThese (codes "--decimals" ∷ d ∷ codes "--only" ∷ w ∷ []) = record {
-        taken = replay_taken_both zeroth a b pa pb c pc d (plain_digit d is_d.is_digit) w is_k.plain;
+        taken = replay_taken_both a b c d pa pb pc pd w is_k.plain zeroth;
         found = rw (f.mesh, f.log, f.prefix, f.decimals, f.only) listed;
       } in
       let second : FindsThese (codes "--decimals" ∷ d ∷ p ∷ w ∷ []) = subst (λ (t : List ℕ). FindsThese (codes "--decimals" ∷ d ∷ t ∷ w ∷ [])) is_k.option_is here in

@@ -217,15 +217,3 @@ module _ (zeroth a b : List ℕ) (pa : IsPlainWord a) (pb : IsPlainWord b) where
       pub replay_found_only : FindsReplay (matches_of replay_app (zeroth ∷ a ∷ b ∷ c ∷ codes "--only" ∷ n ∷ [])) a b c None (Some n)
       unfolding clap_on_literals
       replay_found_only = rw (pa.long, pa.short, pa.dashes, pb.long, pb.short, pb.dashes, pc.long, pc.short, pc.dashes, pn.long, pn.short, pn.dashes) (record { mesh = refl; log = refl; prefix = refl; decimals = refl; only = refl })
-
-      module _ (k : List ℕ) (pk : IsPlainWord k) where
-        pub replay_taken_both : takes replay_app (zeroth ∷ a ∷ b ∷ c ∷ codes "--decimals" ∷ n ∷ codes "--only" ∷ k ∷ []) ≡ true
-        unfolding clap_on_literals
-        replay_taken_both =
-            rw pa.long (rw pa.short (rw pa.dashes (rw pb.long (rw pb.short (rw pb.dashes (rw pc.long (rw pc.short (rw pc.dashes (rw pn.long (rw pn.short (rw pn.dashes (rw pk.long (rw pk.short (rw pk.dashes (refl)))))))))))))))
-
-        pub replay_found_both : FindsReplay (matches_of replay_app (zeroth ∷ a ∷ b ∷ c ∷ codes "--decimals" ∷ n ∷ codes "--only" ∷ k ∷ [])) a b c (Some n) (Some k)
-        unfolding clap_on_literals
-        replay_found_both =
-            rw (pa.long, pa.short, pa.dashes, pb.long, pb.short, pb.dashes) (rw (pc.long, pc.short, pc.dashes) (rw (pn.long, pn.short, pn.dashes) (rw (pk.long, pk.short, pk.dashes)
-            (record { mesh = refl; log = refl; prefix = refl; decimals = refl; only = refl }))))
