@@ -3,9 +3,9 @@
 
     checks/documents.py
 
-The statuses that README.md and docs/FORMATS.md list are those of `topo --help`, word for word; each log that README.md and docs/EXAMPLES.md
-show is a part of that of the command before it, run anew; the proof that docs/CERTIFICATES.md shows is that of a worked case; each crate has its
-line in README.md and in docs/ARCHITECTURE.md, and each file that a document names is there; and what docs/ARCHITECTURE.md and docs/HARDENING.md
+The statuses that docs/FORMATS.md lists are those of `topo --help`, word for word, and README.md has each form of its words; each log that README.md
+and docs/EXAMPLES.md show is a part of that of the command before it, run anew; the proof that docs/CERTIFICATES.md shows is that of a worked case;
+each crate has its line in docs/PROVED.md and in docs/ARCHITECTURE.md, and each file that a document names is there; and what docs/ARCHITECTURE.md and docs/HARDENING.md
 count, files on a way and wrong edits, is as many.
 """
 
@@ -87,9 +87,10 @@ def main():
     helped = subprocess.run([TOPO, "--help"], stdout=subprocess.PIPE, check=True, timeout=60).stdout.decode()
     told = re.findall(r"(?m)^ +(\d+)  (.+)$", helped)
     checks.append(("--help tells the statuses 0 to 15", [int(number) for number, _ in told] == list(range(16))))
-    checks.append(("README.md has the statuses of --help", statuses_in(readme) == told))
     checks.append(("docs/FORMATS.md has the statuses of --help", statuses_in(formats) == told))
-    checks.append(("README.md has the words of the program", helped.splitlines()[0].partition("topo ")[2] in readme))
+    forms = re.findall(r"(?m)^(?:usage:|      ) topo (\w+ [A-Z].*)$", helped)
+    lacking = [form for form in forms if f"./topo {form}" not in readme]
+    checks.append((f"README.md has each of {len(forms)} forms of words {'; '.join(lacking)}".rstrip(), len(forms) > 1 and not lacking))
     for name, text in (("README.md", readme), ("docs/EXAMPLES.md", text_of("docs/EXAMPLES.md"))):
         shown = shown_logs(text)
         checks.append((f"{name} shows logs, each behind its command", len(shown) > 0 and all(command for command, _ in shown)))
@@ -101,7 +102,7 @@ def main():
     explained = [line.strip() for line in text_of("docs/CERTIFICATES.md").splitlines()]
     checks.append(("docs/CERTIFICATES.md shows the proof of a worked case", is_part(proof, explained)))
     crates = [line.partition(":")[0] for line in text_of("crates.txt").splitlines() if ":" in line and not line.startswith("#")]
-    for name in ("README.md", "docs/ARCHITECTURE.md"):
+    for name in ("docs/PROVED.md", "docs/ARCHITECTURE.md"):
         lacking = [crate for crate in crates if f"`{crate}`" not in text_of(name)]
         checks.append((f"{name} names each crate {' '.join(lacking)}".rstrip(), not lacking))
     for name in ["README.md", *(f"docs/{it}" for it in sorted(os.listdir(os.path.join(ROOT, "docs"))))]:
