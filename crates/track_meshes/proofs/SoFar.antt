@@ -163,9 +163,6 @@ module _ (only : Option ℕ) (to : Target) (m : Mesh) (lines : List LogLine) whe
   few left run count number a b so_far = omega (arith, so_far.number_is, ap length so_far.split, length-append so_far.front left)
 
   module _ (line : LogLine) (left : List LogLine) (run : LogState) (count number : ℕ) (a b : Around) (so_far : Replaying (line ∷ left) run count number a b) where
-    front_more : List LogLine
-    front_more = so_far.front ++ line ∷ []
-
     -- memory is wanting before it is known whether the line fits
     pub line_forgotten : ReplaysLines only to m lines a b (Err NoMemory)
     line_forgotten = record {
@@ -280,15 +277,15 @@ module _ (only : Option ℕ) (to : Target) (m : Mesh) (lines : List LogLine) whe
     pub refused_here : (fits : Bool) → IsTrue fits ↔ FitsTested run line → fits ≡ false → (d : Around) (r : Result (Option LogRefusal) Stop) → Tells (refused_text (log.Replay (number + 1))) c d r → IfOk r (λ x. x ≡ Some (log.Replay (number + 1))) → ReplaysLines only to m lines a d r
     refused_here fits is missed d r t ends = line_refused line (drop (i + 1) lines) run count number a c here (λ f. false≢true (sym missed ∙ is.1 f)) d r t ends
 
-    module _ (fits : Bool) (is : IsTrue fits ↔ FitsTested run line) (yes : fits ≡ true) (next : LogState) (taken : next ≡ with_line run line) (d : Around) where
+    module _ (fits : Bool) (is : IsTrue fits ↔ FitsTested run line) (fits_is : fits ≡ true) (next : LogState) (taken : next ≡ with_line run line) (d : Around) where
       pub few_here : (more : ℕ) → StoresCounted (wanted_at only to next.replay line) c d (Ok more) → count + more ≤ length lines
-      few_here more found = few_more line (drop (i + 1) lines) run count number a c here (is.0 yes) next taken more d found
+      few_here more found = few_more line (drop (i + 1) lines) run count number a c here (is.0 fits_is) next taken more d found
 
       pub more_here : (more : ℕ) → StoresCounted (wanted_at only to next.replay line) c d (Ok more) → IsValidState next → Replaying (drop (i + 1) lines) next (count + more) (number + 1) a d
-      more_here more found valid = one_more line (drop (i + 1) lines) run count number a c here (is.0 yes) next taken more d found valid
+      more_here more found valid = one_more line (drop (i + 1) lines) run count number a c here (is.0 fits_is) next taken more d found valid
 
       pub stops_here : (stop : Stop) → StoresCounted (wanted_at only to next.replay line) c d (Err stop) → ReplaysLines only to m lines a d (Err stop)
-      stops_here stop found = line_stops line (drop (i + 1) lines) run count number a c here (is.0 yes) next taken stop d found
+      stops_here stop found = line_stops line (drop (i + 1) lines) run count number a c here (is.0 fits_is) next taken stop d found
 
   module _ (i : ℕ) (le : length lines ≤ i) (run : LogState) (count number : ℕ) (a b c : Around) (h : Replaying (drop i lines) run count number a b) where
     at_end : Replaying [] run count number a b

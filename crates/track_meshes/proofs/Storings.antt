@@ -85,9 +85,6 @@ no_memory e = absurd cc
 -- ---- one file
 
 module _ (name text : List ℕ) (a b : Around) where
-  one : NamedTexts
-  one = (name, text) ∷ []
-
   stops_in_one : (stop : Stop) → Stores name text a b (Err stop) → StopsStoring stop ((name, text) ∷ []) (holds_of a) (holds_of b)
   stops_in_one NoMemory s = record {
     done = [];

@@ -20,18 +20,18 @@ module _ (only : Option ℕ) (to : Target) where
   module _ (r : Replay) (line : LogLine) (k vertices faces : ℕ) (is : line ≡ MeshLine k vertices faces) (wanted : Bool) (wanted_is : wanted ≡ is_wanted only k) where
     by_want : wanted_at only to r line ≡ (if wanted then (file_name to.prefix k, mesh_text to.decimals r.mesh) ∷ [] else [])
     by_want =
-        let file = (file_name to.prefix k, mesh_text to.decimals r.mesh) ∷ [] in
+        let file : NamedTexts = (file_name to.prefix k, mesh_text to.decimals r.mesh) ∷ [] in
         ap (wanted_at only to r) is ∙ ap (λ (b : Bool). if b then file else []) (sym wanted_is)
 
     pub wanted_yes : wanted ≡ true → wanted_at only to r line ≡ (file_name to.prefix k, mesh_text to.decimals r.mesh) ∷ []
-    wanted_yes yes =
-        let file = (file_name to.prefix k, mesh_text to.decimals r.mesh) ∷ [] in
-        by_want ∙ ap (λ (b : Bool). if b then file else []) yes
+    wanted_yes is_so =
+        let file : NamedTexts = (file_name to.prefix k, mesh_text to.decimals r.mesh) ∷ [] in
+        by_want ∙ ap (λ (b : Bool). if b then file else []) is_so
 
     pub wanted_no : wanted ≡ false → wanted_at only to r line ≡ []
-    wanted_no no =
-        let file = (file_name to.prefix k, mesh_text to.decimals r.mesh) ∷ [] in
-        by_want ∙ ap (λ (b : Bool). if b then file else []) no
+    wanted_no is_so =
+        let file : NamedTexts = (file_name to.prefix k, mesh_text to.decimals r.mesh) ∷ [] in
+        by_want ∙ ap (λ (b : Bool). if b then file else []) is_so
 
   one_or_none : (b : Bool) (file : List ℕ × List ℕ) → length (if b then file ∷ [] else []) ≤ 1
   one_or_none true file = omega arith
