@@ -28,5 +28,6 @@ pub use lines::finish;
 pub use open_group::OpenGroup;
 pub use open_groups::OpenGroups;
 pub use run_state::RunState;
+pub use saving::file_name;
 pub use target::Target;
 pub use terms::RunTerms;

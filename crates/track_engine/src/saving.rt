@@ -34,8 +34,8 @@ fn zeros(count: usize) -> &'static str
     }
 }
 
-// The name of the file of a mesh.
-fn name_of(alloc: Global, prefix: &str, k: u32) -> Result<String, NoMemory>
+/// The name of the file of mesh `k`: the prefix, `-`, the number in six digits or more, and `.obj`. NoMemory at any prefix.
+pub fn file_name(alloc: Global, prefix: &str, k: u32) -> Result<String, NoMemory>
     ensures { IfOk result (λ name. string_bytes name ≡ file_name prefix.now k) }
 {
     let mut buffer = Buffer::new();
@@ -80,7 +80,7 @@ impl<S: Surface> Engine<S> {
         ensures counts { Counts (O.around outside.old) (O.around outside.new) result }
     {
         let text = obj_of(alloc, &self.mesh, to.decimals)?;
-        let name = name_of(alloc, to.prefix, self.run.saved)?;
+        let name = file_name(alloc, to.prefix, self.run.saved)?;
         write_line(alloc, outside, &self.mesh_line())?;
         outside.store(&name, &text)?;
         self.run.saved += 1;

@@ -1,0 +1,4 @@
+mod Storings
+mod WantedLines
+mod SoFar
+mod Whole

@@ -1,0 +1,4 @@
+pub mod Wanted
+pub mod Texts
+pub mod Storing
+pub mod Headline
