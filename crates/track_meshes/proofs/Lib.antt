@@ -2,3 +2,4 @@ mod Storings
 mod WantedLines
 mod SoFar
 mod Whole
+mod AllStored

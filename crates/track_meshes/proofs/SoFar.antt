@@ -1,5 +1,5 @@
 -- The lines of a log that are replayed so far, and how it ends behind them.
-use Rattle.std.proofs.Common.{◌≡◌, ◌⊎◌, inl, inr, ℕ, zero, suc, ◌+◌, ◌-◌, ◌<◌, ◌≤◌, ◌^◌, Bool, true, false, List, [], ◌∷◌, ◌++◌, append-nil, append_assoc, length, take, drop, get_or, Option, Some, None, Result, Ok, Err, IfOk, refl, ap, sym, ◌∙◌, subst, arith}
+use Rattle.std.proofs.Common.{◌≡◌, inl, inr, ℕ, zero, ◌+◌, ◌-◌, ◌<◌, ◌≤◌, Bool, true, false, List, [], ◌∷◌, ◌++◌, append-nil, append_assoc, length, take, drop, get_or, Option, Some, None, Result, Ok, Err, IfOk, refl, ap, sym, ◌∙◌, subst, arith}
 use Rattle.std.specs.Prelude.{◌↔◌, IsTrue}
 use Rattle.std.proofs.lemmas.Bool.{false≢true}
 use Rattle.std.proofs.lemmas.List.{length-append, drop_all, drop_more}
@@ -9,7 +9,7 @@ use Rattle.log_replay.specs.Replay.{Replay, replayed, after, at_mesh}
 use Rattle.log_run.specs.Laws.{IsValidState}
 use Rattle.log_run.specs.States.{LogState, with_line, without_lines}
 use Rattle.outside_io.specs.declared.stop.Stop.{Stop}
-use Rattle.outside_io.specs.declared.stop.Stop.TheVariants.{NoMemory, DeskFault, SinkFault}
+use Rattle.outside_io.specs.declared.stop.Stop.TheVariants.{NoMemory}
 use Rattle.outside_io.specs.Outside.{Around, Counts, holds_of}
 use Rattle.outside_io.specs.Sink.{appended, AppendsPart}
 use Rattle.outside_io.specs.World.{Contents}
@@ -25,8 +25,8 @@ use Rattle.track_replay.proofs.Endings.{fits_one_more, before_unfit, one_ending}
 use Rattle.track_engine.specs.Saved.{Target, stored}
 use Rattle.track_meshes.specs.Wanted.{NamedTexts, wanted_at, wanted_of}
 use Rattle.track_meshes.specs.Texts.{replayed_text}
-use Rattle.track_meshes.specs.Storing.{StoresAll, StopsStoring, StopsWriting, StoresTexts, StoresCounted}
-use Rattle.track_meshes.specs.Headline.{texts_stored, text_told, ComesToEnd, StopsIn, IsReplayOf, ReplaysLines}
+use Rattle.track_meshes.specs.Storing.{StoresAll, StopsStoring, StopsWriting, StoresCounted}
+use Rattle.track_meshes.specs.Headline.{texts_stored, text_told, StopsIn, IsReplayOf, ReplaysLines}
 use Rattle.track_meshes.proofs.Storings.{stores_then, stops_then, stops_more, stops_before, no_memory}
 use Rattle.track_meshes.proofs.WantedLines.{same_behind, wanted_few, wanted_then, wanted_one_more}
 

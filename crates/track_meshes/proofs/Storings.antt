@@ -1,15 +1,15 @@
 -- Files that are stored behind others, or before others.
-use Rattle.std.proofs.Common.{◌≡◌, ◌⊎◌, inl, inr, ℕ, List, [], ◌∷◌, ◌++◌, append_assoc, length, Option, Result, Ok, Err, refl, ap, sym, ◌∙◌, subst}
+use Rattle.std.proofs.Common.{◌≡◌, inl, inr, ℕ, List, [], ◌∷◌, ◌++◌, append_assoc, Option, Err, refl, ap, sym, ◌∙◌, subst}
 use Rattle.outside_io.specs.Desk.{Files, SameBut}
 use Rattle.outside_io.specs.Outside.{Around, Stores, holds_of}
 use Rattle.outside_io.specs.World.{Contents}
 use Rattle.outside_io.specs.declared.stop.Stop.{Stop}
 use Rattle.outside_io.specs.declared.stop.Stop.TheVariants.{NoMemory, DeskFault, SinkFault}
-use Rattle.outside_io.proofs.Outsides.{counts_stopped, counts_unremembered, counts_whole}
+use Rattle.outside_io.proofs.Outsides.{counts_stopped, counts_unremembered}
 use Rattle.track_engine.specs.Saved.{stored}
 use Rattle.track_engine.proofs.Worlds.{stored-append}
 use Rattle.track_meshes.specs.Wanted.{NamedTexts}
-use Rattle.track_meshes.specs.Storing.{StoresAll, StoresFirst, FailsAtNext, StopsStoring, StoresTexts, StoresCounted}
+use Rattle.track_meshes.specs.Storing.{StoresAll, StoresFirst, FailsAtNext, StopsStoring, StoresCounted}
 
 -- ---- behind others
 
@@ -95,29 +95,11 @@ module _ (name text : List ℕ) (a b : Around) where
   stops_in_one DeskFault s = inr (record { done = []; name = name; text = text; rest = []; split = refl; others = s.others refl; written = s.written })
   stops_in_one SinkFault s = s.no_sink refl
 
-  -- it is stored
-  pub one_stored : (texts : NamedTexts) → texts ≡ (name, text) ∷ [] → (u : Unit {0}) → Stores name text a b (Ok u) → StoresCounted texts a b (Ok 1)
-  one_stored texts is u s =
-      let P : NamedTexts → Type 0 = λ l. StoresCounted l a b (Ok 1) in
-      subst P (sym is) (record {
-        stores = (record { files = s.stored; written = s.written }, refl);
-        counts = counts_whole a b (Ok u) 1 s.counts;
-      })
-
   -- it stops in it
   pub one_stopped : (texts : NamedTexts) → texts ≡ (name, text) ∷ [] → (stop : Stop) → Stores name text a b (Err stop) → StoresCounted texts a b (Err stop)
   one_stopped texts is stop s =
       let P : NamedTexts → Type 0 = λ l. StoresCounted l a b (Err stop) in
       subst P (sym is) (record { stores = stops_in_one stop s; counts = counts_stopped a b stop s.counts })
-
--- there is none
-pub none_stored : (texts : NamedTexts) → texts ≡ [] → (a : Around) → StoresCounted texts a a (Ok 0)
-none_stored texts is a =
-    let P : NamedTexts → Type 0 = λ l. StoresCounted l a a (Ok 0) in
-    subst P (sym is) (record {
-      stores = (record { files = refl; written = refl }, refl);
-      counts = counts_whole {T = Unit {0}} a a (Err NoMemory) 0 (counts_unremembered {T = Unit {0}} a);
-    })
 
 -- memory was wanting before a store
 pub store_unremembered : (name text : List ℕ) (a : Around) → Stores name text a a (Err NoMemory)

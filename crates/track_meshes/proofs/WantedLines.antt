@@ -1,5 +1,5 @@
 -- The files of lines whose meshes are stored.
-use Rattle.std.proofs.Common.{◌≡◌, ℕ, suc, ◌+◌, ◌≤◌, Bool, true, false, List, [], ◌∷◌, ◌++◌, append_assoc, append-nil, length, Option, Some, None, refl, ap, sym, ◌∙◌, arith}
+use Rattle.std.proofs.Common.{◌≡◌, ℕ, ◌+◌, ◌≤◌, Bool, true, false, List, [], ◌∷◌, ◌++◌, append_assoc, append-nil, length, Option, None, refl, ap, sym, ◌∙◌, arith}
 use Rattle.std.specs.Prelude.{if◌then◌else◌}
 use Rattle.std.proofs.lemmas.List.{length-append}
 use Rattle.obj_text.specs.Written.{mesh_text}
@@ -17,21 +17,12 @@ module _ (only : Option ℕ) (to : Target) where
   same_behind r (MeshLine k vertices faces) = refl
   same_behind r _ = refl
 
-  module _ (r : Replay) (line : LogLine) (k vertices faces : ℕ) (is : line ≡ MeshLine k vertices faces) (wanted : Bool) (wanted_is : wanted ≡ is_wanted only k) where
-    by_want : wanted_at only to r line ≡ (if wanted then (file_name to.prefix k, mesh_text to.decimals r.mesh) ∷ [] else [])
-    by_want =
-        let file : NamedTexts = (file_name to.prefix k, mesh_text to.decimals r.mesh) ∷ [] in
-        ap (wanted_at only to r) is ∙ ap (λ (b : Bool). if b then file else []) (sym wanted_is)
-
-    pub wanted_yes : wanted ≡ true → wanted_at only to r line ≡ (file_name to.prefix k, mesh_text to.decimals r.mesh) ∷ []
-    wanted_yes is_so =
-        let file : NamedTexts = (file_name to.prefix k, mesh_text to.decimals r.mesh) ∷ [] in
-        by_want ∙ ap (λ (b : Bool). if b then file else []) is_so
-
-    pub wanted_no : wanted ≡ false → wanted_at only to r line ≡ []
-    wanted_no is_so =
-        let file : NamedTexts = (file_name to.prefix k, mesh_text to.decimals r.mesh) ∷ [] in
-        by_want ∙ ap (λ (b : Bool). if b then file else []) is_so
+  -- a line that tells of a mesh that is stored
+  pub wanted_yes : (r : Replay) (line : LogLine) (k vertices faces : ℕ) → line ≡ MeshLine k vertices faces → (wanted : Bool) → wanted ≡ is_wanted only k → wanted ≡ true
+      → wanted_at only to r line ≡ (file_name to.prefix k, mesh_text to.decimals r.mesh) ∷ []
+  wanted_yes r line k vertices faces is wanted wanted_is is_so =
+      let file : NamedTexts = (file_name to.prefix k, mesh_text to.decimals r.mesh) ∷ [] in
+      ap (wanted_at only to r) is ∙ ap (λ (b : Bool). if b then file else []) (sym wanted_is ∙ is_so)
 
   one_or_none : (b : Bool) (file : List ℕ × List ℕ) → length (if b then file ∷ [] else []) ≤ 1
   one_or_none true file = omega arith

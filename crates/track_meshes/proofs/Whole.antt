@@ -1,10 +1,10 @@
 -- The whole of a replay from its parts.
-use Rattle.std.proofs.Common.{◌≡◌, ◌⊎◌, inl, inr, ℕ, List, [], Option, Some, None, Result, Ok, Err, IfOk, refl, ap, sym, ◌∙◌, subst}
+use Rattle.std.proofs.Common.{◌≡◌, ◌⊎◌, inl, inr, ℕ, List, [], Option, Some, Result, Ok, Err, IfOk, refl, ap, sym, ◌∙◌, subst}
 use Rattle.std.specs.Prelude.{IsErr}
 use Rattle.mesh_journal.specs.Journal.{mesh_in}
 use Rattle.log_text.specs.declared.LogLine.{LogLine}
 use Rattle.outside_io.specs.declared.stop.Stop.{Stop}
-use Rattle.outside_io.specs.declared.stop.Stop.TheVariants.{NoMemory, DeskFault, SinkFault}
+use Rattle.outside_io.specs.declared.stop.Stop.TheVariants.{SinkFault}
 use Rattle.outside_io.specs.Outside.{Around, HasCauses, OnlyLooks, holds_of}
 use Rattle.outside_io.specs.Sink.{appended, AppendsPart}
 use Rattle.outside_io.specs.World.{World, Contents}

@@ -1,5 +1,5 @@
 -- Files are stored, one after another, and where that stops.
-use Rattle.std.specs.Prelude.{◌≡◌, ◌≢◌, ◌⊎◌, ℕ, List, [], ◌∷◌, ◌++◌, length, Result, Ok, Err}
+use Rattle.std.specs.Prelude.{◌≡◌, ◌≢◌, ◌⊎◌, ℕ, List, ◌∷◌, ◌++◌, length, Result, Ok, Err}
 use Rattle.outside_io.specs.Desk.{SameBut}
 use Rattle.outside_io.specs.Outside.{Around, Counts, holds_of}
 use Rattle.outside_io.specs.Sink.{AppendsPart}
@@ -32,7 +32,8 @@ pub record FailsAtNext (texts : NamedTexts) (old new : Contents) : Type 0 where
   pub others : SameBut name (stored done old.files) new.files
   pub written : new.written ≡ old.written
 
--- it stops before all of these are stored, or behind the last of them, and nothing is written
+-- it stops before the text that is written behind these: memory was wanting, or the desk failed, behind the first of them, or the desk
+-- failed at one; the sink did not fail
 abbrev pub StopsStoring : Stop → NamedTexts → Contents → Contents → Type 0
 StopsStoring NoMemory texts old new = StoresFirst texts old new
 StopsStoring DeskFault texts old new = StoresFirst texts old new ⊎ FailsAtNext texts old new

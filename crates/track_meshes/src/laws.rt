@@ -1,12 +1,18 @@
 //! Laws of replays that store. Each is the contract of a function that does nothing.
-ghost use Rattle.std.specs.Prelude.{◌≡◌, List, None};
+ghost use Rattle.std.specs.Prelude.{◌≡◌, List, None, Ok};
 ghost use Rattle.log_text.specs.declared.LogLine.{LogLine};
 ghost use Rattle.log_replay.specs.Replay.{Replay};
+ghost use Rattle.outside_io.specs.World.{World};
+ghost use Rattle.track_input.specs.Words.{ReplayNames};
 ghost use Rattle.track_engine.specs.Saved.{Target, files_of};
 ghost use Rattle.track_meshes.specs.Wanted.{wanted_of};
+ghost use Rattle.track_meshes.specs.Headline.{Replays};
+ghost use Rattle.track_meshes.specs.Laws.{HoldsAllMeshes};
 
-/// Where no number is given, a replay stores the files that the lines of the log name, which are those that a run stored that wrote these
-/// lines: under the same names, in the same order, byte for byte.
-pub fn all_are_those_saved()
-    ensures { (to : Target) (r : Replay) (lines : List LogLine) → wanted_of None to r lines ≡ files_of to r lines }
+/// Where no number is given, a replay that comes to its end and refuses nothing has stored the files that the lines of the log name. They
+/// are those that a run stored that wrote these lines: under the same names, in the same order, byte for byte.
+pub fn all_meshes_are_stored()
+    ensures lines { (to : Target) (r : Replay) (lines : List LogLine) → wanted_of None to r lines ≡ files_of to r lines }
+    ensures desk { (names : ReplayNames) (old new : World) → names.only ≡ None → Replays names (Ok None) old new →
+        HoldsAllMeshes names old new }
 {}

@@ -1,10 +1,8 @@
-use Rattle.std.proofs.Common.{◌≡◌, sym, subst, ◌<◌, ◌^◌, List, length}
+use Rattle.std.proofs.Common.{sym, subst, ◌<◌, ◌^◌, List, length}
 use Rattle.std.proofs.lemmas.Result.{err_from_is_err_and}
 use Rattle.mesh_journal.specs.Journal.{mesh_in}
 use Rattle.log_text.specs.declared.LogLine.{LogLine}
 use Rattle.track_input.specs.Named.{replay_names}
-use Rattle.track_replay.specs.declared.Prepared.{Prepared}
-use Rattle.track_replay.specs.declared.Prepared.TheVariants as prepared
 use Rattle.track_replay.specs.Preparing.{IsPrepared}
 use Rattle.track_meshes.specs.Headline.{target_in, ReplaysLines}
 use Rattle.track_meshes.proofs.Whole.{replays_stopped, replays_refused, replays_taken}

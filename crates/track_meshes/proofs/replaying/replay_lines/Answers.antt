@@ -1,4 +1,4 @@
-use Rattle.std.proofs.Common.{◌+◌, Ok, Err, refl, ap, sym, subst, arith}
+use Rattle.std.proofs.Common.{Ok, Err, refl, ap, sym, subst, arith}
 use Rattle.std.proofs.lemmas.Result.{err_from_is_err_and}
 use Rattle.mesh_journal.specs.Journal.{mesh_in}
 use Rattle.log_run.specs.Laws.{IsValidState}

@@ -1,6 +1,5 @@
 use Rattle.std.proofs.Common.{List, ℕ, ◌∙◌, subst}
 use Rattle.std.proofs.lemmas.Result.{err_from_is_err_and}
-use Rattle.obj_text.specs.Written.{mesh_text}
 use Rattle.outside_io.specs.Outside.{Stores}
 use Rattle.track_engine.specs.Saved.{file_name}
 use Rattle.track_meshes.proofs.Storings.{store_unremembered}
