@@ -2,6 +2,7 @@ mod Lines
 mod Effects
 mod Jobs
 mod Measured
+mod Replayed
 mod Scaffolds
 mod Reached
 mod Certified

@@ -1,4 +1,5 @@
 pub mod Fitting
 pub mod Measured
+pub mod Replayed
 pub mod Proved
 pub mod OneLog

@@ -4,6 +4,7 @@ ghost use Rattle.track_engine.specs.Answered.{known};
 ghost use Rattle.log_fits.specs.Fitting.{LogsOfMeshesFit, LogsOfJobsFit};
 ghost use Rattle.log_fits.specs.Measured.{LogsOfRunsAreMeasured, MeshLinesTell};
 ghost use Rattle.log_fits.specs.OneLog.{JobsHaveOneLog};
+ghost use Rattle.log_fits.specs.Replayed.{LogsOfRunsAreReplayed, MeshesOfRunsAreStoredAgain};
 ghost use Rattle.log_fits.specs.Proved.{LogsOfRunsAreProved, ProofsOfRunsAreVerified};
 
 use grid_base::{Point, Shift};
@@ -42,6 +43,16 @@ pub fn logs_of_runs_are_proved<F: Fn(u8, Point) -> Shift, G: Fn(Point) -> Band>(
 pub fn proofs_of_runs_are_verified<F: Fn(u8, Point) -> Shift, G: Fn(Point) -> Band>()
     ensures { (fields : StoredFields F) (sizing : G) →
         ProofsOfRunsAreVerified (known F.Fn fields G.Fn sizing) }
+{}
+
+/// The whole log that a run wrote of a clear mesh, no longer than a text may be, is replayed to its end, from the same mesh and with the same
+/// decimals: `replay` is done, or finds no memory, where neither side fails. The meshes that it then stores, where no one of them is asked
+/// for, are those that the run stored by that log, byte for byte, under the prefix of the replay.
+pub fn logs_of_runs_are_replayed<F: Fn(u8, Point) -> Shift, G: Fn(Point) -> Band>()
+    ensures replayed { (fields : StoredFields F) (sizing : G) →
+        LogsOfRunsAreReplayed (known F.Fn fields G.Fn sizing) }
+    ensures meshes { (fields : StoredFields F) (sizing : G) →
+        MeshesOfRunsAreStoredAgain (known F.Fn fields G.Fn sizing) }
 {}
 
 /// Where each stored field has one answer for each number and point, and the sizing has one for each point, a job of which all directives

@@ -1,5 +1,5 @@
 mod Storings
-mod WantedLines
+pub mod WantedLines
 mod SoFar
 mod Whole
 mod AllStored
