@@ -279,6 +279,14 @@ impl Surface for HalfMesh {
         faces_near_of_all(&self.now, &at, into)
     }
 
+    /// Makes nothing ready: each live face is looked at. What is buried stays, to be raised again.
+    fn index(&mut self)
+        ensures mesh { mesh_in self.new ≡ mesh_in self.old }
+        ensures kept { kept_in self.new ≡ kept_in self.old }
+        ensures buried { (state_in self.new).buried ≡ (state_in self.old).buried }
+        ensures spare { spare_in self.old ≤ spare_in self.new }
+    {}
+
     fn add_vertex(&mut self, p: Point) -> Result<VertexId, AddFault>
         ensures id { IfOk result (λ v. v ≡ (mesh_in self.old).next_vertex) }
         ensures ok { OnOk result (mesh_in self.new ≡ with_vertex (mesh_in self.old) p) }

@@ -74,6 +74,6 @@ pub(crate) fn is_lawful<S: Surface>(
     match *call {
         Call::Make { act } => is_allowed(alloc, surface, &act),
         Call::BackTo { nth } => Ok(nth < marks.len()),
-        Call::Ask { .. } | Call::MakeMark | Call::Settle => Ok(true),
+        Call::Ask { .. } | Call::Index | Call::MakeMark | Call::Settle => Ok(true),
     }
 }

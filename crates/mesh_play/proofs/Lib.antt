@@ -1,2 +1,3 @@
 pub mod PlayMarks
+pub mod Plays
 pub mod FreshFaces

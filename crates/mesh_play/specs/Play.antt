@@ -1,5 +1,5 @@
 -- What a list of calls answers, whichever way the mesh is kept.
-use Rattle.std.specs.Prelude.{⊤, ◌≡◌, ℕ, ◌+◌, ◌<◌, ◌==◌, ◌||◌, Bool, if◌then◌else◌, List, [], ◌∷◌, ◌++◌, map, take, length, slice_get, slice_index_or, Some}
+use Rattle.std.specs.Prelude.{⊤, ◌≡◌, ◌⊎◌, ℕ, ◌+◌, ◌<◌, ◌==◌, ◌||◌, Bool, if◌then◌else◌, List, [], ◌∷◌, ◌++◌, map, take, length, slice_get, slice_index_or, Some}
 use Rattle.std.specs.Option.{unwrap_or, option_map}
 use Rattle.std.specs.FinMap as finite
 use Rattle.grid_base.specs.declared.TheConstants.{VERTICES_MAX, FACES_MAX, ID_MAX}
@@ -12,7 +12,7 @@ use Rattle.mesh_base.specs.Changes.{corners_of, corner_list, with_vertex, with_f
 use Rattle.mesh_base.specs.Given.{empty_mesh}
 use Rattle.mesh_base.specs.Kept.{MarkHolds}
 use Rattle.mesh_play.specs.declared.calls.Call.{Call}
-use Rattle.mesh_play.specs.declared.calls.Call.TheVariants.{Ask, Make, MakeMark, BackTo, Settle}
+use Rattle.mesh_play.specs.declared.calls.Call.TheVariants.{Ask, Make, Index, MakeMark, BackTo, Settle}
 use Rattle.mesh_play.specs.declared.calls.Question.{Question}
 use Rattle.mesh_play.specs.declared.calls.Question.TheVariants.{CountVertices, CountFaces, NextVertex, NextFace, VertexAfter, FaceAfter, PointOf, IsSolid, CornersOf, CountRuns, RunFace, FacesAt, FacesNear}
 use Rattle.mesh_play.specs.declared.calls.Act.{Act}
@@ -121,6 +121,7 @@ IsAllowed m (MakeSolid v) = IsLiveVertex m v
 abbrev pub after : Played → Call → Played
 after s (Ask question) = s
 after s (Make act) = record s { mesh = acted s.mesh act }
+after s Index = s
 after s MakeMark = record s { marked = s.marked ++ s.mesh ∷ [] }
 after s (BackTo nth) = record { mesh = slice_index_or s.marked nth s.mesh; marked = take nth s.marked }
 after s Settle = record s { marked = [] }
@@ -129,6 +130,7 @@ after s Settle = record s { marked = [] }
 abbrev pub answer_of : Played → Call → Answer
 answer_of s (Ask question) = told s.mesh question
 answer_of s (Make act) = act_answer s.mesh act
+answer_of s Index = Done
 answer_of s MakeMark = Done
 answer_of s (BackTo nth) = Done
 answer_of s Settle = Done
@@ -137,6 +139,7 @@ answer_of s Settle = Done
 abbrev pub IsLawful : Played → Call → Type 0
 IsLawful s (Ask question) = ⊤
 IsLawful s (Make act) = IsAllowed s.mesh act
+IsLawful s Index = ⊤
 IsLawful s MakeMark = ⊤
 IsLawful s (BackTo nth) = nth < length s.marked
 IsLawful s Settle = ⊤
@@ -155,6 +158,17 @@ answers_of s (call ∷ calls) = answer_of s call ∷ answers_of (after s call) c
 abbrev pub after_all : Played → List Call → Played
 after_all s [] = s
 after_all s (call ∷ calls) = after_all (after s call) calls
+
+-- so many of the calls were made and no more, since memory was wanting for the next one; they left this mesh
+pub record IsStopped (s : Played) (calls : List Call) (left : Mesh) : Type 0 where
+  pub made : ℕ
+  pub next : made < length calls
+  pub mesh : left ≡ (after_all s (take made calls)).mesh
+
+-- the calls of the one mesh were stopped, and none was made of the other; or the one has made all, and those of the other
+-- were stopped
+abbrev pub IsEitherStopped : Played → List Call → Mesh → Mesh → Type 0
+IsEitherStopped s calls one other = (IsStopped s calls one × (other ≡ s.mesh)) ⊎ ((one ≡ (after_all s calls).mesh) × IsStopped s calls other)
 
 -- the marks hold, and each leaves those before it
 pub record AreMarks (beyond : ℕ) (kept : List Mesh) (marks : List Mark) : Type 0 where

@@ -8,6 +8,8 @@ pub enum Call {
     Ask { question: Question },
     /// Changes the mesh.
     Make { act: Act },
+    /// Makes ready for many questions after the faces near extents.
+    Index,
     /// Makes a mark.
     MakeMark,
     /// Goes back to a mark, which is named by its place, from 0, among those that were made and not taken back. The return

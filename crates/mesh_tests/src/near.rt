@@ -27,7 +27,7 @@ const BOXES: [([[i32; 3]; 2], &[u32]); 8] = [
 // The greatest coordinate of a point.
 const M: i32 = 268_435_456;
 
-const HERE: [[i32; 3]; 2] = [[7, 0, 0], [8, 0, 0]];
+pub(crate) const HERE: [[i32; 3]; 2] = [[7, 0, 0], [8, 0, 0]];
 
 const CORNER: [[i32; 3]; 2] = [[8, 8, 8], [9, 9, 9]];
 
@@ -36,7 +36,7 @@ fn point(p: [i32; 3], rt: &impl Abort) -> Point {
 }
 
 // The box from one corner to another.
-fn extent(at: [[i32; 3]; 2], rt: &impl Abort) -> Extent {
+pub(crate) fn extent(at: [[i32; 3]; 2], rt: &impl Abort) -> Extent {
     let low = point(at[0], rt);
     let high = point(at[1], rt);
     Extent::around(low.wide(), high.wide())

@@ -1,14 +1,17 @@
 //! A list of acts, each played on a plain mesh and on half-edges, taken back and played again.
-ghost use Rattle.std.specs.Prelude.{◌≡◌, OnOk, IfOk, true};
+ghost use Rattle.std.specs.Prelude.{◌≡◌, OnOk, IfOk, None, length, true};
 ghost use Rattle.mesh_base.specs.Changes.{IsFresh};
+ghost use Rattle.mesh_base.specs.Given.{mesh_of};
+ghost use Rattle.mesh_plain.specs.Shape.{shape_fault};
 ghost use Rattle.mesh_play.specs.Play.{IsAllowed};
 
 use crate::meshes::tetrahedron;
+use crate::near::{HERE, extent};
 use grid_base::{NoMemory, Point};
 use half_mesh::HalfMesh;
 use mesh_journal::JournalMesh;
-use mesh_plain::{FaceId, FaceIds, PlainMesh, Surface, VertexId, shape};
-use mesh_play::{Act, Answer, Answers, Call, Question, play, play_both};
+use mesh_plain::{FaceId, FaceIds, MeshLists, PlainMesh, Surface, VertexId, shape};
+use mesh_play::{Act, Answer, Answers, Call, Question, play, play_both, play_three};
 use std::alloc::Global;
 use std::process::Abort;
 use std::test::Fail;
@@ -230,6 +233,16 @@ pub(crate) fn is_allowed<S: Surface>(
     Ok(allowed)
 }
 
+/// Whether the act surely meets its condition on the mesh that lists give.
+fn is_allowed_at_first(alloc: Global, lists: &MeshLists, act: &Act) -> Result<bool, NoMemory>
+    requires { shape_fault (length lists.now.points) lists.now.faces ≡ None }
+    ensures { IfOk result (λ yes. yes ≡ true
+        → IsAllowed (mesh_of lists.now.points lists.now.faces) act.now) }
+{
+    let mesh = PlainMesh::of(alloc, lists)?;
+    is_allowed(alloc, &mesh, act)
+}
+
 fn assert_told(rt: &impl Abort, answers: &Answers, wants: &[Want]) {
     assert_eq!(rt; answers.len(), wants.len());
     for (i, (answer, want)) in answers.as_slice().iter().zip(wants).enumerate() {
@@ -329,6 +342,42 @@ fn plain_meshes_and_half_edges_answer_alike(rt: HostRuntime) -> Result<(), Fail>
     for row in &ROWS {
         play_row(&rt, rt.alloc(), &mut plain, &mut half, row)?;
     }
+    Ok(())
+}
+
+#[test]
+fn faces_near_are_the_same_of_each_mesh_made_ready(rt: HostRuntime) -> Result<(), Fail> {
+    let lists = tetrahedron(rt.alloc())?;
+    assert!(rt; shape(rt.alloc(), &lists).is_ok());
+    let act = Act::DropFace { f: FaceId(2) };
+    assert!(rt; is_allowed_at_first(rt.alloc(), &lists, &act)?);
+    let near = Question::FacesNear {
+        at: extent(HERE, &rt),
+    };
+    let calls = [
+        Call::Index,
+        Call::MakeMark,
+        Call::Make { act },
+        Call::Ask { question: near },
+        Call::Index,
+        Call::BackTo { nth: 0 },
+        Call::Ask { question: near },
+    ];
+    let all = Want::Faces([Some(FaceId(1)), Some(FaceId(2)), Some(FaceId(3)), None]);
+    let left = Want::Faces([Some(FaceId(1)), Some(FaceId(3)), None, None]);
+    let wants = [
+        Want::Done,
+        Want::Done,
+        Want::Done,
+        left,
+        Want::Done,
+        Want::Done,
+        all,
+    ];
+    let told = play_three(rt.alloc(), &lists, &calls)?;
+    assert_told(&rt, &told.plain, &wants);
+    assert_told(&rt, &told.half, &wants);
+    assert_told(&rt, &told.journal, &wants);
     Ok(())
 }
 

@@ -13,18 +13,18 @@ returns-in-Make-clause-after g c =
 
 pub returns-in-Make-clause-marks : goal.returns-in-Make-clause-marks
 returns-in-Make-clause-marks g c =
-    on_ok_weaker c.do_act.result (λ _. marks_along g.S.Surface.beyond _ _ c.args.marks.now.items c.requires.marks c.do_act.ensures.marks) c.do_act.ensures.mesh
+    marks_along g.S.Surface.beyond _ _ c.args.marks.now.items c.requires.marks c.do_act.ensures.marks
 
-pub returns-in_ok-push-in-MakeMark-clause-after : goal.returns-in_ok-push-in-MakeMark-clause-after
-returns-in_ok-push-in-MakeMark-clause-after g c =
+pub returns-in_ok-mark-in-MakeMark-clause-after : goal.returns-in_ok-mark-in-MakeMark-clause-after
+returns-in_ok-mark-in-MakeMark-clause-after g c =
     let made = c.in_ok-mark-in-MakeMark in
-    rw (c.in-MakeMark.is, c.in_ok-push-in-MakeMark.ensures.items)
+    rw (c.in-MakeMark.is, c.push_reserved.ensures.items, c.reserve.ensures.items)
     (same_played _ _ _ _ made.ensures.mesh (marked_made g.S.Surface.beyond _ _ c.args.marks.now.items made.mark _ c.requires.marks made.ensures.marks made.ensures.stands))
 
-pub returns-in_ok-push-in-MakeMark-clause-marks : goal.returns-in_ok-push-in-MakeMark-clause-marks
-returns-in_ok-push-in-MakeMark-clause-marks g c =
+pub returns-in_ok-mark-in-MakeMark-clause-marks : goal.returns-in_ok-mark-in-MakeMark-clause-marks
+returns-in_ok-mark-in-MakeMark-clause-marks g c =
     let made = c.in_ok-mark-in-MakeMark in
-    rw c.in_ok-push-in-MakeMark.ensures.items (marks_made g.S.Surface.beyond _ _ c.args.marks.now.items made.mark c.requires.marks made.ensures.marks made.ensures.holds made.ensures.under)
+    rw (c.push_reserved.ensures.items, c.reserve.ensures.items) (marks_made g.S.Surface.beyond _ _ c.args.marks.now.items made.mark c.requires.marks made.ensures.marks made.ensures.holds made.ensures.under)
 
 pub returns-in-BackTo-clause-after : goal.returns-in-BackTo-clause-after
 returns-in-BackTo-clause-after g c =
