@@ -1,0 +1,17 @@
+use Rattle.std.proofs.Common.{◌≡◌, ◌≤◌, ◌+◌, length, drop, reverse}
+use Rattle.mesh_faults.specs.Doubled.{HasFirsts}
+use Rattle.mesh_faults.specs.ShapeFaults.{all_doubled_from}
+use Rattle.mesh_faults.proofs.Turns.{AreSmallFaces}
+use Rattle.mesh_faults.proofs.doubled.doubled_backward.Given as goal
+
+-- the faces from the place i on are seen
+abbrev pub invariant-loop-i : goal.invariant-loop-i
+invariant-loop-i l = record {
+  within : l.i ≤ length l.faces;
+  small : AreSmallFaces (drop l.i l.faces);
+  firsts : HasFirsts l.seen (l.i + 1) (drop l.i l.faces);
+  found : reverse l.list.items ≡ all_doubled_from (l.i + 1) (drop l.i l.faces);
+}
+
+abbrev pub decreases-loop-i : goal.decreases-loop-i
+decreases-loop-i l = l.i

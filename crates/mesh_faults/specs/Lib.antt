@@ -1,0 +1,5 @@
+pub mod ShapeFaults
+pub mod Listing
+pub mod Doubled
+pub mod Balance
+pub mod MeetingPairs

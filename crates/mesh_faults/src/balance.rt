@@ -1,0 +1,206 @@
+//! The two vertices between which faces do not run as often one way as the other.
+ghost use Rattle.std.specs.Prelude.{ℕ, ◌≡◌, ◌≤◌, ◌<◌, ◌+◌, ◌==◌, ◌&&◌, ◌||◌, not, length, drop, map, IsOk, IfOk};
+ghost use Rattle.std.specs.List.{filter};
+ghost use Rattle.std.specs.List.Sorted.{IsNonDecreasingBy, IsStrictlySortedBy};
+ghost use Rattle.mesh_base.specs.Sides.{follows};
+ghost use Rattle.mesh_base.specs.SideList.{edge_cmp, side_rank, has_side, HasSmallEnds};
+ghost use Rattle.mesh_base.specs.Changes.{corners_of};
+ghost use Rattle.mesh_plain.specs.Shape.{runs_in};
+ghost use Rattle.mesh_plain.specs.Balance.{times, HasRuns, AddsRuns};
+ghost use Rattle.mesh_faults.specs.ShapeFaults.{unbalanced_fault, unbalanced_pairs};
+ghost use Rattle.mesh_faults.specs.Listing.{Adds};
+ghost use Rattle.mesh_faults.specs.Balance.{AreSmall, IsInOrder, differs, Walks, are_vertices, HasUnbalanced};
+
+use crate::listing::{is_vertex, put_if};
+use grid_base::NoMemory;
+use mesh_base::ShapeFault;
+use std::alloc::Global;
+
+// A side of a face by the numbers of its ends, the smaller first.
+type Side = (u32, u32);
+
+// Sides by how they run: from the smaller end to the larger, or back.
+#[derive(Drop)]
+struct Sides {
+    up: Vec<Side>,
+    down: Vec<Side>,
+}
+
+// Puts a side at the end of the list that it belongs to, unless its ends are one.
+fn put_side(sides: &mut Sides, from: u32, to: u32) -> Result<(), NoMemory>
+    ensures up { IsOk result → AddsRuns sides.old.up.items sides.new.up.items
+        (λ u v. from == u && to == v) }
+    ensures down { IsOk result → AddsRuns sides.old.down.items sides.new.down.items
+        (λ u v. from == v && to == u) }
+    ensures small_up { IsOk result → AreSmall sides.old.up.items → AreSmall sides.new.up.items }
+    ensures small_down { IsOk result →
+        AreSmall sides.old.down.items → AreSmall sides.new.down.items }
+{
+    if from < to {
+        sides.up.push((from, to))?;
+    } else if to < from {
+        sides.down.push((to, from))?;
+    }
+    Ok(())
+}
+
+// Puts the three sides of a face at the ends of the lists.
+fn put_sides(sides: &mut Sides, f: &[u32; 3]) -> Result<(), NoMemory>
+    ensures up { IsOk result → AddsRuns sides.old.up.items sides.new.up.items
+        (λ u v. follows (corners_of f.now) u v) }
+    ensures down { IsOk result → AddsRuns sides.old.down.items sides.new.down.items
+        (λ u v. follows (corners_of f.now) v u) }
+    ensures small_up { IsOk result → AreSmall sides.old.up.items → AreSmall sides.new.up.items }
+    ensures small_down { IsOk result →
+        AreSmall sides.old.down.items → AreSmall sides.new.down.items }
+{
+    put_side(sides, f[0], f[1])?;
+    put_side(sides, f[1], f[2])?;
+    put_side(sides, f[2], f[0])
+}
+
+// The sides of the faces.
+fn sides_of(alloc: Global, faces: &[[u32; 3]]) -> Result<Sides, NoMemory>
+    ensures up { IfOk result (λ sides. HasRuns sides.up.items (λ u v. runs_in faces.now u v)) }
+    ensures down { IfOk result (λ sides. HasRuns sides.down.items (λ u v. runs_in faces.now v u)) }
+    ensures small_up { IfOk result (λ sides. AreSmall sides.up.items) }
+    ensures small_down { IfOk result (λ sides. AreSmall sides.down.items) }
+{
+    // Room for all of them where as many run up as down, as they do in a closed mesh.
+    let room = faces.len().saturating_add(faces.len() / 2);
+    let mut sides = Sides {
+        up: Vec::with_capacity(alloc, room)?,
+        down: Vec::with_capacity(alloc, room)?,
+    };
+    for f in faces {
+        put_sides(&mut sides, f)?;
+    }
+    Ok(sides)
+}
+
+// A number that is smaller for the earlier of two sides.
+fn rank(side: Side) -> u64
+    ensures { result ≡ side_rank side }
+{
+    let (u, v) = side;
+    (u as u64) * (1 << 32) + v as u64
+}
+
+// Puts sides in order.
+fn put_in_order(sides: &mut Vec<Side>)
+    ensures order { IsNonDecreasingBy side_rank sides.new.items }
+    ensures same { (u v : ℕ) → times sides.new.items u v ≡ times sides.old.items u v }
+{
+    sides.sort_unstable_by_key(|side| rank(*side));
+}
+
+// Walks two lists in order one step: past the earlier of their next sides, which is put at the end of the list, or past both where they
+// are the same.
+fn walk(
+    one: &[Side],
+    other: &[Side],
+    i: usize,
+    j: usize,
+    list: &mut Vec<Side>,
+) -> Result<(usize, usize), NoMemory>
+    requires i_within { i < length one.now }
+    requires j_within { j < length other.now }
+    requires one_order { IsInOrder one.now }
+    requires other_order { IsInOrder other.now }
+    ensures { IfOk result (Walks one.now other.now i j list.old.items list.new.items) }
+{
+    let (s, t) = (one[i], other[j]);
+    if rank(s) < rank(t) {
+        list.push(s)?;
+        return Ok((i + 1, j));
+    }
+    if rank(t) < rank(s) {
+        list.push(t)?;
+        return Ok((i, j + 1));
+    }
+    Ok((i + 1, j + 1))
+}
+
+// The sides that two lists in order do not have equally often, in any order, and perhaps some of them more than once.
+fn differing(alloc: Global, one: &[Side], other: &[Side]) -> Result<Vec<Side>, NoMemory>
+    requires one_order { IsInOrder one.now }
+    requires other_order { IsInOrder other.now }
+    ensures { IfOk result
+        (λ list. (u v : ℕ) → has_side list.items u v ≡ differs one.now other.now u v) }
+{
+    let mut list = Vec::new(alloc);
+    let mut i = 0;
+    let mut j = 0;
+    while i < one.len() && j < other.len() {
+        let (next_i, next_j) = walk(one, other, i, j, &mut list)?;
+        i = next_i;
+        j = next_j;
+    }
+    list.extend_from_slice(&one[i..])?;
+    list.extend_from_slice(&other[j..])?;
+    Ok(list)
+}
+
+// Puts sides in order, each of them once.
+fn put_once(sides: &mut Vec<Side>)
+    requires { HasSmallEnds sides.old.items }
+    ensures order { IsStrictlySortedBy edge_cmp sides.new.items }
+    ensures same { (u v : ℕ) → has_side sides.new.items u v ≡ has_side sides.old.items u v }
+{
+    sides.sort_unstable_by_key(|side| rank(*side));
+    sides.dedup();
+}
+
+// Each two numbers between which the faces do not run as often one way as the other, the smaller first, in order.
+fn unbalanced(alloc: Global, faces: &[[u32; 3]]) -> Result<Vec<Side>, NoMemory>
+    ensures order { IfOk result (λ list. IsStrictlySortedBy edge_cmp list.items) }
+    ensures sides { IfOk result (λ list. HasUnbalanced list.items faces.now) }
+{
+    let mut sides = sides_of(alloc, faces)?;
+    put_in_order(&mut sides.up);
+    put_in_order(&mut sides.down);
+    let mut list = differing(alloc, &sides.up, &sides.down)?;
+    put_once(&mut list);
+    Ok(list)
+}
+
+// Whether both ends are vertices, of `n`.
+fn are_vertices(n: usize, side: Side) -> bool
+    ensures { result ≡ are_vertices n side }
+{
+    let (from, to) = side;
+    is_vertex(n, from) && is_vertex(n, to)
+}
+
+// The fault of the ends of a side.
+fn unbalanced_fault(side: Side) -> ShapeFault
+    ensures { result ≡ unbalanced_fault side }
+{
+    let (from, to) = side;
+    ShapeFault::Unbalanced { from, to }
+}
+
+// Puts those of the sides whose ends are vertices, of `n`, at the end of the list.
+fn put_between(n: usize, sides: &[Side], faults: &mut Vec<ShapeFault>) -> Result<(), NoMemory>
+    ensures { Adds result faults.old faults.new
+        (map unbalanced_fault (filter (are_vertices n) sides.now)) }
+{
+    for side in sides {
+        put_if(are_vertices(n, *side), unbalanced_fault(*side), faults)?;
+    }
+    Ok(())
+}
+
+/// Puts each two vertices, of `n`, between which the faces do not run as often one way as the other, at the end of the list, in order.
+pub(crate) fn put_unbalanced(
+    alloc: Global,
+    n: usize,
+    faces: &[[u32; 3]],
+    faults: &mut Vec<ShapeFault>,
+) -> Result<(), NoMemory>
+    ensures { Adds result faults.old faults.new
+        (map unbalanced_fault (unbalanced_pairs n faces.now)) }
+{
+    let sides = unbalanced(alloc, faces)?;
+    put_between(n, &sides, faults)
+}

@@ -1,0 +1,11 @@
+//! All that is wrong with a mesh: each fault of the shape of its lists, and each edge and face that meet and share no vertex.
+#![tactic(auto)]
+
+mod balance;
+mod doubled;
+mod faults;
+mod listing;
+mod meeting;
+
+pub use faults::shape_faults;
+pub use meeting::meeting_pairs;

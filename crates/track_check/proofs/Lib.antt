@@ -1,0 +1,5 @@
+pub mod Listed
+pub mod Sources
+pub mod Firsts
+pub mod Caused
+pub mod Ended

@@ -1,0 +1,51 @@
+-- Lists of faults, and their lines.
+use Rattle.std.proofs.Common.{◌≡◌, ℕ, zero, suc, ◌+◌, ◌<◌, ◌≤◌, List, [], ◌∷◌, ◌++◌, length, map, take, drop, get_or, slice_get, option_map, add-one, append_assoc, Some, None, refl, sym, ap, ◌∙◌, arith}
+use Rattle.std.specs.List.{flat_map}
+use Rattle.std.specs.declared.option.Option.{Option}
+use Rattle.std.proofs.Math.Seq.{drop-cons}
+use Rattle.std.proofs.lemmas.List.{append-nil, drop_all, length-map}
+use Rattle.grid_base.specs.Points.{position_of}
+use Rattle.mesh_base.specs.declared.MeshLists.{MeshLists}
+use Rattle.mesh_base.specs.declared.ShapeFault.{ShapeFault}
+use Rattle.mesh_base.specs.Given.{mesh_of}
+use Rattle.mesh_faults.specs.ShapeFaults.{shape_faults}
+use Rattle.mesh_faults.specs.MeetingPairs.{meeting_pairs}
+use Rattle.obj_text.specs.Views.{lists_view}
+use Rattle.track_input.proofs.ReadLemmas.{same_mesh}
+use Rattle.track_check.specs.declared.fault.Fault.{Fault}
+use Rattle.track_check.specs.Check.{shape_as_fault, pair_as_fault, faults_by, faults_in, fault_line}
+
+-- ---- one line more
+module _ (faults : List Fault) where
+  pub line_more : (i : ℕ) (x : Fault) (old new whole : List ℕ) → i < length faults → x ≡ get_or faults i x → new ≡ old ++ fault_line x → old ++ flat_map fault_line (drop i faults) ≡ whole → new ++ flat_map fault_line (drop (i + 1) faults) ≡ whole
+  line_more i x old new whole h is put so_far =
+      ap (λ l. l ++ flat_map fault_line (drop (i + 1) faults)) put
+      ∙ append_assoc old (fault_line x) (flat_map fault_line (drop (i + 1) faults))
+      ∙ ap (λ k. old ++ flat_map fault_line (x ∷ drop k faults)) (add-one i)
+      ∙ ap (λ y. old ++ flat_map fault_line (y ∷ drop (suc i) faults)) is
+      ∙ ap (λ l. old ++ flat_map fault_line l) (sym (drop-cons faults i x h))
+      ∙ so_far
+
+  pub lines_end : (i : ℕ) (text whole : List ℕ) → length faults ≤ i → text ++ flat_map fault_line (drop i faults) ≡ whole → text ≡ whole
+  lines_end i text whole h so_far = sym (append-nil text) ∙ ap (λ l. text ++ flat_map fault_line l) (sym (drop_all i faults h)) ∙ so_far
+
+-- ---- what is wrong with lists that were read
+same_faults : (lists : MeshLists) → faults_in (lists_view lists) ≡ faults_by (shape_faults (length lists.points) lists.faces) (mesh_of lists.points lists.faces)
+same_faults lists =
+    ap (λ n. faults_by (shape_faults n lists.faces) _) (length-map lists.points position_of)
+    ∙ ap (faults_by (shape_faults (length lists.points) lists.faces)) (same_mesh lists)
+
+pub with_shape : (lists : MeshLists) (found : List ShapeFault) → found ≡ shape_faults (length lists.points) lists.faces → 0 < length found → map shape_as_fault found ≡ faults_in (lists_view lists)
+with_shape lists found is some = by_found found some ∙ ap (λ l. faults_by l (mesh_of lists.points lists.faces)) is ∙ sym (same_faults lists)
+  where
+    by_found : (l : List ShapeFault) → 0 < length l → map shape_as_fault l ≡ faults_by l (mesh_of lists.points lists.faces)
+    by_found [] h = absurd (omega arith)
+    by_found (f ∷ fs) h = refl
+
+pub with_pairs : (lists : MeshLists) (found : List ShapeFault) → found ≡ shape_faults (length lists.points) lists.faces → found ≡ [] → map pair_as_fault (meeting_pairs (mesh_of lists.points lists.faces)) ≡ faults_in (lists_view lists)
+with_pairs lists found is none = ap (λ l. faults_by l (mesh_of lists.points lists.faces)) (sym none ∙ is) ∙ sym (same_faults lists)
+
+-- ---- the first of those that are told is the first of all
+pub first_taken : {A : Type 0} (n : ℕ) (xs : List A) → slice_get (take (suc n) xs) 0 ≡ slice_get xs 0
+first_taken n [] = refl
+first_taken n (x ∷ xs) = refl

@@ -1,0 +1,5 @@
+pub mod Check
+pub mod Finding
+pub mod Endings
+pub mod Causes
+pub mod Headline

@@ -1,0 +1,87 @@
+ghost use Rattle.std.specs.Prelude.{◌≤◌, length, IfOk};
+ghost use Rattle.grid_base.specs.declared.TheConstants.{TEXT_MAX, DECIMALS_MAX};
+ghost use Rattle.line_text.specs.Faults.{Gives};
+ghost use Rattle.obj_text.specs.Views.{lists_view};
+ghost use Rattle.outside_io.specs.Outside.{OnlyLooks};
+ghost use Rattle.track_input.specs.Named.{mesh_name};
+ghost use Rattle.track_convert.specs.Formats.{lists_in};
+ghost use Rattle.track_check.specs.Finding.{Finds, Reads};
+
+use grid_base::NoMemory;
+use line_text::ReadFault;
+use log_text::Refusal;
+use mesh_plain::{FileWord, MeshLists};
+use obj_text::read_obj;
+use other_text::{read_off, read_ply};
+use outside_io::{Fetched, Outside, Stop};
+use std::alloc::Global;
+use track_input::{Format, MeshFile, fetch_text};
+
+// What a mesh file gives.
+#[derive(Drop)]
+pub(crate) enum Found {
+    // The file is missing or too long, or its text is outside the grammar.
+    No(Refusal),
+    // Lists, of whatever shape.
+    Lists(MeshLists),
+}
+
+// Reads a text of a format.
+fn read_lists(
+    alloc: Global,
+    format: Format,
+    bytes: &[u8],
+    decimals: u8,
+) -> Result<MeshLists, ReadFault>
+    requires small { length bytes.now ≤ TEXT_MAX }
+    requires places { decimals ≤ DECIMALS_MAX }
+    ensures { Gives lists_view result (lists_in format decimals bytes.now) }
+{
+    match format {
+        Format::Obj => read_obj(alloc, bytes, decimals),
+        Format::Off => read_off(alloc, bytes, decimals),
+        Format::Ply => read_ply(alloc, bytes, decimals),
+    }
+}
+
+// What a text gives.
+fn read_all(alloc: Global, format: Format, bytes: &[u8], decimals: u8) -> Result<Found, NoMemory>
+    requires few { decimals ≤ DECIMALS_MAX }
+    requires small { length bytes.now ≤ TEXT_MAX }
+    ensures { IfOk result (Reads format decimals bytes.now) }
+{
+    match read_lists(alloc, format, bytes, decimals) {
+        Ok(lists) => Ok(Found::Lists(lists)),
+        Err(ReadFault::NoMemory) => Err(NoMemory),
+        Err(ReadFault::Text(fault)) => Ok(Found::No(Refusal::Mesh(fault))),
+    }
+}
+
+// Fetches a mesh file, and reads it, the points with so many decimals.
+pub(crate) fn find<O: Outside>(
+    alloc: Global,
+    mesh: MeshFile<'_>,
+    decimals: u8,
+    outside: &mut O,
+) -> Result<Found, Stop>
+    requires few { decimals ≤ DECIMALS_MAX }
+    ensures finds { let files = (O.around outside.old).world.holds.files in
+        IfOk result (Finds files (mesh_name mesh.entry) decimals) }
+    ensures looks { OnlyLooks (O.around outside.old) (O.around outside.new) result }
+{
+    let bytes = match fetch_text(alloc, outside, mesh.name)? {
+        Fetched::Bytes(bytes) => bytes,
+        Fetched::Absent => {
+            return Ok(Found::No(Refusal::Missing {
+                file: FileWord::Mesh,
+            }));
+        }
+        Fetched::TooLong(seen) => {
+            return Ok(Found::No(Refusal::Long {
+                file: FileWord::Mesh,
+                seen,
+            }));
+        }
+    };
+    Ok(read_all(alloc, mesh.format, &bytes, decimals)?)
+}
