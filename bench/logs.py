@@ -19,13 +19,13 @@ from job import cubes, put_mesh, squared_lengths, torus
 from there_and_back import steps_of
 
 
-def timed(program, words, folder, best_of):
-    """The least seconds and the most memory of a command, whose output is kept under its name."""
+def timed(program, words, folder, best_of, statuses=(0,)):
+    """The least seconds and the most memory of a command, whose output is kept under its name; None where it ends with none of these statuses."""
     least, most = math.inf, 0
     for _ in range(best_of):
         with open(os.path.join(folder, words[0]), "wb") as out:
             said = subprocess.run([sys.executable, "-S", "-c", ONE, "600", program, *words], cwd=folder, stdout=out, stderr=subprocess.PIPE, check=True).stderr.split()
-        if int(said[0]) != 0:
+        if int(said[0]) not in statuses:
             return None, None
         least, most = min(least, float(said[1])), max(most, int(said[2]) / 1024)
     return least, most

@@ -1,5 +1,5 @@
 //! The stored fields of the program: about the z axis, away from the origin, and towards it, each by a 64th of a coordinate.
-ghost use Rattle.std.specs.Prelude.{◌≡◌, ◌≤◌, IfSome, neg_ℤ, unsigned_abs};
+ghost use Rattle.std.specs.Prelude.{◌≡◌, ◌≤◌, IfSome, IsSome, neg_ℤ, unsigned_abs};
 ghost use Rattle.grid_base.specs.declared.TheConstants.{BOX};
 ghost use Rattle.grid_base.specs.Components.{FitWithin};
 ghost use Rattle.grid_base.specs.Points.{displacement_of};
@@ -13,9 +13,10 @@ use mesh_plain::FieldName;
 /// The greatest size of a component that a field answers, in units of the grid: a 64th of the box.
 pub(crate) const REACH: u32 = 4_194_304;
 
-/// The names of the fields, in the order of their numbers: `swirl`, `swell` and `shrink`.
+/// The names of the fields, in the order of their numbers: `swirl`, `swell` and `shrink`. They are always there.
 pub(crate) fn shipped_names() -> Option<ArrayVec<FieldName, FIELDS_MAX>>
-    ensures { IfSome result (λ names. names.items ≡ shipped) }
+    ensures some { IsSome result }
+    ensures names { IfSome result (λ names. names.items ≡ shipped) }
 {
     let mut names = ArrayVec::new();
     names.push(FieldName::new(b"swirl")?);
