@@ -103,6 +103,46 @@ fn a_motion_without_a_certificate_is_named(rt: HostRuntime) -> Result<(), Fail> 
 }
 
 #[test]
+fn a_log_is_replayed_and_each_store_fails_in_turn(rt: HostRuntime) -> Result<(), Fail> {
+    let alloc = rt.alloc();
+    let log = first_lines(alloc, 10)?;
+    let words = ["replay", "mesh.obj", "steps.txt", "t"];
+    let mut desk = desk_of(alloc, MESH, log.as_slice())?;
+    let mut out = sink_of(alloc)?;
+    assert_eq!(rt; answer(&words, &mut desk, &mut out, alloc)?, 0);
+    assert_eq!(rt; out.bytes(), b"replayed 2\n".as_slice());
+    assert_eq!(rt; desk.file("t-000000.obj"), Some(MESH));
+    assert_eq!(rt; desk.file("t-000001.obj"), Some(MOVED));
+    for k in 1..3_u64 {
+        let mut desk = MemoryDesk::new(alloc, Vec::new(alloc), vec![in alloc; k]?);
+        desk.put("mesh.obj", MESH)?;
+        desk.put("steps.txt", log.as_slice())?;
+        let mut out = sink_of(alloc)?;
+        assert_eq!(rt; answer(&words, &mut desk, &mut out, alloc)?, 3);
+        assert_eq!(rt; out.bytes(), b"".as_slice());
+        assert_eq!(rt; desk.file("t-000000.obj").is_some(), k == 2);
+        assert_eq!(rt; desk.file("t-000001.obj"), None);
+    }
+    Ok(())
+}
+
+#[test]
+fn a_mesh_that_is_not_closed_is_checked(rt: HostRuntime) -> Result<(), Fail> {
+    let alloc = rt.alloc();
+    let open = b"v 0 0 0\nv 4 0 0\nv 0 4 0\nv 0 0 4\nf 1 3 2\nf 1 2 4\nf 2 3 4\n".as_slice();
+    let mut desk = desk_of(alloc, open, STEPS)?;
+    let mut out = sink_of(alloc)?;
+    assert_eq!(rt;
+        answer(&["check", "mesh.obj"], &mut desk, &mut out, alloc)?,
+        7
+    );
+    let told =
+        b"shape unbalanced 1 3\nshape unbalanced 1 4\nshape unbalanced 3 4\nchecked 4 3 faults 3\n";
+    assert_eq!(rt; out.bytes(), told.as_slice());
+    Ok(())
+}
+
+#[test]
 fn each_write_fails_in_turn(rt: HostRuntime) -> Result<(), Fail> {
     let alloc = rt.alloc();
     for k in 0..10_usize {
