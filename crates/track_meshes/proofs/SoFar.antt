@@ -1,11 +1,11 @@
 -- The lines of a log that are replayed so far, and how it ends behind them.
-use Rattle.std.proofs.Common.{◌≡◌, inl, inr, ℕ, zero, ◌+◌, ◌-◌, ◌<◌, ◌≤◌, Bool, true, false, List, [], ◌∷◌, ◌++◌, append-nil, append_assoc, length, take, drop, get_or, Option, Some, None, Result, Ok, Err, IfOk, refl, ap, sym, ◌∙◌, subst, arith}
+use Rattle.std.proofs.Common.{◌≡◌, inl, inr, ℕ, ◌+◌, ◌-◌, ◌<◌, ◌≤◌, Bool, true, false, List, [], ◌∷◌, ◌++◌, append-nil, append_assoc, length, take, drop, get_or, Option, Some, None, Result, Ok, Err, IfOk, refl, ap, sym, ◌∙◌, subst, arith}
 use Rattle.std.specs.Prelude.{◌↔◌, IsTrue}
 use Rattle.std.proofs.lemmas.Bool.{false≢true}
 use Rattle.std.proofs.lemmas.List.{length-append, drop_all, drop_more}
 use Rattle.mesh_base.specs.Mesh.{Mesh}
 use Rattle.log_text.specs.declared.LogLine.{LogLine}
-use Rattle.log_replay.specs.Replay.{Replay, replayed, after, at_mesh}
+use Rattle.log_replay.specs.Replay.{Replay, after, at_mesh}
 use Rattle.log_run.specs.Laws.{IsValidState}
 use Rattle.log_run.specs.States.{LogState, with_line, without_lines}
 use Rattle.outside_io.specs.declared.stop.Stop.{Stop}
