@@ -1,9 +1,11 @@
 -- Lists of faults, and their lines.
-use Rattle.std.proofs.Common.{◌≡◌, ℕ, zero, suc, ◌+◌, ◌<◌, ◌≤◌, List, [], ◌∷◌, ◌++◌, length, map, take, drop, get_or, slice_get, option_map, add-one, append_assoc, Some, None, refl, sym, ap, ◌∙◌, arith}
+use Rattle.std.proofs.Common.{◌≡◌, ℕ, zero, suc, ◌+◌, ◌<◌, ◌≤◌, ◌==◌, true, false, List, [], ◌∷◌, ◌++◌, length, map, take, drop, get_or, slice_get, option_map, add-one, append_assoc, Some, None, refl, sym, ap, ◌∙◌, arith}
 use Rattle.std.specs.List.{flat_map}
 use Rattle.std.specs.declared.option.Option.{Option}
 use Rattle.std.proofs.Math.Seq.{drop-cons}
-use Rattle.std.proofs.lemmas.List.{append-nil, drop_all, length-map, take-map}
+use Rattle.std.proofs.lemmas.Bool.{eqb-true}
+use Rattle.std.proofs.lemmas.Bool.Decides.{nat_tests}
+use Rattle.std.proofs.lemmas.List.{append-nil, drop_all, length-map, take-map, nil_from_length}
 use Rattle.grid_base.specs.Points.{position_of}
 use Rattle.mesh_base.specs.declared.MeshLists.{MeshLists}
 use Rattle.mesh_base.specs.declared.ShapeFault.{ShapeFault}
@@ -52,6 +54,16 @@ pub with_pairs : (lists : MeshLists) (most : ℕ) (found : List ShapeFault) → 
 with_pairs lists most found is none =
     sym (take-map pair_as_fault most (meeting_pairs (mesh_of lists.points lists.faces)))
     ∙ ap (take most) (ap (λ l. faults_by l (mesh_of lists.points lists.faces)) (sym none ∙ is) ∙ sym (same_faults lists))
+
+-- ---- by the length that is kept
+pub none_if : {A : Type 0} (xs : List A) (count : ℕ) → count ≡ length xs → (count == 0) ≡ true → xs ≡ []
+none_if xs count is h = nil_from_length xs (sym is ∙ eqb-true count 0 h)
+
+pub some_if : {A : Type 0} (xs : List A) (count : ℕ) → count ≡ length xs → (count == 0) ≡ false → 0 < length xs
+some_if xs count is h = let some = above_none count h in omega (arith, some, is)
+  where
+    above_none : (n : ℕ) → (n == 0) ≡ false → 0 < n
+    above_none n e = grind (arith, nat_tests)
 
 -- ---- the first of those that are told is the first of all
 pub first_taken : {A : Type 0} (n : ℕ) (xs : List A) → slice_get (take (suc n) xs) 0 ≡ slice_get xs 0
