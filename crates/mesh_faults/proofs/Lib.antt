@@ -6,3 +6,4 @@ pub mod Differing
 pub mod Numbered
 pub mod Unbalanced
 pub mod Still
+pub mod MetAlong

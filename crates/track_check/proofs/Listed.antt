@@ -1,9 +1,11 @@
 -- Lists of faults, and their lines.
-use Rattle.std.proofs.Common.{◌≡◌, ℕ, zero, suc, ◌+◌, ◌<◌, ◌≤◌, List, [], ◌∷◌, ◌++◌, length, map, take, drop, get_or, slice_get, option_map, add-one, append_assoc, Some, None, refl, sym, ap, ◌∙◌, arith}
+use Rattle.std.proofs.Common.{◌≡◌, ℕ, zero, suc, ◌+◌, ◌<◌, ◌≤◌, ◌==◌, true, false, List, [], ◌∷◌, ◌++◌, length, map, take, drop, get_or, slice_get, option_map, add-one, append_assoc, Some, None, refl, sym, ap, ◌∙◌, arith}
 use Rattle.std.specs.List.{flat_map}
 use Rattle.std.specs.declared.option.Option.{Option}
 use Rattle.std.proofs.Math.Seq.{drop-cons}
-use Rattle.std.proofs.lemmas.List.{append-nil, drop_all, length-map}
+use Rattle.std.proofs.lemmas.Bool.{eqb-true}
+use Rattle.std.proofs.lemmas.Bool.Decides.{nat_tests}
+use Rattle.std.proofs.lemmas.List.{append-nil, drop_all, length-map, take-map, nil_from_length}
 use Rattle.grid_base.specs.Points.{position_of}
 use Rattle.mesh_base.specs.declared.MeshLists.{MeshLists}
 use Rattle.mesh_base.specs.declared.ShapeFault.{ShapeFault}
@@ -11,6 +13,7 @@ use Rattle.mesh_base.specs.Given.{mesh_of}
 use Rattle.mesh_faults.specs.ShapeFaults.{shape_faults}
 use Rattle.mesh_faults.specs.MeetingPairs.{meeting_pairs}
 use Rattle.obj_text.specs.Views.{lists_view}
+use Rattle.track_input.specs.Job.{mesh_of_lists}
 use Rattle.track_input.proofs.ReadLemmas.{same_mesh}
 use Rattle.track_check.specs.declared.fault.Fault.{Fault}
 use Rattle.track_check.specs.Check.{shape_as_fault, pair_as_fault, faults_by, faults_in, fault_line}
@@ -32,18 +35,35 @@ module _ (faults : List Fault) where
 -- ---- what is wrong with lists that were read
 same_faults : (lists : MeshLists) → faults_in (lists_view lists) ≡ faults_by (shape_faults (length lists.points) lists.faces) (mesh_of lists.points lists.faces)
 same_faults lists =
-    ap (λ n. faults_by (shape_faults n lists.faces) _) (length-map lists.points position_of)
+    ap (λ n. faults_by (shape_faults n lists.faces) (mesh_of_lists (lists_view lists))) (length-map lists.points position_of)
     ∙ ap (faults_by (shape_faults (length lists.points) lists.faces)) (same_mesh lists)
 
-pub with_shape : (lists : MeshLists) (found : List ShapeFault) → found ≡ shape_faults (length lists.points) lists.faces → 0 < length found → map shape_as_fault found ≡ faults_in (lists_view lists)
-with_shape lists found is some = by_found found some ∙ ap (λ l. faults_by l (mesh_of lists.points lists.faces)) is ∙ sym (same_faults lists)
+-- the faults of shape, where there is one
+pub with_shape : (lists : MeshLists) (most : ℕ) (found some told : List ShapeFault) → found ≡ shape_faults (length lists.points) lists.faces → 0 < length found → some ≡ take most found → told ≡ some → map shape_as_fault told ≡ take most (faults_in (lists_view lists))
+with_shape lists most found some told is any cut same =
+    ap (map shape_as_fault) (same ∙ cut)
+    ∙ sym (take-map shape_as_fault most found)
+    ∙ ap (take most) (by_found found any ∙ ap (λ l. faults_by l (mesh_of lists.points lists.faces)) is ∙ sym (same_faults lists))
   where
     by_found : (l : List ShapeFault) → 0 < length l → map shape_as_fault l ≡ faults_by l (mesh_of lists.points lists.faces)
     by_found [] h = absurd (omega arith)
     by_found (f ∷ fs) h = refl
 
-pub with_pairs : (lists : MeshLists) (found : List ShapeFault) → found ≡ shape_faults (length lists.points) lists.faces → found ≡ [] → map pair_as_fault (meeting_pairs (mesh_of lists.points lists.faces)) ≡ faults_in (lists_view lists)
-with_pairs lists found is none = ap (λ l. faults_by l (mesh_of lists.points lists.faces)) (sym none ∙ is) ∙ sym (same_faults lists)
+-- the pairs, where there is none
+pub with_pairs : (lists : MeshLists) (most : ℕ) (found : List ShapeFault) → found ≡ shape_faults (length lists.points) lists.faces → found ≡ [] → map pair_as_fault (take most (meeting_pairs (mesh_of lists.points lists.faces))) ≡ take most (faults_in (lists_view lists))
+with_pairs lists most found is none =
+    sym (take-map pair_as_fault most (meeting_pairs (mesh_of lists.points lists.faces)))
+    ∙ ap (take most) (ap (λ l. faults_by l (mesh_of lists.points lists.faces)) (sym none ∙ is) ∙ sym (same_faults lists))
+
+-- ---- by the length that is kept
+pub none_if : {A : Type 0} (xs : List A) (count : ℕ) → count ≡ length xs → (count == 0) ≡ true → xs ≡ []
+none_if xs count is h = nil_from_length xs (sym is ∙ eqb-true count 0 h)
+
+pub some_if : {A : Type 0} (xs : List A) (count : ℕ) → count ≡ length xs → (count == 0) ≡ false → 0 < length xs
+some_if xs count is h = let some = above_none count h in omega (arith, some, is)
+  where
+    above_none : (n : ℕ) → (n == 0) ≡ false → 0 < n
+    above_none n e = grind (arith, nat_tests)
 
 -- ---- the first of those that are told is the first of all
 pub first_taken : {A : Type 0} (n : ℕ) (xs : List A) → slice_get (take (suc n) xs) 0 ≡ slice_get xs 0

@@ -1,10 +1,10 @@
 //! All that is wrong with lists.
-ghost use Rattle.std.specs.Prelude.{◌≡◌, map, length, slice_get, option_map, IfOk, None};
+ghost use Rattle.std.specs.Prelude.{◌≡◌, map, length, take, slice_get, option_map, IfOk, None};
 ghost use Rattle.mesh_plain.specs.Shape.{shape_fault};
 ghost use Rattle.mesh_base.specs.Given.{mesh_of};
 ghost use Rattle.obj_text.specs.Views.{lists_view};
 ghost use Rattle.mesh_faults.specs.MeetingPairs.{meeting_pairs};
-ghost use Rattle.track_check.specs.Check.{refusal_of, shape_as_fault, pair_as_fault, faults_in, faults_told};
+ghost use Rattle.track_check.specs.Check.{refusal_of, shape_as_fault, pair_as_fault, faults_told};
 
 use crate::fault::{FAULTS_MAX, Fault, refusal_of};
 use grid_base::NoMemory;
@@ -37,35 +37,27 @@ fn of_pairs(alloc: Global, found: &[PairName]) -> Result<Vec<Fault>, NoMemory>
     Ok(faults)
 }
 
-// The pairs that meet, of lists of good shape.
-fn meeting_of(alloc: Global, lists: &MeshLists) -> Result<Vec<Fault>, NoMemory>
+// The pairs that meet, of lists of good shape, as far as they are told.
+fn meeting_told(alloc: Global, lists: &MeshLists) -> Result<Vec<Fault>, NoMemory>
     requires good { shape_fault (length lists.now.points) lists.now.faces ≡ None }
-    ensures { IfOk result (λ faults. faults.items
-        ≡ map pair_as_fault (meeting_pairs (mesh_of lists.now.points lists.now.faces))) }
+    ensures { let m = mesh_of lists.now.points lists.now.faces in IfOk result
+        (λ faults. faults.items ≡ map pair_as_fault (take FAULTS_MAX (meeting_pairs m))) }
 {
     let mesh = JournalMesh::of(alloc, lists)?;
-    let pairs = meeting_pairs(alloc, &mesh)?;
-    of_pairs(alloc, pairs.as_slice())
-}
-
-// All that is wrong with lists.
-fn faults_of(alloc: Global, lists: &MeshLists) -> Result<Vec<Fault>, NoMemory>
-    ensures { IfOk result (λ faults. faults.items ≡ faults_in (lists_view lists.now)) }
-{
-    let found = shape_faults(alloc, lists)?;
-    if found.is_empty() {
-        return meeting_of(alloc, lists);
-    }
-    of_shape(alloc, &found)
+    let pairs = meeting_pairs(alloc, &mesh, FAULTS_MAX)?;
+    of_pairs(alloc, &pairs)
 }
 
 /// What is wrong with lists, as far as it is told.
 pub(crate) fn faults_told(alloc: Global, lists: &MeshLists) -> Result<Vec<Fault>, NoMemory>
     ensures { IfOk result (λ faults. faults.items ≡ faults_told (lists_view lists.now)) }
 {
-    let mut faults = faults_of(alloc, lists)?;
-    faults.truncate(FAULTS_MAX);
-    Ok(faults)
+    let mut found = shape_faults(alloc, lists)?;
+    if found.is_empty() {
+        return meeting_told(alloc, lists);
+    }
+    found.truncate(FAULTS_MAX);
+    of_shape(alloc, &found)
 }
 
 /// The first fault as a refusal, if there is one.
