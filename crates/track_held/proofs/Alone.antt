@@ -1,8 +1,7 @@
 -- A directive to which nothing is given, by what it tells.
-use Rattle.std.proofs.Common.{◌≡◌, ℕ, Bool, true, false, List, [], ◌∷◌, Option, Some, None, Result, Ok, Err, is_some, refl, sym, ap, ◌∙◌, subst, inl, inr}
+use Rattle.std.proofs.Common.{◌≡◌, ℕ, Bool, true, false, List, [], ◌∷◌, Option, Some, None, Result, Ok, Err, is_some, sym, ap, ◌∙◌, subst, inl, inr}
 use Rattle.std.specs.FinMap as finite
 use Rattle.mesh_base.specs.declared.UseWhy.{UseWhy}
-use Rattle.mesh_base.specs.declared.ShiftOf.{ShiftOf}
 use Rattle.mesh_base.specs.Shifts.{Shifts}
 use Rattle.step_text.specs.declared.Directive.{Directive}
 use Rattle.step_text.specs.declared.Directive.TheVariants as directive
@@ -16,7 +15,7 @@ use Rattle.track_engine.specs.Answered.{Known, IsAnswer}
 use Rattle.track_engine.specs.Effects.{Effect, Proceeds, Refused, Unanswered, effect_of, shift_effect, step_effect, solid_effect, close_effect, sum_of_one, sum_of_all, first_outside}
 use Rattle.track_engine.specs.Parts.{Tells, AdvancesAnswered, Writes, HasAdvanced}
 use Rattle.track_engine.specs.Saved.{Target}
-use Rattle.track_held.specs.Held.{AsksNothing}
+use Rattle.track_held.specs.Asking.{AsksNothing}
 
 -- nothing is given to it
 nothing_given : (fields : Known) (whole : Bool) (s : State) (what : Directive) (given : Answer) → AsksNothing what → IsAnswer fields whole s what given → given ≡ Nothing
@@ -36,7 +35,7 @@ nothing_given fields whole s directive.Group given asks is = is
 nothing_given fields whole s directive.Close given asks is = is
 
 -- an effect that does not wait for an answer
-IsAnswered : Effect → Type 0
+abbrev IsAnswered : Effect → Type 0
 IsAnswered (Proceeds lines next) = Unit {0}
 IsAnswered (Refused why) = Unit {0}
 IsAnswered (Unanswered lines) = ⊥
@@ -95,3 +94,7 @@ module _ (fields : Known) (to : Target) (what : Directive) (asks : AsksNothing w
 -- what it writes, from what the engine ensures
 pub told_by : {fields : Known} {to : Target} {what : Directive} {s t : State} {old new : Around} {r : Result (Option UseWhy) Stop} → AsksNothing what → HasAdvanced fields to what s t old new r → Writes (effect_of Nothing what s) t (holds_of old).written (holds_of new).written r
 told_by {fields} {to} {what} {s} {t} {old} {new} {r} asks h = alone fields to what asks s t (holds_of old) (holds_of new) r h.advances
+
+-- of a log that is the same
+pub told_at : (effect : Effect) (t : State) (old told same : List ℕ) (r : Result (Option UseWhy) Stop) → told ≡ same → Writes effect t (Some old) (Some same) r → Writes effect t (Some old) (Some told) r
+told_at effect t old told same r e h = let P : List ℕ → Type 0 = λ text. Writes effect t (Some old) (Some text) r in subst P (sym e) h

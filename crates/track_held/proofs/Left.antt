@@ -3,7 +3,6 @@ use Rattle.std.proofs.Common.{◌≡◌, ℕ, List, sym, subst}
 use Rattle.mesh_base.specs.Mesh.{Mesh}
 use Rattle.step_choose.specs.Settings.{AreWithinLimits}
 use Rattle.track_engine.specs.declared.engine.Engine.{Engine}
-use Rattle.track_engine.specs.declared.run_state.RunState.{RunState}
 use Rattle.track_engine.specs.Engines.{state_in}
 use Rattle.track_engine.specs.Invariant.{IsRunInvariant, MarksHold}
 use Rattle.track_engine.specs.Ready.{IsReady}

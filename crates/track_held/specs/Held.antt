@@ -1,8 +1,6 @@
 -- What is held of an engine between two calls.
 use Rattle.std.specs.Prelude.{ℕ, Bool, List}
 use Rattle.mesh_base.specs.declared.surface.Surface.{Ghosts}
-use Rattle.step_text.specs.declared.Directive.{Directive}
-use Rattle.step_text.specs.declared.Directive.TheVariants.{Drive, Fit}
 use Rattle.track_engine.specs.declared.engine.Engine.{Engine}
 use Rattle.track_held.specs.declared.held.Held.{Held}
 use Rattle.track_held.specs.Growing.{bytes_in}
@@ -18,9 +16,3 @@ log_in held = bytes_in held.log
 -- whether no directive has stopped in its lines
 abbrev pub is_sound : {S : Type 0} {g : Ghosts S} → Held S g → Bool
 is_sound held = held.sound
-
--- it asks neither a stored field nor a sizing
-abbrev pub AsksNothing : Directive → Type 0
-AsksNothing (Drive name) = ⊥
-AsksNothing Fit = ⊥
-AsksNothing _ = Unit {0}

@@ -1,7 +1,8 @@
 //! An engine between two calls.
 ghost use Rattle.std.specs.Prelude.{◌≡◌, ◌≤◌, ◌<◌, ◌↔◌, true, false, [], Some, IfOk, OnErr, IsSome, IsTrue};
 ghost use Rattle.mesh_base.specs.Valid.{IsValidSurface};
-ghost use Rattle.mesh_sizing.specs.Sizes.{IsBand};
+ghost use Rattle.mesh_field.specs.Stored.{IsWellKept};
+ghost use Rattle.mesh_sizing.specs.Sizes.{IsBand, IsWellKept as SizesWell};
 ghost use Rattle.step_text.specs.Ranges.{IsInRange};
 ghost use Rattle.track_engine.specs.Answers.{Nothing};
 ghost use Rattle.track_engine.specs.State.{unsaved};
@@ -10,12 +11,14 @@ ghost use Rattle.track_engine.specs.Parts.{Writes};
 ghost use Rattle.track_engine.specs.Engines.{state_in};
 ghost use Rattle.track_engine.specs.Invariant.{IsRunInvariant, HasRoom};
 ghost use Rattle.track_engine.specs.Ready.{IsReady};
+ghost use Rattle.track_held.specs.Asking.{AsksNothing};
+ghost use Rattle.track_held.specs.Growing.{bytes_in};
 ghost use Rattle.track_held.specs.Kept.{facts};
 
 use crate::growing::GrowingSink;
 use grid_base::{NoMemory, Point, Shift};
 use mesh_base::{Surface, UseWhy};
-use mesh_field::no_fields;
+use mesh_field::{Fields, no_fields};
 use mesh_sizing::{Band, Sizing};
 use outside_io::{Ends, Stop, TallyDesk};
 use std::alloc::Global;
@@ -32,6 +35,43 @@ fn any_length(_at: Point) -> Band
     ensures { IsBand result }
 {
     Band { low: 1, high: 2 }
+}
+
+// Does one directive that asks neither a field nor the sizing: its lines are told to the log, or it is refused and nothing changes, or it
+// stops in its lines.
+fn tell<'a, S: Surface, F: Fn(u8, Point) -> Shift, G: Fn(Point) -> Band>(
+    alloc: Global,
+    engine: &mut Engine<S>,
+    what: &Directive,
+    log: &mut GrowingSink,
+    fields: &'a Fields<F>,
+    sizing: &'a Sizing<G>,
+) -> Result<Option<UseWhy>, Stop>
+    requires range { IsInRange what.now }
+    requires asks { AsksNothing what.now }
+    requires ready { IsReady S.beyond S.mesh S.kept engine.old }
+    requires room { HasRoom 1 engine.old.run }
+    requires fields { IsWellKept F.Fn fields.now }
+    requires sizing { SizesWell G.Fn sizing.now }
+    ensures tells { let old = state_in S.mesh S.kept engine.old in
+        Writes (effect_of Nothing what.now old) (state_in S.mesh S.kept engine.new)
+        (Some (bytes_in log.old)) (Some (bytes_in log.new)) result }
+    // A refusal leaves the state as it was.
+    ensures left { IfOk result (λ refused. IsSome refused →
+        state_in S.mesh S.kept engine.new ≡ state_in S.mesh S.kept engine.old) }
+    ensures ready { IfOk result (λ _. IsReady S.beyond S.mesh S.kept engine.new) }
+{
+    let to = Target {
+        prefix: "",
+        decimals: 0,
+    };
+    let terms = RunTerms { to, fields, sizing };
+    let mut desk = TallyDesk::new();
+    let mut ends = Ends {
+        desk: &mut desk,
+        out: log,
+    };
+    engine.advance(alloc, what, &terms, &mut ends)
 }
 
 // Gives up what the mesh keeps for a return, unless a group is open, to whose mark it may have to go back.
@@ -78,7 +118,7 @@ impl<S: Surface + Drop> Held<S> {
 }
 
 impl<S: Surface> Held<S> {
-    ghost use Rattle.track_held.specs.Held.{engine_in, log_in, is_sound, AsksNothing};
+    ghost use Rattle.track_held.specs.Held.{engine_in, log_in, is_sound};
 
     /// Whether no directive has stopped in its lines.
     pub fn is_sound(&self) -> bool
@@ -137,23 +177,17 @@ impl<S: Surface> Held<S> {
             state_in S.mesh S.kept (engine_in self.new)
             ≡ state_in S.mesh S.kept (engine_in self.old)) }
     {
-        let to = Target {
-            prefix: "",
-            decimals: 0,
-        };
         let fields = no_fields(no_shift);
         let sizing = Sizing::new(any_length);
-        let terms = RunTerms {
-            to,
-            fields: &fields,
-            sizing: &sizing,
-        };
-        let mut desk = TallyDesk::new();
-        let mut ends = Ends {
-            desk: &mut desk,
-            out: &mut self.log,
-        };
-        match self.engine.advance(alloc, what, &terms, &mut ends) {
+        let told = tell(
+            alloc,
+            &mut self.engine,
+            what,
+            &mut self.log,
+            &fields,
+            &sizing,
+        );
+        match told {
             Ok(None) => {
                 settle(&mut self.engine);
                 Ok(None)

@@ -3,14 +3,14 @@
 //! The tracker is that of Brochu and Bridson, "Robust topological operations for dynamic explicit surfaces" (2009).
 #![tactic(auto)]
 
-mod asking;
+mod asked;
 mod given;
 mod growing;
 mod held;
 mod making;
 mod reading;
 
-pub use asking::asking;
+pub use asked::asking;
 pub use given::{GivenFace, GivenPoint, NamedFace, NamedPoint};
 pub use growing::GrowingSink;
 pub use held::Held;

@@ -54,9 +54,9 @@ fn is_outside(p: &GivenPoint) -> bool
 }
 
 // The point, which is in the box.
-fn point_of(p: &GivenPoint) -> Point
-    requires { is_outside p.now ≡ false }
-    ensures { result ≡ point_in p.now }
+fn point_of(p: GivenPoint) -> Point
+    requires { is_outside p ≡ false }
+    ensures { result ≡ point_in p }
 {
     Point {
         x: p.x,
@@ -78,7 +78,7 @@ fn points_of(alloc: Global, given: &[GivenPoint]) -> Result<Points, MakeRefusal>
         if is_outside(p) {
             return Err(MakeRefusal::Fault(MakeFault::Outside { number }));
         }
-        points.push(point_of(p))?;
+        points.push(point_of(*p))?;
         number += 1;
     }
     Ok(points)

@@ -30,12 +30,17 @@ fn named_face<S: Surface>(mesh: &S, f: FaceId) -> NamedFace
     ensures { result ≡ named_face (S.mesh mesh.now) f }
 {
     match mesh.corners(f) {
-        Some(corners) => NamedFace {
-            id: f.0,
-            a: corners[0].0,
-            b: corners[1].0,
-            c: corners[2].0,
-        },
+        Some(corners) => {
+            let first = corners[0];
+            let second = corners[1];
+            let third = corners[2];
+            NamedFace {
+                id: f.0,
+                a: first.0,
+                b: second.0,
+                c: third.0,
+            }
+        }
         None => NamedFace {
             id: f.0,
             a: 0,

@@ -1,4 +1,4 @@
-use Rattle.std.proofs.Common.{◌≡◌, List, sym, subst, lit≤}
+use Rattle.std.proofs.Common.{List, sym, subst, lit≤}
 use Rattle.mesh_base.specs.Mesh.{Mesh}
 use Rattle.mesh_base.specs.Valid.{IsValidSurface}
 use Rattle.step_choose.specs.Settings.{AreWithinLimits, at_first}
