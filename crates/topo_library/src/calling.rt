@@ -1,7 +1,7 @@
 //! A directive is done with the tracker of a handle.
 ghost use Rattle.std.specs.Prelude.{◌≡◌};
 ghost use Rattle.step_text.specs.Ranges.{IsInRange};
-ghost use Rattle.track_held.specs.Held.{AsksNothing};
+ghost use Rattle.track_held.specs.Asking.{AsksNothing};
 ghost use Rattle.topo_library.specs.Answers.{Answers, Shifts, ShiftsEach, AllShifts};
 
 use crate::codes::{DONE, EMPTY, RANGE};

@@ -55,6 +55,13 @@ pub extern "C" fn topo_free(alloc: Global, topo: &mut Topo)
     drop(topo.take(alloc));
 }
 
+// A vertex, and the shift that is asked of it.
+fn row_of(id: u32, x: i32, y: i32, z: i32) -> NamedPoint
+    ensures { result ≡ record { id = id; x = x; y = y; z = z } }
+{
+    NamedPoint { id, x, y, z }
+}
+
 /// Adds a shift to what is asked of one vertex.
 #[unsafe(no_mangle)]
 pub extern "C" fn topo_shift(
@@ -69,7 +76,8 @@ pub extern "C" fn topo_shift(
     ensures { Shifts (record { id = v; x = x; y = y; z = z })
         topo.old.owned.value topo.new.owned.value fault.old fault.new result }
 {
-    shift_one(alloc, topo, &NamedPoint { id: v, x, y, z }, fault)
+    let row = row_of(v, x, y, z);
+    shift_one(alloc, topo, &row, fault)
 }
 
 /// Adds each shift to what is asked of its vertex, up to the first that cannot be asked or is refused.

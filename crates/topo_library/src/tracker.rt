@@ -16,7 +16,7 @@ pub struct Tracker {
 }
 
 impl Tracker {
-    ghost use Rattle.track_held.specs.Held.{AsksNothing};
+    ghost use Rattle.track_held.specs.Asking.{AsksNothing};
     ghost use Rattle.topo_library.specs.Answers.{HasDone};
 
     /// Does a directive, and answers how that went.
