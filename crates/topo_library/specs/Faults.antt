@@ -9,8 +9,8 @@ use Rattle.track_held.specs.declared.making.MakeFault.TheVariants.{Outside, Shap
 use Rattle.topo_library.specs.declared.fault.TopoFault.{TopoFault}
 
 -- a reason and its place
-abbrev told : ℕ → ℕ → ℕ → ℕ → TopoFault
-told why a b c = record { why = why; a = a; b = b; c = c }
+abbrev fault_at : ℕ → ℕ → ℕ → ℕ → TopoFault
+fault_at why a b c = record { why = why; a = a; b = b; c = c }
 
 -- a count, or the greatest number that is told
 abbrev pub capped : ℕ → ℕ
@@ -18,24 +18,24 @@ capped count = if nat_lt count 4294967295 then count else 4294967295
 
 -- what is wrong with the shape of points and faces
 abbrev pub shape_place : ShapeFault → TopoFault
-shape_place (TooManyVertices count) = told 11 (capped count) 0 0
-shape_place (TooManyFaces count) = told 12 (capped count) 0 0
-shape_place (NoCorner face corner) = told 13 face corner 0
-shape_place (Repeated face) = told 14 face 0 0
-shape_place (Doubled first second) = told 15 first second 0
-shape_place (Unbalanced from to) = told 16 from to 0
+shape_place (TooManyVertices count) = fault_at 11 (capped count) 0 0
+shape_place (TooManyFaces count) = fault_at 12 (capped count) 0 0
+shape_place (NoCorner face corner) = fault_at 13 face corner 0
+shape_place (Repeated face) = fault_at 14 face 0 0
+shape_place (Doubled first second) = fault_at 15 first second 0
+shape_place (Unbalanced from to) = fault_at 16 from to 0
 
 -- what is wrong with points and faces of which no tracker is made: a point outside the box, by its number; a fault of shape; or an edge and
 -- a face that meet
 abbrev pub make_place : MakeFault → TopoFault
-make_place (Outside number) = told 10 number 0 0
+make_place (Outside number) = fault_at 10 number 0 0
 make_place (Shape fault) = shape_place fault
-make_place (Meets pair) = told 17 pair.a pair.b pair.face
+make_place (Meets pair) = fault_at 17 pair.a pair.b pair.face
 
 -- why a directive is refused, and for which vertex
 abbrev pub use_place : UseWhy → TopoFault
-use_place (NoVertex v) = told 1 v 0 0
-use_place (ShiftRange v) = told 2 v 0 0
-use_place (Box v) = told 3 v 0 0
-use_place NoField = told 4 0 0 0
-use_place (Solid v) = told 5 v 0 0
+use_place (NoVertex v) = fault_at 1 v 0 0
+use_place (ShiftRange v) = fault_at 2 v 0 0
+use_place (Box v) = fault_at 3 v 0 0
+use_place NoField = fault_at 4 0 0 0
+use_place (Solid v) = fault_at 5 v 0 0

@@ -1,3 +1,3 @@
-pub mod Answers
+pub mod Codes
 pub mod Faults
 pub mod Owned

@@ -2,7 +2,7 @@
 ghost use Rattle.std.specs.Prelude.{◌≡◌};
 ghost use Rattle.step_text.specs.Ranges.{IsInRange};
 ghost use Rattle.track_held.specs.Asking.{AsksNothing};
-ghost use Rattle.topo_library.specs.Answers.{Answers, Shifts, ShiftsEach, AllShifts};
+ghost use Rattle.topo_library.specs.Codes.{HandleHasDone, HandleHasShifted, HasShiftedEach, HandleHasShiftedEach};
 
 use crate::codes::{DONE, EMPTY, RANGE};
 use crate::fault::TopoFault;
@@ -21,7 +21,7 @@ pub(crate) fn advance(
 ) -> u32
     requires range { IsInRange what.now }
     requires asks { AsksNothing what.now }
-    ensures { Answers what.now topo.old.owned.value topo.new.owned.value
+    ensures { HandleHasDone what.now topo.old.owned.value topo.new.owned.value
         fault.old fault.new result }
 {
     let Some(mut b) = topo.take(alloc) else {
@@ -39,7 +39,7 @@ pub(crate) fn shift_one(
     row: &NamedPoint,
     fault: &mut TopoFault,
 ) -> u32
-    ensures { Shifts row.now topo.old.owned.value topo.new.owned.value
+    ensures { HandleHasShifted row.now topo.old.owned.value topo.new.owned.value
         fault.old fault.new result }
 {
     match asking(row) {
@@ -55,7 +55,7 @@ fn shift_all(
     rows: &[NamedPoint],
     fault: &mut TopoFault,
 ) -> u32
-    ensures { ShiftsEach rows.now tracker.old tracker.new fault.old fault.new result }
+    ensures { HasShiftedEach rows.now tracker.old tracker.new fault.old fault.new result }
 {
     for row in rows {
         let Some(what) = asking(row) else {
@@ -76,7 +76,7 @@ pub(crate) fn shift_each(
     rows: &[NamedPoint],
     fault: &mut TopoFault,
 ) -> u32
-    ensures { AllShifts rows.now topo.old.owned.value topo.new.owned.value
+    ensures { HandleHasShiftedEach rows.now topo.old.owned.value topo.new.owned.value
         fault.old fault.new result }
 {
     let Some(mut b) = topo.take(alloc) else {

@@ -16,7 +16,7 @@ pub struct TopoFault {
 }
 
 // A reason and its place.
-fn told(why: u32, a: u32, b: u32, c: u32) -> TopoFault
+fn fault_at(why: u32, a: u32, b: u32, c: u32) -> TopoFault
     ensures { result ≡ record { why = why; a = a; b = b; c = c } }
 {
     TopoFault { why, a, b, c }
@@ -38,12 +38,12 @@ fn shape_place(fault: ShapeFault) -> TopoFault
     ensures { result ≡ shape_place fault }
 {
     match fault {
-        ShapeFault::TooManyVertices { count } => told(11, capped(count), 0, 0),
-        ShapeFault::TooManyFaces { count } => told(12, capped(count), 0, 0),
-        ShapeFault::NoVertex { face, corner } => told(13, face, corner as u32, 0),
-        ShapeFault::Repeated { face } => told(14, face, 0, 0),
-        ShapeFault::Doubled { first, second } => told(15, first, second, 0),
-        ShapeFault::Unbalanced { from, to } => told(16, from, to, 0),
+        ShapeFault::TooManyVertices { count } => fault_at(11, capped(count), 0, 0),
+        ShapeFault::TooManyFaces { count } => fault_at(12, capped(count), 0, 0),
+        ShapeFault::NoVertex { face, corner } => fault_at(13, face, corner as u32, 0),
+        ShapeFault::Repeated { face } => fault_at(14, face, 0, 0),
+        ShapeFault::Doubled { first, second } => fault_at(15, first, second, 0),
+        ShapeFault::Unbalanced { from, to } => fault_at(16, from, to, 0),
     }
 }
 
@@ -52,9 +52,9 @@ pub(crate) fn make_place(fault: MakeFault) -> TopoFault
     ensures { result ≡ make_place fault }
 {
     match fault {
-        MakeFault::Outside { number } => told(10, number, 0, 0),
+        MakeFault::Outside { number } => fault_at(10, number, 0, 0),
         MakeFault::Shape(fault) => shape_place(fault),
-        MakeFault::Meets(pair) => told(17, pair.a.0, pair.b.0, pair.face.0),
+        MakeFault::Meets(pair) => fault_at(17, pair.a.0, pair.b.0, pair.face.0),
     }
 }
 
@@ -63,10 +63,10 @@ pub(crate) fn use_place(why: UseWhy) -> TopoFault
     ensures { result ≡ use_place why }
 {
     match why {
-        UseWhy::NoVertex { v } => told(1, v, 0, 0),
-        UseWhy::ShiftRange { v } => told(2, v, 0, 0),
-        UseWhy::Box { v } => told(3, v, 0, 0),
-        UseWhy::NoField => told(4, 0, 0, 0),
-        UseWhy::Solid { v } => told(5, v, 0, 0),
+        UseWhy::NoVertex { v } => fault_at(1, v, 0, 0),
+        UseWhy::ShiftRange { v } => fault_at(2, v, 0, 0),
+        UseWhy::Box { v } => fault_at(3, v, 0, 0),
+        UseWhy::NoField => fault_at(4, 0, 0, 0),
+        UseWhy::Solid { v } => fault_at(5, v, 0, 0),
     }
 }

@@ -9,7 +9,7 @@ ghost use Rattle.step_text.specs.Ranges.{IsFrom};
 ghost use Rattle.step_text.specs.declared.Directive.TheVariants as directive;
 ghost use Rattle.edit_base.specs.declared.PassKind.TheVariants as pass;
 ghost use Rattle.track_held.specs.Reading.{named_points, named_faces};
-ghost use Rattle.topo_library.specs.Answers.{tracked, Answers, IsBeyond, Shifts, AllShifts, Makes, Reads, GivesLog, IsCounted};
+ghost use Rattle.topo_library.specs.Codes.{tracked, HandleHasDone, IsBeyond, HandleHasShifted, HandleHasShiftedEach, HasMade, HandleHasPut, HandleHasTakenLog, HandleHasCounted};
 
 mod calling;
 mod codes;
@@ -42,7 +42,7 @@ pub extern "C" fn topo_new(
     out: &mut Topo,
     fault: &mut TopoFault,
 ) -> u32
-    ensures { Makes points.now faces.now out.new.owned.value fault.old fault.new result }
+    ensures { HasMade points.now faces.now out.new.owned.value fault.old fault.new result }
 {
     make(alloc, points, faces, out, fault)
 }
@@ -73,7 +73,7 @@ pub extern "C" fn topo_shift(
     z: i32,
     fault: &mut TopoFault,
 ) -> u32
-    ensures { Shifts (record { id = v; x = x; y = y; z = z })
+    ensures { HandleHasShifted (record { id = v; x = x; y = y; z = z })
         topo.old.owned.value topo.new.owned.value fault.old fault.new result }
 {
     let row = row_of(v, x, y, z);
@@ -88,7 +88,7 @@ pub extern "C" fn topo_shift_each(
     shifts: &[NamedPoint],
     fault: &mut TopoFault,
 ) -> u32
-    ensures { AllShifts shifts.now topo.old.owned.value topo.new.owned.value
+    ensures { HandleHasShiftedEach shifts.now topo.old.owned.value topo.new.owned.value
         fault.old fault.new result }
 {
     shift_each(alloc, topo, shifts, fault)
@@ -97,7 +97,7 @@ pub extern "C" fn topo_shift_each(
 /// Takes the asked shifts, or the first of the lesser ways that is safe.
 #[unsafe(no_mangle)]
 pub extern "C" fn topo_step(alloc: Global, topo: &mut Topo, fault: &mut TopoFault) -> u32
-    ensures { Answers directive.Step topo.old.owned.value topo.new.owned.value
+    ensures { HandleHasDone directive.Step topo.old.owned.value topo.new.owned.value
         fault.old fault.new result }
 {
     advance(alloc, topo, &Directive::Step, fault)
@@ -113,7 +113,7 @@ pub extern "C" fn topo_split(
 ) -> u32
     ensures beyond { LENGTH_MAX < over → IsBeyond topo.old.owned.value topo.new.owned.value
         fault.old fault.new result }
-    ensures does { over ≤ LENGTH_MAX → Answers (directive.Pass (pass.Split over))
+    ensures does { over ≤ LENGTH_MAX → HandleHasDone (directive.Pass (pass.Split over))
         topo.old.owned.value topo.new.owned.value fault.old fault.new result }
 {
     if over > LENGTH_MAX {
@@ -133,7 +133,7 @@ pub extern "C" fn topo_collapse(
 ) -> u32
     ensures beyond { LENGTH_MAX < under → IsBeyond topo.old.owned.value topo.new.owned.value
         fault.old fault.new result }
-    ensures does { under ≤ LENGTH_MAX → Answers (directive.Pass (pass.Collapse under))
+    ensures does { under ≤ LENGTH_MAX → HandleHasDone (directive.Pass (pass.Collapse under))
         topo.old.owned.value topo.new.owned.value fault.old fault.new result }
 {
     if under > LENGTH_MAX {
@@ -146,7 +146,7 @@ pub extern "C" fn topo_collapse(
 /// Flips each edge that is longer than the distance of its opposite corners.
 #[unsafe(no_mangle)]
 pub extern "C" fn topo_flip(alloc: Global, topo: &mut Topo, fault: &mut TopoFault) -> u32
-    ensures { Answers (directive.Pass pass.Flip) topo.old.owned.value topo.new.owned.value
+    ensures { HandleHasDone (directive.Pass pass.Flip) topo.old.owned.value topo.new.owned.value
         fault.old fault.new result }
 {
     advance(alloc, topo, &Directive::Pass(PassKind::Flip), fault)
@@ -162,7 +162,7 @@ pub extern "C" fn topo_zip(
 ) -> u32
     ensures beyond { LENGTH_MAX < within → IsBeyond topo.old.owned.value topo.new.owned.value
         fault.old fault.new result }
-    ensures does { within ≤ LENGTH_MAX → Answers (directive.Pass (pass.Zip within))
+    ensures does { within ≤ LENGTH_MAX → HandleHasDone (directive.Pass (pass.Zip within))
         topo.old.owned.value topo.new.owned.value fault.old fault.new result }
 {
     if within > LENGTH_MAX {
@@ -175,7 +175,7 @@ pub extern "C" fn topo_zip(
 /// Pinches each vertex whose faces are two fans or more.
 #[unsafe(no_mangle)]
 pub extern "C" fn topo_pinch(alloc: Global, topo: &mut Topo, fault: &mut TopoFault) -> u32
-    ensures { Answers (directive.Pass pass.Pinch) topo.old.owned.value topo.new.owned.value
+    ensures { HandleHasDone (directive.Pass pass.Pinch) topo.old.owned.value topo.new.owned.value
         fault.old fault.new result }
 {
     advance(alloc, topo, &Directive::Pass(PassKind::Pinch), fault)
@@ -186,7 +186,7 @@ pub extern "C" fn topo_pinch(alloc: Global, topo: &mut Topo, fault: &mut TopoFau
 pub extern "C" fn topo_solid(alloc: Global, topo: &mut Topo, v: u32, fault: &mut TopoFault) -> u32
     ensures beyond { ¬ IsFrom 1 ID_MAX v → IsBeyond topo.old.owned.value topo.new.owned.value
         fault.old fault.new result }
-    ensures does { IsFrom 1 ID_MAX v → Answers (directive.Solid v)
+    ensures does { IsFrom 1 ID_MAX v → HandleHasDone (directive.Solid v)
         topo.old.owned.value topo.new.owned.value fault.old fault.new result }
 {
     if v < 1 || v > ID_MAX {
@@ -198,7 +198,7 @@ pub extern "C" fn topo_solid(alloc: Global, topo: &mut Topo, v: u32, fault: &mut
 /// Opens a group of calls, which is kept whole or taken back whole.
 #[unsafe(no_mangle)]
 pub extern "C" fn topo_open(alloc: Global, topo: &mut Topo, fault: &mut TopoFault) -> u32
-    ensures { Answers directive.Group topo.old.owned.value topo.new.owned.value
+    ensures { HandleHasDone directive.Group topo.old.owned.value topo.new.owned.value
         fault.old fault.new result }
 {
     advance(alloc, topo, &Directive::Group, fault)
@@ -208,7 +208,7 @@ pub extern "C" fn topo_open(alloc: Global, topo: &mut Topo, fault: &mut TopoFaul
 /// Where none is open, nothing is done.
 #[unsafe(no_mangle)]
 pub extern "C" fn topo_close(alloc: Global, topo: &mut Topo, fault: &mut TopoFault) -> u32
-    ensures { Answers directive.Close topo.old.owned.value topo.new.owned.value
+    ensures { HandleHasDone directive.Close topo.old.owned.value topo.new.owned.value
         fault.old fault.new result }
 {
     advance(alloc, topo, &Directive::Close, fault)
@@ -223,7 +223,7 @@ pub extern "C" fn topo_counts(
     faces: &mut u32,
     log: &mut usize,
 ) -> u32
-    ensures { IsCounted topo.old.owned.value topo.new.owned.value
+    ensures { HandleHasCounted topo.old.owned.value topo.new.owned.value
         (record { vertices = vertices.old; faces = faces.old; log = log.old })
         (record { vertices = vertices.new; faces = faces.new; log = log.new }) result }
 {
@@ -238,7 +238,7 @@ pub extern "C" fn topo_points(
     into: &mut [NamedPoint],
     size: &mut usize,
 ) -> u32
-    ensures { Reads (λ t. named_points (tracked t).mesh) topo.old.owned.value topo.new.owned.value
+    ensures { HandleHasPut (λ t. named_points (tracked t).mesh) topo.old.owned.value topo.new.owned.value
         into.old into.new size.old size.new result }
 {
     read_points(alloc, topo, into, size)
@@ -252,7 +252,7 @@ pub extern "C" fn topo_faces(
     into: &mut [NamedFace],
     size: &mut usize,
 ) -> u32
-    ensures { Reads (λ t. named_faces (tracked t).mesh) topo.old.owned.value topo.new.owned.value
+    ensures { HandleHasPut (λ t. named_faces (tracked t).mesh) topo.old.owned.value topo.new.owned.value
         into.old into.new size.old size.new result }
 {
     read_faces(alloc, topo, into, size)
@@ -261,7 +261,7 @@ pub extern "C" fn topo_faces(
 /// Puts what was told since the log was last taken into a buffer, where it fits, and forgets it then; and tells how many bytes it has.
 #[unsafe(no_mangle)]
 pub extern "C" fn topo_log(alloc: Global, topo: &mut Topo, into: &mut [u8], size: &mut usize) -> u32
-    ensures { GivesLog topo.old.owned.value topo.new.owned.value
+    ensures { HandleHasTakenLog topo.old.owned.value topo.new.owned.value
         into.old into.new size.old size.new result }
 {
     read_log(alloc, topo, into, size)

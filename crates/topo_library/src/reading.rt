@@ -1,7 +1,7 @@
 //! The tracker of a handle is read.
 ghost use Rattle.std.specs.Prelude.{◌≡◌, ◌≢◌};
 ghost use Rattle.track_held.specs.Reading.{named_points, named_faces};
-ghost use Rattle.topo_library.specs.Answers.{tracked, Puts, Reads, TakesLog, GivesLog, counts_of, IsCounted};
+ghost use Rattle.topo_library.specs.Codes.{tracked, HasPut, HandleHasPut, HasTakenLog, HandleHasTakenLog, counts_of, HandleHasCounted};
 
 use crate::codes::{DONE, EMPTY, NO_MEMORY, RANGE};
 use crate::handle::Topo;
@@ -12,7 +12,7 @@ use track_held::{NamedFace, NamedPoint, named_faces, named_points, put_rows};
 
 // Puts rows into a buffer, where all of them fit, and tells their number.
 fn put<T: Copy + Drop>(rows: &[T], into: &mut [T], size: &mut usize) -> u32
-    ensures puts { Puts rows.now into.old into.new size.old size.new result }
+    ensures puts { HasPut rows.now into.old into.new size.old size.new result }
     ensures needs_none { result ≢ 1 }
 {
     *size = rows.len();
@@ -21,7 +21,7 @@ fn put<T: Copy + Drop>(rows: &[T], into: &mut [T], size: &mut usize) -> u32
 
 // Puts the live vertices of a tracker into a buffer.
 fn put_points(alloc: Global, tracker: &Tracker, into: &mut [NamedPoint], size: &mut usize) -> u32
-    ensures { Puts (named_points (tracked tracker.now).mesh)
+    ensures { HasPut (named_points (tracked tracker.now).mesh)
         into.old into.new size.old size.new result }
 {
     match named_points(alloc, tracker.held.mesh()) {
@@ -32,7 +32,7 @@ fn put_points(alloc: Global, tracker: &Tracker, into: &mut [NamedPoint], size: &
 
 // Puts the live faces of a tracker into a buffer.
 fn put_faces(alloc: Global, tracker: &Tracker, into: &mut [NamedFace], size: &mut usize) -> u32
-    ensures { Puts (named_faces (tracked tracker.now).mesh)
+    ensures { HasPut (named_faces (tracked tracker.now).mesh)
         into.old into.new size.old size.new result }
 {
     match named_faces(alloc, tracker.held.mesh()) {
@@ -48,7 +48,7 @@ pub(crate) fn read_points(
     into: &mut [NamedPoint],
     size: &mut usize,
 ) -> u32
-    ensures { Reads (λ t. named_points (tracked t).mesh) topo.old.owned.value topo.new.owned.value
+    ensures { HandleHasPut (λ t. named_points (tracked t).mesh) topo.old.owned.value topo.new.owned.value
         into.old into.new size.old size.new result }
 {
     let Some(b) = topo.take(alloc) else {
@@ -66,7 +66,7 @@ pub(crate) fn read_faces(
     into: &mut [NamedFace],
     size: &mut usize,
 ) -> u32
-    ensures { Reads (λ t. named_faces (tracked t).mesh) topo.old.owned.value topo.new.owned.value
+    ensures { HandleHasPut (λ t. named_faces (tracked t).mesh) topo.old.owned.value topo.new.owned.value
         into.old into.new size.old size.new result }
 {
     let Some(b) = topo.take(alloc) else {
@@ -79,7 +79,7 @@ pub(crate) fn read_faces(
 
 // Puts the log of a tracker into a buffer, where it fits, and then forgets it.
 fn take_log(tracker: &mut Tracker, into: &mut [u8], size: &mut usize) -> u32
-    ensures { TakesLog tracker.old tracker.new into.old into.new size.old size.new result }
+    ensures { HasTakenLog tracker.old tracker.new into.old into.new size.old size.new result }
 {
     let code = put(tracker.held.log(), into, size);
     if code == DONE {
@@ -90,7 +90,7 @@ fn take_log(tracker: &mut Tracker, into: &mut [u8], size: &mut usize) -> u32
 
 /// Puts the log into a buffer, where it fits, and then forgets it.
 pub(crate) fn read_log(alloc: Global, topo: &mut Topo, into: &mut [u8], size: &mut usize) -> u32
-    ensures { GivesLog topo.old.owned.value topo.new.owned.value
+    ensures { HandleHasTakenLog topo.old.owned.value topo.new.owned.value
         into.old into.new size.old size.new result }
 {
     let Some(mut b) = topo.take(alloc) else {
@@ -109,7 +109,7 @@ pub(crate) fn count(
     faces: &mut u32,
     log: &mut usize,
 ) -> u32
-    ensures { IsCounted topo.old.owned.value topo.new.owned.value
+    ensures { HandleHasCounted topo.old.owned.value topo.new.owned.value
         (record { vertices = vertices.old; faces = faces.old; log = log.old })
         (record { vertices = vertices.new; faces = faces.new; log = log.new }) result }
 {

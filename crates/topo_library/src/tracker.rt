@@ -17,7 +17,7 @@ pub struct Tracker {
 
 impl Tracker {
     ghost use Rattle.track_held.specs.Asking.{AsksNothing};
-    ghost use Rattle.topo_library.specs.Answers.{HasDone};
+    ghost use Rattle.topo_library.specs.Codes.{HasDone};
 
     /// Does a directive, and answers how that went.
     pub(crate) fn advance(&mut self, alloc: Global, what: &Directive, fault: &mut TopoFault) -> u32
@@ -25,7 +25,7 @@ impl Tracker {
         requires asks { AsksNothing what.now }
         ensures { HasDone what.now self.old self.new fault.old fault.new result }
     {
-        if !self.held.is_sound() {
+        if !self.held.goes_on() {
             return STOPPED;
         }
         if !self.held.has_room() {

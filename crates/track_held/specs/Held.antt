@@ -14,5 +14,5 @@ abbrev pub log_in : {S : Type 0} {g : Ghosts S} → Held S g → List ℕ
 log_in held = bytes_in held.log
 
 -- whether no directive has stopped in its lines
-abbrev pub is_sound : {S : Type 0} {g : Ghosts S} → Held S g → Bool
-is_sound held = held.sound
+abbrev pub goes_on : {S : Type 0} {g : Ghosts S} → Held S g → Bool
+goes_on held = held.goes_on

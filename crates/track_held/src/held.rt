@@ -87,23 +87,23 @@ fn settle<S: Surface>(engine: &mut Engine<S>)
 
 /// An engine with the log that it has told since that was last taken.
 ///
-/// It is sound until a directive stops in its lines for want of memory. While it is, its mesh is sound, closed and clear, and so is the
+/// It goes on until a directive stops in its lines for want of memory. While it does, its mesh is sound, closed and clear, and so is the
 /// mesh to which each open group can go back.
 #[derive(Drop)]
 pub struct Held<S: Surface> {
     engine: Engine<S>,
     log: GrowingSink,
-    sound: bool,
-    ghost ready: { sound ≡ true → IsReady S.beyond S.mesh S.kept engine } by { Prim.hlevel facts },
+    goes_on: bool,
+    ghost ready: { goes_on ≡ true → IsReady S.beyond S.mesh S.kept engine } by { Prim.hlevel facts },
 }
 
 impl<S: Surface + Drop> Held<S> {
-    ghost use Rattle.track_held.specs.Held.{engine_in, log_in, is_sound};
+    ghost use Rattle.track_held.specs.Held.{engine_in, log_in, goes_on};
 
     /// An engine of a closed surface that does not meet itself, with an empty log.
     pub fn new(alloc: Global, mesh: S) -> Result<Held<S>, NoMemory>
         requires { IsValidSurface (S.mesh mesh) }
-        ensures sound { IfOk result (λ held. is_sound held ≡ true) }
+        ensures goes_on { IfOk result (λ held. goes_on held ≡ true) }
         ensures log { IfOk result (λ held. log_in held ≡ []) }
         ensures state { IfOk result (λ held.
             state_in S.mesh S.kept (engine_in held) ≡ unsaved (S.mesh mesh)) }
@@ -112,22 +112,22 @@ impl<S: Surface + Drop> Held<S> {
         Ok(Held {
             engine,
             log: GrowingSink::new(alloc),
-            sound: true,
+            goes_on: true,
         })
     }
 }
 
 impl<S: Surface> Held<S> {
-    ghost use Rattle.track_held.specs.Held.{engine_in, log_in, is_sound};
+    ghost use Rattle.track_held.specs.Held.{engine_in, log_in, goes_on};
 
     /// Whether no directive has stopped in its lines.
-    pub fn is_sound(&self) -> bool
-        ensures is { result ≡ is_sound self.now }
+    pub fn goes_on(&self) -> bool
+        ensures is { result ≡ goes_on self.now }
         // While that holds, the mesh is sound, closed and clear, and so is that of each open group.
-        ensures whole { is_sound self.now ≡ true →
+        ensures whole { goes_on self.now ≡ true →
             IsRunInvariant (state_in S.mesh S.kept (engine_in self.now)) }
     {
-        self.sound
+        self.goes_on
     }
 
     /// Whether one more directive may be taken: fewer than 2^32 - 1 steps were.
@@ -155,20 +155,20 @@ impl<S: Surface> Held<S> {
     pub fn clear_log(&mut self)
         ensures log { log_in self.new ≡ [] }
         ensures engine { engine_in self.new ≡ engine_in self.old }
-        ensures sound { is_sound self.new ≡ is_sound self.old }
+        ensures goes_on { goes_on self.new ≡ goes_on self.old }
     {
         self.log.clear();
     }
 
     /// Does one directive that asks neither a field nor the sizing: its lines are told, or it is refused and nothing changes, or it stops
-    /// in its lines for want of memory, and is sound no more.
+    /// in its lines for want of memory, and goes on no more.
     pub fn take(&mut self, alloc: Global, what: &Directive) -> Result<Option<UseWhy>, Stop>
         requires range { IsInRange what.now }
         requires asks { AsksNothing what.now }
-        requires sound { is_sound self.old ≡ true }
+        requires goes_on { goes_on self.old ≡ true }
         requires room { HasRoom 1 (engine_in self.old).run }
-        ensures sound { IfOk result (λ _. is_sound self.new ≡ true) }
-        ensures stopped { OnErr result (is_sound self.new ≡ false) }
+        ensures goes_on { IfOk result (λ _. goes_on self.new ≡ true) }
+        ensures stopped { OnErr result (goes_on self.new ≡ false) }
         ensures tells { let old = state_in S.mesh S.kept (engine_in self.old) in
             Writes (effect_of Nothing what.now old) (state_in S.mesh S.kept (engine_in self.new))
             (Some (log_in self.old)) (Some (log_in self.new)) result }
@@ -194,7 +194,7 @@ impl<S: Surface> Held<S> {
             }
             Ok(Some(why)) => Ok(Some(why)),
             Err(stop) => {
-                self.sound = false;
+                self.goes_on = false;
                 Err(stop)
             }
         }

@@ -2,11 +2,12 @@
 ghost use Rattle.std.specs.Prelude.{◌≡◌, ◌≤◌, true, false, None, map, length, IfOk, IfErr, IsOk, []};
 ghost use Rattle.grid_base.specs.declared.TheConstants.{VERTICES_MAX};
 ghost use Rattle.mesh_base.specs.Given.{mesh_of};
+ghost use Rattle.mesh_base.specs.Valid.{IsValidSurface};
 ghost use Rattle.mesh_journal.specs.Journal.{mesh_in, kept_in};
 ghost use Rattle.track_engine.specs.Engines.{state_in};
 ghost use Rattle.track_engine.specs.State.{unsaved};
 ghost use Rattle.track_held.specs.Given.{point_in, face_in, given_mesh, is_outside, box_fault, lists_fault, make_fault, IsRefusal};
-ghost use Rattle.track_held.specs.Held.{engine_in, log_in, is_sound};
+ghost use Rattle.track_held.specs.Held.{engine_in, log_in, goes_on};
 ghost use Rattle.track_held.specs.declared.making.MakeRefusal.TheVariants as refusals;
 
 use crate::given::{GivenFace, GivenPoint};
@@ -99,8 +100,9 @@ fn faces_of(alloc: Global, given: &[GivenFace]) -> Result<Triangles, NoMemory>
 fn track_lists(alloc: Global, lists: &MeshLists) -> Result<Held<JournalMesh>, MakeRefusal>
     ensures state { IfOk result (λ held. state_in mesh_in kept_in (engine_in held)
         ≡ unsaved (mesh_of lists.now.points lists.now.faces)) }
-    ensures sound { IfOk result (λ held. is_sound held ≡ true) }
+    ensures goes_on { IfOk result (λ held. goes_on held ≡ true) }
     ensures log { IfOk result (λ held. log_in held ≡ []) }
+    ensures valid { IsOk result → IsValidSurface (mesh_of lists.now.points lists.now.faces) }
     ensures none { IsOk result → lists_fault lists.now.points lists.now.faces ≡ None }
     ensures first { IfErr result (IsRefusal (lists_fault lists.now.points lists.now.faces)) }
 {
@@ -127,9 +129,13 @@ pub fn track(
 ) -> Result<Held<JournalMesh>, MakeRefusal>
     ensures state { IfOk result (λ held. state_in mesh_in kept_in (engine_in held)
         ≡ unsaved (given_mesh points.now faces.now)) }
-    ensures sound { IfOk result (λ held. is_sound held ≡ true) }
+    ensures goes_on { IfOk result (λ held. goes_on held ≡ true) }
     ensures log { IfOk result (λ held. log_in held ≡ []) }
+    // Made: they have no fault, and their mesh is sound, closed and clear.
+    ensures valid { IsOk result → IsValidSurface (given_mesh points.now faces.now) }
     ensures none { IsOk result → make_fault points.now faces.now ≡ None }
+
+    // Refused for a fault: the first.
     ensures first { IfErr result (IsRefusal (make_fault points.now faces.now)) }
 {
     if points.len() > VERTICES_MAX as usize {

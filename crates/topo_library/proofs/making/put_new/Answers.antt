@@ -1,4 +1,4 @@
-use Rattle.std.proofs.Common.{Some, refl, ap, ◌∙◌, arith, rules, inl}
+use Rattle.std.proofs.Common.{Some, refl, ap, ◌∙◌, arith, rules}
 use Rattle.topo_library.proofs.making.put_new.Goals as goal
 
 pub returns-in-Ok-new : goal.returns-in-Ok-new
@@ -9,7 +9,8 @@ returns-in-Ok-new c = record {
       tracker = record { held = c.in-Ok.held };
       holds = c.give.ensures ∙ ap Some c.in-Ok-new.ensures.ok;
       state = c.in-Ok.ensures.state;
-      whole = c.in-Ok.ensures.sound;
+      valid = c.in-Ok.ensures.valid refl;
+      goes_on = c.in-Ok.ensures.goes_on;
       log = c.in-Ok.ensures.log;
     },
   );

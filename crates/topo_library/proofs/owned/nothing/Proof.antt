@@ -1,12 +1,11 @@
 -- `nothing` is a pointer to nothing.
-use Rattle.std.proofs.Common.{◌≡◌, List, [], ◌∷◌, refl, lit<, None, w64}
+use Rattle.std.proofs.Common.{List, [], ◌∷◌, refl, lit<, None, w64}
 use Rattle.std.proofs.raw_atomic.Walks.{proved}
-use Rattle.std.proofs.alloc.Calls.{Goes-blank}
 use base.Fml.{ftrue}
 use mir.Val.{Val, vint, vstruct, vcons, vnil}
 use contract.Running.{tables}
 use types.Kit.{‵, ◌⊛◌, ◌$◌, ◌∵◌, !, qed, done, move, keep, split, join, fjoin, fpack, feq_i, suffices}
-use types.Run.{enter, of_opd, lit, no_more, and_then, returns}
+use types.Run.{enter, lit, no_more, and_then, returns}
 use types.ByLocal.{alloc_all, pass_all, free_all, look_at, get, sets}
 use types.Part.{agg}
 use denote.Exit.{yes}

@@ -1,10 +1,9 @@
 -- `seal` hands the box's memory on.
-use Rattle.std.proofs.Common.{◌≡◌, List, [], ◌∷◌, refl, Some}
+use Rattle.std.proofs.Common.{[], ◌∷◌, refl, Some}
 use Rattle.std.proofs.raw_atomic.Walks.{proved}
 use Rattle.std.proofs.alloc.Calls.{Goes-blank}
 use base.Logic.{id⊢}
 use base.Fml.{ftrue}
-use mir.Val.{Val}
 use contract.Running.{tables}
 use types.Kit.{‵, ◌⊛◌, ◌$◌, ◌∵◌, !, qed, done, move, keep, use1, split, join, fjoin, suffices}
 use types.Run.{enter, of_opd, fld, stop, no_more, and_then, returns}

@@ -1,10 +1,9 @@
 -- `unseal` takes the box's memory back.
-use Rattle.std.proofs.Common.{◌≡◌, List, [], ◌∷◌, refl, sym, Option, Some, None, IsSome, true≢false}
+use Rattle.std.proofs.Common.{◌≡◌, [], ◌∷◌, refl, sym, Option, Some, None, IsSome, true≢false}
 use Rattle.std.proofs.raw_atomic.Walks.{proved}
 use Rattle.std.proofs.alloc.Calls.{Goes-blank}
 use base.Logic.{id⊢}
 use base.Fml.{ftrue}
-use mir.Val.{Val}
 use contract.Monad.{fact}
 use contract.Running.{tables}
 use types.Kit.{‵, raw, ◌⊛◌, ◌$◌, ◌∵◌, !, qed, done, move, keep, use1, split, join, fsplit, fjoin, rewrite, suffices}

@@ -1,7 +1,8 @@
 -- What the codes say of the calls.
-use Rattle.std.specs.Prelude.{◌≡◌, ◌≢◌, ◌≤◌, ◌<◌, ◌↔◌, ◌⊎◌, ℕ, true, false, List, [], ◌∷◌, ◌++◌, length, drop, Option, Some, None, Ok, Err}
+use Rattle.std.specs.Prelude.{◌≡◌, ◌≢◌, ◌≤◌, ◌<◌, ◌↔◌, ◌⊎◌, ℕ, true, List, [], ◌∷◌, ◌++◌, length, drop, Option, Some, None, Ok, Err}
 use Rattle.std.specs.FinMap as finite
 use Rattle.mesh_base.specs.Mesh.{Mesh}
+use Rattle.mesh_base.specs.Valid.{IsValidSurface}
 use Rattle.mesh_base.specs.declared.UseWhy.{UseWhy}
 use Rattle.mesh_journal.specs.Journal.{mesh_in, kept_in}
 use Rattle.outside_io.specs.declared.stop.Stop.TheVariants.{NoMemory}
@@ -18,7 +19,7 @@ use Rattle.track_held.specs.declared.given.NamedPoint.{NamedPoint}
 use Rattle.track_held.specs.declared.making.MakeFault.{MakeFault}
 use Rattle.track_held.specs.Asking.{CanBeAsked, asking}
 use Rattle.track_held.specs.Given.{given_mesh, make_fault}
-use Rattle.track_held.specs.Held.{engine_in, log_in, is_sound}
+use Rattle.track_held.specs.Held.{engine_in, log_in, goes_on}
 use Rattle.topo_library.specs.Faults.{make_place, use_place}
 use Rattle.topo_library.specs.declared.fault.TopoFault.{TopoFault}
 use Rattle.topo_library.specs.declared.tracker.Tracker.{Tracker}
@@ -33,38 +34,38 @@ told t = log_in t.held
 
 -- ---- a directive
 
--- no call has stopped it, so that it takes directives
-abbrev pub IsWhole : Tracker → Type 0
-IsWhole t = is_sound t.held ≡ true
+-- no directive has stopped it, so that it takes the next
+abbrev pub GoesOn : Tracker → Type 0
+GoesOn t = goes_on t.held ≡ true
 
 -- one more directive can be taken
-abbrev pub HasRoomFor : Tracker → Type 0
-HasRoomFor t = HasRoom 1 (engine_in t.held).run
+abbrev pub HasRoomLeft : Tracker → Type 0
+HasRoomLeft t = HasRoom 1 (engine_in t.held).run
 
 -- What a code says of a call that does one directive with the tracker s, which then is t.
 pub record HasDone (what : Directive) (s t : Tracker) (before after : TopoFault) (code : ℕ) : Type 0 where
   -- 0: its lines were told, and the tracker stands in the state after it
   pub done : code ≡ 0 → Writes (effect_of Nothing what (tracked s)) (tracked t) (Some (told s)) (Some (told t)) (Ok None)
   -- 1: there was no memory: nothing was told, or a part of its lines, and the tracker is stopped
-  pub memory : code ≡ 1 → Writes (effect_of Nothing what (tracked s)) (tracked t) (Some (told s)) (Some (told t)) (Err NoMemory) × ¬ IsWhole t
+  pub memory : code ≡ 1 → Writes (effect_of Nothing what (tracked s)) (tracked t) (Some (told s)) (Some (told t)) (Err NoMemory) × ¬ GoesOn t
   -- 2: it was refused, for the reason that the fault tells; the state and what was told are as they were
   pub refused : code ≡ 2 → (why : UseWhy) × (after ≡ use_place why) × Writes (effect_of Nothing what (tracked s)) (tracked t) (Some (told s)) (Some (told t)) (Ok (Some why)) × (tracked t ≡ tracked s)
   -- 5 exactly where the tracker was stopped, and 6 exactly where no more directive can be taken: nothing is done
-  pub stopped : code ≡ 5 ↔ ¬ IsWhole s
-  pub spent : code ≡ 6 ↔ (IsWhole s × ¬ HasRoomFor s)
+  pub stopped : code ≡ 5 ↔ ¬ GoesOn s
+  pub spent : code ≡ 6 ↔ (GoesOn s × ¬ HasRoomLeft s)
   pub idle : (code ≡ 5) ⊎ (code ≡ 6) → t ≡ s
   -- only a refusal sets the fault
   pub fault : code ≢ 2 → after ≡ before
   -- only want of memory stops the tracker, and while it is not stopped its mesh is sound, closed and clear, and that of each open group
-  pub whole : code ≢ 1 → is_sound t.held ≡ is_sound s.held
-  pub kept : IsWhole t → IsRunInvariant (tracked t)
+  pub goes_on : code ≢ 1 → goes_on t.held ≡ goes_on s.held
+  pub kept : GoesOn t → IsRunInvariant (tracked t)
   -- no other code comes
   pub among : (code ≡ 0) ⊎ (code ≡ 1) ⊎ (code ≡ 2) ⊎ (code ≡ 5) ⊎ (code ≡ 6)
 
 -- The same of a handle: 4 where it holds no tracker.
-abbrev pub Answers : Directive → Option Tracker → Option Tracker → TopoFault → TopoFault → ℕ → Type 0
-Answers what None new before after code = (code ≡ 4) × (new ≡ None) × (after ≡ before)
-Answers what (Some s) new before after code = (t : Tracker) × (new ≡ Some t) × HasDone what s t before after code
+abbrev pub HandleHasDone : Directive → Option Tracker → Option Tracker → TopoFault → TopoFault → ℕ → Type 0
+HandleHasDone what None new before after code = (code ≡ 4) × (new ≡ None) × (after ≡ before)
+HandleHasDone what (Some s) new before after code = (t : Tracker) × (new ≡ Some t) × HasDone what s t before after code
 
 -- 3, with the handle and the fault as they were
 abbrev pub IsBeyond : Option Tracker → Option Tracker → TopoFault → TopoFault → ℕ → Type 0
@@ -73,35 +74,36 @@ IsBeyond old new before after code = (code ≡ 3) × (new ≡ old) × (after ≡
 -- ---- shifts
 
 -- one shift: 3 where it cannot be asked, and else what the code says of the directive
-abbrev pub Shifts : NamedPoint → Option Tracker → Option Tracker → TopoFault → TopoFault → ℕ → Type 0
-Shifts row old new before after code =
-    (¬ CanBeAsked row → IsBeyond old new before after code) × (CanBeAsked row → Answers (asking row) old new before after code)
+abbrev pub HandleHasShifted : NamedPoint → Option Tracker → Option Tracker → TopoFault → TopoFault → ℕ → Type 0
+HandleHasShifted row old new before after code =
+    (¬ CanBeAsked row → IsBeyond old new before after code) × (CanBeAsked row → HandleHasDone (asking row) old new before after code)
 
 -- Each shift in order, up to the first that cannot be asked or is not done, whose code is the answer.
-abbrev pub ShiftsEach : List NamedPoint → Tracker → Tracker → TopoFault → TopoFault → ℕ → Type 0
-ShiftsEach [] s t before after code = (code ≡ 0) × (t ≡ s) × (after ≡ before)
-ShiftsEach (row ∷ rows) s t before after code =
+abbrev pub HasShiftedEach : List NamedPoint → Tracker → Tracker → TopoFault → TopoFault → ℕ → Type 0
+HasShiftedEach [] s t before after code = (code ≡ 0) × (t ≡ s) × (after ≡ before)
+HasShiftedEach (row ∷ rows) s t before after code =
     (¬ CanBeAsked row × (code ≡ 3) × (t ≡ s) × (after ≡ before))
     ⊎ (CanBeAsked row × (code ≢ 0) × HasDone (asking row) s t before after code)
-    ⊎ (CanBeAsked row × ((mid : Tracker) × (between : TopoFault) × HasDone (asking row) s mid before between 0 × ShiftsEach rows mid t between after code))
+    ⊎ (CanBeAsked row × ((mid : Tracker) × (between : TopoFault) × HasDone (asking row) s mid before between 0 × HasShiftedEach rows mid t between after code))
 
 -- the same of a handle
-abbrev pub AllShifts : List NamedPoint → Option Tracker → Option Tracker → TopoFault → TopoFault → ℕ → Type 0
-AllShifts rows None new before after code = (code ≡ 4) × (new ≡ None) × (after ≡ before)
-AllShifts rows (Some s) new before after code = (t : Tracker) × (new ≡ Some t) × ShiftsEach rows s t before after code
+abbrev pub HandleHasShiftedEach : List NamedPoint → Option Tracker → Option Tracker → TopoFault → TopoFault → ℕ → Type 0
+HandleHasShiftedEach rows None new before after code = (code ≡ 4) × (new ≡ None) × (after ≡ before)
+HandleHasShiftedEach rows (Some s) new before after code = (t : Tracker) × (new ≡ Some t) × HasShiftedEach rows s t before after code
 
 -- ---- making
 
--- a handle holds a tracker of the mesh, which nothing has stopped, of which nothing is asked, and which has told nothing
+-- a handle holds a tracker of the mesh, which is sound, closed and clear; nothing has stopped it or is asked of it, and it has told nothing
 pub record IsMade (m : Mesh) (new : Option Tracker) : Type 0 where
   pub tracker : Tracker
   pub holds : new ≡ Some tracker
   pub state : tracked tracker ≡ unsaved m
-  pub whole : IsWhole tracker
+  pub valid : IsValidSurface m
+  pub goes_on : GoesOn tracker
   pub log : told tracker ≡ []
 
 -- What a code says of a call that makes a tracker of points and faces.
-pub record Makes (points : List GivenPoint) (faces : List GivenFace) (new : Option Tracker) (before after : TopoFault) (code : ℕ) : Type 0 where
+pub record HasMade (points : List GivenPoint) (faces : List GivenFace) (new : Option Tracker) (before after : TopoFault) (code : ℕ) : Type 0 where
   -- 0: they have no fault, and the handle holds a tracker of their mesh
   pub made : code ≡ 0 → (make_fault points faces ≡ None) × IsMade (given_mesh points faces) new
   -- 2: the fault is the first that they have
@@ -115,7 +117,7 @@ pub record Makes (points : List GivenPoint) (faces : List GivenFace) (new : Opti
 -- ---- reading
 
 -- What a code says of a call that puts rows into a buffer: what was there before, what is there now, and the number that is told.
-pub record Puts {X : Type 0} (rows into now : List X) (before size code : ℕ) : Type 0 where
+pub record HasPut {X : Type 0} (rows into now : List X) (before size code : ℕ) : Type 0 where
   -- 0: they are the first items of the buffer, and their number is told
   pub done : code ≡ 0 → (length rows ≤ length into) × (now ≡ rows ++ drop (length rows) into) × (size ≡ length rows)
   -- 3: they do not fit, nothing is put, and the number that is needed is told
@@ -126,35 +128,35 @@ pub record Puts {X : Type 0} (rows into now : List X) (before size code : ℕ) :
   pub among : (code ≡ 0) ⊎ (code ≡ 1) ⊎ (code ≡ 3)
 
 -- The same of a handle's tracker, which stays: 4 where there is none.
-abbrev pub Reads : {X : Type 0} → (Tracker → List X) → Option Tracker → Option Tracker → List X → List X → ℕ → ℕ → ℕ → Type 0
-Reads rows None new into now before size code = (code ≡ 4) × (new ≡ None) × (now ≡ into) × (size ≡ before)
-Reads rows (Some t) new into now before size code = (new ≡ Some t) × Puts (rows t) into now before size code
+abbrev pub HandleHasPut : {X : Type 0} → (Tracker → List X) → Option Tracker → Option Tracker → List X → List X → ℕ → ℕ → ℕ → Type 0
+HandleHasPut rows None new into now before size code = (code ≡ 4) × (new ≡ None) × (now ≡ into) × (size ≡ before)
+HandleHasPut rows (Some t) new into now before size code = (new ≡ Some t) × HasPut (rows t) into now before size code
 
 -- The log is put into a buffer, and at 0 it is taken: the tracker has told nothing since. It stays in all else. No memory is needed.
-pub record TakesLog (s t : Tracker) (into now : List ℕ) (before size code : ℕ) : Type 0 where
-  pub puts : Puts (told s) into now before size code
+pub record HasTakenLog (s t : Tracker) (into now : List ℕ) (before size code : ℕ) : Type 0 where
+  pub puts : HasPut (told s) into now before size code
   pub needs_none : code ≢ 1
   pub taken : code ≡ 0 → told t ≡ []
   pub left : code ≢ 0 → told t ≡ told s
   pub engine : engine_in t.held ≡ engine_in s.held
-  pub whole : is_sound t.held ≡ is_sound s.held
+  pub goes_on : goes_on t.held ≡ goes_on s.held
 
 -- the same of a handle
-abbrev pub GivesLog : Option Tracker → Option Tracker → List ℕ → List ℕ → ℕ → ℕ → ℕ → Type 0
-GivesLog None new into now before size code = (code ≡ 4) × (new ≡ None) × (now ≡ into) × (size ≡ before)
-GivesLog (Some s) new into now before size code = (t : Tracker) × (new ≡ Some t) × TakesLog s t into now before size code
+abbrev pub HandleHasTakenLog : Option Tracker → Option Tracker → List ℕ → List ℕ → ℕ → ℕ → ℕ → Type 0
+HandleHasTakenLog None new into now before size code = (code ≡ 4) × (new ≡ None) × (now ≡ into) × (size ≡ before)
+HandleHasTakenLog (Some s) new into now before size code = (t : Tracker) × (new ≡ Some t) × HasTakenLog s t into now before size code
 
 -- the live vertices and faces and the bytes of the log
-pub record Counts : Type 0 where
+pub record Counted : Type 0 where
   pub vertices : ℕ
   pub faces : ℕ
   pub log : ℕ
 
 -- those of a tracker
-abbrev pub counts_of : Tracker → Counts
+abbrev pub counts_of : Tracker → Counted
 counts_of t = record { vertices = finite.len (tracked t).mesh.points; faces = finite.len (tracked t).mesh.faces; log = length (told t) }
 
 -- they are told of a handle's tracker, which stays: 4 where there is none
-abbrev pub IsCounted : Option Tracker → Option Tracker → Counts → Counts → ℕ → Type 0
-IsCounted None new before after code = (code ≡ 4) × (new ≡ None) × (after ≡ before)
-IsCounted (Some t) new before after code = (code ≡ 0) × (new ≡ Some t) × (after ≡ counts_of t)
+abbrev pub HandleHasCounted : Option Tracker → Option Tracker → Counted → Counted → ℕ → Type 0
+HandleHasCounted None new before after code = (code ≡ 4) × (new ≡ None) × (after ≡ before)
+HandleHasCounted (Some t) new before after code = (code ≡ 0) × (new ≡ Some t) × (after ≡ counts_of t)
