@@ -1,0 +1,41 @@
+-- The numbers that tell a caller in C why something is refused, and where.
+use Rattle.std.specs.Prelude.{ℕ, nat_lt, if◌then◌else◌}
+use Rattle.mesh_base.specs.declared.ShapeFault.{ShapeFault}
+use Rattle.mesh_base.specs.declared.ShapeFault.TheVariants.{TooManyVertices, TooManyFaces, NoVertex as NoCorner, Repeated, Doubled, Unbalanced}
+use Rattle.mesh_base.specs.declared.UseWhy.{UseWhy}
+use Rattle.mesh_base.specs.declared.UseWhy.TheVariants.{NoVertex, ShiftRange, Box, NoField, Solid}
+use Rattle.track_held.specs.declared.making.MakeFault.{MakeFault}
+use Rattle.track_held.specs.declared.making.MakeFault.TheVariants.{Outside, Shape, Meets}
+use Rattle.topo_library.specs.declared.fault.TopoFault.{TopoFault}
+
+-- a reason and its place
+abbrev fault_at : ℕ → ℕ → ℕ → ℕ → TopoFault
+fault_at why a b c = record { why = why; a = a; b = b; c = c }
+
+-- a count, or the greatest number that is told
+abbrev pub capped : ℕ → ℕ
+capped count = if nat_lt count 4294967295 then count else 4294967295
+
+-- what is wrong with the shape of points and faces
+abbrev pub shape_place : ShapeFault → TopoFault
+shape_place (TooManyVertices count) = fault_at 11 (capped count) 0 0
+shape_place (TooManyFaces count) = fault_at 12 (capped count) 0 0
+shape_place (NoCorner face corner) = fault_at 13 face corner 0
+shape_place (Repeated face) = fault_at 14 face 0 0
+shape_place (Doubled first second) = fault_at 15 first second 0
+shape_place (Unbalanced from to) = fault_at 16 from to 0
+
+-- what is wrong with points and faces of which no tracker is made: a point outside the box, by its number; a fault of shape; or an edge and
+-- a face that meet
+abbrev pub make_place : MakeFault → TopoFault
+make_place (Outside number) = fault_at 10 number 0 0
+make_place (Shape fault) = shape_place fault
+make_place (Meets pair) = fault_at 17 pair.a pair.b pair.face
+
+-- why a directive is refused, and for which vertex
+abbrev pub use_place : UseWhy → TopoFault
+use_place (NoVertex v) = fault_at 1 v 0 0
+use_place (ShiftRange v) = fault_at 2 v 0 0
+use_place (Box v) = fault_at 3 v 0 0
+use_place NoField = fault_at 4 0 0 0
+use_place (Solid v) = fault_at 5 v 0 0

@@ -1,0 +1,268 @@
+//! The tracker for a caller in C or C++: a surface is made of points and faces, and changed by one call after another.
+//!
+//! The tracker is that of Brochu and Bridson, "Robust topological operations for dynamic explicit surfaces" (2009).
+#![tactic(auto)]
+
+ghost use Rattle.std.specs.Prelude.{◌≡◌, ◌≤◌, ◌<◌, None};
+ghost use Rattle.grid_base.specs.declared.TheConstants.{LENGTH_MAX, ID_MAX};
+ghost use Rattle.step_text.specs.Ranges.{IsFrom};
+ghost use Rattle.step_text.specs.declared.Directive.TheVariants as directive;
+ghost use Rattle.edit_base.specs.declared.PassKind.TheVariants as pass;
+ghost use Rattle.track_held.specs.Reading.{named_points, named_faces};
+ghost use Rattle.topo_library.specs.Codes.{tracked, HandleHasDone, IsBeyond, HandleHasShifted, HandleHasShiftedEach, HasMade, HandleHasPut, HandleHasTakenLog, HandleHasCounted};
+
+mod calling;
+mod codes;
+mod fault;
+mod handle;
+mod loose;
+mod making;
+mod owned;
+mod reading;
+mod tracker;
+
+use calling::{advance, shift_each, shift_one};
+use codes::RANGE;
+use edit_base::PassKind;
+use fault::TopoFault;
+use grid_base::{ID_MAX, LENGTH_MAX};
+use handle::Topo;
+use making::make;
+use reading::{count, read_faces, read_log, read_points};
+use std::alloc::Global;
+use step_text::Directive;
+use track_held::{GivenFace, GivenPoint, NamedFace, NamedPoint};
+
+/// Makes a tracker of the surface of these points and faces, whose corners number the points from 1. What `out` held is freed first.
+#[unsafe(no_mangle)]
+pub extern "C" fn topo_new(
+    alloc: Global,
+    points: &[GivenPoint],
+    faces: &[GivenFace],
+    out: &mut Topo,
+    fault: &mut TopoFault,
+) -> u32
+    ensures { HasMade points.now faces.now out.new.owned.value fault.old fault.new result }
+{
+    make(alloc, points, faces, out, fault)
+}
+
+/// Frees a tracker. The handle then holds none.
+#[unsafe(no_mangle)]
+pub extern "C" fn topo_free(alloc: Global, topo: &mut Topo)
+    ensures { topo.new.owned.value ≡ None }
+{
+    drop(topo.take(alloc));
+}
+
+// A vertex, and the shift that is asked of it.
+fn row_of(id: u32, x: i32, y: i32, z: i32) -> NamedPoint
+    ensures { result ≡ record { id = id; x = x; y = y; z = z } }
+{
+    NamedPoint { id, x, y, z }
+}
+
+/// Adds a shift to what is asked of one vertex.
+#[unsafe(no_mangle)]
+pub extern "C" fn topo_shift(
+    alloc: Global,
+    topo: &mut Topo,
+    v: u32,
+    x: i32,
+    y: i32,
+    z: i32,
+    fault: &mut TopoFault,
+) -> u32
+    ensures { HandleHasShifted (record { id = v; x = x; y = y; z = z })
+        topo.old.owned.value topo.new.owned.value fault.old fault.new result }
+{
+    let row = row_of(v, x, y, z);
+    shift_one(alloc, topo, &row, fault)
+}
+
+/// Adds each shift to what is asked of its vertex, up to the first that cannot be asked or is refused.
+#[unsafe(no_mangle)]
+pub extern "C" fn topo_shift_each(
+    alloc: Global,
+    topo: &mut Topo,
+    shifts: &[NamedPoint],
+    fault: &mut TopoFault,
+) -> u32
+    ensures { HandleHasShiftedEach shifts.now topo.old.owned.value topo.new.owned.value
+        fault.old fault.new result }
+{
+    shift_each(alloc, topo, shifts, fault)
+}
+
+/// Takes the asked shifts, or the first of the lesser ways that is safe.
+#[unsafe(no_mangle)]
+pub extern "C" fn topo_step(alloc: Global, topo: &mut Topo, fault: &mut TopoFault) -> u32
+    ensures { HandleHasDone directive.Step topo.old.owned.value topo.new.owned.value
+        fault.old fault.new result }
+{
+    advance(alloc, topo, &Directive::Step, fault)
+}
+
+/// Splits each edge that is longer.
+#[unsafe(no_mangle)]
+pub extern "C" fn topo_split(
+    alloc: Global,
+    topo: &mut Topo,
+    over: u32,
+    fault: &mut TopoFault,
+) -> u32
+    ensures beyond { LENGTH_MAX < over → IsBeyond topo.old.owned.value topo.new.owned.value
+        fault.old fault.new result }
+    ensures does { over ≤ LENGTH_MAX → HandleHasDone (directive.Pass (pass.Split over))
+        topo.old.owned.value topo.new.owned.value fault.old fault.new result }
+{
+    if over > LENGTH_MAX {
+        return RANGE;
+    }
+    let what = Directive::Pass(PassKind::Split { over });
+    advance(alloc, topo, &what, fault)
+}
+
+/// Collapses each edge that is shorter.
+#[unsafe(no_mangle)]
+pub extern "C" fn topo_collapse(
+    alloc: Global,
+    topo: &mut Topo,
+    under: u32,
+    fault: &mut TopoFault,
+) -> u32
+    ensures beyond { LENGTH_MAX < under → IsBeyond topo.old.owned.value topo.new.owned.value
+        fault.old fault.new result }
+    ensures does { under ≤ LENGTH_MAX → HandleHasDone (directive.Pass (pass.Collapse under))
+        topo.old.owned.value topo.new.owned.value fault.old fault.new result }
+{
+    if under > LENGTH_MAX {
+        return RANGE;
+    }
+    let what = Directive::Pass(PassKind::Collapse { under });
+    advance(alloc, topo, &what, fault)
+}
+
+/// Flips each edge that is longer than the distance of its opposite corners.
+#[unsafe(no_mangle)]
+pub extern "C" fn topo_flip(alloc: Global, topo: &mut Topo, fault: &mut TopoFault) -> u32
+    ensures { HandleHasDone (directive.Pass pass.Flip) topo.old.owned.value topo.new.owned.value
+        fault.old fault.new result }
+{
+    advance(alloc, topo, &Directive::Pass(PassKind::Flip), fault)
+}
+
+/// Zips each two edges whose midpoints are no further apart.
+#[unsafe(no_mangle)]
+pub extern "C" fn topo_zip(
+    alloc: Global,
+    topo: &mut Topo,
+    within: u32,
+    fault: &mut TopoFault,
+) -> u32
+    ensures beyond { LENGTH_MAX < within → IsBeyond topo.old.owned.value topo.new.owned.value
+        fault.old fault.new result }
+    ensures does { within ≤ LENGTH_MAX → HandleHasDone (directive.Pass (pass.Zip within))
+        topo.old.owned.value topo.new.owned.value fault.old fault.new result }
+{
+    if within > LENGTH_MAX {
+        return RANGE;
+    }
+    let what = Directive::Pass(PassKind::Zip { within });
+    advance(alloc, topo, &what, fault)
+}
+
+/// Pinches each vertex whose faces are two fans or more.
+#[unsafe(no_mangle)]
+pub extern "C" fn topo_pinch(alloc: Global, topo: &mut Topo, fault: &mut TopoFault) -> u32
+    ensures { HandleHasDone (directive.Pass pass.Pinch) topo.old.owned.value topo.new.owned.value
+        fault.old fault.new result }
+{
+    advance(alloc, topo, &Directive::Pass(PassKind::Pinch), fault)
+}
+
+/// Makes a vertex solid: it never moves again.
+#[unsafe(no_mangle)]
+pub extern "C" fn topo_solid(alloc: Global, topo: &mut Topo, v: u32, fault: &mut TopoFault) -> u32
+    ensures beyond { ¬ IsFrom 1 ID_MAX v → IsBeyond topo.old.owned.value topo.new.owned.value
+        fault.old fault.new result }
+    ensures does { IsFrom 1 ID_MAX v → HandleHasDone (directive.Solid v)
+        topo.old.owned.value topo.new.owned.value fault.old fault.new result }
+{
+    if v < 1 || v > ID_MAX {
+        return RANGE;
+    }
+    advance(alloc, topo, &Directive::Solid { v }, fault)
+}
+
+/// Opens a group of calls, which is kept whole or taken back whole.
+#[unsafe(no_mangle)]
+pub extern "C" fn topo_open(alloc: Global, topo: &mut Topo, fault: &mut TopoFault) -> u32
+    ensures { HandleHasDone directive.Group topo.old.owned.value topo.new.owned.value
+        fault.old fault.new result }
+{
+    advance(alloc, topo, &Directive::Group, fault)
+}
+
+/// Closes the group that was opened last: where each step in it was whole and no edit was refused it is kept, and else it is taken back.
+/// Where none is open, nothing is done.
+#[unsafe(no_mangle)]
+pub extern "C" fn topo_close(alloc: Global, topo: &mut Topo, fault: &mut TopoFault) -> u32
+    ensures { HandleHasDone directive.Close topo.old.owned.value topo.new.owned.value
+        fault.old fault.new result }
+{
+    advance(alloc, topo, &Directive::Close, fault)
+}
+
+/// How many vertices and faces live, and how many bytes the log has.
+#[unsafe(no_mangle)]
+pub extern "C" fn topo_counts(
+    alloc: Global,
+    topo: &mut Topo,
+    vertices: &mut u32,
+    faces: &mut u32,
+    log: &mut usize,
+) -> u32
+    ensures { HandleHasCounted topo.old.owned.value topo.new.owned.value
+        (record { vertices = vertices.old; faces = faces.old; log = log.old })
+        (record { vertices = vertices.new; faces = faces.new; log = log.new }) result }
+{
+    count(alloc, topo, vertices, faces, log)
+}
+
+/// Puts the live vertices, by rising id, and where they stand into a buffer, where all of them fit, and tells how many they are.
+#[unsafe(no_mangle)]
+pub extern "C" fn topo_points(
+    alloc: Global,
+    topo: &mut Topo,
+    into: &mut [NamedPoint],
+    size: &mut usize,
+) -> u32
+    ensures { HandleHasPut (λ t. named_points (tracked t).mesh) topo.old.owned.value topo.new.owned.value
+        into.old into.new size.old size.new result }
+{
+    read_points(alloc, topo, into, size)
+}
+
+/// Puts the live faces, by rising id, and their corners into a buffer, where all of them fit, and tells how many they are.
+#[unsafe(no_mangle)]
+pub extern "C" fn topo_faces(
+    alloc: Global,
+    topo: &mut Topo,
+    into: &mut [NamedFace],
+    size: &mut usize,
+) -> u32
+    ensures { HandleHasPut (λ t. named_faces (tracked t).mesh) topo.old.owned.value topo.new.owned.value
+        into.old into.new size.old size.new result }
+{
+    read_faces(alloc, topo, into, size)
+}
+
+/// Puts what was told since the log was last taken into a buffer, where it fits, and forgets it then; and tells how many bytes it has.
+#[unsafe(no_mangle)]
+pub extern "C" fn topo_log(alloc: Global, topo: &mut Topo, into: &mut [u8], size: &mut usize) -> u32
+    ensures { HandleHasTakenLog topo.old.owned.value topo.new.owned.value
+        into.old into.new size.old size.new result }
+{
+    read_log(alloc, topo, into, size)
+}

@@ -1,0 +1,5 @@
+pub mod Alone
+pub mod Faults
+pub mod Items
+pub mod Left
+pub mod Numbers

@@ -1,0 +1,6 @@
+use Rattle.std.proofs.Common.{refl}
+use Rattle.track_held.proofs.Faults.{refused_so}
+use Rattle.track_held.proofs.making.track.Goals as goal
+
+pub returns-clause-first : goal.returns-clause-first
+returns-clause-first c = refused_so c.args.points.now c.args.faces.now c.if-points.false (c.in-Ok.ensures.none refl) _ _ c.in-Ok.ensures.points c.in_ok-faces.ensures c.track_lists.result c.track_lists.ensures.first

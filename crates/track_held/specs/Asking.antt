@@ -1,0 +1,31 @@
+-- What is asked of a tracker by a caller.
+use Rattle.std.specs.Prelude.{◌≡◌}
+use Rattle.grid_base.specs.declared.Shift.{Shift}
+use Rattle.grid_base.specs.declared.TheConstants.{ID_MAX, SHIFT_MAX}
+use Rattle.grid_base.specs.Components.{FitWithin}
+use Rattle.grid_base.specs.Points.{shift_by}
+use Rattle.step_text.specs.Ranges.{IsFrom}
+use Rattle.step_text.specs.declared.Directive.{Directive}
+use Rattle.step_text.specs.declared.Directive.TheVariants.{ShiftOne, Drive, Fit}
+use Rattle.track_held.specs.declared.given.NamedPoint.{NamedPoint}
+
+-- the shift has these components
+pub record IsGiven (row : NamedPoint) (by : Shift) : Type 0 where
+  pub x : by.x ≡ row.x
+  pub y : by.y ≡ row.y
+  pub z : by.z ≡ row.z
+
+-- no component is above the limit, and the id is one that a vertex may have
+pub record CanBeAsked (row : NamedPoint) : Type 0 where
+  pub shift : FitWithin SHIFT_MAX row.x row.y row.z
+  pub vertex : IsFrom 1 ID_MAX row.id
+
+-- the shift is added to what is asked of the vertex
+abbrev pub asking : NamedPoint → Directive
+asking row = ShiftOne row.id (shift_by (record { x = row.x; y = row.y; z = row.z }))
+
+-- a directive that asks neither a stored field nor a sizing
+abbrev pub AsksNothing : Directive → Type 0
+AsksNothing (Drive name) = ⊥
+AsksNothing Fit = ⊥
+AsksNothing _ = Unit {0}

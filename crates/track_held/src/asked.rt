@@ -1,0 +1,30 @@
+//! A shift that is asked of a vertex.
+ghost use Rattle.std.specs.Prelude.{◌≡◌, MatchOption};
+ghost use Rattle.grid_base.specs.declared.TheConstants.{SHIFT_MAX};
+ghost use Rattle.grid_base.specs.Components.{FitWithin};
+ghost use Rattle.track_held.specs.Asking.{CanBeAsked, IsGiven, asking};
+
+use crate::given::NamedPoint;
+use grid_base::{ID_MAX, Shift};
+use step_text::Directive;
+
+// The shift; None where a component is above the limit.
+fn shift_of(row: &NamedPoint) -> Option<Shift>
+    ensures { MatchOption result (¬ FitWithin SHIFT_MAX row.now.x row.now.y row.now.z)
+        (λ by. FitWithin SHIFT_MAX row.now.x row.now.y row.now.z × IsGiven row.now by) }
+{
+    Shift::new(row.x, row.y, row.z)
+}
+
+/// The directive that adds a shift to what is asked of a vertex; None where a component or the id is beyond its limit.
+pub fn asking(row: &NamedPoint) -> Option<Directive>
+    ensures { MatchOption result (¬ CanBeAsked row.now)
+        (λ what. CanBeAsked row.now × (what ≡ asking row.now)) }
+{
+    let v = row.id;
+    let by = shift_of(row)?;
+    if v < 1 || v > ID_MAX {
+        return None;
+    }
+    Some(Directive::ShiftOne { v, by })
+}

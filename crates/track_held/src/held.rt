@@ -1,0 +1,202 @@
+//! An engine between two calls.
+ghost use Rattle.std.specs.Prelude.{◌≡◌, ◌≤◌, ◌<◌, ◌↔◌, true, false, [], Some, IfOk, OnErr, IsSome, IsTrue};
+ghost use Rattle.mesh_base.specs.Valid.{IsValidSurface};
+ghost use Rattle.mesh_field.specs.Stored.{IsWellKept};
+ghost use Rattle.mesh_sizing.specs.Sizes.{IsBand, IsWellKept as SizesWell};
+ghost use Rattle.step_text.specs.Ranges.{IsInRange};
+ghost use Rattle.track_engine.specs.Answers.{Nothing};
+ghost use Rattle.track_engine.specs.State.{unsaved};
+ghost use Rattle.track_engine.specs.Effects.{effect_of};
+ghost use Rattle.track_engine.specs.Parts.{Writes};
+ghost use Rattle.track_engine.specs.Engines.{state_in};
+ghost use Rattle.track_engine.specs.Invariant.{IsRunInvariant, HasRoom};
+ghost use Rattle.track_engine.specs.Ready.{IsReady};
+ghost use Rattle.track_held.specs.Asking.{AsksNothing};
+ghost use Rattle.track_held.specs.Growing.{bytes_in};
+ghost use Rattle.track_held.specs.Kept.{facts};
+
+use crate::growing::GrowingSink;
+use grid_base::{NoMemory, Point, Shift};
+use mesh_base::{Surface, UseWhy};
+use mesh_field::{Fields, no_fields};
+use mesh_sizing::{Band, Sizing};
+use outside_io::{Ends, Stop, TallyDesk};
+use std::alloc::Global;
+use step_text::Directive;
+use track_engine::{Engine, RunTerms, Target};
+
+// What a field that is not there would answer.
+fn no_shift(_which: u8, _at: Point) -> Shift {
+    Shift { x: 0, y: 0, z: 0 }
+}
+
+// How long an edge may be by a sizing that is never asked.
+fn any_length(_at: Point) -> Band
+    ensures { IsBand result }
+{
+    Band { low: 1, high: 2 }
+}
+
+// Does one directive that asks neither a field nor the sizing: its lines are told to the log, or it is refused and nothing changes, or it
+// stops in its lines.
+fn tell<'a, S: Surface, F: Fn(u8, Point) -> Shift, G: Fn(Point) -> Band>(
+    alloc: Global,
+    engine: &mut Engine<S>,
+    what: &Directive,
+    log: &mut GrowingSink,
+    fields: &'a Fields<F>,
+    sizing: &'a Sizing<G>,
+) -> Result<Option<UseWhy>, Stop>
+    requires range { IsInRange what.now }
+    requires asks { AsksNothing what.now }
+    requires ready { IsReady S.beyond S.mesh S.kept engine.old }
+    requires room { HasRoom 1 engine.old.run }
+    requires fields { IsWellKept F.Fn fields.now }
+    requires sizing { SizesWell G.Fn sizing.now }
+    ensures tells { let old = state_in S.mesh S.kept engine.old in
+        Writes (effect_of Nothing what.now old) (state_in S.mesh S.kept engine.new)
+        (Some (bytes_in log.old)) (Some (bytes_in log.new)) result }
+    // A refusal leaves the state as it was.
+    ensures left { IfOk result (λ refused. IsSome refused →
+        state_in S.mesh S.kept engine.new ≡ state_in S.mesh S.kept engine.old) }
+    ensures ready { IfOk result (λ _. IsReady S.beyond S.mesh S.kept engine.new) }
+{
+    let to = Target {
+        prefix: "",
+        decimals: 0,
+    };
+    let terms = RunTerms { to, fields, sizing };
+    let mut desk = TallyDesk::new();
+    let mut ends = Ends {
+        desk: &mut desk,
+        out: log,
+    };
+    engine.advance(alloc, what, &terms, &mut ends)
+}
+
+// Gives up what the mesh keeps for a return, unless a group is open, to whose mark it may have to go back.
+fn settle<S: Surface>(engine: &mut Engine<S>)
+    requires { IsReady S.beyond S.mesh S.kept engine.old }
+    ensures ready { IsReady S.beyond S.mesh S.kept engine.new }
+    ensures state { state_in S.mesh S.kept engine.new ≡ state_in S.mesh S.kept engine.old }
+{
+    if !engine.run.groups.is_open() {
+        engine.mesh.settle();
+    }
+}
+
+/// An engine with the log that it has told since that was last taken.
+///
+/// It goes on until a directive stops in its lines for want of memory. While it does, its mesh is sound, closed and clear, and so is the
+/// mesh to which each open group can go back.
+#[derive(Drop)]
+pub struct Held<S: Surface> {
+    engine: Engine<S>,
+    log: GrowingSink,
+    goes_on: bool,
+    ghost ready: { goes_on ≡ true → IsReady S.beyond S.mesh S.kept engine } by { Prim.hlevel facts },
+}
+
+impl<S: Surface + Drop> Held<S> {
+    ghost use Rattle.track_held.specs.Held.{engine_in, log_in, goes_on};
+
+    /// An engine of a closed surface that does not meet itself, with an empty log.
+    pub fn new(alloc: Global, mesh: S) -> Result<Held<S>, NoMemory>
+        requires { IsValidSurface (S.mesh mesh) }
+        ensures goes_on { IfOk result (λ held. goes_on held ≡ true) }
+        ensures log { IfOk result (λ held. log_in held ≡ []) }
+        ensures state { IfOk result (λ held.
+            state_in S.mesh S.kept (engine_in held) ≡ unsaved (S.mesh mesh)) }
+    {
+        let engine = Engine::new(alloc, mesh)?;
+        Ok(Held {
+            engine,
+            log: GrowingSink::new(alloc),
+            goes_on: true,
+        })
+    }
+}
+
+impl<S: Surface> Held<S> {
+    ghost use Rattle.track_held.specs.Held.{engine_in, log_in, goes_on};
+
+    /// Whether no directive has stopped in its lines.
+    pub fn goes_on(&self) -> bool
+        ensures is { result ≡ goes_on self.now }
+        // While that holds, the mesh is sound, closed and clear, and so is that of each open group.
+        ensures whole { goes_on self.now ≡ true →
+            IsRunInvariant (state_in S.mesh S.kept (engine_in self.now)) }
+    {
+        self.goes_on
+    }
+
+    /// Whether one more directive may be taken: fewer than 2^32 - 1 steps were.
+    pub fn has_room(&self) -> bool
+        ensures { IsTrue result ↔ HasRoom 1 (engine_in self.now).run }
+    {
+        self.engine.run.steps < u32::MAX && self.engine.run.saved < u32::MAX
+    }
+
+    /// The mesh.
+    pub fn mesh(&self) -> &S
+        ensures { result.now ≡ (engine_in self.now).mesh }
+    {
+        &self.engine.mesh
+    }
+
+    /// What was told since it was last cleared.
+    pub fn log(&self) -> &[u8]
+        ensures { result.now ≡ log_in self.now }
+    {
+        self.log.bytes()
+    }
+
+    /// Forgets what was told.
+    pub fn clear_log(&mut self)
+        ensures log { log_in self.new ≡ [] }
+        ensures engine { engine_in self.new ≡ engine_in self.old }
+        ensures goes_on { goes_on self.new ≡ goes_on self.old }
+    {
+        self.log.clear();
+    }
+
+    /// Does one directive that asks neither a field nor the sizing: its lines are told, or it is refused and nothing changes, or it stops
+    /// in its lines for want of memory, and goes on no more.
+    pub fn take(&mut self, alloc: Global, what: &Directive) -> Result<Option<UseWhy>, Stop>
+        requires range { IsInRange what.now }
+        requires asks { AsksNothing what.now }
+        requires goes_on { goes_on self.old ≡ true }
+        requires room { HasRoom 1 (engine_in self.old).run }
+        ensures goes_on { IfOk result (λ _. goes_on self.new ≡ true) }
+        ensures stopped { OnErr result (goes_on self.new ≡ false) }
+        ensures tells { let old = state_in S.mesh S.kept (engine_in self.old) in
+            Writes (effect_of Nothing what.now old) (state_in S.mesh S.kept (engine_in self.new))
+            (Some (log_in self.old)) (Some (log_in self.new)) result }
+        // A refusal leaves the state as it was.
+        ensures left { IfOk result (λ refused. IsSome refused →
+            state_in S.mesh S.kept (engine_in self.new)
+            ≡ state_in S.mesh S.kept (engine_in self.old)) }
+    {
+        let fields = no_fields(no_shift);
+        let sizing = Sizing::new(any_length);
+        let told = tell(
+            alloc,
+            &mut self.engine,
+            what,
+            &mut self.log,
+            &fields,
+            &sizing,
+        );
+        match told {
+            Ok(None) => {
+                settle(&mut self.engine);
+                Ok(None)
+            }
+            Ok(Some(why)) => Ok(Some(why)),
+            Err(stop) => {
+                self.goes_on = false;
+                Err(stop)
+            }
+        }
+    }
+}

@@ -1,0 +1,18 @@
+//! A tracked surface that is held between two calls of its owner: an engine, and the lines that it has told since they were last taken.
+//!
+//! The tracker is that of Brochu and Bridson, "Robust topological operations for dynamic explicit surfaces" (2009).
+#![tactic(auto)]
+
+mod asked;
+mod given;
+mod growing;
+mod held;
+mod making;
+mod reading;
+
+pub use asked::asking;
+pub use given::{GivenFace, GivenPoint, NamedFace, NamedPoint};
+pub use growing::GrowingSink;
+pub use held::Held;
+pub use making::{MakeFault, MakeRefusal, track};
+pub use reading::{NamedFaces, NamedPoints, named_faces, named_points, put_rows};
