@@ -5,7 +5,7 @@
 
 Each run must end by itself, with status 1 (no memory) or as the whole run did; what it wrote to standard output must be the first bytes of
 the whole log; each mesh whose line was written whole must be stored as in the whole run, but that of a last line, which may be missing; and
-no other file may be there. At most MOST (2,000) allocations of a job are tried, evenly spread. It needs a C compiler, `cc`.
+no other file may be there. Of a replay, which writes a line at its end alone, the first meshes must be stored. At most MOST (2,000) allocations of a job are tried, evenly spread. It needs a C compiler, `cc`.
 """
 
 import os
@@ -54,11 +54,23 @@ JOBS = [
     ("a pass by the sizing", LARGE, "fit\nsave\n"),
     ("a log that is measured", PARTED, PARTED_LOG, "measure"),
     ("a log with a line that does not fit", PARTED, PARTED_LOG.replace("0 0 4\n", "0 0 5\n", 1), "measure"),
+    ("a log that is proved", PARTED, PARTED_LOG, "prove"),
+    ("a log that is replayed", PARTED, PARTED_LOG, "replay"),
+    ("a mesh that meets itself, looked at", CROSSED, "", "check"),
+    ("a mesh without a face, looked at", TETRAHEDRON.replace("f 1 4 3\n", ""), "", "check"),
 ]
+# the words of each command
+WORDS = {
+    "track": ["mesh.obj", "steps.txt", "t"],
+    "measure": ["mesh.obj", "steps.txt"],
+    "prove": ["mesh.obj", "steps.txt"],
+    "replay": ["mesh.obj", "steps.txt", "t"],
+    "check": ["mesh.obj"],
+}
 
 
 def run(folder, shim, mesh, steps, command, fail_at=0):
-    """The status, the bytes written, the files stored and the count of allocations. A log that is measured stands in the place of steps."""
+    """The status, the bytes written, the files stored and the count of allocations. A log that is read stands in the place of steps."""
     for name in os.listdir(folder):
         os.remove(os.path.join(folder, name))
     for name, text in (("mesh.obj", mesh), ("steps.txt", steps)):
@@ -66,8 +78,7 @@ def run(folder, shim, mesh, steps, command, fail_at=0):
             out.write(text)
     count = os.path.join(folder, "count")
     env = {"LD_PRELOAD": shim, "FAIL_AT": str(fail_at), "COUNT_TO": count, "PATH": "/usr/bin:/bin"}
-    words = [command, "mesh.obj", "steps.txt"] + (["t"] if command == "track" else [])
-    ran = subprocess.run([PROGRAM, *words], cwd=folder, stdout=subprocess.PIPE, stderr=subprocess.PIPE, env=env, timeout=60)
+    ran = subprocess.run([PROGRAM, command, *WORDS[command]], cwd=folder, stdout=subprocess.PIPE, stderr=subprocess.PIPE, env=env, timeout=60)
     files = {}
     for name in os.listdir(folder):
         if name not in ("mesh.obj", "steps.txt", "count"):
@@ -84,11 +95,13 @@ def named_in(log):
     return [name.decode() for name in named], log.endswith(b"\n") and bool(lines) and lines[-1].startswith(b"mesh ")
 
 
-def is_as_promised(whole, ended):
+def is_as_promised(command, whole, ended):
     status, log, files, _ = whole
     now_status, now_log, now_files, _ = ended
     if (now_status, now_log, now_files) == (status, log, files):
         return True
+    if command == "replay":
+        return now_status == 1 and now_log == b"" and now_files == {name: files[name] for name in sorted(files)[: len(now_files)]}
     named, is_open = named_in(now_log)
     due = set(named[:-1]) if is_open else set(named)
     stored = all(files.get(name) == text for name, text in now_files.items())
@@ -112,7 +125,7 @@ def main():
             for at in tried:
                 ended = run(folder, shim, mesh, steps, command, at)
                 stopped += ended[0] == 1
-                if not is_as_promised(whole, ended):
+                if not is_as_promised(command, whole, ended):
                     bad.append((at, ended[0]))
             failed += len(bad)
             print(f"{what} (status {whole[0]}): {total} allocations, {len(tried)} refused, {stopped} ended for want of memory, {len(bad)} not as promised {bad[:5] or ''}".rstrip())
