@@ -10,6 +10,7 @@ decimal, so the same output of the program gives the same bytes.
 """
 
 import heapq
+import itertools
 import math
 import os
 import subprocess
@@ -233,8 +234,11 @@ def nearness(triangle, point):
     return az + u * (bz - az) + v * (cz - az)
 
 
-def from_back_to_front(triangles):
-    """The numbers of triangles in an order of painting: where two overlap, the further one is first."""
+def from_back_to_front(triangles, colours):
+    """The numbers of triangles in an order of painting: where two overlap, the further one is first.
+
+    Of those that may come next it goes on with one of the same colour, so that few changes of colour have to be written.
+    """
     mean = [sum(p[2] for p in it) for it in triangles]
     order = sorted(range(len(triangles)), key=lambda k: (min(p[0] for p in triangles[k]), k))
     before, waits = {k: [] for k in order}, {k: 0 for k in order}
@@ -250,20 +254,37 @@ def from_back_to_front(triangles):
             behind, front = (i, j) if nearness(triangles[i], middle) < nearness(triangles[j], middle) else (j, i)
             before[behind].append(front)
             waits[front] += 1
-    ready = [(mean[k], k) for k in order if waits[k] == 0]
-    heapq.heapify(ready)
-    done, left = [], set(order)
+    ready, left, done, colour = {it: [] for it in colours}, set(order), [], None
+    for k in order:
+        if waits[k] == 0:
+            heapq.heappush(ready[colours[k]], (mean[k], k))
     while left:
+        if colour is None or not ready[colour]:
+            colour = max(sorted(ready), key=lambda it: len(ready[it]))
         # of triangles that cover one another in a ring, the furthest goes first
-        k = heapq.heappop(ready)[1] if ready else min(left, key=lambda it: (mean[it], it))
+        k = heapq.heappop(ready[colour])[1] if ready[colour] else min(left, key=lambda it: (mean[it], it))
         if k in left:
             left.remove(k)
             done.append(k)
             for front in before[k]:
                 waits[front] -= 1
                 if waits[front] == 0 and front in left:
-                    heapq.heappush(ready, (mean[front], front))
+                    heapq.heappush(ready[colours[front]], (mean[front], front))
     return done
+
+
+def tenths(x):
+    """A whole number of tenths, written as a number."""
+    whole, part = divmod(abs(x), 10)
+    return ("-" if x < 0 else "") + str(whole) + (f".{part}" if part else "")
+
+
+def outline(points):
+    """A closed path round points, with the way from each to the next."""
+    spots = [(math.floor(10 * x + 0.5), math.floor(10 * y + 0.5)) for x, y, _ in points]
+    ways = [it for p, q in zip(spots, spots[1:]) for it in (q[0] - p[0], q[1] - p[1])]
+    text = f"M{tenths(spots[0][0])} {tenths(spots[0][1])}l" + " ".join(tenths(it) for it in ways) + "z"
+    return text.replace(" -", "-")
 
 
 class Picture:
@@ -321,11 +342,10 @@ class Picture:
             if area2(seen) < -1e-6:
                 level = int(max(0.0, dot(normal, frame.camera.light)) * (LEVELS - 1) + 0.5)
                 shown.append((seen[::-1], f"{colour_of(face)}{level}"))
+        colours = [colour for _, colour in shown]
         self.parts.append('<g class="f">')
-        for k in from_back_to_front([seen for seen, _ in shown]):
-            seen, colour = shown[k]
-            path = "L".join(f"{number(x)} {number(y)}" for x, y, _ in seen)
-            self.parts.append(f'<path class="{colour}" d="M{path}z"/>')
+        for colour, some in itertools.groupby(from_back_to_front([seen for seen, _ in shown], colours), key=lambda k: colours[k]):
+            self.parts.append(f'<path class="{colour}" d="{"".join(outline(shown[k][0]) for k in some)}"/>')
         self.parts.append("</g>")
 
     def svg(self):
