@@ -10,7 +10,6 @@ decimal, so the same output of the program gives the same bytes.
 """
 
 import heapq
-import itertools
 import math
 import os
 import subprocess
@@ -237,7 +236,7 @@ def nearness(triangle, point):
 def from_back_to_front(triangles, colours):
     """The numbers of triangles in an order of painting: where two overlap, the further one is first.
 
-    Of those that may come next it goes on with one of the same colour, so that few changes of colour have to be written.
+    They come in groups of one colour that can be drawn as one path, since none in a group lies before another one of it.
     """
     mean = [sum(p[2] for p in it) for it in triangles]
     order = sorted(range(len(triangles)), key=lambda k: (min(p[0] for p in triangles[k]), k))
@@ -254,23 +253,28 @@ def from_back_to_front(triangles, colours):
             behind, front = (i, j) if nearness(triangles[i], middle) < nearness(triangles[j], middle) else (j, i)
             before[behind].append(front)
             waits[front] += 1
-    ready, left, done, colour = {it: [] for it in colours}, set(order), [], None
+    ready, left, groups, colour, covering = {it: [] for it in colours}, set(order), [], None, None
     for k in order:
         if waits[k] == 0:
             heapq.heappush(ready[colours[k]], (mean[k], k))
     while left:
         if colour is None or not ready[colour]:
             colour = max(sorted(ready), key=lambda it: len(ready[it]))
+            covering = None
         # of triangles that cover one another in a ring, the furthest goes first
         k = heapq.heappop(ready[colour])[1] if ready[colour] else min(left, key=lambda it: (mean[it], it))
         if k in left:
             left.remove(k)
-            done.append(k)
+            if covering is None or k in covering or colours[k] != colours[groups[-1][0]]:
+                groups.append([])
+                covering = set()
+            groups[-1].append(k)
+            covering.update(before[k])
             for front in before[k]:
                 waits[front] -= 1
                 if waits[front] == 0 and front in left:
                     heapq.heappush(ready[colours[front]], (mean[front], front))
-    return done
+    return groups
 
 
 def tenths(x):
@@ -344,8 +348,8 @@ class Picture:
                 shown.append((seen[::-1], f"{colour_of(face)}{level}"))
         colours = [colour for _, colour in shown]
         self.parts.append('<g class="f">')
-        for colour, some in itertools.groupby(from_back_to_front([seen for seen, _ in shown], colours), key=lambda k: colours[k]):
-            self.parts.append(f'<path class="{colour}" d="{"".join(outline(shown[k][0]) for k in some)}"/>')
+        for some in from_back_to_front([seen for seen, _ in shown], colours):
+            self.parts.append(f'<path class="{colours[some[0]]}" d="{"".join(outline(shown[k][0]) for k in some)}"/>')
         self.parts.append("</g>")
 
     def svg(self):
