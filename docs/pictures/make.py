@@ -21,20 +21,20 @@ ROOT = os.path.dirname(os.path.dirname(HERE))
 LEVELS = 12
 STYLE = """.back{fill:#ffffff}.rule{stroke:#d0d7de}.box{fill:#eef2f6;stroke:#b6c1cc}
 text{fill:#1f2328;font-family:system-ui,-apple-system,"Segoe UI",Roboto,"DejaVu Sans",sans-serif;font-size:13px}
-.title{font-size:15px;font-weight:600}.soft{fill:#59636e}.small{font-size:11px}
+.title{font-size:15px;font-weight:600}.soft{fill:#59636e}
 .log{font-family:ui-monospace,Menlo,Consolas,"DejaVu Sans Mono",monospace;font-size:12px;white-space:pre}
 .id{font-weight:600;paint-order:stroke;stroke:#ffffff;stroke-width:3px;stroke-linejoin:round}
 .arrow{stroke:#b3261e;stroke-width:1.6;fill:none}.tip{fill:#b3261e}.edge{stroke:#b3261e;stroke-width:2.6;stroke-linecap:round}
-.dash{stroke:#b3261e;stroke-width:1.2;stroke-dasharray:3 3;fill:none}.dot{fill:#b3261e}.curve{stroke:#2f5f9e;stroke-width:2;fill:none}
+.curve{stroke:#2f5f9e;stroke-width:2;fill:none}
 .f{stroke:#223044;stroke-width:.6;stroke-linejoin:round}
 """
 DARK = """.back{fill:#0d1117}.rule{stroke:#3d444d}.box{fill:#1b222b;stroke:#4a5561}text{fill:#e6edf3}.soft{fill:#9aa4af}
-.id{stroke:#0d1117}.arrow,.edge,.dash{stroke:#ff6b60}.tip,.dot{fill:#ff6b60}.curve{stroke:#7fb0f0}.f{stroke:#0a1018}
+.id{stroke:#0d1117}.arrow,.edge{stroke:#ff6b60}.tip{fill:#ff6b60}.curve{stroke:#7fb0f0}.f{stroke:#0a1018}
 """
 # the darkest and the lightest colour of a body's faces
 COLOURS = {"a": ((52, 84, 128), (205, 224, 246)), "b": ((160, 92, 24), (255, 222, 168)), "c": ((40, 110, 92), (190, 235, 214))}
-WIDTH_OF = {"title": 9.0, "log": 7.4, "id": 8.6, "soft": 7.4, "small": 6.3, "": 7.4}
-HEIGHT_OF = {"title": 15, "log": 12, "id": 13, "soft": 13, "small": 11, "": 13}
+WIDTH_OF = {"title": 9.0, "log": 7.4, "id": 8.6, "soft": 7.4, "": 7.4}
+HEIGHT_OF = {"title": 15, "log": 12, "id": 13, "soft": 13, "": 13}
 
 
 # -- numbers and vectors
@@ -300,7 +300,7 @@ class Picture:
 
     def text(self, x, y, words, kind="", anchor="start"):
         """Writes words whose base line begins, has its middle or ends at x, y."""
-        wide, high = WIDTH_OF[kind.split()[-1] if kind else ""] * len(words), HEIGHT_OF[kind.split()[-1] if kind else ""]
+        wide, high = WIDTH_OF[kind] * len(words), HEIGHT_OF[kind]
         left = x - {"start": 0, "middle": wide / 2, "end": wide}[anchor]
         box = (left, y - high, left + wide, y + high * 0.25)
         if box[0] < 0 or box[1] < 0 or box[2] > self.width or box[3] > self.height:
@@ -552,18 +552,11 @@ def bumpy_ball(parts, size):
             for sz in (1, -1):
                 for i in range(parts):
                     for j in range(parts - i):
-                        corner = lambda a, b: vertex((sx * a, sy * b, sz * (parts - a - b)))
-                        found = [(corner(i, j), corner(i + 1, j), corner(i, j + 1))]
-                        if i + j + 2 <= parts:
-                            found.append((corner(i + 1, j), corner(i + 1, j + 1), corner(i, j + 1)))
+                        spots = [(i, j), (i + 1, j), (i, j + 1), (i + 1, j + 1)]
+                        a, b, c, d = (vertex((sx * k, sy * l, sz * (parts - k - l))) if k + l <= parts else None for k, l in spots)
+                        found = [(a, b, c)] + ([(b, d, c)] if d else [])
                         faces += found if sx * sy * sz > 0 else [(a, c, b) for a, b, c in found]
     return points, faces
-
-
-def lengths(mesh):
-    """The lengths of the edges of a mesh, rising."""
-    pairs = {(min(p), max(p)) for a, b, c in mesh.faces for p in ((a, b), (b, c), (c, a))}
-    return sorted(math.sqrt(dot(minus(mesh.points[a], mesh.points[b]), minus(mesh.points[a], mesh.points[b]))) for a, b in pairs)
 
 
 def outside_band(mesh):
