@@ -105,7 +105,7 @@ def main():
     for name in ("docs/PROVED.md", "docs/ARCHITECTURE.md"):
         lacking = [crate for crate in crates if f"`{crate}`" not in text_of(name)]
         checks.append((f"{name} names each crate {' '.join(lacking)}".rstrip(), not lacking))
-    for name in ["README.md", *(f"docs/{it}" for it in sorted(os.listdir(os.path.join(ROOT, "docs"))))]:
+    for name in ["README.md", *(f"docs/{it}" for it in sorted(os.listdir(os.path.join(ROOT, "docs"))) if it.endswith(".md"))]:
         named = re.findall(r"`((?:crates|docs|checks|bench|examples|\.ci)/[\w./*-]+)`", text_of(name))
         lost = [it for it in named if "*" not in it and not os.path.exists(os.path.join(ROOT, it))]
         checks.append((f"each file that {name} names is there {' '.join(lost)}".rstrip(), not lost))
