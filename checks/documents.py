@@ -100,7 +100,7 @@ def main():
     proof = Case(text_of("worked/a_split_is_proved.case")).log.splitlines()
     explained = [line.strip() for line in text_of("docs/CERTIFICATES.md").splitlines()]
     checks.append(("docs/CERTIFICATES.md shows the proof of a worked case", is_part(proof, explained)))
-    crates = [line.partition(":")[0] for line in text_of("crates.txt").splitlines() if ":" in line and not line.startswith("#")]
+    crates = [line.partition(":")[0].split()[0] for line in text_of("crates.txt").splitlines() if ":" in line and not line.startswith("#")]
     for name in ("README.md", "docs/ARCHITECTURE.md"):
         lacking = [crate for crate in crates if f"`{crate}`" not in text_of(name)]
         checks.append((f"{name} names each crate {' '.join(lacking)}".rstrip(), not lacking))
