@@ -51,11 +51,13 @@ static const struct topo_triangle faces[] = {{1, 3, 2}, {1, 2, 4}, {2, 3, 4}, {1
 static struct topo_vertex vertex_rows[4096];
 static struct topo_face face_rows[4096];
 
-/* makes a tracker and works with it twice over, up to the first call that is not done */
+/* makes a tracker, another in its place, and works with that twice over, up to the first call that is not done */
 static uint32_t work(struct topo *t, struct topo_fault *fault)
 {
     uint32_t code = topo_new(points, 4, faces, 4, t, fault);
     int k;
+    if (code == TOPO_DONE)
+        code = topo_new(points, 4, faces, 4, t, fault);
     for (k = 0; k < 2 && code == TOPO_DONE; ++k) {
         if ((code = topo_open(t, fault)) == TOPO_DONE && (code = topo_shift(t, 1, -3, -3, 0, fault)) == TOPO_DONE
             && (code = topo_step(t, fault)) == TOPO_DONE && (code = topo_split(t, 30, fault)) == TOPO_DONE

@@ -1,4 +1,6 @@
-//! The tracker for a caller in C or C++: a surface is made of points and faces, and changed by one call after another.
+//! The tracker for a caller in C or C++: a surface is made of points and faces, and changed by one call after another. Coordinates, shifts
+//! and lengths are in grid units. Each call but one answers a code: done, no memory, refused for the reason that the fault tells, an argument
+//! beyond its limit or a buffer too short, no tracker in the handle, a tracker that is stopped, or one that is spent.
 //!
 //! The tracker is that of Brochu and Bridson, "Robust topological operations for dynamic explicit surfaces" (2009).
 #![tactic(auto)]
@@ -33,7 +35,8 @@ use std::alloc::Global;
 use step_text::Directive;
 use track_held::{GivenFace, GivenPoint, NamedFace, NamedPoint};
 
-/// Makes a tracker of the surface of these points and faces, whose corners number the points from 1. What `out` held is freed first.
+/// Makes a tracker of the surface of these points and faces, whose corners number the points from 1, or refuses them for their first fault.
+/// What `out` held is freed first; where no tracker is made, it holds none.
 #[unsafe(no_mangle)]
 pub extern "C" fn topo_new(
     alloc: Global,
@@ -62,7 +65,8 @@ fn row_of(id: u32, x: i32, y: i32, z: i32) -> NamedPoint
     NamedPoint { id, x, y, z }
 }
 
-/// Adds a shift to what is asked of one vertex.
+/// Adds a shift to what is asked of one vertex. A component above `SHIFT_MAX` and an id that no vertex may have are beyond their limit; refused
+/// where the vertex does not live or is solid, or the sum is above the limit.
 #[unsafe(no_mangle)]
 pub extern "C" fn topo_shift(
     alloc: Global,
@@ -94,7 +98,7 @@ pub extern "C" fn topo_shift_each(
     shift_each(alloc, topo, shifts, fault)
 }
 
-/// Takes the asked shifts, or the first of the lesser ways that is safe.
+/// Takes the asked shifts, or the first of the lesser ways that is safe. Refused where a vertex would leave the box.
 #[unsafe(no_mangle)]
 pub extern "C" fn topo_step(alloc: Global, topo: &mut Topo, fault: &mut TopoFault) -> u32
     ensures { HandleHasDone directive.Step topo.old.owned.value topo.new.owned.value
@@ -103,7 +107,7 @@ pub extern "C" fn topo_step(alloc: Global, topo: &mut Topo, fault: &mut TopoFaul
     advance(alloc, topo, &Directive::Step, fault)
 }
 
-/// Splits each edge that is longer.
+/// Splits each edge that is longer. A length above `LENGTH_MAX` is beyond its limit.
 #[unsafe(no_mangle)]
 pub extern "C" fn topo_split(
     alloc: Global,
@@ -123,7 +127,7 @@ pub extern "C" fn topo_split(
     advance(alloc, topo, &what, fault)
 }
 
-/// Collapses each edge that is shorter.
+/// Collapses each edge that is shorter. A length above `LENGTH_MAX` is beyond its limit.
 #[unsafe(no_mangle)]
 pub extern "C" fn topo_collapse(
     alloc: Global,
@@ -152,7 +156,7 @@ pub extern "C" fn topo_flip(alloc: Global, topo: &mut Topo, fault: &mut TopoFaul
     advance(alloc, topo, &Directive::Pass(PassKind::Flip), fault)
 }
 
-/// Zips each two edges whose midpoints are no further apart.
+/// Zips each two edges whose midpoints are no further apart. A length above `LENGTH_MAX` is beyond its limit.
 #[unsafe(no_mangle)]
 pub extern "C" fn topo_zip(
     alloc: Global,
@@ -181,7 +185,7 @@ pub extern "C" fn topo_pinch(alloc: Global, topo: &mut Topo, fault: &mut TopoFau
     advance(alloc, topo, &Directive::Pass(PassKind::Pinch), fault)
 }
 
-/// Makes a vertex solid: it never moves again.
+/// Makes a vertex solid: it never moves again. An id that no vertex may have is beyond its limit; refused where the vertex does not live.
 #[unsafe(no_mangle)]
 pub extern "C" fn topo_solid(alloc: Global, topo: &mut Topo, v: u32, fault: &mut TopoFault) -> u32
     ensures beyond { ¬ IsFrom 1 ID_MAX v → IsBeyond topo.old.owned.value topo.new.owned.value

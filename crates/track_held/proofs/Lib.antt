@@ -1,5 +1,3 @@
 pub mod Alone
 pub mod Faults
-pub mod Items
-pub mod Left
 pub mod Numbers
