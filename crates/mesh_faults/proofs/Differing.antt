@@ -11,7 +11,7 @@ use Rattle.std.proofs.lemmas.Bool.Decides.{nat_tests}
 use Rattle.mesh_base.specs.SideList.{edge_cmp, side_rank, has_side}
 use Rattle.mesh_base.proofs.Tests.{tied_then, and_first, and_second}
 use Rattle.mesh_plain.specs.Balance.{same_ends, times}
-use Rattle.mesh_faults.specs.Balance.{AreSmall, IsInOrder, differs, Walks}
+use Rattle.mesh_faults.specs.Balance.{IsInOrder, differs, Walks}
 
 -- ---- sides with the same ends
 pub tied_edges : (u v a b : ℕ) → is_eq (edge_cmp (u, v) (a, b)) ≡ (u == a && v == b)

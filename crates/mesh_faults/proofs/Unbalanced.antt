@@ -18,7 +18,7 @@ use Rattle.mesh_plain.specs.Balance.{same_ends, times, HasRuns}
 use Rattle.mesh_plain.specs.Shape.{is_vertex, runs_in, numbers_to}
 use Rattle.mesh_faults.specs.Balance.{AreSmall, IsInOrder, differs, are_vertices, HasUnbalanced}
 use Rattle.mesh_faults.specs.ShapeFaults.{one_if, unbalanced_fault, unbalanced_pairs}
-use Rattle.mesh_faults.proofs.Differing.{has_joined, is_side, same_side, some_times, times_more}
+use Rattle.mesh_faults.proofs.Differing.{has_joined, is_side, same_side, some_times}
 use Rattle.mesh_faults.proofs.Numbered.{numbered_pairs_sorted, has_numbered, has_chosen}
 
 -- ---- small ends

@@ -50,11 +50,11 @@ fn tell<O: Outside>(
 /// picks, the points with so many decimals. One line `shape WHY ..` tells each fault of the shape of its lists, in the order in which the
 /// first is looked for; where there is none, one line `meets A B FACE` tells each edge and face that meet and share no vertex, in order;
 /// of all these at most `FAULTS_MAX`. Then one line `checked V F faults M` tells how many points and faces there are, and how many faults
-/// were told. Nothing is stored. Takes time in proportion to the faces and the logarithm of their number, and to the pairs that are near.
+/// were told. Nothing is stored. Takes time in proportion to the faces and the logarithm of their number, and to the pairs that are near,
+/// up to the edge with which as many meet as are told.
 ///
 /// Answers the first fault, and None where nothing is wrong; where the file is missing or too long, or its text is outside the grammar, the
-/// refusal, of which the line is written alone. Where memory wants, also for the pairs that meet when these are very many, nothing is
-/// written.
+/// refusal, of which the line is written alone. Where memory wants, nothing is written.
 pub fn check<O: Outside>(
     alloc: Global,
     mesh: MeshFile<'_>,

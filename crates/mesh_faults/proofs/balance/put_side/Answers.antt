@@ -1,4 +1,4 @@
-use Rattle.std.proofs.Common.{◌<◌, ◌^◌, arith}
+use Rattle.std.proofs.Common.{arith}
 use Rattle.mesh_faults.proofs.Unbalanced.{small_pushed}
 use Rattle.mesh_faults.proofs.balance.put_side.Goals as goal
 

@@ -1,4 +1,4 @@
-use Rattle.std.proofs.Common.{ℕ, ◌∙◌}
+use Rattle.std.proofs.Common.{◌∙◌}
 use Rattle.mesh_plain.specs.Shape.{runs_in}
 use Rattle.mesh_faults.specs.Balance.{IsInOrder}
 use Rattle.mesh_faults.proofs.Unbalanced.{differs_where, differing_small, in_order, runs_seen}

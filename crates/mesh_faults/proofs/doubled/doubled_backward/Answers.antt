@@ -1,4 +1,4 @@
-use Rattle.std.proofs.Common.{◌≡◌, ◌+◌, ◌-◌, ◌≤◌, length, arith}
+use Rattle.std.proofs.Common.{◌≡◌, ◌+◌, ◌-◌, arith}
 use Rattle.mesh_faults.proofs.Turns.{small_back, firsts_back, doubled_back}
 use Rattle.mesh_faults.proofs.doubled.doubled_backward.Goals as goal
 

@@ -1,4 +1,4 @@
-use Rattle.std.proofs.Common.{refl, arith}
+use Rattle.std.proofs.Common.{refl}
 use Rattle.mesh_base.specs.Changes.{corners_of}
 use Rattle.mesh_faults.specs.ShapeFaults.{no_vertices_in, no_vertices_from}
 use Rattle.mesh_faults.proofs.Steps.{piece_more, pieces_end}

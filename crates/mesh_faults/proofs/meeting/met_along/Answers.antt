@@ -1,10 +1,9 @@
-use Rattle.std.proofs.Common.{◌≡◌, ℕ, ◌≤◌, List, ◌++◌, take, length, ap, sym, ◌∙◌, arith}
+use Rattle.std.proofs.Common.{ℕ, List, ◌++◌, take, ap, sym, ◌∙◌}
 use Rattle.std.specs.List.{flat_map}
 use Rattle.mesh_base.specs.declared.ids.PairName.{PairName}
 use Rattle.pair_paths.specs.Moving.{moving_edge}
 use Rattle.pair_paths.proofs.Walks.{made_all, made_more}
 use Rattle.mesh_faults.specs.MeetingPairs.{meeting_among}
-use Rattle.mesh_faults.proofs.MetAlong.{first_of_all}
 use Rattle.mesh_faults.proofs.meeting.met_along.Goals as goal
 
 pub loop-a-preserved : goal.loop-a-preserved

@@ -1,4 +1,4 @@
-use Rattle.std.proofs.Common.{◌≡◌, ℕ, List, take, ap, ◌∙◌}
+use Rattle.std.proofs.Common.{ℕ, List, take, ap, ◌∙◌}
 use Rattle.std.specs.List.{flat_map}
 use Rattle.mesh_base.specs.Placements.{Motion}
 use Rattle.pair_paths.specs.declared.MovingFace.{MovingFace}

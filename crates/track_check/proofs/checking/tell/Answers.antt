@@ -1,4 +1,4 @@
-use Rattle.std.proofs.Common.{◌≡◌, Ok, slice_get, option_map, sym, ap, ◌∙◌}
+use Rattle.std.proofs.Common.{◌≡◌, Ok, slice_get, option_map, ap, ◌∙◌}
 use Rattle.obj_text.specs.Views.{lists_view}
 use Rattle.track_check.specs.Check.{faults_in, refusal_of, report_of, text_told, ending_told}
 use Rattle.track_check.proofs.Listed.{first_taken}
