@@ -5,11 +5,13 @@
 
 ARCHIVE is the archive of the proved crate, in the place of a proof and build anew; PROGRAM is the built program, in the place of `topo`.
 The header and the examples have to compile as C99 and as C++17 with no warning. The logs that `example.cpp` and `example.py` write have to
-be the program's, byte for byte. `checks/starving.c` refuses each allocation in turn, where the C library is glibc. Without `cc` and `c++`
+be the program's, byte for byte, and so have those of three random jobs with all passes, groups and a solid vertex. `checks/starving.c` refuses each allocation in turn, where the C library is glibc. Without `cc` and `c++`
 nothing is compiled, and that is said.
 """
 
+import ctypes
 import os
+import random
 import shutil
 import subprocess
 import sys
@@ -39,6 +41,42 @@ def boxes():
     mesh = "".join(f"v {x} {y} {z}\n" for x, y, z in low[0] + high[0]) + "".join(f"f {a} {b} {c}\n" for a, b, c in low[1] + high[1])
     fall = "".join(f"shift {v} 0 -100 0\n" for v in range(9, 17)) + "step\n"
     return mesh, 6 * fall + "split 600\n"
+
+
+def driven(seed):
+    """A random job by the library, through `example.py`: its mesh and its steps, and its log."""
+    dice = random.Random(seed)
+    sys.dont_write_bytecode = True
+    sys.path.insert(0, LIBRARY)
+    from example import Tracker
+
+    points, faces, steps = [], [], []
+    for k in range(4):
+        corners, sides = box(60 * (k % 2), 60 * (k // 2), 0, 40, len(points) + 1)
+        points, faces = points + corners, faces + sides
+    text = [f"topo log 2\nmesh 0 {len(points)} {len(faces)}\n"]
+    with Tracker(ctypes.CDLL(os.path.join(LIBRARY, "out/libtopo.so")), points, faces) as tracker:
+
+        def call(name, *numbers):
+            steps.append(" ".join(["group" if name == "open" else name, *map(str, numbers)]))
+            tracker.call(name, *numbers)
+            text.append(tracker.log())
+
+        for k in range(6):
+            if k in (1, 3):
+                call("open")
+            asked = [(v, *(dice.randint(-14, 14) for _ in range(3))) for v in tracker.points() if v != 5 and dice.random() < 0.7]
+            steps.extend("shift " + " ".join(map(str, row)) for row in asked)
+            tracker.shift(asked)
+            call("step")
+            for name, numbers in dice.sample([("split", [35]), ("collapse", [12]), ("flip", []), ("zip", [15]), ("pinch", [])], 2):
+                call(name, *numbers)
+            if k == 2 and 5 in tracker.points():
+                call("solid", 5)
+            if k in (2, 4):
+                call("close")
+    mesh = "".join(f"v {x} {y} {z}\n" for x, y, z in points) + "".join(f"f {a} {b} {c}\n" for a, b, c in faces)
+    return mesh, "\n".join(steps) + "\n", "".join([*text, "end\n"]).encode()
 
 
 def log_of(program, mesh, steps, folder):
@@ -91,6 +129,9 @@ def main():
         status, told, messages = ran([sys.executable, os.path.join(LIBRARY, "example.py")])
         checks.append(("example.py writes the program's log", status == 0 and told == log_of(program, *boxes(), folder)))
         checks.append(("example.py tells what is refused", "refused: 2 1 99999 0 0\n" in messages and "meets: 2 17 " in messages))
+        for seed in range(1, 4):
+            mesh, steps, told = driven(seed)
+            checks.append((f"the log of random job {seed} is the program's", told == log_of(program, mesh, steps, folder)))
         if "glibc" in "".join(os.confstr(name) or "" for name in os.confstr_names if name == "CS_GNU_LIBC_VERSION"):
             status, told, messages = ran([compiled(C99, os.path.join(ROOT, "checks/starving.c"), folder)])
             checks.append((f"each allocation refused in turn: {told.decode().strip()}", status == 0))
