@@ -3,7 +3,7 @@
 
     checks/documents.py
 
-The statuses that docs/FORMATS.md lists are those of `topo --help`, word for word, and README.md has each form of its words; each log that README.md
+The statuses that docs/FORMATS.md lists are those of `topo --help`, word for word, which is told without a build too, and README.md has each form of its words; each log that README.md
 and docs/EXAMPLES.md show is a part of that of the command before it, run anew; the proof that docs/CERTIFICATES.md shows is that of a worked case;
 each crate has its line in docs/PROVED.md and in docs/ARCHITECTURE.md, and each file that a document names is there; and what docs/ARCHITECTURE.md and docs/HARDENING.md
 count, files on a way and wrong edits, is as many.
@@ -11,6 +11,7 @@ count, files on a way and wrong edits, is as many.
 
 import os
 import re
+import shutil
 import subprocess
 import sys
 import tempfile
@@ -32,6 +33,15 @@ def log_of(words):
         files = [os.path.join(ROOT, word) for word in words[:2]]
         ran = subprocess.run([TOPO, "track", *files, *words[2:]], cwd=folder, stdout=subprocess.PIPE, check=True, timeout=60)
     return ran.stdout.decode().splitlines()
+
+
+def help_without_build():
+    """What the script says of itself in a folder where nothing is built."""
+    with tempfile.TemporaryDirectory() as folder:
+        for name in ("topo", "crates.txt", "crates/topo/src/answering.rt"):
+            os.makedirs(os.path.dirname(os.path.join(folder, name)), exist_ok=True)
+            shutil.copy(os.path.join(ROOT, name), os.path.join(folder, name))
+        return subprocess.run([os.path.join(folder, "topo"), "--help"], stdout=subprocess.PIPE, timeout=60).stdout.decode()
 
 
 def statuses_in(text):
@@ -91,6 +101,7 @@ def main():
     forms = re.findall(r"(?m)^(?:usage:|      ) topo (\w+ [A-Z].*)$", helped)
     lacking = [form for form in forms if f"./topo {form}" not in readme]
     checks.append((f"README.md has each of {len(forms)} forms of words {'; '.join(lacking)}".rstrip(), len(forms) > 1 and not lacking))
+    checks.append(("./topo tells how it is called without a build", help_without_build() == helped))
     for name, text in (("README.md", readme), ("docs/EXAMPLES.md", text_of("docs/EXAMPLES.md"))):
         shown = shown_logs(text)
         checks.append((f"{name} shows logs, each behind its command", len(shown) > 0 and all(command for command, _ in shown)))
