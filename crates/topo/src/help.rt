@@ -17,7 +17,7 @@ The text of steps, a directive a line; V is the id of a vertex, and # begins a c
   solid V                                nothing moves vertex V from here on
   split L, collapse L                    split each edge longer than L, collapse each shorter one
   flip                                   flip each edge that is longer than the one across it
-  zip D                                  join edges that are at most D apart by tunnels
+  zip D                                  join edges whose midpoints are at most D apart by tunnels
   pinch                                  part the surface where it hangs together at a vertex
   fit                                    split each edge longer than 60 + D/16, collapse each shorter than
                                          20 + D/64, where D is the greatest size of a coordinate at its middle
@@ -91,7 +91,7 @@ const REPLAYS: &str = "\
 Each line of the log is taken where it fits the lines before it, as `topo measure` does, and at each `mesh` line the
 mesh is stored, byte for byte as `topo track` stored it where it wrote the log. So a log and the mesh that it began
 with are all that has to be kept. What is written:
-  replayed K        how many meshes were stored
+  replayed COUNT    how many meshes were stored; where two lines tell one number, the later stays
   refused replay LINE
                     the first line of the log that does not fit; the meshes of the lines before it were stored
 

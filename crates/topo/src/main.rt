@@ -38,11 +38,12 @@ fn words(rt: &(impl Env + AllocGlobal)) -> io::Result<Vec<String>> {
     Ok(words)
 }
 
-// Whether the words ask for a command that may take long and writes a file: of such a run a terminal is told how far it has come.
+// Whether the words ask for a command that may take long and writes files or a text that is kept: of such a run a terminal is told how far it has
+// come.
 fn is_long(words: &[String]) -> bool {
     match words.first() {
         Some(first) => match first.as_str() {
-            "track" | "prove" | "verify" => true,
+            "track" | "prove" | "verify" | "replay" => true,
             _ => false,
         },
         None => false,

@@ -22,7 +22,6 @@ use Rattle.track_input.specs.Words.{MeshName}
 use Rattle.track_convert.specs.Formats.{lists_in}
 use Rattle.track_check.specs.declared.fault.Fault.{Fault}
 use Rattle.track_check.specs.declared.fault.Fault.TheVariants as fault
-use Rattle.track_check.specs.declared.fault.TheConstants.{FAULTS_MAX}
 
 -- what the fetch of a file answers, the format of its text, and the decimals of the points
 pub record Check : Type 0 where
@@ -68,7 +67,7 @@ faults_in lists = faults_by (shape_faults (length lists.points) lists.faces) (me
 
 -- those that are told, the first million
 abbrev pub faults_told : Lists → List Fault
-faults_told lists = take FAULTS_MAX (faults_in lists)
+faults_told lists = take 1000000 (faults_in lists)
 
 -- a fault as the refusal of a run that finds it first
 abbrev pub refusal_of : Fault → Refusal

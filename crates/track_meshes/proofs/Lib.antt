@@ -3,3 +3,4 @@ pub mod WantedLines
 mod SoFar
 mod Whole
 mod AllStored
+mod Ended

@@ -1,9 +1,13 @@
 //! Laws of replays that store. Each is the contract of a function that does nothing.
-ghost use Rattle.std.specs.Prelude.{◌≡◌, List, None, Ok};
+ghost use Rattle.std.specs.Prelude.{◌≡◌, List, Option, None, Result, Ok};
 ghost use Rattle.log_text.specs.declared.LogLine.{LogLine};
 ghost use Rattle.log_replay.specs.Replay.{Replay};
 ghost use Rattle.outside_io.specs.World.{World};
 ghost use Rattle.track_input.specs.Words.{ReplayNames};
+ghost use Rattle.track_replay.specs.declared.refusal.LogRefusal.{LogRefusal};
+ghost use Rattle.track_replay.specs.LogJob.{LogInput};
+ghost use Rattle.track_replay.specs.Taking.{FitsTested};
+ghost use Rattle.track_replay.specs.Ending.{EndsBy};
 ghost use Rattle.track_engine.specs.Saved.{Target, files_of};
 ghost use Rattle.track_meshes.specs.Wanted.{wanted_of};
 ghost use Rattle.track_meshes.specs.Headline.{Replays};
@@ -15,4 +19,12 @@ pub fn all_meshes_are_stored()
     ensures lines { (to : Target) (r : Replay) (lines : List LogLine) → wanted_of None to r lines ≡ files_of to r lines }
     ensures desk { (names : ReplayNames) (old new : World) → names.only ≡ None → Replays names (Ok None) old new →
         HoldsAllMeshes names old new }
+{}
+
+/// A replay of what was given has one ending: not two, and not none.
+pub fn a_replay_has_one_ending()
+    ensures one { (input : Result LogInput LogRefusal) (one other : Option LogRefusal) →
+        EndsBy FitsTested input one → EndsBy FitsTested input other → one ≡ other }
+    ensures some { (input : Result LogInput LogRefusal) →
+        ((ending : Option LogRefusal) → ¬ EndsBy FitsTested input ending) → ⊥ }
 {}
