@@ -25,9 +25,11 @@ extern "C" {
 /* What a call answers. A caller compares with these. */
 enum {
     TOPO_DONE = 0,      /* it is done */
-    TOPO_NO_MEMORY = 1, /* there was no memory; a directive leaves a tracker that is stopped, every other call changes nothing */
-    TOPO_REFUSED = 2,   /* refused, for the reason that the fault tells; nothing else changed */
-    TOPO_RANGE = 3,     /* an argument is beyond its limit, or a buffer too short; nothing changed but the size that is told */
+    TOPO_NO_MEMORY = 1, /* there was no memory; a directive leaves a tracker that is stopped, topo_new an empty handle, a reading call all as it was */
+    TOPO_REFUSED = 2,   /* refused, for the reason that the fault tells; nothing else changed, but that topo_new frees what the handle held,
+                           and topo_shift_each has asked the shifts before it */
+    TOPO_RANGE = 3,     /* an argument is beyond its limit, or a buffer too short; nothing changed but the size that is told, and what
+                           topo_shift_each has asked before it */
     TOPO_EMPTY = 4,     /* the handle holds no tracker; nothing changed */
     TOPO_STOPPED = 5,   /* an earlier directive had no memory: the tracker can be read and freed, no more; nothing changed */
     TOPO_SPENT = 6      /* 2^32 - 1 steps were taken; nothing changed */
