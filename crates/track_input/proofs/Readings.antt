@@ -17,7 +17,7 @@ use Rattle.track_input.specs.Words.{MeshName, LogNames, Named, Track, Convert, T
 use Rattle.track_input.specs.Named.{named_by}
 use Rattle.track_input.specs.declared.command.Command.{Command}
 use Rattle.track_input.specs.Taken.{behind, options_behind, AreTakenAs, IsReading}
-use Rattle.track_input.specs.Commands.{Values, IsFound, IsReadBy, values_in, track_app, track_of, track_read, convert_app, convert_of, convert_read, try_app, try_of, try_read, log_app, log_of, log_read, measure_app, measure_read, prove_app, prove_read, verify_app, verify_of, verify_read, replay_app, replay_of, replay_read, check_app, check_of, check_read}
+use Rattle.track_input.specs.Commands.{Values, IsFound, IsReadBy, values_in, track_app, track_of, track_read, convert_app, convert_of, convert_read, try_app, try_of, try_read, log_app, log_of, log_read, measure_app, measure_read, prove_app, prove_read, verify_app, verify_of, verify_read, replay_app, replay_of, replay_read, check_app, check_of, check_read, app_by_name, read_by_name, IsReadExactly}
 use Rattle.track_input.proofs.Walks.{IsPlainWord, plain_word, plain_digit, plain_number, try_taken, try_found, log_taken, log_found, log_taken_with, log_found_with, track_taken, track_found, track_taken_with, track_found_with, convert_taken, convert_found, convert_taken_with, convert_found_with, verify_taken, verify_found, verify_taken_with, verify_found_with, replay_taken, replay_found, replay_taken_with, replay_found_with, replay_taken_only, replay_found_only, check_taken, check_found, check_taken_with, check_found_with}
 use Rattle.track_input.proofs.BothOptions.{replay_taken_both, replay_found_both}
 use Rattle.track_input.proofs.Among.{AreSafe, FoundLong, IsOption, IsSetRule, is_option, named_value, no_option, RowsFrom, rows_from, first_from, contains_here, contains_later}
@@ -775,3 +775,28 @@ unlisted (w ∷ rest) word text first is a b c d e f g h =
 pub unlisted_nothing : (words : List (String Global)) → slice_get words 0 ≡ None → named_in (map (λ w. string_bytes w) words) ≡ None
 unlisted_nothing [] e = refl
 unlisted_nothing (w ∷ rest) e = absurd (cc)
+
+-- ---- what is read exactly
+
+exactly : (name : List ℕ) (words : List (List ℕ)) → BeginWith name words → (named : Option Named) → IsReadBy (read_by_name name) (app_by_name name) words named → IsReadExactly words named
+exactly name [] begins named by = absurd (cc)
+exactly name (zeroth ∷ rest) begins named by =
+    let same : zeroth ≡ name = cc in
+    subst (λ (w : List ℕ). IsReadBy (read_by_name w) (app_by_name w) (zeroth ∷ rest) named) (sym same) by
+
+-- what the command of the first word reads is what is read exactly
+pub exact_by : {E : Type 0} (name : List ℕ) (words : List (List ℕ)) (r : Result (Option Command) E) → BeginWith name words → IfOk r (λ found. IsReadBy (read_by_name name) (app_by_name name) words (option_map named_by found)) → IfOk r (λ found. IsReadExactly words (option_map named_by found))
+exact_by name words (Ok found) begins by = exactly name words begins (option_map named_by found) by
+exact_by name words (Err e) begins by = tt
+
+-- words that begin otherwise are read as nothing
+pub exact_nothing : (words : List (String Global)) (word : String Global) (text : List ℕ) → Some word ≡ slice_get words 0 → text ≡ string_bytes word
+    → (text ≡ codes "track" → ⊥) → (text ≡ codes "convert" → ⊥) → (text ≡ codes "try" → ⊥) → (text ≡ codes "measure" → ⊥) → (text ≡ codes "prove" → ⊥) → (text ≡ codes "verify" → ⊥) → (text ≡ codes "replay" → ⊥) → (text ≡ codes "check" → ⊥) → IsReadExactly (map (λ w. string_bytes w) words) None
+exact_nothing [] word text first is a b c d e f g h = refl
+exact_nothing (w ∷ rest) word text first is a b c d e f g h =
+    let same : word ≡ w = cc in
+    let here : text ≡ string_bytes w = is ∙ ap (λ (y : String Global). string_bytes y) same in
+    let nothing : read_by_name text ≡ (λ value. None) =
+    rw (differs text (codes "track") a, differs text (codes "convert") b, differs text (codes "try") c, differs text (codes "measure") d, differs text (codes "prove") e, differs text (codes "verify") f, differs text (codes "replay") g, differs text (codes "check") h) refl in
+    let none : read_by_name (string_bytes w) ≡ (λ value. None) = subst (λ (t : List ℕ). read_by_name t ≡ (λ value. None)) here nothing in
+    inl (ap (λ (read : Values → Option Named). read (values_in (app_by_name (string_bytes w)) (string_bytes w ∷ map (λ v. string_bytes v) rest))) none)

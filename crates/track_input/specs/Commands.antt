@@ -1,9 +1,10 @@
 -- The commands by which `clap` reads the words, and what is read of the values that it finds.
-use Rattle.std.specs.Prelude.{◌≡◌, ◌⊎◌, ℕ, true, List, [], ◌∷◌, Option, Some, None, codes}
+use Rattle.std.specs.Prelude.{◌≡◌, ◌⊎◌, ℕ, true, List, [], ◌∷◌, Option, Some, None, codes, if◌then◌else◌}
 use Rattle.clap.specs.declared.builder.action.ArgAction.TheVariants.{Set}
 use Rattle.clap.specs.declared.parser.matches.ArgMatches.{ArgMatches}
 use Rattle.clap.specs.Words.{App, HasMatchesOf, Rule, first_of, matches_of, new_app, new_rule, takes, with_rule}
 use Rattle.std.specs.Option.{option_map}
+use Rattle.std.specs.Str.{bytes_eq}
 use Rattle.track_input.specs.Words.{LogNames, Named, Measure, Prove, track_in, convert_in, try_in, log_in, verify_in, replay_in, check_in}
 use Rattle.track_input.specs.Taken.{behind, options_behind}
 
@@ -133,3 +134,37 @@ values_in app words id = first_of id (matches_of app words)
 abbrev pub IsReadBy : (Values → Option Named) → App → List (List ℕ) → Option Named → Type 0
 IsReadBy read app words named =
     (read (values_in app words) ≡ named) ⊎ ((takes app words ≡ true → ⊥) × (named ≡ None))
+
+-- ---- by the first word
+
+-- what is read of the values that the command of this name finds; nothing, where there is no such command
+abbrev pub read_by_name : List ℕ → Values → Option Named
+read_by_name name =
+    if bytes_eq name (codes "track") then track_read
+    else if bytes_eq name (codes "convert") then convert_read
+    else if bytes_eq name (codes "try") then try_read
+    else if bytes_eq name (codes "measure") then measure_read
+    else if bytes_eq name (codes "prove") then prove_read
+    else if bytes_eq name (codes "verify") then verify_read
+    else if bytes_eq name (codes "replay") then replay_read
+    else if bytes_eq name (codes "check") then check_read
+    else (λ value. None)
+
+-- that command
+abbrev pub app_by_name : List ℕ → App
+app_by_name name =
+    if bytes_eq name (codes "track") then track_app
+    else if bytes_eq name (codes "convert") then convert_app
+    else if bytes_eq name (codes "try") then try_app
+    else if bytes_eq name (codes "measure") then measure_app
+    else if bytes_eq name (codes "prove") then prove_app
+    else if bytes_eq name (codes "verify") then verify_app
+    else if bytes_eq name (codes "replay") then replay_app
+    else if bytes_eq name (codes "check") then check_app
+    else bare_app name
+
+-- The words are read as what the command of their first word reads of the values that it finds, by what `clap` says that a command finds;
+-- or as nothing, where it does not take them.
+abbrev pub IsReadExactly : List (List ℕ) → Option Named → Type 0
+IsReadExactly [] named = named ≡ None
+IsReadExactly (first ∷ words) named = IsReadBy (read_by_name first) (app_by_name first) (first ∷ words) named

@@ -3,7 +3,7 @@ ghost use Rattle.clap.specs.Words.{found_of, first_value};
 ghost use Rattle.grid_base.specs.declared.TheConstants.{DECIMALS_MAX};
 ghost use Rattle.track_input.specs.Words.{is_decimals, decimals_in, number_in, options_in};
 ghost use Rattle.track_input.specs.Taken.{behind, options_behind, IsReading};
-ghost use Rattle.track_input.specs.Commands.{track_read, convert_read, try_read, log_read, measure_read, prove_read, verify_read, replay_read, check_read, track_app, convert_app, try_app, measure_app, prove_app, verify_app, replay_app, check_app, IsReadBy};
+ghost use Rattle.track_input.specs.Commands.{track_read, convert_read, try_read, log_read, measure_read, prove_read, verify_read, replay_read, check_read, track_app, convert_app, try_app, measure_app, prove_app, verify_app, replay_app, check_app, IsReadBy, IsReadExactly};
 ghost use Rattle.track_input.specs.Named.{named_by, log_names, IsInLimits};
 
 use crate::mesh_file::{MeshFile, is_file_word, mesh_file};
@@ -374,6 +374,8 @@ fn check_in<'a>(alloc: Global, words: &'a [String]) -> Result<Option<Command<'a>
 pub fn command_of<'a>(alloc: Global, words: &'a [String]) -> Result<Option<Command<'a>>, NoMemory>
     ensures read { let texts = map (λ word. string_bytes word) words.entry.now in
         IfOk result (λ found. IsReading texts (option_map named_by found)) }
+    ensures exact { let texts = map (λ word. string_bytes word) words.entry.now in
+        IfOk result (λ found. IsReadExactly texts (option_map named_by found)) }
     ensures few { IfOk result (λ found. IfSome found IsInLimits) }
 {
     let Some(first) = words.first() else {

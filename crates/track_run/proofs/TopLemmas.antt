@@ -23,6 +23,7 @@ use Rattle.track_input.specs.declared.command.TheConstants.{CUBES_MAX}
 use Rattle.track_input.specs.declared.command.Command.{Command}
 use Rattle.track_input.specs.declared.command.Command.TheVariants as command
 use Rattle.track_input.specs.Taken.{IsReading}
+use Rattle.track_input.specs.Commands.{IsReadExactly}
 use Rattle.track_input.specs.Named.{named_by, IsInLimits}
 use Rattle.track_input.specs.declared.reading.Ready.{Ready}
 use Rattle.track_input.specs.declared.reading.Ready.TheVariants as ready
@@ -381,17 +382,19 @@ tries cubes key a b result ended e done stopped quiet = record {
 -- ---- the words
 
 -- a run for the words of a command
-pub runs_command : (fields : Known) (o : Option Command) (f g : Command) (words : List (List ℕ)) (result : Outcome) (old new : World) → o ≡ Some f → f ≡ g → IsReading words (option_map named_by o) → Runs fields (Some (named_by g)) result old new → RunsFor fields words result old new
-runs_command fields o f g words result old new some is read runs =
+pub runs_command : (fields : Known) (o : Option Command) (f g : Command) (words : List (List ℕ)) (result : Outcome) (old new : World) → o ≡ Some f → f ≡ g → IsReading words (option_map named_by o) → IsReadExactly words (option_map named_by o) → Runs fields (Some (named_by g)) result old new → RunsFor fields words result old new
+runs_command fields o f g words result old new some is read exact runs =
     let P : Option Command → Type 0 = λ x. IsReading words (option_map named_by x) in
+    let Q : Option Command → Type 0 = λ x. IsReadExactly words (option_map named_by x) in
     let here : o ≡ Some g = some ∙ ap Some is in
-    inl (record { named = Some (named_by g); read = subst P here read; runs = runs })
+    inl (record { named = Some (named_by g); read = subst P here read; exact = subst Q here exact; runs = runs })
 
 -- words that are no command
-pub runs_nothing : (fields : Known) (o : Option Command) (words : List (List ℕ)) (w : World) → o ≡ None → IsReading words (option_map named_by o) → RunsFor fields words outcome.Usage w w
-runs_nothing fields o words w none read =
+pub runs_nothing : (fields : Known) (o : Option Command) (words : List (List ℕ)) (w : World) → o ≡ None → IsReading words (option_map named_by o) → IsReadExactly words (option_map named_by o) → RunsFor fields words outcome.Usage w w
+runs_nothing fields o words w none read exact =
     let P : Option Command → Type 0 = λ x. IsReading words (option_map named_by x) in
-    inl (record { named = None; read = subst P none read; runs = (refl, refl) })
+    let Q : Option Command → Type 0 = λ x. IsReadExactly words (option_map named_by x) in
+    inl (record { named = None; read = subst P none read; exact = subst Q none exact; runs = (refl, refl) })
 
 -- a run over two sides that are the same afterwards
 pub runs_at : {D K : Type 0} (files : D → Option Files) (faults : D → ℕ) (written : K → Option (List ℕ)) (sink_faults : K → ℕ) (fields : Known) (words : List (List ℕ)) (result : Outcome) (old : World) (desk left : D) (out told : K) → desk ≡ left → out ≡ told

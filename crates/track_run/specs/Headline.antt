@@ -14,6 +14,7 @@ use Rattle.track_convert.specs.Headline.{Converts}
 use Rattle.track_try.specs.Summary.{summary_of}
 use Rattle.track_input.specs.Words.{MeshName, LogNames, ProofNames, ReplayNames, Named, Track, Convert, Try, Measure, Prove, Verify, Replay, Check}
 use Rattle.track_input.specs.Taken.{IsReading}
+use Rattle.track_input.specs.Commands.{IsReadExactly}
 use Rattle.track_input.specs.Job.{Job, IsJob, input_of}
 use Rattle.outside_io.specs.declared.stop.Stop.{Stop}
 use Rattle.outside_io.specs.declared.stop.Stop.TheVariants.{DeskFault}
@@ -173,6 +174,7 @@ Runs fields (Some (Check mesh decimals)) result old new = ChecksCommand mesh dec
 pub record RunsReading (fields : Known) (words : List (List ℕ)) (result : Outcome) (old new : World) : Type 0 where
   pub named : Option Named
   pub read : IsReading words named
+  pub exact : IsReadExactly words named
   pub runs : Runs fields named result old new
 
 -- A run for these words; or there was no memory to read them, and nothing is done.
