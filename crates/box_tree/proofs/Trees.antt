@@ -1,15 +1,18 @@
 -- Trees of boxes, as lists read from their end.
 use Rattle.std.proofs.Common.{◌≡◌, ◌∙◌, ⊎_elim, ℕ, ◌+◌, ◌-◌, ◌<◌, ◌≤◌, suc, zero, Bool, true, false, cond, nat_eq, List, [], ◌∷◌, ◌++◌, length, get_or, take, drop, reverse, refl, sym, ap, subst, add-one, arith}
-use Rattle.std.proofs.lemmas.Bool.{cases_Bool, false≢true}
+use Rattle.std.proofs.lemmas.Bool.{cases_Bool, false≢true, and_parts, and_from}
 use Rattle.std.proofs.lemmas.List.{reverse-append, length-reverse, length-take-le}
 use Rattle.std.proofs.Math.Seq.{take-suc}
 use Rattle.std.proofs.Math.Nat.{sub-zero, suc-sub-suc}
 use Rattle.std.specs.List.{filter}
 use Rattle.std.specs.Map.{keys_of}
-use Rattle.grid_base.specs.declared.Extent.{Extent}
+use Rattle.box_tree.specs.declared.labelled_box.LabelledBox.{LabelledBox}
+use Rattle.box_tree.specs.declared.question.Question.{Question}
+use Rattle.box_tree.specs.Labels.{is_apart}
+use Rattle.box_tree.proofs.Labelled.{still_apart}
 use Rattle.grid_base.specs.Extents.{overlaps}
 use Rattle.box_tree.specs.declared.node.Node.{Node}
-use Rattle.box_tree.specs.Nodes.{Has, AllIn, IsTree, entries, meeting}
+use Rattle.box_tree.specs.Nodes.{Has, AllIn, IsTree, entries, finds, meeting}
 use Rattle.cell_grid.proofs.Shared.{overlap_common}
 
 -- ---- a list from its end
@@ -26,17 +29,17 @@ module _ {A : Type 0} where
       ap (λ (j : ℕ). reverse (take j ns)) (suc-sub-suc i b) ∙ reverse-take-sub ns i b d (omega arith) (omega arith) ∙ sym (ap (drop (suc b)) (reverse-take-suc ns i d lt))
 
 -- ---- boxes that have others
-pub Has-trans : (e f g : Extent) → Has e f → Has f g → Has e g
-Has-trans e f g h i = record { each = λ p k. h.each p (i.each p k) }
+pub Has-trans : (e f g : LabelledBox) → Has e f → Has f g → Has e g
+Has-trans e f g h i = record { each = λ p k. h.each p (i.each p k); labels = λ n k. i.labels n (h.labels n k) }
 
-pub Has-refl : (e : Extent) → Has e e
-Has-refl e = record { each = λ p k. k }
+pub Has-refl : (e : LabelledBox) → Has e e
+Has-refl e = record { each = λ p k. k; labels = λ n k. k }
 
-pub AllIn-trans : (e f : Extent) (ns : List Node) → Has e f → AllIn f ns → AllIn e ns
+pub AllIn-trans : (e f : LabelledBox) (ns : List Node) → Has e f → AllIn f ns → AllIn e ns
 AllIn-trans e f [] h i = tt
-AllIn-trans e f (n ∷ ns) h i = (Has-trans e f n.at h i.0, AllIn-trans e f ns h i.1)
+AllIn-trans e f (n ∷ ns) h i = (Has-trans e f n.bound h i.0, AllIn-trans e f ns h i.1)
 
-pub AllIn-join : (e : Extent) (b m : ℕ) (ns : List Node) → AllIn e (take b ns) → AllIn e (take (m - b) (drop b ns)) → AllIn e (take m ns)
+pub AllIn-join : (e : LabelledBox) (b m : ℕ) (ns : List Node) → AllIn e (take b ns) → AllIn e (take (m - b) (drop b ns)) → AllIn e (take m ns)
 AllIn-join e b zero ns h i = tt
 AllIn-join e zero (suc m) ns h i = rw sub-zero at i
 AllIn-join e (suc b) (suc m) [] h i = tt
@@ -47,38 +50,45 @@ IsTree-drop zero ns h = h
 IsTree-drop (suc b) [] h = tt
 IsTree-drop (suc b) (n ∷ ns) h = IsTree-drop b ns h.1.1
 
--- what misses a box misses each box in it
-missed : (e f at : Extent) → Has e f → overlaps e at ≡ false → overlaps f at ≡ false
-missed e f at h miss = ⊎_elim
-    (λ yes. let p = (overlap_common f at).0 yes in absurd (false≢true (sym miss ∙ (overlap_common e at).1 (p.0, (h.each p.0 p.1.0, p.1.1)))))
+-- a question that finds a box finds each box that has it
+found_above : (q : Question) (e f : LabelledBox) → Has e f → finds q f ≡ true → finds q e ≡ true
+found_above q e f h met =
+    let parts = and_parts (overlaps f.at q.at) (is_apart f.labels q.a q.b) met in
+    let p = (overlap_common f.at q.at).0 parts.0 in
+    and_from (overlaps e.at q.at) (is_apart e.labels q.a q.b) ((overlap_common e.at q.at).1 (p.0, (h.each p.0 p.1.0, p.1.1))) (still_apart e.labels f.labels q.a q.b h.labels parts.1)
+
+-- a question that misses a box misses each that the box has
+missed : (q : Question) (e f : LabelledBox) → Has e f → finds q e ≡ false → finds q f ≡ false
+missed q e f h miss = ⊎_elim
+    (λ yes. absurd (false≢true (sym miss ∙ found_above q e f h yes)))
     (λ no'. no')
-    (cases_Bool (overlaps f at))
+    (cases_Bool (finds q f))
 
 -- ---- what a question finds
-module _ (at : Extent) where
+module _ (q : Question) where
   -- an inner node has no item
-  pub meeting-inner : (n : Node) (ns : List Node) → nat_eq n.below 0 ≡ false → meeting at (entries (n ∷ ns)) ≡ meeting at (entries ns)
-  meeting-inner n ns h = ap (λ (b : Bool). meeting at (cond b ((n.item, n.at) ∷ entries ns) (entries ns))) h
+  pub meeting-inner : (n : Node) (ns : List Node) → nat_eq n.below 0 ≡ false → meeting q (entries (n ∷ ns)) ≡ meeting q (entries ns)
+  meeting-inner n ns h = ap (λ (b : Bool). meeting q (cond b ((n.item, n.bound) ∷ entries ns) (entries ns))) h
 
-  meeting-entry : (i : ℕ) (e : Extent) (es : List (ℕ × Extent)) (b : Bool) → overlaps e at ≡ b → meeting at ((i, e) ∷ es) ≡ cond b (i ∷ meeting at es) (meeting at es)
-  meeting-entry i e es true h = ap (λ (b : Bool). keys_of (cond b ((i, e) ∷ filter (λ e. overlaps e.1 at) es) (filter (λ e. overlaps e.1 at) es))) h
-  meeting-entry i e es false h = ap (λ (b : Bool). keys_of (cond b ((i, e) ∷ filter (λ e. overlaps e.1 at) es) (filter (λ e. overlaps e.1 at) es))) h
+  meeting-entry : (i : ℕ) (e : LabelledBox) (es : List (ℕ × LabelledBox)) (b : Bool) → finds q e ≡ b → meeting q ((i, e) ∷ es) ≡ cond b (i ∷ meeting q es) (meeting q es)
+  meeting-entry i e es true h = ap (λ (b : Bool). keys_of (cond b ((i, e) ∷ filter (λ e. finds q e.1) es) (filter (λ e. finds q e.1) es))) h
+  meeting-entry i e es false h = ap (λ (b : Bool). keys_of (cond b ((i, e) ∷ filter (λ e. finds q e.1) es) (filter (λ e. finds q e.1) es))) h
 
-  pub meeting-met : (n : Node) (ns : List Node) → nat_eq n.below 0 ≡ true → overlaps n.at at ≡ true → meeting at (entries (n ∷ ns)) ≡ n.item ∷ meeting at (entries ns)
-  meeting-met n ns h met = ap (λ (b : Bool). meeting at (cond b ((n.item, n.at) ∷ entries ns) (entries ns))) h ∙ meeting-entry n.item n.at (entries ns) true met
+  pub meeting-met : (n : Node) (ns : List Node) → nat_eq n.below 0 ≡ true → finds q n.bound ≡ true → meeting q (entries (n ∷ ns)) ≡ n.item ∷ meeting q (entries ns)
+  meeting-met n ns h met = ap (λ (b : Bool). meeting q (cond b ((n.item, n.bound) ∷ entries ns) (entries ns))) h ∙ meeting-entry n.item n.bound (entries ns) true met
 
-  either : (b : Bool) (n : Node) (ns : List Node) → overlaps n.at at ≡ false → meeting at (cond b ((n.item, n.at) ∷ entries ns) (entries ns)) ≡ meeting at (entries ns)
-  either true n ns miss = meeting-entry n.item n.at (entries ns) false miss
+  either : (b : Bool) (n : Node) (ns : List Node) → finds q n.bound ≡ false → meeting q (cond b ((n.item, n.bound) ∷ entries ns) (entries ns)) ≡ meeting q (entries ns)
+  either true n ns miss = meeting-entry n.item n.bound (entries ns) false miss
   either false n ns miss = refl
 
-  pub meeting-missed : (n : Node) (ns : List Node) → overlaps n.at at ≡ false → meeting at (entries (n ∷ ns)) ≡ meeting at (entries ns)
+  pub meeting-missed : (n : Node) (ns : List Node) → finds q n.bound ≡ false → meeting q (entries (n ∷ ns)) ≡ meeting q (entries ns)
   meeting-missed n ns miss = either (nat_eq n.below 0) n ns miss
 
   -- nothing is found below a node that is missed
-  pub meeting-skip : (e : Extent) (b : ℕ) (ns : List Node) → overlaps e at ≡ false → AllIn e (take b ns) → meeting at (entries ns) ≡ meeting at (entries (drop b ns))
+  pub meeting-skip : (e : LabelledBox) (b : ℕ) (ns : List Node) → finds q e ≡ false → AllIn e (take b ns) → meeting q (entries ns) ≡ meeting q (entries (drop b ns))
   meeting-skip e zero ns miss h = refl
   meeting-skip e (suc b) [] miss h = refl
-  meeting-skip e (suc b) (n ∷ ns) miss h = meeting-missed n ns (missed e n.at at h.0 miss) ∙ meeting-skip e b ns miss h.1
+  meeting-skip e (suc b) (n ∷ ns) miss h = meeting-missed n ns (missed q e n.bound h.0 miss) ∙ meeting-skip e b ns miss h.1
 
 -- ---- one step from the end
 module _ (ns : List Node) (k i : ℕ) (n : Node) (one : k ≡ i + 1) (inside : i < length ns) (is : n ≡ get_or ns i n) where
@@ -101,14 +111,14 @@ module _ (ns : List Node) (k i : ℕ) (n : Node) (one : k ≡ i + 1) (inside : i
     pub skip_tree : IsTree (reverse (take (i - n.below) ns))
     skip_tree = subst IsTree (sym read_rest) (IsTree-drop n.below (reverse (take i ns)) read_tree.1.1)
 
-    pub skip_meeting : (at : Extent) → overlaps n.at at ≡ false → meeting at (entries (reverse (take k ns))) ≡ meeting at (entries (reverse (take (i - n.below) ns)))
-    skip_meeting at miss =
-        ap (λ r. meeting at (entries r)) read_last
-        ∙ meeting-missed at n (reverse (take i ns)) miss
-        ∙ meeting-skip at n.at n.below (reverse (take i ns)) miss read_tree.1.0
-        ∙ ap (λ r. meeting at (entries r)) (sym read_rest)
+    pub skip_meeting : (q : Question) → finds q n.bound ≡ false → meeting q (entries (reverse (take k ns))) ≡ meeting q (entries (reverse (take (i - n.below) ns)))
+    skip_meeting q miss =
+        ap (λ r. meeting q (entries r)) read_last
+        ∙ meeting-missed q n (reverse (take i ns)) miss
+        ∙ meeting-skip q n.bound n.below (reverse (take i ns)) miss read_tree.1.0
+        ∙ ap (λ r. meeting q (entries r)) (sym read_rest)
 
-    pub hull_step : (from : ℕ) (f : Extent) → from < k → Has f n.at → AllIn f (take (i - n.below - from) (reverse (take (i - n.below) ns))) → AllIn f (take (k - from) (reverse (take k ns)))
+    pub hull_step : (from : ℕ) (f : LabelledBox) → from < k → Has f n.bound → AllIn f (take (i - n.below - from) (reverse (take (i - n.below) ns))) → AllIn f (take (k - from) (reverse (take k ns)))
     hull_step from f lt has h =
         let r = reverse (take i ns) in
         let e : suc (i - from) ≡ k - from = omega arith in
@@ -116,15 +126,15 @@ module _ (ns : List Node) (k i : ℕ) (n : Node) (one : k ≡ i + 1) (inside : i
         let later : AllIn f (take (i - from - n.below) (drop n.below r)) = subst (λ (m : ℕ). AllIn f (take m (drop n.below r))) g (subst (λ (xs : List Node). AllIn f (take (i - n.below - from) xs)) read_rest h) in
         subst (λ (xs : List Node). AllIn f (take (k - from) xs)) (sym read_last)
         (subst (λ (m : ℕ). AllIn f (take m (n ∷ r))) e
-        (has, AllIn-join f n.below (i - from) r (AllIn-trans f n.at (take n.below r) has read_tree.1.0) later))
+        (has, AllIn-join f n.below (i - from) r (AllIn-trans f n.bound (take n.below r) has read_tree.1.0) later))
 
 -- ---- an item put in
 pub pushed : (ns xs : List Node) (n : Node) → xs ≡ ns ++ n ∷ [] → reverse xs ≡ n ∷ reverse ns
 pushed ns xs n e = ap reverse e ∙ reverse-append ns (n ∷ [])
 
-module _ (ns xs : List Node) (e : Extent) (i : ℕ) (is : xs ≡ ns ++ record { at = e; below = 0; item = i } ∷ []) where
+module _ (ns xs : List Node) (e : LabelledBox) (i : ℕ) (is : xs ≡ ns ++ record { bound = e; below = 0; item = i } ∷ []) where
   pub item_tree : IsTree (reverse ns) → IsTree (reverse xs)
-  item_tree tree = subst IsTree (sym (pushed ns xs (record { at = e; below = 0; item = i }) is)) (omega arith, (tt, tree))
+  item_tree tree = subst IsTree (sym (pushed ns xs (record { bound = e; below = 0; item = i }) is)) (omega arith, (tt, tree))
 
   pub item_entries : entries (reverse xs) ≡ (i, e) ∷ entries (reverse ns)
-  item_entries = ap entries (pushed ns xs (record { at = e; below = 0; item = i }) is)
+  item_entries = ap entries (pushed ns xs (record { bound = e; below = 0; item = i }) is)

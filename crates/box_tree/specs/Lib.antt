@@ -1,2 +1,4 @@
+pub mod Labels
+pub mod Overlapping
 pub mod Nodes
 pub mod Order

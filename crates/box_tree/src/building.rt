@@ -3,32 +3,35 @@ ghost use Rattle.std.specs.Prelude.{◌≡◌, ◌-◌, ◌<◌, ◌++◌, lengt
 ghost use Rattle.std.specs.List.{filter_map};
 ghost use Rattle.box_tree.specs.Nodes.{IsTree, AllIn, Has, entries, placed};
 
-use crate::{Node, SmallBox};
+use crate::{LabelledBox, Node, SmallBox};
 use grid_base::NoMemory;
 
 // A leaf has at most this many items.
 const LEAF: usize = 4;
 
-// A box that has both.
-fn united(e: &SmallBox, f: &SmallBox) -> SmallBox
+// A box that has both, with the labels that both have.
+fn united(e: &LabelledBox, f: &LabelledBox) -> LabelledBox
     ensures first { Has result e.now }
     ensures second { Has result f.now }
 {
-    SmallBox::of(&e.extent().united(&f.extent()))
+    LabelledBox {
+        at: SmallBox::of(&e.at.extent().united(&f.at.extent())),
+        labels: e.labels.common(&f.labels),
+    }
 }
 
-// A box that has those of all nodes from an index on.
-fn hull(nodes: &[Node], from: usize) -> SmallBox
+// A box that has those of all nodes from an index on, with labels that all of them have.
+fn hull(nodes: &[Node], from: usize) -> LabelledBox
     requires some { from < length nodes.now }
     requires tree { IsTree (reverse nodes.now) }
     ensures { AllIn result (take (length nodes.now - from) (reverse nodes.now)) }
 {
     let mut i = nodes.len();
-    let mut e = nodes[i - 1].at;
+    let mut e = nodes[i - 1].bound;
     while i > from {
         i -= 1;
         let n = &nodes[i];
-        e = united(&e, &n.at);
+        e = united(&e, &n.bound);
         i -= n.below;
     }
     e
@@ -42,22 +45,26 @@ fn gather(nodes: &mut Vec<Node>, from: usize) -> Result<(), NoMemory>
         (entries (reverse nodes.new.items) ≡ entries (reverse nodes.old.items)) }
 {
     if from < nodes.len() {
-        let at = hull(nodes, from);
+        let bound = hull(nodes, from);
         let below = nodes.len() - from;
-        nodes.push(Node { at, below, item: 0 })?;
+        nodes.push(Node {
+            bound,
+            below,
+            item: 0,
+        })?;
     }
     Ok(())
 }
 
 // The box at a place, if there is one.
-fn box_at(boxes: &[SmallBox], i: u64) -> Option<SmallBox>
+fn box_at(boxes: &[LabelledBox], i: u64) -> Option<LabelledBox>
     ensures { result ≡ slice_get boxes.now i }
 {
     boxes.get(i as usize).copied()
 }
 
 // Puts the items in, the last of them first.
-fn put(nodes: &mut Vec<Node>, boxes: &[SmallBox], order: &[u64]) -> Result<(), NoMemory>
+fn put(nodes: &mut Vec<Node>, boxes: &[LabelledBox], order: &[u64]) -> Result<(), NoMemory>
     requires { IsTree (reverse nodes.old.items) }
     ensures tree { OnOk result (IsTree (reverse nodes.new.items)) }
     ensures all { let items = filter_map (placed boxes.now) order.now in
@@ -68,15 +75,23 @@ fn put(nodes: &mut Vec<Node>, boxes: &[SmallBox], order: &[u64]) -> Result<(), N
     while k > 0 {
         k -= 1;
         let item = order[k];
-        if let Some(at) = box_at(boxes, item) {
-            nodes.push(Node { at, below: 0, item })?;
+        if let Some(bound) = box_at(boxes, item) {
+            nodes.push(Node {
+                bound,
+                below: 0,
+                item,
+            })?;
         }
     }
     Ok(())
 }
 
 /// Puts a tree of the items in.
-pub(crate) fn grow(nodes: &mut Vec<Node>, boxes: &[SmallBox], order: &[u64]) -> Result<(), NoMemory>
+pub(crate) fn grow(
+    nodes: &mut Vec<Node>,
+    boxes: &[LabelledBox],
+    order: &[u64],
+) -> Result<(), NoMemory>
     requires { IsTree (reverse nodes.old.items) }
     ensures tree { OnOk result (IsTree (reverse nodes.new.items)) }
     ensures all { let items = filter_map (placed boxes.now) order.now in

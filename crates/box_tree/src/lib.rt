@@ -2,12 +2,19 @@
 #![tactic(auto)]
 
 mod building;
+mod labelled_box;
+mod labels;
+pub mod laws;
 mod node;
 mod ordering;
+mod question;
 mod small_box;
 mod tree;
 mod walking;
 
+pub use labelled_box::LabelledBox;
+pub use labels::Labels;
 pub(crate) use node::Node;
+pub(crate) use question::Question;
 pub use small_box::SmallBox;
 pub use tree::BoxTree;

@@ -2,7 +2,7 @@
 ghost use Rattle.std.specs.Prelude.{◌≡◌, map, IfOk};
 ghost use Rattle.box_tree.specs.Order.{HaveEachPlace, HasEachPlace};
 
-use crate::SmallBox;
+use crate::{LabelledBox, SmallBox};
 use grid_base::NoMemory;
 use std::alloc::Global;
 
@@ -23,12 +23,12 @@ fn along_curve(b: &SmallBox) -> u128 {
 }
 
 // The places of boxes, each with where its box's middle stands.
-fn with_places(alloc: Global, boxes: &[SmallBox]) -> Result<Vec<(u128, u64)>, NoMemory>
+fn with_places(alloc: Global, boxes: &[LabelledBox]) -> Result<Vec<(u128, u64)>, NoMemory>
     ensures { IfOk result (λ keyed. HaveEachPlace boxes.now keyed.items) }
 {
     let mut keyed = Vec::new(alloc);
     for (i, b) in boxes.iter().enumerate() {
-        keyed.push((along_curve(b), i as u64))?;
+        keyed.push((along_curve(&b.at), i as u64))?;
     }
     Ok(keyed)
 }
@@ -45,7 +45,7 @@ fn places_of(alloc: Global, keyed: &[(u128, u64)]) -> Result<Vec<u64>, NoMemory>
 }
 
 /// The places of boxes, in the order of their middles along a curve that fills space.
-pub(crate) fn places_along_curve(alloc: Global, boxes: &[SmallBox]) -> Result<Vec<u64>, NoMemory>
+pub(crate) fn places_along_curve(alloc: Global, boxes: &[LabelledBox]) -> Result<Vec<u64>, NoMemory>
     ensures { IfOk result (λ order. HasEachPlace boxes.now order.items) }
 {
     let mut keyed = with_places(alloc, boxes)?;

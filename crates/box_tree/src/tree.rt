@@ -1,21 +1,21 @@
-ghost use Rattle.std.specs.Prelude.{◌≡◌, ℕ, [], slice_get, OnOk, OnErr, IfOk};
+ghost use Rattle.std.specs.Prelude.{◌≡◌, ℕ, ◌<◌, ◌≤◌, [], true, false, length, slice_get, OnOk, OnErr, IfOk};
 ghost use Rattle.std.specs.List.Sorted.{IsStrictlySortedBy};
 ghost use Rattle.std.specs.Ordering.{nat_cmp};
 ghost use Rattle.std.specs.FinMap as map;
 ghost use Rattle.cell_grid.specs.Filed.{has};
-ghost use Rattle.cell_grid.specs.Overlapping.{overlapping};
+ghost use Rattle.box_tree.specs.Overlapping.{overlapping, overlapping_apart};
 
 use crate::building::grow;
 use crate::ordering::places_along_curve;
-use crate::walking::walk;
-use crate::{Node, SmallBox};
+use crate::walking::{walk, walk_up_to};
+use crate::{LabelledBox, Node, Question, SmallBox};
 use grid_base::{Extent, NoMemory};
 use std::alloc::Global;
 use std::marker::Model;
 
-/// A list of boxes, in a tree of boxes (a bounding volume hierarchy, as broad phases use). A contract sees it as the map
-/// from their places in the list to them. A box of the tree that a question misses misses all that are in it, however
-/// large or small they are.
+/// A list of boxes with labels, in a tree of boxes (a bounding volume hierarchy, as broad phases use). A contract sees it
+/// as the map from their places in the list to them. A box of the tree that a question misses misses all that are in it,
+/// however large or small they are.
 #[derive(Drop)]
 pub struct BoxTree {
     nodes: Vec<Node>,
@@ -26,20 +26,20 @@ impl Model for BoxTree {
     ghost use Rattle.std.specs.Ordering.{nat_cmp};
     ghost use Rattle.std.specs.Coded.{coded_ℕ};
     ghost use Rattle.std.specs.FinMap as map;
-    ghost use Rattle.grid_base.specs.declared.Extent.{Extent};
+    ghost use Rattle.box_tree.specs.declared.labelled_box.LabelledBox.{LabelledBox};
 
-    ghost Value = { map.FinMap nat_cmp Extent };
+    ghost Value = { map.FinMap nat_cmp LabelledBox };
 
-    ghost use Rattle.grid_base.specs.contracts.Extent as extent;
+    ghost use Rattle.box_tree.specs.contracts.labelled_box.LabelledBox as labelled;
 
-    ghost coded = { map.code coded_ℕ extent.the_row.coded };
+    ghost coded = { map.code coded_ℕ labelled.the_row.coded };
 
-    ghost use Rattle.box_tree.specs.Nodes.{IsTree, AreFoundByFirst, entries};
+    ghost use Rattle.box_tree.specs.Nodes.{IsTree, AreItemsOnce, entries};
 
     ghost view = { λ t. map.from_entries (entries (reverse t.nodes.items)) };
 
     ghost invariant = { λ t. IsTree (reverse t.nodes.items) ×
-        AreFoundByFirst (entries (reverse t.nodes.items)) };
+        AreItemsOnce (reverse t.nodes.items) };
 }
 
 // Puts the numbers in order, each of them once.
@@ -53,7 +53,7 @@ fn rising(list: &mut Vec<u64>)
 
 impl BoxTree {
     /// The tree of these boxes.
-    pub fn of(alloc: Global, boxes: &[SmallBox]) -> Result<BoxTree, NoMemory>
+    pub fn of(alloc: Global, boxes: &[LabelledBox]) -> Result<BoxTree, NoMemory>
         ensures { IfOk result (λ t. (i : ℕ) → map.get t i ≡ slice_get boxes.now i) }
     {
         let order = places_along_curve(alloc, boxes)?;
@@ -62,18 +62,58 @@ impl BoxTree {
         Ok(BoxTree { nodes })
     }
 
-    /// Sets the list to the places of the boxes that have a common point with this one, rising. Where there is no memory,
-    /// the list is empty.
-    pub fn overlapping(&self, at: Extent, into: &mut Vec<u64>) -> Result<(), NoMemory>
-        ensures ok { OnOk result (into.new.items ≡ overlapping self.now at) }
+    /// Sets the list to the places of the boxes that have a common point with this one and neither of the two labels, rising
+    /// (0 is no label). What has one of the labels is left out at once where all of a box of the tree have it, as the faces
+    /// at one vertex do. Where there is no memory, the list is empty.
+    pub fn overlapping_apart(
+        &self,
+        at: Extent,
+        a: u32,
+        b: u32,
+        into: &mut Vec<u64>,
+    ) -> Result<(), NoMemory>
+        ensures ok { OnOk result (into.new.items ≡ overlapping_apart self.now at a b) }
         ensures err { OnErr result (into.new.items ≡ []) }
     {
         into.clear();
-        if let Err(e) = walk(&self.nodes, &SmallBox::of(&at), into) {
+        let at = SmallBox::of(&at);
+        if let Err(e) = walk(&self.nodes, &Question { at, a, b }, into) {
             into.clear();
             return Err(e);
         }
         rising(into);
         Ok(())
+    }
+
+    /// Sets the list to the places of the boxes that have a common point with this one, rising, and answers true, unless they
+    /// are more than so many: then it answers false, early, and the list is empty. Where there is no memory, it is empty.
+    pub fn overlapping_up_to(
+        &self,
+        at: Extent,
+        most: usize,
+        into: &mut Vec<u64>,
+    ) -> Result<bool, NoMemory>
+        ensures all { IfOk result (λ all. all ≡ true → into.new.items ≡ overlapping self.now at) }
+        ensures few { IfOk result (λ all. all ≡ true → length (overlapping self.now at) ≤ most) }
+        ensures cut { IfOk result (λ all. all ≡ false → into.new.items ≡ []) }
+        ensures more { IfOk result (λ all. all ≡ false → most < length (overlapping self.now at)) }
+        ensures err { OnErr result (into.new.items ≡ []) }
+    {
+        into.clear();
+        let at = SmallBox::of(&at);
+        match walk_up_to(&self.nodes, &Question { at, a: 0, b: 0 }, most, into) {
+            Ok(true) => {
+                rising(into);
+                Ok(true)
+            }
+            Ok(false) => {
+                into.clear();
+                Ok(false)
+            }
+            Err(e) => {
+                into.clear();
+                Err(e)
+            }
+        }
     }
 }

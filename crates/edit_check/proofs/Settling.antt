@@ -74,6 +74,9 @@ pub passed_over : (run : Bool) (found with_it : Option PairName) → (run ≡ fa
 passed_over true found with_it h = refl
 passed_over false found with_it h = sym (h refl)
 
+pub left_out : (run : Bool) (found with_it : Option PairName) → run ≡ true → found ≡ cond run found with_it
+left_out run found with_it h = sym (ap (λ t. cond t found with_it) h)
+
 pub settled_already : (first : MovingEdge → Option PairName) (found : Option PairName) (e : MovingEdge) → is_settled found e.a e.b ≡ true → with_edge first found e ≡ found
 settled_already first found e h = ap (λ t. cond t found (option_or (first e) found)) h
 
@@ -83,3 +86,9 @@ none_there first found e h = ap (λ o. cond (is_settled found e.a e.b) found (op
     alike : (t : Bool) → cond t found found ≡ found
     alike true = refl
     alike false = refl
+
+-- what the edge has is what is found, where the edge is neither passed over nor settled
+pub is_new : (first : MovingEdge → Option PairName) (run : Bool) (found : Option PairName) (e : MovingEdge) (n : PairName) → run ≡ false → is_settled found e.a e.b ≡ false → first e ≡ Some n
+    → Some n ≡ cond run found (with_edge first found e)
+is_new first run found e n off unsettled is =
+    sym (ap (λ t. cond t found (with_edge first found e)) off ∙ ap (λ t. cond t found (option_or (first e) found)) unsettled ∙ ap (λ o. option_or o found) is)

@@ -1,5 +1,5 @@
 //! The search for the first pair that is not as required, along the sides of the faces of a neighbourhood.
-ghost use Rattle.std.specs.Prelude.{◌≡◌, None, false, nat_lt};
+ghost use Rattle.std.specs.Prelude.{◌≡◌, None, true, false, IsTrue, nat_lt};
 ghost use Rattle.std.specs.List.{All};
 ghost use Rattle.edit_check.specs.Searching.{is_settled, with_faces};
 ghost use Rattle.edit_check.specs.Looking.{first_there, HasNoneThere, edges_along, edges_round};
@@ -37,6 +37,52 @@ fn first_near(near: &Neighbourhood, e: &BoxedEdge) -> Option<PairName>
     first_failing_among(t.touch, t.together, t.depth, e, tested)
 }
 
+/// So many faces are few.
+const FEW: usize = 64;
+
+/// Whether it is asked first whether a face runs the way of an edge that was turned, and the edge is tested then: among
+/// few faces that takes less time, and so it does where an edge is tested with many. Only speed depends on it.
+fn asks_first(near: &Neighbourhood) -> bool {
+    near.faces.len() <= FEW || near.touched.len() > FEW
+}
+
+/// Whether the edge was turned, and one of the faces runs its way.
+fn is_run_if_turned(near: &Neighbourhood, edge: &MovingEdge, is_turned: bool) -> bool
+    ensures { result ≡ is_run_if_turned near.now is_turned edge.now }
+{
+    is_turned && is_run_by_some(edge.a, edge.b, near.faces)
+}
+
+/// Whether that is asked first, and is so.
+fn is_left_out(near: &Neighbourhood, edge: &MovingEdge, is_turned: bool) -> bool
+    ensures { IsTrue result → is_run_if_turned near.now is_turned edge.now ≡ true }
+{
+    asks_first(near) && is_run_if_turned(near, edge, is_turned)
+}
+
+/// What is found once an edge more is tested that is not settled; one that was turned, where no face runs its way. That is
+/// asked last here: among many faces it takes longer than the test of an edge with few.
+fn with_tested(
+    near: &Neighbourhood,
+    e: &BoxedEdge,
+    is_turned: bool,
+    found: Option<PairName>,
+) -> Option<PairName>
+    requires { is_settled found e.now.edge.a e.now.edge.b ≡ false }
+    ensures { result ≡ with_edge_there near.now is_turned found e.now.edge }
+{
+    match first_near(near, e) {
+        Some(name) => {
+            if is_run_if_turned(near, &e.edge, is_turned) {
+                found
+            } else {
+                Some(name)
+            }
+        }
+        None => found,
+    }
+}
+
 /// What is found once an edge more is looked at; one that was turned, where no face runs its way. One whose box has no
 /// common point with that of the touched faces is no side of one, and does as required with each of them.
 fn with_edge(
@@ -56,13 +102,10 @@ fn with_edge(
     if !near.reach.overlaps(&e.bounds) {
         return found;
     }
-    if is_turned && is_run_by_some(edge.a, edge.b, near.faces) {
+    if is_left_out(near, edge, is_turned) {
         return found;
     }
-    match first_near(near, &e) {
-        Some(name) => Some(name),
-        None => found,
-    }
+    with_tested(near, &e, is_turned, found)
 }
 
 /// Whether the one id is smaller than the other.

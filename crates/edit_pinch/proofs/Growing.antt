@@ -1,5 +1,5 @@
 -- A class grows by those that touch one of its members, until all its members are gone through.
-use Rattle.std.proofs.Common.{◌≡◌, ◌⊎◌, ℕ, zero, suc, ◌+◌, ◌-◌, ◌<◌, ◌≤◌, Bool, true, false, cond, not, ◌==◌, List, [], ◌∷◌, ◌++◌, length, drop, get_or, append_assoc, ⊎_elim, inl, inr, refl, sym, ap, subst, ◌∙◌, below_more, arith}
+use Rattle.std.proofs.Common.{◌≡◌, ◌⊎◌, ℕ, zero, suc, ◌+◌, ◌-◌, ◌<◌, ◌≤◌, Bool, true, false, cond, not, ◌==◌, List, [], ◌∷◌, ◌++◌, length, drop, map, get_or, append_assoc, ⊎_elim, inl, inr, refl, sym, ap, subst, ◌∙◌, below_more, arith}
 use Rattle.std.proofs.lemmas.Bool.{false≢true, eqb-true, not-true}
 use Rattle.std.proofs.lemmas.List.{get_or_append_left, length-append}
 use Rattle.std.proofs.lemmas.List.Filters.{length-filter_both}
@@ -37,14 +37,28 @@ test_of false = inr refl
 pub not_false : (b : Bool) → b ≡ false → not b ≡ true
 not_false b e = ap not e
 
--- ---- the numbers of a list that pass, one after another
-one_kept : (p : ℕ → Bool) (kept : List ℕ) (x : ℕ) (ys : List ℕ) → (if p x then kept ++ x ∷ [] else kept) ++ filter p ys ≡ kept ++ filter p (x ∷ ys)
+-- ---- what is made of those of a list that pass, one after another
+one_made : {X Y : Type 0} (p : X → Bool) (make : X → Y) (made : List Y) (x : X) (ys : List X) → (if p x then made ++ make x ∷ [] else made) ++ map make (filter p ys) ≡ made ++ map make (filter p (x ∷ ys))
+one_made p make made x ys = elim (p x) as (λ b. (if b then made ++ make x ∷ [] else made) ++ map make (filter p ys) ≡ made ++ map make (cond b (x ∷ filter p ys) (filter p ys))) [
+  | true ↦ append_assoc made (make x ∷ []) (map make (filter p ys))
+  | false ↦ refl
+]
+
+pub next_made : {X Y : Type 0} (p : X → Bool) (make : X → Y) (xs : List X) (i : ℕ) (x : X) (b : Bool) (made more : List Y) → i < length xs → x ≡ get_or xs i x → b ≡ p x →
+    more ≡ (if b then made ++ make x ∷ [] else made) → more ++ map make (filter p (drop (i + 1) xs)) ≡ made ++ map make (filter p (drop i xs))
+next_made p make xs i x b made more below is passes put =
+    ap (λ l. l ++ map make (filter p (drop (i + 1) xs))) (put ∙ ap (λ t. if t then made ++ make x ∷ [] else made) passes)
+    ∙ one_made p make made x (drop (i + 1) xs)
+    ∙ sym (ap (λ l. made ++ map make (filter p l)) (rest_at xs i x below ∙ ap (λ k. k ∷ drop (i + 1) xs) (sym is)))
+
+-- the same of themselves
+one_kept : {X : Type 0} (p : X → Bool) (kept : List X) (x : X) (ys : List X) → (if p x then kept ++ x ∷ [] else kept) ++ filter p ys ≡ kept ++ filter p (x ∷ ys)
 one_kept p kept x ys = elim (p x) as (λ b. (if b then kept ++ x ∷ [] else kept) ++ filter p ys ≡ kept ++ cond b (x ∷ filter p ys) (filter p ys)) [
   | true ↦ append_assoc kept (x ∷ []) (filter p ys)
   | false ↦ refl
 ]
 
-pub next_kept : (p : ℕ → Bool) (xs : List ℕ) (i x : ℕ) (b : Bool) (kept more : List ℕ) → i < length xs → x ≡ get_or xs i x → b ≡ p x →
+pub next_kept : {X : Type 0} (p : X → Bool) (xs : List X) (i : ℕ) (x : X) (b : Bool) (kept more : List X) → i < length xs → x ≡ get_or xs i x → b ≡ p x →
     more ≡ (if b then kept ++ x ∷ [] else kept) → more ++ filter p (drop (i + 1) xs) ≡ kept ++ filter p (drop i xs)
 next_kept p xs i x b kept more below is passes put =
     ap (λ l. l ++ filter p (drop (i + 1) xs)) (put ∙ ap (λ t. if t then kept ++ x ∷ [] else kept) passes)

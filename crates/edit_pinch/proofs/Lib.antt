@@ -20,3 +20,4 @@ pub mod Room
 pub mod Scaffolded
 pub mod Answered
 pub mod SolidVertices
+pub mod Parted

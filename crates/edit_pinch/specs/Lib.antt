@@ -5,3 +5,4 @@ pub mod Rims
 pub mod InTurn
 pub mod Tried
 pub mod SolidVertices
+pub mod Parting

@@ -1,10 +1,10 @@
 //! The fans of faces at a vertex.
-ghost use Rattle.std.specs.Prelude.{ℕ, true, ◌≡◌, ◌≤◌, ◌==◌, ◌&&◌, ◌++◌, ◌∷◌, [], not, length, IfOk, OnOk, if◌then◌else◌};
+ghost use Rattle.std.specs.Prelude.{ℕ, true, ◌≡◌, ◌≤◌, ◌==◌, ◌&&◌, ◌++◌, ◌∷◌, [], not, length, map, IfOk, OnOk, if◌then◌else◌};
 ghost use Rattle.std.specs.List.{filter, list_any};
 ghost use Rattle.mesh_base.specs.Sides.{faces_at, has_corner};
 ghost use Rattle.edit_base.specs.Classes.{is_one_of, class_of};
-ghost use Rattle.edit_base.specs.Edges.{corners_at};
 ghost use Rattle.edit_pinch.specs.Pinch.{share_second, fans};
+ghost use Rattle.edit_pinch.specs.Parting.{share_other, cornered, face_ids};
 ghost use Rattle.edit_base.specs.Clauses.{OnOkIs};
 
 use edit_acts::corners_at;
@@ -18,6 +18,11 @@ pub type Fan = Items<FaceId>;
 /// Fans of faces, in order of their least faces.
 pub type Fans = Items<Fan>;
 
+/// A face with its corners.
+type CorneredFace = (FaceId, Corners);
+
+type CorneredFaces = Items<CorneredFace>;
+
 /// Whether a vertex other than `v` is a corner.
 fn has_other(c: &Corners, v: VertexId, u: VertexId) -> bool
     ensures { result ≡ (not (u == v) && has_corner c.now u) }
@@ -25,13 +30,11 @@ fn has_other(c: &Corners, v: VertexId, u: VertexId) -> bool
     u != v && c.has_corner(u)
 }
 
-/// Whether two faces share a vertex other than `v`.
-fn share_second<S: Surface>(mesh: &S, v: VertexId, f: FaceId, g: FaceId) -> bool
-    ensures { result ≡ share_second (S.mesh mesh.now) v f g }
+/// Whether faces of these corners share a vertex other than `v`.
+fn share_other(v: VertexId, c: &Corners, d: &Corners) -> bool
+    ensures { result ≡ share_other v c.now d.now }
 {
-    let c = corners_at(mesh, f);
-    let d = corners_at(mesh, g);
-    has_other(&d, v, c.first) || has_other(&d, v, c.second) || has_other(&d, v, c.third)
+    has_other(d, v, c.first) || has_other(d, v, c.second) || has_other(d, v, c.third)
 }
 
 /// Whether a face is one of several.
@@ -53,37 +56,55 @@ fn is_in_one(fans: &[Fan], f: FaceId) -> bool
     false
 }
 
-/// Puts a face at the end of the one of two lists.
-fn put_in_one(f: FaceId, in_first: bool, first: &mut Fan, second: &mut Fan) -> Result<(), NoMemory>
+/// The faces with their corners.
+fn with_corners<S: Surface>(
+    alloc: Global,
+    mesh: &S,
+    faces: &[FaceId],
+) -> Result<CorneredFaces, NoMemory>
+    ensures { OnOkIs result (map (cornered (S.mesh mesh.now)) faces.now) }
+{
+    let mut all = Items::new(alloc);
+    for f in faces {
+        all.push((*f, corners_at(mesh, *f)))?;
+    }
+    Ok(all)
+}
+
+/// Puts a face at the end of the one of two lists, with its corners in the second.
+fn put_in_one(
+    e: CorneredFace,
+    in_first: bool,
+    first: &mut Fan,
+    second: &mut CorneredFaces,
+) -> Result<(), NoMemory>
     ensures first { OnOk result
-        (first.new ≡ (if in_first then first.old ++ f ∷ [] else first.old)) }
+        (first.new ≡ (if in_first then first.old ++ e.0 ∷ [] else first.old)) }
     ensures second { OnOk result
-        (second.new ≡ (if in_first then second.old else second.old ++ f ∷ [])) }
+        (second.new ≡ (if in_first then second.old else second.old ++ e ∷ [])) }
 {
     if in_first {
-        first.push(f)
+        first.push(e.0)
     } else {
-        second.push(f)
+        second.push(e)
     }
 }
 
-/// Puts the faces of a list that share a vertex other than `v` with `f` at the end of a fan, and answers the others.
-fn joined<S: Surface>(
+/// Puts the faces of a list that share a vertex other than `v` with these corners at the end of a fan, and answers the others.
+fn joined(
     alloc: Global,
-    mesh: &S,
     v: VertexId,
-    f: FaceId,
-    left: &[FaceId],
+    c: &Corners,
+    left: &[CorneredFace],
     fan: &mut Fan,
-) -> Result<Fan, NoMemory>
-    ensures left { let share = share_second (S.mesh mesh.now) v f in
-        OnOkIs result (filter (λ g. not (share g)) left.now) }
-    ensures fan { let share = share_second (S.mesh mesh.now) v f in
-        OnOk result (fan.new ≡ fan.old ++ filter (λ g. share g) left.now) }
+) -> Result<CorneredFaces, NoMemory>
+    ensures left { OnOkIs result (filter (λ e. not (share_other v c.now e.1)) left.now) }
+    ensures fan { OnOk result
+        (fan.new ≡ fan.old ++ face_ids (filter (λ e. share_other v c.now e.1) left.now)) }
 {
     let mut rest = Items::new(alloc);
-    for g in left {
-        put_in_one(*g, share_second(mesh, v, f, *g), fan, &mut rest)?;
+    for e in left {
+        put_in_one(*e, share_other(v, c, &e.1), fan, &mut rest)?;
     }
     Ok(rest)
 }
@@ -102,11 +123,12 @@ fn found<S: Surface>(
 {
     let mut fan = Items::new(alloc);
     fan.push(f)?;
-    let mut left = others(alloc, faces, f)?;
+    let mut left = others_cornered(alloc, mesh, faces, f)?;
     let mut i = 0;
     while i < fan.len() {
         let g = fan.as_slice()[i];
-        left = joined(alloc, mesh, v, g, left.as_slice(), &mut fan)?;
+        let c = corners_at(mesh, g);
+        left = joined(alloc, v, &c, left.as_slice(), &mut fan)?;
         i += 1;
     }
     Ok(fan)
@@ -123,6 +145,20 @@ fn others(alloc: Global, faces: &[FaceId], f: FaceId) -> Result<Fan, NoMemory>
         }
     }
     Ok(rest)
+}
+
+/// The faces of a list but one, with their corners: each is looked up once, however long the list is.
+fn others_cornered<S: Surface>(
+    alloc: Global,
+    mesh: &S,
+    faces: &[FaceId],
+    f: FaceId,
+) -> Result<CorneredFaces, NoMemory>
+    ensures { let others = filter (λ g. not (g == f)) faces.now in
+        OnOkIs result (map (cornered (S.mesh mesh.now)) others) }
+{
+    let rest = others(alloc, faces, f)?;
+    with_corners(alloc, mesh, rest.as_slice())
 }
 
 /// Those of a list that are among some members, in the order of the list.

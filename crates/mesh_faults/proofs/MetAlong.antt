@@ -1,47 +1,19 @@
 -- A scan of the edges finds the pairs that meet.
-use Rattle.std.proofs.Common.{◌≡◌, ℕ, ◌&&◌, ◌||◌, not, Bool, false, cond, List, [], ◌∷◌, ◌++◌, map, Some, None, refl, sym, ap, ◌∙◌}
+use Rattle.std.proofs.Common.{◌≡◌, ℕ, ◌||◌, not, Bool, List, [], ◌∷◌, ◌++◌, map, Some, refl, sym, ap, ◌∙◌}
 use Rattle.std.specs.List.{filter, flat_map}
-use Rattle.std.specs.Ordering.{nat_cmp}
 use Rattle.std.specs.FinMap as finite
 use Rattle.std.proofs.lemmas.List.Folds.{flat_map-map}
-use Rattle.grid_base.specs.declared.Extent.{Extent}
-use Rattle.grid_base.specs.Extents.{overlaps}
 use Rattle.grid_decided.specs.Decided.{meets_exactly}
-use Rattle.cell_grid.specs.Overlapping.{overlapping}
 use Rattle.mesh_base.specs.declared.ids.Corners.{Corners}
-use Rattle.mesh_base.specs.declared.ids.PairName.{PairName}
 use Rattle.mesh_base.specs.Mesh.{Mesh}
 use Rattle.mesh_base.specs.Pairs.{Pair, edges, pairs_of}
 use Rattle.mesh_base.specs.Placements.{Motion, rest_positions, positions}
 use Rattle.mesh_base.specs.Sides.{has_corner}
-use Rattle.pair_paths.specs.declared.Frame.{Frame}
-use Rattle.pair_paths.specs.declared.MovingEdge.{MovingEdge}
-use Rattle.pair_paths.specs.declared.MovingFace.{MovingFace}
-use Rattle.pair_paths.specs.Bounds.{AreBoxes}
-use Rattle.pair_paths.specs.Frames.{edge_in, face_in, HoldsEdgeIn, HoldsFaceIn}
 use Rattle.pair_paths.specs.Moving.{moving_edge, moving_face, moving_faces}
-use Rattle.pair_paths.specs.Pairing.{have_a_vertex_in_common, name_with, starts}
 use Rattle.pair_paths.specs.Paths.{at_rest}
-use Rattle.pair_paths.proofs.Apart.{never_meet, starts_held}
-use Rattle.pair_paths.proofs.Near.{near_make_all}
-use Rattle.pair_scan.specs.Scan.{meets_face, met_with, one_or_none}
-use Rattle.pair_scan.proofs.Clear.{apart}
+use Rattle.pair_scan.specs.Scan.{met_with, one_or_none}
 use Rattle.pair_scan.proofs.Kept.{kept_by_list, kept_of_taken}
-use Rattle.pair_scan.proofs.Scans.{and_false}
-use Rattle.mesh_faults.specs.MeetingPairs.{meeting_pairs, meeting_at, meeting_among}
-
--- ---- a face whose box is apart is not met
-meets_none : (frame : Frame) (e : MovingEdge) (f : MovingFace) (its edge : Extent) → HoldsEdgeIn frame e edge → HoldsFaceIn frame f its → overlaps its edge ≡ false → meets_face e f ≡ false
-meets_none frame e f its edge E F off =
-    let other = not (have_a_vertex_in_common e f) in
-    ap (λ b. other && b) (apart (starts e f) (never_meet edge its (starts e f) (starts_held (edge_in frame e) (face_in frame f) edge its E F) off)) ∙ and_false other
-
--- so those that are near are all
-pub near_are_all : (frame : Frame) (e : MovingEdge) (faces : List MovingFace) (boxes : finite.FinMap nat_cmp Extent) (edge : Extent) (near : List ℕ) → AreBoxes (HoldsFaceIn frame) faces boxes → HoldsEdgeIn frame e edge → near ≡ overlapping boxes edge
-    → meeting_at e faces near ≡ meeting_among e faces
-near_are_all frame e faces boxes edge near are E is =
-    near_make_all (HoldsFaceIn frame) (λ o. one_or_none (met_with e o)) faces boxes edge are refl
-    (λ f its F off. ap (λ b. one_or_none (cond b (Some (name_with e f)) None)) (meets_none frame e f its edge E F off)) near is
+use Rattle.mesh_faults.specs.MeetingPairs.{meeting_pairs, meeting_among}
 
 -- ---- the pairs of an edge
 of_edge : (m : Mesh) (a b : ℕ) → let w = at_rest m in meeting_among (moving_edge w a b) (moving_faces m w) ≡ map (λ (p : Pair). p.name) (filter (λ p. meets_exactly (positions (rest_positions m) p)) (pairs_of m (a, b)))

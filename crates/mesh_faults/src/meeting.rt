@@ -5,7 +5,7 @@ ghost use Rattle.grid_decided.specs.Decided.{meets_exactly};
 ghost use Rattle.mesh_base.specs.Failing.{first_meeting};
 ghost use Rattle.mesh_base.specs.Placements.{rest_positions};
 ghost use Rattle.pair_paths.specs.Bounds.{AreBoxes};
-ghost use Rattle.pair_paths.specs.Frames.{HoldsFaceIn};
+ghost use Rattle.pair_paths.specs.FaceBoxes.{IsFaceBoxIn};
 ghost use Rattle.pair_paths.specs.Moving.{moving_edge};
 ghost use Rattle.pair_paths.specs.Paths.{at_rest};
 ghost use Rattle.pair_scan.specs.Scan.{meets_face, met_with};
@@ -95,7 +95,8 @@ fn put_met(
     Ok(())
 }
 
-// Puts the edge with those of the faces that it meets at the end. Sets `near` to the numbers of the faces whose boxes meet the edge's.
+// Puts the edge with those of the faces that it meets at the end. Sets `near` to the numbers of the faces that have no end of
+// it and whose boxes meet the edge's.
 fn put_met_near(
     e: &MovingEdge,
     faces: &[MovingFace],
@@ -104,16 +105,16 @@ fn put_met_near(
     near: &mut Vec<u64>,
     found: &mut Items<PairName>,
 ) -> Result<(), NoMemory>
-    requires boxes { AreBoxes (HoldsFaceIn frame.now) faces.now boxes.now }
+    requires boxes { AreBoxes (IsFaceBoxIn frame.now) faces.now boxes.now }
     ensures { OnOk result (found.new ≡ found.old ++ meeting_among e.now faces.now) }
 {
-    boxes.overlapping(e.bounds_in(frame), near)?;
+    boxes.overlapping_apart(e.bounds_in(frame), e.a.0, e.b.0, near)?;
     put_met(e, faces, near, found)
 }
 
 // A tree of the boxes of faces.
 fn tree_of(alloc: Global, faces: &[MovingFace], frame: &Frame) -> Result<BoxTree, NoMemory>
-    ensures { IfOk result (λ boxes. AreBoxes (HoldsFaceIn frame.now) faces.now boxes) }
+    ensures { IfOk result (λ boxes. AreBoxes (IsFaceBoxIn frame.now) faces.now boxes) }
 {
     let list = boxes_in(alloc, faces, frame)?;
     BoxTree::of(alloc, &list)
@@ -129,7 +130,7 @@ fn met_along<P: Paths>(
     boxes: &BoxTree,
     most: usize,
 ) -> Result<Items<PairName>, NoMemory>
-    requires boxes { AreBoxes (HoldsFaceIn frame.now) faces.now boxes.now }
+    requires boxes { AreBoxes (IsFaceBoxIn frame.now) faces.now boxes.now }
     ensures { let w = P.motion paths.now in
         let of_edge = λ (e : ℕ × ℕ). meeting_among (moving_edge w e.0 e.1) faces.now in
         IfOk result (λ found. take most found ≡ take most (flat_map of_edge edges.now)) }

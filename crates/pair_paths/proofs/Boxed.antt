@@ -5,7 +5,6 @@ use Rattle.std.specs.Ordering.{nat_cmp}
 use Rattle.std.specs.FinMap as finite
 use Rattle.std.proofs.lemmas.Bool.{cases_lt}
 use Rattle.std.proofs.lemmas.Option.{slice_get_within, slice_get_past, slice_get_read}
-use Rattle.grid_base.specs.declared.Extent.{Extent}
 use Rattle.pair_paths.specs.Bounds.{AreBoxes, AreBoxesOf}
 use Rattle.pair_paths.proofs.Numbered.{same_some}
 
@@ -25,11 +24,11 @@ module _ {A : Type 0} where
 
 -- ---- the loop that makes the boxes
 -- the boxes of the first i things
-pub record AreBoxedTo {X : Type 0} (holds : X → Extent → Type 0) (xs : List X) (i : ℕ) (boxes : List Extent) : Type 0 where
+pub record AreBoxedTo {X Box : Type 0} (holds : X → Box → Type 0) (xs : List X) (i : ℕ) (boxes : List Box) : Type 0 where
   pub as_long : length boxes ≡ i
-  pub boxed : (k : ℕ) (x : X) → k < i → slice_get xs k ≡ Some x → (box : Extent) × ((slice_get boxes k ≡ Some box) × holds x box)
+  pub boxed : (k : ℕ) (x : X) → k < i → slice_get xs k ≡ Some x → (box : Box) × ((slice_get boxes k ≡ Some box) × holds x box)
 
-pub boxed_more : {X : Type 0} (holds : X → Extent → Type 0) (xs : List X) (i : ℕ) (d : X) (boxes more : List Extent) (box : Extent) → i < length xs → d ≡ get_or xs i d → holds d box → more ≡ boxes ++ box ∷ []
+pub boxed_more : {X Box : Type 0} (holds : X → Box → Type 0) (xs : List X) (i : ℕ) (d : X) (boxes more : List Box) (box : Box) → i < length xs → d ≡ get_or xs i d → holds d box → more ≡ boxes ++ box ∷ []
     → AreBoxedTo holds xs i boxes → AreBoxedTo holds xs (i + 1) more
 boxed_more holds xs i d boxes more box inside item held is before = record {
   as_long = ap length is ∙ one_longer boxes box ∙ ap (λ (n : ℕ). n + 1) before.as_long;
@@ -46,14 +45,14 @@ boxed_more holds xs i d boxes more box inside item held is before = record {
       (cases_lt k i);
 }
 
-pub all_boxed : {X : Type 0} (holds : X → Extent → Type 0) (xs : List X) (i : ℕ) (boxes : List Extent) → i ≡ length xs → AreBoxedTo holds xs i boxes → AreBoxesOf holds xs boxes
+pub all_boxed : {X Box : Type 0} (holds : X → Box → Type 0) (xs : List X) (i : ℕ) (boxes : List Box) → i ≡ length xs → AreBoxedTo holds xs i boxes → AreBoxesOf holds xs boxes
 all_boxed holds xs i boxes e h = record {
   as_long = h.as_long ∙ e;
   boxed = λ k x there. h.boxed k x (let within : k < length xs = slice_get_within xs k x there in omega arith) there;
 }
 
 -- a map that has these boxes by their places
-pub boxes_by_place : {X : Type 0} (holds : X → Extent → Type 0) (xs : List X) (boxes : List Extent) (m : finite.FinMap nat_cmp Extent) → AreBoxesOf holds xs boxes → ((i : ℕ) → finite.get m i ≡ slice_get boxes i) → AreBoxes holds xs m
+pub boxes_by_place : {X Box : Type 0} (holds : X → Box → Type 0) (xs : List X) (boxes : List Box) (m : finite.FinMap nat_cmp Box) → AreBoxesOf holds xs boxes → ((i : ℕ) → finite.get m i ≡ slice_get boxes i) → AreBoxes holds xs m
 boxes_by_place holds xs boxes m h at = record {
   boxed = λ k x there. let its = h.boxed k x there in (its.0, (at k ∙ its.1.0, its.1.1));
   no_others = λ k le. at k ∙ slice_get_past boxes k (omega (arith, h.as_long));

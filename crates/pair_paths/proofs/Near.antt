@@ -5,9 +5,6 @@ use Rattle.std.specs.List.{filter, flat_map, AllByRecursion}
 use Rattle.std.specs.Ordering.{nat_cmp}
 use Rattle.std.specs.Map.{keys_of}
 use Rattle.std.specs.FinMap as finite
-use Rattle.grid_base.specs.declared.Extent.{Extent}
-use Rattle.grid_base.specs.Extents.{overlaps}
-use Rattle.cell_grid.specs.Overlapping.{overlapping}
 use Rattle.mesh_base.proofs.ListedPairs.{all_weaker}
 use Rattle.pair_paths.specs.Bounds.{AreBoxes}
 use Rattle.pair_paths.proofs.Faces.{found_entries}
@@ -38,24 +35,24 @@ all_numbers made all (x ∷ xs) i h =
     let here : slice_get all i ≡ Some x = ap (slice_get all) (at_start i) ∙ h zero in
     ap (λ o. made o ++ flat_map (λ k. made (slice_get all k)) (numbers (i + 1) (length xs))) here ∙ ap (λ zs. made (Some x) ++ zs) rest
 
--- ---- where a thing whose box is apart makes nothing, what the near ones make is what all make
-module _ {X Y : Type 0} (holds : X → Extent → Type 0) (made : Option X → List Y) (xs : List X) (m : finite.FinMap nat_cmp Extent) (at : Extent) (boxes : AreBoxes holds xs m) (no_thing : made None ≡ [])
-    (off : (x : X) (box : Extent) → holds x box → overlaps box at ≡ false → made (Some x) ≡ []) where
-  none_apart : (k : ℕ) (v : Extent) → finite.get m k ≡ Some v → overlaps v at ≡ false → made (slice_get xs k) ≡ []
-  none_apart k v found apart = by_answer (slice_get xs k) refl
+-- ---- where a thing whose box is not picked makes nothing, what the picked ones make is what all make
+module _ {X Box Y : Type 0} (holds : X → Box → Type 0) (made : Option X → List Y) (xs : List X) (m : finite.FinMap nat_cmp Box) (picked : Box → Bool) (boxes : AreBoxes holds xs m) (no_thing : made None ≡ [])
+    (off : (x : X) (box : Box) → holds x box → picked box ≡ false → made (Some x) ≡ []) where
+  none_made : (k : ℕ) (v : Box) → finite.get m k ≡ Some v → picked v ≡ false → made (slice_get xs k) ≡ []
+  none_made k v found left = by_answer (slice_get xs k) refl
     where
       by_answer : (o : Option X) → slice_get xs k ≡ o → made o ≡ []
       by_answer None t = no_thing
       by_answer (Some x) t =
           let its = boxes.boxed k x t in
           let same : its.0 ≡ v = same_some its.0 v (sym its.1.0 ∙ found) in
-          off x its.0 its.1.1 (ap (λ w. overlaps w at) same ∙ apart)
+          off x its.0 its.1.1 (ap picked same ∙ left)
 
-  pub near_make_all : (near : List ℕ) → near ≡ overlapping m at → flat_map (λ k. made (slice_get xs k)) near ≡ flat_map (λ x. made (Some x)) xs
-  near_make_all near is =
+  pub picked_make_all : (near : List ℕ) → near ≡ keys_of (filter (λ y. picked y.1) (finite.entries m)) → flat_map (λ k. made (slice_get xs k)) near ≡ flat_map (λ x. made (Some x)) xs
+  picked_make_all near is =
       let each : ℕ → List Y = λ k. made (slice_get xs k) in
       ap (flat_map each) is
-      ∙ left_out each (λ v. overlaps v at) (finite.entries m) (all_weaker (λ y. finite.get m y.0 ≡ Some y.1) (λ y. overlaps y.1 at ≡ false → each y.0 ≡ []) (finite.entries m) (λ y found apart. none_apart y.0 y.1 found apart) (found_entries m))
+      ∙ left_out each picked (finite.entries m) (all_weaker (λ y. finite.get m y.0 ≡ Some y.1) (λ y. picked y.1 ≡ false → each y.0 ≡ []) (finite.entries m) (λ y found left. none_made y.0 y.1 found left) (found_entries m))
       ∙ ap (flat_map each) (sym (keys_are_numbers holds xs m boxes))
       ∙ all_numbers made xs xs 0 (λ k. ap (slice_get xs) (from_zero k))
     where

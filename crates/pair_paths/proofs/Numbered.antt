@@ -12,7 +12,6 @@ use Rattle.std.specs.FinMap.{get-entries, entries_sorted, get-insert}
 use Rattle.std.proofs.lemmas.Bool.{false≢true, eq-eqb, eqb-true, or_left, or_right, or_cases, cases_order, cases_lt, ne_eqb}
 use Rattle.std.proofs.lemmas.Option.{slice_get_cases, slice_get_within}
 use Rattle.std.proofs.lemmas.Map.Made.{is_some-lookup}
-use Rattle.grid_base.specs.declared.Extent.{Extent}
 use Rattle.cell_grid.specs.Filed.{has}
 use Rattle.cell_grid.proofs.Found.{both_ways}
 use Rattle.cell_grid.proofs.Listed.{find_is_lookup, same_rising}
@@ -52,7 +51,7 @@ number_has q from (suc n) h i = ⊎_elim
 some_is : {A : Type 0} (o : Option A) (v : A) → o ≡ Some v → is_some o ≡ true
 some_is o v h = ap is_some h
 
-pub keys_are_numbers : {X : Type 0} (holds : X → Extent → Type 0) (faces : List X) (m : fin.FinMap nat_cmp Extent) → AreBoxes holds faces m → numbers 0 (length faces) ≡ keys_of (fin.entries m)
+pub keys_are_numbers : {X Box : Type 0} (holds : X → Box → Type 0) (faces : List X) (m : fin.FinMap nat_cmp Box) → AreBoxes holds faces m → numbers 0 (length faces) ≡ keys_of (fin.entries m)
 keys_are_numbers holds faces m boxes = same_rising (numbers 0 (length faces)) (fin.entries m) (sorted_numbers 0 (length faces)) (entries_sorted m)
     (λ q. both_ways _ _
     (λ h. has_key m q ∙ ⊎_elim
@@ -69,11 +68,11 @@ same_some a b h = cc
 
 -- ---- the loop that makes the boxes
 -- the boxes of the first i things are in the map
-pub record AreBoxesTo {X : Type 0} (holds : X → Extent → Type 0) (faces : List X) (i : ℕ) (m : fin.FinMap nat_cmp Extent) : Type 0 where
-  pub boxed : (k : ℕ) (f : X) → k < i → slice_get faces k ≡ Some f → (box : Extent) × ((fin.get m k ≡ Some box) × holds f box)
+pub record AreBoxesTo {X Box : Type 0} (holds : X → Box → Type 0) (faces : List X) (i : ℕ) (m : fin.FinMap nat_cmp Box) : Type 0 where
+  pub boxed : (k : ℕ) (f : X) → k < i → slice_get faces k ≡ Some f → (box : Box) × ((fin.get m k ≡ Some box) × holds f box)
   pub no_others : (k : ℕ) → i ≤ k → fin.get m k ≡ None
 
-module _ {X : Type 0} (holds : X → Extent → Type 0) (faces : List X) (i : ℕ) (m n : fin.FinMap nat_cmp Extent) (face : X) (box : Extent) (there : slice_get faces i ≡ Some face) (held : holds face box) (is : n ≡ fin.insert m i box)
+module _ {X Box : Type 0} (holds : X → Box → Type 0) (faces : List X) (i : ℕ) (m n : fin.FinMap nat_cmp Box) (face : X) (box : Box) (there : slice_get faces i ≡ Some face) (held : holds face box) (is : n ≡ fin.insert m i box)
     (before : AreBoxesTo holds faces i m) where
   at_key : (k : ℕ) → fin.get n k ≡ cond (eq_by_cmp nat_cmp k i) (Some box) (fin.get m k)
   at_key k = ap (λ map. fin.get map k) is ∙ get-insert nat_cmp_total m i box k
@@ -84,7 +83,7 @@ module _ {X : Type 0} (holds : X → Extent → Type 0) (faces : List X) (i : �
   new_key : (k : ℕ) → k ≡ i → fin.get n k ≡ Some box
   new_key k e = at_key k ∙ ap (λ b. cond b (Some box) (fin.get m k)) (unsigned_tied k i ∙ eq-eqb k i e)
 
-  pub boxed_more : (k : ℕ) (f : X) → k < i + 1 → slice_get faces k ≡ Some f → (b : Extent) × ((fin.get n k ≡ Some b) × holds f b)
+  pub boxed_more : (k : ℕ) (f : X) → k < i + 1 → slice_get faces k ≡ Some f → (b : Box) × ((fin.get n k ≡ Some b) × holds f b)
   boxed_more k f lt h = ⊎_elim
       (λ below. let old = before.boxed k f below h in (old.0, (kept_key k (λ e. omega arith) ∙ old.1.0, old.1.1)))
       (λ le. let e : k ≡ i = omega arith in (box, (new_key k e, subst (λ g. holds g box) (same_some face f (sym there ∙ ap (slice_get faces) (sym e) ∙ h)) held)))
@@ -93,7 +92,7 @@ module _ {X : Type 0} (holds : X → Extent → Type 0) (faces : List X) (i : �
   pub no_others_more : (k : ℕ) → i + 1 ≤ k → fin.get n k ≡ None
   no_others_more k le = kept_key k (λ e. omega arith) ∙ before.no_others k (omega arith)
 
-pub all_boxed : {X : Type 0} (holds : X → Extent → Type 0) (faces : List X) (i : ℕ) (m : fin.FinMap nat_cmp Extent) → i ≡ length faces → AreBoxesTo holds faces i m → AreBoxes holds faces m
+pub all_boxed : {X Box : Type 0} (holds : X → Box → Type 0) (faces : List X) (i : ℕ) (m : fin.FinMap nat_cmp Box) → i ≡ length faces → AreBoxesTo holds faces i m → AreBoxes holds faces m
 all_boxed holds faces i m e h = record {
   boxed = λ k f found. h.boxed k f (let within : k < length faces = slice_get_within faces k f found in omega arith) found;
   no_others = λ k le. h.no_others k (omega arith);

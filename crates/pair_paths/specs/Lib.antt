@@ -3,3 +3,4 @@ pub mod Moving
 pub mod Bounds
 pub mod Pairing
 pub mod Frames
+pub mod FaceBoxes

@@ -9,14 +9,16 @@ use Rattle.std.proofs.lemmas.Bool.{and_parts, false≢true}
 use Rattle.std.proofs.lemmas.Int.{ints}
 use Rattle.grid_base.specs.declared.Extent.{Extent}
 use Rattle.grid_base.specs.Extents.{overlaps, meet_along}
-use Rattle.cell_grid.specs.Overlapping.{Boxes, overlapping}
+use Rattle.box_tree.specs.declared.LabelledBox.{LabelledBox}
+use Rattle.box_tree.specs.Labels.{is_apart}
+use Rattle.box_tree.specs.Overlapping.{LabelledBoxes, overlaps_apart, overlapping, overlapping_apart}
 use Rattle.mesh_base.proofs.ListedPairs.{all_weaker}
 use Rattle.pair_paths.specs.declared.Frame.{Frame}
 use Rattle.pair_paths.specs.declared.MovingFace.{MovingFace}
 use Rattle.pair_paths.specs.Bounds.{AreBoxes}
-use Rattle.pair_paths.specs.Frames.{HoldsFaceIn}
+use Rattle.pair_paths.specs.FaceBoxes.{IsFaceBoxIn}
 use Rattle.pair_paths.proofs.Faces.{found_entries}
-use Rattle.pair_scan.specs.Asked.{IsAround, meets_at}
+use Rattle.pair_scan.specs.Asked.{IsAround, is_near_at}
 
 true_of : (b : Bool) → T b → b ≡ true
 true_of true t = refl
@@ -66,13 +68,14 @@ picked_again {V} at asked p (e ∷ es) up all = by_tests (picked_again at asked 
     by_tests rest false true s t = ap (λ q. cond q (e.0 ∷ filter p (keys_of (filter (λ x. asked x.1) es))) (filter p (keys_of (filter (λ x. asked x.1) es)))) (all.0 ∙ s) ∙ rest
     by_tests rest false false s t = rest
 
-pub serves : (m : Boxes) (boxes : List Extent) (near : List ℕ) (asked at : Extent) → ((i : ℕ) → map.get m i ≡ slice_get boxes i) → near ≡ overlapping m asked → IsAround asked at
-    → filter (meets_at boxes at) near ≡ overlapping m at
-serves m boxes near asked at placed is around =
-    ap (filter (meets_at boxes at)) is
-    ∙ picked_again (λ v. overlaps v at) (λ v. overlaps v asked) (meets_at boxes at) (map.entries m) (λ v. meets_outer v at asked around)
-    (all_weaker (λ e. map.get m e.0 ≡ Some e.1) (λ e. meets_at boxes at e.0 ≡ overlaps e.1 at) (map.entries m)
-    (λ e found. ap (λ o. option_map_or (λ b. overlaps b at) o false) (sym (placed e.0) ∙ found)) (found_entries m))
+pub serves : (m : LabelledBoxes) (boxes : List LabelledBox) (near : List ℕ) (asked at : Extent) (a b : ℕ) → ((i : ℕ) → map.get m i ≡ slice_get boxes i) → near ≡ overlapping m asked → IsAround asked at
+    → filter (is_near_at boxes at a b) near ≡ overlapping_apart m at a b
+serves m boxes near asked at a b placed is around =
+    ap (filter (is_near_at boxes at a b)) is
+    ∙ picked_again (overlaps_apart at a b) (λ v. overlaps v.at asked) (is_near_at boxes at a b) (map.entries m)
+    (λ v h. meets_outer v.at at asked around (and_parts (overlaps v.at at) (is_apart v.labels a b) h).0)
+    (all_weaker (λ e. map.get m e.0 ≡ Some e.1) (λ e. is_near_at boxes at a b e.0 ≡ overlaps_apart at a b e.1) (map.entries m)
+    (λ e found. ap (λ o. option_map_or (overlaps_apart at a b) o false) (sym (placed e.0) ∙ found)) (found_entries m))
 
 -- what follows where an answer is Ok
 pub on_ok : {A E : Type 0} (r : Result A E) {P Q : Type 0} → (P → Q) → OnOk r P → OnOk r Q
@@ -80,6 +83,6 @@ on_ok (Ok x) f h = f h
 on_ok (Err e) f h = h
 
 -- boxes that stay are boxes of the same faces
-pub boxes_stay : (faces : List MovingFace) (before after : Frame) (m n : Boxes) → after ≡ before → n ≡ m → AreBoxes (HoldsFaceIn before) faces m → AreBoxes (HoldsFaceIn after) faces n
+pub boxes_stay : (faces : List MovingFace) (before after : Frame) (m n : LabelledBoxes) → after ≡ before → n ≡ m → AreBoxes (IsFaceBoxIn before) faces m → AreBoxes (IsFaceBoxIn after) faces n
 boxes_stay faces before after m n frame boxes h =
-    subst (λ f. AreBoxes (HoldsFaceIn f) faces n) (sym frame) (subst (AreBoxes (HoldsFaceIn before) faces) (sym boxes) h)
+    subst (λ f. AreBoxes (IsFaceBoxIn f) faces n) (sym frame) (subst (AreBoxes (IsFaceBoxIn before) faces) (sym boxes) h)

@@ -50,6 +50,10 @@ passed_apart depth frame e f its edge E F off =
     nothing : (other passed : Bool) → passed ≡ true → one_or_none (cond (other && not passed) (Some (name_with e f)) None) ≡ []
     nothing other passed p = ap (λ b. one_or_none (cond (other && not b) (Some (name_with e f)) None)) p ∙ ap (λ b. one_or_none (cond b (Some (name_with e f)) None)) (and_false other)
 
+-- an edge and a face that share a vertex are no pair
+pub shared_fails_none : (depth : ℕ) (e : MovingEdge) (f : MovingFace) → have_a_vertex_in_common e f ≡ true → failed depth e (Some f) ≡ []
+shared_fails_none depth e f h = ap (λ b. one_or_none (cond (not b && not (passes meets_exactly depth (starts e f) (ends e f))) (Some (name_with e f)) None)) h
+
 -- ---- the pairs of an edge
 of_edge : (m : Mesh) (w : Motion) (depth a b : ℕ) → failing_among depth (moving_edge w a b) (moving_faces m w) ≡ failing_of depth w (pairs_of m (a, b))
 of_edge m w depth a b =

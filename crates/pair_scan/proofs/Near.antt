@@ -3,19 +3,19 @@ use Rattle.std.proofs.Common.{◌≡◌, ℕ, ◌+◌, ◌<◌, Bool, true, fals
 use Rattle.std.specs.Prelude.{slice_get}
 use Rattle.std.specs.List.{find, flat_map}
 use Rattle.std.specs.Option.{option_map, option_or}
-use Rattle.std.specs.Ordering.{nat_cmp}
-use Rattle.std.specs.FinMap as finite
 use Rattle.grid_base.specs.declared.Extent.{Extent}
 use Rattle.grid_base.specs.Extents.{overlaps}
-use Rattle.cell_grid.specs.Overlapping.{overlapping}
+use Rattle.grid_decided.specs.Decided.{meets_exactly}
+use Rattle.box_tree.specs.Overlapping.{LabelledBoxes, overlapping_apart}
 use Rattle.pair_paths.specs.declared.MovingEdge.{MovingEdge}
 use Rattle.pair_paths.specs.declared.MovingFace.{MovingFace}
 use Rattle.pair_paths.specs.declared.Frame.{Frame}
 use Rattle.pair_paths.specs.Bounds.{AreBoxes}
+use Rattle.pair_paths.specs.FaceBoxes.{IsFaceBoxIn}
 use Rattle.pair_paths.specs.Frames.{edge_in, face_in, HoldsEdgeIn, HoldsFaceIn}
 use Rattle.pair_paths.specs.Pairing.{have_a_vertex_in_common, name_with, starts}
 use Rattle.pair_paths.proofs.Apart.{never_meet, starts_held}
-use Rattle.pair_paths.proofs.Near.{near_make_all}
+use Rattle.pair_paths.proofs.NearFaces.{near_faces_make_all}
 use Rattle.pair_paths.proofs.Walks.{rest_at}
 use Rattle.pair_scan.specs.Scan.{meets_face, met_with, first_some, one_or_none}
 use Rattle.pair_scan.proofs.Clear.{apart}
@@ -52,11 +52,26 @@ meets_none frame e f its edge E F off =
     let other = not (have_a_vertex_in_common e f) in
     ap (λ b. other && b) (apart (starts e f) (never_meet edge its (starts e f) (starts_held (edge_in frame e) (face_in frame f) edge its E F) off)) ∙ and_false other
 
-pub near_is_all : (frame : Frame) (e : MovingEdge) (faces : List MovingFace) (m : finite.FinMap nat_cmp Extent) (edge : Extent) (near : List ℕ) → AreBoxes (HoldsFaceIn frame) faces m → HoldsEdgeIn frame e edge → near ≡ overlapping m edge
+-- nor does one that shares a vertex with the edge
+shares_none : (e : MovingEdge) (f : MovingFace) → have_a_vertex_in_common e f ≡ true → meets_face e f ≡ false
+shares_none e f h = ap (λ b. not b && meets_exactly (starts e f)) h
+
+-- so what those that are near answer is what all do
+pub near_are_all : (frame : Frame) (e : MovingEdge) (faces : List MovingFace) (m : LabelledBoxes) (edge : Extent) (near : List ℕ) → AreBoxes (IsFaceBoxIn frame) faces m → HoldsEdgeIn frame e edge → near ≡ overlapping_apart m edge e.a e.b
+    → flat_map (λ k. one_or_none (met_with e (slice_get faces k))) near ≡ flat_map (λ f. one_or_none (met_with e (Some f))) faces
+near_are_all frame e faces m edge near boxes E is =
+    near_faces_make_all frame e (λ o. one_or_none (met_with e o)) faces m edge boxes refl
+    (λ f its F off. none_named f (meets_none frame e f its edge E F off))
+    (λ f h. none_named f (shares_none e f h)) near is
+  where
+    none_named : (f : MovingFace) → meets_face e f ≡ false → one_or_none (met_with e (Some f)) ≡ []
+    none_named f h = ap (λ b. one_or_none (cond b (Some (name_with e f)) None)) h
+
+-- and their first answer is the first of all
+pub near_is_all : (frame : Frame) (e : MovingEdge) (faces : List MovingFace) (m : LabelledBoxes) (edge : Extent) (near : List ℕ) → AreBoxes (IsFaceBoxIn frame) faces m → HoldsEdgeIn frame e edge → near ≡ overlapping_apart m edge e.a e.b
     → first_some (λ k. met_with e (slice_get faces k)) near ≡ option_map (name_with e) (find (meets_face e) faces)
 near_is_all frame e faces m edge near boxes E is =
     first_listed (λ k. met_with e (slice_get faces k)) near
-    ∙ ap (λ names. slice_get names 0) (near_make_all (HoldsFaceIn frame) (λ o. one_or_none (met_with e o)) faces m edge boxes refl
-    (λ f its F off. ap (λ b. one_or_none (cond b (Some (name_with e f)) None)) (meets_none frame e f its edge E F off)) near is)
+    ∙ ap (λ names. slice_get names 0) (near_are_all frame e faces m edge near boxes E is)
     ∙ sym (first_listed (λ f. met_with e (Some f)) faces)
     ∙ first_met e faces

@@ -4,9 +4,9 @@ use Rattle.std.specs.Option.{option_map_or}
 use Rattle.std.specs.FinMap as map
 use Rattle.std.proofs.Common.{Option}
 use Rattle.grid_base.specs.declared.Extent.{Extent}
-use Rattle.grid_base.specs.Extents.{overlaps}
 use Rattle.grid_base.specs.Ordered.{IsUnder}
-use Rattle.cell_grid.specs.Overlapping.{Boxes, overlapping}
+use Rattle.box_tree.specs.declared.LabelledBox.{LabelledBox}
+use Rattle.box_tree.specs.Overlapping.{LabelledBoxes, overlaps_apart, overlapping, overlapping_apart}
 use Rattle.pair_paths.specs.declared.Frame.{Frame}
 use Rattle.pair_paths.specs.declared.MovingEdge.{MovingEdge}
 use Rattle.pair_paths.specs.Frames.{HoldsEdgeIn}
@@ -16,17 +16,17 @@ pub record IsAround (outer inner : Extent) : Type 0 where
   pub low : IsUnder outer.low inner.low
   pub high : IsUnder inner.high outer.high
 
--- the box at the place has a common point with this one
-abbrev pub meets_at : List Extent → Extent → ℕ → Bool
-meets_at boxes at k = option_map_or (λ b. overlaps b at) (slice_get boxes k) false
+-- the box at the place has a common point with this one, and neither of the labels
+abbrev pub is_near_at : List LabelledBox → Extent → ℕ → ℕ → ℕ → Bool
+is_near_at boxes at a b k = option_map_or (overlaps_apart at a b) (slice_get boxes k) false
 
 -- the tree has the boxes by their places, and what is near is near the box that was asked for last
-pub record IsKept (tree : Boxes) (boxes : List Extent) (asked : Option Extent) (near : List ℕ) : Type 0 where
+pub record IsKept (tree : LabelledBoxes) (boxes : List LabelledBox) (asked : Option Extent) (near : List ℕ) : Type 0 where
   pub placed : (i : ℕ) → map.get tree i ≡ slice_get boxes i
   pub answered : IfSome asked (λ at. near ≡ overlapping tree at)
 
--- the places are those of the boxes near a box that has the edge in the frame
-pub record AreNear (frame : Frame) (tree : Boxes) (e : MovingEdge) (near : List ℕ) : Type 0 where
+-- the places are those of the boxes that are near a box that has the edge in the frame, and have no end of it as a label
+pub record AreNear (frame : Frame) (tree : LabelledBoxes) (e : MovingEdge) (near : List ℕ) : Type 0 where
   pub at : Extent
   pub held : HoldsEdgeIn frame e at
-  pub found : near ≡ overlapping tree at
+  pub found : near ≡ overlapping_apart tree at e.a e.b

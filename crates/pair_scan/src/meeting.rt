@@ -6,7 +6,7 @@ ghost use Rattle.mesh_base.specs.Pairs.{pairs, pairs_of};
 ghost use Rattle.mesh_base.specs.Placements.{rest_positions, IsClearMesh};
 ghost use Rattle.mesh_base.specs.Failing.{first_meeting};
 ghost use Rattle.pair_paths.specs.Bounds.{AreBoxes};
-ghost use Rattle.pair_paths.specs.Frames.{HoldsFaceIn};
+ghost use Rattle.pair_paths.specs.FaceBoxes.{IsFaceBoxIn};
 ghost use Rattle.pair_paths.specs.Moving.{moving_faces};
 ghost use Rattle.pair_paths.specs.Paths.{at_rest};
 ghost use Rattle.pair_scan.specs.Scan.{meets_face, met_with, first_some, first_of, IsMeeting, NoneMeetsBefore};
@@ -68,8 +68,8 @@ fn first_near(e: &MovingEdge, faces: &[MovingFace], near: &[u64]) -> Option<Pair
     None
 }
 
-/// The first pair of an edge that meets. Sets `near` to the numbers of the faces whose boxes in the view's frame meet the
-/// edge's.
+/// The first pair of an edge that meets. Sets `near` to the numbers of the faces that have no end of it and whose boxes in
+/// the view's frame meet the edge's.
 fn first_of_edge<S: Surface>(
     paths: &KnownPaths<AtRest<S>>,
     coming: &Coming,
@@ -81,8 +81,8 @@ fn first_of_edge<S: Surface>(
 ) -> Result<Option<PairName>, NoMemory>
     requires faces { let m = S.mesh paths.now.paths.now.mesh.now in
         faces.now ≡ moving_faces m (at_rest m) }
-    requires boxes { AreBoxes (HoldsFaceIn view.old.frame) faces.now view.old.boxes }
-    ensures boxes { AreBoxes (HoldsFaceIn view.new.frame) faces.now view.new.boxes }
+    requires boxes { AreBoxes (IsFaceBoxIn view.old.frame) faces.now view.old.boxes }
+    ensures boxes { AreBoxes (IsFaceBoxIn view.new.frame) faces.now view.new.boxes }
     ensures met { let m = S.mesh paths.now.paths.now.mesh.now in
         IfOk result (λ r. r ≡ first_of m (pairs_of m (a, b))) }
 {
@@ -101,7 +101,7 @@ fn first_of_edges<S: Surface>(
 ) -> Result<Option<PairName>, NoMemory>
     requires faces { let m = S.mesh paths.now.paths.now.mesh.now in
         faces.now ≡ moving_faces m (at_rest m) }
-    requires boxes { AreBoxes (HoldsFaceIn view.old.frame) faces.now view.old.boxes }
+    requires boxes { AreBoxes (IsFaceBoxIn view.old.frame) faces.now view.old.boxes }
     ensures { let m = S.mesh paths.now.paths.now.mesh.now in
         IfOk result (λ r. r ≡ first_of m (flat_map (λ e. pairs_of m e) edges.now)) }
 {

@@ -55,15 +55,39 @@ fn with_coming<P: Paths>(at: Extent, view: &View, paths: &P, coming: &Coming) ->
 }
 
 // How many edges the next question looks ahead: fewer, where the last answer was long.
-fn next_ahead(ahead: usize, crowded: bool) -> usize {
-    if crowded {
-        ahead / 2
-    } else {
+fn next_ahead(ahead: usize, kept: bool) -> usize {
+    if kept {
         ahead.saturating_add(ahead).saturating_add(1).min(AHEAD)
+    } else {
+        ahead / 2
     }
 }
 
-/// Sets the list to the places of the faces whose boxes in the view's frame have a common point with the edge's.
+// Asks for the faces near this box and the edges that come next, where the last answer does not serve it. A question that
+// looks at no edge ahead is left out: the box alone is asked for later.
+fn look_ahead<P: Paths>(
+    at: Extent,
+    view: &mut View,
+    paths: &P,
+    coming: &Coming,
+) -> Result<(), NoMemory>
+    ensures frame { view.new.frame ≡ view.old.frame }
+    ensures boxes { view.new.boxes ≡ view.old.boxes }
+{
+    if view.boxes.serves(&at) {
+        return Ok(());
+    }
+    let mut kept = true;
+    if view.ahead > 0 {
+        let all = with_coming(at, view, paths, coming);
+        kept = view.boxes.ask(all)?;
+    }
+    view.ahead = next_ahead(view.ahead, kept);
+    Ok(())
+}
+
+/// Sets the list to the places of the faces whose boxes in the view's frame have a common point with the edge's, and which
+/// have no end of it.
 pub(crate) fn near_edge<P: Paths>(
     e: &MovingEdge,
     view: &mut View,
@@ -76,10 +100,6 @@ pub(crate) fn near_edge<P: Paths>(
     ensures near { OnOk result (AreNear view.old.frame view.old.boxes e.now near.new.items) }
 {
     let at = e.bounds_in(&view.frame);
-    if !view.boxes.serves(&at) {
-        let all = with_coming(at, view, paths, coming);
-        view.boxes.ask(all)?;
-        view.ahead = next_ahead(view.ahead, view.boxes.is_crowded());
-    }
-    view.boxes.overlapping(at, near)
+    look_ahead(at, view, paths, coming)?;
+    view.boxes.overlapping_apart(at, e.a.0, e.b.0, near)
 }

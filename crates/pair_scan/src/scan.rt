@@ -3,7 +3,7 @@ ghost use Rattle.std.specs.Prelude.{◌≡◌, ◌≤◌, ◌++◌, Some, IfOk, 
 ghost use Rattle.grid_base.specs.declared.TheConstants.{DEPTH_MAX};
 ghost use Rattle.mesh_base.specs.Pairs.{pairs};
 ghost use Rattle.pair_paths.specs.Bounds.{AreBoxes};
-ghost use Rattle.pair_paths.specs.Frames.{HoldsFaceIn};
+ghost use Rattle.pair_paths.specs.FaceBoxes.{IsFaceBoxIn};
 ghost use Rattle.pair_scan.specs.Views.{AreViews};
 ghost use Rattle.pair_scan.specs.Failed.{fails_with, failed_with, failing_at, failing_among, failing_along, failing_of};
 ghost use Rattle.pair_scan.specs.Found.{has_none, AreFound};
@@ -76,8 +76,8 @@ fn put_failing(
     Ok(())
 }
 
-/// Puts the pairs of an edge that do not pass at the end. Sets `near` to the numbers of the faces whose boxes in the view's
-/// frame meet the edge's.
+/// Puts the pairs of an edge that do not pass at the end. Sets `near` to the numbers of the faces that have no end of it and
+/// whose boxes in the view's frame meet the edge's.
 fn put_failing_seen<P: Paths>(
     e: &MovingEdge,
     faces: &[MovingFace],
@@ -89,8 +89,8 @@ fn put_failing_seen<P: Paths>(
     found: &mut Pairs,
 ) -> Result<(), NoMemory>
     requires depth_fits { depth ≤ DEPTH_MAX }
-    requires boxes { AreBoxes (HoldsFaceIn view.old.frame) faces.now view.old.boxes }
-    ensures boxes { AreBoxes (HoldsFaceIn view.new.frame) faces.now view.new.boxes }
+    requires boxes { AreBoxes (IsFaceBoxIn view.old.frame) faces.now view.old.boxes }
+    ensures boxes { AreBoxes (IsFaceBoxIn view.new.frame) faces.now view.new.boxes }
     ensures found { OnOk result (found.new ≡ found.old ++ failing_among depth e.now faces.now) }
 {
     near_edge(e, view, paths, coming, near)?;

@@ -1,7 +1,7 @@
 //! Faces as frames see them.
 ghost use Rattle.std.specs.Prelude.{IfOk, IfSome};
 ghost use Rattle.pair_paths.specs.Bounds.{AreBoxes};
-ghost use Rattle.pair_paths.specs.Frames.{HoldsFaceIn};
+ghost use Rattle.pair_paths.specs.FaceBoxes.{IsFaceBoxIn};
 
 use crate::asked_tree::AskedTree;
 use crate::frames::{common_frame, gap, other_frame};
@@ -27,7 +27,7 @@ pub(crate) struct Views {
 
 /// The faces as a frame sees them.
 pub(crate) fn view_of(alloc: Global, faces: &[MovingFace], frame: Frame) -> Result<View, NoMemory>
-    ensures { IfOk result (λ v. AreBoxes (HoldsFaceIn v.frame) faces.now v.boxes) }
+    ensures { IfOk result (λ v. AreBoxes (IsFaceBoxIn v.frame) faces.now v.boxes) }
 {
     let list = boxes_in(alloc, faces, &frame)?;
     Ok(View {
@@ -43,7 +43,7 @@ fn view_if(
     faces: &[MovingFace],
     frame: Option<Frame>,
 ) -> Result<Option<View>, NoMemory>
-    ensures { IfOk result (λ o. IfSome o (λ v. AreBoxes (HoldsFaceIn v.frame) faces.now v.boxes)) }
+    ensures { IfOk result (λ o. IfSome o (λ v. AreBoxes (IsFaceBoxIn v.frame) faces.now v.boxes)) }
 {
     match frame {
         Some(f) => Ok(Some(view_of(alloc, faces, f)?)),
@@ -58,9 +58,9 @@ pub(crate) fn views_of(
     by: &[ShiftOf],
 ) -> Result<Views, NoMemory>
     ensures first { IfOk result
-        (λ w. AreBoxes (HoldsFaceIn w.first.frame) faces.now w.first.boxes) }
+        (λ w. AreBoxes (IsFaceBoxIn w.first.frame) faces.now w.first.boxes) }
     ensures other { IfOk result
-        (λ w. IfSome w.other (λ v. AreBoxes (HoldsFaceIn v.frame) faces.now v.boxes)) }
+        (λ w. IfSome w.other (λ v. AreBoxes (IsFaceBoxIn v.frame) faces.now v.boxes)) }
 {
     let frame = common_frame(alloc, by)?;
     let other = other_frame(alloc, faces, by, &frame)?;

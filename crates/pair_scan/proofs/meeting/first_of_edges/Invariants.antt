@@ -2,7 +2,7 @@ use Rattle.std.proofs.Common.{◌≡◌, drop}
 use Rattle.std.specs.List.{flat_map}
 use Rattle.mesh_base.specs.Pairs.{pairs_of}
 use Rattle.pair_paths.specs.Bounds.{AreBoxes}
-use Rattle.pair_paths.specs.Frames.{HoldsFaceIn}
+use Rattle.pair_paths.specs.FaceBoxes.{IsFaceBoxIn}
 use Rattle.pair_scan.specs.Scan.{first_of}
 use Rattle.pair_scan.proofs.meeting.first_of_edges.Given as goal
 
@@ -12,5 +12,5 @@ invariant-loop-a g l =
     let m = g.S.Surface.mesh l.paths.paths.now.mesh.now in
     record {
       met : first_of m (flat_map (λ e. pairs_of m e) (drop l.a-index l.edges)) ≡ first_of m (flat_map (λ e. pairs_of m e) l.edges);
-      boxes : AreBoxes (HoldsFaceIn l.view.frame) l.faces l.view.boxes;
+      boxes : AreBoxes (IsFaceBoxIn l.view.frame) l.faces l.view.boxes;
     }

@@ -1,7 +1,7 @@
-use Rattle.std.proofs.Common.{◌≡◌, ◌∙◌, ◌++◌, ap, subst, sym, append-nil, reverse}
+use Rattle.std.proofs.Common.{◌≡◌, ◌∙◌, ◌++◌, ap, append-nil, reverse}
 use Rattle.std.specs.List.{filter_map}
-use Rattle.box_tree.specs.Nodes.{AreFoundByFirst, entries, placed}
-use Rattle.box_tree.proofs.FoundPlaces.{are_found, get_placed}
+use Rattle.box_tree.specs.Nodes.{entries, placed}
+use Rattle.box_tree.proofs.FoundPlaces.{are_once, get_placed}
 use Rattle.box_tree.proofs.tree.BoxTree.of.Goals as goal
 
 -- the entries are the boxes in the order
@@ -14,7 +14,7 @@ all_placed c =
     ∙ ap (filter_map (placed boxes)) c.deref.ensures.value
 
 pub invariant_of-result : goal.invariant_of-result
-invariant_of-result c = (c.in_ok-grow.ensures.tree, subst AreFoundByFirst (sym (all_placed c)) (are_found c.args.boxes.now c.in_ok-order.order.items))
+invariant_of-result c = (c.in_ok-grow.ensures.tree, are_once c.args.boxes.now c.in_ok-order.order.items (entries (reverse c.grow.new.nodes.items)) c.in_ok-order.ensures (all_placed c))
 
 pub returns : goal.returns
 returns c =
