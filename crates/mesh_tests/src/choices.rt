@@ -16,6 +16,7 @@ use std::alloc::Global;
 use std::process::Abort;
 use std::test::Fail;
 use step_choose::{Choice, PASSES_MAX, Settings, choose};
+use step_near::all_pass_near;
 
 // A shift of a vertex along x, and none of a solid one.
 fn shift_of<S: Surface>(mesh: &S, v: VertexId, x: i32, rt: &impl Abort) -> ShiftOf
@@ -72,6 +73,8 @@ fn chosen(
     let choice = choose(alloc, &mesh, &asked, &set)?;
     let pass = all_pass(alloc, &mesh, &asked, set.depth)?;
     assert_eq!(rt; pass, choice.hits.len() == 0);
+    let near = all_pass_near(alloc, &mesh, &asked, set.depth)?;
+    assert_eq!(rt; near, choice.hits.len() == 0);
     Ok(choice)
 }
 

@@ -4,7 +4,7 @@ ghost use Rattle.mesh_base.specs.Placements.{rest_positions};
 
 use crate::meshes::mesh_at;
 use crate::plays::is_allowed;
-use box_tree::SmallBox;
+use box_tree::LabelledBox;
 use grid_base::{Extent, NoMemory, Point, Wide};
 use mesh_base::{FaceId, Surface, VertexId};
 use mesh_plain::PlainMesh;
@@ -121,9 +121,11 @@ fn is_face_of(face: &MovingFace, id: u32, c: [u32; 3]) -> bool {
         && is_way_of(&face.e, third)
 }
 
-fn is_box(found: &SmallBox, wanted: [[i32; 3]; 2]) -> bool {
-    let e: Extent = found.extent();
-    e.low == wide(wanted[0]) && e.high == wide(wanted[1])
+// The box is the wanted one, and is known by these corners.
+fn is_box(found: &LabelledBox, wanted: [[i32; 3]; 2], c: [u32; 3]) -> bool {
+    let e: Extent = found.at.extent();
+    let known = [found.labels.first, found.labels.second, found.labels.third];
+    e.low == wide(wanted[0]) && e.high == wide(wanted[1]) && known == c
 }
 
 // These are the boxes of the faces in the frame with this end.
@@ -139,8 +141,8 @@ fn are_boxes(
     };
     let boxes = boxes_in(alloc, faces, &frame)?;
     let mut same = boxes.len() == wanted.len();
-    for (found, at) in boxes.iter().zip(wanted) {
-        same = same && is_box(found, *at);
+    for ((found, at), (_, c)) in boxes.iter().zip(wanted).zip(&LEFT) {
+        same = same && is_box(found, *at, *c);
     }
     Ok(same)
 }

@@ -9,6 +9,7 @@ ghost use Rattle.step_choose.specs.Choice.{way_taken, IsFirstWay};
 ghost use Rattle.step_choose.specs.Chosen.{way_of};
 ghost use Rattle.step_choose.specs.Found.{way_by};
 
+use crate::asked_pairs::asked_hits;
 use crate::found::Found;
 use crate::halving::{all_at_rest, by_halving};
 use crate::impulses::by_impulses;
@@ -16,7 +17,7 @@ use crate::rounds::by_zones;
 use crate::settings::Settings;
 use grid_base::{NoMemory, copy_of};
 use mesh_base::{How, Shifts, Surface};
-use pair_scan::{Pairs, failing};
+use pair_scan::Pairs;
 use std::alloc::Global;
 use step_zones::Blocks;
 
@@ -73,6 +74,46 @@ fn first_way<S: Surface>(
     })
 }
 
+/// How a step is taken, as `choose` answers it, where the failing pairs of the asked shifts are at hand. So what does not pass can be
+/// told before the way is looked for.
+pub fn choose_by_hits<S: Surface>(
+    alloc: Global,
+    mesh: &S,
+    asked: &Shifts,
+    hits: Pairs,
+    set: &Settings,
+) -> Result<Choice, NoMemory>
+    requires named { NameLive (S.mesh mesh.now) asked.now }
+    requires in_box { IsTrue (end_in_box (S.mesh mesh.now) asked.now) }
+    requires clear { IsClearMesh (S.mesh mesh.now) }
+    requires solid { SolidsRest (S.mesh mesh.now) asked.now }
+    requires hits { hits ≡ failing meets_exactly (S.mesh mesh.now) asked.now set.now.depth }
+    requires depth { set.now.depth ≤ DEPTH_MAX }
+    requires halvings { set.now.halvings ≤ HALVINGS_MAX }
+    ensures hits { IfOk result
+        (λ c. c.hits ≡ failing meets_exactly (S.mesh mesh.now) asked.now set.now.depth) }
+    ensures way { IfOk result
+        (λ c. way_of c ≡ way_taken meets_exactly (S.mesh mesh.now) asked.now set.now) }
+    ensures first { IfOk result
+        (λ c. IsFirstWay meets_exactly (S.mesh mesh.now) asked.now set.now c.how c.taken) }
+
+    // The shifts taken name the live vertices, end in the box, leave solid vertices where they are, and keep the mesh clear
+    // at every fraction.
+    ensures clear_along { IfOk result
+        (λ c. IsClearAlong (S.mesh mesh.now) (moved_by (S.mesh mesh.now) c.taken)) }
+    ensures names { IfOk result (λ c. NameLive (S.mesh mesh.now) c.taken) }
+    ensures ends { IfOk result (λ c. IsTrue (end_in_box (S.mesh mesh.now) c.taken)) }
+    ensures solid { IfOk result (λ c. SolidsRest (S.mesh mesh.now) c.taken) }
+{
+    let found = first_way(alloc, mesh, asked, &hits, *set)?;
+    Ok(Choice {
+        hits,
+        how: found.how,
+        taken: found.taken,
+        blocks: found.blocks,
+    })
+}
+
 /// How a step that asks these shifts of the live vertices of a clear mesh is taken. The first of these ways that applies:
 /// the asked shifts, where all pairs pass in the test of the whole motion (`Whole`); the shifts after the fewest impulse
 /// passes, from 1 to the set number, after which all pairs pass (`Impulse`); where zones are on, the shifts of the first
@@ -110,12 +151,6 @@ pub fn choose<S: Surface>(
     ensures ends { IfOk result (λ c. IsTrue (end_in_box (S.mesh mesh.now) c.taken)) }
     ensures solid { IfOk result (λ c. SolidsRest (S.mesh mesh.now) c.taken) }
 {
-    let hits = failing(alloc, mesh, asked, set.depth)?;
-    let found = first_way(alloc, mesh, asked, &hits, *set)?;
-    Ok(Choice {
-        hits,
-        how: found.how,
-        taken: found.taken,
-        blocks: found.blocks,
-    })
+    let hits = asked_hits(alloc, mesh, asked, set.depth)?;
+    choose_by_hits(alloc, mesh, asked, hits, set)
 }

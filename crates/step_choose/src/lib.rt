@@ -2,6 +2,7 @@
 //! halvings of the asked shifts with which all pass, or not at all.
 #![tactic(auto)]
 
+mod asked_pairs;
 mod choosing;
 mod found;
 mod halving;
@@ -9,7 +10,8 @@ mod impulses;
 mod rounds;
 mod settings;
 
-pub use choosing::{Choice, choose};
+pub use asked_pairs::asked_hits;
+pub use choosing::{Choice, choose, choose_by_hits};
 pub use settings::Settings;
 
 /// The greatest number of impulse passes that may be set.

@@ -11,7 +11,8 @@ use Rattle.log_text.specs.declared.LogLine.{LogLine}
 use Rattle.outside_io.specs.Desk.{Files}
 use Rattle.outside_io.specs.Sink.{appended}
 use Rattle.pass_run.specs.Said.{SaidInPart}
-use Rattle.pass_run.specs.PassLines.{lines_due, mesh_due, refused_in}
+use Rattle.pass_run.specs.declared.passing.PassCount.{PassCount}
+use Rattle.pass_run.specs.PassLines.{lines_due, mesh_due, done_in, refused_in}
 use Rattle.log_write.specs.Written.{WrittenInPart}
 use Rattle.log_write.proofs.WrittenLines.{written_whole}
 use Rattle.outside_io.specs.declared.stop.Stop.{Stop}
@@ -20,6 +21,7 @@ use Rattle.track_engine.specs.State.{Group, State, standing, asked_in, is_open}
 use Rattle.track_engine.specs.Answers.{Nothing}
 use Rattle.track_engine.specs.Effects.{Proceeds, effect_of, passed_lines, passed_mesh, fail_if}
 use Rattle.track_engine.specs.Parts.{Advances, PassTakes}
+use Rattle.track_engine.specs.Told.{pass_told}
 use Rattle.track_engine.proofs.NoFiles.{files_of-none, logs_from_said, stops_from_said}
 use Rattle.track_engine.proofs.Passing.{pass_replays, pass_names_none}
 
@@ -50,6 +52,13 @@ module _ (kind : PassKind) (s : State) (grouped : Bool) (same : grouped ≡ is_o
       let fails : groups ≡ fail_if (nat_lt 0 (refused_in (passed_lines kind s))) s.groups =
       failed ∙ ap (λ n. fail_if (nat_lt 0 n) s.groups) (count ∙ ap refused_in lines_are) in
       (λ i. record s { mesh = mesh i; asked = asks i; groups = fails i }, said ∙ ap (λ l. appended old (text_of_lines l)) lines_are)
+
+  -- what it tells, by its lines
+  pub pass_told_is : (count : PassCount) → count.done ≡ done_in lines → count.refused ≡ refused_in lines → count ≡ pass_told kind s
+  pass_told_is count done refused =
+      let edits : count.done ≡ done_in (passed_lines kind s) = done ∙ ap done_in lines_are in
+      let others : count.refused ≡ refused_in (passed_lines kind s) = refused ∙ ap refused_in lines_are in
+      λ i. record { done = edits i; refused = others i }
 
 -- a pass, as an effect
 pub advances_pass : (to : Target) (kind : PassKind) (s t : State) (files : Option Files) (old new : Option (List ℕ)) (r : Result (Option UseWhy) Stop) → PassTakes kind s t old new r

@@ -16,3 +16,4 @@ pub mod Placing
 pub mod Shifting
 pub mod Parts
 pub mod Again
+pub mod Told

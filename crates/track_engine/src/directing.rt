@@ -1,4 +1,4 @@
-ghost use Rattle.std.specs.Prelude.{◌≡◌, ◌≤◌, ◌<◌, ◌+◌, ◌++◌, ◌^◌, false, not, Ok, IfOk, IfErr, OnOk, OnErr, IsSome};
+ghost use Rattle.std.specs.Prelude.{◌≡◌, ◌≤◌, ◌<◌, ◌+◌, ◌^◌, false, not, Ok, IfOk, IfErr, OnOk, OnErr, IsSome};
 ghost use Rattle.grid_base.specs.declared.TheConstants.{DECIMALS_MAX};
 ghost use Rattle.mesh_base.specs.Kept.{BeginsWith};
 ghost use Rattle.mesh_field.specs.Stored.{IsWellKept};
@@ -9,7 +9,7 @@ ghost use Rattle.log_write.specs.Written.{Says};
 ghost use Rattle.outside_io.specs.Outside.{Counts, StoresNothing, holds_of, written_of};
 ghost use Rattle.track_engine.specs.Answers.{without_field};
 ghost use Rattle.track_engine.specs.Answered.{known, is_fit};
-ghost use Rattle.track_engine.specs.Effects.{effect_of, sum_of_all, is_whole, moved_mesh, hit_lines, way_lines};
+ghost use Rattle.track_engine.specs.Effects.{effect_of, sum_of_all, is_whole, moved_mesh, way_lines};
 ghost use Rattle.track_engine.specs.Engines.{state_in};
 ghost use Rattle.track_engine.specs.Groups.{failed_if};
 ghost use Rattle.track_engine.specs.Invariant.{HasRoom, MarksHold, left_by};
@@ -18,14 +18,16 @@ ghost use Rattle.track_engine.specs.Placing.{CanPlace};
 ghost use Rattle.track_engine.specs.Ready.{IsReady};
 ghost use Rattle.track_engine.specs.Shifting.{AsksNow};
 ghost use Rattle.track_engine.specs.Targets.{target_of};
+ghost use Rattle.track_engine.specs.Told.{step_told, pass_told, step_untold, pass_untold};
 
 use crate::driving::{field_of, is_fit};
 use crate::engine::Engine;
 use crate::placing::{first_outside, place_all};
 use crate::shifting::{all_summed, asked_in, no_shifts, sum_one};
-use crate::stepping::say_choice;
+use crate::stepping::{say_hits, say_way};
 use crate::target::Target;
 use crate::terms::RunTerms;
+use crate::told::{StepTold, pass_untold, step_untold};
 use edit_base::PassKind;
 use grid_base::{Point, Shift};
 use log_text::LogLine;
@@ -33,9 +35,9 @@ use log_write::write_line;
 use mesh_plain::{How, Shifts, Surface, UseWhy};
 use mesh_sizing::{Band, Sizing};
 use outside_io::{Outside, Stop};
-use pass_run::{PassTerms, Turns, fit_to, pass_to};
+use pass_run::{PassCount, PassTerms, Turns, fit_to, pass_to};
 use std::alloc::Global;
-use step_choose::{Choice, choose};
+use step_choose::{Choice, asked_hits, choose_by_hits};
 use step_text::Directive;
 
 // Whether a step is taken by the asked shifts.
@@ -67,7 +69,7 @@ impl<S: Surface> Engine<S> {
         }
     }
 
-    // A step is taken as it was chosen, and its lines after the first are written. One that is not taken whole makes the innermost open
+    // A step is taken as it was chosen, and the lines of its way are written. One that is not taken whole makes the innermost open
     // group fail. An error may leave the mesh moved.
     fn take_chosen<O: Outside>(
         &mut self,
@@ -86,21 +88,59 @@ impl<S: Surface> Engine<S> {
           steps = self.old.run.steps + 1;
           groups = failed_if (not (is_whole choice.how)) self.old.run.groups;
         }) }
-        ensures says { let lines = hit_lines choice.hits ++ way_lines (way_of choice) in
-            Says lines (O.around outside.old) (O.around outside.new) result }
+        ensures says { Says (way_lines (way_of choice))
+            (O.around outside.old) (O.around outside.new) result }
         ensures marks { MarksHold S.beyond (S.kept self.new.mesh) self.new.run.groups }
         ensures begins { BeginsWith (S.kept self.new.mesh) (S.kept self.old.mesh) }
     {
         place_all(&mut self.mesh, choice.taken.as_slice())?;
-        say_choice(alloc, &choice, outside)?;
+        say_way(alloc, &choice, outside)?;
         self.run.asked = still;
         self.run.steps += 1;
         self.run.groups.fail_if(!is_whole(choice.how));
         Ok(())
     }
 
-    // A step is taken, or a vertex would leave the box. Its first line is written before its pairs are tested, so that who reads the log sees
-    // that it is under way.
+    /// Takes a step, or a vertex would leave the box. Its first line is written before its pairs are tested, and those that do not pass
+    /// before a way is looked for, so that who reads the log sees that it is under way. What it tells is by what its lines are written: how it is taken, and how many pairs do not pass.
+    pub fn step<O: Outside>(
+        &mut self,
+        alloc: Global,
+        outside: &mut O,
+    ) -> Result<Result<StepTold, UseWhy>, Stop>
+        requires ready { IsReady S.beyond S.mesh S.kept self.old }
+        requires steps { self.old.run.steps + 1 < 2 ^ 32 }
+        ensures takes { StepTakes (state_in S.mesh S.kept self.old) (state_in S.mesh S.kept self.new)
+            (written_of (O.around outside.old)) (written_of (O.around outside.new))
+            (step_untold result) }
+        ensures told { IfOk result (λ taken. IfOk taken
+            (λ told. told ≡ step_told (state_in S.mesh S.kept self.old))) }
+        ensures left { IfOk (step_untold result) (λ refused. IsSome refused →
+            state_in S.mesh S.kept self.new ≡ state_in S.mesh S.kept self.old) }
+        ensures ready { IfOk result (λ _. IsReady S.beyond S.mesh S.kept self.new) }
+        ensures marks { MarksHold S.beyond (S.kept self.new.mesh) self.new.run.groups }
+        ensures begins { BeginsWith (S.kept self.new.mesh) (S.kept self.old.mesh) }
+        ensures nothing_stored { StoresNothing
+            (O.around outside.old) (O.around outside.new) (step_untold result) }
+    {
+        if let Some(v) = first_outside(&self.mesh, self.run.asked.as_slice()) {
+            return Ok(Err(UseWhy::Box { v: v.0 }));
+        }
+        let k = self.run.steps + 1;
+        write_line(alloc, outside, &LogLine::Step { k })?;
+        let hits = asked_hits(alloc, &self.mesh, &self.run.asked, self.run.set.depth)?;
+        say_hits(alloc, hits.as_slice(), outside)?;
+        let choice = choose_by_hits(alloc, &self.mesh, &self.run.asked, hits, &self.run.set)?;
+        let still = no_shifts(alloc, &self.mesh)?;
+        let told = StepTold {
+            how: choice.how,
+            hits: choice.hits.len(),
+        };
+        self.take_chosen(alloc, choice, still, outside)?;
+        Ok(Ok(told))
+    }
+
+    // The same, with nothing told.
     fn take_step<O: Outside>(
         &mut self,
         alloc: Global,
@@ -116,18 +156,44 @@ impl<S: Surface> Engine<S> {
         ensures begins { BeginsWith (S.kept self.new.mesh) (S.kept self.old.mesh) }
         ensures nothing_stored { StoresNothing (O.around outside.old) (O.around outside.new) result }
     {
-        if let Some(v) = first_outside(&self.mesh, self.run.asked.as_slice()) {
-            return Ok(Some(UseWhy::Box { v: v.0 }));
-        }
-        let k = self.run.steps + 1;
-        write_line(alloc, outside, &LogLine::Step { k })?;
-        let choice = choose(alloc, &self.mesh, &self.run.asked, &self.run.set)?;
-        let still = no_shifts(alloc, &self.mesh)?;
-        self.take_chosen(alloc, choice, still, outside)?;
-        Ok(None)
+        let told = self.step(alloc, outside);
+        step_untold(told)
     }
 
-    // A pass over the mesh is made, each line of it written. In a group its first `no` line ends it, and makes the group fail.
+    /// Makes a pass over the mesh, each line of it written. In a group its first `no` line ends it, and makes the group fail. What it tells
+    /// is how many of its lines are of done edits, and how many of refused ones.
+    pub fn pass<O: Outside>(
+        &mut self,
+        alloc: Global,
+        kind: PassKind,
+        outside: &mut O,
+    ) -> Result<PassCount, Stop>
+        requires ready { IsReady S.beyond S.mesh S.kept self.old }
+        ensures passes { PassTakes kind
+            (state_in S.mesh S.kept self.old) (state_in S.mesh S.kept self.new)
+            (written_of (O.around outside.old)) (written_of (O.around outside.new))
+            (pass_untold result) }
+        ensures told { IfOk result
+            (λ count. count ≡ pass_told kind (state_in S.mesh S.kept self.old)) }
+        ensures ready { IfOk result (λ _. IsReady S.beyond S.mesh S.kept self.new) }
+        ensures marks { MarksHold S.beyond (S.kept self.new.mesh) self.new.run.groups }
+        ensures begins { BeginsWith (S.kept self.new.mesh) (S.kept self.old.mesh) }
+        ensures nothing_stored { StoresNothing
+            (O.around outside.old) (O.around outside.new) (pass_untold result) }
+    {
+        let terms = PassTerms {
+            kind,
+            depth: self.run.set.depth,
+            grouped: self.run.groups.is_open(),
+        };
+        let count = pass_to(alloc, &mut self.mesh, terms, outside)?;
+        let asked = asked_in(alloc, &self.mesh, self.run.asked.as_slice())?;
+        self.run.asked = asked;
+        self.run.groups.fail_if(count.refused > 0);
+        Ok(count)
+    }
+
+    // The same, with nothing told.
     fn take_pass<O: Outside>(
         &mut self,
         alloc: Global,
@@ -142,16 +208,8 @@ impl<S: Surface> Engine<S> {
         ensures begins { BeginsWith (S.kept self.new.mesh) (S.kept self.old.mesh) }
         ensures nothing_stored { StoresNothing (O.around outside.old) (O.around outside.new) result }
     {
-        let terms = PassTerms {
-            kind,
-            depth: self.run.set.depth,
-            grouped: self.run.groups.is_open(),
-        };
-        let count = pass_to(alloc, &mut self.mesh, terms, outside)?;
-        let asked = asked_in(alloc, &self.mesh, self.run.asked.as_slice())?;
-        self.run.asked = asked;
-        self.run.groups.fail_if(count.refused > 0);
-        Ok(None)
+        let told = self.pass(alloc, kind, outside);
+        pass_untold(told)
     }
 
     // A pass by the sizing over the mesh is made, each line of it written. In a group its first `no` line ends it, and makes the group

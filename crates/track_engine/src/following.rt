@@ -23,9 +23,11 @@ use std::alloc::Global;
 use step_text::Placed;
 
 impl<S: Surface> Engine<S> {
-    // Gives up what the mesh keeps, unless a group is open, to whose mark it may have to go back.
-    fn settle_outside_groups(&mut self)
-        requires { MarksHold S.beyond (S.kept self.old.mesh) self.old.run.groups }
+    /// Gives up what the mesh keeps, unless a group is open, to whose mark it may have to go back. The state stays. Takes no memory.
+    pub fn settle_outside_groups(&mut self)
+        requires { IsReady S.beyond S.mesh S.kept self.old }
+        ensures ready { IsReady S.beyond S.mesh S.kept self.new }
+        ensures state { state_in S.mesh S.kept self.new ≡ state_in S.mesh S.kept self.old }
         ensures mesh { S.mesh self.new.mesh ≡ S.mesh self.old.mesh }
         ensures run { self.new.run ≡ self.old.run }
         ensures marks { MarksHold S.beyond (S.kept self.new.mesh) self.new.run.groups }

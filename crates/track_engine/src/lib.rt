@@ -22,6 +22,7 @@ mod solids;
 mod stepping;
 mod target;
 mod terms;
+mod told;
 
 pub use engine::Engine;
 pub use lines::finish;
@@ -31,3 +32,4 @@ pub use run_state::RunState;
 pub use saving::file_name;
 pub use target::Target;
 pub use terms::RunTerms;
+pub use told::StepTold;

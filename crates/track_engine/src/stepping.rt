@@ -1,4 +1,4 @@
-ghost use Rattle.std.specs.Prelude.{◌∷◌, ◌++◌, []};
+ghost use Rattle.std.specs.Prelude.{◌∷◌, []};
 ghost use Rattle.log_text.specs.declared.LogLine.TheVariants.{Block};
 ghost use Rattle.step_choose.specs.Chosen.{way_of};
 ghost use Rattle.track_engine.specs.Effects.{hit_lines, block_lines, move_lines, way_lines};
@@ -33,8 +33,12 @@ fn say_moves<O: Outside>(alloc: Global, asked: &[ShiftOf], outside: &mut O) -> R
     Ok(())
 }
 
-// A line for each pair.
-fn say_hits<O: Outside>(alloc: Global, pairs: &[PairName], outside: &mut O) -> Result<(), Stop>
+/// A line for each pair.
+pub(crate) fn say_hits<O: Outside>(
+    alloc: Global,
+    pairs: &[PairName],
+    outside: &mut O,
+) -> Result<(), Stop>
     ensures { Says (hit_lines pairs.now) (O.around outside.old) (O.around outside.new) result }
 {
     for pair in pairs {
@@ -61,26 +65,16 @@ fn say_blocks<O: Outside>(alloc: Global, blocks: &[Ids], outside: &mut O) -> Res
     Ok(())
 }
 
-// The lines of the blocks, of the shifts that are taken, and of the way.
-fn say_way<O: Outside>(alloc: Global, choice: &Choice, outside: &mut O) -> Result<(), Stop>
+/// The lines of the blocks, of the shifts that are taken, and of the way.
+pub(crate) fn say_way<O: Outside>(
+    alloc: Global,
+    choice: &Choice,
+    outside: &mut O,
+) -> Result<(), Stop>
     ensures { Says (way_lines (way_of choice.now)) (O.around outside.old) (O.around outside.new) result }
 {
     say_blocks(alloc, choice.blocks.as_slice(), outside)?;
     say_moves(alloc, choice.taken.as_slice(), outside)?;
     write_line(alloc, outside, &LogLine::Moved(choice.how))?;
-    Ok(())
-}
-
-/// The lines of a step after its first, taken as it was chosen: the pairs that do not pass, and the way.
-pub(crate) fn say_choice<O: Outside>(
-    alloc: Global,
-    choice: &Choice,
-    outside: &mut O,
-) -> Result<(), Stop>
-    ensures { let lines = hit_lines choice.now.hits ++ way_lines (way_of choice.now) in
-        Says lines (O.around outside.old) (O.around outside.new) result }
-{
-    say_hits(alloc, choice.hits.as_slice(), outside)?;
-    say_way(alloc, choice, outside)?;
     Ok(())
 }

@@ -28,6 +28,9 @@ loop-placed-init g c = record {
 pub advance-requires-clause-range : goal.advance-requires-clause-range
 advance-requires-clause-range g c = (range_here c.args.steps.now c.loop-placed.placed-index c.placed-item.result c.loop-placed-test.true c.placed-item.is c.loop-placed.invariant.ranges).0
 
+pub settle_outside_groups-requires : goal.settle_outside_groups-requires
+settle_outside_groups-requires g c = c.in_ok-advance.ensures.ready (ap Ok c.in-None.is)
+
 pub returns-in_err-advance-clause-follows : goal.returns-in_err-advance-clause-follows
 returns-in_err-advance-clause-follows g c =
     let p = err_from_is_err_and c.from_residual.result c.from_residual.ensures.1 in

@@ -1,11 +1,10 @@
-use Rattle.std.proofs.Common.{rules, not, ◌+◌, List, ◌≡◌, ap, sym, ◌∙◌, ◌++◌, subst}
+use Rattle.std.proofs.Common.{rules, not, ◌+◌, List, ◌≡◌, ap, sym, ◌∙◌, subst}
 use Rattle.std.proofs.lemmas.Result.{err_from_is_err_and}
 use Rattle.mesh_base.specs.Shifts.{Shifts}
 use Rattle.step_choose.specs.Chosen.{way_of}
-use Rattle.log_text.specs.declared.LogLine.{LogLine}
 use Rattle.log_write.proofs.SaidLines.{says_nothing}
 use Rattle.track_engine.specs.declared.open_group.OpenGroup.{OpenGroup}
-use Rattle.track_engine.specs.Effects.{moved_mesh, hit_lines, way_lines}
+use Rattle.track_engine.specs.Effects.{moved_mesh, way_lines}
 use Rattle.track_engine.specs.Groups.{failed_if}
 use Rattle.track_engine.specs.Invariant.{MarksHold}
 use Rattle.track_engine.specs.Placing.{CanPlace}
@@ -20,19 +19,18 @@ place_all-requires g c =
 pub returns-in_err-place_all-clause-says : goal.returns-in_err-place_all-clause-says
 returns-in_err-place_all-clause-says g c =
     let p = err_from_is_err_and c.from_residual.result c.from_residual.ensures.1 in
-    let lines : List LogLine = hit_lines c.args.choice.hits ++ way_lines (way_of c.args.choice) in
-    rw (p.1, p.2) (says_nothing lines (g.O.Outside.around c.args.outside.now))
+    rw (p.1, p.2) (says_nothing (way_lines (way_of c.args.choice)) (g.O.Outside.around c.args.outside.now))
 
 pub returns-in_err-place_all-clause-marks : goal.returns-in_err-place_all-clause-marks
 returns-in_err-place_all-clause-marks g c = marks_along g.S.Surface.beyond (g.S.Surface.kept c.place_all.new.mesh) (g.S.Surface.kept c.args.self.now.mesh) c.args.self.now.run.groups c.place_all.ensures.marks c.requires.marks
 
-pub returns-in_err-say_choice-clause-says : goal.returns-in_err-say_choice-clause-says
-returns-in_err-say_choice-clause-says g c =
-    let p = err_from_is_err_and c.from_residual-in_err-say_choice.result c.from_residual-in_err-say_choice.ensures.1 in
-    rw (p.1, p.2) c.in_err-say_choice.ensures
+pub returns-in_err-say_way-clause-says : goal.returns-in_err-say_way-clause-says
+returns-in_err-say_way-clause-says g c =
+    let p = err_from_is_err_and c.from_residual-in_err-say_way.result c.from_residual-in_err-say_way.ensures.1 in
+    rw (p.1, p.2) c.in_err-say_way.ensures
 
-pub returns-in_err-say_choice-clause-marks : goal.returns-in_err-say_choice-clause-marks
-returns-in_err-say_choice-clause-marks g c = marks_along g.S.Surface.beyond (g.S.Surface.kept c.place_all.new.mesh) (g.S.Surface.kept c.args.self.now.mesh) c.args.self.now.run.groups c.place_all.ensures.marks c.requires.marks
+pub returns-in_err-say_way-clause-marks : goal.returns-in_err-say_way-clause-marks
+returns-in_err-say_way-clause-marks g c = marks_along g.S.Surface.beyond (g.S.Surface.kept c.place_all.new.mesh) (g.S.Surface.kept c.args.self.now.mesh) c.args.self.now.run.groups c.place_all.ensures.marks c.requires.marks
 
 pub returns-clause-moved : goal.returns-clause-moved
 returns-clause-moved g c =
@@ -46,7 +44,7 @@ returns-clause-run g c =
     ap (λ (groups : List OpenGroup). record run { asked = c.args.still; steps = run.steps + 1; groups = groups }) (c.fail_if.ensures ∙ ap (λ b. failed_if (not b) run.groups) c.is_whole.ensures)
 
 pub returns-clause-says : goal.returns-clause-says
-returns-clause-says g c = c.in_ok-say_choice.ensures
+returns-clause-says g c = c.in_ok-say_way.ensures
 
 pub returns-clause-marks : goal.returns-clause-marks
 returns-clause-marks g c =

@@ -6,7 +6,7 @@ use Rattle.pair_scan.specs.Solids.{SolidsRest}
 use Rattle.step_choose.specs.Choice.{Way, IsFirstWay}
 use Rattle.step_choose.proofs.FirstWay.{taken_first}
 use Rattle.step_choose.proofs.Taken.{taken_well}
-use Rattle.step_choose.proofs.choosing.choose.Goals as goal
+use Rattle.step_choose.proofs.choosing.choose_by_hits.Goals as goal
 
 pub returns-clause-clear_along : goal.returns-clause-clear_along
 returns-clause-clear_along g c =

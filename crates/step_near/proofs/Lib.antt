@@ -1,0 +1,4 @@
+pub mod Halves
+pub mod Motion
+pub mod Fitting
+pub mod Passing
