@@ -5,9 +5,7 @@ use Rattle.grid_base.specs.Points.{point_at}
 use Rattle.mesh_base.specs.declared.PairName.{PairName}
 use Rattle.mesh_base.specs.declared.ShapeFault.{ShapeFault}
 use Rattle.mesh_base.specs.Mesh.{Mesh, IsSound}
-use Rattle.mesh_base.specs.Placements.{IsClearMesh}
 use Rattle.mesh_base.specs.Sides.{IsClosed}
-use Rattle.mesh_base.specs.Valid.{IsValidSurface}
 use Rattle.mesh_plain.specs.Shape.{shape_fault}
 use Rattle.mesh_plain.proofs.Lists.{sound-mesh_of}
 use Rattle.mesh_plain.proofs.Faults.{closed-mesh_of}
@@ -30,19 +28,6 @@ use Rattle.track_run.proofs.JobLogs.{log_of_steps, log_of_shape, log_of_lists, l
 use Rattle.log_fits.specs.Fitting.{LinesFit, LogsOfMeshesFit, LogsOfJobsFit}
 use Rattle.log_fits.proofs.Lines.{told}
 use Rattle.log_fits.proofs.Effects.{fits_from}
-
--- the mesh of lists of good shape, of which no pair meets
-pub valid_mesh : (lists : Lists) → shape_fault (length lists.points) lists.faces ≡ None → IsClearMesh (mesh_of_lists lists) → IsValidSurface (mesh_of_lists lists)
-valid_mesh lists good clear =
-    let points = map point_at lists.points in
-    let none : shape_fault (length points) lists.faces ≡ None = ap (λ n. shape_fault n lists.faces) (length-map lists.points point_at) ∙ good in
-    record { sound = sound-mesh_of points lists.faces none; closed = closed-mesh_of points lists.faces none; clear = clear }
-
-pub valid_where_clear : (lists : Lists) → shape_fault (length lists.points) lists.faces ≡ None → met_first (mesh_of_lists lists) ≡ None → IsValidSurface (mesh_of_lists lists)
-valid_where_clear lists good none =
-    let points = map point_at lists.points in
-    let shaped : shape_fault (length points) lists.faces ≡ None = ap (λ n. shape_fault n lists.faces) (length-map lists.points point_at) ∙ good in
-    valid_mesh lists good ((clear_exactly (mesh_of_lists lists) None (sound-mesh_of points lists.faces shaped) (sym none)).0 refl)
 
 pub mesh_logs_fit : LogsOfMeshesFit
 mesh_logs_fit answers m steps good range nested = (tt, ((refl, refl, refl), fits_from answers steps (start m) 0 nested range (limits_start m) (kept_start m good)))

@@ -58,7 +58,8 @@ use Rattle.log_fits.specs.Fitting.{LinesFit}
 use Rattle.log_fits.specs.Measured.{IsWithLogOf}
 use Rattle.log_fits.specs.Proved.{LogsOfRunsAreProved, ProofsOfRunsAreVerified, log_input_of}
 use Rattle.log_fits.proofs.Certified.{nothing_against, ends_well}
-use Rattle.log_fits.proofs.Jobs.{job_logs_fit, valid_mesh}
+use Rattle.log_fits.proofs.Jobs.{job_logs_fit}
+use Rattle.track_replay.proofs.ValidInputs.{valid_mesh}
 use Rattle.log_fits.proofs.Lookup.{IsThere, AreBetween, found_at, between, none_beyond}
 use Rattle.log_fits.proofs.Measured.{given_is, mesh_is}
 use Rattle.log_fits.proofs.Ranged.{moved_is_sound, are_in_range}

@@ -4,3 +4,4 @@ mod SoFar
 mod Whole
 mod AllStored
 mod Ended
+mod ValidMeshes

@@ -11,7 +11,7 @@ use Rattle.log_run.specs.States.{LogState, with_line, without_lines}
 use Rattle.outside_io.specs.declared.stop.Stop.{Stop}
 use Rattle.outside_io.specs.declared.stop.Stop.TheVariants.{NoMemory}
 use Rattle.outside_io.specs.Outside.{Around, Counts, holds_of}
-use Rattle.outside_io.specs.Sink.{appended, AppendsPart}
+use Rattle.outside_io.specs.Sink.{appended}
 use Rattle.outside_io.specs.World.{Contents}
 use Rattle.outside_io.proofs.Outsides.{counts_then, counts_stopped, counts_whole, counts_forgotten, counts_unremembered}
 use Rattle.track_replay.specs.declared.refusal.LogRefusal.{LogRefusal}
@@ -25,14 +25,14 @@ use Rattle.track_replay.proofs.Endings.{fits_one_more, before_unfit, one_ending}
 use Rattle.track_engine.specs.Saved.{Target, stored}
 use Rattle.track_meshes.specs.Wanted.{NamedTexts, wanted_at, wanted_of}
 use Rattle.track_meshes.specs.Texts.{replayed_text}
-use Rattle.track_meshes.specs.Storing.{StoresAll, StopsStoring, StopsWriting, StoresCounted}
+use Rattle.track_meshes.specs.Storing.{StoresAll, StopsStoring, StoresCounted}
 use Rattle.track_meshes.specs.Headline.{texts_stored, text_told, StopsIn, IsReplayOf, ReplaysLines}
-use Rattle.track_meshes.proofs.Storings.{stores_then, stops_then, stops_more, stops_before, no_memory}
+use Rattle.track_meshes.proofs.Storings.{stores_then, stops_then, stops_more, stops_before, stops_in_text, no_memory}
 use Rattle.track_meshes.proofs.WantedLines.{same_behind, wanted_few, wanted_then, wanted_one_more}
 
 -- ---- lists and states
 
-take_lines : (xs rest : List LogLine) → take (length xs) (xs ++ rest) ≡ xs
+pub take_lines : (xs rest : List LogLine) → take (length xs) (xs ++ rest) ≡ xs
 take_lines [] rest = refl
 take_lines (x ∷ xs) rest = ap (λ l. x ∷ l) (take_lines xs rest)
 
@@ -116,15 +116,10 @@ module _ (only : Option ℕ) (to : Target) (m : Mesh) (lines : List LogLine) whe
       }
   finish texts e ends is a b c stores counts (Err stop) t same =
       let P : NamedTexts → Type 0 = λ l. StopsIn stop l (text_told l e) (holds_of a) (holds_of c) in
-      let Q : Option (List ℕ) → Type 0 = λ w. AppendsPart w c.world.holds.written (text_told texts e) in
-      let writing : StopsWriting stop texts (text_told texts e) (holds_of a) (holds_of c) = record {
-        no_desk = λ desk. t.nothing_stored.no_desk (ap Err desk);
-        files = t.nothing_stored.files ∙ stores.files;
-        part = subst Q stores.written t.part;
-      } in
+      let stops : StopsIn stop texts (text_told texts e) (holds_of a) (holds_of c) = stops_in_text stop texts (text_told texts e) a b c stores t in
       let R : Option LogRefusal → Type 0 = λ y. StopsIn stop (texts_stored only to (Ok input) y) (text_told (texts_stored only to (Ok input) y) y) (holds_of a) (holds_of c) in
       record {
-        done = λ ending h. subst R (one_ending FitsTested (Ok input) e ending ends h) (subst P (sym is) (inr writing));
+        done = λ ending h. subst R (one_ending FitsTested (Ok input) e ending ends h) (subst P (sym is) stops);
         counts = counts_then a b c _ _ counts t.nothing_stored.counts;
       }
 

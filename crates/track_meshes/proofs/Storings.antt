@@ -1,15 +1,17 @@
 -- Files that are stored behind others, or before others.
-use Rattle.std.proofs.Common.{◌≡◌, inl, inr, ℕ, List, [], ◌∷◌, ◌++◌, append_assoc, Option, Err, refl, ap, sym, ◌∙◌, subst}
+use Rattle.std.proofs.Common.{◌≡◌, ◌⊎◌, inl, inr, ℕ, List, [], ◌∷◌, ◌++◌, append-nil, append_assoc, Option, Err, refl, ap, sym, ◌∙◌, subst}
 use Rattle.outside_io.specs.Desk.{Files, SameBut}
 use Rattle.outside_io.specs.Outside.{Around, Stores, holds_of}
+use Rattle.outside_io.specs.Sink.{AppendsPart}
 use Rattle.outside_io.specs.World.{Contents}
 use Rattle.outside_io.specs.declared.stop.Stop.{Stop}
 use Rattle.outside_io.specs.declared.stop.Stop.TheVariants.{NoMemory, DeskFault, SinkFault}
 use Rattle.outside_io.proofs.Outsides.{counts_stopped, counts_unremembered}
+use Rattle.track_replay.specs.Telling.{Tells}
 use Rattle.track_engine.specs.Saved.{stored}
 use Rattle.track_engine.proofs.Worlds.{stored-append}
 use Rattle.track_meshes.specs.Wanted.{NamedTexts}
-use Rattle.track_meshes.specs.Storing.{StoresAll, StoresFirst, FailsAtNext, StopsStoring, StoresCounted}
+use Rattle.track_meshes.specs.Storing.{StoresAll, StoresFirst, FailsAtNext, StopsStoring, StopsWriting, StoresCounted}
 
 -- ---- behind others
 
@@ -81,6 +83,22 @@ stops_before SinkFault xs ys a b no_sink p = absurd (no_sink refl)
 
 pub no_memory : NoMemory ≡ SinkFault → ⊥
 no_memory e = absurd cc
+
+-- ---- in the text behind them
+
+-- it stops in the text that is written behind all of these
+pub stops_in_text : {T : Type 0} (stop : Stop) (texts : NamedTexts) (text : List ℕ) (a b c : Around) → StoresAll texts (holds_of a) (holds_of b) → Tells {T = T} text b c (Err stop)
+    → StopsStoring stop texts (holds_of a) (holds_of c) ⊎ StopsWriting stop texts text (holds_of a) (holds_of c)
+stops_in_text NoMemory texts text a b c stores t = inl (record {
+  done = texts;
+  rest = [];
+  split = sym (append-nil texts);
+  stores = record { files = t.nothing_stored.files ∙ stores.files; written = t.none refl ∙ stores.written };
+})
+stops_in_text DeskFault texts text a b c stores t = absurd (t.nothing_stored.no_desk refl)
+stops_in_text SinkFault texts text a b c stores t =
+    let Q : Option (List ℕ) → Type 0 = λ w. AppendsPart w c.world.holds.written text in
+    inr (record { fault = refl; files = t.nothing_stored.files ∙ stores.files; part = subst Q stores.written t.part })
 
 -- ---- one file
 

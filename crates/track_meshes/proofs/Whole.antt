@@ -6,7 +6,7 @@ use Rattle.log_text.specs.declared.LogLine.{LogLine}
 use Rattle.outside_io.specs.declared.stop.Stop.{Stop}
 use Rattle.outside_io.specs.declared.stop.Stop.TheVariants.{SinkFault}
 use Rattle.outside_io.specs.Outside.{Around, HasCauses, OnlyLooks, holds_of}
-use Rattle.outside_io.specs.Sink.{appended, AppendsPart}
+use Rattle.outside_io.specs.Sink.{appended}
 use Rattle.outside_io.specs.World.{World, Contents}
 use Rattle.outside_io.proofs.Outsides.{counts_then, counts_stopped}
 use Rattle.track_input.specs.Words.{ReplayNames}
@@ -23,9 +23,9 @@ use Rattle.track_replay.proofs.Endings.{one_ending}
 use Rattle.track_replay.proofs.PrepareLemmas.{some_log_job}
 use Rattle.track_engine.specs.Saved.{Target}
 use Rattle.track_meshes.specs.Wanted.{NamedTexts}
-use Rattle.track_meshes.specs.Storing.{StopsStoring, StopsWriting}
+use Rattle.track_meshes.specs.Storing.{StopsStoring}
 use Rattle.track_meshes.specs.Headline.{texts_stored, text_told, ComesToEnd, StopsIn, IsReplayOf, target_in, Replays, ReplaysLines}
-use Rattle.track_meshes.proofs.Storings.{stops_before}
+use Rattle.track_meshes.proofs.Storings.{stops_before, stops_in_text}
 
 -- there is no other ending
 only_one : (only : Option ℕ) (to : Target) (input : Result LogInput LogRefusal) (old new : Contents) (r : Result (Option LogRefusal) Stop) → IsReplayOf only to input old new r
@@ -80,13 +80,7 @@ module _ (names : ReplayNames) (a b : Around) where
         })
     refused_done why (Err stop) t same = λ ending h.
         let P : Option LogRefusal → Type 0 = λ y. StopsIn stop (texts_stored names.only (target_in names) (Err why) y) (text_told (texts_stored names.only (target_in names) (Err why) y) y) (holds_of a) (holds_of c) in
-        let Q : Option (List ℕ) → Type 0 = λ w. AppendsPart w c.world.holds.written (refused_text why) in
-        let writing : StopsWriting stop [] (refused_text why) (holds_of a) (holds_of c) = record {
-          no_desk = λ desk. t.nothing_stored.no_desk (ap Err desk);
-          files = t.nothing_stored.files ∙ unstored;
-          part = subst Q unwritten t.part;
-        } in
-        subst P (sym h) (inr writing)
+        subst P (sym h) (stops_in_text stop [] (refused_text why) a b c (record { files = unstored; written = unwritten }) t)
 
     -- what was given is refused
     pub replays_refused : (why : LogRefusal) → x ≡ prepared.No why → Tells (refused_text why) b c r → IfOk r (λ e. e ≡ Some why) → Replays names r a.world c.world

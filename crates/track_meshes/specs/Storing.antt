@@ -1,5 +1,5 @@
 -- Files are stored, one after another, and where that stops.
-use Rattle.std.specs.Prelude.{◌≡◌, ◌≢◌, ◌⊎◌, ℕ, List, ◌∷◌, ◌++◌, length, Result, Ok, Err}
+use Rattle.std.specs.Prelude.{◌≡◌, ◌⊎◌, ℕ, List, ◌∷◌, ◌++◌, length, Result, Ok, Err}
 use Rattle.outside_io.specs.Desk.{SameBut}
 use Rattle.outside_io.specs.Outside.{Around, Counts, holds_of}
 use Rattle.outside_io.specs.Sink.{AppendsPart}
@@ -39,9 +39,9 @@ StopsStoring NoMemory texts old new = StoresFirst texts old new
 StopsStoring DeskFault texts old new = StoresFirst texts old new ⊎ FailsAtNext texts old new
 StopsStoring SinkFault texts old new = ⊥
 
--- all of these are stored, and it stops in the text that is written behind them: the first bytes of it are, perhaps none, and not all
+-- all of these are stored, and the sink failed in the text that is written behind them: the first bytes of it are, perhaps none, and not all
 pub record StopsWriting (stop : Stop) (texts : NamedTexts) (text : List ℕ) (old new : Contents) : Type 0 where
-  pub no_desk : stop ≢ DeskFault
+  pub fault : stop ≡ SinkFault
   pub files : new.files ≡ stored texts old.files
   pub part : AppendsPart old.written new.written text
 

@@ -1,17 +1,18 @@
 //! Laws of replays that store. Each is the contract of a function that does nothing.
-ghost use Rattle.std.specs.Prelude.{◌≡◌, List, Option, None, Result, Ok};
+ghost use Rattle.std.specs.Prelude.{◌≡◌, ℕ, List, Option, None, Result, Ok};
+ghost use Rattle.std.specs.List.{AllByRecursion};
 ghost use Rattle.log_text.specs.declared.LogLine.{LogLine};
 ghost use Rattle.log_replay.specs.Replay.{Replay};
 ghost use Rattle.outside_io.specs.World.{World};
 ghost use Rattle.track_input.specs.Words.{ReplayNames};
 ghost use Rattle.track_replay.specs.declared.refusal.LogRefusal.{LogRefusal};
-ghost use Rattle.track_replay.specs.LogJob.{LogInput};
+ghost use Rattle.track_replay.specs.LogJob.{LogJob, LogInput, input_of};
 ghost use Rattle.track_replay.specs.Taking.{FitsTested};
 ghost use Rattle.track_replay.specs.Ending.{EndsBy};
 ghost use Rattle.track_engine.specs.Saved.{Target, files_of};
 ghost use Rattle.track_meshes.specs.Wanted.{wanted_of};
-ghost use Rattle.track_meshes.specs.Headline.{Replays};
-ghost use Rattle.track_meshes.specs.Laws.{HoldsAllMeshes};
+ghost use Rattle.track_meshes.specs.Headline.{Replays, texts_stored};
+ghost use Rattle.track_meshes.specs.Laws.{HoldsAllMeshes, IsOfValidMesh};
 
 /// Where no number is given, a replay that comes to its end and refuses nothing has stored the files that the lines of the log name. They
 /// are those that a run stored that wrote these lines: under the same names, in the same order, byte for byte.
@@ -27,4 +28,12 @@ pub fn a_replay_has_one_ending()
         EndsBy FitsTested input one → EndsBy FitsTested input other → one ≡ other }
     ensures some { (input : Result LogInput LogRefusal) →
         ((ending : Option LogRefusal) → ¬ EndsBy FitsTested input ending) → ⊥ }
+{}
+
+/// Each mesh that a replay stores is sound, closed and clear, whatever mesh and log it was given: `Replays` has it that what is stored
+/// in whole are the first of these files.
+pub fn replayed_meshes_are_valid()
+    ensures { (only : Option ℕ) (to : Target) (job : LogJob) (ending : Option LogRefusal) →
+        EndsBy FitsTested (input_of job) ending →
+        AllByRecursion (IsOfValidMesh to.decimals) (texts_stored only to (input_of job) ending) }
 {}
