@@ -1,16 +1,19 @@
 #!/usr/bin/env python3
 """Runs the built program as a user would where the world does not play along, and looks at its exit status and its messages.
 
-    checks/real_edge.py
+    checks/real_edge.py [PROGRAM]
 
-Each case must end with its status, with `topo: status N` as the last line of standard error where N is not 0, and never by a signal.
+PROGRAM is a program that was built elsewhere; without it, it is proved and built first. Each case must end with its status, with `topo: status N` as the last line of standard error where N is not 0, and never by a signal.
 What it writes to standard output must be the first lines of the log that the job is due, or none where the words name no job.
-Files that a case must leave have to hold what they held, and no case may leave a file that it wrote beside another.
+Files that a case must leave have to hold what they held, and no case may leave a file that it wrote beside another. Further cases look
+at the sentences on standard error: some must be there, and some must not.
 """
 
 import contextlib
+import fcntl
 import os
 import pty
+import resource
 import shutil
 import subprocess
 import sys
@@ -79,16 +82,163 @@ def on_terminal(words, folder, both):
 
 def parts(folder):
     """The files that stand beside others, as a store that is under way has them."""
-    return sorted(os.path.join(at, name) for at, _, names in os.walk(folder) for name in names if name.endswith(".part"))
+    return sorted(os.path.join(at, name) for at, _, names in os.walk(folder) for name in names if name.startswith(".topo-") and name.endswith(".part"))
+
+
+# two tetrahedra that share an edge, and two faces that are one another's opposites
+CROWDED = "v 0 0 0\nv 4 0 0\nv 0 4 0\nv 0 0 4\nv 0 -4 0\nv 0 0 -4\n" + "".join(
+    f"f {p} {r} {q}\nf {p} {q} {s}\nf {q} {r} {s}\nf {p} {s} {r}\n" for p, q, r, s in ((1, 2, 3, 4), (1, 2, 5, 6))
+)
+OPPOSITE = "v 0 0 0\nv 4 0 0\nv 0 4 0\nf 1 2 3\nf 1 3 2\n"
+ROUNDED = MESH.replace("v 4 0 0", "v 4.25 0 0")
+MOVED = "v 1 2 3\nv 5 2 3\nv 1 6 3\nv 1 2 7\n" + MESH[MESH.index("f") :]
+FILES = ["track", "m", "s", "t"]
+NUMBERS = ["try", "1", "0"]
+# the sentences: what is asked, its words, what standard input has (through a pipe), its status, what has to be told on standard error,
+# what may not be, the files that are there before it and the files that have to hold a text behind it
+TOLD = [
+    ("a mesh from a pipe", ["track", "/dev/stdin", "s", "t"], MESH, 0, [], ["empty", "rounded"], {"s": STEPS}, {"t-000000.obj": MESH}),
+    ("a mesh from a pipe that is rounded", ["track", "/dev/stdin", "s", "t"], ROUNDED, 0, ["1 of 12 coordinates were rounded by up to 0.25"], ["empty"],
+     {"s": STEPS}, {}),
+    ("a mesh from a pipe that is empty", ["track", "/dev/stdin", "s", "t"], "", 0, ["the mesh is empty"], [], {"s": STEPS}, {}),
+    ("steps from a pipe", ["track", "m", "/dev/stdin", "t"], "", 0, ["there are no steps"], [], {"m": MESH}, {}),
+    ("a bad line from a pipe", ["track", "m", "/dev/stdin", "t"], "stop\n", 9, ['/dev/stdin, line 1: "stop"; a line begins with set'], [], {"m": MESH}, {}),
+    ("one pipe for both files", ["track", "/dev/stdin", "/dev/stdin", "t"], MESH, 3, ["/dev/stdin could not be read (it is a pipe, and was read before)"], [],
+     {}, {}),
+    ("a mesh that is rounded onto itself", ["convert", "h.obj", "h.obj"], None, 0,
+     ["h.obj was read and is overwritten (1 of 12 coordinates were rounded by up to 0.25; --decimals 2 keeps them): as it was, it is kept as h.obj.before"], [],
+     {"h.obj": ROUNDED}, {"h.obj": MESH, "h.obj.before": ROUNDED}),
+    ("the same, where such a file is there", ["convert", "h.obj", "h.obj"], None, 0, ["it is kept as h.obj.before-2"], [],
+     {"h.obj": ROUNDED, "h.obj.before": "mine"}, {"h.obj": MESH, "h.obj.before": "mine", "h.obj.before-2": ROUNDED}),
+    ("a mesh that is written onto itself", ["convert", "h.obj", "h.obj"], None, 0, ["h.obj was read and is overwritten"], ["kept"],
+     {"h.obj": COMMENTED}, {"h.obj": MESH, "h.obj.before": None}),
+    ("a mesh under the name of the first that is stored", ["track", "own-000000.obj", "s", "own"], None, 0, ["own-000000.obj was read and is overwritten"],
+     ["kept"], {"own-000000.obj": COMMENTED, "s": STEPS}, {"own-000000.obj": MESH, "own-000000.obj.before": None}),
+    ("steps under the name of the first that is stored", ["track", "m", "./own-000000.obj", "own"], None, 0,
+     ["own-000000.obj was read and is overwritten: as it was, it is kept as own-000000.obj.before"], [], {"m": MESH, "own-000000.obj": STEPS},
+     {"own-000000.obj": MESH, "own-000000.obj.before": STEPS}),
+    ("another file that is overwritten", ["track", "m", "s", "t"], None, 0, [], ["overwritten"], {"m": MESH, "s": STEPS, "t-000000.obj": "old"},
+     {"t-000000.obj": MESH, "t-000000.obj.before": None}),
+    ("a name with control characters", ["track", "no\x1b[31m\x07\u202e\u0085such", "s", "t"], None, 11, ["there is no file no\\u001b[31m\\u0007\\u202e\\u0085such"],
+     ["\x1b", "\x07", "\u202e", "\u0085"], {"s": STEPS}, {}),
+    ("a prefix with control characters", ["track", "m", "s", "\x1b]0;t/"], None, 3, ["\\u001b]0;t/-000000.obj could not be stored"], ["\x1b"], {"m": MESH, "s": STEPS}, {}),
+    ("shifts that sum to zero", ["track", "m", "s", "t"], None, 0, [], ["nothing takes them"],
+     {"m": MESH, "s": "shift 1 1 0 0\nshift all 0 2 0\nshift 2 0 0 3\nshift 2 0 0 -3\nshift 1 -1 0 0\nshift all 0 -2 0\nsave\n"}, {}),
+    ("shifts of two vertices", ["track", "m", "s", "t"], None, 0, ["nothing takes them"], [], {"m": MESH, "s": "shift 1 1 0 0\nshift 2 -1 0 0\n"}, {}),
+    ("vertex 0", ["track", "m", "s", "t"], None, 9, ["a vertex is 1 to 2147483648"], [], {"m": MESH, "s": "shift 0 1 0 0\n"}, {}),
+    ("a vertex that is not there yet", ["track", "m", "s", "t"], None, 10, ["there is no vertex 5 here: it was not made yet"], [], {"m": MESH, "s": "shift 5 1 0 0\n"}, {}),
+    ("a vertex that a collapse took away", ["track", "m", "s", "t"], None, 10,
+     ["s, line 2; there is no vertex 2 any more: line 4 of the log, a collapse, has taken it away"], [], {"m": MESH, "s": "collapse 5\nshift 2 1 0 0\n"}, {}),
+    ("a vertex whose faces an edit took away", ["track", "m", "s", "t"], None, 10,
+     ["s, line 2; there is no vertex 3 any more: an edit has taken it away with the faces that it had"], [], {"m": MESH, "s": "collapse 5\nshift 3 1 0 0\n"}, {}),
+    *((f"dashes at place {place}", [*FILES[:place], "--", *FILES[place:]], None, 0, [], ["dash"], {"m": MESH, "s": STEPS}, {"t-000001.obj": MOVED})
+      for place in (1, 2, 3, 4)),
+    *((f"dashes at place {place} of numbers", [*NUMBERS[:place], "--", *NUMBERS[place:]], None, 0, [], ["dash"], {}, {}) for place in (1, 2, 3)),
+    ("dashes in front of the command", ["--", *FILES], None, 2, ['"--" is no command'], [], {"m": MESH, "s": STEPS}, {}),
+    ("dashes that come twice", [*FILES, "--", "--"], None, 2, ['"--" stands behind `--`'], [], {"m": MESH, "s": STEPS}, {}),
+    ("an option behind dashes", ["track", "--", "m", "s", "t", "--decimals", "1"], None, 2, ['"--decimals" stands behind `--`, where names of files stand alone'], [],
+     {"m": MESH, "s": STEPS}, {}),
+    ("a prefix that is a folder", ["track", "m", "s", "d"], None, 0, ["the prefix d is a folder: the meshes are not in it but beside it, d-000000.obj"], [],
+     {"m": MESH, "s": STEPS, "d/": None}, {"d-000000.obj": MESH}),
+    ("a prefix that ends in a slash", ["track", "m", "s", "d/"], None, 0, ["the prefix ends in `/`", "the meshes are d/-000000.obj"], [],
+     {"m": MESH, "s": STEPS, "d/": None}, {"d/-000000.obj": MESH}),
+    ("a crowded edge", ["track", "m", "s", "t"], None, 0, ["t-000001.obj is no manifold: crowded edges (more than two faces): 1, faces with an opposite: 0"], [],
+     {"m": CROWDED, "s": STEPS}, {}),
+    ("opposite faces", ["convert", "m.obj", "t.off"], None, 0, ["t.off is no manifold: crowded edges (more than two faces): 0, faces with an opposite: 2"], [],
+     {"m.obj": OPPOSITE}, {}),
+    ("a manifold", ["convert", "m.obj", "t.off"], None, 0, [], ["manifold"], {"m.obj": MESH}, {}),
+]
+
+
+def hash_of(name):
+    """The hash in the names of the files in which a store is made."""
+    value = 0xCBF29CE484222325
+    for byte in name.encode():
+        value = (value ^ byte) * 0x100000001B3 % 2**64
+    return f"{value:016x}"
+
+
+def said_as_due(program, it):
+    """Whether a sentence of a case of TOLD is as it should be; else what is wrong."""
+    _, words, given, status, due, undue, before, behind = it
+    with tempfile.TemporaryDirectory() as folder:
+        os.chmod(folder, 0o777)
+        for name, text in before.items():
+            if text is None:
+                os.mkdir(os.path.join(folder, name))
+                os.chmod(os.path.join(folder, name), 0o777)
+            else:
+                with open(os.path.join(folder, name), "w") as out:
+                    out.write(text)
+                os.chmod(os.path.join(folder, name), 0o666)
+        # a pipe that whoever runs the program may open by the name of standard input
+        reading, writing = os.pipe()
+        os.fchmod(reading, 0o666)
+        os.write(writing, (given or "").encode())
+        os.close(writing)
+        ended = subprocess.run([program, *words], cwd=folder, stdin=reading, capture_output=True, timeout=60, **NOBODY)
+        os.close(reading)
+        told = ended.stderr.decode(errors="replace")
+        if ended.returncode != status or not all(text in told for text in due) or any(text in told for text in undue):
+            return f"status {ended.returncode}, {status} was due; {told!r}"
+        for name, text in behind.items():
+            at = os.path.join(folder, name)
+            if (open(at).read() if os.path.isfile(at) else None) != text:
+                return f"{name} is another file; {told!r}"
+    return None
+
+
+def left_behind(program):
+    """Whether what a dead run left is taken away, and what a living run has locked or what is no file stays; else what is wrong."""
+    with tempfile.TemporaryDirectory() as folder:
+        os.chmod(folder, 0o777)
+        names = [os.path.join(folder, f".topo-{hash_of('t-000000.obj')}-{number}.part") for number in range(4)]
+        for name in names[:2]:
+            with open(name, "w") as out:
+                out.write("a part")
+            os.chmod(name, 0o666)
+        os.symlink("mesh.obj", names[2])
+        os.mkfifo(names[3])
+        for name, text in (("mesh.obj", MESH), ("steps.txt", STEPS)):
+            with open(os.path.join(folder, name), "w") as out:
+                out.write(text)
+        with open(names[1]) as held:
+            fcntl.flock(held, fcntl.LOCK_EX)
+            ended = subprocess.run([program, "track", "mesh.obj", "steps.txt", "t"], cwd=folder, capture_output=True, timeout=60, **NOBODY)
+        is_there = [os.path.lexists(name) for name in names]
+        with open(os.path.join(folder, "mesh.obj")) as mesh:
+            kept = mesh.read() == MESH
+        others = [name for name in parts(folder) if name not in names]
+        if ended.returncode == 0 and is_there == [False, True, True, True] and kept and not others:
+            return None
+        return f"status {ended.returncode}; {is_there}; {others}; {ended.stderr!r}"
+
+
+def past_the_limit(program):
+    """Whether a file that is longer than the system allows is refused, and one that is not is stored; else what is wrong."""
+    with tempfile.TemporaryDirectory() as folder:
+        os.chmod(folder, 0o777)
+        for name, text in (("mesh.obj", MESH), ("steps.txt", STEPS)):
+            with open(os.path.join(folder, name), "w") as out:
+                out.write(text)
+        for most, status in ((len(MESH) - 1, 3), (len(MESH), 0)):
+            limit = lambda: resource.setrlimit(resource.RLIMIT_FSIZE, (most, most))
+            ended = subprocess.run([program, "track", "mesh.obj", "steps.txt", "t"], cwd=folder, capture_output=True, timeout=60, preexec_fn=limit, **NOBODY)
+            if ended.returncode != status or os.path.exists(os.path.join(folder, "t-000000.obj")) != (status == 0):
+                return f"status {ended.returncode}, {status} was due; {ended.stderr!r}"
+    return None
 
 
 def main():
-    subprocess.run([TOPO, "--version"], check=True, stdout=subprocess.DEVNULL)
+    program = sys.argv[1] if len(sys.argv) > 1 else PROGRAM
+    if program == PROGRAM:
+        subprocess.run([TOPO, "--version"], check=True, stdout=subprocess.DEVNULL)
     failed = 0
     with tempfile.TemporaryDirectory() as folder, contextlib.ExitStack() as at_end:
         os.chmod(folder, 0o755)
         at = lambda name: os.path.join(folder, name)
-        shutil.copy(PROGRAM, at("topo"))
+        shutil.copy(program, at("topo"))
+        os.chmod(at("topo"), 0o755)
         with open(at("mesh.obj"), "w") as out:
             out.write(MESH)
         with open(at("steps.txt"), "w") as out:
@@ -116,6 +266,8 @@ def main():
         os.symlink("behind.obj", at("open/link-000000.obj"))
         with open(at("open/own-000000.obj.0.part"), "w") as out:
             out.write("of someone else")
+        os.mkfifo(at("open/pipe-000000.obj"))
+        os.chmod(at("open/pipe-000000.obj"), 0o666)
         os.chmod(at("shut"), 0o555)
         device = small_device(at("device"))
         if device:
@@ -192,6 +344,9 @@ def main():
             ("a full device for the first mesh", ["track", "mesh.obj", "steps.txt", "full"], None, 3, "mesh 0 4 4"),
             ("a full device for the second mesh", ["track", "mesh.obj", "steps.txt", "open/late"], None, 3, "mesh 1 4 4"),
             ("a name longer than names may be", ["track", "mesh.obj", "steps.txt", "open/" + 300 * "t"], None, 3, "mesh 0 4 4"),
+            ("a name as long as names may be", ["track", "mesh.obj", "steps.txt", "open/" + 244 * "n"], None, 0, "end",
+             {"open/" + 244 * "n" + "-000000.obj": MESH}),
+            ("a pipe in place of a mesh to be stored", ["track", "mesh.obj", "steps.txt", "open/pipe"], None, 3, "mesh 0 4 4"),
             ("the input's own name", ["track", "open/own-000000.obj", "steps.txt", "open/own"], None, 0, "end",
              {"open/own-000000.obj": MESH, "open/own-000000.obj.0.part": "of someone else"}),
             ("the input's own name in a folder that may not be written", ["track", "shut/own-000000.obj", "steps.txt", "shut/own"], None, 3, "mesh 0 4 4",
@@ -219,7 +374,7 @@ def main():
             if to:
                 os.close(out)
             last = ended.stderr.decode(errors="replace").split("\n")[-2:-1]
-            told = last == ([f"topo: status {status}"] if status else [])
+            told = last == [f"topo: status {status}"] if status else all(line.startswith("topo: warning: ") for line in last)
             wrote = (ended.stdout or b"").decode(errors="replace")
             front, _, tail = wrote.removesuffix("\n").rpartition("\n")
             # what stands before a refusal, and the whole output
@@ -247,7 +402,13 @@ def main():
         shown = status == 0 and proof.endswith("\nend\n") and told.startswith("\r256 lines of the log are taken") and told.endswith("\r\x1b[K")
         print(("ok     " if shown else "FAILED ") + "a terminal for standard error alone: it tells how much of a log is proved, and is wiped" + ("" if shown else f"; {told!r}"))
         failed += not shown
-    print(f"{len(cases) + 3 - failed} as they should be, {failed} not")
+        further = [(it[0], said_as_due(at("topo"), it)) for it in TOLD]
+        further.append(("files that other runs left or are writing", left_behind(at("topo"))))
+        further.append(("a file past the limit of the system", past_the_limit(at("topo"))))
+        for what, wrong in further:
+            print(f"FAILED {what}: {wrong}" if wrong else f"ok     {what}")
+            failed += wrong is not None
+    print(f"{len(cases) + 3 + len(further) - failed} as they should be, {failed} not")
     sys.exit(1 if failed else 0)
 
 

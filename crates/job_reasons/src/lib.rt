@@ -2,24 +2,32 @@
 //! refusal and from the texts that it speaks of.
 #![tactic(auto)]
 
+mod asked;
 mod desk_reasons;
 mod face_lines;
 mod log_reasons;
+mod manifold;
 mod mesh_reasons;
 mod other_reasons;
+mod overwritten;
 mod places;
 mod proof_reasons;
 mod shape_reasons;
 mod step_reasons;
+mod terminal;
 mod warnings;
 mod word_reasons;
 
+pub use asked::asks_in_vain;
 pub use desk_reasons::{long_reason, missing_reason, trouble_reason};
 pub use log_reasons::{log_text_reason, replay_reason};
+pub use manifold::manifold_warning;
 pub use mesh_reasons::mesh_text_reason;
 pub use other_reasons::{off_text_reason, ply_text_reason};
+pub use overwritten::{overwriting_warning, prefix_warning};
 pub use proof_reasons::{Unproved, motion_reason, proof_text_reason};
 pub use shape_reasons::{meeting_reason, shape_reason};
-pub use step_reasons::{step_text_reason, use_reason};
-pub use warnings::{asks_in_vain, is_inside_out, is_unsaved, rounding_warning};
+pub use step_reasons::{gone_reason, step_text_reason, use_reason};
+pub use terminal::plain;
+pub use warnings::{is_inside_out, is_unsaved, rounding_warning};
 pub use word_reasons::words_reason;

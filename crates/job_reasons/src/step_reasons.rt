@@ -136,3 +136,21 @@ pub fn use_reason(alloc: Global, name: &str, line: u32, why: UseWhy) -> Result<S
     let what = what_is_refused(alloc, why)?;
     format!(in alloc; "{name}, line {line}; {what}")
 }
+
+/// Says that a directive is refused since an edit has taken its vertex away, and by which line of the log where that is known.
+pub fn gone_reason(
+    alloc: Global,
+    name: &str,
+    line: u32,
+    v: u32,
+    by: Option<u64>,
+) -> Result<String, AllocError> {
+    match by {
+        Some(by) => format!(in alloc;
+            "{name}, line {line}; there is no vertex {v} any more: line {by} of the log, a collapse, has taken it away"
+        ),
+        None => format!(in alloc;
+            "{name}, line {line}; there is no vertex {v} any more: an edit has taken it away with the faces that it had"
+        ),
+    }
+}

@@ -116,21 +116,6 @@ pub fn is_inside_out(lists: &MeshLists) -> bool {
     volume < 0.0
 }
 
-/// Whether shifts are asked behind the last step, so that nothing takes them.
-pub fn asks_in_vain(directives: &Directives) -> bool {
-    let mut asked = false;
-    for placed in directives.as_slice() {
-        match &placed.what {
-            Directive::Step => asked = false,
-            Directive::ShiftOne { .. } | Directive::ShiftAll { .. } | Directive::Drive { .. } => {
-                asked = true;
-            }
-            _ => {}
-        }
-    }
-    asked
-}
-
 /// Whether something is moved or edited behind the last `save`, so that no mesh that is stored has it.
 pub fn is_unsaved(directives: &Directives) -> bool {
     let mut unsaved = false;

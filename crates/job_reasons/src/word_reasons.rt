@@ -284,6 +284,22 @@ fn file_reason(
     Ok(None)
 }
 
+// Says what is wrong with a word behind `--` as the name of a file, if anything is.
+fn behind_dashes_reason(
+    alloc: Global,
+    wanted: Wanted,
+    before: usize,
+    word: &str,
+) -> Result<Option<String>, AllocError> {
+    if word.starts_with('-') {
+        let said = format!(in alloc;
+            "{word:?} stands behind `--`, where names of files stand alone, and it has a dash in front"
+        )?;
+        return Ok(Some(said));
+    }
+    file_reason(alloc, wanted, before, word)
+}
+
 // Says that there are too few files.
 fn few_files_reason(alloc: Global, wanted: Wanted, files: usize) -> Result<String, AllocError> {
     let (form, wants, are) = (wanted.form, wanted.files, are(files));
@@ -326,7 +342,11 @@ fn files_reason(alloc: Global, wanted: Wanted, words: &[String]) -> Result<Strin
             }
             Taken::Unknown(word) => Some(unknown_reason(alloc, wanted, word)?),
             Taken::File(word) => {
-                let reason = file_reason(alloc, wanted, files, word)?;
+                let reason = if awaited == Awaited::File {
+                    behind_dashes_reason(alloc, wanted, files, word)?
+                } else {
+                    file_reason(alloc, wanted, files, word)?
+                };
                 files = files.saturating_add(1);
                 reason
             }

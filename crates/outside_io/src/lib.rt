@@ -2,12 +2,16 @@
 //! Each counts its faults, so that a caller can tell a fault of theirs from one of its own.
 #![tactic(auto)]
 
+mod beside;
 mod desk;
+mod limits;
 mod line_counts;
 mod listed;
+mod locks;
 mod memory_desk;
 mod memory_sink;
 mod outside;
+mod pipes;
 mod placing;
 mod progress;
 mod reading;
@@ -20,6 +24,7 @@ mod told;
 mod trouble;
 
 pub use desk::{Desk, FetchFault, StoreFault};
+pub use locks::TryLock;
 pub use memory_desk::MemoryDesk;
 pub use memory_sink::MemorySink;
 pub use outside::{Ends, Fetched, Outside};

@@ -1,34 +1,14 @@
 // A file of the system is stored whole or not at all: it is written beside the one of its name, and then put in its place.
-use crate::trouble::{Refusal, Step};
-use std::alloc::{AllocError, Global};
+use crate::beside::{create_beside, sweep};
+use crate::limits::file_size_limit;
+use crate::locks::TryLock;
+use crate::trouble::{Refusal, Step, refused};
+use std::alloc::Global;
+use std::fs;
 use std::fs::{OpenFile, OpenOptions, Permissions};
-use std::io::{ErrorKind, Write};
+use std::io::{Error, ErrorKind, Write};
+use std::os::unix::fs::FileTypeExt;
 use std::rt::Files;
-use std::{fs, io};
-
-// How many names are tried for the file that is written beside.
-const TRIES: u32 = 1_000;
-
-// A new file, open to be written, and its name.
-#[derive(Drop)]
-struct NewFile<F> {
-    name: String,
-    file: F,
-}
-
-impl From<AllocError> for Refusal {
-    fn from(_error: AllocError) -> Refusal {
-        Refusal::NoMemory
-    }
-}
-
-// The system's error at a step; want of memory stays that.
-fn refused(step: Step, error: io::Error) -> Refusal {
-    match error.kind() {
-        ErrorKind::OutOfMemory => Refusal::NoMemory,
-        _ => Refusal::System(step, error),
-    }
-}
 
 // Writes all of the bytes.
 fn write_whole<F: Write>(file: &mut F, bytes: &[u8]) -> Result<(), Refusal> {
@@ -41,23 +21,6 @@ fn write_whole<F: Write>(file: &mut F, bytes: &[u8]) -> Result<(), Refusal> {
         }
     }
     Ok(())
-}
-
-// Creates a file under a name that no file has, which is the name of another with an ending.
-fn create_beside<R: Files>(alloc: Global, rt: &R, name: &str) -> Result<NewFile<R::File>, Refusal> {
-    for number in 0..TRIES {
-        let beside = format!(in alloc; "{name}.{number}.part")?;
-        match OpenOptions::new()
-            .write(true)
-            .create_new(true)
-            .open(rt, beside.as_str())
-        {
-            Ok(file) => return Ok(NewFile { name: beside, file }),
-            Err(error) if error.kind() == ErrorKind::AlreadyExists => {}
-            Err(error) => return Err(refused(Step::Create, error)),
-        }
-    }
-    Err(Refusal::System(Step::Create, ErrorKind::AlreadyExists.into()))
 }
 
 // Fills a new file, gives it the permissions of the one whose place it will take, and sees that the system has it.
@@ -75,14 +38,30 @@ fn fill<F: Write + OpenFile>(
     file.sync_all().map_err(|error| refused(Step::Write, error))
 }
 
-// Writes a file beside the one of a name and puts it in its place. Where that fails, it takes its own file away again.
+// Refuses a file that is longer than the system lets this run write: it would end it by a signal.
+fn check_length<R: Files>(alloc: Global, rt: &R, bytes: &[u8]) -> Result<(), Refusal> {
+    match file_size_limit(alloc, rt) {
+        Some(limit) if bytes.len() as u64 > limit => {
+            Err(Refusal::System(Step::Write, ErrorKind::FileTooLarge.into()))
+        }
+        _ => Ok(()),
+    }
+}
+
+// Writes a file beside the one of a name and puts it in its place. Where that fails, it takes its own file away again. What dead runs
+// left of stores under this name goes first.
 fn replace<R: Files>(
     alloc: Global,
     rt: &R,
     name: &str,
     permissions: Option<Permissions>,
     bytes: &[u8],
-) -> Result<(), Refusal> {
+) -> Result<(), Refusal>
+where
+    R::File: TryLock,
+{
+    check_length(alloc, rt, bytes)?;
+    sweep(alloc, rt, name)?;
     let mut beside = create_beside(alloc, rt, name)?;
     let mut result = fill(&mut beside.file, bytes, permissions);
     if result.is_ok() {
@@ -98,14 +77,17 @@ fn replace<R: Files>(
 }
 
 // Stores over what stands under a name and is open: a file is replaced, where the name leads to by links too; what is no
-// file, as a device or a pipe, is written to.
+// file, as a device, is written to.
 fn store_over<R: Files>(
     alloc: Global,
     rt: &R,
     name: &str,
     mut old: R::File,
     bytes: &[u8],
-) -> Result<(), Refusal> {
+) -> Result<(), Refusal>
+where
+    R::File: TryLock,
+{
     let about = old.metadata().map_err(|error| refused(Step::Look, error))?;
     if !about.is_file() {
         return write_whole(&mut old, bytes);
@@ -117,13 +99,28 @@ fn store_over<R: Files>(
     replace(alloc, rt, path.as_str(), Some(about.permissions()), bytes)
 }
 
-// Stores a file under a name, whole or not at all. A file that may not be written is not replaced.
+// Whether a name stands for a pipe. To open one would wait until somebody reads it.
+fn is_pipe<R: Files>(rt: &R, name: &str) -> bool {
+    match fs::metadata(rt, name) {
+        Ok(about) => about.file_type().is_fifo(),
+        Err(_) => false,
+    }
+}
+
+// Stores a file under a name, whole or not at all. A file that may not be written is not replaced, and a pipe is not written to.
 pub(crate) fn store_whole<R: Files>(
     alloc: Global,
     rt: &R,
     name: &str,
     bytes: &[u8],
-) -> Result<(), Refusal> {
+) -> Result<(), Refusal>
+where
+    R::File: TryLock,
+{
+    if is_pipe(rt, name) {
+        let error = Error::new(ErrorKind::InvalidInput, "it is a pipe");
+        return Err(Refusal::System(Step::Look, error));
+    }
     match OpenOptions::new().write(true).open(rt, name) {
         Ok(old) => store_over(alloc, rt, name, old, bytes),
         Err(error) if error.kind() == ErrorKind::NotFound => replace(alloc, rt, name, None, bytes),

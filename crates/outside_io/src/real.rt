@@ -4,10 +4,11 @@ ghost use Rattle.outside_io.specs.Causes.{HasCause, Rose, next_count};
 ghost use Rattle.outside_io.specs.Desk.{HoldsFile, with_file};
 ghost use Rattle.outside_io.specs.Sink.{appended};
 
+use crate::pipes::{Pipe, note_pipe};
 use crate::placing::store_whole;
 use crate::reading::{Unread, open_whole};
 use crate::trouble::{Refusal, Step, Trouble};
-use crate::{Desk, Failed, FetchFault, Sink, StoreFault};
+use crate::{Desk, Failed, FetchFault, Sink, StoreFault, TryLock};
 use std::alloc::Global;
 use std::io;
 use std::rt::Files;
@@ -19,6 +20,7 @@ pub struct FileDesk<'a, R: Files> {
     rt: &'a R,
     faults: u64,
     trouble: Option<Trouble>,
+    pipes: Vec<Pipe>,
     ghost few: { faults ≤ 2 ^ 64 - 1 },
 }
 
@@ -34,6 +36,7 @@ impl<'a, R: Files> FileDesk<'a, R> {
             rt,
             faults: 0,
             trouble: None,
+            pipes: Vec::new(alloc),
         }
     }
 
@@ -54,15 +57,18 @@ impl<'a, R: Files> FileDesk<'a, R> {
     }
 }
 
-impl<'a, R: Files> Desk for FileDesk<'a, R> {
+impl<'a, R: Files> Desk for FileDesk<'a, R>
+where
+    R::File: TryLock,
+{
     ghost use Rattle.outside_io.specs.Real.{desk_faults};
 
     ghost files = { λ _. None };
 
     ghost faults = { λ desk. desk.faults };
 
-    /// Opens the file of a name and reads it to its end, but not past the limit. One fault is counted where it fails, and
-    /// none where it does not.
+    /// Opens the file of a name and reads it to its end, but not past the limit. A pipe that it has read before is refused.
+    /// One fault is counted where it fails, and none where it does not.
     fn fetch(&mut self, name: &str, limit: usize, into: &mut Vec<u8>) -> Result<(), FetchFault>
         ensures found { OnOk result (HoldsFile None name.now into.new.items) }
         ensures within { OnOk result (length into.new.items ≤ limit) }
@@ -78,7 +84,10 @@ impl<'a, R: Files> Desk for FileDesk<'a, R> {
         ensures none { ¬ IsErrOf result FetchFault.Failed →
             desk_faults self.new ≡ desk_faults self.old }
     {
-        let result = open_whole(self.rt, name, limit, into);
+        let result = match note_pipe(self.rt, name, &mut self.pipes) {
+            Ok(()) => open_whole(self.rt, name, limit, into),
+            Err(refusal) => Err(Unread::Refused(refusal)),
+        };
         if result.is_err() {
             into.clear();
         }
@@ -95,8 +104,8 @@ impl<'a, R: Files> Desk for FileDesk<'a, R> {
     }
 
     /// Writes a file beside the one of the name and puts it in its place, so that where it fails that one is as it was, and no
-    /// other file is left. What is no file, as a device, is written to. One fault is counted where it fails, and none where
-    /// it does not.
+    /// other file is left. What is no file, as a device, is written to, but for a pipe that has a name, which is refused. One
+    /// fault is counted where it fails, and none where it does not.
     fn store(&mut self, name: &str, bytes: &[u8]) -> Result<(), StoreFault>
         ensures stored { OnOk result (None ≡ with_file None name.now bytes.now) }
         ensures later { desk_faults self.old ≤ desk_faults self.new }

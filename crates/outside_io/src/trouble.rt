@@ -1,5 +1,7 @@
 // What the system refused, so that a program can say why.
+use std::alloc::AllocError;
 use std::io;
+use std::io::ErrorKind;
 
 /// What the system was asked to do with a file when it failed.
 #[derive(Clone, Copy, Debug, PartialEq, Eq)]
@@ -34,4 +36,18 @@ pub struct Trouble {
 pub(crate) enum Refusal {
     NoMemory,
     System(Step, io::Error),
+}
+
+impl From<AllocError> for Refusal {
+    fn from(_error: AllocError) -> Refusal {
+        Refusal::NoMemory
+    }
+}
+
+// The system's error at a step; want of memory stays that.
+pub(crate) fn refused(step: Step, error: io::Error) -> Refusal {
+    match error.kind() {
+        ErrorKind::OutOfMemory => Refusal::NoMemory,
+        _ => Refusal::System(step, error),
+    }
 }

@@ -1,183 +1,81 @@
 // Why a job did not end as done, in one sentence.
-ghost use Rattle.std.specs.Prelude.{◌≤◌, length, IfSome};
-ghost use Rattle.grid_base.specs.declared.TheConstants.{TEXT_MAX, DECIMALS_MAX};
+ghost use Rattle.std.specs.Prelude.{◌≤◌, length};
+ghost use Rattle.grid_base.specs.declared.TheConstants.{TEXT_MAX};
 
+use crate::log_watch::EndedVertices;
+use crate::names::{Names, name_of};
 use crate::rounding::{lists_in, rounded};
-use grid_base::TEXT_MAX;
+use crate::texts::Texts;
 use job_reasons::{
-    Unproved, log_text_reason, long_reason, meeting_reason, mesh_text_reason, missing_reason,
-    motion_reason, off_text_reason, ply_text_reason, proof_text_reason, replay_reason,
-    shape_reason, step_text_reason, trouble_reason, use_reason, words_reason,
+    Unproved, gone_reason, log_text_reason, long_reason, meeting_reason, mesh_text_reason,
+    missing_reason, motion_reason, off_text_reason, ply_text_reason, proof_text_reason,
+    replay_reason, shape_reason, step_text_reason, trouble_reason, use_reason, words_reason,
 };
 use line_text::TextFault;
-use mesh_plain::{FileWord, PairName, ShapeFault};
+use mesh_plain::{PairName, ShapeFault, UseWhy};
 use motion_proof::Verdict;
-use outside_io::{Desk, FileDesk, Trouble};
+use outside_io::Trouble;
 use std::alloc::{AllocError, Global};
-use std::fs;
-use std::rt::Files;
-use track_input::{CUBES_MAX, Command, Format, LogFiles, MeshFile, command_of};
+use track_input::{CUBES_MAX, Format};
 use track_run::Outcome;
 
-// The names of the files that a command reads, the format of its mesh, and the decimals of its points. A command of one file has that as
-// each, and one without a proof the log or the steps as that.
-#[derive(Clone, Copy)]
-pub(crate) struct Names<'a> {
-    pub(crate) mesh: &'a str,
-    pub(crate) other: &'a str,
-    pub(crate) proof: &'a str,
-    pub(crate) format: Format,
-    pub(crate) decimals: u8,
-    ghost few: { decimals ≤ DECIMALS_MAX },
-}
-
-// The names of a mesh and of a log that is read.
-fn log_names(files: LogFiles<'_>) -> Names<'_>
-    requires { files.decimals ≤ DECIMALS_MAX }
-{
-    Names {
-        mesh: files.mesh,
-        other: files.log,
-        proof: files.log,
-        format: Format::Obj,
-        decimals: files.decimals,
-    }
-}
-
-// The name of a mesh file that is read alone.
-fn alone(mesh: MeshFile<'_>, decimals: u8) -> Names<'_>
-    requires { decimals ≤ DECIMALS_MAX }
-{
-    Names {
-        mesh: mesh.name,
-        other: mesh.name,
-        proof: mesh.name,
-        format: mesh.format,
-        decimals,
-    }
-}
-
-// The names that the words tell, if they are of a listed form that has files.
-pub(crate) fn names_of(alloc: Global, words: &[String]) -> Option<Names<'_>> {
-    match command_of(alloc, words).ok()?? {
-        Command::Track {
-            mesh,
-            steps,
-            decimals,
-            ..
-        } => Some(Names {
-            mesh,
-            other: steps,
-            proof: steps,
-            format: Format::Obj,
-            decimals,
-        }),
-        Command::Convert { from, decimals, .. } => Some(alone(from, decimals)),
-        Command::Measure(files) => Some(log_names(files)),
-        Command::Prove(files) => Some(log_names(files)),
-        Command::Verify(given) => Some(Names {
-            mesh: given.files.mesh,
-            other: given.files.log,
-            proof: given.proof,
-            format: Format::Obj,
-            decimals: given.files.decimals,
-        }),
-        Command::Replay(given) => Some(log_names(given.files)),
-        Command::Check { mesh, decimals } => Some(alone(mesh, decimals)),
-        Command::Try { .. } => None,
-    }
-}
-
-// The name of one of the files.
-fn name_of<'a>(names: Names<'a>, file: FileWord) -> &'a str {
-    match file {
-        FileWord::Mesh => names.mesh,
-        FileWord::Steps | FileWord::Log => names.other,
-        FileWord::Proof => names.proof,
-    }
-}
-
-// The bytes of a file once more; None where it is no file that gives them twice, as a pipe.
-pub(crate) fn bytes_again<R: Files>(alloc: Global, rt: &R, name: &str) -> Option<Vec<u8>>
-    ensures { IfSome result (λ bytes. length bytes.items ≤ TEXT_MAX) }
-{
-    match fs::metadata(rt, name) {
-        Ok(about) if about.is_file() => {
-            let mut bytes = Vec::new(alloc);
-            let _ = FileDesk::new(alloc, rt).fetch(name, TEXT_MAX, &mut bytes);
-            Some(bytes)
-        }
-        _ => None,
-    }
-}
-
-// The same; none where it can not be had.
-fn bytes_of<R: Files>(alloc: Global, rt: &R, name: &str) -> Vec<u8>
-    ensures { length result.items ≤ TEXT_MAX }
-{
-    match bytes_again(alloc, rt, name) {
-        Some(bytes) => bytes,
-        None => Vec::new(alloc),
-    }
-}
-
 // What is wrong with a line of the mesh file.
-fn mesh_sentence<R: Files>(
+fn mesh_sentence(
     alloc: Global,
     names: Names<'_>,
     fault: TextFault,
-    rt: &R,
+    texts: &Texts,
 ) -> Result<String, AllocError> {
-    let bytes = bytes_of(alloc, rt, names.mesh);
+    let bytes = texts.first(names.mesh);
     match names.format {
-        Format::Obj => mesh_text_reason(alloc, names.mesh, &bytes, names.decimals, fault),
-        Format::Off => off_text_reason(alloc, names.mesh, &bytes, names.decimals, fault),
-        Format::Ply => ply_text_reason(alloc, names.mesh, &bytes, names.decimals, fault),
+        Format::Obj => mesh_text_reason(alloc, names.mesh, bytes, names.decimals, fault),
+        Format::Off => off_text_reason(alloc, names.mesh, bytes, names.decimals, fault),
+        Format::Ply => ply_text_reason(alloc, names.mesh, bytes, names.decimals, fault),
     }
 }
 
 // What is wrong with a line of the step file.
-fn step_sentence<R: Files>(
+fn step_sentence(
     alloc: Global,
     names: Names<'_>,
     fault: TextFault,
-    rt: &R,
+    texts: &Texts,
 ) -> Result<String, AllocError> {
-    let bytes = bytes_of(alloc, rt, names.other);
-    step_text_reason(alloc, names.other, &bytes, names.decimals, fault)
+    let bytes = texts.last(names.other);
+    step_text_reason(alloc, names.other, bytes, names.decimals, fault)
 }
 
 // What is wrong with a line of the log.
-fn log_sentence<R: Files>(
+fn log_sentence(
     alloc: Global,
     names: Names<'_>,
     fault: TextFault,
-    rt: &R,
+    texts: &Texts,
 ) -> Result<String, AllocError> {
-    let bytes = bytes_of(alloc, rt, names.other);
-    log_text_reason(alloc, names.other, &bytes, fault)
+    let bytes = texts.last(names.other);
+    log_text_reason(alloc, names.other, bytes, fault)
 }
 
 // Which line of the log does not fit.
-fn replay_sentence<R: Files>(
+fn replay_sentence(
     alloc: Global,
     names: Names<'_>,
     line: u32,
-    rt: &R,
+    texts: &Texts,
 ) -> Result<String, AllocError> {
-    let bytes = bytes_of(alloc, rt, names.other);
-    replay_reason(alloc, names.other, &bytes, line)
+    let bytes = texts.last(names.other);
+    replay_reason(alloc, names.other, bytes, line)
 }
 
 // What is wrong with a line of the proof.
-fn proof_sentence<R: Files>(
+fn proof_sentence(
     alloc: Global,
     names: Names<'_>,
     fault: TextFault,
-    rt: &R,
+    texts: &Texts,
 ) -> Result<String, AllocError> {
-    let bytes = bytes_of(alloc, rt, names.proof);
-    proof_text_reason(alloc, names.proof, &bytes, fault)
+    let bytes = texts.last(names.proof);
+    proof_text_reason(alloc, names.proof, bytes, fault)
 }
 
 // What is found against a motion, as it is told: a pair that `prove` finds has failed.
@@ -196,15 +94,15 @@ fn finding_of(words: &[String], verdict: Verdict) -> Unproved {
 }
 
 // What is found against the motion of a line of the log.
-fn motion_sentence<R: Files>(
+fn motion_sentence(
     alloc: Global,
     names: Names<'_>,
     line: u32,
     why: Unproved,
-    rt: &R,
+    texts: &Texts,
 ) -> Result<String, AllocError> {
-    let bytes = bytes_of(alloc, rt, names.other);
-    motion_reason(alloc, names.other, &bytes, line, why)
+    let bytes = texts.last(names.other);
+    motion_reason(alloc, names.other, bytes, line, why)
 }
 
 // A sentence on the mesh, and how many of its coordinates were rounded, which may be why.
@@ -223,50 +121,91 @@ fn with_rounding(
 }
 
 // What is wrong with the shape of the mesh.
-fn shape_sentence<R: Files>(
+fn shape_sentence(
     alloc: Global,
     names: Names<'_>,
     fault: ShapeFault,
-    rt: &R,
+    texts: &Texts,
 ) -> Result<String, AllocError> {
-    let bytes = bytes_of(alloc, rt, names.mesh);
-    let lists = lists_in(alloc, names.format, &bytes, names.decimals);
+    let bytes = texts.first(names.mesh);
+    let lists = lists_in(alloc, names.format, bytes, names.decimals);
     let said = shape_reason(
         alloc,
         names.mesh,
         names.format,
-        &bytes,
+        bytes,
         lists.as_ref(),
         fault,
     )?;
-    with_rounding(alloc, names, &bytes, said)
+    with_rounding(alloc, names, bytes, said)
 }
 
 // Which edge and face of the mesh meet.
-fn meeting_sentence<R: Files>(
+fn meeting_sentence(
     alloc: Global,
     names: Names<'_>,
     pair: PairName,
-    rt: &R,
+    texts: &Texts,
 ) -> Result<String, AllocError> {
-    let bytes = bytes_of(alloc, rt, names.mesh);
+    let bytes = texts.first(names.mesh);
     let said = meeting_reason(alloc, names.mesh, pair)?;
-    with_rounding(alloc, names, &bytes, said)
+    with_rounding(alloc, names, bytes, said)
 }
 
-/// Says in one sentence why a run for these words ended as it did, where it is not done: it looks into the files once more.
-pub(crate) fn explain<R: Files>(
+// Why a directive is refused: of a vertex that was there, which line of the log took it away, if one can be told.
+fn use_sentence(
+    alloc: Global,
+    names: Names<'_>,
+    line: u32,
+    why: UseWhy,
+    texts: &Texts,
+    ended: &EndedVertices,
+) -> Result<String, AllocError> {
+    if let UseWhy::NoVertex { v } = why {
+        let by = ended.line_of(v);
+        if by.is_some() || v > 0 && was_read(alloc, names, v, texts) {
+            return gone_reason(alloc, names.other, line, v, by);
+        }
+    }
+    use_reason(alloc, names.other, line, why)
+}
+
+// Whether a vertex is one of the mesh that was read.
+fn was_read(alloc: Global, names: Names<'_>, v: u32, texts: &Texts) -> bool {
+    match lists_in(alloc, names.format, texts.first(names.mesh), names.decimals) {
+        Some(lists) => v as usize <= lists.points.len(),
+        None => false,
+    }
+}
+
+/// What a run has seen: the texts that it read, the vertices that its log ended, and the last fault of the system.
+#[derive(Clone, Copy)]
+pub(crate) struct Seen<'a> {
+    pub(crate) texts: &'a Texts,
+    pub(crate) ended: &'a EndedVertices,
+    pub(crate) trouble: Option<&'a Trouble>,
+}
+
+/// Says in one sentence why a run for these words ended as it did, where it is not done, from what it has seen.
+pub(crate) fn explain(
     alloc: Global,
     words: &[String],
+    names: Option<Names<'_>>,
     outcome: Outcome,
-    trouble: Option<&Trouble>,
-    rt: &R,
+    seen: Seen<'_>,
 ) -> Result<String, AllocError> {
-    let names = names_of(alloc, words).unwrap_or(Names {
+    let Seen {
+        texts,
+        ended,
+        trouble,
+    } = seen;
+    let names = names.unwrap_or(Names {
         mesh: "the mesh",
         other: "the other file",
         proof: "the proof",
         format: Format::Obj,
+        prefix: None,
+        stored: Format::Obj,
         decimals: 0,
     });
     match outcome {
@@ -276,17 +215,17 @@ pub(crate) fn explain<R: Files>(
         Outcome::DeskFault => trouble_reason(alloc, trouble),
         Outcome::SinkFault => String::from_str(alloc, "standard output could not be written"),
         Outcome::TooLong { file, .. } => long_reason(alloc, name_of(names, file)),
-        Outcome::MeshText(fault) => mesh_sentence(alloc, names, fault, rt),
-        Outcome::MeshShape(fault) => shape_sentence(alloc, names, fault, rt),
-        Outcome::MeshMeets(pair) => meeting_sentence(alloc, names, pair, rt),
-        Outcome::StepText(fault) => step_sentence(alloc, names, fault, rt),
-        Outcome::StepUse { line, why } => use_reason(alloc, names.other, line, why),
+        Outcome::MeshText(fault) => mesh_sentence(alloc, names, fault, texts),
+        Outcome::MeshShape(fault) => shape_sentence(alloc, names, fault, texts),
+        Outcome::MeshMeets(pair) => meeting_sentence(alloc, names, pair, texts),
+        Outcome::StepText(fault) => step_sentence(alloc, names, fault, texts),
+        Outcome::StepUse { line, why } => use_sentence(alloc, names, line, why, texts, ended),
         Outcome::Missing { file } => missing_reason(alloc, name_of(names, file)),
-        Outcome::LogText(fault) => log_sentence(alloc, names, fault, rt),
-        Outcome::LogUse { line } => replay_sentence(alloc, names, line, rt),
-        Outcome::ProofText(fault) => proof_sentence(alloc, names, fault, rt),
+        Outcome::LogText(fault) => log_sentence(alloc, names, fault, texts),
+        Outcome::LogUse { line } => replay_sentence(alloc, names, line, texts),
+        Outcome::ProofText(fault) => proof_sentence(alloc, names, fault, texts),
         Outcome::ProofBad { line, verdict } => {
-            motion_sentence(alloc, names, line, finding_of(words, verdict), rt)
+            motion_sentence(alloc, names, line, finding_of(words, verdict), texts)
         }
     }
 }

@@ -8,16 +8,23 @@ mod answering;
 mod band;
 mod explaining;
 mod help;
+mod log_watch;
+mod names;
 mod rounding;
 mod shipped;
+mod texts;
+mod user_desk;
 mod warning;
 
 use answering::{USAGE, answer};
 use band::shipped_band;
-use explaining::explain;
+use explaining::{Seen, explain};
+use job_reasons::plain;
+use log_watch::{EndedVertices, LogWatch};
 use mesh_field::{Fields, no_fields};
 use mesh_sizing::Sizing;
-use outside_io::{FileDesk, ProgressSink, StdSink};
+use names::{Names, names_of};
+use outside_io::{ProgressSink, StdSink};
 use shipped::{REACH, shipped_names, shipped_shift};
 use std::alloc::{AllocError, Global};
 use std::io::{ErrorKind, IsTerminal};
@@ -25,6 +32,7 @@ use std::process::ExitCode;
 use std::rt::Env;
 use std::{env, io};
 use track_run::Outcome;
+use user_desk::UserDesk;
 use warning::warnings;
 
 // The words after the program's name.
@@ -51,14 +59,21 @@ fn is_long(words: &[String]) -> bool {
 }
 
 // Tells how the program is called where that is wanted, and why the job did not end as done, and gives the status.
-fn end(rt: &impl Eprint, outcome: Outcome, why: Result<String, AllocError>) -> ExitCode {
+fn end(
+    alloc: Global,
+    rt: &impl Eprint,
+    outcome: Outcome,
+    why: Result<String, AllocError>,
+) -> ExitCode {
     if outcome == Outcome::Usage {
         let _ = eprint!(rt; "{USAGE}");
     }
     let status = outcome.status();
     if status != 0 {
         if let Ok(why) = why {
-            let _ = eprintln!(rt; "topo: {why}");
+            if let Ok(why) = plain(alloc, why.as_str()) {
+                let _ = eprintln!(rt; "topo: {why}");
+            }
         }
         let _ = eprintln!(rt; "topo: status {status}");
     }
@@ -66,49 +81,77 @@ fn end(rt: &impl Eprint, outcome: Outcome, why: Result<String, AllocError>) -> E
 }
 
 // Tells what may be amiss, a line each.
-fn warn(rt: &impl Eprint, warnings: Result<Vec<String>, AllocError>) {
+fn warn(alloc: Global, rt: &impl Eprint, warnings: Result<Vec<String>, AllocError>) {
     if let Ok(warnings) = warnings {
         for warning in &warnings {
-            let _ = eprintln!(rt; "topo: warning: {warning}");
+            if let Ok(warning) = plain(alloc, warning.as_str()) {
+                let _ = eprintln!(rt; "topo: warning: {warning}");
+            }
         }
+    }
+}
+
+// Tells what is to be told on standard error of a run that has ended, and gives the status.
+fn finish(
+    rt: &HostRuntime,
+    words: &[String],
+    names: Option<Names<'_>>,
+    outcome: Outcome,
+    desk: &UserDesk<'_, '_, HostRuntime>,
+    ended: &EndedVertices,
+) -> ExitCode {
+    let alloc = rt.alloc();
+    if outcome == Outcome::Done {
+        let stored = match &desk.stored {
+            Some(stored) => Some(stored.as_str()),
+            None => None,
+        };
+        let said = warnings(alloc, words, names, &desk.texts, stored, rt);
+        warn(alloc, rt, said);
+    }
+    let seen = Seen {
+        texts: &desk.texts,
+        ended,
+        trouble: desk.files.trouble(),
+    };
+    let why = explain(alloc, words, names, outcome, seen);
+    end(alloc, rt, outcome, why)
+}
+
+// Answers the words with the real desk and sink, and the shipped fields and sizing.
+fn answer_words(rt: &HostRuntime, words: &[String]) -> ExitCode {
+    let alloc = rt.alloc();
+    let fields = match shipped_names() {
+        Some(names) => Fields::new(names, REACH, shipped_shift),
+        None => no_fields(shipped_shift),
+    };
+    let sizing = Sizing::new(shipped_band);
+    let is_watched = is_long(words) && rt.stderr().is_terminal() && !rt.stdout().is_terminal();
+    let names = names_of(alloc, words);
+    let mut desk = UserDesk::new(alloc, rt, names, is_watched);
+    if is_watched {
+        let mut out = LogWatch::new(alloc, ProgressSink::new(StdSink::new(rt), rt));
+        let outcome = answer(alloc, words, &mut desk, &mut out, &fields, &sizing);
+        out.sink.wipe();
+        finish(rt, words, names, outcome, &desk, &out.vertices)
+    } else {
+        let mut out = LogWatch::new(alloc, StdSink::new(rt));
+        let outcome = answer(alloc, words, &mut desk, &mut out, &fields, &sizing);
+        finish(rt, words, names, outcome, &desk, &out.vertices)
     }
 }
 
 fn main(rt: HostRuntime) -> ExitCode {
     let alloc = rt.alloc();
     match words(&rt) {
-        Ok(words) => {
-            let mut desk = FileDesk::new(alloc, &rt);
-            let mut out = StdSink::new(&rt);
-            let fields = match shipped_names() {
-                Some(names) => Fields::new(names, REACH, shipped_shift),
-                None => no_fields(shipped_shift),
-            };
-            let sizing = Sizing::new(shipped_band);
-            let is_watched = is_long(&words)
-                && rt.stderr().is_terminal()
-                && !rt.stdout().is_terminal();
-            let outcome = if is_watched {
-                let mut watched = ProgressSink::new(out, &rt);
-                let outcome = answer(alloc, &words, &mut desk, &mut watched, &fields, &sizing);
-                watched.wipe();
-                outcome
-            } else {
-                answer(alloc, &words, &mut desk, &mut out, &fields, &sizing)
-            };
-            if outcome == Outcome::Done {
-                warn(&rt, warnings(alloc, &words, &rt));
-            }
-            let why = explain(alloc, &words, outcome, desk.trouble(), &rt);
-            end(&rt, outcome, why)
-        }
+        Ok(words) => answer_words(&rt, words.as_slice()),
         Err(error) if error.kind() == ErrorKind::OutOfMemory => {
             let why = String::from_str(alloc, "there is not enough memory");
-            end(&rt, Outcome::NoMemory, why)
+            end(alloc, &rt, Outcome::NoMemory, why)
         }
         Err(error) => {
             let why = format!(in alloc; "the words can not be had as text ({error})");
-            end(&rt, Outcome::Usage, why)
+            end(alloc, &rt, Outcome::Usage, why)
         }
     }
 }

@@ -1,12 +1,18 @@
 // What may be amiss in a job that is done, a sentence each.
-ghost use Rattle.std.specs.Prelude.{◌≤◌, length};
+ghost use Rattle.std.specs.Prelude.{◌≤◌, length, IfSome};
 ghost use Rattle.grid_base.specs.declared.TheConstants.{TEXT_MAX};
 
-use crate::explaining::{bytes_again, names_of};
-use crate::rounding::finest;
-use job_reasons::{asks_in_vain, is_inside_out, is_unsaved, rounding_warning};
+use crate::names::Names;
+use crate::rounding::{finest, lists_in};
+use crate::texts::Texts;
+use grid_base::TEXT_MAX;
+use job_reasons::{
+    asks_in_vain, is_inside_out, is_unsaved, manifold_warning, prefix_warning, rounding_warning,
+};
 use mesh_plain::MeshLists;
+use outside_io::{Desk, FileDesk, TryLock};
 use std::alloc::{AllocError, Global};
+use std::fs;
 use std::rt::Files;
 use step_text::read_steps;
 use track_input::Format;
@@ -72,7 +78,7 @@ fn steps_warnings(alloc: Global, bytes: &[u8], into: &mut Vec<String>) -> Result
         let unsaved = "what is done behind the last `save` is stored in no mesh";
         warn(alloc, unsaved, into)?;
     }
-    if asks_in_vain(&directives) {
+    if asks_in_vain(alloc, &directives)? {
         let vain = "shifts are asked behind the last `step`, and nothing takes them";
         warn(alloc, vain, into)?;
     }
@@ -87,23 +93,84 @@ fn has_steps(words: &[String]) -> bool {
     }
 }
 
-/// Says what may be amiss in a job that is done, from its files, which it looks into once more: of a pipe, which can not be read twice,
-/// nothing is said.
+// The bytes of a file that was stored, if it is one that gives them back.
+fn stored_bytes<R: Files>(alloc: Global, rt: &R, name: &str) -> Option<Vec<u8>>
+where
+    R::File: TryLock,
+    ensures { IfSome result (λ bytes. length bytes.items ≤ TEXT_MAX) }
+{
+    match fs::metadata(rt, name) {
+        Ok(about) if about.is_file() => {}
+        _ => return None,
+    }
+    let mut bytes = Vec::new(alloc);
+    FileDesk::new(alloc, rt)
+        .fetch(name, TEXT_MAX, &mut bytes)
+        .ok()?;
+    Some(bytes)
+}
+
+// The warning that the mesh which was stored last gives.
+fn stored_warning<R: Files>(
+    alloc: Global,
+    names: Names<'_>,
+    stored: &str,
+    rt: &R,
+) -> Result<Option<String>, AllocError>
+where
+    R::File: TryLock,
+{
+    let Some(bytes) = stored_bytes(alloc, rt, stored) else {
+        return Ok(None);
+    };
+    match lists_in(alloc, names.stored, bytes.as_slice(), names.decimals) {
+        Some(lists) => manifold_warning(alloc, stored, &lists),
+        None => Ok(None),
+    }
+}
+
+// The warning that the prefix of the meshes gives.
+fn name_warning<R: Files>(
+    alloc: Global,
+    prefix: &str,
+    rt: &R,
+) -> Result<Option<String>, AllocError> {
+    let is_folder = match fs::metadata(rt, prefix) {
+        Ok(about) => about.is_dir(),
+        Err(_) => false,
+    };
+    prefix_warning(alloc, prefix, is_folder)
+}
+
+/// Says what may be amiss in a job that is done, from the texts that it read and the mesh that it stored last.
 pub(crate) fn warnings<R: Files>(
     alloc: Global,
     words: &[String],
+    names: Option<Names<'_>>,
+    texts: &Texts,
+    stored: Option<&str>,
     rt: &R,
-) -> Result<Vec<String>, AllocError> {
+) -> Result<Vec<String>, AllocError>
+where
+    R::File: TryLock,
+{
     let mut said = Vec::new(alloc);
-    let Some(names) = names_of(alloc, words) else {
+    let Some(names) = names else {
         return Ok(said);
     };
-    if let Some(mesh) = bytes_again(alloc, rt, names.mesh) {
-        mesh_warnings(alloc, names.format, &mesh, names.decimals, &mut said)?;
-    }
+    let mesh = texts.first(names.mesh);
+    mesh_warnings(alloc, names.format, mesh, names.decimals, &mut said)?;
     if has_steps(words) {
-        if let Some(steps) = bytes_again(alloc, rt, names.other) {
-            steps_warnings(alloc, &steps, &mut said)?;
+        steps_warnings(alloc, texts.last(names.other), &mut said)?;
+    }
+    if let Some(prefix) = names.prefix {
+        if let Some(warning) = name_warning(alloc, prefix, rt)? {
+            said.push(warning)?;
+        }
+    }
+    if let Some(stored) = stored {
+        if let Some(warning) = stored_warning(alloc, names, stored, rt)? {
+            said.push(warning)?;
         }
     }
     Ok(said)

@@ -1,5 +1,5 @@
 use Rattle.std.proofs.Common.{refl}
-use Rattle.topo.proofs.Names.{is_name}
+use Rattle.topo.proofs.FieldNames.{is_name}
 use Rattle.topo.proofs.shipped.shipped_names.Goals as goal
 
 -- each of the three texts is a name
