@@ -1,11 +1,12 @@
 #!/usr/bin/env python3
-"""Times the built program where a broad phase can fall off a cliff: sizes that differ much, needles, and bodies that go fast.
+"""Times the built program where a broad phase can fall off a cliff: sizes that differ much, needles, vertices of high degree, and bodies that go fast.
 
     bench/cliffs.py
 
 Each mesh is closed and clear. Prints the processor seconds of the whole run, with the reading.
 """
 
+import math
 import resource
 import tempfile
 
@@ -31,6 +32,31 @@ def small_ones(n, size=600, apart=1_000):
     return mesh
 
 
+def rim(n, z):
+    """N points on a circle."""
+    return [(round(6e7 * math.cos(2 * math.pi * i / n)), round(6e7 * math.sin(2 * math.pi * i / n)), z) for i in range(n)]
+
+
+def cylinder(n):
+    """A cylinder whose two caps are fans of N faces."""
+    points = rim(n, -30_000_000) + rim(n, 30_000_000) + [(0, 0, -30_000_000), (0, 0, 30_000_000)]
+    low, high = 2 * n + 1, 2 * n + 2
+    faces = []
+    for i in range(n):
+        j = (i + 1) % n
+        faces += [(j + 1, i + 1, low), (n + i + 1, n + j + 1, high), (i + 1, j + 1, n + j + 1), (i + 1, n + j + 1, n + i + 1)]
+    return points, faces
+
+
+def double_cone(n):
+    """Two fans of N faces over one rim."""
+    faces = []
+    for i in range(n):
+        j = (i + 1) % n
+        faces += [(i + 1, j + 1, n + 1), (j + 1, i + 1, n + 2)]
+    return rim(n, 0) + [(0, 0, 60_000_000), (0, 0, -60_000_000)], faces
+
+
 def meshes():
     yield "64,000 faces of small bodies", small_ones(16_000), []
     mesh = small_ones(16_000)
@@ -44,6 +70,9 @@ def meshes():
     for i in range(4_096):
         put(mesh, (0, i % 64 * 1_000, i // 64 * 1_000), (50_000_000, 500, 500))
     yield "16,384 faces of parallel needles", mesh, []
+    for n in (4_000, 16_000):
+        yield f"a cylinder whose caps are fans of {n:,} faces", cylinder(n), []
+    yield "a double cone of 8,000 faces", double_cone(4_000), []
     ring = torus(256, 256)
     for times in (0, 1, 16, 100):
         by = times * 1_000_000

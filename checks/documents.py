@@ -6,7 +6,8 @@
 The statuses that docs/FORMATS.md lists are those of `topo --help`, word for word, which is told without a build too, and README.md has each form of its words; each log that README.md
 and docs/EXAMPLES.md show is a part of that of the command before it, run anew; the proof that docs/CERTIFICATES.md shows is that of a worked case;
 each crate has its line in docs/PROVED.md and in docs/ARCHITECTURE.md, and each file that a document names is there; and what docs/ARCHITECTURE.md and docs/HARDENING.md
-count, files on a way and wrong edits, is as many.
+count, files on a way and wrong edits, is as many. Each crate but those of tests has a README.md: the names that it hands up are public in its sources, and its example stands,
+line by line, in the file that it names.
 """
 
 import os
@@ -15,6 +16,7 @@ import shutil
 import subprocess
 import sys
 import tempfile
+import textwrap
 
 from worked_cases import Case
 
@@ -73,19 +75,77 @@ def edits_of(crate, folder):
 
 
 def ways_in(text):
-    """Each table of ways that is followed by how many files it names, with those files as pairs of a crate and a file."""
+    """Each table of ways that is followed by how many files it names: the whose, that number, and those files in their order, as pairs of a crate and a file."""
     ways = []
-    for table, count in re.findall(r"((?:^\|.*\n)+)\n.*?(\d+) files\.", text, re.M):
-        files = set()
+    for table, whose, count in re.findall(r"((?:^\|.*\n)+)\n.*?the way of (.*?), (\d+) files\.", text, re.M):
+        files = []
         for part in re.findall(r"`\w+`: `\w+\.rt`[^;|]*", table):
             crate = re.match(r"`(\w+)`", part).group(1)
-            files |= {(crate, file) for file in re.findall(r"`(\w+\.rt)`", part)}
-        ways.append((int(count), files))
+            files += [(crate, file) for file in re.findall(r"`(\w+\.rt)`", part)]
+        ways.append((whose, int(count), files))
     return ways
 
 
 def is_in_src(crate, file):
     return any(file in files for _, _, files in os.walk(os.path.join(ROOT, "crates", crate, "src")))
+
+
+def sources_of(crate):
+    """The sources of a crate: each file of its `src` with its text."""
+    top = os.path.join(ROOT, "crates", crate, "src")
+    return {os.path.join(folder, file): open(os.path.join(folder, file)).read() for folder, _, files in os.walk(top) for file in files if file.endswith(".rt")}
+
+
+def is_public(name, crate):
+    """Whether a crate has a public item, method or call of a trait of this name. An item at the left edge is named by the head of the crate, or stands in a public module."""
+    sources = sources_of(crate)
+    head = next(text for path, text in sources.items() if os.path.basename(path) in ("lib.rt", "main.rt") and os.path.dirname(path).endswith("src"))
+    for path, text in sources.items():
+        module = os.path.splitext(os.path.basename(path))[0]
+        is_open = module == "lib" or re.search(rf"(?m)^pub mod {module};", head) or re.search(rf"(?ms)^pub use [^;]*\b{name}\b", head)
+        found = re.search(rf'(?m)^( *)pub (?:const |unsafe |extern "C" )*(?:fn|struct|enum|trait|type|const) {name}\b', text)
+        if found and (found.group(1) or is_open):
+            return True
+        if any(re.search(rf"(?m)^    fn {name}\b", part) for part in re.findall(r"(?ms)^pub trait .*?^}", text)):
+            return True
+    return False
+
+
+def stands_in(lines, path):
+    """Whether the lines stand in the file in one piece, wherever they begin in their lines."""
+    if not re.fullmatch(r"crates/\w+/src/[\w/]+\.rt|library/\w+\.c", path) or not os.path.exists(os.path.join(ROOT, path)):
+        return False
+    whole = text_of(path).splitlines()
+    return any(textwrap.dedent("\n".join(whole[at : at + len(lines)])).split("\n") == lines for at in range(len(whole) - len(lines) + 1))
+
+
+def readme_faults(crate):
+    """What is wrong with the README.md of a crate."""
+    path = os.path.join("crates", crate, "README.md")
+    if not os.path.exists(os.path.join(ROOT, path)):
+        return ["is not there"]
+    lines = text_of(path).splitlines()
+    faults = []
+    if lines[0] != f"# `{crate}`":
+        faults.append("has another title")
+    if len(lines) > 16 or max(len(line) for line in lines) > 139:
+        faults.append("is long or wide")
+    parts = dict(re.findall(r"(?ms)^- \*\*(.*?):?\*\*(.*?)(?=^- |^$)", "\n".join(lines) + "\n"))
+    if not parts.get("Proved"):
+        faults.append("does not say what is proved")
+    names = re.findall(r"`(.*?)`", parts.get("Hands up", ""))
+    if not names and not os.path.exists(os.path.join(ROOT, "crates", crate, "src", "main.rt")):
+        faults.append("hands nothing up")
+    faults += [f"hands up `{name}`" for name in names if not re.fullmatch(r"\w+", name) or not is_public(name, crate)]
+    shown = re.search(r"(?s)\n[^\n]*, from `([^`]*)`:\n\n((?:    [^\n]*\n)+)$", "\n".join(lines) + "\n")
+    if not shown:
+        return faults + ["has no example at its end"]
+    example = textwrap.dedent(shown.group(2)).splitlines()
+    if not stands_in(example, shown.group(1)):
+        faults.append(f"has an example that does not stand in {shown.group(1)}")
+    if names and not any(re.search(rf"\b{name}\b", line) for name in names for line in example):
+        faults.append("has an example without a name that it hands up")
+    return faults
 
 
 def main():
@@ -116,15 +176,22 @@ def main():
     for name in ("docs/PROVED.md", "docs/ARCHITECTURE.md"):
         lacking = [crate for crate in crates if f"`{crate}`" not in text_of(name)]
         checks.append((f"{name} names each crate {' '.join(lacking)}".rstrip(), not lacking))
+    for crate in crates:
+        if not crate.endswith("_tests"):
+            faults = readme_faults(crate)
+            checks.append((f"crates/{crate}/README.md is true {'; '.join(faults)}".rstrip(), not faults))
     for name in ["README.md", *(f"docs/{it}" for it in sorted(os.listdir(os.path.join(ROOT, "docs"))) if it.endswith(".md"))]:
         named = re.findall(r"`((?:crates|docs|checks|bench|examples|\.ci)/[\w./*-]+)`", text_of(name))
         lost = [it for it in named if "*" not in it and not os.path.exists(os.path.join(ROOT, it))]
         checks.append((f"each file that {name} names is there {' '.join(lost)}".rstrip(), not lost))
     ways = ways_in(text_of("docs/ARCHITECTURE.md"))
-    checks.append(("docs/ARCHITECTURE.md has the ways of a vertex and of a pair", len(ways) == 2))
-    for count, files in ways:
-        lost = [f"{crate}/{file}" for crate, file in sorted(files) if not is_in_src(crate, file)]
-        checks.append((f"docs/ARCHITECTURE.md names {count} files on a way, all there {' '.join(lost)}".rstrip(), len(files) == count and not lost))
+    checks.append(("docs/ARCHITECTURE.md has three ways", [whose for whose, _, _ in ways] == ["each vertex", "each pair of a step", "`split 5`"]))
+    for whose, count, files in ways:
+        lost = [f"{crate}/{file}" for crate, file in files if not is_in_src(crate, file)]
+        twice = [f"{crate}/{file} twice" for crate, file in sorted(set(files)) if files.count((crate, file)) > 1]
+        good = len(files) == count and not lost and not twice
+        checks.append((f"docs/ARCHITECTURE.md names {count} files on the way of {whose}, all there, none twice {' '.join(lost + twice)}".rstrip(), good))
+    checks.append(("a vertex goes through 30 files at most", all(count <= 30 for whose, count, _ in ways if whose == "each vertex")))
     for crate, edits, further in re.findall(r"(?m)^\| `(\w+)` \| \d+ \| (\d+) \| (\d+) \|", text_of("docs/HARDENING.md")):
         there = tuple(edits_of(crate, folder) for folder in ("must-fail", "must-fail-more"))
         checks.append((f"docs/HARDENING.md counts the edits of {crate}", there == (int(edits), int(further))))

@@ -54,15 +54,17 @@ static struct topo_face face_rows[4096];
 /* makes a tracker, another in its place, and works with that twice over, up to the first call that is not done */
 static uint32_t work(struct topo *t, struct topo_fault *fault)
 {
-    uint32_t code = topo_new(points, 4, faces, 4, t, fault);
+    struct topo_way way;
+    struct topo_edits edits;
+    uint32_t kept, code = topo_new(points, 4, faces, 4, t, fault);
     int k;
     if (code == TOPO_DONE)
         code = topo_new(points, 4, faces, 4, t, fault);
     for (k = 0; k < 2 && code == TOPO_DONE; ++k) {
         if ((code = topo_open(t, fault)) == TOPO_DONE && (code = topo_shift(t, 1, -3, -3, 0, fault)) == TOPO_DONE
-            && (code = topo_step(t, fault)) == TOPO_DONE && (code = topo_split(t, 30, fault)) == TOPO_DONE
-            && (code = topo_close(t, fault)) == TOPO_DONE)
-            code = topo_collapse(t, 12, fault);
+            && (code = topo_step(t, &way, fault)) == TOPO_DONE && (code = topo_split(t, 30, &edits, fault)) == TOPO_DONE
+            && (code = topo_close(t, &kept, fault)) == TOPO_DONE)
+            code = topo_collapse(t, 12, &edits, fault);
     }
     return code;
 }
@@ -73,6 +75,7 @@ int main(void)
     for (n = 0;; ++n) {
         struct topo t = TOPO_NONE;
         struct topo_fault fault = {0, 0, 0, 0};
+        struct topo_way way;
         uint32_t code;
         size_t size;
         held = 0;
@@ -84,7 +87,7 @@ int main(void)
             printf("allocation %ld: code %u\n", n + 1, (unsigned)code);
             return 1;
         }
-        if (t.live && code == TOPO_NO_MEMORY && topo_step(&t, &fault) != TOPO_STOPPED) {
+        if (t.live && code == TOPO_NO_MEMORY && topo_step(&t, &way, &fault) != TOPO_STOPPED) {
             printf("allocation %ld: the tracker goes on\n", n + 1);
             return 1;
         }

@@ -650,7 +650,48 @@ def crates(program):
     return picture
 
 
-PICTURES = [two_tetrahedra, impact_zone, split, collapse, flip, zip_, pinch, fit, crates]
+def growth_rows():
+    """The table of docs/SPEED.md: faces, seconds at rest, seconds with one step."""
+    table = text_of("docs", "SPEED.md").partition("## Time against faces")[2]
+    rows = []
+    for line in table.splitlines():
+        words = [word.strip() for word in line.split("|")]
+        if len(words) == 5 and words[1][:1].isdigit():
+            rows.append((int(words[1].replace(",", "")), float(words[2].split()[0]), float(words[3].split()[0])))
+    return rows
+
+
+def growth(program):
+    """Time against faces, from the table of docs/SPEED.md."""
+    rows = growth_rows()
+    picture = Picture("growth.svg", 720, 420, "Time against faces, at rest and with one step")
+    picture.text(24, 32, "A ring read, tested and saved; and the same with one step of all its vertices", "title")
+    picture.text(24, 52, "processor seconds of the whole process, against faces", "soft")
+    left, right, top, bottom = 84, 560, 80, 370
+    most_faces, most_seconds = rows[-1][0], max(max(row[1:]) for row in rows)
+    tick = next(it for it in (0.05, 0.1, 0.2, 0.5, 1.0, 2.0, 5.0) if most_seconds / it <= 6)
+    highest = tick * math.ceil(most_seconds / tick)
+
+    def at(faces, seconds):
+        return left + (right - left) * faces / most_faces, bottom - (bottom - top) * seconds / highest
+
+    for k in range(round(highest / tick) + 1):
+        y = at(0, k * tick)[1]
+        picture.line((left, y), (right, y), "rule")
+        picture.text(left - 10, y + 4, f"{k * tick:.2f} s", "soft", "end")
+    for faces in (32768, 65536, 98304, 131072):
+        x = at(faces, 0)[0]
+        picture.line((x, bottom), (x, bottom + 5), "rule")
+        picture.text(x, bottom + 22, f"{faces:,}", "soft", "middle")
+    for column, words in ((1, "at rest"), (2, "with one step")):
+        places = [at(row[0], row[column]) for row in rows]
+        for p, q in zip(places, places[1:]):
+            picture.line(p, q, "curve")
+        picture.text(places[-1][0] + 12, places[-1][1] + 4, words)
+    return picture
+
+
+PICTURES = [two_tetrahedra, impact_zone, split, collapse, flip, zip_, pinch, fit, growth, crates]
 
 
 def held(path):
