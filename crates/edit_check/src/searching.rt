@@ -37,13 +37,16 @@ fn first_near(near: &Neighbourhood, e: &BoxedEdge) -> Option<PairName>
     first_failing_among(t.touch, t.together, t.depth, e, tested)
 }
 
-/// So many faces are few.
-const FEW: usize = 64;
+/// Among so many faces the one that runs an edge's way is sought in less time than the edge is tested with touched ones.
+const FEW: usize = 2048;
 
-/// Whether it is asked first whether a face runs the way of an edge that was turned, and the edge is tested then: among
-/// few faces that takes less time, and so it does where an edge is tested with many. Only speed depends on it.
+/// With more touched faces than these a test takes longer than that, however many faces there are.
+const TOUCHED: usize = 16;
+
+/// Whether it is asked first whether a face runs the way of an edge that was turned, and the edge is tested then. Only
+/// speed depends on it.
 fn asks_first(near: &Neighbourhood) -> bool {
-    near.faces.len() <= FEW || near.touched.len() > FEW
+    near.faces.len() <= FEW || near.touched.len() > TOUCHED
 }
 
 /// Whether the edge was turned, and one of the faces runs its way.
