@@ -1,17 +1,17 @@
 #!/usr/bin/env python3
 """Builds the library for C, compiles and runs its examples, and compares what they tell with the program's log of the same job.
 
-    checks/library.py [ARCHIVE [PROGRAM]]
+    checks/library.py [ARCHIVE [PROGRAM [JOBS]]]
 
 ARCHIVE is the archive of the proved crate, in the place of a proof and build anew; PROGRAM is the built program, in the place of `topo`.
 The header and the examples have to compile as C99 and as C++17 with no warning. The logs that `example.cpp` and `example.py` write have to
-be the program's, byte for byte, and so have those of three random jobs with all passes, groups and a solid vertex. `checks/starving.c` refuses each allocation in turn, where the C library is glibc. Without `cc` and `c++`
+be the program's, byte for byte, and so have those of JOBS random jobs, 100 where that is left out, which `checks/library_steps.c` does through the
+library, and which also compares what calls tell as numbers with the lines. The droplets of `examples/library` have to write their frames.
+`checks/starving.c` refuses each allocation in turn, where the C library is glibc. Without `cc` and `c++`
 nothing is compiled, and that is said.
 """
 
-import ctypes
 import os
-import random
 import shutil
 import subprocess
 import sys
@@ -23,6 +23,7 @@ STRICT = ["-Wall", "-Wextra", "-pedantic", "-Werror", "-O2", "-I", LIBRARY]
 C99, CPP17 = ["cc", "-std=c99", *STRICT], ["c++", "-std=c++17", *STRICT]
 MESH = "v 0 0 0\nv 40 0 0\nv 0 40 0\nv 0 0 40\nf 1 3 2\nf 1 2 4\nf 2 3 4\nf 1 4 3\n"
 STEPS = "shift all 1 2 3\nstep\nsplit 45\nsolid 4\ngroup\nshift 1 -3 -3 0\nstep\nclose\n"
+DIRECTIVES = {"shift", "set", "solid", "split", "collapse", "flip", "zip", "pinch", "step", "group", "close"}
 TOLD = (
     "three faces: code 2, why 16, from 1 to 3\n",
     "a solid vertex: code 2, why 5, vertex 4\n",
@@ -43,40 +44,31 @@ def boxes():
     return mesh, 6 * fall + "split 600\n"
 
 
-def driven(seed):
-    """A random job by the library, through `example.py`: its mesh and its steps, and its log."""
-    dice = random.Random(seed)
-    sys.dont_write_bytecode = True
-    sys.path.insert(0, LIBRARY)
-    from example import Tracker
+def random_job(seed):
+    """A random job of `random_jobs.py`, on whole coordinates and with the library's directives alone."""
+    from random_jobs import job_of
 
-    points, faces, steps = [], [], []
-    for k in range(4):
-        corners, sides = box(60 * (k % 2), 60 * (k // 2), 0, 40, len(points) + 1)
-        points, faces = points + corners, faces + sides
-    text = [f"topo log 2\nmesh 0 {len(points)} {len(faces)}\n"]
-    with Tracker(ctypes.CDLL(os.path.join(LIBRARY, "out/libtopo.so")), points, faces) as tracker:
+    mesh, steps, words = job_of(seed)
+    own = [line for line in steps.splitlines() if line.split() and line.split()[0] in DIRECTIVES]
+    fits = words[0] == "track" and len(words) == 4 and all(line.split()[0] in "vf" and len(line.split()) == 4 for line in mesh.splitlines())
+    return (mesh, "".join(line + "\n" for line in own)) if fits else None
 
-        def call(name, *numbers):
-            steps.append(" ".join(["group" if name == "open" else name, *map(str, numbers)]))
-            tracker.call(name, *numbers)
-            text.append(tracker.log())
 
-        for k in range(6):
-            if k in (1, 3):
-                call("open")
-            asked = [(v, *(dice.randint(-14, 14) for _ in range(3))) for v in tracker.points() if v != 5 and dice.random() < 0.7]
-            steps.extend("shift " + " ".join(map(str, row)) for row in asked)
-            tracker.shift(asked)
-            call("step")
-            for name, numbers in dice.sample([("split", [35]), ("collapse", [12]), ("flip", []), ("zip", [15]), ("pinch", [])], 2):
-                call(name, *numbers)
-            if k == 2 and 5 in tracker.points():
-                call("solid", 5)
-            if k in (2, 4):
-                call("close")
-    mesh = "".join(f"v {x} {y} {z}\n" for x, y, z in points) + "".join(f"f {a} {b} {c}\n" for a, b, c in faces)
-    return mesh, "\n".join(steps) + "\n", "".join([*text, "end\n"]).encode()
+def random_jobs(driver, program, count, folder):
+    """How many random jobs were done, and the seeds of those whose log by the library is not the program's, or tells other numbers than its lines."""
+    done, bad = 0, []
+    for seed in range(1, 4 * count):
+        job = random_job(seed)
+        if job is None or done == count:
+            continue
+        wanted = log_of(program, *job, folder)
+        status, told, messages = ran([driver, os.path.join(folder, "mesh.obj"), os.path.join(folder, "steps.txt")])
+        if wanted is None or wanted.startswith((b"topo log 2\nrefused steps", b"topo log 2\nrefused mesh")):
+            continue
+        done += 1
+        if status != 0 or told != wanted or messages:
+            bad.append(seed)
+    return done, bad
 
 
 def log_of(program, mesh, steps, folder):
@@ -84,7 +76,8 @@ def log_of(program, mesh, steps, folder):
     for name, text in (("mesh.obj", mesh), ("steps.txt", steps)):
         with open(os.path.join(folder, name), "w") as out:
             out.write(text)
-    return subprocess.run([program, "track", "mesh.obj", "steps.txt", "t"], cwd=folder, stdout=subprocess.PIPE, check=True, timeout=60).stdout
+    words = [program, "track", "mesh.obj", "steps.txt", "t"]
+    return subprocess.run(words, cwd=folder, stdout=subprocess.PIPE, stderr=subprocess.DEVNULL, timeout=60).stdout
 
 
 def compiled(words, source, folder):
@@ -111,7 +104,9 @@ def header_alone(words, ending, folder):
 
 
 def main():
-    archive, program = (sys.argv[1:] + [None, None])[:2]
+    archive, program, jobs = (sys.argv[1:] + [None, None, None])[:3]
+    jobs = int(jobs or 100)
+    sys.dont_write_bytecode = True
     program = os.path.abspath(program) if program else os.path.join(ROOT, "topo")
     if not (shutil.which("cc") and shutil.which("c++") and shutil.which("ar")):
         print("no cc, c++ or ar: nothing is compiled")
@@ -129,9 +124,13 @@ def main():
         status, told, messages = ran([sys.executable, os.path.join(LIBRARY, "example.py")])
         checks.append(("example.py writes the program's log", status == 0 and told == log_of(program, *boxes(), folder)))
         checks.append(("example.py tells what is refused", "refused: 2 1 99999 0 0\n" in messages and "meets: 2 17 " in messages))
-        for seed in range(1, 4):
-            mesh, steps, told = driven(seed)
-            checks.append((f"the log of random job {seed} is the program's", told == log_of(program, mesh, steps, folder)))
+        driver = compiled(C99, os.path.join(ROOT, "checks/library_steps.c"), folder)
+        done, bad = random_jobs(driver, program, jobs, folder)
+        checks.append((f"of {jobs} random jobs {done} are done, and the logs of these are others: {bad}", done == jobs and not bad))
+        for name, words in (("droplet.cpp", [compiled(CPP17, os.path.join(ROOT, "examples/library/droplet.cpp"), folder)]), ("droplet.py", [sys.executable, os.path.join(ROOT, "examples/library/droplet.py")])):
+            status, told, messages = ran([*words, folder, "3"])
+            checks.append((f"{name} writes its frames: {messages}", status == 0 and os.path.getsize(os.path.join(folder, "frame_003.obj")) > 1000))
+            os.remove(os.path.join(folder, "frame_003.obj"))
         if "glibc" in "".join(os.confstr(name) or "" for name in os.confstr_names if name == "CS_GNU_LIBC_VERSION"):
             status, told, messages = ran([compiled(C99, os.path.join(ROOT, "checks/starving.c"), folder)])
             checks.append((f"each allocation refused in turn: {told.decode().strip()}", status == 0))

@@ -4,3 +4,5 @@ pub mod Growing
 pub mod Held
 pub mod Kept
 pub mod Reading
+pub mod Closings
+pub mod Events
