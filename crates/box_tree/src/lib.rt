@@ -2,6 +2,7 @@
 #![tactic(auto)]
 
 mod building;
+mod crowds;
 mod labelled_box;
 mod labels;
 pub mod laws;

@@ -1,7 +1,9 @@
-// An order of boxes in which neighbours mostly stand near one another. Only speed depends on it.
+// An order of boxes in which those at a crowded label stand together, and neighbours mostly stand near one another. Only
+// speed depends on it.
 ghost use Rattle.std.specs.Prelude.{◌≡◌, map, IfOk};
 ghost use Rattle.box_tree.specs.Order.{HaveEachPlace, HasEachPlace};
 
+use crate::crowds::{counts, crowded_of};
 use crate::{LabelledBox, SmallBox};
 use grid_base::NoMemory;
 use std::alloc::Global;
@@ -22,13 +24,23 @@ fn along_curve(b: &SmallBox) -> u128 {
     spread(x) | spread(y) << 1 | spread(z) << 2
 }
 
-// The places of boxes, each with where its box's middle stands.
-fn with_places(alloc: Global, boxes: &[LabelledBox]) -> Result<Vec<(u128, u64)>, NoMemory>
+// What a box is sorted by: first the crowded label that it has, and then where its middle stands.
+fn sort_key(counts: &[u32], b: &LabelledBox) -> u128 {
+    let label = crowded_of(counts, &b.labels);
+    u128::from(label) << 96 | along_curve(&b.at)
+}
+
+// The places of boxes, each with what its box is sorted by.
+fn with_places(
+    alloc: Global,
+    boxes: &[LabelledBox],
+    counts: &[u32],
+) -> Result<Vec<(u128, u64)>, NoMemory>
     ensures { IfOk result (λ keyed. HaveEachPlace boxes.now keyed.items) }
 {
     let mut keyed = Vec::new(alloc);
     for (i, b) in boxes.iter().enumerate() {
-        keyed.push((along_curve(&b.at), i as u64))?;
+        keyed.push((sort_key(counts, b), i as u64))?;
     }
     Ok(keyed)
 }
@@ -44,11 +56,12 @@ fn places_of(alloc: Global, keyed: &[(u128, u64)]) -> Result<Vec<u64>, NoMemory>
     Ok(order)
 }
 
-/// The places of boxes, in the order of their middles along a curve that fills space.
+/// The places of boxes, those at one crowded label together, in the order of their middles along a curve that fills space.
 pub(crate) fn places_along_curve(alloc: Global, boxes: &[LabelledBox]) -> Result<Vec<u64>, NoMemory>
     ensures { IfOk result (λ order. HasEachPlace boxes.now order.items) }
 {
-    let mut keyed = with_places(alloc, boxes)?;
+    let slots = counts(alloc, boxes)?;
+    let mut keyed = with_places(alloc, boxes, &slots)?;
     keyed.sort_unstable();
     places_of(alloc, &keyed)
 }

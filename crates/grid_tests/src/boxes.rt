@@ -64,20 +64,20 @@ fn add_fan(boxes: &mut Vec<LabelledBox>, at: u32, rim: u32, count: u32) -> Resul
 fn faces_at_a_vertex_are_left_out(rt: HostRuntime) -> Result<(), Fail> {
     let alloc = rt.alloc();
     let mut boxes = Vec::new(alloc);
-    add_fan(&mut boxes, 1, 100, 30)?;
-    add_fan(&mut boxes, 2, 128, 4)?;
+    add_fan(&mut boxes, 1, 100, 70)?;
+    add_fan(&mut boxes, 2, 168, 4)?;
     let tree = BoxTree::of(alloc, &boxes)?;
     let mut into = Vec::new(alloc);
     tree.overlapping_apart(span!(3 => 4), 1, 0, &mut into)?;
-    assert_eq!(rt; into.as_slice(), [30, 31, 32, 33].as_slice());
-    tree.overlapping_apart(span!(3 => 4), 1, 129, &mut into)?;
-    assert_eq!(rt; into.as_slice(), [32, 33].as_slice());
-    tree.overlapping_apart(span!(3 => 4), 2, 130, &mut into)?;
-    assert_eq!(rt; into.len(), 29);
+    assert_eq!(rt; into.as_slice(), [70, 71, 72, 73].as_slice());
+    tree.overlapping_apart(span!(3 => 4), 1, 169, &mut into)?;
+    assert_eq!(rt; into.as_slice(), [72, 73].as_slice());
+    tree.overlapping_apart(span!(3 => 4), 2, 170, &mut into)?;
+    assert_eq!(rt; into.len(), 69);
     tree.overlapping_apart(span!(3 => 4), 1, 2, &mut into)?;
     assert!(rt; into.is_empty());
-    assert!(rt; !tree.overlapping_up_to(span!(3 => 4), 33, &mut into)?);
-    assert!(rt; tree.overlapping_up_to(span!(3 => 4), 34, &mut into)?);
-    assert_eq!(rt; into.len(), 34);
+    assert!(rt; !tree.overlapping_up_to(span!(3 => 4), 73, &mut into)?);
+    assert!(rt; tree.overlapping_up_to(span!(3 => 4), 74, &mut into)?);
+    assert_eq!(rt; into.len(), 74);
     Ok(())
 }
