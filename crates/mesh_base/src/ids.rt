@@ -2,7 +2,8 @@ ghost use Rattle.std.specs.Prelude.{◌≡◌};
 
 use std::marker::Model;
 
-/// A vertex, by its id. Ids count from 1, in the order of making, and none is given twice. A contract sees the number.
+/// A vertex, by its id. Ids count from 1, in the order of making; an id that was given is given again only after a return
+/// to a mesh in which it was not yet given. A contract sees the number.
 #[derive(Clone, Copy, Debug, PartialEq, Eq, PartialOrd, Ord)]
 pub struct VertexId(pub u32);
 
@@ -16,7 +17,8 @@ impl Model for VertexId {
     ghost inverse = { λ n. record { 0 = n } };
 }
 
-/// A face, by its id. Ids count from 1, in the order of making, and none is given twice. A contract sees the number.
+/// A face, by its id. Ids count from 1, in the order of making; an id that was given is given again only after a return to
+/// a mesh in which it was not yet given. A contract sees the number.
 #[derive(Clone, Copy, Debug, PartialEq, Eq, PartialOrd, Ord)]
 pub struct FaceId(pub u32);
 

@@ -16,7 +16,7 @@ use grid_base::{Extent, NoMemory, Point};
 ///
 /// The mesh and each kept mesh meet the laws of a mesh and its limits at any time. Each call but `back_to` and `settle`
 /// leaves a list that begins with the list before, so earlier marks hold; and a refused call leaves the mesh and the
-/// list as they were. Calls with no `Result` take no memory, and neither do `back_to` and `settle`.
+/// list as they were. Calls that answer no `Result` take no memory, but for `index`, which does without where there is none.
 pub trait Surface {
     /// The mesh.
     ghost mesh: { Self → Mesh };
@@ -35,11 +35,12 @@ pub trait Surface {
     fn faces(&self) -> u32
         ensures { result ≡ map.len (mesh self.now).faces };
 
-    /// The id that the next vertex gets, 1 at first. It is one above the greatest id made.
+    /// The id that the next vertex gets, 1 at first: one above the greatest that the mesh has given, and after a return as it
+    /// was in the mesh returned to.
     fn next_vertex(&self) -> u32
         ensures { result ≡ (mesh self.now).next_vertex };
 
-    /// The id that the next face gets, 1 at first.
+    /// The id that the next face gets, 1 at first; after a return as it was in the mesh returned to.
     fn next_face(&self) -> u32
         ensures { result ≡ (mesh self.now).next_face };
 
@@ -90,8 +91,8 @@ pub trait Surface {
         ensures kept { kept self.new ≡ kept self.old }
     {}
 
-    /// Makes a vertex that has no face and is not solid, and answers its id, the next. Full exactly where `VERTICES_MAX` vertices are live
-    /// or the id `ID_MAX` is given; an answer that is not Ok leaves all as it was.
+    /// Makes a vertex that has no face and is not solid, and answers its id, the next. Full exactly where `VERTICES_MAX`
+    /// vertices are live or the id `ID_MAX` is given; an answer that is not Ok leaves all as it was.
     fn add_vertex(&mut self, p: Point) -> Result<VertexId, AddFault>
         ensures id { IfOk result (λ v. v ≡ (mesh self.old).next_vertex) }
         ensures ok { OnOk result (mesh self.new ≡ with_vertex (mesh self.old) p) }
@@ -115,7 +116,7 @@ pub trait Surface {
         ensures err { OnErr result
             ((mesh self.new ≡ mesh self.old) × (kept self.new ≡ kept self.old)) };
 
-    /// Drops a live face. Its vertices stay, and its id is not given again.
+    /// Drops a live face. Its vertices stay, and its id is not given again but after a return.
     fn drop_face(&mut self, f: FaceId) -> Result<(), NoMemory>
         requires { IsLiveFace (mesh self.old) f }
         ensures ok { OnOk result (mesh self.new ≡ without_face (mesh self.old) f) }
@@ -123,7 +124,7 @@ pub trait Surface {
         ensures err { OnErr result
             ((mesh self.new ≡ mesh self.old) × (kept self.new ≡ kept self.old)) };
 
-    /// Drops a live vertex that has no face, and its mark as solid. Its id is not given again.
+    /// Drops a live vertex that has no face, and its mark as solid. Its id is not given again but after a return.
     fn drop_vertex(&mut self, v: VertexId) -> Result<(), NoMemory>
         requires live { IsLiveVertex (mesh self.old) v }
         requires bare { faces_at (mesh self.old) v ≡ [] }
@@ -153,16 +154,20 @@ pub trait Surface {
         ensures holds { IfOk result (MarkHolds beyond (kept self.new)) }
         ensures stands { IfOk result (λ m. StandsFor (kept self.new) m (mesh self.old)) }
         ensures under { IfOk result (λ m. m.under ≡ length (kept self.old)) }
+        ensures place { IfOk result (λ m. m.under ≡ m.place + beyond) }
         ensures mesh { mesh self.new ≡ mesh self.old }
         ensures marks { BeginsWith (kept self.new) (kept self.old) }
         ensures err { OnErr result (kept self.new ≡ kept self.old) };
 
-    /// Goes back to the mesh for which the mark stands, next ids and solid marks included. The kept meshes then begin with those that a
-    /// mark's `under` counts, so marks that held when this one was made hold. Takes no memory.
+    /// Goes back to the mesh for which the mark stands, next ids and solid marks included. The kept meshes then begin with
+    /// those that the mark's `under` counts, so marks that held when this one was made hold; after a mark that a call of
+    /// `mark` answered they are those. Takes no memory.
     fn back_to(&mut self, m: Mark)
         requires { MarkHolds beyond (kept self.old) m }
         ensures mesh { StandsFor (kept self.old) m (mesh self.new) }
-        ensures marks { BeginsWith (kept self.new) (take m.under (kept self.old)) };
+        ensures marks { BeginsWith (kept self.new) (take m.under (kept self.old)) }
+        ensures kept { m.under ≡ m.place + beyond →
+            kept self.new ≡ take m.under (kept self.old) };
 
     /// Gives up what is kept: nothing is said of marks made before. The mesh stays. Takes no memory.
     fn settle(&mut self)
