@@ -1,5 +1,5 @@
 -- What the call of an edit promises. `result` says what a done edit makes of a mesh, and `scaffold` on what it was tested.
-use Rattle.std.specs.Prelude.{⊤, ◌≡◌, ℕ, IfSome, IfOk, IfErr, Option, Result, Ok, Err}
+use Rattle.std.specs.Prelude.{⊤, ◌≡◌, ℕ, IfSome, IfOk, IfErr, List, Option, Result, Ok, Err}
 use Rattle.grid_base.specs.declared.NoMemory.{NoMemory}
 use Rattle.edit_base.specs.declared.answers.Change.{Change}
 use Rattle.edit_base.specs.declared.answers.Why.{Why}
@@ -26,6 +26,12 @@ mesh_after result m (No why) = m
 abbrev pub mesh_after_call : (Mesh → Change → Mesh) → Mesh → Result Edit NoMemory → Mesh
 mesh_after_call result m (Ok edit) = mesh_after result m edit
 mesh_after_call result m (Err fault) = m
+
+-- after No and after want of memory the kept meshes are those before the call
+abbrev pub KeepsOnNo : Result Edit NoMemory → List Mesh → List Mesh → Type 0
+KeepsOnNo (Ok (Done change)) new old = ⊤
+KeepsOnNo (Ok (No why)) new old = new ≡ old
+KeepsOnNo (Err fault) new old = new ≡ old
 
 -- The motion of a done edit, where it has one: its scaffold is closed, and clear at each fraction, but the start or the end where two
 -- may touch there.

@@ -37,13 +37,16 @@ fn first_near(near: &Neighbourhood, e: &BoxedEdge) -> Option<PairName>
     first_failing_among(t.touch, t.together, t.depth, e, tested)
 }
 
-/// So many faces are few.
-const FEW: usize = 64;
+/// Among so many faces the one that runs an edge's way is sought fast.
+const FEW: usize = 1024;
+
+/// An edge is tested with a touched face in no less time than it takes to look whether each of so many faces runs its way.
+const LOOKS_A_TEST: usize = 16;
 
 /// Whether it is asked first whether a face runs the way of an edge that was turned, and the edge is tested then: among
 /// few faces that takes less time, and so it does where an edge is tested with many. Only speed depends on it.
 fn asks_first(near: &Neighbourhood) -> bool {
-    near.faces.len() <= FEW || near.touched.len() > FEW
+    near.faces.len() <= FEW || near.faces.len() / LOOKS_A_TEST <= near.touched.len()
 }
 
 /// Whether the edge was turned, and one of the faces runs its way.

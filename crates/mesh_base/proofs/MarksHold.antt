@@ -1,5 +1,5 @@
 -- Earlier marks hold, and stand for the same meshes.
-use Rattle.std.proofs.Common.{◌≡◌, ℕ, zero, suc, ◌<◌, ◌≤◌, List, [], ◌∷◌, Some, length, take, slice_get, refl, sym, ap, subst, ◌∙◌, arith}
+use Rattle.std.proofs.Common.{◌≡◌, ℕ, zero, suc, ◌+◌, ◌<◌, ◌≤◌, List, [], ◌∷◌, Some, length, take, slice_get, refl, sym, ap, subst, ◌∙◌, arith}
 use Rattle.std.proofs.lemmas.List.{length-take, take_all}
 use Rattle.std.proofs.lemmas.Option.{slice_get_within}
 use Rattle.mesh_base.specs.Mesh.{Mesh}
@@ -43,6 +43,11 @@ holds_along beyond new old mark h is = record { kept_there = let e = fits new ol
 pub begins_after_return : (returned newest old : List Mesh) (under : ℕ) → under ≡ length old → BeginsWith newest old → BeginsWith returned (take under newest) → BeginsWith returned old
 begins_after_return returned newest old under e h h' =
     let front : take under newest ≡ old = ap (λ n. take n newest) e ∙ h in subst (λ kept. BeginsWith returned kept) front h'
+
+-- where it leaves just those, what is kept is what was kept
+pub kept_after_return : (returned newest old : List Mesh) (mark : Mark) (beyond : ℕ) → mark.under ≡ length old → mark.under ≡ mark.place + beyond →
+    BeginsWith newest old → (mark.under ≡ mark.place + beyond → returned ≡ take mark.under newest) → returned ≡ old
+kept_after_return returned newest old mark beyond e there h is = is there ∙ ap (λ n. take n newest) e ∙ h
 
 -- a mark stands for one mesh
 pub stands_for_one : (kept : List Mesh) (mark : Mark) (m n : Mesh) → StandsFor kept mark m → StandsFor kept mark n → m ≡ n
