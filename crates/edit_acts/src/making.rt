@@ -1,4 +1,4 @@
-//! Faces made one after another, and midpoints.
+//! Vertices and faces made where no limit is in the way, and midpoints.
 ghost use Rattle.std.specs.Prelude.{◌≡◌, ◌≤◌, ◌+◌, ◌*ℤ◌, ◌+ℤ◌, map, length, unsigned_abs, OnOk, OnErr};
 ghost use Rattle.grid_base.specs.declared.TheConstants.{BOX, HALF_MAX};
 ghost use Rattle.grid_base.specs.Triples.{plus, IsWithin};

@@ -1,4 +1,4 @@
-//! A table by ids that rise: one list with tombstones, found by binary search. What is taken out of it can be buried, so that it can be
+//! A table by ids that rise: one list with tombstones, found by binary search. What is taken out of it can be buried, and is
 //! put back with no memory.
 #![tactic(auto)]
 

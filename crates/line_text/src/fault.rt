@@ -21,7 +21,7 @@ pub enum TextWhy {
     /// Fewer words than the line needs.
     #[error("too few words")]
     Short = 4,
-    /// More words than the line has.
+    /// More words than the line may have.
     #[error("too many words")]
     Long = 5,
     /// A first word that begins no line.
@@ -48,7 +48,7 @@ pub struct TextFault {
     pub why: TextWhy,
 }
 
-/// Why a text was not read: there was no memory (1), or a line is outside the grammar (2).
+/// Why a text was not read: there was no memory, or a line is outside the grammar.
 #[derive(Clone, Copy, Debug, PartialEq, Eq, Error)]
 pub enum ReadFault {
     /// There was no memory for what was read.

@@ -3,7 +3,7 @@ use grid_base::Items;
 use line_text::TextFault;
 use mesh_base::{FileWord, How, Ids, PairName, ShapeFault, ShiftOf, UseWhy, VertexId};
 
-/// Why a run ended before its directives were all run.
+/// Why a run was refused: a file can't be read or is not as it has to be, or a directive can't be run.
 #[derive(Clone, Copy, Debug, PartialEq, Eq)]
 pub enum Refusal {
     /// A file has more bytes than may be read, `seen` or more of them.
@@ -53,9 +53,9 @@ pub enum LogLine {
     Group,
     /// The group that began last ends, and is kept whole or taken back whole.
     Close { kept: bool },
-    /// The run ended before its directives were all run.
+    /// The run is refused, and ends here.
     Refused(Refusal),
-    /// The directives were all run.
+    /// The run ends as it should.
     End,
 }
 

@@ -14,7 +14,7 @@ pub enum FileWord {
 /// Why a directive is refused, with the least vertex that it is refused for, if it is refused for one.
 #[derive(Clone, Copy, Debug, PartialEq, Eq)]
 pub enum UseWhy {
-    /// A shift names a vertex that doesn't live.
+    /// A directive names a vertex that doesn't live.
     NoVertex { v: u32 },
     /// The summed shift has a component above its limit.
     ShiftRange { v: u32 },

@@ -8,11 +8,11 @@ use grid_base::{Point, Shift};
 use mesh_plain::FieldName;
 use std::marker::Model;
 
-/// Fields that shifts may be asked of, by distinct names. The number of a field is the place of its name, from 0. One closure
-/// answers for all of them: for a number and a point, the shift there.
+/// Fields that shifts may be asked of, by distinct names. The number of a field is the place of its name, from 0. One
+/// closure answers for all of them: for a number and a point, the shift there.
 ///
-/// A contract sees them as the names, the reach and the closure. That the closure may be asked for each of them, and that each
-/// component of its answers has at most the size `reach`, is a condition of each call (`IsWellKept`).
+/// A contract sees them as the names, the reach and the closure. That the closure may be asked for each of them, and that
+/// each component of its answers has at most the size `reach`, is a condition of each call that asks it (`IsWellKept`).
 #[derive(Drop)]
 pub struct Fields<F> {
     names: ArrayVec<FieldName, FIELDS_MAX>,

@@ -1,5 +1,5 @@
-//! A mesh of triangles in ordered maps, and whether lists of points and faces are of good shape. Passes on all of
-//! mesh_base, so that a user needs this crate alone.
+//! A mesh of triangles in ordered maps, and whether lists of points and faces are of good shape. Passes on what of mesh_base
+//! its user names.
 #![tactic(auto)]
 
 mod balance;

@@ -15,9 +15,9 @@ pub enum Directive {
     SetHalvings(u8),
     /// Add the shift to the asked shift of one vertex.
     ShiftOne { v: u32, by: Shift },
-    /// Add the shift to the asked shift of every live vertex.
+    /// Add the shift to the asked shift of every live vertex that is not solid.
     ShiftAll { by: Shift },
-    /// Add what the field of this name answers at each live vertex to the vertex's asked shift.
+    /// Add what the field of this name answers at each live vertex that is not solid to the vertex's asked shift.
     Drive { name: FieldName },
     /// Mark a vertex as solid from here on, and ask no shift of it.
     Solid { v: u32 },

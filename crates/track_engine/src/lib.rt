@@ -1,6 +1,6 @@
-//! The engine: a mesh, the shifts that are asked of its vertices, and the settings, which directives change one after another. Each
-//! directive writes its lines to a log, from which all meshes can be replayed, and saves meshes to a desk. Directives between `group` and
-//! `close` are kept whole or taken back whole, and a vertex that is made solid never moves.
+//! The engine: a mesh, the shifts that are asked of its vertices, and the settings, which directives change one after another.
+//! Each directive writes its lines to a log, from which all meshes can be replayed, and saves meshes to a desk. Directives
+//! between `group` and `close` are kept whole or taken back whole, and a solid vertex does not move.
 //!
 //! The tracker is that of Brochu and Bridson, "Robust topological operations for dynamic explicit surfaces" (2009).
 #![tactic(auto)]
