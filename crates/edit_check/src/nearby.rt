@@ -1,7 +1,7 @@
 //! Faces with their boxes, by their ids.
 ghost use Rattle.std.specs.Prelude.{◌≡◌, ◌++◌, IfOk, OnOk};
 ghost use Rattle.edit_base.specs.Scaffold.{motion_by};
-ghost use Rattle.pair_paths.specs.Moving.{moving_face, live_face};
+ghost use Rattle.pair_paths.specs.Moving.{live_face};
 ghost use Rattle.edit_check.specs.Boxed.{faces_in};
 ghost use Rattle.edit_check.specs.Nearby.{as_list, faces_among, near_faces};
 
@@ -10,21 +10,8 @@ use crate::boxing::boxed_face;
 use crate::moves::Moved;
 use grid_base::{Extent, Items, NoMemory};
 use mesh_base::{Corners, FaceId, Surface};
-use pair_paths::{MovingFace, Paths};
+use pair_paths::{MovingFace, face_with_paths};
 use std::alloc::Global;
-
-/// A face of these corners, with their paths.
-fn face_with_paths<P: Paths>(paths: &P, face: FaceId, corners: &Corners) -> MovingFace
-    ensures { result ≡ moving_face (P.motion paths.now) (face, corners.now) }
-{
-    MovingFace {
-        face,
-        corners: *corners,
-        c: paths.path_of(corners.first),
-        d: paths.path_of(corners.second),
-        e: paths.path_of(corners.third),
-    }
-}
 
 /// A face, with the paths of its corners, if it is live.
 fn face_along<S: Surface>(paths: &Moved<S>, f: FaceId) -> Option<MovingFace>

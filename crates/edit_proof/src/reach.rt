@@ -6,11 +6,10 @@ ghost use Rattle.grid_base.specs.Extents.{IsIn};
 ghost use Rattle.mesh_base.specs.Sides.{above, faces_at};
 ghost use Rattle.edit_check.specs.Reach.{HasFace, Reaches, ReachesTouched, Widens};
 
-use crate::faces::face_with_paths;
 use grid_base::{Extent, NoMemory};
 use mesh_base::{Corners, FaceId, Surface, VertexId, live_faces_above};
 use motion_proof::Going;
-use pair_paths::HasBounds;
+use pair_paths::{HasBounds, face_with_paths};
 use std::alloc::Global;
 
 /// A box that has the face where it stands, and all its way.

@@ -15,7 +15,7 @@ mod refusals;
 mod values;
 
 pub use log_line::{Log, LogLine, Refusal};
-pub use printing::print_line;
+pub use printing::{print_line, why_word};
 pub use reading::read_log;
 pub use values::pair_at;
 

@@ -22,7 +22,8 @@ fn file_word(file: FileWord) -> &'static [u8]
     }
 }
 
-fn why_word(why: TextWhy) -> &'static [u8]
+/// The word of a text's reason.
+pub fn why_word(why: TextWhy) -> &'static [u8]
     ensures { result.now ≡ spec.why_word why }
 {
     match why {

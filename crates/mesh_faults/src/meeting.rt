@@ -1,5 +1,5 @@
 //! All edges and faces that meet.
-ghost use Rattle.std.specs.Prelude.{◌≡◌, ℕ, ◌++◌, take, Some, slice_get, IfOk, OnOk};
+ghost use Rattle.std.specs.Prelude.{◌≡◌, ℕ, ◌++◌, take, slice_get, IfOk, OnOk};
 ghost use Rattle.std.specs.List.{flat_map};
 ghost use Rattle.grid_decided.specs.Decided.{meets_exactly};
 ghost use Rattle.mesh_base.specs.Failing.{first_meeting};
@@ -7,76 +7,17 @@ ghost use Rattle.mesh_base.specs.Placements.{rest_positions};
 ghost use Rattle.pair_paths.specs.Bounds.{AreBoxes};
 ghost use Rattle.pair_paths.specs.FaceBoxes.{IsFaceBoxIn};
 ghost use Rattle.pair_paths.specs.Moving.{moving_edge};
-ghost use Rattle.pair_paths.specs.Paths.{at_rest};
-ghost use Rattle.pair_scan.specs.Scan.{meets_face, met_with};
 ghost use Rattle.mesh_faults.specs.MeetingPairs.{meeting_pairs, AreMeeting, meeting_at, meeting_among};
 
 use box_tree::BoxTree;
-use grid_base::{Items, NoMemory, Wide};
-use grid_meets::meets;
-use mesh_base::{PairName, Surface, VertexId, edges_in_order, point_of};
+use grid_base::{Items, NoMemory};
+use mesh_base::{PairName, Surface, VertexId, edges_in_order};
 use pair_paths::{
-    Frame, HasBoundsIn, KnownPaths, MovingEdge, MovingFace, Path, Paths, Position, boxes_in,
-    moving_edge, moving_faces, name_of, paths_of, share_a_vertex, starts_of,
+    Frame, HasBoundsIn, KnownPaths, MovingEdge, MovingFace, Paths, boxes_in, moving_edge,
+    moving_faces, paths_of,
 };
+use pair_scan::{AtRest, met_at, resting_frame};
 use std::alloc::Global;
-
-// A mesh at rest.
-#[derive(Drop)]
-struct AtRest<'a, S: Surface> {
-    mesh: &'a S,
-}
-
-impl<'a, S: Surface> Paths for AtRest<'a, S> {
-    ghost motion = { λ s. at_rest (S.mesh s.mesh.now) };
-
-    fn path_of(&self, v: VertexId) -> Path {
-        let here = Position::of(point_of(self.mesh, v).wide());
-        Path {
-            start: here,
-            end: here,
-        }
-    }
-}
-
-// The frame that stays where it is.
-fn resting_frame() -> Frame {
-    Frame {
-        end: Position::of(Wide { x: 0, y: 0, z: 0 }),
-    }
-}
-
-// Whether the edge and the face share no vertex and meet.
-fn meets_face(e: &MovingEdge, f: &MovingFace) -> bool
-    ensures { result ≡ meets_face e.now f.now }
-{
-    if share_a_vertex(e, f) {
-        return false;
-    }
-    let [a, b, c, d, third] = starts_of(e, f);
-    meets(a, b, c, d, third)
-}
-
-// The edge with the face, where they share no vertex and meet.
-fn met_with(e: &MovingEdge, f: &MovingFace) -> Option<PairName>
-    ensures { result ≡ met_with e.now (Some f.now) }
-{
-    if meets_face(e, f) {
-        Some(name_of(e, f))
-    } else {
-        None
-    }
-}
-
-// The same of the face of this number.
-fn met_at(e: &MovingEdge, faces: &[MovingFace], k: u64) -> Option<PairName>
-    ensures { result ≡ met_with e.now (slice_get faces.now k) }
-{
-    match faces.get(k as usize) {
-        Some(f) => met_with(e, f),
-        None => None,
-    }
-}
 
 // Puts the edge with those of the faces of these numbers that it meets at the end.
 fn put_met(

@@ -38,13 +38,13 @@ pub fn moving_edge<P: Paths>(paths: &P, a: VertexId, b: VertexId) -> MovingEdge
     }
 }
 
-/// A face of these corners.
-fn with_paths<P: Paths>(paths: &P, face: FaceId, corners: Corners) -> MovingFace
-    ensures { result ≡ moving_face (P.motion paths.now) (face, corners) }
+/// A face of these corners, with their paths.
+pub fn face_with_paths<P: Paths>(paths: &P, face: FaceId, corners: &Corners) -> MovingFace
+    ensures { result ≡ moving_face (P.motion paths.now) (face, corners.now) }
 {
     MovingFace {
         face,
-        corners,
+        corners: *corners,
         c: paths.path_of(corners.first),
         d: paths.path_of(corners.second),
         e: paths.path_of(corners.third),
@@ -56,7 +56,7 @@ fn moving_face<S: Surface, P: Paths>(mesh: &S, paths: &P, f: FaceId) -> Option<M
     ensures { result ≡ live_face (S.mesh mesh.now) (P.motion paths.now) f }
 {
     match mesh.corners(f) {
-        Some(ids) => Some(with_paths(paths, f, Corners::of(ids))),
+        Some(ids) => Some(face_with_paths(paths, f, &Corners::of(ids))),
         None => None,
     }
 }

@@ -5,7 +5,7 @@ use pair_paths::{Frame, MovingFace, Position};
 use std::alloc::Global;
 
 /// The frame that stays where it is.
-pub(crate) fn resting_frame() -> Frame {
+pub fn resting_frame() -> Frame {
     Frame {
         end: Position::of(Wide { x: 0, y: 0, z: 0 }),
     }

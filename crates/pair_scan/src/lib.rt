@@ -17,7 +17,9 @@ mod views;
 
 pub use ends::end_in_box;
 pub use failing_pairs::{all_pass, failing};
+pub use frames::resting_frame;
 pub use lookup::place_of;
-pub use meeting::first_meeting;
+pub use meeting::{first_meeting, met_at};
+pub use motions::AtRest;
 pub use named::five_of;
 pub use scan::Pairs;

@@ -46,8 +46,8 @@ fn met_with(e: &MovingEdge, f: &MovingFace) -> Option<PairName>
     }
 }
 
-/// The same of the face of this number.
-fn met_at(e: &MovingEdge, faces: &[MovingFace], k: u64) -> Option<PairName>
+/// The edge with the face of this number in the list, where they share no vertex and meet.
+pub fn met_at(e: &MovingEdge, faces: &[MovingFace], k: u64) -> Option<PairName>
     ensures { result ≡ met_with e.now (slice_get faces.now k) }
 {
     match faces.get(k as usize) {

@@ -12,10 +12,10 @@ use grid_base::{Point, Shift, moved};
 use mesh_base::{ShiftOf, Surface, VertexId, point_of};
 use pair_paths::{Path, Paths, Position};
 
-/// A mesh at rest.
+/// A mesh at rest, as the paths of its vertices.
 #[derive(Drop)]
-pub(crate) struct AtRest<'a, S: Surface> {
-    pub(crate) mesh: &'a S,
+pub struct AtRest<'a, S: Surface> {
+    pub mesh: &'a S,
 }
 
 impl<'a, S: Surface> Paths for AtRest<'a, S> {

@@ -1,20 +1,16 @@
 ghost use Rattle.std.specs.Prelude.{◌≤◌, length, IfOk};
 ghost use Rattle.grid_base.specs.declared.TheConstants.{TEXT_MAX, DECIMALS_MAX};
-ghost use Rattle.line_text.specs.Faults.{Gives};
-ghost use Rattle.obj_text.specs.Views.{lists_view};
 ghost use Rattle.outside_io.specs.Outside.{OnlyLooks};
 ghost use Rattle.track_input.specs.Named.{mesh_name};
-ghost use Rattle.track_convert.specs.Formats.{lists_in};
 ghost use Rattle.track_check.specs.Finding.{Finds, Reads};
 
 use grid_base::NoMemory;
 use line_text::ReadFault;
 use log_text::Refusal;
 use mesh_plain::{FileWord, MeshLists};
-use obj_text::read_obj;
-use other_text::{read_off, read_ply};
 use outside_io::{Fetched, Outside, Stop};
 use std::alloc::Global;
+use track_convert::read_lists;
 use track_input::{Format, MeshFile, fetch_text};
 
 // What a mesh file gives.
@@ -24,24 +20,6 @@ pub(crate) enum Found {
     No(Refusal),
     // Lists, of whatever shape.
     Lists(MeshLists),
-}
-
-// Reads a text of a format.
-fn read_lists(
-    alloc: Global,
-    format: Format,
-    bytes: &[u8],
-    decimals: u8,
-) -> Result<MeshLists, ReadFault>
-    requires small { length bytes.now ≤ TEXT_MAX }
-    requires places { decimals ≤ DECIMALS_MAX }
-    ensures { Gives lists_view result (lists_in format decimals bytes.now) }
-{
-    match format {
-        Format::Obj => read_obj(alloc, bytes, decimals),
-        Format::Off => read_off(alloc, bytes, decimals),
-        Format::Ply => read_ply(alloc, bytes, decimals),
-    }
 }
 
 // What a text gives.

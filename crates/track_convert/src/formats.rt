@@ -12,8 +12,9 @@ use other_text::{off_of, ply_of, read_off, read_ply};
 use std::alloc::Global;
 use track_input::Format;
 
-// Reads a text of a format.
-pub(crate) fn read_lists(
+/// The lists that a text of a format writes, its points with so many decimals. Refuses the first line outside the grammar, and
+/// where there is no memory.
+pub fn read_lists(
     alloc: Global,
     format: Format,
     bytes: &[u8],

@@ -6,3 +6,4 @@ mod finding;
 mod formats;
 
 pub use converting::convert;
+pub use formats::read_lists;

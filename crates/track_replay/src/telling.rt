@@ -1,35 +1,18 @@
 //! Lines that a command tells.
 ghost use Rattle.std.specs.Prelude.{◌≡◌, ◌<◌, ◌∷◌, [], codes, decimal, length, Some, IfOk, OnErr};
 ghost use Rattle.line_text.specs.WrittenLines.{Appends, line_of_words};
-ghost use Rattle.log_text.specs.Lines.{why_word, pair_words};
+ghost use Rattle.log_text.specs.Lines.{pair_words};
 ghost use Rattle.track_replay.specs.Refused.{refused_text, motion_text, verdict_words};
 ghost use Rattle.track_replay.specs.Telling.{Tells};
 
 use crate::refusal::LogRefusal;
 use grid_base::NoMemory;
-use line_text::{Field, TextFault, TextWhy, put_line};
-use log_text::{LogLine, print_line};
+use line_text::{Field, TextFault, put_line};
+use log_text::{LogLine, print_line, why_word};
 use mesh_plain::PairName;
 use motion_proof::Verdict;
 use outside_io::{Outside, Stop};
 use std::alloc::Global;
-
-// The word of a text's reason.
-fn why_word(why: TextWhy) -> &'static [u8]
-    ensures { result.now ≡ why_word why }
-{
-    match why {
-        TextWhy::Number => b"number",
-        TextWhy::Corner => b"corner",
-        TextWhy::Range => b"range",
-        TextWhy::Short => b"short",
-        TextWhy::Long => b"long",
-        TextWhy::Unknown => b"unknown",
-        TextWhy::Continuation => b"continuation",
-        TextWhy::Nesting => b"nesting",
-        TextWhy::Order => b"order",
-    }
-}
 
 // Appends the line that refuses a line of a log for its spelling.
 fn print_log(fault: TextFault, into: &mut Vec<u8>) -> Result<(), NoMemory>
