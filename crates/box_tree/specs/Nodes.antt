@@ -1,4 +1,5 @@
--- Trees of boxes. A list of nodes is read from its end, where each node comes before those below it.
+-- Trees of boxes. A list of nodes is read from its end, where each
+-- node comes before those below it.
 use Rattle.std.specs.Prelude.{◌≡◌, ℕ, ◌≤◌, Bool, true, cond, nat_eq, List, [], ◌∷◌, length, take, Option, slice_get, option_map}
 use Rattle.std.specs.List.{filter, IsDistinct}
 use Rattle.std.specs.Map.{keys_of}

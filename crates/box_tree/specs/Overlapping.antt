@@ -28,4 +28,6 @@ overlapping_apart m at a b = keys_of (filter (λ e. overlaps_apart at a b e.1) (
 
 -- the item has a box that has a common point with this one, and neither of the two labels
 abbrev pub IsItemApart : LabelledBoxes → Extent → ℕ → ℕ → ℕ → Type 0
-IsItemApart m at a b i = IsSomeAnd (map.get m i) (λ e. HaveCommonPoint e.at at × ((has_label e.labels a ≡ false) × (has_label e.labels b ≡ false)))
+IsItemApart m at a b i =
+    IsSomeAnd (map.get m i) (λ e. HaveCommonPoint e.at at
+    × ((has_label e.labels a ≡ false) × (has_label e.labels b ≡ false)))

@@ -12,9 +12,11 @@ use Rattle.track_engine.specs.Effects.{ExpectedLog, log_from}
 
 -- the log of the directives of the generated job, from its mesh on, where no field is stored
 abbrev pub log_of_cubes : ℕ → ℕ → ExpectedLog
-log_of_cubes n key = log_from (without_fields (cubes_steps n key)) (cubes_steps n key) (start (cubes_mesh n))
+log_of_cubes n key =
+    log_from (without_fields (cubes_steps n key)) (cubes_steps n key) (start (cubes_mesh n))
 
--- A line tells neither a pair that does not pass, nor a step that is not taken whole, nor a refusal.
+-- A line tells neither a pair that does not pass, nor a step that
+-- is not taken whole, nor a refusal.
 abbrev pub MovesWhole : LogLine → Type 0
 MovesWhole (Hit pair) = ⊥
 MovesWhole (Moved how) = how ≡ Whole

@@ -5,7 +5,8 @@ use Rattle.mesh_base.specs.Mesh.{Mesh, IsLiveVertex, HasCorners, AreDifferent}
 use Rattle.mesh_base.specs.Sides.{follows}
 use Rattle.edit_base.specs.Edges.{Edge, opposite_vertex}
 
--- One face runs each way, they are two, each with its opposite vertex; and the ends and the opposite vertices are live, and apart but for the two opposite vertices.
+-- One face runs each way, they are two, each with its opposite vertex; and the ends and the
+-- opposite vertices are live, and apart but for the two opposite vertices.
 pub record IsBeside (m : Mesh) (s : Edge) : Type 0 where
   pub left_corners : Corners
   pub right_corners : Corners

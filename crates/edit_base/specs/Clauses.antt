@@ -1,4 +1,5 @@
--- What the call of an edit promises. `result` says what a done edit makes of a mesh, and `scaffold` on what it was tested.
+-- What the call of an edit promises. `result` says what a done edit makes of a mesh, and
+-- `scaffold` on what it was tested.
 use Rattle.std.specs.Prelude.{⊤, ◌≡◌, ℕ, IfSome, IfOk, IfErr, List, Option, Result, Ok, Err}
 use Rattle.grid_base.specs.declared.NoMemory.{NoMemory}
 use Rattle.edit_base.specs.declared.answers.Change.{Change}
@@ -33,10 +34,11 @@ KeepsOnNo (Ok (Done change)) new old = ⊤
 KeepsOnNo (Ok (No why)) new old = new ≡ old
 KeepsOnNo (Err fault) new old = new ≡ old
 
--- The motion of a done edit, where it has one: its scaffold is closed, and clear at each fraction, but the start or the end where two
--- may touch there.
+-- The motion of a done edit, where it has one: its scaffold is closed, and clear at each fraction,
+-- but the start or the end where two may touch there.
 abbrev pub MovesClear : (Mesh → Change → Option Scaffold) → Mesh → Change → Type 0
-MovesClear scaffold m change = IfSome (scaffold m change) (λ s. IsClosed s.mesh × IsClearBut s.touch s.mesh (motion_of s))
+MovesClear scaffold m change =
+    IfSome (scaffold m change) (λ s. IsClosed s.mesh × IsClearBut s.touch s.mesh (motion_of s))
 
 -- the same of an answer; one that does nothing promises nothing
 abbrev pub MovesClearOnDone : (Mesh → Change → Option Scaffold) → Mesh → Edit → Type 0

@@ -19,9 +19,11 @@ corners_at m f = unwrap_or (finite.get m.faces f) (record { first = 0; second = 
 
 -- the corner that is neither u nor v, where v follows u
 abbrev pub opposite_vertex : Corners → ℕ → ℕ → ℕ
-opposite_vertex c u v = if c.first == u then c.third else (if c.second == u then c.first else c.second)
+opposite_vertex c u v =
+    if c.first == u then c.third else (if c.second == u then c.first else c.second)
 
--- An edge that is not crowded: its ends, the face that runs a to b with its opposite vertex c, and the face that runs b to a with its opposite vertex d.
+-- An edge that is not crowded: its ends, the face that runs a to b with its opposite vertex c, and
+-- the face that runs b to a with its opposite vertex d.
 pub record Edge : Type 0 where
   pub a : ℕ
   pub b : ℕ

@@ -20,12 +20,15 @@ faces_in boxed = map (λ f. f.face) boxed
 
 -- the name of the first face that fails with the edge to do what is required, with the edge
 abbrev pub first_failing_boxed : Touch → List ℕ → ℕ → MovingEdge → List BoxedFace → Option PairName
-first_failing_boxed touch together depth e faces = option_map (λ f. name_with e f.face) (find (λ f. fails touch together depth e f.face) faces)
+first_failing_boxed touch together depth e faces =
+    option_map (λ f. name_with e f.face) (find (λ f. fails touch together depth e f.face) faces)
 
 -- the edge is a side of one of the faces
 abbrev pub is_side_of_boxed : ℕ → ℕ → List BoxedFace → Bool
-is_side_of_boxed a b faces = list_any (λ f. has_corner f.face.corners a && has_corner f.face.corners b) faces
+is_side_of_boxed a b faces =
+    list_any (λ f. has_corner f.face.corners a && has_corner f.face.corners b) faces
 
 -- those of the faces that are touched
 abbrev pub touched_boxed : List Move → List ℕ → ℕ → List BoxedFace → List BoxedFace
-touched_boxed moves together fresh_from faces = filter (λ f. is_touched moves together fresh_from f.face) faces
+touched_boxed moves together fresh_from faces =
+    filter (λ f. is_touched moves together fresh_from f.face) faces

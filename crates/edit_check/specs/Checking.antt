@@ -13,8 +13,10 @@ use Rattle.edit_base.specs.Scaffold.{Scaffold, is_as_required}
 
 -- the mesh, with the moves, and the vertices of which two may touch
 abbrev pub scaffold_by : Mesh → List Move → Touch → List ℕ → Scaffold
-scaffold_by m moves touch together = record { mesh = m; moves = moves; touch = touch; together = together }
+scaffold_by m moves touch together =
+    record { mesh = m; moves = moves; touch = touch; together = together }
 
 -- the name of the first of the pairs that is not as required
 abbrev pub first_of : Scaffold → ℕ → List Pair → Option PairName
-first_of s depth ps = option_map (λ p. p.name) (find (λ p. not (is_as_required meets_exactly s depth p)) ps)
+first_of s depth ps =
+    option_map (λ p. p.name) (find (λ p. not (is_as_required meets_exactly s depth p)) ps)

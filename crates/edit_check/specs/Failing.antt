@@ -21,20 +21,25 @@ pair_passes depth p = passes meets_exactly depth (positions_of p.start) (positio
 
 -- it does what is required of a pair of which each member holds a vertex that may touch
 abbrev pub pair_meets_contact_rule : Touch → ℕ → MotionPair → Bool
-pair_meets_contact_rule touch depth p = meets_contact_rule meets_exactly touch depth (positions_of p.start) (positions_of p.end)
+pair_meets_contact_rule touch depth p =
+    meets_contact_rule meets_exactly touch depth (positions_of p.start) (positions_of p.end)
 
 -- they do what is required of them, where they are a pair
 abbrev pub do_as_required : Touch → List ℕ → ℕ → MovingEdge → MovingFace → Bool
 do_as_required touch together depth e f =
-    if joins_contacts together (pair_with e f) then meets_contact_rule meets_exactly touch depth (starts e f) (ends e f) else passes meets_exactly depth (starts e f) (ends e f)
+    if joins_contacts together (pair_with e f)
+    then meets_contact_rule meets_exactly touch depth (starts e f) (ends e f)
+    else passes meets_exactly depth (starts e f) (ends e f)
 
 -- they are a pair, and do not do what is required of them
 abbrev pub fails : Touch → List ℕ → ℕ → MovingEdge → MovingFace → Bool
-fails touch together depth e f = not (have_a_vertex_in_common e f) && not (do_as_required touch together depth e f)
+fails touch together depth e f =
+    not (have_a_vertex_in_common e f) && not (do_as_required touch together depth e f)
 
 -- the name of the first face that fails with the edge to do what is required, with the edge
 abbrev pub first_failing_among : Touch → List ℕ → ℕ → MovingEdge → List MovingFace → Option PairName
-first_failing_among touch together depth e faces = option_map (name_with e) (find (λ f. fails touch together depth e f) faces)
+first_failing_among touch together depth e faces =
+    option_map (name_with e) (find (λ f. fails touch together depth e f) faces)
 
 -- the edge is a side of one of the faces
 abbrev pub is_side_of_some : ℕ → ℕ → List MovingFace → Bool

@@ -35,4 +35,5 @@ is_run_if_turned n is_turned e = is_turned && is_run_by_some e.a e.b n.faces.now
 
 -- what is found once the edge is looked at, unless it was turned, and a face runs its way
 abbrev pub with_edge_there : Neighbourhood → Bool → Option PairName → MovingEdge → Option PairName
-with_edge_there n is_turned found e = if is_run_if_turned n is_turned e then found else with_edge (first_there n) found e
+with_edge_there n is_turned found e =
+    if is_run_if_turned n is_turned e then found else with_edge (first_there n) found e

@@ -1,4 +1,5 @@
--- Faces that go in a motion, a box that has the touched ones, and edges that are apart from the box.
+-- Faces that go in a motion, a box that has the touched ones, and
+-- edges that are apart from the box.
 use Rattle.std.specs.Prelude.{◌≡◌, false, List, None}
 use Rattle.std.specs.List.{All}
 use Rattle.grid_base.specs.declared.Extent.{Extent}
@@ -21,7 +22,8 @@ abbrev pub FaceGoes : Motion → MovingFace → Type 0
 FaceGoes w f = f ≡ moving_face w (f.face, f.corners)
 
 -- all of the faces go in the motion, and the box has all the way of each touched one
-pub record AreAlong (motion : Motion) (reach : Extent) (faces touched : List BoxedFace) : Type 0 where
+pub record AreAlong (motion : Motion) (reach : Extent)
+    (faces touched : List BoxedFace) : Type 0 where
   pub all_go : All (λ f. FaceGoes motion f.face) faces
   pub touched_go : All (λ f. FaceGoes motion f.face) touched
   pub reached : All (λ f. HoldsFace f.face reach) touched
@@ -29,9 +31,11 @@ pub record AreAlong (motion : Motion) (reach : Extent) (faces touched : List Box
 -- no pair of the edge is found, if it has a box apart from the one that has the touched faces
 abbrev pub HasNoneApart : Terms → Extent → List BoxedFace → List BoxedFace → MovingEdge → Type 0
 HasNoneApart t reach faces touched e =
-    (box : Extent) → HoldsEdge e box → overlaps reach box ≡ false → first_near t faces touched e ≡ None
+    (box : Extent) → HoldsEdge e box → overlaps reach box ≡ false →
+    first_near t faces touched e ≡ None
 
 -- the same of each edge that is looked at along some of the faces
-abbrev pub HaveNoneApart : Terms → Extent → List BoxedFace → List BoxedFace → List BoxedFace → Type 0
+abbrev pub HaveNoneApart : Terms → Extent → List BoxedFace → List BoxedFace → List BoxedFace →
+    Type 0
 HaveNoneApart t reach faces touched some =
     All (λ f. All (HasNoneApart t reach faces touched) (edges_of faces f.face)) some

@@ -41,20 +41,25 @@ old_ones fresh_from ids = filter (λ f. nat_lt f fresh_from) ids
 
 -- the same of the old faces at a vertex
 abbrev pub ReachesAt : Mesh → List Move → ℕ → Option Extent → ℕ → Type 0
-ReachesAt m moves fresh_from reach v = All (Reaches m moves reach) (old_ones fresh_from (faces_at m v))
+ReachesAt m moves fresh_from reach v =
+    All (Reaches m moves reach) (old_ones fresh_from (faces_at m v))
 
 -- the same of the old faces at each vertex that moves
 abbrev pub ReachesMoves : Mesh → List Move → ℕ → Option Extent → Type 0
-ReachesMoves m moves fresh_from reach = All (λ move. ReachesAt m moves fresh_from reach move.v) moves
+ReachesMoves m moves fresh_from reach =
+    All (λ move. ReachesAt m moves fresh_from reach move.v) moves
 
 -- the same of each touched face
 abbrev pub ReachesTouched : Mesh → List Move → List ℕ → ℕ → Option Extent → Type 0
 ReachesTouched m moves together fresh_from reach =
-    (f : ℕ) (c : Corners) → HasCorners m f c → is_touched moves together fresh_from (moving_face (motion_by m moves) (f, c)) ≡ true → HasFaceIn m moves (f, c) reach
+    (f : ℕ) (c : Corners) → HasCorners m f c →
+    is_touched moves together fresh_from (moving_face (motion_by m moves) (f, c)) ≡ true →
+    HasFaceIn m moves (f, c) reach
 
 -- where there is the one box, there is the other, and it has what the one has
 abbrev pub Widens : Option Extent → Option Extent → Type 0
-Widens old new = (box : Extent) → old ≡ Some box → (wide : Extent) × ((new ≡ Some wide) × ((p : Triple) → IsIn box p → IsIn wide p))
+Widens old new = (box : Extent) → old ≡ Some box →
+    (wide : Extent) × ((new ≡ Some wide) × ((p : Triple) → IsIn box p → IsIn wide p))
 
 -- the face is near the box, if there is one
 abbrev pub is_face_in_reach : Mesh → Option Extent → ℕ → Bool

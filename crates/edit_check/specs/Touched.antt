@@ -13,7 +13,8 @@ is_moved moves v = is_some (move_of moves v)
 -- the face is new, or a corner of it moves or is one of those that may touch each other
 abbrev pub is_touched : List Move → List ℕ → ℕ → MovingFace → Bool
 is_touched moves together fresh_from f =
-    nat_le fresh_from f.face || is_moved moves f.corners.first || is_moved moves f.corners.second || is_moved moves f.corners.third
+    nat_le fresh_from f.face || is_moved moves f.corners.first || is_moved moves f.corners.second
+    || is_moved moves f.corners.third
     || list_any (λ v. has_corner f.corners v) together
 
 -- those of the faces that are touched

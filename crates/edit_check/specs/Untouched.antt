@@ -1,4 +1,5 @@
--- Which pairs a check need not look at: those of an old edge and an old face of which no vertex moves.
+-- Which pairs a check need not look at: those of an old edge and an
+-- old face of which no vertex moves.
 use Rattle.std.specs.Prelude.{◌≡◌, ℕ, ◌<◌, ◌⊎◌, IsTrue, List}
 use Rattle.std.specs.List.{All}
 use Rattle.std.proofs.Common.{None}
@@ -30,7 +31,8 @@ pub record IsUntouched (m : Mesh) (moves : List Move) (fresh_from : ℕ) (p : Pa
 
 -- no untouched pair meets where its vertices stand, in half units
 abbrev pub IsClearWhereUntouched : Mesh → List Move → ℕ → Type 0
-IsClearWhereUntouched m moves fresh_from = (p : Pair) → IsUntouched m moves fresh_from p → ¬ (MeetAt (positions (rest_positions_doubled m) p))
+IsClearWhereUntouched m moves fresh_from = (p : Pair) → IsUntouched m moves fresh_from p →
+    ¬ (MeetAt (positions (rest_positions_doubled m) p))
 
 -- the move begins and ends within the greatest size of a position in half units
 pub record MoveFits (move : Move) : Type 0 where

@@ -12,8 +12,8 @@ use Rattle.edit_base.specs.Reasons.{reason_if, first_reason, done_unless, is_ful
 use Rattle.edit_base.specs.Edges.{doubles_a_face}
 use Rattle.edit_collapse.specs.Collapse.{are_both_solid, collapse_mesh, collapse_point, collapse_scaffold, joined_faces}
 
--- by the ends in order: they are no edge, or both are solid, two faces would be equal up to rotation, the mesh would pass a limit, or a pair
--- is not as required
+-- by the ends in order: they are no edge, or both are solid, two faces would be equal up to
+-- rotation, the mesh would pass a limit, or a pair is not as required
 abbrev pub answer_of : (Positions → Bool) → Mesh → ℕ → ℕ → ℕ → Edit
 answer_of meets m a b depth =
     let at = collapse_point m a b in
@@ -31,10 +31,13 @@ answer_of meets m a b depth =
 abbrev pub collapse_answer : (Positions → Bool) → Mesh → ℕ → ℕ → ℕ → Edit
 collapse_answer meets m u v depth = answer_of meets m (min u v) (max u v) depth
 
--- what holds of each collapse: of whatever edge, tested by whatever test of meeting to whatever depth
+-- what holds of each collapse: of whatever edge, tested by whatever
+-- test of meeting to whatever depth
 abbrev pub OfCollapses : (Answer → Type 0) → Type 0
-OfCollapses law = (meets : Positions → Bool) (u v depth : ℕ) → law (λ m. collapse_answer meets m u v depth)
+OfCollapses law =
+    (meets : Positions → Bool) (u v depth : ℕ) → law (λ m. collapse_answer meets m u v depth)
 
 -- what holds of each collapse that is tested by an exact test of meeting
 abbrev pub OfExactCollapses : (Answer → Type 0) → Type 0
-OfExactCollapses law = (meets : Positions → Bool) → IsExact meets → (u v depth : ℕ) → law (λ m. collapse_answer meets m u v depth)
+OfExactCollapses law = (meets : Positions → Bool) → IsExact meets → (u v depth : ℕ) →
+    law (λ m. collapse_answer meets m u v depth)

@@ -35,25 +35,29 @@ least_opposite m c = option_map (λ e. e.0) (find (λ e. are_opposite c e.1) (fi
 -- the faces at a that have an opposite, rising, each with its least opposite
 abbrev pub with_opposites : Mesh → ℕ → List (ℕ × ℕ)
 with_opposites m a =
-    filter_map (λ e. option_map (λ opposite. (e.0, opposite)) (least_opposite m e.1)) (filter (λ e. has_corner e.1 a) (finite.entries m.faces))
+    filter_map (λ e. option_map (λ opposite. (e.0, opposite)) (least_opposite m e.1))
+    (filter (λ e. has_corner e.1 a) (finite.entries m.faces))
 
 -- the least face at a that has an opposite is dropped together with its least opposite
 abbrev pub with_one_cancelled : ℕ → Mesh → Mesh
-with_one_cancelled a m = option_map_or (λ two. without_faces m (two.0 ∷ two.1 ∷ [])) (slice_get (with_opposites m a) 0) m
+with_one_cancelled a m =
+    option_map_or (λ two. without_faces m (two.0 ∷ two.1 ∷ [])) (slice_get (with_opposites m a) 0) m
 
 -- the same, so many times
 abbrev pub cancelled_times : ℕ → ℕ → Mesh → Mesh
 cancelled_times zero a m = m
 cancelled_times (suc n) a m = cancelled_times n a (with_one_cancelled a m)
 
--- Third act: that is done until no face at a has an opposite. Each time two faces go, so as many times as there are faces are enough.
+-- Third act: that is done until no face at a has an opposite. Each time two faces go, so as many
+-- times as there are faces are enough.
 abbrev pub with_cancelled : Mesh → ℕ → Mesh
 with_cancelled m a = cancelled_times (finite.len m.faces) a m
 
 -- Third act, as it is said: from one mesh to another, until none is left.
 pub data Cancels (a : ℕ) : Mesh → Mesh → Type 0 where
   none_left : {m : Mesh} → with_opposites m a ≡ [] → Cancels a m m
-  one_more : {m n : Mesh} (f g : ℕ) → slice_get (with_opposites m a) 0 ≡ Some (f, g) → Cancels a (without_faces m (f ∷ g ∷ [])) n → Cancels a m n
+  one_more : {m n : Mesh} (f g : ℕ) → slice_get (with_opposites m a) 0 ≡ Some (f, g) →
+      Cancels a (without_faces m (f ∷ g ∷ [])) n → Cancels a m n
 
 -- the mesh after the third act
 abbrev pub joined_faces : Mesh → ℕ → ℕ → Mesh
@@ -65,7 +69,8 @@ has_face m v = is_some (slice_get (faces_at m v) 0)
 -- Fourth act: b and every vertex that had a face before and has none now are dropped.
 abbrev pub without_bare : Mesh → ℕ → Mesh → Mesh
 without_bare before b now =
-    fold without_vertex now (filter (λ v. (v == b) || (has_face before v && not (has_face now v))) (finite.keys now.points))
+    fold without_vertex now
+    (filter (λ v. (v == b) || (has_face before v && not (has_face now v))) (finite.keys now.points))
 
 -- neither end may move
 abbrev pub are_both_solid : Mesh → ℕ → ℕ → Bool
@@ -83,17 +88,21 @@ placed solid m v at = if solid then with_solid (with_point m v at) v else with_p
 abbrev pub placed_if_left : Bool → Mesh → ℕ → Point → Mesh
 placed_if_left solid m v at = if finite.contains_key m.points v then placed solid m v at else m
 
--- the result: a, if it is left, stands at the point, and is solid where an end was. Whatever is dropped loses its mark
+-- the result: a, if it is left, stands at the point, and is solid where an end was.
+-- Whatever is dropped loses its mark
 abbrev pub collapse_mesh : Mesh → ℕ → ℕ → Point → Mesh
-collapse_mesh m a b at = placed_if_left (has_solid_end m a b) (without_bare m b (joined_faces m a b)) a at
+collapse_mesh m a b at =
+    placed_if_left (has_solid_end m a b) (without_bare m b (joined_faces m a b)) a at
 
--- where the two ends go: the point of the end that is solid, and the midpoint, rounded down, where neither is
+-- where the two ends go: the point of the end that is solid, and the
+-- midpoint, rounded down, where neither is
 abbrev pub collapse_point : Mesh → ℕ → ℕ → Point
 collapse_point m a b =
     if is_solid m a then point_of m a
     else (if is_solid m b then point_of m b else floor_mid (point_of m a) (point_of m b))
 
--- the old mesh, with both ends going to a point. A pair of which one member holds a and the other holds b is to close.
+-- the old mesh, with both ends going to a point. A pair of which one member holds a
+-- and the other holds b is to close.
 abbrev pub collapse_scaffold : Mesh → ℕ → ℕ → Point → Scaffold
 collapse_scaffold m a b at =
     let end = times 2 (position_of at) in

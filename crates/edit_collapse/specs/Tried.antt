@@ -1,5 +1,6 @@
 -- When a collapse is tried, and what is left of the faces at its end.
-use Rattle.std.specs.Prelude.{◌≡◌, ◌≢◌, ℕ, zero, suc, ◌+◌, ◌==◌, is_some, if◌then◌else◌, ◌&&◌, not, false, true, List, ◌∷◌, [], slice_get, Bool}
+use Rattle.std.specs.Prelude.{◌≡◌, ◌≢◌, ℕ, zero, suc, ◌+◌, ◌==◌, is_some, if◌then◌else◌}
+use Rattle.std.specs.Prelude.{◌&&◌, not, false, true, List, ◌∷◌, [], slice_get, Bool}
 use Rattle.std.specs.Option.{option_map, option_map_or, unwrap_or}
 use Rattle.std.proofs.Common.{Option}
 use Rattle.std.specs.List.{filter, filter_map, flat_map, find, list_any}
@@ -11,7 +12,8 @@ use Rattle.mesh_base.specs.Pairs.{is_edge}
 use Rattle.edit_base.specs.Edges.{doubles_a_face, renamed, with_renamed}
 use Rattle.mesh_base.specs.Changes.{without_face, without_vertex, corner_list}
 use Rattle.edit_base.specs.Reasons.{is_full}
-use Rattle.edit_collapse.specs.Collapse.{are_both_solid, has_face, collapse_mesh, collapse_point, joined_faces, are_opposite, without_shared, with_joined}
+use Rattle.edit_collapse.specs.Collapse.{are_both_solid, has_face, collapse_mesh, collapse_point}
+use Rattle.edit_collapse.specs.Collapse.{joined_faces, are_opposite, without_shared, with_joined}
 
 -- the faces at the vertex that is left, after the third act
 abbrev pub left_at : Mesh → ℕ → ℕ → List (ℕ × Corners)
@@ -19,7 +21,8 @@ left_at m a b = filter (λ e. has_corner e.1 a) (finite.entries (joined_faces m 
 
 -- after the third act no two faces are equal up to rotation, which the faces at its end tell
 abbrev pub TellsDoubled : List (ℕ × Corners) → Bool → Type 0
-TellsDoubled left answer = (m : Mesh) (a b : ℕ) → IsSound m → a ≢ b → left ≡ left_at m a b → answer ≡ doubles_a_face (joined_faces m a b)
+TellsDoubled left answer = (m : Mesh) (a b : ℕ) → IsSound m → a ≢ b → left ≡ left_at m a b →
+    answer ≡ doubles_a_face (joined_faces m a b)
 
 -- the ends are an edge and not both solid, no face is doubled, and no limit passed
 pub record MayBeTried (m : Mesh) (a b : ℕ) : Type 0 where
@@ -35,7 +38,8 @@ opposite_in es c = option_map (λ e. e.0) (find (λ e. are_opposite c e.1) es)
 
 -- the least face of the list that has an opposite there, with its least opposite
 abbrev pub two_in : List (ℕ × Corners) → Option (ℕ × ℕ)
-two_in es = slice_get (filter_map (λ e. option_map (λ opposite. (e.0, opposite)) (opposite_in es e.1)) es) 0
+two_in es =
+    slice_get (filter_map (λ e. option_map (λ opposite. (e.0, opposite)) (opposite_in es e.1)) es) 0
 
 -- two faces less
 abbrev pub without_two : ℕ → ℕ → List (ℕ × Corners) → List (ℕ × Corners)
@@ -52,15 +56,18 @@ cancelled_in (suc n) es = cancelled_in n (one_cancelled_in es)
 
 -- the faces at a before the third act
 abbrev pub joined_at : Mesh → ℕ → ℕ → List (ℕ × Corners)
-joined_at m a b = filter (λ e. has_corner e.1 a) (finite.entries (with_joined (without_shared m a b) a b).faces)
+joined_at m a b =
+    filter (λ e. has_corner e.1 a) (finite.entries (with_joined (without_shared m a b) a b).faces)
 
 -- a face with its corners, as a list of one, if it is live and does not hold the vertex
 abbrev pub if_apart : Mesh → ℕ → ℕ → List (ℕ × Corners)
-if_apart m other f = option_map_or (λ c. if has_corner c other then [] else (f, c) ∷ []) (finite.get m.faces f) []
+if_apart m other f =
+    option_map_or (λ c. if has_corner c other then [] else (f, c) ∷ []) (finite.get m.faces f) []
 
 -- the faces that hold the one vertex and not the other, rising
 abbrev pub only_at : Mesh → ℕ → ℕ → List (ℕ × Corners)
-only_at m v other = filter (λ e. has_corner e.1 v && not (has_corner e.1 other)) (finite.entries m.faces)
+only_at m v other =
+    filter (λ e. has_corner e.1 v && not (has_corner e.1 other)) (finite.entries m.faces)
 
 -- corners under rising ids, with one vertex in another's place
 abbrev pub numbered : ℕ → ℕ → ℕ → List (ℕ × Corners) → List (ℕ × Corners)
@@ -81,7 +88,8 @@ others_than but vs = filter (λ v. not (v == but)) vs
 
 -- a vertex is dropped, if it is live and has no face
 abbrev pub without_if_bare : Mesh → ℕ → Mesh
-without_if_bare m v = if not (has_face m v) && is_some (finite.get m.points v) then without_vertex m v else m
+without_if_bare m v =
+    if not (has_face m v) && is_some (finite.get m.points v) then without_vertex m v else m
 
 -- the list has the id
 abbrev pub has_id_in : List (ℕ × Corners) → ℕ → Bool
@@ -91,7 +99,8 @@ has_id_in es f = list_any (λ e. e.0 == f) es
 abbrev pub with_id_used_up : Mesh → ℕ → Mesh
 with_id_used_up m f = record (without_face m f) { next_face = m.next_face + 1 }
 
--- a live face is dropped, and made again with one vertex in another's place if its new id is one of the list's; else the new id is used up
+-- a live face is dropped, and made again with one vertex in another's place if its new id is one of
+-- the list's; else the new id is used up
 abbrev pub with_joined_or_gone : ℕ → ℕ → List (ℕ × Corners) → Mesh → ℕ → Mesh
 with_joined_or_gone from to left m f =
     if is_some (finite.get m.faces f) then

@@ -24,10 +24,14 @@ IsAnswered m change = answer_to meets_exactly m DEPTH_MAX (asked_of change) ≡ 
 
 -- an edit that is done, tested to some depth, is done with the same change at each greater one
 abbrev pub EditsStayDone : Type 0
-EditsStayDone = (meets : Positions → Bool) (m : Mesh) (what : Asked) (change : Change) (depth deeper : ℕ) → depth ≤ deeper →
+EditsStayDone =
+    (meets : Positions → Bool) (m : Mesh) (what : Asked) (change : Change) (depth deeper : ℕ) →
+    depth ≤ deeper →
     answer_to meets m depth what ≡ Done change → answer_to meets m deeper what ≡ Done change
 
 -- an edit that is done is done again, with the same change, where the change says what is asked
 abbrev pub ChangesTellTheEdit : Type 0
-ChangesTellTheEdit = (meets : Positions → Bool) (m : Mesh) (what : Asked) (change : Change) (depth : ℕ) →
-    answer_to meets m depth what ≡ Done change → answer_to meets m depth (asked_of change) ≡ Done change
+ChangesTellTheEdit =
+    (meets : Positions → Bool) (m : Mesh) (what : Asked) (change : Change) (depth : ℕ) →
+    answer_to meets m depth what ≡ Done change →
+    answer_to meets m depth (asked_of change) ≡ Done change

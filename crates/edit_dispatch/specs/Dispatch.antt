@@ -44,10 +44,13 @@ scaffold_of m (Collapse a b at) = collapse_tested_on m (Collapse a b at)
 scaffold_of m (Zip a b e f turn) = None
 scaffold_of m (Pinch v at copies) = pinch_tested_on m (Pinch v at copies)
 
--- what holds of each edit: of whatever is asked for, tested by whatever test of meeting to whatever depth
+-- what holds of each edit: of whatever is asked for, tested by whatever
+-- test of meeting to whatever depth
 abbrev pub OfEdits : (Answer → Type 0) → Type 0
-OfEdits law = (meets : Positions → Bool) (depth : ℕ) (what : Asked) → law (λ m. answer_to meets m depth what)
+OfEdits law =
+    (meets : Positions → Bool) (depth : ℕ) (what : Asked) → law (λ m. answer_to meets m depth what)
 
 -- what holds of each edit that is tested by an exact test of meeting
 abbrev pub OfExactEdits : (Answer → Type 0) → Type 0
-OfExactEdits law = (meets : Positions → Bool) → IsExact meets → (depth : ℕ) (what : Asked) → law (λ m. answer_to meets m depth what)
+OfExactEdits law = (meets : Positions → Bool) → IsExact meets → (depth : ℕ) (what : Asked) →
+    law (λ m. answer_to meets m depth what)

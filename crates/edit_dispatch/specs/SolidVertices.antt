@@ -17,14 +17,17 @@ IsJoinedEnd _ v = ⊥
 -- From one mesh to the next, which a change makes of it:
 pub record SolidVerticesStay (m : Mesh) (change : Change) (next : Mesh) : Type 0 where
   -- a solid vertex that is left stands where it stood,
-  pub stand : (v : ℕ) → is_solid m v ≡ true → IsLiveVertex next v → finite.get next.points v ≡ finite.get m.points v
+  pub stand : (v : ℕ) → is_solid m v ≡ true → IsLiveVertex next v →
+      finite.get next.points v ≡ finite.get m.points v
   -- and is solid;
   pub remain : (v : ℕ) → is_solid m v ≡ true → IsLiveVertex next v → is_solid next v ≡ true
   -- no other one becomes solid, but the end that a collapse leaves;
-  pub marks : (v : ℕ) → IsLiveVertex m v → IsLiveVertex next v → ¬ (IsJoinedEnd change v) → is_solid next v ≡ is_solid m v
+  pub marks : (v : ℕ) → IsLiveVertex m v → IsLiveVertex next v → ¬ (IsJoinedEnd change v) →
+  is_solid next v ≡ is_solid m v
   -- and a new one is not solid
   pub none_new : (v : ℕ) → is_solid next v ≡ true → IsLiveVertex m v
 
 -- so it is with each done edit of a sound and closed mesh
 abbrev pub SolidVerticesAlwaysStay : Answer → Type 0
-SolidVerticesAlwaysStay answer = (m : Mesh) (change : Change) → IsSound m → IsClosed m → answer m ≡ Done change → SolidVerticesStay m change (edited m change)
+SolidVerticesAlwaysStay answer = (m : Mesh) (change : Change) → IsSound m → IsClosed m →
+    answer m ≡ Done change → SolidVerticesStay m change (edited m change)

@@ -13,8 +13,8 @@ use Rattle.edit_base.specs.Reasons.{reason_if, first_reason, done_unless, is_ful
 use Rattle.edit_base.specs.Edges.{edge_of}
 use Rattle.edit_flip.specs.Flip.{flip_mesh, flip_scaffold}
 
--- the ends are no edge, the edge is crowded, the edge to be made is there or would have one end, the mesh would pass a limit, or a pair
--- of the scaffold does not pass
+-- the ends are no edge, the edge is crowded, the edge to be made is there or would have one end,
+-- the mesh would pass a limit, or a pair of the scaffold does not pass
 abbrev pub flip_answer : (Positions → Bool) → Mesh → ℕ → ℕ → ℕ → Edit
 flip_answer meets m u v depth =
     let s = edge_of m u v in
@@ -34,4 +34,5 @@ OfFlips law = (meets : Positions → Bool) (u v depth : ℕ) → law (λ m. flip
 
 -- what holds of each flip that is tested by an exact test of meeting
 abbrev pub OfExactFlips : (Answer → Type 0) → Type 0
-OfExactFlips law = (meets : Positions → Bool) → IsExact meets → (u v depth : ℕ) → law (λ m. flip_answer meets m u v depth)
+OfExactFlips law = (meets : Positions → Bool) → IsExact meets → (u v depth : ℕ) →
+    law (λ m. flip_answer meets m u v depth)

@@ -6,7 +6,8 @@ use Rattle.edit_base.specs.Edges.{Edge, exact_mid, corners_from, without_faces, 
 use Rattle.edit_base.specs.Scaffold.{Scaffold}
 use Rattle.edit_split.specs.Split.{faces_beside, split_scaffold}
 
--- the split's, with the new vertex going from the middle of the edge to the middle of the two opposite vertices
+-- the split's, with the new vertex going from the middle of the edge to the
+-- middle of the two opposite vertices
 abbrev pub flip_scaffold : Mesh → Edge → Scaffold
 flip_scaffold m s = record (split_scaffold m s) {
   moves = record { v = m.next_vertex; start = exact_mid m s.a s.b; end = exact_mid m s.c s.d } ∷ [];

@@ -7,7 +7,8 @@ use Rattle.edit_base.specs.Edges.{Edge}
 use Rattle.edit_flip.specs.Flip.{flip_scaffold}
 use Rattle.edit_base.specs.Required.{HasEdge}
 
--- the edge is there and not crowded, the other edge may be made, and the split on which the flip is tested passes no limit
+-- the edge is there and not crowded, the other edge may be made, and the split on which
+-- the flip is tested passes no limit
 pub record MayBeTried (m : Mesh) (s : Edge) : Type 0 where
   pub edge : HasEdge m s
   pub one_face_each_way : is_crowded m s.a s.b ≡ false

@@ -11,7 +11,8 @@ use Rattle.edit_base.specs.Laws.{Answer}
 use Rattle.edit_base.specs.Reasons.{reason_if, first_reason, done_unless, hit_in}
 use Rattle.edit_pinch.specs.Pinch.{pinch_scaffold, first_point, later_copies, fans}
 
--- the faces at the vertex are one fan, it is solid, the mesh would pass a limit, or a pair is not as required
+-- the faces at the vertex are one fan, it is solid, the mesh would pass a
+-- limit, or a pair is not as required
 abbrev pub pinch_answer : (Positions → Bool) → Mesh → ℕ → ℕ → Edit
 pinch_answer meets m v depth =
     let scaffold = pinch_scaffold m v in
@@ -23,10 +24,12 @@ pinch_answer meets m v depth =
     ∷ hit_in meets scaffold depth ∷ []))
     (Pinch v (first_point m v) (later_copies m v))
 
--- what holds of each pinch: of whatever vertex, tested by whatever test of meeting to whatever depth
+-- what holds of each pinch: of whatever vertex, tested by whatever
+-- test of meeting to whatever depth
 abbrev pub OfPinches : (Answer → Type 0) → Type 0
 OfPinches law = (meets : Positions → Bool) (v depth : ℕ) → law (λ m. pinch_answer meets m v depth)
 
 -- what holds of each pinch that is tested by an exact test of meeting
 abbrev pub OfExactPinches : (Answer → Type 0) → Type 0
-OfExactPinches law = (meets : Positions → Bool) → IsExact meets → (v depth : ℕ) → law (λ m. pinch_answer meets m v depth)
+OfExactPinches law = (meets : Positions → Bool) → IsExact meets → (v depth : ℕ) →
+    law (λ m. pinch_answer meets m v depth)

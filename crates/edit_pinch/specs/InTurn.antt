@@ -25,4 +25,5 @@ pub record MayBeCopied (v : ℕ) (m : Mesh) (fan : List ℕ) (at : Point) : Type
 -- each of the copies can, when its turn comes
 abbrev pub CopiedInTurn : ℕ → Mesh → List (List ℕ × Point) → Type 0
 CopiedInTurn v m [] = ⊤
-CopiedInTurn v m (copy ∷ copies) = MayBeCopied v m copy.0 copy.1 × CopiedInTurn v (with_copy v m copy) copies
+CopiedInTurn v m (copy ∷ copies) =
+    MayBeCopied v m copy.0 copy.1 × CopiedInTurn v (with_copy v m copy) copies

@@ -18,15 +18,19 @@ use Rattle.edit_base.specs.Scaffold.{Scaffold}
 
 -- two faces share a vertex other than v
 abbrev pub share_second : Mesh → ℕ → ℕ → ℕ → Bool
-share_second m v f g = list_any (λ u. not (u == v) && has_corner (corners_at m g) u) (corner_list (corners_at m f))
+share_second m v f g =
+    list_any (λ u. not (u == v) && has_corner (corners_at m g) u) (corner_list (corners_at m f))
 
--- the faces at v in fans: two that share a second vertex are in one fan, and so on. By the least face
+-- the faces at v in fans: two that share a second vertex are in one
+-- fan, and so on. By the least face
 abbrev pub fans : Mesh → ℕ → List (List ℕ)
 fans m v = classes (share_second m v) (faces_at m v)
 
 -- the vertices of a fan other than v
 abbrev pub rim : Mesh → ℕ → List ℕ → List ℕ
-rim m v fan = filter (λ u. not (u == v) && list_any (λ f. has_corner (corners_at m f) u) fan) (finite.keys m.points)
+rim m v fan =
+    filter (λ u. not (u == v) && list_any (λ f. has_corner (corners_at m f) u) fan)
+    (finite.keys m.points)
 
 -- each component divided by n, toward zero
 abbrev pub divided : Triple → ℕ → Triple
@@ -35,7 +39,8 @@ divided t n = record { x = int_div t.x (pos n); y = int_div t.y (pos n); z = int
 -- an eighth of the way to the mean of the fan's other vertices
 abbrev pub fan_shift : Mesh → ℕ → List ℕ → Triple
 fan_shift m v fan =
-    divided (fold (λ sum u. plus sum (minus (rest_positions m u) (rest_positions m v))) origin (rim m v fan)) (8 * length (rim m v fan))
+    divided (fold (λ sum u. plus sum (minus (rest_positions m u) (rest_positions m v))) origin
+    (rim m v fan)) (8 * length (rim m v fan))
 
 -- where the copy for a fan ends
 abbrev pub fan_point : Mesh → ℕ → List ℕ → Point
@@ -55,7 +60,8 @@ first_point m v = fan_point m v (slice_index_or (fans m v) 0 [])
 
 -- the copies for fans, under the next vertex ids, with their points
 abbrev pub copies_for : Mesh → ℕ → List (List ℕ) → List CopyAt
-copies_for m v fans = map (λ e. record { w = e.0; at = fan_point m v e.1 }) (enumerate_from m.next_vertex fans)
+copies_for m v fans =
+    map (λ e. record { w = e.0; at = fan_point m v e.1 }) (enumerate_from m.next_vertex fans)
 
 -- those of the later fans
 abbrev pub later_copies : Mesh → ℕ → List CopyAt
@@ -76,7 +82,8 @@ moves_from here v at copies = move_to here v at ∷ map (λ copy. move_to here c
 abbrev pub vertex_and_copies : ℕ → List CopyAt → List ℕ
 vertex_and_copies v copies = v ∷ map (λ copy. copy.w) copies
 
--- The result, with v and each copy going from the old place to its own. A pair whose members hold two of them is to open.
+-- The result, with v and each copy going from the old place to its own. A pair whose
+-- members hold two of them is to open.
 abbrev pub pinch_scaffold : Mesh → ℕ → Scaffold
 pinch_scaffold m v =
     let at = first_point m v in

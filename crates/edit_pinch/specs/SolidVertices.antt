@@ -7,4 +7,5 @@ use Rattle.edit_base.specs.Laws.{Answer}
 
 -- where it is done the vertex is not solid
 abbrev pub PinchesNoneSolid : ℕ → Answer → Type 0
-PinchesNoneSolid v answer = (m : Mesh) (change : Change) → answer m ≡ Done change → is_solid m v ≡ false
+PinchesNoneSolid v answer =
+    (m : Mesh) (change : Change) → answer m ≡ Done change → is_solid m v ≡ false

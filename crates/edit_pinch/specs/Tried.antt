@@ -16,9 +16,11 @@ pub record MayBeTried (m : Mesh) (v : ℕ) : Type 0 where
 
 -- a pinch would pass a limit, which its fans after the first tell
 abbrev pub TellsOver : Mesh → List (List ℕ) → Bool → Type 0
-TellsOver m others answer = (v : ℕ) → IsClosed m → IsLiveVertex m v → others ≡ drop 1 (fans m v) → answer ≡ is_over_limits (pinch_scaffold m v).mesh
+TellsOver m others answer = (v : ℕ) → IsClosed m → IsLiveVertex m v → others ≡ drop 1 (fans m v) →
+    answer ≡ is_over_limits (pinch_scaffold m v).mesh
 
--- the mesh that a try leaves: what it made, where no pair fails to do what is required, and else the mesh before
+-- the mesh that a try leaves: what it made, where no pair fails to do what is
+-- required, and else the mesh before
 abbrev pub left_by : Mesh → Mesh → Result (Option PairName) NoMemory → Mesh
 left_by old made (Ok None) = made
 left_by old made (Ok (Some p)) = old

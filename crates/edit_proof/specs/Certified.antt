@@ -1,4 +1,5 @@
--- What is made of a motion that is told as a mesh with moves, and what is found of a certificate of it.
+-- What is made of a motion that is told as a mesh with moves, and what
+-- is found of a certificate of it.
 use Rattle.std.specs.Prelude.{◌≡◌, IsNone, List}
 use Rattle.std.proofs.Common.{Option, Some, None}
 use Rattle.mesh_base.specs.Mesh.{Mesh}
@@ -13,17 +14,21 @@ use Rattle.motion_proof.specs.declared.Verdict.TheVariants.{NoMotion}
 use Rattle.motion_proof.specs.Making.{IsMade, IsAcceptedIfMade}
 use Rattle.motion_proof.specs.Verdicts.{IsVerdict}
 
--- there is a motion, and the rule makes this of it, for the claim that is due; a certificate that is made is accepted
+-- there is a motion, and the rule makes this of it, for the claim that is due; a
+-- certificate that is made is accepted
 abbrev pub IsMadeOf : Option Scaffold → Made → Type 0
 IsMadeOf None made = ⊥
-IsMadeOf (Some s) made = IsMade s.mesh (motion_of s) (claim_of s.touch) made × IsAcceptedIfMade s.mesh (motion_of s) (claim_of s.touch) made
+IsMadeOf (Some s) made =
+    IsMade s.mesh (motion_of s) (claim_of s.touch) made
+    × IsAcceptedIfMade s.mesh (motion_of s) (claim_of s.touch) made
 
 -- this is made of the motion, and nothing exactly where there is none
 abbrev pub IsMadeFor : Option Scaffold → Option Made → Type 0
 IsMadeFor motion None = IsNone motion
 IsMadeFor motion (Some made) = IsMadeOf motion made
 
--- What is found of a certificate of a motion for which a claim is due: that it is of another claim, or its verdict.
+-- What is found of a certificate of a motion for which a claim is due: that it is
+-- of another claim, or its verdict.
 abbrev pub IsFound : Mesh → Motion → Claim → Claim → List Entry → Verdict → Type 0
 IsFound m w due claim entries NoMotion = ¬ (claim ≡ due)
 IsFound m w due claim entries v = (claim ≡ due) × IsVerdict m w claim entries v

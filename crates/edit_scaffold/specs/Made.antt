@@ -24,15 +24,16 @@ pub record IsDone (m : Mesh) (change : Change) : Type 0 where
   pub depth : ℕ
   pub answer : answer_to meets_exactly m depth what ≡ Done change
 
--- When no pair meets, by when two of the vertices that move may touch: at each fraction where they never do, at each above zero where
--- they begin so, and at each below one where they end so.
+-- When no pair meets, by when two of the vertices that move may touch: at each fraction where they
+-- never do, at each above zero where they begin so, and at each below one where they end so.
 abbrev pub claim_of : Touch → Claim
 claim_of Never = Along
 claim_of Start = After
 claim_of End = Before
 
 -- these are the mesh and the ways of a scaffold, and the claim for its touch
-pub record ArePartsOf (s : edits.Scaffold) (m : Mesh) (moves : List Move) (when : Claim) : Type 0 where
+pub record ArePartsOf (s : edits.Scaffold) (m : Mesh) (moves : List Move)
+    (when : Claim) : Type 0 where
   pub mesh : m ≡ s.mesh
   pub ways : moves ≡ s.moves
   pub claim : when ≡ claim_of s.touch

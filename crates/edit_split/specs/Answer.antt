@@ -13,7 +13,8 @@ use Rattle.edit_base.specs.Laws.{Answer}
 use Rattle.grid_base.specs.SeparationTests.{IsExact}
 use Rattle.edit_split.specs.Split.{split_point, split_scaffold}
 
--- the ends are no edge, the edge is crowded, the split mesh would pass a limit, or a pair of it does not pass
+-- the ends are no edge, the edge is crowded, the split mesh would pass a
+-- limit, or a pair of it does not pass
 abbrev pub split_answer : (Positions → Bool) → Mesh → ℕ → ℕ → ℕ → Edit
 split_answer meets m u v depth =
     let s = edge_of m u v in
@@ -28,8 +29,10 @@ split_answer meets m u v depth =
 
 -- what holds of each split: of whatever edge, tested by whatever test of meeting to whatever depth
 abbrev pub OfSplits : (Answer → Type 0) → Type 0
-OfSplits law = (meets : Positions → Bool) (u v depth : ℕ) → law (λ m. split_answer meets m u v depth)
+OfSplits law =
+    (meets : Positions → Bool) (u v depth : ℕ) → law (λ m. split_answer meets m u v depth)
 
 -- what holds of each split that is tested by an exact test of meeting
 abbrev pub OfExactSplits : (Answer → Type 0) → Type 0
-OfExactSplits law = (meets : Positions → Bool) → IsExact meets → (u v depth : ℕ) → law (λ m. split_answer meets m u v depth)
+OfExactSplits law = (meets : Positions → Bool) → IsExact meets → (u v depth : ℕ) →
+    law (λ m. split_answer meets m u v depth)

@@ -19,15 +19,21 @@ faces_beside s = s.left_face ∷ s.right_face ∷ []
 
 -- the four faces round a new vertex w
 abbrev pub split_faces : Edge → ℕ → List Corners
-split_faces s w = corners_from s.a w s.c ∷ corners_from w s.b s.c ∷ corners_from s.b w s.d ∷ corners_from w s.a s.d ∷ []
+split_faces s w =
+    corners_from s.a w s.c ∷ corners_from w s.b s.c ∷ corners_from s.b w s.d
+    ∷ corners_from w s.a s.d ∷ []
 
 -- the two faces beside the edge are dropped, and four are made round a new vertex at a point
 abbrev pub split_mesh : Mesh → Edge → Point → Mesh
-split_mesh m s at = with_faces (with_vertex (without_faces m (faces_beside s)) at) (split_faces s m.next_vertex)
+split_mesh m s at =
+    with_faces (with_vertex (without_faces m (faces_beside s)) at) (split_faces s m.next_vertex)
 
--- a split would pass a limit: it takes room for one vertex and two faces, and the ids of one vertex and four faces
+-- a split would pass a limit: it takes room for one vertex and two faces, and the
+-- ids of one vertex and four faces
 abbrev pub split_is_over : Mesh → Bool
-split_is_over m = are_over (finite.len m.points + 1) (finite.len m.faces + 2) (m.next_vertex + 1) (m.next_face + 4)
+split_is_over m =
+    are_over (finite.len m.points + 1) (finite.len m.faces + 2)
+    (m.next_vertex + 1) (m.next_face + 4)
 
 -- where the new vertex is put
 abbrev pub split_point : Mesh → Edge → Point
@@ -39,7 +45,9 @@ split_scaffold m s =
     let at = split_point m s in
     record {
       mesh = split_mesh m s at;
-      moves = record { v = m.next_vertex; start = exact_mid m s.a s.b; end = times 2 (position_of at) } ∷ [];
+      moves =
+          record { v = m.next_vertex; start = exact_mid m s.a s.b; end = times 2 (position_of at) }
+          ∷ [];
       touch = Never;
       together = [];
     }

@@ -1,5 +1,6 @@
 -- The zip of two edges: the openings of their faces are joined by a tube.
-use Rattle.std.specs.Prelude.{ℕ, ◌+◌, ◌%◌, ◌==◌, ◌&&◌, ◌||◌, not, Bool, false, List, [], ◌∷◌, ◌++◌, is_none, slice_index, nat_lt, ℤ, pos, ◌+ℤ◌, int_lt}
+use Rattle.std.specs.Prelude.{ℕ, ◌+◌, ◌%◌, ◌==◌, ◌&&◌, ◌||◌, not, Bool, false, List, [], ◌∷◌}
+use Rattle.std.specs.Prelude.{◌++◌, is_none, slice_index, nat_lt, ℤ, pos, ◌+ℤ◌, int_lt}
 use Rattle.std.specs.Option.{option_or, option_map, option_and_then}
 use Rattle.std.specs.List.{filter, find, flat_map, fold, count_by, last_or}
 use Rattle.std.proofs.Common.{Option, None}
@@ -63,18 +64,21 @@ square t = dot t t
 -- the sum of the squared lengths that a turn joins
 abbrev pub squares : Mesh → Edge → Edge → ℕ → ℤ
 squares m s t turn =
-    fold (λ sum i. sum +ℤ square (minus (rest_positions m (round_at (first_rim s) i)) (rest_positions m (round_at (second_rim t) (i + turn))))) (pos 0) turns
+    fold (λ sum i. sum +ℤ square (minus (rest_positions m (round_at (first_rim s) i))
+    (rest_positions m (round_at (second_rim t) (i + turn))))) (pos 0) turns
 
 -- whether a turn is tried before another: the lesser sum first, then the lesser turn
 abbrev pub is_before : Mesh → Edge → Edge → ℕ → ℕ → Bool
 is_before m s t k l =
-    int_lt (squares m s t k) (squares m s t l) || (not (int_lt (squares m s t l) (squares m s t k)) && nat_lt k l)
+    int_lt (squares m s t k) (squares m s t l)
+    || (not (int_lt (squares m s t l) (squares m s t k)) && nat_lt k l)
 
 -- the turns with so many before them, of which there is one
 abbrev pub turns_of_rank : Mesh → Edge → Edge → ℕ → List ℕ
 turns_of_rank m s t n = filter (λ k. count_by (λ l. is_before m s t l k) turns == n) turns
 
--- the turns in the order in which they are tried: the one with none before it, with one, with two, with three
+-- the turns in the order in which they are tried: the one with none before
+-- it, with one, with two, with three
 abbrev pub tried : Mesh → Edge → Edge → List ℕ
 tried m s t = flat_map (λ n. turns_of_rank m s t n) turns
 
@@ -82,7 +86,8 @@ tried m s t = flat_map (λ n. turns_of_rank m s t n) turns
 abbrev pub turn_reason : (Positions → Bool) → Mesh → Edge → Edge → ℕ → Option Why
 turn_reason meets m s t turn =
     let result = zip_mesh m s t turn in
-    option_or (reason_if (doubles_a_face result) Doubled) (option_map (λ p. Hit p) (first_meeting meets result (rest_positions result)))
+    option_or (reason_if (doubles_a_face result) Doubled)
+    (option_map (λ p. Hit p) (first_meeting meets result (rest_positions result)))
 
 -- the first turn with which nothing is wrong
 abbrev pub taken_turn : (Positions → Bool) → Mesh → Edge → Edge → Option ℕ
@@ -90,4 +95,5 @@ taken_turn meets m s t = find (λ k. is_none (turn_reason meets m s t k)) (tried
 
 -- what is wrong with the last turn that is tried
 abbrev pub last_reason : (Positions → Bool) → Mesh → Edge → Edge → Option Why
-last_reason meets m s t = option_and_then (λ k. turn_reason meets m s t k) (last_or None (tried m s t))
+last_reason meets m s t =
+    option_and_then (λ k. turn_reason meets m s t k) (last_or None (tried m s t))

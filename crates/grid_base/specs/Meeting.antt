@@ -11,7 +11,8 @@ pub record AreWithin (most : ℕ) (f : Positions) : Type 0 where
   pub d : IsWithin most f.d
   pub e : IsWithin most f.e
 
--- The edge and the triangle meet: whole weights, none negative and not all zero, of the same sum on both sides, that give the same position.
+-- The edge and the triangle meet: whole weights, none negative and not all zero, of the same sum on
+-- both sides, that give the same position.
 pub record Meets (a b c d e : Triple) : Type 0 where
   pub i : ℕ
   pub j : ℕ

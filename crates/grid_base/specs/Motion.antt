@@ -1,4 +1,5 @@
--- Positions that move in straight lines from a start to an end, and where they stand at a fraction p/q of the way.
+-- Positions that move in straight lines from a start to an end, and where they
+-- stand at a fraction p/q of the way.
 use Rattle.std.specs.Prelude.{ℕ, ◌-◌, ◌<◌, ◌≤◌}
 use Rattle.grid_base.specs.Triples.{Triple, plus, times}
 use Rattle.grid_base.specs.Meeting.{Positions, MeetAt}

@@ -36,17 +36,20 @@ KeepsApart start end n = (IsBelow n start × IsBelow n end) ⊎ (IsAbove n start
 
 -- the edge is weakly below at the start and below at the end, or weakly above and then above
 abbrev pub TakesApart : Positions → Positions → Triple → Type 0
-TakesApart start end n = (IsWeaklyBelow n start × IsBelow n end) ⊎ (IsWeaklyAbove n start × IsAbove n end)
+TakesApart start end n =
+    (IsWeaklyBelow n start × IsBelow n end) ⊎ (IsWeaklyAbove n start × IsAbove n end)
 
 -- the edge is below at the start and weakly below at the end, or above and then weakly above
 abbrev pub BringsTogether : Positions → Positions → Triple → Type 0
-BringsTogether start end n = (IsBelow n start × IsWeaklyBelow n end) ⊎ (IsAbove n start × IsWeaklyAbove n end)
+BringsTogether start end n =
+    (IsBelow n start × IsWeaklyBelow n end) ⊎ (IsAbove n start × IsWeaklyAbove n end)
 
 -- the ten directions that five positions give
 abbrev pub ten_directions : Positions → List Triple
 ten_directions f =
     cross (minus f.d f.c) (minus f.e f.c)
-    ∷ cross (minus f.b f.a) (minus f.d f.c) ∷ cross (minus f.b f.a) (minus f.e f.d) ∷ cross (minus f.b f.a) (minus f.c f.e)
+    ∷ cross (minus f.b f.a) (minus f.d f.c) ∷ cross (minus f.b f.a) (minus f.e f.d)
+    ∷ cross (minus f.b f.a) (minus f.c f.e)
     ∷ minus f.c f.a ∷ minus f.d f.a ∷ minus f.e f.a
     ∷ minus f.c f.b ∷ minus f.d f.b ∷ minus f.e f.b ∷ []
 
@@ -63,7 +66,8 @@ directions start end = axes ++ ten_directions start ++ ten_directions end
 
 -- all five positions multiplied by n
 abbrev pub multiple : ℕ → Positions → Positions
-multiple n f = record { a = times n f.a; b = times n f.b; c = times n f.c; d = times n f.d; e = times n f.e }
+multiple n f =
+    record { a = times n f.a; b = times n f.b; c = times n f.c; d = times n f.d; e = times n f.e }
 
 -- the outer positions of a half, double as its middle is
 abbrev pub double : Positions → Positions
@@ -71,14 +75,22 @@ double f = multiple 2 f
 
 -- the middle of an interval, double: the sum of its start and its end
 abbrev pub middle : Positions → Positions → Positions
-middle s t = record { a = plus s.a t.a; b = plus s.b t.b; c = plus s.c t.c; d = plus s.d t.d; e = plus s.e t.e }
+middle s t = record {
+  a = plus s.a t.a;
+  b = plus s.b t.b;
+  c = plus s.c t.c;
+  d = plus s.d t.d;
+  e = plus s.e t.e;
+}
 
--- Some direction keeps the edge and the triangle apart; or, where depth is left, both halves of the interval are separated.
+-- Some direction keeps the edge and the triangle apart; or, where depth is left, both
+-- halves of the interval are separated.
 abbrev pub AreSeparated : ℕ → Positions → Positions → Type 0
 AreSeparated zero start end = Any (KeepsApart start end) (directions start end)
 AreSeparated (suc depth) start end =
     Any (KeepsApart start end) (directions start end)
-    ⊎ (AreSeparated depth (double start) (middle start end) × AreSeparated depth (middle start end) (double end))
+    ⊎ (AreSeparated depth (double start) (middle start end)
+    × AreSeparated depth (middle start end) (double end))
 
 -- the five positions all move by one shift
 pub record MoveTogether (start end : Positions) : Type 0 where
@@ -91,12 +103,14 @@ pub record MoveTogether (start end : Positions) : Type 0 where
 abbrev pub Passes : ℕ → Positions → Positions → Type 0
 Passes depth start end = AreSeparated depth start end ⊎ (MoveTogether start end × ¬ (MeetAt start))
 
--- Some direction takes the edge and the triangle apart; or, where depth is left, the first half opens and the second is separated.
+-- Some direction takes the edge and the triangle apart; or, where depth is left, the first half
+-- opens and the second is separated.
 abbrev pub Opens : ℕ → Positions → Positions → Type 0
 Opens zero start end = Any (TakesApart start end) (directions start end)
 Opens (suc depth) start end =
     Any (TakesApart start end) (directions start end)
-    ⊎ (Opens depth (double start) (middle start end) × AreSeparated depth (middle start end) (double end))
+    ⊎ (Opens depth (double start) (middle start end)
+    × AreSeparated depth (middle start end) (double end))
 
 -- The pair opens where its start and its end are exchanged.
 abbrev pub Closes : ℕ → Positions → Positions → Type 0

@@ -1,4 +1,5 @@
--- The written test of a motion as a test that computes. `meets` is a test that tells whether five positions meet.
+-- The written test of a motion as a test that computes. `meets` is a test that
+-- tells whether five positions meet.
 use Rattle.std.specs.Prelude.{ℕ, zero, suc, Bool, ◌&&◌, ◌||◌, not, ◌↔◌, IsTrue, ℤ, int_lt, int_le, pos, ◌-ℤ◌}
 use Rattle.std.specs.List.{list_any}
 use Rattle.grid_base.specs.Triples.{Triple, minus, opposite, dot}
@@ -19,25 +20,35 @@ is_at_most a c d e = int_le a c && int_le a d && int_le a e
 
 -- both edge ends are strictly below all three corners, along the direction n
 abbrev pub is_below : Triple → Positions → Bool
-is_below n f = is_least (dot n f.a) (dot n f.c) (dot n f.d) (dot n f.e) && is_least (dot n f.b) (dot n f.c) (dot n f.d) (dot n f.e)
+is_below n f =
+    is_least (dot n f.a) (dot n f.c) (dot n f.d) (dot n f.e)
+    && is_least (dot n f.b) (dot n f.c) (dot n f.d) (dot n f.e)
 
 abbrev pub is_weakly_below : Triple → Positions → Bool
-is_weakly_below n f = is_at_most (dot n f.a) (dot n f.c) (dot n f.d) (dot n f.e) && is_at_most (dot n f.b) (dot n f.c) (dot n f.d) (dot n f.e)
+is_weakly_below n f =
+    is_at_most (dot n f.a) (dot n f.c) (dot n f.d) (dot n f.e)
+    && is_at_most (dot n f.b) (dot n f.c) (dot n f.d) (dot n f.e)
 
 -- the edge is below at the start and at the end, or above at both
 abbrev pub keeps_apart : Positions → Positions → Triple → Bool
-keeps_apart start end n = (is_below n start && is_below n end) || (is_below (opposite n) start && is_below (opposite n) end)
+keeps_apart start end n =
+    (is_below n start && is_below n end)
+    || (is_below (opposite n) start && is_below (opposite n) end)
 
 -- the edge is weakly below at the start and below at the end, or weakly above and then above
 abbrev pub takes_apart : Positions → Positions → Triple → Bool
-takes_apart start end n = (is_weakly_below n start && is_below n end) || (is_weakly_below (opposite n) start && is_below (opposite n) end)
+takes_apart start end n =
+    (is_weakly_below n start && is_below n end)
+    || (is_weakly_below (opposite n) start && is_below (opposite n) end)
 
--- Some direction keeps the edge and the triangle apart; or, where depth is left, both halves of the interval are separated.
+-- Some direction keeps the edge and the triangle apart; or, where depth is left, both
+-- halves of the interval are separated.
 abbrev pub are_separated : ℕ → Positions → Positions → Bool
 are_separated zero start end = list_any (keeps_apart start end) (directions start end)
 are_separated (suc depth) start end =
     list_any (keeps_apart start end) (directions start end)
-    || (are_separated depth (double start) (middle start end) && are_separated depth (middle start end) (double end))
+    || (are_separated depth (double start) (middle start end)
+    && are_separated depth (middle start end) (double end))
 
 abbrev pub is_zero : ℤ → Bool
 is_zero z = int_le z (pos 0) && int_le (pos 0) z
@@ -53,14 +64,17 @@ move_together s t =
 
 -- The pair is separated, or moves as one and does not meet at the start.
 abbrev pub passes : (Positions → Bool) → ℕ → Positions → Positions → Bool
-passes meets depth start end = are_separated depth start end || (move_together start end && not (meets start))
+passes meets depth start end =
+    are_separated depth start end || (move_together start end && not (meets start))
 
--- Some direction takes the edge and the triangle apart; or, where depth is left, the first half opens and the second is separated.
+-- Some direction takes the edge and the triangle apart; or, where depth is left, the first half
+-- opens and the second is separated.
 abbrev pub opens : ℕ → Positions → Positions → Bool
 opens zero start end = list_any (takes_apart start end) (directions start end)
 opens (suc depth) start end =
     list_any (takes_apart start end) (directions start end)
-    || (opens depth (double start) (middle start end) && are_separated depth (middle start end) (double end))
+    || (opens depth (double start) (middle start end)
+    && are_separated depth (middle start end) (double end))
 
 -- The pair opens where its start and its end are exchanged.
 abbrev pub closes : ℕ → Positions → Positions → Bool

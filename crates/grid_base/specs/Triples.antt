@@ -43,7 +43,8 @@ orientation a b c d = dot (cross (minus b a) (minus c a)) (minus d a)
 
 -- the midpoint, each component rounded down
 abbrev pub floor_mid_of : Triple → Triple → Triple
-floor_mid_of a b = record { x = floor_half (a.x +ℤ b.x); y = floor_half (a.y +ℤ b.y); z = floor_half (a.z +ℤ b.z) }
+floor_mid_of a b =
+    record { x = floor_half (a.x +ℤ b.x); y = floor_half (a.y +ℤ b.y); z = floor_half (a.z +ℤ b.z) }
 
 -- divided by 2^m, each component rounded toward zero
 abbrev pub halved_of : ℕ → Triple → Triple

@@ -14,10 +14,14 @@ use Rattle.mesh_base.specs.Mesh.{Mesh, IdSet}
 use Rattle.mesh_plain.specs.Coded.{mesh_code}
 
 abbrev pub spoke_code : Coded Spoke
-spoke_code = code_by (ℕ × ℕ) (coded× coded_ℕ coded_ℕ) (λ s. (s.face, s.to)) (λ p. record { face = p.0; to = p.1 }) (λ _. refl)
+spoke_code =
+    code_by (ℕ × ℕ) (coded× coded_ℕ coded_ℕ) (λ s. (s.face, s.to))
+    (λ p. record { face = p.0; to = p.1 }) (λ _. refl)
 
 abbrev pub fan_code : Coded Vertex → Coded Fan
-fan_code vertex = code_by (Vertex × List Spoke) (coded× vertex (coded_list spoke_code)) (λ f. (f.vertex, f.spokes)) (λ p. record { vertex = p.0; spokes = p.1 }) (λ _. refl)
+fan_code vertex =
+    code_by (Vertex × List Spoke) (coded× vertex (coded_list spoke_code))
+    (λ f. (f.vertex, f.spokes)) (λ p. record { vertex = p.0; spokes = p.1 }) (λ _. refl)
 
 abbrev pub side_code : Coded Side
 side_code =
@@ -28,14 +32,17 @@ side_code =
 
 abbrev pub woven_code : Coded Vertex → Coded Woven
 woven_code vertex =
-    code_by (map.FinMap nat_cmp Fan × (List (Option Side) × ℕ)) (coded× (map.code coded_ℕ (fan_code vertex)) (coded× (coded_list (coded_option side_code)) coded_ℕ))
+    code_by (map.FinMap nat_cmp Fan × (List (Option Side) × ℕ))
+    (coded× (map.code coded_ℕ (fan_code vertex))
+    (coded× (coded_list (coded_option side_code)) coded_ℕ))
     (λ w. (w.fans, (w.sides, w.room)))
     (λ p. record { fans = p.0; sides = p.1.0; room = p.1.1 })
     (λ _. refl)
 
 abbrev pub ground_code : Coded Vertex → Coded Ground
 ground_code vertex =
-    code_by (Woven × (map.FinMap nat_cmp Vertex × ℕ)) (coded× (woven_code vertex) (coded× (map.code coded_ℕ vertex) coded_ℕ))
+    code_by (Woven × (map.FinMap nat_cmp Vertex × ℕ))
+    (coded× (woven_code vertex) (coded× (map.code coded_ℕ vertex) coded_ℕ))
     (λ g. (g.woven, (g.buried, g.seats)))
     (λ p. record { woven = p.0; buried = p.1.0; seats = p.1.1 })
     (λ _. refl)
@@ -43,7 +50,8 @@ ground_code vertex =
 abbrev pub buried_code : Coded Point → Coded Corners → Coded Buried
 buried_code point corners =
     code_by (map.FinMap nat_cmp Point × (map.FinMap nat_cmp Corners × IdSet))
-    (coded× (map.code coded_ℕ point) (coded× (map.code coded_ℕ corners) (map.code coded_ℕ coded_unit)))
+    (coded× (map.code coded_ℕ point)
+    (coded× (map.code coded_ℕ corners) (map.code coded_ℕ coded_unit)))
     (λ b. (b.points, (b.faces, b.solid)))
     (λ p. record { points = p.0; faces = p.1.0; solid = p.1.1 })
     (λ _. refl)

@@ -10,11 +10,13 @@ with_fans g fans = record g { woven = record g.woven { fans = fans } }
 
 -- the fan of a live vertex becomes another
 abbrev pub ChangesFan : Ground → Ground → ℕ → (Fan → Fan) → Type 0
-ChangesFan old new v change = (fan : Fan) → finite.get old.woven.fans v ≡ Some fan → new.woven.fans ≡ finite.insert old.woven.fans v (change fan)
+ChangesFan old new v change = (fan : Fan) → finite.get old.woven.fans v ≡ Some fan →
+    new.woven.fans ≡ finite.insert old.woven.fans v (change fan)
 
 -- the fan with this half-edge, at the place of its face
 abbrev pub with_side : Fan → Side → Fan
-with_side fan side = record fan { spokes = put_spoke (record { face = side.face; to = side.to }) fan.spokes }
+with_side fan side =
+    record fan { spokes = put_spoke (record { face = side.face; to = side.to }) fan.spokes }
 
 -- what is buried, and how many vertices more find memory, is as it was
 abbrev pub KeepsRest : Ground → Ground → Type 0
@@ -30,4 +32,5 @@ KeepsOtherSides key old new = (other : ℕ) → other ≢ key → side_at new ot
 
 -- each that is not of the face
 abbrev pub KeepsSidesOutside : ℕ → Sides → Sides → Type 0
-KeepsSidesOutside f old new = (key : ℕ) (side : Side) → side_at old key ≡ Some side → side.face ≢ f → side_at new key ≡ Some side
+KeepsSidesOutside f old new = (key : ℕ) (side : Side) → side_at old key ≡ Some side →
+    side.face ≢ f → side_at new key ≡ Some side

@@ -18,7 +18,8 @@ pub record Fan : Type 0 where
 abbrev pub Fans : Type 0
 Fans = finite.FinMap nat_cmp Fan
 
--- a half-edge by its key: the vertices that it leaves and runs to, its face, and the key of the next side of that face
+-- a half-edge by its key: the vertices that it leaves and runs to, its face, and the
+-- key of the next side of that face
 pub record Side : Type 0 where
   pub origin : ℕ
   pub to : ℕ

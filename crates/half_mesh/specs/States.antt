@@ -9,7 +9,8 @@ use Rattle.mesh_base.specs.Mesh.{Mesh, IdSet, IsLiveVertex, IsLiveFace, HasCorne
 use Rattle.mesh_base.specs.Sides.{faces_at, has_corner}
 use Rattle.mesh_base.specs.Changes.{without_face, without_vertex}
 
--- the points of the buried vertices, the corners of the buried faces, and the buried vertices that are solid
+-- the points of the buried vertices, the corners of the buried faces, and
+-- the buried vertices that are solid
 pub record Buried : Type 0 where
   pub points : map.FinMap nat_cmp Point
   pub faces : map.FinMap nat_cmp Corners
@@ -33,7 +34,8 @@ with_some to k (Some x) = map.insert to k x
 with_some to k None = to
 
 -- the second map, with what the first has at the key
-abbrev pub carried : {X : Type 0} → map.FinMap nat_cmp X → map.FinMap nat_cmp X → ℕ → map.FinMap nat_cmp X
+abbrev pub carried : {X : Type 0} → map.FinMap nat_cmp X → map.FinMap nat_cmp X → ℕ →
+    map.FinMap nat_cmp X
 carried from to k = with_some to k (map.get from k)
 
 -- a face goes from the live ones to the buried ones
@@ -47,7 +49,10 @@ bury_face s f = record {
 abbrev pub bury_vertex : State → ℕ → State
 bury_vertex s v = record {
   mesh = without_vertex s.mesh v;
-  buried = record s.buried { points = carried s.mesh.points s.buried.points v; solid = carried s.mesh.solid s.buried.solid v };
+  buried = record s.buried {
+    points = carried s.mesh.points s.buried.points v;
+    solid = carried s.mesh.solid s.buried.solid v;
+  };
 }
 
 -- a buried face is live again, with its old corners
@@ -60,8 +65,14 @@ raise_face s f = record {
 -- a buried vertex is live again, with its old point and mark
 abbrev pub raise_vertex : State → ℕ → State
 raise_vertex s v = record {
-  mesh = record s.mesh { points = carried s.buried.points s.mesh.points v; solid = carried s.buried.solid s.mesh.solid v };
-  buried = record s.buried { points = map.remove s.buried.points v; solid = map.remove s.buried.solid v };
+  mesh = record s.mesh {
+    points = carried s.buried.points s.mesh.points v;
+    solid = carried s.buried.solid s.mesh.solid v;
+  };
+  buried = record s.buried {
+    points = map.remove s.buried.points v;
+    solid = map.remove s.buried.solid v;
+  };
 }
 
 -- the face made last is gone, and its id is the next again
@@ -81,7 +92,8 @@ pub record CanRaiseFace (s : State) (f : ℕ) : Type 0 where
   pub buried : IsSome (map.get s.buried.faces f)
   pub room : map.len s.mesh.faces < FACES_MAX
   pub live : (c : Corners) → map.get s.buried.faces f ≡ Some c → AreLive s.mesh c
-  pub new : (g : ℕ) (c d : Corners) → map.get s.buried.faces f ≡ Some c → HasCorners s.mesh g d → equal_up_to_rotation d c ≡ false
+  pub new : (g : ℕ) (c d : Corners) → map.get s.buried.faces f ≡ Some c → HasCorners s.mesh g d →
+      equal_up_to_rotation d c ≡ false
 
 -- it is buried, and one more may live
 pub record CanRaiseVertex (s : State) (v : ℕ) : Type 0 where
@@ -106,7 +118,9 @@ pub record AreApart (s : State) : Type 0 where
   pub vertex_ids : (v : ℕ) → IsSome (map.get s.buried.points v) → (1 ≤ v) × (v < s.mesh.next_vertex)
   pub faces : (f : ℕ) → IsSome (map.get s.buried.faces f) → map.get s.mesh.faces f ≡ None
   pub face_ids : (f : ℕ) → IsSome (map.get s.buried.faces f) → (1 ≤ f) × (f < s.mesh.next_face)
-  pub corners : (f : ℕ) (c : Corners) → map.get s.buried.faces f ≡ Some c → (c.first < s.mesh.next_vertex) × (c.second < s.mesh.next_vertex) × (c.third < s.mesh.next_vertex)
+  pub corners : (f : ℕ) (c : Corners) → map.get s.buried.faces f ≡ Some c →
+      (c.first < s.mesh.next_vertex) × (c.second < s.mesh.next_vertex)
+      × (c.third < s.mesh.next_vertex)
   pub different : (f : ℕ) (c : Corners) → map.get s.buried.faces f ≡ Some c → AreDifferent c
 
 -- a mesh with what is buried of it, and how many additions find memory

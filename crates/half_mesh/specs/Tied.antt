@@ -24,7 +24,11 @@ next_at sides key = elim (side_at sides key) [ None ↦ 0 | Some side ↦ side.n
 
 -- the corners of the face whose first side stands at the key
 abbrev pub corners_at : Sides → ℕ → Corners
-corners_at sides key = record { first = origin_at sides key; second = to_at sides key; third = to_at sides (next_at sides key) }
+corners_at sides key = record {
+  first = origin_at sides key;
+  second = to_at sides key;
+  third = to_at sides (next_at sides key);
+}
 
 -- for each live face, the key of its first side
 abbrev pub Keys : Type 0
@@ -54,14 +58,18 @@ buried_in g keys = record {
   solid = solid_in g.buried;
 }
 
--- how many additions find memory: a vertex takes a seat, and a face a place among the keys and three half-edges
+-- how many additions find memory: a vertex takes a seat, and a face a place
+-- among the keys and three half-edges
 abbrev pub spare_in : Ground → Stock ℕ → ℕ
 spare_in g keys = min (min g.seats keys.room) (g.woven.room / 3)
 
 -- what the tables of a mesh stand for
 abbrev pub ledger_in : Ground → Stock ℕ → ℕ → ℕ → Ledger
 ledger_in g keys next_vertex next_face = record {
-  state = record { mesh = woven_mesh g.woven keys.live next_vertex next_face; buried = buried_in g keys };
+  state = record {
+    mesh = woven_mesh g.woven keys.live next_vertex next_face;
+    buried = buried_in g keys;
+  };
   spare = spare_in g keys;
 }
 
@@ -69,9 +77,12 @@ ledger_in g keys next_vertex next_face = record {
 pub record IsRing (sides : Sides) (f : ℕ) (c : Corners) (key : ℕ) : Type 0 where
   pub second : ℕ
   pub third : ℕ
-  pub at_first : side_at sides key ≡ Some (record { origin = c.first; to = c.second; face = f; next = second })
-  pub at_second : side_at sides second ≡ Some (record { origin = c.second; to = c.third; face = f; next = third })
-  pub at_third : side_at sides third ≡ Some (record { origin = c.third; to = c.first; face = f; next = key })
+  pub at_first :
+      side_at sides key ≡ Some (record { origin = c.first; to = c.second; face = f; next = second })
+  pub at_second : side_at sides second
+      ≡ Some (record { origin = c.second; to = c.third; face = f; next = third })
+  pub at_third :
+      side_at sides third ≡ Some (record { origin = c.third; to = c.first; face = f; next = key })
 
 -- the corner that follows v
 abbrev pub following : Corners → ℕ → ℕ
@@ -88,12 +99,14 @@ falling v (e ∷ rest) = falling v rest ++ spoke_in v e
 
 -- at each key begins a ring of its face
 abbrev pub AreRings : Sides → Keys → Type 0
-AreRings sides keys = (f key : ℕ) → finite.get keys f ≡ Some key → IsRing sides f (corners_at sides key) key
+AreRings sides keys =
+    (f key : ℕ) → finite.get keys f ≡ Some key → IsRing sides f (corners_at sides key) key
 
 -- each face is a ring of sides, and the half-edges that leave a vertex are its sides in its faces
 pub record AreTied (woven : Woven) (keys : Keys) : Type 0 where
   pub rings : AreRings woven.sides keys
-  pub spokes : (v : ℕ) → spokes_at woven.fans v ≡ falling v (finite.entries (faces_in woven.sides keys))
+  pub spokes : (v : ℕ) →
+      spokes_at woven.fans v ≡ falling v (finite.entries (faces_in woven.sides keys))
 
 -- the same of the live faces, and each buried face is a ring of sides
 pub record AreKept (woven : Woven) (keys : Stock ℕ) : Type 0 where
@@ -102,29 +115,39 @@ pub record AreKept (woven : Woven) (keys : Stock ℕ) : Type 0 where
 
 -- each corner has a fan
 abbrev pub HaveFans : Fans → Corners → Type 0
-HaveFans fans c = IsSome (finite.get fans c.first) × IsSome (finite.get fans c.second) × IsSome (finite.get fans c.third)
+HaveFans fans c =
+    IsSome (finite.get fans c.first)
+    × IsSome (finite.get fans c.second)
+    × IsSome (finite.get fans c.third)
 
 -- the new fans have the ring of a new face, and else what the old had
 pub record HasRing (old new : Woven) (f : ℕ) (c : Corners) (key : ℕ) : Type 0 where
   pub ring : IsRing new.sides f c key
-  pub sides : (k : ℕ) (side : Side) → side_at old.sides k ≡ Some side → side_at new.sides k ≡ Some side
+  pub sides : (k : ℕ) (side : Side) → side_at old.sides k ≡ Some side →
+      side_at new.sides k ≡ Some side
   pub spokes : (v : ℕ) → spokes_at new.fans v ≡ spoke_in v (f, c) ++ spokes_at old.fans v
   pub vertices : vertices_in new.fans ≡ vertices_in old.fans
 
 -- a face more, at any place: the fans of its corners have it, and all sides stay
 pub record HasRaised (w x : Woven) (f : ℕ) (c : Corners) : Type 0 where
   pub sides : (k : ℕ) → side_at x.sides k ≡ side_at w.sides k
-  pub first : spokes_at x.fans c.first ≡ put_spoke (record { face = f; to = c.second }) (spokes_at w.fans c.first)
-  pub second : spokes_at x.fans c.second ≡ put_spoke (record { face = f; to = c.third }) (spokes_at w.fans c.second)
-  pub third : spokes_at x.fans c.third ≡ put_spoke (record { face = f; to = c.first }) (spokes_at w.fans c.third)
-  pub others : (v : ℕ) → v ≢ c.first → v ≢ c.second → v ≢ c.third → spokes_at x.fans v ≡ spokes_at w.fans v
+  pub first : spokes_at x.fans c.first
+      ≡ put_spoke (record { face = f; to = c.second }) (spokes_at w.fans c.first)
+  pub second : spokes_at x.fans c.second
+      ≡ put_spoke (record { face = f; to = c.third }) (spokes_at w.fans c.second)
+  pub third : spokes_at x.fans c.third
+      ≡ put_spoke (record { face = f; to = c.first }) (spokes_at w.fans c.third)
+  pub others : (v : ℕ) → v ≢ c.first → v ≢ c.second → v ≢ c.third →
+      spokes_at x.fans v ≡ spokes_at w.fans v
   pub vertices : vertices_in x.fans ≡ vertices_in w.fans
 
 -- a face less: the fans of its corners have lost it, and the other faces have their sides
 pub record HasLost (w x : Woven) (f : ℕ) (c : Corners) : Type 0 where
-  pub sides : (k : ℕ) (side : Side) → side_at w.sides k ≡ Some side → side.face ≢ f → side_at x.sides k ≡ Some side
+  pub sides : (k : ℕ) (side : Side) → side_at w.sides k ≡ Some side → side.face ≢ f →
+      side_at x.sides k ≡ Some side
   pub first : spokes_at x.fans c.first ≡ without f (spokes_at w.fans c.first)
   pub second : spokes_at x.fans c.second ≡ without f (spokes_at w.fans c.second)
   pub third : spokes_at x.fans c.third ≡ without f (spokes_at w.fans c.third)
-  pub others : (v : ℕ) → v ≢ c.first → v ≢ c.second → v ≢ c.third → spokes_at x.fans v ≡ spokes_at w.fans v
+  pub others : (v : ℕ) → v ≢ c.first → v ≢ c.second → v ≢ c.third →
+      spokes_at x.fans v ≡ spokes_at w.fans v
   pub vertices : vertices_in x.fans ≡ vertices_in w.fans

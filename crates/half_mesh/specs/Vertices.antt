@@ -27,4 +27,5 @@ is_marked (Some x) = x.solid
 
 -- the ids of those that are solid
 abbrev pub solid_in : VertexMap → IdSet
-solid_in vertices = finite.retain_keys (mapped (λ x. tt) vertices) (λ v. is_marked (finite.get vertices v))
+solid_in vertices =
+    finite.retain_keys (mapped (λ x. tt) vertices) (λ v. is_marked (finite.get vertices v))

@@ -1,5 +1,6 @@
 -- How the half-edges that leave a vertex are linked through the slab.
-use Rattle.std.specs.Prelude.{◌≡◌, ◌≢◌, ◌==◌, cond, nat_lt, ℕ, zero, suc, ◌<◌, ◌≤◌, ◌⊎◌, ◌+◌, ◌-◌, ◌^◌, List, [], ◌∷◌, map, length, Option, Some, None}
+use Rattle.std.specs.Prelude.{◌≡◌, ◌≢◌, ◌==◌, cond, nat_lt, ℕ, zero, suc, ◌<◌, ◌≤◌, ◌⊎◌, ◌+◌}
+use Rattle.std.specs.Prelude.{◌-◌, ◌^◌, List, [], ◌∷◌, map, length, Option, Some, None}
 use Rattle.std.specs.Option.{option_map}
 use Rattle.std.specs.Ordering.{nat_cmp}
 use Rattle.std.specs.FinMap as finite
@@ -31,21 +32,31 @@ abbrev pub side_of : Half → Side
 side_of h = record { origin = h.origin; to = h.to; face = h.face; next = h.next }
 
 abbrev pub woven_of : finite.FinMap nat_cmp Row → Slab Half → Woven
-woven_of rows s = record { fans = mapped (fan_of s) rows; sides = map (option_map side_of) s.slots; room = s.capacity - slab_len s }
+woven_of rows s = record {
+  fans = mapped (fan_of s) rows;
+  sides = map (option_map side_of) s.slots;
+  room = s.capacity - slab_len s;
+}
 
 abbrev pub ground_of : Stock Row → Slab Half → Ground
-ground_of rows s = record { woven = woven_of rows.live s; buried = mapped (λ row. row.vertex) rows.buried; seats = rows.room }
+ground_of rows s = record {
+  woven = woven_of rows.live s;
+  buried = mapped (λ row. row.vertex) rows.buried;
+  seats = rows.room;
+}
 
 -- the spokes without the first in the face
 abbrev pub cut : ℕ → List Spoke → List Spoke
 cut f [] = []
 cut f (s ∷ rest) = cond (s.face == f) rest (s ∷ cut f rest)
 
--- from the key on, these half-edges are linked one to the next; they leave v, and their faces fall from below a bound
+-- from the key on, these half-edges are linked one to the next; they leave v, and
+-- their faces fall from below a bound
 abbrev pub IsChain : Slab Half → ℕ → ℕ → ℕ → List Keyed → Type 0
 IsChain s v bound key [] = Unit {0}
 IsChain s v bound key (e ∷ rest) =
-    (e.0 ≡ key) × (get s e.0 ≡ Some e.1) × (e.1.origin ≡ v) × (e.1.face < bound) × IsChain s v e.1.face e.1.after rest
+    (e.0 ≡ key) × (get s e.0 ≡ Some e.1) × (e.1.origin ≡ v) × (e.1.face < bound)
+    × IsChain s v e.1.face e.1.after rest
 
 -- the row of v counts half-edges that are linked
 pub record IsFanned (s : Slab Half) (v : ℕ) (row : Row) : Type 0 where
@@ -77,7 +88,8 @@ abbrev pub last_newer : ℕ → Keyed → List Keyed → Keyed
 last_newer f e [] = e
 last_newer f e (x ∷ rest) = cond (nat_lt f x.1.face) (last_newer f x rest) e
 
--- the half-edge h at the key is put among so many that are linked from a key on: alone, first, or after the last newer one
+-- the half-edge h at the key is put among so many that are linked from a key on: alone,
+-- first, or after the last newer one
 pub record IsPutAfter (s t : Slab Half) (p : Keyed) (k : ℕ) (g : Half) : Type 0 where
   pub held : get s k ≡ Some g
   pub linked : get t p.0 ≡ Some (record p.1 { after = k })
@@ -89,7 +101,11 @@ put_in s t first count key h to None = (to ≡ (key, 1)) × ((k : ℕ) → get t
 put_in s t first count key h to (Some newest) =
     ((count ≡ 0) × (to ≡ (key, 1)) × ((k : ℕ) → get t k ≡ get s k))
     ⊎ ((0 < count) × (newest.face < h.face) × (to ≡ (key, count + 1)) × Resets s t key first)
-    ⊎ ((0 < count) × (h.face ≤ newest.face) × (to ≡ (first, count + 1)) × ((last_newer h.face (first, newest) (walk s (count - 1) newest.after)).0 ≢ key → get s (last_newer h.face (first, newest) (walk s (count - 1) newest.after)).0 ≡ Some (last_newer h.face (first, newest) (walk s (count - 1) newest.after)).1 → IsPutAfter s t (last_newer h.face (first, newest) (walk s (count - 1) newest.after)) key h))
+    ⊎ ((0 < count) × (h.face ≤ newest.face) × (to ≡ (first, count + 1))
+    × ((last_newer h.face (first, newest) (walk s (count - 1) newest.after)).0 ≢ key →
+    get s (last_newer h.face (first, newest) (walk s (count - 1) newest.after)).0
+    ≡ Some (last_newer h.face (first, newest) (walk s (count - 1) newest.after)).1 →
+    IsPutAfter s t (last_newer h.face (first, newest) (walk s (count - 1) newest.after)) key h))
 
 pub record IsLinkedIn (s t : Slab Half) (first count key : ℕ) (h : Half) (to : ℕ × ℕ) : Type 0 where
   pub put : put_in s t first count key h to (get s first)

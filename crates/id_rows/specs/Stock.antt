@@ -12,7 +12,8 @@ pub record Stock (T : Type 0) : Type 0 where
 
 abbrev pub stock_code : {T : Type 0} → Coded T → Coded (Stock T)
 stock_code {T} item =
-    code_by (map.FinMap nat_cmp T × (map.FinMap nat_cmp T × ℕ)) (coded× (map.code coded_ℕ item) (coded× (map.code coded_ℕ item) coded_ℕ))
+    code_by (map.FinMap nat_cmp T × (map.FinMap nat_cmp T × ℕ))
+    (coded× (map.code coded_ℕ item) (coded× (map.code coded_ℕ item) coded_ℕ))
     (λ s. (s.live, (s.buried, s.room)))
     (λ p. record { live = p.0; buried = p.1.0; room = p.1.1 })
     (λ _. refl)
@@ -34,11 +35,13 @@ module _ {T : Type 0} where
 
   -- what is held of a live id is buried
   abbrev pub Buries : Stock T → Stock T → ℕ → Type 0
-  Buries old new id = (x : T) → map.get old.live id ≡ Some x → new ≡ record old { live = map.remove old.live id; buried = map.insert old.buried id x }
+  Buries old new id = (x : T) → map.get old.live id ≡ Some x →
+      new ≡ record old { live = map.remove old.live id; buried = map.insert old.buried id x }
 
   -- a buried id is live again, and holds this
   abbrev pub Raises : Stock T → Stock T → ℕ → T → Type 0
-  Raises old new id x = new ≡ record old { live = map.insert old.live id x; buried = map.remove old.buried id }
+  Raises old new id x =
+      new ≡ record old { live = map.insert old.live id x; buried = map.remove old.buried id }
 
   -- nothing is buried of an id
   abbrev pub Discards : Stock T → Stock T → ℕ → Type 0

@@ -6,7 +6,13 @@ use Rattle.line_text.specs.Numbers.{Decimal, is_digit, number}
 
 -- a decimal without where its digits lie in memory
 abbrev pub decimal_view : code.Decimal → Decimal
-decimal_view d = record { negative = d.negative; whole = d.whole.now; fraction = d.fraction.now; up = d.up; down = d.down }
+decimal_view d = record {
+  negative = d.negative;
+  whole = d.whole.now;
+  fraction = d.fraction.now;
+  up = d.up;
+  down = d.down;
+}
 
 -- the sizes that the parts of a decimal word have
 pub record Fits (d : Decimal) : Type 0 where
@@ -18,4 +24,6 @@ pub record Fits (d : Decimal) : Type 0 where
 
 -- ten times the size on the grid, rounded down
 abbrev pub tenths_of : ℕ → Decimal → ℕ
-tenths_of decimals d = 10 * (number (d.whole ++ d.fraction) * 10 ^ (decimals + d.up)) / 10 ^ (length d.fraction + d.down)
+tenths_of decimals d =
+    10 * (number (d.whole ++ d.fraction) * 10 ^ (decimals + d.up))
+    / 10 ^ (length d.fraction + d.down)

@@ -1,5 +1,6 @@
 -- Words that are read one after the other: a value and the words behind it, or the reason.
-use Rattle.std.specs.Prelude.{◌≡◌, ℕ, Bool, ◌==◌, ◌&&◌, nat_le, nat_lt, if◌then◌else◌, List, [], ◌∷◌, length, Option, Some, None, Result, Ok, Err, ℤ}
+use Rattle.std.specs.Prelude.{◌≡◌, ℕ, Bool, ◌==◌, ◌&&◌, nat_le, nat_lt, if◌then◌else◌, List}
+use Rattle.std.specs.Prelude.{[], ◌∷◌, length, Option, Some, None, Result, Ok, Err, ℤ}
 use Rattle.line_text.specs.declared.fault.TextWhy.{TextWhy}
 use Rattle.line_text.specs.declared.fault.TextWhy.TheVariants.{Number, Range, Short, Long}
 use Rattle.line_text.specs.declared.number.NumberWhy.{NumberWhy}
@@ -12,12 +13,18 @@ use Rattle.line_text.specs.Numbers.{whole_parts, with_sign, grid_number_of}
 
 -- exactly so many words
 unfoldable pub count_is : ℕ → List (List ℕ) → Result (Unit {0}) TextWhy
-count_is count words = if nat_lt (length words) count then Err Short else if nat_lt count (length words) then Err Long else Ok tt
+count_is count words =
+    if nat_lt (length words) count then Err Short
+    else if nat_lt count (length words) then Err Long
+    else Ok tt
 
 -- the number of a whole word from low to high, where -0 is 0
 abbrev pub number_from : ℕ → ℕ → Option (Bool × ℕ) → Result ℕ TextWhy
 number_from low high None = Err Number
-number_from low high (Some n) = if nat_le low n.1 && nat_le n.1 high then (if n.0 then (if n.1 == 0 then Ok 0 else Err Range) else Ok n.1) else Err Range
+number_from low high (Some n) =
+    if nat_le low n.1 && nat_le n.1 high
+    then (if n.0 then (if n.1 == 0 then Ok 0 else Err Range) else Ok n.1)
+    else Err Range
 
 -- the number of a whole word of a size up to most
 abbrev pub number_up_to : ℕ → Option (Bool × ℕ) → Result ℤ TextWhy
@@ -49,14 +56,17 @@ unfoldable pub coordinate_of : ℕ → List ℕ → Result ℤ TextWhy
 coordinate_of decimals word = coordinate_or_why (grid_number_of decimals word)
 
 -- what a reader of the code returned, with the words that it left
-abbrev pub Takes : {X : Type 0} → List (List ℕ) → Result X TextWhy → Result (X × List (List ℕ)) TextWhy → Type 0
+abbrev pub Takes : {X : Type 0} → List (List ℕ) → Result X TextWhy →
+    Result (X × List (List ℕ)) TextWhy → Type 0
 Takes left (Ok x) read = read ≡ Ok (x, left)
 Takes left (Err why) read = read ≡ Err why
 
 -- the same, of the words that were left before and those that are left behind it
-abbrev pub TakesWords : {X : Type 0} → Words → Words → Result X TextWhy → (List (List ℕ) → Result (X × List (List ℕ)) TextWhy) → Type 0
+abbrev pub TakesWords : {X : Type 0} → Words → Words → Result X TextWhy →
+    (List (List ℕ) → Result (X × List (List ℕ)) TextWhy) → Type 0
 TakesWords old new result read = Takes (words_left new) result (read (words_left old))
 
 -- the same where a line is cut at each single space
-abbrev pub TakesParts : {X : Type 0} → Parts → Parts → Result X TextWhy → (List (List ℕ) → Result (X × List (List ℕ)) TextWhy) → Type 0
+abbrev pub TakesParts : {X : Type 0} → Parts → Parts → Result X TextWhy →
+    (List (List ℕ) → Result (X × List (List ℕ)) TextWhy) → Type 0
 TakesParts old new result read = Takes (parts_left new) result (read (parts_left old))

@@ -1,5 +1,7 @@
 -- The numbers that words write.
-use Rattle.std.specs.Prelude.{ℕ, ◌+◌, ◌-◌, ◌*◌, ◌/◌, ◌%◌, ◌^◌, zero, suc, Bool, ◌==◌, ◌||◌, ◌&&◌, nat_le, List, [], ◌∷◌, ◌++◌, length, drop, take_while, slice_index, if◌then◌else◌, Option, Some, None, option_map, Result, Ok, Err, ℤ, pos, negsuc, neg_ℤ, decimal}
+use Rattle.std.specs.Prelude.{ℕ, ◌+◌, ◌-◌, ◌*◌, ◌/◌, ◌%◌, ◌^◌, zero, suc, Bool, ◌==◌, ◌||◌, ◌&&◌, nat_le}
+use Rattle.std.specs.Prelude.{List, [], ◌∷◌, ◌++◌, length, drop, take_while, slice_index, if◌then◌else◌}
+use Rattle.std.specs.Prelude.{Option, Some, None, option_map, Result, Ok, Err, ℤ, pos, negsuc, neg_ℤ, decimal}
 use Rattle.std.specs.List.{list_all, prefix_len}
 use Rattle.grid_base.specs.declared.TheConstants.{BOX}
 use Rattle.line_text.specs.declared.number.NumberWhy.{NumberWhy}
@@ -20,7 +22,9 @@ number ds = number_after 0 ds
 
 -- one digit or more, and at most this many
 abbrev pub number_within : ℕ → List ℕ → Option ℕ
-number_within most ds = if nat_le 1 (length ds) && nat_le (length ds) most && list_all is_digit ds then Some (number ds) else None
+number_within most ds =
+    if nat_le 1 (length ds) && nat_le (length ds) most && list_all is_digit ds then Some (number ds)
+    else None
 
 -- the number of this sign and size; minus zero is zero
 abbrev pub with_sign : Bool → ℕ → ℤ
@@ -32,7 +36,9 @@ begins_with b word = slice_index word 0 == b
 
 -- an optional '-' and one to ten digits: whether the '-' is there, and the number of the digits
 abbrev pub whole_parts : List ℕ → Option (Bool × ℕ)
-whole_parts word = option_map (λ n. (begins_with 45 word, n)) (number_within 10 (if begins_with 45 word then drop 1 word else word))
+whole_parts word =
+    option_map (λ n. (begins_with 45 word, n))
+    (number_within 10 (if begins_with 45 word then drop 1 word else word))
 
 -- the number of a whole word
 abbrev pub whole_of : List ℕ → Option ℤ
@@ -63,17 +69,35 @@ without_sign word = if begins_with 43 word || begins_with 45 word then drop 1 wo
 -- nothing, or 'e' or 'E', an optional sign, and one to three digits
 unfoldable pub exponent_of : List ℕ → Option (ℕ × ℕ)
 exponent_of [] = Some (0, 0)
-exponent_of (b ∷ word) = if b == 101 || b == 69 then option_map (λ n. if begins_with 45 word then (0, n) else (n, 0)) (number_within 3 (without_sign word)) else None
+exponent_of (b ∷ word) =
+    if b == 101 || b == 69
+    then option_map (λ n. if begins_with 45 word then (0, n) else (n, 0))
+    (number_within 3 (without_sign word)) else None
 
 -- digits before the point, digits behind it, and the rest
 unfoldable pub mantissa_of : List ℕ → List ℕ × List ℕ × List ℕ
-mantissa_of word = let rest = behind_digits word in if begins_with 46 rest then (front_digits word, front_digits (drop 1 rest), behind_digits (drop 1 rest)) else (front_digits word, [], rest)
+mantissa_of word =
+    let rest = behind_digits word in
+    if begins_with 46 rest
+    then (front_digits word, front_digits (drop 1 rest), behind_digits (drop 1 rest))
+    else (front_digits word, [], rest)
 
--- a word of at most 64 bytes taken apart: an optional sign, at least one digit with at most one point, and an optional exponent
+-- a word of at most 64 bytes taken apart: an optional sign, at least one digit with at most
+-- one point, and an optional exponent
 unfoldable pub decimal_of : List ℕ → Option Decimal
 decimal_of word =
     let parts = mantissa_of (without_sign word) in
-    if nat_le (length word) 64 && nat_le 1 (length parts.0 + length parts.1) then option_map (λ e. record { negative = begins_with 45 word; whole = parts.0; fraction = parts.1; up = e.0; down = e.1 }) (exponent_of parts.2) else None
+    if nat_le (length word) 64 && nat_le 1 (length parts.0 + length parts.1)
+    then option_map
+    (λ e. record {
+      negative = begins_with 45 word;
+      whole = parts.0;
+      fraction = parts.1;
+      up = e.0;
+      down = e.1;
+    })
+    (exponent_of parts.2)
+    else None
 
 -- a / b to the nearest whole number, a half upward
 abbrev pub nearest_quotient : ℕ → ℕ → ℕ
@@ -81,12 +105,16 @@ nearest_quotient a b = (2 * a + b) / (2 * b)
 
 -- the size of the value times 10 ^ decimals, to the nearest whole number
 unfoldable pub grid_size : ℕ → Decimal → ℕ
-grid_size decimals d = nearest_quotient (number (d.whole ++ d.fraction) * 10 ^ (decimals + d.up)) (10 ^ (length d.fraction + d.down))
+grid_size decimals d =
+    nearest_quotient (number (d.whole ++ d.fraction) * 10 ^ (decimals + d.up))
+    (10 ^ (length d.fraction + d.down))
 
 -- the value on a grid of so many decimals, halves away from zero
 abbrev pub grid_of : ℕ → Option Decimal → Result ℤ NumberWhy
 grid_of decimals None = Err Form
-grid_of decimals (Some d) = if nat_le (grid_size decimals d) BOX then Ok (with_sign d.negative (grid_size decimals d)) else Err Range
+grid_of decimals (Some d) =
+    if nat_le (grid_size decimals d) BOX then Ok (with_sign d.negative (grid_size decimals d))
+    else Err Range
 
 -- the value of a decimal word on a grid of so many decimals, or why it gives none
 unfoldable pub grid_number_of : ℕ → List ℕ → Result ℤ NumberWhy
@@ -99,7 +127,8 @@ last_digits (suc k) n = (48 + n / 10 ^ k % 10) ∷ last_digits k n
 
 -- the text of a size on a grid of so many decimals
 abbrev pub size_text : ℕ → ℕ → List ℕ
-size_text decimals n = if decimals == 0 then decimal n else decimal (n / 10 ^ decimals) ++ 46 ∷ last_digits decimals n
+size_text decimals n =
+    if decimals == 0 then decimal n else decimal (n / 10 ^ decimals) ++ 46 ∷ last_digits decimals n
 
 -- the text of a value on a grid of so many decimals, behind '-' where it is negative
 abbrev pub fixed_text : ℕ → ℤ → List ℕ

@@ -19,11 +19,14 @@ abbrev pub LinesFit : LogState → List LogLine → Type 0
 LinesFit s [] = ⊤
 LinesFit s (line ∷ lines) = LineFits s line × LinesFit (with_line s line) lines
 
--- The log of directives within their limits, whose groups are nested, over a mesh that is sound, closed and clear.
+-- The log of directives within their limits, whose groups are nested, over a mesh
+-- that is sound, closed and clear.
 abbrev pub LogsOfMeshesFit : Type 0
-LogsOfMeshesFit = (answers : Answers) (m : Mesh) (steps : List Placed) → IsValidSurface m → AreInRange steps → AreNested 0 steps 0 →
+LogsOfMeshesFit = (answers : Answers) (m : Mesh) (steps : List Placed) → IsValidSurface m →
+    AreInRange steps → AreNested 0 steps 0 →
     LinesFit (without_lines m) (First VERSION ∷ (log_of_mesh answers m steps).lines)
 
 -- the log of a job
 abbrev pub LogsOfJobsFit : Type 0
-LogsOfJobsFit = (job : Job) (answers : Answers) → LinesFit (without_lines (mesh_of_job job)) (log_of job answers).lines
+LogsOfJobsFit = (job : Job) (answers : Answers) →
+    LinesFit (without_lines (mesh_of_job job)) (log_of job answers).lines

@@ -23,21 +23,23 @@ use Rattle.track_run.specs.Complete.{NoneFailed}
 use Rattle.track_run.specs.Headline.{TracksCommand, MeasuresCommand}
 use Rattle.track_run.specs.Job.{log_of}
 
--- The same mesh file and decimals, and as the log the text of the whole log of the job, by what fields and the sizing answered.
+-- The same mesh file and decimals, and as the log the text of the whole log of the job, by
+-- what fields and the sizing answered.
 pub record IsWithLogOf (job : Job) (answers : Answers) (read : LogJob) : Type 0 where
   pub mesh : read.mesh_file ≡ job.mesh_file
   pub decimals : read.decimals ≡ job.decimals
   pub log : read.log_file ≡ Bytes (text_of_lines (log_of job answers).lines)
 
--- Where a job was tracked whose files were read without a fault and whose mesh is clear, its log is measured to the end, or there is no
--- memory, unless a side fails.
+-- Where a job was tracked whose files were read without a fault and whose mesh is clear, its log is
+-- measured to the end, or there is no memory, unless a side fails.
 abbrev pub LogsOfRunsAreMeasured : Known → Type 0
 LogsOfRunsAreMeasured known =
     (mesh_name step_name : List ℕ) (to : Target) (tracked : Outcome) (before after : World)
     → (track : TracksCommand known mesh_name step_name to tracked before after)
     → (lists : Lists) (directives : List Placed) → HasClear track.job lists directives
     → (names : LogNames) (result : Outcome) (old new : World)
-    → (run : MeasuresCommand names result old new) → IsWithLogOf track.job track.tracks.answers run.measures.job → NoneFailed old new
+    → (run : MeasuresCommand names result old new)
+    → IsWithLogOf track.job track.tracks.answers run.measures.job → NoneFailed old new
     → (result ≡ Done) ⊎ (result ≡ NoMemory)
 
 -- a `mesh` line that fits tells how many vertices and faces the mesh has there

@@ -11,11 +11,15 @@ use Rattle.track_run.specs.Job.{log_of}
 
 -- each field has at most one answer at each point, and so has the sizing
 pub record HaveOneAnswer (fields : Known) : Type 0 where
-  pub shifts : (which : ℕ) (p : Point) (one other : Shift) → fields.may_answer which p one → fields.may_answer which p other → one ≡ other
-  pub bands : (p : Point) (one other : Band) → fields.may_size p one → fields.may_size p other → one ≡ other
+  pub shifts : (which : ℕ) (p : Point) (one other : Shift) → fields.may_answer which p one
+      → fields.may_answer which p other → one ≡ other
+  pub bands : (p : Point) (one other : Band) → fields.may_size p one → fields.may_size p other
+      → one ≡ other
 
 -- Then a job of which the directives are all answered has one log, by whatever answers it was had.
 abbrev pub JobsHaveOneLog : Known → Type 0
 JobsHaveOneLog fields =
-    HaveOneAnswer fields → (job : Job) (one other : Answers) → IsInputAnswered fields true one (input_of job) → IsInputAnswered fields true other (input_of job)
+    HaveOneAnswer fields → (job : Job) (one other : Answers)
+    → IsInputAnswered fields true one (input_of job)
+    → IsInputAnswered fields true other (input_of job)
     → log_of job one ≡ log_of job other

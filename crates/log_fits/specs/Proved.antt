@@ -19,22 +19,26 @@ use Rattle.track_run.specs.Headline.{TracksCommand, ProvesCommand, VerifiesComma
 use Rattle.track_run.specs.Job.{log_of}
 use Rattle.log_fits.specs.Measured.{IsWithLogOf}
 
--- Where a job was tracked whose files were read without a fault and whose mesh is clear, its log is proved, or there is no memory, unless a
--- side fails.
+-- Where a job was tracked whose files were read without a fault and whose mesh is clear, its log is
+-- proved, or there is no memory, unless a side fails.
 abbrev pub LogsOfRunsAreProved : Known → Type 0
 LogsOfRunsAreProved known =
     (mesh_name step_name : List ℕ) (to : Target) (tracked : Outcome) (before after : World)
     → (track : TracksCommand known mesh_name step_name to tracked before after)
     → (lists : Lists) (directives : List Placed) → HasClear track.job lists directives
     → (names : LogNames) (result : Outcome) (old new : World)
-    → (run : ProvesCommand names result old new) → IsWithLogOf track.job track.tracks.answers run.proves.job → NoneFailed old new
+    → (run : ProvesCommand names result old new)
+    → IsWithLogOf track.job track.tracks.answers run.proves.job → NoneFailed old new
     → (result ≡ Done) ⊎ (result ≡ NoMemory)
 
--- the mesh and the log of a job of which these lists are read, by what fields and the sizing answered
+-- the mesh and the log of a job of which these lists are read, by
+-- what fields and the sizing answered
 abbrev pub log_input_of : Job → Answers → Lists → LogInput
-log_input_of job answers lists = record { mesh = mesh_of_lists lists; lines = (log_of job answers).lines }
+log_input_of job answers lists =
+    record { mesh = mesh_of_lists lists; lines = (log_of job answers).lines }
 
--- Then a proof of the log, as `prove` writes it, is verified, or there is no memory, unless a side fails.
+-- Then a proof of the log, as `prove` writes it, is verified, or there
+-- is no memory, unless a side fails.
 abbrev pub ProofsOfRunsAreVerified : Known → Type 0
 ProofsOfRunsAreVerified known =
     (mesh_name step_name : List ℕ) (to : Target) (tracked : Outcome) (before after : World)
@@ -42,6 +46,7 @@ ProofsOfRunsAreVerified known =
     → (lists : Lists) (directives : List Placed) → HasClear track.job lists directives
     → (text : List ℕ) → IsProofText (log_input_of track.job track.tracks.answers lists) text
     → (names : ProofNames) (result : Outcome) (old new : World)
-    → (run : VerifiesCommand names result old new) → IsWithLogOf track.job track.tracks.answers run.verifies.job.log
+    → (run : VerifiesCommand names result old new)
+    → IsWithLogOf track.job track.tracks.answers run.verifies.job.log
     → run.verifies.job.proof_file ≡ Bytes text → NoneFailed old new
     → (result ≡ Done) ⊎ (result ≡ NoMemory)

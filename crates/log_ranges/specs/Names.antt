@@ -38,11 +38,13 @@ PairsAreInRange = (m : Mesh) → IsSound m → (p : Pair) → IsPair m p → IsP
 
 -- the pairs that fail
 abbrev pub FailingPairsAreInRange : Type 0
-FailingPairsAreInRange = (meets : Positions → Bool) (m : Mesh) (shifts : Shifts) (depth : ℕ) → IsSound m → All IsPairInRange (failing meets m shifts depth)
+FailingPairsAreInRange = (meets : Positions → Bool) (m : Mesh) (shifts : Shifts) (depth : ℕ) →
+    IsSound m → All IsPairInRange (failing meets m shifts depth)
 
 -- the first pair that meets, if one does
 abbrev pub FirstMeetingIsInRange : Type 0
-FirstMeetingIsInRange = (meets : Positions → Bool) (m : Mesh) (at : Placement) → IsSound m → IfSome (first_meeting meets m at) IsPairInRange
+FirstMeetingIsInRange = (meets : Positions → Bool) (m : Mesh) (at : Placement) → IsSound m →
+    IfSome (first_meeting meets m at) IsPairInRange
 
 -- blocks of two or more live vertices, however these are labelled
 abbrev pub BlocksAreInRange : Type 0

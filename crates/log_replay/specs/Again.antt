@@ -11,15 +11,16 @@ use Rattle.log_text.specs.declared.LogLine.TheVariants.{Move, Moved, Did}
 use Rattle.log_replay.specs.Moves.{MayMove, AreMoves}
 use Rattle.log_replay.specs.Replay.{Replay, EachAt}
 
--- A motion by the `move` lines so far can be done again: they are moves, none of a solid vertex, and each pair passes, tested to the
--- greatest depth.
+-- A motion by the `move` lines so far can be done again: they are moves, none of a solid vertex,
+-- and each pair passes, tested to the greatest depth.
 pub record MotionIsAgain (r : Replay) : Type 0 where
   pub moves : AreMoves r.mesh r.moves
   pub free : AllByRecursion (λ s. is_solid r.mesh s.v ≡ false) r.moves
   pub passes : failing meets_exactly r.mesh r.moves DEPTH_MAX ≡ []
 
--- A `move` line can be taken again where it stands; so can the motion of a `moved` line; and the line of a done edit tells what the
--- edit answers, tested to the greatest depth, when it is asked for again.
+-- A `move` line can be taken again where it stands; so can the motion of a `moved`
+-- line; and the line of a done edit tells what the edit answers, tested to the greatest
+-- depth, when it is asked for again.
 abbrev pub LineIsAgain : Replay → LogLine → Type 0
 LineIsAgain r (Move s) = MayMove r.mesh r.moves s
 LineIsAgain r (Moved how) = MotionIsAgain r

@@ -10,4 +10,5 @@ ReplaysGoOn = (r : Replay) (xs ys : List LogLine) → after r (xs ++ ys) ≡ aft
 
 -- lines of a pass change the mesh alone, and by it alone
 abbrev pub PassesChangeTheMeshAlone : Type 0
-PassesChangeTheMeshAlone = (r : Replay) (lines : List LogLine) → AreOfPass lines → after r lines ≡ record r { mesh = mesh_after_lines r.mesh lines }
+PassesChangeTheMeshAlone = (r : Replay) (lines : List LogLine) → AreOfPass lines →
+    after r lines ≡ record r { mesh = mesh_after_lines r.mesh lines }

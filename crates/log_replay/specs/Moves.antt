@@ -17,7 +17,8 @@ is_named moves v = list_any (λ s. s.v == v) moves
 abbrev pub end_of : Mesh → ShiftOf → Triple
 end_of m s = plus (rest_positions m s.v) (displacement_of s.by)
 
--- One more vertex may move in a step: it lives, is not solid, has no move in the step yet, and ends in the box.
+-- One more vertex may move in a step: it lives, is not solid, has no move in
+-- the step yet, and ends in the box.
 pub record MayMove (m : Mesh) (moves : Shifts) (s : ShiftOf) : Type 0 where
   pub live : IsLiveVertex m s.v
   pub free : is_solid m s.v ≡ false

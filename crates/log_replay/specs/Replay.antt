@@ -8,14 +8,15 @@ use Rattle.edit_dispatch.specs.Dispatch.{edited}
 use Rattle.log_text.specs.declared.LogLine.{LogLine}
 use Rattle.log_text.specs.declared.LogLine.TheVariants.{Step, Solid, Move, Moved, Did, Group, Close}
 
--- the mesh, the shifts of the `move` lines since the last `step` line that no `moved` line has used up, and the meshes at which the open
--- groups were opened, the innermost first
+-- the mesh, the shifts of the `move` lines since the last `step` line that no `moved` line has used
+-- up, and the meshes at which the open groups were opened, the innermost first
 pub record Replay : Type 0 where
   pub mesh : Mesh
   pub moves : List ShiftOf
   pub stack : List Mesh
 
--- the innermost group is closed: kept, or taken back to the mesh at which it was opened; nothing changes where none is open
+-- the innermost group is closed: kept, or taken back to the mesh at which it was opened;
+-- nothing changes where none is open
 abbrev pub closed : Bool → List Mesh → Replay → Replay
 closed kept [] r = r
 closed true (m ∷ outer) r = record r { stack = outer }
@@ -37,7 +38,8 @@ abbrev pub after : Replay → List LogLine → Replay
 after r [] = r
 after r (l ∷ ls) = after (replayed r l) ls
 
--- the replay of a log that led to the mesh, between two steps and within groups that were opened at these meshes
+-- the replay of a log that led to the mesh, between two steps and within groups
+-- that were opened at these meshes
 abbrev pub at_mesh_in_groups : Mesh → List Mesh → Replay
 at_mesh_in_groups m stack = record { mesh = m; moves = []; stack = stack }
 

@@ -16,13 +16,16 @@ abbrev pub FitsFirst : LogLine → Type 0
 FitsFirst (line.First version) = ⊤
 FitsFirst _ = ⊥
 
--- What fits behind other lines: within a step its moves and its end; between two steps a mesh line with the numbers of vertices and faces,
--- the beginning of a step, the solid mark of a live vertex, an edit that comes out so, a group while fewer than `GROUPS_MAX` are open, and
--- the end of one that is open; a second line of the version nowhere; and every other line anywhere.
+-- What fits behind other lines: within a step its moves and its end; between two steps a mesh line
+-- with the numbers of vertices and faces, the beginning of a step, the solid mark of a live vertex,
+-- an edit that comes out so, a group while fewer than `GROUPS_MAX` are open, and the end of one
+-- that is open; a second line of the version nowhere; and every other line anywhere.
 abbrev pub FitsLater : LogState → LogLine → Type 0
 FitsLater s (line.First version) = ⊥
 FitsLater s (line.Mesh k vertices faces) =
-    (s.is_begun ≡ false) × (vertices ≡ finite.len s.replay.mesh.points) × (faces ≡ finite.len s.replay.mesh.faces)
+    (s.is_begun ≡ false)
+    × (vertices ≡ finite.len s.replay.mesh.points)
+    × (faces ≡ finite.len s.replay.mesh.faces)
 FitsLater s (line.Step k) = s.is_begun ≡ false
 FitsLater s (line.Solid v) = (s.is_begun ≡ false) × IsLiveVertex s.replay.mesh v
 FitsLater s (line.Move shift) = (s.is_begun ≡ true) × MayMove s.replay.mesh s.replay.moves shift
@@ -36,7 +39,8 @@ FitsLater s _ = ⊤
 abbrev pub LineFits : LogState → LogLine → Type 0
 LineFits s l = MatchBool s.has_line (FitsLater s l) (FitsFirst l)
 
--- what has to hold of a mesh where a line is to be taken: of one that is edited, that it is closed and clear
+-- what has to hold of a mesh where a line is to be taken: of one that is
+-- edited, that it is closed and clear
 abbrev pub MayBeTried : Mesh → LogLine → Type 0
 MayBeTried m (line.Did change) = IsClosed m × IsClearMesh m
 MayBeTried m _ = ⊤

@@ -14,8 +14,8 @@ use Rattle.log_replay.specs.Moves.{AreMoves}
 use Rattle.log_run.specs.Steps.{shifts_of}
 use Rattle.log_run.specs.Fits.{LineFits}
 
--- The mesh is sound, closed and clear, and so is that at which each open group was opened; the moves of a step that is begun are moves
--- of its mesh, and between two steps there are none.
+-- The mesh is sound, closed and clear, and so is that at which each open group was opened; the
+-- moves of a step that is begun are moves of its mesh, and between two steps there are none.
 pub record IsValidState (s : LogState) : Type 0 where
   pub now : IsValidSurface s.replay.mesh
   pub groups : AllByRecursion IsValidSurface s.replay.stack
@@ -27,7 +27,8 @@ abbrev pub StepIsClear : Replay → LogLine → Type 0
 StepIsClear r (Moved how) = IsClearAlong r.mesh (moved_by r.mesh r.moves)
 StepIsClear r _ = ⊤
 
--- a line that fits, a step's motion being clear, is safe, and leaves meshes that are sound, closed and clear
+-- a line that fits, a step's motion being clear, is safe, and leaves meshes
+-- that are sound, closed and clear
 abbrev pub FittingLinesAreSafe : Type 0
 FittingLinesAreSafe = (s : LogState) (line : LogLine) → IsValidState s → LineFits s line
     → StepIsClear s.replay line → LineIsSafe s.replay line × IsValidState (with_line s line)
@@ -40,4 +41,5 @@ pub record ShiftsTell (m : Mesh) (moves shifts : Shifts) : Type 0 where
 
 -- so do those of all live vertices
 abbrev pub AllShiftsTell : Type 0
-AllShiftsTell = (m : Mesh) (moves : Shifts) → AreMoves m moves → ShiftsTell m moves (shifts_of m moves)
+AllShiftsTell =
+    (m : Mesh) (moves : Shifts) → AreMoves m moves → ShiftsTell m moves (shifts_of m moves)

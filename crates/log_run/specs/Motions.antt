@@ -38,10 +38,12 @@ way_of m s = move_from_rest m s.v (times 2 (end_of m s))
 abbrev pub step_ways : Mesh → Shifts → List Move
 step_ways m moves = map (way_of m) (shifts_of m moves)
 
--- The motion of which a line tells, as a mesh, how its vertices move and whether two may touch: of a line that ends a step the mesh
--- itself and the moves of the step; of an edit that on which it was tested. A zip and any other line move nothing.
+-- The motion of which a line tells, as a mesh, how its vertices move and whether two may touch: of
+-- a line that ends a step the mesh itself and the moves of the step; of an edit that on which it
+-- was tested. A zip and any other line move nothing.
 abbrev pub moved_in : Replay → LogLine → Option Scaffold
-moved_in r (Moved how) = Some (record { mesh = r.mesh; moves = step_ways r.mesh r.moves; touch = Never; together = [] })
+moved_in r (Moved how) =
+    Some (record { mesh = r.mesh; moves = step_ways r.mesh r.moves; touch = Never; together = [] })
 moved_in r (Did change) = scaffold_of r.mesh change
 moved_in r _ = None
 
@@ -58,13 +60,15 @@ one_motion number (Some motion) = record { line = number; motion = motion } ∷ 
 -- the motions of lines from a replay on, the first of which has this number
 abbrev pub motions_from : ℕ → Replay → List LogLine → List MotionAt
 motions_from number r [] = []
-motions_from number r (line ∷ lines) = one_motion number (moved_in r line) ++ motions_from (suc number) (replayed r line) lines
+motions_from number r (line ∷ lines) =
+    one_motion number (moved_in r line) ++ motions_from (suc number) (replayed r line) lines
 
 -- the motions of a log that begins with this mesh, in order
 abbrev pub motions_of : Mesh → List LogLine → List MotionAt
 motions_of m log = motions_from 1 (at_mesh m) log
 
--- What is made of the motion of a line: nothing, where the line has none if it fits; or the line fits, and the rule makes this of its motion.
+-- What is made of the motion of a line: nothing, where the line has none if it fits; or the line
+-- fits, and the rule makes this of its motion.
 abbrev pub IsCertified : LogState → LogLine → Option Made → Type 0
 IsCertified s line None = LineFits s line → IsNone (moved_in s.replay line)
 IsCertified s line (Some made) = LineFits s line × IsMadeOf (moved_in s.replay line) made
@@ -72,7 +76,8 @@ IsCertified s line (Some made) = LineFits s line × IsMadeOf (moved_in s.replay 
 -- What is found of a certificate for the motion of a line, in the same way.
 abbrev pub IsJudged : LogState → LogLine → Claim → List Entry → Option Verdict → Type 0
 IsJudged s line claim entries None = LineFits s line → IsNone (moved_in s.replay line)
-IsJudged s line claim entries (Some v) = LineFits s line × IsFoundOf (moved_in s.replay line) claim entries v
+IsJudged s line claim entries (Some v) =
+    LineFits s line × IsFoundOf (moved_in s.replay line) claim entries v
 
 -- a motion, where there is one, is clear as its kind claims
 abbrev pub IsClearWhereMoved : Option Scaffold → Type 0
@@ -81,7 +86,8 @@ IsClearWhereMoved (Some s) = IsClearAs (claim_of s.touch) s.mesh (motion_of s)
 
 -- the pair passes in the motion, as that one's kind claims
 abbrev pub PassesIn : Scaffold → Pair → Type 0
-PassesIn s p = PassesAs (claim_of s.touch) (positions (motion_of s).start p) (positions (motion_of s).end p)
+PassesIn s p =
+    PassesAs (claim_of s.touch) (positions (motion_of s).start p) (positions (motion_of s).end p)
 
 -- each pair of a motion, where there is one, passes
 abbrev pub PassesWhereMoved : Option Scaffold → Type 0

@@ -35,15 +35,21 @@ replay_of m kept at = record { mesh = m; moves = at.step.moves; stack = stack_of
 
 -- where a replay stands, of which this is kept
 abbrev pub state_of : Mesh → List Mesh → Standing → Bool → Bool → LogState
-state_of m kept at has_line is_spent = record { replay = replay_of m kept at; is_begun = at.begun; has_line = has_line; is_spent = is_spent }
+state_of m kept at has_line is_spent = record {
+  replay = replay_of m kept at;
+  is_begun = at.begun;
+  has_line = has_line;
+  is_spent = is_spent;
+}
 
 -- where it stands behind a line
 abbrev pub standing : Mesh → List Mesh → Standing → LogState
 standing m kept at = state_of m kept at true false
 
--- What the call that takes a line behind others promises, from one mesh, kept meshes and lists to the next: it answers whether the line
--- fits, and if so, the line is taken.
-pub record Takes (beyond : ℕ) (line : LogLine) (m : Mesh) (kept : List Mesh) (at : Standing) (n : Mesh) (left : List Mesh) (next : Standing) (result : Result Bool NoMemory) : Type 0 where
+-- What the call that takes a line behind others promises, from one mesh, kept meshes and lists to
+-- the next: it answers whether the line fits, and if so, the line is taken.
+pub record Takes (beyond : ℕ) (line : LogLine) (m : Mesh) (kept : List Mesh) (at : Standing)
+    (n : Mesh) (left : List Mesh) (next : Standing) (result : Result Bool NoMemory) : Type 0 where
   pub fits : IfOk result (λ fits. IsTrue fits ↔ FitsLater (standing m kept at) line)
   pub taken : result ≡ Ok true → standing n left next ≡ with_line (standing m kept at) line
   pub holds : result ≡ Ok true → Holds beyond n left next

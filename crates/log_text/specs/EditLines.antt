@@ -23,14 +23,18 @@ use Rattle.log_text.specs.Values.{is_latest, edge_at, position_at, place_at, rea
 abbrev pub length_of : Bool → List (List ℕ) → Result ℕ TextWhy
 length_of ended words = whole ended 1 (spelled_at 0 LENGTH_MAX) words
 
--- pass: the kind, and the length of those that go by one; only the version that is written tells of a pass by the sizing
+-- pass: the kind, and the length of those that go by one; only the version that is
+-- written tells of a pass by the sizing
 unfoldable pub pass_of : ℕ → Bool → List (List ℕ) → Result LogLine TextWhy
 pass_of version ended [] = Err why.Short
 pass_of version ended (kind ∷ words) =
-    if bytes_eq kind (codes "split") then (length_of ended words >>= λ n. Ok (line.Pass (pass.Split n)))
-    else if bytes_eq kind (codes "collapse") then (length_of ended words >>= λ n. Ok (line.Pass (pass.Collapse n)))
+    if bytes_eq kind (codes "split")
+    then (length_of ended words >>= λ n. Ok (line.Pass (pass.Split n)))
+    else if bytes_eq kind (codes "collapse")
+    then (length_of ended words >>= λ n. Ok (line.Pass (pass.Collapse n)))
     else if bytes_eq kind (codes "flip") then alone ended (line.Pass pass.Flip) words
-    else if bytes_eq kind (codes "zip") then (length_of ended words >>= λ n. Ok (line.Pass (pass.Zip n)))
+    else if bytes_eq kind (codes "zip")
+    then (length_of ended words >>= λ n. Ok (line.Pass (pass.Zip n)))
     else if bytes_eq kind (codes "pinch") then alone ended (line.Pass pass.Pinch) words
     else if bytes_eq kind (codes "fit") && is_latest version then alone ended line.PassFit words
     else Err why.Unknown
@@ -39,7 +43,9 @@ pass_of version ended (kind ∷ words) =
 
 -- split A B W X Y Z
 unfoldable pub split_of : Bool → List (List ℕ) → Result LogLine TextWhy
-split_of ended words = whole ended 6 (both edge_at place_at) words >>= λ s. Ok (line.Did (change.Split s.0.0 s.0.1 s.1.w s.1.at))
+split_of ended words =
+    whole ended 6 (both edge_at place_at) words
+    >>= λ s. Ok (line.Did (change.Split s.0.0 s.0.1 s.1.w s.1.at))
 
 -- flip A B
 unfoldable pub flip_of : Bool → List (List ℕ) → Result LogLine TextWhy
@@ -47,15 +53,20 @@ flip_of ended words = whole ended 2 edge_at words >>= λ e. Ok (line.Did (change
 
 -- collapse A B X Y Z
 unfoldable pub collapse_of : Bool → List (List ℕ) → Result LogLine TextWhy
-collapse_of ended words = whole ended 5 (both edge_at position_at) words >>= λ c. Ok (line.Did (change.Collapse c.0.0 c.0.1 c.1))
+collapse_of ended words =
+    whole ended 5 (both edge_at position_at) words
+    >>= λ c. Ok (line.Did (change.Collapse c.0.0 c.0.1 c.1))
 
 -- two edges and the turn
 unfoldable pub zip_of : Bool → List (List ℕ) → Result LogLine TextWhy
-zip_of ended words = whole ended 5 (both edge_at (both edge_at (spelled_at 0 TURN_MAX))) words >>= λ z. Ok (line.Did (change.Zip z.0.0 z.0.1 z.1.0.0 z.1.0.1 z.1.1))
+zip_of ended words =
+    whole ended 5 (both edge_at (both edge_at (spelled_at 0 TURN_MAX))) words
+    >>= λ z. Ok (line.Did (change.Zip z.0.0 z.0.1 z.1.0.0 z.1.0.1 z.1.1))
 
 -- ---- edits that are not done
 
--- as many words behind the reason as it asks for, which is as many as there are where it is misspelt, and the LF
+-- as many words behind the reason as it asks for, which is as many as there are
+-- where it is misspelt, and the LF
 unfoldable pub reason_with_end : ℕ → Bool → List (List ℕ) → Result (Unit {0}) TextWhy
 reason_with_end version ended [] = Err why.Short
 reason_with_end version ended (word ∷ words) =
@@ -65,7 +76,8 @@ reason_with_end version ended (word ∷ words) =
     else Err why.Short
 
 -- so many words that name what was asked, and the reason
-unfoldable pub asked_of : {A : Type 0} → ℕ → Bool → ℕ → Reader A → List (List ℕ) → Result (A × Why) TextWhy
+unfoldable pub asked_of : {A : Type 0} → ℕ → Bool → ℕ → Reader A → List (List ℕ) →
+    Result (A × Why) TextWhy
 asked_of version ended count read words = do
   counted ← reason_with_end version ended (drop count words)
   found ← both read (reason_at version) words
@@ -75,11 +87,20 @@ asked_of version ended count read words = do
 unfoldable pub no_of : ℕ → Bool → List (List ℕ) → Result LogLine TextWhy
 no_of version ended [] = Err why.Short
 no_of version ended (edit ∷ words) =
-    if bytes_eq edit (codes "split") then (asked_of version ended 2 edge_at words >>= λ n. Ok (line.No (asked.Split n.0.0 n.0.1) n.1))
-    else if bytes_eq edit (codes "flip") then (asked_of version ended 2 edge_at words >>= λ n. Ok (line.No (asked.Flip n.0.0 n.0.1) n.1))
-    else if bytes_eq edit (codes "collapse") then (asked_of version ended 2 edge_at words >>= λ n. Ok (line.No (asked.Collapse n.0.0 n.0.1) n.1))
-    else if bytes_eq edit (codes "zip") then (asked_of version ended 4 (both edge_at edge_at) words >>= λ n. Ok (line.No (asked.Zip n.0.0.0 n.0.0.1 n.0.1.0 n.0.1.1) n.1))
-    else if bytes_eq edit (codes "pinch") then (asked_of version ended 1 (spelled_at 1 ID_MAX) words >>= λ n. Ok (line.No (asked.Pinch n.0) n.1))
+    if bytes_eq edit (codes "split")
+    then (asked_of version ended 2 edge_at words
+    >>= λ n. Ok (line.No (asked.Split n.0.0 n.0.1) n.1))
+    else if bytes_eq edit (codes "flip")
+    then (asked_of version ended 2 edge_at words >>= λ n. Ok (line.No (asked.Flip n.0.0 n.0.1) n.1))
+    else if bytes_eq edit (codes "collapse")
+    then (asked_of version ended 2 edge_at words
+    >>= λ n. Ok (line.No (asked.Collapse n.0.0 n.0.1) n.1))
+    else if bytes_eq edit (codes "zip")
+    then (asked_of version ended 4 (both edge_at edge_at) words
+    >>= λ n. Ok (line.No (asked.Zip n.0.0.0 n.0.0.1 n.0.1.0 n.0.1.1) n.1))
+    else if bytes_eq edit (codes "pinch")
+    then (asked_of version ended 1 (spelled_at 1 ID_MAX) words
+    >>= λ n. Ok (line.No (asked.Pinch n.0) n.1))
     else Err why.Unknown
 
 -- the line of a pass or an edit, by its first word
@@ -97,12 +118,14 @@ edit_of version ended first words =
 
 -- so many words or more, and the LF
 unfoldable pub at_least : Bool → ℕ → List (List ℕ) → Result (Unit {0}) TextWhy
-at_least ended count words = if nat_lt (length words) count then Err why.Short else if ended then Ok tt else Err why.Short
+at_least ended count words =
+    if nat_lt (length words) count then Err why.Short else if ended then Ok tt else Err why.Short
 
 -- the ids so far, and then those that the words spell, each above the one before
 abbrev pub ids_add : List ℕ → ℕ → List (List ℕ) → Result (List ℕ) TextWhy
 ids_add ids low [] = Ok ids
-ids_add ids low (word ∷ words) = spelled_from low ID_MAX (spelled_number word) >>= λ v. ids_add (ids ++ v ∷ []) (v + 1) words
+ids_add ids low (word ∷ words) =
+    spelled_from low ID_MAX (spelled_number word) >>= λ v. ids_add (ids ++ v ∷ []) (v + 1) words
 
 -- two ids or more, rising
 unfoldable pub block_of : Bool → List (List ℕ) → Result LogLine TextWhy
@@ -125,7 +148,8 @@ places_add places [] = Ok places
 places_add places (w ∷ []) = Err why.Short
 places_add places (w ∷ x ∷ []) = Err why.Short
 places_add places (w ∷ x ∷ y ∷ []) = Err why.Short
-places_add places (w ∷ x ∷ y ∷ z ∷ words) = place_at (w ∷ x ∷ y ∷ z ∷ words) >>= λ place. places_add (places ++ place.0 ∷ []) words
+places_add places (w ∷ x ∷ y ∷ z ∷ words) =
+    place_at (w ∷ x ∷ y ∷ z ∷ words) >>= λ place. places_add (places ++ place.0 ∷ []) words
 
 -- the vertex and its point, where one copy or more stands behind it
 unfoldable pub first_place : Bool → Reader CopyAt

@@ -110,8 +110,10 @@ abbrev pub IsChangeInRange : Change → Type 0
 IsChangeInRange (change.Split a b w at) = IsEdgeInRange a b × IsFrom 1 ID_MAX w
 IsChangeInRange (change.Flip a b) = IsEdgeInRange a b
 IsChangeInRange (change.Collapse a b at) = IsEdgeInRange a b
-IsChangeInRange (change.Zip a b e f turn) = IsEdgeInRange a b × IsEdgeInRange e f × (turn ≤ TURN_MAX)
-IsChangeInRange (change.Pinch v at copies) = IsFrom 1 ID_MAX v × (0 < length copies) × All (λ c. IsFrom 1 ID_MAX c.w) copies
+IsChangeInRange (change.Zip a b e f turn) =
+    IsEdgeInRange a b × IsEdgeInRange e f × (turn ≤ TURN_MAX)
+IsChangeInRange (change.Pinch v at copies) =
+    IsFrom 1 ID_MAX v × (0 < length copies) × All (λ c. IsFrom 1 ID_MAX c.w) copies
 
 -- the ids of what was asked
 abbrev pub IsAskedInRange : Asked → Type 0
@@ -129,7 +131,8 @@ IsReasonInRange _ = Unit {0}
 -- the values of a line are in their ranges
 abbrev pub IsInRange : LogLine → Type 0
 IsInRange (line.First version) = Unit {0}
-IsInRange (line.Mesh k vertices faces) = (k ≤ COUNT_MAX) × (vertices ≤ VERTICES_MAX) × (faces ≤ FACES_MAX)
+IsInRange (line.Mesh k vertices faces) =
+    (k ≤ COUNT_MAX) × (vertices ≤ VERTICES_MAX) × (faces ≤ FACES_MAX)
 IsInRange (line.Step k) = IsFrom 1 COUNT_MAX k
 IsInRange (line.Solid v) = IsFrom 1 ID_MAX v
 IsInRange (line.Hit pair) = IsPairInRange pair
@@ -174,8 +177,8 @@ IsRefusalOfVersion version (refusal.Meets pair) = Unit {0}
 IsRefusalOfVersion version (refusal.Steps fault) = IsWhyOf (is_latest version) fault.why
 IsRefusalOfVersion version (refusal.StepUse at why) = IsUseOfVersion version why
 
--- The line is one of this version's lines: a first line names the version, and only the one that is written tells of solid
--- vertices, of passes by the sizing, of groups, and of logs and proofs.
+-- The line is one of this version's lines: a first line names the version, and only the one that is
+-- written tells of solid vertices, of passes by the sizing, of groups, and of logs and proofs.
 abbrev pub IsOfVersion : ℕ → LogLine → Type 0
 IsOfVersion version (line.First v) = v ≡ version
 IsOfVersion version (line.Solid v) = version ≡ VERSION
@@ -199,17 +202,23 @@ IsLineOf version l = IsInRange l × IsOfVersion version l
 
 -- bytes are read as a line exactly where they are its body and it is in range
 abbrev pub LinesAreTheirSpellings : Type 0
-LinesAreTheirSpellings = (version : ℕ) → version < 2 ^ 8 → (body : List ℕ) (l : LogLine) → (line_of version true (spaced_words body) ≡ Ok l) ↔ (IsInRange l × IsOfVersion version l × (body_of l ≡ body))
+LinesAreTheirSpellings = (version : ℕ) → version < 2 ^ 8 → (body : List ℕ) (l : LogLine) →
+    (line_of version true (spaced_words body) ≡ Ok l)
+    ↔ (IsInRange l × IsOfVersion version l × (body_of l ≡ body))
 
 -- no body has LF in it
 abbrev pub BodiesHaveNoEnd : Type 0
-BodiesHaveNoEnd = (version : ℕ) → version < 2 ^ 8 → (l : LogLine) → IsInRange l → IsOfVersion version l → All (λ b. ¬ (b ≡ 10)) (body_of l)
+BodiesHaveNoEnd = (version : ℕ) → version < 2 ^ 8 → (l : LogLine) → IsInRange l →
+    IsOfVersion version l → All (λ b. ¬ (b ≡ 10)) (body_of l)
 
--- A text is read as lines exactly where it is their text, and each is in range and of the version that the first line names.
+-- A text is read as lines exactly where it is their text, and each is in range and of the
+-- version that the first line names.
 abbrev pub LogsAreTheirLines : Type 0
-LogsAreTheirLines = (bytes : List ℕ) (ls : List LogLine) → (log_of bytes ≡ Ok ls) ↔ (All (IsLineOf (version_of bytes)) ls × (text_of_lines ls ≡ bytes))
+LogsAreTheirLines = (bytes : List ℕ) (ls : List LogLine) →
+    (log_of bytes ≡ Ok ls) ↔ (All (IsLineOf (version_of bytes)) ls × (text_of_lines ls ≡ bytes))
 
--- The text of a log whose first line names the version that is written is read as the log's lines, where each further one is
--- in range and names no other version.
+-- The text of a log whose first line names the version that is written is read as the log's lines,
+-- where each further one is in range and names no other version.
 abbrev pub WrittenLogsAreRead : Type 0
-WrittenLogsAreRead = (ls : List LogLine) → All (λ l. IsInRange l × NamesNoOther l) ls → log_of (text_of_lines (line.First VERSION ∷ ls)) ≡ Ok (line.First VERSION ∷ ls)
+WrittenLogsAreRead = (ls : List LogLine) → All (λ l. IsInRange l × NamesNoOther l) ls →
+    log_of (text_of_lines (line.First VERSION ∷ ls)) ≡ Ok (line.First VERSION ∷ ls)

@@ -113,11 +113,14 @@ places_words (c ∷ cs) = place_words c ++ places_words cs
 
 -- an edit that is done
 abbrev pub change_words : Change → List (List ℕ)
-change_words (change.Split a b w at) = codes "split" ∷ decimal a ∷ decimal b ∷ decimal w ∷ point_words at
+change_words (change.Split a b w at) =
+    codes "split" ∷ decimal a ∷ decimal b ∷ decimal w ∷ point_words at
 change_words (change.Flip a b) = codes "flip" ∷ decimal a ∷ decimal b ∷ []
 change_words (change.Collapse a b at) = codes "collapse" ∷ decimal a ∷ decimal b ∷ point_words at
-change_words (change.Zip a b e f turn) = codes "zip" ∷ decimal a ∷ decimal b ∷ decimal e ∷ decimal f ∷ decimal turn ∷ []
-change_words (change.Pinch v at copies) = codes "pinch" ∷ places_words (record { w = v; at = at } ∷ copies)
+change_words (change.Zip a b e f turn) =
+    codes "zip" ∷ decimal a ∷ decimal b ∷ decimal e ∷ decimal f ∷ decimal turn ∷ []
+change_words (change.Pinch v at copies) =
+    codes "pinch" ∷ places_words (record { w = v; at = at } ∷ copies)
 
 -- an edit that was asked for
 abbrev pub asked_words : Asked → List (List ℕ)
@@ -149,12 +152,15 @@ kept_word false = codes "undone"
 -- the words of a line
 abbrev pub line_words : LogLine → List (List ℕ)
 line_words (line.First version) = codes "topo" ∷ codes "log" ∷ decimal version ∷ []
-line_words (line.Mesh k vertices faces) = codes "mesh" ∷ decimal k ∷ decimal vertices ∷ decimal faces ∷ []
+line_words (line.Mesh k vertices faces) =
+    codes "mesh" ∷ decimal k ∷ decimal vertices ∷ decimal faces ∷ []
 line_words (line.Step k) = codes "step" ∷ decimal k ∷ []
 line_words (line.Solid v) = codes "solid" ∷ decimal v ∷ []
 line_words (line.Hit pair) = codes "hit" ∷ pair_words pair
 line_words (line.Block ids) = codes "block" ∷ map decimal ids
-line_words (line.Move s) = codes "move" ∷ decimal s.v ∷ signed_decimal s.by.x ∷ signed_decimal s.by.y ∷ signed_decimal s.by.z ∷ []
+line_words (line.Move s) =
+    codes "move" ∷ decimal s.v ∷ signed_decimal s.by.x ∷ signed_decimal s.by.y
+    ∷ signed_decimal s.by.z ∷ []
 line_words (line.Moved how) = codes "moved" ∷ how_words how
 line_words (line.Pass kind) = codes "pass" ∷ pass_words kind
 line_words line.PassFit = codes "pass" ∷ codes "fit" ∷ []
@@ -194,7 +200,8 @@ done_text done = text_of_line (line.Did done)
 abbrev pub refused_text : Refusal → List ℕ
 refused_text why = text_of_line (line.Refused why)
 
--- the vertex that is pinched and its copies, each with its point and with a space in front of each word
+-- the vertex that is pinched and its copies, each with its point and
+-- with a space in front of each word
 abbrev pub spaced_pinch : ℕ → Point → List CopyAt → List ℕ
 spaced_pinch v at copies = spaced (places_words (record { w = v; at = at } ∷ copies))
 

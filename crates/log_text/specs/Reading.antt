@@ -1,5 +1,6 @@
 -- The reader's grammar: the line that words spell, or the reason.
-use Rattle.std.specs.Prelude.{ℕ, ◌+◌, Bool, ◌==◌, ◌&&◌, if◌then◌else◌, List, [], ◌∷◌, ◌++◌, length, Option, Some, None, Result, Ok, Err, codes, true, false}
+use Rattle.std.specs.Prelude.{ℕ, ◌+◌, Bool, ◌==◌, ◌&&◌, if◌then◌else◌, List, [], ◌∷◌, ◌++◌}
+use Rattle.std.specs.Prelude.{length, Option, Some, None, Result, Ok, Err, codes, true, false}
 use Rattle.std.specs.List.{slice_split}
 use Rattle.std.specs.Str.{bytes_eq}
 use Rattle.grid_base.specs.declared.TheConstants.{VERTICES_MAX, FACES_MAX, ID_MAX, HALVINGS_MAX}
@@ -29,11 +30,16 @@ use Rattle.log_text.specs.EditLines.{block_of, pinch_of, edit_of}
 unfoldable pub first_of : ℕ → Bool → List (List ℕ) → Result LogLine TextWhy
 first_of version ended [] = Err why.Short
 first_of version ended (name ∷ words) =
-    if bytes_eq name (codes "log") then (whole ended 1 (spelled_at version version) words >>= λ v. Ok (line.First v)) else Err why.Unknown
+    if bytes_eq name (codes "log")
+    then (whole ended 1 (spelled_at version version) words >>= λ v. Ok (line.First v))
+    else Err why.Unknown
 
 -- mesh K V F
 unfoldable pub mesh_of : Bool → List (List ℕ) → Result LogLine TextWhy
-mesh_of ended words = whole ended 3 (both (spelled_at 0 COUNT_MAX) (both (spelled_at 0 VERTICES_MAX) (spelled_at 0 FACES_MAX))) words >>= λ found. Ok (line.Mesh found.0 found.1.0 found.1.1)
+mesh_of ended words =
+    whole ended 3 (both (spelled_at 0 COUNT_MAX)
+    (both (spelled_at 0 VERTICES_MAX) (spelled_at 0 FACES_MAX))) words
+    >>= λ found. Ok (line.Mesh found.0 found.1.0 found.1.1)
 
 -- step K
 unfoldable pub step_of : Bool → List (List ℕ) → Result LogLine TextWhy
@@ -52,9 +58,12 @@ unfoldable pub moved_of : Bool → List (List ℕ) → Result LogLine TextWhy
 moved_of ended [] = Err why.Short
 moved_of ended (how ∷ words) =
     if bytes_eq how (codes "whole") then alone ended (line.Moved Whole) words
-    else if bytes_eq how (codes "impulse") then (whole ended 1 (spelled_at 1 PASSES_MAX) words >>= λ n. Ok (line.Moved (Impulse n)))
-    else if bytes_eq how (codes "zones") then (whole ended 1 (spelled_at 1 ROUNDS_MAX) words >>= λ n. Ok (line.Moved (Zones n)))
-    else if bytes_eq how (codes "halved") then (whole ended 1 (spelled_at 1 HALVINGS_MAX) words >>= λ n. Ok (line.Moved (Halved n)))
+    else if bytes_eq how (codes "impulse")
+    then (whole ended 1 (spelled_at 1 PASSES_MAX) words >>= λ n. Ok (line.Moved (Impulse n)))
+    else if bytes_eq how (codes "zones")
+    then (whole ended 1 (spelled_at 1 ROUNDS_MAX) words >>= λ n. Ok (line.Moved (Zones n)))
+    else if bytes_eq how (codes "halved")
+    then (whole ended 1 (spelled_at 1 HALVINGS_MAX) words >>= λ n. Ok (line.Moved (Halved n)))
     else if bytes_eq how (codes "zero") then alone ended (line.Moved Zero) words
     else Err why.Unknown
 
@@ -87,18 +96,32 @@ long_of version ended (word ∷ words) = do
 -- refused missing: the file
 unfoldable pub missing_of : ℕ → Bool → List (List ℕ) → Result LogLine TextWhy
 missing_of version ended [] = Err why.Short
-missing_of version ended (word ∷ words) = or_unknown (file_of version word) >>= λ name. alone ended (line.Refused (refusal.Missing name)) words
+missing_of version ended (word ∷ words) =
+    or_unknown (file_of version word)
+    >>= λ name. alone ended (line.Refused (refusal.Missing name)) words
 
 -- refused shape: what is too many, or which corner, face or side is wrong
 unfoldable pub shape_of : Bool → List (List ℕ) → Result LogLine TextWhy
 shape_of ended [] = Err why.Short
 shape_of ended (word ∷ words) =
-    if bytes_eq word (codes "vertices") then (whole ended 1 (spelled_at 0 SEEN_MAX) words >>= λ n. refused (refusal.Shape (shape.TooManyVertices n)))
-    else if bytes_eq word (codes "faces") then (whole ended 1 (spelled_at 0 SEEN_MAX) words >>= λ n. refused (refusal.Shape (shape.TooManyFaces n)))
-    else if bytes_eq word (codes "corner") then (whole ended 2 (both (spelled_at 1 COUNT_MAX) (spelled_at 1 CORNER_MAX)) words >>= λ n. refused (refusal.Shape (shape.NoVertex n.0 n.1)))
-    else if bytes_eq word (codes "repeated") then (whole ended 1 (spelled_at 1 COUNT_MAX) words >>= λ n. refused (refusal.Shape (shape.Repeated n)))
-    else if bytes_eq word (codes "doubled") then (whole ended 2 (both (spelled_at 1 COUNT_MAX) (spelled_at 1 COUNT_MAX)) words >>= λ n. refused (refusal.Shape (shape.Doubled n.0 n.1)))
-    else if bytes_eq word (codes "unbalanced") then (whole ended 2 (both (spelled_at 1 COUNT_MAX) (spelled_at 1 COUNT_MAX)) words >>= λ n. refused (refusal.Shape (shape.Unbalanced n.0 n.1)))
+    if bytes_eq word (codes "vertices")
+    then (whole ended 1 (spelled_at 0 SEEN_MAX) words
+    >>= λ n. refused (refusal.Shape (shape.TooManyVertices n)))
+    else if bytes_eq word (codes "faces")
+    then (whole ended 1 (spelled_at 0 SEEN_MAX) words
+    >>= λ n. refused (refusal.Shape (shape.TooManyFaces n)))
+    else if bytes_eq word (codes "corner")
+    then (whole ended 2 (both (spelled_at 1 COUNT_MAX) (spelled_at 1 CORNER_MAX)) words
+    >>= λ n. refused (refusal.Shape (shape.NoVertex n.0 n.1)))
+    else if bytes_eq word (codes "repeated")
+    then (whole ended 1 (spelled_at 1 COUNT_MAX) words
+    >>= λ n. refused (refusal.Shape (shape.Repeated n)))
+    else if bytes_eq word (codes "doubled")
+    then (whole ended 2 (both (spelled_at 1 COUNT_MAX) (spelled_at 1 COUNT_MAX)) words
+    >>= λ n. refused (refusal.Shape (shape.Doubled n.0 n.1)))
+    else if bytes_eq word (codes "unbalanced")
+    then (whole ended 2 (both (spelled_at 1 COUNT_MAX) (spelled_at 1 COUNT_MAX)) words
+    >>= λ n. refused (refusal.Shape (shape.Unbalanced n.0 n.1)))
     else Err why.Unknown
 
 -- the number of a directive's line, and behind the reason a vertex
@@ -111,16 +134,23 @@ use_numbers ended at words = do
 
 -- the number of a directive's line, with no word behind the reason
 unfoldable pub use_line : Bool → List ℕ → List (List ℕ) → Result ℕ TextWhy
-use_line ended at words = count_with_end ended 0 words >>= λ counted. spelled_from 1 COUNT_MAX (spelled_number at)
+use_line ended at words =
+    count_with_end ended 0 words >>= λ counted. spelled_from 1 COUNT_MAX (spelled_number at)
 
--- The word behind the line's number says how many follow; a misspelt one asks for as many as follow.
+-- The word behind the line's number says how many follow; a
+-- misspelt one asks for as many as follow.
 unfoldable pub why_of_use : ℕ → Bool → List ℕ → List ℕ → List (List ℕ) → Result LogLine TextWhy
 why_of_use version ended at word words =
-    if bytes_eq word (codes "vertex") then (use_numbers ended at words >>= λ n. refused (refusal.StepUse n.0 (using.NoVertex n.1)))
-    else if bytes_eq word (codes "range") then (use_numbers ended at words >>= λ n. refused (refusal.StepUse n.0 (using.ShiftRange n.1)))
-    else if bytes_eq word (codes "box") then (use_numbers ended at words >>= λ n. refused (refusal.StepUse n.0 (using.Box n.1)))
-    else if bytes_eq word (codes "field") then (use_line ended at words >>= λ n. refused (refusal.StepUse n using.NoField))
-    else if bytes_eq word (codes "solid") && is_latest version then (use_numbers ended at words >>= λ n. refused (refusal.StepUse n.0 (using.Solid n.1)))
+    if bytes_eq word (codes "vertex")
+    then (use_numbers ended at words >>= λ n. refused (refusal.StepUse n.0 (using.NoVertex n.1)))
+    else if bytes_eq word (codes "range")
+    then (use_numbers ended at words >>= λ n. refused (refusal.StepUse n.0 (using.ShiftRange n.1)))
+    else if bytes_eq word (codes "box")
+    then (use_numbers ended at words >>= λ n. refused (refusal.StepUse n.0 (using.Box n.1)))
+    else if bytes_eq word (codes "field")
+    then (use_line ended at words >>= λ n. refused (refusal.StepUse n using.NoField))
+    else if bytes_eq word (codes "solid") && is_latest version
+    then (use_numbers ended at words >>= λ n. refused (refusal.StepUse n.0 (using.Solid n.1)))
     else if ended then Err why.Number
     else Err why.Short
 
@@ -136,10 +166,14 @@ refused_of version ended [] = Err why.Short
 refused_of version ended (word ∷ words) =
     if bytes_eq word (codes "long") then long_of version ended words
     else if bytes_eq word (codes "missing") then missing_of version ended words
-    else if bytes_eq word (codes "mesh") then (whole ended 2 (fault_at false) words >>= λ fault. refused (refusal.Mesh fault))
+    else if bytes_eq word (codes "mesh")
+    then (whole ended 2 (fault_at false) words >>= λ fault. refused (refusal.Mesh fault))
     else if bytes_eq word (codes "shape") then shape_of ended words
-    else if bytes_eq word (codes "meets") then (whole ended 3 pair_at words >>= λ pair. refused (refusal.Meets pair))
-    else if bytes_eq word (codes "steps") then (whole ended 2 (fault_at (is_latest version)) words >>= λ fault. refused (refusal.Steps fault))
+    else if bytes_eq word (codes "meets")
+    then (whole ended 3 pair_at words >>= λ pair. refused (refusal.Meets pair))
+    else if bytes_eq word (codes "steps")
+    then (whole ended 2 (fault_at (is_latest version)) words
+    >>= λ fault. refused (refusal.Steps fault))
     else if bytes_eq word (codes "use") then use_of version ended words
     else Err why.Unknown
 
@@ -183,23 +217,29 @@ line_of version ended (first ∷ words) =
 
 -- the lines so far and the one that a part of a text spells
 abbrev pub line_adds : ℕ → List LogLine → Bool → List ℕ → Result (List LogLine) TextWhy
-line_adds version lines ended text = line_of version ended (spaced_words text) >>= λ l. Ok (lines ++ l ∷ [])
+line_adds version lines ended text =
+    line_of version ended (spaced_words text) >>= λ l. Ok (lines ++ l ∷ [])
 
--- the lines so far and then those of the parts between LFs, numbered on: each but the last is ended, and an empty last one
--- is no line
+-- the lines so far and then those of the parts between LFs, numbered on: each but the last is
+-- ended, and an empty last one is no line
 abbrev pub parts_add : ℕ → List LogLine → ℕ → List (List ℕ) → Result (List LogLine) TextFault
 parts_add version lines number [] = Ok lines
-parts_add version lines number (last ∷ []) = if length last == 0 then Ok lines else at_line number (line_adds version lines false last)
-parts_add version lines number (part ∷ next ∷ parts) = at_line number (line_adds version lines true part) >>= λ more. parts_add version more (number + 1) (next ∷ parts)
+parts_add version lines number (last ∷ []) =
+    if length last == 0 then Ok lines else at_line number (line_adds version lines false last)
+parts_add version lines number (part ∷ next ∷ parts) =
+    at_line number (line_adds version lines true part)
+    >>= λ more. parts_add version more (number + 1) (next ∷ parts)
 
 -- the parts of a text between LFs
 abbrev pub parts_of_text : List ℕ → List (List ℕ)
 parts_of_text bytes = slice_split (λ b. b == 10) bytes
 
--- the version by which parts are read: the one that is written where the first of them names it, and otherwise the old one
+-- the version by which parts are read: the one that is written where the first of them
+-- names it, and otherwise the old one
 abbrev pub version_in : List (List ℕ) → ℕ
 version_in [] = OLD_VERSION
-version_in (first ∷ parts) = if bytes_eq first (body_of (line.First VERSION)) then VERSION else OLD_VERSION
+version_in (first ∷ parts) =
+    if bytes_eq first (body_of (line.First VERSION)) then VERSION else OLD_VERSION
 
 -- the version by which a text is read
 abbrev pub version_of : List ℕ → ℕ

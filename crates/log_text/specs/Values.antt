@@ -24,13 +24,15 @@ is_latest version = version == VERSION
 -- the smaller end of an edge, its larger end, and a face
 unfoldable pub pair_at : Reader PairName
 pair_at words = do
-  found ← in_turn (spelled_at 1 ID_MAX) (λ a. both (spelled_at (a + 1) ID_MAX) (spelled_at 1 ID_MAX)) words
+  found ← in_turn (spelled_at 1 ID_MAX)
+      (λ a. both (spelled_at (a + 1) ID_MAX) (spelled_at 1 ID_MAX)) words
   Ok (record { a = found.0.0; b = found.0.1.0; face = found.0.1.1 }, found.1)
 
 -- a vertex and its shift
 unfoldable pub shift_of_at : Reader ShiftOf
 shift_of_at words = do
-  found ← both (spelled_at 1 ID_MAX) (both (spelled_signed_at SHIFT_MAX) (both (spelled_signed_at SHIFT_MAX) (spelled_signed_at SHIFT_MAX))) words
+  found ← both (spelled_at 1 ID_MAX) (both (spelled_signed_at SHIFT_MAX)
+      (both (spelled_signed_at SHIFT_MAX) (spelled_signed_at SHIFT_MAX))) words
   Ok (record { v = found.0.0; by = shift_by (record { x = found.0.1.0; y = found.0.1.1.0; z = found.0.1.1.1 }) }, found.1)
 
 -- the reason that a word names, of a text with or without groups
@@ -97,7 +99,8 @@ reason_at version (word ∷ words) =
 
 -- exactly so many words, and the value that they give
 abbrev pub whole : {A : Type 0} → Bool → ℕ → Reader A → List (List ℕ) → Result A TextWhy
-whole ended count read words = count_with_end ended count words >>= λ counted. read words >>= λ found. Ok found.0
+whole ended count read words =
+    count_with_end ended count words >>= λ counted. read words >>= λ found. Ok found.0
 
 -- a line with no further word
 abbrev pub alone : {A : Type 0} → Bool → A → List (List ℕ) → Result A TextWhy

@@ -8,7 +8,8 @@ use Rattle.mesh_base.specs.Mesh.{Mesh, AreLive, AreDifferent, HasCorners, equal_
 
 -- a list of three, as corners
 abbrev pub corners_of : List ℕ → Corners
-corners_of ids = record { first = slice_index ids 0; second = slice_index ids 1; third = slice_index ids 2 }
+corners_of ids =
+    record { first = slice_index ids 0; second = slice_index ids 1; third = slice_index ids 2 }
 
 -- corners, as a list of three
 abbrev pub corner_list : Corners → List ℕ
@@ -16,7 +17,8 @@ corner_list c = c.first ∷ c.second ∷ c.third ∷ []
 
 -- a vertex more, at the point, with the next id
 abbrev pub with_vertex : Mesh → Point → Mesh
-with_vertex m p = record m { points = map.insert m.points m.next_vertex p; next_vertex = m.next_vertex + 1 }
+with_vertex m p =
+    record m { points = map.insert m.points m.next_vertex p; next_vertex = m.next_vertex + 1 }
 
 -- a face more, with the next id
 abbrev pub with_face : Mesh → Corners → Mesh

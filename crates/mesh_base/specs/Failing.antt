@@ -1,4 +1,5 @@
--- The pairs that do not pass, and those that meet. `meets` is a test that tells whether five positions meet.
+-- The pairs that do not pass, and those that meet. `meets` is a test that
+-- tells whether five positions meet.
 use Rattle.std.specs.Prelude.{ℕ, Bool, not, List, map}
 use Rattle.std.specs.Option.{option_map}
 use Rattle.std.specs.List.{filter, find}
@@ -17,7 +18,8 @@ pair_passes meets depth w p = passes meets depth (positions w.start p) (position
 
 -- all pairs, in order, that do not pass when each vertex goes from its point by its shift
 abbrev pub failing : (Positions → Bool) → Mesh → Shifts → ℕ → List PairName
-failing meets m shifts depth = map (λ p. p.name) (filter (λ p. not (pair_passes meets depth (moved_by m shifts) p)) (pairs m))
+failing meets m shifts depth =
+    map (λ p. p.name) (filter (λ p. not (pair_passes meets depth (moved_by m shifts) p)) (pairs m))
 
 -- the first pair that meets
 abbrev pub first_meeting : (Positions → Bool) → Mesh → Placement → Option PairName

@@ -12,7 +12,13 @@ Faces = List (List ℕ)
 
 -- a mesh with nothing in it
 abbrev pub empty_mesh : Mesh
-empty_mesh = record { points = finite.empty; faces = finite.empty; solid = finite.empty; next_vertex = 1; next_face = 1 }
+empty_mesh = record {
+  points = finite.empty;
+  faces = finite.empty;
+  solid = finite.empty;
+  next_vertex = 1;
+  next_face = 1;
+}
 
 -- the points and the faces, numbered from 1
 abbrev pub mesh_of : List Point → Faces → Mesh

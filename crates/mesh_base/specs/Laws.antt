@@ -12,36 +12,48 @@ use Rattle.mesh_base.specs.Shifts.{Shifts, shift_at, moved_by, end_in_box, with_
 
 -- the list of edges has exactly the edges, the smaller id first
 abbrev pub EdgesAreListed : Type 0
-EdgesAreListed = (m : Mesh) → IsSound m → (u v : ℕ) → (Contains (edges m) (u, v) ↔ ((u < v) × IsEdge m u v))
+EdgesAreListed =
+    (m : Mesh) → IsSound m → (u v : ℕ) → (Contains (edges m) (u, v) ↔ ((u < v) × IsEdge m u v))
 
 -- each vertex comes to stand at its point and its shift together
 abbrev pub MovesAddShifts : Type 0
-MovesAddShifts = (m : Mesh) (moves : Shifts) → NameOnce m moves → IsTrue (end_in_box m moves) → (v : ℕ) → rest_positions (with_moves m moves) v ≡ plus (rest_positions m v) (shift_at moves v)
+MovesAddShifts = (m : Mesh) (moves : Shifts) → NameOnce m moves → IsTrue (end_in_box m moves) →
+    (v : ℕ) → rest_positions (with_moves m moves) v ≡ plus (rest_positions m v) (shift_at moves v)
 
 -- the same vertices are live
 abbrev pub MovesKeepLive : Type 0
-MovesKeepLive = (m : Mesh) (moves : Shifts) → NameOnce m moves → (v : ℕ) → (IsLiveVertex (with_moves m moves) v ↔ IsLiveVertex m v)
+MovesKeepLive = (m : Mesh) (moves : Shifts) → NameOnce m moves → (v : ℕ) →
+    (IsLiveVertex (with_moves m moves) v ↔ IsLiveVertex m v)
 
 -- moves that are left name each vertex once
 abbrev pub LeftNameOnce : Type 0
-LeftNameOnce = (m : Mesh) (test : ShiftOf → Bool) (moves : Shifts) → NameOnce m moves → NameOnce m (filter test moves)
+LeftNameOnce = (m : Mesh) (test : ShiftOf → Bool) (moves : Shifts) → NameOnce m moves →
+    NameOnce m (filter test moves)
 
 -- where those left out shift nothing, each vertex has the shift that it had
 abbrev pub LeftShiftAlike : Type 0
-LeftShiftAlike = (test : ShiftOf → Bool) (m : Mesh) (moves : Shifts) → ((s : ShiftOf) → test s ≡ false → displacement_of s.by ≡ origin) → NameOnce m moves → (v : ℕ) → shift_at (filter test moves) v ≡ shift_at moves v
+LeftShiftAlike = (test : ShiftOf → Bool) (m : Mesh) (moves : Shifts) →
+    ((s : ShiftOf) → test s ≡ false → displacement_of s.by ≡ origin) → NameOnce m moves → (v : ℕ) →
+    shift_at (filter test moves) v ≡ shift_at moves v
 
 -- moves that are left end in the box where all did
 abbrev pub LeftEndInBox : Type 0
-LeftEndInBox = (m : Mesh) (test : ShiftOf → Bool) (moves : Shifts) → IsTrue (end_in_box m moves) → IsTrue (end_in_box m (filter test moves))
+LeftEndInBox = (m : Mesh) (test : ShiftOf → Bool) (moves : Shifts) → IsTrue (end_in_box m moves) →
+    IsTrue (end_in_box m (filter test moves))
 
 -- after moves that are clear at every fraction and end in the box, the mesh is clear
 abbrev pub ClearMotionLeavesClear : Type 0
-ClearMotionLeavesClear = (m : Mesh) (moves : Shifts) → NameOnce m moves → IsTrue (end_in_box m moves) → IsClearAlong m (moved_by m moves) → IsClearMesh (with_moves m moves)
+ClearMotionLeavesClear = (m : Mesh) (moves : Shifts) → NameOnce m moves →
+    IsTrue (end_in_box m moves) → IsClearAlong m (moved_by m moves) →
+    IsClearMesh (with_moves m moves)
 
 -- a clear mesh whose live vertices all move by one shift is clear at every fraction
 abbrev pub TranslationIsClearAlong : Type 0
-TranslationIsClearAlong = (m : Mesh) (shifts : Shifts) (t : Triple) → IsSound m → IsClearMesh m → ((v : ℕ) → IsLiveVertex m v → shift_at shifts v ≡ t) → IsClearAlong m (moved_by m shifts)
+TranslationIsClearAlong = (m : Mesh) (shifts : Shifts) (t : Triple) → IsSound m → IsClearMesh m →
+    ((v : ℕ) → IsLiveVertex m v → shift_at shifts v ≡ t) → IsClearAlong m (moved_by m shifts)
 
 -- and clear after
 abbrev pub TranslationLeavesClear : Type 0
-TranslationLeavesClear = (m : Mesh) (moves : Shifts) (t : Triple) → IsSound m → IsClearMesh m → ((v : ℕ) → IsLiveVertex m v → shift_at moves v ≡ t) → NameOnce m moves → IsTrue (end_in_box m moves) → IsClearMesh (with_moves m moves)
+TranslationLeavesClear = (m : Mesh) (moves : Shifts) (t : Triple) → IsSound m → IsClearMesh m →
+    ((v : ℕ) → IsLiveVertex m v → shift_at moves v ≡ t) → NameOnce m moves →
+    IsTrue (end_in_box m moves) → IsClearMesh (with_moves m moves)

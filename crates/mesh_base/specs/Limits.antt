@@ -6,7 +6,9 @@ use Rattle.mesh_base.specs.Mesh.{Mesh}
 
 -- whether so many live vertices, live faces and next ids are more than there may be
 abbrev pub are_over : ℕ → ℕ → ℕ → ℕ → Bool
-are_over vertices faces next_vertex next_face = nat_lt VERTICES_MAX vertices || nat_lt FACES_MAX faces || nat_lt (ID_MAX + 1) next_vertex || nat_lt (ID_MAX + 1) next_face
+are_over vertices faces next_vertex next_face =
+    nat_lt VERTICES_MAX vertices || nat_lt FACES_MAX faces || nat_lt (ID_MAX + 1) next_vertex
+    || nat_lt (ID_MAX + 1) next_face
 
 -- more live vertices, live faces or ids made than there may be
 abbrev pub is_over_limits : Mesh → Bool

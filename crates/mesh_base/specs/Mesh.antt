@@ -11,7 +11,8 @@ use Rattle.mesh_base.specs.declared.ids.Corners.{Corners}
 abbrev pub IdSet : Type 0
 IdSet = map.FinMap nat_cmp (Unit {0})
 
--- the points of the live vertices, the corners of the live faces, the solid vertices, and the ids that come next
+-- the points of the live vertices, the corners of the live faces, the solid
+-- vertices, and the ids that come next
 pub record Mesh : Type 0 where
   pub points : map.FinMap nat_cmp Point
   pub faces : map.FinMap nat_cmp Corners
@@ -55,7 +56,8 @@ same_corners c d = (c.first == d.first) && (c.second == d.second) && (c.third ==
 
 -- whether the one is the other, turned or not
 abbrev pub equal_up_to_rotation : Corners → Corners → Bool
-equal_up_to_rotation c d = same_corners c d || same_corners (turned c) d || same_corners (turned (turned c)) d
+equal_up_to_rotation c d =
+    same_corners c d || same_corners (turned c) d || same_corners (turned (turned c)) d
 
 -- the laws of a mesh
 pub record IsMesh (m : Mesh) : Type 0 where
@@ -64,7 +66,8 @@ pub record IsMesh (m : Mesh) : Type 0 where
   pub solid_ids : (v : ℕ) → is_solid m v ≡ true → IsLiveVertex m v
   pub live_corners : (f : ℕ) (c : Corners) → HasCorners m f c → AreLive m c
   pub different_corners : (f : ℕ) (c : Corners) → HasCorners m f c → AreDifferent c
-  pub different_faces : (f g : ℕ) (c d : Corners) → HasCorners m f c → HasCorners m g d → IsTrue (equal_up_to_rotation c d) → f ≡ g
+  pub different_faces : (f g : ℕ) (c d : Corners) → HasCorners m f c → HasCorners m g d →
+      IsTrue (equal_up_to_rotation c d) → f ≡ g
 
 -- at most 65,536 live vertices, 131,072 live faces, and 2^31 ids made of each kind
 pub record IsWithinLimits (m : Mesh) : Type 0 where

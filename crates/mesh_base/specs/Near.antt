@@ -17,18 +17,23 @@ one_at_most high a b c = int_le a high || int_le b high || int_le c high
 abbrev pub one_at_least : ℤ → ℤ → ℤ → ℤ → Bool
 one_at_least low a b c = int_le low a || int_le low b || int_le low c
 
--- along an axis: one of three coordinates is at or below the high end, and one at or above the low end
+-- along an axis: one of three coordinates is at or below the high
+-- end, and one at or above the low end
 abbrev pub reach_along : ℤ → ℤ → ℤ → ℤ → ℤ → Bool
 reach_along low high a b c = one_at_most high a b c && one_at_least low a b c
 
 -- the box of three positions has a common point with the extent
 abbrev pub box_meets : Extent → Triple → Triple → Triple → Bool
 box_meets at p q r =
-    reach_along at.low.x at.high.x p.x q.x r.x && reach_along at.low.y at.high.y p.y q.y r.y && reach_along at.low.z at.high.z p.z q.z r.z
+    reach_along at.low.x at.high.x p.x q.x r.x
+    && reach_along at.low.y at.high.y p.y q.y r.y
+    && reach_along at.low.z at.high.z p.z q.z r.z
 
 -- the box of the corners does so, where they stand, in half units
 abbrev pub is_near : Mesh → Extent → Corners → Bool
-is_near m at c = box_meets at (rest_positions_doubled m c.first) (rest_positions_doubled m c.second) (rest_positions_doubled m c.third)
+is_near m at c =
+    box_meets at (rest_positions_doubled m c.first) (rest_positions_doubled m c.second)
+    (rest_positions_doubled m c.third)
 
 -- the same of a face that may not live
 abbrev pub is_some_near : Mesh → Extent → Option Corners → Bool

@@ -41,7 +41,13 @@ rest_positions_doubled m v = times 2 (rest_positions m v)
 
 -- where the ends and the corners of a pair stand
 abbrev pub positions : Placement → Pair → Positions
-positions at p = record { a = at p.name.a; b = at p.name.b; c = at p.corners.first; d = at p.corners.second; e = at p.corners.third }
+positions at p = record {
+  a = at p.name.a;
+  b = at p.name.b;
+  c = at p.corners.first;
+  d = at p.corners.second;
+  e = at p.corners.third;
+}
 
 -- where each vertex stands at p/q of its way, in units of 1/q
 abbrev pub at_fraction : ℕ → ℕ → Motion → Placement

@@ -25,15 +25,18 @@ with_shift s t = record s { by = shift_by t }
 
 -- the shift of a vertex, zero where none is named
 abbrev pub shift_at : Shifts → ℕ → Triple
-shift_at shifts v = unwrap_or (option_map (λ s. displacement_of s.by) (find (λ s. s.v == v) shifts)) origin
+shift_at shifts v =
+    unwrap_or (option_map (λ s. displacement_of s.by) (find (λ s. s.v == v) shifts)) origin
 
 -- each vertex goes from its point by its shift
 abbrev pub moved_by : Mesh → Shifts → Motion
-moved_by m shifts = record { start = rest_positions m; end = λ v. plus (rest_positions m v) (shift_at shifts v) }
+moved_by m shifts =
+    record { start = rest_positions m; end = λ v. plus (rest_positions m v) (shift_at shifts v) }
 
 -- no shift takes its vertex out of the box
 abbrev pub end_in_box : Mesh → Shifts → Bool
-end_in_box m shifts = list_all (λ s. is_within BOX (plus (rest_positions m s.v) (displacement_of s.by))) shifts
+end_in_box m shifts =
+    list_all (λ s. is_within BOX (plus (rest_positions m s.v) (displacement_of s.by))) shifts
 
 -- the vertex at its point and its shift together
 abbrev pub with_move : Mesh → ShiftOf → Mesh

@@ -48,4 +48,5 @@ HasSides sides named = (u v : ℕ) → has_side sides u v ≡ (nat_lt u v && nam
 
 -- the list has what it had before, and those besides
 abbrev pub AddsSides : List (ℕ × ℕ) → List (ℕ × ℕ) → (ℕ → ℕ → Bool) → Type 0
-AddsSides old new named = (u v : ℕ) → has_side new u v ≡ (has_side old u v || (nat_lt u v && named u v))
+AddsSides old new named =
+    (u v : ℕ) → has_side new u v ≡ (has_side old u v || (nat_lt u v && named u v))

@@ -7,7 +7,10 @@ use Rattle.mesh_base.specs.Mesh.{Mesh}
 
 -- whether v follows u in the corners
 abbrev pub follows : Corners → ℕ → ℕ → Bool
-follows c u v = (c.first == u && c.second == v) || (c.second == u && c.third == v) || (c.third == u && c.first == v)
+follows c u v =
+    (c.first == u && c.second == v)
+    || (c.second == u && c.third == v)
+    || (c.third == u && c.first == v)
 
 -- whether v is a corner
 abbrev pub has_corner : Corners → ℕ → Bool

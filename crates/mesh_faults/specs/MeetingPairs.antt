@@ -13,7 +13,8 @@ use Rattle.pair_scan.specs.Scan.{IsMeeting, met_with, one_or_none}
 
 -- the names of all pairs that meet, in order of the edge and then of the face
 abbrev pub meeting_pairs : Mesh → List PairName
-meeting_pairs m = map (λ p. p.name) (filter (λ p. meets_exactly (positions (rest_positions m) p)) (pairs m))
+meeting_pairs m =
+    map (λ p. p.name) (filter (λ p. meets_exactly (positions (rest_positions m) p)) (pairs m))
 
 -- the list has the name of each pair that meets, once, and no other, in order
 pub record AreMeeting (m : Mesh) (names : List PairName) : Type 0 where

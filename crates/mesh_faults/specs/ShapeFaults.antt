@@ -1,5 +1,5 @@
--- All that is wrong with lists of points and faces, in the order in which `shape_fault` looks for the first. Faces, corners and vertices
--- are numbered from 1.
+-- All that is wrong with lists of points and faces, in the order in which `shape_fault` looks for
+-- the first. Faces, corners and vertices are numbered from 1.
 use Rattle.std.specs.Prelude.{ℕ, ◌+◌, ◌==◌, Bool, not, List, [], ◌∷◌, ◌++◌, map, length, nat_lt, if◌then◌else◌}
 use Rattle.std.specs.List.{filter, position_from}
 use Rattle.std.proofs.Common.{Option, Some, None}
@@ -32,7 +32,8 @@ no_vertices_from n k (f ∷ fs) = no_vertices_in n k (corners_of f) ++ no_vertic
 -- each face, from number k, with a corner twice
 abbrev pub all_repeated_from : ℕ → Faces → List ShapeFault
 all_repeated_from k [] = []
-all_repeated_from k (f ∷ fs) = one_if (repeats (corners_of f)) (Repeated k) ++ all_repeated_from (k + 1) fs
+all_repeated_from k (f ∷ fs) =
+    one_if (repeats (corners_of f)) (Repeated k) ++ all_repeated_from (k + 1) fs
 
 -- the first face, from number k, that is this one, turned or not
 abbrev pub first_equal : ℕ → List ℕ → Faces → Option ℕ
@@ -48,9 +49,11 @@ abbrev pub all_doubled_from : ℕ → Faces → List ShapeFault
 all_doubled_from k [] = []
 all_doubled_from k (f ∷ fs) = doubled_by k (first_equal (k + 1) f fs) ++ all_doubled_from (k + 1) fs
 
--- each two vertices, of n, the smaller first, between which the faces do not run as often one way as the other, in order
+-- each two vertices, of n, the smaller first, between which the faces do not run as
+-- often one way as the other, in order
 abbrev pub unbalanced_pairs : ℕ → Faces → List (ℕ × ℕ)
-unbalanced_pairs n fs = filter (λ p. not (runs_in fs p.0 p.1 == runs_in fs p.1 p.0)) (id_pairs (numbers_to n))
+unbalanced_pairs n fs =
+    filter (λ p. not (runs_in fs p.0 p.1 == runs_in fs p.1 p.0)) (id_pairs (numbers_to n))
 
 -- the fault of such two
 abbrev pub unbalanced_fault : ℕ × ℕ → ShapeFault
@@ -58,7 +61,9 @@ unbalanced_fault p = Unbalanced p.0 p.1
 
 -- too many vertices, too many faces
 abbrev pub limit_faults : ℕ → ℕ → List ShapeFault
-limit_faults n count = one_if (nat_lt VERTICES_MAX n) (TooManyVertices n) ++ one_if (nat_lt FACES_MAX count) (TooManyFaces count)
+limit_faults n count =
+    one_if (nat_lt VERTICES_MAX n) (TooManyVertices n)
+    ++ one_if (nat_lt FACES_MAX count) (TooManyFaces count)
 
 -- all faults, of n points and these faces
 abbrev pub shape_faults : ℕ → Faces → List ShapeFault

@@ -8,7 +8,8 @@ use Rattle.grid_base.specs.declared.grid.Point.{Point}
 use Rattle.grid_base.specs.declared.grid.Shift.{Shift}
 use Rattle.grid_base.specs.Components.{FitWithin}
 
--- the names of the fields, each as its bytes; the greatest size of a component that is answered; and what answers
+-- the names of the fields, each as its bytes; the greatest size of a component
+-- that is answered; and what answers
 pub record StoredFields (F : Type 0) : Type 0 where
   pub names : List (List ℕ)
   pub reach : ℕ
@@ -20,7 +21,8 @@ stored names reach closure = record { names = names; reach = reach; closure = cl
 -- they are stored as these three
 abbrev pub stored_code : {F : Type 0} → Coded F → Coded (StoredFields F)
 stored_code {F} code =
-    code_by (List (List ℕ) × (ℕ × F)) (coded× (coded_list (coded_list coded_ℕ)) (coded× coded_ℕ code))
+    code_by (List (List ℕ) × (ℕ × F))
+    (coded× (coded_list (coded_list coded_ℕ)) (coded× coded_ℕ code))
     (λ s. (s.names, (s.reach, s.closure)))
     (λ p. record { names = p.0; reach = p.1.0; closure = p.1.1 })
     (λ _. refl)
@@ -38,7 +40,8 @@ pub record IsOnlyPlace (names : List (List ℕ)) (name : List ℕ) (place : ℕ)
   pub here : slice_get names place ≡ Some name
   pub only : (i : ℕ) → slice_get names i ≡ Some name → i ≡ place
 
-module _ {F : Type 0} (closures : Shared F (ℕ × (Point × Unit {0})) Shift) (fields : StoredFields F) where
+module _ {F : Type 0} (closures : Shared F (ℕ × (Point × Unit {0})) Shift)
+    (fields : StoredFields F) where
   -- the closure may be asked for the field of this number at this point
   abbrev pub MayBeAsked : ℕ → Point → Type 0
   MayBeAsked which p = closures.pre fields.closure (which, (p, tt))
@@ -47,8 +50,10 @@ module _ {F : Type 0} (closures : Shared F (ℕ × (Point × Unit {0})) Shift) (
   abbrev pub MayAnswer : ℕ → Point → Shift → Type 0
   MayAnswer which p by = closures.post fields.closure (which, (p, tt)) by
 
-  -- Of each field, at each point of the box, the closure may be asked, and answers within the reach, which no shift exceeds.
+  -- Of each field, at each point of the box, the closure may be asked, and answers within the
+  -- reach, which no shift exceeds.
   pub record IsWellKept : Type 0 where
     pub asked : (which : ℕ) (p : Point) → which < length fields.names → MayBeAsked which p
-    pub within : (which : ℕ) (p : Point) (by : Shift) → which < length fields.names → MayAnswer which p by → FitWithin fields.reach by.x by.y by.z
+    pub within : (which : ℕ) (p : Point) (by : Shift) → which < length fields.names →
+    MayAnswer which p by → FitWithin fields.reach by.x by.y by.z
     pub most : fields.reach ≤ SHIFT_MAX

@@ -6,8 +6,11 @@ use denote.Struct.Props.{props}
 use Rattle.mesh_base.specs.Mesh.{Mesh, IsLiveVertex, is_solid}
 use Rattle.mesh_base.specs.Changes.{with_point}
 use Rattle.mesh_journal.specs.declared.entries.Entry.{Entry}
-use Rattle.mesh_journal.specs.declared.entries.Entry.TheVariants.{FaceMade, VertexMade, FaceDropped, VertexDropped, VertexPlaced, VertexMadeSolid, Unchanged}
-use Rattle.half_mesh.specs.States.{State, with_mesh, without_solid, raise_face, raise_vertex, unmake_face, unmake_vertex, CanRaiseFace, CanRaiseVertex, CanUnmakeFace, CanUnmakeVertex}
+use Rattle.mesh_journal.specs.declared.entries.Entry.TheVariants.{FaceMade, VertexMade, FaceDropped}
+use Rattle.mesh_journal.specs.declared.entries.Entry.TheVariants.{VertexDropped, VertexPlaced}
+use Rattle.mesh_journal.specs.declared.entries.Entry.TheVariants.{VertexMadeSolid, Unchanged}
+use Rattle.half_mesh.specs.States.{State, with_mesh, without_solid, raise_face, raise_vertex, unmake_face}
+use Rattle.half_mesh.specs.States.{unmake_vertex, CanRaiseFace, CanRaiseVertex, CanUnmakeFace, CanUnmakeVertex}
 
 -- the state before the entry's change
 abbrev pub undo : Entry → State → State

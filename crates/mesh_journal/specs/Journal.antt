@@ -11,7 +11,8 @@ module _ {B : Type 0} {u : undoable.Ghosts B} {s : surface.Ghosts B} where
   abbrev pub mesh_in : Journal B u s → Mesh
   mesh_in j = s.mesh j.inner
 
-  -- its kept meshes, the oldest first: the mesh at each length of the journal, up to the present one
+  -- its kept meshes, the oldest first: the mesh at each length of the
+  -- journal, up to the present one
   abbrev pub kept_in : Journal B u s → List Mesh
   kept_in j = trail j.entries.items (u.state j.inner)
 

@@ -1,4 +1,5 @@
--- The directives of the job of cubes: three steps in which each cube moves by a shift of its own, then a split and a save.
+-- The directives of the job of cubes: three steps in which each cube moves by a shift of
+-- its own, then a split and a save.
 use Rattle.std.specs.Prelude.{ℕ, ◌+◌, ◌-◌, ◌*◌, ◌/◌, ◌%◌, List, [], ◌∷◌, ◌++◌, map}
 use Rattle.std.specs.List.{range_with_len, enumerate_from}
 use Rattle.grid_base.specs.declared.grid.Shift.{Shift}
@@ -16,7 +17,9 @@ moved_along key step number axis = 1 + (key + 31 * step + 7 * number + 13 * axis
 
 -- the same along the three axes
 abbrev pub moved_by : ℕ → ℕ → ℕ → Triple
-moved_by key step number = at (moved_along key step number 0) (moved_along key step number 1) (moved_along key step number 2)
+moved_by key step number =
+    at (moved_along key step number 0) (moved_along key step number 1)
+    (moved_along key step number 2)
 
 -- its shift in that step
 abbrev pub cube_shift : ℕ → ℕ → ℕ → Shift
@@ -28,7 +31,8 @@ cube_with v = (v - 1) / 8 + 1
 
 -- a shift for each vertex of the cubes, by rising id, in a step
 abbrev pub shifts_in : ℕ → ℕ → ℕ → List Directive
-shifts_in n key step = map (λ v. ShiftOne v (cube_shift key step (cube_with v))) (range_with_len 1 (8 * (n * n * n)))
+shifts_in n key step =
+    map (λ v. ShiftOne v (cube_shift key step (cube_with v))) (range_with_len 1 (8 * (n * n * n)))
 
 -- the directives of a step
 abbrev pub step_of : ℕ → ℕ → ℕ → List Directive
@@ -36,7 +40,8 @@ step_of n key step = shifts_in n key step ++ Step ∷ []
 
 -- three steps, then each edge longer than 50 is split, and the mesh is saved
 abbrev pub cubes_directives : ℕ → ℕ → List Directive
-cubes_directives n key = step_of n key 1 ++ step_of n key 2 ++ step_of n key 3 ++ Pass (pass.Split 50) ∷ Save ∷ []
+cubes_directives n key =
+    step_of n key 1 ++ step_of n key 2 ++ step_of n key 3 ++ Pass (pass.Split 50) ∷ Save ∷ []
 
 -- each on a line of its own, from line 1
 abbrev pub on_lines : List Directive → List Placed

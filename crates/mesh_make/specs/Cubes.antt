@@ -1,4 +1,5 @@
--- The mesh of n * n * n separate cubes in rows, as lists. Cubes are counted from 0, along x first, then along y, then along z.
+-- The mesh of n * n * n separate cubes in rows, as lists. Cubes are counted from 0, along x
+-- first, then along y, then along z.
 use Rattle.std.specs.Prelude.{◌≡◌, ℕ, ◌+◌, ◌*◌, ◌/◌, ◌%◌, ◌≤◌, List, [], ◌∷◌, ◌++◌, map, pos}
 use Rattle.std.specs.List.{flat_map, range_with_len}
 use Rattle.grid_base.specs.Triples.{Triple, plus}
@@ -49,13 +50,17 @@ StandAlso new old places = map position_of new ≡ map position_of old ++ places
 abbrev pub cube_points : ℕ → ℕ → List Triple
 cube_points n cube = map (λ o. plus (least_corner n cube) o) corner_offsets
 
--- the faces of a cube: each square of it cut into two triangles; its vertices follow those of the cubes before it
+-- the faces of a cube: each square of it cut into two triangles; its vertices
+-- follow those of the cubes before it
 abbrev pub cube_faces : ℕ → Faces
 cube_faces cube = flat_map (λ square. fan (map (λ v. 8 * cube + v) square)) squares
 
 -- the points and the faces of all cubes
 abbrev pub cubes_lists : ℕ → Lists
-cubes_lists n = record { points = flat_map (cube_points n) (cubes_of n); faces = flat_map cube_faces (cubes_of n) }
+cubes_lists n = record {
+  points = flat_map (cube_points n) (cubes_of n);
+  faces = flat_map cube_faces (cubes_of n);
+}
 
 -- the mesh that they make
 abbrev pub cubes_mesh : ℕ → Mesh

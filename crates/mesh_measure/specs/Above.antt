@@ -13,4 +13,5 @@ edges_from m v = filter (λ u. is_edge m v u) (above v (finite.keys m.points))
 
 -- the list has what it had, and those of these numbers that are above v
 abbrev pub AddsAbove : ℕ → List ℕ → List ℕ → List ℕ → Type 0
-AddsAbove v us old new = (q : ℕ) → is_one_of new q ≡ (is_one_of old q || (nat_lt v q && is_one_of us q))
+AddsAbove v us old new =
+    (q : ℕ) → is_one_of new q ≡ (is_one_of old q || (nat_lt v q && is_one_of us q))

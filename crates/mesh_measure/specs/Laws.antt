@@ -6,7 +6,8 @@ use Rattle.mesh_base.specs.Placements.{Placement}
 use Rattle.mesh_base.specs.Shifts.{Shifts, shift_at, end_in_box, NameOnce}
 use Rattle.mesh_measure.specs.Volume.{volume6_at}
 
--- the volume is the same from every origin: where the vertices stand otherwise, all by one shift, it is what it was
+-- the volume is the same from every origin: where the vertices stand otherwise,
+-- all by one shift, it is what it was
 abbrev pub HasNoOrigin : Mesh → Type 0
 HasNoOrigin m = (at : Placement) (t : Triple) → volume6_at (λ v. plus (at v) t) m ≡ volume6_at at m
 

@@ -27,11 +27,17 @@ pub record AddsLink {S : Type 0} (from to : ℕ) (old new : HashMap ℕ ℕ S) :
   pub fresh : link old from ≡ None
   pub now : (u : ℕ) → link new u ≡ (if nat_eq from u then Some to else link old u)
 
--- In each of some faces the corner behind v is linked to the one before v. There are no other links, and no two of the faces have one corner behind v.
-pub record AreLinks {S : Type 0} (m : Mesh) (v : ℕ) (faces : List ℕ) (links : HashMap ℕ ℕ S) : Type 0 where
-  pub each : (f : ℕ) → is_one_of faces f ≡ true → link links (behind (corners_at m f) v) ≡ Some (before (corners_at m f) v)
-  pub only : (u w : ℕ) → link links u ≡ Some w → (f : ℕ) × (is_one_of faces f ≡ true) × (behind (corners_at m f) v ≡ u) × (before (corners_at m f) v ≡ w)
-  pub apart : (f g : ℕ) → is_one_of faces f ≡ true → is_one_of faces g ≡ true → behind (corners_at m f) v ≡ behind (corners_at m g) v → f ≡ g
+-- In each of some faces the corner behind v is linked to the one before v. There are no other
+-- links, and no two of the faces have one corner behind v.
+pub record AreLinks {S : Type 0} (m : Mesh) (v : ℕ) (faces : List ℕ)
+    (links : HashMap ℕ ℕ S) : Type 0 where
+  pub each : (f : ℕ) → is_one_of faces f ≡ true →
+      link links (behind (corners_at m f) v) ≡ Some (before (corners_at m f) v)
+  pub only : (u w : ℕ) → link links u ≡ Some w →
+      (f : ℕ) × (is_one_of faces f ≡ true) × (behind (corners_at m f) v ≡ u)
+      × (before (corners_at m f) v ≡ w)
+  pub apart : (f g : ℕ) → is_one_of faces f ≡ true → is_one_of faces g ≡ true →
+      behind (corners_at m f) v ≡ behind (corners_at m g) v → f ≡ g
 
 -- LeadOn at u w: links lead from u to w
 pub data LeadOn (at : ℕ → Option ℕ) : ℕ → ℕ → Type 0 where
@@ -40,7 +46,8 @@ pub data LeadOn (at : ℕ → Option ℕ) : ℕ → ℕ → Type 0 where
 
 -- each link stays, or stands where links lead from the first vertex
 abbrev pub TakesReached : {S : Type 0} → ℕ → HashMap ℕ ℕ S → HashMap ℕ ℕ S → Type 0
-TakesReached first old new = (u w : ℕ) → link old u ≡ Some w → (link new u ≡ Some w) ⊎ LeadOn (link old) first u
+TakesReached first old new =
+    (u w : ℕ) → link old u ≡ Some w → (link new u ≡ Some w) ⊎ LeadOn (link old) first u
 
 -- ---- a vertex
 -- no two faces run from v to one vertex, and the faces at v are one fan, or none

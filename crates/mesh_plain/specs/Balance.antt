@@ -1,4 +1,5 @@
--- The first unbalanced pair, sought where two lists of sides differ. A side is named by its two ends, the smaller first.
+-- The first unbalanced pair, sought where two lists of sides differ. A side is named by
+-- its two ends, the smaller first.
 use Rattle.std.specs.Prelude.{◌≡◌, ℕ, ◌+◌, ◌==◌, cond, ◌&&◌, Bool, List, [], ◌∷◌, nat_lt, if◌then◌else◌, count_by}
 use Rattle.std.proofs.Common.{Option, Some, None}
 use Rattle.mesh_base.specs.SideList.{side_rank}
@@ -17,7 +18,8 @@ HasRuns sides runs = (u v : ℕ) → times sides u v ≡ (if nat_lt u v then run
 
 -- the list has what it had before, and once more each side that the test names
 abbrev pub AddsRuns : List (ℕ × ℕ) → List (ℕ × ℕ) → (ℕ → ℕ → Bool) → Type 0
-AddsRuns old new named = (u v : ℕ) → times new u v ≡ times old u v + cond (nat_lt u v && named u v) 1 0
+AddsRuns old new named =
+    (u v : ℕ) → times new u v ≡ times old u v + cond (nat_lt u v && named u v) 1 0
 
 -- the earlier of two sides
 abbrev pub earlier : ℕ × ℕ → ℕ × ℕ → ℕ × ℕ
@@ -28,4 +30,5 @@ abbrev pub first_difference : List (ℕ × ℕ) → List (ℕ × ℕ) → Option
 first_difference [] [] = None
 first_difference [] (t ∷ ts) = Some t
 first_difference (s ∷ ss) [] = Some s
-first_difference (s ∷ ss) (t ∷ ts) = if same_ends s t then first_difference ss ts else Some (earlier s t)
+first_difference (s ∷ ss) (t ∷ ts) =
+    if same_ends s t then first_difference ss ts else Some (earlier s t)

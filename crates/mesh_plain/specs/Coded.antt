@@ -11,7 +11,15 @@ use Rattle.mesh_base.specs.Mesh.{Mesh, IdSet}
 abbrev pub mesh_code : Coded Point → Coded Corners → Coded Mesh
 mesh_code point corners =
     code_by (map.FinMap nat_cmp Point × (map.FinMap nat_cmp Corners × (IdSet × (ℕ × ℕ))))
-    (coded× (map.code coded_ℕ point) (coded× (map.code coded_ℕ corners) (coded× (map.code coded_ℕ coded_unit) (coded× coded_ℕ coded_ℕ))))
+    (coded× (map.code coded_ℕ point)
+    (coded× (map.code coded_ℕ corners)
+    (coded× (map.code coded_ℕ coded_unit) (coded× coded_ℕ coded_ℕ))))
     (λ m. (m.points, (m.faces, (m.solid, (m.next_vertex, m.next_face)))))
-    (λ p. record { points = p.0; faces = p.1.0; solid = p.1.1.0; next_vertex = p.1.1.1.0; next_face = p.1.1.1.1 })
+    (λ p. record {
+      points = p.0;
+      faces = p.1.0;
+      solid = p.1.1.0;
+      next_vertex = p.1.1.1.0;
+      next_face = p.1.1.1.1;
+    })
     (λ _. refl)

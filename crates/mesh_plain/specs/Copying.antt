@@ -15,7 +15,9 @@ with_vertex_of m t v = record t {
 
 -- with a face of the mesh
 abbrev pub with_face_of : Mesh → Mesh → ℕ → Mesh
-with_face_of m t f = record t { faces = option_map_or (λ c. finite.insert t.faces f c) (finite.get m.faces f) t.faces }
+with_face_of m t f = record t {
+  faces = option_map_or (λ c. finite.insert t.faces f c) (finite.get m.faces f) t.faces;
+}
 
 -- with all its vertices
 abbrev pub with_vertices_of : Mesh → Mesh → Mesh

@@ -11,7 +11,8 @@ pub record IsFieldName (bytes : List ℕ) : Type 0 where
 
 -- whether the bytes are such a name
 abbrev pub is_field_name : List ℕ → Bool
-is_field_name bytes = nat_le 1 (length bytes) && nat_le (length bytes) FIELD_NAME_MAX && is_utf8 bytes
+is_field_name bytes =
+    nat_le 1 (length bytes) && nat_le (length bytes) FIELD_NAME_MAX && is_utf8 bytes
 
 -- the name that the bytes are, if they are one
 abbrev pub field_name_of : List ℕ → Option (List ℕ)

@@ -8,12 +8,15 @@ use Rattle.mesh_plain.specs.Shape.{HasNoFault}
 
 -- lists that make a mesh within its limits that is closed have no fault
 abbrev pub ClosedMeshHasNoFault : Type 0
-ClosedMeshHasNoFault = (points : List Point) (faces : Faces) → IsSound (mesh_of points faces) → IsClosed (mesh_of points faces) → HasNoFault points faces
+ClosedMeshHasNoFault = (points : List Point) (faces : Faces) → IsSound (mesh_of points faces) →
+    IsClosed (mesh_of points faces) → HasNoFault points faces
 
 -- lists with no fault make a mesh within its limits
 abbrev pub FaultlessIsSound : Type 0
-FaultlessIsSound = (points : List Point) (faces : Faces) → HasNoFault points faces → IsSound (mesh_of points faces)
+FaultlessIsSound =
+    (points : List Point) (faces : Faces) → HasNoFault points faces → IsSound (mesh_of points faces)
 
 -- and it is closed
 abbrev pub FaultlessIsClosed : Type 0
-FaultlessIsClosed = (points : List Point) (faces : Faces) → HasNoFault points faces → IsClosed (mesh_of points faces)
+FaultlessIsClosed = (points : List Point) (faces : Faces) → HasNoFault points faces →
+    IsClosed (mesh_of points faces)

@@ -1,5 +1,7 @@
--- What is wrong with lists of points and faces, and where first. Faces, corners and vertices are numbered from 1.
-use Rattle.std.specs.Prelude.{◌≡◌, ◌≢◌, ◌≤◌, ◌<◌, ℕ, ◌+◌, ◌==◌, ◌&&◌, ◌||◌, ⊤, not, Bool, List, [], ◌∷◌, map, length, nat_lt, nat_le, if◌then◌else◌, count_by, find, slice_get, IsTrue}
+-- What is wrong with lists of points and faces, and where first. Faces, corners
+-- and vertices are numbered from 1.
+use Rattle.std.specs.Prelude.{◌≡◌, ◌≢◌, ◌≤◌, ◌<◌, ℕ, ◌+◌, ◌==◌, ◌&&◌, ◌||◌, ⊤, not, Bool, List, [], ◌∷◌, map}
+use Rattle.std.specs.Prelude.{length, nat_lt, nat_le, if◌then◌else◌, count_by, find, slice_get, IsTrue}
 use Rattle.std.specs.Option.{option_or, option_map}
 use Rattle.std.specs.List.{position_from, flat_map, range_with_len}
 use Rattle.std.proofs.Common.{Option, Some, None}
@@ -22,12 +24,17 @@ is_vertex n v = nat_le 1 v && nat_le v n
 
 -- the first corner that is no vertex
 abbrev pub bad_corner : ℕ → Corners → Option ℕ
-bad_corner n c = if is_vertex n c.first then (if is_vertex n c.second then (if is_vertex n c.third then None else Some 3) else Some 2) else Some 1
+bad_corner n c =
+    if is_vertex n c.first
+    then (if is_vertex n c.second then (if is_vertex n c.third then None else Some 3) else Some 2)
+    else Some 1
 
 -- the first face, from number k, with a corner that is no vertex
 abbrev pub no_vertex_from : ℕ → ℕ → Faces → Option (ℕ × ℕ)
 no_vertex_from n k [] = None
-no_vertex_from n k (f ∷ fs) = option_or (option_map (λ corner. (k, corner)) (bad_corner n (corners_of f))) (no_vertex_from n (k + 1) fs)
+no_vertex_from n k (f ∷ fs) =
+    option_or (option_map (λ corner. (k, corner)) (bad_corner n (corners_of f)))
+    (no_vertex_from n (k + 1) fs)
 
 abbrev pub repeats : Corners → Bool
 repeats c = (c.first == c.second) || (c.second == c.third) || (c.third == c.first)
@@ -39,7 +46,11 @@ repeated_from k fs = position_from (λ f. repeats (corners_of f)) k fs
 -- the first face, from number k, that a later one equals up to rotation, and the first such
 abbrev pub doubled_from : ℕ → Faces → Option (ℕ × ℕ)
 doubled_from k [] = None
-doubled_from k (f ∷ fs) = option_or (option_map (λ second. (k, second)) (position_from (λ g. equal_up_to_rotation (corners_of f) (corners_of g)) (k + 1) fs)) (doubled_from (k + 1) fs)
+doubled_from k (f ∷ fs) =
+    option_or
+    (option_map (λ second. (k, second))
+    (position_from (λ g. equal_up_to_rotation (corners_of f) (corners_of g)) (k + 1) fs))
+    (doubled_from (k + 1) fs)
 
 -- in how many faces v follows u
 abbrev pub runs_in : Faces → ℕ → ℕ → ℕ
@@ -51,7 +62,9 @@ numbers_to n = range_with_len 1 n
 
 -- the first two vertices, of n, between which the faces do not run as often one way as the other
 abbrev pub first_unbalanced : ℕ → Faces → Option (ℕ × ℕ)
-first_unbalanced n fs = find (λ p. not (runs_in fs p.0 p.1 == runs_in fs p.1 p.0)) (flat_map (λ u. map (λ v. (u, v)) (numbers_to n)) (numbers_to n))
+first_unbalanced n fs =
+    find (λ p. not (runs_in fs p.0 p.1 == runs_in fs p.1 p.0))
+    (flat_map (λ u. map (λ v. (u, v)) (numbers_to n)) (numbers_to n))
 
 -- the first part but balance that fails, in this order, with its least place
 abbrev pub fault_but_balance : ℕ → Faces → Option ShapeFault
@@ -64,7 +77,9 @@ fault_but_balance n fs =
 
 -- the first part that fails
 abbrev pub shape_fault : ℕ → Faces → Option ShapeFault
-shape_fault n fs = option_or (fault_but_balance n fs) (option_map (λ p. Unbalanced p.0 p.1) (first_unbalanced n fs))
+shape_fault n fs =
+    option_or (fault_but_balance n fs)
+    (option_map (λ p. Unbalanced p.0 p.1) (first_unbalanced n fs))
 
 -- no part fails
 abbrev pub HasNoFault : List Point → Faces → Type 0
@@ -81,7 +96,8 @@ Denied (TooManyVertices count) m = finite.len m.points ≤ VERTICES_MAX
 Denied (TooManyFaces count) m = finite.len m.faces ≤ FACES_MAX
 Denied (NoVertex face corner) m = (f : ℕ) (c : Corners) → HasCorners m f c → AreLive m c
 Denied (Repeated face) m = (f : ℕ) (c : Corners) → HasCorners m f c → AreDifferent c
-Denied (Doubled first second) m = (f g : ℕ) (c d : Corners) → HasCorners m f c → HasCorners m g d → IsTrue (equal_up_to_rotation c d) → f ≡ g
+Denied (Doubled first second) m = (f g : ℕ) (c d : Corners) → HasCorners m f c → HasCorners m g d →
+    IsTrue (equal_up_to_rotation c d) → f ≡ g
 Denied (Unbalanced from to) m = IsClosed m
 
 -- which of these parts, in order
@@ -97,9 +113,13 @@ part_of (Unbalanced from to) = 6
 abbrev pub IsAtFault : ShapeFault → Mesh → Type 0
 IsAtFault (TooManyVertices count) m = (count ≡ finite.len m.points) × (VERTICES_MAX < count)
 IsAtFault (TooManyFaces count) m = (count ≡ finite.len m.faces) × (FACES_MAX < count)
-IsAtFault (NoVertex face corner) m = (c : Corners) × (i : ℕ) × (v : ℕ) × HasCorners m face c × (corner ≡ i + 1) × (slice_get (corner_list c) i ≡ Some v) × ¬ (IsLiveVertex m v)
+IsAtFault (NoVertex face corner) m =
+    (c : Corners) × (i : ℕ) × (v : ℕ) × HasCorners m face c × (corner ≡ i + 1)
+    × (slice_get (corner_list c) i ≡ Some v) × ¬ (IsLiveVertex m v)
 IsAtFault (Repeated face) m = (c : Corners) × HasCorners m face c × ¬ (AreDifferent c)
-IsAtFault (Doubled first second) m = (c : Corners) × (d : Corners) × HasCorners m first c × HasCorners m second d × IsTrue (equal_up_to_rotation c d) × (first < second)
+IsAtFault (Doubled first second) m =
+    (c : Corners) × (d : Corners) × HasCorners m first c × HasCorners m second d
+    × IsTrue (equal_up_to_rotation c d) × (first < second)
 IsAtFault (Unbalanced from to) m = runs m from to ≢ runs m to from
 
 -- a refusal that names a fault names what is at fault

@@ -9,7 +9,9 @@ use Rattle.mesh_base.specs.Changes.{corners_of}
 use Rattle.mesh_base.specs.Given.{Faces}
 
 abbrev pub least_first : Corners → Corners
-least_first c = if nat_lt c.first c.second && nat_lt c.first c.third then c else (if nat_lt c.second c.third then turned c else turned (turned c))
+least_first c =
+    if nat_lt c.first c.second && nat_lt c.first c.third then c
+    else (if nat_lt c.second c.third then turned c else turned (turned c))
 
 -- a face's corners from the least on, which turning leaves
 abbrev pub key_of : List ℕ → Corners
@@ -22,7 +24,9 @@ has_key key g = same_corners key (key_of g)
 -- `doubled_from`, by the keys
 abbrev pub doubled_by_key : ℕ → Faces → Option (ℕ × ℕ)
 doubled_by_key k [] = None
-doubled_by_key k (f ∷ fs) = option_or (option_map (λ second. (k, second)) (position_from (has_key (key_of f)) (k + 1) fs)) (doubled_by_key (k + 1) fs)
+doubled_by_key k (f ∷ fs) =
+    option_or (option_map (λ second. (k, second)) (position_from (has_key (key_of f)) (k + 1) fs))
+    (doubled_by_key (k + 1) fs)
 
 -- ---- the same by the neighbours in a list that is in order
 abbrev pub HasSmallCorners : Corners → Type 0
@@ -32,7 +36,8 @@ HasSmallCorners c = (c.first < 2 ^ 32) × (c.second < 2 ^ 32) × (c.third < 2 ^ 
 abbrev pub IsSmall : ℕ × Corners → Type 0
 IsSmall e = (e.0 < 2 ^ 32) × HasSmallCorners e.1
 
--- a number that is smaller for the lesser key, and for the lesser number where the keys are equal, if they are small
+-- a number that is smaller for the lesser key, and for the lesser number where the
+-- keys are equal, if they are small
 abbrev pub keyed_rank : ℕ × Corners → ℕ
 keyed_rank e = ((e.1.first * 2 ^ 32 + e.1.second) * 2 ^ 32 + e.1.third) * 2 ^ 32 + e.0
 
@@ -43,7 +48,8 @@ begins_before number (Some p) = nat_lt number p.0
 
 -- the two neighbours, if they have one key and begin before what is found
 abbrev pub with_pair : ℕ × Corners → ℕ × Corners → Option (ℕ × ℕ) → Option (ℕ × ℕ)
-with_pair one next found = if same_corners one.1 next.1 && begins_before one.0 found then Some (one.0, next.0) else found
+with_pair one next found =
+    if same_corners one.1 next.1 && begins_before one.0 found then Some (one.0, next.0) else found
 
 -- the neighbours with one key that begin first
 abbrev pub least_pair : List (ℕ × Corners) → Option (ℕ × ℕ)

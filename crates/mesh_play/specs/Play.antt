@@ -1,5 +1,6 @@
 -- What a list of calls answers, whichever way the mesh is kept.
-use Rattle.std.specs.Prelude.{⊤, ◌≡◌, ◌⊎◌, ℕ, ◌+◌, ◌<◌, ◌==◌, ◌||◌, Bool, if◌then◌else◌, List, [], ◌∷◌, ◌++◌, map, take, length, slice_get, slice_index_or, Some}
+use Rattle.std.specs.Prelude.{⊤, ◌≡◌, ◌⊎◌, ℕ, ◌+◌, ◌<◌, ◌==◌, ◌||◌, Bool, if◌then◌else◌, List, []}
+use Rattle.std.specs.Prelude.{◌∷◌, ◌++◌, map, take, length, slice_get, slice_index_or, Some}
 use Rattle.std.specs.Option.{unwrap_or, option_map}
 use Rattle.std.specs.FinMap as finite
 use Rattle.grid_base.specs.declared.TheConstants.{VERTICES_MAX, FACES_MAX, ID_MAX}
@@ -8,17 +9,23 @@ use Rattle.mesh_base.specs.declared.marks.Mark.{Mark}
 use Rattle.mesh_base.specs.Mesh.{Mesh, IsLiveVertex, IsLiveFace, is_solid}
 use Rattle.mesh_base.specs.Sides.{above, runs, faces_running, faces_at}
 use Rattle.mesh_base.specs.Near.{faces_near}
-use Rattle.mesh_base.specs.Changes.{corners_of, corner_list, with_vertex, with_face, without_face, without_vertex, with_point, with_solid, IsFresh}
+use Rattle.mesh_base.specs.Changes.{corners_of, corner_list, with_vertex, with_face, without_face}
+use Rattle.mesh_base.specs.Changes.{without_vertex, with_point, with_solid, IsFresh}
 use Rattle.mesh_base.specs.Given.{empty_mesh}
 use Rattle.mesh_base.specs.Kept.{MarkHolds}
 use Rattle.mesh_play.specs.declared.calls.Call.{Call}
 use Rattle.mesh_play.specs.declared.calls.Call.TheVariants.{Ask, Make, Index, MakeMark, BackTo, Settle}
 use Rattle.mesh_play.specs.declared.calls.Question.{Question}
-use Rattle.mesh_play.specs.declared.calls.Question.TheVariants.{CountVertices, CountFaces, NextVertex, NextFace, VertexAfter, FaceAfter, PointOf, IsSolid, CornersOf, CountRuns, RunFace, FacesAt, FacesNear}
+use Rattle.mesh_play.specs.declared.calls.Question.TheVariants.{CountVertices, CountFaces, NextVertex}
+use Rattle.mesh_play.specs.declared.calls.Question.TheVariants.{NextFace, VertexAfter, FaceAfter}
+use Rattle.mesh_play.specs.declared.calls.Question.TheVariants.{PointOf, IsSolid, CornersOf, CountRuns}
+use Rattle.mesh_play.specs.declared.calls.Question.TheVariants.{RunFace, FacesAt, FacesNear}
 use Rattle.mesh_play.specs.declared.calls.Act.{Act}
 use Rattle.mesh_play.specs.declared.calls.Act.TheVariants.{AddVertex, AddFace, DropFace, DropVertex, Place, MakeSolid}
 use Rattle.mesh_play.specs.declared.calls.Answer.{Answer}
-use Rattle.mesh_play.specs.declared.calls.Answer.TheVariants.{Done, Full, Number, VertexFound, FaceFound, PointFound, Truth, CornersFound, FacesFound, VertexMade, FaceMade}
+use Rattle.mesh_play.specs.declared.calls.Answer.TheVariants.{Done, Full, Number, VertexFound}
+use Rattle.mesh_play.specs.declared.calls.Answer.TheVariants.{FaceFound, PointFound, Truth, CornersFound}
+use Rattle.mesh_play.specs.declared.calls.Answer.TheVariants.{FacesFound, VertexMade, FaceMade}
 
 -- the mesh, and the meshes of the marks that were made and not taken back, the oldest first
 pub record Played : Type 0 where
@@ -39,7 +46,8 @@ marked_by kept marks = map (λ mark. stood_for kept mark) marks
 
 -- a surface and marks of it: its mesh, and the meshes for which the marks stand
 abbrev pub seen : {X : Type 0} → (X → Mesh) → (X → List Mesh) → X → List Mark → Played
-seen mesh kept surface marks = record { mesh = mesh surface; marked = marked_by (kept surface) marks }
+seen mesh kept surface marks =
+    record { mesh = mesh surface; marked = marked_by (kept surface) marks }
 
 -- whether no vertex can be made
 abbrev pub full_of_vertices : Mesh → Bool
@@ -116,14 +124,15 @@ IsAllowed m (DropVertex v) = IsBareVertex m v
 IsAllowed m (Place v p) = IsLiveVertex m v
 IsAllowed m (MakeSolid v) = IsLiveVertex m v
 
--- what a call leaves. A return goes to the mesh of its mark, and takes back that mark and those made after it; giving up
--- what is kept takes back all
+-- what a call leaves. A return goes to the mesh of its mark, and takes back that mark and those
+-- made after it; giving up what is kept takes back all
 abbrev pub after : Played → Call → Played
 after s (Ask question) = s
 after s (Make act) = record s { mesh = acted s.mesh act }
 after s Index = s
 after s MakeMark = record s { marked = s.marked ++ s.mesh ∷ [] }
-after s (BackTo nth) = record { mesh = slice_index_or s.marked nth s.mesh; marked = take nth s.marked }
+after s (BackTo nth) =
+    record { mesh = slice_index_or s.marked nth s.mesh; marked = take nth s.marked }
 after s Settle = record s { marked = [] }
 
 -- what it answers
@@ -159,19 +168,23 @@ abbrev pub after_all : Played → List Call → Played
 after_all s [] = s
 after_all s (call ∷ calls) = after_all (after s call) calls
 
--- so many of the calls were made and no more, since memory was wanting for the next one; they left this mesh
+-- so many of the calls were made and no more, since memory was wanting for
+-- the next one; they left this mesh
 pub record IsStopped (s : Played) (calls : List Call) (left : Mesh) : Type 0 where
   pub made : ℕ
   pub next : made < length calls
   pub mesh : left ≡ (after_all s (take made calls)).mesh
 
--- the calls of the one mesh were stopped, and none was made of the other; or the one has made all, and those of the other
--- were stopped
+-- the calls of the one mesh were stopped, and none was made of the other; or the one has made all,
+-- and those of the other were stopped
 abbrev pub IsEitherStopped : Played → List Call → Mesh → Mesh → Type 0
-IsEitherStopped s calls one other = (IsStopped s calls one × (other ≡ s.mesh)) ⊎ ((one ≡ (after_all s calls).mesh) × IsStopped s calls other)
+IsEitherStopped s calls one other =
+    (IsStopped s calls one × (other ≡ s.mesh))
+    ⊎ ((one ≡ (after_all s calls).mesh) × IsStopped s calls other)
 
 -- the marks hold, and each leaves those before it
 pub record AreMarks (beyond : ℕ) (kept : List Mesh) (marks : List Mark) : Type 0 where
   pub hold : (i : ℕ) (m : Mark) → slice_get marks i ≡ Some m → MarkHolds beyond kept m
-  pub nested : (i j : ℕ) (m n : Mark) → i < j → slice_get marks i ≡ Some m → slice_get marks j ≡ Some n
+  pub nested : (i j : ℕ) (m n : Mark) → i < j → slice_get marks i ≡ Some m
+      → slice_get marks j ≡ Some n
       → m.place < n.under

@@ -66,7 +66,10 @@ needing m w = needing_of w (pairs m)
 
 -- the name is that of a pair of the mesh, and the pair needs an entry
 abbrev pub IsNeeding : Mesh → Motion → PairName → Type 0
-IsNeeding m w n = (c : Corners) × IsPair m (record { name = n; corners = c }) × (¬ (NeedsNone (positions w.start (record { name = n; corners = c })) (positions w.end (record { name = n; corners = c }))))
+IsNeeding m w n =
+    (c : Corners) × IsPair m (record { name = n; corners = c })
+    × (¬ (NeedsNone (positions w.start (record { name = n; corners = c }))
+    (positions w.end (record { name = n; corners = c }))))
 
 -- the list has the name of each pair that needs an entry, once, and no other, in order
 pub record AreNeeding (m : Mesh) (w : Motion) (names : List PairName) : Type 0 where

@@ -11,17 +11,25 @@ use Rattle.mesh_base.specs.Given.{mesh_of}
 use Rattle.obj_text.specs.Obj.{lists_of}
 use Rattle.obj_text.specs.Written.{ranks, mesh_text, ranked_lists}
 
--- on a grid of as many decimals, the text gives the live points and the live faces in order, corners by rank
+-- on a grid of as many decimals, the text gives the live points and the
+-- live faces in order, corners by rank
 abbrev pub WrittenIsRead : Type 0
-WrittenIsRead = (m : Mesh) (decimals : ℕ) → IsSound m → decimals ≤ DECIMALS_MAX → lists_of decimals (mesh_text decimals m) ≡ Ok (ranked_lists m)
+WrittenIsRead = (m : Mesh) (decimals : ℕ) → IsSound m → decimals ≤ DECIMALS_MAX →
+    lists_of decimals (mesh_text decimals m) ≡ Ok (ranked_lists m)
 
 -- the live vertices and the live faces numbered from 1 in order, corners by rank
 abbrev pub renumbered : Mesh → Mesh
-renumbered m = mesh_of (map (λ e. e.1) (finite.entries m.points)) (map (λ e. ranks m e.1) (finite.entries m.faces))
+renumbered m =
+    mesh_of (map (λ e. e.1) (finite.entries m.points))
+    (map (λ e. ranks m e.1) (finite.entries m.faces))
 
 -- lists that the text gives make this mesh
 abbrev pub ListsGiveRenumbered : Type 0
-ListsGiveRenumbered = (m : Mesh) (decimals : ℕ) (points : List Point) (faces : List (List ℕ)) → IsSound m → decimals ≤ DECIMALS_MAX → lists_of decimals (mesh_text decimals m) ≡ Ok (record { points = map position_of points; faces = faces }) → mesh_of points faces ≡ renumbered m
+ListsGiveRenumbered = (m : Mesh) (decimals : ℕ) (points : List Point) (faces : List (List ℕ)) →
+    IsSound m → decimals ≤ DECIMALS_MAX →
+    lists_of decimals (mesh_text decimals m)
+    ≡ Ok (record { points = map position_of points; faces = faces }) →
+    mesh_of points faces ≡ renumbered m
 
 -- it is closed where the mesh is that was written
 abbrev pub StaysClosed : Type 0

@@ -12,8 +12,16 @@ use Rattle.obj_text.specs.ListsWritten.{lists_text}
 
 -- the text of lists of good shape is that of the mesh that they make
 abbrev pub ListsAreWrittenAsMesh : Type 0
-ListsAreWrittenAsMesh = (points : List Point) (faces : List (List ℕ)) (decimals : ℕ) → shape_fault (length points) faces ≡ None → AllByRecursion (λ f. length f ≡ 3) faces → lists_text decimals (record { points = map position_of points; faces = faces }) ≡ mesh_text decimals (mesh_of points faces)
+ListsAreWrittenAsMesh = (points : List Point) (faces : List (List ℕ)) (decimals : ℕ) →
+    shape_fault (length points) faces ≡ None → AllByRecursion (λ f. length f ≡ 3) faces →
+    lists_text decimals (record { points = map position_of points; faces = faces })
+    ≡ mesh_text decimals (mesh_of points faces)
 
 -- on a grid of as many decimals, it gives these lists
 abbrev pub ListsAreRead : Type 0
-ListsAreRead = (points : List Point) (faces : List (List ℕ)) (decimals : ℕ) → shape_fault (length points) faces ≡ None → AllByRecursion (λ f. length f ≡ 3) faces → decimals ≤ DECIMALS_MAX → lists_of decimals (lists_text decimals (record { points = map position_of points; faces = faces })) ≡ Ok (record { points = map position_of points; faces = faces })
+ListsAreRead = (points : List Point) (faces : List (List ℕ)) (decimals : ℕ) →
+    shape_fault (length points) faces ≡ None → AllByRecursion (λ f. length f ≡ 3) faces →
+    decimals ≤ DECIMALS_MAX →
+    lists_of decimals
+    (lists_text decimals (record { points = map position_of points; faces = faces }))
+    ≡ Ok (record { points = map position_of points; faces = faces })

@@ -8,7 +8,9 @@ use Rattle.obj_text.specs.Obj.{Lists}
 
 -- v X Y Z
 abbrev pub point_line : ℕ → Triple → List ℕ
-point_line decimals p = line_of_words (codes "v" ∷ fixed_text decimals p.x ∷ fixed_text decimals p.y ∷ fixed_text decimals p.z ∷ [])
+point_line decimals p =
+    line_of_words
+    (codes "v" ∷ fixed_text decimals p.x ∷ fixed_text decimals p.y ∷ fixed_text decimals p.z ∷ [])
 
 -- f I J K
 abbrev pub triangle_line : List ℕ → List ℕ

@@ -1,5 +1,7 @@
 -- The OBJ grammar: the lists that the lines give, or the first line outside it with its reason.
-use Rattle.std.specs.Prelude.{ℕ, ◌+◌, ◌-◌, ◌^◌, Bool, ◌==◌, ◌&&◌, ◌||◌, nat_le, nat_lt, if◌then◌else◌, List, [], ◌∷◌, ◌++◌, length, slice_index, Option, Some, None, is_some, Result, Ok, Err, codes}
+use Rattle.std.specs.Prelude.{ℕ, ◌+◌, ◌-◌, ◌^◌, Bool, ◌==◌, ◌&&◌, ◌||◌, nat_le, nat_lt}
+use Rattle.std.specs.Prelude.{if◌then◌else◌, List, [], ◌∷◌, ◌++◌, length, slice_index}
+use Rattle.std.specs.Prelude.{Option, Some, None, is_some, Result, Ok, Err, codes}
 use Rattle.std.specs.List.{slice_split}
 use Rattle.std.specs.Str.{bytes_eq}
 use Rattle.grid_base.specs.Triples.{Triple}
@@ -18,7 +20,9 @@ abbrev pub corner_parts : List (List ℕ) → Option (Bool × ℕ)
 corner_parts [] = None
 corner_parts (i ∷ []) = whole_parts i
 corner_parts (i ∷ t ∷ []) = if is_some (whole_parts t) then whole_parts i else None
-corner_parts (i ∷ t ∷ n ∷ []) = if (length t == 0 || is_some (whole_parts t)) && is_some (whole_parts n) then whole_parts i else None
+corner_parts (i ∷ t ∷ n ∷ []) =
+    if (length t == 0 || is_some (whole_parts t)) && is_some (whole_parts n) then whole_parts i
+    else None
 corner_parts (i ∷ t ∷ n ∷ o ∷ others) = None
 
 -- the number of the vertex; a negative one counts back from the last of those read
@@ -81,14 +85,21 @@ pub record Lists : Type 0 where
 
 -- the first words of lines that give nothing
 abbrev pub is_skipped : List ℕ → Bool
-is_skipped word = bytes_eq word (codes "vn") || bytes_eq word (codes "vt") || bytes_eq word (codes "vp") || bytes_eq word (codes "o") || bytes_eq word (codes "g") || bytes_eq word (codes "s") || bytes_eq word (codes "usemtl") || bytes_eq word (codes "mtllib")
+is_skipped word =
+    bytes_eq word (codes "vn") || bytes_eq word (codes "vt") || bytes_eq word (codes "vp")
+    || bytes_eq word (codes "o") || bytes_eq word (codes "g") || bytes_eq word (codes "s")
+    || bytes_eq word (codes "usemtl") || bytes_eq word (codes "mtllib")
 
 -- the lists with what a line of these words adds
 unfoldable pub words_add : ℕ → Lists → List (List ℕ) → Result Lists TextWhy
 words_add decimals lists [] = Ok lists
 words_add decimals lists (first ∷ words) =
-    if bytes_eq first (codes "v") then (point_of decimals words >>= λ point. Ok (record { points = lists.points ++ point ∷ []; faces = lists.faces }))
-    else if bytes_eq first (codes "f") then (face_of (length lists.points) words >>= λ corners. Ok (record { points = lists.points; faces = lists.faces ++ fan corners }))
+    if bytes_eq first (codes "v")
+    then (point_of decimals words
+    >>= λ point. Ok (record { points = lists.points ++ point ∷ []; faces = lists.faces }))
+    else if bytes_eq first (codes "f")
+    then (face_of (length lists.points) words
+    >>= λ corners. Ok (record { points = lists.points; faces = lists.faces ++ fan corners }))
     else if is_skipped first then Ok lists else Err Unknown
 
 -- whether the last byte is a backslash
@@ -97,13 +108,16 @@ is_continued line = slice_index line (length line - 1) == 92
 
 -- the lists with what a line adds
 unfoldable pub line_adds : ℕ → Lists → List ℕ → Result Lists TextWhy
-line_adds decimals lists line = if is_continued line then Err Continuation else words_add decimals lists (words_of line)
+line_adds decimals lists line =
+    if is_continued line then Err Continuation else words_add decimals lists (words_of line)
 
 -- the lists so far and then each line in turn, up to the first fault
 abbrev pub lines_add : ℕ → Lists → List (ℕ × List ℕ) → Result Lists TextFault
 lines_add decimals lists [] = Ok lists
-lines_add decimals lists (line ∷ lines) = at_line line.0 (line_adds decimals lists line.1) >>= λ more. lines_add decimals more lines
+lines_add decimals lists (line ∷ lines) =
+    at_line line.0 (line_adds decimals lists line.1) >>= λ more. lines_add decimals more lines
 
 -- the lists that a text gives on a grid of so many decimals
 abbrev pub lists_of : ℕ → List ℕ → Result Lists TextFault
-lists_of decimals bytes = lines_add decimals (record { points = []; faces = [] }) (numbered_lines 1 bytes)
+lists_of decimals bytes =
+    lines_add decimals (record { points = []; faces = [] }) (numbered_lines 1 bytes)

@@ -17,8 +17,10 @@ GivesWhy view (Ok x) read = read ≡ Ok (view x)
 GivesWhy view (Err why) read = read ≡ Err why
 
 -- faces, and the triangles that more corners add to them
-abbrev pub fan_from : ℕ → ℕ → ℕ → ℕ → List (List ℕ) → List (List ℕ) → Result (List (List ℕ)) TextFault
-fan_from read line a b faces words = at_line line (corners_of read words >>= λ corners. Ok (faces ++ fan_after a b corners))
+abbrev pub fan_from : ℕ → ℕ → ℕ → ℕ → List (List ℕ) → List (List ℕ) →
+    Result (List (List ℕ)) TextFault
+fan_from read line a b faces words =
+    at_line line (corners_of read words >>= λ corners. Ok (faces ++ fan_after a b corners))
 
 -- faces, and the triangles that a face of these words adds to them
 abbrev pub faces_after : ℕ → List (List ℕ) → List (List ℕ) → Result (List (List ℕ)) TextWhy

@@ -28,7 +28,9 @@ ranked_line ids corners = line_of_words (codes "f" ∷ map decimal (map (rank_am
 
 -- v X Y Z
 abbrev pub vertex_line : ℕ → Point → List ℕ
-vertex_line decimals p = line_of_words (codes "v" ∷ fixed_text decimals p.x ∷ fixed_text decimals p.y ∷ fixed_text decimals p.z ∷ [])
+vertex_line decimals p =
+    line_of_words
+    (codes "v" ∷ fixed_text decimals p.x ∷ fixed_text decimals p.y ∷ fixed_text decimals p.z ∷ [])
 
 -- f I J K
 abbrev pub face_line : Mesh → Corners → List ℕ
@@ -46,7 +48,8 @@ faces_text m = flat_map (λ e. face_line m e.1) (finite.entries m.faces)
 abbrev pub mesh_text : ℕ → Mesh → List ℕ
 mesh_text decimals m = vertices_text decimals m ++ faces_text m
 
--- where the live vertices stand, by rising id, and the live faces by rising id, each by the ranks of its corners
+-- where the live vertices stand, by rising id, and the live faces by rising id,
+-- each by the ranks of its corners
 abbrev pub ranked_lists : Mesh → Lists
 ranked_lists m = record {
   points = map (λ e. position_of e.1) (finite.entries m.points);

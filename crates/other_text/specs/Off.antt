@@ -12,7 +12,8 @@ use Rattle.other_text.specs.declared.off_reading.Wanted.TheVariants.{Name, Count
 use Rattle.other_text.specs.Lines.{lines_add}
 use Rattle.other_text.specs.Rows.{count_of, point_of, face_of}
 
--- what the next line with words has to be, how many rows are left once the counts were read, and the lists so far
+-- what the next line with words has to be, how many rows are left once the
+-- counts were read, and the lists so far
 pub record Progress : Type 0 where
   pub wanted : Wanted
   pub points_left : ℕ
@@ -21,7 +22,12 @@ pub record Progress : Type 0 where
 
 -- at the start of a text
 abbrev pub start : Progress
-start = record { wanted = Name; points_left = 0; faces_left = 0; lists = record { points = []; faces = [] } }
+start = record {
+  wanted = Name;
+  points_left = 0;
+  faces_left = 0;
+  lists = record { points = []; faces = [] };
+}
 
 -- ---- a line of these words, of which there is one or more
 
@@ -45,13 +51,38 @@ unfoldable pub row_adds : ℕ → Progress → List (List ℕ) → Result Progre
 row_adds decimals p words =
     if p.points_left == 0 then (
     if p.faces_left == 0 then Err Long
-    else face_of None words >>= λ corners. Ok (record { wanted = p.wanted; points_left = p.points_left; faces_left = p.faces_left - 1; lists = record { points = p.lists.points; faces = p.lists.faces ++ fan corners } })
-    ) else point_of decimals words >>= λ point. Ok (record { wanted = p.wanted; points_left = p.points_left - 1; faces_left = p.faces_left; lists = record { points = p.lists.points ++ point ∷ []; faces = p.lists.faces } })
+    else face_of None words
+    >>= λ corners.
+    Ok (record {
+      wanted = p.wanted;
+      points_left = p.points_left;
+      faces_left = p.faces_left - 1;
+      lists = record { points = p.lists.points; faces = p.lists.faces ++ fan corners };
+    })
+    )
+    else point_of decimals words
+    >>= λ point.
+    Ok (record {
+      wanted = p.wanted;
+      points_left = p.points_left - 1;
+      faces_left = p.faces_left;
+      lists = record { points = p.lists.points ++ point ∷ []; faces = p.lists.faces };
+    })
 
 -- by what is wanted
 unfoldable pub wanted_adds : Wanted → ℕ → Progress → List (List ℕ) → Result Progress TextWhy
-wanted_adds Name decimals p words = name_of words >>= λ _. Ok (record { wanted = Counts; points_left = p.points_left; faces_left = p.faces_left; lists = p.lists })
-wanted_adds Counts decimals p words = counts_of words >>= λ counts. Ok (record { wanted = Rows; points_left = counts.0; faces_left = counts.1; lists = p.lists })
+wanted_adds Name decimals p words =
+    name_of words
+    >>= λ _.
+    Ok (record {
+      wanted = Counts;
+      points_left = p.points_left;
+      faces_left = p.faces_left;
+      lists = p.lists;
+    })
+wanted_adds Counts decimals p words =
+    counts_of words >>= λ counts.
+    Ok (record { wanted = Rows; points_left = counts.0; faces_left = counts.1; lists = p.lists })
 wanted_adds Rows decimals p words = row_adds decimals p words
 
 -- ---- lines
@@ -65,7 +96,9 @@ words_add decimals p (word ∷ words) = wanted_adds p.wanted decimals p (word �
 abbrev pub lists_by : Wanted → Progress → ℕ → Result Lists TextFault
 lists_by Name p line = Err (record { line = line; why = Short })
 lists_by Counts p line = Err (record { line = line; why = Short })
-lists_by Rows p line = if (p.points_left == 0) && (p.faces_left == 0) then Ok p.lists else Err (record { line = line; why = Short })
+lists_by Rows p line =
+    if (p.points_left == 0) && (p.faces_left == 0) then Ok p.lists
+    else Err (record { line = line; why = Short })
 
 -- at the end of a text of so many lines
 unfoldable pub end_gives : ℕ → Progress → Result Lists TextFault
@@ -73,4 +106,6 @@ end_gives count p = lists_by p.wanted p (count + 1)
 
 -- the lists that an OFF text gives on a grid of so many decimals
 unfoldable pub lists_of : ℕ → List ℕ → Result Lists TextFault
-lists_of decimals bytes = lines_add (words_add decimals) start (numbered_lines 1 bytes) >>= end_gives (length (numbered_lines 1 bytes))
+lists_of decimals bytes =
+    lines_add (words_add decimals) start (numbered_lines 1 bytes)
+    >>= end_gives (length (numbered_lines 1 bytes))

@@ -9,8 +9,15 @@ use Rattle.other_text.specs.Off.{Progress}
 
 -- how far the text was read
 abbrev pub progress_of : Reading → Progress
-progress_of r = record { wanted = r.wanted; points_left = r.points_left; faces_left = r.faces_left; lists = lists_view r.lists }
+progress_of r = record {
+  wanted = r.wanted;
+  points_left = r.points_left;
+  faces_left = r.faces_left;
+  lists = lists_view r.lists;
+}
 
 -- what a function left is what a line makes of how far the text was read before
-abbrev pub GoesOn : {X : Type 0} → Reading → Reading → Result X ReadFault → ℕ → (Progress → Result Progress TextWhy) → Type 0
-GoesOn old new result line adds = Leaves (progress_of new) result (at_line line (adds (progress_of old)))
+abbrev pub GoesOn : {X : Type 0} → Reading → Reading → Result X ReadFault → ℕ →
+    (Progress → Result Progress TextWhy) → Type 0
+GoesOn old new result line adds =
+    Leaves (progress_of new) result (at_line line (adds (progress_of old)))

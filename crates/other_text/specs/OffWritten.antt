@@ -8,7 +8,8 @@ use Rattle.obj_text.specs.Obj.{Lists}
 
 -- X Y Z
 abbrev pub point_words : ℕ → Triple → List (List ℕ)
-point_words decimals p = fixed_text decimals p.x ∷ fixed_text decimals p.y ∷ fixed_text decimals p.z ∷ []
+point_words decimals p =
+    fixed_text decimals p.x ∷ fixed_text decimals p.y ∷ fixed_text decimals p.z ∷ []
 
 -- 3 I J K, from 0
 abbrev pub face_words : List ℕ → List (List ℕ)
@@ -36,4 +37,7 @@ rows_text decimals lists = points_text decimals lists.points ++ faces_text lists
 
 -- OFF, V F 0, and the rows
 abbrev pub off_text : ℕ → Lists → List ℕ
-off_text decimals lists = line_of_words (codes "OFF" ∷ []) ++ line_of_words (decimal (length lists.points) ∷ decimal (length lists.faces) ∷ codes "0" ∷ []) ++ rows_text decimals lists
+off_text decimals lists =
+    line_of_words (codes "OFF" ∷ [])
+    ++ line_of_words (decimal (length lists.points) ∷ decimal (length lists.faces) ∷ codes "0" ∷ [])
+    ++ rows_text decimals lists

@@ -14,5 +14,6 @@ ply_text decimals lists =
     ++ (line_of_words (codes "property" ∷ codes "double" ∷ codes "y" ∷ [])
     ++ (line_of_words (codes "property" ∷ codes "double" ∷ codes "z" ∷ [])
     ++ (line_of_words (codes "element" ∷ codes "face" ∷ decimal (length lists.faces) ∷ [])
-    ++ (line_of_words (codes "property" ∷ codes "list" ∷ codes "uchar" ∷ codes "int" ∷ codes "vertex_indices" ∷ [])
+    ++ (line_of_words
+    (codes "property" ∷ codes "list" ∷ codes "uchar" ∷ codes "int" ∷ codes "vertex_indices" ∷ [])
     ++ (line_of_words (codes "end_header" ∷ []) ++ rows_text decimals lists))))))))

@@ -25,4 +25,6 @@ faults_of sink = sink.faults
 
 -- the list names the next write, or the room left is too small
 abbrev pub Refuses : MemorySink → List ℕ → Type 0
-Refuses sink bytes = Contains (failing_of sink) (next_count (writes_of sink)) ⊎ (room_of sink - length (bytes_in sink) < length bytes)
+Refuses sink bytes =
+    Contains (failing_of sink) (next_count (writes_of sink))
+    ⊎ (room_of sink - length (bytes_in sink) < length bytes)

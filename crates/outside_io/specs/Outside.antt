@@ -9,7 +9,8 @@ use Rattle.outside_io.specs.Desk.{Files, with_file, SameBut, HoldsFile, HoldsNoF
 use Rattle.outside_io.specs.Sink.{appended, AppendsPart}
 use Rattle.outside_io.specs.World.{Contents, World}
 
--- what is outside: which two sides these are, by the names of their borrows, what they hold, and how often each has failed
+-- what is outside: which two sides these are, by the names of their borrows, what they
+-- hold, and how often each has failed
 pub record Around : Type 0 where
   pub sides : ℕ × ℕ
   pub world : World
@@ -28,7 +29,8 @@ pub record Counts {T : Type 0} (old new : Around) (result : Result T Stop) : Typ
 
 -- what a fetch found is what the name holds, where that is told
 abbrev pub IsFetched : ℕ → Option Files → List ℕ → Fetched → Type 0
-IsFetched limit files name (fetched.Bytes bytes) = (length bytes.items ≤ limit) × HoldsFile files name bytes.items
+IsFetched limit files name (fetched.Bytes bytes) =
+    (length bytes.items ≤ limit) × HoldsFile files name bytes.items
 IsFetched limit files name fetched.Absent = HoldsNoFile files name
 IsFetched limit files name (fetched.TooLong seen) = (limit < seen) × HoldsAtLeast files name seen
 
@@ -39,12 +41,15 @@ pub record OnlyLooks {T : Type 0} (old new : Around) (result : Result T Stop) : 
   pub counts : Counts old new result
 
 -- a file is fetched
-pub record Fetches (limit : ℕ) (name : List ℕ) (old new : Around) (result : Result Fetched Stop) : Type 0 where
+pub record Fetches (limit : ℕ) (name : List ℕ) (old new : Around)
+    (result : Result Fetched Stop) : Type 0 where
   pub found : IfOk result (IsFetched limit old.world.holds.files name)
   pub looks : OnlyLooks old new result
 
--- a file is stored, or memory was wanting and nothing was done, or the desk failed and no other file is touched
-pub record Stores (name bytes : List ℕ) (old new : Around) (result : Result (Unit {0}) Stop) : Type 0 where
+-- a file is stored, or memory was wanting and nothing was done, or the desk
+-- failed and no other file is touched
+pub record Stores (name bytes : List ℕ) (old new : Around)
+    (result : Result (Unit {0}) Stop) : Type 0 where
   pub stored : OnOk result (new.world.holds.files ≡ with_file old.world.holds.files name bytes)
   pub refused : IsErrOf result NoMemory → new.world.holds.files ≡ old.world.holds.files
   pub others : IsErrOf result DeskFault → SameBut name old.world.holds.files new.world.holds.files

@@ -9,7 +9,8 @@ LF = 10
 -- the lines that have ended, each without its LF; the first begins with what stands in front
 abbrev pub ended_behind : List ℕ → List ℕ → List (List ℕ)
 ended_behind front [] = []
-ended_behind front (b ∷ bs) = if b == LF then front ∷ ended_behind [] bs else ended_behind (front ++ b ∷ []) bs
+ended_behind front (b ∷ bs) =
+    if b == LF then front ∷ ended_behind [] bs else ended_behind (front ++ b ∷ []) bs
 
 -- the line that has not ended
 abbrev pub open_behind : List ℕ → List ℕ → List ℕ

@@ -16,7 +16,8 @@ pub record World : Type 0 where
   pub desk_faults : ℕ
   pub sink_faults : ℕ
 
-abbrev pub world : {D K : Type 0} → (D → Option Files) → (D → ℕ) → (K → Option (List ℕ)) → (K → ℕ) → D → K → World
+abbrev pub world : {D K : Type 0} → (D → Option Files) → (D → ℕ) → (K → Option (List ℕ)) → (K → ℕ) →
+    D → K → World
 world files desk_faults written sink_faults desk out = record {
   holds = contents files written desk out;
   desk_faults = desk_faults desk;

@@ -34,11 +34,15 @@ pub record HoldPositions (edge face : Extent) (f : Positions) : Type 0 where
   pub e : IsIn face f.e
 
 -- the list has a box of each thing in the other, in its order, and nothing else
-pub record AreBoxesOf {X Box : Type 0} (holds : X → Box → Type 0) (xs : List X) (boxes : List Box) : Type 0 where
+pub record AreBoxesOf {X Box : Type 0} (holds : X → Box → Type 0) (xs : List X)
+    (boxes : List Box) : Type 0 where
   pub as_long : length boxes ≡ length xs
-  pub boxed : (k : ℕ) (x : X) → slice_get xs k ≡ Some x → (box : Box) × ((slice_get boxes k ≡ Some box) × holds x box)
+  pub boxed : (k : ℕ) (x : X) → slice_get xs k ≡ Some x →
+      (box : Box) × ((slice_get boxes k ≡ Some box) × holds x box)
 
 -- the map has a box of each thing in the list, by its place there, and nothing else
-pub record AreBoxes {X Box : Type 0} (holds : X → Box → Type 0) (xs : List X) (m : finite.FinMap nat_cmp Box) : Type 0 where
-  pub boxed : (k : ℕ) (x : X) → slice_get xs k ≡ Some x → (box : Box) × ((finite.get m k ≡ Some box) × holds x box)
+pub record AreBoxes {X Box : Type 0} (holds : X → Box → Type 0) (xs : List X)
+    (m : finite.FinMap nat_cmp Box) : Type 0 where
+  pub boxed : (k : ℕ) (x : X) → slice_get xs k ≡ Some x →
+      (box : Box) × ((finite.get m k ≡ Some box) × holds x box)
   pub no_others : (k : ℕ) → length xs ≤ k → finite.get m k ≡ None

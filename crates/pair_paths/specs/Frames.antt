@@ -10,19 +10,28 @@ use Rattle.pair_paths.specs.Bounds.{HoldsPath, HoldsEdge, HoldsFace}
 
 -- positions, seen from this one
 abbrev pub seen_from : Triple → Positions → Positions
-seen_from o f = record { a = minus f.a o; b = minus f.b o; c = minus f.c o; d = minus f.d o; e = minus f.e o }
+seen_from o f =
+    record { a = minus f.a o; b = minus f.b o; c = minus f.c o; d = minus f.d o; e = minus f.e o }
 
--- a path in the frame: it begins where it does in the grid, and its end is seen from where the frame ends
+-- a path in the frame: it begins where it does in the grid, and its end
+-- is seen from where the frame ends
 abbrev pub path_in : Frame → Path → Path
 path_in frame w = record { start = w.start; end = minus w.end frame.end }
 
 -- an edge in the frame
 abbrev pub edge_in : Frame → MovingEdge → MovingEdge
-edge_in frame e = record { a = e.a; b = e.b; first = path_in frame e.first; second = path_in frame e.second }
+edge_in frame e =
+    record { a = e.a; b = e.b; first = path_in frame e.first; second = path_in frame e.second }
 
 -- a face in the frame
 abbrev pub face_in : Frame → MovingFace → MovingFace
-face_in frame f = record { face = f.face; corners = f.corners; c = path_in frame f.c; d = path_in frame f.d; e = path_in frame f.e }
+face_in frame f = record {
+  face = f.face;
+  corners = f.corners;
+  c = path_in frame f.c;
+  d = path_in frame f.d;
+  e = path_in frame f.e;
+}
 
 -- the box has the path in the frame
 abbrev pub HoldsPathIn : Frame → Path → Extent → Type 0

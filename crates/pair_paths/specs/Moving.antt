@@ -16,7 +16,13 @@ moving_edge w a b = record { a = a; b = b; first = path_along w a; second = path
 
 -- a face by its id and its corners, with the paths of the corners
 abbrev pub moving_face : Motion → ℕ × Corners → MovingFace
-moving_face w f = record { face = f.0; corners = f.1; c = path_along w f.1.first; d = path_along w f.1.second; e = path_along w f.1.third }
+moving_face w f = record {
+  face = f.0;
+  corners = f.1;
+  c = path_along w f.1.first;
+  d = path_along w f.1.second;
+  e = path_along w f.1.third;
+}
 
 -- the same of a face by its id, if it is live
 abbrev pub live_face : Mesh → Motion → ℕ → Option MovingFace

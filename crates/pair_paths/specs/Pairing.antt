@@ -19,9 +19,11 @@ name_with e f = record { a = e.a; b = e.b; face = f.face }
 abbrev pub pair_with : MovingEdge → MovingFace → Pair
 pair_with e f = record { name = name_with e f; corners = f.corners }
 
--- where the edge and the face begin: of an edge and a face of a motion, the positions of their pair at its start
+-- where the edge and the face begin: of an edge and a face of a motion, the
+-- positions of their pair at its start
 abbrev pub starts : MovingEdge → MovingFace → Positions
-starts e f = record { a = e.first.start; b = e.second.start; c = f.c.start; d = f.d.start; e = f.e.start }
+starts e f =
+    record { a = e.first.start; b = e.second.start; c = f.c.start; d = f.d.start; e = f.e.start }
 
 -- where they end
 abbrev pub ends : MovingEdge → MovingFace → Positions

@@ -21,12 +21,15 @@ abbrev pub is_near_at : List LabelledBox → Extent → ℕ → ℕ → ℕ → 
 is_near_at boxes at a b k = option_map_or (overlaps_apart at a b) (slice_get boxes k) false
 
 -- the tree has the boxes by their places, and what is near is near the box that was asked for last
-pub record IsKept (tree : LabelledBoxes) (boxes : List LabelledBox) (asked : Option Extent) (near : List ℕ) : Type 0 where
+pub record IsKept (tree : LabelledBoxes) (boxes : List LabelledBox) (asked : Option Extent)
+    (near : List ℕ) : Type 0 where
   pub placed : (i : ℕ) → map.get tree i ≡ slice_get boxes i
   pub answered : IfSome asked (λ at. near ≡ overlapping tree at)
 
--- the places are those of the boxes that are near a box that has the edge in the frame, and have no end of it as a label
-pub record AreNear (frame : Frame) (tree : LabelledBoxes) (e : MovingEdge) (near : List ℕ) : Type 0 where
+-- the places are those of the boxes that are near a box that has the edge in the frame,
+-- and have no end of it as a label
+pub record AreNear (frame : Frame) (tree : LabelledBoxes) (e : MovingEdge)
+    (near : List ℕ) : Type 0 where
   pub at : Extent
   pub held : HoldsEdgeIn frame e at
   pub found : near ≡ overlapping_apart tree at e.a e.b

@@ -21,7 +21,8 @@ use Rattle.pair_scan.specs.Scan.{one_or_none}
 
 -- whether the edge and the face are a pair and do not pass
 abbrev pub fails_with : ℕ → MovingEdge → MovingFace → Bool
-fails_with depth e f = not (have_a_vertex_in_common e f) && not (passes meets_exactly depth (starts e f) (ends e f))
+fails_with depth e f =
+    not (have_a_vertex_in_common e f) && not (passes meets_exactly depth (starts e f) (ends e f))
 
 -- the name of the edge with a face, where there is one, they are a pair, and they do not pass
 abbrev pub failed_with : ℕ → MovingEdge → Option MovingFace → Option PairName
@@ -42,11 +43,13 @@ failing_among depth e faces = flat_map (λ f. failed depth e (Some f)) faces
 
 -- the same of each of the edges, edge by edge
 abbrev pub failing_along : ℕ → Motion → List MovingFace → List (ℕ × ℕ) → List PairName
-failing_along depth w faces edges = flat_map (λ e. failing_among depth (moving_edge w e.0 e.1) faces) edges
+failing_along depth w faces edges =
+    flat_map (λ e. failing_among depth (moving_edge w e.0 e.1) faces) edges
 
 -- the names of those of these pairs that do not pass in the motion
 abbrev pub failing_of : ℕ → Motion → List Pair → List PairName
-failing_of depth w ps = map (λ p. p.name) (filter (λ p. not (pair_passes meets_exactly depth w p)) ps)
+failing_of depth w ps =
+    map (λ p. p.name) (filter (λ p. not (pair_passes meets_exactly depth w p)) ps)
 
 -- the pair does not pass in the motion
 abbrev pub DoesNotPass : ℕ → Motion → Pair → Type 0
@@ -54,7 +57,9 @@ DoesNotPass depth w p = ¬ (Passes depth (positions w.start p) (positions w.end 
 
 -- the name is that of a pair of the mesh, and the pair does not pass
 abbrev pub IsFailing : Mesh → Shifts → ℕ → PairName → Type 0
-IsFailing m by depth n = (c : Corners) × IsPair m (record { name = n; corners = c }) × DoesNotPass depth (moved_by m by) (record { name = n; corners = c })
+IsFailing m by depth n =
+    (c : Corners) × IsPair m (record { name = n; corners = c })
+    × DoesNotPass depth (moved_by m by) (record { name = n; corners = c })
 
 -- the list has the name of each pair that does not pass, once, and no other, in order
 pub record AreFailing (m : Mesh) (by : Shifts) (depth : ℕ) (names : List PairName) : Type 0 where

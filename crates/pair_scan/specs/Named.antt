@@ -1,4 +1,5 @@
--- Pairs by their names, and the pairs that do not pass. `meets` is a test that tells whether five positions meet.
+-- Pairs by their names, and the pairs that do not pass. `meets` is a test that
+-- tells whether five positions meet.
 use Rattle.std.specs.Prelude.{ℕ, Bool, not, List, map}
 use Rattle.std.specs.Option.{unwrap_or}
 use Rattle.std.specs.List.{filter}
@@ -28,4 +29,5 @@ pairs_named m names = map (pair_named m) names
 
 -- the pairs that do not pass, of which `failing` gives the names
 abbrev pub failing_pairs : (Positions → Bool) → Mesh → Shifts → ℕ → List Pair
-failing_pairs meets m shifts depth = filter (λ p. not (pair_passes meets depth (moved_by m shifts) p)) (pairs m)
+failing_pairs meets m shifts depth =
+    filter (λ p. not (pair_passes meets depth (moved_by m shifts) p)) (pairs m)

@@ -36,11 +36,14 @@ one_or_none (Some x) = x ∷ []
 
 -- the name of the first of these pairs that meets
 abbrev pub first_of : Mesh → List Pair → Option PairName
-first_of m ps = option_map (λ p. p.name) (find (λ p. meets_exactly (positions (rest_positions m) p)) ps)
+first_of m ps =
+    option_map (λ p. p.name) (find (λ p. meets_exactly (positions (rest_positions m) p)) ps)
 
 -- the name is that of a pair of the mesh, and the pair meets
 abbrev pub IsMeeting : Mesh → PairName → Type 0
-IsMeeting m n = (c : Corners) × IsPair m (record { name = n; corners = c }) × MeetAt (positions (rest_positions m) (record { name = n; corners = c }))
+IsMeeting m n =
+    (c : Corners) × IsPair m (record { name = n; corners = c })
+    × MeetAt (positions (rest_positions m) (record { name = n; corners = c }))
 
 -- no pair that meets comes before this name
 abbrev pub NoneMeetsBefore : Mesh → PairName → Type 0

@@ -10,4 +10,5 @@ SolidsRest m shifts = (v : ℕ) → IsTrue (is_solid m v) → shift_at shifts v 
 
 -- a solid vertex that has no shift before has none after
 abbrev pub SolidsStay : Mesh → Shifts → Shifts → Type 0
-SolidsStay m before after = (v : ℕ) → IsTrue (is_solid m v) → shift_at before v ≡ origin → shift_at after v ≡ origin
+SolidsStay m before after =
+    (v : ℕ) → IsTrue (is_solid m v) → shift_at before v ≡ origin → shift_at after v ≡ origin

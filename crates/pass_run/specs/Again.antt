@@ -8,8 +8,9 @@ use Rattle.log_replay.specs.Again.{LinesAreAgain}
 use Rattle.pass_run.specs.declared.terms.PassTerms.{PassTerms}
 use Rattle.pass_run.specs.PassLines.{pass_lines}
 
--- Each edit that the lines of a pass tell as done, tested to a depth within the limit, answers the same where it stands, tested to the
--- greatest depth.
+-- Each edit that the lines of a pass tell as done, tested to a depth within the limit, answers the
+-- same where it stands, tested to the greatest depth.
 abbrev pub PassesAreAgain : Type 0
-PassesAreAgain = (meets : Positions → Bool) → IsExact meets → (r : Replay) (terms : PassTerms) → terms.depth ≤ DEPTH_MAX →
+PassesAreAgain = (meets : Positions → Bool) → IsExact meets → (r : Replay) (terms : PassTerms) →
+    terms.depth ≤ DEPTH_MAX →
     LinesAreAgain r (pass_lines meets terms r.mesh)

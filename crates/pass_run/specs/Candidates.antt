@@ -1,5 +1,6 @@
 -- The candidates of a pass, in order, and when each is due.
-use Rattle.std.specs.Prelude.{ℕ, ◌*◌, ◌&&◌, not, Bool, List, [], ◌∷◌, ◌++◌, map, length, nat_le, ℤ, pos, ◌*ℤ◌, int_lt, int_le, Option, Some, None, if◌then◌else◌}
+use Rattle.std.specs.Prelude.{ℕ, ◌*◌, ◌&&◌, not, Bool, List, [], ◌∷◌, ◌++◌, map, length, nat_le}
+use Rattle.std.specs.Prelude.{ℤ, pos, ◌*ℤ◌, int_lt, int_le, Option, Some, None, if◌then◌else◌}
 use Rattle.std.specs.FinMap as finite
 use Rattle.grid_base.specs.Triples.{minus}
 use Rattle.edit_base.specs.declared.Asked.{Asked}
@@ -67,9 +68,11 @@ length_squared m u v = square (minus (rest_positions m u) (rest_positions m v))
 abbrev pub squared : ℕ → ℤ
 squared n = pos n *ℤ pos n
 
--- whether the midpoints of two edges are no further apart than a limit; they are compared in half units
+-- whether the midpoints of two edges are no further apart than a
+-- limit; they are compared in half units
 abbrev pub are_near : Mesh → ℕ → ℕ → ℕ → ℕ → ℕ → Bool
-are_near m a b e f within = int_le (square (minus (exact_mid m a b) (exact_mid m e f))) (squared (2 * within))
+are_near m a b e f within =
+    int_le (square (minus (exact_mid m a b) (exact_mid m e f))) (squared (2 * within))
 
 -- the length that a pass goes by
 abbrev pub limit_of : PassKind → ℕ
@@ -81,11 +84,15 @@ limit_of Pinch = 0
 
 -- what is asked still stands, and the condition of the pass holds
 abbrev pub is_due : Mesh → PassKind → Asked → Bool
-is_due m kind (asked.Split a b) = is_edge m a b && int_lt (squared (limit_of kind)) (length_squared m a b)
-is_due m kind (asked.Collapse a b) = is_edge m a b && int_lt (length_squared m a b) (squared (limit_of kind))
+is_due m kind (asked.Split a b) =
+    is_edge m a b && int_lt (squared (limit_of kind)) (length_squared m a b)
+is_due m kind (asked.Collapse a b) =
+    is_edge m a b && int_lt (length_squared m a b) (squared (limit_of kind))
 is_due m kind (asked.Flip a b) =
     let s = edge_of m a b in
-    is_edge m a b && not (is_crowded m a b) && int_lt (length_squared m s.c s.d) (length_squared m a b)
+    is_edge m a b
+    && not (is_crowded m a b)
+    && int_lt (length_squared m s.c s.d) (length_squared m a b)
 is_due m kind (asked.Zip a b e f) = is_zip_ready m a b e f && are_near m a b e f (limit_of kind)
 is_due m kind (asked.Pinch v) = nat_le 2 (length (fans m v))
 

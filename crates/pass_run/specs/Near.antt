@@ -15,7 +15,8 @@ use Rattle.pair_paths.specs.Bounds.{AreBoxes}
 use Rattle.pair_scan.specs.Scan.{one_or_none}
 use Rattle.pass_run.specs.Candidates.{zip_of}
 
--- whether the midpoints of two edges are no further apart than the length along each axis; midpoints are in half units
+-- whether the midpoints of two edges are no further apart than the length along each
+-- axis; midpoints are in half units
 abbrev pub is_near : Mesh → ℕ → ℕ × ℕ → ℕ × ℕ → Bool
 is_near m within e f = is_within (2 * within) (minus (exact_mid m e.0 e.1) (exact_mid m f.0 f.1))
 
@@ -26,11 +27,13 @@ near_zip m within e (Some f) = if is_near m within e f then Some (zip_of e f) el
 
 -- the zip of the edge at place i with the one at place k, where that is later and near
 abbrev pub later_zip : Mesh → ℕ → List (ℕ × ℕ) → ℕ → ℕ × ℕ → ℕ → Option Asked
-later_zip m within edges i e k = if nat_lt i k then near_zip m within e (slice_get edges k) else None
+later_zip m within edges i e k =
+    if nat_lt i k then near_zip m within e (slice_get edges k) else None
 
 -- the zips of the edge at place i with those at these places that are later and near
 abbrev pub later_zips : Mesh → ℕ → List (ℕ × ℕ) → ℕ → ℕ × ℕ → List ℕ → List Asked
-later_zips m within edges i e places = flat_map (λ k. one_or_none (later_zip m within edges i e k)) places
+later_zips m within edges i e places =
+    flat_map (λ k. one_or_none (later_zip m within edges i e k)) places
 
 -- the zips of an edge with those of these that are near
 abbrev pub near_zips : Mesh → ℕ → ℕ × ℕ → List (ℕ × ℕ) → List Asked
@@ -38,7 +41,8 @@ near_zips m within e edges = map (zip_of e) (filter (is_near m within e) edges)
 
 -- the box has each midpoint that is no further off than the length along each axis
 abbrev pub HasEachNear : Triple → ℕ → Extent → Type 0
-HasEachNear p within box = (q : Triple) → IsWithin HALF_MAX q → IsTrue (is_within (2 * within) (minus p q)) → IsIn box q
+HasEachNear p within box =
+    (q : Triple) → IsWithin HALF_MAX q → IsTrue (is_within (2 * within) (minus p q)) → IsIn box q
 
 -- the box of one position
 pub record IsBoxOf (p : Triple) (box : Extent) : Type 0 where

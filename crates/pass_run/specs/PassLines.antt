@@ -15,8 +15,9 @@ use Rattle.log_text.specs.declared.LogLine.TheVariants as line
 use Rattle.pass_run.specs.declared.terms.PassTerms.{PassTerms}
 use Rattle.pass_run.specs.Candidates.{candidates, choice_in}
 
--- By what a pass answers: a test that tells whether five positions meet, what is asked at a candidate's turn in a mesh, if anything,
--- the number of time halvings of the written test, and whether the first `no` line ends the pass.
+-- By what a pass answers: a test that tells whether five positions meet, what is asked at a
+-- candidate's turn in a mesh, if anything, the number of time halvings of the written test, and
+-- whether the first `no` line ends the pass.
 pub record PassRules : Type 0 where
   pub meets : Positions → Bool
   pub choice : Mesh → Asked → Option Asked
@@ -25,7 +26,12 @@ pub record PassRules : Type 0 where
 
 -- those of a pass that goes by these terms, with a test
 abbrev pub rules_of : (Positions → Bool) → PassTerms → PassRules
-rules_of meets terms = record { meets = meets; choice = choice_in terms.kind; depth = terms.depth; grouped = terms.grouped }
+rules_of meets terms = record {
+  meets = meets;
+  choice = choice_in terms.kind;
+  depth = terms.depth;
+  grouped = terms.grouped;
+}
 
 -- the same with the exact test
 abbrev pub exactly : PassTerms → PassRules
@@ -86,12 +92,14 @@ mesh_from rules m what = mesh_asked (answer_by rules m) m (rules.choice m what)
 
 -- ---- all candidates
 
--- the lines, from a mesh on, of candidates, each of which finds the mesh that the one before it leaves
+-- the lines, from a mesh on, of candidates, each of which finds the
+-- mesh that the one before it leaves
 abbrev pub lines_from : PassRules → Mesh → List Asked → List LogLine
 lines_from rules m [] = []
 lines_from rules m (what ∷ rest) =
     let lines = lines_of rules m what in
-    lines ++ (if ends rules.grouped lines then [] else lines_from rules (mesh_from rules m what) rest)
+    lines
+    ++ (if ends rules.grouped lines then [] else lines_from rules (mesh_from rules m what) rest)
 
 -- the mesh after all of them
 abbrev pub mesh_after_all : PassRules → Mesh → List Asked → Mesh
@@ -104,7 +112,8 @@ mesh_after_all rules m (what ∷ rest) =
 
 -- all its lines
 abbrev pub pass_lines : (Positions → Bool) → PassTerms → Mesh → List LogLine
-pass_lines meets terms m = line.Pass terms.kind ∷ lines_from (rules_of meets terms) m (candidates m terms.kind)
+pass_lines meets terms m =
+    line.Pass terms.kind ∷ lines_from (rules_of meets terms) m (candidates m terms.kind)
 
 -- the mesh after it
 abbrev pub mesh_after_pass : (Positions → Bool) → PassTerms → Mesh → Mesh

@@ -8,13 +8,16 @@ use Rattle.log_replay.specs.Safe.{LinesKeepTheMesh}
 use Rattle.pass_run.specs.declared.terms.PassTerms.{PassTerms}
 use Rattle.pass_run.specs.PassLines.{pass_lines, mesh_after_pass}
 
--- The lines of a pass, replayed from its opening mesh, give the mesh that it leaves, and change nothing else of the replay.
+-- The lines of a pass, replayed from its opening mesh, give the mesh that it leaves, and
+-- change nothing else of the replay.
 abbrev pub LinesTellTheMesh : Type 0
 LinesTellTheMesh = (meets : Positions → Bool) (r : Replay) (terms : PassTerms) →
     after r (pass_lines meets terms r.mesh) ≡ record r { mesh = mesh_after_pass meets terms r.mesh }
 
--- Each edit that the lines of a pass over a valid surface tell as done is safe where it stands, each line leaves a valid surface, and
--- so does the pass.
+-- Each edit that the lines of a pass over a valid surface tell as done is safe where it stands,
+-- each line leaves a valid surface, and so does the pass.
 abbrev pub PassesKeepTheMesh : Type 0
-PassesKeepTheMesh = (meets : Positions → Bool) → IsExact meets → (r : Replay) (terms : PassTerms) → IsValidSurface r.mesh →
-    LinesKeepTheMesh r (pass_lines meets terms r.mesh) × IsValidSurface (mesh_after_pass meets terms r.mesh)
+PassesKeepTheMesh = (meets : Positions → Bool) → IsExact meets → (r : Replay) (terms : PassTerms) →
+    IsValidSurface r.mesh →
+    LinesKeepTheMesh r (pass_lines meets terms r.mesh)
+    × IsValidSurface (mesh_after_pass meets terms r.mesh)

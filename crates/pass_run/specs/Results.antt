@@ -26,7 +26,8 @@ line_asked answer (Some what) = Some (line_of what (answer what))
 line_asked answer None = None
 
 -- the mesh that it leaves; after want of memory the same mesh
-abbrev pub mesh_then : (Asked → Edit) → Mesh → Option Asked → Result (Option LogLine) NoMemory → Mesh
+abbrev pub mesh_then : (Asked → Edit) → Mesh → Option Asked → Result (Option LogLine) NoMemory →
+    Mesh
 mesh_then answer m call (Ok line) = mesh_asked answer m call
 mesh_then answer m call (Err fault) = m
 
@@ -37,7 +38,8 @@ pub record Stage : Type 0 where
   pub around : Around
 
 abbrev pub stage : {S O : Type 0} → (S → Mesh) → (S → List Mesh) → (O → Around) → S → O → Stage
-stage mesh kept around surface outside = record { mesh = mesh surface; kept = kept surface; around = around outside }
+stage mesh kept around surface outside =
+    record { mesh = mesh surface; kept = kept surface; around = around outside }
 
 -- what the sink then holds, where it tells
 abbrev pub written_at : Stage → Option (List ℕ)
@@ -51,7 +53,8 @@ pub record Keeps {T : Type 0} (old new : Stage) (result : Result T Stop) : Type 
   pub nothing_stored : StoresNothing old.around new.around result
 
 -- From old to new these lines were said and counted, or the first of them.
-pub record PassResult (lines : List LogLine) (old new : Stage) (result : Result PassCount Stop) : Type 0 where
+pub record PassResult (lines : List LogLine) (old new : Stage)
+    (result : Result PassCount Stop) : Type 0 where
   pub said : Said old.mesh new.mesh (written_at old) (written_at new) lines result
   pub done : IfOk result (λ count. count.done ≡ done_in lines)
   pub refused : IfOk result (λ count. count.refused ≡ refused_in lines)

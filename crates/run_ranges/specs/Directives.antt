@@ -21,7 +21,8 @@ pub record HasRoomFor (count : ℕ) (s : State) : Type 0 where
   pub steps : s.steps + count ≤ COUNT_MAX
   pub saved : s.saved + count ≤ COUNT_MAX
 
--- the lines of a directive, or the reason against it; of one that is not answered to its end, the lines up to there
+-- the lines of a directive, or the reason against it; of one that is not answered
+-- to its end, the lines up to there
 abbrev pub IsEffectInRange : Effect → Type 0
 IsEffectInRange (Proceeds lines next) = AreInRange lines
 IsEffectInRange (Refused why) = IsUseInRange why
@@ -29,9 +30,11 @@ IsEffectInRange (Unanswered lines) = AreInRange lines
 
 -- what a directive of a step file gives, whatever is given to it
 abbrev pub EffectsAreInRange : Type 0
-EffectsAreInRange = (given : Answer) (what : Directive) (s : State) → HasRoomFor 1 s → IsInRange what → IsEffectInRange (effect_of given what s)
+EffectsAreInRange = (given : Answer) (what : Directive) (s : State) → HasRoomFor 1 s →
+    IsInRange what → IsEffectInRange (effect_of given what s)
 
 -- the log of directives, whatever is given to them
 abbrev pub LogsAreInRange : Type 0
 LogsAreInRange =
-    (answers : Answers) (steps : List Placed) (s : State) → HasRoomFor (length steps) s → All IsPlacedInRange steps → AreInRange (log_from answers steps s).lines
+    (answers : Answers) (steps : List Placed) (s : State) → HasRoomFor (length steps) s →
+    All IsPlacedInRange steps → AreInRange (log_from answers steps s).lines

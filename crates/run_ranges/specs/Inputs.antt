@@ -17,7 +17,8 @@ use Rattle.track_engine.specs.State.{start}
 use Rattle.track_engine.specs.Answers.{Answers}
 use Rattle.track_engine.specs.Effects.{mesh_line, log_from}
 
--- what was fetched has at most as many bytes as may be read, or is seen to have more, in a number of the log
+-- what was fetched has at most as many bytes as may be read, or is seen to
+-- have more, in a number of the log
 abbrev pub IsSeen : Source → Type 0
 IsSeen (Bytes bytes) = length bytes ≤ TEXT_MAX
 IsSeen Absent = Unit {0}
@@ -41,9 +42,12 @@ IsInputInRange (Err why) = IsRefusalInRange why
 
 -- what a job gives
 abbrev pub InputsAreInRange : Type 0
-InputsAreInRange = (job : Job) → IsSeen job.mesh_file → IsSeen job.step_file → IsInputInRange (input_of job)
+InputsAreInRange =
+    (job : Job) → IsSeen job.mesh_file → IsSeen job.step_file → IsInputInRange (input_of job)
 
--- the log of a mesh and directives, from the line of the mesh on, whatever is given to the directives
+-- the log of a mesh and directives, from the line of the mesh on,
+-- whatever is given to the directives
 abbrev pub LogsOfMeshesAreInRange : Type 0
 LogsOfMeshesAreInRange =
-    (answers : Answers) (m : Mesh) (steps : List Placed) → IsValidSurface m → AreCounted steps → AreInRange (mesh_line 0 m ∷ (log_from answers steps (start m)).lines)
+    (answers : Answers) (m : Mesh) (steps : List Placed) → IsValidSurface m → AreCounted steps →
+    AreInRange (mesh_line 0 m ∷ (log_from answers steps (start m)).lines)

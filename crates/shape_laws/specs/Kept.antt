@@ -15,8 +15,9 @@ pub record HaveSameShape (m n : Mesh) : Type 0 where
   pub components : components n ≡ components m
   pub euler : euler n ≡ euler m
 
--- A split keeps the shape where the edge has two opposite vertices, and each flip does. Where the two faces beside an edge have one
--- opposite vertex, a split makes three edges of one, and not four. A zip and a pinch are made to change it. Of a collapse nothing is said here.
+-- A split keeps the shape where the edge has two opposite vertices, and each flip does. Where the
+-- two faces beside an edge have one opposite vertex, a split makes three edges of one, and not
+-- four. A zip and a pinch are made to change it. Of a collapse nothing is said here.
 abbrev pub keeps_shape : Mesh → Change → Bool
 keeps_shape m (Split a b w at) = has_two_opposites m a b
 keeps_shape m (Flip a b) = true
@@ -31,12 +32,16 @@ collapse_keeps_shape m _ = false
 
 -- a done edit of a sound and closed mesh, of which it is said, leaves the shape as it was
 abbrev pub ShapeStays : Answer → Type 0
-ShapeStays answer = (m : Mesh) (change : Change) → IsSound m → IsClosed m → answer m ≡ Done change → keeps_shape m change ≡ true → HaveSameShape m (edited m change)
+ShapeStays answer = (m : Mesh) (change : Change) → IsSound m → IsClosed m → answer m ≡ Done change →
+    keeps_shape m change ≡ true → HaveSameShape m (edited m change)
 
 -- the same of collapses
 abbrev pub ShapeStaysOnCollapse : Answer → Type 0
-ShapeStaysOnCollapse answer = (m : Mesh) (change : Change) → IsSound m → IsClosed m → answer m ≡ Done change → collapse_keeps_shape m change ≡ true → HaveSameShape m (edited m change)
+ShapeStaysOnCollapse answer = (m : Mesh) (change : Change) → IsSound m → IsClosed m →
+    answer m ≡ Done change → collapse_keeps_shape m change ≡ true →
+    HaveSameShape m (edited m change)
 
 -- each done edit does
 abbrev pub ShapeAlwaysStays : Answer → Type 0
-ShapeAlwaysStays answer = (m : Mesh) (change : Change) → IsSound m → IsClosed m → answer m ≡ Done change → HaveSameShape m (edited m change)
+ShapeAlwaysStays answer = (m : Mesh) (change : Change) → IsSound m → IsClosed m →
+    answer m ≡ Done change → HaveSameShape m (edited m change)

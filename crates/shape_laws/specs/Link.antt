@@ -7,7 +7,8 @@ use Rattle.mesh_base.specs.Changes.{corner_list}
 use Rattle.mesh_base.specs.Pairs.{is_edge, is_crowded}
 use Rattle.edit_base.specs.Edges.{Edge, edge_of, corners_at, runs_both_ways}
 
--- one face at least runs each way along the edge, and the opposite vertices of the first that do are two
+-- one face at least runs each way along the edge, and the opposite
+-- vertices of the first that do are two
 abbrev pub has_two_opposites : Mesh → ℕ → ℕ → Bool
 has_two_opposites m u v = let s = edge_of m u v in runs_both_ways m s.a s.b && not (s.c == s.d)
 
@@ -33,15 +34,18 @@ has_other_neighbour m s = some_near m s.a (is_other_neighbour m s)
 
 -- some face at the vertex has both other vertices
 abbrev pub has_face_with : Mesh → ℕ → ℕ → ℕ → Bool
-has_face_with m v c d = list_any (λ f. has_corner (corners_at m f) c && has_corner (corners_at m f) d) (faces_at m v)
+has_face_with m v c d =
+    list_any (λ f. has_corner (corners_at m f) c && has_corner (corners_at m f) d) (faces_at m v)
 
 -- a face at each end has both opposite vertices, so that the two may come to cancel each other
 abbrev pub may_faces_cancel : Mesh → Edge → Bool
 may_faces_cancel m s = has_face_with m s.a s.c s.d && has_face_with m s.b s.c s.d
 
--- The link condition: the ends have no neighbours in common but the two opposite vertices; and no two faces cancel, since no edge at an
--- end is poor, and at one end no face has both opposite vertices.
+-- The link condition: the ends have no neighbours in common but the two opposite
+-- vertices; and no two faces cancel, since no edge at an end is poor, and at one end no
+-- face has both opposite vertices.
 abbrev pub has_plain_link : Mesh → ℕ → ℕ → Bool
 has_plain_link m u v =
     let s = edge_of m u v in
-    runs_both_ways m s.a s.b && not (may_faces_cancel m s) && not (has_poor_edge m s.a) && not (has_poor_edge m s.b) && not (has_other_neighbour m s)
+    runs_both_ways m s.a s.b && not (may_faces_cancel m s) && not (has_poor_edge m s.a)
+    && not (has_poor_edge m s.b) && not (has_other_neighbour m s)

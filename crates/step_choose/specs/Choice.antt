@@ -1,4 +1,5 @@
--- Which step is taken: the first way that applies. `meets` is a test that tells whether five positions meet.
+-- Which step is taken: the first way that applies. `meets` is a test that
+-- tells whether five positions meet.
 use Rattle.std.specs.Prelude.{◌≡◌, ℕ, ◌+◌, ◌<◌, ◌≤◌, Bool, List, [], map, IsTrue, if◌then◌else◌}
 use Rattle.std.specs.Option.{option_or, option_map, unwrap_or}
 use Rattle.std.specs.List.{find, range_with_len}
@@ -16,7 +17,8 @@ use Rattle.step_zones.specs.Rounds.{round_labels, round_shifts, round_taken, IsF
 use Rattle.step_choose.specs.declared.settings.Settings.{Settings}
 pub use Rattle.step_choose.specs.Impulses.{all_pass, NoneFails, after_passes, fewest_passes, PassesServe}
 
--- how a step is taken, by which shifts, and the blocks of two or more that move as one in impact zones
+-- how a step is taken, by which shifts, and the blocks of two or more
+-- that move as one in impact zones
 pub record Way : Type 0 where
   pub how : How
   pub taken : Shifts
@@ -42,12 +44,14 @@ all_at_rest shifts = map at_rest shifts
 
 -- the asked shifts, where all pairs pass
 abbrev pub whole_way : (Positions → Bool) → Mesh → Shifts → ℕ → Option Way
-whole_way meets m asked depth = if all_pass meets m asked depth then Some (way Whole asked) else None
+whole_way meets m asked depth =
+    if all_pass meets m asked depth then Some (way Whole asked) else None
 
 -- the fewest impulse passes, from 1 to the most, after which all pairs pass
 unfoldable pub impulse_way : (Positions → Bool) → Mesh → Shifts → ℕ → ℕ → Option Way
 impulse_way meets m asked depth most =
-    option_map (λ n. way (Impulse n) (after_passes meets m asked depth n)) (fewest_passes meets m asked depth most)
+    option_map (λ n. way (Impulse n) (after_passes meets m asked depth n))
+    (fewest_passes meets m asked depth most)
 
 -- a round of impact zones
 abbrev pub round_way : (Positions → Bool) → Mesh → Shifts → ℕ → ℕ → Way
@@ -59,7 +63,9 @@ round_way meets m asked depth round = record {
 
 -- the first round of impact zones in which all pairs pass, where zones are on
 unfoldable pub zones_way : (Positions → Bool) → Mesh → Shifts → ℕ → Bool → Option Way
-zones_way meets m asked depth on = if on then option_map (round_way meets m asked depth) (round_taken meets m asked depth) else None
+zones_way meets m asked depth on =
+    if on then option_map (round_way meets m asked depth) (round_taken meets m asked depth)
+    else None
 
 -- so many halvings of the asked shifts
 abbrev pub halving : Shifts → ℕ → Way
@@ -68,9 +74,11 @@ halving asked n = way (Halved n) (halved_times n asked)
 -- the fewest halvings of the asked shifts, from 1 to the most, with which all pairs pass
 abbrev pub halved_way : (Positions → Bool) → Mesh → Shifts → ℕ → ℕ → Option Way
 halved_way meets m asked depth most =
-    option_map (halving asked) (find (λ n. all_pass meets m (halved_times n asked) depth) (range_with_len 1 most))
+    option_map (halving asked)
+    (find (λ n. all_pass meets m (halved_times n asked) depth) (range_with_len 1 most))
 
--- the first way that applies: the asked shifts, impulses, impact zones, the fewest halvings of the asked shifts, no shifts
+-- the first way that applies: the asked shifts, impulses, impact zones, the fewest
+-- halvings of the asked shifts, no shifts
 abbrev pub way_taken : (Positions → Bool) → Mesh → Shifts → Settings → Way
 way_taken meets m asked set =
     unwrap_or
@@ -83,19 +91,23 @@ way_taken meets m asked set =
 -- ---- the same, as what holds of the way taken
 -- some pair fails with each number of halvings from 1 to below n
 abbrev pub EachFailsBelow : (Positions → Bool) → Mesh → ℕ → Shifts → ℕ → Type 0
-EachFailsBelow meets m depth asked n = (k : ℕ) → 1 ≤ k → k < n → ¬ (NoneFails meets m depth (halved_times k asked))
+EachFailsBelow meets m depth asked n =
+    (k : ℕ) → 1 ≤ k → k < n → ¬ (NoneFails meets m depth (halved_times k asked))
 
 -- no number of impulse passes from 1 to below n serves
 abbrev pub NoPassesServeBelow : (Positions → Bool) → Mesh → ℕ → Shifts → ℕ → Type 0
-NoPassesServeBelow meets m depth asked n = (k : ℕ) → 1 ≤ k → k < n → ¬ (PassesServe meets m asked depth k)
+NoPassesServeBelow meets m depth asked n =
+    (k : ℕ) → 1 ≤ k → k < n → ¬ (PassesServe meets m asked depth k)
 
 -- the asked shifts: all pairs pass
-pub record IsWhole (meets : Positions → Bool) (m : Mesh) (asked : Shifts) (set : Settings) (taken : Shifts) : Type 0 where
+pub record IsWhole (meets : Positions → Bool) (m : Mesh) (asked : Shifts) (set : Settings)
+    (taken : Shifts) : Type 0 where
   pub takes : taken ≡ asked
   pub none_fails : NoneFails meets m set.depth asked
 
 -- the shifts after the fewest impulse passes that serve
-pub record IsByImpulses (meets : Positions → Bool) (m : Mesh) (asked : Shifts) (set : Settings) (passes : ℕ) (taken : Shifts) : Type 0 where
+pub record IsByImpulses (meets : Positions → Bool) (m : Mesh) (asked : Shifts) (set : Settings)
+    (passes : ℕ) (taken : Shifts) : Type 0 where
   pub takes : taken ≡ after_passes meets m asked set.depth passes
   pub serve : PassesServe meets m asked set.depth passes
   pub some : 1 ≤ passes
@@ -104,7 +116,8 @@ pub record IsByImpulses (meets : Positions → Bool) (m : Mesh) (asked : Shifts)
   pub not_whole : ¬ (NoneFails meets m set.depth asked)
 
 -- the shifts of the first round of impact zones that serves
-pub record IsByZones (meets : Positions → Bool) (m : Mesh) (asked : Shifts) (set : Settings) (round : ℕ) (taken : Shifts) : Type 0 where
+pub record IsByZones (meets : Positions → Bool) (m : Mesh) (asked : Shifts) (set : Settings)
+    (round : ℕ) (taken : Shifts) : Type 0 where
   pub takes : taken ≡ round_shifts meets m asked set.depth round
   pub on : IsTrue set.zones
   pub first : IsFirstToServe meets m asked set.depth round
@@ -112,13 +125,15 @@ pub record IsByZones (meets : Positions → Bool) (m : Mesh) (asked : Shifts) (s
   pub not_whole : ¬ (NoneFails meets m set.depth asked)
 
 -- neither the asked shifts serve, nor impulses, nor impact zones
-pub record AreNotMet (meets : Positions → Bool) (m : Mesh) (asked : Shifts) (set : Settings) : Type 0 where
+pub record AreNotMet (meets : Positions → Bool) (m : Mesh) (asked : Shifts)
+    (set : Settings) : Type 0 where
   pub no_zones : IsTrue set.zones → SomeRoundLeaves meets m asked set.depth
   pub no_impulses : NoPassesServeBelow meets m set.depth asked (set.passes + 1)
   pub not_whole : ¬ (NoneFails meets m set.depth asked)
 
 -- the fewest halvings of the asked shifts with which all pairs pass
-pub record IsHalved (meets : Positions → Bool) (m : Mesh) (asked : Shifts) (set : Settings) (times : ℕ) (taken : Shifts) : Type 0 where
+pub record IsHalved (meets : Positions → Bool) (m : Mesh) (asked : Shifts) (set : Settings)
+    (times : ℕ) (taken : Shifts) : Type 0 where
   pub takes : taken ≡ halved_times times asked
   pub none_fails : NoneFails meets m set.depth (halved_times times asked)
   pub some : 1 ≤ times
@@ -127,7 +142,8 @@ pub record IsHalved (meets : Positions → Bool) (m : Mesh) (asked : Shifts) (se
   pub others : AreNotMet meets m asked set
 
 -- no shifts
-pub record IsNone (meets : Positions → Bool) (m : Mesh) (asked : Shifts) (set : Settings) (taken : Shifts) : Type 0 where
+pub record IsNone (meets : Positions → Bool) (m : Mesh) (asked : Shifts) (set : Settings)
+    (taken : Shifts) : Type 0 where
   pub takes : taken ≡ all_at_rest asked
   pub each_fails : EachFailsBelow meets m set.depth asked (set.halvings + 1)
   pub others : AreNotMet meets m asked set

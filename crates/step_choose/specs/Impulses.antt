@@ -32,9 +32,12 @@ passes_serve meets m asked depth passes =
 
 -- the fewest passes, from 1 to the most, that serve
 unfoldable pub fewest_passes : (Positions → Bool) → Mesh → Shifts → ℕ → ℕ → Option ℕ
-fewest_passes meets m asked depth most = find (passes_serve meets m asked depth) (range_with_len 1 most)
+fewest_passes meets m asked depth most =
+    find (passes_serve meets m asked depth) (range_with_len 1 most)
 
 -- so many passes serve: all pairs pass after them, and no pass up to them leaves the box
-pub record PassesServe (meets : Positions → Bool) (m : Mesh) (asked : Shifts) (depth passes : ℕ) : Type 0 where
+pub record PassesServe (meets : Positions → Bool) (m : Mesh) (asked : Shifts)
+    (depth passes : ℕ) : Type 0 where
   pub none_fails : NoneFails meets m depth (after_passes meets m asked depth passes)
-  pub in_box : (q : ℕ) → 1 ≤ q → q ≤ passes → IsTrue (end_in_box m (after_passes meets m asked depth q))
+  pub in_box : (q : ℕ) → 1 ≤ q → q ≤ passes →
+      IsTrue (end_in_box m (after_passes meets m asked depth q))

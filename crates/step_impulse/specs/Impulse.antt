@@ -20,14 +20,17 @@ places_of ps = record {
   e = position_of (slice_index_or ps 4 point_at_origin);
 }
 
--- how far five numbers are apart, two from three: the least of the three less the greater of the two, or the lesser of the two
--- less the greatest of the three
+-- how far five numbers are apart, two from three: the least of the three less the greater of the
+-- two, or the lesser of the two less the greatest of the three
 abbrev pub apart : ℤ → ℤ → ℤ → ℤ → ℤ → ℤ
-apart a b c d e = int_max (int_min (int_min c d) e -ℤ int_max a b) (int_min a b -ℤ int_max (int_max c d) e)
+apart a b c d e =
+    int_max (int_min (int_min c d) e -ℤ int_max a b) (int_min a b -ℤ int_max (int_max c d) e)
 
 -- how far the edge and the face are apart on an axis
 abbrev pub gap : Axis → Positions → ℤ
-gap axis f = apart (component axis f.a) (component axis f.b) (component axis f.c) (component axis f.d) (component axis f.e)
+gap axis f =
+    apart (component axis f.a) (component axis f.b) (component axis f.c)
+    (component axis f.d) (component axis f.e)
 
 -- the later axis where its gap is greater
 abbrev pub wider : Axis → Axis → Positions → Axis
@@ -69,11 +72,13 @@ some_fixed fixed =
 
 -- each vertex with what it gets, on one axis
 abbrev pub each_given : Axis → (ℕ → ℤ) → List ℕ → List Triple → List Triple
-each_given axis gets (v ∷ ids) (t ∷ shifts) = with_component axis (gets v) t ∷ each_given axis gets ids shifts
+each_given axis gets (v ∷ ids) (t ∷ shifts) =
+    with_component axis (gets v) t ∷ each_given axis gets ids shifts
 each_given axis gets (v ∷ ids) [] = []
 each_given axis gets [] shifts = []
 
--- the five shifts after the impulse: on the axis of the greatest gap each gets its share of the sum, and where one is fixed, nothing
+-- the five shifts after the impulse: on the axis of the greatest gap each gets its share of the
+-- sum, and where one is fixed, nothing
 abbrev pub after_impulse : Positions → List ℕ → List Bool → List Triple → List Triple
 after_impulse f ids fixed shifts =
     let axis = widest_axis f in

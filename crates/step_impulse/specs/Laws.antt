@@ -7,7 +7,9 @@ use Rattle.step_impulse.specs.Impulse.{below, some_fixed, sum_on, widest_axis, a
 
 -- of ids that differ, exactly k have fewer than k below them
 abbrev pub SoManyAreSmallest : Type 0
-SoManyAreSmallest = (ids : List ℕ) (k : ℕ) → IsDistinct eqb ids → k ≤ length ids → count_by (λ v. nat_lt (below ids v) k) ids ≡ k
+SoManyAreSmallest =
+    (ids : List ℕ) (k : ℕ) → IsDistinct eqb ids → k ≤ length ids
+    → count_by (λ v. nat_lt (below ids v) k) ids ≡ k
 
 -- five vertices with ids that differ, none of them fixed
 pub record AreFiveFree (ids : List ℕ) (fixed : List Bool) (shifts : List Triple) : Type 0 where
@@ -19,4 +21,5 @@ pub record AreFiveFree (ids : List ℕ) (fixed : List Bool) (shifts : List Tripl
 -- an impulse on them keeps the sum of their shifts on its axis
 abbrev pub ImpulseKeepsTheSum : Type 0
 ImpulseKeepsTheSum = (f : Positions) (ids : List ℕ) (fixed : List Bool) (shifts : List Triple)
-    → AreFiveFree ids fixed shifts → sum_on (widest_axis f) (after_impulse f ids fixed shifts) ≡ sum_on (widest_axis f) shifts
+    → AreFiveFree ids fixed shifts
+    → sum_on (widest_axis f) (after_impulse f ids fixed shifts) ≡ sum_on (widest_axis f) shifts

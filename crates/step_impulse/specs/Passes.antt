@@ -18,11 +18,13 @@ with_shifts_of (v ∷ ids) (t ∷ ts) shifts = with_shifts_of ids ts (with_shift
 with_shifts_of (v ∷ ids) [] shifts = shifts
 with_shifts_of [] ts shifts = shifts
 
--- the shifts after an impulse on a pair: its five vertices get theirs, and all others keep what they have
+-- the shifts after an impulse on a pair: its five vertices get theirs,
+-- and all others keep what they have
 unfoldable pub after_pair : Mesh → Shifts → Pair → Shifts
 after_pair m shifts p =
     let ids = five_ids p in
-    let after = after_impulse (positions (rest_positions m) p) ids (map (is_solid m) ids) (map (shift_at shifts) ids) in
+    let after = after_impulse (positions (rest_positions m) p) ids (map (is_solid m) ids)
+    (map (shift_at shifts) ids) in
     with_shifts_of ids after shifts
 
 -- the shifts after a pass: the pairs in order, each on the shifts as they are by then

@@ -8,7 +8,8 @@ use Rattle.step_near.specs.declared.TheConstants.{FEW_MAX}
 
 -- the shift is not zero
 abbrev pub is_shifted : ShiftOf → Bool
-is_shifted s = not (int_eq s.by.x (pos 0)) || not (int_eq s.by.y (pos 0)) || not (int_eq s.by.z (pos 0))
+is_shifted s =
+    not (int_eq s.by.x (pos 0)) || not (int_eq s.by.y (pos 0)) || not (int_eq s.by.z (pos 0))
 
 -- at most so many shifts are not zero
 abbrev pub are_few : Shifts → Bool

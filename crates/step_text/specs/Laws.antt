@@ -17,7 +17,9 @@ StepsAreInRange = (bytes : List ℕ) (directives : List Placed) → steps_of byt
 
 -- The fault of a text is on one of its lines.
 abbrev pub FaultsAreOnLines : Type 0
-FaultsAreOnLines = (bytes : List ℕ) (fault : TextFault) → steps_of bytes ≡ Err fault → IsFrom 1 (line_count bytes) fault.line
+FaultsAreOnLines =
+    (bytes : List ℕ) (fault : TextFault) → steps_of bytes ≡ Err fault
+    → IsFrom 1 (line_count bytes) fault.line
 
 -- A text has at most as many lines as bytes.
 abbrev pub LinesAreFew : Type 0

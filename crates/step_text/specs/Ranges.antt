@@ -1,4 +1,5 @@
--- The values of directives are within their limits, their lines are in their text, and their groups are nested.
+-- The values of directives are within their limits, their lines are in their
+-- text, and their groups are nested.
 use Rattle.std.specs.Prelude.{◌≡◌, ℕ, ◌+◌, ◌-◌, ◌<◌, ◌≤◌, List, [], ◌∷◌}
 use Rattle.std.specs.List.{AllByRecursion}
 use Rattle.grid_base.specs.declared.TheConstants.{DEPTH_MAX, HALVINGS_MAX, ID_MAX, LENGTH_MAX}
@@ -7,7 +8,9 @@ use Rattle.edit_base.specs.declared.PassKind.TheVariants as pass
 use Rattle.mesh_plain.specs.FieldNames.{IsFieldName}
 use Rattle.step_text.specs.declared.TheConstants.{GROUPS_MAX, PASSES_MAX}
 use Rattle.step_text.specs.declared.directive.Directive.{Directive}
-use Rattle.step_text.specs.declared.directive.Directive.TheVariants.{SetDepth, SetPasses, SetZones, SetHalvings, ShiftOne, ShiftAll, Drive, Solid, Step, Pass, Fit, Save, Group, Close}
+use Rattle.step_text.specs.declared.directive.Directive.TheVariants.{SetDepth, SetPasses, SetZones, SetHalvings}
+use Rattle.step_text.specs.declared.directive.Directive.TheVariants.{ShiftOne, ShiftAll, Drive, Solid, Step}
+use Rattle.step_text.specs.declared.directive.Directive.TheVariants.{Pass, Fit, Save, Group, Close}
 use Rattle.step_text.specs.declared.directive.Placed.{Placed}
 
 -- from low to high
@@ -22,8 +25,8 @@ IsPassInRange pass.Flip = Unit {0}
 IsPassInRange (pass.Zip within) = within ≤ LENGTH_MAX
 IsPassInRange pass.Pinch = Unit {0}
 
--- Settings are at most the greatest, ids and lengths are from the least to the greatest, and names are names of fields. Shifts
--- are within their limit by their type.
+-- Settings are at most the greatest, ids and lengths are from the least to the greatest, and names
+-- are names of fields. Shifts are within their limit by their type.
 abbrev pub IsInRange : Directive → Type 0
 IsInRange (SetDepth depth) = depth ≤ DEPTH_MAX
 IsInRange (SetPasses passes) = passes ≤ PASSES_MAX
@@ -60,7 +63,9 @@ open_behind open_groups Group = open_groups + 1
 open_behind open_groups Close = open_groups - 1
 open_behind open_groups _ = open_groups
 
--- Behind the first so many open groups each directive nests, and the second so many groups are open at the end.
+-- Behind the first so many open groups each directive nests, and the second so
+-- many groups are open at the end.
 abbrev pub AreNested : ℕ → List Placed → ℕ → Type 0
 AreNested first [] last = first ≡ last
-AreNested first (placed ∷ directives) last = Nests first placed.what × AreNested (open_behind first placed.what) directives last
+AreNested first (placed ∷ directives) last =
+    Nests first placed.what × AreNested (open_behind first placed.what) directives last

@@ -1,5 +1,6 @@
 -- The grammar of steps: the directives that the lines give, or the first line outside it.
-use Rattle.std.specs.Prelude.{ℕ, ◌-◌, ◌==◌, if◌then◌else◌, nat_lt, List, [], ◌∷◌, ◌++◌, length, take, Option, Some, None, Result, Ok, Err, codes}
+use Rattle.std.specs.Prelude.{ℕ, ◌-◌, ◌==◌, if◌then◌else◌, nat_lt, List, [], ◌∷◌, ◌++◌}
+use Rattle.std.specs.Prelude.{length, take, Option, Some, None, Result, Ok, Err, codes}
 use Rattle.std.specs.Str.{bytes_eq}
 use Rattle.grid_base.specs.declared.TheConstants.{SHIFT_MAX, DEPTH_MAX, HALVINGS_MAX, ID_MAX, LENGTH_MAX}
 use Rattle.grid_base.specs.declared.grid.Shift.{Shift}
@@ -13,7 +14,9 @@ use Rattle.edit_base.specs.declared.PassKind.TheVariants as pass
 use Rattle.mesh_plain.specs.FieldNames.{field_name_of}
 use Rattle.step_text.specs.declared.TheConstants.{GROUPS_MAX, PASSES_MAX}
 use Rattle.step_text.specs.declared.directive.Directive.{Directive}
-use Rattle.step_text.specs.declared.directive.Directive.TheVariants.{SetDepth, SetPasses, SetZones, SetHalvings, ShiftOne, ShiftAll, Drive, Solid, Step, Pass, Fit, Save, Group, Close}
+use Rattle.step_text.specs.declared.directive.Directive.TheVariants.{SetDepth, SetPasses, SetZones, SetHalvings}
+use Rattle.step_text.specs.declared.directive.Directive.TheVariants.{ShiftOne, ShiftAll, Drive, Solid, Step}
+use Rattle.step_text.specs.declared.directive.Directive.TheVariants.{Pass, Fit, Save, Group, Close}
 use Rattle.step_text.specs.declared.directive.Placed.{Placed}
 use Rattle.line_text.specs.Fields.{count_is, number_at, signed_at}
 
@@ -59,7 +62,8 @@ unfoldable pub shift_of : List (List ℕ) → Result Directive TextWhy
 shift_of [] = Err Short
 shift_of (who ∷ words) = do
   counted ← count_is 3 words
-  (if bytes_eq who (codes "all") then (shift_at words >>= λ by. Ok (ShiftAll by)) else shift_one_of (who ∷ words))
+  (if bytes_eq who (codes "all") then (shift_at words >>= λ by. Ok (ShiftAll by))
+      else shift_one_of (who ∷ words))
 
 -- a drive by the field of this name, if it is one
 abbrev pub drive_or_range : Option (List ℕ) → Result Directive TextWhy
@@ -101,10 +105,13 @@ directive_of first words =
     else if bytes_eq first (codes "drive") then drive_of words
     else if bytes_eq first (codes "solid") then solid_of words
     else if bytes_eq first (codes "step") then alone Step words
-    else if bytes_eq first (codes "split") then (length_of words >>= λ over. Ok (Pass (pass.Split over)))
-    else if bytes_eq first (codes "collapse") then (length_of words >>= λ under. Ok (Pass (pass.Collapse under)))
+    else if bytes_eq first (codes "split")
+    then (length_of words >>= λ over. Ok (Pass (pass.Split over)))
+    else if bytes_eq first (codes "collapse")
+    then (length_of words >>= λ under. Ok (Pass (pass.Collapse under)))
     else if bytes_eq first (codes "flip") then alone (Pass pass.Flip) words
-    else if bytes_eq first (codes "zip") then (length_of words >>= λ within. Ok (Pass (pass.Zip within)))
+    else if bytes_eq first (codes "zip")
+    then (length_of words >>= λ within. Ok (Pass (pass.Zip within)))
     else if bytes_eq first (codes "pinch") then alone (Pass pass.Pinch) words
     else if bytes_eq first (codes "fit") then alone Fit words
     else if bytes_eq first (codes "save") then alone Save words
@@ -122,10 +129,13 @@ pub record SoFar : Type 0 where
 abbrev pub so_far : List Placed → List ℕ → SoFar
 so_far directives groups = record { directives = directives; groups = groups }
 
--- the groups that are open behind a directive of this line: a group may not lie too deep, and a close needs an open one
+-- the groups that are open behind a directive of this line: a group may not lie too
+-- deep, and a close needs an open one
 abbrev pub groups_behind : ℕ → Directive → List ℕ → Result (List ℕ) TextWhy
-groups_behind line Group groups = if nat_lt (length groups) GROUPS_MAX then Ok (groups ++ line ∷ []) else Err Nesting
-groups_behind line Close groups = if length groups == 0 then Err Nesting else Ok (take (length groups - 1) groups)
+groups_behind line Group groups =
+    if nat_lt (length groups) GROUPS_MAX then Ok (groups ++ line ∷ []) else Err Nesting
+groups_behind line Close groups =
+    if length groups == 0 then Err Nesting else Ok (take (length groups - 1) groups)
 groups_behind line _ groups = Ok groups
 
 -- what there is so far and the directive of a line of these words; a line with no word gives none
@@ -139,13 +149,17 @@ words_add line before (first ∷ words) = do
 -- what there is so far and then each line in turn, up to the first fault
 abbrev pub lines_add : SoFar → List (ℕ × List ℕ) → Result SoFar TextFault
 lines_add before [] = Ok before
-lines_add before (line ∷ lines) = at_line line.0 (words_add line.0 before (words_of line.1)) >>= λ more. lines_add more lines
+lines_add before (line ∷ lines) =
+    at_line line.0 (words_add line.0 before (words_of line.1)) >>= λ more. lines_add more lines
 
--- the directives where each group is closed; the fault of others is at the line of their outermost group
+-- the directives where each group is closed; the fault of others is at
+-- the line of their outermost group
 abbrev pub closed_or_nesting : List Placed → List ℕ → Result (List Placed) TextFault
 closed_or_nesting directives [] = Ok directives
 closed_or_nesting directives (outermost ∷ inner) = Err (record { line = outermost; why = Nesting })
 
 -- the directives of a text, or its first line outside the grammar
 abbrev pub steps_of : List ℕ → Result (List Placed) TextFault
-steps_of bytes = lines_add (so_far [] []) (numbered_lines 1 bytes) >>= λ s. closed_or_nesting s.directives s.groups
+steps_of bytes =
+    lines_add (so_far [] []) (numbered_lines 1 bytes)
+    >>= λ s. closed_or_nesting s.directives s.groups

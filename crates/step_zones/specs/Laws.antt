@@ -15,7 +15,9 @@ use Rattle.step_zones.specs.Rounds.{round_hits, round_blocks, AreGiven, EachFail
 
 -- the failing pairs are those of which `failing` gives the names
 abbrev pub FailingPairsAreNamed : Type 0
-FailingPairsAreNamed = (meets : Positions → Bool) (m : Mesh) (by : Shifts) (depth : ℕ) → failing meets m by depth ≡ map (λ p. p.name) (failing_pairs meets m by depth)
+FailingPairsAreNamed =
+    (meets : Positions → Bool) (m : Mesh) (by : Shifts) (depth : ℕ)
+    → failing meets m by depth ≡ map (λ p. p.name) (failing_pairs meets m by depth)
 
 -- one label exactly where a chain leads from one to the other
 abbrev pub LabelsAreChains : Type 0
@@ -23,19 +25,26 @@ LabelsAreChains = (hits : List Pair) (u v : ℕ) → ((labels hits u ≡ labels 
 
 -- the shift of a block moves by the mean itself
 abbrev pub BlocksMoveByTheirMeans : Type 0
-BlocksMoveByTheirMeans = (m : Mesh) (asked : Shifts) (block : List ℕ) → displacement_of (shift_by (block_shift m asked block)) ≡ block_shift m asked block
+BlocksMoveByTheirMeans =
+    (m : Mesh) (asked : Shifts) (block : List ℕ)
+    → displacement_of (shift_by (block_shift m asked block)) ≡ block_shift m asked block
 
 -- no failing pair lies in one block
 abbrev pub FailingPairsLieInTwoBlocks : Type 0
-FailingPairsLieInTwoBlocks = (meets : Positions → Bool) (m : Mesh) (asked : Shifts) (depth : ℕ) (at : Labels)
-    → AreGiven meets m asked → AllByRecursion (λ p. is_in_one at p ≡ false) (failing_pairs meets m (zone_shifts m asked at) depth)
+FailingPairsLieInTwoBlocks =
+    (meets : Positions → Bool) (m : Mesh) (asked : Shifts) (depth : ℕ) (at : Labels)
+    → AreGiven meets m asked
+    → AllByRecursion (λ p. is_in_one at p ≡ false)
+    (failing_pairs meets m (zone_shifts m asked at) depth)
 
 -- a failing pair leaves fewer blocks
 abbrev pub RoundsHaveFewerBlocks : Type 0
 RoundsHaveFewerBlocks = (meets : Positions → Bool) (m : Mesh) (asked : Shifts) (depth round : ℕ)
-    → AreGiven meets m asked → round_hits meets m asked depth round ≢ [] → round_blocks meets m asked depth (round + 1) < round_blocks meets m asked depth round
+    → AreGiven meets m asked → round_hits meets m asked depth round ≢ []
+    → round_blocks meets m asked depth (round + 1) < round_blocks meets m asked depth round
 
 -- a round has a number below the number of live vertices, where a pair fails in each before it
 abbrev pub RoundsAreFew : Type 0
 RoundsAreFew = (meets : Positions → Bool) (m : Mesh) (asked : Shifts) (depth round : ℕ)
-    → AreGiven meets m asked → finite.keys m.points ≢ [] → EachFailsBefore meets m asked depth round → round < length (finite.keys m.points)
+    → AreGiven meets m asked → finite.keys m.points ≢ [] → EachFailsBefore meets m asked depth round
+    → round < length (finite.keys m.points)

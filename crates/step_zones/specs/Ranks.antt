@@ -31,7 +31,8 @@ joined_in asked labels five = map (relabelled (map (label_by asked labels) five)
 
 -- the labels, once the blocks of each of these pairs are joined
 abbrev pub joined_all : Mesh → Shifts → List ℕ → List PairName → List ℕ
-joined_all m asked labels hits = fold (λ ls n. joined_in asked ls (five_ids (pair_named m n))) labels hits
+joined_all m asked labels hits =
+    fold (λ ls n. joined_in asked ls (five_ids (pair_named m n))) labels hits
 
 -- each label is a vertex that is named
 abbrev pub AreNamed : Shifts → List ℕ → Type 0

@@ -24,10 +24,12 @@ unfoldable pub round_labels : (Positions → Bool) → Mesh → Shifts → ℕ �
 round_labels meets m asked depth round = labels (hits_before meets m asked depth round)
 
 unfoldable pub round_shifts : (Positions → Bool) → Mesh → Shifts → ℕ → ℕ → Shifts
-round_shifts meets m asked depth round = zone_shifts m asked (round_labels meets m asked depth round)
+round_shifts meets m asked depth round =
+    zone_shifts m asked (round_labels meets m asked depth round)
 
 unfoldable pub round_hits : (Positions → Bool) → Mesh → Shifts → ℕ → ℕ → List Pair
-round_hits meets m asked depth round = failing_pairs meets m (round_shifts meets m asked depth round) depth
+round_hits meets m asked depth round =
+    failing_pairs meets m (round_shifts meets m asked depth round) depth
 
 -- how many blocks a round has
 unfoldable pub round_blocks : (Positions → Bool) → Mesh → Shifts → ℕ → ℕ → ℕ
@@ -37,14 +39,18 @@ round_blocks meets m asked depth round = blocks_in m (round_labels meets m asked
 unfoldable pub serves : (Positions → Bool) → Mesh → Shifts → ℕ → ℕ → Bool
 serves meets m asked depth round =
     (length (round_hits meets m asked depth round) == 0)
-    && list_all (λ q. end_in_box m (round_shifts meets m asked depth q)) (range_with_len 0 (suc round))
+    && list_all (λ q. end_in_box m (round_shifts meets m asked depth q))
+    (range_with_len 0 (suc round))
 
--- the first round that serves: there are no more rounds than live vertices, and one where none lives
+-- the first round that serves: there are no more rounds than live
+-- vertices, and one where none lives
 unfoldable pub round_taken : (Positions → Bool) → Mesh → Shifts → ℕ → Option ℕ
-round_taken meets m asked depth = find (serves meets m asked depth) (range_with_len 0 (suc (length (finite.keys m.points))))
+round_taken meets m asked depth =
+    find (serves meets m asked depth) (range_with_len 0 (suc (length (finite.keys m.points))))
 
 -- ---- laws of rounds
--- the test of a meeting is exact, the mesh is sound and clear, and the shifts name its live vertices
+-- the test of a meeting is exact, the mesh is sound and clear, and
+-- the shifts name its live vertices
 pub record AreGiven (meets : Positions → Bool) (m : Mesh) (asked : Shifts) : Type 0 where
   pub exact : IsExact meets
   pub sound : IsSound m
@@ -53,17 +59,20 @@ pub record AreGiven (meets : Positions → Bool) (m : Mesh) (asked : Shifts) : T
 
 -- in each round before this one a pair fails
 abbrev pub EachFailsBefore : (Positions → Bool) → Mesh → Shifts → ℕ → ℕ → Type 0
-EachFailsBefore meets m asked depth round = (q : ℕ) → q < round → round_hits meets m asked depth q ≢ []
+EachFailsBefore meets m asked depth round =
+    (q : ℕ) → q < round → round_hits meets m asked depth q ≢ []
 
 -- ---- the round taken, as what holds of it
 -- no pair fails in the round, no round up to it leaves the box, and in each before it a pair fails
-pub record IsFirstToServe (meets : Positions → Bool) (m : Mesh) (asked : Shifts) (depth round : ℕ) : Type 0 where
+pub record IsFirstToServe (meets : Positions → Bool) (m : Mesh) (asked : Shifts)
+    (depth round : ℕ) : Type 0 where
   pub none_fails : round_hits meets m asked depth round ≡ []
   pub in_box : (q : ℕ) → q ≤ round → IsTrue (end_in_box m (round_shifts meets m asked depth q))
   pub each_fails : EachFailsBefore meets m asked depth round
 
 -- the round leaves the box, and in each before it a pair fails
-pub record LeavesTheBox (meets : Positions → Bool) (m : Mesh) (asked : Shifts) (depth round : ℕ) : Type 0 where
+pub record LeavesTheBox (meets : Positions → Bool) (m : Mesh) (asked : Shifts)
+    (depth round : ℕ) : Type 0 where
   pub leaves : end_in_box m (round_shifts meets m asked depth round) ≡ false
   pub each_fails : EachFailsBefore meets m asked depth round
 

@@ -20,7 +20,8 @@ zoned_at meets m asked depth round = record {
 
 -- the first round that serves
 abbrev pub zoned_taken : (Positions → Bool) → Mesh → Shifts → ℕ → Option Zoned
-zoned_taken meets m asked depth = option_map (zoned_at meets m asked depth) (round_taken meets m asked depth)
+zoned_taken meets m asked depth =
+    option_map (zoned_at meets m asked depth) (round_taken meets m asked depth)
 
 -- none: a round leaves the box before one serves; a round: it serves, and none before it does
 abbrev pub ServesFirst : (Positions → Bool) → Mesh → Shifts → ℕ → Option Zoned → Type 0

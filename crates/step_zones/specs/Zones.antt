@@ -21,7 +21,9 @@ alone v = v
 
 -- the least label of the five vertices
 abbrev pub least_label : Labels → Pair → ℕ
-least_label at p = min (at p.name.a) (min (at p.name.b) (min (at p.corners.first) (min (at p.corners.second) (at p.corners.third))))
+least_label at p =
+    min (at p.name.a)
+    (min (at p.name.b) (min (at p.corners.first) (min (at p.corners.second) (at p.corners.third))))
 
 -- whether one of the five has the label
 abbrev pub is_touched : Labels → Pair → ℕ → Bool
@@ -61,7 +63,8 @@ divided t n = record { x = int_div t.x (pos n); y = int_div t.y (pos n); z = int
 
 -- the mean of the asked shifts of a block, each component rounded toward zero
 abbrev pub mean_shift : Shifts → List ℕ → Triple
-mean_shift asked block = divided (fold (λ sum v. plus sum (shift_at asked v)) origin block) (length block)
+mean_shift asked block =
+    divided (fold (λ sum v. plus sum (shift_at asked v)) origin block) (length block)
 
 -- what a block of two or more moves by: nothing, where it holds a solid vertex
 abbrev pub block_shift : Mesh → Shifts → List ℕ → Triple

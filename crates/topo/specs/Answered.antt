@@ -8,12 +8,15 @@ use Rattle.track_run.specs.declared.outcome.Outcome.TheVariants.{Done, NoMemory,
 
 -- the text is written whole
 abbrev pub IsTold : List ℕ → Outcome → World → World → Type 0
-IsTold text outcome old new = (outcome ≡ Done) × (new.holds.written ≡ appended old.holds.written text)
+IsTold text outcome old new =
+    (outcome ≡ Done) × (new.holds.written ≡ appended old.holds.written text)
 
 -- or a part of it, and the sink has failed
 abbrev pub IsToldInPart : List ℕ → Outcome → World → World → Type 0
 IsToldInPart text outcome old new =
-    (outcome ≡ SinkFault) × AppendsPart old.holds.written new.holds.written text × Rose old.sink_faults new.sink_faults
+    (outcome ≡ SinkFault)
+    × AppendsPart old.holds.written new.holds.written text
+    × Rose old.sink_faults new.sink_faults
 
 -- The text is written, or a part of it, and nothing else is done.
 pub record Tells (text : List ℕ) (outcome : Outcome) (old new : World) : Type 0 where

@@ -43,29 +43,42 @@ abbrev pub HasRoomLeft : Tracker → Type 0
 HasRoomLeft t = HasRoom 1 (engine_in t.held).run
 
 -- What a code says of a call that does one directive with the tracker s, which then is t.
-pub record HasDone (what : Directive) (s t : Tracker) (before after : TopoFault) (code : ℕ) : Type 0 where
+pub record HasDone (what : Directive) (s t : Tracker) (before after : TopoFault)
+    (code : ℕ) : Type 0 where
   -- 0: its lines were told, and the tracker stands in the state after it
-  pub done : code ≡ 0 → Writes (effect_of Nothing what (tracked s)) (tracked t) (Some (told s)) (Some (told t)) (Ok None)
+  pub done : code ≡ 0 →
+      Writes (effect_of Nothing what (tracked s)) (tracked t) (Some (told s))
+      (Some (told t)) (Ok None)
   -- 1: there was no memory: nothing was told, or a part of its lines, and the tracker is stopped
-  pub memory : code ≡ 1 → Writes (effect_of Nothing what (tracked s)) (tracked t) (Some (told s)) (Some (told t)) (Err NoMemory) × ¬ GoesOn t
-  -- 2: it was refused, for the reason that the fault tells; the state and what was told are as they were
-  pub refused : code ≡ 2 → (why : UseWhy) × (after ≡ use_place why) × Writes (effect_of Nothing what (tracked s)) (tracked t) (Some (told s)) (Some (told t)) (Ok (Some why)) × (tracked t ≡ tracked s)
-  -- 5 exactly where the tracker was stopped, and 6 exactly where no more directive can be taken: nothing is done
+  pub memory : code ≡ 1 →
+      Writes (effect_of Nothing what (tracked s)) (tracked t) (Some (told s)) (Some (told t))
+      (Err NoMemory) × ¬ GoesOn t
+  -- 2: it was refused, for the reason that the fault tells; the state and
+  -- what was told are as they were
+  pub refused : code ≡ 2 →
+      (why : UseWhy) × (after ≡ use_place why)
+      × Writes (effect_of Nothing what (tracked s)) (tracked t) (Some (told s)) (Some (told t))
+      (Ok (Some why)) × (tracked t ≡ tracked s)
+  -- 5 exactly where the tracker was stopped, and 6 exactly where no more
+  -- directive can be taken: nothing is done
   pub stopped : code ≡ 5 ↔ ¬ GoesOn s
   pub spent : code ≡ 6 ↔ (GoesOn s × ¬ HasRoomLeft s)
   pub idle : (code ≡ 5) ⊎ (code ≡ 6) → t ≡ s
   -- only a refusal sets the fault
   pub fault : code ≢ 2 → after ≡ before
-  -- only want of memory stops the tracker, and while it is not stopped its mesh is sound, closed and clear, and that of each open group
+  -- only want of memory stops the tracker, and while it is not stopped its mesh is sound, closed
+  -- and clear, and that of each open group
   pub goes_on : code ≢ 1 → goes_on t.held ≡ goes_on s.held
   pub kept : GoesOn t → IsRunInvariant (tracked t)
   -- no other code comes
   pub among : (code ≡ 0) ⊎ (code ≡ 1) ⊎ (code ≡ 2) ⊎ (code ≡ 5) ⊎ (code ≡ 6)
 
 -- The same of a handle: 4 where it holds no tracker.
-abbrev pub HandleHasDone : Directive → Option Tracker → Option Tracker → TopoFault → TopoFault → ℕ → Type 0
+abbrev pub HandleHasDone : Directive → Option Tracker → Option Tracker → TopoFault → TopoFault → ℕ →
+    Type 0
 HandleHasDone what None new before after code = (code ≡ 4) × (new ≡ None) × (after ≡ before)
-HandleHasDone what (Some s) new before after code = (t : Tracker) × (new ≡ Some t) × HasDone what s t before after code
+HandleHasDone what (Some s) new before after code =
+    (t : Tracker) × (new ≡ Some t) × HasDone what s t before after code
 
 -- 3, with the handle and the fault as they were
 abbrev pub IsBeyond : Option Tracker → Option Tracker → TopoFault → TopoFault → ℕ → Type 0
@@ -74,26 +87,33 @@ IsBeyond old new before after code = (code ≡ 3) × (new ≡ old) × (after ≡
 -- ---- shifts
 
 -- one shift: 3 where it cannot be asked, and else what the code says of the directive
-abbrev pub HandleHasShifted : NamedPoint → Option Tracker → Option Tracker → TopoFault → TopoFault → ℕ → Type 0
+abbrev pub HandleHasShifted : NamedPoint → Option Tracker → Option Tracker → TopoFault → TopoFault →
+    ℕ → Type 0
 HandleHasShifted row old new before after code =
-    (¬ CanBeAsked row → IsBeyond old new before after code) × (CanBeAsked row → HandleHasDone (asking row) old new before after code)
+    (¬ CanBeAsked row → IsBeyond old new before after code)
+    × (CanBeAsked row → HandleHasDone (asking row) old new before after code)
 
--- Each shift in order, up to the first that cannot be asked or is not done, whose code is the answer.
+-- Each shift in order, up to the first that cannot be asked or is
+-- not done, whose code is the answer.
 abbrev pub HasShiftedEach : List NamedPoint → Tracker → Tracker → TopoFault → TopoFault → ℕ → Type 0
 HasShiftedEach [] s t before after code = (code ≡ 0) × (t ≡ s) × (after ≡ before)
 HasShiftedEach (row ∷ rows) s t before after code =
     (¬ CanBeAsked row × (code ≡ 3) × (t ≡ s) × (after ≡ before))
     ⊎ (CanBeAsked row × (code ≢ 0) × HasDone (asking row) s t before after code)
-    ⊎ (CanBeAsked row × ((mid : Tracker) × (between : TopoFault) × HasDone (asking row) s mid before between 0 × HasShiftedEach rows mid t between after code))
+    ⊎ (CanBeAsked row × ((mid : Tracker) × (between : TopoFault)
+    × HasDone (asking row) s mid before between 0 × HasShiftedEach rows mid t between after code))
 
 -- the same of a handle
-abbrev pub HandleHasShiftedEach : List NamedPoint → Option Tracker → Option Tracker → TopoFault → TopoFault → ℕ → Type 0
+abbrev pub HandleHasShiftedEach : List NamedPoint → Option Tracker → Option Tracker → TopoFault →
+    TopoFault → ℕ → Type 0
 HandleHasShiftedEach rows None new before after code = (code ≡ 4) × (new ≡ None) × (after ≡ before)
-HandleHasShiftedEach rows (Some s) new before after code = (t : Tracker) × (new ≡ Some t) × HasShiftedEach rows s t before after code
+HandleHasShiftedEach rows (Some s) new before after code =
+    (t : Tracker) × (new ≡ Some t) × HasShiftedEach rows s t before after code
 
 -- ---- making
 
--- a handle holds a tracker of the mesh, which is sound, closed and clear; nothing has stopped it or is asked of it, and it has told nothing
+-- a handle holds a tracker of the mesh, which is sound, closed and clear; nothing has stopped it or
+-- is asked of it, and it has told nothing
 pub record IsMade (m : Mesh) (new : Option Tracker) : Type 0 where
   pub tracker : Tracker
   pub holds : new ≡ Some tracker
@@ -103,11 +123,13 @@ pub record IsMade (m : Mesh) (new : Option Tracker) : Type 0 where
   pub log : told tracker ≡ []
 
 -- What a code says of a call that makes a tracker of points and faces.
-pub record HasMade (points : List GivenPoint) (faces : List GivenFace) (new : Option Tracker) (before after : TopoFault) (code : ℕ) : Type 0 where
+pub record HasMade (points : List GivenPoint) (faces : List GivenFace) (new : Option Tracker)
+    (before after : TopoFault) (code : ℕ) : Type 0 where
   -- 0: they have no fault, and the handle holds a tracker of their mesh
   pub made : code ≡ 0 → (make_fault points faces ≡ None) × IsMade (given_mesh points faces) new
   -- 2: the fault is the first that they have
-  pub refused : code ≡ 2 → (why : MakeFault) × (make_fault points faces ≡ Some why) × (after ≡ make_place why)
+  pub refused : code ≡ 2 →
+      (why : MakeFault) × (make_fault points faces ≡ Some why) × (after ≡ make_place why)
   -- but at 0 the handle holds none, and only a refusal sets the fault
   pub none : code ≢ 0 → new ≡ None
   pub fault : code ≢ 2 → after ≡ before
@@ -116,10 +138,12 @@ pub record HasMade (points : List GivenPoint) (faces : List GivenFace) (new : Op
 
 -- ---- reading
 
--- What a code says of a call that puts rows into a buffer: what was there before, what is there now, and the number that is told.
+-- What a code says of a call that puts rows into a buffer: what was there before, what is there
+-- now, and the number that is told.
 pub record HasPut {X : Type 0} (rows into now : List X) (before size code : ℕ) : Type 0 where
   -- 0: they are the first items of the buffer, and their number is told
-  pub done : code ≡ 0 → (length rows ≤ length into) × (now ≡ rows ++ drop (length rows) into) × (size ≡ length rows)
+  pub done : code ≡ 0 →
+      (length rows ≤ length into) × (now ≡ rows ++ drop (length rows) into) × (size ≡ length rows)
   -- 3: they do not fit, nothing is put, and the number that is needed is told
   pub short : code ≡ 3 → (length into < length rows) × (now ≡ into) × (size ≡ length rows)
   -- 1: there was no memory, and nothing is put or told
@@ -128,11 +152,15 @@ pub record HasPut {X : Type 0} (rows into now : List X) (before size code : ℕ)
   pub among : (code ≡ 0) ⊎ (code ≡ 1) ⊎ (code ≡ 3)
 
 -- The same of a handle's tracker, which stays: 4 where there is none.
-abbrev pub HandleHasPut : {X : Type 0} → (Tracker → List X) → Option Tracker → Option Tracker → List X → List X → ℕ → ℕ → ℕ → Type 0
-HandleHasPut rows None new into now before size code = (code ≡ 4) × (new ≡ None) × (now ≡ into) × (size ≡ before)
-HandleHasPut rows (Some t) new into now before size code = (new ≡ Some t) × HasPut (rows t) into now before size code
+abbrev pub HandleHasPut : {X : Type 0} → (Tracker → List X) → Option Tracker → Option Tracker →
+    List X → List X → ℕ → ℕ → ℕ → Type 0
+HandleHasPut rows None new into now before size code =
+    (code ≡ 4) × (new ≡ None) × (now ≡ into) × (size ≡ before)
+HandleHasPut rows (Some t) new into now before size code =
+    (new ≡ Some t) × HasPut (rows t) into now before size code
 
--- The log is put into a buffer, and at 0 it is taken: the tracker has told nothing since. It stays in all else. No memory is needed.
+-- The log is put into a buffer, and at 0 it is taken: the tracker has told nothing since. It stays
+-- in all else. No memory is needed.
 pub record HasTakenLog (s t : Tracker) (into now : List ℕ) (before size code : ℕ) : Type 0 where
   pub puts : HasPut (told s) into now before size code
   pub needs_none : code ≢ 1
@@ -142,9 +170,12 @@ pub record HasTakenLog (s t : Tracker) (into now : List ℕ) (before size code :
   pub goes_on : goes_on t.held ≡ goes_on s.held
 
 -- the same of a handle
-abbrev pub HandleHasTakenLog : Option Tracker → Option Tracker → List ℕ → List ℕ → ℕ → ℕ → ℕ → Type 0
-HandleHasTakenLog None new into now before size code = (code ≡ 4) × (new ≡ None) × (now ≡ into) × (size ≡ before)
-HandleHasTakenLog (Some s) new into now before size code = (t : Tracker) × (new ≡ Some t) × HasTakenLog s t into now before size code
+abbrev pub HandleHasTakenLog : Option Tracker → Option Tracker → List ℕ → List ℕ → ℕ → ℕ → ℕ →
+    Type 0
+HandleHasTakenLog None new into now before size code =
+    (code ≡ 4) × (new ≡ None) × (now ≡ into) × (size ≡ before)
+HandleHasTakenLog (Some s) new into now before size code =
+    (t : Tracker) × (new ≡ Some t) × HasTakenLog s t into now before size code
 
 -- the live vertices and faces and the bytes of the log
 pub record Counted : Type 0 where
@@ -154,9 +185,14 @@ pub record Counted : Type 0 where
 
 -- those of a tracker
 abbrev pub counts_of : Tracker → Counted
-counts_of t = record { vertices = finite.len (tracked t).mesh.points; faces = finite.len (tracked t).mesh.faces; log = length (told t) }
+counts_of t = record {
+  vertices = finite.len (tracked t).mesh.points;
+  faces = finite.len (tracked t).mesh.faces;
+  log = length (told t);
+}
 
 -- they are told of a handle's tracker, which stays: 4 where there is none
 abbrev pub HandleHasCounted : Option Tracker → Option Tracker → Counted → Counted → ℕ → Type 0
 HandleHasCounted None new before after code = (code ≡ 4) × (new ≡ None) × (after ≡ before)
-HandleHasCounted (Some t) new before after code = (code ≡ 0) × (new ≡ Some t) × (after ≡ counts_of t)
+HandleHasCounted (Some t) new before after code =
+    (code ≡ 0) × (new ≡ Some t) × (after ≡ counts_of t)

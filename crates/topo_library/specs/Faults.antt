@@ -1,7 +1,8 @@
 -- The numbers that tell a caller in C why something is refused, and where.
 use Rattle.std.specs.Prelude.{ℕ, nat_lt, if◌then◌else◌}
 use Rattle.mesh_base.specs.declared.ShapeFault.{ShapeFault}
-use Rattle.mesh_base.specs.declared.ShapeFault.TheVariants.{TooManyVertices, TooManyFaces, NoVertex as NoCorner, Repeated, Doubled, Unbalanced}
+use Rattle.mesh_base.specs.declared.ShapeFault.TheVariants.{TooManyVertices, TooManyFaces, NoVertex as NoCorner}
+use Rattle.mesh_base.specs.declared.ShapeFault.TheVariants.{Repeated, Doubled, Unbalanced}
 use Rattle.mesh_base.specs.declared.UseWhy.{UseWhy}
 use Rattle.mesh_base.specs.declared.UseWhy.TheVariants.{NoVertex, ShiftRange, Box, NoField, Solid}
 use Rattle.track_held.specs.declared.making.MakeFault.{MakeFault}
@@ -25,8 +26,8 @@ shape_place (Repeated face) = fault_at 14 face 0 0
 shape_place (Doubled first second) = fault_at 15 first second 0
 shape_place (Unbalanced from to) = fault_at 16 from to 0
 
--- what is wrong with points and faces of which no tracker is made: a point outside the box, by its number; a fault of shape; or an edge and
--- a face that meet
+-- what is wrong with points and faces of which no tracker is made: a point outside the box, by its
+-- number; a fault of shape; or an edge and a face that meet
 abbrev pub make_place : MakeFault → TopoFault
 make_place (Outside number) = fault_at 10 number 0 0
 make_place (Shape fault) = shape_place fault

@@ -21,14 +21,22 @@ pub record HasLists (c : Check) (lists : Lists) : Type 0 where
   pub file : c.source ≡ Bytes bytes
   pub read : lists_in c.format c.decimals bytes ≡ Ok lists
 
--- Why a check has an ending: that of a run that takes the mesh, as far as the mesh alone decides it. No check has two.
+-- Why a check has an ending: that of a run that takes the mesh, as far as the mesh
+-- alone decides it. No check has two.
 abbrev pub Cause : Check → Result (Option Refusal) Stop → Type 0
-Cause c (Ok None) = (lists : Lists) × HasLists c lists × (shape_fault (length lists.points) lists.faces ≡ None) × (met_first (mesh_of_lists lists) ≡ None)
+Cause c (Ok None) =
+    (lists : Lists) × HasLists c lists × (shape_fault (length lists.points) lists.faces ≡ None)
+    × (met_first (mesh_of_lists lists) ≡ None)
 Cause c (Ok (Some (refusal.Long file.Mesh seen))) = c.source ≡ TooLong seen
 Cause c (Ok (Some (refusal.Missing file.Mesh))) = c.source ≡ Absent
-Cause c (Ok (Some (refusal.Mesh fault))) = (bytes : List ℕ) × (c.source ≡ Bytes bytes) × (lists_in c.format c.decimals bytes ≡ Err fault)
-Cause c (Ok (Some (refusal.Shape fault))) = (lists : Lists) × HasLists c lists × (shape_fault (length lists.points) lists.faces ≡ Some fault)
-Cause c (Ok (Some (refusal.Meets pair))) = (lists : Lists) × HasLists c lists × (shape_fault (length lists.points) lists.faces ≡ None) × (met_first (mesh_of_lists lists) ≡ Some pair)
+Cause c (Ok (Some (refusal.Mesh fault))) =
+    (bytes : List ℕ) × (c.source ≡ Bytes bytes) × (lists_in c.format c.decimals bytes ≡ Err fault)
+Cause c (Ok (Some (refusal.Shape fault))) =
+    (lists : Lists) × HasLists c lists
+    × (shape_fault (length lists.points) lists.faces ≡ Some fault)
+Cause c (Ok (Some (refusal.Meets pair))) =
+    (lists : Lists) × HasLists c lists × (shape_fault (length lists.points) lists.faces ≡ None)
+    × (met_first (mesh_of_lists lists) ≡ Some pair)
 -- no other refusal is told
 Cause c (Ok (Some why)) = ⊥
 -- want of memory and faults stop a check, whatever its file
@@ -39,7 +47,8 @@ abbrev pub IsStopped : Result (Option Refusal) Stop → Type 0
 IsStopped (Ok ending) = ⊥
 IsStopped (Err fault) = Unit {0}
 
--- the desk tells a file of that name, which is no longer than a text may be, and within the grammar of its format
+-- the desk tells a file of that name, which is no longer than a text may be, and
+-- within the grammar of its format
 pub record IsReadable (files : Option Files) (mesh : MeshName) (decimals : ℕ) : Type 0 where
   pub told : Files
   pub files_are : files ≡ Some told

@@ -1,5 +1,6 @@
 -- A check of a mesh file, and what it tells.
-use Rattle.std.specs.Prelude.{◌≡◌, ℕ, List, [], ◌∷◌, ◌++◌, length, map, take, slice_get, option_map, codes, decimal, Option, Some, Result, Ok, Err}
+use Rattle.std.specs.Prelude.{◌≡◌, ℕ, List, [], ◌∷◌, ◌++◌, length, map, take, slice_get}
+use Rattle.std.specs.Prelude.{option_map, codes, decimal, Option, Some, Result, Ok, Err}
 use Rattle.std.specs.List.{flat_map}
 use Rattle.line_text.specs.declared.TextFault.{TextFault}
 use Rattle.line_text.specs.WrittenLines.{line_of_words}
@@ -30,7 +31,8 @@ pub record Check : Type 0 where
   pub decimals : ℕ
 
 -- the check of a file, where the desk holds these
-pub record IsCheck (files : Option Files) (mesh : MeshName) (decimals : ℕ) (c : Check) : Type 0 where
+pub record IsCheck (files : Option Files) (mesh : MeshName) (decimals : ℕ)
+    (c : Check) : Type 0 where
   pub source : IsSource files mesh.name c.source
   pub format_is : c.format ≡ mesh.format
   pub decimals_are : c.decimals ≡ decimals
@@ -86,7 +88,9 @@ fault_line f = line_of_words (fault_words f)
 
 -- checked V F faults M, the numbers of points, of faces, and of the lines of faults before it
 abbrev pub checked_line : Lists → ℕ → List ℕ
-checked_line lists count = line_of_words (codes "checked" ∷ decimal (length lists.points) ∷ decimal (length lists.faces) ∷ codes "faults" ∷ decimal count ∷ [])
+checked_line lists count =
+    line_of_words (codes "checked" ∷ decimal (length lists.points) ∷ decimal (length lists.faces)
+    ∷ codes "faults" ∷ decimal count ∷ [])
 
 -- a line for each fault, and the last line
 abbrev pub report_of : Lists → List Fault → List ℕ

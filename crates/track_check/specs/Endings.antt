@@ -9,12 +9,14 @@ use Rattle.outside_io.specs.World.{Contents}
 use Rattle.track_check.specs.Check.{text_told, ending_told}
 
 -- the text is whole, and nothing is stored
-pub record EndsWhole (found : Result Lists Refusal) (ending : Option Refusal) (old new : Contents) : Type 0 where
+pub record EndsWhole (found : Result Lists Refusal) (ending : Option Refusal)
+    (old new : Contents) : Type 0 where
   pub ending_is : ending ≡ ending_told found
   pub written : new.written ≡ appended old.written (text_told found)
   pub files : new.files ≡ old.files
 
--- the sink failed, and the first bytes of the text were written, perhaps none, and not all; nothing is stored
+-- the sink failed, and the first bytes of the text were written, perhaps
+-- none, and not all; nothing is stored
 pub record EndsAtSink (found : Result Lists Refusal) (old new : Contents) : Type 0 where
   pub written : AppendsPart old.written new.written (text_told found)
   pub files : new.files ≡ old.files

@@ -17,10 +17,12 @@ found_view (found.Lists lists) = Ok (lists_view lists)
 
 -- what a text gives
 abbrev pub Reads : Format → ℕ → List ℕ → Found → Type 0
-Reads format decimals bytes found = found_of_lists (lists_in format decimals bytes) ≡ found_view found
+Reads format decimals bytes found =
+    found_of_lists (lists_in format decimals bytes) ≡ found_view found
 
 -- what the file of a name gives
-pub record Finds (files : Option Files) (mesh : MeshName) (decimals : ℕ) (found : Found) : Type 0 where
+pub record Finds (files : Option Files) (mesh : MeshName) (decimals : ℕ)
+    (found : Found) : Type 0 where
   pub check : Check
   pub is_check : IsCheck files mesh decimals check
   pub given : found_by check ≡ found_view found

@@ -20,13 +20,18 @@ pub record HasLists (c : Conversion) (lists : Lists) : Type 0 where
   pub file : c.source ≡ Bytes bytes
   pub read : lists_in c.from c.decimals bytes ≡ Ok lists
 
--- Why a conversion has an ending. Each cause holds what must have gone well before it, so no conversion has two.
+-- Why a conversion has an ending. Each cause holds what must have gone well
+-- before it, so no conversion has two.
 abbrev pub Cause : Conversion → Result (Option Refusal) Stop → Type 0
-Cause c (Ok None) = (lists : Lists) × HasLists c lists × (shape_fault (length lists.points) lists.faces ≡ None)
+Cause c (Ok None) =
+    (lists : Lists) × HasLists c lists × (shape_fault (length lists.points) lists.faces ≡ None)
 Cause c (Ok (Some (refusal.Long file.Mesh seen))) = c.source ≡ TooLong seen
 Cause c (Ok (Some (refusal.Missing file.Mesh))) = c.source ≡ Absent
-Cause c (Ok (Some (refusal.Mesh fault))) = (bytes : List ℕ) × (c.source ≡ Bytes bytes) × (lists_in c.from c.decimals bytes ≡ Err fault)
-Cause c (Ok (Some (refusal.Shape fault))) = (lists : Lists) × HasLists c lists × (shape_fault (length lists.points) lists.faces ≡ Some fault)
+Cause c (Ok (Some (refusal.Mesh fault))) =
+    (bytes : List ℕ) × (c.source ≡ Bytes bytes) × (lists_in c.from c.decimals bytes ≡ Err fault)
+Cause c (Ok (Some (refusal.Shape fault))) =
+    (lists : Lists) × HasLists c lists
+    × (shape_fault (length lists.points) lists.faces ≡ Some fault)
 -- no other refusal is told
 Cause c (Ok (Some why)) = ⊥
 -- want of memory and faults stop a conversion, whatever its file
@@ -37,7 +42,8 @@ abbrev pub IsStopped : Result (Option Refusal) Stop → Type 0
 IsStopped (Ok ending) = ⊥
 IsStopped (Err fault) = Unit {0}
 
--- the desk tells a file of that name, which is no longer than a text may be, within the grammar of its format, and of good shape
+-- the desk tells a file of that name, which is no longer than a text may be, within the grammar
+-- of its format, and of good shape
 pub record IsConvertible (files : Option Files) (from : MeshName) (decimals : ℕ) : Type 0 where
   pub told : Files
   pub files_are : files ≡ Some told

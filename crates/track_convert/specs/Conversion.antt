@@ -23,12 +23,14 @@ pub record Conversion : Type 0 where
   pub decimals : ℕ
 
 -- the conversion of a file, where the desk holds these
-pub record IsConversion (files : Option Files) (from : MeshName) (decimals : ℕ) (c : Conversion) : Type 0 where
+pub record IsConversion (files : Option Files) (from : MeshName) (decimals : ℕ)
+    (c : Conversion) : Type 0 where
   pub source : IsSource files from.name c.source
   pub from_is : c.from ≡ from.format
   pub decimals_are : c.decimals ≡ decimals
 
--- ---- what the file gives: lists of good shape, or the first refusal that applies, in the order in which the work is done
+-- ---- what the file gives: lists of good shape, or the first refusal that applies, in
+-- the order in which the work is done
 
 abbrev pub found_of_shape : Lists → Option ShapeFault → Result Lists Refusal
 found_of_shape lists (Some fault) = Err (refusal.Shape fault)
@@ -50,7 +52,9 @@ found_by c = found_of_file c.from c.decimals c.source
 
 -- converted V F, the numbers of points and of faces
 abbrev pub converted_line : Lists → List ℕ
-converted_line lists = line_of_words (codes "converted" ∷ decimal (length lists.points) ∷ decimal (length lists.faces) ∷ [])
+converted_line lists =
+    line_of_words
+    (codes "converted" ∷ decimal (length lists.points) ∷ decimal (length lists.faces) ∷ [])
 
 -- that line, or the line of the refusal
 abbrev pub line_told : Result Lists Refusal → List ℕ

@@ -27,7 +27,8 @@ pub record Reads (from : Format) (decimals : ℕ) (bytes : List ℕ) (found : Fo
   pub good : IsGood found
 
 -- what the file of a name gives
-pub record Finds (files : Option Files) (from : MeshName) (decimals : ℕ) (found : Found) : Type 0 where
+pub record Finds (files : Option Files) (from : MeshName) (decimals : ℕ)
+    (found : Found) : Type 0 where
   pub conversion : Conversion
   pub is_conversion : IsConversion files from decimals conversion
   pub given : found_by conversion ≡ found_view found

@@ -11,7 +11,8 @@ use Rattle.other_text.specs.PlyWritten.{ply_text}
 use Rattle.track_input.specs.declared.Format.{Format}
 use Rattle.track_input.specs.declared.Format.TheVariants as format
 
--- the lists that a text gives by the grammar of the format, on a grid of so many decimals, or its first line outside the grammar
+-- the lists that a text gives by the grammar of the format, on a grid of so many decimals, or
+-- its first line outside the grammar
 abbrev pub lists_in : Format → ℕ → List ℕ → Result Lists TextFault
 lists_in format.Obj decimals bytes = obj.lists_of decimals bytes
 lists_in format.Off decimals bytes = off.lists_of decimals bytes

@@ -11,23 +11,29 @@ use Rattle.track_convert.specs.Conversion.{Conversion, IsConversion, found_by}
 use Rattle.track_convert.specs.Endings.{Ends}
 use Rattle.track_convert.specs.Causes.{Cause, IsStopped, IsConvertible}
 
--- THE HEADLINE, read from here down, each part explained where it stands. A conversion writes one line and stores one file: the text, in
--- the format that its name picks, of the lists that the grammar of the other file gives, which has the same content; or it writes the
--- line of the first refusal that applies and stores nothing; or it is stopped. In every ending each other name is as it was.
+-- THE HEADLINE, read from here down, each part explained where it stands. A conversion
+-- writes one line and stores one file: the text, in the format that its name picks, of the
+-- lists that the grammar of the other file gives, which has the same content; or it writes
+-- the line of the first refusal that applies and stores nothing; or it is stopped. In every
+-- ending each other name is as it was.
 
--- The ending has its cause in the conversion, and the conversion has a cause for no other ending but those that stop it.
+-- The ending has its cause in the conversion, and the conversion has a cause for no
+-- other ending but those that stop it.
 pub record IsCaused (c : Conversion) (result : Result (Option Refusal) Stop) : Type 0 where
   pub cause : Cause c result
-  pub no_other : (other : Result (Option Refusal) Stop) → Cause c other → (result ≡ other) ⊎ IsStopped other ⊎ IsStopped result
+  pub no_other : (other : Result (Option Refusal) Stop) → Cause c other →
+      (result ≡ other) ⊎ IsStopped other ⊎ IsStopped result
 
 -- What can be converted is, where memory does not want and no count of faults rises.
 abbrev pub IsComplete : MeshName → ℕ → Result (Option Refusal) Stop → World → World → Type 0
 IsComplete from decimals result old new =
-    IsConvertible old.holds.files from decimals → ¬ Rose old.desk_faults new.desk_faults → ¬ Rose old.sink_faults new.sink_faults →
+    IsConvertible old.holds.files from decimals → ¬ Rose old.desk_faults new.desk_faults →
+    ¬ Rose old.sink_faults new.sink_faults →
     (result ≡ Ok None) ⊎ (result ≡ Err NoMemory)
 
 -- The file that the desk held at entry under the one name is converted to the other.
-pub record Converts (from to : MeshName) (decimals : ℕ) (result : Result (Option Refusal) Stop) (old new : World) : Type 0 where
+pub record Converts (from to : MeshName) (decimals : ℕ) (result : Result (Option Refusal) Stop)
+    (old new : World) : Type 0 where
   pub conversion : Conversion
   pub is_conversion : IsConversion old.holds.files from decimals conversion
   pub ends : Ends to decimals (found_by conversion) result old.holds new.holds

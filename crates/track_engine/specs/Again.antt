@@ -9,7 +9,9 @@ use Rattle.track_engine.specs.Answers.{Answers}
 use Rattle.track_engine.specs.Effects.{log_from}
 use Rattle.track_engine.specs.Invariant.{IsRunInvariant}
 
--- where directives within their limits begin, with settings within theirs, what their log tells can be done again
+-- where directives within their limits begin, with settings within theirs, what
+-- their log tells can be done again
 abbrev pub LogsAreAgain : Type 0
-LogsAreAgain = (answers : Answers) (steps : List Placed) (s : State) → AreInRange steps → AreWithinLimits s.set → IsRunInvariant s →
+LogsAreAgain = (answers : Answers) (steps : List Placed) (s : State) → AreInRange steps →
+    AreWithinLimits s.set → IsRunInvariant s →
     LinesAreAgain (standing s) (log_from answers steps s).lines

@@ -7,8 +7,9 @@ use Rattle.step_text.specs.declared.Directive.{Directive}
 use Rattle.step_text.specs.declared.Directive.TheVariants.{Drive, Fit}
 use Rattle.step_text.specs.declared.Placed.{Placed}
 
--- what is given to one directive: nothing, where nothing is asked or nothing is answered; that there is no such field; the shifts of a
--- field, one for each vertex; what a sizing wants of each edge; or that of the first edges alone, where it answered of so many
+-- what is given to one directive: nothing, where nothing is asked or nothing is answered; that
+-- there is no such field; the shifts of a field, one for each vertex; what a sizing wants of each
+-- edge; or that of the first edges alone, where it answered of so many
 pub data Answer : Type 0 where
   Nothing : Answer
   NoSuchField : Answer
@@ -30,7 +31,8 @@ abbrev pub later : Answers → Answers
 later [] = []
 later (answer ∷ more) = more
 
--- what is given where no field has the name that a drive tells; to the other directives nothing is given, to a pass by a sizing neither
+-- what is given where no field has the name that a drive tells; to the other directives nothing is
+-- given, to a pass by a sizing neither
 abbrev pub without_field : Directive → Answer
 without_field (Drive name) = NoSuchField
 without_field _ = Nothing

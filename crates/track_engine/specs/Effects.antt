@@ -1,5 +1,6 @@
 -- What each directive does, and the log of all of them.
-use Rattle.std.specs.Prelude.{ℕ, ◌+◌, ◌==◌, ◌||◌, Bool, true, false, not, is_some, nat_lt, take, List, [], ◌∷◌, ◌++◌, map, Option, Some, None, Result, Ok, Err, if◌then◌else◌}
+use Rattle.std.specs.Prelude.{ℕ, ◌+◌, ◌==◌, ◌||◌, Bool, true, false, not, is_some, nat_lt, take, List}
+use Rattle.std.specs.Prelude.{[], ◌∷◌, ◌++◌, map, Option, Some, None, Result, Ok, Err, if◌then◌else◌}
 use Rattle.std.specs.Option.{option_map}
 use Rattle.std.specs.List.{find, filter}
 use Rattle.std.specs.FinMap as finite
@@ -29,7 +30,8 @@ use Rattle.step_text.specs.declared.Placed.{Placed}
 use Rattle.log_text.specs.declared.Refusal.{Refusal}
 use Rattle.log_text.specs.declared.Refusal.TheVariants.{StepUse}
 use Rattle.log_text.specs.declared.LogLine.{LogLine}
-use Rattle.log_text.specs.declared.LogLine.TheVariants.{Step, Solid, Hit, Block, Move, Moved, Mesh as MeshLine, Group as GroupLine, Close, End, Refused as RefusedLine}
+use Rattle.log_text.specs.declared.LogLine.TheVariants.{Step, Solid, Hit, Block, Move, Moved, Mesh as MeshLine}
+use Rattle.log_text.specs.declared.LogLine.TheVariants.{Group as GroupLine, Close, End, Refused as RefusedLine}
 use Rattle.edit_base.specs.declared.PassKind.{PassKind}
 use Rattle.pass_run.specs.PassLines.{lines_due, mesh_due, refused_in}
 use Rattle.pass_run.specs.Fits.{fit_lines, mesh_after_fit}
@@ -70,11 +72,13 @@ sum_of_all m by asked = sum_or_range (first_beyond m by asked) m by asked
 abbrev pub one_summed : ℕ → Shift → Shifts → Shifts
 one_summed v by asked = map (λ s. if s.v == v then with_shift s (summed by s) else s) asked
 
--- the same, or why not: no such vertex lives, or it is solid, or its summed shift is above the limit
+-- the same, or why not: no such vertex lives, or it is solid, or
+-- its summed shift is above the limit
 abbrev pub sum_at : Option ShiftOf → Bool → ℕ → Shift → Shifts → Result Shifts UseWhy
 sum_at None solid v by asked = Err (NoVertex v)
 sum_at (Some s) true v by asked = Err (SolidVertex v)
-sum_at (Some s) false v by asked = if is_within SHIFT_MAX (summed by s) then Ok (one_summed v by asked) else Err (ShiftRange v)
+sum_at (Some s) false v by asked =
+    if is_within SHIFT_MAX (summed by s) then Ok (one_summed v by asked) else Err (ShiftRange v)
 
 abbrev pub sum_of_one : Mesh → ℕ → Shift → Shifts → Result Shifts UseWhy
 sum_of_one m v by asked = sum_at (asked_of v asked) (is_solid m v) v by asked
@@ -124,7 +128,8 @@ all_still shifts = map (λ s. still_at s.v) shifts
 unfoldable pub hits : State → List PairName
 hits s = failing meets_exactly s.mesh s.asked s.set.depth
 
--- how the step is taken: by the asked shifts, where all pairs pass, and otherwise by the first way that applies
+-- how the step is taken: by the asked shifts, where all pairs pass, and
+-- otherwise by the first way that applies
 unfoldable pub taken : State → Way
 taken s = way_taken meets_exactly s.mesh s.asked s.set
 
@@ -171,8 +176,8 @@ passed_lines kind s = lines_due kind s.set.depth (is_open s.groups) s.mesh
 unfoldable pub passed_mesh : PassKind → State → Mesh
 passed_mesh kind s = mesh_due kind s.set.depth (is_open s.groups) s.mesh
 
--- After a pass by these lines, which leaves this mesh: a vertex that is kept keeps what is asked of it, a new one and a solid one are
--- asked nothing. A `no` line makes the innermost open group fail.
+-- After a pass by these lines, which leaves this mesh: a vertex that is kept keeps what is asked of
+-- it, a new one and a solid one are asked nothing. A `no` line makes the innermost open group fail.
 abbrev pub after_lines : List LogLine → Mesh → State → State
 after_lines lines m s = record s {
   mesh = m;
@@ -185,7 +190,8 @@ after_pass kind s = after_lines (passed_lines kind s) (passed_mesh kind s) s
 
 -- ---- a pass by a sizing
 
--- its lines over these edges of the mesh, by what is wanted of each; in a group its first `no` line ends it
+-- its lines over these edges of the mesh, by what is wanted of each; in a
+-- group its first `no` line ends it
 unfoldable pub fitted_lines : (ℕ × ℕ → Want) → List (ℕ × ℕ) → State → List LogLine
 fitted_lines wants es s = fit_lines meets_exactly wants s.set.depth (is_open s.groups) s.mesh es
 
@@ -198,8 +204,8 @@ after_fit wants es s = after_lines (fitted_lines wants es s) (fitted_mesh wants 
 
 -- ---- a directive
 
--- what a directive gives: its lines and the state after it, or a reason against it, or, where it is not answered to its end, the lines
--- up to there
+-- what a directive gives: its lines and the state after it, or a reason against it, or, where it is
+-- not answered to its end, the lines up to there
 pub data Effect : Type 0 where
   Proceeds : (lines : List LogLine) (next : State) → Effect
   Refused : (why : UseWhy) → Effect
@@ -209,16 +215,20 @@ abbrev pub shift_effect : Result Shifts UseWhy → State → Effect
 shift_effect (Ok asked) s = Proceeds [] (record s { asked = asked })
 shift_effect (Err why) s = Refused why
 
--- The shifts that a field answers are added to what is asked, or there is no such field. A drive that is not answered waits.
+-- The shifts that a field answers are added to what is asked, or there is no such field. A
+-- drive that is not answered waits.
 abbrev pub drive_effect : Answer → State → Effect
 drive_effect (FieldShifts by) s = shift_effect (sum_of_all s.mesh by s.asked) s
 drive_effect NoSuchField s = Refused NoField
 drive_effect _ s = Unanswered []
 
--- A pass goes over all edges by what is wanted of them. One that is answered of the first alone waits behind these.
+-- A pass goes over all edges by what is wanted of them. One that is answered of
+-- the first alone waits behind these.
 abbrev pub fit_effect : Answer → State → Effect
-fit_effect (Wanted wants) s = Proceeds (fitted_lines wants (edges s.mesh) s) (after_fit wants (edges s.mesh) s)
-fit_effect (WantedOfFirst count wants) s = Unanswered (fitted_lines wants (take count (edges s.mesh)) s)
+fit_effect (Wanted wants) s =
+    Proceeds (fitted_lines wants (edges s.mesh) s) (after_fit wants (edges s.mesh) s)
+fit_effect (WantedOfFirst count wants) s =
+    Unanswered (fitted_lines wants (take count (edges s.mesh)) s)
 fit_effect _ s = Unanswered []
 
 -- from here on the settings are these
@@ -244,28 +254,33 @@ solid_effect false v s = Refused (NoVertex v)
 
 -- a group is opened, which has not failed
 abbrev pub opened : State → State
-opened s = record s { groups = record { mesh = s.mesh; asked = s.asked; failed = false } ∷ s.groups }
+opened s =
+    record s { groups = record { mesh = s.mesh; asked = s.asked; failed = false } ∷ s.groups }
 
 -- the innermost group is kept
 abbrev pub kept_whole : List Group → State → State
 kept_whole outer s = record s { groups = outer }
 
--- it is taken back: the mesh and the asked shifts are those at its opening; the settings, the steps taken and the meshes saved stay
+-- it is taken back: the mesh and the asked shifts are those at its opening; the settings, the
+-- steps taken and the meshes saved stay
 abbrev pub taken_back : Group → List Group → State → State
 taken_back group outer s = record s { mesh = group.mesh; asked = group.asked; groups = outer }
 
--- the innermost group is closed: kept, or, where it has failed, taken back; nothing is done where none is open
+-- the innermost group is closed: kept, or, where it has failed, taken back;
+-- nothing is done where none is open
 abbrev pub close_effect : List Group → State → Effect
 close_effect [] s = Proceeds [] s
 close_effect (group ∷ outer) s =
-    Proceeds (Close (not group.failed) ∷ []) (if group.failed then taken_back group outer s else kept_whole outer s)
+    Proceeds (Close (not group.failed) ∷ [])
+    (if group.failed then taken_back group outer s else kept_whole outer s)
 
 -- What a directive does, by what is given to it. Only `drive` and `fit` ask for something.
 abbrev pub effect_of : Answer → Directive → State → Effect
 effect_of given (directive.SetDepth depth) s = set_effect (record s.set { depth = depth }) s
 effect_of given (directive.SetPasses passes) s = set_effect (record s.set { passes = passes }) s
 effect_of given (directive.SetZones zones) s = set_effect (record s.set { zones = zones }) s
-effect_of given (directive.SetHalvings halvings) s = set_effect (record s.set { halvings = halvings }) s
+effect_of given (directive.SetHalvings halvings) s =
+    set_effect (record s.set { halvings = halvings }) s
 effect_of given (directive.ShiftOne v by) s = shift_effect (sum_of_one s.mesh v by s.asked) s
 effect_of given (directive.ShiftAll by) s = shift_effect (sum_of_all s.mesh (λ v. by) s.asked) s
 effect_of given (directive.Drive name) s = drive_effect given s
@@ -273,13 +288,15 @@ effect_of given (directive.Solid v) s = solid_effect (is_some (finite.get s.mesh
 effect_of given directive.Step s = step_effect (first_outside s.mesh s.asked) s
 effect_of given (directive.Pass kind) s = Proceeds (passed_lines kind s) (after_pass kind s)
 effect_of given directive.Fit s = fit_effect given s
-effect_of given directive.Save s = Proceeds (mesh_line s.saved s.mesh ∷ []) (record s { saved = s.saved + 1 })
+effect_of given directive.Save s =
+    Proceeds (mesh_line s.saved s.mesh ∷ []) (record s { saved = s.saved + 1 })
 effect_of given directive.Group s = Proceeds (GroupLine ∷ []) (opened s)
 effect_of given directive.Close s = close_effect s.groups s
 
 -- ---- all directives
 
--- how a log ends: by a last line, which tells a refusal or none; or it is cut short in a directive that is not answered to its end
+-- how a log ends: by a last line, which tells a refusal or none; or it is cut short in a
+-- directive that is not answered to its end
 pub data Ending : Type 0 where
   Ended : (told : Option Refusal) → Ending
   CutShort : Ending
@@ -306,8 +323,8 @@ cut_short = record { lines = []; ending = CutShort }
 abbrev pub with_log : List LogLine → ExpectedLog → ExpectedLog
 with_log lines rest = record { lines = lines ++ rest.lines; ending = rest.ending }
 
--- The lines of a directive at a line of the step file, and then the others'. Where it is not answered to its end, the log is cut short
--- there.
+-- The lines of a directive at a line of the step file, and then the others'. Where it is not
+-- answered to its end, the log is cut short there.
 abbrev pub and_then : ℕ → Effect → (State → ExpectedLog) → ExpectedLog
 and_then line (Proceeds lines s) next = with_log lines (next s)
 and_then line (Refused why) next = refused (StepUse line why)
@@ -316,7 +333,8 @@ and_then line (Unanswered lines) next = with_log lines cut_short
 -- the log of the directives, from a state on, as far as they are answered
 abbrev pub log_from : Answers → List Placed → State → ExpectedLog
 log_from answers [] s = record { lines = End ∷ []; ending = Ended None }
-log_from answers (placed ∷ more) s = and_then placed.line (effect_of (first answers) placed.what s) (log_from (later answers) more)
+log_from answers (placed ∷ more) s =
+    and_then placed.line (effect_of (first answers) placed.what s) (log_from (later answers) more)
 
 -- the log from the first mesh that is saved on, as far as the directives are answered
 abbrev pub log_of_mesh : Answers → Mesh → List Placed → ExpectedLog

@@ -12,7 +12,8 @@ use Rattle.track_engine.specs.declared.open_group.OpenGroup.{OpenGroup}
 use Rattle.track_engine.specs.declared.run_state.RunState.{RunState}
 use Rattle.track_engine.specs.State.{Group, State}
 
--- the mesh is sound, closed and clear, and a shift is asked of each live vertex, by rising id, which is zero where the vertex is solid
+-- the mesh is sound, closed and clear, and a shift is asked of each live vertex, by rising id,
+-- which is zero where the vertex is solid
 pub record IsAskedWell (m : Mesh) (asked : Shifts) : Type 0 where
   pub good : IsValidSurface m
   pub names : NameLive m asked
@@ -25,13 +26,15 @@ pub record IsRunInvariant (s : State) : Type 0 where
 
 -- ---- marks of open groups
 
--- Each open group's mark holds, and that of each group around it still does when the mesh goes back to the mark. `beyond` is how far a
--- mark's `under` may lie beyond its `place`.
+-- Each open group's mark holds, and that of each group around it still does when the mesh goes back
+-- to the mark. `beyond` is how far a mark's `under` may lie beyond its `place`.
 abbrev pub MarksHold : ℕ → List Mesh → List OpenGroup → Type 0
 MarksHold beyond kept [] = Unit {0}
-MarksHold beyond kept (group ∷ outer) = MarkHolds beyond kept group.mark × MarksHold beyond (take group.mark.under kept) outer
+MarksHold beyond kept (group ∷ outer) =
+    MarkHolds beyond kept group.mark × MarksHold beyond (take group.mark.under kept) outer
 
--- the kept meshes that a directive leaves: all, but for those since the mark of a group that it takes back
+-- the kept meshes that a directive leaves: all, but for those since the
+-- mark of a group that it takes back
 abbrev pub left_by : Directive → List OpenGroup → List Mesh → List Mesh
 left_by Close (group ∷ outer) kept = if group.failed then take group.mark.under kept else kept
 left_by _ groups kept = kept

@@ -17,8 +17,9 @@ use Rattle.log_text.specs.declared.LogLine.TheVariants.{Mesh as MeshLine, Close}
 use Rattle.log_replay.specs.Replay.{Replay, replayed, EachAt}
 use Rattle.log_replay.specs.Safe.{LineIsSafe}
 
--- The text of a mesh on a grid of so many decimals is read again: its lists are of good shape and make the mesh with its vertices and
--- faces numbered anew, which is sound, closed and clear too. So a run takes the file as its mesh.
+-- The text of a mesh on a grid of so many decimals is read again: its lists are of good shape and
+-- make the mesh with its vertices and faces numbered anew, which is sound, closed and clear too. So
+-- a run takes the file as its mesh.
 pub record IsReadAgain (decimals : ℕ) (m : Mesh) : Type 0 where
   pub lists : lists_of decimals (mesh_text decimals m) ≡ Ok (ranked_lists m)
   pub shape : shape_fault (length (ranked_lists m).points) (ranked_lists m).faces ≡ None
@@ -27,8 +28,9 @@ pub record IsReadAgain (decimals : ℕ) (m : Mesh) : Type 0 where
   pub closed : IsClosed (renumbered m)
   pub clear : IsClearMesh (renumbered m)
 
--- A mesh that is saved has these live numbers, is within the laws and limits of a mesh, is closed, and no edge meets a face that
--- shares no vertex with it. Its text is read again on a grid of as many decimals, of which a job has at most `DECIMALS_MAX`.
+-- A mesh that is saved has these live numbers, is within the laws and limits of a mesh, is closed,
+-- and no edge meets a face that shares no vertex with it. Its text is read again on a grid of as
+-- many decimals, of which a job has at most `DECIMALS_MAX`.
 pub record IsSavedWell (r : Replay) (vertices faces : ℕ) : Type 0 where
   pub vertex_count : vertices ≡ finite.len r.mesh.points
   pub face_count : faces ≡ finite.len r.mesh.faces
@@ -37,9 +39,10 @@ pub record IsSavedWell (r : Replay) (vertices faces : ℕ) : Type 0 where
   pub clear : IsClearMesh r.mesh
   pub read_again : (decimals : ℕ) → decimals ≤ DECIMALS_MAX → IsReadAgain decimals r.mesh
 
--- What a line promises of the replay where it stands: of a `mesh` line that the mesh is saved well, of a `move` line that its vertex is
--- not solid, of a `moved` line that the motion by the `move` lines is safe, of the line of a done edit that the edit is, and of a `close`
--- line that the mesh after it, kept or taken back, is sound, closed and clear.
+-- What a line promises of the replay where it stands: of a `mesh` line that the mesh is saved well,
+-- of a `move` line that its vertex is not solid, of a `moved` line that the motion by the `move`
+-- lines is safe, of the line of a done edit that the edit is, and of a `close` line that the mesh
+-- after it, kept or taken back, is sound, closed and clear.
 abbrev pub LineHolds : Replay → LogLine → Type 0
 LineHolds r (MeshLine k vertices faces) = IsSavedWell r vertices faces
 LineHolds r (Close kept) = IsValidSurface (replayed r (Close kept)).mesh

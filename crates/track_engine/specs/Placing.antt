@@ -19,4 +19,6 @@ moved_one m s = if moves s then with_move m s else m
 -- each that moves is live and ends in the box, in the mesh in which those before it have been moved
 abbrev pub CanPlace : Mesh → Shifts → Type 0
 CanPlace m [] = Unit {0}
-CanPlace m (s ∷ shifts) = (moves s ≡ true → IsLiveVertex m s.v × IsWithin BOX (end_of m s)) × CanPlace (moved_one m s) shifts
+CanPlace m (s ∷ shifts) =
+    (moves s ≡ true → IsLiveVertex m s.v × IsWithin BOX (end_of m s))
+    × CanPlace (moved_one m s) shifts

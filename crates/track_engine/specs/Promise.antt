@@ -21,23 +21,31 @@ use Rattle.track_engine.specs.Invariant.{IsAskedWell}
 
 -- each pair passes the written test when each vertex goes from its point by its shift
 abbrev pub EachPasses : Mesh → ℕ → Shifts → Type 0
-EachPasses m depth by = (p : Pair) → IsPair m p → Passes depth (positions (moved_by m by).start p) (positions (moved_by m by).end p)
+EachPasses m depth by = (p : Pair) → IsPair m p →
+    Passes depth (positions (moved_by m by).start p) (positions (moved_by m by).end p)
 
--- the blocks that move as one: those of two or more vertices of the round that is taken, and none in another way
+-- the blocks that move as one: those of two or more vertices of the round that
+-- is taken, and none in another way
 abbrev pub blocks_moved : State → How → List (List ℕ)
-blocks_moved s (Zones round) = blocks s.mesh (round_labels meets_exactly s.mesh s.asked s.set.depth round)
+blocks_moved s (Zones round) =
+    blocks s.mesh (round_labels meets_exactly s.mesh s.asked s.set.depth round)
 blocks_moved s _ = []
 
--- Where all pairs pass in the asked step, its lines are the asked shifts, unaltered. Otherwise each pair that does not pass has its
--- line, in order, and the step is not taken whole. The way that is taken is the first that applies, and by whichever shifts, none fails
--- exactly where each pair passes. The pairs that have a line are those that do not pass, each once and in order. The blocks that have a
--- line are those that move as one.
+-- Where all pairs pass in the asked step, its lines are the asked shifts, unaltered. Otherwise each
+-- pair that does not pass has its line, in order, and the step is not taken whole. The way that is
+-- taken is the first that applies, and by whichever shifts, none fails exactly where each pair
+-- passes. The pairs that have a line are those that do not pass, each once and in order. The blocks
+-- that have a line are those that move as one.
 pub record StepIsTold (s : State) (lines : List LogLine) : Type 0 where
-  pub unaltered : hits s ≡ [] → lines ≡ Step (s.steps + 1) ∷ (move_lines s.asked ++ Moved Whole ∷ [])
+  pub unaltered : hits s ≡ [] →
+      lines ≡ Step (s.steps + 1) ∷ (move_lines s.asked ++ Moved Whole ∷ [])
   pub altered : hits s ≢ [] → (taken s).how ≢ Whole
   pub told : lines ≡ lines_of_step (s.steps + 1) (hits s) (taken s)
-  pub first_way : IsAskedWell s.mesh s.asked → IsFirstWay meets_exactly s.mesh s.asked s.set (taken s).how (taken s).taken
+  pub first_way : IsAskedWell s.mesh s.asked →
+      IsFirstWay meets_exactly s.mesh s.asked s.set (taken s).how (taken s).taken
   pub blocks_told : (taken s).blocks ≡ blocks_moved s (taken s).how
   pub all_hits : IsSound s.mesh → AreFailing s.mesh s.asked s.set.depth (hits s)
-  pub all_failing : IsSound s.mesh → (by : Shifts) → AreFailing s.mesh by s.set.depth (failing meets_exactly s.mesh by s.set.depth)
-  pub none_fails : IsSound s.mesh → (by : Shifts) → NoneFails meets_exactly s.mesh s.set.depth by ↔ EachPasses s.mesh s.set.depth by
+  pub all_failing : IsSound s.mesh → (by : Shifts) →
+      AreFailing s.mesh by s.set.depth (failing meets_exactly s.mesh by s.set.depth)
+  pub none_fails : IsSound s.mesh → (by : Shifts) →
+      NoneFails meets_exactly s.mesh s.set.depth by ↔ EachPasses s.mesh s.set.depth by

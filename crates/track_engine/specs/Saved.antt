@@ -21,7 +21,8 @@ file_name prefix k = prefix ++ codes "-" ++ six_digits k ++ codes ".obj"
 
 -- the file that a line names, with the text of the replay's mesh there
 abbrev pub file_at : Target → Replay → LogLine → List (List ℕ × List ℕ)
-file_at to r (MeshLine k vertices faces) = (file_name to.prefix k, mesh_text to.decimals r.mesh) ∷ []
+file_at to r (MeshLine k vertices faces) =
+    (file_name to.prefix k, mesh_text to.decimals r.mesh) ∷ []
 file_at to r _ = []
 
 -- the files that the lines name, in order

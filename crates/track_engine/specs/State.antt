@@ -21,7 +21,8 @@ pub record Group : Type 0 where
   pub asked : Shifts
   pub failed : Bool
 
--- the mesh, the asked shifts, the settings, the numbers of steps taken and of meshes saved so far, and the open groups, the innermost first
+-- the mesh, the asked shifts, the settings, the numbers of steps taken and of meshes saved so far,
+-- and the open groups, the innermost first
 pub record State : Type 0 where
   pub mesh : Mesh
   pub asked : Shifts
@@ -44,7 +45,8 @@ asked_of v asked = find (λ s. s.v == v) asked
 
 -- what was asked of a vertex, and nothing of one that is new or solid
 abbrev pub still_asked : Mesh → Shifts → ℕ → ShiftOf
-still_asked m asked v = if is_solid m v then still_at v else unwrap_or (asked_of v asked) (still_at v)
+still_asked m asked v =
+    if is_solid m v then still_at v else unwrap_or (asked_of v asked) (still_at v)
 
 -- the same of each live vertex of a mesh that was changed
 abbrev pub asked_in : Mesh → Shifts → Shifts
@@ -52,11 +54,13 @@ asked_in m asked = map (still_asked m asked) (finite.keys m.points)
 
 -- where an engine begins: no mesh is saved
 abbrev pub unsaved : Mesh → State
-unsaved m = record { mesh = m; asked = no_shifts m; set = at_first; steps = 0; saved = 0; groups = [] }
+unsaved m =
+    record { mesh = m; asked = no_shifts m; set = at_first; steps = 0; saved = 0; groups = [] }
 
 -- where the directives begin: mesh 0 is saved
 abbrev pub start : Mesh → State
-start m = record { mesh = m; asked = no_shifts m; set = at_first; steps = 0; saved = 1; groups = [] }
+start m =
+    record { mesh = m; asked = no_shifts m; set = at_first; steps = 0; saved = 1; groups = [] }
 
 -- whether a group is open
 abbrev pub is_open : List Group → Bool
@@ -71,7 +75,8 @@ kept_for kept mark = unwrap_or (slice_get kept mark.place) (mesh_of [] [])
 
 -- a group whose mesh is a kept one
 abbrev pub group_of : List Mesh → OpenGroup → Group
-group_of kept group = record { mesh = kept_for kept group.mark; asked = group.asked; failed = group.failed }
+group_of kept group =
+    record { mesh = kept_for kept group.mark; asked = group.asked; failed = group.failed }
 
 -- the same of each, in order
 abbrev pub groups_of : List Mesh → List OpenGroup → List Group

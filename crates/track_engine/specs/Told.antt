@@ -15,7 +15,8 @@ step_told s = record { how = (taken s).how; hits = length (hits s) }
 
 -- how many lines of the pass are of done edits, and how many of refused ones
 abbrev pub pass_told : PassKind → State → PassCount
-pass_told kind s = record { done = done_in (passed_lines kind s); refused = refused_in (passed_lines kind s) }
+pass_told kind s =
+    record { done = done_in (passed_lines kind s); refused = refused_in (passed_lines kind s) }
 
 -- what a step answers as a directive
 abbrev pub step_untold : Result (Result StepTold UseWhy) Stop → Result (Option UseWhy) Stop

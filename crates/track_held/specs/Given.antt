@@ -46,7 +46,9 @@ box_fault points = option_map (λ number. Outside number) (position_from is_outs
 
 -- there are more points than may live
 abbrev pub crowd_fault : List GivenPoint → Option MakeFault
-crowd_fault points = if nat_lt VERTICES_MAX (length points) then Some (Shape (TooManyVertices (length points))) else None
+crowd_fault points =
+    if nat_lt VERTICES_MAX (length points) then Some (Shape (TooManyVertices (length points)))
+    else None
 
 -- the first pair of a mesh that meets: an edge, and a face that shares no vertex with it
 abbrev pub meet_fault : Mesh → Option MakeFault
@@ -54,12 +56,16 @@ meet_fault m = option_map (λ pair. Meets pair) (first_meeting meets_exactly m (
 
 -- the first fault of shape of points in the box and faces, or else the first pair that meets
 abbrev pub lists_fault : List Point → Faces → Option MakeFault
-lists_fault points faces = option_or (option_map (λ fault. Shape fault) (shape_fault (length points) faces)) (meet_fault (mesh_of points faces))
+lists_fault points faces =
+    option_or (option_map (λ fault. Shape fault) (shape_fault (length points) faces))
+    (meet_fault (mesh_of points faces))
 
--- The first fault of points and faces, in this order: too many points, a point that is not in the box, another fault of shape, a pair
--- that meets. None exactly where a tracker can be made of them.
+-- The first fault of points and faces, in this order: too many points, a point that is not in the
+-- box, another fault of shape, a pair that meets. None exactly where a tracker can be made of them.
 abbrev pub make_fault : List GivenPoint → List GivenFace → Option MakeFault
-make_fault points faces = option_or (crowd_fault points) (option_or (box_fault points) (lists_fault (map point_in points) (map face_in faces)))
+make_fault points faces =
+    option_or (crowd_fault points)
+    (option_or (box_fault points) (lists_fault (map point_in points) (map face_in faces)))
 
 -- what a refusal says of the first fault
 abbrev pub IsRefusal : Option MakeFault → MakeRefusal → Type 0

@@ -9,11 +9,13 @@ use Rattle.track_held.specs.declared.given.NamedFace.{NamedFace}
 
 -- a vertex, and where it stands; the origin, where it is not live
 abbrev pub named_point : Mesh → ℕ → NamedPoint
-named_point m v = record { id = v; x = (point_of m v).x; y = (point_of m v).y; z = (point_of m v).z }
+named_point m v =
+    record { id = v; x = (point_of m v).x; y = (point_of m v).y; z = (point_of m v).z }
 
 -- a face with these corners; none, where it is not live
 abbrev pub with_corners : ℕ → Option Corners → NamedFace
-with_corners f (Some corners) = record { id = f; a = corners.first; b = corners.second; c = corners.third }
+with_corners f (Some corners) =
+    record { id = f; a = corners.first; b = corners.second; c = corners.third }
 with_corners f None = record { id = f; a = 0; b = 0; c = 0 }
 
 -- a face, and its corners

@@ -14,7 +14,8 @@ given_rule id = record (new_rule id) { required = true; action = Some Set }
 
 -- `--decimals N`
 abbrev pub decimals_rule : Rule
-decimals_rule = record (new_rule (codes "decimals")) { long = Some (codes "decimals"); action = Some Set }
+decimals_rule =
+    record (new_rule (codes "decimals")) { long = Some (codes "decimals"); action = Some Set }
 
 -- `--only K`
 abbrev pub only_rule : Rule
@@ -22,14 +23,17 @@ only_rule = record (new_rule (codes "only")) { long = Some (codes "only"); actio
 
 -- a command without flags
 abbrev pub bare_app : List ℕ → App
-bare_app name = record (new_app name) { top = record (new_app name).top { disable_help_flag = true } }
+bare_app name =
+    record (new_app name) { top = record (new_app name).top { disable_help_flag = true } }
 
 abbrev pub pair_app : List ℕ → List ℕ → List ℕ → App
-pair_app name first second = with_rule (with_rule (bare_app name) (given_rule first)) (given_rule second)
+pair_app name first second =
+    with_rule (with_rule (bare_app name) (given_rule first)) (given_rule second)
 
 abbrev pub track_app : App
 track_app =
-    with_rule (with_rule (pair_app (codes "track") (codes "mesh") (codes "steps")) (given_rule (codes "prefix"))) decimals_rule
+    with_rule (with_rule (pair_app (codes "track") (codes "mesh") (codes "steps"))
+    (given_rule (codes "prefix"))) decimals_rule
 
 abbrev pub convert_app : App
 convert_app = with_rule (pair_app (codes "convert") (codes "from") (codes "to")) decimals_rule
@@ -49,14 +53,17 @@ prove_app = log_app (codes "prove")
 
 abbrev pub verify_app : App
 verify_app =
-    with_rule (with_rule (pair_app (codes "verify") (codes "mesh") (codes "log")) (given_rule (codes "proof"))) decimals_rule
+    with_rule (with_rule (pair_app (codes "verify") (codes "mesh") (codes "log"))
+    (given_rule (codes "proof"))) decimals_rule
 
 abbrev pub replay_app : App
 replay_app =
-    with_rule (with_rule (with_rule (pair_app (codes "replay") (codes "mesh") (codes "log")) (given_rule (codes "prefix"))) decimals_rule) only_rule
+    with_rule (with_rule (with_rule (pair_app (codes "replay") (codes "mesh") (codes "log"))
+    (given_rule (codes "prefix"))) decimals_rule) only_rule
 
 abbrev pub check_app : App
-check_app = with_rule (with_rule (bare_app (codes "check")) (given_rule (codes "mesh"))) decimals_rule
+check_app =
+    with_rule (with_rule (bare_app (codes "check")) (given_rule (codes "mesh"))) decimals_rule
 
 -- ---- what is read
 
@@ -64,8 +71,10 @@ check_app = with_rule (with_rule (bare_app (codes "check")) (given_rule (codes "
 abbrev pub Values : Type 0
 Values = List ℕ → Option (List ℕ)
 
-abbrev pub track_of : Option (List ℕ) → Option (List ℕ) → Option (List ℕ) → Option (List ℕ) → Option Named
-track_of (Some mesh) (Some steps) (Some prefix) digit = track_in (mesh ∷ steps ∷ prefix ∷ behind digit)
+abbrev pub track_of : Option (List ℕ) → Option (List ℕ) → Option (List ℕ) → Option (List ℕ) →
+    Option Named
+track_of (Some mesh) (Some steps) (Some prefix) digit =
+    track_in (mesh ∷ steps ∷ prefix ∷ behind digit)
 track_of _ _ _ digit = None
 
 abbrev pub convert_of : Option (List ℕ) → Option (List ℕ) → Option (List ℕ) → Option Named
@@ -80,12 +89,15 @@ abbrev pub log_of : Option (List ℕ) → Option (List ℕ) → Option (List ℕ
 log_of (Some mesh) (Some log) digit = log_in (mesh ∷ log ∷ behind digit)
 log_of _ _ digit = None
 
-abbrev pub verify_of : Option (List ℕ) → Option (List ℕ) → Option (List ℕ) → Option (List ℕ) → Option Named
+abbrev pub verify_of : Option (List ℕ) → Option (List ℕ) → Option (List ℕ) → Option (List ℕ) →
+    Option Named
 verify_of (Some mesh) (Some log) (Some proof) digit = verify_in (mesh ∷ log ∷ proof ∷ behind digit)
 verify_of _ _ _ digit = None
 
-abbrev pub replay_of : Option (List ℕ) → Option (List ℕ) → Option (List ℕ) → Option (List ℕ) → Option (List ℕ) → Option Named
-replay_of (Some mesh) (Some log) (Some prefix) digit number = replay_in (mesh ∷ log ∷ prefix ∷ options_behind digit number)
+abbrev pub replay_of : Option (List ℕ) → Option (List ℕ) → Option (List ℕ) → Option (List ℕ) →
+    Option (List ℕ) → Option Named
+replay_of (Some mesh) (Some log) (Some prefix) digit number =
+    replay_in (mesh ∷ log ∷ prefix ∷ options_behind digit number)
 replay_of _ _ _ digit number = None
 
 abbrev pub check_of : Option (List ℕ) → Option (List ℕ) → Option Named
@@ -93,10 +105,13 @@ check_of (Some mesh) digit = check_in (mesh ∷ behind digit)
 check_of _ digit = None
 
 abbrev pub track_read : Values → Option Named
-track_read value = track_of (value (codes "mesh")) (value (codes "steps")) (value (codes "prefix")) (value (codes "decimals"))
+track_read value =
+    track_of (value (codes "mesh")) (value (codes "steps")) (value (codes "prefix"))
+    (value (codes "decimals"))
 
 abbrev pub convert_read : Values → Option Named
-convert_read value = convert_of (value (codes "from")) (value (codes "to")) (value (codes "decimals"))
+convert_read value =
+    convert_of (value (codes "from")) (value (codes "to")) (value (codes "decimals"))
 
 abbrev pub try_read : Values → Option Named
 try_read value = try_of (value (codes "cubes")) (value (codes "key"))
@@ -111,11 +126,14 @@ abbrev pub prove_read : Values → Option Named
 prove_read value = option_map Prove (log_read value)
 
 abbrev pub verify_read : Values → Option Named
-verify_read value = verify_of (value (codes "mesh")) (value (codes "log")) (value (codes "proof")) (value (codes "decimals"))
+verify_read value =
+    verify_of (value (codes "mesh")) (value (codes "log")) (value (codes "proof"))
+    (value (codes "decimals"))
 
 abbrev pub replay_read : Values → Option Named
 replay_read value =
-    replay_of (value (codes "mesh")) (value (codes "log")) (value (codes "prefix")) (value (codes "decimals")) (value (codes "only"))
+    replay_of (value (codes "mesh")) (value (codes "log")) (value (codes "prefix"))
+    (value (codes "decimals")) (value (codes "only"))
 
 abbrev pub check_read : Values → Option Named
 check_read value = check_of (value (codes "mesh")) (value (codes "decimals"))
@@ -137,7 +155,8 @@ IsReadBy read app words named =
 
 -- ---- by the first word
 
--- what is read of the values that the command of this name finds; nothing, where there is no such command
+-- what is read of the values that the command of this name finds;
+-- nothing, where there is no such command
 abbrev pub read_by_name : List ℕ → Values → Option Named
 read_by_name name =
     if bytes_eq name (codes "track") then track_read
@@ -163,8 +182,9 @@ app_by_name name =
     else if bytes_eq name (codes "check") then check_app
     else bare_app name
 
--- The words are read as what the command of their first word reads of the values that it finds, by what `clap` says that a command finds;
--- or as nothing, where it does not take them.
+-- The words are read as what the command of their first word reads of the values that it finds, by
+-- what `clap` says that a command finds; or as nothing, where it does not take them.
 abbrev pub IsReadExactly : List (List ℕ) → Option Named → Type 0
 IsReadExactly [] named = named ≡ None
-IsReadExactly (first ∷ words) named = IsReadBy (read_by_name first) (app_by_name first) (first ∷ words) named
+IsReadExactly (first ∷ words) named =
+    IsReadBy (read_by_name first) (app_by_name first) (first ∷ words) named

@@ -26,7 +26,8 @@ pub record Job : Type 0 where
   pub decimals : ℕ
 
 -- the job of two names and so many decimals, where the desk holds these files
-pub record IsJob (files : Option Files) (mesh_name step_name : List ℕ) (decimals : ℕ) (job : Job) : Type 0 where
+pub record IsJob (files : Option Files) (mesh_name step_name : List ℕ)
+    (decimals : ℕ) (job : Job) : Type 0 where
   pub mesh : IsSource files mesh_name job.mesh_file
   pub steps : IsSource files step_name job.step_file
   pub decimals_are : job.decimals ≡ decimals
@@ -66,7 +67,8 @@ input_of_shape lists None steps = input_of_steps lists (steps_of steps)
 
 abbrev pub input_of_lists : Result Lists TextFault → List ℕ → Result Input Refusal
 input_of_lists (Err fault) steps = Err (refusal.Mesh fault)
-input_of_lists (Ok lists) steps = input_of_shape lists (shape_fault (length lists.points) lists.faces) steps
+input_of_lists (Ok lists) steps =
+    input_of_shape lists (shape_fault (length lists.points) lists.faces) steps
 
 abbrev pub input_of_files : ℕ → Source → Source → Result Input Refusal
 input_of_files decimals (TooLong seen) steps = Err (refusal.Long file.Mesh seen)

@@ -8,7 +8,8 @@ use Rattle.track_input.specs.declared.mesh_file.MeshFile.{MeshFile}
 use Rattle.track_input.specs.declared.command.LogFiles.{LogFiles}
 use Rattle.track_input.specs.declared.command.ProofFiles.{ProofFiles}
 use Rattle.track_input.specs.declared.command.ReplayFiles.{ReplayFiles}
-use Rattle.track_input.specs.Words.{MeshName, LogNames, ProofNames, ReplayNames, Named, Track, Convert, Try, Measure, Prove, Verify, Replay, Check}
+use Rattle.track_input.specs.Words.{MeshName, LogNames, ProofNames, ReplayNames, Named, Track}
+use Rattle.track_input.specs.Words.{Convert, Try, Measure, Prove, Verify, Replay, Check}
 
 abbrev pub mesh_name : MeshFile → MeshName
 mesh_name file = record { name = file.name.now; format = file.format }
@@ -20,7 +21,8 @@ abbrev pub proof_names : ProofFiles → ProofNames
 proof_names given = record { names = log_names given.files; proof = given.proof.now }
 
 abbrev pub replay_names : ReplayFiles → ReplayNames
-replay_names given = record { names = log_names given.files; prefix = given.prefix.now; only = given.only }
+replay_names given =
+    record { names = log_names given.files; prefix = given.prefix.now; only = given.only }
 
 abbrev pub named_by : Command → Named
 named_by (command.Track mesh steps prefix decimals) = Track mesh.now steps.now prefix.now decimals

@@ -27,7 +27,8 @@ abbrev pub input_by : Ready → Result Input Refusal
 input_by (ready.No why) = Err why
 input_by (ready.Yes lists steps) = Ok (record { lists = lists_view lists; steps = steps })
 
--- The lists are of good shape and make this mesh, and the directives are few and set nothing beyond its limits.
+-- The lists are of good shape and make this mesh, and the directives are few
+-- and set nothing beyond its limits.
 pub record IsReadyAt (m : Mesh) (lists : MeshLists) (steps : List Placed) : Type 0 where
   pub mesh : given lists ≡ m
   pub good : AreGood lists
@@ -44,8 +45,10 @@ pub record Reads (decimals : ℕ) (mesh steps : List ℕ) (found : Ready) : Type
   pub input : input_of_lists (lists_of decimals mesh) steps ≡ input_by found
   pub ready : IsReady (mesh_read (lists_of decimals mesh)) found
 
--- what the files of two names give: what was read is what their job gives, and its mesh is the job's
-pub record Prepares (files : Option Files) (mesh_name step_name : List ℕ) (decimals : ℕ) (found : Ready) : Type 0 where
+-- what the files of two names give: what was read is what their job
+-- gives, and its mesh is the job's
+pub record Prepares (files : Option Files) (mesh_name step_name : List ℕ) (decimals : ℕ)
+    (found : Ready) : Type 0 where
   pub job : Job
   pub is_job : IsJob files mesh_name step_name decimals job
   pub input : input_of job ≡ input_by found

@@ -9,8 +9,10 @@ pub data Source : Type 0 where
   Absent : Source
   TooLong : (seen : ℕ) → Source
 
--- What a fetch answers is what the name holds, where that is told. A count of bytes that are too many is a number of the log.
+-- What a fetch answers is what the name holds, where that is told. A count of bytes that are
+-- too many is a number of the log.
 abbrev pub IsSource : Option Files → List ℕ → Source → Type 0
 IsSource files name (Bytes bytes) = (length bytes ≤ TEXT_MAX) × HoldsFile files name bytes
 IsSource files name Absent = HoldsNoFile files name
-IsSource files name (TooLong seen) = (TEXT_MAX < seen) × (seen ≤ SEEN_MAX) × HoldsAtLeast files name seen
+IsSource files name (TooLong seen) =
+    (TEXT_MAX < seen) × (seen ≤ SEEN_MAX) × HoldsAtLeast files name seen

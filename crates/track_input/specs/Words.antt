@@ -1,5 +1,6 @@
 -- The words of a command line, and the listed forms.
-use Rattle.std.specs.Prelude.{ℕ, Bool, false, List, [], ◌∷◌, length, if◌then◌else◌, ◌==◌, ◌+◌, ◌-◌, ◌^◌, ◌&&◌, not, nat_le, Option, Some, None, codes, slice_index, slice_index_or}
+use Rattle.std.specs.Prelude.{ℕ, Bool, false, List, [], ◌∷◌, length, if◌then◌else◌, ◌==◌, ◌+◌, ◌-◌, ◌^◌}
+use Rattle.std.specs.Prelude.{◌&&◌, not, nat_le, Option, Some, None, codes, slice_index, slice_index_or}
 use Rattle.std.specs.List.{ends_with}
 use Rattle.std.specs.Option.{option_and_then, option_map}
 use Rattle.std.specs.Str.{bytes_eq}
@@ -25,15 +26,18 @@ pub record ProofNames : Type 0 where
   pub names : LogNames
   pub proof : List ℕ
 
--- the same, and the prefix under which the meshes of the log are stored, and the number of the one that is, where it is one
+-- the same, and the prefix under which the meshes of the log are stored, and the number of
+-- the one that is, where it is one
 pub record ReplayNames : Type 0 where
   pub names : LogNames
   pub prefix : List ℕ
   pub only : Option ℕ
 
--- what a command line asks for: of `track`, the three file words, and the decimals; of `convert`, the two files, and the decimals;
--- of `try`, the number of cubes along an edge, and the key; of `measure` and `prove`, the two files, and the decimals; of `verify`, the
--- three files, and the decimals; of `replay`, the two files, the prefix, and what is told behind; of `check`, the file, and the decimals
+-- what a command line asks for: of `track`, the three file words, and the decimals; of
+-- `convert`, the two files, and the decimals; of `try`, the number of cubes along an edge, and
+-- the key; of `measure` and `prove`, the two files, and the decimals; of `verify`, the three
+-- files, and the decimals; of `replay`, the two files, the prefix, and what is told behind; of
+-- `check`, the file, and the decimals
 pub data Named : Type 0 where
   Track : (mesh : List ℕ) (steps : List ℕ) (prefix : List ℕ) (decimals : ℕ) → Named
   Convert : (from : MeshName) (to : MeshName) (decimals : ℕ) → Named
@@ -65,18 +69,24 @@ format_of name =
 -- the mesh file that a word names: a file word with the ending of a format
 abbrev pub mesh_name_of : List ℕ → Option MeshName
 mesh_name_of word =
-    if is_file_word word then option_map (λ format. record { name = word; format = format }) (format_of word)
+    if is_file_word word
+    then option_map (λ format. record { name = word; format = format }) (format_of word)
     else None
 
 -- one digit from 0 to the greatest number of decimals
 abbrev pub is_decimals : List ℕ → Bool
-is_decimals word = length word == 1 && (nat_le 48 (slice_index word 0) && nat_le (slice_index word 0) (48 + DECIMALS_MAX))
+is_decimals word =
+    length word == 1
+    && (nat_le 48 (slice_index word 0) && nat_le (slice_index word 0) (48 + DECIMALS_MAX))
 
--- the decimals that the words behind the files tell: 0 where there are none, and N where they are `--decimals N`
+-- the decimals that the words behind the files tell: 0 where there are none,
+-- and N where they are `--decimals N`
 abbrev pub decimals_in : List (List ℕ) → Option ℕ
 decimals_in [] = Some 0
 decimals_in (option ∷ digit ∷ []) =
-    if bytes_eq option (codes "--decimals") && is_decimals digit then Some (slice_index digit 0 - 48) else None
+    if bytes_eq option (codes "--decimals") && is_decimals digit
+    then Some (slice_index digit 0 - 48)
+    else None
 decimals_in _ = None
 
 -- a number from low to high
@@ -90,17 +100,20 @@ number_in low high word = between low high (spelled_number word)
 
 -- the number of a mesh that `--only K` tells
 abbrev pub only_in : List ℕ → List ℕ → Option ℕ
-only_in option number = if bytes_eq option (codes "--only") then number_in 0 (2 ^ 32 - 1) number else None
+only_in option number =
+    if bytes_eq option (codes "--only") then number_in 0 (2 ^ 32 - 1) number else None
 
--- the decimals, and the number of the one mesh, that the words behind the files of `replay` tell: `--decimals N`, `--only K`, both in this
--- order, or neither
+-- the decimals, and the number of the one mesh, that the words behind the files of `replay` tell:
+-- `--decimals N`, `--only K`, both in this order, or neither
 abbrev pub options_in : List (List ℕ) → Option (ℕ × Option ℕ)
 options_in [] = Some (0, None)
 options_in (option ∷ word ∷ []) =
-    if bytes_eq option (codes "--only") then option_map (λ k. (0, Some k)) (number_in 0 (2 ^ 32 - 1) word)
+    if bytes_eq option (codes "--only")
+    then option_map (λ k. (0, Some k)) (number_in 0 (2 ^ 32 - 1) word)
     else option_map (λ n. (n, None)) (decimals_in (option ∷ word ∷ []))
 options_in (option ∷ digit ∷ last ∷ number ∷ []) =
-    option_and_then (λ n. option_map (λ k. (n, Some k)) (only_in last number)) (decimals_in (option ∷ digit ∷ []))
+    option_and_then (λ n. option_map (λ k. (n, Some k)) (only_in last number))
+    (decimals_in (option ∷ digit ∷ []))
 options_in _ = None
 
 -- ---- listed forms
@@ -116,20 +129,24 @@ track_in _ = None
 -- FROM TO, and the decimals
 abbrev pub convert_in : List (List ℕ) → Option Named
 convert_in (from ∷ to ∷ behind) =
-    option_and_then (λ from. option_and_then (λ to. option_map (λ decimals. Convert from to decimals) (decimals_in behind)) (mesh_name_of to)) (mesh_name_of from)
+    option_and_then (λ from.
+    option_and_then (λ to. option_map (λ decimals. Convert from to decimals) (decimals_in behind))
+    (mesh_name_of to)) (mesh_name_of from)
 convert_in _ = None
 
 -- N KEY
 abbrev pub try_in : List (List ℕ) → Option Named
 try_in (cubes ∷ key ∷ []) =
-    option_and_then (λ n. option_map (λ k. Try n k) (number_in 0 (2 ^ 32 - 1) key)) (number_in 1 CUBES_MAX cubes)
+    option_and_then (λ n. option_map (λ k. Try n k) (number_in 0 (2 ^ 32 - 1) key))
+    (number_in 1 CUBES_MAX cubes)
 try_in _ = None
 
 -- MESH LOG, and the decimals
 abbrev pub log_in : List (List ℕ) → Option LogNames
 log_in (mesh ∷ log ∷ behind) =
     if is_file_word mesh && is_file_word log
-    then option_map (λ decimals. record { mesh = mesh; log = log; decimals = decimals }) (decimals_in behind)
+    then option_map
+    (λ decimals. record { mesh = mesh; log = log; decimals = decimals }) (decimals_in behind)
     else None
 log_in _ = None
 
@@ -137,7 +154,9 @@ log_in _ = None
 abbrev pub verify_in : List (List ℕ) → Option Named
 verify_in (mesh ∷ log ∷ proof ∷ behind) =
     if is_file_word mesh && (is_file_word log && is_file_word proof)
-    then option_map (λ decimals. Verify (record { names = record { mesh = mesh; log = log; decimals = decimals }; proof = proof })) (decimals_in behind)
+    then option_map (λ decimals. Verify
+    (record { names = record { mesh = mesh; log = log; decimals = decimals }; proof = proof }))
+    (decimals_in behind)
     else None
 verify_in _ = None
 
@@ -145,18 +164,27 @@ verify_in _ = None
 abbrev pub replay_in : List (List ℕ) → Option Named
 replay_in (mesh ∷ log ∷ prefix ∷ behind) =
     if is_file_word mesh && (is_file_word log && is_file_word prefix)
-    then option_map (λ told. Replay (record { names = record { mesh = mesh; log = log; decimals = told.0 }; prefix = prefix; only = told.1 })) (options_in behind)
+    then option_map
+    (λ told.
+    Replay (record {
+      names = record { mesh = mesh; log = log; decimals = told.0 };
+      prefix = prefix;
+      only = told.1;
+    }))
+    (options_in behind)
     else None
 replay_in _ = None
 
 -- MESH, and the decimals
 abbrev pub check_in : List (List ℕ) → Option Named
-check_in (mesh ∷ behind) = option_and_then (λ mesh. option_map (λ decimals. Check mesh decimals) (decimals_in behind)) (mesh_name_of mesh)
+check_in (mesh ∷ behind) =
+    option_and_then
+    (λ mesh. option_map (λ decimals. Check mesh decimals) (decimals_in behind)) (mesh_name_of mesh)
 check_in _ = None
 
--- The command that listed words name: `track MESH STEPS PREFIX`, `convert FROM TO`, `measure MESH LOG`, `prove MESH LOG`,
--- `verify MESH LOG PROOF`, `replay MESH LOG PREFIX` or `check MESH`, or one of these and `--decimals N`; `replay` too with `--only K` behind
--- that; or `try N KEY`.
+-- The command that listed words name: `track MESH STEPS PREFIX`, `convert FROM TO`, `measure MESH
+-- LOG`, `prove MESH LOG`, `verify MESH LOG PROOF`, `replay MESH LOG PREFIX` or `check MESH`, or one
+-- of these and `--decimals N`; `replay` too with `--only K` behind that; or `try N KEY`.
 abbrev pub named_in : List (List ℕ) → Option Named
 named_in [] = None
 named_in (first ∷ words) =

@@ -21,8 +21,8 @@ pub record StoresFirst (texts : NamedTexts) (old new : Contents) : Type 0 where
   pub split : texts ≡ done ++ rest
   pub stores : StoresAll done old new
 
--- the first of these are stored, perhaps none of them, and the desk failed at the next, of whose name nothing is said: each other name
--- holds what it held then; and nothing is written
+-- the first of these are stored, perhaps none of them, and the desk failed at the next, of whose
+-- name nothing is said: each other name holds what it held then; and nothing is written
 pub record FailsAtNext (texts : NamedTexts) (old new : Contents) : Type 0 where
   pub done : NamedTexts
   pub name : List ℕ
@@ -32,15 +32,17 @@ pub record FailsAtNext (texts : NamedTexts) (old new : Contents) : Type 0 where
   pub others : SameBut name (stored done old.files) new.files
   pub written : new.written ≡ old.written
 
--- it stops before the text that is written behind these: memory was wanting, or the desk failed, behind the first of them, or the desk
--- failed at one; the sink did not fail
+-- it stops before the text that is written behind these: memory was wanting, or the desk failed,
+-- behind the first of them, or the desk failed at one; the sink did not fail
 abbrev pub StopsStoring : Stop → NamedTexts → Contents → Contents → Type 0
 StopsStoring NoMemory texts old new = StoresFirst texts old new
 StopsStoring DeskFault texts old new = StoresFirst texts old new ⊎ FailsAtNext texts old new
 StopsStoring SinkFault texts old new = ⊥
 
--- all of these are stored, and the sink failed in the text that is written behind them: the first bytes of it are, perhaps none, and not all
-pub record StopsWriting (stop : Stop) (texts : NamedTexts) (text : List ℕ) (old new : Contents) : Type 0 where
+-- all of these are stored, and the sink failed in the text that is written behind them: the first
+-- bytes of it are, perhaps none, and not all
+pub record StopsWriting (stop : Stop) (texts : NamedTexts) (text : List ℕ)
+    (old new : Contents) : Type 0 where
   pub fault : stop ≡ SinkFault
   pub files : new.files ≡ stored texts old.files
   pub part : AppendsPart old.written new.written text
@@ -51,6 +53,7 @@ StoresTexts texts old new (Ok count) = StoresAll texts old new × (count ≡ len
 StoresTexts texts old new (Err stop) = StopsStoring stop texts old new
 
 -- the same, and faults are counted
-pub record StoresCounted (texts : NamedTexts) (old new : Around) (result : Result ℕ Stop) : Type 0 where
+pub record StoresCounted (texts : NamedTexts) (old new : Around)
+    (result : Result ℕ Stop) : Type 0 where
   pub stores : StoresTexts texts (holds_of old) (holds_of new) result
   pub counts : Counts old new result

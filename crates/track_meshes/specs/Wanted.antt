@@ -16,10 +16,12 @@ is_wanted (Some only) k = k == only
 
 -- the file that a line names, with the text of the replay's mesh there, if that mesh is stored
 abbrev pub wanted_at : Option ℕ → Target → Replay → LogLine → NamedTexts
-wanted_at only to r (MeshLine k vertices faces) = if is_wanted only k then file_at to r (MeshLine k vertices faces) else []
+wanted_at only to r (MeshLine k vertices faces) =
+    if is_wanted only k then file_at to r (MeshLine k vertices faces) else []
 wanted_at only to r _ = []
 
 -- the files that the lines name whose meshes are stored, in order
 abbrev pub wanted_of : Option ℕ → Target → Replay → List LogLine → NamedTexts
 wanted_of only to r [] = []
-wanted_of only to r (line ∷ lines) = wanted_at only to r line ++ wanted_of only to (replayed r line) lines
+wanted_of only to r (line ∷ lines) =
+    wanted_at only to r line ++ wanted_of only to (replayed r line) lines

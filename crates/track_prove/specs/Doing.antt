@@ -21,7 +21,8 @@ use Rattle.track_prove.specs.declared.telling.Report.TheVariants.{Refused, Text}
 use Rattle.track_prove.specs.declared.preparing.Given.{Given}
 use Rattle.track_prove.specs.declared.preparing.Given.TheVariants as given
 use Rattle.track_prove.specs.Proving.{ProveEnds}
-use Rattle.track_prove.specs.Verifying.{ProofJob, IsProofJob, ProofTexts, ProofInput, read_with_proof, proof_input_of_read, proof_input_of, VerifyEnds}
+use Rattle.track_prove.specs.Verifying.{ProofJob, IsProofJob, ProofTexts, ProofInput, read_with_proof}
+use Rattle.track_prove.specs.Verifying.{proof_input_of_read, proof_input_of, VerifyEnds}
 use Rattle.track_prove.specs.Headline.{IsSafe, IsSafeLog, IsSafeProof}
 
 -- the ending that is told, and its text
@@ -39,14 +40,17 @@ EndsWellWith (Refused why) told = ⊥
 EndsWellWith (Text text) told = text.items ≡ told
 
 -- how it ends, and that a log is safe where nothing is refused
-pub record IsReport (Ends : Option LogRefusal → List ℕ → Type 0) (Safe : Type 0) (found : Report) : Type 0 where
+pub record IsReport (Ends : Option LogRefusal → List ℕ → Type 0) (Safe : Type 0)
+    (found : Report) : Type 0 where
   pub ends : Ends (ending_of found) (text_told found)
   pub some : 0 < length (text_told found)
   pub safe : ending_of found ≡ None → Safe
 
 -- the lines of a log that begins with a mesh are proved
 abbrev pub ProvesLines : Mesh → List LogLine → Report → Type 0
-ProvesLines m lines found = let log : LogInput = record { mesh = m; lines = lines } in IsReport (ProveEnds (Ok log)) (IsSafe log) found
+ProvesLines m lines found =
+    let log : LogInput = record { mesh = m; lines = lines } in
+    IsReport (ProveEnds (Ok log)) (IsSafe log) found
 
 -- or what the files of two names give
 pub record ProvesFiles (files : Option Files) (names : LogNames) (found : Report) : Type 0 where
@@ -71,12 +75,14 @@ pub record VerifiesFiles (files : Option Files) (names : ProofNames) (found : Re
 -- what was prepared, as a job gives it
 abbrev pub input_by : Given → Result ProofInput LogRefusal
 input_by (given.No why) = Err why
-input_by (given.Yes mesh lines proofs) = Ok (record { log = record { mesh = mesh_in mesh; lines = lines }; proofs = proofs_view proofs })
+input_by (given.Yes mesh lines proofs) =
+    Ok (record { log = record { mesh = mesh_in mesh; lines = lines }; proofs = proofs_view proofs })
 
 -- the mesh is sound, closed and clear, the lines are few, and the certificates stand in order
 abbrev pub IsReady : Given → Type 0
 IsReady (given.No why) = Unit {0}
-IsReady (given.Yes mesh lines proofs) = IsValidSurface (mesh_in mesh) × ((length lines < 2 ^ 31) × AreProofs (proofs_view proofs))
+IsReady (given.Yes mesh lines proofs) =
+    IsValidSurface (mesh_in mesh) × ((length lines < 2 ^ 31) × AreProofs (proofs_view proofs))
 
 -- what a read mesh, a read log and a read proof give
 pub record GivesInput (read : Result ProofTexts LogRefusal) (found : Given) : Type 0 where

@@ -16,11 +16,13 @@ use Rattle.track_replay.specs.LogJob.{LogInput}
 use Rattle.track_replay.specs.Refused.{refused_text}
 use Rattle.track_prove.specs.Judged.{EndsJudged}
 
--- What is found of a motion, if there is one, where a certificate is to be made of it: nothing is against it where each pair passes, as its
--- kind claims; else the first pair that does not is missing.
+-- What is found of a motion, if there is one, where a certificate is to be made of
+-- it: nothing is against it where each pair passes, as its kind claims; else the
+-- first pair that does not is missing.
 abbrev pub MakesVerdict : Option Scaffold → Verdict → Type 0
 MakesVerdict motion Accepted = PassesWhereMoved motion
-MakesVerdict (Some motion) (Missing pair) = IsFirstFailing motion.mesh (motion_of motion) (claim_of motion.touch) pair
+MakesVerdict (Some motion) (Missing pair) =
+    IsFirstFailing motion.mesh (motion_of motion) (claim_of motion.touch) pair
 MakesVerdict _ _ = ⊥
 
 -- what is found of a line: what is found of the motion of which it tells
@@ -31,7 +33,8 @@ ProveFinds number s line verdict = MakesVerdict (moved_in s.replay line) verdict
 pub record IsProofOf (at : MotionAt) (p : ProofAt) : Type 0 where
   pub line : p.line ≡ at.line
   pub claim : p.proof.claim ≡ claim_of at.motion.touch
-  pub ruled : AreByRule at.motion.mesh (motion_of at.motion) (claim_of at.motion.touch) p.proof.entries
+  pub ruled :
+      AreByRule at.motion.mesh (motion_of at.motion) (claim_of at.motion.touch) p.proof.entries
 
 -- one for each motion, in order
 abbrev pub AreProofsOf : List MotionAt → List ProofAt → Type 0
@@ -50,8 +53,10 @@ abbrev pub IsProvedText : LogInput → Option LogRefusal → List ℕ → Type 0
 IsProvedText input None text = IsProofText input text
 IsProvedText input (Some why) text = text ≡ refused_text why
 
--- How it ends for what was given, and the text that is written in whole with that ending: the refusal of what was given; or the proof of
--- a log of which each line fits and each motion passes; or the refusal of the first line that does not.
+-- How it ends for what was given, and the text that is written in whole with that ending: the
+-- refusal of what was given; or the proof of a log of which each line fits and each motion passes;
+-- or the refusal of the first line that does not.
 abbrev pub ProveEnds : Result LogInput LogRefusal → Option LogRefusal → List ℕ → Type 0
 ProveEnds (Err why) ending text = (ending ≡ Some why) × (text ≡ refused_text why)
-ProveEnds (Ok input) ending text = EndsJudged ProveFinds None input.mesh input.lines ending × IsProvedText input ending text
+ProveEnds (Ok input) ending text =
+    EndsJudged ProveFinds None input.mesh input.lines ending × IsProvedText input ending text

@@ -16,7 +16,8 @@ use Rattle.track_prove.specs.declared.taking.Taken.{Taken}
 use Rattle.track_prove.specs.declared.taking.Taken.TheVariants.{Fits, Unfit, Bad}
 use Rattle.track_prove.specs.Proving.{IsProofOf}
 
--- A line fits, and nothing is against it; or it does not fit; or it fits, and a verdict is against it: by what is found of it.
+-- A line fits, and nothing is against it; or it does not fit; or it fits, and a verdict is
+-- against it: by what is found of it.
 abbrev pub IsTaken : (Verdict → Type 0) → LogState → LogLine → Taken → Type 0
 IsTaken Found s line Fits = LineFits s line × Found Accepted
 IsTaken Found s line Unfit = ¬ (LineFits s line)
@@ -28,7 +29,8 @@ IsFitOrNot s line Fits = LineFits s line
 IsFitOrNot s line Unfit = ¬ (LineFits s line)
 IsFitOrNot s line (Bad verdict) = ⊥
 
--- no line is taken: it does not fit, or there is no motion against it, or no certificate for its motion
+-- no line is taken: it does not fit, or there is no motion against it,
+-- or no certificate for its motion
 abbrev pub IsDenied : LogState → LogLine → Taken → Type 0
 IsDenied s line Fits = ⊥
 IsDenied s line Unfit = ¬ (LineFits s line)
@@ -43,7 +45,8 @@ pub record IsMadeHere (s : LogState) (line : LogLine) (made : Made) : Type 0 whe
   pub certified : IsCertified s line (Some made)
 
 -- this is found of the certificate for the motion of the line
-pub record IsJudgedHere (s : LogState) (line : LogLine) (at : ProofAt) (verdict : Verdict) : Type 0 where
+pub record IsJudgedHere (s : LogState) (line : LogLine) (at : ProofAt)
+    (verdict : Verdict) : Type 0 where
   pub judged : IsJudged s line at.proof.claim at.proof.entries (Some verdict)
 
 -- the replay has taken the line, which was safe, and stays one of sound, closed and clear meshes
@@ -55,7 +58,9 @@ pub record Goes (s : LogState) (line : LogLine) (next : LogState) : Type 0 where
 -- the certificates with that of a motion, if there is one, at their end
 abbrev pub AddsProof : ℕ → Option Scaffold → List ProofAt → List ProofAt → Type 0
 AddsProof number None old new = new ≡ old
-AddsProof number (Some motion) old new = (p : ProofAt) × (IsProofOf (record { line = number; motion = motion }) p × (new ≡ old ++ p ∷ []))
+AddsProof number (Some motion) old new =
+    (p : ProofAt)
+    × (IsProofOf (record { line = number; motion = motion }) p × (new ≡ old ++ p ∷ []))
 
 -- the first certificate, where it is that of the line with this number
 abbrev pub front_at : List PlainProof → ℕ → Option PlainProof

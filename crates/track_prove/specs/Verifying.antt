@@ -37,24 +37,29 @@ proof_at proofs number = find (λ p. p.line == number) proofs
 abbrev pub beyond : ℕ → List PlainProof → Option ℕ
 beyond count proofs = option_map (λ p. p.line) (find (λ p. nat_lt count p.line) proofs)
 
--- The verdict on the entries of a certificate of a motion as a text tells of them: it is that wherever their trees lie in memory.
-pub record IsVerdictOn (motion : Scaffold) (told : List PlainEntry) (verdict : Verdict) : Type 0 where
+-- The verdict on the entries of a certificate of a motion as a text tells of them: it is that
+-- wherever their trees lie in memory.
+pub record IsVerdictOn (motion : Scaffold) (told : List PlainEntry)
+    (verdict : Verdict) : Type 0 where
   pub entries : List Entry
   pub told_are : entries_view entries ≡ told
   pub verdict_is : IsVerdict motion.mesh (motion_of motion) (claim_of motion.touch) entries verdict
 
--- What is found of a motion and of a certificate, where there are such: each without the other is refused, and so is a certificate of
--- another claim than the motion asks for; else it is the verdict on the certificate's entries.
+-- What is found of a motion and of a certificate, where there are such: each without the other is
+-- refused, and so is a certificate of another claim than the motion asks for; else it is the
+-- verdict on the certificate's entries.
 abbrev pub FoundOf : Option Scaffold → Option PlainProof → Verdict → Type 0
 FoundOf None None verdict = verdict ≡ Accepted
 FoundOf None (Some p) verdict = verdict ≡ NoMotion
 FoundOf (Some motion) None verdict = verdict ≡ NoMotion
 FoundOf (Some motion) (Some p) NoMotion = ¬ (p.claim ≡ claim_of motion.touch)
-FoundOf (Some motion) (Some p) verdict = (p.claim ≡ claim_of motion.touch) × IsVerdictOn motion p.entries verdict
+FoundOf (Some motion) (Some p) verdict =
+    (p.claim ≡ claim_of motion.touch) × IsVerdictOn motion p.entries verdict
 
 -- what is found of a line: of the motion of which it tells, and the certificate at its number
 abbrev pub VerifyFinds : List PlainProof → ℕ → LogState → LogLine → Verdict → Type 0
-VerifyFinds proofs number s line verdict = FoundOf (moved_in s.replay line) (proof_at proofs number) verdict
+VerifyFinds proofs number s line verdict =
+    FoundOf (moved_in s.replay line) (proof_at proofs number) verdict
 
 -- ---- what was given
 
@@ -83,8 +88,9 @@ pub record ProofInput : Type 0 where
   pub log : LogInput
   pub proofs : List PlainProof
 
--- ---- what is given, or the first refusal that applies: the files of the mesh, of the log and of the proof are fetched, the texts of the
--- mesh and of the log are read, and then that of the proof, and the mesh is tested for a pair that meets
+-- ---- what is given, or the first refusal that applies: the files of the mesh, of the log and of
+-- the proof are fetched, the texts of the mesh and of the log are read, and then that of the proof,
+-- and the mesh is tested for a pair that meets
 
 abbrev pub fetched_with_proof : Result BothTexts LogRefusal → Source → Result ProofBytes LogRefusal
 fetched_with_proof (Err why) proof = Err why
@@ -92,14 +98,17 @@ fetched_with_proof (Ok both) (TooLong seen) = Err (Input (refusal.Long file.Proo
 fetched_with_proof (Ok both) Absent = Err (Input (refusal.Missing file.Proof))
 fetched_with_proof (Ok both) (Bytes proof) = Ok (record { both = both; proof = proof })
 
-abbrev pub read_with_proof : Result TextsRead LogRefusal → Result (List PlainProof) TextFault → Result ProofTexts LogRefusal
+abbrev pub read_with_proof : Result TextsRead LogRefusal → Result (List PlainProof) TextFault →
+    Result ProofTexts LogRefusal
 read_with_proof (Err why) proofs = Err why
 read_with_proof (Ok texts) (Err fault) = Err (Proof fault)
 read_with_proof (Ok texts) (Ok proofs) = Ok (record { texts = texts; proofs = proofs })
 
 abbrev pub read_of_bytes : ℕ → Result ProofBytes LogRefusal → Result ProofTexts LogRefusal
 read_of_bytes decimals (Err why) = Err why
-read_of_bytes decimals (Ok bytes) = read_with_proof (read_of_lists (lists_of decimals bytes.both.mesh) bytes.both.log) (proofs_of bytes.proof)
+read_of_bytes decimals (Ok bytes) =
+    read_with_proof (read_of_lists (lists_of decimals bytes.both.mesh) bytes.both.log)
+    (proofs_of bytes.proof)
 
 abbrev pub with_proofs : Result LogInput LogRefusal → List PlainProof → Result ProofInput LogRefusal
 with_proofs (Err why) proofs = Err why
@@ -128,11 +137,15 @@ verify_text log (Some why) = refused_text why
 
 -- how the lines end, each judged by the proof
 abbrev pub EndsVerified : ProofInput → Option LogRefusal → Type 0
-EndsVerified input ending = EndsJudged (VerifyFinds input.proofs) (beyond (length input.log.lines) input.proofs) input.log.mesh input.log.lines ending
+EndsVerified input ending =
+    EndsJudged (VerifyFinds input.proofs)
+    (beyond (length input.log.lines) input.proofs) input.log.mesh input.log.lines ending
 
--- How it ends for what was given, and the text that is written in whole with that ending: the refusal of what was given; or the number of
--- the motions of a log of which each line fits and each motion is proved; or the refusal of the first line that does not, or of the
--- first motion of the proof behind the log.
+-- How it ends for what was given, and the text that is written in whole with that ending: the
+-- refusal of what was given; or the number of the motions of a log of which each line fits and
+-- each motion is proved; or the refusal of the first line that does not, or of the first
+-- motion of the proof behind the log.
 abbrev pub VerifyEnds : Result ProofInput LogRefusal → Option LogRefusal → List ℕ → Type 0
 VerifyEnds (Err why) ending text = (ending ≡ Some why) × (text ≡ refused_text why)
-VerifyEnds (Ok input) ending text = EndsVerified input ending × (text ≡ verify_text input.log ending)
+VerifyEnds (Ok input) ending text =
+    EndsVerified input ending × (text ≡ verify_text input.log ending)

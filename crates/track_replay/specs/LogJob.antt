@@ -1,4 +1,5 @@
--- A mesh and a log that is said to begin with it: two files and the decimals of the points, and what they give.
+-- A mesh and a log that is said to begin with it: two files and the decimals
+-- of the points, and what they give.
 use Rattle.std.specs.Prelude.{◌≡◌, ℕ, List, length, Option, Some, None, Result, Ok, Err}
 use Rattle.mesh_base.specs.declared.PairName.{PairName}
 use Rattle.mesh_base.specs.declared.ShapeFault.{ShapeFault}
@@ -39,14 +40,15 @@ pub record TextsRead : Type 0 where
   pub lists : Lists
   pub lines : List LogLine
 
--- what a job gives of which nothing is refused before its lines are taken: a mesh of which no edge meets a face that shares no vertex
--- with it, and the lines of a log
+-- what a job gives of which nothing is refused before its lines are taken: a mesh of which no edge
+-- meets a face that shares no vertex with it, and the lines of a log
 pub record LogInput : Type 0 where
   pub mesh : Mesh
   pub lines : List LogLine
 
--- ---- what is given, or the first refusal that applies, in the order in which the work is done: both files are fetched, the mesh's text
--- is read, its shape is tested, the log's text is read, and the mesh is tested for a pair that meets
+-- ---- what is given, or the first refusal that applies, in the order in which the work is done:
+-- both files are fetched, the mesh's text is read, its shape is tested, the log's text is read, and
+-- the mesh is tested for a pair that meets
 
 abbrev pub read_of_log : Lists → Result (List LogLine) TextFault → Result TextsRead LogRefusal
 read_of_log lists (Err fault) = Err (Log fault)
@@ -58,7 +60,8 @@ read_of_shape lists None log = read_of_log lists (log_of log)
 
 abbrev pub read_of_lists : Result Lists TextFault → List ℕ → Result TextsRead LogRefusal
 read_of_lists (Err fault) log = Err (Input (refusal.Mesh fault))
-read_of_lists (Ok lists) log = read_of_shape lists (shape_fault (length lists.points) lists.faces) log
+read_of_lists (Ok lists) log =
+    read_of_shape lists (shape_fault (length lists.points) lists.faces) log
 
 -- the bytes of both files, or the first of the two that is missing or too long
 abbrev pub fetched_of : Source → Source → Result BothTexts LogRefusal
@@ -86,7 +89,8 @@ input_of_test m None lines = Ok (record { mesh = m; lines = lines })
 
 abbrev pub input_of_read : Result TextsRead LogRefusal → Result LogInput LogRefusal
 input_of_read (Err why) = Err why
-input_of_read (Ok texts) = let m = mesh_of_lists texts.lists in input_of_test m (met_first m) texts.lines
+input_of_read (Ok texts) =
+    let m = mesh_of_lists texts.lists in input_of_test m (met_first m) texts.lines
 
 -- the mesh and the log of a job
 abbrev pub input_of : LogJob → Result LogInput LogRefusal

@@ -11,10 +11,13 @@ use Rattle.log_run.specs.Laws.{StepIsClear}
 use Rattle.log_run.specs.States.{LogState}
 use Rattle.track_replay.specs.Taking.{StepPasses, FitsTested}
 
--- where a step is begun, no pair of its motion fails exactly where this is so, and then the motion is clear
+-- where a step is begun, no pair of its motion fails exactly where this is
+-- so, and then the motion is clear
 pub record StepIsTested (s : LogState) (passes : Bool) : Type 0 where
-  pub exact : s.is_begun ≡ true → IsTrue passes ↔ (failing meets_exactly s.replay.mesh s.replay.moves DEPTH_MAX ≡ [])
-  pub clear : s.is_begun ≡ true → IsTrue passes → IsClearAlong s.replay.mesh (moved_by s.replay.mesh s.replay.moves)
+  pub exact : s.is_begun ≡ true →
+      IsTrue passes ↔ (failing meets_exactly s.replay.mesh s.replay.moves DEPTH_MAX ≡ [])
+  pub clear : s.is_begun ≡ true → IsTrue passes →
+      IsClearAlong s.replay.mesh (moved_by s.replay.mesh s.replay.moves)
 
 -- if the line fits and ends a step, no pair of the step's motion fails, and the motion is clear
 pub record StepGoes (s : LogState) (l : LogLine) : Type 0 where

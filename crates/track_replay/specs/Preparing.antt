@@ -16,7 +16,8 @@ use Rattle.track_replay.specs.declared.preparing.Texts.{Texts}
 use Rattle.track_replay.specs.declared.preparing.Texts.TheVariants as texts
 use Rattle.track_replay.specs.declared.preparing.Prepared.{Prepared}
 use Rattle.track_replay.specs.declared.preparing.Prepared.TheVariants as prepared
-use Rattle.track_replay.specs.LogJob.{LogJob, IsLogJob, TextsRead, LogInput, read_of_log, read_of_lists, input_of_test, input_of_read, input_of}
+use Rattle.track_replay.specs.LogJob.{LogJob, IsLogJob, TextsRead, LogInput, read_of_log}
+use Rattle.track_replay.specs.LogJob.{read_of_lists, input_of_test, input_of_read, input_of}
 
 -- what was read, as a job gives it
 abbrev pub read_by : Texts → Result TextsRead LogRefusal

@@ -20,11 +20,13 @@ verdict_words (Missing pair) = codes "missing" ∷ pair_words pair
 abbrev pub motion_text : ℕ → List (List ℕ) → List ℕ
 motion_text line found = line_of_words (codes "refused" ∷ codes "motion" ∷ decimal line ∷ found)
 
--- `refused` and what is refused: of what was given as a log tells it, `log LINE WHY`, `proof LINE WHY`, `replay LINE`, or `motion LINE` and
--- what is found of it
+-- `refused` and what is refused: of what was given as a log tells it, `log LINE WHY`, `proof LINE
+-- WHY`, `replay LINE`, or `motion LINE` and what is found of it
 abbrev pub refused_text : LogRefusal → List ℕ
 refused_text (Input why) = text_of_line (Refused why)
-refused_text (Log fault) = line_of_words (codes "refused" ∷ codes "log" ∷ decimal fault.line ∷ why_word fault.why ∷ [])
-refused_text (Proof fault) = line_of_words (codes "refused" ∷ codes "proof" ∷ decimal fault.line ∷ why_word fault.why ∷ [])
+refused_text (Log fault) =
+    line_of_words (codes "refused" ∷ codes "log" ∷ decimal fault.line ∷ why_word fault.why ∷ [])
+refused_text (Proof fault) =
+    line_of_words (codes "refused" ∷ codes "proof" ∷ decimal fault.line ∷ why_word fault.why ∷ [])
 refused_text (Replay line) = line_of_words (codes "refused" ∷ codes "replay" ∷ decimal line ∷ [])
 refused_text (Motion line verdict) = motion_text line (verdict_words verdict)

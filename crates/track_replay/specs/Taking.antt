@@ -32,7 +32,8 @@ EachFits Fits s [] = ⊤
 EachFits Fits s (line ∷ lines) = Fits s line × EachFits Fits (with_line s line) lines
 
 -- the line of this number is the first of the lines that does not fit
-pub record IsFirstUnfit (Fits : LogState → LogLine → Type 0) (s : LogState) (lines : List LogLine) (number : ℕ) : Type 0 where
+pub record IsFirstUnfit (Fits : LogState → LogLine → Type 0) (s : LogState) (lines : List LogLine)
+    (number : ℕ) : Type 0 where
   pub front : List LogLine
   pub line : LogLine
   pub rest : List LogLine
@@ -51,6 +52,7 @@ abbrev pub IsUnfitAt : (LogState → LogLine → Type 0) → LogState → List L
 IsUnfitAt Fits s lines number = HasNoLine lines number ⊎ IsFirstUnfit Fits s lines number
 
 -- there are lines, and each of them fits
-pub record AllFit (Fits : LogState → LogLine → Type 0) (s : LogState) (lines : List LogLine) : Type 0 where
+pub record AllFit (Fits : LogState → LogLine → Type 0) (s : LogState)
+    (lines : List LogLine) : Type 0 where
   pub some : ¬ (lines ≡ [])
   pub each : EachFits Fits s lines

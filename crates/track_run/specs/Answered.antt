@@ -14,7 +14,8 @@ use Rattle.track_engine.specs.Saved.{Target}
 use Rattle.track_engine.specs.World.{Contents, Follows}
 use Rattle.track_run.specs.Job.{log_of_test}
 
--- the directives of what was read are answered so, from where they begin, if no pair of its mesh meets
+-- the directives of what was read are answered so, from where they
+-- begin, if no pair of its mesh meets
 abbrev pub IsInputAnswered : Known → Bool → Answers → Result Input Refusal → Type 0
 IsInputAnswered fields whole answers (Err why) = Unit {0}
 IsInputAnswered fields whole answers (Ok input) =
@@ -24,13 +25,15 @@ IsInputAnswered fields whole answers (Ok input) =
 -- ---- what parts of a run do, as the fields and the sizing answer
 
 -- the mesh is saved and the directives are followed
-pub record FollowsMesh (fields : Known) (to : Target) (m : Mesh) (steps : List Placed) (old new : Contents) (result : Result (Option Refusal) Stop) : Type 0 where
+pub record FollowsMesh (fields : Known) (to : Target) (m : Mesh) (steps : List Placed)
+    (old new : Contents) (result : Result (Option Refusal) Stop) : Type 0 where
   pub answers : Answers
   pub answered : AreAnswered fields (is_ok result) answers steps (start m)
   pub follows : Follows to (at_mesh m) (log_of_mesh answers m steps) old new result
 
 -- the mesh is tested, and then the same, where no pair meets
-pub record FollowsTest (fields : Known) (to : Target) (m : Mesh) (steps : List Placed) (old new : Contents) (result : Result (Option Refusal) Stop) : Type 0 where
+pub record FollowsTest (fields : Known) (to : Target) (m : Mesh) (steps : List Placed)
+    (old new : Contents) (result : Result (Option Refusal) Stop) : Type 0 where
   pub answers : Answers
   pub answered : met_first m ≡ None → AreAnswered fields (is_ok result) answers steps (start m)
   pub follows : Follows to (at_mesh m) (log_of_test answers m steps (met_first m)) old new result

@@ -47,7 +47,8 @@ pub record HasClear (job : Job) (lists : Lists) (directives : List Placed) : Typ
   pub clear : met_first (mesh_of_lists lists) ≡ None
   pub none_meets : IsClearMesh (mesh_of_lists lists)
 
--- the pair is the first that meets: it is a pair of the mesh and meets, and none that meets comes before it
+-- the pair is the first that meets: it is a pair of the mesh and meets,
+-- and none that meets comes before it
 pub record MeetsFirst (m : Mesh) (pair : PairName) : Type 0 where
   pub found : met_first m ≡ Some pair
   pub meets : IsMeeting m pair
@@ -57,7 +58,9 @@ pub record MeetsFirst (m : Mesh) (pair : PairName) : Type 0 where
 abbrev pub Reaches : Answers → State → List Placed → State → Type 0
 Reaches answers s [] t = s ≡ t
 Reaches answers s (placed ∷ more) t =
-    (lines : List LogLine) × (next : State) × (effect_of (first answers) placed.what s ≡ Proceeds lines next) × Reaches (later answers) next more t
+    (lines : List LogLine) × (next : State)
+    × (effect_of (first answers) placed.what s ≡ Proceeds lines next)
+    × Reaches (later answers) next more t
 
 -- the answers to the directives after these
 abbrev pub answers_after : List Placed → Answers → Answers
@@ -65,7 +68,8 @@ answers_after [] answers = answers
 answers_after (placed ∷ more) answers = answers_after more (later answers)
 
 -- the directives before one are all taken, and that one, at this line of the step file, is refused
-pub record IsRefusedAt (answers : Answers) (s : State) (directives : List Placed) (line : ℕ) (why : UseWhy) : Type 0 where
+pub record IsRefusedAt (answers : Answers) (s : State) (directives : List Placed) (line : ℕ)
+    (why : UseWhy) : Type 0 where
   pub front : List Placed
   pub placed : Placed
   pub rest : List Placed
@@ -75,12 +79,15 @@ pub record IsRefusedAt (answers : Answers) (s : State) (directives : List Placed
   pub refused : effect_of (first (answers_after front answers)) placed.what state ≡ Refused why
   pub line_is : line ≡ placed.line
 
--- Why a job has an outcome, by what fields and the sizing answer to its directives. Each cause holds what must have gone well before it, so no job has
--- two.
+-- Why a job has an outcome, by what fields and the sizing answer to its directives. Each cause
+-- holds what must have gone well before it, so no job has two.
 abbrev pub Cause : Job → Answers → Outcome → Type 0
-Cause job answers outcome.Done = (lists : Lists) × (directives : List Placed) × HasClear job lists directives × (end : State) × Reaches answers (start (mesh_of_lists lists)) directives end
+Cause job answers outcome.Done =
+    (lists : Lists) × (directives : List Placed) × HasClear job lists directives × (end : State)
+    × Reaches answers (start (mesh_of_lists lists)) directives end
 Cause job answers (outcome.TooLong file.Mesh seen) = job.mesh_file ≡ TooLong seen
-Cause job answers (outcome.TooLong file.Steps seen) = IsThere job.mesh_file × (job.step_file ≡ TooLong seen)
+Cause job answers (outcome.TooLong file.Steps seen) =
+    IsThere job.mesh_file × (job.step_file ≡ TooLong seen)
 Cause job answers (outcome.Missing file.Mesh) = job.mesh_file ≡ Absent
 Cause job answers (outcome.Missing file.Steps) = IsThere job.mesh_file × (job.step_file ≡ Absent)
 -- a job has no log and no proof of one
@@ -88,11 +95,20 @@ Cause job answers (outcome.TooLong file.Log seen) = ⊥
 Cause job answers (outcome.TooLong file.Proof seen) = ⊥
 Cause job answers (outcome.Missing file.Log) = ⊥
 Cause job answers (outcome.Missing file.Proof) = ⊥
-Cause job answers (outcome.MeshText fault) = (bytes : List ℕ) × (job.mesh_file ≡ Bytes bytes) × IsThere job.step_file × (lists_of job.decimals bytes ≡ Err fault)
-Cause job answers (outcome.MeshShape fault) = (lists : Lists) × (steps : List ℕ) × HasLists job lists steps × (shape_fault (length lists.points) lists.faces ≡ Some fault)
-Cause job answers (outcome.StepText fault) = (lists : Lists) × (steps : List ℕ) × HasMesh job lists steps × (steps_of steps ≡ Err fault)
-Cause job answers (outcome.StepUse line why) = (lists : Lists) × (directives : List Placed) × HasClear job lists directives × IsRefusedAt answers (start (mesh_of_lists lists)) directives line why
-Cause job answers (outcome.MeshMeets pair) = (lists : Lists) × (directives : List Placed) × HasSteps job lists directives × MeetsFirst (mesh_of_lists lists) pair
+Cause job answers (outcome.MeshText fault) =
+    (bytes : List ℕ) × (job.mesh_file ≡ Bytes bytes) × IsThere job.step_file
+    × (lists_of job.decimals bytes ≡ Err fault)
+Cause job answers (outcome.MeshShape fault) =
+    (lists : Lists) × (steps : List ℕ) × HasLists job lists steps
+    × (shape_fault (length lists.points) lists.faces ≡ Some fault)
+Cause job answers (outcome.StepText fault) =
+    (lists : Lists) × (steps : List ℕ) × HasMesh job lists steps × (steps_of steps ≡ Err fault)
+Cause job answers (outcome.StepUse line why) =
+    (lists : Lists) × (directives : List Placed) × HasClear job lists directives
+    × IsRefusedAt answers (start (mesh_of_lists lists)) directives line why
+Cause job answers (outcome.MeshMeets pair) =
+    (lists : Lists) × (directives : List Placed) × HasSteps job lists directives
+    × MeetsFirst (mesh_of_lists lists) pair
 Cause job answers (outcome.LogText fault) = ⊥
 Cause job answers (outcome.LogUse line) = ⊥
 Cause job answers (outcome.ProofText fault) = ⊥

@@ -27,10 +27,12 @@ pub record IsHeld (files : Option Files) (name bytes : List ℕ) : Type 0 where
   pub file : get told name ≡ Some bytes
   pub small : length bytes ≤ TEXT_MAX
 
--- Nothing of the job of two names is refused, where the desk tells these files: both are there, no longer than a text may be, and are read
--- without a fault; the mesh is of good shape, and no edge of it meets a face that shares no vertex with it; and each directive is taken,
--- whatever the fields and the sizing may answer.
-pub record IsLawful (fields : Known) (files : Option Files) (mesh_name step_name : List ℕ) (decimals : ℕ) : Type 0 where
+-- Nothing of the job of two names is refused, where the desk tells these files: both are there, no
+-- longer than a text may be, and are read without a fault; the mesh is of good shape, and no edge
+-- of it meets a face that shares no vertex with it; and each directive is taken, whatever the
+-- fields and the sizing may answer.
+pub record IsLawful (fields : Known) (files : Option Files) (mesh_name step_name : List ℕ)
+    (decimals : ℕ) : Type 0 where
   pub mesh : List ℕ
   pub steps : List ℕ
   pub mesh_file : IsHeld files mesh_name mesh
@@ -41,7 +43,8 @@ pub record IsLawful (fields : Known) (files : Option Files) (mesh_name step_name
   pub clear : IsClearMesh (mesh_of_lists lists)
   pub directives : List Placed
   pub directed : steps_of steps ≡ Ok directives
-  pub taken : (answers : Answers) → AreAnswered fields true answers directives (start (mesh_of_lists lists))
+  pub taken : (answers : Answers)
+      → AreAnswered fields true answers directives (start (mesh_of_lists lists))
       → (end : State) × Reaches answers (start (mesh_of_lists lists)) directives end
 
 -- neither side has failed; a count of faults that stands at its end can't tell
@@ -53,7 +56,8 @@ pub record NoneFailed (old new : World) : Type 0 where
 abbrev pub LawfulJobsAreDone : Known → Type 0
 LawfulJobsAreDone fields =
     (mesh_name step_name : List ℕ) (to : Target) (result : Outcome) (old new : World)
-    → TracksCommand fields mesh_name step_name to result old new → IsLawful fields old.holds.files mesh_name step_name to.decimals
+    → TracksCommand fields mesh_name step_name to result old new
+    → IsLawful fields old.holds.files mesh_name step_name to.decimals
     → NoneFailed old new
     → (result ≡ Done) ⊎ (result ≡ NoMemory)
 

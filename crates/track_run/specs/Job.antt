@@ -20,10 +20,12 @@ log_of_test answers m steps None = log_of_mesh answers m steps
 -- the log of what was read: the refusal, or the test of the mesh, and then the directives
 abbrev pub log_of_input : Answers → Result Input Refusal → ExpectedLog
 log_of_input answers (Err why) = refused why
-log_of_input answers (Ok input) = let m = mesh_of_lists input.lists in log_of_test answers m input.steps (met_first m)
+log_of_input answers (Ok input) =
+    let m = mesh_of_lists input.lists in log_of_test answers m input.steps (met_first m)
 
--- The log of a job, as far as its directives are answered, and how it ends: it is the whole log, or cut short before the first drive that
--- is not answered, or in the first pass by the sizing that is not answered to its end.
+-- The log of a job, as far as its directives are answered, and how it ends: it is the whole log,
+-- or cut short before the first drive that is not answered, or in the first pass by the sizing
+-- that is not answered to its end.
 abbrev pub log_of : Job → Answers → ExpectedLog
 log_of job answers = with_log (First VERSION ∷ []) (log_of_input answers (input_of job))
 

@@ -23,9 +23,11 @@ pub record IsReached (job : Job) (answers : Answers) (s : State) : Type 0 where
   pub split : directives ≡ front ++ rest
   pub reached : Reaches answers (start (mesh_of_lists lists)) front s
 
--- What holds where a run stands before the directives to come, to which the answers to come are left: the log is the lines so far and then
--- theirs, the replay of the lines so far stands there too, and the settings are within their limits.
-pub record AgreesWithReplay (job : Job) (answers : Answers) (s : State) (rest : List Placed) (left : Answers) : Type 0 where
+-- What holds where a run stands before the directives to come, to which the answers to come are
+-- left: the log is the lines so far and then theirs, the replay of the lines so far stands there
+-- too, and the settings are within their limits.
+pub record AgreesWithReplay (job : Job) (answers : Answers) (s : State) (rest : List Placed)
+    (left : Answers) : Type 0 where
   pub so_far : List LogLine
   pub log : (log_of job answers).lines ≡ so_far ++ (log_from left rest s).lines
   pub replay : after (replay_of job) so_far ≡ standing s

@@ -20,7 +20,8 @@ use Rattle.track_engine.specs.Effects.{log_of_mesh}
 
 -- ---- the job's log, and where its replay leads
 
--- the whole log of a job of a mesh and directives where no field is stored: its first line, and the log from the first mesh that is saved on
+-- the whole log of a job of a mesh and directives where no field is stored: its first line, and the
+-- log from the first mesh that is saved on
 abbrev pub whole_log : Mesh → List Placed → List LogLine
 whole_log m steps = First VERSION ∷ (log_of_mesh (without_fields steps) m steps).lines
 
@@ -80,10 +81,12 @@ job_text n key =
 -- the lines that tell the steps, those of them that were taken whole, and the splits
 abbrev pub kinds_text : Counts → List ℕ
 kinds_text counts =
-    line_of_words (codes "steps" ∷ count_word counts.steps ∷ codes "whole" ∷ count_word counts.whole_steps ∷ [])
+    line_of_words
+    (codes "steps" ∷ count_word counts.steps ∷ codes "whole" ∷ count_word counts.whole_steps ∷ [])
     ++ line_of_words (codes "splits" ∷ count_word counts.splits ∷ [])
 
--- the line that tells where vertex 1 stands; where it does not live nothing is told of it, and there is no such line
+-- the line that tells where vertex 1 stands; where it does not live nothing is told
+-- of it, and there is no such line
 abbrev pub corner_text : Option Point → List ℕ
 corner_text (Some p) = line_of_words (codes "corner" ∷ point_words p)
 corner_text None = []
@@ -100,7 +103,8 @@ length_text counts = line_of_words (codes "lines" ∷ count_word counts.lines �
 
 -- a summary: the job, the counts of its log, and the mesh at its end
 abbrev pub summary_text : ℕ → ℕ → Counts → Mesh → List ℕ
-summary_text n key counts m = job_text n key ++ kinds_text counts ++ end_text m ++ length_text counts
+summary_text n key counts m =
+    job_text n key ++ kinds_text counts ++ end_text m ++ length_text counts
 
 -- the summary of the job of cubes, by its log and by the mesh to which the replay of the log leads
 unfoldable pub summary_of : ℕ → ℕ → List ℕ

@@ -16,8 +16,8 @@ counts_in text = record {
   splits = splits_in text;
 }
 
--- A job of this mesh and these directives was run: a sink was given the text of its whole log, and the mesh is that to which the replay
--- of the log leads.
+-- A job of this mesh and these directives was run: a sink was given the text of its whole log, and
+-- the mesh is that to which the replay of the log leads.
 pub record HasRun (m : Mesh) (steps : List Placed) (told : List ℕ) (now : Mesh) : Type 0 where
   pub log : told ≡ text_of_lines (whole_log m steps)
   pub mesh : now ≡ (after (at_mesh m) (whole_log m steps)).mesh
