@@ -10,7 +10,7 @@ ghost use Rattle.mesh_base.specs.Kept.{BeginsWith};
 ghost use Rattle.edit_collapse.specs.Collapse.{are_both_solid, collapse_mesh, collapse_point, collapse_scaffold};
 ghost use Rattle.edit_base.specs.Scaffold.{first_failing, move_from_rest};
 ghost use Rattle.edit_collapse.specs.Answer.{answer_of, collapse_answer};
-ghost use Rattle.edit_base.specs.Clauses.{mesh_after_call, MovesClearOnDone, OnOkIs};
+ghost use Rattle.edit_base.specs.Clauses.{mesh_after_call, KeepsOnNo, MovesClearOnDone, OnOkIs};
 ghost use Rattle.edit_collapse.specs.Done.{collapse_result, collapse_tested_on};
 ghost use Rattle.edit_check.specs.Untouched.{MoveFits};
 ghost use Rattle.edit_collapse.specs.Tried.{left_at, MayBeTried};
@@ -100,6 +100,7 @@ fn apply_or_roll_back<S: Surface>(
     ensures made { OnOk result (S.mesh mesh.new ≡ collapse_mesh (S.mesh mesh.old) a b at) }
     ensures left { OnErr result (S.mesh mesh.new ≡ S.mesh mesh.old) }
     ensures marks { BeginsWith (S.kept mesh.new) (S.kept mesh.old) }
+    ensures kept { OnErr result (S.kept mesh.new ≡ S.kept mesh.old) }
 {
     let mark = mesh.mark()?;
     let done = apply_collapse(alloc, mesh, a, b, left, at);
@@ -127,6 +128,7 @@ fn collapse_or_leave<S: Surface>(
     ensures answer { OnOkIs result (answer_of meets_exactly (S.mesh mesh.old) a b depth) }
     ensures mesh { S.mesh mesh.new ≡ mesh_after_call collapse_result (S.mesh mesh.old) result }
     ensures marks { BeginsWith (S.kept mesh.new) (S.kept mesh.old) }
+    ensures kept { KeepsOnNo result (S.kept mesh.new) (S.kept mesh.old) }
 {
     let at = collapse_point(mesh, a, b);
     match first_hit(alloc, mesh, a, b, at, depth)? {
@@ -155,6 +157,7 @@ fn collapse_movable<S: Surface>(
     ensures answer { OnOkIs result (answer_of meets_exactly (S.mesh mesh.old) a b depth) }
     ensures mesh { S.mesh mesh.new ≡ mesh_after_call collapse_result (S.mesh mesh.old) result }
     ensures marks { BeginsWith (S.kept mesh.new) (S.kept mesh.old) }
+    ensures kept { KeepsOnNo result (S.kept mesh.new) (S.kept mesh.old) }
 {
     let left = left_at(alloc, mesh, a, b)?;
     let doubled = is_doubled(&left);
@@ -183,6 +186,7 @@ fn collapse_ordered<S: Surface>(
     ensures answer { OnOkIs result (answer_of meets_exactly (S.mesh mesh.old) a b depth) }
     ensures mesh { S.mesh mesh.new ≡ mesh_after_call collapse_result (S.mesh mesh.old) result }
     ensures marks { BeginsWith (S.kept mesh.new) (S.kept mesh.old) }
+    ensures kept { KeepsOnNo result (S.kept mesh.new) (S.kept mesh.old) }
 {
     if !is_edge(mesh, a, b) {
         return Ok(Edit::No(Why::NoEdge));
@@ -202,8 +206,8 @@ fn collapse_ordered<S: Surface>(
 /// The answer is exact. It is Done with the edge, smaller end first, and its point; or No with the first reason that holds:
 /// the ids are no edge, both are solid, two faces of the result would be equal up to rotation, it would pass a limit, or, of
 /// all pairs in order, the first that does not pass, or close where one member holds the one end and the other the other,
-/// to the depth, while both ends go to the point. After No, and where memory is wanting, the mesh is as it was, next ids included. What
-/// was kept stays.
+/// to the depth, while both ends go to the point. After No, and where memory is wanting, the mesh is as it was, next
+/// ids included, and so is what was kept.
 ///
 /// A collapse keeps the mesh closed and clear, and no pair meets at any fraction of that motion but its end. After the edge
 /// collapse of El Topo (Brochu and Bridson 2009).
@@ -226,6 +230,7 @@ pub fn collapse<S: Surface>(
     ensures motion { IfOk result
         (λ edit. MovesClearOnDone collapse_tested_on (S.mesh mesh.old) edit) }
     ensures marks { BeginsWith (S.kept mesh.new) (S.kept mesh.old) }
+    ensures kept { KeepsOnNo result (S.kept mesh.new) (S.kept mesh.old) }
 {
     if a <= b {
         collapse_ordered(alloc, mesh, a, b, depth)

@@ -5,7 +5,7 @@ ghost use Rattle.grid_decided.specs.Decided.{meets_exactly};
 ghost use Rattle.mesh_base.specs.Sides.{IsClosed};
 ghost use Rattle.mesh_base.specs.Placements.{IsClearMesh};
 ghost use Rattle.mesh_base.specs.Kept.{BeginsWith};
-ghost use Rattle.edit_base.specs.Clauses.{mesh_after_call, MovesClearOnDone, OnOkIs};
+ghost use Rattle.edit_base.specs.Clauses.{mesh_after_call, KeepsOnNo, MovesClearOnDone, OnOkIs};
 ghost use Rattle.edit_dispatch.specs.Dispatch.{answer_to, edited, scaffold_of};
 
 use edit_base::{Asked, Edit};
@@ -18,8 +18,9 @@ use grid_base::{DEPTH_MAX, NoMemory};
 use mesh_base::Surface;
 use std::alloc::Global;
 
-/// Does the edit that is asked for, or answers why not. `depth` is the number of time halvings of the written test of a motion; a zip
-/// moves nothing and needs none. After a refusal, and where memory is wanting, the mesh is as it was. Earlier marks still hold.
+/// Does the edit that is asked for, or answers why not. `depth` is the number of time halvings of the written test of
+/// a motion; a zip moves nothing and needs none. After No, and where memory is wanting, the mesh is as it was, next ids
+/// included, and so is what was kept. Earlier marks still hold.
 ///
 /// The five edits are those of El Topo (Brochu and Bridson 2009).
 pub fn edit<S: Surface>(
@@ -39,6 +40,7 @@ pub fn edit<S: Surface>(
     // Where it is done, nothing meets on the way.
     ensures motion { IfOk result (λ edit. MovesClearOnDone scaffold_of (S.mesh mesh.old) edit) }
     ensures marks { BeginsWith (S.kept mesh.new) (S.kept mesh.old) }
+    ensures kept { KeepsOnNo result (S.kept mesh.new) (S.kept mesh.old) }
 {
     match what {
         Asked::Split { a, b } => split(alloc, mesh, a, b, depth),

@@ -6,7 +6,7 @@ ghost use Rattle.mesh_base.specs.Placements.{IsClearMesh};
 ghost use Rattle.mesh_base.specs.Kept.{BeginsWith};
 ghost use Rattle.edit_flip.specs.Flip.{flip_mesh};
 ghost use Rattle.edit_flip.specs.Answer.{flip_answer};
-ghost use Rattle.edit_base.specs.Clauses.{mesh_after_call, MovesClearOnDone, OnOkIs};
+ghost use Rattle.edit_base.specs.Clauses.{mesh_after_call, KeepsOnNo, MovesClearOnDone, OnOkIs};
 ghost use Rattle.edit_flip.specs.Done.{flip_result, flip_tested_on};
 ghost use Rattle.edit_flip.specs.Tried.{MayBeTried};
 
@@ -37,6 +37,7 @@ fn apply_or_roll_back<S: Surface>(mesh: &mut S, e: &EdgeFaces) -> Result<(), NoM
     ensures made { OnOk result (S.mesh mesh.new ≡ flip_mesh (S.mesh mesh.old) e.now) }
     ensures left { OnErr result (S.mesh mesh.new ≡ S.mesh mesh.old) }
     ensures marks { BeginsWith (S.kept mesh.new) (S.kept mesh.old) }
+    ensures kept { OnErr result (S.kept mesh.new ≡ S.kept mesh.old) }
 {
     let mark = mesh.mark()?;
     let done = apply_flip(mesh, e);
@@ -61,6 +62,7 @@ fn flip_or_leave<S: Surface>(
         (flip_answer meets_exactly (S.mesh mesh.old) e.now.a e.now.b depth) }
     ensures mesh { S.mesh mesh.new ≡ mesh_after_call flip_result (S.mesh mesh.old) result }
     ensures marks { BeginsWith (S.kept mesh.new) (S.kept mesh.old) }
+    ensures kept { KeepsOnNo result (S.kept mesh.new) (S.kept mesh.old) }
 {
     match first_hit(alloc, mesh, e, depth)? {
         Some(p) => Ok(Edit::No(Why::Hit(p))),
@@ -79,7 +81,7 @@ fn flip_or_leave<S: Surface>(
 /// edge, the edge is crowded, the edge of `c` and `d` is there already or has one end, the test or the result would pass a
 /// limit, or, of all pairs of the test in order, the first that does not pass, to the depth. The test is the split of the
 /// edge, with the new vertex going from the middle of `a` and `b` to the middle of `c` and `d`. It is taken back, next ids
-/// included. After No, and where memory is wanting, the mesh is as it was, next ids included. What was kept stays.
+/// included. After No, and where memory is wanting, the mesh is as it was, next ids included, and so is what was kept.
 ///
 /// A flip keeps the mesh closed and clear, and no pair meets at any fraction of that motion. After the edge flip of El Topo
 /// (Brochu and Bridson 2009).
@@ -101,6 +103,7 @@ pub fn flip<S: Surface>(
     // From the edge to the middle of the two opposite vertices nothing meets.
     ensures motion { IfOk result (λ edit. MovesClearOnDone flip_tested_on (S.mesh mesh.old) edit) }
     ensures marks { BeginsWith (S.kept mesh.new) (S.kept mesh.old) }
+    ensures kept { KeepsOnNo result (S.kept mesh.new) (S.kept mesh.old) }
 {
     match edge_to_flip(mesh, a, b) {
         Ok(e) => flip_or_leave(alloc, mesh, &e, depth),

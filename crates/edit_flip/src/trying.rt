@@ -78,7 +78,7 @@ fn put_and_check<S: Surface>(
     check(alloc, mesh, &[way], Touch::Never, &[], fresh_from, depth)
 }
 
-/// The first pair of a flip's test that does not pass. In every case the mesh is left as it was.
+/// The first pair of a flip's test that does not pass. In every case the mesh and what was kept are left as they were.
 pub(crate) fn first_hit<S: Surface>(
     alloc: Global,
     mesh: &mut S,
@@ -93,6 +93,7 @@ pub(crate) fn first_hit<S: Surface>(
         (first_failing meets_exactly (flip_scaffold (S.mesh mesh.old) e.now) depth) }
     ensures mesh { S.mesh mesh.new ≡ S.mesh mesh.old }
     ensures marks { BeginsWith (S.kept mesh.new) (S.kept mesh.old) }
+    ensures kept { S.kept mesh.new ≡ S.kept mesh.old }
 {
     let mark = mesh.mark()?;
     let found = put_and_check(alloc, mesh, e, depth);

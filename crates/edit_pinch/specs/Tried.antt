@@ -1,5 +1,5 @@
 -- When a pinch is tried, and what a try leaves.
-use Rattle.std.specs.Prelude.{◌≡◌, ℕ, Bool, false, List, length, drop, nat_lt, Result, Ok, Err}
+use Rattle.std.specs.Prelude.{⊤, ◌≡◌, ℕ, Bool, false, List, length, drop, nat_lt, Result, Ok, Err}
 use Rattle.std.proofs.Common.{Option, Some, None}
 use Rattle.grid_base.specs.declared.NoMemory.{NoMemory}
 use Rattle.mesh_base.specs.declared.ids.PairName.{PairName}
@@ -25,3 +25,9 @@ abbrev pub left_by : Mesh → Mesh → Result (Option PairName) NoMemory → Mes
 left_by old made (Ok None) = made
 left_by old made (Ok (Some p)) = old
 left_by old made (Err fault) = old
+
+-- unless a try makes it, the kept meshes are those before
+abbrev pub KeepsUnlessMade : Result (Option PairName) NoMemory → List Mesh → List Mesh → Type 0
+KeepsUnlessMade (Ok None) new old = ⊤
+KeepsUnlessMade (Ok (Some p)) new old = new ≡ old
+KeepsUnlessMade (Err fault) new old = new ≡ old

@@ -9,9 +9,9 @@ ghost use Rattle.mesh_base.specs.Kept.{BeginsWith};
 ghost use Rattle.edit_base.specs.Scaffold.{first_failing};
 ghost use Rattle.edit_pinch.specs.Pinch.{fans, first_point, later_copies, moves_from, vertex_and_copies, pinch_scaffold};
 ghost use Rattle.edit_pinch.specs.Answer.{pinch_answer};
-ghost use Rattle.edit_base.specs.Clauses.{mesh_after_call, MovesClearOnDone, OnOkIs};
+ghost use Rattle.edit_base.specs.Clauses.{mesh_after_call, KeepsOnNo, MovesClearOnDone, OnOkIs};
 ghost use Rattle.edit_pinch.specs.Done.{pinch_result, pinch_tested_on};
-ghost use Rattle.edit_pinch.specs.Tried.{MayBeTried, left_by};
+ghost use Rattle.edit_pinch.specs.Tried.{KeepsUnlessMade, MayBeTried, left_by};
 
 use crate::making::{apply_pinch, is_over};
 use crate::parting::{Fan, fans};
@@ -102,7 +102,7 @@ fn put_and_check<S: Surface>(
 }
 
 /// Tries a pinch, and answers the first pair that is not as required. Where there is none, its changes are made, and else all
-/// is left as it was.
+/// is left as it was, what was kept included.
 fn apply_or_roll_back<S: Surface>(
     alloc: Global,
     mesh: &mut S,
@@ -124,6 +124,7 @@ fn apply_or_roll_back<S: Surface>(
     ensures mesh { let m = S.mesh mesh.old in
         S.mesh mesh.new ≡ left_by m (pinch_scaffold m v).mesh result }
     ensures marks { BeginsWith (S.kept mesh.new) (S.kept mesh.old) }
+    ensures kept { KeepsUnlessMade result (S.kept mesh.new) (S.kept mesh.old) }
 {
     let mark = mesh.mark()?;
     match put_and_check(alloc, mesh, v, others, at, copies, depth) {
@@ -155,6 +156,7 @@ fn pinch_or_leave<S: Surface>(
     ensures answer { OnOkIs result (pinch_answer meets_exactly (S.mesh mesh.old) v depth) }
     ensures mesh { S.mesh mesh.new ≡ mesh_after_call pinch_result (S.mesh mesh.old) result }
     ensures marks { BeginsWith (S.kept mesh.new) (S.kept mesh.old) }
+    ensures kept { KeepsOnNo result (S.kept mesh.new) (S.kept mesh.old) }
 {
     let others = &parts[1..];
     let at = fan_point(alloc, mesh, v, parts[0].as_slice())?;
@@ -216,7 +218,7 @@ pub fn put_pinch<S: Surface>(
 /// holds: fewer than two fans meet at the vertex, as at one that is not live; it is solid; the result would pass a limit;
 /// or, of all pairs of the result in order, the first that does not open where its two members hold two of the vertex and
 /// its copies, or else does not pass, to the depth, while they go from the one point to their own. After No, and where
-/// memory is wanting, the mesh is as it was, next ids included. What was kept stays.
+/// memory is wanting, the mesh is as it was, next ids included, and so is what was kept.
 ///
 /// A pinch keeps the mesh closed and clear, and no pair meets at any fraction of that motion but its start. After the vertex
 /// separation of El Topo (Brochu and Bridson 2009).
@@ -237,6 +239,7 @@ pub fn pinch<S: Surface>(
     // Once the vertex and its copies have left its point nothing meets.
     ensures motion { IfOk result (λ edit. MovesClearOnDone pinch_tested_on (S.mesh mesh.old) edit) }
     ensures marks { BeginsWith (S.kept mesh.new) (S.kept mesh.old) }
+    ensures kept { KeepsOnNo result (S.kept mesh.new) (S.kept mesh.old) }
 {
     let parts = fans(alloc, mesh, v)?;
     if parts.len() < 2 {

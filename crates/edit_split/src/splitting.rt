@@ -8,7 +8,7 @@ ghost use Rattle.edit_base.specs.Edges.{edge_of};
 ghost use Rattle.edit_split.specs.Split.{split_mesh, split_point, split_scaffold};
 ghost use Rattle.edit_base.specs.Scaffold.{first_failing};
 ghost use Rattle.edit_split.specs.Answer.{split_answer};
-ghost use Rattle.edit_base.specs.Clauses.{mesh_after_call, MovesClearOnDone, OnOkIs, OnErrRefuses};
+ghost use Rattle.edit_base.specs.Clauses.{mesh_after_call, KeepsOnNo, MovesClearOnDone, OnOkIs, OnErrRefuses};
 ghost use Rattle.edit_split.specs.Done.{split_result, split_tested_on};
 ghost use Rattle.edit_split.specs.Tried.{MayBeTried};
 
@@ -85,6 +85,7 @@ fn split_or_go_back<S: Surface>(
         (split_answer meets_exactly (S.mesh mesh.old) e.now.a e.now.b depth) }
     ensures mesh { S.mesh mesh.new ≡ mesh_after_call split_result (S.mesh mesh.old) result }
     ensures marks { BeginsWith (S.kept mesh.new) (S.kept mesh.old) }
+    ensures kept { KeepsOnNo result (S.kept mesh.new) (S.kept mesh.old) }
 {
     let at = split_point(mesh, e);
     let w = VertexId(mesh.next_vertex());
@@ -113,7 +114,7 @@ fn split_or_go_back<S: Surface>(
 /// The answer is exact. It is Done with the edge, smaller end first, the new vertex and its point; or No with the first
 /// reason that holds: the ids are no edge, the edge is crowded, the split mesh would pass a limit, or, of all pairs of the
 /// split mesh in order, the first that does not pass, to the depth, while the new vertex goes from the exact midpoint to
-/// its point. After No, and where memory is wanting, the mesh is as it was, next ids included. What was kept stays.
+/// its point. After No, and where memory is wanting, the mesh is as it was, next ids included, and so is what was kept.
 ///
 /// A split keeps the mesh closed and clear, and no pair meets at any fraction of that motion. After the edge split of El
 /// Topo (Brochu and Bridson 2009).
@@ -135,6 +136,7 @@ pub fn split<S: Surface>(
     // From the edge to its two halves nothing meets.
     ensures motion { IfOk result (λ edit. MovesClearOnDone split_tested_on (S.mesh mesh.old) edit) }
     ensures marks { BeginsWith (S.kept mesh.new) (S.kept mesh.old) }
+    ensures kept { KeepsOnNo result (S.kept mesh.new) (S.kept mesh.old) }
 {
     match edge_to_split(mesh, a, b) {
         Ok(e) => split_or_go_back(alloc, mesh, &e, depth),

@@ -2,7 +2,7 @@ use Rattle.std.proofs.Common.{sym, subst, ap, ◌∙◌}
 use Rattle.std.specs.Prelude.{OnErr, Result, Ok, Err}
 use Rattle.mesh_base.specs.Mesh.{Mesh}
 use Rattle.mesh_base.specs.Sides.{IsClosed}
-use Rattle.mesh_base.proofs.MarksHold.{begins_along, begins_after_return, holds_along, stands_along, stands_for_one}
+use Rattle.mesh_base.proofs.MarksHold.{begins_along, begins_after_return, kept_after_return, holds_along, stands_along, stands_for_one}
 use Rattle.edit_collapse.specs.Tried.{MayBeTried, left_at}
 use Rattle.edit_collapse.proofs.collapsing.apply_or_roll_back.Goals as goal
 
@@ -41,6 +41,15 @@ returns-then-is_err-clause-marks g c =
     let old = kept c.args.mesh.now in
     begins_after_return (kept c.back_to.new.self) newest old c.in_ok-mark.mark.under c.in_ok-mark.ensures.under
     (begins_along newest (kept c.mark.new.self) old c.apply_collapse-done.ensures.marks c.mark.ensures.marks) c.back_to.ensures.marks
+
+pub returns-then-is_err-clause-kept : goal.returns-then-is_err-clause-kept
+returns-then-is_err-clause-kept g c =
+    let kept = g.S.Surface.kept in
+    let newest = kept c.apply_collapse-done.new.mesh in
+    let old = kept c.args.mesh.now in
+    on_err c.apply_collapse-done.result
+    (kept_after_return (kept c.back_to.new.self) newest old c.in_ok-mark.mark g.S.Surface.beyond c.in_ok-mark.ensures.under c.in_ok-mark.ensures.place
+    (begins_along newest (kept c.mark.new.self) old c.apply_collapse-done.ensures.marks c.mark.ensures.marks) c.back_to.ensures.kept)
 
 pub returns-else-is_err-clause-marks : goal.returns-else-is_err-clause-marks
 returns-else-is_err-clause-marks g c =

@@ -58,3 +58,6 @@ returns-clause-mesh g c = c.collapse_or_leave.ensures.mesh
 
 pub returns-clause-marks : goal.returns-clause-marks
 returns-clause-marks g c = c.collapse_or_leave.ensures.marks
+
+pub returns-clause-kept : goal.returns-clause-kept
+returns-clause-kept g c = c.collapse_or_leave.ensures.kept

@@ -1,12 +1,22 @@
-use Rattle.std.proofs.Common.{refl, sym, ap, ◌∙◌}
+use Rattle.std.proofs.Common.{◌≡◌, List, Result, Ok, Err, refl, sym, ap, ◌∙◌}
+use Rattle.grid_base.specs.declared.NoMemory.{NoMemory}
 use Rattle.grid_decided.specs.Decided.{meets_exactly}
 use Rattle.edit_base.specs.declared.answers.Change.TheVariants.{Collapse}
-use Rattle.edit_base.specs.declared.answers.Edit.TheVariants.{Done}
+use Rattle.edit_base.specs.declared.answers.Edit.{Edit}
+use Rattle.edit_base.specs.declared.answers.Edit.TheVariants.{Done, No}
+use Rattle.edit_base.specs.Clauses.{KeepsOnNo}
+use Rattle.mesh_base.specs.Mesh.{Mesh}
 use Rattle.edit_base.specs.Scaffold.{first_failing}
 use Rattle.mesh_base.proofs.MarksHold.{begins_itself}
 use Rattle.edit_collapse.specs.Collapse.{collapse_scaffold}
 use Rattle.edit_collapse.proofs.Answered.{hit_is_refused, no_hit_is_done}
 use Rattle.edit_collapse.proofs.collapsing.collapse_or_leave.Goals as goal
+
+-- where the kept meshes are those before, that is said of any answer
+keeps : (result : Result Edit NoMemory) (new old : List Mesh) → new ≡ old → KeepsOnNo result new old
+keeps (Ok (Done change)) new old h = tt
+keeps (Ok (No why)) new old h = h
+keeps (Err fault) new old h = h
 
 pub returns-in-Some-clause-answer : goal.returns-in-Some-clause-answer
 returns-in-Some-clause-answer g c =
@@ -24,6 +34,12 @@ returns-in_err-p-clause-marks g c = begins_itself (g.S.Surface.kept c.args.mesh.
 
 pub returns-in_err-apply_or_roll_back-in-None-clause-marks : goal.returns-in_err-apply_or_roll_back-in-None-clause-marks
 returns-in_err-apply_or_roll_back-in-None-clause-marks g c = c.apply_or_roll_back.ensures.marks
+
+pub returns-in_err-apply_or_roll_back-in-None-clause-kept : goal.returns-in_err-apply_or_roll_back-in-None-clause-kept
+returns-in_err-apply_or_roll_back-in-None-clause-kept g c =
+    let kept = g.S.Surface.kept in
+    keeps c.from_residual-in_err-apply_or_roll_back-in-None.result (kept c.apply_or_roll_back.new.mesh) (kept c.args.mesh.now)
+    c.in_err-apply_or_roll_back-in-None.ensures.kept
 
 pub returns-in-Some-clause-mesh : goal.returns-in-Some-clause-mesh
 returns-in-Some-clause-mesh g c = refl

@@ -1,6 +1,6 @@
 use Rattle.std.proofs.Common.{◌≡◌, sym, subst}
 use Rattle.std.specs.Prelude.{OnOk, OnErr, Result, Ok, Err}
-use Rattle.mesh_base.proofs.MarksHold.{begins_along, begins_after_return, holds_along, stands_along, stands_for_one}
+use Rattle.mesh_base.proofs.MarksHold.{begins_along, begins_after_return, kept_after_return, holds_along, stands_along, stands_for_one}
 use Rattle.edit_flip.specs.Flip.{flip_mesh}
 use Rattle.edit_flip.specs.Tried.{MayBeTried}
 use Rattle.mesh_base.specs.Sides.{IsClosed}
@@ -38,6 +38,15 @@ returns-then-is_err-clause-marks g c =
     let old = kept c.args.mesh.now in
     begins_after_return (kept c.back_to.new.self) put old c.in_ok-mark.mark.under c.in_ok-mark.ensures.under
     (begins_along put (kept c.mark.new.self) old c.apply_flip-done.ensures.marks c.in_ok-mark.ensures.marks) c.back_to.ensures.marks
+
+pub returns-then-is_err-clause-kept : goal.returns-then-is_err-clause-kept
+returns-then-is_err-clause-kept g c =
+    let kept = g.S.Surface.kept in
+    let put = kept c.apply_flip-done.new.mesh in
+    let old = kept c.args.mesh.now in
+    on_err c.apply_flip-done.result
+    (kept_after_return (kept c.back_to.new.self) put old c.in_ok-mark.mark g.S.Surface.beyond c.in_ok-mark.ensures.under c.in_ok-mark.ensures.place
+    (begins_along put (kept c.mark.new.self) old c.apply_flip-done.ensures.marks c.in_ok-mark.ensures.marks) c.back_to.ensures.kept)
 
 pub returns-else-is_err-clause-made : goal.returns-else-is_err-clause-made
 returns-else-is_err-clause-made g c =

@@ -1,7 +1,11 @@
-use Rattle.std.proofs.Common.{sym, ap, subst, ◌∙◌}
+use Rattle.std.proofs.Common.{◌≡◌, List, Result, Ok, Err, sym, ap, subst, ◌∙◌}
+use Rattle.grid_base.specs.declared.NoMemory.{NoMemory}
 use Rattle.grid_decided.specs.Decided.{meets_exactly}
 use Rattle.edit_base.specs.declared.answers.Change.TheVariants.{Flip}
-use Rattle.edit_base.specs.declared.answers.Edit.TheVariants.{Done}
+use Rattle.edit_base.specs.declared.answers.Edit.{Edit}
+use Rattle.edit_base.specs.declared.answers.Edit.TheVariants.{Done, No}
+use Rattle.edit_base.specs.Clauses.{KeepsOnNo}
+use Rattle.mesh_base.specs.Mesh.{Mesh}
 use Rattle.edit_base.specs.Edges.{Edge, edge_of}
 use Rattle.edit_flip.specs.Flip.{flip_mesh}
 use Rattle.edit_flip.specs.Tried.{MayBeTried}
@@ -9,6 +13,12 @@ use Rattle.edit_flip.proofs.Answered.{hit_is_refused, no_hit_is_done}
 use Rattle.mesh_base.specs.Sides.{IsClosed}
 use Rattle.mesh_base.proofs.MarksHold.{begins_along}
 use Rattle.edit_flip.proofs.flipping.flip_or_leave.Goals as goal
+
+-- where the kept meshes are those before, that is said of any answer
+keeps : (result : Result Edit NoMemory) (new old : List Mesh) → new ≡ old → KeepsOnNo result new old
+keeps (Ok (Done change)) new old h = tt
+keeps (Ok (No why)) new old h = h
+keeps (Err fault) new old h = h
 
 pub apply_or_roll_back-requires-clause-tried : goal.apply_or_roll_back-requires-clause-tried
 apply_or_roll_back-requires-clause-tried g c = subst (λ n. MayBeTried n c.args.e.now) (sym c.first_hit.ensures.mesh) c.requires.tried
@@ -31,6 +41,12 @@ pub returns-in_err-apply_or_roll_back-in-None-clause-marks : goal.returns-in_err
 returns-in_err-apply_or_roll_back-in-None-clause-marks g c =
     let kept = g.S.Surface.kept in
     begins_along (kept c.apply_or_roll_back.new.mesh) (kept c.first_hit.new.mesh) (kept c.args.mesh.now) c.apply_or_roll_back.ensures.marks c.first_hit.ensures.marks
+
+pub returns-in_err-apply_or_roll_back-in-None-clause-kept : goal.returns-in_err-apply_or_roll_back-in-None-clause-kept
+returns-in_err-apply_or_roll_back-in-None-clause-kept g c =
+    let kept = g.S.Surface.kept in
+    keeps c.from_residual-in_err-apply_or_roll_back-in-None.result (kept c.apply_or_roll_back.new.mesh) (kept c.args.mesh.now)
+    (c.in_err-apply_or_roll_back-in-None.ensures.kept ∙ c.first_hit.ensures.kept)
 
 pub returns-in_ok-apply_or_roll_back-in-None-clause-mesh : goal.returns-in_ok-apply_or_roll_back-in-None-clause-mesh
 returns-in_ok-apply_or_roll_back-in-None-clause-mesh g c =

@@ -1,7 +1,7 @@
 use Rattle.std.proofs.Common.{◌≡◌, sym, subst}
 use Rattle.std.specs.Prelude.{IfOk}
 use Rattle.grid_decided.specs.Decided.{meets_exactly}
-use Rattle.mesh_base.proofs.MarksHold.{begins_along, begins_after_return, holds_along, stands_along, stands_for_one}
+use Rattle.mesh_base.proofs.MarksHold.{begins_along, begins_after_return, kept_after_return, holds_along, stands_along, stands_for_one}
 use Rattle.edit_flip.specs.Flip.{flip_scaffold}
 use Rattle.edit_base.specs.Scaffold.{first_failing}
 use Rattle.edit_flip.specs.Tried.{MayBeTried}
@@ -42,3 +42,11 @@ returns-clause-marks g c =
     let old = kept c.args.mesh.now in
     begins_after_return (kept c.back_to.new.self) put old c.in_ok-mark.mark.under c.in_ok-mark.ensures.under
     (begins_along put (kept c.mark.new.self) old c.put_and_check-found.ensures.marks c.in_ok-mark.ensures.marks) c.back_to.ensures.marks
+
+pub returns-clause-kept : goal.returns-clause-kept
+returns-clause-kept g c =
+    let kept = g.S.Surface.kept in
+    let put = kept c.put_and_check-found.new.mesh in
+    let old = kept c.args.mesh.now in
+    kept_after_return (kept c.back_to.new.self) put old c.in_ok-mark.mark g.S.Surface.beyond c.in_ok-mark.ensures.under c.in_ok-mark.ensures.place
+    (begins_along put (kept c.mark.new.self) old c.put_and_check-found.ensures.marks c.in_ok-mark.ensures.marks) c.back_to.ensures.kept

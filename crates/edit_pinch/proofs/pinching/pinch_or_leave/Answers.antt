@@ -1,14 +1,26 @@
-use Rattle.std.proofs.Common.{length, drop, get_or, sym, ap, subst, ◌∙◌, arith}
-use Rattle.std.specs.Prelude.{Ok}
+use Rattle.std.proofs.Common.{◌≡◌, List, Option, Result, length, drop, get_or, sym, ap, subst, ◌∙◌, arith}
+use Rattle.std.specs.Prelude.{Ok, Err}
+use Rattle.grid_base.specs.declared.NoMemory.{NoMemory}
+use Rattle.mesh_base.specs.declared.ids.PairName.{PairName}
+use Rattle.mesh_base.specs.Mesh.{Mesh}
+use Rattle.edit_base.specs.declared.answers.Edit.{Edit}
+use Rattle.edit_base.specs.declared.answers.Edit.TheVariants.{Done, No}
+use Rattle.edit_base.specs.Clauses.{KeepsOnNo}
 use Rattle.std.specs.List.{AllByRecursion}
 use Rattle.edit_pinch.specs.Pinch.{fans, first_point, pinch_scaffold}
 use Rattle.edit_pinch.proofs.CopyClosed.{all_later}
 use Rattle.edit_pinch.proofs.PinchDone.{pinched_live}
 use Rattle.edit_pinch.specs.Rims.{AreLiveFaces}
-use Rattle.edit_pinch.specs.Tried.{left_by}
+use Rattle.edit_pinch.specs.Tried.{left_by, KeepsUnlessMade}
 use Rattle.edit_pinch.proofs.Answered.{fans_live, first_of_two, later_are, first_point_is, later_copies_are, hit_is_refused, done_answer, done_mesh}
 use Rattle.edit_pinch.proofs.Room.{room_at_first}
 use Rattle.edit_pinch.proofs.pinching.pinch_or_leave.Goals as goal
+
+-- where the kept meshes are those before, that is said of any answer
+keeps : (result : Result Edit NoMemory) (new old : List Mesh) → new ≡ old → KeepsOnNo result new old
+keeps (Ok (Done change)) new old h = tt
+keeps (Ok (No why)) new old h = h
+keeps (Err fault) new old h = h
 
 pub fan_point-requires : goal.fan_point-requires
 fan_point-requires g c =
@@ -57,6 +69,11 @@ returns-in-Some-clause-mesh g c =
 pub returns-in-Some-clause-marks : goal.returns-in-Some-clause-marks
 returns-in-Some-clause-marks g c = c.in_ok-p.ensures.marks
 
+pub returns-in-Some-clause-kept : goal.returns-in-Some-clause-kept
+returns-in-Some-clause-kept g c =
+    let kept = g.S.Surface.kept in
+    subst (λ (r : Option PairName). KeepsUnlessMade (Ok r) (kept c.apply_or_roll_back.new.mesh) (kept c.args.mesh.now)) c.in-Some.is c.in_ok-p.ensures.kept
+
 pub returns-in-None-clause-marks : goal.returns-in-None-clause-marks
 returns-in-None-clause-marks g c = c.in_ok-p.ensures.marks
 
@@ -80,3 +97,8 @@ returns-in-None-clause-mesh g c =
 
 pub returns-in_err-p-clause-marks : goal.returns-in_err-p-clause-marks
 returns-in_err-p-clause-marks g c = c.apply_or_roll_back.ensures.marks
+
+pub returns-in_err-p-clause-kept : goal.returns-in_err-p-clause-kept
+returns-in_err-p-clause-kept g c =
+    let kept = g.S.Surface.kept in
+    keeps c.from_residual-in_err-p.result (kept c.apply_or_roll_back.new.mesh) (kept c.args.mesh.now) c.in_err-p.ensures.kept

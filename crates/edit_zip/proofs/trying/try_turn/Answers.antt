@@ -2,7 +2,7 @@ use Rattle.std.proofs.Common.{is_some, sym, ap, subst, ◌∙◌}
 use Rattle.grid_decided.specs.Decided.{meets_exactly}
 use Rattle.mesh_base.specs.Sides.{IsClosed}
 use Rattle.mesh_base.specs.Placements.{IsClearMesh}
-use Rattle.mesh_base.proofs.MarksHold.{begins_along, begins_after_return, holds_along, stands_along, stands_for_one}
+use Rattle.mesh_base.proofs.MarksHold.{begins_along, begins_after_return, kept_after_return, holds_along, stands_along, stands_for_one}
 use Rattle.edit_zip.specs.Zip.{zip_mesh, turn_reason}
 use Rattle.edit_zip.specs.Ready.{MayBeTried}
 use Rattle.edit_zip.proofs.trying.try_turn.Goals as goal
@@ -58,6 +58,14 @@ returns-in-Ok-Some-clause-marks g c =
     begins_after_return (kept c.back_to.new.self) newest old c.in_ok-mark.mark.under c.in_ok-mark.ensures.under
     (begins_along newest (kept c.mark.new.self) old c.put_and_check.ensures.marks c.mark.ensures.marks) c.back_to.ensures.marks
 
+pub returns-in-Ok-Some-clause-kept : goal.returns-in-Ok-Some-clause-kept
+returns-in-Ok-Some-clause-kept g c =
+    let kept = g.S.Surface.kept in
+    let newest = kept c.put_and_check.new.mesh in
+    let old = kept c.args.mesh.now in
+    kept_after_return (kept c.back_to.new.self) newest old c.in_ok-mark.mark g.S.Surface.beyond c.in_ok-mark.ensures.under c.in_ok-mark.ensures.place
+    (begins_along newest (kept c.mark.new.self) old c.put_and_check.ensures.marks c.mark.ensures.marks) c.back_to.ensures.kept
+
 pub returns-in-Err-clause-mesh : goal.returns-in-Err-clause-mesh
 returns-in-Err-clause-mesh g c =
     let mesh = g.S.Surface.mesh in
@@ -73,3 +81,11 @@ returns-in-Err-clause-marks g c =
     let old = kept c.args.mesh.now in
     begins_after_return (kept c.back_to-in-Err.new.self) newest old c.in_ok-mark.mark.under c.in_ok-mark.ensures.under
     (begins_along newest (kept c.mark.new.self) old c.put_and_check.ensures.marks c.mark.ensures.marks) c.back_to-in-Err.ensures.marks
+
+pub returns-in-Err-clause-kept : goal.returns-in-Err-clause-kept
+returns-in-Err-clause-kept g c =
+    let kept = g.S.Surface.kept in
+    let newest = kept c.put_and_check.new.mesh in
+    let old = kept c.args.mesh.now in
+    kept_after_return (kept c.back_to-in-Err.new.self) newest old c.in_ok-mark.mark g.S.Surface.beyond c.in_ok-mark.ensures.under c.in_ok-mark.ensures.place
+    (begins_along newest (kept c.mark.new.self) old c.put_and_check.ensures.marks c.mark.ensures.marks) c.back_to-in-Err.ensures.kept
