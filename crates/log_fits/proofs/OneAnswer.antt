@@ -23,7 +23,7 @@ use Rattle.edit_base.specs.declared.Asked.{Asked}
 use Rattle.edit_dispatch.specs.Dispatch.{answer_to}
 use Rattle.step_text.specs.declared.Directive.{Directive}
 use Rattle.step_text.specs.declared.Directive.TheVariants.{Drive, Fit}
-use Rattle.log_ranges.proofs.Names.{live_keys}
+use Rattle.run_laws.proofs.Names.{live_keys}
 use Rattle.log_text.specs.declared.LogLine.{LogLine}
 use Rattle.log_text.specs.declared.LogLine.TheVariants.{PassFit}
 use Rattle.pass_run.specs.Candidates.{length_squared}

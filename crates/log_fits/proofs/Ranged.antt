@@ -20,7 +20,7 @@ use Rattle.motion_proof.proofs.MakeSteps.{by_rule_accepted, made_fits}
 use Rattle.log_text.specs.declared.TheConstants.{COUNT_MAX}
 use Rattle.log_text.specs.declared.LogLine.{LogLine}
 use Rattle.log_text.specs.Laws.{IsFrom, IsPairInRange}
-use Rattle.log_ranges.proofs.Names.{pairs_in_range}
+use Rattle.run_laws.proofs.Names.{pairs_in_range}
 use Rattle.proof_text.specs.declared.ProofAt.{ProofAt}
 use Rattle.proof_text.specs.Plain.{PlainTree, PlainEntry, PlainProof}
 use Rattle.proof_text.specs.Views.{tree_view, entry_view, entries_view, proof_view, proofs_view}

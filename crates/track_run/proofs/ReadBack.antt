@@ -15,10 +15,10 @@ use Rattle.log_text.specs.declared.Refusal.TheVariants as refusal
 use Rattle.log_text.specs.declared.LogLine.TheVariants.{Refused as RefusedLine}
 use Rattle.log_text.specs.Laws.{IsPairInRange}
 use Rattle.log_text.proofs.LogLaws.{written_logs_are_read_lem}
-use Rattle.log_ranges.specs.Lines.{MayFollow, AreInRange}
-use Rattle.log_ranges.proofs.Names.{meeting_in_range}
-use Rattle.run_ranges.specs.Inputs.{IsSeen, AreCounted, IsInputInRange}
-use Rattle.run_ranges.proofs.Inputs.{inputs_in_range, mesh_logs_in_range}
+use Rattle.run_laws.specs.Lines.{MayFollow, AreInRange}
+use Rattle.run_laws.proofs.Names.{meeting_in_range}
+use Rattle.run_laws.specs.Inputs.{IsSeen, AreCounted, IsInputInRange}
+use Rattle.run_laws.proofs.Inputs.{inputs_in_range, mesh_logs_in_range}
 use Rattle.outside_io.specs.Desk.{Files}
 use Rattle.track_input.specs.Source.{Source, Bytes, Absent, TooLong, IsSource}
 use Rattle.track_input.specs.Job.{Job, Input, IsJob, input_of, mesh_of_lists, met_first}

@@ -1,5 +1,0 @@
-use Rattle.log_ranges.proofs.PassLines.{candidates_in_range, pass_in_range, fit_in_range}
-use Rattle.log_ranges.proofs.laws.passes_are_in_range.Goals as goal
-
-pub returns : goal.returns
-returns c = record { candidates = candidates_in_range; lines = pass_in_range; fits = fit_in_range }

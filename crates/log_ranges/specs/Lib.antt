@@ -1,4 +1,0 @@
-pub mod Names
-pub mod Answers
-pub mod Lines
-pub mod Texts

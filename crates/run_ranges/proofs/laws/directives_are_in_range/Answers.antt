@@ -1,5 +1,0 @@
-use Rattle.run_ranges.proofs.Effects.{effects_in_range, logs_in_range}
-use Rattle.run_ranges.proofs.laws.directives_are_in_range.Goals as goal
-
-pub returns : goal.returns
-returns c = record { effects = effects_in_range; logs = logs_in_range }

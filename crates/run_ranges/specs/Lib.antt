@@ -1,2 +1,0 @@
-pub mod Directives
-pub mod Inputs

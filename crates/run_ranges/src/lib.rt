@@ -1,4 +1,0 @@
-//! The log of directives is in its ranges, whichever they are.
-#![tactic(auto)]
-
-pub mod laws;
