@@ -23,7 +23,7 @@ pub record SolidVerticesStay (m : Mesh) (change : Change) (next : Mesh) : Type 0
   pub remain : (v : ℕ) → is_solid m v ≡ true → IsLiveVertex next v → is_solid next v ≡ true
   -- no other one becomes solid, but the end that a collapse leaves;
   pub marks : (v : ℕ) → IsLiveVertex m v → IsLiveVertex next v → ¬ (IsJoinedEnd change v) →
-  is_solid next v ≡ is_solid m v
+      is_solid next v ≡ is_solid m v
   -- and a new one is not solid
   pub none_new : (v : ℕ) → is_solid next v ≡ true → IsLiveVertex m v
 

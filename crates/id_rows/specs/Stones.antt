@@ -68,10 +68,8 @@ module _ {T : Type 0} where
   -- the new list holds one thing more
   pub record Holds (old new : List (Item T)) (id : ℕ) (x : T) : Type 0 where
     pub rise : RiseFrom 0 new
-    pub found : (q : ℕ) →
-    find nat_cmp q (held_of new) ≡ cond (q == id) (Some x) (find nat_cmp q (held_of old))
-    pub buried : finite.from_entries {R = nat_cmp} (buried_of new)
-    ≡ finite.from_entries (buried_of old)
+    pub found : (q : ℕ) → find nat_cmp q (held_of new) ≡ cond (q == id) (Some x) (find nat_cmp q (held_of old))
+    pub buried : finite.from_entries {R = nat_cmp} (buried_of new) ≡ finite.from_entries (buried_of old)
 
   pub record AreCounted (items : List (Item T)) (live : ℕ) : Type 0 where
     pub rise : RiseFrom 0 items

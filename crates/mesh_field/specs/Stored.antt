@@ -55,5 +55,5 @@ module _ {F : Type 0} (closures : Shared F (ℕ × (Point × Unit {0})) Shift)
   pub record IsWellKept : Type 0 where
     pub asked : (which : ℕ) (p : Point) → which < length fields.names → MayBeAsked which p
     pub within : (which : ℕ) (p : Point) (by : Shift) → which < length fields.names →
-    MayAnswer which p by → FitWithin fields.reach by.x by.y by.z
+        MayAnswer which p by → FitWithin fields.reach by.x by.y by.z
     pub most : fields.reach ≤ SHIFT_MAX
