@@ -10,7 +10,7 @@ use Rattle.motion_proof.specs.declared.Verdict.{Verdict}
 use Rattle.motion_proof.specs.declared.Verdict.TheVariants.{Accepted, NoMotion, Stranger, Invalid, Missing}
 use Rattle.motion_proof.specs.Verdicts.{IsVerdict}
 use Rattle.edit_check.specs.Untouched.{IsClearWhereUntouched}
-use Rattle.edit_dispatch.specs.Dispatch.{scaffold_of}
+use Rattle.edit_any.specs.Dispatch.{scaffold_of}
 use Rattle.edit_scaffold.specs.declared.Laid.{Laid}
 use Rattle.edit_scaffold.specs.Made.{IsLaid}
 use Rattle.edit_scaffold.proofs.Agreeing.{laid_is_clear}

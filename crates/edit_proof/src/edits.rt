@@ -4,7 +4,7 @@ ghost use Rattle.mesh_base.specs.Kept.{BeginsWith};
 ghost use Rattle.mesh_base.specs.Valid.{IsValidSurface};
 ghost use Rattle.edit_base.specs.Scaffold.{motion_by};
 ghost use Rattle.edit_check.specs.Untouched.{IsClearWhereUntouched};
-ghost use Rattle.edit_dispatch.specs.Dispatch.{scaffold_of};
+ghost use Rattle.edit_any.specs.Dispatch.{scaffold_of};
 ghost use Rattle.motion_proof.specs.Acceptance.{AreWays};
 ghost use Rattle.edit_scaffold.specs.Made.{IsDone};
 ghost use Rattle.edit_proof.specs.Certified.{IsMadeFor, IsFound, IsFoundFor};

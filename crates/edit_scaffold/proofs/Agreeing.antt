@@ -16,7 +16,7 @@ use Rattle.edit_split.specs.Split.{split_point, split_scaffold}
 use Rattle.edit_split.proofs.SplitPremise.{split_changed}
 use Rattle.edit_flip.specs.Flip.{flip_scaffold}
 use Rattle.edit_pinch.proofs.PinchPremise.{pinch_scaffold_agrees}
-use Rattle.edit_dispatch.specs.Dispatch.{scaffold_of}
+use Rattle.edit_any.specs.Dispatch.{scaffold_of}
 use Rattle.motion_proof.specs.declared.Claim.{Claim}
 use Rattle.edit_scaffold.specs.Made.{IsTestedOn}
 

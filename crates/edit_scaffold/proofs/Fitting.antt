@@ -20,7 +20,7 @@ use Rattle.edit_split.specs.Split.{split_point, split_scaffold}
 use Rattle.edit_flip.specs.Flip.{flip_scaffold}
 use Rattle.edit_pinch.specs.Pinch.{first_point, later_copies, pinch_scaffold}
 use Rattle.edit_pinch.proofs.Scaffolded.{moves_fit}
-use Rattle.edit_dispatch.specs.Dispatch.{scaffold_of}
+use Rattle.edit_any.specs.Dispatch.{scaffold_of}
 use Rattle.motion_proof.specs.declared.Claim.{Claim}
 use Rattle.motion_proof.specs.Acceptance.{IsWay, AreWays}
 use Rattle.edit_scaffold.specs.Made.{IsTestedOn}

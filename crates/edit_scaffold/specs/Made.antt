@@ -14,7 +14,7 @@ use Rattle.edit_base.specs.declared.Touch.TheVariants.{Never, Start, End}
 use Rattle.edit_base.specs.Scaffold as edits
 use Rattle.motion_proof.specs.declared.Claim.{Claim}
 use Rattle.motion_proof.specs.declared.Claim.TheVariants.{Along, After, Before}
-use Rattle.edit_dispatch.specs.Dispatch.{answer_to}
+use Rattle.edit_any.specs.Dispatch.{answer_to}
 use Rattle.edit_scaffold.specs.declared.scaffold.Scaffold.{Scaffold}
 use Rattle.edit_scaffold.specs.declared.scaffold.Laid.{Laid}
 

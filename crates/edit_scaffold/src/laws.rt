@@ -5,7 +5,7 @@ ghost use Rattle.mesh_base.specs.Placements.{IsClearMesh};
 ghost use Rattle.edit_base.specs.declared.answers.Change.{Change};
 ghost use Rattle.edit_check.specs.Agreeing.{AgreesWhereOld};
 ghost use Rattle.edit_check.specs.Untouched.{IsClearWhereUntouched};
-ghost use Rattle.edit_dispatch.specs.Dispatch.{scaffold_of};
+ghost use Rattle.edit_any.specs.Dispatch.{scaffold_of};
 ghost use Rattle.motion_proof.specs.Acceptance.{AreWays};
 
 /// The mesh on which an edit is tested agrees with the edited one but for new faces and the vertices that move; so where the edited

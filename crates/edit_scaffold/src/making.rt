@@ -2,7 +2,7 @@ ghost use Rattle.std.specs.Prelude.{◌≡◌, is_none, length, IfOk, OnErr};
 ghost use Rattle.mesh_base.specs.Kept.{BeginsWith, MarkHolds, StandsFor};
 ghost use Rattle.mesh_base.specs.Mesh.{Mesh};
 ghost use Rattle.mesh_base.specs.Sides.{IsClosed};
-ghost use Rattle.edit_dispatch.specs.Dispatch.{scaffold_of};
+ghost use Rattle.edit_any.specs.Dispatch.{scaffold_of};
 ghost use Rattle.motion_proof.specs.Acceptance.{AreWays};
 ghost use Rattle.edit_scaffold.specs.Made.{IsDone, IsMade, IsLaid, OnLaid};
 

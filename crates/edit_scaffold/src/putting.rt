@@ -11,7 +11,7 @@ ghost use Rattle.edit_flip.specs.Flip.{flip_scaffold};
 ghost use Rattle.edit_collapse.specs.Collapse.{collapse_scaffold};
 ghost use Rattle.edit_pinch.specs.Pinch.{first_point, later_copies, moves_from, pinch_scaffold};
 ghost use Rattle.edit_pinch.specs.Tried.{MayBeTried};
-ghost use Rattle.edit_dispatch.specs.Dispatch.{scaffold_of};
+ghost use Rattle.edit_any.specs.Dispatch.{scaffold_of};
 ghost use Rattle.edit_scaffold.specs.Made.{IsDone, ArePartsOf, IsTestedOn};
 
 use crate::scaffold::Motion;

@@ -8,7 +8,7 @@ use Rattle.half_mesh.specs.Vertices.{vertices_in, points_in, solid_in}
 use Rattle.mesh_base.specs.Sides.{has_corner}
 use Rattle.half_mesh.specs.Fans.{Spoke, Fans, Side, Sides, Woven, side_at, spokes_at, put_spoke, without}
 use Rattle.half_mesh.specs.Mapped.{mapped}
-use Rattle.id_rows.specs.Stock.{Stock}
+use Rattle.id_table.specs.Stock.{Stock}
 use Rattle.half_mesh.specs.Ground.{Ground}
 use Rattle.half_mesh.specs.States.{Buried, Ledger}
 

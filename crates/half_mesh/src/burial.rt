@@ -12,7 +12,7 @@ use crate::fans::Fans;
 use crate::row::Vertex;
 use crate::tables::{Tables, corners_from};
 use grid_base::NoMemory;
-use id_rows::Rows;
+use id_table::Rows;
 use mesh_base::{FaceId, VertexId};
 
 impl Tables {

@@ -13,7 +13,7 @@ ghost use Rattle.half_mesh.specs.Tied.{origin_at, to_at, next_at};
 use crate::halves::Half;
 use crate::row::{Row, Vertex};
 use grid_base::NoMemory;
-use id_rows::Rows;
+use id_table::Rows;
 use mesh_base::FaceId;
 use slab::Slab;
 use std::alloc::Global;

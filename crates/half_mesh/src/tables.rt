@@ -18,7 +18,7 @@ use crate::burial::{bury_ring, free_ring};
 use crate::fans::Fans;
 use crate::row::Vertex;
 use grid_base::{NoMemory, Point};
-use id_rows::Rows;
+use id_table::Rows;
 use mesh_base::{Corners, FaceId, FaceTable, MeshLists, VertexId};
 use std::alloc::Global;
 use std::marker::Model;

@@ -20,7 +20,7 @@ use Rattle.mesh_sizing.specs.declared.sizing.Band.{Band}
 use Rattle.mesh_sizing.specs.declared.sizing.Want.{Want}
 use Rattle.mesh_sizing.specs.Sizes.{want_of}
 use Rattle.edit_base.specs.declared.Asked.{Asked}
-use Rattle.edit_dispatch.specs.Dispatch.{answer_to}
+use Rattle.edit_any.specs.Dispatch.{answer_to}
 use Rattle.step_text.specs.declared.Directive.{Directive}
 use Rattle.step_text.specs.declared.Directive.TheVariants.{Drive, Fit}
 use Rattle.run_laws.proofs.Names.{live_keys}

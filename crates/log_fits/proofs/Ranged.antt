@@ -30,8 +30,8 @@ use Rattle.std.proofs.lemmas.List.Elements.{All-from_recursion, recursion_from_A
 use Rattle.std.specs.Prelude.{IfSome, MatchBool, Bool, true, false}
 use Rattle.std.specs.declared.cmp.Ordering.TheVariants.{Less}
 use Rattle.edit_base.specs.declared.Change.{Change}
-use Rattle.edit_dispatch.specs.Answered.{asked_of, IsAnswered}
-use Rattle.edit_dispatch.specs.Dispatch.{scaffold_of}
+use Rattle.edit_any.specs.Answered.{asked_of, IsAnswered}
+use Rattle.edit_any.specs.Dispatch.{scaffold_of}
 use Rattle.edit_scaffold.specs.Made.{IsDone}
 use Rattle.log_text.specs.declared.LogLine.TheVariants as line
 use Rattle.log_run.specs.States.{LogState, with_line}

@@ -12,7 +12,7 @@ use Rattle.edit_split.proofs.SplitSound.{split_is_sound}
 use Rattle.edit_pinch.specs.Pinch.{first_point, later_copies, copy_points}
 use Rattle.edit_pinch.proofs.CopySound.{pinch_is_sound}
 use Rattle.edit_pinch.proofs.PinchDone.{pinched_live}
-use Rattle.edit_dispatch.specs.Dispatch.{scaffold_of}
+use Rattle.edit_any.specs.Dispatch.{scaffold_of}
 use Rattle.edit_scaffold.specs.Made.{IsDone}
 use Rattle.edit_scaffold.proofs.DoneIs.{split_done, flip_done, pinch_done}
 

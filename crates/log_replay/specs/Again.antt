@@ -5,7 +5,7 @@ use Rattle.grid_base.specs.declared.TheConstants.{DEPTH_MAX}
 use Rattle.grid_decided.specs.Decided.{meets_exactly}
 use Rattle.mesh_base.specs.Failing.{failing}
 use Rattle.mesh_base.specs.Mesh.{is_solid}
-use Rattle.edit_dispatch.specs.Answered.{IsAnswered}
+use Rattle.edit_any.specs.Answered.{IsAnswered}
 use Rattle.log_text.specs.declared.LogLine.{LogLine}
 use Rattle.log_text.specs.declared.LogLine.TheVariants.{Move, Moved, Did}
 use Rattle.log_replay.specs.Moves.{MayMove, AreMoves}

@@ -4,7 +4,7 @@ use Rattle.mesh_base.specs.declared.ShiftOf.{ShiftOf}
 use Rattle.mesh_base.specs.Mesh.{Mesh}
 use Rattle.mesh_base.specs.Changes.{with_solid}
 use Rattle.mesh_base.specs.Shifts.{with_moves}
-use Rattle.edit_dispatch.specs.Dispatch.{edited}
+use Rattle.edit_any.specs.Dispatch.{edited}
 use Rattle.log_text.specs.declared.LogLine.{LogLine}
 use Rattle.log_text.specs.declared.LogLine.TheVariants.{Step, Solid, Move, Moved, Did, Group, Close}
 

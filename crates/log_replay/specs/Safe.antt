@@ -7,8 +7,8 @@ use Rattle.mesh_base.specs.Valid.{IsValidSurface}
 use Rattle.edit_base.specs.declared.Change.{Change}
 use Rattle.edit_base.specs.declared.Change.TheVariants.{Pinch}
 use Rattle.edit_collapse.specs.SolidEnds.{SolidEndStays}
-use Rattle.edit_dispatch.specs.Dispatch.{edited, scaffold_of}
-use Rattle.edit_dispatch.specs.SolidVertices.{SolidVerticesStay}
+use Rattle.edit_any.specs.Dispatch.{edited, scaffold_of}
+use Rattle.edit_any.specs.SolidVertices.{SolidVerticesStay}
 use Rattle.edit_base.specs.Clauses.{MovesClear}
 use Rattle.log_text.specs.declared.LogLine.{LogLine}
 use Rattle.log_text.specs.declared.LogLine.TheVariants.{Move, Moved, Did}

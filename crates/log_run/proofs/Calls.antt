@@ -13,7 +13,7 @@ use Rattle.mesh_base.specs.Changes.{with_solid}
 use Rattle.mesh_base.specs.Shifts.{Shifts, with_moves}
 use Rattle.mesh_base.specs.Kept.{BeginsWith, MarkHolds, StandsFor}
 use Rattle.edit_base.specs.declared.Change.{Change}
-use Rattle.edit_dispatch.specs.Dispatch.{edited}
+use Rattle.edit_any.specs.Dispatch.{edited}
 use Rattle.step_text.specs.declared.TheConstants.{GROUPS_MAX}
 use Rattle.log_text.specs.declared.LogLine.{LogLine}
 use Rattle.log_text.specs.declared.LogLine.TheVariants as line
@@ -22,7 +22,7 @@ use Rattle.log_run.specs.declared.standing.StepSoFar.{StepSoFar}
 use Rattle.log_run.specs.declared.standing.Standing.{Standing}
 use Rattle.log_run.specs.States.{LogState, with_line}
 use Rattle.log_replay.specs.Moves.{MayMove}
-use Rattle.edit_dispatch.specs.Answered.{IsAnswered}
+use Rattle.edit_any.specs.Answered.{IsAnswered}
 use Rattle.log_run.specs.Fits.{FitsFirst}
 use Rattle.log_run.specs.Groups.{mesh_at, stack_of, MarksHold}
 use Rattle.log_run.specs.Parts.{StepHolds, Holds, standing, Takes}

@@ -10,7 +10,7 @@ use Rattle.mesh_base.specs.Kept.{BeginsWith}
 use Rattle.edit_base.specs.declared.Change.{Change}
 use Rattle.edit_base.specs.declared.Move.{Move}
 use Rattle.edit_base.specs.Scaffold.{motion_by}
-use Rattle.edit_dispatch.specs.Dispatch.{scaffold_of}
+use Rattle.edit_any.specs.Dispatch.{scaffold_of}
 use Rattle.motion_proof.specs.declared.Claim.{Claim}
 use Rattle.motion_proof.specs.declared.Claim.TheVariants.{Along}
 use Rattle.motion_proof.specs.declared.Entry.{Entry}

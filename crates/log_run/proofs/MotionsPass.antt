@@ -39,8 +39,8 @@ use Rattle.edit_collapse.specs.Collapse.{are_both_solid, collapse_mesh, collapse
 use Rattle.edit_pinch.specs.Pinch.{fans, first_point, later_copies, copy_points, pinch_scaffold}
 use Rattle.edit_pinch.proofs.CopySound.{pinch_is_sound}
 use Rattle.edit_pinch.proofs.PinchDone.{pinched_live}
-use Rattle.edit_dispatch.specs.Dispatch.{scaffold_of}
-use Rattle.edit_dispatch.specs.Answered.{asked_of, IsAnswered}
+use Rattle.edit_any.specs.Dispatch.{scaffold_of}
+use Rattle.edit_any.specs.Answered.{asked_of, IsAnswered}
 use Rattle.motion_proof.specs.declared.Claim.TheVariants.{Along}
 use Rattle.motion_proof.specs.Making.{PassesAs}
 use Rattle.motion_proof.proofs.Deeper.{passes_as, opens_as, closes_as}

@@ -13,15 +13,15 @@ use Rattle.mesh_base.specs.Valid.{IsValidSurface}
 use Rattle.mesh_base.proofs.MeshLaws.{sound-with_solid}
 use Rattle.mesh_base.proofs.Moves.{sound-with_moves, closed-with_moves, clear_after_moves}
 use Rattle.edit_base.specs.declared.Change.{Change}
-use Rattle.edit_dispatch.specs.Dispatch.{edited}
-use Rattle.edit_dispatch.proofs.Asked.{asked_stays_sound, asked_stays_closed, asked_stays_clear, asked_moves_clear}
+use Rattle.edit_any.specs.Dispatch.{edited}
+use Rattle.edit_any.proofs.Asked.{asked_stays_sound, asked_stays_closed, asked_stays_clear, asked_moves_clear}
 use Rattle.log_text.specs.declared.LogLine.{LogLine}
 use Rattle.log_text.specs.declared.LogLine.TheVariants as line
 use Rattle.log_replay.specs.Replay.{Replay, closed}
 use Rattle.log_replay.specs.Safe.{EditIsSafe, LineIsSafe}
 use Rattle.log_run.specs.States.{LogState, with_line}
 use Rattle.log_replay.specs.Moves.{AreMoves}
-use Rattle.edit_dispatch.specs.Answered.{asked_of, IsAnswered}
+use Rattle.edit_any.specs.Answered.{asked_of, IsAnswered}
 use Rattle.log_run.specs.Fits.{FitsFirst, FitsLater}
 use Rattle.log_run.specs.Laws.{IsValidState, StepIsClear, FittingLinesAreSafe}
 use Rattle.log_run.proofs.StepMoves.{none_moves, more_moves}

@@ -4,7 +4,7 @@ use Rattle.std.specs.FinMap as finite
 use Rattle.mesh_base.specs.Mesh.{Mesh, IsLiveVertex}
 use Rattle.mesh_base.specs.Sides.{IsClosed}
 use Rattle.mesh_base.specs.Placements.{IsClearMesh}
-use Rattle.edit_dispatch.specs.Answered.{IsAnswered}
+use Rattle.edit_any.specs.Answered.{IsAnswered}
 use Rattle.step_text.specs.declared.TheConstants.{GROUPS_MAX}
 use Rattle.log_text.specs.declared.LogLine.{LogLine}
 use Rattle.log_text.specs.declared.LogLine.TheVariants as line

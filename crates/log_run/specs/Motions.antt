@@ -13,7 +13,7 @@ use Rattle.mesh_base.specs.Shifts.{Shifts}
 use Rattle.edit_base.specs.declared.Move.{Move}
 use Rattle.edit_base.specs.declared.Touch.TheVariants.{Never}
 use Rattle.edit_base.specs.Scaffold.{Scaffold, motion_of, move_from_rest}
-use Rattle.edit_dispatch.specs.Dispatch.{scaffold_of}
+use Rattle.edit_any.specs.Dispatch.{scaffold_of}
 use Rattle.edit_scaffold.specs.Made.{claim_of}
 use Rattle.motion_proof.specs.declared.Claim.{Claim}
 use Rattle.motion_proof.specs.declared.Entry.{Entry}

@@ -1,7 +1,7 @@
 //! Changes that logs tell, compared.
 ghost use Rattle.std.specs.Prelude.{◌≡◌, ◌↔◌, IsTrue};
 ghost use Rattle.edit_base.specs.declared.Change.TheVariants.{Split, Flip, Collapse, Zip, Pinch};
-ghost use Rattle.edit_dispatch.specs.Answered.{asked_of};
+ghost use Rattle.edit_any.specs.Answered.{asked_of};
 
 use edit_base::{Asked, Change, CopyAt};
 use grid_base::Point;

@@ -3,16 +3,16 @@ ghost use Rattle.std.specs.Prelude.{◌≡◌, ◌↔◌, true, Ok, IfOk, IsTrue
 ghost use Rattle.mesh_base.specs.Kept.{BeginsWith};
 ghost use Rattle.mesh_base.specs.Placements.{IsClearMesh};
 ghost use Rattle.mesh_base.specs.Sides.{IsClosed};
-ghost use Rattle.edit_dispatch.specs.Dispatch.{edited};
+ghost use Rattle.edit_any.specs.Dispatch.{edited};
 ghost use Rattle.log_text.specs.declared.LogLine.TheVariants.{Did};
-ghost use Rattle.edit_dispatch.specs.Answered.{IsAnswered};
+ghost use Rattle.edit_any.specs.Answered.{IsAnswered};
 ghost use Rattle.log_run.specs.Parts.{Holds, Takes};
 
 use crate::changes::{are_same, asked_by};
 use crate::settling::settle_if_none;
 use crate::standing::Standing;
+use edit_any::edit;
 use edit_base::{Change, Edit};
-use edit_dispatch::edit;
 use grid_base::{DEPTH_MAX, NoMemory};
 use mesh_base::Surface;
 use std::alloc::Global;

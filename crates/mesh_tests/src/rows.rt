@@ -1,6 +1,6 @@
 //! Worked examples on a table by ids.
 use grid_base::NoMemory;
-use id_rows::Rows;
+use id_table::Rows;
 use std::process::Abort;
 use std::test::Fail;
 

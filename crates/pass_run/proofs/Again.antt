@@ -10,9 +10,9 @@ use Rattle.edit_base.specs.declared.Asked.{Asked}
 use Rattle.edit_base.specs.declared.answers.Change.{Change}
 use Rattle.edit_base.specs.declared.Edit.{Edit}
 use Rattle.edit_base.specs.declared.Edit.TheVariants.{Done, No}
-use Rattle.edit_dispatch.specs.Dispatch.{answer_to}
-use Rattle.edit_dispatch.specs.Answered.{asked_of, IsAnswered}
-use Rattle.edit_dispatch.proofs.Answered.{edits_stay_done, changes_tell_the_edit}
+use Rattle.edit_any.specs.Dispatch.{answer_to}
+use Rattle.edit_any.specs.Answered.{asked_of, IsAnswered}
+use Rattle.edit_any.proofs.Answered.{edits_stay_done, changes_tell_the_edit}
 use Rattle.log_text.specs.declared.LogLine.{LogLine}
 use Rattle.log_replay.specs.Replay.{Replay}
 use Rattle.log_replay.specs.Again.{LineIsAgain, LinesAreAgain}

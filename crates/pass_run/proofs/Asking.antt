@@ -15,7 +15,7 @@ use Rattle.pass_run.specs.PassLines.{PassRules, rules_of, line_of, answer_by, li
 use Rattle.pass_run.specs.Promises.{LinesTellTheMesh}
 use Rattle.pass_run.specs.Said.{LeadTo}
 use Rattle.pass_run.proofs.SaidLines.{ends_then}
-use Rattle.edit_dispatch.specs.Dispatch.{edited}
+use Rattle.edit_any.specs.Dispatch.{edited}
 
 -- the line of an answer makes the mesh that the answer leaves
 pub line_makes : (r : Replay) (what : Asked) (answer : Edit) → replayed r (line_of what answer) ≡ record r { mesh = mesh_after edited r.mesh answer }

@@ -11,7 +11,7 @@ use Rattle.edit_base.specs.declared.Asked.{Asked}
 use Rattle.edit_base.specs.declared.answers.Change.{Change}
 use Rattle.edit_base.specs.declared.Edit.{Edit}
 use Rattle.edit_base.specs.declared.Edit.TheVariants.{Done, No}
-use Rattle.edit_dispatch.specs.Dispatch.{answer_to, edited, scaffold_of}
+use Rattle.edit_any.specs.Dispatch.{answer_to, edited, scaffold_of}
 use Rattle.edit_base.specs.Clauses.{mesh_after}
 use Rattle.edit_base.specs.Laws.{Answer, StaysSound, StaysClosed, StaysClear, MotionIsClear}
 use Rattle.log_text.specs.declared.LogLine.{LogLine}
@@ -24,7 +24,7 @@ use Rattle.pass_run.specs.PassLines.{PassRules, rules_of, line_of, answer_by, li
 use Rattle.pass_run.specs.Promises.{PassesKeepTheMesh}
 use Rattle.pass_run.proofs.Asking.{asked_makes}
 use Rattle.pass_run.proofs.SolidEdits.{none_moves}
-use Rattle.edit_dispatch.proofs.Asked.{asked_stays_sound, asked_stays_closed, asked_stays_clear, asked_moves_clear}
+use Rattle.edit_any.proofs.Asked.{asked_stays_sound, asked_stays_closed, asked_stays_clear, asked_moves_clear}
 
 -- an answer with the laws of an edit
 answer_keeps : (answer : Answer) → StaysSound edited answer → StaysClosed edited answer → StaysClear edited answer → MotionIsClear scaffold_of answer

@@ -13,7 +13,7 @@ use Rattle.edit_base.specs.declared.Edit.TheVariants.{Done, No}
 use Rattle.edit_base.specs.declared.PassKind.{PassKind}
 use Rattle.edit_base.specs.declared.PassKind.TheVariants as kinds
 use Rattle.edit_base.specs.Clauses.{mesh_after}
-use Rattle.edit_dispatch.specs.Dispatch.{edited}
+use Rattle.edit_any.specs.Dispatch.{edited}
 use Rattle.edit_zip.specs.Answer.{is_zip_ready}
 use Rattle.edit_base.specs.Edges.{Edge, edge_of, without_faces, exact_mid}
 use Rattle.edit_zip.specs.Zip.{zip_mesh, two_faces, first_rim, second_rim, turns}

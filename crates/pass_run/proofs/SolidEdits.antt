@@ -22,8 +22,8 @@ use Rattle.edit_zip.proofs.ZipDone.{zip_always_makes}
 use Rattle.edit_pinch.specs.Done.{IsPinch}
 use Rattle.edit_pinch.proofs.PinchDone.{pinch_always_makes}
 use Rattle.edit_pinch.proofs.SolidVertices.{pinches_none_solid}
-use Rattle.edit_dispatch.specs.Dispatch.{answer_to}
-use Rattle.edit_dispatch.proofs.SolidVertices.{asked_stays}
+use Rattle.edit_any.specs.Dispatch.{answer_to}
+use Rattle.edit_any.proofs.SolidVertices.{asked_stays}
 use Rattle.log_replay.specs.Safe.{PinchesNoSolid, NoSolidMoves}
 
 -- what is said of a collapse and of a pinch

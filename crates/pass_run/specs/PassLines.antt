@@ -8,7 +8,7 @@ use Rattle.edit_base.specs.declared.Asked.{Asked}
 use Rattle.edit_base.specs.declared.Edit.{Edit}
 use Rattle.edit_base.specs.declared.PassKind.{PassKind}
 use Rattle.edit_base.specs.declared.Edit.TheVariants as edit
-use Rattle.edit_dispatch.specs.Dispatch.{answer_to, edited}
+use Rattle.edit_any.specs.Dispatch.{answer_to, edited}
 use Rattle.edit_base.specs.Clauses.{mesh_after}
 use Rattle.log_text.specs.declared.LogLine.{LogLine}
 use Rattle.log_text.specs.declared.LogLine.TheVariants as line

@@ -8,7 +8,7 @@ use Rattle.mesh_base.specs.Placements.{IsClearMesh}
 use Rattle.mesh_base.specs.Kept.{BeginsWith}
 use Rattle.edit_base.specs.declared.Asked.{Asked}
 use Rattle.edit_base.specs.declared.Edit.{Edit}
-use Rattle.edit_dispatch.specs.Dispatch.{answer_to}
+use Rattle.edit_any.specs.Dispatch.{answer_to}
 use Rattle.log_text.specs.declared.LogLine.{LogLine}
 use Rattle.outside_io.specs.declared.stop.Stop.{Stop}
 use Rattle.outside_io.specs.Outside.{Around, StoresNothing}

@@ -11,8 +11,8 @@ ghost use Rattle.pass_run.specs.Results.{exact_answer, line_asked, mesh_then};
 
 use crate::choosing::Chooses;
 use crate::lengths::{are_near, is_longer, is_shorter, length_squared};
+use edit_any::edit;
 use edit_base::{Asked, EdgeFaces, Edit, PassKind, edge_beside, is_crowded, is_edge};
-use edit_dispatch::edit;
 use edit_pinch::fan_count;
 use edit_zip::zip_ready;
 use grid_base::{DEPTH_MAX, NoMemory};

@@ -5,8 +5,8 @@ ghost use Rattle.mesh_base.specs.Sides.{IsClosed};
 ghost use Rattle.edit_scaffold.specs.Made.{IsDone};
 
 use crate::motions::whole;
+use edit_any::edit;
 use edit_base::{Asked, Change, Edit};
-use edit_dispatch::edit;
 use edit_scaffold::{lay, scaffold_of};
 use grid_base::{DEPTH_MAX, NoMemory};
 use line_text::ReadFault;

@@ -3,7 +3,7 @@ use Rattle.std.proofs.Common.{ℕ, Bool}
 use Rattle.grid_base.specs.declared.Positions.{Positions}
 use Rattle.edit_base.specs.declared.Asked.{Asked}
 use Rattle.edit_base.specs.declared.Asked.TheVariants.{Split, Flip, Collapse, Zip, Pinch}
-use Rattle.edit_dispatch.specs.Dispatch.{answer_to}
+use Rattle.edit_any.specs.Dispatch.{answer_to}
 use Rattle.run_laws.specs.Answers.{AnswersInRange}
 use Rattle.run_laws.proofs.EdgeAnswers.{split_in_range, flip_in_range, collapse_in_range}
 use Rattle.run_laws.proofs.ZipAnswers.{zip_in_range}

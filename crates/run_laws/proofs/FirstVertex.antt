@@ -16,7 +16,7 @@ use Rattle.edit_base.specs.Clauses.{mesh_after}
 use Rattle.edit_base.specs.Edges.{Edge, edge_of}
 use Rattle.edit_base.specs.Reasons.{done_unless}
 use Rattle.edit_split.specs.Split.{split_mesh, split_point}
-use Rattle.edit_dispatch.specs.Dispatch.{edited}
+use Rattle.edit_any.specs.Dispatch.{edited}
 use Rattle.step_text.specs.declared.Directive.{Directive}
 use Rattle.log_replay.specs.Replay.{Replay, at_mesh, after}
 use Rattle.log_replay.proofs.Replaying.{after-append}

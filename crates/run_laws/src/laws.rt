@@ -3,7 +3,7 @@
 
 ghost use Rattle.std.specs.Prelude.{ℕ, ◌≡◌, None};
 ghost use Rattle.std.specs.List.{AllByRecursion};
-ghost use Rattle.edit_dispatch.specs.Dispatch.{OfEdits};
+ghost use Rattle.edit_any.specs.Dispatch.{OfEdits};
 ghost use Rattle.edit_split.specs.Answer.{OfSplits};
 ghost use Rattle.edit_flip.specs.Answer.{OfFlips};
 ghost use Rattle.edit_collapse.specs.Answer.{OfCollapses};

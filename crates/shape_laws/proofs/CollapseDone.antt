@@ -18,9 +18,9 @@ use Rattle.edit_collapse.specs.Collapse.{are_both_solid, collapse_mesh, collapse
 use Rattle.edit_collapse.specs.Done.{collapse_result}
 use Rattle.edit_collapse.specs.Answer.{collapse_answer}
 use Rattle.edit_collapse.proofs.CollapseKeeps.{collapse_stays_sound}
-use Rattle.edit_dispatch.specs.Dispatch.{answer_to, edited, OfEdits}
-use Rattle.edit_dispatch.specs.Answered.{asked_of}
-use Rattle.edit_dispatch.proofs.Answered.{changes_tell_the_edit}
+use Rattle.edit_any.specs.Dispatch.{answer_to, edited, OfEdits}
+use Rattle.edit_any.specs.Answered.{asked_of}
+use Rattle.edit_any.proofs.Answered.{changes_tell_the_edit}
 use Rattle.shape_laws.specs.Link.{has_poor_edge, has_other_neighbour, may_faces_cancel, has_plain_link}
 use Rattle.shape_laws.specs.Kept.{HaveSameShape, collapse_keeps_shape, ShapeStaysOnCollapse}
 use Rattle.shape_laws.proofs.Faces.{left_alike, left_held, corner_one, corner_two}

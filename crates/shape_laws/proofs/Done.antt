@@ -25,9 +25,9 @@ use Rattle.edit_flip.specs.Flip.{flip_mesh, flip_scaffold}
 use Rattle.edit_flip.specs.Done.{flip_result}
 use Rattle.edit_flip.specs.Answer.{flip_answer, OfFlips}
 use Rattle.edit_flip.proofs.FlipSound.{flip_is_sound}
-use Rattle.edit_dispatch.specs.Dispatch.{answer_to, edited, OfEdits}
-use Rattle.edit_dispatch.specs.Answered.{asked_of}
-use Rattle.edit_dispatch.proofs.Answered.{changes_tell_the_edit}
+use Rattle.edit_any.specs.Dispatch.{answer_to, edited, OfEdits}
+use Rattle.edit_any.specs.Answered.{asked_of}
+use Rattle.edit_any.proofs.Answered.{changes_tell_the_edit}
 use Rattle.shape_laws.specs.Link.{has_two_opposites}
 use Rattle.shape_laws.specs.Kept.{HaveSameShape, keeps_shape, ShapeStays, ShapeAlwaysStays}
 use Rattle.shape_laws.proofs.Traded.{ArePair}

@@ -6,7 +6,7 @@ use Rattle.edit_base.specs.declared.answers.Change.{Change}
 use Rattle.edit_base.specs.declared.answers.Change.TheVariants.{Split, Flip, Collapse, Zip, Pinch}
 use Rattle.edit_base.specs.declared.answers.Edit.TheVariants.{Done}
 use Rattle.edit_base.specs.Laws.{Answer}
-use Rattle.edit_dispatch.specs.Dispatch.{edited}
+use Rattle.edit_any.specs.Dispatch.{edited}
 use Rattle.mesh_measure.specs.Shape.{components, euler}
 use Rattle.shape_laws.specs.Link.{has_two_opposites, has_plain_link}
 

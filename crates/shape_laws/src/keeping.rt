@@ -1,8 +1,8 @@
 //! Whether an edit keeps the shape of a mesh.
 ghost use Rattle.std.specs.Prelude.{◌≡◌, true, IfOk};
 ghost use Rattle.mesh_base.specs.Sides.{IsClosed};
-ghost use Rattle.edit_dispatch.specs.Dispatch.{edited};
-ghost use Rattle.edit_dispatch.specs.Answered.{IsAnswered};
+ghost use Rattle.edit_any.specs.Dispatch.{edited};
+ghost use Rattle.edit_any.specs.Answered.{IsAnswered};
 ghost use Rattle.shape_laws.specs.Kept.{HaveSameShape, keeps_shape, collapse_keeps_shape};
 
 use crate::link::{has_plain_link, has_two_opposites};

@@ -4,7 +4,7 @@ ghost use Rattle.mesh_base.specs.Mesh.{Mesh};
 ghost use Rattle.mesh_base.specs.Changes.{with_solid};
 ghost use Rattle.mesh_base.specs.Shifts.{Shifts, with_moves, NameOnce};
 ghost use Rattle.edit_flip.specs.Answer.{OfFlips};
-ghost use Rattle.edit_dispatch.specs.Dispatch.{OfEdits};
+ghost use Rattle.edit_any.specs.Dispatch.{OfEdits};
 ghost use Rattle.shape_laws.specs.Kept.{HaveSameShape, ShapeStays, ShapeAlwaysStays, ShapeStaysOnCollapse};
 
 /// Whatever edit is asked for, tested by whatever test to whatever depth: where it is done on a sound and closed mesh, and

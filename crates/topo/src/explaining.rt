@@ -6,15 +6,15 @@ use crate::log_watch::EndedVertices;
 use crate::names::{Names, name_of};
 use crate::rounding::{lists_in, rounded};
 use crate::texts::Texts;
-use job_reasons::{
-    Unproved, gone_reason, log_text_reason, long_reason, meeting_reason, mesh_text_reason,
-    missing_reason, motion_reason, off_text_reason, ply_text_reason, proof_text_reason,
-    replay_reason, shape_reason, step_text_reason, trouble_reason, use_reason, words_reason,
-};
 use line_text::TextFault;
 use mesh_plain::{PairName, ShapeFault, UseWhy};
 use motion_proof::Verdict;
 use outside_io::Trouble;
+use refusal_sentences::{
+    Unproved, gone_reason, log_text_reason, long_reason, meeting_reason, mesh_text_reason,
+    missing_reason, motion_reason, off_text_reason, ply_text_reason, proof_text_reason,
+    replay_reason, shape_reason, step_text_reason, trouble_reason, use_reason, words_reason,
+};
 use std::alloc::{AllocError, Global};
 use track_input::{CUBES_MAX, Format};
 use track_run::Outcome;

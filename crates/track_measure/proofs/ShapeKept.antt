@@ -4,8 +4,8 @@ use Rattle.std.proofs.Common.{Result, Ok, Err, IfOk, subst}
 use Rattle.std.specs.Prelude.{MatchBool}
 use Rattle.grid_base.specs.declared.NoMemory.{NoMemory}
 use Rattle.mesh_base.specs.Sides.{IsClosed}
-use Rattle.edit_dispatch.specs.Answered.{IsAnswered}
-use Rattle.edit_dispatch.specs.Dispatch.{edited}
+use Rattle.edit_any.specs.Answered.{IsAnswered}
+use Rattle.edit_any.specs.Dispatch.{edited}
 use Rattle.shape_laws.specs.Kept.{HaveSameShape}
 use Rattle.shape_laws.proofs.Moved.{moves_keep}
 use Rattle.track_measure.specs.Measured.{KeepsShape}

@@ -2,7 +2,7 @@ use Rattle.std.proofs.Common.{sym, subst, ◌∙◌}
 use Rattle.mesh_base.specs.Mesh.{Mesh}
 use Rattle.mesh_base.specs.Sides.{IsClosed}
 use Rattle.mesh_base.proofs.MarksHold.{begins_along, begins_after_return, holds_along, stands_along, stands_for_one}
-use Rattle.edit_dispatch.specs.Dispatch.{scaffold_of}
+use Rattle.edit_any.specs.Dispatch.{scaffold_of}
 use Rattle.edit_scaffold.specs.Made.{IsDone, IsTestedOn}
 use Rattle.edit_scaffold.proofs.Fitting.{laid_ways_fit}
 use Rattle.edit_scaffold.proofs.Lying.{has_one}

@@ -7,7 +7,7 @@ use Rattle.edit_base.specs.Edges.{Edge}
 use Rattle.edit_base.specs.Required.{HasEdge}
 use Rattle.edit_split.specs.Split.{split_scaffold}
 use Rattle.edit_flip.specs.Flip.{flip_scaffold}
-use Rattle.edit_dispatch.specs.Dispatch.{scaffold_of}
+use Rattle.edit_any.specs.Dispatch.{scaffold_of}
 use Rattle.edit_scaffold.specs.Made.{IsDone, ArePartsOf, IsTestedOn}
 use Rattle.edit_scaffold.proofs.DoneIs.{split_done, flip_done, pinch_done}
 use Rattle.edit_scaffold.proofs.putting.put.Goals as goal

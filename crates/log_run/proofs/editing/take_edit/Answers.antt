@@ -1,8 +1,8 @@
 use Rattle.std.proofs.Common.{◌≡◌, List, true, Ok, sym, ap, subst, ◌∙◌}
 use Rattle.std.specs.Prelude.{◌↔◌, IsTrue, IfOk}
 use Rattle.mesh_base.specs.Mesh.{Mesh}
-use Rattle.edit_dispatch.specs.Dispatch.{edited}
-use Rattle.edit_dispatch.specs.Answered.{IsAnswered}
+use Rattle.edit_any.specs.Dispatch.{edited}
+use Rattle.edit_any.specs.Answered.{IsAnswered}
 use Rattle.log_run.specs.Groups.{stack_of, MarksHold}
 use Rattle.log_run.proofs.OpenMarks.{stack_along, marks_along}
 use Rattle.log_run.proofs.Calls.{edit_taken}

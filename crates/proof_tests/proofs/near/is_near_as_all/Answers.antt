@@ -1,7 +1,7 @@
 use Rattle.std.proofs.Common.{ℕ, List, sym, subst}
 use Rattle.edit_base.specs.declared.Move.{Move}
 use Rattle.edit_check.specs.Untouched.{IsClearWhereUntouched}
-use Rattle.edit_dispatch.specs.Dispatch.{scaffold_of}
+use Rattle.edit_any.specs.Dispatch.{scaffold_of}
 use Rattle.motion_proof.specs.Acceptance.{AreWays}
 use Rattle.edit_scaffold.specs.Made.{IsLaid}
 use Rattle.edit_scaffold.proofs.Agreeing.{laid_is_clear}

@@ -3,8 +3,8 @@ use Rattle.std.proofs.lemmas.Result.{IfOk-weaker}
 use Rattle.grid_base.specs.declared.TheConstants.{DEPTH_MAX}
 use Rattle.grid_decided.specs.Decided.{meets_exactly}
 use Rattle.mesh_base.specs.Sides.{IsClosed}
-use Rattle.edit_dispatch.specs.Dispatch.{edited}
-use Rattle.edit_dispatch.specs.Answered.{IsAnswered}
+use Rattle.edit_any.specs.Dispatch.{edited}
+use Rattle.edit_any.specs.Answered.{IsAnswered}
 use Rattle.shape_laws.specs.Link.{has_plain_link}
 use Rattle.shape_laws.specs.Kept.{HaveSameShape, collapse_keeps_shape}
 use Rattle.shape_laws.proofs.CollapseDone.{collapse_kept}

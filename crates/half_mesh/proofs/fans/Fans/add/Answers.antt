@@ -5,7 +5,7 @@ use Rattle.half_mesh.specs.Fans.{Woven, bare}
 use Rattle.std.specs.FinMap as finite
 use Rattle.half_mesh.specs.Ground.{Ground}
 use Rattle.half_mesh.proofs.Mapped.{mapped-insert, len-mapped}
-use Rattle.id_rows.specs.Stock.{Stock}
+use Rattle.id_table.specs.Stock.{Stock}
 use Rattle.half_mesh.specs.Mapped.{mapped}
 use Rattle.half_mesh.proofs.Grounds.{ground_same}
 use Rattle.half_mesh.proofs.Outcomes.{on_ok, on_err}

@@ -1,12 +1,12 @@
 use Rattle.std.proofs.Common.{refl, ap, sym, ◌∙◌}
 use Rattle.std.specs.FinMap as finite
 use Rattle.half_mesh.specs.declared.row.Row.{Row}
-use Rattle.id_rows.specs.Stock.{Stock}
+use Rattle.id_table.specs.Stock.{Stock}
 use Rattle.half_mesh.specs.Ground.{Ground}
 use Rattle.half_mesh.specs.Fans.{Fan, Woven}
 use Rattle.half_mesh.specs.Mapped.{mapped}
 use Rattle.half_mesh.specs.Walks.{fan_of, woven_of}
-use Rattle.id_rows.proofs.BuriedItems.{some_of}
+use Rattle.id_table.proofs.BuriedItems.{some_of}
 use Rattle.half_mesh.proofs.Grounds.{ground_same}
 use Rattle.half_mesh.proofs.Mapped.{mapped-remove, mapped-insert}
 use Rattle.half_mesh.proofs.Fanned.{fanned-remove, row_there, fan-at}

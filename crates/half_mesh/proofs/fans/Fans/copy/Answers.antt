@@ -5,7 +5,7 @@ use Rattle.std.specs.FinMap as finite
 use Rattle.slab.specs.Slab.{slab_len}
 use Rattle.half_mesh.specs.Fans.{Woven}
 use Rattle.half_mesh.specs.Mapped.{mapped}
-use Rattle.id_rows.specs.Stock.{Stock}
+use Rattle.id_table.specs.Stock.{Stock}
 use Rattle.half_mesh.specs.declared.row.Row.{Row}
 use Rattle.half_mesh.specs.Walks.{fan_of, side_of}
 use Rattle.half_mesh.specs.Ground.{Ground}

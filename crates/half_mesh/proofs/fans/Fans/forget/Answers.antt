@@ -1,7 +1,7 @@
 use Rattle.std.proofs.Common.{is_some, refl, ap, sym, ◌∙◌}
 use Rattle.std.specs.FinMap as finite
 use Rattle.half_mesh.specs.declared.row.Row.{Row}
-use Rattle.id_rows.specs.Stock.{Stock}
+use Rattle.id_table.specs.Stock.{Stock}
 use Rattle.half_mesh.specs.Ground.{Ground}
 use Rattle.half_mesh.specs.Mapped.{mapped}
 use Rattle.half_mesh.specs.Walks.{woven_of}

@@ -3,12 +3,12 @@ use Rattle.std.specs.Option.{option_map}
 use Rattle.std.specs.FinMap as finite
 use Rattle.half_mesh.specs.declared.row.Vertex.{Vertex}
 use Rattle.half_mesh.specs.declared.row.Row.{Row}
-use Rattle.id_rows.specs.Stock.{Stock}
+use Rattle.id_table.specs.Stock.{Stock}
 use Rattle.half_mesh.specs.Ground.{Ground}
 use Rattle.half_mesh.specs.Fans.{Woven, bare}
 use Rattle.half_mesh.specs.Mapped.{mapped}
 use Rattle.half_mesh.specs.Walks.{fan_of, woven_of}
-use Rattle.id_rows.proofs.BuriedItems.{no_none}
+use Rattle.id_table.proofs.BuriedItems.{no_none}
 use Rattle.half_mesh.proofs.Grounds.{ground_same}
 use Rattle.half_mesh.proofs.Mapped.{mapped-remove, mapped-insert, get-mapped, len-mapped}
 use Rattle.half_mesh.proofs.Fanned.{fanned-insert, fanned-none, no_row}

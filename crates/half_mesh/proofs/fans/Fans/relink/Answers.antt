@@ -5,7 +5,7 @@ use Rattle.std.specs.FinMap as finite
 use Rattle.slab.specs.Slab.{get}
 use Rattle.half_mesh.specs.declared.halves.Half.{Half}
 use Rattle.half_mesh.specs.declared.row.Row.{Row}
-use Rattle.id_rows.specs.Stock.{Stock}
+use Rattle.id_table.specs.Stock.{Stock}
 use Rattle.half_mesh.specs.Ground.{Ground}
 use Rattle.half_mesh.specs.Fans.{Fan, Side, put_spoke, IsOutside}
 use Rattle.half_mesh.specs.Walks.{woven_of, spoke_of, side_of}

@@ -5,7 +5,7 @@ use Rattle.half_mesh.specs.Mapped.{mapped}
 use Rattle.half_mesh.proofs.Grounds.{ground_same}
 use Rattle.half_mesh.specs.Walks.{fan_of, woven_of}
 use Rattle.half_mesh.specs.Ground.{Ground}
-use Rattle.id_rows.specs.Stock.{Stock}
+use Rattle.id_table.specs.Stock.{Stock}
 use Rattle.half_mesh.specs.declared.row.Row.{Row}
 use Rattle.half_mesh.proofs.Mapped.{mapped-remove}
 use Rattle.half_mesh.proofs.Fanned.{fanned-remove, row_there}

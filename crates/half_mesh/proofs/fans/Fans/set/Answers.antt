@@ -6,7 +6,7 @@ use Rattle.half_mesh.specs.Mapped.{mapped}
 use Rattle.half_mesh.proofs.Grounds.{ground_same}
 use Rattle.half_mesh.specs.Fans.{Fan, Woven}
 use Rattle.half_mesh.specs.Ground.{Ground}
-use Rattle.id_rows.specs.Stock.{Stock}
+use Rattle.id_table.specs.Stock.{Stock}
 use Rattle.half_mesh.proofs.Fanned.{fanned-insert, woven-insert, fan-at, no_fan}
 use Rattle.half_mesh.proofs.fans.Fans.set.Goals as goal
 

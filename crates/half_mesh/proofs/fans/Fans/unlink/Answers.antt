@@ -2,7 +2,7 @@ use Rattle.std.proofs.Common.{◌≡◌, refl, ◌==◌, true, false, Some, None
 use Rattle.std.proofs.lemmas.Bool.Decides.{nat_tests}
 use Rattle.half_mesh.specs.declared.halves.Half.{Half}
 use Rattle.half_mesh.specs.Ground.{Ground}
-use Rattle.id_rows.specs.Stock.{Stock}
+use Rattle.id_table.specs.Stock.{Stock}
 use Rattle.half_mesh.specs.declared.row.Row.{Row}
 use Rattle.half_mesh.proofs.SidesAt.{side_at-woven}
 use Rattle.slab.specs.Slab.{get}

@@ -5,7 +5,7 @@ use Rattle.mesh_base.specs.Mesh.{Mesh}
 use Rattle.mesh_base.specs.Changes.{with_face}
 use Rattle.mesh_base.proofs.Finite.{live_inserted}
 use Rattle.half_mesh.specs.Ground.{Ground}
-use Rattle.id_rows.specs.Stock.{Stock}
+use Rattle.id_table.specs.Stock.{Stock}
 use Rattle.half_mesh.specs.Tied.{Keys, AreTied, AreRings, woven_mesh, corners_at, faces_in}
 use Rattle.half_mesh.specs.Fans.{side_at}
 use Rattle.half_mesh.proofs.Ledgers.{SidesStay, rings-stay, faces-stay, state_same, buried_same}

@@ -6,7 +6,7 @@ use Rattle.std.specs.FinMap as finite
 use Rattle.std.specs.FinMap.{FinMap, get-remove}
 use Rattle.mesh_base.specs.declared.ids.Corners.{Corners}
 use Rattle.mesh_base.specs.Changes.{without_face}
-use Rattle.id_rows.specs.Stock.{Stock}
+use Rattle.id_table.specs.Stock.{Stock}
 use Rattle.half_mesh.specs.Tied.{AreTied, AreRings, woven_mesh, corners_at, faces_in, ledger_in}
 use Rattle.half_mesh.specs.States.{AreApart, Ledger}
 use Rattle.half_mesh.specs.Vertices.{points_in, solid_in}

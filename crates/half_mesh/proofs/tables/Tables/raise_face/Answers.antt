@@ -2,7 +2,7 @@ use Rattle.std.proofs.Common.{ℕ, ◌≡◌, ◌/◌, min, Some, None, is_some,
 use Rattle.std.specs.Option.{option_map}
 use Rattle.std.specs.FinMap as finite
 use Rattle.mesh_base.specs.declared.ids.Corners.{Corners}
-use Rattle.id_rows.specs.Stock.{Stock}
+use Rattle.id_table.specs.Stock.{Stock}
 use Rattle.half_mesh.specs.States.{Ledger, AreApart, CanRaiseFace, raise_face}
 use Rattle.half_mesh.specs.Vertices.{points_in, solid_in}
 use Rattle.half_mesh.specs.Tied.{AreTied, AreRings, IsRing, ledger_in, corners_at, faces_in}

@@ -1,5 +1,0 @@
-use Rattle.edit_dispatch.proofs.Asked.{asked_stays_sound, asked_stays_closed, asked_stays_clear, asked_moves_clear}
-use Rattle.edit_dispatch.proofs.laws.edits_keep_the_mesh.Goals as goal
-
-pub returns : goal.returns
-returns c = record { sound = asked_stays_sound; closed = asked_stays_closed; clear = asked_stays_clear; motion = asked_moves_clear }
