@@ -58,3 +58,9 @@ abbrev pub OnLaid : Result (Option Laid) NoMemory → (Laid → Type 0) → Type
 OnLaid (Ok (Some laid)) P = P laid
 OnLaid (Ok None) P = ⊤
 OnLaid (Err fault) P = ⊤
+
+-- unless something is laid, the kept meshes are those before
+abbrev pub KeepsUnlessLaid : Result (Option Laid) NoMemory → List Mesh → List Mesh → Type 0
+KeepsUnlessLaid (Ok (Some laid)) new old = ⊤
+KeepsUnlessLaid (Ok None) new old = new ≡ old
+KeepsUnlessLaid (Err fault) new old = new ≡ old

@@ -1,10 +1,10 @@
-ghost use Rattle.std.specs.Prelude.{◌≡◌, is_none, length, IfOk, OnErr};
+ghost use Rattle.std.specs.Prelude.{◌≡◌, ◌+◌, is_none, length, IfOk, OnErr};
 ghost use Rattle.mesh_base.specs.Kept.{BeginsWith, MarkHolds, StandsFor};
 ghost use Rattle.mesh_base.specs.Mesh.{Mesh};
 ghost use Rattle.mesh_base.specs.Sides.{IsClosed};
 ghost use Rattle.edit_any.specs.Dispatch.{scaffold_of};
 ghost use Rattle.motion_proof.specs.Acceptance.{AreWays};
-ghost use Rattle.edit_scaffold.specs.Made.{IsDone, IsMade, IsLaid, OnLaid};
+ghost use Rattle.edit_scaffold.specs.Made.{IsDone, IsMade, IsLaid, OnLaid, KeepsUnlessLaid};
 
 use crate::putting::put;
 use crate::scaffold::{Laid, Scaffold};
@@ -47,10 +47,11 @@ pub fn scaffold_of<S: Surface>(
     }))
 }
 
-/// Makes of a mesh the one on which a done edit of it was tested, and answers how its vertices move there and what is claimed of that,
-/// as `scaffold_of` does of a copy; None exactly for a zip, which moves nothing. The mesh is closed, and the change is what an edit of it
-/// does, tested to some depth. A return to the mark gives the mesh from before back, next ids included. After None, and where memory is
-/// wanting, the mesh is as it was. Earlier marks still hold.
+/// Makes of a mesh the one on which a done edit of it was tested, and answers how its vertices move there and what is
+/// claimed of that, as `scaffold_of` does of a copy; None exactly for a zip, which moves nothing. The mesh is closed, and
+/// the change is what an edit of it does, tested to some depth. A return to the mark gives the mesh from before back, next
+/// ids included, and leaves what was kept before. After None, and where memory is wanting, the mesh is as it was, next ids
+/// included, and so is what was kept. Earlier marks still hold.
 ///
 /// What it costs is what the edit changes, and the mark: no copy of the mesh is made where marks make none.
 pub fn lay<S: Surface>(
@@ -70,7 +71,9 @@ pub fn lay<S: Surface>(
     ensures stands { let kept = S.kept mesh.new in
         OnLaid result (λ laid. StandsFor kept laid.mark (S.mesh mesh.old)) }
     ensures under { OnLaid result (λ laid. laid.mark.under ≡ length (S.kept mesh.old)) }
+    ensures place { OnLaid result (λ laid. laid.mark.under ≡ laid.mark.place + S.beyond) }
     ensures marks { BeginsWith (S.kept mesh.new) (S.kept mesh.old) }
+    ensures kept { KeepsUnlessLaid result (S.kept mesh.new) (S.kept mesh.old) }
 {
     if moves_nothing(change) {
         return Ok(None);

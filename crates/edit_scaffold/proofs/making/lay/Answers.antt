@@ -1,7 +1,7 @@
 use Rattle.std.proofs.Common.{sym, subst, ◌∙◌}
 use Rattle.mesh_base.specs.Mesh.{Mesh}
 use Rattle.mesh_base.specs.Sides.{IsClosed}
-use Rattle.mesh_base.proofs.MarksHold.{begins_along, begins_after_return, holds_along, stands_along, stands_for_one}
+use Rattle.mesh_base.proofs.MarksHold.{begins_along, begins_after_return, kept_after_return, holds_along, stands_along, stands_for_one}
 use Rattle.edit_any.specs.Dispatch.{scaffold_of}
 use Rattle.edit_scaffold.specs.Made.{IsDone, IsTestedOn}
 use Rattle.edit_scaffold.proofs.Fitting.{laid_ways_fit}
@@ -65,3 +65,11 @@ returns-in-Err-clause-marks g c =
     let old = kept c.args.mesh.now in
     begins_after_return (kept c.back_to.new.self) newest old c.in_ok-mark.mark.under c.in_ok-mark.ensures.under
     (begins_along newest (kept c.mark.new.self) old c.put.ensures.marks c.mark.ensures.marks) c.back_to.ensures.marks
+
+pub returns-in-Err-clause-kept : goal.returns-in-Err-clause-kept
+returns-in-Err-clause-kept g c =
+    let kept = g.S.Surface.kept in
+    let newest = kept c.put.new.mesh in
+    let old = kept c.args.mesh.now in
+    kept_after_return (kept c.back_to.new.self) newest old c.in_ok-mark.mark g.S.Surface.beyond c.in_ok-mark.ensures.under c.in_ok-mark.ensures.place
+    (begins_along newest (kept c.mark.new.self) old c.put.ensures.marks c.mark.ensures.marks) c.back_to.ensures.kept
