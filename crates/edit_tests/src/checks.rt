@@ -7,7 +7,7 @@ ghost use Rattle.edit_check.specs.Untouched.{MoveFits};
 use crate::meshes::{TWO_TETRAHEDRA, any_mesh_at, point};
 use edit_check::{Move, Touch, check, check_still};
 use grid_base::{NoMemory, Point, Wide};
-use mesh_plain::{FaceId, PairName, VertexId};
+use mesh_base::{FaceId, PairName, VertexId};
 use pair_scan::first_meeting;
 use std::alloc::Global;
 use std::process::Abort;

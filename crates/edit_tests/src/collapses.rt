@@ -4,7 +4,7 @@ use crate::meshes::{TETRAHEDRON, has_faces, mesh_at, reason_of};
 use edit_base::{Change, Edit, Why};
 use edit_collapse::collapse;
 use grid_base::Point;
-use mesh_plain::{FaceId, PairName, Surface, VertexId};
+use mesh_base::{FaceId, PairName, Surface, VertexId};
 use std::test::Fail;
 
 const DEPTH: u8 = 6;

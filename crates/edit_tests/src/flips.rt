@@ -4,7 +4,7 @@ use crate::meshes::{FLAT, FLAT_FACES, JOINED, JOINED_FACES, has_faces, mesh_at, 
 use edit_base::{Change, Edit, Why};
 use edit_flip::flip;
 use grid_base::NoMemory;
-use mesh_plain::{FaceId, PairName, Surface, VertexId};
+use mesh_base::{FaceId, PairName, Surface, VertexId};
 use std::alloc::Global;
 use std::process::Abort;
 use std::test::Fail;

@@ -5,7 +5,8 @@ ghost use Rattle.mesh_base.specs.Sides.{IsClosed};
 
 use edit_base::{Edit, Why};
 use grid_base::{NoMemory, Point};
-use mesh_plain::{FaceId, MeshLists, PlainMesh, Points, Surface, Triangles, VertexId, shape};
+use mesh_base::{FaceId, MeshLists, Points, Surface, Triangles, VertexId};
+use mesh_plain::{PlainMesh, shape};
 use pair_scan::first_meeting;
 use std::alloc::Global;
 use std::process::Abort;

@@ -13,7 +13,7 @@ use crate::meshes::{
 use edit_base::{Change, EdgeFaces, Edit, Why, edge_beside, is_crowded};
 use edit_split::{apply_split, is_split_over, split};
 use grid_base::Point;
-use mesh_plain::{FaceId, PairName, Surface, VertexId};
+use mesh_base::{FaceId, PairName, Surface, VertexId};
 use std::test::Fail;
 
 const DEPTH: u8 = 6;

@@ -5,7 +5,7 @@ use crate::meshes::{
 };
 use edit_base::{Change, Edit, Why};
 use edit_zip::{zip, zip_ready};
-use mesh_plain::{FaceId, PairName, Surface, VertexId};
+use mesh_base::{FaceId, PairName, Surface, VertexId};
 use std::test::Fail;
 
 // Two boxes that face each other, and a bar between them.

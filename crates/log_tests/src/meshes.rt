@@ -1,6 +1,6 @@
 //! Meshes for the examples, as texts.
 use line_text::ReadFault;
-use mesh_plain::MeshLists;
+use mesh_base::MeshLists;
 use obj_text::read_obj;
 use std::alloc::Global;
 use std::process::Abort;

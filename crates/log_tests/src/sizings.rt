@@ -5,7 +5,8 @@ ghost use Rattle.mesh_base.specs.Sides.{IsClosed};
 
 use crate::meshes::{EVEN, RIGHT, TETRAHEDRON, lists_of};
 use grid_base::Point;
-use mesh_plain::{PlainMesh, Surface, shape};
+use mesh_base::Surface;
+use mesh_plain::{PlainMesh, shape};
 use mesh_sizing::{Band, Sizing, Want};
 use outside_io::MemorySink;
 use pair_scan::first_meeting;

@@ -5,7 +5,8 @@ ghost use Rattle.grid_base.specs.Triples.{IsWithin};
 ghost use Rattle.motion_proof.specs.Acceptance.{AreWays};
 
 use grid_base::{HALF_MAX, NoMemory, Point, Wide};
-use mesh_plain::{FaceId, MeshLists, PairName, PlainMesh, Points, Triangles, VertexId, shape};
+use mesh_base::{FaceId, MeshLists, PairName, Points, Triangles, VertexId};
+use mesh_plain::{PlainMesh, shape};
 use motion_proof::{
     Certificate, Claim, Entries, Entry, Made, Tree, Verdict, Way, accepts, certify,
 };

@@ -11,7 +11,7 @@ use edit_base::{Asked, Change};
 use edit_proof::{accepts_near, certify_near};
 use edit_scaffold::lay;
 use grid_base::NoMemory;
-use mesh_plain::{Surface, VertexId};
+use mesh_base::{Surface, VertexId};
 use motion_proof::{Certificate, Claim, Entries, Made, Way, accepts, certify};
 use std::alloc::Global;
 use std::test::Fail;

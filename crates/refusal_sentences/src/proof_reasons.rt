@@ -4,7 +4,7 @@ ghost use Rattle.grid_base.specs.declared.TheConstants.{TEXT_MAX};
 
 use crate::places::{encoding, line_at, place};
 use line_text::{TextFault, TextWhy};
-use mesh_plain::PairName;
+use mesh_base::PairName;
 use std::alloc::{AllocError, Global};
 
 // What a line of a proof should be, by the reason.

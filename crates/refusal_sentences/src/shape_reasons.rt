@@ -4,7 +4,7 @@ ghost use Rattle.grid_base.specs.declared.TheConstants.{TEXT_MAX};
 
 use crate::face_lines::line_of_face;
 use grid_base::{FACES_MAX, VERTICES_MAX};
-use mesh_plain::{MeshLists, PairName, ShapeFault};
+use mesh_base::{MeshLists, PairName, ShapeFault};
 use std::alloc::{AllocError, Global};
 use track_input::Format;
 

@@ -5,7 +5,7 @@ ghost use Rattle.grid_base.specs.declared.TheConstants.{TEXT_MAX};
 use crate::places::{encoding, line_at, place, word_at};
 use grid_base::{BOX, SHIFT_MAX};
 use line_text::{TextFault, TextWhy};
-use mesh_plain::UseWhy;
+use mesh_base::UseWhy;
 use std::alloc::{AllocError, Global};
 
 // How a directive is written, by its first word.

@@ -1,7 +1,7 @@
 // What may be amiss in a job that is done.
 ghost use Rattle.std.specs.Prelude.{◌<◌, ◌≤◌};
 
-use mesh_plain::MeshLists;
+use mesh_base::MeshLists;
 use std::alloc::{AllocError, Global};
 use step_text::{Directive, Directives};
 

@@ -7,7 +7,7 @@ use crate::names::{Names, name_of};
 use crate::rounding::{lists_in, rounded};
 use crate::texts::Texts;
 use line_text::TextFault;
-use mesh_plain::{PairName, ShapeFault, UseWhy};
+use mesh_base::{PairName, ShapeFault, UseWhy};
 use motion_proof::Verdict;
 use outside_io::Trouble;
 use refusal_sentences::{

@@ -2,7 +2,7 @@
 ghost use Rattle.std.specs.Prelude.{◌≤◌};
 ghost use Rattle.grid_base.specs.declared.TheConstants.{DECIMALS_MAX};
 
-use mesh_plain::FileWord;
+use mesh_base::FileWord;
 use std::alloc::Global;
 use track_input::{Command, Format, LogFiles, MeshFile, command_of};
 

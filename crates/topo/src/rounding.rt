@@ -3,7 +3,7 @@ ghost use Rattle.std.specs.Prelude.{◌≤◌, length};
 ghost use Rattle.grid_base.specs.declared.TheConstants.{TEXT_MAX, DECIMALS_MAX};
 
 use grid_base::DECIMALS_MAX;
-use mesh_plain::MeshLists;
+use mesh_base::MeshLists;
 use obj_text::read_obj;
 use other_text::{read_off, read_ply};
 use refusal_sentences::rounding_warning;

@@ -6,7 +6,7 @@ use crate::names::Names;
 use crate::rounding::{finest, lists_in};
 use crate::texts::Texts;
 use grid_base::TEXT_MAX;
-use mesh_plain::MeshLists;
+use mesh_base::MeshLists;
 use outside_io::{Desk, FileDesk, TryLock};
 use refusal_sentences::{
     asks_in_vain, is_inside_out, is_unsaved, manifold_warning, prefix_warning, rounding_warning,

@@ -11,7 +11,7 @@ use crate::listing::{faults_told, first_of};
 use crate::report::report_of;
 use log_text::{LogLine, Refusal};
 use log_write::write_line;
-use mesh_plain::MeshLists;
+use mesh_base::MeshLists;
 use outside_io::{Outside, Stop};
 use std::alloc::Global;
 use track_input::MeshFile;

@@ -7,7 +7,7 @@ ghost use Rattle.track_check.specs.Finding.{Finds, Reads};
 use grid_base::NoMemory;
 use line_text::ReadFault;
 use log_text::Refusal;
-use mesh_plain::{FileWord, MeshLists};
+use mesh_base::{FileWord, MeshLists};
 use outside_io::{Fetched, Outside, Stop};
 use std::alloc::Global;
 use track_convert::read_lists;

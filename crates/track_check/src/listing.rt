@@ -9,10 +9,9 @@ ghost use Rattle.track_check.specs.Check.{refusal_of, shape_as_fault, pair_as_fa
 use crate::fault::{FAULTS_MAX, Fault, refusal_of};
 use grid_base::NoMemory;
 use log_text::Refusal;
-use mesh_base::{PairName, ShapeFault};
+use mesh_base::{MeshLists, PairName, ShapeFault};
 use mesh_faults::{meeting_pairs, shape_faults};
 use mesh_journal::JournalMesh;
-use mesh_plain::MeshLists;
 use std::alloc::Global;
 
 // Faults of shape.

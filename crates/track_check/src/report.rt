@@ -8,8 +8,7 @@ ghost use Rattle.track_check.specs.Check.{fault_line, checked_line, report_of};
 use crate::fault::Fault;
 use grid_base::NoMemory;
 use line_text::{Field, put_line};
-use mesh_base::{PairName, ShapeFault};
-use mesh_plain::MeshLists;
+use mesh_base::{MeshLists, PairName, ShapeFault};
 use std::alloc::Global;
 
 // Appends the line of a fault of shape with one number.

@@ -16,7 +16,7 @@ use grid_base::NoMemory;
 use line_text::{Field, put_line};
 use log_text::{LogLine, Refusal};
 use log_write::write_line;
-use mesh_plain::MeshLists;
+use mesh_base::MeshLists;
 use outside_io::{Outside, Stop};
 use std::alloc::Global;
 use track_input::MeshFile;

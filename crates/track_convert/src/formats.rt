@@ -6,7 +6,7 @@ ghost use Rattle.track_convert.specs.Formats.{lists_in, text_in};
 
 use grid_base::NoMemory;
 use line_text::ReadFault;
-use mesh_plain::MeshLists;
+use mesh_base::MeshLists;
 use obj_text::{obj_of_lists, read_obj};
 use other_text::{off_of, ply_of, read_off, read_ply};
 use std::alloc::Global;

@@ -9,7 +9,7 @@ use crate::refusal::LogRefusal;
 use grid_base::NoMemory;
 use line_text::{Field, TextFault, put_line};
 use log_text::{LogLine, print_line, why_word};
-use mesh_plain::PairName;
+use mesh_base::PairName;
 use motion_proof::Verdict;
 use outside_io::{Outside, Stop};
 use std::alloc::Global;

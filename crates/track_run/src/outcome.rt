@@ -1,5 +1,5 @@
 use line_text::TextFault;
-use mesh_plain::{FileWord, PairName, ShapeFault, UseWhy};
+use mesh_base::{FileWord, PairName, ShapeFault, UseWhy};
 use motion_proof::Verdict;
 
 /// How a run ended.

@@ -8,7 +8,7 @@ ghost use Rattle.track_try.specs.Told.{counts_in};
 
 use grid_base::{NoMemory, Point};
 use line_text::{Field, put_line};
-use mesh_plain::{Surface, VertexId};
+use mesh_base::{Surface, VertexId};
 use outside_io::TallySink;
 use std::alloc::Global;
 
