@@ -40,7 +40,7 @@ fn along(xs: &[i32; 8], v: VertexId) -> i32 {
     }
 }
 
-fn shifts_of<S: Surface>(
+pub(crate) fn shifts_of<S: Surface>(
     alloc: Global,
     mesh: &S,
     xs: &[i32; 8],

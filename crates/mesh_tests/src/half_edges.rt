@@ -4,8 +4,9 @@ use crate::plays::is_allowed;
 use edit_acts::{make_face, make_faces, make_vertex};
 use grid_base::{FACES_MAX, ID_MAX, Point, VERTICES_MAX};
 use half_mesh::HalfMesh;
+use mesh_base::{FaceId, Surface, VertexId};
 use mesh_journal::Undoable;
-use mesh_plain::{FaceId, Surface, VertexId, shape};
+use mesh_plain::shape;
 use mesh_play::Act;
 use std::test::Fail;
 

@@ -10,6 +10,8 @@ mod half_edges;
 #[cfg(test)]
 mod impulses;
 #[cfg(test)]
+mod kept_lists;
+#[cfg(test)]
 mod meshes;
 #[cfg(test)]
 mod near;

@@ -2,9 +2,9 @@
 
 use crate::meshes::tetrahedron;
 use grid_base::{Extent, Point};
-use mesh_base::faces_near_of_all;
+use mesh_base::{FaceId, Surface, faces_near_of_all};
 use mesh_journal::JournalMesh;
-use mesh_plain::{FaceId, Surface, shape};
+use mesh_plain::shape;
 use std::process::Abort;
 use std::test::Fail;
 

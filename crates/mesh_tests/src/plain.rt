@@ -1,11 +1,11 @@
 //! Worked examples: a tetrahedron, lists with each fault, and a full mesh.
 use crate::meshes::{SIDES, TETRAHEDRON, lists_of};
 use grid_base::{NoMemory, Point};
-use mesh_base::sides_in_order;
-use mesh_plain::{
-    AddFault, FaceId, MeshLists, PlainMesh, ShapeFault, ShapeRefusal, Surface, VertexId,
-    edges_in_order, shape,
+use mesh_base::{
+    AddFault, FaceId, MeshLists, ShapeFault, ShapeRefusal, Surface, VertexId, edges_in_order,
+    sides_in_order,
 };
+use mesh_plain::{PlainMesh, shape};
 use std::alloc::Global;
 use std::process::Abort;
 use std::test::Fail;

@@ -1,10 +1,10 @@
 //! Worked examples.
 mod all_pairs;
-mod generated;
+pub(crate) mod generated;
 
 use crate::meshes::mesh_at;
 use grid_base::NoMemory;
-use mesh_plain::{FaceId, PairName, VertexId};
+use mesh_base::{FaceId, PairName, VertexId};
 use pair_scan::first_meeting;
 use std::alloc::Global;
 use std::process::Abort;

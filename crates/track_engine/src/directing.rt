@@ -32,12 +32,12 @@ use edit_base::PassKind;
 use grid_base::{Point, Shift};
 use log_text::LogLine;
 use log_write::write_line;
-use mesh_plain::{How, Shifts, Surface, UseWhy};
+use mesh_base::{How, Shifts, Surface, UseWhy};
 use mesh_sizing::{Band, Sizing};
 use outside_io::{Outside, Stop};
 use pass_run::{PassCount, PassTerms, Turns, fit_to, pass_to};
 use std::alloc::Global;
-use step_choose::{Choice, asked_hits, choose_by_hits};
+use step_choose::{Choice, choose_by_hits};
 use step_text::Directive;
 
 // Whether a step is taken by the asked shifts.
@@ -128,7 +128,10 @@ impl<S: Surface> Engine<S> {
         }
         let k = self.run.steps + 1;
         write_line(alloc, outside, &LogLine::Step { k })?;
-        let hits = asked_hits(alloc, &self.mesh, &self.run.asked, self.run.set.depth)?;
+        let depth = self.run.set.depth;
+        let hits = self
+            .near
+            .asked_hits(alloc, &self.mesh, &self.run.asked, depth)?;
         say_hits(alloc, hits.as_slice(), outside)?;
         let choice = choose_by_hits(alloc, &self.mesh, &self.run.asked, hits, &self.run.set)?;
         let still = no_shifts(alloc, &self.mesh)?;

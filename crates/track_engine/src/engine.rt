@@ -6,15 +6,18 @@ use crate::open_groups::OpenGroups;
 use crate::run_state::RunState;
 use crate::shifting::no_shifts;
 use grid_base::NoMemory;
-use mesh_plain::Surface;
+use mesh_base::Surface;
 use std::alloc::Global;
 use step_choose::Settings;
+use step_lists::StepLists;
 
-/// A mesh with what directives have asked of it so far.
+/// A mesh with what directives have asked of it so far, and what is kept so that the pairs of a step are found sooner. No answer
+/// depends on the last.
 #[derive(Drop)]
 pub struct Engine<S> {
     pub mesh: S,
     pub run: RunState,
+    pub near: StepLists,
 }
 
 impl<S: Surface + Drop> Engine<S> {
@@ -33,6 +36,10 @@ impl<S: Surface + Drop> Engine<S> {
             saved: 0,
             groups: OpenGroups::none(alloc),
         };
-        Ok(Engine { mesh, run })
+        Ok(Engine {
+            mesh,
+            run,
+            near: StepLists::none(),
+        })
     }
 }

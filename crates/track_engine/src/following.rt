@@ -16,7 +16,7 @@ use crate::lines::finish;
 use crate::terms::RunTerms;
 use grid_base::{Point, Shift};
 use log_text::{LogLine, Refusal};
-use mesh_plain::Surface;
+use mesh_base::Surface;
 use mesh_sizing::Band;
 use outside_io::{Outside, Stop};
 use std::alloc::Global;

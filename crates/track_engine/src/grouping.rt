@@ -13,7 +13,7 @@ use crate::open_group::OpenGroup;
 use grid_base::{NoMemory, copy_of};
 use log_text::LogLine;
 use log_write::write_line;
-use mesh_plain::{ShiftOf, Surface, UseWhy};
+use mesh_base::{ShiftOf, Surface, UseWhy};
 use outside_io::{Outside, Stop};
 use std::alloc::Global;
 

@@ -9,7 +9,7 @@ ghost use Rattle.track_engine.specs.Placing.{AreLive, CanPlace, moved_one};
 
 use crate::shifting::moves;
 use grid_base::{NoMemory, moved};
-use mesh_plain::{ShiftOf, Surface, VertexId};
+use mesh_base::{ShiftOf, Surface, VertexId};
 
 // Whether the vertex's asked end is outside the box.
 fn ends_outside<S: Surface>(mesh: &S, s: &ShiftOf) -> bool

@@ -1,5 +1,5 @@
 use crate::open_groups::OpenGroups;
-use mesh_plain::Shifts;
+use mesh_base::Shifts;
 use step_choose::Settings;
 
 /// Where a run stands between two directives, beside its mesh: the asked shifts, the settings, how many steps were taken and

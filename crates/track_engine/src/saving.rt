@@ -14,7 +14,7 @@ use grid_base::NoMemory;
 use itoa::Buffer;
 use log_text::LogLine;
 use log_write::write_line;
-use mesh_plain::Surface;
+use mesh_base::Surface;
 use obj_text::obj_of;
 use outside_io::{Outside, Stop};
 use std::alloc::Global;

@@ -11,7 +11,7 @@ ghost use Rattle.track_engine.specs.Effects.{sum_of_one, one_still};
 ghost use Rattle.track_engine.specs.Shifting.{SumsOne, Sums, AsksNow};
 
 use grid_base::{NO_SHIFT, NoMemory, SHIFT_MAX, Shift};
-use mesh_plain::{ShiftOf, Shifts, Surface, UseWhy, VertexId, live_vertices};
+use mesh_base::{ShiftOf, Shifts, Surface, UseWhy, VertexId, live_vertices};
 use pair_scan::place_of;
 use std::alloc::Global;
 

@@ -13,7 +13,7 @@ use crate::engine::Engine;
 use crate::shifting::still_one;
 use log_text::LogLine;
 use log_write::write_line;
-use mesh_plain::{Surface, UseWhy, VertexId};
+use mesh_base::{Surface, UseWhy, VertexId};
 use outside_io::{Outside, Stop};
 use std::alloc::Global;
 

@@ -8,7 +8,7 @@ use crate::shifting::moves;
 use grid_base::copy_of;
 use log_text::LogLine;
 use log_write::write_line;
-use mesh_plain::{Ids, PairName, ShiftOf, VertexId};
+use mesh_base::{Ids, PairName, ShiftOf, VertexId};
 use outside_io::{Outside, Stop};
 use std::alloc::Global;
 use step_choose::Choice;

@@ -2,7 +2,7 @@
 ghost use Rattle.std.specs.Prelude.{◌≡◌};
 ghost use Rattle.track_engine.specs.Told.{step_untold, pass_untold};
 
-use mesh_plain::{How, UseWhy};
+use mesh_base::{How, UseWhy};
 use outside_io::Stop;
 use pass_run::PassCount;
 

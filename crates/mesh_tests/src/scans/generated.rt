@@ -7,8 +7,8 @@ ghost use Rattle.mesh_base.specs.Placements.{rest_positions};
 ghost use Rattle.mesh_base.specs.Shifts.{NameLive, end_in_box};
 
 use grid_base::{BOX, NoMemory, Point, Shift, moved};
-use mesh_base::{ShiftOf, Surface, VertexId, live_vertices};
-use mesh_plain::{MeshLists, PlainMesh, Points, Shifts, Triangles, shape};
+use mesh_base::{MeshLists, Points, ShiftOf, Shifts, Surface, Triangles, VertexId, live_vertices};
+use mesh_plain::{PlainMesh, shape};
 use std::alloc::Global;
 use std::process::Abort;
 

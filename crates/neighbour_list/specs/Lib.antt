@@ -1,0 +1,4 @@
+pub mod Near
+pub mod Drift
+pub mod Widened
+pub mod Listed

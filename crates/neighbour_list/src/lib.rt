@@ -1,0 +1,26 @@
+//! A neighbour list with a skin (a Verlet list, as molecular dynamics has it): the pairs of an edge and a face that are near at
+//! reference points. While all vertices drift alike up to the skin, a pair that is not listed passes.
+#![tactic(auto)]
+
+mod calls;
+mod drifts;
+pub mod laws;
+mod listed;
+mod making;
+mod near;
+mod neighbour_list;
+mod reference;
+mod scan;
+mod shifted;
+mod widened;
+
+pub use calls::{all_pass_listed, failing_listed};
+use grid_base::HALF_MAX;
+pub use listed::ListedPair;
+pub use neighbour_list::NeighbourList;
+pub use reference::Reference;
+pub use scan::{all_pass_by_list, failing_by_list};
+pub use shifted::Shifted;
+
+/// The greatest skin of a list, in grid units.
+pub const SKIN_MAX: u32 = HALF_MAX;

@@ -1,0 +1,145 @@
+//! The pairs that do not pass where vertices go by shifts, found by a list.
+ghost use Rattle.std.specs.Prelude.{◌≡◌, ◌≤◌, IsTrue, IfOk, IfSome};
+ghost use Rattle.grid_base.specs.declared.TheConstants.{DEPTH_MAX};
+ghost use Rattle.grid_decided.specs.Decided.{meets_exactly};
+ghost use Rattle.mesh_base.specs.Failing.{failing};
+ghost use Rattle.mesh_base.specs.Shifts.{NameLive, end_in_box};
+ghost use Rattle.pair_paths.specs.Moving.{moving_face};
+ghost use Rattle.pair_scan.specs.Found.{has_none, AreFound};
+ghost use Rattle.neighbour_list.specs.Listed.{IsListOf, fails, failing_listed};
+
+use crate::drifts::drift_narrowly;
+use crate::listed::ListedPair;
+use crate::neighbour_list::NeighbourList;
+use crate::shifted::Shifted;
+use grid_base::{DEPTH_MAX, NoMemory};
+use mesh_base::{ShiftOf, Shifts, Surface};
+use motion_test::passes;
+use pair_paths::{KnownPaths, MovingFace, Paths, moving_edge, pair_of, paths_of};
+use pair_scan::Pairs;
+use std::alloc::Global;
+
+// The face of a listed pair, as it moves.
+fn face_of<P: Paths>(p: &ListedPair, paths: &P) -> MovingFace
+    ensures { result ≡ moving_face (P.motion paths.now) (p.now.name.face, p.now.corners) }
+{
+    MovingFace {
+        face: p.name.face,
+        corners: p.corners,
+        c: paths.path_of(p.corners.first),
+        d: paths.path_of(p.corners.second),
+        e: paths.path_of(p.corners.third),
+    }
+}
+
+// Whether a listed pair does not pass.
+fn fails<P: Paths>(p: &ListedPair, paths: &P, depth: u8) -> bool
+    requires depth_fits { depth ≤ DEPTH_MAX }
+    ensures { result ≡ fails depth (P.motion paths.now) p.now }
+{
+    let e = moving_edge(paths, p.name.a, p.name.b);
+    let f = face_of(p, paths);
+    !passes(&pair_of(&e, &f), depth)
+}
+
+// Whether there is no pair.
+fn has_none(pairs: &Pairs) -> bool
+    ensures { result ≡ has_none pairs.now }
+{
+    pairs.len() == 0
+}
+
+// The listed pairs that do not pass, in order; where it ends early, up to the first.
+fn failing_in<P: Paths>(
+    alloc: Global,
+    pairs: &[ListedPair],
+    paths: &P,
+    depth: u8,
+    ends_early: bool,
+) -> Result<Pairs, NoMemory>
+    requires depth_fits { depth ≤ DEPTH_MAX }
+    ensures { IfOk result
+        (AreFound ends_early (failing_listed depth (P.motion paths.now) pairs.now)) }
+{
+    let mut found = Pairs::new(alloc);
+    for p in pairs {
+        if fails(p, paths, depth) {
+            found.push(p.name)?;
+            if ends_early {
+                return Ok(found);
+            }
+        }
+    }
+    Ok(found)
+}
+
+// The pairs of the mesh that do not pass, by the list; None where the list does not serve.
+fn scanned<S: Surface>(
+    alloc: Global,
+    mesh: &S,
+    by: &[ShiftOf],
+    depth: u8,
+    list: &NeighbourList,
+    ends_early: bool,
+) -> Result<Option<Pairs>, NoMemory>
+    requires named { NameLive (S.mesh mesh.now) by.now }
+    requires in_box { IsTrue (end_in_box (S.mesh mesh.now) by.now) }
+    requires depth { depth ≤ DEPTH_MAX }
+    requires list { IsListOf (S.mesh mesh.now) list.now }
+    ensures { IfOk result (λ o. IfSome o
+        (AreFound ends_early (failing meets_exactly (S.mesh mesh.now) by.now depth))) }
+{
+    let shifted = Shifted { mesh, by };
+    let known = paths_of(alloc, mesh, &shifted)?;
+    let paths = KnownPaths {
+        paths: &shifted,
+        known: known.as_slice(),
+    };
+    if !drift_narrowly(list.skin, list.references.as_slice(), &paths) {
+        return Ok(None);
+    }
+    let found = failing_in(alloc, list.pairs.as_slice(), &paths, depth, ends_early)?;
+    Ok(Some(found))
+}
+
+/// All pairs that do not pass where each vertex goes from its point by its shift, as `pair_scan::failing` tells them, by a
+/// list of this mesh; None where the list does not serve: where the drifts of the vertices from their reference points, at
+/// the start or at the end, lie farther apart than the skin along some axis. Refuses only where there is no memory.
+pub fn failing_by_list<S: Surface>(
+    alloc: Global,
+    mesh: &S,
+    by: &Shifts,
+    depth: u8,
+    list: &NeighbourList,
+) -> Result<Option<Pairs>, NoMemory>
+    requires named { NameLive (S.mesh mesh.now) by.now }
+    requires in_box { IsTrue (end_in_box (S.mesh mesh.now) by.now) }
+    requires depth { depth ≤ DEPTH_MAX }
+    requires list { IsListOf (S.mesh mesh.now) list.now }
+    ensures { IfOk result (λ o. IfSome o
+        (λ pairs. pairs ≡ failing meets_exactly (S.mesh mesh.now) by.now depth)) }
+{
+    scanned(alloc, mesh, by.as_slice(), depth, list, false)
+}
+
+/// Whether all pairs pass where each vertex goes from its point by its shift, by a list of this mesh; None where the list
+/// does not serve. It ends at the first pair that does not pass. Refuses only where there is no memory.
+pub fn all_pass_by_list<S: Surface>(
+    alloc: Global,
+    mesh: &S,
+    by: &Shifts,
+    depth: u8,
+    list: &NeighbourList,
+) -> Result<Option<bool>, NoMemory>
+    requires named { NameLive (S.mesh mesh.now) by.now }
+    requires in_box { IsTrue (end_in_box (S.mesh mesh.now) by.now) }
+    requires depth { depth ≤ DEPTH_MAX }
+    requires list { IsListOf (S.mesh mesh.now) list.now }
+    ensures { IfOk result (λ o. IfSome o
+        (λ pass. pass ≡ has_none (failing meets_exactly (S.mesh mesh.now) by.now depth))) }
+{
+    match scanned(alloc, mesh, by.as_slice(), depth, list, true)? {
+        Some(found) => Ok(Some(has_none(&found))),
+        None => Ok(None),
+    }
+}

@@ -1,0 +1,161 @@
+//! The list that is kept from step to step.
+ghost use Rattle.std.specs.Prelude.{◌≡◌, ◌≤◌, IsTrue, IfOk, IfSome};
+ghost use Rattle.grid_base.specs.declared.TheConstants.{DEPTH_MAX};
+ghost use Rattle.grid_decided.specs.Decided.{meets_exactly};
+ghost use Rattle.mesh_base.specs.Failing.{failing};
+ghost use Rattle.mesh_base.specs.Placements.{IsClearMesh};
+ghost use Rattle.mesh_base.specs.Shifts.{NameLive, end_in_box};
+
+use crate::ahead::skin_ahead;
+use crate::arrived::Arrived;
+use crate::kept::KeptList;
+use crate::waiting::Waiting;
+use grid_base::{DEPTH_MAX, NoMemory};
+use mesh_base::{Shifts, Surface};
+use neighbour_list::Shifted;
+use pair_scan::{Pairs, failing};
+use std::alloc::Global;
+use std::marker::Model;
+use step_near::all_pass_near;
+
+/// What is kept from one step to the next so that the pairs that do not pass are found sooner: a neighbour list, where one is
+/// worth while. Nothing is believed of the mesh: before a list is used, the faces and vertices of the mesh are compared with
+/// those of which it was made. A contract sees nothing of it, since answers do not depend on it.
+#[derive(Drop)]
+pub struct StepLists {
+    kept: Option<KeptList>,
+    waiting: Waiting,
+}
+
+impl Model for StepLists {
+    ghost Value = { Unit {0} };
+
+    ghost view = { λ _. tt };
+}
+
+// The pairs that do not pass, by the list, where there is one of this mesh that serves.
+fn failing_by_kept<S: Surface>(
+    alloc: Global,
+    kept: &Option<KeptList>,
+    mesh: &S,
+    by: &Shifts,
+    depth: u8,
+) -> Result<Option<Pairs>, NoMemory>
+    requires named { NameLive (S.mesh mesh.now) by.now }
+    requires in_box { IsTrue (end_in_box (S.mesh mesh.now) by.now) }
+    requires depth { depth ≤ DEPTH_MAX }
+    ensures { IfOk result (λ o. IfSome o
+        (λ pairs. pairs ≡ failing meets_exactly (S.mesh mesh.now) by.now depth)) }
+{
+    match kept {
+        Some(kept) => kept.failing_by(alloc, mesh, by, depth),
+        None => Ok(None),
+    }
+}
+
+// A list for the next steps, where one is worth while: its reference points are where the vertices end in this one.
+fn list_ahead<S: Surface>(
+    alloc: Global,
+    mesh: &S,
+    by: &Shifts,
+) -> Result<Option<KeptList>, NoMemory>
+    requires named { NameLive (S.mesh mesh.now) by.now }
+    requires in_box { IsTrue (end_in_box (S.mesh mesh.now) by.now) }
+{
+    let Some(skin) = skin_ahead(alloc, mesh, by.as_slice())? else {
+        return Ok(None);
+    };
+    let shifted = Shifted {
+        mesh,
+        by: by.as_slice(),
+    };
+    let arrived = Arrived { paths: &shifted };
+    let kept = KeptList::of(alloc, mesh, &arrived, skin)?;
+    Ok(Some(kept))
+}
+
+impl StepLists {
+    /// No list.
+    pub fn none() -> StepLists {
+        StepLists {
+            kept: None,
+            waiting: Waiting::none(),
+        }
+    }
+
+    /// Whether a list is kept.
+    pub fn has_list(&self) -> bool {
+        self.kept.is_some()
+    }
+
+    // The list, if there was one, serves no more.
+    fn forget(&mut self) {
+        if self.kept.is_some() {
+            self.waiting.end();
+        }
+        self.kept = None;
+    }
+
+    // Makes a list for the next steps, where none is waited for and one is worth while. Where there is no memory for it, it is
+    // done without.
+    fn look_ahead<S: Surface>(&mut self, alloc: Global, mesh: &S, by: &Shifts)
+        requires named { NameLive (S.mesh mesh.now) by.now }
+        requires in_box { IsTrue (end_in_box (S.mesh mesh.now) by.now) }
+    {
+        if !self.waiting.is_over() {
+            return;
+        }
+        if let Ok(Some(kept)) = list_ahead(alloc, mesh, by) {
+            self.kept = Some(kept);
+            self.waiting.begin();
+        }
+    }
+
+    // The pairs that do not pass, by the list where it serves, and else by a scan of all, after which a list may be made.
+    fn failing<S: Surface>(
+        &mut self,
+        alloc: Global,
+        mesh: &S,
+        by: &Shifts,
+        depth: u8,
+    ) -> Result<Pairs, NoMemory>
+        requires named { NameLive (S.mesh mesh.now) by.now }
+        requires in_box { IsTrue (end_in_box (S.mesh mesh.now) by.now) }
+        requires depth { depth ≤ DEPTH_MAX }
+        ensures { IfOk result
+            (λ pairs. pairs ≡ failing meets_exactly (S.mesh mesh.now) by.now depth) }
+    {
+        if let Some(pairs) = failing_by_kept(alloc, &self.kept, mesh, by, depth)? {
+            self.waiting.serve();
+            return Ok(pairs);
+        }
+        self.forget();
+        let pairs = failing(alloc, mesh, by, depth)?;
+        self.look_ahead(alloc, mesh, by);
+        Ok(pairs)
+    }
+
+    /// The pairs of a clear mesh that do not pass in a step that asks these shifts of its live vertices, in order of the edge
+    /// and then of the face. Where few vertices are asked to move, it is first seen near them whether there is one; where none
+    /// is, nothing is looked at. Else the list is asked that an earlier step left, if the mesh has still the same faces and
+    /// vertices, and all pairs only where it does not serve. Refuses only where there is no memory.
+    pub fn asked_hits<S: Surface>(
+        &mut self,
+        alloc: Global,
+        mesh: &S,
+        asked: &Shifts,
+        depth: u8,
+    ) -> Result<Pairs, NoMemory>
+        requires named { NameLive (S.mesh mesh.now) asked.now }
+        requires in_box { IsTrue (end_in_box (S.mesh mesh.now) asked.now) }
+        requires clear { IsClearMesh (S.mesh mesh.now) }
+        requires depth { depth ≤ DEPTH_MAX }
+        ensures { IfOk result
+            (λ hits. hits ≡ failing meets_exactly (S.mesh mesh.now) asked.now depth) }
+    {
+        if all_pass_near(alloc, mesh, asked, depth)? {
+            return Ok(Pairs::new(alloc));
+        }
+        self.failing(alloc, mesh, asked, depth)
+    }
+}

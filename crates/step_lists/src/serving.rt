@@ -1,0 +1,70 @@
+//! The making of a list that is kept, and its use.
+ghost use Rattle.std.specs.Prelude.{◌≡◌, ◌≤◌, IsTrue, IfOk, IfSome};
+ghost use Rattle.grid_base.specs.declared.TheConstants.{DEPTH_MAX, HALF_MAX};
+ghost use Rattle.grid_decided.specs.Decided.{meets_exactly};
+ghost use Rattle.mesh_base.specs.Failing.{failing};
+ghost use Rattle.mesh_base.specs.Shifts.{NameLive, end_in_box};
+ghost use Rattle.neighbour_list.specs.Listed.{IsListOf};
+
+use crate::faces::{are_same, faces_of};
+use crate::kept::KeptList;
+use crate::vertices::have_references;
+use grid_base::{DEPTH_MAX, HALF_MAX, NoMemory};
+use mesh_base::{Shifts, Surface, live_vertices};
+use neighbour_list::{NeighbourList, failing_by_list};
+use pair_paths::Paths;
+use pair_scan::Pairs;
+use std::alloc::Global;
+
+impl KeptList {
+    /// A list of a mesh with its faces; the reference points are where the vertices start in this motion. Refuses only where
+    /// there is no memory.
+    pub fn of<S: Surface, P: Paths>(
+        alloc: Global,
+        mesh: &S,
+        at: &P,
+        skin: u32,
+    ) -> Result<KeptList, NoMemory>
+        requires { skin ≤ HALF_MAX }
+        ensures { IfOk result (λ kept. kept.list.skin ≡ skin) }
+    {
+        let faces = faces_of(alloc, mesh)?;
+        let list = NeighbourList::of(alloc, mesh, at, skin)?;
+        Ok(KeptList { list, faces })
+    }
+
+    /// Whether the mesh has the faces and the vertices of which the list was made. Then the list is one of this mesh, wherever
+    /// its vertices stand. Refuses only where there is no memory.
+    pub fn is_of<S: Surface>(&self, alloc: Global, mesh: &S) -> Result<bool, NoMemory>
+        ensures { IfOk result (λ is. IsTrue is → IsListOf (S.mesh mesh.now) self.now.list) }
+    {
+        let ids = live_vertices(alloc, mesh)?;
+        if !have_references(ids.as_slice(), self.list.references.as_slice()) {
+            return Ok(false);
+        }
+        let faces = faces_of(alloc, mesh)?;
+        Ok(are_same(faces.as_slice(), self.faces.as_slice()))
+    }
+
+    /// All pairs of the mesh that do not pass, as `pair_scan::failing` tells them, by the list; None where the list is not one
+    /// of this mesh or does not serve. Refuses only where there is no memory.
+    pub fn failing_by<S: Surface>(
+        &self,
+        alloc: Global,
+        mesh: &S,
+        by: &Shifts,
+        depth: u8,
+    ) -> Result<Option<Pairs>, NoMemory>
+        requires named { NameLive (S.mesh mesh.now) by.now }
+        requires in_box { IsTrue (end_in_box (S.mesh mesh.now) by.now) }
+        requires depth { depth ≤ DEPTH_MAX }
+        ensures { IfOk result (λ o. IfSome o
+            (λ pairs. pairs ≡ failing meets_exactly (S.mesh mesh.now) by.now depth)) }
+    {
+        let is = self.is_of(alloc, mesh)?;
+        if !is {
+            return Ok(None);
+        }
+        failing_by_list(alloc, mesh, by, depth, &self.list)
+    }
+}

@@ -1,0 +1,52 @@
+//! When the making of a list is tried again. Only speed depends on it.
+
+/// A list that served fewer steps was not worth its making.
+const STEPS_LEAST: u32 = 3;
+
+/// How many steps a list has served, and how many steps go by before the next is tried.
+#[derive(Clone, Copy, Debug)]
+pub(crate) struct Waiting {
+    served: u32,
+    wait: u32,
+    left: u32,
+}
+
+impl Waiting {
+    /// Nothing is waited for.
+    pub(crate) fn none() -> Waiting {
+        Waiting {
+            served: 0,
+            wait: 0,
+            left: 0,
+        }
+    }
+
+    /// A list is made.
+    pub(crate) fn begin(&mut self) {
+        self.served = 0;
+    }
+
+    /// A list has served one more step.
+    pub(crate) fn serve(&mut self) {
+        self.served = self.served.saturating_add(1);
+    }
+
+    /// A list serves no more. After one that was not worth its making the next tries wait 2, 6, 14 .. steps.
+    pub(crate) fn end(&mut self) {
+        if self.served < STEPS_LEAST {
+            self.wait = self.wait.saturating_mul(2).saturating_add(2);
+        } else {
+            self.wait = 0;
+        }
+        self.left = self.wait;
+    }
+
+    /// Whether a list may be tried now; if not, one step less is waited for.
+    pub(crate) fn is_over(&mut self) -> bool {
+        if self.left == 0 {
+            return true;
+        }
+        self.left -= 1;
+        false
+    }
+}
