@@ -117,8 +117,12 @@ fn a_list_is_kept_from_step_to_step(rt: HostRuntime) -> Result<(), Fail> {
     };
     let mut mesh = mesh_by(rt.alloc(), plan, &mut numbers, &rt)?;
     let mut lists = StepLists::none();
-    // Whether there is a list after the step; after the fourth a face is dropped.
-    for (k, has_list) in [true, true, true, true, true, true].into_iter().enumerate() {
+    // Whether there is a list after the step: from the second scan of the same faces on. After the fourth step a face is
+    // dropped; the list served two steps, so the next waits.
+    for (k, has_list) in [false, true, true, true, false, false]
+        .into_iter()
+        .enumerate()
+    {
         let met = first_meeting(rt.alloc(), &mesh)?;
         assert!(rt; met.is_none());
         let by = shifts_by(rt.alloc(), &mesh, plan, &mut numbers, &rt)?;

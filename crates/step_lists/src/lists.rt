@@ -102,7 +102,7 @@ impl StepLists {
         requires named { NameLive (S.mesh mesh.now) by.now }
         requires in_box { IsTrue (end_in_box (S.mesh mesh.now) by.now) }
     {
-        if !self.waiting.is_over() {
+        if !self.waiting.is_over(mesh.next_face()) {
             return;
         }
         if let Ok(Some(kept)) = list_ahead(alloc, mesh, by) {

@@ -3,21 +3,24 @@
 /// A list that served fewer steps was not worth its making.
 const STEPS_LEAST: u32 = 3;
 
-/// How many steps a list has served, and how many steps go by before the next is tried.
+/// How many steps a list has served, how many steps go by before the next is tried, and the next id of a face at the scan
+/// before.
 #[derive(Clone, Copy, Debug)]
 pub(crate) struct Waiting {
     served: u32,
     wait: u32,
     left: u32,
+    seen: u32,
 }
 
 impl Waiting {
-    /// Nothing is waited for.
+    /// Nothing is waited for, and nothing was scanned.
     pub(crate) fn none() -> Waiting {
         Waiting {
             served: 0,
             wait: 0,
             left: 0,
+            seen: 0,
         }
     }
 
@@ -41,8 +44,14 @@ impl Waiting {
         self.left = self.wait;
     }
 
-    /// Whether a list may be tried now; if not, one step less is waited for.
-    pub(crate) fn is_over(&mut self) -> bool {
+    /// Whether a list may be tried after a scan: the one before was of the same faces, as far as their next id tells, so that
+    /// steps come one after another; and nothing is waited for. If it is, one step less is waited for.
+    pub(crate) fn is_over(&mut self, next_face: u32) -> bool {
+        let is_same = self.seen == next_face;
+        self.seen = next_face;
+        if !is_same {
+            return false;
+        }
         if self.left == 0 {
             return true;
         }
