@@ -1,10 +1,12 @@
 -- What is not near, and drifts alike, is kept apart by an axis: it passes.
-use Rattle.std.proofs.Common.{◌≡◌, ⊎_elim, inl, inr, ℕ, ◌∙◌, sym, refl, Bool, true, false, ◌&&◌, ℤ, pos, ◌+ℤ◌, ◌-ℤ◌, ◌*ℤ◌, ◌≤ℤ◌, ◌<ℤ◌, neg_ℤ, arith, int_le, T, lit<, ◌⊎◌, List}
+use Rattle.std.proofs.Common.{◌≡◌, ⊎_elim, inl, inr, ℕ, ◌∙◌, sym, refl, Bool, true, false, ◌&&◌, ℤ, pos, ◌+ℤ◌, ◌-ℤ◌, ◌*ℤ◌, ◌≤ℤ◌, ◌<ℤ◌, neg_ℤ, arith, int_le, T, lit<, ◌⊎◌, List, ◌++◌}
 use Rattle.std.proofs.lemmas.Int.{ints, by_lt_z, int_max_is, int_min_is}
 use Rattle.std.proofs.lemmas.Bool.{and_cases, false≢true}
+use Rattle.std.proofs.lemmas.List.Elements.{Contains-append_left}
 use Rattle.std.specs.Int.{int_min, int_max}
 use Rattle.std.specs.List.{Any, All, Contains}
-use Rattle.grid_base.specs.Separation.{IsBelow, IsAbove, KeepsApart, Passes, axes, directions}
+use Rattle.grid_base.specs.declared.Positions.{Positions}
+use Rattle.grid_base.specs.Separation.{IsBelow, IsAbove, KeepsApart, Passes, axes, ten_directions}
 use Rattle.grid_base.specs.Triples.{Triple, dot, opposite}
 use Rattle.grid_base.proofs.SeparationLaws.{AreSeparated-at_once}
 use Rattle.mesh_base.specs.Pairs.{Pair, five_ids}
@@ -184,28 +186,33 @@ minus_y x y z = omega (arith, ints)
 minus_z : (x y z : ℤ) → neg_ℤ (pos 0) *ℤ x +ℤ neg_ℤ (pos 0) *ℤ y +ℤ neg_ℤ (pos 1) *ℤ z ≡ neg_ℤ z
 minus_z x y z = omega (arith, ints)
 
+-- ---- what an axis keeps apart passes
+any_before : {X : Type 0} (P : X → Type 0) (xs ys : List X) → Any P xs → Any P (xs ++ ys)
+any_before P xs ys h = let c = Contains-append_left xs ys h.1 (h.0, h.2, h.3) in (c.0, h.1, c.1, c.2, h.4)
+
+-- the directions begin with the axes
+pub axis_passes : (depth : ℕ) (s t : Positions) → Any (KeepsApart s t) axes → Passes depth s t
+axis_passes depth s t h = inl (AreSeparated-at_once depth s t (any_before (KeepsApart s t) (axes ++ ten_directions s) (ten_directions t) (any_before (KeepsApart s t) axes (ten_directions s) h)))
+
 -- One axis keeps apart, at the start and at the end on the same side, a pair that is not near at the reference points, where its vertices drift alike.
 module _ (skin : ℕ) (at : Placement) (w : Motion) (vs : List ℕ) (p : Pair) (among_them : All (Contains vs) (five_ids p)) (off : is_near skin (positions at p) ≡ false) (start : DriftAlike skin at w.start vs) (end : DriftAlike skin at w.end vs) where
   five : AreAmong vs p
   five = among vs p among_them
 
-  pub some_axis : {Q : Type 0} → (KeepsApart (positions w.start p) (positions w.end p) along_x → Q) → (KeepsApart (positions w.start p) (positions w.end p) along_y → Q) → (KeepsApart (positions w.start p) (positions w.end p) along_z → Q) → Q
-  some_axis if_x if_y if_z =
+  -- one axis
+  pub some_axis : Any (KeepsApart (positions w.start p) (positions w.end p)) axes
+  some_axis =
       let x = near_along skin (at p.name.a).x (at p.name.b).x (at p.corners.first).x (at p.corners.second).x (at p.corners.third).x in
       let y = near_along skin (at p.name.a).y (at p.name.b).y (at p.corners.first).y (at p.corners.second).y (at p.corners.third).y in
       let z = near_along skin (at p.name.a).z (at p.name.b).z (at p.corners.first).z (at p.corners.second).z (at p.corners.third).z in
       ⊎_elim
       (λ xy. ⊎_elim
-      (λ off_x. if_x (keeps_apart along_x (λ t. t.x) (λ t. read_x t.x t.y t.z) (λ t. minus_x t.x t.y t.z) skin at vs p five w.start w.end off_x (λ u v h i. (start u v h i).x) (λ u v h i. (end u v h i).x)))
-      (λ off_y. if_y (keeps_apart along_y (λ t. t.y) (λ t. read_y t.x t.y t.z) (λ t. minus_y t.x t.y t.z) skin at vs p five w.start w.end off_y (λ u v h i. (start u v h i).y) (λ u v h i. (end u v h i).y)))
+      (λ off_x. (0, along_x, lit< tt, refl, keeps_apart along_x (λ t. t.x) (λ t. read_x t.x t.y t.z) (λ t. minus_x t.x t.y t.z) skin at vs p five w.start w.end off_x (λ u v h i. (start u v h i).x) (λ u v h i. (end u v h i).x)))
+      (λ off_y. (1, along_y, lit< tt, refl, keeps_apart along_y (λ t. t.y) (λ t. read_y t.x t.y t.z) (λ t. minus_y t.x t.y t.z) skin at vs p five w.start w.end off_y (λ u v h i. (start u v h i).y) (λ u v h i. (end u v h i).y)))
       (and_cases x y xy))
-      (λ off_z. if_z (keeps_apart along_z (λ t. t.z) (λ t. read_z t.x t.y t.z) (λ t. minus_z t.x t.y t.z) skin at vs p five w.start w.end off_z (λ u v h i. (start u v h i).z) (λ u v h i. (end u v h i).z)))
+      (λ off_z. (2, along_z, lit< tt, refl, keeps_apart along_z (λ t. t.z) (λ t. read_z t.x t.y t.z) (λ t. minus_z t.x t.y t.z) skin at vs p five w.start w.end off_z (λ u v h i. (start u v h i).z) (λ u v h i. (end u v h i).z)))
       (and_cases (x && y) z off)
-
-  pub axis_keeps_apart : Any (KeepsApart (positions w.start p) (positions w.end p)) axes
-  axis_keeps_apart = some_axis (λ k. (0, along_x, lit< tt, refl, k)) (λ k. (1, along_y, lit< tt, refl, k)) (λ k. (2, along_z, lit< tt, refl, k))
 
   -- so it passes, to any depth
   pub passes_unlisted : (depth : ℕ) → Passes depth (positions w.start p) (positions w.end p)
-  passes_unlisted depth = inl (AreSeparated-at_once depth (positions w.start p) (positions w.end p) (some_axis {Q = Any (KeepsApart (positions w.start p) (positions w.end p)) (directions (positions w.start p) (positions w.end p))}
-      (λ k. (0, along_x, lit< tt, refl, k)) (λ k. (1, along_y, lit< tt, refl, k)) (λ k. (2, along_z, lit< tt, refl, k))))
+  passes_unlisted depth = axis_passes depth (positions w.start p) (positions w.end p) some_axis

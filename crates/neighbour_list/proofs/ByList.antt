@@ -9,13 +9,14 @@ use Rattle.grid_decided.specs.Decided.{meets_exactly, meets_exactly-is_exact}
 use Rattle.mesh_base.specs.Failing.{pair_passes}
 use Rattle.mesh_base.specs.Mesh.{Mesh, IsSound}
 use Rattle.mesh_base.specs.Pairs.{Pair, IsPair, pairs, five_ids}
-use Rattle.mesh_base.specs.Placements.{Placement, Motion, positions}
+use Rattle.mesh_base.specs.Placements.{Placement, Motion, positions, rest_positions, IsClearMesh}
 use Rattle.mesh_base.proofs.Listed.{at_live, edge_live}
-use Rattle.mesh_base.proofs.ListedPairs.{listed_pairs, all_weaker}
+use Rattle.mesh_base.proofs.ListedPairs.{listed_pairs, all_weaker, all_mapped, all_filtered}
 use Rattle.pair_scan.specs.Failed.{failing_of}
 use Rattle.pair_scan.specs.Scan.{one_or_none}
 use Rattle.neighbour_list.specs.Drift.{DriftAlike}
-use Rattle.neighbour_list.specs.Listed.{listed, is_near_at, failing_listed}
+use Rattle.neighbour_list.specs.declared.listed.ListedPair.{ListedPair}
+use Rattle.neighbour_list.specs.Listed.{IsApart, listed, is_near_at, failing_listed}
 use Rattle.neighbour_list.proofs.Apart.{passes_unlisted}
 
 -- ---- the names of listed pairs
@@ -48,6 +49,15 @@ vertices_live m p sound is =
     let corners = sound.is_mesh.live_corners p.name.face p.corners is.face in
     All-from_recursion (Contains ids) (five_ids p)
     (live p.name.a itself ends.0, (live p.name.b itself ends.1, (live p.corners.first itself corners.0, (live p.corners.second itself corners.1, (live p.corners.third itself corners.2, tt)))))
+
+-- ---- the listed pairs of a clear mesh do not meet
+pub listed_apart : (m : Mesh) (at : Placement) (skin : ℕ) → IsClearMesh m → All (IsApart (rest_positions m)) (map listed (filter (is_near_at skin at) (pairs m)))
+listed_apart m at skin clear =
+    let apart : ListedPair → Type 0 = IsApart (rest_positions m) in
+    All-from_recursion apart (map listed (filter (is_near_at skin at) (pairs m)))
+    (all_mapped apart listed (filter (is_near_at skin at) (pairs m))
+    (all_filtered (λ p. apart (listed p)) (is_near_at skin at) (pairs m)
+    (all_weaker (IsPair m) (λ p. is_near_at skin at p ≡ true → apart (listed p)) (pairs m) (λ p is near. clear p is) (listed_pairs m))))
 
 -- ---- so an unlisted pair passes
 pub by_list : (m : Mesh) (at : Placement) (w : Motion) (skin depth : ℕ) → IsSound m → DriftAlike skin at w.start (finite.keys m.points) → DriftAlike skin at w.end (finite.keys m.points)

@@ -3,6 +3,7 @@ use Rattle.std.specs.Prelude.{◌≡◌, ℕ, Bool, cond, ◌&&◌, not, List, m
 use Rattle.std.specs.List.{filter, flat_map}
 use Rattle.std.specs.FinMap as finite
 use Rattle.std.proofs.Common.{Option, Some, None}
+use Rattle.grid_base.specs.Meeting.{MeetAt}
 use Rattle.grid_decided.specs.Decided.{meets_exactly}
 use Rattle.mesh_base.specs.declared.ids.PairName.{PairName}
 use Rattle.mesh_base.specs.Failing.{pair_passes}
@@ -72,6 +73,10 @@ abbrev pub near_along_edges : ℕ → Motion → List MovingFace → List (ℕ �
 near_along_edges skin w faces edges = flat_map (λ e. near_among skin (moving_edge w e.0 e.1) faces) edges
 
 -- ---- a scan of listed pairs
+-- the pair does not meet where its vertices stand
+abbrev pub IsApart : Placement → ListedPair → Type 0
+IsApart at p = ¬ (MeetAt (positions at (pair_of p)))
+
 -- whether the pair does not pass in the motion
 abbrev pub fails : ℕ → Motion → ListedPair → Bool
 fails depth w p = not (pair_passes meets_exactly depth w (pair_of p))

@@ -2,7 +2,7 @@
 ghost use Rattle.std.specs.Prelude.{◌≡◌, ◌≤◌, [], IsTrue, IfOk};
 ghost use Rattle.grid_base.specs.declared.TheConstants.{DEPTH_MAX};
 ghost use Rattle.grid_decided.specs.Decided.{meets_exactly};
-ghost use Rattle.mesh_base.specs.Placements.{IsClearAlong};
+ghost use Rattle.mesh_base.specs.Placements.{IsClearMesh, IsClearAlong};
 ghost use Rattle.mesh_base.specs.Shifts.{NameLive, end_in_box, moved_by};
 ghost use Rattle.mesh_base.specs.Failing.{failing};
 ghost use Rattle.pair_scan.specs.Failed.{AreFailing};
@@ -16,8 +16,8 @@ use mesh_base::{Shifts, Surface};
 use pair_scan::{Pairs, all_pass, failing};
 use std::alloc::Global;
 
-/// What `pair_scan::failing` answers, by a list of the mesh where the list serves: all pairs that do not pass where each
-/// vertex goes from its point by its shift, in order of the edge and then of the face. Refuses only where there is no
+/// What `pair_scan::failing` answers of a clear mesh, by a list of the mesh where the list serves: all pairs that do not pass
+/// where each vertex goes from its point by its shift, in order of the edge and then of the face. Refuses only where there is no
 /// memory.
 pub fn failing_listed<S: Surface>(
     alloc: Global,
@@ -29,6 +29,7 @@ pub fn failing_listed<S: Surface>(
     requires named { NameLive (S.mesh mesh.now) by.now }
     requires in_box { IsTrue (end_in_box (S.mesh mesh.now) by.now) }
     requires depth { depth ≤ DEPTH_MAX }
+    requires clear { IsClearMesh (S.mesh mesh.now) }
     requires list { IsListOf (S.mesh mesh.now) list.now }
     ensures failing { IfOk result
         (λ pairs. pairs ≡ failing meets_exactly (S.mesh mesh.now) by.now depth) }
@@ -44,8 +45,8 @@ pub fn failing_listed<S: Surface>(
     }
 }
 
-/// What `pair_scan::all_pass` answers, by a list of the mesh where the list serves: whether all pairs pass where each vertex
-/// goes from its point by its shift. Refuses only where there is no memory.
+/// What `pair_scan::all_pass` answers of a clear mesh, by a list of the mesh where the list serves: whether all pairs pass
+/// where each vertex goes from its point by its shift. Refuses only where there is no memory.
 pub fn all_pass_listed<S: Surface>(
     alloc: Global,
     mesh: &S,
@@ -56,6 +57,7 @@ pub fn all_pass_listed<S: Surface>(
     requires named { NameLive (S.mesh mesh.now) by.now }
     requires in_box { IsTrue (end_in_box (S.mesh mesh.now) by.now) }
     requires depth { depth ≤ DEPTH_MAX }
+    requires clear { IsClearMesh (S.mesh mesh.now) }
     requires list { IsListOf (S.mesh mesh.now) list.now }
     ensures exact { IfOk result
         (λ pass. pass ≡ has_none (failing meets_exactly (S.mesh mesh.now) by.now depth)) }

@@ -9,6 +9,7 @@ mod listed;
 mod making;
 mod near;
 mod neighbour_list;
+mod pair_test;
 mod reference;
 mod scan;
 mod shifted;

@@ -1,21 +1,23 @@
 //! The pairs that do not pass where vertices go by shifts, found by a list.
 ghost use Rattle.std.specs.Prelude.{◌≡◌, ◌≤◌, IsTrue, IfOk, IfSome};
+ghost use Rattle.std.specs.List.{All};
 ghost use Rattle.grid_base.specs.declared.TheConstants.{DEPTH_MAX};
 ghost use Rattle.grid_decided.specs.Decided.{meets_exactly};
 ghost use Rattle.mesh_base.specs.Failing.{failing};
+ghost use Rattle.mesh_base.specs.Placements.{IsClearMesh};
 ghost use Rattle.mesh_base.specs.Shifts.{NameLive, end_in_box};
 ghost use Rattle.pair_paths.specs.Moving.{moving_face};
 ghost use Rattle.pair_scan.specs.Found.{has_none, AreFound};
-ghost use Rattle.neighbour_list.specs.Listed.{IsListOf, fails, failing_listed};
+ghost use Rattle.neighbour_list.specs.Listed.{IsApart, IsListOf, fails, failing_listed};
 
 use crate::drifts::drift_narrowly;
 use crate::listed::ListedPair;
 use crate::neighbour_list::NeighbourList;
+use crate::pair_test::do_pass;
 use crate::shifted::Shifted;
 use grid_base::{DEPTH_MAX, NoMemory};
 use mesh_base::{ShiftOf, Shifts, Surface};
-use motion_test::passes;
-use pair_paths::{KnownPaths, MovingFace, Paths, moving_edge, pair_of, paths_of};
+use pair_paths::{KnownPaths, MovingFace, Paths, moving_edge, paths_of};
 use pair_scan::Pairs;
 use std::alloc::Global;
 
@@ -35,11 +37,12 @@ fn face_of<P: Paths>(p: &ListedPair, paths: &P) -> MovingFace
 // Whether a listed pair does not pass.
 fn fails<P: Paths>(p: &ListedPair, paths: &P, depth: u8) -> bool
     requires depth_fits { depth ≤ DEPTH_MAX }
+    requires apart { IsApart (P.motion paths.now).start p.now }
     ensures { result ≡ fails depth (P.motion paths.now) p.now }
 {
     let e = moving_edge(paths, p.name.a, p.name.b);
     let f = face_of(p, paths);
-    !passes(&pair_of(&e, &f), depth)
+    !do_pass(&e, &f, depth)
 }
 
 // Whether there is no pair.
@@ -58,6 +61,7 @@ fn failing_in<P: Paths>(
     ends_early: bool,
 ) -> Result<Pairs, NoMemory>
     requires depth_fits { depth ≤ DEPTH_MAX }
+    requires apart { All (IsApart (P.motion paths.now).start) pairs.now }
     ensures { IfOk result
         (AreFound ends_early (failing_listed depth (P.motion paths.now) pairs.now)) }
 {
@@ -85,6 +89,7 @@ fn scanned<S: Surface>(
     requires named { NameLive (S.mesh mesh.now) by.now }
     requires in_box { IsTrue (end_in_box (S.mesh mesh.now) by.now) }
     requires depth { depth ≤ DEPTH_MAX }
+    requires clear { IsClearMesh (S.mesh mesh.now) }
     requires list { IsListOf (S.mesh mesh.now) list.now }
     ensures { IfOk result (λ o. IfSome o
         (AreFound ends_early (failing meets_exactly (S.mesh mesh.now) by.now depth))) }
@@ -102,8 +107,8 @@ fn scanned<S: Surface>(
     Ok(Some(found))
 }
 
-/// All pairs that do not pass where each vertex goes from its point by its shift, as `pair_scan::failing` tells them, by a
-/// list of this mesh; None where the list does not serve: where the drifts of the vertices from their reference points, at
+/// All pairs of a clear mesh that do not pass where each vertex goes from its point by its shift, as `pair_scan::failing`
+/// tells them, by a list of this mesh; None where the list does not serve: where the drifts of the vertices from their reference points, at
 /// the start or at the end, lie farther apart than the skin along some axis. Refuses only where there is no memory.
 pub fn failing_by_list<S: Surface>(
     alloc: Global,
@@ -115,6 +120,7 @@ pub fn failing_by_list<S: Surface>(
     requires named { NameLive (S.mesh mesh.now) by.now }
     requires in_box { IsTrue (end_in_box (S.mesh mesh.now) by.now) }
     requires depth { depth ≤ DEPTH_MAX }
+    requires clear { IsClearMesh (S.mesh mesh.now) }
     requires list { IsListOf (S.mesh mesh.now) list.now }
     ensures { IfOk result (λ o. IfSome o
         (λ pairs. pairs ≡ failing meets_exactly (S.mesh mesh.now) by.now depth)) }
@@ -122,8 +128,8 @@ pub fn failing_by_list<S: Surface>(
     scanned(alloc, mesh, by.as_slice(), depth, list, false)
 }
 
-/// Whether all pairs pass where each vertex goes from its point by its shift, by a list of this mesh; None where the list
-/// does not serve. It ends at the first pair that does not pass. Refuses only where there is no memory.
+/// Whether all pairs of a clear mesh pass where each vertex goes from its point by its shift, by a list of this mesh; None
+/// where the list does not serve. It ends at the first pair that does not pass. Refuses only where there is no memory.
 pub fn all_pass_by_list<S: Surface>(
     alloc: Global,
     mesh: &S,
@@ -134,6 +140,7 @@ pub fn all_pass_by_list<S: Surface>(
     requires named { NameLive (S.mesh mesh.now) by.now }
     requires in_box { IsTrue (end_in_box (S.mesh mesh.now) by.now) }
     requires depth { depth ≤ DEPTH_MAX }
+    requires clear { IsClearMesh (S.mesh mesh.now) }
     requires list { IsListOf (S.mesh mesh.now) list.now }
     ensures { IfOk result (λ o. IfSome o
         (λ pass. pass ≡ has_none (failing meets_exactly (S.mesh mesh.now) by.now depth))) }

@@ -1,11 +1,19 @@
-use Rattle.std.proofs.Common.{refl, ap, subst, ◌∙◌}
+use Rattle.std.proofs.Common.{refl, ap, subst, sym, ◌∙◌}
+use Rattle.std.specs.List.{All}
+use Rattle.mesh_base.specs.Placements.{rest_positions}
 use Rattle.std.specs.FinMap as finite
 use Rattle.mesh_base.specs.Shifts.{moved_by}
 use Rattle.pair_scan.specs.Found.{AreFound}
-use Rattle.neighbour_list.specs.Listed.{failing_listed}
+use Rattle.neighbour_list.specs.Listed.{IsApart, failing_listed}
 use Rattle.neighbour_list.proofs.Alike.{alike}
-use Rattle.neighbour_list.proofs.ByList.{by_list}
+use Rattle.neighbour_list.proofs.ByList.{by_list, listed_apart}
 use Rattle.neighbour_list.proofs.scan.scanned.Goals as goal
+
+pub failing_in-requires-clause-apart : goal.failing_in-requires-clause-apart
+failing_in-requires-clause-apart g c =
+    let m = g.S.Surface.mesh c.args.mesh.now in
+    let of = c.requires.list in
+    subst (All (IsApart (rest_positions m))) (sym (c.as_slice-3.ensures ∙ of.pairs)) (listed_apart m of.at c.args.list.now.skin c.requires.clear)
 
 pub returns : goal.returns
 returns g c =
