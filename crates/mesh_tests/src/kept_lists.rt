@@ -40,6 +40,8 @@ fn assert_asked<S: Surface>(
     xs: &[i32; 8],
     rt: &impl Abort,
 ) -> Result<Option<usize>, NoMemory> {
+    let met = first_meeting(alloc, mesh)?;
+    assert!(rt; met.is_none());
     let by = shifts_of(alloc, mesh, xs, rt)?;
     let all = failing(alloc, mesh, &by, 6)?;
     match kept.failing_by(alloc, mesh, &by, 6)? {

@@ -33,7 +33,7 @@ impl Model for StepLists {
     ghost view = { λ _. tt };
 }
 
-// The pairs that do not pass, by the list, where there is one of this mesh that serves.
+// The pairs of a clear mesh that do not pass, by the list, where there is one of this mesh that serves.
 fn failing_by_kept<S: Surface>(
     alloc: Global,
     kept: &Option<KeptList>,
@@ -44,6 +44,7 @@ fn failing_by_kept<S: Surface>(
     requires named { NameLive (S.mesh mesh.now) by.now }
     requires in_box { IsTrue (end_in_box (S.mesh mesh.now) by.now) }
     requires depth { depth ≤ DEPTH_MAX }
+    requires clear { IsClearMesh (S.mesh mesh.now) }
     ensures { IfOk result (λ o. IfSome o
         (λ pairs. pairs ≡ failing meets_exactly (S.mesh mesh.now) by.now depth)) }
 {
@@ -111,7 +112,8 @@ impl StepLists {
         }
     }
 
-    // The pairs that do not pass, by the list where it serves, and else by a scan of all, after which a list may be made.
+    // The pairs of a clear mesh that do not pass, by the list where it serves, and else by a scan of all, after which a list
+    // may be made.
     fn failing<S: Surface>(
         &mut self,
         alloc: Global,
@@ -122,6 +124,7 @@ impl StepLists {
         requires named { NameLive (S.mesh mesh.now) by.now }
         requires in_box { IsTrue (end_in_box (S.mesh mesh.now) by.now) }
         requires depth { depth ≤ DEPTH_MAX }
+        requires clear { IsClearMesh (S.mesh mesh.now) }
         ensures { IfOk result
             (λ pairs. pairs ≡ failing meets_exactly (S.mesh mesh.now) by.now depth) }
     {

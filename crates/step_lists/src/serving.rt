@@ -3,6 +3,7 @@ ghost use Rattle.std.specs.Prelude.{◌≡◌, ◌≤◌, IsTrue, IfOk, IfSome};
 ghost use Rattle.grid_base.specs.declared.TheConstants.{DEPTH_MAX, HALF_MAX};
 ghost use Rattle.grid_decided.specs.Decided.{meets_exactly};
 ghost use Rattle.mesh_base.specs.Failing.{failing};
+ghost use Rattle.mesh_base.specs.Placements.{IsClearMesh};
 ghost use Rattle.mesh_base.specs.Shifts.{NameLive, end_in_box};
 ghost use Rattle.neighbour_list.specs.Listed.{IsListOf};
 
@@ -46,8 +47,8 @@ impl KeptList {
         Ok(are_same(faces.as_slice(), self.faces.as_slice()))
     }
 
-    /// All pairs of the mesh that do not pass, as `pair_scan::failing` tells them, by the list; None where the list is not one
-    /// of this mesh or does not serve. Refuses only where there is no memory.
+    /// All pairs of a clear mesh that do not pass, as `pair_scan::failing` tells them, by the list; None where the list is not
+    /// one of this mesh or does not serve. Refuses only where there is no memory.
     pub fn failing_by<S: Surface>(
         &self,
         alloc: Global,
@@ -58,6 +59,7 @@ impl KeptList {
         requires named { NameLive (S.mesh mesh.now) by.now }
         requires in_box { IsTrue (end_in_box (S.mesh mesh.now) by.now) }
         requires depth { depth ≤ DEPTH_MAX }
+        requires clear { IsClearMesh (S.mesh mesh.now) }
         ensures { IfOk result (λ o. IfSome o
             (λ pairs. pairs ≡ failing meets_exactly (S.mesh mesh.now) by.now depth)) }
     {
