@@ -1,5 +1,5 @@
 //! The motion of a mesh whose vertices go by shifts.
-ghost use Rattle.std.specs.Prelude.{◌≡◌, ◌==◌, IsTrue, map};
+ghost use Rattle.std.specs.Prelude.{◌≡◌, ◌==◌, Some, IfSome, IsTrue, map};
 ghost use Rattle.std.specs.List.{find};
 ghost use Rattle.std.specs.List.Sorted.{IsStrictlySortedBy};
 ghost use Rattle.std.specs.Ordering.{nat_cmp};
@@ -36,11 +36,26 @@ impl<'a, S: Surface> Paths for Shifted<'a, S> {
     }
 }
 
-// The shift of a vertex; None where none is named.
+// The shift at a place, if it is the vertex's.
+fn shift_at(by: &[ShiftOf], place: usize, v: VertexId) -> Option<Shift>
+    requires rising { IsStrictlySortedBy nat_cmp (map (λ s. s.v) by.now) }
+    ensures { IfSome result
+        (λ s. Some s ≡ option_map (λ s. s.by) (find (λ s. s.v == v) by.now)) }
+{
+    match by.get(place) {
+        Some(s) => { if s.v == v { Some(s.by) } else { None } }
+        None => None,
+    }
+}
+
+// The shift of a vertex; None where none is named. Where the ids have no gap, it stands at the place before its id.
 fn shift_of(by: &[ShiftOf], v: VertexId) -> Option<Shift>
     requires rising { IsStrictlySortedBy nat_cmp (map (λ s. s.v) by.now) }
     ensures { result ≡ option_map (λ s. s.by) (find (λ s. s.v == v) by.now) }
 {
+    if let Some(s) = shift_at(by, v.0.wrapping_sub(1) as usize, v) {
+        return Some(s);
+    }
     match place_of(by, v) {
         Some(place) => match by.get(place) {
             Some(s) => Some(s.by),
