@@ -1,17 +1,18 @@
 #!/usr/bin/env python3
 """Builds the library for C, compiles and runs its examples, and compares what they tell with the program's log of the same job.
 
-    checks/library.py [ARCHIVE [PROGRAM]]
+    checks/library.py [ARCHIVE [PROGRAM [JOBS]]]
 
 ARCHIVE is the archive of the proved crate, in the place of a proof and build anew; PROGRAM is the built program, in the place of `topo`.
-The header and the examples have to compile as C99 and as C++17 with no warning. The logs that `example.cpp` and `example.py` write have to
-be the program's, byte for byte, and so have those of three random jobs with all passes, groups and a solid vertex. `checks/starving.c` refuses each allocation in turn, where the C library is glibc. Without `cc` and `c++`
-nothing is compiled, and that is said.
+The header and the examples have to compile as C99 and as C++17 with no warning, by each compiler that is there of gcc's and clang's. The logs that
+`example.cpp` and `example.py` write have to be the program's, byte for byte, and so have those of JOBS random jobs, 100 where that is left
+out, which `checks/library_steps.c` does through the library, and which also compares what calls tell as numbers with the lines.
+`checks/library_cases.c` compares codes, reasons and places of worked cases, where valgrind is there under that too. The droplets of
+`examples/library` have to write their frames. `checks/starving.c` refuses each allocation in turn, where the C library is glibc. Without `cc`
+and `c++` nothing is compiled, and that is said.
 """
 
-import ctypes
 import os
-import random
 import shutil
 import subprocess
 import sys
@@ -20,9 +21,11 @@ import tempfile
 ROOT = os.path.dirname(os.path.dirname(os.path.abspath(__file__)))
 LIBRARY = os.path.join(ROOT, "library")
 STRICT = ["-Wall", "-Wextra", "-pedantic", "-Werror", "-O2", "-I", LIBRARY]
-C99, CPP17 = ["cc", "-std=c99", *STRICT], ["c++", "-std=c++17", *STRICT]
+C99, CPP17 = ["-std=c99", *STRICT], ["-std=c++17", *STRICT]
+VALGRIND = ["valgrind", "-q", "--leak-check=full", "--error-exitcode=9"]
 MESH = "v 0 0 0\nv 40 0 0\nv 0 40 0\nv 0 0 40\nf 1 3 2\nf 1 2 4\nf 2 3 4\nf 1 4 3\n"
 STEPS = "shift all 1 2 3\nstep\nsplit 45\nsolid 4\ngroup\nshift 1 -3 -3 0\nstep\nclose\n"
+DIRECTIVES = {"shift", "set", "solid", "split", "collapse", "flip", "zip", "pinch", "fit", "step", "group", "close"}
 TOLD = (
     "three faces: code 2, why 16, from 1 to 3\n",
     "a solid vertex: code 2, why 5, vertex 4\n",
@@ -43,40 +46,34 @@ def boxes():
     return mesh, 6 * fall + "split 600\n"
 
 
-def driven(seed):
-    """A random job by the library, through `example.py`: its mesh and its steps, and its log."""
-    dice = random.Random(seed)
-    sys.dont_write_bytecode = True
-    sys.path.insert(0, LIBRARY)
-    from example import Tracker
+def random_job(seed):
+    """A random job of `random_jobs.py`, on whole coordinates and with the library's directives alone."""
+    from random_jobs import job_of
 
-    points, faces, steps = [], [], []
-    for k in range(4):
-        corners, sides = box(60 * (k % 2), 60 * (k // 2), 0, 40, len(points) + 1)
-        points, faces = points + corners, faces + sides
-    text = [f"topo log 2\nmesh 0 {len(points)} {len(faces)}\n"]
-    with Tracker(ctypes.CDLL(os.path.join(LIBRARY, "out/libtopo.so")), points, faces) as tracker:
+    mesh, steps, words = job_of(seed)
+    own = [line for line in steps.splitlines() if line.split() and line.split()[0] in DIRECTIVES]
+    fits = words[0] == "track" and len(words) == 4 and all(line.split()[0] in "vf" and len(line.split()) == 4 for line in mesh.splitlines())
+    return (mesh, "".join(line + "\n" for line in own)) if fits else None
 
-        def call(name, *numbers):
-            steps.append(" ".join(["group" if name == "open" else name, *map(str, numbers)]))
-            tracker.call(name, *numbers)
-            text.append(tracker.log())
 
-        for k in range(6):
-            if k in (1, 3):
-                call("open")
-            asked = [(v, *(dice.randint(-14, 14) for _ in range(3))) for v in tracker.points() if v != 5 and dice.random() < 0.7]
-            steps.extend("shift " + " ".join(map(str, row)) for row in asked)
-            tracker.shift(asked)
-            call("step")
-            for name, numbers in dice.sample([("split", [35]), ("collapse", [12]), ("flip", []), ("zip", [15]), ("pinch", [])], 2):
-                call(name, *numbers)
-            if k == 2 and 5 in tracker.points():
-                call("solid", 5)
-            if k in (2, 4):
-                call("close")
-    mesh = "".join(f"v {x} {y} {z}\n" for x, y, z in points) + "".join(f"f {a} {b} {c}\n" for a, b, c in faces)
-    return mesh, "\n".join(steps) + "\n", "".join([*text, "end\n"]).encode()
+def random_jobs(driver, program, count, folder):
+    """How many random jobs were done, and the seeds of those whose log by the library is not the program's, or tells other numbers than its lines.
+    One whose text the program refuses is left out, and one that goes by a sizing that is not the same everywhere (status 3)."""
+    done, bad = 0, []
+    for seed in range(1, 8 * count):
+        job = random_job(seed)
+        if job is None or done == count:
+            continue
+        wanted = log_of(program, *job, folder)
+        if wanted.startswith((b"topo log 2\nrefused steps", b"topo log 2\nrefused mesh")):
+            continue
+        status, told, messages = ran([driver, os.path.join(folder, "mesh.obj"), os.path.join(folder, "steps.txt")])
+        if status == 3:
+            continue
+        done += 1
+        if status != 0 or told != wanted or messages:
+            bad.append(seed)
+    return done, bad
 
 
 def log_of(program, mesh, steps, folder):
@@ -84,12 +81,13 @@ def log_of(program, mesh, steps, folder):
     for name, text in (("mesh.obj", mesh), ("steps.txt", steps)):
         with open(os.path.join(folder, name), "w") as out:
             out.write(text)
-    return subprocess.run([program, "track", "mesh.obj", "steps.txt", "t"], cwd=folder, stdout=subprocess.PIPE, check=True, timeout=60).stdout
+    words = [program, "track", "mesh.obj", "steps.txt", "t"]
+    return subprocess.run(words, cwd=folder, stdout=subprocess.PIPE, stderr=subprocess.DEVNULL, timeout=60).stdout
 
 
 def compiled(words, source, folder):
     """A compiled source, linked with the archive, or None where it has a warning."""
-    made = os.path.join(folder, os.path.basename(source).replace(".", "_"))
+    made = os.path.join(folder, os.path.basename(source).replace(".", "_") + "_" + words[0])
     ran = subprocess.run([*words, source, os.path.join(LIBRARY, "out/libtopo.a"), "-o", made])
     return made if ran.returncode == 0 else None
 
@@ -110,31 +108,77 @@ def header_alone(words, ending, folder):
     return compiled(words, source, folder)
 
 
+def by_each(names, flags):
+    """The commands of the compilers that are there, each once."""
+    found = {os.path.realpath(path): name for name in names if (path := shutil.which(name))}
+    return [[name, *flags] for name in found.values()]
+
+
+def in_c(words, folder):
+    """What is looked at of the library by one compiler of C."""
+    status, told, _ = ran([compiled(words, os.path.join(LIBRARY, "example.c"), folder)])
+    yield f"the header compiles as C99 by {words[0]}, and a handle has 16 bytes", ran([header_alone(words, ".c", folder)])[0] == 0
+    yield f"example.c by {words[0]} tells a whole step", status == 0 and told.endswith(b"move 4 1 2 3\nmoved whole\n")
+    cases = compiled(words, os.path.join(ROOT, "checks/library_cases.c"), folder)
+    status, told, _ = ran([cases])
+    yield f"the worked cases by {words[0]}: {told.decode().strip()}", status == 0
+    if shutil.which("valgrind") and cases:
+        status, _, messages = ran([*VALGRIND, cases])
+        yield f"the same under valgrind: {messages}", status == 0
+
+
+def in_cpp(words, program, folder):
+    """The same by one compiler of C++."""
+    yield f"the header compiles as C++17 by {words[0]}, and a handle has 16 bytes", ran([header_alone(words, ".cpp", folder)])[0] == 0
+    status, told, messages = ran([compiled(words, os.path.join(LIBRARY, "example.cpp"), folder)])
+    yield f"example.cpp by {words[0]} writes the program's log", status == 0 and told == log_of(program, MESH, STEPS, folder)
+    yield "example.cpp tells what is refused", all(line in messages for line in TOLD)
+    yield f"droplet.cpp by {words[0]}", framed([compiled(words, os.path.join(ROOT, "examples/library/droplet.cpp"), folder)], folder)
+
+
+def framed(words, folder):
+    """Whether a droplet writes its frames."""
+    last = os.path.join(folder, "frame_003.obj")
+    status = ran([*words, folder, "3"])[0]
+    good = status == 0 and os.path.getsize(last) > 1000
+    if os.path.exists(last):
+        os.remove(last)
+    return good
+
+
+def by_python(program, folder):
+    """The same by Python."""
+    status, told, messages = ran([sys.executable, os.path.join(LIBRARY, "example.py")])
+    yield "example.py writes the program's log", status == 0 and told == log_of(program, *boxes(), folder)
+    yield "example.py tells what is refused", "refused: 2 1 99999 0 0\n" in messages and "meets: 2 17 " in messages
+    yield "droplet.py", framed([sys.executable, os.path.join(ROOT, "examples/library/droplet.py")], folder)
+
+
+def by_drivers(words, program, jobs, folder):
+    """The random jobs, and each allocation refused in turn."""
+    done, bad = random_jobs(compiled(words, os.path.join(ROOT, "checks/library_steps.c"), folder), program, jobs, folder)
+    print(f"{done} random jobs")
+    yield f"of {jobs} random jobs {done} are done, and the logs of these are others: {bad}", done == jobs and not bad
+    if "CS_GNU_LIBC_VERSION" in os.confstr_names and "glibc" in (os.confstr("CS_GNU_LIBC_VERSION") or ""):
+        status, told, messages = ran([compiled(words, os.path.join(ROOT, "checks/starving.c"), folder)])
+        print(told.decode().strip())
+        yield f"each allocation refused in turn: {told.decode().strip()}", status == 0
+
+
 def main():
-    archive, program = (sys.argv[1:] + [None, None])[:2]
+    archive, program, jobs = (sys.argv[1:] + [None, None, None])[:3]
+    jobs = int(jobs or 100)
+    sys.dont_write_bytecode = True
     program = os.path.abspath(program) if program else os.path.join(ROOT, "topo")
-    if not (shutil.which("cc") and shutil.which("c++") and shutil.which("ar")):
-        print("no cc, c++ or ar: nothing is compiled")
+    c, cpp = by_each(("cc", "gcc", "clang"), C99), by_each(("c++", "g++", "clang++"), CPP17)
+    if not (c and cpp and shutil.which("ar")):
+        print("no compiler of C, of C++ or no ar: nothing is compiled")
         return 0
     subprocess.run([os.path.join(LIBRARY, "build"), *([os.path.abspath(archive)] if archive else [])], check=True)
-    checks = []
     with tempfile.TemporaryDirectory() as folder:
-        for words, ending, what in ((C99, ".c", "C99"), (CPP17, ".cpp", "C++17")):
-            checks.append((f"the header compiles as {what}, and a handle has 16 bytes", ran([header_alone(words, ending, folder)])[0] == 0))
-        status, told, _ = ran([compiled(C99, os.path.join(LIBRARY, "example.c"), folder)])
-        checks.append(("example.c tells a whole step", status == 0 and told.endswith(b"move 4 1 2 3\nmoved whole\n")))
-        status, told, messages = ran([compiled(CPP17, os.path.join(LIBRARY, "example.cpp"), folder)])
-        checks.append(("example.cpp writes the program's log", status == 0 and told == log_of(program, MESH, STEPS, folder)))
-        checks.append(("example.cpp tells what is refused", all(line in messages for line in TOLD)))
-        status, told, messages = ran([sys.executable, os.path.join(LIBRARY, "example.py")])
-        checks.append(("example.py writes the program's log", status == 0 and told == log_of(program, *boxes(), folder)))
-        checks.append(("example.py tells what is refused", "refused: 2 1 99999 0 0\n" in messages and "meets: 2 17 " in messages))
-        for seed in range(1, 4):
-            mesh, steps, told = driven(seed)
-            checks.append((f"the log of random job {seed} is the program's", told == log_of(program, mesh, steps, folder)))
-        if "glibc" in "".join(os.confstr(name) or "" for name in os.confstr_names if name == "CS_GNU_LIBC_VERSION"):
-            status, told, messages = ran([compiled(C99, os.path.join(ROOT, "checks/starving.c"), folder)])
-            checks.append((f"each allocation refused in turn: {told.decode().strip()}", status == 0))
+        checks = [check for words in c for check in in_c(words, folder)]
+        checks += [check for words in cpp for check in in_cpp(words, program, folder)]
+        checks += [*by_python(program, folder), *by_drivers(c[0], program, jobs, folder)]
     failed = sum(not good for _, good in checks)
     for what, good in checks:
         if not good:

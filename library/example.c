@@ -12,6 +12,7 @@ int main(void)
     static const struct topo_triangle faces[] = {{1, 3, 2}, {1, 2, 4}, {2, 3, 4}, {1, 4, 3}};
     struct topo t = TOPO_NONE;
     struct topo_fault fault = {0, 0, 0, 0};
+    struct topo_way way = {0, 0, 0};
     char text[256];
     size_t size = 0;
     uint32_t v, code = topo_new(points, 4, faces, 4, &t, &fault);
@@ -19,7 +20,7 @@ int main(void)
     for (v = 1; code == TOPO_DONE && v <= 4; ++v)
         code = topo_shift(&t, v, 1, 2, 3, &fault);
     if (code == TOPO_DONE)
-        code = topo_step(&t, &fault);
+        code = topo_step(&t, &way, &fault);
     if (code == TOPO_DONE)
         code = topo_log(&t, text, sizeof text, &size);
     if (code == TOPO_DONE)

@@ -30,11 +30,11 @@ public:
     ~Tracker() { topo_free(&t); }
 
     void shift(std::uint32_t vertex, int x, int y, int z) { must(topo_shift(&t, vertex, x, y, z, &fault), "shift", fault); }
-    void step() { must(topo_step(&t, &fault), "step", fault); }
-    void split(std::uint32_t over) { must(topo_split(&t, over, &fault), "split", fault); }
+    void step() { must(topo_step(&t, &way, &fault), "step", fault); }
+    void split(std::uint32_t over) { must(topo_split(&t, over, &edits, &fault), "split", fault); }
     void solid(std::uint32_t vertex) { must(topo_solid(&t, vertex, &fault), "solid", fault); }
     void open() { must(topo_open(&t, &fault), "open", fault); }
-    void close() { must(topo_close(&t, &fault), "close", fault); }
+    void close() { must(topo_close(&t, &kept, &fault), "close", fault); }
 
     // The code of a call that may be refused.
     std::uint32_t try_shift(std::uint32_t vertex, int x, int y, int z) { return topo_shift(&t, vertex, x, y, z, &fault); }
@@ -68,6 +68,9 @@ public:
     }
 
     topo_fault fault{0, 0, 0, 0};
+    topo_way way{0, 0, 0};
+    topo_edits edits{0, 0};
+    std::uint32_t kept = TOPO_NO_GROUP;
 
 private:
     topo t TOPO_NONE;

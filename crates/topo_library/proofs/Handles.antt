@@ -1,10 +1,12 @@
 -- A call on the tracker of a handle, by the call on the tracker.
-use Rattle.std.proofs.Common.{◌≡◌, ℕ, List, Option, Some, sym, subst}
+use Rattle.std.proofs.Common.{◌≡◌, ℕ, List, Option, Some, refl, sym, subst}
+use Rattle.mesh_sizing.specs.declared.sizing.Band.{Band}
 use Rattle.step_text.specs.declared.Directive.{Directive}
 use Rattle.track_held.specs.declared.given.NamedPoint.{NamedPoint}
 use Rattle.topo_library.specs.declared.fault.TopoFault.{TopoFault}
 use Rattle.topo_library.specs.declared.tracker.Tracker.{Tracker}
-use Rattle.topo_library.specs.Codes.{HasDone, HandleHasDone, HasShiftedEach, HandleHasShiftedEach, HasTakenLog, HandleHasTakenLog}
+use Rattle.step_choose.specs.declared.Settings.{Settings}
+use Rattle.topo_library.specs.Codes.{HasDone, HandleHasDone, HasTold, HandleHasTold, HasSet, HandleHasSet, HasFitted, HandleHasFitted, HasForgotten, HandleHasForgotten, HasShiftedEach, HandleHasShiftedEach, HasTakenLog, HandleHasTakenLog}
 
 module _ (old new : Option Tracker) (s t : Tracker) (held : old ≡ Some s) (holds : new ≡ Some t) where
   pub answers : (what : Directive) (before after : TopoFault) (code : ℕ) → HasDone what s t before after code → HandleHasDone what old new before after code
@@ -15,3 +17,15 @@ module _ (old new : Option Tracker) (s t : Tracker) (held : old ≡ Some s) (hol
 
   pub gives_log : (into now : List ℕ) (before size code : ℕ) → HasTakenLog s t into now before size code → HandleHasTakenLog old new into now before size code
   gives_log into now before size code h = let P : Option Tracker → Type 0 = λ o. HandleHasTakenLog o new into now before size code in subst P (sym held) (t, holds, h)
+
+  pub sets : (set : Settings) (code : ℕ) → HasSet set s t code → HandleHasSet set old new code
+  sets set code h = let P : Option Tracker → Type 0 = λ o. HandleHasSet set o new code in subst P (sym held) (t, holds, h)
+
+  pub fits : (band : Band) (code : ℕ) → HasFitted band s t code → HandleHasFitted band old new code
+  fits band code h = let P : Option Tracker → Type 0 = λ o. HandleHasFitted band o new code in subst P (sym held) (t, holds, h)
+
+  pub forgets : HasForgotten s t → HandleHasForgotten old new 0
+  forgets h = let P : Option Tracker → Type 0 = λ o. HandleHasForgotten o new 0 in subst P (sym held) (refl, (t, holds, h))
+
+pub tells : {X : Type 0} (tell : Tracker → X) (old : Option Tracker) (s : Tracker) → old ≡ Some s → (before after : X) (code : ℕ) → HasTold tell s before after code → HandleHasTold tell old before after code
+tells tell old s held before after code h = let P : Option Tracker → Type 0 = λ o. HandleHasTold tell o before after code in subst P (sym held) h

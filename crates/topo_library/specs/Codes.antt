@@ -1,11 +1,17 @@
 -- What the codes say of the calls.
-use Rattle.std.specs.Prelude.{◌≡◌, ◌≢◌, ◌≤◌, ◌<◌, ◌↔◌, ◌⊎◌, ℕ, true, List, [], ◌∷◌, ◌++◌, length, drop, Option, Some, None, Ok, Err}
+use Rattle.std.specs.Prelude.{◌≡◌, ◌≢◌, ◌≤◌, ◌<◌, ◌↔◌, ◌⊎◌, ℕ, true, Option, Some, None, Ok, Err}
+use Rattle.std.specs.Prelude.{List, [], ◌∷◌, ◌++◌, length, drop}
 use Rattle.std.specs.FinMap as finite
+use Rattle.grid_base.specs.declared.TheConstants.{DEPTH_MAX, HALVINGS_MAX, TEXT_MAX}
+use Rattle.line_text.specs.declared.TextFault.{TextFault}
 use Rattle.mesh_base.specs.Mesh.{Mesh}
 use Rattle.mesh_base.specs.Valid.{IsValidSurface}
 use Rattle.mesh_base.specs.declared.UseWhy.{UseWhy}
 use Rattle.mesh_journal.specs.Journal.{mesh_in, kept_in}
+use Rattle.mesh_sizing.specs.declared.sizing.Band.{Band}
 use Rattle.outside_io.specs.declared.stop.Stop.TheVariants.{NoMemory}
+use Rattle.step_choose.specs.declared.TheConstants.{PASSES_MAX}
+use Rattle.step_choose.specs.declared.Settings.{Settings}
 use Rattle.step_text.specs.declared.Directive.{Directive}
 use Rattle.track_engine.specs.Answers.{Nothing}
 use Rattle.track_engine.specs.State.{State, unsaved}
@@ -17,7 +23,10 @@ use Rattle.track_held.specs.declared.given.GivenPoint.{GivenPoint}
 use Rattle.track_held.specs.declared.given.GivenFace.{GivenFace}
 use Rattle.track_held.specs.declared.given.NamedPoint.{NamedPoint}
 use Rattle.track_held.specs.declared.making.MakeFault.{MakeFault}
-use Rattle.track_held.specs.Asking.{CanBeAsked, asking}
+use Rattle.track_held.specs.declared.events.Event.{Event}
+use Rattle.track_held.specs.Asking.{CanBeAsked, asking, CanAllBeAsked, asking_all}
+use Rattle.track_held.specs.Events.{with_first_line, events_in}
+use Rattle.track_held.specs.Fitting.{FitWrites, always}
 use Rattle.track_held.specs.Given.{given_mesh, make_fault}
 use Rattle.track_held.specs.Held.{engine_in, log_in, goes_on}
 use Rattle.topo_library.specs.Faults.{make_place, use_place}
@@ -84,6 +93,73 @@ HandleHasDone what (Some s) new before after code =
 abbrev pub IsBeyond : Option Tracker → Option Tracker → TopoFault → TopoFault → ℕ → Type 0
 IsBeyond old new before after code = (code ≡ 3) × (new ≡ old) × (after ≡ before)
 
+-- What a call that does a directive tells beside its code: at 0 what the tracker s tells, and else
+-- nothing.
+pub record HasTold {X : Type 0} (tell : Tracker → X) (s : Tracker) (before after : X) (code : ℕ)
+    : Type 0 where
+  pub told : code ≡ 0 → after ≡ tell s
+  pub left : code ≢ 0 → after ≡ before
+
+-- the same of a handle
+abbrev pub HandleHasTold : {X : Type 0} → (Tracker → X) → Option Tracker → X → X → ℕ → Type 0
+HandleHasTold tell None before after code = after ≡ before
+HandleHasTold tell (Some s) before after code = HasTold tell s before after code
+
+-- ---- a pass by a band
+
+-- What a code says of a call that makes a pass by a band of lengths with the tracker s, which then
+-- is t. It is never refused.
+pub record HasFitted (band : Band) (s t : Tracker) (code : ℕ) : Type 0 where
+  -- 0: its lines were told, and the tracker stands in the state after it
+  pub done : code ≡ 0 →
+      FitWrites (always band) (tracked s) (tracked t) (Some (told s)) (Some (told t)) (Ok None)
+  -- 1: there was no memory: nothing was told, or a part of its lines, and the tracker is stopped
+  pub memory : code ≡ 1 →
+      FitWrites (always band) (tracked s) (tracked t) (Some (told s)) (Some (told t)) (Err NoMemory)
+      × ¬ GoesOn t
+  -- the rest as of a directive
+  pub stopped : code ≡ 5 ↔ ¬ GoesOn s
+  pub spent : code ≡ 6 ↔ (GoesOn s × ¬ HasRoomLeft s)
+  pub idle : (code ≡ 5) ⊎ (code ≡ 6) → t ≡ s
+  pub goes_on : code ≢ 1 → goes_on t.held ≡ goes_on s.held
+  pub kept : GoesOn t → IsRunInvariant (tracked t)
+  pub among : (code ≡ 0) ⊎ (code ≡ 1) ⊎ (code ≡ 5) ⊎ (code ≡ 6)
+
+-- the same of a handle
+abbrev pub HandleHasFitted : Band → Option Tracker → Option Tracker → ℕ → Type 0
+HandleHasFitted band None new code = (code ≡ 4) × (new ≡ None)
+HandleHasFitted band (Some s) new code = (t : Tracker) × (new ≡ Some t) × HasFitted band s t code
+
+-- ---- settings
+
+-- each of these numbers is within its limit
+pub record AreSettings (depth passes zones halvings : ℕ) : Type 0 where
+  pub depth_fits : depth ≤ DEPTH_MAX
+  pub passes_fits : passes ≤ PASSES_MAX
+  pub zones_fits : zones ≤ 1
+  pub halvings_fits : halvings ≤ HALVINGS_MAX
+
+-- the same state, with these settings
+abbrev pub with_settings : Settings → State → State
+with_settings set s = record s { set = set }
+
+-- What a code says of a call that sets all settings.
+pub record HasSet (set : Settings) (s t : Tracker) (code : ℕ) : Type 0 where
+  -- 0: it goes by them
+  pub done : code ≡ 0 → tracked t ≡ with_settings set (tracked s)
+  -- 5 exactly where the tracker was stopped: nothing is done
+  pub stopped : code ≡ 5 ↔ ¬ GoesOn s
+  pub idle : code ≡ 5 → t ≡ s
+  -- nothing is told of it, and no other code comes
+  pub log : told t ≡ told s
+  pub goes_on : goes_on t.held ≡ goes_on s.held
+  pub among : (code ≡ 0) ⊎ (code ≡ 5)
+
+-- the same of a handle: 4 where it holds no tracker
+abbrev pub HandleHasSet : Settings → Option Tracker → Option Tracker → ℕ → Type 0
+HandleHasSet set None new code = (code ≡ 4) × (new ≡ None)
+HandleHasSet set (Some s) new code = (t : Tracker) × (new ≡ Some t) × HasSet set s t code
+
 -- ---- shifts
 
 -- one shift: 3 where it cannot be asked, and else what the code says of the directive
@@ -92,6 +168,13 @@ abbrev pub HandleHasShifted : NamedPoint → Option Tracker → Option Tracker �
 HandleHasShifted row old new before after code =
     (¬ CanBeAsked row → IsBeyond old new before after code)
     × (CanBeAsked row → HandleHasDone (asking row) old new before after code)
+
+-- one shift of all vertices: the same
+abbrev pub HandleHasShiftedAll : NamedPoint → Option Tracker → Option Tracker
+    → TopoFault → TopoFault → ℕ → Type 0
+HandleHasShiftedAll row old new before after code =
+    (¬ CanAllBeAsked row → IsBeyond old new before after code)
+    × (CanAllBeAsked row → HandleHasDone (asking_all row) old new before after code)
 
 -- Each shift in order, up to the first that cannot be asked or is
 -- not done, whose code is the answer.
@@ -176,6 +259,39 @@ HandleHasTakenLog None new into now before size code =
     (code ≡ 4) × (new ≡ None) × (now ≡ into) × (size ≡ before)
 HandleHasTakenLog (Some s) new into now before size code =
     (t : Tracker) × (new ≡ Some t) × HasTakenLog s t into now before size code
+
+-- The log is forgotten. The tracker stays in all else.
+pub record HasForgotten (s t : Tracker) : Type 0 where
+  pub log : told t ≡ []
+  pub engine : engine_in t.held ≡ engine_in s.held
+  pub goes_on : goes_on t.held ≡ goes_on s.held
+
+-- the same of a handle: 4 where there is none
+abbrev pub HandleHasForgotten : Option Tracker → Option Tracker → ℕ → Type 0
+HandleHasForgotten None new code = (code ≡ 4) × (new ≡ None)
+HandleHasForgotten (Some s) new code =
+    (code ≡ 0) × ((t : Tracker) × (new ≡ Some t) × HasForgotten s t)
+
+-- What a code says of a call that puts into a buffer what a text of a log tells, as numbers.
+pub record HasPutEvents (text : List ℕ) (into now : List Event) (before size code : ℕ)
+    : Type 0 where
+  -- 0 and 3: the text is read as lines, whose events are put, or do not fit
+  pub puts : (code ≡ 0) ⊎ (code ≡ 3) →
+      (events : List Event) × (events_in text ≡ Ok events) × HasPut events into now before size code
+  -- 7: it is too long, or is not read as lines
+  pub unread : code ≡ 7 →
+      (TEXT_MAX < length text) ⊎ ((fault : TextFault) × (events_in text ≡ Err fault))
+  -- 1: there was no memory; then, and at 7, nothing is put or told
+  pub left : (code ≡ 1) ⊎ (code ≡ 7) → (now ≡ into) × (size ≡ before)
+  pub among : (code ≡ 0) ⊎ (code ≡ 1) ⊎ (code ≡ 3) ⊎ (code ≡ 7)
+
+-- the same of what a handle's tracker has told, which stays: 4 where there is none
+abbrev pub HandleHasPutEvents : Option Tracker → Option Tracker
+    → List Event → List Event → ℕ → ℕ → ℕ → Type 0
+HandleHasPutEvents None new into now before size code =
+    (code ≡ 4) × (new ≡ None) × (now ≡ into) × (size ≡ before)
+HandleHasPutEvents (Some t) new into now before size code =
+    (new ≡ Some t) × HasPutEvents (with_first_line (told t)) into now before size code
 
 -- the live vertices and faces and the bytes of the log
 pub record Counted : Type 0 where

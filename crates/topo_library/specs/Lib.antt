@@ -1,3 +1,5 @@
+pub mod Alone
 pub mod Codes
 pub mod Faults
 pub mod Owned
+pub mod Tellings

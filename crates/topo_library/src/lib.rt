@@ -1,5 +1,5 @@
 //! The tracker for a caller in C or C++: a surface is made of points and faces, and changed by one call after another. Coordinates, shifts
-//! and lengths are in grid units. Each call but one answers a code: done, no memory, refused for the reason that the fault tells, an argument
+//! and lengths are in grid units. Each call but two answers a code: done, no memory, refused for the reason that the fault tells, an argument
 //! beyond its limit or a buffer too short, no tracker in the handle, a tracker that is stopped, or one that is spent.
 //!
 //! The tracker is that of Brochu and Bridson, "Robust topological operations for dynamic explicit surfaces" (2009).
@@ -7,12 +7,20 @@
 
 ghost use Rattle.std.specs.Prelude.{◌≡◌, ◌≤◌, ◌<◌, None};
 ghost use Rattle.grid_base.specs.declared.TheConstants.{LENGTH_MAX, ID_MAX};
+ghost use Rattle.grid_base.specs.Meeting.{MeetAt};
+ghost use Rattle.grid_base.specs.Motion.{NeverMeet};
+ghost use Rattle.grid_base.specs.Separation.{Passes};
+ghost use Rattle.mesh_sizing.specs.Sizes.{IsBand};
 ghost use Rattle.step_text.specs.Ranges.{IsFrom};
+ghost use Rattle.topo_library.specs.Alone.{AreInBox, places, HasTested, CanPass};
 ghost use Rattle.step_text.specs.declared.Directive.TheVariants as directive;
 ghost use Rattle.edit_base.specs.declared.PassKind.TheVariants as pass;
-ghost use Rattle.track_held.specs.Reading.{named_points, named_faces};
-ghost use Rattle.topo_library.specs.Codes.{tracked, HandleHasDone, IsBeyond, HandleHasShifted, HandleHasShiftedEach, HasMade, HandleHasPut, HandleHasTakenLog, HandleHasCounted};
+ghost use Rattle.track_engine.specs.Told.{step_told, pass_told};
+ghost use Rattle.track_held.specs.Reading.{named_points, named_faces, solid_vertices};
+ghost use Rattle.topo_library.specs.Codes.{tracked, HandleHasDone, HandleHasTold, IsBeyond, AreSettings, HandleHasSet, HandleHasFitted, HandleHasShifted, HandleHasShiftedAll, HandleHasShiftedEach, HasMade, HandleHasPut, HandleHasPutEvents, HandleHasForgotten, HandleHasTakenLog, HandleHasCounted};
+ghost use Rattle.topo_library.specs.Tellings.{way_told, edits_told, closing_of, settings_at, band_of};
 
+mod alone;
 mod calling;
 mod codes;
 mod fault;
@@ -21,19 +29,25 @@ mod loose;
 mod making;
 mod owned;
 mod reading;
+mod settings;
+mod telling;
 mod tracker;
 
-use calling::{advance, shift_each, shift_one};
+use alone::{TopoFive, tell_meets, tell_passes};
+use calling::{advance, close, fit, pass_with, set, shift_each, shift_every, shift_one, step};
 use codes::RANGE;
 use edit_base::PassKind;
 use fault::TopoFault;
 use grid_base::{ID_MAX, LENGTH_MAX};
 use handle::Topo;
+use log_text::VERSION;
 use making::make;
-use reading::{count, read_faces, read_log, read_points};
+use reading::{count, forget_log, read_events, read_faces, read_log, read_points, read_solids};
+use settings::{band_of, settings_at};
 use std::alloc::Global;
 use step_text::Directive;
-use track_held::{GivenFace, GivenPoint, NamedFace, NamedPoint};
+use telling::{TopoEdits, TopoWay};
+use track_held::{Event, GivenFace, GivenPoint, NamedFace, NamedPoint};
 
 /// Makes a tracker of the surface of these points and faces, whose corners number the points from 1, or refuses them for their first fault.
 /// What `out` held is freed first; where no tracker is made, it holds none.
@@ -98,91 +112,181 @@ pub extern "C" fn topo_shift_each(
     shift_each(alloc, topo, shifts, fault)
 }
 
-/// Takes the asked shifts, or the first of the lesser ways that is safe. Refused where a vertex would leave the box.
+/// Adds a shift to what is asked of each vertex that is not solid. A component above `SHIFT_MAX` is beyond its limit; refused where one of the
+/// sums is above the limit.
 #[unsafe(no_mangle)]
-pub extern "C" fn topo_step(alloc: Global, topo: &mut Topo, fault: &mut TopoFault) -> u32
-    ensures { HandleHasDone directive.Step topo.old.owned.value topo.new.owned.value
-        fault.old fault.new result }
+pub extern "C" fn topo_shift_all(
+    alloc: Global,
+    topo: &mut Topo,
+    x: i32,
+    y: i32,
+    z: i32,
+    fault: &mut TopoFault,
+) -> u32
+    ensures { HandleHasShiftedAll (record { id = 0; x = x; y = y; z = z })
+        topo.old.owned.value topo.new.owned.value fault.old fault.new result }
 {
-    advance(alloc, topo, &Directive::Step, fault)
+    let row = row_of(0, x, y, z);
+    shift_every(alloc, topo, &row, fault)
 }
 
-/// Splits each edge that is longer. A length above `LENGTH_MAX` is beyond its limit.
+/// Sets the depth of time halving of the tests, how many impulse passes are tried, whether impact zones are, 1 or 0, and how many halvings
+/// of the asked shifts; or none of them, where one is beyond its limit.
+#[unsafe(no_mangle)]
+pub extern "C" fn topo_set(
+    alloc: Global,
+    topo: &mut Topo,
+    depth: u8,
+    passes: u8,
+    zones: u8,
+    halvings: u8,
+) -> u32
+    ensures beyond { ¬ AreSettings depth passes zones halvings →
+        (result ≡ 3) × (topo.new.owned.value ≡ topo.old.owned.value) }
+    ensures sets { AreSettings depth passes zones halvings →
+        HandleHasSet (settings_at depth passes zones halvings)
+        topo.old.owned.value topo.new.owned.value result }
+{
+    match settings_at(depth, passes, zones, halvings) {
+        Some(settings) => set(alloc, topo, settings),
+        None => RANGE,
+    }
+}
+
+/// Takes the asked shifts, or the first of the lesser ways that is safe, and tells which, and how many pairs do not pass in the asked step.
+/// Refused where a vertex would leave the box.
+#[unsafe(no_mangle)]
+pub extern "C" fn topo_step(
+    alloc: Global,
+    topo: &mut Topo,
+    way: &mut TopoWay,
+    fault: &mut TopoFault,
+) -> u32
+    ensures does { HandleHasDone directive.Step topo.old.owned.value topo.new.owned.value
+        fault.old fault.new result }
+    ensures tells { HandleHasTold (λ t. way_told (step_told (tracked t))) topo.old.owned.value
+        way.old way.new result }
+{
+    step(alloc, topo, way, fault)
+}
+
+/// Splits each edge that is longer, and tells how many edits were done and refused. A length above `LENGTH_MAX` is beyond its limit.
 #[unsafe(no_mangle)]
 pub extern "C" fn topo_split(
     alloc: Global,
     topo: &mut Topo,
     over: u32,
+    edits: &mut TopoEdits,
     fault: &mut TopoFault,
 ) -> u32
     ensures beyond { LENGTH_MAX < over → IsBeyond topo.old.owned.value topo.new.owned.value
         fault.old fault.new result }
     ensures does { over ≤ LENGTH_MAX → HandleHasDone (directive.Pass (pass.Split over))
         topo.old.owned.value topo.new.owned.value fault.old fault.new result }
+    ensures kept { LENGTH_MAX < over → edits.new ≡ edits.old }
+    ensures tells { over ≤ LENGTH_MAX →
+        HandleHasTold (λ t. edits_told (pass_told (pass.Split over) (tracked t)))
+        topo.old.owned.value edits.old edits.new result }
 {
     if over > LENGTH_MAX {
         return RANGE;
     }
-    let what = Directive::Pass(PassKind::Split { over });
-    advance(alloc, topo, &what, fault)
+    pass_with(alloc, topo, PassKind::Split { over }, edits, fault)
 }
 
-/// Collapses each edge that is shorter. A length above `LENGTH_MAX` is beyond its limit.
+/// Collapses each edge that is shorter, and tells the same. A length above `LENGTH_MAX` is beyond its limit.
 #[unsafe(no_mangle)]
 pub extern "C" fn topo_collapse(
     alloc: Global,
     topo: &mut Topo,
     under: u32,
+    edits: &mut TopoEdits,
     fault: &mut TopoFault,
 ) -> u32
     ensures beyond { LENGTH_MAX < under → IsBeyond topo.old.owned.value topo.new.owned.value
         fault.old fault.new result }
     ensures does { under ≤ LENGTH_MAX → HandleHasDone (directive.Pass (pass.Collapse under))
         topo.old.owned.value topo.new.owned.value fault.old fault.new result }
+    ensures kept { LENGTH_MAX < under → edits.new ≡ edits.old }
+    ensures tells { under ≤ LENGTH_MAX →
+        HandleHasTold (λ t. edits_told (pass_told (pass.Collapse under) (tracked t)))
+        topo.old.owned.value edits.old edits.new result }
 {
     if under > LENGTH_MAX {
         return RANGE;
     }
-    let what = Directive::Pass(PassKind::Collapse { under });
-    advance(alloc, topo, &what, fault)
+    pass_with(alloc, topo, PassKind::Collapse { under }, edits, fault)
 }
 
-/// Flips each edge that is longer than the distance of its opposite corners.
+/// Flips each edge that is longer than the distance of its opposite corners, and tells the same.
 #[unsafe(no_mangle)]
-pub extern "C" fn topo_flip(alloc: Global, topo: &mut Topo, fault: &mut TopoFault) -> u32
-    ensures { HandleHasDone (directive.Pass pass.Flip) topo.old.owned.value topo.new.owned.value
+pub extern "C" fn topo_flip(
+    alloc: Global,
+    topo: &mut Topo,
+    edits: &mut TopoEdits,
+    fault: &mut TopoFault,
+) -> u32
+    ensures does { HandleHasDone (directive.Pass pass.Flip) topo.old.owned.value topo.new.owned.value
         fault.old fault.new result }
+    ensures tells { HandleHasTold (λ t. edits_told (pass_told pass.Flip (tracked t)))
+        topo.old.owned.value edits.old edits.new result }
 {
-    advance(alloc, topo, &Directive::Pass(PassKind::Flip), fault)
+    pass_with(alloc, topo, PassKind::Flip, edits, fault)
 }
 
-/// Zips each two edges whose midpoints are no further apart. A length above `LENGTH_MAX` is beyond its limit.
+/// Zips each two edges whose midpoints are no further apart, and tells the same. A length above `LENGTH_MAX` is beyond its limit.
 #[unsafe(no_mangle)]
 pub extern "C" fn topo_zip(
     alloc: Global,
     topo: &mut Topo,
     within: u32,
+    edits: &mut TopoEdits,
     fault: &mut TopoFault,
 ) -> u32
     ensures beyond { LENGTH_MAX < within → IsBeyond topo.old.owned.value topo.new.owned.value
         fault.old fault.new result }
     ensures does { within ≤ LENGTH_MAX → HandleHasDone (directive.Pass (pass.Zip within))
         topo.old.owned.value topo.new.owned.value fault.old fault.new result }
+    ensures kept { LENGTH_MAX < within → edits.new ≡ edits.old }
+    ensures tells { within ≤ LENGTH_MAX →
+        HandleHasTold (λ t. edits_told (pass_told (pass.Zip within) (tracked t)))
+        topo.old.owned.value edits.old edits.new result }
 {
     if within > LENGTH_MAX {
         return RANGE;
     }
-    let what = Directive::Pass(PassKind::Zip { within });
-    advance(alloc, topo, &what, fault)
+    pass_with(alloc, topo, PassKind::Zip { within }, edits, fault)
 }
 
-/// Pinches each vertex whose faces are two fans or more.
+/// Pinches each vertex whose faces are two fans or more, and tells the same.
 #[unsafe(no_mangle)]
-pub extern "C" fn topo_pinch(alloc: Global, topo: &mut Topo, fault: &mut TopoFault) -> u32
-    ensures { HandleHasDone (directive.Pass pass.Pinch) topo.old.owned.value topo.new.owned.value
+pub extern "C" fn topo_pinch(
+    alloc: Global,
+    topo: &mut Topo,
+    edits: &mut TopoEdits,
+    fault: &mut TopoFault,
+) -> u32
+    ensures does { HandleHasDone (directive.Pass pass.Pinch) topo.old.owned.value topo.new.owned.value
         fault.old fault.new result }
+    ensures tells { HandleHasTold (λ t. edits_told (pass_told pass.Pinch (tracked t)))
+        topo.old.owned.value edits.old edits.new result }
 {
-    advance(alloc, topo, &Directive::Pass(PassKind::Pinch), fault)
+    pass_with(alloc, topo, PassKind::Pinch, edits, fault)
+}
+
+/// Splits each edge that is longer than `high`, and collapses each that is shorter than `low`, one after another; it tells no number. Where
+/// `low` is not below `high`, or `high` is above `LENGTH_MAX`, they are beyond their limit.
+#[unsafe(no_mangle)]
+pub extern "C" fn topo_fit(alloc: Global, topo: &mut Topo, low: u32, high: u32) -> u32
+    ensures beyond { ¬ IsBand (band_of low high) →
+        (result ≡ 3) × (topo.new.owned.value ≡ topo.old.owned.value) }
+    ensures fits { IsBand (band_of low high) → HandleHasFitted (band_of low high)
+        topo.old.owned.value topo.new.owned.value result }
+{
+    match band_of(low, high) {
+        Some(band) => fit(alloc, topo, band),
+        None => RANGE,
+    }
 }
 
 /// Makes a vertex solid: it never moves again. An id that no vertex may have is beyond its limit; refused where the vertex does not live.
@@ -208,14 +312,21 @@ pub extern "C" fn topo_open(alloc: Global, topo: &mut Topo, fault: &mut TopoFaul
     advance(alloc, topo, &Directive::Group, fault)
 }
 
-/// Closes the group that was opened last: where each step in it was whole and no edit was refused it is kept, and else it is taken back.
-/// Where none is open, nothing is done.
+/// Closes the group that was opened last: where each step in it was whole and no edit was refused it is kept, and else it is taken back; and
+/// tells which. Nothing is done where no group is open.
 #[unsafe(no_mangle)]
-pub extern "C" fn topo_close(alloc: Global, topo: &mut Topo, fault: &mut TopoFault) -> u32
-    ensures { HandleHasDone directive.Close topo.old.owned.value topo.new.owned.value
+pub extern "C" fn topo_close(
+    alloc: Global,
+    topo: &mut Topo,
+    kept: &mut u32,
+    fault: &mut TopoFault,
+) -> u32
+    ensures does { HandleHasDone directive.Close topo.old.owned.value topo.new.owned.value
         fault.old fault.new result }
+    ensures tells { HandleHasTold (λ t. closing_of (tracked t).groups) topo.old.owned.value
+        kept.old kept.new result }
 {
-    advance(alloc, topo, &Directive::Close, fault)
+    close(alloc, topo, kept, fault)
 }
 
 /// How many vertices and faces live, and how many bytes the log has.
@@ -262,6 +373,43 @@ pub extern "C" fn topo_faces(
     read_faces(alloc, topo, into, size)
 }
 
+/// Puts the ids of the live vertices that are solid, by rising id, into a buffer, where all of them fit, and tells how many they are.
+#[unsafe(no_mangle)]
+pub extern "C" fn topo_solids(
+    alloc: Global,
+    topo: &mut Topo,
+    into: &mut [u32],
+    size: &mut usize,
+) -> u32
+    ensures { HandleHasPut (λ t. solid_vertices (tracked t).mesh) topo.old.owned.value topo.new.owned.value
+        into.old into.new size.old size.new result }
+{
+    read_solids(alloc, topo, into, size)
+}
+
+/// Puts what was told since the log was last taken or forgotten into a buffer, as numbers, where all of it fits, and tells how many events
+/// they are. It stays told.
+#[unsafe(no_mangle)]
+pub extern "C" fn topo_events(
+    alloc: Global,
+    topo: &mut Topo,
+    into: &mut [Event],
+    size: &mut usize,
+) -> u32
+    ensures { HandleHasPutEvents topo.old.owned.value topo.new.owned.value
+        into.old into.new size.old size.new result }
+{
+    read_events(alloc, topo, into, size)
+}
+
+/// Forgets what was told since the log was last taken.
+#[unsafe(no_mangle)]
+pub extern "C" fn topo_forget(alloc: Global, topo: &mut Topo) -> u32
+    ensures { HandleHasForgotten topo.old.owned.value topo.new.owned.value result }
+{
+    forget_log(alloc, topo)
+}
+
 /// Puts what was told since the log was last taken into a buffer, where it fits, and forgets it then; and tells how many bytes it has.
 #[unsafe(no_mangle)]
 pub extern "C" fn topo_log(alloc: Global, topo: &mut Topo, into: &mut [u8], size: &mut usize) -> u32
@@ -269,4 +417,32 @@ pub extern "C" fn topo_log(alloc: Global, topo: &mut Topo, into: &mut [u8], size
         into.old into.new size.old size.new result }
 {
     read_log(alloc, topo, into, size)
+}
+
+/// The version of the log that a tracker writes.
+#[unsafe(no_mangle)]
+pub extern "C" fn topo_version() -> u32
+    ensures { result ≡ VERSION }
+{
+    u32::from(VERSION)
+}
+
+/// Tells 1 where the edge and the triangle of these five points share a position, ends, sides and corners counted, and else 0. A point
+/// outside the box is beyond its limit.
+#[unsafe(no_mangle)]
+pub extern "C" fn topo_meets(at: &TopoFive, meets: &mut u32) -> u32
+    ensures { HasTested (AreInBox at.now) (MeetAt (places at.now)) meets.old meets.new result }
+{
+    tell_meets(at, meets)
+}
+
+/// Tells 1 where an edge and a triangle that go from five points to five points, all in the same time, pass the written test to a depth, and
+/// else 0. Where they pass they meet at no fraction of the time. A point outside the box and a depth above `DEPTH_MAX` are beyond their limit.
+#[unsafe(no_mangle)]
+pub extern "C" fn topo_passes(start: &TopoFive, end: &TopoFive, depth: u8, passes: &mut u32) -> u32
+    ensures tests { HasTested (CanPass depth start.now end.now)
+        (Passes depth (places start.now) (places end.now)) passes.old passes.new result }
+    ensures clear { result ≡ 0 → passes.new ≡ 1 → NeverMeet (places start.now) (places end.now) }
+{
+    tell_passes(start, end, depth, passes)
 }

@@ -1,14 +1,18 @@
 //! The tracker of a handle is read.
 ghost use Rattle.std.specs.Prelude.{◌≡◌, ◌≢◌};
-ghost use Rattle.track_held.specs.Reading.{named_points, named_faces};
-ghost use Rattle.topo_library.specs.Codes.{tracked, HasPut, HandleHasPut, HasTakenLog, HandleHasTakenLog, counts_of, HandleHasCounted};
+ghost use Rattle.track_held.specs.Events.{with_first_line};
+ghost use Rattle.track_held.specs.Reading.{named_points, named_faces, solid_vertices};
+ghost use Rattle.topo_library.specs.Codes.{tracked, told, HasPut, HandleHasPut, HasPutEvents, HandleHasPutEvents, HasForgotten, HandleHasForgotten, HasTakenLog, HandleHasTakenLog, counts_of, HandleHasCounted};
 
-use crate::codes::{DONE, EMPTY, NO_MEMORY, RANGE};
+use crate::codes::{DONE, EMPTY, NO_MEMORY, RANGE, UNREAD};
 use crate::handle::Topo;
 use crate::tracker::Tracker;
 use mesh_base::Surface;
 use std::alloc::Global;
-use track_held::{NamedFace, NamedPoint, named_faces, named_points, put_rows};
+use track_held::{
+    Event, EventRefusal, NamedFace, NamedPoint, named_faces, named_points, put_rows,
+    solid_vertices, told_events,
+};
 
 // Puts rows into a buffer, where all of them fit, and tells their number.
 fn put<T: Copy + Drop>(rows: &[T], into: &mut [T], size: &mut usize) -> u32
@@ -75,6 +79,80 @@ pub(crate) fn read_faces(
     let code = put_faces(alloc, b.as_ref(), into, size);
     topo.give(b);
     code
+}
+
+// Puts the solid vertices of a tracker into a buffer.
+fn put_solids(alloc: Global, tracker: &Tracker, into: &mut [u32], size: &mut usize) -> u32
+    ensures { HasPut (solid_vertices (tracked tracker.now).mesh)
+        into.old into.new size.old size.new result }
+{
+    match solid_vertices(alloc, tracker.held.mesh()) {
+        Ok(rows) => put(rows.as_slice(), into, size),
+        Err(_) => NO_MEMORY,
+    }
+}
+
+/// Puts the solid vertices, by rising id, into a buffer.
+pub(crate) fn read_solids(alloc: Global, topo: &mut Topo, into: &mut [u32], size: &mut usize) -> u32
+    ensures { HandleHasPut (λ t. solid_vertices (tracked t).mesh) topo.old.owned.value topo.new.owned.value
+        into.old into.new size.old size.new result }
+{
+    let Some(b) = topo.take(alloc) else {
+        return EMPTY;
+    };
+    let code = put_solids(alloc, b.as_ref(), into, size);
+    topo.give(b);
+    code
+}
+
+// Puts what a tracker has told into a buffer, as numbers.
+fn put_events(alloc: Global, tracker: &Tracker, into: &mut [Event], size: &mut usize) -> u32
+    ensures { HasPutEvents (with_first_line (told tracker.now))
+        into.old into.new size.old size.new result }
+{
+    match told_events(alloc, tracker.held.log()) {
+        Ok(events) => put(events.as_slice(), into, size),
+        Err(EventRefusal::NoMemory) => NO_MEMORY,
+        Err(EventRefusal::Torn(_)) => UNREAD,
+        Err(EventRefusal::Long) => UNREAD,
+    }
+}
+
+/// Puts what was told into a buffer, as numbers. It stays told.
+pub(crate) fn read_events(
+    alloc: Global,
+    topo: &mut Topo,
+    into: &mut [Event],
+    size: &mut usize,
+) -> u32
+    ensures { HandleHasPutEvents topo.old.owned.value topo.new.owned.value
+        into.old into.new size.old size.new result }
+{
+    let Some(b) = topo.take(alloc) else {
+        return EMPTY;
+    };
+    let code = put_events(alloc, b.as_ref(), into, size);
+    topo.give(b);
+    code
+}
+
+// Forgets what a tracker has told.
+fn clear(tracker: &mut Tracker)
+    ensures { HasForgotten tracker.old tracker.new }
+{
+    tracker.held.clear_log();
+}
+
+/// Forgets what was told.
+pub(crate) fn forget_log(alloc: Global, topo: &mut Topo) -> u32
+    ensures { HandleHasForgotten topo.old.owned.value topo.new.owned.value result }
+{
+    let Some(mut b) = topo.take(alloc) else {
+        return EMPTY;
+    };
+    clear(b.as_mut());
+    topo.give(b);
+    DONE
 }
 
 // Puts the log of a tracker into a buffer, where it fits, and then forgets it.

@@ -1,11 +1,17 @@
 //! What stands behind the pointer of a tracker.
 ghost use Rattle.std.specs.Prelude.{◌≡◌};
+ghost use Rattle.mesh_sizing.specs.Sizes.{IsBand};
+ghost use Rattle.step_choose.specs.Settings.{AreWithinLimits};
 ghost use Rattle.step_text.specs.Ranges.{IsInRange};
 
 use crate::codes::{DONE, NO_MEMORY, REFUSED, SPENT, STOPPED};
 use crate::fault::{TopoFault, use_place};
+use crate::telling::{TopoEdits, TopoWay, closing_number, edits_told, way_told};
+use edit_base::PassKind;
 use mesh_journal::JournalMesh;
+use mesh_sizing::Band;
 use std::alloc::Global;
+use step_choose::Settings;
 use step_text::Directive;
 use track_held::Held;
 
@@ -16,8 +22,11 @@ pub struct Tracker {
 }
 
 impl Tracker {
+    ghost use Rattle.step_text.specs.declared.Directive.TheVariants.{Step, Pass, Close};
+    ghost use Rattle.track_engine.specs.Told.{step_told, pass_told};
     ghost use Rattle.track_held.specs.Asking.{AsksNothing};
-    ghost use Rattle.topo_library.specs.Codes.{HasDone};
+    ghost use Rattle.topo_library.specs.Codes.{tracked, HasDone, HasTold, HasSet, HasFitted};
+    ghost use Rattle.topo_library.specs.Tellings.{way_told, edits_told, closing_of};
 
     /// Does a directive, and answers how that went.
     pub(crate) fn advance(&mut self, alloc: Global, what: &Directive, fault: &mut TopoFault) -> u32
@@ -39,5 +48,101 @@ impl Tracker {
             }
             Err(_) => NO_MEMORY,
         }
+    }
+
+    /// Takes a step, and answers how that went.
+    pub(crate) fn step(&mut self, alloc: Global, way: &mut TopoWay, fault: &mut TopoFault) -> u32
+        ensures does { HasDone Step self.old self.new fault.old fault.new result }
+        ensures tells { HasTold (λ t. way_told (step_told (tracked t))) self.old
+            way.old way.new result }
+    {
+        if !self.held.goes_on() {
+            return STOPPED;
+        }
+        if !self.held.has_room() {
+            return SPENT;
+        }
+        match self.held.step(alloc) {
+            Ok(Ok(told)) => {
+                *way = way_told(told);
+                DONE
+            }
+            Ok(Err(why)) => {
+                let place = use_place(why);
+                *fault = place;
+                REFUSED
+            }
+            Err(_) => NO_MEMORY,
+        }
+    }
+
+    /// Makes a pass, and answers how that went. It is never refused, so the fault stays.
+    pub(crate) fn pass(
+        &mut self,
+        alloc: Global,
+        kind: PassKind,
+        edits: &mut TopoEdits,
+        fault: &mut TopoFault,
+    ) -> u32
+        ensures does { HasDone (Pass kind) self.old self.new fault.old fault.new result }
+        ensures tells { HasTold (λ t. edits_told (pass_told kind (tracked t))) self.old
+            edits.old edits.new result }
+    {
+        if !self.held.goes_on() {
+            return STOPPED;
+        }
+        if !self.held.has_room() {
+            return SPENT;
+        }
+        match self.held.pass(alloc, kind) {
+            Ok(count) => {
+                *edits = edits_told(count);
+                DONE
+            }
+            Err(_) => NO_MEMORY,
+        }
+    }
+
+    /// Closes the group that was opened last, and answers how that went.
+    pub(crate) fn close(&mut self, alloc: Global, kept: &mut u32, fault: &mut TopoFault) -> u32
+        ensures does { HasDone Close self.old self.new fault.old fault.new result }
+        ensures tells { HasTold (λ t. closing_of (tracked t).groups) self.old
+            kept.old kept.new result }
+    {
+        let closing = self.held.closing();
+        let code = self.advance(alloc, &Directive::Close, fault);
+        if code == DONE {
+            *kept = closing_number(closing);
+        }
+        code
+    }
+
+    /// Makes a pass by a band of lengths, and answers how that went.
+    pub(crate) fn fit(&mut self, alloc: Global, band: Band) -> u32
+        requires { IsBand band }
+        ensures { HasFitted band self.old self.new result }
+    {
+        if !self.held.goes_on() {
+            return STOPPED;
+        }
+        if !self.held.has_room() {
+            return SPENT;
+        }
+        match self.held.fit(alloc, band) {
+            Ok(()) => DONE,
+            Err(_) => NO_MEMORY,
+        }
+    }
+
+    /// Goes by these settings from here on.
+    pub(crate) fn set(&mut self, set: Settings) -> u32
+        requires { AreWithinLimits set }
+        ensures { HasSet set self.old self.new result }
+    {
+        if !self.held.goes_on() {
+            return STOPPED;
+        }
+        self.held.set(set);
+        DONE
     }
 }

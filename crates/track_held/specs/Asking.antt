@@ -6,7 +6,7 @@ use Rattle.grid_base.specs.Components.{FitWithin}
 use Rattle.grid_base.specs.Points.{shift_by}
 use Rattle.step_text.specs.Ranges.{IsFrom}
 use Rattle.step_text.specs.declared.Directive.{Directive}
-use Rattle.step_text.specs.declared.Directive.TheVariants.{ShiftOne, Drive, Fit}
+use Rattle.step_text.specs.declared.Directive.TheVariants.{ShiftOne, ShiftAll, Drive, Fit}
 use Rattle.track_held.specs.declared.given.NamedPoint.{NamedPoint}
 
 -- the shift has these components
@@ -23,6 +23,14 @@ pub record CanBeAsked (row : NamedPoint) : Type 0 where
 -- the shift is added to what is asked of the vertex
 abbrev pub asking : NamedPoint → Directive
 asking row = ShiftOne row.id (shift_by (record { x = row.x; y = row.y; z = row.z }))
+
+-- no component is above the limit
+abbrev pub CanAllBeAsked : NamedPoint → Type 0
+CanAllBeAsked row = FitWithin SHIFT_MAX row.x row.y row.z
+
+-- the shift is added to what is asked of each vertex
+abbrev pub asking_all : NamedPoint → Directive
+asking_all row = ShiftAll (shift_by (record { x = row.x; y = row.y; z = row.z }))
 
 -- a directive that asks neither a stored field nor a sizing
 abbrev pub AsksNothing : Directive → Type 0

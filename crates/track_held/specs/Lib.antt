@@ -4,3 +4,6 @@ pub mod Growing
 pub mod Held
 pub mod Kept
 pub mod Reading
+pub mod Closings
+pub mod Events
+pub mod Fitting

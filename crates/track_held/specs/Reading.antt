@@ -1,8 +1,9 @@
 -- The live vertices and faces of a mesh, as a caller gets them.
 use Rattle.std.specs.Prelude.{ℕ, List, map, Option, Some, None}
+use Rattle.std.specs.List.{filter}
 use Rattle.std.specs.FinMap as finite
 use Rattle.mesh_base.specs.declared.ids.Corners.{Corners}
-use Rattle.mesh_base.specs.Mesh.{Mesh}
+use Rattle.mesh_base.specs.Mesh.{Mesh, is_solid}
 use Rattle.mesh_base.specs.Placements.{point_of}
 use Rattle.track_held.specs.declared.given.NamedPoint.{NamedPoint}
 use Rattle.track_held.specs.declared.given.NamedFace.{NamedFace}
@@ -29,3 +30,7 @@ named_points m = map (named_point m) (finite.keys m.points)
 -- the live faces, by rising id, and their corners
 abbrev pub named_faces : Mesh → List NamedFace
 named_faces m = map (named_face m) (finite.keys m.faces)
+
+-- the live vertices that are solid, by rising id
+abbrev pub solid_vertices : Mesh → List ℕ
+solid_vertices m = filter (is_solid m) (finite.keys m.points)

@@ -2,7 +2,7 @@
 ghost use Rattle.std.specs.Prelude.{◌≡◌, MatchOption};
 ghost use Rattle.grid_base.specs.declared.TheConstants.{SHIFT_MAX};
 ghost use Rattle.grid_base.specs.Components.{FitWithin};
-ghost use Rattle.track_held.specs.Asking.{CanBeAsked, IsGiven, asking};
+ghost use Rattle.track_held.specs.Asking.{CanBeAsked, CanAllBeAsked, IsGiven, asking, asking_all};
 
 use crate::given::NamedPoint;
 use grid_base::{ID_MAX, Shift};
@@ -27,4 +27,13 @@ pub fn asking(row: &NamedPoint) -> Option<Directive>
         return None;
     }
     Some(Directive::ShiftOne { v, by })
+}
+
+/// The directive that adds a shift to what is asked of each vertex; None where a component is beyond its limit. The id says nothing.
+pub fn asking_all(row: &NamedPoint) -> Option<Directive>
+    ensures { MatchOption result (¬ CanAllBeAsked row.now)
+        (λ what. CanAllBeAsked row.now × (what ≡ asking_all row.now)) }
+{
+    let by = shift_of(row)?;
+    Some(Directive::ShiftAll { by })
 }

@@ -2,8 +2,10 @@
 ghost use Rattle.std.specs.Prelude.{◌≡◌, ◌≤◌, ◌<◌, ◌↔◌, true, false, [], Some, IfOk, OnErr, IsSome, IsTrue};
 ghost use Rattle.mesh_base.specs.Valid.{IsValidSurface};
 ghost use Rattle.mesh_field.specs.Stored.{IsWellKept};
-ghost use Rattle.mesh_sizing.specs.Sizes.{IsBand, IsWellKept as SizesWell};
+ghost use Rattle.mesh_sizing.specs.Sizes.{IsBand, IsWellKept as SizesWell, MayAnswer as MaySize};
+ghost use Rattle.step_choose.specs.Settings.{AreWithinLimits};
 ghost use Rattle.step_text.specs.Ranges.{IsInRange};
+ghost use Rattle.step_text.specs.declared.Directive.TheVariants.{Fit};
 ghost use Rattle.track_engine.specs.Answers.{Nothing};
 ghost use Rattle.track_engine.specs.State.{unsaved};
 ghost use Rattle.track_engine.specs.Effects.{effect_of};
@@ -12,9 +14,12 @@ ghost use Rattle.track_engine.specs.Engines.{state_in};
 ghost use Rattle.track_engine.specs.Invariant.{IsRunInvariant, HasRoom};
 ghost use Rattle.track_engine.specs.Ready.{IsReady};
 ghost use Rattle.track_held.specs.Asking.{AsksNothing};
+ghost use Rattle.track_held.specs.Closings.{closing};
+ghost use Rattle.track_held.specs.Fitting.{FitWrites};
 ghost use Rattle.track_held.specs.Growing.{bytes_in};
 ghost use Rattle.track_held.specs.Kept.{facts};
 
+use crate::closing::{Closing, closing_by};
 use crate::growing::GrowingSink;
 use grid_base::{NoMemory, Point, Shift};
 use mesh_base::{Surface, UseWhy};
@@ -22,11 +27,12 @@ use mesh_field::{Fields, no_fields};
 use mesh_sizing::{Band, Sizing};
 use outside_io::{Ends, Stop, TallyDesk};
 use std::alloc::Global;
+use step_choose::Settings;
 use step_text::Directive;
 use track_engine::{Engine, RunTerms, Target};
 
 // What a field that is not there would answer.
-fn no_shift(_which: u8, _at: Point) -> Shift {
+pub(crate) fn no_shift(_which: u8, _at: Point) -> Shift {
     Shift { x: 0, y: 0, z: 0 }
 }
 
@@ -37,9 +43,9 @@ fn any_length(_at: Point) -> Band
     Band { low: 1, high: 2 }
 }
 
-// Does one directive that asks neither a field nor the sizing: its lines are told to the log, or it is refused and nothing changes, or it
-// stops in its lines.
-fn tell<'a, S: Surface, F: Fn(u8, Point) -> Shift, G: Fn(Point) -> Band>(
+// Does one directive: its lines are told to the log, or it is refused and nothing changes, or it stops in its lines. What one does is said
+// that asks neither a field nor the sizing, and of a pass by the sizing.
+pub(crate) fn tell<'a, S: Surface, F: Fn(u8, Point) -> Shift, G: Fn(Point) -> Band>(
     alloc: Global,
     engine: &mut Engine<S>,
     what: &Directive,
@@ -48,13 +54,15 @@ fn tell<'a, S: Surface, F: Fn(u8, Point) -> Shift, G: Fn(Point) -> Band>(
     sizing: &'a Sizing<G>,
 ) -> Result<Option<UseWhy>, Stop>
     requires range { IsInRange what.now }
-    requires asks { AsksNothing what.now }
     requires ready { IsReady S.beyond S.mesh S.kept engine.old }
     requires room { HasRoom 1 engine.old.run }
     requires fields { IsWellKept F.Fn fields.now }
     requires sizing { SizesWell G.Fn sizing.now }
-    ensures tells { let old = state_in S.mesh S.kept engine.old in
+    ensures tells { let old = state_in S.mesh S.kept engine.old in AsksNothing what.now →
         Writes (effect_of Nothing what.now old) (state_in S.mesh S.kept engine.new)
+        (Some (bytes_in log.old)) (Some (bytes_in log.new)) result }
+    ensures fits { let old = state_in S.mesh S.kept engine.old in what.now ≡ Fit →
+        FitWrites (MaySize G.Fn sizing.now) old (state_in S.mesh S.kept engine.new)
         (Some (bytes_in log.old)) (Some (bytes_in log.new)) result }
     // A refusal leaves the state as it was.
     ensures left { IfOk result (λ refused. IsSome refused →
@@ -74,26 +82,15 @@ fn tell<'a, S: Surface, F: Fn(u8, Point) -> Shift, G: Fn(Point) -> Band>(
     engine.advance(alloc, what, &terms, &mut ends)
 }
 
-// Gives up what the mesh keeps for a return, unless a group is open, to whose mark it may have to go back.
-fn settle<S: Surface>(engine: &mut Engine<S>)
-    requires { IsReady S.beyond S.mesh S.kept engine.old }
-    ensures ready { IsReady S.beyond S.mesh S.kept engine.new }
-    ensures state { state_in S.mesh S.kept engine.new ≡ state_in S.mesh S.kept engine.old }
-{
-    if !engine.run.groups.is_open() {
-        engine.mesh.settle();
-    }
-}
-
 /// An engine with the log that it has told since that was last taken.
 ///
 /// It goes on until a directive stops in its lines for want of memory. While it does, its mesh is sound, closed and clear, and so is the
 /// mesh to which each open group can go back.
 #[derive(Drop)]
 pub struct Held<S: Surface> {
-    engine: Engine<S>,
-    log: GrowingSink,
-    goes_on: bool,
+    pub(crate) engine: Engine<S>,
+    pub(crate) log: GrowingSink,
+    pub(crate) goes_on: bool,
     ghost ready: { goes_on ≡ true → IsReady S.beyond S.mesh S.kept engine } by { Prim.hlevel facts },
 }
 
@@ -135,6 +132,24 @@ impl<S: Surface> Held<S> {
         ensures { IsTrue result ↔ HasRoom 1 (engine_in self.now).run }
     {
         self.engine.run.steps < u32::MAX && self.engine.run.saved < u32::MAX
+    }
+
+    /// Goes by these settings from here on. Nothing is told of that.
+    pub fn set(&mut self, set: Settings)
+        requires { AreWithinLimits set }
+        ensures log { log_in self.new ≡ log_in self.old }
+        ensures goes_on { goes_on self.new ≡ goes_on self.old }
+        ensures state { let old = state_in S.mesh S.kept (engine_in self.old) in
+            state_in S.mesh S.kept (engine_in self.new) ≡ record old { set = set } }
+    {
+        self.engine.run.set = set;
+    }
+
+    /// What becomes of the group that was opened last, where it is closed now.
+    pub fn closing(&self) -> Closing
+        ensures { result ≡ closing (state_in S.mesh S.kept (engine_in self.now)).groups }
+    {
+        closing_by(self.engine.run.groups.has_failed())
     }
 
     /// The mesh.
@@ -189,7 +204,7 @@ impl<S: Surface> Held<S> {
         );
         match told {
             Ok(None) => {
-                settle(&mut self.engine);
+                self.engine.settle_outside_groups();
                 Ok(None)
             }
             Ok(Some(why)) => Ok(Some(why)),

@@ -4,15 +4,21 @@
 #![tactic(auto)]
 
 mod asked;
+mod closing;
+mod events;
+mod fitting;
 mod given;
 mod growing;
 mod held;
 mod making;
 mod reading;
+mod telling;
 
-pub use asked::asking;
+pub use asked::{asking, asking_all};
+pub use closing::Closing;
+pub use events::{Event, EventRefusal, Events, told_events};
 pub use given::{GivenFace, GivenPoint, NamedFace, NamedPoint};
 pub use growing::GrowingSink;
 pub use held::Held;
 pub use making::{MakeFault, MakeRefusal, track};
-pub use reading::{NamedFaces, NamedPoints, named_faces, named_points, put_rows};
+pub use reading::{NamedFaces, NamedPoints, named_faces, named_points, put_rows, solid_vertices};

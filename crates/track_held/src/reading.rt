@@ -1,6 +1,8 @@
 //! The vertices and the faces of a mesh are read back.
 ghost use Rattle.std.specs.Prelude.{◌≡◌, ◌↔◌, ◌≤◌, ◌++◌, true, false, length, drop, map, IfOk, IsTrue};
-ghost use Rattle.track_held.specs.Reading.{named_point, named_face, named_points, named_faces};
+ghost use Rattle.std.specs.List.{filter};
+ghost use Rattle.mesh_base.specs.Mesh.{is_solid};
+ghost use Rattle.track_held.specs.Reading.{named_point, named_face, named_points, named_faces, solid_vertices};
 
 use crate::given::{NamedFace, NamedPoint};
 use grid_base::{Items, NoMemory};
@@ -11,6 +13,8 @@ use std::alloc::Global;
 pub type NamedPoints = Items<NamedPoint>;
 /// Faces and their corners, in order.
 pub type NamedFaces = Items<NamedFace>;
+/// The ids of solid vertices, in order.
+pub type SolidVertices = Items<u32>;
 
 // A vertex, and where it stands.
 fn named_point<S: Surface>(mesh: &S, v: VertexId) -> NamedPoint
@@ -76,6 +80,23 @@ fn faces_by_id<S: Surface>(alloc: Global, mesh: &S, ids: &[FaceId]) -> Result<Na
     Ok(rows)
 }
 
+// Those of these vertices that are solid.
+fn solid_among<S: Surface>(
+    alloc: Global,
+    mesh: &S,
+    ids: &[VertexId],
+) -> Result<SolidVertices, NoMemory>
+    ensures { IfOk result (λ rows. rows ≡ filter (is_solid (S.mesh mesh.now)) ids.now) }
+{
+    let mut rows = SolidVertices::new(alloc);
+    for v in ids {
+        if mesh.solid(*v) {
+            rows.push(v.0)?;
+        }
+    }
+    Ok(rows)
+}
+
 /// The live vertices, by rising id, and where they stand. Refuses only where there is no memory.
 pub fn named_points<S: Surface>(alloc: Global, mesh: &S) -> Result<NamedPoints, NoMemory>
     ensures { IfOk result (λ rows. rows ≡ named_points (S.mesh mesh.now)) }
@@ -90,6 +111,14 @@ pub fn named_faces<S: Surface>(alloc: Global, mesh: &S) -> Result<NamedFaces, No
 {
     let ids = live_faces(alloc, mesh)?;
     faces_by_id(alloc, mesh, ids.as_slice())
+}
+
+/// The live vertices that are solid, by rising id. Refuses only where there is no memory.
+pub fn solid_vertices<S: Surface>(alloc: Global, mesh: &S) -> Result<SolidVertices, NoMemory>
+    ensures { IfOk result (λ rows. rows ≡ solid_vertices (S.mesh mesh.now)) }
+{
+    let ids = live_vertices(alloc, mesh)?;
+    solid_among(alloc, mesh, ids.as_slice())
 }
 
 /// Sets the first places to these rows, where there is room for all of them, and else none. Answers whether there is.

@@ -1,0 +1,192 @@
+/* Worked cases of the library for C: what each call answers, and which reason and place a refusal tells. Prints how many hold, or which do not. */
+#include "topo.h"
+
+#include <stdio.h>
+#include <stdlib.h>
+#include <string.h>
+
+static int held, failed;
+static struct topo t = TOPO_NONE;
+static struct topo_fault fault;
+static struct topo_way way;
+static struct topo_edits edits;
+static uint32_t kept;
+static size_t size;
+
+static void is(const char *what, uint32_t code, uint32_t wanted)
+{
+    if (code == wanted) {
+        ++held;
+    } else {
+        printf("%s: %u, and not %u\n", what, (unsigned)code, (unsigned)wanted);
+        ++failed;
+    }
+}
+
+static void refused(const char *what, uint32_t code, uint32_t why, uint32_t a, uint32_t b, uint32_t c)
+{
+    is(what, code, TOPO_REFUSED);
+    is(what, fault.why, why);
+    is(what, fault.a, a);
+    is(what, fault.b, b);
+    is(what, fault.c, c);
+    memset(&fault, 0, sizeof fault);
+}
+
+static const struct topo_point four[] = {{0, 0, 0}, {40, 0, 0}, {0, 40, 0}, {0, 0, 40}};
+static const struct topo_triangle sides[] = {{1, 3, 2}, {1, 2, 4}, {2, 3, 4}, {1, 4, 3}};
+
+/* whether the tracker tells these lines since it was asked last */
+static int tells(const char *lines)
+{
+    char text[4096];
+    return topo_log(&t, text, sizeof text, &size) == TOPO_DONE && size == strlen(lines) && memcmp(text, lines, size) == 0;
+}
+
+static void shapes(void)
+{
+    static const struct topo_point eight[] = {{0, 0, 0}, {40, 0, 0}, {0, 40, 0}, {0, 0, 40}, {5, 5, 5}, {45, 5, 5}, {5, 45, 5}, {5, 5, 45}};
+    static const struct topo_triangle meeting[] = {{1, 3, 2}, {1, 2, 4}, {2, 3, 4}, {1, 4, 3}, {5, 7, 6}, {5, 6, 8}, {6, 7, 8}, {5, 8, 7}};
+    static const struct topo_triangle twice[] = {{1, 3, 2}, {1, 2, 2}, {2, 3, 4}, {1, 4, 3}};
+    static const struct topo_triangle none[] = {{1, 3, 2}, {1, 2, 9}, {2, 3, 4}, {1, 4, 3}};
+    static const struct topo_triangle equal[] = {{1, 3, 2}, {1, 2, 4}, {2, 3, 4}, {1, 4, 3}, {4, 2, 3}};
+    static const struct topo_point out[] = {{0, 0, 0}, {40, 0, 0}, {0, 268435457, 0}, {0, 0, 40}};
+    static struct topo_point many[65537];
+    refused("an open tetrahedron", topo_new(four, 4, sides, 3, &t, &fault), TOPO_UNBALANCED, 1, 3, 0);
+    refused("two bodies that meet", topo_new(eight, 8, meeting, 8, &t, &fault), TOPO_MEETS, 5, 6, 3);
+    refused("a corner twice", topo_new(four, 4, twice, 4, &t, &fault), TOPO_REPEATED, 2, 0, 0);
+    refused("a corner that is no point", topo_new(four, 4, none, 4, &t, &fault), TOPO_CORNER, 2, 3, 0);
+    refused("two equal faces", topo_new(four, 4, equal, 5, &t, &fault), TOPO_DOUBLED, 3, 5, 0);
+    refused("a point outside the box", topo_new(out, 4, sides, 4, &t, &fault), TOPO_OUTSIDE, 3, 0, 0);
+    refused("65,537 points", topo_new(many, 65537, 0, 0, &t, &fault), TOPO_MANY_VERTICES, 65537, 0, 0);
+    is("none is made", t.live, 0);
+    is("no point and no face", topo_new(0, 0, 0, 0, &t, &fault), TOPO_DONE);
+    is("a tetrahedron in its place", topo_new(four, 4, sides, 4, &t, &fault), TOPO_DONE);
+    refused("a refusal empties the handle", topo_new(four, 4, sides, 3, &t, &fault), TOPO_UNBALANCED, 1, 3, 0);
+    is("which it does", topo_pinch(&t, &edits, &fault), TOPO_EMPTY);
+    topo_free(&t);
+}
+
+static void shifts(void)
+{
+    const struct topo_vertex three[] = {{1, 0, 0, 1}, {9, 0, 0, 1}, {2, 0, 0, 1}};
+    struct topo_vertex row[4];
+    is("a tetrahedron", topo_new(four, 4, sides, 4, &t, &fault), TOPO_DONE);
+    refused("no vertex 9", topo_shift(&t, 9, 1, 0, 0, &fault), TOPO_NO_VERTEX, 9, 0, 0);
+    is("no vertex has the id 0", topo_shift(&t, 0, 1, 0, 0, &fault), TOPO_RANGE);
+    is("a shift above 2^29", topo_shift(&t, 1, 536870913, 0, 0, &fault), TOPO_RANGE);
+    is("the least number", topo_shift(&t, 1, 0, INT32_MIN, 0, &fault), TOPO_RANGE);
+    is("a shift of 2^29", topo_shift(&t, 1, 536870912, 0, 0, &fault), TOPO_DONE);
+    refused("and one more", topo_shift(&t, 1, 1, 0, 0, &fault), TOPO_SHIFT_RANGE, 1, 0, 0);
+    refused("out of the box", topo_step(&t, &way, &fault), TOPO_BOX, 1, 0, 0);
+    is("back", topo_shift(&t, 1, -536870912, 0, 0, &fault), TOPO_DONE);
+    refused("up to the second of three", topo_shift_each(&t, three, 3, &fault), TOPO_NO_VERTEX, 9, 0, 0);
+    is("a step", topo_step(&t, &way, &fault), TOPO_DONE);
+    is("which is whole", way.how, TOPO_WHOLE);
+    is("of the first alone", (uint32_t)tells("step 1\nmove 1 0 0 1\nmoved whole\n"), 1);
+    is("room for three", topo_points(&t, row, 3, &size), TOPO_RANGE);
+    is("four are told", (uint32_t)size, 4);
+    is("room for four", topo_points(&t, row, 4, &size), TOPO_DONE);
+    is("by rising id", (uint32_t)(row[0].id == 1 && row[0].z == 1 && row[1].id == 2 && row[2].id == 3 && row[3].id == 4), 1);
+    topo_free(&t);
+}
+
+static void groups(void)
+{
+    static const struct topo_point eight[] = {{0, 0, 0}, {40, 0, 0}, {0, 40, 0}, {0, 0, 40}, {0, 0, 60}, {40, 0, 60}, {0, 40, 60}, {0, 0, 100}};
+    static const struct topo_triangle both[] = {{1, 3, 2}, {1, 2, 4}, {2, 3, 4}, {1, 4, 3}, {5, 7, 6}, {5, 6, 8}, {6, 7, 8}, {5, 8, 7}};
+    struct topo_vertex row[8];
+    struct topo_event event[16];
+    uint32_t solid[8], vertices, faces, v;
+    is("two tetrahedra", topo_new(eight, 8, both, 8, &t, &fault), TOPO_DONE);
+    is("none is open", topo_close(&t, &kept, &fault), TOPO_DONE);
+    is("which is told", kept, TOPO_NO_GROUP);
+    is("vertex 8 is solid", topo_solid(&t, 8, &fault), TOPO_DONE);
+    refused("and is not shifted", topo_shift(&t, 8, 1, 0, 0, &fault), TOPO_SOLID, 8, 0, 0);
+    is("the solid ones", topo_solids(&t, solid, 8, &size), TOPO_DONE);
+    is("are one", (uint32_t)(size == 1 && solid[0] == 8), 1);
+    is("no impulse, no zones", topo_set(&t, 6, 0, 0, 6), TOPO_DONE);
+    is("a group", topo_open(&t, &fault), TOPO_DONE);
+    for (v = 1; v <= 4; ++v)
+        is("the one goes through the other", topo_shift(&t, v, 0, 0, 50, &fault), TOPO_DONE);
+    is("a step", topo_step(&t, &way, &fault), TOPO_DONE);
+    is("is halved", way.how, TOPO_HALVED);
+    is("twice", way.times, 2);
+    is("for 18 pairs", (uint32_t)way.hits, 18);
+    is("the group is closed", topo_close(&t, &kept, &fault), TOPO_DONE);
+    is("and taken back", kept, TOPO_TAKEN_BACK);
+    is("the vertices", topo_points(&t, row, 8, &size), TOPO_DONE);
+    is("stand as before", (uint32_t)(row[0].z == 0 && row[1].z == 0 && row[2].z == 0 && row[3].z == 40), 1);
+    is("too few events fit", topo_events(&t, event, 1, &size), TOPO_RANGE);
+    is("the events", topo_events(&t, event, 16, &size), TOPO_DONE);
+    is("are seven", (uint32_t)size, 7);
+    is("first the solid one", event[0].kind == TOPO_MADE_SOLID && event[0].a == 8, 1);
+    is("a move", event[2].kind == TOPO_MOVED && event[2].a == 1 && event[2].z == 12, 1);
+    is("last the group", event[6].kind, TOPO_GROUP_UNDONE);
+    is("no log fits", topo_log(&t, 0, 0, &size), TOPO_RANGE);
+    is("and stays", topo_events(&t, event, 16, &size), TOPO_DONE);
+    is("it is forgotten", topo_forget(&t), TOPO_DONE);
+    is("nothing is told", topo_counts(&t, &vertices, &faces, &size), TOPO_DONE);
+    is("of eight vertices", (uint32_t)(vertices == 8 && faces == 8 && size == 0), 1);
+    topo_free(&t);
+}
+
+static void passes(void)
+{
+    struct topo_event event[16];
+    is("a tetrahedron", topo_new(four, 4, sides, 4, &t, &fault), TOPO_DONE);
+    is("a length above 2^30", topo_split(&t, 1073741825, &edits, &fault), TOPO_RANGE);
+    is("three edges are split", topo_split(&t, 45, &edits, &fault), TOPO_DONE);
+    is("as is told", (uint32_t)(edits.done == 3 && edits.refused == 0), 1);
+    is("their events", topo_events(&t, event, 16, &size), TOPO_DONE);
+    is("are three", (uint32_t)size, 3);
+    is("the first of them", (uint32_t)(event[0].kind == TOPO_SPLIT && event[0].a == 2 && event[0].b == 3 && event[0].c == 5 && event[0].x == 20 && event[0].y == 20 && event[0].z == 0), 1);
+    is("flips", topo_flip(&t, &edits, &fault), TOPO_DONE);
+    is("one done and three refused", (uint32_t)(edits.done == 1 && edits.refused == 3), 1);
+    is("its lines", (uint32_t)tells("pass split 45\nsplit 2 3 5 20 20 0\nsplit 2 4 6 20 0 20\nsplit 3 4 7 0 20 20\npass flip\nno flip 1 2 edge\nno flip 1 3 edge\nno flip 1 4 hit 1 8 11\nflip 4 5\n"), 1);
+    is("no band", topo_fit(&t, 60, 60), TOPO_RANGE);
+    is("a band above 2^30", topo_fit(&t, 60, 1073741825), TOPO_RANGE);
+    is("a band", topo_fit(&t, 20, 60), TOPO_DONE);
+    is("fits", (uint32_t)tells("pass fit\n"), 1);
+    is("settings within their limits", topo_set(&t, 10, 100, 1, 27), TOPO_DONE);
+    is("a depth of 11", topo_set(&t, 11, 100, 1, 27), TOPO_RANGE);
+    is("zones of 2", topo_set(&t, 10, 100, 2, 27), TOPO_RANGE);
+    topo_free(&t);
+    is("nothing is there", topo_fit(&t, 20, 60), TOPO_EMPTY);
+}
+
+static void alone(void)
+{
+    /* an edge through the middle of a triangle, and beside it */
+    const struct topo_five through = {{1, 1, -5}, {1, 1, 5}, {0, 0, 0}, {4, 0, 0}, {0, 4, 0}};
+    const struct topo_five beside = {{9, 1, -5}, {9, 1, 5}, {0, 0, 0}, {4, 0, 0}, {0, 4, 0}};
+    const struct topo_five behind = {{-9, 1, -5}, {-9, 1, 5}, {0, 0, 0}, {4, 0, 0}, {0, 4, 0}};
+    const struct topo_five above = {{1, 1, 0}, {1, 1, 5}, {0, 0, 0}, {4, 0, 0}, {0, 4, 0}};
+    const struct topo_five outside = {{1, 1, -268435457}, {1, 1, 5}, {0, 0, 0}, {4, 0, 0}, {0, 4, 0}};
+    uint32_t so = 7;
+    is("a point outside the box", topo_meets(&outside, &so), TOPO_RANGE);
+    is("tells nothing", so, 7);
+    is("through", topo_meets(&through, &so), TOPO_DONE);
+    is("meets", so, 1);
+    is("an end on the triangle", topo_meets(&above, &so), TOPO_DONE);
+    is("meets too", so, 1);
+    is("beside", topo_meets(&beside, &so), TOPO_DONE);
+    is("does not", so, 0);
+    is("beside and at rest", topo_passes(&beside, &beside, 0, &so), TOPO_DONE);
+    is("passes", so, 1);
+    is("from side to side", topo_passes(&beside, &behind, 10, &so), TOPO_DONE);
+    is("does not pass", so, 0);
+    is("a depth of 11", topo_passes(&beside, &beside, 11, &so), TOPO_RANGE);
+    is("the version", topo_version(), 2);
+}
+
+int main(void)
+{
+    shapes();
+    shifts();
+    groups();
+    passes();
+    alone();
+    printf("%d hold, %d do not\n", held, failed);
+    return failed != 0;
+}

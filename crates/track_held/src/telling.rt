@@ -1,0 +1,127 @@
+//! Steps and passes of an engine that is held, with what they tell of themselves.
+ghost use Rattle.std.specs.Prelude.{◌≡◌, true, false, Some, IfOk, OnErr, IsSome};
+ghost use Rattle.edit_base.specs.declared.PassKind.{PassKind};
+ghost use Rattle.step_text.specs.declared.Directive.TheVariants.{Step, Pass};
+ghost use Rattle.track_engine.specs.Answers.{Nothing};
+ghost use Rattle.track_engine.specs.Effects.{effect_of};
+ghost use Rattle.track_engine.specs.Parts.{Writes};
+ghost use Rattle.track_engine.specs.Engines.{state_in};
+ghost use Rattle.track_engine.specs.Invariant.{HasRoom};
+ghost use Rattle.track_engine.specs.Ready.{IsReady};
+ghost use Rattle.track_engine.specs.Told.{step_told, pass_told, step_untold, pass_untold};
+ghost use Rattle.track_held.specs.Growing.{bytes_in};
+
+use crate::growing::GrowingSink;
+use crate::held::Held;
+use edit_base::PassKind;
+use mesh_base::{Surface, UseWhy};
+use outside_io::{Ends, Stop, TallyDesk};
+use pass_run::PassCount;
+use std::alloc::Global;
+use track_engine::{Engine, StepTold};
+
+// Takes a step, whose lines are told to the log.
+fn tell_step<S: Surface>(
+    alloc: Global,
+    engine: &mut Engine<S>,
+    log: &mut GrowingSink,
+) -> Result<Result<StepTold, UseWhy>, Stop>
+    requires ready { IsReady S.beyond S.mesh S.kept engine.old }
+    requires room { HasRoom 1 engine.old.run }
+    ensures tells { let old = state_in S.mesh S.kept engine.old in
+        Writes (effect_of Nothing Step old) (state_in S.mesh S.kept engine.new)
+        (Some (bytes_in log.old)) (Some (bytes_in log.new)) (step_untold result) }
+    ensures told { IfOk result (λ taken. IfOk taken
+        (λ told. told ≡ step_told (state_in S.mesh S.kept engine.old))) }
+    ensures left { IfOk (step_untold result) (λ refused. IsSome refused →
+        state_in S.mesh S.kept engine.new ≡ state_in S.mesh S.kept engine.old) }
+    ensures ready { IfOk result (λ _. IsReady S.beyond S.mesh S.kept engine.new) }
+{
+    let mut desk = TallyDesk::new();
+    let mut ends = Ends {
+        desk: &mut desk,
+        out: log,
+    };
+    engine.step(alloc, &mut ends)
+}
+
+// Makes a pass, whose lines are told to the log.
+fn tell_pass<S: Surface>(
+    alloc: Global,
+    engine: &mut Engine<S>,
+    kind: PassKind,
+    log: &mut GrowingSink,
+) -> Result<PassCount, Stop>
+    requires ready { IsReady S.beyond S.mesh S.kept engine.old }
+    ensures tells { let old = state_in S.mesh S.kept engine.old in
+        Writes (effect_of Nothing (Pass kind) old) (state_in S.mesh S.kept engine.new)
+        (Some (bytes_in log.old)) (Some (bytes_in log.new)) (pass_untold result) }
+    ensures told { IfOk result
+        (λ count. count ≡ pass_told kind (state_in S.mesh S.kept engine.old)) }
+    ensures ready { IfOk result (λ _. IsReady S.beyond S.mesh S.kept engine.new) }
+{
+    let mut desk = TallyDesk::new();
+    let mut ends = Ends {
+        desk: &mut desk,
+        out: log,
+    };
+    engine.pass(alloc, kind, &mut ends)
+}
+
+impl<S: Surface> Held<S> {
+    ghost use Rattle.track_held.specs.Held.{engine_in, log_in, goes_on};
+
+    /// Takes a step, and tells how: its lines are told, or it is refused and nothing changes, or it stops in its lines for want of memory,
+    /// and goes on no more.
+    pub fn step(&mut self, alloc: Global) -> Result<Result<StepTold, UseWhy>, Stop>
+        requires goes_on { goes_on self.old ≡ true }
+        requires room { HasRoom 1 (engine_in self.old).run }
+        ensures goes_on { IfOk result (λ _. goes_on self.new ≡ true) }
+        ensures stopped { OnErr result (goes_on self.new ≡ false) }
+        ensures tells { let old = state_in S.mesh S.kept (engine_in self.old) in
+            Writes (effect_of Nothing Step old) (state_in S.mesh S.kept (engine_in self.new))
+            (Some (log_in self.old)) (Some (log_in self.new)) (step_untold result) }
+        ensures told { IfOk result (λ taken. IfOk taken
+            (λ told. told ≡ step_told (state_in S.mesh S.kept (engine_in self.old)))) }
+        // A refusal leaves the state as it was.
+        ensures left { IfOk (step_untold result) (λ refused. IsSome refused →
+            state_in S.mesh S.kept (engine_in self.new)
+            ≡ state_in S.mesh S.kept (engine_in self.old)) }
+    {
+        match tell_step(alloc, &mut self.engine, &mut self.log) {
+            Ok(Ok(told)) => {
+                self.engine.settle_outside_groups();
+                Ok(Ok(told))
+            }
+            Ok(Err(why)) => Ok(Err(why)),
+            Err(stop) => {
+                self.goes_on = false;
+                Err(stop)
+            }
+        }
+    }
+
+    /// Makes a pass, and tells how many edits it did and how many were refused: its lines are told, or it stops in them for want of memory,
+    /// and goes on no more.
+    pub fn pass(&mut self, alloc: Global, kind: PassKind) -> Result<PassCount, Stop>
+        requires goes_on { goes_on self.old ≡ true }
+        ensures goes_on { IfOk result (λ _. goes_on self.new ≡ true) }
+        ensures stopped { OnErr result (goes_on self.new ≡ false) }
+        ensures tells { let old = state_in S.mesh S.kept (engine_in self.old) in
+            Writes (effect_of Nothing (Pass kind) old) (state_in S.mesh S.kept (engine_in self.new))
+            (Some (log_in self.old)) (Some (log_in self.new)) (pass_untold result) }
+        ensures told { IfOk result (λ count.
+            count ≡ pass_told kind (state_in S.mesh S.kept (engine_in self.old))) }
+    {
+        match tell_pass(alloc, &mut self.engine, kind, &mut self.log) {
+            Ok(count) => {
+                self.engine.settle_outside_groups();
+                Ok(count)
+            }
+            Err(stop) => {
+                self.goes_on = false;
+                Err(stop)
+            }
+        }
+    }
+}
