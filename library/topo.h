@@ -124,7 +124,7 @@ uint32_t topo_pinch(struct topo *t, struct topo_edits *edits, struct topo_fault 
 /* Splits each edge that is longer than `high` and collapses each that is shorter than `low`, each at its turn; TOPO_RANGE unless `low` is
  * below `high` and that at most 2^30. It is never refused, and tells no number. */
 uint32_t topo_fit(struct topo *t, uint32_t low, uint32_t high);
-/* The vertex never moves again. The id is from 1 to 2^31. */
+/* The vertex does not move from here on, unless the group in which it was made solid is taken back. The id is from 1 to 2^31. */
 uint32_t topo_solid(struct topo *t, uint32_t vertex, struct topo_fault *fault);
 /* What is done between is kept whole, or taken back where a step was not whole or an edit was left out; `kept` is set to which. Groups
  * nest. Where none is open, topo_close does nothing, and tells TOPO_NO_GROUP. */

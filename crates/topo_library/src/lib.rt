@@ -289,7 +289,8 @@ pub extern "C" fn topo_fit(alloc: Global, topo: &mut Topo, low: u32, high: u32) 
     }
 }
 
-/// Makes a vertex solid: it never moves again. An id that no vertex may have is beyond its limit; refused where the vertex does not live.
+/// Makes a vertex solid: it does not move from here on, unless the group in which this is done is taken back. An id that no vertex may have is
+/// beyond its limit; refused where the vertex does not live.
 #[unsafe(no_mangle)]
 pub extern "C" fn topo_solid(alloc: Global, topo: &mut Topo, v: u32, fault: &mut TopoFault) -> u32
     ensures beyond { ¬ IsFrom 1 ID_MAX v → IsBeyond topo.old.owned.value topo.new.owned.value
