@@ -16,15 +16,15 @@ use Rattle.pair_scan.specs.Failed.{failing_of}
 use Rattle.pair_scan.specs.Scan.{one_or_none}
 use Rattle.neighbour_list.specs.Drift.{DriftAlike}
 use Rattle.neighbour_list.specs.declared.listed.ListedPair.{ListedPair}
-use Rattle.neighbour_list.specs.Listed.{IsApart, listed, is_near_at, failing_listed}
+use Rattle.neighbour_list.specs.Listed.{IsApart, listed, is_near_at, failing_in}
 use Rattle.neighbour_list.proofs.Apart.{passes_unlisted}
 
 -- ---- the names of listed pairs
-pub as_pairs : (depth : ℕ) (w : Motion) (ps : List Pair) → failing_listed depth w (map listed ps) ≡ failing_of depth w ps
+pub as_pairs : (depth : ℕ) (w : Motion) (ps : List Pair) → failing_in depth w (map listed ps) ≡ failing_of depth w ps
 as_pairs depth w [] = refl
 as_pairs depth w (p ∷ ps) = by_test (as_pairs depth w ps) (not (pair_passes meets_exactly depth w p))
   where
-    by_test : failing_listed depth w (map listed ps) ≡ failing_of depth w ps → (b : Bool) → one_or_none (cond b (Some p.name) None) ++ failing_listed depth w (map listed ps)
+    by_test : failing_in depth w (map listed ps) ≡ failing_of depth w ps → (b : Bool) → one_or_none (cond b (Some p.name) None) ++ failing_in depth w (map listed ps)
         ≡ map (λ x. x.name) (cond b (p ∷ filter (λ x. not (pair_passes meets_exactly depth w x)) ps) (filter (λ x. not (pair_passes meets_exactly depth w x)) ps))
     by_test rest true = ap (λ ns. p.name ∷ ns) rest
     by_test rest false = rest
@@ -61,7 +61,7 @@ listed_apart m at skin clear =
 
 -- ---- so an unlisted pair passes
 pub by_list : (m : Mesh) (at : Placement) (w : Motion) (skin depth : ℕ) → IsSound m → DriftAlike skin at w.start (finite.keys m.points) → DriftAlike skin at w.end (finite.keys m.points)
-    → failing_listed depth w (map listed (filter (is_near_at skin at) (pairs m))) ≡ failing_of depth w (pairs m)
+    → failing_in depth w (map listed (filter (is_near_at skin at) (pairs m))) ≡ failing_of depth w (pairs m)
 by_list m at w skin depth sound start end =
     let fails : Pair → Bool = λ p. not (pair_passes meets_exactly depth w p) in
     as_pairs depth w (filter (is_near_at skin at) (pairs m))

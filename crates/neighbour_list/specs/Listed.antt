@@ -86,5 +86,5 @@ abbrev pub failed : ℕ → Motion → ListedPair → List PairName
 failed depth w p = one_or_none (cond (fails depth w p) (Some p.name) None)
 
 -- the names of those that do not pass
-abbrev pub failing_listed : ℕ → Motion → List ListedPair → List PairName
-failing_listed depth w ps = flat_map (failed depth w) ps
+abbrev pub failing_in : ℕ → Motion → List ListedPair → List PairName
+failing_in depth w ps = flat_map (failed depth w) ps

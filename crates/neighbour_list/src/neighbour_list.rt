@@ -1,8 +1,9 @@
 //! The list.
 ghost use Rattle.std.specs.Prelude.{◌≡◌, ◌≤◌, IfOk, map};
+ghost use Rattle.std.specs.FinMap as finite;
 ghost use Rattle.grid_base.specs.declared.TheConstants.{HALF_MAX};
 ghost use Rattle.pair_paths.specs.declared.PathOf.{PathOf};
-ghost use Rattle.neighbour_list.specs.Listed.{IsListOf, start_of};
+ghost use Rattle.neighbour_list.specs.Listed.{IsListOf, reference_at, start_of};
 
 use crate::drifts::drift_narrowly;
 use crate::listed::ListedPair;
@@ -51,6 +52,8 @@ impl NeighbourList {
         requires { skin ≤ HALF_MAX }
         ensures list { IfOk result (IsListOf (S.mesh mesh.now)) }
         ensures skin { IfOk result (λ l. l.skin ≡ skin) }
+        ensures references { let at = (P.motion at.now).start in
+            IfOk result (λ l. l.references ≡ map (reference_at at) (finite.keys (S.mesh mesh.now).points)) }
     {
         let known = paths_of(alloc, mesh, at)?;
         let paths = KnownPaths {
@@ -66,10 +69,5 @@ impl NeighbourList {
             references,
             pairs,
         })
-    }
-
-    /// How many pairs are listed.
-    pub fn len(&self) -> usize {
-        self.pairs.len()
     }
 }

@@ -8,7 +8,7 @@ ghost use Rattle.mesh_base.specs.Placements.{IsClearMesh};
 ghost use Rattle.mesh_base.specs.Shifts.{NameLive, end_in_box};
 ghost use Rattle.pair_paths.specs.Moving.{moving_face};
 ghost use Rattle.pair_scan.specs.Found.{has_none, AreFound};
-ghost use Rattle.neighbour_list.specs.Listed.{IsApart, IsListOf, fails, failing_listed};
+ghost use Rattle.neighbour_list.specs.Listed.{IsApart, IsListOf, fails, failing_in};
 
 use crate::drifts::drift_narrowly;
 use crate::listed::ListedPair;
@@ -63,7 +63,7 @@ fn failing_in<P: Paths>(
     requires depth_fits { depth ≤ DEPTH_MAX }
     requires apart { All (IsApart (P.motion paths.now).start) pairs.now }
     ensures { IfOk result
-        (AreFound ends_early (failing_listed depth (P.motion paths.now) pairs.now)) }
+        (AreFound ends_early (failing_in depth (P.motion paths.now) pairs.now)) }
 {
     let mut found = Pairs::new(alloc);
     for p in pairs {

@@ -12,7 +12,7 @@ use std::alloc::Global;
 const FACES_LEAST: u32 = 512;
 
 // The skin for steps in which the shifts spread so far, in a mesh with edges of this length: eight times the spread, from a
-// sixteenth to two fifths of an edge. None, where it would not last two such steps.
+// sixteenth to two fifths of an edge. None, where it is less than 6/5 of the spread, so that it would hardly last one step.
 fn skin_for(spread: u32, edge: u32) -> Option<u32>
     ensures { IfSome result (λ skin. skin ≤ HALF_MAX) }
 {

@@ -140,7 +140,7 @@ impl StepLists {
 
     /// The pairs of a clear mesh that do not pass in a step that asks these shifts of its live vertices, in order of the edge
     /// and then of the face. Where few vertices are asked to move, it is first seen near them whether there is one; where none
-    /// is, nothing is looked at. Else the list is asked that an earlier step left, if the mesh has still the same faces and
+    /// is, nothing else is looked at. Else the list is asked that an earlier step left, if the mesh has still the same faces and
     /// vertices, and all pairs only where it does not serve. Refuses only where there is no memory.
     pub fn asked_hits<S: Surface>(
         &mut self,

@@ -1,11 +1,12 @@
 //! The making of a list that is kept, and its use.
-ghost use Rattle.std.specs.Prelude.{◌≡◌, ◌≤◌, IsTrue, IfOk, IfSome};
+ghost use Rattle.std.specs.Prelude.{◌≡◌, ◌≤◌, IsTrue, IfOk, IfSome, map};
+ghost use Rattle.std.specs.FinMap as finite;
 ghost use Rattle.grid_base.specs.declared.TheConstants.{DEPTH_MAX, HALF_MAX};
 ghost use Rattle.grid_decided.specs.Decided.{meets_exactly};
 ghost use Rattle.mesh_base.specs.Failing.{failing};
 ghost use Rattle.mesh_base.specs.Placements.{IsClearMesh};
 ghost use Rattle.mesh_base.specs.Shifts.{NameLive, end_in_box};
-ghost use Rattle.neighbour_list.specs.Listed.{IsListOf};
+ghost use Rattle.neighbour_list.specs.Listed.{IsListOf, reference_at};
 
 use crate::faces::{are_same, faces_of};
 use crate::kept::KeptList;
@@ -27,7 +28,12 @@ impl KeptList {
         skin: u32,
     ) -> Result<KeptList, NoMemory>
         requires { skin ≤ HALF_MAX }
-        ensures { IfOk result (λ kept. kept.list.skin ≡ skin) }
+        ensures list { IfOk result (λ kept. IsListOf (S.mesh mesh.now) kept.list) }
+        ensures faces { IfOk result (λ kept. kept.faces ≡ finite.entries (S.mesh mesh.now).faces) }
+        ensures skin { IfOk result (λ kept. kept.list.skin ≡ skin) }
+        ensures references { let at = (P.motion at.now).start in
+            let ids = finite.keys (S.mesh mesh.now).points in
+            IfOk result (λ kept. kept.list.references ≡ map (reference_at at) ids) }
     {
         let faces = faces_of(alloc, mesh)?;
         let list = NeighbourList::of(alloc, mesh, at, skin)?;

@@ -3,7 +3,7 @@
 /// A list that served fewer steps was not worth its making.
 const STEPS_LEAST: u32 = 3;
 
-/// How many steps a list has served, how many steps go by before the next is tried, and the next id of a face at the scan
+/// How many steps a list has served, how many scans go by before the next is tried, and the next id of a face at the scan
 /// before.
 #[derive(Clone, Copy, Debug)]
 pub(crate) struct Waiting {
@@ -34,7 +34,7 @@ impl Waiting {
         self.served = self.served.saturating_add(1);
     }
 
-    /// A list serves no more. After one that was not worth its making the next tries wait 2, 6, 14 .. steps.
+    /// A list serves no more. After one that was not worth its making the next tries wait 2, 6, 14 .. scans.
     pub(crate) fn end(&mut self) {
         if self.served < STEPS_LEAST {
             self.wait = self.wait.saturating_mul(2).saturating_add(2);
@@ -45,7 +45,7 @@ impl Waiting {
     }
 
     /// Whether a list may be tried after a scan: the one before was of the same faces, as far as their next id tells, so that
-    /// steps come one after another; and nothing is waited for. If it is, one step less is waited for.
+    /// steps come one after another; and nothing is waited for. If it is, one scan less is waited for.
     pub(crate) fn is_over(&mut self, next_face: u32) -> bool {
         let is_same = self.seen == next_face;
         self.seen = next_face;

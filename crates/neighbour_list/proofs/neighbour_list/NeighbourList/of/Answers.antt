@@ -17,3 +17,9 @@ returns-clause-list g c =
       references = c.in_ok-references.ensures ∙ ap (map start_of) (c.as_slice-4.ensures ∙ c.in_ok-known.ensures.all) ∙ from_paths w (finite.keys m.points);
       pairs = c.in_ok-pairs.ensures ∙ ap (λ fs. near_along_edges skin w fs c.as_slice-2.result.now) faces ∙ ap (near_along_edges skin w (moving_faces m w)) edges ∙ near_of_mesh m w skin;
     }
+
+pub returns-clause-references : goal.returns-clause-references
+returns-clause-references g c =
+    let m = g.S.Surface.mesh c.args.mesh.now in
+    let w = g.P.Paths.motion c.args.at.now in
+    c.in_ok-references.ensures ∙ ap (map start_of) (c.as_slice-4.ensures ∙ c.in_ok-known.ensures.all) ∙ from_paths w (finite.keys m.points)
