@@ -12,6 +12,8 @@ out, which `checks/library_steps.c` does through the library, and which also com
 and `c++` nothing is compiled, and that is said.
 """
 
+import concurrent.futures
+import itertools
 import os
 import shutil
 import subprocess
@@ -56,23 +58,32 @@ def random_job(seed):
     return (mesh, "".join(line + "\n" for line in own)) if fits else None
 
 
-def random_jobs(driver, program, count, folder):
-    """How many random jobs were done, and the seeds of those whose log by the library is not the program's, or tells other numbers than its lines.
-    One whose text the program refuses is left out, and one that goes by a sizing that is not the same everywhere (status 3)."""
-    done, bad = 0, []
-    for seed in range(1, 8 * count):
-        job = random_job(seed)
-        if job is None or done == count:
-            continue
-        wanted = log_of(program, *job, folder)
-        if wanted.startswith((b"topo log 2\nrefused steps", b"topo log 2\nrefused mesh")):
-            continue
-        status, told, messages = ran([driver, os.path.join(folder, "mesh.obj"), os.path.join(folder, "steps.txt")])
-        if status == 3:
-            continue
-        done += 1
-        if status != 0 or told != wanted or messages:
-            bad.append(seed)
+def compared(driver, program, seed):
+    """Whether the library's log of a random job is the program's, and tells the numbers of its lines. None where there is nothing to compare: the
+    program refuses the job's text or doesn't end in time, or the job goes by a sizing that is not the same everywhere (status 3)."""
+    job = random_job(seed)
+    if job is None:
+        return None
+    with tempfile.TemporaryDirectory() as folder:
+        try:
+            wanted = log_of(program, *job, folder)
+            status, told, messages = ran([driver, os.path.join(folder, "mesh.obj"), os.path.join(folder, "steps.txt")])
+        except subprocess.TimeoutExpired:
+            return None
+    if status == 3 or wanted.startswith((b"topo log 2\nrefused steps", b"topo log 2\nrefused mesh")):
+        return None
+    return status == 0 and told == wanted and not messages
+
+
+def random_jobs(driver, program, count):
+    """How many random jobs were compared, and the seeds of those at which something differs."""
+    done, bad, seeds = 0, [], iter(range(1, 8 * count))
+    with concurrent.futures.ThreadPoolExecutor(os.cpu_count()) as pool:
+        while done < count and (some := list(itertools.islice(seeds, 40))):
+            for seed, same in zip(some, pool.map(lambda seed: compared(driver, program, seed), some)):
+                if same is not None and done < count:
+                    done += 1
+                    bad += [] if same else [seed]
     return done, bad
 
 
@@ -82,7 +93,7 @@ def log_of(program, mesh, steps, folder):
         with open(os.path.join(folder, name), "w") as out:
             out.write(text)
     words = [program, "track", "mesh.obj", "steps.txt", "t"]
-    return subprocess.run(words, cwd=folder, stdout=subprocess.PIPE, stderr=subprocess.DEVNULL, timeout=60).stdout
+    return subprocess.run(words, cwd=folder, stdout=subprocess.PIPE, stderr=subprocess.DEVNULL, timeout=20).stdout
 
 
 def compiled(words, source, folder):
@@ -156,7 +167,7 @@ def by_python(program, folder):
 
 def by_drivers(words, program, jobs, folder):
     """The random jobs, and each allocation refused in turn."""
-    done, bad = random_jobs(compiled(words, os.path.join(ROOT, "checks/library_steps.c"), folder), program, jobs, folder)
+    done, bad = random_jobs(compiled(words, os.path.join(ROOT, "checks/library_steps.c"), folder), program, jobs)
     print(f"{done} random jobs")
     yield f"of {jobs} random jobs {done} are done, and the logs of these are others: {bad}", done == jobs and not bad
     if "CS_GNU_LIBC_VERSION" in os.confstr_names and "glibc" in (os.confstr("CS_GNU_LIBC_VERSION") or ""):

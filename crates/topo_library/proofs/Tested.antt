@@ -1,5 +1,5 @@
 -- What a test answers is told as a number.
-use Rattle.std.proofs.Common.{◌≡◌, ℕ, Bool, true, false, IsTrue, ◌↔◌, refl, sym, subst, inl, inr}
+use Rattle.std.proofs.Common.{◌≡◌, ℕ, Bool, true, false, IsTrue, ◌↔◌, refl, subst, inl, inr}
 use mir.Val.{bool_byte}
 use Rattle.grid_base.specs.declared.Positions.{Positions}
 use Rattle.topo_library.specs.Alone.{HasTested}

@@ -21,7 +21,7 @@ use Rattle.pass_run.specs.PassLines.{PassRules, mesh_from}
 use Rattle.track_engine.specs.State.{State, is_open}
 use Rattle.track_engine.specs.Answers.{Answer, Nothing, NoSuchField, FieldShifts, Wanted, WantedOfFirst}
 use Rattle.track_engine.specs.Answered.{Known, IsAnswerToFit}
-use Rattle.track_engine.specs.Effects.{Effect, Proceeds, Refused, fit_effect, fitted_lines, after_fit}
+use Rattle.track_engine.specs.Effects.{Refused, fit_effect, fitted_lines, after_fit}
 use Rattle.track_engine.specs.Parts.{Advances, AdvancesAnswered, HasAdvanced}
 use Rattle.track_engine.specs.Saved.{Target}
 use Rattle.track_held.specs.Fitting.{FitWrites}

@@ -1,5 +1,5 @@
 -- What a step and a pass write is the effect of their directive.
-use Rattle.std.proofs.Common.{◌≡◌, ℕ, List, Option, Some, None, Result, Ok, Err, refl, sym, ap, inl, inr}
+use Rattle.std.proofs.Common.{ℕ, List, Option, Some, None, Result, Ok, Err, refl, sym, ap, inl, inr}
 use Rattle.mesh_base.specs.declared.UseWhy.{UseWhy}
 use Rattle.edit_base.specs.declared.PassKind.{PassKind}
 use Rattle.step_text.specs.declared.Directive.TheVariants as directive

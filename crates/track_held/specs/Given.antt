@@ -1,5 +1,6 @@
 -- The points and the faces that a caller gives, and what may be wrong with them.
 use Rattle.std.specs.Prelude.{◌≡◌, ℕ, ⊤, Bool, not, nat_lt, List, [], ◌∷◌, map, length, Option, Some, None, if◌then◌else◌}
+use Rattle.std.specs.Prelude.{Result, Ok, Err}
 use Rattle.std.specs.Option.{option_or, option_map}
 use Rattle.std.specs.List.{position_from}
 use Rattle.grid_base.specs.declared.TheConstants.{BOX, VERTICES_MAX}
@@ -71,3 +72,9 @@ make_fault points faces =
 abbrev pub IsRefusal : Option MakeFault → MakeRefusal → Type 0
 IsRefusal fault NoMemory = ⊤
 IsRefusal fault (Fault f) = fault ≡ Some f
+
+-- it is a refusal for a fault
+abbrev pub IsFaulty : {T : Type 0} → Result T MakeRefusal → Type 0
+IsFaulty (Ok held) = ⊥
+IsFaulty (Err NoMemory) = ⊥
+IsFaulty (Err (Fault f)) = ⊤

@@ -1,12 +1,12 @@
 //! A tracker is made of points and faces.
-ghost use Rattle.std.specs.Prelude.{◌≡◌, ◌≤◌, true, false, None, map, length, IfOk, IfErr, IsOk, []};
+ghost use Rattle.std.specs.Prelude.{◌≡◌, ◌≤◌, ◌<◌, true, false, None, map, length, IfOk, IfErr, IsOk, []};
 ghost use Rattle.grid_base.specs.declared.TheConstants.{VERTICES_MAX};
 ghost use Rattle.mesh_base.specs.Given.{mesh_of};
 ghost use Rattle.mesh_base.specs.Valid.{IsValidSurface};
 ghost use Rattle.mesh_journal.specs.Journal.{mesh_in, kept_in};
 ghost use Rattle.track_engine.specs.Engines.{state_in};
 ghost use Rattle.track_engine.specs.State.{unsaved};
-ghost use Rattle.track_held.specs.Given.{point_in, face_in, given_mesh, is_outside, box_fault, lists_fault, make_fault, IsRefusal};
+ghost use Rattle.track_held.specs.Given.{point_in, face_in, given_mesh, is_outside, box_fault, lists_fault, make_fault, IsRefusal, IsFaulty};
 ghost use Rattle.track_held.specs.Held.{engine_in, log_in, goes_on};
 ghost use Rattle.track_held.specs.declared.making.MakeRefusal.TheVariants as refusals;
 
@@ -135,8 +135,9 @@ pub fn track(
     ensures valid { IsOk result → IsValidSurface (given_mesh points.now faces.now) }
     ensures none { IsOk result → make_fault points.now faces.now ≡ None }
 
-    // Refused for a fault: the first.
+    // Refused for a fault: the first. Too many points are refused without memory.
     ensures first { IfErr result (IsRefusal (make_fault points.now faces.now)) }
+    ensures crowded { VERTICES_MAX < length points.now → IsFaulty result }
 {
     if points.len() > VERTICES_MAX as usize {
         let count = points.len() as u64;
