@@ -33,7 +33,7 @@ enum {
     TOPO_EMPTY = 4,     /* the handle holds no tracker; nothing changed */
     TOPO_STOPPED = 5,   /* an earlier directive had no memory: the tracker can be read and freed, no more; nothing changed */
     TOPO_SPENT = 6,     /* 2^32 - 1 steps were taken; nothing changed */
-    TOPO_UNREAD = 7     /* what was told does not end with a whole line, as of a tracker that is stopped, or is longer than 64 MiB; nothing changed */
+    TOPO_UNREAD = 7     /* what was told does not end with a whole line, as of a tracker that is stopped, or is, with a log's first line, longer than 64 MiB; nothing changed */
 };
 
 /* Why something is refused: the member `why` of a fault. */
@@ -114,25 +114,26 @@ uint32_t topo_shift_all(struct topo *t, int32_t x, int32_t y, int32_t z, struct 
 uint32_t topo_set(struct topo *t, uint8_t depth, uint8_t passes, uint8_t zones, uint8_t halvings);
 /* Takes what is asked: whole where every pair passes, and else by the first lesser way that is safe. `way` is set where the step is taken. */
 uint32_t topo_step(struct topo *t, struct topo_way *way, struct topo_fault *fault);
-/* Passes over the edges, the pairs of edges and the vertices of the mesh; a length is at most 2^30. An edit that is not safe is left out.
- * `edits` is set where the pass is made; the fault never is. */
+/* Passes over the edges, the pairs of edges and the vertices of the mesh; a length is at most 2^30. An edit that is not safe is left out;
+ * in an open group the first such edit ends the pass. `edits` is set where the pass is made; the fault never is. */
 uint32_t topo_split(struct topo *t, uint32_t over, struct topo_edits *edits, struct topo_fault *fault);
 uint32_t topo_collapse(struct topo *t, uint32_t under, struct topo_edits *edits, struct topo_fault *fault);
 uint32_t topo_flip(struct topo *t, struct topo_edits *edits, struct topo_fault *fault);
 uint32_t topo_zip(struct topo *t, uint32_t within, struct topo_edits *edits, struct topo_fault *fault);
 uint32_t topo_pinch(struct topo *t, struct topo_edits *edits, struct topo_fault *fault);
 /* Splits each edge that is longer than `high` and collapses each that is shorter than `low`, each at its turn; TOPO_RANGE unless `low` is
- * below `high` and that at most 2^30. It is never refused, and tells no number. */
+ * below `high` and that at most 2^30. An edit that is not safe is left out, as in the passes above. It is never refused, and tells no number. */
 uint32_t topo_fit(struct topo *t, uint32_t low, uint32_t high);
 /* The vertex does not move from here on, unless the group in which it was made solid is taken back. The id is from 1 to 2^31. */
 uint32_t topo_solid(struct topo *t, uint32_t vertex, struct topo_fault *fault);
 /* What is done between is kept whole, or taken back where a step was not whole or an edit was left out; `kept` is set to which. Groups
- * nest. Where none is open, topo_close does nothing, and tells TOPO_NO_GROUP. */
+ * nest. Where none is open, topo_close does nothing, and tells TOPO_NO_GROUP. Taken back, the surface with its next ids, and what is asked of
+ * each vertex, are again as at its opening. */
 uint32_t topo_open(struct topo *t, struct topo_fault *fault);
 uint32_t topo_close(struct topo *t, uint32_t *kept, struct topo_fault *fault);
 
 /* Reading. Room and size are numbers of items. `size` is set to how many there are, also where they do not fit: then the answer is
- * TOPO_RANGE, nothing is put into the buffer, and nothing is lost. */
+ * TOPO_RANGE, nothing is put into the buffer, and nothing is lost. TOPO_NO_MEMORY, TOPO_EMPTY and TOPO_UNREAD set nothing. */
 
 /* How many vertices and faces live, and how many bytes the log has since it was last taken. */
 uint32_t topo_counts(struct topo *t, uint32_t *vertices, uint32_t *faces, size_t *log);

@@ -46,7 +46,12 @@ struct topo_grid {
         return static_cast<std::int32_t>(near);
     }
     topo_point to_grid(const topo_metres &p) { return {units(p[0] - origin[0]), units(p[1] - origin[1]), units(p[2] - origin[2])}; }
-    std::uint32_t length(double metres) { return static_cast<std::uint32_t>(std::fabs(static_cast<double>(units(metres)))); }
+    std::uint32_t length(double metres)
+    {
+        if (!(metres >= 0))
+            throw std::out_of_range("topo: a length below zero");
+        return static_cast<std::uint32_t>(units(metres));
+    }
 };
 
 // A tracker, freed at its end. It is moved, and not copied.
@@ -105,7 +110,7 @@ private:
     void must(std::uint32_t code, const char *call)
     {
         if (code != TOPO_DONE)
-            throw topo_error(call, code, fault);
+            throw topo_error(call, code, code == TOPO_REFUSED ? fault : topo_fault{0, 0, 0, 0});
     }
     template <class Row> std::vector<Row> read(std::uint32_t (*call)(topo *, Row *, std::size_t, std::size_t *), const char *name)
     {

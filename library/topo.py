@@ -69,7 +69,8 @@ class Tracker:
 
     def must(self, call, code):
         if code != DONE:
-            raise TopoError(call, code, self.fault.why, self.fault.a, self.fault.b, self.fault.c)
+            fault = self.fault if code == REFUSED else Fault()
+            raise TopoError(call, code, fault.why, fault.a, fault.b, fault.c)
 
     def call(self, name, *words):
         self.must(name, getattr(self.library, name)(ref(self.handle), *words))
@@ -82,6 +83,11 @@ class Tracker:
             raise OverflowError("farther from the origin than the grid goes")
         self.rounded = max(self.rounded, abs(near * self.unit - length))
         return near
+
+    def length(self, length):
+        if not length >= 0:
+            raise OverflowError("a length below zero")
+        return u32(self.units(length))
 
     def to_grid(self, point):
         return tuple(self.units(p - o) for p, o in zip(point, self.origin))
@@ -118,7 +124,7 @@ class Tracker:
 
     def edit(self, name, *lengths):
         """How many edits were done, and how many were refused."""
-        self.call("topo_" + name, *(u32(abs(self.units(length))) for length in lengths), ref(self.edits), ref(self.fault))
+        self.call("topo_" + name, *(self.length(length) for length in lengths), ref(self.edits), ref(self.fault))
         return self.edits.done, self.edits.refused
 
     def split(self, over):
@@ -138,7 +144,7 @@ class Tracker:
 
     def fit(self, low, high):
         """Splits each longer edge and collapses each shorter one; it tells no number."""
-        self.call("topo_fit", u32(abs(self.units(low))), u32(abs(self.units(high))))
+        self.call("topo_fit", self.length(low), self.length(high))
 
     def solid(self, vertex):
         self.call("topo_solid", u32(vertex), ref(self.fault))

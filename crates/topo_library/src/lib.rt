@@ -1,6 +1,7 @@
-//! The tracker for a caller in C or C++: a surface is made of points and faces, and changed by one call after another. Coordinates, shifts
-//! and lengths are in grid units. Each call but two answers a code: done, no memory, refused for the reason that the fault tells, an argument
-//! beyond its limit or a buffer too short, no tracker in the handle, a tracker that is stopped, or one that is spent.
+//! The tracker for a caller in C or C++: a surface is made of points and faces, and changed by one call after another.
+//! Coordinates, shifts and lengths are in grid units. Each call but two answers a code: done, no memory, refused for the reason
+//! that the fault tells, an argument beyond its limit or a buffer too short, no tracker in the handle, a tracker that is
+//! stopped, one that is spent, or a log that is not read.
 //!
 //! The tracker is that of Brochu and Bridson, "Robust topological operations for dynamic explicit surfaces" (2009).
 #![tactic(auto)]
@@ -388,8 +389,8 @@ pub extern "C" fn topo_solids(
     read_solids(alloc, topo, into, size)
 }
 
-/// Puts what was told since the log was last taken or forgotten into a buffer, as numbers, where all of it fits, and tells how many events
-/// they are. It stays told.
+/// Puts what was told since the log was last taken or forgotten into a buffer, as numbers, where all of it fits, and tells how
+/// many events they are. It stays told. It is not read where it is no whole lines, or too long.
 #[unsafe(no_mangle)]
 pub extern "C" fn topo_events(
     alloc: Global,

@@ -137,7 +137,7 @@ pub enum EventRefusal {
     NoMemory,
     /// What was told is not read as lines, for this first fault: it does not end with a whole one.
     Torn(TextFault),
-    /// What was told is longer than a log may be that is read.
+    /// What was told is, with the first line of a log, longer than a log may be that is read.
     Long,
 }
 

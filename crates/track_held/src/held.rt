@@ -43,8 +43,8 @@ fn any_length(_at: Point) -> Band
     Band { low: 1, high: 2 }
 }
 
-// Does one directive: its lines are told to the log, or it is refused and nothing changes, or it stops in its lines. What one does is said
-// that asks neither a field nor the sizing, and of a pass by the sizing.
+// Does one directive: its lines are told to the log, or it is refused and nothing changes, or it stops, perhaps in its lines.
+// What one does is said that asks neither a field nor the sizing, and of a pass by the sizing.
 pub(crate) fn tell<'a, S: Surface, F: Fn(u8, Point) -> Shift, G: Fn(Point) -> Band>(
     alloc: Global,
     engine: &mut Engine<S>,
@@ -84,7 +84,7 @@ pub(crate) fn tell<'a, S: Surface, F: Fn(u8, Point) -> Shift, G: Fn(Point) -> Ba
 
 /// An engine with the log that it has told since that was last taken.
 ///
-/// It goes on until a directive stops in its lines for want of memory. While it does, its mesh is sound, closed and clear, and so is the
+/// It goes on until a directive stops for want of memory. While it does, its mesh is sound, closed and clear, and so is the
 /// mesh to which each open group can go back.
 #[derive(Drop)]
 pub struct Held<S: Surface> {
@@ -117,7 +117,7 @@ impl<S: Surface + Drop> Held<S> {
 impl<S: Surface> Held<S> {
     ghost use Rattle.track_held.specs.Held.{engine_in, log_in, goes_on};
 
-    /// Whether no directive has stopped in its lines.
+    /// Whether no directive has stopped.
     pub fn goes_on(&self) -> bool
         ensures is { result ≡ goes_on self.now }
         // While that holds, the mesh is sound, closed and clear, and so is that of each open group.
@@ -127,7 +127,7 @@ impl<S: Surface> Held<S> {
         self.goes_on
     }
 
-    /// Whether one more directive may be taken: fewer than 2^32 - 1 steps were.
+    /// Whether one more directive may be taken: fewer than 2^32 - 1 steps were, and as few meshes saved.
     pub fn has_room(&self) -> bool
         ensures { IsTrue result ↔ HasRoom 1 (engine_in self.now).run }
     {
@@ -175,8 +175,8 @@ impl<S: Surface> Held<S> {
         self.log.clear();
     }
 
-    /// Does one directive that asks neither a field nor the sizing: its lines are told, or it is refused and nothing changes, or it stops
-    /// in its lines for want of memory, and goes on no more.
+    /// Does one directive that asks neither a field nor the sizing: its lines are told, or it is refused and nothing changes, or
+    /// it stops for want of memory, perhaps in its lines, and goes on no more.
     pub fn take(&mut self, alloc: Global, what: &Directive) -> Result<Option<UseWhy>, Stop>
         requires range { IsInRange what.now }
         requires asks { AsksNothing what.now }
