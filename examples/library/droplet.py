@@ -20,6 +20,22 @@ def box(low, side, first):
     return corners, [(first + q[0], first + q[i], first + q[i + 1]) for q in SIDES for i in (1, 2)]
 
 
+def ball(middle, radius, first, levels=3):
+    """An octahedron, whose faces are halved in both directions, and whose vertices are drawn out onto the ball."""
+    points = [(1, 0, 0), (-1, 0, 0), (0, 1, 0), (0, -1, 0), (0, 0, 1), (0, 0, -1)]
+    faces = [(0, 2, 4), (2, 1, 4), (1, 3, 4), (3, 0, 4), (2, 0, 5), (1, 2, 5), (3, 1, 5), (0, 3, 5)]
+    for _ in range(levels):
+        halves = {}
+        for a, b in ((f[i], f[i - 1]) for f in faces for i in range(3)):
+            if (min(a, b), max(a, b)) not in halves:
+                halves[min(a, b), max(a, b)] = len(points)
+                p = [x + y for x, y in zip(points[a], points[b])]
+                points.append(tuple(c / sum(x * x for x in p) ** 0.5 for c in p))
+        at = lambda a, b: halves[min(a, b), max(a, b)]
+        faces = [t for a, b, c in faces for t in ((a, at(a, b), at(c, a)), (b, at(b, c), at(a, b)), (c, at(c, a), at(b, c)), (at(a, b), at(b, c), at(c, a)))]
+    return [tuple(m + radius * c for m, c in zip(middle, p)) for p in points], [tuple(first + v for v in f) for f in faces]
+
+
 def velocity(p):
     """Downward, and slower toward the pool, whose surface is at height 0 and rests."""
     near = min(max(p[1] / 0.3, 0), 1)
@@ -42,12 +58,14 @@ def write(name, surface, colours):
 
 def main(folder=".", frames=30):
     low, low_faces = box((-1, -0.6, -1), (2, 0.6, 2), 1)
-    high, high_faces = box((-0.3, 0.2, -0.25), (0.6, 0.6, 0.6), 9)
+    high, high_faces = ball((0.03, 0.5, 0.02), 0.35, 9)
     with topo.Tracker(low + high, low_faces + high_faces, unit=1e-5) as surface:
         colours = {v: BALL if p[1] > 0 else POOL for v, p in surface.vertices().items()}
         for frame in range(int(frames) + 1):
             surface.toward({v: tuple(c + 0.02 * u for c, u in zip(p, velocity(p))) for v, p in surface.vertices().items()})
-            told = surface.step(), surface.collapse(0.045), surface.split(0.22), surface.zip(0.045), surface.pinch()
+            way = surface.step()
+            surface.fit(0.045, 0.22)
+            zipped, pinched = surface.zip(0.045), surface.pinch()
             for kind, a, b, c, *_ in surface.events():
                 if kind == "split":
                     colours[c] = mean(colours[a], colours[b])
@@ -57,7 +75,7 @@ def main(folder=".", frames=30):
                     colours[b] = colours[a]
             surface.forget()
             write(os.path.join(folder, f"frame_{frame:03}.obj"), surface, colours)
-            print(f"frame {frame}:", *told)
+            print(f"frame {frame}: {way}, zipped {zipped}, pinched {pinched}")
 
 
 if __name__ == "__main__":
