@@ -277,9 +277,10 @@ HandleHasForgotten (Some s) new code =
 -- What a code says of a call that puts into a buffer what a text of a log tells, as numbers.
 pub record HasPutEvents (text : List ℕ) (into now : List Event) (before size code : ℕ)
     : Type 0 where
-  -- 0 and 3: the text is read as lines, whose events are put, or do not fit
+  -- 0 and 3: the text is not too long and is read as lines, whose events are put, or do not fit
   pub puts : (code ≡ 0) ⊎ (code ≡ 3) →
-      (events : List Event) × (events_in text ≡ Ok events) × HasPut events into now before size code
+      (length text ≤ TEXT_MAX)
+      × ((events : List Event) × (events_in text ≡ Ok events) × HasPut events into now before size code)
   -- 7: it is too long, or is not read as lines
   pub unread : code ≡ 7 →
       (TEXT_MAX < length text) ⊎ ((fault : TextFault) × (events_in text ≡ Err fault))

@@ -1,5 +1,5 @@
 -- What a log tells, as numbers.
-use Rattle.std.specs.Prelude.{◌≡◌, ◌<◌, ℕ, pos, Bool, if◌then◌else◌, Result, Ok, Err}
+use Rattle.std.specs.Prelude.{◌≡◌, ◌<◌, ◌≤◌, ℕ, pos, Bool, if◌then◌else◌, Result, Ok, Err}
 use Rattle.std.specs.Prelude.{List, [], ◌∷◌, ◌++◌, map, length}
 use Rattle.std.specs.List.{flat_map}
 use Rattle.grid_base.specs.declared.TheConstants.{TEXT_MAX}
@@ -77,7 +77,7 @@ events_in text = events_read (log_of text)
 
 -- these are they, or why they are not told
 abbrev pub AreEvents : List ℕ → Result (List Event) EventRefusal → Type 0
-AreEvents text (Ok events) = events_in text ≡ Ok events
+AreEvents text (Ok events) = (length text ≤ TEXT_MAX) × (events_in text ≡ Ok events)
 AreEvents text (Err refusals.NoMemory) = Unit {0}
-AreEvents text (Err (refusals.Torn fault)) = events_in text ≡ Err fault
+AreEvents text (Err (refusals.Torn fault)) = (length text ≤ TEXT_MAX) × (events_in text ≡ Err fault)
 AreEvents text (Err refusals.Long) = TEXT_MAX < length text
