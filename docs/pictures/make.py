@@ -600,7 +600,7 @@ def groups_of_crates():
             groups.append((line[1:].strip(), []))
         elif ":" in line:
             name, _, below = line.partition(":")
-            groups[-1][1].append((name.strip(), below.split()))
+            groups[-1][1].append((name.split()[0], below.split()))
     return groups
 
 
