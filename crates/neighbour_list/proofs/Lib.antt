@@ -5,3 +5,6 @@ pub mod ByList
 pub mod Words
 pub mod Alike
 pub mod Stays
+pub mod Held
+pub mod Served
+pub mod Growing

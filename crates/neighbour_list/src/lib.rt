@@ -3,7 +3,8 @@
 #![tactic(auto)]
 
 mod calls;
-mod drifts;
+mod cluster_boxes;
+mod clusters;
 pub mod laws;
 mod listed;
 mod making;
@@ -16,8 +17,12 @@ mod shifted;
 mod widened;
 
 pub use calls::{all_pass_listed, failing_listed};
+use grid_base::HALF_MAX;
 pub use listed::ListedPair;
 pub use neighbour_list::NeighbourList;
 pub use reference::Reference;
 pub use scan::{all_pass_by_list, failing_by_list};
 pub use shifted::Shifted;
+
+/// The greatest skin of a list, in grid units.
+pub const SKIN_MAX: u32 = HALF_MAX;
