@@ -78,7 +78,10 @@ def fault_of_replay(folder, decimals, measured, tracked, is_whole, seconds):
         if ran is None:
             return None
         meshes = stored_in(apart)
-    said = b"replayed %d\n" % len(meshes) if ran[0] == 0 else measured[1].splitlines(keepends=True)[-1:] and measured[1].splitlines(keepends=True)[-1]
+    # a line of a mesh may stand twice in a spoilt log, and then stores it twice
+    with open(os.path.join(folder, "log.txt"), "rb") as log:
+        lines = sum(line.startswith(b"mesh ") for line in log)
+    said = b"replayed %d\n" % lines if ran[0] == 0 else measured[1].splitlines(keepends=True)[-1:] and measured[1].splitlines(keepends=True)[-1]
     if ran[0] != measured[0] or ran[1] != said:
         return "status" if ran[0] != measured[0] else "output", len(meshes)
     return "meshes" if is_whole and meshes != tracked else None, len(meshes)
