@@ -5,10 +5,11 @@
 
 The other program should be written apart from this one; what both answer alike is then hardly a slip of either. COUNT jobs (100 at first) are
 made from SEED on (1 at first), each of a few bodies that stand near one another and a text of steps, some with a fault. A job that one of
-the two does not end within SECONDS (20 at first) is told and not compared. The last line tells how many were alike; at a difference the job
-is kept and the exit status is 1.
+the two does not end within SECONDS (20 at first) is told and not compared. The last lines tell how many were alike, and of which lines their
+logs are; at a difference the job is kept and the exit status is 1.
 """
 
+import collections
 import os
 import random
 import subprocess
@@ -172,13 +173,15 @@ def keep(seed, mesh, steps, words):
     return keep_files(f"job-{seed}-", words, {"m.obj": mesh.encode(), "s.txt": steps.encode()})
 
 
-def main():
-    if len(sys.argv) < 2:
-        sys.exit(__doc__)
-    other = os.path.abspath(sys.argv[1])
-    count, seed, seconds = (int(word) for word in (sys.argv[2:] + ["100", "1", "20"][len(sys.argv) - 2 :])[:3])
+def compare(job_of, words, count, seed, seconds):
+    """Runs jobs with this program and with another by the words of a command line, tells how many were alike, and answers the lines of the
+    logs that were, in words, and the exit status. OTHER, COUNT, SEED and SECONDS are the words; those left out are as given."""
+    if not words:
+        sys.exit(sys.modules["__main__"].__doc__)
+    other = os.path.abspath(words[0])
+    count, seed, seconds = (int(word) for word in (words[1:] + [count, seed, seconds][len(words) - 1 :])[:3])
     alike = late = unlike = 0
-    lines = {}
+    lines = []
     for number in range(seed, seed + count):
         job = job_of(number)
         one, two = outcome(TOPO, *job, seconds), outcome(other, *job, seconds)
@@ -186,15 +189,23 @@ def main():
             late += 1
         elif one == two:
             alike += 1
-            for line in one[1].split(b"\n"):
-                word = line.split(b" ")[0].decode()
-                lines[word] = lines.get(word, 0) + 1
+            lines += [line.decode().split(" ")[:2] for line in one[1].split(b"\n")]
         else:
             unlike += 1
             print(f"job {number}: {'status' if one[0] != two[0] else 'log' if one[1] != two[1] else 'files'} differ; it is kept in {keep(number, *job)}")
-    print("lines of these logs:", ", ".join(f"{word} {n}" for word, n in sorted(lines.items()) if word))
     print(f"{alike} alike, {unlike} not, {late} not ended in time")
-    return 1 if unlike else 0
+    return lines, 1 if unlike else 0
+
+
+def counted(words):
+    """How often each of these words stands, in a line."""
+    return ", ".join(f"{word} {n}" for word, n in sorted(collections.Counter(words).items()) if word)
+
+
+def main():
+    lines, status = compare(job_of, sys.argv[1:], 100, 1, 20)
+    print("lines of these logs:", counted(line[0] for line in lines))
+    return status
 
 
 if __name__ == "__main__":

@@ -6,16 +6,15 @@
 Steps that come one after another on a mesh of that size are where the program keeps a list of near pairs from step to step. COUNT jobs (50 at
 first) are made from SEED on (1 at first): cubes in rows, a ring, or both; 4 to 10 steps in which bodies or vertices are shifted by up to a
 third of an edge, all by one shift, or a few alone; between some of them a pass, a group or a save. A job that one of the two does not end
-within SECONDS (120 at first) is told and not compared. The last lines tell how many pairs failed, how steps were taken, and how many jobs
-were alike; at a difference the job is kept and the exit status is 1.
+within SECONDS (120 at first) is told and not compared. The last lines tell how many jobs were alike, how many pairs failed, and how steps
+were taken; at a difference the job is kept and the exit status is 1.
 """
 
 import math
-import os
 import random
 import sys
 
-from random_jobs import CUBE, TOPO, keep, outcome
+from random_jobs import CUBE, compare, counted
 
 
 def rows_of_cubes(dice, mesh):
@@ -99,30 +98,10 @@ def job_of(seed):
 
 
 def main():
-    if len(sys.argv) < 2:
-        sys.exit(__doc__)
-    other = os.path.abspath(sys.argv[1])
-    count, seed, seconds = (int(word) for word in (sys.argv[2:] + ["50", "1", "120"][len(sys.argv) - 2 :])[:3])
-    alike = late = unlike = hits = 0
-    ways = {}
-    for number in range(seed, seed + count):
-        job = job_of(number)
-        one, two = outcome(TOPO, *job, seconds), outcome(other, *job, seconds)
-        if one is None or two is None:
-            late += 1
-        elif one == two:
-            alike += 1
-            for line in one[1].split(b"\n"):
-                hits += line.startswith(b"hit ")
-                if line.startswith(b"moved "):
-                    way = line.split(b" ")[1].decode()
-                    ways[way] = ways.get(way, 0) + 1
-        else:
-            unlike += 1
-            print(f"job {number}: they differ; it is kept in {keep(number, *job)}")
-    print(f"{hits} failing pairs; steps taken: {', '.join(f'{way} {n}' for way, n in sorted(ways.items()))}")
-    print(f"{alike} alike, {unlike} not, {late} not ended in time")
-    return 1 if unlike else 0
+    lines, status = compare(job_of, sys.argv[1:], 50, 1, 120)
+    print("failing pairs:", sum(line[0] == "hit" for line in lines))
+    print("steps taken:", counted(line[1] for line in lines if line[0] == "moved"))
+    return status
 
 
 if __name__ == "__main__":
