@@ -132,6 +132,12 @@ fn a_list_is_kept_from_step_to_step(rt: HostRuntime) -> Result<(), Fail> {
         let all = failing(rt.alloc(), &mesh, &by, 4)?;
         assert_eq!(rt; hits.as_slice(), all.as_slice());
         assert_eq!(rt; lists.has_list(), has_list, "step {k}");
+        let near = lists.of_mesh(rt.alloc(), &mesh)?;
+        assert_eq!(rt; near.kept.is_some(), has_list, "step {k}");
+        let found = near.failing(rt.alloc(), &mesh, &by, 4)?;
+        assert_eq!(rt; found.as_slice(), all.as_slice());
+        let pass = near.all_pass(rt.alloc(), &mesh, &by, 4)?;
+        assert_eq!(rt; pass, all.len() == 0);
         move_all(&mut mesh, by.as_slice(), &rt)?;
         if k == 3 {
             drop_face(&mut mesh, FaceId(1), &rt)?;

@@ -1,23 +1,23 @@
 -- The pairs that do not pass are all listed, where the vertices drift alike.
 use Rattle.std.proofs.Common.{◌≡◌, ℕ, Bool, true, false, cond, not, List, [], ◌∷◌, ◌++◌, map, Some, None, refl, sym, ap, ◌∙◌}
-use Rattle.std.specs.List.{filter, All, AllByRecursion, Contains}
-use Rattle.std.specs.FinMap as finite
+use Rattle.std.specs.List.{filter, All, AllByRecursion}
 use Rattle.std.proofs.lemmas.Bool.{false≢true}
-use Rattle.std.proofs.lemmas.List.Elements.{All-from_recursion, recursion_from_All, All-contains_itself}
+use Rattle.std.proofs.lemmas.List.Elements.{All-from_recursion}
 use Rattle.grid_base.proofs.Reflected.{of_passes}
 use Rattle.grid_decided.specs.Decided.{meets_exactly, meets_exactly-is_exact}
 use Rattle.mesh_base.specs.Failing.{pair_passes}
-use Rattle.mesh_base.specs.Mesh.{Mesh, IsSound}
-use Rattle.mesh_base.specs.Pairs.{Pair, IsPair, pairs, five_ids}
+use Rattle.mesh_base.specs.Mesh.{Mesh, HasCorners}
+use Rattle.mesh_base.specs.Pairs.{Pair, IsPair, pairs}
 use Rattle.mesh_base.specs.Placements.{Placement, Motion, positions, rest_positions, IsClearMesh}
-use Rattle.mesh_base.proofs.Listed.{at_live, edge_live}
 use Rattle.mesh_base.proofs.ListedPairs.{listed_pairs, all_weaker, all_mapped, all_filtered}
 use Rattle.pair_scan.specs.Failed.{failing_of}
 use Rattle.pair_scan.specs.Scan.{one_or_none}
-use Rattle.neighbour_list.specs.Drift.{DriftAlike}
+use Rattle.mesh_base.specs.declared.ids.Corners.{Corners}
+use Rattle.pair_paths.specs.declared.Frame.{Frame}
 use Rattle.neighbour_list.specs.declared.listed.ListedPair.{ListedPair}
 use Rattle.neighbour_list.specs.Listed.{IsApart, listed, is_near_at, failing_in}
-use Rattle.neighbour_list.proofs.Apart.{passes_unlisted}
+use Rattle.neighbour_list.specs.Clusters.{Cluster, AreAt, IsCovered, ClustersServe}
+use Rattle.neighbour_list.proofs.Served.{passes_served}
 
 -- ---- the names of listed pairs
 pub as_pairs : (depth : ℕ) (w : Motion) (ps : List Pair) → failing_in depth w (map listed ps) ≡ failing_of depth w ps
@@ -39,17 +39,6 @@ picked_again {X} near fails (x ∷ xs) h = by_tests (picked_again near fails xs 
     by_tests rest false false s t = rest
     by_tests rest false true s t = absurd (false≢true (sym (h.0 s) ∙ t))
 
--- ---- the vertices of a pair are live
-pub vertices_live : (m : Mesh) (p : Pair) → IsSound m → IsPair m p → All (Contains (finite.keys m.points)) (five_ids p)
-vertices_live m p sound is =
-    let ids = finite.keys m.points in
-    let live = at_live (Contains ids) m.points in
-    let itself = recursion_from_All (Contains ids) ids (All-contains_itself ids) in
-    let ends = edge_live m p.name.a p.name.b sound is.edge in
-    let corners = sound.is_mesh.live_corners p.name.face p.corners is.face in
-    All-from_recursion (Contains ids) (five_ids p)
-    (live p.name.a itself ends.0, (live p.name.b itself ends.1, (live p.corners.first itself corners.0, (live p.corners.second itself corners.1, (live p.corners.third itself corners.2, tt)))))
-
 -- ---- the listed pairs of a clear mesh do not meet
 pub listed_apart : (m : Mesh) (at : Placement) (skin : ℕ) → IsClearMesh m → All (IsApart (rest_positions m)) (map listed (filter (is_near_at skin at) (pairs m)))
 listed_apart m at skin clear =
@@ -59,14 +48,14 @@ listed_apart m at skin clear =
     (all_filtered (λ p. apart (listed p)) (is_near_at skin at) (pairs m)
     (all_weaker (IsPair m) (λ p. is_near_at skin at p ≡ true → apart (listed p)) (pairs m) (λ p is near. clear p is) (listed_pairs m))))
 
--- ---- so an unlisted pair passes
-pub by_list : (m : Mesh) (at : Placement) (w : Motion) (skin depth : ℕ) → IsSound m → DriftAlike skin at w.start (finite.keys m.points) → DriftAlike skin at w.end (finite.keys m.points)
+-- ---- so the pairs that do not pass are listed
+pub by_list : (m : Mesh) (at : Placement) (frame : Frame) (w : Motion) (skin depth : ℕ) (clusters : List Cluster) → All (AreAt at) clusters → ((f : ℕ) (c : Corners) → HasCorners m f c → IsCovered clusters c) → ClustersServe skin frame w clusters
     → failing_in depth w (map listed (filter (is_near_at skin at) (pairs m))) ≡ failing_of depth w (pairs m)
-by_list m at w skin depth sound start end =
+by_list m at frame w skin depth clusters ats covered serve =
     let fails : Pair → Bool = λ p. not (pair_passes meets_exactly depth w p) in
     as_pairs depth w (filter (is_near_at skin at) (pairs m))
     ∙ ap (map (λ p. p.name)) (picked_again (is_near_at skin at) fails (pairs m)
     (all_weaker (IsPair m) (λ p. is_near_at skin at p ≡ false → fails p ≡ false) (pairs m)
     (λ p is off. ap not (of_passes meets_exactly meets_exactly-is_exact depth (positions w.start p) (positions w.end p)
-    (passes_unlisted skin at w (finite.keys m.points) p (vertices_live m p sound is) off start end depth)))
+    (passes_served m skin at frame w clusters ats covered serve p is off depth)))
     (listed_pairs m)))

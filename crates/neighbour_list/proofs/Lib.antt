@@ -5,3 +5,7 @@ pub mod ByList
 pub mod Words
 pub mod Alike
 pub mod Stays
+pub mod Held
+pub mod Served
+pub mod Growing
+pub mod Turned

@@ -23,8 +23,7 @@ use Rattle.pair_paths.proofs.NearFaces.{near_faces_make_all}
 use Rattle.pair_scan.specs.Scan.{one_or_none}
 use Rattle.pair_scan.proofs.Kept.{kept_by_list, kept_of_taken}
 use Rattle.pair_scan.proofs.Scans.{and_false}
-use Rattle.pair_paths.specs.Paths.{path_in}
-use Rattle.neighbour_list.specs.Listed.{listed, is_near_at, near, near_at, near_among, near_along_edges, start_of, reference_at}
+use Rattle.neighbour_list.specs.Listed.{listed, is_near_at, near, near_at, near_among, near_along_edges}
 use Rattle.neighbour_list.specs.Near.{is_near}
 use Rattle.neighbour_list.specs.Widened.{IsWidened}
 use Rattle.neighbour_list.proofs.Boxes.{apart_is_far}
@@ -64,8 +63,3 @@ pub near_of_mesh : (m : Mesh) (w : Motion) (skin : ℕ) → near_along_edges ski
 near_of_mesh m w skin =
     each_alike (λ e. near_among skin (moving_edge w e.0 e.1) (moving_faces m w)) (λ e. map listed (filter (is_near_at skin w.start) (pairs_of m e))) (λ e. of_edge m w skin e.0 e.1) (edges m)
     ∙ sym (kept_by_list listed (is_near_at skin w.start) (λ e. pairs_of m e) (edges m))
-
--- ---- the reference points
-pub from_paths : (w : Motion) (ids : List ℕ) → map start_of (map (path_in w) ids) ≡ map (reference_at w.start) ids
-from_paths w [] = refl
-from_paths w (v ∷ ids) = ap (λ ks. reference_at w.start v ∷ ks) (from_paths w ids)

@@ -14,7 +14,7 @@ use Rattle.mesh_base.proofs.KeysKept.{keys-with_moves}
 use Rattle.mesh_base.proofs.Moves.{faces-with_moves}
 use Rattle.neighbour_list.specs.declared.neighbour_list.NeighbourList.{NeighbourList}
 use Rattle.neighbour_list.specs.Drift.{DriftAlike}
-use Rattle.neighbour_list.specs.Listed.{listed, is_near_at, reference_at, IsListOf}
+use Rattle.neighbour_list.specs.Listed.{listed, is_near_at, IsListOf}
 
 -- ---- a common shift
 shifted_alike : (a b r s o k : ℤ) → (a -ℤ r) ≤ℤ ((b -ℤ s) +ℤ k) → ((a +ℤ o) -ℤ r) ≤ℤ (((b +ℤ o) -ℤ s) +ℤ k)
@@ -39,7 +39,8 @@ same_pairs m n faces ids = λ i. pairs_by m (ids i) (faces i)
 pub stays_alike : (m n : Mesh) (l : NeighbourList) → n.faces ≡ m.faces → finite.keys n.points ≡ finite.keys m.points → IsListOf m l → IsListOf n l
 stays_alike m n l faces ids h = record {
   at = h.at;
-  references = h.references ∙ sym (ap (map (reference_at h.at)) ids);
+  references = h.references;
+  covered = λ f c is. h.covered f c (ap (λ fs. finite.get fs f) (sym faces) ∙ is);
   pairs = h.pairs ∙ sym (ap (λ ps. map listed (filter (is_near_at l.skin h.at) ps)) (same_pairs m n faces ids));
 }
 

@@ -1,11 +1,9 @@
 -- How far vertices have drifted from their reference points.
 use Rattle.std.specs.Prelude.{ℕ, List, pos, ◌+ℤ◌, ◌≤ℤ◌}
-use Rattle.std.specs.List.{All, Contains}
+use Rattle.std.specs.List.{Contains}
 use Rattle.grid_base.specs.declared.Extent.{Extent}
-use Rattle.grid_base.specs.Extents.{IsIn}
 use Rattle.grid_base.specs.Triples.{Triple, minus}
 use Rattle.mesh_base.specs.Placements.{Placement}
-use Rattle.neighbour_list.specs.declared.reference.Reference.{Reference}
 
 -- from its reference point to where it stands now
 abbrev pub drift : Placement → Placement → ℕ → Triple
@@ -19,20 +17,11 @@ pub record DiffersWithin (skin : ℕ) (s t : Triple) : Type 0 where
 
 -- along each axis, the greatest and the least drift of these vertices differ by at most the skin
 abbrev pub DriftAlike : ℕ → Placement → Placement → List ℕ → Type 0
-DriftAlike skin at now vs = (u v : ℕ) → Contains vs u → Contains vs v → DiffersWithin skin (drift at now u) (drift at now v)
+DriftAlike skin at now vs =
+    (u v : ℕ) → Contains vs u → Contains vs v → DiffersWithin skin (drift at now u) (drift at now v)
 
 -- no side of the box is longer than the skin
 pub record IsNarrow (skin : ℕ) (box : Extent) : Type 0 where
   pub x : box.high.x ≤ℤ (box.low.x +ℤ pos skin)
   pub y : box.high.y ≤ℤ (box.low.y +ℤ pos skin)
   pub z : box.high.z ≤ℤ (box.low.z +ℤ pos skin)
-
--- the box has the drift of each of these vertices
-abbrev pub HasDrifts : Placement → List Reference → Extent → Type 0
-HasDrifts now refs box = All (λ k. IsIn box (minus (now k.v) k.at)) refs
-
--- a box whose sides are at most the skin has the drifts of all
-pub record DriftNarrowly (skin : ℕ) (now : Placement) (refs : List Reference) : Type 0 where
-  pub box : Extent
-  pub narrow : IsNarrow skin box
-  pub drifts : HasDrifts now refs box

@@ -1,24 +1,23 @@
 -- Pairs of a mesh that are listed as near at reference points.
 use Rattle.std.specs.Prelude.{◌≡◌, ℕ, Bool, cond, ◌&&◌, not, List, map, slice_get}
-use Rattle.std.specs.List.{filter, flat_map}
-use Rattle.std.specs.FinMap as finite
+use Rattle.std.specs.List.{All, filter, flat_map}
 use Rattle.std.proofs.Common.{Option, Some, None}
 use Rattle.grid_base.specs.Meeting.{MeetAt}
 use Rattle.grid_decided.specs.Decided.{meets_exactly}
 use Rattle.mesh_base.specs.declared.ids.PairName.{PairName}
 use Rattle.mesh_base.specs.Failing.{pair_passes}
-use Rattle.mesh_base.specs.Mesh.{Mesh}
+use Rattle.mesh_base.specs.declared.ids.Corners.{Corners}
+use Rattle.mesh_base.specs.Mesh.{Mesh, HasCorners}
 use Rattle.mesh_base.specs.Pairs.{Pair, pairs}
 use Rattle.mesh_base.specs.Placements.{Motion, Placement, positions}
 use Rattle.pair_paths.specs.declared.MovingEdge.{MovingEdge}
 use Rattle.pair_paths.specs.declared.MovingFace.{MovingFace}
-use Rattle.pair_paths.specs.declared.PathOf.{PathOf}
 use Rattle.pair_paths.specs.Moving.{moving_edge}
 use Rattle.pair_paths.specs.Pairing.{have_a_vertex_in_common, pair_with, starts}
 use Rattle.pair_scan.specs.Scan.{one_or_none}
 use Rattle.neighbour_list.specs.declared.listed.ListedPair.{ListedPair}
-use Rattle.neighbour_list.specs.declared.reference.Reference.{Reference}
 use Rattle.neighbour_list.specs.declared.neighbour_list.NeighbourList.{NeighbourList}
+use Rattle.neighbour_list.specs.Clusters.{AreAt, IsCovered}
 use Rattle.neighbour_list.specs.Near.{is_near}
 
 -- a pair as it is listed, and a listed pair as a pair
@@ -28,22 +27,16 @@ listed p = record { name = p.name; corners = p.corners }
 abbrev pub pair_of : ListedPair → Pair
 pair_of p = record { name = p.name; corners = p.corners }
 
--- a vertex with its reference point
-abbrev pub reference_at : Placement → ℕ → Reference
-reference_at at v = record { v = v; at = at v }
-
--- a vertex with where its path starts as its reference point
-abbrev pub start_of : PathOf → Reference
-start_of k = record { v = k.v; at = k.path.start }
-
 -- whether the pair is near where its vertices stand
 abbrev pub is_near_at : ℕ → Placement → Pair → Bool
 is_near_at skin at p = is_near skin (positions at p)
 
--- The list is one of the mesh: it has a reference point of each live vertex, and lists exactly the pairs that are near there, in order.
+-- The list is one of the mesh: the corners of each face are in one of its clusters, and it lists
+-- exactly the pairs that are near at the reference points, in order.
 pub record IsListOf (m : Mesh) (l : NeighbourList) : Type 0 where
   pub at : Placement
-  pub references : l.references ≡ map (reference_at at) (finite.keys m.points)
+  pub references : All (AreAt at) l.clusters
+  pub covered : (f : ℕ) (c : Corners) → HasCorners m f c → IsCovered l.clusters c
   pub pairs : l.pairs ≡ map listed (filter (is_near_at l.skin at) (pairs m))
 
 -- ---- a list in the making

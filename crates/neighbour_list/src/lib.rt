@@ -1,18 +1,19 @@
 //! A neighbour list with a skin (a Verlet list, as molecular dynamics has it): the pairs of an edge and a face that are near at
-//! reference points. While all vertices drift alike up to the skin, a pair that is not listed passes.
+//! reference points. While near vertices drift alike up to the skin, a pair that is not listed passes.
 #![tactic(auto)]
 
 mod calls;
-mod drifts;
+mod cluster_boxes;
+mod clusters;
 pub mod laws;
 mod listed;
 mod making;
 mod near;
 mod neighbour_list;
+mod order;
 mod pair_test;
 mod reference;
 mod scan;
-mod shifted;
 mod widened;
 
 pub use calls::{all_pass_listed, failing_listed};
@@ -20,4 +21,3 @@ pub use listed::ListedPair;
 pub use neighbour_list::NeighbourList;
 pub use reference::Reference;
 pub use scan::{all_pass_by_list, failing_by_list};
-pub use shifted::Shifted;

@@ -10,15 +10,14 @@ ghost use Rattle.pair_paths.specs.Moving.{moving_face};
 ghost use Rattle.pair_scan.specs.Found.{has_none, AreFound};
 ghost use Rattle.neighbour_list.specs.Listed.{IsApart, IsListOf, fails, failing_in};
 
-use crate::drifts::drift_narrowly;
+use crate::cluster_boxes::clusters_serve;
 use crate::listed::ListedPair;
 use crate::neighbour_list::NeighbourList;
 use crate::pair_test::do_pass;
-use crate::shifted::Shifted;
-use grid_base::{DEPTH_MAX, NoMemory};
+use grid_base::{DEPTH_MAX, NoMemory, Wide};
 use mesh_base::{ShiftOf, Shifts, Surface};
-use pair_paths::{KnownPaths, MovingFace, Paths, moving_edge, paths_of};
-use pair_scan::Pairs;
+use pair_paths::{Frame, KnownPaths, MovingFace, Paths, Position, moving_edge, paths_of};
+use pair_scan::{Pairs, Shifted};
 use std::alloc::Global;
 
 // The face of a listed pair, as it moves.
@@ -43,6 +42,21 @@ fn fails<P: Paths>(p: &ListedPair, paths: &P, depth: u8) -> bool
     let e = moving_edge(paths, p.name.a, p.name.b);
     let f = face_of(p, paths);
     !do_pass(&e, &f, depth)
+}
+
+// A frame that goes by the shift in the middle of the list.
+fn middle_frame(by: &[ShiftOf]) -> Frame {
+    let (x, y, z) = match by.get(by.len() / 2) {
+        Some(s) => (s.by.x, s.by.y, s.by.z),
+        None => (0, 0, 0),
+    };
+    Frame {
+        end: Position::of(Wide {
+            x: i128::from(x),
+            y: i128::from(y),
+            z: i128::from(z),
+        }),
+    }
 }
 
 // Whether there is no pair.
@@ -100,7 +114,8 @@ fn scanned<S: Surface>(
         paths: &shifted,
         known: known.as_slice(),
     };
-    if !drift_narrowly(list.skin, list.references.as_slice(), &paths) {
+    let frame = middle_frame(by);
+    if !clusters_serve(alloc, list.skin, list.clusters.as_slice(), &paths, &frame)? {
         return Ok(None);
     }
     let found = failing_in(alloc, list.pairs.as_slice(), &paths, depth, ends_early)?;
@@ -108,8 +123,9 @@ fn scanned<S: Surface>(
 }
 
 /// All pairs of a clear mesh that do not pass where each vertex goes from its point by its shift, as `pair_scan::failing`
-/// tells them, by a list of this mesh; None where the list does not serve: where the drifts of the vertices from their reference points, at
-/// the start or at the end, lie farther apart than the skin along some axis. Refuses only where there is no memory.
+/// tells them, by a list of this mesh; None where the list does not serve: where the ways of two clusters of vertices have a
+/// common point, and their drifts from the reference points, at the start or at the end, lie farther apart than the skin along
+/// some axis. Refuses only where there is no memory.
 pub fn failing_by_list<S: Surface>(
     alloc: Global,
     mesh: &S,

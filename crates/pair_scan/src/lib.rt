@@ -20,6 +20,6 @@ pub use failing_pairs::{all_pass, failing};
 pub use frames::resting_frame;
 pub use lookup::place_of;
 pub use meeting::{first_meeting, met_at};
-pub use motions::AtRest;
+pub use motions::{AtRest, Shifted};
 pub use named::five_of;
 pub use scan::Pairs;

@@ -32,11 +32,11 @@ impl<'a, S: Surface> Paths for AtRest<'a, S> {
 
 /// A mesh whose vertices go from their points by their shifts.
 #[derive(Drop)]
-pub(crate) struct Shifted<'a, S: Surface> {
-    pub(crate) mesh: &'a S,
-    pub(crate) by: &'a [ShiftOf],
-    ghost named: { NameLive (S.mesh mesh.now) by.now },
-    ghost in_box: { IsTrue (end_in_box (S.mesh mesh.now) by.now) },
+pub struct Shifted<'a, S: Surface> {
+    pub mesh: &'a S,
+    pub by: &'a [ShiftOf],
+    pub ghost named: { NameLive (S.mesh mesh.now) by.now },
+    pub ghost in_box: { IsTrue (end_in_box (S.mesh mesh.now) by.now) },
 }
 
 impl<'a, S: Surface> Paths for Shifted<'a, S> {

@@ -19,6 +19,7 @@ use grid_base::{NoMemory, copy_of};
 use mesh_base::{How, Shifts, Surface};
 use pair_scan::Pairs;
 use std::alloc::Global;
+use step_lists::StepLists;
 use step_zones::Blocks;
 
 /// How a step is taken.
@@ -34,10 +35,12 @@ pub struct Choice {
     pub blocks: Blocks,
 }
 
-// The first way that applies, where these are the failing pairs of the asked shifts.
+// The first way that applies, where these are the failing pairs of the asked shifts. What is tried is asked of the list that is
+// kept, which is compared with the mesh once; where no pair fails, it is not looked at.
 fn first_way<S: Surface>(
     alloc: Global,
     mesh: &S,
+    lists: &StepLists,
     asked: &Shifts,
     hits: &Pairs,
     set: Settings,
@@ -58,13 +61,14 @@ fn first_way<S: Surface>(
             blocks: Blocks::new(alloc),
         });
     }
-    if let Some(found) = by_impulses(alloc, mesh, asked, hits, set)? {
+    let near = lists.of_mesh(alloc, mesh)?;
+    if let Some(found) = by_impulses(alloc, mesh, &near, asked, hits, set)? {
         return Ok(found);
     }
-    if let Some(found) = by_zones(alloc, mesh, asked, set)? {
+    if let Some(found) = by_zones(alloc, mesh, &near, asked, set)? {
         return Ok(found);
     }
-    if let Some(found) = by_halving(alloc, mesh, asked, set)? {
+    if let Some(found) = by_halving(alloc, mesh, &near, asked, set)? {
         return Ok(found);
     }
     Ok(Found {
@@ -75,10 +79,11 @@ fn first_way<S: Surface>(
 }
 
 /// How a step is taken, as `choose` answers it, where the failing pairs of the asked shifts are at hand. So what does not pass can be
-/// told before the way is looked for.
+/// told before the way is looked for. The list that is kept answers for what is tried, where it is one of the mesh and serves.
 pub fn choose_by_hits<S: Surface>(
     alloc: Global,
     mesh: &S,
+    lists: &StepLists,
     asked: &Shifts,
     hits: Pairs,
     set: &Settings,
@@ -105,7 +110,7 @@ pub fn choose_by_hits<S: Surface>(
     ensures ends { IfOk result (λ c. IsTrue (end_in_box (S.mesh mesh.now) c.taken)) }
     ensures solid { IfOk result (λ c. SolidsRest (S.mesh mesh.now) c.taken) }
 {
-    let found = first_way(alloc, mesh, asked, &hits, *set)?;
+    let found = first_way(alloc, mesh, lists, asked, &hits, *set)?;
     Ok(Choice {
         hits,
         how: found.how,
@@ -152,5 +157,5 @@ pub fn choose<S: Surface>(
     ensures solid { IfOk result (λ c. SolidsRest (S.mesh mesh.now) c.taken) }
 {
     let hits = asked_hits(alloc, mesh, asked, set.depth)?;
-    choose_by_hits(alloc, mesh, asked, hits, set)
+    choose_by_hits(alloc, mesh, &StepLists::none(), asked, hits, set)
 }

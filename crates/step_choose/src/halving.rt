@@ -2,16 +2,18 @@ ghost use Rattle.std.specs.Prelude.{◌≡◌, ◌≤◌, IsTrue, IfOk};
 ghost use Rattle.std.specs.Option.{option_map};
 ghost use Rattle.grid_base.specs.declared.TheConstants.{DEPTH_MAX, HALVINGS_MAX};
 ghost use Rattle.grid_decided.specs.Decided.{meets_exactly};
+ghost use Rattle.mesh_base.specs.Placements.{IsClearMesh};
 ghost use Rattle.mesh_base.specs.Shifts.{NameLive, end_in_box};
 ghost use Rattle.step_choose.specs.Choice.{halved_times, all_at_rest, halved_way};
 ghost use Rattle.step_choose.specs.Found.{way_by};
+ghost use Rattle.step_lists.specs.Compared.{IsOfMesh};
 
 use crate::found::Found;
 use crate::settings::Settings;
 use grid_base::{NO_SHIFT, NoMemory, halved};
 use mesh_base::{How, ShiftOf, Shifts, Surface};
-use pair_scan::all_pass;
 use std::alloc::Global;
+use step_lists::ListOfMesh;
 use step_zones::Blocks;
 
 // Each shift halved so many times.
@@ -47,11 +49,14 @@ pub(crate) fn all_at_rest(alloc: Global, asked: &[ShiftOf]) -> Result<Shifts, No
 pub(crate) fn by_halving<S: Surface>(
     alloc: Global,
     mesh: &S,
+    near: &ListOfMesh<'_>,
     asked: &Shifts,
     set: Settings,
 ) -> Result<Option<Found>, NoMemory>
     requires named { NameLive (S.mesh mesh.now) asked.now }
     requires in_box { IsTrue (end_in_box (S.mesh mesh.now) asked.now) }
+    requires clear { IsClearMesh (S.mesh mesh.now) }
+    requires of_mesh { IsOfMesh (S.mesh mesh.now) near.now }
     requires depth { set.depth ≤ DEPTH_MAX }
     requires halvings { set.halvings ≤ HALVINGS_MAX }
     ensures { IfOk result
@@ -61,7 +66,7 @@ pub(crate) fn by_halving<S: Surface>(
     for k in 0..set.halvings {
         let times = k + 1;
         let taken = halved_times(alloc, asked.as_slice(), times)?;
-        let pass = all_pass(alloc, mesh, &taken, set.depth)?;
+        let pass = near.all_pass(alloc, mesh, &taken, set.depth)?;
         if pass {
             return Ok(Some(Found {
                 how: How::Halved { times },

@@ -7,6 +7,7 @@ mod choosing;
 mod found;
 mod halving;
 mod impulses;
+mod near;
 mod rounds;
 mod settings;
 

@@ -6,24 +6,29 @@ ghost use Rattle.mesh_base.specs.Placements.{IsClearMesh};
 ghost use Rattle.mesh_base.specs.Shifts.{NameLive};
 ghost use Rattle.step_choose.specs.Choice.{zones_way};
 ghost use Rattle.step_choose.specs.Found.{way_by};
+ghost use Rattle.step_lists.specs.Compared.{IsOfMesh};
 
 use crate::found::Found;
+use crate::near::Near;
 use crate::settings::Settings;
 use grid_base::NoMemory;
 use mesh_base::{How, Shifts, Surface};
 use std::alloc::Global;
-use step_zones::zones;
+use step_lists::ListOfMesh;
+use step_zones::zones_told;
 
 /// The first round of impact zones in which all pairs pass, where zones are on and no round up to it takes a vertex out of the
 /// box.
 pub(crate) fn by_zones<S: Surface>(
     alloc: Global,
     mesh: &S,
+    near: &ListOfMesh<'_>,
     asked: &Shifts,
     set: Settings,
 ) -> Result<Option<Found>, NoMemory>
     requires named { NameLive (S.mesh mesh.now) asked.now }
     requires clear { IsClearMesh (S.mesh mesh.now) }
+    requires of_mesh { IsOfMesh (S.mesh mesh.now) near.now }
     requires depth { set.depth ≤ DEPTH_MAX }
     ensures { IfOk result
         (λ found. option_map way_by found ≡ zones_way meets_exactly
@@ -32,7 +37,8 @@ pub(crate) fn by_zones<S: Surface>(
     if !set.zones {
         return Ok(None);
     }
-    match zones(alloc, mesh, asked, set.depth)? {
+    let near = Near { list: *near };
+    match zones_told(alloc, mesh, &near, asked, set.depth)? {
         Some(round) => Ok(Some(Found {
             how: How::Zones {
                 rounds: round.rounds,

@@ -11,8 +11,9 @@ use std::alloc::Global;
 /// A mesh of fewer faces is scanned without a list.
 const FACES_LEAST: u32 = 512;
 
-// The skin for steps in which the shifts spread so far, in a mesh with edges of this length: eight times the spread, from a
-// sixteenth to two fifths of an edge. None, where it is less than 6/5 of the spread, so that it would hardly last one step.
+// The skin for steps in which the shifts of near vertices spread so far, in a mesh with edges of this length: eight times the
+// spread, from a sixteenth to two fifths of an edge. None, where it is less than 6/5 of the spread, so that it would hardly
+// last one step.
 fn skin_for(spread: u32, edge: u32) -> Option<u32>
     ensures { IfSome result (λ skin. skin ≤ HALF_MAX) }
 {
@@ -41,5 +42,5 @@ pub(crate) fn skin_ahead<S: Surface>(
         return Ok(None);
     }
     let edge = typical_length(alloc, mesh)?;
-    Ok(skin_for(spread_of(asked), edge))
+    Ok(skin_for(spread_of(mesh, asked), edge))
 }

@@ -1,17 +1,19 @@
-//! A neighbour list with the faces of which it was made.
+//! A neighbour list with the vertices and faces of which it was made.
 ghost use Rattle.step_lists.specs.Among.{IsListAmong};
 
 use grid_base::Items;
-use mesh_base::{Corners, FaceId};
+use mesh_base::{Corners, FaceId, VertexId};
 use neighbour_list::NeighbourList;
 
-/// A neighbour list that is kept while its mesh may change: with it stand the faces of which it was made, and its pairs are
-/// those of its vertices and these faces that are near at its reference points.
+/// A neighbour list that is kept while its mesh may change: with it stand the vertices and faces of which it was made, and its
+/// pairs are those of these vertices and faces that are near at its reference points.
 #[derive(Drop)]
 pub struct KeptList {
     /// The list.
     pub list: NeighbourList,
+    /// The vertices of which it was made, rising.
+    pub vertices: Items<VertexId>,
     /// The faces of which it was made, by rising id.
     pub faces: Items<(FaceId, Corners)>,
-    ghost made: { IsListAmong faces list },
+    ghost made: { IsListAmong vertices faces list },
 }

@@ -3,6 +3,7 @@
 
 mod ahead;
 mod arrived;
+mod asking;
 mod faces;
 mod kept;
 mod lengths;
@@ -12,5 +13,6 @@ mod spread;
 mod vertices;
 mod waiting;
 
+pub use asking::ListOfMesh;
 pub use kept::KeptList;
 pub use lists::StepLists;

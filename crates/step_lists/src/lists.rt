@@ -5,15 +5,16 @@ ghost use Rattle.grid_decided.specs.Decided.{meets_exactly};
 ghost use Rattle.mesh_base.specs.Failing.{failing};
 ghost use Rattle.mesh_base.specs.Placements.{IsClearMesh};
 ghost use Rattle.mesh_base.specs.Shifts.{NameLive, end_in_box};
+ghost use Rattle.step_lists.specs.Compared.{IsOfMesh};
 
 use crate::ahead::skin_ahead;
 use crate::arrived::Arrived;
+use crate::asking::{ListOfMesh, compared};
 use crate::kept::KeptList;
 use crate::waiting::Waiting;
 use grid_base::{DEPTH_MAX, NoMemory};
 use mesh_base::{Shifts, Surface};
-use neighbour_list::Shifted;
-use pair_scan::{Pairs, failing};
+use pair_scan::{Pairs, Shifted, failing};
 use std::alloc::Global;
 use std::marker::Model;
 use step_near::all_pass_near;
@@ -87,6 +88,17 @@ impl StepLists {
     /// Whether a list is kept.
     pub fn has_list(&self) -> bool {
         self.kept.is_some()
+    }
+
+    /// The list that is kept, if the mesh has the faces and the vertices of which it was made. What is tried in a step asks it
+    /// again and again, and the mesh is compared with it once. Refuses only where there is no memory.
+    pub fn of_mesh<S: Surface>(&self, alloc: Global, mesh: &S) -> Result<ListOfMesh<'_>, NoMemory>
+        ensures { IfOk result (IsOfMesh (S.mesh mesh.now)) }
+    {
+        match &self.kept {
+            Some(kept) => compared(alloc, kept, mesh),
+            None => Ok(ListOfMesh { kept: None }),
+        }
     }
 
     // The list, if there was one, serves no more.

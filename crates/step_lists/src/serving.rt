@@ -1,16 +1,18 @@
 //! The making of a list that is kept, and its use.
-ghost use Rattle.std.specs.Prelude.{◌≡◌, ◌≤◌, IsTrue, IfOk, IfSome, map};
+ghost use Rattle.std.specs.Prelude.{◌≡◌, ◌≤◌, IsTrue, IfOk, IfSome};
+ghost use Rattle.std.specs.List.{All};
 ghost use Rattle.std.specs.FinMap as finite;
 ghost use Rattle.grid_base.specs.declared.TheConstants.{DEPTH_MAX, HALF_MAX};
 ghost use Rattle.grid_decided.specs.Decided.{meets_exactly};
 ghost use Rattle.mesh_base.specs.Failing.{failing};
 ghost use Rattle.mesh_base.specs.Placements.{IsClearMesh};
 ghost use Rattle.mesh_base.specs.Shifts.{NameLive, end_in_box};
-ghost use Rattle.neighbour_list.specs.Listed.{IsListOf, reference_at};
+ghost use Rattle.neighbour_list.specs.Clusters.{AreAt};
+ghost use Rattle.neighbour_list.specs.Listed.{IsListOf};
 
 use crate::faces::{are_same, faces_of};
 use crate::kept::KeptList;
-use crate::vertices::have_references;
+use crate::vertices::are_same_vertices;
 use grid_base::{DEPTH_MAX, HALF_MAX, NoMemory};
 use mesh_base::{Shifts, Surface, live_vertices};
 use neighbour_list::{NeighbourList, failing_by_list};
@@ -19,8 +21,8 @@ use pair_scan::Pairs;
 use std::alloc::Global;
 
 impl KeptList {
-    /// A list of a mesh with its faces; the reference points are where the vertices start in this motion. Refuses only where
-    /// there is no memory.
+    /// A list of a mesh with its vertices and faces; the reference points are where the vertices start in this motion. Refuses
+    /// only where there is no memory.
     pub fn of<S: Surface, P: Paths>(
         alloc: Global,
         mesh: &S,
@@ -29,15 +31,21 @@ impl KeptList {
     ) -> Result<KeptList, NoMemory>
         requires { skin ≤ HALF_MAX }
         ensures list { IfOk result (λ kept. IsListOf (S.mesh mesh.now) kept.list) }
+        ensures vertices { IfOk result
+            (λ kept. kept.vertices ≡ finite.keys (S.mesh mesh.now).points) }
         ensures faces { IfOk result (λ kept. kept.faces ≡ finite.entries (S.mesh mesh.now).faces) }
         ensures skin { IfOk result (λ kept. kept.list.skin ≡ skin) }
         ensures references { let at = (P.motion at.now).start in
-            let ids = finite.keys (S.mesh mesh.now).points in
-            IfOk result (λ kept. kept.list.references ≡ map (reference_at at) ids) }
+            IfOk result (λ kept. All (AreAt at) kept.list.clusters) }
     {
+        let vertices = live_vertices(alloc, mesh)?;
         let faces = faces_of(alloc, mesh)?;
         let list = NeighbourList::of(alloc, mesh, at, skin)?;
-        Ok(KeptList { list, faces })
+        Ok(KeptList {
+            list,
+            vertices,
+            faces,
+        })
     }
 
     /// Whether the mesh has the faces and the vertices of which the list was made. Then the list is one of this mesh, wherever
@@ -45,8 +53,8 @@ impl KeptList {
     pub fn is_of<S: Surface>(&self, alloc: Global, mesh: &S) -> Result<bool, NoMemory>
         ensures { IfOk result (λ is. IsTrue is → IsListOf (S.mesh mesh.now) self.now.list) }
     {
-        let ids = live_vertices(alloc, mesh)?;
-        if !have_references(ids.as_slice(), self.list.references.as_slice()) {
+        let vertices = live_vertices(alloc, mesh)?;
+        if !are_same_vertices(vertices.as_slice(), self.vertices.as_slice()) {
             return Ok(false);
         }
         let faces = faces_of(alloc, mesh)?;

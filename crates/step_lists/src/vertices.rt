@@ -1,19 +1,17 @@
-//! The vertices that have reference points.
+//! The vertices of a mesh in a list.
 ghost use Rattle.std.specs.Prelude.{◌≡◌, IsTrue};
-ghost use Rattle.step_lists.specs.Among.{vertices_of};
 
 use mesh_base::VertexId;
-use neighbour_list::Reference;
 
-/// Whether these vertices, and no others, have reference points, in this order.
-pub(crate) fn have_references(ids: &[VertexId], refs: &[Reference]) -> bool
-    ensures { IsTrue result → ids.now ≡ vertices_of refs.now }
+/// Whether these are the same vertices, in the same order.
+pub(crate) fn are_same_vertices(a: &[VertexId], b: &[VertexId]) -> bool
+    ensures { IsTrue result → a.now ≡ b.now }
 {
-    if ids.len() != refs.len() {
+    if a.len() != b.len() {
         return false;
     }
-    for (i, v) in ids.iter().enumerate() {
-        if refs[i].v != *v {
+    for (i, v) in a.iter().enumerate() {
+        if b[i] != *v {
             return false;
         }
     }

@@ -6,8 +6,10 @@ mod labels;
 pub mod laws;
 mod moving;
 mod searching;
+mod telling;
 mod totals;
 
 pub use found::Zoned;
 pub use moving::Blocks;
-pub use searching::zones;
+pub use searching::{zones, zones_told};
+pub use telling::{ByScan, TellsFailing};

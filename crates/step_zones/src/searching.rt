@@ -9,9 +9,10 @@ ghost use Rattle.step_zones.specs.Zoned.{zoned_taken, ServesFirst, IsBelowVertic
 use crate::found::Zoned;
 use crate::labels::{alone, join_all};
 use crate::moving::{blocks_of, zone_shifts};
+use crate::telling::{ByScan, TellsFailing};
 use grid_base::NoMemory;
 use mesh_base::{Shifts, Surface};
-use pair_scan::{end_in_box, failing};
+use pair_scan::end_in_box;
 use std::alloc::Global;
 
 /// The first zone round in which no pair fails. Round 0 has the asked shifts, and each vertex is a block by itself. The blocks of
@@ -41,6 +42,32 @@ pub fn zones<S: Surface>(
     ensures solid { IfOk result
         (λ z. IfSome z (λ r. SolidsStay (S.mesh mesh.now) asked.now r.taken)) }
 {
+    zones_told(alloc, mesh, &ByScan, asked, depth)
+}
+
+/// The same, where the failing pairs of each round are told by what can tell them of this mesh.
+pub fn zones_told<S: Surface, T: TellsFailing>(
+    alloc: Global,
+    mesh: &S,
+    tells: &T,
+    asked: &Shifts,
+    depth: u8,
+) -> Result<Option<Zoned>, NoMemory>
+    requires can { T.can_tell tells.now (S.mesh mesh.now) }
+    requires named { NameLive (S.mesh mesh.now) asked.now }
+    requires clear { IsClearMesh (S.mesh mesh.now) }
+    requires depth { depth ≤ DEPTH_MAX }
+    ensures zoned { IfOk result
+        (λ z. z ≡ zoned_taken meets_exactly (S.mesh mesh.now) asked.now depth) }
+    // None: a round leaves the box before one serves. Some: the round serves, and none before it does.
+    ensures first { IfOk result (ServesFirst meets_exactly (S.mesh mesh.now) asked.now depth) }
+    // Where a vertex lives there are fewer rounds than live vertices.
+    ensures few { IfOk result (λ z. IfSome z (IsBelowVertices (S.mesh mesh.now))) }
+    ensures names { IfOk result (λ z. IfSome z (λ r. NameLive (S.mesh mesh.now) r.taken)) }
+    // A solid vertex of which no shift is asked gets none.
+    ensures solid { IfOk result
+        (λ z. IfSome z (λ r. SolidsStay (S.mesh mesh.now) asked.now r.taken)) }
+{
     let mut labels = alone(alloc, asked.as_slice())?;
     let mut rounds = 0;
     'round: loop {
@@ -48,7 +75,7 @@ pub fn zones<S: Surface>(
         if !end_in_box(mesh, taken.as_slice()) {
             return Ok(None);
         }
-        let hits = failing(alloc, mesh, &taken, depth)?;
+        let hits = tells.failing(alloc, mesh, &taken, depth)?;
         if hits.len() == 0 {
             let blocks = blocks_of(alloc, mesh, asked.as_slice(), labels.as_slice())?;
             return Ok(Some(Zoned {

@@ -1,11 +1,10 @@
-use Rattle.std.proofs.Common.{refl, ap, subst, sym, ◌∙◌}
+use Rattle.std.proofs.Common.{ap, subst, sym, ◌∙◌}
 use Rattle.std.specs.List.{All}
 use Rattle.mesh_base.specs.Placements.{rest_positions}
-use Rattle.std.specs.FinMap as finite
 use Rattle.mesh_base.specs.Shifts.{moved_by}
 use Rattle.pair_scan.specs.Found.{AreFound}
 use Rattle.neighbour_list.specs.Listed.{IsApart, failing_in}
-use Rattle.neighbour_list.proofs.Alike.{alike}
+use Rattle.neighbour_list.specs.Clusters.{ClustersServe}
 use Rattle.neighbour_list.proofs.ByList.{by_list, listed_apart}
 use Rattle.neighbour_list.proofs.scan.scanned.Goals as goal
 
@@ -21,9 +20,7 @@ returns g c =
     let w = moved_by m c.args.by.now in
     let list = c.args.list.now in
     let of = c.requires.list in
-    let ids = finite.keys m.points in
-    let refs = c.as_slice-2.ensures ∙ of.references in
-    let start = alike list.skin of.at w.start ids c.as_slice-2.result.now refs (c.if-not-drift_narrowly.ensures.start refl) in
-    let end = alike list.skin of.at w.end ids c.as_slice-2.result.now refs (c.if-not-drift_narrowly.ensures.end refl) in
-    let all = ap (failing_in c.args.depth w) (c.as_slice-3.ensures ∙ of.pairs) ∙ by_list m of.at w list.skin c.args.depth (g.met.S.Surface.sound c.args.mesh.now) start end in
+    let frame = c.middle_frame-frame.result in
+    let serve : ClustersServe list.skin frame w list.clusters = subst (ClustersServe list.skin frame w) c.as_slice-2.ensures (c.in_ok-clusters_serve.ensures c.if-not-branch.false) in
+    let all = ap (failing_in c.args.depth w) (c.as_slice-3.ensures ∙ of.pairs) ∙ by_list m of.at frame w list.skin c.args.depth list.clusters of.references of.covered serve in
     subst (λ names. AreFound c.args.ends_early names c.in_ok-found.found) all c.in_ok-found.ensures
