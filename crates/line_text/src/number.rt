@@ -49,6 +49,25 @@ pub fn number_within(most: usize, word: &[u8]) -> Option<u128>
     Some(n)
 }
 
+// The same in 64 bits.
+fn short_number(most: usize, word: &[u8]) -> Option<u64>
+    requires { most ≤ 19 }
+    ensures value { result ≡ spec.number_within most word.now }
+    ensures below { IfSome result (λ n. n < 10 ^ most) }
+{
+    if word.is_empty() || word.len() > most {
+        return None;
+    }
+    let mut n: u64 = 0;
+    for b in word {
+        if *b < b'0' || *b > b'9' {
+            return None;
+        }
+        n = 10 * n + u64::from(*b - b'0');
+    }
+    Some(n)
+}
+
 /// The sign and the size of a whole word, an optional `-` and one to ten digits: whether the `-` is there, and the number
 /// that the digits write. None where the word is anything else.
 pub fn whole_parts(word: &[u8]) -> Option<(bool, u64)>
@@ -57,8 +76,8 @@ pub fn whole_parts(word: &[u8]) -> Option<(bool, u64)>
 {
     let negative = begins_with(b'-', word);
     let digits = if negative { word.split_at(1).1 } else { word };
-    let size = number_within(10, digits)?;
-    Some((negative, size as u64))
+    let size = short_number(10, digits)?;
+    Some((negative, size))
 }
 
 /// The number that a whole word writes, an optional `-` and one to ten digits. None where the word is anything else.

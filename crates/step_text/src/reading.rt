@@ -1,4 +1,4 @@
-ghost use Rattle.std.specs.Prelude.{◌≡◌, ◌≤◌, ◌+◌, length, IfOk};
+ghost use Rattle.std.specs.Prelude.{◌≡◌, ◌≤◌, ◌+◌, Ok, length, IfOk, IfSome};
 ghost use Rattle.grid_base.specs.declared.TheConstants.{TEXT_MAX};
 ghost use Rattle.line_text.specs.Faults.{Gives, Leaves, at_line};
 ghost use Rattle.line_text.specs.Remaining.{words_left};
@@ -69,6 +69,31 @@ fn shift_one(words: Words<'_>) -> Result<Directive, TextWhy>
     Ok(Directive::ShiftOne { v, by })
 }
 
+// The shift of one vertex, where the words are its id and three components: read in one go. None says nothing.
+fn whole_shift(words: Words<'_>) -> Option<Directive>
+    ensures four { IfSome result (λ _. length (words_left words.entry) ≡ 4) }
+    ensures value { IfSome result (λ d. spec.shift_one_of (words_left words.entry) ≡ Ok d) }
+{
+    let mut words = words;
+    let Ok(v) = number_at(&mut words, 1, ID_MAX) else {
+        return None;
+    };
+    let Ok(x) = signed_at(&mut words, SHIFT_MAX) else {
+        return None;
+    };
+    let Ok(y) = signed_at(&mut words, SHIFT_MAX) else {
+        return None;
+    };
+    let Ok(z) = signed_at(&mut words, SHIFT_MAX) else {
+        return None;
+    };
+    let None = words.next() else {
+        return None;
+    };
+    let by = shift_with(x, y, z);
+    Some(Directive::ShiftOne { v, by })
+}
+
 #[tactic(auto, unfolding(crate::specs::Steps::shift_of))]
 fn shift(words: Words<'_>) -> Result<Directive, TextWhy>
     ensures { result ≡ spec.shift_of (words_left words.entry) }
@@ -77,11 +102,15 @@ fn shift(words: Words<'_>) -> Result<Directive, TextWhy>
     let Some(who) = behind.next() else {
         return Err(TextWhy::Short);
     };
-    count_is(3, behind)?;
     if is_word(who, b"all") {
+        count_is(3, behind)?;
         let by = shift_at(behind)?;
         return Ok(Directive::ShiftAll { by });
     }
+    if let Some(one) = whole_shift(words) {
+        return Ok(one);
+    }
+    count_is(3, behind)?;
     shift_one(words)
 }
 
