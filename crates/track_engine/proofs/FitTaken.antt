@@ -21,7 +21,7 @@ use Rattle.outside_io.specs.Outside.{Around, StoresNothing, holds_of, written_of
 use Rattle.outside_io.specs.declared.stop.Stop.{Stop}
 use Rattle.outside_io.specs.Sink.{appended}
 use Rattle.pass_run.specs.declared.passing.PassCount.{PassCount}
-use Rattle.pass_run.specs.PassLines.{refused_in}
+use Rattle.pass_run.specs.PassLines.{done_in, refused_in}
 use Rattle.pass_run.specs.Fits.{fit_rules, fit_lines, mesh_after_fit, AreWanted, AreFitLines, Fits}
 use Rattle.log_write.proofs.WrittenLines.{written_whole}
 use Rattle.track_engine.specs.declared.open_group.OpenGroup.{OpenGroup}
@@ -31,7 +31,8 @@ use Rattle.track_engine.specs.Answers.{Answer, Nothing, NoSuchField, FieldShifts
 use Rattle.track_engine.specs.Answered.{Known, is_fit, AreWantedIn}
 use Rattle.track_engine.specs.Effects.{Proceeds, fit_effect, fitted_lines, fitted_mesh, fail_if}
 use Rattle.track_engine.specs.Invariant.{left_by}
-use Rattle.track_engine.specs.Parts.{AdvancesAnswered, FitTakes, Tells}
+use Rattle.track_engine.specs.Parts.{AdvancesAnswered, FitTakes, FitTells, Tells}
+use Rattle.track_engine.specs.Told.{fit_told, pass_untold}
 use Rattle.track_engine.proofs.NoFiles.{NoFiles, files_of-none, logs_from_said, stops_from_said}
 use Rattle.track_engine.proofs.Passing.{fit_replays, fit_names_none}
 
@@ -86,8 +87,12 @@ module _ (may_size : Point → Band → Type 0) (s : State) (grouped : Bool) (sa
     written_whole old new f.lines f.said.1,
   )
 
+  -- what it tells, by its lines
+  told_is : (wants : ℕ × ℕ → Want) (count : PassCount) → count.done ≡ done_in (fitted_lines wants (edges s.mesh) s) → count.refused ≡ refused_in (fitted_lines wants (edges s.mesh) s) → count ≡ fit_told wants s
+  told_is wants count done refused = λ i. record { done = done i; refused = refused i }
+
   pub fit_taken : (m : Mesh) (asked : Shifts) (groups : List Group) (count : PassCount) (old new : Option (List ℕ)) → Fits {E = Stop} may_size s.set.depth grouped s.mesh m old new (Ok count) → asked ≡ asked_in m s.asked
-      → groups ≡ fail_if (nat_lt 0 count.refused) s.groups → FitTakes may_size s (record s { mesh = m; asked = asked; groups = groups }) old new (Ok None)
+      → groups ≡ fail_if (nat_lt 0 count.refused) s.groups → FitTells may_size s (record s { mesh = m; asked = asked; groups = groups }) old new (Ok count)
   fit_taken m asked groups count old new f rest failed =
       let told = all_lines f.lines f.end f.fit in
       let left = fitted_mesh f.fit.wants (edges s.mesh) s in
@@ -95,7 +100,13 @@ module _ (may_size : Point → Band → Type 0) (s : State) (grouped : Bool) (sa
       let asks : asked ≡ asked_in left s.asked = rest ∙ ap (λ n. asked_in n s.asked) mesh in
       let fails : groups ≡ fail_if (nat_lt 0 (refused_in (fitted_lines f.fit.wants (edges s.mesh) s))) s.groups =
       failed ∙ ap (λ n. fail_if (nat_lt 0 n) s.groups) (f.refused ∙ ap refused_in told) in
-      (f.fit.wants, all_wanted f.lines f.end f.fit, λ i. record s { mesh = mesh i; asked = asks i; groups = fails i }, f.said.1 ∙ ap (λ l. appended old (text_of_lines l)) told)
+      let tells = told_is f.fit.wants count (f.done ∙ ap done_in told) (f.refused ∙ ap refused_in told) in
+      (f.fit.wants, all_wanted f.lines f.end f.fit, λ i. record s { mesh = mesh i; asked = asks i; groups = fails i }, f.said.1 ∙ ap (λ l. appended old (text_of_lines l)) told, tells)
+
+-- with nothing told
+pub fit_untold : (may_size : Point → Band → Type 0) (s t : State) (old new : Option (List ℕ)) (r : Result PassCount Stop) → FitTells may_size s t old new r → FitTakes may_size s t old new (pass_untold r)
+fit_untold may_size s t old new (Ok count) tells = (tells.0, tells.1, tells.2, tells.3)
+fit_untold may_size s t old new (Err stop) tells = tells
 
 -- its lines name no file
 names_none : (s : State) (given : Answer) (lines : List LogLine) → Tells (fit_effect given s) lines → NoFiles lines

@@ -22,6 +22,8 @@ use Rattle.track_engine.specs.Effects.{after_step, passed_lines, after_pass, fit
 use Rattle.log_write.specs.Written.{WrittenInPart}
 use Rattle.track_engine.specs.Saved.{Target}
 use Rattle.track_engine.specs.World.{Contents, Logs, StopsIn}
+use Rattle.track_engine.specs.Told.{fit_told}
+use Rattle.pass_run.specs.declared.passing.PassCount.{PassCount}
 
 -- the line of a replay's mesh is written and the mesh is stored, or it stops in that
 abbrev pub Saves : {T : Type 0} → Target → ℕ → Replay → Contents → Contents → Result T Stop → Type 0
@@ -129,3 +131,14 @@ FitTakes may_size old_state new_state old new (Ok (Some why)) = ⊥
 FitTakes may_size old_state new_state old new (Err stop) =
     (given : Answer) × IsAnswerToFit may_size false old_state given × (lines : List LogLine)
     × Tells (fit_effect given old_state) lines × WrittenInPart old new lines
+
+-- the same, with what it tells: how many of its lines are of done edits, and how many of refused ones
+abbrev pub FitTells : (Point → Band → Type 0) → State → State → Option (List ℕ) → Option (List ℕ) →
+    Result PassCount Stop → Type 0
+FitTells may_size old_state new_state old new (Ok count) =
+    (wants : ℕ × ℕ → Want) × AreWantedIn may_size old_state wants (edges old_state.mesh)
+    × (new_state ≡ after_fit wants (edges old_state.mesh) old_state)
+    × (new ≡ appended old (text_of_lines (fitted_lines wants (edges old_state.mesh) old_state)))
+    × (count ≡ fit_told wants old_state)
+FitTells may_size old_state new_state old new (Err stop) =
+    FitTakes may_size old_state new_state old new (Err stop)

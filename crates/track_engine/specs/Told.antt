@@ -1,13 +1,15 @@
 -- What a step and a pass tell of themselves.
-use Rattle.std.specs.Prelude.{length, Option, Some, None, Result, Ok, Err}
+use Rattle.std.specs.Prelude.{ℕ, length, Option, Some, None, Result, Ok, Err}
 use Rattle.mesh_base.specs.declared.UseWhy.{UseWhy}
+use Rattle.mesh_base.specs.Pairs.{edges}
+use Rattle.mesh_sizing.specs.declared.sizing.Want.{Want}
 use Rattle.edit_base.specs.declared.PassKind.{PassKind}
 use Rattle.outside_io.specs.declared.stop.Stop.{Stop}
 use Rattle.pass_run.specs.declared.passing.PassCount.{PassCount}
 use Rattle.pass_run.specs.PassLines.{done_in, refused_in}
 use Rattle.track_engine.specs.declared.told.StepTold.{StepTold}
 use Rattle.track_engine.specs.State.{State}
-use Rattle.track_engine.specs.Effects.{hits, taken, passed_lines}
+use Rattle.track_engine.specs.Effects.{hits, taken, passed_lines, fitted_lines}
 
 -- how the step is taken, and how many pairs have a `hit` line
 abbrev pub step_told : State → StepTold
@@ -17,6 +19,13 @@ step_told s = record { how = (taken s).how; hits = length (hits s) }
 abbrev pub pass_told : PassKind → State → PassCount
 pass_told kind s =
     record { done = done_in (passed_lines kind s); refused = refused_in (passed_lines kind s) }
+
+-- the same of a pass by a sizing, by what that wants of each edge
+abbrev pub fit_told : (ℕ × ℕ → Want) → State → PassCount
+fit_told wants s = record {
+  done = done_in (fitted_lines wants (edges s.mesh) s);
+  refused = refused_in (fitted_lines wants (edges s.mesh) s);
+}
 
 -- what a step answers as a directive
 abbrev pub step_untold : Result (Result StepTold UseWhy) Stop → Result (Option UseWhy) Stop

@@ -2,7 +2,7 @@ ghost use Rattle.std.specs.Prelude.{◌≡◌, ◌≤◌, ◌<◌, ◌+◌, ◌^
 ghost use Rattle.grid_base.specs.declared.TheConstants.{DECIMALS_MAX};
 ghost use Rattle.mesh_base.specs.Kept.{BeginsWith};
 ghost use Rattle.mesh_field.specs.Stored.{IsWellKept};
-ghost use Rattle.mesh_sizing.specs.Sizes.{IsWellKept as SizesWell, MayAnswer as MaySize};
+ghost use Rattle.mesh_sizing.specs.Sizes.{IsWellKept as SizesWell};
 ghost use Rattle.step_text.specs.Ranges.{IsInRange};
 ghost use Rattle.step_choose.specs.Chosen.{way_of};
 ghost use Rattle.log_write.specs.Written.{Says};
@@ -13,7 +13,7 @@ ghost use Rattle.track_engine.specs.Effects.{effect_of, sum_of_all, is_whole, mo
 ghost use Rattle.track_engine.specs.Engines.{state_in};
 ghost use Rattle.track_engine.specs.Groups.{failed_if};
 ghost use Rattle.track_engine.specs.Invariant.{HasRoom, MarksHold, left_by};
-ghost use Rattle.track_engine.specs.Parts.{Advances, HasAdvanced, StepTakes, PassTakes, FitTakes};
+ghost use Rattle.track_engine.specs.Parts.{Advances, HasAdvanced, StepTakes, PassTakes};
 ghost use Rattle.track_engine.specs.Placing.{CanPlace};
 ghost use Rattle.track_engine.specs.Ready.{IsReady};
 ghost use Rattle.track_engine.specs.Shifting.{AsksNow};
@@ -33,9 +33,9 @@ use grid_base::{Point, Shift};
 use log_text::LogLine;
 use log_write::write_line;
 use mesh_base::{How, Shifts, Surface, UseWhy};
-use mesh_sizing::{Band, Sizing};
+use mesh_sizing::Band;
 use outside_io::{Outside, Stop};
-use pass_run::{PassCount, PassTerms, Turns, fit_to, pass_to};
+use pass_run::{PassCount, PassTerms, pass_to};
 use std::alloc::Global;
 use step_choose::{Choice, choose_by_hits};
 use step_text::Directive;
@@ -133,7 +133,14 @@ impl<S: Surface> Engine<S> {
             .near
             .asked_hits(alloc, &self.mesh, &self.run.asked, depth)?;
         say_hits(alloc, hits.as_slice(), outside)?;
-        let choice = choose_by_hits(alloc, &self.mesh, &self.run.asked, hits, &self.run.set)?;
+        let choice = choose_by_hits(
+            alloc,
+            &self.mesh,
+            &self.near,
+            &self.run.asked,
+            hits,
+            &self.run.set,
+        )?;
         let still = no_shifts(alloc, &self.mesh)?;
         let told = StepTold {
             how: choice.how,
@@ -213,35 +220,6 @@ impl<S: Surface> Engine<S> {
     {
         let told = self.pass(alloc, kind, outside);
         pass_untold(told)
-    }
-
-    // A pass by the sizing over the mesh is made, each line of it written. In a group its first `no` line ends it, and makes the group
-    // fail.
-    fn take_fit<O: Outside, G: Fn(Point) -> Band>(
-        &mut self,
-        alloc: Global,
-        sizing: &Sizing<G>,
-        outside: &mut O,
-    ) -> Result<Option<UseWhy>, Stop>
-        requires ready { IsReady S.beyond S.mesh S.kept self.old }
-        requires sizing { SizesWell G.Fn sizing.now }
-        ensures fits { FitTakes (MaySize G.Fn sizing.now)
-            (state_in S.mesh S.kept self.old) (state_in S.mesh S.kept self.new)
-            (written_of (O.around outside.old)) (written_of (O.around outside.new)) result }
-        ensures marks { MarksHold S.beyond (S.kept self.new.mesh) self.new.run.groups }
-        ensures begins { BeginsWith (S.kept self.new.mesh) (S.kept self.old.mesh) }
-        ensures nothing_stored { StoresNothing (O.around outside.old) (O.around outside.new) result }
-    {
-        let turns = Turns {
-            by: sizing,
-            depth: self.run.set.depth,
-            grouped: self.run.groups.is_open(),
-        };
-        let count = fit_to(alloc, &mut self.mesh, turns, outside)?;
-        let asked = asked_in(alloc, &self.mesh, self.run.asked.as_slice())?;
-        self.run.asked = asked;
-        self.run.groups.fail_if(count.refused > 0);
-        Ok(None)
     }
 
     // Does one directive to which neither a field nor the sizing answers, a drive as one of no field: its lines are written, or it is

@@ -8,6 +8,7 @@
 mod directing;
 mod driving;
 mod engine;
+mod fitting;
 mod following;
 mod grouping;
 pub mod laws;
