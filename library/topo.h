@@ -45,11 +45,16 @@ enum {
     TOPO_OUTSIDE = 10,       /* a: the point of this number, from 1, is not in the box */
     TOPO_MANY_VERTICES = 11, /* a: so many points, or 2^32 - 1; at most 65,536 */
     TOPO_MANY_FACES = 12,    /* a: so many faces, or 2^32 - 1; at most 131,072 */
-    TOPO_CORNER = 13,        /* face a, corner b, both from 1: no such point */
+    TOPO_CORNER = 13,        /* face a, corner b, from 1: no such point; a face is told by its id, which topo_new counts from 1 */
     TOPO_REPEATED = 14,      /* face a has a corner twice */
     TOPO_DOUBLED = 15,       /* faces a and b are equal */
     TOPO_UNBALANCED = 16,    /* the faces do not run as often from vertex a to b as back: the surface is not closed */
-    TOPO_MEETS = 17          /* the edge from a to b meets the face c: the first such pair */
+    TOPO_MEETS = 17,         /* the edge from a to b meets the face c: the first such pair */
+    TOPO_NEXT_VERTEX = 18,   /* a, the id of the next vertex, is 0 or above 2^31 + 1 */
+    TOPO_NEXT_FACE = 19,     /* the same of the next face */
+    TOPO_VERTEX_ORDER = 20,  /* the id of the vertex at place a, from 1, is 0, or not above the one before, or not below that of the next vertex */
+    TOPO_FACE_ORDER = 21,    /* the same of the face at place a */
+    TOPO_NOT_SOLID = 22      /* vertex a, which is to be solid, does not live, or is not above the one before */
 };
 
 /* How a step was taken: the member `how` of a way. */
@@ -91,6 +96,7 @@ struct topo_vertex { uint32_t id; int32_t x, y, z; };
 struct topo_face { uint32_t id, a, b, c; };         /* corners: ids of vertices */
 struct topo_way { uint32_t how, times; size_t hits; };  /* hits: how many pairs did not pass in the asked step */
 struct topo_edits { uint64_t done, refused; };          /* of a pass; an edit that is not safe is refused, and the log says why */
+struct topo_counted { size_t log; uint32_t vertices, faces, next_vertex, next_face, steps; };  /* log: bytes */
 struct topo_five { struct topo_point a, b, c, d, e; };  /* an edge from a to b, and a triangle with the corners c, d and e */
 struct topo_event { uint32_t kind, a, b, c, d; int32_t x, y, z; };  /* members that a kind does not name are 0 */
 
@@ -98,6 +104,12 @@ struct topo_event { uint32_t kind, a, b, c, d; int32_t x, y, z; };  /* members t
  * held is freed first; where none is made, it holds none. */
 uint32_t topo_new(const struct topo_point *points, size_t point_count, const struct topo_triangle *faces, size_t face_count,
                   struct topo *out, struct topo_fault *fault);
+/* The same of vertices and faces that keep their ids, each list by rising id, with the solid vertices, rising, and the ids that come next, as
+ * topo_points, topo_faces, topo_solids and topo_counts tell them: the tracker goes on where that one was left. Nothing is asked of its
+ * vertices, its settings are the first, and its steps count from 1. */
+uint32_t topo_new_numbered(const struct topo_vertex *points, size_t point_count, const struct topo_face *faces, size_t face_count,
+                           const uint32_t *solids, size_t solid_count, uint32_t next_vertex, uint32_t next_face,
+                           struct topo *out, struct topo_fault *fault);
 /* Frees the tracker, if there is one. The handle then holds none. */
 void topo_free(struct topo *t);
 
@@ -122,8 +134,8 @@ uint32_t topo_flip(struct topo *t, struct topo_edits *edits, struct topo_fault *
 uint32_t topo_zip(struct topo *t, uint32_t within, struct topo_edits *edits, struct topo_fault *fault);
 uint32_t topo_pinch(struct topo *t, struct topo_edits *edits, struct topo_fault *fault);
 /* Splits each edge that is longer than `high` and collapses each that is shorter than `low`, each at its turn; TOPO_RANGE unless `low` is
- * below `high` and that at most 2^30. An edit that is not safe is left out, as in the passes above. It is never refused, and tells no number. */
-uint32_t topo_fit(struct topo *t, uint32_t low, uint32_t high);
+ * below `high` and that at most 2^30. An edit that is not safe is left out, as in the passes above. It is never refused. */
+uint32_t topo_fit(struct topo *t, uint32_t low, uint32_t high, struct topo_edits *edits);
 /* The vertex does not move from here on, unless the group in which it was made solid is taken back. The id is from 1 to 2^31. */
 uint32_t topo_solid(struct topo *t, uint32_t vertex, struct topo_fault *fault);
 /* What is done between is kept whole, or taken back where a step was not whole or an edit was left out; `kept` is set to which. Groups
@@ -135,8 +147,8 @@ uint32_t topo_close(struct topo *t, uint32_t *kept, struct topo_fault *fault);
 /* Reading. Room and size are numbers of items. `size` is set to how many there are, also where they do not fit: then the answer is
  * TOPO_RANGE, nothing is put into the buffer, and nothing is lost. TOPO_NO_MEMORY, TOPO_EMPTY and TOPO_UNREAD set nothing. */
 
-/* How many vertices and faces live, and how many bytes the log has since it was last taken. */
-uint32_t topo_counts(struct topo *t, uint32_t *vertices, uint32_t *faces, size_t *log);
+/* How many bytes the log has since it was last taken, how many vertices and faces live, which ids come next, and how many steps were taken. */
+uint32_t topo_counts(struct topo *t, struct topo_counted *counts);
 /* The live vertices and faces, by rising id. */
 uint32_t topo_points(struct topo *t, struct topo_vertex *into, size_t room, size_t *size);
 uint32_t topo_faces(struct topo *t, struct topo_face *into, size_t room, size_t *size);

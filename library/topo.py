@@ -38,6 +38,7 @@ Vertex = struct("Vertex", id=u32, x_y_z=i32)
 Face = struct("Face", id_a_b_c=u32)
 Way = struct("Way", how_times=u32, hits=size_t)
 Edits = struct("Edits", done_refused=ctypes.c_uint64)
+Counted = type("Counted", (ctypes.Structure,), {"_fields_": [("log", size_t)] + [(word, u32) for word in ("vertices", "faces", "next_vertex", "next_face", "steps")]})
 Event = struct("Event", kind_a_b_c_d=u32, x_y_z=i32)
 
 
@@ -46,14 +47,20 @@ class TopoError(Exception):
 
 
 class Tracker:
-    """A tracker of a closed surface that does not meet itself: `points`, and faces of three numbers of points from 1. Freed at the end of a `with`
-    block, or by `free`."""
+    """A tracker of a closed surface that does not meet itself: `points`, and faces of three numbers of points from 1; or, in the place of both, what
+    `leave` told of another, which goes on with its ids. Freed at the end of a `with` block, or by `free`."""
 
-    def __init__(self, points, faces, unit=1.0, origin=(0.0, 0.0, 0.0), library=None):
+    def __init__(self, points, faces=(), unit=1.0, origin=(0.0, 0.0, 0.0), library=None):
         beside = os.path.join(os.path.dirname(os.path.abspath(__file__)), "out/libtopo.so")
         self.library = ctypes.CDLL(library or os.environ.get("TOPO_LIBRARY", beside))
         self.handle, self.fault, self.way, self.edits, self.kept = Handle(), Fault(), Way(), Edits(), u32()
         self.unit, self.origin, self.rounded = unit, origin, 0.0
+        if isinstance(points, Left):
+            rows, left = (Vertex * len(points.vertices))(*points.vertices), points
+            triangles, solids = (Face * len(left.faces))(*left.faces), (u32 * len(left.solids))(*left.solids)
+            lists = (part for rows in (rows, triangles, solids) for part in (rows, size_t(len(rows))))
+            self.must("topo_new_numbered", self.library.topo_new_numbered(*lists, u32(left.next_vertex), u32(left.next_face), ref(self.handle), ref(self.fault)))
+            return
         rows = (Point * len(points))(*(self.to_grid(p) for p in points))
         triangles = (Triangle * len(faces))(*(tuple(map(int, f)) for f in faces))
         self.must("topo_new", self.library.topo_new(rows, size_t(len(rows)), triangles, size_t(len(triangles)), ref(self.handle), ref(self.fault)))
@@ -143,8 +150,9 @@ class Tracker:
         return self.edit("pinch")
 
     def fit(self, low, high):
-        """Splits each longer edge and collapses each shorter one; it tells no number."""
-        self.call("topo_fit", self.length(low), self.length(high))
+        """Splits each longer edge and collapses each shorter one, and tells how many edits were done and refused."""
+        self.call("topo_fit", self.length(low), self.length(high), ref(self.edits))
+        return self.edits.done, self.edits.refused
 
     def solid(self, vertex):
         self.call("topo_solid", u32(vertex), ref(self.fault))
@@ -171,6 +179,18 @@ class Tracker:
         rows = (kind * size.value).from_buffer(rows)
         return numpy.ctypeslib.as_array(rows) if numpy and size.value else Rows(rows)
 
+    def counts(self):
+        """The bytes of the log, the live vertices and faces, the ids that come next, and the steps taken, by name."""
+        counted = Counted()
+        self.call("topo_counts", ref(counted))
+        return {name: getattr(counted, name) for name, _ in Counted._fields_}
+
+    def leave(self):
+        """All that another tracker needs to go on with the same ids, in grid units."""
+        counts = self.counts()
+        rows = [self.rows(name, kind).tolist() for name, kind in (("topo_points", Vertex), ("topo_faces", Face), ("topo_solids", u32))]
+        return Left(*rows, counts["next_vertex"], counts["next_face"])
+
     def vertices(self):
         """Where each live vertex stands, by its id."""
         return {row[0]: self.from_grid(row[1:]) for row in self.rows("topo_points", Vertex).tolist()}
@@ -188,6 +208,14 @@ class Tracker:
 
     def log(self):
         return bytes(self.rows("topo_log", ctypes.c_ubyte).tolist()).decode()
+
+
+class Left:
+    """A surface as `leave` tells it: rows of vertices and of faces with their ids, the solid vertices, and the ids that come next."""
+
+    def __init__(self, vertices, faces, solids, next_vertex, next_face):
+        self.vertices, self.faces, self.solids = [tuple(row) for row in vertices], [tuple(row) for row in faces], list(solids)
+        self.next_vertex, self.next_face = next_vertex, next_face
 
 
 class Rows:

@@ -21,5 +21,6 @@ pub mod Relinked
 pub mod Raised
 pub mod Freed
 pub mod StateLaws
+pub mod Numbers
 pub mod Ledgers
 pub mod Kept

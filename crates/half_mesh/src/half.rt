@@ -89,6 +89,8 @@ impl HalfMesh {
     ghost use Rattle.mesh_base.specs.Mesh.{IsLiveVertex, IsLiveFace};
     ghost use Rattle.mesh_base.specs.Sides.{faces_at};
     ghost use Rattle.mesh_base.specs.Changes.{with_point};
+    ghost use Rattle.mesh_plain.specs.Numbered.{numbered};
+    ghost use Rattle.grid_base.specs.declared.TheConstants.{ID_MAX};
     ghost use Rattle.half_mesh.specs.Half.{mesh_in, kept_in, state_in, spare_in};
     ghost use Rattle.half_mesh.specs.States.{none_buried, with_mesh, without_solid, bury_face, bury_vertex, raise_face, raise_vertex, unmake_face, unmake_vertex, CanRaiseFace, CanRaiseVertex, CanUnmakeFace, CanUnmakeVertex};
 
@@ -183,6 +185,21 @@ impl HalfMesh {
         ensures spare { spare_in self.old ≤ spare_in self.new }
     {
         self.now.forget();
+    }
+
+    /// Sets which ids the next vertex and the next face get: none that is below the next one so far, and at most one above
+    /// `ID_MAX`. So a mesh can be made again with the ids that it had. Takes no memory.
+    pub fn set_next(&mut self, next_vertex: u32, next_face: u32)
+        requires vertex { (mesh_in self.old).next_vertex ≤ next_vertex }
+        requires face { (mesh_in self.old).next_face ≤ next_face }
+        requires vertex_made { next_vertex ≤ (ID_MAX + 1) }
+        requires face_made { next_face ≤ (ID_MAX + 1) }
+        ensures state { state_in self.new ≡ with_mesh (state_in self.old)
+            (numbered (mesh_in self.old) next_vertex next_face) }
+        ensures kept { kept_in self.new ≡ kept_in self.old }
+        ensures spare { spare_in self.old ≤ spare_in self.new }
+    {
+        self.now.number(next_vertex, next_face);
     }
 
     /// Finds memory for so many additions: while `spare` is above 0 they don't answer that memory is wanting, and each

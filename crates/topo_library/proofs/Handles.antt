@@ -4,6 +4,7 @@ use Rattle.mesh_sizing.specs.declared.sizing.Band.{Band}
 use Rattle.step_text.specs.declared.Directive.{Directive}
 use Rattle.track_held.specs.declared.given.NamedPoint.{NamedPoint}
 use Rattle.topo_library.specs.declared.fault.TopoFault.{TopoFault}
+use Rattle.topo_library.specs.declared.telling.TopoEdits.{TopoEdits}
 use Rattle.topo_library.specs.declared.tracker.Tracker.{Tracker}
 use Rattle.step_choose.specs.declared.Settings.{Settings}
 use Rattle.topo_library.specs.Codes.{HasDone, HandleHasDone, HasTold, HandleHasTold, HasSet, HandleHasSet, HasFitted, HandleHasFitted, HasForgotten, HandleHasForgotten, HasShiftedEach, HandleHasShiftedEach, HasTakenLog, HandleHasTakenLog}
@@ -21,8 +22,8 @@ module _ (old new : Option Tracker) (s t : Tracker) (held : old ≡ Some s) (hol
   pub sets : (set : Settings) (code : ℕ) → HasSet set s t code → HandleHasSet set old new code
   sets set code h = let P : Option Tracker → Type 0 = λ o. HandleHasSet set o new code in subst P (sym held) (t, holds, h)
 
-  pub fits : (band : Band) (code : ℕ) → HasFitted band s t code → HandleHasFitted band old new code
-  fits band code h = let P : Option Tracker → Type 0 = λ o. HandleHasFitted band o new code in subst P (sym held) (t, holds, h)
+  pub fits : (band : Band) (before after : TopoEdits) (code : ℕ) → HasFitted band s t before after code → HandleHasFitted band old new before after code
+  fits band before after code h = let P : Option Tracker → Type 0 = λ o. HandleHasFitted band o new before after code in subst P (sym held) (t, holds, h)
 
   pub forgets : HasForgotten s t → HandleHasForgotten old new 0
   forgets h = let P : Option Tracker → Type 0 = λ o. HandleHasForgotten o new 0 in subst P (sym held) (refl, (t, holds, h))

@@ -9,7 +9,10 @@ use Rattle.mesh_base.specs.Valid.{IsValidSurface}
 use Rattle.mesh_base.specs.declared.UseWhy.{UseWhy}
 use Rattle.mesh_journal.specs.Journal.{mesh_in, kept_in}
 use Rattle.mesh_sizing.specs.declared.sizing.Band.{Band}
+use Rattle.mesh_rows.specs.declared.rows.MeshRows.{MeshRows}
+use Rattle.mesh_rows.specs.Rows.{mesh_of_rows}
 use Rattle.outside_io.specs.declared.stop.Stop.TheVariants.{NoMemory}
+use Rattle.pass_run.specs.declared.passing.PassCount.{PassCount}
 use Rattle.step_choose.specs.declared.TheConstants.{PASSES_MAX}
 use Rattle.step_choose.specs.declared.Settings.{Settings}
 use Rattle.step_text.specs.declared.Directive.{Directive}
@@ -18,18 +21,23 @@ use Rattle.track_engine.specs.State.{State, unsaved}
 use Rattle.track_engine.specs.Engines.{state_in}
 use Rattle.track_engine.specs.Effects.{effect_of}
 use Rattle.track_engine.specs.Invariant.{IsRunInvariant, HasRoom}
-use Rattle.track_engine.specs.Parts.{Writes}
+use Rattle.track_engine.specs.Parts.{Writes, FitTells}
 use Rattle.track_held.specs.declared.given.GivenPoint.{GivenPoint}
 use Rattle.track_held.specs.declared.given.GivenFace.{GivenFace}
 use Rattle.track_held.specs.declared.given.NamedPoint.{NamedPoint}
 use Rattle.track_held.specs.declared.making.MakeFault.{MakeFault}
+use Rattle.track_held.specs.declared.making_numbered.NumberedFault.{NumberedFault}
 use Rattle.track_held.specs.declared.events.Event.{Event}
 use Rattle.track_held.specs.Asking.{CanBeAsked, asking, CanAllBeAsked, asking_all}
 use Rattle.track_held.specs.Events.{with_first_line, events_in}
-use Rattle.track_held.specs.Fitting.{FitWrites, always}
+use Rattle.track_held.specs.Fitting.{always}
 use Rattle.track_held.specs.Given.{given_mesh, make_fault}
 use Rattle.track_held.specs.Held.{engine_in, log_in, goes_on}
-use Rattle.topo_library.specs.Faults.{make_place, use_place}
+use Rattle.track_held.specs.Numbered.{numbered_fault}
+use Rattle.topo_library.specs.Faults.{make_place, numbered_place, use_place}
+use Rattle.topo_library.specs.Tellings.{edits_told}
+use Rattle.topo_library.specs.declared.telling.TopoEdits.{TopoEdits}
+use Rattle.topo_library.specs.declared.telling.TopoCounted.{TopoCounted}
 use Rattle.topo_library.specs.declared.fault.TopoFault.{TopoFault}
 use Rattle.topo_library.specs.declared.tracker.Tracker.{Tracker}
 
@@ -109,14 +117,19 @@ HandleHasTold tell (Some s) before after code = HasTold tell s before after code
 
 -- What a code says of a call that makes a pass by a band of lengths with the tracker s, which then
 -- is t. It is never refused.
-pub record HasFitted (band : Band) (s t : Tracker) (code : ℕ) : Type 0 where
-  -- 0: its lines were told, and the tracker stands in the state after it
+pub record HasFitted (band : Band) (s t : Tracker) (before after : TopoEdits) (code : ℕ)
+    : Type 0 where
+  -- 0: its lines were told, the tracker stands in the state after it, and it is told how many of
+  -- the lines are of done edits, and of refused ones
   pub done : code ≡ 0 →
-      FitWrites (always band) (tracked s) (tracked t) (Some (told s)) (Some (told t)) (Ok None)
+      (count : PassCount) × (after ≡ edits_told count)
+      × FitTells (always band) (tracked s) (tracked t) (Some (told s)) (Some (told t)) (Ok count)
   -- 1: there was no memory: nothing was told, or a part of its lines, and the tracker is stopped
   pub memory : code ≡ 1 →
-      FitWrites (always band) (tracked s) (tracked t) (Some (told s)) (Some (told t)) (Err NoMemory)
+      FitTells (always band) (tracked s) (tracked t) (Some (told s)) (Some (told t)) (Err NoMemory)
       × ¬ GoesOn t
+  -- but at 0 no number is told
+  pub untold : code ≢ 0 → after ≡ before
   -- the rest as of a directive
   pub stopped : code ≡ 5 ↔ ¬ GoesOn s
   pub spent : code ≡ 6 ↔ (GoesOn s × ¬ HasRoomLeft s)
@@ -126,9 +139,11 @@ pub record HasFitted (band : Band) (s t : Tracker) (code : ℕ) : Type 0 where
   pub among : (code ≡ 0) ⊎ (code ≡ 1) ⊎ (code ≡ 5) ⊎ (code ≡ 6)
 
 -- the same of a handle
-abbrev pub HandleHasFitted : Band → Option Tracker → Option Tracker → ℕ → Type 0
-HandleHasFitted band None new code = (code ≡ 4) × (new ≡ None)
-HandleHasFitted band (Some s) new code = (t : Tracker) × (new ≡ Some t) × HasFitted band s t code
+abbrev pub HandleHasFitted : Band → Option Tracker → Option Tracker → TopoEdits → TopoEdits → ℕ →
+    Type 0
+HandleHasFitted band None new before after code = (code ≡ 4) × (new ≡ None) × (after ≡ before)
+HandleHasFitted band (Some s) new before after code =
+    (t : Tracker) × (new ≡ Some t) × HasFitted band s t before after code
 
 -- ---- settings
 
@@ -221,6 +236,23 @@ pub record HasMade (points : List GivenPoint) (faces : List GivenFace) (new : Op
   -- 1 is want of memory, and no other code comes
   pub among : (code ≡ 0) ⊎ (code ≡ 1) ⊎ (code ≡ 2)
 
+-- What a code says of a call that makes a tracker of vertices and faces with their ids. These are
+-- the rows, of which the vertices are given so.
+pub record HasMadeNumbered (points : List NamedPoint) (rows : MeshRows) (new : Option Tracker)
+    (before after : TopoFault) (code : ℕ) : Type 0 where
+  -- 0: they have no fault, and the handle holds a tracker of their mesh
+  pub made : code ≡ 0 → (numbered_fault points rows ≡ None) × IsMade (mesh_of_rows rows) new
+  -- 2: the fault is the first that they have
+  pub refused : code ≡ 2 →
+      (why : NumberedFault) × (numbered_fault points rows ≡ Some why) × (after ≡ numbered_place why)
+  -- and that is so, without memory, where there are too many vertices
+  pub crowded : VERTICES_MAX < length points → code ≡ 2
+  -- but at 0 the handle holds none, and only a refusal sets the fault
+  pub none : code ≢ 0 → new ≡ None
+  pub fault : code ≢ 2 → after ≡ before
+  -- 1 is want of memory, and no other code comes
+  pub among : (code ≡ 0) ⊎ (code ≡ 1) ⊎ (code ≡ 2)
+
 -- ---- reading
 
 -- What a code says of a call that puts rows into a buffer: what was there before, what is there
@@ -296,22 +328,20 @@ HandleHasPutEvents None new into now before size code =
 HandleHasPutEvents (Some t) new into now before size code =
     (new ≡ Some t) × HasPutEvents (with_first_line (told t)) into now before size code
 
--- the live vertices and faces and the bytes of the log
-pub record Counted : Type 0 where
-  pub vertices : ℕ
-  pub faces : ℕ
-  pub log : ℕ
-
--- those of a tracker
-abbrev pub counts_of : Tracker → Counted
+-- the bytes of the log, the live vertices and faces, the ids that come next, and the steps taken
+abbrev pub counts_of : Tracker → TopoCounted
 counts_of t = record {
+  log = length (told t);
   vertices = finite.len (tracked t).mesh.points;
   faces = finite.len (tracked t).mesh.faces;
-  log = length (told t);
+  next_vertex = (tracked t).mesh.next_vertex;
+  next_face = (tracked t).mesh.next_face;
+  steps = (tracked t).steps;
 }
 
 -- they are told of a handle's tracker, which stays: 4 where there is none
-abbrev pub HandleHasCounted : Option Tracker → Option Tracker → Counted → Counted → ℕ → Type 0
+abbrev pub HandleHasCounted : Option Tracker → Option Tracker → TopoCounted → TopoCounted → ℕ →
+    Type 0
 HandleHasCounted None new before after code = (code ≡ 4) × (new ≡ None) × (after ≡ before)
 HandleHasCounted (Some t) new before after code =
     (code ≡ 0) × (new ≡ Some t) × (after ≡ counts_of t)

@@ -7,6 +7,16 @@ use Rattle.mesh_base.specs.declared.UseWhy.{UseWhy}
 use Rattle.mesh_base.specs.declared.UseWhy.TheVariants.{NoVertex, ShiftRange, Box, NoField, Solid}
 use Rattle.track_held.specs.declared.making.MakeFault.{MakeFault}
 use Rattle.track_held.specs.declared.making.MakeFault.TheVariants.{Outside, Shape, Meets}
+use Rattle.track_held.specs.declared.making_numbered.NumberedFault.{NumberedFault}
+use Rattle.track_held.specs.declared.making_numbered.NumberedFault.TheVariants.{Outside as OutsideBox, Rows}
+use Rattle.track_held.specs.declared.making_numbered.NumberedFault.TheVariants.{Meets as MeetsPair}
+use Rattle.mesh_rows.specs.declared.faults.RowsFault.{RowsFault}
+use Rattle.mesh_rows.specs.declared.faults.RowsFault.TheVariants.{TooManyVertices as ManyVertices}
+use Rattle.mesh_rows.specs.declared.faults.RowsFault.TheVariants.{TooManyFaces as ManyFaces}
+use Rattle.mesh_rows.specs.declared.faults.RowsFault.TheVariants.{NoVertex as NoLive, Repeated as Twice}
+use Rattle.mesh_rows.specs.declared.faults.RowsFault.TheVariants.{Doubled as Equal}
+use Rattle.mesh_rows.specs.declared.faults.RowsFault.TheVariants.{Unbalanced as Uneven, NextVertex, NextFace}
+use Rattle.mesh_rows.specs.declared.faults.RowsFault.TheVariants.{VertexOrder, FaceOrder, NotSolid}
 use Rattle.topo_library.specs.declared.fault.TopoFault.{TopoFault}
 
 -- a reason and its place
@@ -32,6 +42,26 @@ abbrev pub make_place : MakeFault → TopoFault
 make_place (Outside number) = fault_at 10 number 0 0
 make_place (Shape fault) = shape_place fault
 make_place (Meets pair) = fault_at 17 pair.a pair.b pair.face
+
+-- what is wrong with rows: of a face and of a vertex that is known by its id, the same as above
+abbrev pub rows_place : RowsFault → TopoFault
+rows_place (ManyVertices count) = fault_at 11 (capped count) 0 0
+rows_place (ManyFaces count) = fault_at 12 (capped count) 0 0
+rows_place (NoLive face corner) = fault_at 13 face corner 0
+rows_place (Twice face) = fault_at 14 face 0 0
+rows_place (Equal first second) = fault_at 15 first second 0
+rows_place (Uneven from to) = fault_at 16 from to 0
+rows_place (NextVertex id) = fault_at 18 id 0 0
+rows_place (NextFace id) = fault_at 19 id 0 0
+rows_place (VertexOrder place) = fault_at 20 place 0 0
+rows_place (FaceOrder place) = fault_at 21 place 0 0
+rows_place (NotSolid v) = fault_at 22 v 0 0
+
+-- what is wrong with vertices and faces with their ids, of which no tracker is made
+abbrev pub numbered_place : NumberedFault → TopoFault
+numbered_place (OutsideBox number) = fault_at 10 number 0 0
+numbered_place (Rows fault) = rows_place fault
+numbered_place (MeetsPair pair) = fault_at 17 pair.a pair.b pair.face
 
 -- why a directive is refused, and for which vertex
 abbrev pub use_place : UseWhy → TopoFault

@@ -176,15 +176,16 @@ pub(crate) fn set(alloc: Global, topo: &mut Topo, set: Settings) -> u32
     code
 }
 
-/// Makes a pass by a band of lengths with the tracker of a handle.
-pub(crate) fn fit(alloc: Global, topo: &mut Topo, band: Band) -> u32
+/// Makes a pass by a band of lengths with the tracker of a handle, and tells how many edits it did and how many were refused.
+pub(crate) fn fit(alloc: Global, topo: &mut Topo, band: Band, edits: &mut TopoEdits) -> u32
     requires { IsBand band }
-    ensures { HandleHasFitted band topo.old.owned.value topo.new.owned.value result }
+    ensures { HandleHasFitted band topo.old.owned.value topo.new.owned.value
+        edits.old edits.new result }
 {
     let Some(mut b) = topo.take(alloc) else {
         return EMPTY;
     };
-    let code = b.fit(alloc, band);
+    let code = b.fit(alloc, band, edits);
     topo.give(b);
     code
 }

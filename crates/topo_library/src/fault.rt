@@ -1,9 +1,10 @@
 //! Why something is refused, for C.
 ghost use Rattle.std.specs.Prelude.{◌≡◌};
-ghost use Rattle.topo_library.specs.Faults.{capped, shape_place, use_place, make_place};
+ghost use Rattle.topo_library.specs.Faults.{capped, shape_place, use_place, make_place, rows_place, numbered_place};
 
 use mesh_base::{ShapeFault, UseWhy};
-use track_held::MakeFault;
+use mesh_rows::RowsFault;
+use track_held::{MakeFault, NumberedFault};
 
 /// Why something is refused: a number for the reason, and up to three numbers that tell its place.
 #[repr(C)]
@@ -55,6 +56,36 @@ pub(crate) fn make_place(fault: MakeFault) -> TopoFault
         MakeFault::Outside { number } => fault_at(10, number, 0, 0),
         MakeFault::Shape(fault) => shape_place(fault),
         MakeFault::Meets(pair) => fault_at(17, pair.a.0, pair.b.0, pair.face.0),
+    }
+}
+
+// What is wrong with rows.
+fn rows_place(fault: RowsFault) -> TopoFault
+    ensures { result ≡ rows_place fault }
+{
+    match fault {
+        RowsFault::TooManyVertices { count } => fault_at(11, capped(count), 0, 0),
+        RowsFault::TooManyFaces { count } => fault_at(12, capped(count), 0, 0),
+        RowsFault::NoVertex { face, corner } => fault_at(13, face.0, corner as u32, 0),
+        RowsFault::Repeated { face } => fault_at(14, face.0, 0, 0),
+        RowsFault::Doubled { first, second } => fault_at(15, first.0, second.0, 0),
+        RowsFault::Unbalanced { from, to } => fault_at(16, from.0, to.0, 0),
+        RowsFault::NextVertex { id } => fault_at(18, id, 0, 0),
+        RowsFault::NextFace { id } => fault_at(19, id, 0, 0),
+        RowsFault::VertexOrder { place } => fault_at(20, place, 0, 0),
+        RowsFault::FaceOrder { place } => fault_at(21, place, 0, 0),
+        RowsFault::NotSolid { v } => fault_at(22, v.0, 0, 0),
+    }
+}
+
+/// What is wrong with vertices and faces with their ids, of which no tracker is made.
+pub(crate) fn numbered_place(fault: NumberedFault) -> TopoFault
+    ensures { result ≡ numbered_place fault }
+{
+    match fault {
+        NumberedFault::Outside { number } => fault_at(10, number, 0, 0),
+        NumberedFault::Rows(fault) => rows_place(fault),
+        NumberedFault::Meets(pair) => fault_at(17, pair.a.0, pair.b.0, pair.face.0),
     }
 }
 

@@ -18,7 +18,8 @@ ghost use Rattle.step_text.specs.declared.Directive.TheVariants as directive;
 ghost use Rattle.edit_base.specs.declared.PassKind.TheVariants as pass;
 ghost use Rattle.track_engine.specs.Told.{step_told, pass_told};
 ghost use Rattle.track_held.specs.Reading.{named_points, named_faces, solid_vertices};
-ghost use Rattle.topo_library.specs.Codes.{tracked, HandleHasDone, HandleHasTold, IsBeyond, AreSettings, HandleHasSet, HandleHasFitted, HandleHasShifted, HandleHasShiftedAll, HandleHasShiftedEach, HasMade, HandleHasPut, HandleHasPutEvents, HandleHasForgotten, HandleHasTakenLog, HandleHasCounted};
+ghost use Rattle.track_held.specs.Numbered.{given_rows};
+ghost use Rattle.topo_library.specs.Codes.{tracked, HandleHasDone, HandleHasTold, IsBeyond, AreSettings, HandleHasSet, HandleHasFitted, HandleHasShifted, HandleHasShiftedAll, HandleHasShiftedEach, HasMade, HasMadeNumbered, HandleHasPut, HandleHasPutEvents, HandleHasForgotten, HandleHasTakenLog, HandleHasCounted};
 ghost use Rattle.topo_library.specs.Tellings.{way_told, edits_told, closing_of, settings_at, band_of};
 
 mod alone;
@@ -28,6 +29,7 @@ mod fault;
 mod handle;
 mod loose;
 mod making;
+mod making_numbered;
 mod owned;
 mod reading;
 mod settings;
@@ -43,11 +45,12 @@ use grid_base::{ID_MAX, LENGTH_MAX};
 use handle::Topo;
 use log_text::VERSION;
 use making::make;
+use making_numbered::{NumberedRows, make_numbered};
 use reading::{count, forget_log, read_events, read_faces, read_log, read_points, read_solids};
 use settings::{band_of, settings_at};
 use std::alloc::Global;
 use step_text::Directive;
-use telling::{TopoEdits, TopoWay};
+use telling::{TopoCounted, TopoEdits, TopoWay};
 use track_held::{Event, GivenFace, GivenPoint, NamedFace, NamedPoint};
 
 /// Makes a tracker of the surface of these points and faces, whose corners number the points from 1, or refuses them for their first fault.
@@ -63,6 +66,33 @@ pub extern "C" fn topo_new(
     ensures { HasMade points.now faces.now out.new.owned.value fault.old fault.new result }
 {
     make(alloc, points, faces, out, fault)
+}
+
+/// Makes a tracker of the surface of these vertices and faces, which keep their ids, of which these vertices are solid, and where the next vertex
+/// and the next face get these ids; or refuses them for their first fault. So a tracker goes on where another was left. What `out` held is
+/// freed first; where no tracker is made, it holds none.
+#[unsafe(no_mangle)]
+pub extern "C" fn topo_new_numbered(
+    alloc: Global,
+    points: &[NamedPoint],
+    faces: &[NamedFace],
+    solids: &[u32],
+    next_vertex: u32,
+    next_face: u32,
+    out: &mut Topo,
+    fault: &mut TopoFault,
+) -> u32
+    ensures { let rows = given_rows points.now faces.now solids.now next_vertex next_face in
+        HasMadeNumbered points.now rows out.new.owned.value fault.old fault.new result }
+{
+    let given = NumberedRows {
+        points,
+        faces,
+        solids,
+        next_vertex,
+        next_face,
+    };
+    make_numbered(alloc, &given, out, fault)
 }
 
 /// Frees a tracker. The handle then holds none.
@@ -275,17 +305,23 @@ pub extern "C" fn topo_pinch(
     pass_with(alloc, topo, PassKind::Pinch, edits, fault)
 }
 
-/// Splits each edge that is longer than `high`, and collapses each that is shorter than `low`, one after another; it tells no number. Where
-/// `low` is not below `high`, or `high` is above `LENGTH_MAX`, they are beyond their limit.
+/// Splits each edge that is longer than `high`, and collapses each that is shorter than `low`, one after another, and tells how many edits were
+/// done and refused. Where `low` is not below `high`, or `high` is above `LENGTH_MAX`, they are beyond their limit.
 #[unsafe(no_mangle)]
-pub extern "C" fn topo_fit(alloc: Global, topo: &mut Topo, low: u32, high: u32) -> u32
+pub extern "C" fn topo_fit(
+    alloc: Global,
+    topo: &mut Topo,
+    low: u32,
+    high: u32,
+    edits: &mut TopoEdits,
+) -> u32
     ensures beyond { ¬ IsBand (band_of low high) →
-        (result ≡ 3) × (topo.new.owned.value ≡ topo.old.owned.value) }
+        (result ≡ 3) × (topo.new.owned.value ≡ topo.old.owned.value) × (edits.new ≡ edits.old) }
     ensures fits { IsBand (band_of low high) → HandleHasFitted (band_of low high)
-        topo.old.owned.value topo.new.owned.value result }
+        topo.old.owned.value topo.new.owned.value edits.old edits.new result }
 {
     match band_of(low, high) {
-        Some(band) => fit(alloc, topo, band),
+        Some(band) => fit(alloc, topo, band, edits),
         None => RANGE,
     }
 }
@@ -331,20 +367,12 @@ pub extern "C" fn topo_close(
     close(alloc, topo, kept, fault)
 }
 
-/// How many vertices and faces live, and how many bytes the log has.
+/// How many vertices and faces live, which ids the next vertex and the next face get, how many steps were taken, and how many bytes the log has.
 #[unsafe(no_mangle)]
-pub extern "C" fn topo_counts(
-    alloc: Global,
-    topo: &mut Topo,
-    vertices: &mut u32,
-    faces: &mut u32,
-    log: &mut usize,
-) -> u32
-    ensures { HandleHasCounted topo.old.owned.value topo.new.owned.value
-        (record { vertices = vertices.old; faces = faces.old; log = log.old })
-        (record { vertices = vertices.new; faces = faces.new; log = log.new }) result }
+pub extern "C" fn topo_counts(alloc: Global, topo: &mut Topo, counts: &mut TopoCounted) -> u32
+    ensures { HandleHasCounted topo.old.owned.value topo.new.owned.value counts.old counts.new result }
 {
-    count(alloc, topo, vertices, faces, log)
+    count(alloc, topo, counts)
 }
 
 /// Puts the live vertices, by rising id, and where they stand into a buffer, where all of them fit, and tells how many they are.

@@ -6,6 +6,7 @@ ghost use Rattle.topo_library.specs.Codes.{tracked, told, HasPut, HandleHasPut, 
 
 use crate::codes::{DONE, EMPTY, NO_MEMORY, RANGE, UNREAD};
 use crate::handle::Topo;
+use crate::telling::TopoCounted;
 use crate::tracker::Tracker;
 use mesh_base::Surface;
 use std::alloc::Global;
@@ -179,24 +180,29 @@ pub(crate) fn read_log(alloc: Global, topo: &mut Topo, into: &mut [u8], size: &m
     code
 }
 
-/// How many vertices and faces live, and how many bytes the log has.
-pub(crate) fn count(
-    alloc: Global,
-    topo: &mut Topo,
-    vertices: &mut u32,
-    faces: &mut u32,
-    log: &mut usize,
-) -> u32
-    ensures { HandleHasCounted topo.old.owned.value topo.new.owned.value
-        (record { vertices = vertices.old; faces = faces.old; log = log.old })
-        (record { vertices = vertices.new; faces = faces.new; log = log.new }) result }
+// How much there is of a tracker.
+fn counts_of(tracker: &Tracker) -> TopoCounted
+    ensures { result ≡ counts_of tracker.now }
+{
+    let mesh = tracker.held.mesh();
+    TopoCounted {
+        log: tracker.held.log().len(),
+        vertices: mesh.vertices(),
+        faces: mesh.faces(),
+        next_vertex: mesh.next_vertex(),
+        next_face: mesh.next_face(),
+        steps: tracker.held.steps(),
+    }
+}
+
+/// How many vertices and faces live, which ids come next, how many steps were taken, and how many bytes the log has.
+pub(crate) fn count(alloc: Global, topo: &mut Topo, counts: &mut TopoCounted) -> u32
+    ensures { HandleHasCounted topo.old.owned.value topo.new.owned.value counts.old counts.new result }
 {
     let Some(b) = topo.take(alloc) else {
         return EMPTY;
     };
-    *vertices = b.held.mesh().vertices();
-    *faces = b.held.mesh().faces();
-    *log = b.held.log().len();
+    *counts = counts_of(b.as_ref());
     topo.give(b);
     DONE
 }

@@ -24,6 +24,19 @@ pub struct TopoEdits {
     pub refused: u64,
 }
 
+/// How much there is of a tracker: the bytes of its log since that was last taken, the live vertices and faces, the ids that the next vertex and
+/// the next face get, and the steps that were taken.
+#[repr(C)]
+#[derive(Clone, Copy, Debug, PartialEq, Eq)]
+pub struct TopoCounted {
+    pub log: usize,
+    pub vertices: u32,
+    pub faces: u32,
+    pub next_vertex: u32,
+    pub next_face: u32,
+    pub steps: u32,
+}
+
 // A way, with the number of pairs.
 fn way_at(how: u32, times: u32, hits: usize) -> TopoWay
     ensures { result ≡ way_at how times hits }

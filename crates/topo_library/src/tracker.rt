@@ -118,9 +118,9 @@ impl Tracker {
     }
 
     /// Makes a pass by a band of lengths, and answers how that went.
-    pub(crate) fn fit(&mut self, alloc: Global, band: Band) -> u32
+    pub(crate) fn fit(&mut self, alloc: Global, band: Band, edits: &mut TopoEdits) -> u32
         requires { IsBand band }
-        ensures { HasFitted band self.old self.new result }
+        ensures { HasFitted band self.old self.new edits.old edits.new result }
     {
         if !self.held.goes_on() {
             return STOPPED;
@@ -129,7 +129,10 @@ impl Tracker {
             return SPENT;
         }
         match self.held.fit(alloc, band) {
-            Ok(()) => DONE,
+            Ok(count) => {
+                *edits = edits_told(count);
+                DONE
+            }
             Err(_) => NO_MEMORY,
         }
     }

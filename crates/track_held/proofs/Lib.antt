@@ -4,3 +4,4 @@ pub mod Numbers
 pub mod Written
 pub mod Closed
 pub mod Fitted
+pub mod NumberedFaults

@@ -7,3 +7,4 @@ pub mod Reading
 pub mod Closings
 pub mod Events
 pub mod Fitting
+pub mod Numbered

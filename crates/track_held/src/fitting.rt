@@ -1,53 +1,67 @@
 //! A pass by a band of lengths that is the same everywhere.
 ghost use Rattle.std.specs.Prelude.{◌≡◌, true, false, Some, IfOk, OnErr};
-ghost use Rattle.mesh_sizing.specs.Sizes.{IsBand};
+ghost use Rattle.mesh_sizing.specs.Sizes.{IsBand, IsWellKept as SizesWell, MayAnswer as MaySize};
 ghost use Rattle.track_engine.specs.Engines.{state_in};
-ghost use Rattle.track_engine.specs.Invariant.{HasRoom};
-ghost use Rattle.track_held.specs.Fitting.{FitWrites, always, fit_untold};
+ghost use Rattle.track_engine.specs.Parts.{FitTells};
+ghost use Rattle.track_engine.specs.Ready.{IsReady};
+ghost use Rattle.track_held.specs.Fitting.{always};
+ghost use Rattle.track_held.specs.Growing.{bytes_in};
 
-use crate::held::{Held, no_shift, tell};
+use crate::growing::GrowingSink;
+use crate::held::Held;
 use grid_base::Point;
 use mesh_base::Surface;
-use mesh_field::no_fields;
 use mesh_sizing::{Band, Sizing};
-use outside_io::Stop;
+use outside_io::{Ends, Stop, TallyDesk};
+use pass_run::PassCount;
 use std::alloc::Global;
-use step_text::Directive;
+use track_engine::Engine;
+
+// Makes a pass by a sizing, whose lines are told to the log.
+fn tell_fit<S: Surface, G: Fn(Point) -> Band>(
+    alloc: Global,
+    engine: &mut Engine<S>,
+    sizing: &Sizing<G>,
+    log: &mut GrowingSink,
+) -> Result<PassCount, Stop>
+    requires ready { IsReady S.beyond S.mesh S.kept engine.old }
+    requires sizing { SizesWell G.Fn sizing.now }
+    ensures tells { FitTells (MaySize G.Fn sizing.now)
+        (state_in S.mesh S.kept engine.old) (state_in S.mesh S.kept engine.new)
+        (Some (bytes_in log.old)) (Some (bytes_in log.new)) result }
+    ensures ready { IfOk result (λ _. IsReady S.beyond S.mesh S.kept engine.new) }
+{
+    let mut desk = TallyDesk::new();
+    let mut ends = Ends {
+        desk: &mut desk,
+        out: log,
+    };
+    engine.fit(alloc, sizing, &mut ends)
+}
 
 impl<S: Surface> Held<S> {
     ghost use Rattle.track_held.specs.Held.{engine_in, log_in, goes_on};
 
-    /// Makes a pass that splits each edge that is longer than the band and collapses each that is shorter: its lines are told, or it stops
-    /// in them for want of memory, and goes on no more.
-    pub fn fit(&mut self, alloc: Global, band: Band) -> Result<(), Stop>
+    /// Makes a pass that splits each edge that is longer than the band and collapses each that is shorter, and tells how many edits it did
+    /// and how many were refused: its lines are told, or it stops in them for want of memory, and goes on no more.
+    pub fn fit(&mut self, alloc: Global, band: Band) -> Result<PassCount, Stop>
         requires band { IsBand band }
         requires goes_on { goes_on self.old ≡ true }
-        requires room { HasRoom 1 (engine_in self.old).run }
         ensures goes_on { IfOk result (λ _. goes_on self.new ≡ true) }
         ensures stopped { OnErr result (goes_on self.new ≡ false) }
-        ensures tells { FitWrites (always band) (state_in S.mesh S.kept (engine_in self.old))
+        ensures tells { FitTells (always band) (state_in S.mesh S.kept (engine_in self.old))
             (state_in S.mesh S.kept (engine_in self.new))
-            (Some (log_in self.old)) (Some (log_in self.new)) (fit_untold result) }
+            (Some (log_in self.old)) (Some (log_in self.new)) result }
     {
-        let fields = no_fields(no_shift);
         let sizing = Sizing::new(
             move |_at: Point| -> Band
                 ensures { result ≡ band }
             { band },
         );
-        let told = tell(
-            alloc,
-            &mut self.engine,
-            &Directive::Fit,
-            &mut self.log,
-            &fields,
-            &sizing,
-        );
-        match told {
-            // It is never refused.
-            Ok(_) => {
+        match tell_fit(alloc, &mut self.engine, &sizing, &mut self.log) {
+            Ok(count) => {
                 self.engine.settle_outside_groups();
-                Ok(())
+                Ok(count)
             }
             Err(stop) => {
                 self.goes_on = false;

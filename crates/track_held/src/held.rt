@@ -2,10 +2,9 @@
 ghost use Rattle.std.specs.Prelude.{◌≡◌, ◌≤◌, ◌<◌, ◌↔◌, true, false, [], Some, IfOk, OnErr, IsSome, IsTrue};
 ghost use Rattle.mesh_base.specs.Valid.{IsValidSurface};
 ghost use Rattle.mesh_field.specs.Stored.{IsWellKept};
-ghost use Rattle.mesh_sizing.specs.Sizes.{IsBand, IsWellKept as SizesWell, MayAnswer as MaySize};
+ghost use Rattle.mesh_sizing.specs.Sizes.{IsBand, IsWellKept as SizesWell};
 ghost use Rattle.step_choose.specs.Settings.{AreWithinLimits};
 ghost use Rattle.step_text.specs.Ranges.{IsInRange};
-ghost use Rattle.step_text.specs.declared.Directive.TheVariants.{Fit};
 ghost use Rattle.track_engine.specs.Answers.{Nothing};
 ghost use Rattle.track_engine.specs.State.{unsaved};
 ghost use Rattle.track_engine.specs.Effects.{effect_of};
@@ -15,7 +14,6 @@ ghost use Rattle.track_engine.specs.Invariant.{IsRunInvariant, HasRoom};
 ghost use Rattle.track_engine.specs.Ready.{IsReady};
 ghost use Rattle.track_held.specs.Asking.{AsksNothing};
 ghost use Rattle.track_held.specs.Closings.{closing};
-ghost use Rattle.track_held.specs.Fitting.{FitWrites};
 ghost use Rattle.track_held.specs.Growing.{bytes_in};
 ghost use Rattle.track_held.specs.Kept.{facts};
 
@@ -44,7 +42,7 @@ fn any_length(_at: Point) -> Band
 }
 
 // Does one directive: its lines are told to the log, or it is refused and nothing changes, or it stops, perhaps in its lines.
-// What one does is said that asks neither a field nor the sizing, and of a pass by the sizing.
+// What one does is said that asks neither a field nor the sizing.
 pub(crate) fn tell<'a, S: Surface, F: Fn(u8, Point) -> Shift, G: Fn(Point) -> Band>(
     alloc: Global,
     engine: &mut Engine<S>,
@@ -60,9 +58,6 @@ pub(crate) fn tell<'a, S: Surface, F: Fn(u8, Point) -> Shift, G: Fn(Point) -> Ba
     requires sizing { SizesWell G.Fn sizing.now }
     ensures tells { let old = state_in S.mesh S.kept engine.old in AsksNothing what.now →
         Writes (effect_of Nothing what.now old) (state_in S.mesh S.kept engine.new)
-        (Some (bytes_in log.old)) (Some (bytes_in log.new)) result }
-    ensures fits { let old = state_in S.mesh S.kept engine.old in what.now ≡ Fit →
-        FitWrites (MaySize G.Fn sizing.now) old (state_in S.mesh S.kept engine.new)
         (Some (bytes_in log.old)) (Some (bytes_in log.new)) result }
     // A refusal leaves the state as it was.
     ensures left { IfOk result (λ refused. IsSome refused →
@@ -125,6 +120,13 @@ impl<S: Surface> Held<S> {
             IsRunInvariant (state_in S.mesh S.kept (engine_in self.now)) }
     {
         self.goes_on
+    }
+
+    /// How many steps were taken.
+    pub fn steps(&self) -> u32
+        ensures { result ≡ (state_in S.mesh S.kept (engine_in self.now)).steps }
+    {
+        self.engine.run.steps
     }
 
     /// Whether one more directive may be taken: fewer than 2^32 - 1 steps were, and as few meshes saved.

@@ -11,6 +11,7 @@ mod given;
 mod growing;
 mod held;
 mod making;
+mod making_numbered;
 mod reading;
 mod telling;
 
@@ -21,4 +22,5 @@ pub use given::{GivenFace, GivenPoint, NamedFace, NamedPoint};
 pub use growing::GrowingSink;
 pub use held::Held;
 pub use making::{MakeFault, MakeRefusal, track};
+pub use making_numbered::{NumberedFault, NumberedRefusal, track_numbered};
 pub use reading::{NamedFaces, NamedPoints, named_faces, named_points, put_rows, solid_vertices};

@@ -47,15 +47,15 @@ impl From<NoMemory> for MakeRefusal {
     }
 }
 
-// Whether a point is not in the box.
-fn is_outside(p: &GivenPoint) -> bool
+/// Whether a point is not in the box.
+pub(crate) fn is_outside(p: &GivenPoint) -> bool
     ensures { result ≡ is_outside p.now }
 {
     !(p.x.unsigned_abs() <= BOX && p.y.unsigned_abs() <= BOX && p.z.unsigned_abs() <= BOX)
 }
 
-// The point, which is in the box.
-fn point_of(p: GivenPoint) -> Point
+/// The point, which is in the box.
+pub(crate) fn point_of(p: GivenPoint) -> Point
     requires { is_outside p ≡ false }
     ensures { result ≡ point_in p }
 {

@@ -5,4 +5,4 @@ use Rattle.topo_library.proofs.calling.fit.Goals as goal
 pub returns : goal.returns
 returns c =
     fits _ _ c.deref_mut.result.now c.fit-code.new.self (c.in-Some.ensures.took ∙ ap Some (sym c.deref_mut.ensures.value)) c.give.ensures
-    c.args.band c.fit-code.result c.fit-code.ensures
+    c.args.band _ _ c.fit-code.result c.fit-code.ensures

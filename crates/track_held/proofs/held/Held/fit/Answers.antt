@@ -1,4 +1,4 @@
-use Rattle.std.proofs.Common.{Some, Err, refl, rules}
+use Rattle.std.proofs.Common.{Some, Err, rules}
 use Rattle.track_engine.specs.Engines.{state_in}
 use Rattle.track_held.specs.Fitting.{always}
 use Rattle.track_held.specs.Growing.{bytes_in}
@@ -9,12 +9,12 @@ pub returns-in-Ok-clause-tells : goal.returns-in-Ok-clause-tells
 returns-in-Ok-clause-tells g c =
     let mesh = g.S.Surface.mesh in
     let kept = g.S.Surface.kept in
-    fit_settled _ (always c.args.band) (λ p band h. search rules) (state_in mesh kept c.args.self.now.engine) (state_in mesh kept c.tell-told.new.engine) (state_in mesh kept c.settle_outside_groups.new.self)
-    (Some (bytes_in c.args.self.now.log)) (Some (bytes_in c.tell-told.new.log)) _ c.settle_outside_groups.ensures.state (c.in-Ok.ensures.fits refl)
+    fit_settled _ (always c.args.band) (λ p band h. search rules) (state_in mesh kept c.args.self.now.engine) (state_in mesh kept c.tell_fit.new.engine) (state_in mesh kept c.settle_outside_groups.new.self)
+    (Some (bytes_in c.args.self.now.log)) (Some (bytes_in c.tell_fit.new.log)) _ c.settle_outside_groups.ensures.state c.in-Ok.ensures.tells
 
 pub returns-in-Err-clause-tells : goal.returns-in-Err-clause-tells
 returns-in-Err-clause-tells g c =
     let mesh = g.S.Surface.mesh in
     let kept = g.S.Surface.kept in
-    fit_too _ (always c.args.band) (λ p band h. search rules) (state_in mesh kept c.args.self.now.engine) (state_in mesh kept c.tell-told.new.engine)
-    (Some (bytes_in c.args.self.now.log)) (Some (bytes_in c.tell-told.new.log)) (Err c.in-Err.stop) (c.in-Err.ensures.fits refl)
+    fit_too _ (always c.args.band) (λ p band h. search rules) (state_in mesh kept c.args.self.now.engine) (state_in mesh kept c.tell_fit.new.engine)
+    (Some (bytes_in c.args.self.now.log)) (Some (bytes_in c.tell_fit.new.log)) (Err c.in-Err.stop) c.in-Err.ensures.tells

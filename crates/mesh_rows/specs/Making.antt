@@ -1,0 +1,42 @@
+-- The mesh that rows make one after another.
+use Rattle.std.specs.Prelude.{ℕ, List, [], ◌∷◌}
+use Rattle.mesh_base.specs.Mesh.{Mesh}
+use Rattle.mesh_base.specs.Changes.{with_vertex, with_face, with_solid}
+use Rattle.mesh_base.specs.Given.{empty_mesh}
+use Rattle.mesh_plain.specs.Numbered.{numbered}
+use Rattle.mesh_rows.specs.declared.rows.VertexRow.{VertexRow}
+use Rattle.mesh_rows.specs.declared.rows.FaceRow.{FaceRow}
+use Rattle.mesh_rows.specs.declared.rows.MeshRows.{MeshRows}
+
+-- a vertex more, with its own id; the next id is one above it
+abbrev pub with_vertex_row : Mesh → VertexRow → Mesh
+with_vertex_row m row = with_vertex (numbered m row.id m.next_face) row.at
+
+-- the same of each of these
+abbrev pub with_vertex_rows : Mesh → List VertexRow → Mesh
+with_vertex_rows m [] = m
+with_vertex_rows m (row ∷ rows) = with_vertex_rows (with_vertex_row m row) rows
+
+-- a face more, with its own id; the next id is one above it
+abbrev pub with_face_row : Mesh → FaceRow → Mesh
+with_face_row m row = with_face (numbered m m.next_vertex row.id) row.corners
+
+-- the same of each of these
+abbrev pub with_face_rows : Mesh → List FaceRow → Mesh
+with_face_rows m [] = m
+with_face_rows m (row ∷ rows) = with_face_rows (with_face_row m row) rows
+
+-- each of these vertices solid
+abbrev pub with_solids : Mesh → List ℕ → Mesh
+with_solids m [] = m
+with_solids m (v ∷ vs) = with_solids (with_solid m v) vs
+
+-- the mesh of the vertices, that with the faces, and that with the solid vertices
+abbrev pub of_vertices : MeshRows → Mesh
+of_vertices rows = with_vertex_rows empty_mesh rows.vertices
+
+abbrev pub of_faces : MeshRows → Mesh
+of_faces rows = with_face_rows (of_vertices rows) rows.faces
+
+abbrev pub made_of : MeshRows → Mesh
+made_of rows = with_solids (of_faces rows) rows.solids
