@@ -12,6 +12,7 @@ static struct topo_way way;
 static struct topo_edits edits;
 static uint32_t kept;
 static size_t size;
+static struct topo_counted counted;
 
 static void is(const char *what, uint32_t code, uint32_t wanted)
 {
@@ -97,7 +98,7 @@ static void groups(void)
     static const struct topo_triangle both[] = {{1, 3, 2}, {1, 2, 4}, {2, 3, 4}, {1, 4, 3}, {5, 7, 6}, {5, 6, 8}, {6, 7, 8}, {5, 8, 7}};
     struct topo_vertex row[8];
     struct topo_event event[16];
-    uint32_t solid[8], vertices, faces, v;
+    uint32_t solid[8], v;
     is("two tetrahedra", topo_new(eight, 8, both, 8, &t, &fault), TOPO_DONE);
     is("none is open", topo_close(&t, &kept, &fault), TOPO_DONE);
     is("which is told", kept, TOPO_NO_GROUP);
@@ -126,8 +127,9 @@ static void groups(void)
     is("no log fits", topo_log(&t, 0, 0, &size), TOPO_RANGE);
     is("and stays", topo_events(&t, event, 16, &size), TOPO_DONE);
     is("it is forgotten", topo_forget(&t), TOPO_DONE);
-    is("nothing is told", topo_counts(&t, &vertices, &faces, &size), TOPO_DONE);
-    is("of eight vertices", (uint32_t)(vertices == 8 && faces == 8 && size == 0), 1);
+    is("nothing is told", topo_counts(&t, &counted), TOPO_DONE);
+    is("of eight vertices", (uint32_t)(counted.vertices == 8 && counted.faces == 8 && counted.log == 0), 1);
+    is("that come from nine on", (uint32_t)(counted.next_vertex == 9 && counted.next_face == 9 && counted.steps == 1), 1);
     topo_free(&t);
 }
 
@@ -144,15 +146,145 @@ static void passes(void)
     is("flips", topo_flip(&t, &edits, &fault), TOPO_DONE);
     is("one done and three refused", (uint32_t)(edits.done == 1 && edits.refused == 3), 1);
     is("its lines", (uint32_t)tells("pass split 45\nsplit 2 3 5 20 20 0\nsplit 2 4 6 20 0 20\nsplit 3 4 7 0 20 20\npass flip\nno flip 1 2 edge\nno flip 1 3 edge\nno flip 1 4 hit 1 8 11\nflip 4 5\n"), 1);
-    is("no band", topo_fit(&t, 60, 60), TOPO_RANGE);
-    is("a band above 2^30", topo_fit(&t, 60, 1073741825), TOPO_RANGE);
-    is("a band", topo_fit(&t, 20, 60), TOPO_DONE);
+    is("no band", topo_fit(&t, 60, 60, &edits), TOPO_RANGE);
+    is("a band above 2^30", topo_fit(&t, 60, 1073741825, &edits), TOPO_RANGE);
+    is("a band", topo_fit(&t, 20, 60, &edits), TOPO_DONE);
+    is("in which all edges are", (uint32_t)(edits.done == 0 && edits.refused == 0), 1);
     is("fits", (uint32_t)tells("pass fit\n"), 1);
     is("settings within their limits", topo_set(&t, 10, 100, 1, 27), TOPO_DONE);
     is("a depth of 11", topo_set(&t, 11, 100, 1, 27), TOPO_RANGE);
     is("zones of 2", topo_set(&t, 10, 100, 2, 27), TOPO_RANGE);
     topo_free(&t);
-    is("nothing is there", topo_fit(&t, 20, 60), TOPO_EMPTY);
+    is("nothing is there", topo_fit(&t, 20, 60, &edits), TOPO_EMPTY);
+}
+
+/* what a tracker needs to go on with its ids */
+static struct topo_vertex points[16];
+static struct topo_face faces[16];
+static uint32_t solids[16];
+static size_t point_count, face_count, solid_count;
+
+static void leave(void)
+{
+    is("its vertices", topo_points(&t, points, 16, &point_count), TOPO_DONE);
+    is("its faces", topo_faces(&t, faces, 16, &face_count), TOPO_DONE);
+    is("its solid vertices", topo_solids(&t, solids, 16, &solid_count), TOPO_DONE);
+    is("its numbers", topo_counts(&t, &counted), TOPO_DONE);
+}
+
+static uint32_t again(void)
+{
+    return topo_new_numbered(points, point_count, faces, face_count, solids, solid_count, counted.next_vertex, counted.next_face, &t, &fault);
+}
+
+/* a tetrahedron whose edges are split, and four of the new ones collapsed */
+static void begin(void)
+{
+    is("a tetrahedron", topo_new(four, 4, sides, 4, &t, &fault), TOPO_DONE);
+    is("splits", topo_split(&t, 45, &edits, &fault), TOPO_DONE);
+    is("and splits", topo_split(&t, 30, &edits, &fault), TOPO_DONE);
+    is("vertex 1 is solid", topo_solid(&t, 1, &fault), TOPO_DONE);
+    is("collapses", topo_collapse(&t, 21, &edits, &fault), TOPO_DONE);
+    is("four times", (uint32_t)(edits.done == 4 && edits.refused == 0), 1);
+    is("told", topo_forget(&t), TOPO_DONE);
+}
+
+/* goes on, and answers what is told of that */
+static const char *go_on(void)
+{
+    static char text[4096];
+    is("a step", topo_shift(&t, 3, 0, 3, 0, &fault), TOPO_DONE);
+    is("is taken", topo_step(&t, &way, &fault), TOPO_DONE);
+    is("splits again", topo_split(&t, 25, &edits, &fault), TOPO_DONE);
+    is("fourteen times", (uint32_t)(edits.done == 14 && edits.refused == 0), 1);
+    is("fits", topo_fit(&t, 12, 22, &edits), TOPO_DONE);
+    is("by four edits", (uint32_t)(edits.done == 4 && edits.refused == 0), 1);
+    is("what is told", topo_log(&t, text, sizeof text - 1, &size), TOPO_DONE);
+    text[size] = 0;
+    return text;
+}
+
+static void left(void)
+{
+    static char stayed[4096];
+    begin();
+    leave();
+    is("the next ids", (uint32_t)(counted.next_vertex == 12 && counted.next_face == 41 && counted.vertices == 7), 1);
+    strcpy(stayed, go_on());
+    topo_free(&t);
+    is("made again", again(), TOPO_DONE);
+    is("the same lines", (uint32_t)(strcmp(stayed, go_on()) == 0), 1);
+    is("made in its place", again(), TOPO_DONE);
+    is("the same again", (uint32_t)(strcmp(stayed, go_on()) == 0), 1);
+    is("no row", topo_new_numbered(0, 0, 0, 0, 0, 0, 1, 1, &t, &fault), TOPO_DONE);
+    is("nothing lives", topo_counts(&t, &counted), TOPO_DONE);
+    is("and the first ids come next", (uint32_t)(counted.next_vertex == 1 && counted.next_face == 1 && counted.vertices == 0), 1);
+    topo_free(&t);
+}
+
+/* rows of a tetrahedron at the vertices 2, 4, 6, 8 and the faces 3, 5, 7, 9 */
+static void rows_of_four(void)
+{
+    uint32_t i;
+    for (i = 0; i < 4; ++i) {
+        points[i] = (struct topo_vertex){2 * i + 2, four[i].x, four[i].y, four[i].z};
+        faces[i] = (struct topo_face){2 * i + 3, 2 * sides[i].a, 2 * sides[i].b, 2 * sides[i].c};
+    }
+    solids[0] = 4;
+    solids[1] = 8;
+    point_count = face_count = 4;
+    solid_count = 2;
+    counted.next_vertex = 20;
+    counted.next_face = 30;
+}
+
+static void numbered(void)
+{
+    static struct topo_vertex many[65537];
+    static struct topo_face many_faces[131073];
+    uint32_t i;
+    rows_of_four();
+    is("with ids of their own", again(), TOPO_DONE);
+    is("splits", topo_split(&t, 45, &edits, &fault), TOPO_DONE);
+    is("make vertices from the next on", (uint32_t)tells("pass split 45\nsplit 4 6 20 20 20 0\nsplit 4 8 21 20 0 20\nsplit 6 8 22 0 20 20\n"), 1);
+    leave();
+    is("and are told", (uint32_t)(counted.next_vertex == 23 && counted.next_face == 42 && solid_count == 2 && solids[1] == 8), 1);
+    rows_of_four(), points[2].y = 268435457;
+    refused("a vertex outside the box", again(), TOPO_OUTSIDE, 3, 0, 0);
+    is("the handle is empty", topo_pinch(&t, &edits, &fault), TOPO_EMPTY);
+    refused("65,537 vertices", topo_new_numbered(many, 65537, 0, 0, 0, 0, 1, 1, &t, &fault), TOPO_MANY_VERTICES, 65537, 0, 0);
+    refused("131,073 faces", topo_new_numbered(0, 0, many_faces, 131073, 0, 0, 1, 1, &t, &fault), TOPO_MANY_FACES, 131073, 0, 0);
+    rows_of_four(), counted.next_vertex = 2147483650u;
+    refused("a next vertex beyond 2^31 + 1", again(), TOPO_NEXT_VERTEX, 2147483650u, 0, 0);
+    rows_of_four(), counted.next_face = 0;
+    refused("a next face 0", again(), TOPO_NEXT_FACE, 0, 0, 0);
+    rows_of_four(), points[0].id = 0;
+    refused("a vertex 0", again(), TOPO_VERTEX_ORDER, 1, 0, 0);
+    rows_of_four(), points[2].id = 4;
+    refused("a vertex twice", again(), TOPO_VERTEX_ORDER, 3, 0, 0);
+    rows_of_four(), counted.next_vertex = 8;
+    refused("a vertex that is the next", again(), TOPO_VERTEX_ORDER, 4, 0, 0);
+    rows_of_four(), faces[1].id = 3;
+    refused("a face twice", again(), TOPO_FACE_ORDER, 2, 0, 0);
+    rows_of_four(), faces[1].c = 7;
+    refused("a corner that does not live", again(), TOPO_CORNER, 5, 3, 0);
+    rows_of_four(), faces[1].c = faces[1].b;
+    refused("a corner twice", again(), TOPO_REPEATED, 5, 0, 0);
+    rows_of_four(), faces[3].a = faces[2].b, faces[3].b = faces[2].c, faces[3].c = faces[2].a;
+    refused("a face twice, but turned", again(), TOPO_DOUBLED, 7, 9, 0);
+    rows_of_four(), solids[1] = 5;
+    refused("a solid vertex that does not live", again(), TOPO_NOT_SOLID, 5, 0, 0);
+    rows_of_four(), solids[1] = 4;
+    refused("a solid vertex twice", again(), TOPO_NOT_SOLID, 4, 0, 0);
+    rows_of_four(), face_count = 3;
+    refused("an open tetrahedron", again(), TOPO_UNBALANCED, 2, 6, 0);
+    rows_of_four(), point_count = face_count = 8;
+    for (i = 0; i < 4; ++i) {
+        points[i + 4] = (struct topo_vertex){i + 10, four[i].x + 5, four[i].y + 5, four[i].z + 5};
+        faces[i + 4] = (struct topo_face){i + 10, sides[i].a + 9, sides[i].b + 9, sides[i].c + 9};
+    }
+    refused("two bodies that meet", again(), TOPO_MEETS, 10, 11, 7);
+    topo_free(&t);
 }
 
 static void alone(void)
@@ -186,6 +318,8 @@ int main(void)
     shifts();
     groups();
     passes();
+    left();
+    numbered();
     alone();
     printf("%d hold, %d do not\n", held, failed);
     return failed != 0;

@@ -74,7 +74,7 @@ static uint32_t fit(void)
     for (i = 0; i < count; ++i)
         if (labs((long)rows[i].x) > 15 || labs((long)rows[i].y) > 15 || labs((long)rows[i].z) > 15)
             exit(3);
-    return topo_fit(&t, 20, 60);
+    return topo_fit(&t, 20, 60, &edits);
 }
 
 static uint32_t directive(const char *line)
@@ -132,7 +132,7 @@ static void show(const char *line)
         check(way.how <= TOPO_ZERO && lines_of(text, words[way.how]) == 1, "the way is another", line);
         check(way.hits == lines_of(text, "hit "), "the pairs are others", line);
     }
-    if (lines_of(text, "pass ") == 1 && lines_of(text, "pass fit") == 0) {
+    if (lines_of(text, "pass ") == 1) {
         check(edits.refused == lines_of(text, "no "), "so many are not refused", line);
         check(edits.done == lines_of(text, "split ") + lines_of(text, "flip ") + lines_of(text, "collapse ") + lines_of(text, "zip ") + lines_of(text, "pinch "),
               "so many are not done", line);
