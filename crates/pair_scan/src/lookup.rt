@@ -1,5 +1,5 @@
 //! The shift of a vertex, looked up among shifts by rising id.
-ghost use Rattle.std.specs.Prelude.{◌≡◌, ◌==◌, map};
+ghost use Rattle.std.specs.Prelude.{◌≡◌, ◌==◌, Some, IfSome, map};
 ghost use Rattle.std.specs.List.{find};
 ghost use Rattle.std.specs.List.Sorted.{IsStrictlySortedBy, IsSearchInRange, IsBinarySearchResult};
 ghost use Rattle.std.specs.Ordering.{nat_cmp};
@@ -16,8 +16,20 @@ fn search(by: &[ShiftOf], v: VertexId) -> Result<usize, usize>
     by.binary_search_by_key(&v.0, |s| s.v.0)
 }
 
-/// The shift of a vertex; None where none is named.
-pub(crate) fn shift_of(by: &[ShiftOf], v: VertexId) -> Option<Shift>
+// The shift at a place, if it is the vertex's.
+fn shift_at(by: &[ShiftOf], place: usize, v: VertexId) -> Option<Shift>
+    requires rising { IsStrictlySortedBy nat_cmp (map (λ s. s.v) by.now) }
+    ensures { IfSome result
+        (λ s. Some s ≡ option_map (λ s. s.by) (find (λ s. s.v == v) by.now)) }
+{
+    match by.get(place) {
+        Some(s) => { if s.v == v { Some(s.by) } else { None } }
+        None => None,
+    }
+}
+
+// The shift of a vertex, by a search; None where none is named.
+fn sought(by: &[ShiftOf], v: VertexId) -> Option<Shift>
     requires rising { IsStrictlySortedBy nat_cmp (map (λ s. s.v) by.now) }
     ensures { result ≡ option_map (λ s. s.by) (find (λ s. s.v == v) by.now) }
 {
@@ -27,6 +39,18 @@ pub(crate) fn shift_of(by: &[ShiftOf], v: VertexId) -> Option<Shift>
             None => None,
         },
         Err(_) => None,
+    }
+}
+
+/// The shift of a vertex; None where none is named. Where each vertex is named and the ids have no gap, it stands at the place
+/// before its id.
+pub(crate) fn shift_of(by: &[ShiftOf], v: VertexId) -> Option<Shift>
+    requires rising { IsStrictlySortedBy nat_cmp (map (λ s. s.v) by.now) }
+    ensures { result ≡ option_map (λ s. s.by) (find (λ s. s.v == v) by.now) }
+{
+    match shift_at(by, v.0.wrapping_sub(1) as usize, v) {
+        Some(s) => Some(s),
+        None => sought(by, v),
     }
 }
 
