@@ -8,4 +8,4 @@ pub mod Stays
 pub mod Held
 pub mod Served
 pub mod Growing
-pub mod Turned
+pub mod LeftOut

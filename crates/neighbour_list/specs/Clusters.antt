@@ -4,6 +4,7 @@ use Rattle.std.specs.List.{All, Any}
 use Rattle.grid_base.specs.declared.Extent.{Extent}
 use Rattle.grid_base.specs.Extents.{IsIn, IsInside, overlaps}
 use Rattle.grid_base.specs.Triples.{minus}
+use Rattle.box_tree.specs.declared.labelled_box.LabelledBox.{LabelledBox}
 use Rattle.mesh_base.specs.declared.ids.Corners.{Corners}
 use Rattle.mesh_base.specs.Placements.{Motion, Placement}
 use Rattle.pair_paths.specs.declared.Frame.{Frame}
@@ -60,6 +61,10 @@ abbrev pub BoxesServe : ℕ → ClusterBoxes → ClusterBoxes → Type 0
 BoxesServe skin a b =
     (overlaps a.swept b.swept ≡ false)
     ⊎ (AreNarrowTogether skin a.start b.start × AreNarrowTogether skin a.end b.end)
+
+-- the box is that of the cluster's ways
+abbrev pub IsWayBox : ClusterBoxes → LabelledBox → Type 0
+IsWayBox b way = way.at ≡ b.swept
 
 -- the boxes of the drifts are in those of the other
 pub record HasDriftsOf (b all : ClusterBoxes) : Type 0 where

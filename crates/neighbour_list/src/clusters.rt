@@ -75,8 +75,8 @@ fn far_from(a: Position, b: Position) -> u128 {
         .max(d.z.unsigned_abs())
 }
 
-// Whether a face stands far from the first vertex of a cluster: more than twelve times its own longest side. The curve jumps
-// where its faces end, and a cluster on both sides of a jump would drift alike with nothing.
+// Whether a face stands far from the first vertex of a cluster: more than five times its own longest side. The curve jumps,
+// and a cluster on both sides of a jump would drift alike with nothing.
 fn is_far<P: Paths>(refs: &[Reference], c: &Corners, paths: &P) -> bool {
     let Some(first) = refs.first() else {
         return false;
@@ -85,7 +85,7 @@ fn is_far<P: Paths>(refs: &[Reference], c: &Corners, paths: &P) -> bool {
     let b = paths.path_of(c.second).start;
     let d = paths.path_of(c.third).start;
     let side = far_from(a, b).max(far_from(b, d)).max(far_from(d, a));
-    far_from(first.at, a) / 12 > side
+    far_from(first.at, a) / 5 > side
 }
 
 // Begins another cluster, where the last is full.

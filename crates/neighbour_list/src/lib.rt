@@ -14,6 +14,8 @@ mod order;
 mod pair_test;
 mod reference;
 mod scan;
+mod serving;
+mod ways;
 mod widened;
 
 pub use calls::{all_pass_listed, failing_listed};

@@ -25,11 +25,8 @@ pub struct NeighbourList {
     pub pairs: Items<ListedPair>,
 }
 
-// How many vertices a cluster has: few, so that they drift alike, and many, so that the clusters are few, since each two of
-// them are compared in each step.
-fn cluster_size(faces: usize) -> usize {
-    (faces / 2048).max(24)
-}
+/// A cluster has about so many vertices: few, so that they drift alike, and many, so that the clusters are few.
+const CLUSTER_SIZE: usize = 24;
 
 impl NeighbourList {
     /// The list of a mesh with this skin, its reference points where the vertices start in this motion: each pair whose edge
@@ -56,8 +53,7 @@ impl NeighbourList {
         let edges = edges_in_order(alloc, mesh)?;
         let faces = moving_faces(alloc, mesh, &paths)?;
         let pairs = near_pairs(alloc, skin, edges.as_slice(), faces.as_slice(), &paths)?;
-        let size = cluster_size(faces.len());
-        let clusters = clusters_of(alloc, faces.as_slice(), size, &paths)?;
+        let clusters = clusters_of(alloc, faces.as_slice(), CLUSTER_SIZE, &paths)?;
         Ok(NeighbourList {
             skin,
             clusters,

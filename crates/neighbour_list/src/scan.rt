@@ -10,10 +10,10 @@ ghost use Rattle.pair_paths.specs.Moving.{moving_face};
 ghost use Rattle.pair_scan.specs.Found.{has_none, AreFound};
 ghost use Rattle.neighbour_list.specs.Listed.{IsApart, IsListOf, fails, failing_in};
 
-use crate::cluster_boxes::clusters_serve;
 use crate::listed::ListedPair;
 use crate::neighbour_list::NeighbourList;
 use crate::pair_test::do_pass;
+use crate::serving::clusters_serve;
 use grid_base::{DEPTH_MAX, NoMemory, Wide};
 use mesh_base::{ShiftOf, Shifts, Surface};
 use pair_paths::{Frame, KnownPaths, MovingFace, Paths, Position, moving_edge, paths_of};

@@ -11,16 +11,16 @@ use std::alloc::Global;
 /// A mesh of fewer faces is scanned without a list.
 const FACES_LEAST: u32 = 512;
 
-// The skin for steps in which the shifts of near vertices spread so far, in a mesh with edges of this length: eight times the
-// spread, from a sixteenth to two fifths of an edge. None, where it is less than 6/5 of the spread, so that it would hardly
+// The skin for steps in which the shifts of near vertices spread so far, in a mesh with edges of this length: ten times the
+// spread, from an eighth to two fifths of an edge. None, where it is less than 6/5 of the spread, so that it would hardly
 // last one step.
 fn skin_for(spread: u32, edge: u32) -> Option<u32>
     ensures { IfSome result (λ skin. skin ≤ HALF_MAX) }
 {
     let widest = (edge / 5).saturating_mul(2);
     let skin = spread
-        .saturating_mul(8)
-        .max(edge / 16)
+        .saturating_mul(10)
+        .max(edge / 8)
         .min(widest)
         .min(HALF_MAX);
     if skin / 6 < spread / 5 || skin == 0 {

@@ -3,7 +3,7 @@ use Rattle.std.proofs.lemmas.List.Elements.{AllWithin-more, at_read}
 use Rattle.neighbour_list.specs.declared.cluster_boxes.ClusterBoxes.{ClusterBoxes}
 use Rattle.neighbour_list.specs.Clusters.{HasDriftsOf}
 use Rattle.neighbour_list.proofs.Held.{drifts_grown}
-use Rattle.neighbour_list.proofs.cluster_boxes.united_from.Goals as goal
+use Rattle.neighbour_list.proofs.serving.united_from.Goals as goal
 
 pub loop-b-preserved : goal.loop-b-preserved
 loop-b-preserved c =

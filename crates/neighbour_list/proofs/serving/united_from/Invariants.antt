@@ -1,6 +1,6 @@
 use Rattle.std.specs.List.{AllWithin}
 use Rattle.neighbour_list.specs.Clusters.{HasDriftsOf}
-use Rattle.neighbour_list.proofs.cluster_boxes.united_from.Given as goal
+use Rattle.neighbour_list.proofs.serving.united_from.Given as goal
 
 -- the boxes have the drifts of those so far
 abbrev pub invariant-loop-b : goal.invariant-loop-b
