@@ -1,22 +1,13 @@
-use Rattle.std.proofs.Common.{◌≡◌, List, Result, Ok, Err, refl, sym, ap, ◌∙◌}
-use Rattle.grid_base.specs.declared.NoMemory.{NoMemory}
+use Rattle.std.proofs.Common.{refl, sym, ap, ◌∙◌}
 use Rattle.grid_decided.specs.Decided.{meets_exactly}
 use Rattle.edit_base.specs.declared.answers.Change.TheVariants.{Collapse}
-use Rattle.edit_base.specs.declared.answers.Edit.{Edit}
-use Rattle.edit_base.specs.declared.answers.Edit.TheVariants.{Done, No}
-use Rattle.edit_base.specs.Clauses.{KeepsOnNo}
-use Rattle.mesh_base.specs.Mesh.{Mesh}
+use Rattle.edit_base.specs.declared.answers.Edit.TheVariants.{Done}
 use Rattle.edit_base.specs.Scaffold.{first_failing}
 use Rattle.mesh_base.proofs.MarksHold.{begins_itself}
 use Rattle.edit_collapse.specs.Collapse.{collapse_scaffold}
 use Rattle.edit_collapse.proofs.Answered.{hit_is_refused, no_hit_is_done}
+use Rattle.edit_check.proofs.Left.{keeps}
 use Rattle.edit_collapse.proofs.collapsing.collapse_or_leave.Goals as goal
-
--- where the kept meshes are those before, that is said of any answer
-keeps : (result : Result Edit NoMemory) (new old : List Mesh) → new ≡ old → KeepsOnNo result new old
-keeps (Ok (Done change)) new old h = tt
-keeps (Ok (No why)) new old h = h
-keeps (Err fault) new old h = h
 
 pub returns-in-Some-clause-answer : goal.returns-in-Some-clause-answer
 returns-in-Some-clause-answer g c =

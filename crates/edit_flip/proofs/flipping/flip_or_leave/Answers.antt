@@ -1,24 +1,15 @@
-use Rattle.std.proofs.Common.{◌≡◌, List, Result, Ok, Err, sym, ap, subst, ◌∙◌}
-use Rattle.grid_base.specs.declared.NoMemory.{NoMemory}
+use Rattle.std.proofs.Common.{sym, ap, subst, ◌∙◌}
 use Rattle.grid_decided.specs.Decided.{meets_exactly}
 use Rattle.edit_base.specs.declared.answers.Change.TheVariants.{Flip}
-use Rattle.edit_base.specs.declared.answers.Edit.{Edit}
-use Rattle.edit_base.specs.declared.answers.Edit.TheVariants.{Done, No}
-use Rattle.edit_base.specs.Clauses.{KeepsOnNo}
-use Rattle.mesh_base.specs.Mesh.{Mesh}
+use Rattle.edit_base.specs.declared.answers.Edit.TheVariants.{Done}
 use Rattle.edit_base.specs.Edges.{Edge, edge_of}
 use Rattle.edit_flip.specs.Flip.{flip_mesh}
 use Rattle.edit_flip.specs.Tried.{MayBeTried}
 use Rattle.edit_flip.proofs.Answered.{hit_is_refused, no_hit_is_done}
 use Rattle.mesh_base.specs.Sides.{IsClosed}
 use Rattle.mesh_base.proofs.MarksHold.{begins_along}
+use Rattle.edit_check.proofs.Left.{keeps}
 use Rattle.edit_flip.proofs.flipping.flip_or_leave.Goals as goal
-
--- where the kept meshes are those before, that is said of any answer
-keeps : (result : Result Edit NoMemory) (new old : List Mesh) → new ≡ old → KeepsOnNo result new old
-keeps (Ok (Done change)) new old h = tt
-keeps (Ok (No why)) new old h = h
-keeps (Err fault) new old h = h
 
 pub apply_or_roll_back-requires-clause-tried : goal.apply_or_roll_back-requires-clause-tried
 apply_or_roll_back-requires-clause-tried g c = subst (λ n. MayBeTried n c.args.e.now) (sym c.first_hit.ensures.mesh) c.requires.tried

@@ -1,11 +1,6 @@
-use Rattle.std.proofs.Common.{◌≡◌, List, Option, Result, length, drop, get_or, sym, ap, subst, ◌∙◌, arith}
-use Rattle.std.specs.Prelude.{Ok, Err}
-use Rattle.grid_base.specs.declared.NoMemory.{NoMemory}
+use Rattle.std.proofs.Common.{Option, length, drop, get_or, sym, ap, subst, ◌∙◌, arith}
+use Rattle.std.specs.Prelude.{Ok}
 use Rattle.mesh_base.specs.declared.ids.PairName.{PairName}
-use Rattle.mesh_base.specs.Mesh.{Mesh}
-use Rattle.edit_base.specs.declared.answers.Edit.{Edit}
-use Rattle.edit_base.specs.declared.answers.Edit.TheVariants.{Done, No}
-use Rattle.edit_base.specs.Clauses.{KeepsOnNo}
 use Rattle.std.specs.List.{AllByRecursion}
 use Rattle.edit_pinch.specs.Pinch.{fans, first_point, pinch_scaffold}
 use Rattle.edit_pinch.proofs.CopyClosed.{all_later}
@@ -14,13 +9,8 @@ use Rattle.edit_pinch.specs.Rims.{AreLiveFaces}
 use Rattle.edit_pinch.specs.Tried.{left_by, KeepsUnlessMade}
 use Rattle.edit_pinch.proofs.Answered.{fans_live, first_of_two, later_are, first_point_is, later_copies_are, hit_is_refused, done_answer, done_mesh}
 use Rattle.edit_pinch.proofs.Room.{room_at_first}
+use Rattle.edit_check.proofs.Left.{keeps}
 use Rattle.edit_pinch.proofs.pinching.pinch_or_leave.Goals as goal
-
--- where the kept meshes are those before, that is said of any answer
-keeps : (result : Result Edit NoMemory) (new old : List Mesh) → new ≡ old → KeepsOnNo result new old
-keeps (Ok (Done change)) new old h = tt
-keeps (Ok (No why)) new old h = h
-keeps (Err fault) new old h = h
 
 pub fan_point-requires : goal.fan_point-requires
 fan_point-requires g c =
