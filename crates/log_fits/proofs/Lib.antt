@@ -11,3 +11,4 @@ mod Ranged
 mod Proved
 mod OneAnswer
 mod OneLog
+mod SameFiles

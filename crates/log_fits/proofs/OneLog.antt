@@ -66,7 +66,7 @@ module _ (fields : Known) (have : HaveOneAnswer fields) where
   lists_alike one other (Err fault) steps a b = refl
   lists_alike one other (Ok lists) steps a b = shapes_alike one other lists (shape_fault (length lists.points) lists.faces) steps refl a b
 
-  files_alike : (one other : Answers) (decimals : ℕ) (mesh steps : Source) → IsInputAnswered fields true one (input_of_files decimals mesh steps) → IsInputAnswered fields true other (input_of_files decimals mesh steps)
+  pub files_alike : (one other : Answers) (decimals : ℕ) (mesh steps : Source) → IsInputAnswered fields true one (input_of_files decimals mesh steps) → IsInputAnswered fields true other (input_of_files decimals mesh steps)
       → log_of_input one (input_of_files decimals mesh steps) ≡ log_of_input other (input_of_files decimals mesh steps)
   files_alike one other decimals (TooLong seen) steps a b = refl
   files_alike one other decimals Absent steps a b = refl

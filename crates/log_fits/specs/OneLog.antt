@@ -1,11 +1,17 @@
 -- When a job has one log, whichever run of it is looked at.
-use Rattle.std.specs.Prelude.{◌≡◌, ℕ, true}
+use Rattle.std.specs.Prelude.{◌≡◌, ℕ, true, List, map, Some, None}
 use Rattle.grid_base.specs.declared.Point.{Point}
 use Rattle.grid_base.specs.declared.Shift.{Shift}
 use Rattle.mesh_sizing.specs.declared.sizing.Band.{Band}
-use Rattle.track_input.specs.Job.{Job, input_of}
+use Rattle.log_text.specs.declared.LogLine.{LogLine}
+use Rattle.log_text.specs.declared.LogLine.TheVariants.{Refused}
+use Rattle.log_text.specs.declared.Refusal.{Refusal}
+use Rattle.log_text.specs.declared.Refusal.TheVariants.{Long}
+use Rattle.outside_io.specs.Desk.{Files}
+use Rattle.track_input.specs.Job.{Job, IsJob, input_of}
 use Rattle.track_engine.specs.Answers.{Answers}
 use Rattle.track_engine.specs.Answered.{Known}
+use Rattle.track_engine.specs.Effects.{Ending, Ended, ExpectedLog}
 use Rattle.track_run.specs.Answered.{IsInputAnswered}
 use Rattle.track_run.specs.Job.{log_of}
 
@@ -23,3 +29,36 @@ JobsHaveOneLog fields =
     → IsInputAnswered fields true one (input_of job)
     → IsInputAnswered fields true other (input_of job)
     → log_of job one ≡ log_of job other
+
+-- ---- two jobs of the same files
+-- how much was seen of a file that is too long is left out
+abbrev pub unseen : Refusal → Refusal
+unseen (Long file seen) = Long file 0
+unseen why = why
+
+abbrev pub unseen_line : LogLine → LogLine
+unseen_line (Refused why) = Refused (unseen why)
+unseen_line line = line
+
+abbrev pub unseen_ending : Ending → Ending
+unseen_ending (Ended (Some why)) = Ended (Some (unseen why))
+unseen_ending ending = ending
+
+-- a log, but for how much was seen of a file that is too long
+abbrev pub unseen_log : ExpectedLog → ExpectedLog
+unseen_log log = record {
+  lines = map unseen_line log.lines;
+  ending = unseen_ending log.ending;
+}
+
+-- Two jobs of the same names where the same files lie, with the same decimals, have one log, but
+-- for how much was seen of a file that is too long.
+abbrev pub JobsOfTheSameFilesHaveOneLog : Known → Type 0
+JobsOfTheSameFilesHaveOneLog fields =
+    HaveOneAnswer fields → (files : Files) (mesh_name step_name : List ℕ) (decimals : ℕ)
+    (job also : Job) (one other : Answers)
+    → IsJob (Some files) mesh_name step_name decimals job
+    → IsJob (Some files) mesh_name step_name decimals also
+    → IsInputAnswered fields true one (input_of job)
+    → IsInputAnswered fields true other (input_of also)
+    → unseen_log (log_of job one) ≡ unseen_log (log_of also other)

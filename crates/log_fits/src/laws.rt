@@ -3,7 +3,7 @@ ghost use Rattle.mesh_field.specs.Stored.{StoredFields};
 ghost use Rattle.track_engine.specs.Answered.{known};
 ghost use Rattle.log_fits.specs.Fitting.{LogsOfMeshesFit, LogsOfJobsFit};
 ghost use Rattle.log_fits.specs.Measured.{LogsOfRunsAreMeasured, MeshLinesTell};
-ghost use Rattle.log_fits.specs.OneLog.{JobsHaveOneLog};
+ghost use Rattle.log_fits.specs.OneLog.{JobsHaveOneLog, JobsOfTheSameFilesHaveOneLog};
 ghost use Rattle.log_fits.specs.Replayed.{LogsOfRunsAreReplayed, MeshesOfRunsAreStoredAgain};
 ghost use Rattle.log_fits.specs.Proved.{LogsOfRunsAreProved, ProofsOfRunsAreVerified};
 
@@ -56,9 +56,16 @@ pub fn logs_of_runs_are_replayed<F: Fn(u8, Point) -> Shift, G: Fn(Point) -> Band
 {}
 
 /// Where each stored field has one answer for each number and point, and the sizing has one for each point, a job of which all directives
-/// are answered has one log: two runs of the same files that came to the end of their log wrote the same. (What a log tells of a file
-/// that is too long is how much of it was seen, which is part of the job here.)
+/// are answered has one log: two runs of the same files that came to the end of their log wrote the same. What a log tells of a file
+/// that is too long is how much of it was seen, which is part of the job here.
 pub fn jobs_have_one_log<F: Fn(u8, Point) -> Shift, G: Fn(Point) -> Band>()
     ensures { (fields : StoredFields F) (sizing : G) →
         JobsHaveOneLog (known F.Fn fields G.Fn sizing) }
+{}
+
+/// And two jobs of the same names where the same files lie, with the same decimals, have one log, but for how much was seen of a file that
+/// is too long. So what a run writes depends on the files and on these answers alone.
+pub fn jobs_of_the_same_files_have_one_log<F: Fn(u8, Point) -> Shift, G: Fn(Point) -> Band>()
+    ensures { (fields : StoredFields F) (sizing : G) →
+        JobsOfTheSameFilesHaveOneLog (known F.Fn fields G.Fn sizing) }
 {}
