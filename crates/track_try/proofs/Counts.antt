@@ -10,7 +10,7 @@ use Rattle.track_try.proofs.NoEnds.{HasNoEnd, body_has_no_end}
 use Rattle.track_try.proofs.Beginnings.{step_told, whole_told, split_told}
 
 -- a line that ends, behind what stands in front of it
-ended_line : (front body rest : List ℕ) → HasNoEnd body → ended_behind front (body ++ LF ∷ rest) ≡ (front ++ body) ∷ ended_behind [] rest
+pub ended_line : (front body rest : List ℕ) → HasNoEnd body → ended_behind front (body ++ LF ∷ rest) ≡ (front ++ body) ∷ ended_behind [] rest
 ended_line front [] rest h = ap (λ l. l ∷ ended_behind [] rest) (sym (append-nil front))
 ended_line front (b ∷ body) rest h =
     ap (λ v. if v then front ∷ ended_behind [] (body ++ LF ∷ rest) else ended_behind (front ++ b ∷ []) (body ++ LF ∷ rest)) h.0

@@ -3,3 +3,4 @@ pub mod Beginnings
 pub mod Counts
 pub mod Ran
 pub mod OfCubes
+pub mod Seven

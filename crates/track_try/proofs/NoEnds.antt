@@ -46,7 +46,7 @@ no_end true h = sym h
 no_end false h = refl
 
 -- of fixed words a test computes
-text : (word : List ℕ) → list_all (λ b. not (b == 10)) word ≡ true → HasNoEnd word
+pub text : (word : List ℕ) → list_all (λ b. not (b == 10)) word ≡ true → HasNoEnd word
 text [] h = tt
 text (b ∷ word) h = let p = and_parts (not (b == 10)) (list_all (λ b. not (b == 10)) word) h in (no_end (b == 10) p.0, text word p.1)
 
@@ -59,7 +59,7 @@ onto (suc k) n acc h =
     elim (n / 10 == 0) as (λ v. HasNoEnd (if v then digit_glyph false (n % 10) ∷ acc else digits_onto k 10 false (n / 10) (digit_glyph false (n % 10) ∷ acc)))
     [ true ↦ (glyph (n % 10), h) | false ↦ onto k (n / 10) (digit_glyph false (n % 10) ∷ acc) (glyph (n % 10), h) ]
 
-number : (n : ℕ) → HasNoEnd (decimal n)
+pub number : (n : ℕ) → HasNoEnd (decimal n)
 unfolding digits
 number n = onto 64 n [] tt
 
@@ -139,7 +139,7 @@ pass_parts pass.Flip = (text (codes "flip") refl, tt)
 pass_parts (pass.Zip n) = (text (codes "zip") refl, (number n, tt))
 pass_parts pass.Pinch = (text (codes "pinch") refl, tt)
 
-point_parts : (p : Point) → HaveNoEnd (point_words p)
+pub point_parts : (p : Point) → HaveNoEnd (point_words p)
 point_parts p = (signed p.x, (signed p.y, (signed p.z, tt)))
 
 places_parts : (places : List CopyAt) → HaveNoEnd (places_words places)
