@@ -101,8 +101,10 @@ impl<S: Surface> Engine<S> {
         Ok(())
     }
 
-    /// Takes a step, or a vertex would leave the box. Its first line is written before its pairs are tested, and those that do not pass
-    /// before a way is looked for, so that who reads the log sees that it is under way. What it tells is by what its lines are written: how it is taken, and how many pairs do not pass.
+    /// Takes a step, or a vertex would leave the box. Its first line is written before its pairs are tested, and those that
+    /// do not pass before a way is looked for, so that who reads the log sees that it is under way. What it tells is by what
+    /// its lines are written: how it is taken, and how many pairs do not pass. The engine is ready, as one of a sound,
+    /// closed and clear mesh is until a directive stops, and one step more can be counted.
     pub fn step<O: Outside>(
         &mut self,
         alloc: Global,
@@ -110,7 +112,8 @@ impl<S: Surface> Engine<S> {
     ) -> Result<Result<StepTold, UseWhy>, Stop>
         requires ready { IsReady S.beyond S.mesh S.kept self.old }
         requires steps { self.old.run.steps + 1 < 2 ^ 32 }
-        ensures takes { StepTakes (state_in S.mesh S.kept self.old) (state_in S.mesh S.kept self.new)
+        ensures takes { StepTakes
+            (state_in S.mesh S.kept self.old) (state_in S.mesh S.kept self.new)
             (written_of (O.around outside.old)) (written_of (O.around outside.new))
             (step_untold result) }
         ensures told { IfOk result (λ taken. IfOk taken
@@ -158,20 +161,23 @@ impl<S: Surface> Engine<S> {
     ) -> Result<Option<UseWhy>, Stop>
         requires ready { IsReady S.beyond S.mesh S.kept self.old }
         requires steps { self.old.run.steps + 1 < 2 ^ 32 }
-        ensures takes { StepTakes (state_in S.mesh S.kept self.old) (state_in S.mesh S.kept self.new)
+        ensures takes { StepTakes
+            (state_in S.mesh S.kept self.old) (state_in S.mesh S.kept self.new)
             (written_of (O.around outside.old)) (written_of (O.around outside.new)) result }
         ensures left { IfOk result (λ refused. IsSome refused →
             state_in S.mesh S.kept self.new ≡ state_in S.mesh S.kept self.old) }
         ensures marks { MarksHold S.beyond (S.kept self.new.mesh) self.new.run.groups }
         ensures begins { BeginsWith (S.kept self.new.mesh) (S.kept self.old.mesh) }
-        ensures nothing_stored { StoresNothing (O.around outside.old) (O.around outside.new) result }
+        ensures nothing_stored { StoresNothing
+            (O.around outside.old) (O.around outside.new) result }
     {
         let told = self.step(alloc, outside);
         step_untold(told)
     }
 
-    /// Makes a pass over the mesh, each line of it written. In a group its first `no` line ends it, and makes the group fail. What it tells
-    /// is how many of its lines are of done edits, and how many of refused ones.
+    /// Makes a pass over the mesh, each line of it written. In a group its first `no` line ends it, and makes the group
+    /// fail. What it tells is how many of its lines are of done edits, and how many of refused ones. The engine is ready, as
+    /// one of a sound, closed and clear mesh is until a directive stops.
     pub fn pass<O: Outside>(
         &mut self,
         alloc: Global,
@@ -216,7 +222,8 @@ impl<S: Surface> Engine<S> {
             (written_of (O.around outside.old)) (written_of (O.around outside.new)) result }
         ensures marks { MarksHold S.beyond (S.kept self.new.mesh) self.new.run.groups }
         ensures begins { BeginsWith (S.kept self.new.mesh) (S.kept self.old.mesh) }
-        ensures nothing_stored { StoresNothing (O.around outside.old) (O.around outside.new) result }
+        ensures nothing_stored { StoresNothing
+            (O.around outside.old) (O.around outside.new) result }
     {
         let told = self.pass(alloc, kind, outside);
         pass_untold(told)
@@ -282,10 +289,13 @@ impl<S: Surface> Engine<S> {
         }
     }
 
-    /// Does one directive: its lines are written and its mesh is stored, or it is refused with nothing written or stored and the
-    /// state as it was, or the engine stops in its lines. A drive asks its field once for each live vertex that is not solid, by
-    /// rising id, at the point where it stands. A pass by the sizing asks that at the turn of each edge that still stands, at its
-    /// middle. Earlier marks of the mesh hold, but for those that were made since the opening of a group that is taken back.
+    /// Does one directive: its lines are written and its mesh is stored, or it is refused with nothing written or stored and
+    /// the state as it was, or the engine stops in its lines. A drive asks its field once for each live vertex that is not
+    /// solid, by rising id, at the point where it stands. A pass by the sizing asks that at the turn of each edge that still
+    /// stands, at its middle. Earlier marks of the mesh hold, but for those that were made since the opening of a group that
+    /// is taken back. The engine is ready, as one of a sound, closed and clear mesh is until a directive stops; one step and
+    /// one saved mesh more can be counted; the numbers of the directive are those that a step text may give; and fields and
+    /// sizing may be asked at each point.
     pub fn advance<O: Outside, F: Fn(u8, Point) -> Shift, G: Fn(Point) -> Band>(
         &mut self,
         alloc: Global,

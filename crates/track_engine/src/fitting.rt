@@ -20,8 +20,10 @@ use pass_run::{PassCount, Turns, fit_to};
 use std::alloc::Global;
 
 impl<S: Surface> Engine<S> {
-    /// Makes a pass by the sizing over the mesh, each line of it written. In a group its first `no` line ends it, and makes the group
-    /// fail. What it tells is how many of its lines are of done edits, and how many of refused ones.
+    /// Makes a pass by the sizing over the mesh, each line of it written. In a group its first `no` line ends it, and makes
+    /// the group fail. What it tells is how many of its lines are of done edits, and how many of refused ones. The engine is
+    /// ready, as one of a sound, closed and clear mesh is until a directive stops, and the sizing may be asked at each
+    /// point.
     pub fn fit<O: Outside, G: Fn(Point) -> Band>(
         &mut self,
         alloc: Global,
@@ -65,7 +67,8 @@ impl<S: Surface> Engine<S> {
             (written_of (O.around outside.old)) (written_of (O.around outside.new)) result }
         ensures marks { MarksHold S.beyond (S.kept self.new.mesh) self.new.run.groups }
         ensures begins { BeginsWith (S.kept self.new.mesh) (S.kept self.old.mesh) }
-        ensures nothing_stored { StoresNothing (O.around outside.old) (O.around outside.new) result }
+        ensures nothing_stored { StoresNothing
+            (O.around outside.old) (O.around outside.new) result }
     {
         let told = self.fit(alloc, sizing, outside);
         pass_untold(told)

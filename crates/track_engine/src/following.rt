@@ -23,7 +23,8 @@ use std::alloc::Global;
 use step_text::Placed;
 
 impl<S: Surface> Engine<S> {
-    /// Gives up what the mesh keeps, unless a group is open, to whose mark it may have to go back. The state stays. Takes no memory.
+    /// Gives up what the mesh keeps, unless a group is open, to whose mark it may have to go back. The state stays. Takes no
+    /// memory. The engine is ready, as one of a sound, closed and clear mesh is until a directive stops.
     pub fn settle_outside_groups(&mut self)
         requires { IsReady S.beyond S.mesh S.kept self.old }
         ensures ready { IsReady S.beyond S.mesh S.kept self.new }
@@ -39,11 +40,14 @@ impl<S: Surface> Engine<S> {
         }
     }
 
-    /// Does the directives in order and writes the last line of the log, which tells the first that is refused, with its line in the
-    /// step file, or the end. After each directive that is taken while no group is open, the mesh is settled. At the end of the whole
-    /// log the replay of its lines has the engine's mesh, and the meshes at which the open groups were opened. Where it stops before the
-    /// field of a drive has answered, nothing is written of that drive or beyond; and where it stops in a pass by the sizing, nothing
-    /// beyond the edges of which the sizing has answered.
+    /// Does the directives in order and writes the last line of the log, which tells the first that is refused, with its
+    /// line in the step file, or the end. After each directive that is taken while no group is open, the mesh is settled. At
+    /// the end of the whole log the replay of its lines has the engine's mesh, and the meshes at which the open groups were
+    /// opened. Where it stops before the field of a drive has answered, nothing is written of that drive or beyond; and
+    /// where it stops in a pass by the sizing, nothing beyond the edges of which the sizing has answered. The engine is
+    /// ready, as one of a sound, closed and clear mesh is until a directive stops; as many steps and saved meshes more can
+    /// be counted as there are directives; their numbers are those that a step text may give; and fields and sizing may be
+    /// asked at each point.
     pub fn follow<O: Outside, F: Fn(u8, Point) -> Shift, G: Fn(Point) -> Band>(
         &mut self,
         alloc: Global,

@@ -57,7 +57,8 @@ impl<S: Surface> Engine<S> {
         ensures mesh { S.mesh self.new.mesh ≡ S.mesh self.old.mesh }
         ensures marks { MarksHold S.beyond (S.kept self.new.mesh) self.new.run.groups }
         ensures begins { BeginsWith (S.kept self.new.mesh) (S.kept self.old.mesh) }
-        ensures nothing_stored { StoresNothing (O.around outside.old) (O.around outside.new) result }
+        ensures nothing_stored { StoresNothing
+            (O.around outside.old) (O.around outside.new) result }
     {
         let group = group_here(alloc, &mut self.mesh, self.run.asked.as_slice())?;
         self.run.groups.open(group)?;
@@ -84,7 +85,8 @@ impl<S: Surface> Engine<S> {
         ensures marks { MarksHold S.beyond (S.kept self.new.mesh) self.new.run.groups }
         ensures begins { let left = left_by Close self.old.run.groups (S.kept self.old.mesh) in
             BeginsWith (S.kept self.new.mesh) left }
-        ensures nothing_stored { StoresNothing (O.around outside.old) (O.around outside.new) result }
+        ensures nothing_stored { StoresNothing
+            (O.around outside.old) (O.around outside.new) result }
     {
         let Some(failed) = self.run.groups.has_failed() else {
             return Ok(None);

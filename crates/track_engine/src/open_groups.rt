@@ -70,7 +70,8 @@ impl OpenGroups {
 
     /// Closes the innermost open group, and answers it; None where none is open. Takes no memory.
     pub fn close(&mut self) -> Option<OpenGroup>
-        ensures { MatchOption result (self.old ≡ []) (λ group. self.old ≡ group ∷ self.new) }
+        ensures { MatchOption result ((self.old ≡ []) × (self.new ≡ []))
+            (λ group. self.old ≡ group ∷ self.new) }
     {
         self.innermost_last.pop()
     }

@@ -60,7 +60,8 @@ impl<S: Surface> Engine<S> {
         }
     }
 
-    /// Saves the mesh: its line is written, and then the mesh is stored. After Ok, one mesh more is saved.
+    /// Saves the mesh: its line is written, and then the mesh is stored. After Ok, one mesh more is saved. One saved mesh
+    /// more can be counted, and the decimals are within their limit.
     pub fn save<O: Outside>(
         &mut self,
         alloc: Global,

@@ -33,7 +33,8 @@ impl<S: Surface> Engine<S> {
             state_in S.mesh S.kept self.new ≡ state_in S.mesh S.kept self.old) }
         ensures marks { MarksHold S.beyond (S.kept self.new.mesh) self.new.run.groups }
         ensures begins { BeginsWith (S.kept self.new.mesh) (S.kept self.old.mesh) }
-        ensures nothing_stored { StoresNothing (O.around outside.old) (O.around outside.new) result }
+        ensures nothing_stored { StoresNothing
+            (O.around outside.old) (O.around outside.new) result }
     {
         let id = VertexId(v);
         if self.mesh.point(id).is_none() {

@@ -15,7 +15,8 @@ use step_choose::Choice;
 
 // The line of a shift, where it is not zero.
 fn say_move<O: Outside>(alloc: Global, s: &ShiftOf, outside: &mut O) -> Result<(), Stop>
-    ensures { Says (move_lines (s.now ∷ [])) (O.around outside.old) (O.around outside.new) result }
+    ensures { Says (move_lines (s.now ∷ []))
+        (O.around outside.old) (O.around outside.new) result }
 {
     if !moves(s) {
         return Ok(());
@@ -71,7 +72,8 @@ pub(crate) fn say_way<O: Outside>(
     choice: &Choice,
     outside: &mut O,
 ) -> Result<(), Stop>
-    ensures { Says (way_lines (way_of choice.now)) (O.around outside.old) (O.around outside.new) result }
+    ensures { Says (way_lines (way_of choice.now))
+        (O.around outside.old) (O.around outside.new) result }
 {
     say_blocks(alloc, choice.blocks.as_slice(), outside)?;
     say_moves(alloc, choice.taken.as_slice(), outside)?;

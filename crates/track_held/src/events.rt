@@ -135,7 +135,7 @@ fn put_line(line: &LogLine, events: &mut Events) -> Result<(), NoMemory>
 pub enum EventRefusal {
     /// There was no memory.
     NoMemory,
-    /// What was told is not read as lines, for this first fault: it does not end with a whole one.
+    /// What was told is not read as lines, for this first fault, as where it ends within one.
     Torn(TextFault),
     /// What was told is, with the first line of a log, longer than a log may be that is read.
     Long,

@@ -1,6 +1,7 @@
 //! A pass by a band of lengths that is the same everywhere.
-ghost use Rattle.std.specs.Prelude.{◌≡◌, true, false, Some, IfOk, OnErr};
+ghost use Rattle.std.specs.Prelude.{◌≡◌, true, false, Some, IfOk, OnErr, IfErr};
 ghost use Rattle.mesh_sizing.specs.Sizes.{IsBand, IsWellKept as SizesWell, MayAnswer as MaySize};
+ghost use Rattle.outside_io.specs.declared.stop.Stop.TheVariants as cause;
 ghost use Rattle.track_engine.specs.Engines.{state_in};
 ghost use Rattle.track_engine.specs.Parts.{FitTells};
 ghost use Rattle.track_engine.specs.Ready.{IsReady};
@@ -42,13 +43,16 @@ fn tell_fit<S: Surface, G: Fn(Point) -> Band>(
 impl<S: Surface> Held<S> {
     ghost use Rattle.track_held.specs.Held.{engine_in, log_in, goes_on};
 
-    /// Makes a pass that splits each edge that is longer than the band and collapses each that is shorter, and tells how many edits it did
-    /// and how many were refused: its lines are told, or it stops in them for want of memory, and goes on no more.
+    /// Makes a pass that splits each edge that is longer than the band and collapses each that is shorter, and tells how
+    /// many edits it did and how many were refused: its lines are told, or it stops in them for want of memory, and goes on
+    /// no more. Asked only while it goes on, of a band whose `low` is below its `high`, which is at most `LENGTH_MAX`.
     pub fn fit(&mut self, alloc: Global, band: Band) -> Result<PassCount, Stop>
         requires band { IsBand band }
         requires goes_on { goes_on self.old ≡ true }
         ensures goes_on { IfOk result (λ _. goes_on self.new ≡ true) }
         ensures stopped { OnErr result (goes_on self.new ≡ false) }
+        // There is no other cause to stop.
+        ensures why { IfErr result (λ stop. stop ≡ cause.NoMemory) }
         ensures tells { FitTells (always band) (state_in S.mesh S.kept (engine_in self.old))
             (state_in S.mesh S.kept (engine_in self.new))
             (Some (log_in self.old)) (Some (log_in self.new)) result }
@@ -63,9 +67,9 @@ impl<S: Surface> Held<S> {
                 self.engine.settle_outside_groups();
                 Ok(count)
             }
-            Err(stop) => {
+            Err(_stop) => {
                 self.goes_on = false;
-                Err(stop)
+                Err(Stop::NoMemory)
             }
         }
     }

@@ -1,10 +1,11 @@
 //! An engine between two calls.
-ghost use Rattle.std.specs.Prelude.{◌≡◌, ◌≤◌, ◌<◌, ◌↔◌, true, false, [], Some, IfOk, OnErr, IsSome, IsTrue};
+ghost use Rattle.std.specs.Prelude.{◌≡◌, ◌≤◌, ◌<◌, ◌↔◌, true, false, [], Some, IfOk, OnErr, IfErr, IsSome, IsTrue};
 ghost use Rattle.mesh_base.specs.Valid.{IsValidSurface};
 ghost use Rattle.mesh_field.specs.Stored.{IsWellKept};
 ghost use Rattle.mesh_sizing.specs.Sizes.{IsBand, IsWellKept as SizesWell};
 ghost use Rattle.step_choose.specs.Settings.{AreWithinLimits};
 ghost use Rattle.step_text.specs.Ranges.{IsInRange};
+ghost use Rattle.outside_io.specs.declared.stop.Stop.TheVariants as cause;
 ghost use Rattle.track_engine.specs.Answers.{Nothing};
 ghost use Rattle.track_engine.specs.State.{unsaved};
 ghost use Rattle.track_engine.specs.Effects.{effect_of};
@@ -136,7 +137,7 @@ impl<S: Surface> Held<S> {
         self.engine.run.steps < u32::MAX && self.engine.run.saved < u32::MAX
     }
 
-    /// Goes by these settings from here on. Nothing is told of that.
+    /// Goes by these settings from here on. Nothing is told of that. They are within their limits.
     pub fn set(&mut self, set: Settings)
         requires { AreWithinLimits set }
         ensures log { log_in self.new ≡ log_in self.old }
@@ -177,8 +178,9 @@ impl<S: Surface> Held<S> {
         self.log.clear();
     }
 
-    /// Does one directive that asks neither a field nor the sizing: its lines are told, or it is refused and nothing changes, or
-    /// it stops for want of memory, perhaps in its lines, and goes on no more.
+    /// Does one directive that asks neither a field nor the sizing: its lines are told, or it is refused and nothing
+    /// changes, or it stops for want of memory, perhaps in its lines, and goes on no more. Asked only while it goes on and
+    /// has room (`has_room`), with numbers that a step text may give.
     pub fn take(&mut self, alloc: Global, what: &Directive) -> Result<Option<UseWhy>, Stop>
         requires range { IsInRange what.now }
         requires asks { AsksNothing what.now }
@@ -186,6 +188,8 @@ impl<S: Surface> Held<S> {
         requires room { HasRoom 1 (engine_in self.old).run }
         ensures goes_on { IfOk result (λ _. goes_on self.new ≡ true) }
         ensures stopped { OnErr result (goes_on self.new ≡ false) }
+        // There is no other cause to stop.
+        ensures why { IfErr result (λ stop. stop ≡ cause.NoMemory) }
         ensures tells { let old = state_in S.mesh S.kept (engine_in self.old) in
             Writes (effect_of Nothing what.now old) (state_in S.mesh S.kept (engine_in self.new))
             (Some (log_in self.old)) (Some (log_in self.new)) result }
@@ -210,9 +214,9 @@ impl<S: Surface> Held<S> {
                 Ok(None)
             }
             Ok(Some(why)) => Ok(Some(why)),
-            Err(stop) => {
+            Err(_stop) => {
                 self.goes_on = false;
-                Err(stop)
+                Err(Stop::NoMemory)
             }
         }
     }

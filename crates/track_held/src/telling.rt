@@ -1,7 +1,8 @@
 //! Steps and passes of an engine that is held, with what they tell of themselves.
-ghost use Rattle.std.specs.Prelude.{◌≡◌, true, false, Some, IfOk, OnErr, IsSome};
+ghost use Rattle.std.specs.Prelude.{◌≡◌, true, false, Some, IfOk, OnErr, IfErr, IsSome};
 ghost use Rattle.edit_base.specs.declared.PassKind.{PassKind};
 ghost use Rattle.step_text.specs.declared.Directive.TheVariants.{Step, Pass};
+ghost use Rattle.outside_io.specs.declared.stop.Stop.TheVariants as cause;
 ghost use Rattle.track_engine.specs.Answers.{Nothing};
 ghost use Rattle.track_engine.specs.Effects.{effect_of};
 ghost use Rattle.track_engine.specs.Parts.{Writes};
@@ -71,13 +72,15 @@ fn tell_pass<S: Surface>(
 impl<S: Surface> Held<S> {
     ghost use Rattle.track_held.specs.Held.{engine_in, log_in, goes_on};
 
-    /// Takes a step, and tells how: its lines are told, or it is refused and nothing changes, or it stops in its lines for want of memory,
-    /// and goes on no more.
+    /// Takes a step, and tells how: its lines are told, or it is refused and nothing changes, or it stops in its lines for
+    /// want of memory, and goes on no more. Asked only while it goes on and has room (`has_room`).
     pub fn step(&mut self, alloc: Global) -> Result<Result<StepTold, UseWhy>, Stop>
         requires goes_on { goes_on self.old ≡ true }
         requires room { HasRoom 1 (engine_in self.old).run }
         ensures goes_on { IfOk result (λ _. goes_on self.new ≡ true) }
         ensures stopped { OnErr result (goes_on self.new ≡ false) }
+        // There is no other cause to stop.
+        ensures why { IfErr result (λ stop. stop ≡ cause.NoMemory) }
         ensures tells { let old = state_in S.mesh S.kept (engine_in self.old) in
             Writes (effect_of Nothing Step old) (state_in S.mesh S.kept (engine_in self.new))
             (Some (log_in self.old)) (Some (log_in self.new)) (step_untold result) }
@@ -94,19 +97,21 @@ impl<S: Surface> Held<S> {
                 Ok(Ok(told))
             }
             Ok(Err(why)) => Ok(Err(why)),
-            Err(stop) => {
+            Err(_stop) => {
                 self.goes_on = false;
-                Err(stop)
+                Err(Stop::NoMemory)
             }
         }
     }
 
-    /// Makes a pass, and tells how many edits it did and how many were refused: its lines are told, or it stops in them for want of memory,
-    /// and goes on no more.
+    /// Makes a pass, and tells how many edits it did and how many were refused: its lines are told, or it stops in them for
+    /// want of memory, and goes on no more. Asked only while it goes on.
     pub fn pass(&mut self, alloc: Global, kind: PassKind) -> Result<PassCount, Stop>
         requires goes_on { goes_on self.old ≡ true }
         ensures goes_on { IfOk result (λ _. goes_on self.new ≡ true) }
         ensures stopped { OnErr result (goes_on self.new ≡ false) }
+        // There is no other cause to stop.
+        ensures why { IfErr result (λ stop. stop ≡ cause.NoMemory) }
         ensures tells { let old = state_in S.mesh S.kept (engine_in self.old) in
             Writes (effect_of Nothing (Pass kind) old) (state_in S.mesh S.kept (engine_in self.new))
             (Some (log_in self.old)) (Some (log_in self.new)) (pass_untold result) }
@@ -118,9 +123,9 @@ impl<S: Surface> Held<S> {
                 self.engine.settle_outside_groups();
                 Ok(count)
             }
-            Err(stop) => {
+            Err(_stop) => {
                 self.goes_on = false;
-                Err(stop)
+                Err(Stop::NoMemory)
             }
         }
     }

@@ -1,4 +1,5 @@
 use Rattle.std.proofs.Common.{Some, Err, rules}
+use Rattle.outside_io.specs.declared.stop.Stop.TheVariants.{NoMemory}
 use Rattle.track_engine.specs.Engines.{state_in}
 use Rattle.track_held.specs.Fitting.{always}
 use Rattle.track_held.specs.Growing.{bytes_in}
@@ -17,4 +18,4 @@ returns-in-Err-clause-tells g c =
     let mesh = g.S.Surface.mesh in
     let kept = g.S.Surface.kept in
     fit_too _ (always c.args.band) (λ p band h. search rules) (state_in mesh kept c.args.self.now.engine) (state_in mesh kept c.tell_fit.new.engine)
-    (Some (bytes_in c.args.self.now.log)) (Some (bytes_in c.tell_fit.new.log)) (Err c.in-Err.stop) c.in-Err.ensures.tells
+    (Some (bytes_in c.args.self.now.log)) (Some (bytes_in c.tell_fit.new.log)) (Err NoMemory) c.in-Err.ensures.tells
