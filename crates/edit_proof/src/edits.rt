@@ -17,11 +17,11 @@ use mesh_base::Surface;
 use motion_proof::{Certificate, Claim, Made, Verdict, Way};
 use std::alloc::Global;
 
-/// What the rule makes of the motion of a done edit: a certificate that no pair of it meets, at each fraction, above zero
-/// or below one as its kind claims, or the first pair that does not pass its written test; None exactly for a zip, which
-/// moves nothing. The mesh is sound, closed and clear, and the change is what an edit of it does, tested to some depth.
-/// Whatever is answered, the mesh is as it was, next ids included, and so is what was kept: earlier marks still hold.
-/// Refuses only where there is no memory.
+/// What the rule makes of the motion of a done edit: a certificate that no pair of it meets, at each fraction, above
+/// zero or below one as its kind claims, or the first pair that does not pass its written test; None exactly for a zip,
+/// which moves nothing. The mesh is sound, closed and clear, and the change is what an edit of it does, tested to some
+/// depth. Whatever is answered, the mesh is as it was, next ids included, and so is what was kept: earlier marks still
+/// hold. Refuses only where there is no memory.
 pub fn certify_edit<S: Surface>(
     alloc: Global,
     mesh: &mut S,
@@ -46,7 +46,8 @@ pub fn certify_edit<S: Surface>(
     }
 }
 
-// What is found of a certificate of a motion for which a claim is due, where no untouched pair meets, as `accepts_near` has it.
+// What is found of a certificate of a motion for which a claim is due, where no untouched pair meets, as `accepts_near`
+// has it.
 fn judge_near<S: Surface>(
     alloc: Global,
     mesh: &S,
@@ -66,8 +67,8 @@ fn judge_near<S: Surface>(
     accepts_near(alloc, mesh, ways, proof, fresh_from)
 }
 
-/// What is found of a certificate for the motion of a done edit: NoMotion where it is not of the claim of the edit's kind,
-/// and else the verdict on it; None exactly for a zip, which moves nothing. Mesh, change and what is kept are as
+/// What is found of a certificate for the motion of a done edit: NoMotion where it is not of the claim of the edit's
+/// kind, and else the verdict on it; None exactly for a zip, which moves nothing. Mesh, change and what is kept are as
 /// `certify_edit` has them. Refuses only where there is no memory.
 pub fn judge_edit<S: Surface>(
     alloc: Global,

@@ -1,5 +1,5 @@
-//! Certificates of the motions of edits. Of a mesh that is clear but for what an edit touches, a motion is certified and checked
-//! with a look at what is near that alone; the answers are those over all pairs.
+//! Certificates of the motions of edits. Of a mesh that is clear but for what an edit touches, a motion is certified
+//! and checked with a look at what is near that alone; the answers are those over all pairs.
 #![tactic(auto)]
 
 mod edits;

@@ -13,13 +13,14 @@ use mesh_base::Surface;
 use motion_proof::{Certificate, Claim, Going, Made, Verdict, Way, made_of, verdict_of};
 use std::alloc::Global;
 
-/// What `certify` makes of a motion in half units, word for word, where no untouched pair meets: a certificate of the claim, or the
-/// first pair that does not pass its written test. Faces from the id `fresh_from` on are new. A pair is untouched where its edge is a
-/// side of a face that is not new, its face is not new, and no vertex of the two moves. So a mesh may be given that agrees with a
-/// clear one but for faces from that one's next id on and the vertices that move, as the mesh on which an edit is tested does.
+/// What `certify` makes of a motion in half units, word for word, where no untouched pair meets: a certificate of the
+/// claim, or the first pair that does not pass its written test. Faces from the id `fresh_from` on are new. A pair is
+/// untouched where its edge is a side of a face that is not new, its face is not new, and no vertex of the two moves.
+/// So a mesh may be given that agrees with a clear one but for faces from that one's next id on and the vertices that
+/// move, as the mesh on which an edit is tested does.
 ///
-/// What is looked at are the faces near a box around what is new or moves, as the mesh finds them, and their sides. Refuses only
-/// where there is no memory.
+/// What is looked at are the faces near a box around what is new or moves, as the mesh finds them, and their sides.
+/// Refuses only where there is no memory.
 pub fn certify_near<S: Surface>(
     alloc: Global,
     mesh: &S,
@@ -40,12 +41,13 @@ pub fn certify_near<S: Surface>(
     made_of(alloc, mesh, &going, names.as_slice(), claim)
 }
 
-/// What `accepts` answers to a certificate of a motion in half units, word for word, where no untouched pair meets, as `certify_near`
-/// has it: Accepted exactly where it proves the claim; else the first entry that names no pair, the first whose tree is not valid, or
-/// the first pair without an entry that needs one, in this order. Accepted: the motion is clear, as claimed.
+/// What `accepts` answers to a certificate of a motion in half units, word for word, where no untouched pair meets, as
+/// `certify_near` has it: Accepted exactly where it proves the claim; else the first entry that names no pair, the
+/// first whose tree is not valid, or the first pair without an entry that needs one, in this order. Accepted: the
+/// motion is clear, as claimed.
 ///
-/// What is looked at are the entries, the faces near a box around what is new or moves, and their sides. Refuses only where there is
-/// no memory.
+/// What is looked at are the entries, the faces near a box around what is new or moves, and their sides. Refuses only
+/// where there is no memory.
 pub fn accepts_near<S: Surface>(
     alloc: Global,
     mesh: &S,

@@ -37,9 +37,10 @@ fn resting_frame() -> Frame {
     }
 }
 
-/// The names of the pairs of a mesh that need an entry, in order. Faces from the id `fresh_from` on are new. An edge and a face, both
-/// old, of which no vertex moves, need none where they do not meet; and where one of the two is far from all that is touched, an axis
-/// keeps it and what is touched apart. So the sides of the faces near that are looked at with these faces, and no others.
+/// The names of the pairs of a mesh that need an entry, in order. Faces from the id `fresh_from` on are new. An edge
+/// and a face, both old, of which no vertex moves, need none where they do not meet; and where one of the two is far
+/// from all that is touched, an axis keeps it and what is touched apart. So the sides of the faces near that are looked
+/// at with these faces, and no others.
 pub(crate) fn needing_near<S: Surface>(
     alloc: Global,
     going: &Going<S>,

@@ -1,4 +1,5 @@
-//! A box that has each touched face: where it stands, and all its way. A face is touched where it is new, or has a corner that moves.
+//! A box that has each touched face: where it stands, and all its way. A face is touched where it is new, or has a
+//! corner that moves.
 ghost use Rattle.std.specs.Prelude.{◌≡◌, ◌-◌, [], IfOk, All};
 ghost use Rattle.std.specs.FinMap as map;
 ghost use Rattle.grid_base.specs.Triples.{Triple};

@@ -8,21 +8,23 @@ ghost use Rattle.edit_check.specs.Untouched.{IsClearWhereUntouched};
 ghost use Rattle.edit_any.specs.Dispatch.{scaffold_of};
 ghost use Rattle.motion_proof.specs.Acceptance.{AreWays};
 
-/// The mesh on which an edit is tested agrees with the edited one but for new faces and the vertices that move; so where the edited
-/// mesh is clear, only pairs with a new face or a vertex that moves need be looked at.
+/// The mesh on which an edit is tested agrees with the edited one but for new faces and the vertices that move; so
+/// where the edited mesh is clear, only pairs with a new face or a vertex that moves need be looked at.
 pub fn scaffolds_agree()
     ensures { (m : Mesh) (change : Change) →
         IfSome (scaffold_of m change) (λ s. AgreesWhereOld m s.mesh s.moves) }
 {}
 
-/// So of a clear mesh the scaffold of an edit is clear where nothing is touched: where faces from the mesh's next id on are new, and the
-/// vertices move as they do there. Its motion may be certified, and a certificate of it checked, by what is near what is touched.
+/// So of a clear mesh the scaffold of an edit is clear where nothing is touched: where faces from the mesh's next id on
+/// are new, and the vertices move as they do there. Its motion may be certified, and a certificate of it checked, by
+/// what is near what is touched.
 pub fn scaffolds_are_clear_where_untouched()
     ensures { (m : Mesh) (change : Change) → IsSound m → IsClearMesh m →
         IfSome (scaffold_of m change) (λ s. IsClearWhereUntouched s.mesh s.moves m.next_face) }
 {}
 
-/// The ways of the scaffold of an edit begin and end within the greatest size of a position in half units, as a certificate needs them.
+/// The ways of the scaffold of an edit begin and end within the greatest size of a position in half units, as a
+/// certificate needs them.
 pub fn scaffold_ways_are_within()
     ensures { (m : Mesh) (change : Change) →
         IfSome (scaffold_of m change) (λ s. AreWays s.moves) }

@@ -24,8 +24,9 @@ fn moves_nothing(change: &Change) -> bool
     }
 }
 
-/// On what a done edit was tested: a mesh, and how its vertices move; None exactly for a zip, which moves nothing. The mesh is closed,
-/// and the change is what an edit of it does, tested to some depth. The mesh that is made has nothing kept, and the given one stays.
+/// On what a done edit was tested: a mesh, and how its vertices move; None exactly for a zip, which moves nothing. The
+/// mesh is closed, and the change is what an edit of it does, tested to some depth. The mesh that is made has nothing
+/// kept, and the given one stays.
 pub fn scaffold_of<S: Surface>(
     alloc: Global,
     mesh: &S,
@@ -48,10 +49,10 @@ pub fn scaffold_of<S: Surface>(
 }
 
 /// Makes of a mesh the one on which a done edit of it was tested, and answers how its vertices move there and what is
-/// claimed of that, as `scaffold_of` does of a copy; None exactly for a zip, which moves nothing. The mesh is closed, and
-/// the change is what an edit of it does, tested to some depth. A return to the mark gives the mesh from before back, next
-/// ids included, and leaves what was kept before. After None, and where memory is wanting, the mesh is as it was, next ids
-/// included, and so is what was kept. Earlier marks still hold.
+/// claimed of that, as `scaffold_of` does of a copy; None exactly for a zip, which moves nothing. The mesh is closed,
+/// and the change is what an edit of it does, tested to some depth. A return to the mark gives the mesh from before
+/// back, next ids included, and leaves what was kept before. After None, and where memory is wanting, the mesh is as it
+/// was, next ids included, and so is what was kept. Earlier marks still hold.
 ///
 /// What it costs is what the edit changes, and the mark: no copy of the mesh is made where marks make none.
 pub fn lay<S: Surface>(

@@ -178,8 +178,8 @@ fn put_for_pinch<S: Surface>(
     })
 }
 
-// Makes of a mesh the one on which an edit of it is tested, and answers how its vertices move there. Where memory is wanting, some of it
-// may be done.
+// Makes of a mesh the one on which an edit of it is tested, and answers how its vertices move there. Where memory is
+// wanting, some of it may be done.
 pub(crate) fn put<S: Surface>(
     alloc: Global,
     mesh: &mut S,

@@ -62,7 +62,8 @@ fn put_sides(sides: &mut Sides, f: &[u32; 3]) -> Result<(), NoMemory>
 // The sides of the faces.
 fn sides_of(alloc: Global, faces: &[[u32; 3]]) -> Result<Sides, NoMemory>
     ensures up { IfOk result (λ sides. HasRuns sides.up.items (λ u v. runs_in faces.now u v)) }
-    ensures down { IfOk result (λ sides. HasRuns sides.down.items (λ u v. runs_in faces.now v u)) }
+    ensures down { IfOk result (λ sides.
+        HasRuns sides.down.items (λ u v. runs_in faces.now v u)) }
     ensures small_up { IfOk result (λ sides. AreSmall sides.up.items) }
     ensures small_down { IfOk result (λ sides. AreSmall sides.down.items) }
 {

@@ -124,7 +124,8 @@ impl<K: Sink> Sink for LogWatch<K> {
     fn write(&mut self, bytes: &[u8]) -> Result<usize, Failed>
         ensures within { IfOk result (λ n. n ≤ length bytes.now) }
         ensures taken { IfOk result
-            (λ n. K.written self.new.sink ≡ appended (K.written self.old.sink) (take n bytes.now)) }
+            (λ n. K.written self.new.sink
+            ≡ appended (K.written self.old.sink) (take n bytes.now)) }
         ensures some { IfOk result (λ n. 0 < length bytes.now → 0 < n) }
         ensures refused { OnErr result (K.written self.new.sink ≡ K.written self.old.sink) }
         ensures cause { HasCause (K.faults self.old.sink) (K.faults self.new.sink) result }

@@ -50,7 +50,8 @@ fn places(five: &TopoFive) -> Option<Positions>
 
 /// Whether an edge and a triangle share a position, 1 or 0.
 pub(crate) fn tell_meets(five: &TopoFive, answer: &mut u32) -> u32
-    ensures { HasTested (AreInBox five.now) (MeetAt (places five.now)) answer.old answer.new result }
+    ensures { HasTested (AreInBox five.now) (MeetAt (places five.now))
+        answer.old answer.new result }
 {
     let Some(at) = places(five) else {
         return RANGE;
@@ -78,7 +79,8 @@ fn pass_at(s: &Positions, t: &Positions, depth: u8) -> bool
 pub(crate) fn tell_passes(start: &TopoFive, end: &TopoFive, depth: u8, answer: &mut u32) -> u32
     ensures tests { HasTested (CanPass depth start.now end.now)
         (Passes depth (places start.now) (places end.now)) answer.old answer.new result }
-    ensures clear { result ≡ 0 → answer.new ≡ 1 → NeverMeet (places start.now) (places end.now) }
+    ensures clear { result ≡ 0 → answer.new ≡ 1 →
+        NeverMeet (places start.now) (places end.now) }
 {
     if depth > DEPTH_MAX {
         return RANGE;

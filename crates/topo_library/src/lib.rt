@@ -257,8 +257,8 @@ pub extern "C" fn topo_flip(
     edits: &mut TopoEdits,
     fault: &mut TopoFault,
 ) -> u32
-    ensures does { HandleHasDone (directive.Pass pass.Flip) topo.old.owned.value topo.new.owned.value
-        fault.old fault.new result }
+    ensures does { HandleHasDone (directive.Pass pass.Flip)
+        topo.old.owned.value topo.new.owned.value fault.old fault.new result }
     ensures tells { HandleHasTold (λ t. edits_told (pass_told pass.Flip (tracked t)))
         topo.old.owned.value edits.old edits.new result }
 {
@@ -297,8 +297,8 @@ pub extern "C" fn topo_pinch(
     edits: &mut TopoEdits,
     fault: &mut TopoFault,
 ) -> u32
-    ensures does { HandleHasDone (directive.Pass pass.Pinch) topo.old.owned.value topo.new.owned.value
-        fault.old fault.new result }
+    ensures does { HandleHasDone (directive.Pass pass.Pinch)
+        topo.old.owned.value topo.new.owned.value fault.old fault.new result }
     ensures tells { HandleHasTold (λ t. edits_told (pass_told pass.Pinch (tracked t)))
         topo.old.owned.value edits.old edits.new result }
 {
@@ -316,7 +316,8 @@ pub extern "C" fn topo_fit(
     edits: &mut TopoEdits,
 ) -> u32
     ensures beyond { ¬ IsBand (band_of low high) →
-        (result ≡ 3) × (topo.new.owned.value ≡ topo.old.owned.value) × (edits.new ≡ edits.old) }
+        (result ≡ 3) × (topo.new.owned.value ≡ topo.old.owned.value)
+        × (edits.new ≡ edits.old) }
     ensures fits { IsBand (band_of low high) → HandleHasFitted (band_of low high)
         topo.old.owned.value topo.new.owned.value edits.old edits.new result }
 {
@@ -370,7 +371,8 @@ pub extern "C" fn topo_close(
 /// How many vertices and faces live, which ids the next vertex and the next face get, how many steps were taken, and how many bytes the log has.
 #[unsafe(no_mangle)]
 pub extern "C" fn topo_counts(alloc: Global, topo: &mut Topo, counts: &mut TopoCounted) -> u32
-    ensures { HandleHasCounted topo.old.owned.value topo.new.owned.value counts.old counts.new result }
+    ensures { HandleHasCounted topo.old.owned.value topo.new.owned.value
+        counts.old counts.new result }
 {
     count(alloc, topo, counts)
 }
@@ -383,8 +385,8 @@ pub extern "C" fn topo_points(
     into: &mut [NamedPoint],
     size: &mut usize,
 ) -> u32
-    ensures { HandleHasPut (λ t. named_points (tracked t).mesh) topo.old.owned.value topo.new.owned.value
-        into.old into.new size.old size.new result }
+    ensures { HandleHasPut (λ t. named_points (tracked t).mesh)
+        topo.old.owned.value topo.new.owned.value into.old into.new size.old size.new result }
 {
     read_points(alloc, topo, into, size)
 }
@@ -397,8 +399,8 @@ pub extern "C" fn topo_faces(
     into: &mut [NamedFace],
     size: &mut usize,
 ) -> u32
-    ensures { HandleHasPut (λ t. named_faces (tracked t).mesh) topo.old.owned.value topo.new.owned.value
-        into.old into.new size.old size.new result }
+    ensures { HandleHasPut (λ t. named_faces (tracked t).mesh)
+        topo.old.owned.value topo.new.owned.value into.old into.new size.old size.new result }
 {
     read_faces(alloc, topo, into, size)
 }
@@ -411,8 +413,8 @@ pub extern "C" fn topo_solids(
     into: &mut [u32],
     size: &mut usize,
 ) -> u32
-    ensures { HandleHasPut (λ t. solid_vertices (tracked t).mesh) topo.old.owned.value topo.new.owned.value
-        into.old into.new size.old size.new result }
+    ensures { HandleHasPut (λ t. solid_vertices (tracked t).mesh)
+        topo.old.owned.value topo.new.owned.value into.old into.new size.old size.new result }
 {
     read_solids(alloc, topo, into, size)
 }
@@ -472,7 +474,8 @@ pub extern "C" fn topo_meets(at: &TopoFive, meets: &mut u32) -> u32
 pub extern "C" fn topo_passes(start: &TopoFive, end: &TopoFive, depth: u8, passes: &mut u32) -> u32
     ensures tests { HasTested (CanPass depth start.now end.now)
         (Passes depth (places start.now) (places end.now)) passes.old passes.new result }
-    ensures clear { result ≡ 0 → passes.new ≡ 1 → NeverMeet (places start.now) (places end.now) }
+    ensures clear { result ≡ 0 → passes.new ≡ 1 →
+        NeverMeet (places start.now) (places end.now) }
 {
     tell_passes(start, end, depth, passes)
 }

@@ -53,8 +53,8 @@ pub(crate) fn read_points(
     into: &mut [NamedPoint],
     size: &mut usize,
 ) -> u32
-    ensures { HandleHasPut (λ t. named_points (tracked t).mesh) topo.old.owned.value topo.new.owned.value
-        into.old into.new size.old size.new result }
+    ensures { HandleHasPut (λ t. named_points (tracked t).mesh)
+        topo.old.owned.value topo.new.owned.value into.old into.new size.old size.new result }
 {
     let Some(b) = topo.take(alloc) else {
         return EMPTY;
@@ -71,8 +71,8 @@ pub(crate) fn read_faces(
     into: &mut [NamedFace],
     size: &mut usize,
 ) -> u32
-    ensures { HandleHasPut (λ t. named_faces (tracked t).mesh) topo.old.owned.value topo.new.owned.value
-        into.old into.new size.old size.new result }
+    ensures { HandleHasPut (λ t. named_faces (tracked t).mesh)
+        topo.old.owned.value topo.new.owned.value into.old into.new size.old size.new result }
 {
     let Some(b) = topo.take(alloc) else {
         return EMPTY;
@@ -95,8 +95,8 @@ fn put_solids(alloc: Global, tracker: &Tracker, into: &mut [u32], size: &mut usi
 
 /// Puts the solid vertices, by rising id, into a buffer.
 pub(crate) fn read_solids(alloc: Global, topo: &mut Topo, into: &mut [u32], size: &mut usize) -> u32
-    ensures { HandleHasPut (λ t. solid_vertices (tracked t).mesh) topo.old.owned.value topo.new.owned.value
-        into.old into.new size.old size.new result }
+    ensures { HandleHasPut (λ t. solid_vertices (tracked t).mesh)
+        topo.old.owned.value topo.new.owned.value into.old into.new size.old size.new result }
 {
     let Some(b) = topo.take(alloc) else {
         return EMPTY;
@@ -197,7 +197,8 @@ fn counts_of(tracker: &Tracker) -> TopoCounted
 
 /// How many vertices and faces live, which ids come next, how many steps were taken, and how many bytes the log has.
 pub(crate) fn count(alloc: Global, topo: &mut Topo, counts: &mut TopoCounted) -> u32
-    ensures { HandleHasCounted topo.old.owned.value topo.new.owned.value counts.old counts.new result }
+    ensures { HandleHasCounted topo.old.owned.value topo.new.owned.value
+        counts.old counts.new result }
 {
     let Some(b) = topo.take(alloc) else {
         return EMPTY;

@@ -17,8 +17,10 @@ ghost use Rattle.track_meshes.specs.Laws.{HoldsAllMeshes, IsOfValidMesh};
 /// Where no number is given, a replay that comes to its end and refuses nothing has stored the files that the lines of the log name. They
 /// are those that a run stored that wrote these lines: under the same names, in the same order, byte for byte.
 pub fn all_meshes_are_stored()
-    ensures lines { (to : Target) (r : Replay) (lines : List LogLine) → wanted_of None to r lines ≡ files_of to r lines }
-    ensures desk { (names : ReplayNames) (old new : World) → names.only ≡ None → Replays names (Ok None) old new →
+    ensures lines { (to : Target) (r : Replay) (lines : List LogLine) →
+        wanted_of None to r lines ≡ files_of to r lines }
+    ensures desk { (names : ReplayNames) (old new : World) →
+        names.only ≡ None → Replays names (Ok None) old new →
         HoldsAllMeshes names old new }
 {}
 

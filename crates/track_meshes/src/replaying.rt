@@ -47,7 +47,8 @@ fn replay_lines<O: Outside>(
     requires few_lines { length lines.now < 2 ^ 31 }
     requires few_decimals { to.decimals ≤ DECIMALS_MAX }
     ensures { let mesh = mesh_in mesh in
-        ReplaysLines only (target_of to.entry) mesh lines.now (O.around outside.old) (O.around outside.new) result }
+        ReplaysLines only (target_of to.entry) mesh lines.now
+        (O.around outside.old) (O.around outside.new) result }
 {
     fitting_lines_are_safe();
     let mut run = LogRun::new(alloc, mesh);
@@ -83,7 +84,8 @@ pub fn replay<O: Outside>(
     outside: &mut O,
 ) -> Result<Option<LogRefusal>, Stop>
     requires few { given.files.decimals ≤ DECIMALS_MAX }
-    ensures headline { Replays (replay_names given.entry) result (O.around outside.old).world (O.around outside.new).world }
+    ensures headline { Replays (replay_names given.entry) result
+        (O.around outside.old).world (O.around outside.new).world }
     ensures same { (O.around outside.new).sides ≡ (O.around outside.old).sides }
 {
     match prepare_log(alloc, given.files, outside)? {
