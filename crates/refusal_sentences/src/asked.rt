@@ -1,7 +1,11 @@
 // What is asked of the vertices behind the last step.
-use grid_base::Shift;
+ghost use Rattle.std.specs.Prelude.{◌≤◌, length};
+ghost use Rattle.grid_base.specs.declared.TheConstants.{TEXT_MAX};
+
+use crate::steps_end::StepsEnd;
+use grid_base::{Shift, TEXT_MAX};
 use std::alloc::{AllocError, Global};
-use step_text::{Directive, Directives};
+use step_text::{Directive, Directives, read_steps};
 
 // A sum of shifts.
 #[derive(Clone, Copy, PartialEq, Eq)]
@@ -79,9 +83,23 @@ fn moves_one(asks: &[Ask]) -> bool {
     sum != NOTHING
 }
 
-/// Whether shifts are asked behind the last step, so that nothing takes them; those of a vertex that sum to zero ask nothing.
-pub fn asks_in_vain(alloc: Global, directives: &Directives) -> Result<bool, AllocError> {
+// Whether directives ask shifts that no step takes; those of a vertex that sum to zero ask nothing.
+fn ask_in_vain(alloc: Global, directives: &Directives) -> Result<bool, AllocError> {
     let mut asks = asks_left(alloc, directives)?;
     asks.each.sort_unstable_by_key(|ask| ask.v);
     Ok(asks.is_driven || asks.all != NOTHING || moves_one(asks.each.as_slice()))
+}
+
+/// Whether shifts are asked behind the last step of a text that ends so, and nothing takes them.
+pub fn asks_in_vain(alloc: Global, text: &[u8], end: &StepsEnd) -> Result<bool, AllocError>
+    requires { length text.now ≤ TEXT_MAX }
+{
+    let asking = end.asking(alloc, text)?;
+    if asking.len() > TEXT_MAX {
+        return Ok(false);
+    }
+    match read_steps(alloc, &asking) {
+        Ok(directives) => ask_in_vain(alloc, &directives),
+        Err(_) => Ok(false),
+    }
 }

@@ -3,7 +3,6 @@ ghost use Rattle.std.specs.Prelude.{◌<◌, ◌≤◌};
 
 use mesh_base::MeshLists;
 use std::alloc::{AllocError, Global};
-use step_text::{Directive, Directives};
 
 // Ten to the power of a number of digits, up to six.
 fn ten_to(digits: u8) -> u32
@@ -114,17 +113,4 @@ pub fn is_inside_out(lists: &MeshLists) -> bool {
         );
     }
     volume < 0.0
-}
-
-/// Whether something is moved or edited behind the last `save`, so that no mesh that is stored has it.
-pub fn is_unsaved(directives: &Directives) -> bool {
-    let mut unsaved = false;
-    for placed in directives.as_slice() {
-        match &placed.what {
-            Directive::Save => unsaved = false,
-            Directive::Step | Directive::Pass(_) | Directive::Fit => unsaved = true,
-            _ => {}
-        }
-    }
-    unsaved
 }

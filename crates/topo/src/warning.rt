@@ -9,12 +9,11 @@ use grid_base::TEXT_MAX;
 use mesh_base::MeshLists;
 use outside_io::{Desk, FileDesk, TryLock};
 use refusal_sentences::{
-    asks_in_vain, is_inside_out, is_unsaved, manifold_warning, prefix_warning, rounding_warning,
+    StepsEnd, asks_in_vain, is_inside_out, manifold_warning, prefix_warning, rounding_warning,
 };
 use std::alloc::{AllocError, Global};
 use std::fs;
 use std::rt::Files;
-use step_text::read_steps;
 use track_input::Format;
 
 // Adds a warning.
@@ -64,21 +63,19 @@ fn mesh_warnings(
 fn steps_warnings(alloc: Global, bytes: &[u8], into: &mut Vec<String>) -> Result<(), AllocError>
     requires { length bytes.now ≤ TEXT_MAX }
 {
-    let Ok(directives) = read_steps(alloc, bytes) else {
-        return Ok(());
-    };
-    if directives.as_slice().is_empty() {
+    let end = StepsEnd::of(bytes);
+    if end.is_empty {
         warn(
             alloc,
             "there are no steps: mesh 0 is the mesh as it was read",
             into,
         )?;
     }
-    if is_unsaved(&directives) {
+    if end.is_unsaved {
         let unsaved = "what is done behind the last `save` is stored in no mesh";
         warn(alloc, unsaved, into)?;
     }
-    if asks_in_vain(alloc, &directives)? {
+    if asks_in_vain(alloc, bytes, &end)? {
         let vain = "shifts are asked behind the last `step`, and nothing takes them";
         warn(alloc, vain, into)?;
     }
