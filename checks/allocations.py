@@ -5,7 +5,8 @@
 
 Each run must end by itself, with status 1 (no memory) or as the whole run did; what it wrote to standard output must be the first bytes of
 the whole log; each mesh whose line was written whole must be stored as in the whole run, but that of a last line, which may be missing; and
-no other file may be there. Of a replay, which writes a line at its end alone, the first meshes must be stored. At most MOST (2,000) allocations of a job are tried, evenly spread. It needs a C compiler, `cc`.
+no other file may be there. Of a replay, which writes a line at its end alone, the first meshes must be stored; of a conversion nothing, and the other commands store no file.
+At most MOST (2,000) allocations of a job are tried, evenly spread. It needs a C compiler, `cc`.
 """
 
 import os
@@ -39,10 +40,24 @@ BOXES = (
 BAR = ("v 12 -6 5\nv 12 60 4\nv 12 60 6\nv 13 60 5\n", "f 17 19 18\nf 17 18 20\nf 18 19 20\nf 17 20 19\n")
 LARGE = TETRAHEDRON.replace("4\nf", "100\nf", 1).replace("v 4 0 0\nv 0 4 0", "v 100 0 0\nv 0 100 0", 1)
 PARTED_LOG = "topo log 2\nmesh 0 8 12\npass collapse 10\ncollapse 1 2 0 0 4\npass pinch\npinch 1 13 0 4 9 -13 0 4\nmesh 1 8 8\nend\n"
+PARTED_PROOF = "topo proof 1\nend\n"
+MOVED_LOG = "topo log 2\nmesh 0 4 4\nstep 1\n" + "".join(f"move {v} 1 2 3\n" for v in (1, 2, 3, 4)) + "moved whole\nmesh 1 4 4\nend\n"
+MOVED_PROOF = "topo proof 1\nmotion 8 along\nend\n"
+CUBE = (
+    "v 1 1 -1\nv 1 -1 -1\nv 1 1 1\nv 1 -1 1\nv -1 1 -1\nv -1 -1 -1\nv -1 1 1\nv -1 -1 1\n"
+    "f 1 5 7 3\nf 4 3 7 8\nf 8 7 5 6\nf 6 2 4 8\nf 2 1 3 4\nf 6 5 1 2\n"
+)
+INTO_A_FACE = "shift 5 -8 0 0\nstep\n"
+GROUPS = "set passes 0\nset zones 0\ngroup\ngroup\n" + INTO_A_FACE + "close\nshift all 1 0 0\nstep\nclose\nsave\n"
 WITH_A_BAR = BOXES.replace("f 1 3 2\n", BAR[0] + "f 1 3 2\n", 1) + BAR[1]
 JOBS = [
     ("a step that is whole", TETRAHEDRON, "shift all 1 2 3\nstep\nsave\n"),
-    ("a step that is halved", TWO, "shift 5 -8 0 0\nstep\nsave\n"),
+    ("a step by an impulse", TWO, INTO_A_FACE + "save\n"),
+    ("a step by zones", TWO, "set passes 0\n" + INTO_A_FACE + "save\n"),
+    ("a step that is halved", TWO, "set passes 0\nset zones 0\n" + INTO_A_FACE + "save\n"),
+    ("groups, one kept and one not", TWO, GROUPS),
+    ("a solid vertex", TWO, "solid 1\n" + INTO_A_FACE + "save\n"),
+    ("drives by a field, and passes that find nothing", CUBE, "drive swirl\nstep\n" * 10 + "split 3000\ncollapse 100\nflip\nsave\n", "track --decimals 3"),
     ("splits", TETRAHEDRON, "split 3\nsave\n"),
     ("a flip", FLAT, "flip\nsave\n"),
     ("steps, splits and flips", TWO, "shift all 1 0 0\nstep\nsplit 10\nflip\nshift 5 -3 1 0\nstep\nsave\nsplit 6\nsave\n"),
@@ -56,6 +71,10 @@ JOBS = [
     ("a log with a line that does not fit", PARTED, PARTED_LOG.replace("0 0 4\n", "0 0 5\n", 1), "measure"),
     ("a log that is proved", PARTED, PARTED_LOG, "prove"),
     ("a log that is replayed", PARTED, PARTED_LOG, "replay"),
+    ("a proof that is verified", TETRAHEDRON, MOVED_LOG, "verify", MOVED_PROOF),
+    ("a proof that lacks a motion", PARTED, PARTED_LOG, "verify", PARTED_PROOF),
+    ("a mesh that is converted", TETRAHEDRON, "", "convert"),
+    ("a generated job", "", "", "try"),
     ("a mesh that meets itself, looked at", CROSSED, "", "check"),
     ("a mesh without a face, looked at", TETRAHEDRON.replace("f 1 4 3\n", ""), "", "check"),
 ]
@@ -65,23 +84,28 @@ WORDS = {
     "measure": ["mesh.obj", "steps.txt"],
     "prove": ["mesh.obj", "steps.txt"],
     "replay": ["mesh.obj", "steps.txt", "t"],
+    "verify": ["mesh.obj", "steps.txt", "proof.txt"],
+    "convert": ["mesh.obj", "t.ply"],
     "check": ["mesh.obj"],
+    "try": ["2", "7"],
 }
+INPUTS = ("mesh.obj", "steps.txt", "proof.txt")
 
 
-def run(folder, shim, mesh, steps, command, fail_at=0):
+def run(folder, shim, texts, command, fail_at=0):
     """The status, the bytes written, the files stored and the count of allocations. A log that is read stands in the place of steps."""
     for name in os.listdir(folder):
         os.remove(os.path.join(folder, name))
-    for name, text in (("mesh.obj", mesh), ("steps.txt", steps)):
+    for name, text in zip(INPUTS, texts):
         with open(os.path.join(folder, name), "w") as out:
             out.write(text)
     count = os.path.join(folder, "count")
     env = {"LD_PRELOAD": shim, "FAIL_AT": str(fail_at), "COUNT_TO": count, "PATH": "/usr/bin:/bin"}
-    ran = subprocess.run([PROGRAM, command, *WORDS[command]], cwd=folder, stdout=subprocess.PIPE, stderr=subprocess.PIPE, env=env, timeout=60)
+    command, *options = command.split()
+    ran = subprocess.run([PROGRAM, command, *WORDS[command], *options], cwd=folder, stdout=subprocess.PIPE, stderr=subprocess.PIPE, env=env, timeout=60)
     files = {}
     for name in os.listdir(folder):
-        if name not in ("mesh.obj", "steps.txt", "count"):
+        if name not in (*INPUTS, "count"):
             with open(os.path.join(folder, name), "rb") as it:
                 files[name] = it.read()
     with open(count) as it:
@@ -102,6 +126,10 @@ def is_as_promised(command, whole, ended):
         return True
     if command == "replay":
         return now_status == 1 and now_log == b"" and now_files == {name: files[name] for name in sorted(files)[: len(now_files)]}
+    if command == "convert":
+        return now_status == 1 and now_log == b"" and now_files == {}
+    if command.split()[0] != "track":
+        return now_status == 1 and log.startswith(now_log) and now_files == {}
     named, is_open = named_in(now_log)
     due = set(named[:-1]) if is_open else set(named)
     stored = all(files.get(name) == text for name, text in now_files.items())
@@ -117,13 +145,14 @@ def main():
         subprocess.run(["cc", "-O1", "-shared", "-fPIC", "-o", shim, os.path.join(ROOT, "checks/failing_alloc.c")], check=True)
         os.mkdir(folder)
         for what, mesh, steps, *others in JOBS:
-            command = others[0] if others else "track"
-            whole = run(folder, shim, mesh, steps, command)
+            command, *proof = others or ["track"]
+            texts = (mesh, steps, *proof)
+            whole = run(folder, shim, texts, command)
             total = whole[3]
             tried = sorted({1 + at * total // min(total, most) for at in range(min(total, most))})
             bad, stopped = [], 0
             for at in tried:
-                ended = run(folder, shim, mesh, steps, command, at)
+                ended = run(folder, shim, texts, command, at)
                 stopped += ended[0] == 1
                 if not is_as_promised(command, whole, ended):
                     bad.append((at, ended[0]))

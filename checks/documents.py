@@ -3,7 +3,7 @@
 
     checks/documents.py
 
-The statuses that docs/FORMATS.md lists are those of `topo --help`, word for word, which is told without a build too, and README.md has each form of its words; each log that README.md
+The statuses that docs/FORMATS.md lists are those of `topo --help`, word for word, which is told without a build too, README.md has each form of its words, of which the help of its command names each; each log that README.md
 and docs/EXAMPLES.md show is a part of that of the command before it, run anew; the proof that docs/CERTIFICATES.md shows is that of a worked case;
 each crate has its line in docs/PROVED.md and in docs/ARCHITECTURE.md, and each file that a document names is there; and what docs/ARCHITECTURE.md and docs/HARDENING.md
 count, files on a way and wrong edits, is as many. Each crate but those of tests has a README.md: the names that it hands up are public in its sources, and its example stands,
@@ -49,6 +49,14 @@ def help_without_build():
 def statuses_in(text):
     """The statuses of a table with two columns."""
     return [(number, words) for number, words in re.findall(r"(?m)^\| (\d+) \| (.+?) \|$", text)]
+
+
+def is_helped(form):
+    """Whether a command tells its help, by either word for it, which has the command's name and each word in capitals of its form."""
+    name, wanted = form.split()[0], re.findall(r"[A-Z]+", form)
+    ran = [subprocess.run([TOPO, name, asked], stdout=subprocess.PIPE, timeout=60) for asked in ("--help", "-h")]
+    texts = [one.stdout.decode() for one in ran if one.returncode == 0]
+    return len(texts) == 2 and all(f"topo {name}" in text and all(re.search(rf"\b{word}\b", text) for word in wanted) for text in texts)
 
 
 def shown_logs(text):
@@ -161,6 +169,8 @@ def main():
     forms = re.findall(r"(?m)^(?:usage:|      ) topo (\w+ [A-Z].*)$", helped)
     lacking = [form for form in forms if f"./topo {form}" not in readme]
     checks.append((f"README.md has each of {len(forms)} forms of words {'; '.join(lacking)}".rstrip(), len(forms) > 1 and not lacking))
+    for form in forms:
+        checks.append((f"the help of a command names the words of `{form}`", is_helped(form)))
     checks.append(("./topo tells how it is called without a build", help_without_build() == helped))
     for name, text in (("README.md", readme), ("docs/EXAMPLES.md", text_of("docs/EXAMPLES.md"))):
         shown = shown_logs(text)

@@ -34,7 +34,7 @@ STEPS = "shift all 1 2 3\nstep\nsave\n"
 JOB = ["track", "mesh.obj", "steps.txt", "t"]
 LOG = "topo log 2\nmesh 0 4 4\nstep 1\n" + "".join(f"move {v} 1 2 3\n" for v in (1, 2, 3, 4)) + "moved whole\nmesh 1 4 4\nend\n"
 # the whole output of a command that writes no log, and a log of which a terminal is told before its end
-WHOLE = {"measure": MEASURED, "prove": PROVED, "verify": "verified 1\n", "replay": "replayed 2\n", "check": "checked 4 4 faults 0\n"}
+WHOLE = {"measure": MEASURED, "prove": PROVED, "verify": "verified 1\n", "replay": "replayed 2\n", "check": "checked 4 4 faults 0\n", "convert": "converted 4 4\n"}
 LONG_LOG = LOG.removesuffix("end\n") + "".join(f"step {k}\nmove 1 0 0 {1 - 2 * (k % 2)}\nmoved whole\n" for k in range(2, 102)) + "end\n"
 
 
@@ -328,6 +328,13 @@ def main():
             ("a mesh to look at of 64 MiB and a byte", ["check", "long.obj"], None, 5, "refused long mesh 67108865"),
             ("a mesh to look at of no format", ["check", "steps.txt"], None, 2, None),
             ("a mesh to look at that may not be read", ["check", "secret.obj"], None, 3, None),
+            ("a mesh that is converted", ["convert", "mesh.obj", "open/c.obj"], None, 0, "converted 4 4", {"open/c.obj": MESH}),
+            ("a mesh that is converted, to a full device", ["convert", "mesh.obj", "open/d.obj"], lambda: os.open("/dev/full", os.O_WRONLY), 4, None, {"open/d.obj": MESH}),
+            ("a mesh that is converted to a folder that may not be written", ["convert", "mesh.obj", "shut/c.obj"], None, 3, None),
+            ("a mesh that is converted onto a full device", ["convert", "mesh.obj", "device/c.obj"], None, 3, None, {"device/c.obj": None}),
+            ("no such mesh to be converted", ["convert", "none.obj", "open/n.obj"], None, 11, "refused missing mesh", {"open/n.obj": None}),
+            ("a mesh to be converted of 64 MiB and a byte", ["convert", "long.obj", "open/n.obj"], None, 5, "refused long mesh 67108865", {"open/n.obj": None}),
+            ("a mesh to be converted that may not be read", ["convert", "secret.obj", "open/n.obj"], None, 3, None, {"open/n.obj": None}),
             ("no such mesh file", ["track", "none.obj", "steps.txt", "t"], None, 11, "refused missing mesh"),
             ("no such step file", ["track", "mesh.obj", "none.txt", "t"], None, 11, "refused missing steps"),
             ("a mesh file in no folder", ["track", "nowhere/mesh.obj", "steps.txt", "t"], None, 11, "refused missing mesh"),

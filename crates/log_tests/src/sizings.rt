@@ -6,6 +6,7 @@ ghost use Rattle.mesh_base.specs.Sides.{IsClosed};
 use crate::meshes::{EVEN, RIGHT, TETRAHEDRON, lists_of};
 use grid_base::Point;
 use mesh_base::Surface;
+use mesh_journal::JournalMesh;
 use mesh_plain::{PlainMesh, shape};
 use mesh_sizing::{Band, Sizing, Want};
 use outside_io::MemorySink;
@@ -88,6 +89,43 @@ fn a_sink_may_fail_in_between(rt: HostRuntime) -> Result<(), Fail> {
     assert!(rt; found.0 == Err(PassFault::SinkFault));
     let first: &[u8] = b"pass fit\nsplit 1 2 5 50 0 0\n";
     assert!(rt; out.bytes() == first);
+    Ok(())
+}
+
+// The lines of a pass that may make no vertex.
+const FULL: &[u8] = b"pass fit\nno split 1 2 full\nno split 1 3 full\nno split 1 4 full\n\
+no split 2 3 full\nno split 2 4 full\nno split 3 4 full\n";
+
+// The even tetrahedron, of which the last id of a vertex is given.
+fn full_journal(alloc: Global, rt: &impl Abort) -> Result<JournalMesh, Fail>
+    ensures closed { IfOk result (λ s. IsClosed (⟦<JournalMesh as Surface>⟧.mesh s)) }
+    ensures clear { IfOk result (λ s. IsClearMesh (⟦<JournalMesh as Surface>⟧.mesh s)) }
+{
+    let lists = lists_of(alloc, EVEN, rt)?;
+    let shaped = shape(alloc, &lists);
+    assert!(rt; shaped.is_ok());
+    assert_eq!(rt; (lists.points.len(), lists.faces.len()), (4, 4));
+    let mesh = JournalMesh::of_numbered(alloc, &lists, 2_147_483_649, 5)?;
+    let meeting = first_meeting(alloc, &mesh)?;
+    assert!(rt; meeting.is_none());
+    Ok(mesh)
+}
+
+#[test]
+fn no_vertex_is_made_where_the_last_id_is_given(rt: HostRuntime) -> Result<(), Fail> {
+    let alloc = rt.alloc();
+    let mut mesh = full_journal(alloc, &rt)?;
+    let sizing = Sizing::new(|_: Point| Band { low: 20, high: 60 });
+    let mut out = MemorySink::new(alloc, 1_000, Vec::new(alloc))?;
+    let found = fit_pass(alloc, &mut mesh, &sizing, 6, false, &mut out);
+    let count = PassCount {
+        done: 0,
+        refused: 6,
+    };
+    assert!(rt; found == Ok(count));
+    assert!(rt; out.bytes() == FULL);
+    assert_eq!(rt; (mesh.vertices(), mesh.faces()), (4, 4));
+    assert_eq!(rt; (mesh.next_vertex(), mesh.next_face()), (2_147_483_649, 5));
     Ok(())
 }
 

@@ -1,4 +1,4 @@
-//! A list of acts, each played on a plain mesh and on half-edges, taken back and played again.
+//! A list of acts, each played on a plain mesh, on half-edges and on a journal, taken back and played again.
 ghost use Rattle.std.specs.Prelude.{◌≡◌, OnOk, IfOk, None, length, true};
 ghost use Rattle.mesh_base.specs.Changes.{IsFresh};
 ghost use Rattle.mesh_base.specs.Given.{mesh_of};
@@ -343,6 +343,57 @@ fn plain_meshes_and_half_edges_answer_alike(rt: HostRuntime) -> Result<(), Fail>
     for row in &ROWS {
         play_row(&rt, rt.alloc(), &mut plain, &mut half, row)?;
     }
+    Ok(())
+}
+
+#[test]
+fn plain_meshes_and_journals_answer_alike(rt: HostRuntime) -> Result<(), Fail> {
+    let lists = tetrahedron(rt.alloc())?;
+    assert!(rt; shape(rt.alloc(), &lists).is_ok());
+    let mut plain = PlainMesh::of(rt.alloc(), &lists)?;
+    let mut journal = JournalMesh::of(rt.alloc(), &lists)?;
+    for row in &ROWS {
+        play_row(&rt, rt.alloc(), &mut plain, &mut journal, row)?;
+    }
+    Ok(())
+}
+
+#[test]
+fn a_return_gives_the_ids_back_of_each_mesh(rt: HostRuntime) -> Result<(), Fail> {
+    let lists = tetrahedron(rt.alloc())?;
+    assert!(rt; shape(rt.alloc(), &lists).is_ok());
+    let calls = [
+        Call::Ask {
+            question: Question::FacesAt { v: VertexId(1) },
+        },
+        Call::MakeMark,
+        Call::Make {
+            act: Act::AddVertex { p: FAR },
+        },
+        Call::Ask {
+            question: Question::NextVertex,
+        },
+        Call::BackTo { nth: 0 },
+        Call::Ask {
+            question: Question::NextVertex,
+        },
+        Call::Ask {
+            question: Question::NextFace,
+        },
+    ];
+    let wants = [
+        Want::Faces([Some(FaceId(1)), Some(FaceId(2)), Some(FaceId(4)), None]),
+        Want::Done,
+        Want::VertexMade(VertexId(5)),
+        Want::Number(6),
+        Want::Done,
+        Want::Number(5),
+        Want::Number(5),
+    ];
+    let told = play_three(rt.alloc(), &lists, &calls)?;
+    assert_told(&rt, &told.plain, &wants);
+    assert_told(&rt, &told.half, &wants);
+    assert_told(&rt, &told.journal, &wants);
     Ok(())
 }
 

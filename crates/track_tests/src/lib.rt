@@ -8,6 +8,8 @@ mod drives;
 #[cfg(test)]
 mod readings;
 #[cfg(test)]
+mod refusals;
+#[cfg(test)]
 mod runs;
 #[cfg(test)]
 mod tries;

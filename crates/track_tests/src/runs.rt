@@ -1,14 +1,16 @@
-//! Faults outside in mid-run, and a mesh file that ends anywhere. What a run writes is shown by the cases that the program is run on.
+//! Faults outside in mid-run, and files that end anywhere. What a run writes is shown by the cases that the program is run on.
 use grid_base::{Point, Shift};
 use mesh_field::no_fields;
 use mesh_sizing::{Band, Sizing};
 use outside_io::{MemoryDesk, MemorySink};
 use std::alloc::Global;
+use std::process::Abort;
 use std::test::Fail;
 use track_run::run;
 
 // A tetrahedron.
-const MESH: &[u8] = b"v 0 0 0\nv 4 0 0\nv 0 4 0\nv 0 0 4\nf 1 3 2\nf 1 2 4\nf 2 3 4\nf 1 4 3\n";
+pub(crate) const MESH: &[u8] =
+    b"v 0 0 0\nv 4 0 0\nv 0 4 0\nv 0 0 4\nf 1 3 2\nf 1 2 4\nf 2 3 4\nf 1 4 3\n";
 
 // It is moved as a whole by one step, and saved.
 const STEPS: &[u8] = b"shift all 1 2 3\nstep\nsave\n";
@@ -29,14 +31,36 @@ const LINES: [&[u8]; 10] = [
     b"end\n",
 ];
 
-fn first_lines(alloc: Global, count: usize) -> Result<Vec<u8>, Fail> {
+// All of its edges are split, and it is saved.
+const SPLITTING: &[u8] = b"split 3\nsave\n";
+
+// The lines of that log.
+const SPLITS: [&[u8]; 11] = [
+    b"topo log 2\n",
+    b"mesh 0 4 4\n",
+    b"pass split 3\n",
+    b"split 1 2 5 2 0 0\n",
+    b"split 1 3 6 0 2 0\n",
+    b"split 1 4 7 0 0 2\n",
+    b"split 2 3 8 2 2 0\n",
+    b"split 2 4 9 2 0 2\n",
+    b"split 3 4 10 0 2 2\n",
+    b"mesh 1 10 16\n",
+    b"end\n",
+];
+
+fn first_of(alloc: Global, lines: &[&[u8]], count: usize) -> Result<Vec<u8>, Fail> {
     let mut text = Vec::new(alloc);
-    for (i, line) in LINES.iter().enumerate() {
+    for (i, line) in lines.iter().enumerate() {
         if i < count {
             text.extend_from_slice(line)?;
         }
     }
     Ok(text)
+}
+
+fn first_lines(alloc: Global, count: usize) -> Result<Vec<u8>, Fail> {
+    first_of(alloc, &LINES, count)
 }
 
 fn words_of(alloc: Global, words: &[&str]) -> Result<Vec<String>, Fail> {
@@ -75,6 +99,23 @@ fn answer(
 // That of the two files.
 fn track(desk: &mut MemoryDesk, out: &mut MemorySink, alloc: Global) -> Result<u8, Fail> {
     answer(&["track", "mesh.obj", "steps.txt", "t"], desk, out, alloc)
+}
+
+// The run of these two files has this status, and this stands behind the first line of its log.
+pub(crate) fn ends_so(
+    rt: &impl Abort,
+    alloc: Global,
+    mesh: &[u8],
+    steps: &[u8],
+    status: u8,
+    end: &str,
+) -> Result<(), Fail> {
+    let mut desk = desk_of(alloc, mesh, steps)?;
+    let mut out = sink_of(alloc)?;
+    assert_eq!(rt; track(&mut desk, &mut out, alloc)?, status, "{end}");
+    let log = format!(in alloc; "topo log 2\n{end}")?;
+    assert_eq!(rt; out.bytes(), log.as_bytes());
+    Ok(())
 }
 
 #[test]
@@ -145,13 +186,13 @@ fn a_mesh_that_is_not_closed_is_checked(rt: HostRuntime) -> Result<(), Fail> {
 #[test]
 fn each_write_fails_in_turn(rt: HostRuntime) -> Result<(), Fail> {
     let alloc = rt.alloc();
-    for k in 0..10_usize {
-        let mut desk = desk_of(alloc, MESH, STEPS)?;
+    for k in 0..11_usize {
+        let mut desk = desk_of(alloc, MESH, SPLITTING)?;
         let mut out = MemorySink::new(alloc, 1_000, vec![in alloc; k as u64 + 1]?)?;
         assert_eq!(rt; track(&mut desk, &mut out, alloc)?, 4);
-        assert_eq!(rt; out.bytes(), first_lines(alloc, k)?.as_slice());
+        assert_eq!(rt; out.bytes(), first_of(alloc, &SPLITS, k)?.as_slice());
         assert_eq!(rt; desk.file("t-000000.obj").is_some(), k >= 2);
-        assert_eq!(rt; desk.file("t-000001.obj").is_some(), k >= 9);
+        assert_eq!(rt; desk.file("t-000001.obj").is_some(), k >= 10);
     }
     Ok(())
 }
@@ -162,17 +203,17 @@ fn each_fetch_and_store_fails_in_turn(rt: HostRuntime) -> Result<(), Fail> {
     for k in 1..3_u64 {
         let mut desk = MemoryDesk::new(alloc, vec![in alloc; k]?, Vec::new(alloc));
         desk.put("mesh.obj", MESH)?;
-        desk.put("steps.txt", STEPS)?;
+        desk.put("steps.txt", SPLITTING)?;
         let mut out = sink_of(alloc)?;
         assert_eq!(rt; track(&mut desk, &mut out, alloc)?, 3);
-        assert_eq!(rt; out.bytes(), first_lines(alloc, 1)?.as_slice());
+        assert_eq!(rt; out.bytes(), first_of(alloc, &SPLITS, 1)?.as_slice());
         let mut desk = MemoryDesk::new(alloc, Vec::new(alloc), vec![in alloc; k]?);
         desk.put("mesh.obj", MESH)?;
-        desk.put("steps.txt", STEPS)?;
+        desk.put("steps.txt", SPLITTING)?;
         let mut out = sink_of(alloc)?;
         assert_eq!(rt; track(&mut desk, &mut out, alloc)?, 3);
-        let lines = if k == 1 { 2 } else { 9 };
-        assert_eq!(rt; out.bytes(), first_lines(alloc, lines)?.as_slice());
+        let lines = if k == 1 { 2 } else { 10 };
+        assert_eq!(rt; out.bytes(), first_of(alloc, &SPLITS, lines)?.as_slice());
         assert_eq!(rt; desk.file("t-000000.obj").is_some(), k == 2);
         assert_eq!(rt; desk.file("t-000001.obj"), None);
     }
@@ -216,6 +257,40 @@ fn a_mesh_file_is_cut_after_each_byte(rt: HostRuntime) -> Result<(), Fail> {
         let mut out = sink_of(alloc)?;
         let status = track(&mut desk, &mut out, alloc)?;
         assert_eq!(rt; status, status_of_cut(text), "cut after {cut} bytes");
+    }
+    Ok(())
+}
+
+const NOT_MOVED: &str = "mesh 0 4 4\nend\n";
+
+const ONLY_MOVED: &str =
+    "mesh 0 4 4\nstep 1\nmove 1 1 2 3\nmove 2 1 2 3\nmove 3 1 2 3\nmove 4 1 2 3\nmoved whole\nend\n";
+
+const MOVED_AND_SAVED: &str =
+    "mesh 0 4 4\nstep 1\nmove 1 1 2 3\nmove 2 1 2 3\nmove 3 1 2 3\nmove 4 1 2 3\nmoved whole\nmesh 1 4 4\nend\n";
+
+// The lengths from one up to another, to which the steps are cut, with the status and the log that follow.
+const CUTS: [(usize, usize, u8, &str); 8] = [
+    (0, 1, 0, NOT_MOVED),
+    (1, 5, 9, "refused steps 1 unknown\n"),
+    (5, 15, 9, "refused steps 1 short\n"),
+    (15, 17, 0, NOT_MOVED),
+    (17, 20, 9, "refused steps 2 unknown\n"),
+    (20, 22, 0, ONLY_MOVED),
+    (22, 25, 9, "refused steps 3 unknown\n"),
+    (25, 27, 0, MOVED_AND_SAVED),
+];
+
+#[test]
+fn a_step_file_is_cut_after_each_byte(rt: HostRuntime) -> Result<(), Fail> {
+    let alloc = rt.alloc();
+    for cut in 0..=STEPS.len() {
+        let text = &STEPS[..cut];
+        for (from, to, status, end) in CUTS {
+            if from <= cut && cut < to {
+                ends_so(&rt, alloc, MESH, text, status, end)?;
+            }
+        }
     }
     Ok(())
 }
