@@ -51,13 +51,15 @@ def carried(known, log, mesh):
 
 def main():
     parser = argparse.ArgumentParser(description=__doc__, formatter_class=argparse.RawDescriptionHelpFormatter)
-    parser.add_argument("files", nargs=3, metavar=("MESH", "LOG", "PREFIX"))
+    parser.add_argument("mesh", metavar="MESH")
+    parser.add_argument("log", metavar="LOG")
+    parser.add_argument("prefix", metavar="PREFIX")
     parser.add_argument("--decimals", type=int, choices=range(7), default=0)
     words = parser.parse_args()
-    text, log = read(words.files[0]), read(words.files[1])
+    text, log = read(words.mesh), read(words.log)
     count = 0
     for k, mesh, known in carried(known_of(text), log, read_mesh(text, words.decimals)):
-        name = f"{words.files[2]}-{k:06}"
+        name = f"{words.prefix}-{k:06}"
         due = text_of(mesh, words.decimals)
         if read(name + ".obj") != due:
             sys.exit(f"carry: {name}.obj is not the mesh that is due")

@@ -168,14 +168,16 @@ def write(name, text):
 
 def main():
     parser = argparse.ArgumentParser(description=__doc__, formatter_class=argparse.RawDescriptionHelpFormatter)
-    parser.add_argument("files", nargs=3, metavar=("MESH", "LOG", "PREFIX"))
+    parser.add_argument("mesh", metavar="MESH")
+    parser.add_argument("log", metavar="LOG")
+    parser.add_argument("prefix", metavar="PREFIX")
     parser.add_argument("--decimals", type=int, choices=range(7), default=0)
     words = parser.parse_args()
     count = 0
     try:
-        for kind, told, mesh in replay(read_mesh(read(words.files[0]), words.decimals), read(words.files[1])):
+        for kind, told, mesh in replay(read_mesh(read(words.mesh), words.decimals), read(words.log)):
             if kind == "mesh":
-                write(f"{words.files[2]}-{int(told[0]):06}.obj", text_of(mesh, words.decimals))
+                write(f"{words.prefix}-{int(told[0]):06}.obj", text_of(mesh, words.decimals))
                 count += 1
     except (LookupError, ValueError, TypeError) as why:
         sys.exit(f"replay: the log is of another mesh ({why!r})")

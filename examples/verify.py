@@ -305,11 +305,13 @@ def verify(mesh, log, proof, decimals=0):
 
 def main():
     parser = argparse.ArgumentParser(description=__doc__, formatter_class=argparse.RawDescriptionHelpFormatter)
-    parser.add_argument("files", nargs=3, metavar=("MESH", "LOG", "PROOF"))
+    parser.add_argument("mesh", metavar="MESH")
+    parser.add_argument("log", metavar="LOG")
+    parser.add_argument("proof", metavar="PROOF")
     parser.add_argument("--decimals", type=int, choices=range(7), default=0)
     words = parser.parse_args()
     try:
-        texts = [open(name, "rb").read() for name in words.files]
+        texts = [open(name, "rb").read() for name in (words.mesh, words.log, words.proof)]
         print("verified", verify(*texts, words.decimals))
     except (Refused, OSError, ValueError) as why:
         print("refused", why)
