@@ -6,6 +6,7 @@ use crate::heights::{along_x, along_y, along_z, heights_keep_apart, heights_take
 use grid_base::Positions;
 
 /// Whether one of the three axes keeps the edge on one side at both ends. No product is needed for it.
+#[inline(always)]
 pub fn axis_keeps_apart(s: &Positions, t: &Positions) -> bool
     ensures { IsTrue result ↔ Any (KeepsApart s.now t.now) axes }
 {

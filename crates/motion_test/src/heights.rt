@@ -17,6 +17,7 @@ pub(crate) struct Heights {
 }
 
 // The heights along the axis x.
+#[inline(always)]
 pub(crate) fn along_x(f: &Positions) -> Heights
     ensures { result ≡ heights_along axis_x f.now }
 {
@@ -30,6 +31,7 @@ pub(crate) fn along_x(f: &Positions) -> Heights
 }
 
 // The heights along the axis y.
+#[inline(always)]
 pub(crate) fn along_y(f: &Positions) -> Heights
     ensures { result ≡ heights_along axis_y f.now }
 {
@@ -43,6 +45,7 @@ pub(crate) fn along_y(f: &Positions) -> Heights
 }
 
 // The heights along the axis z.
+#[inline(always)]
 pub(crate) fn along_z(f: &Positions) -> Heights
     ensures { result ≡ heights_along axis_z f.now }
 {
@@ -56,6 +59,7 @@ pub(crate) fn along_z(f: &Positions) -> Heights
 }
 
 // Whether the edge is strictly on one side, at the start and at the end.
+#[inline(always)]
 pub(crate) fn heights_keep_apart(s: Heights, t: Heights) -> bool
     ensures { IsTrue result ↔ KeepApart s t }
 {
@@ -76,6 +80,7 @@ pub(crate) fn heights_take_apart(s: Heights, t: Heights) -> bool
 }
 
 // The side of all corners that both edge ends are strictly on, if they are on one.
+#[inline(always)]
 fn side_along(h: Heights) -> Option<Side>
     ensures { (side : Side) → (result ≡ Some side) ↔ LieOn side h }
 {
@@ -84,6 +89,7 @@ fn side_along(h: Heights) -> Option<Side>
 }
 
 // Whether both edge ends are strictly on the side of all corners.
+#[inline(always)]
 fn lie_on(side: Side, h: Heights) -> bool
     ensures { IsTrue result ↔ LieOn side h }
 {

@@ -9,6 +9,7 @@ pub(crate) enum Side {
 }
 
 // The side of a third height that two heights are strictly on, if they are on one.
+#[inline(always)]
 pub(crate) fn side_by(a: i128, b: i128, c: i128) -> Option<Side>
     ensures { (side : Side) → (result ≡ Some side) ↔ AreOn side a b c }
 {
@@ -22,6 +23,7 @@ pub(crate) fn side_by(a: i128, b: i128, c: i128) -> Option<Side>
 }
 
 // Whether two heights are strictly on the side of a third.
+#[inline(always)]
 pub(crate) fn both_on(side: Side, a: i128, b: i128, c: i128) -> bool
     ensures { IsTrue result ↔ AreOn side a b c }
 {

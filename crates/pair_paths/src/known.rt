@@ -1,7 +1,7 @@
 //! Paths of vertices that are kept in a list.
 ghost use Rattle.std.specs.Prelude.{◌≡◌, map, Contains, IfOk, IfSome};
 ghost use Rattle.std.specs.FinMap as map;
-ghost use Rattle.pair_paths.specs.Paths.{AreKnown, path_in};
+ghost use Rattle.pair_paths.specs.Paths.{AreKnown, path_along, path_in};
 
 use crate::path::{Path, Paths};
 use grid_base::{Items, NoMemory};
@@ -26,15 +26,26 @@ pub struct KnownPaths<'a, P: Paths> {
 impl<'a, P: Paths> Paths for KnownPaths<'a, P> {
     ghost motion = { λ s. P.motion s.paths.now };
 
+    #[inline(always)]
     fn path_of(&self, v: VertexId) -> Path {
         match known_path(self.known, v) {
             Some(path) => path,
-            None => self.paths.path_of(v),
+            None => asked_path(self.paths, v),
         }
     }
 }
 
+// The path of a vertex that is not in the list.
+#[cold]
+#[inline(never)]
+fn asked_path<P: Paths>(paths: &P, v: VertexId) -> Path
+    ensures { result ≡ path_along (P.motion paths.now) v }
+{
+    paths.path_of(v)
+}
+
 // The path at a place of the list, if it is the vertex's.
+#[inline(always)]
 fn path_at(known: &[PathOf], place: usize, v: VertexId) -> Option<Path>
     ensures { IfSome result (λ path. Contains known.now (record { v = v; path = path })) }
 {
@@ -45,6 +56,7 @@ fn path_at(known: &[PathOf], place: usize, v: VertexId) -> Option<Path>
 }
 
 // The path of a vertex, if a search finds it.
+#[inline(never)]
 fn sought(known: &[PathOf], v: VertexId) -> Option<Path>
     ensures { IfSome result (λ path. Contains known.now (record { v = v; path = path })) }
 {
@@ -55,6 +67,7 @@ fn sought(known: &[PathOf], v: VertexId) -> Option<Path>
 }
 
 // The path of a vertex, if it is in the list: where the ids have no gap, it stands at the place before its id.
+#[inline(always)]
 fn known_path(known: &[PathOf], v: VertexId) -> Option<Path>
     ensures { IfSome result (λ path. Contains known.now (record { v = v; path = path })) }
 {

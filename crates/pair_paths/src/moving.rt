@@ -27,6 +27,7 @@ pub struct MovingFace {
 }
 
 /// The edge of two vertices.
+#[inline(always)]
 pub fn moving_edge<P: Paths>(paths: &P, a: VertexId, b: VertexId) -> MovingEdge
     ensures { result ≡ moving_edge (P.motion paths.now) a b }
 {
