@@ -1,4 +1,5 @@
 pub mod Apart
+pub mod KeptByAxis
 pub mod Boxes
 pub mod Made
 pub mod ByList

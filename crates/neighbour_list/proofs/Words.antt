@@ -48,3 +48,6 @@ ordered_about p low high h i lx ly lz hx hy hz = record {
 -- a number of half the size
 pub half_word : (z : ℤ) → unsigned_abs z ≤ HALF_MAX → to_z w128 (of_z w128 z) ≡ z
 half_word z h = word z (omega (arith, h))
+
+pub half_within : (z : ℤ) → unsigned_abs z ≤ HALF_MAX → unsigned_abs (to_z w128 (of_z w128 z)) ≤ HALF_MAX
+half_within z h = rw (half_word z h) h

@@ -1,4 +1,5 @@
 pub mod Near
+pub mod Axes
 pub mod Drift
 pub mod Widened
 pub mod Clusters

@@ -2,6 +2,7 @@
 //! reference points. While near vertices drift alike up to the skin, a pair that is not listed passes.
 #![tactic(auto)]
 
+mod axes;
 mod calls;
 mod cluster_boxes;
 mod clusters;

@@ -13,6 +13,7 @@ use motion_test::{axis_keeps_apart, passes};
 use pair_paths::{MovingEdge, MovingFace, Path, pair_of};
 
 // Where an edge and a face begin.
+#[inline(always)]
 fn starts(e: &MovingEdge, f: &MovingFace) -> Positions
     ensures { result ≡ starts e.now f.now }
 {
@@ -26,6 +27,7 @@ fn starts(e: &MovingEdge, f: &MovingFace) -> Positions
 }
 
 // Where they end.
+#[inline(always)]
 fn ends(e: &MovingEdge, f: &MovingFace) -> Positions
     ensures { result ≡ ends e.now f.now }
 {
@@ -69,18 +71,28 @@ fn go_as_one(e: &MovingEdge, f: &MovingFace) -> bool
     is_same(way(&f.e), by)
 }
 
-/// Whether an edge and a face that do not meet where they begin pass the test. What moves by one shift does; and most of the
-/// others are kept apart by an axis.
+// The whole test.
+#[inline(never)]
+fn do_pass_whole(e: &MovingEdge, f: &MovingFace, depth: u8) -> bool
+    requires { depth ≤ DEPTH_MAX }
+    ensures { result ≡ passes meets_exactly depth (starts e.now f.now) (ends e.now f.now) }
+{
+    passes(&pair_of(e, f), depth)
+}
+
+/// Whether an edge and a face that do not meet where they begin pass the test. Most are kept apart by an axis, and of the others
+/// what moves by one shift passes.
+#[inline(always)]
 pub(crate) fn do_pass(e: &MovingEdge, f: &MovingFace, depth: u8) -> bool
     requires depth_fits { depth ≤ DEPTH_MAX }
     requires apart { ¬ (MeetAt (starts e.now f.now)) }
     ensures { result ≡ passes meets_exactly depth (starts e.now f.now) (ends e.now f.now) }
 {
-    if go_as_one(e, f) {
-        return true;
-    }
     if axis_keeps_apart(&starts(e, f), &ends(e, f)) {
         return true;
     }
-    passes(&pair_of(e, f), depth)
+    if go_as_one(e, f) {
+        return true;
+    }
+    do_pass_whole(e, f, depth)
 }

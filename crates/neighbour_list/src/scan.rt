@@ -7,20 +7,23 @@ ghost use Rattle.mesh_base.specs.Failing.{failing};
 ghost use Rattle.mesh_base.specs.Placements.{IsClearMesh};
 ghost use Rattle.mesh_base.specs.Shifts.{NameLive, end_in_box};
 ghost use Rattle.pair_paths.specs.Moving.{moving_face};
+ghost use Rattle.pair_paths.specs.Paths.{AreKnown};
 ghost use Rattle.pair_scan.specs.Found.{has_none, AreFound};
 ghost use Rattle.neighbour_list.specs.Listed.{IsApart, IsListOf, fails, failing_in};
 
+use crate::axes::is_kept_apart;
 use crate::listed::ListedPair;
 use crate::neighbour_list::NeighbourList;
 use crate::pair_test::do_pass;
 use crate::serving::clusters_serve;
 use grid_base::{DEPTH_MAX, NoMemory, Wide};
 use mesh_base::{ShiftOf, Shifts, Surface};
-use pair_paths::{Frame, KnownPaths, MovingFace, Paths, Position, moving_edge, paths_of};
+use pair_paths::{Frame, KnownPaths, MovingFace, PathOf, Paths, Position, moving_edge, paths_of};
 use pair_scan::{Pairs, Shifted};
 use std::alloc::Global;
 
 // The face of a listed pair, as it moves.
+#[inline(always)]
 fn face_of<P: Paths>(p: &ListedPair, paths: &P) -> MovingFace
     ensures { result ≡ moving_face (P.motion paths.now) (p.now.name.face, p.now.corners) }
 {
@@ -33,8 +36,9 @@ fn face_of<P: Paths>(p: &ListedPair, paths: &P) -> MovingFace
     }
 }
 
-// Whether a listed pair does not pass.
-fn fails<P: Paths>(p: &ListedPair, paths: &P, depth: u8) -> bool
+// Whether a listed pair does not pass, by the whole test.
+#[inline(never)]
+fn fails_whole<P: Paths>(p: &ListedPair, paths: &P, depth: u8) -> bool
     requires depth_fits { depth ≤ DEPTH_MAX }
     requires apart { IsApart (P.motion paths.now).start p.now }
     ensures { result ≡ fails depth (P.motion paths.now) p.now }
@@ -42,6 +46,20 @@ fn fails<P: Paths>(p: &ListedPair, paths: &P, depth: u8) -> bool
     let e = moving_edge(paths, p.name.a, p.name.b);
     let f = face_of(p, paths);
     !do_pass(&e, &f, depth)
+}
+
+// Whether a listed pair does not pass. Of most an axis tells that they do.
+#[inline(always)]
+fn fails<P: Paths>(p: &ListedPair, known: &[PathOf], paths: &P, depth: u8) -> bool
+    requires depth_fits { depth ≤ DEPTH_MAX }
+    requires apart { IsApart (P.motion paths.now).start p.now }
+    requires known { AreKnown (P.motion paths.now) known.now }
+    ensures { result ≡ fails depth (P.motion paths.now) p.now }
+{
+    if is_kept_apart(p, known) {
+        return false;
+    }
+    fails_whole(p, paths, depth)
 }
 
 // A frame that goes by the shift in the middle of the list.
@@ -70,18 +88,20 @@ fn has_none(pairs: &Pairs) -> bool
 fn failing_in<P: Paths>(
     alloc: Global,
     pairs: &[ListedPair],
+    known: &[PathOf],
     paths: &P,
     depth: u8,
     ends_early: bool,
 ) -> Result<Pairs, NoMemory>
     requires depth_fits { depth ≤ DEPTH_MAX }
+    requires known { AreKnown (P.motion paths.now) known.now }
     requires apart { All (IsApart (P.motion paths.now).start) pairs.now }
     ensures { IfOk result
         (AreFound ends_early (failing_in depth (P.motion paths.now) pairs.now)) }
 {
     let mut found = Pairs::new(alloc);
     for p in pairs {
-        if fails(p, paths, depth) {
+        if fails(p, known, paths, depth) {
             found.push(p.name)?;
             if ends_early {
                 return Ok(found);
@@ -118,7 +138,14 @@ fn scanned<S: Surface>(
     if !clusters_serve(alloc, list.skin, list.clusters.as_slice(), &paths, &frame)? {
         return Ok(None);
     }
-    let found = failing_in(alloc, list.pairs.as_slice(), &paths, depth, ends_early)?;
+    let found = failing_in(
+        alloc,
+        list.pairs.as_slice(),
+        known.as_slice(),
+        &paths,
+        depth,
+        ends_early,
+    )?;
     Ok(Some(found))
 }
 

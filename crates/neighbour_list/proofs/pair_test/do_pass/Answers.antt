@@ -1,12 +1,9 @@
-use Rattle.std.proofs.Common.{ap, inr, subst, sym, ◌∙◌}
+use Rattle.std.proofs.Common.{inr, subst, sym}
 use Rattle.std.specs.List.{Any}
 use Rattle.grid_base.specs.Separation.{KeepsApart, axes}
 use Rattle.grid_base.proofs.Reflected.{of_passes}
 use Rattle.grid_decided.specs.Decided.{meets_exactly, meets_exactly-is_exact}
-use Rattle.grid_base.specs.SeparationTests.{passes}
-use Rattle.motion_test.specs.Pairs.{positions_of}
 use Rattle.pair_paths.specs.Pairing.{starts, ends}
-use Rattle.pair_scan.proofs.Fails.{is_passes}
 use Rattle.neighbour_list.proofs.Apart.{axis_passes}
 use Rattle.neighbour_list.proofs.pair_test.do_pass.Goals as goal
 
@@ -25,13 +22,3 @@ returns-then-axis_keeps_apart c =
     let apart = c.axis_keeps_apart.ensures.0 c.if-axis_keeps_apart.true in
     let kept = subst (λ y. Any (KeepsApart s y) axes) c.ends.ensures (subst (λ x. Any (KeepsApart x c.ends.result) axes) c.starts.ensures apart) in
     sym (of_passes meets_exactly meets_exactly-is_exact c.args.depth s t (axis_passes c.args.depth s t kept))
-
-pub returns : goal.returns
-returns c =
-    let e = c.args.e.now in
-    let f = c.args.f.now in
-    let depth = c.args.depth in
-    let pair = c.pair_of.result in
-    is_passes c.passes.result depth (positions_of pair.start) (positions_of pair.end) c.passes.ensures.exact
-    ∙ ap (λ s. passes meets_exactly depth s (positions_of pair.end)) c.pair_of.ensures.start
-    ∙ ap (λ t. passes meets_exactly depth (starts e f) t) c.pair_of.ensures.end
