@@ -6,7 +6,7 @@ use grid_base::DECIMALS_MAX;
 use mesh_base::MeshLists;
 use obj_text::read_obj;
 use other_text::{read_off, read_ply};
-use refusal_sentences::rounding_warning;
+use refusal_sentences::{has_long_number, rounding_warning};
 use std::alloc::{AllocError, Global};
 use track_input::Format;
 
@@ -27,14 +27,9 @@ pub(crate) fn lists_in(
     }
 }
 
-/// The lists of a mesh on the finest grid, down to one of so many decimals, on which its coordinates are in the box, and the decimals of
-/// that.
-pub(crate) fn finest(
-    alloc: Global,
-    format: Format,
-    bytes: &[u8],
-    decimals: u8,
-) -> Option<(MeshLists, u8)>
+// The lists of a mesh on the finest grid, down to one of so many decimals, on which its coordinates are in the box, and the decimals of
+// that.
+fn finest(alloc: Global, format: Format, bytes: &[u8], decimals: u8) -> Option<(MeshLists, u8)>
     requires { length bytes.now ≤ TEXT_MAX }
 {
     for down in 0..=DECIMALS_MAX.saturating_sub(decimals) {
@@ -46,7 +41,8 @@ pub(crate) fn finest(
     None
 }
 
-/// Says how many coordinates of a mesh are rounded on a grid of so many decimals, if any are.
+/// Says how many coordinates of a mesh are rounded on a grid of so many decimals, if any are. A text all of whose numbers are short enough
+/// is not read for it.
 pub(crate) fn rounded(
     alloc: Global,
     format: Format,
@@ -55,6 +51,9 @@ pub(crate) fn rounded(
 ) -> Result<Option<String>, AllocError>
     requires { length bytes.now ≤ TEXT_MAX }
 {
+    if !has_long_number(bytes, decimals) {
+        return Ok(None);
+    }
     match finest(alloc, format, bytes, decimals) {
         Some((lists, fine)) => rounding_warning(alloc, &lists, fine, decimals),
         None => Ok(None),

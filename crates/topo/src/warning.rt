@@ -3,18 +3,15 @@ ghost use Rattle.std.specs.Prelude.{◌≤◌, length, IfSome};
 ghost use Rattle.grid_base.specs.declared.TheConstants.{TEXT_MAX};
 
 use crate::names::Names;
-use crate::rounding::{finest, lists_in};
+use crate::rounding::{lists_in, rounded};
 use crate::texts::Texts;
 use grid_base::TEXT_MAX;
 use mesh_base::MeshLists;
 use outside_io::{Desk, FileDesk, TryLock};
-use refusal_sentences::{
-    StepsEnd, asks_in_vain, is_inside_out, manifold_warning, prefix_warning, rounding_warning,
-};
+use refusal_sentences::{StepsEnd, asks_in_vain, is_inside_out, manifold_warning, prefix_warning};
 use std::alloc::{AllocError, Global};
 use std::fs;
 use std::rt::Files;
-use track_input::Format;
 
 // Adds a warning.
 fn warn(alloc: Global, warning: &str, into: &mut Vec<String>) -> Result<(), AllocError> {
@@ -22,41 +19,20 @@ fn warn(alloc: Global, warning: &str, into: &mut Vec<String>) -> Result<(), Allo
     Ok(())
 }
 
-// The warnings that the lists of a mesh give.
-fn lists_warnings(
+// The warnings that the surface of a mesh gives.
+fn surface_warnings(
     alloc: Global,
     lists: &MeshLists,
-    fine: u8,
-    decimals: u8,
     into: &mut Vec<String>,
 ) -> Result<(), AllocError> {
     if lists.points.len() == 0 {
         warn(alloc, "the mesh is empty", into)?;
-    }
-    if let Some(rounded) = rounding_warning(alloc, lists, fine, decimals)? {
-        into.push(rounded)?;
     }
     if is_inside_out(lists) {
         let said = "the surface is turned inside out: its volume is below zero";
         warn(alloc, said, into)?;
     }
     Ok(())
-}
-
-// The warnings that a mesh file gives.
-fn mesh_warnings(
-    alloc: Global,
-    format: Format,
-    bytes: &[u8],
-    decimals: u8,
-    into: &mut Vec<String>,
-) -> Result<(), AllocError>
-    requires { length bytes.now ≤ TEXT_MAX }
-{
-    match finest(alloc, format, bytes, decimals) {
-        Some((lists, fine)) => lists_warnings(alloc, &lists, fine, decimals, into),
-        None => Ok(()),
-    }
 }
 
 // The warnings that a text of steps gives.
@@ -107,22 +83,45 @@ where
     Some(bytes)
 }
 
-// The warning that the mesh which was stored last gives.
-fn stored_warning<R: Files>(
+// The lists of the mesh that was stored last.
+fn stored_lists<R: Files>(
     alloc: Global,
     names: Names<'_>,
     stored: &str,
     rt: &R,
-) -> Result<Option<String>, AllocError>
+) -> Option<MeshLists>
 where
     R::File: TryLock,
 {
-    let Some(bytes) = stored_bytes(alloc, rt, stored) else {
-        return Ok(None);
-    };
-    match lists_in(alloc, names.stored, bytes.as_slice(), names.decimals) {
-        Some(lists) => manifold_warning(alloc, stored, &lists),
-        None => Ok(None),
+    let bytes = stored_bytes(alloc, rt, stored)?;
+    lists_in(alloc, names.stored, bytes.as_slice(), names.decimals)
+}
+
+// The warnings that the mesh which was stored last gives; where that is not to be had, those of the mesh that was read.
+fn mesh_warnings<R: Files>(
+    alloc: Global,
+    names: Names<'_>,
+    texts: &Texts,
+    stored: Option<&str>,
+    rt: &R,
+    into: &mut Vec<String>,
+) -> Result<(), AllocError>
+where
+    R::File: TryLock,
+{
+    if let Some(stored) = stored {
+        if let Some(lists) = stored_lists(alloc, names, stored, rt) {
+            surface_warnings(alloc, &lists, into)?;
+            if let Some(warning) = manifold_warning(alloc, stored, &lists)? {
+                into.push(warning)?;
+            }
+            return Ok(());
+        }
+    }
+    let given = texts.first(names.mesh);
+    match lists_in(alloc, names.format, given, names.decimals) {
+        Some(lists) => surface_warnings(alloc, &lists, into),
+        None => Ok(()),
     }
 }
 
@@ -139,7 +138,8 @@ fn name_warning<R: Files>(
     prefix_warning(alloc, prefix, is_folder)
 }
 
-/// Says what may be amiss in a job that is done, from the texts that it read and the mesh that it stored last.
+/// Says what may be amiss in a job that is done, from the texts that it read and the mesh that it stored last, each of which is read at most
+/// once more.
 pub(crate) fn warnings<R: Files>(
     alloc: Global,
     words: &[String],
@@ -155,18 +155,16 @@ where
     let Some(names) = names else {
         return Ok(said);
     };
-    let mesh = texts.first(names.mesh);
-    mesh_warnings(alloc, names.format, mesh, names.decimals, &mut said)?;
+    let given = texts.first(names.mesh);
+    if let Some(warning) = rounded(alloc, names.format, given, names.decimals)? {
+        said.push(warning)?;
+    }
+    mesh_warnings(alloc, names, texts, stored, rt, &mut said)?;
     if has_steps(words) {
         steps_warnings(alloc, texts.last(names.other), &mut said)?;
     }
     if let Some(prefix) = names.prefix {
         if let Some(warning) = name_warning(alloc, prefix, rt)? {
-            said.push(warning)?;
-        }
-    }
-    if let Some(stored) = stored {
-        if let Some(warning) = stored_warning(alloc, names, stored, rt)? {
             said.push(warning)?;
         }
     }
