@@ -29,7 +29,7 @@ impl<'a, P: Paths> Paths for KnownPaths<'a, P> {
     #[inline(always)]
     fn path_of(&self, v: VertexId) -> Path {
         match known_path(self.known, v) {
-            Some(path) => path,
+            Some(path) => *path,
             None => asked_path(self.paths, v),
         }
     }
@@ -46,19 +46,19 @@ fn asked_path<P: Paths>(paths: &P, v: VertexId) -> Path
 
 // The path at a place of the list, if it is the vertex's.
 #[inline(always)]
-fn path_at(known: &[PathOf], place: usize, v: VertexId) -> Option<Path>
-    ensures { IfSome result (λ path. Contains known.now (record { v = v; path = path })) }
+fn path_at(known: &[PathOf], place: usize, v: VertexId) -> Option<&Path>
+    ensures { IfSome result (λ path. Contains known.now (record { v = v; path = path.now })) }
 {
     match known.get(place) {
-        Some(k) => { if k.v.0 == v.0 { Some(k.path) } else { None } }
+        Some(k) => { if k.v.0 == v.0 { Some(&k.path) } else { None } }
         None => None,
     }
 }
 
 // The path of a vertex, if a search finds it.
 #[inline(never)]
-fn sought(known: &[PathOf], v: VertexId) -> Option<Path>
-    ensures { IfSome result (λ path. Contains known.now (record { v = v; path = path })) }
+fn sought(known: &[PathOf], v: VertexId) -> Option<&Path>
+    ensures { IfSome result (λ path. Contains known.now (record { v = v; path = path.now })) }
 {
     match known.binary_search_by_key(&v.0, |k| k.v.0) {
         Ok(place) => path_at(known, place, v),
@@ -66,10 +66,11 @@ fn sought(known: &[PathOf], v: VertexId) -> Option<Path>
     }
 }
 
-// The path of a vertex, if it is in the list: where the ids have no gap, it stands at the place before its id.
+/// The path of a vertex, if it is found in the list. Where the ids have no gap, it stands at the place before its id; else it is
+/// found where the ids rise.
 #[inline(always)]
-fn known_path(known: &[PathOf], v: VertexId) -> Option<Path>
-    ensures { IfSome result (λ path. Contains known.now (record { v = v; path = path })) }
+pub fn known_path(known: &[PathOf], v: VertexId) -> Option<&Path>
+    ensures { IfSome result (λ path. Contains known.now (record { v = v; path = path.now })) }
 {
     match path_at(known, v.0.wrapping_sub(1) as usize, v) {
         Some(path) => Some(path),

@@ -15,7 +15,7 @@ mod position;
 pub use bounds::HasBounds;
 pub use frame::{Frame, HasBoundsIn};
 pub use frame_boxes::boxes_in;
-pub use known::{KnownPaths, PathOf, paths_of};
+pub use known::{KnownPaths, PathOf, known_path, paths_of};
 pub use moving::{MovingEdge, MovingFace, face_with_paths, moving_edge, moving_faces};
 pub use pairing::{ends_of, name_of, pair_of, share_a_vertex, starts_of};
 pub use path::{Path, Paths};

@@ -40,7 +40,7 @@ module _ {X : Type 0} (id_of : X → ℕ) (past : ℕ → X) (past_id : (v : ℕ
   later k (t ∷ by) zero s h e = let is : t ≡ s = cc in subst (λ u. nat_cmp k (id_of u) ≡ Less) is h.0
   later k (t ∷ by) (suc i) s h e = later k by i s h.1 e
 
-  found : (by : List X) (v i : ℕ) (s : X) → IsStrictlySortedBy nat_cmp (map id_of by) → slice_get by i ≡ Some s → id_of s ≡ v → find (λ t. id_of t == v) by ≡ Some s
+  pub found : (by : List X) (v i : ℕ) (s : X) → IsStrictlySortedBy nat_cmp (map id_of by) → slice_get by i ≡ Some s → id_of s ≡ v → find (λ t. id_of t == v) by ≡ Some s
   found [] v i s sorted e is = cc
   found (t ∷ by) v zero s sorted e is =
       let this : t ≡ s = cc in

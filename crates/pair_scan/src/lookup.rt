@@ -1,5 +1,5 @@
 //! The shift of a vertex, looked up among shifts by rising id.
-ghost use Rattle.std.specs.Prelude.{◌≡◌, ◌==◌, Some, IfSome, map};
+ghost use Rattle.std.specs.Prelude.{◌≡◌, ◌==◌, IsTrue, Some, IfSome, map};
 ghost use Rattle.std.specs.List.{find};
 ghost use Rattle.std.specs.List.Sorted.{IsStrictlySortedBy, IsSearchInRange, IsBinarySearchResult};
 ghost use Rattle.std.specs.Ordering.{nat_cmp};
@@ -54,9 +54,19 @@ pub(crate) fn shift_of(by: &[ShiftOf], v: VertexId) -> Option<Shift>
     }
 }
 
-/// The place of a vertex among shifts by rising id; None where none is named. Takes time in proportion to the logarithm of
-/// their number.
-pub fn place_of(by: &[ShiftOf], v: VertexId) -> Option<usize>
+// Whether the shift at a place is the vertex's.
+fn is_place_of(by: &[ShiftOf], place: usize, v: VertexId) -> bool
+    requires { IsStrictlySortedBy nat_cmp (map (λ s. s.v) by.now) }
+    ensures { IsTrue result → IsPlaceOf by.now v (Some place) }
+{
+    match by.get(place) {
+        Some(s) => s.v == v,
+        None => false,
+    }
+}
+
+// The place of a vertex among shifts, by a search; None where none is named.
+fn sought_place(by: &[ShiftOf], v: VertexId) -> Option<usize>
     requires { IsStrictlySortedBy nat_cmp (map (λ s. s.v) by.now) }
     ensures { IsPlaceOf by.now v result }
 {
@@ -67,4 +77,17 @@ pub fn place_of(by: &[ShiftOf], v: VertexId) -> Option<usize>
         },
         Err(_) => None,
     }
+}
+
+/// The place of a vertex among shifts by rising id; None where none is named. Takes time in proportion to the logarithm of
+/// their number, and none where it is the place before the id.
+pub fn place_of(by: &[ShiftOf], v: VertexId) -> Option<usize>
+    requires { IsStrictlySortedBy nat_cmp (map (λ s. s.v) by.now) }
+    ensures { IsPlaceOf by.now v result }
+{
+    let place = v.0.wrapping_sub(1) as usize;
+    if is_place_of(by, place, v) {
+        return Some(place);
+    }
+    sought_place(by, v)
 }
