@@ -1,5 +1,5 @@
 -- What is not near, and drifts alike, is kept apart by an axis: it passes.
-use Rattle.std.proofs.Common.{◌≡◌, ⊎_elim, inl, inr, ℕ, ◌∙◌, sym, refl, Bool, true, false, ◌&&◌, ℤ, pos, ◌+ℤ◌, ◌-ℤ◌, ◌*ℤ◌, ◌≤ℤ◌, ◌<ℤ◌, neg_ℤ, arith, int_le, T, lit<, ◌⊎◌, List, ◌++◌}
+use Rattle.std.proofs.Common.{◌≡◌, ⊎_elim, inl, inr, ℕ, ◌∙◌, sym, refl, Bool, true, false, ◌&&◌, ℤ, pos, ◌+ℤ◌, ◌-ℤ◌, ◌≤ℤ◌, ◌<ℤ◌, neg_ℤ, arith, int_le, T, lit<, ◌⊎◌, List, ◌++◌}
 use Rattle.std.proofs.lemmas.Int.{ints, by_lt_z, int_max_is, int_min_is}
 use Rattle.std.proofs.lemmas.Bool.{and_cases, false≢true}
 use Rattle.std.proofs.lemmas.List.Elements.{Contains-append_left}
@@ -11,8 +11,10 @@ use Rattle.grid_base.specs.Triples.{Triple, dot, opposite}
 use Rattle.grid_base.proofs.SeparationLaws.{AreSeparated-at_once}
 use Rattle.mesh_base.specs.Pairs.{Pair, five_ids}
 use Rattle.mesh_base.specs.Placements.{Placement, Motion, positions}
+use Rattle.motion_test.specs.Heights.{axis_x, axis_y, axis_z}
 use Rattle.neighbour_list.specs.Near.{near_along, is_near}
 use Rattle.neighbour_list.specs.Drift.{DriftAlike}
+use Rattle.neighbour_list.proofs.Coordinates.{neg_less, read_x, read_y, read_z, minus_x, minus_y, minus_z}
 
 true_of : (b : Bool) → T b → b ≡ true
 true_of true t = refl
@@ -101,9 +103,6 @@ parted skin a b c d e off =
 stays_behind : (skin : ℕ) (ra rc sa sc : ℤ) → (ra +ℤ pos skin) <ℤ rc → (sa -ℤ ra) ≤ℤ ((sc -ℤ rc) +ℤ pos skin) → sa <ℤ sc
 stays_behind skin ra rc sa sc gap alike = omega (arith, ints)
 
-neg_less : (a b : ℤ) → b <ℤ a → neg_ℤ a <ℤ neg_ℤ b
-neg_less a b h = omega (arith, ints)
-
 -- the five vertices of a pair are among these
 record AreAmong (vs : List ℕ) (p : Pair) : Type 0 where
   a : Contains vs p.name.a
@@ -158,34 +157,6 @@ module _ (n : Triple) (read : Triple → ℤ) (along : (p : Triple) → dot n p 
       (λ ahead. inr (above start h ahead, above end i ahead))
       (parted skin (read (at p.name.a)) (read (at p.name.b)) (read (at p.corners.first)) (read (at p.corners.second)) (read (at p.corners.third)) off)
 
--- ---- the axes
-abbrev along_x : Triple
-along_x = record { x = pos 1; y = pos 0; z = pos 0 }
-
-abbrev along_y : Triple
-along_y = record { x = pos 0; y = pos 1; z = pos 0 }
-
-abbrev along_z : Triple
-along_z = record { x = pos 0; y = pos 0; z = pos 1 }
-
-read_x : (x y z : ℤ) → pos 1 *ℤ x +ℤ pos 0 *ℤ y +ℤ pos 0 *ℤ z ≡ x
-read_x x y z = omega (arith, ints)
-
-read_y : (x y z : ℤ) → pos 0 *ℤ x +ℤ pos 1 *ℤ y +ℤ pos 0 *ℤ z ≡ y
-read_y x y z = omega (arith, ints)
-
-read_z : (x y z : ℤ) → pos 0 *ℤ x +ℤ pos 0 *ℤ y +ℤ pos 1 *ℤ z ≡ z
-read_z x y z = omega (arith, ints)
-
-minus_x : (x y z : ℤ) → neg_ℤ (pos 1) *ℤ x +ℤ neg_ℤ (pos 0) *ℤ y +ℤ neg_ℤ (pos 0) *ℤ z ≡ neg_ℤ x
-minus_x x y z = omega (arith, ints)
-
-minus_y : (x y z : ℤ) → neg_ℤ (pos 0) *ℤ x +ℤ neg_ℤ (pos 1) *ℤ y +ℤ neg_ℤ (pos 0) *ℤ z ≡ neg_ℤ y
-minus_y x y z = omega (arith, ints)
-
-minus_z : (x y z : ℤ) → neg_ℤ (pos 0) *ℤ x +ℤ neg_ℤ (pos 0) *ℤ y +ℤ neg_ℤ (pos 1) *ℤ z ≡ neg_ℤ z
-minus_z x y z = omega (arith, ints)
-
 -- ---- what an axis keeps apart passes
 pub any_before : {X : Type 0} (P : X → Type 0) (xs ys : List X) → Any P xs → Any P (xs ++ ys)
 any_before P xs ys h = let c = Contains-append_left xs ys h.1 (h.0, h.2, h.3) in (c.0, h.1, c.1, c.2, h.4)
@@ -207,10 +178,10 @@ module _ (skin : ℕ) (at : Placement) (w : Motion) (vs : List ℕ) (p : Pair) (
       let z = near_along skin (at p.name.a).z (at p.name.b).z (at p.corners.first).z (at p.corners.second).z (at p.corners.third).z in
       ⊎_elim
       (λ xy. ⊎_elim
-      (λ off_x. (0, along_x, lit< tt, refl, keeps_apart along_x (λ t. t.x) (λ t. read_x t.x t.y t.z) (λ t. minus_x t.x t.y t.z) skin at vs p five w.start w.end off_x (λ u v h i. (start u v h i).x) (λ u v h i. (end u v h i).x)))
-      (λ off_y. (1, along_y, lit< tt, refl, keeps_apart along_y (λ t. t.y) (λ t. read_y t.x t.y t.z) (λ t. minus_y t.x t.y t.z) skin at vs p five w.start w.end off_y (λ u v h i. (start u v h i).y) (λ u v h i. (end u v h i).y)))
+      (λ off_x. (0, axis_x, lit< tt, refl, keeps_apart axis_x (λ t. t.x) (λ t. read_x t.x t.y t.z) (λ t. minus_x t.x t.y t.z) skin at vs p five w.start w.end off_x (λ u v h i. (start u v h i).x) (λ u v h i. (end u v h i).x)))
+      (λ off_y. (1, axis_y, lit< tt, refl, keeps_apart axis_y (λ t. t.y) (λ t. read_y t.x t.y t.z) (λ t. minus_y t.x t.y t.z) skin at vs p five w.start w.end off_y (λ u v h i. (start u v h i).y) (λ u v h i. (end u v h i).y)))
       (and_cases x y xy))
-      (λ off_z. (2, along_z, lit< tt, refl, keeps_apart along_z (λ t. t.z) (λ t. read_z t.x t.y t.z) (λ t. minus_z t.x t.y t.z) skin at vs p five w.start w.end off_z (λ u v h i. (start u v h i).z) (λ u v h i. (end u v h i).z)))
+      (λ off_z. (2, axis_z, lit< tt, refl, keeps_apart axis_z (λ t. t.z) (λ t. read_z t.x t.y t.z) (λ t. minus_z t.x t.y t.z) skin at vs p five w.start w.end off_z (λ u v h i. (start u v h i).z) (λ u v h i. (end u v h i).z)))
       (and_cases (x && y) z off)
 
   -- so it passes, to any depth

@@ -1,5 +1,6 @@
 pub mod Apart
-pub mod KeptByAxis
+pub mod Coordinates
+pub mod KeptApart
 pub mod Boxes
 pub mod Made
 pub mod ByList
@@ -9,4 +10,5 @@ pub mod Stays
 pub mod Held
 pub mod Served
 pub mod Growing
+pub mod Five
 pub mod LeftOut

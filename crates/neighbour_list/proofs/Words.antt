@@ -3,6 +3,7 @@ use Rattle.std.proofs.Common.{◌≡◌, ℤ, ◌≤◌, ◌≤ℤ◌, ◌∙◌
 use Rattle.std.specs.Int.{w128}
 use Rattle.std.proofs.lemmas.Int.{ints, to_z-of_z}
 use Rattle.grid_base.specs.declared.TheConstants.{HALF_MAX, EXTENT_MAX}
+use Rattle.grid_base.specs.declared.narrow.TheConstants.{TOTAL_MAX}
 use Rattle.grid_base.specs.Ordered.{AreOrdered}
 use Rattle.grid_base.specs.Triples.{Triple, IsWithin}
 
@@ -51,3 +52,13 @@ half_word z h = word z (omega (arith, h))
 
 pub half_within : (z : ℤ) → unsigned_abs z ≤ HALF_MAX → unsigned_abs (to_z w128 (of_z w128 z)) ≤ HALF_MAX
 half_within z h = rw (half_word z h) h
+
+-- a dot product of a direction and a position
+fits_total : (z : ℤ) → unsigned_abs z ≤ TOTAL_MAX → SFits w128 z
+fits_total z h = omega (arith, ints)
+
+pub total_word : (z : ℤ) → unsigned_abs z ≤ TOTAL_MAX → to_z w128 (of_z w128 z) ≡ z
+total_word z h = to_z-of_z w128 z (fits_total z h)
+
+pub total_within : (z : ℤ) → unsigned_abs z ≤ TOTAL_MAX → unsigned_abs (to_z w128 (of_z w128 z)) ≤ TOTAL_MAX
+total_within z h = rw (total_word z h) h

@@ -1,5 +1,6 @@
 pub mod Near
-pub mod Axes
+pub mod Heights
+pub mod FivePaths
 pub mod Drift
 pub mod Widened
 pub mod Clusters

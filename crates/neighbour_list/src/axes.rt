@@ -1,27 +1,14 @@
-//! Whether an axis keeps a listed pair apart. It is looked at first, since it is enough for most pairs and takes no product.
-ghost use Rattle.std.specs.Prelude.{◌≡◌, ◌≤◌, ◌<ℤ◌, unsigned_abs, Contains, IsTrue, IfSome};
+//! Whether an axis keeps an edge and a face apart. It takes no product.
+ghost use Rattle.std.specs.Prelude.{◌≡◌, ◌≤◌, unsigned_abs, IsTrue};
 ghost use Rattle.std.specs.List.{Any};
 ghost use Rattle.grid_base.specs.declared.TheConstants.{HALF_MAX};
 ghost use Rattle.grid_base.specs.Separation.{KeepsApart, axes};
-ghost use Rattle.mesh_base.specs.Placements.{Motion, positions};
 ghost use Rattle.motion_test.specs.Heights.{axis_x, axis_y, axis_z};
-ghost use Rattle.pair_paths.specs.Paths.{AreKnown};
-ghost use Rattle.neighbour_list.specs.Axes.{AreBelow, AreAbove, starts_of, ends_of};
-ghost use Rattle.neighbour_list.specs.Listed.{pair_of};
+ghost use Rattle.neighbour_list.specs.FivePaths.{starts_of, ends_of};
 
-use crate::listed::ListedPair;
-use mesh_base::VertexId;
-use pair_paths::{Path, PathOf, Position};
-
-/// The paths of the ends of an edge and of the corners of a face.
-#[derive(Clone, Copy)]
-pub(crate) struct FivePaths<'a> {
-    pub(crate) a: &'a Path,
-    pub(crate) b: &'a Path,
-    pub(crate) c: &'a Path,
-    pub(crate) d: &'a Path,
-    pub(crate) e: &'a Path,
-}
+use crate::five_paths::FivePaths;
+use crate::heights::{are_above, are_below};
+use pair_paths::Position;
 
 // The first coordinate of a position.
 #[inline(always)]
@@ -48,50 +35,6 @@ fn z(p: Position) -> i128
     ensures within { unsigned_abs result ≤ HALF_MAX }
 {
     p.wide().z
-}
-
-// Whether two numbers are less than a third.
-#[inline(always)]
-fn both_below(a: i128, b: i128, c: i128) -> bool
-    ensures { IsTrue result → (a <ℤ c) × (b <ℤ c) }
-{
-    a < c && b < c
-}
-
-// Whether two numbers are greater than a third.
-#[inline(always)]
-fn both_above(a: i128, b: i128, c: i128) -> bool
-    ensures { IsTrue result → (c <ℤ a) × (c <ℤ b) }
-{
-    c < a && c < b
-}
-
-// Whether the first two numbers are less than the other three.
-#[inline(always)]
-fn are_below(a: i128, b: i128, c: i128, d: i128, e: i128) -> bool
-    ensures { IsTrue result → AreBelow a b c d e }
-{
-    if !both_below(a, b, c) {
-        return false;
-    }
-    if !both_below(a, b, d) {
-        return false;
-    }
-    both_below(a, b, e)
-}
-
-// Whether they are greater.
-#[inline(always)]
-fn are_above(a: i128, b: i128, c: i128, d: i128, e: i128) -> bool
-    ensures { IsTrue result → AreAbove a b c d e }
-{
-    if !both_above(a, b, c) {
-        return false;
-    }
-    if !both_above(a, b, d) {
-        return false;
-    }
-    both_above(a, b, e)
 }
 
 // Whether the axis x keeps the edge on one side of the face, at the start and at the end.
@@ -172,9 +115,9 @@ fn z_keeps_apart(p: &FivePaths<'_>) -> bool
     false
 }
 
-// Whether one of the three axes does.
+/// Whether one of the three axes does.
 #[inline(always)]
-fn an_axis_keeps_apart(p: &FivePaths<'_>) -> bool
+pub(crate) fn an_axis_keeps_apart(p: &FivePaths<'_>) -> bool
     ensures { IsTrue result → Any (KeepsApart (starts_of p.now) (ends_of p.now)) axes }
 {
     if x_keeps_apart(p) {
@@ -184,39 +127,4 @@ fn an_axis_keeps_apart(p: &FivePaths<'_>) -> bool
         return true;
     }
     z_keeps_apart(p)
-}
-
-// The path of a vertex, where it stands at the place before the id, as it does where the ids have no gap.
-#[inline(always)]
-fn path_in_place(known: &[PathOf], v: VertexId) -> Option<&Path>
-    ensures { IfSome result (λ path. Contains known.now (record { v = v; path = path.now })) }
-{
-    match known.get(v.0.wrapping_sub(1) as usize) {
-        Some(k) => { if k.v.0 == v.0 { Some(&k.path) } else { None } }
-        None => None,
-    }
-}
-
-/// Whether an axis is seen to keep a listed pair apart, where its vertices go by these paths.
-#[inline(always)]
-pub(crate) fn is_kept_apart(p: &ListedPair, known: &[PathOf]) -> bool
-    ensures { (w : Motion) → AreKnown w known.now → IsTrue result → let pair = pair_of p.now in
-        Any (KeepsApart (positions w.start pair) (positions w.end pair)) axes }
-{
-    let Some(a) = path_in_place(known, p.name.a) else {
-        return false;
-    };
-    let Some(b) = path_in_place(known, p.name.b) else {
-        return false;
-    };
-    let Some(c) = path_in_place(known, p.corners.first) else {
-        return false;
-    };
-    let Some(d) = path_in_place(known, p.corners.second) else {
-        return false;
-    };
-    let Some(e) = path_in_place(known, p.corners.third) else {
-        return false;
-    };
-    an_axis_keeps_apart(&FivePaths { a, b, c, d, e })
 }

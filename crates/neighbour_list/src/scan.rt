@@ -6,49 +6,45 @@ ghost use Rattle.grid_decided.specs.Decided.{meets_exactly};
 ghost use Rattle.mesh_base.specs.Failing.{failing};
 ghost use Rattle.mesh_base.specs.Placements.{IsClearMesh};
 ghost use Rattle.mesh_base.specs.Shifts.{NameLive, end_in_box};
-ghost use Rattle.pair_paths.specs.Moving.{moving_face};
 ghost use Rattle.pair_paths.specs.Paths.{AreKnown};
 ghost use Rattle.pair_scan.specs.Found.{has_none, AreFound};
 ghost use Rattle.neighbour_list.specs.Listed.{IsApart, IsListOf, fails, failing_in};
 
-use crate::axes::is_kept_apart;
+use crate::five_paths::{FivePaths, paths_of_pair};
 use crate::listed::ListedPair;
 use crate::neighbour_list::NeighbourList;
 use crate::pair_test::do_pass;
 use crate::serving::clusters_serve;
 use grid_base::{DEPTH_MAX, NoMemory, Wide};
 use mesh_base::{ShiftOf, Shifts, Surface};
-use pair_paths::{Frame, KnownPaths, MovingFace, PathOf, Paths, Position, moving_edge, paths_of};
+use pair_paths::{Frame, KnownPaths, PathOf, Paths, Position, paths_of};
 use pair_scan::{Pairs, Shifted};
 use std::alloc::Global;
 
-// The face of a listed pair, as it moves.
-#[inline(always)]
-fn face_of<P: Paths>(p: &ListedPair, paths: &P) -> MovingFace
-    ensures { result ≡ moving_face (P.motion paths.now) (p.now.name.face, p.now.corners) }
-{
-    MovingFace {
-        face: p.name.face,
-        corners: p.corners,
-        c: paths.path_of(p.corners.first),
-        d: paths.path_of(p.corners.second),
-        e: paths.path_of(p.corners.third),
-    }
-}
-
-// Whether a listed pair does not pass, by the whole test.
+// Whether a listed pair does not pass, by paths that are asked for.
+#[cold]
 #[inline(never)]
-fn fails_whole<P: Paths>(p: &ListedPair, paths: &P, depth: u8) -> bool
+fn fails_asked<P: Paths>(p: &ListedPair, paths: &P, depth: u8) -> bool
     requires depth_fits { depth ≤ DEPTH_MAX }
     requires apart { IsApart (P.motion paths.now).start p.now }
     ensures { result ≡ fails depth (P.motion paths.now) p.now }
 {
-    let e = moving_edge(paths, p.name.a, p.name.b);
-    let f = face_of(p, paths);
-    !do_pass(&e, &f, depth)
+    let a = paths.path_of(p.name.a);
+    let b = paths.path_of(p.name.b);
+    let c = paths.path_of(p.corners.first);
+    let d = paths.path_of(p.corners.second);
+    let e = paths.path_of(p.corners.third);
+    let five = FivePaths {
+        a: &a,
+        b: &b,
+        c: &c,
+        d: &d,
+        e: &e,
+    };
+    !do_pass(&five, depth)
 }
 
-// Whether a listed pair does not pass. Of most an axis tells that they do.
+// Whether a listed pair does not pass.
 #[inline(always)]
 fn fails<P: Paths>(p: &ListedPair, known: &[PathOf], paths: &P, depth: u8) -> bool
     requires depth_fits { depth ≤ DEPTH_MAX }
@@ -56,10 +52,10 @@ fn fails<P: Paths>(p: &ListedPair, known: &[PathOf], paths: &P, depth: u8) -> bo
     requires known { AreKnown (P.motion paths.now) known.now }
     ensures { result ≡ fails depth (P.motion paths.now) p.now }
 {
-    if is_kept_apart(p, known) {
-        return false;
+    match paths_of_pair(p, known) {
+        Some(five) => !do_pass(&five, depth),
+        None => fails_asked(p, paths, depth),
     }
-    fails_whole(p, paths, depth)
 }
 
 // A frame that goes by the shift in the middle of the list.

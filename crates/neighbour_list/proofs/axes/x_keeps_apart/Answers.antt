@@ -1,6 +1,6 @@
 use Rattle.std.proofs.Common.{inl, inr, ◌∙◌}
-use Rattle.neighbour_list.specs.Axes.{starts_of, ends_of}
-use Rattle.neighbour_list.proofs.KeptByAxis.{below_x, above_x}
+use Rattle.neighbour_list.specs.FivePaths.{starts_of, ends_of}
+use Rattle.neighbour_list.proofs.KeptApart.{below_x, above_x}
 use Rattle.neighbour_list.proofs.Words.{half_word}
 use Rattle.neighbour_list.proofs.axes.x_keeps_apart.Goals as goal
 

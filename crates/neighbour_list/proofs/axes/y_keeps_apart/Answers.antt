@@ -1,6 +1,6 @@
 use Rattle.std.proofs.Common.{inl, inr, ◌∙◌}
-use Rattle.neighbour_list.specs.Axes.{starts_of, ends_of}
-use Rattle.neighbour_list.proofs.KeptByAxis.{below_y, above_y}
+use Rattle.neighbour_list.specs.FivePaths.{starts_of, ends_of}
+use Rattle.neighbour_list.proofs.KeptApart.{below_y, above_y}
 use Rattle.neighbour_list.proofs.Words.{half_word}
 use Rattle.neighbour_list.proofs.axes.y_keeps_apart.Goals as goal
 

@@ -1,7 +1,7 @@
 use Rattle.std.proofs.Common.{rules, refl, SFits}
 use Rattle.std.specs.Int.{w128}
 use Rattle.std.proofs.lemmas.Int.{to_z-of_z}
-use Rattle.neighbour_list.proofs.axes.are_above.Goals as goal
+use Rattle.neighbour_list.proofs.heights.are_above.Goals as goal
 
 pub returns : goal.returns
 returns c =
