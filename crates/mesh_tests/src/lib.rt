@@ -1,16 +1,10 @@
-//! Worked examples on meshes, and on the pairs of an edge and a face in a step.
+//! Worked examples on meshes, and on the paths of their vertices.
 #![tactic(auto)]
 
-#[cfg(test)]
-mod choices;
 #[cfg(test)]
 mod fields;
 #[cfg(test)]
 mod half_edges;
-#[cfg(test)]
-mod impulses;
-#[cfg(test)]
-mod kept_lists;
 #[cfg(test)]
 mod meshes;
 #[cfg(test)]
@@ -23,7 +17,3 @@ mod plain;
 mod plays;
 #[cfg(test)]
 mod rows;
-#[cfg(test)]
-mod scans;
-#[cfg(test)]
-mod zones;

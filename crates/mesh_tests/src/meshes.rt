@@ -1,6 +1,6 @@
 //! Meshes for the examples.
 use grid_base::{NoMemory, Point};
-use mesh_base::{MeshLists, Points, Surface, Triangles, VertexId};
+use mesh_base::{MeshLists, Points, Triangles};
 use mesh_plain::{PlainMesh, shape};
 use std::alloc::Global;
 use std::process::Abort;
@@ -8,30 +8,6 @@ use std::process::Abort;
 pub(crate) const TETRAHEDRON: [[i32; 3]; 4] = [[0, 0, 0], [4, 0, 0], [0, 4, 0], [0, 0, 4]];
 
 pub(crate) const SIDES: [[u32; 3]; 4] = [[1, 3, 2], [1, 2, 4], [2, 3, 4], [1, 4, 3]];
-
-// Two tetrahedra beside each other: the first has the vertices 1 to 4 and a face in x = 0, and the vertex 5 of the second
-// stands before it.
-const BESIDE: [[i32; 3]; 8] = [
-    [0, 0, 0],
-    [0, 12, 0],
-    [0, 0, 12],
-    [-12, 0, 0],
-    [8, 2, 2],
-    [12, 2, 2],
-    [12, 6, 2],
-    [14, 2, 6],
-];
-
-const BESIDE_SIDES: [[u32; 3]; 8] = [
-    [1, 2, 3],
-    [2, 1, 4],
-    [3, 2, 4],
-    [1, 3, 4],
-    [6, 7, 8],
-    [7, 6, 5],
-    [8, 7, 5],
-    [6, 8, 5],
-];
 
 // The lists, without the points that are not in the box.
 pub(crate) fn lists_of(
@@ -69,20 +45,4 @@ pub(crate) fn mesh_at(
     let shaped = shape(alloc, &lists);
     assert!(rt; shaped.is_ok());
     PlainMesh::of(alloc, &lists)
-}
-
-// The two tetrahedra beside each other, so far down, the first vertex solid or not.
-pub(crate) fn beside(
-    alloc: Global,
-    down: i32,
-    solid: bool,
-    rt: &impl Abort,
-) -> Result<PlainMesh, NoMemory> {
-    let points = BESIDE.map(|p| [p[0], p[1].wrapping_sub(down), p[2]]);
-    let mut mesh = mesh_at(alloc, &points, &BESIDE_SIDES, rt)?;
-    if solid {
-        assert!(rt; mesh.point(VertexId(1)).is_some());
-        mesh.make_solid(VertexId(1))?;
-    }
-    Ok(mesh)
 }

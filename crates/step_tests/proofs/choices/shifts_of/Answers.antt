@@ -10,7 +10,7 @@ use Rattle.mesh_base.specs.Shifts.{end_in_box}
 use Rattle.pair_scan.specs.Solids.{SolidsRest}
 use Rattle.pair_scan.proofs.Lists.{made_all, made_more, each_once}
 use Rattle.step_choose.proofs.SolidTests.{names_more, ends_more, rests_more}
-use Rattle.mesh_tests.proofs.choices.shifts_of.Goals as goal
+use Rattle.step_tests.proofs.choices.shifts_of.Goals as goal
 
 pub loop-v-preserved : goal.loop-v-preserved
 loop-v-preserved g c =

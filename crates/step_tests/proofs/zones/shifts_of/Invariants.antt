@@ -1,6 +1,6 @@
 use Rattle.std.proofs.Common.{◌≡◌, ◌++◌, ◌∷◌, [], map, drop}
 use Rattle.std.specs.List.{flat_map}
-use Rattle.mesh_tests.proofs.zones.shifts_of.Given as goal
+use Rattle.step_tests.proofs.zones.shifts_of.Given as goal
 
 -- the shifts so far name the vertices so far
 abbrev pub invariant-loop-v : goal.invariant-loop-v

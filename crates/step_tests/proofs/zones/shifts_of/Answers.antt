@@ -1,7 +1,7 @@
 use Rattle.std.proofs.Common.{◌≡◌, [], ◌∷◌, map, sym, ◌∙◌}
 use Rattle.std.specs.FinMap as finite
 use Rattle.pair_scan.proofs.Lists.{made_all, each_once}
-use Rattle.mesh_tests.proofs.zones.shifts_of.Goals as goal
+use Rattle.step_tests.proofs.zones.shifts_of.Goals as goal
 
 pub returns : goal.returns
 returns g c =
