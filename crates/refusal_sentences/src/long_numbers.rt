@@ -1,8 +1,12 @@
 // Numbers of a text that a grid may not hold.
+use memchr::memchr3;
 
 /// Whether a text has a number with more than so many digits behind its point, or with an exponent. Where it has none, each of its numbers
 /// lies on a grid of so many decimals. It looks at bytes alone, and so also at those of a comment.
 pub fn has_long_number(bytes: &[u8], decimals: u8) -> bool {
+    if memchr3(b'.', b'e', b'E', bytes).is_none() {
+        return false;
+    }
     let mut is_in_number = false;
     // from the point on one more than the digits so far
     let mut behind: u32 = 0;

@@ -3,7 +3,7 @@ ghost use Rattle.std.specs.Prelude.{◌≡◌, ◌<◌, ◌≤◌, length, take,
 ghost use Rattle.outside_io.specs.Causes.{HasCause};
 ghost use Rattle.outside_io.specs.Sink.{appended};
 
-use line_text::{spelled_number, words};
+use line_text::{Parts, spelled_number, words};
 use outside_io::{Failed, Sink};
 use std::alloc::Global;
 
@@ -92,25 +92,35 @@ impl<K: Sink> LogWatch<K> {
         }
     }
 
-    // Looks at the next byte of the log.
-    fn look(&mut self, byte: u8)
+    // Ends a line.
+    fn end_line(&mut self)
         ensures { self.new.sink ≡ self.old.sink }
     {
-        if byte == b'\n' {
-            self.vertices.note(self.line.as_slice(), self.number);
-            self.line.clear();
-            self.number = self.number.saturating_add(1);
-        } else if self.line.len() < LOOKED_AT {
-            let _ = self.line.push(byte);
-        }
+        self.vertices.note(self.line.as_slice(), self.number);
+        self.line.clear();
+        self.number = self.number.saturating_add(1);
+    }
+
+    // Keeps a part of a line, as far as a line is looked at.
+    fn keep(&mut self, part: &[u8])
+        ensures { self.new.sink ≡ self.old.sink }
+    {
+        let room = LOOKED_AT.saturating_sub(self.line.len());
+        let (kept, _) = part.split_at(room.min(part.len()));
+        let _ = self.line.extend_from_slice(kept);
     }
 
     // Looks at the next bytes of the log.
     fn look_all(&mut self, bytes: &[u8])
         ensures { self.new.sink ≡ self.old.sink }
     {
-        for byte in bytes {
-            self.look(*byte);
+        let mut is_first = true;
+        for part in Parts::new(b'\n', bytes) {
+            if !is_first {
+                self.end_line();
+            }
+            is_first = false;
+            self.keep(part);
         }
     }
 }
