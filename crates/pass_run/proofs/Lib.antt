@@ -15,3 +15,4 @@ pub mod Chosen
 pub mod Squares
 pub mod Fitted
 pub mod Again
+pub mod Edited

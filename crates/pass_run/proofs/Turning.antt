@@ -21,7 +21,7 @@ use Rattle.pass_run.proofs.SaidLines.{ends_by_count}
 use Rattle.pass_run.proofs.Stages.{SoFar, so_far_none, so_far_over, so_far_all, so_far_wanting, step_done, step_in_part}
 
 -- ---- whether a pass is over
-not_over_yet : (grouped : Bool) (n : ℕ) → n ≡ 0 → (grouped && nat_lt 0 n) ≡ false
+pub not_over_yet : (grouped : Bool) (n : ℕ) → n ≡ 0 → (grouped && nat_lt 0 n) ≡ false
 not_over_yet true n e = ap (nat_lt 0) e
 not_over_yet false n e = refl
 
@@ -29,7 +29,7 @@ none_refused : (n : ℕ) → nat_lt 0 n ≡ false → n ≡ 0
 none_refused n e = grind (arith, nat_tests)
 
 -- where it was not over, it is where the next lines end it
-over_is : (grouped : Bool) (before more : ℕ) (lines : List LogLine) → (grouped && nat_lt 0 before) ≡ false → more ≡ refused_in lines → (grouped && nat_lt 0 (before + more)) ≡ ends grouped lines
+pub over_is : (grouped : Bool) (before more : ℕ) (lines : List LogLine) → (grouped && nat_lt 0 before) ≡ false → more ≡ refused_in lines → (grouped && nat_lt 0 (before + more)) ≡ ends grouped lines
 over_is true before more lines was is = ap (nat_lt 0) (none_before (none_refused before was) ∙ is) ∙ sym (ends_by_count true lines)
   where
     none_before : before ≡ 0 → before + more ≡ more

@@ -6,4 +6,5 @@ pub mod Turns
 pub mod Said
 pub mod Promises
 pub mod Fits
+pub mod Edits
 pub mod Again

@@ -2,6 +2,7 @@
 #![tactic(auto)]
 
 mod choosing;
+mod edits;
 mod faults;
 mod fitting;
 pub mod laws;
@@ -12,6 +13,7 @@ mod passing;
 mod terms;
 mod turns;
 
+pub use edits::{Answers, EditTerms, edits_to};
 pub use faults::PassFault;
 pub use fitting::{fit_pass, fit_to};
 pub use passing::{PassCount, pass, pass_to};

@@ -39,7 +39,7 @@ pub struct PassCount {
 }
 
 /// The count of no edit.
-fn no_edit() -> PassCount
+pub(crate) fn no_edit() -> PassCount
     ensures done { result.done ≡ 0 }
     ensures refused { result.refused ≡ 0 }
 {
@@ -50,7 +50,7 @@ fn no_edit() -> PassCount
 }
 
 /// The count of one line.
-fn count_of(line: &LogLine) -> PassCount
+pub(crate) fn count_of(line: &LogLine) -> PassCount
     ensures done { result.done ≡ done_in (line.now ∷ []) }
     ensures refused { result.refused ≡ refused_in (line.now ∷ []) }
     ensures sum { result.done + result.refused ≤ 1 }
@@ -69,7 +69,7 @@ fn count_of(line: &LogLine) -> PassCount
 }
 
 /// The sum of two counts.
-fn sum(a: PassCount, b: PassCount) -> PassCount
+pub(crate) fn sum(a: PassCount, b: PassCount) -> PassCount
     requires { a.done + a.refused + b.done + b.refused < 2 ^ 64 }
     ensures done { result.done ≡ a.done + b.done }
     ensures refused { result.refused ≡ a.refused + b.refused }
@@ -81,7 +81,7 @@ fn sum(a: PassCount, b: PassCount) -> PassCount
 }
 
 /// Whether a pass is over after this count.
-fn is_over(grouped: bool, count: PassCount) -> bool
+pub(crate) fn is_over(grouped: bool, count: PassCount) -> bool
     ensures { result ≡ (grouped && nat_lt 0 count.refused) }
 {
     grouped && count.refused > 0

@@ -131,7 +131,7 @@ impl Chooses for PassKind {
 }
 
 /// The line of an answer.
-fn line_of(what: Asked, edit: Edit) -> LogLine
+pub(crate) fn line_of(what: Asked, edit: Edit) -> LogLine
     ensures { result ≡ line_of what edit }
 {
     match edit {

@@ -22,7 +22,8 @@ use Rattle.pass_run.specs.Candidates.{candidates, is_due, choice_in}
 use Rattle.pass_run.specs.PassLines.{PassRules, rules_of, line_of, answer_by, lines_asked, mesh_asked, lines_of, mesh_from, ends, lines_from, pass_lines}
 use Rattle.pass_run.specs.Fits.{call_of, call_in, turn_of, choice_by, fit_rules, fit_lines}
 use Rattle.run_laws.specs.Answers.{IsAnswerInRange}
-use Rattle.run_laws.specs.Lines.{MayFollow, AreInRange, CandidatesAreInRange, PassLinesAreInRange, FitLinesAreInRange}
+use Rattle.run_laws.specs.Lines.{MayFollow, AreInRange, CandidatesAreInRange, PassLinesAreInRange, FitLinesAreInRange, EditLinesAreInRange}
+use Rattle.pass_run.specs.Edits.{itself, edit_rules}
 use Rattle.run_laws.proofs.AskedAnswers.{answer_in_range}
 use Rattle.run_laws.proofs.Asked.{IsOrdered, edges_listed, asked_in_range}
 
@@ -116,3 +117,11 @@ module _ (meets : Positions → Bool) (wants : ℕ × ℕ → Want) (depth : ℕ
 pub fit_in_range : FitLinesAreInRange
 fit_in_range meets wants depth grouped m sound closed =
     (edges_fit meets wants depth grouped m sound closed (edges m) (edges_listed m sound), λ count. edges_fit meets wants depth grouped m sound closed (take count (edges m)) (first_edges meets wants depth grouped m sound closed count))
+
+-- ---- edits that are asked for
+itself_asks : (m : Mesh) (what other : Asked) → itself m what ≡ Some other → IsAskedInRange what → IsAskedInRange other
+itself_asks m what other e inside = let same : what ≡ other = cc in subst IsAskedInRange same inside
+
+pub edits_in_range : EditLinesAreInRange
+edits_in_range meets depth grouped m sound closed asked inside = All-from_recursion MayFollow (lines_from (edit_rules meets depth grouped) m asked)
+    (all_in_range (edit_rules meets depth grouped) itself_asks m (record { sound = sound; closed = closed }) asked inside)

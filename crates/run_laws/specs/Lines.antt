@@ -1,6 +1,6 @@
 -- The lines of a pass, of a step and of a mesh are in the log's ranges, as statements.
 use Rattle.std.specs.Prelude.{ℕ, ◌≤◌, Bool, List, [], ◌∷◌, ◌++◌, map, take}
-use Rattle.std.specs.List.{All}
+use Rattle.std.specs.List.{All, AllByRecursion}
 use Rattle.std.specs.FinMap as finite
 use Rattle.grid_base.specs.declared.Positions.{Positions}
 use Rattle.grid_base.specs.SeparationTests.{IsExact}
@@ -15,6 +15,7 @@ use Rattle.mesh_base.specs.Shifts.{Shifts, NameLive}
 use Rattle.step_choose.specs.declared.settings.Settings.{Settings}
 use Rattle.step_choose.specs.Settings.{AreWithinLimits}
 use Rattle.step_choose.specs.Choice.{IsFirstWay}
+use Rattle.edit_base.specs.declared.Asked.{Asked}
 use Rattle.edit_base.specs.declared.PassKind.{PassKind}
 use Rattle.log_text.specs.declared.TheConstants.{COUNT_MAX}
 use Rattle.log_text.specs.declared.log_line.LogLine.{LogLine}
@@ -22,7 +23,8 @@ use Rattle.log_text.specs.declared.log_line.LogLine.TheVariants.{Step, Hit, Bloc
 use Rattle.log_text.specs.Laws.{IsFrom, IsPairInRange, IsHowInRange, IsPassInRange, IsAskedInRange, IsInRange, NamesNoOther}
 use Rattle.pass_run.specs.declared.terms.PassTerms.{PassTerms}
 use Rattle.pass_run.specs.Candidates.{candidates}
-use Rattle.pass_run.specs.PassLines.{pass_lines}
+use Rattle.pass_run.specs.PassLines.{pass_lines, lines_from}
+use Rattle.pass_run.specs.Edits.{edit_rules}
 use Rattle.pass_run.specs.Fits.{fit_lines}
 use Rattle.run_laws.specs.Names.{IsBlockInRange}
 
@@ -54,6 +56,12 @@ FitLinesAreInRange = (meets : Positions → Bool) (wants : ℕ × ℕ → Want) 
     (m : Mesh) → IsSound m → IsClosed m →
     AreInRange (fit_lines meets wants depth grouped m (edges m))
     × ((count : ℕ) → AreInRange (fit_lines meets wants depth grouped m (take count (edges m))))
+
+-- the lines of edits that are asked for of a sound and closed mesh, where what is asked is in range
+abbrev pub EditLinesAreInRange : Type 0
+EditLinesAreInRange = (meets : Positions → Bool) (depth : ℕ) (grouped : Bool) (m : Mesh) →
+    IsSound m → IsClosed m → (asked : List Asked) → AllByRecursion IsAskedInRange asked →
+    AreInRange (lines_from (edit_rules meets depth grouped) m asked)
 
 -- ---- steps
 

@@ -11,7 +11,7 @@ ghost use Rattle.edit_zip.specs.Answer.{OfZips};
 ghost use Rattle.edit_pinch.specs.Answer.{OfPinches};
 ghost use Rattle.run_laws.specs.Names.{VerticesAreInRange, FacesAreInRange, EdgesAreInRange, PairsAreInRange, FailingPairsAreInRange, FirstMeetingIsInRange, BlocksAreInRange};
 ghost use Rattle.run_laws.specs.Answers.{AnswersInRange};
-ghost use Rattle.run_laws.specs.Lines.{CandidatesAreInRange, PassLinesAreInRange, FitLinesAreInRange, StepLinesAreInRange, WaysAreInRange, MeshLinesAreInRange};
+ghost use Rattle.run_laws.specs.Lines.{CandidatesAreInRange, PassLinesAreInRange, FitLinesAreInRange, EditLinesAreInRange, StepLinesAreInRange, WaysAreInRange, MeshLinesAreInRange};
 ghost use Rattle.run_laws.specs.Texts.{MeshFaultsAreInRange, ShapeFaultsAreInRange, StepFaultsAreInRange, DirectivesAreInRange, DirectivesAreFew};
 ghost use Rattle.run_laws.specs.Directives.{EffectsAreInRange, LogsAreInRange};
 ghost use Rattle.run_laws.specs.Inputs.{InputsAreInRange, LogsOfMeshesAreInRange};
@@ -48,6 +48,12 @@ pub fn passes_are_in_range()
     ensures candidates { CandidatesAreInRange }
     ensures lines { PassLinesAreInRange }
     ensures fits { FitLinesAreInRange }
+{}
+
+/// The lines of edits that are asked for of a sound and closed mesh are in the log's ranges, where the ids that are asked are, and of
+/// each edge the smaller end comes first. So they are read again.
+pub fn asked_edits_are_in_range()
+    ensures { EditLinesAreInRange }
 {}
 
 /// The lines of a step are in the log's ranges, where its number is, the pairs that fail, the blocks, and the way in which it is taken,

@@ -2,12 +2,16 @@
 use Rattle.std.proofs.Common.{◌≡◌, ℕ, List, Option, Some, refl, sym, subst}
 use Rattle.mesh_sizing.specs.declared.sizing.Band.{Band}
 use Rattle.step_text.specs.declared.Directive.{Directive}
+use Rattle.track_engine.specs.State.{State}
+use Rattle.track_engine.specs.Effects.{Effect}
 use Rattle.track_held.specs.declared.given.NamedPoint.{NamedPoint}
+use Rattle.track_held.specs.declared.editing_given.GivenEdit.{GivenEdit}
+use Rattle.track_held.specs.declared.editing_given.ToldAnswer.{ToldAnswer}
 use Rattle.topo_library.specs.declared.fault.TopoFault.{TopoFault}
 use Rattle.topo_library.specs.declared.telling.TopoEdits.{TopoEdits}
 use Rattle.topo_library.specs.declared.tracker.Tracker.{Tracker}
 use Rattle.step_choose.specs.declared.Settings.{Settings}
-use Rattle.topo_library.specs.Codes.{HasDone, HandleHasDone, HasTold, HandleHasTold, HasSet, HandleHasSet, HasFitted, HandleHasFitted, HasForgotten, HandleHasForgotten, HasShiftedEach, HandleHasShiftedEach, HasTakenLog, HandleHasTakenLog}
+use Rattle.topo_library.specs.Codes.{tracked, HasWritten, HandleHasWritten, HasEdited, HandleHasEdited, HasDone, HandleHasDone, HasTold, HandleHasTold, HasSet, HandleHasSet, HasFitted, HandleHasFitted, HasForgotten, HandleHasForgotten, HasShiftedEach, HandleHasShiftedEach, HasTakenLog, HandleHasTakenLog}
 
 module _ (old new : Option Tracker) (s t : Tracker) (held : old ≡ Some s) (holds : new ≡ Some t) where
   pub answers : (what : Directive) (before after : TopoFault) (code : ℕ) → HasDone what s t before after code → HandleHasDone what old new before after code
@@ -24,6 +28,12 @@ module _ (old new : Option Tracker) (s t : Tracker) (held : old ≡ Some s) (hol
 
   pub fits : (band : Band) (before after : TopoEdits) (code : ℕ) → HasFitted band s t before after code → HandleHasFitted band old new before after code
   fits band before after code h = let P : Option Tracker → Type 0 = λ o. HandleHasFitted band o new before after code in subst P (sym held) (t, holds, h)
+
+  pub wrote : (effect : State → Effect) (code : ℕ) → HasWritten (effect (tracked s)) s t code → HandleHasWritten effect old new code
+  wrote effect code h = let P : Option Tracker → Type 0 = λ o. HandleHasWritten effect o new code in subst P (sym held) (t, holds, h)
+
+  pub edited : (rows : List GivenEdit) (into now : List ToldAnswer) (before taken code : ℕ) → HasEdited rows s t into now before taken code → HandleHasEdited rows old new into now before taken code
+  edited rows into now before taken code h = let P : Option Tracker → Type 0 = λ o. HandleHasEdited rows o new into now before taken code in subst P (sym held) (t, holds, h)
 
   pub forgets : HasForgotten s t → HandleHasForgotten old new 0
   forgets h = let P : Option Tracker → Type 0 = λ o. HandleHasForgotten o new 0 in subst P (sym held) (refl, (t, holds, h))

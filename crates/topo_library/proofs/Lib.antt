@@ -1,3 +1,4 @@
 pub mod Handles
 pub mod InOrder
 pub mod Tested
+pub mod Answered

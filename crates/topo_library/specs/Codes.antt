@@ -1,12 +1,13 @@
 -- What the codes say of the calls.
 use Rattle.std.specs.Prelude.{◌≡◌, ◌≢◌, ◌≤◌, ◌<◌, ◌↔◌, ◌⊎◌, ℕ, true, Option, Some, None, Ok, Err}
-use Rattle.std.specs.Prelude.{List, [], ◌∷◌, ◌++◌, length, drop}
+use Rattle.std.specs.Prelude.{List, [], ◌∷◌, ◌++◌, length, drop, map}
 use Rattle.std.specs.FinMap as finite
 use Rattle.grid_base.specs.declared.TheConstants.{DEPTH_MAX, HALVINGS_MAX, TEXT_MAX, VERTICES_MAX}
 use Rattle.line_text.specs.declared.TextFault.{TextFault}
 use Rattle.mesh_base.specs.Mesh.{Mesh}
 use Rattle.mesh_base.specs.Valid.{IsValidSurface}
 use Rattle.mesh_base.specs.declared.UseWhy.{UseWhy}
+use Rattle.edit_base.specs.declared.Asked.{Asked}
 use Rattle.mesh_journal.specs.Journal.{mesh_in, kept_in}
 use Rattle.mesh_sizing.specs.declared.sizing.Band.{Band}
 use Rattle.mesh_rows.specs.declared.rows.MeshRows.{MeshRows}
@@ -19,7 +20,7 @@ use Rattle.step_text.specs.declared.Directive.{Directive}
 use Rattle.track_engine.specs.Answers.{Nothing}
 use Rattle.track_engine.specs.State.{State, unsaved}
 use Rattle.track_engine.specs.Engines.{state_in}
-use Rattle.track_engine.specs.Effects.{effect_of}
+use Rattle.track_engine.specs.Effects.{Effect, effect_of, edits_effect, edited_answers}
 use Rattle.track_engine.specs.Invariant.{IsRunInvariant, HasRoom}
 use Rattle.track_engine.specs.Parts.{Writes, FitTells}
 use Rattle.track_held.specs.declared.given.GivenPoint.{GivenPoint}
@@ -27,8 +28,11 @@ use Rattle.track_held.specs.declared.given.GivenFace.{GivenFace}
 use Rattle.track_held.specs.declared.given.NamedPoint.{NamedPoint}
 use Rattle.track_held.specs.declared.making.MakeFault.{MakeFault}
 use Rattle.track_held.specs.declared.making_numbered.NumberedFault.{NumberedFault}
+use Rattle.track_held.specs.declared.editing_given.GivenEdit.{GivenEdit}
+use Rattle.track_held.specs.declared.editing_given.ToldAnswer.{ToldAnswer}
 use Rattle.track_held.specs.declared.events.Event.{Event}
 use Rattle.track_held.specs.Asking.{CanBeAsked, asking, CanAllBeAsked, asking_all}
+use Rattle.track_held.specs.Editing.{edits_asked, answer_told}
 use Rattle.track_held.specs.Events.{with_first_line, events_in}
 use Rattle.track_held.specs.Fitting.{always}
 use Rattle.track_held.specs.Given.{given_mesh, make_fault}
@@ -112,6 +116,69 @@ pub record HasTold {X : Type 0} (tell : Tracker → X) (s : Tracker) (before aft
 abbrev pub HandleHasTold : {X : Type 0} → (Tracker → X) → Option Tracker → X → X → ℕ → Type 0
 HandleHasTold tell None before after code = after ≡ before
 HandleHasTold tell (Some s) before after code = HasTold tell s before after code
+
+-- ---- what is never refused
+
+-- What a code says of a call that does with the tracker s what this effect says. The tracker then
+-- is t.
+pub record HasWritten (effect : Effect) (s t : Tracker) (code : ℕ) : Type 0 where
+  -- 0: its lines were told, and the tracker stands in the state after it
+  pub done : code ≡ 0 → Writes effect (tracked t) (Some (told s)) (Some (told t)) (Ok None)
+  -- 1: there was no memory: nothing was told, or a part of its lines, and the tracker is stopped
+  pub memory : code ≡ 1 →
+      Writes effect (tracked t) (Some (told s)) (Some (told t)) (Err NoMemory) × ¬ GoesOn t
+  -- the rest as of a directive
+  pub stopped : code ≡ 5 ↔ ¬ GoesOn s
+  pub spent : code ≡ 6 ↔ (GoesOn s × ¬ HasRoomLeft s)
+  pub idle : (code ≡ 5) ⊎ (code ≡ 6) → t ≡ s
+  pub goes_on : code ≢ 1 → goes_on t.held ≡ goes_on s.held
+  pub kept : GoesOn t → IsRunInvariant (tracked t)
+  pub among : (code ≡ 0) ⊎ (code ≡ 1) ⊎ (code ≡ 5) ⊎ (code ≡ 6)
+
+-- the same of a handle, by what the effect is in the state where its tracker stands
+abbrev pub HandleHasWritten : (State → Effect) → Option Tracker → Option Tracker → ℕ → Type 0
+HandleHasWritten effect None new code = (code ≡ 4) × (new ≡ None)
+HandleHasWritten effect (Some s) new code =
+    (t : Tracker) × (new ≡ Some t) × HasWritten (effect (tracked s)) s t code
+
+-- ---- edits that are asked for
+
+-- What stands of a buffer and a number after a call that asks edits: at 0 the first items of the
+-- buffer are what came of them, one for each that was asked up to the one that ended them, and their
+-- number is told; else both are as they were.
+pub record HasAnswered (asked : List Asked) (s : Tracker) (into now : List ToldAnswer)
+    (before taken code : ℕ) : Type 0 where
+  pub told : code ≡ 0 → let answers = map answer_told (edited_answers asked (tracked s)) in
+      (now ≡ answers ++ drop (length answers) into) × (taken ≡ length answers)
+  pub left : code ≢ 0 → (now ≡ into) × (taken ≡ before)
+
+-- with nothing done, and nothing told
+pub record HasLeft (s t : Tracker) (into now : List ToldAnswer) (before taken : ℕ) : Type 0 where
+  pub tracker : t ≡ s
+  pub buffer : now ≡ into
+  pub number : taken ≡ before
+
+-- What a code says of a call that asks the edits of rows: 3 where there is no room for as many
+-- answers; else 1 where there was no memory for the edits, or 3 where a row is none, and then
+-- nothing is done; or the edits are asked.
+abbrev pub HasEdited : List GivenEdit → Tracker → Tracker → List ToldAnswer → List ToldAnswer → ℕ →
+    ℕ → ℕ → Type 0
+HasEdited rows s t into now before taken code =
+    (length into < length rows → (code ≡ 3) × HasLeft s t into now before taken)
+    × (length rows ≤ length into →
+    ((code ≡ 1) × HasLeft s t into now before taken)
+    ⊎ ((edits_asked rows ≡ None) × (code ≡ 3) × HasLeft s t into now before taken)
+    ⊎ ((asked : List Asked) × (edits_asked rows ≡ Some asked)
+    × HasWritten (edits_effect asked (tracked s)) s t code
+    × HasAnswered asked s into now before taken code))
+
+-- the same of a handle
+abbrev pub HandleHasEdited : List GivenEdit → Option Tracker → Option Tracker → List ToldAnswer →
+    List ToldAnswer → ℕ → ℕ → ℕ → Type 0
+HandleHasEdited rows None new into now before taken code =
+    (code ≡ 4) × (new ≡ None) × (now ≡ into) × (taken ≡ before)
+HandleHasEdited rows (Some s) new into now before taken code =
+    (t : Tracker) × (new ≡ Some t) × HasEdited rows s t into now before taken code
 
 -- ---- a pass by a band
 

@@ -44,6 +44,16 @@ closing_number TakenBack = 2
 abbrev pub closing_of : List Group → ℕ
 closing_of groups = closing_number (closing groups)
 
+-- what becomes of a group that is taken back by choice, whatever would become of it
+abbrev pub undone_number : Closing → ℕ
+undone_number NoGroup = 0
+undone_number Kept = 2
+undone_number TakenBack = 2
+
+-- the same of the innermost of these groups
+abbrev pub undone_of : List Group → ℕ
+undone_of groups = undone_number (closing groups)
+
 -- settings by their numbers; zones are on at 1
 abbrev pub settings_at : ℕ → ℕ → ℕ → ℕ → Settings
 settings_at depth passes zones halvings =

@@ -17,14 +17,16 @@ ghost use Rattle.topo_library.specs.Alone.{AreInBox, places, HasTested, CanPass}
 ghost use Rattle.step_text.specs.declared.Directive.TheVariants as directive;
 ghost use Rattle.edit_base.specs.declared.PassKind.TheVariants as pass;
 ghost use Rattle.track_engine.specs.Told.{step_told, pass_told};
-ghost use Rattle.track_held.specs.Reading.{named_points, named_faces, solid_vertices};
+ghost use Rattle.track_engine.specs.Effects.{undo_effect};
+ghost use Rattle.track_held.specs.Reading.{named_points, named_faces, solid_vertices, star_of, beside_edge};
 ghost use Rattle.track_held.specs.Numbered.{given_rows};
-ghost use Rattle.topo_library.specs.Codes.{tracked, HandleHasDone, HandleHasTold, IsBeyond, AreSettings, HandleHasSet, HandleHasFitted, HandleHasShifted, HandleHasShiftedAll, HandleHasShiftedEach, HasMade, HasMadeNumbered, HandleHasPut, HandleHasPutEvents, HandleHasForgotten, HandleHasTakenLog, HandleHasCounted};
-ghost use Rattle.topo_library.specs.Tellings.{way_told, edits_told, closing_of, settings_at, band_of};
+ghost use Rattle.topo_library.specs.Codes.{tracked, HandleHasDone, HandleHasTold, IsBeyond, AreSettings, HandleHasSet, HandleHasFitted, HandleHasWritten, HandleHasEdited, HandleHasShifted, HandleHasShiftedAll, HandleHasShiftedEach, HasMade, HasMadeNumbered, HandleHasPut, HandleHasPutEvents, HandleHasForgotten, HandleHasTakenLog, HandleHasCounted};
+ghost use Rattle.topo_library.specs.Tellings.{way_told, edits_told, closing_of, undone_of, settings_at, band_of};
 
 mod alone;
 mod calling;
 mod codes;
+mod editing;
 mod fault;
 mod handle;
 mod loose;
@@ -40,18 +42,22 @@ use alone::{TopoFive, tell_meets, tell_passes};
 use calling::{advance, close, fit, pass_with, set, shift_each, shift_every, shift_one, step};
 use codes::RANGE;
 use edit_base::PassKind;
+use editing::{edit_each, undo};
 use fault::TopoFault;
 use grid_base::{ID_MAX, LENGTH_MAX};
 use handle::Topo;
 use log_text::VERSION;
 use making::make;
 use making_numbered::{NumberedRows, make_numbered};
-use reading::{count, forget_log, read_events, read_faces, read_log, read_points, read_solids};
+use reading::{
+    count, forget_log, read_beside, read_events, read_faces, read_log, read_points, read_solids,
+    read_star,
+};
 use settings::{band_of, settings_at};
 use std::alloc::Global;
 use step_text::Directive;
 use telling::{TopoCounted, TopoEdits, TopoWay};
-use track_held::{Event, GivenFace, GivenPoint, NamedFace, NamedPoint};
+use track_held::{Event, GivenEdit, GivenFace, GivenPoint, NamedFace, NamedPoint, ToldAnswer};
 
 /// Makes a tracker of the surface of these points and faces, whose corners number the points from 1, or refuses them for their first fault.
 /// What `out` held is freed first; where no tracker is made, it holds none.
@@ -327,6 +333,23 @@ pub extern "C" fn topo_fit(
     }
 }
 
+/// Asks edits by ids, one after another, and tells what came of each, and of how many: of all, or, in an open group, of those up to the first
+/// that is refused. Where a kind is none, an id none that a vertex may have, or there is not room for as many answers, they are beyond their
+/// limit, and none is asked.
+#[unsafe(no_mangle)]
+pub extern "C" fn topo_edit_each(
+    alloc: Global,
+    topo: &mut Topo,
+    asked: &[GivenEdit],
+    answers: &mut [ToldAnswer],
+    taken: &mut usize,
+) -> u32
+    ensures { HandleHasEdited asked.now topo.old.owned.value topo.new.owned.value
+        answers.old answers.new taken.old taken.new result }
+{
+    edit_each(alloc, topo, asked, answers, taken)
+}
+
 /// Makes a vertex solid: it does not move from here on, unless the group in which this is done is taken back. An id that no vertex may have is
 /// beyond its limit; refused where the vertex does not live.
 #[unsafe(no_mangle)]
@@ -368,6 +391,17 @@ pub extern "C" fn topo_close(
     close(alloc, topo, kept, fault)
 }
 
+/// Takes the group that was opened last back, whatever was done in it, and tells that, or that none was open.
+#[unsafe(no_mangle)]
+pub extern "C" fn topo_undo(alloc: Global, topo: &mut Topo, became: &mut u32) -> u32
+    ensures does { HandleHasWritten (λ s. undo_effect s.groups s)
+        topo.old.owned.value topo.new.owned.value result }
+    ensures tells { HandleHasTold (λ t. undone_of (tracked t).groups) topo.old.owned.value
+        became.old became.new result }
+{
+    undo(alloc, topo, became)
+}
+
 /// How many vertices and faces live, which ids the next vertex and the next face get, how many steps were taken, and how many bytes the log has.
 #[unsafe(no_mangle)]
 pub extern "C" fn topo_counts(alloc: Global, topo: &mut Topo, counts: &mut TopoCounted) -> u32
@@ -403,6 +437,39 @@ pub extern "C" fn topo_faces(
         topo.old.owned.value topo.new.owned.value into.old into.new size.old size.new result }
 {
     read_faces(alloc, topo, into, size)
+}
+
+/// Puts the faces at a vertex, by rising id, and their corners into a buffer, where all of them fit, and tells how many they are. None, where it
+/// does not live.
+#[unsafe(no_mangle)]
+pub extern "C" fn topo_star(
+    alloc: Global,
+    topo: &mut Topo,
+    v: u32,
+    into: &mut [NamedFace],
+    size: &mut usize,
+) -> u32
+    ensures { HandleHasPut (λ t. star_of (tracked t).mesh v)
+        topo.old.owned.value topo.new.owned.value into.old into.new size.old size.new result }
+{
+    read_star(alloc, topo, v, into, size)
+}
+
+/// Puts the faces beside an edge, which have both of its ends as corners, by rising id, and their corners into a buffer, where all of them fit,
+/// and tells how many they are. None, where there is no edge between two vertices.
+#[unsafe(no_mangle)]
+pub extern "C" fn topo_beside(
+    alloc: Global,
+    topo: &mut Topo,
+    a: u32,
+    b: u32,
+    into: &mut [NamedFace],
+    size: &mut usize,
+) -> u32
+    ensures { HandleHasPut (λ t. beside_edge (tracked t).mesh a b)
+        topo.old.owned.value topo.new.owned.value into.old into.new size.old size.new result }
+{
+    read_beside(alloc, topo, (a, b), into, size)
 }
 
 /// Puts the ids of the live vertices that are solid, by rising id, into a buffer, where all of them fit, and tells how many they are.

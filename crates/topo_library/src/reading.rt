@@ -1,18 +1,18 @@
 //! The tracker of a handle is read.
 ghost use Rattle.std.specs.Prelude.{◌≡◌, ◌≢◌};
 ghost use Rattle.track_held.specs.Events.{with_first_line};
-ghost use Rattle.track_held.specs.Reading.{named_points, named_faces, solid_vertices};
+ghost use Rattle.track_held.specs.Reading.{named_points, named_faces, solid_vertices, star_of, beside_edge};
 ghost use Rattle.topo_library.specs.Codes.{tracked, told, HasPut, HandleHasPut, HasPutEvents, HandleHasPutEvents, HasForgotten, HandleHasForgotten, HasTakenLog, HandleHasTakenLog, counts_of, HandleHasCounted};
 
 use crate::codes::{DONE, EMPTY, NO_MEMORY, RANGE, UNREAD};
 use crate::handle::Topo;
 use crate::telling::TopoCounted;
 use crate::tracker::Tracker;
-use mesh_base::Surface;
+use mesh_base::{Surface, VertexId};
 use std::alloc::Global;
 use track_held::{
-    Event, EventRefusal, NamedFace, NamedPoint, named_faces, named_points, put_rows,
-    solid_vertices, told_events,
+    Event, EventRefusal, NamedFace, NamedPoint, beside_edge, named_faces, named_points, put_rows,
+    solid_vertices, star_of, told_events,
 };
 
 // Puts rows into a buffer, where all of them fit, and tells their number.
@@ -78,6 +78,79 @@ pub(crate) fn read_faces(
         return EMPTY;
     };
     let code = put_faces(alloc, b.as_ref(), into, size);
+    topo.give(b);
+    code
+}
+
+// Puts the faces at a vertex of a tracker into a buffer.
+fn put_star(
+    alloc: Global,
+    tracker: &Tracker,
+    v: u32,
+    into: &mut [NamedFace],
+    size: &mut usize,
+) -> u32
+    ensures { HasPut (star_of (tracked tracker.now).mesh v)
+        into.old into.new size.old size.new result }
+{
+    match star_of(alloc, tracker.held.mesh(), VertexId(v)) {
+        Ok(rows) => put(rows.as_slice(), into, size),
+        Err(_) => NO_MEMORY,
+    }
+}
+
+// Puts the faces beside an edge of a tracker into a buffer.
+fn put_beside(
+    alloc: Global,
+    tracker: &Tracker,
+    a: u32,
+    b: u32,
+    into: &mut [NamedFace],
+    size: &mut usize,
+) -> u32
+    ensures { HasPut (beside_edge (tracked tracker.now).mesh a b)
+        into.old into.new size.old size.new result }
+{
+    match beside_edge(alloc, tracker.held.mesh(), VertexId(a), VertexId(b)) {
+        Ok(rows) => put(rows.as_slice(), into, size),
+        Err(_) => NO_MEMORY,
+    }
+}
+
+/// Puts the faces at a vertex, by rising id, into a buffer.
+pub(crate) fn read_star(
+    alloc: Global,
+    topo: &mut Topo,
+    v: u32,
+    into: &mut [NamedFace],
+    size: &mut usize,
+) -> u32
+    ensures { HandleHasPut (λ t. star_of (tracked t).mesh v)
+        topo.old.owned.value topo.new.owned.value into.old into.new size.old size.new result }
+{
+    let Some(b) = topo.take(alloc) else {
+        return EMPTY;
+    };
+    let code = put_star(alloc, b.as_ref(), v, into, size);
+    topo.give(b);
+    code
+}
+
+/// Puts the faces beside an edge into a buffer.
+pub(crate) fn read_beside(
+    alloc: Global,
+    topo: &mut Topo,
+    ends: (u32, u32),
+    into: &mut [NamedFace],
+    size: &mut usize,
+) -> u32
+    ensures { HandleHasPut (λ t. beside_edge (tracked t).mesh ends.0 ends.1)
+        topo.old.owned.value topo.new.owned.value into.old into.new size.old size.new result }
+{
+    let Some(b) = topo.take(alloc) else {
+        return EMPTY;
+    };
+    let code = put_beside(alloc, b.as_ref(), ends.0, ends.1, into, size);
     topo.give(b);
     code
 }

@@ -1,6 +1,6 @@
 //! What calls tell of themselves, for C.
 ghost use Rattle.std.specs.Prelude.{◌≡◌};
-ghost use Rattle.topo_library.specs.Tellings.{way_at, way_told, edits_told, closing_number};
+ghost use Rattle.topo_library.specs.Tellings.{way_at, way_told, edits_told, closing_number, undone_number};
 
 use mesh_base::How;
 use pass_run::PassCount;
@@ -74,6 +74,17 @@ pub(crate) fn closing_number(closing: Closing) -> u32
     match closing {
         Closing::NoGroup => 0,
         Closing::Kept => 1,
+        Closing::TakenBack => 2,
+    }
+}
+
+/// What becomes of a group that is taken back by choice, by what would become of it, as a number.
+pub(crate) fn undone_number(closing: Closing) -> u32
+    ensures { result ≡ undone_number closing }
+{
+    match closing {
+        Closing::NoGroup => 0,
+        Closing::Kept => 2,
         Closing::TakenBack => 2,
     }
 }

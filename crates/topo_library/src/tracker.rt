@@ -1,15 +1,16 @@
 //! What stands behind the pointer of a tracker.
-ghost use Rattle.std.specs.Prelude.{◌≡◌};
+ghost use Rattle.std.specs.Prelude.{◌≡◌, ◌++◌};
 ghost use Rattle.mesh_sizing.specs.Sizes.{IsBand};
 ghost use Rattle.step_choose.specs.Settings.{AreWithinLimits};
 ghost use Rattle.step_text.specs.Ranges.{IsInRange};
 
 use crate::codes::{DONE, NO_MEMORY, REFUSED, SPENT, STOPPED};
 use crate::fault::{TopoFault, use_place};
-use crate::telling::{TopoEdits, TopoWay, closing_number, edits_told, way_told};
-use edit_base::PassKind;
+use crate::telling::{TopoEdits, TopoWay, closing_number, edits_told, undone_number, way_told};
+use edit_base::{Asked, PassKind};
 use mesh_journal::JournalMesh;
 use mesh_sizing::Band;
+use pass_run::Answers;
 use std::alloc::Global;
 use step_choose::Settings;
 use step_text::Directive;
@@ -25,8 +26,9 @@ impl Tracker {
     ghost use Rattle.step_text.specs.declared.Directive.TheVariants.{Step, Pass, Close};
     ghost use Rattle.track_engine.specs.Told.{step_told, pass_told};
     ghost use Rattle.track_held.specs.Asking.{AsksNothing};
-    ghost use Rattle.topo_library.specs.Codes.{tracked, HasDone, HasTold, HasSet, HasFitted};
-    ghost use Rattle.topo_library.specs.Tellings.{way_told, edits_told, closing_of};
+    ghost use Rattle.track_engine.specs.Effects.{edits_effect, edited_answers, undo_effect};
+    ghost use Rattle.topo_library.specs.Codes.{tracked, HasDone, HasTold, HasSet, HasFitted, HasWritten};
+    ghost use Rattle.topo_library.specs.Tellings.{way_told, edits_told, closing_of, undone_of};
 
     /// Does a directive, and answers how that went.
     pub(crate) fn advance(&mut self, alloc: Global, what: &Directive, fault: &mut TopoFault) -> u32
@@ -131,6 +133,48 @@ impl Tracker {
         match self.held.fit(alloc, band) {
             Ok(count) => {
                 *edits = edits_told(count);
+                DONE
+            }
+            Err(_) => NO_MEMORY,
+        }
+    }
+
+    /// Asks edits, and answers how that went; at 0 what came of each stands behind the answers.
+    pub(crate) fn edits(&mut self, alloc: Global, asked: &[Asked], answers: &mut Answers) -> u32
+        ensures writes { HasWritten (edits_effect asked.now (tracked self.old))
+            self.old self.new result }
+        ensures answers { result ≡ 0 →
+            answers.new ≡ answers.old ++ edited_answers asked.now (tracked self.old) }
+    {
+        if !self.held.goes_on() {
+            return STOPPED;
+        }
+        if !self.held.has_room() {
+            return SPENT;
+        }
+        match self.held.edits(alloc, asked, answers) {
+            Ok(_) => DONE,
+            Err(_) => NO_MEMORY,
+        }
+    }
+
+    /// Takes the group that was opened last back, and answers how that went.
+    pub(crate) fn undo(&mut self, alloc: Global, became: &mut u32) -> u32
+        ensures writes { HasWritten (undo_effect (tracked self.old).groups (tracked self.old))
+            self.old self.new result }
+        ensures tells { HasTold (λ t. undone_of (tracked t).groups) self.old
+            became.old became.new result }
+    {
+        if !self.held.goes_on() {
+            return STOPPED;
+        }
+        if !self.held.has_room() {
+            return SPENT;
+        }
+        let closing = self.held.closing();
+        match self.held.undo(alloc) {
+            Ok(_) => {
+                *became = undone_number(closing);
                 DONE
             }
             Err(_) => NO_MEMORY,

@@ -21,6 +21,7 @@ use Rattle.mesh_base.proofs.Deeper.{none_fails_deeper}
 use Rattle.mesh_base.proofs.Moves.{both_true}
 use Rattle.mesh_base.proofs.MovesNamed.{name_once, name_once_filtered, shift_filtered, end_filtered}
 use Rattle.edit_base.specs.declared.PassKind.{PassKind}
+use Rattle.edit_base.specs.declared.Asked.{Asked}
 use Rattle.step_choose.specs.Settings.{AreWithinLimits}
 use Rattle.step_choose.specs.Choice.{Way}
 use Rattle.step_choose.proofs.Taken.{GoesWell}
@@ -35,12 +36,14 @@ use Rattle.log_replay.proofs.Replaying.{each_then}
 use Rattle.mesh_sizing.specs.declared.sizing.Want.{Want}
 use Rattle.pass_run.specs.PassLines.{terms_of}
 use Rattle.pass_run.specs.Fits.{turn_of, fit_rules}
+use Rattle.pass_run.specs.Edits.{edit_rules}
 use Rattle.pass_run.proofs.Again.{passes_again, all_again}
 use Rattle.track_engine.specs.State.{Group, State, standing, is_open}
 use Rattle.track_engine.specs.Answers.{Answer, Nothing, NoSuchField, FieldShifts, Wanted, WantedOfFirst, first, later}
-use Rattle.track_engine.specs.Effects.{Effect, Proceeds, Refused, Unanswered, effect_of, shift_effect, drive_effect, fit_effect, fitted_lines, solid_effect, step_effect, close_effect, sum_of_one, sum_of_all, first_outside, hits, taken, moves, moving, hit_lines, block_lines, move_lines, way_lines, lines_of_step, passed_lines, and_then, log_from}
+use Rattle.track_engine.specs.Effects.{Effect, Proceeds, Refused, Unanswered, effect_of, shift_effect, drive_effect, fit_effect, fitted_lines, solid_effect, step_effect, close_effect, sum_of_one, sum_of_all, first_outside, hits, taken, moves, moving, hit_lines, block_lines, move_lines, way_lines, lines_of_step, passed_lines, edited_lines, undo_effect, and_then, log_from}
 use Rattle.track_engine.specs.Invariant.{IsRunInvariant}
 use Rattle.track_engine.specs.Again.{LogsAreAgain}
+use Rattle.track_engine.specs.Asking.{CanBeDoneAgain, EditsCanBeDoneAgain, UndoCanBeDoneAgain}
 use Rattle.track_engine.proofs.NoFiles.{after-moves, after-hits, after-blocks}
 use Rattle.track_engine.proofs.Still.{still_of_rest, moving_free}
 use Rattle.track_engine.proofs.Keeping.{no_move, well_taken, kept_next}
@@ -190,6 +193,22 @@ effect_again given directive.Fit s limits kept = fit_again given s limits
 effect_again given directive.Save s limits kept = (tt, tt)
 effect_again given directive.Group s limits kept = (tt, tt)
 effect_again given directive.Close s limits kept = close_again s s.groups
+
+-- ---- edits that are asked for, and a group that is taken back
+
+edited_again : (asked : List Asked) (s : State) → AreWithinLimits s.set → LinesAreAgain (standing s) (edited_lines asked s)
+unfolding edited_lines
+edited_again asked s limits = all_again (edit_rules meets_exactly s.set.depth (is_open s.groups)) meets_exactly-is_exact limits.depth (standing s) asked
+
+pub edits_again : EditsCanBeDoneAgain
+edits_again asked s limits = edited_again asked s limits
+
+undo_by : (groups : List Group) (s : State) → CanBeDoneAgain s (undo_effect groups s)
+undo_by [] s = tt
+undo_by (group ∷ outer) s = (tt, tt)
+
+pub undo_again : UndoCanBeDoneAgain
+undo_again s = undo_by s.groups s
 
 -- ---- all directives
 

@@ -1,5 +1,5 @@
 -- What a field answers at each vertex is added to what is asked of it.
-use Rattle.std.proofs.Common.{◌≡◌, ℕ, ◌+◌, ◌<◌, ◌≤◌, ◌==◌, ◌||◌, suc, zero, add-one, Bool, true, false, cond, not, List, [], ◌∷◌, ◌++◌, map, length, take, get_or, slice_get, Option, Some, None, Result, Ok, Err, refl, ap, sym, ◌∙◌, subst, append-nil, inl, inr, arith}
+use Rattle.std.proofs.Common.{◌≡◌, ℕ, ◌+◌, ◌<◌, ◌≤◌, ◌==◌, ◌||◌, suc, zero, add-one, Bool, true, false, cond, not, List, [], ◌∷◌, ◌++◌, map, length, take, get_or, slice_get, Option, Some, None, Result, Ok, Err, refl, ap, sym, ◌∙◌, subst, arith}
 use Rattle.std.specs.FinMap as finite
 use Rattle.std.specs.FinMap.{get-entries}
 use Rattle.std.specs.FinMap.Entries as entries
@@ -7,11 +7,10 @@ use Rattle.std.specs.Map.{keys_of}
 use Rattle.std.specs.Cmp.{unsigned_tied}
 use Rattle.std.specs.List.{find, AllByRecursion}
 use Rattle.std.specs.List.Sorted.{IsStrictlySortedBy}
-use Rattle.std.specs.Option.{option_map, option_or, unwrap_or}
+use Rattle.std.specs.Option.{option_map, option_or}
 use Rattle.std.specs.Ordering.{nat_cmp, eq_by_cmp}
-use Rattle.std.specs.declared.cmp.Ordering.TheVariants.{Less}
 use Rattle.std.proofs.Math.Seq.{take-suc}
-use Rattle.std.proofs.lemmas.Bool.{eq-eqb, eqb-true, false≢true}
+use Rattle.std.proofs.lemmas.Bool.{eq-eqb, eqb-true}
 use Rattle.std.proofs.lemmas.List.{map-append, take_all}
 use Rattle.std.proofs.lemmas.List.Folds.{find-append}
 use Rattle.std.proofs.lemmas.Map.Keys.{sorted_head, sorted_tail}
@@ -25,9 +24,7 @@ use Rattle.mesh_base.specs.Mesh.{Mesh, is_solid}
 use Rattle.mesh_base.specs.declared.UseWhy.TheVariants.{ShiftRange}
 use Rattle.mesh_base.specs.Placements.{point_of, position_or_origin}
 use Rattle.mesh_base.specs.Shifts.{Shifts, NameLive, with_shift}
-use Rattle.mesh_base.proofs.Listed.{all_map}
 use Rattle.mesh_base.proofs.ListedPairs.{all_mapped}
-use Rattle.pair_scan.proofs.Paths.{ids_sorted}
 use Rattle.track_engine.specs.Answered.{IsAnswerAt, AreAnswersOf}
 use Rattle.track_engine.specs.Effects.{summed, is_beyond, first_beyond, summed_unless_solid, all_summed, sum_or_range, sum_of_all}
 use Rattle.track_engine.specs.Shifting.{SumsOne, Sums}

@@ -1,6 +1,6 @@
 -- A directive that names a field, as an effect.
 use Rattle.std.proofs.lemmas.Bool.{false≢true}
-use Rattle.std.proofs.Common.{◌≡◌, ℕ, Bool, true, false, List, [], ◌∷◌, Option, Some, None, Result, Ok, Err, IfOk, refl, ap, sym, ◌∙◌, subst, inl, inr}
+use Rattle.std.proofs.Common.{◌≡◌, ℕ, Bool, true, false, List, [], Option, Some, None, Result, Ok, Err, IfOk, refl, ap, sym, ◌∙◌, subst, inl, inr}
 use Rattle.grid_base.specs.declared.Shift.{Shift}
 use Rattle.mesh_base.specs.declared.UseWhy.{UseWhy}
 use Rattle.mesh_base.specs.Kept.{BeginsWith}
@@ -13,15 +13,15 @@ use Rattle.step_text.specs.declared.Directive.{Directive}
 use Rattle.step_text.specs.declared.Directive.TheVariants as directive
 use Rattle.track_engine.specs.declared.open_group.OpenGroup.{OpenGroup}
 use Rattle.outside_io.specs.declared.stop.Stop.{Stop}
-use Rattle.track_engine.specs.State.{State, standing}
+use Rattle.track_engine.specs.State.{State}
 use Rattle.track_engine.specs.Answers.{NoSuchField, FieldShifts, without_field}
 use Rattle.track_engine.specs.Answered.{Known, named_field, is_fit, AreAnswersOf, IsAnswerOf, IsAnswer}
-use Rattle.track_engine.specs.Effects.{Effect, Proceeds, Refused, effect_of, shift_effect, sum_of_all}
+use Rattle.track_engine.specs.Effects.{effect_of, shift_effect, sum_of_all}
 use Rattle.track_engine.specs.Invariant.{left_by}
 use Rattle.track_engine.specs.Saved.{Target}
 use Rattle.track_engine.specs.Shifting.{AsksNow}
 use Rattle.track_engine.specs.World.{Contents}
-use Rattle.track_engine.specs.Parts.{Takes, TakesInPart, Advances, AdvancesAnswered}
+use Rattle.track_engine.specs.Parts.{Advances, AdvancesAnswered}
 
 -- ---- which directive it is
 

@@ -1,9 +1,7 @@
 -- The names of asked shifts, and a save that stops.
-use Rattle.std.proofs.Common.{◌≡◌, ℕ, ◌+◌, ◌<◌, suc, Bool, true, false, cond, length, drop, get_or, add-one, List, [], ◌∷◌, map, Option, None, Result, Ok, Err, IfOk, refl, ap, sym, ◌∙◌, subst, inr}
+use Rattle.std.proofs.Common.{◌≡◌, ℕ, ◌+◌, ◌<◌, suc, Bool, true, false, cond, length, drop, get_or, add-one, List, [], ◌∷◌, map, Err, refl, ap, sym, ◌∙◌, subst, inr}
 use Rattle.std.specs.FinMap as finite
 use Rattle.grid_base.specs.declared.Shift.{Shift}
-use Rattle.mesh_base.specs.declared.ShiftOf.{ShiftOf}
-use Rattle.mesh_base.specs.declared.UseWhy.{UseWhy}
 use Rattle.mesh_base.specs.Mesh.{Mesh, is_solid}
 use Rattle.mesh_base.specs.Shifts.{Shifts, NameLive, with_shift}
 use Rattle.std.proofs.Math.Seq.{drop-cons}

@@ -2,26 +2,23 @@
 use Rattle.std.specs.Prelude.{nat_lt}
 use Rattle.std.specs.List.{AllByRecursion}
 use Rattle.std.proofs.lemmas.Bool.{false≢true}
-use Rattle.std.proofs.Common.{take, ◌≡◌, ℕ, ◌+◌, ◌==◌, Bool, true, false, cond, not, is_some, List, [], ◌∷◌, ◌++◌, map, length, Option, Some, None, Result, Ok, Err, IfOk, refl, ap, sym, ◌∙◌, subst, ℤ, pos, unsigned_abs, ◌≤◌, arith}
+use Rattle.std.proofs.Common.{take, ◌≡◌, ℕ, ◌+◌, ◌==◌, Bool, true, false, cond, not, is_some, List, [], ◌∷◌, ◌++◌, map, Option, Some, None, Result, Ok, Err, refl, ap, sym, ◌∙◌, subst, ℤ, pos, unsigned_abs, ◌≤◌, arith}
 use Rattle.std.specs.Option.{unwrap_or}
 use Rattle.std.specs.FinMap as finite
 use Rattle.std.proofs.lemmas.Bool.{eqb-true}
 use Rattle.std.proofs.lemmas.Int.{ints}
-use Rattle.std.proofs.lemmas.List.{length-map}
 use Rattle.grid_base.proofs.MeetingLaws.{same_triple}
 use Rattle.grid_base.specs.declared.TheConstants.{SHIFT_MAX}
 use Rattle.grid_base.specs.declared.Shift.{Shift}
 use Rattle.grid_base.specs.Triples.{plus}
-use Rattle.grid_base.specs.Points.{displacement_of, is_within, point_at}
+use Rattle.grid_base.specs.Points.{displacement_of, is_within}
 use Rattle.grid_base.proofs.PointLaws.{within_of}
 use Rattle.mesh_base.specs.declared.ShiftOf.{ShiftOf}
-use Rattle.mesh_base.specs.declared.ShapeFault.{ShapeFault}
 use Rattle.mesh_base.specs.declared.UseWhy.{UseWhy}
 use Rattle.mesh_base.specs.declared.UseWhy.TheVariants.{ShiftRange}
-use Rattle.mesh_base.specs.Mesh.{Mesh, IsSound, is_solid}
+use Rattle.mesh_base.specs.Mesh.{Mesh, is_solid}
 use Rattle.mesh_base.specs.Changes.{with_solid}
 use Rattle.mesh_base.proofs.MeshLaws.{sound-with_solid}
-use Rattle.mesh_base.specs.Sides.{IsClosed}
 use Rattle.grid_base.specs.Meeting.{MeetAt}
 use Rattle.grid_base.specs.Motion.{position_at}
 use Rattle.mesh_base.specs.Placements.{origin, rest_positions, at_fraction, IsClearAlong}
@@ -30,36 +27,27 @@ use Rattle.mesh_base.proofs.Moves.{same_positions, sound-with_moves, closed-with
 use Rattle.mesh_base.proofs.KeysKept.{keys-with_moves}
 use Rattle.mesh_base.proofs.MovesNamed.{name_once, name_once_filtered, shift_filtered, end_filtered}
 use Rattle.mesh_base.specs.declared.PairName.{PairName}
-use Rattle.pair_scan.proofs.Clear.{clear_exactly}
 use Rattle.step_choose.specs.declared.Settings.{Settings}
 use Rattle.step_choose.specs.Choice.{Way}
 use Rattle.step_choose.proofs.Taken.{GoesWell, taken_well}
-use Rattle.mesh_plain.specs.Shape.{shape_fault}
-use Rattle.mesh_plain.proofs.Lists.{sound-mesh_of}
-use Rattle.mesh_plain.proofs.Faults.{closed-mesh_of}
-use Rattle.line_text.specs.declared.TextFault.{TextFault}
-use Rattle.obj_text.specs.Obj.{Lists, lists_of}
 use Rattle.step_text.specs.declared.Placed.{Placed}
 use Rattle.step_text.specs.declared.Directive.{Directive}
 use Rattle.step_text.specs.declared.Directive.TheVariants as directive
-use Rattle.step_text.specs.Steps.{steps_of}
 use Rattle.log_text.specs.declared.LogLine.{LogLine}
 use Rattle.log_text.specs.declared.LogLine.TheVariants.{Move, Moved, Close}
 use Rattle.log_replay.specs.Replay.{Replay, after, replayed, closed}
-use Rattle.outside_io.specs.declared.stop.Stop.{Stop}
-use Rattle.track_engine.specs.Shifting.{AsksNow}
-use Rattle.edit_base.specs.declared.PassKind.{PassKind}
-use Rattle.track_engine.specs.Parts.{StepTakes, PassTakes}
+use Rattle.edit_base.specs.declared.Asked.{Asked}
 use Rattle.track_engine.specs.Kept.{LineHolds, LogIsSafe, IsSavedWell}
+use Rattle.track_engine.specs.Asking.{EditsKeepTheRun, UndoKeepsTheRun}
 use Rattle.log_replay.specs.Safe.{MotionIsSafe}
 use Rattle.log_replay.proofs.Replaying.{each_then}
 use Rattle.track_engine.specs.State.{Group, State, start, standing, no_shifts, still_at, asked_of, still_asked, asked_in}
 use Rattle.mesh_base.specs.Valid.{IsValidSurface}
-use Rattle.track_engine.proofs.Passing.{PassKeeps, pass_keeps, fit_keeps}
+use Rattle.track_engine.proofs.Passing.{PassKeeps, pass_keeps, fit_keeps, edits_keep}
 use Rattle.track_engine.proofs.ReadAgain.{read_again}
 use Rattle.mesh_base.specs.Pairs.{edges}
 use Rattle.track_engine.specs.Invariant.{IsAskedWell, IsRunInvariant}
-use Rattle.track_engine.specs.Effects.{Effect, Proceeds, Refused, Unanswered, ExpectedLog, effect_of, shift_effect, drive_effect, set_effect, solid_effect, close_effect, step_effect, kept_whole, taken_back, is_whole, summed, first_beyond, all_summed, sum_or_range, sum_of_all, passed_lines, passed_mesh, after_lines, fitted_lines, fitted_mesh, fit_effect, one_summed, sum_at, sum_of_one, first_outside, hits, taken, moves, moving, moved_mesh, hit_lines, block_lines, move_lines, way_lines, lines_of_step, all_still, one_still, step_lines, after_step, and_then, log_from}
+use Rattle.track_engine.specs.Effects.{Effect, Proceeds, Refused, Unanswered, ExpectedLog, effect_of, shift_effect, drive_effect, set_effect, solid_effect, close_effect, step_effect, kept_whole, taken_back, is_whole, summed, first_beyond, all_summed, sum_or_range, sum_of_all, passed_lines, passed_mesh, after_lines, fitted_lines, fitted_mesh, fit_effect, edited_lines, edited_mesh, after_edits, edits_effect, undo_effect, one_summed, sum_at, sum_of_one, first_outside, hits, taken, moves, moving, moved_mesh, hit_lines, block_lines, move_lines, way_lines, lines_of_step, all_still, one_still, step_lines, after_step, and_then, log_from}
 use Rattle.track_engine.specs.Answers.{Answer, Nothing, NoSuchField, FieldShifts, Wanted, WantedOfFirst, Answers, first, later}
 use Rattle.track_engine.proofs.NoFiles.{after-step_lines, after-moves, after-hits, after-blocks}
 use Rattle.track_engine.proofs.StepLemmas.{all_inside, ids_of_still}
@@ -344,6 +332,33 @@ keeps_effect given directive.Fit s kept = keeps_fit given s kept
 keeps_effect given directive.Save s kept = ((saved_well (standing s) kept.now.good, tt), refl, record { now = kept.now; groups = kept.groups })
 keeps_effect given directive.Group s kept = ((tt, tt), refl, record { now = kept.now; groups = (kept.now, kept.groups) })
 keeps_effect given directive.Close s kept = keeps_close s kept s.groups refl
+
+-- edits that are asked for
+keeps_edits : (asked : List Asked) (s : State) → IsRunInvariant s → KeepsEffect s (edits_effect asked s)
+keeps_edits asked s kept = keeps_pass (edited_lines asked s) (edited_mesh asked s) s kept (edits_keep asked s kept.now.good)
+
+pub edits_run : EditsKeepTheRun
+edits_run asked s kept = keeps_edits asked s kept
+
+pub kept_edited : (asked : List Asked) (s : State) → IsRunInvariant s → IsRunInvariant (after_edits asked s)
+kept_edited asked s kept = (keeps_edits asked s kept).2
+
+-- a group that is taken back
+keeps_undo : (s : State) → IsRunInvariant s → (groups : List Group) → s.groups ≡ groups → KeepsEffect s (undo_effect groups s)
+keeps_undo s kept [] e = (tt, refl, kept)
+keeps_undo s kept (group ∷ outer) e =
+    let P : List Group → Type 0 = λ l. AllByRecursion (λ g. IsAskedWell g.mesh g.asked) l in
+    let those : AllByRecursion (λ g. IsAskedWell g.mesh g.asked) (group ∷ outer) = subst P e kept.groups in
+    let made : closed false (map (λ g. g.mesh) s.groups) (standing s) ≡ standing (taken_back group outer s) =
+    ap (λ (l : List Mesh). closed false l (standing s)) (ap (λ (l : List Group). map (λ g. g.mesh) l) e) in
+    let Q : Replay → Type 0 = λ r. IsValidSurface r.mesh in
+    ((subst Q (sym made) those.0.good, tt), made, record { now = those.0; groups = those.1 })
+
+pub undo_run : UndoKeepsTheRun
+undo_run s kept = keeps_undo s kept s.groups refl
+
+pub kept_undone : (s next : State) (lines : List LogLine) → IsRunInvariant s → undo_effect s.groups s ≡ Proceeds lines next → IsRunInvariant next
+kept_undone s next lines kept goes = let P : Effect → Type 0 = λ t. KeepsEffect s t in (subst P goes (keeps_undo s kept s.groups refl)).2
 
 -- an effect that is taken leads to where a run stands well
 pub kept_next : (given : Answer) (what : Directive) (s next : State) (lines : List LogLine) → IsRunInvariant s → effect_of given what s ≡ Proceeds lines next → IsRunInvariant next

@@ -16,6 +16,8 @@ pub mod ReadAgain
 pub mod Still
 pub mod DriveLemmas
 pub mod Keeping
+pub mod EditsTaken
+pub mod Undone
 pub mod Replayed
 pub mod WritesTaken
 pub mod Saves

@@ -11,7 +11,7 @@ use Rattle.track_engine.specs.State.{State}
 use Rattle.track_engine.specs.Answers.{Answer, Nothing, Answers, first, later, without_field, without_fields, NoneFits}
 use Rattle.track_engine.specs.Answered.{Known, IsAnswerOf, IsAnswer, AreAnswered}
 use Rattle.track_engine.specs.Effects.{Effect, Proceeds, Refused, Unanswered, ExpectedLog, effect_of, and_then, with_log, log_from}
-use Rattle.track_engine.specs.FirstParts.{IsCutFrom, IsFirstPart}
+use Rattle.track_engine.specs.FirstParts.{IsFirstPart}
 
 -- ---- the log by fewer answers
 

@@ -10,7 +10,7 @@ use Rattle.mesh_base.specs.declared.UseWhy.{UseWhy}
 use Rattle.log_text.specs.Lines.{text_of_lines}
 use Rattle.log_text.specs.declared.LogLine.{LogLine}
 use Rattle.log_text.specs.declared.LogLine.TheVariants.{First, Step, Solid, Hit, Block, Move, Moved, Pass, PassFit, Did, No, Mesh as MeshLine, Group as GroupLine, Close, End, Refused as RefusedLine}
-use Rattle.log_replay.specs.Replay.{Replay, after, replayed, at_mesh}
+use Rattle.log_replay.specs.Replay.{Replay, after, replayed}
 use Rattle.step_text.specs.declared.Directive.TheVariants as directive
 use Rattle.outside_io.specs.Desk.{Files}
 use Rattle.outside_io.specs.Sink.{appended}

@@ -1,5 +1,5 @@
 -- The meshes of open groups stay while their marks hold.
-use Rattle.std.proofs.Common.{◌≡◌, ℕ, zero, suc, ◌<◌, ◌≤◌, ◌||◌, Bool, true, false, cond, not, List, [], ◌∷◌, ◌++◌, map, length, take, slice_get, Option, Some, None, refl, ap, sym, ◌∙◌, subst, arith}
+use Rattle.std.proofs.Common.{◌≡◌, ℕ, zero, suc, Bool, true, false, cond, not, List, [], ◌∷◌, map, length, take, slice_get, Some, None, refl, ap, sym, ◌∙◌, subst}
 use Rattle.std.specs.Option.{unwrap_or, option_map}
 use Rattle.mesh_base.specs.declared.Mark.{Mark}
 use Rattle.mesh_base.specs.Mesh.{Mesh}

@@ -5,6 +5,7 @@ use Rattle.grid_decided.specs.Decided.{meets_exactly, meets_exactly-is_exact}
 use Rattle.mesh_base.specs.Mesh.{Mesh}
 use Rattle.mesh_sizing.specs.declared.sizing.Want.{Want}
 use Rattle.edit_base.specs.declared.PassKind.{PassKind}
+use Rattle.edit_base.specs.declared.Asked.{Asked}
 use Rattle.log_text.specs.declared.LogLine.{LogLine}
 use Rattle.log_text.specs.declared.LogLine.TheVariants.{Pass, PassFit, Did, No}
 use Rattle.log_replay.specs.Replay.{Replay, after, replayed}
@@ -12,13 +13,14 @@ use Rattle.log_replay.specs.OfPass.{IsOfPass, AreOfPass}
 use Rattle.log_replay.specs.Safe.{LineIsSafe, LinesKeepTheMesh}
 use Rattle.pass_run.specs.PassLines.{PassRules, lines_due, terms_of, refused_in}
 use Rattle.pass_run.specs.Fits.{turn_of, fit_rules}
+use Rattle.pass_run.specs.Edits.{edit_rules}
 use Rattle.mesh_base.specs.Valid.{IsValidSurface}
 use Rattle.pass_run.proofs.Asking.{pass_makes, lines_make}
 use Rattle.pass_run.proofs.Keeping.{passes_keep, all_keep}
 use Rattle.pass_run.proofs.Replaying.{pass_is, lines_are}
 use Rattle.track_engine.specs.Kept.{LineHolds, LogIsSafe}
 use Rattle.track_engine.specs.State.{State, standing, is_open}
-use Rattle.track_engine.specs.Effects.{passed_lines, passed_mesh, after_lines, after_pass, fitted_lines, fitted_mesh, after_fit}
+use Rattle.track_engine.specs.Effects.{passed_lines, passed_mesh, after_lines, after_pass, fitted_lines, fitted_mesh, after_fit, edited_lines, edited_mesh, after_edits}
 use Rattle.track_engine.proofs.OpenMarks.{stack_failed}
 use Rattle.track_engine.proofs.NoFiles.{NoFiles}
 
@@ -109,3 +111,31 @@ module _ (wants : ℕ × ℕ → Want) (es : List (ℕ × ℕ)) (s : State) wher
 
   pub fit_names_none : NoFiles (fitted_lines wants es s)
   fit_names_none = no_files (fitted_lines wants es s) fit_is
+
+-- ---- edits that are asked for
+
+module _ (asked : List Asked) (s : State) where
+  abbrev asked_rules : PassRules
+  asked_rules = edit_rules meets_exactly s.set.depth (is_open s.groups)
+
+  edits_are : AreOfPass (edited_lines asked s)
+  unfolding edited_lines
+  edits_are = lines_are asked_rules s.mesh asked
+
+  edits_make_mesh : after (standing s) (edited_lines asked s) ≡ record (standing s) { mesh = edited_mesh asked s }
+  unfolding edited_lines edited_mesh
+  edits_make_mesh = lines_make asked_rules (standing s) asked
+
+  edits_replay : after (standing s) (edited_lines asked s) ≡ standing (after_edits asked s)
+  edits_replay = made_state (edited_lines asked s) (edited_mesh asked s) s edits_make_mesh
+
+  safe_edits : IsValidSurface s.mesh → LinesKeepTheMesh (standing s) (edited_lines asked s)
+  unfolding edited_lines
+  safe_edits good = (all_keep asked_rules meets_exactly-is_exact (standing s) good asked).0
+
+  good_edited : IsValidSurface s.mesh → IsValidSurface (edited_mesh asked s)
+  unfolding edited_mesh
+  good_edited good = (all_keep asked_rules meets_exactly-is_exact (standing s) good asked).1
+
+  pub edits_keep : IsValidSurface s.mesh → PassKeeps (edited_lines asked s) (edited_mesh asked s) s
+  edits_keep good = record { lines = each_holds (standing s) (edited_lines asked s) edits_are (safe_edits good); replay = edits_replay; good = good_edited good }

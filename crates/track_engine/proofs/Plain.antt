@@ -1,5 +1,5 @@
 -- Directives to which no field answers, as effects, by what they write.
-use Rattle.std.proofs.Common.{◌≡◌, ℕ, List, Option, Some, None, Result, Ok, Err, sym, subst}
+use Rattle.std.proofs.Common.{◌≡◌, ℕ, Option, Result, sym, subst}
 use Rattle.mesh_base.specs.declared.UseWhy.{UseWhy}
 use Rattle.edit_base.specs.declared.PassKind.{PassKind}
 use Rattle.step_text.specs.declared.Directive.{Directive}

@@ -1,31 +1,18 @@
 -- Where a run stands between two directives.
 use Rattle.std.specs.FinMap as finite
-use Rattle.std.proofs.Common.{◌≡◌, ℕ, Bool, true, false, cond, not, is_some, List, [], ◌∷◌, ◌++◌, length, map, Option, Some, None, Result, Ok, Err, refl, ap, sym, ◌∙◌, subst, append_assoc}
-use Rattle.std.proofs.lemmas.List.{length-map}
-use Rattle.grid_base.specs.Points.{point_at}
+use Rattle.std.proofs.Common.{◌≡◌, ℕ, Bool, true, false, cond, not, is_some, List, [], ◌∷◌, map, Option, Some, None, Result, Ok, Err, refl, ap, subst}
 use Rattle.mesh_base.specs.declared.UseWhy.{UseWhy}
 use Rattle.mesh_base.specs.Shifts.{Shifts}
-use Rattle.mesh_base.specs.Mesh.{Mesh}
 use Rattle.mesh_base.specs.Pairs.{edges}
-use Rattle.mesh_plain.specs.Shape.{shape_fault}
-use Rattle.mesh_plain.proofs.Lists.{sound-mesh_of}
-use Rattle.mesh_plain.proofs.Faults.{closed-mesh_of}
-use Rattle.step_text.specs.declared.Placed.{Placed}
 use Rattle.step_text.specs.declared.Directive.{Directive}
 use Rattle.step_text.specs.declared.Directive.TheVariants as directive
-use Rattle.obj_text.specs.Obj.{Lists}
 use Rattle.log_text.specs.declared.LogLine.{LogLine}
-use Rattle.log_text.specs.declared.LogLine.TheVariants.{First}
 use Rattle.log_replay.specs.Replay.{after, closed}
-use Rattle.mesh_base.specs.Valid.{IsValidSurface}
-use Rattle.track_engine.specs.State.{Group, State, start, standing}
+use Rattle.track_engine.specs.State.{Group, State, standing}
 use Rattle.track_engine.specs.Effects.{Effect, Proceeds, Refused, Unanswered, effect_of, shift_effect, drive_effect, fit_effect, solid_effect, close_effect, step_effect, kept_whole, taken_back, sum_of_one, sum_of_all, first_outside}
 use Rattle.track_engine.specs.Answers.{Answer, Nothing, NoSuchField, FieldShifts, Wanted, WantedOfFirst}
-use Rattle.track_engine.specs.Invariant.{IsRunInvariant}
-use Rattle.log_replay.proofs.Replaying.{after-append}
 use Rattle.track_engine.proofs.NoFiles.{after-step_lines}
 use Rattle.track_engine.proofs.Passing.{pass_replays, fit_replays}
-use Rattle.track_engine.proofs.Keeping.{kept_next, kept_start}
 
 -- ---- the replay of a directive's lines
 

@@ -1,5 +1,5 @@
 -- A save: its line, and then its file.
-use Rattle.std.proofs.Common.{◌≡◌, ℕ, List, [], ◌∷◌, Result, Ok, Err, refl, ap, sym, ◌∙◌, subst, inl}
+use Rattle.std.proofs.Common.{◌≡◌, ℕ, List, [], ◌∷◌, Ok, Err, refl, ap, sym, ◌∙◌, subst}
 use Rattle.obj_text.specs.Written.{mesh_text}
 use Rattle.log_text.specs.declared.LogLine.{LogLine}
 use Rattle.log_text.specs.Lines.{text_of_line}
@@ -14,7 +14,7 @@ use Rattle.std.specs.declared.option.Option.{Option}
 use Rattle.track_engine.specs.Effects.{mesh_line}
 use Rattle.track_engine.specs.Saved.{Target, file_name}
 use Rattle.track_engine.specs.Parts.{Saves}
-use Rattle.track_engine.specs.World.{Contents, StopsIn, IsOpen}
+use Rattle.track_engine.specs.World.{StopsIn, IsOpen}
 use Rattle.track_engine.proofs.Worlds.{stops_nothing, stops_line, stops_open}
 
 module _ (to : Target) (k : ℕ) (from : Replay) where

@@ -1,5 +1,5 @@
 -- Lists that are built item by item, and shifts that are summed.
-use Rattle.std.proofs.Common.{◌≡◌, ℕ, ◌<◌, ◌+◌, Bool, true, false, cond, not, List, [], ◌∷◌, ◌++◌, map, length, drop, get_or, suc, add-one, append_assoc, refl, ap, sym, ◌∙◌, pos, Option, Some, None, IsSome, zero, subst, arith, Ok, Err}
+use Rattle.std.proofs.Common.{◌≡◌, ℕ, ◌<◌, ◌+◌, Bool, true, false, cond, not, [], ◌∷◌, map, length, drop, get_or, suc, add-one, refl, ap, sym, ◌∙◌, pos, Option, Some, None, IsSome, zero, subst, arith, Ok, Err}
 use Rattle.std.specs.Prelude.{◌↔◌, ◌==◌, ◌||◌, slice_get, slice_set}
 use Rattle.std.specs.Option.{IfSome, option_map}
 use Rattle.std.specs.List.{find, AllByRecursion}

@@ -9,7 +9,7 @@ use Rattle.grid_base.specs.Points.{is_within}
 use Rattle.grid_base.proofs.PointLaws.{within_of}
 use Rattle.mesh_base.specs.declared.ShiftOf.{ShiftOf}
 use Rattle.mesh_base.specs.Mesh.{Mesh, IsLiveVertex}
-use Rattle.mesh_base.specs.Shifts.{Shifts, NameLive, end_in_box, with_move, with_moves}
+use Rattle.mesh_base.specs.Shifts.{Shifts, NameLive, end_in_box, with_move}
 use Rattle.mesh_base.proofs.Moves.{both_true, still_live, same_ends}
 use Rattle.mesh_base.proofs.MovesNamed.{name_once}
 use Rattle.track_engine.specs.State.{still_at, no_shifts}

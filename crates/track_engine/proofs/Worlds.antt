@@ -12,7 +12,6 @@ use Rattle.track_engine.specs.Saved.{Target, files_of, file_at, stored, file_nam
 use Rattle.track_engine.specs.Effects.{ExpectedLog, CutShort, with_log}
 use Rattle.track_engine.specs.World.{Contents, Logs, StopsIn, StopsShort, LastIsOpen, IsOpen}
 use Rattle.outside_io.specs.Sink.{appended, AppendsPart}
-use Rattle.log_replay.proofs.Replaying.{after-append}
 use Rattle.log_write.proofs.WrittenLines.{written_nothing, written_part, written_whole, written_then, part_then, part_more}
 
 pub files_of-append : (to : Target) (from : Replay) (xs ys : List LogLine) → files_of to from (xs ++ ys) ≡ files_of to from xs ++ files_of to (after from xs) ys

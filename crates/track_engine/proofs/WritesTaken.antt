@@ -1,16 +1,14 @@
 -- Directives that store nothing: what they write and what they do.
-use Rattle.std.proofs.Common.{◌≡◌, ℕ, ◌+◌, Bool, true, false, cond, not, is_some, List, [], ◌∷◌, map, Option, Some, None, Result, Ok, Err, IfOk, IsSome, refl, ap, sym, ◌∙◌, subst, inl, inr}
+use Rattle.std.proofs.Common.{◌≡◌, ℕ, Bool, true, false, is_some, List, [], ◌∷◌, Option, Some, None, Result, Ok, Err, IfOk, IsSome, ap, sym, ◌∙◌, subst, inl, inr}
 use Rattle.std.specs.FinMap as finite
 use Rattle.std.proofs.lemmas.Bool.{false≢true}
 use Rattle.mesh_base.specs.declared.UseWhy.{UseWhy}
-use Rattle.mesh_base.specs.Mesh.{Mesh}
-use Rattle.log_text.specs.declared.LogLine.{LogLine}
 use Rattle.outside_io.specs.Desk.{Files}
 use Rattle.step_text.specs.declared.Directive.{Directive}
 use Rattle.step_text.specs.declared.Directive.TheVariants as directive
 use Rattle.outside_io.specs.declared.stop.Stop.{Stop}
 use Rattle.track_engine.specs.State.{Group, State, standing}
-use Rattle.track_engine.specs.Effects.{Effect, Proceeds, Refused, Unanswered, effect_of, solid_effect, close_effect, kept_whole, taken_back}
+use Rattle.track_engine.specs.Effects.{Effect, Proceeds, Refused, Unanswered, effect_of, solid_effect, close_effect}
 use Rattle.track_engine.specs.Answers.{Nothing}
 use Rattle.track_engine.specs.Saved.{Target}
 use Rattle.track_engine.specs.Parts.{Advances, Writes}

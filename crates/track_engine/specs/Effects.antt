@@ -33,7 +33,10 @@ use Rattle.log_text.specs.declared.LogLine.{LogLine}
 use Rattle.log_text.specs.declared.LogLine.TheVariants.{Step, Solid, Hit, Block, Move, Moved, Mesh as MeshLine}
 use Rattle.log_text.specs.declared.LogLine.TheVariants.{Group as GroupLine, Close, End, Refused as RefusedLine}
 use Rattle.edit_base.specs.declared.PassKind.{PassKind}
-use Rattle.pass_run.specs.PassLines.{lines_due, mesh_due, refused_in}
+use Rattle.edit_base.specs.declared.Asked.{Asked}
+use Rattle.edit_base.specs.declared.Edit.{Edit}
+use Rattle.pass_run.specs.PassLines.{lines_due, mesh_due, refused_in, lines_from, mesh_after_all}
+use Rattle.pass_run.specs.Edits.{edit_rules, answers_from}
 use Rattle.pass_run.specs.Fits.{fit_lines, mesh_after_fit}
 use Rattle.track_engine.specs.State.{Group, State, start, still_at, asked_of, asked_in, is_open}
 use Rattle.track_engine.specs.Answers.{Answer, NoSuchField, FieldShifts, Wanted, WantedOfFirst, Answers, first, later}
@@ -202,6 +205,26 @@ fitted_mesh wants es s = mesh_after_fit meets_exactly wants s.set.depth (is_open
 abbrev pub after_fit : (ℕ × ℕ → Want) → List (ℕ × ℕ) → State → State
 after_fit wants es s = after_lines (fitted_lines wants es s) (fitted_mesh wants es s) s
 
+-- ---- edits that are asked for by ids
+
+-- their lines; in a group the first `no` line ends them
+unfoldable pub edited_lines : List Asked → State → List LogLine
+edited_lines asked s =
+    lines_from (edit_rules meets_exactly s.set.depth (is_open s.groups)) s.mesh asked
+
+-- the mesh that they leave
+unfoldable pub edited_mesh : List Asked → State → Mesh
+edited_mesh asked s =
+    mesh_after_all (edit_rules meets_exactly s.set.depth (is_open s.groups)) s.mesh asked
+
+-- what they answer, in order
+unfoldable pub edited_answers : List Asked → State → List Edit
+edited_answers asked s =
+    answers_from (edit_rules meets_exactly s.set.depth (is_open s.groups)) s.mesh asked
+
+abbrev pub after_edits : List Asked → State → State
+after_edits asked s = after_lines (edited_lines asked s) (edited_mesh asked s) s
+
 -- ---- a directive
 
 -- what a directive gives: its lines and the state after it, or a reason against it, or, where it is
@@ -273,6 +296,17 @@ close_effect [] s = Proceeds [] s
 close_effect (group ∷ outer) s =
     Proceeds (Close (not group.failed) ∷ [])
     (if group.failed then taken_back group outer s else kept_whole outer s)
+
+-- the innermost group is taken back, whether it has failed or not; nothing is done where
+-- none is open
+abbrev pub undo_effect : List Group → State → Effect
+undo_effect [] s = Proceeds [] s
+undo_effect (group ∷ outer) s = Proceeds (Close false ∷ []) (taken_back group outer s)
+
+-- What edits do that are asked for by ids. They are never refused: of each the answer says whether
+-- it was done.
+abbrev pub edits_effect : List Asked → State → Effect
+edits_effect asked s = Proceeds (edited_lines asked s) (after_edits asked s)
 
 -- What a directive does, by what is given to it. Only `drive` and `fit` ask for something.
 abbrev pub effect_of : Answer → Directive → State → Effect

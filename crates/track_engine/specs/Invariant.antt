@@ -10,7 +10,7 @@ use Rattle.step_text.specs.declared.Directive.{Directive}
 use Rattle.step_text.specs.declared.Directive.TheVariants.{Close}
 use Rattle.track_engine.specs.declared.open_group.OpenGroup.{OpenGroup}
 use Rattle.track_engine.specs.declared.run_state.RunState.{RunState}
-use Rattle.track_engine.specs.State.{Group, State}
+use Rattle.track_engine.specs.State.{State}
 
 -- the mesh is sound, closed and clear, and a shift is asked of each live vertex, by rising id,
 -- which is zero where the vertex is solid

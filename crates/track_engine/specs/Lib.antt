@@ -17,3 +17,4 @@ pub mod Shifting
 pub mod Parts
 pub mod Again
 pub mod Told
+pub mod Asking

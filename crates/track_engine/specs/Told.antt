@@ -1,15 +1,16 @@
--- What a step and a pass tell of themselves.
-use Rattle.std.specs.Prelude.{ℕ, length, Option, Some, None, Result, Ok, Err}
+-- What a step, a pass and edits that are asked for tell of themselves.
+use Rattle.std.specs.Prelude.{ℕ, List, length, Option, Some, None, Result, Ok, Err}
 use Rattle.mesh_base.specs.declared.UseWhy.{UseWhy}
 use Rattle.mesh_base.specs.Pairs.{edges}
 use Rattle.mesh_sizing.specs.declared.sizing.Want.{Want}
 use Rattle.edit_base.specs.declared.PassKind.{PassKind}
+use Rattle.edit_base.specs.declared.Asked.{Asked}
 use Rattle.outside_io.specs.declared.stop.Stop.{Stop}
 use Rattle.pass_run.specs.declared.passing.PassCount.{PassCount}
 use Rattle.pass_run.specs.PassLines.{done_in, refused_in}
 use Rattle.track_engine.specs.declared.told.StepTold.{StepTold}
 use Rattle.track_engine.specs.State.{State}
-use Rattle.track_engine.specs.Effects.{hits, taken, passed_lines, fitted_lines}
+use Rattle.track_engine.specs.Effects.{hits, taken, passed_lines, fitted_lines, edited_lines}
 
 -- how the step is taken, and how many pairs have a `hit` line
 abbrev pub step_told : State → StepTold
@@ -26,6 +27,11 @@ fit_told wants s = record {
   done = done_in (fitted_lines wants (edges s.mesh) s);
   refused = refused_in (fitted_lines wants (edges s.mesh) s);
 }
+
+-- the same of edits that are asked for
+abbrev pub edits_counted : List Asked → State → PassCount
+edits_counted asked s =
+    record { done = done_in (edited_lines asked s); refused = refused_in (edited_lines asked s) }
 
 -- what a step answers as a directive
 abbrev pub step_untold : Result (Result StepTold UseWhy) Stop → Result (Option UseWhy) Stop

@@ -9,6 +9,7 @@ ghost use Rattle.track_engine.specs.Answered.{known, AreAnswered};
 ghost use Rattle.track_engine.specs.Effects.{log_from};
 ghost use Rattle.track_engine.specs.FirstParts.{IsFirstPart};
 ghost use Rattle.track_engine.specs.Again.{LogsAreAgain};
+ghost use Rattle.track_engine.specs.Asking.{EditsKeepTheRun, EditsCanBeDoneAgain, UndoKeepsTheRun, UndoCanBeDoneAgain};
 
 use grid_base::{Point, Shift};
 use mesh_sizing::Band;
@@ -38,4 +39,18 @@ pub fn without_fields_there_is_one_log<F: Fn(u8, Point) -> Shift, G: Fn(Point) -
 /// by what its line tells, is done with the same ids, points and turn.
 pub fn logs_can_be_done_again()
     ensures { LogsAreAgain }
+{}
+
+/// Edits that are asked for by ids, whichever they are, from wherever a run stands: their lines keep the promises of a log, so that each that is
+/// told as done is safe where it stands; they lead to where the run then stands, with a mesh that is sound, closed and clear; and each that
+/// is told as done can be done again by the log alone.
+pub fn edits_keep_the_run()
+    ensures keeps { EditsKeepTheRun }
+    ensures again { EditsCanBeDoneAgain }
+{}
+
+/// The same of a group that is taken back by choice.
+pub fn undo_keeps_the_run()
+    ensures keeps { UndoKeepsTheRun }
+    ensures again { UndoCanBeDoneAgain }
 {}

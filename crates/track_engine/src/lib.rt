@@ -7,6 +7,7 @@
 
 mod directing;
 mod driving;
+mod editing;
 mod engine;
 mod fitting;
 mod following;

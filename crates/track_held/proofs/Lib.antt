@@ -5,3 +5,5 @@ pub mod Written
 pub mod Closed
 pub mod Fitted
 pub mod NumberedFaults
+pub mod PutAnswers
+pub mod EditRanges

@@ -8,3 +8,4 @@ pub mod Closings
 pub mod Events
 pub mod Fitting
 pub mod Numbered
+pub mod Editing

@@ -1,10 +1,11 @@
 -- The live vertices and faces of a mesh, as a caller gets them.
-use Rattle.std.specs.Prelude.{ℕ, List, map, Option, Some, None}
+use Rattle.std.specs.Prelude.{ℕ, ◌==◌, ◌||◌, Bool, List, map, Option, Some, None}
 use Rattle.std.specs.List.{filter}
 use Rattle.std.specs.FinMap as finite
 use Rattle.mesh_base.specs.declared.ids.Corners.{Corners}
 use Rattle.mesh_base.specs.Mesh.{Mesh, is_solid}
 use Rattle.mesh_base.specs.Placements.{point_of}
+use Rattle.mesh_base.specs.Sides.{faces_at}
 use Rattle.track_held.specs.declared.given.NamedPoint.{NamedPoint}
 use Rattle.track_held.specs.declared.given.NamedFace.{NamedFace}
 
@@ -34,3 +35,15 @@ named_faces m = map (named_face m) (finite.keys m.faces)
 -- the live vertices that are solid, by rising id
 abbrev pub solid_vertices : Mesh → List ℕ
 solid_vertices m = filter (is_solid m) (finite.keys m.points)
+
+-- the faces that have a vertex as a corner, by rising id, and their corners
+abbrev pub star_of : Mesh → ℕ → List NamedFace
+star_of m v = map (named_face m) (faces_at m v)
+
+-- whether a face has a vertex as a corner
+abbrev pub has_corner : ℕ → NamedFace → Bool
+has_corner v row = (row.a == v) || (row.b == v) || (row.c == v)
+
+-- the faces beside an edge, by rising id: those that have both ends as corners
+abbrev pub beside_edge : Mesh → ℕ → ℕ → List NamedFace
+beside_edge m u v = filter (has_corner v) (star_of m u)

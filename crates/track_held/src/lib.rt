@@ -5,6 +5,8 @@
 
 mod asked;
 mod closing;
+mod editing;
+mod editing_given;
 mod events;
 mod fitting;
 mod given;
@@ -17,10 +19,17 @@ mod telling;
 
 pub use asked::{asking, asking_all};
 pub use closing::Closing;
+pub use editing_given::{
+    AskedEdits, GivenEdit, ToldAnswer, answer_told, edit_asked, edits_asked, put_answers,
+    rows_ask_in_range,
+};
 pub use events::{Event, EventRefusal, Events, told_events};
 pub use given::{GivenFace, GivenPoint, NamedFace, NamedPoint};
 pub use growing::GrowingSink;
 pub use held::Held;
 pub use making::{MakeFault, MakeRefusal, track};
 pub use making_numbered::{NumberedFault, NumberedRefusal, track_numbered};
-pub use reading::{NamedFaces, NamedPoints, named_faces, named_points, put_rows, solid_vertices};
+pub use reading::{
+    NamedFaces, NamedPoints, beside_edge, named_faces, named_points, put_rows, solid_vertices,
+    star_of,
+};

@@ -2,7 +2,7 @@
 ghost use Rattle.std.specs.Prelude.{◌≡◌, ◌↔◌, ◌≤◌, ◌++◌, true, false, length, drop, map, IfOk, IsTrue};
 ghost use Rattle.std.specs.List.{filter};
 ghost use Rattle.mesh_base.specs.Mesh.{is_solid};
-ghost use Rattle.track_held.specs.Reading.{named_point, named_face, named_points, named_faces, solid_vertices};
+ghost use Rattle.track_held.specs.Reading.{named_point, named_face, named_points, named_faces, solid_vertices, star_of, has_corner, beside_edge};
 
 use crate::given::{NamedFace, NamedPoint};
 use grid_base::{Items, NoMemory};
@@ -119,6 +119,50 @@ pub fn solid_vertices<S: Surface>(alloc: Global, mesh: &S) -> Result<SolidVertic
 {
     let ids = live_vertices(alloc, mesh)?;
     solid_among(alloc, mesh, ids.as_slice())
+}
+
+/// The faces that have a vertex as a corner, by rising id, and their corners, at the cost of these faces where the mesh is in half-edges. None
+/// where it does not live. Refuses only where there is no memory.
+pub fn star_of<S: Surface>(alloc: Global, mesh: &S, v: VertexId) -> Result<NamedFaces, NoMemory>
+    ensures { IfOk result (λ rows. rows ≡ star_of (S.mesh mesh.now) v) }
+{
+    let mut ids = Vec::new(alloc);
+    mesh.faces_at(v, &mut ids)?;
+    faces_by_id(alloc, mesh, ids.as_slice())
+}
+
+// Whether a face has a vertex as a corner.
+fn has_corner(row: &NamedFace, v: u32) -> bool
+    ensures { result ≡ has_corner v row.now }
+{
+    row.a == v || row.b == v || row.c == v
+}
+
+// Those of these faces that have a vertex as a corner.
+fn faces_having(alloc: Global, rows: &[NamedFace], v: u32) -> Result<NamedFaces, NoMemory>
+    ensures { IfOk result (λ found. found ≡ filter (has_corner v) rows.now) }
+{
+    let mut found = NamedFaces::new(alloc);
+    for row in rows {
+        if has_corner(row, v) {
+            found.push(*row)?;
+        }
+    }
+    Ok(found)
+}
+
+/// The faces beside an edge: those that have both of its ends as corners, by rising id, and their corners. None where there is no edge between two
+/// vertices. Refuses only where there is no memory.
+pub fn beside_edge<S: Surface>(
+    alloc: Global,
+    mesh: &S,
+    u: VertexId,
+    v: VertexId,
+) -> Result<NamedFaces, NoMemory>
+    ensures { IfOk result (λ rows. rows ≡ beside_edge (S.mesh mesh.now) u v) }
+{
+    let star = star_of(alloc, mesh, u)?;
+    faces_having(alloc, star.as_slice(), v.0)
 }
 
 /// Sets the first places to these rows, where there is room for all of them, and else none. Answers whether there is.

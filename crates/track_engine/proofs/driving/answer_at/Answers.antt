@@ -1,4 +1,4 @@
-use Rattle.std.proofs.Common.{sym, ap, subst, ◌∙◌}
+use Rattle.std.proofs.Common.{subst, ◌∙◌}
 use Rattle.grid_base.specs.declared.Point.{Point}
 use Rattle.mesh_field.specs.Stored.{MayAnswer}
 use Rattle.track_engine.proofs.DriveLemmas.{stands_at}

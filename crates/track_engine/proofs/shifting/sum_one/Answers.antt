@@ -2,7 +2,7 @@ use Rattle.std.proofs.Common.{sym, ◌∙◌, ap, subst, Some, Ok, refl}
 use Rattle.std.proofs.lemmas.Bool.{false≢true}
 use Rattle.mesh_base.specs.Shifts.{Shifts}
 use Rattle.pair_scan.specs.Lookup.{IsPlaceOf}
-use Rattle.track_engine.proofs.ShiftLemmas.{one_is_summed, one_is_solid, one_is_beyond}
+use Rattle.track_engine.proofs.ShiftLemmas.{one_is_summed, one_is_solid}
 use Rattle.track_engine.proofs.shifting.sum_one.Goals as goal
 
 pub returns : goal.returns

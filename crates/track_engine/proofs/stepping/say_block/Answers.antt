@@ -1,7 +1,6 @@
 use Rattle.std.proofs.Common.{◌∷◌, []}
 use Rattle.std.proofs.lemmas.Result.{err_from_is_err_and}
 use Rattle.log_text.specs.declared.LogLine.TheVariants.{Block}
-use Rattle.log_write.specs.Written.{Says}
 use Rattle.log_write.proofs.SaidLines.{says_nothing}
 use Rattle.track_engine.proofs.stepping.say_block.Goals as goal
 

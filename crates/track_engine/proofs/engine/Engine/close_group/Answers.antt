@@ -1,11 +1,11 @@
-use Rattle.std.proofs.Common.{◌≡◌, not, List, [], ◌∷◌, Some, refl, ap, sym, subst, ◌∙◌, inr}
+use Rattle.std.proofs.Common.{not, List, [], ◌∷◌, refl, ap, sym, subst, ◌∙◌, inr}
 use Rattle.std.proofs.lemmas.Result.{err_from_is_err_and}
 use Rattle.mesh_base.specs.Mesh.{Mesh}
 use Rattle.mesh_base.specs.Kept.{BeginsWith}
 use Rattle.log_text.specs.declared.LogLine.TheVariants.{Close}
 use Rattle.outside_io.proofs.Written.{appended-nil}
 use Rattle.outside_io.proofs.Outsides.{nothing_done, nothing_stopped, nothing_whole}
-use Rattle.track_engine.specs.State.{groups_of, state_of}
+use Rattle.track_engine.specs.State.{state_of}
 use Rattle.track_engine.specs.Effects.{Proceeds}
 use Rattle.track_engine.proofs.OpenMarks.{begins_left, left_back, none_closed, close_line, goes_back, stays_open, state_back, marks_back, marks_kept, mark_holds}
 use Rattle.track_engine.proofs.engine.Engine.close_group.Goals as goal

@@ -6,7 +6,7 @@ use Rattle.outside_io.specs.Sink.{appended}
 use Rattle.outside_io.proofs.Outsides.{nothing_unremembered, nothing_stopped, nothing_whole}
 use Rattle.log_text.specs.declared.LogLine.TheVariants.{Group}
 use Rattle.track_engine.specs.declared.open_group.OpenGroup.{OpenGroup}
-use Rattle.track_engine.specs.State.{groups_of, state_of}
+use Rattle.track_engine.specs.State.{state_of}
 use Rattle.track_engine.specs.Effects.{Proceeds, opened}
 use Rattle.track_engine.specs.Invariant.{MarksHold}
 use Rattle.track_engine.proofs.OpenMarks.{marks_along, opened_is, marks_opened}

@@ -8,7 +8,6 @@ use Rattle.outside_io.specs.Outside.{written_of}
 use Rattle.outside_io.specs.Sink.{appended}
 use Rattle.outside_io.proofs.Outsides.{nothing_done, nothing_then, nothing_stopped, nothing_forgotten, nothing_whole}
 use Rattle.track_engine.specs.declared.run_state.RunState.{RunState}
-use Rattle.outside_io.specs.declared.stop.Stop.TheVariants.{NoMemory}
 use Rattle.track_engine.specs.State.{groups_of, state_of}
 use Rattle.step_choose.specs.Settings.{AreWithinLimits}
 use Rattle.step_text.specs.declared.Directive.TheVariants.{Step}

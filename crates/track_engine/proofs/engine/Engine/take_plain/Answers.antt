@@ -1,4 +1,4 @@
-use Rattle.std.proofs.Common.{None, ap, sym, subst, ◌∙◌}
+use Rattle.std.proofs.Common.{ap, sym, subst}
 use Rattle.std.proofs.lemmas.Result.{err_from_is_err_and}
 use Rattle.mesh_base.specs.Kept.{BeginsWith}
 use Rattle.mesh_base.proofs.MarksHold.{begins_itself}

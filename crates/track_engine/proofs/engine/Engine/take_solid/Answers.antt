@@ -1,17 +1,13 @@
-use Rattle.std.proofs.Common.{◌≡◌, true, false, not, is_some, List, [], ◌∷◌, map, ap, sym, subst, ◌∙◌, inr, refl, rules}
+use Rattle.std.proofs.Common.{◌≡◌, true, is_some, [], ◌∷◌, ap, sym, ◌∙◌, inr, rules}
 use Rattle.std.specs.FinMap as finite
-use Rattle.std.specs.List.Sorted.{IsStrictlySortedBy}
-use Rattle.std.specs.Ordering.{nat_cmp}
 use Rattle.std.proofs.lemmas.Result.{err_from_is_err_and}
-use Rattle.log_text.specs.Lines.{text_of_lines}
 use Rattle.log_text.specs.declared.LogLine.TheVariants.{Solid}
-use Rattle.outside_io.specs.Sink.{appended}
 use Rattle.outside_io.proofs.Outsides.{nothing_done, nothing_unremembered, nothing_stopped, nothing_whole}
 use Rattle.pair_scan.proofs.Paths.{ids_sorted}
 use Rattle.mesh_base.proofs.MarksHold.{begins_itself}
 use Rattle.mesh_base.specs.Changes.{with_solid}
 use Rattle.track_engine.specs.State.{state_of}
-use Rattle.track_engine.specs.Effects.{Proceeds, effect_of, solid_effect, after_solid, one_still}
+use Rattle.track_engine.specs.Effects.{Proceeds, solid_effect, after_solid, one_still}
 use Rattle.track_engine.proofs.OpenMarks.{groups_along, marks_along}
 use Rattle.track_engine.proofs.engine.Engine.take_solid.Goals as goal
 

@@ -1,0 +1,144 @@
+//! Edits that are asked for one after another.
+ghost use Rattle.std.specs.Prelude.{◌≡◌, ◌≤◌, ◌+◌, ◌++◌, [], ◌∷◌, length, IfOk, OnOk, OnErr};
+ghost use Rattle.grid_base.specs.declared.TheConstants.{DEPTH_MAX};
+ghost use Rattle.mesh_base.specs.Sides.{IsClosed};
+ghost use Rattle.mesh_base.specs.Placements.{IsClearMesh};
+ghost use Rattle.mesh_base.specs.Kept.{BeginsWith};
+ghost use Rattle.edit_base.specs.Clauses.{OnOkIs, mesh_after};
+ghost use Rattle.edit_any.specs.Dispatch.{edited};
+ghost use Rattle.log_replay.specs.Replay.{at_mesh};
+ghost use Rattle.log_replay.specs.Safe.{LinesKeepTheMesh};
+ghost use Rattle.pass_run.specs.PassLines.{line_of, lines_from, mesh_after_all};
+ghost use Rattle.pass_run.specs.Results.{PassResult, exact_answer, stage};
+ghost use Rattle.pass_run.specs.Edits.{edits_exactly, answers_from, answer_in};
+
+use crate::passing::{PassCount, count_of, is_over, no_edit, sum};
+use crate::turns::line_of;
+use edit_any::edit;
+use edit_base::{Asked, Edit};
+use grid_base::{DEPTH_MAX, Items, NoMemory};
+use log_text::LogLine;
+use log_write::write_line;
+use mesh_base::Surface;
+use outside_io::{Outside, Stop};
+use std::alloc::Global;
+
+/// What edits answer, in order.
+pub type Answers = Items<Edit>;
+
+/// What edits go by that are asked for one after another.
+#[derive(Clone, Copy)]
+pub struct EditTerms {
+    /// The number of time halvings of the written test, at most `DEPTH_MAX`.
+    pub depth: u8,
+    /// Whether the first that is not done is the last that is asked.
+    pub grouped: bool,
+}
+
+/// What a line tells that came of an edit, if it tells of one.
+fn answer_in(line: LogLine) -> Option<Edit>
+    ensures { result ≡ answer_in line }
+{
+    match line {
+        LogLine::Did(change) => Some(Edit::Done(change)),
+        LogLine::No { what: _, why } => Some(Edit::No(why)),
+        _ => None,
+    }
+}
+
+/// An edit that is asked for, and its line. The mesh is made ready for its check first, where what was moved since calls for it.
+fn line_of_edit<S: Surface>(
+    alloc: Global,
+    mesh: &mut S,
+    depth: u8,
+    what: &Asked,
+) -> Result<LogLine, NoMemory>
+    requires closed { IsClosed (S.mesh mesh.old) }
+    requires clear { IsClearMesh (S.mesh mesh.old) }
+    requires depth { depth ≤ DEPTH_MAX }
+    ensures line { OnOkIs result (line_of what.now (exact_answer depth (S.mesh mesh.old) what.now)) }
+    ensures mesh { let answer = exact_answer depth (S.mesh mesh.old) what.now in
+        OnOk result (S.mesh mesh.new ≡ mesh_after edited (S.mesh mesh.old) answer) }
+    ensures left { OnErr result (S.mesh mesh.new ≡ S.mesh mesh.old) }
+    ensures closed { IsClosed (S.mesh mesh.new) }
+    ensures clear { IsClearMesh (S.mesh mesh.new) }
+    ensures marks { BeginsWith (S.kept mesh.new) (S.kept mesh.old) }
+{
+    mesh.index();
+    let edit = edit(alloc, mesh, depth, *what)?;
+    Ok(line_of(*what, edit))
+}
+
+/// An edit that is asked for: it is done or not, its line is written, and what came of it is the last of the answers.
+fn take_edit<S: Surface, O: Outside>(
+    alloc: Global,
+    mesh: &mut S,
+    depth: u8,
+    what: &Asked,
+    answers: &mut Answers,
+    outside: &mut O,
+) -> Result<PassCount, Stop>
+    requires closed { IsClosed (S.mesh mesh.old) }
+    requires clear { IsClearMesh (S.mesh mesh.old) }
+    requires depth { depth ≤ DEPTH_MAX }
+    ensures takes { let old = stage S.mesh S.kept O.around mesh.old outside.old in
+        let new = stage S.mesh S.kept O.around mesh.new outside.new in
+        PassResult (line_of what.now (exact_answer depth old.mesh what.now) ∷ []) old new result }
+    ensures answers { let answer = exact_answer depth (S.mesh mesh.old) what.now in
+        OnOk result (answers.new ≡ answers.old ++ answer ∷ []) }
+    ensures sum { IfOk result (λ count. count.done + count.refused ≤ 1) }
+{
+    let line = line_of_edit(alloc, mesh, depth, what)?;
+    write_line(alloc, outside, &line)?;
+    let count = count_of(&line);
+    if let Some(answer) = answer_in(line) {
+        answers.push(answer)?;
+    }
+    Ok(count)
+}
+
+/// Asks edits of a mesh, each in turn, whatever its lengths, with its one line: that of the edit, or why it is refused. What came
+/// of each stands behind the answers, in order. No line tells where they begin: the line of an edit stands for itself.
+///
+/// Edits that are `grouped` end with the first `no` line: what is left is not asked. Others go on to the end. `depth` is the
+/// number of time halvings of the written test, at most `DEPTH_MAX`. The answer is how many were done and how many refused. An
+/// edit of ids that do not live, or that are the ends of no edge, is refused like any other.
+///
+/// The mesh stays closed and clear, after a stop too, and earlier marks hold. A stop is one of a pass (`pass_to`): the first lines
+/// are whole, in order, and perhaps a part of the next is there; the mesh is what the whole lines make of it, or what they and the
+/// next one make. Nothing is said of the answers then.
+pub fn edits_to<S: Surface, O: Outside>(
+    alloc: Global,
+    mesh: &mut S,
+    terms: EditTerms,
+    asked: &[Asked],
+    answers: &mut Answers,
+    outside: &mut O,
+) -> Result<PassCount, Stop>
+    requires closed { IsClosed (S.mesh mesh.old) }
+    requires clear { IsClearMesh (S.mesh mesh.old) }
+    requires depth { terms.depth ≤ DEPTH_MAX }
+    // Ok: all lines are written. A stop: the first of them, and perhaps a part of the next.
+    ensures takes { let old = stage S.mesh S.kept O.around mesh.old outside.old in
+        let new = stage S.mesh S.kept O.around mesh.new outside.new in
+        PassResult (lines_from (edits_exactly terms) old.mesh asked.now) old new result }
+    ensures mesh { let end = mesh_after_all (edits_exactly terms) (S.mesh mesh.old) asked.now in
+        OnOk result (S.mesh mesh.new ≡ end) }
+    ensures answers { let all = answers_from (edits_exactly terms) (S.mesh mesh.old) asked.now in
+        OnOk result (answers.new ≡ answers.old ++ all) }
+    // Each edit that the lines tell is safe, from the mesh that the lines before it make, and each line leaves a mesh that is
+    // sound, closed and clear.
+    ensures motions { let m = S.mesh mesh.old in
+        LinesKeepTheMesh (at_mesh m) (lines_from (edits_exactly terms) m asked.now) }
+    ensures sum { IfOk result (λ count. count.done + count.refused ≤ length asked.now) }
+{
+    let mut count = no_edit();
+    for what in asked {
+        if is_over(terms.grouped, count) {
+            return Ok(count);
+        }
+        let more = take_edit(alloc, mesh, terms.depth, what, answers, outside)?;
+        count = sum(count, more);
+    }
+    Ok(count)
+}
