@@ -2,6 +2,7 @@
 //! put back with no memory.
 #![tactic(auto)]
 
+mod hints;
 mod rows;
 
 pub use rows::Rows;

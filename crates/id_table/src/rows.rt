@@ -6,6 +6,7 @@ ghost use Rattle.mesh_base.specs.Sides.{above};
 ghost use Rattle.id_table.specs.Stock.{AreApart, Inserts, Removes, Buries, Raises, Discards};
 ghost use Rattle.id_table.specs.Stones.{held_of, buried_of, is_held, is_left, RiseFrom, IsLower, AreBelow, AreOver, IsAround, IsFound, Holds};
 
+use crate::hints::Hints;
 use grid_base::NoMemory;
 use std::alloc::{AllocError, Global};
 use std::marker::Model;
@@ -36,6 +37,7 @@ pub struct Rows<T> {
     live: usize,
     // About how many are buried; it decides when the list is tidied, and nothing else.
     down: usize,
+    hints: Hints,
 }
 
 impl<T> Model for Rows<T> {
@@ -68,6 +70,7 @@ impl<T: Copy> Rows<T> {
             items: Vec::new(alloc),
             live: 0,
             down: 0,
+            hints: Hints::new(alloc),
         }
     }
 
@@ -82,7 +85,7 @@ impl<T: Copy> Rows<T> {
     pub fn get(&self, id: u32) -> Option<T>
         ensures { result ≡ map.get self.now.live id }
     {
-        match find(self.items.as_slice(), id) {
+        match find(&self.hints, self.items.as_slice(), id) {
             Ok(at) => self.items[at].held,
             Err(_) => None,
         }
@@ -92,7 +95,7 @@ impl<T: Copy> Rows<T> {
     pub fn get_buried(&self, id: u32) -> Option<T>
         ensures { result ≡ map.get self.now.buried id }
     {
-        match find(self.items.as_slice(), id) {
+        match find(&self.hints, self.items.as_slice(), id) {
             Ok(at) => self.items[at].buried,
             Err(_) => None,
         }
@@ -104,7 +107,7 @@ impl<T: Copy> Rows<T> {
     {
         first_held(
             self.items.as_slice(),
-            lower(self.items.as_slice(), n as u64 + 1),
+            lower(&self.hints, self.items.as_slice(), n as u64 + 1),
         )
     }
 
@@ -114,7 +117,7 @@ impl<T: Copy> Rows<T> {
     {
         first_buried(
             self.items.as_slice(),
-            lower(self.items.as_slice(), n as u64 + 1),
+            lower(&self.hints, self.items.as_slice(), n as u64 + 1),
         )
     }
 
@@ -125,6 +128,7 @@ impl<T: Copy> Rows<T> {
         ensures room { self.old.room ≤ self.new.room }
     {
         self.items.reserve(more)?;
+        self.hints.reserve(self.items.capacity());
         Ok(())
     }
 
@@ -137,8 +141,9 @@ impl<T: Copy> Rows<T> {
         ensures memory { OnErr result (self.old.room ≡ 0) }
         ensures room { self.old.room ≤ self.new.room + 1 }
     {
-        put(&mut self.items, id, row)?;
+        put(&self.hints, &mut self.items, id, row)?;
         self.live += 1;
+        self.hints.reserve(self.items.capacity());
         Ok(())
     }
 
@@ -147,7 +152,7 @@ impl<T: Copy> Rows<T> {
         requires { IsSome (map.get self.old.live id) }
         ensures { self.new ≡ record self.old { live = map.insert self.old.live id row } }
     {
-        if let Ok(at) = find(self.items.as_slice(), id) {
+        if let Ok(at) = find(&self.hints, self.items.as_slice(), id) {
             let item = self.items[at];
             self.items[at] = Item {
                 held: Some(row),
@@ -162,11 +167,15 @@ impl<T: Copy> Rows<T> {
         ensures kept { Removes self.old self.new id }
         ensures room { self.old.room ≤ self.new.room }
     {
-        if let Ok(at) = find(self.items.as_slice(), id) {
+        if let Ok(at) = find(&self.hints, self.items.as_slice(), id) {
             let item = self.items[at];
             self.items[at] = Item { held: None, ..item };
             self.live -= 1;
-            tidy(&mut self.items, self.live.saturating_add(self.down));
+            tidy(
+                &mut self.hints,
+                &mut self.items,
+                self.live.saturating_add(self.down),
+            );
         }
     }
 
@@ -175,7 +184,7 @@ impl<T: Copy> Rows<T> {
         requires { IsSome (map.get self.old.live id) }
         ensures { Buries self.old self.new id }
     {
-        if let Ok(at) = find(self.items.as_slice(), id) {
+        if let Ok(at) = find(&self.hints, self.items.as_slice(), id) {
             let item = self.items[at];
             self.items[at] = Item {
                 id: item.id,
@@ -194,7 +203,7 @@ impl<T: Copy> Rows<T> {
         requires few { map.len self.old.live < 2 ^ 32 }
         ensures { Raises self.old self.new id row }
     {
-        if let Ok(at) = find(self.items.as_slice(), id) {
+        if let Ok(at) = find(&self.hints, self.items.as_slice(), id) {
             let item = self.items[at];
             self.items[at] = Item {
                 id: item.id,
@@ -211,14 +220,18 @@ impl<T: Copy> Rows<T> {
         ensures kept { Discards self.old self.new id }
         ensures room { self.old.room ≤ self.new.room }
     {
-        if let Ok(at) = find(self.items.as_slice(), id) {
+        if let Ok(at) = find(&self.hints, self.items.as_slice(), id) {
             let item = self.items[at];
             self.items[at] = Item {
                 buried: None,
                 ..item
             };
             self.down = self.down.saturating_sub(1);
-            tidy(&mut self.items, self.live.saturating_add(self.down));
+            tidy(
+                &mut self.hints,
+                &mut self.items,
+                self.live.saturating_add(self.down),
+            );
         }
     }
 
@@ -229,6 +242,7 @@ impl<T: Copy> Rows<T> {
         ensures room { self.old.room ≤ self.new.room }
     {
         keep_held(&mut self.items);
+        learn(&mut self.hints, self.items.as_slice());
         self.down = 0;
     }
 
@@ -240,22 +254,23 @@ impl<T: Copy> Rows<T> {
             items: self.items.clone()?,
             live: self.live,
             down: self.down,
+            hints: self.hints.copy()?,
         })
     }
 }
 
 /// The place of an id, whether something is held of it or not; or else where it belongs.
-fn find<T: Copy>(items: &[Item<T>], id: u32) -> Result<usize, usize>
+fn find<T: Copy>(hints: &Hints, items: &[Item<T>], id: u32) -> Result<usize, usize>
     requires { RiseFrom 0 items.now }
     ensures { IsFound items.now id result }
 {
-    let likely = guess(items, id as u64);
+    let likely = guess(hints, items, id as u64);
     if likely < items.len() {
         if items[likely].id == id {
             return Ok(likely);
         }
     }
-    let at = lower(items, id as u64);
+    let at = lower_near(items, likely, id as u64);
     if at < items.len() {
         if items[at].id == id {
             return Ok(at);
@@ -264,9 +279,9 @@ fn find<T: Copy>(items: &[Item<T>], id: u32) -> Result<usize, usize>
     Err(at)
 }
 
-/// A place near which the number may belong: the very place, where the ids rise by one from the first up to it, or from it up
-/// to the last.
-fn guess<T: Copy>(items: &[Item<T>], id: u64) -> usize {
+/// A place near which the number may belong: the very place, where the ids rise by one from the first up to it; and else by what was
+/// learned, if that is of the number; and else the very place, where the ids rise by one from it up to the last.
+fn guess<T: Copy>(hints: &Hints, items: &[Item<T>], id: u64) -> usize {
     if items.is_empty() {
         return 0;
     }
@@ -276,6 +291,9 @@ fn guess<T: Copy>(items: &[Item<T>], id: u64) -> usize {
         if items[front].id as u64 == id {
             return front;
         }
+    }
+    if let Some(place) = hints.place(id) {
+        return place.min(last);
     }
     let back = last.saturating_sub((items[last].id as u64).saturating_sub(id) as usize);
     if items[back].id as u64 == id {
@@ -293,7 +311,7 @@ fn spread(first: u64, end: u64, last: u64, id: u64) -> u64 {
 }
 
 /// Takes out the items of which nothing is left, where they are more than half.
-fn tidy<T: Copy>(items: &mut Vec<Item<T>>, left: usize)
+fn tidy<T: Copy>(hints: &mut Hints, items: &mut Vec<Item<T>>, left: usize)
     ensures held { held_of items.new.items ≡ held_of items.old.items }
     ensures buried { buried_of items.new.items ≡ buried_of items.old.items }
     ensures rise { RiseFrom 0 items.old.items → RiseFrom 0 items.new.items }
@@ -302,7 +320,23 @@ fn tidy<T: Copy>(items: &mut Vec<Item<T>>, left: usize)
 {
     if items.len() / 2 > left {
         drop_empty(items);
+        learn(hints, items.as_slice());
     }
+}
+
+/// Learns where the ids stand. Takes no memory.
+fn learn<T: Copy>(hints: &mut Hints, items: &[Item<T>]) {
+    if items.is_empty() {
+        hints.start(0, 0);
+        return;
+    }
+    hints.start(items[0].id, items[items.len() - 1].id);
+    let mut before: u32 = 0;
+    for item in items {
+        hints.learn(item.id, before);
+        before = before.saturating_add(1);
+    }
+    hints.end(before);
 }
 
 /// Takes out the items of which nothing is left.
@@ -338,7 +372,7 @@ fn is_left<T: Copy>(item: &Item<T>) -> bool
 }
 
 /// Puts a row under an id, where nothing is held of it.
-fn put<T: Copy>(items: &mut Vec<Item<T>>, id: u32, row: T) -> Result<(), NoMemory>
+fn put<T: Copy>(hints: &Hints, items: &mut Vec<Item<T>>, id: u32, row: T) -> Result<(), NoMemory>
     requires { RiseFrom 0 items.old.items }
     ensures ok { OnOk result (Holds items.old.items items.new.items id row) }
     ensures err { OnErr result
@@ -347,7 +381,7 @@ fn put<T: Copy>(items: &mut Vec<Item<T>>, id: u32, row: T) -> Result<(), NoMemor
     ensures room { vec_capacity items.old - vec_len items.old ≤
         (vec_capacity items.new - vec_len items.new) + 1 }
 {
-    match find(items.as_slice(), id) {
+    match find(hints, items.as_slice(), id) {
         Ok(at) => {
             let item = items[at];
             items[at] = Item {
@@ -372,11 +406,19 @@ fn put<T: Copy>(items: &mut Vec<Item<T>>, id: u32, row: T) -> Result<(), NoMemor
 }
 
 /// How many of the items have ids below a number.
-fn lower<T: Copy>(items: &[Item<T>], id: u64) -> usize
+fn lower<T: Copy>(hints: &Hints, items: &[Item<T>], id: u64) -> usize
     requires { RiseFrom 0 items.now }
     ensures { IsLower id result items.now }
 {
-    let (from, to) = around(items, id);
+    lower_near(items, guess(hints, items, id), id)
+}
+
+/// The same, where the number is looked for near a place.
+fn lower_near<T: Copy>(items: &[Item<T>], near: usize, id: u64) -> usize
+    requires { RiseFrom 0 items.now }
+    ensures { IsLower id result items.now }
+{
+    let (from, to) = around(items, near, id);
     let mut low = from;
     let mut high = to;
     while low < high {
@@ -390,12 +432,11 @@ fn lower<T: Copy>(items: &[Item<T>], id: u64) -> usize
     low
 }
 
-/// Two places between which a number belongs, near the guess.
-fn around<T: Copy>(items: &[Item<T>], id: u64) -> (usize, usize)
+/// Two places between which a number belongs, near a place.
+fn around<T: Copy>(items: &[Item<T>], at: usize, id: u64) -> (usize, usize)
     requires { RiseFrom 0 items.now }
     ensures { IsAround id items.now result }
 {
-    let at = guess(items, id);
     if at >= items.len() {
         return downward(items, id, items.len());
     }

@@ -9,7 +9,7 @@ downward-requires-clause-over g c = none_past c.args.id (length c.args.items.now
 pub upward-requires-clause-below : goal.upward-requires-clause-below
 upward-requires-clause-below g c =
     let xs = c.args.items.now in
-    let place = c.guess-at.result in
+    let place = c.args.at in
     let inside : place < length xs = omega (arith, c.if-at-items.false) in
     let at : slice_get xs place ≡ Some c.index-items-at.result = slice_get_read xs (length xs) place c.index-items-at.result refl inside c.index-items-at.is in
     let less = c.if-items-at.true in
@@ -19,7 +19,7 @@ upward-requires-clause-below g c =
 pub downward-requires-else-items-at-clause-over : goal.downward-requires-else-items-at-clause-over
 downward-requires-else-items-at-clause-over g c =
     let xs = c.args.items.now in
-    let place = c.guess-at.result in
+    let place = c.args.at in
     let inside : place < length xs = omega (arith, c.if-at-items.false) in
     let at : slice_get xs place ≡ Some c.index-items-at.result = slice_get_read xs (length xs) place c.index-items-at.result refl inside c.index-items-at.is in
     let not_less = c.if-items-at.false in

@@ -1,7 +1,7 @@
 use Rattle.std.proofs.Common.{◌≡◌, ◌<◌, ◌+◌, ◌-◌, ◌/◌, Some, length, slice_get, refl, ap, arith}
 use Rattle.std.proofs.lemmas.Option.{slice_get_read}
 use Rattle.id_table.proofs.StoneLaws.{rise_between, lower_from}
-use Rattle.id_table.proofs.rows.lower.Goals as goal
+use Rattle.id_table.proofs.rows.lower_near.Goals as goal
 
 pub loop-low-preserved-then-items-mid : goal.loop-low-preserved-then-items-mid
 loop-low-preserved-then-items-mid g c =

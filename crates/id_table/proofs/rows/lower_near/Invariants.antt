@@ -1,6 +1,6 @@
 use Rattle.std.proofs.Common.{◌≡◌, ℕ, ◌-◌, ◌<◌, ◌≤◌, Some, length, slice_get}
 use Rattle.id_table.specs.declared.rows.Item.{Item}
-use Rattle.id_table.proofs.rows.lower.Given as goal
+use Rattle.id_table.proofs.rows.lower_near.Given as goal
 
 -- the ids before `low` are below the number, and those from `high` on are not
 abbrev pub invariant-loop-low : goal.invariant-loop-low
