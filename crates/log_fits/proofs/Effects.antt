@@ -40,12 +40,12 @@ same_count b [] = refl
 same_count b (group ∷ outer) = refl
 
 -- ---- an effect that is taken: its lines fit, no step is begun behind them, and so many groups are open
-record Fits (open_groups : ℕ) (s next : State) (lines : List LogLine) : Type 0 where
+pub record Fits (open_groups : ℕ) (s next : State) (lines : List LogLine) : Type 0 where
   pub fit : LinesFit (told false (standing s)) lines
   pub ends : begun_behind false lines ≡ false
   pub count : length next.groups ≡ open_groups
 
-abbrev EffectFits : ℕ → State → Effect → Type 0
+abbrev pub EffectFits : ℕ → State → Effect → Type 0
 EffectFits open_groups s (Proceeds lines next) = Fits open_groups s next lines
 EffectFits open_groups s (Unanswered lines) = LinesFit (told false (standing s)) lines
 EffectFits open_groups s (Refused why) = Unit {0}
@@ -78,7 +78,7 @@ unfolding passed_lines
 pass_lines_are kind s = pass_is meets_exactly (terms_of kind s.set.depth (is_open s.groups)) s.mesh
 
 -- a pass, by lines of which each may be of a pass
-lines_fit : (lines : List LogLine) (left : Mesh) (s : State) → AreOfPass lines → LinesAreAgain (standing s) lines → Fits (length s.groups) s (after_lines lines left s) lines
+pub lines_fit : (lines : List LogLine) (left : Mesh) (s : State) → AreOfPass lines → LinesAreAgain (standing s) lines → Fits (length s.groups) s (after_lines lines left s) lines
 lines_fit lines left s are again = record { fit = pass_fits (standing s) lines are again; ends = pass_ends lines are; count = same_count _ s.groups }
 
 sizing_fits : (given : Answer) (s : State) → IsAgain s (fit_effect given s) → EffectFits (length s.groups) s (fit_effect given s)
@@ -102,7 +102,7 @@ close_fits s (group ∷ outer) e some = by_test group.failed
     by_test true = record { fit = ((refl, stacked), tt); ends = refl; count = one_less }
     by_test false = record { fit = ((refl, stacked), tt); ends = refl; count = one_less }
 
-effect_fits : (given : Answer) (what : Directive) (s : State) → Nests (length s.groups) what → IsAgain s (effect_of given what s) → EffectFits (open_behind (length s.groups) what) s (effect_of given what s)
+pub effect_fits : (given : Answer) (what : Directive) (s : State) → Nests (length s.groups) what → IsAgain s (effect_of given what s) → EffectFits (open_behind (length s.groups) what) s (effect_of given what s)
 effect_fits given (directive.SetDepth depth) s nests again = record { fit = tt; ends = refl; count = refl }
 effect_fits given (directive.SetPasses passes) s nests again = record { fit = tt; ends = refl; count = refl }
 effect_fits given (directive.SetZones zones) s nests again = record { fit = tt; ends = refl; count = refl }

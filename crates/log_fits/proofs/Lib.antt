@@ -12,3 +12,5 @@ mod Proved
 mod OneAnswer
 mod OneLog
 mod SameFiles
+mod Histories
+mod CallersLogs

@@ -69,7 +69,7 @@ step_passes r (line.Close kept) again = tt
 step_passes r (line.Refused why) again = tt
 step_passes r line.End again = tt
 
-each_fits : (s : LogState) (lines : List LogLine) → LinesFit s lines → LinesAreAgain s.replay lines → EachFits FitsTested s lines
+pub each_fits : (s : LogState) (lines : List LogLine) → LinesFit s lines → LinesAreAgain s.replay lines → EachFits FitsTested s lines
 each_fits s [] fit again = tt
 each_fits s (l ∷ lines) fit again = (record { fits = fit.0; passes = step_passes s.replay l again.0 }, each_fits (with_line s l) lines fit.1 again.1)
 
@@ -108,7 +108,7 @@ module _ (job : Job) (lists : Lists) (directives : List Placed) (clear : HasClea
   pub ends_well : LinesAreAgain (replay_of job) lines → EndsBy FitsTested (input_of read) None
   ends_well again = let P : Result LogInput LogRefusal → Type 0 = λ input. EndsBy FitsTested input None in subst P (sym given_is) (all_fit again)
 
-by_end : (result : Outcome) (old new : World) (names : LogNames) (run : MeasuresCommand names result old new) → NoneFailed old new → (ended : Result (Option LogRefusal) Stop) → run.ended ≡ ended → (ended ≡ Ok None) ⊎ IsStopped ended → (result ≡ outcome.Done) ⊎ (result ≡ outcome.NoMemory)
+pub by_end : (result : Outcome) (old new : World) (names : LogNames) (run : MeasuresCommand names result old new) → NoneFailed old new → (ended : Result (Option LogRefusal) Stop) → run.ended ≡ ended → (ended ≡ Ok None) ⊎ IsStopped ended → (result ≡ outcome.Done) ⊎ (result ≡ outcome.NoMemory)
 by_end result old new names run none (Ok ending) e (inl same) = inl (run.outcome_is ∙ ap outcome_by_log (e ∙ same))
 by_end result old new names run none (Ok ending) e (inr stops) = absurd stops
 by_end result old new names run none (Err stop.NoMemory) e h = inr (run.outcome_is ∙ ap outcome_by_log e)

@@ -30,7 +30,7 @@ use Rattle.track_run.specs.Outcomes.{outcome_of, outcome_by_log}
 use Rattle.log_fits.specs.Replayed.{LogsOfRunsAreReplayed, MeshesOfRunsAreStoredAgain}
 use Rattle.log_fits.proofs.Measured.{ends_well, given_is, mesh_is}
 
-by_end : (result : Outcome) (old new : World) (names : ReplayNames) (run : ReplaysCommand names result old new) → NoneFailed old new → (ended : Result (Option LogRefusal) Stop) → run.ended ≡ ended → (ended ≡ Ok None) ⊎ IsErr ended → (result ≡ outcome.Done) ⊎ (result ≡ outcome.NoMemory)
+pub by_end : (result : Outcome) (old new : World) (names : ReplayNames) (run : ReplaysCommand names result old new) → NoneFailed old new → (ended : Result (Option LogRefusal) Stop) → run.ended ≡ ended → (ended ≡ Ok None) ⊎ IsErr ended → (result ≡ outcome.Done) ⊎ (result ≡ outcome.NoMemory)
 by_end result old new names run none (Ok ending) e (inl same) = inl (run.outcome_is ∙ ap outcome_by_log (e ∙ same))
 by_end result old new names run none (Ok ending) e (inr stops) = absurd (cc)
 by_end result old new names run none (Err stop.NoMemory) e h = inr (run.outcome_is ∙ ap outcome_by_log e)

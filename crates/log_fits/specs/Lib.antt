@@ -3,3 +3,5 @@ pub mod Measured
 pub mod Replayed
 pub mod Proved
 pub mod OneLog
+pub mod Histories
+pub mod CallersLogs

@@ -158,7 +158,7 @@ keeps_step s kept inside = keeps_lines s.mesh kept.now.good (s.steps + 1) (hits 
 
 -- ---- a directive
 
-abbrev KeepsEffect : State → Effect → Type 0
+abbrev pub KeepsEffect : State → Effect → Type 0
 KeepsEffect s (Proceeds lines next) = LogIsSafe (standing s) lines × (after (standing s) lines ≡ standing next) × IsRunInvariant next
 KeepsEffect s (Refused why) = Unit {0}
 KeepsEffect s (Unanswered lines) = LogIsSafe (standing s) lines
@@ -317,7 +317,7 @@ keeps_step_effect s kept (Some v) e = tt
 pub saved_well : (r : Replay) → IsValidSurface r.mesh → IsSavedWell r (finite.len r.mesh.points) (finite.len r.mesh.faces)
 saved_well r good = record { vertex_count = refl; face_count = refl; sound = good.sound; closed = good.closed; clear = good.clear; read_again = read_again r.mesh good.sound good.closed good.clear }
 
-keeps_effect : (given : Answer) (what : Directive) (s : State) → IsRunInvariant s → KeepsEffect s (effect_of given what s)
+pub keeps_effect : (given : Answer) (what : Directive) (s : State) → IsRunInvariant s → KeepsEffect s (effect_of given what s)
 keeps_effect given (directive.SetDepth depth) s kept = keeps_set s (record s.set { depth = depth }) kept
 keeps_effect given (directive.SetPasses passes) s kept = keeps_set s (record s.set { passes = passes }) kept
 keeps_effect given (directive.SetZones zones) s kept = keeps_set s (record s.set { zones = zones }) kept

@@ -118,7 +118,7 @@ module _ (asked : List Asked) (s : State) where
   abbrev asked_rules : PassRules
   asked_rules = edit_rules meets_exactly s.set.depth (is_open s.groups)
 
-  edits_are : AreOfPass (edited_lines asked s)
+  pub edits_are : AreOfPass (edited_lines asked s)
   unfolding edited_lines
   edits_are = lines_are asked_rules s.mesh asked
 
