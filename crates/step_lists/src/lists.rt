@@ -5,6 +5,7 @@ ghost use Rattle.grid_decided.specs.Decided.{meets_exactly};
 ghost use Rattle.mesh_base.specs.Failing.{failing};
 ghost use Rattle.mesh_base.specs.Placements.{IsClearMesh};
 ghost use Rattle.mesh_base.specs.Shifts.{NameLive, end_in_box};
+ghost use Rattle.neighbour_list.specs.Listed.{IsListOf};
 ghost use Rattle.step_lists.specs.Compared.{IsOfMesh};
 
 use crate::ahead::skin_ahead;
@@ -14,6 +15,7 @@ use crate::kept::KeptList;
 use crate::waiting::Waiting;
 use grid_base::{DEPTH_MAX, NoMemory};
 use mesh_base::{Shifts, Surface};
+use neighbour_list::failing_by_list;
 use pair_scan::{Pairs, Shifted, failing};
 use std::alloc::Global;
 use std::marker::Model;
@@ -63,6 +65,7 @@ fn list_ahead<S: Surface>(
 ) -> Result<Option<KeptList>, NoMemory>
     requires named { NameLive (S.mesh mesh.now) by.now }
     requires in_box { IsTrue (end_in_box (S.mesh mesh.now) by.now) }
+    ensures { IfOk result (λ o. IfSome o (λ kept. IsListOf (S.mesh mesh.now) kept.list)) }
 {
     let Some(skin) = skin_ahead(alloc, mesh, by.as_slice())? else {
         return Ok(None);
@@ -109,23 +112,36 @@ impl StepLists {
         self.kept = None;
     }
 
-    // Makes a list for the next steps, where none is waited for and one is worth while. Where there is no memory for it, it is
+    // The pairs of a clear mesh that do not pass, by a list that is made for this step and the next, where none is waited for and one
+    // is worth while; None where there is none, or it does not serve in this step yet. Where there is no memory for it, it is
     // done without.
-    fn look_ahead<S: Surface>(&mut self, alloc: Global, mesh: &S, by: &Shifts)
+    fn failing_by_new<S: Surface>(
+        &mut self,
+        alloc: Global,
+        mesh: &S,
+        by: &Shifts,
+        depth: u8,
+    ) -> Result<Option<Pairs>, NoMemory>
         requires named { NameLive (S.mesh mesh.now) by.now }
         requires in_box { IsTrue (end_in_box (S.mesh mesh.now) by.now) }
+        requires depth { depth ≤ DEPTH_MAX }
+        requires clear { IsClearMesh (S.mesh mesh.now) }
+        ensures { IfOk result (λ o. IfSome o
+            (λ pairs. pairs ≡ failing meets_exactly (S.mesh mesh.now) by.now depth)) }
     {
         if !self.waiting.is_over(mesh.next_face()) {
-            return;
+            return Ok(None);
         }
-        if let Ok(Some(kept)) = list_ahead(alloc, mesh, by) {
-            self.kept = Some(kept);
-            self.waiting.begin();
-        }
+        let Ok(Some(kept)) = list_ahead(alloc, mesh, by) else {
+            return Ok(None);
+        };
+        let pairs = failing_by_list(alloc, mesh, by, depth, &kept.list)?;
+        self.kept = Some(kept);
+        self.waiting.begin();
+        Ok(pairs)
     }
 
-    // The pairs of a clear mesh that do not pass, by the list where it serves, and else by a scan of all, after which a list
-    // may be made.
+    // The pairs of a clear mesh that do not pass, by the list where it serves, or by a new one, and else by a scan of all.
     fn failing<S: Surface>(
         &mut self,
         alloc: Global,
@@ -145,9 +161,11 @@ impl StepLists {
             return Ok(pairs);
         }
         self.forget();
-        let pairs = failing(alloc, mesh, by, depth)?;
-        self.look_ahead(alloc, mesh, by);
-        Ok(pairs)
+        if let Some(pairs) = self.failing_by_new(alloc, mesh, by, depth)? {
+            self.waiting.serve();
+            return Ok(pairs);
+        }
+        failing(alloc, mesh, by, depth)
     }
 
     /// The pairs of a clear mesh that do not pass in a step that asks these shifts of its live vertices, in order of the edge
