@@ -19,7 +19,6 @@ use Rattle.log_text.specs.declared.LogLine.TheVariants.{First, Close, End}
 use Rattle.log_text.specs.Laws.{IsAskedInRange}
 use Rattle.log_text.specs.Lines.{text_of_lines}
 use Rattle.log_text.proofs.LineLaws.{text_of_lines-append}
-use Rattle.log_text.proofs.LogLaws.{written_logs_are_read_lem}
 use Rattle.log_replay.specs.Again.{LineIsAgain, LinesAreAgain}
 use Rattle.log_replay.specs.Replay.{Replay, after, at_mesh}
 use Rattle.log_replay.proofs.Replaying.{each_then}
@@ -41,7 +40,7 @@ use Rattle.track_engine.proofs.Limits.{limits_next, steps_next, saved_next, limi
 use Rattle.track_engine.proofs.Passing.{edits_are}
 use Rattle.track_engine.proofs.Replayed.{effect_replayed}
 use Rattle.log_fits.specs.Fitting.{LinesFit}
-use Rattle.log_fits.specs.Histories.{Call, Does, Edits, Undoes, Sets, effect_of_call, state_left, lines_told, history, state_after, OpensFew, MayBeCalled, MayAllBeCalled, log_of_calls, IsLogOf, CallersHaveLogs, Took, TookAll, CallersAreTold}
+use Rattle.log_fits.specs.Histories.{Call, Does, Edits, Undoes, Sets, effect_of_call, state_left, lines_told, history, state_after, OpensFew, MayBeCalled, MayAllBeCalled, log_of_calls, CallersHaveLogs, Took, TookAll, CallersAreTold}
 use Rattle.log_fits.proofs.Effects.{EffectFits, effect_fits, lines_fit}
 use Rattle.log_fits.proofs.Lines.{told, begun_behind, fits_append}
 
@@ -261,7 +260,9 @@ callers_have_logs m calls good may few =
     let all : AreGood (unsaved m) rest = calls_good calls (unsaved m) (room_at_first m (length calls) good few) may in
     let head : MayFollow (mesh_line 0 m) = mesh_in_range m 0 good.sound (omega arith) in
     record {
-      read = written_logs_are_read_lem (mesh_line 0 m ∷ rest) (All-cons MayFollow (mesh_line 0 m) rest head all.range);
+      rest = mesh_line 0 m ∷ rest;
+      lines_are = refl;
+      range = All-cons MayFollow (mesh_line 0 m) rest head all.range;
       fits = (tt, ((refl, refl, refl), all.fits));
       again = (tt, (tt, all.again));
       safe = (tt, (saved_well (at_mesh m) good, all.safe));

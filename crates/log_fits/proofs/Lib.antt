@@ -12,5 +12,6 @@ mod Proved
 mod OneAnswer
 mod OneLog
 mod SameFiles
+mod Logs
 mod Histories
-mod CallersLogs
+mod Taken

@@ -16,16 +16,11 @@ use Rattle.log_text.specs.declared.LogLine.{LogLine}
 use Rattle.log_text.specs.declared.LogLine.TheVariants.{First, End}
 use Rattle.log_text.specs.Laws.{IsAskedInRange}
 use Rattle.log_text.specs.Lines.{text_of_lines}
-use Rattle.log_text.specs.Reading.{log_of as lines_of_text}
-use Rattle.log_replay.specs.Again.{LinesAreAgain}
-use Rattle.log_replay.specs.Replay.{at_mesh}
-use Rattle.log_run.specs.States.{without_lines}
 use Rattle.track_engine.specs.Answers.{Answer}
 use Rattle.track_engine.specs.Effects.{Effect, Proceeds, Refused, Unanswered, effect_of, edits_effect, undo_effect, set_effect, mesh_line}
-use Rattle.track_engine.specs.Kept.{LogIsSafe}
 use Rattle.track_engine.specs.Parts.{Writes}
 use Rattle.track_engine.specs.State.{State, unsaved}
-use Rattle.log_fits.specs.Fitting.{LinesFit}
+use Rattle.log_fits.specs.Logs.{IsLogOf}
 
 -- one call: a directive, with what fields or the sizing answer to it; edits by ids; that the
 -- innermost group is taken back; or other settings
@@ -93,16 +88,7 @@ abbrev pub log_of_calls : Mesh → List Call → List LogLine
 log_of_calls m calls =
     First VERSION ∷ mesh_line 0 m ∷ (history calls (unsaved m) ++ End ∷ [])
 
--- A log that is read again as its lines, of which each fits the lines before it, can be done again
--- by the log alone, and keeps its promise: every motion is clear at each fraction, and every mesh
--- is sound, closed and clear.
-pub record IsLogOf (m : Mesh) (lines : List LogLine) : Type 0 where
-  pub read : lines_of_text (text_of_lines lines) ≡ Ok lines
-  pub fits : LinesFit (without_lines m) lines
-  pub again : LinesAreAgain (at_mesh m) lines
-  pub safe : LogIsSafe (at_mesh m) lines
-
--- Such is the log of whatever is asked of a tracker of a mesh that is sound, closed and clear, call
+-- It is a log of the mesh, if that is sound, closed and clear, whatever is asked of the tracker, call
 -- after call.
 abbrev pub CallersHaveLogs : Type 0
 CallersHaveLogs =

@@ -3,5 +3,6 @@ pub mod Measured
 pub mod Replayed
 pub mod Proved
 pub mod OneLog
+pub mod Logs
 pub mod Histories
-pub mod CallersLogs
+pub mod Taken

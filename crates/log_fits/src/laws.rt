@@ -3,7 +3,8 @@ ghost use Rattle.mesh_field.specs.Stored.{StoredFields};
 ghost use Rattle.track_engine.specs.Answered.{known};
 ghost use Rattle.log_fits.specs.Fitting.{LogsOfMeshesFit, LogsOfJobsFit};
 ghost use Rattle.log_fits.specs.Histories.{CallersHaveLogs, CallersAreTold};
-ghost use Rattle.log_fits.specs.CallersLogs.{CallersLogsAreMeasured, CallersLogsAreReplayed, CallersLogsAreProved, ProofsOfCallersAreVerified};
+ghost use Rattle.log_fits.specs.Logs.{LogsAreRead, FirstPartsAreLogs, RunsHaveLogs};
+ghost use Rattle.log_fits.specs.Taken.{LogsAreMeasured, LogsAreReplayed, LogsAreProved, ProofsAreVerified};
 ghost use Rattle.log_fits.specs.Measured.{LogsOfRunsAreMeasured, MeshLinesTell};
 ghost use Rattle.log_fits.specs.OneLog.{JobsHaveOneLog, JobsOfTheSameFilesHaveOneLog};
 ghost use Rattle.log_fits.specs.Replayed.{LogsOfRunsAreReplayed, MeshesOfRunsAreStoredAgain};
@@ -58,21 +59,33 @@ pub fn logs_of_runs_are_replayed<F: Fn(u8, Point) -> Shift, G: Fn(Point) -> Band
 {}
 
 /// Whatever is asked of a tracker, call after call: directives, edits by ids, groups that are closed or taken back, settings. Behind the
-/// first two lines of a log file, and before its last, the lines of the calls are read again as they are; each fits the lines before it;
-/// each motion and each edit that they tell can be done again by the log alone, and is clear at each fraction; and the mesh is sound,
-/// closed and clear wherever a line leaves it. What the calls told, one after another, is the text of these lines.
+/// first two lines of a log file, and before its last, the lines of the calls are a log of the mesh: each is in its range and fits the
+/// lines before it; each motion and each edit that they tell can be done again by the log alone, and is clear at each fraction; and every
+/// line leaves a mesh that is sound, closed and clear. What the calls told, one after another, is the text of these lines.
 pub fn callers_have_logs()
     ensures logs { CallersHaveLogs }
     ensures told { CallersAreTold }
 {}
 
-/// The log file of a caller, no longer than a text may be, is taken by each command that reads one, beside a mesh file of the same mesh, or
-/// there is no memory, where neither side fails: it is measured and replayed to its end, it is proved, and that proof is verified.
-pub fn logs_of_callers_are_taken()
-    ensures measured { CallersLogsAreMeasured }
-    ensures replayed { CallersLogsAreReplayed }
-    ensures proved { CallersLogsAreProved }
-    ensures verified { ProofsOfCallersAreVerified }
+/// So is the log of a run whose files were read without a fault and whose mesh is clear.
+pub fn runs_have_logs<F: Fn(u8, Point) -> Shift, G: Fn(Point) -> Band>()
+    ensures { (fields : StoredFields F) (sizing : G) → RunsHaveLogs (known F.Fn fields G.Fn sizing) }
+{}
+
+/// The text of such a log is read as its lines; and its first lines, however many, are such a log, so that what a run leaves is one
+/// wherever it was cut between two lines.
+pub fn first_parts_are_logs()
+    ensures read { LogsAreRead }
+    ensures parts { FirstPartsAreLogs }
+{}
+
+/// The file of such a log, no longer than a text may be, is taken by each command that reads one, beside a mesh file of its mesh, where
+/// neither side fails and there is memory: it is measured and replayed to its end, it is proved, and that proof is verified.
+pub fn logs_are_taken()
+    ensures measured { LogsAreMeasured }
+    ensures replayed { LogsAreReplayed }
+    ensures proved { LogsAreProved }
+    ensures verified { ProofsAreVerified }
 {}
 
 /// Where each stored field has one answer for each number and point, and the sizing has one for each point, a job of which all directives

@@ -46,8 +46,12 @@ seen_of files name (Bytes bytes) is = is.0
 seen_of files name Absent is = tt
 seen_of files name (TooLong seen) is = is.1
 
--- the log of a job whose files a desk held
+-- the lines behind the first of the log of a job whose files a desk held
+pub job_in_range : (answers : Answers) (files : Told Files) (mesh_name step_name : List ℕ) (decimals : ℕ) (job : Job) → IsJob files mesh_name step_name decimals job → AreInRange (log_of_input answers (input_of job)).lines
+job_in_range answers files mesh_name step_name decimals job is =
+    input_in_range answers (input_of job) (inputs_in_range job (seen_of files mesh_name job.mesh_file is.mesh) (seen_of files step_name job.step_file is.steps))
+
+-- that log is read as its lines
 pub read_back : (answers : Answers) (files : Told Files) (mesh_name step_name : List ℕ) (decimals : ℕ) (job : Job) → IsJob files mesh_name step_name decimals job → IsReadBack job answers
 read_back answers files mesh_name step_name decimals job is =
-    written_logs_are_read_lem (log_of_input answers (input_of job)).lines
-    (input_in_range answers (input_of job) (inputs_in_range job (seen_of files mesh_name job.mesh_file is.mesh) (seen_of files step_name job.step_file is.steps)))
+    written_logs_are_read_lem (log_of_input answers (input_of job)).lines (job_in_range answers files mesh_name step_name decimals job is)

@@ -1,5 +1,5 @@
--- The log file of a caller is taken by each command that reads one.
-use Rattle.std.proofs.Common.{◌≡◌, ℕ, ◌≤◌, List, [], length, Option, Some, None, Result, Ok, Err, refl, ap, sym, ◌∙◌, subst, arith}
+-- A log that was written is taken by each command that reads one.
+use Rattle.std.proofs.Common.{◌≡◌, ℕ, ◌≤◌, List, [], ◌∷◌, length, Option, Some, None, Result, Ok, Err, refl, ap, sym, ◌∙◌, subst, arith}
 use Rattle.mesh_base.specs.Mesh.{Mesh}
 use Rattle.mesh_base.specs.Valid.{IsValidSurface}
 use Rattle.obj_text.specs.Obj.{Lists}
@@ -8,7 +8,9 @@ use Rattle.proof_text.specs.Order.{proofs_of}
 use Rattle.proof_text.specs.Views.{proofs_view}
 use Rattle.proof_text.specs.declared.ProofAt.{ProofAt}
 use Rattle.log_text.specs.declared.LogLine.{LogLine}
-use Rattle.log_text.specs.declared.TheConstants.{COUNT_MAX}
+use Rattle.log_text.specs.declared.TheConstants.{COUNT_MAX, VERSION}
+use Rattle.log_text.specs.declared.LogLine.TheVariants.{First}
+use Rattle.log_text.specs.Reading.{log_of as lines_of_text}
 use Rattle.log_text.specs.Lines.{text_of_lines}
 use Rattle.log_run.specs.Motions.{motions_of}
 use Rattle.log_run.specs.States.{without_lines}
@@ -24,19 +26,16 @@ use Rattle.track_replay.proofs.PrepareLemmas.{few_lines}
 use Rattle.track_replay.proofs.ValidInputs.{valid_where_clear}
 use Rattle.track_prove.specs.Proving.{AreProofsOf, ProveEnds}
 use Rattle.track_prove.specs.Verifying.{ProofJob, fetched_with_proof, read_with_proof, read_of_bytes, with_proofs, proof_input_of_read, proof_input_of, VerifyEnds}
-use Rattle.log_fits.specs.Histories.{Call, log_of_calls, IsLogOf}
-use Rattle.log_fits.specs.CallersLogs.{IsOfCaller, CallersLogsAreMeasured, CallersLogsAreReplayed, CallersLogsAreProved, ProofsOfCallersAreVerified}
-use Rattle.log_fits.proofs.Histories.{callers_have_logs}
+use Rattle.log_fits.specs.Logs.{IsLogOf}
+use Rattle.log_fits.specs.Taken.{IsOfLog, LogsAreMeasured, LogsAreReplayed, LogsAreProved, ProofsAreVerified}
+use Rattle.log_fits.proofs.Logs.{logs_are_read}
 use Rattle.log_fits.proofs.Measured.{each_fits, by_end as measured_by_end}
 use Rattle.log_fits.proofs.Replayed.{by_end as replayed_by_end}
 use Rattle.log_fits.proofs.Proved.{proved_well, verified_well, read_well, done_or_no_memory}
 
-module _ (read : LogJob) (lists : Lists) (calls : List Call) (is : IsOfCaller read lists calls) where
+module _ (read : LogJob) (lists : Lists) (lines : List LogLine) (is : IsOfLog read lists lines) where
   abbrev m : Mesh
   m = mesh_of_lists lists
-
-  abbrev lines : List LogLine
-  lines = log_of_calls m calls
 
   text : List ℕ
   text = text_of_lines lines
@@ -44,11 +43,14 @@ module _ (read : LogJob) (lists : Lists) (calls : List Call) (is : IsOfCaller re
   good : IsValidSurface m
   good = valid_where_clear lists is.mesh.shape is.mesh.none_meets
 
-  log : IsLogOf m lines
-  log = callers_have_logs m calls good is.may is.few
+  abbrev log : IsLogOf m lines
+  log = is.log
+
+  log_read : lines_of_text (text_of_lines lines) ≡ Ok lines
+  log_read = logs_are_read m lines is.log
 
   has_lines : lines ≡ [] → ⊥
-  has_lines none = absurd cc
+  has_lines none = let first : First VERSION ∷ log.rest ≡ [] = sym log.lines_are ∙ none in absurd cc
 
   given : input_of read ≡ Ok (record { mesh = m; lines = lines })
   unfolding text
@@ -58,7 +60,7 @@ module _ (read : LogJob) (lists : Lists) (calls : List Call) (is : IsOfCaller re
       ∙ ap (λ f. read_of_files read.decimals (Bytes is.mesh.bytes) f) is.log_file
       ∙ ap (λ r. read_of_lists r text) is.mesh.lists_are
       ∙ ap (λ o. read_of_shape lists o text) is.mesh.shape
-      ∙ ap (read_of_log lists) log.read
+      ∙ ap (read_of_log lists) log_read
       ) ∙ ap (λ o. input_of_test m o lines) is.mesh.none_meets
 
   all_fit : AllFit FitsTested (without_lines m) lines
@@ -75,24 +77,21 @@ module _ (read : LogJob) (lists : Lists) (calls : List Call) (is : IsOfCaller re
   few_told : (files : Option Files) (names : LogNames) → IsLogJob files names read → length lines ≤ COUNT_MAX
   few_told files names job_is =
       let there : IsSource files names.log (Bytes (text_of_lines lines)) = subst (IsSource files names.log) is.log_file job_is.log in
-      omega (arith, few_lines (text_of_lines lines) lines log.read there.0)
+      omega (arith, few_lines (text_of_lines lines) lines log_read there.0)
 
-module _ (read : ProofJob) (lists : Lists) (calls : List Call) (is : IsOfCaller read.log lists calls) (proofs : List ProofAt) (are : AreProofsOf (motions_of (mesh_of_lists lists) (log_of_calls (mesh_of_lists lists) calls)) proofs)
-    (file : read.proof_file ≡ Bytes (text_of (proofs_view proofs))) (few : length (log_of_calls (mesh_of_lists lists) calls) ≤ COUNT_MAX) where
+module _ (read : ProofJob) (lists : Lists) (all : List LogLine) (is : IsOfLog read.log lists all) (proofs : List ProofAt) (are : AreProofsOf (motions_of (mesh_of_lists lists) all) proofs)
+    (file : read.proof_file ≡ Bytes (text_of (proofs_view proofs))) (few : length all ≤ COUNT_MAX) where
   abbrev n : Mesh
   n = mesh_of_lists lists
 
-  abbrev all : List LogLine
-  all = log_of_calls n calls
-
-  those : IsLogOf n all
-  those = log read.log lists calls is
+  abbrev those : IsLogOf n all
+  those = is.log
 
   sound : IsValidSurface n
-  sound = good read.log lists calls is
+  sound = good read.log lists all is
 
   some : all ≡ [] → ⊥
-  some = has_lines read.log lists calls is
+  some = has_lines read.log lists all is
 
   written : List ℕ
   written = text_of_lines all
@@ -109,7 +108,7 @@ module _ (read : ProofJob) (lists : Lists) (calls : List Call) (is : IsOfCaller 
       ∙ ap (λ f. read_of_bytes read.log.decimals (fetched_with_proof (fetched_of (Bytes is.mesh.bytes) (Bytes written)) f)) file
       ∙ ap (λ r. read_with_proof (read_of_lists r written) (proofs_of proof)) is.mesh.lists_are
       ∙ ap (λ o. read_with_proof (read_of_shape lists o written) (proofs_of proof)) is.mesh.shape
-      ∙ ap (λ r. read_with_proof (read_of_log lists r) (proofs_of proof)) those.read
+      ∙ ap (λ r. read_with_proof (read_of_log lists r) (proofs_of proof)) (log_read read.log lists all is)
       ∙ ap (read_with_proof (Ok (record { lists = lists; lines = all }))) (read_well n all sound some those.fits those.safe those.again proofs are few)
       ) ∙ ap (λ o. with_proofs (input_of_test n o all) (proofs_view proofs)) is.mesh.none_meets
 
@@ -118,21 +117,21 @@ module _ (read : ProofJob) (lists : Lists) (calls : List Call) (is : IsOfCaller 
       let there = subst (λ i. VerifyEnds i ending said) given_with ends in
       verified_well n all sound some those.fits those.safe those.again proofs are ending there.0
 
-pub callers_logs_are_measured : CallersLogsAreMeasured
-callers_logs_are_measured lists calls names result old new run is none =
-    measured_by_end result old new names run none run.ended refl (run.measures.only None (ends_well run.measures.job lists calls is))
+pub logs_are_measured : LogsAreMeasured
+logs_are_measured lists lines names result old new run is none =
+    measured_by_end result old new names run none run.ended refl (run.measures.only None (ends_well run.measures.job lists lines is))
 
-pub callers_logs_are_replayed : CallersLogsAreReplayed
-callers_logs_are_replayed lists calls names result old new run is none =
-    replayed_by_end result old new names run none run.ended refl (run.replays.only None (ends_well run.replays.job lists calls is))
+pub logs_are_replayed : LogsAreReplayed
+logs_are_replayed lists lines names result old new run is none =
+    replayed_by_end result old new names run none run.ended refl (run.replays.only None (ends_well run.replays.job lists lines is))
 
-pub callers_logs_are_proved : CallersLogsAreProved
-callers_logs_are_proved lists calls names result old new run is none =
-    done_or_no_memory (ProveEnds (input_of run.proves.job)) (log_proved run.proves.job lists calls is)
+pub logs_are_proved : LogsAreProved
+logs_are_proved lists lines names result old new run is none =
+    done_or_no_memory (ProveEnds (input_of run.proves.job)) (log_proved run.proves.job lists lines is)
     old.holds.written new.holds.written result _ _ none.desk none.sink run.ended run.outcome_is run.proves.told run.proves.faults.desk_fault run.proves.faults.sink_fault
 
-pub proofs_of_callers_are_verified : ProofsOfCallersAreVerified
-proofs_of_callers_are_verified lists calls text proof_is names result old new run is file none =
+pub proofs_are_verified : ProofsAreVerified
+proofs_are_verified lists lines text proof_is names result old new run is file none =
     done_or_no_memory (VerifyEnds (proof_input_of run.verifies.job))
-    (log_verified run.verifies.job lists calls is proof_is.proofs proof_is.are (file ∙ ap Bytes proof_is.text_is) (few_told run.verifies.job.log lists calls is old.holds.files names.names run.verifies.is_job.log))
+    (log_verified run.verifies.job lists lines is proof_is.proofs proof_is.are (file ∙ ap Bytes proof_is.text_is) (few_told run.verifies.job.log lists lines is old.holds.files names.names run.verifies.is_job.log))
     old.holds.written new.holds.written result _ _ none.desk none.sink run.ended run.outcome_is run.verifies.told run.verifies.faults.desk_fault run.verifies.faults.sink_fault

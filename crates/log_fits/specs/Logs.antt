@@ -1,0 +1,54 @@
+-- What is known of a log that was written, whoever wrote it, and of its first lines.
+use Rattle.std.specs.Prelude.{◌≡◌, ℕ, ◌<◌, List, ◌∷◌, take, Ok}
+use Rattle.mesh_base.specs.Mesh.{Mesh}
+use Rattle.obj_text.specs.Obj.{Lists}
+use Rattle.step_text.specs.declared.Placed.{Placed}
+use Rattle.log_text.specs.declared.TheConstants.{VERSION}
+use Rattle.log_text.specs.declared.LogLine.{LogLine}
+use Rattle.log_text.specs.declared.LogLine.TheVariants.{First}
+use Rattle.log_text.specs.Lines.{text_of_lines}
+use Rattle.log_text.specs.Reading.{log_of as lines_of_text}
+use Rattle.log_replay.specs.Again.{LinesAreAgain}
+use Rattle.log_replay.specs.Replay.{at_mesh}
+use Rattle.log_run.specs.States.{without_lines}
+use Rattle.outside_io.specs.World.{World}
+use Rattle.run_laws.specs.Lines.{AreInRange}
+use Rattle.track_input.specs.Job.{mesh_of_lists}
+use Rattle.track_engine.specs.Answered.{Known}
+use Rattle.track_engine.specs.Kept.{LogIsSafe}
+use Rattle.track_engine.specs.Saved.{Target}
+use Rattle.track_run.specs.declared.outcome.Outcome.{Outcome}
+use Rattle.track_run.specs.Causes.{HasClear}
+use Rattle.track_run.specs.Headline.{TracksCommand}
+use Rattle.track_run.specs.Job.{log_of}
+use Rattle.log_fits.specs.Fitting.{LinesFit}
+
+-- A log of a mesh: behind the line of the version each line is in its range; each fits the lines
+-- before it, can be done again by the log alone, and keeps its promise, so that every motion is
+-- clear at each fraction and every line leaves a mesh that is sound, closed and clear.
+pub record IsLogOf (m : Mesh) (lines : List LogLine) : Type 0 where
+  pub rest : List LogLine
+  pub lines_are : lines ≡ First VERSION ∷ rest
+  pub range : AreInRange rest
+  pub fits : LinesFit (without_lines m) lines
+  pub again : LinesAreAgain (at_mesh m) lines
+  pub safe : LogIsSafe (at_mesh m) lines
+
+-- its text is read as its lines
+abbrev pub LogsAreRead : Type 0
+LogsAreRead = (m : Mesh) (lines : List LogLine) → IsLogOf m lines →
+    lines_of_text (text_of_lines lines) ≡ Ok lines
+
+-- Its first lines, so many of them, are such a log too. So is what a run left whose log was cut
+-- where a line ends.
+abbrev pub FirstPartsAreLogs : Type 0
+FirstPartsAreLogs = (m : Mesh) (lines : List LogLine) (count : ℕ) → 0 < count →
+    IsLogOf m lines → IsLogOf m (take count lines)
+
+-- the log of a job that was tracked, whose files were read without a fault and whose mesh is clear
+abbrev pub RunsHaveLogs : Known → Type 0
+RunsHaveLogs known =
+    (mesh_name step_name : List ℕ) (to : Target) (tracked : Outcome) (before after : World)
+    → (track : TracksCommand known mesh_name step_name to tracked before after)
+    → (lists : Lists) (directives : List Placed) → HasClear track.job lists directives
+    → IsLogOf (mesh_of_lists lists) (log_of track.job track.tracks.answers).lines
