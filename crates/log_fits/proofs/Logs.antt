@@ -1,7 +1,6 @@
 -- Logs that were written, and their first lines.
 use Rattle.std.proofs.Common.{◌≡◌, ℕ, zero, suc, ◌<◌, List, [], ◌∷◌, take, Ok, refl, ap, sym, ◌∙◌, subst, arith}
-use Rattle.std.proofs.lemmas.List.Elements.{All-from_recursion, recursion_from_All}
-use Rattle.std.specs.List.{AllByRecursion}
+use Rattle.std.proofs.lemmas.List.Elements.{All-take}
 use Rattle.mesh_base.specs.Mesh.{Mesh}
 use Rattle.obj_text.specs.Obj.{Lists}
 use Rattle.step_text.specs.declared.Placed.{Placed}
@@ -15,7 +14,7 @@ use Rattle.log_replay.specs.Again.{LineIsAgain, LinesAreAgain}
 use Rattle.log_replay.specs.Replay.{Replay, replayed, at_mesh, EachAt}
 use Rattle.log_run.specs.States.{LogState, without_lines, with_line}
 use Rattle.outside_io.specs.World.{World}
-use Rattle.run_laws.specs.Lines.{MayFollow, AreInRange}
+use Rattle.run_laws.specs.Lines.{MayFollow}
 use Rattle.track_input.specs.Job.{mesh_of_lists, mesh_of_job, input_of}
 use Rattle.track_engine.specs.Answered.{Known}
 use Rattle.track_engine.specs.Kept.{LineHolds, LogIsSafe}
@@ -47,20 +46,12 @@ first_fit s lines zero h = tt
 first_fit s [] (suc count) h = tt
 first_fit s (line ∷ lines) (suc count) h = (h.0, first_fit (with_line s line) lines count h.1)
 
-first_follow : (lines : List LogLine) (count : ℕ) → AllByRecursion MayFollow lines → AllByRecursion MayFollow (take count lines)
-first_follow lines zero h = tt
-first_follow [] (suc count) h = tt
-first_follow (line ∷ lines) (suc count) h = (h.0, first_follow lines count h.1)
-
-first_in_range : (lines : List LogLine) (count : ℕ) → AreInRange lines → AreInRange (take count lines)
-first_in_range lines count h = All-from_recursion MayFollow (take count lines) (first_follow lines count (recursion_from_All MayFollow lines h))
-
 pub first_parts_are_logs : FirstPartsAreLogs
 first_parts_are_logs m lines zero some log = absurd (omega (arith, some))
 first_parts_are_logs m lines (suc count) some log = record {
   rest = take count log.rest;
   lines_are = ap (take (suc count)) log.lines_are;
-  range = first_in_range log.rest count log.range;
+  range = All-take MayFollow count log.rest log.range;
   fits = first_fit (without_lines m) lines (suc count) log.fits;
   again = each_first LineIsAgain (at_mesh m) lines (suc count) log.again;
   safe = each_first LineHolds (at_mesh m) lines (suc count) log.safe;
