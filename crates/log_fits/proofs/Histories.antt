@@ -109,15 +109,15 @@ directive_fits given (directive.SetDepth depth) s few again = (tt, refl)
 directive_fits given (directive.SetPasses passes) s few again = (tt, refl)
 directive_fits given (directive.SetZones zones) s few again = (tt, refl)
 directive_fits given (directive.SetHalvings halvings) s few again = (tt, refl)
-directive_fits given (directive.ShiftOne v by) s few again = fits_here (length s.groups) s _ (effect_fits given (directive.ShiftOne v by) s tt again)
-directive_fits given (directive.ShiftAll by) s few again = fits_here (length s.groups) s _ (effect_fits given (directive.ShiftAll by) s tt again)
-directive_fits given (directive.Drive name) s few again = fits_here (length s.groups) s _ (effect_fits given (directive.Drive name) s tt again)
-directive_fits given (directive.Solid v) s few again = fits_here (length s.groups) s _ (effect_fits given (directive.Solid v) s tt again)
-directive_fits given directive.Step s few again = fits_here (length s.groups) s _ (effect_fits given directive.Step s tt again)
-directive_fits given (directive.Pass kind) s few again = fits_here (length s.groups) s _ (effect_fits given (directive.Pass kind) s tt again)
-directive_fits given directive.Fit s few again = fits_here (length s.groups) s _ (effect_fits given directive.Fit s tt again)
-directive_fits given directive.Save s few again = fits_here (length s.groups) s _ (effect_fits given directive.Save s tt again)
-directive_fits given directive.Group s few again = fits_here (length s.groups + 1) s _ (effect_fits given directive.Group s few again)
+directive_fits given (directive.ShiftOne v by) s few again = fits_here (length s.groups) s (effect_of given (directive.ShiftOne v by) s) (effect_fits given (directive.ShiftOne v by) s tt again)
+directive_fits given (directive.ShiftAll by) s few again = fits_here (length s.groups) s (effect_of given (directive.ShiftAll by) s) (effect_fits given (directive.ShiftAll by) s tt again)
+directive_fits given (directive.Drive name) s few again = fits_here (length s.groups) s (effect_of given (directive.Drive name) s) (effect_fits given (directive.Drive name) s tt again)
+directive_fits given (directive.Solid v) s few again = fits_here (length s.groups) s (effect_of given (directive.Solid v) s) (effect_fits given (directive.Solid v) s tt again)
+directive_fits given directive.Step s few again = fits_here (length s.groups) s (effect_of given directive.Step s) (effect_fits given directive.Step s tt again)
+directive_fits given (directive.Pass kind) s few again = fits_here (length s.groups) s (effect_of given (directive.Pass kind) s) (effect_fits given (directive.Pass kind) s tt again)
+directive_fits given directive.Fit s few again = fits_here (length s.groups) s (effect_of given directive.Fit s) (effect_fits given directive.Fit s tt again)
+directive_fits given directive.Save s few again = fits_here (length s.groups) s (effect_of given directive.Save s) (effect_fits given directive.Save s tt again)
+directive_fits given directive.Group s few again = fits_here (length s.groups + 1) s (effect_of given directive.Group s) (effect_fits given directive.Group s few again)
 directive_fits given directive.Close s few again = close_fits_here given s again
 
 directive_good : (given : Answer) (what : Directive) (s : State) → HasRoomFor 1 s → IsInRange what → OpensFew (length s.groups) what → IsGoodEffect s (effect_of given what s)
@@ -287,7 +287,7 @@ refused_adds effect s next old new why goes same said =
 
 adds : (effect : Effect) (s next : State) (old new : List ℕ) → Took effect s next old new → Adds effect s next old new
 adds effect s next old new (inl (lines, goes, said)) = taken_adds effect s next old new lines goes said
-adds effect s next old new (inr (why, same, goes, said)) = refused_adds effect s next old new why goes same said
+adds effect s next old new (inr (why, same, wrote)) = refused_adds effect s next old new why wrote.0 same wrote.1
 
 pub callers_are_told : CallersAreTold
 callers_are_told [] s last old new took = (took.1 ∙ sym (append-nil old), took.0)
