@@ -4,7 +4,7 @@ ghost use Rattle.grid_base.specs.declared.TheConstants.{HALF_MAX};
 ghost use Rattle.grid_base.specs.Triples.{IsWithin};
 ghost use Rattle.edit_check.specs.Untouched.{MoveFits};
 
-use crate::meshes::{TETRAHEDRON, TETRAHEDRON_FACES, TWO_TETRAHEDRA, any_mesh_at, point};
+use crate::meshes::{TWO_TETRAHEDRA, any_mesh_at, point};
 use edit_check::{Move, Touch, check, check_still};
 use grid_base::{NoMemory, Point, Wide};
 use mesh_base::{FaceId, PairName, VertexId};
@@ -181,21 +181,6 @@ const THROUGH: [[i32; 3]; 8] = [
     [1, 5, 1],
     [1, 1, 5],
 ];
-
-// The first pair of a tetrahedron that does not pass, where nothing moves and no face is new.
-fn first_of_none(alloc: Global, rt: &impl Abort) -> Result<Option<PairName>, NoMemory> {
-    let mesh = any_mesh_at(alloc, &TETRAHEDRON, &TETRAHEDRON_FACES, rt)?;
-    match first_meeting(alloc, &mesh)? {
-        Some(found) => Ok(Some(found)),
-        None => check(alloc, &mesh, &[], Touch::Never, &[], 5, DEPTH),
-    }
-}
-
-#[test]
-fn where_nothing_moves_nothing_fails(rt: HostRuntime) -> Result<(), Fail> {
-    assert_eq!(rt; first_of_none(rt.alloc(), &rt)?, None);
-    Ok(())
-}
 
 #[test]
 fn bodies_that_stand_still_meet_where_they_touch(rt: HostRuntime) -> Result<(), Fail> {

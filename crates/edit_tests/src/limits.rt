@@ -8,7 +8,6 @@ use edit_base::Why;
 use edit_flip::flip;
 use edit_split::split;
 use grid_base::{ID_MAX, NoMemory};
-use half_mesh::HalfMesh;
 use mesh_base::{Surface, VertexId};
 use mesh_plain::{PlainMesh, shape};
 use pair_scan::first_meeting;
@@ -36,23 +35,6 @@ fn flat_mesh(
     assert!(rt; lists.points.len() < next_vertex as usize && next_vertex <= ID_MAX + 1);
     assert!(rt; lists.faces.len() < next_face as usize && next_face <= ID_MAX + 1);
     let mesh = PlainMesh::of_numbered(alloc, &lists, next_vertex, next_face)?;
-    let found = first_meeting(alloc, &mesh)?;
-    assert!(rt; found.is_none());
-    Ok(mesh)
-}
-
-// The flat double pyramid as half-edges, with these next ids.
-fn flat_half_mesh(alloc: Global, next: (u32, u32), rt: &impl Abort) -> Result<HalfMesh, NoMemory>
-    ensures closed { IfOk result (λ s. IsClosed (⟦<HalfMesh as Surface>⟧.mesh s)) }
-    ensures clear { IfOk result (λ s. IsClearMesh (⟦<HalfMesh as Surface>⟧.mesh s)) }
-{
-    let lists = lists_at(alloc, &FLAT, &FLAT_FACES, rt)?;
-    let shaped = shape(alloc, &lists);
-    assert!(rt; shaped.is_ok());
-    let (next_vertex, next_face) = next;
-    assert!(rt; lists.points.len() < next_vertex as usize && next_vertex <= ID_MAX + 1);
-    assert!(rt; lists.faces.len() < next_face as usize && next_face <= ID_MAX + 1);
-    let mesh = HalfMesh::of_numbered(alloc, &lists, next_vertex, next_face)?;
     let found = first_meeting(alloc, &mesh)?;
     assert!(rt; found.is_none());
     Ok(mesh)
@@ -108,23 +90,6 @@ fn a_full_mesh_is_not_split_or_flipped(rt: HostRuntime) -> Result<(), Fail> {
         assert_eq!(rt; reason_of(&edit), why);
         assert_eq!(rt; has_faces(&mesh, &LEFT), is_full);
         assert_eq!(rt; counts(&mesh) == before, is_full);
-        assert_eq!(rt; mesh.point(VertexId(next.0)).is_none(), is_full);
-    }
-    Ok(())
-}
-
-#[test]
-fn full_half_edges_are_not_split(rt: HostRuntime) -> Result<(), Fail> {
-    for (vertices, next, is_full) in CASES {
-        if vertices > 5 {
-            continue;
-        }
-        let why = if is_full { Some(Why::Full) } else { None };
-        let mut mesh = flat_half_mesh(rt.alloc(), next, &rt)?;
-        let edit = split(rt.alloc(), &mut mesh, VertexId(1), VertexId(2), 6)?;
-        assert_eq!(rt; reason_of(&edit), why);
-        assert_eq!(rt; mesh.vertices() == 5, is_full);
-        assert_eq!(rt; (mesh.next_vertex(), mesh.next_face()) == next, is_full);
         assert_eq!(rt; mesh.point(VertexId(next.0)).is_none(), is_full);
     }
     Ok(())

@@ -1,17 +1,10 @@
 //! Worked examples of splits.
-ghost use Rattle.std.specs.Prelude.{◌≡◌, false, IfOk};
-ghost use Rattle.grid_base.specs.declared.Point.{Point};
-ghost use Rattle.mesh_base.specs.Limits.{is_over_limits};
-ghost use Rattle.mesh_base.specs.Sides.{IsClosed};
-ghost use Rattle.edit_base.specs.Required.{HasEdge};
-ghost use Rattle.edit_split.specs.Split.{split_mesh};
-
 use crate::meshes::{
     JOINED, JOINED_FACES, TETRAHEDRON, TETRAHEDRON_FACES, TWO_TETRAHEDRA, has_faces, mesh_at,
     point, reason_of,
 };
-use edit_base::{Change, EdgeFaces, Edit, Why, edge_beside, is_crowded};
-use edit_split::{apply_split, is_split_over, split};
+use edit_base::{Change, Edit, Why};
+use edit_split::split;
 use grid_base::Point;
 use mesh_base::{FaceId, PairName, Surface, VertexId};
 use std::test::Fail;
@@ -74,46 +67,6 @@ fn an_edge_of_a_tetrahedron_is_split(rt: HostRuntime) -> Result<(), Fail> {
     assert_eq!(rt; (mesh.vertices(), mesh.faces()), (5, 6));
     assert!(rt; has_faces(&mesh, &SPLIT_FACES));
     assert_eq!(rt; (mesh.next_vertex(), mesh.next_face()), (6, 9));
-    Ok(())
-}
-
-// The edge of two ids with the faces beside it, where it is not crowded and its split passes no limit.
-fn edge_to_cut<S: Surface>(mesh: &S, a: VertexId, b: VertexId) -> Result<EdgeFaces, Why>
-    requires closed { IsClosed (S.mesh mesh.now) }
-    ensures edge { IfOk result (λ e. HasEdge (S.mesh mesh.now) e) }
-    ensures fits { IfOk result
-        (λ e. (at : Point) → is_over_limits (split_mesh (S.mesh mesh.now) e at) ≡ false) }
-{
-    match edge_beside(mesh, a, b) {
-        None => Err(Why::NoEdge),
-        Some(e) => {
-            if is_crowded(mesh, e.a, e.b) {
-                Err(Why::Crowded)
-            } else if is_split_over(mesh) {
-                Err(Why::Full)
-            } else {
-                Ok(e)
-            }
-        }
-    }
-}
-
-#[test]
-fn the_acts_of_a_split_put_the_vertex_where_they_are_told(rt: HostRuntime) -> Result<(), Fail> {
-    let mut mesh = mesh_at(rt.alloc(), &TETRAHEDRON, &TETRAHEDRON_FACES, &rt)?;
-    // beside the edge, and not at its midpoint
-    let at = point([1, 1, 1], &rt);
-    let found = edge_to_cut(&mesh, VertexId(2), VertexId(1));
-    assert!(rt; found.is_ok());
-    if let Ok(e) = found {
-        assert_eq!(rt; (e.a, e.b), (VertexId(1), VertexId(2)));
-        assert_eq!(rt; (e.c, e.d), (VertexId(4), VertexId(3)));
-        assert_eq!(rt; (e.left_face, e.right_face), (FaceId(2), FaceId(1)));
-        apply_split(&mut mesh, &e, at)?;
-    }
-    assert_eq!(rt; mesh.point(VertexId(5)), Some(at));
-    assert_eq!(rt; (mesh.vertices(), mesh.faces()), (5, 6));
-    assert!(rt; has_faces(&mesh, &SPLIT_FACES));
     Ok(())
 }
 

@@ -108,75 +108,46 @@ fn two_boxes_are_joined_by_a_tunnel(rt: HostRuntime) -> Result<(), Fail> {
 
 #[test]
 fn a_refused_zip_leaves_the_mesh(rt: HostRuntime) -> Result<(), Fail> {
-    let mut mesh = mesh_at(rt.alloc(), &POINTS, &FACES, &rt)?;
     // The bar meets three of the tunnels, and in the last that is tried the edge 1 10 meets a face.
-    let hit = PairName {
+    let hit = Why::Hit(PairName {
         a: VertexId(1),
         b: VertexId(10),
         face: FaceId(29),
-    };
-    let edit = zip(
-        rt.alloc(),
-        &mut mesh,
-        VertexId(1),
-        VertexId(2),
-        VertexId(9),
-        VertexId(10),
-    )?;
-    assert_eq!(rt; reason_of(&edit), Some(Why::Hit(hit)));
-    let edit = zip(
-        rt.alloc(),
-        &mut mesh,
-        VertexId(1),
-        VertexId(2),
-        VertexId(3),
-        VertexId(4),
-    )?;
-    assert_eq!(rt; reason_of(&edit), Some(Why::NoEdge));
-    let edit = zip(
-        rt.alloc(),
-        &mut mesh,
-        VertexId(1),
-        VertexId(2),
-        VertexId(2),
-        VertexId(3),
-    )?;
-    assert_eq!(rt; reason_of(&edit), Some(Why::Shared));
-    let edit = zip(
-        rt.alloc(),
-        &mut mesh,
-        VertexId(1),
-        VertexId(1),
-        VertexId(9),
-        VertexId(10),
-    )?;
-    assert_eq!(rt; reason_of(&edit), Some(Why::NoEdge));
-    assert!(rt; zip_ready(&mesh, VertexId(1), VertexId(2), VertexId(9), VertexId(10)));
-    assert!(rt; !zip_ready(&mesh, VertexId(1), VertexId(2), VertexId(2), VertexId(3)));
-    assert_eq!(rt; (mesh.vertices(), mesh.faces()), (20, 28));
-    assert_eq!(rt; (mesh.next_vertex(), mesh.next_face()), (21, 29));
-    Ok(())
-}
-
-#[test]
-fn crowded_edges_and_shared_vertices_refuse_a_zip(rt: HostRuntime) -> Result<(), Fail> {
-    let cases: [(&[[i32; 3]], &[[u32; 3]], [u32; 4], Why); 5] = [
+    });
+    // the mesh, the two edges, whether they are ready, and why they are not zipped
+    let cases: [(&[[i32; 3]], &[[u32; 3]], [u32; 4], bool, Why); 9] = [
+        (&POINTS, &FACES, [1, 2, 9, 10], true, hit),
+        (&POINTS, &FACES, [1, 2, 3, 4], false, Why::NoEdge),
+        (&POINTS, &FACES, [1, 2, 2, 3], false, Why::Shared),
+        (&POINTS, &FACES, [1, 1, 9, 10], false, Why::NoEdge),
         // edges across a tetrahedron
-        (&TETRAHEDRON, &TETRAHEDRON_FACES, [1, 2, 3, 4], Why::Shared),
+        (
+            &TETRAHEDRON,
+            &TETRAHEDRON_FACES,
+            [1, 2, 3, 4],
+            false,
+            Why::Shared,
+        ),
         // the edge 1 2 is crowded, be it named first or last, and whether vertices are shared or not
-        (&JOINED, &JOINED_FACES, [1, 2, 7, 8], Why::Crowded),
-        (&JOINED, &JOINED_FACES, [8, 7, 2, 1], Why::Crowded),
-        (&JOINED, &JOINED_FACES, [1, 2, 3, 4], Why::Crowded),
-        (&JOINED, &JOINED_FACES, [1, 3, 2, 4], Why::Shared),
+        (&JOINED, &JOINED_FACES, [1, 2, 7, 8], false, Why::Crowded),
+        (&JOINED, &JOINED_FACES, [8, 7, 2, 1], false, Why::Crowded),
+        (&JOINED, &JOINED_FACES, [1, 2, 3, 4], false, Why::Crowded),
+        (&JOINED, &JOINED_FACES, [1, 3, 2, 4], false, Why::Shared),
     ];
-    for (points, faces, [a, b, e, f], why) in cases {
+    for (points, faces, [a, b, e, f], ready, why) in cases {
         let mut mesh = mesh_at(rt.alloc(), points, faces, &rt)?;
         let [a, b, e, f] = [a, b, e, f].map(|v| VertexId(v));
-        assert!(rt; !zip_ready(&mesh, a, b, e, f));
+        assert_eq!(rt; zip_ready(&mesh, a, b, e, f), ready);
         let edit = zip(rt.alloc(), &mut mesh, a, b, e, f)?;
         assert_eq!(rt; reason_of(&edit), Some(why));
-        assert_eq!(rt; mesh.faces() as usize, faces.len());
-        assert_eq!(rt; mesh.next_face() as usize, faces.len() + 1);
+        assert_eq!(rt;
+            (mesh.vertices() as usize, mesh.faces() as usize),
+            (points.len(), faces.len())
+        );
+        assert_eq!(rt;
+            (mesh.next_vertex() as usize, mesh.next_face() as usize),
+            (points.len() + 1, faces.len() + 1)
+        );
     }
     Ok(())
 }

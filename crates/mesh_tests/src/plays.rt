@@ -12,7 +12,7 @@ use half_mesh::HalfMesh;
 use mesh_base::{FaceId, FaceIds, MeshLists, Surface, VertexId};
 use mesh_journal::JournalMesh;
 use mesh_plain::{PlainMesh, shape};
-use mesh_play::{Act, Answer, Answers, Call, Question, play, play_both, play_three};
+use mesh_play::{Act, Answer, Answers, Call, Question, play_both, play_three};
 use std::alloc::Global;
 use std::process::Abort;
 use std::test::Fail;
@@ -296,45 +296,6 @@ fn play_row<S: Surface, T: Surface>(
 }
 
 #[test]
-fn calls_are_played_in_order(rt: HostRuntime) -> Result<(), Fail> {
-    let lists = tetrahedron(rt.alloc())?;
-    assert!(rt; shape(rt.alloc(), &lists).is_ok());
-    let mut mesh = PlainMesh::of(rt.alloc(), &lists)?;
-    // The return to the first mark takes both back, and the vertices that were made since.
-    let calls = [
-        Call::MakeMark,
-        Call::Make {
-            act: Act::AddVertex { p: FAR },
-        },
-        Call::MakeMark,
-        Call::Make {
-            act: Act::AddVertex { p: FAR },
-        },
-        Call::BackTo { nth: 0 },
-        Call::Ask {
-            question: Question::NextVertex,
-        },
-        Call::Settle,
-        Call::Make {
-            act: Act::AddVertex { p: FAR },
-        },
-    ];
-    let wants = [
-        Want::Done,
-        Want::VertexMade(VertexId(5)),
-        Want::Done,
-        Want::VertexMade(VertexId(6)),
-        Want::Done,
-        Want::Number(5),
-        Want::Done,
-        Want::VertexMade(VertexId(5)),
-    ];
-    let told = play(rt.alloc(), &mut mesh, &calls)?;
-    assert_told(&rt, &told, &wants);
-    Ok(())
-}
-
-#[test]
 fn plain_meshes_and_half_edges_answer_alike(rt: HostRuntime) -> Result<(), Fail> {
     let lists = tetrahedron(rt.alloc())?;
     assert!(rt; shape(rt.alloc(), &lists).is_ok());
@@ -362,14 +323,18 @@ fn plain_meshes_and_journals_answer_alike(rt: HostRuntime) -> Result<(), Fail> {
 fn a_return_gives_the_ids_back_of_each_mesh(rt: HostRuntime) -> Result<(), Fail> {
     let lists = tetrahedron(rt.alloc())?;
     assert!(rt; shape(rt.alloc(), &lists).is_ok());
+    let more = Call::Make {
+        act: Act::AddVertex { p: FAR },
+    };
+    // The return to the first mark takes both back, and the vertices that were made since.
     let calls = [
         Call::Ask {
             question: Question::FacesAt { v: VertexId(1) },
         },
         Call::MakeMark,
-        Call::Make {
-            act: Act::AddVertex { p: FAR },
-        },
+        more,
+        Call::MakeMark,
+        more,
         Call::Ask {
             question: Question::NextVertex,
         },
@@ -380,15 +345,21 @@ fn a_return_gives_the_ids_back_of_each_mesh(rt: HostRuntime) -> Result<(), Fail>
         Call::Ask {
             question: Question::NextFace,
         },
+        Call::Settle,
+        more,
     ];
     let wants = [
         Want::Faces([Some(FaceId(1)), Some(FaceId(2)), Some(FaceId(4)), None]),
         Want::Done,
         Want::VertexMade(VertexId(5)),
-        Want::Number(6),
+        Want::Done,
+        Want::VertexMade(VertexId(6)),
+        Want::Number(7),
         Want::Done,
         Want::Number(5),
         Want::Number(5),
+        Want::Done,
+        Want::VertexMade(VertexId(5)),
     ];
     let told = play_three(rt.alloc(), &lists, &calls)?;
     assert_told(&rt, &told.plain, &wants);
@@ -441,14 +412,6 @@ fn the_last_ids_are_given(rt: HostRuntime) -> Result<(), Fail> {
     let mut plain = PlainMesh::of_numbered(rt.alloc(), &lists, 2_147_483_649, 5)?;
     let mut half = HalfMesh::of_numbered(rt.alloc(), &lists, 2_147_483_649, 5)?;
     play_row(&rt, rt.alloc(), &mut plain, &mut half, &FULL)?;
-    Ok(())
-}
-
-#[test]
-fn the_last_ids_are_given_by_a_journal(rt: HostRuntime) -> Result<(), Fail> {
-    let lists = tetrahedron(rt.alloc())?;
-    assert!(rt; shape(rt.alloc(), &lists).is_ok());
-    assert_eq!(rt; (lists.points.len(), lists.faces.len()), (4, 4));
     let mut plain = PlainMesh::of_numbered(rt.alloc(), &lists, 2_147_483_649, 5)?;
     let mut journal = JournalMesh::of_numbered(rt.alloc(), &lists, 2_147_483_649, 5)?;
     journal.reserve(3)?;
