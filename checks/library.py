@@ -7,9 +7,10 @@ ARCHIVE is the archive of the proved crate, in the place of a proof and build an
 The header and the examples have to compile as C99 and as C++17 with no warning, by each compiler that is there of gcc's and clang's. The logs that
 `example.cpp` and `example.py` write have to be the program's, byte for byte, and so have those of JOBS random jobs, 100 where that is left
 out, which `checks/library_steps.c` does through the library, and which also compares what calls tell as numbers with the lines.
-`checks/library_cases.c` compares codes, reasons and places of worked cases, where valgrind is there under that too. The droplets of
-`examples/library` have to write their frames. `checks/starving.c` refuses each allocation in turn, where the C library is glibc. Without `cc`
-and `c++` nothing is compiled, and that is said.
+`checks/library_cases.c` compares codes, reasons and places of worked cases, where valgrind is there under that too, and the files of that name
+in C++ and Python do so with the classes. The droplets of `examples/library` have to write their frames. `checks/random_callers.py` is run for a
+fifth as many callers as JOBS. `checks/starving.c` refuses each allocation in turn, where the C library is glibc. Without `cc` and `c++` nothing is
+compiled, and that is said.
 """
 
 import concurrent.futures
@@ -144,6 +145,8 @@ def in_cpp(words, program, folder):
     status, told, messages = ran([compiled(words, os.path.join(LIBRARY, "example.cpp"), folder)])
     yield f"example.cpp by {words[0]} writes the program's log", status == 0 and told == log_of(program, MESH, STEPS, folder)
     yield "example.cpp tells what is refused", all(line in messages for line in TOLD)
+    status, told, _ = ran([compiled(words, os.path.join(ROOT, "checks/library_cases.cpp"), folder)])
+    yield f"the worked cases of the class by {words[0]}: {told.decode().strip()}", status == 0
     yield f"droplet.cpp by {words[0]}", framed([compiled(words, os.path.join(ROOT, "examples/library/droplet.cpp"), folder)], folder)
 
 
@@ -162,6 +165,9 @@ def by_python(program, folder):
     status, told, messages = ran([sys.executable, os.path.join(LIBRARY, "example.py")])
     yield "example.py writes the program's log", status == 0 and told == log_of(program, *boxes(), folder)
     yield "example.py tells what is refused", "refused: 2 1 99999 0 0\n" in messages and "meets: 2 17 " in messages
+    status, told, messages = ran([sys.executable, os.path.join(ROOT, "checks/library_cases.py")])
+    print(f"topo.py: {told.decode().strip()}")
+    yield f"the worked cases of topo.py: {told.decode().strip()} {messages}", status == 0
     yield "droplet.py", framed([sys.executable, os.path.join(ROOT, "examples/library/droplet.py")], folder)
 
 
@@ -170,6 +176,10 @@ def by_drivers(words, program, jobs, folder):
     done, bad = random_jobs(compiled(words, os.path.join(ROOT, "checks/library_steps.c"), folder), program, jobs)
     print(f"{done} random jobs")
     yield f"of {jobs} random jobs {done} are done, and the logs of these are others: {bad}", done == jobs and not bad
+    callers = [sys.executable, os.path.join(ROOT, "checks/random_callers.py"), program, str(jobs // 5)]
+    told = subprocess.run(callers, stdout=subprocess.PIPE, stderr=subprocess.STDOUT)
+    print(told.stdout.decode().strip())
+    yield f"random callers: {told.stdout.decode().strip()}", told.returncode == 0
     if "CS_GNU_LIBC_VERSION" in os.confstr_names and "glibc" in (os.confstr("CS_GNU_LIBC_VERSION") or ""):
         status, told, messages = ran([compiled(words, os.path.join(ROOT, "checks/starving.c"), folder)])
         print(told.decode().strip())
