@@ -114,6 +114,19 @@ static uint32_t work(struct topo *t, struct topo_fault *fault)
     return code;
 }
 
+/* whether a tracker that is stopped does nothing more, and tells of stars still */
+static int only_reads(struct topo *t)
+{
+    static const struct topo_asked asked = {TOPO_SPLIT, 1, 2, 0, 0};
+    struct topo_answered answer = {77, 77, 77, 77, 77, 77, 77};
+    struct topo_way way;
+    struct topo_fault fault;
+    size_t taken = 77, size;
+    uint32_t became = 77;
+    return topo_step(t, &way, &fault) == TOPO_STOPPED && topo_edit_each(t, &asked, 1, &answer, 1, &taken) == TOPO_STOPPED && topo_undo(t, &became) == TOPO_STOPPED
+        && taken == 77 && answer.why == 77 && became == 77 && topo_star(t, 1, face_rows, 4096, &size) == TOPO_DONE && topo_beside(t, 1, 3, face_rows, 4096, &size) == TOPO_DONE;
+}
+
 /* whether a tracker for which there was no memory is stopped, or as it was, as the call wants it */
 static int is_as_wanted(struct topo *t)
 {
@@ -123,7 +136,7 @@ static int is_as_wanted(struct topo *t)
     const int stopped = topo_set(t, 6, 3, 1, 6) == TOPO_STOPPED;
     topo_counts(t, &after);
     if (stopped)
-        return wanting != STAYS && topo_step(t, &way, &fault) == TOPO_STOPPED;
+        return wanting != STAYS && only_reads(t);
     return wanting != STOPS && after.log == before.log && after.vertices == before.vertices && after.faces == before.faces
         && after.next_vertex == before.next_vertex && after.next_face == before.next_face && topo_step(t, &way, &fault) == TOPO_DONE;
 }
