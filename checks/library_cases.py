@@ -67,6 +67,7 @@ def shapes():
     says("no row", TypeError, "point 1 is 7", lambda: tetrahedron([7, *POINTS[1:]]))
     says("no number", TypeError, "point 2|None", lambda: tetrahedron([POINTS[0], (None, 0, 0), *POINTS[2:]]))
     says("not finite", ValueError, "point 4|nan", lambda: tetrahedron([*POINTS[:3], (0, 0, float("nan"))]))
+    says("beyond all floats", OverflowError, "point 2", lambda: tetrahedron([POINTS[0], (10**400, 0, 0), *POINTS[2:]]))
     says("too far", OverflowError, "point 4|1000000000.0|2^30", lambda: tetrahedron([*POINTS[:3], (0, 0, 1e9)]))
     says("outside the box", topo.TopoError, "topo_new|point 4 is not in the box", lambda: tetrahedron([*POINTS[:3], (0, 0, 3e7)]))
     says("two corners", ValueError, "face 2 has 2 numbers", lambda: tetrahedron(faces=[FACES[0], (1, 2), *FACES[2:]]))
@@ -169,6 +170,8 @@ def one_thread():
         holds("goes on", again.vertices()[2] == (4.0, 0.0, 0.0) and again.counts()["next_vertex"] == 5)
     left.faces[0] = (left.faces[0][0], 1, 2**32 + 3, 2)
     says("a corner that was not left", ValueError, f"face 1 is {2**32 + 3}", lambda: topo.Tracker(left, library=LIBRARY))
+    left.vertices[2] = (3, 0, 2**31, 0)
+    says("a coordinate that was not left", ValueError, f"vertex 3 is {2**31}", lambda: topo.Tracker(left, library=LIBRARY))
 
 
 def arrays(numpy):

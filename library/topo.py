@@ -5,6 +5,7 @@
         surface.toward({3: (0.1, 0.2, 0.0)})
         print(surface.step(), surface.split(0.05))
         for event in surface.events(): ...
+        print(surface.ask("split", 3, 7), surface.star(7))
 
 Points, shifts and lengths are in the caller's unit, say metres; `unit` is the grid's in that, and `origin` is the point at grid 0 0 0. A coordinate
 is rounded to the nearest grid point, halves to even, so it lies at most half a unit off; `rounded` is the farthest that a coordinate of a point or of
@@ -134,6 +135,8 @@ def real(number, *what):
         found = float(number)
     except (TypeError, ValueError):
         raise TypeError(f"{named(what)} is {number!r}, and no number") from None
+    except OverflowError:
+        raise OverflowError(f"{named(what)} is beyond all floats") from None
     if not math.isfinite(found):
         raise ValueError(f"{named(what)} is {found}, and not finite")
     return found
@@ -221,7 +224,8 @@ class Tracker:
         self.must("topo_new", self.library.topo_new(*buffer_of(Point, rows), *buffer_of(Triangle, corners), ref(self.handle), ref(self.fault)))
 
     def go_on(self, left):
-        vertices = whole_rows("vertex", left.vertices, 4, -(2**31), WORD_MAX)
+        rows = [row_of(row, 4, "vertex", k) for k, row in enumerate(left.vertices, 1)]
+        vertices = with_ids(whole_rows("vertex", [row[:1] for row in rows], 1, 0, WORD_MAX), whole_rows("vertex", [row[1:] for row in rows], 3, -(2**31), 2**31 - 1))
         faces, solids = whole_rows("face", left.faces, 4, 0, WORD_MAX), whole_rows("solid vertex", [(v,) for v in left.solids], 1, 0, WORD_MAX)
         following = [u32(whole(v, 0, WORD_MAX, "a next id")) for v in (left.next_vertex, left.next_face)]
         lists = (*buffer_of(Vertex, vertices), *buffer_of(Face, faces), *buffer_of(u32, solids))
