@@ -7,9 +7,10 @@ ARCHIVE is the archive of the proved crate, in the place of a proof and build an
 The header and the examples have to compile as C99 and as C++17 with no warning, by each compiler that is there of gcc's and clang's. The logs that
 `example.cpp` and `example.py` write have to be the program's, byte for byte, and so have those of JOBS random jobs, 100 where that is left
 out, which `checks/library_steps.c` does through the library, and which also compares what calls tell as numbers with the lines.
-`checks/library_cases.c` compares codes, reasons and places of worked cases, where valgrind is there under that too. The droplets of
-`examples/library` have to write their frames. `checks/starving.c` refuses each allocation in turn, where the C library is glibc. Without `cc`
-and `c++` nothing is compiled, and that is said.
+`checks/library_cases.c` compares codes, reasons and places of worked cases, where valgrind is there under that too, and the files of that name
+in C++ and Python do so with the classes. The droplets of `examples/library` have to write their frames, and the log of its policy has to be
+measured. `checks/random_callers.py` is run for a fifth as many callers as JOBS. `checks/starving.c` refuses each allocation in turn, where the C
+library is glibc. Without `cc` and `c++` nothing is compiled, and that is said.
 """
 
 import concurrent.futures
@@ -40,10 +41,14 @@ def box(x, y, z, side, first):
     return corners, [(first + q[0], first + q[i], first + q[i + 1]) for q in sides for i in (1, 2)]
 
 
+def obj_of(points, faces):
+    return "".join("v %d %d %d\n" % p for p in points) + "".join("f %d %d %d\n" % f for f in faces)
+
+
 def boxes():
     """The mesh and the steps of `example.py`."""
     low, high = box(0, 0, 0, 1000, 1), box(100, 1300, 90, 800, 9)
-    mesh = "".join(f"v {x} {y} {z}\n" for x, y, z in low[0] + high[0]) + "".join(f"f {a} {b} {c}\n" for a, b, c in low[1] + high[1])
+    mesh = obj_of(low[0] + high[0], low[1] + high[1])
     fall = "".join(f"shift {v} 0 -100 0\n" for v in range(9, 17)) + "step\n"
     return mesh, 6 * fall + "split 600\n"
 
@@ -99,7 +104,7 @@ def log_of(program, mesh, steps, folder):
 def compiled(words, source, folder):
     """A compiled source, linked with the archive, or None where it has a warning."""
     made = os.path.join(folder, os.path.basename(source).replace(".", "_") + "_" + words[0])
-    ran = subprocess.run([*words, source, os.path.join(LIBRARY, "out/libtopo.a"), "-o", made])
+    ran = subprocess.run([*words, source, os.path.join(LIBRARY, "out/libtopo.a"), "-lm", "-o", made])
     return made if ran.returncode == 0 else None
 
 
@@ -144,7 +149,21 @@ def in_cpp(words, program, folder):
     status, told, messages = ran([compiled(words, os.path.join(LIBRARY, "example.cpp"), folder)])
     yield f"example.cpp by {words[0]} writes the program's log", status == 0 and told == log_of(program, MESH, STEPS, folder)
     yield "example.cpp tells what is refused", all(line in messages for line in TOLD)
+    status, told, _ = ran([compiled(words, os.path.join(ROOT, "checks/library_cases.cpp"), folder)])
+    yield f"the worked cases of the class by {words[0]}: {told.decode().strip()}", status == 0
     yield f"droplet.cpp by {words[0]}", framed([compiled(words, os.path.join(ROOT, "examples/library/droplet.cpp"), folder)], folder)
+
+
+def by_policy(words, program, folder):
+    """The example of a policy, whose log has to be measured."""
+    status, told, messages = ran([compiled(words, os.path.join(ROOT, "examples/library/policy.c"), folder)])
+    for name, text in (("box.obj", obj_of(*box(0, 0, 0, 400, 1)).encode()), ("log.txt", told)):
+        with open(os.path.join(folder, name), "wb") as out:
+            out.write(text)
+    measured = subprocess.run([program, "measure", "box.obj", "log.txt"], cwd=folder, stdout=subprocess.PIPE, timeout=60)
+    yield f"policy.c: {messages}", status == 0 and messages.startswith("18 edges were split, and ") and measured.returncode == 0
+    kept = told.count(b"close kept\n")
+    yield f"policy.c keeps splits and takes others back: {kept}", 0 < kept < 18 and kept + told.count(b"close undone\n") == 18
 
 
 def framed(words, folder):
@@ -162,6 +181,9 @@ def by_python(program, folder):
     status, told, messages = ran([sys.executable, os.path.join(LIBRARY, "example.py")])
     yield "example.py writes the program's log", status == 0 and told == log_of(program, *boxes(), folder)
     yield "example.py tells what is refused", "refused: 2 1 99999 0 0\n" in messages and "meets: 2 17 " in messages
+    status, told, messages = ran([sys.executable, os.path.join(ROOT, "checks/library_cases.py")])
+    print(f"topo.py: {told.decode().strip()}")
+    yield f"the worked cases of topo.py: {told.decode().strip()} {messages}", status == 0
     yield "droplet.py", framed([sys.executable, os.path.join(ROOT, "examples/library/droplet.py")], folder)
 
 
@@ -170,6 +192,10 @@ def by_drivers(words, program, jobs, folder):
     done, bad = random_jobs(compiled(words, os.path.join(ROOT, "checks/library_steps.c"), folder), program, jobs)
     print(f"{done} random jobs")
     yield f"of {jobs} random jobs {done} are done, and the logs of these are others: {bad}", done == jobs and not bad
+    callers = [sys.executable, os.path.join(ROOT, "checks/random_callers.py"), program, str(jobs // 5)]
+    told = subprocess.run(callers, stdout=subprocess.PIPE, stderr=subprocess.STDOUT)
+    print(told.stdout.decode().strip())
+    yield f"random callers: {told.stdout.decode().strip()}", told.returncode == 0
     if "CS_GNU_LIBC_VERSION" in os.confstr_names and "glibc" in (os.confstr("CS_GNU_LIBC_VERSION") or ""):
         status, told, messages = ran([compiled(words, os.path.join(ROOT, "checks/starving.c"), folder)])
         print(told.decode().strip())
@@ -189,7 +215,7 @@ def main():
     with tempfile.TemporaryDirectory() as folder:
         checks = [check for words in c for check in in_c(words, folder)]
         checks += [check for words in cpp for check in in_cpp(words, program, folder)]
-        checks += [*by_python(program, folder), *by_drivers(c[0], program, jobs, folder)]
+        checks += [*by_python(program, folder), *by_policy(c[0], program, folder), *by_drivers(c[0], program, jobs, folder)]
     failed = sum(not good for _, good in checks)
     for what, good in checks:
         if not good:

@@ -287,6 +287,215 @@ static void numbered(void)
     topo_free(&t);
 }
 
+/* one edit in the tracker, whose answer is kept */
+static struct topo_answered came;
+
+static uint32_t edit(uint32_t kind, uint32_t a, uint32_t b, uint32_t c, uint32_t d)
+{
+    const struct topo_asked asked = {kind, a, b, c, d};
+    size_t taken = 0;
+    const uint32_t code = topo_edit_each(&t, &asked, 1, &came, 1, &taken);
+    is("one edit is asked", (uint32_t)(code == TOPO_DONE ? taken == 1 : taken == 0), 1);
+    return code;
+}
+
+/* whether an edit is done, and these are the numbers and the place of its answer */
+static int done(uint32_t kind, uint32_t a, uint32_t b, uint32_t c, uint32_t d, uint32_t first, uint32_t second, int32_t x, int32_t y, int32_t z)
+{
+    const struct topo_answered wanted = {0, first, second, 0, x, y, z};
+    return edit(kind, a, b, c, d) == TOPO_DONE && memcmp(&came, &wanted, sizeof came) == 0;
+}
+
+/* whether an edit is not done for this reason, with this edge and face as its place */
+static int against(uint32_t kind, uint32_t a, uint32_t b, uint32_t c, uint32_t d, uint32_t why, uint32_t first, uint32_t second, uint32_t face)
+{
+    const struct topo_answered wanted = {why, first, second, face, 0, 0, 0};
+    return edit(kind, a, b, c, d) == TOPO_DONE && memcmp(&came, &wanted, sizeof came) == 0;
+}
+
+static void edits_of_a_tetrahedron(void)
+{
+    struct topo_event event[2];
+    is("a tetrahedron", topo_new(four, 4, sides, 4, &t, &fault), TOPO_DONE);
+    is("no vertex 9", (uint32_t)against(TOPO_SPLIT, 9, 1, 0, 0, TOPO_NO_EDGE, 0, 0, 0), 1);
+    is("its flip would make an edge that is there", (uint32_t)against(TOPO_FLIPPED, 1, 2, 0, 0, TOPO_EDGE, 0, 0, 0), 1);
+    is("its edges share vertices", (uint32_t)against(TOPO_ZIPPED, 1, 2, 3, 4, TOPO_SHARED, 0, 0, 0), 1);
+    is("its vertices have one fan", (uint32_t)against(TOPO_PINCHED, 4, 0, 0, 0, TOPO_ONE_FAN, 0, 0, 0), 1);
+    is("what was asked is told, the smaller end first",
+       (uint32_t)tells("no split 1 9 noedge\nno flip 1 2 edge\nno zip 1 2 3 4 shared\nno pinch 4 onefan\n"), 1);
+    is("three splits, of ends in either order", (uint32_t)(done(TOPO_SPLIT, 3, 2, 0, 0, 5, 0, 20, 20, 0) && done(TOPO_SPLIT, 2, 4, 0, 0, 6, 0, 20, 0, 20) && done(TOPO_SPLIT, 4, 3, 0, 0, 7, 0, 0, 20, 20)), 1);
+    is("a flip that would go through a face", (uint32_t)against(TOPO_FLIPPED, 1, 4, 0, 0, TOPO_HIT, 1, 8, 11), 1);
+    is("a flip", (uint32_t)done(TOPO_FLIPPED, 5, 4, 0, 0, 0, 0, 0, 0, 0), 1);
+    is("their lines", (uint32_t)tells("split 2 3 5 20 20 0\nsplit 2 4 6 20 0 20\nsplit 3 4 7 0 20 20\nno flip 1 4 hit 1 8 11\nflip 4 5\n"), 1);
+    is("a collapse", (uint32_t)done(TOPO_COLLAPSED, 5, 2, 0, 0, 2, 0, 30, 10, 0), 1);
+    is("a tetrahedron again", topo_new(four, 4, sides, 4, &t, &fault), TOPO_DONE);
+    is("a split", (uint32_t)done(TOPO_SPLIT, 1, 2, 0, 0, 5, 0, 20, 0, 0), 1);
+    is("vertex 5 is solid", topo_solid(&t, 5, &fault), TOPO_DONE);
+    is("a collapse to the solid end", (uint32_t)done(TOPO_COLLAPSED, 1, 5, 0, 0, 1, 0, 20, 0, 0), 1);
+    is("which is solid under the other id", topo_solids(&t, solids, 16, &solid_count), TOPO_DONE);
+    is("and no other is", (uint32_t)(solid_count == 1 && solids[0] == 1), 1);
+    is("vertex 4 is solid", topo_solid(&t, 4, &fault), TOPO_DONE);
+    is("both ends are solid", (uint32_t)against(TOPO_COLLAPSED, 4, 1, 0, 0, TOPO_MOVES_SOLID, 0, 0, 0), 1);
+    is("their events", topo_forget(&t), TOPO_DONE);
+    is("a collapse that leaves nothing", (uint32_t)done(TOPO_COLLAPSED, 2, 3, 0, 0, 2, 0, 20, 20, 0), 1);
+    is("but for no vertex", topo_counts(&t, &counted), TOPO_DONE);
+    is("and no face", (uint32_t)(counted.vertices == 0 && counted.faces == 0), 1);
+    is("is one event", topo_events(&t, event, 2, &size), TOPO_DONE);
+    is("of its two ends", (uint32_t)(size == 1 && event[0].kind == TOPO_COLLAPSED && event[0].a == 2 && event[0].b == 3), 1);
+    topo_free(&t);
+}
+
+static void edits_of_two_bodies(void)
+{
+    static const struct topo_point tunnel[] = {{0, 0, 0}, {0, 12, 0}, {0, 0, 12}, {-12, 0, 0}, {8, 2, 2}, {12, 2, 2}, {12, 6, 2}, {14, 2, 6}};
+    static const struct topo_triangle both[] = {{1, 2, 3}, {2, 1, 4}, {3, 2, 4}, {1, 3, 4}, {6, 7, 8}, {7, 6, 5}, {8, 7, 5}, {6, 8, 5}};
+    static const struct topo_point hourglass[] = {{0, 0, 0}, {8, 0, 16}, {-4, 7, 16}, {-4, -7, 16}, {8, 0, -16}, {-4, 7, -16}, {-4, -7, -16}};
+    static const struct topo_triangle halves[] = {{1, 3, 2}, {1, 4, 3}, {1, 2, 4}, {2, 3, 4}, {1, 5, 6}, {1, 6, 7}, {1, 7, 5}, {5, 7, 6}};
+    /* two tetrahedra with one edge in common, and a third between a corner of each */
+    static const struct topo_point three[] = {{0, 0, 0}, {0, 0, 40}, {40, 0, 20}, {8, 4, 20}, {0, 40, 20}, {-10, 20, 20}, {40, 40, 10}, {40, 40, 30}};
+    static const struct topo_triangle twelve[] = {{1, 3, 2}, {2, 3, 4}, {1, 2, 4}, {3, 1, 4}, {1, 5, 2}, {2, 5, 6}, {1, 2, 6}, {5, 1, 6}, {3, 5, 7}, {5, 3, 8}, {3, 7, 8}, {7, 5, 8}};
+    is("two tetrahedra", topo_new(tunnel, 8, both, 8, &t, &fault), TOPO_DONE);
+    is("a tunnel that would go through a face", (uint32_t)against(TOPO_ZIPPED, 1, 2, 5, 6, TOPO_HIT, 1, 7, 9), 1);
+    is("a tunnel, in the last of its turns", (uint32_t)done(TOPO_ZIPPED, 3, 1, 6, 5, 0, 3, 0, 0, 0), 1);
+    is("told", (uint32_t)tells("no zip 1 2 5 6 hit 1 7 9\nzip 1 3 5 6 3\n"), 1);
+    is("an hourglass", topo_new(hourglass, 7, halves, 8, &t, &fault), TOPO_DONE);
+    is("is pinched, with one copy", (uint32_t)done(TOPO_PINCHED, 1, 0, 0, 0, 8, 1, 0, 0, 2), 1);
+    is("told", (uint32_t)tells("pinch 1 0 0 2 8 0 0 -2\n"), 1);
+    is("an hourglass again", topo_new(hourglass, 7, halves, 8, &t, &fault), TOPO_DONE);
+    is("whose middle is solid", topo_solid(&t, 1, &fault), TOPO_DONE);
+    is("is not pinched", (uint32_t)against(TOPO_PINCHED, 1, 0, 0, 0, TOPO_MOVES_SOLID, 0, 0, 0), 1);
+    is("three tetrahedra", topo_new(three, 8, twelve, 12, &t, &fault), TOPO_DONE);
+    is("a crowded edge is not split", (uint32_t)against(TOPO_SPLIT, 1, 2, 0, 0, TOPO_CROWDED, 0, 0, 0), 1);
+    is("nor flipped", (uint32_t)against(TOPO_FLIPPED, 2, 1, 0, 0, TOPO_CROWDED, 0, 0, 0), 1);
+    is("nor zipped", (uint32_t)against(TOPO_ZIPPED, 1, 2, 7, 8, TOPO_CROWDED, 0, 0, 0), 1);
+    is("two faces would be one", (uint32_t)against(TOPO_COLLAPSED, 3, 5, 0, 0, TOPO_EQUAL, 0, 0, 0), 1);
+    is("until the crowded edge is gone", (uint32_t)(done(TOPO_COLLAPSED, 1, 2, 0, 0, 1, 0, 0, 0, 20) && done(TOPO_COLLAPSED, 5, 3, 0, 0, 3, 0, 20, 20, 20)), 1);
+    is("the two are told", (uint32_t)tells("no split 1 2 crowded\nno flip 1 2 crowded\nno zip 1 2 7 8 crowded\nno collapse 3 5 doubled\ncollapse 1 2 0 0 20\ncollapse 3 5 20 20 20\n"), 1);
+    topo_free(&t);
+}
+
+/* whether the tracker answers this to a row, and tells nothing */
+static void none_asked(const char *what, uint32_t kind, uint32_t a, uint32_t b, uint32_t c, uint32_t d)
+{
+    struct topo_counted before;
+    is("its numbers", topo_counts(&t, &before), TOPO_DONE);
+    is(what, edit(kind, a, b, c, d), TOPO_RANGE);
+    is("its numbers", topo_counts(&t, &counted), TOPO_DONE);
+    is("are as before", (uint32_t)(memcmp(&before, &counted, sizeof counted) == 0), 1);
+}
+
+static void edits_that_are_none(void)
+{
+    static const struct topo_asked two[] = {{TOPO_SPLIT, 2, 3, 0, 0}, {TOPO_SPLIT, 2, 2, 0, 0}};
+    struct topo_answered answers[3];
+    const struct topo_answered untouched = {77, 77, 77, 77, 77, 77, 77};
+    size_t taken = 77;
+    uint32_t i;
+    static const uint32_t kinds[] = {0, TOPO_MOVED, TOPO_MADE_SOLID, TOPO_GROUP_UNDONE, 4294967295u};
+    is("no tracker", edit(TOPO_SPLIT, 1, 2, 0, 0), TOPO_EMPTY);
+    is("nor by a row that is none", edit(99, 0, 0, 0, 0), TOPO_EMPTY);
+    is("a tetrahedron", topo_new(four, 4, sides, 4, &t, &fault), TOPO_DONE);
+    for (i = 0; i < 5; ++i)
+        none_asked("a kind that is none", kinds[i], 1, 2, 3, 4);
+    for (i = TOPO_SPLIT; i <= TOPO_ZIPPED; ++i) {
+        none_asked("one end twice", i, 2, 2, 3, 4);
+        none_asked("an end 0", i, 0, 2, 3, 4);
+        none_asked("the other end 0", i, 2, 0, 3, 4);
+        none_asked("an end above 2^31", i, 2147483649u, 2, 3, 4);
+        none_asked("an end of 2^32 - 1", i, 2, 4294967295u, 3, 4);
+    }
+    none_asked("the second edge with one end twice", TOPO_ZIPPED, 1, 2, 3, 3);
+    none_asked("the second edge with an end 0", TOPO_ZIPPED, 1, 2, 3, 0);
+    none_asked("the second edge with an end above 2^31", TOPO_ZIPPED, 1, 2, 2147483649u, 3);
+    none_asked("a vertex 0", TOPO_PINCHED, 0, 1, 1, 1);
+    none_asked("a vertex above 2^31", TOPO_PINCHED, 2147483649u, 1, 1, 1);
+    is("a vertex of 2^31 may be asked", edit(TOPO_PINCHED, 2147483648u, 0, 0, 0), TOPO_DONE);
+    for (i = 0; i < 3; ++i)
+        answers[i] = untouched;
+    is("the second row is none", topo_edit_each(&t, two, 2, answers, 3, &taken), TOPO_RANGE);
+    is("room for no answer", topo_edit_each(&t, two, 1, 0, 0, &taken), TOPO_RANGE);
+    is("room for one of two", topo_edit_each(&t, two, 2, answers, 1, &taken), TOPO_RANGE);
+    is("nothing is told", (uint32_t)(taken == 77 && memcmp(&answers[0], &untouched, sizeof untouched) == 0), 1);
+    is("no edit and no room", topo_edit_each(&t, 0, 0, 0, 0, &taken), TOPO_DONE);
+    is("is none", (uint32_t)taken, 0);
+    is("more room than edits", topo_edit_each(&t, two, 1, answers, 3, &taken), TOPO_DONE);
+    is("is left as it was", (uint32_t)(taken == 1 && answers[0].a == 5 && memcmp(&answers[1], &untouched, sizeof untouched) == 0), 1);
+    topo_free(&t);
+}
+
+/* an id beyond which there is none */
+static void edits_at_the_limit(void)
+{
+    rows_of_four(), counted.next_vertex = 2147483649u;
+    is("no further vertex", again(), TOPO_DONE);
+    is("no split", (uint32_t)against(TOPO_SPLIT, 2, 4, 0, 0, TOPO_FULL, 0, 0, 0), 1);
+    is("it is told", (uint32_t)tells("no split 2 4 full\n"), 1);
+    topo_free(&t);
+}
+
+static void groups_taken_back(void)
+{
+    static const struct topo_asked three[] = {{TOPO_SPLIT, 2, 3, 0, 0}, {TOPO_FLIPPED, 1, 2, 0, 0}, {TOPO_SPLIT, 2, 4, 0, 0}};
+    struct topo_answered answers[3];
+    struct topo_counted before;
+    uint32_t became = 77;
+    size_t taken = 77;
+    is("no tracker", topo_undo(&t, &became), TOPO_EMPTY);
+    is("tells nothing", became, 77);
+    is("a tetrahedron", topo_new(four, 4, sides, 4, &t, &fault), TOPO_DONE);
+    is("no group is open", topo_undo(&t, &became), TOPO_DONE);
+    is("and that is told", became, TOPO_NO_GROUP);
+    is("it tells no line", (uint32_t)tells(""), 1);
+    is("outside a group all are asked", topo_edit_each(&t, three, 3, answers, 3, &taken), TOPO_DONE);
+    is("and two are done", (uint32_t)(taken == 3 && answers[0].why == 0 && answers[1].why == TOPO_EDGE && answers[2].why == 0), 1);
+    is("its numbers", topo_counts(&t, &before), TOPO_DONE);
+    is("a group", topo_open(&t, &fault), TOPO_DONE);
+    is("a group in it", topo_open(&t, &fault), TOPO_DONE);
+    is("in which the first refused", edit(TOPO_FLIPPED, 1, 2, 0, 0), TOPO_DONE);
+    is("does not end the next list", (uint32_t)done(TOPO_SPLIT, 3, 4, 0, 0, 7, 0, 0, 20, 20), 1);
+    is("but its own", topo_edit_each(&t, three + 1, 2, answers, 3, &taken), TOPO_DONE);
+    is("of one", (uint32_t)taken, 1);
+    is("the inner group", topo_undo(&t, &became), TOPO_DONE);
+    is("is taken back", became, TOPO_TAKEN_BACK);
+    is("the outer group is whole, with an edit", (uint32_t)done(TOPO_SPLIT, 3, 4, 0, 0, 7, 0, 0, 20, 20), 1);
+    is("it may be taken back all the same", topo_undo(&t, &became), TOPO_DONE);
+    is("as it is", became, TOPO_TAKEN_BACK);
+    is("its numbers", topo_counts(&t, &counted), TOPO_DONE);
+    is("are as before", (uint32_t)(before.vertices == counted.vertices && before.faces == counted.faces && before.next_vertex == counted.next_vertex && before.next_face == counted.next_face), 1);
+    is("and its lines", (uint32_t)tells("split 2 3 5 20 20 0\nno flip 1 2 edge\nsplit 2 4 6 20 0 20\ngroup\ngroup\nno flip 1 2 edge\nsplit 3 4 7 0 20 20\nno flip 1 2 edge\nclose undone\nsplit 3 4 7 0 20 20\nclose undone\n"), 1);
+    topo_free(&t);
+}
+
+static void stars(void)
+{
+    struct topo_face row[4];
+    const struct topo_face untouched = {77, 77, 77, 77};
+    uint32_t i;
+    size = 77;
+    for (i = 0; i < 4; ++i)
+        row[i] = untouched;
+    is("no tracker", topo_star(&t, 1, row, 4, &size), TOPO_EMPTY);
+    is("nor an edge", topo_beside(&t, 1, 2, row, 4, &size), TOPO_EMPTY);
+    is("tells no size", (uint32_t)size, 77);
+    is("a tetrahedron", topo_new(four, 4, sides, 4, &t, &fault), TOPO_DONE);
+    is("room for two", topo_star(&t, 1, row, 2, &size), TOPO_RANGE);
+    is("of three, which is told", (uint32_t)(size == 3 && memcmp(&row[0], &untouched, sizeof untouched) == 0), 1);
+    is("the faces at vertex 1", topo_star(&t, 1, row, 4, &size), TOPO_DONE);
+    is("are three, by rising id", (uint32_t)(size == 3 && row[0].id == 1 && row[1].id == 2 && row[2].id == 4 && memcmp(&row[3], &untouched, sizeof untouched) == 0), 1);
+    is("with their corners", (uint32_t)(row[0].a == 1 && row[0].b == 3 && row[0].c == 2), 1);
+    is("no room beside an edge", topo_beside(&t, 1, 2, 0, 0, &size), TOPO_RANGE);
+    is("has two", (uint32_t)size, 2);
+    is("the faces beside an edge", topo_beside(&t, 3, 1, row, 4, &size), TOPO_DONE);
+    is("are two, by rising id", (uint32_t)(size == 2 && row[0].id == 1 && row[1].id == 4), 1);
+    is("a vertex that does not live", topo_star(&t, 9, 0, 0, &size), TOPO_DONE);
+    is("has none", (uint32_t)size, 0);
+    is("nor has one that is no id", (uint32_t)(topo_star(&t, 0, 0, 0, &size) == TOPO_DONE && size == 0 && topo_star(&t, 4294967295u, 0, 0, &size) == TOPO_DONE && size == 0), 1);
+    is("nor an edge that is none", (uint32_t)(topo_beside(&t, 1, 9, 0, 0, &size) == TOPO_DONE && size == 0 && topo_beside(&t, 0, 4294967295u, 0, 0, &size) == TOPO_DONE && size == 0), 1);
+    is("with one end twice it has the faces at that", topo_beside(&t, 1, 1, row, 4, &size), TOPO_DONE);
+    is("which are three", (uint32_t)size, 3);
+    topo_free(&t);
+}
+
 static void alone(void)
 {
     /* an edge through the middle of a triangle, and beside it */
@@ -320,6 +529,12 @@ int main(void)
     passes();
     left();
     numbered();
+    edits_of_a_tetrahedron();
+    edits_of_two_bodies();
+    edits_that_are_none();
+    edits_at_the_limit();
+    groups_taken_back();
+    stars();
     alone();
     printf("%d hold, %d do not\n", held, failed);
     return failed != 0;

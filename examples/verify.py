@@ -12,7 +12,7 @@ import re
 import sys
 from collections import Counter
 from fractions import Fraction
-from itertools import chain, product
+from itertools import chain, product, takewhile
 
 class Refused(Exception): pass
 
@@ -207,16 +207,41 @@ EDITS = {"split": (split_or_flip, 2, "along"), "flip": (split_or_flip, 2, "along
 
 # ---- Texts
 
-def read_mesh(lines, decimals):
+# a coordinate, a corner of a face, and the first words of lines of a mesh that are not read
+DECIMAL = re.compile(r"[+-]?([0-9]+\.?[0-9]*|\.[0-9]+)([eE][+-]?[0-9]{1,3})?")
+CORNER = re.compile(r"(-?[0-9]{1,10})(/-?[0-9]{1,10}|/(-?[0-9]{1,10})?/-?[0-9]{1,10})?")
+UNREAD = {"vn", "vt", "vp", "o", "g", "s", "usemtl", "mtllib"}
+
+def grid_number(at, word, decimals):
+    """A decimal word times a power of ten, rounded to the nearest whole number, halves away from zero."""
+    need(len(word) <= 64 and DECIMAL.fullmatch(word), f"{at}: no coordinate: {word}")
+    value = Fraction(word) * 10**decimals
+    return int(value + Fraction(1, 2)) if value > 0 else int(value - Fraction(1, 2))
+
+def vertex_of(at, word, read):
+    """The number of the vertex that a corner names, which counts from the last of those read where it is negative."""
+    found = CORNER.fullmatch(word)
+    need(found, f"{at}: no corner: {word}")
+    v = int(found[1])
+    return v + read + 1 if v < 0 else v
+
+def read_mesh(text, decimals):
     points, faces = [], []
-    for kind, *words in (line.split("#")[0].split() or ["g"] for line in lines):
+    for number, line in enumerate(text.replace("\r\n", "\n").split("\n"), 1):
+        at = f"line {number} of the mesh"
+        need(not line.endswith("\\"), f"{at} goes on")
+        kind, *words = [*takewhile(lambda word: word[0] != "#", filter(None, re.split("[ \t]", line)))] or ["g"]
         if kind == "v":
-            values = [Fraction(word) * 10**decimals for word in words[:3]]
-            points.append(tuple(int(x + Fraction(1, 2)) if x > 0 else int(x - Fraction(1, 2)) for x in values))
-        if kind == "f":
-            ids = [v + len(points) + 1 if v < 0 else v for v in (int(word.split("/")[0]) for word in words)]
+            need(3 <= len(words) <= 7, f"{at}: {len(words)} words")
+            points.append(tuple(grid_number(at, word, decimals) for word in words[:3]))
+        elif kind == "f":
+            need(len(words) >= 3, f"{at}: {len(words)} corners")
+            ids = [vertex_of(at, word, len(points)) for word in words]
             faces += zip(ids[:1] * (len(ids) - 2), ids[1:], ids[2:])
-    need(all(len(p) == 3 and max(map(abs, p)) <= 2**28 for p in points), "a point is outside the box")
+        else:
+            need(kind in UNREAD, f"{at}: {kind}")
+    need(len(points) <= 65536 and len(faces) <= 131072, "the mesh is too large")
+    need(all(max(map(abs, p)) <= 2**28 for p in points), "a point is outside the box")
     need(all(len({*c}) == 3 and 0 < min(c) and max(c) <= len(points) for c in faces), "a corner is no vertex, or is there twice")
     runs = Counter(chain(*map(sides, faces)))
     need(all(runs[b, a] == runs[a, b] for a, b in [*runs]), "the mesh is not closed")
@@ -296,8 +321,8 @@ def replay(mesh, lines, motions):
 def verify(mesh, log, proof, decimals=0):
     """How many motions of the log the proof certifies, or Refused. The texts are given as bytes."""
     need(max(map(len, (mesh, log, proof))) <= 2**26, "a text is too long")
-    mesh, log, proof = (text.decode("latin-1").split("\n") for text in (mesh, log, proof))
-    mesh, motions = read_mesh(mesh, decimals), read_proof(proof)
+    mesh, log, proof = (text.decode("latin-1") for text in (mesh, log, proof))
+    mesh, log, motions = read_mesh(mesh, decimals), log.split("\n"), read_proof(proof.split("\n"))
     count = len(motions)
     need_clear(mesh, mesh.faces)
     replay(mesh, log, motions)
@@ -314,7 +339,7 @@ def main():
         texts = [open(name, "rb").read() for name in (words.mesh, words.log, words.proof)]
         print("verified", verify(*texts, words.decimals))
     except (Refused, OSError, ValueError) as why:
-        print("refused", why)
+        print("refused", ascii(str(why))[1:-1])
         sys.exit(1)
 
 if __name__ == "__main__":

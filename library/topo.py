@@ -5,14 +5,22 @@
         surface.toward({3: (0.1, 0.2, 0.0)})
         print(surface.step(), surface.split(0.05))
         for event in surface.events(): ...
+        print(surface.ask("split", 3, 7), surface.star(7))
 
 Points, shifts and lengths are in the caller's unit, say metres; `unit` is the grid's in that, and `origin` is the point at grid 0 0 0. A coordinate
-is rounded to the nearest grid point, halves to even, so it lies at most half a unit off; `rounded` is the farthest that one was moved so far. Rows are read
-as numpy arrays where numpy is there, and else as memoryviews (`rows.tolist()` serves both).
+is rounded to the nearest grid point, halves to even, so it lies at most half a unit off; `rounded` is the farthest that a coordinate of a point or of
+a shift was moved so far (a length is rounded too, and not counted). Columns of points and ids may be numpy's arrays, and rows are read as such, where
+numpy is there; else rows are lists of tuples (`rows.tolist()` serves both). A call that the library does not do is a TopoError, and what is no number of
+its range is refused before as a TypeError, a ValueError or an OverflowError: each says why, and where. A tracker is called on the thread that made it
+alone, and elsewhere a RuntimeError.
 """
 
+import collections
 import ctypes
+import math
+import operator
 import os
+import threading
 
 try:
     import numpy
@@ -24,6 +32,39 @@ DONE, NO_MEMORY, REFUSED, RANGE, EMPTY, STOPPED, SPENT, UNREAD = range(8)
 WAYS = ("whole", "impulse", "zones", "halved", "zero")
 GROUPS = ("none", "kept", "taken back")
 EVENTS = ("", "moved", "split", "flipped", "collapsed", "zipped", "pinched", "solid", "opened", "kept", "undone")
+# the edits by ids with their numbers and how many ids they have, and why one is not done, in the words of the log
+EDITS = {"split": (2, 2), "flip": (3, 2), "collapse": (4, 2), "zip": (5, 4), "pinch": (6, 1)}
+AGAINST = ("", "noedge", "crowded", "edge", "shared", "full", "doubled", "onefan", "hit", "solid")
+SETTINGS = {"depth": 10, "passes": 100, "zones": 1, "halvings": 27}
+ID_MAX, SHIFT_MAX, LENGTH_MAX, WORD_MAX = 2**31, 2**29, 2**30, 2**32 - 1
+
+CODES = {
+    NO_MEMORY: "there was no memory",
+    RANGE: "an argument is beyond its limit",
+    EMPTY: "there is no tracker, or it was freed",
+    STOPPED: "an earlier directive had no memory: the tracker can be read and freed, no more",
+    SPENT: "2^32 - 1 steps were taken",
+    UNREAD: "what was told is not read as lines, or is too long",
+}
+REASONS = {
+    1: "no live vertex has the id {a}",
+    2: "a component of the summed shift of vertex {a} is above 2^29",
+    3: "vertex {a} would leave the box",
+    5: "vertex {a} is solid",
+    10: "point {a} is not in the box",
+    11: "{a} vertices are too many",
+    12: "{a} faces are too many",
+    13: "face {a}: its corner {b} is no vertex",
+    14: "face {a} has a corner twice",
+    15: "faces {a} and {b} are equal",
+    16: "the faces do not run as often from vertex {a} to vertex {b} as back: the surface is not closed",
+    17: "the edge from {a} to {b} meets the face {c}",
+    18: "the id of the next vertex, {a}, is 0 or above 2^31 + 1",
+    19: "the id of the next face, {a}, is 0 or above 2^31 + 1",
+    20: "the id of the vertex at place {a} is 0, or not above the one before, or not below that of the next vertex",
+    21: "the id of the face at place {a} is 0, or not above the one before, or not below that of the next face",
+    22: "vertex {a}, which is to be solid, does not live, or is not above the one before",
+}
 
 
 def struct(name, **fields):
@@ -40,10 +81,129 @@ Way = struct("Way", how_times=u32, hits=size_t)
 Edits = struct("Edits", done_refused=ctypes.c_uint64)
 Counted = type("Counted", (ctypes.Structure,), {"_fields_": [("log", size_t)] + [(word, u32) for word in ("vertices", "faces", "next_vertex", "next_face", "steps")]})
 Event = struct("Event", kind_a_b_c_d=u32, x_y_z=i32)
+Asked = struct("Asked", kind_a_b_c_d=u32)
+Answered = struct("Answered", why_a_b_c=u32, x_y_z=i32)
+
+CALLS = ("topo_new topo_new_numbered topo_free topo_shift_each topo_shift_all topo_set topo_step topo_split topo_collapse topo_flip topo_zip topo_pinch topo_fit topo_edit_each "
+         "topo_solid topo_open topo_close topo_undo topo_counts topo_points topo_faces topo_star topo_beside topo_solids topo_events topo_log topo_forget topo_version").split()
+
+Answer = collections.namedtuple("Answer", "why a b c at")
+Answer.__doc__ = """What came of an edit: `why` is "" where it is done, and else a word of AGAINST. Of a split, a is the new vertex, of a collapse the vertex that is left, if
+one is, and of a pinch the first copy of b, whose ids rise by one; b of a zip is one of four turns; a, b and c of a hit are the edge and the face. `at` is
+where the vertex stands of which a split, a collapse or a pinch tells, and else None."""
 
 
 class TopoError(Exception):
-    """A call that is not done: its name, its code, and the reason and the place of a refusal."""
+    """A call that is not done: the name of the call, its code, and of a refusal the reason and the place, as topo.h has them; as a text, all that in words."""
+
+    def __init__(self, call, code, why=0, a=0, b=0, c=0):
+        super().__init__(call, code, why, a, b, c)
+        self.call, self.code, self.why, self.place = call, code, why, (a, b, c)
+
+    def __str__(self):
+        a, b, c = self.place
+        words = REASONS.get(self.why, "reason %d, at {a} {b} {c}" % self.why) if self.code == REFUSED else CODES.get(self.code, f"code {self.code}")
+        return f"{self.call}: {words.format(a=a, b=b, c=c)}"
+
+
+def load(path):
+    """The library at a path, which has the calls that are called here."""
+    library = ctypes.CDLL(path)
+    lacking = [name for name in CALLS if not hasattr(library, name)]
+    if lacking or library.topo_version() != 2:
+        raise ImportError(f"{path} is the library of another topo.h: it has no {', '.join(lacking)}" if lacking else f"{path} has another version of the log than 2")
+    return library
+
+
+# ---- numbers that the library takes; the last words of each call say what is looked at, and where
+
+
+def whole(number, low, high, *what):
+    """A whole number from low to high."""
+    try:
+        found = operator.index(number)
+    except TypeError:
+        raise TypeError(f"{named(what)} is {number!r}, and no whole number") from None
+    if not low <= found <= high:
+        raise ValueError(f"{named(what)} is {found}, and not from {low} to {high}")
+    return found
+
+
+def real(number, *what):
+    """A finite number."""
+    try:
+        found = float(number)
+    except (TypeError, ValueError):
+        raise TypeError(f"{named(what)} is {number!r}, and no number") from None
+    except OverflowError:
+        raise OverflowError(f"{named(what)} is beyond all floats") from None
+    if not math.isfinite(found):
+        raise ValueError(f"{named(what)} is {found}, and not finite")
+    return found
+
+
+def row_of(row, width, *what):
+    """A row as a tuple, which has this width."""
+    try:
+        row = tuple(row)
+    except TypeError:
+        raise TypeError(f"{named(what)} is {row!r}, and no row of numbers") from None
+    if len(row) != width:
+        raise ValueError(f"{named(what)} has {len(row)} numbers, and not {width}")
+    return row
+
+
+def named(what):
+    return " ".join(map(str, what))
+
+
+def whole_table(rows, width, low, high):
+    """Rows as a table of numpy's, where numpy is there and they are a table of whole numbers in this range; and else None."""
+    if numpy is None:
+        return None
+    try:
+        table = numpy.asarray(rows)
+    except (TypeError, ValueError, OverflowError):
+        return None
+    if table.dtype.kind not in "iu" or table.ndim != 2 or table.shape[1] != width or table.size == 0:
+        return None
+    return table.astype(numpy.int64) if low <= int(table.min()) and int(table.max()) <= high else None
+
+
+def whole_rows(what, rows, width, low, high):
+    """Rows of whole numbers from low to high: a table of numpy's, or a list of tuples."""
+    table = whole_table(rows, width, low, high)
+    if table is not None:
+        return table
+    rows = [tuple([whole(n, low, high, "a number of", what, k) for n in row_of(row, width, what, k)]) for k, row in enumerate(rows, 1)]
+    return rows if numpy is None else numpy.array(rows, numpy.int64).reshape(-1, width)
+
+
+def with_ids(ids, rows):
+    """Rows of whole numbers, each behind its id."""
+    return [(v, *row) for (v,), row in zip(ids, rows)] if numpy is None else numpy.hstack([ids, rows])
+
+
+def buffer_of(kind, rows):
+    """Rows of whole numbers as an array of structures, or of numbers, of 32 bits each, and how many they are."""
+    if numpy is None or len(rows) == 0:
+        rows = [row if issubclass(kind, ctypes.Structure) else row[0] for row in rows]
+        return (kind * len(rows))(*rows), size_t(len(rows))
+    # negative numbers keep their 32 bits
+    return (kind * len(rows)).from_buffer(rows.astype(numpy.uint32, order="C")), size_t(len(rows))
+
+
+def edit_row(k, row):
+    """The five numbers of an edit that is asked for by a word of EDITS and its ids."""
+    word, *ids = row
+    if word not in EDITS:
+        raise ValueError(f"edit {k} is {word!r}, which is none of {', '.join(EDITS)}")
+    kind, width = EDITS[word]
+    ids = [whole(v, 1, ID_MAX, "an id of edit", k) for v in row_of(ids, width, "edit", k, "behind the word", word)]
+    for a, b in zip(ids[::2], ids[1::2]):
+        if a == b:
+            raise ValueError(f"edit {k}: both ends of an edge are {a}")
+    return (kind, *ids, *(0,) * (4 - width))
 
 
 class Tracker:
@@ -51,19 +211,25 @@ class Tracker:
     `leave` told of another, which goes on with its ids. Freed at the end of a `with` block, or by `free`."""
 
     def __init__(self, points, faces=(), unit=1.0, origin=(0.0, 0.0, 0.0), library=None):
-        beside = os.path.join(os.path.dirname(os.path.abspath(__file__)), "out/libtopo.so")
-        self.library = ctypes.CDLL(library or os.environ.get("TOPO_LIBRARY", beside))
+        path = os.path.join(os.path.dirname(os.path.abspath(__file__)), "out/libtopo.so")
+        self.library, self.thread = load(library or os.environ.get("TOPO_LIBRARY", path)), threading.get_ident()
         self.handle, self.fault, self.way, self.edits, self.kept = Handle(), Fault(), Way(), Edits(), u32()
-        self.unit, self.origin, self.rounded = unit, origin, 0.0
+        self.unit, self.origin, self.rounded = real(unit, "the unit"), tuple(real(c, "the origin") for c in row_of(origin, 3, "the origin")), 0.0
+        if not self.unit > 0:
+            raise ValueError(f"the unit is {unit}, and not above zero")
         if isinstance(points, Left):
-            rows, left = (Vertex * len(points.vertices))(*points.vertices), points
-            triangles, solids = (Face * len(left.faces))(*left.faces), (u32 * len(left.solids))(*left.solids)
-            lists = (part for rows in (rows, triangles, solids) for part in (rows, size_t(len(rows))))
-            self.must("topo_new_numbered", self.library.topo_new_numbered(*lists, u32(left.next_vertex), u32(left.next_face), ref(self.handle), ref(self.fault)))
+            self.go_on(points)
             return
-        rows = (Point * len(points))(*(self.to_grid(p) for p in points))
-        triangles = (Triangle * len(faces))(*(tuple(map(int, f)) for f in faces))
-        self.must("topo_new", self.library.topo_new(rows, size_t(len(rows)), triangles, size_t(len(triangles)), ref(self.handle), ref(self.fault)))
+        rows, corners = self.grid_rows("point", points, self.origin), whole_rows("face", faces, 3, 0, WORD_MAX)
+        self.must("topo_new", self.library.topo_new(*buffer_of(Point, rows), *buffer_of(Triangle, corners), ref(self.handle), ref(self.fault)))
+
+    def go_on(self, left):
+        rows = [row_of(row, 4, "vertex", k) for k, row in enumerate(left.vertices, 1)]
+        vertices = with_ids(whole_rows("vertex", [row[:1] for row in rows], 1, 0, WORD_MAX), whole_rows("vertex", [row[1:] for row in rows], 3, -(2**31), 2**31 - 1))
+        faces, solids = whole_rows("face", left.faces, 4, 0, WORD_MAX), whole_rows("solid vertex", [(v,) for v in left.solids], 1, 0, WORD_MAX)
+        following = [u32(whole(v, 0, WORD_MAX, "a next id")) for v in (left.next_vertex, left.next_face)]
+        lists = (*buffer_of(Vertex, vertices), *buffer_of(Face, faces), *buffer_of(u32, solids))
+        self.must("topo_new_numbered", self.library.topo_new_numbered(*lists, *following, ref(self.handle), ref(self.fault)))
 
     def __enter__(self):
         return self
@@ -72,57 +238,118 @@ class Tracker:
         self.free()
 
     def free(self):
-        self.library.topo_free(ref(self.handle))
+        self.code("topo_free")
 
     def must(self, call, code):
         if code != DONE:
             fault = self.fault if code == REFUSED else Fault()
             raise TopoError(call, code, fault.why, fault.a, fault.b, fault.c)
 
+    def code(self, name, *words):
+        """What a call answers, which is made on the tracker's thread alone."""
+        if threading.get_ident() != self.thread:
+            raise RuntimeError(f"{name}: a tracker is called on the thread that made it alone")
+        return getattr(self.library, name)(ref(self.handle), *words)
+
     def call(self, name, *words):
-        self.must(name, getattr(self.library, name)(ref(self.handle), *words))
+        self.must(name, self.code(name, *words))
 
     # -- between the caller's unit and the grid's
 
-    def units(self, length):
-        near = round(length / self.unit)
-        if abs(near) > 2**30:
-            raise OverflowError("farther from the origin than the grid goes")
+    def nearest(self, length, *what):
+        exact = length / self.unit
+        near = round(exact) if abs(exact) < 2 * LENGTH_MAX else 2 * LENGTH_MAX
+        if abs(near) > LENGTH_MAX:
+            raise OverflowError(f"{named(what)} is {length}, which is more than 2^30 units of the grid")
+        return near
+
+    def units(self, length, *what):
+        what = what or ("a coordinate",)
+        length = real(length, *what)
+        near = self.nearest(length, *what)
         self.rounded = max(self.rounded, abs(near * self.unit - length))
         return near
 
     def length(self, length):
-        if not length >= 0:
-            raise OverflowError("a length below zero")
-        return u32(self.units(length))
+        length = real(length, "a length")
+        if length < 0:
+            raise OverflowError(f"a length is {length}, and below zero")
+        return u32(self.nearest(length, "a length"))
+
+    def grid_point(self, point, origin, *what):
+        x, y, z = row_of(point, 3, *what)
+        a, b, c = origin
+        return self.units(real(x, *what) - a, *what), self.units(real(y, *what) - b, *what), self.units(real(z, *what) - c, *what)
 
     def to_grid(self, point):
-        return tuple(self.units(p - o) for p, o in zip(point, self.origin))
+        return self.grid_point(point, self.origin, "a point")
+
+    def grid_rows(self, what, rows, origin):
+        """Rows of three coordinates in units of the grid from an origin: a table of numpy's, or a list of tuples."""
+        table = self.grid_table(rows, origin)
+        if table is not None:
+            return table
+        rows = [self.grid_point(row, origin, what, k) for k, row in enumerate(rows, 1)]
+        return rows if numpy is None else numpy.array(rows, numpy.int64).reshape(-1, 3)
+
+    def grid_table(self, rows, origin):
+        """The same by columns, where numpy is there and nothing is to be refused; and else None."""
+        if numpy is None:
+            return None
+        try:
+            table = numpy.asarray(rows, numpy.float64)
+        except (TypeError, ValueError, OverflowError):
+            return None
+        if table.ndim != 2 or table.shape[1] != 3 or table.size == 0 or not numpy.isfinite(table).all():
+            return None
+        table = table - numpy.array(origin)
+        near = numpy.rint(table / self.unit)
+        if not (numpy.abs(near) <= LENGTH_MAX).all():
+            return None
+        self.rounded = max(self.rounded, float(numpy.abs(near * self.unit - table).max()))
+        return near.astype(numpy.int64)
 
     def from_grid(self, point):
         return tuple(o + self.unit * int(p) for p, o in zip(point, self.origin))
 
     # -- directives
 
-    def shift(self, shifts):
-        """Adds to what is asked: a shift for each vertex of a dict."""
-        rows = (Vertex * len(shifts))(*((int(v), *map(self.units, by)) for v, by in shifts.items()))
-        self.call("topo_shift_each", rows, size_t(len(rows)), ref(self.fault))
+    def shift(self, shifts, by=None):
+        """Adds to what is asked: a shift for each vertex of a dict, or for each of a column of ids the one of a column of shifts, in order. Where one is
+        refused, those before it stay asked."""
+        ids, by = (list(shifts), list(shifts.values())) if by is None else (shifts, by)
+        self.shift_rows(self.ids(ids, by), self.grid_rows("shift", by, (0.0, 0.0, 0.0)))
 
-    def toward(self, ends):
+    def toward(self, ends, to=None):
         """The same, by the points to which the vertices should go, as far as nothing was asked of them."""
+        ids, to = (list(ends), list(ends.values())) if to is None else (ends, to)
+        ids, ends = self.ids(ids, to), self.grid_rows("end", to, self.origin)
         at = {row[0]: row[1:] for row in self.rows("topo_points", Vertex).tolist()}
-        rows = [(int(v), *(e - a for e, a in zip(self.to_grid(end), at[v]))) for v, end in ends.items()]
-        self.call("topo_shift_each", (Vertex * len(rows))(*rows), size_t(len(rows)), ref(self.fault))
+        starts = []
+        for (v,) in ids if numpy is None else ids.tolist():
+            if v not in at:
+                raise TopoError("topo_shift_each", REFUSED, 1, v)
+            starts.append(at[v])
+        by = [tuple(e - s for e, s in zip(end, start)) for end, start in zip(ends, starts)] if numpy is None else ends - numpy.array(starts, numpy.int64).reshape(-1, 3)
+        self.shift_rows(ids, by)
+
+    def ids(self, ids, rows):
+        """A column of ids of vertices, as many as there are rows."""
+        if len(ids) != len(rows):
+            raise ValueError(f"there are {len(ids)} ids, and {len(rows)} rows beside them")
+        ids = numpy.asarray(ids).reshape(-1, 1) if numpy is not None and isinstance(ids, numpy.ndarray) else [(v,) for v in ids]
+        return whole_rows("id", ids, 1, 1, ID_MAX)
+
+    def shift_rows(self, ids, by):
+        by = whole_rows("shift", by, 3, -SHIFT_MAX, SHIFT_MAX)
+        self.call("topo_shift_each", *buffer_of(Vertex, with_ids(ids, by)), ref(self.fault))
 
     def shift_all(self, by):
-        self.call("topo_shift_all", *(i32(self.units(c)) for c in by), ref(self.fault))
+        self.call("topo_shift_all", *(i32(self.units(c, "a shift")) for c in row_of(by, 3, "a shift")), ref(self.fault))
 
     def set(self, depth=6, passes=3, zones=True, halvings=6):
-        for number in (depth, passes, halvings):
-            if not 0 <= number < 256:
-                raise TopoError("topo_set", RANGE, 0, 0, 0, 0)
-        self.call("topo_set", *(ctypes.c_uint8(int(number)) for number in (depth, passes, zones, halvings)))
+        settings = dict(depth=depth, passes=passes, zones=zones, halvings=halvings)
+        self.call("topo_set", *(ctypes.c_uint8(whole(settings[name], 0, most, "the setting", name)) for name, most in SETTINGS.items()))
 
     def step(self):
         """How the step was taken, how often that was done, and how many pairs did not pass as it was asked."""
@@ -130,7 +357,7 @@ class Tracker:
         return WAYS[self.way.how], self.way.times, self.way.hits
 
     def edit(self, name, *lengths):
-        """How many edits were done, and how many were refused."""
+        """How many edits of a pass were done, and how many were refused."""
         self.call("topo_" + name, *(self.length(length) for length in lengths), ref(self.edits), ref(self.fault))
         return self.edits.done, self.edits.refused
 
@@ -154,8 +381,24 @@ class Tracker:
         self.call("topo_fit", self.length(low), self.length(high), ref(self.edits))
         return self.edits.done, self.edits.refused
 
+    def edit_each(self, asked):
+        """Edits by ids, each in turn, and a row for what came of each; in an open group the first that is refused is the last that is asked. An edit is a word
+        of EDITS and its ids, or a row of the five numbers of `struct topo_asked`; an answer is a row of the seven of `struct topo_answered`."""
+        rows = asked if numpy is not None and isinstance(asked, numpy.ndarray) else list(asked)
+        if isinstance(rows, list) and any(len(row) and isinstance(row[0], str) for row in rows):
+            rows = [edit_row(k, row) for k, row in enumerate(rows, 1)]
+        rows, count = buffer_of(Asked, whole_rows("edit", rows, 5, 0, WORD_MAX))
+        answers, taken = (Answered * count.value)(), size_t()
+        self.call("topo_edit_each", rows, count, answers, count, ref(taken))
+        return table_of(Answered, answers, taken.value)
+
+    def ask(self, word, *ids):
+        """One edit by ids, and its Answer."""
+        why, a, b, c, *at = self.edit_each([(word, *ids)]).tolist()[0]
+        return Answer(AGAINST[why], a, b, c, self.from_grid(at) if why == 0 and word in ("split", "collapse", "pinch") else None)
+
     def solid(self, vertex):
-        self.call("topo_solid", u32(vertex), ref(self.fault))
+        self.call("topo_solid", u32(whole(vertex, 1, ID_MAX, "an id")), ref(self.fault))
 
     def open(self):
         self.call("topo_open", ref(self.fault))
@@ -165,19 +408,34 @@ class Tracker:
         self.call("topo_close", ref(self.kept), ref(self.fault))
         return GROUPS[self.kept.value]
 
+    def undo(self):
+        """Takes back the group that was opened last, whatever was done in it, and tells whether one was open: a word of GROUPS."""
+        self.call("topo_undo", ref(self.kept))
+        return GROUPS[self.kept.value]
+
     def forget(self):
         self.call("topo_forget")
 
     # -- reading
 
-    def rows(self, name, kind):
-        """The rows of a reading call, in a buffer made as long as they are."""
+    def read(self, name, kind, *words):
+        """The rows of a reading call, in a buffer made as long as they are, and how many they are."""
         size, rows = size_t(0), (kind * 64)()
-        while (code := getattr(self.library, name)(ref(self.handle), rows, size_t(len(rows)), ref(size))) == RANGE:
+        while (code := self.code(name, *words, rows, size_t(len(rows)), ref(size))) == RANGE:
             rows = (kind * size.value)()
         self.must(name, code)
-        rows = (kind * size.value).from_buffer(rows)
-        return numpy.ctypeslib.as_array(rows) if numpy and size.value else Rows(rows)
+        return rows, size.value
+
+    def rows(self, name, kind, *words):
+        return table_of(kind, *self.read(name, kind, *words))
+
+    def star(self, vertex):
+        """The faces at a vertex, as rows of an id and three corners, by rising id."""
+        return self.rows("topo_star", Face, u32(whole(vertex, 0, WORD_MAX, "an id")))
+
+    def beside(self, a, b):
+        """The faces beside the edge of two vertices, in the same way."""
+        return self.rows("topo_beside", Face, *(u32(whole(v, 0, WORD_MAX, "an id")) for v in (a, b)))
 
     def counts(self):
         """The bytes of the log, the live vertices and faces, the ids that come next, and the steps taken, by name."""
@@ -191,9 +449,17 @@ class Tracker:
         rows = [self.rows(name, kind).tolist() for name, kind in (("topo_points", Vertex), ("topo_faces", Face), ("topo_solids", u32))]
         return Left(*rows, counts["next_vertex"], counts["next_face"])
 
+    def columns(self):
+        """The ids of the live vertices, rising, and where they stand, in two columns: arrays of numpy's, or lists."""
+        rows = self.rows("topo_points", Vertex)
+        if numpy is None:
+            return [row[0] for row in rows], [self.from_grid(row[1:]) for row in rows]
+        return rows["id"], numpy.stack([o + self.unit * rows[axis] for axis, o in zip("xyz", self.origin)], axis=1)
+
     def vertices(self):
         """Where each live vertex stands, by its id."""
-        return {row[0]: self.from_grid(row[1:]) for row in self.rows("topo_points", Vertex).tolist()}
+        ids, points = self.columns()
+        return dict(zip(ids, points)) if numpy is None else dict(zip(ids.tolist(), map(tuple, points.tolist())))
 
     def faces(self):
         """The corners of each live face, by its id."""
@@ -207,7 +473,8 @@ class Tracker:
         return [(EVENTS[row[0]], *row[1:5], self.from_grid(row[5:]) if row[0] != 1 else row[5:]) for row in self.rows("topo_events", Event).tolist()]
 
     def log(self):
-        return bytes(self.rows("topo_log", ctypes.c_ubyte).tolist()).decode()
+        rows, size = self.read("topo_log", ctypes.c_char)
+        return rows.raw[:size].decode()
 
 
 class Left:
@@ -218,16 +485,16 @@ class Left:
         self.next_vertex, self.next_face = next_vertex, next_face
 
 
-class Rows:
-    """Rows as a memoryview of their numbers, where there is no numpy."""
-
-    def __init__(self, rows):
-        self.rows, self.view = rows, memoryview(rows)
-
-    def __len__(self):
-        return len(self.rows)
+class Rows(list):
+    """Rows as a list, where there is no numpy."""
 
     def tolist(self):
-        if not hasattr(self.rows._type_, "_fields_"):
-            return list(self.rows)
-        return [tuple(getattr(row, name) for name, _ in row._fields_) for row in self.rows]
+        return list(self)
+
+
+def table_of(kind, rows, size):
+    """The first rows of an array of structures, or of numbers: an array of numpy's, or a list of tuples, or of numbers."""
+    if numpy is not None:
+        return numpy.ndarray((size,), numpy.dtype(kind), buffer=rows)
+    names = [name for name, _ in getattr(kind, "_fields_", ())]
+    return Rows(tuple(getattr(row, name) for name in names) if names else row for row in rows[:size])
