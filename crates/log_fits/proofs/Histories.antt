@@ -298,12 +298,11 @@ callers_are_told (call ∷ calls) s last old new took =
     let here : Adds effect s next old mid = adds effect s next old mid took.2 in
     let rest = callers_are_told calls next last mid new took.3 in
     let lines = lines_told effect in
-    let behind : State → List LogLine = λ t. history calls t in
-    (
+    let behind : State → List LogLine = λ t. history calls t in (
       rest.0
-      ∙ ap (λ (t : List ℕ). t ++ text_of_lines (behind next)) here.text
-      ∙ append_assoc old (text_of_lines lines) (text_of_lines (behind next))
-      ∙ ap (λ (t : List ℕ). old ++ t) (sym (text_of_lines-append lines (behind next)))
-      ∙ ap (λ t. old ++ text_of_lines (lines ++ behind t)) here.state,
+          ∙ ap (λ (t : List ℕ). t ++ text_of_lines (behind next)) here.text
+          ∙ append_assoc old (text_of_lines lines) (text_of_lines (behind next))
+          ∙ ap (λ (t : List ℕ). old ++ t) (sym (text_of_lines-append lines (behind next)))
+          ∙ ap (λ t. old ++ text_of_lines (lines ++ behind t)) here.state,
       rest.1 ∙ ap (state_after calls) here.state,
     )

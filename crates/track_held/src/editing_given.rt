@@ -259,7 +259,11 @@ fn change_told(change: &Change) -> ToldAnswer
             f: _,
             turn,
         } => done_with(u32::from(*turn)),
-        Change::Pinch { v: _, at, copies } => done_at(first_copy(copies), capped(copies.len()), *at),
+        Change::Pinch { v: _, at, copies } => done_at(
+            first_copy(copies),
+            capped(copies.len()),
+            *at,
+        ),
     }
 }
 
