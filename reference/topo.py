@@ -14,37 +14,22 @@ and does nothing to be fast. A word in quotes in a comment is a definition's nam
 import os
 import re
 import sys
+from functools import lru_cache
 from itertools import combinations, count
 
-BOX = 268_435_456
-SHIFT_MAX = 536_870_912
-VERTICES_MAX = 65_536
-FACES_MAX = 131_072
-ID_MAX = 2_147_483_648
-LENGTH_MAX = 1_073_741_824
-DEPTH_MAX = 10
-HALVINGS_MAX = 27
-PASSES_MAX = 100
-GROUPS_MAX = 8
-FILE_MAX = 67_108_864
-NUMBER_MAX = 4_294_967_295
-COUNT_MAX = 18_446_744_073_709_551_615
-FAULTS_MAX = 1_000_000
+BOX, SHIFT_MAX, LENGTH_MAX = 2**28, 2**29, 2**30
+VERTICES_MAX, FACES_MAX, ID_MAX = 65_536, 131_072, 2**31
+DEPTH_MAX, HALVINGS_MAX, PASSES_MAX, GROUPS_MAX = 10, 27, 100, 8
+FILE_MAX, FAULTS_MAX, NUMBER_MAX, COUNT_MAX = 2**26, 1_000_000, 2**32 - 1, 2**64 - 1
 
+class Refused(Exception): """A job ends here: the words behind `refused`, and the exit status."""
+class BadLine(Exception): """A line is outside its grammar: its number and the reason."""
+class NotDone(Exception): """An edit is refused: the reason."""
+class Unfit(Exception): """A line of a log does not fit the lines before it."""
 
-class Refused(Exception):
-    """A job ends here: the words behind `refused`, and the exit status."""
-
-    def __init__(self, words, status):
-        self.words, self.status = words, status
-
-
-class NotDone(Exception):
-    """An edit is refused: the reason."""
-
-    def __init__(self, reason):
-        self.reason = reason
-
+def need(holds, refusal):
+    if not holds:
+        raise refusal
 
 # ======== Numbers and places. A "triple" is three whole numbers: a position, a displacement or a direction.
 
@@ -60,13 +45,12 @@ def divided(p, by): return tuple(toward_zero(x, by) for x in p)
 def middle_down(p, q): return tuple(x // 2 for x in plus(p, q))
 def is_in_box(p): return size_of(p) <= BOX
 
-
+@lru_cache(maxsize=100_000)
 def meet(five):
     """Five positions "meet": the edge's two ends and the triangle's three corners, where whole weights, not negative, of the ends and of the
     corners, with one positive sum, make the weighted sums equal."""
     a, b, c, d, e = five
     return have_weights([(*a, 1), (*b, 1)] + [(-x, -y, -z, -1) for x, y, z in (c, d, e)])
-
 
 def have_weights(vectors):
     """Whether weights, none negative and not all zero, make the sum of the vectors zero. The fourth number of each vector is 1 for an end and
@@ -83,25 +67,19 @@ def have_weights(vectors):
     # of more than one such sum there is one without this vector or without that, if any has weights that are not negative
     return len(weights) > 1 and any(have_weights(vectors[:k] + vectors[k + 1:]) for k in range(len(vectors)))
 
-
 # ======== The written test. A motion has five starts and five ends; halving it takes units half as large.
 
 def halves(starts, ends):
     """The two halves of a "motion", in units of 1/2: at the "fraction" 1/2 each position stands at its start and its end together."""
-    middles = [plus(p, q) for p, q in zip(starts, ends)]
-    return ([twice(p) for p in starts], middles), (middles, [twice(q) for q in ends])
-
+    middles = tuple(map(plus, starts, ends))
+    return (tuple(map(twice, starts)), middles), (middles, tuple(map(twice, ends)))
 
 def ten_directions(five):
     """The triangle's normal, the cross products of the edge with its three sides, and the ways from each end to each corner."""
     a, b, c, d, e = five
     yield cross(minus(d, c), minus(e, c))
-    for p, q in ((c, d), (d, e), (e, c)):
-        yield cross(minus(b, a), minus(q, p))
-    for end in (a, b):
-        for corner in (c, d, e):
-            yield minus(corner, end)
-
+    yield from (cross(minus(b, a), minus(q, p)) for p, q in ((c, d), (d, e), (e, c)))
+    yield from (minus(corner, end) for end in (a, b) for corner in (c, d, e))
 
 def directions(starts, ends):
     """The "23 directions"."""
@@ -109,22 +87,15 @@ def directions(starts, ends):
     yield from ten_directions(starts)
     yield from ten_directions(ends)
 
-
 def gaps(direction, five):
     """By how much both ends of the edge are below all three corners, and by how much above them."""
     a, b, c, d, e = (dot(direction, p) for p in five)
     return min(c, d, e) - max(a, b), min(a, b) - max(c, d, e)
 
-
-def keeps_apart(direction, starts, ends):
-    """Strictly on one side, and the same at the start and at the end."""
-    return any(s > 0 and e > 0 for s, e in zip(gaps(direction, starts), gaps(direction, ends)))
-
-
-def opens_by(direction, starts, ends):
-    """On one side, at the start perhaps level and at the end strictly."""
-    return any(s >= 0 and e > 0 for s, e in zip(gaps(direction, starts), gaps(direction, ends)))
-
+# Strictly on one side, and the same at the start and at the end.
+def keeps_apart(direction, starts, ends): return any(s > 0 and e > 0 for s, e in zip(gaps(direction, starts), gaps(direction, ends)))
+# On one side, at the start perhaps level and at the end strictly.
+def opens_by(direction, starts, ends): return any(s >= 0 and e > 0 for s, e in zip(gaps(direction, starts), gaps(direction, ends)))
 
 def is_separated(starts, ends, depth):
     """A pair is "separated" to a depth."""
@@ -132,12 +103,10 @@ def is_separated(starts, ends, depth):
         return True
     return depth > 0 and all(is_separated(*half, depth - 1) for half in halves(starts, ends))
 
-
 def passes(starts, ends, depth):
     """A pair "passes"."""
     go_by_one_shift = len({minus(q, p) for p, q in zip(starts, ends)}) == 1
     return go_by_one_shift and not meet(starts) or is_separated(starts, ends, depth)
-
 
 def opens(starts, ends, depth):
     """A pair "opens"."""
@@ -146,93 +115,65 @@ def opens(starts, ends, depth):
     first, second = halves(starts, ends)
     return depth > 0 and opens(*first, depth - 1) and is_separated(*second, depth - 1)
 
-
-def closes(starts, ends, depth):
-    """A pair "closes": it opens in the motion backwards."""
-    return opens(ends, starts, depth)
-
+# A pair "closes": it opens in the motion backwards.
+def closes(starts, ends, depth): return opens(ends, starts, depth)
 
 # ======== Meshes
 
 class Mesh:
     """A "mesh". None is changed once it is made: each change makes another."""
-
     def __init__(self, points, faces, solid, next_vertex, next_face):
         self.points, self.faces, self.solid = points, faces, solid
         self.next_vertex, self.next_face = next_vertex, next_face
 
+    def changed(self, **parts): return Mesh(**{**vars(self), **parts})
+    def with_solid(self, v): return self.changed(solid=self.solid | {v})
+
     def with_points(self, points):
         """Vertices at these points; those that are new are the next ones in turn."""
-        return Mesh({**self.points, **points}, self.faces, self.solid, max([self.next_vertex, *(v + 1 for v in points)]), self.next_face)
-
-    def with_solid(self, v):
-        return Mesh(self.points, self.faces, self.solid | {v}, self.next_vertex, self.next_face)
+        return self.changed(points={**self.points, **points}, next_vertex=max([self.next_vertex, *(v + 1 for v in points)]))
 
     def without_vertices(self, dropped):
-        points = {v: p for v, p in self.points.items() if v not in dropped}
-        return Mesh(points, self.faces, self.solid - set(dropped), self.next_vertex, self.next_face)
+        return self.changed(points={v: p for v, p in self.points.items() if v not in dropped}, solid=self.solid - dropped)
 
     def without_faces(self, dropped):
-        faces = {f: corners for f, corners in self.faces.items() if f not in dropped}
-        return Mesh(self.points, faces, self.solid, self.next_vertex, self.next_face)
+        return self.changed(faces={f: corners for f, corners in self.faces.items() if f not in dropped})
 
     def with_faces(self, made):
-        """New faces under the next ids, in order. The faces of a mesh stand by rising id."""
-        faces = {**self.faces, **dict(enumerate(made, self.next_face))}
-        return Mesh(self.points, faces, self.solid, self.next_vertex, self.next_face + len(made))
+        """New faces under the next ids, in order; so the faces of a mesh stand by rising id."""
+        return self.changed(faces={**self.faces, **dict(enumerate(made, self.next_face))}, next_face=self.next_face + len(made))
 
-
-def mesh_of(points, faces):
-    """The mesh of lists: ids are places, from 1, and no vertex is solid."""
-    return Mesh(dict(enumerate(points, 1)), dict(enumerate(faces, 1)), frozenset(), len(points) + 1, len(faces) + 1)
-
+# The mesh of lists: ids are places, from 1, and no vertex is solid.
+def mesh_of(points, faces): return Mesh(dict(enumerate(points, 1)), dict(enumerate(faces, 1)), frozenset(), len(points) + 1, len(faces) + 1)
 
 def sides(corners):
     """From which vertex to which a face "runs"."""
     i, j, k = corners
     return (i, j), (j, k), (k, i)
 
-
 def turnings(corners):
     i, j, k = corners
     return (i, j, k), (j, k, i), (k, i, j)
-
 
 def opposite_face(corners):
     """The same corners, the other way round, in their least turning."""
     i, j, k = corners
     return min(turnings((i, k, j)))
 
-
-def runs(mesh, a, b):
-    """The faces that run from a vertex to another, by rising id."""
-    return [f for f, corners in mesh.faces.items() if (a, b) in sides(corners)]
-
-
-def edges_of(mesh):
-    """The "edges", each with its smaller id first, in order."""
-    return sorted({(min(side), max(side)) for corners in mesh.faces.values() for side in sides(corners)})
-
-
-def is_edge(mesh, a, b):
-    return any(a in corners and b in corners for corners in mesh.faces.values())
-
-
-def is_crowded(mesh, a, b):
-    """More than one face runs one way along an edge."""
-    return len(runs(mesh, a, b)) > 1 or len(runs(mesh, b, a)) > 1
-
-
-def has_doubled(mesh):
-    """Two faces have the same corners in the same order up to turning."""
-    return len({min(turnings(corners)) for corners in mesh.faces.values()}) < len(mesh.faces)
-
+# The faces that run from a vertex to another, by rising id.
+def runs(mesh, a, b): return [f for f, corners in mesh.faces.items() if (a, b) in sides(corners)]
+# The "edges", each with its smaller id first, in order.
+def edges_of(mesh): return sorted({(min(side), max(side)) for corners in mesh.faces.values() for side in sides(corners)})
+def is_edge(mesh, a, b): return any(a in corners and b in corners for corners in mesh.faces.values())
+# More than one face runs one way along an edge.
+def is_crowded(mesh, a, b): return len(runs(mesh, a, b)) > 1 or len(runs(mesh, b, a)) > 1
+# Two faces have the same corners in the same order up to turning.
+def has_doubled(mesh): return len({min(turnings(corners)) for corners in mesh.faces.values()}) < len(mesh.faces)
 
 def box_around(positions):
     """A box along the axes: its least and its greatest corner."""
     xs, ys, zs = zip(*positions)
     return min(xs), min(ys), min(zs), max(xs), max(ys), max(zs)
-
 
 def near_pairs(mesh, *places):
     """The "pairs", an edge and a face that has neither of its ends, in order of the edge and then of the face; but for those of which the
@@ -246,22 +187,15 @@ def near_pairs(mesh, *places):
                 if a not in corners and b not in corners:
                     yield a, b, f
 
-
 def five_at(mesh, places, pair):
     """The "five positions" of a pair where the vertices stand at these places."""
     a, b, f = pair
-    return [places[v] for v in (a, b, *mesh.faces[f])]
+    return tuple(places[v] for v in (a, b, *mesh.faces[f]))
 
-
-def meeting_pairs(mesh):
-    """All "pairs that meet" of a mesh, in order, at its "rest positions". A mesh is "clear" where there is none."""
-    return (pair for pair in near_pairs(mesh, mesh.points) if meet(five_at(mesh, mesh.points, pair)))
-
-
-def moved_by(mesh, shifts):
-    """The points "after moves": each named vertex at its point and its shift together."""
-    return {v: plus(p, shifts[v]) if v in shifts else p for v, p in mesh.points.items()}
-
+# All "pairs that meet" of a mesh, in order, at its "rest positions". A mesh is "clear" where there is none.
+def meeting_pairs(mesh): return (pair for pair in near_pairs(mesh, mesh.points) if meet(five_at(mesh, mesh.points, pair)))
+# The points "after moves": each named vertex at its point and its shift together.
+def moved_by(mesh, shifts): return {v: plus(p, shifts[v]) if v in shifts else p for v, p in mesh.points.items()}
 
 def failing_pairs(mesh, shifts, depth):
     """The "failing pairs" of shifts, in order."""
@@ -269,7 +203,6 @@ def failing_pairs(mesh, shifts, depth):
     for pair in near_pairs(mesh, starts, ends):
         if not passes(five_at(mesh, starts, pair), five_at(mesh, ends, pair), depth):
             yield pair
-
 
 # ======== Stored fields and the sizing of the program
 
@@ -279,12 +212,10 @@ FIELDS = {
     "shrink": lambda x, y, z: divided((-x, -y, -z), 64),
 }
 
-
 def band_at(point):
     """The "band" of the sizing at a point: the least and the greatest length of an edge whose middle lies there."""
     d = size_of(point)
     return 20 + d // 64, 60 + d // 16
-
 
 # ======== Texts
 
@@ -292,7 +223,6 @@ def lines_of(text):
     """The "lines" of a text that is read, without their ends."""
     *ended, last = text.split("\n")
     return [line[:-1] if line.endswith("\r") else line for line in ended] + ([last] if last else [])
-
 
 def words_of(line):
     """The "words" of a line, up to one that begins with #."""
@@ -303,13 +233,7 @@ def words_of(line):
         words.append(word)
     return words
 
-
-class BadLine(Exception):
-    """A line is outside its grammar: its number and the reason."""
-
-
 DECIMAL = re.compile(r"([+-]?)([0-9]*)\.?([0-9]*)(?:[eE]([+-]?[0-9]{1,3}))?")
-
 
 def scaled(word, decimals):
     """The sign of a "decimal word", and numerator and denominator of its size on the grid; nothing where it is misspelt."""
@@ -319,99 +243,72 @@ def scaled(word, decimals):
     power = int(spelt[4] or 0) - len(spelt[3]) + decimals
     return -1 if spelt[1] == "-" else 1, int(spelt[2] + spelt[3]) * 10 ** max(power, 0), 10 ** max(-power, 0)
 
-
-def is_rounded(word, decimals):
-    _, numerator, denominator = scaled(word, decimals)
-    return numerator % denominator != 0
-
-
 def coordinate_in(word, decimals, number):
     """The coordinate that a decimal word gives: the nearest whole number, halves away from zero."""
     value = scaled(word, decimals)
-    if value is None:
-        raise BadLine(number, "number")
+    need(value, BadLine(number, "number"))
     sign, numerator, denominator = value
     size = (2 * numerator + denominator) // (2 * denominator)
-    if size > BOX:
-        raise BadLine(number, "range")
+    need(size <= BOX, BadLine(number, "range"))
     return sign * size
 
-
-def fan_of(corners):
-    """A face of k corners gives k - 2 triangles, all from its first corner."""
-    return [(corners[0], j, k) for j, k in zip(corners[1:], corners[2:])]
-
+# A face of k corners gives k - 2 triangles, all from its first corner.
+def fan_of(corners): return [(corners[0], j, k) for j, k in zip(corners[1:], corners[2:])]
 
 class Lists:
     """What a text of a mesh gives: points, faces with corners from 1, and whether a coordinate was rounded."""
-
     def __init__(self):
         self.points, self.faces, self.rounded = [], [], False
 
     def add_point(self, words, decimals, number):
         self.points.append(tuple(coordinate_in(word, decimals, number) for word in words))
-        self.rounded = self.rounded or any(is_rounded(word, decimals) for word in words)
-
+        self.rounded = self.rounded or any(size % unit for _, size, unit in (scaled(word, decimals) for word in words))
 
 NOT_READ = ("vn", "vt", "vp", "o", "g", "s", "usemtl", "mtllib")
 OBJ_CORNER = re.compile(r"(-?[0-9]{1,10})(/-?[0-9]{1,10}|//-?[0-9]{1,10}|/-?[0-9]{1,10}/-?[0-9]{1,10})?")
-
 
 def obj_corner(word, vertices, number):
     spelt = OBJ_CORNER.fullmatch(word)
     corner = int(spelt[1]) if spelt else 0
     corner += vertices + 1 if corner < 0 else 0
-    if not 0 < corner <= NUMBER_MAX:
-        raise BadLine(number, "corner")
+    need(0 < corner <= NUMBER_MAX, BadLine(number, "corner"))
     return corner
-
 
 def obj_lists(text, decimals):
     """The lists that an OBJ text gives."""
     lists = Lists()
     for number, line in enumerate(lines_of(text), 1):
-        if line.endswith("\\"):
-            raise BadLine(number, "continuation")
+        need(not line.endswith("\\"), BadLine(number, "continuation"))
         kind, *words = words_of(line) or ["g"]
         if kind == "v":
-            if not 3 <= len(words) <= 7:
-                raise BadLine(number, "short" if len(words) < 3 else "long")
+            need(3 <= len(words) <= 7, BadLine(number, "short" if len(words) < 3 else "long"))
             lists.add_point(words[:3], decimals, number)
         elif kind == "f":
-            if len(words) < 3:
-                raise BadLine(number, "short")
+            need(len(words) >= 3, BadLine(number, "short"))
             lists.faces += fan_of([obj_corner(word, len(lists.points), number) for word in words])
-        elif kind not in NOT_READ:
-            raise BadLine(number, "unknown")
+        else:
+            need(kind in NOT_READ, BadLine(number, "unknown"))
     return lists
 
-
 def count_in(word, number):
-    if not re.fullmatch("[0-9]{1,10}", word):
-        raise BadLine(number, "number")
+    need(re.fullmatch("[0-9]{1,10}", word), BadLine(number, "number"))
     return int(word)
 
-
 def corner_from_0(word, number):
-    if not re.fullmatch("[0-9]{1,10}", word) or int(word) >= NUMBER_MAX:
-        raise BadLine(number, "corner")
+    need(re.fullmatch("[0-9]{1,10}", word) and int(word) < NUMBER_MAX, BadLine(number, "corner"))
     return int(word) + 1
-
 
 def corners_wanted(words, number):
     """The count at the head of a row of a face, three or more."""
     wanted = count_in(words[0], number)
-    if wanted < 3:
-        raise BadLine(number, "range")
+    need(wanted >= 3, BadLine(number, "range"))
     return wanted
-
 
 def worded_lines(text):
     """The lines with words, and at the end that none is left, which is a fault of the line behind the last where one is wanted."""
     lines = lines_of(text)
     yield from ((number, words) for number, words in ((number, words_of(line)) for number, line in enumerate(lines, 1)) if words)
     raise BadLine(len(lines) + 1, "short")
-
 
 def need_no_more(lines):
     """No line with words stands behind the last row."""
@@ -421,138 +318,109 @@ def need_no_more(lines):
         return
     raise BadLine(number, "long")
 
-
 def off_lists(text, decimals):
     """The lists that an OFF text gives."""
     lists, lines = Lists(), worded_lines(text)
     number, words = next(lines)
-    if words != ["OFF"]:
-        raise BadLine(number, "unknown")
+    need(words == ["OFF"], BadLine(number, "unknown"))
     number, words = next(lines)
-    if len(words) < 2:
-        raise BadLine(number, "short")
+    need(len(words) >= 2, BadLine(number, "short"))
     vertices, faces = [count_in(word, number) for word in words[:2]]
     for _ in range(vertices):
         number, words = next(lines)
-        if len(words) < 3:
-            raise BadLine(number, "short")
+        need(len(words) >= 3, BadLine(number, "short"))
         lists.add_point(words[:3], decimals, number)
     for _ in range(faces):
         number, words = next(lines)
         wanted = corners_wanted(words, number)
-        if len(words) < 1 + wanted:
-            raise BadLine(number, "short")
+        need(len(words) > wanted, BadLine(number, "short"))
         lists.faces += fan_of([corner_from_0(word, number) for word in words[1:1 + wanted]])
     need_no_more(lines)
     return lists
 
-
 PLY_TYPES = ("char uchar short ushort int uint float double int8 uint8 int16 uint16 int32 uint32 float32 float64").split()
-
 
 def ply_head(lines):
     """The names of a vertex's properties, the two counts, and how many properties of a face stand behind its corners."""
-    def next_line():
-        return next((number, words) for number, words in lines if words[0] not in ("comment", "obj_info"))
-
-    def need(holds):
-        if not holds:
-            raise BadLine(number, "unknown")
-
-    def is_property():
-        return len(words) == 3 and words[0] == "property" and words[1] in PLY_TYPES
+    def head(holds): need(holds, BadLine(number, "unknown"))
+    def next_line(): return next((number, words) for number, words in lines if words[0] not in ("comment", "obj_info"))
+    def is_property(): return len(words) == 3 and words[0] == "property" and words[1] in PLY_TYPES
 
     number, words = next(lines)
-    need(words == ["ply"])
+    head(words == ["ply"])
     number, words = next_line()
-    need(words == ["format", "ascii", "1.0"])
+    head(words == ["format", "ascii", "1.0"])
     number, words = next_line()
-    need(words[:2] == ["element", "vertex"] and len(words) == 3)
-    vertices = count_in(words[2], number)
-    names = []
+    head(words[:2] == ["element", "vertex"] and len(words) == 3)
+    vertices, names, further = count_in(words[2], number), [], 0
     number, words = next_line()
     while is_property():
-        need(words[2] not in names or words[2] not in ("x", "y", "z"))
+        head(words[2] not in names or words[2] not in ("x", "y", "z"))
         names.append(words[2])
         number, words = next_line()
-    need(words[:2] == ["element", "face"] and len(words) == 3 and {"x", "y", "z"} <= set(names))
+    head(words[:2] == ["element", "face"] and len(words) == 3 and {"x", "y", "z"} <= set(names))
     faces = count_in(words[2], number)
     number, words = next_line()
-    need(len(words) == 5 and words[:2] == ["property", "list"] and words[2] in PLY_TYPES and words[3] in PLY_TYPES)
-    need(words[4] in ("vertex_indices", "vertex_index"))
-    further = 0
+    head(len(words) == 5 and words[:2] == ["property", "list"] and words[2] in PLY_TYPES and words[3] in PLY_TYPES)
+    head(words[4] in ("vertex_indices", "vertex_index"))
     number, words = next_line()
     while is_property():
         further += 1
         number, words = next_line()
-    need(words == ["end_header"])
+    head(words == ["end_header"])
     return names, vertices, faces, further
 
+def need_words(words, wanted, number): need(len(words) == wanted, BadLine(number, "short" if len(words) < wanted else "long"))
 
 def ply_lists(text, decimals):
     """The lists that an ASCII PLY text gives."""
     lists, lines = Lists(), worded_lines(text)
     names, vertices, faces, further = ply_head(lines)
-
-    def need_words(wanted):
-        if len(words) != wanted:
-            raise BadLine(number, "short" if len(words) < wanted else "long")
-
+    axes = [k for k, name in enumerate(names) if name in ("x", "y", "z")]
     for _ in range(vertices):
         number, words = next(lines)
-        need_words(len(names))
-        axes = [k for k, name in enumerate(names) if name in ("x", "y", "z")]
+        need_words(words, len(names), number)
         lists.add_point([words[k] for k in axes], decimals, number)
         point = dict(zip((names[k] for k in axes), lists.points[-1]))
         lists.points[-1] = point["x"], point["y"], point["z"]
     for _ in range(faces):
         number, words = next(lines)
         wanted = corners_wanted(words, number)
-        need_words(1 + wanted + further)
+        need_words(words, 1 + wanted + further, number)
         lists.faces += fan_of([corner_from_0(word, number) for word in words[1:1 + wanted]])
     need_no_more(lines)
     return lists
-
 
 def written(x, decimals):
     """A "written coordinate"."""
     whole, part = divmod(abs(x), 10 ** decimals)
     return f"{'-' if x < 0 else ''}{whole}" + (f".{part:0{decimals}}" if decimals else "")
 
-
 def written_point(p, decimals): return " ".join(written(x, decimals) for x in p)
-
 
 def obj_text(points, faces, decimals):
     lines = [f"v {written_point(p, decimals)}" for p in points] + ["f {} {} {}".format(*corners) for corners in faces]
     return "".join(line + "\n" for line in lines)
 
-
 def rows_text(points, faces, decimals):
     lines = [written_point(p, decimals) for p in points] + ["3 {} {} {}".format(*(i - 1 for i in corners)) for corners in faces]
     return "".join(line + "\n" for line in lines)
 
-
-def off_text(points, faces, decimals):
-    return f"OFF\n{len(points)} {len(faces)} 0\n" + rows_text(points, faces, decimals)
-
+def off_text(points, faces, decimals): return f"OFF\n{len(points)} {len(faces)} 0\n" + rows_text(points, faces, decimals)
 
 def ply_text(points, faces, decimals):
     head = ["ply", "format ascii 1.0", f"element vertex {len(points)}", *(f"property double {axis}" for axis in "xyz"),
             f"element face {len(faces)}", "property list uchar int vertex_indices", "end_header"]
     return "".join(line + "\n" for line in head) + rows_text(points, faces, decimals)
 
-
 # the formats by the endings of names: how a text of each is read and written
 FORMATS = {".obj": (obj_lists, obj_text), ".off": (off_lists, off_text), ".ply": (ply_lists, ply_text)}
-
 
 def text_of_mesh(mesh, decimals):
     """The text of a mesh: live vertices and faces by rising id, corners by the rank of their vertices."""
     rank = {v: k for k, v in enumerate(sorted(mesh.points), 1)}
     faces = [[rank[v] for v in mesh.faces[f]] for f in sorted(mesh.faces)]
     return obj_text([mesh.points[v] for v in sorted(mesh.points)], faces, decimals)
-
 
 def shape_faults(points, faces):
     """All "faults of the shape" of lists, in order."""
@@ -574,14 +442,6 @@ def shape_faults(points, faces):
             balance[min(a, b), max(a, b)] = balance.get((min(a, b), max(a, b)), 0) + (1 if a < b else -1 if a > b else 0)
     yield from (f"unbalanced {a} {b}" for a, b in sorted(balance) if balance[a, b] and 1 <= a and b <= len(points))
 
-
-class Directive:
-    """A "directive" of a step text: its line, its words, and its numbers."""
-
-    def __init__(self, line, kind, values):
-        self.line, self.kind, self.values = line, kind, values
-
-
 SETTINGS = {"depth": (6, DEPTH_MAX), "halvings": (6, HALVINGS_MAX), "passes": (3, PASSES_MAX), "zones": (1, 1)}
 # of each directive the ranges of its values
 DIRECTIVES = {
@@ -591,37 +451,30 @@ DIRECTIVES = {
     "set": ["setting", "value"],
 }
 
+def is_utf8(word):
+    try:
+        return bool(word.encode("latin-1").decode("utf-8"))
+    except UnicodeDecodeError:
+        return False
 
 def step_value(word, values, number):
     """A value of a line of steps, by its range."""
     if values == "name":
-        try:
-            word.encode("latin-1").decode("utf-8")
-        except UnicodeDecodeError:
-            raise BadLine(number, "range")
-        if len(word) > 32:
-            raise BadLine(number, "range")
+        need(len(word) <= 32 and is_utf8(word), BadLine(number, "range"))
         return word
-    if not re.fullmatch("-?[0-9]{1,10}", word):
-        raise BadLine(number, "number")
-    if not values[0] <= int(word) <= values[1]:
-        raise BadLine(number, "range")
+    need(re.fullmatch("-?[0-9]{1,10}", word), BadLine(number, "number"))
+    need(values[0] <= int(word) <= values[1], BadLine(number, "range"))
     return int(word)
 
-
-def directive_in(words, number):
-    kind, *words = words
-    if kind not in DIRECTIVES or kind == "set" and words and words[0] not in SETTINGS:
-        raise BadLine(number, "unknown")
+def directive_in(kind, words, number):
+    """A "directive": the number of its line, its kind, and its values."""
+    need(kind in DIRECTIVES and (kind != "set" or not words or words[0] in SETTINGS), BadLine(number, "unknown"))
     ranges = DIRECTIVES[kind]
-    if len(words) != len(ranges):
-        raise BadLine(number, "short" if len(words) < len(ranges) else "long")
-    if kind == "set":
-        return Directive(number, kind, [words[0], step_value(words[1], (0, SETTINGS[words[0]][1]), number)])
-    if kind == "shift" and words[0] == "all":
-        return Directive(number, kind, ["all", *(step_value(word, values, number) for word, values in zip(words[1:], ranges[1:]))])
-    return Directive(number, kind, [step_value(word, values, number) for word, values in zip(words, ranges)])
-
+    need_words(words, len(ranges), number)
+    # these first words are no numbers
+    named = words[:1] if kind == "set" or words[:1] == ["all"] and kind == "shift" else []
+    ranges = ranges if kind != "set" else ["name", (0, SETTINGS[words[0]][1])]
+    return number, kind, named + [step_value(word, its, number) for word, its in list(zip(words, ranges))[len(named):]]
 
 def read_steps(text):
     """The "directives" of a step text."""
@@ -630,19 +483,15 @@ def read_steps(text):
         words = words_of(line)
         if not words:
             continue
-        directives.append(directive_in(words, number))
+        directives.append(directive_in(words[0], words[1:], number))
         if words[0] == "group":
-            if len(opened) == GROUPS_MAX:
-                raise BadLine(number, "nesting")
+            need(len(opened) != GROUPS_MAX, BadLine(number, "nesting"))
             opened.append(number)
         elif words[0] == "close":
-            if not opened:
-                raise BadLine(number, "nesting")
+            need(opened, BadLine(number, "nesting"))
             opened.pop()
-    if opened:
-        raise BadLine(opened[0], "nesting")
+    need(not opened, BadLine(*opened[:1], "nesting"))
     return directives
-
 
 # ======== The lines of the log: each form by its fixed words, and the values behind them
 
@@ -659,7 +508,8 @@ FORMS = {
     "refused shape vertices": "count", "refused shape faces": "count", "refused shape corner": "line corner", "refused shape repeated": "line",
     "refused shape doubled": "line line", "refused shape unbalanced": "line line",
 }
-ONLY_IN_VERSION_2 = ("solid", "group", "close kept", "close undone", "pass fit", "refused long log", "refused long proof", "refused missing log", "refused missing proof")
+ONLY_IN_VERSION_2 = ("solid", "group", "close kept", "close undone", "pass fit",
+                     "refused long log", "refused long proof", "refused missing log", "refused missing proof")
 RANGES = {
     "mesh_number": (0, NUMBER_MAX), "vertices": (0, VERTICES_MAX), "faces": (0, FACES_MAX), "step_number": (1, NUMBER_MAX), "id": (1, ID_MAX),
     "passes": (1, PASSES_MAX), "rounds": (1, 65_535), "halvings": (1, HALVINGS_MAX), "length": (0, LENGTH_MAX), "turn": (0, 3),
@@ -669,39 +519,20 @@ REASONS = ("noedge", "crowded", "edge", "shared", "full", "doubled", "onefan", "
 WHYS = ("unknown", "short", "long", "number", "range", "corner", "continuation")
 USES = {"vertex": ["id"], "range": ["id"], "box": ["id"], "solid": ["id"], "field": []}
 
-
 def is_number(word, kind):
     """A number has one spelling, and a range."""
     low, high = RANGES[kind]
     return re.fullmatch("0|-?[1-9][0-9]{0,20}", word) is not None and low <= int(word) <= high
 
+def are_numbers(words, kinds): return len(words) == len(kinds) and all(map(is_number, words, kinds))
 
-def are_numbers(words, kinds):
-    return len(words) == len(kinds) and all(map(is_number, words, kinds))
-
-
-def is_edge_written(words):
-    return are_numbers(words, ["id", "id"]) and int(words[0]) < int(words[1])
-
-
-def is_pair_written(words):
-    return is_edge_written(words[:2]) and are_numbers(words[2:], ["id"])
-
-
-def reasons_of(version):
-    """The reasons of a refused edit, but for `hit`."""
-    return REASONS if version == 2 else REASONS[:-1]
-
-
-def uses_of(version):
-    """What a directive is refused for, and of what numbers."""
-    return {use: numbers for use, numbers in USES.items() if version == 2 or use != "solid"}
-
+# The reasons of a refused edit, but for `hit`.
+def reasons_of(version): return REASONS if version == 2 else REASONS[:-1]
+# What a directive is refused for, and of what numbers.
+def uses_of(version): return {use: numbers for use, numbers in USES.items() if version == 2 or use != "solid"}
 
 def words_wanted(kind, words, version):
     """How many of the words a value of this kind takes."""
-    if kind in ("edge", "shift", "point"):
-        return 2 if kind == "edge" else 3
     if kind == "block":
         return max(2, len(words))
     if kind == "pinch":
@@ -710,29 +541,27 @@ def words_wanted(kind, words, version):
         return 4 if words[0] == "hit" else len(words)
     if kind == "use" and words:
         return 1 + len(uses_of(version)[words[0]]) if words[0] in uses_of(version) else len(words)
-    return 1
-
+    return {"edge": 2, "shift": 3, "point": 3}.get(kind, 1)
 
 def is_value(kind, words, version):
     """Whether so many words spell a value of this kind, within its range."""
     if kind == "version":
         return words == [str(version)]
-    if kind == "edge":
-        return is_edge_written(words)
+    if kind in ("edge", "block"):
+        return are_numbers(words, ["id"] * len(words)) and all(int(v) < int(w) for v, w in zip(words, words[1:]))
     if kind in ("shift", "point"):
         return are_numbers(words, ["component" if kind == "shift" else "coordinate"] * 3)
-    if kind == "block":
-        return are_numbers(words, ["id"] * len(words)) and all(int(v) < int(w) for v, w in zip(words, words[1:]))
     if kind == "pinch":
         return are_numbers(words, ["id", "coordinate", "coordinate", "coordinate"] * (len(words) // 4))
+    if kind == "reason" and words[0] == "hit":
+        return is_value("edge", words[1:3], version) and is_number(words[3], "id")
     if kind == "reason":
-        return is_pair_written(words[1:]) if words[0] == "hit" else words[0] in reasons_of(version)
+        return words[0] in reasons_of(version)
     if kind in ("why_mesh", "why_steps"):
         return words[0] in WHYS or version == 2 and kind == "why_steps" and words[0] == "nesting"
     if kind == "use":
         return words[0] in uses_of(version) and are_numbers(words[1:], USES[words[0]])
     return is_number(words[0], kind)
-
 
 def form_of(words, version, number):
     """The form to which the fixed words lead at which a line begins."""
@@ -741,10 +570,8 @@ def form_of(words, version, number):
         fixed = " ".join(words[:at])
         if fixed in forms:
             return fixed
-        if not any(form.startswith(fixed + " ") for form in forms):
-            raise BadLine(number, "unknown")
+        need(any(form.startswith(fixed + " ") for form in forms), BadLine(number, "unknown"))
     raise BadLine(number, "short")
-
 
 def log_line(line, is_ended, version, number):
     """The words of a line of the log."""
@@ -753,18 +580,13 @@ def log_line(line, is_ended, version, number):
     rest, values = words[len(form.split()):], []
     for kind in FORMS[form].split():
         wanted = words_wanted(kind, rest, version)
-        if len(rest) < wanted:
-            raise BadLine(number, "short")
+        need(len(rest) >= wanted, BadLine(number, "short"))
         values.append((kind, rest[:wanted]))
         rest = rest[wanted:]
-    if not is_ended:
-        raise BadLine(number, "short")
-    if rest:
-        raise BadLine(number, "long")
-    if not all(is_value(kind, its, version) for kind, its in values):
-        raise BadLine(number, "number")
+    need(is_ended, BadLine(number, "short"))
+    need(not rest, BadLine(number, "long"))
+    need(all(is_value(kind, its, version) for kind, its in values), BadLine(number, "number"))
     return words
-
 
 def read_log(text):
     """The lines of a log, each as its words."""
@@ -772,7 +594,6 @@ def read_log(text):
     version = 2 if (ended + [last])[0] == "topo log 2" else 1
     lines = [(line, True) for line in ended] + ([(last, False)] if last else [])
     return [log_line(line, is_ended, version, number) for number, (line, is_ended) in enumerate(lines, 1)]
-
 
 # ======== Logs read again
 
@@ -785,21 +606,12 @@ def classes(members):
         found.append(([key, *(k for keys, _ in joined for k in keys)], set(its).union(*(others for _, others in joined))))
     return found
 
-
-def volume6(mesh):
-    """Six times the signed "volume", by the determinants of the faces' corners."""
-    return sum(dot(p, cross(q, r)) for p, q, r in ([mesh.points[v] for v in corners] for corners in mesh.faces.values()))
-
-
-def components(mesh):
-    """The number of "components": the classes of faces that chains of shared vertices join."""
-    return len(classes({f: set(corners) for f, corners in mesh.faces.items()}))
-
-
-def euler_number(mesh):
-    """Vertices with a face less edges and more faces."""
-    return len({v for corners in mesh.faces.values() for v in corners}) - len(edges_of(mesh)) + len(mesh.faces)
-
+# Six times the signed "volume", by the determinants of the faces' corners.
+def volume6(mesh): return sum(dot(p, cross(q, r)) for p, q, r in ([mesh.points[v] for v in corners] for corners in mesh.faces.values()))
+# The number of "components": the classes of faces that chains of shared vertices join.
+def components(mesh): return len(classes({f: set(corners) for f, corners in mesh.faces.items()}))
+# Vertices with a face less edges and more faces.
+def euler_number(mesh): return len({v for corners in mesh.faces.values() for v in corners}) - len(edges_of(mesh)) + len(mesh.faces)
 
 def genus(mesh):
     """The number G with 2 G = 2 C - X, or `none`."""
@@ -807,97 +619,75 @@ def genus(mesh):
     is_manifold = not any(is_crowded(mesh, a, b) for a, b in edges_of(mesh)) and not any(len(fans(mesh, v)) > 1 for v in mesh.points)
     return twice_genus // 2 if is_manifold and twice_genus >= 0 and twice_genus % 2 == 0 else "none"
 
-
 class Replay:
     """The "replay" of the lines of a log so far, and where it "stands": the mesh, the stack of meshes, and the moves of a step that is begun."""
-
     def __init__(self, mesh):
         self.mesh, self.groups, self.moves, self.is_first = mesh, [], None, True
 
     def take(self, words):
-        """Takes a line where it "fits" the lines before it, and tells whether it does."""
-        if self.is_first or words[:2] == ["topo", "log"]:
-            fits = self.is_first and words[:2] == ["topo", "log"]
-            self.is_first = False
-            return fits
+        """Takes a line where it "fits" the lines before it."""
         kind, *values = words
-        if kind in ("hit", "block", "pass", "no", "refused", "end"):
-            return True
-        if kind in ("move", "moved"):
-            return self.moves is not None and (self.take_move(*map(int, values)) if kind == "move" else self.take_moved())
-        return self.moves is None and self.take_between_steps(kind, words)
+        need(self.is_first == (kind == "topo"), Unfit)
+        self.is_first = False
+        if kind == "move":
+            self.take_move(*map(int, values))
+        elif kind == "moved":
+            self.take_moved()
+        elif kind not in ("topo", "hit", "block", "pass", "no", "refused", "end"):
+            need(self.moves is None, Unfit)
+            self.take_between_steps(kind, words)
 
     def take_move(self, v, *shift):
-        """A move fits where its vertex lives, is not solid and has no move yet, and ends in the box."""
-        may_move = v in self.mesh.points and v not in self.mesh.solid and v not in self.moves and is_in_box(plus(self.mesh.points[v], shift))
-        if may_move:
-            self.moves[v] = tuple(shift)
-        return may_move
+        """A move fits in a step where its vertex lives, is not solid and has no move yet, and ends in the box."""
+        need(self.moves is not None and v in self.mesh.points and v not in self.mesh.solid and v not in self.moves, Unfit)
+        need(is_in_box(plus(self.mesh.points[v], shift)), Unfit)
+        self.moves[v] = shift
 
     def take_moved(self):
         """A step ends where no pair of its motion fails, tested to the greatest depth."""
-        if next(failing_pairs(self.mesh, self.moves, DEPTH_MAX), None):
-            return False
+        need(self.moves is not None and not any(failing_pairs(self.mesh, self.moves, DEPTH_MAX)), Unfit)
         self.mesh, self.moves = self.mesh.with_points(moved_by(self.mesh, self.moves)), None
-        return True
 
     def take_between_steps(self, kind, words):
         if kind == "step":
             self.moves = {}
         elif kind == "mesh":
-            return [len(self.mesh.points), len(self.mesh.faces)] == [int(word) for word in words[2:]]
+            need([len(self.mesh.points), len(self.mesh.faces)] == [int(word) for word in words[2:]], Unfit)
         elif kind == "solid":
-            if int(words[1]) not in self.mesh.points:
-                return False
+            need(int(words[1]) in self.mesh.points, Unfit)
             self.mesh = self.mesh.with_solid(int(words[1]))
         elif kind == "group":
-            if len(self.groups) == GROUPS_MAX:
-                return False
+            need(len(self.groups) < GROUPS_MAX, Unfit)
             self.groups.append(self.mesh)
         elif kind == "close":
-            if not self.groups:
-                return False
+            need(self.groups, Unfit)
             begun = self.groups.pop()
             self.mesh = begun if words[1] == "undone" else self.mesh
         else:
-            return self.take_edit(kind, words)
-        return True
+            self.take_edit(kind, words)
 
     def take_edit(self, kind, words):
         """A done edit fits where the edit, tested to the greatest depth, is done with just these ids, points and turn."""
         asked = [int(word) for word in words[1:1 + NUMBERS_ASKED[kind]]]
         try:
-            told, mesh = EDITS[kind](self.mesh, *asked, DEPTH_MAX)
+            told, self.mesh = EDITS[kind](self.mesh, *asked, DEPTH_MAX)
         except NotDone:
-            return False
-        if [kind, *map(str, told)] != words:
-            return False
-        self.mesh = mesh
-        return True
-
+            raise Unfit
+        need([kind, *map(str, told)] == words, Unfit)
 
 # ======== Edits. Each answers the numbers that its line tells and the mesh that it leaves, or is refused with the first reason that holds.
 
-def need(holds, reason):
-    if not holds:
-        raise NotDone(reason)
-
-
 def need_room(mesh):
     """A limit on vertices, on faces or on ids is not exceeded."""
-    need(len(mesh.points) <= VERTICES_MAX and len(mesh.faces) <= FACES_MAX and mesh.next_vertex <= ID_MAX + 1 and mesh.next_face <= ID_MAX + 1, "full")
+    need(len(mesh.points) <= VERTICES_MAX and len(mesh.faces) <= FACES_MAX and mesh.next_vertex <= ID_MAX + 1 and mesh.next_face <= ID_MAX + 1, NotDone("full"))
 
-
-def opposite_vertex(mesh, f, a, b):
-    """The corner that is no end of the edge."""
-    return next(v for v in mesh.faces[f] if v not in (a, b))
-
+# The corner that is no end of the edge.
+def opposite_vertex(mesh, f, a, b): return next(v for v in mesh.faces[f] if v not in (a, b))
 
 def edge_with_faces(mesh, a, b):
     """An "edge with the two faces beside it": the least face that runs each way, and their "opposite vertices"."""
     f, g = runs(mesh, a, b)[0], runs(mesh, b, a)[0]
     return [f, g], opposite_vertex(mesh, f, a, b), opposite_vertex(mesh, g, a, b)
-
 
 def first_failing(mesh, ways, depth, contacts=(), contact_test=None):
     """The first pair that fails of a "scaffold": a mesh, the vertices that move and from where to where in half units, and the "contacts", of
@@ -911,11 +701,7 @@ def first_failing(mesh, ways, depth, contacts=(), contact_test=None):
             return a, b, f
     return None
 
-
-def need_no_hit(pair):
-    if pair:
-        raise NotDone("hit {} {} {}".format(*pair))
-
+def need_no_hit(pair): need(pair is None, NotDone(" ".join(map(str, ["hit", *(pair or [])]))))
 
 def split_mesh(mesh, a, b):
     """What a split makes: the new vertex, and the mesh."""
@@ -924,24 +710,22 @@ def split_mesh(mesh, a, b):
     made = mesh.without_faces(beside).with_points({w: middle_down(mesh.points[a], mesh.points[b])})
     return w, made.with_faces([(a, w, c), (w, b, c), (b, w, d), (w, a, d)])
 
-
 def split(mesh, a, b, depth):
     """ "Split": the edge gets a vertex at its middle, rounded down."""
-    need(is_edge(mesh, a, b), "noedge")
-    need(not is_crowded(mesh, a, b), "crowded")
+    need(is_edge(mesh, a, b), NotDone("noedge"))
+    need(not is_crowded(mesh, a, b), NotDone("crowded"))
     w, made = split_mesh(mesh, a, b)
     need_room(made)
     exact_middle = plus(mesh.points[a], mesh.points[b])
     need_no_hit(first_failing(made, {w: (exact_middle, twice(made.points[w]))}, depth))
     return [a, b, w, *made.points[w]], made
 
-
 def flip(mesh, a, b, depth):
     """ "Flip": the edge is exchanged for the one between its opposite vertices; tested on the split's mesh, whose new vertex goes there."""
-    need(is_edge(mesh, a, b), "noedge")
-    need(not is_crowded(mesh, a, b), "crowded")
+    need(is_edge(mesh, a, b), NotDone("noedge"))
+    need(not is_crowded(mesh, a, b), NotDone("crowded"))
     beside, c, d = edge_with_faces(mesh, a, b)
-    need(c != d and not is_edge(mesh, c, d), "edge")
+    need(c != d and not is_edge(mesh, c, d), NotDone("edge"))
     w, tested = split_mesh(mesh, a, b)
     made = mesh.without_faces(beside).with_faces([(a, d, c), (b, c, d)])
     need_room(tested)
@@ -950,7 +734,6 @@ def flip(mesh, a, b, depth):
     need_no_hit(first_failing(tested, {w: way}, depth))
     return [a, b], made
 
-
 def collapse_point(mesh, a, b):
     """Where both ends of an edge go: to the one that is solid, or to the middle, rounded down."""
     for v in (a, b):
@@ -958,10 +741,7 @@ def collapse_point(mesh, a, b):
             return mesh.points[v]
     return middle_down(mesh.points[a], mesh.points[b])
 
-
-def faces_at(mesh, v):
-    return [f for f, corners in mesh.faces.items() if v in corners]
-
+def faces_at(mesh, v): return [f for f, corners in mesh.faces.items() if v in corners]
 
 def third_act(mesh, a):
     """The "third act of a collapse": of the faces at a vertex the least that has an opposite is dropped with its least opposite, until none
@@ -972,17 +752,16 @@ def third_act(mesh, a):
             return third_act(mesh.without_faces([f, opposites[0]]), a)
     return mesh
 
-
 def collapse(mesh, a, b, depth):
     """ "Collapse": the edge is drawn together, in four acts, and tested on the mesh as it is."""
-    need(is_edge(mesh, a, b), "noedge")
-    need(not {a, b} <= mesh.solid, "solid")
+    need(is_edge(mesh, a, b), NotDone("noedge"))
+    need(not {a, b} <= mesh.solid, NotDone("solid"))
     point = collapse_point(mesh, a, b)
     made = mesh.without_faces([f for f in faces_at(mesh, a) if b in mesh.faces[f]])
     renamed = faces_at(made, b)
     made = made.without_faces(renamed).with_faces([tuple(a if v == b else v for v in mesh.faces[f]) for f in renamed])
     made = third_act(made, a)
-    need(not has_doubled(made), "doubled")
+    need(not has_doubled(made), NotDone("doubled"))
     need_room(made)
     ways = {v: (twice(mesh.points[v]), twice(point)) for v in (a, b)}
     need_no_hit(first_failing(mesh, ways, depth, (a, b), closes))
@@ -993,56 +772,50 @@ def collapse(mesh, a, b, depth):
         made = made.with_solid(a) if mesh.solid & {a, b} else made
     return [a, b, *point], made
 
-
 def turns_in_order(mesh, p, r):
     """The four turns of a "zip", by the sum of the squared lengths that they join, and then by number."""
     def length(k): return sum(squared_distance(mesh.points[p[i]], mesh.points[r[(i + k) % 4]]) for i in range(4))
     return sorted(range(4), key=lambda k: (length(k), k))
-
 
 def tunnel(p, r, k):
     """The eight faces of a tunnel between two openings, the second turned by k."""
     r = [r[(i + k) % 4] for i in range(4)]
     return [face for i in range(4) for j in [(i + 1) % 4] for face in ((p[i], p[j], r[i]), (p[j], r[j], r[i]))]
 
-
 def zip_edges(mesh, a, b, e, f, depth):
     """ "Zip": the faces beside two edges are dropped, and the two openings are joined by a tunnel. Nothing moves."""
-    need(is_edge(mesh, a, b) and is_edge(mesh, e, f), "noedge")
-    need(not is_crowded(mesh, a, b) and not is_crowded(mesh, e, f), "crowded")
+    need(is_edge(mesh, a, b) and is_edge(mesh, e, f), NotDone("noedge"))
+    need(not is_crowded(mesh, a, b) and not is_crowded(mesh, e, f), NotDone("crowded"))
     (one, c, d), (two, g, h) = edge_with_faces(mesh, a, b), edge_with_faces(mesh, e, f)
-    need(len({a, b, c, d, e, f, g, h}) == 8, "shared")
+    need(len({a, b, c, d, e, f, g, h}) == 8, NotDone("shared"))
     opened, p, r = mesh.without_faces(one + two), (b, c, a, d), (f, h, e, g)
     need_room(opened.with_faces(tunnel(p, r, 0)))
     refused = None
     for k in turns_in_order(mesh, p, r):
         made = opened.with_faces(tunnel(p, r, k))
         try:
-            need(not has_doubled(made), "doubled")
+            need(not has_doubled(made), NotDone("doubled"))
             need_no_hit(next(meeting_pairs(made), None))
             return [a, b, e, f, k], made
         except NotDone as why:
             refused = why
     raise refused
 
-
 def fans(mesh, v):
     """The "fans" at a vertex: the faces that a chain of shared second vertices joins, each with these vertices, in order of the least face."""
     found = classes({f: set(mesh.faces[f]) - {v} for f in faces_at(mesh, v)})
     return sorted((sorted(faces), others) for faces, others in found)
-
 
 def pinch_point(mesh, v, others):
     """An eighth of the way to the mean of a fan's other vertices, each component of that way rounded toward zero."""
     ways = [minus(mesh.points[w], mesh.points[v]) for w in others]
     return plus(mesh.points[v], divided(tuple(map(sum, zip(*ways))), 8 * len(ways)))
 
-
 def pinch(mesh, v, depth):
     """ "Pinch": a vertex with several fans gets a copy for each later fan, and they go apart."""
     its_fans = fans(mesh, v)
-    need(len(its_fans) > 1, "onefan")
-    need(v not in mesh.solid, "solid")
+    need(len(its_fans) > 1, NotDone("onefan"))
+    need(v not in mesh.solid, NotDone("solid"))
     made, told, ways = mesh, [], {}
     for faces, others in its_fans:
         w = made.next_vertex if told else v
@@ -1056,11 +829,9 @@ def pinch(mesh, v, depth):
     need_no_hit(first_failing(made, ways, depth, tuple(ways), opens))
     return told, made
 
-
 EDITS = {"split": split, "collapse": collapse, "flip": flip, "zip": zip_edges, "pinch": pinch}
 # how many numbers of an edit's line say what is asked
 NUMBERS_ASKED = {"split": 2, "collapse": 2, "flip": 2, "zip": 4, "pinch": 1}
-
 
 # ======== Passes
 
@@ -1072,12 +843,10 @@ def candidates(mesh, kind):
         return [one + two for one, two in combinations(edges_of(mesh), 2)]
     return edges_of(mesh)
 
-
 def is_near(mesh, a, b, e, f, length):
     """The midpoints of two edges are at most so far apart; in half units."""
     middles = plus(mesh.points[a], mesh.points[b]), plus(mesh.points[e], mesh.points[f])
     return squared_distance(*middles) <= (2 * length) ** 2
-
 
 def is_zip_due(mesh, a, b, e, f, length):
     """Both edges stand, their midpoints are near enough, neither is crowded, and the eight vertices are different."""
@@ -1087,7 +856,6 @@ def is_zip_due(mesh, a, b, e, f, length):
         return False
     return len({a, b, e, f, *edge_with_faces(mesh, a, b)[1:], *edge_with_faces(mesh, e, f)[1:]}) == 8
 
-
 def is_flip_due(mesh, a, b):
     """The edge is not crowded and longer than the distance of its opposite vertices."""
     if is_crowded(mesh, a, b):
@@ -1095,25 +863,22 @@ def is_flip_due(mesh, a, b):
     _, c, d = edge_with_faces(mesh, a, b)
     return squared_distance(mesh.points[a], mesh.points[b]) > squared_distance(mesh.points[c], mesh.points[d])
 
-
 def asked_at(mesh, kind, length, candidate):
-    """The edit that is asked for at the turn of a candidate, which is one by its kind, where it is due; or nothing."""
+    """The edit that is asked for at the turn of a candidate, where it still stands and is due; or nothing."""
     if kind == "pinch":
-        return "pinch" if candidate[0] in mesh.points and len(fans(mesh, *candidate)) > 1 else None
+        return kind if candidate[0] in mesh.points and len(fans(mesh, *candidate)) > 1 else None
     if kind == "zip":
-        return "zip" if is_zip_due(mesh, *candidate, length) else None
+        return kind if is_zip_due(mesh, *candidate, *length) else None
     a, b = candidate
     if not is_edge(mesh, a, b):
         return None
-    squared = squared_distance(mesh.points[a], mesh.points[b])
     if kind == "flip":
-        return "flip" if is_flip_due(mesh, a, b) else None
-    if kind == "fit":
-        least, greatest = band_at(middle_down(mesh.points[a], mesh.points[b]))
-        return "split" if squared > greatest ** 2 else "collapse" if squared < least ** 2 else None
-    is_due = squared > length ** 2 if kind == "split" else squared < length ** 2
-    return kind if is_due else None
-
+        return kind if is_flip_due(mesh, a, b) else None
+    squared = squared_distance(mesh.points[a], mesh.points[b])
+    least, greatest = band_at(middle_down(mesh.points[a], mesh.points[b])) if kind == "fit" else length * 2
+    if kind != "collapse" and squared > greatest ** 2:
+        return "split"
+    return "collapse" if kind != "split" and squared < least ** 2 else None
 
 # ======== Steps
 
@@ -1121,7 +886,6 @@ def gap_along(axis, edge, face):
     """How far apart an edge and a face stand along an axis; below zero where they overlap."""
     low, high = [[min(p[axis] for p in its) for its in (edge, face)], [max(p[axis] for p in its) for its in (edge, face)]]
     return max(low[1] - high[0], low[0] - high[1])
-
 
 def impulse(mesh, shifts, pair):
     """An "impulse" on a pair: the five shifts along the axis of the greatest "gap" become their mean; zero where one of the five is solid."""
@@ -1134,7 +898,6 @@ def impulse(mesh, shifts, pair):
         part = 0 if mesh.solid & set(vertices) else mean + (k < left)
         shifts[v] = shifts[v][:axis] + (part,) + shifts[v][axis + 1:]
 
-
 def impulse_pass(mesh, shifts, failing):
     """A "pass" of impulses gives one to each failing pair in order."""
     shifts = dict(shifts)
@@ -1142,11 +905,9 @@ def impulse_pass(mesh, shifts, failing):
         impulse(mesh, shifts, pair)
     return shifts
 
-
 def blocks_of(mesh, failing):
     """The "blocks" of two vertices or more: what chains of failing pairs join, by rising id."""
     return sorted(sorted(vertices) for _, vertices in classes({(a, b, f): {a, b, *mesh.faces[f]} for a, b, f in failing}))
-
 
 def zone_shifts(mesh, asked, blocks):
     """A block moves by the mean of what was asked of it, and not at all where it holds a solid vertex."""
@@ -1156,10 +917,7 @@ def zone_shifts(mesh, asked, blocks):
         shifts.update((v, (0, 0, 0) if mesh.solid & set(block) else mean) for v in block)
     return shifts
 
-
-def ends_in_box(mesh, shifts):
-    return all(is_in_box(p) for p in moved_by(mesh, shifts).values())
-
+def ends_in_box(mesh, shifts): return all(is_in_box(p) for p in moved_by(mesh, shifts).values())
 
 def by_impulses(mesh, asked, failing, settings):
     """The fewest impulse passes after which all pairs pass, and the shifts then."""
@@ -1172,7 +930,6 @@ def by_impulses(mesh, asked, failing, settings):
         if not failing:
             return f"impulse {number}", shifts, []
     return None
-
 
 def by_zones(mesh, asked, failing, settings):
     """The first round of impact zones in which all pairs pass, its shifts and its blocks."""
@@ -1187,7 +944,6 @@ def by_zones(mesh, asked, failing, settings):
             return f"zones {number}", shifts, blocks
         joined += failing
 
-
 def by_halvings(mesh, asked, settings):
     """The fewest halvings of the asked shifts with which all pairs pass."""
     for number in range(1, settings["halvings"] + 1):
@@ -1195,7 +951,6 @@ def by_halvings(mesh, asked, settings):
         if not next(failing_pairs(mesh, shifts, settings["depth"]), None):
             return f"halved {number}", shifts, []
     return None
-
 
 def way_taken(mesh, asked, failing, settings):
     """ "The way that is taken": its words, the shifts, and the blocks of the round of zones."""
@@ -1206,83 +961,68 @@ def way_taken(mesh, asked, failing, settings):
             or by_halvings(mesh, asked, settings)
             or ("zero", {v: (0, 0, 0) for v in asked}, []))
 
-
 # ======== The engine
 
 class Group:
     """An open "group": the mesh and what was asked at its opening, and whether it has failed."""
-
     def __init__(self, mesh, asked):
         self.mesh, self.asked, self.has_failed = mesh, asked, False
 
-
 class Engine:
-    """The "state" between two directives, and what each "directive" does. `tell` takes the lines, and `store` the meshes by their numbers."""
-
-    def __init__(self, mesh, tell, store):
-        self.tell, self.store = tell, store
-        self.mesh, self.groups, self.steps, self.saved = mesh, [], 0, 0
+    """The "state" between two directives, and what each "directive" does. `store` takes the meshes by their numbers."""
+    def __init__(self, mesh, store):
+        self.mesh, self.store, self.groups, self.steps, self.saved = mesh, store, [], 0, 0
         self.asked = {v: (0, 0, 0) for v in mesh.points}
         self.settings = {name: first for name, (first, _) in SETTINGS.items()}
 
-    def do(self, directive):
-        kind, values = directive.kind, directive.values
+    def do(self, line, kind, values):
         if kind in ("split", "collapse", "flip", "zip", "pinch", "fit"):
             self.run_pass(kind, *values)
         else:
-            getattr(self, kind)(directive.line, *values)
-
-    def refuse(self, line, why):
-        raise Refused(f"use {line} {why}", 10)
+            getattr(self, kind)(line, *values)
 
     def set(self, line, name, value):
         self.settings[name] = value
 
     def ask(self, line, shifts):
         """Adds these shifts to what is asked."""
-        sums = {v: plus(self.asked[v], shift) for v, shift in shifts.items()}
-        for v in sorted(sums):
-            if size_of(sums[v]) > SHIFT_MAX:
-                self.refuse(line, f"range {v}")
+        sums = {v: plus(self.asked[v], shift) for v, shift in sorted(shifts.items())}
+        for v in sums:
+            need(size_of(sums[v]) <= SHIFT_MAX, Refused(f"use {line} range {v}", 10))
         self.asked.update(sums)
 
     def shift(self, line, v, *shift):
         if v == "all":
             return self.ask(line, {v: shift for v in self.mesh.points if v not in self.mesh.solid})
-        if v not in self.mesh.points:
-            self.refuse(line, f"vertex {v}")
-        if v in self.mesh.solid:
-            self.refuse(line, f"solid {v}")
+        need(v in self.mesh.points, Refused(f"use {line} vertex {v}", 10))
+        need(v not in self.mesh.solid, Refused(f"use {line} solid {v}", 10))
         self.ask(line, {v: shift})
 
     def drive(self, line, name):
-        if name not in FIELDS:
-            self.refuse(line, "field")
+        need(name in FIELDS, Refused(f"use {line} field", 10))
         self.ask(line, {v: FIELDS[name](*p) for v, p in self.mesh.points.items() if v not in self.mesh.solid})
 
     def solid(self, line, v):
-        if v not in self.mesh.points:
-            self.refuse(line, f"vertex {v}")
+        need(v in self.mesh.points, Refused(f"use {line} vertex {v}", 10))
         self.mesh = self.mesh.with_solid(v)
         self.asked[v] = 0, 0, 0
-        self.tell(f"solid {v}")
+        tell("solid", v)
 
     def step(self, line):
         for v, p in sorted(moved_by(self.mesh, self.asked).items()):
-            if not is_in_box(p):
-                self.refuse(line, f"box {v}")
+            need(is_in_box(p), Refused(f"use {line} box {v}", 10))
         self.steps += 1
-        self.tell(f"step {self.steps}")
+        tell("step", self.steps)
         failing = list(failing_pairs(self.mesh, self.asked, self.settings["depth"]))
         for pair in failing:
-            self.tell("hit {} {} {}".format(*pair))
+            tell("hit", *pair)
         way, shifts, blocks = way_taken(self.mesh, self.asked, failing, self.settings)
         for block in blocks:
-            self.tell(" ".join(map(str, ["block", *block])))
+            tell("block", *block)
         for v in sorted(shifts):
             if shifts[v] != (0, 0, 0):
-                self.tell("move {} {} {} {}".format(v, *shifts[v]))
-        self.tell(f"moved {way}")
+                tell("move", v, *shifts[v])
+        tell("moved", way)
         self.mesh = self.mesh.with_points(moved_by(self.mesh, shifts))
         self.asked = {v: (0, 0, 0) for v in self.mesh.points}
         if way != "whole":
@@ -1290,22 +1030,21 @@ class Engine:
 
     def run_pass(self, kind, *length):
         """A pass: each candidate has its turn, and what is asked then has one line."""
-        self.tell(" ".join(map(str, ["pass", kind, *length])))
+        tell("pass", kind, *length)
         for candidate in candidates(self.mesh, kind):
-            edit = asked_at(self.mesh, kind, *(length or [None]), candidate)
-            if edit is None:
-                continue
+            edit = asked_at(self.mesh, kind, length, candidate)
             try:
-                told, self.mesh = EDITS[edit](self.mesh, *candidate, self.settings["depth"])
-                self.tell(" ".join(map(str, [edit, *told])))
+                if edit:
+                    told, self.mesh = EDITS[edit](self.mesh, *candidate, self.settings["depth"])
+                    tell(edit, *told)
             except NotDone as why:
-                self.tell(" ".join(map(str, ["no", edit, *candidate, why.reason])))
+                tell("no", edit, *candidate, *why.args)
                 self.fail()
                 if self.groups:
                     break
         # what is new is asked nothing, and so is what has become solid
-        old = self.asked
-        self.asked = {v: old[v] if v in old and v not in self.mesh.solid else (0, 0, 0) for v in self.mesh.points}
+        asked = self.asked
+        self.asked = {v: asked[v] if v in asked and v not in self.mesh.solid else (0, 0, 0) for v in self.mesh.points}
 
     def fail(self):
         """The innermost open group fails."""
@@ -1314,57 +1053,55 @@ class Engine:
 
     def group(self, line):
         self.groups.append(Group(self.mesh, dict(self.asked)))
-        self.tell("group")
+        tell("group")
 
     def close(self, line):
         group = self.groups.pop()
         if group.has_failed:
             self.mesh, self.asked = group.mesh, group.asked
-        self.tell("close undone" if group.has_failed else "close kept")
+        tell("close", "undone" if group.has_failed else "kept")
 
     def save(self, line=None):
-        self.tell(f"mesh {self.saved} {len(self.mesh.points)} {len(self.mesh.faces)}")
+        tell("mesh", self.saved, len(self.mesh.points), len(self.mesh.faces))
         self.store(self.saved, self.mesh)
         self.saved += 1
-
 
 # ======== Files, and what a run reads
 
 class Files:
-    """The files of a run: those that it has read, by the path to which their names lead, so that none of them is lost."""
-
+    """The files of a run. Those that it has read are known by the path to which their names lead, so that none of them is lost."""
     def __init__(self, decimals):
-        self.decimals, self.read_texts = decimals, {}
+        self.decimals, self.texts, self.is_rounded = decimals, {}, False
 
     def read(self, name, word):
         """The text of a file, a character for each byte."""
         try:
             with open(name, "rb") as it:
-                text = it.read(FILE_MAX + 1)
+                text = it.read(FILE_MAX + 1).decode("latin-1")
         except FileNotFoundError:
             raise Refused(f"missing {word}", 11)
-        if len(text) > FILE_MAX:
-            raise Refused(f"long {word} {len(text)}", 5)
-        self.read_texts.setdefault(os.path.realpath(name), []).append((word, text))
-        return text.decode("latin-1")
+        need(len(text) <= FILE_MAX, Refused(f"long {word} {len(text)}", 5))
+        self.texts.setdefault(os.path.realpath(name), []).append((word, text))
+        return text
 
-    def is_lost(self, name, word, text):
-        """Whether something is lost where a mesh takes the place of a text: a coordinate is rounded, or the text is no mesh."""
-        return word != "mesh" or FORMATS.get(name[-4:], FORMATS[".obj"])[0](text.decode("latin-1"), self.decimals).rounded
+    def lists(self, grammar, text):
+        lists = read_by("mesh", 6, grammar, text, self.decimals)
+        self.is_rounded = lists.rounded
+        return lists
 
     def store(self, name, text):
-        for word, old in self.read_texts.pop(os.path.realpath(name), []):
-            if self.is_lost(name, word, old):
-                kept = next(path for path in (f"{name}.before" + (f"-{k}" if k > 1 else "") for k in count(1)) if not os.path.lexists(path))
-                with open(kept, "wb") as it:
-                    it.write(old)
-                break
-        with open(name, "w", encoding="ascii", newline="") as it:
-            it.write(text)
+        """Stores a text; one that was read and would be lost, since it is no mesh or was rounded, is kept as it was."""
+        lost = [old for word, old in self.texts.pop(os.path.realpath(name), []) if word != "mesh" or self.is_rounded]
+        names = (f"{name}.before" + (f"-{k}" if k > 1 else "") for k in count(1))
+        for old in lost[:1]:
+            write(next(its for its in names if not os.path.lexists(its)), old)
+        write(name, text)
 
-    def store_mesh(self, prefix, number, mesh):
-        self.store(f"{prefix}-{number:06}.obj", text_of_mesh(mesh, self.decimals))
+    def store_mesh(self, prefix, number, mesh): self.store(f"{prefix}-{number:06}.obj", text_of_mesh(mesh, self.decimals))
 
+def write(name, text):
+    with open(name, "w", encoding="latin-1", newline="") as it:
+        it.write(text)
 
 def read_by(word, status, grammar, *text):
     """What a text gives by its grammar, or the refusal of its first bad line."""
@@ -1373,28 +1110,22 @@ def read_by(word, status, grammar, *text):
     except BadLine as bad:
         raise Refused("{} {} {}".format(word, *bad.args), status)
 
-
 def mesh_in(lists):
     """The mesh that lists make, where their shape is good."""
-    fault = next(shape_faults(lists.points, lists.faces), None)
-    if fault:
+    for fault in shape_faults(lists.points, lists.faces):
         raise Refused(f"shape {fault}", 7)
     return mesh_of(lists.points, lists.faces)
 
-
 def need_clear(mesh):
-    pair = next(meeting_pairs(mesh), None)
-    if pair:
+    for pair in meeting_pairs(mesh):
         raise Refused("meets {} {} {}".format(*pair), 8)
 
-
-def tell(line):
+def tell(*words):
+    """Writes a line."""
     try:
-        sys.stdout.write(line + "\n")
-        sys.stdout.flush()
+        print(*words, flush=True)
     except OSError:
         sys.exit(4)
-
 
 # ======== The commands
 
@@ -1402,105 +1133,96 @@ def track(files, mesh_name, steps_name, prefix):
     """The "log" of a job."""
     tell("topo log 2")
     mesh_text, steps_text = files.read(mesh_name, "mesh"), files.read(steps_name, "steps")
-    mesh = mesh_in(read_by("mesh", 6, obj_lists, mesh_text, files.decimals))
+    mesh = mesh_in(files.lists(obj_lists, mesh_text))
     directives = read_by("steps", 9, read_steps, steps_text)
     need_clear(mesh)
-    engine = Engine(mesh, tell, lambda number, mesh: files.store_mesh(prefix, number, mesh))
+    engine = Engine(mesh, lambda number, mesh: files.store_mesh(prefix, number, mesh))
     engine.save()
     for directive in directives:
-        engine.do(directive)
+        engine.do(*directive)
     tell("end")
     return 0
 
-
 def convert(files, from_name, to_name):
     """A "conversion"."""
-    text = files.read(from_name, "mesh")
-    lists = read_by("mesh", 6, FORMATS[from_name[-4:]][0], text, files.decimals)
+    lists = files.lists(FORMATS[from_name[-4:]][0], files.read(from_name, "mesh"))
     mesh_in(lists)
     files.store(to_name, FORMATS[to_name[-4:]][1](lists.points, lists.faces, files.decimals))
-    tell(f"converted {len(lists.points)} {len(lists.faces)}")
+    tell("converted", len(lists.points), len(lists.faces))
     return 0
-
 
 def check(files, name):
     """What a "check" tells: all faults of the shape, or all pairs that meet."""
-    lists = read_by("mesh", 6, FORMATS[name[-4:]][0], files.read(name, "mesh"), files.decimals)
+    lists = files.lists(FORMATS[name[-4:]][0], files.read(name, "mesh"))
     faults, status = [f"shape {fault}" for fault in shape_faults(lists.points, lists.faces)], 7
     if not faults:
         faults, status = ["meets {} {} {}".format(*pair) for pair in meeting_pairs(mesh_of(lists.points, lists.faces))], 8
     for fault in faults[:FAULTS_MAX]:
         tell(fault)
-    tell(f"checked {len(lists.points)} {len(lists.faces)} faults {len(faults[:FAULTS_MAX])}")
+    tell("checked", len(lists.points), len(lists.faces), "faults", len(faults[:FAULTS_MAX]))
     return status if faults else 0
-
 
 def replayed(files, mesh_name, log_name):
     """Takes the lines of a log one after another: of each its number, its words, and the mesh before and behind it. A mesh and a log are a
     "log job"."""
     mesh_text, log_text = files.read(mesh_name, "mesh"), files.read(log_name, "log")
-    mesh = mesh_in(read_by("mesh", 6, obj_lists, mesh_text, files.decimals))
+    mesh = mesh_in(files.lists(obj_lists, mesh_text))
     lines = read_by("log", 12, read_log, log_text)
     need_clear(mesh)
-    replay = Replay(mesh)
-    for number, words in enumerate(lines or [["no", "line"]], 1):
-        before = replay.mesh
-        if not replay.take(words):
+    so_far = Replay(mesh)
+    for number, words in enumerate(lines or [["end"]], 1):
+        before = so_far.mesh
+        try:
+            so_far.take(words)
+        except Unfit:
             raise Refused(f"replay {number}", 13)
-        yield number, words, before, replay.mesh
+        yield number, words, before, so_far.mesh
 
+# What a measurement compares from line to line.
+def shape_told(mesh): return "components", components(mesh), "euler", euler_number(mesh)
 
 def measure(files, mesh_name, log_name):
     """What a "measurement" writes: what a log tells of volume and shape, line by line."""
     for number, words, before, mesh in replayed(files, mesh_name, log_name):
         if words[0] == "mesh":
-            shape = f"components {components(mesh)} euler {euler_number(mesh)} genus {genus(mesh)}"
-            tell(f"measure {words[1]} volume6 {volume6(mesh)} {shape}")
-        elif mesh is not before and (components(mesh), euler_number(mesh)) != (components(before), euler_number(before)):
-            tell(f"change {number} components {components(mesh)} euler {euler_number(mesh)}")
+            tell("measure", words[1], "volume6", volume6(mesh), *shape_told(mesh), "genus", genus(mesh))
+        elif mesh is not before and shape_told(mesh) != shape_told(before):
+            tell("change", number, *shape_told(mesh))
     tell("end")
     return 0
 
-
-def replay_meshes(files, mesh_name, log_name, prefix, only):
+def replay(files, mesh_name, log_name, prefix, only):
     """Which meshes of a log a "replay" stores."""
     stored = 0
     for _, words, _, mesh in replayed(files, mesh_name, log_name):
         if words[0] == "mesh" and only in (None, int(words[1])):
             files.store_mesh(prefix, int(words[1]), mesh)
             stored += 1
-    tell(f"replayed {stored}")
+    tell("replayed", stored)
     return 0
-
 
 # ======== The words of the program
 
-COMMANDS = {"track": (track, 3), "convert": (convert, 2), "check": (check, 1), "measure": (measure, 2), "replay": (replay_meshes, 3)}
-
+COMMANDS = {"track": (track, 3), "convert": (convert, 2), "check": (check, 1), "measure": (measure, 2), "replay": (replay, 3)}
 
 def named_in(command, words):
     """The names and the options that the words behind a command's name tell, or nothing where they are of no listed form."""
-    names, options, only_names = [], {}, False
-    words = list(words)
+    names, options, words, only_names = [], {}, list(words), False
     while words:
         word = words.pop(0)
         option, equals, value = word.partition("=")
         if word == "--" and not only_names:
             only_names = True
         elif not only_names and option in ("--decimals", "--only") and option not in options:
-            if not equals and not words:
-                return None
-            options[option] = value if equals else words.pop(0)
+            options[option] = value if equals else words.pop(0) if words else ""
         else:
             names.append(word)
     decimals, only = options.get("--decimals", "0"), options.get("--only", "0")
-    is_listed = len(names) == COMMANDS[command][1] and all(name and not name.startswith("-") for name in names)
-    is_listed = is_listed and re.fullmatch("[0-6]", decimals) and re.fullmatch("0|[1-9][0-9]{0,9}", only) and int(only) <= NUMBER_MAX
-    is_listed = is_listed and ("--only" not in options or command == "replay")
-    if command in ("convert", "check"):
-        is_listed = is_listed and all(name[-4:] in FORMATS for name in names)
+    is_listed = (len(names) == COMMANDS[command][1] and all(name and name[0] != "-" for name in names)
+                 and (command not in ("convert", "check") or all(name[-4:] in FORMATS for name in names))
+                 and re.fullmatch("[0-6]", decimals) and re.fullmatch("0|[1-9][0-9]{0,9}", only) and int(only) <= NUMBER_MAX
+                 and (command == "replay" or "--only" not in options))
     return (names, int(decimals), int(only) if "--only" in options else None) if is_listed else None
-
 
 def run(words):
     """The exit status of a run."""
@@ -1513,12 +1235,12 @@ def run(words):
     try:
         return command(files, *names, *([only] if words[0] == "replay" else []))
     except Refused as refused:
-        tell(f"refused {refused.words}")
-        return refused.status
+        words, status = refused.args
+        tell("refused", words)
+        return status
     except OSError as why:
         sys.stderr.write(f"{why}\n")
         return 3
-
 
 if __name__ == "__main__":
     sys.exit(run(sys.argv[1:]))
