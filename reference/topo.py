@@ -125,20 +125,15 @@ class Mesh:
     def __init__(self, points, faces, solid, next_vertex, next_face):
         self.points, self.faces, self.solid = points, faces, solid
         self.next_vertex, self.next_face = next_vertex, next_face
-
     def changed(self, **parts): return Mesh(**{**vars(self), **parts})
     def with_solid(self, v): return self.changed(solid=self.solid | {v})
-
     def with_points(self, points):
         """Vertices at these points; those that are new are the next ones in turn."""
         return self.changed(points={**self.points, **points}, next_vertex=max([self.next_vertex, *(v + 1 for v in points)]))
-
     def without_vertices(self, dropped):
         return self.changed(points={v: p for v, p in self.points.items() if v not in dropped}, solid=self.solid - dropped)
-
     def without_faces(self, dropped):
         return self.changed(faces={f: corners for f, corners in self.faces.items() if f not in dropped})
-
     def with_faces(self, made):
         """New faces under the next ids, in order; so the faces of a mesh stand by rising id."""
         return self.changed(faces={**self.faces, **dict(enumerate(made, self.next_face))}, next_face=self.next_face + len(made))
@@ -206,11 +201,8 @@ def failing_pairs(mesh, shifts, depth):
 
 # ======== Stored fields and the sizing of the program
 
-FIELDS = {
-    "swirl": lambda x, y, z: divided((-y, x, 0), 64),
-    "swell": lambda x, y, z: divided((x, y, z), 64),
-    "shrink": lambda x, y, z: divided((-x, -y, -z), 64),
-}
+FIELDS = {"swirl": lambda x, y, z: divided((-y, x, 0), 64), "swell": lambda x, y, z: divided((x, y, z), 64),
+          "shrink": lambda x, y, z: divided((-x, -y, -z), 64)}
 
 def band_at(point):
     """The "band" of the sizing at a point: the least and the greatest length of an edge whose middle lies there."""
@@ -261,8 +253,10 @@ class Lists:
         self.points, self.faces, self.rounded = [], [], False
 
     def add_point(self, words, decimals, number):
-        self.points.append(tuple(coordinate_in(word, decimals, number) for word in words))
-        self.rounded = self.rounded or any(size % unit for _, size, unit in (scaled(word, decimals) for word in words))
+        """The words are those of x, y and z, from left to right."""
+        point = {axis: coordinate_in(word, decimals, number) for axis, word in words.items()}
+        self.points.append((point["x"], point["y"], point["z"]))
+        self.rounded = self.rounded or any(size % unit for _, size, unit in (scaled(word, decimals) for word in words.values()))
 
 NOT_READ = ("vn", "vt", "vp", "o", "g", "s", "usemtl", "mtllib")
 OBJ_CORNER = re.compile(r"(-?[0-9]{1,10})(/-?[0-9]{1,10}|//-?[0-9]{1,10}|/-?[0-9]{1,10}/-?[0-9]{1,10})?")
@@ -282,7 +276,7 @@ def obj_lists(text, decimals):
         kind, *words = words_of(line) or ["g"]
         if kind == "v":
             need(3 <= len(words) <= 7, BadLine(number, "short" if len(words) < 3 else "long"))
-            lists.add_point(words[:3], decimals, number)
+            lists.add_point(dict(zip("xyz", words)), decimals, number)
         elif kind == "f":
             need(len(words) >= 3, BadLine(number, "short"))
             lists.faces += fan_of([obj_corner(word, len(lists.points), number) for word in words])
@@ -298,45 +292,45 @@ def corner_from_0(word, number):
     need(re.fullmatch("[0-9]{1,10}", word) and int(word) < NUMBER_MAX, BadLine(number, "corner"))
     return int(word) + 1
 
-def corners_wanted(words, number):
-    """The count at the head of a row of a face, three or more."""
-    wanted = count_in(words[0], number)
-    need(wanted >= 3, BadLine(number, "range"))
-    return wanted
-
 def worded_lines(text):
-    """The lines with words, and at the end that none is left, which is a fault of the line behind the last where one is wanted."""
+    """The lines with words. Where one more is asked for than there are, the line behind the last is short."""
     lines = lines_of(text)
-    yield from ((number, words) for number, words in ((number, words_of(line)) for number, line in enumerate(lines, 1)) if words)
+    yield from ((number, words_of(line)) for number, line in enumerate(lines, 1) if words_of(line))
     raise BadLine(len(lines) + 1, "short")
 
-def need_no_more(lines):
-    """No line with words stands behind the last row."""
+def rows_in(lines, decimals, vertices, faces, names, further, may_be_longer):
+    """The lists of the rows of OFF and of PLY: a row of a vertex has a word for each name, and one of a face a count, so many corners, and
+    further words."""
+    def need_words(wanted):
+        need(len(words) >= wanted, BadLine(number, "short"))
+        need(len(words) == wanted or may_be_longer, BadLine(number, "long"))
+
+    lists = Lists()
+    for _ in range(vertices):
+        number, words = next(lines)
+        need_words(len(names))
+        lists.add_point({name: word for name, word in zip(names, words) if name in ("x", "y", "z")}, decimals, number)
+    for _ in range(faces):
+        number, words = next(lines)
+        wanted = count_in(words[0], number)
+        need(wanted >= 3, BadLine(number, "range"))
+        need_words(1 + wanted + further)
+        lists.faces += fan_of([corner_from_0(word, number) for word in words[1:1 + wanted]])
     try:
         number, _ = next(lines)
     except BadLine:
-        return
+        return lists
     raise BadLine(number, "long")
 
 def off_lists(text, decimals):
     """The lists that an OFF text gives."""
-    lists, lines = Lists(), worded_lines(text)
+    lines = worded_lines(text)
     number, words = next(lines)
     need(words == ["OFF"], BadLine(number, "unknown"))
     number, words = next(lines)
     need(len(words) >= 2, BadLine(number, "short"))
     vertices, faces = [count_in(word, number) for word in words[:2]]
-    for _ in range(vertices):
-        number, words = next(lines)
-        need(len(words) >= 3, BadLine(number, "short"))
-        lists.add_point(words[:3], decimals, number)
-    for _ in range(faces):
-        number, words = next(lines)
-        wanted = corners_wanted(words, number)
-        need(len(words) > wanted, BadLine(number, "short"))
-        lists.faces += fan_of([corner_from_0(word, number) for word in words[1:1 + wanted]])
-    need_no_more(lines)
-    return lists
+    return rows_in(lines, decimals, vertices, faces, ("x", "y", "z"), 0, True)
 
 PLY_TYPES = ("char uchar short ushort int uint float double int8 uint8 int16 uint16 int32 uint32 float32 float64").split()
 
@@ -370,26 +364,11 @@ def ply_head(lines):
     head(words == ["end_header"])
     return names, vertices, faces, further
 
-def need_words(words, wanted, number): need(len(words) == wanted, BadLine(number, "short" if len(words) < wanted else "long"))
-
 def ply_lists(text, decimals):
     """The lists that an ASCII PLY text gives."""
-    lists, lines = Lists(), worded_lines(text)
+    lines = worded_lines(text)
     names, vertices, faces, further = ply_head(lines)
-    axes = [k for k, name in enumerate(names) if name in ("x", "y", "z")]
-    for _ in range(vertices):
-        number, words = next(lines)
-        need_words(words, len(names), number)
-        lists.add_point([words[k] for k in axes], decimals, number)
-        point = dict(zip((names[k] for k in axes), lists.points[-1]))
-        lists.points[-1] = point["x"], point["y"], point["z"]
-    for _ in range(faces):
-        number, words = next(lines)
-        wanted = corners_wanted(words, number)
-        need_words(words, 1 + wanted + further, number)
-        lists.faces += fan_of([corner_from_0(word, number) for word in words[1:1 + wanted]])
-    need_no_more(lines)
-    return lists
+    return rows_in(lines, decimals, vertices, faces, names, further, False)
 
 def written(x, decimals):
     """A "written coordinate"."""
@@ -470,7 +449,7 @@ def directive_in(kind, words, number):
     """A "directive": the number of its line, its kind, and its values."""
     need(kind in DIRECTIVES and (kind != "set" or not words or words[0] in SETTINGS), BadLine(number, "unknown"))
     ranges = DIRECTIVES[kind]
-    need_words(words, len(ranges), number)
+    need(len(words) == len(ranges), BadLine(number, "short" if len(words) < len(ranges) else "long"))
     # these first words are no numbers
     named = words[:1] if kind == "set" or words[:1] == ["all"] and kind == "shift" else []
     ranges = ranges if kind != "set" else ["name", (0, SETTINGS[words[0]][1])]
@@ -623,7 +602,6 @@ class Replay:
     """The "replay" of the lines of a log so far, and where it "stands": the mesh, the stack of meshes, and the moves of a step that is begun."""
     def __init__(self, mesh):
         self.mesh, self.groups, self.moves, self.is_first = mesh, [], None, True
-
     def take(self, words):
         """Takes a line where it "fits" the lines before it."""
         kind, *values = words
@@ -636,18 +614,15 @@ class Replay:
         elif kind not in ("topo", "hit", "block", "pass", "no", "refused", "end"):
             need(self.moves is None, Unfit)
             self.take_between_steps(kind, words)
-
     def take_move(self, v, *shift):
         """A move fits in a step where its vertex lives, is not solid and has no move yet, and ends in the box."""
         need(self.moves is not None and v in self.mesh.points and v not in self.mesh.solid and v not in self.moves, Unfit)
         need(is_in_box(plus(self.mesh.points[v], shift)), Unfit)
         self.moves[v] = shift
-
     def take_moved(self):
         """A step ends where no pair of its motion fails, tested to the greatest depth."""
         need(self.moves is not None and not any(failing_pairs(self.mesh, self.moves, DEPTH_MAX)), Unfit)
         self.mesh, self.moves = self.mesh.with_points(moved_by(self.mesh, self.moves)), None
-
     def take_between_steps(self, kind, words):
         if kind == "step":
             self.moves = {}
@@ -665,7 +640,6 @@ class Replay:
             self.mesh = begun if words[1] == "undone" else self.mesh
         else:
             self.take_edit(kind, words)
-
     def take_edit(self, kind, words):
         """A done edit fits where the edit, tested to the greatest depth, is done with just these ids, points and turn."""
         asked = [int(word) for word in words[1:1 + NUMBERS_ASKED[kind]]]
@@ -679,7 +653,8 @@ class Replay:
 
 def need_room(mesh):
     """A limit on vertices, on faces or on ids is not exceeded."""
-    need(len(mesh.points) <= VERTICES_MAX and len(mesh.faces) <= FACES_MAX and mesh.next_vertex <= ID_MAX + 1 and mesh.next_face <= ID_MAX + 1, NotDone("full"))
+    is_within = len(mesh.points) <= VERTICES_MAX and len(mesh.faces) <= FACES_MAX
+    need(is_within and mesh.next_vertex <= ID_MAX + 1 and mesh.next_face <= ID_MAX + 1, NotDone("full"))
 
 # The corner that is no end of the edge.
 def opposite_vertex(mesh, f, a, b): return next(v for v in mesh.faces[f] if v not in (a, b))
@@ -736,10 +711,7 @@ def flip(mesh, a, b, depth):
 
 def collapse_point(mesh, a, b):
     """Where both ends of an edge go: to the one that is solid, or to the middle, rounded down."""
-    for v in (a, b):
-        if v in mesh.solid:
-            return mesh.points[v]
-    return middle_down(mesh.points[a], mesh.points[b])
+    return next((mesh.points[v] for v in (a, b) if v in mesh.solid), middle_down(mesh.points[a], mesh.points[b]))
 
 def faces_at(mesh, v): return [f for f, corners in mesh.faces.items() if v in corners]
 
@@ -843,16 +815,12 @@ def candidates(mesh, kind):
         return [one + two for one, two in combinations(edges_of(mesh), 2)]
     return edges_of(mesh)
 
-def is_near(mesh, a, b, e, f, length):
-    """The midpoints of two edges are at most so far apart; in half units."""
-    middles = plus(mesh.points[a], mesh.points[b]), plus(mesh.points[e], mesh.points[f])
-    return squared_distance(*middles) <= (2 * length) ** 2
-
 def is_zip_due(mesh, a, b, e, f, length):
     """Both edges stand, their midpoints are near enough, neither is crowded, and the eight vertices are different."""
-    if not all(v in mesh.points for v in (a, b, e, f)) or not is_near(mesh, a, b, e, f, length):
+    if not is_edge(mesh, a, b) or not is_edge(mesh, e, f):
         return False
-    if not is_edge(mesh, a, b) or not is_edge(mesh, e, f) or is_crowded(mesh, a, b) or is_crowded(mesh, e, f):
+    middles = plus(mesh.points[a], mesh.points[b]), plus(mesh.points[e], mesh.points[f])
+    if squared_distance(*middles) > (2 * length) ** 2 or is_crowded(mesh, a, b) or is_crowded(mesh, e, f):
         return False
     return len({a, b, e, f, *edge_with_faces(mesh, a, b)[1:], *edge_with_faces(mesh, e, f)[1:]}) == 8
 
@@ -917,38 +885,35 @@ def zone_shifts(mesh, asked, blocks):
         shifts.update((v, (0, 0, 0) if mesh.solid & set(block) else mean) for v in block)
     return shifts
 
-def ends_in_box(mesh, shifts): return all(is_in_box(p) for p in moved_by(mesh, shifts).values())
+def tried(mesh, shifts, settings):
+    """The failing pairs of shifts, or nothing where an end would leave the box."""
+    if all(is_in_box(p) for p in moved_by(mesh, shifts).values()):
+        return list(failing_pairs(mesh, shifts, settings["depth"]))
+    return None
 
 def by_impulses(mesh, asked, failing, settings):
     """The fewest impulse passes after which all pairs pass, and the shifts then."""
-    shifts = asked
-    for number in range(1, settings["passes"] + 1):
-        shifts = impulse_pass(mesh, shifts, failing)
-        if not ends_in_box(mesh, shifts):
-            return None
-        failing = list(failing_pairs(mesh, shifts, settings["depth"]))
-        if not failing:
-            return f"impulse {number}", shifts, []
-    return None
+    shifts, number = asked, 0
+    while failing and number < settings["passes"]:
+        shifts, number = impulse_pass(mesh, shifts, failing), number + 1
+        failing = tried(mesh, shifts, settings)
+    return (f"impulse {number}", shifts, []) if failing == [] else None
 
 def by_zones(mesh, asked, failing, settings):
     """The first round of impact zones in which all pairs pass, its shifts and its blocks."""
-    joined = list(failing)
-    for number in count(1):
+    joined, number, shifts, blocks = [], 0, asked, []
+    while failing:
+        joined, number = joined + failing, number + 1
         blocks = blocks_of(mesh, joined)
         shifts = zone_shifts(mesh, asked, blocks)
-        if not ends_in_box(mesh, shifts):
-            return None
-        failing = list(failing_pairs(mesh, shifts, settings["depth"]))
-        if not failing:
-            return f"zones {number}", shifts, blocks
-        joined += failing
+        failing = tried(mesh, shifts, settings)
+    return (f"zones {number}", shifts, blocks) if failing == [] else None
 
 def by_halvings(mesh, asked, settings):
     """The fewest halvings of the asked shifts with which all pairs pass."""
     for number in range(1, settings["halvings"] + 1):
         shifts = {v: divided(shift, 2 ** number) for v, shift in asked.items()}
-        if not next(failing_pairs(mesh, shifts, settings["depth"]), None):
+        if not any(failing_pairs(mesh, shifts, settings["depth"])):
             return f"halved {number}", shifts, []
     return None
 
@@ -963,45 +928,35 @@ def way_taken(mesh, asked, failing, settings):
 
 # ======== The engine
 
-class Group:
-    """An open "group": the mesh and what was asked at its opening, and whether it has failed."""
-    def __init__(self, mesh, asked):
-        self.mesh, self.asked, self.has_failed = mesh, asked, False
-
 class Engine:
-    """The "state" between two directives, and what each "directive" does. `store` takes the meshes by their numbers."""
+    """The "state" between two directives, and what each "directive" does. `store` takes the meshes by their numbers. Of each open "group" it has
+    the mesh and the asked shifts at its opening, and whether it has failed."""
     def __init__(self, mesh, store):
         self.mesh, self.store, self.groups, self.steps, self.saved = mesh, store, [], 0, 0
         self.asked = {v: (0, 0, 0) for v in mesh.points}
         self.settings = {name: first for name, (first, _) in SETTINGS.items()}
-
     def do(self, line, kind, values):
         if kind in ("split", "collapse", "flip", "zip", "pinch", "fit"):
             self.run_pass(kind, *values)
         else:
             getattr(self, kind)(line, *values)
-
     def set(self, line, name, value):
         self.settings[name] = value
-
     def ask(self, line, shifts):
         """Adds these shifts to what is asked."""
         sums = {v: plus(self.asked[v], shift) for v, shift in sorted(shifts.items())}
         for v in sums:
             need(size_of(sums[v]) <= SHIFT_MAX, Refused(f"use {line} range {v}", 10))
         self.asked.update(sums)
-
     def shift(self, line, v, *shift):
         if v == "all":
             return self.ask(line, {v: shift for v in self.mesh.points if v not in self.mesh.solid})
         need(v in self.mesh.points, Refused(f"use {line} vertex {v}", 10))
         need(v not in self.mesh.solid, Refused(f"use {line} solid {v}", 10))
         self.ask(line, {v: shift})
-
     def drive(self, line, name):
         need(name in FIELDS, Refused(f"use {line} field", 10))
         self.ask(line, {v: FIELDS[name](*p) for v, p in self.mesh.points.items() if v not in self.mesh.solid})
-
     def solid(self, line, v):
         need(v in self.mesh.points, Refused(f"use {line} vertex {v}", 10))
         self.mesh = self.mesh.with_solid(v)
@@ -1049,18 +1004,15 @@ class Engine:
     def fail(self):
         """The innermost open group fails."""
         if self.groups:
-            self.groups[-1].has_failed = True
-
+            self.groups[-1]["has_failed"] = True
     def group(self, line):
-        self.groups.append(Group(self.mesh, dict(self.asked)))
+        self.groups.append({"mesh": self.mesh, "asked": dict(self.asked), "has_failed": False})
         tell("group")
-
     def close(self, line):
         group = self.groups.pop()
-        if group.has_failed:
-            self.mesh, self.asked = group.mesh, group.asked
-        tell("close", "undone" if group.has_failed else "kept")
-
+        if group["has_failed"]:
+            self.mesh, self.asked = group["mesh"], group["asked"]
+        tell("close", "undone" if group["has_failed"] else "kept")
     def save(self, line=None):
         tell("mesh", self.saved, len(self.mesh.points), len(self.mesh.faces))
         self.store(self.saved, self.mesh)
@@ -1072,7 +1024,6 @@ class Files:
     """The files of a run. Those that it has read are known by the path to which their names lead, so that none of them is lost."""
     def __init__(self, decimals):
         self.decimals, self.texts, self.is_rounded = decimals, {}, False
-
     def read(self, name, word):
         """The text of a file, a character for each byte."""
         try:
@@ -1083,12 +1034,10 @@ class Files:
         need(len(text) <= FILE_MAX, Refused(f"long {word} {len(text)}", 5))
         self.texts.setdefault(os.path.realpath(name), []).append((word, text))
         return text
-
     def lists(self, grammar, text):
         lists = read_by("mesh", 6, grammar, text, self.decimals)
         self.is_rounded = lists.rounded
         return lists
-
     def store(self, name, text):
         """Stores a text; one that was read and would be lost, since it is no mesh or was rounded, is kept as it was."""
         lost = [old for word, old in self.texts.pop(os.path.realpath(name), []) if word != "mesh" or self.is_rounded]
@@ -1096,7 +1045,6 @@ class Files:
         for old in lost[:1]:
             write(next(its for its in names if not os.path.lexists(its)), old)
         write(name, text)
-
     def store_mesh(self, prefix, number, mesh): self.store(f"{prefix}-{number:06}.obj", text_of_mesh(mesh, self.decimals))
 
 def write(name, text):
