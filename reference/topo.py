@@ -103,6 +103,7 @@ def is_separated(starts, ends, depth):
         return True
     return depth > 0 and all(is_separated(*half, depth - 1) for half in halves(starts, ends))
 
+@lru_cache(maxsize=100_000)
 def passes(starts, ends, depth):
     """A pair "passes"."""
     go_by_one_shift = len({minus(q, p) for p, q in zip(starts, ends)}) == 1
@@ -185,7 +186,8 @@ def near_pairs(mesh, *places):
 def five_at(mesh, places, pair):
     """The "five positions" of a pair where the vertices stand at these places."""
     a, b, f = pair
-    return tuple(places[v] for v in (a, b, *mesh.faces[f]))
+    c, d, e = mesh.faces[f]
+    return places[a], places[b], places[c], places[d], places[e]
 
 # All "pairs that meet" of a mesh, in order, at its "rest positions". A mesh is "clear" where there is none.
 def meeting_pairs(mesh): return (pair for pair in near_pairs(mesh, mesh.points) if meet(five_at(mesh, mesh.points, pair)))
