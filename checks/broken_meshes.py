@@ -5,8 +5,9 @@
 
 COUNT meshes (200 at first) are made from SEED on (1 at first): bodies that stand near or in one another, as random_jobs.py makes them, and rings
 that are linked; of three in four some faces are dropped, doubled, turned round, or get a corner of another face, of no vertex, or one of
-their own twice. The plain look goes by the definitions, face by face and pair by pair, in whole numbers. The last line tells how many were
-alike, and how many had a fault of each kind; at a difference the mesh is kept, and the exit status is 1.
+their own twice. The plain look goes by the definitions, face by face and pair by pair, in whole numbers, and is not that of
+`reference/topo.py`, whose `check` has to tell the same. The last line tells how many were alike, and how many had a fault of each kind; at a
+difference the mesh is kept, and the exit status is 1.
 """
 
 import collections
@@ -16,7 +17,7 @@ import subprocess
 import sys
 import tempfile
 
-from random_jobs import TOPO, keep_files, mesh_of, ring
+from random_jobs import REFERENCE, TOPO, keep_files, mesh_of, ring
 
 LINES_MAX = 1_000_000
 
@@ -170,14 +171,14 @@ def main():
         with tempfile.TemporaryDirectory() as folder:
             with open(os.path.join(folder, "m.obj"), "w", encoding="ascii") as it:
                 it.write(text)
-            ran = subprocess.run([program, "check", "m.obj"], cwd=folder, stdout=subprocess.PIPE, stderr=subprocess.DEVNULL, timeout=60)
+            told = [subprocess.run([its, "check", "m.obj"], cwd=folder, stdout=subprocess.PIPE, stderr=subprocess.DEVNULL, timeout=60) for its in (program, REFERENCE)]
         wanted = looked_at(points, faces)
         kinds.update({line.rsplit(" ", line.count(" ") - line.startswith("shape"))[0] for line in wanted[0].splitlines()[:-1]} or {"none"})
-        if (ran.stdout.decode(), ran.returncode) == wanted:
+        if all((ran.stdout.decode(), ran.returncode) == wanted for ran in told):
             alike += 1
         else:
             kept = keep_files(f"broken-{number}-", ["check", "m.obj"], {"m.obj": text.encode(), "wanted": wanted[0].encode()})
-            print(f"mesh {number}: {ran.returncode} came, and {wanted[1]} is right; it is kept in {kept}")
+            print(f"mesh {number}: {told[0].returncode} came, {told[1].returncode} of the reference, and {wanted[1]} is right; it is kept in {kept}")
     print("meshes with such lines:", ", ".join(f"{kind} {n}" for kind, n in sorted(kinds.items())))
     print(f"{alike} of {count} alike")
     return 0 if alike == count else 1

@@ -1,9 +1,10 @@
 #!/usr/bin/env python3
 """Feeds the program texts that dice have spoilt, and compares what it does with what another one of the same command line does.
 
-    checks/mutated_texts.py OTHER [COUNT [SEED [SECONDS [PROGRAM]]]]
+    checks/mutated_texts.py [OTHER] [COUNT [SEED [SECONDS [PROGRAM]]]]
 
-The other program should be written apart from this one, whose place PROGRAM may take. From SEED on (1 at first) random jobs are made, as random_jobs.py
+The other program should be written apart from this one, whose place PROGRAM may take. Where none is given it is `reference/topo.py`, which has no
+proofs: then none is spoilt, and only jobs that are small enough for it are taken. From SEED on (1 at first) random jobs are made, as random_jobs.py
 makes them; the other program tracks each, converts its mesh to OFF and PLY, and proves its log. Then each of these texts (a mesh in three formats,
 steps, a log, a proof) is spoilt some times and given to the commands that read it, until COUNT spoilt texts (1,000 at first) were read. A text is spoilt
 in one place or in several: bytes are turned, put in, doubled or left out (zero bytes and bytes of no ASCII text too), lines are doubled, left
@@ -19,7 +20,7 @@ import subprocess
 import sys
 import tempfile
 
-from random_jobs import TOPO, job_of, keep_files
+from random_jobs import REFERENCE, TOPO, is_small, job_of, keep_files, other_and_numbers
 
 # how often each text of a job is spoilt
 TIMES = 6
@@ -106,6 +107,8 @@ def run(program, words, files, seconds):
 def texts_of(other, seed, seconds):
     """The texts of a job: of each its name, the files beside it, and the words of the commands that read it."""
     mesh, steps, words = job_of(seed)
+    if other == REFERENCE and not is_small(mesh, steps):
+        return
     places = words[4:] if words[0] == "track" else words[3:]
     files = {"m.obj": mesh.encode(), "s.txt": steps.encode()}
     track = ["track", "m.obj", "s.txt", "t", *places]
@@ -119,6 +122,9 @@ def texts_of(other, seed, seconds):
     if ran is None:
         return
     files = {"m.obj": files["m.obj"], "l.txt": ran[1]}
+    if other == REFERENCE:
+        yield "l.txt", files, [["measure", "m.obj", "l.txt", *places], ["replay", "m.obj", "l.txt", "r", *places]]
+        return
     yield "l.txt", files, [["measure", "m.obj", "l.txt", *places], ["prove", "m.obj", "l.txt", *places]]
     proof = run(other, ["prove", "m.obj", "l.txt", *places], files, seconds)
     if proof and proof[0] == 0:
@@ -126,11 +132,9 @@ def texts_of(other, seed, seconds):
 
 
 def main():
-    if len(sys.argv) < 2:
-        sys.exit(__doc__)
-    other = os.path.abspath(sys.argv[1])
-    count, seed, seconds = (int(word) for word in (sys.argv[2:] + ["1000", "1", "20"][len(sys.argv) - 2 :])[:3])
-    program = os.path.abspath(sys.argv[5]) if len(sys.argv) > 5 else TOPO
+    words = sys.argv[1:]
+    program = os.path.abspath(words.pop()) if len(words) > 3 and not words[-1].isdigit() else TOPO
+    other, count, seed, seconds = other_and_numbers(words, 1000, 1, 20)
     alike = unlike = late = texts = 0
     statuses = collections.Counter()
     while texts < count:

@@ -1,15 +1,17 @@
 #!/usr/bin/env python3
 """Runs random jobs with the program and with another one of the same command line, and compares status, log and files.
 
-    checks/random_jobs.py OTHER [COUNT [SEED [SECONDS]]]
+    checks/random_jobs.py [OTHER] [COUNT [SEED [SECONDS]]]
 
-The other program should be written apart from this one; what both answer alike is then hardly a slip of either. COUNT jobs (100 at first) are
+The other program should be written apart from this one; what both answer alike is then hardly a slip of either. Where none is given it is
+`reference/topo.py`, and only jobs that are small enough for it are made: of at most 60 faces, and few passes. COUNT jobs (100 at first) are
 made from SEED on (1 at first), each of a few bodies that stand near one another and a text of steps, some with a fault. A job that one of
 the two does not end within SECONDS (20 at first) is told and not compared. The last lines tell how many were alike, and of which lines their
 logs are; at a difference the job is kept and the exit status is 1.
 """
 
 import collections
+import itertools
 import os
 import random
 import subprocess
@@ -18,6 +20,9 @@ import tempfile
 
 ROOT = os.path.dirname(os.path.dirname(os.path.abspath(__file__)))
 TOPO = os.path.join(ROOT, "topo")
+REFERENCE = os.path.join(ROOT, "reference", "topo.py")
+# the greatest number of faces, and of passes that may do much, of a job that the reference, which looks at all pairs, is asked for
+SMALL_FACES, SMALL_PASSES = 60, 2
 
 TETRAHEDRON = [(0, 0, 0), (4, 0, 0), (0, 4, 0), (0, 0, 4)], [(0, 2, 1), (0, 1, 3), (1, 2, 3), (0, 3, 2)]
 CUBE = (
@@ -173,17 +178,39 @@ def keep(seed, mesh, steps, words):
     return keep_files(f"job-{seed}-", words, {"m.obj": mesh.encode(), "s.txt": steps.encode()})
 
 
-def compare(job_of, words, count, seed, seconds):
+def other_and_numbers(words, *numbers):
+    """The other program of a command line, which is the reference where its first word is none, and its numbers; those left out are as given."""
+    if any(word.startswith("-") for word in words):
+        sys.exit(sys.modules["__main__"].__doc__)
+    has_other = words and not words[0].isdigit()
+    other, words = (os.path.abspath(words[0]), words[1:]) if has_other else (REFERENCE, words)
+    return other, *(int(word) for word in [*words, *numbers[len(words) :]][: len(numbers)])
+
+
+def is_small(mesh, steps, faces=SMALL_FACES):
+    """Whether a job is small enough for the reference."""
+    many = sum(line.startswith(("split", "fit", "zip")) for line in steps.split("\n"))
+    return mesh.count("\nf ") <= faces and many <= SMALL_PASSES
+
+
+def jobs_from(job_of, seed, count, other, faces=SMALL_FACES):
+    """So many jobs from a number on, each with its number; for the reference those that are small enough."""
+    numbers = itertools.count(seed)
+    while count:
+        number = next(numbers)
+        job = job_of(number)
+        if other != REFERENCE or is_small(*job[:2], faces):
+            count -= 1
+            yield number, job
+
+
+def compare(job_of, words, count, seed, seconds, faces=SMALL_FACES):
     """Runs jobs with this program and with another by the words of a command line, tells how many were alike, and answers the lines of the
     logs that were, in words, and the exit status. OTHER, COUNT, SEED and SECONDS are the words; those left out are as given."""
-    if not words:
-        sys.exit(sys.modules["__main__"].__doc__)
-    other = os.path.abspath(words[0])
-    count, seed, seconds = (int(word) for word in (words[1:] + [count, seed, seconds][len(words) - 1 :])[:3])
+    other, count, seed, seconds = other_and_numbers(words, count, seed, seconds)
     alike = late = unlike = 0
     lines = []
-    for number in range(seed, seed + count):
-        job = job_of(number)
+    for number, job in jobs_from(job_of, seed, count, other, faces):
         one, two = outcome(TOPO, *job, seconds), outcome(other, *job, seconds)
         if one is None or two is None:
             late += 1

@@ -1,9 +1,10 @@
 #!/usr/bin/env python3
 """Measures, proves and replays the logs of random jobs, whole and spoilt, with the program, and compares with another one of the same command line.
 
-    checks/random_logs.py OTHER [COUNT [SEED [SECONDS [SPOILT]]]]
+    checks/random_logs.py [OTHER] [COUNT [SEED [SECONDS [SPOILT]]]]
 
-The other program should be written apart from this one. COUNT jobs (100 at first) are made from SEED on (1 at first), as random_jobs.py makes
+The other program should be written apart from this one. Where none is given it is `reference/topo.py`, which neither proves nor verifies: then
+logs are measured and replayed alone, and only of jobs that are small enough for it. COUNT jobs (100 at first) are made from SEED on (1 at first), as random_jobs.py makes
 them, and tracked by the other program; each log is measured and proved by both as it is, and then SPOILT times (3 at first) with a line doubled,
 left out, exchanged with the next, cut short, or with a number raised by one, at a place that dice pick; and the proof of the whole log is
 verified with each of these logs. Compared are status and output; a log that one of the two does not end within SECONDS (20 at first) is told
@@ -18,7 +19,7 @@ import subprocess
 import sys
 import tempfile
 
-from random_jobs import TOPO, job_of, keep
+from random_jobs import REFERENCE, TOPO, job_of, jobs_from, keep, other_and_numbers
 
 
 def spoilt(dice, log):
@@ -88,14 +89,12 @@ def fault_of_replay(folder, decimals, measured, tracked, is_whole, seconds):
 
 
 def main():
-    if len(sys.argv) < 2:
-        sys.exit(__doc__)
-    other = os.path.abspath(sys.argv[1])
-    count, seed, seconds, times = (int(word) for word in (sys.argv[2:] + ["100", "1", "20", "3"][len(sys.argv) - 2 :])[:4])
+    other, count, seed, seconds, times = other_and_numbers(sys.argv[1:], 100, 1, 20, 3)
+    commands = [["measure", "m.obj", "log.txt"], ["prove", "m.obj", "log.txt"], ["verify", "m.obj", "log.txt", "proof.txt"]]
+    commands = commands[:1] if other == REFERENCE else commands
     alike = late = unlike = motions = replayed = 0
     statuses = {}
-    for number in range(seed, seed + count):
-        mesh, steps, words = job_of(number)
+    for number, (mesh, steps, words) in jobs_from(job_of, seed, count, other):
         if words[0] != "track":
             continue
         dice = random.Random(f"log {number}")
@@ -113,7 +112,7 @@ def main():
             for at, text in enumerate([log] + [spoilt(dice, log) for _ in range(times)]):
                 with open(os.path.join(folder, "log.txt"), "wb") as it:
                     it.write(text)
-                for command, *files in (["measure", "m.obj", "log.txt"], ["prove", "m.obj", "log.txt"], ["verify", "m.obj", "log.txt", "proof.txt"]):
+                for command, *files in commands:
                     if command == "verify" and not os.path.exists(os.path.join(folder, "proof.txt")):
                         continue
                     asked = [command, *files, *words[4:]]

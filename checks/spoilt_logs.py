@@ -1,9 +1,10 @@
 #!/usr/bin/env python3
 """Spoils the logs of the worked cases in every way, and compares what two programs measure of them.
 
-    checks/spoilt_logs.py OTHER [SECONDS]
+    checks/spoilt_logs.py [OTHER] [SECONDS]
 
-The other program should be written apart from this one. Of each log of the folder `worked` that tells a run of a mesh: each line doubled, left
+The other program should be written apart from this one. Where none is given it is `reference/topo.py`, and only logs of at most 300 bytes are
+spoilt. Of each log of the folder `worked` that tells a run of a mesh: each line doubled, left
 out, exchanged with the next, and each number raised by one, one fault at a time. Compared are status and output. The last line tells how many
 were alike, and how many had each status; at a difference the log is kept and the exit status is 1.
 """
@@ -12,7 +13,7 @@ import os
 import sys
 import tempfile
 
-from random_jobs import TOPO, keep
+from random_jobs import REFERENCE, TOPO, keep, other_and_numbers
 from random_logs import measured
 from worked_cases import FOLDER, Case
 
@@ -31,15 +32,14 @@ def spoilt(lines):
 
 
 def main():
-    if len(sys.argv) < 2:
-        sys.exit(__doc__)
-    other, seconds = os.path.abspath(sys.argv[1]), int((sys.argv[2:] + ["20"])[0])
+    other, seconds = other_and_numbers(sys.argv[1:], 20)
+    longest = 300 if other == REFERENCE else 4_000
     alike = unlike = late = logs = 0
     statuses = {}
     for name in sorted(os.listdir(FOLDER)):
         with open(os.path.join(FOLDER, name)) as it:
             case = Case(it.read())
-        if case.words[0] != "track" or case.words[1] not in case.inputs or not case.log or len(case.log) > 4_000:
+        if case.words[0] != "track" or case.words[1] not in case.inputs or not case.log or len(case.log) > longest:
             continue
         logs += 1
         mesh, decimals = case.inputs[case.words[1]], case.words[4:]

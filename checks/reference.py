@@ -1,0 +1,128 @@
+#!/usr/bin/env python3
+"""Runs the program and `reference/topo.py` on fixed small jobs, and compares status, output and files, byte for byte.
+
+    checks/reference.py [PROGRAM [REFERENCE]]
+
+The reference is what docs/DEFINITIONS.md and docs/FORMATS.md say, as one plain program, so a change of what a definition means shows here
+without any prover. The jobs are those of some numbers, made as `random_jobs.py`, `broken_meshes.py` and `mutated_texts.py` make them: steps of
+each way, all edits and their refusals, groups, fields, fits and grids are tracked, and each log is measured and replayed; meshes are converted
+to each format and back and checked; broken meshes are checked; and spoilt texts are refused. Then it is looked whether reference/README.md
+names each definition of docs/DEFINITIONS.md, and the reference what it names there. It takes less than a minute on one core. REFERENCE may be
+another program in its place. The last line tells how many jobs were alike; at a difference the job is kept and the exit status is 1.
+"""
+
+import os
+import random
+import re
+import subprocess
+import sys
+
+from broken_meshes import mesh_from
+from mutated_texts import run, spoilt
+from random_jobs import REFERENCE, ROOT, TOPO, job_of, keep_files
+
+SECONDS = 60
+TRACKED = (7, 49, 213, 234, 309, 388, 417, 560, 585, 626, 662, 896, 959, 960, 984, 1115, 1126, 1263, 1279, 1547, 1620, 1683, 1753, 1788, 1900, 1909, 2014, 2209, 2251, 2348)
+CONVERTED = (3, 11, 19, 27)
+BROKEN = (1, 2, 3, 5, 8, 13)
+SPOILT = (1, 2, 3, 4, 5, 6)
+
+
+def jobs_of_tracking(program):
+    """Jobs that are tracked, each with its log, as the program writes it, measured and replayed."""
+    for number in TRACKED:
+        mesh, steps, words = job_of(number)
+        files = {"m.obj": mesh.encode(), "s.txt": steps.encode()}
+        commands = [(words, files)]
+        if words[0] == "track":
+            files = {"m.obj": files["m.obj"], "l.txt": run(program, words, files, SECONDS)[1]}
+            commands += [(["measure", "m.obj", "l.txt", *words[4:]], files), (["replay", "m.obj", "l.txt", "again", *words[4:]], files)]
+        yield f"tracked {number}", commands
+
+
+def jobs_of_meshes(program):
+    """Meshes that are converted to each format, from that to another, and checked; and broken meshes that are checked."""
+    for number in CONVERTED:
+        mesh, _, words = job_of(number)
+        options, commands = words[4:] if words[0] == "track" else words[3:], []
+        for ending, other in ((".off", ".ply"), (".ply", ".obj")):
+            files = {"m.obj": mesh.encode()}
+            commands.append((["convert", "m.obj", "n" + ending, *options], files))
+            made = run(program, *commands[-1], SECONDS)[2].get("n" + ending, b"")
+            commands.append((["convert", "n" + ending, "o" + other, *options], {"n" + ending: made}))
+            commands.append((["check", "n" + ending, *options], {"n" + ending: made}))
+        # what is rounded is kept as it was
+        commands.append((["convert", "m.obj", "m.obj"], {"m.obj": mesh.replace("\nv ", "\nv 0.25").encode()}))
+        yield f"converted {number}", commands
+    for number in BROKEN:
+        points, faces = mesh_from(number)
+        text = "".join("v {} {} {}\n".format(*p) for p in points) + "".join("f {} {} {}\n".format(*f) for f in faces)
+        yield f"broken {number}", [(["check", "m.obj"], {"m.obj": text.encode()})]
+
+
+def jobs_of_texts(program):
+    """Texts that dice have spoilt: a mesh in each format, steps and a log."""
+    mesh, steps, words = job_of(TRACKED[0])
+    files = {"m.obj": mesh.encode(), "s.txt": steps.encode()}
+    files["l.txt"] = run(program, words, files, SECONDS)[1]
+    for name in ("m.off", "m.ply"):
+        files[name] = run(program, ["convert", "m.obj", name], files, SECONDS)[2][name]
+    asked = {"m.obj": ["check", "m.obj"], "m.off": ["convert", "m.off", "c.obj"], "m.ply": ["convert", "m.ply", "c.obj"],
+             "s.txt": ["track", "m.obj", "s.txt", "t"], "l.txt": ["replay", "m.obj", "l.txt", "t"]}
+    for number in SPOILT:
+        dice = random.Random(f"reference {number}")
+        yield f"spoilt {number}", [(words, {**files, name: spoilt(dice, files[name])}) for name, words in asked.items()]
+
+
+def difference(program, reference, commands):
+    """The first command that the two do not answer alike, with its files and what differs."""
+    for words, files in commands:
+        one, two = run(program, words, files, SECONDS), run(reference, words, files, SECONDS)
+        if one is None or one != two:
+            return words, files, "time" if None in (one, two) else "status" if one[0] != two[0] else "output" if one[1] != two[1] else "files"
+    return None
+
+
+def text_of(*names):
+    with open(os.path.join(ROOT, *names), encoding="utf-8") as it:
+        return it.read()
+
+
+def names_missing(reference):
+    """The definitions that reference/README.md does not name, and what it names that is not in the reference."""
+    told, program = text_of("reference", "README.md"), text_of(reference)
+    definitions = text_of("docs", "DEFINITIONS.md").partition("\n## The field's terms")[0]
+    terms = {re.sub(r"\s+", " ", term) for term in re.findall(r"\*\*(.+?)\*\*", definitions, re.S)}
+    plain = re.sub(r"\s+", " ", told).lower()
+    yield from (f"reference/README.md does not name the definition {term!r}" for term in sorted(terms) if term.strip("`").lower() not in plain)
+    for name in re.findall(r"`(\w+)`", told.partition("\n## Where each definition stands")[2].partition("\n## ")[0]):
+        if not re.search(rf"^ *(def|class) {name}\b|^{name}\b", program, re.M):
+            yield f"reference/README.md names `{name}`, which is not in the reference"
+
+
+def main():
+    if any(word.startswith("-") for word in sys.argv[1:]):
+        sys.exit(__doc__)
+    program, reference = (os.path.abspath(word) for word in [*sys.argv[1:], *[TOPO, REFERENCE][len(sys.argv) - 1 :]])
+    # where the program is to be built first, that takes its time
+    subprocess.run([program, "--version"], check=True, stdout=subprocess.DEVNULL)
+    alike = failed = 0
+    for jobs in (jobs_of_tracking, jobs_of_meshes, jobs_of_texts):
+        for name, commands in jobs(program):
+            found = difference(program, reference, commands)
+            if found:
+                failed += 1
+                words, files, what = found
+                kept = keep_files(f"{name.replace(' ', '-')}-", words, files)
+                print(f"FAILED {name}: {what} of {' '.join(words)} differ; it is kept in {kept}")
+            else:
+                alike += 1
+    for fault in names_missing(reference):
+        failed += 1
+        print(f"FAILED {fault}")
+    print(f"{alike} passed, {failed} failed")
+    return 1 if failed or not alike else 0
+
+
+if __name__ == "__main__":
+    sys.exit(main())
