@@ -16,7 +16,7 @@ use Rattle.step_text.specs.Ranges.{IsInRange, open_behind}
 use Rattle.log_text.specs.declared.TheConstants.{COUNT_MAX, VERSION}
 use Rattle.log_text.specs.declared.LogLine.{LogLine}
 use Rattle.log_text.specs.declared.LogLine.TheVariants.{First, Close, End}
-use Rattle.log_text.specs.Laws.{IsAskedInRange}
+use Rattle.log_read.specs.Laws.{IsAskedInRange}
 use Rattle.log_text.specs.Lines.{text_of_lines}
 use Rattle.log_text.proofs.LineLaws.{text_of_lines-append}
 use Rattle.log_replay.specs.Again.{LineIsAgain, LinesAreAgain}

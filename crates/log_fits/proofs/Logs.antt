@@ -8,8 +8,8 @@ use Rattle.log_text.specs.declared.TheConstants.{VERSION}
 use Rattle.log_text.specs.declared.LogLine.{LogLine}
 use Rattle.log_text.specs.declared.LogLine.TheVariants.{First}
 use Rattle.log_text.specs.Lines.{text_of_lines}
-use Rattle.log_text.specs.Reading.{log_of as lines_of_text}
-use Rattle.log_text.proofs.LogLaws.{written_logs_are_read_lem}
+use Rattle.log_read.specs.Reading.{log_of as lines_of_text}
+use Rattle.log_read.proofs.LogLaws.{written_logs_are_read_lem}
 use Rattle.log_replay.specs.Again.{LineIsAgain, LinesAreAgain}
 use Rattle.log_replay.specs.Replay.{Replay, replayed, at_mesh, EachAt}
 use Rattle.log_run.specs.States.{LogState, without_lines, with_line}

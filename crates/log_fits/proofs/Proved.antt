@@ -20,7 +20,7 @@ use Rattle.proof_text.proofs.TextLaws.{proofs_are_their_texts_lem}
 use Rattle.log_text.specs.declared.LogLine.{LogLine}
 use Rattle.log_text.specs.declared.TheConstants.{COUNT_MAX}
 use Rattle.log_text.specs.Lines.{text_of_lines}
-use Rattle.log_text.specs.Reading.{log_of as lines_of_text}
+use Rattle.log_read.specs.Reading.{log_of as lines_of_text}
 use Rattle.log_replay.specs.Again.{LinesAreAgain}
 use Rattle.log_run.specs.States.{LogState, without_lines}
 use Rattle.log_run.specs.Laws.{IsValidState}

@@ -19,7 +19,7 @@ use Rattle.motion_proof.specs.Making.{AreByRule}
 use Rattle.motion_proof.proofs.MakeSteps.{by_rule_accepted, made_fits}
 use Rattle.log_text.specs.declared.TheConstants.{COUNT_MAX}
 use Rattle.log_text.specs.declared.LogLine.{LogLine}
-use Rattle.log_text.specs.Laws.{IsFrom, IsPairInRange}
+use Rattle.log_read.specs.Laws.{IsFrom, IsPairInRange}
 use Rattle.run_laws.proofs.Names.{pairs_in_range}
 use Rattle.proof_text.specs.declared.ProofAt.{ProofAt}
 use Rattle.proof_text.specs.Plain.{PlainTree, PlainEntry, PlainProof}

@@ -10,7 +10,7 @@ use Rattle.proof_text.specs.declared.ProofAt.{ProofAt}
 use Rattle.log_text.specs.declared.LogLine.{LogLine}
 use Rattle.log_text.specs.declared.TheConstants.{COUNT_MAX, VERSION}
 use Rattle.log_text.specs.declared.LogLine.TheVariants.{First}
-use Rattle.log_text.specs.Reading.{log_of as lines_of_text}
+use Rattle.log_read.specs.Reading.{log_of as lines_of_text}
 use Rattle.log_text.specs.Lines.{text_of_lines}
 use Rattle.log_run.specs.Motions.{motions_of}
 use Rattle.log_run.specs.States.{without_lines}

@@ -14,7 +14,7 @@ use Rattle.step_text.specs.Ranges.{IsInRange}
 use Rattle.log_text.specs.declared.TheConstants.{COUNT_MAX, VERSION}
 use Rattle.log_text.specs.declared.LogLine.{LogLine}
 use Rattle.log_text.specs.declared.LogLine.TheVariants.{First, End}
-use Rattle.log_text.specs.Laws.{IsAskedInRange}
+use Rattle.log_read.specs.Laws.{IsAskedInRange}
 use Rattle.log_text.specs.Lines.{text_of_lines}
 use Rattle.track_engine.specs.Answers.{Answer}
 use Rattle.track_engine.specs.Effects.{Effect, Proceeds, Refused, Unanswered, effect_of, edits_effect, undo_effect, set_effect, mesh_line}

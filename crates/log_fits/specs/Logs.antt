@@ -7,7 +7,7 @@ use Rattle.log_text.specs.declared.TheConstants.{VERSION}
 use Rattle.log_text.specs.declared.LogLine.{LogLine}
 use Rattle.log_text.specs.declared.LogLine.TheVariants.{First}
 use Rattle.log_text.specs.Lines.{text_of_lines}
-use Rattle.log_text.specs.Reading.{log_of as lines_of_text}
+use Rattle.log_read.specs.Reading.{log_of as lines_of_text}
 use Rattle.log_replay.specs.Again.{LinesAreAgain}
 use Rattle.log_replay.specs.Replay.{at_mesh}
 use Rattle.log_run.specs.States.{without_lines}

@@ -1,14 +1,2 @@
 pub mod LineLaws
-pub mod LogParts
-pub mod CanonicalDigits
-pub mod Exactness
-pub mod Spellings
-pub mod EditSpellings
-pub mod Lists
-pub mod LineForms
-pub mod EditLineSpellings
-pub mod LineSpellings
-pub mod GraphicWords
-pub mod Latest
-pub mod LogLaws
 pub mod Spaced

@@ -1,23 +1,13 @@
-//! The lines of a log, the one spelling of each, and how they are read.
+//! The lines of a log, and the one spelling of each.
 #![tactic(auto)]
 
-mod edit_lines;
 mod edit_printing;
-mod edit_values;
-pub mod laws;
-mod lines;
-mod listed;
 mod log_line;
 mod printing;
 mod putting;
-mod reading;
-mod refusals;
-mod values;
 
 pub use log_line::{Log, LogLine, Refusal};
 pub use printing::{print_line, why_word};
-pub use reading::read_log;
-pub use values::pair_at;
 
 /// The version that is written, and by which a log is read whose first line names it.
 pub const VERSION: u8 = 2;

@@ -9,7 +9,7 @@ use Rattle.mesh_base.proofs.ListedPairs.{all_joined, all_mapped, all_weaker, edg
 use Rattle.edit_base.specs.declared.Asked.TheVariants as asked
 use Rattle.edit_base.specs.declared.PassKind.{PassKind}
 use Rattle.edit_base.specs.declared.PassKind.TheVariants.{Split, Collapse, Flip, Zip, Pinch}
-use Rattle.log_text.specs.Laws.{IsEdgeInRange, IsAskedInRange}
+use Rattle.log_read.specs.Laws.{IsEdgeInRange, IsAskedInRange}
 use Rattle.pass_run.specs.Candidates.{with_later, zip_of, candidates}
 use Rattle.run_laws.specs.Names.{IsId}
 use Rattle.run_laws.proofs.Names.{vertices_in_range, edges_in_range, live_keys}

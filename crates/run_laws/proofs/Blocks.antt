@@ -13,7 +13,7 @@ use Rattle.mesh_base.proofs.InOrder.{keys_sorted}
 use Rattle.mesh_base.proofs.ListedPairs.{all_mapped, all_filtered, all_weaker}
 use Rattle.mesh_base.proofs.Moves.{both_true}
 use Rattle.step_zones.specs.Zones.{Labels, block_at, heads, blocks}
-use Rattle.log_text.specs.Laws.{AreRising}
+use Rattle.log_read.specs.Laws.{AreRising}
 use Rattle.run_laws.specs.Names.{IsId, IsBlockInRange, BlocksAreInRange}
 use Rattle.run_laws.proofs.Names.{vertices_in_range, live_keys}
 

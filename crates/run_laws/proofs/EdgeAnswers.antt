@@ -23,7 +23,7 @@ use Rattle.edit_flip.specs.Flip.{flip_mesh, flip_scaffold}
 use Rattle.edit_flip.specs.Answer.{flip_answer}
 use Rattle.edit_collapse.specs.Collapse.{are_both_solid, collapse_mesh, collapse_point, collapse_scaffold, joined_faces}
 use Rattle.edit_collapse.specs.Answer.{collapse_answer}
-use Rattle.log_text.specs.Laws.{IsEdgeInRange}
+use Rattle.log_read.specs.Laws.{IsEdgeInRange}
 use Rattle.run_laws.specs.Names.{IsId}
 use Rattle.run_laws.specs.Answers.{IsAnswerInRange, AnswersInRange}
 use Rattle.run_laws.proofs.Names.{vertices_in_range, ordered_ids, found_in_range}

@@ -33,7 +33,7 @@ use Rattle.log_text.specs.declared.TheConstants.{COUNT_MAX}
 use Rattle.log_text.specs.declared.LogLine.{LogLine}
 use Rattle.log_text.specs.declared.LogLine.TheVariants.{Solid, Group as GroupLine, Close, End, Refused as RefusedLine}
 use Rattle.log_text.specs.declared.Refusal.TheVariants.{StepUse}
-use Rattle.log_text.specs.Laws.{IsFrom, IsPairInRange, IsHowInRange, IsUseInRange}
+use Rattle.log_read.specs.Laws.{IsFrom, IsPairInRange, IsHowInRange, IsUseInRange}
 use Rattle.pass_run.specs.PassLines.{terms_of}
 use Rattle.run_laws.specs.Names.{IsId, IsBlockInRange}
 use Rattle.run_laws.specs.Lines.{MayFollow, AreInRange}

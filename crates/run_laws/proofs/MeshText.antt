@@ -20,7 +20,7 @@ use Rattle.line_text.specs.Numbers.{grid_number_of}
 use Rattle.line_text.specs.Texts.{is_blank, is_comment, words_of}
 use Rattle.line_text.proofs.LineCuts.{few_lines}
 use Rattle.obj_text.specs.Obj.{corner_parts, vertex_number, corner_of, corners_of, fan, fan_after, point_of, face_of, Lists, is_skipped, words_add, is_continued, line_adds, lines_add, lists_of}
-use Rattle.log_text.specs.Laws.{IsFrom, IsWhyOf}
+use Rattle.log_read.specs.Laws.{IsFrom, IsWhyOf}
 
 -- a value of this kind, or a reason that a text without groups may have
 abbrev Reads : {X : Type 0} → (X → Type 0) → Result X TextWhy → Type 0

@@ -17,7 +17,7 @@ use Rattle.mesh_base.specs.Failing.{pair_passes, failing}
 use Rattle.mesh_base.proofs.Listed.{edge_live, each_found}
 use Rattle.mesh_base.proofs.ListedPairs.{all_mapped, all_filtered, all_weaker, listed_pairs}
 use Rattle.edit_acts.proofs.Found.{found_both}
-use Rattle.log_text.specs.Laws.{IsEdgeInRange, IsPairInRange}
+use Rattle.log_read.specs.Laws.{IsEdgeInRange, IsPairInRange}
 use Rattle.run_laws.specs.Names.{IsId, VerticesAreInRange, FacesAreInRange, EdgesAreInRange, PairsAreInRange, FailingPairsAreInRange, FirstMeetingIsInRange}
 
 -- an id that is made is one of the log

@@ -17,7 +17,7 @@ use Rattle.edit_base.specs.declared.answers.Edit.TheVariants.{Done, No}
 use Rattle.edit_base.specs.Clauses.{mesh_after}
 use Rattle.edit_any.specs.Dispatch.{edited}
 use Rattle.edit_any.proofs.Asked.{asked_stays_sound, asked_stays_closed}
-use Rattle.log_text.specs.Laws.{IsAskedInRange}
+use Rattle.log_read.specs.Laws.{IsAskedInRange}
 use Rattle.pass_run.specs.Candidates.{candidates, is_due, choice_in}
 use Rattle.pass_run.specs.PassLines.{PassRules, rules_of, line_of, answer_by, lines_asked, mesh_asked, lines_of, mesh_from, ends, lines_from, pass_lines}
 use Rattle.pass_run.specs.Fits.{call_of, call_in, turn_of, choice_by, fit_rules, fit_lines}

@@ -8,7 +8,7 @@ use Rattle.edit_base.specs.declared.answers.Why.TheVariants.{Hit}
 use Rattle.edit_base.specs.declared.answers.Edit.{Edit}
 use Rattle.edit_base.specs.declared.answers.Edit.TheVariants.{No}
 use Rattle.edit_base.specs.Reasons.{reason_if, first_reason}
-use Rattle.log_text.specs.Laws.{IsPairInRange, IsReasonInRange}
+use Rattle.log_read.specs.Laws.{IsPairInRange, IsReasonInRange}
 use Rattle.run_laws.specs.Answers.{IsAnswerInRange}
 
 -- the first of the reasons that is there, or else another answer

@@ -3,7 +3,7 @@ use Rattle.std.proofs.Common.{[], map}
 use Rattle.std.proofs.lemmas.List.Elements.{All-cons, All-nil, All-append, All-map, All-weaker}
 use Rattle.mesh_base.specs.Mesh.{IsLiveVertex}
 use Rattle.log_text.specs.declared.log_line.LogLine.TheVariants.{Step, Hit, Block, Move, Moved}
-use Rattle.log_text.specs.Laws.{IsPairInRange}
+use Rattle.log_read.specs.Laws.{IsPairInRange}
 use Rattle.run_laws.specs.Names.{IsBlockInRange}
 use Rattle.run_laws.specs.Lines.{MayFollow, StepLinesAreInRange, MeshLinesAreInRange}
 use Rattle.run_laws.proofs.Names.{vertices_in_range}

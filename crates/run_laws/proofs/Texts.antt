@@ -19,7 +19,7 @@ use Rattle.step_text.specs.Ranges as steps
 use Rattle.step_text.specs.Laws.{line_count}
 use Rattle.step_text.proofs.StepLaws.{steps_are_in_range_lem, faults_are_on_lines_lem, lines_are_few_lem}
 use Rattle.log_text.specs.declared.TheConstants.{COUNT_MAX, SEEN_MAX}
-use Rattle.log_text.specs.Laws.{IsFrom, IsPassInRange, IsShapeInRange}
+use Rattle.log_read.specs.Laws.{IsFrom, IsPassInRange, IsShapeInRange}
 use Rattle.run_laws.specs.Texts.{MeshFaultsAreInRange, ShapeFaultsAreInRange, StepFaultsAreInRange, IsPlacedInRange, DirectivesAreInRange, DirectivesAreFew}
 use Rattle.run_laws.proofs.MeshText.{line_count as mesh_lines, fault_at_line, few_given}
 use Rattle.run_laws.proofs.ShapeFaults.{shape_in_range}

@@ -23,7 +23,7 @@ use Rattle.step_zones.specs.Rounds.{hits_before, round_labels, round_shifts, rou
 use Rattle.step_zones.proofs.Rounds.{few_rounds}
 use Rattle.step_zones.proofs.Searched.{rounds_left, vertices_are_few}
 use Rattle.log_text.specs.declared.TheConstants.{ROUNDS_MAX}
-use Rattle.log_text.specs.Laws.{IsFrom}
+use Rattle.log_read.specs.Laws.{IsFrom}
 use Rattle.run_laws.specs.Lines.{WaysAreInRange}
 use Rattle.run_laws.proofs.Blocks.{above, keys_rising}
 

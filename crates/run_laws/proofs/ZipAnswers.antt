@@ -24,7 +24,7 @@ use Rattle.edit_zip.specs.Zip.{zip_mesh, turns, tried, turn_reason, taken_turn, 
 use Rattle.edit_zip.specs.Answer.{zip_answer}
 use Rattle.edit_zip.proofs.ZipTurns.{disjoint_of, turns_are_sound}
 use Rattle.log_text.specs.declared.TheConstants.{TURN_MAX}
-use Rattle.log_text.specs.Laws.{IsReasonInRange}
+use Rattle.log_read.specs.Laws.{IsReasonInRange}
 use Rattle.run_laws.specs.Answers.{IsAnswerInRange, AnswersInRange}
 use Rattle.run_laws.proofs.Names.{meeting_in_range}
 use Rattle.run_laws.proofs.Reasons.{unless_first, either_in_range, hit_reason}

@@ -4,7 +4,7 @@ use Rattle.edit_base.specs.declared.answers.Edit.TheVariants.{Done, No}
 use Rattle.mesh_base.specs.Mesh.{Mesh, IsSound}
 use Rattle.mesh_base.specs.Sides.{IsClosed}
 use Rattle.edit_base.specs.Laws.{Answer}
-use Rattle.log_text.specs.Laws.{IsChangeInRange, IsReasonInRange}
+use Rattle.log_read.specs.Laws.{IsChangeInRange, IsReasonInRange}
 
 -- the change that is done, or the reason against it
 abbrev pub IsAnswerInRange : Edit → Type 0

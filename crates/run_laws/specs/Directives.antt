@@ -6,7 +6,7 @@ use Rattle.step_text.specs.declared.Directive.{Directive}
 use Rattle.step_text.specs.declared.Placed.{Placed}
 use Rattle.step_text.specs.Ranges.{IsInRange}
 use Rattle.log_text.specs.declared.TheConstants.{COUNT_MAX}
-use Rattle.log_text.specs.Laws.{IsUseInRange}
+use Rattle.log_read.specs.Laws.{IsUseInRange}
 use Rattle.run_laws.specs.Lines.{AreInRange}
 use Rattle.run_laws.specs.Texts.{IsPlacedInRange}
 use Rattle.track_engine.specs.State.{State}

@@ -8,7 +8,7 @@ use Rattle.mesh_base.specs.Valid.{IsValidSurface}
 use Rattle.step_text.specs.declared.Placed.{Placed}
 use Rattle.log_text.specs.declared.Refusal.{Refusal}
 use Rattle.log_text.specs.declared.TheConstants.{COUNT_MAX, SEEN_MAX}
-use Rattle.log_text.specs.Laws.{IsRefusalInRange}
+use Rattle.log_read.specs.Laws.{IsRefusalInRange}
 use Rattle.run_laws.specs.Lines.{AreInRange}
 use Rattle.run_laws.specs.Texts.{IsPlacedInRange}
 use Rattle.track_input.specs.Source.{Source, Bytes, Absent, TooLong}

@@ -20,7 +20,7 @@ use Rattle.edit_base.specs.declared.PassKind.{PassKind}
 use Rattle.log_text.specs.declared.TheConstants.{COUNT_MAX}
 use Rattle.log_text.specs.declared.log_line.LogLine.{LogLine}
 use Rattle.log_text.specs.declared.log_line.LogLine.TheVariants.{Step, Hit, Block, Move, Moved, Mesh as MeshLine}
-use Rattle.log_text.specs.Laws.{IsFrom, IsPairInRange, IsHowInRange, IsPassInRange, IsAskedInRange, IsInRange, NamesNoOther}
+use Rattle.log_read.specs.Laws.{IsFrom, IsPairInRange, IsHowInRange, IsPassInRange, IsAskedInRange, IsInRange, NamesNoOther}
 use Rattle.pass_run.specs.declared.terms.PassTerms.{PassTerms}
 use Rattle.pass_run.specs.Candidates.{candidates}
 use Rattle.pass_run.specs.PassLines.{pass_lines, lines_from}

@@ -10,7 +10,7 @@ use Rattle.mesh_base.specs.Placements.{Placement}
 use Rattle.mesh_base.specs.Shifts.{Shifts}
 use Rattle.mesh_base.specs.Failing.{failing, first_meeting}
 use Rattle.step_zones.specs.Zones.{Labels, blocks}
-use Rattle.log_text.specs.Laws.{IsFrom, AreRising, IsEdgeInRange, IsPairInRange}
+use Rattle.log_read.specs.Laws.{IsFrom, AreRising, IsEdgeInRange, IsPairInRange}
 
 -- an id that a log may name
 abbrev pub IsId : ℕ → Type 0

@@ -12,7 +12,7 @@ use Rattle.step_text.specs.Steps.{steps_of}
 use Rattle.step_text.specs.Ranges.{IsInRange}
 use Rattle.log_text.specs.declared.TheConstants.{COUNT_MAX}
 use Rattle.log_text.specs.declared.log_line.Refusal.TheVariants.{Mesh, Shape, Steps}
-use Rattle.log_text.specs.Laws.{IsFrom, IsRefusalInRange}
+use Rattle.log_read.specs.Laws.{IsFrom, IsRefusalInRange}
 
 -- a mesh text outside its grammar: the line, and a reason that a mesh text may have
 abbrev pub MeshFaultsAreInRange : Type 0

@@ -12,7 +12,7 @@ use Rattle.edit_base.specs.declared.Edit.{Edit}
 use Rattle.edit_base.specs.declared.Edit.TheVariants as edit
 use Rattle.edit_base.specs.declared.Why.{Why}
 use Rattle.edit_base.specs.declared.Why.TheVariants as why
-use Rattle.log_text.specs.Laws.{IsAskedInRange}
+use Rattle.log_read.specs.Laws.{IsAskedInRange}
 use Rattle.track_held.specs.declared.editing_given.GivenEdit.{GivenEdit}
 use Rattle.track_held.specs.declared.editing_given.ToldAnswer.{ToldAnswer}
 

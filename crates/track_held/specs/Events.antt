@@ -12,7 +12,7 @@ use Rattle.log_text.specs.declared.TheConstants.{VERSION}
 use Rattle.log_text.specs.declared.LogLine.{LogLine}
 use Rattle.log_text.specs.declared.LogLine.TheVariants as line
 use Rattle.log_text.specs.Lines.{text_of_line}
-use Rattle.log_text.specs.Reading.{log_of}
+use Rattle.log_read.specs.Reading.{log_of}
 use Rattle.track_held.specs.declared.events.Event.{Event}
 use Rattle.track_held.specs.declared.events.EventRefusal.{EventRefusal}
 use Rattle.track_held.specs.declared.events.EventRefusal.TheVariants as refusals

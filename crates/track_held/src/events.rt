@@ -6,7 +6,8 @@ ghost use Rattle.track_held.specs.declared.events.EventRefusal.TheVariants as re
 use edit_base::{Change, CopyAt};
 use grid_base::{Items, NoMemory, Point, TEXT_MAX};
 use line_text::{ReadFault, TextFault};
-use log_text::{LogLine, VERSION, print_line, read_log};
+use log_read::read_log;
+use log_text::{LogLine, VERSION, print_line};
 use std::alloc::Global;
 
 /// What a line of a log tells that changes the surface or a group: the kind, up to four numbers, and a point or a shift.

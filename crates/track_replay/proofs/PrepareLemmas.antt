@@ -22,9 +22,9 @@ use Rattle.obj_text.specs.Views.{lists_view}
 use Rattle.log_text.specs.declared.LogLine.{LogLine}
 use Rattle.log_text.specs.declared.Refusal.TheVariants as refusal
 use Rattle.log_text.specs.Lines.{text_of_line, text_of_lines}
-use Rattle.log_text.specs.Reading.{log_of}
+use Rattle.log_read.specs.Reading.{log_of}
 use Rattle.log_text.proofs.LineLaws.{text_of_line-some}
-use Rattle.log_text.proofs.LogLaws.{logs_are_their_lines_lem}
+use Rattle.log_read.proofs.LogLaws.{logs_are_their_lines_lem}
 use Rattle.outside_io.specs.declared.outside.Fetched.{Fetched}
 use Rattle.outside_io.specs.declared.outside.Fetched.TheVariants as found
 use Rattle.outside_io.specs.Desk.{Files}

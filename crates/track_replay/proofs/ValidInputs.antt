@@ -17,7 +17,7 @@ use Rattle.line_text.specs.declared.TextFault.{TextFault}
 use Rattle.obj_text.specs.Obj.{Lists, lists_of}
 use Rattle.log_text.specs.declared.LogLine.{LogLine}
 use Rattle.log_text.specs.declared.LogLine.TheVariants.{Moved}
-use Rattle.log_text.specs.Reading.{log_of}
+use Rattle.log_read.specs.Reading.{log_of}
 use Rattle.log_run.specs.Laws.{IsValidState, StepIsClear}
 use Rattle.log_run.specs.States.{LogState, with_line, without_lines}
 use Rattle.log_run.proofs.StepMoves.{none_moves}

@@ -10,7 +10,7 @@ use Rattle.line_text.specs.declared.TextFault.{TextFault}
 use Rattle.obj_text.specs.Obj.{Lists, lists_of}
 use Rattle.log_text.specs.declared.LogLine.{LogLine}
 use Rattle.log_text.specs.declared.Refusal.TheVariants as refusal
-use Rattle.log_text.specs.Reading.{log_of}
+use Rattle.log_read.specs.Reading.{log_of}
 use Rattle.outside_io.specs.Desk.{Files}
 use Rattle.track_input.specs.Source.{Source, Bytes, Absent, TooLong, IsSource}
 use Rattle.track_input.specs.Words.{LogNames}

@@ -6,7 +6,7 @@ use Rattle.mesh_journal.specs.Journal.{mesh_in}
 use Rattle.obj_text.specs.Obj.{lists_of}
 use Rattle.obj_text.specs.Views.{lists_view}
 use Rattle.log_text.specs.declared.LogLine.{LogLine}
-use Rattle.log_text.specs.Reading.{log_of}
+use Rattle.log_read.specs.Reading.{log_of}
 use Rattle.outside_io.specs.Desk.{Files}
 use Rattle.track_input.specs.Words.{LogNames}
 use Rattle.track_input.specs.Job.{met_first}

@@ -10,7 +10,8 @@ ghost use Rattle.track_replay.specs.Preparing.{ReadsLines, ReadsTexts, Tests, Re
 use crate::refusal::LogRefusal;
 use grid_base::NoMemory;
 use line_text::ReadFault;
-use log_text::{Log, Refusal, read_log};
+use log_read::read_log;
+use log_text::{Log, Refusal};
 use mesh_base::{FileWord, MeshLists, ShapeRefusal};
 use mesh_journal::JournalMesh;
 use mesh_plain::shape;

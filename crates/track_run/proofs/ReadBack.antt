@@ -13,8 +13,8 @@ use Rattle.step_text.specs.declared.Placed.{Placed}
 use Rattle.log_text.specs.declared.Refusal.{Refusal}
 use Rattle.log_text.specs.declared.Refusal.TheVariants as refusal
 use Rattle.log_text.specs.declared.LogLine.TheVariants.{Refused as RefusedLine}
-use Rattle.log_text.specs.Laws.{IsPairInRange}
-use Rattle.log_text.proofs.LogLaws.{written_logs_are_read_lem}
+use Rattle.log_read.specs.Laws.{IsPairInRange}
+use Rattle.log_read.proofs.LogLaws.{written_logs_are_read_lem}
 use Rattle.run_laws.specs.Lines.{MayFollow, AreInRange}
 use Rattle.run_laws.proofs.Names.{meeting_in_range}
 use Rattle.run_laws.specs.Inputs.{IsSeen, AreCounted, IsInputInRange}

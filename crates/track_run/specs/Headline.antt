@@ -5,7 +5,7 @@ use Rattle.step_text.specs.declared.Directive.TheVariants as directive
 use Rattle.log_text.specs.declared.LogLine.{LogLine}
 use Rattle.log_text.specs.declared.Refusal.{Refusal}
 use Rattle.log_text.specs.Lines.{text_of_lines}
-use Rattle.log_text.specs.Reading.{log_of as lines_of_text}
+use Rattle.log_read.specs.Reading.{log_of as lines_of_text}
 use Rattle.log_replay.specs.Replay.{after}
 use Rattle.log_replay.specs.Again.{LinesAreAgain}
 use Rattle.outside_io.specs.Causes.{Rose}

@@ -1,0 +1,49 @@
+-- Each line that names no other version is one of the version that is written.
+use Rattle.std.proofs.Common.{refl, true}
+use Rattle.edit_base.specs.declared.Why.{Why}
+use Rattle.edit_base.specs.declared.Why.TheVariants as reason
+use Rattle.line_text.specs.declared.TextWhy.{TextWhy}
+use Rattle.mesh_base.specs.declared.FileWord.{FileWord}
+use Rattle.mesh_base.specs.declared.FileWord.TheVariants as file
+use Rattle.mesh_base.specs.declared.UseWhy.{UseWhy}
+use Rattle.mesh_base.specs.declared.UseWhy.TheVariants as using
+use Rattle.log_text.specs.declared.TheConstants.{VERSION}
+use Rattle.log_text.specs.declared.LogLine.{LogLine}
+use Rattle.log_text.specs.declared.LogLine.TheVariants as line
+use Rattle.log_text.specs.declared.Refusal.{Refusal}
+use Rattle.log_text.specs.declared.Refusal.TheVariants as refusal
+use Rattle.log_read.specs.Values.{is_latest}
+use Rattle.log_read.specs.Laws.{IsWhyOf, IsFileOfVersion, IsRefusalInRange, IsInRange, IsReasonOfVersion, IsUseOfVersion, IsRefusalOfVersion, IsOfVersion, NamesNoOther}
+
+pub latest_why : (w : TextWhy) → IsWhyOf true w → IsWhyOf (is_latest VERSION) w
+latest_why w r = r
+
+pub latest_reason : (w : Why) → IsReasonOfVersion VERSION w
+latest_reason reason.Solid = refl
+latest_reason _ = tt
+
+pub latest_use : (w : UseWhy) → IsUseOfVersion VERSION w
+latest_use (using.Solid v) = refl
+latest_use _ = tt
+
+pub latest_file : (f : FileWord) → IsFileOfVersion VERSION f
+latest_file file.Log = refl
+latest_file file.Proof = refl
+latest_file _ = tt
+
+pub latest_refusal : (w : Refusal) → IsRefusalInRange w → IsRefusalOfVersion VERSION w
+latest_refusal (refusal.Long name seen) r = latest_file name
+latest_refusal (refusal.Missing name) r = latest_file name
+latest_refusal (refusal.Steps fault) r = latest_why fault.why r.1
+latest_refusal (refusal.StepUse at w) r = latest_use w
+latest_refusal _ r = tt
+
+pub latest_line : (l : LogLine) → IsInRange l → NamesNoOther l → IsOfVersion VERSION l
+latest_line (line.First v) r n = n
+latest_line (line.Solid v) r n = refl
+latest_line line.PassFit r n = refl
+latest_line line.Group r n = refl
+latest_line (line.Close kept) r n = refl
+latest_line (line.No what w) r n = latest_reason w
+latest_line (line.Refused w) r n = latest_refusal w r
+latest_line _ r n = tt

@@ -1,0 +1,224 @@
+-- When the values of a line are in their ranges, and that a line is read exactly from its spelling.
+use Rattle.std.specs.Prelude.{◌≡◌, ◌↔◌, ℕ, Bool, false, ◌+◌, ◌<◌, ◌≤◌, ◌^◌, List, [], ◌∷◌, length, Ok, All, true}
+use Rattle.grid_base.specs.declared.TheConstants.{VERTICES_MAX, FACES_MAX, ID_MAX, HALVINGS_MAX, LENGTH_MAX}
+use Rattle.edit_base.specs.declared.Asked.{Asked}
+use Rattle.edit_base.specs.declared.Asked.TheVariants as asked
+use Rattle.edit_base.specs.declared.Change.{Change}
+use Rattle.edit_base.specs.declared.Change.TheVariants as change
+use Rattle.edit_base.specs.declared.PassKind.{PassKind}
+use Rattle.edit_base.specs.declared.PassKind.TheVariants as pass
+use Rattle.edit_base.specs.declared.Why.{Why}
+use Rattle.edit_base.specs.declared.Why.TheVariants as reason
+use Rattle.line_text.specs.declared.TextWhy.{TextWhy}
+use Rattle.line_text.specs.declared.TextWhy.TheVariants as why
+use Rattle.mesh_base.specs.declared.FileWord.{FileWord}
+use Rattle.mesh_base.specs.declared.FileWord.TheVariants as file
+use Rattle.mesh_base.specs.declared.How.{How}
+use Rattle.mesh_base.specs.declared.How.TheVariants.{Whole, Impulse, Zones, Halved, Zero}
+use Rattle.mesh_base.specs.declared.PairName.{PairName}
+use Rattle.mesh_base.specs.declared.ShapeFault.{ShapeFault}
+use Rattle.mesh_base.specs.declared.ShapeFault.TheVariants as shape
+use Rattle.mesh_base.specs.declared.UseWhy.{UseWhy}
+use Rattle.mesh_base.specs.declared.UseWhy.TheVariants as using
+use Rattle.log_text.specs.declared.TheConstants.{COUNT_MAX, SEEN_MAX, CORNER_MAX, PASSES_MAX, ROUNDS_MAX, TURN_MAX, VERSION}
+use Rattle.log_text.specs.declared.LogLine.{LogLine}
+use Rattle.log_text.specs.declared.LogLine.TheVariants as line
+use Rattle.log_text.specs.declared.Refusal.{Refusal}
+use Rattle.log_text.specs.declared.Refusal.TheVariants as refusal
+use Rattle.log_text.specs.Lines.{body_of, text_of_lines}
+use Rattle.line_text.specs.Spellings.{spaced_words}
+use Rattle.log_read.specs.Values.{is_latest}
+use Rattle.log_read.specs.Reading.{line_of, version_of, log_of}
+
+-- from low to high
+abbrev pub IsFrom : ℕ → ℕ → ℕ → Type 0
+IsFrom low high n = (low ≤ n) × (n ≤ high)
+
+-- ids from 1 up to the greatest, and the smaller end first
+pub record IsPairInRange (p : PairName) : Type 0 where
+  pub a : IsFrom 1 ID_MAX p.a
+  pub b : IsFrom 1 ID_MAX p.b
+  pub face : IsFrom 1 ID_MAX p.face
+  pub rising : p.a < p.b
+
+-- the number of passes, rounds or halvings
+abbrev pub IsHowInRange : How → Type 0
+IsHowInRange Whole = Unit {0}
+IsHowInRange (Impulse passes) = IsFrom 1 PASSES_MAX passes
+IsHowInRange (Zones rounds) = IsFrom 1 ROUNDS_MAX rounds
+IsHowInRange (Halved times) = IsFrom 1 HALVINGS_MAX times
+IsHowInRange Zero = Unit {0}
+
+-- counts of what there is too much of, and the numbers of faces, corners and vertices from 1
+abbrev pub IsShapeInRange : ShapeFault → Type 0
+IsShapeInRange (shape.TooManyVertices count) = count ≤ SEEN_MAX
+IsShapeInRange (shape.TooManyFaces count) = count ≤ SEEN_MAX
+IsShapeInRange (shape.NoVertex face corner) = IsFrom 1 COUNT_MAX face × IsFrom 1 CORNER_MAX corner
+IsShapeInRange (shape.Repeated face) = IsFrom 1 COUNT_MAX face
+IsShapeInRange (shape.Doubled first second) = IsFrom 1 COUNT_MAX first × IsFrom 1 COUNT_MAX second
+IsShapeInRange (shape.Unbalanced from to) = IsFrom 1 COUNT_MAX from × IsFrom 1 COUNT_MAX to
+
+-- the id of a vertex, if there is one
+abbrev pub IsUseInRange : UseWhy → Type 0
+IsUseInRange (using.NoVertex v) = IsFrom 1 ID_MAX v
+IsUseInRange (using.ShiftRange v) = IsFrom 1 ID_MAX v
+IsUseInRange (using.Box v) = IsFrom 1 ID_MAX v
+IsUseInRange using.NoField = Unit {0}
+IsUseInRange (using.Solid v) = IsFrom 1 ID_MAX v
+
+-- Nesting is a reason of a text with groups alone, and Order of no text that a log tells of.
+abbrev pub IsWhyOf : Bool → TextWhy → Type 0
+IsWhyOf groups why.Number = Unit {0}
+IsWhyOf groups why.Corner = Unit {0}
+IsWhyOf groups why.Range = Unit {0}
+IsWhyOf groups why.Short = Unit {0}
+IsWhyOf groups why.Long = Unit {0}
+IsWhyOf groups why.Unknown = Unit {0}
+IsWhyOf groups why.Continuation = Unit {0}
+IsWhyOf groups why.Nesting = groups ≡ true
+IsWhyOf groups why.Order = ⊥
+
+-- the numbers of a refusal; no groups are in a mesh file
+abbrev pub IsRefusalInRange : Refusal → Type 0
+IsRefusalInRange (refusal.Long name seen) = seen ≤ SEEN_MAX
+IsRefusalInRange (refusal.Missing name) = Unit {0}
+IsRefusalInRange (refusal.Mesh fault) = IsFrom 1 COUNT_MAX fault.line × IsWhyOf false fault.why
+IsRefusalInRange (refusal.Shape fault) = IsShapeInRange fault
+IsRefusalInRange (refusal.Meets pair) = IsPairInRange pair
+IsRefusalInRange (refusal.Steps fault) = IsFrom 1 COUNT_MAX fault.line × IsWhyOf true fault.why
+IsRefusalInRange (refusal.StepUse at why) = IsFrom 1 COUNT_MAX at × IsUseInRange why
+
+-- ids up to the greatest: the smaller end from 1 on, and the larger above it
+abbrev pub IsEdgeInRange : ℕ → ℕ → Type 0
+IsEdgeInRange a b = IsFrom 1 ID_MAX a × IsFrom (a + 1) ID_MAX b
+
+-- ids from low up to the greatest, each above the one before
+abbrev pub AreRising : ℕ → List ℕ → Type 0
+AreRising low [] = Unit {0}
+AreRising low (v ∷ vs) = IsFrom low ID_MAX v × AreRising (v + 1) vs
+
+-- the length that a pass goes by
+abbrev pub IsPassInRange : PassKind → Type 0
+IsPassInRange (pass.Split over) = over ≤ LENGTH_MAX
+IsPassInRange (pass.Collapse under) = under ≤ LENGTH_MAX
+IsPassInRange pass.Flip = Unit {0}
+IsPassInRange (pass.Zip within) = within ≤ LENGTH_MAX
+IsPassInRange pass.Pinch = Unit {0}
+
+-- Points are in the box by their type.
+abbrev pub IsChangeInRange : Change → Type 0
+IsChangeInRange (change.Split a b w at) = IsEdgeInRange a b × IsFrom 1 ID_MAX w
+IsChangeInRange (change.Flip a b) = IsEdgeInRange a b
+IsChangeInRange (change.Collapse a b at) = IsEdgeInRange a b
+IsChangeInRange (change.Zip a b e f turn) =
+    IsEdgeInRange a b × IsEdgeInRange e f × (turn ≤ TURN_MAX)
+IsChangeInRange (change.Pinch v at copies) =
+    IsFrom 1 ID_MAX v × (0 < length copies) × All (λ c. IsFrom 1 ID_MAX c.w) copies
+
+-- the ids of what was asked
+abbrev pub IsAskedInRange : Asked → Type 0
+IsAskedInRange (asked.Split a b) = IsEdgeInRange a b
+IsAskedInRange (asked.Flip a b) = IsEdgeInRange a b
+IsAskedInRange (asked.Collapse a b) = IsEdgeInRange a b
+IsAskedInRange (asked.Zip a b e f) = IsEdgeInRange a b × IsEdgeInRange e f
+IsAskedInRange (asked.Pinch v) = IsFrom 1 ID_MAX v
+
+-- the pair that was hit
+abbrev pub IsReasonInRange : Why → Type 0
+IsReasonInRange (reason.Hit pair) = IsPairInRange pair
+IsReasonInRange _ = Unit {0}
+
+-- the values of a line are in their ranges
+abbrev pub IsInRange : LogLine → Type 0
+IsInRange (line.First version) = Unit {0}
+IsInRange (line.Mesh k vertices faces) =
+    (k ≤ COUNT_MAX) × (vertices ≤ VERTICES_MAX) × (faces ≤ FACES_MAX)
+IsInRange (line.Step k) = IsFrom 1 COUNT_MAX k
+IsInRange (line.Solid v) = IsFrom 1 ID_MAX v
+IsInRange (line.Hit pair) = IsPairInRange pair
+IsInRange (line.Block ids) = (2 ≤ length ids) × AreRising 1 ids
+IsInRange (line.Move s) = IsFrom 1 ID_MAX s.v
+IsInRange (line.Moved how) = IsHowInRange how
+IsInRange (line.Pass kind) = IsPassInRange kind
+IsInRange line.PassFit = Unit {0}
+IsInRange (line.Did done) = IsChangeInRange done
+IsInRange (line.No what why) = IsAskedInRange what × IsReasonInRange why
+IsInRange line.Group = Unit {0}
+IsInRange (line.Close kept) = Unit {0}
+IsInRange (line.Refused why) = IsRefusalInRange why
+IsInRange line.End = Unit {0}
+
+-- ---- versions
+
+-- no reason in the old version names a solid vertex
+abbrev pub IsReasonOfVersion : ℕ → Why → Type 0
+IsReasonOfVersion version reason.Solid = version ≡ VERSION
+IsReasonOfVersion version _ = Unit {0}
+
+-- no refused directive in the old version names a solid vertex
+abbrev pub IsUseOfVersion : ℕ → UseWhy → Type 0
+IsUseOfVersion version (using.Solid v) = version ≡ VERSION
+IsUseOfVersion version _ = Unit {0}
+
+-- no file that the old version tells of is a log or a proof
+abbrev pub IsFileOfVersion : ℕ → FileWord → Type 0
+IsFileOfVersion version file.Mesh = Unit {0}
+IsFileOfVersion version file.Steps = Unit {0}
+IsFileOfVersion version file.Log = version ≡ VERSION
+IsFileOfVersion version file.Proof = version ≡ VERSION
+
+-- no refusal in the old version tells of groups, solid vertices, logs or proofs
+abbrev pub IsRefusalOfVersion : ℕ → Refusal → Type 0
+IsRefusalOfVersion version (refusal.Long name seen) = IsFileOfVersion version name
+IsRefusalOfVersion version (refusal.Missing name) = IsFileOfVersion version name
+IsRefusalOfVersion version (refusal.Mesh fault) = Unit {0}
+IsRefusalOfVersion version (refusal.Shape fault) = Unit {0}
+IsRefusalOfVersion version (refusal.Meets pair) = Unit {0}
+IsRefusalOfVersion version (refusal.Steps fault) = IsWhyOf (is_latest version) fault.why
+IsRefusalOfVersion version (refusal.StepUse at why) = IsUseOfVersion version why
+
+-- The line is one of this version's lines: a first line names the version, and only the one that is
+-- written tells of solid vertices, of passes by the sizing, of groups, and of logs and proofs.
+abbrev pub IsOfVersion : ℕ → LogLine → Type 0
+IsOfVersion version (line.First v) = v ≡ version
+IsOfVersion version (line.Solid v) = version ≡ VERSION
+IsOfVersion version line.PassFit = version ≡ VERSION
+IsOfVersion version line.Group = version ≡ VERSION
+IsOfVersion version (line.Close kept) = version ≡ VERSION
+IsOfVersion version (line.No what why) = IsReasonOfVersion version why
+IsOfVersion version (line.Refused why) = IsRefusalOfVersion version why
+IsOfVersion version _ = Unit {0}
+
+-- the line names no other version than the one that is written
+abbrev pub NamesNoOther : LogLine → Type 0
+NamesNoOther (line.First v) = v ≡ VERSION
+NamesNoOther _ = Unit {0}
+
+-- the line is in range, and one of this version's lines
+abbrev pub IsLineOf : ℕ → LogLine → Type 0
+IsLineOf version l = IsInRange l × IsOfVersion version l
+
+-- ---- laws
+
+-- bytes are read as a line exactly where they are its body and it is in range
+abbrev pub LinesAreTheirSpellings : Type 0
+LinesAreTheirSpellings = (version : ℕ) → version < 2 ^ 8 → (body : List ℕ) (l : LogLine) →
+    (line_of version true (spaced_words body) ≡ Ok l)
+    ↔ (IsInRange l × IsOfVersion version l × (body_of l ≡ body))
+
+-- no body has LF in it
+abbrev pub BodiesHaveNoEnd : Type 0
+BodiesHaveNoEnd = (version : ℕ) → version < 2 ^ 8 → (l : LogLine) → IsInRange l →
+    IsOfVersion version l → All (λ b. ¬ (b ≡ 10)) (body_of l)
+
+-- A text is read as lines exactly where it is their text, and each is in range and of the
+-- version that the first line names.
+abbrev pub LogsAreTheirLines : Type 0
+LogsAreTheirLines = (bytes : List ℕ) (ls : List LogLine) →
+    (log_of bytes ≡ Ok ls) ↔ (All (IsLineOf (version_of bytes)) ls × (text_of_lines ls ≡ bytes))
+
+-- The text of a log whose first line names the version that is written is read as the log's lines,
+-- where each further one is in range and names no other version.
+abbrev pub WrittenLogsAreRead : Type 0
+WrittenLogsAreRead = (ls : List LogLine) → All (λ l. IsInRange l × NamesNoOther l) ls →
+    log_of (text_of_lines (line.First VERSION ∷ ls)) ≡ Ok (line.First VERSION ∷ ls)

@@ -1,0 +1,5 @@
+pub mod Fields
+pub mod Values
+pub mod EditLines
+pub mod Reading
+pub mod Laws

@@ -1,0 +1,14 @@
+//! How the lines of a log are read from their one spelling, and what holds of that.
+#![tactic(auto)]
+
+mod edit_lines;
+mod edit_values;
+pub mod laws;
+mod lines;
+mod listed;
+mod reading;
+mod refusals;
+mod values;
+
+pub use reading::read_log;
+pub use values::pair_at;

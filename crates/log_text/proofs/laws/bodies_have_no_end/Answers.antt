@@ -1,5 +1,0 @@
-use Rattle.log_text.proofs.LogLaws.{bodies_have_no_end_lem}
-use Rattle.log_text.proofs.laws.bodies_have_no_end.Goals as goal
-
-pub returns : goal.returns
-returns c = bodies_have_no_end_lem

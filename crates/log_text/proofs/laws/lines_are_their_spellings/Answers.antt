@@ -1,5 +1,0 @@
-use Rattle.log_text.proofs.LogLaws.{lines_are_their_spellings_lem}
-use Rattle.log_text.proofs.laws.lines_are_their_spellings.Goals as goal
-
-pub returns : goal.returns
-returns c = lines_are_their_spellings_lem
