@@ -103,6 +103,35 @@ fn measure_line<O: Outside>(
 }
 
 // Takes the lines of a log, one after another, and writes what they tell, and then the end, or the refusal of the first that does not fit.
+// No line was taken before.
+fn measure_each<O: Outside>(
+    alloc: Global,
+    run: &mut LogRun,
+    lines: &[LogLine],
+    outside: &mut O,
+) -> Result<Option<LogRefusal>, Stop>
+    requires fresh { run.old ≡ without_lines run.old.replay.mesh }
+    requires valid { IsValidState run.old }
+    requires few { length lines.now < 2 ^ 31 }
+    ensures { let mesh = run.old.replay.mesh in
+        MeasuresLines mesh lines.now (O.around outside.old) (O.around outside.new) result }
+{
+    let mut shape = shape_of(alloc, run.mesh())?;
+    let mut number: u32 = 0;
+    for line in lines {
+        number += 1;
+        if !measure_line(alloc, run, number, line, &mut shape, outside)? {
+            return refuse(alloc, &LogRefusal::Replay { line: number }, outside);
+        }
+    }
+    if number == 0 {
+        return refuse(alloc, &LogRefusal::Replay { line: 1 }, outside);
+    }
+    tell(alloc, MeasureLine::End, outside)?;
+    Ok(None)
+}
+
+// What the lines of a log tell that begins with a mesh is written, with its end.
 fn measure_lines<O: Outside>(
     alloc: Global,
     mesh: JournalMesh,
@@ -115,19 +144,7 @@ fn measure_lines<O: Outside>(
 {
     fitting_lines_are_safe();
     let mut run = LogRun::new(alloc, mesh);
-    let mut shape = shape_of(alloc, run.mesh())?;
-    let mut number: u32 = 0;
-    for line in lines {
-        number += 1;
-        if !measure_line(alloc, &mut run, number, line, &mut shape, outside)? {
-            return refuse(alloc, &LogRefusal::Replay { line: number }, outside);
-        }
-    }
-    if number == 0 {
-        return refuse(alloc, &LogRefusal::Replay { line: 1 }, outside);
-    }
-    tell(alloc, MeasureLine::End, outside)?;
-    Ok(None)
+    measure_each(alloc, &mut run, lines, outside)
 }
 
 /// Tells what a log did to volume and shape: the mesh file and the file of the log are fetched and read, the points with so many

@@ -3,6 +3,8 @@ ghost use Rattle.std.specs.Prelude.{◌≡◌, ◌≤◌, ◌<◌, ◌+◌, ◌^
 ghost use Rattle.grid_base.specs.declared.TheConstants.{DECIMALS_MAX};
 ghost use Rattle.mesh_base.specs.Valid.{IsValidSurface};
 ghost use Rattle.mesh_journal.specs.Journal.{mesh_in};
+ghost use Rattle.log_run.specs.Laws.{IsValidState};
+ghost use Rattle.log_run.specs.States.{without_lines};
 ghost use Rattle.track_input.specs.Named.{replay_names};
 ghost use Rattle.track_replay.specs.Telling.{Tells};
 ghost use Rattle.track_engine.specs.Targets.{target_of};
@@ -34,7 +36,42 @@ fn tell_count<O: Outside>(alloc: Global, count: u32, outside: &mut O) -> Result<
 }
 
 // Takes the lines of a log, one after another, and stores the meshes that they tell of; and then writes how many that are, or the refusal
-// of the first line that does not fit.
+// of the first line that does not fit. No line was taken before.
+fn replay_each<O: Outside>(
+    alloc: Global,
+    run: &mut LogRun,
+    lines: &[LogLine],
+    only: Option<u32>,
+    to: Target<'_>,
+    outside: &mut O,
+) -> Result<Option<LogRefusal>, Stop>
+    requires fresh { run.old ≡ without_lines run.old.replay.mesh }
+    requires valid { IsValidState run.old }
+    requires few_lines { length lines.now < 2 ^ 31 }
+    requires few_decimals { to.decimals ≤ DECIMALS_MAX }
+    ensures { let mesh = run.old.replay.mesh in
+        ReplaysLines only (target_of to.entry) mesh lines.now
+        (O.around outside.old) (O.around outside.new) result }
+{
+    let mut count: u32 = 0;
+    let mut number: u32 = 0;
+    for line in lines {
+        number += 1;
+        outside.progress(number);
+        if !take_tested(alloc, run, line)? {
+            return refuse(alloc, &LogRefusal::Replay { line: number }, outside);
+        }
+        let more = store_line(alloc, run, line, only, to, outside)?;
+        count += more;
+    }
+    if number == 0 {
+        return refuse(alloc, &LogRefusal::Replay { line: 1 }, outside);
+    }
+    tell_count(alloc, count, outside)?;
+    Ok(None)
+}
+
+// The meshes of the lines of a log that begins with a mesh are stored, and its end is written.
 fn replay_lines<O: Outside>(
     alloc: Global,
     mesh: JournalMesh,
@@ -52,22 +89,7 @@ fn replay_lines<O: Outside>(
 {
     fitting_lines_are_safe();
     let mut run = LogRun::new(alloc, mesh);
-    let mut count: u32 = 0;
-    let mut number: u32 = 0;
-    for line in lines {
-        number += 1;
-        outside.progress(number);
-        if !take_tested(alloc, &mut run, line)? {
-            return refuse(alloc, &LogRefusal::Replay { line: number }, outside);
-        }
-        let more = store_line(alloc, &run, line, only, to, outside)?;
-        count += more;
-    }
-    if number == 0 {
-        return refuse(alloc, &LogRefusal::Replay { line: 1 }, outside);
-    }
-    tell_count(alloc, count, outside)?;
-    Ok(None)
+    replay_each(alloc, &mut run, lines, only, to, outside)
 }
 
 /// Makes the meshes of a log again: the mesh file and the file of the log are fetched and read, the points with so many decimals, the lines

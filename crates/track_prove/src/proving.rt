@@ -1,10 +1,11 @@
 //! The command that writes a proof of a log.
-ghost use Rattle.std.specs.Prelude.{◌≡◌, ◌≤◌, ◌<◌, ◌^◌, false, length, Ok, IfOk};
+ghost use Rattle.std.specs.Prelude.{◌≡◌, ◌≤◌, ◌<◌, ◌^◌, [], false, length, Ok, IfOk};
 ghost use Rattle.grid_base.specs.declared.TheConstants.{DECIMALS_MAX};
 ghost use Rattle.mesh_base.specs.Valid.{IsValidSurface};
 ghost use Rattle.mesh_journal.specs.Journal.{mesh_in};
 ghost use Rattle.log_run.specs.Laws.{IsValidState};
 ghost use Rattle.log_run.specs.Motions.{moved_in};
+ghost use Rattle.log_run.specs.States.{without_lines};
 ghost use Rattle.outside_io.specs.Outside.{OnlyLooks};
 ghost use Rattle.track_input.specs.Named.{log_names};
 ghost use Rattle.track_prove.specs.Proving.{MakesVerdict};
@@ -98,26 +99,26 @@ fn prove_line(
 }
 
 // The proof of a log's lines, taken one after another; or the refusal of the first that does not fit, or of which the motion has a pair
-// that does not pass.
-fn prove_lines<O: Outside>(
+// that does not pass. No line was taken before, and there is no certificate yet.
+fn prove_each<O: Outside>(
     alloc: Global,
-    mesh: JournalMesh,
+    run: &mut LogRun,
+    proofs: &mut Proofs,
     lines: &[LogLine],
     outside: &mut O,
 ) -> Result<Report, NoMemory>
-    requires valid { IsValidSurface (mesh_in mesh) }
+    requires fresh { run.old ≡ without_lines run.old.replay.mesh }
+    requires valid { IsValidState run.old }
+    requires none { proofs.old ≡ [] }
     requires few { length lines.now < 2 ^ 31 }
-    ensures proves { IfOk result (ProvesLines (mesh_in mesh) lines.now) }
+    ensures proves { let mesh = run.old.replay.mesh in IfOk result (ProvesLines mesh lines.now) }
     ensures same { O.around outside.new ≡ O.around outside.old }
 {
-    fitting_lines_are_safe();
-    let mut run = LogRun::new(alloc, mesh);
-    let mut proofs = Proofs::new(alloc);
     let mut number: u32 = 0;
     for line in lines {
         number += 1;
         outside.progress(number);
-        match prove_line(&mut run, number, line, &mut proofs)? {
+        match prove_line(run, number, line, proofs)? {
             Taken::Fits => {}
             Taken::Unfit => {
                 return Ok(Report::Refused(LogRefusal::Replay { line: number }));
@@ -133,8 +134,26 @@ fn prove_lines<O: Outside>(
     if number == 0 {
         return Ok(Report::Refused(LogRefusal::Replay { line: 1 }));
     }
-    let text = print_proof(alloc, &proofs)?;
+    let text = print_proof(alloc, proofs)?;
     Ok(Report::Text(text))
+}
+
+// The proof of the lines of a log that begins with a mesh, or why there is none.
+fn prove_lines<O: Outside>(
+    alloc: Global,
+    mesh: JournalMesh,
+    lines: &[LogLine],
+    outside: &mut O,
+) -> Result<Report, NoMemory>
+    requires valid { IsValidSurface (mesh_in mesh) }
+    requires few { length lines.now < 2 ^ 31 }
+    ensures proves { IfOk result (ProvesLines (mesh_in mesh) lines.now) }
+    ensures same { O.around outside.new ≡ O.around outside.old }
+{
+    fitting_lines_are_safe();
+    let mut run = LogRun::new(alloc, mesh);
+    let mut proofs = Proofs::new(alloc);
+    prove_each(alloc, &mut run, &mut proofs, lines, outside)
 }
 
 // Fetches and reads a mesh and a log, and proves the log. Nothing is written.

@@ -7,6 +7,7 @@ ghost use Rattle.proof_text.specs.Laws.{AreProofs};
 ghost use Rattle.proof_text.specs.Views.{proof_view, proofs_view};
 ghost use Rattle.log_run.specs.Laws.{IsValidState};
 ghost use Rattle.log_run.specs.Motions.{moved_in};
+ghost use Rattle.log_run.specs.States.{without_lines};
 ghost use Rattle.outside_io.specs.Outside.{OnlyLooks};
 ghost use Rattle.track_input.specs.Named.{proof_names};
 ghost use Rattle.track_prove.specs.Verifying.{FoundOf, verified_text};
@@ -150,27 +151,28 @@ fn verified(alloc: Global, motions: usize) -> Result<Report, NoMemory>
 
 // The lines of a log are taken, one after another: the line that tells how many motions are proved; or the refusal of the first line that
 // does not fit, or of which the motion is not proved, or that tells of no motion where the proof has one; or of a motion behind the log.
-fn verify_lines<O: Outside>(
+// No line was taken before.
+fn verify_each<O: Outside>(
     alloc: Global,
-    mesh: JournalMesh,
+    run: &mut LogRun,
     lines: &[LogLine],
     proofs: &[ProofAt],
     outside: &mut O,
 ) -> Result<Report, NoMemory>
-    requires valid { IsValidSurface (mesh_in mesh) }
+    requires fresh { run.old ≡ without_lines run.old.replay.mesh }
+    requires valid { IsValidState run.old }
     requires few { length lines.now < 2 ^ 31 }
     requires order { AreProofs (proofs_view proofs.now) }
-    ensures verifies { IfOk result (VerifiesLines (mesh_in mesh) lines.now (proofs_view proofs.now)) }
+    ensures verifies { let mesh = run.old.replay.mesh in
+        IfOk result (VerifiesLines mesh lines.now (proofs_view proofs.now)) }
     ensures same { O.around outside.new ≡ O.around outside.old }
 {
-    fitting_lines_are_safe();
-    let mut run = LogRun::new(alloc, mesh);
     let mut rest = proofs;
     let mut number: u32 = 0;
     for line in lines {
         number += 1;
         outside.progress(number);
-        match verify_line(&mut run, number, line, rest)? {
+        match verify_line(run, number, line, rest)? {
             Taken::Fits => {}
             Taken::Unfit => {
                 return Ok(Report::Refused(LogRefusal::Replay { line: number }));
@@ -194,6 +196,25 @@ fn verify_lines<O: Outside>(
         })),
         None => verified(alloc, proofs.len()),
     }
+}
+
+// What a proof shows of the lines of a log that begins with a mesh.
+fn verify_lines<O: Outside>(
+    alloc: Global,
+    mesh: JournalMesh,
+    lines: &[LogLine],
+    proofs: &[ProofAt],
+    outside: &mut O,
+) -> Result<Report, NoMemory>
+    requires valid { IsValidSurface (mesh_in mesh) }
+    requires few { length lines.now < 2 ^ 31 }
+    requires order { AreProofs (proofs_view proofs.now) }
+    ensures verifies { IfOk result (VerifiesLines (mesh_in mesh) lines.now (proofs_view proofs.now)) }
+    ensures same { O.around outside.new ≡ O.around outside.old }
+{
+    fitting_lines_are_safe();
+    let mut run = LogRun::new(alloc, mesh);
+    verify_each(alloc, &mut run, lines, proofs, outside)
 }
 
 // Fetches and reads a mesh, a log and a proof, and tests the proof. Nothing is written.

@@ -1,67 +1,18 @@
-use Rattle.std.proofs.Common.{◌≡◌, ◌+◌, Ok, Err, refl, ap, sym, ◌∙◌, subst, arith}
-use Rattle.std.proofs.lemmas.Result.{err_from_is_err_and}
+use Rattle.std.proofs.Common.{◌≡◌, refl, ap, sym, subst}
 use Rattle.mesh_base.specs.Mesh.{Mesh}
 use Rattle.mesh_journal.specs.Journal.{mesh_in}
 use Rattle.log_run.specs.Laws.{IsValidState}
-use Rattle.track_replay.proofs.ToldTexts.{tells_whole, tells_stopped}
-use Rattle.track_measure.specs.MeasureLines.{shape_of}
-use Rattle.track_measure.proofs.Ends.{measuring_none, measured_nothing, unspent, few, stops_here, refused_here, more_here, no_line_here, end_told}
+use Rattle.log_run.specs.States.{LogState}
+use Rattle.track_measure.specs.Measured.{MeasuresLines}
 use Rattle.track_measure.proofs.measuring.measure_lines.Goals as goal
 
-pub returns-in_err-shape : goal.returns-in_err-shape
-returns-in_err-shape g c =
-    let p = err_from_is_err_and c.from_residual.result c.from_residual.ensures.1 in
-    rw (p.1, p.2) (measured_nothing (mesh_in c.args.mesh) c.args.lines.now (g.O.Outside.around c.args.outside.now))
+pub measure_each-requires-clause-fresh : goal.measure_each-requires-clause-fresh
+measure_each-requires-clause-fresh g c = rw c.new-run.ensures refl
 
-pub loop-line-init : goal.loop-line-init
-loop-line-init g c =
-    measuring_none (mesh_in c.args.mesh) c.args.lines.now c.new-run.result c.in_ok-shape.shape (g.O.Outside.around c.args.outside.now) c.new-run.ensures
-    (subst IsValidState (sym c.new-run.ensures) (c.fitting_lines_are_safe.ensures.first (mesh_in c.args.mesh) c.requires.valid))
-    (c.in_ok-shape.ensures ∙ ap shape_of c.mesh.ensures)
-
-pub overflow_add-number : goal.overflow_add-number
-overflow_add-number g c = omega (arith, few _ _ _ _ _ _ _ _ c.loop-line.invariant, c.requires.few)
-
-pub measure_line-requires-clause-unspent : goal.measure_line-requires-clause-unspent
-measure_line-requires-clause-unspent g c = unspent _ _ _ _ _ _ _ _ c.loop-line.invariant
-
-pub measure_line-requires-clause-valid : goal.measure_line-requires-clause-valid
-measure_line-requires-clause-valid g c = c.loop-line.invariant.valid
-
-pub measure_line-requires-clause-shape : goal.measure_line-requires-clause-shape
-measure_line-requires-clause-shape g c = c.loop-line.invariant.shape_is
-
-pub returns-in_err-measure_line : goal.returns-in_err-measure_line
-returns-in_err-measure_line g c =
-    let p = err_from_is_err_and c.from_residual-in_err-measure_line.result c.from_residual-in_err-measure_line.ensures.1 in
-    rw (p.1, p.2) (stops_here (mesh_in c.args.mesh) c.args.lines.now c.loop-line.line-index c.line-item.result c.loop-line-test.true c.line-item.is c.loop-line.run c.loop-line.shape c.loop-line.number
-    (g.O.Outside.around c.args.outside.now) (g.O.Outside.around c.loop-line.outside) (g.O.Outside.around c.measure_line.new.outside) c.loop-line.invariant _ c.in_err-measure_line.ensures.measures)
-
-pub returns-then-not-branch : goal.returns-then-not-branch
-returns-then-not-branch g c =
-    refused_here (mesh_in c.args.mesh) c.args.lines.now c.loop-line.line-index c.line-item.result c.loop-line-test.true c.line-item.is c.loop-line.run c.loop-line.shape c.loop-line.number
-    (g.O.Outside.around c.args.outside.now) (g.O.Outside.around c.loop-line.outside) (g.O.Outside.around c.measure_line.new.outside) c.loop-line.invariant c.in_ok-measure_line.field-0 c.if-not-branch.true c.in_ok-measure_line.ensures.measures
-    (g.O.Outside.around c.refuse.new.outside) c.refuse.result c.refuse.ensures.tells c.refuse.ensures.ending
-
-pub loop-line-preserved : goal.loop-line-preserved
-loop-line-preserved g c =
-    let yes = c.if-not-branch.false in
-    more_here (mesh_in c.args.mesh) c.args.lines.now c.loop-line.line-index c.line-item.result c.loop-line-test.true c.line-item.is c.loop-line.run c.loop-line.shape c.loop-line.number
-    (g.O.Outside.around c.args.outside.now) (g.O.Outside.around c.loop-line.outside) (g.O.Outside.around c.measure_line.new.outside) c.loop-line.invariant c.in_ok-measure_line.field-0 yes c.in_ok-measure_line.ensures.measures
-    c.measure_line.new.run c.measure_line.new.shape (c.in_ok-measure_line.ensures.taken (ap Ok yes)) (c.in_ok-measure_line.ensures.valid (ap Ok yes)) (c.in_ok-measure_line.ensures.shape (ap Ok yes))
-
-pub returns-then-number-eq0 : goal.returns-then-number-eq0
-returns-then-number-eq0 g c =
-    no_line_here (mesh_in c.args.mesh) c.args.lines.now c.loop-line.line-index c.loop-line-test.false c.loop-line.run c.loop-line.shape c.loop-line.number
-    (g.O.Outside.around c.args.outside.now) (g.O.Outside.around c.loop-line.outside) (g.O.Outside.around c.refuse-then-number-eq0.new.outside) c.loop-line.invariant c.if-number-eq0.true c.refuse-then-number-eq0.result c.refuse-then-number-eq0.ensures.tells c.refuse-then-number-eq0.ensures.ending
-
-pub returns-in_err-tell : goal.returns-in_err-tell
-returns-in_err-tell g c =
-    let p = err_from_is_err_and c.from_residual-in_err-tell.result c.from_residual-in_err-tell.ensures.1 in
-    rw (p.1, p.2) (end_told (mesh_in c.args.mesh) c.args.lines.now c.loop-line.line-index c.loop-line-test.false c.loop-line.run c.loop-line.shape c.loop-line.number
-    (g.O.Outside.around c.args.outside.now) (g.O.Outside.around c.loop-line.outside) (g.O.Outside.around c.tell.new.outside) c.loop-line.invariant c.if-number-eq0.false (Err _) (tells_stopped _ _ _ _ c.in_err-tell.ensures) tt)
+pub measure_each-requires-clause-valid : goal.measure_each-requires-clause-valid
+measure_each-requires-clause-valid g c = subst IsValidState (sym c.new-run.ensures) (c.fitting_lines_are_safe.ensures.first (mesh_in c.args.mesh) c.requires.valid)
 
 pub returns : goal.returns
 returns g c =
-    end_told (mesh_in c.args.mesh) c.args.lines.now c.loop-line.line-index c.loop-line-test.false c.loop-line.run c.loop-line.shape c.loop-line.number
-    (g.O.Outside.around c.args.outside.now) (g.O.Outside.around c.loop-line.outside) (g.O.Outside.around c.tell.new.outside) c.loop-line.invariant c.if-number-eq0.false _ (tells_whole _ _ _ _ _ c.in_ok-tell.ensures) refl
+    let P : Mesh → Type 0 = λ m. MeasuresLines m c.args.lines.now (g.O.Outside.around c.args.outside.now) (g.O.Outside.around c.measure_each.new.outside) c.measure_each.result in
+    subst P (ap (λ (s : LogState). s.replay.mesh) c.new-run.ensures) c.measure_each.ensures
