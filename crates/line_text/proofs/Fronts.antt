@@ -1,5 +1,5 @@
 -- Digits that are read up to where their word ends, and the whole word that they are.
-use Rattle.std.proofs.Common.{◌≡◌, ℕ, suc, ◌+◌, ◌-◌, ◌*◌, ◌^◌, ◌<◌, ◌≤◌, Bool, true, false, ◌&&◌, leb, List, [], ◌∷◌, ◌++◌, length, get_or, take, drop, Option, Some, None, refl, sym, ap, subst, ◌∙◌, arith, add-one, inl, inr}
+use Rattle.std.proofs.Common.{◌≡◌, ℕ, suc, ◌+◌, ◌-◌, ◌*◌, ◌^◌, ◌<◌, ◌≤◌, Bool, true, false, leb, List, [], ◌∷◌, ◌++◌, length, get_or, take, drop, Some, None, refl, sym, ap, subst, ◌∙◌, arith, add-one, inl, inr}
 use Rattle.std.specs.Prelude.{Result, Ok, Err, ℤ}
 use Rattle.std.proofs.Math.Bool.{and-false}
 use Rattle.std.proofs.Math.Nat.{pow-suc}
@@ -14,7 +14,7 @@ use Rattle.line_text.specs.declared.fault.TextWhy.{TextWhy}
 use Rattle.line_text.specs.Faults.{◌>>=◌}
 use Rattle.line_text.specs.Fields.{Takes, number_at, number_from, signed_at, number_up_to}
 use Rattle.line_text.specs.Fronts.{IsWhole}
-use Rattle.line_text.specs.Numbers.{number, number_after, number_within, is_digit, begins_with, whole_parts}
+use Rattle.line_text.specs.Numbers.{number, number_after, number_within, is_digit, begins_with}
 use Rattle.line_text.specs.Texts.{is_blank, words_of}
 use Rattle.line_text.proofs.Digits.{pow_le, list_all-append}
 use Rattle.line_text.proofs.WordCuts.{word}

@@ -1,5 +1,5 @@
 -- Whole words that are read as they are found.
-use Rattle.std.specs.Prelude.{◌≡◌, ℕ, Bool, List, ◌∷◌, Option, Some}
+use Rattle.std.specs.Prelude.{◌≡◌, ℕ, Bool, List, ◌∷◌, Some}
 use Rattle.line_text.specs.declared.blank_words.Words.{Words}
 use Rattle.line_text.specs.Numbers.{whole_parts}
 use Rattle.line_text.specs.Remaining.{words_left}
