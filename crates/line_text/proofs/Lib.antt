@@ -10,3 +10,4 @@ pub mod FixedAgain
 pub mod WordPuts
 pub mod WrittenAgain
 pub mod ReadSteps
+pub mod Fronts

@@ -8,3 +8,4 @@ pub mod Fields
 pub mod Spellings
 pub mod WrittenLines
 pub mod Laws
+pub mod Fronts

@@ -1,6 +1,10 @@
-ghost use Rattle.std.specs.Prelude.{◌≡◌, ◌≤◌, [], ◌∷◌, length, MatchOption};
+ghost use Rattle.std.specs.Prelude.{◌≡◌, ◌≤◌, ◌<◌, ◌^◌, [], ◌∷◌, length, MatchOption, IfSome};
 ghost use Rattle.std.specs.List.{prefix_len, position_or_len};
 ghost use Rattle.line_text.specs.Texts as spec;
+ghost use Rattle.line_text.specs.Fronts.{IsWhole};
+
+use crate::front_number::front_number;
+use crate::number::begins_with;
 
 /// The words of a line.
 #[derive(Clone, Copy)]
@@ -8,7 +12,7 @@ pub struct Words<'a> {
     rest: &'a [u8],
 }
 
-fn is_blank(b: u8) -> bool
+pub(crate) fn is_blank(b: u8) -> bool
     ensures { result ≡ spec.is_blank b }
 {
     b == b' ' || b == b'\t'
@@ -56,14 +60,52 @@ fn first_word(line: &[u8]) -> Option<(&[u8], &[u8])>
     Some(from.split_at(end))
 }
 
+// The number of the first word, where it is a whole word: whether it has a `-`, its digits' number, and what follows it. The word is read as
+// it is found. None says nothing.
+fn whole_front(line: &[u8]) -> Option<(bool, u64, &[u8])>
+    ensures value { IfSome result
+        (λ r. IsWhole (spec.words_of line.now) (r.0, r.1) (spec.words_of r.2.now)) }
+    ensures below { IfSome result (λ r. r.1 < 10 ^ 10) }
+{
+    let (_, from) = line.split_at(blank_len(line));
+    if begins_with(b'-', from) {
+        let (_, digits) = from.split_at(1);
+        let (size, count) = front_number(digits)?;
+        if count == 0 {
+            return None;
+        }
+        return Some((true, size, digits.split_at(count).1));
+    }
+    let (size, count) = front_number(from)?;
+    if count == 0 {
+        return None;
+    }
+    Some((false, size, from.split_at(count).1))
+}
+
 impl<'a> Words<'a> {
     ghost use Rattle.line_text.specs.Remaining.{words_left};
+    ghost use Rattle.line_text.specs.Fronts.{TakesWhole};
+    ghost use Rattle.std.specs.Prelude.{None};
 
     #[tactic(auto, unfolding(crate::specs::Remaining::words_left))]
     pub(crate) fn new(line: &'a [u8]) -> Words<'a>
         ensures { words_left result ≡ spec.words_of line.now }
     {
         Words { rest: line }
+    }
+
+    /// The number of the next word, where it is a whole word, as `whole_parts` tells it, and the word is read as it is found. None says
+    /// nothing, and takes no word.
+    #[tactic(auto, unfolding(crate::specs::Remaining::words_left))]
+    pub fn next_whole(&mut self) -> Option<(bool, u64)>
+        ensures taken { IfSome result (TakesWhole self.old self.new) }
+        ensures below { IfSome result (λ parts. parts.1 < 10 ^ 10) }
+        ensures kept { result ≡ None → self.new ≡ self.old }
+    {
+        let (negative, size, behind) = whole_front(self.rest)?;
+        self.rest = behind;
+        Some((negative, size))
     }
 }
 

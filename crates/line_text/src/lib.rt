@@ -7,6 +7,7 @@ mod cut;
 mod decimal;
 mod fault;
 mod fixed_text;
+mod front_number;
 mod law;
 mod number;
 mod pieces;

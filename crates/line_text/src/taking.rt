@@ -1,4 +1,4 @@
-ghost use Rattle.std.specs.Prelude.{◌≡◌, ◌≤◌, ◌<◌, ◌+◌, ◌^◌, unsigned_abs, min, length, IfOk};
+ghost use Rattle.std.specs.Prelude.{◌≡◌, ◌≤◌, ◌<◌, ◌+◌, ◌^◌, unsigned_abs, min, length, Some, IfOk};
 ghost use Rattle.std.specs.Str.{bytes_eq};
 ghost use Rattle.grid_base.specs.declared.TheConstants.{BOX, DECIMALS_MAX};
 ghost use Rattle.line_text.specs.Remaining.{words_left};
@@ -46,6 +46,21 @@ pub fn count_is(count: usize, words: Words<'_>) -> Result<(), TextWhy>
     Ok(())
 }
 
+// The number of this sign and size, from `low` to `high`.
+fn number_in(negative: bool, size: u64, low: u32, high: u32) -> Result<u32, TextWhy>
+    ensures value { result ≡ spec.number_from low high (Some (negative, size)) }
+    ensures above { IfOk result (λ n. low ≤ n) }
+    ensures below { IfOk result (λ n. n ≤ high) }
+{
+    if size < u64::from(low) || size > u64::from(high) {
+        return Err(TextWhy::Range);
+    }
+    if negative && size != 0 {
+        return Err(TextWhy::Range);
+    }
+    Ok(size as u32)
+}
+
 /// The number that the next word writes, from `low` to `high`. Number where the word is no optional `-` and one to ten
 /// digits, Range where its number is below `low` or above `high`; `-0` is 0. Short where there is no word.
 #[tactic(auto, unfolding(crate::specs::Fields::number_at))]
@@ -54,19 +69,16 @@ pub fn number_at(words: &mut Words<'_>, low: u32, high: u32) -> Result<u32, Text
     ensures above { IfOk result (λ n. low ≤ n) }
     ensures below { IfOk result (λ n. n ≤ high) }
 {
+    if let Some((negative, size)) = words.next_whole() {
+        return number_in(negative, size, low, high);
+    }
     let Some(word) = words.next() else {
         return Err(TextWhy::Short);
     };
     let Some((negative, size)) = whole_parts(word) else {
         return Err(TextWhy::Number);
     };
-    if size < u64::from(low) || size > u64::from(high) {
-        return Err(TextWhy::Range);
-    }
-    if negative && size != 0 {
-        return Err(TextWhy::Range);
-    }
-    Ok(size as u32)
+    number_in(negative, size, low, high)
 }
 
 /// The number that the next word writes, of a size up to `most`. Number where the word is no optional `-` and one to ten
@@ -77,12 +89,24 @@ pub fn signed_at(words: &mut Words<'_>, most: u32) -> Result<i32, TextWhy>
     ensures value { spec.TakesWords words.old words.new result (spec.signed_at most) }
     ensures within { IfOk result (λ n. unsigned_abs n ≤ most) }
 {
+    if let Some((negative, size)) = words.next_whole() {
+        return signed_in(negative, size, most);
+    }
     let Some(word) = words.next() else {
         return Err(TextWhy::Short);
     };
     let Some((negative, size)) = whole_parts(word) else {
         return Err(TextWhy::Number);
     };
+    signed_in(negative, size, most)
+}
+
+// The number of this sign and size, up to `most` in size.
+fn signed_in(negative: bool, size: u64, most: u32) -> Result<i32, TextWhy>
+    requires { most < 2 ^ 31 }
+    ensures value { result ≡ spec.number_up_to most (Some (negative, size)) }
+    ensures within { IfOk result (λ n. unsigned_abs n ≤ most) }
+{
     if size > u64::from(most) {
         return Err(TextWhy::Range);
     }

@@ -7,3 +7,4 @@ pub mod RankBounds
 pub mod Again
 pub mod Renumbered
 pub mod ListsAgain
+pub mod WholeFaces

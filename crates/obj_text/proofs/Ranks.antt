@@ -1,5 +1,5 @@
 -- How many ids of a rising list there are up to one.
-use Rattle.std.proofs.Common.{◌≡◌, ℕ, zero, suc, ◌+◌, ◌<◌, ◌≤◌, min, Bool, true, false, List, [], ◌∷◌, T, length, get_or, take, sym, ap, ◌∙◌, arith, cond, inl, inr}
+use Rattle.std.proofs.Common.{◌≡◌, ℕ, zero, suc, ◌+◌, ◌-◌, ◌<◌, ◌≤◌, min, Bool, true, false, leb, List, [], ◌∷◌, T, length, get_or, take, sym, ap, ◌∙◌, arith, cond, inl, inr}
 use Rattle.std.specs.Prelude.{map}
 use Rattle.std.specs.List.{filter}
 use Rattle.std.specs.Ordering.{nat_cmp}
@@ -7,8 +7,8 @@ use Rattle.std.specs.FinMap as finite
 use Rattle.std.specs.FinMap.{FinMap, entries_sorted}
 use Rattle.std.specs.FinMap.Entries.{is_sorted, below_all}
 use Rattle.std.specs.List.Sorted.{IsPartitionPoint, IsNonDecreasing}
-use Rattle.std.proofs.lemmas.Bool.{cases_lt, ltb-true}
-use Rattle.std.proofs.lemmas.List.{take_all}
+use Rattle.std.proofs.lemmas.Bool.{cases_lt, ltb-true, le-leb, lt-leb}
+use Rattle.std.proofs.lemmas.List.{take_all, get_or_default}
 use Rattle.std.proofs.lemmas.List.Filters.{length-filter_more}
 use Rattle.mesh_base.proofs.WalkSteps.{both_of, less_true}
 
@@ -27,6 +27,13 @@ module _ (p : ℕ → Bool) (xs : List ℕ) (i : ℕ) (h : IsPartitionPoint (λ 
   -- those that pass are the ones before the point where passing ends
   pub passing_are : i ≤ length xs → length (filter p xs) ≡ i
   passing_are le = let all : take (length xs) xs ≡ xs = take_all (length xs) xs (omega arith) in let e : length (filter p xs) ≡ min (length xs) i = ap (λ ys. length (filter p ys)) (sym all) ∙ among_first (length xs) (omega arith) in omega arith
+
+-- how many are up to v, where those in front are and the next is not
+pub so_many : (ids : List ℕ) (v i : ℕ) → IsNonDecreasing ids → 0 < i → i ≤ length ids → get_or ids (i - 1) 0 ≤ v → (i < length ids → v < get_or ids i 0) → length (filter (λ u. leb u v) ids) ≡ i
+so_many ids v i rises some le last next =
+    let before : (k d : ℕ) → 0 ≤ k → k < i → leb (get_or ids k d) v ≡ true = λ k d low lt. le-leb _ _ (omega (arith, rises k (i - 1) d (omega arith) (omega arith), get_or_default ids (i - 1) d 0 (omega arith), last)) in
+    let behind : (k d : ℕ) → i ≤ k → k < length ids → leb (get_or ids k d) v ≡ false = λ k d low lt. lt-leb _ _ (omega (arith, rises i k d low lt, get_or_default ids i d 0 (omega arith), next (omega arith))) in
+    passing_are (λ u. leb u v) ids i (before, behind) le
 
 module _ {X : Type 0} where
   below_at : (k : ℕ) (es : List (ℕ × X)) → T (below_all nat_cmp k es) → (j d : ℕ) → j < length (map (λ e. e.0) es) → k ≤ get_or (map (λ e. e.0) es) j d

@@ -1,6 +1,7 @@
-ghost use Rattle.std.specs.Prelude.{◌≡◌, ◌≤◌, ◌<◌, ◌^◌, ◌+◌, length, nat_lt};
+ghost use Rattle.std.specs.Prelude.{◌≡◌, ◌≤◌, ◌<◌, ◌^◌, ◌+◌, ◌∷◌, [], ℕ, Ok, false, length, nat_lt, IfSome};
 ghost use Rattle.std.specs.Str.{bytes_eq};
 ghost use Rattle.line_text.specs.Faults.{Gives, Leaves, at_line};
+ghost use Rattle.line_text.specs.Fronts.{IsWhole};
 ghost use Rattle.line_text.specs.Remaining.{words_left};
 ghost use Rattle.obj_text.specs.Obj as spec;
 ghost use Rattle.grid_base.specs.declared.TheConstants.{TEXT_MAX, DECIMALS_MAX};
@@ -75,12 +76,46 @@ fn add_fan(
     Ok(())
 }
 
+// The next corner, where it is a whole number without a sign: read as it is found. None says nothing.
+fn whole_corner(words: &mut Words<'_>) -> Option<u32>
+    ensures taken { IfSome result
+        (λ n. IsWhole (words_left words.old) (false, n) (words_left words.new)) }
+    ensures some { IfSome result (λ n. 0 < n) }
+    ensures small { IfSome result (λ n. n < 2 ^ 32) }
+{
+    let (negative, size) = words.next_whole()?;
+    if negative || size == 0 || size > u64::from(u32::MAX) {
+        return None;
+    }
+    Some(size as u32)
+}
+
+// The triangle of a face whose words are three whole numbers without a sign. None says nothing.
+fn whole_triangle(words: Words<'_>) -> Option<[u32; 3]>
+    ensures value { IfSome result
+        (λ face. (read : ℕ) → spec.face_of read (words_left words.entry) ≡ Ok face) }
+    ensures alone { IfSome result (λ face. spec.fan face ≡ face ∷ []) }
+{
+    let mut words = words;
+    let a = whole_corner(&mut words)?;
+    let b = whole_corner(&mut words)?;
+    let c = whole_corner(&mut words)?;
+    match words.next() {
+        None => Some([a, b, c]),
+        Some(_) => None,
+    }
+}
+
 // Adds the triangles of a face.
 #[tactic(auto, unfolding(crate::specs::Obj::face_of, crate::specs::Obj::corners_of))]
 fn add_face(faces: &mut Triangles, words: Words<'_>, read: u32, line: u32) -> Result<(), ReadFault>
     ensures { Leaves faces.new result
         (at_line line (faces_after read faces.old (words_left words.entry))) }
 {
+    if let Some(face) = whole_triangle(words) {
+        faces.push(face)?;
+        return Ok(());
+    }
     let mut words = words;
     let Some(a) = words.next() else {
         return Err(ReadFault::Text(TextFault {
