@@ -197,9 +197,3 @@ module _ (may_answer : Point → Shift → Type 0) (m : Mesh) (asked given : Shi
     driven.1,
     ap (sum_of_all m driven.0) (sym same) ∙ ap (λ o. sum_or_range o m driven.0 given) (sums_at (Err v) is) ∙ ap (λ x. Err (ShiftRange x)) (sym named),
   )
-
-  -- the sums are asked
-  pub asks_all : (sums : Shifts) → r ≡ Ok sums → (by : ℕ → Shift) × AreAnswersOf may_answer m by × (sum_of_all m by asked ≡ Ok sums)
-  asks_all sums is =
-      let parts = sums_at (Ok sums) is in
-      (driven.0, driven.1, ap (sum_of_all m driven.0) (sym same) ∙ ap (λ o. sum_or_range o m driven.0 given) parts.0 ∙ ap Ok (sym parts.1))

@@ -1,14 +1,14 @@
 -- What edits that are asked for are, once they are made and said.
 use Rattle.std.specs.Prelude.{nat_lt}
 use Rattle.std.proofs.Common.{◌≡◌, ℕ, Bool, List, Option, None, Ok, Err, refl, sym, ap, ◌∙◌, subst, inr}
-use Rattle.grid_decided.specs.Decided.{meets_exactly}
+use Rattle.grid_decided.specs.Decided.{meets_exactly, meets_exactly-is_exact}
 use Rattle.mesh_base.specs.Mesh.{Mesh}
 use Rattle.mesh_base.specs.Shifts.{Shifts}
+use Rattle.mesh_base.specs.Valid.{IsValidSurface}
 use Rattle.edit_base.specs.declared.Asked.{Asked}
 use Rattle.log_text.specs.Lines.{text_of_lines}
 use Rattle.log_text.specs.declared.LogLine.{LogLine}
 use Rattle.log_write.specs.Written.{WrittenInPart}
-use Rattle.log_write.proofs.WrittenLines.{written_whole}
 use Rattle.outside_io.specs.declared.stop.Stop.{Stop}
 use Rattle.outside_io.specs.Sink.{appended}
 use Rattle.pass_run.specs.declared.passing.PassCount.{PassCount}
@@ -18,7 +18,10 @@ use Rattle.pass_run.specs.Said.{SaidInPart}
 use Rattle.track_engine.specs.State.{Group, State, asked_in, is_open}
 use Rattle.track_engine.specs.Effects.{Proceeds, edited_lines, edited_mesh, edited_answers, after_edits, edits_effect, fail_if}
 use Rattle.track_engine.specs.Parts.{Writes}
+use Rattle.track_engine.specs.Shifting.{AsksOfGiven}
 use Rattle.track_engine.specs.Told.{edits_counted}
+use Rattle.track_engine.proofs.AskedLemmas.{rest_again}
+use Rattle.track_engine.proofs.VertexIds.{VertexIdsGoOn, ids_go_on}
 
 module _ (asked : List Asked) (s : State) (grouped : Bool) (same : grouped ≡ is_open s.groups) where
   abbrev lines : List LogLine
@@ -42,8 +45,11 @@ module _ (asked : List Asked) (s : State) (grouped : Bool) (same : grouped ≡ i
   pub edits_in_part : (t : State) (stop : Stop) (to : Mesh) (old new : Option (List ℕ)) → SaidInPart s.mesh to old new lines → Writes (edits_effect asked s) t old new (Err stop)
   edits_in_part t stop to old new said = let P : List LogLine → Type 0 = λ l. WrittenInPart old new l in inr (edited_lines asked s, after_edits asked s, refl, subst P lines_are said.text)
 
-  pub edits_said : (t : State) (stop : Stop) (old new : Option (List ℕ)) → new ≡ appended old (text_of_lines lines) → Writes (edits_effect asked s) t old new (Err stop)
-  edits_said t stop old new said = let P : List LogLine → Type 0 = λ l. WrittenInPart old new l in inr (edited_lines asked s, after_edits asked s, refl, subst P lines_are (written_whole old new lines said))
+  -- what is asked behind them
+  pub edits_rest : IsValidSurface s.mesh → (m : Mesh) → m ≡ end → (now : Shifts) → asked_in s.mesh now ≡ s.asked → AsksOfGiven s.mesh now → asked_in m now ≡ asked_in m s.asked
+  edits_rest good m is now asks given =
+      let goes = ids_go_on (edit_rules meets_exactly s.set.depth grouped) meets_exactly-is_exact s.mesh good asked in
+      rest_again s.mesh m (subst (VertexIdsGoOn s.mesh) (sym is) goes) good.sound s.asked now asks given
 
   -- the state behind them
   pub edits_left : (m : Mesh) (shifts : Shifts) (groups : List Group) (refused : ℕ) → m ≡ end → shifts ≡ asked_in m s.asked → refused ≡ refused_in lines → groups ≡ fail_if (nat_lt 0 refused) s.groups

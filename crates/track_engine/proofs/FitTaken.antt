@@ -2,16 +2,18 @@
 use Rattle.std.specs.Prelude.{nat_lt}
 use Rattle.std.proofs.lemmas.Bool.{false≢true}
 use Rattle.std.proofs.Math.Seq.{take-append_seam}
-use Rattle.std.proofs.Common.{◌≡◌, ℕ, Bool, true, List, ◌++◌, length, take, Option, Some, None, Result, Ok, Err, IfOk, IsSome, refl, sym, ap, ◌∙◌, subst, inr, append-nil}
+use Rattle.std.proofs.Common.{◌≡◌, ℕ, Bool, true, List, ◌++◌, map, length, take, Option, Some, None, Result, Ok, Err, IfOk, IsSome, refl, sym, ap, ◌∙◌, subst, inr, append-nil}
 use Rattle.grid_base.specs.declared.Point.{Point}
-use Rattle.grid_decided.specs.Decided.{meets_exactly}
+use Rattle.grid_decided.specs.Decided.{meets_exactly, meets_exactly-is_exact}
 use Rattle.mesh_base.specs.declared.UseWhy.{UseWhy}
 use Rattle.mesh_base.specs.Kept.{BeginsWith}
 use Rattle.mesh_base.specs.Mesh.{Mesh}
 use Rattle.mesh_base.specs.Pairs.{edges}
 use Rattle.mesh_base.specs.Shifts.{Shifts}
+use Rattle.mesh_base.specs.Valid.{IsValidSurface}
 use Rattle.mesh_sizing.specs.declared.sizing.Band.{Band}
 use Rattle.mesh_sizing.specs.declared.sizing.Want.{Want}
+use Rattle.mesh_sizing.specs.declared.sizing.Want.TheVariants.{Leave}
 use Rattle.step_text.specs.declared.Directive.{Directive}
 use Rattle.step_text.specs.declared.Directive.TheVariants as directive
 use Rattle.log_text.specs.Lines.{text_of_lines}
@@ -22,8 +24,8 @@ use Rattle.outside_io.specs.declared.stop.Stop.{Stop}
 use Rattle.outside_io.specs.Sink.{appended}
 use Rattle.pass_run.specs.declared.passing.PassCount.{PassCount}
 use Rattle.pass_run.specs.PassLines.{done_in, refused_in}
-use Rattle.pass_run.specs.Fits.{fit_rules, fit_lines, mesh_after_fit, AreWanted, AreFitLines, Fits}
-use Rattle.log_write.proofs.WrittenLines.{written_whole}
+use Rattle.pass_run.specs.Fits.{turn_of, fit_rules, fit_lines, mesh_after_fit, AreWanted, AreFitLines, Fits}
+use Rattle.log_write.proofs.WrittenLines.{written_nothing}
 use Rattle.track_engine.specs.declared.open_group.OpenGroup.{OpenGroup}
 use Rattle.track_engine.specs.Saved.{Target}
 use Rattle.track_engine.specs.State.{Group, State, standing, asked_in, is_open}
@@ -32,7 +34,10 @@ use Rattle.track_engine.specs.Answered.{Known, is_fit, AreWantedIn}
 use Rattle.track_engine.specs.Effects.{Proceeds, fit_effect, fitted_lines, fitted_mesh, fail_if}
 use Rattle.track_engine.specs.Invariant.{left_by}
 use Rattle.track_engine.specs.Parts.{AdvancesAnswered, FitTakes, FitTells, Tells}
+use Rattle.track_engine.specs.Shifting.{AsksOfGiven}
 use Rattle.track_engine.specs.Told.{fit_told, pass_untold}
+use Rattle.track_engine.proofs.AskedLemmas.{rest_again}
+use Rattle.track_engine.proofs.VertexIds.{VertexIdsGoOn, ids_go_on}
 use Rattle.track_engine.proofs.NoFiles.{NoFiles, files_of-none, logs_from_said, stops_from_said}
 use Rattle.track_engine.proofs.Passing.{fit_replays, fit_names_none}
 
@@ -77,15 +82,17 @@ module _ (may_size : Point → Band → Type 0) (s : State) (grouped : Bool) (sa
     f.said.text,
   )
 
-  -- it stops behind them
-  pub fit_said : (t : State) (to : Mesh) (count : PassCount) (stop : Stop) (old new : Option (List ℕ)) → Fits {E = Stop} may_size s.set.depth grouped s.mesh to old new (Ok count) → FitTakes may_size s t old new (Err stop)
-  fit_said t to count stop old new f = (
-    Wanted f.fit.wants,
-    all_wanted f.lines f.end f.fit,
-    f.lines,
-    sym (all_lines f.lines f.end f.fit),
-    written_whole old new f.lines f.said.1,
-  )
+  -- it stops before it begins
+  pub fit_not_begun : (t : State) (stop : Stop) (old : Option (List ℕ)) → FitTakes may_size s t old old (Err stop)
+  fit_not_begun t stop old =
+      let lines = fitted_lines (λ e. Leave) (take 0 (edges s.mesh)) s in
+      (WantedOfFirst 0 (λ e. Leave), (refl, tt), lines, refl, written_nothing old old lines refl)
+
+  -- what is asked behind it
+  pub fit_rest : IsValidSurface s.mesh → (m : Mesh) (count : PassCount) (old new : Option (List ℕ)) → Fits {E = Stop} may_size s.set.depth grouped s.mesh m old new (Ok count) → (now : Shifts) → asked_in s.mesh now ≡ s.asked → AsksOfGiven s.mesh now → asked_in m now ≡ asked_in m s.asked
+  fit_rest good m count old new f now asks given =
+      let goes = ids_go_on (fit_rules meets_exactly f.fit.wants s.set.depth grouped) meets_exactly-is_exact s.mesh good (map turn_of f.fit.first) in
+      rest_again s.mesh m (subst (VertexIdsGoOn s.mesh) (sym (f.mesh ∙ f.fit.leaves)) goes) good.sound s.asked now asks given
 
   -- what it tells, by its lines
   told_is : (wants : ℕ × ℕ → Want) (count : PassCount) → count.done ≡ done_in (fitted_lines wants (edges s.mesh) s) → count.refused ≡ refused_in (fitted_lines wants (edges s.mesh) s) → count ≡ fit_told wants s

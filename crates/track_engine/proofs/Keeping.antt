@@ -54,6 +54,7 @@ use Rattle.track_engine.proofs.StepLemmas.{all_inside, ids_of_still}
 use Rattle.pass_run.specs.PassLines.{refused_in}
 use Rattle.track_engine.proofs.Still.{SolidsAreStill, rest_of_still, still_of_rest, clear-with_solid, moving_free, all_still_are, none_asked, sums_still, one_still_sum, ids_of_still_one, solid_still, groups_kept}
 use Rattle.track_engine.proofs.EffectLemmas.{ids_of_sums, names_at_first}
+use Rattle.track_engine.proofs.AskedLemmas.{still_named}
 
 -- ---- lines one after the other
 
@@ -141,7 +142,7 @@ pub well_taken : (s : State) → IsRunInvariant s → first_outside s.mesh s.ask
 unfolding taken
 well_taken s kept inside = taken_well s.mesh s.asked s.set kept.now.good.sound kept.now.good.clear kept.now.names (all_inside s.mesh s.asked inside) kept.now.still
 
-kept_after : (s : State) → IsRunInvariant s → first_outside s.mesh s.asked ≡ None → IsRunInvariant (after_step s)
+pub kept_after : (s : State) → IsRunInvariant s → first_outside s.mesh s.asked ≡ None → IsRunInvariant (after_step s)
 kept_after s kept inside =
     let well = well_taken s kept inside in
     record {
@@ -172,30 +173,15 @@ ids_of_one v by (s ∷ rest) = ap (λ id. id ∷ map (λ x. x.v) (one_summed v b
     by_test false = refl
 
 -- what is asked after a pass names the live vertices
-named_at : (v : ℕ) (asked : Shifts) → (unwrap_or (asked_of v asked) (still_at v)).v ≡ v
-named_at v [] = refl
-named_at v (s ∷ rest) = by_test (named_at v rest) (s.v == v) refl
-  where
-    by_test : (unwrap_or (asked_of v rest) (still_at v)).v ≡ v → (b : Bool) → (s.v == v) ≡ b → (unwrap_or (cond b (Some s) (asked_of v rest)) (still_at v)).v ≡ v
-    by_test others true e = eqb-true s.v v e
-    by_test others false e = others
-
-still_named : (m : Mesh) (asked : Shifts) (v : ℕ) → (still_asked m asked v).v ≡ v
-still_named m asked v = by_test (is_solid m v)
-  where
-    by_test : (b : Bool) → (cond b (still_at v) (unwrap_or (asked_of v asked) (still_at v))).v ≡ v
-    by_test true = refl
-    by_test false = named_at v asked
-
 ids_of : (m : Mesh) (asked : Shifts) (ids : List ℕ) → map (λ s. s.v) (map (still_asked m asked) ids) ≡ ids
 ids_of m asked [] = refl
 ids_of m asked (v ∷ ids) = ap (λ w. w ∷ map (λ s. s.v) (map (still_asked m asked) ids)) (still_named m asked v) ∙ ap (λ l. v ∷ l) (ids_of m asked ids)
 
-ids_in : (m : Mesh) (asked : Shifts) → NameLive m (asked_in m asked)
+pub ids_in : (m : Mesh) (asked : Shifts) → NameLive m (asked_in m asked)
 ids_in m asked = ids_of m asked (finite.keys m.points)
 
 -- nothing is asked of a solid vertex after a pass
-asked_still : (m : Mesh) (asked : Shifts) (ids : List ℕ) → SolidsAreStill m (map (still_asked m asked) ids)
+pub asked_still : (m : Mesh) (asked : Shifts) (ids : List ℕ) → SolidsAreStill m (map (still_asked m asked) ids)
 asked_still m asked [] = tt
 asked_still m asked (v ∷ ids) = (by_test (is_solid m v) refl, asked_still m asked ids)
   where

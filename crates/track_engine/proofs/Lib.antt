@@ -14,8 +14,12 @@ pub mod PassTaken
 pub mod ShapeAgain
 pub mod ReadAgain
 pub mod Still
+pub mod VertexIds
+pub mod AskedLists
+pub mod AskedLemmas
 pub mod DriveLemmas
 pub mod Keeping
+pub mod AskedSums
 pub mod EditsTaken
 pub mod Undone
 pub mod Replayed

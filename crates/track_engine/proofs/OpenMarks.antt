@@ -12,7 +12,7 @@ use Rattle.log_text.specs.declared.LogLine.TheVariants.{Close}
 use Rattle.track_engine.specs.declared.open_group.OpenGroup.{OpenGroup}
 use Rattle.track_engine.specs.declared.run_state.RunState.{RunState}
 use Rattle.track_engine.specs.Groups.{is_open_in, failed_if}
-use Rattle.track_engine.specs.State.{Group, State, is_open, kept_for, group_of, groups_of, state_of}
+use Rattle.track_engine.specs.State.{Group, State, asked_in, is_open, kept_for, group_of, groups_of, state_of}
 use Rattle.track_engine.specs.Effects.{Proceeds, close_effect, fail_if, opened, kept_whole, taken_back}
 use Rattle.track_engine.specs.Invariant.{MarksHold, left_by}
 
@@ -46,7 +46,7 @@ groups_along beyond new old [] h is = refl
 groups_along beyond new old (g ∷ outer) h is =
     let n : ℕ = g.mark.under in
     let within : BeginsWith old (take n old) = front_begins n old in
-    ap (λ (m : Mesh). let first : Group = record { mesh = m; asked = g.asked; failed = g.failed } in first ∷ groups_of new outer) (kept_along beyond new old g.mark h is.0)
+    ap (λ (m : Mesh). let first : Group = record { mesh = m; asked = asked_in m g.asked; failed = g.failed } in first ∷ groups_of new outer) (kept_along beyond new old g.mark h is.0)
     ∙ ap (λ (l : List Group). group_of old g ∷ l)
     (groups_along beyond new (take n old) outer (begins_along new old (take n old) h within) is.1 ∙ sym (groups_along beyond old (take n old) outer within is.1))
 
@@ -93,10 +93,10 @@ module _ (beyond : ℕ) (m : Mesh) (old new : List Mesh) (run : RunState) (marks
   pub opened_is : StandsFor new group.mark m → group.asked ≡ run.asked → group.failed ≡ false → opened (state_of m old run) ≡ state_of m new (record run { groups = group ∷ run.groups })
   opened_is stands asked failed =
       let mesh : kept_for new group.mark ≡ m = ap (λ o. unwrap_or o (mesh_of [] [])) stands in
-      let first : ◌≡◌ {A = Group} (record { mesh = m; asked = run.asked; failed = false }) (group_of new group) =
-      λ i. record { mesh = sym mesh i; asked = sym asked i; failed = sym failed i } in
+      let first : ◌≡◌ {A = Group} (record { mesh = m; asked = asked_in m run.asked; failed = false }) (group_of new group) =
+      λ i. record { mesh = sym mesh i; asked = asked_in (sym mesh i) (sym asked i); failed = sym failed i } in
       let rest = groups_along beyond new old run.groups begins marks in
-      λ i. record { mesh = m; asked = run.asked; set = run.set; steps = run.steps; saved = run.saved; groups = first i ∷ sym rest i }
+      λ i. record { mesh = m; asked = asked_in m run.asked; set = run.set; steps = run.steps; saved = run.saved; groups = first i ∷ sym rest i }
 
   -- its mark holds, and when the mesh goes back to it, those of the groups around it
   pub marks_opened : MarkHolds beyond new group.mark → group.mark.under ≡ length old → MarksHold beyond new (group ∷ run.groups)
@@ -132,7 +132,7 @@ module _ (beyond : ℕ) (m : Mesh) (kept : List Mesh) (run : RunState) (group : 
       let mesh : then ≡ kept_for kept group.mark = sym (ap (λ o. unwrap_or o (mesh_of [] [])) stands) in
       let rest : groups_of back outer ≡ groups_of kept outer =
       groups_along beyond back front outer begins these.1 ∙ sym (groups_along beyond kept front outer (front_begins group.mark.under kept) these.1) in
-      λ i. record { mesh = mesh i; asked = same i; set = run.set; steps = run.steps; saved = run.saved; groups = rest i }
+      λ i. record { mesh = mesh i; asked = asked_in (mesh i) (same i); set = run.set; steps = run.steps; saved = run.saved; groups = rest i }
 
 -- the kept meshes begin with those that are left
 pub begins_left : (kept : List Mesh) (groups : List OpenGroup) → BeginsWith kept (left_by directive.Close groups kept)

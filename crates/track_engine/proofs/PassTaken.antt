@@ -4,6 +4,8 @@ use Rattle.std.proofs.Common.{◌≡◌, ℕ, Bool, List, Option, Some, None, Re
 use Rattle.mesh_base.specs.declared.UseWhy.{UseWhy}
 use Rattle.mesh_base.specs.Mesh.{Mesh}
 use Rattle.mesh_base.specs.Shifts.{Shifts}
+use Rattle.mesh_base.specs.Valid.{IsValidSurface}
+use Rattle.grid_decided.specs.Decided.{meets_exactly-is_exact}
 use Rattle.edit_base.specs.declared.PassKind.{PassKind}
 use Rattle.step_text.specs.declared.Directive.TheVariants as directive
 use Rattle.log_text.specs.Lines.{text_of_lines}
@@ -12,16 +14,20 @@ use Rattle.outside_io.specs.Desk.{Files}
 use Rattle.outside_io.specs.Sink.{appended}
 use Rattle.pass_run.specs.Said.{SaidInPart}
 use Rattle.pass_run.specs.declared.passing.PassCount.{PassCount}
-use Rattle.pass_run.specs.PassLines.{lines_due, mesh_due, done_in, refused_in}
+use Rattle.pass_run.specs.Candidates.{candidates}
+use Rattle.pass_run.specs.PassLines.{exactly, terms_of, lines_due, mesh_due, done_in, refused_in}
 use Rattle.log_write.specs.Written.{WrittenInPart}
-use Rattle.log_write.proofs.WrittenLines.{written_whole}
+use Rattle.log_write.proofs.WrittenLines.{written_nothing}
 use Rattle.outside_io.specs.declared.stop.Stop.{Stop}
 use Rattle.track_engine.specs.Saved.{Target}
 use Rattle.track_engine.specs.State.{Group, State, standing, asked_in, is_open}
 use Rattle.track_engine.specs.Answers.{Nothing}
 use Rattle.track_engine.specs.Effects.{Proceeds, effect_of, passed_lines, passed_mesh, fail_if}
 use Rattle.track_engine.specs.Parts.{Advances, PassTakes}
+use Rattle.track_engine.specs.Shifting.{AsksOfGiven}
 use Rattle.track_engine.specs.Told.{pass_told}
+use Rattle.track_engine.proofs.AskedLemmas.{rest_again}
+use Rattle.track_engine.proofs.VertexIds.{VertexIdsGoOn, ids_go_on}
 use Rattle.track_engine.proofs.NoFiles.{files_of-none, logs_from_said, stops_from_said}
 use Rattle.track_engine.proofs.Passing.{pass_replays, pass_names_none}
 
@@ -40,8 +46,15 @@ module _ (kind : PassKind) (s : State) (grouped : Bool) (same : grouped ≡ is_o
   pub pass_in_part : (t : State) (stop : Stop) (to : Mesh) (old new : Option (List ℕ)) → SaidInPart s.mesh to old new lines → PassTakes kind s t old new (Err stop)
   pass_in_part t stop to old new said = let P : List LogLine → Type 0 = λ l. WrittenInPart old new l in subst P lines_are said.text
 
-  pub pass_said : (t : State) (stop : Stop) (old new : Option (List ℕ)) → new ≡ appended old (text_of_lines lines) → PassTakes kind s t old new (Err stop)
-  pass_said t stop old new said = let P : List LogLine → Type 0 = λ l. WrittenInPart old new l in subst P lines_are (written_whole old new lines said)
+  -- nothing is said yet
+  pub pass_not_begun : (t : State) (stop : Stop) (old : Option (List ℕ)) → PassTakes kind s t old old (Err stop)
+  pass_not_begun t stop old = written_nothing old old (passed_lines kind s) refl
+
+  -- what is asked behind it
+  pub pass_rest : IsValidSurface s.mesh → (m : Mesh) → m ≡ mesh_due kind s.set.depth grouped s.mesh → (now : Shifts) → asked_in s.mesh now ≡ s.asked → AsksOfGiven s.mesh now → asked_in m now ≡ asked_in m s.asked
+  pass_rest good m is now asks given =
+      let goes = ids_go_on (exactly (terms_of kind s.set.depth grouped)) meets_exactly-is_exact s.mesh good (candidates s.mesh kind) in
+      rest_again s.mesh m (subst (VertexIdsGoOn s.mesh) (sym is) goes) good.sound s.asked now asks given
 
   pub pass_taken : (m : Mesh) (asked : Shifts) (groups : List Group) (refused : ℕ) (old new : Option (List ℕ)) → m ≡ mesh_due kind s.set.depth grouped s.mesh → asked ≡ asked_in m s.asked
       → refused ≡ refused_in lines → groups ≡ fail_if (nat_lt 0 refused) s.groups → new ≡ appended old (text_of_lines lines)

@@ -86,93 +86,12 @@ beyond_here m by asked i s all h at out e =
 pub at_rest : (v : ℕ) (h : FitWithin SHIFT_MAX (pos 0) (pos 0) (pos 0)) → ◌≡◌ {A = ShiftOf} (record { v = v; by = record { x = pos 0; y = pos 0; z = pos 0; in_range = h } }) (still_at v)
 at_rest v h = ap (λ (b : Shift). record { v = v; by = b }) (same_shift no_shift h)
 
--- ---- the shift of one vertex
-
--- the shifts, with that of one vertex changed
-abbrev changed_at : ℕ → (ShiftOf → ShiftOf) → Shifts → Shifts
-changed_at v f asked = map (λ s. cond (s.v == v) (f s) s) asked
-
-not_later : (k y v : ℕ) → k ≡ v → nat_cmp k y ≡ Less → (y == v) ≡ false
-not_later k y v e h = grind (arith, nat_tests)
+-- ---- ids that rise
 
 pub not_earlier : (k y v : ℕ) → y ≡ v → nat_cmp k y ≡ Less → (k == v) ≡ false
 not_earlier k y v e h = grind (arith, nat_tests)
-
--- those after it stay as they are
-others_stay : (v k : ℕ) (f : ShiftOf → ShiftOf) (asked : Shifts) → k ≡ v → AllByRecursion (λ y. nat_cmp k y ≡ Less) (map (λ s. s.v) asked) → changed_at v f asked ≡ asked
-others_stay v k f [] e h = refl
-others_stay v k f (s ∷ rest) e h =
-    ap (λ b. cond b (f s) s ∷ changed_at v f rest) (not_later k s.v v e h.0) ∙ ap (λ l. s ∷ l) (others_stay v k f rest e h.1)
 
 pub below_at : (k : ℕ) (asked : Shifts) (i : ℕ) (s : ShiftOf) → AllByRecursion (λ y. nat_cmp k y ≡ Less) (map (λ t. t.v) asked) → slice_get asked i ≡ Some s → nat_cmp k s.v ≡ Less
 below_at k [] i s h e = cc
 below_at k (t ∷ rest) zero s h e = let is : t ≡ s = cc in subst (λ (u : ShiftOf). nat_cmp k u.v ≡ Less) is h.0
 below_at k (t ∷ rest) (suc i) s h e = below_at k rest i s h.1 e
-
--- the change is set in its place
-set_in_place : (v : ℕ) (f : ShiftOf → ShiftOf) (asked : Shifts) (i : ℕ) (s x : ShiftOf) → IsStrictlySortedBy nat_cmp (map (λ t. t.v) asked) → slice_get asked i ≡ Some s → s.v ≡ v → f s ≡ x
-    → changed_at v f asked ≡ slice_set asked i x
-set_in_place v f [] i s x sorted at is e = cc
-set_in_place v f (t ∷ rest) zero s x sorted at is e =
-    let this : t ≡ s = cc in
-    let named : t.v ≡ v = ap (λ (u : ShiftOf). u.v) this ∙ is in
-    ap (λ b. cond b (f t) t ∷ changed_at v f rest) (eq-eqb t.v v named)
-    ∙ ap (λ l. f t ∷ l) (others_stay v t.v f rest named (sorted_head nat_cmp t.v (map (λ u. u.v) rest) sorted))
-    ∙ ap (λ u. f u ∷ rest) this
-    ∙ ap (λ u. u ∷ rest) e
-set_in_place v f (t ∷ rest) (suc i) s x sorted at is e =
-    ap (λ b. cond b (f t) t ∷ changed_at v f rest) (not_earlier t.v s.v v is (below_at t.v rest i s (sorted_head nat_cmp t.v (map (λ u. u.v) rest) sorted) at))
-    ∙ ap (λ l. t ∷ l) (set_in_place v f rest i s x (sorted_tail nat_cmp t.v (map (λ u. u.v) rest) sorted) at is e)
-
-found_named : (v : ℕ) (asked : Shifts) (s : ShiftOf) → find (λ t. t.v == v) asked ≡ Some s → s.v ≡ v
-found_named v [] s e = cc
-found_named v (t ∷ rest) s e = by_test (found_named v rest s) (t.v == v) refl e
-  where
-    by_test : (find (λ u. u.v == v) rest ≡ Some s → s.v ≡ v) → (b : Bool) → (t.v == v) ≡ b → cond b (Some t) (find (λ u. u.v == v) rest) ≡ Some s → s.v ≡ v
-    by_test others true h e = let this : t ≡ s = cc in ap (λ (u : ShiftOf). u.v) (sym this) ∙ eqb-true t.v v h
-    by_test others false h e = others e
-
--- where none is named, none is changed
-none_changed : (v : ℕ) (f : ShiftOf → ShiftOf) (asked : Shifts) → find (λ t. t.v == v) asked ≡ None → changed_at v f asked ≡ asked
-none_changed v f [] e = refl
-none_changed v f (t ∷ rest) e = by_test (none_changed v f rest) (t.v == v) refl e
-  where
-    by_test : (find (λ u. u.v == v) rest ≡ None → changed_at v f rest ≡ rest) → (b : Bool) → (t.v == v) ≡ b → cond b (Some t) (find (λ u. u.v == v) rest) ≡ None → changed_at v f (t ∷ rest) ≡ t ∷ rest
-    by_test others true h none = absurd cc
-    by_test others false h none = ap (λ b. cond b (f t) t ∷ changed_at v f rest) h ∙ ap (λ l. t ∷ l) (others none)
-
--- what is asked of one vertex, with the sum
-pub one_is_summed : (m : Mesh) (v : ℕ) (by r : Shift) (asked : Shifts) (place : ℕ) (s : ShiftOf) → IsStrictlySortedBy nat_cmp (map (λ t. t.v) asked) → IsPlaceOf asked v (Some place) → Some s ≡ slice_get asked place
-    → is_solid m v ≡ false → displacement_of r ≡ summed by s → IsWithin SHIFT_MAX (summed by s) → sum_of_one m v by asked ≡ Ok (slice_set asked place (record { v = s.v; by = r }))
-one_is_summed m v by r asked place s sorted found at free e within =
-    let same : found.0 ≡ s = cc in
-    let is : find (λ t. t.v == v) asked ≡ Some s = found.2 ∙ ap Some same in
-    ap (λ o. sum_at o (is_solid m v) v by asked) is
-    ∙ ap (λ b. sum_at (Some s) b v by asked) free
-    ∙ ap (λ b. cond b (Ok (one_summed v by asked)) (Err (ShiftRange v))) (of_within SHIFT_MAX (summed by s) within)
-    ∙ ap Ok (set_in_place v (λ t. with_shift t (summed by t)) asked place s (record { v = s.v; by = r }) sorted (sym at) (found_named v asked s is) (sym (summed_as by r s e)))
-
--- its sum is above the limit
-pub one_is_beyond : (m : Mesh) (v : ℕ) (by : Shift) (asked : Shifts) (place : ℕ) (s : ShiftOf) → IsPlaceOf asked v (Some place) → Some s ≡ slice_get asked place
-    → is_solid m v ≡ false → (IsWithin SHIFT_MAX (summed by s) → ⊥) → sum_of_one m v by asked ≡ Err (ShiftRange v)
-one_is_beyond m v by asked place s found at free out =
-    let same : found.0 ≡ s = cc in
-    let is : find (λ t. t.v == v) asked ≡ Some s = found.2 ∙ ap Some same in
-    ap (λ o. sum_at o (is_solid m v) v by asked) is ∙ ap (λ b. sum_at (Some s) b v by asked) free ∙ by_test (is_within SHIFT_MAX (summed by s)) refl
-  where
-    by_test : (b : Bool) → is_within SHIFT_MAX (summed by s) ≡ b → cond (is_within SHIFT_MAX (summed by s)) (Ok (one_summed v by asked)) (Err (ShiftRange v)) ≡ Err (ShiftRange v)
-    by_test true t = absurd (out (within_of SHIFT_MAX (summed by s) t))
-    by_test false t = ap (λ b. cond b (Ok (one_summed v by asked)) (Err (ShiftRange v))) t
-
--- it is solid
-pub one_is_solid : (m : Mesh) (v : ℕ) (by : Shift) (asked : Shifts) (place : ℕ) → IsPlaceOf asked v (Some place) → is_solid m v ≡ true → sum_of_one m v by asked ≡ Err (SolidVertex v)
-one_is_solid m v by asked place found solid = ap (λ o. sum_at o (is_solid m v) v by asked) found.2 ∙ ap (λ b. sum_at (Some found.0) b v by asked) solid
-
--- nothing is asked of one vertex any more
-pub one_is_still : (v : ℕ) (r : Shift) (asked : Shifts) (place : ℕ) → IsStrictlySortedBy nat_cmp (map (λ t. t.v) asked) → IsPlaceOf asked v (Some place) → ◌≡◌ {A = ShiftOf} (record { v = v; by = r }) (still_at v)
-    → slice_set asked place (record { v = v; by = r }) ≡ one_still v asked
-one_is_still v r asked place sorted found rest =
-    sym (set_in_place v (λ t. still_at v) asked place found.0 (record { v = v; by = r }) sorted found.1 (found_named v asked found.0 found.2) (sym rest))
-
-pub none_is_still : (v : ℕ) (asked : Shifts) → IsPlaceOf asked v None → asked ≡ one_still v asked
-none_is_still v asked none = sym (none_changed v (λ t. still_at v) asked none)

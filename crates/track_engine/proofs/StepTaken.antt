@@ -14,14 +14,22 @@ use Rattle.log_text.specs.Lines.{text_of_lines}
 use Rattle.step_text.specs.declared.Directive.TheVariants.{Step}
 use Rattle.outside_io.specs.Sink.{appended}
 use Rattle.outside_io.specs.declared.stop.Stop.{Stop}
-use Rattle.track_engine.specs.State.{Group, State}
+use Rattle.track_engine.specs.State.{Group, State, still_at, asked_in}
 use Rattle.log_write.specs.Written.{WrittenInPart}
 use Rattle.log_write.proofs.WrittenLines.{written_then, written_nothing, written_whole, part_then, part_more}
 use Rattle.track_engine.specs.Answers.{Nothing}
 use Rattle.track_engine.specs.Effects.{Proceeds, effect_of, step_effect, first_outside, hits, taken, moved_mesh, all_still, is_whole, fail_if, hit_lines, way_lines, step_lines, after_step}
+use Rattle.track_engine.specs.Invariant.{IsRunInvariant}
 use Rattle.track_engine.specs.Parts.{StepTakes}
 use Rattle.track_engine.specs.Told.{step_told}
 use Rattle.track_engine.specs.declared.told.StepTold.{StepTold}
+use Rattle.track_engine.proofs.AskedLemmas.{none_in}
+use Rattle.track_engine.proofs.Keeping.{kept_after}
+use Rattle.track_engine.proofs.StepLemmas.{still_is}
+
+still_again : (asked : Shifts) → all_still (all_still asked) ≡ all_still asked
+still_again [] = refl
+still_again (s ∷ rest) = ap (λ l. still_at s.v ∷ l) (still_again rest)
 
 hits_are : (s : State) (pairs : List PairName) → pairs ≡ failing meets_exactly s.mesh s.asked s.set.depth → pairs ≡ hits s
 unfolding hits
@@ -84,6 +92,13 @@ module _ (s : State) (choice : Choice) (inside : first_outside s.mesh s.asked �
       let mesh : m ≡ moved_mesh s.mesh (taken s).taken = moved ∙ ap (λ (w : Way). moved_mesh s.mesh w.taken) (way_is s (way_of choice) chosen) in
       let fails : groups ≡ fail_if (not (is_whole (taken s).how)) s.groups = failed ∙ ap (λ (w : Way). fail_if (not (is_whole w.how)) s.groups) (way_is s (way_of choice) chosen) in
       λ i. record s { mesh = mesh i; asked = rest i; steps = s.steps + 1; groups = fails i }
+
+  -- nothing is asked any more
+  pub rest_is : IsRunInvariant s → (m : Mesh) → m ≡ moved_mesh s.mesh choice.taken → asked_in m [] ≡ all_still s.asked
+  rest_is kept m moved =
+      let same : m ≡ moved_mesh s.mesh (taken s).taken = moved ∙ ap (λ (w : Way). moved_mesh s.mesh w.taken) (way_is s (way_of choice) chosen) in
+      let names = (kept_after s kept inside).now.names in
+      ap (λ n. asked_in n []) same ∙ none_in (moved_mesh s.mesh (taken s).taken) ∙ still_is (moved_mesh s.mesh (taken s).taken) (all_still s.asked) names ∙ still_again s.asked
 
   pub step_taken : (m : Mesh) (still : Shifts) (groups : List Group) (old mid told new : Option (List ℕ)) → m ≡ moved_mesh s.mesh choice.taken → still ≡ all_still s.asked → groups ≡ fail_if (not (is_whole choice.how)) s.groups
       → mid ≡ appended old (text_of_lines (begin_line s)) → told ≡ appended mid (text_of_lines (hit_lines choice.hits)) → new ≡ appended told (text_of_lines (way_lines (way_of choice)))

@@ -1,10 +1,12 @@
 -- What adding a shift to what is asked answers.
-use Rattle.std.specs.Prelude.{◌≡◌, ℕ, true, false, Option, Some, None, Result, Ok, Err}
+use Rattle.std.specs.Prelude.{◌≡◌, ◌<◌, ◌≤◌, ◌==◌, ℕ, true, false, Option, Some, None, Result, Ok, Err, if◌then◌else◌}
+use Rattle.std.specs.List.{AllByRecursion}
 use Rattle.grid_base.specs.declared.Shift.{Shift}
 use Rattle.mesh_base.specs.declared.ShiftOf.{ShiftOf}
-use Rattle.mesh_base.specs.Mesh.{Mesh}
+use Rattle.mesh_base.specs.Mesh.{Mesh, IsLiveVertex}
 use Rattle.mesh_base.specs.declared.UseWhy.{UseWhy}
 use Rattle.mesh_base.specs.Shifts.{Shifts}
+use Rattle.track_engine.specs.State.{asked_of, still_asked}
 use Rattle.track_engine.specs.Effects.{is_beyond, summed_unless_solid, first_beyond, all_summed}
 
 -- the sum of one vertex, unless it is solid; none, where it is above the limit
@@ -21,3 +23,23 @@ Sums m by asked (Err v) = first_beyond m by asked ≡ Some v
 abbrev pub AsksNow : Result Shifts UseWhy → Shifts → Option UseWhy → Type 0
 AsksNow sum now None = sum ≡ Ok now
 AsksNow sum now (Some why) = sum ≡ Err why
+
+-- ---- in a list that names some vertices
+
+-- each names a vertex of a lower id
+abbrev pub AreBelow : ℕ → Shifts → Type 0
+AreBelow v asked = AllByRecursion (λ s. s.v < v) asked
+
+-- what is asked of one vertex is this from here on, and of each other one what it was
+abbrev pub IsPut : ShiftOf → Shifts → Shifts → Type 0
+IsPut s old new =
+    (v : ℕ) → asked_of v new ≡ (if s.v == v then Some s else asked_of v old)
+
+-- the same of the live vertices of a mesh
+abbrev pub IsPutIn : Mesh → ShiftOf → Shifts → Shifts → Type 0
+IsPutIn m s old new = (v : ℕ) → IsLiveVertex m v →
+    still_asked m new v ≡ (if s.v == v then s else still_asked m old v)
+
+-- nothing is asked of a vertex whose id the mesh has not given yet
+abbrev pub AsksOfGiven : Mesh → Shifts → Type 0
+AsksOfGiven m asked = (v : ℕ) → m.next_vertex ≤ v → asked_of v asked ≡ None

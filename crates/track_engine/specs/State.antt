@@ -73,20 +73,22 @@ is_open (group ∷ outer) = true
 abbrev pub kept_for : List Mesh → Mark → Mesh
 kept_for kept mark = unwrap_or (slice_get kept mark.place) (mesh_of [] [])
 
--- a group whose mesh is a kept one
+-- a group whose mesh is a kept one: of a vertex that it does not name nothing is asked
 abbrev pub group_of : List Mesh → OpenGroup → Group
 group_of kept group =
-    record { mesh = kept_for kept group.mark; asked = group.asked; failed = group.failed }
+    let m = kept_for kept group.mark in
+    record { mesh = m; asked = asked_in m group.asked; failed = group.failed }
 
 -- the same of each, in order
 abbrev pub groups_of : List Mesh → List OpenGroup → List Group
 groups_of kept groups = map (group_of kept) groups
 
--- a run's state, by its mesh and the meshes that are kept for marks
+-- a run's state, by its mesh and the meshes that are kept for marks: of a vertex that it does not
+-- name nothing is asked
 abbrev pub state_of : Mesh → List Mesh → RunState → State
 state_of m kept run = record {
   mesh = m;
-  asked = run.asked;
+  asked = asked_in m run.asked;
   set = run.set;
   steps = run.steps;
   saved = run.saved;

@@ -1,4 +1,4 @@
-ghost use Rattle.std.specs.Prelude.{◌≡◌, ◌≤◌, ◌<◌, ◌+◌, ◌^◌, false, not, Ok, IfOk, IfErr, OnOk, OnErr, IsSome};
+ghost use Rattle.std.specs.Prelude.{◌≡◌, ◌≤◌, ◌<◌, ◌+◌, ◌^◌, [], false, not, Ok, IfOk, IfErr, OnOk, OnErr, IsSome};
 ghost use Rattle.grid_base.specs.declared.TheConstants.{DECIMALS_MAX};
 ghost use Rattle.mesh_base.specs.Kept.{BeginsWith};
 ghost use Rattle.mesh_field.specs.Stored.{IsWellKept};
@@ -17,13 +17,15 @@ ghost use Rattle.track_engine.specs.Parts.{Advances, HasAdvanced, StepTakes, Pas
 ghost use Rattle.track_engine.specs.Placing.{CanPlace};
 ghost use Rattle.track_engine.specs.Ready.{IsReady};
 ghost use Rattle.track_engine.specs.Shifting.{AsksNow};
+ghost use Rattle.track_engine.specs.State.{asked_in};
 ghost use Rattle.track_engine.specs.Targets.{target_of};
 ghost use Rattle.track_engine.specs.Told.{step_told, pass_told, step_untold, pass_untold};
 
+use crate::asked_shifts::AskedShifts;
 use crate::driving::{field_of, is_fit};
 use crate::engine::Engine;
 use crate::placing::{first_outside, place_all};
-use crate::shifting::{all_summed, asked_in, no_shifts, sum_one};
+use crate::shifting::{all_summed, asked_in, only_given, sum_one};
 use crate::stepping::{say_hits, say_way};
 use crate::target::Target;
 use crate::terms::RunTerms;
@@ -32,7 +34,7 @@ use edit_base::PassKind;
 use grid_base::{Point, Shift};
 use log_text::LogLine;
 use log_write::write_line;
-use mesh_base::{How, Shifts, Surface, UseWhy};
+use mesh_base::{How, Surface, UseWhy};
 use mesh_sizing::Band;
 use outside_io::{Outside, Stop};
 use pass_run::{PassCount, PassTerms, pass_to};
@@ -53,17 +55,19 @@ fn is_whole(how: How) -> bool
 impl<S: Surface> Engine<S> {
     // A shift is added to what is asked of each vertex. No line is written.
     fn add_to_all(&mut self, alloc: Global, by: Shift) -> Result<Option<UseWhy>, Stop>
-        ensures asks { let sums = sum_of_all (S.mesh self.old.mesh) (λ v. by) self.old.run.asked in
-            IfOk result (AsksNow sums self.new.run.asked) }
+        ensures asks { let m = S.mesh self.old.mesh in
+            let sums = sum_of_all m (λ v. by) (asked_in m self.old.run.asked) in
+            IfOk result (AsksNow sums (asked_in m self.new.run.asked)) }
         ensures rest { let run = record self.old.run { asked = self.new.run.asked } in
             self.new ≡ record self.old { run = run } }
         ensures left { IfOk result (λ refused. IsSome refused → self.new ≡ self.old) }
         ensures stops { IfErr result (λ stop. stop ≡ Stop.NoMemory) }
     {
-        match all_summed(alloc, &self.mesh, self.run.asked.as_slice(), by)? {
+        let asked = asked_in(alloc, &self.mesh, &self.run.asked)?;
+        match all_summed(alloc, &self.mesh, asked.as_slice(), by)? {
             Err(v) => Ok(Some(UseWhy::ShiftRange { v: v.0 })),
-            Ok(asked) => {
-                self.run.asked = asked;
+            Ok(sums) => {
+                self.run.asked = AskedShifts::of_all(sums);
                 Ok(None)
             }
         }
@@ -75,7 +79,6 @@ impl<S: Surface> Engine<S> {
         &mut self,
         alloc: Global,
         choice: Choice,
-        still: Shifts,
         outside: &mut O,
     ) -> Result<(), Stop>
         requires places { CanPlace (S.mesh self.old.mesh) choice.taken }
@@ -84,7 +87,7 @@ impl<S: Surface> Engine<S> {
         ensures moved { OnOk result
             (S.mesh self.new.mesh ≡ moved_mesh (S.mesh self.old.mesh) choice.taken) }
         ensures run { OnOk result (self.new.run ≡ record self.old.run {
-          asked = still;
+          asked = [];
           steps = self.old.run.steps + 1;
           groups = failed_if (not (is_whole choice.how)) self.old.run.groups;
         }) }
@@ -95,7 +98,7 @@ impl<S: Surface> Engine<S> {
     {
         place_all(&mut self.mesh, choice.taken.as_slice())?;
         say_way(alloc, &choice, outside)?;
-        self.run.asked = still;
+        self.run.asked.clear();
         self.run.steps += 1;
         self.run.groups.fail_if(!is_whole(choice.how));
         Ok(())
@@ -126,30 +129,21 @@ impl<S: Surface> Engine<S> {
         ensures nothing_stored { StoresNothing
             (O.around outside.old) (O.around outside.new) (step_untold result) }
     {
-        if let Some(v) = first_outside(&self.mesh, self.run.asked.as_slice()) {
+        let asked = asked_in(alloc, &self.mesh, &self.run.asked)?;
+        if let Some(v) = first_outside(&self.mesh, asked.as_slice()) {
             return Ok(Err(UseWhy::Box { v: v.0 }));
         }
         let k = self.run.steps + 1;
         write_line(alloc, outside, &LogLine::Step { k })?;
         let depth = self.run.set.depth;
-        let hits = self
-            .near
-            .asked_hits(alloc, &self.mesh, &self.run.asked, depth)?;
+        let hits = self.near.asked_hits(alloc, &self.mesh, &asked, depth)?;
         say_hits(alloc, hits.as_slice(), outside)?;
-        let choice = choose_by_hits(
-            alloc,
-            &self.mesh,
-            &self.near,
-            &self.run.asked,
-            hits,
-            &self.run.set,
-        )?;
-        let still = no_shifts(alloc, &self.mesh)?;
+        let choice = choose_by_hits(alloc, &self.mesh, &self.near, &asked, hits, &self.run.set)?;
         let told = StepTold {
             how: choice.how,
             hits: choice.hits.len(),
         };
-        self.take_chosen(alloc, choice, still, outside)?;
+        self.take_chosen(alloc, choice, outside)?;
         Ok(Ok(told))
     }
 
@@ -197,14 +191,13 @@ impl<S: Surface> Engine<S> {
         ensures nothing_stored { StoresNothing
             (O.around outside.old) (O.around outside.new) (pass_untold result) }
     {
+        only_given(alloc, &self.mesh, &mut self.run.asked)?;
         let terms = PassTerms {
             kind,
             depth: self.run.set.depth,
             grouped: self.run.groups.is_open(),
         };
         let count = pass_to(alloc, &mut self.mesh, terms, outside)?;
-        let asked = asked_in(alloc, &self.mesh, self.run.asked.as_slice())?;
-        self.run.asked = asked;
         self.run.groups.fail_if(count.refused > 0);
         Ok(count)
     }
@@ -272,7 +265,8 @@ impl<S: Surface> Engine<S> {
                 Ok(None)
             }
             Directive::ShiftOne { v, by } => {
-                Ok(sum_one(&self.mesh, &mut self.run.asked, *v, *by))
+                let refused = sum_one(alloc, &self.mesh, &mut self.run.asked, *v, *by)?;
+                Ok(refused)
             }
             Directive::ShiftAll { by } => self.add_to_all(alloc, *by),
             Directive::Drive { .. } => Ok(Some(UseWhy::NoField)),

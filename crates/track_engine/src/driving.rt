@@ -6,9 +6,11 @@ ghost use Rattle.mesh_field.specs.Stored.{MayAnswer, IsWellKept};
 ghost use Rattle.track_engine.specs.Answered.{named_field, is_fit, IsAnswerAt, AreAnswersOf};
 ghost use Rattle.track_engine.specs.Effects.{sum_of_all};
 ghost use Rattle.track_engine.specs.Shifting.{Sums, AsksNow};
+ghost use Rattle.track_engine.specs.State.{asked_in};
 
+use crate::asked_shifts::AskedShifts;
 use crate::engine::Engine;
-use crate::shifting::summed_unless_solid;
+use crate::shifting::{asked_in, summed_unless_solid};
 use grid_base::{NO_SHIFT, NoMemory, Point, Shift};
 use mesh_base::{ShiftOf, Shifts, Surface, UseWhy, VertexId, point_of};
 use mesh_field::Fields;
@@ -98,21 +100,24 @@ impl<S: Surface> Engine<S> {
     ) -> Result<Option<UseWhy>, Stop>
         requires there { which < length fields.now.names }
         requires kept { IsWellKept F.Fn fields.now }
-        requires named { NameLive (S.mesh self.old.mesh) self.old.run.asked }
-        ensures asks { IfOk result (λ refused. (by : ℕ → Shift)
-            × AreAnswersOf (MayAnswer F.Fn fields.now which) (S.mesh self.old.mesh) by
-            × AsksNow (sum_of_all (S.mesh self.old.mesh) by self.old.run.asked)
-            self.new.run.asked refused) }
+        ensures asks { let m = S.mesh self.old.mesh in
+            IfOk result (λ refused. (by : ℕ → Shift)
+            × AreAnswersOf (MayAnswer F.Fn fields.now which) m by
+            × AsksNow (sum_of_all m by (asked_in m self.old.run.asked))
+            (asked_in m self.new.run.asked) refused) }
         ensures rest { let run = record self.old.run { asked = self.new.run.asked } in
             self.new ≡ record self.old { run = run } }
         ensures left { IfOk result (λ refused. IsSome refused → self.new ≡ self.old) }
         ensures stops { IfErr result (λ stop. stop ≡ Stop.NoMemory) }
     {
-        match all_driven(alloc, &self.mesh, self.run.asked.as_slice(), fields, which) {
+        let Ok(asked) = asked_in(alloc, &self.mesh, &self.run.asked) else {
+            return Err(Stop::NoMemory);
+        };
+        match all_driven(alloc, &self.mesh, asked.as_slice(), fields, which) {
             Err(_) => Err(Stop::NoMemory),
             Ok(Err(v)) => Ok(Some(UseWhy::ShiftRange { v: v.0 })),
-            Ok(Ok(asked)) => {
-                self.run.asked = asked;
+            Ok(Ok(sums)) => {
+                self.run.asked = AskedShifts::of_all(sums);
                 Ok(None)
             }
         }

@@ -12,7 +12,7 @@ ghost use Rattle.track_engine.specs.Ready.{IsReady};
 ghost use Rattle.track_engine.specs.Told.{edits_counted, pass_untold};
 
 use crate::engine::Engine;
-use crate::shifting::asked_in;
+use crate::shifting::only_given;
 use edit_base::Asked;
 use mesh_base::{Surface, UseWhy};
 use outside_io::{Outside, Stop};
@@ -46,13 +46,12 @@ impl<S: Surface> Engine<S> {
         ensures nothing_stored { StoresNothing
             (O.around outside.old) (O.around outside.new) (pass_untold result) }
     {
+        only_given(alloc, &self.mesh, &mut self.run.asked)?;
         let terms = EditTerms {
             depth: self.run.set.depth,
             grouped: self.run.groups.is_open(),
         };
         let count = edits_to(alloc, &mut self.mesh, terms, asked, answers, outside)?;
-        let still = asked_in(alloc, &self.mesh, self.run.asked.as_slice())?;
-        self.run.asked = still;
         self.run.groups.fail_if(count.refused > 0);
         Ok(count)
     }

@@ -2,9 +2,9 @@ ghost use Rattle.std.specs.Prelude.{◌≡◌, [], IfOk};
 ghost use Rattle.track_engine.specs.State.{unsaved};
 ghost use Rattle.track_engine.specs.Engines.{state_in};
 
+use crate::asked_shifts::AskedShifts;
 use crate::open_groups::OpenGroups;
 use crate::run_state::RunState;
-use crate::shifting::no_shifts;
 use grid_base::NoMemory;
 use mesh_base::Surface;
 use std::alloc::Global;
@@ -28,9 +28,8 @@ impl<S: Surface + Drop> Engine<S> {
         ensures mesh { IfOk result (λ engine. engine.mesh ≡ mesh) }
         ensures groups { IfOk result (λ engine. engine.run.groups ≡ []) }
     {
-        let asked = no_shifts(alloc, &mesh)?;
         let run = RunState {
-            asked,
+            asked: AskedShifts::none(alloc),
             set: Settings::at_first(),
             steps: 0,
             saved: 0,

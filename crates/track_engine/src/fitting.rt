@@ -10,7 +10,7 @@ ghost use Rattle.track_engine.specs.Ready.{IsReady};
 ghost use Rattle.track_engine.specs.Told.{pass_untold};
 
 use crate::engine::Engine;
-use crate::shifting::asked_in;
+use crate::shifting::only_given;
 use crate::told::pass_untold;
 use grid_base::Point;
 use mesh_base::{Surface, UseWhy};
@@ -41,14 +41,13 @@ impl<S: Surface> Engine<S> {
         ensures nothing_stored { StoresNothing
             (O.around outside.old) (O.around outside.new) (pass_untold result) }
     {
+        only_given(alloc, &self.mesh, &mut self.run.asked)?;
         let turns = Turns {
             by: sizing,
             depth: self.run.set.depth,
             grouped: self.run.groups.is_open(),
         };
         let count = fit_to(alloc, &mut self.mesh, turns, outside)?;
-        let asked = asked_in(alloc, &self.mesh, self.run.asked.as_slice())?;
-        self.run.asked = asked;
         self.run.groups.fail_if(count.refused > 0);
         Ok(count)
     }

@@ -8,12 +8,13 @@ ghost use Rattle.track_engine.specs.Engines.{state_in};
 ghost use Rattle.track_engine.specs.Parts.{Writes};
 ghost use Rattle.track_engine.specs.Invariant.{MarksHold, left_by};
 
+use crate::asked_shifts::AskedShifts;
 use crate::engine::Engine;
 use crate::open_group::OpenGroup;
-use grid_base::{NoMemory, copy_of};
+use grid_base::NoMemory;
 use log_text::LogLine;
 use log_write::write_line;
-use mesh_base::{ShiftOf, Surface, UseWhy};
+use mesh_base::{Surface, UseWhy};
 use outside_io::{Outside, Stop};
 use std::alloc::Global;
 
@@ -21,7 +22,7 @@ use std::alloc::Global;
 fn group_here<S: Surface>(
     alloc: Global,
     mesh: &mut S,
-    asked: &[ShiftOf],
+    asked: &AskedShifts,
 ) -> Result<OpenGroup, NoMemory>
     ensures holds { IfOk result (λ group. MarkHolds S.beyond (S.kept mesh.new) group.mark) }
     ensures stands { IfOk result
@@ -32,7 +33,7 @@ fn group_here<S: Surface>(
     ensures mesh { S.mesh mesh.new ≡ S.mesh mesh.old }
     ensures begins { BeginsWith (S.kept mesh.new) (S.kept mesh.old) }
 {
-    let asked = copy_of(alloc, asked)?;
+    let asked = asked.copy(alloc)?;
     let mark = mesh.mark()?;
     Ok(OpenGroup {
         mark,
@@ -60,7 +61,7 @@ impl<S: Surface> Engine<S> {
         ensures nothing_stored { StoresNothing
             (O.around outside.old) (O.around outside.new) result }
     {
-        let group = group_here(alloc, &mut self.mesh, self.run.asked.as_slice())?;
+        let group = group_here(alloc, &mut self.mesh, &self.run.asked)?;
         self.run.groups.open(group)?;
         if let Err(stop) = write_line(alloc, outside, &LogLine::Group) {
             let _ = self.run.groups.close();

@@ -5,6 +5,7 @@
 //! The tracker is that of Brochu and Bridson, "Robust topological operations for dynamic explicit surfaces" (2009).
 #![tactic(auto)]
 
+mod asked_shifts;
 mod directing;
 mod driving;
 mod editing;
@@ -26,6 +27,7 @@ mod target;
 mod terms;
 mod told;
 
+pub use asked_shifts::AskedShifts;
 pub use engine::Engine;
 pub use lines::finish;
 pub use open_group::OpenGroup;

@@ -1,42 +1,16 @@
-ghost use Rattle.std.specs.Prelude.{◌≡◌, ◌↔◌, ◌≤◌, ◌+ℤ◌, unsigned_abs, map, IsSome, IfSome, IfOk};
+ghost use Rattle.std.specs.Prelude.{◌≡◌, ◌↔◌, ◌≤◌, ◌+ℤ◌, unsigned_abs, false, IsSome, IfSome, IfOk, OnOk};
 ghost use Rattle.grid_base.specs.declared.TheConstants.{SHIFT_MAX};
 ghost use Rattle.grid_base.specs.Triples.{IsWithin, plus};
 ghost use Rattle.grid_base.specs.Points.{displacement_of};
-ghost use Rattle.track_engine.specs.State.{no_shifts, still_at, asked_of, still_asked, asked_in};
-ghost use Rattle.std.specs.Option.{unwrap_or};
-ghost use Rattle.track_engine.specs.Effects.{moves, all_still};
-ghost use Rattle.std.specs.List.Sorted.{IsStrictlySortedBy};
-ghost use Rattle.std.specs.Ordering.{nat_cmp};
-ghost use Rattle.track_engine.specs.Effects.{sum_of_one, one_still};
-ghost use Rattle.track_engine.specs.Shifting.{SumsOne, Sums, AsksNow};
+ghost use Rattle.mesh_base.specs.Mesh.{IsLiveVertex, is_solid};
+ghost use Rattle.track_engine.specs.State.{still_asked, asked_in};
+ghost use Rattle.track_engine.specs.Effects.{moves, sum_of_one};
+ghost use Rattle.track_engine.specs.Shifting.{SumsOne, Sums, AsksNow, IsPutIn, AsksOfGiven};
 
+use crate::asked_shifts::AskedShifts;
 use grid_base::{NO_SHIFT, NoMemory, SHIFT_MAX, Shift};
 use mesh_base::{ShiftOf, Shifts, Surface, UseWhy, VertexId, live_vertices};
-use pair_scan::place_of;
 use std::alloc::Global;
-
-/// No shift for each live vertex, by rising id.
-pub(crate) fn no_shifts<S: Surface>(alloc: Global, mesh: &S) -> Result<Shifts, NoMemory>
-    ensures { IfOk result (λ shifts. shifts ≡ no_shifts (S.mesh mesh.now)) }
-{
-    let ids = live_vertices(alloc, mesh)?;
-    let shifts = all_at_rest(alloc, ids.as_slice())?;
-    Ok(shifts)
-}
-
-// No shift for each of the vertices.
-fn all_at_rest(alloc: Global, ids: &[VertexId]) -> Result<Shifts, NoMemory>
-    ensures { IfOk result (λ shifts. shifts ≡ map still_at ids.now) }
-{
-    let mut shifts = Shifts::new(alloc);
-    for v in ids {
-        shifts.push(ShiftOf {
-            v: *v,
-            by: NO_SHIFT,
-        })?;
-    }
-    Ok(shifts)
-}
 
 // The sum of two components.
 fn component_sum(a: i32, b: i32) -> i32
@@ -93,39 +67,22 @@ pub(crate) fn all_summed<S: Surface>(
     Ok(Ok(shifts))
 }
 
-// What is asked of a vertex, by rising id; nothing, where none is named.
-fn asked_of(asked: &[ShiftOf], v: VertexId) -> ShiftOf
-    requires { IsStrictlySortedBy nat_cmp (map (λ s. s.v) asked.now) }
-    ensures { result ≡ unwrap_or (asked_of v asked.now) (still_at v) }
-{
-    let still = ShiftOf { v, by: NO_SHIFT };
-    match place_of(asked, v) {
-        Some(place) => match asked.get(place) {
-            Some(s) => *s,
-            None => still,
-        },
-        None => still,
-    }
-}
-
-// What was asked of a vertex, and nothing of one that is new or solid.
-fn still_asked<S: Surface>(mesh: &S, asked: &[ShiftOf], v: VertexId) -> ShiftOf
-    requires { IsStrictlySortedBy nat_cmp (map (λ s. s.v) asked.now) }
+// What is asked of a vertex, and nothing of one that is solid.
+fn still_asked<S: Surface>(mesh: &S, asked: &AskedShifts, v: VertexId) -> ShiftOf
     ensures { result ≡ still_asked (S.mesh mesh.now) asked.now v }
 {
     if mesh.solid(v) {
         return ShiftOf { v, by: NO_SHIFT };
     }
-    asked_of(asked, v)
+    asked.asked_of(v)
 }
 
-/// What is asked of each live vertex of a mesh that was changed: what was asked of it, and nothing of one that is new or solid.
+/// What is asked of each live vertex of a mesh, by rising id, and nothing of one that is solid.
 pub(crate) fn asked_in<S: Surface>(
     alloc: Global,
     mesh: &S,
-    asked: &[ShiftOf],
+    asked: &AskedShifts,
 ) -> Result<Shifts, NoMemory>
-    requires { IsStrictlySortedBy nat_cmp (map (λ s. s.v) asked.now) }
     ensures { IfOk result (λ shifts. shifts ≡ asked_in (S.mesh mesh.now) asked.now) }
 {
     let ids = live_vertices(alloc, mesh)?;
@@ -136,37 +93,70 @@ pub(crate) fn asked_in<S: Surface>(
     Ok(shifts)
 }
 
-/// Adds a shift to what is asked of one vertex, or answers why it can't be added. Takes no memory.
-pub(crate) fn sum_one<S: Surface>(mesh: &S, asked: &mut Shifts, v: u32, by: Shift) -> Option<UseWhy>
-    requires { IsStrictlySortedBy nat_cmp (map (λ s. s.v) asked.old) }
-    ensures sum { AsksNow (sum_of_one (S.mesh mesh.now) v by asked.old) asked.new result }
-    ensures left { IsSome result → asked.new ≡ asked.old }
+/// The same is asked, and of a vertex that is to come nothing, as it is already: so it takes one look at the last that is named.
+pub(crate) fn only_given<S: Surface>(
+    alloc: Global,
+    mesh: &S,
+    asked: &mut AskedShifts,
+) -> Result<(), NoMemory>
+    ensures given { OnOk result (AsksOfGiven (S.mesh mesh.now) asked.new) }
+    ensures same { let m = S.mesh mesh.now in
+        OnOk result (asked_in m asked.new ≡ asked_in m asked.old) }
 {
-    let Some(place) = place_of(asked.as_slice(), VertexId(v)) else {
-        return Some(UseWhy::NoVertex { v });
-    };
-    if mesh.solid(VertexId(v)) {
-        return Some(UseWhy::Solid { v });
+    if asked.are_below(VertexId(mesh.next_vertex())) {
+        return Ok(());
     }
-    let Some(s) = asked.get(place) else {
-        unreachable!()
-    };
-    let s = *s;
-    let Some(by) = sum(s.by, by) else {
-        return Some(UseWhy::ShiftRange { v });
-    };
-    asked.set(place, ShiftOf { v: s.v, by });
-    None
+    let all = asked_in(alloc, mesh, asked)?;
+    *asked = AskedShifts::of_all(all);
+    Ok(())
 }
 
-/// Asks nothing of one vertex. Takes no memory.
-pub(crate) fn still_one(asked: &mut Shifts, v: VertexId)
-    requires { IsStrictlySortedBy nat_cmp (map (λ s. s.v) asked.old) }
-    ensures { asked.new ≡ one_still v asked.old }
+// Asks a shift of a vertex. Where it would stand between others, each live vertex is named first.
+fn put_in<S: Surface>(
+    alloc: Global,
+    mesh: &S,
+    asked: &mut AskedShifts,
+    s: &ShiftOf,
+) -> Result<(), NoMemory>
+    requires live { IsLiveVertex (S.mesh mesh.now) s.now.v }
+    requires free { is_solid (S.mesh mesh.now) s.now.v ≡ false }
+    ensures { OnOk result (IsPutIn (S.mesh mesh.now) s.now asked.old asked.new) }
 {
-    if let Some(place) = place_of(asked.as_slice(), v) {
-        asked.set(place, ShiftOf { v, by: NO_SHIFT });
+    if asked.put(s)? {
+        return Ok(());
     }
+    let all = asked_in(alloc, mesh, asked)?;
+    *asked = AskedShifts::of_all(all);
+    let _there = asked.put(s)?;
+    Ok(())
+}
+
+/// Adds a shift to what is asked of one vertex, or answers why it can't be added.
+pub(crate) fn sum_one<S: Surface>(
+    alloc: Global,
+    mesh: &S,
+    asked: &mut AskedShifts,
+    v: u32,
+    by: Shift,
+) -> Result<Option<UseWhy>, NoMemory>
+    ensures sum { let m = S.mesh mesh.now in
+        IfOk result (AsksNow (sum_of_one m v by (asked_in m asked.old)) (asked_in m asked.new)) }
+    ensures left { IfOk result (λ refused. IsSome refused → asked.new ≡ asked.old) }
+{
+    let id = VertexId(v);
+    if mesh.point(id).is_none() {
+        return Ok(Some(UseWhy::NoVertex { v }));
+    }
+    if mesh.solid(id) {
+        return Ok(Some(UseWhy::Solid { v }));
+    }
+    let was = asked.asked_of(id);
+    let Some(by) = sum(was.by, by) else {
+        return Ok(Some(UseWhy::ShiftRange { v }));
+    };
+    let now = ShiftOf { v: id, by };
+    put_in(alloc, mesh, asked, &now)?;
+    Ok(None)
 }
 
 /// Whether the shift moves its vertex.

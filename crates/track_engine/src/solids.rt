@@ -10,7 +10,6 @@ ghost use Rattle.track_engine.specs.Parts.{Writes};
 ghost use Rattle.track_engine.specs.Ready.{IsReady};
 
 use crate::engine::Engine;
-use crate::shifting::still_one;
 use log_text::LogLine;
 use log_write::write_line;
 use mesh_base::{Surface, UseWhy, VertexId};
@@ -41,7 +40,6 @@ impl<S: Surface> Engine<S> {
             return Ok(Some(UseWhy::NoVertex { v }));
         }
         self.mesh.make_solid(id)?;
-        still_one(&mut self.run.asked, id);
         write_line(alloc, outside, &LogLine::Solid { v: id })?;
         Ok(None)
     }

@@ -1,20 +1,29 @@
-use Rattle.std.proofs.Common.{sym, ◌∙◌, ap, subst, Some, Ok, refl}
+use Rattle.std.proofs.Common.{◌≡◌, true, false, None, IsSome, is_some, ap, sym, subst, ◌∙◌, refl}
 use Rattle.std.proofs.lemmas.Bool.{false≢true}
-use Rattle.mesh_base.specs.Shifts.{Shifts}
-use Rattle.pair_scan.specs.Lookup.{IsPlaceOf}
-use Rattle.track_engine.proofs.ShiftLemmas.{one_is_summed, one_is_solid}
+use Rattle.grid_base.specs.declared.TheConstants.{SHIFT_MAX}
+use Rattle.grid_base.specs.Triples.{Triple, IsWithin}
+use Rattle.mesh_base.specs.declared.ShiftOf.{ShiftOf}
+use Rattle.track_engine.specs.Effects.{summed}
+use Rattle.track_engine.proofs.AskedLemmas.{sum_is, sum_none, sum_solid, sum_beyond}
 use Rattle.track_engine.proofs.shifting.sum_one.Goals as goal
 
-pub returns : goal.returns
-returns g c =
-    let m = g.S.Surface.mesh c.args.mesh.now in
-    let asked = c.args.asked.now in
-    let P : Shifts → Type 0 = λ l. IsPlaceOf l c.args.v (Some c.in-Some.place) in
-    let h = c.if-solid in
-    record { sum = one_is_summed m c.args.v c.args.by c.in-Some-sum.by asked c.in-Some.place c.in-Some-get.s.now c.requires (subst P c.as_slice.ensures c.in-Some.ensures) c.in-Some-get.ensures (sym c.solid.ensures ∙ c.if-solid.false) c.in-Some-sum.ensures.made (c.in-Some-sum.ensures.some.0 refl) ∙ ap Ok (sym c.set.ensures); left = λ e. absurd (false≢true e) }
+pub returns-then-is_none-clause-sum : goal.returns-then-is_none-clause-sum
+returns-then-is_none-clause-sum g c =
+    sum_none (g.S.Surface.mesh c.args.mesh.now) c.args.v c.args.by c.args.asked.now (ap is_some (sym c.point.ensures) ∙ c.if-is_none.ensures)
 
 pub returns-then-solid-clause-sum : goal.returns-then-solid-clause-sum
 returns-then-solid-clause-sum g c =
-    let asked = c.args.asked.now in
-    let P : Shifts → Type 0 = λ l. IsPlaceOf l c.args.v (Some c.in-Some.place) in
-    one_is_solid (g.S.Surface.mesh c.args.mesh.now) c.args.v c.args.by asked c.in-Some.place (subst P c.as_slice.ensures c.in-Some.ensures) (sym c.solid.ensures ∙ c.if-solid.true)
+    sum_solid (g.S.Surface.mesh c.args.mesh.now) c.args.v c.args.by c.args.asked.now (ap is_some (sym c.point.ensures) ∙ c.if-is_none.ensures) (sym c.solid.ensures ∙ c.if-solid.true)
+
+pub returns-in_default-clause-sum : goal.returns-in_default-clause-sum
+returns-in_default-clause-sum g c =
+    let out = λ (w : IsWithin SHIFT_MAX (summed c.args.by c.asked_of-was.result)). false≢true (c.in_default.ensures.some.1 w) in
+    let P : ShiftOf → Type 0 = λ s. IsWithin SHIFT_MAX (summed c.args.by s) → ⊥ in
+    sum_beyond (g.S.Surface.mesh c.args.mesh.now) c.args.v c.args.by c.args.asked.now (ap is_some (sym c.point.ensures) ∙ c.if-is_none.ensures) (sym c.solid.ensures ∙ c.if-solid.false)
+    (subst P c.asked_of-was.ensures out)
+
+pub returns-clause-sum : goal.returns-clause-sum
+returns-clause-sum g c =
+    let P : ShiftOf → Type 0 = λ s. IsWithin SHIFT_MAX (summed c.args.by s) in
+    sum_is (g.S.Surface.mesh c.args.mesh.now) c.args.v c.args.by c.args.asked.now (ap is_some (sym c.point.ensures) ∙ c.if-is_none.ensures) (sym c.solid.ensures ∙ c.if-solid.false)
+    c.in-Some.by (c.in-Some.ensures.made ∙ ap (λ (s : ShiftOf). summed c.args.by s) c.asked_of-was.ensures) (subst P c.asked_of-was.ensures (c.in-Some.ensures.some.0 refl)) c.put_in.new.asked c.in_ok-put_in.ensures

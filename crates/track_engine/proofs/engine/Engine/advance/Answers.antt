@@ -4,7 +4,7 @@ use Rattle.track_engine.specs.Answered.{known}
 use Rattle.track_engine.specs.Engines.{state_in}
 use Rattle.track_engine.specs.Invariant.{left_by}
 use Rattle.track_engine.specs.Parts.{AdvancesAnswered}
-use Rattle.track_engine.specs.State.{State}
+use Rattle.track_engine.specs.State.{State, asked_in}
 use Rattle.track_engine.specs.Targets.{target_of}
 use Rattle.track_engine.proofs.Advanced.{leaves, has_advanced, left_by_state, counts_of_memory, MarksOf, BeginsAt}
 use Rattle.track_engine.proofs.DriveTaken.{advances_drive, begins_named, advances_plain}
@@ -20,7 +20,7 @@ returns-in-Some-clause-does g c =
     let state = state_in g.S.Surface.mesh g.S.Surface.kept in
     let s = state c.args.self.now in
     let P : State → Type 0 = λ t. AdvancesAnswered fields to c.args.what.now s t old old c.drive.result in
-    let advances = subst P (sym (ap state c.drive.ensures.rest)) (advances_drive fields to c.args.what.now c.in-Some.which (sym c.in-Some.ensures.value) s c.drive.new.self.run.asked old c.drive.result c.drive.ensures.asks) in
+    let advances = subst P (sym (ap state c.drive.ensures.rest)) (advances_drive fields to c.args.what.now c.in-Some.which (sym c.in-Some.ensures.value) s (asked_in (g.S.Surface.mesh c.args.self.now.mesh) c.drive.new.self.run.asked) old c.drive.result c.drive.ensures.asks) in
     has_advanced fields to c.args.what.now s (state c.drive.new.self) around around c.drive.result advances c.requires.range c.requires.ready.invariant c.requires.ready.limits
     (left_by_state state c.args.self.now c.drive.new.self c.drive.result c.drive.ensures.left) (counts_of_memory around c.drive.result c.drive.ensures.stops)
 
@@ -33,7 +33,7 @@ returns-in-Some-clause-ready g c = λ none.
     let state = state_in g.S.Surface.mesh g.S.Surface.kept in
     let s = state c.args.self.now in
     let P : State → Type 0 = λ t. AdvancesAnswered fields to c.args.what.now s t old old c.drive.result in
-    let advances = subst P (sym (ap state c.drive.ensures.rest)) (advances_drive fields to c.args.what.now c.in-Some.which (sym c.in-Some.ensures.value) s c.drive.new.self.run.asked old c.drive.result c.drive.ensures.asks) in
+    let advances = subst P (sym (ap state c.drive.ensures.rest)) (advances_drive fields to c.args.what.now c.in-Some.which (sym c.in-Some.ensures.value) s (asked_in (g.S.Surface.mesh c.args.self.now.mesh) c.drive.new.self.run.asked) old c.drive.result c.drive.ensures.asks) in
     let left = leaves fields to c.args.what.now s (state c.drive.new.self) old old c.drive.result none advances c.requires.range c.requires.ready.invariant c.requires.ready.limits in
     record { invariant = left.invariant; marks = subst (MarksOf g.S.Surface.beyond g.S.Surface.kept) (sym c.drive.ensures.rest) c.requires.ready.marks; limits = left.limits }
 

@@ -6,7 +6,7 @@ use Rattle.outside_io.specs.Outside.{holds_of}
 use Rattle.outside_io.proofs.Outsides.{counts_unremembered, counts_then, counts_stopped, counts_whole}
 use Rattle.step_choose.specs.Settings.{AreWithinLimits}
 use Rattle.track_engine.specs.declared.run_state.RunState.{RunState}
-use Rattle.track_engine.specs.State.{State}
+use Rattle.track_engine.specs.State.{State, asked_in}
 use Rattle.track_engine.specs.Engines.{state_in}
 use Rattle.track_engine.specs.Answered.{known}
 use Rattle.track_engine.specs.Invariant.{IsRunInvariant}
@@ -74,7 +74,7 @@ loop-placed-preserved g c =
     let settled = c.settle_outside_groups.ensures in
     let then = state c.advance.new.self in
     let same : state c.settle_outside_groups.new.self ≡ then =
-    λ i. record { mesh = settled.mesh i; asked = (settled.run i).asked; set = (settled.run i).set; steps = (settled.run i).steps; saved = (settled.run i).saved; groups = settled.groups i } in
+    λ i. record { mesh = settled.mesh i; asked = asked_in (settled.mesh i) (settled.run i).asked; set = (settled.run i).set; steps = (settled.run i).steps; saved = (settled.run i).saved; groups = settled.groups i } in
     let here = range_here c.args.steps.now c.loop-placed.placed-index c.placed-item.result c.loop-placed-test.true c.placed-item.is c.loop-placed.invariant.ranges in
     let whole = ap Ok c.in-None.is in
     let took = c.in_ok-advance.ensures.ready whole in

@@ -41,7 +41,8 @@ returns-clause-moved g c =
 pub returns-clause-run : goal.returns-clause-run
 returns-clause-run g c =
     let run = c.args.self.now.run in
-    ap (λ (groups : List OpenGroup). record run { asked = c.args.still; steps = run.steps + 1; groups = groups }) (c.fail_if.ensures ∙ ap (λ b. failed_if (not b) run.groups) c.is_whole.ensures)
+    let failed = c.fail_if.ensures ∙ ap (λ b. failed_if (not b) run.groups) c.is_whole.ensures in
+    λ i. record run { asked = c.clear.ensures i; steps = run.steps + 1; groups = failed i }
 
 pub returns-clause-says : goal.returns-clause-says
 returns-clause-says g c = c.in_ok-say_way.ensures

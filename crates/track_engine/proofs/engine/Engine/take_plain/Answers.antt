@@ -2,7 +2,6 @@ use Rattle.std.proofs.Common.{ap, sym, subst}
 use Rattle.std.proofs.lemmas.Result.{err_from_is_err_and}
 use Rattle.mesh_base.specs.Kept.{BeginsWith}
 use Rattle.mesh_base.proofs.MarksHold.{begins_itself}
-use Rattle.pair_scan.proofs.Paths.{ids_sorted}
 use Rattle.step_text.specs.declared.Directive.{Directive}
 use Rattle.outside_io.specs.Outside.{holds_of}
 use Rattle.outside_io.proofs.Outsides.{counts_stopped, counts_whole}
@@ -17,9 +16,6 @@ use Rattle.track_engine.proofs.EffectLemmas.{advances_set, save_whole, save_part
 use Rattle.track_engine.proofs.Plain.{plain_step, plain_pass, plain_solid, plain_group, plain_close}
 use Rattle.track_engine.proofs.WritesTaken.{never_refused}
 use Rattle.track_engine.proofs.engine.Engine.take_plain.Goals as goal
-
-pub sum_one-requires : goal.sum_one-requires
-sum_one-requires g c = ids_sorted (g.S.Surface.mesh c.args.self.now.mesh) c.args.self.now.run.asked c.requires.ready.invariant.now.names
 
 pub returns-in-SetDepth-clause-advances : goal.returns-in-SetDepth-clause-advances
 returns-in-SetDepth-clause-advances g c =

@@ -3,16 +3,13 @@ use Rattle.std.specs.FinMap as finite
 use Rattle.std.proofs.lemmas.Result.{err_from_is_err_and}
 use Rattle.log_text.specs.declared.LogLine.TheVariants.{Solid}
 use Rattle.outside_io.proofs.Outsides.{nothing_done, nothing_unremembered, nothing_stopped, nothing_whole}
-use Rattle.pair_scan.proofs.Paths.{ids_sorted}
 use Rattle.mesh_base.proofs.MarksHold.{begins_itself}
 use Rattle.mesh_base.specs.Changes.{with_solid}
-use Rattle.track_engine.specs.State.{state_of}
+use Rattle.track_engine.specs.State.{state_of, asked_in}
 use Rattle.track_engine.specs.Effects.{Proceeds, solid_effect, after_solid, one_still}
+use Rattle.track_engine.proofs.AskedLemmas.{solid_in}
 use Rattle.track_engine.proofs.OpenMarks.{groups_along, marks_along}
 use Rattle.track_engine.proofs.engine.Engine.take_solid.Goals as goal
-
-pub still_one-requires : goal.still_one-requires
-still_one-requires g c = ids_sorted (g.S.Surface.mesh c.args.self.now.mesh) c.args.self.now.run.asked c.requires.ready.invariant.now.names
 
 pub returns-in_err-write_line-clause-writes : goal.returns-in_err-write_line-clause-writes
 returns-in_err-write_line-clause-writes g c =
@@ -34,10 +31,11 @@ returns-clause-writes g c =
     let s = state_of m old run in
     let live : is_some (finite.get m.points c.args.v) ≡ true = search rules in
     let mesh : g.S.Surface.mesh c.make_solid.new.self ≡ with_solid m c.args.v = search rules in
-    let asked : c.still_one.new.asked ≡ one_still c.args.v run.asked = c.still_one.ensures in
     let groups = groups_along g.S.Surface.beyond new old run.groups c.make_solid.ensures.marks c.requires.ready.marks in
-    let next : after_solid c.args.v s ≡ state_of (g.S.Surface.mesh c.make_solid.new.self) new (record run { asked = c.still_one.new.asked }) =
-    λ i. record { mesh = sym mesh i; asked = sym asked i; set = run.set; steps = run.steps; saved = run.saved; groups = sym groups i } in
+    let asked : one_still c.args.v (asked_in m run.asked) ≡ asked_in (g.S.Surface.mesh c.make_solid.new.self) run.asked =
+    sym (solid_in m c.args.v run.asked) ∙ ap (λ n. asked_in n run.asked) (sym mesh) in
+    let next : after_solid c.args.v s ≡ state_of (g.S.Surface.mesh c.make_solid.new.self) new run =
+    λ i. record { mesh = sym mesh i; asked = asked i; set = run.set; steps = run.steps; saved = run.saved; groups = sym groups i } in
     (Solid c.args.v ∷ [], ap (λ b. solid_effect b c.args.v s) live ∙ ap (Proceeds (Solid c.args.v ∷ [])) next, c.in_ok-write_line.ensures.says.written)
 
 pub returns-clause-marks : goal.returns-clause-marks

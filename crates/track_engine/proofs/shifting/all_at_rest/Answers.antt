@@ -1,7 +1,0 @@
-use Rattle.track_engine.specs.State.{still_at}
-use Rattle.mesh_base.proofs.ListLaws.{mapped_more}
-use Rattle.track_engine.proofs.ShiftLemmas.{at_rest}
-use Rattle.track_engine.proofs.shifting.all_at_rest.Goals as goal
-
-pub loop-v-preserved : goal.loop-v-preserved
-loop-v-preserved c = mapped_more still_at c.args.ids.now c.loop-v.v-index c.v-item.result c.loop-v.shifts c.push.new.self _ _ c.loop-v-test.true c.v-item.is c.in_ok-push.ensures.ok (at_rest c.v-item.result _) c.loop-v.invariant
