@@ -323,18 +323,19 @@ fn plain_meshes_and_journals_answer_alike(rt: HostRuntime) -> Result<(), Fail> {
 fn a_return_gives_the_ids_back_of_each_mesh(rt: HostRuntime) -> Result<(), Fail> {
     let lists = tetrahedron(rt.alloc())?;
     assert!(rt; shape(rt.alloc(), &lists).is_ok());
-    let more = Call::Make {
-        act: Act::AddVertex { p: FAR },
-    };
     // The return to the first mark takes both back, and the vertices that were made since.
     let calls = [
         Call::Ask {
             question: Question::FacesAt { v: VertexId(1) },
         },
         Call::MakeMark,
-        more,
+        Call::Make {
+            act: Act::AddVertex { p: FAR },
+        },
         Call::MakeMark,
-        more,
+        Call::Make {
+            act: Act::AddVertex { p: FAR },
+        },
         Call::Ask {
             question: Question::NextVertex,
         },
@@ -346,7 +347,9 @@ fn a_return_gives_the_ids_back_of_each_mesh(rt: HostRuntime) -> Result<(), Fail>
             question: Question::NextFace,
         },
         Call::Settle,
-        more,
+        Call::Make {
+            act: Act::AddVertex { p: FAR },
+        },
     ];
     let wants = [
         Want::Faces([Some(FaceId(1)), Some(FaceId(2)), Some(FaceId(4)), None]),

@@ -92,24 +92,24 @@ fn a_file_is_refused(rt: HostRuntime) -> Result<(), Fail> {
     is_refused(&rt, alloc, "m.obj", OFF, 11, "refused missing mesh\n")
 }
 
+// A desk that fails leaves what was there.
+fn is_left(rt: &impl Abort, alloc: Global, desk: &mut MemoryDesk) -> Result<(), Fail> {
+    let mut out = sink_of(alloc)?;
+    desk.put("t.obj", OBJ.as_bytes())?;
+    desk.put("t.ply", b"old")?;
+    let words = ["convert", "t.obj", "t.ply", "--decimals", "3"];
+    assert_eq!(rt; answer(&words, desk, &mut out, alloc)?, 3);
+    assert_eq!(rt; out.bytes(), b"".as_slice());
+    assert_eq!(rt; desk.file("t.obj"), Some(OBJ.as_bytes()));
+    assert_eq!(rt; desk.file("t.ply"), Some(b"old".as_slice()));
+    Ok(())
+}
+
 #[test]
 fn a_fetch_or_a_store_that_fails_leaves_what_was_there(rt: HostRuntime) -> Result<(), Fail> {
     let alloc = rt.alloc();
-    let words = ["convert", "t.obj", "t.ply", "--decimals", "3"];
-    for fails_at_fetch in [true, false] {
-        let (fetches, stores) = if fails_at_fetch {
-            (vec![in alloc; 1]?, Vec::new(alloc))
-        } else {
-            (Vec::new(alloc), vec![in alloc; 1]?)
-        };
-        let mut desk = MemoryDesk::new(alloc, fetches, stores);
-        let mut out = sink_of(alloc)?;
-        desk.put("t.obj", OBJ.as_bytes())?;
-        desk.put("t.ply", b"old")?;
-        assert_eq!(rt; answer(&words, &mut desk, &mut out, alloc)?, 3);
-        assert_eq!(rt; out.bytes(), b"".as_slice());
-        assert_eq!(rt; desk.file("t.obj"), Some(OBJ.as_bytes()));
-        assert_eq!(rt; desk.file("t.ply"), Some(b"old".as_slice()));
-    }
-    Ok(())
+    let mut desk = MemoryDesk::new(alloc, vec![in alloc; 1]?, Vec::new(alloc));
+    is_left(&rt, alloc, &mut desk)?;
+    let mut desk = MemoryDesk::new(alloc, Vec::new(alloc), vec![in alloc; 1]?);
+    is_left(&rt, alloc, &mut desk)
 }
