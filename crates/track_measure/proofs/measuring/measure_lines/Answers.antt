@@ -1,4 +1,4 @@
-use Rattle.std.proofs.Common.{◌≡◌, refl, ap, sym, subst}
+use Rattle.std.proofs.Common.{refl, ap, sym, subst}
 use Rattle.mesh_base.specs.Mesh.{Mesh}
 use Rattle.mesh_journal.specs.Journal.{mesh_in}
 use Rattle.log_run.specs.Laws.{IsValidState}

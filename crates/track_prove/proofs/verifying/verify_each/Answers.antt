@@ -41,7 +41,7 @@ returns-then-number-eq0-clause-verifies g c = verifying_no_line c.args.run.now.r
 pub returns-in-Some-clause-verifies : goal.returns-in-Some-clause-verifies
 returns-in-Some-clause-verifies g c = verifying_beyond c.args.run.now.replay.mesh c.args.lines.now (proofs_view c.args.proofs.now) c.loop-line.line-index c.loop-line-test.false c.loop-line.run c.loop-line.number (proofs_view c.loop-line.rest.now) c.loop-line.invariant.0 c.if-number-eq0.false c.in-Some.line c.in-Some.ensures
 
-pub returns-clause-verifies : goal.returns-clause-verifies
-returns-clause-verifies g c =
+pub returns-in-None-clause-verifies : goal.returns-in-None-clause-verifies
+returns-in-None-clause-verifies g c =
     verifying_end c.args.run.now.replay.mesh c.args.lines.now (proofs_view c.args.proofs.now) c.loop-line.line-index c.loop-line-test.false c.loop-line.run c.loop-line.number (proofs_view c.loop-line.rest.now) c.loop-line.invariant.0 c.if-number-eq0.false
     c.args.proofs.now (length c.args.proofs.now) c.in-None.ensures refl refl c.verified.result c.verified.ensures
