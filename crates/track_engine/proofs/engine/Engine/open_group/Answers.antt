@@ -43,7 +43,7 @@ returns-clause-writes g c =
     let made = c.in_ok-group.ensures in
     let pushed : c.open.new.self ≡ c.in_ok-group.group ∷ run.groups = search rules in
     let next : opened (state_of m old run) ≡ state_of (g.S.Surface.mesh c.group_here.new.mesh) new (record run { groups = c.open.new.self }) =
-    opened_is g.S.Surface.beyond m old new run c.requires made.begins c.in_ok-group.group made.stands (made.asked ∙ c.as_slice.ensures) made.failed
+    opened_is g.S.Surface.beyond m old new run c.requires made.begins c.in_ok-group.group made.stands made.asked made.failed
     ∙ (λ i. state_of (sym made.mesh i) new (record run { groups = sym pushed i })) in
     let said : written_of (g.O.Outside.around c.write_line.new.outside) ≡ appended (written_of (g.O.Outside.around c.args.outside.now)) (text_of_lines (Group ∷ [])) = search rules in
     (Group ∷ [], ap (Proceeds (Group ∷ [])) next, said)

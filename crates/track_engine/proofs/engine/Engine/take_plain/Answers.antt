@@ -94,12 +94,12 @@ returns-in-Close-clause-left g c = never_refused c.close_group.result _ c.close_
 
 pub returns-in_err-save-in-Save-clause-advances : goal.returns-in_err-save-in-Save-clause-advances
 returns-in_err-save-in-Save-clause-advances g c =
-    let p = err_from_is_err_and c.from_residual.result c.from_residual.ensures.1 in
+    let p = err_from_is_err_and c.from_residual-in_err-save-in-Save.result c.from_residual-in_err-save-in-Save.ensures.1 in
     rw (p.1, p.2) (save_part _ (target_of c.args.to) c.args.what.now (state_in g.S.Surface.mesh g.S.Surface.kept c.args.self.now) (state_in g.S.Surface.mesh g.S.Surface.kept c.save.new.self) _ _ c.in-Save.is c.in_err-save-in-Save.ensures.saves)
 
 pub returns-in_err-save-in-Save-clause-counts : goal.returns-in_err-save-in-Save-clause-counts
 returns-in_err-save-in-Save-clause-counts g c =
-    let p = err_from_is_err_and c.from_residual.result c.from_residual.ensures.1 in
+    let p = err_from_is_err_and c.from_residual-in_err-save-in-Save.result c.from_residual-in_err-save-in-Save.ensures.1 in
     rw (p.1, p.2) (counts_stopped _ _ _ c.in_err-save-in-Save.ensures.counts)
 
 pub returns-in_ok-save-in-Save-clause-advances : goal.returns-in_ok-save-in-Save-clause-advances
