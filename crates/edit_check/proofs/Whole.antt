@@ -37,29 +37,18 @@ use Rattle.edit_check.specs.Boxed.{faces_in, first_failing_boxed, is_side_of_box
 use Rattle.edit_check.specs.Checking.{scaffold_by, first_of}
 use Rattle.edit_check.specs.Reach.{ReachesTouched, is_face_in_reach}
 use Rattle.edit_check.specs.Sides.{turned, is_run_by_some}
+use Rattle.edit_check.specs.FacePairs.{some_touched_fail}
 use Rattle.edit_check.specs.Neighbourhood.{EdgeGoes, FaceGoes, AreAlong, HasNoneApart, HaveNoneApart}
 use Rattle.edit_check.specs.Searching.{first_near, is_settled, edges_of, with_faces}
 use Rattle.edit_check.proofs.Alone.{alone_beyond}
 use Rattle.edit_check.proofs.Beyond.{all_faces, among_nearby, among_touched_nearby, none_beyond}
 use Rattle.edit_check.proofs.Boxes.{first_boxed, side_boxed}
 use Rattle.edit_check.proofs.Edges.{each_of, side_goes, side_runs, turned_goes, run_up, run_down}
+use Rattle.edit_check.proofs.FacePairs.{none_of, picked, all_both, none_with_faces}
 use Rattle.edit_check.proofs.LeftOut.{IsPassed, none_in, one_in}
-use Rattle.edit_check.proofs.Scans.{neither}
 use Rattle.edit_check.proofs.Settling.{all_settled, found_of_one}
 
 -- ---- lists
-all_both : {X : Type 0} (P Q R : X → Type 0) (xs : List X) → ((x : X) → P x → Q x → R x) → AllByRecursion P xs → AllByRecursion Q xs → AllByRecursion R xs
-all_both P Q R [] make h k = tt
-all_both P Q R (x ∷ xs) make h k = (make x h.0 k.0, all_both P Q R xs make h.1 k.1)
-
-picked : {X : Type 0} (P : X → Type 0) (test : X → Bool) (xs : List X) → AllByRecursion P xs → list_any test xs ≡ true → (x : X) × ((test x ≡ true) × P x)
-picked P test [] h e = absurd (false≢true e)
-picked P test (x ∷ xs) h e = ⊎_elim (λ t. (x, (t, h.0))) (λ t. picked P test xs h.1 t) (or_cases (test x) (list_any test xs) e)
-
-none_of : {X : Type 0} (test : X → Bool) (xs : List X) → list_any test xs ≡ false → AllByRecursion (λ x. test x ≡ false) xs
-none_of test [] h = tt
-none_of test (x ∷ xs) h = let two = neither (test x) (list_any test xs) h in (two.0, none_of test xs two.1)
-
 -- the touched ones of faces with boxes
 faces_touched : (moves : List Move) (together : List ℕ) (fresh_from : ℕ) (faces : List BoxedFace) → faces_in (touched_boxed moves together fresh_from faces) ≡ touched_among moves together fresh_from (faces_in faces)
 faces_touched moves together fresh_from [] = refl
@@ -132,6 +121,12 @@ module _ (m : Mesh) (moves : List Move) (t : Terms) (fresh_from : ℕ) (box : Ex
       (all_weaker (λ f. IsFace f.face) (λ f. All P (edges_of faces f.face)) faces
       (λ f is. All-from_recursion P (edges_of faces f.face) (each_of P faces f.face (λ e which. let goes = side_goes w f.face e is.1 which in (λ up. alone e goes, λ down. alone (turned e) (turned_goes w e goes)))))
       each_near)
+
+  -- nothing is found where no touched face fails with one near
+  pub none_where_none_fail : some_touched_fail t faces touched touched ≡ false → with_faces t faces touched None faces ≡ None
+  none_where_none_fail none = none_with_faces w t faces touched none
+      (all_weaker (λ f. IsFace f.face) (λ f. FaceGoes w f.face) faces (λ f is. is.1) each_near)
+      (all_weaker IsHeld (λ f. FaceGoes w f.face) touched (λ f is. is.0) each_touched)
 
   -- ---- the pairs
   module _ (sound : IsSound m) (clear : IsClearWhereUntouched m moves fresh_from) where

@@ -10,3 +10,4 @@ pub mod Sides
 pub mod Neighbourhood
 pub mod Searching
 pub mod Looking
+pub mod FacePairs

@@ -102,7 +102,13 @@ fn do_as_required(
 
 /// Whether the edge and the face are a pair, and do not do what is required of them. Where their boxes have no common
 /// point, an axis keeps them apart, and they do.
-fn fails(touch: Touch, together: &[VertexId], depth: u8, e: &BoxedEdge, f: &BoxedFace) -> bool
+pub(crate) fn fails(
+    touch: Touch,
+    together: &[VertexId],
+    depth: u8,
+    e: &BoxedEdge,
+    f: &BoxedFace,
+) -> bool
     requires depth_fits { depth ≤ DEPTH_MAX }
     ensures { result ≡ fails touch together.now depth e.now.edge f.now.face }
 {

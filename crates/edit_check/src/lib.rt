@@ -4,6 +4,7 @@
 mod boxed;
 mod boxing;
 mod checking;
+mod face_pairs;
 mod failing;
 pub mod laws;
 mod moves;

@@ -56,6 +56,9 @@ pub(crate) fn faces_along<S: Surface>(
     Ok(Items::from_vec(faces))
 }
 
+/// A list for the faces near an extent begins with room for so many, which is enough for most extents. Only speed depends on it.
+const FOUND: usize = 64;
+
 /// The faces near an extent, with the paths of their corners and their boxes.
 pub(crate) fn faces_near<S: Surface>(
     alloc: Global,
@@ -65,7 +68,7 @@ pub(crate) fn faces_near<S: Surface>(
     ensures { let m = S.mesh paths.now.mesh.now in
         IfOk result (λ faces. faces_in faces ≡ near_faces m paths.now.moves.now reach) }
 {
-    let mut ids = Vec::new(alloc);
+    let mut ids = Vec::with_capacity(alloc, FOUND)?;
     paths.mesh.faces_near(reach, &mut ids)?;
     faces_along(alloc, paths, ids.as_slice())
 }

@@ -135,6 +135,9 @@ fn reach_vertices<S: Surface>(
     Ok(wide)
 }
 
+/// A list for the faces at a vertex begins with room for so many, which is enough for most vertices. Only speed depends on it.
+const AROUND: usize = 16;
+
 /// The box, made to have the old faces at each vertex that moves and at each of the vertices.
 fn reach_old<S: Surface>(
     alloc: Global,
@@ -150,7 +153,7 @@ fn reach_old<S: Surface>(
         IfOk result (λ wide. All (ReachesAt m moves fresh_from wide) vertices.now) }
     ensures keeps { IfOk result (λ wide. Widens reach wide) }
 {
-    let mut at = Vec::new(alloc);
+    let mut at = Vec::with_capacity(alloc, AROUND)?;
     let moving = reach_moves(paths, fresh_from, &mut at, reach)?;
     reach_vertices(paths, fresh_from, vertices, &mut at, moving)
 }

@@ -1,0 +1,129 @@
+//! Whether sides of touched faces, and of the faces near them, fail to do what is required of them.
+ghost use Rattle.std.specs.Prelude.{◌≡◌, ◌≤◌, nat_lt};
+ghost use Rattle.std.specs.List.{list_any};
+ghost use Rattle.pair_paths.specs.Pairing.{have_a_vertex_in_common};
+ghost use Rattle.edit_check.specs.FacePairs.{upward, runs_down_beside, is_asked_elsewhere};
+ghost use Rattle.edit_check.specs.FacePairs.{side_fails, sides_fail, faces_fail};
+ghost use Rattle.edit_check.specs.FacePairs.{fails_with_some, some_touched_fail};
+
+use crate::boxed::BoxedFace;
+use crate::boxing::boxed_edge;
+use crate::failing::{fails, is_side_of_some};
+use crate::neighbourhood::Neighbourhood;
+use crate::sides::{first_side, is_run_by_some, second_side, third_side, turned};
+use pair_paths::MovingEdge;
+
+/// The side as an edge, its smaller end first.
+fn upward(side: &MovingEdge) -> MovingEdge
+    ensures { result ≡ upward side.now }
+{
+    if side.b.0 < side.a.0 {
+        turned(side)
+    } else {
+        *side
+    }
+}
+
+/// Whether the side runs down, and one of the faces runs the other way.
+fn runs_down_beside(side: &MovingEdge, faces: &[BoxedFace]) -> bool
+    ensures { result ≡ runs_down_beside faces.now side.now }
+{
+    side.b.0 < side.a.0 && is_run_by_some(side.b, side.a, faces)
+}
+
+/// Whether a side is asked for at another face: one of a touched face, where it runs down and another touched face runs up;
+/// one of any other face, where a touched face has it as a side too, or it runs down and another face runs up.
+fn is_asked_elsewhere(near: &Neighbourhood, is_own: bool, side: &MovingEdge) -> bool
+    ensures { let n = near.now in
+        result ≡ is_asked_elsewhere n.faces.now n.touched.now is_own side.now }
+{
+    if is_own {
+        return runs_down_beside(side, near.touched);
+    }
+    is_side_of_some(side.a, side.b, near.touched) || runs_down_beside(side, near.faces)
+}
+
+/// Whether a side fails with a face to do what is required of them, and is not asked for elsewhere. It does not fail where
+/// they are known to share a vertex, and where their boxes have no common point.
+fn side_fails(
+    near: &Neighbourhood,
+    is_own: bool,
+    side: &MovingEdge,
+    is_shared: bool,
+    f: &BoxedFace,
+) -> bool
+    requires { is_shared ≡ have_a_vertex_in_common side.now f.now.face }
+    ensures { let n = near.now in
+        result ≡ side_fails n.terms n.faces.now n.touched.now is_own side.now f.now.face }
+{
+    if is_shared {
+        return false;
+    }
+    let e = boxed_edge(upward(side));
+    if !f.bounds.overlaps(&e.bounds) {
+        return false;
+    }
+    if is_asked_elsewhere(near, is_own, side) {
+        return false;
+    }
+    fails(
+        near.terms.touch,
+        near.terms.together,
+        near.terms.depth,
+        &e,
+        f,
+    )
+}
+
+/// Whether one of the sides of a face fails with another face, and is not asked for elsewhere.
+fn sides_fail(near: &Neighbourhood, is_own: bool, f: &BoxedFace, g: &BoxedFace) -> bool
+    ensures { let n = near.now in
+        result ≡ sides_fail n.terms n.faces.now n.touched.now is_own f.now.face g.now.face }
+{
+    let corners = &f.face.corners;
+    let first = g.face.corners.has_corner(corners.first);
+    let second = g.face.corners.has_corner(corners.second);
+    let third = g.face.corners.has_corner(corners.third);
+    side_fails(near, is_own, &first_side(&f.face), first || second, g)
+        || side_fails(near, is_own, &second_side(&f.face), second || third, g)
+        || side_fails(near, is_own, &third_side(&f.face), third || first, g)
+}
+
+/// Whether a side of a touched face fails with another face, or a side of that one with the touched one. None does where
+/// their boxes have no common point.
+fn faces_fail(near: &Neighbourhood, f: &BoxedFace, g: &BoxedFace) -> bool
+    ensures { let n = near.now in
+        result ≡ faces_fail n.terms n.faces.now n.touched.now f.now.face g.now.face }
+{
+    if !g.bounds.overlaps(&f.bounds) {
+        return false;
+    }
+    sides_fail(near, true, f, g) || sides_fail(near, false, g, f)
+}
+
+/// Whether a touched face and one of the faces near fail so.
+fn fails_with_some(near: &Neighbourhood, f: &BoxedFace) -> bool
+    ensures { let n = near.now in
+        result ≡ fails_with_some n.terms n.faces.now n.touched.now f.now.face n.faces.now }
+{
+    for g in near.faces {
+        if faces_fail(near, f, g) {
+            return true;
+        }
+    }
+    false
+}
+
+/// Whether one of the touched faces and one of the faces near fail so. Where none do, no edge of the faces has a pair that is
+/// not as required.
+pub(crate) fn some_touched_fail(near: &Neighbourhood) -> bool
+    ensures { let n = near.now in
+        result ≡ some_touched_fail n.terms n.faces.now n.touched.now n.touched.now }
+{
+    for f in near.touched {
+        if fails_with_some(near, f) {
+            return true;
+        }
+    }
+    false
+}
