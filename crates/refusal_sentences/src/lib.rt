@@ -5,6 +5,7 @@
 mod asked;
 mod desk_reasons;
 mod face_lines;
+mod groups;
 mod log_reasons;
 mod long_numbers;
 mod manifold;
