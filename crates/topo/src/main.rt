@@ -6,6 +6,7 @@
 
 mod answering;
 mod band;
+mod exact_desk;
 mod explaining;
 mod help;
 mod log_watch;
@@ -23,7 +24,7 @@ use log_watch::{EndedVertices, LogWatch};
 use mesh_field::{Fields, no_fields};
 use mesh_sizing::Sizing;
 use names::{Names, names_of};
-use outside_io::{ProgressSink, StdSink};
+use outside_io::{FileDesk, ProgressSink, StdSink, Trouble};
 use refusal_sentences::plain;
 use shipped::{REACH, shipped_names, shipped_shift};
 use std::alloc::{AllocError, Global};
@@ -32,7 +33,7 @@ use std::process::ExitCode;
 use std::rt::Env;
 use std::{env, io};
 use track_run::Outcome;
-use user_desk::UserDesk;
+use user_desk::{SystemDesk, UserDesk};
 use warning::warnings;
 
 // The words after the program's name.
@@ -91,13 +92,21 @@ fn warn(alloc: Global, rt: &impl Eprint, warnings: Result<Vec<String>, AllocErro
     }
 }
 
+// What the system refused, at a store or at the text that was to be spared before it.
+fn trouble_of<'d>(desk: &'d SystemDesk<'_, '_, HostRuntime>) -> Option<&'d Trouble> {
+    match desk.spared.trouble() {
+        Some(trouble) => Some(trouble),
+        None => desk.files.trouble(),
+    }
+}
+
 // Tells what is to be told on standard error of a run that has ended, and gives the status.
 fn finish(
     rt: &HostRuntime,
     words: &[String],
     names: Option<Names<'_>>,
     outcome: Outcome,
-    desk: &UserDesk<'_, '_, HostRuntime>,
+    desk: &SystemDesk<'_, '_, HostRuntime>,
     ended: &EndedVertices,
 ) -> ExitCode {
     let alloc = rt.alloc();
@@ -112,7 +121,7 @@ fn finish(
     let seen = Seen {
         texts: &desk.texts,
         ended,
-        trouble: desk.files.trouble(),
+        trouble: trouble_of(desk),
     };
     let why = explain(alloc, words, names, outcome, seen);
     end(alloc, rt, outcome, why)
@@ -128,7 +137,8 @@ fn answer_words(rt: &HostRuntime, words: &[String]) -> ExitCode {
     let sizing = Sizing::new(shipped_band);
     let is_watched = is_long(words) && rt.stderr().is_terminal() && !rt.stdout().is_terminal();
     let names = names_of(alloc, words);
-    let mut desk = UserDesk::new(alloc, rt, names, is_watched);
+    let (files, spared) = (FileDesk::new(alloc, rt), FileDesk::new(alloc, rt));
+    let mut desk = UserDesk::new(alloc, rt, names, is_watched, files, spared);
     if is_watched {
         let mut out = LogWatch::new(alloc, ProgressSink::new(StdSink::new(rt), rt));
         let outcome = answer(alloc, words, &mut desk, &mut out, &fields, &sizing);

@@ -1,32 +1,38 @@
-//! The desk of a user: the files of the system, of which it keeps what was read, and of which it overwrites none that was read without a
-//! word.
-ghost use Rattle.std.specs.Prelude.{◌≡◌, ◌≤◌, ◌^◌, ◌-◌, ◌<◌, ℕ, None, [], length, OnOk, OnErr, IsErrOf};
-ghost use Rattle.grid_base.specs.declared.TheConstants.{TEXT_MAX};
+//! The desk of a user: another desk, of which it keeps what was read, and of which it overwrites nothing that was read without a word.
+ghost use Rattle.std.specs.Prelude.{◌≡◌, ◌≤◌, ◌<◌, ◌^◌, ◌-◌, ℕ, [], length, OnOk, OnErr, IsErrOf};
 ghost use Rattle.outside_io.specs.Causes.{Rose};
-ghost use Rattle.outside_io.specs.Desk.{HoldsFile, with_file};
+ghost use Rattle.outside_io.specs.Desk.{with_file, SameBut, HoldsFile, HoldsNoFile, HoldsAtLeast};
+ghost use Rattle.topo.specs.UserDesk.{faults_of_both};
+ghost use Rattle.std.proofs.Common.{arith};
 
+use crate::exact_desk::ExactDesk;
 use crate::names::Names;
 use crate::rounding::rounded;
 use crate::texts::{Text, Texts};
-use outside_io::{Desk, FetchFault, FileDesk, StoreFault, TryLock};
+use outside_io::{Desk, FetchFault, FileDesk, StoreFault};
 use refusal_sentences::{overwriting_warning, plain};
 use std::alloc::{AllocError, Global};
 use std::fs;
 use std::io::ErrorKind;
 use std::rt::Files;
 
-/// The files of the system. Before a store takes the place of a text that was read, that is told on standard error, and the text is kept
-/// under another name where the mesh that is stored does not have what it had: a coordinate that is rounded, or all where it was no mesh.
+/// A desk, as of the files of the system, and a second one, on which is put what would be lost. Before a store takes the place of a text
+/// that was read, that is told on standard error, and the text is kept on the second desk under another name where the mesh that is stored
+/// does not have what it had: a coordinate that is rounded, or all where it was no mesh.
 #[derive(Drop)]
-pub(crate) struct UserDesk<'a, 'w, R: Files> {
+pub(crate) struct UserDesk<'a, 'w, R: Files, D, S> {
     alloc: Global,
     rt: &'a R,
     names: Option<Names<'w>>,
     is_watched: bool,
-    pub(crate) files: FileDesk<'a, R>,
+    pub(crate) files: D,
+    pub(crate) spared: S,
     pub(crate) texts: Texts,
     pub(crate) stored: Option<String>,
 }
+
+/// The desk of the program: what would be lost goes to the files of the system too.
+pub(crate) type SystemDesk<'a, 'w, R> = UserDesk<'a, 'w, R, FileDesk<'a, R>, FileDesk<'a, R>>;
 
 // Where a name leads to, if that is a file.
 fn path_of<R: Files>(alloc: Global, rt: &R, name: &str) -> Option<String> {
@@ -117,26 +123,27 @@ fn tell(alloc: Global, rt: &impl Eprint, is_watched: bool, warning: &str) {
     }
 }
 
-impl<'a, 'w, R: Files + Eprint> UserDesk<'a, 'w, R>
-where
-    R::File: TryLock,
-{
-    ghost use Rattle.outside_io.specs.Real.{desk_faults};
-
-    /// The files that a runtime reaches, for a command of these names. A line of progress on standard error is wiped before anything else
-    /// is told there, where the run is watched.
+impl<'a, 'w, R: Files + Eprint, D: ExactDesk, S: ExactDesk> UserDesk<'a, 'w, R, D, S> {
+    /// These files, and this desk for what would be lost, for a command of these names. A line of progress on standard error is wiped
+    /// before anything else is told there, where the run is watched.
     pub(crate) fn new(
         alloc: Global,
         rt: &'a R,
         names: Option<Names<'w>>,
         is_watched: bool,
-    ) -> Self {
+        files: D,
+        spared: S,
+    ) -> Self
+        ensures files { result.files ≡ files }
+        ensures spared { result.spared ≡ spared }
+    {
         UserDesk {
             alloc,
             rt,
             names,
             is_watched,
-            files: FileDesk::new(alloc, rt),
+            files,
+            spared,
             texts: Texts::new(alloc),
             stored: None,
         }
@@ -144,7 +151,8 @@ where
 
     // Keeps a text that was read. Where there is no memory for it, less is said of it later.
     fn keep(&mut self, name: &str, bytes: &[u8])
-        ensures { self.new.files ≡ self.old.files }
+        ensures files { self.new.files ≡ self.old.files }
+        ensures spared { self.new.spared ≡ self.old.spared }
     {
         let path = path_of(self.alloc, self.rt, name);
         let _ = self.texts.keep(self.alloc, name, path, bytes);
@@ -152,11 +160,12 @@ where
 
     // Sees that a text that was read and has this name now is not lost by a store: it is told, and the text is kept where it has to be.
     fn spare(&mut self, name: &str) -> Result<(), StoreFault>
-        ensures later { desk_faults self.old.files ≤ desk_faults self.new.files }
+        ensures files { self.new.files ≡ self.old.files }
+        ensures later { S.faults self.old.spared ≤ S.faults self.new.spared }
         ensures failed { IsErrOf result StoreFault.Failed →
-            Rose (desk_faults self.old.files) (desk_faults self.new.files) }
+            Rose (S.faults self.old.spared) (S.faults self.new.spared) }
         ensures none { ¬ IsErrOf result StoreFault.Failed →
-            desk_faults self.new.files ≡ desk_faults self.old.files }
+            S.faults self.new.spared ≡ S.faults self.old.spared }
     {
         let Some(path) = path_of(self.alloc, self.rt, name) else {
             return Ok(());
@@ -168,7 +177,8 @@ where
             Err(_) => Err(StoreFault::NoMemory),
             Ok(Spared { kept, warning }) => {
                 if let Some(kept) = kept {
-                    self.files.store(kept.as_str(), text.bytes.as_slice())?;
+                    self.spared
+                        .store_exactly(kept.as_str(), text.bytes.as_slice())?;
                 }
                 tell(self.alloc, self.rt, self.is_watched, warning.as_str());
                 Ok(())
@@ -178,7 +188,8 @@ where
 
     // Notes that a name has a mesh now, and no text that was read any more.
     fn note(&mut self, name: &str)
-        ensures { self.new.files ≡ self.old.files }
+        ensures files { self.new.files ≡ self.old.files }
+        ensures spared { self.new.spared ≡ self.old.spared }
     {
         if let Some(path) = path_of(self.alloc, self.rt, name) {
             self.texts.leave(path.as_str());
@@ -187,51 +198,56 @@ where
     }
 }
 
-impl<'a, 'w, R: Files + Eprint> Desk for UserDesk<'a, 'w, R>
-where
-    R::File: TryLock,
-{
-    ghost use Rattle.outside_io.specs.Real.{desk_faults};
+impl<'a, 'w, R: Files + Eprint, D: ExactDesk, S: ExactDesk> Desk for UserDesk<'a, 'w, R, D, S> {
+    ghost files = { λ desk. D.files desk.files };
 
-    ghost files = { λ _. None };
+    ghost faults = { λ desk. faults_of_both (D.faults desk.files) (S.faults desk.spared) };
 
-    ghost faults = { λ desk. desk_faults desk.files };
-
-    /// Fetches a file of the system, and keeps what it held.
+    /// Fetches a file of the first desk, and keeps what it held.
     fn fetch(&mut self, name: &str, limit: usize, into: &mut Vec<u8>) -> Result<(), FetchFault>
-        ensures found { OnOk result (HoldsFile None name.now into.new.items) }
+        ensures found { OnOk result (HoldsFile (D.files self.old.files) name.now into.new.items) }
         ensures within { OnOk result (length into.new.items ≤ limit) }
         ensures refused { OnErr result (into.new.items ≡ []) }
+        ensures kept { D.files self.new.files ≡ D.files self.old.files }
         ensures long { (seen : ℕ) → IsErrOf result (FetchFault.TooLong seen) → limit < seen }
+        ensures seen { (seen : ℕ) → IsErrOf result (FetchFault.TooLong seen) →
+            HoldsAtLeast (D.files self.old.files) name.now seen }
+        ensures missing { IsErrOf result FetchFault.Missing →
+            HoldsNoFile (D.files self.old.files) name.now }
         ensures calm { IsErrOf result FetchFault.Missing →
-            desk_faults self.new.files ≡ desk_faults self.old.files }
-        ensures later { desk_faults self.old.files ≤ desk_faults self.new.files }
+            faults_of_both (D.faults self.new.files) (S.faults self.new.spared) ≡ faults_of_both (D.faults self.old.files) (S.faults self.old.spared) }
+        ensures later { faults_of_both (D.faults self.old.files) (S.faults self.old.spared) ≤ faults_of_both (D.faults self.new.files) (S.faults self.new.spared) }
         ensures failed { IsErrOf result FetchFault.Failed →
-            Rose (desk_faults self.old.files) (desk_faults self.new.files) }
+            Rose (faults_of_both (D.faults self.old.files) (S.faults self.old.spared)) (faults_of_both (D.faults self.new.files) (S.faults self.new.spared)) }
         ensures none { ¬ IsErrOf result FetchFault.Failed →
-            desk_faults self.new.files ≡ desk_faults self.old.files }
+            faults_of_both (D.faults self.new.files) (S.faults self.new.spared) ≡ faults_of_both (D.faults self.old.files) (S.faults self.old.spared) }
     {
-        let result = self.files.fetch(name, limit, into);
+        let result = self.files.fetch_exactly(name, limit, into);
         if result.is_ok() {
             self.keep(name, into.as_slice());
         }
         result
     }
 
-    /// Stores a file of the system; a text that was read and that it takes the place of is spared first.
+    /// Stores a file on the first desk; a text that was read and that it takes the place of is spared first.
     fn store(&mut self, name: &str, bytes: &[u8]) -> Result<(), StoreFault>
-        ensures stored { OnOk result (None ≡ with_file None name.now bytes.now) }
-        ensures later { desk_faults self.old.files ≤ desk_faults self.new.files }
+        ensures stored { OnOk result
+            (D.files self.new.files ≡ with_file (D.files self.old.files) name.now bytes.now) }
+        ensures refused { IsErrOf result StoreFault.NoMemory →
+            D.files self.new.files ≡ D.files self.old.files }
+        ensures others { IsErrOf result StoreFault.Failed →
+            SameBut name.now (D.files self.old.files) (D.files self.new.files) }
+        ensures later { faults_of_both (D.faults self.old.files) (S.faults self.old.spared) ≤ faults_of_both (D.faults self.new.files) (S.faults self.new.spared) }
         ensures failed { IsErrOf result StoreFault.Failed →
-            Rose (desk_faults self.old.files) (desk_faults self.new.files) }
+            Rose (faults_of_both (D.faults self.old.files) (S.faults self.old.spared)) (faults_of_both (D.faults self.new.files) (S.faults self.new.spared)) }
         ensures none { ¬ IsErrOf result StoreFault.Failed →
-            desk_faults self.new.files ≡ desk_faults self.old.files }
+            faults_of_both (D.faults self.new.files) (S.faults self.new.spared) ≡ faults_of_both (D.faults self.old.files) (S.faults self.old.spared) }
     {
         self.spare(name)?;
-        self.files.store(name, bytes)?;
+        self.files.store_exactly(name, bytes)?;
         self.note(name);
         Ok(())
     }
 
-    ghost few = { λ desk. desk.files.few };
+    ghost few = { λ desk. Prim.grind arith };
 }
