@@ -184,6 +184,27 @@ def with_ids(ids, rows):
     return [(v, *row) for (v,), row in zip(ids, rows)] if numpy is None else numpy.hstack([ids, rows])
 
 
+def starts_of(rows, ids):
+    """Where the vertices of a column of ids stand, of the rows of all that live."""
+    at = {row[0]: row[1:] for row in rows}
+    for (v,) in ids:
+        if v not in at:
+            raise TopoError("topo_shift_each", REFUSED, 1, v)
+    return [at[v] for (v,) in ids]
+
+
+def starts_table(rows, ids):
+    """The same by columns; the row behind the last is of no vertex."""
+    table = numpy.zeros((len(rows) + 1, 4), numpy.int64)
+    for i, name in enumerate(("id", "x", "y", "z")):
+        table[:-1, i] = rows[name]
+    found = table[numpy.searchsorted(rows["id"], ids[:, 0])]
+    missing = ids[found[:, 0] != ids[:, 0], 0]
+    if len(missing):
+        raise TopoError("topo_shift_each", REFUSED, 1, int(missing[0]))
+    return found[:, 1:]
+
+
 def buffer_of(kind, rows):
     """Rows of whole numbers as an array of structures, or of numbers, of 32 bits each, and how many they are."""
     if numpy is None or len(rows) == 0:
@@ -324,14 +345,8 @@ class Tracker:
         """The same, by the points to which the vertices should go, as far as nothing was asked of them."""
         ids, to = (list(ends), list(ends.values())) if to is None else (ends, to)
         ids, ends = self.ids(ids, to), self.grid_rows("end", to, self.origin)
-        at = {row[0]: row[1:] for row in self.rows("topo_points", Vertex).tolist()}
-        starts = []
-        for (v,) in ids if numpy is None else ids.tolist():
-            if v not in at:
-                raise TopoError("topo_shift_each", REFUSED, 1, v)
-            starts.append(at[v])
-        by = [tuple(e - s for e, s in zip(end, start)) for end, start in zip(ends, starts)] if numpy is None else ends - numpy.array(starts, numpy.int64).reshape(-1, 3)
-        self.shift_rows(ids, by)
+        starts = (starts_of if numpy is None else starts_table)(self.rows("topo_points", Vertex), ids)
+        self.shift_rows(ids, [tuple(e - s for e, s in zip(end, start)) for end, start in zip(ends, starts)] if numpy is None else ends - starts)
 
     def ids(self, ids, rows):
         """A column of ids of vertices, as many as there are rows."""
