@@ -22,7 +22,9 @@ from mutated_texts import run, spoilt
 from random_jobs import REFERENCE, ROOT, TOPO, job_of, keep_files
 
 SECONDS = 60
-TRACKED = (7, 49, 213, 234, 309, 388, 417, 560, 585, 626, 662, 896, 959, 960, 984, 1115, 1126, 1263, 1279, 1547, 1620, 1683, 1753, 1788, 1900, 1909, 2014, 2209, 2251, 2348)
+TRACKED = (7, 49, 213, 234, 309, 388, 417, 560, 585, 626, 662, 896, 959, 960, 984, 1115, 1126, 1263, 1279, 1547, 1620, 1683, 1753, 1788, 1900, 1909, 2014, 2209, 2251, 2348, 2467)
+# jobs before whose steps a vertex is made solid, which lies in an impact zone then
+WITH_SOLID = {757: 1, 1788: 3}
 CONVERTED = (3, 11, 19, 27)
 BROKEN = (1, 2, 3, 5, 8, 13)
 SPOILT = (1, 2, 3, 4, 5, 6)
@@ -30,14 +32,14 @@ SPOILT = (1, 2, 3, 4, 5, 6)
 
 def jobs_of_tracking(program):
     """Jobs that are tracked, each with its log, as the program writes it, measured and replayed."""
-    for number in TRACKED:
+    for number, solid in [*((number, None) for number in TRACKED), *WITH_SOLID.items()]:
         mesh, steps, words = job_of(number)
-        files = {"m.obj": mesh.encode(), "s.txt": steps.encode()}
+        files = {"m.obj": mesh.encode(), "s.txt": (f"solid {solid}\n" * bool(solid) + steps).encode()}
         commands = [(words, files)]
         if words[0] == "track":
             files = {"m.obj": files["m.obj"], "l.txt": run(program, words, files, SECONDS)[1]}
             commands += [(["measure", "m.obj", "l.txt", *words[4:]], files), (["replay", "m.obj", "l.txt", "again", *words[4:]], files)]
-        yield f"tracked {number}", commands
+        yield f"tracked {number}{' with a solid vertex' * bool(solid)}", commands
 
 
 def jobs_of_meshes(program):

@@ -3,7 +3,7 @@
 
     checks/spoilt_logs.py [OTHER] [SECONDS]
 
-The other program should be written apart from this one. Where none is given it is `reference/topo.py`, and only logs of at most 300 bytes are
+The other program should be written apart from this one. Where none is given it is `reference/topo.py`, and only logs of at most 150 bytes are
 spoilt. Of each log of the folder `worked` that tells a run of a mesh: each line doubled, left
 out, exchanged with the next, and each number raised by one, one fault at a time. Compared are status and output. The last line tells how many
 were alike, and how many had each status; at a difference the log is kept and the exit status is 1.
@@ -33,7 +33,7 @@ def spoilt(lines):
 
 def main():
     other, seconds = other_and_numbers(sys.argv[1:], 20)
-    longest = 300 if other == REFERENCE else 4_000
+    longest = 150 if other == REFERENCE else 4_000
     alike = unlike = late = logs = 0
     statuses = {}
     for name in sorted(os.listdir(FOLDER)):
