@@ -1,5 +1,5 @@
 -- Sums that are made of what is asked of all vertices, and asked from then on.
-use Rattle.std.proofs.Common.{◌≡◌, ℕ, map, None, Result, Ok, Err, ap, sym, ◌∙◌, subst}
+use Rattle.std.proofs.Common.{◌≡◌, ℕ, map, Result, Ok, Err, ap, sym, ◌∙◌, subst}
 use Rattle.std.specs.FinMap as finite
 use Rattle.std.specs.List.Sorted.{IsStrictlySortedBy}
 use Rattle.std.specs.Ordering.{nat_cmp}

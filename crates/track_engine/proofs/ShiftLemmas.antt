@@ -1,14 +1,11 @@
 -- Lists that are built item by item, and shifts that are summed.
-use Rattle.std.proofs.Common.{◌≡◌, ℕ, ◌<◌, ◌+◌, Bool, true, false, cond, not, [], ◌∷◌, map, length, drop, get_or, suc, add-one, refl, ap, sym, ◌∙◌, pos, Option, Some, None, IsSome, zero, subst, arith, Ok, Err}
-use Rattle.std.specs.Prelude.{◌↔◌, ◌==◌, ◌||◌, slice_get, slice_set}
+use Rattle.std.proofs.Common.{◌≡◌, ℕ, ◌<◌, ◌+◌, Bool, true, false, cond, not, [], ◌∷◌, map, length, drop, get_or, suc, add-one, refl, ap, sym, ◌∙◌, pos, Option, Some, None, IsSome, zero, subst, arith}
+use Rattle.std.specs.Prelude.{◌↔◌, ◌==◌, ◌||◌, slice_get}
 use Rattle.std.specs.Option.{IfSome, option_map}
 use Rattle.std.specs.List.{find, AllByRecursion}
-use Rattle.std.specs.List.Sorted.{IsStrictlySortedBy}
 use Rattle.std.specs.Ordering.{nat_cmp}
 use Rattle.std.specs.declared.cmp.Ordering.TheVariants.{Less}
-use Rattle.std.proofs.lemmas.Bool.{eq-eqb, eqb-true}
 use Rattle.std.proofs.lemmas.Bool.Decides.{nat_tests}
-use Rattle.std.proofs.lemmas.Map.Keys.{sorted_head, sorted_tail}
 use Rattle.std.proofs.Math.Seq.{drop-cons}
 use Rattle.grid_base.specs.declared.TheConstants.{SHIFT_MAX}
 use Rattle.grid_base.specs.declared.Shift.{Shift}
@@ -21,9 +18,7 @@ use Rattle.mesh_base.specs.declared.ShiftOf.{ShiftOf}
 use Rattle.mesh_base.specs.Mesh.{Mesh, is_solid}
 use Rattle.mesh_base.specs.Shifts.{Shifts, with_shift}
 use Rattle.track_engine.specs.State.{still_at}
-use Rattle.mesh_base.specs.declared.UseWhy.TheVariants.{ShiftRange, Solid as SolidVertex}
-use Rattle.pair_scan.specs.Lookup.{IsPlaceOf}
-use Rattle.track_engine.specs.Effects.{summed, is_beyond, first_beyond, one_summed, one_still, sum_at, sum_of_one}
+use Rattle.track_engine.specs.Effects.{summed, is_beyond, first_beyond}
 use Rattle.track_engine.specs.Shifting.{SumsOne}
 
 -- the sizes of three numbers are those of the triple

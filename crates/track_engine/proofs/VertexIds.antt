@@ -37,7 +37,7 @@ use Rattle.edit_collapse.proofs.Three.{three_cut}
 use Rattle.edit_collapse.proofs.SolidEnds.{were_live}
 use Rattle.edit_zip.specs.Done.{IsZip}
 use Rattle.edit_zip.proofs.ZipDone.{zip_always_makes}
-use Rattle.edit_pinch.specs.Pinch.{fans, with_copy, pinch_mesh, pinch_scaffold, copy_points}
+use Rattle.edit_pinch.specs.Pinch.{fans, with_copy, pinch_scaffold, copy_points}
 use Rattle.edit_pinch.specs.Answer.{pinch_answer}
 use Rattle.edit_pinch.proofs.CopyClosed.{next_vertex-renamed}
 use Rattle.edit_pinch.proofs.PinchDone.{kept_point, pinched_live}

@@ -1,4 +1,4 @@
-use Rattle.std.proofs.Common.{refl, sym, subst, ap, ◌∙◌}
+use Rattle.std.proofs.Common.{sym, subst, ap, ◌∙◌}
 use Rattle.mesh_base.specs.Shifts.{Shifts}
 use Rattle.pair_scan.proofs.Paths.{ids_sorted}
 use Rattle.track_engine.specs.Shifting.{AsksOfGiven, AreBelow}

@@ -1,6 +1,5 @@
-use Rattle.std.proofs.Common.{◌≡◌, Ok, true, false, ap, sym, subst, ◌∙◌, refl}
+use Rattle.std.proofs.Common.{◌≡◌, Ok, true, ap, sym, subst, ◌∙◌}
 use Rattle.std.proofs.lemmas.Bool.{false≢true}
-use Rattle.mesh_base.specs.Shifts.{Shifts}
 use Rattle.pair_scan.proofs.Paths.{ids_sorted}
 use Rattle.track_engine.specs.State.{asked_in}
 use Rattle.track_engine.proofs.AskedLemmas.{put_live, put_second}

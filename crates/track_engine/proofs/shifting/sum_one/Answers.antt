@@ -1,7 +1,7 @@
-use Rattle.std.proofs.Common.{◌≡◌, true, false, None, IsSome, is_some, ap, sym, subst, ◌∙◌, refl}
+use Rattle.std.proofs.Common.{is_some, ap, sym, subst, ◌∙◌, refl}
 use Rattle.std.proofs.lemmas.Bool.{false≢true}
 use Rattle.grid_base.specs.declared.TheConstants.{SHIFT_MAX}
-use Rattle.grid_base.specs.Triples.{Triple, IsWithin}
+use Rattle.grid_base.specs.Triples.{IsWithin}
 use Rattle.mesh_base.specs.declared.ShiftOf.{ShiftOf}
 use Rattle.track_engine.specs.Effects.{summed}
 use Rattle.track_engine.proofs.AskedLemmas.{sum_is, sum_none, sum_solid, sum_beyond}

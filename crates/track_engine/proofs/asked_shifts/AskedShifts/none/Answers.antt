@@ -1,4 +1,4 @@
-use Rattle.std.proofs.Common.{List, sym, subst}
+use Rattle.std.proofs.Common.{sym, subst}
 use Rattle.track_engine.proofs.AskedLists.{Rises, none_rises}
 use Rattle.track_engine.proofs.asked_shifts.AskedShifts.none.Goals as goal
 

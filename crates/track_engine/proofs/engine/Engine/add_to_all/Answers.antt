@@ -1,4 +1,4 @@
-use Rattle.std.proofs.Common.{ℕ, Result, Ok, Err, ap, sym, subst, ◌∙◌}
+use Rattle.std.proofs.Common.{ℕ, Result, Err, ap, sym, subst, ◌∙◌}
 use Rattle.mesh_base.specs.Shifts.{Shifts}
 use Rattle.mesh_base.specs.declared.UseWhy.TheVariants.{ShiftRange}
 use Rattle.track_engine.specs.Shifting.{Sums}
