@@ -1,6 +1,8 @@
 ghost use Rattle.std.specs.Prelude.{◌≡◌, ◌<◌, IsOk, OnOk, OnErr, IfOk, []};
 ghost use Rattle.std.specs.FinMap as map;
-ghost use Rattle.cell_grid.specs.Overlapping.{overlapping};
+ghost use Rattle.std.specs.List.Sorted.{IsStrictlySortedBy};
+ghost use Rattle.std.specs.Ordering.{nat_cmp};
+ghost use Rattle.cell_grid.specs.Overlapping.{overlapping, HasEachAt};
 
 use crate::Extent;
 use crate::cells::{Cell, Entry};
@@ -107,5 +109,16 @@ impl Grid {
         look_rising(self.cell, &self.items, &self.large, &self.cells, &at, into)?;
         keep_met(&self.items, &at, into);
         Ok(())
+    }
+
+    /// Sets the list to rising items, of which some may be apart from this extent: all whose extents have a common point with it are
+    /// among them. It takes less time than `overlapping`, and serves who tests each item again. Where there is no memory, the list is
+    /// empty.
+    pub fn near(&self, at: Extent, into: &mut Vec<u64>) -> Result<(), NoMemory>
+        ensures rising { OnOk result (IsStrictlySortedBy nat_cmp into.new.items) }
+        ensures all { OnOk result (HasEachAt self.now at into.new.items) }
+        ensures err { OnErr result (into.new.items ≡ []) }
+    {
+        look_rising(self.cell, &self.items, &self.large, &self.cells, &at, into)
     }
 }

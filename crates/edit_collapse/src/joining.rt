@@ -18,6 +18,9 @@ use grid_base::{ID_MAX, Items, NoMemory, Point};
 use mesh_base::{Corners, FaceId, Surface, VertexId};
 use std::alloc::Global;
 
+/// A list for the faces at a vertex begins with room for so many, which is enough for most vertices. Only speed depends on it.
+const AROUND: usize = 16;
+
 /// Puts a face with its corners at the end of a list, if it is live and does not hold a vertex.
 fn put_apart<S: Surface>(
     mesh: &S,
@@ -46,7 +49,7 @@ fn only_at<S: Surface>(
     ensures faces { OnOkIs result (only_at (S.mesh mesh.now) v other) }
     ensures few { IfOk result (λ faces. length faces ≤ FACES_MAX) }
 {
-    let mut ids = Vec::new(alloc);
+    let mut ids = Vec::with_capacity(alloc, AROUND)?;
     mesh.faces_at(v, &mut ids)?;
     let mut faces = Items::new(alloc);
     for f in &ids {
@@ -165,7 +168,7 @@ fn drop_gone<S: Surface>(
         OnOk result (S.mesh mesh.new ≡ without_faces m gone) }
     ensures marks { BeginsWith (S.kept mesh.new) (S.kept mesh.old) }
 {
-    let mut ids = Vec::new(alloc);
+    let mut ids = Vec::with_capacity(alloc, AROUND)?;
     mesh.faces_at(a, &mut ids)?;
     for f in &ids {
         drop_unless_left(mesh, left, *f)?;
@@ -281,7 +284,7 @@ fn corners_near<S: Surface>(
 ) -> Result<Items<VertexId>, NoMemory>
     ensures { OnOkIs result (corners_near (S.mesh mesh.now) v) }
 {
-    let mut ids = Vec::new(alloc);
+    let mut ids = Vec::with_capacity(alloc, AROUND)?;
     mesh.faces_at(v, &mut ids)?;
     let mut near = Items::new(alloc);
     for f in &ids {
@@ -295,7 +298,7 @@ fn drop_if_bare<S: Surface>(alloc: Global, mesh: &mut S, v: VertexId) -> Result<
     ensures made { OnOk result (S.mesh mesh.new ≡ without_if_bare (S.mesh mesh.old) v) }
     ensures marks { BeginsWith (S.kept mesh.new) (S.kept mesh.old) }
 {
-    let mut ids = Vec::new(alloc);
+    let mut ids = Vec::with_capacity(alloc, AROUND)?;
     mesh.faces_at(v, &mut ids)?;
     if ids.len() == 0 && mesh.point(v).is_some() {
         mesh.drop_vertex(v)?;

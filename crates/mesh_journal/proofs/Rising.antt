@@ -1,27 +1,24 @@
 -- The faces near a box are those that the boxes lead to and that are near.
 use Rattle.std.proofs.Common.{◌≡◌, ◌≤ℤ◌, ⊎_elim, ℕ, ℤ, int_le, Bool, true, false, T, ◌&&◌, ◌||◌, nat_eq, List, [], ◌∷◌, Option, Some, None, IsSome, is_some, refl, sym, ap, subst, ◌∙◌, arith}
 use Rattle.std.specs.Ordering.{nat_cmp, eq_by_cmp}
-use Rattle.std.specs.Cmp.{unsigned_tied, nat_eq_equiv}
+use Rattle.std.specs.Cmp.{unsigned_tied}
 use Rattle.std.specs.List.{filter, list_any}
 use Rattle.std.specs.List.Sorted.{IsStrictlySortedBy}
 use Rattle.std.specs.Map.{keys_of}
-use Rattle.std.specs.Option.{IsSomeAnd}
+use Rattle.std.specs.Option.{option_map_or}
 use Rattle.std.specs.FinMap as map
 use Rattle.std.specs.FinMap.{entries_sorted, contains_key-keys}
 use Rattle.std.specs.FinMap.Entries.{is_sorted}
 use Rattle.std.proofs.lemmas.Bool.{and_parts, and_from, or_cases, false≢true}
 use Rattle.std.proofs.lemmas.Int.{ints}
 use Rattle.std.proofs.lemmas.List.Kept.{IsStrictlySortedBy-filter}
-use Rattle.std.proofs.lemmas.Map.Keys.{sorted_from_strictly_increasing}
-use Rattle.std.proofs.lemmas.Map.Views.{list_any-from_Contains}
 use Rattle.grid_base.specs.declared.Extent.{Extent}
 use Rattle.grid_base.specs.Triples.{Triple}
-use Rattle.grid_base.specs.Extents.{IsIn, meet_along, overlaps, HaveCommonPoint}
+use Rattle.grid_base.specs.Extents.{IsIn, meet_along, overlaps}
 use Rattle.cell_grid.specs.Filed.{has}
-use Rattle.cell_grid.specs.Overlapping.{overlapping}
+use Rattle.cell_grid.specs.Overlapping.{HasEachAt}
 use Rattle.cell_grid.proofs.Found.{has-filter}
-use Rattle.cell_grid.proofs.Shared.{overlap_common}
-use Rattle.cell_grid.proofs.Listed.{same_rising, overlapping_rises, overlapping_has}
+use Rattle.cell_grid.proofs.Listed.{same_rising}
 use Rattle.mesh_base.specs.declared.ids.Corners.{Corners}
 use Rattle.mesh_base.specs.Mesh.{Mesh}
 use Rattle.mesh_base.specs.Near.{one_at_most, one_at_least, reach_along, box_meets, is_some_near, is_near, is_face_near, faces_near}
@@ -89,37 +86,37 @@ near_corners : (m : Mesh) (at : Extent) (o : Option Corners) → is_some_near m 
 near_corners m at (Some c) h = (c, (refl, h))
 near_corners m at None h = absurd (false≢true h)
 
-common : (b : Boxes) (m : Mesh) (at : Extent) (f : ℕ) (c : Corners) (o : Option Extent) → map.get b f ≡ o → HoldsCorners (Some b) m f c → is_near m at c ≡ true → IsSomeAnd o (λ e. HaveCommonPoint e at)
-common b m at f c (Some e) got h near =
-    (overlap_common e at).0 (near_overlaps e at (rest_positions_doubled m c.first) (rest_positions_doubled m c.second) (rest_positions_doubled m c.third)
-    ((h.first b refl).around e got) ((h.second b refl).around e got) ((h.third b refl).around e got) near)
-common b m at f c None got h near = let there : IsSome (map.get b f) = (h.first b refl).there in absurd (false≢true (sym (ap is_some got) ∙ there))
+has_common : (b : Boxes) (m : Mesh) (at : Extent) (f : ℕ) (c : Corners) (o : Option Extent) → map.get b f ≡ o → HoldsCorners (Some b) m f c → is_near m at c ≡ true → option_map_or (λ e. overlaps e at) o false ≡ true
+has_common b m at f c (Some e) got h near =
+    near_overlaps e at (rest_positions_doubled m c.first) (rest_positions_doubled m c.second) (rest_positions_doubled m c.third)
+    ((h.first b refl).around e got) ((h.second b refl).around e got) ((h.third b refl).around e got) near
+has_common b m at f c None got h near = let there : IsSome (map.get b f) = (h.first b refl).there in absurd (false≢true (sym (ap is_some got) ∙ there))
 
 pub any_alike : (q : ℕ) (ks : List ℕ) → list_any (eq_by_cmp nat_cmp q) ks ≡ has q ks
 any_alike q [] = refl
 any_alike q (k ∷ ks) = ap (λ b. b || list_any (eq_by_cmp nat_cmp q) ks) (unsigned_tied q k) ∙ ap (λ b. (nat_eq q k) || b) (any_alike q ks)
 
-module _ (b : Boxes) (m : Mesh) (at : Extent) (boxed : AreBoxed (Some b) m) where
-  found : (f : ℕ) → is_face_near m at f ≡ true → has f (overlapping b at) ≡ true
+module _ (b : Boxes) (m : Mesh) (at : Extent) (boxed : AreBoxed (Some b) m) (items : List ℕ) (rising : IsStrictlySortedBy nat_cmp items) (each : HasEachAt b at items) where
+  found : (f : ℕ) → is_face_near m at f ≡ true → has f items ≡ true
   found f near =
       let (c, is) = near_corners m at (map.get m.faces f) near in
-      list_any-from_Contains nat_eq_equiv f (overlapping b at) ((overlapping_has b at f).1 (common b m at f c (map.get b f) refl (boxed f c is.0) is.1))
+      each f (has_common b m at f c (map.get b f) refl (boxed f c is.0) is.1)
 
   lives : (f : ℕ) → is_face_near m at f ≡ true → has f (map.keys m.faces) ≡ true
   lives f near =
       let (c, is) = near_corners m at (map.get m.faces f) near in
       sym (contains_key-keys m.faces f ∙ any_alike f (map.keys m.faces)) ∙ ap is_some is.0
 
-  same : (f : ℕ) → (is_face_near m at f && has f (overlapping b at)) ≡ (is_face_near m at f && has f (map.keys m.faces))
-  same f = elim (is_face_near m at f) as (λ x. is_face_near m at f ≡ x → (x && has f (overlapping b at)) ≡ (x && has f (map.keys m.faces))) [
+  same : (f : ℕ) → (is_face_near m at f && has f items) ≡ (is_face_near m at f && has f (map.keys m.faces))
+  same f = elim (is_face_near m at f) as (λ x. is_face_near m at f ≡ x → (x && has f items) ≡ (x && has f (map.keys m.faces))) [
     | true ↦ λ near. found f near ∙ sym (lives f near)
     | false ↦ λ far. refl
   ] refl
 
-  pub near_found : filter (λ f. is_face_near m at f) (overlapping b at) ≡ faces_near m at
+  pub near_found : filter (λ f. is_face_near m at f) items ≡ faces_near m at
   near_found =
       let test : ℕ → Bool = λ f. is_face_near m at f in
-      same_members (filter test (overlapping b at)) (filter test (map.keys m.faces))
-      (IsStrictlySortedBy-filter nat_cmp test (overlapping b at) (sorted_from_strictly_increasing (overlapping b at) (overlapping_rises b at)))
+      same_members (filter test items) (filter test (map.keys m.faces))
+      (IsStrictlySortedBy-filter nat_cmp test items rising)
       (IsStrictlySortedBy-filter nat_cmp test (map.keys m.faces) (keys_sorted (map.entries m.faces) (entries_sorted m.faces)))
-      (λ q. has-filter test q (overlapping b at) ∙ same q ∙ sym (has-filter test q (map.keys m.faces)))
+      (λ q. has-filter test q items ∙ same q ∙ sym (has-filter test q (map.keys m.faces)))

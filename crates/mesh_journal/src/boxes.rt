@@ -50,19 +50,16 @@ pub(crate) fn box_of<B: Surface>(mesh: &B, c: [VertexId; 3]) -> Extent
     )
 }
 
-/// The boxes with that of a face set; None where memory is wanting.
-pub(crate) fn with_box(boxes: Option<Grid>, f: FaceId, around: Extent) -> Option<Grid>
-    ensures at { (p : Triple) → IsIn around p → Holds result f p }
-    ensures others { (q : ℕ) (p : Triple) → q ≢ f → Holds boxes q p → Holds result q p }
+/// Sets the box of a face, where there are boxes. Where memory is wanting, the boxes are given up.
+pub(crate) fn set_box(boxes: &mut Option<Grid>, f: FaceId, around: Extent)
+    ensures at { (p : Triple) → IsIn around p → Holds boxes.new f p }
+    ensures others { (q : ℕ) (p : Triple) → q ≢ f → Holds boxes.old q p → Holds boxes.new q p }
 {
-    match boxes {
-        Some(mut grid) => {
-            match grid.insert(u64::from(f.0), around) {
-                Ok(()) => Some(grid),
-                Err(_) => None,
-            }
+    if let Some(grid) = boxes {
+        if let Ok(()) = grid.insert(u64::from(f.0), around) {
+            return;
         }
-        None => None,
+        *boxes = None;
     }
 }
 
@@ -79,15 +76,11 @@ pub(crate) fn wider_box(grid: &Grid, f: FaceId, p: Wide) -> Extent
     }
 }
 
-/// The boxes without that of a face.
-pub(crate) fn without_box(boxes: Option<Grid>, f: FaceId) -> Option<Grid>
-    ensures { (q : ℕ) (p : Triple) → q ≢ f → Holds boxes q p → Holds result q p }
+/// Takes out the box of a face, where there are boxes.
+pub(crate) fn unset_box(boxes: &mut Option<Grid>, f: FaceId)
+    ensures { (q : ℕ) (p : Triple) → q ≢ f → Holds boxes.old q p → Holds boxes.new q p }
 {
-    match boxes {
-        Some(mut grid) => {
-            let _ = grid.remove(u64::from(f.0));
-            Some(grid)
-        }
-        None => None,
+    if let Some(grid) = boxes {
+        let _ = grid.remove(u64::from(f.0));
     }
 }

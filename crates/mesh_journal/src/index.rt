@@ -7,7 +7,7 @@ ghost use Rattle.grid_base.specs.Extents.{IsIn};
 ghost use Rattle.mesh_base.specs.Sides.{faces_at};
 ghost use Rattle.mesh_journal.specs.Boxed.{Boxes, Holds, AreBoxed};
 
-use crate::boxes::{wider_box, with_box, without_box};
+use crate::boxes::{set_box, unset_box, wider_box};
 use crate::building::{boxes_of, cell_for, longest_side};
 use crate::entries::Entry;
 use cell_grid::Grid;
@@ -92,7 +92,7 @@ impl Index {
             → Holds self.old.grid q p → Holds self.new.grid q p }
         ensures since { self.new.since ≡ self.old.since }
     {
-        self.grid = with_box(self.grid.take(), f, around);
+        set_box(&mut self.grid, f, around);
     }
 
     /// Makes the box of a face wide enough for a position. Where memory is wanting, the boxes are given up.
@@ -107,7 +107,7 @@ impl Index {
             None => return,
         };
         self.note_widened(&around);
-        self.grid = with_box(self.grid.take(), f, around);
+        set_box(&mut self.grid, f, around);
     }
 
     /// Makes the boxes of faces wide enough for a position.
@@ -165,7 +165,7 @@ impl Index {
         if let Some(_) = mesh.corners(f) {
             return;
         }
-        self.grid = without_box(self.grid.take(), f);
+        unset_box(&mut self.grid, f);
     }
 
     /// Takes out the box of a face that the entry dropped and that is not live.

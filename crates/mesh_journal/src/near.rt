@@ -10,6 +10,9 @@ use grid_base::{Extent, NoMemory};
 use mesh_base::{FaceId, FaceTable, is_face_near};
 use std::alloc::Global;
 
+/// A list for what the grid finds begins with room for so many, which is enough for most questions. Only speed depends on it.
+const FOUND: usize = 64;
+
 /// The item as a face, where it is one near the extent.
 fn near_face<T: FaceTable>(table: &T, at: &Extent, item: u64) -> Option<FaceId>
     requires { IsSound (T.mesh table.now) }
@@ -70,8 +73,8 @@ fn put_found<T: FaceTable>(
     requires empty { into.old.items ≡ [] }
     ensures { OnOk result (into.new.items ≡ faces_near (T.mesh table.now) at.now) }
 {
-    let mut found = Vec::new(alloc);
-    grid.overlapping(*at, &mut found)?;
+    let mut found = Vec::with_capacity(alloc, FOUND)?;
+    grid.near(*at, &mut found)?;
     put_near(table, at, &found, into)
 }
 

@@ -10,4 +10,4 @@ returns g c =
     let m = g.T.FaceTable.mesh c.args.table.now in
     let at = c.args.at.now in
     let test : ℕ → _ = λ f. is_face_near m at f in
-    on_ok c.put_near.result (λ h. h ∙ ap (λ xs. xs ++ filter test c.deref.result.now) c.requires.empty ∙ ap (λ xs. filter test xs) (c.deref.ensures.value ∙ c.in_ok-overlapping.ensures.ok) ∙ near_found c.args.grid.now m at c.requires.boxed) c.put_near.ensures
+    on_ok c.put_near.result (λ h. h ∙ ap (λ xs. xs ++ filter test c.deref.result.now) c.requires.empty ∙ ap (λ xs. filter test xs) c.deref.ensures.value ∙ near_found c.args.grid.now m at c.requires.boxed c.near.new.into.items c.in_ok-near.ensures.rising c.in_ok-near.ensures.all) c.put_near.ensures
