@@ -13,6 +13,7 @@ mod log_watch;
 mod names;
 mod rounding;
 mod shipped;
+mod stored_lists;
 mod texts;
 mod user_desk;
 mod warning;

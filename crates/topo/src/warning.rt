@@ -4,6 +4,7 @@ ghost use Rattle.grid_base.specs.declared.TheConstants.{TEXT_MAX};
 
 use crate::names::Names;
 use crate::rounding::{lists_in, rounded};
+use crate::stored_lists::stored_lists_in;
 use crate::texts::Texts;
 use grid_base::TEXT_MAX;
 use mesh_base::MeshLists;
@@ -94,7 +95,7 @@ where
     R::File: TryLock,
 {
     let bytes = stored_bytes(alloc, rt, stored)?;
-    lists_in(alloc, names.stored, bytes.as_slice(), names.decimals)
+    stored_lists_in(alloc, names.stored, bytes.as_slice(), names.decimals)
 }
 
 // The warnings that the mesh which was stored last gives; where that is not to be had, those of the mesh that was read.
