@@ -45,6 +45,16 @@ def closed_pipe():
     return writing
 
 
+def pieces_of(words, folder):
+    """What a program writes to standard output, a piece for each call by which it is written."""
+    reading, writing = os.pipe2(os.O_DIRECT)
+    with subprocess.Popen(words, cwd=folder, stdout=writing, stderr=subprocess.DEVNULL, **NOBODY):
+        os.close(writing)
+        pieces = list(iter(lambda: os.read(reading, 1 << 16), b""))
+    os.close(reading)
+    return [piece.decode(errors="replace") for piece in pieces]
+
+
 def small_device(folder):
     """A full device in a folder: the mesh, the steps, and no room for more. False where nothing can be mounted."""
     os.mkdir(folder)
@@ -409,13 +419,17 @@ def main():
         shown = status == 0 and proof.endswith("\nend\n") and told.startswith("\r256 lines of the log are taken") and told.endswith("\r\x1b[K")
         print(("ok     " if shown else "FAILED ") + "a terminal for standard error alone: it tells how much of a log is proved, and is wiped" + ("" if shown else f"; {told!r}"))
         failed += not shown
+        pieces = pieces_of([at("topo"), "track", "mesh.obj", "steps.txt", "open/t"], folder)
+        apart = pieces == LOG.splitlines(keepends=True)
+        print(("ok     " if apart else "FAILED ") + "a pipe that keeps calls apart: each line of the log is written by one" + ("" if apart else f"; {pieces!r}"))
+        failed += not apart
         further = [(it[0], said_as_due(at("topo"), it)) for it in TOLD]
         further.append(("files that other runs left or are writing", left_behind(at("topo"))))
         further.append(("a file past the limit of the system", past_the_limit(at("topo"))))
         for what, wrong in further:
             print(f"FAILED {what}: {wrong}" if wrong else f"ok     {what}")
             failed += wrong is not None
-    print(f"{len(cases) + 3 + len(further) - failed} as they should be, {failed} not")
+    print(f"{len(cases) + 4 + len(further) - failed} as they should be, {failed} not")
     sys.exit(1 if failed else 0)
 
 

@@ -1,10 +1,10 @@
 -- What is made of the scaffold of a done edit.
-use Rattle.std.specs.Prelude.{◌≡◌, ⊤, ℕ, List, IsNone, Result, Ok, Err}
+use Rattle.std.specs.Prelude.{◌≡◌, ⊤, ℕ, List, [], IsNone, Result, Ok, Err}
 use Rattle.std.proofs.Common.{Option, Some, None}
 use Rattle.grid_base.specs.declared.NoMemory.{NoMemory}
 use Rattle.grid_decided.specs.Decided.{meets_exactly}
 use Rattle.mesh_base.specs.Mesh.{Mesh}
-use Rattle.mesh_plain.specs.Plain.{mesh_in}
+use Rattle.mesh_plain.specs.Plain.{mesh_in, kept_in}
 use Rattle.edit_base.specs.declared.Asked.{Asked}
 use Rattle.edit_base.specs.declared.Change.{Change}
 use Rattle.edit_base.specs.declared.Edit.TheVariants.{Done}
@@ -47,6 +47,11 @@ IsTestedOn (Some s) m moves when = ArePartsOf s m moves when
 abbrev pub IsMade : Option edits.Scaffold → Option Scaffold → Type 0
 IsMade scaffold None = IsNone scaffold
 IsMade scaffold (Some made) = IsTestedOn scaffold (mesh_in made.mesh) made.ways made.claim
+
+-- the mesh that is made, where one is, has no mesh kept behind it
+abbrev pub HasNothingKept : Option Scaffold → Type 0
+HasNothingKept None = ⊤
+HasNothingKept (Some made) = kept_in made.mesh ≡ []
 
 -- the mesh before is made that of the edit's scaffold, where that has one, and else it stays
 abbrev pub IsLaid : Option edits.Scaffold → Mesh → Mesh → Option Laid → Type 0

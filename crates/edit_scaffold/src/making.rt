@@ -4,7 +4,7 @@ ghost use Rattle.mesh_base.specs.Mesh.{Mesh};
 ghost use Rattle.mesh_base.specs.Sides.{IsClosed};
 ghost use Rattle.edit_any.specs.Dispatch.{scaffold_of};
 ghost use Rattle.motion_proof.specs.Acceptance.{AreWays};
-ghost use Rattle.edit_scaffold.specs.Made.{IsDone, IsMade, IsLaid, OnLaid, KeepsUnlessLaid};
+ghost use Rattle.edit_scaffold.specs.Made.{IsDone, IsMade, HasNothingKept, IsLaid, OnLaid, KeepsUnlessLaid};
 
 use crate::putting::put;
 use crate::scaffold::{Laid, Scaffold};
@@ -34,13 +34,15 @@ pub fn scaffold_of<S: Surface>(
 ) -> Result<Option<Scaffold>, NoMemory>
     requires closed { IsClosed (S.mesh mesh.now) }
     requires done { IsDone (S.mesh mesh.now) change.now }
-    ensures { IfOk result (λ made. IsMade (scaffold_of (S.mesh mesh.now) change.now) made) }
+    ensures made { IfOk result (λ made. IsMade (scaffold_of (S.mesh mesh.now) change.now) made) }
+    ensures kept { IfOk result HasNothingKept }
 {
     if moves_nothing(change) {
         return Ok(None);
     }
     let mut copy = PlainMesh::copy_of(alloc, mesh)?;
     let motion = put(alloc, &mut copy, change)?;
+    copy.settle();
     Ok(Some(Scaffold {
         mesh: copy,
         ways: motion.ways,

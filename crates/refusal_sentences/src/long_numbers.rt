@@ -1,9 +1,14 @@
 // Numbers of a text that a grid may not hold.
+ghost use Rattle.std.specs.Prelude.{◌≡◌};
+ghost use Rattle.refusal_sentences.specs.LongNumbers.{has_long_number};
+
 use memchr::memchr3;
 
 /// Whether a text has a number with more than so many digits behind its point, or with an exponent. Where it has none, each of its numbers
 /// lies on a grid of so many decimals. It looks at bytes alone, and so also at those of a comment.
-pub fn has_long_number(bytes: &[u8], decimals: u8) -> bool {
+pub fn has_long_number(bytes: &[u8], decimals: u8) -> bool
+    ensures { result ≡ has_long_number decimals bytes.now }
+{
     if memchr3(b'.', b'e', b'E', bytes).is_none() {
         return false;
     }

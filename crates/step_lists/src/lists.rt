@@ -88,11 +88,6 @@ impl StepLists {
         }
     }
 
-    /// Whether a list is kept.
-    pub fn has_list(&self) -> bool {
-        self.kept.is_some()
-    }
-
     /// The list that is kept, if the mesh has the faces and the vertices of which it was made. What is tried in a step asks it
     /// again and again, and the mesh is compared with it once. Refuses only where there is no memory.
     pub fn of_mesh<S: Surface>(&self, alloc: Global, mesh: &S) -> Result<ListOfMesh<'_>, NoMemory>

@@ -131,7 +131,6 @@ fn a_list_is_kept_from_step_to_step(rt: HostRuntime) -> Result<(), Fail> {
         let hits = lists.asked_hits(rt.alloc(), &mesh, &by, 4)?;
         let all = failing(rt.alloc(), &mesh, &by, 4)?;
         assert_eq!(rt; hits.as_slice(), all.as_slice());
-        assert_eq!(rt; lists.has_list(), has_list, "step {k}");
         let near = lists.of_mesh(rt.alloc(), &mesh)?;
         assert_eq!(rt; near.kept.is_some(), has_list, "step {k}");
         let found = near.failing(rt.alloc(), &mesh, &by, 4)?;

@@ -2,7 +2,7 @@
 use Rattle.std.specs.Prelude.{◌≡◌, ◌≢◌, ◌≤◌, ◌<◌, ◌↔◌, ◌⊎◌, ℕ, true, Option, Some, None, Ok, Err}
 use Rattle.std.specs.Prelude.{List, [], ◌∷◌, ◌++◌, length, drop, map}
 use Rattle.std.specs.FinMap as finite
-use Rattle.grid_base.specs.declared.TheConstants.{DEPTH_MAX, HALVINGS_MAX, TEXT_MAX, VERTICES_MAX}
+use Rattle.grid_base.specs.declared.TheConstants.{DEPTH_MAX, HALVINGS_MAX, TEXT_MAX, VERTICES_MAX, FACES_MAX}
 use Rattle.line_text.specs.declared.TextFault.{TextFault}
 use Rattle.mesh_base.specs.Mesh.{Mesh}
 use Rattle.mesh_base.specs.Valid.{IsValidSurface}
@@ -295,8 +295,9 @@ pub record HasMade (points : List GivenPoint) (faces : List GivenFace) (new : Op
   -- 2: the fault is the first that they have
   pub refused : code ≡ 2 →
       (why : MakeFault) × (make_fault points faces ≡ Some why) × (after ≡ make_place why)
-  -- and that is so, without memory, where there are too many points
+  -- and that is so, without memory, where there are too many points, or too many faces
   pub crowded : VERTICES_MAX < length points → code ≡ 2
+  pub crowded_faces : FACES_MAX < length faces → code ≡ 2
   -- but at 0 the handle holds none, and only a refusal sets the fault
   pub none : code ≢ 0 → new ≡ None
   pub fault : code ≢ 2 → after ≡ before

@@ -8,7 +8,7 @@ use Rattle.grid_base.specs.declared.Point.{Point}
 use Rattle.grid_base.specs.Triples.{Triple}
 use Rattle.grid_base.specs.Points.{point_at, is_within}
 use Rattle.grid_decided.specs.Decided.{meets_exactly}
-use Rattle.mesh_base.specs.declared.ShapeFault.TheVariants.{TooManyVertices}
+use Rattle.mesh_base.specs.declared.ShapeFault.TheVariants.{TooManyVertices, TooManyFaces}
 use Rattle.mesh_base.specs.Mesh.{Mesh}
 use Rattle.mesh_base.specs.Given.{Faces, mesh_of}
 use Rattle.mesh_base.specs.Placements.{rest_positions}
@@ -50,6 +50,10 @@ abbrev pub crowd_fault : List GivenPoint → Option MakeFault
 crowd_fault points =
     if nat_lt VERTICES_MAX (length points) then Some (Shape (TooManyVertices (length points)))
     else None
+
+-- there are more faces than may live
+abbrev pub too_many_faces : ℕ → MakeFault
+too_many_faces count = Shape (TooManyFaces count)
 
 -- the first pair of a mesh that meets: an edge, and a face that shares no vertex with it
 abbrev pub meet_fault : Mesh → Option MakeFault

@@ -1,18 +1,18 @@
 //! A tracker is made of points and faces.
-ghost use Rattle.std.specs.Prelude.{◌≡◌, ◌≤◌, ◌<◌, true, false, None, map, length, IfOk, IfErr, IsOk, []};
-ghost use Rattle.grid_base.specs.declared.TheConstants.{VERTICES_MAX};
+ghost use Rattle.std.specs.Prelude.{◌≡◌, ◌≤◌, ◌<◌, true, false, None, map, length, unwrap_or, IfOk, IfErr, IsOk, []};
+ghost use Rattle.grid_base.specs.declared.TheConstants.{VERTICES_MAX, FACES_MAX};
 ghost use Rattle.mesh_base.specs.Given.{mesh_of};
 ghost use Rattle.mesh_base.specs.Valid.{IsValidSurface};
 ghost use Rattle.mesh_journal.specs.Journal.{mesh_in, kept_in};
 ghost use Rattle.track_engine.specs.Engines.{state_in};
 ghost use Rattle.track_engine.specs.State.{unsaved};
-ghost use Rattle.track_held.specs.Given.{point_in, face_in, given_mesh, is_outside, box_fault, lists_fault, make_fault, IsRefusal, IsFaulty};
+ghost use Rattle.track_held.specs.Given.{point_in, face_in, given_mesh, is_outside, box_fault, too_many_faces, lists_fault, make_fault, IsRefusal, IsFaulty};
 ghost use Rattle.track_held.specs.Held.{engine_in, log_in, goes_on};
 ghost use Rattle.track_held.specs.declared.making.MakeRefusal.TheVariants as refusals;
 
 use crate::given::{GivenFace, GivenPoint};
 use crate::held::Held;
-use grid_base::{BOX, NoMemory, Point, VERTICES_MAX};
+use grid_base::{BOX, FACES_MAX, NoMemory, Point, VERTICES_MAX};
 use mesh_base::{MeshLists, PairName, Points, ShapeFault, ShapeRefusal, Triangles};
 use mesh_journal::JournalMesh;
 use mesh_plain::shape;
@@ -85,6 +85,21 @@ fn points_of(alloc: Global, given: &[GivenPoint]) -> Result<Points, MakeRefusal>
     Ok(points)
 }
 
+// The fault of points with more faces than may live: a point that is not in the box, the first, goes before their number.
+fn crowded_fault(given: &[GivenPoint], count: u64) -> MakeFault
+    requires few { length given.now ≤ VERTICES_MAX }
+    ensures { result ≡ unwrap_or (box_fault given.now) (too_many_faces count) }
+{
+    let mut number: u32 = 1;
+    for p in given {
+        if is_outside(p) {
+            return MakeFault::Outside { number };
+        }
+        number += 1;
+    }
+    MakeFault::Shape(ShapeFault::TooManyFaces { count })
+}
+
 // The faces.
 fn faces_of(alloc: Global, given: &[GivenFace]) -> Result<Triangles, NoMemory>
     ensures { IfOk result (λ faces. faces ≡ map face_in given.now) }
@@ -135,13 +150,18 @@ pub fn track(
     ensures valid { IsOk result → IsValidSurface (given_mesh points.now faces.now) }
     ensures none { IsOk result → make_fault points.now faces.now ≡ None }
 
-    // Refused for a fault: the first. Too many points are refused without memory.
+    // Refused for a fault: the first. Too many points, and too many faces, are refused without memory.
     ensures first { IfErr result (IsRefusal (make_fault points.now faces.now)) }
     ensures crowded { VERTICES_MAX < length points.now → IsFaulty result }
+    ensures crowded_faces { FACES_MAX < length faces.now → IsFaulty result }
 {
     if points.len() > VERTICES_MAX as usize {
         let count = points.len() as u64;
         let fault = MakeFault::Shape(ShapeFault::TooManyVertices { count });
+        return Err(MakeRefusal::Fault(fault));
+    }
+    if faces.len() > FACES_MAX as usize {
+        let fault = crowded_fault(points, faces.len() as u64);
         return Err(MakeRefusal::Fault(fault));
     }
     let points = match points_of(alloc, points) {

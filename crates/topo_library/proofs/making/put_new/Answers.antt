@@ -16,6 +16,7 @@ returns-in-Ok-new c = record {
   );
   refused = λ h. absurd (omega (arith, h));
   crowded = λ many. absurd (c.in-Ok.ensures.crowded many);
+  crowded_faces = λ many. absurd (c.in-Ok.ensures.crowded_faces many);
   none = λ h. absurd (h refl);
   fault = λ _. refl;
   among = search rules;
