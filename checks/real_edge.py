@@ -101,6 +101,7 @@ CROWDED = "v 0 0 0\nv 4 0 0\nv 0 4 0\nv 0 0 4\nv 0 -4 0\nv 0 0 -4\n" + "".join(
 )
 OPPOSITE = "v 0 0 0\nv 4 0 0\nv 0 4 0\nf 1 2 3\nf 1 3 2\n"
 ROUNDED = MESH.replace("v 4 0 0", "v 4.25 0 0")
+SEVEN = MESH.replace("v 4 0 0", "v 4.1234567 0 0")
 MOVED = "v 1 2 3\nv 5 2 3\nv 1 6 3\nv 1 2 7\n" + MESH[MESH.index("f") :]
 FILES = ["track", "m", "s", "t"]
 NUMBERS = ["try", "1", "0"]
@@ -121,9 +122,15 @@ TOLD = [
     ("the same, where such a file is there", ["convert", "h.obj", "h.obj"], None, 0, ["it is kept as h.obj.before-2"], [],
      {"h.obj": ROUNDED, "h.obj.before": "mine"}, {"h.obj": MESH, "h.obj.before": "mine", "h.obj.before-2": ROUNDED}),
     ("a mesh that is written onto itself", ["convert", "h.obj", "h.obj"], None, 0, ["h.obj was read and is overwritten"], ["kept"],
-     {"h.obj": COMMENTED}, {"h.obj": MESH, "h.obj.before": None}),
+     {"h.obj": MESH}, {"h.obj": MESH, "h.obj.before": None}),
+    ("a mesh with a comment that is written onto itself", ["convert", "h.obj", "h.obj"], None, 0,
+     ["h.obj was read and is overwritten: as it was, it is kept as h.obj.before"], [], {"h.obj": COMMENTED}, {"h.obj": MESH, "h.obj.before": COMMENTED}),
+    ("a mesh of seven digits that is written onto itself", ["convert", "h.obj", "h.obj", "--decimals", "6"], None, 0,
+     ["h.obj was read and is overwritten: as it was, it is kept as h.obj.before"], [], {"h.obj": SEVEN}, {"h.obj.before": SEVEN}),
     ("a mesh under the name of the first that is stored", ["track", "own-000000.obj", "s", "own"], None, 0, ["own-000000.obj was read and is overwritten"],
-     ["kept"], {"own-000000.obj": COMMENTED, "s": STEPS}, {"own-000000.obj": MESH, "own-000000.obj.before": None}),
+     ["kept"], {"own-000000.obj": MESH, "s": STEPS}, {"own-000000.obj": MESH, "own-000000.obj.before": None}),
+    ("the same with a comment", ["track", "own-000000.obj", "s", "own"], None, 0, ["it is kept as own-000000.obj.before"],
+     [], {"own-000000.obj": COMMENTED, "s": STEPS}, {"own-000000.obj": MESH, "own-000000.obj.before": COMMENTED}),
     ("steps under the name of the first that is stored", ["track", "m", "./own-000000.obj", "own"], None, 0,
      ["own-000000.obj was read and is overwritten: as it was, it is kept as own-000000.obj.before"], [], {"m": MESH, "own-000000.obj": STEPS},
      {"own-000000.obj": MESH, "own-000000.obj.before": STEPS}),

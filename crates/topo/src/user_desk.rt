@@ -17,8 +17,8 @@ use std::io::ErrorKind;
 use std::rt::Files;
 
 /// A desk, as of the files of the system, and a second one, on which is put what would be lost. Before a store takes the place of a text
-/// that was read, that is told on standard error, and the text is kept on the second desk under another name where the mesh that is stored
-/// does not have what it had: a coordinate that is rounded, or all where it was no mesh.
+/// that was read, that is told on standard error, and the text is kept on the second desk under another name, unless what is stored is the
+/// same, byte for byte.
 #[derive(Drop)]
 pub(crate) struct UserDesk<'a, 'w, R: Files, D, S> {
     alloc: Global,
@@ -63,25 +63,33 @@ struct Spared {
     warning: String,
 }
 
-// What the stored mesh does not have of a text: nothing that counts, coordinates that are rounded, in this sentence, or nearly all, as of
-// steps.
+// What a store takes of a text: nothing, where it stores the same bytes; coordinates that are rounded, in this sentence, and what else the
+// text had, such as comments; or what cannot be told, as of steps or of colours.
 #[derive(Drop)]
 enum Loss {
     Nothing,
     Rounded(String),
-    All,
+    Other,
 }
 
-// The loss of a text by a store.
-fn loss_of(alloc: Global, names: Option<Names<'_>>, text: &Text) -> Result<Loss, AllocError> {
+// The loss of a text by a store of these bytes.
+fn loss_of(
+    alloc: Global,
+    names: Option<Names<'_>>,
+    text: &Text,
+    bytes: &[u8],
+) -> Result<Loss, AllocError> {
+    if text.bytes.as_slice() == bytes {
+        return Ok(Loss::Nothing);
+    }
     match names {
         Some(names) if names.mesh == text.name.as_str() => {
             match rounded(alloc, names.format, text.bytes.as_slice(), names.decimals)? {
                 Some(said) => Ok(Loss::Rounded(said)),
-                None => Ok(Loss::Nothing),
+                None => Ok(Loss::Other),
             }
         }
-        _ => Ok(Loss::All),
+        _ => Ok(Loss::Other),
     }
 }
 
@@ -92,8 +100,9 @@ fn plan_for<R: Files>(
     names: Option<Names<'_>>,
     text: &Text,
     name: &str,
+    bytes: &[u8],
 ) -> Result<Spared, AllocError> {
-    let loss = loss_of(alloc, names, text)?;
+    let loss = loss_of(alloc, names, text, bytes)?;
     if let Loss::Nothing = loss {
         let warning = overwriting_warning(alloc, name, None, None)?;
         return Ok(Spared {
@@ -158,8 +167,9 @@ impl<'a, 'w, R: Files + Eprint, D: ExactDesk, S: ExactDesk> UserDesk<'a, 'w, R, 
         let _ = self.texts.keep(self.alloc, name, path, bytes);
     }
 
-    // Sees that a text that was read and has this name now is not lost by a store: it is told, and the text is kept where it has to be.
-    fn spare(&mut self, name: &str) -> Result<(), StoreFault>
+    // Sees that a text that was read and has this name now is not lost by a store of these bytes: it is told, and the text is kept unless
+    // they are its own.
+    fn spare(&mut self, name: &str, bytes: &[u8]) -> Result<(), StoreFault>
         ensures files { self.new.files ≡ self.old.files }
         ensures later { S.faults self.old.spared ≤ S.faults self.new.spared }
         ensures failed { IsErrOf result StoreFault.Failed →
@@ -173,7 +183,7 @@ impl<'a, 'w, R: Files + Eprint, D: ExactDesk, S: ExactDesk> UserDesk<'a, 'w, R, 
         let Some(text) = self.texts.from_path(path.as_str()) else {
             return Ok(());
         };
-        match plan_for(self.alloc, self.rt, self.names, text, name) {
+        match plan_for(self.alloc, self.rt, self.names, text, name, bytes) {
             Err(_) => Err(StoreFault::NoMemory),
             Ok(Spared { kept, warning }) => {
                 if let Some(kept) = kept {
@@ -243,7 +253,7 @@ impl<'a, 'w, R: Files + Eprint, D: ExactDesk, S: ExactDesk> Desk for UserDesk<'a
         ensures none { ¬ IsErrOf result StoreFault.Failed →
             faults_of_both (D.faults self.new.files) (S.faults self.new.spared) ≡ faults_of_both (D.faults self.old.files) (S.faults self.old.spared) }
     {
-        self.spare(name)?;
+        self.spare(name, bytes)?;
         self.files.store_exactly(name, bytes)?;
         self.note(name);
         Ok(())
