@@ -4,7 +4,7 @@
     examples/view/view.py PREFIX [--log FILE] [--colours MESH] [--steps N] [--up y] [-o view.html]
 
 Shows PREFIX-000000.obj and so on. With the log of the job, colours are carried along by it, as examples/carry.py does, and the lines of the log that led
-to a mesh stand beside it; a row of more than six lines of one kind is cut. The colours are those of the lines `v X Y Z R G B` of MESH (0 to 1), the mesh
+to a mesh stand beside it; a row of more than four lines of one kind is cut. The colours are those of the lines `v X Y Z R G B` of MESH (0 to 1), the mesh
 that the job read, and where they are not given each piece of mesh 0 has one. Exit status 1 where a file is not there or a mesh is not that of the log.
 """
 import argparse
@@ -25,18 +25,19 @@ from replay import read, read_mesh, text_of  # noqa: E402
 
 PALETTE = [(0.36, 0.62, 0.86), (0.93, 0.52, 0.25), (0.45, 0.75, 0.42), (0.85, 0.40, 0.55), (0.60, 0.50, 0.82), (0.86, 0.75, 0.30)]
 # of a row of lines of one kind that is longer, so many are shown
-ROW = 6
+ROW = 4
 
 
 def pieces(mesh):
     """A colour for each vertex: one for each piece of the surface."""
-    piece = {}
+    piece, number = {}, 0
     for first in sorted(mesh.points):
-        found, number = [first], len(set(piece.values()))
-        while first not in piece and found:
+        found = [] if first in piece else [first]
+        number += first not in piece
+        while found:
             v = found.pop()
             if v not in piece:
-                piece[v] = number
+                piece[v] = number - 1
                 found += [w for f in mesh.faces_at[v] for w in mesh.faces[f]]
     return {v: PALETTE[number % len(PALETTE)] for v, number in piece.items()}
 
@@ -71,7 +72,7 @@ def shown(name, mesh, colours, log, up):
     rank = {v: number for number, v in enumerate(mesh.points)}
     points = [(x, z, -y) if up == "z" else (x, y, z) for x, y, z in mesh.points.values()]
     faces = [rank[v] for corners in mesh.faces.values() for v in corners]
-    return {"name": name, "points": points, "faces": faces, "colours": [round(255 * c) for v in mesh.points for c in colours[v]], "log": log}
+    return {"name": os.path.basename(name), "points": points, "faces": faces, "colours": [round(255 * c) for v in mesh.points for c in colours[v]], "log": log}
 
 
 def meshes(words, names):
