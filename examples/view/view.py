@@ -50,12 +50,13 @@ def decimals_of(text):
 
 def lines_before(log):
     """The lines of a log that led to each mesh that it saves, by its number; behind the last one, the rest."""
-    parts, lines = {}, []
+    parts, lines, last = {}, [], None
     for line in log.split("\n"):
         lines.append(line)
         if line.startswith("mesh "):
             last, parts[int(line.split()[1])], lines = int(line.split()[1]), lines, []
-    parts[last] += lines
+    if last is not None:
+        parts[last] += lines
     return {number: shortened(its) for number, its in parts.items()}
 
 
