@@ -106,6 +106,13 @@ class TopoError(Exception):
         return f"{self.call}: {words.format(a=a, b=b, c=c)}"
 
 
+def library_here():
+    """Where the library is, if nothing is said of it: beside this file, as it is installed, or where library/build puts it."""
+    here = os.path.dirname(os.path.abspath(__file__))
+    beside = os.path.join(here, "libtopo.so")
+    return beside if os.path.exists(beside) else os.path.join(here, "out/libtopo.so")
+
+
 def load(path):
     """The library at a path, which has the calls that are called here."""
     library = ctypes.CDLL(path)
@@ -232,8 +239,7 @@ class Tracker:
     `leave` told of another, which goes on with its ids. Freed at the end of a `with` block, or by `free`."""
 
     def __init__(self, points, faces=(), unit=1.0, origin=(0.0, 0.0, 0.0), library=None):
-        path = os.path.join(os.path.dirname(os.path.abspath(__file__)), "out/libtopo.so")
-        self.library, self.thread = load(library or os.environ.get("TOPO_LIBRARY", path)), threading.get_ident()
+        self.library, self.thread = load(library or os.environ.get("TOPO_LIBRARY") or library_here()), threading.get_ident()
         self.handle, self.fault, self.way, self.edits, self.kept = Handle(), Fault(), Way(), Edits(), u32()
         self.unit, self.origin, self.rounded = real(unit, "the unit"), tuple(real(c, "the origin") for c in row_of(origin, 3, "the origin")), 0.0
         if not self.unit > 0:
