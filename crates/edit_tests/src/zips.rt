@@ -146,7 +146,7 @@ fn a_refused_zip_leaves_the_mesh(rt: HostRuntime) -> Result<(), Fail> {
         );
         assert_eq!(rt;
             (mesh.next_vertex() as usize, mesh.next_face() as usize),
-            (points.len() + 1, faces.len() + 1)
+            (points.len().wrapping_add(1), faces.len().wrapping_add(1))
         );
     }
     Ok(())
