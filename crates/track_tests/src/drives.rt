@@ -1,13 +1,45 @@
 //! Runs with stored fields: at which points a field is asked, what its answers do, and which names are refused.
-use crate::runs::{MESH, ends_so};
+use arrayvec::ArrayVec;
+use grid_base::{BOX, Point, Shift};
+use mesh_field::Fields;
+use mesh_plain::FieldName;
+use mesh_sizing::{Band, Sizing};
+use outside_io::{MemoryDesk, MemorySink};
 use std::alloc::Global;
 use std::process::Abort;
 use std::test::Fail;
+use track_run::run;
 
-// The log of the steps.
+// A tetrahedron.
+const MESH: &[u8] = b"v 0 0 0\nv 4 0 0\nv 0 4 0\nv 0 0 4\nf 1 3 2\nf 1 2 4\nf 2 3 4\nf 1 4 3\n";
+
+// The log of the steps, where the field `away` answers with the point itself, and so doubles it.
 fn logs(rt: &impl Abort, alloc: Global, steps: &str, lines: &str, status: u8) -> Result<(), Fail> {
-    let end = format!(in alloc; "mesh 0 4 4\n{lines}")?;
-    ends_so(rt, alloc, MESH, steps.as_bytes(), status, end.as_str())
+    let mut names = ArrayVec::new();
+    names.push(FieldName::new(b"away").ok_or("a name")?);
+    let fields = Fields::new(
+        names,
+        BOX,
+        |_which: u8, at: Point| Shift {
+            x: at.x,
+            y: at.y,
+            z: at.z,
+        },
+    );
+    let sizing = Sizing::new(|_at: Point| Band { low: 1, high: 2 });
+    let mut words = Vec::new(alloc);
+    for word in ["track", "mesh.obj", "steps.txt", "t"] {
+        words.push(String::from_str(alloc, word)?)?;
+    }
+    let mut desk = MemoryDesk::new(alloc, Vec::new(alloc), Vec::new(alloc));
+    desk.put("mesh.obj", MESH)?;
+    desk.put("steps.txt", steps.as_bytes())?;
+    let mut out = MemorySink::new(alloc, 10_000, Vec::new(alloc))?;
+    let outcome = run(alloc, &words, &mut desk, &mut out, &fields, &sizing);
+    let log = format!(in alloc; "topo log 2\nmesh 0 4 4\n{lines}")?;
+    assert_eq!(rt; out.bytes(), log.as_bytes(), "{steps}");
+    assert_eq!(rt; outcome.status(), status, "{steps}");
+    Ok(())
 }
 
 #[test]

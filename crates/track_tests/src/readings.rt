@@ -115,7 +115,7 @@ fn words_are_read_as_commands(rt: HostRuntime) -> Result<(), Fail> {
 #[test]
 fn words_of_no_form_are_no_command(rt: HostRuntime) -> Result<(), Fail> {
     let alloc = rt.alloc();
-    let table: [&[&str]; 39] = [
+    let table: [&[&str]; 32] = [
         &[],
         &["track"],
         &["Track", "m", "s", "p"],
@@ -129,13 +129,6 @@ fn words_of_no_form_are_no_command(rt: HostRuntime) -> Result<(), Fail> {
         &["track", "m", "s", "p", "--decimals", "03"],
         &["track", "m", "s", "p", "--decimal", "3"],
         &["track", "m", "s", "p", "--decimals", "3", "--decimals", "3"],
-        &["convert", "t.OBJ", "t.off"],
-        &["convert", "t.obj", "t.stl"],
-        &["convert", "t.obj", "-t.off"],
-        &["convert", "t.obj", "off"],
-        &["convert", "t.obj"],
-        &["convert", "t.obj", "t.off", "--decimals", "7"],
-        &["convert", "t.obj", "t.off", "t.ply"],
         &["measure", "m"],
         &["measure", "m", "-l"],
         &["measure", "m", "l", "p"],

@@ -1,8 +1,6 @@
 //! Faults outside in mid-run, and files that end anywhere. What a run writes is shown by the cases that the program is run on.
-use arrayvec::ArrayVec;
-use grid_base::{BOX, Point, Shift};
-use mesh_field::Fields;
-use mesh_plain::FieldName;
+use grid_base::{Point, Shift};
+use mesh_field::no_fields;
 use mesh_sizing::{Band, Sizing};
 use outside_io::{MemoryDesk, MemorySink};
 use std::alloc::Global;
@@ -19,10 +17,19 @@ const STEPS: &[u8] = b"shift all 1 2 3\nstep\nsave\n";
 
 const MOVED: &[u8] = b"v 1 2 3\nv 5 2 3\nv 1 6 3\nv 1 2 7\nf 1 3 2\nf 1 2 4\nf 2 3 4\nf 1 4 3\n";
 
-// Its log.
-const LOG: &[u8] =
-    b"topo log 2\nmesh 0 4 4\nstep 1\nmove 1 1 2 3\nmove 2 1 2 3\nmove 3 1 2 3\nmove 4 1 2 3\n\
-moved whole\nmesh 1 4 4\nend\n";
+// The lines of its log.
+const LINES: [&[u8]; 10] = [
+    b"topo log 2\n",
+    b"mesh 0 4 4\n",
+    b"step 1\n",
+    b"move 1 1 2 3\n",
+    b"move 2 1 2 3\n",
+    b"move 3 1 2 3\n",
+    b"move 4 1 2 3\n",
+    b"moved whole\n",
+    b"mesh 1 4 4\n",
+    b"end\n",
+];
 
 // All of its edges are split, and it is saved.
 const SPLITTING: &[u8] = b"split 3\nsave\n";
@@ -42,14 +49,18 @@ const SPLITS: [&[u8]; 11] = [
     b"end\n",
 ];
 
-fn first_splits(alloc: Global, count: usize) -> Result<Vec<u8>, Fail> {
+fn first_of(alloc: Global, lines: &[&[u8]], count: usize) -> Result<Vec<u8>, Fail> {
     let mut text = Vec::new(alloc);
-    for (i, line) in SPLITS.iter().enumerate() {
+    for (i, line) in lines.iter().enumerate() {
         if i < count {
             text.extend_from_slice(line)?;
         }
     }
     Ok(text)
+}
+
+fn first_lines(alloc: Global, count: usize) -> Result<Vec<u8>, Fail> {
+    first_of(alloc, &LINES, count)
 }
 
 fn words_of(alloc: Global, words: &[&str]) -> Result<Vec<String>, Fail> {
@@ -67,29 +78,19 @@ fn desk_of(alloc: Global, mesh: &[u8], steps: &[u8]) -> Result<MemoryDesk, Fail>
     Ok(desk)
 }
 
-pub(crate) fn sink_of(alloc: Global) -> Result<MemorySink, Fail> {
+fn sink_of(alloc: Global) -> Result<MemorySink, Fail> {
     Ok(MemorySink::new(alloc, 10_000, Vec::new(alloc))?)
 }
 
-// The status of the run of these words, where the field `away` answers with the point itself, and so doubles it.
-pub(crate) fn answer(
+// The status of the run of these words.
+fn answer(
     words: &[&str],
     desk: &mut MemoryDesk,
     out: &mut MemorySink,
     alloc: Global,
 ) -> Result<u8, Fail> {
     let words = words_of(alloc, words)?;
-    let mut names = ArrayVec::new();
-    names.push(FieldName::new(b"away").ok_or("a name")?);
-    let fields = Fields::new(
-        names,
-        BOX,
-        |_which: u8, at: Point| Shift {
-            x: at.x,
-            y: at.y,
-            z: at.z,
-        },
-    );
+    let fields = no_fields(|_which: u8, _at: Point| Shift { x: 0, y: 0, z: 0 });
     let sizing = Sizing::new(|_at: Point| Band { low: 1, high: 2 });
     let outcome = run(alloc, &words, desk, out, &fields, &sizing);
     Ok(outcome.status())
@@ -118,10 +119,36 @@ pub(crate) fn ends_so(
 }
 
 #[test]
+fn a_whole_mesh_is_moved_by_one_step(rt: HostRuntime) -> Result<(), Fail> {
+    let alloc = rt.alloc();
+    let mut desk = desk_of(alloc, MESH, STEPS)?;
+    let mut out = sink_of(alloc)?;
+    assert_eq!(rt; track(&mut desk, &mut out, alloc)?, 0);
+    assert_eq!(rt; out.bytes(), first_lines(alloc, 10)?.as_slice());
+    assert_eq!(rt; desk.file("t-000000.obj"), Some(MESH));
+    assert_eq!(rt; desk.file("t-000001.obj"), Some(MOVED));
+    Ok(())
+}
+
+#[test]
+fn a_motion_without_a_certificate_is_named(rt: HostRuntime) -> Result<(), Fail> {
+    let alloc = rt.alloc();
+    let log = first_lines(alloc, 10)?;
+    let mut desk = desk_of(alloc, MESH, log.as_slice())?;
+    desk.put("proof.txt", b"topo proof 1\nend\n")?;
+    let mut out = sink_of(alloc)?;
+    let words = ["verify", "mesh.obj", "steps.txt", "proof.txt"];
+    assert_eq!(rt; answer(&words, &mut desk, &mut out, alloc)?, 15);
+    assert_eq!(rt; out.bytes(), b"refused motion 8 nomotion\n".as_slice());
+    Ok(())
+}
+
+#[test]
 fn a_log_is_replayed_and_each_store_fails_in_turn(rt: HostRuntime) -> Result<(), Fail> {
     let alloc = rt.alloc();
+    let log = first_lines(alloc, 10)?;
     let words = ["replay", "mesh.obj", "steps.txt", "t"];
-    let mut desk = desk_of(alloc, MESH, LOG)?;
+    let mut desk = desk_of(alloc, MESH, log.as_slice())?;
     let mut out = sink_of(alloc)?;
     assert_eq!(rt; answer(&words, &mut desk, &mut out, alloc)?, 0);
     assert_eq!(rt; out.bytes(), b"replayed 2\n".as_slice());
@@ -130,7 +157,7 @@ fn a_log_is_replayed_and_each_store_fails_in_turn(rt: HostRuntime) -> Result<(),
     for k in 1..3_u64 {
         let mut desk = MemoryDesk::new(alloc, Vec::new(alloc), vec![in alloc; k]?);
         desk.put("mesh.obj", MESH)?;
-        desk.put("steps.txt", LOG)?;
+        desk.put("steps.txt", log.as_slice())?;
         let mut out = sink_of(alloc)?;
         assert_eq!(rt; answer(&words, &mut desk, &mut out, alloc)?, 3);
         assert_eq!(rt; out.bytes(), b"".as_slice());
@@ -141,13 +168,29 @@ fn a_log_is_replayed_and_each_store_fails_in_turn(rt: HostRuntime) -> Result<(),
 }
 
 #[test]
+fn a_mesh_that_is_not_closed_is_checked(rt: HostRuntime) -> Result<(), Fail> {
+    let alloc = rt.alloc();
+    let open = b"v 0 0 0\nv 4 0 0\nv 0 4 0\nv 0 0 4\nf 1 3 2\nf 1 2 4\nf 2 3 4\n".as_slice();
+    let mut desk = desk_of(alloc, open, STEPS)?;
+    let mut out = sink_of(alloc)?;
+    assert_eq!(rt;
+        answer(&["check", "mesh.obj"], &mut desk, &mut out, alloc)?,
+        7
+    );
+    let told =
+        b"shape unbalanced 1 3\nshape unbalanced 1 4\nshape unbalanced 3 4\nchecked 4 3 faults 3\n";
+    assert_eq!(rt; out.bytes(), told.as_slice());
+    Ok(())
+}
+
+#[test]
 fn each_write_fails_in_turn(rt: HostRuntime) -> Result<(), Fail> {
     let alloc = rt.alloc();
     for k in 0..11_usize {
         let mut desk = desk_of(alloc, MESH, SPLITTING)?;
         let mut out = MemorySink::new(alloc, 1_000, vec![in alloc; k as u64 + 1]?)?;
         assert_eq!(rt; track(&mut desk, &mut out, alloc)?, 4);
-        assert_eq!(rt; out.bytes(), first_splits(alloc, k)?.as_slice());
+        assert_eq!(rt; out.bytes(), first_of(alloc, &SPLITS, k)?.as_slice());
         assert_eq!(rt; desk.file("t-000000.obj").is_some(), k >= 2);
         assert_eq!(rt; desk.file("t-000001.obj").is_some(), k >= 10);
     }
@@ -163,14 +206,14 @@ fn each_fetch_and_store_fails_in_turn(rt: HostRuntime) -> Result<(), Fail> {
         desk.put("steps.txt", SPLITTING)?;
         let mut out = sink_of(alloc)?;
         assert_eq!(rt; track(&mut desk, &mut out, alloc)?, 3);
-        assert_eq!(rt; out.bytes(), first_splits(alloc, 1)?.as_slice());
+        assert_eq!(rt; out.bytes(), first_of(alloc, &SPLITS, 1)?.as_slice());
         let mut desk = MemoryDesk::new(alloc, Vec::new(alloc), vec![in alloc; k]?);
         desk.put("mesh.obj", MESH)?;
         desk.put("steps.txt", SPLITTING)?;
         let mut out = sink_of(alloc)?;
         assert_eq!(rt; track(&mut desk, &mut out, alloc)?, 3);
         let lines = if k == 1 { 2 } else { 10 };
-        assert_eq!(rt; out.bytes(), first_splits(alloc, lines)?.as_slice());
+        assert_eq!(rt; out.bytes(), first_of(alloc, &SPLITS, lines)?.as_slice());
         assert_eq!(rt; desk.file("t-000000.obj").is_some(), k == 2);
         assert_eq!(rt; desk.file("t-000001.obj"), None);
     }
