@@ -119,9 +119,9 @@ fn a_list_is_kept_from_step_to_step(rt: HostRuntime) -> Result<(), Fail> {
     };
     let mut mesh = mesh_by(rt.alloc(), plan, &mut numbers, &rt)?;
     let mut lists = StepLists::none();
-    // Whether there is a list after the step: from the second scan of the same faces on. After the fourth step a face is
-    // dropped; the list served two steps, so the next waits.
-    for (k, has_list) in [false, true, true, true, false, false]
+    // Whether there is a list after the step: from the second look at the same faces on. After the third step a face is
+    // dropped; the list served two steps at most, so the next waits for two.
+    for (k, has_list) in [false, true, true, false, false, true]
         .into_iter()
         .enumerate()
     {
@@ -138,7 +138,7 @@ fn a_list_is_kept_from_step_to_step(rt: HostRuntime) -> Result<(), Fail> {
         let pass = near.all_pass(rt.alloc(), &mesh, &by, 4)?;
         assert_eq!(rt; pass, all.len() == 0);
         move_all(&mut mesh, by.as_slice(), &rt)?;
-        if k == 3 {
+        if k == 2 {
             drop_face(&mut mesh, FaceId(1), &rt)?;
         }
     }
