@@ -223,3 +223,12 @@ fn a_step_is_taken_by_the_first_way_that_applies(rt: HostRuntime) -> Result<(), 
     }
     Ok(())
 }
+
+#[test]
+fn all_ways_are_tried_at_first(rt: HostRuntime) {
+    let first = Settings::at_first();
+    assert_eq!(rt;
+        (first.depth, first.passes, first.zones, first.halvings),
+        (6, 3, true, 6)
+    );
+}

@@ -1,14 +1,11 @@
-//! Worked examples, and scans of meshes that stand and move in all ways.
-ghost use Rattle.std.specs.Prelude.{◌≤◌};
-ghost use Rattle.grid_base.specs.declared.TheConstants.{DEPTH_MAX};
-
+//! Worked examples.
+mod all_pairs;
 pub(crate) mod generated;
 
 use crate::meshes::mesh_at;
-use generated::{Numbers, Plan, mesh_by, shifts_by};
-use grid_base::{DEPTH_MAX, NoMemory};
+use grid_base::NoMemory;
 use mesh_base::{FaceId, PairName, VertexId};
-use pair_scan::{all_pass, failing, first_meeting};
+use pair_scan::first_meeting;
 use std::alloc::Global;
 use std::process::Abort;
 use std::test::Fail;
@@ -89,96 +86,22 @@ fn two_tetrahedra_meet_first_where_they_do(rt: HostRuntime) -> Result<(), Fail> 
 
 #[test]
 fn a_shared_vertex_is_no_meeting(rt: HostRuntime) -> Result<(), Fail> {
+    // One tetrahedron: each edge has an end at each face.
     let [p, q, r, s] = FIRST;
     let [f, g, h, i, ..] = TWO;
-    let touching = [p, q, r, s, [-8, 0, 0], [0, -8, 0], [0, 0, -8]];
-    let joined = [f, g, h, i, [1, 6, 5], [1, 5, 7], [5, 6, 7], [1, 7, 6]];
-    let cases: [(&[[i32; 3]], &[[u32; 3]]); 3] = [
-        // one tetrahedron: each edge has an end at each face
-        (&FIRST, &TWO[..4]),
-        // two that have the vertex 1 in common, and touch there alone
-        (&touching, &joined),
-        // no face
-        (&FIRST, &[]),
-    ];
-    for (points, faces) in cases {
-        let found = first_of(rt.alloc(), points, faces, &rt)?;
-        assert_eq!(rt; found, None);
-    }
+    let found = first_of(rt.alloc(), &FIRST, &[f, g, h, i], &rt)?;
+    assert_eq!(rt; found, None);
+    // Two that have the vertex 1 in common, and touch there alone.
+    let points = [p, q, r, s, [-8, 0, 0], [0, -8, 0], [0, 0, -8]];
+    let faces = [f, g, h, i, [1, 6, 5], [1, 5, 7], [5, 6, 7], [1, 7, 6]];
+    let found = first_of(rt.alloc(), &points, &faces, &rt)?;
+    assert_eq!(rt; found, None);
     Ok(())
 }
 
-// Bodies, how far they stand from the origin, how large they are, how far they move, the depth, and how far they are thrown.
-const PLANS: [[u32; 6]; 22] = [
-    // beside one another, at rest and in motion
-    [3, 40, 6, 0, 0, 0],
-    [4, 40, 6, 3, 2, 0],
-    [4, 40, 8, 30, 3, 0],
-    // through one another, with faces of area zero and vertices that touch
-    [3, 2, 2, 0, 1, 0],
-    [3, 3, 2, 2, 4, 0],
-    [4, 4, 3, 1, 3, 0],
-    [4, 6, 5, 4, 5, 0],
-    [3, 0, 1, 1, 2, 0],
-    // steps longer than the mesh
-    [3, 12, 4, 400, 0, 0],
-    [3, 12, 4, 90, 4, 0],
-    [4, 20, 3, 60, 6, 0],
-    // across the whole box
-    [3, 268_435_456, 268_435_456, 536_870_912, 3, 0],
-    [4, 268_435_456, 1_000_000, 536_870_912, 2, 0],
-    [4, 268_435_456, 30_000_000, 20_000_000, 4, 0],
-    [3, 50_000_000, 50_000_000, 5, 1, 0],
-    [2, 268_435_456, 536_870_912, 536_870_912, 0, 0],
-    // thrown far, as wholes and not
-    [4, 40, 8, 0, 0, 5_000],
-    [6, 20, 6, 2, 2, 700],
-    [6, 6, 5, 0, 3, 40],
-    [5, 60, 9, 1, 1, 200_000_000],
-    [6, 300, 40, 30, 4, 1_000],
-    [4, 268_435_456, 30_000_000, 0, 2, 536_870_912],
-];
-
-// How many pairs of the mesh of a plan fail in its motion.
-fn count_of(
-    alloc: Global,
-    plan: Plan,
-    depth: u8,
-    numbers: &mut Numbers,
-    rt: &impl Abort,
-) -> Result<usize, NoMemory>
-    requires depth_fits { depth ≤ DEPTH_MAX }
-{
-    let mesh = mesh_by(alloc, plan, numbers, rt)?;
-    let by = shifts_by(alloc, &mesh, plan, numbers, rt)?;
-    let _first = first_meeting(alloc, &mesh)?;
-    let found = failing(alloc, &mesh, &by, depth)?;
-    let pass = all_pass(alloc, &mesh, &by, depth)?;
-    assert_eq!(rt; pass, found.len() == 0);
-    Ok(found.len())
-}
-
-// What a scan finds is proved to be each pair that fails. This shows that it finds the memory for that.
 #[test]
-fn scans_find_memory_whatever_moves(rt: HostRuntime) -> Result<(), Fail> {
-    let mut numbers = Numbers::new(2009);
-    let mut clear: u32 = 0;
-    for [bodies, spread, size, step, depth, throw] in PLANS {
-        let plan = Plan {
-            bodies,
-            spread,
-            size,
-            step,
-            throw,
-        };
-        let depth = depth as u8;
-        assert!(rt; depth <= DEPTH_MAX);
-        for _ in 0..2 {
-            if count_of(rt.alloc(), plan, depth, &mut numbers, &rt)? == 0 {
-                clear = clear.wrapping_add(1);
-            }
-        }
-    }
-    assert!(rt; 3 < clear && clear < 41, "{clear} of 44 clear");
+fn a_mesh_with_no_face_is_clear(rt: HostRuntime) -> Result<(), Fail> {
+    let found = first_of(rt.alloc(), &FIRST, &[], &rt)?;
+    assert_eq!(rt; found, None);
     Ok(())
 }
