@@ -154,6 +154,10 @@ static void passes(void)
     is("settings within their limits", topo_set(&t, 10, 100, 1, 27), TOPO_DONE);
     is("a depth of 11", topo_set(&t, 11, 100, 1, 27), TOPO_RANGE);
     is("zones of 2", topo_set(&t, 10, 100, 2, 27), TOPO_RANGE);
+    is("a depth of more than eight bits", topo_set(&t, 262, 3, 1, 6), TOPO_RANGE);
+    is("passes of more than eight bits", topo_set(&t, 6, 259, 1, 6), TOPO_RANGE);
+    is("zones of more than eight bits", topo_set(&t, 6, 3, 257, 6), TOPO_RANGE);
+    is("halvings of more than eight bits", topo_set(&t, 6, 3, 1, UINT32_MAX), TOPO_RANGE);
     topo_free(&t);
     is("nothing is there", topo_fit(&t, 20, 60, &edits), TOPO_EMPTY);
 }
@@ -518,7 +522,9 @@ static void alone(void)
     is("from side to side", topo_passes(&beside, &behind, 10, &so), TOPO_DONE);
     is("does not pass", so, 0);
     is("a depth of 11", topo_passes(&beside, &beside, 11, &so), TOPO_RANGE);
+    is("a depth of more than eight bits", topo_passes(&beside, &beside, 256, &so), TOPO_RANGE);
     is("the version", topo_version(), 2);
+    is("the version of the calls", topo_calls(), TOPO_CALLS);
 }
 
 int main(void)

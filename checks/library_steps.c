@@ -16,7 +16,7 @@ static struct topo_fault fault;
 static struct topo_way way;
 static struct topo_edits edits;
 static uint32_t kept;
-static uint8_t settings[4] = {6, 3, 1, 6};
+static uint32_t settings[4] = {6, 3, 1, 6};
 static int wrong;
 
 static void check(int so, const char *what, const char *line)
@@ -90,7 +90,7 @@ static uint32_t directive(const char *line)
     if (sscanf(line, "set %15s %ld", word, &a) == 2) {
         for (i = 0; i < 4; ++i)
             if (strcmp(word, names[i]) == 0)
-                settings[i] = (uint8_t)a;
+                settings[i] = (uint32_t)a;
         return topo_set(&t, settings[0], settings[1], settings[2], settings[3]);
     }
     if (sscanf(line, "solid %ld", &a) == 1)

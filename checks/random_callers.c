@@ -392,7 +392,7 @@ static void go(const char *folder)
     else if (what < 86)
         solid();
     else if (what < 89)
-        must(topo_set(&t, (uint8_t)dice(11), (uint8_t)dice(5), (uint8_t)dice(2), (uint8_t)dice(10)), 0, "topo_set");
+        must(topo_set(&t, (uint32_t)dice(11), (uint32_t)dice(5), (uint32_t)dice(2), (uint32_t)dice(10)), 0, "topo_set");
     else if (what < 92)
         shift();
     else if (what < 97)

@@ -102,6 +102,8 @@ CROWDED = "v 0 0 0\nv 4 0 0\nv 0 4 0\nv 0 0 4\nv 0 -4 0\nv 0 0 -4\n" + "".join(
 OPPOSITE = "v 0 0 0\nv 4 0 0\nv 0 4 0\nf 1 2 3\nf 1 3 2\n"
 ROUNDED = MESH.replace("v 4 0 0", "v 4.25 0 0")
 SEVEN = MESH.replace("v 4 0 0", "v 4.1234567 0 0")
+NOUGHTS = MESH.replace("v 4 0 0", "v 4.2500000 0 0")
+COLOURED = "# 0.12345678\n" + MESH.replace("v 4 0 0", "v 4 0 0 0.12345678 0.5 1")
 MOVED = "v 1 2 3\nv 5 2 3\nv 1 6 3\nv 1 2 7\n" + MESH[MESH.index("f") :]
 FILES = ["track", "m", "s", "t"]
 NUMBERS = ["try", "1", "0"]
@@ -126,7 +128,15 @@ TOLD = [
     ("a mesh with a comment that is written onto itself", ["convert", "h.obj", "h.obj"], None, 0,
      ["h.obj was read and is overwritten: as it was, it is kept as h.obj.before"], [], {"h.obj": COMMENTED}, {"h.obj": MESH, "h.obj.before": COMMENTED}),
     ("a mesh of seven digits that is written onto itself", ["convert", "h.obj", "h.obj", "--decimals", "6"], None, 0,
-     ["h.obj was read and is overwritten: as it was, it is kept as h.obj.before"], [], {"h.obj": SEVEN}, {"h.obj.before": SEVEN}),
+     ["h.obj was read and is overwritten (digits behind decimal 6 of the coordinates were rounded; no grid that holds the mesh keeps them): as it was, it is kept as "
+      "h.obj.before"], [], {"h.obj": SEVEN}, {"h.obj.before": SEVEN}),
+    ("a mesh of seven digits that are noughts", ["track", "m", "s", "t", "--decimals", "2"], None, 0, [], ["rounded"], {"m": NOUGHTS, "s": STEPS}, {}),
+    ("a mesh of seven digits on a coarser grid", ["track", "m", "s", "t", "--decimals", "2"], None, 0,
+     ["coordinates were rounded by up to", "--decimals 6 keeps them to that decimal, and what is behind it no grid that holds the mesh keeps"], [],
+     {"m": SEVEN, "s": STEPS}, {}),
+    ("digits of colours and of a comment", ["track", "m", "s", "t"], None, 0, [], ["rounded"], {"m": COLOURED, "s": STEPS}, {}),
+    ("an exponent that is small", ["track", "m", "s", "t"], None, 0, ["digits behind decimal 6 of the coordinates were rounded"], [],
+     {"m": MESH.replace("v 0 0 0\n", "v 0 0 5e-9\n", 1), "s": STEPS}, {}),
     ("a mesh under the name of the first that is stored", ["track", "own-000000.obj", "s", "own"], None, 0, ["own-000000.obj was read and is overwritten"],
      ["kept"], {"own-000000.obj": MESH, "s": STEPS}, {"own-000000.obj": MESH, "own-000000.obj.before": None}),
     ("the same with a comment", ["track", "own-000000.obj", "s", "own"], None, 0, ["it is kept as own-000000.obj.before"],
@@ -164,6 +174,18 @@ TOLD = [
     ("opposite faces", ["convert", "m.obj", "t.off"], None, 0, ["t.off is no manifold: crowded edges (more than two faces): 0, faces with an opposite: 2"], [],
      {"m.obj": OPPOSITE}, {}),
     ("a manifold", ["convert", "m.obj", "t.off"], None, 0, [], ["manifold"], {"m.obj": MESH}, {}),
+    ("a log that has no end", ["measure", "m", "l"], None, 0, ["l has no line `end` or `refused`: it may have been cut, or its run was stopped"], [],
+     {"m": MESH, "l": "topo log 2\nmesh 0 4 4\n"}, {}),
+    ("a log that goes on after its end", ["measure", "m", "l"], None, 0, ["l, line 4: a run writes nothing after its end"], [],
+     {"m": MESH, "l": "topo log 2\nmesh 0 4 4\nend\nend\n"}, {}),
+    ("a log of a run that was refused", ["measure", "m", "l"], None, 0, [], ["warning"],
+     {"m": MESH, "l": "topo log 2\nmesh 0 4 4\nrefused use 1 vertex 5\n"}, {}),
+    ("a log whose lines end with CRLF", ["measure", "m", "l"], None, 12, ["the text has the byte CR"], ["needless"], {"m": MESH, "l": "topo log 2\r\nend\r\n"}, {}),
+    ("a log of another version", ["measure", "m", "l"], None, 12, ["its version is none that this program knows"], ["needless"], {"m": MESH, "l": "topo log 3\nend\n"}, {}),
+    ("a proof whose lines end with CRLF", ["verify", "m", "l", "p"], None, 14, ["the text has the byte CR"], ["needless"],
+     {"m": MESH, "l": "topo log 2\nmesh 0 4 4\nend\n", "p": "topo proof 1\r\nend\r\n"}, {}),
+    ("a proof of another version", ["verify", "m", "l", "p"], None, 14, ["its version is none that this program knows"], ["needless"],
+     {"m": MESH, "l": "topo log 2\nmesh 0 4 4\nend\n", "p": "topo proof 2\nend\n"}, {}),
 ]
 
 

@@ -85,7 +85,7 @@ Asked = struct("Asked", kind_a_b_c_d=u32)
 Answered = struct("Answered", why_a_b_c=u32, x_y_z=i32)
 
 CALLS = ("topo_new topo_new_numbered topo_free topo_shift_each topo_shift_all topo_set topo_step topo_split topo_collapse topo_flip topo_zip topo_pinch topo_fit topo_edit_each "
-         "topo_solid topo_open topo_close topo_undo topo_counts topo_points topo_faces topo_star topo_beside topo_solids topo_events topo_log topo_forget topo_version").split()
+         "topo_solid topo_open topo_close topo_undo topo_counts topo_points topo_faces topo_star topo_beside topo_solids topo_events topo_log topo_forget topo_version topo_calls").split()
 
 Answer = collections.namedtuple("Answer", "why a b c at")
 Answer.__doc__ = """What came of an edit: `why` is "" where it is done, and else a word of AGAINST. Of a split, a is the new vertex, of a collapse the vertex that is left, if
@@ -117,8 +117,12 @@ def load(path):
     """The library at a path, which has the calls that are called here."""
     library = ctypes.CDLL(path)
     lacking = [name for name in CALLS if not hasattr(library, name)]
-    if lacking or library.topo_version() != 2:
-        raise ImportError(f"{path} is the library of another topo.h: it has no {', '.join(lacking)}" if lacking else f"{path} has another version of the log than 2")
+    if lacking:
+        raise ImportError(f"{path} is the library of another topo.h: it has no {', '.join(lacking)}")
+    if library.topo_calls() != 1:
+        raise ImportError(f"{path} is the library of another topo.h: its calls have the version {library.topo_calls()}, and not 1")
+    if library.topo_version() != 2:
+        raise ImportError(f"{path} has another version of the log than 2")
     return library
 
 
@@ -370,7 +374,7 @@ class Tracker:
 
     def set(self, depth=6, passes=3, zones=True, halvings=6):
         settings = dict(depth=depth, passes=passes, zones=zones, halvings=halvings)
-        self.call("topo_set", *(ctypes.c_uint8(whole(settings[name], 0, most, "the setting", name)) for name, most in SETTINGS.items()))
+        self.call("topo_set", *(u32(whole(settings[name], 0, most, "the setting", name)) for name, most in SETTINGS.items()))
 
     def step(self):
         """How the step was taken, how often that was done, and how many pairs did not pass as it was asked."""

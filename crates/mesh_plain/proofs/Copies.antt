@@ -1,5 +1,5 @@
 -- What is copied of a mesh into empty tables is the mesh.
-use Rattle.std.proofs.Common.{◌≡◌, ℕ, ◌==◌, ◌||◌, ◌&&◌, Bool, true, false, cond, List, [], ◌∷◌, Option, Some, None, is_some, refl, sym, ap, subst, ◌∙◌}
+use Rattle.std.proofs.Common.{◌≡◌, ℕ, ◌==◌, ◌||◌, ◌&&◌, Bool, true, false, cond, List, [], ◌∷◌, Option, Some, None, is_some, refl, sym, ap, ◌∙◌}
 use Rattle.std.specs.Option.{option_map_or}
 use Rattle.std.specs.List.{fold, list_any}
 use Rattle.std.specs.Ordering.{nat_cmp, eq_by_cmp}
@@ -11,7 +11,7 @@ use Rattle.grid_base.specs.declared.Point.{Point}
 use Rattle.grid_base.specs.Points.{point_at}
 use Rattle.grid_base.proofs.PointLaws.{point_at-position_of}
 use Rattle.mesh_base.specs.declared.Corners.{Corners}
-use Rattle.mesh_base.specs.Mesh.{Mesh, IsSound, IsLiveVertex, IdSet, is_solid}
+use Rattle.mesh_base.specs.Mesh.{Mesh, IsSound, is_solid}
 use Rattle.mesh_base.specs.Given.{empty_mesh}
 use Rattle.mesh_base.specs.Placements.{point_of, position_or_origin}
 use Rattle.mesh_plain.specs.Copying.{with_vertex_of, with_face_of, with_vertices_of, with_faces_of}

@@ -1,17 +1,15 @@
 -- Two faces with three different corners have one key exactly where they are equal up to rotation.
-use Rattle.std.proofs.Common.{◌≤◌, length, ◌≡◌, ◌⊎◌, ℕ, ◌+◌, ◌==◌, ◌&&◌, ◌||◌, Bool, true, false, cond, List, [], ◌∷◌, Option, Some, None, nat_lt, if◌then◌else◌, option_map, refl, sym, ap, subst, ◌∙◌, inl, inr, ⊎_elim, arith}
+use Rattle.std.proofs.Common.{◌≡◌, ◌⊎◌, ℕ, ◌+◌, ◌==◌, ◌&&◌, ◌||◌, Bool, true, false, cond, List, [], ◌∷◌, Some, None, nat_lt, if◌then◌else◌, option_map, refl, sym, ap, subst, ◌∙◌, inl, inr, ⊎_elim, arith}
 use Rattle.std.specs.Option.{option_or}
 use Rattle.std.specs.List.{position_from}
 use Rattle.std.proofs.lemmas.Bool.Decides.{nat_tests}
-use Rattle.grid_base.specs.declared.TheConstants.{VERTICES_MAX, FACES_MAX}
 use Rattle.mesh_base.specs.declared.ids.Corners.{Corners}
 use Rattle.mesh_base.specs.Mesh.{turned, same_corners, equal_up_to_rotation}
 use Rattle.mesh_base.specs.Changes.{corners_of}
 use Rattle.mesh_base.specs.Given.{Faces}
 use Rattle.mesh_base.proofs.Tests.{or_either, both_ways}
 use Rattle.mesh_plain.proofs.Lists.{none_here}
-use Rattle.mesh_plain.specs.Shape.{doubled_from, repeats, repeated_from, no_vertex_from, fault_but_balance}
-use Rattle.mesh_base.specs.declared.faults.ShapeFault.TheVariants.{Doubled}
+use Rattle.mesh_plain.specs.Shape.{doubled_from, repeats, repeated_from}
 use Rattle.mesh_plain.specs.Turned.{least_first, key_of, has_key, doubled_by_key}
 
 pub same_from_facts : (c d : Corners) → same_corners c d ≡ true → c ≡ d
@@ -46,7 +44,7 @@ repeats-turned c h = moved (c.first == c.second) (c.second == c.third) (c.third 
     moved true q r h = cc
 
 -- the corners from the least on are the corners, turned once, or turned twice
-a_turn : (c : Corners) → (least_first c ≡ c) ⊎ ((least_first c ≡ turned c) ⊎ (least_first c ≡ turned (turned c)))
+pub a_turn : (c : Corners) → (least_first c ≡ c) ⊎ ((least_first c ≡ turned c) ⊎ (least_first c ≡ turned (turned c)))
 a_turn c = elim (nat_lt c.first c.second && nat_lt c.first c.third) as (λ b. ((if b then c else (if nat_lt c.second c.third then turned c else turned (turned c))) ≡ c) ⊎ (((if b then c else (if nat_lt c.second c.third then turned c else turned (turned c))) ≡ turned c) ⊎ ((if b then c else (if nat_lt c.second c.third then turned c else turned (turned c))) ≡ turned (turned c)))) [
   | true ↦ inl refl
   | false ↦ elim (nat_lt c.second c.third) as (λ b. ((if b then turned c else turned (turned c)) ≡ c) ⊎ (((if b then turned c else turned (turned c)) ≡ turned c) ⊎ ((if b then turned c else turned (turned c)) ≡ turned (turned c)))) [
@@ -128,13 +126,3 @@ doubled_from_keys j k (f ∷ fs) h =
     let parts = none_here (repeats (corners_of f)) j (repeated_from (j + 1) fs) h in
     ap (λ p. option_or (option_map (λ second. (k, second)) p) (doubled_from (k + 1) fs)) (position_same (λ g. equal_up_to_rotation (corners_of f) (corners_of g)) (has_key (key_of f)) (λ g. same_tests f g parts.0) (k + 1) fs)
     ∙ ap (option_or (option_map (λ second. (k, second)) (position_from (has_key (key_of f)) (k + 1) fs))) (doubled_from_keys (j + 1) (k + 1) fs parts.1)
-
-not_more : (n limit : ℕ) → n ≤ limit → nat_lt limit n ≡ false
-not_more n limit h = grind (arith, nat_tests)
-
--- where nothing is wrong before, what is wrong are the double faces
-pub fault_doubled : (n : ℕ) (fs : Faces) (found : Option (ℕ × ℕ)) → n ≤ VERTICES_MAX → length fs ≤ FACES_MAX → no_vertex_from n 1 fs ≡ None → repeated_from 1 fs ≡ None → found ≡ doubled_by_key 1 fs → option_map (λ p. Doubled p.0 p.1) found ≡ fault_but_balance n fs
-fault_doubled n fs found few_points few_faces vertices once is =
-    let points : nat_lt VERTICES_MAX n ≡ false = not_more n VERTICES_MAX few_points in
-    let faces : nat_lt FACES_MAX (length fs) ≡ false = not_more (length fs) FACES_MAX few_faces in
-    rw (points, faces, vertices, once) (ap (option_map (λ p. Doubled p.0 p.1)) (is ∙ sym (doubled_from_keys 1 1 fs once)))

@@ -1,6 +1,7 @@
 pub mod Lists
 pub mod Outcomes
 pub mod DoubledKeys
+mod Once
 pub mod LeastPair
 pub mod FirstDifference
 pub mod Faults

@@ -1,5 +1,6 @@
 pub mod Shape
 pub mod Turned
+pub mod Parts
 pub mod Coded
 pub mod Balance
 pub mod Plain

@@ -1,4 +1,4 @@
-//! The first two vertices between which faces do not run as often one way as the other.
+//! The sides of faces in order, and the first two vertices between which faces do not run as often one way as the other.
 ghost use Rattle.std.specs.Prelude.{ℕ, ◌≡◌, ◌≤◌, ◌==◌, ◌&&◌, length, IsOk, IfOk, None};
 ghost use Rattle.std.specs.List.Sorted.{IsNonDecreasingBy};
 ghost use Rattle.grid_base.specs.declared.TheConstants.{FACES_MAX};
@@ -6,7 +6,7 @@ ghost use Rattle.mesh_base.specs.Sides.{follows};
 ghost use Rattle.mesh_base.specs.SideList.{side_rank};
 ghost use Rattle.mesh_base.specs.Changes.{corners_of};
 ghost use Rattle.mesh_plain.specs.Shape.{no_vertex_from, runs_in, first_unbalanced};
-ghost use Rattle.mesh_plain.specs.Balance.{times, HasRuns, AddsRuns, earlier, first_difference};
+ghost use Rattle.mesh_plain.specs.Balance.{times, HasRuns, AddsRuns, AreSidesOf, rises_from, earlier, first_difference};
 
 use grid_base::{FACES_MAX, NoMemory};
 use std::alloc::Global;
@@ -16,7 +16,7 @@ type Side = (u32, u32);
 
 /// Sides by how they run: from the smaller end to the larger, or back.
 #[derive(Drop)]
-struct Sides {
+pub(crate) struct Sides {
     up: Vec<Side>,
     down: Vec<Side>,
 }
@@ -101,18 +101,45 @@ fn first_difference(one: &[Side], other: &[Side]) -> Option<Side>
     one.get(both).or(other.get(both)).copied()
 }
 
-/// The first two of `n` vertices between which the faces do not run as often one way as the other.
-pub(crate) fn first_unbalanced(
-    alloc: Global,
-    n: u32,
-    faces: &[[u32; 3]],
-) -> Result<Option<(u32, u32)>, NoMemory>
-    requires few { length faces.now ≤ FACES_MAX }
-    requires vertices { no_vertex_from n 1 faces.now ≡ None }
-    ensures { IfOk result (λ found. found ≡ first_unbalanced n faces.now) }
+/// The sides of the faces, in order.
+pub(crate) fn sides_in_order(alloc: Global, faces: &[[u32; 3]]) -> Result<Sides, NoMemory>
+    requires { length faces.now ≤ FACES_MAX }
+    ensures { IfOk result (AreSidesOf faces.now) }
 {
     let mut sides = sides_of(alloc, faces)?;
     put_in_order(&mut sides.up);
     put_in_order(&mut sides.down);
-    Ok(first_difference(&sides.up, &sides.down))
+    Ok(sides)
+}
+
+/// Whether each side comes after the one before it.
+fn rise(sides: &[Side]) -> bool
+    ensures { result ≡ rises_from 0 sides.now }
+{
+    let mut last = 0;
+    for side in sides {
+        let here = rank(*side);
+        if here <= last {
+            return false;
+        }
+        last = here;
+    }
+    true
+}
+
+/// Whether no side runs up twice. Then no two faces are equal up to rotation.
+pub(crate) fn run_up_once(sides: &Sides) -> bool
+    ensures { result ≡ rises_from 0 sides.now.up.items }
+{
+    rise(&sides.up)
+}
+
+/// The first two of `n` vertices between which the faces do not run as often one way as the other.
+pub(crate) fn first_unbalanced(n: u32, faces: &[[u32; 3]], sides: &Sides) -> Option<(u32, u32)>
+    requires few { length faces.now ≤ FACES_MAX }
+    requires vertices { no_vertex_from n 1 faces.now ≡ None }
+    requires sides { AreSidesOf faces.now sides.now }
+    ensures { result ≡ first_unbalanced n faces.now }
+{
+    first_difference(&sides.up, &sides.down)
 }

@@ -4,9 +4,11 @@ ghost use Rattle.mesh_base.specs.Mesh.{IsSound};
 ghost use Rattle.mesh_base.specs.Sides.{IsClosed};
 ghost use Rattle.mesh_base.specs.Changes.{corners_of};
 ghost use Rattle.mesh_base.specs.Given.{mesh_of};
-ghost use Rattle.mesh_plain.specs.Shape.{bad_corner, no_vertex_from, repeats, repeated_from, fault_but_balance, shape_fault, IsRefusal, IsJust, EarlierHold};
+ghost use Rattle.mesh_plain.specs.Shape.{bad_corner, no_vertex_from, repeats, repeated_from, doubled_from, shape_fault, IsRefusal, IsJust, EarlierHold};
+ghost use Rattle.mesh_plain.specs.Balance.{AreSidesOf};
+ghost use Rattle.mesh_plain.specs.Parts.{fault_of_each};
 
-use crate::balance::first_unbalanced;
+use crate::balance::{Sides, first_unbalanced, run_up_once, sides_in_order};
 use crate::doubled::doubled_by_key;
 use grid_base::{FACES_MAX, NoMemory, VERTICES_MAX};
 use mesh_base::{MeshLists, ShapeFault, ShapeRefusal};
@@ -37,13 +39,36 @@ pub fn shape(alloc: Global, lists: &MeshLists) -> Result<(), ShapeRefusal>
 fn fault_of(alloc: Global, lists: &MeshLists) -> Result<Option<ShapeFault>, NoMemory>
     ensures { IfOk result (λ fault. fault ≡ shape_fault (length lists.now.points) lists.now.faces) }
 {
-    if let Some(fault) = fault_but_balance(alloc, lists)? {
+    if let Some(fault) = fault_of_each(lists) {
         return Ok(Some(fault));
     }
-    match first_unbalanced(alloc, lists.points.len() as u32, lists.faces.as_slice())? {
+    let faces = lists.faces.as_slice();
+    let sides = sides_in_order(alloc, faces)?;
+    if let Some((first, second)) = first_doubled(alloc, faces, &sides)? {
+        return Ok(Some(ShapeFault::Doubled { first, second }));
+    }
+    match first_unbalanced(lists.points.len() as u32, faces, &sides) {
         Some((from, to)) => Ok(Some(ShapeFault::Unbalanced { from, to })),
         None => Ok(None),
     }
+}
+
+/// The first face that a later one equals up to rotation, and the first such. Where no side runs up twice there is none, as
+/// in a mesh whose edges have two faces each.
+fn first_doubled(
+    alloc: Global,
+    faces: &[[u32; 3]],
+    sides: &Sides,
+) -> Result<Option<(u32, u32)>, NoMemory>
+    requires few { length faces.now ≤ FACES_MAX }
+    requires once { repeated_from 1 faces.now ≡ None }
+    requires sides { AreSidesOf faces.now sides.now }
+    ensures { IfOk result (λ found. found ≡ doubled_from 1 faces.now) }
+{
+    if run_up_once(sides) {
+        return Ok(None);
+    }
+    doubled_by_key(alloc, faces)
 }
 
 fn bad_corner(n: u32, f: &[u32; 3]) -> Option<u8>
@@ -97,31 +122,27 @@ fn first_repeated(faces: &[[u32; 3]]) -> Option<u32>
     None
 }
 
-/// What is wrong with lists but their balance.
-fn fault_but_balance(alloc: Global, lists: &MeshLists) -> Result<Option<ShapeFault>, NoMemory>
-    ensures { IfOk result
-        (λ fault. fault ≡ fault_but_balance (length lists.now.points) lists.now.faces) }
+/// What is wrong with how many points and faces there are, or with a face by itself.
+fn fault_of_each(lists: &MeshLists) -> Option<ShapeFault>
+    ensures { result ≡ fault_of_each (length lists.now.points) lists.now.faces }
 {
     let points = lists.points.len();
     let faces = lists.faces.as_slice();
     if points > VERTICES_MAX as usize {
-        return Ok(Some(ShapeFault::TooManyVertices {
+        return Some(ShapeFault::TooManyVertices {
             count: points as u64,
-        }));
+        });
     }
     if faces.len() > FACES_MAX as usize {
-        return Ok(Some(ShapeFault::TooManyFaces {
+        return Some(ShapeFault::TooManyFaces {
             count: faces.len() as u64,
-        }));
+        });
     }
     if let Some((face, corner)) = first_no_vertex(points as u32, faces) {
-        return Ok(Some(ShapeFault::NoVertex { face, corner }));
+        return Some(ShapeFault::NoVertex { face, corner });
     }
-    if let Some(face) = first_repeated(faces) {
-        return Ok(Some(ShapeFault::Repeated { face }));
-    }
-    match doubled_by_key(alloc, faces)? {
-        Some((first, second)) => Ok(Some(ShapeFault::Doubled { first, second })),
-        None => Ok(None),
+    match first_repeated(faces) {
+        Some(face) => Some(ShapeFault::Repeated { face }),
+        None => None,
     }
 }

@@ -5,7 +5,9 @@
 mod asked;
 mod desk_reasons;
 mod face_lines;
+mod finer_numbers;
 mod groups;
+mod log_end;
 mod log_reasons;
 mod long_numbers;
 mod manifold;
@@ -23,6 +25,8 @@ mod word_reasons;
 
 pub use asked::asks_in_vain;
 pub use desk_reasons::{long_reason, missing_reason, trouble_reason};
+pub use finer_numbers::has_finer_number;
+pub use log_end::log_end_warning;
 pub use log_reasons::{log_text_reason, replay_reason};
 pub use long_numbers::has_long_number;
 pub use manifold::manifold_warning;

@@ -6,6 +6,10 @@ use crate::places::{encoding, line_at, place, word_at};
 use line_text::{TextFault, TextWhy};
 use std::alloc::{AllocError, Global};
 
+// What is said of a text with the byte CR, which none of our own texts has.
+pub(crate) const HAS_CR: &str =
+    "the text has the byte CR, as where its lines end with CRLF: save it with LF alone at their ends";
+
 // What a line of a log should be, by the reason.
 fn expected(why: TextWhy) -> &'static str {
     match why {
@@ -32,6 +36,10 @@ pub fn log_text_reason(
     said.push_str("; ")?;
     match encoding(bytes) {
         Some(encoding) => said.push_str(encoding)?,
+        None if bytes.contains(&b'\r') => said.push_str(HAS_CR)?,
+        None if fault.line == 1 && word_at(line, 1) == b"log".as_slice() => {
+            said.push_str("its version is none that this program knows")?;
+        }
         None => said.push_str(expected(fault.why))?,
     }
     Ok(said)

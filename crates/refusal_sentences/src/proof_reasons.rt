@@ -2,7 +2,8 @@
 ghost use Rattle.std.specs.Prelude.{◌≤◌, length};
 ghost use Rattle.grid_base.specs.declared.TheConstants.{TEXT_MAX};
 
-use crate::places::{encoding, line_at, place};
+use crate::log_reasons::HAS_CR;
+use crate::places::{encoding, line_at, place, word_at};
 use line_text::{TextFault, TextWhy};
 use mesh_base::PairName;
 use std::alloc::{AllocError, Global};
@@ -35,6 +36,10 @@ pub fn proof_text_reason(
     said.push_str("; ")?;
     match encoding(bytes) {
         Some(encoding) => said.push_str(encoding)?,
+        None if bytes.contains(&b'\r') => said.push_str(HAS_CR)?,
+        None if fault.line == 1 && word_at(line, 1) == b"proof".as_slice() => {
+            said.push_str("its version is none that this program knows")?;
+        }
         None => said.push_str(expected(fault.why))?,
     }
     Ok(said)

@@ -56,24 +56,34 @@ fn decimals_that_keep(fine: &MeshLists, fine_decimals: u8, decimals: u8) -> u8 {
     fine_decimals
 }
 
-/// Says how many coordinates of a mesh were rounded on a grid of so many decimals, from its lists on a finer grid; `None` where
-/// none was.
+/// Says how many coordinates of a mesh were rounded on a grid of so many decimals, from its lists on the finest grid that holds it, and
+/// whether its text has digits that not even that one keeps; `None` where none was rounded.
 pub fn rounding_warning(
     alloc: Global,
     fine: &MeshLists,
     fine_decimals: u8,
     decimals: u8,
+    is_finer: bool,
 ) -> Result<Option<String>, AllocError> {
-    if fine_decimals <= decimals {
-        return Ok(None);
-    }
-    let (count, most) = off_multiples(fine, ten_to(fine_decimals - decimals));
+    let (count, most) = off_multiples(fine, ten_to(fine_decimals.saturating_sub(decimals)));
     if count == 0 {
-        return Ok(None);
+        if !is_finer {
+            return Ok(None);
+        }
+        let said = format!(in alloc;
+            "digits behind decimal {fine_decimals} of the coordinates were rounded; no grid that holds the mesh keeps them"
+        )?;
+        return Ok(Some(said));
     }
     let all = (fine.points.len() as u64).saturating_mul(3);
     let most = f64::from(most) / f64::from(ten_to(fine_decimals));
     let keeps = decimals_that_keep(fine, fine_decimals, decimals);
+    if is_finer {
+        let said = format!(in alloc;
+            "{count} of {all} coordinates were rounded by up to {most}; --decimals {fine_decimals} keeps them to that decimal, and what is behind it no grid that holds the mesh keeps"
+        )?;
+        return Ok(Some(said));
+    }
     let said = format!(in alloc;
         "{count} of {all} coordinates were rounded by up to {most}; --decimals {keeps} keeps them"
     )?;

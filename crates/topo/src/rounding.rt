@@ -6,7 +6,7 @@ use grid_base::DECIMALS_MAX;
 use mesh_base::MeshLists;
 use obj_text::read_obj;
 use other_text::{read_off, read_ply};
-use refusal_sentences::{has_long_number, rounding_warning};
+use refusal_sentences::{has_finer_number, has_long_number, rounding_warning};
 use std::alloc::{AllocError, Global};
 use track_input::Format;
 
@@ -55,7 +55,10 @@ pub(crate) fn rounded(
         return Ok(None);
     }
     match finest(alloc, format, bytes, decimals) {
-        Some((lists, fine)) => rounding_warning(alloc, &lists, fine, decimals),
+        Some((lists, fine)) => {
+            let is_finer = has_finer_number(bytes, format, fine);
+            rounding_warning(alloc, &lists, fine, decimals, is_finer)
+        }
         None => Ok(None),
     }
 }

@@ -9,7 +9,9 @@ use crate::texts::Texts;
 use grid_base::TEXT_MAX;
 use mesh_base::MeshLists;
 use outside_io::{Desk, FileDesk, TryLock};
-use refusal_sentences::{StepsEnd, asks_in_vain, is_inside_out, manifold_warning, prefix_warning};
+use refusal_sentences::{
+    StepsEnd, asks_in_vain, is_inside_out, log_end_warning, manifold_warning, prefix_warning,
+};
 use std::alloc::{AllocError, Global};
 use std::fs;
 use std::rt::Files;
@@ -63,6 +65,17 @@ fn steps_warnings(alloc: Global, bytes: &[u8], into: &mut Vec<String>) -> Result
 fn has_steps(words: &[String]) -> bool {
     match words.first() {
         Some(first) => first.as_str() == "track",
+        None => false,
+    }
+}
+
+// Whether the words ask for a log to be read.
+fn reads_log(words: &[String]) -> bool {
+    match words.first() {
+        Some(first) => {
+            let word = first.as_str();
+            word == "measure" || word == "prove" || word == "verify" || word == "replay"
+        }
         None => false,
     }
 }
@@ -163,6 +176,12 @@ where
     mesh_warnings(alloc, names, texts, stored, rt, &mut said)?;
     if has_steps(words) {
         steps_warnings(alloc, texts.last(names.other), &mut said)?;
+    }
+    if reads_log(words) {
+        let log = texts.last(names.other);
+        if let Some(warning) = log_end_warning(alloc, names.other, log)? {
+            said.push(warning)?;
+        }
     }
     if let Some(prefix) = names.prefix {
         if let Some(warning) = name_warning(alloc, prefix, rt)? {

@@ -76,13 +76,13 @@ fn pass_at(s: &Positions, t: &Positions, depth: u8) -> bool
 }
 
 /// Whether a motion of an edge and a triangle passes the written test to a depth, 1 or 0.
-pub(crate) fn tell_passes(start: &TopoFive, end: &TopoFive, depth: u8, answer: &mut u32) -> u32
+pub(crate) fn tell_passes(start: &TopoFive, end: &TopoFive, depth: u32, answer: &mut u32) -> u32
     ensures tests { HasTested (CanPass depth start.now end.now)
         (Passes depth (places start.now) (places end.now)) answer.old answer.new result }
     ensures clear { result ≡ 0 → answer.new ≡ 1 →
         NeverMeet (places start.now) (places end.now) }
 {
-    if depth > DEPTH_MAX {
+    if depth > u32::from(DEPTH_MAX) {
         return RANGE;
     }
     let Some(s) = places(start) else {
@@ -91,6 +91,6 @@ pub(crate) fn tell_passes(start: &TopoFive, end: &TopoFive, depth: u8, answer: &
     let Some(t) = places(end) else {
         return RANGE;
     };
-    *answer = u32::from(pass_at(&s, &t, depth));
+    *answer = u32::from(pass_at(&s, &t, depth as u8));
     DONE
 }

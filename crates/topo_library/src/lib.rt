@@ -1,5 +1,5 @@
 //! The tracker for a caller in C or C++: a surface is made of points and faces, and changed by one call after another.
-//! Coordinates, shifts and lengths are in grid units. Each call but two answers a code: done, no memory, refused for the reason
+//! Coordinates, shifts and lengths are in grid units. Each call but three answers a code: done, no memory, refused for the reason
 //! that the fault tells, an argument beyond its limit or a buffer too short, no tracker in the handle, a tracker that is
 //! stopped, one that is spent, or a log that is not read.
 //!
@@ -58,6 +58,9 @@ use std::alloc::Global;
 use step_text::Directive;
 use telling::{TopoCounted, TopoEdits, TopoWay};
 use track_held::{Event, GivenEdit, GivenFace, GivenPoint, NamedFace, NamedPoint, ToldAnswer};
+
+/// The version of these calls. It rises where what one of them takes or answers changes, and where one is gone.
+pub const CALLS: u32 = 1;
 
 /// Makes a tracker of the surface of these points and faces, whose corners number the points from 1, or refuses them for their first fault.
 /// What `out` held is freed first; where no tracker is made, it holds none.
@@ -173,10 +176,10 @@ pub extern "C" fn topo_shift_all(
 pub extern "C" fn topo_set(
     alloc: Global,
     topo: &mut Topo,
-    depth: u8,
-    passes: u8,
-    zones: u8,
-    halvings: u8,
+    depth: u32,
+    passes: u32,
+    zones: u32,
+    halvings: u32,
 ) -> u32
     ensures beyond { ¬ AreSettings depth passes zones halvings →
         (result ≡ 3) × (topo.new.owned.value ≡ topo.old.owned.value) }
@@ -518,6 +521,14 @@ pub extern "C" fn topo_log(alloc: Global, topo: &mut Topo, into: &mut [u8], size
     read_log(alloc, topo, into, size)
 }
 
+/// The version of these calls, for a caller that was built with another header.
+#[unsafe(no_mangle)]
+pub extern "C" fn topo_calls() -> u32
+    ensures { result ≡ CALLS }
+{
+    CALLS
+}
+
 /// The version of the log that a tracker writes.
 #[unsafe(no_mangle)]
 pub extern "C" fn topo_version() -> u32
@@ -538,7 +549,7 @@ pub extern "C" fn topo_meets(at: &TopoFive, meets: &mut u32) -> u32
 /// Tells 1 where an edge and a triangle that go from five points to five points, all in the same time, pass the written test to a depth, and
 /// else 0. Where they pass they meet at no fraction of the time. A point outside the box and a depth above `DEPTH_MAX` are beyond their limit.
 #[unsafe(no_mangle)]
-pub extern "C" fn topo_passes(start: &TopoFive, end: &TopoFive, depth: u8, passes: &mut u32) -> u32
+pub extern "C" fn topo_passes(start: &TopoFive, end: &TopoFive, depth: u32, passes: &mut u32) -> u32
     ensures tests { HasTested (CanPass depth start.now end.now)
         (Passes depth (places start.now) (places end.now)) passes.old passes.new result }
     ensures clear { result ≡ 0 → passes.new ≡ 1 →

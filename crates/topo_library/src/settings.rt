@@ -9,19 +9,22 @@ use mesh_sizing::Band;
 use step_choose::{PASSES_MAX, Settings};
 
 /// Settings; None where one is beyond its limit.
-pub(crate) fn settings_at(depth: u8, passes: u8, zones: u8, halvings: u8) -> Option<Settings>
+pub(crate) fn settings_at(depth: u32, passes: u32, zones: u32, halvings: u32) -> Option<Settings>
     ensures { MatchOption result (¬ AreSettings depth passes zones halvings)
         (λ set. AreSettings depth passes zones halvings
         × (set ≡ settings_at depth passes zones halvings)) }
 {
-    if depth > DEPTH_MAX || passes > PASSES_MAX || zones > 1 || halvings > HALVINGS_MAX {
+    if depth > u32::from(DEPTH_MAX) || passes > u32::from(PASSES_MAX) {
+        return None;
+    }
+    if zones > 1 || halvings > u32::from(HALVINGS_MAX) {
         return None;
     }
     Some(Settings {
-        depth,
-        passes,
+        depth: depth as u8,
+        passes: passes as u8,
         zones: zones == 1,
-        halvings,
+        halvings: halvings as u8,
     })
 }
 

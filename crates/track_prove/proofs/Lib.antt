@@ -7,4 +7,5 @@ mod VerifiedLines
 mod Prepare
 pub mod Alike
 mod Endings
+mod OneText
 mod Whole

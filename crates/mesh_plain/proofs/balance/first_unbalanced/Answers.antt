@@ -7,7 +7,6 @@ pub returns : goal.returns
 returns c =
     c.first_difference.ensures
     ∙ ap (λ ss. first_difference ss c.deref-2.result.now) c.deref.ensures.value
-    ∙ ap (λ ts. first_difference c.put_in_order.new.sides.items ts) c.deref-2.ensures.value
-    ∙ difference_is_first c.args.n c.args.faces.now _ _ (omega arith) c.requires.vertices c.put_in_order.ensures.order c.put_in_order-2.ensures.order
-    (λ u v. c.put_in_order.ensures.same u v ∙ c.in_ok-sides.ensures.up u v)
-    (λ u v. c.put_in_order-2.ensures.same u v ∙ c.in_ok-sides.ensures.down u v)
+    ∙ ap (λ ts. first_difference c.args.sides.now.up.items ts) c.deref-2.ensures.value
+    ∙ difference_is_first c.args.n c.args.faces.now _ _ (omega arith) c.requires.vertices c.requires.sides.up_order c.requires.sides.down_order
+    c.requires.sides.up c.requires.sides.down
