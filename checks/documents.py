@@ -207,6 +207,7 @@ def main():
     checks.append(("docs/CRATES.md is what docs/crates.py makes of the crates", table == crates_page()))
     lacking = unknown_names(text_of("docs/PROVED.md"))
     checks.append((f"each name that docs/PROVED.md cites stands in the crates {' '.join(lacking)}".rstrip(), not lacking))
+    checks.append(("no row of docs/PROVED.md has more than 300 characters", all(len(line) <= 300 for line in text_of("docs/PROVED.md").splitlines())))
     for crate in crates:
         if not crate.endswith("_tests"):
             faults = readme_faults(crate)
