@@ -5,8 +5,8 @@
 
 The statuses that docs/FORMATS.md lists are those of `topo --help`, word for word, which is told without a build too, README.md has each form of its words, of which the help of its command names each; each log that README.md
 and docs/EXAMPLES.md show is a part of that of the command before it, run anew; the proof that docs/CERTIFICATES.md shows is that of a worked case;
-each crate has its line in docs/PROVED.md and in docs/ARCHITECTURE.md, and each file that a document names is there; and what docs/ARCHITECTURE.md and docs/HARDENING.md
-count, files on a way and wrong edits, is as many. Each crate but those of tests has a README.md: the names that it hands up are public in its sources, and its example stands,
+docs/CRATES.md has each crate, as docs/crates.py makes it, each name that docs/PROVED.md cites stands in the crates, and each file that a document names or links is there; and
+what docs/ARCHITECTURE.md and docs/CRATES.md count, files on a way and wrong edits, is as many. Each crate but those of tests has a README.md: the names that it hands up are public in its sources, and its example stands,
 line by line, in the file that it names.
 """
 
@@ -21,6 +21,9 @@ import textwrap
 from worked_cases import Case
 
 ROOT = os.path.dirname(os.path.dirname(os.path.abspath(__file__)))
+sys.path.insert(0, os.path.join(ROOT, "docs"))
+from crates import page as crates_page  # noqa: E402
+
 TOPO = os.path.join(ROOT, "topo")
 
 
@@ -156,6 +159,21 @@ def readme_faults(crate):
     return faults
 
 
+def lost_links(name):
+    """The links of a document to files of the repository that are not there."""
+    links = re.findall(r"\]\(([^)#:\s]+)(?:#[^)]*)?\)", text_of(name))
+    return [it for it in links if not os.path.exists(os.path.join(ROOT, os.path.dirname(name), it))]
+
+
+def unknown_names(text):
+    """The names of definitions, laws and calls, and of files of `specs` and `src`, that a document cites and no crate has."""
+    folders = [os.path.join(ROOT, "crates", crate, part) for crate in os.listdir(os.path.join(ROOT, "crates")) for part in ("src", "specs")]
+    files = [os.path.join(top, file) for folder in folders for top, _, files in os.walk(folder) for file in files]
+    words = {word for path in files for word in re.findall(r"\w+", open(path).read())} | set(os.listdir(os.path.join(ROOT, "crates")))
+    cited = {it for it in re.findall(r"`([A-Za-z_]\w*(?:::\w+)?)`", text) if re.search(r"_|::|[a-z][A-Z]", it)}
+    return sorted(it for it in cited if not set(it.split("::")) <= words)
+
+
 def main():
     # where the program is to be built first, that takes its time
     subprocess.run([TOPO, "--version"], check=True, stdout=subprocess.DEVNULL)
@@ -183,17 +201,23 @@ def main():
     explained = [line.strip() for line in text_of("docs/CERTIFICATES.md").splitlines()]
     checks.append(("docs/CERTIFICATES.md shows the proof of a worked case", is_part(proof, explained)))
     crates = [line.partition(":")[0].split()[0] for line in text_of("crates.txt").splitlines() if ":" in line and not line.startswith("#")]
-    for name in ("docs/PROVED.md", "docs/ARCHITECTURE.md"):
-        lacking = [crate for crate in crates if f"`{crate}`" not in text_of(name)]
-        checks.append((f"{name} names each crate {' '.join(lacking)}".rstrip(), not lacking))
+    table = text_of("docs/CRATES.md")
+    lacking = [crate for crate in crates if f"`{crate}`" not in table]
+    checks.append((f"docs/CRATES.md names each crate {' '.join(lacking)}".rstrip(), not lacking))
+    checks.append(("docs/CRATES.md is what docs/crates.py makes of the crates", table == crates_page()))
+    lacking = unknown_names(text_of("docs/PROVED.md"))
+    checks.append((f"each name that docs/PROVED.md cites stands in the crates {' '.join(lacking)}".rstrip(), not lacking))
+    checks.append(("no row of docs/PROVED.md has more than 300 characters", all(len(line) <= 300 for line in text_of("docs/PROVED.md").splitlines())))
     for crate in crates:
         if not crate.endswith("_tests"):
             faults = readme_faults(crate)
             checks.append((f"crates/{crate}/README.md is true {'; '.join(faults)}".rstrip(), not faults))
-    for name in ["README.md", *(f"docs/{it}" for it in sorted(os.listdir(os.path.join(ROOT, "docs"))) if it.endswith(".md"))]:
+    for name in ["README.md", "CONTRIBUTING.md", "CHANGELOG.md", *(f"docs/{it}" for it in sorted(os.listdir(os.path.join(ROOT, "docs"))) if it.endswith(".md"))]:
         named = re.findall(r"`((?:crates|docs|checks|bench|examples|\.ci)/[\w./*-]+)`", text_of(name))
         lost = [it for it in named if "*" not in it and not os.path.exists(os.path.join(ROOT, it))]
         checks.append((f"each file that {name} names is there {' '.join(lost)}".rstrip(), not lost))
+        lost = lost_links(name)
+        checks.append((f"each link of {name} leads to a file {' '.join(lost)}".rstrip(), not lost))
     ways = ways_in(text_of("docs/ARCHITECTURE.md"))
     checks.append(("docs/ARCHITECTURE.md has three ways", [whose for whose, _, _ in ways] == ["each vertex", "each pair of a step", "`split 5`"]))
     for whose, count, files in ways:
@@ -202,9 +226,9 @@ def main():
         good = len(files) == count and not lost and not twice
         checks.append((f"docs/ARCHITECTURE.md names {count} files on the way of {whose}, all there, none twice {' '.join(lost + twice)}".rstrip(), good))
     checks.append(("a vertex goes through 30 files at most", all(count <= 30 for whose, count, _ in ways if whose == "each vertex")))
-    for crate, edits, further in re.findall(r"(?m)^\| `(\w+)` \| \d+ \| (\d+) \| (\d+) \|", text_of("docs/HARDENING.md")):
+    for crate, edits, further in re.findall(r"(?m)^\| \[`(\w+)`\].*\| (\d+) \| (\d+) \|$", table):
         there = tuple(edits_of(crate, folder) for folder in ("must-fail", "must-fail-more"))
-        checks.append((f"docs/HARDENING.md counts the edits of {crate}", there == (int(edits), int(further))))
+        checks.append((f"docs/CRATES.md counts the edits of {crate}", there == (int(edits), int(further))))
     failed = sum(not good for _, good in checks)
     for what, good in checks:
         print(("ok     " if good else "FAILED ") + what)
