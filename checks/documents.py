@@ -1,7 +1,7 @@
 #!/usr/bin/env python3
 """Looks whether the documents are true of the built program and of the repository.
 
-    checks/documents.py
+    checks/documents.py [PROGRAM]
 
 The statuses that docs/FORMATS.md lists are those of `topo --help`, word for word, which is told without a build too, README.md has each form of its words, of which the help of its command names each; each log that README.md
 and docs/EXAMPLES.md show is a part of that of the command before it, run anew; the proof that docs/CERTIFICATES.md shows is that of a worked case;
@@ -10,6 +10,7 @@ what docs/ARCHITECTURE.md and docs/CRATES.md count, files on a way and wrong edi
 line by line, in the file that it names.
 """
 
+import argparse
 import os
 import re
 import shutil
@@ -175,7 +176,10 @@ def unknown_names(text):
 
 
 def main():
-    # where the program is to be built first, that takes its time
+    global TOPO
+    reader = argparse.ArgumentParser(description=__doc__.splitlines()[0])
+    reader.add_argument("program", nargs="?", default=TOPO, metavar="PROGRAM", help="the built program; ./topo, which is built first where need be, if left out")
+    TOPO = os.path.abspath(reader.parse_args().program)
     subprocess.run([TOPO, "--version"], check=True, stdout=subprocess.DEVNULL)
     readme, formats = text_of("README.md"), text_of("docs/FORMATS.md")
     steps = text_of("crates/topo/data/steps.txt")
