@@ -203,8 +203,8 @@ def main():
             faults = readme_faults(crate)
             checks.append((f"crates/{crate}/README.md is true {'; '.join(faults)}".rstrip(), not faults))
     for folder in ("bench", "checks"):
-        heads, told = list(heads_of(folder)), text_of(f"{folder}/README.md").splitlines()
-        checks.append((f"{folder}/README.md has each script", heads == [line for line in told if line.startswith("- `")]))
+        heads, listed = list(heads_of(folder)), text_of(f"{folder}/README.md").splitlines()
+        checks.append((f"{folder}/README.md has each script", heads == [line for line in listed if line.startswith("- `")]))
     for name in ["README.md", "bench/README.md", "checks/README.md", *(f"docs/{it}" for it in sorted(os.listdir(os.path.join(ROOT, "docs"))) if it.endswith(".md"))]:
         named = re.findall(r"`((?:crates|docs|checks|bench|examples|\.ci)/[\w./*-]+)`", text_of(name))
         lost = [it for it in named if "*" not in it and not os.path.exists(os.path.join(ROOT, it))]
