@@ -1,73 +1,36 @@
 #!/usr/bin/env python3
 """Measures a built program against what it is to cost, and beside a second program where one is given.
 
-    bench/aims.py PROGRAM [OTHER [BEST_OF]]
-
-PROGRAM and OTHER are paths of executables with the command line of `topo`. Makes its own meshes, runs each job BEST_OF (3) times, and prints a
-table: the job, the least processor seconds of the whole process, those of the other program (a dash where it can't do the job, or takes more
-than 30 s), their ratio, and the aim. Rates are those of a pass beside a pass over the same mesh that finds nothing to do.
+Makes its own meshes and prints a table: the job, the least processor seconds of the whole process, those of the other program (a dash where it
+can't do the job, or takes more than 30 s), their ratio, and the aim. Rates are those of a pass beside a pass over the same mesh that finds
+nothing to do.
 """
 
 import math
 import os
 import random
-import subprocess
-import sys
 import tempfile
 
-from cliffs import put, small_ones
-from job import cubes, put_mesh, squared_lengths, torus
-from there_and_back import steps_of
+from job import Run, cubes, put, put_mesh, reader_of, rough, small_ones, squared_lengths, there_and_back, torus, turned, words_of
 
-BOX = 67_108_864
+BOX = 268_435_456
 FACES_MAX = 131_072
-
-
-# Runs the words after the first for at most that many seconds, and prints the status, the processor seconds and the most memory in KiB. A
-# process of its own, as small as may be, since a program counts the memory of what starts it.
-ONE = """
-import os, sys
-child = os.posix_spawnp("timeout", ["timeout"] + sys.argv[1:], os.environ, file_actions=[(os.POSIX_SPAWN_OPEN, 2, os.devnull, os.O_WRONLY, 0)])
-_, status, used = os.wait4(child, 0)
-sys.stderr.write("%d %f %d" % (os.waitstatus_to_exitcode(status), used.ru_utime + used.ru_stime, used.ru_maxrss))
-"""
-
-
-class Run:
-    """The least seconds of some runs of one job, its most memory, and the lines of its log."""
-
-    def __init__(self, program, folder, best_of, seconds_at_most):
-        self.seconds, self.memory, self.status = math.inf, 0, None
-        for _ in range(best_of):
-            if self.status == 124:
-                break
-            words = [sys.executable, "-S", "-c", ONE, str(seconds_at_most), program, "track", "mesh.obj", "steps.txt", "t"]
-            with open(os.path.join(folder, "log"), "wb") as log:
-                said = subprocess.run(words, cwd=folder, stdout=log, stderr=subprocess.PIPE, check=True).stderr.split()
-            self.status = int(said[0])
-            self.seconds = min(self.seconds, float(said[1]))
-            self.memory = max(self.memory, int(said[2]) / 1024)
-        with open(os.path.join(folder, "log"), "rb") as log:
-            self.lines = log.read().split(b"\n")[:-1]
-
-    def counted(self, word):
-        return sum(line.startswith(word + b" ") for line in self.lines)
 
 
 class Programs:
     """The program, and the other one where there is one, on one mesh and then another."""
 
-    def __init__(self, program, other, best_of):
-        self.program, self.other, self.best_of = program, other, best_of
+    def __init__(self, words):
+        self.program, self.best_of, self.sized, self.small = words.program, words.best_of, words.sized, words.small
+        self.other = words.other and os.path.abspath(words.other)
 
     def run(self, mesh, steps):
         """The runs of both."""
         with tempfile.TemporaryDirectory() as folder:
             put_mesh(folder, *mesh)
-            with open(os.path.join(folder, "steps.txt"), "w") as out:
-                out.writelines(steps)
-            mine = Run(self.program, folder, self.best_of, 600)
-            theirs = Run(self.other, folder, self.best_of, 30) if self.other else None
+            steps = list(steps)
+            mine = Run(self.program, folder, steps, self.best_of)
+            theirs = Run(self.other, folder, steps, self.best_of, 30) if self.other else None
         if theirs and (theirs.status != mine.status or len(theirs.lines) != len(mine.lines)):
             theirs = None
         return mine, theirs
@@ -82,17 +45,6 @@ def row(what, mine, theirs, aim):
 
 def seconds(run):
     return None if run is None else run.seconds
-
-
-def turned(around, across):
-    """A ring, and the shifts that take each vertex to where the next one round the ring stands."""
-    points, faces = torus(around, across)
-    steps = []
-    for i in range(around):
-        for j in range(across):
-            at, to = points[i * across + j], points[(i + 1) % around * across + j]
-            steps.append("shift %d %d %d %d\n" % ((i * across + j + 1,) + tuple(q - p for p, q in zip(at, to))))
-    return (points, faces), steps + ["step\n"]
 
 
 def thrown_cubes(n, apart, by):
@@ -123,30 +75,25 @@ def sheets(side, step, gap, count):
     return points, faces
 
 
-def rough(around, across):
-    dice = random.Random(3)
-    points, faces = torus(around, across, radius=4_000_000, tube=1_500_000)
-    return [tuple(x + dice.randint(-9_000, 9_000) for x in p) for p in points], faces
-
-
 def steps_and_rest(programs):
-    """Steps and tests at rest, small and large: the figures, by what they are of."""
-    mine, theirs = programs.run(cubes(12), steps_of(8 * 12 ** 3, 64))
-    row("64 steps of 20,736 faces of cubes", mine.seconds, seconds(theirs), "-")
+    """Steps and tests at rest, small and large."""
+    n, count = (4, 4) if programs.small else (12, 64)
+    mesh = cubes(n)
+    mine, theirs = programs.run(mesh, [*there_and_back(len(mesh[0]), count), "save\n"])
+    row(f"{count} steps of {len(mesh[1]):,} faces of cubes", mine.seconds, seconds(theirs), "-")
     found = {}
-    for around, across in ((128, 79), (256, 256)):
-        ring, steps = turned(around, across)
+    for sides in ((128, 79), (256, 256)):
+        ring, steps = turned(*programs.sized(*sides))
         for what, these in (("at rest", []), ("turned by an edge length", steps)):
             mine, theirs = programs.run(ring, these)
-            found[what, around] = mine.seconds
+            found[what, sides[0]] = mine.seconds
             row(f"{len(ring[1]):,} faces, {what}", mine.seconds, seconds(theirs), "-")
     for what in ("at rest", "turned by an edge length"):
         row(f"{what}, 6.48 times the faces: how many times the seconds", found[what, 256] / found[what, 128], None, "at most 7")
-    return found["at rest", 256]
 
 
-def whole_motions(programs, rest):
-    sheet = sheets(181, 1_000, 0, 1)
+def whole_motions(programs):
+    sheet = sheets(*programs.sized(181), 1_000, 0, 1)
     still, _ = programs.run(sheet, [])
     row(f"a sheet of {len(sheet[1]):,} faces at rest", still.seconds, None, "-")
     for by in (1_000, 16_000, 1_000_000):
@@ -155,25 +102,26 @@ def whole_motions(programs, rest):
 
 
 def thrown(programs):
-    one, _ = programs.run(*thrown_cubes(12, 3_000, 40))
-    row("1,728 cubes, each thrown its own way by an edge length", one.seconds, None, "-")
-    mine, theirs = programs.run(*thrown_cubes(12, 3_000, 4_000))
+    n = 4 if programs.small else 12
+    one, _ = programs.run(*thrown_cubes(n, 3_000, 40))
+    row(f"{n ** 3:,} cubes, each thrown its own way by an edge length", one.seconds, None, "-")
+    mine, theirs = programs.run(*thrown_cubes(n, 3_000, 4_000))
     row(f"by a hundred edge lengths ({mine.counted(b'hit')} failing pairs)", mine.seconds, seconds(theirs), f"10 times that: {10 * one.seconds:.2f}")
 
 
 def halved(programs):
-    mesh = sheets(50, 1_000, 1, 2)
+    mesh = sheets(*programs.sized(50), 1_000, 1, 2)
     half = len(mesh[0]) // 2
     down = ["set passes 0\n", "set zones 0\n"] + ["shift %d 0 0 -60000000\n" % v for v in range(half + 1, 2 * half + 1)]
     first, _ = programs.run(mesh, down + ["set halvings 0\n", "step\n"])
-    row(f"two sheets of 10,000 faces, one through the other: {first.counted(b'hit')} failing pairs", first.seconds, None, "-")
+    row(f"two sheets of {len(mesh[1]) // 2:,} faces, one through the other: {first.counted(b'hit')} failing pairs", first.seconds, None, "-")
     mine, _ = programs.run(mesh, down + ["set halvings 27\n", "step\n"])
     row(f"the same, {next((x.decode() for x in mine.lines if x.startswith(b'moved')), 'not ended')}".strip(), mine.seconds, None, f"twice that: {2 * first.seconds:.2f}")
 
 
 def passes(programs):
-    for around, across in ((140, 72), (280, 143), (245, 240)):
-        mesh = rough(around, across)
+    for sides in ((140, 72), (280, 143), (245, 240)):
+        mesh = rough(*programs.sized(*sides))
         lengths = squared_lengths(*mesh)
         many = min(len(mesh[1]) // 4, (FACES_MAX - len(mesh[1])) // 2 - 10)
         idle, idle_there = programs.run(mesh, ["split 268435456\n"])
@@ -192,7 +140,7 @@ def refined(programs):
     coarse = torus(24, 12, radius=4_000_000, tube=1_500_000)
     longest = math.isqrt(max(squared_lengths(*coarse)))
     splits = [f"split {int(longest / 1.5 ** k)}\n" for k in range(1, 12)]
-    fine = rough(280, 143)
+    fine = rough(*programs.sized(280, 143))
     lengths = squared_lengths(*fine)
     middle = math.isqrt(lengths[len(lengths) // 2])
     collapses = [f"collapse {int(middle * 1.3 ** k)}\n" for k in range(9)]
@@ -205,43 +153,40 @@ def refined(programs):
 
 
 def sizes(programs):
-    mesh = small_ones(16_000)
+    """Faces whose sizes differ much, beside as many of one size."""
+    part = 100 if programs.small else 1
+    mesh = small_ones(16_000 // part)
     plain, _ = programs.run(mesh, [])
-    row("64,000 faces of small bodies at rest", plain.seconds, None, "-")
+    row(f"{len(mesh[1]):,} faces of small bodies at rest", plain.seconds, None, "-")
     aim = f"3 times that: {3 * plain.seconds:.2f}"
     put(mesh, (-60_000_000,) * 3, 320_000_000)
     named = [("the same in one huge body", mesh)]
-    mesh = small_ones(8_192, 3, 5)
-    for i in range(8_192):
+    mesh = small_ones(8_192 // part, 3, 5)
+    for i in range(8_192 // part):
         put(mesh, (1_000_000 + i % 128 * 20_000, i // 128 * 20_000, 0), 15_000)
-    named.append(("65,536 faces, half tiny and half large", mesh))
+    named.append((f"{len(mesh[1]):,} faces, half tiny and half large", mesh))
     mesh = ([], [])
-    for i in range(16_384):
+    for i in range(16_384 // part):
         put(mesh, (-60_000_000, i % 128 * 1_000, i // 128 * 1_000), (120_000_000, 400, 400))
-    named.append(("65,536 faces of parallel needles", mesh))
+    named.append((f"{len(mesh[1]):,} faces of parallel needles", mesh))
     mesh = ([], [])
     for level in range(20):
         size, apart = 2 ** (level + 1), 2 * BOX // 30
-        for i in range(819):
+        for i in range(819 // part):
             put(mesh, (-BOX + i % 29 * apart, -BOX + i // 29 * apart, -BOX + 10 + 3 * size), min(size, apart - 2))
-    named.append(("65,520 faces of twenty sizes", mesh))
+    named.append((f"{len(mesh[1]):,} faces of twenty sizes", mesh))
     for what, mesh in named:
         mine, theirs = programs.run(mesh, [])
         row(what, mine.seconds, seconds(theirs), aim)
 
 
 def main():
-    words = sys.argv[1:]
-    program, other = (os.path.abspath(w) if w else None for w in (words + [None])[:2])
-    programs = Programs(program, other, int(words[2]) if len(words) > 2 else 3)
-    print("| job | seconds | other program | ratio | aim |\n|---|---|---|---|---|")
-    rest = steps_and_rest(programs)
-    whole_motions(programs, rest)
-    thrown(programs)
-    halved(programs)
-    passes(programs)
-    refined(programs)
-    sizes(programs)
+    reader = reader_of(__doc__)
+    reader.add_argument("other", nargs="?", metavar="OTHER", help="a second program with the same command line")
+    programs = Programs(words_of(reader))
+    print("| job | seconds | other program | ratio | aim |\n|---|---|---|---|---|", flush=True)
+    for part in (steps_and_rest, whole_motions, thrown, halved, passes, refined, sizes):
+        part(programs)
 
 
 if __name__ == "__main__":

@@ -1,34 +1,17 @@
 #!/usr/bin/env python3
-"""Measures the greatest and the most crooked inputs: vertices of high degree, boxes that overlap, many bodies, all at one point, 64 MiB of a line.
+"""Measures the greatest and the most crooked inputs: sizes that differ much, needles, vertices of high degree, boxes that overlap, bodies that go
+fast, many bodies, all at one point, 64 MiB of a line; and those at the limits also on a stack of 64 KiB.
 
-    bench/great_inputs.py PROGRAM [SECONDS [WORD]]
-
-PROGRAM is the path of an executable with the command line of `topo`. Makes each input, runs its command on it, and prints a table: the input, the exit
-status, the processor seconds and the most memory in MiB. What does not end within SECONDS (100) is told so. With WORD, only inputs whose name has it.
+Makes each input, runs its command on it, and prints a table: the input, the exit status, the processor seconds, the most memory in MiB, and
+how the last step was taken.
 """
 
 import math
 import os
-import subprocess
-import sys
 import tempfile
 
-from cliffs import double_cone
-from job import cubes, put_mesh, torus
+from job import TETRAHEDRON, TRACK, cubes, measured, put, put_mesh, reader_of, small_ones, torus, words_of
 
-# runs the words behind a limit of seconds and one of KiB of stack (0: as it is), and tells the status, the seconds and the memory
-ONE = """
-import os, resource, sys
-limit, stack, *words = sys.argv[1:]
-if stack != "0":
-    resource.setrlimit(resource.RLIMIT_STACK, (int(stack) << 10, resource.getrlimit(resource.RLIMIT_STACK)[1]))
-null = [(os.POSIX_SPAWN_OPEN, 2, os.devnull, os.O_WRONLY, 0)]
-child = os.posix_spawnp("timeout", ["timeout", limit] + words, os.environ, file_actions=null)
-_, status, used = os.wait4(child, 0)
-sys.stderr.write("%d %f %d" % (os.waitstatus_to_exitcode(status), used.ru_utime + used.ru_stime, used.ru_maxrss))
-"""
-TETRAHEDRON = ([(0, 0, 0), (4, 0, 0), (0, 4, 0), (0, 0, 4)], [(1, 3, 2), (1, 2, 4), (2, 3, 4), (1, 4, 3)])
-TRACK = ["track", "mesh.obj", "steps.txt", "t"]
 RADIUS = 60_000_000
 
 
@@ -45,6 +28,15 @@ def drum(n, rise=0, aside=0):
         j = (i + 1) % n
         faces += [(j + 1, i + 1, 2 * n + 1), (n + i + 1, n + j + 1, 2 * n + 2), (i + 1, j + 1, n + j + 1), (i + 1, n + j + 1, n + i + 1)]
     return points, faces
+
+
+def double_cone(n):
+    """Two fans of N faces over one rim."""
+    faces = []
+    for i in range(n):
+        j = (i + 1) % n
+        faces += [(i + 1, j + 1, n + 1), (j + 1, i + 1, n + 2)]
+    return circle(n, 0) + [(0, 0, RADIUS), (0, 0, -RADIUS)], faces
 
 
 def two_cones(n):
@@ -90,6 +82,27 @@ def filled(line):
     """64 MiB of a line."""
     line += "\n"
     return line * ((64 << 20) // len(line))
+
+
+def of_sizes():
+    yield "64,000 faces of small bodies", small_ones(16_000), "", TRACK
+    mesh = small_ones(16_000)
+    put(mesh, (-60_000_000,) * 3, 320_000_000)
+    yield "the same in one huge body", mesh, "", TRACK
+    mesh = small_ones(8_192, 3, 5)
+    for i in range(8_192):
+        put(mesh, (1_000_000 + i % 128 * 20_000, i // 128 * 20_000, 0), 15_000)
+    yield "65,536 faces, half tiny and half large", mesh, "", TRACK
+    mesh = ([], [])
+    for i in range(4_096):
+        put(mesh, (0, i % 64 * 1_000, i // 64 * 1_000), (50_000_000, 500, 500))
+    yield "16,384 faces of parallel needles", mesh, "", TRACK
+    ring = torus(256, 256)
+    for by in (0, 1_000_000, 16_000_000, 100_000_000):
+        yield f"131,072 faces of a ring, moved as a whole by {by:,}", ring, f"shift all {by} 0 0\nstep\n", TRACK
+    drop = small_ones(16_000)
+    half = "".join("shift %d 0 0 %d\n" % (v, 3_000_000) for v in range(1, len(drop[0]) // 2 + 1))
+    yield "64,000 faces of small bodies, half of which fly off", drop, half + "step\n", TRACK
 
 
 def of_degree():
@@ -145,16 +158,11 @@ def of_lines():
 
 
 def inputs():
+    yield from of_sizes()
     yield from of_degree()
     yield from of_bodies()
     yield from of_limits()
     yield from of_lines()
-
-
-def measured(program, folder, words, limit, stack=0, into=os.devnull):
-    with open(into, "wb") as out:
-        said = subprocess.run([sys.executable, "-S", "-c", ONE, str(limit), str(stack), program, *words], cwd=folder, stdout=out, stderr=subprocess.PIPE, check=True).stderr.split()
-    return int(said[0]), float(said[1]), int(said[2]) / 1024
 
 
 def row(program, limit, what, mesh, steps, words, stack=0):
@@ -168,20 +176,23 @@ def row(program, limit, what, mesh, steps, words, stack=0):
             out.write(steps)
         # a log, and a proof, are made first
         if "log" in words:
-            measured(program, folder, TRACK, limit, into=os.path.join(folder, "log"))
+            measured(program, folder, TRACK, limit)
         if "proof" in words:
-            measured(program, folder, ["prove", "mesh.obj", "log"], limit, into=os.path.join(folder, "proof"))
-        status, seconds, memory = measured(program, folder, words, limit, stack)
+            measured(program, folder, ["prove", "mesh.obj", "log"], limit, into="proof")
+        status, seconds, memory = measured(program, folder, words, limit, stack, into="out")
+        with open(os.path.join(folder, "out"), "rb") as log:
+            taken = [line for line in log.read(1 << 27).split(b"\n") if line.startswith(b"moved ")]
     told = f"not ended in {limit} s" if status == 124 else f"{seconds:.2f}"
-    print(f"| {what} | {status} | {told} | {memory:.0f} |", flush=True)
+    print(f"| {what} | {status} | {told} | {memory:.0f} | {taken[-1].decode() if taken else '-'} |", flush=True)
 
 
 def main():
-    if len(sys.argv) < 2:
-        sys.exit(__doc__)
-    program, limit = os.path.abspath(sys.argv[1]), int((sys.argv[2:] + ["100"])[0])
-    word = (sys.argv[3:] + [""])[0]
-    print("| input | status | s | MiB |\n|---|---|---|---|", flush=True)
+    reader = reader_of(__doc__, best_of=False, small=False)
+    reader.add_argument("--seconds", type=int, default=100, metavar="N", help="what does not end by then is reported so (100)")
+    reader.add_argument("--only", default="", metavar="WORD", help="only inputs whose name has it")
+    asked = words_of(reader)
+    program, limit, word = asked.program, asked.seconds, asked.only
+    print("| input | status | s | MiB | taken |\n|---|---|---|---|---|", flush=True)
     for what, mesh, steps, words in inputs():
         if word in what:
             row(program, limit, what, mesh, steps, words)

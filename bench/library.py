@@ -1,11 +1,8 @@
 #!/usr/bin/env python3
 """Measures steps through the library against steps by files: cubes that go there and back, 20,736 faces.
 
-    bench/library.py [PROGRAM [STEPS]]
-
-PROGRAM is the built program, in the place of `topo`; the library is `library/out/libtopo.a`, which `library/build` makes. Prints the processor time
-of a step and the most memory of both, and how they stand to one another; the logs have to be the same. What making the tracker costs is
-taken off, by a job of no step.
+Prints the processor time of a step and the most memory of both, and how they stand to one another; the logs have to be the same. What
+making the tracker costs is taken off, by a job of no step.
 """
 
 import os
@@ -13,19 +10,7 @@ import subprocess
 import sys
 import tempfile
 
-from job import ROOT, TOPO, cubes
-
-ROW = 12
-
-
-def steps_of(count):
-    for k in range(count):
-        sign = -1 if k % 2 else 1
-        for v in range(8 * ROW**3):
-            by = [sign * (1 + (38 + 7 * (v // 8 + 1) + 13 * axis) % 9) for axis in range(3)]
-            yield "shift %d %d %d %d\n" % (v + 1, *by)
-        yield "step\n"
-
+from job import ROOT, cubes, put_mesh, put_steps, reader_of, there_and_back, words_of
 
 def cost(words, folder, log):
     """The processor seconds and the most memory, in MB, of a command whose output goes to a file."""
@@ -38,22 +23,22 @@ def cost(words, folder, log):
 
 
 def main():
-    program = os.path.abspath(sys.argv[1]) if len(sys.argv) > 1 else TOPO
-    count = int(sys.argv[2]) if len(sys.argv) > 2 else 64
+    reader = reader_of(__doc__)
+    reader.add_argument("--steps", type=int, default=64, metavar="N", help="so many steps (64)")
+    reader.add_argument("--library", default=os.path.join(ROOT, "library", "out"), metavar="FOLDER", help="where libtopo.a is; library/build makes it in library/out")
+    words = words_of(reader)
+    count, row = words.steps, 3 if words.small else 12
     with tempfile.TemporaryDirectory() as folder:
-        points, faces = cubes(ROW)
-        with open(os.path.join(folder, "m.obj"), "w") as out:
-            out.writelines("v %d %d %d\n" % tuple(p) for p in points)
-            out.writelines("f %d %d %d\n" % tuple(f) for f in faces)
+        points, faces = cubes(row)
+        put_mesh(folder, points, faces)
         driver = os.path.join(folder, "library_cubes")
-        words = ["cc", "-std=c99", "-O2", "-I", os.path.join(ROOT, "library"), os.path.join(ROOT, "bench/library_cubes.c")]
-        subprocess.run([*words, os.path.join(ROOT, "library/out/libtopo.a"), "-o", driver], check=True)
+        call = ["cc", "-std=c99", "-O2", "-I", os.path.join(ROOT, "library"), os.path.join(ROOT, "bench/library_cubes.c")]
+        subprocess.run([*call, os.path.join(os.path.abspath(words.library), "libtopo.a"), "-o", driver], check=True)
         found = {}
         for steps in (0, count):
-            with open(os.path.join(folder, "s.txt"), "w") as out:
-                out.writelines(steps_of(steps))
-            found["library", steps] = min(cost([driver, str(ROW), str(steps)], folder, "library.log") for _ in range(3))
-            found["files", steps] = min(cost([program, "track", "m.obj", "s.txt", "t"], folder, "files.log") for _ in range(3))
+            put_steps(folder, there_and_back(len(points), steps))
+            found["library", steps] = min(cost([driver, str(row), str(steps)], folder, "library.log") for _ in range(words.best_of))
+            found["files", steps] = min(cost([words.program, "track", "mesh.obj", "steps.txt", "t"], folder, "files.log") for _ in range(words.best_of))
         with open(os.path.join(folder, "library.log"), "rb") as one, open(os.path.join(folder, "files.log"), "rb") as other:
             same = one.read() == other.read()
     each = {}

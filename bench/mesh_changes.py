@@ -1,20 +1,18 @@
 #!/usr/bin/env python3
 """Times the changes of splits on each mesh and steps of a mesh alone, and compares the three meshes along random calls.
 
-    bench/mesh_changes.py [CALLS]
-
-Builds the program `mesh_bench`, or takes the executable that MESH_BENCH names in the environment, and runs it on tori of 20,000 and
-131,064 faces. It makes 100,000 times the changes of a split (two faces go, a vertex and four faces come), each time after a mark, and then
+Runs the program `mesh_bench` on rings of 20,000 and 131,064 faces. It makes 100,000 times the changes of a split (two faces go, a vertex and four faces come), each time after a mark, and then
 goes back or settles. A settled split is joined again by as many changes, marked and settled too, so that the mesh keeps its size. A plain
 mesh and one of half-edges copy themselves for each mark, and do so 50 times only. Then it reads all corners and moves all vertices, ten
 times.
 
 Prints a table: the microseconds of the processor for seven changes with their mark and their end, each tested before whether it may be
 made, or for a step, less the least of three runs that make the mesh alone; the most memory of the whole process; and the aim. At last it
-makes CALLS (100,000) random calls of each of the three meshes, with three keys, and says whether they answered alike. Ends with status 1
+makes 100,000 random calls of each of the three meshes, with three keys, and says whether they answered alike. Ends with status 1
 where they do not, or where less was done than was asked. Takes some minutes.
 """
 
+import argparse
 import os
 import subprocess
 import sys
@@ -77,8 +75,11 @@ def play(program, calls, key):
 
 
 def main():
-    calls = int(sys.argv[1]) if len(sys.argv) > 1 else 100_000
-    program = os.environ.get("MESH_BENCH")
+    reader = argparse.ArgumentParser(description=__doc__, formatter_class=argparse.RawDescriptionHelpFormatter)
+    reader.add_argument("program", nargs="?", metavar="PROGRAM", help="the built `mesh_bench`, which is built if left out")
+    reader.add_argument("--calls", type=int, default=100_000, metavar="N", help="so many random calls (100,000)")
+    words = reader.parse_args()
+    program, calls = words.program and os.path.abspath(words.program), words.calls
     if program is None:
         build()
         program = PROGRAM

@@ -1,12 +1,10 @@
 #!/usr/bin/env python3
 """Refuses each allocation of the built program in turn, on a few jobs.
 
-    checks/allocations.py [MOST]
-
 Each run must end by itself, with status 1 (no memory) or as the whole run did; what it wrote to standard output must be the first bytes of
-the whole log; each mesh whose line was written whole must be stored as in the whole run, but that of a last line, which may be missing; and
-no other file may be there. Of a replay, which writes a line at its end alone, the first meshes must be stored; of a conversion nothing, and the other commands store no file.
-At most MOST (2,000) allocations of a job are tried, evenly spread. It needs a C compiler, `cc`.
+the whole log; each mesh whose line was written whole must be stored as in the whole run, but that of a last line, which may be missing;
+and no other file may be there. Of a replay, which writes a line at its end alone, the first meshes must be stored; the other commands
+store no file. The allocations tried are evenly spread. It needs a C compiler, `cc`, and glibc.
 """
 
 import os
@@ -14,8 +12,8 @@ import subprocess
 import sys
 import tempfile
 
-ROOT = os.path.dirname(os.path.dirname(os.path.abspath(__file__)))
-TOPO = os.path.join(ROOT, "topo")
+from calling import ROOT, TOPO, add_number, reader_of, words_of
+
 PROGRAM = os.path.join(ROOT, "crates/topo/out/topo")
 TETRAHEDRON = "v 0 0 0\nv 4 0 0\nv 0 4 0\nv 0 0 4\nf 1 3 2\nf 1 2 4\nf 2 3 4\nf 1 4 3\n"
 FLAT = "v 0 0 0\nv 24 0 0\nv 12 20 0\nv 12 6 4\nv 12 6 -4\nf 1 2 4\nf 2 3 4\nf 3 1 4\nf 2 1 5\nf 3 2 5\nf 1 3 5\n"
@@ -137,8 +135,12 @@ def is_as_promised(command, whole, ended):
 
 
 def main():
-    most = int(sys.argv[1]) if len(sys.argv) == 2 else 2000
-    subprocess.run([TOPO, "--version"], check=True, stdout=subprocess.DEVNULL)
+    global PROGRAM
+    reader = reader_of(__doc__)
+    add_number(reader, "most", 2000, "so many allocations of a job at most")
+    words = words_of(reader)
+    # what is preloaded has to reach the program itself, and not the script that builds it
+    PROGRAM, most = PROGRAM if words.program == TOPO else words.program, words.most
     failed = 0
     with tempfile.TemporaryDirectory() as room:
         shim, folder = os.path.join(room, "failing_alloc.so"), os.path.join(room, "job")

@@ -1,13 +1,10 @@
 #!/usr/bin/env python3
-"""Breaks meshes, and compares what `check` tells of them with what a plain look at all faces and at all pairs finds.
+"""Breaks meshes, and compares what `check` reports of them with a plain look at all faces and at all pairs.
 
-    checks/broken_meshes.py [COUNT [SEED [PROGRAM]]]
-
-COUNT meshes (200 at first) are made from SEED on (1 at first): bodies that stand near or in one another, as random_jobs.py makes them, and rings
-that are linked; of three in four some faces are dropped, doubled, turned round, or get a corner of another face, of no vertex, or one of
-their own twice. The plain look goes by the definitions, face by face and pair by pair, in whole numbers, and is not that of
-`reference/topo.py`, whose `check` has to tell the same. The last line tells how many were alike, and how many had a fault of each kind; at a
-difference the mesh is kept, and the exit status is 1.
+The meshes are bodies that stand near or in one another, as random_jobs.py makes them, and rings that are linked; of three in four some
+faces are dropped, doubled, turned round, or get a corner of another face, of no vertex, or one of their own twice. The plain look goes by
+the definitions, face by face and pair by pair, in whole numbers, and is not that of `reference/topo.py`, whose `check` has to report the
+same. The last line counts those alike, and those with a fault of each kind; at a difference the mesh is kept, and the exit status is 1.
 """
 
 import collections
@@ -17,7 +14,8 @@ import subprocess
 import sys
 import tempfile
 
-from random_jobs import REFERENCE, TOPO, keep_files, mesh_of, ring
+from calling import REFERENCE, add_number, reader_of, words_of
+from random_jobs import keep_files, mesh_of, ring
 
 LINES_MAX = 1_000_000
 
@@ -159,10 +157,11 @@ def mesh_from(seed):
 
 
 def main():
-    if any(word.startswith("-") for word in sys.argv[1:]):
-        sys.exit(__doc__)
-    count, seed = (int(word) for word in (sys.argv[1:] + ["200", "1"][len(sys.argv) - 1 :])[:2])
-    program = os.path.abspath(sys.argv[3]) if len(sys.argv) > 3 else TOPO
+    reader = reader_of(__doc__)
+    add_number(reader, "count", 200, "so many meshes")
+    add_number(reader, "seed", 1, "the first is that of this number")
+    words = words_of(reader)
+    program, count, seed = words.program, words.count, words.seed
     alike = 0
     kinds = collections.Counter()
     for number in range(seed, seed + count):

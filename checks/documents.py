@@ -1,16 +1,17 @@
 #!/usr/bin/env python3
 """Looks whether the documents are true of the built program and of the repository.
 
-    checks/documents.py [PROGRAM]
-
-The statuses that docs/FORMATS.md lists are those of `topo --help`, word for word, which is told without a build too, README.md has each form of its words, of which the help of its command names each; each log that README.md
-and docs/EXAMPLES.md show is a part of that of the command before it, run anew; the proof that docs/CERTIFICATES.md shows is that of a worked case;
-docs/CRATES.md has each crate, as docs/crates.py makes it, each name that docs/PROVED.md cites stands in the crates, and each file that a document names or links is there; and
-what docs/ARCHITECTURE.md and docs/CRATES.md count, files on a way and wrong edits, is as many. Each crate but those of tests has a README.md: the names that it hands up are public in its sources, and its example stands,
-line by line, in the file that it names.
+The statuses of docs/FORMATS.md are those of `topo --help`, word for word, which is told without a build too; README.md has each form of
+its words, of which the help of its command names each; each log that README.md and docs/EXAMPLES.md show is a part of that of the command
+before it, run anew; the proof in docs/CERTIFICATES.md is that of a worked case; docs/CRATES.md has each crate, as docs/crates.py makes it;
+each name that docs/PROVED.md cites stands in the crates; each file that a document names or links is there; what docs/ARCHITECTURE.md and
+docs/CRATES.md count, files on a way and wrong edits, is as many; checks/README.md and bench/README.md have a line for each script, with the
+first line of its head. Each crate but those of tests has a README.md: the names that it hands up are public in its sources, and its example
+stands, line by line, in the file that it names.
 """
 
 import argparse
+import ast
 import os
 import re
 import shutil
@@ -175,6 +176,13 @@ def unknown_names(text):
     return sorted(it for it in cited if not set(it.split("::")) <= words)
 
 
+def heads_of(folder):
+    """Each script of a folder with the first line of its head, as a README has them."""
+    for name in sorted(os.listdir(os.path.join(ROOT, folder))):
+        if name.endswith(".py"):
+            yield f"- `{name}`: {ast.get_docstring(ast.parse(text_of(f'{folder}/{name}'))).splitlines()[0]}"
+
+
 def main():
     global TOPO
     reader = argparse.ArgumentParser(description=__doc__.splitlines()[0])
@@ -216,7 +224,10 @@ def main():
         if not crate.endswith("_tests"):
             faults = readme_faults(crate)
             checks.append((f"crates/{crate}/README.md is true {'; '.join(faults)}".rstrip(), not faults))
-    for name in ["README.md", "CONTRIBUTING.md", "CHANGELOG.md", *(f"docs/{it}" for it in sorted(os.listdir(os.path.join(ROOT, "docs"))) if it.endswith(".md"))]:
+    for folder in ("bench", "checks"):
+        heads, listed = list(heads_of(folder)), text_of(f"{folder}/README.md").splitlines()
+        checks.append((f"{folder}/README.md has each script", heads == [line for line in listed if line.startswith("- `")]))
+    for name in ["README.md", "CONTRIBUTING.md", "CHANGELOG.md", "bench/README.md", "checks/README.md", *(f"docs/{it}" for it in sorted(os.listdir(os.path.join(ROOT, "docs"))) if it.endswith(".md"))]:
         named = re.findall(r"`((?:crates|docs|checks|bench|examples|\.ci)/[\w./*-]+)`", text_of(name))
         lost = [it for it in named if "*" not in it and not os.path.exists(os.path.join(ROOT, it))]
         checks.append((f"each file that {name} names is there {' '.join(lost)}".rstrip(), not lost))

@@ -1,10 +1,6 @@
 #!/usr/bin/env python3
 """Tries the wrong edits that stand outside the gate, in crates/NAME/must-fail-more: the prover must refuse each.
 
-    checks/further_edits.py [NAME..]
-    checks/further_edits.py --changed REVISION
-    checks/further_edits.py --list ..
-
 The gate tries those in must-fail, which tell most. The others are tried here, over a copy of the crates, for the crates that are named, for
 those whose src, specs or proofs differ from a revision in what is committed or not, or for all. It says first how many they are and about how
 long they take, and with --list no more than that. The last line and the exit status are those of `rt must-fail`.

@@ -1,16 +1,13 @@
 #!/usr/bin/env python3
-"""Builds the library for C, compiles and runs its examples, and compares what they tell with the program's log of the same job.
+"""Builds the library for C, compiles and runs its examples, and compares what they report with the program's log of the same job.
 
-    checks/library.py [ARCHIVE [PROGRAM [JOBS]]]
-
-ARCHIVE is the archive of the proved crate, in the place of a proof and build anew; PROGRAM is the built program, in the place of `topo`.
-The header and the examples have to compile as C99 and as C++17 with no warning, by each compiler that is there of gcc's and clang's. The logs that
-`example.cpp` and `example.py` write have to be the program's, byte for byte, and so have those of JOBS random jobs, 100 where that is left
-out, which `checks/library_steps.c` does through the library, and which also compares what calls tell as numbers with the lines.
-`checks/library_cases.c` compares codes, reasons and places of worked cases, where valgrind is there under that too, and the files of that name
-in C++ and Python do so with the classes. The droplets of `examples/library` have to write their frames, and the log of its policy has to be
-measured. `checks/random_callers.py` is run for a fifth as many callers as JOBS. `checks/starving.c` refuses each allocation in turn, where the C
-library is glibc. Without `cc` and `c++` nothing is compiled, and that is said.
+The header and the examples have to compile as C99 and as C++17 with no warning, by each compiler of gcc's and clang's that is there. The
+logs of `example.cpp` and `example.py` have to be the program's, byte for byte, and so have those of random jobs that
+`checks/library_steps.c` does through the library; it compares what calls report as numbers with the lines too. `checks/library_cases.c`
+compares codes, reasons and places of worked cases, also under valgrind where that is there; the files of that name in C++ and Python do so
+with the classes. The droplets of `examples/library` have to write their frames, and the log of its policy has to be measured.
+`checks/random_callers.py` is run. `checks/starving.c` refuses each allocation in turn, where the C library is glibc. Without `cc` and
+`c++` nothing is compiled, and that is said.
 """
 
 import concurrent.futures
@@ -21,7 +18,8 @@ import subprocess
 import sys
 import tempfile
 
-ROOT = os.path.dirname(os.path.dirname(os.path.abspath(__file__)))
+from calling import ROOT, add_number, reader_of, words_of
+
 LIBRARY = os.path.join(ROOT, "library")
 STRICT = ["-Wall", "-Wextra", "-pedantic", "-Werror", "-O2", "-I", LIBRARY]
 C99, CPP17 = ["-std=c99", *STRICT], ["-std=c++17", *STRICT]
@@ -192,7 +190,7 @@ def by_drivers(words, program, jobs, folder):
     done, bad = random_jobs(compiled(words, os.path.join(ROOT, "checks/library_steps.c"), folder), program, jobs)
     print(f"{done} random jobs")
     yield f"of {jobs} random jobs {done} are done, and the logs of these are others: {bad}", done == jobs and not bad
-    callers = [sys.executable, os.path.join(ROOT, "checks/random_callers.py"), program, str(jobs // 5)]
+    callers = [sys.executable, os.path.join(ROOT, "checks/random_callers.py"), program, "--count", str(jobs // 5)]
     told = subprocess.run(callers, stdout=subprocess.PIPE, stderr=subprocess.STDOUT)
     print(told.stdout.decode().strip())
     yield f"random callers: {told.stdout.decode().strip()}", told.returncode == 0
@@ -203,10 +201,12 @@ def by_drivers(words, program, jobs, folder):
 
 
 def main():
-    archive, program, jobs = (sys.argv[1:] + [None, None, None])[:3]
-    jobs = int(jobs or 100)
+    reader = reader_of(__doc__)
+    reader.add_argument("--archive", metavar="ARCHIVE", help="the archive of the proved crate, in the place of a proof and build anew")
+    add_number(reader, "jobs", 100, "so many random jobs, and a fifth as many random callers")
+    words = words_of(reader)
+    archive, program, jobs = words.archive, words.program, words.jobs
     sys.dont_write_bytecode = True
-    program = os.path.abspath(program) if program else os.path.join(ROOT, "topo")
     c, cpp = by_each(("cc", "gcc", "clang"), C99), by_each(("c++", "g++", "clang++"), CPP17)
     if not (c and cpp and shutil.which("ar")):
         print("no compiler of C, of C++ or no ar: nothing is compiled")

@@ -1,12 +1,11 @@
 #!/usr/bin/env python3
-"""Worked cases of `library/topo.py`: what it refuses of numbers, and how it says so, and what it asks and reads by ids.
+"""Worked cases of `library/topo.py`: what it refuses of numbers, and how it says so, and what it requests and reads by ids.
 
-    checks/library_cases.py [LIBRARY]
-
-LIBRARY is library/out/libtopo.so, if it is left out. Where numpy is there, all is done once without it and once with it, and then columns are given
-as its arrays. Prints how many cases hold, or which do not.
+Where numpy is there, all is done once without it and once with it, and then columns are given as its arrays. Prints how many cases hold,
+or which do not.
 """
 
+import argparse
 import os
 import sys
 import threading
@@ -16,7 +15,9 @@ sys.path.insert(0, os.path.join(ROOT, "library"))
 sys.dont_write_bytecode = True
 import topo  # noqa: E402
 
-LIBRARY = sys.argv[1] if len(sys.argv) > 1 else None
+reader = argparse.ArgumentParser(description=__doc__, formatter_class=argparse.RawDescriptionHelpFormatter)
+reader.add_argument("library", nargs="?", metavar="LIBRARY", help="the shared library; library/out/libtopo.so if left out")
+LIBRARY = reader.parse_args().library
 POINTS = [(0, 0, 0), (4, 0, 0), (0, 4, 0), (0, 0, 4)]
 FACES = [(1, 3, 2), (1, 2, 4), (2, 3, 4), (1, 4, 3)]
 held, failed = 0, []

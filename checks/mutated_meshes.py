@@ -1,13 +1,10 @@
 #!/usr/bin/env python3
-"""Spoils texts of small meshes by dice, and compares what `verify` and examples/verify.py say of them.
+"""Spoils texts of small meshes at random, and compares what `verify` and examples/verify.py say of them.
 
-    checks/mutated_meshes.py [COUNT [SEED [PROGRAM]]]
-
-Each text is a mesh in OBJ with what its grammar lets stand beside it: points with signs, exponents and further words, corners of each form, lines that
-are not read, comments, CRLF. It is spoilt as mutated_texts.py does it, also by words that only look like coordinates or corners, and read with a log and
-a proof that tell nothing, so that the mesh alone decides. From SEED on (1 at first) COUNT texts (1,000 at first) are tried; PROGRAM takes the place of `topo`.
-The two have to take the same texts and to refuse the same. The last lines tell how many texts had each status; at a difference the text is kept and the exit
-status is 1.
+Each text is a mesh in OBJ with what its grammar allows beside it: points with signs, exponents and further words, corners of each form,
+lines that are not read, comments, CRLF. It is spoilt as mutated_texts.py does it, also by words that only look like coordinates or
+corners, and read with a log and a proof that report nothing, so that the mesh alone decides. The two have to take the same texts and to
+refuse the same. The last lines count the texts of each status; at a difference the text is kept and the exit status is 1.
 """
 
 import collections
@@ -18,7 +15,8 @@ import sys
 import tempfile
 
 import mutated_texts
-from random_jobs import CUBE, OCTAHEDRON, ROOT, TETRAHEDRON, TOPO
+from calling import ROOT, add_number, reader_of, words_of
+from random_jobs import CUBE, OCTAHEDRON, TETRAHEDRON
 
 sys.path.insert(0, os.path.join(ROOT, "examples"))
 sys.dont_write_bytecode = True
@@ -91,8 +89,11 @@ def said_by_python(text, decimals):
 
 
 def main():
-    count, seed = (int(word) for word in (sys.argv[1:] + ["1000", "1"][len(sys.argv) - 1 :])[:2])
-    program = os.path.abspath(sys.argv[3]) if len(sys.argv) > 3 else TOPO
+    reader = reader_of(__doc__)
+    add_number(reader, "count", 1000, "so many texts")
+    add_number(reader, "seed", 1, "the first are those of this number")
+    words = words_of(reader)
+    program, count, seed = words.program, words.count, words.seed
     texts = unlike = 0
     statuses = collections.Counter()
     with tempfile.TemporaryDirectory() as folder:

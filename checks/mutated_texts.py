@@ -1,16 +1,13 @@
 #!/usr/bin/env python3
-"""Feeds the program texts that dice have spoilt, and compares what it does with what another one of the same command line does.
+"""Feeds the program texts that were spoilt at random, and compares what it does with another program of the same command line.
 
-    checks/mutated_texts.py [OTHER] [COUNT [SEED [SECONDS [PROGRAM]]]]
-
-The other program should be written apart from this one, whose place PROGRAM may take. Where none is given it is `reference/topo.py`, which has no
-proofs: then none is spoilt, and only jobs that are small enough for it are taken. From SEED on (1 at first) random jobs are made, as random_jobs.py
-makes them; the other program tracks each, converts its mesh to OFF and PLY, and proves its log. Then each of these texts (a mesh in three formats,
-steps, a log, a proof) is spoilt some times and given to the commands that read it, until COUNT spoilt texts (1,000 at first) were read. A text is spoilt
-in one place or in several: bytes are turned, put in, doubled or left out (zero bytes and bytes of no ASCII text too), lines are doubled, left
-out, exchanged, joined or cut, words become numbers at a limit or other words of the formats, and some lines get other ends. Compared are status, output and
-files; what one of the two does not end within SECONDS (20 at first) is told and not compared. The last lines tell how many texts of each kind had each
-status, and how many were alike; at a difference the files are kept and the exit status is 1.
+Random jobs are made, as random_jobs.py makes them; the other program tracks each, converts its mesh to OFF and PLY, and proves its log.
+Then each of these texts (a mesh in three formats, steps, a log, a proof) is spoilt some times and given to the commands that read it. It
+is spoilt in one place or in several: bytes are turned, put in, doubled or left out (zero bytes and bytes of no ASCII text too), lines are
+doubled, left out, exchanged, joined or cut, words become numbers at a limit or other words of the formats, and some lines get other ends.
+The reference has no proofs: beside it none is spoilt, and only small jobs are taken. Compared are status, output and files; what one of
+the two does not end in time is not compared. The last lines count the texts of each kind and status, and those alike; at a difference the
+files are kept and the exit status is 1.
 """
 
 import collections
@@ -20,7 +17,8 @@ import subprocess
 import sys
 import tempfile
 
-from random_jobs import REFERENCE, TOPO, is_small, job_of, keep_files, other_and_numbers
+from calling import REFERENCE, add_number, add_other, reader_of, words_of
+from random_jobs import is_small, job_of, keep_files
 
 # how often each text of a job is spoilt
 TIMES = 6
@@ -132,9 +130,13 @@ def texts_of(other, seed, seconds):
 
 
 def main():
-    words = sys.argv[1:]
-    program = os.path.abspath(words.pop()) if len(words) > 3 and not words[-1].isdigit() else TOPO
-    other, count, seed, seconds = other_and_numbers(words, 1000, 1, 20)
+    reader = reader_of(__doc__)
+    add_other(reader)
+    add_number(reader, "count", 1000, "so many spoilt texts")
+    add_number(reader, "seed", 1, "the first are those of this number")
+    add_number(reader, "seconds", 20, "the time of a run")
+    asked = words_of(reader)
+    program, other, count, seed, seconds = asked.program, asked.other, asked.count, asked.seed, asked.seconds
     alike = unlike = late = texts = 0
     statuses = collections.Counter()
     while texts < count:

@@ -1,18 +1,14 @@
 #!/usr/bin/env python3
 """Compares the logs of random callers of the library for C with what the program makes of them.
 
-    checks/random_callers.py PROGRAM COUNT [--seed S] [--library FOLDER]
-
-FOLDER has `libtopo.a` and `topo.h`, and is library/out at first. `checks/random_callers.c` is compiled with it; of each random mesh, as
-random_jobs.py makes them, it is a caller that shifts, steps, edits by passes and by ids, opens groups, keeps them and takes them back, and compares
-what it is told with its log. From seed S on (1 at first) COUNT callers are run; where no tracker is made of a mesh the next seed takes its place.
-Each log has to be measured to its end, replayed to the meshes that the caller read from its tracker, proved, and verified by the program and by
-examples/verify.py, each of as many motions as its lines tell. Then one edit's line of the log is spoilt, in its last number, and that has to be refused at this
-line by each of `measure`, `prove` and examples/verify.py. The last lines tell what the callers did; at a difference the files are kept and the exit
-status is 1.
+`checks/random_callers.c` is compiled with the library; of each random mesh, as random_jobs.py makes them, it is a caller that displaces,
+steps, edits by passes and by ids, opens groups, keeps them and rolls them back, and compares what it is told with its log. Where no
+tracker is made of a mesh the next takes its place. Each log has to be measured to its end, replayed to the meshes that the caller read
+from its tracker, proved, and verified by the program and by examples/verify.py, each of as many motions as its lines tell. Then one edit's
+line of the log is spoilt, in its last number, and has to be refused by each of `measure`, `prove` and examples/verify.py. The last lines
+say what the callers did; at a difference the files are kept and the exit status is 1.
 """
 
-import argparse
 import collections
 import os
 import random
@@ -22,7 +18,8 @@ import subprocess
 import sys
 import tempfile
 
-from random_jobs import ROOT, counted, mesh_of
+from calling import ROOT, add_number, reader_of, words_of
+from random_jobs import counted, mesh_of
 
 sys.path.insert(0, os.path.join(ROOT, "examples"))
 sys.dont_write_bytecode = True
@@ -133,13 +130,12 @@ def fault_of(caller, program, seed, folder):
 
 
 def main():
-    parser = argparse.ArgumentParser(description=__doc__, formatter_class=argparse.RawDescriptionHelpFormatter)
-    parser.add_argument("program", metavar="PROGRAM")
-    parser.add_argument("count", metavar="COUNT", type=int)
-    parser.add_argument("--seed", metavar="S", type=int, default=1)
-    parser.add_argument("--library", metavar="FOLDER", default=os.path.join(ROOT, "library/out"))
-    words = parser.parse_args()
-    program, seed, ran, bad, caught = os.path.abspath(words.program), words.seed, 0, 0, 0
+    reader = reader_of(__doc__)
+    add_number(reader, "count", 100, "so many callers")
+    add_number(reader, "seed", 1, "the first is that of this number")
+    reader.add_argument("--library", metavar="FOLDER", default=os.path.join(ROOT, "library/out"), help="where libtopo.a and topo.h are (library/out if left out)")
+    words = words_of(reader)
+    program, seed, ran, bad, caught = words.program, words.seed, 0, 0, 0
     lines, tally = collections.Counter(), collections.Counter()
     with tempfile.TemporaryDirectory() as apart:
         caller = compiled(os.path.abspath(words.library), apart)

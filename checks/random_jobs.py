@@ -1,13 +1,10 @@
 #!/usr/bin/env python3
-"""Runs random jobs with the program and with another one of the same command line, and compares status, log and files.
+"""Runs random jobs with the program and with another of the same command line, and compares status, log and files.
 
-    checks/random_jobs.py [OTHER] [COUNT [SEED [SECONDS]]]
-
-The other program should be written apart from this one; what both answer alike is then hardly a slip of either. Where none is given it is
-`reference/topo.py`, and only jobs that are small enough for it are made: of at most 60 faces, and few passes. COUNT jobs (100 at first) are
-made from SEED on (1 at first), each of a few bodies that stand near one another and a text of steps, some with a fault. A job that one of
-the two does not end within SECONDS (20 at first) is told and not compared. The last lines tell how many were alike, and of which lines their
-logs are; at a difference the job is kept and the exit status is 1.
+What two programs that were written apart answer alike is hardly a slip of either. Beside the reference only jobs of at most 60 faces and
+few passes are made. Each job is a few bodies that stand near one another and a text of steps, some with a fault. A job that one of the two
+does not end in time is not compared. The last lines count those alike, and the lines of their logs; at a difference the job is kept and
+the exit status is 1.
 """
 
 import collections
@@ -18,9 +15,8 @@ import subprocess
 import sys
 import tempfile
 
-ROOT = os.path.dirname(os.path.dirname(os.path.abspath(__file__)))
-TOPO = os.path.join(ROOT, "topo")
-REFERENCE = os.path.join(ROOT, "reference", "topo.py")
+from calling import REFERENCE, add_number, add_other, reader_of, words_of
+
 # the greatest number of faces, and of passes that may do much, of a job that the reference, which looks at all pairs, is asked for
 SMALL_FACES, SMALL_PASSES = 60, 2
 
@@ -178,15 +174,6 @@ def keep(seed, mesh, steps, words):
     return keep_files(f"job-{seed}-", words, {"m.obj": mesh.encode(), "s.txt": steps.encode()})
 
 
-def other_and_numbers(words, *numbers):
-    """The other program of a command line, which is the reference where its first word is none, and its numbers; those left out are as given."""
-    if any(word.startswith("-") for word in words):
-        sys.exit(sys.modules["__main__"].__doc__)
-    has_other = words and not words[0].isdigit()
-    other, words = (os.path.abspath(words[0]), words[1:]) if has_other else (REFERENCE, words)
-    return other, *(int(word) for word in [*words, *numbers[len(words) :]][: len(numbers)])
-
-
 def is_small(mesh, steps, faces=SMALL_FACES):
     """Whether a job is small enough for the reference."""
     many = sum(line.startswith(("split", "fit", "zip")) for line in steps.split("\n"))
@@ -204,14 +191,23 @@ def jobs_from(job_of, seed, count, other, faces=SMALL_FACES):
             yield number, job
 
 
-def compare(job_of, words, count, seed, seconds, faces=SMALL_FACES):
-    """Runs jobs with this program and with another by the words of a command line, tells how many were alike, and answers the lines of the
-    logs that were, in words, and the exit status. OTHER, COUNT, SEED and SECONDS are the words; those left out are as given."""
-    other, count, seed, seconds = other_and_numbers(words, count, seed, seconds)
+def words_of_comparison(text, count, seconds):
+    """The words of a check that compares two programs on random jobs."""
+    reader = reader_of(text)
+    add_other(reader)
+    add_number(reader, "count", count, "so many jobs")
+    add_number(reader, "seed", 1, "the first is that of this number")
+    add_number(reader, "seconds", seconds, "the time of a run")
+    return reader
+
+
+def compare(job_of, words, faces=SMALL_FACES):
+    """Runs jobs with the program and with another, tells how many were alike, and answers the lines of the logs that were, in words, and the
+    exit status."""
     alike = late = unlike = 0
     lines = []
-    for number, job in jobs_from(job_of, seed, count, other, faces):
-        one, two = outcome(TOPO, *job, seconds), outcome(other, *job, seconds)
+    for number, job in jobs_from(job_of, words.seed, words.count, words.other, faces):
+        one, two = outcome(words.program, *job, words.seconds), outcome(words.other, *job, words.seconds)
         if one is None or two is None:
             late += 1
         elif one == two:
@@ -230,7 +226,7 @@ def counted(words):
 
 
 def main():
-    lines, status = compare(job_of, sys.argv[1:], 100, 1, 20)
+    lines, status = compare(job_of, words_of(words_of_comparison(__doc__, 100, 20)))
     print("lines of these logs:", counted(line[0] for line in lines))
     return status
 

@@ -1,16 +1,13 @@
 #!/usr/bin/env python3
-"""Measures, proves and replays the logs of random jobs, whole and spoilt, with the program, and compares with another one of the same command line.
+"""Measures, proves and replays the logs of random jobs, whole and spoilt, and compares with another program of the same command line.
 
-    checks/random_logs.py [OTHER] [COUNT [SEED [SECONDS [SPOILT]]]]
-
-The other program should be written apart from this one. Where none is given it is `reference/topo.py`, which neither proves nor verifies: then
-logs are measured and replayed alone, and only of jobs that are small enough for it. COUNT jobs (100 at first) are made from SEED on (1 at first), as random_jobs.py makes
-them, and tracked by the other program; each log is measured and proved by both as it is, and then SPOILT times (3 at first) with a line doubled,
-left out, exchanged with the next, cut short, or with a number raised by one, at a place that dice pick; and the proof of the whole log is
-verified with each of these logs. Compared are status and output; a log that one of the two does not end within SECONDS (20 at first) is told
-and not compared. The program replays each log too: with the status that `measure` has, and of a whole log to the meshes that the other program
-stored where it tracked the job. The last lines tell how many times each status came of each command, of how many motions the proofs were made
-and verified alike, how many meshes were replayed, and how many runs were alike; at a difference the log is kept and the exit status is 1.
+Jobs are made as random_jobs.py makes them, and tracked by the other program; each log is measured and proved by both as it is, and then
+with a line doubled, left out, exchanged with the next, cut short, or with a number raised by one, at a random place; and the proof of the
+whole log is verified with each of these logs. Compared are status and output; a log that one of the two does not end in time is not
+compared. The program replays each log too: with the status of `measure`, and a whole log to the meshes that the other program stored where
+it tracked the job. The reference neither proves nor verifies: beside it logs of small jobs are measured and replayed alone. The last lines
+count statuses, motions that were proved and verified alike, meshes that were replayed, and runs alike; at a difference the log is kept and
+the exit status is 1.
 """
 
 import os
@@ -19,7 +16,8 @@ import subprocess
 import sys
 import tempfile
 
-from random_jobs import REFERENCE, TOPO, job_of, jobs_from, keep, other_and_numbers
+from calling import REFERENCE, add_number, words_of
+from random_jobs import job_of, jobs_from, keep, words_of_comparison
 
 
 def spoilt(dice, log):
@@ -72,10 +70,10 @@ def stored_in(folder):
     return meshes
 
 
-def fault_of_replay(folder, decimals, measured, tracked, is_whole, seconds):
+def fault_of_replay(program, folder, decimals, measured, tracked, is_whole, seconds):
     """What is wrong with the replay of a log, if anything is, and how many meshes it stored; None where it did not end."""
     with tempfile.TemporaryDirectory() as apart:
-        ran = told(TOPO, ["replay", "m.obj", "log.txt", os.path.join(apart, "p"), *decimals], folder, seconds)
+        ran = told(program, ["replay", "m.obj", "log.txt", os.path.join(apart, "p"), *decimals], folder, seconds)
         if ran is None:
             return None
         meshes = stored_in(apart)
@@ -89,7 +87,10 @@ def fault_of_replay(folder, decimals, measured, tracked, is_whole, seconds):
 
 
 def main():
-    other, count, seed, seconds, times = other_and_numbers(sys.argv[1:], 100, 1, 20, 3)
+    reader = words_of_comparison(__doc__, 100, 20)
+    add_number(reader, "spoilt", 3, "each log is spoilt so many times")
+    given = words_of(reader)
+    program, other, count, seed, seconds, times = given.program, given.other, given.count, given.seed, given.seconds, given.spoilt
     commands = [["measure", "m.obj", "log.txt"], ["prove", "m.obj", "log.txt"], ["verify", "m.obj", "log.txt", "proof.txt"]]
     commands = commands[:1] if other == REFERENCE else commands
     alike = late = unlike = motions = replayed = 0
@@ -116,7 +117,7 @@ def main():
                     if command == "verify" and not os.path.exists(os.path.join(folder, "proof.txt")):
                         continue
                     asked = [command, *files, *words[4:]]
-                    one, two = told(TOPO, asked, folder, seconds), told(other, asked, folder, seconds)
+                    one, two = told(program, asked, folder, seconds), told(other, asked, folder, seconds)
                     if one is None or two is None:
                         late += 1
                     elif one == two:
@@ -128,7 +129,7 @@ def main():
                         kept = keep(number, mesh, text.decode(), [command, "m.obj", "s.txt", *files[2:], *words[4:]])
                         print(f"job {number}: {'status' if one[0] != two[0] else 'output'} of {command} differ; the log is kept as s.txt in {kept}")
                     if command == "measure" and one is not None:
-                        found = fault_of_replay(folder, words[4:], one, tracked, at == 0, seconds)
+                        found = fault_of_replay(program, folder, words[4:], one, tracked, at == 0, seconds)
                         if found is None:
                             late += 1
                         elif found[0] is None:

@@ -1,21 +1,19 @@
 #!/usr/bin/env python3
-"""Runs random jobs of many steps on meshes of more than 512 faces with the program and with another one, and compares status, log and files.
+"""Runs random jobs of many steps on meshes of more than 512 faces with the program and with another, and compares status, log and files.
 
-    checks/random_steps.py [OTHER] [COUNT [SEED [SECONDS]]]
-
-Steps that come one after another on a mesh of that size are where the program keeps a list of near pairs from step to step. COUNT jobs (50 at
-first) are made from SEED on (1 at first): cubes in rows, a ring, or both; 4 to 10 steps in which bodies or vertices are shifted by up to a
-third of an edge, all by one shift, or a few alone; between some of them a pass, a group or a save. A job that one of the two does not end
-within SECONDS (120 at first) is told and not compared. Where no OTHER is given it is `reference/topo.py`, which takes minutes for some of
-them: then jobs of at most 800 faces are made, ten at first, and SECONDS are 600 at first. The last lines tell how many jobs were alike, how many pairs failed, and how steps
-were taken; at a difference the job is kept and the exit status is 1.
+Steps that come one after another on a mesh of that size are where the program keeps a list of near pairs from step to step. The jobs are
+cubes in rows, a ring, or both; 4 to 10 steps in which bodies or vertices are displaced by up to a third of an edge, all alike, or a few
+alone; between some of them a pass, a group or a save. A job that one of the two does not end in time is not compared. The reference takes
+minutes for some: beside it jobs of at most 800 faces are made, ten and of 600 s if not said otherwise, and else 50 and 120 s. The last
+lines count jobs alike, failing pairs, and how steps were taken; at a difference the job is kept and the exit status is 1.
 """
 
 import math
 import random
 import sys
 
-from random_jobs import CUBE, compare, counted
+from calling import REFERENCE, words_of
+from random_jobs import CUBE, compare, counted, words_of_comparison
 
 
 def rows_of_cubes(dice, mesh):
@@ -99,8 +97,10 @@ def job_of(seed):
 
 
 def main():
-    is_reference = not sys.argv[1:] or sys.argv[1].isdigit()
-    lines, status = compare(job_of, sys.argv[1:], *((10, 1, 600) if is_reference else (50, 1, 120)), faces=800)
+    words = words_of(words_of_comparison(__doc__, None, None))
+    is_reference = words.other == REFERENCE
+    words.count, words.seconds = words.count or (10 if is_reference else 50), words.seconds or (600 if is_reference else 120)
+    lines, status = compare(job_of, words, faces=800)
     print("failing pairs:", sum(line[0] == "hit" for line in lines))
     print("steps taken:", counted(line[1] for line in lines if line[0] == "moved"))
     return status

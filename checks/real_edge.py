@@ -1,12 +1,10 @@
 #!/usr/bin/env python3
-"""Runs the built program as a user would where the world does not play along, and looks at its exit status and its messages.
+"""Runs the built program where the world does not play along, and looks at its exit status and its messages.
 
-    checks/real_edge.py [PROGRAM]
-
-PROGRAM is a program that was built elsewhere; without it, it is proved and built first. Each case must end with its status, with `topo: status N` as the last line of standard error where N is not 0, and never by a signal.
-What it writes to standard output must be the first lines of the log that the job is due, or none where the words name no job.
-Files that a case must leave have to hold what they held, and no case may leave a file that it wrote beside another. Further cases look
-at the sentences on standard error: some must be there, and some must not.
+Each case must end with its status, with `topo: status N` as the last line of standard error where N is not 0, and never by a signal. What
+it writes to standard output must be the first lines of the log that the job is due, or none where the words name no job. Files that a case
+must leave have to hold what they held, and no case may leave a file that it wrote beside another. Further cases look at the sentences on
+standard error: some must be there, and some must not.
 """
 
 import contextlib
@@ -20,8 +18,8 @@ import sys
 import tempfile
 import tty
 
-ROOT = os.path.dirname(os.path.dirname(os.path.abspath(__file__)))
-TOPO = os.path.join(ROOT, "topo")
+from calling import ROOT, TOPO, reader_of, words_of
+
 PROGRAM = os.path.join(ROOT, "crates/topo/out/topo")
 # whom the program is run as where a folder is to refuse it: root may write everywhere
 NOBODY = {"user": 65534, "group": 65534, "extra_groups": []} if os.geteuid() == 0 else {}
@@ -269,9 +267,8 @@ def past_the_limit(program):
 
 
 def main():
-    program = sys.argv[1] if len(sys.argv) > 1 else PROGRAM
-    if program == PROGRAM:
-        subprocess.run([TOPO, "--version"], check=True, stdout=subprocess.DEVNULL)
+    given = words_of(reader_of(__doc__)).program
+    program = PROGRAM if given == TOPO else given
     failed = 0
     with tempfile.TemporaryDirectory() as folder, contextlib.ExitStack() as at_end:
         os.chmod(folder, 0o755)

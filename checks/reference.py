@@ -1,25 +1,23 @@
 #!/usr/bin/env python3
 """Runs the program and `reference/topo.py` on fixed small jobs, and compares status, output and files, byte for byte.
 
-    checks/reference.py [PROGRAM [REFERENCE]]
-
 The reference is what docs/DEFINITIONS.md and docs/FORMATS.md say, as one plain program, so a change of what a definition means shows here
-without any prover. The jobs are those of some numbers, made as `random_jobs.py`, `broken_meshes.py` and `mutated_texts.py` make them: steps of
-each way, all edits and their refusals, groups, fields, fits and grids are tracked, and each log is measured and replayed; meshes are converted
-to each format and back and checked; broken meshes are checked; and spoilt texts are refused. Then it is looked whether reference/README.md
-names each definition of docs/DEFINITIONS.md, and the reference what it names there. It takes less than a minute on one core. REFERENCE may be
-another program in its place. The last line tells how many jobs were alike; at a difference the job is kept and the exit status is 1.
+without any prover. The jobs are made as random_jobs.py, broken_meshes.py and mutated_texts.py make them: steps of each way, all edits and
+their refusals, groups, fields, fits and grids are tracked, and each log is measured and replayed; meshes are converted to each format and
+back and checked; broken meshes are checked; and spoilt texts are refused. Then it is looked whether reference/README.md names each
+definition of docs/DEFINITIONS.md, and the reference what it names there. It takes less than a minute on one core. The last line counts the
+jobs alike; at a difference the job is kept and the exit status is 1.
 """
 
 import os
 import random
 import re
-import subprocess
 import sys
 
 from broken_meshes import mesh_from
+from calling import ROOT, add_other, reader_of, words_of
 from mutated_texts import run, spoilt
-from random_jobs import REFERENCE, ROOT, TOPO, job_of, keep_files
+from random_jobs import job_of, keep_files
 
 # what does not end by then hangs; a busy machine is given its time
 SECONDS = 600
@@ -104,11 +102,10 @@ def names_missing(reference):
 
 
 def main():
-    if any(word.startswith("-") for word in sys.argv[1:]):
-        sys.exit(__doc__)
-    program, reference = (os.path.abspath(word) for word in [*sys.argv[1:], *[TOPO, REFERENCE][len(sys.argv) - 1 :]])
-    # where the program is to be built first, that takes its time
-    subprocess.run([program, "--version"], check=True, stdout=subprocess.DEVNULL)
+    reader = reader_of(__doc__)
+    add_other(reader)
+    given = words_of(reader)
+    program, reference = given.program, given.other
     alike = failed = 0
     for jobs in (jobs_of_tracking, jobs_of_meshes, jobs_of_texts):
         for name, commands in jobs(program):

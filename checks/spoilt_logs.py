@@ -1,19 +1,17 @@
 #!/usr/bin/env python3
 """Spoils the logs of the worked cases in every way, and compares what two programs measure of them.
 
-    checks/spoilt_logs.py [OTHER] [SECONDS]
-
-The other program should be written apart from this one. Where none is given it is `reference/topo.py`, and only logs of at most 150 bytes are
-spoilt. Of each log of the folder `worked` that tells a run of a mesh: each line doubled, left
-out, exchanged with the next, and each number raised by one, one fault at a time. Compared are status and output. The last line tells how many
-were alike, and how many had each status; at a difference the log is kept and the exit status is 1.
+Of each log of the folder `worked` that tells a run of a mesh, beside the reference of those of at most 150 bytes: each line doubled, left
+out, exchanged with the next, and each number raised by one, one fault at a time. Compared are status and output. The last line counts
+those alike, and those of each status; at a difference the log is kept and the exit status is 1.
 """
 
 import os
 import sys
 import tempfile
 
-from random_jobs import REFERENCE, TOPO, keep, other_and_numbers
+from calling import REFERENCE, add_number, add_other, reader_of, words_of
+from random_jobs import keep
 from random_logs import measured
 from worked_cases import FOLDER, Case
 
@@ -32,7 +30,11 @@ def spoilt(lines):
 
 
 def main():
-    other, seconds = other_and_numbers(sys.argv[1:], 20)
+    reader = reader_of(__doc__)
+    add_other(reader)
+    add_number(reader, "seconds", 20, "the time of a run")
+    words = words_of(reader)
+    program, other, seconds = words.program, words.other, words.seconds
     longest = 150 if other == REFERENCE else 4_000
     alike = unlike = late = logs = 0
     statuses = {}
@@ -50,7 +52,7 @@ def main():
                 text = "".join(line + "\n" for line in lines)
                 with open(os.path.join(folder, "log.txt"), "w", encoding="utf-8", newline="") as it:
                     it.write(text)
-                one, two = measured(TOPO, folder, decimals, seconds), measured(other, folder, decimals, seconds)
+                one, two = measured(program, folder, decimals, seconds), measured(other, folder, decimals, seconds)
                 if one is None or two is None:
                     late += 1
                 elif one == two:

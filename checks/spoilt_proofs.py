@@ -1,20 +1,18 @@
 #!/usr/bin/env python3
 """Spoils the proofs of the worked logs in every way, and compares what two programs and examples/verify.py say of them.
 
-    checks/spoilt_proofs.py OTHER [SECONDS [PROGRAM [NAME ..]]]
-
-The other program should be written apart from this one, whose place PROGRAM may take. Of each log of the folder `worked`, or of those named, both
-write the proof, which has to be the same, and then one fault at a time is made in it: each line doubled, left out, exchanged with the next, and each number raised
-by one; and a short proof is cut after each byte. Of each text both have to say the same of `verify`, with one status, and examples/verify.py has
-to accept it where they do, and nowhere else. Proofs of more than 2,000 bytes are not spoilt. The last line tells how many were alike, and how many
-had each status; at a difference the proof is kept and the exit status is 1.
+Of each log of the folder `worked`, or of those named, both programs write the proof, which has to be the same, and then one fault at a
+time is made in it: each line doubled, left out, exchanged with the next, and each number raised by one; and a short proof is cut after
+each byte. Of each text both have to say the same of `verify`, with one status, and examples/verify.py has to accept it where they do, and
+nowhere else. Proofs of more than 2,000 bytes are not spoilt. The last line counts those alike, and those of each status; at a difference
+the proof is kept and the exit status is 1.
 """
 
 import os
 import sys
 import tempfile
 
-from random_jobs import ROOT, TOPO
+from calling import ROOT, add_number, reader_of, words_of
 from random_logs import told
 from spoilt_logs import spoilt
 from worked_cases import FOLDER, Case
@@ -63,13 +61,15 @@ def put(folder, name, text):
 
 
 def main():
-    if len(sys.argv) < 2:
-        sys.exit(__doc__)
-    other, seconds = os.path.abspath(sys.argv[1]), int((sys.argv[2:] + ["20"])[0])
-    program = os.path.abspath(sys.argv[3]) if len(sys.argv) > 3 else TOPO
+    reader = reader_of(__doc__)
+    reader.add_argument("names", nargs="*", metavar="NAME", help="a worked case; all of them if left out")
+    reader.add_argument("--other", required=True, metavar="OTHER", help="a program of the same command line, written apart from it, that proves and verifies")
+    add_number(reader, "seconds", 20, "the time of a run")
+    words = words_of(reader)
+    program, other, seconds = words.program, words.other, words.seconds
     alike = unlike = late = proofs = 0
     statuses = {}
-    for name, mesh, log, decimals in logs(sys.argv[4:]):
+    for name, mesh, log, decimals in logs(words.names):
         with tempfile.TemporaryDirectory() as folder:
             put(folder, "m.obj", mesh)
             put(folder, "log.txt", log)

@@ -3,8 +3,6 @@
 What `verify` is asked is asked of `examples/verify.py` too, which shares nothing with the program and has to accept just what the case accepts;
 `replay` and `examples/replay.py` have to make the stored meshes of a log again, and `examples/carry.py` to find them.
 
-    checks/worked_cases.py [PROGRAM] [NAME ..]
-
 Each call of the program is proved to answer exactly what its definition says, so a case that comes out right shows what the definitions
 say of it: the cases were worked by hand from the rules, or are those of a program that was written apart from this one (`random_..`).
 A case is a text: a line `# what it shows`, a line `words: ..`, and then sections, each with a line `== ..` at its head: `input NAME`,
@@ -17,7 +15,8 @@ import subprocess
 import sys
 import tempfile
 
-ROOT = os.path.dirname(os.path.dirname(os.path.abspath(__file__)))
+from calling import ROOT, reader_of, words_of
+
 FOLDER = os.path.join(ROOT, "worked")
 CHECKER = os.path.join(ROOT, "examples", "verify.py")
 REPLAYER, CARRIER = (os.path.join(ROOT, "examples", name) for name in ("replay.py", "carry.py"))
@@ -121,11 +120,12 @@ def fault_of(program, case):
 
 
 def main():
-    program = os.path.abspath(sys.argv[1]) if len(sys.argv) > 1 else os.path.join(ROOT, "topo")
-    # where the program is to be built first, that takes its time
-    subprocess.run([program, "--version"], check=True, stdout=subprocess.DEVNULL)
+    reader = reader_of(__doc__)
+    reader.add_argument("names", nargs="*", metavar="NAME", help="a worked case; all of them if left out")
+    words = words_of(reader)
+    program = words.program
     names = sorted(name.removesuffix(".case") for name in os.listdir(FOLDER) if name.endswith(".case"))
-    names = [name for name in names if name in sys.argv[2:]] if len(sys.argv) > 2 else names
+    names = [name for name in names if name in words.names] if words.names else names
     failed = 0
     for name in names:
         fault = fault_of(program, Case(text_of(os.path.join(FOLDER, name + ".case"))))

@@ -1,7 +1,10 @@
 #!/usr/bin/env python3
-"""Whether each crate stands on what it names, and on nothing else: prints each library that crates.txt gives to a crate
-and that its code, definitions and proofs never name. Ends with 0 where there is none."""
+"""Looks whether crates.txt gives a crate a library that its code, definitions and proofs never name.
 
+Prints each such library. Ends with 0 where there is none.
+"""
+
+import argparse
 import pathlib
 import re
 import sys
@@ -33,6 +36,7 @@ def named(crate):
 
 
 def main():
+    argparse.ArgumentParser(description=__doc__).parse_args()
     needless = []
     for crate, libraries in declared((TOP / "crates.txt").read_text(encoding="utf-8")):
         folder = TOP / "crates" / crate
