@@ -25,11 +25,13 @@ text{fill:#1f2328;font-family:system-ui,-apple-system,"Segoe UI",Roboto,"DejaVu 
 .log{font-family:ui-monospace,Menlo,Consolas,"DejaVu Sans Mono",monospace;font-size:12px;white-space:pre}
 .id{font-weight:600;paint-order:stroke;stroke:#ffffff;stroke-width:3px;stroke-linejoin:round}
 .arrow{stroke:#b3261e;stroke-width:1.6;fill:none}.tip{fill:#b3261e}.edge{stroke:#b3261e;stroke-width:2.6;stroke-linecap:round}
-.curve{stroke:#2f5f9e;stroke-width:2;fill:none}
+.curve{stroke:#2f5f9e;stroke-width:2;fill:none}.second{stroke:#b06a12;stroke-width:2;fill:none}
+.way{stroke:#59636e;stroke-width:1.3;fill:none}.end{fill:#59636e}
 .f{stroke:#223044;stroke-width:.6;stroke-linejoin:round}
 """
 DARK = """.back{fill:#0d1117}.rule{stroke:#3d444d}.box{fill:#1b222b;stroke:#4a5561}text{fill:#e6edf3}.soft{fill:#9aa4af}
-.id{stroke:#0d1117}.arrow,.edge{stroke:#ff6b60}.tip{fill:#ff6b60}.curve{stroke:#7fb0f0}.f{stroke:#0a1018}
+.id{stroke:#0d1117}.arrow,.edge{stroke:#ff6b60}.tip{fill:#ff6b60}.curve{stroke:#7fb0f0}.second{stroke:#e8a24a}.way{stroke:#9aa4af}.end{fill:#9aa4af}
+.f{stroke:#0a1018}
 """
 # the darkest and the lightest colour of a body's faces
 COLOURS = {"a": ((52, 84, 128), (205, 224, 246)), "b": ((160, 92, 24), (255, 222, 168)), "c": ((40, 110, 92), (190, 235, 214))}
@@ -323,7 +325,7 @@ class Picture:
         """Draws a straight line."""
         self.parts.append(f'<path class="{kind}" d="M{number(p[0])} {number(p[1])}L{number(q[0])} {number(q[1])}"/>')
 
-    def arrow(self, p, q):
+    def arrow(self, p, q, kind="arrow"):
         """Draws an arrow from p to q, if that is not too short to be seen."""
         way = (q[0] - p[0], q[1] - p[1])
         if dot(way, way) < 9:
@@ -331,9 +333,9 @@ class Picture:
         along = unit(way)
         size = min(7.0, math.sqrt(dot(way, way)) * 0.6)
         foot, side = minus(q[:2], times(along, size)), times((-along[1], along[0]), size * 0.42)
-        self.line(p, foot, "arrow")
+        self.line(p, foot, kind)
         tip = "L".join(f"{number(x)} {number(y)}" for x, y in (q[:2], plus(foot, side), minus(foot, side)))
-        self.parts.append(f'<path class="tip" d="M{tip}z"/>')
+        self.parts.append(f'<path class="{"tip" if kind == "arrow" else "end"}" d="M{tip}z"/>')
 
     def mesh(self, frame, mesh, colour_of):
         """Draws the faces that are turned to the eye, each in its colour and lit by its normal."""
@@ -489,8 +491,12 @@ def pinch(program):
     )
 
 
+# how long a tail is drawn behind a vertex that was moved, of the way it went
+TAIL = 5
+
+
 def motion(name, title, mesh, steps, log, meshes, told, about):
-    """A picture of one step: the mesh before, what is asked, and what is taken, with the lines of the log."""
+    """A picture of one step: the mesh before, what is requested, and what is taken, with the lines of the log."""
     asked = shifts_in(steps.splitlines(), "shift")
     taken = shifts_in(log, "move")
     start = mesh_of(mesh)
@@ -498,20 +504,22 @@ def motion(name, title, mesh, steps, log, meshes, told, about):
     if meshes and states[2].points != meshes[-1].points:
         raise ValueError(f"{name}: the stored mesh is not where the moves lead")
     lines = [line for line in log if line.split()[0] in told]
-    camera = Camera((4, -5, 3))
-    frames = [Frame(camera, states, 14 + 262 * k, 72, 262, 250, 22) for k in range(3)]
+    camera = Camera((1.5, -5, 2.4))
+    tails = start.moved({v: times(by, 1 - TAIL) for v, by in taken.items()})
+    frames = [Frame(camera, [*states, tails], 10 + 300 * k, 72, 300, 280, 24) for k in range(3)]
     foot = math.ceil(max(72 + frames[0].height, 62 + 17 * len(lines))) + 14
-    picture = Picture(name, 966, foot, about)
+    picture = Picture(name, 1090, foot, about)
     picture.text(24, 32, title, "title")
-    for k, (when, frame) in enumerate(zip(("before", "asked", "taken"), frames)):
-        picture.text(145 + 262 * k, 62, when, "soft", "middle")
+    for k, (when, frame) in enumerate(zip(("before", "as requested", f"as taken; arrows {TAIL} times as long"), frames)):
+        picture.text(160 + 300 * k, 62, when, "soft", "middle")
         picture.mesh(frame, states[k], by_body(states[k]))
-        for v, _ in sorted((asked, asked, taken)[k].items()) if k else []:
-            picture.arrow(frame.place(start.points[v])[:2], frame.place(states[k].points[v])[:2])
+        for v, by in sorted((asked, asked, taken)[k].items()) if k else []:
+            end = states[k].points[v]
+            picture.arrow(frame.place(minus(end, times(by, TAIL if k == 2 else 1)))[:2], frame.place(end)[:2])
         if k == 0:
             ids(picture, frame, start, {1: (0, 15), 2: (0, -13), 3: (-4, -13), 5: (-12, 2)})
-    picture.line((804, 52), (804, foot - 18), "rule")
-    picture.lines(820, 66, lines)
+    picture.line((916, 52), (916, foot - 18), "rule")
+    picture.lines(930, 66, lines)
     return picture
 
 
@@ -520,8 +528,8 @@ def two_tetrahedra(program):
     mesh, steps = text_of("examples", "two_tetrahedra.obj"), text_of("examples", "into_a_face.txt")
     log, meshes = track(program, mesh, steps)
     return motion(
-        "two_tetrahedra.svg", "A corner is asked to go into a face: one pass of impulses is enough", mesh, steps, log, meshes,
-        ("step", "hit", "move", "moved"), "Two tetrahedra before a step, as asked, and as the step is taken by impulses, with the lines of the log",
+        "two_tetrahedra.svg", "A corner is to go into a face: one pass of impulses is enough", mesh, steps, log, meshes,
+        ("step", "hit", "move", "moved"), "Two tetrahedra before a step, as requested, and as the step is taken by impulses, with the lines of the log",
     )
 
 
@@ -531,7 +539,7 @@ def impact_zone(program):
     log, _ = track(program, mesh, steps)
     return motion(
         "impact_zone.svg", "The same without impulses: what fails becomes one impact zone, which moves by the mean", mesh, steps, log, [],
-        ("step", "hit", "block", "move", "moved"), "Two tetrahedra before a step, as asked, and as the step is taken by an impact zone, with the lines of the log",
+        ("step", "hit", "block", "move", "moved"), "Two tetrahedra before a step, as requested, and as the step is taken by an impact zone, with the lines of the log",
     )
 
 
@@ -614,40 +622,81 @@ def cut_words(words, room):
     return lines
 
 
+def levels_of(below):
+    """For each group how many lie below it on its longest way down."""
+    level = {}
+    for k in sorted(below, key=lambda it: len(reached(it, below))):
+        level[k] = 1 + max((level[j] for j in below[k]), default=-1)
+    return level
+
+
+def reached(k, below):
+    """The groups on which a group stands, by however many steps."""
+    return set().union(*({j} | reached(j, below) for j in below[k]))
+
+
+class Box:
+    """A group in the drawing of the crates: its lines of text, and where it stands."""
+
+    def __init__(self, comment, rows, known, width):
+        room = int((width - 24) / 7.4)
+        kit = sorted({it for _, below in rows for it in below if it not in known})
+        self.heads, self.names = cut_words(comment, room), cut_words(" ".join(name for name, _ in rows), room)
+        self.notes = cut_words("with the kit's " + ", ".join(kit), room) if kit else []
+        self.width, self.height = width, 16 + 17 * len(self.heads + self.names + self.notes)
+
+    def draw(self, picture):
+        picture.parts.append(f'<rect class="box" x="{number(self.x)}" y="{number(self.y)}" width="{number(self.width)}" height="{number(self.height)}" rx="5"/>')
+        y = self.y + 20
+        for lines, kind in ((self.heads, ""), (self.names, "log"), (self.notes, "soft")):
+            picture.lines(self.x + 12, y, lines, kind)
+            y += 17 * len(lines)
+
+
 def crates(program):
-    """The crates by group, from the bottom up, with the groups and the libraries on which each group stands."""
+    """The crates by group, with arrows to the groups on which each group stands and on which none of those stands."""
     groups = groups_of_crates()
-    group_of = {name: k for k, (_, rows) in enumerate(groups, 1) for name, _ in rows}
-    left, right, rows_of = 300, 916, []
-    for comment, rows in groups:
-        places, x, y = [], left, 0
-        for name, _ in rows:
-            wide = 7.4 * len(name) + 16
-            if x + wide > right:
-                x, y = left, y + 27
-            places.append((x, y, wide, name))
-            x += wide + 7
-        rows_of.append(places)
-    picture = Picture("crates.svg", 940, 2000, "The crates by group, from the bottom up")
-    picture.text(24, 32, "The crates by group, from the bottom up, and the groups and libraries on which each group stands", "title")
-    top = 52
-    for k in range(len(groups), 0, -1):
-        comment, rows = groups[k - 1]
-        below = {it for _, names in rows for it in names}
-        stands = sorted({group_of[it] for it in below if it in group_of} - {k})
-        kit = sorted(it for it in below if it not in group_of)
-        notes = cut_words("on " + " ".join(map(str, stands)) if stands else "on no other group", 34)
-        notes += cut_words("and the kit's " + ", ".join(kit), 34) if kit else []
-        heads = cut_words(f"{k}  {comment}", 34)
-        picture.line((24, top), (right, top), "rule")
-        picture.lines(24, top + 19, heads, "")
-        picture.lines(24, top + 19 + 17 * len(heads), notes, "soft")
-        for x, y, wide, name in rows_of[k - 1]:
-            picture.parts.append(f'<rect class="box" x="{number(x)}" y="{number(top + 8 + y)}" width="{number(wide)}" height="21" rx="4"/>')
-            picture.text(x + 8, top + 23 + y, name, "log")
-        top += max(14 + 17 * (len(heads) + len(notes)), 16 + rows_of[k - 1][-1][1] + 21)
-    picture.height = top + 10
+    known = {name for _, rows in groups for name, _ in rows}
+    group_of = {name: k for k, (_, rows) in enumerate(groups) for name, _ in rows}
+    below = {k: {group_of[it] for _, names in rows for it in names if it in known} - {k} for k, (_, rows) in enumerate(groups)}
+    ways = [(k, j) for k in below for j in sorted(below[k]) if not any(j in reached(i, below) for i in below[k])]
+    level = levels_of(below)
+    rows = [[k for k in sorted(below) if level[k] == at] for at in range(max(level.values()) + 1)]
+    # in the middle the largest group of each row; on the left what is stood on from further above, on the right the rest
+    middle = {max(row, key=lambda k: (len(groups[k][1]), -k)) for row in rows}
+    left = {j for k, j in ways if level[k] > level[j] + 1} - middle
+    place = lambda k: (285, 415) if k in middle else (54, 195) if k in left else (736, 190)
+    boxes = {k: Box(*groups[k], known, place(k)[1]) for k in below}
+    picture = Picture("crates.svg", 940, 2000, "The crates by group, with arrows to what each group stands on")
+    picture.text(24, 32, "The crates by group: an arrow goes to a group on which a group stands", "title")
+    picture.text(24, 52, "what that one stands on in turn has no arrow", "soft")
+    top = 76
+    for row in reversed(rows):
+        ends = {}
+        for k in row:
+            boxes[k].x, boxes[k].y = place(k)[0], ends.get(place(k)[0], top)
+            ends[boxes[k].x] = boxes[k].y + boxes[k].height + 12
+        top = max(ends.values()) + 18
+    picture.height = top - 12
+    for k, j in ways:
+        way(picture, boxes[k], boxes[j], j in left)
+    for box in boxes.values():
+        box.draw(picture)
     return picture
+
+
+def way(picture, upper, lower, round_):
+    """An arrow from a box to one below it: straight down, or round by the left border."""
+    if not round_:
+        if upper.x == lower.x:
+            picture.arrow((lower.x + lower.width / 2, upper.y + upper.height), (lower.x + lower.width / 2, lower.y), "way")
+        else:
+            side = 30 if upper.x < lower.x else lower.width - 30
+            picture.arrow((upper.x + upper.width / 2, upper.y + upper.height), (lower.x + side, lower.y), "way")
+        return
+    out, into = upper.y + upper.height / 2, lower.y + lower.height / 2
+    picture.parts.append(f'<path class="way" d="M{number(upper.x)} {number(out)}H28V{number(into)}"/>')
+    picture.arrow((28, into), (lower.x, into), "way")
 
 
 def growth_rows():
@@ -683,10 +732,10 @@ def growth(program):
         x = at(faces, 0)[0]
         picture.line((x, bottom), (x, bottom + 5), "rule")
         picture.text(x, bottom + 22, f"{faces:,}", "soft", "middle")
-    for column, words in ((1, "at rest"), (2, "with one step")):
+    for column, words, kind in ((1, "at rest", "curve"), (2, "with one step", "second")):
         places = [at(row[0], row[column]) for row in rows]
         for p, q in zip(places, places[1:]):
-            picture.line(p, q, "curve")
+            picture.line(p, q, kind)
         picture.text(places[-1][0] + 12, places[-1][1] + 4, words)
     return picture
 
