@@ -1,5 +1,5 @@
 -- Where nothing of a list is kept.
-use Rattle.std.proofs.Common.{◌≡◌, Bool, true, false, cond, List, [], ◌∷◌, map}
+use Rattle.std.proofs.Common.{◌≡◌, Bool, true, false, cond, List, [], ◌∷◌, map, refl}
 use Rattle.std.specs.List.{filter, AllByRecursion}
 
 pub nothing_kept : {Y Z : Type 0} (name : Y → Z) (p : Y → Bool) (ys : List Y) → map name (filter p ys) ≡ [] → AllByRecursion (λ y. p y ≡ false) ys
