@@ -12,4 +12,4 @@ pub returns : goal.returns
 returns c =
     let skin = c.args.self.now.skin in
     let at = c.widened.result in
-    leaves_out skin c.args.frame.now c.args.e.now at (about skin _ _ _ _ at c.wide.ensures.value c.wide-2.ensures.value c.widened.ensures)
+    leaves_out skin c.args._frame.now c.args.e.now at (about skin _ _ _ _ at c.wide.ensures.value c.wide-2.ensures.value c.widened.ensures)
