@@ -1,7 +1,6 @@
 -- The first of all faults is the one that `shape_fault` names.
 use Rattle.std.proofs.Common.{◌≡◌, ℕ, ◌+◌, ◌==◌, not, Bool, true, false, cond, List, [], ◌∷◌, ◌++◌, Option, Some, None, map, length, nat_lt, slice_get, if◌then◌else◌, option_map, refl, sym, ap, ◌∙◌}
 use Rattle.std.specs.Option.{option_or}
-use Rattle.std.specs.List.{filter, find}
 use Rattle.grid_base.specs.declared.TheConstants.{VERTICES_MAX, FACES_MAX}
 use Rattle.mesh_base.specs.declared.ids.Corners.{Corners}
 use Rattle.mesh_base.specs.declared.faults.ShapeFault.{ShapeFault}
@@ -11,6 +10,7 @@ use Rattle.mesh_base.specs.Given.{Faces}
 use Rattle.mesh_base.specs.Pairs.{id_pairs}
 use Rattle.mesh_plain.specs.Shape.{is_vertex, bad_corner, no_vertex_from, repeats, repeated_from, doubled_from, runs_in, numbers_to, first_unbalanced, shape_fault}
 use Rattle.mesh_faults.specs.ShapeFaults.{one_if, no_vertices_in, no_vertices_from, all_repeated_from, first_equal, doubled_by, all_doubled_from, unbalanced_fault, unbalanced_pairs, limit_faults, shape_faults}
+use Rattle.pair_scan.proofs.Lists.{head_filtered}
 use Rattle.mesh_faults.proofs.Firsts.{first_pair}
 
 abbrev head : {A : Type 0} → List A → Option A
@@ -28,14 +28,6 @@ head_one false x = refl
 mapped_or : {A B : Type 0} (g : A → B) (x y : Option A) → option_map g (option_or x y) ≡ option_or (option_map g x) (option_map g y)
 mapped_or g None y = refl
 mapped_or g (Some x) y = refl
-
-pub head_filtered : {A B : Type 0} (g : A → B) (test : A → Bool) (xs : List A) → slice_get (map g (filter test xs)) 0 ≡ option_map g (find test xs)
-head_filtered g test [] = refl
-head_filtered g test (x ∷ xs) = by_test (test x) (head_filtered g test xs)
-  where
-    by_test : (b : Bool) → slice_get (map g (filter test xs)) 0 ≡ option_map g (find test xs) → slice_get (map g (cond b (x ∷ filter test xs) (filter test xs))) 0 ≡ option_map g (cond b (Some x) (find test xs))
-    by_test true h = refl
-    by_test false h = h
 
 -- ---- corners that are no vertex
 head_corners : (k : ℕ) (p q r : Bool) → slice_get (one_if (not p) (NoVertex k 1) ++ one_if (not q) (NoVertex k 2) ++ one_if (not r) (NoVertex k 3)) 0

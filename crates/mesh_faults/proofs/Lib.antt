@@ -6,4 +6,3 @@ pub mod Differing
 pub mod Numbered
 pub mod Unbalanced
 pub mod Still
-pub mod MetAlong

@@ -18,8 +18,8 @@ use Rattle.mesh_base.proofs.Moves.{plus-origin, same_positions}
 use Rattle.pair_scan.specs.Failed.{IsFailing, AreFailing}
 use Rattle.pair_scan.specs.Scan.{IsMeeting}
 use Rattle.pair_scan.proofs.InOrder.{are_failing}
+use Rattle.pair_scan.proofs.Lists.{head_filtered}
 use Rattle.mesh_faults.specs.MeetingPairs.{meeting_pairs, AreMeeting}
-use Rattle.mesh_faults.proofs.Heads.{head_filtered}
 
 module _ (m : Mesh) where
   abbrev here : Pair → Positions

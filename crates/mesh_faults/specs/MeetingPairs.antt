@@ -1,15 +1,13 @@
 -- All pairs that meet where the vertices of a mesh stand.
-use Rattle.std.specs.Prelude.{◌↔◌, ℕ, List, map, slice_get, Some}
-use Rattle.std.specs.List.{filter, flat_map, Contains}
+use Rattle.std.specs.Prelude.{◌↔◌, List, map}
+use Rattle.std.specs.List.{filter, Contains}
 use Rattle.std.specs.List.Sorted.{IsStrictlySortedBy}
 use Rattle.grid_decided.specs.Decided.{meets_exactly}
 use Rattle.mesh_base.specs.declared.ids.PairName.{PairName}
 use Rattle.mesh_base.specs.Mesh.{Mesh}
 use Rattle.mesh_base.specs.Pairs.{pairs, name_cmp}
 use Rattle.mesh_base.specs.Placements.{rest_positions, positions}
-use Rattle.pair_paths.specs.declared.MovingEdge.{MovingEdge}
-use Rattle.pair_paths.specs.declared.MovingFace.{MovingFace}
-use Rattle.pair_scan.specs.Scan.{IsMeeting, met_with, one_or_none}
+use Rattle.pair_scan.specs.Scan.{IsMeeting}
 
 -- the names of all pairs that meet, in order of the edge and then of the face
 abbrev pub meeting_pairs : Mesh → List PairName
@@ -20,11 +18,3 @@ meeting_pairs m =
 pub record AreMeeting (m : Mesh) (names : List PairName) : Type 0 where
   pub each : (n : PairName) → Contains names n ↔ IsMeeting m n
   pub rising : IsStrictlySortedBy name_cmp names
-
--- the names of an edge with those of the faces at these places that it meets
-abbrev pub meeting_at : MovingEdge → List MovingFace → List ℕ → List PairName
-meeting_at e faces places = flat_map (λ k. one_or_none (met_with e (slice_get faces k))) places
-
--- the same of all the faces
-abbrev pub meeting_among : MovingEdge → List MovingFace → List PairName
-meeting_among e faces = flat_map (λ f. one_or_none (met_with e (Some f))) faces

@@ -1,47 +1,26 @@
--- The pairs that need an entry, edge by edge, are all; and their list has exactly these, in order.
-use Rattle.std.proofs.Common.{◌≡◌, ℕ, Bool, true, false, ◌||◌, not, Some, List, [], ◌∷◌, ◌++◌, refl, sym, ap, ◌∙◌}
-use Rattle.std.specs.List.{filter, flat_map, Contains}
+-- The pairs that need an entry along the edges are all; and their list has exactly these, in order.
+use Rattle.std.proofs.Common.{◌≡◌, Bool, true, false, not, refl, sym, ◌∙◌}
+use Rattle.std.specs.List.{filter, Contains}
 use Rattle.std.specs.List.Sorted.{IsStrictlySortedBy}
-use Rattle.std.specs.FinMap as finite
 use Rattle.std.proofs.lemmas.Bool.{false≢true}
 use Rattle.std.proofs.lemmas.List.Elements.{All-from_recursion, recursion_from_All, All-contains_itself, All-contains}
-use Rattle.std.proofs.lemmas.List.Folds.{flat_map-map}
 use Rattle.std.proofs.lemmas.List.Kept.{IsStrictlySortedBy-filter}
-use Rattle.mesh_base.specs.declared.ids.Corners.{Corners}
 use Rattle.mesh_base.specs.declared.ids.PairName.{PairName}
 use Rattle.mesh_base.specs.Mesh.{Mesh, IsSound}
-use Rattle.mesh_base.specs.Pairs.{Pair, IsPair, edges, pairs, pairs_of, name_cmp}
+use Rattle.mesh_base.specs.Pairs.{Pair, IsPair, edges, pairs, name_cmp}
 use Rattle.mesh_base.specs.Placements.{Motion, positions}
-use Rattle.mesh_base.specs.Sides.{has_corner}
 use Rattle.mesh_base.proofs.Listed.{listed, all_map, all_filter}
 use Rattle.mesh_base.proofs.ListedPairs.{listed_pairs, all_mapped, all_filtered, all_weaker}
 use Rattle.mesh_base.proofs.InOrder.{by_name, pairs_sorted, sorted_mapped}
-use Rattle.pair_paths.specs.Moving.{moving_edge, moving_face, moving_faces}
-use Rattle.pair_scan.proofs.Kept.{kept_by_list, kept_of_taken}
-use Rattle.motion_proof.specs.Needs.{NeedsNone, needs_none, needing_one, needing_among, needing_along, pair_needs, needing_of, needing, IsNeeding, AreNeeding}
+use Rattle.pair_paths.specs.Moving.{moving_faces}
+use Rattle.pair_paths.specs.Pairing.{name_with}
+use Rattle.pair_candidates.proofs.OfPairs.{told_pairs}
+use Rattle.motion_proof.specs.Needs.{NeedsNone, needs_none, needs_entry, needing_along, pair_needs, needing, IsNeeding, AreNeeding}
 use Rattle.motion_proof.proofs.Decided.{NeedsNone-of, of-NeedsNone}
 
--- ---- edge by edge
-of_edge : (m : Mesh) (w : Motion) (a b : ℕ) → needing_among (moving_edge w a b) (moving_faces m w) ≡ needing_of w (pairs_of m (a, b))
-of_edge m w a b =
-    let e = moving_edge w a b in
-    let es = finite.entries m.faces in
-    let pair : ℕ × Corners → Pair = λ f. record { name = record { a = a; b = b; face = f.0 }; corners = f.1 } in
-    let apart : ℕ × Corners → Bool = λ f. not (has_corner f.1 a || has_corner f.1 b) in
-    flat_map-map (λ f. needing_one e (Some f)) (moving_face w) es
-    ∙ kept_of_taken apart pair (pair_needs w) (λ p. p.name) (λ f. needing_one e (Some (moving_face w f))) (λ f. refl) es
-
-by_edges : (m : Mesh) (w : Motion) → flat_map (λ e. needing_of w (pairs_of m e)) (edges m) ≡ needing m w
-by_edges m w = sym (kept_by_list (λ p. p.name) (pair_needs w) (λ e. pairs_of m e) (edges m))
-
+-- ---- what is told of a mesh
 pub along_edges : (m : Mesh) (w : Motion) → needing_along w (moving_faces m w) (edges m) ≡ needing m w
-along_edges m w =
-    each_alike (λ e. needing_among (moving_edge w e.0 e.1) (moving_faces m w)) (λ e. needing_of w (pairs_of m e)) (λ e. of_edge m w e.0 e.1) (edges m)
-    ∙ by_edges m w
-  where
-    each_alike : {X Y : Type 0} (f g : X → List Y) → ((x : X) → f x ≡ g x) → (xs : List X) → flat_map f xs ≡ flat_map g xs
-    each_alike f g same [] = refl
-    each_alike f g same (x ∷ xs) = ap (λ ys. ys ++ flat_map f xs) (same x) ∙ ap (λ ys. g x ++ ys) (each_alike f g same xs)
+along_edges m w = told_pairs needs_entry name_with w (pair_needs w) (λ p. p.name) (λ a b f. refl) (λ a b f. refl) m
 
 -- ---- which they are
 module _ (m : Mesh) (w : Motion) where

@@ -1,8 +1,8 @@
 -- Which pairs need an entry, and the list of these.
-use Rattle.std.specs.Prelude.{ℕ, Bool, cond, ◌↔◌, ◌⊎◌, ◌&&◌, ◌||◌, not, List, map, slice_get}
-use Rattle.std.specs.List.{Any, Contains, filter, flat_map, list_any}
+use Rattle.std.specs.Prelude.{ℕ, Bool, ◌↔◌, ◌⊎◌, ◌&&◌, ◌||◌, not, List, map}
+use Rattle.std.specs.List.{Any, Contains, filter, list_any}
 use Rattle.std.specs.List.Sorted.{IsStrictlySortedBy}
-use Rattle.std.proofs.Common.{Option, Some, None}
+use Rattle.std.proofs.Common.{Option}
 use Rattle.grid_base.specs.declared.Positions.{Positions}
 use Rattle.grid_base.specs.Meeting.{MeetAt}
 use Rattle.grid_base.specs.Separation.{KeepsApart, MoveTogether, axes}
@@ -15,9 +15,8 @@ use Rattle.mesh_base.specs.Pairs.{Pair, IsPair, pairs, name_cmp}
 use Rattle.mesh_base.specs.Placements.{Motion, positions}
 use Rattle.pair_paths.specs.declared.MovingEdge.{MovingEdge}
 use Rattle.pair_paths.specs.declared.MovingFace.{MovingFace}
-use Rattle.pair_paths.specs.Moving.{moving_edge}
-use Rattle.pair_scan.specs.Scan.{one_or_none}
-use Rattle.pair_paths.specs.Pairing.{have_a_vertex_in_common, name_with, starts, ends}
+use Rattle.pair_paths.specs.Pairing.{name_with, starts, ends}
+use Rattle.pair_candidates.specs.Told.{one_or_none, told_with, told_among, told_along}
 
 -- needs no entry: it moves as one and does not meet at the start, or an axis keeps it apart
 abbrev pub NeedsNone : Positions → Positions → Type 0
@@ -27,30 +26,21 @@ NeedsNone s t = (MoveTogether s t × ¬ (MeetAt s)) ⊎ Any (KeepsApart s t) axe
 abbrev pub needs_none : Positions → Positions → Bool
 needs_none s t = list_any (keeps_apart s t) axes || (move_together s t && not (meets_exactly s))
 
--- whether the edge and the face are a pair that needs an entry
-abbrev pub needs_with : MovingEdge → MovingFace → Bool
-needs_with e f = not (have_a_vertex_in_common e f) && not (needs_none (starts e f) (ends e f))
+-- whether an edge and a face need an entry
+abbrev pub needs_entry : MovingEdge → MovingFace → Bool
+needs_entry e f = not (needs_none (starts e f) (ends e f))
 
 -- the name of the edge with a face, where there is one, and they are a pair that needs an entry
-abbrev pub needing_with : MovingEdge → Option MovingFace → Option PairName
-needing_with e None = None
-needing_with e (Some f) = cond (needs_with e f) (Some (name_with e f)) None
-
--- the same name, in a list
 abbrev pub needing_one : MovingEdge → Option MovingFace → List PairName
-needing_one e f = one_or_none (needing_with e f)
-
--- the names of the edge with those of the faces at these places
-abbrev pub needing_at : MovingEdge → List MovingFace → List ℕ → List PairName
-needing_at e faces places = flat_map (λ k. needing_one e (slice_get faces k)) places
+needing_one e f = one_or_none (told_with needs_entry name_with e f)
 
 -- the same of all the faces
 abbrev pub needing_among : MovingEdge → List MovingFace → List PairName
-needing_among e faces = flat_map (λ f. needing_one e (Some f)) faces
+needing_among e faces = told_among needs_entry name_with e faces
 
 -- the same of each of the edges, edge by edge
 abbrev pub needing_along : Motion → List MovingFace → List (ℕ × ℕ) → List PairName
-needing_along w faces edges = flat_map (λ e. needing_among (moving_edge w e.0 e.1) faces) edges
+needing_along w faces edges = told_along needs_entry name_with w faces edges
 
 -- whether the pair needs an entry
 abbrev pub pair_needs : Motion → Pair → Bool

@@ -1,7 +1,7 @@
 -- Pairs of a mesh that are listed as near at reference points.
-use Rattle.std.specs.Prelude.{◌≡◌, ℕ, Bool, cond, ◌&&◌, not, List, map, slice_get}
+use Rattle.std.specs.Prelude.{◌≡◌, ℕ, Bool, cond, not, List, map}
 use Rattle.std.specs.List.{All, filter, flat_map}
-use Rattle.std.proofs.Common.{Option, Some, None}
+use Rattle.std.proofs.Common.{Some, None}
 use Rattle.grid_base.specs.Meeting.{MeetAt}
 use Rattle.grid_decided.specs.Decided.{meets_exactly}
 use Rattle.mesh_base.specs.declared.ids.PairName.{PairName}
@@ -12,9 +12,8 @@ use Rattle.mesh_base.specs.Pairs.{Pair, pairs}
 use Rattle.mesh_base.specs.Placements.{Motion, Placement, positions}
 use Rattle.pair_paths.specs.declared.MovingEdge.{MovingEdge}
 use Rattle.pair_paths.specs.declared.MovingFace.{MovingFace}
-use Rattle.pair_paths.specs.Moving.{moving_edge}
-use Rattle.pair_paths.specs.Pairing.{have_a_vertex_in_common, pair_with, starts}
-use Rattle.pair_scan.specs.Scan.{one_or_none}
+use Rattle.pair_paths.specs.Pairing.{pair_with, starts}
+use Rattle.pair_candidates.specs.Told.{one_or_none, told_along}
 use Rattle.neighbour_list.specs.declared.listed.ListedPair.{ListedPair}
 use Rattle.neighbour_list.specs.declared.neighbour_list.NeighbourList.{NeighbourList}
 use Rattle.neighbour_list.specs.Clusters.{AreAt, IsCovered}
@@ -40,30 +39,17 @@ pub record IsListOf (m : Mesh) (l : NeighbourList) : Type 0 where
   pub pairs : l.pairs ≡ map listed (filter (is_near_at l.skin at) (pairs m))
 
 -- ---- a list in the making
--- whether the edge and the face are a pair and begin near each other
-abbrev pub is_near_pair : ℕ → MovingEdge → MovingFace → Bool
-is_near_pair skin e f = not (have_a_vertex_in_common e f) && is_near skin (starts e f)
+-- whether an edge and a face begin near each other
+abbrev pub begin_near : ℕ → MovingEdge → MovingFace → Bool
+begin_near skin e f = is_near skin (starts e f)
 
--- the edge with a face, where there is one, they are a pair, and they begin near each other
-abbrev pub near_with : ℕ → MovingEdge → Option MovingFace → Option ListedPair
-near_with skin e None = None
-near_with skin e (Some f) = cond (is_near_pair skin e f) (Some (listed (pair_with e f))) None
+-- the edge with the face, as it is listed
+abbrev pub listed_with : MovingEdge → MovingFace → ListedPair
+listed_with e f = listed (pair_with e f)
 
--- the same, in a list
-abbrev pub near : ℕ → MovingEdge → Option MovingFace → List ListedPair
-near skin e f = one_or_none (near_with skin e f)
-
--- the same of the faces at these places
-abbrev pub near_at : ℕ → MovingEdge → List MovingFace → List ℕ → List ListedPair
-near_at skin e faces places = flat_map (λ k. near skin e (slice_get faces k)) places
-
--- the same of all the faces
-abbrev pub near_among : ℕ → MovingEdge → List MovingFace → List ListedPair
-near_among skin e faces = flat_map (λ f. near skin e (Some f)) faces
-
--- the same of each of the edges, edge by edge
+-- the pairs of each of the edges with those of the faces that begin near it, edge by edge
 abbrev pub near_along_edges : ℕ → Motion → List MovingFace → List (ℕ × ℕ) → List ListedPair
-near_along_edges skin w faces edges = flat_map (λ e. near_among skin (moving_edge w e.0 e.1) faces) edges
+near_along_edges skin w faces edges = told_along (begin_near skin) listed_with w faces edges
 
 -- ---- a scan of listed pairs
 -- the pair does not meet where its vertices stand

@@ -1,7 +1,6 @@
 pub mod Lists
-pub mod Scans
 pub mod Clear
-pub mod Near
+pub mod Scans
 pub mod IdSearch
 pub mod ShiftSearch
 pub mod Paths
@@ -11,4 +10,3 @@ pub mod NoneFail
 pub mod InOrder
 pub mod PairNames
 pub mod AllEnd
-pub mod Asked

@@ -1,8 +1,8 @@
--- What is found in lists made of lists.
-use Rattle.std.proofs.Common.{◌≡◌, ℕ, ◌+◌, ◌<◌, ◌≤◌, Bool, true, false, cond, ◌&&◌, List, [], ◌∷◌, ◌++◌, map, length, get_or, drop, Option, Some, None, refl, ap, ◌∙◌}
-use Rattle.std.specs.List.{filter, flat_map, find}
-use Rattle.std.specs.Option.{option_map, option_or}
-use Rattle.std.proofs.lemmas.List.Folds.{find-append}
+-- The first of a list that passes a test.
+use Rattle.std.proofs.Common.{◌≡◌, Bool, true, false, cond, ◌&&◌, List, [], ◌∷◌, map, take, Option, Some, None, refl, ap, ◌∙◌}
+use Rattle.std.specs.Prelude.{slice_get}
+use Rattle.std.specs.List.{filter, find}
+use Rattle.std.specs.Option.{option_map}
 pub use Rattle.pair_paths.proofs.Walks.{rest_at, ended, made_all, made_more, each_once}
 
 -- ---- the first that passes
@@ -28,26 +28,15 @@ pub option_map-option_map : {X Y Z : Type 0} (g : Y → Z) (f : X → Y) (o : Op
 option_map-option_map g f None = refl
 option_map-option_map g f (Some x) = refl
 
-option_map-option_or : {X Y : Type 0} (f : X → Y) (o r : Option X) → option_map f (option_or o r) ≡ option_or (option_map f o) (option_map f r)
-option_map-option_or f None r = refl
-option_map-option_or f (Some x) r = refl
+-- ---- the first item
+pub head_of_one : {X : Type 0} (xs : List X) → slice_get xs 0 ≡ slice_get (take 1 xs) 0
+head_of_one [] = refl
+head_of_one (x ∷ xs) = refl
 
--- the name of the first that passes, in a list made of lists
-module _ {X Y Z : Type 0} (name : Y → Z) (p : Y → Bool) (f : X → List Y) where
-  abbrev pub first_in : List Y → Option Z
-  first_in ys = option_map name (find p ys)
-
-  first-append : (xs ys : List Y) → first_in (xs ++ ys) ≡ option_or (first_in xs) (first_in ys)
-  first-append xs ys = ap (option_map name) (find-append p xs ys) ∙ option_map-option_or name (find p xs) (find p ys)
-
-  first_at : (xs : List X) (i : ℕ) (d : X) → i < length xs → first_in (flat_map f (drop i xs)) ≡ option_or (first_in (f (get_or xs i d))) (first_in (flat_map f (drop (i + 1) xs)))
-  first_at xs i d h = ap (λ zs. first_in (flat_map f zs)) (rest_at xs i d h) ∙ first-append (f (get_or xs i d)) (flat_map f (drop (i + 1) xs))
-
-  pub first_behind : (xs : List X) (i : ℕ) (d : X) → i < length xs → first_in (f (get_or xs i d)) ≡ None → first_in (flat_map f (drop i xs)) ≡ first_in (flat_map f (drop (i + 1) xs))
-  first_behind xs i d h none = first_at xs i d h ∙ ap (λ o. option_or o (first_in (flat_map f (drop (i + 1) xs)))) none
-
-  pub first_here : (xs : List X) (i : ℕ) (d : X) (z : Z) → i < length xs → first_in (f (get_or xs i d)) ≡ Some z → first_in (flat_map f (drop i xs)) ≡ Some z
-  first_here xs i d z h some = first_at xs i d h ∙ ap (λ o. option_or o (first_in (flat_map f (drop (i + 1) xs)))) some
-
-  pub first_ended : (xs : List X) (i : ℕ) → length xs ≤ i → first_in (flat_map f (drop i xs)) ≡ None
-  first_ended xs i h = ap (λ zs. first_in (flat_map f zs)) (ended xs i h)
+pub head_filtered : {X Y : Type 0} (g : X → Y) (test : X → Bool) (xs : List X) → slice_get (map g (filter test xs)) 0 ≡ option_map g (find test xs)
+head_filtered g test [] = refl
+head_filtered {X} {Y} g test (x ∷ xs) = by_test (test x) (head_filtered g test xs)
+  where
+    by_test : (b : Bool) → slice_get (map g (filter test xs)) 0 ≡ option_map g (find test xs) → slice_get (map g (cond b (x ∷ filter test xs) (filter test xs))) 0 ≡ option_map g (cond b (Some x) (find test xs))
+    by_test true h = refl
+    by_test false h = h

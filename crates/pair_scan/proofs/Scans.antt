@@ -1,48 +1,42 @@
--- The first pair that meets, edge by edge.
-use Rattle.std.proofs.Common.{◌≡◌, ◌↔◌, ℕ, Bool, true, false, ◌&&◌, ◌||◌, not, refl, sym, ap, ◌∙◌, IsTrue}
-use Rattle.std.specs.List.{filter, find}
-use Rattle.std.specs.Option.{option_map}
-use Rattle.std.specs.FinMap as finite
+-- The pairs that meet, and the first of them.
+use Rattle.std.proofs.Common.{◌≡◌, ◌↔◌, Bool, List, map, take, slice_get, refl, sym, ap, ◌∙◌, IsTrue}
+use Rattle.std.specs.List.{filter}
+use Rattle.grid_base.specs.declared.Extent.{Extent}
 use Rattle.grid_base.specs.declared.Positions.{Positions}
 use Rattle.grid_base.specs.Meeting.{MeetAt}
 use Rattle.grid_decided.specs.Decided.{meets_exactly, meets_exactly-is_exact}
-use Rattle.mesh_base.specs.declared.ids.Corners.{Corners}
+use Rattle.mesh_base.specs.declared.ids.PairName.{PairName}
 use Rattle.mesh_base.specs.Mesh.{Mesh}
-use Rattle.mesh_base.specs.Sides.{has_corner}
-use Rattle.mesh_base.specs.Pairs.{Pair, pairs_of}
-use Rattle.mesh_base.specs.Placements.{Motion, rest_positions, positions}
+use Rattle.mesh_base.specs.Pairs.{pairs}
+use Rattle.mesh_base.specs.Placements.{rest_positions, positions}
 use Rattle.mesh_base.proofs.Tests.{both_ways}
-use Rattle.pair_paths.specs.Moving.{moving_edge, moving_face, moving_faces}
-use Rattle.pair_paths.specs.Pairing.{name_with}
+use Rattle.pair_paths.specs.declared.MovingEdge.{MovingEdge}
+use Rattle.pair_paths.specs.declared.Frame.{Frame}
+use Rattle.pair_paths.specs.Frames.{edge_in, face_in, HoldsEdgeIn}
+use Rattle.pair_paths.specs.Pairing.{name_with, starts}
 use Rattle.pair_paths.specs.Paths.{at_rest}
-use Rattle.pair_scan.specs.Scan.{meets_face, first_of}
-use Rattle.pair_scan.proofs.Lists.{find-map, find-filter, option_map-option_map}
+use Rattle.pair_paths.proofs.Apart.{never_meet, starts_held}
+use Rattle.pair_candidates.specs.Told.{LeavesOut, told_of_mesh}
+use Rattle.pair_candidates.proofs.OfPairs.{told_pairs}
+use Rattle.pair_scan.specs.Scan.{do_meet, first_of}
+use Rattle.pair_scan.proofs.Clear.{apart}
+use Rattle.pair_scan.proofs.Lists.{head_of_one, head_filtered}
 
 -- a test that is true exactly where they meet is the exact test
 pub is_exact : (b : Bool) (f : Positions) → (IsTrue b ↔ MeetAt f) → b ≡ meets_exactly f
 is_exact b f h = let exact = meets_exactly-is_exact f in both_ways b (meets_exactly f) (λ e. exact.1 (h.0 e)) (λ e. h.1 (exact.0 e))
 
-pub and_false : (a : Bool) → (a && false) ≡ false
-and_false true = refl
-and_false false = refl
+-- a face whose box in a frame is apart from the edge's does not meet the edge
+pub meets_none : (frame : Frame) (e : MovingEdge) (at : Extent) → HoldsEdgeIn frame e at → LeavesOut do_meet frame e at
+meets_none frame e at E f its F off = apart (starts e f) (never_meet at its (starts e f) (starts_held (edge_in frame e) (face_in frame f) at its E F) off)
 
--- a pair that shares no vertex does what its positions do
-pub where_apart : (shared does : Bool) → shared ≡ false → (not shared && does) ≡ does
-where_apart shared does e = ap (λ z. not z && does) e
+-- what is told of a mesh
+pub told_met : (m : Mesh) → told_of_mesh do_meet name_with m (at_rest m) ≡ map (λ p. p.name) (filter (λ p. meets_exactly (positions (rest_positions m) p)) (pairs m))
+told_met m = told_pairs do_meet name_with (at_rest m) (λ p. meets_exactly (positions (rest_positions m) p)) (λ p. p.name) (λ a b f. refl) (λ a b f. refl) m
 
--- what is found among the faces is the first pair of the edge that meets
-pub first_of_edge : (m : Mesh) (a b : ℕ) → let w = at_rest m in
-    option_map (name_with (moving_edge w a b)) (find (meets_face (moving_edge w a b)) (moving_faces m w)) ≡ first_of m (pairs_of m (a, b))
-first_of_edge m a b =
-    let w : Motion = at_rest m in
-    let es = finite.entries m.faces in
-    let e = moving_edge w a b in
-    let pair : ℕ × Corners → Pair = λ f. record { name = record { a = a; b = b; face = f.0 }; corners = f.1 } in
-    let apart : ℕ × Corners → Bool = λ f. not (has_corner f.1 a || has_corner f.1 b) in
-    let meets : Pair → Bool = λ p. meets_exactly (positions (rest_positions m) p) in
-    ap (option_map (name_with e)) (find-map (meets_face e) (moving_face w) es)
-    ∙ option_map-option_map (name_with e) (moving_face w) (find (λ f. apart f && meets (pair f)) es)
-    ∙ sym (
-    ap (option_map (λ p. p.name)) (find-map meets pair (filter apart es) ∙ ap (option_map pair) (find-filter (λ f. meets (pair f)) apart es))
-    ∙ option_map-option_map (λ p. p.name) pair (find (λ f. apart f && meets (pair f)) es)
-    )
+-- the first of it
+pub first_told : (m : Mesh) (found : List PairName) → take 1 found ≡ take 1 (told_of_mesh do_meet name_with m (at_rest m)) → slice_get found 0 ≡ first_of m (pairs m)
+first_told m found is =
+    head_of_one found ∙ ap (λ names. slice_get names 0) is ∙ sym (head_of_one (told_of_mesh do_meet name_with m (at_rest m)))
+    ∙ ap (λ names. slice_get names 0) (told_met m)
+    ∙ head_filtered (λ p. p.name) (λ p. meets_exactly (positions (rest_positions m) p)) (pairs m)

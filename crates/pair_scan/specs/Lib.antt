@@ -4,6 +4,3 @@ pub mod Found
 pub mod Lookup
 pub mod Named
 pub mod Solids
-pub mod Asked
-pub mod Views
-pub mod Scene

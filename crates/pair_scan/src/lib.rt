@@ -2,24 +2,18 @@
 //! meets where the vertices stand. One scan serves the first two; whether there is none, one such pair tells.
 #![tactic(auto)]
 
-mod asked_tree;
 mod ends;
 mod failing_pairs;
-mod frames;
 mod lookup;
 mod meeting;
 mod motions;
 mod named;
-mod neighbours;
 mod scan;
-mod scene;
-mod views;
 
 pub use ends::end_in_box;
 pub use failing_pairs::{all_pass, failing};
-pub use frames::resting_frame;
 pub use lookup::place_of;
-pub use meeting::{first_meeting, met_at};
+pub use meeting::{Meets, first_meeting};
 pub use motions::{AtRest, Shifted};
 pub use named::five_of;
 pub use scan::Pairs;

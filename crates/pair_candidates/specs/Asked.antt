@@ -1,0 +1,36 @@
+-- Boxes by their places, and the answer to the last question for those near a box.
+use Rattle.std.specs.Prelude.{◌≡◌, ℕ, Bool, false, List, slice_get, IfSome}
+use Rattle.std.specs.Option.{option_map_or}
+use Rattle.std.specs.FinMap as map
+use Rattle.std.proofs.Common.{Option}
+use Rattle.grid_base.specs.declared.Extent.{Extent}
+use Rattle.grid_base.specs.Ordered.{IsUnder}
+use Rattle.box_tree.specs.declared.LabelledBox.{LabelledBox}
+use Rattle.box_tree.specs.Overlapping.{LabelledBoxes, overlaps_apart, overlapping, overlapping_apart}
+use Rattle.pair_paths.specs.declared.Frame.{Frame}
+use Rattle.pair_paths.specs.declared.MovingEdge.{MovingEdge}
+use Rattle.pair_paths.specs.declared.MovingFace.{MovingFace}
+use Rattle.pair_candidates.specs.Told.{LeavesOut}
+
+-- the first box has all of the second
+pub record IsAround (outer inner : Extent) : Type 0 where
+  pub low : IsUnder outer.low inner.low
+  pub high : IsUnder inner.high outer.high
+
+-- the box at the place has a common point with this one, and neither of the labels
+abbrev pub is_near_at : List LabelledBox → Extent → ℕ → ℕ → ℕ → Bool
+is_near_at boxes at a b k = option_map_or (overlaps_apart at a b) (slice_get boxes k) false
+
+-- the tree has the boxes by their places, and what is near is near the box that was asked for last
+pub record IsKept (tree : LabelledBoxes) (boxes : List LabelledBox) (asked : Option Extent)
+    (near : List ℕ) : Type 0 where
+  pub placed : (i : ℕ) → map.get tree i ≡ slice_get boxes i
+  pub answered : IfSome asked (λ at. near ≡ overlapping tree at)
+
+-- the places are those of the boxes that are near a box which leaves out no face of which the test
+-- is true with the edge, and have no end of it as a label
+pub record AreNear (test : MovingEdge → MovingFace → Bool) (frame : Frame) (tree : LabelledBoxes)
+    (e : MovingEdge) (near : List ℕ) : Type 0 where
+  pub at : Extent
+  pub leaves_out : LeavesOut test frame e at
+  pub found : near ≡ overlapping_apart tree at e.a e.b
