@@ -80,6 +80,12 @@ named P (x ∷ ms) v h e = by_test (named P ms v h.1) (x.v == v) refl e
     by_test rest true t e = (x, (eqb-true x.v v t, h.0))
     by_test rest false t e = rest e
 
+-- where the box has the old faces at each vertex that moves, it has those at one that does
+pub at_one_moved : (m : Mesh) (moves : List Move) (fresh_from : ℕ) (o : Option Extent) (v : ℕ) → ReachesMoves m moves fresh_from o → is_moved moves v ≡ true → ReachesAt m moves fresh_from o v
+at_one_moved m moves fresh_from o v moving e =
+    let move = named (λ move. ReachesAt m moves fresh_from o move.v) moves v (recursion_from_All (λ move. ReachesAt m moves fresh_from o move.v) moves moving) e in
+    subst (ReachesAt m moves fresh_from o) move.1.0 move.1.1
+
 one_of : (P : ℕ → Type 0) (test : ℕ → Bool) (vs : List ℕ) → AllByRecursion P vs → list_any test vs ≡ true → (v : ℕ) × ((test v ≡ true) × P v)
 one_of P test [] h e = absurd (false≢true e)
 one_of P test (v ∷ vs) h e = ⊎_elim (λ t. (v, (t, h.0))) (λ t. one_of P test vs h.1 t) (or_cases (test v) (list_any test vs) e)
@@ -116,9 +122,7 @@ module _ (m : Mesh) (moves : List Move) (together : List ℕ) (fresh_from : ℕ)
       by_test false e = at_vertex m moves fresh_from o v f c h there corner (below_fresh fresh_from f e)
 
   at_moved : (v f : ℕ) (c : Corners) → HasCorners m f c → has_corner c v ≡ true → is_moved moves v ≡ true → HasFaceIn m moves (f, c) o
-  at_moved v f c there corner e =
-      let move = named (λ move. ReachesAt m moves fresh_from o move.v) moves v (recursion_from_All (λ move. ReachesAt m moves fresh_from o move.v) moves moving) e in
-      at_either v f c (subst (ReachesAt m moves fresh_from o) move.1.0 move.1.1) there corner
+  at_moved v f c there corner e = at_either v f c (at_one_moved m moves fresh_from o v moving e) there corner
 
   at_joined : (f : ℕ) (c : Corners) → HasCorners m f c → list_any (λ v. has_corner c v) together ≡ true → HasFaceIn m moves (f, c) o
   at_joined f c there e =

@@ -115,7 +115,26 @@ fn reach_moves<S: Surface>(
     Ok(wide)
 }
 
-/// The box, made to have the old faces at each of the vertices.
+/// The box, made to have the old faces at a vertex, if it has those at each vertex that moves.
+fn reach_vertex<S: Surface>(
+    paths: &Moved<S>,
+    fresh_from: u32,
+    v: VertexId,
+    at: &mut Vec<FaceId>,
+    reach: Option<Extent>,
+) -> Result<Option<Extent>, NoMemory>
+    requires { ReachesMoves (S.mesh paths.now.mesh.now) paths.now.moves.now fresh_from reach }
+    ensures reaches { let m = S.mesh paths.now.mesh.now in
+        IfOk result (λ wide. ReachesAt m paths.now.moves.now fresh_from wide v) }
+    ensures keeps { IfOk result (λ wide. Widens reach wide) }
+{
+    if is_moved(paths.moves, v) {
+        return Ok(reach);
+    }
+    reach_at(paths, fresh_from, v, at, reach)
+}
+
+/// The box, made to have the old faces at each of the vertices, if it has those at each vertex that moves.
 fn reach_vertices<S: Surface>(
     paths: &Moved<S>,
     fresh_from: u32,
@@ -123,6 +142,7 @@ fn reach_vertices<S: Surface>(
     at: &mut Vec<FaceId>,
     reach: Option<Extent>,
 ) -> Result<Option<Extent>, NoMemory>
+    requires { ReachesMoves (S.mesh paths.now.mesh.now) paths.now.moves.now fresh_from reach }
     ensures reaches { let m = S.mesh paths.now.mesh.now in
         let moves = paths.now.moves.now in
         IfOk result (λ wide. All (ReachesAt m moves fresh_from wide) vertices.now) }
@@ -130,7 +150,7 @@ fn reach_vertices<S: Surface>(
 {
     let mut wide = reach;
     for v in vertices {
-        wide = reach_at(paths, fresh_from, *v, at, wide)?;
+        wide = reach_vertex(paths, fresh_from, *v, at, wide)?;
     }
     Ok(wide)
 }

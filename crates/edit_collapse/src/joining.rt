@@ -293,13 +293,16 @@ fn corners_near<S: Surface>(
     Ok(near)
 }
 
-/// Drops a vertex, if it is live and has no face.
-fn drop_if_bare<S: Surface>(alloc: Global, mesh: &mut S, v: VertexId) -> Result<(), NoMemory>
+/// Drops a vertex, if it is live and has no face. The list is for its faces.
+fn drop_if_bare<S: Surface>(
+    mesh: &mut S,
+    v: VertexId,
+    ids: &mut Vec<FaceId>,
+) -> Result<(), NoMemory>
     ensures made { OnOk result (S.mesh mesh.new ≡ without_if_bare (S.mesh mesh.old) v) }
     ensures marks { BeginsWith (S.kept mesh.new) (S.kept mesh.old) }
 {
-    let mut ids = Vec::with_capacity(alloc, AROUND)?;
-    mesh.faces_at(v, &mut ids)?;
+    mesh.faces_at(v, ids)?;
     if ids.len() == 0 && mesh.point(v).is_some() {
         mesh.drop_vertex(v)?;
     }
@@ -308,10 +311,10 @@ fn drop_if_bare<S: Surface>(alloc: Global, mesh: &mut S, v: VertexId) -> Result<
 
 /// Drops a vertex, if it is live and has no face, unless it is the one.
 fn drop_if_bare_but<S: Surface>(
-    alloc: Global,
     mesh: &mut S,
     v: VertexId,
     but: VertexId,
+    ids: &mut Vec<FaceId>,
 ) -> Result<(), NoMemory>
     ensures made { let m = S.mesh mesh.old in
         OnOk result (S.mesh mesh.new ≡ (if v == but then m else without_if_bare m v)) }
@@ -320,7 +323,7 @@ fn drop_if_bare_but<S: Surface>(
     if v == but {
         Ok(())
     } else {
-        drop_if_bare(alloc, mesh, v)
+        drop_if_bare(mesh, v, ids)
     }
 }
 
@@ -335,8 +338,9 @@ fn drop_bare<S: Surface>(
         (S.mesh mesh.new ≡ fold without_if_bare (S.mesh mesh.old) (others_than but near.now)) }
     ensures marks { BeginsWith (S.kept mesh.new) (S.kept mesh.old) }
 {
+    let mut ids = Vec::with_capacity(alloc, AROUND)?;
     for v in near {
-        drop_if_bare_but(alloc, mesh, *v, but)?;
+        drop_if_bare_but(mesh, *v, but, &mut ids)?;
     }
     Ok(())
 }

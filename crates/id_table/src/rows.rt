@@ -259,8 +259,34 @@ impl<T: Copy> Rows<T> {
     }
 }
 
-/// The place of an id, whether something is held of it or not; or else where it belongs.
+/// The place of an id, whether something is held of it or not; or else where it belongs. It is looked for first at the very place where
+/// it stands if the ids rise by one from the first up to it.
+#[inline(always)]
 fn find<T: Copy>(hints: &Hints, items: &[Item<T>], id: u32) -> Result<usize, usize>
+    requires { RiseFrom 0 items.now }
+    ensures { IsFound items.now id result }
+{
+    let front = after_first(items, id);
+    if front < items.len() {
+        if items[front].id == id {
+            return Ok(front);
+        }
+    }
+    sought(hints, items, id)
+}
+
+/// How far an id is from the first.
+#[inline(always)]
+fn after_first<T: Copy>(items: &[Item<T>], id: u32) -> usize {
+    match items.get(0) {
+        Some(first) => id.wrapping_sub(first.id) as usize,
+        None => 0,
+    }
+}
+
+/// The place of an id, or else where it belongs, where it is not at the very place.
+#[inline(never)]
+fn sought<T: Copy>(hints: &Hints, items: &[Item<T>], id: u32) -> Result<usize, usize>
     requires { RiseFrom 0 items.now }
     ensures { IsFound items.now id result }
 {

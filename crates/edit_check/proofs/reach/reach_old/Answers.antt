@@ -2,6 +2,9 @@ use Rattle.pair_paths.proofs.Boxed.{if_ok}
 use Rattle.edit_check.proofs.Reached.{all_moves_more, wider_still}
 use Rattle.edit_check.proofs.reach.reach_old.Goals as goal
 
+pub reach_vertices-requires : goal.reach_vertices-requires
+reach_vertices-requires g c = c.in_ok-moving.ensures.reaches
+
 pub returns-clause-moves : goal.returns-clause-moves
 returns-clause-moves g c =
     let m = g.S.Surface.mesh c.args.paths.now.mesh.now in

@@ -3,11 +3,17 @@ use Rattle.std.specs.List.{All}
 use Rattle.std.proofs.lemmas.List.{take_all}
 use Rattle.std.proofs.lemmas.List.Elements.{All-more}
 use Rattle.edit_check.specs.Reach.{ReachesAt}
-use Rattle.edit_check.proofs.Reached.{as_wide, wider_still, all_at_more}
+use Rattle.edit_check.proofs.Reached.{as_wide, wider_still, all_at_more, all_moves_more}
 use Rattle.edit_check.proofs.reach.reach_vertices.Goals as goal
 
 pub loop-v-init : goal.loop-v-init
 loop-v-init g c = record { reached = λ k d lt. absurd (omega arith); kept = as_wide c.args.reach }
+
+pub reach_vertex-requires : goal.reach_vertex-requires
+reach_vertex-requires g c =
+    let m = g.S.Surface.mesh c.args.paths.now.mesh.now in
+    let moves = c.args.paths.now.moves.now in
+    all_moves_more m moves c.args.fresh_from c.args.reach c.loop-v.wide moves c.loop-v.invariant.kept c.requires
 
 pub loop-v-preserved : goal.loop-v-preserved
 loop-v-preserved g c =
