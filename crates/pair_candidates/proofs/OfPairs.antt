@@ -33,7 +33,7 @@ module _ {Told : Type 0} (test : MovingEdge → MovingFace → Bool) (what : Mov
       flat_map-map (λ f. one_or_none (told_with test what e (Some f))) (moving_face w) es
       ∙ kept_of_taken apart (pair_at a b) keep name (λ f. one_or_none (told_with test what e (Some (moving_face w f))))
       (λ f. ap (λ t. one_or_none (cond (apart f && t) (Some (what e (moving_face w f))) None)) (kept a b f)
-          ∙ ap (λ x. one_or_none (cond (apart f && keep (pair_at a b f)) (Some x) None)) (named a b f)) es
+      ∙ ap (λ x. one_or_none (cond (apart f && keep (pair_at a b f)) (Some x) None)) (named a b f)) es
 
   pub told_pairs : told_of_mesh test what m w ≡ map name (filter keep (pairs m))
   told_pairs =

@@ -32,6 +32,14 @@ pub fn told_of_mesh<S: Surface, P: Paths, A: PairTest>(
     let faces = moving_faces(alloc, mesh, &paths)?;
     let face_list = faces.as_slice();
     let frames = Frames::of_shifts(alloc, face_list, by)?;
-    let found = told_along(alloc, test, &paths, edges.as_slice(), face_list, frames, most)?;
+    let found = told_along(
+        alloc,
+        test,
+        &paths,
+        edges.as_slice(),
+        face_list,
+        frames,
+        most,
+    )?;
     Ok(found)
 }

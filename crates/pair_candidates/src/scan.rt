@@ -36,12 +36,7 @@ fn told_with<A: PairTest>(test: &A, e: &MovingEdge, f: &MovingFace) -> Option<A:
 }
 
 // The same of the face at this place.
-fn told_at<A: PairTest>(
-    test: &A,
-    e: &MovingEdge,
-    faces: &[MovingFace],
-    k: u64,
-) -> Option<A::Told>
+fn told_at<A: PairTest>(test: &A, e: &MovingEdge, faces: &[MovingFace], k: u64) -> Option<A::Told>
     ensures { result ≡ told_with (A.test test.now) A.what e.now (slice_get faces.now k) }
 {
     match faces.get(k as usize) {

@@ -40,11 +40,11 @@ first_one : (P : Triple → Type 0) (ns : List Triple) (n o : Triple) → IsFirs
 first_one P ns n o h k = ⊎_elim
     (λ less. absurd (k.before h.place n less (subst P (sym (h.there n)) h.has)))
     (λ past. ⊎_elim
-        (λ more. absurd (h.before k.place o more (subst P (sym (k.there o)) k.has)))
-        (λ other.
-        let same : h.place ≡ k.place = omega arith in
-        sym (h.there n) ∙ ap (λ i. slice_index_or ns i n) same ∙ k.there n)
-        (cases_lt k.place h.place))
+    (λ more. absurd (h.before k.place o more (subst P (sym (k.there o)) k.has)))
+    (λ other.
+    let same : h.place ≡ k.place = omega arith in
+    sym (h.there n) ∙ ap (λ i. slice_index_or ns i n) same ∙ k.there n)
+    (cases_lt k.place h.place))
     (cases_lt h.place k.place)
 
 same_halves : (a b c d : PlainTree) → a ≡ c → b ≡ d → halves a b ≡ halves c d
@@ -79,7 +79,7 @@ module _ (m : Mesh) (w : Motion) (claim : Claim) where
       let s = positions w.start (record { name = e.pair; corners = c }) in
       let t = positions w.end (record { name = e.pair; corners = c }) in
       let Rule : PairName → Type 0 = λ n. (c : Corners) → IsPair m (record { name = n; corners = c }) →
-          IsMadeTree claim DEPTH_MAX (positions w.start (record { name = n; corners = c })) (positions w.end (record { name = n; corners = c })) f.tree in
+      IsMadeTree claim DEPTH_MAX (positions w.start (record { name = n; corners = c })) (positions w.end (record { name = n; corners = c })) f.tree in
       let there = subst Rule (sym name) k in
       same_entry e f name (tree_one claim e.tree f.tree s t (h c named.1).rule (there c named.1).rule)
 
