@@ -1,9 +1,9 @@
 #!/usr/bin/env python3
-"""Measures the greatest and the most crooked inputs: sizes that differ much, needles, vertices of high degree, boxes that overlap, bodies that go
-fast, many bodies, all at one point, 64 MiB of a line; and those at the limits also on a stack of 64 KiB.
+"""Measures the greatest and the most crooked inputs.
 
-Makes each input, runs its command on it, and prints a table: the input, the exit status, the processor seconds, the most memory in MiB, and
-how the last step was taken.
+These are sizes that differ much, needles, vertices of high degree, boxes that overlap, bodies that go fast, many bodies, all at one point,
+64 MiB of a line; and those at the limits also on a stack of 64 KiB. Prints a table: the input, the exit status, the processor seconds, the
+most memory in MiB, and how the last step was taken.
 """
 
 import math
