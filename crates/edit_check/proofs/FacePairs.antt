@@ -1,5 +1,5 @@
 -- Where no touched face fails with one of the faces, no edge of the faces has a pair that is not as required.
-use Rattle.std.proofs.Common.{◌≡◌, ℕ, ◌<◌, Bool, true, false, cond, not, ◌&&◌, ◌||◌, ◌==◌, nat_lt, int_le, List, [], ◌∷◌, Option, Some, None, ◌⊎◌, ⊎_elim, inl, inr, refl, sym, ap, subst, ◌∙◌, arith}
+use Rattle.std.proofs.Common.{◌≡◌, ℕ, ◌<◌, Bool, true, false, cond, not, ◌&&◌, ◌||◌, ◌==◌, nat_lt, int_le, List, [], ◌∷◌, Option, None, ◌⊎◌, ⊎_elim, inl, inr, refl, sym, ap, subst, ◌∙◌, arith}
 use Rattle.std.proofs.lemmas.Bool.{false≢true, or_cases, eqb-true}
 use Rattle.std.proofs.lemmas.Bool.Decides.{nat_tests}
 use Rattle.std.specs.List.{fold, flat_map, list_any, AllByRecursion}
@@ -51,9 +51,13 @@ transposed R xs (y ∷ ys) h = (
 )
 
 -- ---- tests
-no_and : (a b : Bool) → b ≡ false → (a && b) ≡ false
+pub no_and : (a b : Bool) → b ≡ false → (a && b) ≡ false
 no_and true b h = h
 no_and false b h = refl
+
+pub and_true : (a b : Bool) → b ≡ true → (a && b) ≡ a
+and_true true b h = h
+and_true false b h = refl
 
 no_two : (a b : Bool) → a ≡ false → b ≡ false → (a || b) ≡ false
 no_two true b h i = absurd (false≢true (sym h))

@@ -1,8 +1,8 @@
 -- What is found along the faces near a box that has the touched ones is the first of all pairs.
 use Rattle.std.proofs.Common.{◌≡◌, ℕ, ◌<◌, Bool, true, false, cond, not, ◌||◌, List, [], ◌∷◌, Option, Some, None, ◌⊎◌, ⊎_elim, inl, inr, refl, sym, ap, subst, ◌∙◌, arith}
-use Rattle.std.proofs.lemmas.Bool.{false≢true, or_cases}
+use Rattle.std.proofs.lemmas.Bool.{false≢true}
 use Rattle.std.proofs.lemmas.List.Elements.{recursion_from_All, All-from_recursion, All-weaker, All-contains_itself}
-use Rattle.std.specs.List.{All, Contains, filter, find, flat_map, list_any, AllByRecursion}
+use Rattle.std.specs.List.{All, Contains, filter, find, flat_map, AllByRecursion}
 use Rattle.std.specs.Option.{option_map}
 use Rattle.std.specs.FinMap as finite
 use Rattle.grid_base.specs.declared.Extent.{Extent}

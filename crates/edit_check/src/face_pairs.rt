@@ -1,5 +1,5 @@
 //! Whether sides of touched faces, and of the faces near them, fail to do what is required of them.
-ghost use Rattle.std.specs.Prelude.{◌≡◌, ◌≤◌, nat_lt};
+ghost use Rattle.std.specs.Prelude.{◌≡◌, ◌≤◌, nat_lt, true, IsTrue};
 ghost use Rattle.std.specs.List.{list_any};
 ghost use Rattle.pair_paths.specs.Pairing.{have_a_vertex_in_common};
 ghost use Rattle.edit_check.specs.FacePairs.{upward, runs_down_beside, is_asked_elsewhere};
@@ -43,6 +43,17 @@ fn is_asked_elsewhere(near: &Neighbourhood, is_own: bool, side: &MovingEdge) -> 
     is_side_of_some(side.a, side.b, near.touched) || runs_down_beside(side, near.faces)
 }
 
+/// Among so many faces it takes less time to look whether a side is asked for elsewhere than to test a pair. Only speed depends on it.
+const FEW: usize = 64;
+
+/// Whether it is looked at first whether a side is asked for elsewhere, and it is.
+fn is_left_out(near: &Neighbourhood, is_own: bool, side: &MovingEdge) -> bool
+    ensures { let n = near.now in
+        IsTrue result → is_asked_elsewhere n.faces.now n.touched.now is_own side.now ≡ true }
+{
+    near.faces.len() <= FEW && is_asked_elsewhere(near, is_own, side)
+}
+
 /// Whether a side fails with a face to do what is required of them, and is not asked for elsewhere. It does not fail where
 /// they are known to share a vertex, and where their boxes have no common point.
 fn side_fails(
@@ -63,16 +74,14 @@ fn side_fails(
     if !f.bounds.overlaps(&e.bounds) {
         return false;
     }
-    if is_asked_elsewhere(near, is_own, side) {
+    if is_left_out(near, is_own, side) {
         return false;
     }
-    fails(
-        near.terms.touch,
-        near.terms.together,
-        near.terms.depth,
-        &e,
-        f,
-    )
+    let t = near.terms;
+    if !fails(t.touch, t.together, t.depth, &e, f) {
+        return false;
+    }
+    !is_asked_elsewhere(near, is_own, side)
 }
 
 /// Whether one of the sides of a face fails with another face, and is not asked for elsewhere.
