@@ -1,10 +1,12 @@
 //! Worked examples of collapses.
 
-use crate::meshes::{TETRAHEDRON, has_faces, mesh_at, reason_of};
+use crate::meshes::{TETRAHEDRON, assert_same, counts, has_faces, mesh_at, reason_of};
 use edit_base::{Change, Edit, Why};
 use edit_collapse::collapse;
-use grid_base::Point;
+use grid_base::{NoMemory, Point};
 use mesh_base::{FaceId, PairName, Surface, VertexId};
+use std::alloc::Global;
+use std::process::Abort;
 use std::test::Fail;
 
 const DEPTH: u8 = 6;
@@ -108,7 +110,7 @@ pub(crate) const NESTED_FACES: [[u32; 3]; 8] = [
     [5, 7, 6],
 ];
 
-// What a collapse answers, as numbers: the two ids and the point.
+// What a collapse did, as numbers: the two ids and the point.
 fn done(edit: &Edit) -> Option<([u32; 2], [i32; 3])> {
     match edit {
         Edit::Done(Change::Collapse { a, b, at }) => Some(([a.0, b.0], [at.x, at.y, at.z])),
@@ -116,66 +118,88 @@ fn done(edit: &Edit) -> Option<([u32; 2], [i32; 3])> {
     }
 }
 
-// The live vertices, the live faces, and the ids that come next.
-fn counts<S: Surface>(mesh: &S) -> [u32; 4] {
-    [
-        mesh.vertices(),
-        mesh.faces(),
-        mesh.next_vertex(),
-        mesh.next_face(),
-    ]
+// What a collapse did and what is left, as `counts` tells it.
+fn collapsed(
+    alloc: Global,
+    points: &[[i32; 3]],
+    faces: &[[u32; 3]],
+    ends: [u32; 2],
+    rt: &impl Abort,
+) -> Result<(Option<([u32; 2], [i32; 3])>, [u32; 4]), NoMemory> {
+    let mut mesh = mesh_at(alloc, points, faces, rt)?;
+    let edit = collapse(
+        alloc,
+        &mut mesh,
+        VertexId(ends[0]),
+        VertexId(ends[1]),
+        DEPTH,
+    )?;
+    Ok((done(&edit), counts(&mesh)))
+}
+
+// Why a collapse was refused and what is left.
+fn refused(
+    alloc: Global,
+    points: &[[i32; 3]],
+    faces: &[[u32; 3]],
+    ends: [u32; 2],
+    rt: &impl Abort,
+) -> Result<(Option<Why>, [u32; 4]), NoMemory> {
+    let mut mesh = mesh_at(alloc, points, faces, rt)?;
+    let edit = collapse(
+        alloc,
+        &mut mesh,
+        VertexId(ends[0]),
+        VertexId(ends[1]),
+        DEPTH,
+    )?;
+    Ok((reason_of(&edit), counts(&mesh)))
+}
+
+// Two pairs of opposite faces go, and with them 7 and 8. The edge 1 4 and the face 2 3 5 touch at the end only.
+fn assert_octahedron(alloc: Global, rt: &impl Abort) -> Result<(), NoMemory> {
+    let mut mesh = mesh_at(alloc, &OCTAHEDRON, &OCTAHEDRON_FACES, rt)?;
+    let edit = done(&collapse(alloc, &mut mesh, VertexId(1), VertexId(2), DEPTH)?);
+    assert_same(rt, &edit, &Some(([1, 2], [4, 4, 0])));
+    assert_same(rt, &counts(&mesh), &[5, 6, 9, 17]);
+    assert!(rt; has_faces(&mesh, &OCTAHEDRON_LEFT));
+    assert_same(rt, &mesh.point(VertexId(1)), &Point::new(4, 4, 0));
+    Ok(())
 }
 
 #[test]
 fn edges_are_collapsed(rt: HostRuntime) -> Result<(), Fail> {
     // A tetrahedron goes whole, also with the same turned over. Each face at 2 that does not hold 1 takes an id.
-    for (count, next_face) in [(4, 6), (8, 11)] {
-        let faces = &BOTH_WAYS[..count];
-        let mut mesh = mesh_at(rt.alloc(), &TETRAHEDRON, faces, &rt)?;
-        let edit = collapse(rt.alloc(), &mut mesh, VertexId(2), VertexId(1), DEPTH)?;
-        assert_eq!(rt; done(&edit), Some(([1, 2], [2, 0, 0])));
-        assert_eq!(rt; counts(&mesh), [0, 0, 5, next_face]);
-    }
-
-    // Two pairs of opposite faces go, and with them 7 and 8. The edge 1 4 and the face 2 3 5 touch at the end only.
-    let mut mesh = mesh_at(rt.alloc(), &OCTAHEDRON, &OCTAHEDRON_FACES, &rt)?;
-    let edit = collapse(rt.alloc(), &mut mesh, VertexId(1), VertexId(2), DEPTH)?;
-    assert_eq!(rt; done(&edit), Some(([1, 2], [4, 4, 0])));
-    assert_eq!(rt; counts(&mesh), [5, 6, 9, 17]);
-    assert!(rt; has_faces(&mesh, &OCTAHEDRON_LEFT));
-    assert_eq!(rt; mesh.point(VertexId(1)), Point::new(4, 4, 0));
+    let edit = Some(([1, 2], [2, 0, 0]));
+    let found = collapsed(rt.alloc(), &TETRAHEDRON, &BOTH_WAYS[..4], [2, 1], &rt)?;
+    assert_same(&rt, &found, &(edit, [0, 0, 5, 6]));
+    let found = collapsed(rt.alloc(), &TETRAHEDRON, &BOTH_WAYS, [2, 1], &rt)?;
+    assert_same(&rt, &found, &(edit, [0, 0, 5, 11]));
+    assert_octahedron(rt.alloc(), &rt)?;
     Ok(())
 }
 
+// The face 1 4 3 would sweep over the edge 5 6 of the inner one.
+const SWEPT_OVER: PairName = PairName {
+    a: VertexId(5),
+    b: VertexId(6),
+    face: FaceId(4),
+};
+
+// no edge, and one id twice; then two faces would be 1 4 3
+const REFUSED: [([u32; 2], Why); 3] = [
+    ([1, 6], Why::NoEdge),
+    ([1, 1], Why::NoEdge),
+    ([2, 1], Why::Doubled),
+];
+
 #[test]
 fn collapses_are_refused(rt: HostRuntime) -> Result<(), Fail> {
-    // no edge, and one id twice; then two faces would be 1 4 3
-    for (ends, why) in [
-        ([1, 6], Why::NoEdge),
-        ([1, 1], Why::NoEdge),
-        ([2, 1], Why::Doubled),
-    ] {
-        let mut mesh = mesh_at(rt.alloc(), &THREE, &THREE_FACES, &rt)?;
-        let edit = collapse(
-            rt.alloc(),
-            &mut mesh,
-            VertexId(ends[0]),
-            VertexId(ends[1]),
-            DEPTH,
-        )?;
-        assert_eq!(rt; reason_of(&edit), Some(why));
-        assert_eq!(rt; counts(&mesh), [8, 12, 9, 13]);
+    for (ends, why) in &REFUSED {
+        let found = refused(rt.alloc(), &THREE, &THREE_FACES, *ends, &rt)?;
+        assert_same(&rt, &found, &(Some(*why), [8, 12, 9, 13]));
     }
-
-    // The face 1 4 3 would sweep over the edge 5 6 of the inner one.
-    let mut mesh = mesh_at(rt.alloc(), &NESTED, &NESTED_FACES, &rt)?;
-    let edit = collapse(rt.alloc(), &mut mesh, VertexId(1), VertexId(2), DEPTH)?;
-    let hit = PairName {
-        a: VertexId(5),
-        b: VertexId(6),
-        face: FaceId(4),
-    };
-    assert_eq!(rt; reason_of(&edit), Some(Why::Hit(hit)));
-    assert_eq!(rt; counts(&mesh), [8, 8, 9, 9]);
+    let found = refused(rt.alloc(), &NESTED, &NESTED_FACES, [1, 2], &rt)?;
+    assert_same(&rt, &found, &(Some(Why::Hit(SWEPT_OVER)), [8, 8, 9, 9]));
     Ok(())
 }

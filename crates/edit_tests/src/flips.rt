@@ -1,10 +1,13 @@
 //! Worked examples of flips.
 
-use crate::meshes::{FLAT, FLAT_FACES, JOINED, JOINED_FACES, has_faces, mesh_at, reason_of};
+use crate::meshes::{
+    FLAT, FLAT_FACES, JOINED, JOINED_FACES, TETRAHEDRON_FACES, assert_same, counts, has_faces,
+    mesh_at, reason_of,
+};
 use edit_base::{Change, Edit, Why};
 use edit_flip::flip;
 use grid_base::NoMemory;
-use mesh_base::{FaceId, PairName, Surface, VertexId};
+use mesh_base::{FaceId, PairName, VertexId};
 use std::alloc::Global;
 use std::process::Abort;
 use std::test::Fail;
@@ -40,17 +43,21 @@ const BACK: [(u32, [u32; 3]); 6] = [
 #[test]
 fn an_edge_is_flipped_there_and_back(rt: HostRuntime) -> Result<(), Fail> {
     let mut mesh = mesh_at(rt.alloc(), &FLAT, &FLAT_FACES, &rt)?;
-    let there = flip(rt.alloc(), &mut mesh, VertexId(2), VertexId(1), DEPTH)?;
-    assert!(rt; is_flipped(&there, 1, 2));
-    assert!(rt; has_faces(&mesh, &THERE));
-    assert_eq!(rt; mesh.faces() as usize, THERE.len());
-    assert_eq!(rt; (mesh.next_vertex(), mesh.next_face()), (6, 9));
+    let there = is_flipped(
+        &flip(rt.alloc(), &mut mesh, VertexId(2), VertexId(1), DEPTH)?,
+        1,
+        2,
+    );
+    assert!(rt; there && has_faces(&mesh, &THERE));
+    assert_same(&rt, &counts(&mesh), &[5, 6, 6, 9]);
 
-    let back = flip(rt.alloc(), &mut mesh, VertexId(4), VertexId(5), DEPTH)?;
-    assert!(rt; is_flipped(&back, 4, 5));
-    assert!(rt; has_faces(&mesh, &BACK));
-    assert_eq!(rt; mesh.faces() as usize, BACK.len());
-    assert_eq!(rt; (mesh.next_vertex(), mesh.next_face()), (6, 11));
+    let back = is_flipped(
+        &flip(rt.alloc(), &mut mesh, VertexId(4), VertexId(5), DEPTH)?,
+        4,
+        5,
+    );
+    assert!(rt; back && has_faces(&mesh, &BACK));
+    assert_same(&rt, &counts(&mesh), &[5, 6, 6, 11]);
     Ok(())
 }
 
@@ -80,23 +87,20 @@ const WITH_A_NEEDLE: [[u32; 3]; 10] = [
     [6, 9, 8],
 ];
 
+// The new vertex is 10. The edge 1 10 sweeps right over the needle, whose faces begin with 7.
+const OVER_THE_NEEDLE: PairName = PairName {
+    a: VertexId(1),
+    b: VertexId(10),
+    face: FaceId(7),
+};
+
 #[test]
 fn a_body_in_the_way_refuses_a_flip(rt: HostRuntime) -> Result<(), Fail> {
     let mut mesh = mesh_at(rt.alloc(), &OVER_A_NEEDLE, &WITH_A_NEEDLE, &rt)?;
-    let edit = flip(rt.alloc(), &mut mesh, VertexId(1), VertexId(2), DEPTH)?;
-    // The new vertex is 10. The edge 1 10 sweeps right over the needle, whose faces begin with 7.
-    let hit = PairName {
-        a: VertexId(1),
-        b: VertexId(10),
-        face: FaceId(7),
-    };
-    assert_eq!(rt; reason_of(&edit), Some(Why::Hit(hit)));
-    assert_eq!(rt;
-        mesh.corners(FaceId(1)),
-        Some([VertexId(1), VertexId(2), VertexId(4)])
-    );
-    assert_eq!(rt; (mesh.vertices(), mesh.faces()), (9, 10));
-    assert_eq!(rt; (mesh.next_vertex(), mesh.next_face()), (10, 11));
+    let why = reason_of(&flip(rt.alloc(), &mut mesh, VertexId(1), VertexId(2), DEPTH)?);
+    assert_same(&rt, &why, &Some(Why::Hit(OVER_THE_NEEDLE)));
+    assert!(rt; has_faces(&mesh, &[(1, [1, 2, 4])]));
+    assert_same(&rt, &counts(&mesh), &[9, 10, 10, 11]);
     Ok(())
 }
 
@@ -119,32 +123,29 @@ fn refusal(
     Ok(reason_of(&edit))
 }
 
+// A tetrahedron, whose first three points are a triangle with both of its sides.
+const LONG: [[i32; 3]; 4] = [[0, 0, 0], [40, 0, 0], [0, 4, 0], [0, 0, 4]];
+
+const BOTH_SIDES: [[u32; 3]; 2] = [[1, 2, 3], [1, 3, 2]];
+
 #[test]
 fn a_flip_is_refused_by_what_is_there(rt: HostRuntime) -> Result<(), Fail> {
     // the other edge is there: a tetrahedron has each
-    let points = [[0, 0, 0], [40, 0, 0], [0, 4, 0], [0, 0, 4]];
-    let faces = [[1, 3, 2], [1, 2, 4], [2, 3, 4], [1, 4, 3]];
-    let why = refusal(rt.alloc(), &points, &faces, [1, 2], &rt)?;
-    assert_eq!(rt; why, Some(Why::Edge));
+    let why = refusal(rt.alloc(), &LONG, &TETRAHEDRON_FACES, [1, 2], &rt)?;
+    assert_same(&rt, &why, &Some(Why::Edge));
 
-    // the opposite vertices are one: a triangle with both of its sides
-    let why = refusal(
-        rt.alloc(),
-        &points[..3],
-        &[[1, 2, 3], [1, 3, 2]],
-        [2, 1],
-        &rt,
-    )?;
-    assert_eq!(rt; why, Some(Why::Edge));
+    // the opposite vertices are one
+    let why = refusal(rt.alloc(), &LONG[..3], &BOTH_SIDES, [2, 1], &rt)?;
+    assert_same(&rt, &why, &Some(Why::Edge));
 
     // two faces run each way along the edge that two tetrahedra have in common
     let why = refusal(rt.alloc(), &JOINED, &JOINED_FACES, [2, 1], &rt)?;
-    assert_eq!(rt; why, Some(Why::Crowded));
+    assert_same(&rt, &why, &Some(Why::Crowded));
 
     // no edge, one id twice, and an id that no vertex has
-    for ends in [[4, 5], [3, 3], [1, 9]] {
-        let why = refusal(rt.alloc(), &FLAT, &FLAT_FACES, ends, &rt)?;
-        assert_eq!(rt; why, Some(Why::NoEdge));
+    for ends in &[[4, 5], [3, 3], [1, 9]] {
+        let why = refusal(rt.alloc(), &FLAT, &FLAT_FACES, *ends, &rt)?;
+        assert_same(&rt, &why, &Some(Why::NoEdge));
     }
     Ok(())
 }

@@ -3,7 +3,7 @@ ghost use Rattle.std.specs.Prelude.{IfOk};
 ghost use Rattle.mesh_base.specs.Placements.{IsClearMesh};
 ghost use Rattle.mesh_base.specs.Sides.{IsClosed};
 
-use crate::meshes::{FLAT, FLAT_FACES, has_faces, lists_at, point, reason_of};
+use crate::meshes::{FLAT, FLAT_FACES, assert_same, counts, has_faces, lists_at, point, reason_of};
 use edit_base::Why;
 use edit_flip::flip;
 use edit_split::split;
@@ -63,34 +63,48 @@ const LEFT: [(u32, [u32; 3]); 6] = [
     (6, [1, 3, 5]),
 ];
 
-// What is left: the vertices, the faces and the next ids.
-fn counts(mesh: &PlainMesh) -> [u32; 4] {
-    [
-        mesh.vertices(),
-        mesh.faces(),
-        mesh.next_vertex(),
-        mesh.next_face(),
-    ]
+// What an edit told and left: why it is refused, the counts before it and after it, whether the faces are as they were, and whether
+// there is no vertex of the id that came next.
+type Told = (Option<Why>, [[u32; 4]; 2], bool, bool);
+
+fn flipped(
+    alloc: Global,
+    vertices: u32,
+    next: (u32, u32),
+    rt: &impl Abort,
+) -> Result<Told, NoMemory> {
+    let mut mesh = flat_mesh(alloc, vertices, next, rt)?;
+    let before = counts(&mesh);
+    let why = reason_of(&flip(alloc, &mut mesh, VertexId(1), VertexId(2), 6)?);
+    let none = mesh.point(VertexId(next.0)).is_none();
+    Ok((why, [before, counts(&mesh)], has_faces(&mesh, &LEFT), none))
+}
+
+fn cut(alloc: Global, vertices: u32, next: (u32, u32), rt: &impl Abort) -> Result<Told, NoMemory> {
+    let mut mesh = flat_mesh(alloc, vertices, next, rt)?;
+    let before = counts(&mesh);
+    let why = reason_of(&split(alloc, &mut mesh, VertexId(1), VertexId(2), 6)?);
+    let none = mesh.point(VertexId(next.0)).is_none();
+    Ok((why, [before, counts(&mesh)], has_faces(&mesh, &LEFT), none))
+}
+
+// A full mesh is left as it was, and another is not.
+fn assert_told(rt: &impl Abort, told: &Told, before: [u32; 4], is_full: bool) {
+    let (why, [first, last], same_faces, _) = told;
+    assert_same(rt, why, &if is_full { Some(Why::Full) } else { None });
+    assert_same(rt, first, &before);
+    assert_same(rt, &[*same_faces, first == last], &[is_full, is_full]);
 }
 
 #[test]
 fn a_full_mesh_is_not_split_or_flipped(rt: HostRuntime) -> Result<(), Fail> {
-    for (vertices, next, is_full) in CASES {
-        let why = if is_full { Some(Why::Full) } else { None };
-        let mut mesh = flat_mesh(rt.alloc(), vertices, next, &rt)?;
-        let before = counts(&mesh);
-        assert_eq!(rt; before, [vertices, 6, next.0, next.1]);
-        let edit = flip(rt.alloc(), &mut mesh, VertexId(1), VertexId(2), 6)?;
-        assert_eq!(rt; reason_of(&edit), why);
-        assert_eq!(rt; has_faces(&mesh, &LEFT), is_full);
-        assert_eq!(rt; counts(&mesh) == before, is_full);
-
-        let mut mesh = flat_mesh(rt.alloc(), vertices, next, &rt)?;
-        let edit = split(rt.alloc(), &mut mesh, VertexId(1), VertexId(2), 6)?;
-        assert_eq!(rt; reason_of(&edit), why);
-        assert_eq!(rt; has_faces(&mesh, &LEFT), is_full);
-        assert_eq!(rt; counts(&mesh) == before, is_full);
-        assert_eq!(rt; mesh.point(VertexId(next.0)).is_none(), is_full);
+    for (vertices, next, is_full) in &CASES {
+        let before = [*vertices, 6, next.0, next.1];
+        let told = flipped(rt.alloc(), *vertices, *next, &rt)?;
+        assert_told(&rt, &told, before, *is_full);
+        let told = cut(rt.alloc(), *vertices, *next, &rt)?;
+        assert_told(&rt, &told, before, *is_full);
+        assert!(rt; told.3 == *is_full);
     }
     Ok(())
 }

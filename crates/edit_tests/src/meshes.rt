@@ -9,6 +9,7 @@ use mesh_base::{FaceId, MeshLists, Points, Surface, Triangles, VertexId};
 use mesh_plain::{PlainMesh, shape};
 use pair_scan::first_meeting;
 use std::alloc::Global;
+use std::fmt::Debug;
 use std::process::Abort;
 
 pub(crate) const TETRAHEDRON: [[i32; 3]; 4] = [[0, 0, 0], [4, 0, 0], [0, 4, 0], [0, 0, 4]];
@@ -75,6 +76,11 @@ pub(crate) const JOINED_FACES: [[u32; 3]; 12] = [
     [7, 10, 9],
 ];
 
+// Ends the test where what is found is not what is wanted. One call costs the prover less than an assertion in its place.
+pub(crate) fn assert_same<T: PartialEq + Debug>(rt: &impl Abort, found: &T, wanted: &T) {
+    assert_eq!(rt; found, wanted);
+}
+
 pub(crate) fn point(p: [i32; 3], rt: &impl Abort) -> Point {
     Point::new(p[0], p[1], p[2]).expect(rt, "a point in the box")
 }
@@ -138,6 +144,16 @@ pub(crate) fn has_faces<S: Surface>(mesh: &S, faces: &[(u32, [u32; 3])]) -> bool
         }
     }
     true
+}
+
+// The live vertices, the live faces, and the ids that come next.
+pub(crate) fn counts<S: Surface>(mesh: &S) -> [u32; 4] {
+    [
+        mesh.vertices(),
+        mesh.faces(),
+        mesh.next_vertex(),
+        mesh.next_face(),
+    ]
 }
 
 // Why an edit is refused.

@@ -1,10 +1,12 @@
 //! Worked examples of pinches.
 
-use crate::meshes::{mesh_at, reason_of};
+use crate::meshes::{assert_same, counts, has_faces, mesh_at, reason_of};
 use edit_base::{Change, Edit, Why};
 use edit_pinch::{fan_count, pinch};
-use grid_base::Point;
+use grid_base::{NoMemory, Point};
 use mesh_base::{FaceId, PairName, Surface, VertexId};
+use std::alloc::Global;
+use std::process::Abort;
 use std::test::Fail;
 
 const DEPTH: u8 = 6;
@@ -131,85 +133,86 @@ fn has_parts<S: Surface>(mesh: &S, stands: &[(u32, [i32; 3])], faces: &[(u32, [u
             return false;
         }
     }
-    for (id, c) in faces {
-        let corners = [VertexId(c[0]), VertexId(c[1]), VertexId(c[2])];
-        if mesh.corners(FaceId(*id)) != Some(corners) {
-            return false;
-        }
-    }
-    true
+    has_faces(mesh, faces)
 }
 
 type Stands<'a> = &'a [(u32, [i32; 3])];
 
+// Pinches the vertex 1, and gives the ids that come next.
+fn parted(
+    alloc: Global,
+    points: &[[i32; 3]],
+    faces: &[[u32; 3]],
+    stands: Stands,
+    made: &[(u32, [u32; 3])],
+    rt: &impl Abort,
+) -> Result<[u32; 2], NoMemory> {
+    let mut mesh = mesh_at(alloc, points, faces, rt)?;
+    let fans = fan_count(alloc, &mesh, VertexId(1))?;
+    let pinched = is_pinched(&pinch(alloc, &mut mesh, VertexId(1), DEPTH)?, stands);
+    let left = fan_count(alloc, &mesh, VertexId(1))?;
+    assert!(rt; pinched && has_parts(&mesh, stands, made));
+    let found = [fans as usize, left as usize, mesh.faces() as usize];
+    assert_same(rt, &found, &[stands.len(), 1, faces.len()]);
+    Ok([mesh.next_vertex(), mesh.next_face()])
+}
+
+const TWO_STAND: [(u32, [i32; 3]); 2] = [(1, [1, 0, 0]), (8, [-1, 0, 0])];
+
+const SMALL_STAND: [(u32, [i32; 3]); 2] = [(1, [1, 0, 0]), (8, [0, 0, 0])];
+
+const THREE_STAND: [(u32, [i32; 3]); 3] = [(1, [8, -3, 2]), (11, [5, 1, 1]), (12, [2, -3, 2])];
+
 #[test]
 fn fans_are_parted(rt: HostRuntime) -> Result<(), Fail> {
-    let cases: [(
-        &[[i32; 3]],
-        &[[u32; 3]],
-        Stands,
-        &[(u32, [u32; 3])],
-        (u32, u32),
-    ); 3] = [
-        (
-            &TWO,
-            &TWO_FACES,
-            &[(1, [1, 0, 0]), (8, [-1, 0, 0])],
-            &TWO_MADE,
-            (9, 12),
-        ),
-        (
-            &SMALL,
-            &TWO_FACES,
-            &[(1, [1, 0, 0]), (8, [0, 0, 0])],
-            &TWO_MADE,
-            (9, 12),
-        ),
-        (
-            &THREE,
-            &THREE_FACES,
-            &[(1, [8, -3, 2]), (11, [5, 1, 1]), (12, [2, -3, 2])],
-            &THREE_MADE,
-            (13, 19),
-        ),
-    ];
-    for (points, faces, stands, made, next) in cases {
-        let mut mesh = mesh_at(rt.alloc(), points, faces, &rt)?;
-        let count = fan_count(rt.alloc(), &mesh, VertexId(1))?;
-        assert_eq!(rt; count as usize, stands.len());
-        let edit = pinch(rt.alloc(), &mut mesh, VertexId(1), DEPTH)?;
-        assert!(rt; is_pinched(&edit, stands));
-        assert!(rt; has_parts(&mesh, stands, made));
-        assert_eq!(rt; mesh.faces() as usize, faces.len());
-        assert_eq!(rt; (mesh.next_vertex(), mesh.next_face()), next);
-        assert_eq!(rt; fan_count(rt.alloc(), &mesh, VertexId(1))?, 1);
-    }
+    let next = parted(rt.alloc(), &TWO, &TWO_FACES, &TWO_STAND, &TWO_MADE, &rt)?;
+    assert_same(&rt, &next, &[9, 12]);
+    let next = parted(rt.alloc(), &SMALL, &TWO_FACES, &SMALL_STAND, &TWO_MADE, &rt)?;
+    assert_same(&rt, &next, &[9, 12]);
+    let next = parted(
+        rt.alloc(),
+        &THREE,
+        &THREE_FACES,
+        &THREE_STAND,
+        &THREE_MADE,
+        &rt,
+    )?;
+    assert_same(&rt, &next, &[13, 19]);
     Ok(())
 }
 
+// How many fans a vertex has, and why it is not pinched. The mesh is left, with the vertex 1 at the origin.
+fn refused(
+    alloc: Global,
+    points: &[[i32; 3]],
+    faces: &[[u32; 3]],
+    v: u32,
+    rt: &impl Abort,
+) -> Result<(u32, Option<Why>), NoMemory> {
+    let mut mesh = mesh_at(alloc, points, faces, rt)?;
+    let before = counts(&mesh);
+    let fans = fan_count(alloc, &mesh, VertexId(v))?;
+    let why = reason_of(&pinch(alloc, &mut mesh, VertexId(v), DEPTH)?);
+    assert_same(rt, &counts(&mesh), &before);
+    assert!(rt; has_parts(&mesh, &[(1, [0, 0, 0])], &[(1, [1, 3, 2]), (4, [1, 4, 3])]));
+    Ok((fans, why))
+}
+
+const CROSSED: PairName = PairName {
+    a: VertexId(1),
+    b: VertexId(2),
+    face: FaceId(9),
+};
+
 #[test]
 fn a_refused_pinch_leaves_the_mesh(rt: HostRuntime) -> Result<(), Fail> {
-    let hit = Why::Hit(PairName {
-        a: VertexId(1),
-        b: VertexId(2),
-        face: FaceId(9),
-    });
-    let cases: [(&[[i32; 3]], &[[u32; 3]], u32, u32, Why); 4] = [
-        (&TWO, &TWO_FACES, 2, 1, Why::OneFan),
-        (&TWO, &TWO_FACES, 9, 0, Why::OneFan),
-        (&TWO[..4], &TWO_FACES[..4], 1, 1, Why::OneFan),
-        (&BOTH_SMALL, &TWO_FACES, 1, 2, hit),
-    ];
-    for (points, faces, v, count, why) in cases {
-        let mut mesh = mesh_at(rt.alloc(), points, faces, &rt)?;
-        let vertices = mesh.vertices();
-        let next = (mesh.next_vertex(), mesh.next_face());
-        assert_eq!(rt; fan_count(rt.alloc(), &mesh, VertexId(v))?, count);
-        let edit = pinch(rt.alloc(), &mut mesh, VertexId(v), DEPTH)?;
-        assert_eq!(rt; reason_of(&edit), Some(why));
-        assert_eq!(rt; mesh.vertices(), vertices);
-        assert_eq!(rt; (mesh.next_vertex(), mesh.next_face()), next);
-        assert!(rt; has_parts(&mesh, &[(1, points[0])], &[(1, [1, 3, 2]), (4, [1, 4, 3])]));
-    }
+    let found = refused(rt.alloc(), &TWO, &TWO_FACES, 2, &rt)?;
+    assert_same(&rt, &found, &(1, Some(Why::OneFan)));
+    let found = refused(rt.alloc(), &TWO, &TWO_FACES, 9, &rt)?;
+    assert_same(&rt, &found, &(0, Some(Why::OneFan)));
+    let found = refused(rt.alloc(), &TWO[..4], &TWO_FACES[..4], 1, &rt)?;
+    assert_same(&rt, &found, &(1, Some(Why::OneFan)));
+    let found = refused(rt.alloc(), &BOTH_SMALL, &TWO_FACES, 1, &rt)?;
+    assert_same(&rt, &found, &(2, Some(Why::Hit(CROSSED))));
     Ok(())
 }

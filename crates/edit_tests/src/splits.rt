@@ -1,12 +1,14 @@
 //! Worked examples of splits.
 use crate::meshes::{
-    JOINED, JOINED_FACES, TETRAHEDRON, TETRAHEDRON_FACES, TWO_TETRAHEDRA, has_faces, mesh_at,
-    point, reason_of,
+    JOINED, JOINED_FACES, TETRAHEDRON, TETRAHEDRON_FACES, TWO_TETRAHEDRA, assert_same, counts,
+    has_faces, mesh_at, reason_of,
 };
 use edit_base::{Change, Edit, Why};
 use edit_split::split;
-use grid_base::Point;
+use grid_base::{NoMemory, Point};
 use mesh_base::{FaceId, PairName, Surface, VertexId};
+use std::alloc::Global;
+use std::process::Abort;
 use std::test::Fail;
 
 const DEPTH: u8 = 6;
@@ -24,20 +26,10 @@ const NEAR: [[i32; 3]; 8] = [
     [6, 3, -9],
 ];
 
-#[derive(Clone, Copy, Debug, PartialEq, Eq)]
-struct Cut {
-    ends: (VertexId, VertexId),
-    w: VertexId,
-    at: Point,
-}
-
-fn cut_of(edit: &Edit) -> Option<Cut> {
+// What a split did, as numbers: the two ids with that of the new vertex, and its point.
+fn done(edit: &Edit) -> Option<([u32; 3], [i32; 3])> {
     match edit {
-        Edit::Done(Change::Split { a, b, w, at }) => Some(Cut {
-            ends: (*a, *b),
-            w: *w,
-            at: *at,
-        }),
+        Edit::Done(Change::Split { a, b, w, at }) => { Some(([a.0, b.0, w.0], [at.x, at.y, at.z])) }
         _ => None,
     }
 }
@@ -55,44 +47,53 @@ const SPLIT_FACES: [(u32, [u32; 3]); 6] = [
 #[test]
 fn an_edge_of_a_tetrahedron_is_split(rt: HostRuntime) -> Result<(), Fail> {
     let mut mesh = mesh_at(rt.alloc(), &TETRAHEDRON, &TETRAHEDRON_FACES, &rt)?;
-    let edit = split(rt.alloc(), &mut mesh, VertexId(2), VertexId(1), DEPTH)?;
-    let at = point([2, 0, 0], &rt);
-    let cut = Cut {
-        ends: (VertexId(1), VertexId(2)),
-        w: VertexId(5),
-        at,
-    };
-    assert_eq!(rt; cut_of(&edit), Some(cut));
-    assert_eq!(rt; mesh.point(VertexId(5)), Some(at));
-    assert_eq!(rt; (mesh.vertices(), mesh.faces()), (5, 6));
+    let cut = done(&split(rt.alloc(), &mut mesh, VertexId(2), VertexId(1), DEPTH)?);
+    assert_same(&rt, &cut, &Some(([1, 2, 5], [2, 0, 0])));
+    assert_same(&rt, &mesh.point(VertexId(5)), &Point::new(2, 0, 0));
+    assert_same(&rt, &counts(&mesh), &[5, 6, 6, 9]);
     assert!(rt; has_faces(&mesh, &SPLIT_FACES));
-    assert_eq!(rt; (mesh.next_vertex(), mesh.next_face()), (6, 9));
     Ok(())
 }
 
+// Why an edge is not split. The mesh is left.
+fn refused(
+    alloc: Global,
+    points: &[[i32; 3]],
+    faces: &[[u32; 3]],
+    ends: [u32; 2],
+    rt: &impl Abort,
+) -> Result<Option<Why>, NoMemory> {
+    let mut mesh = mesh_at(alloc, points, faces, rt)?;
+    let before = counts(&mesh);
+    let why = reason_of(&split(
+        alloc,
+        &mut mesh,
+        VertexId(ends[0]),
+        VertexId(ends[1]),
+        DEPTH,
+    )?);
+    assert_same(rt, &counts(&mesh), &before);
+    assert!(rt; mesh.corners(FaceId(1)).is_some() && mesh.corners(FaceId(2)).is_some());
+    Ok(why)
+}
+
+const TOUCHED: PairName = PairName {
+    a: VertexId(1),
+    b: VertexId(9),
+    face: FaceId(5),
+};
+
 #[test]
 fn a_refused_split_leaves_the_mesh(rt: HostRuntime) -> Result<(), Fail> {
-    let hit = Why::Hit(PairName {
-        a: VertexId(1),
-        b: VertexId(9),
-        face: FaceId(5),
-    });
-    let cases: [(&[[i32; 3]], &[[u32; 3]], u32, u32, Why); 5] = [
-        (&TETRAHEDRON, &TETRAHEDRON_FACES, 1, 1, Why::NoEdge),
-        (&TETRAHEDRON, &TETRAHEDRON_FACES, 1, 5, Why::NoEdge),
-        (&NEAR, &TWO_TETRAHEDRA, 1, 5, Why::NoEdge),
-        (&JOINED, &JOINED_FACES, 1, 2, Why::Crowded),
-        (&NEAR, &TWO_TETRAHEDRA, 1, 2, hit),
-    ];
-    for (points, faces, a, b, why) in cases {
-        let mut mesh = mesh_at(rt.alloc(), points, faces, &rt)?;
-        let vertices = mesh.vertices();
-        let next = (mesh.next_vertex(), mesh.next_face());
-        let edit = split(rt.alloc(), &mut mesh, VertexId(a), VertexId(b), DEPTH)?;
-        assert_eq!(rt; reason_of(&edit), Some(why));
-        assert_eq!(rt; mesh.vertices(), vertices);
-        assert_eq!(rt; (mesh.next_vertex(), mesh.next_face()), next);
-        assert!(rt; mesh.corners(FaceId(1)).is_some() && mesh.corners(FaceId(2)).is_some());
-    }
+    let why = refused(rt.alloc(), &TETRAHEDRON, &TETRAHEDRON_FACES, [1, 1], &rt)?;
+    assert_same(&rt, &why, &Some(Why::NoEdge));
+    let why = refused(rt.alloc(), &TETRAHEDRON, &TETRAHEDRON_FACES, [1, 5], &rt)?;
+    assert_same(&rt, &why, &Some(Why::NoEdge));
+    let why = refused(rt.alloc(), &NEAR, &TWO_TETRAHEDRA, [1, 5], &rt)?;
+    assert_same(&rt, &why, &Some(Why::NoEdge));
+    let why = refused(rt.alloc(), &JOINED, &JOINED_FACES, [1, 2], &rt)?;
+    assert_same(&rt, &why, &Some(Why::Crowded));
+    let why = refused(rt.alloc(), &NEAR, &TWO_TETRAHEDRA, [1, 2], &rt)?;
+    assert_same(&rt, &why, &Some(Why::Hit(TOUCHED)));
     Ok(())
 }

@@ -1,11 +1,15 @@
 //! Worked examples of zips.
 
 use crate::meshes::{
-    JOINED, JOINED_FACES, TETRAHEDRON, TETRAHEDRON_FACES, has_faces, mesh_at, reason_of,
+    JOINED, JOINED_FACES, TETRAHEDRON, TETRAHEDRON_FACES, assert_same, counts, has_faces, mesh_at,
+    reason_of,
 };
 use edit_base::{Change, Edit, Why};
 use edit_zip::{zip, zip_ready};
-use mesh_base::{FaceId, PairName, Surface, VertexId};
+use grid_base::NoMemory;
+use mesh_base::{FaceId, PairName, VertexId};
+use std::alloc::Global;
+use std::process::Abort;
 use std::test::Fail;
 
 // Two boxes that face each other, and a bar between them.
@@ -75,79 +79,95 @@ const TUNNEL: [(u32, [u32; 3]); 8] = [
     (32, [2, 10, 11]),
 ];
 
-fn is_zipped(edit: &Edit, ids: [u32; 4], k: u8) -> bool {
+// What a zip did, as numbers: the four ids and the turn.
+fn done(edit: &Edit) -> Option<([u32; 4], u8)> {
     match edit {
-        Edit::Done(Change::Zip { a, b, e, f, turn }) => {
-            *a == VertexId(ids[0])
-                && *b == VertexId(ids[1])
-                && *e == VertexId(ids[2])
-                && *f == VertexId(ids[3])
-                && *turn == k
-        }
-        _ => false,
+        Edit::Done(Change::Zip { a, b, e, f, turn }) => Some(([a.0, b.0, e.0, f.0], *turn)),
+        _ => None,
     }
 }
 
 #[test]
 fn two_boxes_are_joined_by_a_tunnel(rt: HostRuntime) -> Result<(), Fail> {
     let mut mesh = mesh_at(rt.alloc(), &POINTS[..16], &FACES[..24], &rt)?;
-    let edit = zip(
+    let zipped = done(&zip(
         rt.alloc(),
         &mut mesh,
         VertexId(2),
         VertexId(1),
         VertexId(9),
         VertexId(10),
-    )?;
-    assert!(rt; is_zipped(&edit, [1, 2, 9, 10], 0));
-    assert_eq!(rt; (mesh.vertices(), mesh.faces()), (16, 28));
-    assert_eq!(rt; (mesh.next_vertex(), mesh.next_face()), (17, 33));
+    )?);
+    assert_same(&rt, &zipped, &Some(([1, 2, 9, 10], 0)));
+    assert_same(&rt, &counts(&mesh), &[16, 28, 17, 33]);
     assert!(rt; has_faces(&mesh, &TUNNEL));
     Ok(())
 }
 
+// Whether two edges are ready, and why they are not zipped. The mesh is left.
+fn refused(
+    alloc: Global,
+    points: &[[i32; 3]],
+    faces: &[[u32; 3]],
+    ids: [u32; 4],
+    rt: &impl Abort,
+) -> Result<(bool, Option<Why>), NoMemory> {
+    let mut mesh = mesh_at(alloc, points, faces, rt)?;
+    let before = counts(&mesh);
+    let (a, b) = (VertexId(ids[0]), VertexId(ids[1]));
+    let (e, f) = (VertexId(ids[2]), VertexId(ids[3]));
+    let ready = zip_ready(&mesh, a, b, e, f);
+    let why = reason_of(&zip(alloc, &mut mesh, a, b, e, f)?);
+    assert_same(rt, &counts(&mesh), &before);
+    Ok((ready, why))
+}
+
+// Two edges, whether they are ready, and why they are not zipped.
+type Row = ([u32; 4], bool, Why);
+
+fn assert_refused(
+    alloc: Global,
+    points: &[[i32; 3]],
+    faces: &[[u32; 3]],
+    rows: &[Row],
+    rt: &impl Abort,
+) -> Result<(), NoMemory> {
+    for (ids, ready, why) in rows {
+        let found = refused(alloc, points, faces, *ids, rt)?;
+        assert_same(rt, &found, &(*ready, Some(*why)));
+    }
+    Ok(())
+}
+
+// The bar meets three of the tunnels, and in the last that is tried the edge 1 10 meets a face.
+const BAR: PairName = PairName {
+    a: VertexId(1),
+    b: VertexId(10),
+    face: FaceId(29),
+};
+
+const BARRED: [Row; 4] = [
+    ([1, 2, 9, 10], true, Why::Hit(BAR)),
+    ([1, 2, 3, 4], false, Why::NoEdge),
+    ([1, 2, 2, 3], false, Why::Shared),
+    ([1, 1, 9, 10], false, Why::NoEdge),
+];
+
+// Edges across a tetrahedron.
+const ACROSS: [Row; 1] = [([1, 2, 3, 4], false, Why::Shared)];
+
+// The edge 1 2 is crowded, be it named first or last, and whether vertices are shared or not.
+const CROWDED: [Row; 4] = [
+    ([1, 2, 7, 8], false, Why::Crowded),
+    ([8, 7, 2, 1], false, Why::Crowded),
+    ([1, 2, 3, 4], false, Why::Crowded),
+    ([1, 3, 2, 4], false, Why::Shared),
+];
+
 #[test]
 fn a_refused_zip_leaves_the_mesh(rt: HostRuntime) -> Result<(), Fail> {
-    // The bar meets three of the tunnels, and in the last that is tried the edge 1 10 meets a face.
-    let hit = Why::Hit(PairName {
-        a: VertexId(1),
-        b: VertexId(10),
-        face: FaceId(29),
-    });
-    // the mesh, the two edges, whether they are ready, and why they are not zipped
-    let cases: [(&[[i32; 3]], &[[u32; 3]], [u32; 4], bool, Why); 9] = [
-        (&POINTS, &FACES, [1, 2, 9, 10], true, hit),
-        (&POINTS, &FACES, [1, 2, 3, 4], false, Why::NoEdge),
-        (&POINTS, &FACES, [1, 2, 2, 3], false, Why::Shared),
-        (&POINTS, &FACES, [1, 1, 9, 10], false, Why::NoEdge),
-        // edges across a tetrahedron
-        (
-            &TETRAHEDRON,
-            &TETRAHEDRON_FACES,
-            [1, 2, 3, 4],
-            false,
-            Why::Shared,
-        ),
-        // the edge 1 2 is crowded, be it named first or last, and whether vertices are shared or not
-        (&JOINED, &JOINED_FACES, [1, 2, 7, 8], false, Why::Crowded),
-        (&JOINED, &JOINED_FACES, [8, 7, 2, 1], false, Why::Crowded),
-        (&JOINED, &JOINED_FACES, [1, 2, 3, 4], false, Why::Crowded),
-        (&JOINED, &JOINED_FACES, [1, 3, 2, 4], false, Why::Shared),
-    ];
-    for (points, faces, [a, b, e, f], ready, why) in cases {
-        let mut mesh = mesh_at(rt.alloc(), points, faces, &rt)?;
-        let [a, b, e, f] = [a, b, e, f].map(|v| VertexId(v));
-        assert_eq!(rt; zip_ready(&mesh, a, b, e, f), ready);
-        let edit = zip(rt.alloc(), &mut mesh, a, b, e, f)?;
-        assert_eq!(rt; reason_of(&edit), Some(why));
-        assert_eq!(rt;
-            (mesh.vertices() as usize, mesh.faces() as usize),
-            (points.len(), faces.len())
-        );
-        assert_eq!(rt;
-            (mesh.next_vertex() as usize, mesh.next_face() as usize),
-            (points.len().wrapping_add(1), faces.len().wrapping_add(1))
-        );
-    }
+    assert_refused(rt.alloc(), &POINTS, &FACES, &BARRED, &rt)?;
+    assert_refused(rt.alloc(), &TETRAHEDRON, &TETRAHEDRON_FACES, &ACROSS, &rt)?;
+    assert_refused(rt.alloc(), &JOINED, &JOINED_FACES, &CROWDED, &rt)?;
     Ok(())
 }
