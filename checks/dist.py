@@ -187,7 +187,7 @@ def completions(prefix, commands):
         told("bash completes each command", asked("") == [*commands, "--help", "--version"] and asked("tr") == ["track", "try"])
         told("bash completes options and values", asked("replay", "--o") == ["--only"] and asked("track", "--decimals", "") == list("0123456"))
     if has("zsh"):
-        stubs = '_describe() { print -l -- $commands }; _arguments() { print -l -- "$@" }; words=(topo $2 ""); CURRENT=$3; source $1'
+        stubs = '_describe() { print -l -- $listed }; _arguments() { print -l -- "$@" }; words=(topo $2 ""); CURRENT=$3; source $1'
         path = os.path.join(prefix, "share/zsh/site-functions/_topo")
         told("zsh completes each command", [line.split(":")[0] for line in ran("zsh", "-fc", stubs, "zsh", path, "", 2)[1].split("\n")[: len(commands)]] == commands)
         told("zsh completes options", "--only[" in ran("zsh", "-fc", stubs, "zsh", path, "replay", 3)[1])

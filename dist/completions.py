@@ -68,14 +68,14 @@ def zsh(program):
     commands = "\n".join("    " + quoted(f"{zsh_text(command.name)}:{command.about}") for command in program.commands)
     return f"""#compdef topo
 # completion of zsh for topo {program.version}
-local -a commands
-commands=(
+local -a listed
+listed=(
 {commands}
     '--help:how it is called'
     '--version:which version it is'
 )
 if (( CURRENT == 2 )); then
-    _describe command commands
+    _describe command listed
     return
 fi
 local command=$words[2]

@@ -13,9 +13,11 @@ import shutil
 import subprocess
 import sys
 import time
+import urllib.error
 import urllib.request
 
-from screenshot import DRAWN
+sys.dont_write_bytecode = True
+from screenshot import DRAWN  # noqa: E402
 
 # what is drawn, as a number that another picture hardly has; how many of its pixels have a colour, and how many are dark
 DRAWN_NOW = """
