@@ -1,6 +1,6 @@
-// improve.hpp: keeps the mesh of a tracker good while it is carried by a flow: splits, collapses and flips under guards, repair of folds, and a
-// smoothing that keeps the volume. C++17. It is no part of what is proved: what is good for the shape is decided here, and whether an edit is safe
-// is decided by the tracker, edit by edit, so the surface stays closed and free of self-intersections whatever is asked.
+// improve.hpp: keeps the mesh of a tracker good while a flow carries it: splits, collapses and flips under guards, repair of folds, and a
+// smoothing that keeps the volume. C++17. It is no part of what is proved: what is good for the shape is decided here, and whether an edit
+// is safe is decided by the tracker, so the surface stays closed and free of self-intersections whatever is asked.
 //
 //     topo_mesh::Improver improver(tracker, {0.01});     // a mean edge of one centimetre
 //     each step:
@@ -9,9 +9,10 @@
 //         tracker.toward(...) each; tracker.step();
 //         improver.improve();
 //
-// A round reads points and faces, lists the edits that pass the guards, best first, such that none touches what another's guards looked at, and asks
-// them in one call. Names that El Topo has too (min_edge_length, max_edge_length, max_volume_change, min_triangle_angle, max_triangle_angle) mean what
-// they mean there, with all lengths and volumes as fractions of average_edge_length and its cube.
+// A round reads points and faces, lists the edits that pass the guards, best first, such that none touches what another's guards looked
+// at, and asks them in one call. Names that El Topo has too (min_edge_length, max_edge_length, max_volume_change, min_triangle_angle,
+// max_triangle_angle, allow_topology_changes) mean what they mean there, with lengths and volumes as fractions of average_edge_length and
+// its cube.
 #ifndef TOPO_IMPROVE_HPP
 #define TOPO_IMPROVE_HPP
 
@@ -25,19 +26,20 @@
 namespace topo_mesh {
 // Cosines are between normals of two faces, or of one face before and after. Angles are in degrees.
 struct Improving {
-    double average_edge_length;                    // h, in the caller's unit; what follows are fractions of it
+    double average_edge_length;                    // h, in the caller's unit; lengths and volumes below are fractions of it
     double min_edge_length = 0.5;                  // shorter edges are collapsed, where the guards let them be
     double max_edge_length = 1.5;                  // longer edges are split; a collapse leaves none
     double max_volume_change = 1.0 / 60;           // of a collapse, in h^3
-    double min_triangle_angle = 15;                // the edge opposite a lesser angle is collapsed, if it is below needle_max_length
-    double max_triangle_angle = 130;               // the edge opposite a greater angle is split, if it is above cap_min_length
+    double min_triangle_angle = 15;                // the edge opposite a lesser angle is collapsed, if below needle_max_length
+    double max_triangle_angle = 130;               // the edge opposite a greater angle is split, if above cap_min_length
     double needle_max_length = 1, cap_min_length = 1;
     double edge_flip_min_cosine = 0.9;             // a flip's two faces bend no more than this, as they are and as they would be
     double edge_flip_max_volume_change = 1.0 / 600;
     double collapse_min_angle = 10;                // least angle after a collapse, or no less than it was
     double collapse_max_turn = 0.5;                // no face turns by more than this cosine
-    double collapse_min_cosine = 0;                // no two faces at the edge bend more than this after a collapse, or no more than they did
-    double fold_cosine = -0.5;                     // beside an edge that bends by more, edges are collapsed where that bends less, whatever other guards say
+    double collapse_min_cosine = 0;                // no two faces at the edge bend more after a collapse, or no more than they did
+    double fold_cosine = -0.5;                     // beside an edge that bends by more, edges are collapsed where that bends less,
+                                                   // whatever max_volume_change and the two guards above say
     int collapse_rounds = 2, flip_rounds = 2;      // in one call
     bool allow_topology_changes = false;           // whether a neck of three short edges is cut
     bool restore_volume = true;                    // what edits took of the volume is asked back, where it was taken, with the next step,
@@ -165,8 +167,9 @@ public:
         }
         return told.collapses > before;
     }
-    // Cuts each neck of three edges that are no face, where one of them is below min_edge_length and none above max_edge_length: collapses that edge, and
-    // the two that are then one, and parts the vertex that is left. It is taken back where that is refused or leaves a non-manifold edge.
+    // Cuts each neck of three edges that are no face, where one of them is below min_edge_length and none above max_edge_length: collapses
+    // that edge, and the two that are then one, and parts the vertex that is left. It is taken back where that is refused or leaves a
+    // non-manifold edge.
     void cut_necks()
     {
         read();
@@ -177,7 +180,7 @@ public:
                 continue;
             for (int k = mesh.first[e.a]; k < mesh.first[e.a + 1]; ++k)
                 for (const int v : mesh.faces[mesh.star[k]])
-                    if (v != e.a && v != e.b && v != e.c && v != e.d && !held[e.a] && !held[v] && mesh.joined(e.b, v) && is_near(e.a, v) && is_near(e.b, v))
+                    if (is_ring(e, v) && !held[e.a] && !held[v])
                         held[e.a] = held[e.b] = held[v] = 1, necks.push_back({e.a, e.b, v});
         }
         for (const Corners &n : necks)
@@ -227,7 +230,8 @@ private:
     }
     static const std::vector<Wish> &best_first(std::vector<Wish> &wishes)
     {
-        std::sort(wishes.begin(), wishes.end(), [](const Wish &p, const Wish &q) { return p.worth != q.worth ? p.worth > q.worth : p.edge < q.edge; });
+        const auto better = [](const Wish &p, const Wish &q) { return p.worth != q.worth ? p.worth > q.worth : p.edge < q.edge; };
+        std::sort(wishes.begin(), wishes.end(), better);
         return wishes;
     }
     std::vector<topo_answered> ask(std::uint32_t kind, const std::vector<Wish> &chosen, long &done, long &refused)
@@ -239,6 +243,12 @@ private:
         for (const topo_answered &a : answers)
             ++(a.why ? refused : done), fresh = fresh && a.why;
         return answers;
+    }
+    // Whether the edge and v are a ring of three edges, none of them long, which is no face.
+    bool is_ring(const Edge &e, int v) const
+    {
+        const bool apart = v != e.a && v != e.b && v != e.c && v != e.d;
+        return apart && mesh.joined(e.b, v) && is_near(e.a, v) && is_near(e.b, v);
     }
     bool is_near(int p, int q) const { return norm(at(p) - at(q)) <= by.max_edge_length * h; }
     bool cut(std::uint32_t a, std::uint32_t b, std::uint32_t c)
@@ -276,15 +286,16 @@ private:
         const Point &a = at(e.a), &b = at(e.b), &c = at(e.c), &d = at(e.d);
         volume = dot(d - a, area_vector(a, b, c));
         return cosine(area_vector(a, b, c), area_vector(b, a, d)) >= by.edge_flip_min_cosine
-            && cosine(area_vector(a, d, c), area_vector(d, b, c)) >= by.edge_flip_min_cosine && std::fabs(volume) <= 6 * by.edge_flip_max_volume_change * h * h * h;
+            && cosine(area_vector(a, d, c), area_vector(d, b, c)) >= by.edge_flip_min_cosine
+            && std::fabs(volume) <= 6 * by.edge_flip_max_volume_change * h * h * h;
     }
 
     // ---- the guards of a collapse ----
     bool wants_collapse(const Edge &e, Wish &w)
     {
         const double size = length(e);
-        const bool brief = size < by.min_edge_length
-            || (size < by.needle_max_length && std::min(angle(at(e.c), at(e.a), at(e.b)), angle(at(e.d), at(e.a), at(e.b))) < by.min_triangle_angle);
+        const bool small = std::min(angle(at(e.c), at(e.a), at(e.b)), angle(at(e.d), at(e.a), at(e.b))) < by.min_triangle_angle;
+        const bool brief = size < by.min_edge_length || (small && size < by.needle_max_length);
         if ((folded[e.left] || folded[e.right]) && size < by.max_edge_length && may_collapse(e, w.volume, loose())) {
             const double gain = worst_cosine(e, true) - worst_cosine(e, false);
             if (gain > 0.1)
@@ -301,7 +312,8 @@ private:
     Improving loose() const
     {
         Improving l = by;
-        l.max_volume_change = 1e99, l.collapse_max_turn = l.collapse_min_cosine = -2, l.collapse_min_angle = std::min(by.collapse_min_angle, 5.0);
+        l.max_volume_change = 1e99, l.collapse_max_turn = l.collapse_min_cosine = -2;
+        l.collapse_min_angle = std::min(by.collapse_min_angle, 5.0);
         return l;
     }
     // Where the tracker puts the vertex that is left.
@@ -381,11 +393,12 @@ private:
     }
 };
 
-// Smoothing. Vertices slide toward the mean of the middles of their faces, by area: one at a time, in the plane across the summed area of their faces
-// as these are by then, and by at most a fifth of the shortest edge. As the volume is linear in each vertex, with that sum as its gradient, the volume
-// stays, but for rounding. A vertex with a face that turns from the sum by more than `flat` stays, and so does a solid one. It goes over where the vertices
-// are to be, the targets of a step, by row; `faces` are rows of targets.
-inline void slide(std::vector<Point> &x, const std::vector<Corners> &faces, double weight, double flat = 0.7, const std::vector<char> *solid = nullptr)
+// Smoothing. Vertices slide toward the mean of the middles of their faces, by area: one at a time, in the plane across the summed area of
+// their faces as these are by then, and by at most a fifth of the shortest edge. As the volume is linear in each vertex, with that sum as
+// its gradient, the volume stays, but for rounding. A vertex with a face that turns from the sum by more than `flat` stays, and so does a
+// solid one. It goes over where the vertices are to be, the targets of a step, by row; `faces` are rows of targets.
+inline void slide(
+    std::vector<Point> &x, const std::vector<Corners> &faces, double weight, double flat = 0.7, const std::vector<char> *solid = nullptr)
 {
     std::vector<int> first, star;
     std::vector<Point> areas;

@@ -1,17 +1,20 @@
-// merge.hpp: joins two sheets of a tracker's surface that face each other across a thin gap, and mends non-manifold edges, by single edits. C++17. It is no
-// part of what is proved: the tracker decides of each edit whether it is safe, so the surface stays closed and free of self-intersections.
+// merge.hpp: joins two sheets of a tracker's surface that face each other across a thin gap, and mends non-manifold edges, by single
+// edits. C++17. It is no part of what is proved: the tracker decides of each edit whether it is safe, so the surface stays closed and
+// free of self-intersections.
 //
 //     topo_mesh::merge(tracker, {0.01});                  // a mean edge of one centimetre; after each step
 //
-// A pass of zips joins two sheets by many tunnels beside one another and leaves the walls between them: the two sheets stay, as a sieve. Here there is
-// one tunnel, and its walls are taken away:
-// 1. Seed. One zip of the nearest two edges that face each other through the gap; then the four walls of the tunnel are collapsed, one edge each, so that
-//    its two rims are one. That rim is a fold: each of its edges has a face of either sheet, and the two face each other, as pages of a book at its back.
-// 2. Grow. At a fold's edge ab, with the faces abc and bad, ab is flipped to cd, and cd is collapsed: the fold goes on by one triangle of each sheet, the
-//    nearest first. Where cd is an edge already, it is only collapsed. Faces that come to lie on one another go with the collapse.
+// A pass of zips joins two sheets by many tunnels beside one another and leaves the walls between them: the two sheets stay, as a sieve.
+// Here there is one tunnel, and its walls are taken away:
+// 1. Seed. One zip of the nearest two edges that face each other through the gap; then the four walls of the tunnel are collapsed, one
+//    edge each, so that its two rims are one. That rim is a fold: each of its edges has a face of either sheet, and the two face each
+//    other, as pages of a book at its back.
+// 2. Grow. At a fold's edge ab, with the faces abc and bad, ab is flipped to cd, and cd is collapsed: the fold goes on by one triangle of
+//    each sheet, the nearest first. Where cd is an edge already, it is only collapsed. Faces that come to lie on one another go with the
+//    collapse.
 // 3. Pinch. Where the hole's rim meets itself or another hole's, its vertex has two fans, and is parted: the holes become one.
-// Each of these is tried in a group, looked at, and taken back where it is refused or would leave a non-manifold edge; where it would turn a face over it is not
-// tried. It ends, since each that is kept leaves fewer faces, and each that is not is tried but twice.
+// Each of these is tried in a group, looked at, and taken back where it is refused or would leave a non-manifold edge; where it would turn
+// a face over it is not tried. It ends, since each that is kept leaves fewer faces, and each that is not is tried but twice.
 #ifndef TOPO_MERGE_HPP
 #define TOPO_MERGE_HPP
 
@@ -31,8 +34,8 @@ namespace topo_mesh {
 // Lengths are fractions of average_edge_length, and cosines are between normals.
 struct Merging {
     double average_edge_length;         // h, in the caller's unit
-    double merge_proximity = 1.5;       // sheets are joined across gaps up to this. It has to exceed what a gap closes in one step, or the sheets
-                                        // get between one another's vertices before they are joined
+    double merge_proximity = 1.5;       // sheets are joined across gaps up to this. It has to exceed what a gap closes in one step, or the
+                                        // sheets get between one another's vertices before they are joined
     double fold_reach = 1.5;            // in the fold of faces abc and bad, c may be as far from d
     double facing = -0.5;               // the two edges of a seed bound faces whose mean normals have at most this cosine
     double folded = -0.2;               // and the two faces of a fold this
@@ -51,7 +54,7 @@ struct Merged {
 class Merger {
 public:
     Merger(topo_tracker &tracker, const Merging &by)
-        : tracker(tracker), by(by), gap(by.merge_proximity * by.average_edge_length / tracker.grid.unit), reach(by.fold_reach * by.average_edge_length / tracker.grid.unit)
+        : tracker(tracker), by(by), h(by.average_edge_length / tracker.grid.unit), gap(by.merge_proximity * h), reach(by.fold_reach * h)
     {
     }
     Merged told; // since the merger was made
@@ -69,8 +72,8 @@ public:
                 grow();
         }
     }
-    // Takes non-manifold edges out, by collapses that leave fewer of them, and pinches. In each second round one that leaves as many is kept too. It ends,
-    // since each leaves fewer faces. Some may be left: told.crowded_left.
+    // Takes non-manifold edges out, by collapses that leave fewer of them, and pinches. In each second round one that leaves as many is
+    // kept too. It ends, since each leaves fewer faces. Some may be left: told.crowded_left.
     void mend()
     {
         for (int k = 0; k < by.mend_rounds; ++k) {
@@ -94,11 +97,15 @@ private:
     using Pair = std::pair<Id, Id>;
     struct Ring { Id a, b, c, d; };  // an edge and the corners opposite it: faces a b c and b a d
     struct Match { double far; Id a, b, e, f; };
-    struct Fold { double far; Id a, b; bool operator<(const Fold &o) const { return std::tie(far, a, b) > std::tie(o.far, o.a, o.b); } };
+    struct Fold {
+        double far;
+        Id a, b;
+        bool operator<(const Fold &o) const { return std::tie(far, a, b) > std::tie(o.far, o.a, o.b); }
+    };
 
     topo_tracker &tracker;
     const Merging by;
-    const double gap, reach;               // in grid units
+    const double h, gap, reach;            // in grid units
     Mesh mesh;                             // as it was when the call began
     std::unordered_map<Id, Point> at;      // where each vertex stands
     std::priority_queue<Fold> queue;       // the nearest first
@@ -164,8 +171,8 @@ private:
     topo_answered ask(const std::vector<topo_asked> &list) { return tracker.edit_each(list).back(); }
     topo_answered ask(Id kind, Id a, Id b, Id c = 0, Id d = 0) { return tracker.edit({kind, a, b, c, d}); }
     bool undo(long &count) { return tracker.undo(), ++count, false; }
-    // In an open group: collapses an edge after a list of edits, and pinches what is left where it has two fans. `left` gets the vertices around which folds may be new.
-    // Where it is false the group has to be taken back, and `why` counts that.
+    // In an open group: collapses an edge after a list of edits, and pinches what is left where it has two fans. `left` gets the vertices
+    // around which folds may be new. Where it is false the group has to be taken back, and `why` counts that.
     bool collapse(std::vector<topo_asked> list, Id a, Id b, std::vector<Id> &left, long *&why)
     {
         list.push_back({TOPO_COLLAPSED, a, b, 0, 0});
@@ -321,9 +328,11 @@ private:
         for (const Mesh::Edge &e : mesh.edges) {
             const Point n = mesh.normal(e.left), m = mesh.normal(e.right);
             if (norm(n) > 0 && norm(m) > 0)
-                row.push_back({0.5 * (mesh.points[e.a] + mesh.points[e.b]), (0.5 / norm(n)) * n + (0.5 / norm(m)) * m, mesh.id[e.a], mesh.id[e.b]});
+                row.push_back({0.5 * (mesh.points[e.a] + mesh.points[e.b]), 0.5 * ((1 / norm(n)) * n + (1 / norm(m)) * m), mesh.id[e.a],
+                    mesh.id[e.b]});
         }
-        std::sort(row.begin(), row.end(), [](const Side &s, const Side &u) { return std::tie(s.mid[0], s.a, s.b) < std::tie(u.mid[0], u.a, u.b); });
+        const auto by_x = [](const Side &s, const Side &u) { return std::tie(s.mid[0], s.a, s.b) < std::tie(u.mid[0], u.a, u.b); };
+        std::sort(row.begin(), row.end(), by_x);
         std::vector<Match> found;
         for (std::size_t i = 0; i < row.size(); ++i)
             for (std::size_t j = i + 1; j < row.size() && row[j].mid[0] - row[i].mid[0] <= gap; ++j) {
@@ -335,10 +344,14 @@ private:
                 const auto a = at.find(s.a), b = at.find(s.b), e = at.find(u.a), f = at.find(u.b);
                 if (a == at.end() || b == at.end() || e == at.end() || f == at.end())
                     continue;
-                const double ends = std::min(norm(a->second - e->second) + norm(b->second - f->second), norm(a->second - f->second) + norm(b->second - e->second));
+                const auto far = [](const auto &p, const auto &q) { return norm(p->second - q->second); };
+                const double ends = std::min(far(a, e) + far(b, f), far(a, f) + far(b, e));
                 found.push_back({norm(d) + ends, s.a, s.b, u.a, u.b});
             }
-        std::sort(found.begin(), found.end(), [](const Match &p, const Match &q) { return std::tie(p.far, p.a, p.b, p.e, p.f) < std::tie(q.far, q.a, q.b, q.e, q.f); });
+        const auto by_far = [](const Match &p, const Match &q) {
+            return std::tie(p.far, p.a, p.b, p.e, p.f) < std::tie(q.far, q.a, q.b, q.e, q.f);
+        };
+        std::sort(found.begin(), found.end(), by_far);
         return found;
     }
 

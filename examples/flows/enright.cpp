@@ -1,4 +1,5 @@
-// A ball is drawn out to a thin sheet by two vortices, and back: Enright's deformation (Enright, Fedkiw, Ferziger and Mitchell 2002; LeVeque 1996).
+// A ball is drawn out to a thin sheet by two vortices, and back: Enright's deformation (Enright, Fedkiw, Ferziger and Mitchell 2002;
+// LeVeque 1996).
 #include "flow.hpp"
 
 static const Point middle{0.35, 0.35, 0.35};
@@ -33,7 +34,8 @@ try {
     }
     const double back = farthest(sphere, run.points, run.mesh.faces);
     char text[200];
-    std::snprintf(text, sizeof text, "from the surface to the sphere at most %.3f h, from the sphere to the surface %.3f h\n", off / h, back / h);
+    std::snprintf(text, sizeof text, "from the surface to the sphere at most %.3f h, from the sphere to the surface %.3f h\n", off / h,
+        back / h);
     run.end(text);
 } catch (const std::exception &why) {
     std::fprintf(stderr, "%s\n", why.what());

@@ -61,7 +61,8 @@ inline double farthest(const std::vector<Point> &from, const std::vector<Point> 
     for (const Point &p : from) {
         double best = 1e99;
         for (const Corners &f : faces)
-            if (const Point &a = points[f[0]], &b = points[f[1]], &c = points[f[2]]; norm(p - a) - std::max(norm(b - a), norm(c - a)) < best)
+            if (const Point &a = points[f[0]], &b = points[f[1]], &c = points[f[2]];
+                norm(p - a) - std::max(norm(b - a), norm(c - a)) < best)
                 best = std::min(best, distance(p, a, b, c));
         worst = std::max(worst, best);
     }
@@ -83,15 +84,17 @@ public:
     double volume = 0, first_volume = 0, least_ever = 180;
     Merged merged;
 
-    Run(const Words &words, const Shape &shape, double h) : h(h), improving{h}, smoothing(words("smooth", 0.2)), folder(words.folder), log_kept(words("log", 0) != 0)
+    Run(const Words &words, const Shape &shape, double h)
+        : h(h), improving{h}, smoothing(words("smooth", 0.2)), folder(words.folder), log_kept(words("log", 0) != 0)
     {
         improving.allow_topology_changes = words("part", 0) != 0;
         merging = words("merge", 0);
         csv = std::fopen((folder + "/steps.csv").c_str(), "w");
         if (!csv)
             throw std::runtime_error(folder + ": there is no such folder");
-        std::fputs("step,time,way,times,vertices,faces,volume,exact,area,least,mean,below5,folds,non_manifold,components,euler,split,collapse,flip,zip,pinch,refused,"
-                   "seconds_flow,seconds_step,seconds_improve,seconds_merge\n", csv);
+        std::fputs("step,time,way,times,vertices,faces,volume,exact,area,least,mean,below5,folds,non_manifold,components,euler,"
+                   "split,collapse,flip,zip,pinch,refused,seconds_flow,seconds_step,seconds_improve,seconds_merge\n",
+            csv);
         begin(shape);
         tell(0, {0, 0, 0});
         first_volume = volume, last = seconds();
@@ -141,13 +144,15 @@ public:
         const Improved &i = improver->told;
         char text[1000];
         std::snprintf(text, sizeof text,
-            "steps %ld: whole %ld, impulse %ld, zones %ld, halved %ld, zero %ld\nvolume %.9f of %.9f: %+.3f %%\ncomponents %ld, Euler number %ld, faces %zu\n"
+            "steps %ld: whole %ld, impulse %ld, zones %ld, halved %ld, zero %ld\nvolume %.9f of %.9f: %+.3f %%\n"
+            "components %ld, Euler number %ld, faces %zu\n"
             "least angle ever %.2f, steps with one below 5 degrees %ld, steps with folds %ld\n"
             "splits %ld and %ld of caps, collapses %ld, flips %ld; refused %ld, %ld, %ld, %ld; held back %ld, %ld; necks %ld\n"
             "merged: seeds %ld, folds closed %ld, pinches %ld; taken back: refused %ld, crowded %ld; left: turning %ld\n%s",
-            steps, ways[0], ways[1], ways[2], ways[3], ways[4], volume, first_volume, 100 * (volume / first_volume - 1), components, euler, mesh.faces.size(), least_ever,
-            least_steps, fold_steps, i.splits, i.caps, i.collapses, i.flips, i.splits_refused, i.caps_refused, i.collapses_refused, i.flips_refused, i.collapses_held,
-            i.flips_held, i.necks, merged.seeds, merged.folds_closed, merged.pinches, merged.undone_refused, merged.undone_crowded, merged.turning, more);
+            steps, ways[0], ways[1], ways[2], ways[3], ways[4], volume, first_volume, 100 * (volume / first_volume - 1), components, euler,
+            mesh.faces.size(), least_ever, least_steps, fold_steps, i.splits, i.caps, i.collapses, i.flips, i.splits_refused, i.caps_refused,
+            i.collapses_refused, i.flips_refused, i.collapses_held, i.flips_held, i.necks, merged.seeds, merged.folds_closed, merged.pinches,
+            merged.undone_refused, merged.undone_crowded, merged.turning, more);
         std::fputs(text, stdout);
         std::ofstream(folder + "/summary.txt") << text;
     }
@@ -172,7 +177,8 @@ private:
         std::vector<topo_triangle> faces;
         for (const Corners &f : shape.faces)
             faces.push_back({std::uint32_t(f[0] + 1), std::uint32_t(f[1] + 1), std::uint32_t(f[2] + 1)});
-        tracker = std::make_unique<topo_tracker>(shape.points.data(), shape.points.size(), faces.data(), faces.size(), topo_grid{h * 1e-5});
+        const topo_grid grid{h * 1e-5};
+        tracker = std::make_unique<topo_tracker>(shape.points.data(), shape.points.size(), faces.data(), faces.size(), grid);
         improver = std::make_unique<Improver>(*tracker, improving);
         read();
         begin_log();
@@ -189,19 +195,26 @@ private:
     {
         if (!log_kept)
             return;
-        std::ofstream start(folder + "/start" + std::to_string(chapter) + ".obj");
-        for (const Point &p : mesh.points)
-            start << "v " << long(p[0]) << " " << long(p[1]) << " " << long(p[2]) << "\n";
-        for (const Corners &f : mesh.faces)
-            start << "f " << f[0] + 1 << " " << f[1] + 1 << " " << f[2] + 1 << "\n";
         log.open(folder + "/log" + std::to_string(chapter++) + ".txt");
         log << "topo log 2\nmesh 0 " << mesh.id.size() << " " << mesh.faces.size() << "\n";
         log_size = 0;
+        write_rows("start");
     }
     void end_log()
     {
-        if (log.is_open())
-            log << "end\n", log.close();
+        if (!log.is_open())
+            return;
+        log << "mesh 1 " << mesh.id.size() << " " << mesh.faces.size() << "\nend\n", log.close();
+        write_rows("stop");
+    }
+    // The surface in grid units.
+    void write_rows(const char *name) const
+    {
+        std::ofstream out(folder + "/" + name + std::to_string(chapter - 1) + ".obj");
+        for (const Point &p : mesh.points)
+            out << "v " << long(p[0]) << " " << long(p[1]) << " " << long(p[2]) << "\n";
+        for (const Corners &f : mesh.faces)
+            out << "f " << f[0] + 1 << " " << f[1] + 1 << " " << f[2] + 1 << "\n";
     }
     void join()
     {
@@ -209,7 +222,8 @@ private:
         by.merge_proximity = merging;
         const Merged m = merge(*tracker, by);
         merged.seeds += m.seeds, merged.folds_closed += m.folds_closed, merged.pinches += m.pinches, merged.turning += m.turning;
-        merged.undone_refused += m.undone_refused, merged.undone_crowded += m.undone_crowded, refused += m.undone_refused;
+        merged.undone_refused += m.undone_refused, merged.undone_crowded += m.undone_crowded;
+        refused += m.undone_refused;
     }
     // Counts the edits that stand, group by group, and takes the log.
     void tally()
@@ -259,11 +273,12 @@ private:
             components += root(i) == i;
         euler = long(points.size()) - long(mesh.edges.size() + mesh.crowded.size()) + long(mesh.faces.size());
         least_ever = std::min(least_ever, least), least_steps += below > 0, fold_steps += folds > 0;
-        std::fprintf(csv, "%ld,%.6f,%u,%u,%zu,%zu,%.9f,%.9f,%.6f,%.3f,%.3f,%ld,%ld,%zu,%ld,%ld,%ld,%ld,%ld,%ld,%ld,%ld,%.4f,%.4f,%.4f,%.4f\n", steps, time, way.how, way.times,
-            points.size(), mesh.faces.size(), volume, exact, area, least, mean, below, folds, mesh.crowded.size(), components, euler, done[TOPO_SPLIT],
-            done[TOPO_COLLAPSED], done[TOPO_FLIPPED], done[TOPO_ZIPPED], done[TOPO_PINCHED], refused, spent[0], spent[1], spent[2], spent[3]);
+        std::fprintf(csv, "%ld,%.6f,%u,%u,%zu,%zu,%.9f,%.9f,%.6f,%.3f,%.3f,%ld,%ld,%zu,%ld,%ld,%ld,%ld,%ld,%ld,%ld,%ld,%.4f,%.4f,%.4f,%.4f\n",
+            steps, time, way.how, way.times, points.size(), mesh.faces.size(), volume, exact, area, least, mean, below, folds,
+            mesh.crowded.size(), components, euler, done[TOPO_SPLIT], done[TOPO_COLLAPSED], done[TOPO_FLIPPED], done[TOPO_ZIPPED],
+            done[TOPO_PINCHED], refused, spent[0], spent[1], spent[2], spent[3]);
         std::fflush(csv);
-        if (log_size > 60000000) { // the program reads no longer log: another begins with the surface as it is
+        if (log_size > 60000000) { // the program reads no longer log: the next begins with the surface as it is
             end_log();
             const Improved told = improver->told;
             begin({points, mesh.faces});

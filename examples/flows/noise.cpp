@@ -1,4 +1,5 @@
-// A ball in a field without sources, the curl of a sum of waves (after Bridson, Hourihan and Nordenstam 2007): it is stretched and folded ever thinner.
+// A ball in a field without sources, the curl of a sum of waves (after Bridson, Hourihan and Nordenstam 2007): it is stretched and folded
+// ever thinner.
 #include "flow.hpp"
 
 #include <random>

@@ -33,7 +33,7 @@ try {
     Run run(word, shape, h);
     run.write("first.obj");
     const long steps = long(word("steps", 10));
-    double r = radius, off = 0;
+    double r = radius;
     long inside = 0, joined = -1;
     for (long s = 1; s <= steps; ++s) {
         const std::vector<Point> n = normals(run);
@@ -54,10 +54,11 @@ try {
         double depth = -1e99;
         for (const Point &m : middles)
             depth = std::max(depth, r - norm(p - m));
-        inside += depth > h, off = std::max(off, depth);
+        inside += depth > h;
     }
     char text[200];
-    std::snprintf(text, sizeof text, "one component from step %ld on; exact volume %.9f; faces deeper than h inside the union %ld\n", joined, run.exact, inside);
+    std::snprintf(text, sizeof text, "one component from step %ld on; exact volume %.9f; faces deeper than h inside the union %ld\n", joined,
+        run.exact, inside);
     run.end(text);
 } catch (const std::exception &why) {
     std::fprintf(stderr, "%s\n", why.what());

@@ -31,9 +31,10 @@ inline Shape ball(const Point &middle, double radius, double h)
 {
     const int n = std::max(1, static_cast<int>(std::lround(1.17 * radius / h)));
     const double g = (1 + std::sqrt(5.0)) / 2;
-    const Point p[] = {{-1, g, 0}, {1, g, 0}, {-1, -g, 0}, {1, -g, 0}, {0, -1, g}, {0, 1, g}, {0, -1, -g}, {0, 1, -g}, {g, 0, -1}, {g, 0, 1}, {-g, 0, -1}, {-g, 0, 1}};
-    const Corners sides[] = {{0, 11, 5}, {0, 5, 1}, {0, 1, 7}, {0, 7, 10}, {0, 10, 11}, {1, 5, 9}, {5, 11, 4}, {11, 10, 2}, {10, 7, 6}, {7, 1, 8},
-        {3, 9, 4}, {3, 4, 2}, {3, 2, 6}, {3, 6, 8}, {3, 8, 9}, {4, 9, 5}, {2, 4, 11}, {6, 2, 10}, {8, 6, 7}, {9, 8, 1}};
+    const Point p[] = {{-1, g, 0}, {1, g, 0}, {-1, -g, 0}, {1, -g, 0}, {0, -1, g}, {0, 1, g}, {0, -1, -g}, {0, 1, -g}, {g, 0, -1}, {g, 0, 1},
+        {-g, 0, -1}, {-g, 0, 1}};
+    const Corners sides[] = {{0, 11, 5}, {0, 5, 1}, {0, 1, 7}, {0, 7, 10}, {0, 10, 11}, {1, 5, 9}, {5, 11, 4}, {11, 10, 2}, {10, 7, 6},
+        {7, 1, 8}, {3, 9, 4}, {3, 4, 2}, {3, 2, 6}, {3, 6, 8}, {3, 8, 9}, {4, 9, 5}, {2, 4, 11}, {6, 2, 10}, {8, 6, 7}, {9, 8, 1}};
     Shape made;
     std::map<std::array<long, 3>, int> seen; // neighbours share the points of an edge
     for (const Corners &s : sides) {
@@ -56,8 +57,8 @@ inline Shape ball(const Point &middle, double radius, double h)
     return made;
 }
 
-// Dual contouring of f < 0 on cells of side h from `low` to `high`, which no part of the shape leaves: a vertex in each cell that the surface goes through,
-// where the planes at its crossings meet best, so that sharp edges stay, and a square around each crossed edge of the grid.
+// Dual contouring of f < 0 on cells of side h from `low` to `high`, which no part of the shape leaves: a vertex in each cell that the
+// surface goes through, where the planes at its crossings meet best, so that sharp edges stay, and a square around each crossed edge.
 class Contour {
 public:
     Contour(std::function<double(const Point &)> f, const Point &low, const Point &high, double h) : f(std::move(f)), low(low), h(h)

@@ -23,8 +23,8 @@ try {
     run.write("first.obj");
     follow(run, field, word("end", 1), 1, 0.5, long(word("steps", 1e9)));
     char text[200];
-    std::snprintf(text, sizeof text, "from the start to the end at most %.4f h, from the end to the start %.4f h\n", farthest(points, run.points, run.mesh.faces) / h,
-        farthest(run.points, points, faces) / h);
+    const double there = farthest(points, run.points, run.mesh.faces), back = farthest(run.points, points, faces);
+    std::snprintf(text, sizeof text, "from the start to the end at most %.4f h, from the end to the start %.4f h\n", there / h, back / h);
     run.end(text);
 } catch (const std::exception &why) {
     std::fprintf(stderr, "%s\n", why.what());
