@@ -1,6 +1,6 @@
 // Small cases of library/improve.hpp and merge.hpp: each guard by a mesh at which it alone holds an edit back, and which the same passes
-// change without it; smoothing and repair; bodies that become one; non-manifold edges that are taken out. Prints how many hold, or which do
-// not.
+// change without it; smoothing and repair; bodies that become one; non-manifold edges that are taken out. Prints how many hold, or which
+// do not.
 #include "improve.hpp"
 #include "merge.hpp"
 #include "shapes.hpp"
@@ -232,7 +232,8 @@ void slides()
     is("sliding makes the least angles greater", mean(smooth) > mean(s) + 1);
     const Shape cube{
         {{0, 0, 0}, {100, 0, 0}, {0, 100, 0}, {100, 100, 0}, {0, 0, 100}, {100, 0, 100}, {0, 100, 100}, {100, 100, 100}},
-        {{0, 2, 3}, {0, 3, 1}, {4, 5, 7}, {4, 7, 6}, {0, 1, 5}, {0, 5, 4}, {2, 6, 7}, {2, 7, 3}, {0, 4, 6}, {0, 6, 2}, {1, 3, 7}, {1, 7, 5}}};
+        {{0, 2, 3}, {0, 3, 1}, {4, 5, 7}, {4, 7, 6}, {0, 1, 5}, {0, 5, 4}, {2, 6, 7}, {2, 7, 3}, {0, 4, 6}, {0, 6, 2}, {1, 3, 7},
+            {1, 7, 5}}};
     Shape same = cube, moved = cube, solid = cube;
     slide(same.points, same.faces, 0.5);
     slide(moved.points, moved.faces, 0.5, -2);
@@ -272,7 +273,9 @@ void merges()
             told = topo_mesh::merge(t, Merging{average});
         return counts(t);
     };
-    const auto are = [](const Counts &c, long components, long euler) { return c.components == components && c.euler == euler && c.crowded == 0; };
+    const auto are = [](const Counts &c, long components, long euler) {
+        return c.components == components && c.euler == euler && c.crowded == 0;
+    };
     Merged told;
     is("two balls become one body", are(after(bodies(2, 0.5 * h), h, 1, told), 1, 2) && told.seeds == 1);
     is("two balls that are farther stay two", are(after(bodies(2, 2 * h), h, 1, told), 2, 4) && told.seeds == 0);

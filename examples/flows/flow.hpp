@@ -150,9 +150,9 @@ public:
             "splits %ld and %ld of caps, collapses %ld, flips %ld; refused %ld, %ld, %ld, %ld; held back %ld, %ld; necks %ld\n"
             "merged: seeds %ld, folds closed %ld, pinches %ld; taken back: refused %ld, crowded %ld; left: turning %ld\n%s",
             steps, ways[0], ways[1], ways[2], ways[3], ways[4], volume, first_volume, 100 * (volume / first_volume - 1), components, euler,
-            mesh.faces.size(), least_ever, least_steps, fold_steps, i.splits, i.caps, i.collapses, i.flips, i.splits_refused, i.caps_refused,
-            i.collapses_refused, i.flips_refused, i.collapses_held, i.flips_held, i.necks, merged.seeds, merged.folds_closed, merged.pinches,
-            merged.undone_refused, merged.undone_crowded, merged.turning, more);
+            mesh.faces.size(), least_ever, least_steps, fold_steps, i.splits, i.caps, i.collapses, i.flips, i.splits_refused,
+            i.caps_refused, i.collapses_refused, i.flips_refused, i.collapses_held, i.flips_held, i.necks, merged.seeds,
+            merged.folds_closed, merged.pinches, merged.undone_refused, merged.undone_crowded, merged.turning, more);
         std::fputs(text, stdout);
         std::ofstream(folder + "/summary.txt") << text;
     }
@@ -273,12 +273,12 @@ private:
             components += root(i) == i;
         euler = long(points.size()) - long(mesh.edges.size() + mesh.crowded.size()) + long(mesh.faces.size());
         least_ever = std::min(least_ever, least), least_steps += below > 0, fold_steps += folds > 0;
-        std::fprintf(csv, "%ld,%.6f,%u,%u,%zu,%zu,%.9f,%.9f,%.6f,%.3f,%.3f,%ld,%ld,%zu,%ld,%ld,%ld,%ld,%ld,%ld,%ld,%ld,%.4f,%.4f,%.4f,%.4f\n",
-            steps, time, way.how, way.times, points.size(), mesh.faces.size(), volume, exact, area, least, mean, below, folds,
-            mesh.crowded.size(), components, euler, done[TOPO_SPLIT], done[TOPO_COLLAPSED], done[TOPO_FLIPPED], done[TOPO_ZIPPED],
-            done[TOPO_PINCHED], refused, spent[0], spent[1], spent[2], spent[3]);
+        std::fprintf(csv, "%ld,%.6f,%u,%u,%zu,%zu,%.9f,%.9f,%.6f,%.3f,%.3f,%ld,%ld,%zu,%ld,%ld,", steps, time, way.how,
+            way.times, points.size(), mesh.faces.size(), volume, exact, area, least, mean, below, folds, mesh.crowded.size(), components, euler);
+        std::fprintf(csv, "%ld,%ld,%ld,%ld,%ld,%ld,%.4f,%.4f,%.4f,%.4f\n", done[TOPO_SPLIT], done[TOPO_COLLAPSED], done[TOPO_FLIPPED],
+            done[TOPO_ZIPPED], done[TOPO_PINCHED], refused, spent[0], spent[1], spent[2], spent[3]);
         std::fflush(csv);
-        if (log_size > 60000000) { // the program reads no longer log: the next begins with the surface as it is
+        if (log_size > 60000000) { // the program reads no longer log: another begins
             end_log();
             const Improved told = improver->told;
             begin({points, mesh.faces});
@@ -290,7 +290,8 @@ private:
 // A flow by a field of velocities: each point is carried by the classical Runge-Kutta method.
 template <class Field> Point carried(const Field &field, const Point &p, double t, double dt)
 {
-    const Point a = field(p, t), b = field(p + (dt / 2) * a, t + dt / 2), c = field(p + (dt / 2) * b, t + dt / 2), d = field(p + dt * c, t + dt);
+    const Point a = field(p, t), b = field(p + (dt / 2) * a, t + dt / 2);
+    const Point c = field(p + (dt / 2) * b, t + dt / 2), d = field(p + dt * c, t + dt);
     return p + (dt / 6) * (a + 2.0 * b + 2.0 * c + d);
 }
 // Half an edge a step at most. `middle` is a time at which a step ends and the surface is written, or 0.

@@ -57,8 +57,8 @@ try {
         inside += depth > h;
     }
     char text[200];
-    std::snprintf(text, sizeof text, "one component from step %ld on; exact volume %.9f; faces deeper than h inside the union %ld\n", joined,
-        run.exact, inside);
+    std::snprintf(text, sizeof text, "one component from step %ld on; exact volume %.9f; faces deeper than h inside the union %ld\n",
+        joined, run.exact, inside);
     run.end(text);
 } catch (const std::exception &why) {
     std::fprintf(stderr, "%s\n", why.what());
