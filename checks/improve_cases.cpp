@@ -64,6 +64,7 @@ Improving open_guards()
 {
     Improving g{100};
     g.min_edge_length = g.min_triangle_angle = g.collapse_min_angle = 0, g.max_triangle_angle = 180, g.max_edge_length = 1e3;
+    g.flip_rounds = g.collapse_rounds = 0, g.restore_volume = false;
     g.max_volume_change = g.edge_flip_max_volume_change = 1e9;
     g.edge_flip_min_cosine = g.collapse_max_turn = g.collapse_min_cosine = g.fold_cosine = -2;
     return g;
@@ -76,13 +77,9 @@ long done(const Shape &shape, Pass pass, const Change &change)
     topo_tracker t = tracked(shape);
     Improving g = open_guards();
     change(g);
+    g.flip_rounds = pass == Pass::flip, g.collapse_rounds = pass == Pass::collapse;
     Improver improver(t, g);
-    if (pass == Pass::flip)
-        improver.flip();
-    if (pass == Pass::collapse)
-        improver.collapse_short();
-    if (pass == Pass::cap)
-        improver.split_caps();
+    improver.improve();
     return improver.told.flips + improver.told.collapses + improver.told.caps;
 }
 // A guard holds back all that the pass does without it.
@@ -152,8 +149,8 @@ void collapses()
     const Change all = [](Improving &g) { g.min_edge_length = 10; };
     holds("collapse: volume", round, Pass::collapse, all, [](Improving &g) { g.max_volume_change = 1.0 / 60; });
     holds("collapse: the least angle", round, Pass::collapse, all, [](Improving &g) { g.collapse_min_angle = 60; });
-    holds("collapse: a face that turns", round, Pass::collapse, all, [](Improving &g) { g.collapse_max_turn = 0.97; });
-    holds("collapse: a bend", round, Pass::collapse, all, [](Improving &g) { g.collapse_min_cosine = 0.9; });
+    holds("collapse: a face that turns", round, Pass::collapse, all, [](Improving &g) { g.collapse_max_turn = 0.995; });
+    holds("collapse: a bend", round, Pass::collapse, all, [](Improving &g) { g.collapse_min_cosine = 0.999; });
     holds("collapse: an edge that becomes long", round, Pass::collapse, all, [](Improving &g) { g.max_edge_length = 1.2; });
     holds("collapse: of no edge as long as that", round, Pass::collapse, all, [](Improving &g) { g.min_edge_length = 0.5; });
     const Change needles = [](Improving &g) { g.min_triangle_angle = 70, g.needle_max_length = 10; };
@@ -173,9 +170,9 @@ void collapses()
     for (std::uint32_t v = 1; v <= 42; ++v)
         solid.solid(v);
     Improving g = open_guards();
-    g.min_edge_length = 10;
+    g.min_edge_length = 10, g.collapse_rounds = 1;
     Improver still(solid, g);
-    still.collapse_short();
+    still.improve();
     is("no edge between two solid vertices is asked", still.told.collapses == 0 && still.told.collapses_refused == 0);
 }
 
@@ -191,12 +188,11 @@ void volumes()
     for (const double most : {0.1, 0.0}) {
         topo_tracker t = tracked(roof(200, 100, -5));
         Improving g = open_guards();
-        g.restore_max_shift = most;
+        g.flip_rounds = 1, g.restore_volume = true, g.restore_max_shift = most;
         Improver improver(t, g);
         const double before = volume(t);
-        improver.flip();
+        improver.improve();
         const double flipped = volume(t);
-        improver.give_back();
         t.step();
         const double after = volume(t);
         is("a flip changes the volume", std::fabs(flipped - before) > 1e4);
@@ -248,9 +244,9 @@ void necks()
     const auto cut = [](double size, double under) {
         topo_tracker t = tracked(neck(size));
         Improving g = open_guards();
-        g.min_edge_length = under, g.max_edge_length = 1.5;
+        g.min_edge_length = under, g.allow_topology_changes = true;
         Improver improver(t, g);
-        improver.cut_necks();
+        improver.improve();
         const Counts c = counts(t);
         return c.crowded == 0 && c.euler == 2 * c.components ? c.components : 0;
     };

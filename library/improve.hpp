@@ -58,9 +58,10 @@ class Improver {
 public:
     Improver(topo_tracker &tracker, const Improving &by) : tracker(tracker), by(by), h(by.average_edge_length / tracker.grid.unit) {}
 
-    // All of it, which is to follow each step. Throws what the tracker throws.
+    // What is to follow each step. Throws what the tracker throws.
     void improve()
     {
+        fresh = false;
         split_long();
         split_caps();
         for (int i = 0; i < by.collapse_rounds && collapse_short(); ++i) {}
@@ -72,13 +73,22 @@ public:
     }
     Improved told; // since the improver was made
 
-    // The parts, for who wants them in another order.
+private:
+    using Edge = Mesh::Edge;
+    struct Wish { double worth; int edge; double volume; };
+
+    topo_tracker &tracker;
+    const Improving by;
+    const double h; // in grid units, as all lengths here
+    Mesh mesh;
+    bool fresh = false; // whether the mesh is that of the tracker
+    std::vector<char> folded;                       // of a face: whether an edge of it is a fold
+    std::unordered_map<std::uint32_t, double> won;  // six times the volume, by vertex
 
     void split_long()
     {
         const topo_edits edits = tracker.split(by.max_edge_length * by.average_edge_length);
         told.splits += edits.done, told.splits_refused += edits.refused;
-        fresh = false;
     }
     // Splits the edge opposite an angle above max_triangle_angle.
     void split_caps()
@@ -207,18 +217,6 @@ public:
         won.clear();
         tracker.shift_each(shifts);
     }
-
-private:
-    using Edge = Mesh::Edge;
-    struct Wish { double worth; int edge; double volume; };
-
-    topo_tracker &tracker;
-    const Improving by;
-    const double h; // in grid units, as all lengths here
-    Mesh mesh;
-    bool fresh = false; // whether the mesh is that of the tracker, since the last edit here
-    std::vector<char> folded;                       // of a face: whether an edge of it is a fold
-    std::unordered_map<std::uint32_t, double> won;  // six times the volume, by vertex
 
     const Point &at(int row) const { return mesh.points[row]; }
     int count() const { return static_cast<int>(mesh.edges.size()); }

@@ -274,7 +274,8 @@ private:
         euler = long(points.size()) - long(mesh.edges.size() + mesh.crowded.size()) + long(mesh.faces.size());
         least_ever = std::min(least_ever, least), least_steps += below > 0, fold_steps += folds > 0;
         std::fprintf(csv, "%ld,%.6f,%u,%u,%zu,%zu,%.9f,%.9f,%.6f,%.3f,%.3f,%ld,%ld,%zu,%ld,%ld,", steps, time, way.how,
-            way.times, points.size(), mesh.faces.size(), volume, exact, area, least, mean, below, folds, mesh.crowded.size(), components, euler);
+            way.times, points.size(), mesh.faces.size(), volume, exact, area, least, mean, below, folds, mesh.crowded.size(), components,
+            euler);
         std::fprintf(csv, "%ld,%ld,%ld,%ld,%ld,%ld,%.4f,%.4f,%.4f,%.4f\n", done[TOPO_SPLIT], done[TOPO_COLLAPSED], done[TOPO_FLIPPED],
             done[TOPO_ZIPPED], done[TOPO_PINCHED], refused, spent[0], spent[1], spent[2], spent[3]);
         std::fflush(csv);
