@@ -98,7 +98,7 @@ Shape roof(double b, double c, double z)
 // Six faces around a vertex that was pushed over the rim, above a point: one face lies upside down.
 Shape overhang()
 {
-    Shape s{{{150, 0, 20}, {0, 0, -300}}, {}};
+    Shape s{{{150, 0, 5}, {0, 0, -300}}, {}};
     for (const auto &[x, y] : {std::pair(87, -50), {87, 50}, {0, 100}, {-87, 50}, {-87, -50}, {0, -100}})
         s.points.push_back({double(x), double(y), 0});
     for (int i = 0; i < 6; ++i)
@@ -149,7 +149,7 @@ void collapses()
     const Change all = [](Improving &g) { g.min_edge_length = 10; };
     holds("collapse: volume", round, Pass::collapse, all, [](Improving &g) { g.max_volume_change = 1.0 / 60; });
     holds("collapse: the least angle", round, Pass::collapse, all, [](Improving &g) { g.collapse_min_angle = 60; });
-    holds("collapse: a face that turns", round, Pass::collapse, all, [](Improving &g) { g.collapse_max_turn = 0.995; });
+    holds("collapse: a face that turns", round, Pass::collapse, all, [](Improving &g) { g.collapse_max_turn = 0.99999; });
     holds("collapse: a bend", round, Pass::collapse, all, [](Improving &g) { g.collapse_min_cosine = 0.999; });
     holds("collapse: an edge that becomes long", round, Pass::collapse, all, [](Improving &g) { g.max_edge_length = 1.2; });
     holds("collapse: of no edge as long as that", round, Pass::collapse, all, [](Improving &g) { g.min_edge_length = 0.5; });
