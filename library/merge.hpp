@@ -1,0 +1,431 @@
+// merge.hpp: joins two sheets of a tracker's surface that face each other across a thin gap, and mends non-manifold edges, by single
+// edits. C++17. It is no part of what is proved: the tracker decides of each edit whether it is safe, so the surface stays closed and
+// free of self-intersections.
+//
+//     topo_mesh::merge(tracker, {0.01});                  // a mean edge of one centimetre; after each step
+//
+// A pass of zips joins two sheets by many tunnels beside one another and leaves the walls between them: the two sheets stay, as a sieve.
+// Here there is one tunnel, and its walls are taken away:
+// 1. Seed. One zip of the nearest two edges that face each other through the gap; then the four walls of the tunnel are collapsed, one
+//    edge each, so that its two rims are one. That rim is a fold: each of its edges has a face of either sheet, and the two face each
+//    other, as pages of a book at its back.
+// 2. Grow. At a fold's edge ab, with the faces abc and bad, ab is flipped to cd, and cd is collapsed: the fold goes on by one triangle of
+//    each sheet, the nearest first. Where cd is an edge already, it is only collapsed. Faces that come to lie on one another go with the
+//    collapse.
+// 3. Pinch. Where the hole's rim meets itself or another hole's, its vertex has two fans, and is parted: the holes become one.
+// Each of these is tried in a group, looked at, and taken back where it is refused or would leave a non-manifold edge; where it would turn
+// a face over it is not tried. It ends, since each that is kept leaves fewer faces, and each that is not is tried but twice.
+#ifndef TOPO_MERGE_HPP
+#define TOPO_MERGE_HPP
+
+#include "mesh.hpp"
+
+#include <cmath>
+#include <cstdint>
+#include <map>
+#include <queue>
+#include <set>
+#include <tuple>
+#include <unordered_map>
+#include <utility>
+#include <vector>
+
+namespace topo_mesh {
+// Lengths are fractions of average_edge_length, and cosines are between normals.
+struct Merging {
+    double average_edge_length;         // h, in the caller's unit
+    double merge_proximity = 1.5;       // sheets are joined across gaps up to this. It has to exceed what a gap closes in one step, or the
+                                        // sheets get between one another's vertices before they are joined
+    double fold_reach = 1.5;            // in the fold of faces abc and bad, c may be as far from d
+    double facing = -0.5;               // the two edges of a seed bound faces whose mean normals have at most this cosine
+    double folded = -0.2;               // and the two faces of a fold this
+    int apart = 4;                      // a seed's edges are more than so many edges apart along the surface
+    int mend_rounds = 20;               // of mend
+};
+
+// What was done, and what was tried and taken back, by reason.
+struct Merged {
+    long seeds = 0, folds_closed = 0, pinches = 0, mended = 0;
+    long turning = 0;                                            // folds that were left, since a face would turn over
+    long undone_refused = 0, undone_crowded = 0, undone_no_fewer = 0;
+    long crowded_left = 0;                                       // of mend: non-manifold edges that are left
+};
+
+class Merger {
+public:
+    Merger(topo_tracker &tracker, const Merging &by)
+        : tracker(tracker), by(by), h(by.average_edge_length / tracker.grid.unit), gap(by.merge_proximity * h), reach(by.fold_reach * h)
+    {
+    }
+    Merged told; // since the merger was made
+
+    void merge()
+    {
+        mesh.read(tracker);
+        read_points();
+        for (const Mesh::Edge &e : mesh.edges) // folds that an earlier call left
+            if (cosine(mesh.normal(e.left), mesh.normal(e.right)) <= by.folded)
+                push(mesh.id[e.a], mesh.id[e.b]);
+        grow();
+        for (const Match &m : matches()) {
+            if (seed(m.a, m.b, m.e, m.f))
+                grow();
+        }
+    }
+    // Takes non-manifold edges out, by collapses that leave fewer of them, and pinches. In each second round one that leaves as many is
+    // kept too. It ends, since each leaves fewer faces. Some may be left: told.crowded_left.
+    void mend()
+    {
+        for (int k = 0; k < by.mend_rounds; ++k) {
+            mesh.read(tracker);
+            read_points();
+            std::vector<Pair> edges;
+            for (const auto &e : mesh.crowded)
+                edges.push_back({mesh.id[e[0]], mesh.id[e[1]]});
+            bool any = false;
+            for (const Pair &e : edges)
+                any |= is_crowded(e) && mend_at(e, k % 2);
+            any |= pinch_fans();
+            told.crowded_left = static_cast<long>(edges.size());
+            if (edges.empty() || (!any && k % 2))
+                break;
+        }
+    }
+
+private:
+    using Id = std::uint32_t;
+    using Pair = std::pair<Id, Id>;
+    struct Ring { Id a, b, c, d; };  // an edge and the corners opposite it: faces a b c and b a d
+    struct Match { double far; Id a, b, e, f; };
+    struct Fold {
+        double far;
+        Id a, b;
+        bool operator<(const Fold &o) const { return std::tie(far, a, b) > std::tie(o.far, o.a, o.b); }
+    };
+
+    topo_tracker &tracker;
+    const Merging by;
+    const double h, gap, reach;            // in grid units
+    Mesh mesh;                             // as it was when the call began
+    std::unordered_map<Id, Point> at;      // where each vertex stands
+    std::priority_queue<Fold> queue;       // the nearest first
+    std::map<Pair, int> tried;             // how often closing a fold over this edge was refused
+    std::unordered_map<Id, std::set<Id>> near; // the vertices within `apart` edges of one, as long as nothing is joined
+
+    // ---- what the surface is around a place ----
+
+    void read_points()
+    {
+        at.clear();
+        for (const topo_vertex &v : tracker.vertices())
+            at[v.id] = {double(v.x), double(v.y), double(v.z)};
+    }
+    std::set<Id> around(Id v)
+    {
+        std::set<Id> s;
+        for (const topo_face &f : tracker.star(v))
+            s.insert({f.a, f.b, f.c});
+        return s.erase(v), s;
+    }
+    // Whether an edge has just two faces, which run opposite ways.
+    bool ring(Id a, Id b, Ring &r)
+    {
+        const std::vector<topo_face> faces = tracker.beside(a, b);
+        r = {a, b, 0, 0};
+        for (const topo_face &f : faces)
+            for (const auto &k : {std::array<Id, 3>{f.a, f.b, f.c}, {f.b, f.c, f.a}, {f.c, f.a, f.b}}) {
+                if (k[0] == a && k[1] == b)
+                    r.c = k[2];
+                if (k[0] == b && k[1] == a)
+                    r.d = k[2];
+            }
+        return faces.size() == 2 && r.c && r.d && r.c != r.d;
+    }
+    // 2 where an edge at v is non-manifold, else 1 where its faces are more than one fan, else 0.
+    int state(Id v)
+    {
+        std::map<Id, int> sides;
+        std::map<Id, Id> up;
+        const auto root = [&](Id i) {
+            while (up[i] != i)
+                i = up[i];
+            return i;
+        };
+        for (const topo_face &f : tracker.star(v)) {
+            const Id p = f.a == v ? f.b : f.b == v ? f.c : f.a, q = f.a == v ? f.c : f.b == v ? f.a : f.b;
+            ++sides[p], ++sides[q], up.try_emplace(p, p), up.try_emplace(q, q);
+            up[root(p)] = root(q);
+        }
+        std::set<Id> roots;
+        for (const auto &[other, count] : sides) {
+            if (count > 2)
+                return 2;
+            roots.insert(root(other));
+        }
+        return roots.size() > 1;
+    }
+
+    // ---- edits in a group ----
+
+    // The answer of the last edit that was asked: a list ends at the first that is refused, since a group is open.
+    topo_answered ask(const std::vector<topo_asked> &list) { return tracker.edit_each(list).back(); }
+    topo_answered ask(Id kind, Id a, Id b, Id c = 0, Id d = 0) { return tracker.edit({kind, a, b, c, d}); }
+    bool undo(long &count) { return tracker.undo(), ++count, false; }
+    // In an open group: collapses an edge after a list of edits, and pinches what is left where it has two fans. `left` gets the vertices
+    // around which folds may be new. Where it is false the group has to be taken back, and `why` counts that.
+    bool collapse(std::vector<topo_asked> list, Id a, Id b, std::vector<Id> &left, long *&why)
+    {
+        list.push_back({TOPO_COLLAPSED, a, b, 0, 0});
+        const topo_answered r = ask(list);
+        why = &told.undone_refused;
+        if (r.why)
+            return false;
+        at[r.a] = {double(r.x), double(r.y), double(r.z)}, left.push_back(r.a);
+        const int is = state(r.a);
+        if (is == 2)
+            return why = &told.undone_crowded, false;
+        if (is == 1) {
+            if (ask(TOPO_PINCHED, r.a, 0).why)
+                return false;
+            read_points(); // the copies are new
+            ++told.pinches;
+            for (const Id v : around(r.a)) // the copies' neighbours
+                left.push_back(v);
+        }
+        return true;
+    }
+
+    // ---- grow ----
+
+    // Whether the two faces at an edge face each other, and are near.
+    bool is_fold(const Ring &r)
+    {
+        const Point &a = at[r.a], &b = at[r.b], &c = at[r.c], &d = at[r.d];
+        if (norm(c - d) > reach)
+            return false;
+        const Point n = area_vector(a, b, c), m = area_vector(b, a, d);
+        const double over = dot(n, d - a), size = norm(n), other = norm(m);
+        if (!(size > 0) || !(other > 0) || cosine(n, m) > by.folded || over <= 0)
+            return false;
+        return std::min(over / size, dot(m, c - a) / other) <= gap;
+    }
+    void push(Id a, Id b)
+    {
+        Ring r;
+        if (ring(std::min(a, b), std::max(a, b), r) && is_fold(r))
+            queue.push({norm(at[r.c] - at[r.d]), r.a, r.b});
+    }
+    void push_around(Id v)
+    {
+        if (!at.count(v))
+            return;
+        for (const Id w : around(v)) {
+            push(v, w);
+            for (const Id u : around(w))
+                if (u != v)
+                    push(w, u);
+        }
+    }
+    // Whether faces that stay would turn over, were c and d to go to their middle.
+    bool turns(Id c, Id d)
+    {
+        const Point mid = 0.5 * (at[c] + at[d]);
+        for (const Id v : {c, d})
+            for (const topo_face &f : tracker.star(v)) {
+                const Id k[3] = {f.a, f.b, f.c};
+                if (std::count(k, k + 3, c) && std::count(k, k + 3, d))
+                    continue;
+                Point p[3];
+                for (int i = 0; i < 3; ++i)
+                    p[i] = k[i] == v ? mid : at[k[i]];
+                const Point before = area_vector(at[k[0]], at[k[1]], at[k[2]]), after = area_vector(p[0], p[1], p[2]);
+                if (norm(before) > 0 && cosine(before, after) < 0.1)
+                    return true;
+            }
+        return false;
+    }
+    void close_fold(const Ring &r)
+    {
+        int &refused = tried[std::minmax(r.c, r.d)];
+        if (refused > 1)
+            return;
+        if (turns(r.c, r.d)) {
+            ++refused, ++told.turning;
+            return;
+        }
+        const Point c = at[r.c], d = at[r.d];
+        std::vector<topo_asked> list;
+        if (!around(r.c).count(r.d))
+            list.push_back({TOPO_FLIPPED, r.a, r.b, 0, 0});
+        std::vector<Id> left;
+        long *why = nullptr;
+        const long pinches = told.pinches;
+        tracker.open();
+        if (!collapse(list, r.c, r.d, left, why)) {
+            undo(*why), told.pinches = pinches;
+            at[r.c] = c, at[r.d] = d, ++refused;
+            return;
+        }
+        tracker.close(), ++told.folds_closed;
+        for (const Id v : left)
+            push_around(v);
+    }
+    void grow()
+    {
+        while (!queue.empty()) {
+            const Fold f = queue.top();
+            queue.pop();
+            Ring r;
+            if (ring(f.a, f.b, r) && is_fold(r))
+                close_fold(r);
+        }
+    }
+
+    // ---- seed ----
+
+    const std::set<Id> &vertices_near(Id v)
+    {
+        std::set<Id> &seen = near[v];
+        std::vector<Id> rim{v};
+        if (!seen.insert(v).second)
+            return seen;
+        for (int k = 0; k < by.apart; ++k) {
+            std::vector<Id> next;
+            for (const Id u : rim)
+                for (const Id w : around(u))
+                    if (seen.insert(w).second)
+                        next.push_back(w);
+            rim.swap(next);
+        }
+        return seen;
+    }
+    bool seed(Id a, Id b, Id e, Id f)
+    {
+        Ring r, s;
+        if (!ring(a, b, r) || !ring(e, f, s) || vertices_near(a).count(e) || vertices_near(a).count(f))
+            return false;
+        const Id p[4] = {b, r.c, a, r.d}, q[4] = {f, s.d, e, s.c}; // the rims of the tunnel, as the zip joins them
+        std::vector<Id> left;
+        long *why = &told.undone_refused;
+        const long pinches = told.pinches;
+        tracker.open();
+        const topo_answered zipped = ask(TOPO_ZIPPED, a, b, e, f);
+        bool good = !zipped.why;
+        for (int i = 0; good && i < 4; ++i)
+            good = collapse({}, p[i], q[(i + zipped.b) % 4], left, why);
+        if (!good)
+            return undo(*why), told.pinches = pinches, read_points(), false;
+        tracker.close(), near.clear(), ++told.seeds;
+        for (const Id v : left)
+            push_around(v);
+        return true;
+    }
+    // The pairs of edges that face each other across a gap, the nearest first.
+    std::vector<Match> matches()
+    {
+        struct Side { Point mid, normal; Id a, b; };
+        std::vector<Side> row; // by x
+        for (const Mesh::Edge &e : mesh.edges) {
+            const Point n = mesh.normal(e.left), m = mesh.normal(e.right);
+            if (norm(n) > 0 && norm(m) > 0)
+                row.push_back({0.5 * (mesh.points[e.a] + mesh.points[e.b]), 0.5 * ((1 / norm(n)) * n + (1 / norm(m)) * m), mesh.id[e.a],
+                    mesh.id[e.b]});
+        }
+        const auto by_x = [](const Side &s, const Side &u) { return std::tie(s.mid[0], s.a, s.b) < std::tie(u.mid[0], u.a, u.b); };
+        std::sort(row.begin(), row.end(), by_x);
+        std::vector<Match> found;
+        for (std::size_t i = 0; i < row.size(); ++i)
+            for (std::size_t j = i + 1; j < row.size() && row[j].mid[0] - row[i].mid[0] <= gap; ++j) {
+                const Side &s = row[i], &u = row[j];
+                const Point d = u.mid - s.mid;
+                // each lies on the outer side of the other
+                if (dot(d, d) > gap * gap || dot(s.normal, u.normal) > by.facing || dot(d, s.normal) <= 0 || dot(d, u.normal) >= 0)
+                    continue;
+                const auto a = at.find(s.a), b = at.find(s.b), e = at.find(u.a), f = at.find(u.b);
+                if (a == at.end() || b == at.end() || e == at.end() || f == at.end())
+                    continue;
+                const auto far = [](const auto &p, const auto &q) { return norm(p->second - q->second); };
+                const double ends = std::min(far(a, e) + far(b, f), far(a, f) + far(b, e));
+                found.push_back({norm(d) + ends, s.a, s.b, u.a, u.b});
+            }
+        const auto by_far = [](const Match &p, const Match &q) {
+            return std::tie(p.far, p.a, p.b, p.e, p.f) < std::tie(q.far, q.a, q.b, q.e, q.f);
+        };
+        std::sort(found.begin(), found.end(), by_far);
+        return found;
+    }
+
+    // ---- mend ----
+
+    bool is_crowded(const Pair &e) { return tracker.beside(e.first, e.second).size() > 2; }
+    int crowd(const std::set<Pair> &edges)
+    {
+        int count = 0;
+        for (const Pair &e : edges)
+            count += is_crowded(e);
+        return count;
+    }
+    std::set<Pair> edges_at(Id a, Id b)
+    {
+        std::set<Pair> s;
+        for (const Id v : {a, b})
+            for (const topo_face &f : tracker.star(v))
+                s.insert(std::minmax(f.a, f.b)), s.insert(std::minmax(f.b, f.c)), s.insert(std::minmax(f.c, f.a));
+        return s;
+    }
+    // Collapses the edge where that leaves fewer non-manifold edges than there were and `more`.
+    bool mend_by(const Pair &e, int more)
+    {
+        const std::set<Pair> was = edges_at(e.first, e.second);
+        const int before = crowd(was);
+        tracker.open();
+        const topo_answered r = ask(TOPO_COLLAPSED, e.first, e.second);
+        if (r.why)
+            return undo(told.undone_refused);
+        std::set<Pair> now = edges_at(r.a, r.a);
+        for (const Pair &w : was)
+            if (w.first != e.first && w.first != e.second && w.second != e.first && w.second != e.second)
+                now.insert(w);
+        if (crowd(now) >= before + more)
+            return undo(told.undone_no_fewer);
+        tracker.close(), ++told.mended;
+        at[r.a] = {double(r.x), double(r.y), double(r.z)};
+        return true;
+    }
+    // By itself, or else by the shortest edge around it.
+    bool mend_at(const Pair &e, int more)
+    {
+        if (mend_by(e, more))
+            return true;
+        std::vector<std::pair<double, Pair>> others;
+        for (const Pair &q : edges_at(e.first, e.second))
+            if (const double far = norm(at[q.first] - at[q.second]); far < reach)
+                others.push_back({far, q});
+        std::sort(others.begin(), others.end());
+        return std::any_of(others.begin(), others.end(), [&](const std::pair<double, Pair> &q) { return mend_by(q.second, more); });
+    }
+    bool pinch_fans()
+    {
+        bool any = false;
+        for (const topo_vertex &v : tracker.vertices())
+            if (state(v.id) == 1 && !ask(TOPO_PINCHED, v.id, 0).why)
+                any = true, ++told.pinches;
+        return any;
+    }
+};
+
+// Joins the sheets that face each other across thin gaps, and tells what was done.
+inline Merged merge(topo_tracker &tracker, const Merging &by)
+{
+    Merger merger(tracker, by);
+    return merger.merge(), merger.told;
+}
+// Takes non-manifold edges out, and tells what was done.
+inline Merged mend(topo_tracker &tracker, const Merging &by)
+{
+    Merger merger(tracker, by);
+    return merger.mend(), merger.told;
+}
+} // namespace topo_mesh
+
+#endif
