@@ -1,0 +1,156 @@
+#!/usr/bin/env python3
+"""Worked cases of `library/merge.py`: bodies that stand near one another become one, and non-manifold edges go.
+
+    checks/merge_cases.py [LIBRARY]
+
+LIBRARY is library/out/libtopo.so, if it is left out. What the surface is afterwards is counted here: bodies, the Euler number, non-manifold edges, and
+faces that are left between the bodies. Where numpy is there, all is done once without it and once with it. Prints how many cases hold, or which
+do not.
+"""
+
+import itertools
+import math
+import os
+import sys
+
+ROOT = os.path.dirname(os.path.dirname(os.path.abspath(__file__)))
+sys.path[:0] = [os.path.join(ROOT, "library"), os.path.join(ROOT, "checks")]
+sys.dont_write_bytecode = True
+import improve  # noqa: E402
+import merge  # noqa: E402
+import topo  # noqa: E402
+from improve_cases import H, ball, edges_of, read  # noqa: E402
+
+LIBRARY = sys.argv[1] if len(sys.argv) > 1 else None
+held, failed = 0, []
+
+
+def holds(what, so):
+    global held
+    held += bool(so)
+    failed.extend([] if so else [what])
+
+
+def bodies(shapes):
+    """One list of points and one of faces, of several shapes, each moved by a shift."""
+    points, faces = [], []
+    for (its, corners), by in shapes:
+        faces += [tuple(v + len(points) for v in face) for face in corners]
+        points += [tuple(x + y for x, y in zip(p, by)) for p in its]
+    return topo.Tracker(points, faces, library=LIBRARY)
+
+
+def slab(wide, high):
+    """A box of squares of the side H, each cut in two the other way than its neighbours; in the middle of its bottom is 0 0 0."""
+    size, rows, faces = (wide, wide, high), {}, []
+    for axis, side in itertools.product(range(3), (0, 1)):
+        n, m = (size[k] for k in range(3) if k != axis)
+        for i, j in itertools.product(range(n), range(m)):
+            square = [list(q) for q in ((i, j), (i + 1, j), (i + 1, j + 1), (i, j + 1))]
+            for q in square:
+                q.insert(axis, side * size[axis])
+            square = square if (side > 0) == (axis != 1) else square[::-1]
+            a, b, c, d = (rows.setdefault(tuple(q), len(rows) + 1) for q in square)
+            faces += [(a, b, c), (a, c, d)] if (i + j) % 2 else [(a, b, d), (b, c, d)]
+    return [(x * H - wide * H // 2, y * H - wide * H // 2, z * H) for x, y, z in rows], faces
+
+
+def figures(surface):
+    """How many bodies, the Euler number, and how many non-manifold edges."""
+    points, faces = mesh = read(surface)
+    edges, up = edges_of(mesh), {v: v for v in points}
+
+    def root(v):
+        while up[v] != v:
+            v = up[v]
+        return v
+
+    for a, b in edges:
+        up[root(a)] = root(b)
+    sides = [tuple(sorted(pair)) for face in faces.values() for pair in itertools.combinations(face, 2)]
+    return len({root(v) for v in points}), len(points) - len(edges) + len(faces), sum(sides.count(edge) > 2 for edge in set(edges)) if len(sides) < 4000 else crowded(sides)
+
+
+def crowded(sides):
+    counts = {}
+    for side in sides:
+        counts[side] = counts.get(side, 0) + 1
+    return sum(count > 2 for count in counts.values())
+
+
+def between(surface, inside):
+    """How many faces have their middle in a place."""
+    points, faces = read(surface)
+    return sum(inside([sum(points[v][k] for v in face) / 3 for k in range(3)]) for face in faces.values())
+
+
+def merged(surface, calls=1, **words):
+    told = merge.Merged()
+    for _ in range(calls):
+        more = merge.merge(surface, merge.Merging(H, **words))
+        told = merge.Merged(*(a + b for a, b in zip(vars(told).values(), vars(more).values())))
+    return told
+
+
+def two_balls():
+    shape, radius = ball(4), H * 4 / 1.17
+    far = 2 * radius + 0.4 * H
+    for by in ((round(far), 31, 17), (0, 43, round(far)), tuple(round(far / math.sqrt(3)) for _ in range(3))):
+        with bodies([(shape, (0, 0, 0)), (shape, by)]) as surface:
+            faces = len(surface.faces())
+            told = merged(surface)
+            holds(f"two balls, {by}: {figures(surface)}, {told}", figures(surface) == (1, 2, 0) and told.seeds == 1 and told.folds_closed > 0)
+            holds(f"two balls, {by}: faces go", len(surface.faces()) < faces)
+            last = read(surface)
+            holds(f"two balls, {by}: then nothing is left to merge", merged(surface).seeds == 0 and read(surface) == last)
+    with bodies([(shape, (0, 0, 0)), (shape, (round(far), 31, 17))]) as surface:
+        last = read(surface)
+        holds("two balls farther apart than the reach", merged(surface, merge_proximity=0.3) == merge.Merged() and read(surface) == last)
+    with bodies([(shape, (0, 0, 0))]) as surface:
+        holds("a ball alone", merged(surface) == merge.Merged())
+
+
+def eight_balls():
+    """At the corners of a cube: twelve contacts join eight bodies, so the surface has the Euler number 2 * 8 - 2 * 12."""
+    shape, far = ball(3), round(2 * H * 3 / 1.17 + 0.3 * H)
+    places = [tuple(far * (k >> axis & 1) + (13 + 4 * axis) * k for axis in range(3)) for k in range(8)]
+    with bodies([(shape, by) for by in places]) as surface:
+        told = merged(surface)
+        holds(f"eight balls: {figures(surface)}, {told}", figures(surface) == (1, -8, 0) and told.seeds == 12)
+
+
+def slabs():
+    """Two slabs one above the other, at rest: one body, and nothing between."""
+    for gap, by in ((0.2, 0.0), (0.5, 0.3), (1.0, 0.7)):
+        shift = round(by * H), round(0.6 * by * H), round((2 + gap) * H)
+        with bodies([(slab(6, 2), (0, 0, 0)), (slab(6, 2), shift)]) as surface:
+            told = merged(surface, 3)
+            left = between(surface, lambda p: max(abs(p[0]), abs(p[1])) < 1.5 * H and abs(p[2] - (2 + gap / 2) * H) < 0.9 * H)
+            holds(f"slabs, gap {gap}, shift {by}: {figures(surface)}, {left} between, {told}", figures(surface) == (1, 2, 0) and left == 0)
+
+
+def mended():
+    """What a pass of zips leaves: its non-manifold edges go."""
+    shape, far = ball(4), 2 * H * 4 / 1.17 + 0.1 * H
+    with bodies([(shape, (0, 0, 0)), (shape, (round(far), 31, 17))]) as surface:
+        surface.zip(H)
+        surface.pinch()
+        before = figures(surface)
+        told = merge.mend(surface, merge.Merging(H))
+        holds(f"behind zips: {before}, then {figures(surface)}, {told}", before[2] > 0 and figures(surface)[2] == 0 == told.crowded_left and told.mended > 0)
+        with bodies([(shape, (0, 0, 0))]) as other:
+            holds("a ball has none", merge.mend(other, merge.Merging(H)) == merge.Merged())
+
+
+def main():
+    found = improve.numpy
+    for numpy in (None, found) if found else (None,):
+        improve.numpy = topo.numpy = merge.numpy = numpy
+        for case in (two_balls, eight_balls, slabs, mended):
+            case()
+    print("".join(f"no: {what}\n" for what in failed) + f"{held} hold, {len(failed)} do not; {'with and ' if found else ''}without numpy")
+    sys.exit(bool(failed))
+
+
+if __name__ == "__main__":
+    main()
