@@ -3,9 +3,9 @@
 
     checks/improve_cases.py [LIBRARY]
 
-LIBRARY is library/out/libtopo.so, if it is left out. A figure that a guard looks at is measured beside it, by a tracker that makes the edit: the
-guard has to let the edit pass where its limit is a little above the figure, and to hold it back where it is a little below. Where numpy is
-there, all is done once without it and once with it. Prints how many cases hold, or which do not.
+LIBRARY is library/out/libtopo.so, if it is left out. A figure that a guard looks at is measured beside it, by a tracker that makes the
+edit: the guard has to let the edit pass where its limit is a little above the figure, and to hold it back where it is a little below.
+Where numpy is there, all is done once without it and once with it. Prints how many cases hold, or which do not.
 """
 
 import collections
@@ -23,9 +23,10 @@ import topo  # noqa: E402
 
 LIBRARY = sys.argv[1] if len(sys.argv) > 1 else None
 H = 1000  # the mean edge, in units of the grid
-OFF = dict(min_edge_length=0, max_edge_length=1e4, max_volume_change=1e9, min_triangle_angle=0, max_triangle_angle=180, needle_max_length=0,
-           edge_flip_min_cosine=-2, edge_flip_max_volume_change=1e9, collapse_min_angle=0, collapse_max_turn=-2, collapse_min_cosine=-2,
-           fold_cosine=-2, restore_volume=False)
+# nothing is wanted, and nothing held back
+OFF = dict(min_edge_length=0, max_edge_length=1e4, max_volume_change=1e9, min_triangle_angle=0, max_triangle_angle=180,
+           needle_max_length=0, edge_flip_min_cosine=-2, edge_flip_max_volume_change=1e9, collapse_min_angle=0, collapse_max_turn=-2,
+           collapse_min_cosine=-2, fold_cosine=-2, restore_volume=False)
 GOLD = (1 + math.sqrt(5)) / 2
 CORNERS = [(-1, GOLD, 0), (1, GOLD, 0), (-1, -GOLD, 0), (1, -GOLD, 0), (0, -1, GOLD), (0, 1, GOLD), (0, -1, -GOLD), (0, 1, -GOLD),
            (GOLD, 0, -1), (GOLD, 0, 1), (-GOLD, 0, -1), (-GOLD, 0, 1)]
@@ -44,7 +45,8 @@ def holds(what, so):
 def ball(parts, bump=0.0, seed=0):
     """A bumpy ball whose mean edge is about H: an icosahedron, each edge cut in parts; points, and faces from 1."""
     chance, places, faces, radius = random.Random(seed), {}, [], H * parts / 1.17
-    sides = [s for s in itertools.combinations(range(12), 3) if all(abs(math.dist(CORNERS[p], CORNERS[q]) - 2) < 1e-9 for p, q in itertools.combinations(s, 2))]
+    near = lambda p, q: abs(math.dist(CORNERS[p], CORNERS[q]) - 2) < 1e-9
+    sides = [(p, q, r) for p, q, r in itertools.combinations(range(12), 3) if near(p, q) and near(q, r) and near(p, r)]
 
     def at(corners, i, j):
         a, b, c = (CORNERS[v] for v in corners)
@@ -105,6 +107,12 @@ def corner_angles(mesh, face):
     return [math.degrees(math.acos((q * q + r * r - p * p) / (2 * q * r))) for p, q, r in ((a, b, c), (b, c, a), (c, a, b))]
 
 
+def corners_of(mesh):
+    """The angle of each corner of all faces, with the edge opposite it."""
+    rows = [(face, i, angle) for face in mesh[1].values() for i, angle in enumerate(corner_angles(mesh, face))]
+    return [(angle, tuple(sorted((face[i - 2], face[i - 1])))) for face, i, angle in rows]
+
+
 def star(mesh, *vertices):
     return {f: face for f, face in mesh[1].items() if set(face) & set(vertices)}
 
@@ -150,7 +158,7 @@ def twin(surface, *edit):
 
 def collapses(seed):
     """The shortest edge of a bumpy ball alone is short: each guard at its figure."""
-    with tracker(*ball(2, 0.16, seed)) as surface:
+    with tracker(*ball(2, 0.16 if seed % 2 else 0.3, seed)) as surface:
         before = read(surface)
         edges = sorted(edges_of(before), key=lambda edge: length(before, edge))
         (a, b), short = edges[0], (length(before, edges[0]) + length(before, edges[1])) / 2
@@ -213,15 +221,15 @@ def rings():
     with tracker(*ball(2)) as surface:
         for v in surface.vertices():
             surface.solid(v)
-        passes, edges = improver(surface, min_edge_length=10), len(edges_of(read(surface)))
-        holds("between solid vertices none is collapsed", not passes.collapse_short() and passes.told.collapses_held == edges and edges == 120)
+        passes = improver(surface, min_edge_length=10)
+        holds("between solid vertices none is collapsed", not passes.collapse_short() and passes.told.collapses_held == 120)
 
 
 def needles(seed):
     """The edge opposite the least angle goes, where the angle is below its limit and the edge short enough."""
     with tracker(*ball(2, 0.16, seed)) as surface:
         before = read(surface)
-        angle, edge = min((angle, tuple(sorted((face[i - 2], face[i - 1])))) for face in before[1].values() for i, angle in enumerate(corner_angles(before, face)))
+        angle, edge = min(corners_of(before))
         for under, size, wanted in ((1e-6, 1e-9, 1), (-1e-6, 1e-9, 0), (1e-6, -1e-9, 0)):
             with topo.Tracker(surface.leave(), library=LIBRARY) as other:
                 passes = improver(other, min_triangle_angle=angle + under, needle_max_length=length(before, edge) + size)
@@ -234,7 +242,7 @@ def caps(seed):
     """The edge opposite the greatest angle is split, where the angle is above its limit and the edge long enough."""
     with tracker(*ball(2, 0.16, seed)) as surface:
         before = read(surface)
-        angle, edge = max((angle, tuple(sorted((face[i - 2], face[i - 1])))) for face in before[1].values() for i, angle in enumerate(corner_angles(before, face)))
+        angle, edge = max(corners_of(before))
         for over, size, wanted in ((-1e-6, -1e-9, 1), (1e-6, -1e-9, 0), (-1e-6, 1e-9, 0)):
             with topo.Tracker(surface.leave(), library=LIBRARY) as other:
                 passes = improver(other, max_triangle_angle=angle + over, cap_min_length=length(before, edge) + size)
@@ -252,11 +260,13 @@ def chosen(seed):
         rings = [{v for face in star(before, *edge).values() for v in face} for edge in done]
         holds(f"ball {seed}: {len(done)} collapses apart from one another", len(done) > 3 and passes.told.collapses == len(done)
               and all(not set(done[i]) & rings[j] for i, j in itertools.permutations(range(len(done)), 2)))
-        holds(f"ball {seed}: the shortest goes first", min(edges_of(before), key=lambda edge: length(before, edge)) in [tuple(sorted(e)) for e in done])
+        shortest = min(edges_of(before), key=lambda edge: length(before, edge))
+        holds(f"ball {seed}: the shortest goes first", shortest in [tuple(sorted(edge)) for edge in done])
 
 
 def folds():
-    """A vertex is carried over the edge opposite it, so that a face is folded over its neighbour: that is mended, whatever other guards say."""
+    """A vertex is carried over the edge opposite it, so that a face is folded over its neighbour: that is mended, whatever other guards
+    say."""
     points, faces = ball(3)
     a, b, c = faces[len(faces) // 2]
     d = next(v for face in faces if {a, b} < set(face) and c not in face for v in set(face) - {a, b})
@@ -278,33 +288,51 @@ def folds():
 # ---- flips
 
 
-def flips(seed):
-    """An edge is flipped to the worse: each guard at its figure."""
-    with tracker(*ball(2, 0.03, seed)) as surface:
-        good = read(surface)
-        edge = random.Random(seed).choice(edges_of(good))
-        a, b = edge
-        c, d = (next(v for v in face if v not in edge) for face in good[1].values() if set(edge) < set(face))
-        holds(f"ball {seed}: {edge} is flipped", surface.ask("flip", a, b).why == "")
-        before = read(surface)
-        with topo.Tracker(surface.leave(), library=LIBRARY) as other:
-            passes = improver(other, edge_flip_max_volume_change=-1)
-            passes.flip()
-            if passes.told.flips_held != 1:
-                return
-        seen["flips"] += 1
-        changed = abs(six_volume(good) - six_volume(before)) / 6 / H ** 3
-        bends = [between(*(normal(mesh, face) for face in mesh[1].values() if set(ends) < set(face))) for mesh, ends in ((before, (c, d)), (good, (a, b)))]
-        seen["flips, bent before" if bends[0] < bends[1] else "flips, bent after"] += 1
-        for what, passes, words in (("no guard", True, {}), ("the volume", True, dict(edge_flip_max_volume_change=changed * 1.0001)),
-                                    ("more than the volume", False, dict(edge_flip_max_volume_change=changed * 0.9999)),
-                                    ("the bend", True, dict(edge_flip_min_cosine=min(bends) - 1e-9)),
-                                    ("a lesser bend", False, dict(edge_flip_min_cosine=min(bends) + 1e-9))):
+def flipped_balls(seed):
+    """An edge of a bumpy ball is flipped to the worse, the first at which that edge alone then wants a flip."""
+    points, faces = ball(2, 0.03, seed)
+    with tracker(points, faces) as surface:
+        edges = diagonals(read(surface))
+    for (a, b), (c, d) in edges[:20] if seed % 2 else edges[60:80]:
+        with tracker(points, faces) as surface:
+            holds(f"ball {seed}: {a} {b} is flipped", surface.ask("flip", a, b).why == "")
             with topo.Tracker(surface.leave(), library=LIBRARY) as other:
-                told = improver(other, **words)
-                holds(f"ball {seed}, {edge}, {what}: {told.told}", told.flip() == passes and (told.told.flips, told.told.flips_held) == (passes, not passes))
-                now = {tuple(sorted(pair)) for pair in edges_of(read(other))}
-                holds(f"ball {seed}, {edge}, {what}: the edge", (edge in now) == passes and (tuple(sorted((c, d))) in now) != passes)
+                passes = improver(other, edge_flip_max_volume_change=-1)
+                passes.flip()
+            if passes.told.flips_held == 1:
+                flips(surface, f"ball {seed}", (c, d), (a, b))
+                break
+
+
+def diagonals(mesh):
+    """Each edge, and that which a flip would make of it: first those at which the flip lessens the bend most."""
+    opposite = {(face[i - 2], face[i - 1]): face[i] for face in mesh[1].values() for i in range(3)}
+    rows = []
+    for a, b in edges_of(mesh):
+        c, d = opposite[a, b], opposite[b, a]
+        bends = [between(normal(mesh, one), normal(mesh, other)) for one, other in (((a, b, c), (b, a, d)), ((a, d, c), (d, b, c)))]
+        rows.append((bends[0] - bends[1], (a, b), (c, d)))
+    return [row[1:] for row in sorted(rows)]
+
+
+def flips(surface, name, edge, new):
+    """An edge that wants a flip to a new one, alone: each guard at its figure."""
+    before, after = read(surface), twin(surface, "flip", *edge)
+    changed = abs(six_volume(after) - six_volume(before)) / 6 / H ** 3
+    beside = lambda mesh, ends: (normal(mesh, face) for face in mesh[1].values() if set(ends) < set(face))
+    bends = between(*beside(before, edge)), between(*beside(after, new))
+    seen["flips, bent before" if bends[0] < bends[1] else "flips, bent after"] += 1
+    for what, passes, words in (("no guard", True, {}), ("the volume", True, dict(edge_flip_max_volume_change=changed * 1.0001)),
+                                ("more than the volume", False, dict(edge_flip_max_volume_change=changed * 0.9999)),
+                                ("the bend", True, dict(edge_flip_min_cosine=min(bends) - 1e-9)),
+                                ("a lesser bend", False, dict(edge_flip_min_cosine=min(bends) + 1e-9))):
+        with topo.Tracker(surface.leave(), library=LIBRARY) as other:
+            told = improver(other, **words)
+            done = told.flip()
+            counts = told.told.flips, told.told.flips_held
+            holds(f"{name}, {edge}, {what}: {counts}", done == passes and counts == (int(passes), int(not passes)))
+            now = edges_of(read(other))
+            holds(f"{name}, {edge}, {what}: the edge", (tuple(sorted(new)) in now) == passes and (tuple(sorted(edge)) in now) != passes)
 
 
 def no_flips():
@@ -322,8 +350,8 @@ def no_flips():
 
 def necks():
     """Two pyramids that hang together by a triangle of short edges."""
-    points = [(0, 0, 2000), (0, 0, -2000)] + [(round(r * math.cos(t)), round(r * math.sin(t)), z) for z, r in ((800, 1500), (0, 100), (-800, 1500)) for t in
-                                            (2 * math.pi * k / 3 for k in range(3))]
+    points, turns = [(0, 0, 2000), (0, 0, -2000)], [2 * math.pi * k / 3 for k in range(3)]
+    points += [(round(r * math.cos(t)), round(r * math.sin(t)), z) for z, r in ((800, 1500), (0, 100), (-800, 1500)) for t in turns]
     faces = [(1, 3 + k, 3 + (k + 1) % 3) for k in range(3)] + [(2, 9 + (k + 1) % 3, 9 + k) for k in range(3)]
     for low in (3, 6):
         for k in range(3):
@@ -331,21 +359,23 @@ def necks():
             faces += [(p, r, q), (q, r, s)]
     for words, parts in ((dict(allow_topology_changes=True), 2), ({}, 1), (dict(allow_topology_changes=True, min_edge_length=0.1), 1)):
         with tracker(points, faces) as surface:
-            passes = improver(surface, **{"min_edge_length": 0.5, "max_edge_length": 3.5, "collapse_rounds": 0, "flip_rounds": 0, **words})
+            passes = improver(surface, **{**dict(min_edge_length=0.5, max_edge_length=3.5, collapse_rounds=0, flip_rounds=0), **words})
             passes.improve()
             mesh = read(surface)
             euler = len(mesh[0]) - len(edges_of(mesh)) + len(mesh[1])
-            holds(f"a neck, {words}: Euler number {euler}, {passes.told}", euler == 2 * parts and (passes.told.necks, passes.told.necks_undone) == (parts - 1, 0))
+            counts = passes.told.necks, passes.told.necks_undone
+            holds(f"a neck, {words}: Euler number {euler}, {passes.told}", euler == 2 * parts and counts == (parts - 1, 0))
 
 
 def restored(seed):
-    """What a collapse took of the volume comes back with the next step, but for rounding; and by no more than the shift that is allowed."""
+    """What a collapse took of the volume comes back with the next step, but for rounding; by no more than the shift that is allowed."""
     for most in (10, 0.001):
         with tracker(*ball(2, 0.16, seed)) as surface:
             before = read(surface)
             edges = sorted(edges_of(before), key=lambda edge: length(before, edge))
             short = (length(before, edges[0]) + length(before, edges[1])) / 2
-            passes = improver(surface, min_edge_length=short, restore_volume=True, restore_max_shift=most, collapse_rounds=1, flip_rounds=0)
+            words = dict(restore_volume=True, restore_max_shift=most, collapse_rounds=1, flip_rounds=0)
+            passes = improver(surface, min_edge_length=short, **words)
             passes.improve()
             after = read(surface)
             holds(f"ball {seed}: one collapse", passes.told.collapses == 1 and passes.told.splits == 0)
@@ -410,15 +440,14 @@ def all_cases():
         needles(seed)
         caps(seed)
         restored(seed)
-    for seed in range(12):
-        flips(seed)
+        flipped_balls(seed)
     for case in (rings, folds, no_flips, necks):
         case()
     chosen(1)
     smoothing(1)
-    few = [what for what in ("no less an angle", "a lesser angle", "no more bend", "more bend", "flips, bent before", "flips, bent after", "volume taken")
-           if not seen[what]]
-    holds(f"of each kind of figure there is one: not of {few}; {dict(seen)}", not few and seen["flips"] >= 4)
+    kinds = "no less an angle", "a lesser angle", "no more bend", "more bend", "flips, bent before", "flips, bent after", "volume taken"
+    few = [what for what in kinds if not seen[what]]
+    holds(f"of each kind of figure there is one: not of {few}; {dict(seen)}", not few)
 
 
 def main():

@@ -3,11 +3,12 @@
 
     checks/merge_cases.py [LIBRARY]
 
-LIBRARY is library/out/libtopo.so, if it is left out. What the surface is afterwards is counted here: bodies, the Euler number, non-manifold edges, and
-faces that are left between the bodies. Where numpy is there, all is done once without it and once with it. Prints how many cases hold, or which
-do not.
+LIBRARY is library/out/libtopo.so, if it is left out. What the surface is afterwards is counted here: bodies, the Euler number,
+non-manifold edges, and faces that are left between the bodies. Where numpy is there, all is done once without it and once with it.
+Prints how many cases hold, or which do not.
 """
 
+import collections
 import itertools
 import math
 import os
@@ -41,7 +42,7 @@ def bodies(shapes):
 
 
 def slab(wide, high):
-    """A box of squares of the side H, each cut in two the other way than its neighbours; in the middle of its bottom is 0 0 0."""
+    """A box of squares of the side H, each cut in two; in the middle of its bottom is 0 0 0."""
     size, rows, faces = (wide, wide, high), {}, []
     for axis, side in itertools.product(range(3), (0, 1)):
         n, m = (size[k] for k in range(3) if k != axis)
@@ -51,7 +52,7 @@ def slab(wide, high):
                 q.insert(axis, side * size[axis])
             square = square if (side > 0) == (axis != 1) else square[::-1]
             a, b, c, d = (rows.setdefault(tuple(q), len(rows) + 1) for q in square)
-            faces += [(a, b, c), (a, c, d)] if (i + j) % 2 else [(a, b, d), (b, c, d)]
+            faces += [(a, b, c), (a, c, d)]
     return [(x * H - wide * H // 2, y * H - wide * H // 2, z * H) for x, y, z in rows], faces
 
 
@@ -67,15 +68,9 @@ def figures(surface):
 
     for a, b in edges:
         up[root(a)] = root(b)
-    sides = [tuple(sorted(pair)) for face in faces.values() for pair in itertools.combinations(face, 2)]
-    return len({root(v) for v in points}), len(points) - len(edges) + len(faces), sum(sides.count(edge) > 2 for edge in set(edges)) if len(sides) < 4000 else crowded(sides)
-
-
-def crowded(sides):
-    counts = {}
-    for side in sides:
-        counts[side] = counts.get(side, 0) + 1
-    return sum(count > 2 for count in counts.values())
+    faces_at = collections.Counter(tuple(sorted(pair)) for face in faces.values() for pair in itertools.combinations(face, 2))
+    crowded = sum(count > 2 for count in faces_at.values())
+    return len({root(v) for v in points}), len(points) - len(edges) + len(faces), crowded
 
 
 def between(surface, inside):
@@ -99,7 +94,8 @@ def two_balls():
         with bodies([(shape, (0, 0, 0)), (shape, by)]) as surface:
             faces = len(surface.faces())
             told = merged(surface)
-            holds(f"two balls, {by}: {figures(surface)}, {told}", figures(surface) == (1, 2, 0) and told.seeds == 1 and told.folds_closed > 0)
+            became = figures(surface)
+            holds(f"two balls, {by}: {became}, {told}", became == (1, 2, 0) and told.seeds == 1 and told.folds_closed > 0)
             holds(f"two balls, {by}: faces go", len(surface.faces()) < faces)
             last = read(surface)
             holds(f"two balls, {by}: then nothing is left to merge", merged(surface).seeds == 0 and read(surface) == last)
@@ -121,11 +117,11 @@ def eight_balls():
 
 def slabs():
     """Two slabs one above the other, at rest: one body, and nothing between."""
-    for gap, by in ((0.2, 0.0), (0.5, 0.3), (1.0, 0.7)):
-        shift = round(by * H), round(0.6 * by * H), round((2 + gap) * H)
-        with bodies([(slab(6, 2), (0, 0, 0)), (slab(6, 2), shift)]) as surface:
-            told = merged(surface, 3)
-            left = between(surface, lambda p: max(abs(p[0]), abs(p[1])) < 1.5 * H and abs(p[2] - (2 + gap / 2) * H) < 0.9 * H)
+    for gap, by in ((0.2, 0.7), (0.5, 0.3), (1.0, 0.3)):
+        shift = round(by * H), round(0.6 * by * H), round((4 + gap) * H)
+        with bodies([(slab(8, 4), (0, 0, 0)), (slab(8, 4), shift)]) as surface:
+            told = merged(surface, 2)
+            left = between(surface, lambda p: max(abs(p[0]), abs(p[1])) < 2.5 * H and abs(p[2] - (4 + gap / 2) * H) < 1.5 * H)
             holds(f"slabs, gap {gap}, shift {by}: {figures(surface)}, {left} between, {told}", figures(surface) == (1, 2, 0) and left == 0)
 
 
@@ -136,8 +132,8 @@ def mended():
         surface.zip(H)
         surface.pinch()
         before = figures(surface)
-        told = merge.mend(surface, merge.Merging(H))
-        holds(f"behind zips: {before}, then {figures(surface)}, {told}", before[2] > 0 and figures(surface)[2] == 0 == told.crowded_left and told.mended > 0)
+        told, after = merge.mend(surface, merge.Merging(H)), figures(surface)
+        holds(f"behind zips: {before}, then {after}, {told}", before[2] > 0 and after[2] == 0 == told.crowded_left and told.mended > 0)
         with bodies([(shape, (0, 0, 0))]) as other:
             holds("a ball has none", merge.mend(other, merge.Merging(H)) == merge.Merged())
 

@@ -1,6 +1,7 @@
-"""Keeps the mesh of a tracker good while a flow carries it: splits, collapses and flips under guards, repair of folds, and a smoothing that
-keeps the volume. It is no part of what is proved: what is good for the shape is decided here, and whether an edit is safe is decided by the
-tracker, edit by edit, so the surface stays closed and free of self-intersections whatever is asked. It takes the same decisions as improve.hpp.
+"""Keeps the mesh of a tracker good while a flow carries it: splits, collapses and flips under guards, repair of folds, and a smoothing
+that keeps the volume. It is no part of what is proved: what is good for the shape is decided here, and whether an edit is safe is
+decided by the tracker, edit by edit, so the surface stays closed and free of self-intersections whatever is asked. It takes the same
+decisions as improve.hpp.
 
     improver, mesh = improve.Improver(surface, improve.Improving(0.01)), improve.Mesh(surface)   # a mean edge of one centimetre
     each step:
@@ -11,10 +12,10 @@ tracker, edit by edit, so the surface stays closed and free of self-intersection
         improver.improve()
         mesh.read()
 
-A round reads points and faces, lists the edits that pass the guards, best first, such that none touches what another's guards looked at, and
-asks them in one call. Names that El Topo has too (min_edge_length, max_edge_length, max_volume_change, min_triangle_angle,
-max_triangle_angle) mean what they mean there, with all lengths and volumes as fractions of average_edge_length and its cube. Where numpy is
-there, it picks out which edges are looked at more closely, and decides nothing.
+A round reads points and faces, lists the edits that pass the guards, best first, such that none touches what another's guards looked
+at, and asks them in one call. Names that El Topo has too (min_edge_length, max_edge_length, max_volume_change, min_triangle_angle,
+max_triangle_angle) mean what they mean there, with all lengths and volumes as fractions of average_edge_length and its cube. Where
+numpy is there, it picks out which edges are looked at more closely, and decides nothing.
 """
 
 import dataclasses
@@ -319,9 +320,9 @@ class Improver:
         return bool(done)
 
     def cut_necks(self):
-        """Cuts each neck of three edges that are no face, where one of them is below min_edge_length and none above max_edge_length: collapses
-        that edge, and the two that are then one, and parts the vertex that is left. It is taken back where that is refused or leaves a
-        non-manifold edge."""
+        """Cuts each neck of three edges that are no face, where one of them is below min_edge_length and none above max_edge_length:
+        collapses that edge, and the two that are then one, and parts the vertex that is left. It is taken back where that is refused or
+        leaves a non-manifold edge."""
         self.read()
         mesh, necks, held = self.mesh, [], set()
         for i in self.near(lambda them: them.length / self.h < self.by.min_edge_length + SLACK):
@@ -394,7 +395,8 @@ class Improver:
         left = left if left.why else surface.ask("collapse", left.a, c)
         vertex = left.a
         left = left if left.why else surface.ask("pinch", vertex)
-        if left.why or any(len(surface.beside(vertex, v)) != 2 for _, *corners in surface.star(vertex).tolist() for v in corners if v != vertex):
+        around = {v for _, *corners in surface.star(vertex).tolist() for v in corners} - {vertex}
+        if left.why or any(len(surface.beside(vertex, v)) != 2 for v in around):
             surface.undo()
             return False
         return surface.close() == "kept"
@@ -458,7 +460,8 @@ class Improver:
         return tuple(float(math.floor((p + q) / 2)) for p, q in zip(a, b))
 
     def may_collapse(self, edge, by):
-        """Six times what its collapse wins of the volume, and whether the edge passes the guards; without the latter, the former says nothing."""
+        """Six times what its collapse wins of the volume, and whether the edge passes the guards; without the latter, the former says
+        nothing."""
         mesh = self.mesh
         if mesh.solid[edge.a] and mesh.solid[edge.b]:
             return 0.0, False
@@ -468,9 +471,10 @@ class Improver:
                 corners = mesh.corners(f)
                 before = area_vector(*corners)
                 was = min(was, least_angle(*corners))
+                if v == edge.a or f not in edge[4:]:
+                    volume -= dot(minus(corners[0], mid), before)  # of the tetrahedron between the face and what stands for it
                 if f in edge[4:]:
                     continue
-                volume -= dot(minus(corners[0], mid), before)  # the face that stands for it has mid as a corner
                 if any(w != v and w not in edge[2:4] and mesh.joined(edge.a, w) and mesh.joined(edge.b, w) for w in mesh.faces[f]):
                     return volume, False  # a ring of three edges, which would become a non-manifold edge
                 after = [mid if w == v else p for w, p in zip(mesh.faces[f], corners)]
@@ -521,10 +525,11 @@ def best_first(wishes):
 
 
 def slide(points, faces, weight, flat=0.7, solid=None):
-    """Smoothing. Vertices slide toward the mean of the middles of their faces, by area: one at a time, in the plane across the summed area of
-    their faces as these are by then, and by at most a fifth of the shortest edge. As the volume is linear in each vertex, with that sum as its
-    gradient, the volume stays, but for rounding. A vertex with a face that turns from the sum by more than `flat` stays, and so does a solid
-    one. It goes over where the vertices are to be, the targets of a step, a list of points by row, which is changed; `faces` are rows of them."""
+    """Smoothing. Vertices slide toward the mean of the middles of their faces, by area: one at a time, in the plane across the summed
+    area of their faces as these are by then, and by at most a fifth of the shortest edge. As the volume is linear in each vertex, with
+    that sum as its gradient, the volume stays, but for rounding. A vertex with a face that turns from the sum by more than `flat`
+    stays, and so does a solid one. It goes over where the vertices are to be, the targets of a step, a list of points by row, which is
+    changed; `faces` are rows of them."""
     for i, star in enumerate(stars_of(len(points), faces)):
         if solid and solid[i]:
             continue

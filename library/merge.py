@@ -1,6 +1,6 @@
-"""Joins two sheets of a tracker's surface that face each other across a thin gap, and mends non-manifold edges, by single edits. It is no part
-of what is proved: the tracker decides of each edit whether it is safe, so the surface stays closed and free of self-intersections. It takes the
-same decisions as merge.hpp.
+"""Joins two sheets of a tracker's surface that face each other across a thin gap, and mends non-manifold edges, by single edits. It is
+no part of what is proved: the tracker decides of each edit whether it is safe, so the surface stays closed and free of
+self-intersections. It takes the same decisions as merge.hpp.
 
     import merge
     merge.merge(surface, merge.Merging(0.01))     # a mean edge of one centimetre; after each step
@@ -8,15 +8,15 @@ same decisions as merge.hpp.
 A pass of zips joins two sheets by many tunnels beside one another and leaves the walls between them: the two sheets stay, as a sieve. Here
 there is one tunnel, and its walls are taken away:
 
-1. Seed. One zip of the nearest two edges that face each other through the gap; then the four walls of the tunnel are collapsed, one edge each,
-   so that its two rims are one. That rim is a fold: each of its edges has a face of either sheet, and the two face each other, as pages of a
-   book at its back.
-2. Grow. At a fold's edge ab, with the faces abc and bad, ab is flipped to cd, and cd is collapsed: the fold goes on by one triangle of each
-   sheet, the nearest first. Where cd is an edge already, it is only collapsed. Faces that come to lie on one another go with the collapse.
-3. Pinch. Where the hole's rim meets itself or another hole's, its vertex has two fans, and is parted: the holes become one.
+1. Seed. One zip of the nearest two edges that face each other through the gap; then the four walls of the tunnel are collapsed, one
+edge each, so that its two rims are one. That rim is a fold: each of its edges has a face of either sheet, and the two face each other,
+as pages of a book at its back. 2. Grow. At a fold's edge ab, with the faces abc and bad, ab is flipped to cd, and cd is collapsed: the
+fold goes on by one triangle of each sheet, the nearest first. Where cd is an edge already, it is only collapsed. Faces that come to lie
+on one another go with the collapse. 3. Pinch. Where the hole's rim meets itself or another hole's, its vertex has two fans, and is
+parted: the holes become one.
 
-Each of these is tried in a group, looked at, and taken back where it is refused or would leave a non-manifold edge; where it would turn a face
-over it is not tried. It ends, since each that is kept leaves fewer faces, and each that is not is tried but twice.
+Each of these is tried in a group, looked at, and taken back where it is refused or would leave a non-manifold edge; where it would turn
+a face over it is not tried. It ends, since each that is kept leaves fewer faces, and each that is not is tried but twice.
 """
 
 import collections
@@ -38,8 +38,8 @@ class Merging:
     """Lengths are fractions of average_edge_length, and cosines are between normals."""
 
     average_edge_length: float      # h, in the caller's unit
-    merge_proximity: float = 1.5    # sheets are joined across gaps up to this. It has to exceed what a gap closes in one step, or the sheets
-                                    # get between one another's vertices before they are joined
+    merge_proximity: float = 1.5    # sheets are joined across gaps up to this. It has to exceed what a gap closes in one step, or the
+                                    # sheets get between one another's vertices before they are joined
     fold_reach: float = 1.5         # in the fold of faces abc and bad, c may be as far from d
     facing: float = -0.5            # the two edges of a seed bound faces whose mean normals have at most this cosine
     folded: float = -0.2            # and the two faces of a fold this
@@ -71,8 +71,8 @@ class Merger:
 
     def __init__(self, surface, by):
         self.surface, self.by, self.told = surface, by, Merged()
-        # in grid units
-        self.gap, self.reach = (share * by.average_edge_length / surface.unit for share in (by.merge_proximity, by.fold_reach))
+        h = by.average_edge_length / surface.unit  # in grid units, as all lengths here
+        self.gap, self.reach = by.merge_proximity * h, by.fold_reach * h
         self.queue = []         # folds to close, the nearest first
         self.tried = collections.Counter()  # how often closing a fold over an edge was refused
         self.near = {}          # the vertices within `apart` edges of one, as long as nothing is joined
@@ -87,8 +87,8 @@ class Merger:
                 self.grow()
 
     def mend(self):
-        """Takes non-manifold edges out, by collapses that leave fewer of them, and pinches. In each second round one that leaves as many is kept
-        too. It ends, since each leaves fewer faces. Some may be left: told.crowded_left."""
+        """Takes non-manifold edges out, by collapses that leave fewer of them, and pinches. In each second round one that leaves as
+        many is kept too. It ends, since each leaves fewer faces. Some may be left: told.crowded_left."""
         for k in range(self.by.mend_rounds):
             self.read()
             edges = [(self.mesh.ids[a], self.mesh.ids[b]) for a, b in self.mesh.crowded]
@@ -157,8 +157,8 @@ class Merger:
         return True
 
     def collapse(self, a, b, left, *before):
-        """In an open group: collapses an edge after other edits, and pinches what is left where it has two fans. `left` gets the vertices around
-        which folds may be new."""
+        """In an open group: collapses an edge after other edits, and pinches what is left where it has two fans. `left` gets the
+        vertices around which folds may be new."""
         why, x, _, _, *point = self.ask(*before, ("collapse", a, b))
         if why:
             raise Undone("undone_refused")
@@ -200,9 +200,9 @@ class Merger:
     def push_around(self, v):
         """The folds at the edges of a vertex and of its neighbours."""
         if v in self.at:
-            beside = {w: self.around(w) for w in self.around(v)}
-            edges = {(min(v, w), max(v, w)) for w in beside} | {(min(u, w), max(u, w)) for w, others in beside.items() for u in others if u != v}
-            for a, b in edges:
+            near = self.around(v)
+            ends = {(v, w) for w in near} | {(w, u) for w in near for u in self.around(w) if u != v}
+            for a, b in {(min(pair), max(pair)) for pair in ends}:
                 self.push_ring(self.ring(a, b))
 
     def turns(self, c, d):

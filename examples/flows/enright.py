@@ -1,13 +1,14 @@
 #!/usr/bin/env python3
 """Enright's deformation: a ball is drawn out to a thin sheet and back in three units of time. enright.cpp in Python.
 
-    examples/flows/enright.py FOLDER [h=0.05] [end=3] [steps=N] [smooth=0.2] [log=1]
+    examples/flows/enright.py FOLDER [h=0.05] [end=3] [steps=N] [smooth=0.2] [log=1] [frames=N]
 """
 
 import math
 import sys
 
 import flow
+import shapes
 from flow import norm, plus
 
 MIDDLE, RADIUS = (0.35, 0.35, 0.35), 0.15
@@ -31,7 +32,7 @@ def carried(p, t, dt):
 def main():
     words = flow.words_of(sys.argv[1:])
     h, end, most = (words[1].get(name, number) for name, number in (("h", 0.05), ("end", 3), ("steps", 1e9)))
-    run, t = flow.Run(words, *flow.ball(MIDDLE, RADIUS, h), h), 0.0
+    run, t = flow.Run(words, *shapes.ball(MIDDLE, RADIUS, h), h), 0.0
     run.exact = run.volume
     run.write("first.obj")
     while t < end - 1e-12 and run.steps < most:

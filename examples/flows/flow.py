@@ -11,8 +11,8 @@ import merge  # noqa: E402
 import topo  # noqa: E402
 from improve import area_vector, cosine, dot, least_angle, minus, norm  # noqa: E402
 
-COLUMNS = ("step,time,way,times,vertices,faces,volume,exact,area,least,mean,below5,folds,non_manifold,components,euler,split,collapse,flip,zip,pinch,refused,"
-           "seconds_flow,seconds_step,seconds_improve,seconds_merge")
+COLUMNS = ("step,time,way,times,vertices,faces,volume,exact,area,least,mean,below5,folds,non_manifold,components,euler,"
+           "split,collapse,flip,zip,pinch,refused,seconds_flow,seconds_step,seconds_improve,seconds_merge")
 EDITS = ("split", "collapsed", "flipped", "zipped", "pinched")
 
 
@@ -27,40 +27,13 @@ def plus(a, b, share=1.0):
     return a[0] + share * b[0], a[1] + share * b[1], a[2] + share * b[2]
 
 
-def ball(middle, radius, h):
-    """An icosahedron drawn onto the ball, each edge cut so often that the mean edge is about h; faces have rows of points."""
-    n, g = max(1, round(1.17 * radius / h)), (1 + math.sqrt(5)) / 2
-    p = [(-1, g, 0), (1, g, 0), (-1, -g, 0), (1, -g, 0), (0, -1, g), (0, 1, g), (0, -1, -g), (0, 1, -g), (g, 0, -1), (g, 0, 1), (-g, 0, -1), (-g, 0, 1)]
-    sides = "0 11 5,0 5 1,0 1 7,0 7 10,0 10 11,1 5 9,5 11 4,11 10 2,10 7 6,7 1 8,3 9 4,3 4 2,3 2 6,3 6 8,3 8 9,4 9 5,2 4 11,6 2 10,8 6 7,9 8 1"
-    points, faces, seen = [], [], {}
-
-    def at(i, j):
-        u = plus(plus(a, b, i), c, j)
-        size = 1 / norm(u)
-        u = size * u[0], size * u[1], size * u[2]
-        key = tuple(round(x * 1e7) for x in u)  # neighbours share the points of an edge
-        if key not in seen:
-            seen[key] = len(points)
-            points.append(plus(middle, u, radius))
-        return seen[key]
-
-    for side in sides.split(","):
-        a, b, c = (p[int(word)] for word in side.split())
-        b, c = (tuple((1 / n) * x for x in minus(q, a)) for q in (b, c))
-        for i in range(n):
-            for j in range(n - i):
-                faces.append((at(i, j), at(i + 1, j), at(i, j + 1)))
-                if i + j + 1 < n:
-                    faces.append((at(i + 1, j), at(i + 1, j + 1), at(i, j + 1)))
-    return points, faces
-
-
 class Run:
     """A surface that a flow carries: `points` by row, in metres, `mesh` in grid units."""
 
     def __init__(self, words, points, faces, h):
         self.folder, given = words
-        self.h, self.smooth, self.merging, self.kept = h, given.get("smooth", 0.2), given.get("merge", 0), given.get("log", 0) != 0
+        self.h, self.smooth, self.merging = h, given.get("smooth", 0.2), given.get("merge", 0)
+        self.kept, self.frames = given.get("log", 0) != 0, int(given.get("frames", 0))
         self.surface = topo.Tracker(points, [(a + 1, b + 1, c + 1) for a, b, c in faces], unit=h * 1e-5)
         improving = improve.Improving(h, allow_topology_changes=given.get("part", 0) != 0)
         self.improver, self.mesh = improve.Improver(self.surface, improving), improve.Mesh(self.surface)
@@ -68,6 +41,8 @@ class Run:
         if self.kept:
             self.write("start0.obj", self.mesh.points, "v %d %d %d\n")
             self.log.append("topo log 2\nmesh 0 %d %d\n" % (len(self.points), len(self.mesh.faces)))
+        if self.frames:
+            self.write("frame-000000.obj")
         self.rows = []
         self.tell(0.0, ("whole", 0), dict.fromkeys(EDITS, 0), 0, [0.0] * 4)
 
@@ -90,6 +65,8 @@ class Run:
         self.mesh.read()
         self.points = self.mesh.positions()
         self.tell(now, way, done, refused, [b - a for a, b in zip([begin] + spent, spent)])
+        if self.frames and self.steps % self.frames == 0:
+            self.write("frame-%06d.obj" % (self.steps // self.frames))
 
     def refusals(self):
         told = self.improver.told
@@ -120,8 +97,9 @@ class Run:
         self.volume = sum(dot(p[a], area_vector((0, 0, 0), p[b], p[c])) for a, b, c in mesh.faces) / 6
         folds = sum(cosine(mesh.normal(e.left), mesh.normal(e.right)) < -0.9 for e in mesh.edges)
         self.components, self.euler = self.parts(), len(p) - len(mesh.edges) - len(mesh.crowded) + len(mesh.faces)
-        figures = [self.steps, "%.6f" % now, topo.WAYS.index(way[0]), way[1], len(p), len(mesh.faces), "%.9f" % self.volume, "%.9f" % self.exact, "%.6f" % area]
-        figures += ["%.3f" % min(angles, default=0), "%.3f" % (sum(angles) / max(1, len(angles))), sum(a < 5 for a in angles), folds, len(mesh.crowded)]
+        figures = [self.steps, "%.6f" % now, topo.WAYS.index(way[0]), way[1], len(p), len(mesh.faces)]
+        figures += ["%.9f" % self.volume, "%.9f" % self.exact, "%.6f" % area, "%.3f" % min(angles, default=0)]
+        figures += ["%.3f" % (sum(angles) / max(1, len(angles))), sum(a < 5 for a in angles), folds, len(mesh.crowded)]
         figures += [self.components, self.euler, *(done[name] for name in EDITS), refused, *("%.4f" % s for s in spent)]
         self.rows.append(dict(zip(COLUMNS.split(","), figures)))
         with open(os.path.join(self.folder, "steps.csv"), "a" if self.steps else "w", encoding="utf-8") as out:
@@ -139,7 +117,7 @@ class Run:
                 found += near
         return count
 
-    def write(self, name, points=None, line="v %.9g %.9g %.9g\n"):
+    def write(self, name, points=None, line="v %.9f %.9f %.9f\n"):
         with open(os.path.join(self.folder, name), "w", encoding="utf-8") as out:
             out.writelines(line % p for p in points or self.points)
             out.writelines("f %d %d %d\n" % (a + 1, b + 1, c + 1) for a, b, c in self.mesh.faces)
@@ -150,7 +128,7 @@ class Run:
         if self.kept:
             with open(os.path.join(self.folder, "log0.txt"), "w", encoding="utf-8") as out:
                 out.write("".join(self.log) + "end\n")
-        start, least = float(self.rows[0]["volume"]), min(float(row["least"]) for row in self.rows)
-        print(f"{self.steps} steps, {sum(row['way'] == 0 for row in self.rows[1:])} whole; volume {100 * (self.volume / start - 1):+.3f} %; "
-              f"least angle {least:.2f}; {sum(row['folds'] > 0 for row in self.rows)} steps with folds; components {self.components}, "
-              f"Euler number {self.euler}, non-manifold edges {len(self.mesh.crowded)}")
+        least, off = min(float(row["least"]) for row in self.rows), 100 * (self.volume / self.exact - 1) if self.exact else 0
+        whole, folds = sum(row["way"] == 0 for row in self.rows[1:]), sum(row["folds"] > 0 for row in self.rows)
+        print(f"{self.steps} steps, {whole} whole; volume {self.volume:.9f}, {off:+.3f} % off the exact; least angle ever {least:.2f}; steps with "
+              f"folds {folds}; components {self.components}, Euler number {self.euler}, non-manifold edges {len(self.mesh.crowded)}")

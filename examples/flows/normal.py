@@ -1,13 +1,14 @@
 #!/usr/bin/env python3
 """Balls grow along their normals, meet, and become one body. normal.cpp in Python.
 
-    examples/flows/normal.py FOLDER [h=0.05] [radius=0.2] [gap=0.1] [balls=2] [steps=10] [smooth=0.3] [merge=1.5] [log=1]
+    examples/flows/normal.py FOLDER [h=0.05] [radius=0.2] [gap=0.1] [balls=2] [steps=10] [smooth=0.3] [merge=1.5] [log=1] [frames=N]
 """
 
 import math
 import sys
 
 import flow
+import shapes
 from flow import norm, plus
 
 
@@ -40,7 +41,7 @@ def main():
     apart, points, faces, middles = 2 * radius + gap, [], [], []
     for i in range(int(balls)):  # a row of two, or the corners of a cube; not quite, so that no two are mirrored in the grid
         middles.append(((i & 1) * apart + 0.0013 * i, (i >> 1 & 1) * apart + 0.0017 * i, (i >> 2 & 1) * apart + 0.0009 * i))
-        more, others = flow.ball(middles[-1], radius, h)
+        more, others = shapes.ball(middles[-1], radius, h)
         faces += [tuple(v + len(points) for v in face) for face in others]
         points += more
     run, r, joined = flow.Run(words, points, faces, h), radius, -1
@@ -56,7 +57,7 @@ def main():
     depths = (max(r - norm(plus(m, p, -1 / 3)) for m in middles) for p in thirds)
     inside = sum(depth > h for depth in depths)
     run.end()
-    print(f"one component from step {joined} on; exact volume {run.exact:.9f}; faces deeper than h inside the union {inside}")
+    print(f"one component from step {joined} on; faces deeper than h inside the union {inside}")
 
 
 if __name__ == "__main__":
