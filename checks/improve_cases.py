@@ -288,18 +288,18 @@ def folds():
 # ---- flips
 
 
-def flipped_balls(seed):
+def flipped_ball(seed, bump, first):
     """An edge of a bumpy ball is flipped to the worse, the first at which that edge alone then wants a flip."""
-    points, faces = ball(2, 0.03, seed)
+    points, faces = ball(2, bump, seed)
     with tracker(points, faces) as surface:
         edges = diagonals(read(surface))
-    for (a, b), (c, d) in edges[:20] if seed % 2 else edges[60:80]:
+    for (a, b), (c, d) in edges[first:first + 20]:
         with tracker(points, faces) as surface:
             holds(f"ball {seed}: {a} {b} is flipped", surface.ask("flip", a, b).why == "")
             with topo.Tracker(surface.leave(), library=LIBRARY) as other:
-                passes = improver(other, edge_flip_max_volume_change=-1)
-                passes.flip()
-            if passes.told.flips_held == 1:
+                held_back, passes = improver(other, edge_flip_max_volume_change=-1), improver(other)
+                alone = not held_back.flip() and held_back.told.flips_held == 1 and passes.flip() and (a, b) in edges_of(read(other))
+            if alone:
                 flips(surface, f"ball {seed}", (c, d), (a, b))
                 break
 
@@ -440,7 +440,9 @@ def all_cases():
         needles(seed)
         caps(seed)
         restored(seed)
-        flipped_balls(seed)
+    for seed in range(6):
+        flipped_ball(seed, 0.03, 60)
+    flipped_ball(0, 0.15, 0)
     for case in (rings, folds, no_flips, necks):
         case()
     chosen(1)

@@ -1,5 +1,5 @@
-// The same calls of improve.hpp and merge.hpp as twins.py makes of their twins in Python: reads a mesh of whole points, and writes the log of
-// so many rounds of a mode, which is `flow`, `merge` or `mend`.
+// The same calls of improve.hpp and merge.hpp as twins.py makes of their twins in Python: reads a mesh of whole points, and writes the log
+// of so many rounds of a mode, which is `flow`, `merge` or `mend`.
 #include "improve.hpp"
 #include "merge.hpp"
 

@@ -72,7 +72,7 @@ def main():
             for numpy in (None, found) if found else (None,):
                 improve.numpy = topo.numpy = merge.numpy = numpy
                 got = log_of(mode, rounds, points, faces)
-                (same if got == wanted and len(got) > 1000 else other).append(f"{mode} of {name}{' with numpy' if numpy else ''}")
+                (same if got == wanted and len(got) > 300 else other).append(f"{mode} of {name}{' with numpy' if numpy else ''}")
     print("".join(f"another log: {name}\n" for name in other) + f"{len(same)} logs are the same, {len(other)} are not")
     sys.exit(bool(other))
 

@@ -27,7 +27,10 @@ import math
 
 import topo
 
-from improve import Columns, Mesh, SLACK, area_vector, cosine, dot, minus, norm, numpy
+try:
+    from .improve import Columns, Mesh, SLACK, area_vector, cosine, dot, minus, norm, numpy  # as topo.merge, of the wheel
+except ImportError:
+    from improve import Columns, Mesh, SLACK, area_vector, cosine, dot, minus, norm, numpy
 
 # an edge a b, and the corners opposite it: its faces are a b c and b a d
 Ring = collections.namedtuple("Ring", "a b c d")

@@ -6,11 +6,16 @@ import sys
 import time
 
 sys.path.insert(0, os.path.join(os.path.dirname(os.path.abspath(__file__)), "../../library"))
-import improve  # noqa: E402
-import merge  # noqa: E402
 import topo  # noqa: E402
-from improve import area_vector, cosine, dot, least_angle, minus, norm  # noqa: E402
 
+try:
+    import improve
+    import merge
+except ImportError:  # of the wheel
+    from topo import improve, merge
+
+area_vector, cosine, dot, least_angle, minus, norm = (
+    improve.area_vector, improve.cosine, improve.dot, improve.least_angle, improve.minus, improve.norm)
 COLUMNS = ("step,time,way,times,vertices,faces,volume,exact,area,least,mean,below5,folds,non_manifold,components,euler,"
            "split,collapse,flip,zip,pinch,refused,seconds_flow,seconds_step,seconds_improve,seconds_merge")
 EDITS = ("split", "collapsed", "flipped", "zipped", "pinched")
@@ -130,5 +135,5 @@ class Run:
                 out.write("".join(self.log) + "end\n")
         least, off = min(float(row["least"]) for row in self.rows), 100 * (self.volume / self.exact - 1) if self.exact else 0
         whole, folds = sum(row["way"] == 0 for row in self.rows[1:]), sum(row["folds"] > 0 for row in self.rows)
-        print(f"{self.steps} steps, {whole} whole; volume {self.volume:.9f}, {off:+.3f} % off the exact; least angle ever {least:.2f}; steps with "
-              f"folds {folds}; components {self.components}, Euler number {self.euler}, non-manifold edges {len(self.mesh.crowded)}")
+        print(f"{self.steps} steps, {whole} whole; volume {self.volume:.9f}, {off:+.3f} % off the exact; least angle ever {least:.2f}; "
+              f"steps with folds {folds}; components {self.components}, Euler number {self.euler}, non-manifold edges {len(self.mesh.crowded)}")
