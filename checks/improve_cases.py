@@ -442,7 +442,7 @@ def all_cases():
         restored(seed)
     for seed in range(6):
         flipped_ball(seed, 0.03, 60)
-    flipped_ball(0, 0.15, 0)
+    flipped_ball(6, 0.15, 0)
     for case in (rings, folds, no_flips, necks):
         case()
     chosen(1)
