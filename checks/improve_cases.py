@@ -339,7 +339,7 @@ def no_flips():
     """The edge that a flip would make is there already; and a ball of like faces wants none."""
     with tracker([(0, 0, 0), (4000, 0, 0), (0, 4000, 0), (0, 0, 500)], [(1, 3, 2), (1, 2, 4), (2, 3, 4), (1, 4, 3)]) as surface:
         passes = improver(surface)
-        holds("a tetrahedron", not passes.flip() and passes.told.flips_held == 0)
+        holds("a tetrahedron", not passes.flip() and passes.told.flips_held == passes.told.flips_refused == 0)
     with tracker(*ball(2)) as surface:
         passes = improver(surface)
         holds("a ball", not passes.flip() and passes.told.flips_held == 0)
@@ -410,8 +410,13 @@ def smoothing(seed):
         holds(f"ball {seed}: the volume stays", abs(six_volume(other) / six_volume(one) - 1) < 1e-12 and other != one)
         holds(f"ball {seed}: the least angle rises", solid or least(other, other[1]) > least(one, one[1]))
         holds(f"ball {seed}: what is solid stays", all(p == q for p, q, stays in zip(mesh, after, solid or ()) if stays))
-        near = [min(length(one, (i, j)) * H for face in rows if i in face for j in face if j != i) for i in range(len(mesh))]
-        holds(f"ball {seed}: none goes far", all(math.dist(p, q) < 0.2 * size for p, q, size in zip(mesh, after, near)))
+    points, faces = ball(3, 0.3, seed)
+    before = [tuple(map(float, p)) for p in points]
+    after = list(before)
+    improve.slide(after, [tuple(v - 1 for v in face) for face in faces], 1, flat=-2)
+    near = [min(math.dist(p, points[w - 1]) for face in faces if v in face for w in face if w != v) for v, p in enumerate(points, 1)]
+    # a neighbour that slid before makes it at most so much farther
+    holds(f"ball {seed}: none goes far", all(math.dist(p, q) <= 0.2 * 1.2 * size for p, q, size in zip(before, after, near)))
     grid = range(-2, 3)
     box = [p for p in itertools.product(grid, repeat=3) if max(map(abs, p)) == 2]
     box_rows = {p: i for i, p in enumerate(box)}

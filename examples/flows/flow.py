@@ -132,7 +132,7 @@ class Run:
         self.write("last.obj")
         if self.kept:
             with open(os.path.join(self.folder, "log0.txt"), "w", encoding="utf-8") as out:
-                out.write("".join(self.log) + "end\n")
+                out.write("".join(self.log) + "mesh 1 %d %d\nend\n" % (len(self.points), len(self.mesh.faces)))
         least, off = min(float(row["least"]) for row in self.rows), 100 * (self.volume / self.exact - 1) if self.exact else 0
         whole, folds = sum(row["way"] == 0 for row in self.rows[1:]), sum(row["folds"] > 0 for row in self.rows)
         print(f"{self.steps} steps, {whole} whole; volume {self.volume:.9f}, {off:+.3f} % off the exact; least angle ever {least:.2f}; "
