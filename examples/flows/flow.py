@@ -1,6 +1,5 @@
 """What the flows in Python share: the words of a run, its steps, and its figures. README.md says what the columns are."""
 
-import math
 import os
 import sys
 import time
@@ -136,4 +135,5 @@ class Run:
         least, off = min(float(row["least"]) for row in self.rows), 100 * (self.volume / self.exact - 1) if self.exact else 0
         whole, folds = sum(row["way"] == 0 for row in self.rows[1:]), sum(row["folds"] > 0 for row in self.rows)
         print(f"{self.steps} steps, {whole} whole; volume {self.volume:.9f}, {off:+.3f} % off the exact; least angle ever {least:.2f}; "
-              f"steps with folds {folds}; components {self.components}, Euler number {self.euler}, non-manifold edges {len(self.mesh.crowded)}")
+              f"steps with folds {folds}; components {self.components}, Euler number {self.euler}, "
+              f"non-manifold edges {len(self.mesh.crowded)}")
