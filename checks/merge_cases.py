@@ -95,6 +95,7 @@ def two_balls():
             holds(f"two balls, {by}: then nothing is left to merge", merged(surface).seeds == 0 and read(surface) == last)
     with bodies([(shape, (0, 0, 0)), (shape, (round(far), 31, 17))]) as surface:
         last = read(surface)
+        holds("two balls of which no edges face each other so much", merged(surface, facing=-1.01) == merge.Merged() and read(surface) == last)
         holds("two balls farther apart than the reach", merged(surface, merge_proximity=0.3) == merge.Merged() and read(surface) == last)
     with bodies([(shape, (0, 0, 0))]) as surface:
         holds("a ball alone", merged(surface) == merge.Merged())
@@ -119,6 +120,7 @@ def slabs():
             for _ in range(4):
                 improver.improve()
                 merged(surface)
+                holds(f"slabs, gap {gap}, shift {by}: no non-manifold edge after a call", figures(surface)[2] == 0)
                 mesh = improve.Mesh(surface)
                 to = list(mesh.points)
                 improve.slide(to, mesh.faces, 0.3)
@@ -153,6 +155,9 @@ def mended():
         surface.zip(H)
         surface.pinch()
         before = figures(surface)
+        with topo.Tracker(surface.leave(), library=LIBRARY) as other:
+            left = merge.mend(other, merge.Merging(H, mend_rounds=0)).crowded_left
+            holds(f"behind zips: what is left is counted: {left}", left == before[2] == figures(other)[2])
         told, after = merge.mend(surface, merge.Merging(H)), figures(surface)
         holds(f"behind zips: {before}, then {after}, {told}", before[2] > 0 and after[2] == 0 == told.crowded_left and told.mended > 0)
         with bodies([(shape, (0, 0, 0))]) as other:

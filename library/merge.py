@@ -97,9 +97,9 @@ class Merger:
             edges = [(self.mesh.ids[a], self.mesh.ids[b]) for a, b in self.mesh.crowded]
             done = [self.mend_at(edge, k % 2) for edge in edges if self.is_crowded(edge)]
             pinched = self.pinch_fans()
-            self.told.crowded_left = len(edges)
             if not edges or (not any(done) and not pinched and k % 2):
                 break
+        self.told.crowded_left = len(Mesh(self.surface).crowded)
 
     # -- what the surface is around a place
 
