@@ -1,0 +1,81 @@
+#!/usr/bin/env python3
+"""Whether `library/improve.py` and `library/merge.py` take the same decisions as the headers: the logs have to be the same, byte for byte.
+
+    checks/twins.py [FOLDER]
+
+FOLDER has libtopo.a and libtopo.so, and is library/out, if it is left out. `checks/twins.cpp` does each job through the headers, and this
+script through the modules, with numpy too where that is there. It needs `c++`. Prints how many logs are the same, or which are not.
+"""
+
+import os
+import subprocess
+import sys
+import tempfile
+
+ROOT = os.path.dirname(os.path.dirname(os.path.abspath(__file__)))
+FOLDER = os.path.abspath(sys.argv[1] if len(sys.argv) > 1 else os.path.join(ROOT, "library/out"))
+sys.argv[1:] = [os.path.join(FOLDER, "libtopo.so")]
+sys.path[:0] = [os.path.join(ROOT, "library"), os.path.join(ROOT, "checks")]
+sys.dont_write_bytecode = True
+import improve  # noqa: E402
+import merge  # noqa: E402
+import topo  # noqa: E402
+from improve_cases import H, ball  # noqa: E402
+from merge_cases import slab  # noqa: E402
+
+
+def pair(shape, by):
+    points, faces = shape
+    return points + [tuple(x + y for x, y in zip(p, by)) for p in points], faces + [tuple(v + len(points) for v in face) for face in faces]
+
+
+def jobs():
+    """A name, a mode, how many rounds, and the points and faces."""
+    far = round(2 * H * 4 / 1.17)
+    for seed in range(3):
+        yield f"ball {seed}", "flow", 6, ball(3, 0.25, seed)
+    yield "two balls", "merge", 2, pair(ball(4), (far + 400, 31, 17))
+    yield "two bumpy balls", "merge", 2, pair(ball(4, 0.1, 5), (31, far + 500, 17))
+    yield "slabs", "merge", 2, pair(slab(6, 2), (300, 180, 2500))
+    yield "zipped balls", "mend", 1, pair(ball(4), (far + 100, 31, 17))
+
+
+def log_of(mode, rounds, points, faces):
+    with topo.Tracker(points, faces, library=sys.argv[1]) as surface:
+        improver = improve.Improver(surface, improve.Improving(H))
+        for _ in range(rounds):
+            if mode == "flow":
+                mesh = improve.Mesh(surface)
+                to = [(x + 0.0937 * y, y - 0.0411 * z, z + 0.0193 * x) for x, y, z in mesh.points]
+                improve.slide(to, mesh.faces, 0.2)
+                surface.shift(mesh.ids, [improve.minus(q, p) for q, p in zip(to, mesh.points)])
+                surface.step()
+                improver.improve()
+            elif mode == "merge":
+                merge.merge(surface, merge.Merging(H))
+            else:
+                surface.zip(H)
+                surface.pinch()
+                merge.mend(surface, merge.Merging(H))
+        return surface.log()
+
+
+def main():
+    found, same, other = improve.numpy, [], []
+    with tempfile.TemporaryDirectory() as folder:
+        driver = os.path.join(folder, "twins")
+        parts = os.path.join(ROOT, "checks/twins.cpp"), os.path.join(FOLDER, "libtopo.a")
+        subprocess.run(["c++", "-std=c++17", "-O1", "-I", os.path.join(ROOT, "library"), *parts, "-o", driver], check=True)
+        for name, mode, rounds, (points, faces) in jobs():
+            mesh = "".join("v %d %d %d\n" % p for p in points) + "".join("f %d %d %d\n" % f for f in faces)
+            wanted = subprocess.run([driver, mode, str(rounds)], input=mesh.encode(), stdout=subprocess.PIPE, check=True).stdout.decode()
+            for numpy in (None, found) if found else (None,):
+                improve.numpy = topo.numpy = merge.numpy = numpy
+                got = log_of(mode, rounds, points, faces)
+                (same if got == wanted and len(got) > 300 else other).append(f"{mode} of {name}{' with numpy' if numpy else ''}")
+    print("".join(f"another log: {name}\n" for name in other) + f"{len(same)} logs are the same, {len(other)} are not")
+    sys.exit(bool(other))
+
+
+if __name__ == "__main__":
+    main()

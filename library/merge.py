@@ -1,0 +1,372 @@
+"""Joins two sheets of a tracker's surface that face each other across a thin gap, and mends non-manifold edges, by single edits. It is
+no part of what is proved: the tracker decides of each edit whether it is safe, so the surface stays closed and free of
+self-intersections. It takes the same decisions as merge.hpp.
+
+    import merge
+    merge.merge(surface, merge.Merging(0.01))     # a mean edge of one centimetre; after each step
+
+A pass of zips joins two sheets by many tunnels beside one another and leaves the walls between them: the two sheets stay, as a sieve. Here
+there is one tunnel, and its walls are taken away:
+
+1. Seed. One zip of the nearest two edges that face each other through the gap; then the four walls of the tunnel are collapsed, one
+edge each, so that its two rims are one. That rim is a fold: each of its edges has a face of either sheet, and the two face each other,
+as pages of a book at its back. 2. Grow. At a fold's edge ab, with the faces abc and bad, ab is flipped to cd, and cd is collapsed: the
+fold goes on by one triangle of each sheet, the nearest first. Where cd is an edge already, it is only collapsed. Faces that come to lie
+on one another go with the collapse. 3. Pinch. Where the hole's rim meets itself or another hole's, its vertex has two fans, and is
+parted: the holes become one.
+
+Each of these is tried in a group, looked at, and taken back where it is refused or would leave a non-manifold edge; where it would turn
+a face over it is not tried. It ends, since each that is kept leaves fewer faces, and each that is not is tried but twice.
+"""
+
+import collections
+import dataclasses
+import heapq
+import itertools
+import math
+
+import topo
+
+try:
+    from .improve import Columns, Mesh, SLACK, area_vector, cosine, dot, minus, norm, numpy  # as topo.merge, of the wheel
+except ImportError:
+    from improve import Columns, Mesh, SLACK, area_vector, cosine, dot, minus, norm, numpy
+
+# an edge a b, and the corners opposite it: its faces are a b c and b a d
+Ring = collections.namedtuple("Ring", "a b c d")
+
+
+@dataclasses.dataclass
+class Merging:
+    """Lengths are fractions of average_edge_length, and cosines are between normals."""
+
+    average_edge_length: float      # h, in the caller's unit
+    merge_proximity: float = 1.5    # sheets are joined across gaps up to this. It has to exceed what a gap closes in one step, or the
+                                    # sheets get between one another's vertices before they are joined
+    fold_reach: float = 1.5         # in the fold of faces abc and bad, c may be as far from d
+    facing: float = -0.5            # the two edges of a seed bound faces whose mean normals have at most this cosine
+    folded: float = -0.2            # and the two faces of a fold this
+    apart: int = 4                  # a seed's edges are more than so many edges apart along the surface
+    mend_rounds: int = 20           # of mend
+
+
+@dataclasses.dataclass
+class Merged:
+    """What was done, and what was tried and taken back, by reason."""
+
+    seeds: int = 0
+    folds_closed: int = 0
+    pinches: int = 0
+    mended: int = 0
+    turning: int = 0                # folds that were left, since a face would turn over
+    undone_refused: int = 0
+    undone_crowded: int = 0
+    undone_no_fewer: int = 0
+    crowded_left: int = 0           # of mend: non-manifold edges that are left
+
+
+class Undone(Exception):
+    """A group has to be taken back; its one word is the count of Merged for that."""
+
+
+class Merger:
+    """What is done is told in `told`, since the merger was made."""
+
+    def __init__(self, surface, by):
+        self.surface, self.by, self.told = surface, by, Merged()
+        h = by.average_edge_length / surface.unit  # in grid units, as all lengths here
+        self.gap, self.reach = by.merge_proximity * h, by.fold_reach * h
+        self.queue = []         # folds to close, the nearest first
+        self.tried = collections.Counter()  # how often closing a fold over an edge was refused
+        self.near = {}          # the vertices within `apart` edges of one, as long as nothing is joined
+
+    def merge(self):
+        self.read()
+        for ring in self.folds():  # that an earlier call left
+            self.push_ring(ring)
+        self.grow()
+        for _, a, b, e, f in self.matches():
+            if self.seed(a, b, e, f):
+                self.grow()
+
+    def mend(self):
+        """Takes non-manifold edges out, by collapses that leave fewer of them, and pinches. In each second round one that leaves as
+        many is kept too. It ends, since each leaves fewer faces. Some may be left: told.crowded_left."""
+        for k in range(self.by.mend_rounds):
+            self.read()
+            edges = [(self.mesh.ids[a], self.mesh.ids[b]) for a, b in self.mesh.crowded]
+            done = [self.mend_at(edge, k % 2) for edge in edges if self.is_crowded(edge)]
+            pinched = self.pinch_fans()
+            if not edges or (not any(done) and not pinched and k % 2):
+                break
+        self.told.crowded_left = len(Mesh(self.surface).crowded)
+
+    # -- what the surface is around a place
+
+    def read(self):
+        self.mesh = Mesh(self.surface)  # as it was when the call began
+        self.at = dict(zip(self.mesh.ids, self.mesh.points))  # where each vertex stands
+
+    def read_points(self):
+        self.at = {v: (float(x), float(y), float(z)) for v, x, y, z in self.surface.rows("topo_points", topo.Vertex).tolist()}
+
+    def around(self, v):
+        return {w for row in self.surface.star(v).tolist() for w in row[1:]} - {v}
+
+    def ring(self, a, b):
+        """Of an edge with just two faces, which run opposite ways; else None."""
+        c = d = 0
+        faces = self.surface.beside(a, b).tolist()
+        for _, p, q, r in faces:
+            for k in ((p, q, r), (q, r, p), (r, p, q)):
+                c, d = (k[2] if k[:2] == (a, b) else c), (k[2] if k[:2] == (b, a) else d)
+        return Ring(a, b, c, d) if len(faces) == 2 and c and d and c != d else None
+
+    def state(self, v):
+        """2 where an edge at v is non-manifold, else 1 where its faces are more than one fan, else 0."""
+        sides = collections.defaultdict(list)
+        for _, a, b, c in self.surface.star(v).tolist():
+            p, q = (b, c) if a == v else (c, a) if b == v else (a, b)
+            sides[p].append(q)
+            sides[q].append(p)
+        if any(len(others) > 2 for others in sides.values()):
+            return 2
+        left = set(sides)
+        found = [left.pop()] if left else []
+        while found:
+            more = left.intersection(sides[found.pop()])
+            left -= more
+            found += more
+        return 1 if left else 0
+
+    # -- edits in a group
+
+    def ask(self, *asked):
+        """The answer of the last edit that was asked, as a row: a list ends at the first that is refused, since a group is open."""
+        return self.surface.edit_each(asked).tolist()[-1]
+
+    def tried_in_group(self, edits):
+        """Whether what is done in a group was kept; where it is undone, the reason is counted and nothing is changed."""
+        pinches = self.told.pinches
+        self.surface.open()
+        try:
+            edits()
+        except Undone as why:
+            self.surface.undo()
+            self.told.pinches = pinches
+            setattr(self.told, why.args[0], getattr(self.told, why.args[0]) + 1)
+            return False
+        self.surface.close()
+        return True
+
+    def collapse(self, a, b, left, *before):
+        """In an open group: collapses an edge after other edits, and pinches what is left where it has two fans. `left` gets the
+        vertices around which folds may be new."""
+        why, x, _, _, *point = self.ask(*before, ("collapse", a, b))
+        if why:
+            raise Undone("undone_refused")
+        self.at[x] = tuple(map(float, point))
+        left.append(x)
+        state = self.state(x)
+        if state == 2:
+            raise Undone("undone_crowded")
+        if state == 1:
+            if self.ask(("pinch", x))[0]:
+                raise Undone("undone_refused")
+            self.read_points()  # the copies are new
+            self.told.pinches += 1
+            left.extend(self.around(x))  # the copies' neighbours
+
+    # -- grow
+
+    def is_fold(self, a, b, c, d):
+        """Whether the faces a b c and b a d, of points, face each other, and are near."""
+        if norm(minus(c, d)) > self.reach:
+            return False
+        n, m = area_vector(a, b, c), area_vector(b, a, d)
+        over, size, other = dot(n, minus(d, a)), norm(n), norm(m)
+        if not size > 0 or not other > 0 or cosine(n, m) > self.by.folded or over <= 0:
+            return False
+        return min(over / size, dot(m, minus(c, a)) / other) <= self.gap
+
+    def folds(self):
+        """Of the mesh as it was read."""
+        mesh, which = self.mesh, range(len(self.mesh.edges))
+        if numpy is not None and mesh.edges:
+            which = numpy.flatnonzero(Columns(mesh).bend() < self.by.folded + SLACK).tolist()
+        return [Ring(*(mesh.ids[v] for v in mesh.edges[i][:4])) for i in which if mesh.edges[i].c != mesh.edges[i].d]
+
+    def push_ring(self, ring):
+        if ring and self.is_fold(*(self.at[v] for v in ring)):
+            heapq.heappush(self.queue, (norm(minus(self.at[ring.c], self.at[ring.d])), ring.a, ring.b))
+
+    def push_around(self, v):
+        """The folds at the edges of a vertex and of its neighbours."""
+        if v in self.at:
+            near = self.around(v)
+            ends = {(v, w) for w in near} | {(w, u) for w in near for u in self.around(w) if u != v}
+            for a, b in {(min(pair), max(pair)) for pair in ends}:
+                self.push_ring(self.ring(a, b))
+
+    def turns(self, c, d):
+        """Whether faces that stay would turn over, were c and d to go to their middle."""
+        mid = tuple(0.5 * (p + q) for p, q in zip(self.at[c], self.at[d]))
+        for v in (c, d):
+            for _, *corners in self.surface.star(v).tolist():
+                if c in corners and d in corners:
+                    continue
+                before = area_vector(*(self.at[w] for w in corners))
+                after = area_vector(*(mid if w == v else self.at[w] for w in corners))
+                if norm(before) > 0 and cosine(before, after) < 0.1:
+                    return True
+        return False
+
+    def close_fold(self, ring):
+        c, d = pair = min(ring.c, ring.d), max(ring.c, ring.d)
+        if self.tried[pair] > 1:
+            return
+        if self.turns(ring.c, ring.d):
+            self.tried[pair] += 1
+            self.told.turning += 1
+            return
+        flip, left, were = [] if d in self.around(c) else [("flip", ring.a, ring.b)], [], {c: self.at[c], d: self.at[d]}
+        if self.tried_in_group(lambda: self.collapse(ring.c, ring.d, left, *flip)):
+            self.told.folds_closed += 1
+            for v in left:
+                self.push_around(v)
+        else:
+            self.at.update(were)
+            self.tried[pair] += 1
+
+    def grow(self):
+        while self.queue:
+            _, a, b = heapq.heappop(self.queue)
+            ring = self.ring(a, b)
+            if ring and self.is_fold(*(self.at[v] for v in ring)):
+                self.close_fold(ring)
+
+    # -- seed
+
+    def vertices_near(self, v):
+        if v not in self.near:
+            seen, rim = {v}, {v}
+            for _ in range(self.by.apart):
+                rim = {w for u in rim for w in self.around(u)} - seen
+                seen |= rim
+            self.near[v] = seen
+        return self.near[v]
+
+    def seed(self, a, b, e, f):
+        r, s = self.ring(a, b), self.ring(e, f)
+        if not r or not s or not self.vertices_near(a).isdisjoint((e, f)):
+            return False
+        # the rims of the tunnel, as the zip joins them
+        one, other, left = (b, r.c, a, r.d), (f, s.d, e, s.c), []
+
+        def edits():
+            why, _, turn, *_ = self.ask(("zip", a, b, e, f))
+            if why:
+                raise Undone("undone_refused")
+            for i in range(4):
+                self.collapse(one[i], other[(i + turn) % 4], left)
+
+        if not self.tried_in_group(edits):
+            self.read_points()
+            return False
+        self.near.clear()
+        self.told.seeds += 1
+        for v in left:
+            self.push_around(v)
+        return True
+
+    def sides(self):
+        """The middle of each edge, the mean normal of its faces, and its ends, by x."""
+        mesh, sides = self.mesh, []
+        for edge in mesh.edges:
+            n, m = mesh.normal(edge.left), mesh.normal(edge.right)
+            if norm(n) > 0 and norm(m) > 0:
+                i, j = 0.5 / norm(n), 0.5 / norm(m)
+                mid = tuple(0.5 * (p + q) for p, q in zip(mesh.points[edge.a], mesh.points[edge.b]))
+                sides.append((mid, tuple(i * p + j * q for p, q in zip(n, m)), mesh.ids[edge.a], mesh.ids[edge.b]))
+        return sorted(sides, key=lambda side: (side[0][0], side[2], side[3]))
+
+    def matches(self):
+        """The pairs of edges that face each other across a gap, the nearest first."""
+        sides, cells, found = self.sides(), collections.defaultdict(list), []
+        for i, (mid, *_) in enumerate(sides):
+            cells[tuple(math.floor(x / self.gap) for x in mid)].append(i)
+        for cell, members in cells.items():
+            near = [j for by in itertools.product((-1, 0, 1), repeat=3) for j in cells.get(tuple(map(int.__add__, cell, by)), ())]
+            for i in members:
+                (x, y, z), (p, q, r), *_ = sides[i]
+                for j in near:
+                    (u, v, w), (k, m, n), *_ = sides[j]
+                    if j > i and p * k + q * m + r * n <= self.by.facing:
+                        d = u - x, v - y, w - z
+                        # each lies on the outer side of the other
+                        if dot(d, d) <= self.gap * self.gap and dot(d, (p, q, r)) > 0 > dot(d, (k, m, n)):
+                            found += self.match(d, sides[i][2:], sides[j][2:])
+        return sorted(found)
+
+    def match(self, d, one, other):
+        if any(v not in self.at for v in one + other):
+            return []
+        a, b, e, f = (self.at[v] for v in one + other)
+        ends = min(norm(minus(a, e)) + norm(minus(b, f)), norm(minus(a, f)) + norm(minus(b, e)))
+        return [(norm(d) + ends, *one, *other)]
+
+    # -- mend
+
+    def is_crowded(self, edge):
+        return len(self.surface.beside(*edge)) > 2
+
+    def crowd(self, edges):
+        return sum(map(self.is_crowded, edges))
+
+    def edges_at(self, *vertices):
+        faces = [row[1:] for v in vertices for row in self.surface.star(v).tolist()]
+        return {(min(p, q), max(p, q)) for a, b, c in faces for p, q in ((a, b), (b, c), (c, a))}
+
+    def mend_by(self, edge, more):
+        """Collapses the edge where that leaves fewer non-manifold edges than there were and `more`."""
+        were = self.edges_at(*edge)
+        before = self.crowd(were)
+
+        def edits():
+            why, x, _, _, *point = self.ask(("collapse", *edge))
+            if why:
+                raise Undone("undone_refused")
+            if self.crowd(self.edges_at(x) | {it for it in were if not set(it) & set(edge)}) >= before + more:
+                raise Undone("undone_no_fewer")
+            self.at[x] = tuple(map(float, point))
+
+        done = self.tried_in_group(edits)
+        self.told.mended += done
+        return done
+
+    def mend_at(self, edge, more):
+        """By itself, or else by the shortest edge around it."""
+        if self.mend_by(edge, more):
+            return True
+        others = ((norm(minus(self.at[p], self.at[q])), (p, q)) for p, q in self.edges_at(*edge))
+        return any(self.mend_by(other, more) for far, other in sorted(others) if far < self.reach)
+
+    def pinch_fans(self):
+        self.read_points()
+        done = [not self.ask(("pinch", v))[0] for v in sorted(self.at) if self.state(v) == 1]
+        self.told.pinches += sum(done)
+        return any(done)
+
+
+def merge(surface, by):
+    """Joins the sheets that face each other across thin gaps, and tells what was done."""
+    merger = Merger(surface, by)
+    merger.merge()
+    return merger.told
+
+
+def mend(surface, by):
+    """Takes non-manifold edges out, and tells what was done."""
+    merger = Merger(surface, by)
+    merger.mend()
+    return merger.told
