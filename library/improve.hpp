@@ -336,9 +336,11 @@ private:
                 std::array<Point, 3> p{at(f[0]), at(f[1]), at(f[2])};
                 const Point before = area_vector(p[0], p[1], p[2]);
                 was = std::min(was, least_angle(p[0], p[1], p[2]));
-                if (mesh.star[k] == e.left || mesh.star[k] == e.right)
+                const bool goes = mesh.star[k] == e.left || mesh.star[k] == e.right;
+                if (v == e.a || !goes)
+                    volume -= dot(p[0] - mid, before); // of the tetrahedron between the face and what stands for it
+                if (goes)
                     continue;
-                volume -= dot(p[0] - mid, before); // the face that stands for it has mid as a corner
                 for (int i = 0; i < 3; ++i) {
                     if (f[i] == v)
                         p[i] = mid;

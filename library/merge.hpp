@@ -86,10 +86,11 @@ public:
             for (const Pair &e : edges)
                 any |= is_crowded(e) && mend_at(e, k % 2);
             any |= pinch_fans();
-            told.crowded_left = static_cast<long>(edges.size());
             if (edges.empty() || (!any && k % 2))
                 break;
         }
+        mesh.read(tracker);
+        told.crowded_left = static_cast<long>(mesh.crowded.size());
     }
 
 private:
