@@ -39,11 +39,11 @@ def record_row(name, content):
     return f"{name},sha256={digest},{len(content)}\n"
 
 
-def wheel(version, module, library, notices):
+def wheel(version, modules, library, notices):
     """The wheel's name, and its bytes."""
     tag, info = tag_of(library), f"topo-{version}.dist-info"
     files = {
-        "topo/__init__.py": module,
+        **{f"topo/{name}": content for name, content in modules.items()},
         "topo/libtopo.so": library,
         f"{info}/METADATA": METADATA.format(version=version).encode(),
         f"{info}/WHEEL": WHEEL.format(tag=tag).encode(),

@@ -144,7 +144,7 @@ public:
         const Improved &i = improver->told;
         char text[1000];
         std::snprintf(text, sizeof text,
-            "steps %ld: whole %ld, impulse %ld, zones %ld, halved %ld, zero %ld\nvolume %.9f of %.9f: %+.3f %%\n"
+            "steps %ld: whole %ld, impulse %ld, zones %ld, halved %ld, zero %ld\nvolume %.9f, at the start %.9f: %+.3f %%\n"
             "components %ld, Euler number %ld, faces %zu\n"
             "least angle ever %.2f, steps with one below 5 degrees %ld, steps with folds %ld\n"
             "splits %ld and %ld of caps, collapses %ld, flips %ld; refused %ld, %ld, %ld, %ld; held back %ld, %ld; necks %ld\n"

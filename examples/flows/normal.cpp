@@ -44,7 +44,9 @@ try {
         if (const double far = norm(middles.back() - middles[0]); balls == 2) // the lens of both is counted once
             run.exact = 8 * pi / 3 * r * r * r - (2 * r > far ? pi * (4 * r + far) * (2 * r - far) * (2 * r - far) / 12 : 0);
         run.advance(to, s * h / 2);
-        if (joined < 0 && run.components == 1)
+        if (run.components > 1)
+            joined = -1;
+        else if (joined < 0)
             joined = s;
         if (2 * s == steps)
             run.write("middle.obj");
@@ -57,8 +59,9 @@ try {
         inside += depth > h;
     }
     char text[200];
-    std::snprintf(text, sizeof text, "one component from step %ld on; exact volume %.9f; faces deeper than h inside the union %ld\n",
-        joined, run.exact, inside);
+    const std::string since = joined < 0 ? "not one component at the end" : "one component from step " + std::to_string(joined) + " on";
+    const std::string known = run.exact > 0 ? "; exact volume " + std::to_string(run.exact) : "";
+    std::snprintf(text, sizeof text, "%s%s; faces deeper than h inside the union %ld\n", since.c_str(), known.c_str(), inside);
     run.end(text);
 } catch (const std::exception &why) {
     std::fprintf(stderr, "%s\n", why.what());

@@ -50,14 +50,15 @@ def main():
         to, r = [plus(p, n, h / 2) for p, n in zip(run.points, normals(run))], r + h / 2
         run.exact = exact(r, norm(flow.minus(middles[-1], middles[0]))) if balls == 2 else 0
         run.advance(to, s * h / 2)
-        joined = s if joined < 0 and run.components == 1 else joined
+        joined = -1 if run.components > 1 else s if joined < 0 else joined
         if 2 * s == steps:
             run.write("middle.obj")
     thirds = [plus(plus(run.points[a], run.points[b]), run.points[c]) for a, b, c in run.mesh.faces]
     depths = (max(r - norm(plus(m, p, -1 / 3)) for m in middles) for p in thirds)
     inside = sum(depth > h for depth in depths)
     run.end()
-    print(f"one component from step {joined} on; faces deeper than h inside the union {inside}")
+    since = "not one component at the end" if joined < 0 else f"one component from step {joined} on"
+    print(f"{since}; faces deeper than h inside the union {inside}")
 
 
 if __name__ == "__main__":
