@@ -21,7 +21,7 @@ from random_jobs import job_of, keep_files
 
 # what does not end by then hangs; a busy machine is given its time
 SECONDS = 600
-TRACKED = (7, 49, 213, 234, 309, 388, 417, 560, 585, 626, 662, 896, 959, 960, 984, 1115, 1126, 1263, 1279, 1547, 1620, 1683, 1753, 1788, 1900, 1909, 2014, 2209, 2251, 2348, 2467)
+TRACKED = (7, 49, 213, 234, 309, 388, 417, 560, 585, 626, 662, 896, 959, 960, 984, 1115, 1126, 1263, 1279, 1547, 1620, 1683, 1753, 1788, 1900, 1909, 2014, 2209, 2251, 2348, 2467, 650086)
 # jobs before whose steps a vertex is made solid, which lies in an impact zone then
 WITH_SOLID = {757: 1, 1788: 3}
 CONVERTED = (3, 11, 19, 27)

@@ -250,15 +250,14 @@ def coordinate_in(word, decimals, number):
 def fan_of(corners): return [(corners[0], j, k) for j, k in zip(corners[1:], corners[2:])]
 
 class Lists:
-    """What a text of a mesh gives: points, faces with corners from 1, and whether a coordinate was rounded."""
+    """What a text of a mesh gives: points, and faces with corners from 1."""
     def __init__(self):
-        self.points, self.faces, self.rounded = [], [], False
+        self.points, self.faces = [], []
 
     def add_point(self, words, decimals, number):
         """The words are those of x, y and z, from left to right."""
         point = {axis: coordinate_in(word, decimals, number) for axis, word in words.items()}
         self.points.append((point["x"], point["y"], point["z"]))
-        self.rounded = self.rounded or any(size % unit for _, size, unit in (scaled(word, decimals) for word in words.values()))
 
 NOT_READ = ("vn", "vt", "vp", "o", "g", "s", "usemtl", "mtllib")
 OBJ_CORNER = re.compile(r"(-?[0-9]{1,10})(/-?[0-9]{1,10}|//-?[0-9]{1,10}|/-?[0-9]{1,10}/-?[0-9]{1,10})?")
@@ -1025,7 +1024,7 @@ class Engine:
 class Files:
     """The files of a run. Those that it has read are known by the path to which their names lead, so that none of them is lost."""
     def __init__(self, decimals):
-        self.decimals, self.texts, self.is_rounded = decimals, {}, False
+        self.decimals, self.texts = decimals, {}
     def read(self, name, word):
         """The text of a file, a character for each byte."""
         try:
@@ -1034,17 +1033,15 @@ class Files:
         except FileNotFoundError:
             raise Refused(f"missing {word}", 11)
         need(len(text) <= FILE_MAX, Refused(f"long {word} {len(text)}", 5))
-        self.texts.setdefault(os.path.realpath(name), []).append((word, text))
+        self.texts.setdefault(os.path.realpath(name), text)
         return text
     def lists(self, grammar, text):
-        lists = read_by("mesh", 6, grammar, text, self.decimals)
-        self.is_rounded = lists.rounded
-        return lists
+        return read_by("mesh", 6, grammar, text, self.decimals)
     def store(self, name, text):
-        """Stores a text; one that was read and would be lost, since it is no mesh or was rounded, is kept as it was."""
-        lost = [old for word, old in self.texts.pop(os.path.realpath(name), []) if word != "mesh" or self.is_rounded]
+        """Stores a text; one that was read there is kept as it was, unless it is the same."""
+        old = self.texts.pop(os.path.realpath(name), text)
         names = (f"{name}.before" + (f"-{k}" if k > 1 else "") for k in count(1))
-        for old in lost[:1]:
+        if old != text:
             write(next(its for its in names if not os.path.lexists(its)), old)
         write(name, text)
     def store_mesh(self, prefix, number, mesh): self.store(f"{prefix}-{number:06}.obj", text_of_mesh(mesh, self.decimals))
