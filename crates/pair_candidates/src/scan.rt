@@ -123,8 +123,9 @@ fn told_of_edges<P: Paths, A: PairTest>(
     most: Option<usize>,
 ) -> Result<Items<A::Told>, NoMemory>
     requires views { AreViews scan.now.faces.now views.old }
-    ensures { IfOk result (λ found. up_to most found ≡ up_to most (told_along
-        (A.test scan.now.test.now) A.what (P.motion scan.now.paths.now) scan.now.faces.now scan.now.edges.now)) }
+    ensures { let s = scan.now in let w = P.motion s.paths.now in
+        let all = told_along (A.test s.test.now) A.what w s.faces.now s.edges.now in
+        IfOk result (λ found. up_to most found ≡ up_to most all) }
 {
     let mut near = Vec::new(alloc);
     let mut found = Items::new(alloc);

@@ -1,13 +1,12 @@
 -- Certificates of which a text tells alike have one verdict.
-use Rattle.std.proofs.Common.{◌≡◌, ◌⊎◌, inl, inr, ℕ, zero, suc, ◌<◌, ◌≤◌, ◌==◌, ◌&&◌, Bool, true, false, cond, List, [], ◌∷◌, length, get_or, map, Option, Some, None, refl, ap, sym, ◌∙◌, subst, arith}
-use Rattle.std.specs.List.{All, AllByRecursion, find}
-use Rattle.std.specs.List.Sorted.{IsStrictlySortedBy}
+use Rattle.std.proofs.Common.{◌≡◌, ◌⊎◌, inl, inr, ℕ, zero, suc, ◌<◌, ◌≤◌, Bool, true, false, cond, List, [], ◌∷◌, length, get_or, Some, None, refl, ap, sym, ◌∙◌, subst, arith}
+use Rattle.std.specs.List.{All, AllByRecursion}
 use Rattle.std.specs.Ordering.{nat_cmp, ordering_then, ordering_reverse}
 use Rattle.std.specs.FinMap.{nat_cmp-IsAntisymmetric}
 use Rattle.std.specs.declared.cmp.Ordering.{Ordering}
 use Rattle.std.specs.declared.cmp.Ordering.TheVariants.{Less, Equal, Greater}
 use Rattle.std.proofs.lemmas.Bool.{cases_lt}
-use Rattle.std.proofs.lemmas.List.{length-map, get_or-map, get_or_default}
+use Rattle.std.proofs.lemmas.List.{length-map, get_or-map}
 use Rattle.std.proofs.lemmas.List.Elements.{All-get_or, All-from_recursion, recursion_from_All}
 use Rattle.std.proofs.lemmas.Option.{none-some}
 use Rattle.grid_base.specs.declared.Positions.{Positions}
@@ -30,7 +29,7 @@ use Rattle.motion_proof.specs.Verdicts.{IsFirstLacking, IsMissing, IsFirstMissin
 use Rattle.grid_base.specs.Separation.{double, middle}
 use Rattle.grid_base.specs.Triples.{IsWithin}
 use Rattle.grid_base.specs.declared.TheConstants.{DEPTH_MAX, DIRECTION_MAX}
-use Rattle.proof_text.specs.Plain.{PlainTree, leaf, halves, PlainEntry}
+use Rattle.proof_text.specs.Plain.{PlainEntry}
 use Rattle.proof_text.specs.Views.{tree_view, entry_view, entries_view}
 
 -- ---- names in order

@@ -4,23 +4,20 @@ use Rattle.std.proofs.lemmas.List.{length-append}
 use Rattle.std.proofs.lemmas.Option.{none-some, same_Some}
 use Rattle.mesh_base.specs.declared.PairName.{PairName}
 use Rattle.mesh_base.specs.Mesh.{Mesh}
-use Rattle.mesh_base.specs.Pairs.{name_cmp}
 use Rattle.edit_base.specs.Scaffold.{Scaffold, motion_of}
 use Rattle.edit_scaffold.specs.Made.{claim_of}
 use Rattle.motion_proof.specs.declared.Verdict.{Verdict}
 use Rattle.motion_proof.specs.declared.Verdict.TheVariants.{Accepted, NoMotion, Stranger, Invalid, Missing}
-use Rattle.motion_proof.specs.Making.{IsFirstFailing}
 use Rattle.proof_text.specs.Plain.{PlainProof}
 use Rattle.log_text.specs.declared.LogLine.{LogLine}
-use Rattle.log_text.specs.declared.Refusal.{Refusal}
 use Rattle.log_run.specs.Fits.{LineFits}
 use Rattle.log_run.specs.Motions.{moved_in}
 use Rattle.log_run.specs.States.{LogState, with_line, without_lines}
 use Rattle.track_replay.specs.declared.refusal.LogRefusal.{LogRefusal}
 use Rattle.track_replay.specs.declared.refusal.LogRefusal.TheVariants.{Input, Log, Proof, Replay, Motion}
 use Rattle.track_replay.specs.LogJob.{LogInput}
-use Rattle.track_replay.specs.Taking.{with_lines, HasNoLine}
-use Rattle.track_prove.specs.Judged.{Stands, EachStands, AllStand, IsReached, IsUnfitLine, IsBadLine, IsBeyond, EndsJudged}
+use Rattle.track_replay.specs.Taking.{with_lines}
+use Rattle.track_prove.specs.Judged.{Stands, EachStands, IsReached, IsUnfitLine, IsBadLine, EndsJudged}
 use Rattle.track_prove.specs.Proving.{MakesVerdict, ProveFinds, ProveEnds}
 use Rattle.track_prove.specs.Verifying.{ProofInput, beyond, IsVerdictOn, FoundOf, VerifyFinds, proof_at, VerifyEnds}
 use Rattle.track_prove.proofs.Alike.{one_name, one_verdict}
