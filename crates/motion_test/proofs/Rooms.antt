@@ -1,5 +1,5 @@
 -- Room for halving: each halving doubles the sizes, and takes one from the depth.
-use Rattle.std.proofs.Common.{◌≡◌, Bool, true, false, ℕ, zero, suc, ◌+◌, ◌-◌, ◌*◌, ◌^◌, ◌<◌, ◌≤◌, ℤ, pos, ◌+ℤ◌, ◌*ℤ◌, unsigned_abs, ◌⊎◌, inr, arith}
+use Rattle.std.proofs.Common.{◌≡◌, Bool, true, false, ℕ, zero, suc, ◌+◌, ◌-◌, ◌*◌, ◌^◌, ◌<◌, ◌≤◌, ℤ, pos, ◌+ℤ◌, ◌*ℤ◌, unsigned_abs, ◌⊎◌, inr, refl, arith}
 use Rattle.std.proofs.lemmas.Int.{ints}
 use Rattle.std.proofs.lemmas.Grind.{pow_more}
 use Rattle.std.proofs.Math.Pow.{pow_mono}
@@ -72,6 +72,11 @@ in_wide small depth f most w = AreWithin-weaker _ _ f (room_now depth) (in_room 
 pub in_arithmetic : (small : Bool) (depth : ℕ) (f : Positions) → AreWithin (position_max_at depth small) f → AreWithin (position_max small) f
 in_arithmetic true depth f w = w
 in_arithmetic false depth f w = AreWithin-weaker _ _ f (room_now depth) w
+
+-- where all is small it is so at each depth
+pub small_at : (small : Bool) (depth : ℕ) (f : Positions) → (small ≡ true → AreWithin HALF_MAX f) → AreWithin (position_max_at depth false) f → AreWithin (position_max_at depth small) f
+small_at true depth f w room = w refl
+small_at false depth f w room = room
 
 -- ---- the definition, one step opened
 abbrev pub InHalves : ℕ → Positions → Positions → Type 0

@@ -48,7 +48,7 @@ pub fn separated(p: &Pair, depth: u8) -> bool
         AreSeparated depth (positions_of p.now.start) (positions_of p.now.end) }
     ensures clear { IsTrue result → NeverMeet (positions_of p.now.start) (positions_of p.now.end) }
 {
-    separated_at(&positions(&p.start), &positions(&p.end), depth, true)
+    separated_at(&positions(&p.start), &positions(&p.end), depth, true, true)
 }
 
 /// Whether the pair passes: it is separated to the depth, or its five positions move by one shift
@@ -106,7 +106,7 @@ fn passes_at(p: &Pair, depth: u8) -> bool
     if moves_together(&s, &t) {
         return !meets(s.a, s.b, s.c, s.d, s.e);
     }
-    separated_at(&s, &t, depth, true)
+    separated_at(&s, &t, depth, true, true)
 }
 
 /// Whether the five positions move by one shift.
