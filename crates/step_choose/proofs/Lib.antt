@@ -9,3 +9,4 @@ pub mod AtRest
 pub mod Taken
 pub mod FirstWay
 pub mod SolidTests
+pub mod SameShifts

@@ -65,7 +65,7 @@ fn first_way<S: Surface>(
     if let Some(found) = by_impulses(alloc, mesh, &near, asked, hits, set)? {
         return Ok(found);
     }
-    if let Some(found) = by_zones(alloc, mesh, &near, asked, set)? {
+    if let Some(found) = by_zones(alloc, mesh, &near, asked, hits, set)? {
         return Ok(found);
     }
     if let Some(found) = by_halving(alloc, mesh, &near, asked, set)? {
