@@ -3,4 +3,3 @@ pub mod Asked
 pub mod Answered
 pub mod Shipped
 pub mod ShippedBand
-pub mod UserDesk

@@ -2,10 +2,6 @@
 ghost use Rattle.std.specs.Prelude.{◌≤◌, length};
 ghost use Rattle.grid_base.specs.declared.TheConstants.{TEXT_MAX};
 
-use crate::log_watch::EndedVertices;
-use crate::names::{Names, name_of};
-use crate::rounding::{lists_in, rounded};
-use crate::texts::Texts;
 use line_text::TextFault;
 use mesh_base::{PairName, ShapeFault, UseWhy};
 use motion_proof::Verdict;
@@ -18,6 +14,7 @@ use refusal_sentences::{
 use std::alloc::{AllocError, Global};
 use track_input::{CUBES_MAX, Format};
 use track_run::Outcome;
+use user_files::{EndedVertices, Names, Texts, lists_in, name_of, rounded};
 
 // What is wrong with a line of the mesh file.
 fn mesh_sentence(

@@ -6,25 +6,15 @@
 
 mod answering;
 mod band;
-mod exact_desk;
 mod explaining;
 mod help;
-mod log_watch;
-mod names;
-mod rounding;
 mod shipped;
-mod stored_lists;
-mod texts;
-mod user_desk;
-mod warning;
 
 use answering::{USAGE, answer};
 use band::shipped_band;
 use explaining::{Seen, explain};
-use log_watch::{EndedVertices, LogWatch};
 use mesh_field::{Fields, no_fields};
 use mesh_sizing::Sizing;
-use names::{Names, names_of};
 use outside_io::{FileDesk, ProgressSink, StdSink, Trouble};
 use refusal_sentences::plain;
 use shipped::{REACH, shipped_names, shipped_shift};
@@ -34,8 +24,7 @@ use std::process::ExitCode;
 use std::rt::Env;
 use std::{env, io};
 use track_run::Outcome;
-use user_desk::{SystemDesk, UserDesk};
-use warning::warnings;
+use user_files::{EndedVertices, LogWatch, Names, SystemDesk, UserDesk, names_of, warnings};
 
 // The words after the program's name.
 fn words(rt: &(impl Env + AllocGlobal)) -> io::Result<Vec<String>> {

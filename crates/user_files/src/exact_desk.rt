@@ -1,11 +1,11 @@
 //! Desks that count a fault where a call fails, and none elsewhere.
-ghost use Rattle.topo.specs.UserDesk.{told, FetchesExactly, StoresExactly};
+ghost use Rattle.user_files.specs.UserDesk.{told, FetchesExactly, StoresExactly};
 
 use outside_io::{Desk, FetchFault, FileDesk, MemoryDesk, StoreFault, TryLock};
 use std::rt::Files;
 
 /// A desk that counts a fault where a call fails, and none elsewhere.
-pub(crate) trait ExactDesk: Desk {
+pub trait ExactDesk: Desk {
     /// Fetches as each desk does.
     fn fetch_exactly(
         &mut self,

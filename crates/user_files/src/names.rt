@@ -10,14 +10,14 @@ use track_input::{Command, Format, LogFiles, MeshFile, command_of};
 /// each, and one without a proof the log or the steps as that. What it stores has the prefix in front or is a mesh of a format, where it
 /// stores meshes.
 #[derive(Clone, Copy)]
-pub(crate) struct Names<'a> {
-    pub(crate) mesh: &'a str,
-    pub(crate) other: &'a str,
-    pub(crate) proof: &'a str,
-    pub(crate) format: Format,
-    pub(crate) prefix: Option<&'a str>,
-    pub(crate) stored: Format,
-    pub(crate) decimals: u8,
+pub struct Names<'a> {
+    pub mesh: &'a str,
+    pub other: &'a str,
+    pub proof: &'a str,
+    pub format: Format,
+    pub prefix: Option<&'a str>,
+    pub stored: Format,
+    pub decimals: u8,
     ghost few: { decimals ≤ DECIMALS_MAX },
 }
 
@@ -52,7 +52,7 @@ fn alone(mesh: MeshFile<'_>, stored: Format, decimals: u8) -> Names<'_>
 }
 
 /// The names that the words tell, if they are of a listed form that has files.
-pub(crate) fn names_of(alloc: Global, words: &[String]) -> Option<Names<'_>> {
+pub fn names_of(alloc: Global, words: &[String]) -> Option<Names<'_>> {
     match command_of(alloc, words).ok()?? {
         Command::Track {
             mesh,
@@ -87,7 +87,7 @@ pub(crate) fn names_of(alloc: Global, words: &[String]) -> Option<Names<'_>> {
 }
 
 /// The name of one of the files.
-pub(crate) fn name_of<'a>(names: Names<'a>, file: FileWord) -> &'a str {
+pub fn name_of<'a>(names: Names<'a>, file: FileWord) -> &'a str {
     match file {
         FileWord::Mesh => names.mesh,
         FileWord::Steps | FileWord::Log => names.other,

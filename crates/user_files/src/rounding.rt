@@ -11,12 +11,7 @@ use std::alloc::{AllocError, Global};
 use track_input::Format;
 
 /// The lists of a text in a format, on a grid of so many decimals; None where it is outside the grammar, or there is no memory.
-pub(crate) fn lists_in(
-    alloc: Global,
-    format: Format,
-    bytes: &[u8],
-    decimals: u8,
-) -> Option<MeshLists>
+pub fn lists_in(alloc: Global, format: Format, bytes: &[u8], decimals: u8) -> Option<MeshLists>
     requires small { length bytes.now ≤ TEXT_MAX }
     requires few { decimals ≤ DECIMALS_MAX }
 {
@@ -43,7 +38,7 @@ fn finest(alloc: Global, format: Format, bytes: &[u8], decimals: u8) -> Option<(
 
 /// Says how many coordinates of a mesh are rounded on a grid of so many decimals, if any are. A text all of whose numbers are short enough
 /// is not read for it.
-pub(crate) fn rounded(
+pub fn rounded(
     alloc: Global,
     format: Format,
     bytes: &[u8],

@@ -18,7 +18,7 @@ pub(crate) struct Text {
 
 /// The texts that were read, in this order.
 #[derive(Drop)]
-pub(crate) struct Texts {
+pub struct Texts {
     all: Vec<Text>,
 }
 
@@ -48,7 +48,7 @@ impl Texts {
     }
 
     /// The first text that was read under a name; an empty one where there is none.
-    pub(crate) fn first(&self, name: &str) -> &[u8]
+    pub fn first(&self, name: &str) -> &[u8]
         ensures { length result.now ≤ TEXT_MAX }
     {
         for text in self.all.as_slice() {
@@ -60,7 +60,7 @@ impl Texts {
     }
 
     /// The last text that was read under a name; an empty one where there is none.
-    pub(crate) fn last(&self, name: &str) -> &[u8]
+    pub fn last(&self, name: &str) -> &[u8]
         ensures { length result.now ≤ TEXT_MAX }
     {
         for text in self.all.as_slice().iter().rev() {

@@ -2,7 +2,7 @@
 ghost use Rattle.std.specs.Prelude.{◌≡◌, ◌≤◌, ◌<◌, ◌^◌, ◌-◌, ℕ, [], length, OnOk, OnErr, IsErrOf};
 ghost use Rattle.outside_io.specs.Causes.{Rose};
 ghost use Rattle.outside_io.specs.Desk.{with_file, SameBut, HoldsFile, HoldsNoFile, HoldsAtLeast};
-ghost use Rattle.topo.specs.UserDesk.{faults_of_both};
+ghost use Rattle.user_files.specs.UserDesk.{faults_of_both};
 ghost use Rattle.std.proofs.Common.{arith};
 
 use crate::exact_desk::ExactDesk;
@@ -20,19 +20,19 @@ use std::rt::Files;
 /// that was read, that is told on standard error, and the text is kept on the second desk under another name, unless what is stored is the
 /// same, byte for byte.
 #[derive(Drop)]
-pub(crate) struct UserDesk<'a, 'w, R: Files, D, S> {
+pub struct UserDesk<'a, 'w, R: Files, D, S> {
     alloc: Global,
     rt: &'a R,
     names: Option<Names<'w>>,
     is_watched: bool,
-    pub(crate) files: D,
-    pub(crate) spared: S,
-    pub(crate) texts: Texts,
-    pub(crate) stored: Option<String>,
+    pub files: D,
+    pub spared: S,
+    pub texts: Texts,
+    pub stored: Option<String>,
 }
 
 /// The desk of the program: what would be lost goes to the files of the system too.
-pub(crate) type SystemDesk<'a, 'w, R> = UserDesk<'a, 'w, R, FileDesk<'a, R>, FileDesk<'a, R>>;
+pub type SystemDesk<'a, 'w, R> = UserDesk<'a, 'w, R, FileDesk<'a, R>, FileDesk<'a, R>>;
 
 // Where a name leads to, if that is a file.
 fn path_of<R: Files>(alloc: Global, rt: &R, name: &str) -> Option<String> {
@@ -135,7 +135,7 @@ fn tell(alloc: Global, rt: &impl Eprint, is_watched: bool, warning: &str) {
 impl<'a, 'w, R: Files + Eprint, D: ExactDesk, S: ExactDesk> UserDesk<'a, 'w, R, D, S> {
     /// These files, and this desk for what would be lost, for a command of these names. A line of progress on standard error is wiped
     /// before anything else is told there, where the run is watched.
-    pub(crate) fn new(
+    pub fn new(
         alloc: Global,
         rt: &'a R,
         names: Option<Names<'w>>,

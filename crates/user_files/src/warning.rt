@@ -154,7 +154,7 @@ fn name_warning<R: Files>(
 
 /// Says what may be amiss in a job that is done, from the texts that it read and the mesh that it stored last, each of which is read at most
 /// once more.
-pub(crate) fn warnings<R: Files>(
+pub fn warnings<R: Files>(
     alloc: Global,
     words: &[String],
     names: Option<Names<'_>>,

@@ -19,7 +19,7 @@ struct Ended {
 
 /// Which lines of a log took vertices away: its collapses, but for those in groups that were taken back.
 #[derive(Drop)]
-pub(crate) struct EndedVertices {
+pub struct EndedVertices {
     ended: Vec<Ended>,
     groups: Vec<u64>,
 }
@@ -53,7 +53,7 @@ impl EndedVertices {
     }
 
     /// The last line that took a vertex away, if one did.
-    pub(crate) fn line_of(&self, v: u32) -> Option<u64> {
+    pub fn line_of(&self, v: u32) -> Option<u64> {
         for ended in self.ended.as_slice().iter().rev() {
             if ended.v == v {
                 return Some(ended.line);
@@ -71,16 +71,16 @@ fn second_id(line: &[u8]) -> Option<u32> {
 
 /// Passes all on to another sink, and notes of a log what took vertices away.
 #[derive(Drop)]
-pub(crate) struct LogWatch<K> {
-    pub(crate) sink: K,
-    pub(crate) vertices: EndedVertices,
+pub struct LogWatch<K> {
+    pub sink: K,
+    pub vertices: EndedVertices,
     line: Vec<u8>,
     number: u64,
 }
 
 impl<K: Sink> LogWatch<K> {
     /// A sink that passes all on to this one, and has noted nothing.
-    pub(crate) fn new(alloc: Global, sink: K) -> Self {
+    pub fn new(alloc: Global, sink: K) -> Self {
         LogWatch {
             sink,
             vertices: EndedVertices {
