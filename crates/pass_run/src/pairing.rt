@@ -191,8 +191,15 @@ fn box_round(p: Wide, within: u32) -> Extent
     Extent { low, high }
 }
 
-/// A grid of the midpoints of edges, by their places in the list. Its cells are as long as midpoints may be apart, so that a
-/// question for those near one looks at 27 cells.
+/// How long the cells of a grid of midpoints are.
+fn cell_for(within: u32) -> u32
+    ensures { 0 < result }
+{
+    reach_of(within).saturating_mul(4).max(1)
+}
+
+/// A grid of the midpoints of edges, by their places in the list. Its cells are four times as long as midpoints may be apart, so that
+/// a question for those near one looks at eight cells at most, and mostly at three or four.
 pub(crate) fn midpoints<S: Surface>(
     alloc: Global,
     mesh: &S,
@@ -201,7 +208,7 @@ pub(crate) fn midpoints<S: Surface>(
 ) -> Result<Grid, NoMemory>
     ensures { IfOk result (AreMidpoints (S.mesh mesh.now) edges.now) }
 {
-    let mut grid = Grid::new(alloc, reach_of(within).max(1))?;
+    let mut grid = Grid::new(alloc, cell_for(within))?;
     for (k, e) in edges.iter().enumerate() {
         grid.insert(k as u64, box_of(exact_mid(mesh, e.0, e.1)))?;
     }
