@@ -215,22 +215,22 @@ pub(crate) fn midpoints<S: Surface>(
     Ok(grid)
 }
 
-/// The zips of an edge with the later edges that are near it, in order.
+/// The zips of an edge with the later edges that are near it, in order. The list of places is one to write in.
 pub(crate) fn near_pairs<S: Surface>(
     alloc: Global,
     mesh: &S,
     turn: &EdgeTurn<'_>,
     grid: &Grid,
+    places: &mut Vec<u64>,
 ) -> Result<Zips, NoMemory>
     requires { AreMidpoints (S.mesh mesh.now) turn.now.edges.now grid.now }
     ensures { let t = turn.now in
         let zips = near_zips (S.mesh mesh.now) t.within t.edge (drop (t.place + 1) t.edges.now) in
         IfOk result (λ asked. asked ≡ zips) }
 {
-    let mut places = Vec::new(alloc);
     let middle = exact_mid(mesh, turn.edge.0, turn.edge.1);
-    grid.overlapping(box_round(middle, turn.within), &mut places)?;
+    grid.overlapping(box_round(middle, turn.within), places)?;
     let mut asked = Zips::new(alloc);
-    put_later(mesh, turn, &places, &mut asked)?;
+    put_later(mesh, turn, places.as_slice(), &mut asked)?;
     Ok(asked)
 }

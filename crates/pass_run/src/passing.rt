@@ -192,6 +192,7 @@ fn take_pairs<S: Surface, O: Outside>(
     let edges = edges_in_order(alloc, mesh)?;
     let edges = edges.as_slice();
     let grid = midpoints(alloc, mesh, edges, within)?;
+    let mut places = Vec::new(alloc);
     let mut count = no_edit();
     for (i, e) in edges.iter().enumerate() {
         if is_over(terms.grouped, count) {
@@ -203,7 +204,7 @@ fn take_pairs<S: Surface, O: Outside>(
             place: i,
             edge: *e,
         };
-        let asked = near_pairs(alloc, mesh, &turn, &grid)?;
+        let asked = near_pairs(alloc, mesh, &turn, &grid, &mut places)?;
         let more = take_asked(alloc, mesh, terms, asked.as_slice(), outside)?;
         count = sum(count, more);
     }
