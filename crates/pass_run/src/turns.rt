@@ -58,18 +58,15 @@ fn is_longer_than_across<S: Surface>(mesh: &S, a: VertexId, b: VertexId, e: &Edg
     length_squared(mesh, e.c, e.d) < length_squared(mesh, a, b)
 }
 
-/// Whether a flip of the edge is due.
+/// Whether a flip of the edge is due. Most edges are shorter than across, so that is looked at before whether they are crowded.
 #[inline(always)]
 fn is_flip_due<S: Surface>(mesh: &S, a: VertexId, b: VertexId) -> bool
     requires { IsClosed (S.mesh mesh.now) }
     ensures { result ≡ is_due (S.mesh mesh.now) PassKind.Flip (asked.Flip a b) }
 {
-    if !is_edge(mesh, a, b) || is_crowded(mesh, a, b) {
-        return false;
-    }
     match edge_beside(mesh, a, b) {
         None => false,
-        Some(across) => is_longer_than_across(mesh, a, b, &across),
+        Some(across) => { is_longer_than_across(mesh, a, b, &across) && !is_crowded(mesh, a, b) }
     }
 }
 
