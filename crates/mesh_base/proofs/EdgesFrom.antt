@@ -1,5 +1,5 @@
 -- The sides of the faces at a vertex to those above it, in order and each of them once, are the edges from it.
-use Rattle.std.proofs.Common.{◌≡◌, ℕ, ◌+◌, ◌<◌, ◌≤◌, ◌==◌, ◌&&◌, ◌||◌, Bool, true, List, [], ◌∷◌, ◌++◌, map, nat_lt, ◌⊎◌, refl, sym, ap, subst, ◌∙◌, ⊎_elim, arith}
+use Rattle.std.proofs.Common.{◌≡◌, ℕ, ◌+◌, ◌<◌, ◌≤◌, ◌==◌, ◌&&◌, ◌||◌, Bool, true, List, [], ◌∷◌, ◌++◌, map, Option, Some, None, nat_lt, ◌⊎◌, refl, sym, ap, subst, ◌∙◌, ⊎_elim, arith}
 use Rattle.std.specs.List.{filter, flat_map, list_any, AllByRecursion, Contains}
 use Rattle.std.specs.List.Sorted.{IsStrictlySortedBy}
 use Rattle.std.specs.FinMap as finite
@@ -7,9 +7,10 @@ use Rattle.std.specs.FinMap.{entries_sorted}
 use Rattle.std.proofs.lemmas.Map.Lookups.{exact_pairs, exact_unsigned, btree_set_from_contains, CmpEqualImpliesEq}
 use Rattle.std.proofs.lemmas.List.Elements.{filter-append, All-from_recursion, All-contains, All-contains_itself, recursion_from_All}
 use Rattle.std.proofs.lemmas.List.Kept.{IsStrictlySortedBy-filter}
-use Rattle.std.proofs.lemmas.Bool.{ltb-true, lt-ltb, eqb-true}
+use Rattle.std.proofs.lemmas.Bool.{false≢true, ltb-true, lt-ltb, eqb-true}
 use Rattle.std.proofs.lemmas.Bool.Decides.{nat_tests}
-use Rattle.std.specs.Ordering.{nat_cmp}
+use Rattle.std.specs.Ordering.{nat_cmp, ordering_then}
+use Rattle.std.specs.declared.cmp.Ordering.TheVariants.{Less, Equal}
 use Rattle.grid_base.specs.declared.TheConstants.{ID_MAX}
 use Rattle.mesh_base.specs.declared.ids.Corners.{Corners}
 use Rattle.mesh_base.specs.Mesh.{Mesh, IsSound, HasCorners}
@@ -17,10 +18,19 @@ use Rattle.mesh_base.specs.Sides.{above, follows, has_corner, faces_at, runs, Is
 use Rattle.mesh_base.specs.Pairs.{edges, is_edge}
 use Rattle.mesh_base.specs.SideList.{edge_cmp, has_side, HasSmallEnds, are_neighbours, neighbours_in}
 use Rattle.mesh_base.proofs.Tests.{and_first, and_second, and_both, or_first, or_second, or_either, both_ways}
-use Rattle.mesh_base.proofs.InOrder.{edge_total, keys_sorted, sorted_mapped, less_second}
+use Rattle.mesh_base.proofs.InOrder.{edge_total, keys_sorted, sorted_mapped}
 use Rattle.mesh_base.proofs.Listed.{running_face, at_live, at_key, all_map, all_filter, edge_live}
-use Rattle.mesh_base.proofs.ListedPairs.{all_always, all_mapped, all_filtered}
-use Rattle.mesh_base.proofs.EdgesInOrder.{any_found, any_each, seen_edge, has_contained, contained}
+use Rattle.mesh_base.proofs.ListedPairs.{all_weaker, all_always, all_mapped, all_filtered}
+use Rattle.mesh_base.proofs.EdgesInOrder.{one_runs, has_contained, contained}
+
+-- ---- what some of a list passes
+any_found : {X : Type 0} (p : X → Bool) (xs : List X) → list_any p xs ≡ true → (x : X) × (p x ≡ true)
+any_found p [] h = absurd (false≢true h)
+any_found p (x ∷ xs) h = ⊎_elim (λ e. (x, e)) (λ e. any_found p xs e) (or_either (p x) (list_any p xs) h)
+
+any_each : {X : Type 0} (p : X → Bool) (xs : List X) → AllByRecursion (λ x. p x ≡ true → list_any p xs ≡ true) xs
+any_each p [] = tt
+any_each p (x ∷ xs) = (or_first (p x) (list_any p xs), all_weaker (λ y. p y ≡ true → list_any p xs ≡ true) (λ y. p y ≡ true → (p x || list_any p xs) ≡ true) xs (λ y h e. or_second (p x) (list_any p xs) (h e)) (any_each p xs))
 
 -- ---- the faces at a vertex
 same_id : (x : ℕ) → (x == x) ≡ true
@@ -28,6 +38,13 @@ same_id x = grind (arith, nat_tests)
 
 abbrev seen : Mesh → ℕ → ℕ → ℕ → Bool
 seen m a b f = neighbours_in (finite.get m.faces f) a b
+
+seen_edge : (m : Mesh) (f a b : ℕ) → seen m a b f ≡ true → IsEdge m a b
+seen_edge m f a b h = by_face (finite.get m.faces f) refl h
+  where
+    by_face : (o : Option Corners) → finite.get m.faces f ≡ o → neighbours_in o a b ≡ true → IsEdge m a b
+    by_face None is e = absurd (false≢true e)
+    by_face (Some c) is e = ⊎_elim (λ one. let some = one_runs m f c a b is one in omega (arith, some)) (λ one. let some = one_runs m f c b a is one in omega (arith, some)) (or_either (follows c a b) (follows c b a) e)
 
 either_corner : (c : Corners) (v : ℕ) → ((c.first == v) ≡ true → has_corner c v ≡ true) × ((c.second == v) ≡ true → has_corner c v ≡ true) × ((c.third == v) ≡ true → has_corner c v ≡ true)
 either_corner c v = (
@@ -69,6 +86,12 @@ edge_seen_at m v b edge = ⊎_elim
 -- ---- the edges from a vertex
 abbrev pub edges_from : Mesh → ℕ → List (ℕ × ℕ)
 edges_from m v = filter (λ e. is_edge m e.0 e.1) (map (λ w. (v, w)) (above v (finite.keys m.points)))
+
+less_second : (u v w : ℕ) → nat_cmp v w ≡ Less → edge_cmp (u, v) (u, w) ≡ Less
+less_second u v w h = ap (λ o. ordering_then o (nat_cmp v w)) (tied u) ∙ h
+  where
+    tied : (u : ℕ) → nat_cmp u u ≡ Equal
+    tied u = grind (arith, nat_tests)
 
 from_sorted : (m : Mesh) (v : ℕ) → IsStrictlySortedBy edge_cmp (edges_from m v)
 from_sorted m v =

@@ -88,18 +88,18 @@ seen_no_more o low here e = same o low ∙ ap (λ h. o || (low && h)) (sym e)
     same false false = refl
 
 -- ---- edges as what is seen
-pub any_found : {X : Type 0} (p : X → Bool) (xs : List X) → list_any p xs ≡ true → (x : X) × (p x ≡ true)
+any_found : {X : Type 0} (p : X → Bool) (xs : List X) → list_any p xs ≡ true → (x : X) × (p x ≡ true)
 any_found p [] h = absurd (false≢true h)
 any_found p (x ∷ xs) h = ⊎_elim (λ e. (x, e)) (λ e. any_found p xs e) (or_either (p x) (list_any p xs) h)
 
-pub any_each : {X : Type 0} (p : X → Bool) (xs : List X) → AllByRecursion (λ x. p x ≡ true → list_any p xs ≡ true) xs
+any_each : {X : Type 0} (p : X → Bool) (xs : List X) → AllByRecursion (λ x. p x ≡ true → list_any p xs ≡ true) xs
 any_each p [] = tt
 any_each p (x ∷ xs) = (or_first (p x) (list_any p xs), all_weaker (λ y. p y ≡ true → list_any p xs ≡ true) (λ y. p y ≡ true → (p x || list_any p xs) ≡ true) xs (λ y h e. or_second (p x) (list_any p xs) (h e)) (any_each p xs))
 
 pub one_runs : (m : Mesh) (f : ℕ) (c : Corners) (u v : ℕ) → HasCorners m f c → follows c u v ≡ true → 0 < runs m u v
 one_runs m f c u v there e = let count = runs-without_face m f c u v there in let one : cond {A = ℕ} (follows c u v) 1 0 ≡ 1 = ap (λ t. cond {A = ℕ} t 1 0) e in omega (arith, count, one)
 
-pub seen_edge : (m : Mesh) (f a b : ℕ) → neighbours_in (finite.get m.faces f) a b ≡ true → IsEdge m a b
+seen_edge : (m : Mesh) (f a b : ℕ) → neighbours_in (finite.get m.faces f) a b ≡ true → IsEdge m a b
 seen_edge m f a b h = by_face (finite.get m.faces f) refl h
   where
     by_face : (o : Option Corners) → finite.get m.faces f ≡ o → neighbours_in o a b ≡ true → IsEdge m a b

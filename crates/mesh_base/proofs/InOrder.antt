@@ -74,7 +74,7 @@ edge_total = then_total (on_total (λ (x : ℕ × ℕ). x.0) nat_cmp_total) (on_
 tied : (u : ℕ) → nat_cmp u u ≡ Equal
 tied u = grind (arith, nat_tests)
 
-pub less_second : (u v w : ℕ) → nat_cmp v w ≡ Less → edge_cmp (u, v) (u, w) ≡ Less
+less_second : (u v w : ℕ) → nat_cmp v w ≡ Less → edge_cmp (u, v) (u, w) ≡ Less
 less_second u v w h = ap (λ o. ordering_then o (nat_cmp v w)) (tied u) ∙ h
 
 id_pairs_sorted : (ids : List ℕ) → IsStrictlySortedBy nat_cmp ids → IsStrictlySortedBy edge_cmp (id_pairs ids)
