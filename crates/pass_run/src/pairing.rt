@@ -191,8 +191,15 @@ fn box_round(p: Wide, within: u32) -> Extent
     Extent { low, high }
 }
 
-/// A grid of the midpoints of edges, by their places in the list. Its cells are as long as midpoints may be apart, so that a
-/// question for those near one looks at 27 cells.
+/// How long the cells of a grid of midpoints are.
+fn cell_for(within: u32) -> u32
+    ensures { 0 < result }
+{
+    reach_of(within).saturating_mul(4).max(1)
+}
+
+/// A grid of the midpoints of edges, by their places in the list. Its cells are four times as long as midpoints may be apart, so that
+/// a question for those near one looks at eight cells at most, and mostly at three or four.
 pub(crate) fn midpoints<S: Surface>(
     alloc: Global,
     mesh: &S,
@@ -201,29 +208,29 @@ pub(crate) fn midpoints<S: Surface>(
 ) -> Result<Grid, NoMemory>
     ensures { IfOk result (AreMidpoints (S.mesh mesh.now) edges.now) }
 {
-    let mut grid = Grid::new(alloc, reach_of(within).max(1))?;
+    let mut grid = Grid::new(alloc, cell_for(within))?;
     for (k, e) in edges.iter().enumerate() {
         grid.insert(k as u64, box_of(exact_mid(mesh, e.0, e.1)))?;
     }
     Ok(grid)
 }
 
-/// The zips of an edge with the later edges that are near it, in order.
+/// The zips of an edge with the later edges that are near it, in order. The list of places is one to write in.
 pub(crate) fn near_pairs<S: Surface>(
     alloc: Global,
     mesh: &S,
     turn: &EdgeTurn<'_>,
     grid: &Grid,
+    places: &mut Vec<u64>,
 ) -> Result<Zips, NoMemory>
     requires { AreMidpoints (S.mesh mesh.now) turn.now.edges.now grid.now }
     ensures { let t = turn.now in
         let zips = near_zips (S.mesh mesh.now) t.within t.edge (drop (t.place + 1) t.edges.now) in
         IfOk result (λ asked. asked ≡ zips) }
 {
-    let mut places = Vec::new(alloc);
     let middle = exact_mid(mesh, turn.edge.0, turn.edge.1);
-    grid.overlapping(box_round(middle, turn.within), &mut places)?;
+    grid.overlapping(box_round(middle, turn.within), places)?;
     let mut asked = Zips::new(alloc);
-    put_later(mesh, turn, &places, &mut asked)?;
+    put_later(mesh, turn, places.as_slice(), &mut asked)?;
     Ok(asked)
 }

@@ -39,6 +39,7 @@ pub struct PassCount {
 }
 
 /// The count of no edit.
+#[inline(always)]
 pub(crate) fn no_edit() -> PassCount
     ensures done { result.done ≡ 0 }
     ensures refused { result.refused ≡ 0 }
@@ -69,6 +70,7 @@ pub(crate) fn count_of(line: &LogLine) -> PassCount
 }
 
 /// The sum of two counts.
+#[inline(always)]
 pub(crate) fn sum(a: PassCount, b: PassCount) -> PassCount
     requires { a.done + a.refused + b.done + b.refused < 2 ^ 64 }
     ensures done { result.done ≡ a.done + b.done }
@@ -81,6 +83,7 @@ pub(crate) fn sum(a: PassCount, b: PassCount) -> PassCount
 }
 
 /// Whether a pass is over after this count.
+#[inline(always)]
 pub(crate) fn is_over(grouped: bool, count: PassCount) -> bool
     ensures { result ≡ (grouped && nat_lt 0 count.refused) }
 {
@@ -88,6 +91,7 @@ pub(crate) fn is_over(grouped: bool, count: PassCount) -> bool
 }
 
 /// What is asked, if anything: its edit, its line and its count.
+#[inline(always)]
 fn take_one<S: Surface, O: Outside>(
     alloc: Global,
     mesh: &mut S,
@@ -188,6 +192,7 @@ fn take_pairs<S: Surface, O: Outside>(
     let edges = edges_in_order(alloc, mesh)?;
     let edges = edges.as_slice();
     let grid = midpoints(alloc, mesh, edges, within)?;
+    let mut places = Vec::new(alloc);
     let mut count = no_edit();
     for (i, e) in edges.iter().enumerate() {
         if is_over(terms.grouped, count) {
@@ -199,7 +204,7 @@ fn take_pairs<S: Surface, O: Outside>(
             place: i,
             edge: *e,
         };
-        let asked = near_pairs(alloc, mesh, &turn, &grid)?;
+        let asked = near_pairs(alloc, mesh, &turn, &grid, &mut places)?;
         let more = take_asked(alloc, mesh, terms, asked.as_slice(), outside)?;
         count = sum(count, more);
     }

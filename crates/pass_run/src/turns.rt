@@ -21,6 +21,7 @@ use mesh_base::{Surface, VertexId};
 use std::alloc::Global;
 
 /// The length that a pass goes by.
+#[inline(always)]
 fn limit_of(kind: PassKind) -> u32
     ensures { result ≡ limit_of kind }
 {
@@ -34,6 +35,7 @@ fn limit_of(kind: PassKind) -> u32
 }
 
 /// Whether a split of the edge is due.
+#[inline(always)]
 fn is_split_due<S: Surface>(mesh: &S, kind: PassKind, a: VertexId, b: VertexId) -> bool
     ensures { result ≡ is_due (S.mesh mesh.now) kind (asked.Split a b) }
 {
@@ -41,6 +43,7 @@ fn is_split_due<S: Surface>(mesh: &S, kind: PassKind, a: VertexId, b: VertexId) 
 }
 
 /// Whether a collapse of the edge is due.
+#[inline(always)]
 fn is_collapse_due<S: Surface>(mesh: &S, kind: PassKind, a: VertexId, b: VertexId) -> bool
     ensures { result ≡ is_due (S.mesh mesh.now) kind (asked.Collapse a b) }
 {
@@ -55,17 +58,15 @@ fn is_longer_than_across<S: Surface>(mesh: &S, a: VertexId, b: VertexId, e: &Edg
     length_squared(mesh, e.c, e.d) < length_squared(mesh, a, b)
 }
 
-/// Whether a flip of the edge is due.
+/// Whether a flip of the edge is due. Most edges are shorter than across, so that is looked at before whether they are crowded.
+#[inline(always)]
 fn is_flip_due<S: Surface>(mesh: &S, a: VertexId, b: VertexId) -> bool
     requires { IsClosed (S.mesh mesh.now) }
     ensures { result ≡ is_due (S.mesh mesh.now) PassKind.Flip (asked.Flip a b) }
 {
-    if !is_edge(mesh, a, b) || is_crowded(mesh, a, b) {
-        return false;
-    }
     match edge_beside(mesh, a, b) {
         None => false,
-        Some(across) => is_longer_than_across(mesh, a, b, &across),
+        Some(across) => { is_longer_than_across(mesh, a, b, &across) && !is_crowded(mesh, a, b) }
     }
 }
 
@@ -85,6 +86,7 @@ fn is_zip_due<S: Surface>(
 }
 
 /// Whether what is asked is due.
+#[inline(always)]
 fn is_due<S: Surface>(
     alloc: Global,
     mesh: &S,
@@ -107,6 +109,7 @@ fn is_due<S: Surface>(
 }
 
 /// What is asked where it is due.
+#[inline(always)]
 fn asked_if(due: bool, what: Asked) -> Option<Asked>
     ensures { result ≡ if due then Some what else None }
 {
@@ -118,6 +121,7 @@ impl Chooses for PassKind {
 
     ghost may_choose = { λ kind m what call. call ≡ choice_in kind m what };
 
+    #[inline(always)]
     fn choice<S: Surface>(
         &self,
         alloc: Global,
@@ -142,6 +146,7 @@ pub(crate) fn line_of(what: Asked, edit: Edit) -> LogLine
 
 /// The edit that is asked, if one is, and its line. The mesh is made ready for its check first, where what was moved since calls
 /// for it.
+#[inline(always)]
 pub(crate) fn line_of_call<S: Surface>(
     alloc: Global,
     mesh: &mut S,

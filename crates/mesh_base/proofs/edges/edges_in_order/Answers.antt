@@ -1,22 +1,39 @@
-use Rattle.std.proofs.Common.{◌≡◌, ◌∙◌, ℕ, List, Result, Ok, Err, IfOk, subst}
-use Rattle.std.specs.List.Sorted.{IsStrictlySortedBy}
+use Rattle.std.proofs.Common.{◌≡◌, ◌++◌, Some, append_assoc, append-nil, ap, refl, sym, ◌∙◌, arith}
+use Rattle.std.specs.List.{flat_map}
 use Rattle.std.specs.FinMap as map
-use Rattle.mesh_base.specs.Mesh.{Mesh, IsSound}
-use Rattle.mesh_base.specs.Pairs.{edges}
-use Rattle.mesh_base.specs.SideList.{edge_cmp, neighbours_in_any, HasSides}
-use Rattle.mesh_base.proofs.EdgesInOrder.{sides_are_edges}
+use Rattle.mesh_base.specs.Sides.{above}
+use Rattle.mesh_base.proofs.WalkSteps.{walk-start, above-step, above-end}
+use Rattle.mesh_base.proofs.EdgesFrom.{edges_from, edges_by_ends}
 use Rattle.mesh_base.proofs.edges.edges_in_order.Goals as goal
 
--- the sides of all live faces are the edges, if there was memory to find them
-by_result : {E : Type 0} (m : Mesh) (r : Result (List (ℕ × ℕ)) E) → IsSound m → IfOk r (λ found. IsStrictlySortedBy edge_cmp found)
-    → IfOk r (λ found. HasSides found (neighbours_in_any m (map.keys m.faces))) → IfOk r (λ found. found ≡ edges m)
-by_result m (Ok found) sound order sides = sides_are_edges m found sound order sides
-by_result m (Err error) sound order sides = tt
+pub loop-v-init : goal.loop-v-init
+loop-v-init g c =
+    let m = g.S.Surface.mesh c.args.mesh.now in
+    let start = walk-start m.points (λ q h. ((g.met.S.Surface.sound c.args.mesh.now).is_mesh.vertex_ids q h).0) in
+    ap (λ found. found ++ flat_map (edges_from m) (above 0 (map.keys m.points))) c.in_ok-found.ensures.items
+    ∙ ap (flat_map (edges_from m)) start ∙ edges_by_ends m
+
+pub loop-v-smaller : goal.loop-v-smaller
+loop-v-smaller g c =
+    let points = (g.S.Surface.mesh c.args.mesh.now).points in
+    let rest = above-step points c.loop-v.last c.v.inside.0 (sym c.in-Some.ensures ∙ ap Some (sym c.v.view_is)) in
+    rw rest (omega arith)
+
+pub loop-v-preserved : goal.loop-v-preserved
+loop-v-preserved g c =
+    let m = g.S.Surface.mesh c.args.mesh.now in
+    let v = c.v.inside.0 in
+    let found = c.loop-v.found.items in
+    let rest = above-step m.points c.loop-v.last v (sym c.in-Some.ensures ∙ ap Some (sym c.v.view_is)) in
+    let row : c.as_slice.result.now ≡ edges_from m v = c.as_slice.ensures.value ∙ c.in_ok-set_edges_from.ensures refl ∙ ap (edges_from m) (sym c.v.view_is) in
+    let tail = flat_map (edges_from m) (above v (map.keys m.points)) in
+    ap (λ xs. xs ++ tail) (c.in_ok-extend_from_slice.ensures.items ∙ ap (λ xs. found ++ xs) row)
+    ∙ append_assoc found (edges_from m v) tail
+    ∙ ap (λ ids. found ++ flat_map (edges_from m) ids) (sym rest) ∙ c.loop-v.invariant
 
 pub returns : goal.returns
 returns g c =
     let m = g.S.Surface.mesh c.args.mesh.now in
-    let r = c.sides_in_order.result in
-    let P : List ℕ → Type 0 = λ faces. IfOk r (λ found. HasSides found (neighbours_in_any m faces)) in
-    by_result m r (g.met.S.Surface.sound c.args.mesh.now) c.sides_in_order.ensures.order
-    (subst P (c.as_slice.ensures ∙ c.in_ok-faces.ensures) c.sides_in_order.ensures.sides)
+    let found = c.loop-v.found.items in
+    let none = above-end c.loop-v.last (map.keys m.points) (sym c.vertex_after.ensures ∙ c.in_default.is) in
+    c.from_vec.ensures ∙ sym (append-nil found) ∙ ap (λ ids. found ++ flat_map (edges_from m) ids) (sym none) ∙ c.loop-v.invariant

@@ -11,6 +11,6 @@ returns g c =
     let t = c.args.turn.now in
     let P : Triple → Type 0 = λ p. HasEachNear p t.within c.box_round.result in
     let reaches = subst P c.exact_mid-middle.ensures.value c.box_round.ensures in
-    let made = λ (l : List Asked). l ++ later_zips m t.within t.edges.now t.place t.edge c.deref.result.now in
+    let made = λ (l : List Asked). l ++ later_zips m t.within t.edges.now t.place t.edge c.as_slice.result.now in
     c.in_ok-put_later.ensures ∙ ap made c.new-asked.ensures
-    ∙ near_places m t.within t.edges.now c.args.grid.now c.box_round.result t.place t.edge c.requires reaches c.deref.result.now (c.deref.ensures.value ∙ c.in_ok-overlapping.ensures.ok)
+    ∙ near_places m t.within t.edges.now c.args.grid.now c.box_round.result t.place t.edge c.requires reaches c.as_slice.result.now (c.as_slice.ensures.value ∙ c.in_ok-overlapping.ensures.ok)
