@@ -9,3 +9,4 @@ pub mod Events
 pub mod Fitting
 pub mod Numbered
 pub mod Editing
+pub mod Components
