@@ -1,15 +1,15 @@
 -- The faces of a component, its vertices, and the sums over them.
-use Rattle.std.proofs.Common.{◌≡◌, ◌⊎◌, ℕ, zero, suc, ◌+◌, ◌*◌, ◌^◌, ◌<◌, ◌≤◌, Bool, true, false, cond, ◌||◌, ◌==◌, nat_lt, ℤ, pos, ◌+ℤ◌, unsigned_abs, List, [], ◌∷◌, ◌++◌, map, take, length, get_or, ⊎_elim, inl, inr, refl, sym, ap, subst, ◌∙◌, arith}
+use Rattle.std.proofs.Common.{◌≡◌, ℕ, zero, suc, ◌+◌, ◌*◌, ◌^◌, ◌<◌, ◌≤◌, Bool, true, false, cond, ◌||◌, ◌==◌, nat_lt, ℤ, pos, ◌+ℤ◌, unsigned_abs, List, [], ◌∷◌, ◌++◌, map, take, length, get_or, ⊎_elim, refl, sym, ap, subst, ◌∙◌, arith}
 use Rattle.std.specs.Prelude.{◌↔◌}
 use Rattle.std.proofs.lemmas.Bool.{false≢true}
 use Rattle.std.proofs.lemmas.Bool.Decides.{nat_tests}
 use Rattle.std.proofs.lemmas.Int.{ints}
 use Rattle.std.proofs.Math.Nat.{suc-mul}
-use Rattle.std.proofs.lemmas.List.{length-append, length-map, take_more, take_all}
+use Rattle.std.proofs.lemmas.List.{length-append, take_more, take_all}
 use Rattle.std.proofs.lemmas.List.Kept.{IsStrictlySortedBy-filter}
 use Rattle.std.proofs.lemmas.Map.Lookups.{exact_unsigned, btree_set_from_contains}
 use Rattle.std.specs.Cmp.{nat_cmp_total, unsigned_tied}
-use Rattle.std.specs.List.{filter, flat_map, list_any, Contains}
+use Rattle.std.specs.List.{flat_map, list_any, Contains}
 use Rattle.std.specs.List.Sorted.{IsStrictlySortedBy}
 use Rattle.std.specs.Ordering.{nat_cmp, eq_by_cmp}
 use Rattle.std.specs.FinMap as finite
@@ -17,17 +17,16 @@ use Rattle.std.specs.FinMap.{entries_sorted, len-entries}
 use Rattle.std.proofs.lemmas.Map.Entries.{length-keys_of}
 use Rattle.std.specs.HashSet.{HashSet, IsEmpty}
 use Rattle.grid_base.specs.declared.TheConstants.{VERTICES_MAX, FACES_MAX}
-use Rattle.mesh_base.specs.declared.ids.Corners.{Corners}
-use Rattle.mesh_base.specs.Mesh.{Mesh, IsSound, HasCorners}
+use Rattle.mesh_base.specs.Mesh.{Mesh, IsSound}
 use Rattle.mesh_base.specs.Placements.{rest_positions}
 use Rattle.mesh_base.specs.Sides.{has_corner, above, faces_at}
 use Rattle.mesh_base.specs.Pairs.{is_edge}
 use Rattle.mesh_base.specs.Changes.{corner_list}
 use Rattle.mesh_base.proofs.InOrder.{keys_sorted}
-use Rattle.mesh_base.proofs.Tests.{both_ways, or_either}
+use Rattle.mesh_base.proofs.Tests.{both_ways}
 use Rattle.edit_base.specs.Classes.{is_one_of, Linked, class_of}
 use Rattle.edit_base.specs.Edges.{corners_at}
-use Rattle.edit_base.proofs.Chains.{Has, has_contained, passed, passes, near_is, test_at, is_linked, linked_has, contains_had, either_first, equal_itself}
+use Rattle.edit_base.proofs.Chains.{Has, has_contained, passed, passes, near_is, test_at, is_linked, linked_has, contains_had}
 use Rattle.mesh_measure.specs.declared.TheConstants.{DETERMINANT_MAX}
 use Rattle.mesh_measure.specs.Above.{edges_from}
 use Rattle.mesh_measure.specs.Components.{corners_in, vertices_of, edges_above, volume6_of, component_of, each_component}
@@ -165,7 +164,6 @@ few_above m sound vs few = subst (λ l. length (edges_above m l) ≤ VERTICES_MA
 
 pub counted_more : (m : Mesh) (vs : List ℕ) (i x n more : ℕ) → i < length vs → x ≡ get_or vs i x → n ≡ length (edges_above m (take i vs)) → more ≡ length (edges_from m x) → n + more ≡ length (edges_above m (take (i + 1) vs))
 counted_more m vs i x n more low is told new =
-    let longer = ap length (one_more_face (edges_from m) vs i x low is) ∙ length-append (edges_from m x) [] in
     let parts = length-append (flat_map (edges_from m) (take i vs)) (edges_from m x) in
     let whole = ap length (one_more_face (edges_from m) vs i x low is) in
     omega (arith, whole, parts, told, new)

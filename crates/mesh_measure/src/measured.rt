@@ -2,7 +2,7 @@
 ghost use Rattle.std.specs.Prelude.{◌≡◌, ◌≤◌, ◌<◌, ◌*◌, ◌^◌, pos, ◌+ℤ◌, ◌-ℤ◌, ◌++◌, ◌∷◌, ℕ, [], true, length, map, slice_index, unsigned_abs, IfOk, OnOk, if◌then◌else◌};
 ghost use Rattle.std.specs.FinMap as finite;
 ghost use Rattle.grid_base.specs.declared.TheConstants.{VERTICES_MAX, FACES_MAX};
-ghost use Rattle.mesh_base.specs.Changes.{corner_list};
+ghost use Rattle.mesh_base.specs.Sides.{has_corner};
 ghost use Rattle.edit_base.specs.Classes.{is_one_of, class_of};
 ghost use Rattle.edit_base.specs.Edges.{corners_at};
 ghost use Rattle.mesh_measure.specs.Components.{edges_above, volume6_of, euler_of, component_of, each_component, vertices_of};
@@ -115,29 +115,31 @@ fn least(rising: &[u32]) -> u32
     }
 }
 
-// Puts the component of a face at the end of the list, unless its vertices were met before. Afterwards they are met.
+// Puts the component of a face, of which this is a corner, at the end of the list, unless the corner was met before. Afterwards the vertices of
+// the component are met.
 fn put_component<S: Surface>(
     alloc: Global,
     mesh: &S,
     f: FaceId,
+    v: VertexId,
     met: &mut HashSet<u32>,
     all: &mut Components,
 ) -> Result<(), NoMemory>
-    requires { is_one_of (finite.keys (S.mesh mesh.now).faces) f ≡ true }
-    ensures all { let m = S.mesh mesh.now in let first = (corners_at m f).first in
+    requires live { is_one_of (finite.keys (S.mesh mesh.now).faces) f ≡ true }
+    requires corner { has_corner (corners_at (S.mesh mesh.now) f) v ≡ true }
+    ensures all { let m = S.mesh mesh.now in
         let component = component_of m (class_of (share_vertex m) (finite.keys m.faces) f) in
         OnOk result (all.new ≡
-        (if has_met met.old first then all.old else all.old ++ component ∷ [])) }
-    ensures met { let m = S.mesh mesh.now in
-        OnOk result (Spreads m (corners_at m f).first met.old met.new) }
+        (if has_met met.old v then all.old else all.old ++ component ∷ [])) }
+    ensures met { OnOk result (Spreads (S.mesh mesh.now) v met.old met.new) }
 {
-    let first = corners_at(mesh, f).first;
-    if met.contains(&first.0) {
+    if met.contains(&v.0) {
         return Ok(());
     }
-    let faces = faces_from(alloc, mesh, first)?;
-    all.push(component_of(alloc, mesh, faces.as_slice())?)?;
-    spread(alloc, mesh, first, met)?;
+    let faces = faces_from(alloc, mesh, v)?;
+    let component = component_of(alloc, mesh, faces.as_slice())?;
+    all.push(component)?;
+    spread(alloc, mesh, v, met)?;
     Ok(())
 }
 
@@ -151,7 +153,8 @@ pub fn each_component<S: Surface>(alloc: Global, mesh: &S) -> Result<Components,
     let mut met = HashSet::new(alloc);
     let mut all = Components::new(alloc);
     for f in faces.as_slice() {
-        put_component(alloc, mesh, *f, &mut met, &mut all)?;
+        let first = corners_at(mesh, *f).first;
+        put_component(alloc, mesh, *f, first, &mut met, &mut all)?;
     }
     Ok(all)
 }

@@ -19,14 +19,15 @@ ghost use Rattle.edit_base.specs.declared.PassKind.TheVariants as pass;
 ghost use Rattle.track_engine.specs.Told.{step_told, pass_told};
 ghost use Rattle.track_engine.specs.Effects.{undo_effect};
 ghost use Rattle.track_held.specs.Reading.{named_points, named_faces, solid_vertices, star_of, beside_edge};
-ghost use Rattle.track_held.specs.Components.{told_components};
 ghost use Rattle.track_held.specs.Numbered.{given_rows};
+ghost use Rattle.topo_library.specs.Components.{told_components};
 ghost use Rattle.topo_library.specs.Codes.{tracked, HandleHasDone, HandleHasTold, IsBeyond, AreSettings, HandleHasSet, HandleHasFitted, HandleHasWritten, HandleHasEdited, HandleHasShifted, HandleHasShiftedAll, HandleHasShiftedEach, HasMade, HasMadeNumbered, HandleHasPut, HandleHasPutEvents, HandleHasForgotten, HandleHasTakenLog, HandleHasCounted};
 ghost use Rattle.topo_library.specs.Tellings.{way_told, edits_told, closing_of, undone_of, settings_at, band_of};
 
 mod alone;
 mod calling;
 mod codes;
+mod components;
 mod editing;
 mod fault;
 mod handle;
@@ -42,6 +43,7 @@ mod tracker;
 use alone::{TopoFive, tell_meets, tell_passes};
 use calling::{advance, close, fit, pass_with, set, shift_each, shift_every, shift_one, step};
 use codes::RANGE;
+use components::TopoComponent;
 use edit_base::PassKind;
 use editing::{edit_each, undo};
 use fault::TopoFault;
@@ -58,7 +60,7 @@ use settings::{band_of, settings_at};
 use std::alloc::Global;
 use step_text::Directive;
 use telling::{TopoCounted, TopoEdits, TopoWay};
-use track_held::{Event, GivenEdit, GivenFace, GivenPoint, NamedFace, NamedPoint, ToldAnswer, ToldComponent};
+use track_held::{Event, GivenEdit, GivenFace, GivenPoint, NamedFace, NamedPoint, ToldAnswer};
 
 /// The version of these calls. It rises where what one of them takes or answers changes, and where one is gone.
 pub const CALLS: u32 = 1;
@@ -497,7 +499,7 @@ pub extern "C" fn topo_solids(
 pub extern "C" fn topo_components(
     alloc: Global,
     topo: &mut Topo,
-    into: &mut [ToldComponent],
+    into: &mut [TopoComponent],
     size: &mut usize,
 ) -> u32
     ensures { HandleHasPut (λ t. told_components (tracked t).mesh)

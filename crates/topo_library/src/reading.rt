@@ -1,19 +1,20 @@
 //! The tracker of a handle is read.
 ghost use Rattle.std.specs.Prelude.{◌≡◌, ◌≢◌};
-ghost use Rattle.track_held.specs.Components.{told_components};
 ghost use Rattle.track_held.specs.Events.{with_first_line};
 ghost use Rattle.track_held.specs.Reading.{named_points, named_faces, solid_vertices, star_of, beside_edge};
+ghost use Rattle.topo_library.specs.Components.{told_components};
 ghost use Rattle.topo_library.specs.Codes.{tracked, told, HasPut, HandleHasPut, HasPutEvents, HandleHasPutEvents, HasForgotten, HandleHasForgotten, HasTakenLog, HandleHasTakenLog, counts_of, HandleHasCounted};
 
 use crate::codes::{DONE, EMPTY, NO_MEMORY, RANGE, UNREAD};
+use crate::components::{TopoComponent, told_components};
 use crate::handle::Topo;
 use crate::telling::TopoCounted;
 use crate::tracker::Tracker;
 use mesh_base::{Surface, VertexId};
 use std::alloc::Global;
 use track_held::{
-    Event, EventRefusal, NamedFace, NamedPoint, ToldComponent, beside_edge, named_faces,
-    named_points, put_rows, solid_vertices, star_of, told_components, told_events,
+    Event, EventRefusal, NamedFace, NamedPoint, beside_edge, named_faces, named_points, put_rows,
+    solid_vertices, star_of, told_events,
 };
 
 // Puts rows into a buffer, where all of them fit, and tells their number.
@@ -184,7 +185,7 @@ pub(crate) fn read_solids(alloc: Global, topo: &mut Topo, into: &mut [u32], size
 fn put_components(
     alloc: Global,
     tracker: &Tracker,
-    into: &mut [ToldComponent],
+    into: &mut [TopoComponent],
     size: &mut usize,
 ) -> u32
     ensures { HasPut (told_components (tracked tracker.now).mesh)
@@ -200,7 +201,7 @@ fn put_components(
 pub(crate) fn read_components(
     alloc: Global,
     topo: &mut Topo,
-    into: &mut [ToldComponent],
+    into: &mut [TopoComponent],
     size: &mut usize,
 ) -> u32
     ensures { HandleHasPut (λ t. told_components (tracked t).mesh)

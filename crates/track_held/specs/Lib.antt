@@ -9,4 +9,3 @@ pub mod Events
 pub mod Fitting
 pub mod Numbered
 pub mod Editing
-pub mod Components

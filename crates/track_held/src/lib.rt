@@ -5,7 +5,6 @@
 
 mod asked;
 mod closing;
-mod components;
 mod editing;
 mod editing_given;
 mod events;
@@ -20,7 +19,6 @@ mod telling;
 
 pub use asked::{asking, asking_all};
 pub use closing::Closing;
-pub use components::{ToldComponent, ToldComponents, told_components};
 pub use editing_given::{
     AskedEdits, GivenEdit, ToldAnswer, answer_told, edit_asked, edits_asked, put_answers,
     rows_ask_in_range,

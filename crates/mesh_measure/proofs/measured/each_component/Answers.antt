@@ -1,4 +1,4 @@
-use Rattle.std.proofs.Common.{◌≡◌, ◌<◌, ◌≤◌, [], length, get_or, map, subst, refl, sym, ap, ◌∙◌, arith}
+use Rattle.std.proofs.Common.{◌≡◌, ◌<◌, ◌≤◌, length, get_or, subst, sym, ap, ◌∙◌, arith}
 use Rattle.std.proofs.lemmas.List.{get_or_default, length-map}
 use Rattle.std.specs.FinMap as finite
 use Rattle.edit_base.specs.Classes.{is_one_of, classes}
@@ -15,8 +15,8 @@ loop-f-init g c =
     let m = g.S.Surface.mesh c.args.mesh.now in
     subst (λ l. IsListing m c.new-met.result l 0) (sym c.new-all.ensures) (listing_none m c.new-met.result c.new-met.ensures.empty)
 
-pub put_component-requires : goal.put_component-requires
-put_component-requires g c =
+pub put_component-requires-clause-live : goal.put_component-requires-clause-live
+put_component-requires-clause-live g c =
     let m = g.S.Surface.mesh c.args.mesh.now in
     let i = c.loop-f.f-index in
     let x = c.f-item.result in
@@ -24,6 +24,9 @@ put_component-requires g c =
     let low : i < length (finite.keys m.faces) = subst (λ l. i < length l) items c.loop-f-test.true in
     let is : x ≡ get_or (finite.keys m.faces) i 0 = c.f-item.is ∙ ap (λ l. get_or l i x) items ∙ get_or_default (finite.keys m.faces) i x 0 low in
     ap (is_one_of (finite.keys m.faces)) is ∙ had (finite.keys m.faces) i low
+
+pub put_component-requires-clause-corner : goal.put_component-requires-clause-corner
+put_component-requires-clause-corner g c = first_corner (corners_at (g.S.Surface.mesh c.args.mesh.now) c.f-item.result) c.corners_at-first.result c.corners_at-first.ensures
 
 pub loop-f-preserved : goal.loop-f-preserved
 loop-f-preserved g c =
@@ -33,8 +36,8 @@ loop-f-preserved g c =
     let items : c.as_slice-f-items.result.now ≡ finite.keys m.faces = c.as_slice-f-items.ensures ∙ c.in_ok-faces.ensures in
     let low : i < length (finite.keys m.faces) = subst (λ l. i < length l) items c.loop-f-test.true in
     let is : x ≡ get_or (finite.keys m.faces) i 0 = c.f-item.is ∙ ap (λ l. get_or l i x) items ∙ get_or_default (finite.keys m.faces) i x 0 low in
-    listing_on m c.loop-f.met c.put_component.new.met c.loop-f.all c.put_component.new.all i x (corners_at m x).first c.loop-f.invariant low is
-    (first_corner (corners_at m x) (corners_at m x) refl) c.in_ok-put_component.ensures.met c.in_ok-put_component.ensures.all
+    listing_on m c.loop-f.met c.put_component.new.met c.loop-f.all c.put_component.new.all i x c.corners_at-first.result.first c.loop-f.invariant low is
+    (first_corner (corners_at m x) c.corners_at-first.result c.corners_at-first.ensures) c.in_ok-put_component.ensures.met c.in_ok-put_component.ensures.all
 
 pub returns-clause-value : goal.returns-clause-value
 returns-clause-value g c =

@@ -1,4 +1,4 @@
-use Rattle.std.proofs.Common.{◌≡◌, ◌≤◌, ◌+◌, ◌*◌, ◌+ℤ◌, unsigned_abs, take, length, get_or, to_z, of_z, sym, ap, subst, ◌∙◌, arith}
+use Rattle.std.proofs.Common.{◌≡◌, ◌≤◌, ◌+◌, ◌*◌, ◌+ℤ◌, unsigned_abs, length, get_or, to_z, of_z, sym, ap, subst, ◌∙◌, arith}
 use Rattle.std.proofs.lemmas.Int.{ints}
 use Rattle.std.proofs.lemmas.List.{take_all, get_or_default}
 use Rattle.std.specs.Int.{w128}
@@ -18,15 +18,14 @@ loop-f-preserved g c =
     let m = g.S.Surface.mesh c.args.mesh.now in
     let faces = c.args.faces.now in
     let i = c.loop-f.f-index in
-    let x = c.f-item.result in
+    let x = get_or faces i 0 in
     let s = to_z w128 c.loop-f.sum-bits in
     let p = c.face_part-sum.result in
     let low : i ≤ length faces = omega arith in
     let fits = sum_fits s i (length faces) low c.requires c.loop-f.invariant.within in
-    let is : x ≡ get_or faces i 0 = c.f-item.is ∙ get_or_default faces i x 0 c.loop-f-test.true in
     let new : to_z w128 (of_z w128 (s +ℤ to_z w128 (of_z w128 p))) ≡ s +ℤ p = omega (arith, ints, fits, c.face_part-sum.ensures.within) in
     record {
-      told = new ∙ summed_more m faces i x s p c.loop-f-test.true is c.loop-f.invariant.told c.face_part-sum.ensures.value;
+      told = new ∙ summed_more m faces i x s p c.loop-f-test.true (get_or_default faces i 0 x c.loop-f-test.true) c.loop-f.invariant.told c.face_part-sum.ensures.value;
       within = subst (λ n. unsigned_abs n ≤ (i + 1) * DETERMINANT_MAX) (sym new) (grown_more s p i c.loop-f.invariant.within c.face_part-sum.ensures.within);
     }
 

@@ -3,7 +3,7 @@ use Rattle.std.specs.Prelude.{ℕ, ◌^◌, ◌-◌, ◌/◌, ◌%◌, ℤ, pos,
 use Rattle.mesh_base.specs.Mesh.{Mesh}
 use Rattle.mesh_measure.specs.declared.measured.Component.{Component}
 use Rattle.mesh_measure.specs.Components.{each_component}
-use Rattle.track_held.specs.declared.components.ToldComponent.{ToldComponent}
+use Rattle.topo_library.specs.declared.components.TopoComponent.{TopoComponent}
 
 -- the low word of a number of 128 bits, from 0 to 2^64 - 1
 abbrev pub low_word : ℤ → ℕ
@@ -16,7 +16,7 @@ high_word (pos n) = pos (n / (2 ^ 64))
 high_word (negsuc n) = negsuc (n / (2 ^ 64))
 
 -- a component, with its volume as two words
-abbrev pub told_component : Component → ToldComponent
+abbrev pub told_component : Component → TopoComponent
 told_component component = record {
   vertex = component.vertex;
   faces = component.faces;
@@ -26,5 +26,5 @@ told_component component = record {
 }
 
 -- the components, in order of their least faces
-abbrev pub told_components : Mesh → List ToldComponent
+abbrev pub told_components : Mesh → List TopoComponent
 told_components m = map told_component (each_component m)

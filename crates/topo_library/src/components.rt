@@ -1,7 +1,7 @@
 //! The components of a mesh, as a caller in C gets them.
 ghost use Rattle.std.specs.Prelude.{◌≡◌, ◌++◌, pos, ◌+ℤ◌, ◌*ℤ◌, ◌^◌, map, IfOk};
 ghost use Rattle.mesh_measure.specs.Components.{each_component};
-ghost use Rattle.track_held.specs.Components.{low_word, high_word, told_component, told_components};
+ghost use Rattle.topo_library.specs.Components.{low_word, high_word, told_component, told_components};
 
 use grid_base::{Items, NoMemory};
 use mesh_base::Surface;
@@ -12,7 +12,7 @@ use std::alloc::Global;
 /// a grid unit, with its sign, as two words: it is the high one times 2^64, plus the low one.
 #[repr(C)]
 #[derive(Clone, Copy, Debug, PartialEq, Eq)]
-pub struct ToldComponent {
+pub struct TopoComponent {
     pub vertex: u32,
     pub faces: u32,
     pub euler: i64,
@@ -21,7 +21,7 @@ pub struct ToldComponent {
 }
 
 /// The components of a mesh, in order of their least faces.
-pub type ToldComponents = Items<ToldComponent>;
+pub type TopoComponents = Items<TopoComponent>;
 
 // How many numbers a word has.
 const WORD: u128 = 1 << 64;
@@ -42,11 +42,11 @@ fn words_of(number: i128) -> (u64, i64)
 }
 
 // A component as a row.
-fn told_component(component: &Component) -> ToldComponent
+fn told_component(component: &Component) -> TopoComponent
     ensures { result ≡ told_component component.now }
 {
     let (low, high) = words_of(component.volume6);
-    ToldComponent {
+    TopoComponent {
         vertex: component.vertex,
         faces: component.faces,
         euler: component.euler,
@@ -56,10 +56,10 @@ fn told_component(component: &Component) -> ToldComponent
 }
 
 // The rows of some components.
-fn told_rows(alloc: Global, components: &[Component]) -> Result<ToldComponents, NoMemory>
+fn told_rows(alloc: Global, components: &[Component]) -> Result<TopoComponents, NoMemory>
     ensures { IfOk result (λ rows. rows ≡ map told_component components.now) }
 {
-    let mut rows = ToldComponents::new(alloc);
+    let mut rows = TopoComponents::new(alloc);
     for component in components {
         rows.push(told_component(component))?;
     }
@@ -67,7 +67,7 @@ fn told_rows(alloc: Global, components: &[Component]) -> Result<ToldComponents, 
 }
 
 /// The components of a mesh, in order of their least faces. Refuses only where there is no memory.
-pub fn told_components<S: Surface>(alloc: Global, mesh: &S) -> Result<ToldComponents, NoMemory>
+pub fn told_components<S: Surface>(alloc: Global, mesh: &S) -> Result<TopoComponents, NoMemory>
     ensures { IfOk result (λ rows. rows ≡ told_components (S.mesh mesh.now)) }
 {
     let components = each_component(alloc, mesh)?;

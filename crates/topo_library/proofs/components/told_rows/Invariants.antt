@@ -1,6 +1,6 @@
 use Rattle.std.proofs.Common.{◌≡◌, ◌++◌, map, drop}
-use Rattle.track_held.specs.Components.{told_component}
-use Rattle.track_held.proofs.components.told_rows.Given as goal
+use Rattle.topo_library.specs.Components.{told_component}
+use Rattle.topo_library.proofs.components.told_rows.Given as goal
 
 -- the rows so far and those to come are all
 abbrev pub invariant-loop-component : goal.invariant-loop-component
