@@ -115,8 +115,8 @@ fn least(rising: &[u32]) -> u32
     }
 }
 
-// Puts the component of a face, of which this is a corner, at the end of the list, unless the corner was met before. Afterwards the vertices of
-// the component are met.
+// Puts the component of a face, of which this is a corner, at the end of the list, unless the corner was met before. Afterwards the
+// vertices of the component are met.
 fn put_component<S: Surface>(
     alloc: Global,
     mesh: &S,
@@ -143,8 +143,9 @@ fn put_component<S: Surface>(
     Ok(())
 }
 
-/// The components, in order of their least faces: two faces that share a vertex are in one component, and so on. A vertex without a face is in none.
-/// Takes time in proportion to the faces and the logarithm of the most faces of a component, as far as the calls of the mesh do.
+/// The components, in order of their least faces: two faces that share a vertex are in one component, and so on. A vertex without a
+/// face is in none. Takes time in proportion to the faces and the logarithm of the most faces of a component, as far as the calls of
+/// the mesh do.
 pub fn each_component<S: Surface>(alloc: Global, mesh: &S) -> Result<Components, NoMemory>
     ensures value { IfOk result (λ all. all ≡ each_component (S.mesh mesh.now)) }
     ensures as_many { IfOk result (λ all. length all ≡ components (S.mesh mesh.now)) }

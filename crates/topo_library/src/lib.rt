@@ -53,8 +53,8 @@ use log_text::VERSION;
 use making::make;
 use making_numbered::{NumberedRows, make_numbered};
 use reading::{
-    count, forget_log, read_beside, read_components, read_events, read_faces, read_log, read_points,
-    read_solids, read_star,
+    count, forget_log, read_beside, read_components, read_events, read_faces, read_log,
+    read_points, read_solids, read_star,
 };
 use settings::{band_of, settings_at};
 use std::alloc::Global;
