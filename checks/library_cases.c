@@ -500,6 +500,55 @@ static void stars(void)
     topo_free(&t);
 }
 
+/* whether a row is this component, its volume by its two words */
+static uint32_t is_component(const struct topo_component *row, uint32_t vertex, uint32_t faces, int64_t euler, int64_t high, uint64_t low)
+{
+    return row->vertex == vertex && row->faces == faces && row->euler == euler && row->volume6_high == high && row->volume6_low == low;
+}
+
+static void components(void)
+{
+    /* the faces of the second body come first, and it is inside out: its volume is below zero */
+    static const struct topo_point apart[] = {{0, 0, 0}, {40, 0, 0}, {0, 40, 0}, {0, 0, 40}, {100, 0, 0}, {140, 0, 0}, {100, 40, 0}, {100, 0, 40}};
+    static const struct topo_triangle second_first[] = {{5, 6, 7}, {5, 8, 6}, {6, 8, 7}, {5, 7, 8}, {1, 3, 2}, {1, 2, 4}, {2, 3, 4}, {1, 4, 3}};
+    struct topo_component row[3];
+    const struct topo_component untouched = {77, 77, 77, 77, 77};
+    size = 77;
+    row[0] = row[1] = row[2] = untouched;
+    is("no tracker has components", topo_components(&t, row, 3, &size), TOPO_EMPTY);
+    is("nor a size of them", (uint32_t)size, 77);
+    is("two bodies", topo_new(apart, 8, second_first, 8, &t, &fault), TOPO_DONE);
+    is("room for one", topo_components(&t, row, 1, &size), TOPO_RANGE);
+    is("of two, which is told", (uint32_t)(size == 2 && memcmp(&row[0], &untouched, sizeof untouched) == 0), 1);
+    is("their components", topo_components(&t, row, 3, &size), TOPO_DONE);
+    is("are two", (uint32_t)(size == 2 && memcmp(&row[2], &untouched, sizeof untouched) == 0), 1);
+    is("the one with the least face first, whose volume is below zero", is_component(&row[0], 5, 4, 2, -1, 18446744073709487616u), 1);
+    is("then the other", is_component(&row[1], 1, 4, 2, 0, 64000), 1);
+    is("a split", topo_split(&t, 45, &edits, &fault), TOPO_DONE);
+    is("leaves two", (uint32_t)(topo_components(&t, row, 3, &size) == TOPO_DONE && size == 2), 1);
+    is("a look at the counts", topo_counts(&t, &counted), TOPO_DONE);
+    is("with all faces between them, and no other volume", (uint32_t)(row[0].faces > 4 && row[0].faces + row[1].faces == counted.faces && row[0].volume6_low == 18446744073709487616u), 1);
+    is("nor another Euler number", is_component(&row[1], 1, row[1].faces, 2, 0, 64000), 1);
+    is("a log of which nothing is told", topo_forget(&t), TOPO_DONE);
+    is("reading", topo_components(&t, row, 3, &size), TOPO_DONE);
+    is("tells no line", (uint32_t)tells(""), 1);
+    topo_free(&t);
+}
+
+/* two bodies with a vertex in common are one component, and a large body has a volume of two words */
+static void joined_and_large(void)
+{
+    static const struct topo_point points[] = {{0, 0, 0}, {-40, 0, 0}, {0, -40, 0}, {0, 0, -40}, {40, 0, 0}, {0, 40, 0}, {0, 0, 40}, {-268435456, -268435456, -268435456}, {268435456, -268435456, -268435456},
+        {-268435456, 268435456, -268435456}, {-268435456, -268435456, 268435456}};
+    static const struct topo_triangle faces[] = {{1, 2, 3}, {1, 4, 2}, {2, 4, 3}, {1, 3, 4}, {1, 6, 5}, {1, 5, 7}, {5, 6, 7}, {1, 7, 6}, {8, 10, 9}, {8, 9, 11}, {9, 10, 11}, {8, 11, 10}};
+    struct topo_component row[2];
+    is("two bodies with a vertex in common, and a third", topo_new(points, 11, faces, 12, &t, &fault), TOPO_DONE);
+    is("are two components", (uint32_t)(topo_components(&t, row, 2, &size) == TOPO_DONE && size == 2), 1);
+    is("the two as one", is_component(&row[0], 1, 8, 3, 0, 128000), 1);
+    is("and the third, of 2^87", is_component(&row[1], 8, 4, 2, 8388608, 0), 1);
+    topo_free(&t);
+}
+
 static void alone(void)
 {
     /* an edge through the middle of a triangle, and beside it */
@@ -541,6 +590,8 @@ int main(void)
     edits_at_the_limit();
     groups_taken_back();
     stars();
+    components();
+    joined_and_large();
     alone();
     printf("%d hold, %d do not\n", held, failed);
     return failed != 0;

@@ -129,6 +129,8 @@ void edits()
     const topo_answered split = surface.edit({TOPO_SPLIT, 1, 3, 0, 0});
     is("an edit in a group", split.why == 0 && split.a == 7);
     is("its star", surface.star(7).size() == 4);
+    const std::vector<topo_component> components = surface.components();
+    is("one component, with its volume", components.size() == 1 && components[0].vertex == 1 && components[0].euler == 2 && std::fabs(surface.volume(components[0]) - 64000 / 6.0 * 1e-3) < 1e-9);
     const std::vector<topo_face> beside = surface.beside(7, 1);
     is("the faces beside an edge of it", beside.size() == 2 && beside[0].id < beside[1].id);
     is("the first refused ends a list", surface.edit_each({{TOPO_FLIPPED, 1, 77, 0, 0}, {TOPO_SPLIT, 1, 4, 0, 0}}).size() == 1);

@@ -134,6 +134,7 @@ def edits():
         holds("by numbers", [tuple(row) for row in answers] == [(0, 7, 0, 0, 10, 0, 20), (1, 0, 0, 0, 0, 0, 0)])
         holds("no group is open", surface.undo() == "none")
         surface.open()
+        holds("one component", surface.components() == [topo.Component(1, 4 + 2 * 3, 2, 64000 / 6 * 0.1**3)])
         holds("one edit", surface.ask("split", 1, 3) == topo.Answer("", 8, 0, 0, (0.0, 2.0, 0.0)))
         holds("its star", len(surface.star(8)) == 4 and [tuple(row)[0] for row in surface.beside(1, 8).tolist()] == sorted(f for f, c in surface.faces().items() if {1, 8} <= {*c}))
         holds("the first refused is the last", len(surface.edit_each([("flip", 1, 77), ("split", 1, 4)])) == 1)

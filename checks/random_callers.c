@@ -359,6 +359,79 @@ static void stars(void)
     check(at == size, "how many faces are beside an edge");
 }
 
+/* whether a face has both as corners */
+static int has_both(const struct topo_face *f, uint32_t a, uint32_t b)
+{
+    return (f->a == a || f->b == a || f->c == a) && (f->a == b || f->b == b || f->c == b);
+}
+
+/* how many edges a face has that none before it has */
+static int new_edges(size_t i)
+{
+    const uint32_t corners[] = {faces[i].a, faces[i].b, faces[i].c};
+    int k, count = 0;
+    for (k = 0; k < 3; ++k) {
+        size_t j = 0;
+        while (j < i && !has_both(&faces[j], corners[k], corners[(k + 1) % 3]))
+            ++j;
+        count += j == i;
+    }
+    return count;
+}
+
+/* compares the components with a plain look at all faces: each vertex gets the least place of a vertex of its component; the low words are summed
+   modulo 2^64, and the whole volumes as doubles */
+static void components(void)
+{
+    static struct topo_component row[MOST], seen[MOST];
+    static size_t least[MOST], name[MOST];
+    static double volume[MOST], sizes[MOST];
+    size_t size, i, k, count = 0;
+    int more = 1;
+    for (i = 0; i < vertex_count; ++i)
+        least[i] = i;
+    while (more)
+        for (i = 0, more = 0; i < face_count; ++i) {
+            size_t *at[3];
+            at[0] = &least[row_of(faces[i].a) - vertices], at[1] = &least[row_of(faces[i].b) - vertices], at[2] = &least[row_of(faces[i].c) - vertices];
+            for (k = 0; k < 9; ++k)
+                if (*at[k / 3] > *at[k % 3])
+                    *at[k / 3] = *at[k % 3], more = 1;
+        }
+    for (i = 0; i < face_count; ++i) {
+        const struct topo_vertex *p = row_of(faces[i].a), *q = row_of(faces[i].b), *r = row_of(faces[i].c);
+        const double a = p->x, b = p->y, c = p->z, d = q->x, e = q->y, f = q->z, g = r->x, h = r->y, l = r->z;
+        const uint64_t low = (uint64_t)(int64_t)p->x * ((uint64_t)(int64_t)q->y * (uint64_t)(int64_t)r->z - (uint64_t)(int64_t)q->z * (uint64_t)(int64_t)r->y)
+            - (uint64_t)(int64_t)p->y * ((uint64_t)(int64_t)q->x * (uint64_t)(int64_t)r->z - (uint64_t)(int64_t)q->z * (uint64_t)(int64_t)r->x)
+            + (uint64_t)(int64_t)p->z * ((uint64_t)(int64_t)q->x * (uint64_t)(int64_t)r->y - (uint64_t)(int64_t)q->y * (uint64_t)(int64_t)r->x);
+        for (k = 0; k < count && name[k] != least[p - vertices]; ++k)
+            ;
+        if (k == count) {
+            const struct topo_component none = {vertices[least[p - vertices]].id, 0, 0, 0, 0};
+            seen[k] = none, volume[k] = sizes[k] = 0, name[count++] = least[p - vertices];
+        }
+        seen[k].faces += 1, seen[k].euler += 1 - new_edges(i), seen[k].volume6_low += low;
+        volume[k] += a * (e * l - f * h) - b * (d * l - f * g) + c * (d * h - e * g);
+        sizes[k] += fabs(a) * (fabs(e * l) + fabs(f * h)) + fabs(b) * (fabs(d * l) + fabs(f * g)) + fabs(c) * (fabs(d * h) + fabs(e * g));
+    }
+    for (i = 0; i < vertex_count; ++i) {
+        for (k = 0; k < count && name[k] != least[i]; ++k)
+            ;
+        if (k < count)
+            seen[k].euler += 1;
+    }
+    must(topo_components(&t, row, MOST, &size), 0, "topo_components");
+    check(size == count, "how many components there are");
+    for (k = 0; k < count && k < size; ++k) {
+        const int below = row[k].volume6_high < 0;
+        const uint64_t low = below ? 0 - row[k].volume6_low : row[k].volume6_low;
+        const uint64_t high = below ? 0 - (uint64_t)row[k].volume6_high - (low != 0) : (uint64_t)row[k].volume6_high;
+        const double size_of = ldexp((double)high, 64) + (double)low, whole = below ? -size_of : size_of;
+        check(row[k].vertex == seen[k].vertex && row[k].faces == seen[k].faces && row[k].euler == seen[k].euler, "a component");
+        check(row[k].volume6_low == seen[k].volume6_low && fabs(whole - volume[k]) <= 1e-9 * sizes[k] + 1e-3, "the volume of a component");
+    }
+}
+
 /* stores the tracker's own mesh, and puts the line of that */
 static void save(const char *folder)
 {
@@ -396,7 +469,7 @@ static void go(const char *folder)
     else if (what < 92)
         shift();
     else if (what < 97)
-        stars();
+        stars(), components();
     else
         save(folder);
     told();

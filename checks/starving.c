@@ -52,6 +52,7 @@ static const struct topo_point points[] = {{0, 0, 0}, {40, 0, 0}, {0, 40, 0}, {0
 static const struct topo_triangle faces[] = {{1, 3, 2}, {1, 2, 4}, {2, 3, 4}, {1, 4, 3}};
 static struct topo_vertex vertex_rows[4096];
 static struct topo_face face_rows[4096];
+static struct topo_component component_rows[64];
 
 /* what the call that was made last does where there is no memory, and the numbers of the tracker before it */
 static enum { STOPS, STAYS, EITHER } wanting;
@@ -80,6 +81,9 @@ static uint32_t by_ids(struct topo *t, struct topo_fault *fault)
         return size == 77 ? code : 99;
     size = 77;
     if ((code = topo_beside(t, 2, 4, face_rows, 4096, &size)) != TOPO_DONE)
+        return size == 77 ? code : 99;
+    size = 77;
+    if ((code = topo_components(t, component_rows, 64, &size)) != TOPO_DONE)
         return size == 77 ? code : 99;
     next(t, STOPS);
     if ((code = topo_open(t, fault)) != TOPO_DONE)

@@ -81,12 +81,15 @@ Way = struct("Way", how_times=u32, hits=size_t)
 Edits = struct("Edits", done_refused=ctypes.c_uint64)
 Counted = type("Counted", (ctypes.Structure,), {"_fields_": [("log", size_t)] + [(word, u32) for word in ("vertices", "faces", "next_vertex", "next_face", "steps")]})
 Event = struct("Event", kind_a_b_c_d=u32, x_y_z=i32)
+ComponentRow = type("ComponentRow", (ctypes.Structure,), {"_fields_": [("vertex", u32), ("faces", u32), ("euler", ctypes.c_int64), ("volume6_low", ctypes.c_uint64),
+                                                                      ("volume6_high", ctypes.c_int64)]})
 Asked = struct("Asked", kind_a_b_c_d=u32)
 Answered = struct("Answered", why_a_b_c=u32, x_y_z=i32)
 
 CALLS = ("topo_new topo_new_numbered topo_free topo_shift_each topo_shift_all topo_set topo_step topo_split topo_collapse topo_flip topo_zip topo_pinch topo_fit topo_edit_each "
-         "topo_solid topo_open topo_close topo_undo topo_counts topo_points topo_faces topo_star topo_beside topo_solids topo_events topo_log topo_forget topo_version topo_calls").split()
+         "topo_solid topo_open topo_close topo_undo topo_counts topo_points topo_faces topo_star topo_beside topo_components topo_solids topo_events topo_log topo_forget topo_version topo_calls").split()
 
+Component = collections.namedtuple("Component", "vertex faces euler volume")
 Answer = collections.namedtuple("Answer", "why a b c at")
 Answer.__doc__ = """What came of an edit: `why` is "" where it is done, and else a word of AGAINST. Of a split, a is the new vertex, of a collapse the vertex that is left, if
 one is, and of a pinch the first copy of b, whose ids rise by one; b of a zip is one of four turns; a, b and c of a hit are the edge and the face. `at` is
@@ -461,6 +464,11 @@ class Tracker:
     def beside(self, a, b):
         """The faces beside the edge of two vertices, in the same way."""
         return self.rows("topo_beside", Face, *(u32(whole(v, 0, WORD_MAX, "an id")) for v in (a, b)))
+
+    def components(self):
+        """The components, in order of their least faces: of each its least vertex, how many faces it has, its Euler number, and its volume."""
+        rows, size = self.read("topo_components", ComponentRow)
+        return [Component(row.vertex, row.faces, row.euler, (row.volume6_high * 2**64 + row.volume6_low) / 6 * self.unit**3) for row in rows[:size]]
 
     def counts(self):
         """The bytes of the log, the live vertices and faces, the ids that come next, and the steps taken, by name."""

@@ -5,3 +5,4 @@ pub mod Round
 pub mod Laws
 pub mod Above
 pub mod Ahead
+pub mod Components

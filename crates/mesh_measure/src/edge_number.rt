@@ -51,7 +51,7 @@ fn put_around<S: Surface>(
 }
 
 // Puts the numbers in order, each of them once.
-fn put_in_order(near: &mut Vec<u32>)
+pub(crate) fn put_in_order(near: &mut Vec<u32>)
     ensures order { IsStrictlySortedBy nat_cmp near.new.items }
     ensures same { (q : ℕ) → is_one_of near.new.items q ≡ is_one_of near.old.items q }
 {
@@ -61,7 +61,7 @@ fn put_in_order(near: &mut Vec<u32>)
 
 // How many edges lead from a vertex to those above it. Takes time in proportion to the faces at the vertex and the logarithm of
 // their number.
-fn edges_from<S: Surface>(
+pub(crate) fn edges_from<S: Surface>(
     mesh: &S,
     v: VertexId,
     faces: &mut Vec<FaceId>,

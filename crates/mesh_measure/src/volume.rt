@@ -48,7 +48,7 @@ fn corners_volume<S: Surface>(mesh: &S, c: [VertexId; 3]) -> i128
 }
 
 /// That of the corners of a face, and 0 where it is not live.
-fn face_part<S: Surface>(mesh: &S, f: FaceId) -> i128
+pub(crate) fn face_part<S: Surface>(mesh: &S, f: FaceId) -> i128
     ensures value { let m = S.mesh mesh.now in
         result ≡ part_of (rest_positions m) (map.get m.faces f) }
     ensures within { unsigned_abs result ≤ DETERMINANT_MAX }

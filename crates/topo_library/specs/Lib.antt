@@ -3,3 +3,4 @@ pub mod Codes
 pub mod Faults
 pub mod Owned
 pub mod Tellings
+pub mod Components

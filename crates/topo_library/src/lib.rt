@@ -20,12 +20,14 @@ ghost use Rattle.track_engine.specs.Told.{step_told, pass_told};
 ghost use Rattle.track_engine.specs.Effects.{undo_effect};
 ghost use Rattle.track_held.specs.Reading.{named_points, named_faces, solid_vertices, star_of, beside_edge};
 ghost use Rattle.track_held.specs.Numbered.{given_rows};
+ghost use Rattle.topo_library.specs.Components.{told_components};
 ghost use Rattle.topo_library.specs.Codes.{tracked, HandleHasDone, HandleHasTold, IsBeyond, AreSettings, HandleHasSet, HandleHasFitted, HandleHasWritten, HandleHasEdited, HandleHasShifted, HandleHasShiftedAll, HandleHasShiftedEach, HasMade, HasMadeNumbered, HandleHasPut, HandleHasPutEvents, HandleHasForgotten, HandleHasTakenLog, HandleHasCounted};
 ghost use Rattle.topo_library.specs.Tellings.{way_told, edits_told, closing_of, undone_of, settings_at, band_of};
 
 mod alone;
 mod calling;
 mod codes;
+mod components;
 mod editing;
 mod fault;
 mod handle;
@@ -41,6 +43,7 @@ mod tracker;
 use alone::{TopoFive, tell_meets, tell_passes};
 use calling::{advance, close, fit, pass_with, set, shift_each, shift_every, shift_one, step};
 use codes::RANGE;
+use components::TopoComponent;
 use edit_base::PassKind;
 use editing::{edit_each, undo};
 use fault::TopoFault;
@@ -50,8 +53,8 @@ use log_text::VERSION;
 use making::make;
 use making_numbered::{NumberedRows, make_numbered};
 use reading::{
-    count, forget_log, read_beside, read_events, read_faces, read_log, read_points, read_solids,
-    read_star,
+    count, forget_log, read_beside, read_components, read_events, read_faces, read_log,
+    read_points, read_solids, read_star,
 };
 use settings::{band_of, settings_at};
 use std::alloc::Global;
@@ -487,6 +490,22 @@ pub extern "C" fn topo_solids(
         topo.old.owned.value topo.new.owned.value into.old into.new size.old size.new result }
 {
     read_solids(alloc, topo, into, size)
+}
+
+/// Puts the components of the surface, in order of their least faces, into a buffer, where all of them fit, and tells how many they are: two
+/// faces that share a vertex are in one component, and so on. Of each its least vertex, how many faces it has, its Euler number, and six times
+/// its volume.
+#[unsafe(no_mangle)]
+pub extern "C" fn topo_components(
+    alloc: Global,
+    topo: &mut Topo,
+    into: &mut [TopoComponent],
+    size: &mut usize,
+) -> u32
+    ensures { HandleHasPut (λ t. told_components (tracked t).mesh)
+        topo.old.owned.value topo.new.owned.value into.old into.new size.old size.new result }
+{
+    read_components(alloc, topo, into, size)
 }
 
 /// Puts what was told since the log was last taken or forgotten into a buffer, as numbers, where all of it fits, and tells how

@@ -2,9 +2,11 @@
 ghost use Rattle.std.specs.Prelude.{◌≡◌, ◌≢◌};
 ghost use Rattle.track_held.specs.Events.{with_first_line};
 ghost use Rattle.track_held.specs.Reading.{named_points, named_faces, solid_vertices, star_of, beside_edge};
+ghost use Rattle.topo_library.specs.Components.{told_components};
 ghost use Rattle.topo_library.specs.Codes.{tracked, told, HasPut, HandleHasPut, HasPutEvents, HandleHasPutEvents, HasForgotten, HandleHasForgotten, HasTakenLog, HandleHasTakenLog, counts_of, HandleHasCounted};
 
 use crate::codes::{DONE, EMPTY, NO_MEMORY, RANGE, UNREAD};
+use crate::components::{TopoComponent, told_components};
 use crate::handle::Topo;
 use crate::telling::TopoCounted;
 use crate::tracker::Tracker;
@@ -175,6 +177,40 @@ pub(crate) fn read_solids(alloc: Global, topo: &mut Topo, into: &mut [u32], size
         return EMPTY;
     };
     let code = put_solids(alloc, b.as_ref(), into, size);
+    topo.give(b);
+    code
+}
+
+// Puts the components of a tracker's mesh into a buffer.
+fn put_components(
+    alloc: Global,
+    tracker: &Tracker,
+    into: &mut [TopoComponent],
+    size: &mut usize,
+) -> u32
+    ensures { HasPut (told_components (tracked tracker.now).mesh)
+        into.old into.new size.old size.new result }
+{
+    match told_components(alloc, tracker.held.mesh()) {
+        Ok(rows) => put(rows.as_slice(), into, size),
+        Err(_) => NO_MEMORY,
+    }
+}
+
+/// Puts the components, in order of their least faces, into a buffer.
+pub(crate) fn read_components(
+    alloc: Global,
+    topo: &mut Topo,
+    into: &mut [TopoComponent],
+    size: &mut usize,
+) -> u32
+    ensures { HandleHasPut (λ t. told_components (tracked t).mesh)
+        topo.old.owned.value topo.new.owned.value into.old into.new size.old size.new result }
+{
+    let Some(b) = topo.take(alloc) else {
+        return EMPTY;
+    };
+    let code = put_components(alloc, b.as_ref(), into, size);
     topo.give(b);
     code
 }

@@ -1,6 +1,6 @@
-use Rattle.std.proofs.Common.{◌≡◌, ◌≤◌, ◌+◌, ◌*◌, ◌≤ℤ◌, ◌+ℤ◌, ◌-ℤ◌, pos, to_z, of_z, w64, cond, None, sym, ap, subst, ◌∙◌, arith}
+use Rattle.std.proofs.Common.{◌≡◌, ◌≤◌, ◌*◌, ◌-ℤ◌, pos, to_z, of_z, w64, cond, None, sym, ap, ◌∙◌, arith}
 use Rattle.std.proofs.lemmas.Int.{ints}
-use Rattle.grid_base.specs.declared.TheConstants.{VERTICES_MAX, FACES_MAX}
+use Rattle.grid_base.specs.declared.TheConstants.{FACES_MAX}
 use Rattle.mesh_measure.specs.Shape.{components, euler, half_of}
 use Rattle.mesh_measure.proofs.ShapeSteps.{euler_low, euler_high, at_most}
 use Rattle.mesh_measure.proofs.Halving.{few_components}

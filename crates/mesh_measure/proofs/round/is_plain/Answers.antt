@@ -1,8 +1,6 @@
-use Rattle.std.proofs.Common.{◌≡◌, ℕ, ◌<◌, true, [], length, get_or, sym, ap, subst, ◌∙◌, arith}
-use Rattle.std.proofs.lemmas.Bool.{false≢true}
+use Rattle.std.proofs.Common.{◌≡◌, ◌<◌, length, get_or, sym, ap, subst, ◌∙◌, arith}
 use Rattle.std.proofs.lemmas.List.{nil_from_length, get_or_default}
 use Rattle.mesh_base.specs.Sides.{faces_at}
-use Rattle.edit_base.specs.Edges.{corners_at}
 use Rattle.mesh_measure.specs.Round.{behind, AreLinks, TakesReached}
 use Rattle.edit_base.proofs.Chains.{Has}
 use Rattle.mesh_measure.proofs.Spreading.{had}

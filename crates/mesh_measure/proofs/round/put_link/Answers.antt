@@ -1,4 +1,4 @@
-use Rattle.std.proofs.Common.{◌≡◌, ℕ, Bool, true, false, is_some, not, Option, Some, None, sym, subst, ◌∙◌}
+use Rattle.std.proofs.Common.{◌≡◌, ℕ, Bool, true, is_some, not, Option, Some, None, sym, subst, ◌∙◌}
 use Rattle.mesh_measure.specs.Round.{AddsLink}
 use Rattle.mesh_measure.proofs.round.put_link.Goals as goal
 
