@@ -1,83 +1,157 @@
+use crate::places::extent;
+use crate::same::assert_same;
 use box_tree::{BoxTree, LabelledBox, Labels, SmallBox};
-use grid_base::{Extent, NoMemory, Wide};
+use grid_base::{EXTENT_MAX, Extent, NoMemory};
+use std::alloc::Global;
+use std::process::Abort;
 use std::test::Fail;
 
+// The greatest coordinate of a box.
+const M: i64 = EXTENT_MAX as i64;
+
 // The box from one place of a line to another.
-macro_rules! span {
-    ($a:expr => $d:expr) => {
-        Extent {
-            low: Wide { x: $a, y: 0, z: 0 },
-            high: Wide { x: $d, y: 5, z: 5 },
-        }
-    };
+fn span(rt: &impl Abort, [from, to]: [i64; 2]) -> Extent {
+    extent(rt, [from, 0, 0], [to, 5, 5])
 }
 
 // That box, with labels.
-macro_rules! labelled {
-    ($a:expr => $d:expr, $first:expr, $second:expr, $third:expr) => {
-        LabelledBox {
-            at: SmallBox::of(&span!($a => $d)),
-            labels: Labels {
-                first: $first,
-                second: $second,
-                third: $third,
-            },
-        }
-    };
+fn labelled(rt: &impl Abort, ends: [i64; 2], labels: [u32; 3]) -> LabelledBox {
+    LabelledBox {
+        at: SmallBox::of(&span(rt, ends)),
+        labels: Labels {
+            first: labels[0],
+            second: labels[1],
+            third: labels[2],
+        },
+    }
 }
 
-#[test]
-fn boxes_that_touch_are_found_rising(rt: HostRuntime) -> Result<(), Fail> {
-    let alloc = rt.alloc();
-    let boxes = [
-        labelled!(0 => 5, 0, 0, 0),
-        labelled!(20 => 25, 0, 0, 0),
-        labelled!(5 => 9, 0, 0, 0),
-        labelled!(-9 => -1, 0, 0, 0),
-        labelled!(24 => 30, 0, 0, 0),
-        labelled!(-1_073_741_824 => 1_073_741_824, 0, 0, 0),
-        labelled!(3 => 4, 0, 0, 0),
-    ];
-    let tree = BoxTree::of(alloc, &boxes)?;
-    let mut into = Vec::new(alloc);
-    tree.overlapping_apart(span!(4 => 20), 0, 0, &mut into)?;
-    assert_eq!(rt; into.as_slice(), [0, 1, 2, 5, 6].as_slice());
-    assert!(rt; tree.overlapping_up_to(span!(4 => 20), 5, &mut into)?);
-    assert_eq!(rt; into.as_slice(), [0, 1, 2, 5, 6].as_slice());
-    assert!(rt; !tree.overlapping_up_to(span!(4 => 20), 4, &mut into)?);
-    assert!(rt; into.is_empty());
-    tree.overlapping_apart(span!(31 => 39), 0, 0, &mut into)?;
-    assert_eq!(rt; into.as_slice(), [5].as_slice());
+// What is asked of a tree: where, which labels are left out, and what is found.
+type Row = ([i64; 2], [u32; 2], &'static [u64]);
+
+// What is found by a row. The list has what was found before.
+fn assert_found(
+    rt: &impl Abort,
+    tree: &BoxTree,
+    ends: [i64; 2],
+    [a, b]: [u32; 2],
+    wanted: &[u64],
+    into: &mut Vec<u64>,
+) -> Result<(), NoMemory> {
+    tree.overlapping_apart(span(rt, ends), a, b, into)?;
+    assert!(rt; into.as_slice() == wanted, "{ends:?}");
     Ok(())
 }
 
-// Adds the boxes of a fan: so many faces at a vertex.
-fn add_fan(boxes: &mut Vec<LabelledBox>, at: u32, rim: u32, count: u32) -> Result<(), NoMemory> {
-    for k in 0..count {
-        let rim = rim.wrapping_add(k);
-        boxes.push(labelled!(0 => 9, rim, at, rim.wrapping_add(1)))?;
+fn assert_rows(
+    rt: &impl Abort,
+    alloc: Global,
+    tree: &BoxTree,
+    rows: &[Row],
+) -> Result<(), NoMemory> {
+    let mut into = Vec::new(alloc);
+    for (ends, labels, wanted) in rows {
+        assert_found(rt, tree, *ends, *labels, wanted, &mut into)?;
     }
     Ok(())
 }
 
+// How many are found where these labels are left out.
+fn count_apart(
+    rt: &impl Abort,
+    alloc: Global,
+    tree: &BoxTree,
+    [a, b]: [u32; 2],
+) -> Result<usize, NoMemory> {
+    let mut into = Vec::new(alloc);
+    tree.overlapping_apart(span(rt, [3, 4]), a, b, &mut into)?;
+    Ok(into.len())
+}
+
+// Whether they are all and how many are found where so many are asked for at most; and whether these are all. Before, the list has one.
+fn up_to(
+    rt: &impl Abort,
+    alloc: Global,
+    tree: &BoxTree,
+    ends: [i64; 2],
+    most: usize,
+) -> Result<(bool, usize, bool), NoMemory> {
+    let mut all = Vec::new(alloc);
+    tree.overlapping_apart(span(rt, ends), 0, 0, &mut all)?;
+    let mut into = vec![in alloc; 99]?;
+    let fits = tree.overlapping_up_to(span(rt, ends), most, &mut into)?;
+    Ok((fits, into.len(), into.as_slice() == all.as_slice()))
+}
+
+const LINE: [[i64; 2]; 7] = [
+    [0, 5],
+    [20, 25],
+    [5, 9],
+    [-9, -1],
+    [24, 30],
+    [-M, M],
+    [3, 4],
+];
+
+const ALONG: [Row; 2] = [
+    ([4, 20], [0, 0], &[0, 1, 2, 5, 6]),
+    ([31, 39], [0, 0], &[5]),
+];
+
+fn line(rt: &impl Abort, alloc: Global) -> Result<BoxTree, NoMemory> {
+    let boxes = LINE.map(|ends| labelled(rt, ends, [0, 0, 0]));
+    BoxTree::of(alloc, &boxes)
+}
+
+#[test]
+fn boxes_that_touch_are_found_rising(rt: HostRuntime) -> Result<(), Fail> {
+    let tree = line(&rt, rt.alloc())?;
+    assert_rows(&rt, rt.alloc(), &tree, &ALONG)?;
+    let found = up_to(&rt, rt.alloc(), &tree, [4, 20], 5)?;
+    assert_same(&rt, &found, &(true, 5, true));
+    let found = up_to(&rt, rt.alloc(), &tree, [4, 20], 4)?;
+    assert_same(&rt, &found, &(false, 0, false));
+    Ok(())
+}
+
+// Adds the boxes of a fan: so many faces at a vertex.
+fn add_fan(
+    rt: &impl Abort,
+    boxes: &mut Vec<LabelledBox>,
+    at: u32,
+    rim: u32,
+    count: u32,
+) -> Result<(), NoMemory> {
+    for k in 0..count {
+        let rim = rim.wrapping_add(k);
+        boxes.push(labelled(rt, [0, 9], [rim, at, rim.wrapping_add(1)]))?;
+    }
+    Ok(())
+}
+
+// A vertex with 70 faces, and one with four.
+fn fans(rt: &impl Abort, alloc: Global) -> Result<BoxTree, NoMemory> {
+    let mut boxes = Vec::new(alloc);
+    add_fan(rt, &mut boxes, 1, 100, 70)?;
+    add_fan(rt, &mut boxes, 2, 168, 4)?;
+    BoxTree::of(alloc, &boxes)
+}
+
+const AT_VERTICES: [Row; 3] = [
+    ([3, 4], [1, 0], &[70, 71, 72, 73]),
+    ([3, 4], [1, 169], &[72, 73]),
+    ([3, 4], [1, 2], &[]),
+];
+
 #[test]
 fn faces_at_a_vertex_are_left_out(rt: HostRuntime) -> Result<(), Fail> {
-    let alloc = rt.alloc();
-    let mut boxes = Vec::new(alloc);
-    add_fan(&mut boxes, 1, 100, 70)?;
-    add_fan(&mut boxes, 2, 168, 4)?;
-    let tree = BoxTree::of(alloc, &boxes)?;
-    let mut into = Vec::new(alloc);
-    tree.overlapping_apart(span!(3 => 4), 1, 0, &mut into)?;
-    assert_eq!(rt; into.as_slice(), [70, 71, 72, 73].as_slice());
-    tree.overlapping_apart(span!(3 => 4), 1, 169, &mut into)?;
-    assert_eq!(rt; into.as_slice(), [72, 73].as_slice());
-    tree.overlapping_apart(span!(3 => 4), 2, 170, &mut into)?;
-    assert_eq!(rt; into.len(), 69);
-    tree.overlapping_apart(span!(3 => 4), 1, 2, &mut into)?;
-    assert!(rt; into.is_empty());
-    assert!(rt; !tree.overlapping_up_to(span!(3 => 4), 73, &mut into)?);
-    assert!(rt; tree.overlapping_up_to(span!(3 => 4), 74, &mut into)?);
-    assert_eq!(rt; into.len(), 74);
+    let tree = fans(&rt, rt.alloc())?;
+    assert_rows(&rt, rt.alloc(), &tree, &AT_VERTICES)?;
+    let found = count_apart(&rt, rt.alloc(), &tree, [2, 170])?;
+    assert_same(&rt, &found, &69);
+    let found = up_to(&rt, rt.alloc(), &tree, [3, 4], 73)?;
+    assert_same(&rt, &found, &(false, 0, false));
+    let found = up_to(&rt, rt.alloc(), &tree, [3, 4], 74)?;
+    assert_same(&rt, &found, &(true, 74, true));
     Ok(())
 }

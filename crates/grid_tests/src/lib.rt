@@ -10,4 +10,8 @@ mod meeting;
 #[cfg(test)]
 mod motions;
 #[cfg(test)]
+mod places;
+#[cfg(test)]
 mod points;
+#[cfg(test)]
+mod same;

@@ -1,8 +1,5 @@
-ghost use Rattle.std.specs.Prelude.{◌↔◌, IsTrue};
-ghost use Rattle.grid_base.specs.Triples.{IsWithin};
-ghost use Rattle.grid_base.specs.declared.TheConstants.{HALF_MAX};
-
-use grid_base::{HALF_MAX, Wide};
+use crate::places::position;
+use grid_base::HALF_MAX;
 use grid_meets::meets;
 use std::process::Abort;
 
@@ -229,51 +226,27 @@ const APART: [Case; 27] = [
     ],
 ];
 
-fn is_within(p: Wide) -> bool
-    ensures { IsTrue result ↔ IsWithin HALF_MAX p }
-{
-    let most = HALF_MAX as u128;
-    p.x.unsigned_abs() <= most && p.y.unsigned_abs() <= most && p.z.unsigned_abs() <= most
+fn answer(rt: &impl Abort, [a, b, c, d, e]: Case) -> bool {
+    meets(
+        position(rt, a),
+        position(rt, b),
+        position(rt, c),
+        position(rt, d),
+        position(rt, e),
+    )
 }
 
-fn at(p: [i64; 3]) -> Wide {
-    Wide {
-        x: p[0] as i128,
-        y: p[1] as i128,
-        z: p[2] as i128,
-    }
-}
-
-fn answer(rt: &impl Abort, case: &Case) -> bool {
-    let a = at(case[0]);
-    let b = at(case[1]);
-    let c = at(case[2]);
-    let d = at(case[3]);
-    let e = at(case[4]);
-    assert!(rt; is_within(a));
-    assert!(rt; is_within(b));
-    assert!(rt; is_within(c));
-    assert!(rt; is_within(d));
-    assert!(rt; is_within(e));
-    meets(a, b, c, d, e)
-}
-
-#[test]
-fn meeting_is_exact_at_its_edges(rt: HostRuntime) {
-    for (i, case) in MEET_AT_THE_EDGES.iter().enumerate() {
-        assert!(rt; answer(&rt, case), "case {i} meets");
-    }
-    for (i, case) in APART_AT_THE_EDGES.iter().enumerate() {
-        assert!(rt; !answer(&rt, case), "case {i} does not meet");
+// All cases of a list meet, or none does.
+fn assert_all(rt: &impl Abort, cases: &[Case], meet: bool) {
+    for (i, case) in cases.iter().enumerate() {
+        assert!(rt; answer(rt, *case) == meet, "case {i}");
     }
 }
 
 #[test]
-fn meeting_is_exact_by_kinds(rt: HostRuntime) {
-    for (i, case) in MEET.iter().enumerate() {
-        assert!(rt; answer(&rt, case), "case {i} meets");
-    }
-    for (i, case) in APART.iter().enumerate() {
-        assert!(rt; !answer(&rt, case), "case {i} does not meet");
-    }
+fn meeting_is_exact_at_its_edges_and_by_kinds(rt: HostRuntime) {
+    assert_all(&rt, &MEET_AT_THE_EDGES, true);
+    assert_all(&rt, &APART_AT_THE_EDGES, false);
+    assert_all(&rt, &MEET, true);
+    assert_all(&rt, &APART, false);
 }

@@ -1,9 +1,10 @@
-ghost use Rattle.std.specs.Prelude.{◌≡◌, ◌↔◌, IsTrue};
-ghost use Rattle.grid_base.specs.Triples.{IsWithin};
+ghost use Rattle.std.specs.Prelude.{◌≡◌, IsTrue};
 ghost use Rattle.grid_base.specs.Meeting.{AreWithin};
-ghost use Rattle.grid_base.specs.declared.TheConstants.{HALF_MAX, DIRECTION_MAX};
+ghost use Rattle.grid_base.specs.declared.TheConstants.{HALF_MAX};
 ghost use Rattle.motion_test.specs.Pairs.{positions_of};
 
+use crate::places::{is_within, wide};
+use crate::same::assert_same;
 use grid_base::{DEPTH_MAX, HALF_MAX, Positions, Wide};
 use grid_meets::meets;
 use motion_test::{
@@ -17,16 +18,8 @@ const M: i64 = HALF_MAX as i64;
 // An edge's ends and a triangle's corners.
 type Place = [[i64; 3]; 5];
 
-fn at(p: [i64; 3]) -> Wide {
-    Wide {
-        x: p[0] as i128,
-        y: p[1] as i128,
-        z: p[2] as i128,
-    }
-}
-
 fn all_at(f: &Place) -> [Wide; 5] {
-    [at(f[0]), at(f[1]), at(f[2]), at(f[3]), at(f[4])]
+    [wide(f[0]), wide(f[1]), wide(f[2]), wide(f[3]), wide(f[4])]
 }
 
 // The five positions of a list.
@@ -42,17 +35,14 @@ fn positions(p: &[Wide; 5]) -> Positions
     }
 }
 
-fn is_within(p: Wide) -> bool
-    ensures { IsTrue result ↔ IsWithin HALF_MAX p }
-{
-    let most = HALF_MAX as u128;
-    p.x.unsigned_abs() <= most && p.y.unsigned_abs() <= most && p.z.unsigned_abs() <= most
-}
-
 fn are_within(f: &Positions) -> bool
     ensures { IsTrue result → AreWithin HALF_MAX f.now }
 {
-    is_within(f.a) && is_within(f.b) && is_within(f.c) && is_within(f.d) && is_within(f.e)
+    is_within(HALF_MAX, f.a)
+        && is_within(HALF_MAX, f.b)
+        && is_within(HALF_MAX, f.c)
+        && is_within(HALF_MAX, f.d)
+        && is_within(HALF_MAX, f.e)
 }
 
 fn pair(rt: &impl Abort, start: &Place, end: &Place) -> Pair
@@ -85,7 +75,7 @@ fn answers_to(rt: &impl Abort, p: &Pair, want: [bool; 4])
     requires end_fits { AreWithin HALF_MAX (positions_of p.now.end) }
 {
     for depth in 0..DEPTH_MAX + 1 {
-        assert_eq!(rt; answers(rt, p, depth), want, "depth {depth}");
+        assert_same(rt, &(depth, answers(rt, p, depth)), &(depth, want));
     }
 }
 
@@ -94,13 +84,29 @@ const TOUCHING: Place = [[0, 0, 0], [8, 0, 0], [0, 0, 0], [-8, 4, 0], [-8, 0, 4]
 
 const MOVED_AWAY: Place = [[1, 0, 0], [9, 0, 0], [-1, 0, 0], [-9, 4, 0], [-9, 0, 4]];
 
-#[test]
-fn a_pair_that_leaves_a_touch_only_opens(rt: HostRuntime) {
-    let away = pair(&rt, &TOUCHING, &MOVED_AWAY);
-    answers_to(&rt, &away, [false, false, true, false]);
-    let back = pair(&rt, &MOVED_AWAY, &TOUCHING);
-    answers_to(&rt, &back, [false, false, false, true]);
-}
+// The directions of that pair, by their places.
+const DIRECTIONS: [(usize, [i64; 3]); 17] = [
+    (0, [1, 0, 0]),
+    (1, [0, 1, 0]),
+    (2, [0, 0, 1]),
+    // the normal, the edge across the first side, the second and the third, and the differences
+    (3, [16, 32, 32]),
+    (4, [0, 0, 32]),
+    (5, [0, -32, -32]),
+    (6, [0, 32, 0]),
+    (7, [0, 0, 0]),
+    (8, [-8, 4, 0]),
+    (9, [-8, 0, 4]),
+    (10, [-8, 0, 0]),
+    (11, [-16, 4, 0]),
+    (12, [-16, 0, 4]),
+    // the like at the end
+    (13, [16, 32, 32]),
+    (17, [-2, 0, 0]),
+    (22, [-18, 0, 4]),
+    // there are no more
+    (23, [0, 0, 0]),
+];
 
 #[test]
 fn directions_stand_in_their_order(rt: HostRuntime) {
@@ -108,30 +114,19 @@ fn directions_stand_in_their_order(rt: HostRuntime) {
     let s = positions(&p.start);
     let t = positions(&p.end);
     let all = directions(&s, &t);
-    assert_eq!(rt; all[0], at([1, 0, 0]));
-    assert_eq!(rt; all[1], at([0, 1, 0]));
-    assert_eq!(rt; all[2], at([0, 0, 1]));
-    // the normal, the edge across the first side, the second and the third, and the differences
-    assert_eq!(rt; all[3], at([16, 32, 32]));
-    assert_eq!(rt; all[4], at([0, 0, 32]));
-    assert_eq!(rt; all[5], at([0, -32, -32]));
-    assert_eq!(rt; all[6], at([0, 32, 0]));
-    assert_eq!(rt; all[7], at([0, 0, 0]));
-    assert_eq!(rt; all[8], at([-8, 4, 0]));
-    assert_eq!(rt; all[9], at([-8, 0, 4]));
-    assert_eq!(rt; all[10], at([-8, 0, 0]));
-    assert_eq!(rt; all[11], at([-16, 4, 0]));
-    assert_eq!(rt; all[12], at([-16, 0, 4]));
-    // the like at the end
-    assert_eq!(rt; all[13], at([16, 32, 32]));
-    assert_eq!(rt; all[17], at([-2, 0, 0]));
-    assert_eq!(rt; all[22], at([-18, 0, 4]));
+    for (i, wanted) in &DIRECTIONS {
+        let wanted = if *i < 23 { Some(wide(*wanted)) } else { None };
+        assert_same(&rt, &(i, all.get(*i).copied()), &(i, wanted));
+    }
     let x = all[0];
-    assert!(rt; !keeps_apart(x, &s, &t));
-    assert!(rt; takes_apart(x, &s, &t));
-    assert!(rt; !takes_apart(x, &t, &s));
-    assert!(rt; brings_together(x, &t, &s));
-    assert!(rt; !brings_together(x, &s, &t));
+    let kept = keeps_apart(x, &s, &t);
+    let apart = [takes_apart(x, &s, &t), takes_apart(x, &t, &s)];
+    let together = [brings_together(x, &t, &s), brings_together(x, &s, &t)];
+    assert_same(
+        &rt,
+        &(kept, apart, together),
+        &(false, [true, false], [true, false]),
+    );
 }
 
 // Two tetrahedra in half units: vertices 1 to 4, and vertices 5 to 8.
@@ -190,21 +185,23 @@ fn is_clear_at_both_ends(p: &Pair) -> bool
     !meets(s.a, s.b, s.c, s.d, s.e) && !meets(t.a, t.b, t.c, t.d, t.e)
 }
 
+// Whether the edge passes the face, at each depth.
+fn assert_passing(rt: &impl Abort, edge: [usize; 2], face: [usize; 3], passes: bool) {
+    let p = passing(rt, edge, face);
+    assert!(rt; is_clear_at_both_ends(&p));
+    answers_to(rt, &p, [passes; 4]);
+}
+
 #[test]
 fn two_tetrahedra_pass_through_each_other(rt: HostRuntime) {
-    for edge in SECOND_EDGES {
+    for edge in &SECOND_EDGES {
         for (i, face) in FIRST_FACES.iter().enumerate() {
-            let p = passing(&rt, edge, *face);
-            assert!(rt; is_clear_at_both_ends(&p));
-            let passes = i == 1 || i == 3;
-            answers_to(&rt, &p, [passes, passes, passes, passes]);
+            assert_passing(&rt, *edge, *face, i == 1 || i == 3);
         }
     }
-    for edge in FIRST_EDGES {
-        for face in SECOND_FACES {
-            let p = passing(&rt, edge, face);
-            assert!(rt; is_clear_at_both_ends(&p));
-            answers_to(&rt, &p, [true, true, true, true]);
+    for edge in &FIRST_EDGES {
+        for face in &SECOND_FACES {
+            assert_passing(&rt, *edge, *face, true);
         }
     }
 }
@@ -220,14 +217,23 @@ const BESIDE_MOVED: Place = [
     [5, -2, 3],
 ];
 
+// Where a pair starts and ends, and whether it separates, passes, opens and closes, at each depth.
+const AT_EACH_DEPTH: [(&Place, &Place, [bool; 4]); 6] = [
+    // a pair that leaves a touch only opens, and one that comes to it only closes
+    (&TOUCHING, &MOVED_AWAY, [false, false, true, false]),
+    (&MOVED_AWAY, &TOUCHING, [false, false, false, true]),
+    // pairs that move together pass where they do not meet
+    (&BESIDE, &BESIDE_MOVED, [false, true, false, false]),
+    (&BESIDE, &BESIDE, [false, true, false, false]),
+    (&TOUCHING, &TOUCHING, [false, false, false, false]),
+    (&FAR_OVER, &FAR_THROUGH, [false, false, false, false]),
+];
+
 #[test]
-fn pairs_that_move_together_pass_where_they_do_not_meet(rt: HostRuntime) {
-    let apart = pair(&rt, &BESIDE, &BESIDE_MOVED);
-    answers_to(&rt, &apart, [false, true, false, false]);
-    let still = pair(&rt, &BESIDE, &BESIDE);
-    answers_to(&rt, &still, [false, true, false, false]);
-    let touching = pair(&rt, &TOUCHING, &TOUCHING);
-    answers_to(&rt, &touching, [false, false, false, false]);
+fn pairs_are_told_alike_at_each_depth(rt: HostRuntime) {
+    for (start, end, want) in &AT_EACH_DEPTH {
+        answers_to(&rt, &pair(&rt, start, end), *want);
+    }
 }
 
 // A pair that is separated only where each of eight parts of its motion has a direction of its own.
@@ -265,21 +271,21 @@ fn halves_of_the_time_are_tested_to_the_depth(rt: HostRuntime) {
     let going = pair(&rt, &ARRIVED, &COMING);
     for depth in 0..DEPTH_MAX + 1 {
         let deep = depth >= 3;
-        assert_eq!(rt;
-            answers(&rt, &turning, depth),
-            [deep, deep, deep, deep],
-            "depth {depth}"
+        assert_same(
+            &rt,
+            &(depth, answers(&rt, &turning, depth)),
+            &(depth, [deep; 4]),
         );
         let deeper = depth >= 4;
-        assert_eq!(rt;
-            answers(&rt, &coming, depth),
-            [false, false, false, deeper],
-            "depth {depth}"
+        assert_same(
+            &rt,
+            &(depth, answers(&rt, &coming, depth)),
+            &(depth, [false, false, false, deeper]),
         );
-        assert_eq!(rt;
-            answers(&rt, &going, depth),
-            [false, false, deeper, false],
-            "depth {depth}"
+        assert_same(
+            &rt,
+            &(depth, answers(&rt, &going, depth)),
+            &(depth, [false, false, deeper, false]),
         );
     }
 }
@@ -308,9 +314,11 @@ const FAR_THROUGH: Place = [[0, 0, -M], [0, 0, M], [-M, -M, 0], [M, -M, 0], [0, 
 #[test]
 fn the_greatest_sizes_are_tested_to_the_greatest_depth(rt: HostRuntime) {
     let turning = pair(&rt, &FAR_TURNING, &FAR_TURNED);
-    assert_eq!(rt; answers(&rt, &turning, 1), [false, false, false, true]);
-    assert_eq!(rt; answers(&rt, &turning, 2), [true, true, true, true]);
-    assert_eq!(rt; answers(&rt, &turning, DEPTH_MAX), [true, true, true, true]);
-    let through = pair(&rt, &FAR_OVER, &FAR_THROUGH);
-    answers_to(&rt, &through, [false, false, false, false]);
+    assert_same(
+        &rt,
+        &answers(&rt, &turning, 1),
+        &[false, false, false, true],
+    );
+    assert_same(&rt, &answers(&rt, &turning, 2), &[true; 4]);
+    assert_same(&rt, &answers(&rt, &turning, DEPTH_MAX), &[true; 4]);
 }

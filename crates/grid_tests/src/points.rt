@@ -1,3 +1,5 @@
+use crate::places::position;
+use crate::same::assert_same;
 use grid_base::{
     BOX, HALF_MAX, HALVINGS_MAX, Items, Point, SHIFT_MAX, Shift, Wide, floor_mid, halved, moved,
     orient,
@@ -5,120 +7,151 @@ use grid_base::{
 use std::process::Abort;
 use std::test::Fail;
 
-fn point(rt: &impl Abort, x: i32, y: i32, z: i32) -> Point {
-    Point::new(x, y, z).expect(rt, "a point in the box")
+fn point(rt: &impl Abort, p: [i32; 3]) -> Point {
+    Point::new(p[0], p[1], p[2]).expect(rt, "a point in the box")
 }
 
-fn shift(rt: &impl Abort, x: i32, y: i32, z: i32) -> Shift {
-    Shift::new(x, y, z).expect(rt, "a shift within its limit")
+fn shift(rt: &impl Abort, s: [i32; 3]) -> Shift {
+    Shift::new(s[0], s[1], s[2]).expect(rt, "a shift within its limit")
 }
+
+// The greatest coordinate of a point, and of a shift.
+const M: i32 = BOX as i32;
+
+const S: i32 = SHIFT_MAX as i32;
+
+// Coordinates, and whether they are those of a point.
+const POINTS: [([i32; 3], bool); 5] = [
+    ([M, -M, 0], true),
+    ([M + 1, 0, 0], false),
+    ([0, -M - 1, 0], false),
+    ([0, 0, M + 1], false),
+    ([0, i32::MIN, 0], false),
+];
+
+// The same of a shift.
+const SHIFTS: [([i32; 3], bool); 4] = [
+    ([S, -S, 0], true),
+    ([-S - 1, 0, 0], false),
+    ([0, S + 1, 0], false),
+    ([0, 0, i32::MIN], false),
+];
 
 #[test]
 fn points_and_shifts_end_at_their_limits(rt: HostRuntime) {
-    let most = BOX as i32;
-    for (x, y, z, fits) in [
-        (most, -most, 0, true),
-        (most + 1, 0, 0, false),
-        (0, -most - 1, 0, false),
-        (0, 0, most + 1, false),
-        (0, i32::MIN, 0, false),
-    ] {
-        assert_eq!(rt; Point::new(x, y, z).is_some(), fits);
+    for (p, fits) in &POINTS {
+        assert_same(
+            &rt,
+            &(p, Point::new(p[0], p[1], p[2]).is_some()),
+            &(p, *fits),
+        );
     }
-    let most = SHIFT_MAX as i32;
-    for (x, y, z, fits) in [
-        (most, -most, 0, true),
-        (-most - 1, 0, 0, false),
-        (0, most + 1, 0, false),
-        (0, 0, i32::MIN, false),
-    ] {
-        assert_eq!(rt; Shift::new(x, y, z).is_some(), fits);
+    for (s, fits) in &SHIFTS {
+        assert_same(
+            &rt,
+            &(s, Shift::new(s[0], s[1], s[2]).is_some()),
+            &(s, *fits),
+        );
     }
 }
 
-#[test]
-fn points_move_within_the_box(rt: HostRuntime) {
-    let most = BOX as i32;
-    let p = point(&rt, most, -most, 3);
-    let back = shift(&rt, -2 * most, 0, -4);
-    assert_eq!(rt; moved(p, back), Some(point(&rt, -most, -most, -1)));
-    assert_eq!(rt; moved(p, shift(&rt, 0, -1, 0)), None);
+// Shifts, how often they are halved, and what is left: halves are rounded toward zero.
+const HALVES: [([i32; 3], u8, [i32; 3]); 3] = [
+    ([-3, 3, -4], 0, [-3, 3, -4]),
+    ([-3, 3, -4], 1, [-1, 1, -2]),
+    ([S, -S, S - 1], HALVINGS_MAX, [4, -4, 3]),
+];
+
+fn half(rt: &impl Abort, s: [i32; 3], m: u8) -> Shift {
+    assert!(rt; m <= HALVINGS_MAX);
+    halved(shift(rt, s), m)
 }
 
 #[test]
-fn midpoints_round_down_and_halves_toward_zero(rt: HostRuntime) {
-    let a = point(&rt, -1, 3, -3);
-    let b = point(&rt, 0, 4, -4);
-    assert_eq!(rt; floor_mid(a, b), point(&rt, -1, 3, -4));
-    let s = shift(&rt, -3, 3, -4);
-    assert_eq!(rt; halved(s, 0), s);
-    assert_eq!(rt; halved(s, 1), shift(&rt, -1, 1, -2));
-    let most = SHIFT_MAX as i32;
-    assert_eq!(rt;
-        halved(shift(&rt, most, -most, most - 1), HALVINGS_MAX),
-        shift(&rt, 4, -4, 3)
-    );
+fn points_move_within_the_box_and_midpoints_round_down(rt: HostRuntime) {
+    let p = point(&rt, [M, -M, 3]);
+    let to = moved(p, shift(&rt, [-2 * M, 0, -4]));
+    assert_same(&rt, &to, &Some(point(&rt, [-M, -M, -1])));
+    let to = moved(p, shift(&rt, [0, -1, 0]));
+    assert_same(&rt, &to, &None);
+    let mid = floor_mid(point(&rt, [-1, 3, -3]), point(&rt, [0, 4, -4]));
+    assert_same(&rt, &mid, &point(&rt, [-1, 3, -4]));
+    for (s, m, left) in &HALVES {
+        assert_same(&rt, &half(&rt, *s, *m), &shift(&rt, *left));
+    }
 }
+
+// The difference, the vector across both, and the product.
+fn products(rt: &impl Abort, a: [i64; 3], b: [i64; 3]) -> (Wide, Wide, i128) {
+    let a = position(rt, a);
+    let b = position(rt, b);
+    (a.minus(b), a.cross(b), a.dot(b))
+}
+
+// Two vectors, and their products.
+const PRODUCTS: [([[i64; 3]; 2], [i64; 3], [i64; 3], i128); 4] = [
+    ([[1, 0, 0], [0, 1, 0]], [1, -1, 0], [0, 0, 1], 0),
+    ([[0, 1, 0], [0, 0, 1]], [0, 1, -1], [1, 0, 0], 0),
+    ([[0, 0, 1], [1, 0, 0]], [-1, 0, 1], [0, 1, 0], 0),
+    ([[2, 3, 5], [7, 11, -13]], [-5, -8, 18], [-94, 61, 1], -18),
+];
+
+// The greatest coordinate of a position.
+const H: i64 = HALF_MAX as i64;
+
+// Four positions, and how they are turned to one another.
+const TURNS: [([[i64; 3]; 4], i128); 3] = [
+    ([[0, 0, 0], [1, 0, 0], [0, 1, 0], [0, 0, 1]], 1),
+    ([[0, 0, 0], [0, 1, 0], [1, 0, 0], [0, 0, 1]], -1),
+    // 8 H H H
+    (
+        [[-H, -H, -H], [H, -H, -H], [-H, H, -H], [-H, -H, H]],
+        1_237_940_039_285_380_274_899_124_224,
+    ),
+];
 
 #[test]
 fn products_of_wide_vectors(rt: HostRuntime) {
-    let x = Wide { x: 1, y: 0, z: 0 };
-    let y = Wide { x: 0, y: 1, z: 0 };
-    let z = Wide { x: 0, y: 0, z: 1 };
-    let o = Wide { x: 0, y: 0, z: 0 };
-    assert_eq!(rt; x.minus(y), Wide { x: 1, y: -1, z: 0 });
-    assert_eq!(rt; x.cross(y), z);
-    assert_eq!(rt; y.cross(z), x);
-    assert_eq!(rt; z.cross(x), y);
-    assert_eq!(rt;
-        Wide { x: 2, y: 3, z: 5 }.dot(Wide {
-            x: 7,
-            y: 11,
-            z: -13
-        }),
-        -18
-    );
-    assert_eq!(rt; orient(o, x, y, z), 1);
-    assert_eq!(rt; orient(o, y, x, z), -1);
-    let most = HALF_MAX as i128;
-    let low = Wide {
-        x: -most,
-        y: -most,
-        z: -most,
-    };
-    let a = Wide {
-        x: most,
-        y: -most,
-        z: -most,
-    };
-    let b = Wide {
-        x: -most,
-        y: most,
-        z: -most,
-    };
-    let c = Wide {
-        x: -most,
-        y: -most,
-        z: most,
-    };
-    assert_eq!(rt; orient(low, a, b, c), 8 * (most * most * most));
+    for ([a, b], minus, cross, dot) in &PRODUCTS {
+        let wanted = (position(&rt, *minus), position(&rt, *cross), *dot);
+        assert_same(&rt, &products(&rt, *a, *b), &wanted);
+    }
+    for ([a, b, c, d], wanted) in &TURNS {
+        let found = orient(
+            position(&rt, *a),
+            position(&rt, *b),
+            position(&rt, *c),
+            position(&rt, *d),
+        );
+        assert_same(&rt, &found, wanted);
+    }
+}
+
+// The items at the first three places.
+fn first_three(items: &Items<i32>) -> [Option<i32>; 3] {
+    [
+        items.get(0).copied(),
+        items.get(1).copied(),
+        items.get(2).copied(),
+    ]
 }
 
 #[test]
 fn items_keep_their_order(rt: HostRuntime) -> Result<(), Fail> {
     let mut items = Items::new(rt.alloc());
-    assert_eq!(rt; items.len(), 0);
+    assert_same(&rt, &(items.len(), first_three(&items)), &(0, [None; 3]));
     items.push(5)?;
     items.push(7)?;
-    assert_eq!(rt; items.len(), 2);
-    assert_eq!(rt; items.get(0), Some(&5));
-    assert_eq!(rt; items.get(1), Some(&7));
-    assert_eq!(rt; items.get(2), None);
+    assert_same(
+        &rt,
+        &(items.len(), first_three(&items)),
+        &(2, [Some(5), Some(7), None]),
+    );
     let taken = items.into_vec();
-    assert_eq!(rt; taken.as_slice(), [5, 7].as_slice());
+    assert!(rt; taken.as_slice() == [5, 7].as_slice());
     let mut again = Items::from_vec(taken);
-    assert_eq!(rt; again.as_slice(), [5, 7].as_slice());
+    assert!(rt; again.as_slice() == [5, 7].as_slice());
     again.set(0, 9);
-    assert_eq!(rt; again.as_slice(), [9, 7].as_slice());
+    assert!(rt; again.as_slice() == [9, 7].as_slice());
     Ok(())
 }

@@ -1,4 +1,5 @@
 //! Worked examples: texts that are read and written in three formats, and texts outside the grammars.
+use crate::same::assert_bytes;
 use grid_base::{DECIMALS_MAX, NoMemory};
 use line_text::{Parts, ReadFault, TextFault, cut_at};
 use mesh_base::MeshLists;
@@ -47,8 +48,9 @@ property float z\n";
 const HEAD: &str = "ply\nformat ascii 1.0\nelement vertex 1\nproperty float x\nproperty float y\n\
 property float z\nelement face 1\nproperty list uchar int vertex_indices\nend_header\n";
 
-#[derive(Clone, Copy)]
+#[derive(Clone, Copy, Debug)]
 enum Format {
+    Obj,
     Off,
     Ply,
 }
@@ -62,34 +64,59 @@ fn read(
 ) -> Result<MeshLists, ReadFault> {
     assert!(rt; text.len() < 10_000 && decimals <= DECIMALS_MAX);
     match format {
+        Format::Obj => read_obj(alloc, text, decimals),
         Format::Off => read_off(alloc, text, decimals),
         Format::Ply => read_ply(alloc, text, decimals),
     }
 }
 
+fn written(
+    rt: &impl Abort,
+    alloc: Global,
+    format: Format,
+    lists: &MeshLists,
+    decimals: u8,
+) -> Result<Vec<u8>, NoMemory> {
+    assert!(rt; decimals <= DECIMALS_MAX);
+    match format {
+        Format::Off => off_of(alloc, lists, decimals),
+        Format::Ply => ply_of(alloc, lists, decimals),
+        Format::Obj => {
+            let good = shape(alloc, lists);
+            assert!(rt; good.is_ok());
+            let mesh = PlainMesh::of(alloc, lists)?;
+            obj_of(alloc, &mesh, decimals)
+        }
+    }
+}
+
+// The text in one format is written so in another.
+fn assert_written(
+    rt: &impl Abort,
+    alloc: Global,
+    (from, text): (Format, &str),
+    (to, wanted): (Format, &str),
+    decimals: u8,
+) -> Result<(), ReadFault> {
+    let lists = read(rt, alloc, from, text.as_bytes(), decimals)?;
+    let found = written(rt, alloc, to, &lists, decimals)?;
+    assert_bytes(rt, found.as_slice(), wanted.as_bytes());
+    Ok(())
+}
+
+const WRITTEN: [((Format, &str), (Format, &str), u8); 6] = [
+    ((Format::Obj, OBJ), (Format::Off, OFF), 0),
+    ((Format::Off, OFF), (Format::Ply, PLY), 0),
+    ((Format::Ply, PLY), (Format::Obj, OBJ), 0),
+    ((Format::Off, OFF_PYRAMID), (Format::Off, PYRAMID), 0),
+    ((Format::Ply, PLY_PYRAMID), (Format::Off, PYRAMID), 0),
+    ((Format::Off, OFF_DECIMALS), (Format::Off, DECIMALS), 3),
+];
+
 #[test]
 fn meshes_are_the_same_in_each_format(rt: HostRuntime) -> Result<(), Fail> {
-    let lists = read_obj(rt.alloc(), OBJ.as_bytes(), 0)?;
-    let off = off_of(rt.alloc(), &lists, 0)?;
-    assert_eq!(rt; off.as_slice(), OFF.as_bytes());
-    let lists = read(&rt, rt.alloc(), Format::Off, OFF.as_bytes(), 0)?;
-    let ply = ply_of(rt.alloc(), &lists, 0)?;
-    assert_eq!(rt; ply.as_slice(), PLY.as_bytes());
-    let lists = read(&rt, rt.alloc(), Format::Ply, PLY.as_bytes(), 0)?;
-    let good = shape(rt.alloc(), &lists);
-    assert!(rt; good.is_ok());
-    let mesh = PlainMesh::of(rt.alloc(), &lists)?;
-    let obj = obj_of(rt.alloc(), &mesh, 0)?;
-    assert_eq!(rt; obj.as_slice(), OBJ.as_bytes());
-    for (format, text, decimals, written) in [
-        (Format::Off, OFF_PYRAMID, 0, PYRAMID),
-        (Format::Ply, PLY_PYRAMID, 0, PYRAMID),
-        (Format::Off, OFF_DECIMALS, 3, DECIMALS),
-    ] {
-        let lists = read(&rt, rt.alloc(), format, text.as_bytes(), decimals)?;
-        assert!(rt; decimals <= DECIMALS_MAX);
-        let off = off_of(rt.alloc(), &lists, decimals)?;
-        assert_eq!(rt; off.as_slice(), written.as_bytes());
+    for (from, to, decimals) in &WRITTEN {
+        assert_written(&rt, rt.alloc(), *from, *to, *decimals)?;
     }
     Ok(())
 }
@@ -137,6 +164,31 @@ const ROW_FAULTS: &[u8] = b"10 Short\nx 0\n\
 |11 Corner\n0 0 0\n3 0 0 4294967295\n\
 |13 Long\n0 0 0\n3 0 0 0\n\n0\n";
 
+// The fault of a text behind a head, as its line and its reason; nothing where there is none.
+fn fault_of(
+    rt: &impl Abort,
+    alloc: Global,
+    format: Format,
+    head: &str,
+    rest: &[u8],
+) -> Result<Vec<u8>, NoMemory> {
+    let mut text = Vec::new(alloc);
+    text.extend_from_slice(head.as_bytes())?;
+    text.extend_from_slice(rest)?;
+    let mut fault = Vec::new(alloc);
+    if let Err(ReadFault::Text(TextFault { line, why })) = read(
+        rt,
+        alloc,
+        format,
+        text.as_slice(),
+        0,
+    ) {
+        let found = format!(in alloc; "{line} {why:?}")?;
+        fault.extend_from_slice(found.as_bytes())?;
+    }
+    Ok(fault)
+}
+
 // Each text, behind the head, has the fault that stands in front of it.
 fn assert_faults(
     rt: &impl Abort,
@@ -147,31 +199,25 @@ fn assert_faults(
 ) -> Result<(), NoMemory> {
     for case in Parts::new(b'|', cases) {
         let (want, rest) = cut_at(b'\n', case);
-        let mut text = Vec::new(alloc);
-        text.extend_from_slice(head.as_bytes())?;
-        text.extend_from_slice(rest.unwrap_or(b""))?;
-        match read(rt, alloc, format, text.as_slice(), 0) {
-            Err(ReadFault::Text(TextFault { line, why })) => {
-                let found = format!(in alloc; "{line} {why:?}")?;
-                assert_eq!(rt; found.as_bytes(), want);
-            }
-            _ => assert!(rt; false),
-        }
+        let found = fault_of(rt, alloc, format, head, rest.unwrap_or(b""))?;
+        assert_bytes(rt, found.as_slice(), want);
     }
     Ok(())
 }
 
+// The format, what stands in front of each text, and the texts.
+const FAULTS: [(Format, &str, &[u8]); 5] = [
+    (Format::Off, "", OFF_FAULTS),
+    (Format::Ply, "", PLY_FAULTS),
+    (Format::Ply, ASCII, ASCII_FAULTS),
+    (Format::Ply, VERTEX, VERTEX_FAULTS),
+    (Format::Ply, HEAD, ROW_FAULTS),
+];
+
 #[test]
 fn the_first_bad_line_is_named(rt: HostRuntime) -> Result<(), Fail> {
-    let tables = [
-        (Format::Off, "", OFF_FAULTS),
-        (Format::Ply, "", PLY_FAULTS),
-        (Format::Ply, ASCII, ASCII_FAULTS),
-        (Format::Ply, VERTEX, VERTEX_FAULTS),
-        (Format::Ply, HEAD, ROW_FAULTS),
-    ];
-    for (format, head, cases) in tables {
-        assert_faults(&rt, rt.alloc(), format, head, cases)?;
+    for (format, head, cases) in &FAULTS {
+        assert_faults(&rt, rt.alloc(), *format, head, cases)?;
     }
     Ok(())
 }

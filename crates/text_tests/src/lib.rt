@@ -14,4 +14,6 @@ mod logs;
 #[cfg(test)]
 mod objects;
 #[cfg(test)]
+mod same;
+#[cfg(test)]
 mod steps;

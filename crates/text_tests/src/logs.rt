@@ -1,6 +1,5 @@
 //! Worked examples: lines with their spellings, logs that are cut short, and texts that are no log.
-ghost use Rattle.std.specs.Prelude.{◌<◌, length};
-
+use crate::same::{assert_bytes, assert_same};
 use edit_base::{Asked, Change, Copies, CopyAt, PassKind, Why};
 use grid_base::{NoMemory, Point, Shift};
 use line_text::{Parts, ReadFault, TextFault, TextWhy};
@@ -11,12 +10,35 @@ use std::alloc::Global;
 use std::process::Abort;
 use std::test::Fail;
 
-fn pair(a: u32, b: u32, face: u32) -> PairName {
-    PairName {
-        a: VertexId(a),
-        b: VertexId(b),
-        face: FaceId(face),
+const A: VertexId = VertexId(1);
+
+const B: VertexId = VertexId(2);
+
+// Appends some lines.
+fn put(lines: &[LogLine], into: &mut Vec<u8>) -> Result<(), NoMemory> {
+    for line in lines {
+        print_line(line, into)?;
     }
+    Ok(())
+}
+
+// Appends what was asked for and is not done.
+fn put_nos(into: &mut Vec<u8>, nos: &[(Asked, Why)]) -> Result<(), NoMemory> {
+    for (what, why) in nos {
+        let line = LogLine::No {
+            what: *what,
+            why: *why,
+        };
+        print_line(&line, into)?;
+    }
+    Ok(())
+}
+
+fn put_refusals(into: &mut Vec<u8>, refusals: &[Refusal]) -> Result<(), NoMemory> {
+    for why in refusals {
+        print_line(&LogLine::Refused(*why), into)?;
+    }
+    Ok(())
 }
 
 fn mesh(k: u32) -> LogLine {
@@ -27,146 +49,225 @@ fn mesh(k: u32) -> LogLine {
     }
 }
 
-fn shifted(v: u32, by: Shift) -> LogLine {
-    LogLine::Move(ShiftOf { v: VertexId(v), by })
+const HIT: PairName = PairName {
+    a: VertexId(5),
+    b: VertexId(6),
+    face: FaceId(1),
+};
+
+const FIRST_SHIFT: ShiftOf = ShiftOf {
+    v: A,
+    by: Shift { x: 1, y: 2, z: 3 },
+};
+
+const SECOND_SHIFT: ShiftOf = ShiftOf {
+    v: VertexId(5),
+    by: Shift { x: -4, y: 0, z: 0 },
+};
+
+// Appends the lines of a step, up to how it is taken.
+fn put_step(into: &mut Vec<u8>) -> Result<(), NoMemory> {
+    let lines = [
+        LogLine::First { version: 1 },
+        mesh(0),
+        LogLine::Step { k: 1 },
+        LogLine::Hit(HIT),
+        LogLine::Move(FIRST_SHIFT),
+        LogLine::Move(SECOND_SHIFT),
+    ];
+    put(&lines, into)
 }
 
-fn no(what: Asked, why: Why) -> LogLine {
-    LogLine::No { what, why }
-}
+// Each way in which a step is taken.
+const HOWS: [How; 5] = [
+    How::Whole,
+    How::Impulse { passes: 1 },
+    How::Zones { rounds: 2 },
+    How::Halved { times: 1 },
+    How::Zero,
+];
 
-fn no_split(why: Why) -> LogLine {
-    let what = Asked::Split {
-        a: VertexId(1),
-        b: VertexId(2),
-    };
-    no(what, why)
-}
-
-fn fault(line: u32, why: TextWhy) -> TextFault {
-    TextFault { line, why }
-}
-
-fn refused_use(line: u32, why: UseWhy) -> Refusal {
-    Refusal::StepUse { line, why }
-}
-
-fn put(lines: &[LogLine], into: &mut Vec<u8>) -> Result<(), NoMemory> {
-    for line in lines {
-        print_line(line, into)?;
+fn put_hows(into: &mut Vec<u8>) -> Result<(), NoMemory> {
+    for how in &HOWS {
+        print_line(&LogLine::Moved(*how), into)?;
     }
     Ok(())
 }
 
-fn read_and_printed(rt: &impl Abort, alloc: Global, text: &[u8]) -> Result<Vec<u8>, ReadFault> {
-    assert!(rt; text.len() < 1000);
-    let log = read_log(alloc, text)?;
-    let mut again = Vec::new(alloc);
-    put(log.as_slice(), &mut again)?;
-    Ok(again)
+const PASSES: [PassKind; 5] = [
+    PassKind::Split { over: 50 },
+    PassKind::Collapse { under: 10 },
+    PassKind::Flip,
+    PassKind::Zip { within: 4 },
+    PassKind::Pinch,
+];
+
+fn put_passes(into: &mut Vec<u8>) -> Result<(), NoMemory> {
+    for kind in &PASSES {
+        print_line(&LogLine::Pass(*kind), into)?;
+    }
+    Ok(())
 }
 
-// Appends the lines of a step, and of each pass.
-fn put_run(into: &mut Vec<u8>) -> Result<(), NoMemory> {
-    let by = Shift { x: 1, y: 2, z: 3 };
-    let back = Shift { x: -4, y: 0, z: 0 };
-    let at = Point { x: 50, y: -1, z: 0 };
-    let near = Point { x: 0, y: 0, z: 4 };
-    let (a, b, w) = (VertexId(1), VertexId(2), VertexId(5));
-    let (e, f, turn) = (VertexId(9), VertexId(10), 3);
-    let step = [
-        LogLine::First { version: 1 },
-        mesh(0),
-        LogLine::Step { k: 1 },
-        LogLine::Hit(pair(5, 6, 1)),
-        shifted(1, by),
-        shifted(5, back),
-        LogLine::Moved(How::Whole),
-        LogLine::Moved(How::Impulse { passes: 1 }),
-        LogLine::Moved(How::Zones { rounds: 2 }),
-        LogLine::Moved(How::Halved { times: 1 }),
-        LogLine::Moved(How::Zero),
-    ];
-    let splits = [
-        LogLine::Pass(PassKind::Split { over: 50 }),
-        LogLine::Did(Change::Split { a, b, w, at }),
-        no_split(Why::NoEdge),
-        no_split(Why::Crowded),
-        no_split(Why::Edge),
-        no_split(Why::Shared),
-        no_split(Why::Full),
-        no_split(Why::Doubled),
-        no_split(Why::OneFan),
-        no_split(Why::Hit(pair(3, 4, 9))),
-    ];
-    let others = [
-        LogLine::Pass(PassKind::Collapse { under: 10 }),
-        LogLine::Did(Change::Collapse { a, b, at: near }),
-        no(Asked::Collapse { a, b }, Why::OneFan),
-        LogLine::Pass(PassKind::Flip),
+const SPLIT: Asked = Asked::Split { a: A, b: B };
+
+const ZIP: Asked = Asked::Zip {
+    a: A,
+    b: B,
+    e: VertexId(9),
+    f: VertexId(10),
+};
+
+const NOS: [(Asked, Why); 12] = [
+    (SPLIT, Why::NoEdge),
+    (SPLIT, Why::Crowded),
+    (SPLIT, Why::Edge),
+    (SPLIT, Why::Shared),
+    (SPLIT, Why::Full),
+    (SPLIT, Why::Doubled),
+    (SPLIT, Why::OneFan),
+    (
+        SPLIT,
+        Why::Hit(PairName {
+            a: VertexId(3),
+            b: VertexId(4),
+            face: FaceId(9),
+        }),
+    ),
+    (Asked::Collapse { a: A, b: B }, Why::OneFan),
+    (Asked::Flip { a: A, b: B }, Why::Edge),
+    (
+        ZIP,
+        Why::Hit(PairName {
+            a: A,
+            b: VertexId(10),
+            face: FaceId(29),
+        }),
+    ),
+    (Asked::Pinch { v: A }, Why::OneFan),
+];
+
+// Appends the lines of done edits, but for a pinch.
+fn put_edits(into: &mut Vec<u8>) -> Result<(), NoMemory> {
+    let (a, b) = (A, B);
+    let lines = [
+        LogLine::Did(Change::Split {
+            a,
+            b,
+            w: VertexId(5),
+            at: Point { x: 50, y: -1, z: 0 },
+        }),
+        LogLine::Did(Change::Collapse {
+            a,
+            b,
+            at: Point { x: 0, y: 0, z: 4 },
+        }),
         LogLine::Did(Change::Flip { a, b }),
-        no(Asked::Flip { a, b }, Why::Edge),
-        LogLine::Pass(PassKind::Zip { within: 4 }),
-        LogLine::Did(Change::Zip { a, b, e, f, turn }),
-        no(Asked::Zip { a, b, e, f }, Why::Hit(pair(1, 10, 29))),
-        LogLine::Pass(PassKind::Pinch),
-        no(Asked::Pinch { v: a }, Why::OneFan),
-        mesh(1),
-        LogLine::End,
+        LogLine::Did(Change::Zip {
+            a,
+            b,
+            e: VertexId(9),
+            f: VertexId(10),
+            turn: 3,
+        }),
     ];
-    put(&step, into)?;
-    put(&splits, into)?;
-    put(&others, into)
+    put(&lines, into)
+}
+
+// Appends the lines of a step, of each pass and of edits.
+fn put_run(into: &mut Vec<u8>) -> Result<(), NoMemory> {
+    put_step(into)?;
+    put_hows(into)?;
+    put_passes(into)?;
+    put_edits(into)?;
+    put_nos(into, &NOS)?;
+    put(&[mesh(1), LogLine::End], into)
 }
 
 const RUN: &[u8] = b"topo log 1\nmesh 0 4 4\nstep 1\nhit 5 6 1\nmove 1 1 2 3\nmove 5 -4 0 0\n\
 moved whole\nmoved impulse 1\nmoved zones 2\nmoved halved 1\nmoved zero\n\
-pass split 50\nsplit 1 2 5 50 -1 0\nno split 1 2 noedge\nno split 1 2 crowded\nno split 1 2 edge\n\
-no split 1 2 shared\nno split 1 2 full\nno split 1 2 doubled\nno split 1 2 onefan\n\
-no split 1 2 hit 3 4 9\npass collapse 10\ncollapse 1 2 0 0 4\nno collapse 1 2 onefan\n\
-pass flip\nflip 1 2\nno flip 1 2 edge\npass zip 4\nzip 1 2 9 10 3\nno zip 1 2 9 10 hit 1 10 29\n\
-pass pinch\nno pinch 1 onefan\nmesh 1 4 4\nend\n";
+pass split 50\npass collapse 10\npass flip\npass zip 4\npass pinch\n\
+split 1 2 5 50 -1 0\ncollapse 1 2 0 0 4\nflip 1 2\nzip 1 2 9 10 3\n\
+no split 1 2 noedge\nno split 1 2 crowded\nno split 1 2 edge\nno split 1 2 shared\n\
+no split 1 2 full\nno split 1 2 doubled\nno split 1 2 onefan\nno split 1 2 hit 3 4 9\n\
+no collapse 1 2 onefan\nno flip 1 2 edge\nno zip 1 2 9 10 hit 1 10 29\nno pinch 1 onefan\n\
+mesh 1 4 4\nend\n";
 
 // Each refusal.
-fn refusals() -> [Refusal; 22] {
-    [
-        Refusal::Long {
-            file: FileWord::Mesh,
-            seen: 18_446_744_073_709_551_615,
-        },
-        Refusal::Long {
-            file: FileWord::Steps,
-            seen: 67_108_865,
-        },
-        Refusal::Missing {
-            file: FileWord::Mesh,
-        },
-        Refusal::Missing {
-            file: FileWord::Steps,
-        },
-        Refusal::Mesh(fault(1, TextWhy::Number)),
-        Refusal::Mesh(fault(2, TextWhy::Corner)),
-        Refusal::Mesh(fault(3, TextWhy::Range)),
-        Refusal::Mesh(fault(4, TextWhy::Short)),
-        Refusal::Steps(fault(5, TextWhy::Long)),
-        Refusal::Steps(fault(4_294_967_295, TextWhy::Unknown)),
-        Refusal::Mesh(fault(7, TextWhy::Continuation)),
-        Refusal::Shape(ShapeFault::TooManyVertices { count: 65_537 }),
-        Refusal::Shape(ShapeFault::TooManyFaces { count: 131_073 }),
-        Refusal::Shape(ShapeFault::NoVertex { face: 1, corner: 3 }),
-        Refusal::Shape(ShapeFault::Repeated { face: 2 }),
-        Refusal::Shape(ShapeFault::Doubled {
-            first: 1,
-            second: 2,
-        }),
-        Refusal::Shape(ShapeFault::Unbalanced { from: 1, to: 3 }),
-        Refusal::Meets(pair(5, 6, 3)),
-        refused_use(1, UseWhy::NoVertex { v: 9 }),
-        refused_use(2, UseWhy::ShiftRange { v: 2 }),
-        refused_use(3, UseWhy::Box { v: 4 }),
-        refused_use(3, UseWhy::NoField),
-    ]
-}
+const REFUSALS: [Refusal; 22] = [
+    Refusal::Long {
+        file: FileWord::Mesh,
+        seen: 18_446_744_073_709_551_615,
+    },
+    Refusal::Long {
+        file: FileWord::Steps,
+        seen: 67_108_865,
+    },
+    Refusal::Missing {
+        file: FileWord::Mesh,
+    },
+    Refusal::Missing {
+        file: FileWord::Steps,
+    },
+    Refusal::Mesh(TextFault {
+        line: 1,
+        why: TextWhy::Number,
+    }),
+    Refusal::Mesh(TextFault {
+        line: 2,
+        why: TextWhy::Corner,
+    }),
+    Refusal::Mesh(TextFault {
+        line: 3,
+        why: TextWhy::Range,
+    }),
+    Refusal::Mesh(TextFault {
+        line: 4,
+        why: TextWhy::Short,
+    }),
+    Refusal::Steps(TextFault {
+        line: 5,
+        why: TextWhy::Long,
+    }),
+    Refusal::Steps(TextFault {
+        line: 4_294_967_295,
+        why: TextWhy::Unknown,
+    }),
+    Refusal::Mesh(TextFault {
+        line: 7,
+        why: TextWhy::Continuation,
+    }),
+    Refusal::Shape(ShapeFault::TooManyVertices { count: 65_537 }),
+    Refusal::Shape(ShapeFault::TooManyFaces { count: 131_073 }),
+    Refusal::Shape(ShapeFault::NoVertex { face: 1, corner: 3 }),
+    Refusal::Shape(ShapeFault::Repeated { face: 2 }),
+    Refusal::Shape(ShapeFault::Doubled {
+        first: 1,
+        second: 2,
+    }),
+    Refusal::Shape(ShapeFault::Unbalanced { from: 1, to: 3 }),
+    Refusal::Meets(PairName {
+        a: VertexId(5),
+        b: VertexId(6),
+        face: FaceId(3),
+    }),
+    Refusal::StepUse {
+        line: 1,
+        why: UseWhy::NoVertex { v: 9 },
+    },
+    Refusal::StepUse {
+        line: 2,
+        why: UseWhy::ShiftRange { v: 2 },
+    },
+    Refusal::StepUse {
+        line: 3,
+        why: UseWhy::Box { v: 4 },
+    },
+    Refusal::StepUse {
+        line: 3,
+        why: UseWhy::NoField,
+    },
+];
 
 const REFUSED: &[u8] = b"refused long mesh 18446744073709551615\nrefused long steps 67108865\n\
 refused missing mesh\nrefused missing steps\nrefused mesh 1 number\nrefused mesh 2 corner\n\
@@ -176,57 +277,104 @@ refused shape faces 131073\nrefused shape corner 1 3\nrefused shape repeated 2\n
 refused shape doubled 1 2\nrefused shape unbalanced 1 3\nrefused meets 5 6 3\n\
 refused use 1 vertex 9\nrefused use 2 range 2\nrefused use 3 box 4\nrefused use 3 field\n";
 
-fn block(alloc: Global, ids: &[VertexId]) -> Result<LogLine, NoMemory> {
+// Appends a block.
+fn put_block(alloc: Global, ids: &[VertexId], into: &mut Vec<u8>) -> Result<(), NoMemory> {
     let mut block = Ids::new(alloc);
     for v in ids {
         block.push(*v)?;
     }
-    Ok(LogLine::Block(block))
+    print_line(&LogLine::Block(block), into)
 }
 
-fn pinch(alloc: Global, first: CopyAt, others: &[CopyAt]) -> Result<LogLine, NoMemory> {
+// Appends the parting of a vertex, which is the first of the copies.
+fn put_pinch(
+    alloc: Global,
+    first: CopyAt,
+    others: &[CopyAt],
+    into: &mut Vec<u8>,
+) -> Result<(), NoMemory> {
     let mut copies = Copies::new(alloc);
     for copy in others {
         copies.push(*copy)?;
     }
-    Ok(LogLine::Did(Change::Pinch {
+    let change = Change::Pinch {
         v: first.w,
         at: first.at,
         copies,
-    }))
+    };
+    print_line(&LogLine::Did(change), into)
 }
 
-fn place(w: u32, at: Point) -> CopyAt {
-    CopyAt { w: VertexId(w), at }
-}
+// A vertex that had two fans, and one that had three, and their copies.
+const NEAR: CopyAt = CopyAt {
+    w: A,
+    at: Point { x: 1, y: 0, z: 0 },
+};
 
-// Two blocks, and vertices that had two and three fans.
+const FAR: [CopyAt; 1] = [CopyAt {
+    w: VertexId(8),
+    at: Point { x: -1, y: 0, z: 0 },
+}];
+
+const FIRST: CopyAt = CopyAt {
+    w: VertexId(3),
+    at: Point { x: 1, y: 2, z: 3 },
+};
+
+const OTHERS: [CopyAt; 2] = [
+    CopyAt {
+        w: VertexId(8),
+        at: Point { x: -4, y: 5, z: 6 },
+    },
+    CopyAt {
+        w: VertexId(9),
+        at: Point { x: 7, y: 8, z: -9 },
+    },
+];
+
+// Appends two blocks, and vertices that are parted.
 fn put_lists(alloc: Global, into: &mut Vec<u8>) -> Result<(), NoMemory> {
-    let near = place(1, Point { x: 1, y: 0, z: 0 });
-    let far = place(8, Point { x: -1, y: 0, z: 0 });
-    let first = place(3, Point { x: 1, y: 2, z: 3 });
-    let others = [
-        place(8, Point { x: -4, y: 5, z: 6 }),
-        place(9, Point { x: 7, y: 8, z: -9 }),
-    ];
-    print_line(
-        &block(alloc, &[VertexId(5), VertexId(6), VertexId(11)])?,
-        into,
-    )?;
-    print_line(
-        &block(alloc, &[VertexId(2), VertexId(3), VertexId(7)])?,
-        into,
-    )?;
-    print_line(&pinch(alloc, near, &[far])?, into)?;
-    print_line(&pinch(alloc, first, &others)?, into)
+    put_block(alloc, &[VertexId(5), VertexId(6), VertexId(11)], into)?;
+    put_block(alloc, &[VertexId(2), VertexId(3), VertexId(7)], into)?;
+    put_pinch(alloc, NEAR, &FAR, into)?;
+    put_pinch(alloc, FIRST, &OTHERS, into)
 }
 
 const LISTS: &[u8] = b"block 5 6 11\nblock 2 3 7\npinch 1 1 0 0 8 -1 0 0\n\
 pinch 3 1 2 3 8 -4 5 6 9 7 8 -9\n";
 
+const LATEST_NOS: [(Asked, Why); 2] = [
+    (Asked::Collapse { a: A, b: B }, Why::Solid),
+    (Asked::Pinch { v: VertexId(3) }, Why::Solid),
+];
+
+const LATEST_REFUSALS: [Refusal; 6] = [
+    Refusal::Steps(TextFault {
+        line: 9,
+        why: TextWhy::Nesting,
+    }),
+    Refusal::StepUse {
+        line: 2,
+        why: UseWhy::Solid { v: 1 },
+    },
+    Refusal::Long {
+        file: FileWord::Log,
+        seen: 67_108_865,
+    },
+    Refusal::Long {
+        file: FileWord::Proof,
+        seen: 0,
+    },
+    Refusal::Missing {
+        file: FileWord::Log,
+    },
+    Refusal::Missing {
+        file: FileWord::Proof,
+    },
+];
+
 // Appends each line that is of the version that is written alone.
 fn put_latest(into: &mut Vec<u8>) -> Result<(), NoMemory> {
-    let (a, b) = (VertexId(1), VertexId(2));
     let lines = [
         LogLine::First { version: 2 },
         LogLine::Solid {
@@ -235,44 +383,45 @@ fn put_latest(into: &mut Vec<u8>) -> Result<(), NoMemory> {
         LogLine::Group,
         LogLine::Close { kept: true },
         LogLine::Close { kept: false },
-        no(Asked::Collapse { a, b }, Why::Solid),
-        no(Asked::Pinch { v: VertexId(3) }, Why::Solid),
-        LogLine::Refused(Refusal::Steps(fault(9, TextWhy::Nesting))),
-        LogLine::Refused(refused_use(2, UseWhy::Solid { v: 1 })),
-        LogLine::Refused(Refusal::Long {
-            file: FileWord::Log,
-            seen: 67_108_865,
-        }),
-        LogLine::Refused(Refusal::Long {
-            file: FileWord::Proof,
-            seen: 0,
-        }),
-        LogLine::Refused(Refusal::Missing {
-            file: FileWord::Log,
-        }),
-        LogLine::Refused(Refusal::Missing {
-            file: FileWord::Proof,
-        }),
     ];
-    put(&lines, into)
+    put(&lines, into)?;
+    put_nos(into, &LATEST_NOS)?;
+    put_refusals(into, &LATEST_REFUSALS)
 }
+
+#[derive(Clone, Copy)]
+enum Part {
+    Run,
+    Refusals,
+    Lists,
+    Latest,
+}
+
+// The text of some lines.
+fn printed(alloc: Global, part: Part) -> Result<Vec<u8>, NoMemory> {
+    let mut text = Vec::new(alloc);
+    match part {
+        Part::Run => put_run(&mut text)?,
+        Part::Refusals => put_refusals(&mut text, &REFUSALS)?,
+        Part::Lists => put_lists(alloc, &mut text)?,
+        Part::Latest => put_latest(&mut text)?,
+    }
+    Ok(text)
+}
+
+const PARTS: [(Part, &[u8]); 4] = [
+    (Part::Run, RUN),
+    (Part::Refusals, REFUSED),
+    (Part::Lists, LISTS),
+    (Part::Latest, LATEST),
+];
 
 #[test]
 fn lines_have_one_spelling(rt: HostRuntime) -> Result<(), Fail> {
-    let mut text = Vec::new(rt.alloc());
-    put_run(&mut text)?;
-    assert_eq!(rt; text.as_slice(), RUN);
-    let mut text = Vec::new(rt.alloc());
-    for why in refusals() {
-        print_line(&LogLine::Refused(why), &mut text)?;
+    for (part, wanted) in &PARTS {
+        let found = printed(rt.alloc(), *part)?;
+        assert_bytes(&rt, found.as_slice(), wanted);
     }
-    assert_eq!(rt; text.as_slice(), REFUSED);
-    let mut text = Vec::new(rt.alloc());
-    put_lists(rt.alloc(), &mut text)?;
-    assert_eq!(rt; text.as_slice(), LISTS);
-    let mut text = Vec::new(rt.alloc());
-    put_latest(&mut text)?;
-    assert_eq!(rt; text.as_slice(), LATEST);
     Ok(())
 }
 
@@ -310,38 +459,57 @@ no flip 1 2 edge\npass collapse 0\ncollapse 2147483647 2147483648 0 0 0\nno coll
 pass zip 4\nzip 1 2 1 2 3\nno zip 1 2 9 10 shared\npass pinch\n\
 pinch 3 1 0 0 8 -1 0 0 9 0 0 -7\nno pinch 1 hit 1 2 1\nend\n";
 
+const TEXTS: [&[u8]; 12] = [
+    RUN, REFUSED, LISTS, WHOLE, HALVED, GREATEST, EDITED, SOLID, UNDONE, KEPT, LATEST, b"",
+];
+
+fn read_and_printed(rt: &impl Abort, alloc: Global, text: &[u8]) -> Result<Vec<u8>, ReadFault> {
+    assert!(rt; text.len() < 1000);
+    let log = read_log(alloc, text)?;
+    let mut again = Vec::new(alloc);
+    put(log.as_slice(), &mut again)?;
+    Ok(again)
+}
+
 #[test]
 fn logs_are_read_and_printed_again(rt: HostRuntime) -> Result<(), Fail> {
-    for text in [
-        RUN, REFUSED, LISTS, WHOLE, HALVED, GREATEST, EDITED, SOLID, UNDONE, KEPT, LATEST, b"",
-    ] {
+    for text in &TEXTS {
         let again = read_and_printed(&rt, rt.alloc(), text)?;
-        assert_eq!(rt; again.as_slice(), text);
+        assert_bytes(&rt, again.as_slice(), text);
     }
     Ok(())
 }
 
 const REFUSED_EDITS: &[u8] = b"pass flip\nno flip 1 2 hit 3 4 5\nno pinch 1 edge\n";
 
+// How many lines a log has, or its fault.
+fn lines_in(rt: &impl Abort, alloc: Global, text: &[u8]) -> Result<usize, ReadFault> {
+    assert!(rt; text.len() < 1000);
+    let log = read_log(alloc, text)?;
+    Ok(log.len())
+}
+
+// Whether a text with so many ends of lines is the log of its lines, where the last is ended, and else at fault in its last line.
+fn is_cut(found: Result<usize, ReadFault>, ends: usize, is_ended: bool) -> bool {
+    match found {
+        Ok(lines) => is_ended && lines == ends,
+        Err(ReadFault::Text(fault)) => {
+            !is_ended
+                && fault.line as usize == ends.saturating_add(1)
+                && (fault.why == TextWhy::Short || fault.why == TextWhy::Unknown)
+        }
+        Err(ReadFault::NoMemory) => false,
+    }
+}
+
 // A log that is cut where a line ends is the log of its lines; one that is cut elsewhere is at fault in its last line.
 fn each_prefix(rt: &impl Abort, alloc: Global, text: &[u8]) {
     for i in 0..text.len() {
         let prefix = &text[..i];
         let ends = prefix.iter().filter(|b| **b == b'\n').count();
-        let ended = matches!(prefix.last(), None | Some(b'\n'));
-        assert!(rt; prefix.len() < 1000);
-        match read_log(alloc, prefix) {
-            Ok(log) => {
-                assert!(rt; ended);
-                assert_eq!(rt; log.len(), ends);
-            }
-            Err(ReadFault::Text(fault)) => {
-                assert!(rt; !ended);
-                assert_eq!(rt; fault.line as usize, ends.saturating_add(1));
-                assert!(rt; fault.why == TextWhy::Short || fault.why == TextWhy::Unknown);
-            }
-            Err(ReadFault::NoMemory) => assert!(rt; false),
-        }
+        let is_ended = matches!(prefix.last(), None | Some(b'\n'));
+        let found = lines_in(rt, alloc, prefix);
+        assert!(rt; is_cut(found, ends, is_ended), "cut at {i}");
     }
 }
 
@@ -409,45 +577,50 @@ const NO_LATEST_LINES: [(TextWhy, &[u8]); 4] = [
     ),
 ];
 
-fn fault_behind(alloc: Global, first: &[u8], line: &[u8]) -> Result<Option<TextFault>, ReadFault>
-    requires first { length first.now < 100 }
-    requires line { length line.now < 100 }
-{
+// The fault of a line behind another.
+fn fault_behind(
+    rt: &impl Abort,
+    alloc: Global,
+    first: &[u8],
+    line: &[u8],
+) -> Result<Option<ReadFault>, NoMemory> {
     let mut text = Vec::new(alloc);
     text.extend_from_slice(first)?;
     text.extend_from_slice(line)?;
-    match read_log(alloc, &text) {
-        Ok(_log) => Ok(None),
-        Err(ReadFault::Text(fault)) => Ok(Some(fault)),
-        Err(ReadFault::NoMemory) => Err(ReadFault::NoMemory),
-    }
+    assert!(rt; text.len() < 1000);
+    Ok(read_log(alloc, &text).err())
 }
 
-#[test]
-fn each_reason_of_the_latest_version_is_told(rt: HostRuntime) -> Result<(), Fail> {
-    for (why, lines) in NO_LATEST_LINES {
-        for line in Parts::new(b'|', lines) {
-            assert!(rt; line.len() < 100);
-            let found = fault_behind(rt.alloc(), b"topo log 2\n", line)?;
-            assert_eq!(rt; found, Some(fault(2, why)));
-        }
+// Each of the lines, which are parted by `|`, has this fault behind the first.
+fn assert_faults(
+    rt: &impl Abort,
+    alloc: Global,
+    first: &[u8],
+    lines: &[u8],
+    fault: TextFault,
+) -> Result<(), NoMemory> {
+    for line in Parts::new(b'|', lines) {
+        let found = fault_behind(rt, alloc, first, line)?;
+        assert_same(rt, &(line, found), &(line, Some(ReadFault::Text(fault))));
     }
-    let found = fault_behind(rt.alloc(), b"topo log 1\n", b"solid 1\n")?;
-    assert_eq!(rt; found, Some(fault(2, TextWhy::Unknown)));
     Ok(())
+}
+
+fn fault(line: u32, why: TextWhy) -> TextFault {
+    TextFault { line, why }
 }
 
 #[test]
 fn each_reason_is_told(rt: HostRuntime) -> Result<(), Fail> {
-    for text in [HALVED, REFUSED_EDITS] {
-        each_prefix(&rt, rt.alloc(), text);
+    each_prefix(&rt, rt.alloc(), HALVED);
+    each_prefix(&rt, rt.alloc(), REFUSED_EDITS);
+    for (why, lines) in &NO_LOGS {
+        assert_faults(&rt, rt.alloc(), b"", lines, fault(1, *why))?;
     }
-    for (why, texts) in NO_LOGS {
-        for text in Parts::new(b'|', texts) {
-            assert!(rt; text.len() < 100);
-            let found = read_log(rt.alloc(), text).err();
-            assert_eq!(rt; found, Some(ReadFault::Text(fault(1, why))));
-        }
+    for (why, lines) in &NO_LATEST_LINES {
+        assert_faults(&rt, rt.alloc(), b"topo log 2\n", lines, fault(2, *why))?;
     }
+    let unknown = fault(2, TextWhy::Unknown);
+    assert_faults(&rt, rt.alloc(), b"topo log 1\n", b"solid 1\n", unknown)?;
     Ok(())
 }

@@ -1,70 +1,57 @@
 ghost use Rattle.std.specs.Prelude.{◌≤◌, length};
 ghost use Rattle.grid_base.specs.declared.TheConstants.{TEXT_MAX};
 
-use edit_base::PassKind;
-use grid_base::Shift;
+use crate::same::{assert_bytes, assert_same};
 use line_text::{ReadFault, TextFault, TextWhy};
 use mesh_plain::FieldName;
+use std::alloc::Global;
+use std::process::Abort;
 use std::test::Fail;
 use step_text::{Directive, read_steps};
 
 // A name of 32 bytes and 31 characters.
 const LONGEST: &[u8] = b"\xc3\xa4bcdefghijklmnopqrstuvwxyz01234";
 
-#[test]
-fn each_form_is_read(rt: HostRuntime) -> Result<(), Fail> {
-    let by = Shift::new(-40, 0, 7).ok_or("a shift")?;
-    let text =
-        b"set depth 0\nset passes 100\nset zones 0\n\n# slower\r\nset halvings 27\n\tshift all -40 0 7 # all\nshift 2147483648 -40 -0 07\nstep\nsplit 0\nsplit 1073741824\nflip # edges\ncollapse 7\nzip 0\npinch\nsave\nsolid 12\ngroup\n group # inner\nclose\nclose\nfit # all";
-    let found = read_steps(rt.alloc(), text)?;
-    let want = [
-        (1, Directive::SetDepth(0)),
-        (2, Directive::SetPasses(100)),
-        (3, Directive::SetZones(false)),
-        (6, Directive::SetHalvings(27)),
-        (7, Directive::ShiftAll { by }),
-        (
-            8,
-            Directive::ShiftOne {
-                v: 2_147_483_648,
-                by,
-            },
-        ),
-        (9, Directive::Step),
-        (10, Directive::Pass(PassKind::Split { over: 0 })),
-        (
-            11,
-            Directive::Pass(PassKind::Split {
-                over: 1_073_741_824,
-            }),
-        ),
-        (12, Directive::Pass(PassKind::Flip)),
-        (13, Directive::Pass(PassKind::Collapse { under: 7 })),
-        (14, Directive::Pass(PassKind::Zip { within: 0 })),
-        (15, Directive::Pass(PassKind::Pinch)),
-        (16, Directive::Save),
-        (17, Directive::Solid { v: 12 }),
-        (18, Directive::Group),
-        (19, Directive::Group),
-        (20, Directive::Close),
-        (21, Directive::Close),
-        (22, Directive::Fit),
-    ];
-    assert_eq!(rt; found.len(), want.len());
-    for (found, (line, what)) in found.as_slice().iter().zip(&want) {
-        assert_eq!(rt; found.line, *line);
-        assert!(rt; found.what == *what);
+const FORMS: &[u8] =
+    b"set depth 0\nset passes 100\nset zones 0\n\n# slower\r\nset halvings 27\n\tshift all -40 0 7 # all\nshift 2147483648 -40 -0 07\nstep\nsplit 0\nsplit 1073741824\nflip # edges\ncollapse 7\nzip 0\npinch\nsave\nsolid 12\ngroup\n group # inner\nclose\nclose\nfit # all";
+
+// Its lines, and the words in which what they ask for is told.
+const TOLD: &[u8] = b"1 SetDepth(0)\n2 SetPasses(100)\n3 SetZones(false)\n6 SetHalvings(27)\n\
+7 ShiftAll { by: Shift { x: -40, y: 0, z: 7 } }\n\
+8 ShiftOne { v: 2147483648, by: Shift { x: -40, y: 0, z: 7 } }\n9 Step\n\
+10 Pass(Split { over: 0 })\n11 Pass(Split { over: 1073741824 })\n12 Pass(Flip)\n\
+13 Pass(Collapse { under: 7 })\n14 Pass(Zip { within: 0 })\n15 Pass(Pinch)\n16 Save\n\
+17 Solid { v: 12 }\n18 Group\n19 Group\n20 Close\n21 Close\n22 Fit\n";
+
+// What a text asks for, line by line.
+fn told(rt: &impl Abort, alloc: Global, text: &[u8]) -> Result<Vec<u8>, ReadFault> {
+    assert!(rt; text.len() < 1_000);
+    let found = read_steps(alloc, text)?;
+    let mut all = Vec::new(alloc);
+    for placed in found.as_slice() {
+        let line = format!(in alloc; "{} {:?}\n", placed.line, placed.what)?;
+        all.extend_from_slice(line.as_bytes())?;
     }
-    Ok(())
+    Ok(all)
 }
 
 #[test]
+fn each_form_is_read(rt: HostRuntime) -> Result<(), Fail> {
+    let found = told(&rt, rt.alloc(), FORMS)?;
+    assert_bytes(&rt, found.as_slice(), TOLD);
+    Ok(())
+}
+
+const DRIVES: &[u8] = b"drive swirl # round\ndrive \xc3\xa4bcdefghijklmnopqrstuvwxyz01234";
+
+const NAMES: [&[u8]; 2] = [b"swirl", LONGEST];
+
+#[test]
 fn drives_are_read(rt: HostRuntime) -> Result<(), Fail> {
-    let text = b"drive swirl # round\ndrive \xc3\xa4bcdefghijklmnopqrstuvwxyz01234";
-    let found = read_steps(rt.alloc(), text)?;
-    assert_eq!(rt; found.len(), 2);
-    for (found, name) in found.as_slice().iter().zip([b"swirl".as_slice(), LONGEST]) {
-        let name = FieldName::new(name).ok_or("a name")?;
+    let found = read_steps(rt.alloc(), DRIVES)?;
+    assert_same(&rt, &found.len(), &2);
+    for (found, name) in found.as_slice().iter().zip(&NAMES) {
+        let name = FieldName::new(name).expect(&rt, "a name");
         assert!(rt; found.what == Directive::Drive { name });
     }
     Ok(())
@@ -147,23 +134,36 @@ const FAULTS: [(&[u8], u32, TextWhy); 57] = [
     ),
 ];
 
+// The fault of a text.
+fn fault_of(rt: &impl Abort, alloc: Global, text: &[u8]) -> Option<ReadFault> {
+    assert!(rt; text.len() < 100);
+    read_steps(alloc, text).err()
+}
+
 #[test]
-fn each_reason_is_told(rt: HostRuntime) -> Result<(), Fail> {
-    for (text, line, why) in FAULTS {
-        assert!(rt; text.len() < 100);
-        assert_eq!(rt;
-            read_steps(rt.alloc(), text).err(),
-            Some(ReadFault::Text(TextFault { line, why }))
-        );
+fn each_reason_is_told(rt: HostRuntime) {
+    for (text, line, why) in &FAULTS {
+        let wanted = ReadFault::Text(TextFault {
+            line: *line,
+            why: *why,
+        });
+        assert_same(&rt, &fault_of(&rt, rt.alloc(), text), &Some(wanted));
     }
-    Ok(())
+}
+
+const NESTED: &[u8] =
+    b"group\ngroup\ngroup\ngroup\ngroup\ngroup\ngroup\ngroup\nclose\ngroup\nclose\nclose\nclose\nclose\nclose\nclose\nclose\nclose";
+
+// How many directives a text has.
+fn count(rt: &impl Abort, alloc: Global, text: &[u8]) -> Result<usize, ReadFault> {
+    assert!(rt; text.len() < 1_000);
+    let found = read_steps(alloc, text)?;
+    Ok(found.len())
 }
 
 #[test]
 fn groups_nest_to_eight(rt: HostRuntime) -> Result<(), Fail> {
-    let text =
-        b"group\ngroup\ngroup\ngroup\ngroup\ngroup\ngroup\ngroup\nclose\ngroup\nclose\nclose\nclose\nclose\nclose\nclose\nclose\nclose";
-    let found = read_steps(rt.alloc(), text)?;
-    assert_eq!(rt; found.len(), 18);
+    let found = count(&rt, rt.alloc(), NESTED)?;
+    assert_same(&rt, &found, &18);
     Ok(())
 }
