@@ -126,6 +126,7 @@ pub record SoFar : Type 0 where
   pub directives : List Placed
   pub groups : List ℕ
 
+-- the two together
 abbrev pub so_far : List Placed → List ℕ → SoFar
 so_far directives groups = record { directives = directives; groups = groups }
 

@@ -50,6 +50,7 @@ pub data Named : Type 0 where
 
 -- ---- words
 
+-- the word at a place, from 0
 abbrev pub word_at : List (List ℕ) → ℕ → List ℕ
 word_at words i = slice_index_or words i []
 
