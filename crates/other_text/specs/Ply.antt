@@ -254,7 +254,7 @@ is_done Others p = false
 is_done Rows p = (p.points_left == 0) && (p.faces_left == 0)
 
 -- at the end of a text of so many lines: the lists where the last row was
--- read, else Short behind the last line
+-- read, else Short after the last line
 unfoldable pub end_gives : ℕ → Progress → Result Lists TextFault
 end_gives count p =
     if is_done p.wanted p then Ok p.lists else Err (record { line = count + 1; why = Short })

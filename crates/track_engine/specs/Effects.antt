@@ -253,7 +253,7 @@ drive_effect NoSuchField s = Refused NoField
 drive_effect _ s = Unanswered []
 
 -- A pass goes over all edges by what is wanted of them. One that is answered of
--- the first alone waits behind these.
+-- the first alone waits after these.
 abbrev pub fit_effect : Answer → State → Effect
 fit_effect (Wanted wants) s =
     Proceeds (fitted_lines wants (edges s.mesh) s) (after_fit wants (edges s.mesh) s)
