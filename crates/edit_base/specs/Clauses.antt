@@ -23,12 +23,12 @@ abbrev pub mesh_after : (Mesh → Change → Mesh) → Mesh → Edit → Mesh
 mesh_after result m (Done change) = result m change
 mesh_after result m (No why) = m
 
--- the mesh that a call leaves: what the answer says, and after want of memory the same mesh
+-- the mesh that a call leaves: what the answer says, and where memory was out the same mesh
 abbrev pub mesh_after_call : (Mesh → Change → Mesh) → Mesh → Result Edit NoMemory → Mesh
 mesh_after_call result m (Ok edit) = mesh_after result m edit
 mesh_after_call result m (Err fault) = m
 
--- after No and after want of memory the kept meshes are those before the call
+-- after No and where memory was out the kept meshes are those before the call
 abbrev pub KeepsOnNo : Result Edit NoMemory → List Mesh → List Mesh → Type 0
 KeepsOnNo (Ok (Done change)) new old = ⊤
 KeepsOnNo (Ok (No why)) new old = new ≡ old

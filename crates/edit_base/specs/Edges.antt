@@ -70,6 +70,7 @@ floor_mid p q = point_at (floor_mid_of (position_of p) (position_of q))
 abbrev pub exact_mid : Mesh → ℕ → ℕ → Triple
 exact_mid m u v = plus (rest_positions m u) (rest_positions m v)
 
+-- the three corners of a face, in order
 abbrev pub corners_from : ℕ → ℕ → ℕ → Corners
 corners_from u v w = record { first = u; second = v; third = w }
 

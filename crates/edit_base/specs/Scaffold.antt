@@ -41,6 +41,7 @@ motion_by m moves = record {
       λ v. unwrap_or (option_map (λ move. move.end) (move_of moves v)) (rest_positions_doubled m v);
 }
 
+-- the motion of a trial mesh: what moves goes, and all else rests
 abbrev pub motion_of : Scaffold → Motion
 motion_of s = motion_by s.mesh s.moves
 

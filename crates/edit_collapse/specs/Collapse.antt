@@ -63,6 +63,7 @@ pub data Cancels (a : ℕ) : Mesh → Mesh → Type 0 where
 abbrev pub joined_faces : Mesh → ℕ → ℕ → Mesh
 joined_faces m a b = with_cancelled (with_joined (without_shared m a b) a b) a
 
+-- whether some face has the vertex as a corner
 abbrev pub has_face : Mesh → ℕ → Bool
 has_face m v = is_some (slice_get (faces_at m v) 0)
 

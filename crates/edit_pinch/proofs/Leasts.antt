@@ -19,7 +19,7 @@ not_before (y ∷ ys) after x differ has = ⊎_elim
     (λ behind. not_before ys after x differ.1 behind)
     (or_either (y == x) (is_one_of ys x) has)
 
--- the first that passes is not behind one that passes
+-- the first that passes is not after one that passes
 first_passes : (test : ℕ → Bool) (before after : List ℕ) (x : ℕ) → test x ≡ true → Has (before ++ x ∷ []) (slice_index (filter test (before ++ x ∷ after)) 0) × (test (slice_index (filter test (before ++ x ∷ after)) 0) ≡ true)
 first_passes test [] after x t = by_test (test x) t
   where

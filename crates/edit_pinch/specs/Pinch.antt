@@ -67,6 +67,7 @@ copies_for m v fans =
 abbrev pub later_copies : Mesh → ℕ → List CopyAt
 later_copies m v = copies_for m v (drop 1 (fans m v))
 
+-- where the copies stand
 abbrev pub copy_points : List CopyAt → List Point
 copy_points copies = map (λ copy. copy.at) copies
 

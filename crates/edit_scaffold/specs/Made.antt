@@ -48,7 +48,7 @@ abbrev pub IsMade : Option edits.Scaffold → Option Scaffold → Type 0
 IsMade scaffold None = IsNone scaffold
 IsMade scaffold (Some made) = IsTestedOn scaffold (mesh_in made.mesh) made.ways made.claim
 
--- the mesh that is made, where one is, has no mesh kept behind it
+-- the mesh that is made, where one is, keeps no mesh
 abbrev pub HasNothingKept : Option Scaffold → Type 0
 HasNothingKept None = ⊤
 HasNothingKept (Some made) = kept_in made.mesh ≡ []

@@ -58,6 +58,7 @@ zip_mesh m s t turn =
     with_faces (without_faces m (s.left_face ∷ s.right_face ∷ t.left_face ∷ t.right_face ∷ []))
     (flat_map (λ i. two_faces (first_rim s) (second_rim t) turn i) turns)
 
+-- the square of a length
 abbrev pub square : Triple → ℤ
 square t = dot t t
 

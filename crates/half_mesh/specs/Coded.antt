@@ -13,16 +13,19 @@ use Rattle.mesh_base.specs.declared.ids.Corners.{Corners}
 use Rattle.mesh_base.specs.Mesh.{Mesh, IdSet}
 use Rattle.mesh_plain.specs.Coded.{mesh_code}
 
+-- half-edges at a vertex by codes, so that two with one code are equal
 abbrev pub spoke_code : Coded Spoke
 spoke_code =
     code_by (ℕ × ℕ) (coded× coded_ℕ coded_ℕ) (λ s. (s.face, s.to))
     (λ p. record { face = p.0; to = p.1 }) (λ _. refl)
 
+-- the same of a vertex with its half-edges
 abbrev pub fan_code : Coded Vertex → Coded Fan
 fan_code vertex =
     code_by (Vertex × List Spoke) (coded× vertex (coded_list spoke_code))
     (λ f. (f.vertex, f.spokes)) (λ p. record { vertex = p.0; spokes = p.1 }) (λ _. refl)
 
+-- the same of a half-edge with its parts
 abbrev pub side_code : Coded Side
 side_code =
     code_by ((ℕ × ℕ) × (ℕ × ℕ)) (coded× (coded× coded_ℕ coded_ℕ) (coded× coded_ℕ coded_ℕ))
@@ -30,6 +33,7 @@ side_code =
     (λ p. record { origin = p.0.0; to = p.0.1; face = p.1.0; next = p.1.1 })
     (λ _. refl)
 
+-- the same of all vertices with their half-edges, and what finds room
 abbrev pub woven_code : Coded Vertex → Coded Woven
 woven_code vertex =
     code_by (map.FinMap nat_cmp Fan × (List (Option Side) × ℕ))
@@ -39,6 +43,7 @@ woven_code vertex =
     (λ p. record { fans = p.0; sides = p.1.0; room = p.1.1 })
     (λ _. refl)
 
+-- the same of that with the buried vertices
 abbrev pub ground_code : Coded Vertex → Coded Ground
 ground_code vertex =
     code_by (Woven × (map.FinMap nat_cmp Vertex × ℕ))
@@ -47,6 +52,7 @@ ground_code vertex =
     (λ p. record { woven = p.0; buried = p.1.0; seats = p.1.1 })
     (λ _. refl)
 
+-- the same of what is buried
 abbrev pub buried_code : Coded Point → Coded Corners → Coded Buried
 buried_code point corners =
     code_by (map.FinMap nat_cmp Point × (map.FinMap nat_cmp Corners × IdSet))
@@ -56,6 +62,7 @@ buried_code point corners =
     (λ p. record { points = p.0; faces = p.1.0; solid = p.1.1 })
     (λ _. refl)
 
+-- the same of a mesh with what is buried of it
 abbrev pub state_code : Coded Point → Coded Corners → Coded State
 state_code point corners =
     code_by (Mesh × Buried) (coded× (mesh_code point corners) (buried_code point corners))
@@ -63,6 +70,7 @@ state_code point corners =
     (λ p. record { mesh = p.0; buried = p.1 })
     (λ _. refl)
 
+-- the same of that with its spare changes
 abbrev pub ledger_code : Coded Point → Coded Corners → Coded Ledger
 ledger_code point corners =
     code_by (State × ℕ) (coded× (state_code point corners) coded_ℕ)

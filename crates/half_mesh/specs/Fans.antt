@@ -15,6 +15,7 @@ pub record Fan : Type 0 where
   pub vertex : Vertex
   pub spokes : List Spoke
 
+-- each vertex with its half-edges, by ids
 abbrev pub Fans : Type 0
 Fans = finite.FinMap nat_cmp Fan
 
@@ -36,6 +37,7 @@ pub record Woven : Type 0 where
   pub sides : Sides
   pub room : ℕ
 
+-- the half-edge at a key, if one is there
 abbrev pub side_at : Sides → ℕ → Option Side
 side_at sides key = slice_index_or sides key None
 

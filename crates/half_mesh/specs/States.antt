@@ -29,6 +29,7 @@ pub record State : Type 0 where
 abbrev pub with_mesh : State → Mesh → State
 with_mesh s m = record { mesh = m; buried = s.buried }
 
+-- a map with an item put at a key, if there is one
 abbrev pub with_some : {X : Type 0} → map.FinMap nat_cmp X → ℕ → Option X → map.FinMap nat_cmp X
 with_some to k (Some x) = map.insert to k x
 with_some to k None = to

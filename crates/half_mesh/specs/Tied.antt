@@ -16,9 +16,11 @@ use Rattle.half_mesh.specs.States.{Buried, Ledger}
 abbrev pub origin_at : Sides → ℕ → ℕ
 origin_at sides key = elim (side_at sides key) [ None ↦ 0 | Some side ↦ side.origin ]
 
+-- where it runs to
 abbrev pub to_at : Sides → ℕ → ℕ
 to_at sides key = elim (side_at sides key) [ None ↦ 0 | Some side ↦ side.to ]
 
+-- the key of the half-edge that follows in its face
 abbrev pub next_at : Sides → ℕ → ℕ
 next_at sides key = elim (side_at sides key) [ None ↦ 0 | Some side ↦ side.next ]
 
@@ -34,9 +36,11 @@ corners_at sides key = record {
 abbrev pub Keys : Type 0
 Keys = finite.FinMap nat_cmp ℕ
 
+-- the corners of each face, by ids
 abbrev pub FaceMap : Type 0
 FaceMap = finite.FinMap nat_cmp Corners
 
+-- the faces that the half-edges give, each by the key of its first side
 abbrev pub faces_in : Sides → Keys → FaceMap
 faces_in sides keys = mapped (corners_at sides) keys
 

@@ -21,6 +21,7 @@ abbrev pub walk : Slab Half → ℕ → ℕ → List Keyed
 walk s zero key = []
 walk s (suc n) key = elim (get s key) [ None ↦ [] | Some h ↦ (key, h) ∷ walk s n h.after ]
 
+-- a half-edge as its vertex keeps it: its face, and where it runs to
 abbrev pub spoke_of : Keyed → Spoke
 spoke_of e = record { face = e.1.face; to = e.1.to }
 
@@ -28,9 +29,11 @@ spoke_of e = record { face = e.1.face; to = e.1.to }
 abbrev pub fan_of : Slab Half → Row → Fan
 fan_of s row = record { vertex = row.vertex; spokes = map spoke_of (walk s row.count row.first) }
 
+-- a half-edge without its link to the next of its vertex
 abbrev pub side_of : Half → Side
 side_of h = record { origin = h.origin; to = h.to; face = h.face; next = h.next }
 
+-- what the rows of vertices and the table of half-edges stand for
 abbrev pub woven_of : finite.FinMap nat_cmp Row → Slab Half → Woven
 woven_of rows s = record {
   fans = mapped (fan_of s) rows;
@@ -38,6 +41,7 @@ woven_of rows s = record {
   room = s.capacity - slab_len s;
 }
 
+-- the same with the buried rows, and the rows that find room
 abbrev pub ground_of : Stock Row → Slab Half → Ground
 ground_of rows s = record {
   woven = woven_of rows.live s;
@@ -64,6 +68,7 @@ pub record IsFanned (s : Slab Half) (v : ℕ) (row : Row) : Type 0 where
   pub chain : IsChain s v (2 ^ 32) row.first halves
   pub count : length halves ≡ row.count
 
+-- so is the row of each vertex
 abbrev pub AreFanned : finite.FinMap nat_cmp Row → Slab Half → Type 0
 AreFanned rows s = (v : ℕ) (row : Row) → finite.get rows v ≡ Some row → IsFanned s v row
 
@@ -96,6 +101,8 @@ pub record IsPutAfter (s t : Slab Half) (p : Keyed) (k : ℕ) (g : Half) : Type 
   pub placed : get t k ≡ Some (record g { after = p.1.after })
   pub others : (l : ℕ) → l ≢ p.0 → l ≢ k → get t l ≡ get s l
 
+-- a half-edge is linked in at a vertex, by falling face: as the only one, as the first, or after
+-- the last newer one
 abbrev pub put_in : Slab Half → Slab Half → ℕ → ℕ → ℕ → Half → ℕ × ℕ → Option Half → Type 0
 put_in s t first count key h to None = (to ≡ (key, 1)) × ((k : ℕ) → get t k ≡ get s k)
 put_in s t first count key h to (Some newest) =
@@ -107,6 +114,7 @@ put_in s t first count key h to (Some newest) =
     ≡ Some (last_newer h.face (first, newest) (walk s (count - 1) newest.after)).1 →
     IsPutAfter s t (last_newer h.face (first, newest) (walk s (count - 1) newest.after)) key h))
 
+-- it is linked in, and no half-edge has other parts than before, nor is there more or less room
 pub record IsLinkedIn (s t : Slab Half) (first count key : ℕ) (h : Half) (to : ℕ × ℕ) : Type 0 where
   pub put : put_in s t first count key h to (get s first)
   pub sides : (k : ℕ) → option_map side_of (get t k) ≡ option_map side_of (get s k)

@@ -1,4 +1,4 @@
--- Rounding on the digits: the digits up to the place behind the grid's last decide.
+-- Rounding on the digits: the digits up to the place after the grid's last decide.
 use Rattle.std.proofs.Common.{◌≡◌, ℕ, zero, suc, ◌+◌, ◌-◌, ◌*◌, ◌/◌, ◌^◌, ◌<◌, ◌≤◌, min, true, false, ◌&&◌, List, [], ◌∷◌, ◌++◌, length, get_or, take, drop, Some, Ok, Err, refl, sym, ap, ◌∙◌, arith, inl, inr}
 use Rattle.std.proofs.Math.Nat.{pow-suc, pow-le-pow_right, mul-div-mul_left, mul-div-mul_right, add-mul-div_right, div-div-eq-div-mul, div-eq_of_lt, mul-div_cancel}
 use Rattle.std.specs.Prelude.{nat_le}
@@ -57,7 +57,7 @@ list_all-drop (suc n) (d ∷ ds) h = list_all-drop n ds (and_parts (is_digit d) 
 cut : (ds : List ℕ) (n : ℕ) → number ds ≡ number (take n ds) * 10 ^ length (drop n ds) + number (drop n ds)
 cut ds n = ap number (sym (take-append-drop n ds)) ∙ number_after-append 0 (take n ds) (drop n ds) ∙ number_after-split (number (take n ds)) (drop n ds)
 
--- the point moves by e - f places: digits behind it fall away, and zeros fill up
+-- the point moves by e - f places: digits after it fall away, and zeros fill up
 pub shifted : (ds : List ℕ) (e f n : ℕ) → list_all is_digit ds ≡ true → n ≡ length ds + e - f → number ds * 10 ^ e / 10 ^ f ≡ number (take n ds) * 10 ^ (n - length ds)
 shifted ds e f n digits is =
     elim (cases_lt e f) [
@@ -104,7 +104,7 @@ capped_times n p pos = elim (cases_lt n limit) [
   | inr ge ↦ let e : min limit n ≡ limit = omega arith in let a : limit * 1 ≤ limit * p = mul-le limit 1 limit p (omega arith) (omega arith) in let b : limit * p ≤ n * p = mul-le limit p n p ge (omega arith) in rw e (omega (arith, a, b))
 ]
 
--- the number that the digits write behind start, i digits on
+-- the number that the digits write after start, i digits on
 pub record Followed (start : ℕ) (ds : List ℕ) (i n : ℕ) : Type 0 where
   pub limited : n ≤ limit
   pub digits : list_all is_digit (drop i ds) ≡ true
@@ -159,7 +159,7 @@ take-append n [] ys = let none : take {A = ℕ} n [] ≡ [] = take_all n [] (ome
 take-append zero (x ∷ xs) ys = let e : 0 - suc (length xs) ≡ 0 = omega arith in rw e refl
 take-append (suc n) (x ∷ xs) ys = let e : suc n - suc (length xs) ≡ n - length xs = omega arith in rw e (ap (λ (t : List ℕ). x ∷ t) (take-append n xs ys))
 
--- the digits that are kept of both parts, and the zeros behind them, give the tenths
+-- the digits that are kept of both parts, and the zeros after them, give the tenths
 pub tenths-kept : (decimals : ℕ) (d : Decimal) (kept left first second : ℕ) (front back : List ℕ) → Fits d → kept ≡ length d.whole + decimals + 1 + d.up - d.down
     → front ≡ take (min kept (length d.whole)) d.whole → left ≡ kept - length front → back ≡ take (min left (length d.fraction)) d.fraction
     → first ≡ min limit (number_after 0 front) → second ≡ min limit (number_after first back)

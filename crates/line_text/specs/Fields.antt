@@ -1,4 +1,4 @@
--- Words that are read one after the other: a value and the words behind it, or the reason.
+-- Words that are read one after the other: a value and the words after it, or the reason.
 use Rattle.std.specs.Prelude.{◌≡◌, ℕ, Bool, ◌==◌, ◌&&◌, nat_le, nat_lt, if◌then◌else◌, List}
 use Rattle.std.specs.Prelude.{[], ◌∷◌, length, Option, Some, None, Result, Ok, Err, ℤ}
 use Rattle.line_text.specs.declared.fault.TextWhy.{TextWhy}
@@ -31,12 +31,12 @@ abbrev pub number_up_to : ℕ → Option (Bool × ℕ) → Result ℤ TextWhy
 number_up_to most None = Err Number
 number_up_to most (Some n) = if nat_le n.1 most then Ok (with_sign n.0 n.1) else Err Range
 
--- the number of the first word, from low to high, and the words behind it
+-- the number of the first word, from low to high, and the words after it
 unfoldable pub number_at : ℕ → ℕ → List (List ℕ) → Result (ℕ × List (List ℕ)) TextWhy
 number_at low high [] = Err Short
 number_at low high (word ∷ words) = number_from low high (whole_parts word) >>= λ n. Ok (n, words)
 
--- the number of the first word, of a size up to most, and the words behind it
+-- the number of the first word, of a size up to most, and the words after it
 unfoldable pub signed_at : ℕ → List (List ℕ) → Result (ℤ × List (List ℕ)) TextWhy
 signed_at most [] = Err Short
 signed_at most (word ∷ words) = number_up_to most (whole_parts word) >>= λ n. Ok (n, words)
@@ -61,7 +61,7 @@ abbrev pub Takes : {X : Type 0} → List (List ℕ) → Result X TextWhy →
 Takes left (Ok x) read = read ≡ Ok (x, left)
 Takes left (Err why) read = read ≡ Err why
 
--- the same, of the words that were left before and those that are left behind it
+-- the same, of the words that were left before and those that are left after it
 abbrev pub TakesWords : {X : Type 0} → Words → Words → Result X TextWhy →
     (List (List ℕ) → Result (X × List (List ℕ)) TextWhy) → Type 0
 TakesWords old new result read = Takes (words_left new) result (read (words_left old))

@@ -11,7 +11,7 @@ use Rattle.line_text.specs.declared.number.NumberWhy.TheVariants.{Form, Range}
 abbrev pub is_digit : ℕ → Bool
 is_digit b = nat_le 48 b && nat_le b 57
 
--- the number that digits write behind a number n
+-- the number that digits write after a number n
 abbrev pub number_after : ℕ → List ℕ → ℕ
 number_after n [] = n
 number_after n (d ∷ ds) = number_after (10 * n + (d - 48)) ds
@@ -74,7 +74,7 @@ exponent_of (b ∷ word) =
     then option_map (λ n. if begins_with 45 word then (0, n) else (n, 0))
     (number_within 3 (without_sign word)) else None
 
--- digits before the point, digits behind it, and the rest
+-- digits before the point, digits after it, and the rest
 unfoldable pub mantissa_of : List ℕ → List ℕ × List ℕ × List ℕ
 mantissa_of word =
     let rest = behind_digits word in
@@ -130,7 +130,7 @@ abbrev pub size_text : ℕ → ℕ → List ℕ
 size_text decimals n =
     if decimals == 0 then decimal n else decimal (n / 10 ^ decimals) ++ 46 ∷ last_digits decimals n
 
--- the text of a value on a grid of so many decimals, behind '-' where it is negative
+-- the text of a value on a grid of so many decimals, after '-' where it is negative
 abbrev pub fixed_text : ℕ → ℤ → List ℕ
 fixed_text decimals (pos n) = size_text decimals n
 fixed_text decimals (negsuc n) = 45 ∷ size_text decimals (suc n)

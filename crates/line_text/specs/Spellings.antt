@@ -17,7 +17,7 @@ abbrev pub spelled_number : List ℕ → Option ℕ
 spelled_number word =
     if begins_with 48 word && nat_lt 1 (length word) then None else number_within DIGITS_MAX word
 
--- what stands behind '-', if it is a number other than 0
+-- what stands after '-', if it is a number other than 0
 abbrev pub negated_size : Option ℕ → Option (Bool × ℕ)
 negated_size None = None
 negated_size (Some n) = if n == 0 then None else Some (true, n)
@@ -39,13 +39,13 @@ abbrev pub spelled_up_to : ℕ → Option (Bool × ℕ) → Result ℤ TextWhy
 spelled_up_to most None = Err Number
 spelled_up_to most (Some n) = if nat_le n.1 most then Ok (with_sign n.0 n.1) else Err Number
 
--- the number of the first word, from low to high, and the words behind it
+-- the number of the first word, from low to high, and the words after it
 unfoldable pub spelled_at : ℕ → ℕ → List (List ℕ) → Result (ℕ × List (List ℕ)) TextWhy
 spelled_at low high [] = Err Short
 spelled_at low high (word ∷ words) =
     spelled_from low high (spelled_number word) >>= λ n. Ok (n, words)
 
--- the number of the first word, of a size up to most, and the words behind it
+-- the number of the first word, of a size up to most, and the words after it
 unfoldable pub spelled_signed_at : ℕ → List (List ℕ) → Result (ℤ × List (List ℕ)) TextWhy
 spelled_signed_at most [] = Err Short
 spelled_signed_at most (word ∷ words) =

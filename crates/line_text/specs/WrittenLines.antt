@@ -4,7 +4,7 @@ use Rattle.std.specs.Fmt.{signed_decimal}
 use Rattle.line_text.specs.declared.putting.Field.{Field}
 use Rattle.line_text.specs.declared.putting.Field.TheVariants.{Text, Number, Signed, Wide}
 
--- a space behind each word, and LF behind the last
+-- a space after each word, and LF after the last
 abbrev pub line_of_words : List (List ℕ) → List ℕ
 line_of_words [] = []
 line_of_words (word ∷ []) = word ++ 10 ∷ []
@@ -23,7 +23,7 @@ word_of (Number n) = decimal n
 word_of (Signed n) = signed_decimal n
 word_of (Wide n) = signed_decimal n
 
--- where there was memory, these bytes stand behind those from before
+-- where there was memory, these bytes stand after those from before
 abbrev pub Appends : {A E Z : Type 0} → Result A E → Vec ℕ Z → Vec ℕ Z → List ℕ → Type 0
 Appends result old new bytes = OnOk result (new.items ≡ old.items ++ bytes)
 

@@ -84,7 +84,7 @@ fn exponent(word: &[u8]) -> Option<(u64, u64)>
     }
 }
 
-// The digits before a point, the digits behind it, and the rest.
+// The digits before a point, the digits after it, and the rest.
 #[tactic(auto, unfolding(crate::specs::Numbers::mantissa_of))]
 fn mantissa(word: &[u8]) -> (&[u8], &[u8], &[u8])
     ensures value { (result.0.now, result.1.now, result.2.now) ≡ spec.mantissa_of word.now }
@@ -124,7 +124,7 @@ fn parse_decimal(word: &[u8]) -> Option<Decimal<'_>>
     })
 }
 
-// The number that the digits write behind n, up to the limit.
+// The number that the digits write after n, up to the limit.
 fn followed(n: u64, digits: &[u8]) -> u64
     requires limited { n ≤ LIMIT }
     requires digits { list_all spec.is_digit digits.now ≡ true }
@@ -137,7 +137,7 @@ fn followed(n: u64, digits: &[u8]) -> u64
     n
 }
 
-// n with this many zeros behind it, up to the limit.
+// n with this many zeros after it, up to the limit.
 fn with_zeros(n: u64, count: usize) -> u64
     requires { n ≤ LIMIT }
     ensures { result ≡ min LIMIT (n * 10 ^ count) }
@@ -156,7 +156,7 @@ fn with_zeros(n: u64, count: usize) -> u64
 }
 
 // Ten times the size on the grid, rounded down, up to the limit. The digits that lie before the
-// place behind the grid's last one are enough, and zeros follow where there are too few.
+// place after the grid's last one are enough, and zeros follow where there are too few.
 fn tenths(decimals: u8, d: &Decimal<'_>) -> u64
     requires places { decimals ≤ DECIMALS_MAX }
     requires fits { Fits (decimal_view d.now) }

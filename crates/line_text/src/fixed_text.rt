@@ -63,7 +63,7 @@ pub fn fixed(value: i32, decimals: u8, into: &mut Vec<u8>) -> Result<(), NoMemor
     Ok(())
 }
 
-/// Appends the text of a value on the grid, as `fixed` writes it, and the byte behind it. On refusal `out` is as before.
+/// Appends the text of a value on the grid, as `fixed` writes it, and the byte after it. On refusal `out` is as before.
 pub fn put_coordinate(out: &mut Vec<u8>, value: i32, decimals: u8, end: u8) -> Result<(), NoMemory>
     requires { decimals ≤ DECIMALS_MAX }
     ensures ok { OnOk result

@@ -4,7 +4,7 @@ ghost use Rattle.line_text.specs.WrittenLines.{word_of, line_of_words, Keeps, Ap
 use grid_base::NoMemory;
 use itoa::Buffer;
 
-/// A word of a line that is written: a text as it stands, or the decimal digits of a number, behind `-` where it is
+/// A word of a line that is written: a text as it stands, or the decimal digits of a number, after `-` where it is
 /// negative.
 #[derive(Clone, Copy)]
 pub enum Field<'a> {
@@ -12,7 +12,7 @@ pub enum Field<'a> {
     Text(&'a [u8]),
     /// The digits of a number.
     Number(u64),
-    /// The digits, behind `-` where the number is negative.
+    /// The digits, after `-` where the number is negative.
     Signed(i32),
     /// The same of a number of up to 128 bits.
     Wide(i128),
@@ -33,7 +33,7 @@ pub fn put_word(field: &Field<'_>, into: &mut Vec<u8>) -> Result<(), NoMemory>
     Ok(())
 }
 
-// Appends a word and the byte behind it. On refusal the bytes from before still stand in front.
+// Appends a word and the byte after it. On refusal the bytes from before still stand in front.
 fn put_field(field: &Field<'_>, end: u8, into: &mut Vec<u8>) -> Result<(), NoMemory>
     ensures ok { OnOk result (into.new.items ≡ into.old.items ++ word_of field.now ++ end ∷ []) }
     ensures err { OnErr result (Keeps into.old.items into.new.items) }
@@ -43,7 +43,7 @@ fn put_field(field: &Field<'_>, end: u8, into: &mut Vec<u8>) -> Result<(), NoMem
     Ok(())
 }
 
-/// Appends a line of these words, with one space between them and LF behind the last; nothing where there is no word.
+/// Appends a line of these words, with one space between them and LF after the last; nothing where there is no word.
 /// On refusal `into` is as before.
 pub fn put_line(fields: &[Field<'_>], into: &mut Vec<u8>) -> Result<(), NoMemory>
     ensures ok { Appends result into.old into.new (line_of_words (map word_of fields.now)) }

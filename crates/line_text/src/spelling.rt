@@ -22,7 +22,7 @@ pub fn spelled_number(word: &[u8]) -> Option<u128>
 }
 
 /// The sign and the size of the number that a word spells, where `-` stands before all but 0: whether the `-` is there, and
-/// the number behind it. None where the word is anything else.
+/// the number after it. None where the word is anything else.
 pub fn spelled_parts(word: &[u8]) -> Option<(bool, u128)>
     ensures value { result ≡ spec.spelled_parts word.now }
     ensures below { IfSome result (λ parts. parts.1 < 10 ^ DIGITS_MAX) }
@@ -141,7 +141,7 @@ pub fn count_parts_up_to(most: usize, words: Parts<'_>) -> usize
     most
 }
 
-/// That there are exactly so many words, and LF behind them (`ended`); else Short where there are fewer, or where there is
+/// That there are exactly so many words, and LF after them (`ended`); else Short where there are fewer, or where there is
 /// no LF, and then Long where there are more.
 #[tactic(auto, unfolding(crate::specs::Spellings::count_with_end))]
 pub fn count_with_end(ended: bool, count: usize, words: Parts<'_>) -> Result<(), TextWhy>

@@ -15,7 +15,7 @@ use Rattle.line_text.proofs.ReadSteps.{bound, ok_same}
 use Rattle.log_read.proofs.Exactness.{IsExact, count_with_end-length, count_with_end-of_read, whole-of_written, whole-of_read, spelled_at-exact}
 use Rattle.log_read.proofs.Spellings.{two_numbers, pair_at-exact, FaultFits, fault_at-exact, fault_words}
 
--- the words are those of a line in range, and LF stands behind them
+-- the words are those of a line in range, and LF stands after them
 pub record IsSpelling (version : ℕ) (ended : Bool) (words : List (List ℕ)) (l : LogLine) : Type 0 where
   pub has_end : ended ≡ true
   pub same : line_words l ≡ words

@@ -66,7 +66,7 @@ ids_add-of_written before low (v ∷ ids) r =
 abbrev pub AllFit : List CopyAt → Type 0
 AllFit places = AllByRecursion PlaceFits places
 
--- the words of a place, and those behind it
+-- the words of a place, and those after it
 pub place_cut : (words : List (List ℕ)) (place : CopyAt) (rest : List (List ℕ)) → place_at words ≡ Ok (place, rest) → words ≡ place_words place ++ rest
 place_cut words place rest h = (place_at-exact.of_read words place rest h).0
 
@@ -108,7 +108,7 @@ pub four_by_four-places : (places : List CopyAt) → four_by_four (places_words 
 four_by_four-places [] = refl
 four_by_four-places (place ∷ places) = four_by_four-places places
 
--- the first place of a pinch, with the words of its copies behind it
+-- the first place of a pinch, with the words of its copies after it
 pub record FirstPlace (ended : Bool) (words : List (List ℕ)) (place : CopyAt) (rest : List (List ℕ)) : Type 0 where
   pub has_end : ended ≡ true
   pub same : words ≡ place_words place ++ rest

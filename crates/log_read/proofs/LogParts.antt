@@ -19,7 +19,7 @@ use Rattle.log_read.specs.Reading.{line_adds, parts_add, parts_of_text, version_
 pub some_parts : (bytes : List ℕ) → 0 < length (parts_of_text bytes)
 some_parts bytes = omega (arith, length-slice_split (λ b. eqb b 10) bytes)
 
--- a part with others behind it is an ended line
+-- a part with others after it is an ended line
 pub parts_more : (version : ℕ) (lines : List LogLine) (number : ℕ) (part : List ℕ) (parts : List (List ℕ)) → 0 < length parts → parts_add version lines number (part ∷ parts) ≡ (at_line number (line_adds version lines true part) >>= λ more. parts_add version more (number + 1) parts)
 parts_more version lines number part [] h = absurd (omega arith)
 parts_more version lines number part (next ∷ parts) h = refl

@@ -65,7 +65,7 @@ zip_of ended words =
 
 -- ---- edits that are not done
 
--- as many words behind the reason as it asks for, which is as many as there are
+-- as many words after the reason as it asks for, which is as many as there are
 -- where it is misspelt, and the LF
 unfoldable pub reason_with_end : ℕ → Bool → List (List ℕ) → Result (Unit {0}) TextWhy
 reason_with_end version ended [] = Err why.Short
@@ -151,7 +151,7 @@ places_add places (w ∷ x ∷ y ∷ []) = Err why.Short
 places_add places (w ∷ x ∷ y ∷ z ∷ words) =
     place_at (w ∷ x ∷ y ∷ z ∷ words) >>= λ place. places_add (places ++ place.0 ∷ []) words
 
--- the vertex and its point, where one copy or more stands behind it
+-- the vertex and its point, where one copy or more stands after it
 unfoldable pub first_place : Bool → Reader CopyAt
 first_place ended words = do
   counted ← at_least ended 8 words

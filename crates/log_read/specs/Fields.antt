@@ -4,7 +4,7 @@ use Rattle.line_text.specs.declared.TextWhy.{TextWhy}
 use Rattle.line_text.specs.declared.TextWhy.TheVariants.{Number}
 use Rattle.line_text.specs.Faults.{◌>>=◌}
 
--- what reading some words gives: a value and the words behind it, or the reason
+-- what reading some words gives: a value and the words after it, or the reason
 abbrev pub Reader : Type 0 → Type 0
 Reader A = List (List ℕ) → Result (A × List (List ℕ)) TextWhy
 

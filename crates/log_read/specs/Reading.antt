@@ -124,7 +124,7 @@ shape_of ended (word ∷ words) =
     >>= λ n. refused (refusal.Shape (shape.Unbalanced n.0 n.1)))
     else Err why.Unknown
 
--- the number of a directive's line, and behind the reason a vertex
+-- the number of a directive's line, and after the reason a vertex
 unfoldable pub use_numbers : Bool → List ℕ → List (List ℕ) → Result (ℕ × ℕ) TextWhy
 use_numbers ended at words = do
   counted ← count_with_end ended 1 words
@@ -132,12 +132,12 @@ use_numbers ended at words = do
   v ← spelled_at 1 ID_MAX words
   Ok (number, v.0)
 
--- the number of a directive's line, with no word behind the reason
+-- the number of a directive's line, with no word after the reason
 unfoldable pub use_line : Bool → List ℕ → List (List ℕ) → Result ℕ TextWhy
 use_line ended at words =
     count_with_end ended 0 words >>= λ counted. spelled_from 1 COUNT_MAX (spelled_number at)
 
--- The word behind the line's number says how many follow; a
+-- The word after the line's number says how many follow; a
 -- misspelt one asks for as many as follow.
 unfoldable pub why_of_use : ℕ → Bool → List ℕ → List ℕ → List (List ℕ) → Result LogLine TextWhy
 why_of_use version ended at word words =
@@ -205,7 +205,7 @@ plain_of version ended first words =
     else if bytes_eq first (codes "close") && is_latest version then close_of ended words
     else edit_of version ended first words
 
--- the line that the words spell by a version, where ended says that LF stands behind them
+-- the line that the words spell by a version, where ended says that LF stands after them
 unfoldable pub line_of : ℕ → Bool → List (List ℕ) → Result LogLine TextWhy
 line_of version ended [] = Err why.Unknown
 line_of version ended (first ∷ words) =

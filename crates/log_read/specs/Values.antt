@@ -88,7 +88,7 @@ reason_of version word =
     else if bytes_eq word (codes "solid") && is_latest version then Some reason.Solid
     else None
 
--- the reason, which has a pair behind it where it is `hit`
+-- the reason, which has a pair after it where it is `hit`
 unfoldable pub reason_at : ℕ → Reader Why
 reason_at version [] = Err why.Short
 reason_at version (word ∷ words) =

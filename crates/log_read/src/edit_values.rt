@@ -87,7 +87,7 @@ pub(crate) fn reason_at(version: u8, words: &mut Parts<'_>) -> Result<Why, TextW
     }
 }
 
-// The words behind so many.
+// The words after so many.
 pub(crate) fn behind<'a>(count: usize, words: Parts<'a>) -> Parts<'a>
     ensures { parts_left result ≡ drop count (parts_left words.entry) }
 {
@@ -102,7 +102,7 @@ pub(crate) fn behind<'a>(count: usize, words: Parts<'a>) -> Parts<'a>
     words
 }
 
-// As many words behind the reason as it asks for, and LF.
+// As many words after the reason as it asks for, and LF.
 #[tactic(auto, unfolding(crate::specs::EditLines::reason_with_end))]
 pub(crate) fn reason_with_end(version: u8, ended: bool, words: Parts<'_>) -> Result<(), TextWhy>
     ensures { result ≡ lines.reason_with_end version ended (parts_left words.entry) }

@@ -97,7 +97,7 @@ fn places(alloc: Global, words: Parts<'_>, number: u32) -> Result<Copies, ReadFa
     }
 }
 
-// The vertex and its point, where one copy or more stands behind it.
+// The vertex and its point, where one copy or more stands after it.
 #[tactic(auto, unfolding(crate::specs::EditLines::first_place))]
 fn first_place(ended: bool, words: &mut Parts<'_>) -> Result<CopyAt, TextWhy>
     ensures { TakesParts words.old words.new result (spec.first_place ended) }

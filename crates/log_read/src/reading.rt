@@ -38,7 +38,7 @@ fn add_line(
     Ok(())
 }
 
-// The log with what stands behind its last LF, which is no line where it is empty.
+// The log with what stands after its last LF, which is no line where it is empty.
 fn with_last(
     alloc: Global,
     version: u8,

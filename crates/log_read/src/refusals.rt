@@ -89,7 +89,7 @@ fn shape(ended: bool, words: Parts<'_>) -> Result<LogLine, TextWhy>
     Err(TextWhy::Unknown)
 }
 
-// The number of a directive's line, and behind the reason a vertex.
+// The number of a directive's line, and after the reason a vertex.
 #[tactic(auto, unfolding(crate::specs::Reading::use_numbers))]
 fn use_numbers(ended: bool, at: &[u8], words: Parts<'_>) -> Result<(u32, u32), TextWhy>
     ensures { result ≡ spec.use_numbers ended at.now (parts_left words.entry) }
@@ -101,7 +101,7 @@ fn use_numbers(ended: bool, at: &[u8], words: Parts<'_>) -> Result<(u32, u32), T
     Ok((line, v))
 }
 
-// The number of a directive's line, with no word behind the reason.
+// The number of a directive's line, with no word after the reason.
 #[tactic(auto, unfolding(crate::specs::Reading::use_line))]
 fn use_line(ended: bool, at: &[u8], words: Parts<'_>) -> Result<u32, TextWhy>
     ensures { result ≡ spec.use_line ended at.now (parts_left words.entry) }
@@ -110,7 +110,7 @@ fn use_line(ended: bool, at: &[u8], words: Parts<'_>) -> Result<u32, TextWhy>
     number_of(at, 1, COUNT_MAX)
 }
 
-// The refusal of a directive, by the number of its line, the reason and the words behind that.
+// The refusal of a directive, by the number of its line, the reason and the words after that.
 #[tactic(auto, unfolding(crate::specs::Reading::why_of_use))]
 fn why_of_use(
     version: u8,

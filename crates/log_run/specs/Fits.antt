@@ -16,7 +16,7 @@ abbrev pub FitsFirst : LogLine → Type 0
 FitsFirst (line.First version) = ⊤
 FitsFirst _ = ⊥
 
--- What fits behind other lines: within a step its moves and its end; between two steps a mesh line
+-- What fits after other lines: within a step its moves and its end; between two steps a mesh line
 -- with the numbers of vertices and faces, the beginning of a step, the solid mark of a live vertex,
 -- an edit that comes out so, a group while fewer than `GROUPS_MAX` are open, and the end of one
 -- that is open; a second line of the version nowhere; and every other line anywhere.

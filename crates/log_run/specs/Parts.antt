@@ -42,11 +42,11 @@ state_of m kept at has_line is_spent = record {
   is_spent = is_spent;
 }
 
--- where it stands behind a line
+-- where it stands after a line
 abbrev pub standing : Mesh → List Mesh → Standing → LogState
 standing m kept at = state_of m kept at true false
 
--- What the call that takes a line behind others promises, from one mesh, kept meshes and lists to
+-- What the call that takes a line after others promises, from one mesh, kept meshes and lists to
 -- the next: it answers whether the line fits, and if so, the line is taken.
 pub record Takes (beyond : ℕ) (line : LogLine) (m : Mesh) (kept : List Mesh) (at : Standing)
     (n : Mesh) (left : List Mesh) (next : Standing) (result : Result Bool NoMemory) : Type 0 where

@@ -159,7 +159,7 @@ fn judge_change<S: Surface>(
     judge_edit(alloc, mesh, change, proof)
 }
 
-/// What the rule makes of the motion of a line behind others, if it fits and tells of one. The mesh is as it was.
+/// What the rule makes of the motion of a line after others, if it fits and tells of one. The mesh is as it was.
 pub(crate) fn certify_line<S: Surface>(
     alloc: Global,
     mesh: &mut S,
@@ -180,7 +180,7 @@ pub(crate) fn certify_line<S: Surface>(
     }
 }
 
-/// What is found of a certificate for the motion of a line behind others, if it fits and tells of one. The mesh is as it was.
+/// What is found of a certificate for the motion of a line after others, if it fits and tells of one. The mesh is as it was.
 pub(crate) fn judge_line<S: Surface>(
     alloc: Global,
     mesh: &mut S,

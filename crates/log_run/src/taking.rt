@@ -45,7 +45,7 @@ fn take_solid<S: Surface>(mesh: &mut S, at: &Standing, v: VertexId) -> Result<bo
     Ok(true)
 }
 
-// Takes a line behind others, where it fits.
+// Takes a line after others, where it fits.
 fn take_later<S: Surface>(
     alloc: Global,
     mesh: &mut S,

@@ -45,7 +45,7 @@ pub Spacing-word : (start : List ℕ) (words : List (List ℕ)) (word : List ℕ
 Spacing-word start words word left all text next h e k =
     Spacing-some start words (word ∷ []) left all text next h e (k ∙ ap (λ (t : List ℕ). text ++ 32 ∷ t) (sym (append-nil word)))
 
--- the words that are left are the next one and those behind it
+-- the words that are left are the next one and those after it
 pub map_drop : {A : Type 0} (f : A → List ℕ) (xs : List A) (i : ℕ) (d : A) → i < length xs → map f (drop i xs) ≡ f (get_or xs i d) ∷ map f (drop (i + 1) xs)
 map_drop f xs i d h = rw (add-one, drop-cons xs i d) refl
 
@@ -60,6 +60,6 @@ line_closed start word words =
     ∙ ap (λ (t : List ℕ). start ++ t) (sym (append_assoc word (spaced words) (10 ∷ [])))
     ∙ ap (λ (t : List ℕ). start ++ (t ++ 10 ∷ [])) (sym (join-spaced word words))
 
--- two runs of words, one behind the other
+-- two runs of words, one after the other
 pub spaced_twice : (start : List ℕ) (xs ys : List (List ℕ)) → (start ++ spaced xs) ++ spaced ys ≡ start ++ spaced (xs ++ ys)
 spaced_twice start xs ys = append_assoc start (spaced xs) (spaced ys) ∙ ap (λ (t : List ℕ). start ++ t) (sym (spaced-append xs ys))

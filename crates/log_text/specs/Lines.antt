@@ -184,7 +184,7 @@ body_of l = join_with_byte 32 (line_words l)
 abbrev pub text_of_line : LogLine → List ℕ
 text_of_line l = body_of l ++ 10 ∷ []
 
--- fields with one space between them, and LF behind them
+-- fields with one space between them, and LF after them
 abbrev pub line_of_fields : List Field → List ℕ
 line_of_fields fields = join_with_byte 32 (map word_of fields) ++ 10 ∷ []
 

@@ -8,7 +8,7 @@ use grid_base::NoMemory;
 use line_text::{Field, put_line, put_word};
 use mesh_base::{Ids, VertexId};
 
-// Appends the words with one space between them and LF behind them.
+// Appends the words with one space between them and LF after them.
 pub(crate) fn put_words(fields: &[Field<'_>], into: &mut Vec<u8>) -> Result<(), NoMemory>
     requires { 0 < length fields.now }
     ensures ok { Appends result into.old into.new (line_of_fields fields.now) }

@@ -8,6 +8,7 @@ use Rattle.grid_base.specs.declared.Point.{Point}
 use Rattle.mesh_base.specs.declared.ids.Corners.{Corners}
 use Rattle.mesh_base.specs.Mesh.{Mesh, IdSet}
 
+-- meshes by codes, so that two with one code are equal
 abbrev pub mesh_code : Coded Point → Coded Corners → Coded Mesh
 mesh_code point corners =
     code_by (map.FinMap nat_cmp Point × (map.FinMap nat_cmp Corners × (IdSet × (ℕ × ℕ))))

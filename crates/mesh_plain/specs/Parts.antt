@@ -9,6 +9,7 @@ use Rattle.mesh_base.specs.declared.faults.ShapeFault.TheVariants.{TooManyVertic
 use Rattle.mesh_base.specs.Given.{Faces}
 use Rattle.mesh_plain.specs.Shape.{no_vertex_from, repeated_from}
 
+-- the first fault of counts and of single faces, before faces are compared
 abbrev pub fault_of_each : ℕ → Faces → Option ShapeFault
 fault_of_each n fs =
     option_or (if nat_lt VERTICES_MAX n then Some (TooManyVertices n) else None)

@@ -36,6 +36,7 @@ no_vertex_from n k (f ∷ fs) =
     option_or (option_map (λ corner. (k, corner)) (bad_corner n (corners_of f)))
     (no_vertex_from n (k + 1) fs)
 
+-- whether a face has a vertex twice
 abbrev pub repeats : Corners → Bool
 repeats c = (c.first == c.second) || (c.second == c.third) || (c.third == c.first)
 

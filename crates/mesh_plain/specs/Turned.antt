@@ -8,6 +8,7 @@ use Rattle.mesh_base.specs.Mesh.{turned, same_corners}
 use Rattle.mesh_base.specs.Changes.{corners_of}
 use Rattle.mesh_base.specs.Given.{Faces}
 
+-- the corners, turned so that the least stands first
 abbrev pub least_first : Corners → Corners
 least_first c =
     if nat_lt c.first c.second && nat_lt c.first c.third then c

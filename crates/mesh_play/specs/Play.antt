@@ -69,6 +69,7 @@ more_face m c = if full_of_faces m then m else with_face m (corners_of c)
 abbrev pub vertex_answer : Mesh → Answer
 vertex_answer m = if full_of_vertices m then Full else VertexMade m.next_vertex
 
+-- and to a call that makes a face
 abbrev pub face_answer : Mesh → Answer
 face_answer m = if full_of_faces m then Full else FaceMade m.next_face
 

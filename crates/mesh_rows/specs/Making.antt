@@ -31,12 +31,14 @@ abbrev pub with_solids : Mesh → List ℕ → Mesh
 with_solids m [] = m
 with_solids m (v ∷ vs) = with_solids (with_solid m v) vs
 
--- the mesh of the vertices, that with the faces, and that with the solid vertices
+-- the mesh of the vertices alone
 abbrev pub of_vertices : MeshRows → Mesh
 of_vertices rows = with_vertex_rows empty_mesh rows.vertices
 
+-- the mesh of the vertices, with the faces
 abbrev pub of_faces : MeshRows → Mesh
 of_faces rows = with_face_rows (of_vertices rows) rows.faces
 
+-- that with the fixed (solid) vertices
 abbrev pub made_of : MeshRows → Mesh
 made_of rows = with_solids (of_faces rows) rows.solids

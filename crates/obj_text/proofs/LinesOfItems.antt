@@ -3,7 +3,7 @@ use Rattle.std.proofs.Common.{◌≡◌, ℕ, ◌+◌, ◌<◌, List, ◌++◌, 
 use Rattle.std.specs.List.{flat_map}
 use Rattle.std.proofs.lemmas.List.{take_more, flat_map_more}
 
--- the line of one more item stands behind those of the items before it
+-- the line of one more item stands after those of the items before it
 pub line_of_next : {A : Type 0} (line : A → List ℕ) (old text next : List ℕ) (xs : List A) (i : ℕ) (d : A) → i < length xs → text ≡ old ++ flat_map line (take i xs) → next ≡ text ++ line (get_or xs i d) → next ≡ old ++ flat_map line (take (i + 1) xs)
 line_of_next {A = A} line old text next xs i d below before here =
     here ∙ ap (λ (t : List ℕ). t ++ line (get_or xs i d)) before ∙ flat_map_more line old (take i xs) (get_or xs i d) ∙ ap (λ (ys : List A). old ++ flat_map line ys) (sym (take_more xs i d below))

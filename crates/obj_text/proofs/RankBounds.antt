@@ -15,7 +15,7 @@ use Rattle.mesh_base.specs.Mesh.{Mesh, IsLiveVertex, IsSound}
 use Rattle.obj_text.specs.Written.{rank}
 
 module _ {X : Type 0} (v : ℕ) where
-  -- the look-up goes on behind an entry of a larger id
+  -- the look-up goes on after an entry of a larger id
   behind_larger : (e : ℕ × X) (es : List (ℕ × X)) → v < e.0 → find nat_cmp v (e ∷ es) ≡ find nat_cmp v es
   behind_larger e es lt = let apart : eq_by_cmp nat_cmp v e.0 ≡ false = unsigned_tied v e.0 ∙ ne_eqb v e.0 (omega arith) in ap (λ b. cond b (Some e.1) (find nat_cmp v es)) apart
 

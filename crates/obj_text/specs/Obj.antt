@@ -45,18 +45,18 @@ corners_of read (word ∷ words) = do
   corners ← corners_of read words
   Ok (corner ∷ corners)
 
--- the triangles of a face with the first corner a, behind its second corner b
+-- the triangles of a face with the first corner a, after its second corner b
 abbrev pub fan_after : ℕ → ℕ → List ℕ → List (List ℕ)
 fan_after a b [] = []
 fan_after a b (c ∷ corners) = (a ∷ b ∷ c ∷ []) ∷ fan_after a c corners
 
--- the triangles of a face: the first corner with each two that follow one another behind it
+-- the triangles of a face: the first corner with each two that follow one another after it
 abbrev pub fan : List ℕ → List (List ℕ)
 fan [] = []
 fan (a ∷ []) = []
 fan (a ∷ b ∷ corners) = fan_after a b corners
 
--- ---- the words of a line behind the first
+-- ---- the words of a line after the first
 
 -- three coordinates, and up to four words that are not read
 unfoldable pub point_of : ℕ → List (List ℕ) → Result Triple TextWhy

@@ -48,7 +48,7 @@ fn put_triangles(out: &mut Vec<u8>, faces: &[[u32; 3]]) -> Result<(), NoMemory>
     Ok(())
 }
 
-/// The Wavefront OBJ text of lists on a grid of so many decimals, or want of memory: a line `v X Y Z` for each point, its
+/// The Wavefront OBJ text of lists on a grid of so many decimals, or out of memory: a line `v X Y Z` for each point, its
 /// coordinates divided by 10 ^ decimals, and then a line `f I J K` for each face. Where the lists are of good shape it is the
 /// text that `obj_of` gives of their mesh.
 pub fn obj_of_lists(alloc: Global, lists: &MeshLists, decimals: u8) -> Result<Vec<u8>, NoMemory>

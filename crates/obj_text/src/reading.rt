@@ -52,7 +52,7 @@ fn point(words: Words<'_>, decimals: u8) -> Result<Point, TextWhy>
     Ok(Point { x, y, z })
 }
 
-// Adds the triangles of a face behind its first two corners.
+// Adds the triangles of a face after its first two corners.
 fn add_fan(
     faces: &mut Triangles,
     a: u32,

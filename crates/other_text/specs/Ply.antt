@@ -61,6 +61,7 @@ element_of name (a ∷ b ∷ n ∷ []) =
     if bytes_eq a (codes "element") && bytes_eq b name then count_of n else Err Unknown
 element_of name (a ∷ b ∷ n ∷ d ∷ others) = Err Unknown
 
+-- what a property of this name is for
 abbrev pub role_of : List ℕ → Role
 role_of name =
     if bytes_eq name (codes "x") then X
@@ -77,6 +78,7 @@ property_of (a ∷ t ∷ name ∷ []) =
     if bytes_eq a (codes "property") && is_type t then Ok (role_of name) else Err Unknown
 property_of (a ∷ t ∷ name ∷ d ∷ others) = Err Unknown
 
+-- whether a list of this name has the corners of a face
 abbrev pub is_corner_list : List ℕ → Bool
 is_corner_list name = bytes_eq name (codes "vertex_indices") || bytes_eq name (codes "vertex_index")
 
@@ -160,6 +162,7 @@ stands p Y = p.y_stands
 stands p Z = p.z_stands
 stands p Other = false
 
+-- a property more, and whether it is x, y or z
 abbrev pub with_role : Progress → Role → Progress
 with_role p X = record p { roles = p.roles ++ X ∷ []; x_stands = true }
 with_role p Y = record p { roles = p.roles ++ Y ∷ []; y_stands = true }
@@ -240,6 +243,7 @@ words_add decimals p (word ∷ words) =
     if is_head p.wanted && is_remark word then Ok p
     else wanted_adds p.wanted decimals p (word ∷ words)
 
+-- whether a text may end where this is expected: no row is left
 abbrev pub is_done : Wanted → Progress → Bool
 is_done Name p = false
 is_done Format p = false
@@ -250,7 +254,7 @@ is_done Others p = false
 is_done Rows p = (p.points_left == 0) && (p.faces_left == 0)
 
 -- at the end of a text of so many lines: the lists where the last row was
--- read, else Short behind the last line
+-- read, else Short after the last line
 unfoldable pub end_gives : ℕ → Progress → Result Lists TextFault
 end_gives count p =
     if is_done p.wanted p then Ok p.lists else Err (record { line = count + 1; why = Short })

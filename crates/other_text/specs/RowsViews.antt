@@ -17,7 +17,7 @@ fan_from more line a b faces words =
 abbrev pub faces_after : List (List ℕ) → Result (List ℕ) TextWhy → Result (List (List ℕ)) TextWhy
 faces_after faces ring = ring >>= λ corners. Ok (faces ++ fan corners)
 
--- what a function left in the list of faces is what they are behind the triangles that a face gives
+-- what a function left in the list of faces is what they are after the triangles that a face gives
 abbrev pub AddsFace : {X : Type 0} → List (List ℕ) → List (List ℕ) → Result X ReadFault → ℕ →
     Result (List ℕ) TextWhy → Type 0
 AddsFace old new result line ring = Leaves new result (at_line line (faces_after old ring))

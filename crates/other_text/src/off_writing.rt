@@ -67,7 +67,7 @@ pub(crate) fn put_rows(out: &mut Vec<u8>, lists: &MeshLists, decimals: u8) -> Re
     put_faces(out, lists.faces.as_slice())
 }
 
-/// The OFF text of lists on a grid of so many decimals, or want of memory: `OFF`; a line with the number of points, that
+/// The OFF text of lists on a grid of so many decimals, or out of memory: `OFF`; a line with the number of points, that
 /// of faces, and 0; a row for each point, its coordinates divided by 10 ^ decimals; and a row `3 I J K` for each face, its
 /// corners numbered from 0.
 pub fn off_of(alloc: Global, lists: &MeshLists, decimals: u8) -> Result<Vec<u8>, NoMemory>

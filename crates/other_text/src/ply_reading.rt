@@ -178,7 +178,7 @@ fn add_role(reading: &mut Reading, role: Role, line: u32) -> Result<(), ReadFaul
     Ok(())
 }
 
-// Reads a line of one word or more behind the count of vertices.
+// Reads a line of one word or more after the count of vertices.
 #[tactic(auto, unfolding(crate::specs::Ply::property_adds))]
 fn add_property(reading: &mut Reading, words: Words<'_>, line: u32) -> Result<(), ReadFault>
     ensures value { GoesOn reading.old reading.new result line
@@ -217,7 +217,7 @@ fn is_first(text: &[u8], words: Words<'_>) -> bool
     }
 }
 
-// Reads a line behind the property of a face's corners.
+// Reads a line after the property of a face's corners.
 #[tactic(auto, unfolding(crate::specs::Ply::other_adds))]
 fn add_other(reading: &mut Reading, words: Words<'_>, line: u32) -> Result<(), ReadFault>
     requires few { reading.old.extra < 2 ^ 32 }

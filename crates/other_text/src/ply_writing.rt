@@ -9,7 +9,7 @@ use line_text::{Field, put_line};
 use mesh_base::MeshLists;
 use std::alloc::Global;
 
-/// The ASCII PLY text of lists on a grid of so many decimals, or want of memory: a head with the number of points, their
+/// The ASCII PLY text of lists on a grid of so many decimals, or out of memory: a head with the number of points, their
 /// properties `x`, `y` and `z` of type `double`, and the number of faces, and then the same rows as in the OFF text.
 pub fn ply_of(alloc: Global, lists: &MeshLists, decimals: u8) -> Result<Vec<u8>, NoMemory>
     requires { decimals ≤ DECIMALS_MAX }

@@ -61,7 +61,7 @@ pub(crate) fn point(words: Words<'_>, decimals: u8) -> Result<Point, TextWhy>
     Ok(Point { x, y, z })
 }
 
-// Adds the triangles of so many more corners of a face, behind its first two.
+// Adds the triangles of so many more corners of a face, after its first two.
 fn add_fan(
     faces: &mut Triangles,
     a: u32,
@@ -120,7 +120,7 @@ fn add_ring(faces: &mut Triangles, more: u64, words: Words<'_>, line: u32) -> Re
     }
 }
 
-// That there are n words and so many more behind them; where it is not told how many, n or more.
+// That there are n words and so many more after them; where it is not told how many, n or more.
 #[tactic(auto, unfolding(crate::specs::Rows::has_words))]
 fn has_words(behind: Option<u64>, n: u64, words: Words<'_>) -> Result<(), TextWhy>
     requires few { n < 10 ^ 10 }

@@ -24,6 +24,7 @@ corners_at m f = unwrap_or (finite.get m.faces f) no_corners
 abbrev pub pair_named : Mesh → PairName → Pair
 pair_named m n = record { name = n; corners = corners_at m n.face }
 
+-- the pairs of names
 abbrev pub pairs_named : Mesh → List PairName → List Pair
 pairs_named m names = map (pair_named m) names
 

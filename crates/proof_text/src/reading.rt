@@ -42,7 +42,7 @@ fn closed(motions: Proofs, state: State, number: u32) -> Result<Proofs, ReadFaul
     }
 }
 
-// The certificates where this stands behind the last LF, which is no line where it is empty.
+// The certificates where this stands after the last LF, which is no line where it is empty.
 fn with_last(
     alloc: Global,
     motions: Proofs,
@@ -89,7 +89,7 @@ fn read(alloc: Global, bytes: &[u8]) -> Result<Proofs, ReadFault>
 }
 
 /// The certificates of a text, or the first of its lines that is outside the grammar, with the reason: in this order Unknown,
-/// Short (also where no LF stands behind the line), Long, Number, Range and Order. A text that ends before its last line has
+/// Short (also where no LF stands after the line), Long, Number, Range and Order. A text that ends before its last line has
 /// Order at the number of its lines and one.
 pub fn read_proof(alloc: Global, bytes: &[u8]) -> Result<Proofs, ReadFault>
     requires { length bytes.now ≤ TEXT_MAX }

@@ -57,7 +57,7 @@ Nests open_groups Group = open_groups < GROUPS_MAX
 Nests open_groups Close = 0 < open_groups
 Nests open_groups _ = Unit {0}
 
--- how many groups are open behind a directive
+-- how many groups are open after a directive
 abbrev pub open_behind : ℕ → Directive → ℕ
 open_behind open_groups Group = open_groups + 1
 open_behind open_groups Close = open_groups - 1

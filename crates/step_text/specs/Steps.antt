@@ -97,7 +97,7 @@ alone directive words = do
   counted ← count_is 0 words
   Ok directive
 
--- what the first word and those behind it ask for
+-- what the first word and those after it ask for
 unfoldable pub directive_of : List ℕ → List (List ℕ) → Result Directive TextWhy
 directive_of first words =
     if bytes_eq first (codes "set") then set_of words
@@ -121,15 +121,16 @@ directive_of first words =
 
 -- ---- groups and lines
 
--- the directives so far, and the lines of the groups that are open behind them, outermost first
+-- the directives so far, and the lines of the groups that are open after them, outermost first
 pub record SoFar : Type 0 where
   pub directives : List Placed
   pub groups : List ℕ
 
+-- the two together
 abbrev pub so_far : List Placed → List ℕ → SoFar
 so_far directives groups = record { directives = directives; groups = groups }
 
--- the groups that are open behind a directive of this line: a group may not lie too
+-- the groups that are open after a directive of this line: a group may not lie too
 -- deep, and a close needs an open one
 abbrev pub groups_behind : ℕ → Directive → List ℕ → Result (List ℕ) TextWhy
 groups_behind line Group groups =

@@ -275,7 +275,7 @@ fn closed(directives: Directives, groups: &[u32]) -> Result<Directives, ReadFaul
 }
 
 /// The directives of a step text, or the first line outside its grammar with the reason. Nesting is the last reason of a line:
-/// a group would be open behind `GROUPS_MAX` others, or a close has none. Where no line has a fault and groups are left open,
+/// a group would be open after `GROUPS_MAX` others, or a close has none. Where no line has a fault and groups are left open,
 /// it is the reason of the outermost one's line.
 pub fn read_steps(alloc: Global, bytes: &[u8]) -> Result<Directives, ReadFault>
     requires { length bytes.now ≤ TEXT_MAX }

@@ -23,10 +23,12 @@ hits_before meets m asked depth (suc round) =
 unfoldable pub round_labels : (Positions → Bool) → Mesh → Shifts → ℕ → ℕ → Labels
 round_labels meets m asked depth round = labels (hits_before meets m asked depth round)
 
+-- what each vertex moves by in the round
 unfoldable pub round_shifts : (Positions → Bool) → Mesh → Shifts → ℕ → ℕ → Shifts
 round_shifts meets m asked depth round =
     zone_shifts m asked (round_labels meets m asked depth round)
 
+-- the pairs that fail in it
 unfoldable pub round_hits : (Positions → Bool) → Mesh → Shifts → ℕ → ℕ → List Pair
 round_hits meets m asked depth round =
     failing_pairs meets m (round_shifts meets m asked depth round) depth

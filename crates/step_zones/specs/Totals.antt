@@ -12,6 +12,7 @@ use Rattle.step_zones.specs.declared.totals.Total.{Total}
 use Rattle.step_zones.specs.Zones.{Labels, divided}
 use Rattle.step_zones.specs.Ranks.{label_by}
 
+-- the total of no vertices
 abbrev pub no_total : Total
 no_total = record { count = 0; sum = origin; solid = false }
 

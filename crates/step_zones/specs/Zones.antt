@@ -76,6 +76,7 @@ zone_by m asked at s =
     let block = block_at m at (at s.v) in
     if nat_lt 1 (length block) then shift_by (block_shift m asked block) else s.by
 
+-- a vertex with what it moves by
 abbrev pub zone_shift : Mesh → Shifts → Labels → ShiftOf → ShiftOf
 zone_shift m asked at s = record s { by = zone_by m asked at s }
 

@@ -56,7 +56,7 @@ pub left_by_state : {E : Type 0} (state : E → State) (old new : E) (r : Result
 left_by_state state old new (Ok o) left = λ some. ap state (left some)
 left_by_state state old new (Err stop) left = tt
 
--- what asks nothing of the two sides is stopped for want of memory alone
+-- what asks nothing of the two sides is stopped as out of memory alone
 pub counts_of_memory : {T : Type 0} (a : Around) (r : Result T Stop) → IfErr r (λ stop. stop ≡ NoMemory) → Counts a a r
 counts_of_memory a (Ok x) e = counts_whole a a _ x (counts_unremembered {T = Unit {0}} a)
 counts_of_memory {T = T} a (Err stop) e = let P : Stop → Type 0 = λ s. Counts {T = T} a a (Err s) in subst P (sym e) (counts_unremembered a)

@@ -1,4 +1,4 @@
--- Lists of asked shifts whose ids rise: a shift is put in place of another, or behind all.
+-- Lists of asked shifts whose ids rise: a shift is put in place of another, or after all.
 use Rattle.std.proofs.Common.{◌≡◌, ℕ, ◌<◌, ◌==◌, Bool, true, false, cond, List, [], ◌∷◌, ◌++◌, map, length, zero, suc, ◌-◌, Some, refl, ap, sym, ◌∙◌, subst, arith}
 use Rattle.std.specs.Prelude.{slice_get, slice_set}
 use Rattle.std.specs.List.{AllByRecursion}
@@ -61,7 +61,7 @@ set_is_put (x ∷ rest) (suc i) s t rises at same v =
     by_test true e false f = refl
     by_test false e b f = refl
 
--- ---- behind all
+-- ---- after all
 
 -- where the last is below, all are
 all_below_last : (x : ShiftOf) (rest : Shifts) (v : ℕ) (t : ShiftOf) → Rises (x ∷ rest) → slice_get (x ∷ rest) (length rest) ≡ Some t → t.v < v → AreBelow v (x ∷ rest)

@@ -45,13 +45,13 @@ module _ (asked : List Asked) (s : State) (grouped : Bool) (same : grouped ≡ i
   pub edits_in_part : (t : State) (stop : Stop) (to : Mesh) (old new : Option (List ℕ)) → SaidInPart s.mesh to old new lines → Writes (edits_effect asked s) t old new (Err stop)
   edits_in_part t stop to old new said = let P : List LogLine → Type 0 = λ l. WrittenInPart old new l in inr (edited_lines asked s, after_edits asked s, refl, subst P lines_are said.text)
 
-  -- what is asked behind them
+  -- what is asked after them
   pub edits_rest : IsValidSurface s.mesh → (m : Mesh) → m ≡ end → (now : Shifts) → asked_in s.mesh now ≡ s.asked → AsksOfGiven s.mesh now → asked_in m now ≡ asked_in m s.asked
   edits_rest good m is now asks given =
       let goes = ids_go_on (edit_rules meets_exactly s.set.depth grouped) meets_exactly-is_exact s.mesh good asked in
       rest_again s.mesh m (subst (VertexIdsGoOn s.mesh) (sym is) goes) good.sound s.asked now asks given
 
-  -- the state behind them
+  -- the state after them
   pub edits_left : (m : Mesh) (shifts : Shifts) (groups : List Group) (refused : ℕ) → m ≡ end → shifts ≡ asked_in m s.asked → refused ≡ refused_in lines → groups ≡ fail_if (nat_lt 0 refused) s.groups
       → record s { mesh = m; asked = shifts; groups = groups } ≡ after_edits asked s
   edits_left m shifts groups refused is rest count failed =

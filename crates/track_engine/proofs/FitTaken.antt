@@ -88,7 +88,7 @@ module _ (may_size : Point → Band → Type 0) (s : State) (grouped : Bool) (sa
       let lines = fitted_lines (λ e. Leave) (take 0 (edges s.mesh)) s in
       (WantedOfFirst 0 (λ e. Leave), (refl, tt), lines, refl, written_nothing old old lines refl)
 
-  -- what is asked behind it
+  -- what is asked after it
   pub fit_rest : IsValidSurface s.mesh → (m : Mesh) (count : PassCount) (old new : Option (List ℕ)) → Fits {E = Stop} may_size s.set.depth grouped s.mesh m old new (Ok count) → (now : Shifts) → asked_in s.mesh now ≡ s.asked → AsksOfGiven s.mesh now → asked_in m now ≡ asked_in m s.asked
   fit_rest good m count old new f now asks given =
       let goes = ids_go_on (fit_rules meets_exactly f.fit.wants s.set.depth grouped) meets_exactly-is_exact s.mesh good (map turn_of f.fit.first) in

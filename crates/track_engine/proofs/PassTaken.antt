@@ -50,7 +50,7 @@ module _ (kind : PassKind) (s : State) (grouped : Bool) (same : grouped ≡ is_o
   pub pass_not_begun : (t : State) (stop : Stop) (old : Option (List ℕ)) → PassTakes kind s t old old (Err stop)
   pass_not_begun t stop old = written_nothing old old (passed_lines kind s) refl
 
-  -- what is asked behind it
+  -- what is asked after it
   pub pass_rest : IsValidSurface s.mesh → (m : Mesh) → m ≡ mesh_due kind s.set.depth grouped s.mesh → (now : Shifts) → asked_in s.mesh now ≡ s.asked → AsksOfGiven s.mesh now → asked_in m now ≡ asked_in m s.asked
   pass_rest good m is now asks given =
       let goes = ids_go_on (exactly (terms_of kind s.set.depth grouped)) meets_exactly-is_exact s.mesh good (candidates s.mesh kind) in

@@ -43,7 +43,7 @@ set_kept : (groups : List Group) (s t : State) (lines : List LogLine) → undo_e
 set_kept [] s t lines e = let same : s ≡ t = cc in ap (λ (x : State). x.set) (sym same)
 set_kept (group ∷ outer) s t lines e = let same : taken_back group outer s ≡ t = cc in ap (λ (x : State). x.set) (sym same)
 
--- the state behind it
+-- the state after it
 pub record IsLeftWell (t : State) : Type 0 where
   pub invariant : IsRunInvariant t
   pub limits : AreWithinLimits t.set

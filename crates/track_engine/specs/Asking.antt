@@ -31,6 +31,7 @@ abbrev pub EditsKeepTheRun : Type 0
 EditsKeepTheRun =
     (asked : List Asked) (s : State) → IsRunInvariant s → KeepsTheRun s (edits_effect asked s)
 
+-- what edits tell can be done again
 abbrev pub EditsCanBeDoneAgain : Type 0
 EditsCanBeDoneAgain =
     (asked : List Asked) (s : State) → AreWithinLimits s.set → CanBeDoneAgain s (edits_effect asked s)
@@ -39,5 +40,6 @@ EditsCanBeDoneAgain =
 abbrev pub UndoKeepsTheRun : Type 0
 UndoKeepsTheRun = (s : State) → IsRunInvariant s → KeepsTheRun s (undo_effect s.groups s)
 
+-- what that tells can be done again
 abbrev pub UndoCanBeDoneAgain : Type 0
 UndoCanBeDoneAgain = (s : State) → CanBeDoneAgain s (undo_effect s.groups s)

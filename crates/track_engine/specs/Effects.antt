@@ -68,6 +68,7 @@ abbrev pub sum_or_range : Option ℕ → Mesh → (ℕ → Shift) → Shifts →
 sum_or_range None m by asked = Ok (all_summed m by asked)
 sum_or_range (Some v) m by asked = Err (ShiftRange v)
 
+-- displacements added to all that is requested, or the first vertex for which that is too much
 abbrev pub sum_of_all : Mesh → (ℕ → Shift) → Shifts → Result Shifts UseWhy
 sum_of_all m by asked = sum_or_range (first_beyond m by asked) m by asked
 
@@ -83,6 +84,7 @@ sum_at (Some s) true v by asked = Err (SolidVertex v)
 sum_at (Some s) false v by asked =
     if is_within SHIFT_MAX (summed by s) then Ok (one_summed v by asked) else Err (ShiftRange v)
 
+-- a displacement added to what is requested of one vertex, or why it cannot be requested
 abbrev pub sum_of_one : Mesh → ℕ → Shift → Shifts → Result Shifts UseWhy
 sum_of_one m v by asked = sum_at (asked_of v asked) (is_solid m v) v by asked
 
@@ -152,6 +154,7 @@ way_lines way = block_lines way.blocks ++ (move_lines way.taken ++ Moved way.how
 abbrev pub lines_of_step : ℕ → List PairName → Way → List LogLine
 lines_of_step k pairs way = Step k ∷ (hit_lines pairs ++ way_lines way)
 
+-- the lines of the step that comes next
 abbrev pub step_lines : State → List LogLine
 step_lines s = lines_of_step (s.steps + 1) (hits s) (taken s)
 
@@ -188,6 +191,7 @@ after_lines lines m s = record s {
   groups = fail_if (nat_lt 0 (refused_in lines)) s.groups;
 }
 
+-- the state after a pass
 abbrev pub after_pass : PassKind → State → State
 after_pass kind s = after_lines (passed_lines kind s) (passed_mesh kind s) s
 
@@ -202,6 +206,7 @@ fitted_lines wants es s = fit_lines meets_exactly wants s.set.depth (is_open s.g
 unfoldable pub fitted_mesh : (ℕ × ℕ → Want) → List (ℕ × ℕ) → State → Mesh
 fitted_mesh wants es s = mesh_after_fit meets_exactly wants s.set.depth (is_open s.groups) s.mesh es
 
+-- the state after a pass by a sizing
 abbrev pub after_fit : (ℕ × ℕ → Want) → List (ℕ × ℕ) → State → State
 after_fit wants es s = after_lines (fitted_lines wants es s) (fitted_mesh wants es s) s
 
@@ -222,6 +227,7 @@ unfoldable pub edited_answers : List Asked → State → List Edit
 edited_answers asked s =
     answers_from (edit_rules meets_exactly s.set.depth (is_open s.groups)) s.mesh asked
 
+-- the state after edits by ids
 abbrev pub after_edits : List Asked → State → State
 after_edits asked s = after_lines (edited_lines asked s) (edited_mesh asked s) s
 
@@ -234,6 +240,7 @@ pub data Effect : Type 0 where
   Refused : (why : UseWhy) → Effect
   Unanswered : (lines : List LogLine) → Effect
 
+-- what a shift does: this is requested now, or it is refused
 abbrev pub shift_effect : Result Shifts UseWhy → State → Effect
 shift_effect (Ok asked) s = Proceeds [] (record s { asked = asked })
 shift_effect (Err why) s = Refused why
@@ -246,7 +253,7 @@ drive_effect NoSuchField s = Refused NoField
 drive_effect _ s = Unanswered []
 
 -- A pass goes over all edges by what is wanted of them. One that is answered of
--- the first alone waits behind these.
+-- the first alone waits after these.
 abbrev pub fit_effect : Answer → State → Effect
 fit_effect (Wanted wants) s =
     Proceeds (fitted_lines wants (edges s.mesh) s) (after_fit wants (edges s.mesh) s)
@@ -258,6 +265,7 @@ fit_effect _ s = Unanswered []
 abbrev pub set_effect : Settings → State → Effect
 set_effect set s = Proceeds [] (record s { set = set })
 
+-- what a step does: refused where a vertex would leave the box, else taken
 abbrev pub step_effect : Option ℕ → State → Effect
 step_effect (Some v) s = Refused (Box v)
 step_effect None s = Proceeds (step_lines s) (after_step s)

@@ -21,7 +21,7 @@ use std::alloc::Global;
 
 impl<S: Surface> Engine<S> {
     /// Asks edits by ids, one after another, each line of them written; there is no line that tells where they begin. What
-    /// came of each stands behind the answers. In a group the first that is refused ends them, and makes the group fail. What
+    /// came of each stands after the answers. In a group the first that is refused ends them, and makes the group fail. What
     /// is told is how many were done, and how many refused. The engine is ready, as one of a sound, closed and clear mesh is
     /// until a directive stops. Any edit may be asked for, but the line of a refused one repeats what was asked, and a log is
     /// read again only where each edge has its smaller end first and the ids are those that a log may give: that is for the

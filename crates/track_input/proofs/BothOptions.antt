@@ -35,7 +35,7 @@ step = walked top.rules names
 abbrev row : Text → Text → Row
 row id v = record { id = id; values = v ∷ []; count = None; source = Some CommandLine; reading = reading_of (parser_of_value (Some String)) }
 
--- where the walk stands behind the digit
+-- where the walk stands after the digit
 abbrev behind_digit : Text → Text → Text → Text → Walk
 behind_digit a b c n = record {
   held = record {

@@ -166,7 +166,7 @@ convert_listed zeroth (a ∷ b ∷ rest) x e = at_names (mesh_name_of a) (mesh_n
     at_names (Some from) None is_m is_n g = absurd (cc)
     at_names (Some from) (Some to) is_m is_n g = at_rest from to rest (mesh_word a from is_m) (mesh_word b to is_n) e g
 
--- a mesh and a log are found in words that list them behind the name of a command
+-- a mesh and a log are found in words that list them after the name of a command
 record FindsNames (name : List ℕ) (words : List (List ℕ)) (x : LogNames) : Type 0 where
   taken : takes (log_app name) words ≡ true
   found : log_read (values_in (log_app name) words) ≡ Some x
@@ -296,7 +296,7 @@ check_listed zeroth (a ∷ rest) x e = at_name (mesh_name_of a) refl e
     at_name None is g = absurd (cc)
     at_name (Some mesh) is g = at_rest mesh rest (mesh_word a mesh is) e g
 
--- ---- the words behind the files of a replay
+-- ---- the words after the files of a replay
 
 -- how an option with these two words reads: the first is the option's, and the second is of its kind
 pub record IsDigit (option digit : List ℕ) : Type 0 where

@@ -26,18 +26,22 @@ abbrev pub bare_app : List ℕ → App
 bare_app name =
     record (new_app name) { top = record (new_app name).top { disable_help_flag = true } }
 
+-- a command of two named words
 abbrev pub pair_app : List ℕ → List ℕ → List ℕ → App
 pair_app name first second =
     with_rule (with_rule (bare_app name) (given_rule first)) (given_rule second)
 
+-- the words of `track`
 abbrev pub track_app : App
 track_app =
     with_rule (with_rule (pair_app (codes "track") (codes "mesh") (codes "steps"))
     (given_rule (codes "prefix"))) decimals_rule
 
+-- the words of `convert`
 abbrev pub convert_app : App
 convert_app = with_rule (pair_app (codes "convert") (codes "from") (codes "to")) decimals_rule
 
+-- the words of `try`
 abbrev pub try_app : App
 try_app = pair_app (codes "try") (codes "cubes") (codes "key")
 
@@ -45,22 +49,27 @@ try_app = pair_app (codes "try") (codes "cubes") (codes "key")
 abbrev pub log_app : List ℕ → App
 log_app name = with_rule (pair_app name (codes "mesh") (codes "log")) decimals_rule
 
+-- the words of `measure`
 abbrev pub measure_app : App
 measure_app = log_app (codes "measure")
 
+-- the words of `prove`
 abbrev pub prove_app : App
 prove_app = log_app (codes "prove")
 
+-- the words of `verify`
 abbrev pub verify_app : App
 verify_app =
     with_rule (with_rule (pair_app (codes "verify") (codes "mesh") (codes "log"))
     (given_rule (codes "proof"))) decimals_rule
 
+-- the words of `replay`
 abbrev pub replay_app : App
 replay_app =
     with_rule (with_rule (with_rule (pair_app (codes "replay") (codes "mesh") (codes "log"))
     (given_rule (codes "prefix"))) decimals_rule) only_rule
 
+-- the words of `check`
 abbrev pub check_app : App
 check_app =
     with_rule (with_rule (bare_app (codes "check")) (given_rule (codes "mesh"))) decimals_rule
@@ -71,70 +80,86 @@ check_app =
 abbrev pub Values : Type 0
 Values = List ℕ → Option (List ℕ)
 
+-- what `track` reads of these values, if they are all there
 abbrev pub track_of : Option (List ℕ) → Option (List ℕ) → Option (List ℕ) → Option (List ℕ) →
     Option Named
 track_of (Some mesh) (Some steps) (Some prefix) digit =
     track_in (mesh ∷ steps ∷ prefix ∷ behind digit)
 track_of _ _ _ digit = None
 
+-- what `convert` reads of them
 abbrev pub convert_of : Option (List ℕ) → Option (List ℕ) → Option (List ℕ) → Option Named
 convert_of (Some from) (Some to) digit = convert_in (from ∷ to ∷ behind digit)
 convert_of _ _ digit = None
 
+-- what `try` reads of them
 abbrev pub try_of : Option (List ℕ) → Option (List ℕ) → Option Named
 try_of (Some cubes) (Some key) = try_in (cubes ∷ key ∷ [])
 try_of _ _ = None
 
+-- what a command that takes a mesh and a log reads of them
 abbrev pub log_of : Option (List ℕ) → Option (List ℕ) → Option (List ℕ) → Option LogNames
 log_of (Some mesh) (Some log) digit = log_in (mesh ∷ log ∷ behind digit)
 log_of _ _ digit = None
 
+-- what `verify` reads of them
 abbrev pub verify_of : Option (List ℕ) → Option (List ℕ) → Option (List ℕ) → Option (List ℕ) →
     Option Named
 verify_of (Some mesh) (Some log) (Some proof) digit = verify_in (mesh ∷ log ∷ proof ∷ behind digit)
 verify_of _ _ _ digit = None
 
+-- what `replay` reads of them
 abbrev pub replay_of : Option (List ℕ) → Option (List ℕ) → Option (List ℕ) → Option (List ℕ) →
     Option (List ℕ) → Option Named
 replay_of (Some mesh) (Some log) (Some prefix) digit number =
     replay_in (mesh ∷ log ∷ prefix ∷ options_behind digit number)
 replay_of _ _ _ digit number = None
 
+-- what `check` reads of them
 abbrev pub check_of : Option (List ℕ) → Option (List ℕ) → Option Named
 check_of (Some mesh) digit = check_in (mesh ∷ behind digit)
 check_of _ digit = None
 
+-- what `track` reads of the values that its words have by name
 abbrev pub track_read : Values → Option Named
 track_read value =
     track_of (value (codes "mesh")) (value (codes "steps")) (value (codes "prefix"))
     (value (codes "decimals"))
 
+-- the same of `convert`
 abbrev pub convert_read : Values → Option Named
 convert_read value =
     convert_of (value (codes "from")) (value (codes "to")) (value (codes "decimals"))
 
+-- the same of `try`
 abbrev pub try_read : Values → Option Named
 try_read value = try_of (value (codes "cubes")) (value (codes "key"))
 
+-- the same of a command that takes a mesh and a log
 abbrev pub log_read : Values → Option LogNames
 log_read value = log_of (value (codes "mesh")) (value (codes "log")) (value (codes "decimals"))
 
+-- the same of `measure`
 abbrev pub measure_read : Values → Option Named
 measure_read value = option_map Measure (log_read value)
 
+-- the same of `prove`
 abbrev pub prove_read : Values → Option Named
 prove_read value = option_map Prove (log_read value)
 
+-- the same of `verify`
 abbrev pub verify_read : Values → Option Named
 verify_read value =
     verify_of (value (codes "mesh")) (value (codes "log")) (value (codes "proof"))
     (value (codes "decimals"))
 
+-- the same of `replay`
 abbrev pub replay_read : Values → Option Named
 replay_read value =
     replay_of (value (codes "mesh")) (value (codes "log")) (value (codes "prefix"))
     (value (codes "decimals")) (value (codes "only"))
 
+-- the same of `check`
 abbrev pub check_read : Values → Option Named
 check_read value = check_of (value (codes "mesh")) (value (codes "decimals"))
 
@@ -145,6 +170,7 @@ abbrev pub IsFound : App → List (List ℕ) → Option ArgMatches → Type 0
 IsFound app words (Some found) = HasMatchesOf app words found
 IsFound app words None = takes app words ≡ true → ⊥
 
+-- the value of each name that a command finds among words: its first one
 abbrev pub values_in : App → List (List ℕ) → Values
 values_in app words id = first_of id (matches_of app words)
 

@@ -36,10 +36,12 @@ pub record IsJob (files : Option Files) (mesh_name step_name : List ℕ)
 abbrev pub mesh_of_lists : Lists → Mesh
 mesh_of_lists lists = mesh_of (map point_at lists.points) lists.faces
 
+-- the mesh of the lists that were read, and the empty one where there was a fault
 abbrev pub mesh_read : Result Lists TextFault → Mesh
 mesh_read (Ok lists) = mesh_of_lists lists
 mesh_read (Err fault) = mesh_of [] []
 
+-- the mesh that a file gives
 abbrev pub mesh_in : ℕ → Source → Mesh
 mesh_in decimals (Bytes bytes) = mesh_read (lists_of decimals bytes)
 mesh_in decimals _ = mesh_of [] []
@@ -57,19 +59,23 @@ pub record Input : Type 0 where
   pub lists : Lists
   pub steps : List Placed
 
+-- what a job gives after its mesh: the directives, or the first bad line
 abbrev pub input_of_steps : Lists → Result (List Placed) TextFault → Result Input Refusal
 input_of_steps lists (Err fault) = Err (refusal.Steps fault)
 input_of_steps lists (Ok steps) = Ok (record { lists = lists; steps = steps })
 
+-- what it gives after the shape was looked at
 abbrev pub input_of_shape : Lists → Option ShapeFault → List ℕ → Result Input Refusal
 input_of_shape lists (Some fault) steps = Err (refusal.Shape fault)
 input_of_shape lists None steps = input_of_steps lists (steps_of steps)
 
+-- what it gives after the text of the mesh was read
 abbrev pub input_of_lists : Result Lists TextFault → List ℕ → Result Input Refusal
 input_of_lists (Err fault) steps = Err (refusal.Mesh fault)
 input_of_lists (Ok lists) steps =
     input_of_shape lists (shape_fault (length lists.points) lists.faces) steps
 
+-- what two files give, or the first refusal
 abbrev pub input_of_files : ℕ → Source → Source → Result Input Refusal
 input_of_files decimals (TooLong seen) steps = Err (refusal.Long file.Mesh seen)
 input_of_files decimals Absent steps = Err (refusal.Missing file.Mesh)

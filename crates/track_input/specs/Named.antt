@@ -11,19 +11,24 @@ use Rattle.track_input.specs.declared.command.ReplayFiles.{ReplayFiles}
 use Rattle.track_input.specs.Words.{MeshName, LogNames, ProofNames, ReplayNames, Named, Track}
 use Rattle.track_input.specs.Words.{Convert, Try, Measure, Prove, Verify, Replay, Check}
 
+-- the name of a mesh file, with its format
 abbrev pub mesh_name : MeshFile → MeshName
 mesh_name file = record { name = file.name.now; format = file.format }
 
+-- the names of a mesh and a log, with the decimals
 abbrev pub log_names : LogFiles → LogNames
 log_names files = record { mesh = files.mesh.now; log = files.log.now; decimals = files.decimals }
 
+-- the same with the name of a proof
 abbrev pub proof_names : ProofFiles → ProofNames
 proof_names given = record { names = log_names given.files; proof = given.proof.now }
 
+-- the same with a prefix, and perhaps the number of a mesh
 abbrev pub replay_names : ReplayFiles → ReplayNames
 replay_names given =
     record { names = log_names given.files; prefix = given.prefix.now; only = given.only }
 
+-- what the words of a command name
 abbrev pub named_by : Command → Named
 named_by (command.Track mesh steps prefix decimals) = Track mesh.now steps.now prefix.now decimals
 named_by (command.Convert from to decimals) = Convert (mesh_name from) (mesh_name to) decimals

@@ -4,6 +4,7 @@ use Rattle.grid_base.specs.declared.TheConstants.{TEXT_MAX}
 use Rattle.log_text.specs.declared.TheConstants.{SEEN_MAX}
 use Rattle.outside_io.specs.Desk.{Files, HoldsFile, HoldsNoFile, HoldsAtLeast}
 
+-- the bytes of a file, that there is none, or how many were seen of one that is too long
 pub data Source : Type 0 where
   Bytes : (bytes : List ℕ) → Source
   Absent : Source

@@ -36,7 +36,7 @@ pub record ReplayNames : Type 0 where
 -- what a command line asks for: of `track`, the three file words, and the decimals; of
 -- `convert`, the two files, and the decimals; of `try`, the number of cubes along an edge, and
 -- the key; of `measure` and `prove`, the two files, and the decimals; of `verify`, the three
--- files, and the decimals; of `replay`, the two files, the prefix, and what is told behind; of
+-- files, and the decimals; of `replay`, the two files, the prefix, and what is told after; of
 -- `check`, the file, and the decimals
 pub data Named : Type 0 where
   Track : (mesh : List ℕ) (steps : List ℕ) (prefix : List ℕ) (decimals : ℕ) → Named
@@ -50,6 +50,7 @@ pub data Named : Type 0 where
 
 -- ---- words
 
+-- the word at a place, from 0
 abbrev pub word_at : List (List ℕ) → ℕ → List ℕ
 word_at words i = slice_index_or words i []
 
@@ -79,7 +80,7 @@ is_decimals word =
     length word == 1
     && (nat_le 48 (slice_index word 0) && nat_le (slice_index word 0) (48 + DECIMALS_MAX))
 
--- the decimals that the words behind the files tell: 0 where there are none,
+-- the decimals that the words after the files tell: 0 where there are none,
 -- and N where they are `--decimals N`
 abbrev pub decimals_in : List (List ℕ) → Option ℕ
 decimals_in [] = Some 0
@@ -103,7 +104,7 @@ abbrev pub only_in : List ℕ → List ℕ → Option ℕ
 only_in option number =
     if bytes_eq option (codes "--only") then number_in 0 (2 ^ 32 - 1) number else None
 
--- the decimals, and the number of the one mesh, that the words behind the files of `replay` tell:
+-- the decimals, and the number of the one mesh, that the words after the files of `replay` tell:
 -- `--decimals N`, `--only K`, both in this order, or neither
 abbrev pub options_in : List (List ℕ) → Option (ℕ × Option ℕ)
 options_in [] = Some (0, None)
@@ -184,7 +185,7 @@ check_in _ = None
 
 -- The command that listed words name: `track MESH STEPS PREFIX`, `convert FROM TO`, `measure MESH
 -- LOG`, `prove MESH LOG`, `verify MESH LOG PROOF`, `replay MESH LOG PREFIX` or `check MESH`, or one
--- of these and `--decimals N`; `replay` too with `--only K` behind that; or `try N KEY`.
+-- of these and `--decimals N`; `replay` too with `--only K` after that; or `try N KEY`.
 abbrev pub named_in : List (List ℕ) → Option Named
 named_in [] = None
 named_in (first ∷ words) =

@@ -105,7 +105,7 @@ fn decimals_of(digit: Option<&str>) -> Option<u8>
     }
 }
 
-// The command of the words that were found behind `track`.
+// The command of the words that were found after `track`.
 fn track_read<'a>(found: &ArgMatches<'a>) -> Option<Command<'a>>
     ensures command { option_map named_by result ≡ track_read (first_value (found_of found.now)) }
     ensures few { IfSome result IsInLimits }
@@ -125,7 +125,7 @@ fn track_read<'a>(found: &ArgMatches<'a>) -> Option<Command<'a>>
     })
 }
 
-// The command of the words that were found behind `convert`.
+// The command of the words that were found after `convert`.
 fn convert_read<'a>(found: &ArgMatches<'a>) -> Option<Command<'a>>
     ensures command { option_map named_by result ≡ convert_read (first_value (found_of found.now)) }
     ensures few { IfSome result IsInLimits }
@@ -150,7 +150,7 @@ fn number_in(low: u32, high: u32, word: &str) -> Option<u32>
     }
 }
 
-// The command of the words that were found behind `try`.
+// The command of the words that were found after `try`.
 fn try_read(found: &ArgMatches<'_>) -> Option<Command<'static>>
     ensures command { option_map named_by result ≡ try_read (first_value (found_of found.now)) }
     ensures few { IfSome result IsInLimits }
@@ -163,7 +163,7 @@ fn try_read(found: &ArgMatches<'_>) -> Option<Command<'static>>
     })
 }
 
-// The mesh and the log of the words that were found behind the name of a command.
+// The mesh and the log of the words that were found after the name of a command.
 fn log_read<'a>(found: &ArgMatches<'a>) -> Option<LogFiles<'a>>
     ensures names { option_map log_names result ≡ log_read (first_value (found_of found.now)) }
     ensures few { IfSome result (λ files. files.decimals ≤ DECIMALS_MAX) }
@@ -181,7 +181,7 @@ fn log_read<'a>(found: &ArgMatches<'a>) -> Option<LogFiles<'a>>
     })
 }
 
-// The command of the words that were found behind `measure`.
+// The command of the words that were found after `measure`.
 fn measure_read<'a>(found: &ArgMatches<'a>) -> Option<Command<'a>>
     ensures command { option_map named_by result ≡ measure_read (first_value (found_of found.now)) }
     ensures few { IfSome result IsInLimits }
@@ -190,7 +190,7 @@ fn measure_read<'a>(found: &ArgMatches<'a>) -> Option<Command<'a>>
     Some(Command::Measure(files))
 }
 
-// The command of the words that were found behind `prove`.
+// The command of the words that were found after `prove`.
 fn prove_read<'a>(found: &ArgMatches<'a>) -> Option<Command<'a>>
     ensures command { option_map named_by result ≡ prove_read (first_value (found_of found.now)) }
     ensures few { IfSome result IsInLimits }
@@ -199,7 +199,7 @@ fn prove_read<'a>(found: &ArgMatches<'a>) -> Option<Command<'a>>
     Some(Command::Prove(files))
 }
 
-// The command of the words that were found behind `verify`.
+// The command of the words that were found after `verify`.
 fn verify_read<'a>(found: &ArgMatches<'a>) -> Option<Command<'a>>
     ensures command { option_map named_by result ≡ verify_read (first_value (found_of found.now)) }
     ensures few { IfSome result IsInLimits }
@@ -235,7 +235,7 @@ fn options_of(digit: Option<&str>, number: Option<&str>) -> Option<(u8, Option<u
     }
 }
 
-// The command of the words that were found behind `replay`.
+// The command of the words that were found after `replay`.
 fn replay_read<'a>(found: &ArgMatches<'a>) -> Option<Command<'a>>
     ensures command { option_map named_by result ≡ replay_read (first_value (found_of found.now)) }
     ensures few { IfSome result IsInLimits }
@@ -259,7 +259,7 @@ fn replay_read<'a>(found: &ArgMatches<'a>) -> Option<Command<'a>>
     }))
 }
 
-// The command of the words that were found behind `check`.
+// The command of the words that were found after `check`.
 fn check_read<'a>(found: &ArgMatches<'a>) -> Option<Command<'a>>
     ensures command { option_map named_by result ≡ check_read (first_value (found_of found.now)) }
     ensures few { IfSome result IsInLimits }
@@ -367,7 +367,7 @@ fn check_in<'a>(alloc: Global, words: &'a [String]) -> Result<Option<Command<'a>
 
 /// The command that the words are read as: `track MESH STEPS PREFIX`, `convert FROM TO`, `measure MESH LOG`, `prove MESH LOG`,
 /// `verify MESH LOG PROOF`, `replay MESH LOG PREFIX` or `check MESH`, or one of these and `--decimals N` with one digit N from 0 to 6,
-/// `replay` too with `--only K` behind that, or `try N KEY`. A file word is not empty and has no dash in front, and that of `check` and both of
+/// `replay` too with `--only K` after that, or `try N KEY`. A file word is not empty and has no dash in front, and that of `check` and both of
 /// `convert` end in `.obj`, `.off` or `.ply`. N of `try` is 1 to 12, and K and KEY are 0 to 4,294,967,295, digits with no needless zero in
 /// front. Words of no such form are taken as one of the same first word whose words are among them (options may stand before the files, as
 /// `--decimals=N` and `--only=K` too), or they are no command. NoMemory at any words.

@@ -33,7 +33,7 @@ fn only<'a>(alloc: Global) -> Arg<'a>
     Arg::new(alloc, "only").long("only").action(ArgAction::Set)
 }
 
-// Takes two words behind the first.
+// Takes two words after the first.
 fn pair_command<'a>(
     alloc: Global,
     name: &'a str,
@@ -72,7 +72,7 @@ pub(crate) fn try_command<'a>(alloc: Global) -> Result<Command<'a>, AllocError>
     pair_command(alloc, "try", "cubes", "key")
 }
 
-// Takes a mesh and a log behind the name of a command, the name included.
+// Takes a mesh and a log after the name of a command, the name included.
 pub(crate) fn log_command<'a>(alloc: Global, name: &'a str) -> Result<Command<'a>, AllocError>
     ensures { IfOk result (λ command. app_of command ≡ log_app name.entry.now) }
 {
