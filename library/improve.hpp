@@ -46,6 +46,15 @@ struct Improving {
     double restore_max_shift = 0.1;                // by shifts of at most so many h
 };
 
+// For a surface that moves along its normals, as one that grows or flows by its curvature: it swallows its creases and necks, and so an
+// edge is collapsed there though that changes more of the volume, and bends more.
+inline Improving moving_along_normals(double average_edge_length)
+{
+    Improving by{average_edge_length};
+    by.max_volume_change = 0.1, by.collapse_min_cosine = -2;
+    return by;
+}
+
 // How many edits were done, refused by the tracker, and held back by the guards.
 struct Improved {
     long splits = 0, splits_refused = 0, caps = 0, caps_refused = 0;

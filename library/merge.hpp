@@ -11,10 +11,11 @@
 //    other, as pages of a book at its back.
 // 2. Grow. At a fold's edge ab, with the faces abc and bad, ab is flipped to cd, and cd is collapsed: the fold goes on by one triangle of
 //    each sheet, the nearest first. Where cd is an edge already, it is only collapsed. Faces that come to lie on one another go with the
-//    collapse.
+//    collapse. Where the collapse would turn a face over, ab is flipped alone, which fills the fold's back.
 // 3. Pinch. Where the hole's rim meets itself or another hole's, its vertex has two fans, and is parted: the holes become one.
-// Each of these is tried in a group, looked at, and taken back where it is refused or would leave a non-manifold edge; where it would turn
-// a face over it is not tried. It ends, since each that is kept leaves fewer faces, and each that is not is tried but twice.
+// Each of these is tried in a group, looked at, and taken back where it is refused or would leave a non-manifold edge. It ends, since each
+// collapse that is kept leaves fewer faces, each flip alone makes an edge that was never made so before, and each that is not kept is tried
+// but twice.
 #ifndef TOPO_MERGE_HPP
 #define TOPO_MERGE_HPP
 
@@ -36,9 +37,11 @@ struct Merging {
     double average_edge_length;         // h, in the caller's unit
     double merge_proximity = 1.5;       // sheets are joined across gaps up to this. It has to exceed what a gap closes in one step, or the
                                         // sheets get between one another's vertices before they are joined
-    double fold_reach = 1.5;            // in the fold of faces abc and bad, c may be as far from d
+    double fold_reach = 1.8;            // in the fold of faces abc and bad, c may be as far from d: farther than merge_proximity, so that a
+                                        // seed grows where the sheets' vertices are up to h apart sideways
     double facing = -0.5;               // the two edges of a seed bound faces whose mean normals have at most this cosine
     double folded = -0.2;               // and the two faces of a fold this
+    double fill_min_angle = 2;          // in degrees: a flip alone leaves no lesser one
     int apart = 4;                      // a seed's edges are more than so many edges apart along the surface
     int mend_rounds = 20;               // of mend
 };
@@ -46,7 +49,8 @@ struct Merging {
 // What was done, and what was tried and taken back, by reason.
 struct Merged {
     long seeds = 0, folds_closed = 0, pinches = 0, mended = 0;
-    long turning = 0;                                            // folds that were left, since a face would turn over
+    long filled = 0;                                             // folds at which a face would turn over, flipped alone
+    long turning = 0;                                            // and those that were left
     long undone_refused = 0, undone_crowded = 0, undone_no_fewer = 0;
     long crowded_left = 0;                                       // of mend: non-manifold edges that are left
 };
@@ -111,6 +115,7 @@ private:
     std::unordered_map<Id, Point> at;      // where each vertex stands
     std::priority_queue<Fold> queue;       // the nearest first
     std::map<Pair, int> tried;             // how often closing a fold over this edge was refused
+    std::set<Pair> filled;                 // edges that a flip alone made
     std::unordered_map<Id, std::set<Id>> near; // the vertices within `apart` edges of one, as long as nothing is joined
 
     // ---- what the surface is around a place ----
@@ -250,10 +255,8 @@ private:
         int &refused = tried[std::minmax(r.c, r.d)];
         if (refused > 1)
             return;
-        if (turns(r.c, r.d)) {
-            ++refused, ++told.turning;
-            return;
-        }
+        if (turns(r.c, r.d))
+            return fill_fold(r, refused);
         const Point c = at[r.c], d = at[r.d];
         std::vector<topo_asked> list;
         if (!around(r.c).count(r.d))
@@ -269,6 +272,18 @@ private:
         }
         tracker.close(), ++told.folds_closed;
         for (const Id v : left)
+            push_around(v);
+    }
+    // Flips the edge alone, once for each pair of c and d.
+    void fill_fold(const Ring &r, int &refused)
+    {
+        const bool flat = std::min(least_angle(at[r.a], at[r.d], at[r.c]), least_angle(at[r.d], at[r.b], at[r.c])) < by.fill_min_angle;
+        if (flat || !filled.insert(std::minmax(r.c, r.d)).second || around(r.c).count(r.d) || ask(TOPO_FLIPPED, r.a, r.b).why) {
+            ++refused, ++told.turning;
+            return;
+        }
+        ++told.filled;
+        for (const Id v : {r.a, r.b, r.c, r.d})
             push_around(v);
     }
     void grow()
@@ -321,10 +336,23 @@ private:
             push_around(v);
         return true;
     }
+    struct Side { Point mid, normal; Id a, b; };
+    void match(const Side &s, const Side &u, std::vector<Match> &found) const
+    {
+        const Point d = u.mid - s.mid;
+        // each lies on the outer side of the other
+        if (dot(s.normal, u.normal) > by.facing || dot(d, d) > gap * gap || dot(d, s.normal) <= 0 || dot(d, u.normal) >= 0)
+            return;
+        const auto a = at.find(s.a), b = at.find(s.b), e = at.find(u.a), f = at.find(u.b);
+        if (a == at.end() || b == at.end() || e == at.end() || f == at.end())
+            return;
+        const auto far = [](const auto &p, const auto &q) { return norm(p->second - q->second); };
+        const double ends = std::min(far(a, e) + far(b, f), far(a, f) + far(b, e));
+        found.push_back({norm(d) + ends, s.a, s.b, u.a, u.b});
+    }
     // The pairs of edges that face each other across a gap, the nearest first.
     std::vector<Match> matches()
     {
-        struct Side { Point mid, normal; Id a, b; };
         std::vector<Side> row; // by x
         for (const Mesh::Edge &e : mesh.edges) {
             const Point n = mesh.normal(e.left), m = mesh.normal(e.right);
@@ -334,20 +362,22 @@ private:
         }
         const auto by_x = [](const Side &s, const Side &u) { return std::tie(s.mid[0], s.a, s.b) < std::tie(u.mid[0], u.a, u.b); };
         std::sort(row.begin(), row.end(), by_x);
+        // by cells as wide as the gap, three in a row along x being next to one another
+        using Cell = std::array<std::int32_t, 3>;
+        std::vector<std::pair<Cell, int>> cells;
+        for (std::size_t i = 0; i < row.size(); ++i) {
+            const auto in = [&](int axis) { return static_cast<std::int32_t>(std::floor(row[i].mid[axis] / gap)); };
+            cells.push_back({{in(2), in(1), in(0)}, static_cast<int>(i)});
+        }
+        std::sort(cells.begin(), cells.end());
         std::vector<Match> found;
-        for (std::size_t i = 0; i < row.size(); ++i)
-            for (std::size_t j = i + 1; j < row.size() && row[j].mid[0] - row[i].mid[0] <= gap; ++j) {
-                const Side &s = row[i], &u = row[j];
-                const Point d = u.mid - s.mid;
-                // each lies on the outer side of the other
-                if (dot(d, d) > gap * gap || dot(s.normal, u.normal) > by.facing || dot(d, s.normal) <= 0 || dot(d, u.normal) >= 0)
-                    continue;
-                const auto a = at.find(s.a), b = at.find(s.b), e = at.find(u.a), f = at.find(u.b);
-                if (a == at.end() || b == at.end() || e == at.end() || f == at.end())
-                    continue;
-                const auto far = [](const auto &p, const auto &q) { return norm(p->second - q->second); };
-                const double ends = std::min(far(a, e) + far(b, f), far(a, f) + far(b, e));
-                found.push_back({norm(d) + ends, s.a, s.b, u.a, u.b});
+        for (const auto &[cell, i] : cells)
+            for (int k = 0; k < 9; ++k) {
+                const Cell low{cell[0] + k / 3 - 1, cell[1] + k % 3 - 1, cell[2] - 1};
+                for (auto it = std::lower_bound(cells.begin(), cells.end(), std::pair(low, 0));
+                     it != cells.end() && it->first[0] == low[0] && it->first[1] == low[1] && it->first[2] <= low[2] + 2; ++it)
+                    if (it->second > i)
+                        match(row[i], row[it->second], found);
             }
         const auto by_far = [](const Match &p, const Match &q) {
             return std::tie(p.far, p.a, p.b, p.e, p.f) < std::tie(q.far, q.a, q.b, q.e, q.f);

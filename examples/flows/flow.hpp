@@ -84,11 +84,12 @@ public:
     double volume = 0, first_volume = 0, least_ever = 180;
     Merged merged;
 
-    Run(const Words &words, const Shape &shape, double h)
-        : h(h), improving{h}, smoothing(words("smooth", 0.2)), folder(words.folder), log_kept(words("log", 0) != 0)
+    Run(const Words &words, const Shape &shape, double h) : Run(words, shape, h, Improving{h}) {}
+    Run(const Words &words, const Shape &shape, double h, const Improving &by)
+        : h(h), improving(by), smoothing(words("smooth", 0.2)), folder(words.folder), log_kept(words("log", 0) != 0)
     {
         improving.allow_topology_changes = words("part", 0) != 0;
-        merging = words("merge", 0);
+        merging = words("merge", 0), plain = words("plain", 0) != 0;
         csv = std::fopen((folder + "/steps.csv").c_str(), "w");
         if (!csv)
             throw std::runtime_error(folder + ": there is no such folder");
@@ -118,7 +119,10 @@ public:
         const topo_way way = tracker->step();
         ++ways[way.how], spent[1] = until();
         const Improved before = improver->told;
-        improver->improve();
+        if (plain)
+            pass();
+        else
+            improver->improve();
         refused = refusals(improver->told) - refusals(before), spent[2] = until();
         if (merging > 0)
             join();
@@ -148,11 +152,11 @@ public:
             "components %ld, Euler number %ld, faces %zu\n"
             "least angle ever %.2f, steps with one below 5 degrees %ld, steps with folds %ld\n"
             "splits %ld and %ld of caps, collapses %ld, flips %ld; refused %ld, %ld, %ld, %ld; held back %ld, %ld; necks %ld\n"
-            "merged: seeds %ld, folds closed %ld, pinches %ld; taken back: refused %ld, crowded %ld; left: turning %ld\n%s",
+            "merged: seeds %ld, folds closed %ld, filled %ld, pinches %ld; taken back: refused %ld, crowded %ld; left: turning %ld\n%s",
             steps, ways[0], ways[1], ways[2], ways[3], ways[4], volume, first_volume, 100 * (volume / first_volume - 1), components, euler,
             mesh.faces.size(), least_ever, least_steps, fold_steps, i.splits, i.caps, i.collapses, i.flips, i.splits_refused,
             i.caps_refused, i.collapses_refused, i.flips_refused, i.collapses_held, i.flips_held, i.necks, merged.seeds,
-            merged.folds_closed, merged.pinches, merged.undone_refused, merged.undone_crowded, merged.turning, more);
+            merged.folds_closed, merged.filled, merged.pinches, merged.undone_refused, merged.undone_crowded, merged.turning, more);
         std::fputs(text, stdout);
         std::ofstream(folder + "/summary.txt") << text;
     }
@@ -160,6 +164,7 @@ public:
 private:
     const std::string folder;
     const bool log_kept;
+    bool plain = false; // whether the tracker's own passes, by lengths alone, stand for the guarded ones
     std::FILE *csv = nullptr;
     std::ofstream log;
     std::size_t log_size = 0, chapter = 0;
@@ -216,12 +221,19 @@ private:
         for (const Corners &f : mesh.faces)
             out << "f " << f[0] + 1 << " " << f[1] + 1 << " " << f[2] + 1 << "\n";
     }
+    void pass()
+    {
+        const topo_edits split = tracker->split(1.5 * h), collapse = tracker->collapse(0.5 * h), flip = tracker->flip();
+        Improved &told = improver->told;
+        told.splits += split.done, told.splits_refused += split.refused, told.collapses += collapse.done;
+        told.collapses_refused += collapse.refused, told.flips += flip.done, told.flips_refused += flip.refused;
+    }
     void join()
     {
         Merging by{h};
         by.merge_proximity = merging;
         const Merged m = merge(*tracker, by);
-        merged.seeds += m.seeds, merged.folds_closed += m.folds_closed, merged.pinches += m.pinches, merged.turning += m.turning;
+        merged.seeds += m.seeds, merged.folds_closed += m.folds_closed, merged.pinches += m.pinches, merged.turning += m.turning, merged.filled += m.filled;
         merged.undone_refused += m.undone_refused, merged.undone_crowded += m.undone_crowded;
         refused += m.undone_refused;
     }
