@@ -176,6 +176,7 @@ def manual_page(prefix, commands):
     status, text, err = ran("man", "--warnings", "-l", page, env={**os.environ, "MANWIDTH": "100", "LC_ALL": "C.UTF-8", "MAN_KEEP_STDERR": "1"})
     titles = [line.strip() for line in text.split("\n") if re.fullmatch(r" {3}\w+", line)]
     told(f"the manual page is shown with no warning {err}".strip(), status == 0 and not err and "EXIT STATUS" in text)
+    told("the manual page has files and examples", all(f"\n{title}\n" in text for title in ("FILES", "EXAMPLES")) and "> log.txt" in text)
     told("the manual page has each command", titles == commands and "self-intersections" in text)
 
 

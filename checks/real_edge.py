@@ -103,6 +103,8 @@ SEVEN = MESH.replace("v 4 0 0", "v 4.1234567 0 0")
 NOUGHTS = MESH.replace("v 4 0 0", "v 4.2500000 0 0")
 COLOURED = "# 0.12345678\n" + MESH.replace("v 4 0 0", "v 4 0 0 0.12345678 0.5 1")
 MOVED = "v 1 2 3\nv 5 2 3\nv 1 6 3\nv 1 2 7\n" + MESH[MESH.index("f") :]
+OFF = "OFF\n4 4 0\n" + "".join(f"{' '.join(line.split()[1:])}\n" for line in MESH.splitlines() if line[0] == "v") + "3 0 2 1\n3 0 1 3\n3 1 2 3\n3 0 3 2\n"
+CRLF = lambda text: text.replace("\n", "\r\n")
 FILES = ["track", "m", "s", "t"]
 NUMBERS = ["try", "1", "0"]
 # the sentences: what is asked, its words, what standard input has (through a pipe), its status, what has to be told on standard error,
@@ -187,6 +189,71 @@ TOLD = [
 ]
 
 
+# the same of links, and of a log that is sent to a file by `>` as a shell does it: the file is emptied, or made, before the program begins. What stands
+# under a name is a text, a folder (None), or a link to a name ("link"), a second name of a file ("hard") or a pipe ("pipe"); behind a case None says that
+# there is no file
+LINKS = [
+    ("a log sent to a name that the job stores is lost, and the mesh is whole", ["track", "m", "s", "x", ">", "x-000001.obj"], None, 0, [], ["warning", "x-"],
+     {"m": MESH, "s": STEPS}, {"x-000000.obj": MESH, "x-000001.obj": MOVED}),
+    ("a log sent to the name of the first mesh", ["track", "m", "s", "x", ">", "x-000000.obj"], None, 0, [], ["warning", "x-"],
+     {"m": MESH, "s": STEPS}, {"x-000000.obj": MESH, "x-000001.obj": MOVED}),
+    ("a log added to a name that the job stores is lost, with what stood there", ["track", "m", "s", "x", ">>", "x-000001.obj"], None, 0, [], ["warning", "x-"],
+     {"m": MESH, "s": STEPS, "x-000001.obj": "mine"}, {"x-000001.obj": MOVED}),
+    ("what a replay tells, sent to a name that it stores", ["replay", "m", "l", "x", ">", "x-000001.obj"], None, 0, [], ["warning", "x-"],
+     {"m": MESH, "l": LOG}, {"x-000001.obj": MOVED}),
+    ("a log sent onto the mesh file, which is emptied before", ["track", "m", "s", "t", ">", "m"], None, 6, ['m, line 1: "topo log 2"'], [],
+     {"m": MESH, "s": STEPS}, {"m": "topo log 2\nrefused mesh 1 unknown\n", "t-000000.obj": None}),
+    ("a log sent onto the steps", ["track", "m", "s", "t", ">", "s"], None, 9, ['s, line 1: "topo log 2"'], [],
+     {"m": MESH, "s": STEPS}, {"s": "topo log 2\nrefused steps 1 unknown\n", "t-000000.obj": None}),
+    ("a log that is measured onto itself", ["measure", "m", "l", ">", "l"], None, 13, ["l, line 1"], [], {"m": MESH, "l": LOG}, {}),
+    ("a log sent where a link to a name leads that the job stores", ["track", "m", "s", "x", ">", "log"], None, 0, [], ["warning"],
+     {"m": MESH, "s": STEPS, "x-000001.obj": "", "log": ("link", "x-000001.obj")}, {"log": ("link", "x-000001.obj"), "x-000001.obj": MOVED}),
+    ("a link to a file: the file is replaced and the link stays", ["track", "m", "s", "t"], None, 0, [], ["warning"],
+     {"m": MESH, "s": STEPS, "f": "old", "t-000000.obj": ("link", "f")}, {"t-000000.obj": ("link", "f"), "f": MESH}),
+    ("a link to a link to a file in another folder", ["track", "m", "s", "t"], None, 0, [], ["warning"],
+     {"m": MESH, "s": STEPS, "d/": None, "d/f": "old", "g": ("link", "d/f"), "t-000000.obj": ("link", "g")},
+     {"t-000000.obj": ("link", "g"), "g": ("link", "d/f"), "d/f": MESH}),
+    ("a link that leads to no file is replaced itself", ["track", "m", "s", "t"], None, 0, [], ["warning"],
+     {"m": MESH, "s": STEPS, "t-000000.obj": ("link", "none")}, {"t-000000.obj": MESH, "none": None}),
+    ("a link that leads into no folder is replaced itself", ["convert", "m.obj", "c.off"], None, 0, [], ["warning"],
+     {"m.obj": MESH, "c.off": ("link", "none/c.off")}, {"c.off": OFF, "none": None}),
+    ("a link that leads to itself", ["track", "m", "s", "t"], None, 3, ["t-000000.obj could not be stored"], [],
+     {"m": MESH, "s": STEPS, "t-000000.obj": ("link", "t-000000.obj")}, {"t-000000.obj": ("link", "t-000000.obj")}),
+    ("a link to a folder", ["track", "m", "s", "t"], None, 3, ["t-000000.obj could not be stored"], [],
+     {"m": MESH, "s": STEPS, "d/": None, "t-000000.obj": ("link", "d")}, {"t-000000.obj": ("link", "d")}),
+    ("a link to a pipe", ["track", "m", "s", "t"], None, 3, ["t-000000.obj could not be stored", "it is a pipe"], [],
+     {"m": MESH, "s": STEPS, "p": ("pipe",), "t-000000.obj": ("link", "p")}, {"t-000000.obj": ("link", "p")}),
+    ("a link to a device: it is written to", ["track", "m", "s", "t"], None, 0, [], ["warning"],
+     {"m": MESH, "s": STEPS, "t-000000.obj": ("link", "/dev/null")}, {"t-000000.obj": ("link", "/dev/null"), "t-000001.obj": MOVED}),
+    ("two links to one file: the mesh stored last stays", ["track", "m", "s", "t"], None, 0, [], ["warning"],
+     {"m": MESH, "s": STEPS, "f": "old", "t-000000.obj": ("link", "f"), "t-000001.obj": ("link", "f")}, {"f": MOVED}),
+    ("a second name of a file keeps what it had", ["track", "m", "s", "t"], None, 0, [], ["warning"],
+     {"m": MESH, "s": STEPS, "f": "old", "t-000000.obj": ("hard", "f")}, {"t-000000.obj": MESH, "f": "old"}),
+    ("a second name of the mesh file keeps what it had, and nothing is said", ["track", "m", "s", "t"], None, 0, [], ["warning"],
+     {"m": COMMENTED, "s": STEPS, "t-000000.obj": ("hard", "m")}, {"t-000000.obj": MESH, "m": COMMENTED}),
+    ("a link to the mesh file", ["track", "m", "s", "t"], None, 0, ["t-000000.obj was read and is overwritten: as it was, it is kept as t-000000.obj.before"], [],
+     {"m": COMMENTED, "s": STEPS, "t-000000.obj": ("link", "m")}, {"t-000000.obj": ("link", "m"), "m": MESH, "t-000000.obj.before": COMMENTED}),
+    ("a mesh, steps and a folder by links", ["track", "k", "l", "e/t"], None, 0, [], ["warning"],
+     {"m": MESH, "s": STEPS, "d/": None, "k": ("link", "m"), "l": ("link", "s"), "e": ("link", "d")}, {"d/t-000001.obj": MOVED, "k": ("link", "m")}),
+    ("a mesh by a link that leads to no file", ["track", "k", "s", "t"], None, 11, ["there is no file k"], [], {"s": STEPS, "k": ("link", "none")}, {"t-000000.obj": None}),
+    ("an ending in capitals to be tracked", ["track", "M.OBJ", "s", "t"], None, 0, [], ["warning"], {"M.OBJ": MESH, "s": STEPS}, {"t-000001.obj": MOVED}),
+    ("an ending in capitals to be looked at", ["check", "M.OBJ"], None, 2, ['"M.OBJ" ends neither in .obj nor in .off nor in .ply'], [], {"M.OBJ": MESH}, {}),
+    ("an ending in capitals to be converted to", ["convert", "m.obj", "M.OFF"], None, 2, ['"M.OFF" ends neither in .obj'], [], {"m.obj": MESH}, {"M.OFF": None}),
+    ("lines that end with CRLF", ["track", "m", "s", "t"], None, 0, [], ["warning"], {"m": CRLF(MESH), "s": CRLF(STEPS)}, {"t-000000.obj": MESH, "t-000001.obj": MOVED}),
+    ("a mesh whose lines end with CRLF onto itself", ["convert", "m.obj", "m.obj"], None, 0, ["it is kept as m.obj.before"], [],
+     {"m.obj": CRLF(MESH)}, {"m.obj": MESH, "m.obj.before": CRLF(MESH)}),
+    ("a byte NUL in a comment", ["track", "m", "s", "t"], None, 0, [], ["warning"], {"m": "# \0\n" + MESH, "s": "# \0\n" + STEPS}, {"t-000001.obj": MOVED}),
+    ("a byte NUL in a line of the mesh", ["track", "m", "s", "t"], None, 6, ['m, line 2: "\\0v 4 0 0"'], ["\0"], {"m": MESH.replace("v 4", "\0v 4"), "s": STEPS}, {"t-000000.obj": None}),
+    ("a byte NUL in a number", ["track", "m", "s", "t"], None, 6, ["m, line 2"], ["\0"], {"m": MESH.replace("v 4", "v 4\0"), "s": STEPS}, {"t-000000.obj": None}),
+    ("a mesh with bytes NUL at its end, as of a file that was cut off", ["check", "m.obj"], None, 6, ["m.obj, line 9"], ["\0"], {"m.obj": MESH + 4 * "\0"}, {}),
+    ("a byte NUL in the steps", ["track", "m", "s", "t"], None, 9, ["s, line 1"], ["\0"], {"m": MESH, "s": STEPS.replace("3", "3\0")}, {"t-000000.obj": None}),
+    ("a byte NUL in a log", ["measure", "m", "l"], None, 12, ["l, line 2"], ["\0"], {"m": MESH, "l": LOG.replace("4 4", "4 4\0", 1)}, {}),
+    ("a byte NUL in a proof", ["verify", "m", "l", "p"], None, 14, ["p, line 1"], ["\0"], {"m": MESH, "l": LOG, "p": PROVED.replace("1", "1\0", 1)}, {}),
+    ("a pipe that nobody writes, in place of a mesh to be stored", ["convert", "m.obj", "p.off"], None, 3, ["p.off could not be stored", "it is a pipe"], [],
+     {"m.obj": MESH, "p.off": ("pipe",)}, {"p.off": ("pipe",)}),
+]
+
+
 def hash_of(name):
     """The hash in the names of the files in which a store is made."""
     value = 0xCBF29CE484222325
@@ -195,33 +262,62 @@ def hash_of(name):
     return f"{value:016x}"
 
 
+def put(path, what):
+    """Makes what stands under a name, as LINKS says it; whoever runs the program may write it."""
+    if what is None:
+        os.mkdir(path)
+    elif isinstance(what, str):
+        with open(path, "w", newline="") as out:
+            out.write(what)
+    elif what[0] == "link":
+        os.symlink(what[1], path)
+        return
+    elif what[0] == "hard":
+        os.link(os.path.join(os.path.dirname(path), what[1]), path)
+    else:
+        os.mkfifo(path)
+    os.chmod(path, 0o777 if what is None else 0o666)
+
+
+def standing(path):
+    """What stands under a name, as LINKS says it behind a case."""
+    if os.path.islink(path):
+        return "link", os.readlink(path)
+    if os.path.isfile(path):
+        with open(path, newline="") as it:
+            return it.read()
+    return ("pipe",) if os.path.exists(path) and not os.path.isdir(path) else None
+
+
 def said_as_due(program, it):
-    """Whether a sentence of a case of TOLD is as it should be; else what is wrong."""
+    """Whether a sentence of a case of TOLD or LINKS is as it should be, and what stands behind it; else what is wrong."""
     _, words, given, status, due, undue, before, behind = it
     with tempfile.TemporaryDirectory() as folder:
         os.chmod(folder, 0o777)
-        for name, text in before.items():
-            if text is None:
-                os.mkdir(os.path.join(folder, name))
-                os.chmod(os.path.join(folder, name), 0o777)
-            else:
-                with open(os.path.join(folder, name), "w") as out:
-                    out.write(text)
-                os.chmod(os.path.join(folder, name), 0o666)
+        for name, what in before.items():
+            put(os.path.join(folder, name), what)
         # a pipe that whoever runs the program may open by the name of standard input
         reading, writing = os.pipe()
         os.fchmod(reading, 0o666)
         os.write(writing, (given or "").encode())
         os.close(writing)
-        ended = subprocess.run([program, *words], cwd=folder, stdin=reading, capture_output=True, timeout=60, **NOBODY)
+        out = subprocess.PIPE
+        if words[-2] in (">", ">>"):
+            out = open(os.path.join(folder, words[-1]), {">": "wb", ">>": "ab"}[words[-2]])
+            os.fchmod(out.fileno(), 0o666)
+            words = words[:-2]
+        ended = subprocess.run([program, *words], cwd=folder, stdin=reading, stdout=out, stderr=subprocess.PIPE, timeout=60, **NOBODY)
         os.close(reading)
+        if out != subprocess.PIPE:
+            out.close()
         told = ended.stderr.decode(errors="replace")
         if ended.returncode != status or not all(text in told for text in due) or any(text in told for text in undue):
             return f"status {ended.returncode}, {status} was due; {told!r}"
-        for name, text in behind.items():
-            at = os.path.join(folder, name)
-            if (open(at).read() if os.path.isfile(at) else None) != text:
+        for name, what in behind.items():
+            if standing(os.path.join(folder, name)) != what:
                 return f"{name} is another file; {told!r}"
+        if parts(folder):
+            return f"{parts(folder)} are left"
     return None
 
 
@@ -309,6 +405,8 @@ def main():
         if device:
             at_end.callback(subprocess.run, ["umount", at("device")], check=True)
         os.symlink("/dev/full", at("full-000000.obj"))
+        os.symlink("locked-000000.obj", at("open/through-000000.obj"))
+        os.symlink("../shut/own-000000.obj", at("open/into-000000.obj"))
         os.symlink("/dev/full", at("open/late-000001.obj"))
         cases = [
             # what is asked, its words, where standard output goes, its status, the last line of the log where it tells one, and
@@ -396,6 +494,10 @@ def main():
              {"shut/own-000000.obj": COMMENTED}),
             ("the input's own name, which may not be written", ["track", "open/locked-000000.obj", "steps.txt", "open/locked"], None, 3, "mesh 0 4 4",
              {"open/locked-000000.obj": COMMENTED}),
+            ("a link to a file that may not be written", ["track", "mesh.obj", "steps.txt", "open/through"], None, 3, "mesh 0 4 4",
+             {"open/locked-000000.obj": COMMENTED}),
+            ("a link to a file in a folder that may not be written", ["track", "mesh.obj", "steps.txt", "open/into"], None, 3, "mesh 0 4 4",
+             {"shut/own-000000.obj": COMMENTED}),
             ("the input's own name, which is a link", ["track", "open/link-000000.obj", "steps.txt", "open/link"], None, 0, "end",
              {"open/behind.obj": MESH}),
             ("the input's own name on a full device", ["track", "device/t-000000.obj", "steps.txt", "device/t"], None, 3, "mesh 0 4 4",
@@ -449,7 +551,7 @@ def main():
         apart = pieces == LOG.splitlines(keepends=True)
         print(("ok     " if apart else "FAILED ") + "a pipe that keeps calls apart: each line of the log is written by one" + ("" if apart else f"; {pieces!r}"))
         failed += not apart
-        further = [(it[0], said_as_due(at("topo"), it)) for it in TOLD]
+        further = [(it[0], said_as_due(at("topo"), it)) for it in TOLD + LINKS]
         further.append(("files that other runs left or are writing", left_behind(at("topo"))))
         further.append(("a file past the limit of the system", past_the_limit(at("topo"))))
         for what, wrong in further:

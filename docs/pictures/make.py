@@ -25,18 +25,18 @@ text{fill:#1f2328;font-family:system-ui,-apple-system,"Segoe UI",Roboto,"DejaVu 
 .log{font-family:ui-monospace,Menlo,Consolas,"DejaVu Sans Mono",monospace;font-size:12px;white-space:pre}
 .id{font-weight:600;paint-order:stroke;stroke:#ffffff;stroke-width:3px;stroke-linejoin:round}
 .arrow{stroke:#b3261e;stroke-width:1.6;fill:none}.tip{fill:#b3261e}.edge{stroke:#b3261e;stroke-width:2.6;stroke-linecap:round}
-.curve{stroke:#2f5f9e;stroke-width:2;fill:none}.second{stroke:#b06a12;stroke-width:2;fill:none}
+.curve{stroke:#2f5f9e;stroke-width:2;fill:none}.second{stroke:#b06a12;stroke-width:2;fill:none}.of-curve{fill:#2f5f9e}.of-second{fill:#b06a12}
 .way{stroke:#59636e;stroke-width:1.3;fill:none}.end{fill:#59636e}
 .f{stroke:#223044;stroke-width:.6;stroke-linejoin:round}
 """
 DARK = """.back{fill:#0d1117}.rule{stroke:#3d444d}.box{fill:#1b222b;stroke:#4a5561}text{fill:#e6edf3}.soft{fill:#9aa4af}
-.id{stroke:#0d1117}.arrow,.edge{stroke:#ff6b60}.tip{fill:#ff6b60}.curve{stroke:#7fb0f0}.second{stroke:#e8a24a}.way{stroke:#9aa4af}.end{fill:#9aa4af}
+.id{stroke:#0d1117}.arrow,.edge{stroke:#ff6b60}.tip{fill:#ff6b60}.curve{stroke:#7fb0f0}.second{stroke:#e8a24a}.of-curve{fill:#7fb0f0}.of-second{fill:#e8a24a}.way{stroke:#9aa4af}.end{fill:#9aa4af}
 .f{stroke:#0a1018}
 """
 # the darkest and the lightest colour of a body's faces
 COLOURS = {"a": ((52, 84, 128), (205, 224, 246)), "b": ((160, 92, 24), (255, 222, 168)), "c": ((40, 110, 92), (190, 235, 214))}
-WIDTH_OF = {"title": 9.0, "log": 7.4, "id": 8.6, "soft": 7.4, "": 7.4}
-HEIGHT_OF = {"title": 15, "log": 12, "id": 13, "soft": 13, "": 13}
+WIDTH_OF = {"title": 9.0, "log": 7.4, "id": 8.6, "soft": 7.4, "": 7.4, "of-curve": 7.4, "of-second": 7.4}
+HEIGHT_OF = {"title": 15, "log": 12, "id": 13, "soft": 13, "": 13, "of-curve": 13, "of-second": 13}
 
 
 # -- numbers and vectors
@@ -510,6 +510,7 @@ def motion(name, title, mesh, steps, log, meshes, told, about):
     foot = math.ceil(max(72 + frames[0].height, 62 + 17 * len(lines))) + 14
     picture = Picture(name, 1090, foot, about)
     picture.text(24, 32, title, "title")
+    picture.text(24, foot - 12, "hit A B F: the edge from A to B, and face F; face 1 has the corners 1, 2 and 3", "soft")
     for k, (when, frame) in enumerate(zip(("before", "as requested", f"as taken; arrows {TAIL} times as long"), frames)):
         picture.text(160 + 300 * k, 62, when, "soft", "middle")
         picture.mesh(frame, states[k], by_body(states[k]))
@@ -517,7 +518,7 @@ def motion(name, title, mesh, steps, log, meshes, told, about):
             end = states[k].points[v]
             picture.arrow(frame.place(minus(end, times(by, TAIL if k == 2 else 1)))[:2], frame.place(end)[:2])
         if k == 0:
-            ids(picture, frame, start, {1: (0, 15), 2: (0, -13), 3: (-4, -13), 5: (-12, 2)})
+            ids(picture, frame, start, {1: (0, 15), 2: (0, -13), 3: (-4, -13), 4: (-12, 2), 5: (-12, 2), 6: (0, 16), 7: (10, 8), 8: (4, -12)})
     picture.line((916, 52), (916, foot - 18), "rule")
     picture.lines(930, 66, lines)
     return picture
@@ -713,9 +714,9 @@ def growth_rows():
 def growth(program):
     """Time against faces, from the table of docs/SPEED.md."""
     rows = growth_rows()
-    picture = Picture("growth.svg", 720, 420, "Time against faces, at rest and with one step")
+    picture = Picture("growth.svg", 720, 434, "Time against faces, at rest and with one step")
     picture.text(24, 32, "A ring read, tested and saved; and the same with one step of all its vertices", "title")
-    picture.text(24, 52, "processor seconds of the whole process, against faces", "soft")
+    picture.text(24, 52, "processor seconds of the whole process; each point is a run of docs/SPEED.md", "soft")
     left, right, top, bottom = 84, 560, 80, 370
     most_faces, most_seconds = rows[-1][0], max(max(row[1:]) for row in rows)
     tick = next(it for it in (0.05, 0.1, 0.2, 0.5, 1.0, 2.0, 5.0) if most_seconds / it <= 6)
@@ -732,11 +733,14 @@ def growth(program):
         x = at(faces, 0)[0]
         picture.line((x, bottom), (x, bottom + 5), "rule")
         picture.text(x, bottom + 22, f"{faces:,}", "soft", "middle")
+    picture.text((left + right) / 2, bottom + 46, "faces", "soft", "middle")
     for column, words, kind in ((1, "at rest", "curve"), (2, "with one step", "second")):
         places = [at(row[0], row[column]) for row in rows]
         for p, q in zip(places, places[1:]):
             picture.line(p, q, kind)
-        picture.text(places[-1][0] + 12, places[-1][1] + 4, words)
+        for p in places:
+            picture.parts.append(f'<circle class="of-{kind}" cx="{number(p[0])}" cy="{number(p[1])}" r="3"/>')
+        picture.text(places[-1][0] + 12, places[-1][1] + 4, words, f"of-{kind}")
     return picture
 
 

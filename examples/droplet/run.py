@@ -7,9 +7,10 @@ Makes two closed surfaces on the integer grid, writes `mesh.obj` and `steps.txt`
 repository where PROGRAM is left out) run them, and writes the log, `log.txt`, the stored meshes, `drop-000000.obj` and so on, four pictures and a
 plot. It prints how many lines of each kind the log has, and what `measure` says of it. README.md says what can be seen.
 
-Each of the 40 time steps asks of each vertex dt times a velocity at its place, rounded to whole units of the grid. Behind some steps come passes. A
-pass ends vertices and makes others, so which vertices there are to shift is known only when the program has run so far: the script writes the
-steps up to the next pass, runs the program, has `examples/replay.py` replay the log, and goes on from the mesh that comes of it.
+Each of the 40 time steps requests of each vertex dt times a velocity at its place, and later a smoothing, rounded to whole units of the grid.
+After some steps come passes. A pass ends vertices and makes others, so which vertices there are to shift is known only when the program has run
+so far: the script writes the steps up to the next pass, runs the program, has `examples/replay.py` replay the log, and goes on from the mesh
+that comes of it.
 """
 
 import collections
@@ -42,8 +43,10 @@ LINES, LEVELS = range(-1800, 1801, 200), (0, -200, -400)
 STEPS, DT = 40, 0.25
 # the fall, in units of the grid and of time; when it ends; and how fast, and to which height, the pool draws the ball in
 GRAVITY, CONTACT, RATE, DEPTH = 160, 12, 0.32, 700
-# behind which steps which passes come; the mesh is saved behind each fifth step
-PASSES = {12: ["zip 60", "collapse 100", "pinch"], **{step: ["split 300", "collapse 100", "flip", "pinch"] for step in (15, 25, 32, 40)}}
+# how far out the pool draws; after which step the surface is smoothed, and which part of the way to the mean a vertex goes then
+REACH, SMOOTHED, TENSION = 1750, 25, 0.3
+# after which steps which passes come; the mesh is saved after each fifth step
+PASSES = {12: ["zip 60", "collapse 100", "pinch"], **{step: ["split 300", "collapse 100", "flip", "pinch"] for step in (15, 25, 28, 31, 34, 37, 40)}}
 
 
 # -- the mesh
@@ -121,19 +124,42 @@ def velocity(step, point):
     if z < -100:
         return (0, 0, 0)
     # the pool draws the ball in: what is low goes outwards and what is high inwards and down, so that the volume stays
-    far = math.sqrt(x * x + y * y)
-    share = min(1, max(0, (1750 - far) / 1100))
     z = max(z, 0)
     fall = RATE * math.exp(-z / DEPTH)
-    out = share * fall * (1 - z / DEPTH) / 2
-    return (out * x, out * y, -share * fall * z)
+    out = share(point) * fall * (1 - z / DEPTH) / 2
+    return (out * x, out * y, -share(point) * fall * z)
 
 
-def shifts(step, points):
-    """The lines that ask of each vertex what the velocity says, and the points to which that leads."""
+def share(point):
+    """Which part of the flow there is at a point: all of it in the middle, and none at the sides and at the bottom."""
+    x, y, z = point
+    return min(1, max(0, (REACH - math.sqrt(x * x + y * y)) / 1100)) if z >= -100 else 0
+
+
+def smoothing(points, faces):
+    """What smooths the surface, as its tension would: each vertex goes a part of its way to the mean of its neighbours, along the normal. What that
+    takes of the volume is given back, evenly."""
+    normal, way, count = ({v: (0, 0, 0) for v in points}, {v: (0, 0, 0) for v in points}, dict.fromkeys(points, 0))
+    for face in faces:
+        a, b, c = (points[v] for v in face)
+        across = draw.cross(draw.minus(b, a), draw.minus(c, a))
+        for k, v in enumerate(face):
+            normal[v] = draw.plus(normal[v], across)
+            way[v] = draw.plus(way[v], draw.minus(points[face[k - 1]], points[v]))
+            count[v] += 1
+    part = {v: share(points[v]) for v in points if count[v]}
+    along, area = {v: draw.unit(normal[v]) for v in part}, {v: math.sqrt(draw.dot(normal[v], normal[v])) for v in part}
+    by = {v: TENSION * min(1, 4 * part[v]) * draw.dot(way[v], along[v]) / count[v] for v in part}
+    back = sum(area[v] * by[v] for v in part) / sum(area[v] * part[v] for v in part)
+    return {v: draw.times(along[v], by[v] - back * part[v]) for v in part}
+
+
+def shifts(step, points, faces):
+    """The lines that ask of each vertex what the velocity and the smoothing say, and the points to which that leads."""
     lines, led = [], {}
+    smooth = smoothing(points, faces) if step > SMOOTHED else {}
     for v, point in points.items():
-        by = tuple(round(DT * it) for it in velocity(step, point))
+        by = tuple(round(DT * it + more) for it, more in zip(velocity(step, point), smooth.get(v, (0, 0, 0))))
         led[v] = draw.plus(point, by)
         if any(by):
             lines.append("shift {} {} {} {}".format(v, *by))
@@ -155,7 +181,7 @@ def run(program, *words):
 
 
 def tracked(program, lines):
-    """The log of the steps so far, and the mesh behind it, with its ids."""
+    """The log of the steps so far, and the mesh after it, with its ids."""
     write("steps.txt", "\n".join(lines) + "\n")
     log = run(program, "track", "mesh.obj", "steps.txt", "drop")
     mesh = replayer.read_mesh(replayer.read(os.path.join(HERE, "mesh.obj")), 0)
@@ -170,13 +196,13 @@ def job(program):
     write("mesh.obj", draw.text_of_mesh(points + more, faces + [tuple(v + len(points) for v in face) for face in others]))
     # nothing moves the sides of the pool and its bottom
     lines = [f"solid {v}" for v, (x, y, z) in enumerate(points, 1) if max(abs(x), abs(y)) == LINES[-1] or z == LEVELS[-1]]
-    now = dict(enumerate(points + more, 1))
+    now, sides = dict(enumerate(points + more, 1)), faces + [tuple(v + len(points) for v in face) for face in others]
     for step in range(1, STEPS + 1):
-        asked, now = shifts(step, now)
+        asked, now = shifts(step, now, sides)
         lines += [f"# time step {step}", *asked, "step", *PASSES.get(step, []), *(["save"] if step % 5 == 0 else [])]
         if step in PASSES:
             log, mesh = tracked(program, lines)
-            now = mesh.points
+            now, sides = mesh.points, list(mesh.faces.values())
     return log
 
 
@@ -195,7 +221,7 @@ def frames(meshes):
     camera = draw.Camera((5, -9, 4))
     for number, saved in enumerate((0, 3, 5, 8), 1):
         frame = draw.Frame(camera, [meshes[0]], 10, 44, 620, 520, 10)
-        when = f"behind {5 * saved} steps" if saved else "before the first step"
+        when = f"after {5 * saved} steps" if saved else "before the first step"
         picture = draw.Picture(f"frame-{number}.svg", 640, math.ceil(54 + frame.height), f"The ball and the pool {when}")
         picture.text(20, 30, when, "title")
         picture.text(620, 30, f"{len(meshes[saved].faces)} faces", "soft", "end")

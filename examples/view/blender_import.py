@@ -1,4 +1,4 @@
-"""Imports the meshes PREFIX-000000.obj .. into Blender, one a frame.
+"""Imports the meshes PREFIX-000000.obj .. into Blender (3.2 or later), one a frame, in the place of the cube with which it begins.
 
     blender --python examples/view/blender_import.py -- PREFIX
 """
@@ -8,6 +8,9 @@ import sys
 import bpy
 
 names = sorted(glob.glob(glob.escape(sys.argv[-1]) + "-" + 6 * "[0-9]" + ".obj"))
+print(f"blender_import: {len(names)} meshes")
+for cube in [it for it in bpy.data.objects if names and it.name == "Cube"]:
+    bpy.data.objects.remove(cube)
 for frame, name in enumerate(names):
     bpy.ops.wm.obj_import(filepath=name, forward_axis="Y", up_axis="Z")
     for shape in bpy.context.selected_objects:
@@ -15,4 +18,4 @@ for frame, name in enumerate(names):
             shape.hide_viewport = shape.hide_render = when != frame
             shape.keyframe_insert("hide_viewport", frame=when)
             shape.keyframe_insert("hide_render", frame=when)
-bpy.context.scene.frame_start, bpy.context.scene.frame_end = 0, len(names) - 1
+bpy.context.scene.frame_start, bpy.context.scene.frame_end = 0, max(0, len(names) - 1)

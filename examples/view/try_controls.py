@@ -3,8 +3,8 @@
 
     examples/view/try_controls.py PAGE [--driver PROGRAM]
 
-The page needs two meshes or more. What is tried: the slider, the keys, play and stop, edges, faces, a drag and the wheel, and that the surface has
-a colour; each by what the page then says or draws. Prints a line for each, and ends with status 1 where one fails. Needs `chromedriver`.
+The page needs two meshes or more. What is tried: the slider, the keys, play and stop, edges, faces, a drag and the wheel, a narrow window, and that
+the surface has a colour; each by what the page then says or draws. Prints a line for each, and ends with status 1 where one fails. Needs `chromedriver`.
 """
 import argparse
 import json
@@ -135,7 +135,12 @@ def tried(browser, page):
     told("with them it is as before", drawn() == first)
     browser.click("faces")
     wire = drawn()
-    told("without faces the edges are left alone", 0 < wire["dark"] and wire["coloured"] < first["coloured"] / 2)
+    told("without faces there is less", 0 < wire["dark"] and wire["coloured"] < 0.9 * first["coloured"])
+    browser.click("edges")
+    none = drawn()
+    told("without faces and edges there is nothing", none["coloured"] == none["dark"] == 0)
+    browser.click("edges")
+    told("with edges it is the edges that were left", drawn() == wire)
     browser.click("faces")
     drag(browser, False)
     turned = drawn()
@@ -144,6 +149,13 @@ def tried(browser, page):
     told("with shift it moves it", drawn()["sum"] != turned["sum"] and browser.run("return eye.x") != 0)
     browser.act({"type": "wheel", "id": "wheel", "actions": [{"type": "scroll", "x": 300, "y": 200, "deltaX": 0, "deltaY": -300}]})
     told("the wheel goes nearer", browser.run("return eye.far") < 3)
+    browser.key("f")
+    told("the key f looks at the mesh that is shown", browser.run("return eye.x") == 0 and drawn()["coloured"] > first["pixels"] / 50)
+    browser.said("/goog/cdp/execute", {"cmd": "Emulation.setDeviceMetricsOverride", "params": {"width": 380, "height": 700, "deviceScaleFactor": 1, "mobile": False}})
+    browser.said("/url", {"url": "about:blank"})
+    browser.said("/url", {"url": "file://" + os.path.abspath(page)})
+    wide, high = browser.run('return [document.documentElement.scrollWidth, canvas.clientHeight]')
+    told("a narrow window has all of it, the log below", wide == 380 and high > 200 and browser.run('return at("log").offsetTop') > high)
 
 
 def main():

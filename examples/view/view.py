@@ -109,7 +109,7 @@ def packed(kind, numbers):
 
 def page(rows):
     """The page, whose meshes lie within one unit of its middle."""
-    columns = list(zip(*(point for row in rows for point in row["points"])))
+    columns = list(zip(*(point for row in rows for point in row["points"]))) or 3 * [(0,)]
     middle = [(min(column) + max(column)) / 2 for column in columns]
     far = max(max(column) - min(column) for column in columns) / 2 or 1
     for row in rows:
