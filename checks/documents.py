@@ -4,10 +4,10 @@
 The statuses of docs/FORMATS.md are those of `topo --help`, word for word, which is told without a build too; README.md has each form of
 its words, of which the help of its command names each; each log that README.md and docs/EXAMPLES.md show is a part of that of the command
 before it, run anew; the proof in docs/CERTIFICATES.md is that of a worked case; docs/CRATES.md has each crate, as docs/crates.py makes it;
-each name that docs/PROVED.md cites stands in the crates; each public definition has a comment in the line before it; each file that a document names or links is there; what docs/ARCHITECTURE.md and
-docs/CRATES.md count, files on a way and wrong edits, is as many; checks/README.md and bench/README.md have a line for each script, with the
-first line of its head. Each crate but those of tests has a README.md: the names that it hands up are public in its sources, and its example
-stands, line by line, in the file that it names.
+each name that docs/PROVED.md cites stands in the crates; each public definition has a comment in the line before it; each file that a
+document names or links is there; what docs/ARCHITECTURE.md and docs/CRATES.md count, files on a way and wrong edits, is as many;
+checks/README.md and bench/README.md have a line for each script, with the first line of its head. Each crate but those of tests has a
+README.md: the names that it hands up are public in its sources, and its example stands, line by line, in the file that it names.
 """
 
 import argparse
