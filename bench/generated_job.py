@@ -1,5 +1,5 @@
 #!/usr/bin/env python3
-"""Measures the largest generated job: `topo try 12 7`, and the same job by `topo track`, from texts that are written here.
+"""Measures the largest generated job: `topo try 12 7`, and the same by `topo track`, from texts that are written here.
 
 Prints the processor seconds of both beside their aim, 5 s, and compares the summary with the log: its counts, and the mesh that is
 stored last. Ends with status 1 where they differ.

@@ -1,5 +1,5 @@
 #!/usr/bin/env python3
-"""Breaks meshes, and compares what `check` reports of them with a plain look at all faces and at all pairs.
+"""Breaks meshes, and compares what `check` reports with a plain look at all faces and pairs.
 
 The meshes are bodies that stand near or in one another, as random_jobs.py makes them, and rings that are linked; of three in four some
 faces are dropped, doubled, turned round, or get a corner of another face, of no vertex, or one of their own twice. The plain look goes by

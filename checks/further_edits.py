@@ -1,5 +1,5 @@
 #!/usr/bin/env python3
-"""Tries the wrong edits that stand outside the gate, in crates/NAME/must-fail-more: the prover must refuse each.
+"""Tries the wrong edits outside the gate (crates/NAME/must-fail-more): the prover must refuse each.
 
 The gate tries those in must-fail, which tell most. The others are tried here, over a copy of the crates, for the crates that are named, for
 those whose src, specs or proofs differ from a revision in what is committed or not, or for all. It says first how many they are and about how

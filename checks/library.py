@@ -1,5 +1,5 @@
 #!/usr/bin/env python3
-"""Builds the library for C, compiles and runs its examples, and compares what they report with the program's log of the same job.
+"""Builds the library for C, runs its examples and cases, and compares with the program's logs.
 
 The header and the examples have to compile as C99 and as C++17 with no warning, by each compiler of gcc's and clang's that is there. The
 logs of `example.cpp` and `example.py` have to be the program's, byte for byte, and so have those of random jobs that

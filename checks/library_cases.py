@@ -1,5 +1,5 @@
 #!/usr/bin/env python3
-"""Worked cases of `library/topo.py`: what it refuses of numbers, and how it says so, and what it requests and reads by ids.
+"""Worked cases of `library/topo.py`: what it refuses, what it requests and reads by ids.
 
 Where numpy is there, all is done once without it and once with it, and then columns are given as its arrays. Prints how many cases hold,
 or which do not.

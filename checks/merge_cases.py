@@ -1,5 +1,5 @@
 #!/usr/bin/env python3
-"""Worked cases of `library/merge.py`: bodies that stand near one another become one, and non-manifold edges go.
+"""Worked cases of `library/merge.py`: bodies that stand near become one, and non-manifold edges go.
 
     checks/merge_cases.py [LIBRARY]
 

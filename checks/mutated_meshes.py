@@ -1,5 +1,5 @@
 #!/usr/bin/env python3
-"""Spoils texts of small meshes at random, and compares what `verify` and examples/verify.py say of them.
+"""Spoils small meshes at random, and compares what `verify` and examples/verify.py say of them.
 
 Each text is a mesh in OBJ with what its grammar allows beside it: points with signs, exponents and further words, corners of each form,
 lines that are not read, comments, CRLF. It is spoilt as mutated_texts.py does it, also by words that only look like coordinates or

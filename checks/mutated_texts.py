@@ -1,5 +1,5 @@
 #!/usr/bin/env python3
-"""Feeds the program texts that were spoilt at random, and compares what it does with another program of the same command line.
+"""Feeds texts that were spoilt at random to the program and to another.
 
 Random jobs are made, as random_jobs.py makes them; the other program tracks each, converts its mesh to OFF and PLY, and proves its log.
 Then each of these texts (a mesh in three formats, steps, a log, a proof) is spoilt some times and given to the commands that read it. It

@@ -1,5 +1,5 @@
 #!/usr/bin/env python3
-"""Compares the logs of random callers of the library for C with what the program makes of them.
+"""Compares the logs of random callers of the library with what the program makes of them.
 
 `checks/random_callers.c` is compiled with the library; of each random mesh, as random_jobs.py makes them, it is a caller that displaces,
 steps, edits by passes and by ids, opens groups, keeps them and rolls them back, and compares what it is told with its log. Where no

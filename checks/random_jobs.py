@@ -1,5 +1,5 @@
 #!/usr/bin/env python3
-"""Runs random jobs with the program and with another of the same command line, and compares status, log and files.
+"""Runs random jobs with the program and with another, and compares status, log and files.
 
 What two programs that were written apart answer alike is hardly a slip of either. Beside the reference only jobs of at most 60 faces and
 few passes are made. Each job is a few bodies that stand near one another and a text of steps, some with a fault. A job that one of the two

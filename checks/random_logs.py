@@ -1,5 +1,5 @@
 #!/usr/bin/env python3
-"""Measures, proves and replays the logs of random jobs, whole and spoilt, and compares with another program of the same command line.
+"""Measures, proves and replays the logs of random jobs, whole and spoilt, beside another program.
 
 Jobs are made as random_jobs.py makes them, and tracked by the other program; each log is measured and proved by both as it is, and then
 with a line doubled, left out, exchanged with the next, cut short, or with a number raised by one, at a random place; and the proof of the

@@ -1,5 +1,5 @@
 #!/usr/bin/env python3
-"""Runs random jobs of many steps on meshes of more than 512 faces with the program and with another, and compares status, log and files.
+"""The same as `random_jobs.py` of many steps on meshes of more than 512 faces.
 
 Steps that come one after another on a mesh of that size are where the program keeps a list of near pairs from step to step. The jobs are
 cubes in rows, a ring, or both; 4 to 10 steps in which bodies or vertices are displaced by up to a third of an edge, all alike, or a few

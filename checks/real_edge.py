@@ -227,6 +227,8 @@ LINKS = [
      {"m": MESH, "s": STEPS, "t-000000.obj": ("link", "/dev/null")}, {"t-000000.obj": ("link", "/dev/null"), "t-000001.obj": MOVED}),
     ("two links to one file: the mesh stored last stays", ["track", "m", "s", "t"], None, 0, [], ["warning"],
      {"m": MESH, "s": STEPS, "f": "old", "t-000000.obj": ("link", "f"), "t-000001.obj": ("link", "f")}, {"f": MOVED}),
+    ("a mesh under the name of the second that is stored", ["track", "own-000001.obj", "s", "own"], None, 0, ["it is kept as own-000001.obj.before"], [],
+     {"own-000001.obj": COMMENTED, "s": STEPS}, {"own-000001.obj": MOVED, "own-000001.obj.before": COMMENTED}),
     ("a second name of a file keeps what it had", ["track", "m", "s", "t"], None, 0, [], ["warning"],
      {"m": MESH, "s": STEPS, "f": "old", "t-000000.obj": ("hard", "f")}, {"t-000000.obj": MESH, "f": "old"}),
     ("a second name of the mesh file keeps what it had, and nothing is said", ["track", "m", "s", "t"], None, 0, [], ["warning"],
@@ -359,6 +361,21 @@ def past_the_limit(program):
             ended = subprocess.run([program, "track", "mesh.obj", "steps.txt", "t"], cwd=folder, capture_output=True, timeout=60, preexec_fn=limit, **NOBODY)
             if ended.returncode != status or os.path.exists(os.path.join(folder, "t-000000.obj")) != (status == 0):
                 return f"status {ended.returncode}, {status} was due; {ended.stderr!r}"
+    return None
+
+
+def ends_closed(program):
+    """Whether a job whose outputs or input are closed, so that a file may get their numbers, has nothing of them in its files; else what is wrong."""
+    whole = {"x-000000.obj": MESH, "x-000001.obj": MOVED, "x-000000.obj.before": COMMENTED, "s": STEPS}
+    for shut, status, log, files in ((">&-", 4, "", {"x-000000.obj": COMMENTED, "s": STEPS}), ("2>&-", 0, LOG, whole), ("<&-", 0, LOG, whole), ("<&- 2>&-", 0, LOG, whole), ("<&- >&- 2>&-", 4, "", {"x-000000.obj": COMMENTED, "s": STEPS})):
+        with tempfile.TemporaryDirectory() as folder:
+            os.chmod(folder, 0o777)
+            put(os.path.join(folder, "x-000000.obj"), COMMENTED)
+            put(os.path.join(folder, "s"), STEPS)
+            ended = subprocess.run(["sh", "-c", f'exec "$0" track x-000000.obj s x {shut}', program], cwd=folder, capture_output=True, timeout=60, **NOBODY)
+            there = {name: standing(os.path.join(folder, name)) for name in os.listdir(folder)}
+            if (ended.returncode, ended.stdout.decode(), there) != (status, log, files):
+                return f"with {shut} status {ended.returncode}; {ended.stdout!r}; {there}"
     return None
 
 
@@ -554,6 +571,7 @@ def main():
         further = [(it[0], said_as_due(at("topo"), it)) for it in TOLD + LINKS]
         further.append(("files that other runs left or are writing", left_behind(at("topo"))))
         further.append(("a file past the limit of the system", past_the_limit(at("topo"))))
+        further.append(("outputs and the input closed", ends_closed(at("topo"))))
         for what, wrong in further:
             print(f"FAILED {what}: {wrong}" if wrong else f"ok     {what}")
             failed += wrong is not None

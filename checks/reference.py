@@ -1,5 +1,5 @@
 #!/usr/bin/env python3
-"""Runs the program and `reference/topo.py` on fixed small jobs, and compares status, output and files, byte for byte.
+"""Runs the program and `reference/topo.py` on fixed small jobs, and compares all, byte for byte.
 
 The reference is what docs/DEFINITIONS.md and docs/FORMATS.md say, as one plain program, so a change of what a definition means shows here
 without any prover. The jobs are made as random_jobs.py, broken_meshes.py and mutated_texts.py make them: steps of each way, all edits and

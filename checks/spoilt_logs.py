@@ -1,5 +1,5 @@
 #!/usr/bin/env python3
-"""Spoils the logs of the worked cases in every way, and compares what two programs measure of them.
+"""Spoils the logs of the worked cases in every way, and compares what two programs measure.
 
 Of each log of the folder `worked` that tells a run of a mesh, beside the reference of those of at most 150 bytes: each line doubled, left
 out, exchanged with the next, and each number raised by one, one fault at a time. Compared are status and output. The last line counts

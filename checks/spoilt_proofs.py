@@ -1,5 +1,5 @@
 #!/usr/bin/env python3
-"""Spoils the proofs of the worked logs in every way, and compares what two programs and examples/verify.py say of them.
+"""Spoils the proofs of the worked logs in every way, and compares two programs and examples/verify.py.
 
 Of each log of the folder `worked`, or of those named, both programs write the proof, which has to be the same, and then one fault at a
 time is made in it: each line doubled, left out, exchanged with the next, and each number raised by one; and a short proof is cut after

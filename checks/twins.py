@@ -1,5 +1,5 @@
 #!/usr/bin/env python3
-"""Whether `library/improve.py` and `library/merge.py` take the same decisions as the headers: the logs have to be the same, byte for byte.
+"""Whether `library/improve.py` and `merge.py` decide as the headers do: the logs have to be the same.
 
     checks/twins.py [FOLDER]
 

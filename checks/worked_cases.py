@@ -1,5 +1,5 @@
 #!/usr/bin/env python3
-"""Runs the program on the worked cases of the folder `worked`, and compares its status, its log and the files that it stores.
+"""Runs the program on the cases of `worked`, and compares its status, its log and its files.
 What `verify` is asked is asked of `examples/verify.py` too, which shares nothing with the program and has to accept just what the case accepts;
 `replay` and `examples/replay.py` have to make the stored meshes of a log again, and `examples/carry.py` to find them.
 

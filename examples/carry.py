@@ -3,7 +3,7 @@
 
     examples/carry.py MESH LOG PREFIX [--decimals N]
 
-In the lines `v X Y Z R G B ..` of MESH what stands behind the coordinates (three numbers of a colour, say) is carried along, by what docs/FORMATS.md says
+In the lines `v X Y Z R G B ..` of MESH what stands after the coordinates (three numbers of a colour, say) is carried along, by what docs/FORMATS.md says
 of the ids that each line of the log makes and ends: a new vertex in the middle of an edge gets the mean of its ends, what is left of a collapsed edge the
 mean of its ends, or what is known of the one that is solid, and a copy what is known of its original. At each mesh that the log saves, the stored
 PREFIX-000000.obj, and so on, has to have the points and faces that are due, and PREFIX-000000-carried.obj is written: the same with what is known in

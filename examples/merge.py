@@ -3,8 +3,8 @@
 
     examples/merge.py MESH[@X,Y,Z] .. > bodies.obj
 
-Reads Wavefront OBJ meshes and writes their vertices and faces, one mesh behind the other, so that the vertices of the second have the next numbers, and so
-on. What stands behind a name and `@` is added to each point of that mesh: three decimal numbers, and not a digit is lost. What else stands in the lines of
+Reads Wavefront OBJ meshes and writes their vertices and faces, one mesh after the other, so that the vertices of the second have the next numbers, and so
+on. What stands after a name and `@` is added to each point of that mesh: three decimal numbers, and not a digit is lost. What else stands in the lines of
 vertices (a colour, say) is kept; texture and normal numbers of faces are not. Nothing is tested: `topo track` says whether the bodies meet.
 """
 import sys

@@ -16,7 +16,7 @@ sys.dont_write_bytecode = True
 from carry import carried  # noqa: E402
 from replay import read, read_mesh, text_of, write  # noqa: E402
 
-# settings, and which passes come behind a step, are said again in each job
+# settings, and which passes come after a step, are said again in each job
 SETTINGS, PASSES = ["set depth 8", "set passes 5"], ["split 700", "collapse 150", "flip"]
 TIME, GRAVITY = 0.1, -1000.0
 
@@ -36,7 +36,7 @@ class Surface:
         self.next_name = 17
 
     def take(self, log):
-        """Goes on with the mesh behind a log: numbers are those of the stored mesh, where the living vertices stand by rising id."""
+        """Goes on with the mesh after a log: numbers are those of the stored mesh, where the living vertices stand by rising id."""
         for _, mesh, known in carried(dict(self.velocity), log, read_mesh(self.mesh, 0)):
             pass
         for words in (line.split(" ") for line in log.split("\n")):
@@ -65,7 +65,7 @@ def main(program, folder, steps=12):
         falling = {v: (x, y, z + TIME * GRAVITY) for v, (x, y, z) in surface.velocity.items() if v not in surface.solid and surface.names[v] > 8}
         log = job(os.path.abspath(program), folder, surface, {v: [round(TIME * c) for c in by] for v, by in falling.items()})
         moves = {int(v): [int(c) / TIME for c in by] for kind, v, *by in (line.split(" ") for line in log.split("\n") if line.startswith("move "))}
-        # the velocity is that of the move that was taken, not of the one that was asked
+        # the velocity is that of the move that was taken, not of the one that was requested
         surface.velocity = {v: tuple(moves.get(v, (0.0, 0.0, 0.0))) for v in surface.velocity}
         surface.take(log)
         if read(os.path.join(folder, "t-000001.obj")) != surface.mesh:
@@ -74,4 +74,6 @@ def main(program, folder, steps=12):
         print(f"step {step}: {way}, {len(surface.names)} vertices, {sum(name > 16 for name in surface.names.values())} of them new, {len(surface.solid)} solid")
 
 if __name__ == "__main__":
+    if len(sys.argv) not in (3, 4):
+        sys.exit(__doc__)
     main(*sys.argv[1:])

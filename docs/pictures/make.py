@@ -431,7 +431,8 @@ def edit(program, name, title, mesh, steps, view, marked, shown, said, about):
         ids(picture, frame, meshes[k], shown[k])
     picture.line((24, foot + 6), (696, foot + 6), "rule")
     picture.lines(24, foot + 30, lines)
-    picture.text(696, foot + 30, "faces that change are orange", "soft", "end")
+    red = "red: edges that are edited; " if marked[0] else ""
+    picture.text(696, foot + 30, f"{red}orange: faces that change", "soft", "end")
     return picture
 
 
@@ -597,7 +598,7 @@ def fit(program):
     counts = [f"{kinds.count(kind)} {kind}" for kind in ("split", "collapse", "no split", "no collapse") if kind in kinds]
     picture.line((24, foot + 36), (806, foot + 36), "rule")
     picture.text(24, foot + 60, "the lines of the log: 1 pass fit, " + ", ".join(counts), "soft")
-    picture.text(806, foot + 60, "faces that change are orange", "soft", "end")
+    picture.text(806, foot + 60, "orange: faces that change", "soft", "end")
     return picture
 
 

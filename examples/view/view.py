@@ -49,7 +49,7 @@ def decimals_of(text):
 
 
 def lines_before(log):
-    """The lines of a log that led to each mesh that it saves, by its number; behind the last one, the rest."""
+    """The lines of a log that led to each mesh that it saves, by its number; after the last one, the rest."""
     parts, lines, last = {}, [], None
     for line in log.split("\n"):
         lines.append(line)
@@ -124,7 +124,7 @@ def main():
     parser.add_argument("prefix", metavar="PREFIX")
     parser.add_argument("--log", metavar="FILE")
     parser.add_argument("--colours", metavar="MESH")
-    parser.add_argument("--steps", metavar="N", type=int, help="show N meshes behind the first at most")
+    parser.add_argument("--steps", metavar="N", type=int, help="show N meshes after the first at most")
     parser.add_argument("--up", choices=("y", "z"), default="z", help="which axis goes up")
     parser.add_argument("-o", "--out", metavar="FILE", default="view.html")
     words = parser.parse_args()
