@@ -4,10 +4,10 @@
 The statuses of docs/FORMATS.md are those of `topo --help`, word for word, which is told without a build too; README.md has each form of
 its words, of which the help of its command names each; each log that README.md and docs/EXAMPLES.md show is a part of that of the command
 before it, run anew; the proof in docs/CERTIFICATES.md is that of a worked case; docs/CRATES.md has each crate, as docs/crates.py makes it;
-each name that docs/PROVED.md cites stands in the crates; each file that a document names or links is there; what docs/ARCHITECTURE.md and
-docs/CRATES.md count, files on a way and wrong edits, is as many; checks/README.md and bench/README.md have a line for each script, with the
-first line of its head. Each crate but those of tests has a README.md: the names that it hands up are public in its sources, and its example
-stands, line by line, in the file that it names.
+each name that docs/PROVED.md cites stands in the crates; each public definition has a comment in the line before it; each file that a
+document names or links is there; what docs/ARCHITECTURE.md and docs/CRATES.md count, files on a way and wrong edits, is as many;
+checks/README.md and bench/README.md have a line for each script, with the first line of its head. Each crate but those of tests has a
+README.md: the names that it hands up are public in its sources, and its example stands, line by line, in the file that it names.
 """
 
 import argparse
@@ -176,6 +176,18 @@ def unknown_names(text):
     return sorted(it for it in cited if not set(it.split("::")) <= words)
 
 
+def without_comment():
+    """The public definitions of the crates' specs that have no comment in the line before them."""
+    for crate in sorted(os.listdir(os.path.join(ROOT, "crates"))):
+        for top, _, files in sorted(os.walk(os.path.join(ROOT, "crates", crate, "specs"))):
+            for file in sorted(it for it in files if it.endswith(".antt") and it != "Lib.antt"):
+                lines = open(os.path.join(top, file)).read().splitlines()
+                for before, line in zip([""] + lines, lines):
+                    found = re.match(r"(?:(?:abbrev|unfoldable) pub|pub (?:record |data )?)(?!\s*(?:use|mod|ruleset)\b)\s*(\S+)", line)
+                    if found and not before.lstrip().startswith("--"):
+                        yield f"{crate}/{file}: {found.group(1)}"
+
+
 def heads_of(folder):
     """Each script of a folder with the first line of its head, as a README has them."""
     for name in sorted(os.listdir(os.path.join(ROOT, folder))):
@@ -220,6 +232,8 @@ def main():
     lacking = unknown_names(text_of("docs/PROVED.md"))
     checks.append((f"each name that docs/PROVED.md cites stands in the crates {' '.join(lacking)}".rstrip(), not lacking))
     checks.append(("no row of docs/PROVED.md has more than 300 characters", all(len(line) <= 300 for line in text_of("docs/PROVED.md").splitlines())))
+    lacking = list(without_comment())
+    checks.append((f"each public definition has a comment {'; '.join(lacking)}".rstrip(), not lacking))
     for crate in crates:
         if not crate.endswith("_tests"):
             faults = readme_faults(crate)

@@ -22,6 +22,7 @@ HasNoneThere n e = HasNoneApart n.terms n.reach n.faces.now n.touched.now e
 abbrev pub edges_along : Neighbourhood → MovingEdge → List MovingEdge
 edges_along n side = edges_at n.faces.now side
 
+-- and along the sides of a face
 abbrev pub edges_round : Neighbourhood → MovingFace → List MovingEdge
 edges_round n f = edges_of n.faces.now f
 

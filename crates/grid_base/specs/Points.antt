@@ -45,6 +45,7 @@ no_shift = record {
   in_range = record { x_fits = lit≤ tt; y_fits = lit≤ tt; z_fits = lit≤ tt };
 }
 
+-- the point at a triple whose components pass their tests, else the origin
 abbrev pub point_by_tests : (t : Triple) (a b c : Bool) → nat_le (unsigned_abs t.x) BOX ≡ a →
     nat_le (unsigned_abs t.y) BOX ≡ b → nat_le (unsigned_abs t.z) BOX ≡ c → Point
 point_by_tests t true true true x y z = record {
@@ -61,6 +62,7 @@ point_by_tests t false b c x y z = point_at_origin
 abbrev pub point_at : Triple → Point
 point_at t = point_by_tests t _ _ _ refl refl refl
 
+-- the displacement of a triple whose components pass their tests, else none
 abbrev pub shift_by_tests : (t : Triple) (a b c : Bool) → nat_le (unsigned_abs t.x) SHIFT_MAX ≡ a →
     nat_le (unsigned_abs t.y) SHIFT_MAX ≡ b → nat_le (unsigned_abs t.z) SHIFT_MAX ≡ c → Shift
 shift_by_tests t true true true x y z = record {

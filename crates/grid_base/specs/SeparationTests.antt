@@ -15,6 +15,7 @@ IsExact meets = (f : Positions) → IsTrue (meets f) ↔ MeetAt f
 abbrev pub is_least : ℤ → ℤ → ℤ → ℤ → Bool
 is_least a c d e = int_lt a c && int_lt a d && int_lt a e
 
+-- each of three numbers is the first or above it
 abbrev pub is_at_most : ℤ → ℤ → ℤ → ℤ → Bool
 is_at_most a c d e = int_le a c && int_le a d && int_le a e
 
@@ -24,6 +25,7 @@ is_below n f =
     is_least (dot n f.a) (dot n f.c) (dot n f.d) (dot n f.e)
     && is_least (dot n f.b) (dot n f.c) (dot n f.d) (dot n f.e)
 
+-- both edge ends are below all three corners or level with them, along the direction n
 abbrev pub is_weakly_below : Triple → Positions → Bool
 is_weakly_below n f =
     is_at_most (dot n f.a) (dot n f.c) (dot n f.d) (dot n f.e)
@@ -50,9 +52,11 @@ are_separated (suc depth) start end =
     || (are_separated depth (double start) (middle start end)
     && are_separated depth (middle start end) (double end))
 
+-- whether a number is zero
 abbrev pub is_zero : ℤ → Bool
 is_zero z = int_le z (pos 0) && int_le (pos 0) z
 
+-- whether two triples are one
 abbrev pub same_triple : Triple → Triple → Bool
 same_triple s t = is_zero (s.x -ℤ t.x) && is_zero (s.y -ℤ t.y) && is_zero (s.z -ℤ t.z)
 

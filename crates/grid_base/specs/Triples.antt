@@ -13,9 +13,11 @@ pub record IsWithin (most : ℕ) (t : Triple) : Type 0 where
   pub y_fits : unsigned_abs t.y ≤ most
   pub z_fits : unsigned_abs t.z ≤ most
 
+-- the sum, component by component
 abbrev pub plus : Triple → Triple → Triple
 plus a b = record { x = a.x +ℤ b.x; y = a.y +ℤ b.y; z = a.z +ℤ b.z }
 
+-- the difference, component by component
 abbrev pub minus : Triple → Triple → Triple
 minus a b = record { x = a.x -ℤ b.x; y = a.y -ℤ b.y; z = a.z -ℤ b.z }
 
@@ -27,9 +29,11 @@ times n a = record { x = pos n *ℤ a.x; y = pos n *ℤ a.y; z = pos n *ℤ a.z 
 abbrev pub opposite : Triple → Triple
 opposite a = record { x = neg_ℤ a.x; y = neg_ℤ a.y; z = neg_ℤ a.z }
 
+-- the dot product
 abbrev pub dot : Triple → Triple → ℤ
 dot a b = a.x *ℤ b.x +ℤ a.y *ℤ b.y +ℤ a.z *ℤ b.z
 
+-- the cross product
 abbrev pub cross : Triple → Triple → Triple
 cross a b = record {
   x = a.y *ℤ b.z -ℤ a.z *ℤ b.y;

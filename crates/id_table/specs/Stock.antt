@@ -10,6 +10,7 @@ pub record Stock (T : Type 0) : Type 0 where
   pub buried : map.FinMap nat_cmp T
   pub room : ℕ
 
+-- tables by codes, so that two with one code are equal
 abbrev pub stock_code : {T : Type 0} → Coded T → Coded (Stock T)
 stock_code {T} item =
     code_by (map.FinMap nat_cmp T × (map.FinMap nat_cmp T × ℕ))

@@ -36,10 +36,12 @@ abbrev pub unseen : Refusal → Refusal
 unseen (Long file seen) = Long file 0
 unseen why = why
 
+-- the same of a line of a log
 abbrev pub unseen_line : LogLine → LogLine
 unseen_line (Refused why) = Refused (unseen why)
 unseen_line line = line
 
+-- and of the ending of a log
 abbrev pub unseen_ending : Ending → Ending
 unseen_ending (Ended (Some why)) = Ended (Some (unseen why))
 unseen_ending ending = ending

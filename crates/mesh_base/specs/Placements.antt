@@ -20,9 +20,11 @@ pub record Motion : Type 0 where
   pub start : Placement
   pub end : Placement
 
+-- the position where all coordinates are zero
 abbrev pub origin : Triple
 origin = record { x = pos 0; y = pos 0; z = pos 0 }
 
+-- the position of a point, and the origin where there is none
 abbrev pub position_or_origin : Option Point → Triple
 position_or_origin (Some p) = position_of p
 position_or_origin None = origin

@@ -12,6 +12,7 @@ use Rattle.grid_base.specs.Points.{is_within, point_at, shift_by}
 use Rattle.mesh_base.specs.Changes.{with_point}
 use Rattle.mesh_base.specs.Placements.{Motion, origin, rest_positions}
 
+-- displacements of vertices, in order
 abbrev pub Shifts : Type 0
 Shifts = List ShiftOf
 

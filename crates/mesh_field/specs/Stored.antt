@@ -15,6 +15,7 @@ pub record StoredFields (F : Type 0) : Type 0 where
   pub reach : ℕ
   pub closure : F
 
+-- the three together
 abbrev pub stored : {F : Type 0} → List (List ℕ) → ℕ → F → StoredFields F
 stored names reach closure = record { names = names; reach = reach; closure = closure }
 

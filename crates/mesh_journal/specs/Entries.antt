@@ -57,6 +57,7 @@ abbrev pub MarksAreBuried : State → Type 0
 MarksAreBuried s = (v : ℕ) → is_some (map.get s.buried.solid v) ≡ true
     → IsSome (map.get s.buried.points v)
 
+-- that an entry can be undone is said in one way
 pub CanUndo-prop : (e : Entry) (s : State) → IsProp (CanUndo e s)
 CanUndo-prop (FaceMade f) s = hlevel props
 CanUndo-prop (VertexMade v) s = hlevel props
@@ -66,6 +67,7 @@ CanUndo-prop (VertexPlaced v p) s = hlevel props
 CanUndo-prop (VertexMadeSolid v) s = hlevel props
 CanUndo-prop Unchanged s = Unit-prop
 
+-- so it is of several
 pub CanUndoAll-prop : (es : List Entry) (s : State) → IsProp (CanUndoAll es s)
 CanUndoAll-prop [] s = Unit-prop
 CanUndoAll-prop (e ∷ es) s = ×_prop (CanUndo-prop e (back es s)) (CanUndoAll-prop es s)

@@ -19,6 +19,7 @@ pub record IsRow (n : ℕ) : Type 0 where
 abbrev pub cubes_of : ℕ → List ℕ
 cubes_of n = range_with_len 0 (n * n * n)
 
+-- the triple of three numbers that are not negative
 abbrev pub at : ℕ → ℕ → ℕ → Triple
 at x y z = record { x = pos x; y = pos y; z = pos z }
 

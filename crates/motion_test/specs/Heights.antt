@@ -6,15 +6,19 @@ use Rattle.motion_test.specs.declared.heights.Heights.{Heights}
 use Rattle.motion_test.specs.declared.side.Side.{Side}
 use Rattle.motion_test.specs.declared.side.Side.TheVariants.{Below, Above}
 
+-- the direction along x
 abbrev pub axis_x : Triple
 axis_x = record { x = pos 1; y = pos 0; z = pos 0 }
 
+-- the direction along y
 abbrev pub axis_y : Triple
 axis_y = record { x = pos 0; y = pos 1; z = pos 0 }
 
+-- the direction along z
 abbrev pub axis_z : Triple
 axis_z = record { x = pos 0; y = pos 0; z = pos 1 }
 
+-- how far each of five positions is along a direction
 abbrev pub heights_along : Triple → Positions → Heights
 heights_along n f = record {
   a = dot n f.a;

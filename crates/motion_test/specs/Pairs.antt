@@ -3,6 +3,7 @@ use Rattle.std.specs.Prelude.{List, slice_index_or, pos}
 use Rattle.grid_base.specs.Triples.{Triple}
 use Rattle.grid_base.specs.declared.Positions.{Positions}
 
+-- the position where all coordinates are zero
 abbrev pub origin : Triple
 origin = record { x = pos 0; y = pos 0; z = pos 0 }
 

@@ -23,6 +23,7 @@ use Rattle.neighbour_list.specs.Near.{is_near}
 abbrev pub listed : Pair → ListedPair
 listed p = record { name = p.name; corners = p.corners }
 
+-- and a listed pair as a pair
 abbrev pub pair_of : ListedPair → Pair
 pair_of p = record { name = p.name; corners = p.corners }
 

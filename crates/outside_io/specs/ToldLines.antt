@@ -41,12 +41,15 @@ tells_split line = starts_with nat_eq line (codes "split ")
 abbrev pub lines_in : List ℕ → ℕ
 lines_in text = length (ended_lines text)
 
+-- how many lines that have ended tell a step
 abbrev pub steps_in : List ℕ → ℕ
 steps_in text = count_by tells_step (ended_lines text)
 
+-- how many tell a step that is taken as requested
 abbrev pub whole_steps_in : List ℕ → ℕ
 whole_steps_in text = count_by tells_whole_step (ended_lines text)
 
+-- how many tell a split
 abbrev pub splits_in : List ℕ → ℕ
 splits_in text = count_by tells_split (ended_lines text)
 

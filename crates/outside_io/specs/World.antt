@@ -7,6 +7,7 @@ pub record Contents : Type 0 where
   pub files : Option Files
   pub written : Option (List ℕ)
 
+-- what these two hold, where they tell
 abbrev pub contents : {D K : Type 0} → (D → Option Files) → (K → Option (List ℕ)) → D → K → Contents
 contents files written desk out = record { files = files desk; written = written out }
 
@@ -16,6 +17,7 @@ pub record World : Type 0 where
   pub desk_faults : ℕ
   pub sink_faults : ℕ
 
+-- what they hold, and how often each has failed
 abbrev pub world : {D K : Type 0} → (D → Option Files) → (D → ℕ) → (K → Option (List ℕ)) → (K → ℕ) →
     D → K → World
 world files desk_faults written sink_faults desk out = record {

@@ -44,10 +44,12 @@ abbrev pub line_of : Asked → Edit → LogLine
 line_of what (edit.Done change) = line.Did change
 line_of what (edit.No why) = line.No what why
 
+-- whether a line is of a done edit
 abbrev pub is_done : LogLine → Bool
 is_done (line.Did change) = true
 is_done _ = false
 
+-- whether a line is of a refused edit
 abbrev pub is_refused : LogLine → Bool
 is_refused (line.No what why) = true
 is_refused _ = false

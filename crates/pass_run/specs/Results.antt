@@ -37,6 +37,7 @@ pub record Stage : Type 0 where
   pub kept : List Mesh
   pub around : Around
 
+-- the three of a surface and of what is outside
 abbrev pub stage : {S O : Type 0} → (S → Mesh) → (S → List Mesh) → (O → Around) → S → O → Stage
 stage mesh kept around surface outside =
     record { mesh = mesh surface; kept = kept surface; around = around outside }

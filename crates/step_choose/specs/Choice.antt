@@ -32,6 +32,7 @@ way how taken = record { how = how; taken = taken; blocks = [] }
 abbrev pub halved_shift : ℕ → ShiftOf → ShiftOf
 halved_shift m s = with_shift s (halved_of m (displacement_of s.by))
 
+-- the same of each displacement
 abbrev pub halved_times : ℕ → Shifts → Shifts
 halved_times m shifts = map (λ s. halved_shift m s) shifts
 
@@ -39,6 +40,7 @@ halved_times m shifts = map (λ s. halved_shift m s) shifts
 abbrev pub at_rest : ShiftOf → ShiftOf
 at_rest s = record s { by = no_shift }
 
+-- the vertices, and no displacements
 abbrev pub all_at_rest : Shifts → Shifts
 all_at_rest shifts = map at_rest shifts
 

@@ -2,5 +2,6 @@
 use Rattle.step_choose.specs.declared.choosing.Choice.{Choice}
 use Rattle.step_choose.specs.Choice.{Way}
 
+-- how a choice takes the step
 abbrev pub way_of : Choice → Way
 way_of c = record { how = c.how; taken = c.taken; blocks = c.blocks }

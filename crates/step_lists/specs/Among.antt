@@ -18,15 +18,18 @@ Faces = List (ℕ × Corners)
 abbrev pub runs_among : Faces → ℕ → ℕ → ℕ
 runs_among faces u v = length (ids_where (λ c. follows c u v) faces)
 
+-- the edges of these faces between these vertices, in order
 abbrev pub edges_among : List ℕ → Faces → List (ℕ × ℕ)
 edges_among ids faces =
     filter (λ e. nat_lt 0 (runs_among faces e.0 e.1 + runs_among faces e.1 e.0)) (id_pairs ids)
 
+-- the pairs of an edge with the faces that have neither of its ends
 abbrev pub pairs_with : Faces → ℕ × ℕ → List Pair
 pairs_with faces e =
     map (λ f. record { name = record { a = e.0; b = e.1; face = f.0 }; corners = f.1 })
     (filter (λ f. not (has_corner f.1 e.0 || has_corner f.1 e.1)) faces)
 
+-- all pairs of these vertices and faces, in order
 abbrev pub pairs_among : List ℕ → Faces → List Pair
 pairs_among ids faces = flat_map (λ e. pairs_with faces e) (edges_among ids faces)
 
@@ -58,6 +61,7 @@ place_in (refs ∷ rest) v = cond (has_vertex refs v) (point_in refs v) (place_i
 abbrev pub standing : Placement → Reference → Reference
 standing at k = record { v = k.v; at = at k.v }
 
+-- the same of each vertex of a cluster
 abbrev pub all_standing : Placement → Cluster → Cluster
 all_standing at refs = map (standing at) refs
 

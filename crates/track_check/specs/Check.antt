@@ -39,23 +39,28 @@ pub record IsCheck (files : Option Files) (mesh : MeshName) (decimals : ℕ)
 
 -- ---- what the file gives: lists of whatever shape, or the refusal of the file
 
+-- what the text of the mesh gives
 abbrev pub found_of_lists : Result Lists TextFault → Result Lists Refusal
 found_of_lists (Err fault) = Err (refusal.Mesh fault)
 found_of_lists (Ok lists) = Ok lists
 
+-- what the file gives
 abbrev pub found_of_file : Format → ℕ → Source → Result Lists Refusal
 found_of_file format decimals (TooLong seen) = Err (refusal.Long file.Mesh seen)
 found_of_file format decimals Absent = Err (refusal.Missing file.Mesh)
 found_of_file format decimals (Bytes bytes) = found_of_lists (lists_in format decimals bytes)
 
+-- what the file of a check gives
 abbrev pub found_by : Check → Result Lists Refusal
 found_by c = found_of_file c.format c.decimals c.source
 
 -- ---- what is wrong with lists
 
+-- a fault of shape
 abbrev pub shape_as_fault : ShapeFault → Fault
 shape_as_fault f = fault.Shape f
 
+-- a pair that meets
 abbrev pub pair_as_fault : PairName → Fault
 pair_as_fault p = fault.Meets p
 
@@ -64,6 +69,7 @@ abbrev pub faults_by : List ShapeFault → Mesh → List Fault
 faults_by [] m = map pair_as_fault (meeting_pairs m)
 faults_by (first ∷ others) m = map shape_as_fault (first ∷ others)
 
+-- all that is wrong with lists
 abbrev pub faults_in : Lists → List Fault
 faults_in lists = faults_by (shape_faults (length lists.points) lists.faces) (mesh_of_lists lists)
 
@@ -83,6 +89,7 @@ abbrev pub fault_words : Fault → List (List ℕ)
 fault_words (fault.Shape f) = codes "shape" ∷ shape_words f
 fault_words (fault.Meets pair) = codes "meets" ∷ pair_words pair
 
+-- the line of a fault
 abbrev pub fault_line : Fault → List ℕ
 fault_line f = line_of_words (fault_words f)
 

@@ -11,6 +11,7 @@ use Rattle.track_check.specs.declared.finding.Found.{Found}
 use Rattle.track_check.specs.declared.finding.Found.TheVariants as found
 use Rattle.track_check.specs.Check.{Check, IsCheck, found_of_lists, found_by}
 
+-- what was found, as lists or a refusal
 abbrev pub found_view : Found → Result Lists Refusal
 found_view (found.No why) = Err why
 found_view (found.Lists lists) = Ok (lists_view lists)

@@ -32,19 +32,23 @@ pub record IsConversion (files : Option Files) (from : MeshName) (decimals : ℕ
 -- ---- what the file gives: lists of good shape, or the first refusal that applies, in
 -- the order in which the work is done
 
+-- lists, after their shape was looked at
 abbrev pub found_of_shape : Lists → Option ShapeFault → Result Lists Refusal
 found_of_shape lists (Some fault) = Err (refusal.Shape fault)
 found_of_shape lists None = Ok lists
 
+-- what the text of the mesh gives
 abbrev pub found_of_lists : Result Lists TextFault → Result Lists Refusal
 found_of_lists (Err fault) = Err (refusal.Mesh fault)
 found_of_lists (Ok lists) = found_of_shape lists (shape_fault (length lists.points) lists.faces)
 
+-- what the file gives
 abbrev pub found_of_file : Format → ℕ → Source → Result Lists Refusal
 found_of_file from decimals (TooLong seen) = Err (refusal.Long file.Mesh seen)
 found_of_file from decimals Absent = Err (refusal.Missing file.Mesh)
 found_of_file from decimals (Bytes bytes) = found_of_lists (lists_in from decimals bytes)
 
+-- what the file of a conversion gives
 abbrev pub found_by : Conversion → Result Lists Refusal
 found_by c = found_of_file c.from c.decimals c.source
 

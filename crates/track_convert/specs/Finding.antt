@@ -12,6 +12,7 @@ use Rattle.track_convert.specs.declared.finding.Found.TheVariants as found
 use Rattle.track_convert.specs.Formats.{lists_in}
 use Rattle.track_convert.specs.Conversion.{Conversion, IsConversion, found_of_lists, found_by}
 
+-- what was found, as lists or a refusal
 abbrev pub found_view : Found → Result Lists Refusal
 found_view (found.No why) = Err why
 found_view (found.Lists lists) = Ok (lists_view lists)

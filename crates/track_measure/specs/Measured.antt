@@ -26,6 +26,7 @@ KeepsShape m line keeps =
 abbrev pub WritesNothingOrPart : List ℕ → Option (List ℕ) → Option (List ℕ) → Type 0
 WritesNothingOrPart text old new = (new ≡ old) ⊎ AppendsPart old new text
 
+-- a call writes its text, or at a stop nothing or a part of it; and nothing is stored
 pub record TellsSome {T : Type 0} (text : List ℕ) (old new : Around)
     (result : Result T Stop) : Type 0 where
   pub whole : IfOk result (λ done. written_of new ≡ appended (written_of old) text)

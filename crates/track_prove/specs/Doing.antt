@@ -30,6 +30,7 @@ abbrev pub ending_of : Report → Option LogRefusal
 ending_of (Refused why) = Some why
 ending_of (Text text) = None
 
+-- and its text
 abbrev pub text_told : Report → List ℕ
 text_told (Refused why) = refused_text why
 text_told (Text text) = text.items

@@ -59,6 +59,7 @@ abbrev pub IsSafeLog : Result LogInput LogRefusal → Type 0
 IsSafeLog (Err why) = ⊥
 IsSafeLog (Ok log) = IsSafe log
 
+-- the same where a proof is given too
 abbrev pub IsSafeProof : Result ProofInput LogRefusal → Type 0
 IsSafeProof (Err why) = ⊥
 IsSafeProof (Ok input) = IsSafe input.log

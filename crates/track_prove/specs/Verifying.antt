@@ -92,28 +92,33 @@ pub record ProofInput : Type 0 where
 -- the proof are fetched, the texts of the mesh and of the log are read, and then that of the proof,
 -- and the mesh is tested for a pair that meets
 
+-- the bytes of the proof beside those of mesh and log
 abbrev pub fetched_with_proof : Result BothTexts LogRefusal → Source → Result ProofBytes LogRefusal
 fetched_with_proof (Err why) proof = Err why
 fetched_with_proof (Ok both) (TooLong seen) = Err (Input (refusal.Long file.Proof seen))
 fetched_with_proof (Ok both) Absent = Err (Input (refusal.Missing file.Proof))
 fetched_with_proof (Ok both) (Bytes proof) = Ok (record { both = both; proof = proof })
 
+-- the certificates beside the lists and the lines
 abbrev pub read_with_proof : Result TextsRead LogRefusal → Result (List PlainProof) TextFault →
     Result ProofTexts LogRefusal
 read_with_proof (Err why) proofs = Err why
 read_with_proof (Ok texts) (Err fault) = Err (Proof fault)
 read_with_proof (Ok texts) (Ok proofs) = Ok (record { texts = texts; proofs = proofs })
 
+-- what the bytes of the three files are read as
 abbrev pub read_of_bytes : ℕ → Result ProofBytes LogRefusal → Result ProofTexts LogRefusal
 read_of_bytes decimals (Err why) = Err why
 read_of_bytes decimals (Ok bytes) =
     read_with_proof (read_of_lists (lists_of decimals bytes.both.mesh) bytes.both.log)
     (proofs_of bytes.proof)
 
+-- the certificates beside a mesh and a log
 abbrev pub with_proofs : Result LogInput LogRefusal → List PlainProof → Result ProofInput LogRefusal
 with_proofs (Err why) proofs = Err why
 with_proofs (Ok log) proofs = Ok (record { log = log; proofs = proofs })
 
+-- a mesh, a log and certificates, after the mesh was tested
 abbrev pub proof_input_of_read : Result ProofTexts LogRefusal → Result ProofInput LogRefusal
 proof_input_of_read (Err why) = Err why
 proof_input_of_read (Ok read) = with_proofs (input_of_read (Ok read.texts)) read.proofs

@@ -50,14 +50,17 @@ pub record LogInput : Type 0 where
 -- both files are fetched, the mesh's text is read, its shape is tested, the log's text is read, and
 -- the mesh is tested for a pair that meets
 
+-- the lines of the log beside the lists of the mesh
 abbrev pub read_of_log : Lists → Result (List LogLine) TextFault → Result TextsRead LogRefusal
 read_of_log lists (Err fault) = Err (Log fault)
 read_of_log lists (Ok lines) = Ok (record { lists = lists; lines = lines })
 
+-- what is read after the shape was looked at
 abbrev pub read_of_shape : Lists → Option ShapeFault → List ℕ → Result TextsRead LogRefusal
 read_of_shape lists (Some fault) log = Err (Input (refusal.Shape fault))
 read_of_shape lists None log = read_of_log lists (log_of log)
 
+-- what is read after the text of the mesh
 abbrev pub read_of_lists : Result Lists TextFault → List ℕ → Result TextsRead LogRefusal
 read_of_lists (Err fault) log = Err (Input (refusal.Mesh fault))
 read_of_lists (Ok lists) log =
@@ -76,6 +79,7 @@ abbrev pub read_of_fetched : ℕ → Result BothTexts LogRefusal → Result Text
 read_of_fetched decimals (Err why) = Err why
 read_of_fetched decimals (Ok both) = read_of_lists (lists_of decimals both.mesh) both.log
 
+-- the texts of two files
 abbrev pub read_of_files : ℕ → Source → Source → Result TextsRead LogRefusal
 read_of_files decimals mesh log = read_of_fetched decimals (fetched_of mesh log)
 
@@ -83,10 +87,12 @@ read_of_files decimals mesh log = read_of_fetched decimals (fetched_of mesh log)
 abbrev pub read_of : LogJob → Result TextsRead LogRefusal
 read_of job = read_of_files job.decimals job.mesh_file job.log_file
 
+-- a mesh and a log, after the mesh was tested
 abbrev pub input_of_test : Mesh → Option PairName → List LogLine → Result LogInput LogRefusal
 input_of_test m (Some pair) lines = Err (Input (refusal.Meets pair))
 input_of_test m None lines = Ok (record { mesh = m; lines = lines })
 
+-- a mesh and a log, of the texts that were read
 abbrev pub input_of_read : Result TextsRead LogRefusal → Result LogInput LogRefusal
 input_of_read (Err why) = Err why
 input_of_read (Ok texts) =

@@ -3,6 +3,7 @@ use Rattle.std.specs.Prelude.{ℕ}
 use Rattle.track_run.specs.declared.outcome.Outcome.{Outcome}
 use Rattle.track_run.specs.declared.outcome.Outcome.TheVariants as outcome
 
+-- the exit status, from 0 to 15
 abbrev pub status_of : Outcome → ℕ
 status_of outcome.Done = 0
 status_of outcome.NoMemory = 1

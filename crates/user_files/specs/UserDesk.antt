@@ -12,6 +12,7 @@ pub record Told : Type 0 where
   pub files : Option Files
   pub faults : ℕ
 
+-- what a file store (desk) tells of itself
 abbrev pub told : {D : Type 0} → (D → Option Files) → (D → ℕ) → D → Told
 told files faults desk = record { files = files desk; faults = faults desk }
 
