@@ -201,6 +201,12 @@ class Improving:
     restore_max_shift: float = 0.1                # by shifts of at most so many h
 
 
+def moving_along_normals(average_edge_length):
+    """For a surface that moves along its normals, as one that grows or flows by its curvature: it swallows its creases and necks, and so
+    an edge is collapsed there though that changes more of the volume, and bends more."""
+    return Improving(average_edge_length, max_volume_change=0.1, collapse_min_cosine=-2)
+
+
 @dataclasses.dataclass
 class Improved:
     """How many edits were done, refused by the tracker, and held back by the guards."""

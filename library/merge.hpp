@@ -14,8 +14,8 @@
 //    collapse. Where the collapse would turn a face over, ab is flipped alone, which fills the fold's back.
 // 3. Pinch. Where the hole's rim meets itself or another hole's, its vertex has two fans, and is parted: the holes become one.
 // Each of these is tried in a group, looked at, and taken back where it is refused or would leave a non-manifold edge. It ends, since each
-// collapse that is kept leaves fewer faces, each flip alone makes an edge that was never made so before, and each that is not kept is tried
-// but twice.
+// collapse that is kept leaves fewer faces, each flip alone makes an edge that was never made so before, and what is not kept is tried but
+// twice.
 #ifndef TOPO_MERGE_HPP
 #define TOPO_MERGE_HPP
 
@@ -35,10 +35,11 @@ namespace topo_mesh {
 // Lengths are fractions of average_edge_length, and cosines are between normals.
 struct Merging {
     double average_edge_length;         // h, in the caller's unit
-    double merge_proximity = 1.5;       // sheets are joined across gaps up to this. It has to exceed what a gap closes in one step, or the
-                                        // sheets get between one another's vertices before they are joined
-    double fold_reach = 1.8;            // in the fold of faces abc and bad, c may be as far from d: farther than merge_proximity, so that a
-                                        // seed grows where the sheets' vertices are up to h apart sideways
+    double merge_proximity = 1.25;      // sheets are joined across gaps up to this. It has to exceed what a gap closes in one step, or the
+                                        // sheets get between one another's vertices before they are joined; across a wider gap the rim of a
+                                        // seed is no fold, and does not grow
+    double fold_reach = 1.8;            // in the fold of faces abc and bad, c may be as far from d: farther than merge_proximity, since the
+                                        // sheets' vertices may be up to h apart sideways
     double facing = -0.5;               // the two edges of a seed bound faces whose mean normals have at most this cosine
     double folded = -0.2;               // and the two faces of a fold this
     double fill_min_angle = 2;          // in degrees: a flip alone leaves no lesser one

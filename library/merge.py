@@ -8,15 +8,16 @@ self-intersections. It takes the same decisions as merge.hpp.
 A pass of zips joins two sheets by many tunnels beside one another and leaves the walls between them: the two sheets stay, as a sieve. Here
 there is one tunnel, and its walls are taken away:
 
-1. Seed. One zip of the nearest two edges that face each other through the gap; then the four walls of the tunnel are collapsed, one
-edge each, so that its two rims are one. That rim is a fold: each of its edges has a face of either sheet, and the two face each other,
-as pages of a book at its back. 2. Grow. At a fold's edge ab, with the faces abc and bad, ab is flipped to cd, and cd is collapsed: the
-fold goes on by one triangle of each sheet, the nearest first. Where cd is an edge already, it is only collapsed. Faces that come to lie
-on one another go with the collapse. 3. Pinch. Where the hole's rim meets itself or another hole's, its vertex has two fans, and is
-parted: the holes become one.
+1. Seed. One zip of the nearest two edges that face each other through the gap; then the four walls of the tunnel are collapsed, one edge
+each, so that its two rims are one. That rim is a fold: each of its edges has a face of either sheet, and the two face each other, as pages
+of a book at its back. 2. Grow. At a fold's edge ab, with the faces abc and bad, ab is flipped to cd, and cd is collapsed: the fold goes on
+by one triangle of each sheet, the nearest first. Where cd is an edge already, it is only collapsed. Faces that come to lie on one another
+go with the collapse. Where the collapse would turn a face over, ab is flipped alone, which fills the fold's back. 3. Pinch. Where the
+hole's rim meets itself or another hole's, its vertex has two fans, and is parted: the holes become one.
 
-Each of these is tried in a group, looked at, and taken back where it is refused or would leave a non-manifold edge; where it would turn
-a face over it is not tried. It ends, since each that is kept leaves fewer faces, and each that is not is tried but twice.
+Each of these is tried in a group, looked at, and taken back where it is refused or would leave a non-manifold edge. It ends, since each
+collapse that is kept leaves fewer faces, each flip alone makes an edge that was never made so before, and each that is not kept is tried
+but twice.
 """
 
 import collections
@@ -28,9 +29,9 @@ import math
 import topo
 
 try:
-    from .improve import Columns, Mesh, SLACK, area_vector, cosine, dot, minus, norm, numpy  # as topo.merge, of the wheel
+    from .improve import Columns, Mesh, SLACK, area_vector, cosine, dot, least_angle, minus, norm, numpy  # as topo.merge, of the wheel
 except ImportError:
-    from improve import Columns, Mesh, SLACK, area_vector, cosine, dot, minus, norm, numpy
+    from improve import Columns, Mesh, SLACK, area_vector, cosine, dot, least_angle, minus, norm, numpy
 
 # an edge a b, and the corners opposite it: its faces are a b c and b a d
 Ring = collections.namedtuple("Ring", "a b c d")
@@ -41,11 +42,14 @@ class Merging:
     """Lengths are fractions of average_edge_length, and cosines are between normals."""
 
     average_edge_length: float      # h, in the caller's unit
-    merge_proximity: float = 1.5    # sheets are joined across gaps up to this. It has to exceed what a gap closes in one step, or the
-                                    # sheets get between one another's vertices before they are joined
-    fold_reach: float = 1.5         # in the fold of faces abc and bad, c may be as far from d
+    merge_proximity: float = 1.25   # sheets are joined across gaps up to this. It has to exceed what a gap closes in one step, or the
+                                    # sheets get between one another's vertices before they are joined; across a wider gap the rim of a
+                                    # seed is no fold, and does not grow
+    fold_reach: float = 1.8         # in the fold of faces abc and bad, c may be as far from d: farther than merge_proximity, since the
+                                    # sheets' vertices may be up to h apart sideways
     facing: float = -0.5            # the two edges of a seed bound faces whose mean normals have at most this cosine
     folded: float = -0.2            # and the two faces of a fold this
+    fill_min_angle: float = 2       # in degrees: a flip alone leaves no lesser one
     apart: int = 4                  # a seed's edges are more than so many edges apart along the surface
     mend_rounds: int = 20           # of mend
 
@@ -58,7 +62,8 @@ class Merged:
     folds_closed: int = 0
     pinches: int = 0
     mended: int = 0
-    turning: int = 0                # folds that were left, since a face would turn over
+    filled: int = 0                 # folds at which a face would turn over, flipped alone
+    turning: int = 0                # and those that were left
     undone_refused: int = 0
     undone_crowded: int = 0
     undone_no_fewer: int = 0
@@ -78,6 +83,7 @@ class Merger:
         self.gap, self.reach = by.merge_proximity * h, by.fold_reach * h
         self.queue = []         # folds to close, the nearest first
         self.tried = collections.Counter()  # how often closing a fold over an edge was refused
+        self.filled = set()     # edges that a flip alone made
         self.near = {}          # the vertices within `apart` edges of one, as long as nothing is joined
 
     def merge(self):
@@ -226,8 +232,7 @@ class Merger:
         if self.tried[pair] > 1:
             return
         if self.turns(ring.c, ring.d):
-            self.tried[pair] += 1
-            self.told.turning += 1
+            self.fill_fold(ring, pair)
             return
         flip, left, were = [] if d in self.around(c) else [("flip", ring.a, ring.b)], [], {c: self.at[c], d: self.at[d]}
         if self.tried_in_group(lambda: self.collapse(ring.c, ring.d, left, *flip)):
@@ -237,6 +242,21 @@ class Merger:
         else:
             self.at.update(were)
             self.tried[pair] += 1
+
+    def fill_fold(self, ring, pair):
+        """Flips the edge alone, once for each pair of c and d."""
+        a, b, c, d = (self.at[v] for v in ring)
+        flat = min(least_angle(a, d, c), least_angle(d, b, c)) < self.by.fill_min_angle
+        known = flat or pair in self.filled
+        if not flat:
+            self.filled.add(pair)
+        if known or ring.d in self.around(ring.c) or self.ask(("flip", ring.a, ring.b))[0]:
+            self.tried[pair] += 1
+            self.told.turning += 1
+            return
+        self.told.filled += 1
+        for v in ring:
+            self.push_around(v)
 
     def grow(self):
         while self.queue:

@@ -6,7 +6,7 @@
 int main(int count, char **words)
 try {
     Words word(count, words);
-    word.given.try_emplace("merge", 1.5);
+    word.given.try_emplace("merge", 1.25);
     word.given.try_emplace("smooth", 0);
     const double h = word("h", 0.01), radius = 3 * h / 1.17, apart = word("apart", 2.8) * radius;
     const int row = int(word("row", 3));

@@ -34,12 +34,13 @@ def plus(a, b, share=1.0):
 class Run:
     """A surface that a flow carries: `points` by row, in metres, `mesh` in grid units."""
 
-    def __init__(self, words, points, faces, h):
+    def __init__(self, words, points, faces, h, improving=None):
         self.folder, given = words
         self.h, self.smooth, self.merging = h, given.get("smooth", 0.2), given.get("merge", 0)
         self.kept, self.frames = given.get("log", 0) != 0, int(given.get("frames", 0))
         self.surface = topo.Tracker(points, [(a + 1, b + 1, c + 1) for a, b, c in faces], unit=h * 1e-5)
-        improving = improve.Improving(h, allow_topology_changes=given.get("part", 0) != 0)
+        improving = improving or improve.Improving(h)
+        improving.allow_topology_changes = given.get("part", 0) != 0
         self.improver, self.mesh = improve.Improver(self.surface, improving), improve.Mesh(self.surface)
         self.exact, self.steps, self.points, self.log = 0.0, 0, self.mesh.positions(), []
         if self.kept:

@@ -20,7 +20,7 @@ static std::vector<Point> normals(const Run &run)
 int main(int count, char **words)
 try {
     Words word(count, words);
-    word.given.try_emplace("merge", 1.5);
+    word.given.try_emplace("merge", 1.25);
     word.given.try_emplace("smooth", 0.3);
     const double h = word("h", 0.02), radius = word("radius", 0.2), gap = word("gap", 0.1), apart = 2 * radius + gap;
     const int balls = int(word("balls", 2));

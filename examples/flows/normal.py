@@ -1,7 +1,7 @@
 #!/usr/bin/env python3
 """Balls grow along their normals, meet, and become one body. normal.cpp in Python.
 
-    examples/flows/normal.py FOLDER [h=0.05] [radius=0.2] [gap=0.1] [balls=2] [steps=10] [smooth=0.3] [merge=1.5] [log=1] [frames=N]
+    examples/flows/normal.py FOLDER [h=0.05] [radius=0.2] [gap=0.1] [balls=2] [steps=10] [smooth=0.3] [merge=1.25] [log=1] [frames=N]
 """
 
 import math
@@ -35,7 +35,7 @@ def exact(r, far):
 
 def main():
     folder, given = words = flow.words_of(sys.argv[1:])
-    given.setdefault("merge", 1.5)
+    given.setdefault("merge", 1.25)
     given.setdefault("smooth", 0.3)
     h, radius, gap, balls, steps = (given.get(*word) for word in (("h", 0.05), ("radius", 0.2), ("gap", 0.1), ("balls", 2), ("steps", 10)))
     apart, points, faces, middles = 2 * radius + gap, [], [], []
@@ -44,7 +44,8 @@ def main():
         more, others = shapes.ball(middles[-1], radius, h)
         faces += [tuple(v + len(points) for v in face) for face in others]
         points += more
-    run, r, joined = flow.Run(words, points, faces, h), radius, -1
+    improving = flow.improve.moving_along_normals(h)
+    run, r, joined = flow.Run(words, points, faces, h, improving), radius, -1
     run.write("first.obj")
     for s in range(1, int(steps) + 1):
         to, r = [plus(p, n, h / 2) for p, n in zip(run.points, normals(run))], r + h / 2

@@ -4,7 +4,7 @@
 int main(int count, char **words)
 try {
     Words word(count, words);
-    word.given.try_emplace("merge", 1.5);
+    word.given.try_emplace("merge", 1.25);
     word.given.try_emplace("smooth", 0);
     const double h = word("h", 0.01), side = 8 * h, thick = 4 * h, speed = word("speed", 0) * h, above = speed > 0 ? 2 * h : 0;
     struct Pair { Point low; double gap, shift; };
@@ -13,9 +13,11 @@ try {
     const auto slab = [&](const Point &low) {
         const auto inside = [&](const Point &p) {
             const Point q = p - low;
-            return std::max({std::fabs(q[0] - side / 2) - side / 2, std::fabs(q[1] - side / 2) - side / 2, std::fabs(q[2] - thick / 2) - thick / 2});
+            const double x = std::fabs(q[0] - side / 2), y = std::fabs(q[1] - side / 2), z = std::fabs(q[2] - thick / 2);
+            return std::max({x - side / 2, y - side / 2, z - thick / 2});
         };
-        shape.add(Contour(inside, low - h * Point{1.301, 1.302, 1.303}, low + Point{side + 1.3 * h, side + 1.3 * h, thick + 1.3 * h}, h).made);
+        const Point margin{1.301 * h, 1.302 * h, 1.303 * h}, size{side, side, thick};
+        shape.add(Contour(inside, low - margin, low + size + margin, h).made);
     };
     for (const double gap : {0.2, 0.5, 1.0})
         for (const double shift : {0.0, 0.3, 0.7}) {
