@@ -17,3 +17,5 @@ mod plain;
 mod plays;
 #[cfg(test)]
 mod rows;
+#[cfg(test)]
+mod same;

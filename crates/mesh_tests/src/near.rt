@@ -1,10 +1,11 @@
 //! The faces near boxes, without an index and with one.
 
 use crate::meshes::tetrahedron;
-use grid_base::{Extent, Point};
+use grid_base::{Extent, NoMemory, Point};
 use mesh_base::{FaceId, Surface, faces_near_of_all};
 use mesh_journal::JournalMesh;
 use mesh_plain::shape;
+use std::alloc::Global;
 use std::process::Abort;
 use std::test::Fail;
 
@@ -50,23 +51,44 @@ fn are_faces(faces: &[FaceId], ids: &[u32]) -> bool {
     same
 }
 
+// The tetrahedron.
+fn journal(alloc: Global, rt: &impl Abort) -> Result<JournalMesh, NoMemory> {
+    let lists = tetrahedron(alloc)?;
+    let shaped = shape(alloc, &lists);
+    assert!(rt; shaped.is_ok());
+    JournalMesh::of(alloc, &lists)
+}
+
+// The faces near a box are these. Before, the list has another face.
+fn assert_near(
+    alloc: Global,
+    journal: &JournalMesh,
+    at: [[i32; 3]; 2],
+    ids: &[u32],
+    rt: &impl Abort,
+) -> Result<(), NoMemory> {
+    let mut faces = vec![in alloc; FaceId(7)]?;
+    let at = extent(at, rt);
+    journal.faces_near(at, &mut faces)?;
+    assert!(rt; are_faces(&faces, ids));
+    faces_near_of_all(journal, &at, &mut faces)?;
+    assert!(rt; are_faces(&faces, ids));
+    Ok(())
+}
+
+// The same of all boxes.
+fn assert_all_near(alloc: Global, journal: &JournalMesh, rt: &impl Abort) -> Result<(), NoMemory> {
+    for (at, ids) in &BOXES {
+        assert_near(alloc, journal, *at, ids, rt)?;
+    }
+    Ok(())
+}
+
 #[test]
 fn a_box_that_touches_is_near(rt: HostRuntime) -> Result<(), Fail> {
-    let lists = tetrahedron(rt.alloc())?;
-    assert!(rt; shape(rt.alloc(), &lists).is_ok());
-    let mut journal = JournalMesh::of(rt.alloc(), &lists)?;
-    let mut faces = vec![in rt.alloc(); FaceId(7)]?;
-    for indexed in [false, true] {
-        if indexed {
-            journal.index();
-        }
-        for (i, (at, ids)) in BOXES.iter().enumerate() {
-            let at = extent(*at, &rt);
-            journal.faces_near(at, &mut faces)?;
-            assert!(rt; are_faces(&faces, ids), "box {i}");
-            faces_near_of_all(&journal, &at, &mut faces)?;
-            assert!(rt; are_faces(&faces, ids), "box {i}");
-        }
-    }
+    let mut journal = journal(rt.alloc(), &rt)?;
+    assert_all_near(rt.alloc(), &journal, &rt)?;
+    journal.index();
+    assert_all_near(rt.alloc(), &journal, &rt)?;
     Ok(())
 }

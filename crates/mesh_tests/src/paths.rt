@@ -90,16 +90,22 @@ fn wide(p: [i32; 3]) -> Wide {
     }
 }
 
+fn act<S: Surface>(
+    alloc: Global,
+    mesh: &mut S,
+    act: &Act,
+    rt: &impl Abort,
+) -> Result<(), NoMemory> {
+    assert!(rt; is_allowed(alloc, mesh, act)?);
+    do_act(mesh, act)?;
+    Ok(())
+}
+
 // The mesh without the vertex 3 and the face 2.
 fn mesh_left(alloc: Global, points: &[[i32; 3]], rt: &impl Abort) -> Result<PlainMesh, NoMemory> {
     let mut mesh = mesh_at(alloc, points, &FACES, rt)?;
-    for act in [
-        Act::DropVertex { v: VertexId(3) },
-        Act::DropFace { f: FaceId(2) },
-    ] {
-        assert!(rt; is_allowed(alloc, &mesh, &act)?);
-        do_act(&mut mesh, &act)?;
-    }
+    act(alloc, &mut mesh, &Act::DropVertex { v: VertexId(3) }, rt)?;
+    act(alloc, &mut mesh, &Act::DropFace { f: FaceId(2) }, rt)?;
     Ok(mesh)
 }
 
@@ -147,6 +153,53 @@ fn are_boxes(
     Ok(same)
 }
 
+// The live vertices have their paths.
+fn assert_paths<S: Surface>(
+    alloc: Global,
+    first: &S,
+    between: &Between<S>,
+    rt: &impl Abort,
+) -> Result<(), NoMemory> {
+    let paths = paths_of(alloc, first, between)?;
+    assert!(rt; paths.len() == 4);
+    for (k, id) in paths.as_slice().iter().zip(&[1, 2, 4, 5]) {
+        assert!(rt;
+            k.v == VertexId(*id) && is_way_of(&k.path, k.v),
+            "vertex {id}"
+        );
+    }
+    Ok(())
+}
+
+fn assert_faces(faces: &[MovingFace], rt: &impl Abort) {
+    assert!(rt; faces.len() == 3);
+    for (face, (id, c)) in faces.iter().zip(&LEFT) {
+        assert!(rt; is_face_of(face, *id, *c), "face {id}");
+    }
+}
+
+// Where all end, in three frames, and the boxes there.
+const FRAMES: [([i32; 3], [[[i32; 3]; 2]; 3]); 3] = [
+    ([0, 0, 0], AT_REST),
+    ([1, 2, -3], ALONG),
+    ([10, 0, -5], BEYOND),
+];
+
+// The live faces have their paths, and their boxes in each frame.
+fn assert_moving<S: Surface>(
+    alloc: Global,
+    first: &S,
+    between: &Between<S>,
+    rt: &impl Abort,
+) -> Result<(), NoMemory> {
+    let faces = moving_faces(alloc, first, between)?;
+    assert_faces(faces.as_slice(), rt);
+    for (end, boxes) in &FRAMES {
+        assert!(rt; are_boxes(alloc, faces.as_slice(), *end, boxes, rt)?);
+    }
+    Ok(())
+}
+
 #[test]
 fn live_vertices_and_faces_have_their_paths(rt: HostRuntime) -> Result<(), Fail> {
     let first = mesh_left(rt.alloc(), &POINTS, &rt)?;
@@ -155,21 +208,7 @@ fn live_vertices_and_faces_have_their_paths(rt: HostRuntime) -> Result<(), Fail>
         first: &first,
         last: &last,
     };
-    let paths = paths_of(rt.alloc(), &first, &between)?;
-    assert_eq!(rt; paths.len(), 4);
-    for (k, id) in paths.as_slice().iter().zip(&[1, 2, 4, 5]) {
-        assert!(rt;
-            k.v == VertexId(*id) && is_way_of(&k.path, k.v),
-            "vertex {id}"
-        );
-    }
-    let faces = moving_faces(rt.alloc(), &first, &between)?;
-    assert_eq!(rt; faces.len(), 3);
-    for (face, (id, c)) in faces.as_slice().iter().zip(&LEFT) {
-        assert!(rt; is_face_of(face, *id, *c), "face {id}");
-    }
-    assert!(rt; are_boxes(rt.alloc(), faces.as_slice(), [0, 0, 0], &AT_REST, &rt)?);
-    assert!(rt; are_boxes(rt.alloc(), faces.as_slice(), [1, 2, -3], &ALONG, &rt)?);
-    assert!(rt; are_boxes(rt.alloc(), faces.as_slice(), [10, 0, -5], &BEYOND, &rt)?);
+    assert_paths(rt.alloc(), &first, &between, &rt)?;
+    assert_moving(rt.alloc(), &first, &between, &rt)?;
     Ok(())
 }

@@ -12,7 +12,7 @@ use half_mesh::HalfMesh;
 use mesh_base::{FaceId, FaceIds, MeshLists, Surface, VertexId};
 use mesh_journal::JournalMesh;
 use mesh_plain::{PlainMesh, shape};
-use mesh_play::{Act, Answer, Answers, Call, Question, play_both, play_three};
+use mesh_play::{Act, Answer, Answers, Call, Question, ThreeAnswers, play_both, play_three};
 use std::alloc::Global;
 use std::process::Abort;
 use std::test::Fail;
@@ -295,15 +295,28 @@ fn play_row<S: Surface, T: Surface>(
     Ok(())
 }
 
+/// The same of each row, one after another.
+fn play_rows<S: Surface, T: Surface>(
+    rt: &impl Abort,
+    alloc: Global,
+    one: &mut S,
+    other: &mut T,
+) -> Result<(), NoMemory>
+    requires { S.mesh one.old ≡ T.mesh other.old }
+{
+    for row in &ROWS {
+        play_row(rt, alloc, one, other, row)?;
+    }
+    Ok(())
+}
+
 #[test]
 fn plain_meshes_and_half_edges_answer_alike(rt: HostRuntime) -> Result<(), Fail> {
     let lists = tetrahedron(rt.alloc())?;
     assert!(rt; shape(rt.alloc(), &lists).is_ok());
     let mut plain = PlainMesh::of(rt.alloc(), &lists)?;
     let mut half = HalfMesh::of(rt.alloc(), &lists)?;
-    for row in &ROWS {
-        play_row(&rt, rt.alloc(), &mut plain, &mut half, row)?;
-    }
+    play_rows(&rt, rt.alloc(), &mut plain, &mut half)?;
     Ok(())
 }
 
@@ -313,17 +326,35 @@ fn plain_meshes_and_journals_answer_alike(rt: HostRuntime) -> Result<(), Fail> {
     assert!(rt; shape(rt.alloc(), &lists).is_ok());
     let mut plain = PlainMesh::of(rt.alloc(), &lists)?;
     let mut journal = JournalMesh::of(rt.alloc(), &lists)?;
-    for row in &ROWS {
-        play_row(&rt, rt.alloc(), &mut plain, &mut journal, row)?;
-    }
+    play_rows(&rt, rt.alloc(), &mut plain, &mut journal)?;
     Ok(())
 }
 
-#[test]
-fn a_return_gives_the_ids_back_of_each_mesh(rt: HostRuntime) -> Result<(), Fail> {
-    let lists = tetrahedron(rt.alloc())?;
-    assert!(rt; shape(rt.alloc(), &lists).is_ok());
-    // The return to the first mark takes both back, and the vertices that were made since.
+// Each of the three has told this.
+fn assert_all_told(rt: &impl Abort, told: &ThreeAnswers, wants: &[Want]) {
+    assert_told(rt, &told.plain, wants);
+    assert_told(rt, &told.half, wants);
+    assert_told(rt, &told.journal, wants);
+}
+
+const BACK: [Want; 11] = [
+    Want::Faces([Some(FaceId(1)), Some(FaceId(2)), Some(FaceId(4)), None]),
+    Want::Done,
+    Want::VertexMade(VertexId(5)),
+    Want::Done,
+    Want::VertexMade(VertexId(6)),
+    Want::Number(7),
+    Want::Done,
+    Want::Number(5),
+    Want::Number(5),
+    Want::Done,
+    Want::VertexMade(VertexId(5)),
+];
+
+// The return to the first mark takes both back, and the vertices that were made since.
+fn told_back(alloc: Global, lists: &MeshLists) -> Result<ThreeAnswers, NoMemory>
+    requires { shape_fault (length lists.now.points) lists.now.faces ≡ None }
+{
     let calls = [
         Call::Ask {
             question: Question::FacesAt { v: VertexId(1) },
@@ -351,34 +382,36 @@ fn a_return_gives_the_ids_back_of_each_mesh(rt: HostRuntime) -> Result<(), Fail>
             act: Act::AddVertex { p: FAR },
         },
     ];
-    let wants = [
-        Want::Faces([Some(FaceId(1)), Some(FaceId(2)), Some(FaceId(4)), None]),
-        Want::Done,
-        Want::VertexMade(VertexId(5)),
-        Want::Done,
-        Want::VertexMade(VertexId(6)),
-        Want::Number(7),
-        Want::Done,
-        Want::Number(5),
-        Want::Number(5),
-        Want::Done,
-        Want::VertexMade(VertexId(5)),
-    ];
-    let told = play_three(rt.alloc(), &lists, &calls)?;
-    assert_told(&rt, &told.plain, &wants);
-    assert_told(&rt, &told.half, &wants);
-    assert_told(&rt, &told.journal, &wants);
-    Ok(())
+    play_three(alloc, lists, &calls)
 }
 
 #[test]
-fn faces_near_are_the_same_of_each_mesh_made_ready(rt: HostRuntime) -> Result<(), Fail> {
+fn a_return_gives_the_ids_back_of_each_mesh(rt: HostRuntime) -> Result<(), Fail> {
     let lists = tetrahedron(rt.alloc())?;
     assert!(rt; shape(rt.alloc(), &lists).is_ok());
+    let told = told_back(rt.alloc(), &lists)?;
+    assert_all_told(&rt, &told, &BACK);
+    Ok(())
+}
+
+const NEAR: [Want; 7] = [
+    Want::Done,
+    Want::Done,
+    Want::Done,
+    Want::Faces([Some(FaceId(1)), Some(FaceId(3)), None, None]),
+    Want::Done,
+    Want::Done,
+    Want::Faces([Some(FaceId(1)), Some(FaceId(2)), Some(FaceId(3)), None]),
+];
+
+// A face is dropped and comes back, and the faces near a box are asked for before and after.
+fn told_near(alloc: Global, lists: &MeshLists, rt: &impl Abort) -> Result<ThreeAnswers, NoMemory>
+    requires { shape_fault (length lists.now.points) lists.now.faces ≡ None }
+{
     let act = Act::DropFace { f: FaceId(2) };
-    assert!(rt; is_allowed_at_first(rt.alloc(), &lists, &act)?);
+    assert!(rt; is_allowed_at_first(alloc, lists, &act)?);
     let near = Question::FacesNear {
-        at: extent(HERE, &rt),
+        at: extent(HERE, rt),
     };
     let calls = [
         Call::Index,
@@ -389,35 +422,42 @@ fn faces_near_are_the_same_of_each_mesh_made_ready(rt: HostRuntime) -> Result<()
         Call::BackTo { nth: 0 },
         Call::Ask { question: near },
     ];
-    let all = Want::Faces([Some(FaceId(1)), Some(FaceId(2)), Some(FaceId(3)), None]);
-    let left = Want::Faces([Some(FaceId(1)), Some(FaceId(3)), None, None]);
-    let wants = [
-        Want::Done,
-        Want::Done,
-        Want::Done,
-        left,
-        Want::Done,
-        Want::Done,
-        all,
-    ];
-    let told = play_three(rt.alloc(), &lists, &calls)?;
-    assert_told(&rt, &told.plain, &wants);
-    assert_told(&rt, &told.half, &wants);
-    assert_told(&rt, &told.journal, &wants);
+    play_three(alloc, lists, &calls)
+}
+
+#[test]
+fn faces_near_are_the_same_of_each_mesh_made_ready(rt: HostRuntime) -> Result<(), Fail> {
+    let lists = tetrahedron(rt.alloc())?;
+    assert!(rt; shape(rt.alloc(), &lists).is_ok());
+    let told = told_near(rt.alloc(), &lists, &rt)?;
+    assert_all_told(&rt, &told, &NEAR);
     Ok(())
+}
+
+fn play_last_of_half(alloc: Global, lists: &MeshLists, rt: &impl Abort) -> Result<(), NoMemory>
+    requires { shape_fault (length lists.now.points) lists.now.faces ≡ None }
+{
+    assert_eq!(rt; (lists.points.len(), lists.faces.len()), (4, 4));
+    let mut plain = PlainMesh::of_numbered(alloc, lists, 2_147_483_649, 5)?;
+    let mut half = HalfMesh::of_numbered(alloc, lists, 2_147_483_649, 5)?;
+    play_row(rt, alloc, &mut plain, &mut half, &FULL)
+}
+
+fn play_last_of_journal(alloc: Global, lists: &MeshLists, rt: &impl Abort) -> Result<(), NoMemory>
+    requires { shape_fault (length lists.now.points) lists.now.faces ≡ None }
+{
+    assert_eq!(rt; (lists.points.len(), lists.faces.len()), (4, 4));
+    let mut plain = PlainMesh::of_numbered(alloc, lists, 2_147_483_649, 5)?;
+    let mut journal = JournalMesh::of_numbered(alloc, lists, 2_147_483_649, 5)?;
+    journal.reserve(3)?;
+    play_row(rt, alloc, &mut plain, &mut journal, &FULL)
 }
 
 #[test]
 fn the_last_ids_are_given(rt: HostRuntime) -> Result<(), Fail> {
     let lists = tetrahedron(rt.alloc())?;
     assert!(rt; shape(rt.alloc(), &lists).is_ok());
-    assert_eq!(rt; (lists.points.len(), lists.faces.len()), (4, 4));
-    let mut plain = PlainMesh::of_numbered(rt.alloc(), &lists, 2_147_483_649, 5)?;
-    let mut half = HalfMesh::of_numbered(rt.alloc(), &lists, 2_147_483_649, 5)?;
-    play_row(&rt, rt.alloc(), &mut plain, &mut half, &FULL)?;
-    let mut plain = PlainMesh::of_numbered(rt.alloc(), &lists, 2_147_483_649, 5)?;
-    let mut journal = JournalMesh::of_numbered(rt.alloc(), &lists, 2_147_483_649, 5)?;
-    journal.reserve(3)?;
-    play_row(&rt, rt.alloc(), &mut plain, &mut journal, &FULL)?;
+    play_last_of_half(rt.alloc(), &lists, &rt)?;
+    play_last_of_journal(rt.alloc(), &lists, &rt)?;
     Ok(())
 }
