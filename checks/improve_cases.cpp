@@ -273,11 +273,13 @@ void merges()
     is("two balls become one body", are(after(bodies(2, 0.5 * h), h, 1, told), 1, 2) && told.seeds == 1);
     is("two balls that are farther stay two", are(after(bodies(2, 2 * h), h, 1, told), 2, 4) && told.seeds == 0);
     is("eight balls become one body with five holes", are(after(bodies(8, 0.5 * h), h, 1, told), 1, -8) && told.seeds == 12);
-    for (const double gap : {20, 50, 100}) {
-        Shape slabs = box(800, 800, 400, {0, 0, 0});
-        slabs.add(box(800, 800, 400, {30, 18, 400 + gap}));
-        is("two slabs become one body", are(after(slabs, 100, 2, told), 1, 2));
-    }
+    for (const double gap : {20, 50, 100})
+        for (const double shift : {0, 30, 70}) {
+            Shape slabs = box(800, 800, 400, {0, 0, 0});
+            slabs.add(box(800, 800, 400, {shift, 0.6 * shift, 400 + gap}));
+            const Counts c = after(slabs, 100, 1, told);
+            is("two slabs become one body, with no fold, in one call", are(c, 1, 2) && c.folds == 0 && told.seeds == 1);
+        }
     topo_tracker t = tracked(bodies(2, 0.3 * h));
     for (int i = 0; i < 3; ++i)
         t.zip(1.2 * h), t.pinch();

@@ -36,9 +36,9 @@ namespace topo_mesh {
 struct Merging {
     double average_edge_length;         // h, in the caller's unit
     double merge_proximity = 1.25;      // sheets are joined across gaps up to this. It has to exceed what a gap closes in one step, or the
-                                        // sheets get between one another's vertices before they are joined; across a wider gap the rim of a
+                                       // sheets get between one another's vertices before they are joined; across a wider gap the rim of a
                                         // seed is no fold, and does not grow
-    double fold_reach = 1.8;            // in the fold of faces abc and bad, c may be as far from d: farther than merge_proximity, since the
+    double fold_reach = 1.8;           // in the fold of faces abc and bad, c may be as far from d: farther than merge_proximity, since the
                                         // sheets' vertices may be up to h apart sideways
     double facing = -0.5;               // the two edges of a seed bound faces whose mean normals have at most this cosine
     double folded = -0.2;               // and the two faces of a fold this

@@ -233,7 +233,8 @@ private:
         Merging by{h};
         by.merge_proximity = merging;
         const Merged m = merge(*tracker, by);
-        merged.seeds += m.seeds, merged.folds_closed += m.folds_closed, merged.pinches += m.pinches, merged.turning += m.turning, merged.filled += m.filled;
+        merged.seeds += m.seeds, merged.folds_closed += m.folds_closed, merged.pinches += m.pinches, merged.turning += m.turning;
+        merged.filled += m.filled;
         merged.undone_refused += m.undone_refused, merged.undone_crowded += m.undone_crowded;
         refused += m.undone_refused;
     }
