@@ -588,7 +588,10 @@ fn fault_behind(
     text.extend_from_slice(first)?;
     text.extend_from_slice(line)?;
     assert!(rt; text.len() < 1000);
-    Ok(read_log(alloc, &text).err())
+    match read_log(alloc, &text) {
+        Err(ReadFault::NoMemory) => Err(NoMemory),
+        read => Ok(read.err()),
+    }
 }
 
 // Each of the lines, which are parted by `|`, has this fault behind the first.

@@ -80,7 +80,9 @@ pub struct LogWatch<K> {
 
 impl<K: Sink> LogWatch<K> {
     /// A sink that passes all on to this one, and has noted nothing.
-    pub fn new(alloc: Global, sink: K) -> Self {
+    pub fn new(alloc: Global, sink: K) -> Self
+        ensures { result.sink ≡ sink }
+    {
         LogWatch {
             sink,
             vertices: EndedVertices {
