@@ -25,20 +25,12 @@ try {
     run.write("first.obj");
     const long steps = long(word("steps", 24));
     for (long s = 1; s <= steps; ++s) {
-        std::vector<int> up(run.points.size());
-        std::iota(up.begin(), up.end(), 0);
-        const auto root = [&](int i) {
-            while (up[i] != i)
-                i = up[i] = up[up[i]];
-            return i;
-        };
-        for (const Corners &f : run.mesh.faces)
-            up[root(f[0])] = root(f[1]), up[root(f[1])] = root(f[2]);
+        const std::vector<int> label = body_labels(run.points.size(), run.mesh.faces);
         std::map<int, std::pair<Point, double>> bodies; // four times six volumes, with the point that they weigh
         for (const Corners &f : run.mesh.faces) {
             const Point &a = run.points[f[0]], &b = run.points[f[1]], &c = run.points[f[2]];
             const double part = dot(a, cross(b, c));
-            auto &body = bodies.try_emplace(root(f[0]), Point{0, 0, 0}, 0.0).first->second;
+            auto &body = bodies.try_emplace(label[f[0]], Point{0, 0, 0}, 0.0).first->second;
             body.first = body.first + part * (a + b + c), body.second += 4 * part;
         }
         double fast = 1e-12;
@@ -46,7 +38,7 @@ try {
             body.first = (-1 / std::max(body.second, 1e-18)) * body.first, fast = std::max(fast, norm(body.first));
         std::vector<Point> to = run.points;
         for (std::size_t i = 0; i < to.size(); ++i)
-            to[i] = to[i] + std::min(1.0, 0.5 * h / fast) * bodies[root(int(i))].first;
+            to[i] = to[i] + std::min(1.0, 0.5 * h / fast) * bodies[label[i]].first;
         run.advance(to, double(s));
         if (2 * s == steps)
             run.write("middle.obj");

@@ -15,6 +15,24 @@
 
 inline double seconds() { return double(std::clock()) / CLOCKS_PER_SEC; }
 
+// of each point a number of its body: points that a chain of faces joins have one
+inline std::vector<int> body_labels(std::size_t points, const std::vector<Corners> &faces)
+{
+    std::vector<int> up(points);
+    std::iota(up.begin(), up.end(), 0);
+    const auto root = [&](int i) {
+        while (up[i] != i)
+            i = up[i] = up[up[i]];
+        return i;
+    };
+    for (const Corners &f : faces)
+        up[root(f[0])] = root(f[1]), up[root(f[1])] = root(f[2]);
+    std::vector<int> label(points);
+    for (std::size_t i = 0; i < points; ++i)
+        label[i] = root(int(i));
+    return label;
+}
+
 // FOLDER and then NAME=NUMBER, each in the place of the number that the flow has.
 struct Words {
     std::string folder;

@@ -34,23 +34,15 @@ try {
     };
     const long steps = long(word("steps", speed > 0 ? 12 : 2));
     for (long s = 1; s <= steps; ++s) {
-        std::vector<int> up(run.points.size());
-        std::iota(up.begin(), up.end(), 0);
-        const auto root = [&](int i) {
-            while (up[i] != i)
-                i = up[i] = up[up[i]];
-            return i;
-        };
-        for (const Corners &f : run.mesh.faces)
-            up[root(f[0])] = root(f[1]), up[root(f[1])] = root(f[2]);
+        const std::vector<int> label = body_labels(run.points.size(), run.mesh.faces);
         std::map<int, double> lowest; // of each body: an upper slab is one that reaches no lower than the top of its lower one
         for (std::size_t i = 0; i < run.points.size(); ++i) {
-            double &low = lowest.try_emplace(root(int(i)), 1e99).first->second;
+            double &low = lowest.try_emplace(label[i], 1e99).first->second;
             low = std::min(low, run.points[i][2]);
         }
         std::vector<Point> to = run.points;
         for (std::size_t i = 0; i < to.size(); ++i)
-            if (lowest[root(int(i))] > thick / 2)
+            if (lowest[label[i]] > thick / 2)
                 to[i][2] -= speed;
         run.advance(to, double(s));
     }
