@@ -17,6 +17,7 @@ use Rattle.half_mesh.proofs.Mapped.{mapped-insert, mapped-remove, mapped-alike, 
 use Rattle.half_mesh.proofs.Falling.{entries-insert_last, falling-last, falling-remove, falling-without, falling-newest, falling-few}
 use Rattle.half_mesh.proofs.TiedLaws.{live_fan}
 use Rattle.half_mesh.proofs.Rings.{HasSpokes, no_corner}
+use Rattle.mesh_base.specs.declared.limits.Limits.{Limits}
 
 -- the corners that a ring has
 pub corners-ring : (sides : Sides) (f : ℕ) (c : Corners) (key : ℕ) → IsRing sides f c key → corners_at sides key ≡ c
@@ -50,8 +51,8 @@ tied-room w x keys same t = subst (λ y. AreTied y keys) (sym same) (record {
   spokes = t.spokes;
 })
 
-pub mesh-room : (w x : Woven) (keys : Keys) (nv nf : ℕ) (m : Mesh) → x ≡ record w { room = x.room } → woven_mesh w keys nv nf ≡ m → woven_mesh x keys nv nf ≡ m
-mesh-room w x keys nv nf m same view = ap (λ y. woven_mesh y keys nv nf) same ∙ view
+pub mesh-room : (w x : Woven) (keys : Keys) (l : Limits) (nv nf : ℕ) (m : Mesh) → x ≡ record w { room = x.room } → woven_mesh w keys l nv nf ≡ m → woven_mesh x keys l nv nf ≡ m
+mesh-room w x keys l nv nf m same view = ap (λ y. woven_mesh y keys l nv nf) same ∙ view
 
 -- a face more
 pub faces-with_face : (w x : Woven) (keys : Keys) (f : ℕ) (c : Corners) (key : ℕ) → AreTied w keys → HasRing w x f c key → faces_in x.sides (finite.insert keys f key) ≡ finite.insert (faces_in w.sides keys) f c
@@ -123,25 +124,25 @@ tied-without_face w x keys f c t lost there = record {
         (cases_eq v c.first)
 
 -- what is asked where a ring is made
-pub faces_below : (w : Woven) (keys : Keys) (nv nf : ℕ) (m : Mesh) → woven_mesh w keys nv nf ≡ m → ((f : ℕ) → IsLiveFace m f → f < m.next_face) → (q : ℕ) (y : Corners) → finite.get (faces_in w.sides keys) q ≡ Some y → q < nf
-faces_below w keys nv nf m view below q y there =
+pub faces_below : (w : Woven) (keys : Keys) (l : Limits) (nv nf : ℕ) (m : Mesh) → woven_mesh w keys l nv nf ≡ m → ((f : ℕ) → IsLiveFace m f → f < m.next_face) → (q : ℕ) (y : Corners) → finite.get (faces_in w.sides keys) q ≡ Some y → q < nf
+faces_below w keys l nv nf m view below q y there =
     let at : finite.get m.faces q ≡ Some y = sym (ap (λ x. finite.get x.faces q) view) ∙ there in
     let next = ap (λ x. x.next_face) view in
     let ids = below q (ap is_some at) in
     omega arith
 
-pub have_fans : (w : Woven) (keys : Keys) (nv nf : ℕ) (m : Mesh) (c : Corners) → woven_mesh w keys nv nf ≡ m → AreLive m c → HaveFans w.fans c
-have_fans w keys nv nf m c view live = (
-  ap is_some (live_fan w keys nv nf m c.first view live.0).1,
-  ap is_some (live_fan w keys nv nf m c.second view live.1).1,
-  ap is_some (live_fan w keys nv nf m c.third view live.2).1,
+pub have_fans : (w : Woven) (keys : Keys) (l : Limits) (nv nf : ℕ) (m : Mesh) (c : Corners) → woven_mesh w keys l nv nf ≡ m → AreLive m c → HaveFans w.fans c
+have_fans w keys l nv nf m c view live = (
+  ap is_some (live_fan w keys l nv nf m c.first view live.0).1,
+  ap is_some (live_fan w keys l nv nf m c.second view live.1).1,
+  ap is_some (live_fan w keys l nv nf m c.third view live.2).1,
 )
 
-pub newest-tied : (w : Woven) (keys : Keys) (nv nf : ℕ) (m : Mesh) → woven_mesh w keys nv nf ≡ m → ((f : ℕ) → IsLiveFace m f → f < m.next_face) → AreTied w keys → (v : ℕ) → IsNewest nf (spokes_at w.fans v)
-newest-tied w keys nv nf m view below t v = subst (IsNewest nf) (sym (t.spokes v)) (falling-newest v nf (faces_in w.sides keys) (faces_below w keys nv nf m view below))
+pub newest-tied : (w : Woven) (keys : Keys) (l : Limits) (nv nf : ℕ) (m : Mesh) → woven_mesh w keys l nv nf ≡ m → ((f : ℕ) → IsLiveFace m f → f < m.next_face) → AreTied w keys → (v : ℕ) → IsNewest nf (spokes_at w.fans v)
+newest-tied w keys l nv nf m view below t v = subst (IsNewest nf) (sym (t.spokes v)) (falling-newest v nf (faces_in w.sides keys) (faces_below w keys l nv nf m view below))
 
-pub few-tied : (w : Woven) (keys : Keys) (nv nf : ℕ) (m : Mesh) → woven_mesh w keys nv nf ≡ m → finite.len m.faces ≤ FACES_MAX → AreTied w keys → (v : ℕ) → length (spokes_at w.fans v) < 2 ^ 32
-few-tied w keys nv nf m view limit t v =
+pub few-tied : (w : Woven) (keys : Keys) (l : Limits) (nv nf : ℕ) (m : Mesh) → woven_mesh w keys l nv nf ≡ m → finite.len m.faces ≤ FACES_MAX → AreTied w keys → (v : ℕ) → length (spokes_at w.fans v) < 2 ^ 32
+few-tied w keys l nv nf m view limit t v =
     let few = falling-few v (finite.entries (faces_in w.sides keys)) in
     let long = ap length (t.spokes v) in
     let all = len-entries (faces_in w.sides keys) in

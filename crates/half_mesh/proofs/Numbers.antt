@@ -16,6 +16,7 @@ sound-next m v f s up_v up_f few_v few_f = record {
     different_faces = s.is_mesh.different_faces;
   };
   limits = record {
+    greatest = s.limits.greatest;
     vertices = s.limits.vertices;
     faces = s.limits.faces;
     vertex_ids = let b = s.limits.vertex_ids in (omega (arith, b, up_v), few_v);

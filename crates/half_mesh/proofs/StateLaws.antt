@@ -225,6 +225,7 @@ sound-raise_face s f sound a can =
             (got g d h);
       };
       limits = record {
+        greatest = sound.limits.greatest;
         vertices = sound.limits.vertices;
         faces = let e = len-insert_le m.faces f c in let room = can.room in let same = ap finite.len now in omega arith;
         vertex_ids = sound.limits.vertex_ids;
@@ -256,6 +257,7 @@ sound-raise_vertex s v sound a can =
         different_faces = sound.is_mesh.different_faces;
       };
       limits = record {
+        greatest = sound.limits.greatest;
         vertices = let e = len-insert_le m.points v p in let room = can.room in let same = ap finite.len now in omega arith;
         faces = sound.limits.faces;
         vertex_ids = sound.limits.vertex_ids;
@@ -278,6 +280,7 @@ sound-unmake_face s f sound can =
         different_faces = less.is_mesh.different_faces;
       };
       limits = record {
+        greatest = sound.limits.greatest;
         vertices = sound.limits.vertices;
         faces = less.limits.faces;
         vertex_ids = sound.limits.vertex_ids;
@@ -300,6 +303,7 @@ sound-unmake_vertex s v sound can =
         different_faces = less.is_mesh.different_faces;
       };
       limits = record {
+        greatest = less.limits.greatest;
         vertices = less.limits.vertices;
         faces = sound.limits.faces;
         vertex_ids = let limit = sound.limits.vertex_ids in omega (arith, id, last, limit);
@@ -318,6 +322,7 @@ sound-without_solid m v s = record {
     different_faces = s.is_mesh.different_faces;
   };
   limits = record {
+    greatest = s.limits.greatest;
     vertices = s.limits.vertices;
     faces = s.limits.faces;
     vertex_ids = s.limits.vertex_ids;

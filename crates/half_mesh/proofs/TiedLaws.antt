@@ -16,6 +16,7 @@ use Rattle.half_mesh.specs.Tied.{Keys, corners_at, faces_in, woven_mesh, falling
 use Rattle.half_mesh.proofs.Mapped.{get-mapped, mapped-empty, tied}
 use Rattle.half_mesh.proofs.Vertices.{get-points}
 use Rattle.half_mesh.proofs.Falling.{all_entries, running-falling, faces_at-falling}
+use Rattle.mesh_base.specs.declared.limits.Limits.{Limits}
 
 -- lists that are read from their end
 pub nth-reverse : (xs : List ℕ) (n : ℕ) → n < length xs → slice_get xs (length xs - 1 - n) ≡ slice_get (reverse xs) n
@@ -27,14 +28,14 @@ nth-reverse xs n h =
     ∙ sym (slice_get-get_or (reverse xs) n 0 (omega arith))
 
 -- the faces of a mesh that is tied
-pub running-tied : (w : Woven) (keys : Keys) (nv nf : ℕ) (m : Mesh) (u v : ℕ) → woven_mesh w keys nv nf ≡ m → AreTied w keys → IsSound m → reverse (faces_of (spokes_to v (spokes_at w.fans u))) ≡ faces_running m u v
-running-tied w keys nv nf m u v view t sound =
+pub running-tied : (w : Woven) (keys : Keys) (l : Limits) (nv nf : ℕ) (m : Mesh) (u v : ℕ) → woven_mesh w keys l nv nf ≡ m → AreTied w keys → IsSound m → reverse (faces_of (spokes_to v (spokes_at w.fans u))) ≡ faces_running m u v
+running-tied w keys l nv nf m u v view t sound =
     let faces : faces_in w.sides keys ≡ m.faces = ap (λ x. x.faces) view in
     ap (λ ss. reverse (faces_of (spokes_to v ss))) (t.spokes u ∙ ap (λ x. falling u (finite.entries x)) faces)
     ∙ running-falling u v (finite.entries m.faces) (all_entries (λ q c. AreDifferent c) m.faces sound.is_mesh.different_corners)
 
-pub at-tied : (w : Woven) (keys : Keys) (nv nf : ℕ) (m : Mesh) (v : ℕ) → woven_mesh w keys nv nf ≡ m → AreTied w keys → reverse (faces_of (spokes_at w.fans v)) ≡ faces_at m v
-at-tied w keys nv nf m v view t =
+pub at-tied : (w : Woven) (keys : Keys) (l : Limits) (nv nf : ℕ) (m : Mesh) (v : ℕ) → woven_mesh w keys l nv nf ≡ m → AreTied w keys → reverse (faces_of (spokes_at w.fans v)) ≡ faces_at m v
+at-tied w keys l nv nf m v view t =
     let faces : faces_in w.sides keys ≡ m.faces = ap (λ x. x.faces) view in
     ap (λ ss. reverse (faces_of ss)) (t.spokes v ∙ ap (λ x. falling v (finite.entries x)) faces)
     ∙ faces_at-falling v (finite.entries m.faces)
@@ -78,29 +79,29 @@ some_fan : (o : Option Fan) → is_some (option_map (λ (x : Fan). x.vertex.poin
 some_fan None e = cc
 some_fan (Some fan) e = (fan, refl)
 
-pub live_fan : (w : Woven) (keys : Keys) (nv nf : ℕ) (m : Mesh) (v : ℕ) → woven_mesh w keys nv nf ≡ m → IsLiveVertex m v → (fan : Fan) × (finite.get w.fans v ≡ Some fan)
-live_fan w keys nv nf m v view live =
+pub live_fan : (w : Woven) (keys : Keys) (l : Limits) (nv nf : ℕ) (m : Mesh) (v : ℕ) → woven_mesh w keys l nv nf ≡ m → IsLiveVertex m v → (fan : Fan) × (finite.get w.fans v ≡ Some fan)
+live_fan w keys l nv nf m v view live =
     some_fan (finite.get w.fans v) (ap is_some (sym (get-points w.fans v) ∙ ap (λ x. finite.get x.points v) view) ∙ live)
 
 none_fan : (o : Option Fan) → (is_some (option_map (λ (x : Fan). x.vertex.point) o) ≡ true → ⊥) → o ≡ None
 none_fan None e = refl
 none_fan (Some fan) e = absurd (e refl)
 
-pub dead_fan : (w : Woven) (keys : Keys) (nv nf : ℕ) (m : Mesh) (v : ℕ) → woven_mesh w keys nv nf ≡ m → (IsLiveVertex m v → ⊥) → finite.get w.fans v ≡ None
-dead_fan w keys nv nf m v view dead =
+pub dead_fan : (w : Woven) (keys : Keys) (l : Limits) (nv nf : ℕ) (m : Mesh) (v : ℕ) → woven_mesh w keys l nv nf ≡ m → (IsLiveVertex m v → ⊥) → finite.get w.fans v ≡ None
+dead_fan w keys l nv nf m v view dead =
     none_fan (finite.get w.fans v) (λ some. dead (ap is_some (sym (ap (λ x. finite.get x.points v) view) ∙ get-points w.fans v) ∙ some))
 
 -- a face that is not live has no key
-pub dead_key : (w : Woven) (keys : Keys) (nv nf : ℕ) (m : Mesh) (f : ℕ) → woven_mesh w keys nv nf ≡ m → (IsLiveFace m f → ⊥) → finite.get keys f ≡ None
-dead_key w keys nv nf m f view dead = seen (finite.get keys f) (λ some. dead (ap is_some (sym (ap (λ x. finite.get x.faces f) view) ∙ get-mapped (corners_at w.sides) keys f) ∙ some))
+pub dead_key : (w : Woven) (keys : Keys) (l : Limits) (nv nf : ℕ) (m : Mesh) (f : ℕ) → woven_mesh w keys l nv nf ≡ m → (IsLiveFace m f → ⊥) → finite.get keys f ≡ None
+dead_key w keys l nv nf m f view dead = seen (finite.get keys f) (λ some. dead (ap is_some (sym (ap (λ x. finite.get x.faces f) view) ∙ get-mapped (corners_at w.sides) keys f) ∙ some))
   where
     seen : (o : Option ℕ) → (is_some (option_map (corners_at w.sides) o) ≡ true → ⊥) → o ≡ None
     seen None e = refl
     seen (Some k) e = absurd (e refl)
 
 -- one that is not live has no spoke
-pub dead_spokes : (w : Woven) (keys : Keys) (nv nf : ℕ) (m : Mesh) (v : ℕ) → woven_mesh w keys nv nf ≡ m → (IsLiveVertex m v → ⊥) → spokes_at w.fans v ≡ []
-dead_spokes w keys nv nf m v view dead =
+pub dead_spokes : (w : Woven) (keys : Keys) (l : Limits) (nv nf : ℕ) (m : Mesh) (v : ℕ) → woven_mesh w keys l nv nf ≡ m → (IsLiveVertex m v → ⊥) → spokes_at w.fans v ≡ []
+dead_spokes w keys l nv nf m v view dead =
     ap (λ o. elim o [ None ↦ [] | Some x ↦ x.spokes ])
     (none_fan (finite.get w.fans v) (λ some. dead (ap is_some (sym (ap (λ x. finite.get x.points v) view) ∙ get-points w.fans v) ∙ some)))
 

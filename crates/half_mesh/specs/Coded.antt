@@ -10,6 +10,7 @@ use Rattle.half_mesh.specs.States.{Buried, State, Ledger}
 use base.Stored.{coded_unit}
 use Rattle.grid_base.specs.declared.Point.{Point}
 use Rattle.mesh_base.specs.declared.ids.Corners.{Corners}
+use Rattle.mesh_base.specs.declared.limits.Limits.{Limits}
 use Rattle.mesh_base.specs.Mesh.{Mesh, IdSet}
 use Rattle.mesh_plain.specs.Coded.{mesh_code}
 
@@ -63,17 +64,17 @@ buried_code point corners =
     (λ _. refl)
 
 -- the same of a mesh with what is buried of it
-abbrev pub state_code : Coded Point → Coded Corners → Coded State
-state_code point corners =
-    code_by (Mesh × Buried) (coded× (mesh_code point corners) (buried_code point corners))
+abbrev pub state_code : Coded Point → Coded Corners → Coded Limits → Coded State
+state_code point corners limits =
+    code_by (Mesh × Buried) (coded× (mesh_code point corners limits) (buried_code point corners))
     (λ s. (s.mesh, s.buried))
     (λ p. record { mesh = p.0; buried = p.1 })
     (λ _. refl)
 
 -- the same of that with its spare changes
-abbrev pub ledger_code : Coded Point → Coded Corners → Coded Ledger
-ledger_code point corners =
-    code_by (State × ℕ) (coded× (state_code point corners) coded_ℕ)
+abbrev pub ledger_code : Coded Point → Coded Corners → Coded Limits → Coded Ledger
+ledger_code point corners limits =
+    code_by (State × ℕ) (coded× (state_code point corners limits) coded_ℕ)
     (λ l. (l.state, l.spare))
     (λ p. record { state = p.0; spare = p.1 })
     (λ _. refl)

@@ -2,7 +2,6 @@
 use Rattle.std.specs.Prelude.{◌≡◌, ℕ, ◌+◌, ◌<◌, ◌≤◌, false, List, [], All, map as map_list, IsSome, None, Some, Option}
 use Rattle.std.specs.Ordering.{nat_cmp}
 use Rattle.std.specs.FinMap as map
-use Rattle.grid_base.specs.declared.TheConstants.{VERTICES_MAX, FACES_MAX}
 use Rattle.grid_base.specs.declared.Point.{Point}
 use Rattle.mesh_base.specs.declared.ids.Corners.{Corners}
 use Rattle.mesh_base.specs.Mesh.{Mesh, IdSet, IsLiveVertex, IsLiveFace, HasCorners, AreLive, AreDifferent, equal_up_to_rotation}
@@ -91,7 +90,7 @@ without_solid m v = record m { solid = map.remove m.solid v }
 -- it is buried, one more may live, its corners live, and no live face equals it
 pub record CanRaiseFace (s : State) (f : ℕ) : Type 0 where
   pub buried : IsSome (map.get s.buried.faces f)
-  pub room : map.len s.mesh.faces < FACES_MAX
+  pub room : map.len s.mesh.faces < s.mesh.limits.faces
   pub live : (c : Corners) → map.get s.buried.faces f ≡ Some c → AreLive s.mesh c
   pub new : (g : ℕ) (c d : Corners) → map.get s.buried.faces f ≡ Some c → HasCorners s.mesh g d →
       equal_up_to_rotation d c ≡ false
@@ -99,7 +98,7 @@ pub record CanRaiseFace (s : State) (f : ℕ) : Type 0 where
 -- it is buried, and one more may live
 pub record CanRaiseVertex (s : State) (v : ℕ) : Type 0 where
   pub buried : IsSome (map.get s.buried.points v)
-  pub room : map.len s.mesh.points < VERTICES_MAX
+  pub room : map.len s.mesh.points < s.mesh.limits.vertices
 
 -- it lives, and was made last
 pub record CanUnmakeFace (s : State) (f : ℕ) : Type 0 where

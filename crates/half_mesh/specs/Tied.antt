@@ -3,6 +3,7 @@ use Rattle.std.specs.Prelude.{◌≡◌, ◌≢◌, ℕ, ◌/◌, min, ◌==◌,
 use Rattle.std.specs.Ordering.{nat_cmp}
 use Rattle.std.specs.FinMap as finite
 use Rattle.mesh_base.specs.declared.ids.Corners.{Corners}
+use Rattle.mesh_base.specs.declared.limits.Limits.{Limits}
 use Rattle.mesh_base.specs.Mesh.{Mesh}
 use Rattle.half_mesh.specs.Vertices.{vertices_in, points_in, solid_in}
 use Rattle.mesh_base.specs.Sides.{has_corner}
@@ -44,14 +45,15 @@ FaceMap = finite.FinMap nat_cmp Corners
 abbrev pub faces_in : Sides → Keys → FaceMap
 faces_in sides keys = mapped (corners_at sides) keys
 
--- the mesh that fans and keys stand for
-abbrev pub woven_mesh : Woven → Keys → ℕ → ℕ → Mesh
-woven_mesh woven keys next_vertex next_face = record {
+-- the mesh that fans and keys stand for, under limits
+abbrev pub woven_mesh : Woven → Keys → Limits → ℕ → ℕ → Mesh
+woven_mesh woven keys limits next_vertex next_face = record {
   points = points_in (vertices_in woven.fans);
   faces = faces_in woven.sides keys;
   solid = solid_in (vertices_in woven.fans);
   next_vertex = next_vertex;
   next_face = next_face;
+  limits = limits;
 }
 
 -- what is buried
@@ -68,10 +70,10 @@ abbrev pub spare_in : Ground → Stock ℕ → ℕ
 spare_in g keys = min (min g.seats keys.room) (g.woven.room / 3)
 
 -- what the tables of a mesh stand for
-abbrev pub ledger_in : Ground → Stock ℕ → ℕ → ℕ → Ledger
-ledger_in g keys next_vertex next_face = record {
+abbrev pub ledger_in : Ground → Stock ℕ → Limits → ℕ → ℕ → Ledger
+ledger_in g keys limits next_vertex next_face = record {
   state = record {
-    mesh = woven_mesh g.woven keys.live next_vertex next_face;
+    mesh = woven_mesh g.woven keys.live limits next_vertex next_face;
     buried = buried_in g keys;
   };
   spare = spare_in g keys;

@@ -3,8 +3,8 @@ ghost use Rattle.mesh_base.specs.Mesh.{IsSound};
 ghost use Rattle.half_mesh.specs.States.{AreApart, meshes_of, NoneBuried};
 
 use crate::tables::Tables;
-use grid_base::{Extent, FACES_MAX, ID_MAX, NoMemory, Point, VERTICES_MAX};
-use mesh_base::{AddFault, Corners, FaceId, Mark, MeshLists, Surface, VertexId, faces_near_of_all};
+use grid_base::{Extent, ID_MAX, NoMemory, Point};
+use mesh_base::{AddFault, Corners, FaceId, Limits, Mark, MeshLists, Surface, VertexId, faces_near_of_all};
 use std::alloc::Global;
 
 /// A mesh in half-edges: a look-up at a vertex takes time in proportion to its faces. It keeps a copy of the mesh for each
@@ -254,6 +254,10 @@ impl Surface for HalfMesh {
         self.now.next_face()
     }
 
+    fn limits(&self) -> Limits {
+        self.now.limits()
+    }
+
     fn vertex_after(&self, v: u32) -> Option<VertexId> {
         self.now.vertex_after(v)
     }
@@ -316,7 +320,7 @@ impl Surface for HalfMesh {
         ensures memory { IsErrOf result AddFault.NoMemory → spare_in self.old ≡ 0 }
         ensures spare { spare_in self.old ≤ spare_in self.new + 1 }
     {
-        if self.now.vertices() >= VERTICES_MAX as usize || self.now.next_vertex() > ID_MAX {
+        if self.now.vertices() >= self.now.limits().vertices as usize || self.now.next_vertex() > ID_MAX {
             return Err(AddFault::Full);
         }
         match self.now.add_vertex(p) {
@@ -338,7 +342,7 @@ impl Surface for HalfMesh {
         ensures memory { IsErrOf result AddFault.NoMemory → spare_in self.old ≡ 0 }
         ensures spare { spare_in self.old ≤ spare_in self.new + 1 }
     {
-        if self.now.faces() >= FACES_MAX as usize || self.now.next_face() > ID_MAX {
+        if self.now.faces() >= self.now.limits().faces as usize || self.now.next_face() > ID_MAX {
             return Err(AddFault::Full);
         }
         let c = Corners::of(c);

@@ -6,7 +6,7 @@ ghost use Rattle.std.specs.FinMap as map;
 ghost use Rattle.mesh_base.specs.Mesh.{IsSound, IsLiveVertex, IsLiveFace, AreLive, AreDifferent, is_solid};
 ghost use Rattle.mesh_base.specs.Changes.{corner_list, with_vertex, with_face, without_face, without_vertex, with_point, with_solid};
 ghost use Rattle.mesh_base.specs.Sides.{above, faces_at, faces_running, runs};
-ghost use Rattle.mesh_base.specs.Given.{mesh_of};
+ghost use Rattle.mesh_base.specs.Given.{mesh_of, empty_mesh};
 ghost use Rattle.mesh_plain.specs.Numbered.{numbered};
 ghost use Rattle.mesh_plain.specs.Shape.{shape_fault};
 ghost use Rattle.half_mesh.specs.Fans.{spokes_at, IsNewest};
@@ -19,7 +19,7 @@ use crate::fans::Fans;
 use crate::row::Vertex;
 use grid_base::{NoMemory, Point};
 use id_table::Rows;
-use mesh_base::{Corners, FaceId, FaceTable, MeshLists, VertexId};
+use mesh_base::{Corners, FaceId, FaceTable, Limits, MeshLists, VertexId};
 use std::alloc::Global;
 use std::marker::Model;
 
@@ -31,6 +31,7 @@ pub(crate) struct Tables {
     pub(crate) keys: Rows<usize>,
     pub(crate) next_vertex: u32,
     pub(crate) next_face: u32,
+    limits: Limits,
 }
 
 impl Model for Tables {
@@ -41,12 +42,13 @@ impl Model for Tables {
     ghost use Rattle.half_mesh.specs.Coded.{ledger_code};
     ghost use Rattle.grid_base.specs.contracts.Point as point;
     ghost use Rattle.mesh_base.specs.contracts.ids.Corners as corners;
+    ghost use Rattle.mesh_base.specs.contracts.limits.Limits as allowed;
 
-    ghost coded = { ledger_code point.the_row.coded corners.the_row.coded };
+    ghost coded = { ledger_code point.the_row.coded corners.the_row.coded allowed.the_row.coded };
 
     ghost use Rattle.half_mesh.specs.Tied.{ledger_in, AreKept};
 
-    ghost view = { λ t. ledger_in t.fans t.keys t.next_vertex t.next_face };
+    ghost view = { λ t. ledger_in t.fans t.keys t.limits t.next_vertex t.next_face };
 
     ghost invariant = { λ t. AreKept t.fans.woven t.keys };
 }
@@ -72,22 +74,14 @@ impl FaceTable for Tables {
 
 impl Tables {
     pub(crate) fn new(alloc: Global) -> Tables
-        ensures { result.state ≡ record {
-          mesh = record {
-            points = map.empty;
-            faces = map.empty;
-            solid = map.empty;
-            next_vertex = 1;
-            next_face = 1;
-          };
-          buried = none_buried;
-        } }
+        ensures { result.state ≡ record { mesh = empty_mesh; buried = none_buried } }
     {
         Tables {
             fans: Fans::new(alloc),
             keys: Rows::new(alloc),
             next_vertex: 1,
             next_face: 1,
+            limits: Limits::standard(),
         }
     }
 
@@ -149,6 +143,7 @@ impl Tables {
             keys: self.keys.copy()?,
             next_vertex: self.next_vertex,
             next_face: self.next_face,
+            limits: self.limits,
         })
     }
 
@@ -174,6 +169,12 @@ impl Tables {
         ensures { result ≡ self.now.state.mesh.next_face }
     {
         self.next_face
+    }
+
+    pub(crate) fn limits(&self) -> Limits
+        ensures { result ≡ self.now.state.mesh.limits }
+    {
+        self.limits
     }
 
     pub(crate) fn vertex_after(&self, v: u32) -> Option<VertexId>

@@ -27,6 +27,13 @@ len-insert_there m k v there = len-insert nat_cmp_total m k v ∙ ap (λ b. cond
 len-remove_le : {X : Type 0} (m : map.FinMap nat_cmp X) (k : ℕ) → map.len (map.remove m k) ≤ map.len m
 len-remove_le m k = rw (len-remove nat_cmp_total m k) (elim (map.contains_key m k) as (λ b. cond b (map.len m - 1) (map.len m) ≤ map.len m) [ true ↦ omega arith | false ↦ omega arith ])
 
+-- a mesh has no more vertices and faces than the greatest limits allow
+pub few_live_vertices : (m : Mesh) → IsSound m → map.len m.points ≤ VERTICES_MAX
+few_live_vertices m s = omega (arith, s.limits.vertices, s.limits.greatest.0)
+
+pub few_live_faces : (m : Mesh) → IsSound m → map.len m.faces ≤ FACES_MAX
+few_live_faces m s = omega (arith, s.limits.faces, s.limits.greatest.1)
+
 is_live : {X : Type 0} (m : map.FinMap nat_cmp X) (k : ℕ) (v : X) → map.get m k ≡ Some v → IsSome (map.get m k)
 is_live m k v h = ap is_some h
 
@@ -44,6 +51,7 @@ sound-with_point m v p s live = record {
     different_faces = s.is_mesh.different_faces;
   };
   limits = record {
+    greatest = s.limits.greatest;
     vertices = let e = len-insert_there m.points v p live in omega (arith, s.limits.vertices);
     faces = s.limits.faces;
     vertex_ids = s.limits.vertex_ids;
@@ -52,7 +60,7 @@ sound-with_point m v p s live = record {
 }
 
 -- a vertex is made
-pub sound-with_vertex : (m : Mesh) (p : Point) → IsSound m → map.len m.points < VERTICES_MAX → m.next_vertex < (ID_MAX + 1) → IsSound (with_vertex m p)
+pub sound-with_vertex : (m : Mesh) (p : Point) → IsSound m → map.len m.points < m.limits.vertices → m.next_vertex < (ID_MAX + 1) → IsSound (with_vertex m p)
 sound-with_vertex m p s few ids = record {
   is_mesh = record {
     vertex_ids = λ q h. ⊎_elim (λ e. let b = s.limits.vertex_ids in omega arith) (λ old. let b = s.is_mesh.vertex_ids q old in omega arith) (live_after_insert m.points m.next_vertex p q h);
@@ -65,6 +73,7 @@ sound-with_vertex m p s few ids = record {
     different_faces = s.is_mesh.different_faces;
   };
   limits = record {
+    greatest = s.limits.greatest;
     vertices = let e = len-insert_le m.points m.next_vertex p in omega arith;
     faces = s.limits.faces;
     vertex_ids = let b = s.limits.vertex_ids in omega arith;
@@ -84,6 +93,7 @@ sound-without_face m f s = record {
     different_faces = λ g g' c d h h'. s.is_mesh.different_faces g g' c d (got_after_remove m.faces f g c h).1 (got_after_remove m.faces f g' d h').1;
   };
   limits = record {
+    greatest = s.limits.greatest;
     vertices = s.limits.vertices;
     faces = let e = len-remove_le m.faces f in let b = s.limits.faces in omega arith;
     vertex_ids = s.limits.vertex_ids;
@@ -120,7 +130,7 @@ pub equal_symmetric : (c d : Corners) → equal_up_to_rotation c d ≡ true → 
 equal_symmetric c d h = symmetric c.first c.second c.third d.first d.second d.third h
 
 -- a face is made
-pub sound-with_face : (m : Mesh) (c : Corners) → IsSound m → IsFresh m c → map.len m.faces < FACES_MAX → m.next_face < (ID_MAX + 1) → IsSound (with_face m c)
+pub sound-with_face : (m : Mesh) (c : Corners) → IsSound m → IsFresh m c → map.len m.faces < m.limits.faces → m.next_face < (ID_MAX + 1) → IsSound (with_face m c)
 sound-with_face m c s fresh few ids =
     let got = got_after_insert m.faces m.next_face c in
     record {
@@ -136,6 +146,7 @@ sound-with_face m c s fresh few ids =
             (got g d h);
       };
       limits = record {
+        greatest = s.limits.greatest;
         vertices = s.limits.vertices;
         faces = let e = len-insert_le m.faces m.next_face c in omega arith;
         vertex_ids = s.limits.vertex_ids;
@@ -174,6 +185,7 @@ sound-without_vertex m v s bare = record {
     different_faces = s.is_mesh.different_faces;
   };
   limits = record {
+    greatest = s.limits.greatest;
     vertices = let e = len-remove_le m.points v in let b = s.limits.vertices in omega arith;
     faces = s.limits.faces;
     vertex_ids = s.limits.vertex_ids;
@@ -193,6 +205,7 @@ sound-with_solid m v s live = record {
     different_faces = s.is_mesh.different_faces;
   };
   limits = record {
+    greatest = s.limits.greatest;
     vertices = s.limits.vertices;
     faces = s.limits.faces;
     vertex_ids = s.limits.vertex_ids;

@@ -128,6 +128,10 @@ pub next_face-with_moves : (m : Mesh) (moves : Shifts) → (with_moves m moves).
 next_face-with_moves m [] = refl
 next_face-with_moves m (s ∷ rest) = next_face-with_moves (with_move m s) rest
 
+pub limits-with_moves : (m : Mesh) (moves : Shifts) → (with_moves m moves).limits ≡ m.limits
+limits-with_moves m [] = refl
+limits-with_moves m (s ∷ rest) = limits-with_moves (with_move m s) rest
+
 -- moves that name live vertices name live ones after the first
 pub still_live : (m : Mesh) (s : ShiftOf) (rest : Shifts) → IsLiveVertex m s.v → All (λ x. IsLiveVertex m x.v) rest → All (λ x. IsLiveVertex (with_move m s) x.v) rest
 still_live m s rest live others = All-weaker (λ x. IsLiveVertex m x.v) (λ x. IsLiveVertex (with_move m s) x.v) (λ x h. live-moved m s x.v live ∙ h) rest others

@@ -1,7 +1,7 @@
 -- What each change makes of a mesh.
 use Rattle.std.specs.Prelude.{◌≡◌, ℕ, ◌+◌, ◌⊎◌, false, List, [], ◌∷◌, slice_index}
 use Rattle.std.specs.FinMap as map
-use Rattle.grid_base.specs.declared.TheConstants.{VERTICES_MAX, FACES_MAX, ID_MAX}
+use Rattle.grid_base.specs.declared.TheConstants.{ID_MAX}
 use Rattle.grid_base.specs.declared.Point.{Point}
 use Rattle.mesh_base.specs.declared.ids.Corners.{Corners}
 use Rattle.mesh_base.specs.Mesh.{Mesh, AreLive, AreDifferent, HasCorners, equal_up_to_rotation}
@@ -48,8 +48,8 @@ pub record IsFresh (m : Mesh) (c : Corners) : Type 0 where
 
 -- no vertex can be made: so many are live, or so many ids are made
 abbrev pub IsFullOfVertices : Mesh → Type 0
-IsFullOfVertices m = (map.len m.points ≡ VERTICES_MAX) ⊎ (m.next_vertex ≡ (ID_MAX + 1))
+IsFullOfVertices m = (map.len m.points ≡ m.limits.vertices) ⊎ (m.next_vertex ≡ (ID_MAX + 1))
 
 -- no face can be made
 abbrev pub IsFullOfFaces : Mesh → Type 0
-IsFullOfFaces m = (map.len m.faces ≡ FACES_MAX) ⊎ (m.next_face ≡ (ID_MAX + 1))
+IsFullOfFaces m = (map.len m.faces ≡ m.limits.faces) ⊎ (m.next_face ≡ (ID_MAX + 1))

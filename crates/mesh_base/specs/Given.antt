@@ -4,13 +4,14 @@ use Rattle.std.specs.List.{enumerate_from}
 use Rattle.std.specs.FinMap as finite
 use Rattle.grid_base.specs.declared.Point.{Point}
 use Rattle.mesh_base.specs.Mesh.{Mesh}
+use Rattle.mesh_base.specs.Limits.{standard}
 use Rattle.mesh_base.specs.Changes.{corners_of}
 
 -- faces, each by the numbers of its three corners
 abbrev pub Faces : Type 0
 Faces = List (List ℕ)
 
--- a mesh with nothing in it
+-- a mesh with nothing in it, of standard limits
 abbrev pub empty_mesh : Mesh
 empty_mesh = record {
   points = finite.empty;
@@ -18,9 +19,10 @@ empty_mesh = record {
   solid = finite.empty;
   next_vertex = 1;
   next_face = 1;
+  limits = standard;
 }
 
--- the points and the faces, numbered from 1
+-- the points and the faces, numbered from 1, with standard limits
 abbrev pub mesh_of : List Point → Faces → Mesh
 mesh_of points faces = record {
   points = finite.from_entries (enumerate_from 1 points);
@@ -28,4 +30,5 @@ mesh_of points faces = record {
   solid = finite.empty;
   next_vertex = length points + 1;
   next_face = length faces + 1;
+  limits = standard;
 }

@@ -6,19 +6,21 @@ use Rattle.std.specs.FinMap as map
 use Rattle.grid_base.specs.declared.TheConstants.{VERTICES_MAX, FACES_MAX, ID_MAX}
 use Rattle.grid_base.specs.declared.Point.{Point}
 use Rattle.mesh_base.specs.declared.ids.Corners.{Corners}
+use Rattle.mesh_base.specs.declared.limits.Limits.{Limits}
 
 -- a finite set of ids: a map that says nothing of each
 abbrev pub IdSet : Type 0
 IdSet = map.FinMap nat_cmp (Unit {0})
 
 -- the points of the live vertices, the corners of the live faces, the solid
--- vertices, and the ids that come next
+-- vertices, the ids that come next, and how many of each kind may be live
 pub record Mesh : Type 0 where
   pub points : map.FinMap nat_cmp Point
   pub faces : map.FinMap nat_cmp Corners
   pub solid : IdSet
   pub next_vertex : ℕ
   pub next_face : ℕ
+  pub limits : Limits
 
 -- the vertex lives
 abbrev pub IsLiveVertex : Mesh → ℕ → Type 0
@@ -69,10 +71,12 @@ pub record IsMesh (m : Mesh) : Type 0 where
   pub different_faces : (f g : ℕ) (c d : Corners) → HasCorners m f c → HasCorners m g d →
       IsTrue (equal_up_to_rotation c d) → f ≡ g
 
--- at most 65,536 live vertices, 131,072 live faces, and 2^31 ids made of each kind
+-- at most as many live vertices and faces as its limits say, these at most the greatest
+-- that there are, and 2^31 ids made of each kind
 pub record IsWithinLimits (m : Mesh) : Type 0 where
-  pub vertices : map.len m.points ≤ VERTICES_MAX
-  pub faces : map.len m.faces ≤ FACES_MAX
+  pub vertices : map.len m.points ≤ m.limits.vertices
+  pub faces : map.len m.faces ≤ m.limits.faces
+  pub greatest : (m.limits.vertices ≤ VERTICES_MAX) × (m.limits.faces ≤ FACES_MAX)
   pub vertex_ids : (1 ≤ m.next_vertex) × (m.next_vertex ≤ (ID_MAX + 1))
   pub face_ids : (1 ≤ m.next_face) × (m.next_face ≤ (ID_MAX + 1))
 

@@ -28,6 +28,7 @@ pub fn moves_keep_the_mesh()
     ensures next_vertex { (m : Mesh) (moves : Shifts) →
         (with_moves m moves).next_vertex ≡ m.next_vertex }
     ensures next_face { (m : Mesh) (moves : Shifts) → (with_moves m moves).next_face ≡ m.next_face }
+    ensures limits { (m : Mesh) (moves : Shifts) → (with_moves m moves).limits ≡ m.limits }
     ensures sound { (m : Mesh) (moves : Shifts) →
         IsSound m → NameOnce m moves → IsSound (with_moves m moves) }
     ensures closed { (m : Mesh) (moves : Shifts) → IsClosed m → IsClosed (with_moves m moves) }

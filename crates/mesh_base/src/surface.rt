@@ -9,6 +9,7 @@ ghost use Rattle.mesh_base.specs.Near.{faces_near};
 
 use crate::faults::AddFault;
 use crate::ids::{FaceId, VertexId};
+use crate::limits::Limits;
 use crate::marks::Mark;
 use grid_base::{Extent, NoMemory, Point};
 
@@ -43,6 +44,10 @@ pub trait Surface {
     /// The id that the next face gets, 1 at first; after a return as it was in the mesh returned to.
     fn next_face(&self) -> u32
         ensures { result ≡ (mesh self.now).next_face };
+
+    /// How many vertices and faces may be live at once.
+    fn limits(&self) -> Limits
+        ensures { result ≡ (mesh self.now).limits };
 
     /// The least live vertex above the number; None exactly where there is none.
     fn vertex_after(&self, v: u32) -> Option<VertexId>
@@ -91,8 +96,8 @@ pub trait Surface {
         ensures kept { kept self.new ≡ kept self.old }
     {}
 
-    /// Makes a vertex that has no face and is not solid, and answers its id, the next. Full exactly where `VERTICES_MAX`
-    /// vertices are live or the id `ID_MAX` is given; an answer that is not Ok leaves all as it was.
+    /// Makes a vertex that has no face and is not solid, and answers its id, the next. Full exactly where as many vertices
+    /// are live as the limits say, or the id `ID_MAX` is given; an answer that is not Ok leaves all as it was.
     fn add_vertex(&mut self, p: Point) -> Result<VertexId, AddFault>
         ensures id { IfOk result (λ v. v ≡ (mesh self.old).next_vertex) }
         ensures ok { OnOk result (mesh self.new ≡ with_vertex (mesh self.old) p) }
@@ -105,7 +110,7 @@ pub trait Surface {
             ((mesh self.new ≡ mesh self.old) × (kept self.new ≡ kept self.old)) };
 
     /// Makes a face of three different live vertices which no live face equals up to rotation, and answers its id, the
-    /// next. Full exactly where `FACES_MAX` faces are live or the id `ID_MAX` is given.
+    /// next. Full exactly where as many faces are live as the limits say, or the id `ID_MAX` is given.
     fn add_face(&mut self, c: [VertexId; 3]) -> Result<FaceId, AddFault>
         requires { IsFresh (mesh self.old) (corners_of c) }
         ensures id { IfOk result (λ f. f ≡ (mesh self.old).next_face) }

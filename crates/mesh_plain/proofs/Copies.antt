@@ -13,6 +13,7 @@ use Rattle.grid_base.proofs.PointLaws.{point_at-position_of}
 use Rattle.mesh_base.specs.declared.Corners.{Corners}
 use Rattle.mesh_base.specs.Mesh.{Mesh, IsSound, is_solid}
 use Rattle.mesh_base.specs.Given.{empty_mesh}
+use Rattle.mesh_base.specs.Limits.{under}
 use Rattle.mesh_base.specs.Placements.{point_of, position_or_origin}
 use Rattle.mesh_plain.specs.Copying.{with_vertex_of, with_face_of, with_vertices_of, with_faces_of}
 use Rattle.mesh_plain.specs.Numbered.{numbered}
@@ -161,7 +162,7 @@ module _ (m : Mesh) where
   marks_stay (f ∷ rest) t = marks_stay rest (with_face_of m t f)
 
   -- all of it
-  pub copied : IsSound m → numbered (with_faces_of m (with_vertices_of m empty_mesh)) m.next_vertex m.next_face ≡ m
+  pub copied : IsSound m → under m.limits (numbered (with_faces_of m (with_vertices_of m empty_mesh)) m.next_vertex m.next_face) ≡ m
   copied sound =
       let t : Mesh = with_vertices_of m empty_mesh in
       let points : (with_faces_of m t).points ≡ m.points =
@@ -170,4 +171,4 @@ module _ (m : Mesh) where
       same_map nat_cmp_total nat_cmp-IsAntisymmetric (with_faces_of m t).faces m.faces (λ q. ap (λ (g : ℕ → Option Corners). g q) (faces_are t (faces_stay (finite.keys m.points) empty_mesh))) in
       let solid : (with_faces_of m t).solid ≡ m.solid =
       marks_stay (finite.keys m.faces) t ∙ same_map nat_cmp_total nat_cmp-IsAntisymmetric t.solid m.solid (λ q. ap (λ (g : ℕ → Option (Unit {0})). g q) (marks_are sound)) in
-      λ i. record { points = points i; faces = faces i; solid = solid i; next_vertex = m.next_vertex; next_face = m.next_face }
+      λ i. record { points = points i; faces = faces i; solid = solid i; next_vertex = m.next_vertex; next_face = m.next_face; limits = m.limits }

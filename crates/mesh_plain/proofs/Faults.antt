@@ -16,6 +16,7 @@ use Rattle.grid_base.specs.declared.Point.{Point}
 use Rattle.mesh_base.specs.declared.ids.Corners.{Corners}
 use Rattle.mesh_base.specs.declared.faults.ShapeFault.{ShapeFault}
 use Rattle.mesh_base.specs.declared.faults.ShapeFault.TheVariants.{TooManyVertices, TooManyFaces, NoVertex, Repeated, Doubled, Unbalanced}
+use Rattle.mesh_base.proofs.MeshLaws.{few_live_vertices, few_live_faces}
 use Rattle.mesh_base.specs.Mesh.{Mesh, IsSound, IsLiveVertex, AreLive, AreDifferent, HasCorners, equal_up_to_rotation}
 use Rattle.mesh_base.specs.Sides.{follows, runs, IsClosed}
 use Rattle.mesh_base.specs.Changes.{corners_of, corner_list}
@@ -198,8 +199,8 @@ closed-mesh_of ps fs h u v = runs_given ps fs u v ∙ all_balanced (length ps) f
 
 -- all that a fault may deny
 all_hold : (m : Mesh) → IsSound m → IsClosed m → (fault : ShapeFault) → Denied fault m
-all_hold m sound closed (TooManyVertices count) = sound.limits.vertices
-all_hold m sound closed (TooManyFaces count) = sound.limits.faces
+all_hold m sound closed (TooManyVertices count) = few_live_vertices m sound
+all_hold m sound closed (TooManyFaces count) = few_live_faces m sound
 all_hold m sound closed (NoVertex face corner) = sound.is_mesh.live_corners
 all_hold m sound closed (Repeated face) = sound.is_mesh.different_corners
 all_hold m sound closed (Doubled first second) = sound.is_mesh.different_faces

@@ -1,5 +1,5 @@
 -- The mesh of lists of good shape is sound.
-use Rattle.std.proofs.Common.{◌≡◌, ◌≢◌, ℕ, zero, suc, ◌+◌, ◌<◌, ◌≤◌, ◌==◌, ◌&&◌, ◌||◌, Bool, true, false, cond, List, [], ◌∷◌, ◌++◌, Option, Some, None, IsSome, is_some, map, length, nat_lt, nat_le, slice_get, if◌then◌else◌, option_map, T, refl, sym, ap, subst, ◌∙◌, ⊎_elim, arith}
+use Rattle.std.proofs.Common.{◌≡◌, ◌≢◌, ℕ, zero, suc, ◌+◌, ◌<◌, ◌≤◌, ◌==◌, ◌&&◌, ◌||◌, Bool, true, false, cond, List, [], ◌∷◌, ◌++◌, Option, Some, None, IsSome, is_some, map, length, nat_lt, nat_le, slice_get, if◌then◌else◌, option_map, T, refl, sym, ap, subst, ◌∙◌, ⊎_elim, lit≤, arith}
 use Rattle.mesh_base.proofs.Tests.{not_both}
 use Rattle.std.specs.Option.{option_or}
 use Rattle.std.specs.List.{position_from, enumerate_from}
@@ -19,6 +19,7 @@ use Rattle.grid_base.specs.declared.TheConstants.{VERTICES_MAX, FACES_MAX}
 use Rattle.mesh_base.specs.declared.ids.Corners.{Corners}
 use Rattle.mesh_base.specs.declared.faults.ShapeFault.TheVariants.{TooManyVertices, TooManyFaces, NoVertex, Repeated}
 use Rattle.mesh_base.specs.Mesh.{IsSound, AreLive, AreDifferent, HasCorners, equal_up_to_rotation}
+use Rattle.mesh_base.specs.Limits.{standard}
 use Rattle.mesh_base.specs.Given.{Faces}
 use Rattle.mesh_plain.specs.Shape.{bad_corner, no_vertex_from, repeats, repeated_from, doubled_from, is_vertex, fault_but_balance, shape_fault}
 use Rattle.mesh_base.proofs.Finite.{none_in_empty}
@@ -247,6 +248,7 @@ sound-mesh_of ps fs h =
       limits = record {
         vertices = few_vertices ps fs none.vertices;
         faces = few_faces ps fs none.faces;
+        greatest = (lit≤ tt, lit≤ tt);
         vertex_ids = omega arith;
         face_ids = omega arith;
       };
@@ -260,7 +262,7 @@ map_push g (y ∷ xs) x = ap (λ ys. g y ∷ ys) (map_push g xs x)
 pub mesh_of-point : (ps : List Point) (p : Point) → with_vertex (mesh_of ps []) p ≡ mesh_of (ps ++ p ∷ []) []
 mesh_of-point ps p =
     let more : (length ps + 1) + 1 ≡ length (ps ++ p ∷ []) + 1 = omega (arith, length-append ps (p ∷ [])) in
-    λ i. record { points = sym (pushed ps p) i; faces = finite.from_entries []; solid = finite.empty; next_vertex = more i; next_face = 0 + 1 }
+    λ i. record { points = sym (pushed ps p) i; faces = finite.from_entries []; solid = finite.empty; next_vertex = more i; next_face = 0 + 1; limits = standard }
 
 -- one more face
 pub mesh_of-face : (ps : List Point) (fs : Faces) (l : List ℕ) → with_face (mesh_of ps fs) (corners_of l) ≡ mesh_of ps (fs ++ l ∷ [])
@@ -271,4 +273,4 @@ mesh_of-face ps fs l =
     ap (λ k. finite.insert (finite.from_entries {R = nat_cmp} (enumerate_from 1 (map corners_of fs))) k (corners_of l)) (sym id)
     ∙ sym (pushed (map corners_of fs) (corners_of l))
     ∙ ap (λ cs. finite.from_entries (enumerate_from 1 cs)) (sym (map_push corners_of fs l)) in
-    λ i. record { points = finite.from_entries (enumerate_from 1 ps); faces = faces i; solid = finite.empty; next_vertex = length ps + 1; next_face = more i }
+    λ i. record { points = finite.from_entries (enumerate_from 1 ps); faces = faces i; solid = finite.empty; next_vertex = length ps + 1; next_face = more i; limits = standard }

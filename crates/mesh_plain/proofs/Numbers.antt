@@ -24,6 +24,7 @@ sound-numbered points faces v f good of_v of_f =
       limits = record {
         vertices = s.limits.vertices;
         faces = s.limits.faces;
+        greatest = s.limits.greatest;
         vertex_ids = (omega arith, of_v.made);
         face_ids = (omega arith, of_f.made);
       };

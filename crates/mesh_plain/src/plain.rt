@@ -2,8 +2,8 @@ ghost use Rattle.std.specs.Prelude.{◌≡◌, All};
 ghost use Rattle.mesh_base.specs.Mesh.{IsSound};
 
 use crate::tables::Tables;
-use grid_base::{Extent, FACES_MAX, ID_MAX, NoMemory, Point, VERTICES_MAX};
-use mesh_base::{AddFault, Corners, FaceId, Mark, MeshLists, Surface, VertexId, faces_near_of_all};
+use grid_base::{Extent, ID_MAX, NoMemory, Point};
+use mesh_base::{AddFault, Corners, FaceId, Limits, Mark, MeshLists, Surface, VertexId, faces_near_of_all};
 use std::alloc::Global;
 
 /// A mesh in ordered maps from ids. It keeps a copy of the mesh for each mark.
@@ -108,6 +108,10 @@ impl Surface for PlainMesh {
         self.now.next_face()
     }
 
+    fn limits(&self) -> Limits {
+        self.now.limits()
+    }
+
     fn vertex_after(&self, v: u32) -> Option<VertexId> {
         self.now.vertex_after(v)
     }
@@ -156,7 +160,7 @@ impl Surface for PlainMesh {
         ensures marks { BeginsWith (kept_in self.new) (kept_in self.old) }
         ensures err { OnErr result (IsUnchanged self.old self.new) }
     {
-        if self.now.vertices() >= VERTICES_MAX as usize || self.now.next_vertex() > ID_MAX {
+        if self.now.vertices() >= self.now.limits().vertices as usize || self.now.next_vertex() > ID_MAX {
             return Err(AddFault::Full);
         }
         match self.now.add_vertex(p) {
@@ -175,7 +179,7 @@ impl Surface for PlainMesh {
         ensures marks { BeginsWith (kept_in self.new) (kept_in self.old) }
         ensures err { OnErr result (IsUnchanged self.old self.new) }
     {
-        if self.now.faces() >= FACES_MAX as usize || self.now.next_face() > ID_MAX {
+        if self.now.faces() >= self.now.limits().faces as usize || self.now.next_face() > ID_MAX {
             return Err(AddFault::Full);
         }
         match self.now.add_face(Corners::of(c)) {

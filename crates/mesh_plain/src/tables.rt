@@ -1,6 +1,7 @@
 //! The ordered maps of one mesh.
 ghost use Rattle.grid_base.specs.declared.TheConstants.{VERTICES_MAX, FACES_MAX};
 ghost use Rattle.mesh_base.specs.Given.{mesh_of, empty_mesh};
+ghost use Rattle.mesh_base.specs.Limits.{under};
 ghost use Rattle.mesh_plain.specs.Numbered.{numbered};
 ghost use Rattle.std.specs.Prelude.{◌≤◌, ◌≡◌, ◌<◌, ◌+◌, ◌^◌, IfOk, OnOk, OnErr, IsNone, slice_get, length, []};
 ghost use Rattle.std.specs.Option.{option_map};
@@ -11,7 +12,7 @@ ghost use Rattle.mesh_base.specs.Sides.{above, faces_at, faces_running, runs};
 ghost use Rattle.mesh_plain.specs.Copying.{with_vertex_of, with_face_of, with_vertices_of, with_faces_of};
 
 use grid_base::{NoMemory, Point};
-use mesh_base::{Corners, FaceId, FaceTable, MeshLists, Surface, VertexId, point_of};
+use mesh_base::{Corners, FaceId, FaceTable, Limits, MeshLists, Surface, VertexId, point_of};
 use std::alloc::Global;
 use std::collections::BTreeMap;
 use std::marker::Model;
@@ -26,6 +27,7 @@ pub(crate) struct Tables {
     solid: BTreeMap<u32, ()>,
     pub(crate) next_vertex: u32,
     pub(crate) next_face: u32,
+    limits: Limits,
 }
 
 impl Model for Tables {
@@ -36,8 +38,9 @@ impl Model for Tables {
     ghost use Rattle.mesh_plain.specs.Coded.{mesh_code};
     ghost use Rattle.grid_base.specs.contracts.Point as point;
     ghost use Rattle.mesh_base.specs.contracts.ids.Corners as corners;
+    ghost use Rattle.mesh_base.specs.contracts.limits.Limits as allowed;
 
-    ghost coded = { mesh_code point.the_row.coded corners.the_row.coded };
+    ghost coded = { mesh_code point.the_row.coded corners.the_row.coded allowed.the_row.coded };
 
     ghost use Rattle.std.specs.FinMap as map;
 
@@ -47,6 +50,7 @@ impl Model for Tables {
       solid = map.from_entries t.solid.entries;
       next_vertex = t.next_vertex;
       next_face = t.next_face;
+      limits = t.limits;
     } };
 }
 
@@ -76,6 +80,7 @@ impl Tables {
             solid: BTreeMap::new(alloc),
             next_vertex: 1,
             next_face: 1,
+            limits: Limits::standard(),
         }
     }
 
@@ -158,7 +163,15 @@ impl Tables {
         tables.put_vertices(mesh)?;
         tables.put_faces(mesh)?;
         tables.number(mesh.next_vertex(), mesh.next_face());
+        tables.allow(mesh.limits());
         Ok(tables)
+    }
+
+    /// Sets how many vertices and faces may be live.
+    fn allow(&mut self, limits: Limits)
+        ensures { self.new ≡ under limits self.old }
+    {
+        self.limits = limits;
     }
 
     /// Sets the next ids.
@@ -191,6 +204,12 @@ impl Tables {
         ensures { result ≡ self.now.next_face }
     {
         self.next_face
+    }
+
+    pub(crate) fn limits(&self) -> Limits
+        ensures { result ≡ self.now.limits }
+    {
+        self.limits
     }
 
     pub(crate) fn vertex_after(&self, v: u32) -> Option<VertexId>
@@ -345,6 +364,7 @@ impl Tables {
             solid: self.solid.clone()?,
             next_vertex: self.next_vertex,
             next_face: self.next_face,
+            limits: self.limits,
         })
     }
 }

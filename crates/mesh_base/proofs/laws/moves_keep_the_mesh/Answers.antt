@@ -1,5 +1,5 @@
 use Rattle.std.proofs.Common.{sym, ◌∙◌}
-use Rattle.mesh_base.proofs.Moves.{own-with_moves, live-with_moves, faces-with_moves, next_vertex-with_moves, next_face-with_moves, sound-with_moves, closed-with_moves, pair_before_moves, pair_after_moves}
+use Rattle.mesh_base.proofs.Moves.{own-with_moves, live-with_moves, faces-with_moves, next_vertex-with_moves, next_face-with_moves, limits-with_moves, sound-with_moves, closed-with_moves, pair_before_moves, pair_after_moves}
 use Rattle.mesh_base.proofs.laws.moves_keep_the_mesh.Goals as goal
 
 pub returns : goal.returns
@@ -9,6 +9,7 @@ returns c = record {
   faces = faces-with_moves;
   next_vertex = next_vertex-with_moves;
   next_face = next_face-with_moves;
+  limits = limits-with_moves;
   sound = λ m moves sound names. sound-with_moves m moves sound names.live;
   closed = closed-with_moves;
   pairs = λ m moves p. (pair_before_moves m moves p, pair_after_moves m moves p);

@@ -16,7 +16,7 @@ pub invariant_of-self-2 : goal.invariant_of-self-2
 invariant_of-self-2 c =
     let i = c.self.inside in
     let next = ap (λ m. m.next_vertex) (ap (λ (x : Ledger). x.state.mesh) c.self.view_is) in
-    let none = dead_spokes i.fans.woven i.keys.live i.next_vertex i.next_face c.args.self.now.state.mesh i.next_vertex (ap (λ (x : Ledger). x.state.mesh) c.self.view_is) (λ live. let b = c.requires.ids i.next_vertex live in omega arith) in
+    let none = dead_spokes i.fans.woven i.keys.live i.limits i.next_vertex i.next_face c.args.self.now.state.mesh i.next_vertex (ap (λ (x : Ledger). x.state.mesh) c.self.view_is) (λ live. let b = c.requires.ids i.next_vertex live in omega arith) in
     let woven = ap (λ (x : Ground). x.woven) c.in_ok-add.ensures.ok in
     record {
       live = rw woven (tied-fan i.fans.woven i.keys.live i.next_vertex (bare (record { point = c.args.p; solid = false })) c.self.invariant.live (sym none));
@@ -27,10 +27,10 @@ pub returns-clause-ok : goal.returns-clause-ok
 returns-clause-ok c =
     let i = c.self.inside in
     let next = ap (λ (m : Mesh). m.next_vertex) (ap (λ (x : Ledger). x.state.mesh) c.self.view_is) in
-    let none = dead_fan i.fans.woven i.keys.live i.next_vertex i.next_face c.args.self.now.state.mesh i.next_vertex (ap (λ (x : Ledger). x.state.mesh) c.self.view_is) (λ live. let b = c.requires.ids i.next_vertex live in omega arith) in
+    let none = dead_fan i.fans.woven i.keys.live i.limits i.next_vertex i.next_face c.args.self.now.state.mesh i.next_vertex (ap (λ (x : Ledger). x.state.mesh) c.self.view_is) (λ live. let b = c.requires.ids i.next_vertex live in omega arith) in
     state_same _ _ _ _
-    (ap (λ w. woven_mesh w i.keys.live (i.next_vertex + 1) i.next_face) (ap (λ (x : Ground). x.woven) c.in_ok-add.ensures.ok)
-    ∙ ap (λ (m : Mesh). record m { next_vertex = i.next_vertex + 1 }) (mesh-vertex_made i.fans.woven i.keys.live i.next_vertex i.next_face i.next_vertex (record { point = c.args.p; solid = false }) refl none)
+    (ap (λ w. woven_mesh w i.keys.live i.limits (i.next_vertex + 1) i.next_face) (ap (λ (x : Ground). x.woven) c.in_ok-add.ensures.ok)
+    ∙ ap (λ (m : Mesh). record m { next_vertex = i.next_vertex + 1 }) (mesh-vertex_made i.fans.woven i.keys.live i.limits i.next_vertex i.next_face i.next_vertex (record { point = c.args.p; solid = false }) refl none)
     ∙ ap (λ m. with_vertex m c.args.p) (ap (λ (x : Ledger). x.state.mesh) c.self.view_is))
     (ap (λ (x : Ground). buried_in x i.keys) c.in_ok-add.ensures.ok ∙ ap (λ (x : Ledger). x.state.buried) c.self.view_is)
 
@@ -42,6 +42,6 @@ add-requires c =
     let same = ap (λ (m : Mesh). finite.len m.points) (ap (λ (x : Ledger). x.state.mesh) c.self.view_is) in
     let few = c.requires.few in
     record {
-      new = dead_fan i.fans.woven i.keys.live i.next_vertex i.next_face c.args.self.now.state.mesh i.next_vertex (ap (λ (x : Ledger). x.state.mesh) c.self.view_is) (λ live. let b = c.requires.ids i.next_vertex live in omega arith);
+      new = dead_fan i.fans.woven i.keys.live i.limits i.next_vertex i.next_face c.args.self.now.state.mesh i.next_vertex (ap (λ (x : Ledger). x.state.mesh) c.self.view_is) (λ live. let b = c.requires.ids i.next_vertex live in omega arith);
       few = omega (arith, long, same, few);
     }

@@ -31,7 +31,7 @@ bury_ring-requires-clause-live c =
     let corners : Corners = record { first = r.0; second = r.1; third = r.2 } in
     let there : finite.get (faces_in i.fans.woven.sides i.keys.live) f ≡ Some corners = get-mapped (corners_at i.fans.woven.sides) i.keys.live f ∙ ap (option_map (corners_at i.fans.woven.sides)) (sym c.in-Some.ensures) ∙ ap Some (sym c.corners_from-a.ensures) in
     let at : finite.get c.args.self.now.state.mesh.faces f ≡ Some corners = sym (ap (λ (x : Ledger). finite.get x.state.mesh.faces f) c.self.view_is) ∙ there in
-    have_fans i.fans.woven i.keys.live i.next_vertex i.next_face c.args.self.now.state.mesh corners (ap (λ (x : Ledger). x.state.mesh) c.self.view_is) (c.requires.sound.is_mesh.live_corners f corners at)
+    have_fans i.fans.woven i.keys.live i.limits i.next_vertex i.next_face c.args.self.now.state.mesh corners (ap (λ (x : Ledger). x.state.mesh) c.self.view_is) (c.requires.sound.is_mesh.live_corners f corners at)
 
 pub invariant_of-self : goal.invariant_of-self
 invariant_of-self c =
@@ -65,13 +65,13 @@ returns-in-Some-clause-state c =
     let points = ap points_in lost.vertices in
     let solid = ap solid_in lost.vertices in
     let faces = faces-without_face i.fans.woven last i.keys.live f corners c.self.invariant.live lost in
-    let made : woven_mesh last (finite.remove i.keys.live f) i.next_vertex i.next_face ≡ without_face (woven_mesh i.fans.woven i.keys.live i.next_vertex i.next_face) f =
-    λ j. record { points = points j; faces = faces j; solid = solid j; next_vertex = i.next_vertex; next_face = i.next_face } in
+    let made : woven_mesh last (finite.remove i.keys.live f) i.limits i.next_vertex i.next_face ≡ without_face (woven_mesh i.fans.woven i.keys.live i.limits i.next_vertex i.next_face) f =
+    λ j. record { points = points j; faces = faces j; solid = solid j; limits = i.limits; next_vertex = i.next_vertex; next_face = i.next_face } in
     let stay : SidesStay sides last.sides (finite.insert i.keys.buried f key) = λ k side at some. c.bury_ring.ensures.sides k ∙ at in
     let rings = rings-more sides i.keys.buried f key c.self.invariant.buried (c.self.invariant.live.rings f key held) in
     let below = c.bury_ring.ensures.kept.0 in
     state_same _ _ _ _
-    (ap (λ k. woven_mesh last k i.next_vertex i.next_face) (ap (λ (x : Stock ℕ). x.live) down) ∙ made)
+    (ap (λ k. woven_mesh last k i.limits i.next_vertex i.next_face) (ap (λ (x : Stock ℕ). x.live) down) ∙ made)
     (buried_same _ _ _ _ _ _
     (ap points_in below)
     (ap (λ (x : Stock ℕ). faces_in last.sides x.buried) down

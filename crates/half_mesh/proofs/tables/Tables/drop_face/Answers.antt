@@ -36,7 +36,7 @@ bury_ring-requires-clause-live c =
     let corners : Corners = record { first = r.0; second = r.1; third = r.2 } in
     let there : finite.get (faces_in i.fans.woven.sides i.keys.live) f ≡ Some corners = get-mapped (corners_at i.fans.woven.sides) i.keys.live f ∙ ap (option_map (corners_at i.fans.woven.sides)) (sym c.in-Some.ensures) ∙ ap Some (sym c.corners_from-a.ensures) in
     let at : finite.get c.args.self.now.state.mesh.faces f ≡ Some corners = sym (ap (λ (x : Ledger). finite.get x.state.mesh.faces f) c.self.view_is) ∙ there in
-    have_fans i.fans.woven i.keys.live i.next_vertex i.next_face c.args.self.now.state.mesh corners (ap (λ (x : Ledger). x.state.mesh) c.self.view_is) (c.requires.sound.is_mesh.live_corners f corners at)
+    have_fans i.fans.woven i.keys.live i.limits i.next_vertex i.next_face c.args.self.now.state.mesh corners (ap (λ (x : Ledger). x.state.mesh) c.self.view_is) (c.requires.sound.is_mesh.live_corners f corners at)
 
 pub free_ring-requires : goal.free_ring-requires
 free_ring-requires c = λ v.
@@ -60,7 +60,7 @@ invariant_of-self c =
     let there : finite.get (faces_in i.fans.woven.sides i.keys.live) f ≡ Some corners = get-mapped (corners_at i.fans.woven.sides) i.keys.live f ∙ ap (option_map (corners_at i.fans.woven.sides)) (sym c.in-Some.ensures) ∙ ap Some (sym c.corners_from-a.ensures) in
     let last = c.free_ring.new.fans.woven in
     let lost = lost-freed i.fans.woven c.bury_ring.new.fans.woven last f corners c.bury_ring.ensures.lost c.free_ring.ensures.fans c.free_ring.ensures.sides in
-    let apart : AreApart (ledger_in i.fans i.keys i.next_vertex i.next_face).state = subst AreApart (sym (ap (λ (x : Ledger). x.state) c.self.view_is)) c.requires.apart in
+    let apart : AreApart (ledger_in i.fans i.keys i.limits i.next_vertex i.next_face).state = subst AreApart (sym (ap (λ (x : Ledger). x.state) c.self.view_is)) c.requires.apart in
     let stay : SidesStay i.fans.woven.sides last.sides i.keys.buried = λ k side at some.
     lost.sides k side at (λ of_f. apart-key i.keys.live i.keys.buried i.fans.woven.sides f (apart.faces f) (ap is_some (sym c.in-Some.ensures)) (subst (λ g. IsSome (finite.get i.keys.buried g)) of_f some)) in
     let down : c.remove.new.self.buried ≡ i.keys.buried = ap (λ (x : Stock ℕ). x.buried) c.remove.ensures.kept in
@@ -80,15 +80,15 @@ returns-in-Some-clause-state c =
     let points = ap points_in lost.vertices in
     let solid = ap solid_in lost.vertices in
     let faces = faces-without_face i.fans.woven last i.keys.live f corners c.self.invariant.live lost in
-    let made : woven_mesh last (finite.remove i.keys.live f) i.next_vertex i.next_face ≡ without_face (woven_mesh i.fans.woven i.keys.live i.next_vertex i.next_face) f =
-    λ j. record { points = points j; faces = faces j; solid = solid j; next_vertex = i.next_vertex; next_face = i.next_face } in
-    let apart : AreApart (ledger_in i.fans i.keys i.next_vertex i.next_face).state = subst AreApart (sym (ap (λ (x : Ledger). x.state) c.self.view_is)) c.requires.apart in
+    let made : woven_mesh last (finite.remove i.keys.live f) i.limits i.next_vertex i.next_face ≡ without_face (woven_mesh i.fans.woven i.keys.live i.limits i.next_vertex i.next_face) f =
+    λ j. record { points = points j; faces = faces j; solid = solid j; limits = i.limits; next_vertex = i.next_vertex; next_face = i.next_face } in
+    let apart : AreApart (ledger_in i.fans i.keys i.limits i.next_vertex i.next_face).state = subst AreApart (sym (ap (λ (x : Ledger). x.state) c.self.view_is)) c.requires.apart in
     let stay : SidesStay i.fans.woven.sides last.sides i.keys.buried = λ k side at some.
     lost.sides k side at (λ of_f. apart-key i.keys.live i.keys.buried i.fans.woven.sides f (apart.faces f) (ap is_some (sym c.in-Some.ensures)) (subst (λ g. IsSome (finite.get i.keys.buried g)) of_f some)) in
     let down : c.remove.new.self.buried ≡ i.keys.buried = ap (λ (x : Stock ℕ). x.buried) c.remove.ensures.kept in
     let below = c.free_ring.ensures.kept.0 ∙ c.bury_ring.ensures.kept.0 in
     state_same _ _ _ _
-    (ap (λ k. woven_mesh last k i.next_vertex i.next_face) (ap (λ (x : Stock ℕ). x.live) c.remove.ensures.kept)
+    (ap (λ k. woven_mesh last k i.limits i.next_vertex i.next_face) (ap (λ (x : Stock ℕ). x.live) c.remove.ensures.kept)
     ∙ made
     ∙ ap (λ m. without_face m f) (ap (λ (x : Ledger). x.state.mesh) c.self.view_is)
     ∙ ap (λ g. without_face c.args.self.now.state.mesh g) c.f.view_is)

@@ -18,32 +18,32 @@ pub free_rings-requires : goal.free_rings-requires
 free_rings-requires c = λ f v some.
     let i = c.self.inside in
     let sides = i.fans.woven.sides in
-    let apart : AreApart (ledger_in i.fans i.keys i.next_vertex i.next_face).state = subst AreApart (sym (ap (λ (x : Ledger). x.state) c.self.view_is)) c.requires in
+    let apart : AreApart (ledger_in i.fans i.keys i.limits i.next_vertex i.next_face).state = subst AreApart (sym (ap (λ (x : Ledger). x.state) c.self.view_is)) c.requires in
     outside-dead i.fans.woven i.keys.live f v c.self.invariant.live (apart.faces f (face_there sides i.keys.buried f some))
 
 pub forget-requires : goal.forget-requires
 forget-requires c = λ f some.
     let i = c.self.inside in
     let sides = i.fans.woven.sides in
-    let apart : AreApart (ledger_in i.fans i.keys i.next_vertex i.next_face).state = subst AreApart (sym (ap (λ (x : Ledger). x.state) c.self.view_is)) c.requires in
+    let apart : AreApart (ledger_in i.fans i.keys i.limits i.next_vertex i.next_face).state = subst AreApart (sym (ap (λ (x : Ledger). x.state) c.self.view_is)) c.requires in
     let none = apart.faces f (face_there sides i.keys.buried f some) in
-    dead_key i.fans.woven i.keys.live i.next_vertex i.next_face (woven_mesh i.fans.woven i.keys.live i.next_vertex i.next_face) f refl (λ live. let gone = ap is_some none in cc)
+    dead_key i.fans.woven i.keys.live i.limits i.next_vertex i.next_face (woven_mesh i.fans.woven i.keys.live i.limits i.next_vertex i.next_face) f refl (λ live. let gone = ap is_some none in cc)
 
 pub forget-requires-2 : goal.forget-requires-2
 forget-requires-2 c = λ v some.
     let i = c.self.inside in
     let sides = i.fans.woven.sides in
-    let apart : AreApart (ledger_in i.fans i.keys i.next_vertex i.next_face).state = subst AreApart (sym (ap (λ (x : Ledger). x.state) c.self.view_is)) c.requires in
+    let apart : AreApart (ledger_in i.fans i.keys i.limits i.next_vertex i.next_face).state = subst AreApart (sym (ap (λ (x : Ledger). x.state) c.self.view_is)) c.requires in
     let below : is_some (finite.get i.fans.buried v) ≡ true = ap (λ (m : VertexMap). is_some (finite.get m v)) (sym c.free_rings.ensures.kept.0) ∙ some in
     let x = got_some (finite.get i.fans.buried v) below in
     let none = apart.vertices v (ap is_some (point-there i.fans.buried v x.0 x.1)) in
-    ap (λ m. finite.get m v) c.free_rings.ensures.fans ∙ dead_fan i.fans.woven i.keys.live i.next_vertex i.next_face (woven_mesh i.fans.woven i.keys.live i.next_vertex i.next_face) v refl (λ live. let gone = ap is_some none in cc)
+    ap (λ m. finite.get m v) c.free_rings.ensures.fans ∙ dead_fan i.fans.woven i.keys.live i.limits i.next_vertex i.next_face (woven_mesh i.fans.woven i.keys.live i.limits i.next_vertex i.next_face) v refl (λ live. let gone = ap is_some none in cc)
 
 pub invariant_of-self : goal.invariant_of-self
 invariant_of-self c =
     let i = c.self.inside in
     let sides = i.fans.woven.sides in
-    let apart : AreApart (ledger_in i.fans i.keys i.next_vertex i.next_face).state = subst AreApart (sym (ap (λ (x : Ledger). x.state) c.self.view_is)) c.requires in
+    let apart : AreApart (ledger_in i.fans i.keys i.limits i.next_vertex i.next_face).state = subst AreApart (sym (ap (λ (x : Ledger). x.state) c.self.view_is)) c.requires in
     let last = c.forget-2.new.self.woven in
     let woven : last ≡ c.free_rings.new.fans.woven = ap (λ (x : Ground). x.woven) c.forget-2.ensures.kept in
     let stay : SidesStay sides last.sides i.keys.live = λ k side at some.
@@ -58,7 +58,7 @@ pub returns-clause-state : goal.returns-clause-state
 returns-clause-state c =
     let i = c.self.inside in
     let sides = i.fans.woven.sides in
-    let apart : AreApart (ledger_in i.fans i.keys i.next_vertex i.next_face).state = subst AreApart (sym (ap (λ (x : Ledger). x.state) c.self.view_is)) c.requires in
+    let apart : AreApart (ledger_in i.fans i.keys i.limits i.next_vertex i.next_face).state = subst AreApart (sym (ap (λ (x : Ledger). x.state) c.self.view_is)) c.requires in
     let last = c.forget-2.new.self.woven in
     let woven : last ≡ c.free_rings.new.fans.woven = ap (λ (x : Ground). x.woven) c.forget-2.ensures.kept in
     let stay : SidesStay sides last.sides i.keys.live = λ k side at some.
@@ -69,7 +69,7 @@ returns-clause-state c =
     let faces = ap (λ (x : Stock ℕ). faces_in last.sides x.live) c.forget.ensures.kept ∙ faces-stay sides last.sides i.keys.live stay c.self.invariant.live.rings in
     let none = ap (λ (x : Ground). x.buried) c.forget-2.ensures.kept in
     state_same _ _ _ _
-    ((λ j. record { points = points j; faces = faces j; solid = solid j; next_vertex = i.next_vertex; next_face = i.next_face }) ∙ ap (λ (x : Ledger). x.state.mesh) c.self.view_is)
+    ((λ j. record { points = points j; faces = faces j; solid = solid j; limits = i.limits; next_vertex = i.next_vertex; next_face = i.next_face }) ∙ ap (λ (x : Ledger). x.state.mesh) c.self.view_is)
     (buried_same _ _ _ _ _ _
     (ap points_in none ∙ mapped-empty (λ (x : Vertex). x.point))
     (ap (λ (x : Stock ℕ). faces_in last.sides x.buried) c.forget.ensures.kept ∙ mapped-empty (corners_at last.sides))

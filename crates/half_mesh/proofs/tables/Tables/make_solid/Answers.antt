@@ -13,13 +13,13 @@ use Rattle.half_mesh.proofs.tables.Tables.make_solid.Goals as goal
 pub set-requires : goal.set-requires
 set-requires c =
     let i = c.self.inside in
-    let fan = live_fan i.fans.woven i.keys.live i.next_vertex i.next_face c.args.self.now.state.mesh c.v.inside.0 (ap (λ (x : Ledger). x.state.mesh) c.self.view_is) (subst (IsLiveVertex c.args.self.now.state.mesh) (sym c.v.view_is) c.requires) in
+    let fan = live_fan i.fans.woven i.keys.live i.limits i.next_vertex i.next_face c.args.self.now.state.mesh c.v.inside.0 (ap (λ (x : Ledger). x.state.mesh) c.self.view_is) (subst (IsLiveVertex c.args.self.now.state.mesh) (sym c.v.view_is) c.requires) in
     ap is_some fan.1
 
 pub invariant_of-self : goal.invariant_of-self
 invariant_of-self c =
     let i = c.self.inside in
-    let fan = live_fan i.fans.woven i.keys.live i.next_vertex i.next_face c.args.self.now.state.mesh c.v.inside.0 (ap (λ (x : Ledger). x.state.mesh) c.self.view_is) (subst (IsLiveVertex c.args.self.now.state.mesh) (sym c.v.view_is) c.requires) in
+    let fan = live_fan i.fans.woven i.keys.live i.limits i.next_vertex i.next_face c.args.self.now.state.mesh c.v.inside.0 (ap (λ (x : Ledger). x.state.mesh) c.self.view_is) (subst (IsLiveVertex c.args.self.now.state.mesh) (sym c.v.view_is) c.requires) in
     let woven = ap (λ (x : Ground). x.woven) (c.set.ensures fan.0 fan.1) in
     record {
       live = rw woven (tied-fan i.fans.woven i.keys.live c.v.inside.0 (record fan.0 { vertex = record c.in-Some.vertex { solid = true } }) c.self.invariant.live (sym (spokes_at-got i.fans.woven.fans c.v.inside.0 fan.0 fan.1)));
@@ -29,11 +29,11 @@ invariant_of-self c =
 pub returns-in-Some-clause-state : goal.returns-in-Some-clause-state
 returns-in-Some-clause-state c =
     let i = c.self.inside in
-    let fan = live_fan i.fans.woven i.keys.live i.next_vertex i.next_face c.args.self.now.state.mesh c.v.inside.0 (ap (λ (x : Ledger). x.state.mesh) c.self.view_is) (subst (IsLiveVertex c.args.self.now.state.mesh) (sym c.v.view_is) c.requires) in
+    let fan = live_fan i.fans.woven i.keys.live i.limits i.next_vertex i.next_face c.args.self.now.state.mesh c.v.inside.0 (ap (λ (x : Ledger). x.state.mesh) c.self.view_is) (subst (IsLiveVertex c.args.self.now.state.mesh) (sym c.v.view_is) c.requires) in
     let same = same_vertex i.fans.woven.fans c.v.inside.0 fan.0 c.in-Some.vertex c.in-Some.ensures fan.1 in
     state_same _ _ _ _
-    (ap (λ w. woven_mesh w i.keys.live i.next_vertex i.next_face) (ap (λ (x : Ground). x.woven) (c.set.ensures fan.0 fan.1) ∙ ap (λ x. record i.fans.woven { fans = finite.insert i.fans.woven.fans c.v.inside.0 (record fan.0 { vertex = record x { solid = true } }) }) same)
-    ∙ mesh-vertex_solid i.fans.woven i.keys.live i.next_vertex i.next_face c.v.inside.0 fan.0 fan.1
+    (ap (λ w. woven_mesh w i.keys.live i.limits i.next_vertex i.next_face) (ap (λ (x : Ground). x.woven) (c.set.ensures fan.0 fan.1) ∙ ap (λ x. record i.fans.woven { fans = finite.insert i.fans.woven.fans c.v.inside.0 (record fan.0 { vertex = record x { solid = true } }) }) same)
+    ∙ mesh-vertex_solid i.fans.woven i.keys.live i.limits i.next_vertex i.next_face c.v.inside.0 fan.0 fan.1
     ∙ ap (λ m. with_solid m c.v.inside.0) (ap (λ (x : Ledger). x.state.mesh) c.self.view_is)
     ∙ ap (λ v. with_solid c.args.self.now.state.mesh v) c.v.view_is)
     (ap (λ (x : Ground). buried_in x i.keys) (c.set.ensures fan.0 fan.1) ∙ ap (λ (x : Ledger). x.state.buried) c.self.view_is)
@@ -41,11 +41,11 @@ returns-in-Some-clause-state c =
 pub returns-in-Some-clause-spare : goal.returns-in-Some-clause-spare
 returns-in-Some-clause-spare c =
     let i = c.self.inside in
-    let fan = live_fan i.fans.woven i.keys.live i.next_vertex i.next_face c.args.self.now.state.mesh c.v.inside.0 (ap (λ (x : Ledger). x.state.mesh) c.self.view_is) (subst (IsLiveVertex c.args.self.now.state.mesh) (sym c.v.view_is) c.requires) in
+    let fan = live_fan i.fans.woven i.keys.live i.limits i.next_vertex i.next_face c.args.self.now.state.mesh c.v.inside.0 (ap (λ (x : Ledger). x.state.mesh) c.self.view_is) (subst (IsLiveVertex c.args.self.now.state.mesh) (sym c.v.view_is) c.requires) in
     ap (λ (x : Ground). spare_in x i.keys) (c.set.ensures fan.0 fan.1) ∙ ap (λ (x : Ledger). x.spare) c.self.view_is
 
 pub returns-in_default : goal.returns-in_default
 returns-in_default c =
     let i = c.self.inside in
-    let fan = live_fan i.fans.woven i.keys.live i.next_vertex i.next_face c.args.self.now.state.mesh c.v.inside.0 (ap (λ (x : Ledger). x.state.mesh) c.self.view_is) (subst (IsLiveVertex c.args.self.now.state.mesh) (sym c.v.view_is) c.requires) in
+    let fan = live_fan i.fans.woven i.keys.live i.limits i.next_vertex i.next_face c.args.self.now.state.mesh c.v.inside.0 (ap (λ (x : Ledger). x.state.mesh) c.self.view_is) (subst (IsLiveVertex c.args.self.now.state.mesh) (sym c.v.view_is) c.requires) in
     absurd (dead_vertex i.fans.woven.fans c.v.inside.0 fan.0 c.in_default.ensures fan.1)

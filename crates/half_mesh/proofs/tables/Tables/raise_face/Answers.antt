@@ -22,13 +22,13 @@ raise-requires c =
     let corners : Corners = record { first = r.0; second = r.1; third = r.2 } in
     let key = c.in-Some.key in
     let sides = i.fans.woven.sides in
-    let state = (ledger_in i.fans i.keys i.next_vertex i.next_face).state in
-    let can : CanRaiseFace (ledger_in i.fans i.keys i.next_vertex i.next_face).state f = subst (CanRaiseFace (ledger_in i.fans i.keys i.next_vertex i.next_face).state) (sym c.f.view_is) (subst (λ s. CanRaiseFace s c.args.f) (sym (ap (λ (x : Ledger). x.state) c.self.view_is)) c.requires.can) in
-    let apart : AreApart (ledger_in i.fans i.keys i.next_vertex i.next_face).state = subst AreApart (sym (ap (λ (x : Ledger). x.state) c.self.view_is)) c.requires.apart in
+    let state = (ledger_in i.fans i.keys i.limits i.next_vertex i.next_face).state in
+    let can : CanRaiseFace (ledger_in i.fans i.keys i.limits i.next_vertex i.next_face).state f = subst (CanRaiseFace (ledger_in i.fans i.keys i.limits i.next_vertex i.next_face).state) (sym c.f.view_is) (subst (λ s. CanRaiseFace s c.args.f) (sym (ap (λ (x : Ledger). x.state) c.self.view_is)) c.requires.can) in
+    let apart : AreApart (ledger_in i.fans i.keys i.limits i.next_vertex i.next_face).state = subst AreApart (sym (ap (λ (x : Ledger). x.state) c.self.view_is)) c.requires.apart in
     let held : finite.get i.keys.buried f ≡ Some key = sym c.in-Some.ensures in
     let there : finite.get (faces_in sides i.keys.buried) f ≡ Some corners = get-mapped (corners_at sides) i.keys.buried f ∙ ap (option_map (corners_at sides)) held ∙ ap Some (sym c.corners_from-a.ensures) in
     let dead : finite.get (faces_in sides i.keys.live) f ≡ None = apart.faces f can.buried in
-    let no_key = dead_key i.fans.woven i.keys.live i.next_vertex i.next_face state.mesh f refl (λ live. let gone = ap is_some dead in cc) in
+    let no_key = dead_key i.fans.woven i.keys.live i.limits i.next_vertex i.next_face state.mesh f refl (λ live. let gone = ap is_some dead in cc) in
     let ring : IsRing sides f corners key = subst (λ d. IsRing sides f d key) (sym c.corners_from-a.ensures) (c.self.invariant.buried f key held) in
     let different = apart.different f corners there in
     let room = can.room in
@@ -43,22 +43,22 @@ raise_ring-requires c =
     let corners : Corners = record { first = r.0; second = r.1; third = r.2 } in
     let key = c.in-Some.key in
     let sides = i.fans.woven.sides in
-    let state = (ledger_in i.fans i.keys i.next_vertex i.next_face).state in
-    let can : CanRaiseFace (ledger_in i.fans i.keys i.next_vertex i.next_face).state f = subst (CanRaiseFace (ledger_in i.fans i.keys i.next_vertex i.next_face).state) (sym c.f.view_is) (subst (λ s. CanRaiseFace s c.args.f) (sym (ap (λ (x : Ledger). x.state) c.self.view_is)) c.requires.can) in
-    let apart : AreApart (ledger_in i.fans i.keys i.next_vertex i.next_face).state = subst AreApart (sym (ap (λ (x : Ledger). x.state) c.self.view_is)) c.requires.apart in
+    let state = (ledger_in i.fans i.keys i.limits i.next_vertex i.next_face).state in
+    let can : CanRaiseFace (ledger_in i.fans i.keys i.limits i.next_vertex i.next_face).state f = subst (CanRaiseFace (ledger_in i.fans i.keys i.limits i.next_vertex i.next_face).state) (sym c.f.view_is) (subst (λ s. CanRaiseFace s c.args.f) (sym (ap (λ (x : Ledger). x.state) c.self.view_is)) c.requires.can) in
+    let apart : AreApart (ledger_in i.fans i.keys i.limits i.next_vertex i.next_face).state = subst AreApart (sym (ap (λ (x : Ledger). x.state) c.self.view_is)) c.requires.apart in
     let held : finite.get i.keys.buried f ≡ Some key = sym c.in-Some.ensures in
     let there : finite.get (faces_in sides i.keys.buried) f ≡ Some corners = get-mapped (corners_at sides) i.keys.buried f ∙ ap (option_map (corners_at sides)) held ∙ ap Some (sym c.corners_from-a.ensures) in
     let dead : finite.get (faces_in sides i.keys.live) f ≡ None = apart.faces f can.buried in
-    let no_key = dead_key i.fans.woven i.keys.live i.next_vertex i.next_face state.mesh f refl (λ live. let gone = ap is_some dead in cc) in
+    let no_key = dead_key i.fans.woven i.keys.live i.limits i.next_vertex i.next_face state.mesh f refl (λ live. let gone = ap is_some dead in cc) in
     let ring : IsRing sides f corners key = subst (λ d. IsRing sides f d key) (sym c.corners_from-a.ensures) (c.self.invariant.buried f key held) in
     let different = apart.different f corners there in
     let room = can.room in
     record {
       different = different;
-      live = have_fans i.fans.woven i.keys.live i.next_vertex i.next_face state.mesh corners refl (can.live corners there);
+      live = have_fans i.fans.woven i.keys.live i.limits i.next_vertex i.next_face state.mesh corners refl (can.live corners there);
       ring = ring;
       outside = λ v. outside-dead i.fans.woven i.keys.live f v c.self.invariant.live dead;
-      few = few-tied i.fans.woven i.keys.live i.next_vertex i.next_face state.mesh refl (omega (arith, room)) c.self.invariant.live;
+      few = few-tied i.fans.woven i.keys.live i.limits i.next_vertex i.next_face state.mesh refl (omega (arith, room)) c.self.invariant.live;
     }
 
 pub invariant_of-self : goal.invariant_of-self
@@ -69,13 +69,13 @@ invariant_of-self c =
     let corners : Corners = record { first = r.0; second = r.1; third = r.2 } in
     let key = c.in-Some.key in
     let sides = i.fans.woven.sides in
-    let state = (ledger_in i.fans i.keys i.next_vertex i.next_face).state in
-    let can : CanRaiseFace (ledger_in i.fans i.keys i.next_vertex i.next_face).state f = subst (CanRaiseFace (ledger_in i.fans i.keys i.next_vertex i.next_face).state) (sym c.f.view_is) (subst (λ s. CanRaiseFace s c.args.f) (sym (ap (λ (x : Ledger). x.state) c.self.view_is)) c.requires.can) in
-    let apart : AreApart (ledger_in i.fans i.keys i.next_vertex i.next_face).state = subst AreApart (sym (ap (λ (x : Ledger). x.state) c.self.view_is)) c.requires.apart in
+    let state = (ledger_in i.fans i.keys i.limits i.next_vertex i.next_face).state in
+    let can : CanRaiseFace (ledger_in i.fans i.keys i.limits i.next_vertex i.next_face).state f = subst (CanRaiseFace (ledger_in i.fans i.keys i.limits i.next_vertex i.next_face).state) (sym c.f.view_is) (subst (λ s. CanRaiseFace s c.args.f) (sym (ap (λ (x : Ledger). x.state) c.self.view_is)) c.requires.can) in
+    let apart : AreApart (ledger_in i.fans i.keys i.limits i.next_vertex i.next_face).state = subst AreApart (sym (ap (λ (x : Ledger). x.state) c.self.view_is)) c.requires.apart in
     let held : finite.get i.keys.buried f ≡ Some key = sym c.in-Some.ensures in
     let there : finite.get (faces_in sides i.keys.buried) f ≡ Some corners = get-mapped (corners_at sides) i.keys.buried f ∙ ap (option_map (corners_at sides)) held ∙ ap Some (sym c.corners_from-a.ensures) in
     let dead : finite.get (faces_in sides i.keys.live) f ≡ None = apart.faces f can.buried in
-    let no_key = dead_key i.fans.woven i.keys.live i.next_vertex i.next_face state.mesh f refl (λ live. let gone = ap is_some dead in cc) in
+    let no_key = dead_key i.fans.woven i.keys.live i.limits i.next_vertex i.next_face state.mesh f refl (λ live. let gone = ap is_some dead in cc) in
     let ring : IsRing sides f corners key = subst (λ d. IsRing sides f d key) (sym c.corners_from-a.ensures) (c.self.invariant.buried f key held) in
     let different = apart.different f corners there in
     let last = c.raise_ring.new.fans.woven in
@@ -92,13 +92,13 @@ returns-in-Some-clause-state c =
     let corners : Corners = record { first = r.0; second = r.1; third = r.2 } in
     let key = c.in-Some.key in
     let sides = i.fans.woven.sides in
-    let state = (ledger_in i.fans i.keys i.next_vertex i.next_face).state in
-    let can : CanRaiseFace (ledger_in i.fans i.keys i.next_vertex i.next_face).state f = subst (CanRaiseFace (ledger_in i.fans i.keys i.next_vertex i.next_face).state) (sym c.f.view_is) (subst (λ s. CanRaiseFace s c.args.f) (sym (ap (λ (x : Ledger). x.state) c.self.view_is)) c.requires.can) in
-    let apart : AreApart (ledger_in i.fans i.keys i.next_vertex i.next_face).state = subst AreApart (sym (ap (λ (x : Ledger). x.state) c.self.view_is)) c.requires.apart in
+    let state = (ledger_in i.fans i.keys i.limits i.next_vertex i.next_face).state in
+    let can : CanRaiseFace (ledger_in i.fans i.keys i.limits i.next_vertex i.next_face).state f = subst (CanRaiseFace (ledger_in i.fans i.keys i.limits i.next_vertex i.next_face).state) (sym c.f.view_is) (subst (λ s. CanRaiseFace s c.args.f) (sym (ap (λ (x : Ledger). x.state) c.self.view_is)) c.requires.can) in
+    let apart : AreApart (ledger_in i.fans i.keys i.limits i.next_vertex i.next_face).state = subst AreApart (sym (ap (λ (x : Ledger). x.state) c.self.view_is)) c.requires.apart in
     let held : finite.get i.keys.buried f ≡ Some key = sym c.in-Some.ensures in
     let there : finite.get (faces_in sides i.keys.buried) f ≡ Some corners = get-mapped (corners_at sides) i.keys.buried f ∙ ap (option_map (corners_at sides)) held ∙ ap Some (sym c.corners_from-a.ensures) in
     let dead : finite.get (faces_in sides i.keys.live) f ≡ None = apart.faces f can.buried in
-    let no_key = dead_key i.fans.woven i.keys.live i.next_vertex i.next_face state.mesh f refl (λ live. let gone = ap is_some dead in cc) in
+    let no_key = dead_key i.fans.woven i.keys.live i.limits i.next_vertex i.next_face state.mesh f refl (λ live. let gone = ap is_some dead in cc) in
     let ring : IsRing sides f corners key = subst (λ d. IsRing sides f d key) (sym c.corners_from-a.ensures) (c.self.invariant.buried f key held) in
     let different = apart.different f corners there in
     let last = c.raise_ring.new.fans.woven in
@@ -109,7 +109,7 @@ returns-in-Some-clause-state c =
     let stay : SidesStay sides last.sides (finite.remove i.keys.buried f) = λ k side at some. raised.sides k ∙ at in
     let below = c.raise_ring.ensures.kept.0 in
     state_same _ _ _ _
-    (λ j. record { points = points j; faces = faces j; solid = solid j; next_vertex = i.next_vertex; next_face = i.next_face })
+    (λ j. record { points = points j; faces = faces j; solid = solid j; limits = i.limits; next_vertex = i.next_vertex; next_face = i.next_face })
     (buried_same _ _ _ _ _ _
     (ap points_in below)
     (ap (λ (x : Stock ℕ). faces_in last.sides x.buried) c.raise.ensures ∙ faces-stay sides last.sides (finite.remove i.keys.buried f) stay (rings-less sides i.keys.buried f c.self.invariant.buried) ∙ mapped-remove (corners_at sides) i.keys.buried f)
