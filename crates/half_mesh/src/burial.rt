@@ -44,6 +44,7 @@ impl Tables {
     /// Makes a buried face live again. Takes no memory.
     pub(crate) fn raise_face(&mut self, f: FaceId)
         requires can { CanRaiseFace self.old.state f }
+        requires sound { IsSound self.old.state.mesh }
         requires apart { AreApart self.old.state }
         ensures state { self.new.state ≡ raise_face self.old.state f }
         ensures spare { self.new.spare ≡ self.old.spare }

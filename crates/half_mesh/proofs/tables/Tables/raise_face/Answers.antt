@@ -1,8 +1,10 @@
-use Rattle.std.proofs.Common.{ℕ, ◌≡◌, ◌/◌, min, Some, None, is_some, refl, sym, ap, subst, ◌∙◌, arith}
+use Rattle.std.proofs.Common.{ℕ, ◌≡◌, ◌≤◌, ◌/◌, min, Some, None, is_some, refl, sym, ap, subst, ◌∙◌, arith}
 use Rattle.std.specs.Option.{option_map}
 use Rattle.std.specs.FinMap as finite
 use Rattle.mesh_base.specs.declared.ids.Corners.{Corners}
 use Rattle.id_table.specs.Stock.{Stock}
+use Rattle.grid_base.specs.declared.TheConstants.{FACES_MAX}
+use Rattle.mesh_base.specs.Mesh.{Mesh}
 use Rattle.half_mesh.specs.States.{Ledger, AreApart, CanRaiseFace, raise_face}
 use Rattle.half_mesh.specs.Vertices.{points_in, solid_in}
 use Rattle.half_mesh.specs.Tied.{AreTied, AreRings, IsRing, ledger_in, corners_at, faces_in}
@@ -52,13 +54,14 @@ raise_ring-requires c =
     let no_key = dead_key i.fans.woven i.keys.live i.limits i.next_vertex i.next_face state.mesh f refl (λ live. let gone = ap is_some dead in cc) in
     let ring : IsRing sides f corners key = subst (λ d. IsRing sides f d key) (sym c.corners_from-a.ensures) (c.self.invariant.buried f key held) in
     let different = apart.different f corners there in
+    let most = subst (λ (m : Mesh). m.limits.faces ≤ FACES_MAX) (sym (ap (λ (x : Ledger). x.state.mesh) c.self.view_is)) c.requires.sound.limits.greatest.1 in
     let room = can.room in
     record {
       different = different;
       live = have_fans i.fans.woven i.keys.live i.limits i.next_vertex i.next_face state.mesh corners refl (can.live corners there);
       ring = ring;
       outside = λ v. outside-dead i.fans.woven i.keys.live f v c.self.invariant.live dead;
-      few = few-tied i.fans.woven i.keys.live i.limits i.next_vertex i.next_face state.mesh refl (omega (arith, room)) c.self.invariant.live;
+      few = few-tied i.fans.woven i.keys.live i.limits i.next_vertex i.next_face state.mesh refl (omega (arith, room, most)) c.self.invariant.live;
     }
 
 pub invariant_of-self : goal.invariant_of-self
