@@ -72,17 +72,22 @@ pub neither : (a b : Bool) → (a || b) ≡ false → (a ≡ false) × (b ≡ fa
 neither true b h = cc
 neither false b h = (refl, h)
 
-pub not_over : (m : Mesh) → is_over_limits m ≡ false → 1 ≤ m.next_vertex → 1 ≤ m.next_face → IsWithinLimits m
-not_over m h v f =
-    let last = neither (nat_lt VERTICES_MAX (map.len m.points) || nat_lt FACES_MAX (map.len m.faces) || nat_lt (ID_MAX + 1) m.next_vertex) (nat_lt (ID_MAX + 1) m.next_face) h in
-    let third = neither (nat_lt VERTICES_MAX (map.len m.points) || nat_lt FACES_MAX (map.len m.faces)) (nat_lt (ID_MAX + 1) m.next_vertex) last.0 in
-    let two = neither (nat_lt VERTICES_MAX (map.len m.points)) (nat_lt FACES_MAX (map.len m.faces)) third.0 in
+pub not_over : (m : Mesh) → is_over_limits m ≡ false → 1 ≤ m.next_vertex → 1 ≤ m.next_face → (m.limits.vertices ≤ VERTICES_MAX) × (m.limits.faces ≤ FACES_MAX) → IsWithinLimits m
+not_over m h v f greatest =
+    let last = neither (nat_lt m.limits.vertices (map.len m.points) || nat_lt m.limits.faces (map.len m.faces) || nat_lt (ID_MAX + 1) m.next_vertex) (nat_lt (ID_MAX + 1) m.next_face) h in
+    let third = neither (nat_lt m.limits.vertices (map.len m.points) || nat_lt m.limits.faces (map.len m.faces)) (nat_lt (ID_MAX + 1) m.next_vertex) last.0 in
+    let two = neither (nat_lt m.limits.vertices (map.len m.points)) (nat_lt m.limits.faces (map.len m.faces)) third.0 in
     record {
-      vertices = within (map.len m.points) VERTICES_MAX two.0;
-      faces = within (map.len m.faces) FACES_MAX two.1;
+      vertices = within (map.len m.points) m.limits.vertices two.0;
+      faces = within (map.len m.faces) m.limits.faces two.1;
+      greatest = greatest;
       vertex_ids = (v, within m.next_vertex (ID_MAX + 1) third.1);
       face_ids = (f, within m.next_face (ID_MAX + 1) last.1);
     }
+
+pub limits-with_faces : (m : Mesh) (cs : List Corners) → (with_faces m cs).limits ≡ m.limits
+limits-with_faces m [] = refl
+limits-with_faces m (c ∷ cs) = limits-with_faces (with_face m c) cs
 
 pub next_face-with_faces : (m : Mesh) (cs : List Corners) → 1 ≤ m.next_face → 1 ≤ (with_faces m cs).next_face
 next_face-with_faces m [] h = h

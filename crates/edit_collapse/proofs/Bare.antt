@@ -58,12 +58,12 @@ same_faces_once n w = by_test (not (has_face n w) && is_some (finite.get n.point
     by_test true = refl
     by_test false = refl
 
-same_next_once : (n : Mesh) (w : ℕ) → ((without_if_bare n w).next_vertex ≡ n.next_vertex) × ((without_if_bare n w).next_face ≡ n.next_face)
+same_next_once : (n : Mesh) (w : ℕ) → ((without_if_bare n w).next_vertex ≡ n.next_vertex) × ((without_if_bare n w).next_face ≡ n.next_face) × ((without_if_bare n w).limits ≡ n.limits)
 same_next_once n w = by_test (not (has_face n w) && is_some (finite.get n.points w))
   where
-    by_test : (t : Bool) → ((if t then without_vertex n w else n).next_vertex ≡ n.next_vertex) × ((if t then without_vertex n w else n).next_face ≡ n.next_face)
-    by_test true = (refl, refl)
-    by_test false = (refl, refl)
+    by_test : (t : Bool) → ((if t then without_vertex n w else n).next_vertex ≡ n.next_vertex) × ((if t then without_vertex n w else n).next_face ≡ n.next_face) × ((if t then without_vertex n w else n).limits ≡ n.limits)
+    by_test true = (refl, refl, refl)
+    by_test false = (refl, refl, refl)
 
 -- what is told of each vertex, after one is dropped if it is bare
 module _ {A : Type 0} (n : Mesh) (w v : ℕ) (told : ℕ → Option A) where
@@ -135,9 +135,9 @@ same_faces : (vs : List ℕ) (n : Mesh) → (fold without_if_bare n vs).faces �
 same_faces [] n = refl
 same_faces (w ∷ vs) n = same_faces vs (without_if_bare n w) ∙ same_faces_once n w
 
-same_next : (vs : List ℕ) (n : Mesh) → ((fold without_if_bare n vs).next_vertex ≡ n.next_vertex) × ((fold without_if_bare n vs).next_face ≡ n.next_face)
-same_next [] n = (refl, refl)
-same_next (w ∷ vs) n = let rest = same_next vs (without_if_bare n w) in let once = same_next_once n w in (rest.0 ∙ once.0, rest.1 ∙ once.1)
+same_next : (vs : List ℕ) (n : Mesh) → ((fold without_if_bare n vs).next_vertex ≡ n.next_vertex) × ((fold without_if_bare n vs).next_face ≡ n.next_face) × ((fold without_if_bare n vs).limits ≡ n.limits)
+same_next [] n = (refl, refl, refl)
+same_next (w ∷ vs) n = let rest = same_next vs (without_if_bare n w) in let once = same_next_once n w in (rest.0 ∙ once.0, rest.1.0 ∙ once.1.0, rest.1.1 ∙ once.1.1)
 
 -- whether a vertex has a face stands in the faces alone
 abbrev face_in : finite.FinMap nat_cmp Corners → ℕ → Bool
@@ -369,5 +369,6 @@ module _ (m : Mesh) (a b : ℕ) (sound : IsSound m) (closed : IsClosed m) (apart
       let second = same_next (others_than b near_second) one_by_one in
       let all = dropped_next dropped three in
       let vertex = second.0 ∙ first.0 ∙ sym all.0 in
-      let face = second.1 ∙ first.1 ∙ sym all.1 in
-      λ i. record { points = points i; faces = faces i; solid = marks i; next_vertex = vertex i; next_face = face i }
+      let face = second.1.0 ∙ first.1.0 ∙ sym all.1.0 in
+      let limits = second.1.1 ∙ first.1.1 ∙ sym all.1.1 in
+      λ i. record { points = points i; faces = faces i; solid = marks i; next_vertex = vertex i; next_face = face i; limits = limits i }

@@ -24,14 +24,16 @@ use Rattle.edit_acts.proofs.Undoubled.{undoubled}
 use Rattle.edit_collapse.proofs.Carried.{moved, moved_either}
 use Rattle.edit_collapse.proofs.Joined.{Stage, first_held, second_held, third_held}
 use Rattle.edit_collapse.proofs.JoinedFaces.{lacks_b, is_renamed, different_left, joined, joined_solid, joined_is_closed}
+use Rattle.mesh_base.specs.declared.limits.Limits.{Limits}
+use Rattle.grid_base.specs.declared.TheConstants.{VERTICES_MAX, FACES_MAX}
 
 -- ---- vertices are dropped
 pub dropped_faces : (vs : List ℕ) (n : Mesh) → (fold without_vertex n vs).faces ≡ n.faces
 dropped_faces [] n = refl
 dropped_faces (v ∷ vs) n = dropped_faces vs (without_vertex n v)
 
-pub dropped_next : (vs : List ℕ) (n : Mesh) → ((fold without_vertex n vs).next_vertex ≡ n.next_vertex) × ((fold without_vertex n vs).next_face ≡ n.next_face)
-dropped_next [] n = (refl, refl)
+pub dropped_next : (vs : List ℕ) (n : Mesh) → ((fold without_vertex n vs).next_vertex ≡ n.next_vertex) × ((fold without_vertex n vs).next_face ≡ n.next_face) × ((fold without_vertex n vs).limits ≡ n.limits)
+dropped_next [] n = (refl, refl, refl)
 dropped_next (v ∷ vs) n = dropped_next vs (without_vertex n v)
 
 pub dropped_live : (vs : List ℕ) (n : Mesh) (v : ℕ) → IsLiveVertex (fold without_vertex n vs) v → IsLiveVertex n v
@@ -75,10 +77,10 @@ placed_faces true true n v at = refl
 placed_faces false true n v at = refl
 placed_faces s false n v at = refl
 
-pub placed_next : (s t : Bool) (n : Mesh) (v : ℕ) (at : Point) → ((if t then placed s n v at else n).next_vertex ≡ n.next_vertex) × ((if t then placed s n v at else n).next_face ≡ n.next_face)
-placed_next true true n v at = (refl, refl)
-placed_next false true n v at = (refl, refl)
-placed_next s false n v at = (refl, refl)
+pub placed_next : (s t : Bool) (n : Mesh) (v : ℕ) (at : Point) → ((if t then placed s n v at else n).next_vertex ≡ n.next_vertex) × ((if t then placed s n v at else n).next_face ≡ n.next_face) × ((if t then placed s n v at else n).limits ≡ n.limits)
+placed_next true true n v at = (refl, refl, refl)
+placed_next false true n v at = (refl, refl, refl)
+placed_next s false n v at = (refl, refl, refl)
 
 placed_live : (s t : Bool) (n : Mesh) (v : ℕ) (at : Point) (w : ℕ) → IsLiveVertex n w → IsLiveVertex (if t then placed s n v at else n) w
 placed_live s true n v at w live = subst (λ ps. IsSome (finite.get ps w)) (sym (placed_points s n v at)) (live_stays n.points v at w live)
@@ -219,11 +221,11 @@ module _ (m : Mesh) (a b : ℕ) (at : Point) (sound : IsSound m) (closed : IsClo
           placed_live solid t four a at c.third (left_at f c c.third there (third_held c c.third refl) live.2),
         )
 
-    next_ids : ((collapse_mesh m a b at).next_vertex ≡ m.next_vertex) × ((collapse_mesh m a b at).next_face ≡ three.next_face)
+    next_ids : ((collapse_mesh m a b at).next_vertex ≡ m.next_vertex) × ((collapse_mesh m a b at).next_face ≡ three.next_face) × ((collapse_mesh m a b at).limits ≡ m.limits)
     next_ids =
         let ended = placed_next solid (finite.contains_key four.points a) four a at in
         let dropped = dropped_next bare_vertices three in
-        (ended.0 ∙ dropped.0 ∙ stage.next, ended.1 ∙ dropped.1)
+        (ended.0 ∙ dropped.0 ∙ stage.next, ended.1.0 ∙ dropped.1.0, ended.1.1 ∙ dropped.1.1 ∙ stage.limits)
 
     -- a sound one
     pub collapse_is_sound : doubles_a_face three ≡ false → is_over_limits (collapse_mesh m a b at) ≡ false → IsSound (collapse_mesh m a b at)
@@ -231,7 +233,7 @@ module _ (m : Mesh) (a b : ℕ) (at : Point) (sound : IsSound m) (closed : IsClo
       is_mesh = record {
         vertex_ids = λ v live. subst (λ k. (1 ≤ v) × (v < k)) (sym next_ids.0) (sound.is_mesh.vertex_ids v (subst (λ ps. IsSome (finite.get ps v)) stage.points (dropped_live bare_vertices three v (was_live solid four a at v live))));
         face_ids = λ f live. let old : IsLiveFace three f = subst (λ fs. IsSome (finite.get fs f)) same_faces live in
-            subst (λ k. (1 ≤ f) × (f < k)) (sym next_ids.1) (stage.ids f old, stage.below f old);
+            subst (λ k. (1 ≤ f) × (f < k)) (sym next_ids.1.0) (stage.ids f old, stage.below f old);
         solid_ids = marks_live solid four a at (dropped_solid bare_vertices three (joined_solid m a b sound apart closed));
         live_corners = λ f c there. are_live f c (there_before f c there);
         different_corners = λ f c there. different_left m a b sound apart three stage f c (there_before f c there);
@@ -239,7 +241,8 @@ module _ (m : Mesh) (a b : ℕ) (at : Point) (sound : IsSound m) (closed : IsClo
       };
       limits = not_over (collapse_mesh m a b at) fits
           (subst (λ k. 1 ≤ k) (sym next_ids.0) sound.limits.vertex_ids.0)
-          (subst (λ k. 1 ≤ k) (sym next_ids.1) stage.first);
+          (subst (λ k. 1 ≤ k) (sym next_ids.1.0) stage.first)
+          (subst (λ (l : Limits). (l.vertices ≤ VERTICES_MAX) × (l.faces ≤ FACES_MAX)) (sym next_ids.1.1) sound.limits.greatest);
     }
 
     -- where the corners of its faces stand

@@ -22,7 +22,7 @@ use Rattle.edit_base.specs.Edges.{renamed, corners_at, without_faces, with_renam
 use Rattle.edit_collapse.specs.Collapse.{without_shared, with_joined, joined_faces, collapse_point}
 use Rattle.edit_acts.proofs.Flow.{AreBelow, not_live, below_next}
 use Rattle.edit_acts.proofs.Changed.{points-without_faces, solid-without_faces, next_face-without_faces}
-use Rattle.edit_collapse.proofs.Joined.{single_left, renamed_lacks, next_vertex-without_faces}
+use Rattle.edit_collapse.proofs.Joined.{single_left, renamed_lacks, next_vertex-without_faces, limits-without_faces}
 use Rattle.edit_collapse.proofs.JoinedFaces.{joined, different_left}
 use Rattle.edit_collapse.proofs.CollapseMesh.{were_live}
 use Rattle.edit_acts.proofs.Undoubled.{undoubled}
@@ -36,6 +36,7 @@ pub record Halfway (a b : ℕ) (left : List (ℕ × Corners)) (n now : Mesh) (es
   pub solid : now.solid ≡ n.solid
   pub next_vertex : now.next_vertex ≡ n.next_vertex
   pub next_face : now.next_face ≡ n.next_face
+  pub limits : now.limits ≡ n.limits
   pub faces : (k : ℕ) → finite.get now.faces k ≡ kept a left k (finite.get n.faces k)
   pub below : AreBelow n
   pub rising : T (is_sorted nat_cmp es)
@@ -109,6 +110,10 @@ module _ (a b : ℕ) (left : List (ℕ × Corners)) (n now : Mesh) (e : ℕ × C
   same_vertex true = refl
   same_vertex false = refl
 
+  same_limits : (t : Bool) → (after t).limits ≡ now.limits
+  same_limits true = refl
+  same_limits false = refl
+
   one_taken : (t : Bool) → (after t).next_face ≡ now.next_face + 1
   one_taken true = refl
   one_taken false = refl
@@ -121,6 +126,7 @@ module _ (a b : ℕ) (left : List (ℕ × Corners)) (n now : Mesh) (e : ℕ × C
         solid = same_solid t ∙ h.solid;
         next_vertex = same_vertex t ∙ h.next_vertex;
         next_face = one_taken t ∙ ap (λ k. k + 1) h.next_face;
+        limits = same_limits t ∙ h.limits;
         faces = new_faces t refl;
         below = made_below a b n e es h.below h.wait;
         rising = parts.1;
@@ -248,6 +254,7 @@ module _ (m : Mesh) (a b : ℕ) (sound : IsSound m) (apart : a ≢ b) where
       solid = solid-without_faces m (gone left m a) ∙ sym (solid-without_faces m shared);
       next_vertex = next_vertex-without_faces m (gone left m a) ∙ sym (next_vertex-without_faces m shared);
       next_face = next_face-without_faces m (gone left m a) ∙ sym (next_face-without_faces m shared);
+      limits = limits-without_faces m (gone left m a) ∙ sym (limits-without_faces m shared);
       faces = first_faces;
       below = one_below m a b sound apart;
       rising = rising m a b sound apart;
@@ -273,7 +280,8 @@ module _ (m : Mesh) (a b : ℕ) (sound : IsSound m) (apart : a ≢ b) where
       let marks = h.solid ∙ ap (λ (n : Mesh). n.solid) way.then_two ∙ sym cut.solid in
       let vertex = h.next_vertex ∙ ap (λ (n : Mesh). n.next_vertex) way.then_two ∙ sym cut.next_vertex in
       let face = h.next_face ∙ ap (λ (n : Mesh). n.next_face) way.then_two ∙ sym cut.next_face in
-      λ i. record { points = points i; faces = same_faces i; solid = marks i; next_vertex = vertex i; next_face = face i }
+      let limits = h.limits ∙ ap (λ (n : Mesh). n.limits) way.then_two ∙ sym cut.limits in
+      λ i. record { points = points i; faces = same_faces i; solid = marks i; next_vertex = vertex i; next_face = face i; limits = limits i }
 
   -- an id is left for each face that waits
   pub has_id : (now : Mesh) (e : ℕ × Corners) (es : List (ℕ × Corners)) → OnTheWay m a b now (e ∷ es) → three.next_face ≤ ID_MAX + 1 → now.next_face ≤ ID_MAX

@@ -141,6 +141,7 @@ pub record Stage (m : Mesh) (a b : ℕ) (n : Mesh) (es : List (ℕ × Corners)) 
   pub points : n.points ≡ m.points
   pub solid : n.solid ≡ m.solid
   pub next : n.next_vertex ≡ m.next_vertex
+  pub limits : n.limits ≡ m.limits
   pub came : (f : ℕ) (c : Corners) → HasCorners n f c → Came m a b c
   pub waiting : AllByRecursion (λ (e : ℕ × Corners). HasCorners n e.0 e.1 × AreDifferent e.1 × (holds_both a b e.1 ≡ false)) es
   pub others : (f : ℕ) (c : Corners) → HasCorners n f c → has_corner c b ≡ true → AllByRecursion (λ (e : ℕ × Corners). f ≢ e.0) es → ⊥
@@ -179,6 +180,10 @@ pub next_vertex-without_faces : (m : Mesh) (fs : List ℕ) → (without_faces m 
 next_vertex-without_faces m [] = refl
 next_vertex-without_faces m (f ∷ fs) = next_vertex-without_faces (without_face m f) fs
 
+pub limits-without_faces : (m : Mesh) (fs : List ℕ) → (without_faces m fs).limits ≡ m.limits
+limits-without_faces m [] = refl
+limits-without_faces m (f ∷ fs) = limits-without_faces (without_face m f) fs
+
 live_kept : (m : Mesh) (fs : List ℕ) (f : ℕ) → IsLiveFace (without_faces m fs) f → IsLiveFace m f
 live_kept m [] f live = live
 live_kept m (g ∷ fs) f live = (live_after_remove m.faces g f (live_kept (without_face m g) fs f live)).1
@@ -205,6 +210,7 @@ module _ (m : Mesh) (a b : ℕ) (apart : a ≢ b) (n : Mesh) (e : ℕ × Corners
     points = s.points;
     solid = s.solid;
     next = s.next;
+    limits = s.limits;
     came = s.came;
     waiting = s.waiting.1;
     others = λ f c there has_b off. s.others f c there has_b (
@@ -228,6 +234,7 @@ module _ (m : Mesh) (a b : ℕ) (apart : a ≢ b) (n : Mesh) (e : ℕ × Corners
     points = s.points;
     solid = s.solid;
     next = s.next;
+    limits = s.limits;
     came = λ f c there. ⊎_elim (λ new. subst (Came m a b) new.1 again) (λ old. s.came f c (got_after_remove n.faces e.0 f c old).1) (got_after_insert bare.faces n.next_face made f c there);
     waiting = all_weaker (λ (x : ℕ × Corners). (x.0 ≢ e.0) × (HasCorners n x.0 x.1 × AreDifferent x.1 × (holds_both a b x.1 ≡ false))) (λ (x : ℕ × Corners). HasCorners (with_face bare made) x.0 x.1 × AreDifferent x.1 × (holds_both a b x.1 ≡ false)) es
         (λ x h. (kept_with bare made x.0 x.1 (below_apart x.0 x.1 (h.1).0) (still_there n e.0 x.0 x.1 (λ k. h.0 (sym k)) (h.1).0), (h.1).1, (h.1).2))
@@ -296,6 +303,7 @@ module _ (m : Mesh) (a b : ℕ) (sound : IsSound m) (closed : IsClosed m) (apart
     points = points-without_faces m (shared m a b sound apart);
     solid = solid-without_faces m (shared m a b sound apart);
     next = next_vertex-without_faces m (shared m a b sound apart);
+    limits = limits-without_faces m (shared m a b sound apart);
     came = λ f c there. let left = single_left m a b sound apart f c there in record { face = f; from = c; there = left.0; alike = refl; single = left.1 };
     waiting = all_weaker (λ (e : ℕ × Corners). HasCorners one e.0 e.1) (λ (e : ℕ × Corners). HasCorners one e.0 e.1 × AreDifferent e.1 × (holds_both a b e.1 ≡ false)) (finite.entries one.faces)
         (λ e there. let left = single_left m a b sound apart e.0 e.1 there in (there, sound.is_mesh.different_corners e.0 e.1 left.0, left.1)) (each_there one);

@@ -132,6 +132,7 @@ module _ (m : Mesh) (a b : ℕ) (sound : IsSound m) (apart : a ≢ b) where
     points = s.points;
     solid = s.solid;
     next = s.next;
+    limits = s.limits;
     came = λ g c there. s.came g c (got_after_remove n.faces f g c there).1;
     waiting = tt;
     others = λ g c there has_b off. s.others g c (got_after_remove n.faces f g c there).1 has_b off;

@@ -12,6 +12,7 @@ use Rattle.mesh_base.proofs.ListedPairs.{all_weaker, all_filtered}
 use Rattle.edit_collapse.proofs.Joined.{each_there}
 use Rattle.edit_collapse.specs.Tried.{if_apart, only_at}
 use Rattle.edit_collapse.proofs.Lists.{filter_twice, fewer_filtered, rest_at}
+use Rattle.mesh_base.proofs.MeshLaws.{few_live_faces}
 
 abbrev pub picked : Mesh → ℕ → List ℕ → List (ℕ × Corners)
 picked m other [] = []
@@ -39,7 +40,7 @@ pub few_at : (m : Mesh) (v other : ℕ) → IsSound m → length (only_at m v ot
 few_at m v other sound =
     let few = fewer_filtered (λ (e : ℕ × Corners). has_corner e.1 v && not (has_corner e.1 other)) (finite.entries m.faces) in
     let count = len-entries m.faces in
-    let limit = sound.limits.faces in
+    let limit = few_live_faces m sound in
     omega (arith, few, count, limit)
 
 -- one step of the walk

@@ -15,7 +15,7 @@ use Rattle.mesh_base.specs.Mesh.{Mesh, IsSound, IsLiveVertex}
 use Rattle.mesh_base.specs.Pairs.{is_edge}
 use Rattle.mesh_base.specs.Sides.{faces_where, has_corner}
 use Rattle.mesh_base.specs.Changes.{without_vertex, without_face, with_face}
-use Rattle.mesh_base.specs.Limits.{is_over_limits}
+use Rattle.mesh_base.specs.Limits.{are_over, is_over_limits}
 use Rattle.mesh_base.proofs.Listed.{edge_live}
 use Rattle.mesh_base.proofs.WalkSteps.{both_of}
 use Rattle.edit_base.specs.Edges.{renamed, without_faces, with_all_renamed}
@@ -26,7 +26,7 @@ use Rattle.edit_acts.proofs.Changed.{points-without_faces}
 use Rattle.edit_acts.proofs.Flow.{AreBelow}
 use Rattle.edit_collapse.proofs.CollapseMesh.{dropped_faces, dropped_next, placed_points, placed_faces, placed_next}
 use Rattle.edit_acts.proofs.Counting.{len-insert_le, len-without}
-use Rattle.edit_collapse.proofs.Joined.{next_vertex-without_faces}
+use Rattle.edit_collapse.proofs.Joined.{next_vertex-without_faces, limits-without_faces}
 use Rattle.edit_collapse.specs.Tried.{only_at}
 use Rattle.edit_collapse.proofs.Acts.{Wait, renamed_once, made_below, wait_on, one_below, first_wait, rising, two_is}
 use Rattle.edit_collapse.proofs.Halfway.{points_along}
@@ -36,12 +36,12 @@ use Rattle.edit_collapse.proofs.Three.{three_cut, three_next}
 abbrev bare_list : Mesh → ℕ → Mesh → List ℕ
 bare_list m b three = filter (λ v. (v == b) || (has_face m v && not (has_face three v))) (finite.keys three.points)
 
-next_of : (m : Mesh) (a b : ℕ) (at : Point) → ((collapse_mesh m a b at).next_vertex ≡ (joined_faces m a b).next_vertex) × ((collapse_mesh m a b at).next_face ≡ (joined_faces m a b).next_face)
+next_of : (m : Mesh) (a b : ℕ) (at : Point) → ((collapse_mesh m a b at).next_vertex ≡ (joined_faces m a b).next_vertex) × ((collapse_mesh m a b at).next_face ≡ (joined_faces m a b).next_face) × ((collapse_mesh m a b at).limits ≡ (joined_faces m a b).limits)
 next_of m a b at =
     let four = without_bare m b (joined_faces m a b) in
     let ended = placed_next (has_solid_end m a b) (finite.contains_key four.points a) four a at in
     let dropped = dropped_next (bare_list m b (joined_faces m a b)) (joined_faces m a b) in
-    (ended.0 ∙ dropped.0, ended.1 ∙ dropped.1)
+    (ended.0 ∙ dropped.0, ended.1.0 ∙ dropped.1.0, ended.1.1 ∙ dropped.1.1)
 
 last_of : (p q : Bool) → (p || q) ≡ false → q ≡ false
 last_of true q e = cc
@@ -51,8 +51,8 @@ last_of false q e = e
 pub ids_fit : (m : Mesh) (a b : ℕ) → is_full m (collapse_mesh m a b (collapse_point m a b)) ≡ false → (joined_faces m a b).next_face ≤ ID_MAX + 1
 ids_fit m a b fits =
     let r = collapse_mesh m a b (collapse_point m a b) in
-    subst (λ k. k ≤ ID_MAX + 1) (next_of m a b (collapse_point m a b)).1
-    (at_most r.next_face (ID_MAX + 1) (last_of (nat_lt VERTICES_MAX (finite.len r.points) || nat_lt FACES_MAX (finite.len r.faces) || nat_lt (ID_MAX + 1) r.next_vertex) (nat_lt (ID_MAX + 1) r.next_face) (last_of (is_over_limits m) (is_over_limits r) fits)))
+    subst (λ k. k ≤ ID_MAX + 1) (next_of m a b (collapse_point m a b)).1.0
+    (at_most r.next_face (ID_MAX + 1) (last_of (nat_lt r.limits.vertices (finite.len r.points) || nat_lt r.limits.faces (finite.len r.faces) || nat_lt (ID_MAX + 1) r.next_vertex) (nat_lt (ID_MAX + 1) r.next_face) (last_of (is_over_limits m) (is_over_limits r) fits)))
   where
     at_most : (v n : ℕ) → nat_lt n v ≡ false → v ≤ n
     at_most v n h = grind (arith, nat_tests)
@@ -102,6 +102,10 @@ vertex_along : (a b : ℕ) (es : List (ℕ × Corners)) (n : Mesh) → (with_all
 vertex_along a b [] n = refl
 vertex_along a b (e ∷ es) n = vertex_along a b es (with_all_renamed b a n (e.0 ∷ []))
 
+limits_along : (a b : ℕ) (es : List (ℕ × Corners)) (n : Mesh) → (with_all_renamed b a n (map (λ e. e.0) es)).limits ≡ n.limits
+limits_along a b [] n = refl
+limits_along a b (e ∷ es) n = limits_along a b es (with_all_renamed b a n (e.0 ∷ []))
+
 module _ (m : Mesh) (a b : ℕ) (sound : IsSound m) (apart : a ≢ b) (at : Point) where
   abbrev one : Mesh
   one = without_shared m a b
@@ -127,7 +131,10 @@ module _ (m : Mesh) (a b : ℕ) (sound : IsSound m) (apart : a ≢ b) (at : Poin
   three_vertex : three.next_vertex ≡ m.next_vertex
   three_vertex = (three_cut m a b).next_vertex ∙ ap (λ (n : Mesh). n.next_vertex) (two_is m a b sound apart) ∙ vertex_along a b (only_at m b a) one ∙ next_vertex-without_faces m shared
 
-  few_faces : finite.len result.faces ≤ FACES_MAX
+  result_limits : result.limits ≡ m.limits
+  result_limits = (next_of m a b at).1.1 ∙ (three_cut m a b).limits ∙ ap (λ (n : Mesh). n.limits) (two_is m a b sound apart) ∙ limits_along a b (only_at m b a) one ∙ limits-without_faces m shared
+
+  few_faces : finite.len result.faces ≤ m.limits.faces
   few_faces =
       let same = ap finite.len (placed_faces (has_solid_end m a b) (finite.contains_key four.points a) four a at ∙ dropped_faces (bare_list m b three) three) in
       let third = fewer_cancelled (finite.len two.faces) a two in
@@ -137,7 +144,7 @@ module _ (m : Mesh) (a b : ℕ) (sound : IsSound m) (apart : a ≢ b) (at : Poin
       let limit = sound.limits.faces in
       omega (arith, same, third, second, is, first, limit)
 
-  few_vertices : finite.len result.points ≤ VERTICES_MAX
+  few_vertices : finite.len result.points ≤ m.limits.vertices
   few_vertices =
       let ended = as_many (has_solid_end m a b) four a at in
       let dropped = fewer_dropped (bare_list m b three) three in
@@ -153,11 +160,12 @@ module _ (m : Mesh) (a b : ℕ) (sound : IsSound m) (apart : a ≢ b) (at : Poin
   over_is =
       let next = next_of m a b at in
       (λ i. old_fits i || is_over_limits result)
-      ∙ (λ i. within VERTICES_MAX (finite.len result.points) few_vertices i || within FACES_MAX (finite.len result.faces) few_faces i || ids_of_vertices i || nat_lt (ID_MAX + 1) result.next_face)
-      ∙ ap (nat_lt (ID_MAX + 1)) (next.1 ∙ three_next m a b sound apart)
+      ∙ (λ i. are_over (result_limits i) (finite.len result.points) (finite.len result.faces) result.next_vertex result.next_face)
+      ∙ (λ i. within m.limits.vertices (finite.len result.points) few_vertices i || within m.limits.faces (finite.len result.faces) few_faces i || ids_of_vertices i || nat_lt (ID_MAX + 1) result.next_face)
+      ∙ ap (nat_lt (ID_MAX + 1)) (next.1.0 ∙ three_next m a b sound apart)
     where
       old_fits : is_over_limits m ≡ false
-      old_fits = λ i. within VERTICES_MAX (finite.len m.points) sound.limits.vertices i || within FACES_MAX (finite.len m.faces) sound.limits.faces i || within (ID_MAX + 1) m.next_vertex sound.limits.vertex_ids.1 i || within (ID_MAX + 1) m.next_face sound.limits.face_ids.1 i
+      old_fits = λ i. within m.limits.vertices (finite.len m.points) sound.limits.vertices i || within m.limits.faces (finite.len m.faces) sound.limits.faces i || within (ID_MAX + 1) m.next_vertex sound.limits.vertex_ids.1 i || within (ID_MAX + 1) m.next_face sound.limits.face_ids.1 i
 
       ids_of_vertices : nat_lt (ID_MAX + 1) result.next_vertex ≡ false
       ids_of_vertices = ap (nat_lt (ID_MAX + 1)) ((next_of m a b at).0 ∙ three_vertex) ∙ within (ID_MAX + 1) m.next_vertex sound.limits.vertex_ids.1

@@ -28,6 +28,7 @@ pub record IsCut (a : ℕ) (two n : Mesh) : Type 0 where
   pub solid : n.solid ≡ two.solid
   pub next_vertex : n.next_vertex ≡ two.next_vertex
   pub next_face : n.next_face ≡ two.next_face
+  pub limits : n.limits ≡ two.limits
   pub part : (f : ℕ) (c : Corners) → HasCorners n f c → HasCorners two f c
   pub others : (f : ℕ) (c : Corners) → HasCorners two f c → has_corner c a ≡ false → HasCorners n f c
 
@@ -37,6 +38,7 @@ cut_more a two n f s held = record {
   solid = s.solid;
   next_vertex = s.next_vertex;
   next_face = s.next_face;
+  limits = s.limits;
   part = λ g c there. s.part g c (got_after_remove n.faces f g c there).1;
   others = λ g c there lacks. still_there n f g c (λ same. false≢true (sym lacks ∙ held c (subst (λ k. HasCorners n k c) (sym same) (s.others g c there lacks)))) (s.others g c there lacks);
 }
@@ -61,7 +63,7 @@ cut_times (suc k) a two n s = cut_times k a two (with_one_cancelled a n) (cut_on
 pub three_cut : (m : Mesh) (a b : ℕ) → IsCut a (with_joined (without_shared m a b) a b) (joined_faces m a b)
 three_cut m a b =
     let two = with_joined (without_shared m a b) a b in
-    cut_times (finite.len two.faces) a two two (record { points = refl; solid = refl; next_vertex = refl; next_face = refl; part = λ f c there. there; others = λ f c there lacks. there })
+    cut_times (finite.len two.faces) a two two (record { points = refl; solid = refl; next_vertex = refl; next_face = refl; limits = refl; part = λ f c there. there; others = λ f c there lacks. there })
 
 -- ---- which are left at the joined vertex
 -- the ids of a kind of faces

@@ -35,8 +35,8 @@ module _ (m : Mesh) (s : Edge) (sound : IsSound m) (beside : IsBeside m s) where
   flip_fits e =
       let ids = ids_for_four m s sound beside e in
       none _ _ _ _
-      (lies_within VERTICES_MAX (finite.len m.points) sound.limits.vertices)
-      (ap (nat_lt FACES_MAX) len-flipped ∙ lies_within FACES_MAX (finite.len m.faces) sound.limits.faces)
+      (lies_within m.limits.vertices (finite.len m.points) sound.limits.vertices)
+      (ap (nat_lt m.limits.faces) len-flipped ∙ lies_within m.limits.faces (finite.len m.faces) sound.limits.faces)
       (lies_within (ID_MAX + 1) m.next_vertex sound.limits.vertex_ids.1)
       (lies_within (ID_MAX + 1) (m.next_face + 1 + 1) (two_of m.next_face ids))
 

@@ -77,5 +77,5 @@ module _ (m : Mesh) (s : Edge) (sound : IsSound m) (beside : IsBeside m s) (c_d 
   pub flip_is_sound : is_over_limits (flip_mesh m s) ≡ false → IsSound (flip_mesh m s)
   flip_is_sound fits = record {
     is_mesh = mesh-with_faces bare (one ∷ two ∷ []) bare_mesh sound.limits.face_ids.0 both_fresh;
-    limits = not_over (flip_mesh m s) fits sound.limits.vertex_ids.0 (next_face-with_faces bare (one ∷ two ∷ []) sound.limits.face_ids.0);
+    limits = not_over (flip_mesh m s) fits sound.limits.vertex_ids.0 (next_face-with_faces bare (one ∷ two ∷ []) sound.limits.face_ids.0) sound.limits.greatest;
   }

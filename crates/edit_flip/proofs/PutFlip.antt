@@ -56,4 +56,4 @@ module _ (m : Mesh) (s : Edge) (sound : IsSound m) (closed : IsClosed m) (tried 
       let left = len-bare m s sound beside in
       let most = sound.limits.faces in
       let ids = ids_left m s sound closed tried.edge tried.fits in
-      record { faces = let h : finite.len bare.faces + 2 ≤ FACES_MAX = omega (arith, left, most) in h; ids = let h : m.next_face + 2 ≤ ID_MAX + 1 = omega (arith, ids) in h }
+      record { faces = let h : finite.len bare.faces + 2 ≤ m.limits.faces = omega (arith, left, most) in h; ids = let h : m.next_face + 2 ≤ ID_MAX + 1 = omega (arith, ids) in h }

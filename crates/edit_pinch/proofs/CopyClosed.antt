@@ -211,6 +211,14 @@ pub next_vertex-renamed : (v w : ℕ) (m : Mesh) (fs : List ℕ) → (with_all_r
 next_vertex-renamed v w m [] = refl
 next_vertex-renamed v w m (f ∷ fs) = next_vertex-renamed v w (with_renamed v w m f) fs
 
+pub limits-renamed : (v w : ℕ) (m : Mesh) (fs : List ℕ) → (with_all_renamed v w m fs).limits ≡ m.limits
+limits-renamed v w m [] = refl
+limits-renamed v w m (f ∷ fs) = limits-renamed v w (with_renamed v w m f) fs
+
+pub limits-copied : (v : ℕ) (n : Mesh) (copies : List (List ℕ × Point)) → (fold (with_copy v) n copies).limits ≡ n.limits
+limits-copied v n [] = refl
+limits-copied v n (copy ∷ copies) = limits-copied v (with_copy v n copy) copies ∙ limits-renamed v n.next_vertex (with_vertex n copy.1) copy.0
+
 pub points-renamed : (v w : ℕ) (m : Mesh) (fs : List ℕ) → (with_all_renamed v w m fs).points ≡ m.points
 points-renamed v w m [] = refl
 points-renamed v w m (f ∷ fs) = points-renamed v w (with_renamed v w m f) fs

@@ -17,7 +17,9 @@ use Rattle.edit_pinch.specs.Pinch.{with_copy, pinch_mesh, fans}
 use Rattle.edit_acts.proofs.Sound.{mesh-without_face, mesh-with_vertex, mesh-with_face, not_over}
 use Rattle.edit_pinch.proofs.FansApart.{Differ, AreApart}
 use Rattle.edit_pinch.proofs.FanBalance.{IsFan, corners_there}
-use Rattle.edit_pinch.proofs.CopyClosed.{IsWithout, without_new, AreThere, others_there, fans_stay, fan_without, next_vertex-renamed, later_fans, later_apart, later_there}
+use Rattle.edit_pinch.proofs.CopyClosed.{IsWithout, without_new, AreThere, others_there, fans_stay, fan_without, next_vertex-renamed, limits-copied, later_fans, later_apart, later_there}
+use Rattle.mesh_base.specs.declared.limits.Limits.{Limits}
+use Rattle.grid_base.specs.declared.TheConstants.{VERTICES_MAX, FACES_MAX}
 
 -- ---- corners with one vertex in another's place
 there_and_back : (v w x : ℕ) → x ≢ w → cond (cond (x == v) w x == w) v (cond (x == v) w x) ≡ x
@@ -197,4 +199,4 @@ pinch_is_sound m v at points sound closed live fits =
     let moved = sound-with_point m v at sound live in
     let well = copies_are_well m v sound.is_mesh (with_point m v at) (drop 1 (fans m v)) points (omega arith) (later_fans m v closed) (later_apart m v) (later_there m v closed)
     (record { is_mesh = moved.is_mesh; some_vertex = moved.limits.vertex_ids.0; some_face = moved.limits.face_ids.0 }) in
-    record { is_mesh = well.is_mesh; limits = not_over (pinch_mesh m v at points) fits well.some_vertex well.some_face }
+    record { is_mesh = well.is_mesh; limits = not_over (pinch_mesh m v at points) fits well.some_vertex well.some_face (subst (λ (l : Limits). (l.vertices ≤ VERTICES_MAX) × (l.faces ≤ FACES_MAX)) (sym (limits-copied v (with_point m v at) (zip (drop 1 (fans m v)) points))) sound.limits.greatest) }

@@ -11,12 +11,13 @@ use Rattle.mesh_base.specs.Sides.{has_corner, faces_at}
 use Rattle.mesh_base.proofs.Ordered.{length-ids_where}
 use Rattle.edit_base.specs.Classes.{class_of}
 use Rattle.edit_pinch.specs.Pinch.{share_second, fans}
+use Rattle.mesh_base.proofs.MeshLaws.{few_live_faces}
 
 few_faces : (m : Mesh) (v : ℕ) → IsSound m → length (faces_at m v) ≤ FACES_MAX
 few_faces m v sound =
     let some = length-ids_where (λ c. has_corner c v) (finite.entries m.faces) in
     let all = len-entries m.faces in
-    let most = sound.limits.faces in
+    let most = few_live_faces m sound in
     omega (arith, some, all, most)
 
 pub few_fans : (m : Mesh) (v : ℕ) → IsSound m → length (fans m v) ≤ FACES_MAX

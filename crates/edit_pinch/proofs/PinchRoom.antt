@@ -15,7 +15,7 @@ use Rattle.edit_base.specs.Edges.{corners_at, renamed, with_renamed, with_all_re
 use Rattle.edit_pinch.specs.Pinch.{fans, fan_point, with_copy, pinch_mesh, pinch_scaffold, first_point, later_copies, copy_points}
 use Rattle.edit_acts.proofs.Flow.{AreBelow, not_live, below-without}
 use Rattle.edit_acts.proofs.Counting.{len-without}
-use Rattle.edit_pinch.proofs.CopyClosed.{next_vertex-renamed, points-renamed}
+use Rattle.edit_pinch.proofs.CopyClosed.{next_vertex-renamed, limits-copied, points-renamed}
 use Rattle.edit_pinch.proofs.PinchSteps.{IsBeforeFan, IsInFan, first_fan, copy_made, next_made, fan_done}
 
 len-with_new : {X : Type 0} (m : FinMap nat_cmp X) (k : ℕ) (v : X) → finite.get m k ≡ None → finite.len (finite.insert m k v) ≡ finite.len m + 1
@@ -91,13 +91,13 @@ counts_of_copies m v mesh n (d ∷ ds) (p ∷ ps) same h =
 abbrev pub pinch_is_over : Mesh → ℕ → Bool
 pinch_is_over m v =
     let others = drop 1 (fans m v) in
-    are_over (finite.len m.points + length others) (finite.len m.faces) (m.next_vertex + length others) (m.next_face + faces_in others)
+    are_over m.limits (finite.len m.points + length others) (finite.len m.faces) (m.next_vertex + length others) (m.next_face + faces_in others)
 
 pub pinch_over : (m : Mesh) (v : ℕ) (at : Point) (points : List Point) → IsSound m → IsClosed m → IsLiveVertex m v → length points ≡ length (drop 1 (fans m v)) → is_over_limits (pinch_mesh m v at points) ≡ pinch_is_over m v
 pinch_over m v at points sound closed live same =
     let counts = counts_of_copies m v sound.is_mesh (with_point m v at) (drop 1 (fans m v)) points same (first_fan m v at sound closed live) in
     let there : finite.len (finite.insert m.points v at) ≡ finite.len m.points = len-insert nat_cmp_total m.points v at ∙ ap (λ b. cond b (finite.len m.points) (finite.len m.points + 1)) live in
-    λ i. are_over ((counts.vertices ∙ ap (λ k. k + length (drop 1 (fans m v))) there) i) (counts.faces_same i) (counts.vertex_ids i) (counts.face_ids i)
+    λ i. are_over (limits-copied v (with_point m v at) (zip (drop 1 (fans m v)) points) i) ((counts.vertices ∙ ap (λ k. k + length (drop 1 (fans m v))) there) i) (counts.faces_same i) (counts.vertex_ids i) (counts.face_ids i)
 
 -- the scaffold's points are as many as its copies
 as_many : (m : Mesh) (v k : ℕ) (others : List (List ℕ)) → length (copy_points (map (λ (e : ℕ × List ℕ). record { w = e.0; at = fan_point m v e.1 }) (enumerate_from k others))) ≡ length others

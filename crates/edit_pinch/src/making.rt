@@ -12,7 +12,7 @@ ghost use Rattle.edit_pinch.specs.Tried.{TellsOver};
 use crate::parting::Fan;
 use edit_acts::{corners_at, make_face, make_vertex, renamed};
 use edit_base::CopyAt;
-use grid_base::{ID_MAX, NoMemory, Point, VERTICES_MAX};
+use grid_base::{ID_MAX, NoMemory, Point};
 use mesh_base::{FaceId, Surface, VertexId};
 
 /// Whether the fans have more faces than so many.
@@ -43,7 +43,7 @@ pub(crate) fn is_over<S: Surface>(mesh: &S, others: &[Fan]) -> bool
 {
     is_too_much(
         others.len(),
-        (VERTICES_MAX - mesh.vertices()) as usize,
+        (mesh.limits().vertices - mesh.vertices()) as usize,
         (ID_MAX + 1 - mesh.next_vertex()) as usize,
         have_more(others, (ID_MAX + 1 - mesh.next_face()) as usize),
     )

@@ -51,6 +51,6 @@ module _ (m : Mesh) (s : Edge) (at : Point) (sound : IsSound m) (closed : IsClos
       let most = after.limits.faces in
       let b = len-bare m s sound beside in
       let ids : m.next_face + 4 ≤ ID_MAX + 1 = let i : (split_mesh m s at).next_face ≤ ID_MAX + 1 = after.limits.face_ids.1 in omega (arith, i) in
-      record { faces = let h : finite.len (without_faces m (s.left_face ∷ s.right_face ∷ [])).faces + 4 ≤ FACES_MAX = omega (arith, f, most, b) in h; ids = ids }
+      record { faces = let h : finite.len (without_faces m (s.left_face ∷ s.right_face ∷ [])).faces + 4 ≤ m.limits.faces = omega (arith, f, most, b) in h; ids = ids }
 
 -- the edge of two ids that are one

@@ -41,7 +41,7 @@ module _ (m : Mesh) (s : Edge) (sound : IsSound m) (beside : IsBeside m s) where
 
   -- a split takes room for one vertex and two faces, and four ids of faces
   pub split_over : (at : Point) → is_over_limits (split_mesh m s at) ≡ split_is_over m
-  split_over at = λ i. are_over (split_vertices at i) (split_count at i) (m.next_vertex + 1) (ids m.next_face i)
+  split_over at = λ i. are_over m.limits (split_vertices at i) (split_count at i) (m.next_vertex + 1) (ids m.next_face i)
     where
       ids : (n : ℕ) → n + 1 + 1 + 1 + 1 ≡ n + 4
       ids n = omega arith

@@ -113,5 +113,6 @@ module _ (m : Mesh) (s : Edge) (p : Point) (sound : IsSound m) (beside : IsBesid
     is_mesh = split_is_mesh;
     limits = not_over (split_mesh m s p) fits
         (let h : 1 ≤ m.next_vertex + 1 = omega arith in h)
-        (next_face-with_faces base (one ∷ two ∷ three ∷ four ∷ []) sound.limits.face_ids.0);
+        (next_face-with_faces base (one ∷ two ∷ three ∷ four ∷ []) sound.limits.face_ids.0)
+        sound.limits.greatest;
   }

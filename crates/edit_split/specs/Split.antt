@@ -32,7 +32,7 @@ split_mesh m s at =
 -- ids of one vertex and four faces
 abbrev pub split_is_over : Mesh → Bool
 split_is_over m =
-    are_over (finite.len m.points + 1) (finite.len m.faces + 2)
+    are_over m.limits (finite.len m.points + 1) (finite.len m.faces + 2)
     (m.next_vertex + 1) (m.next_face + 4)
 
 -- where the new vertex is put

@@ -28,6 +28,7 @@ pub fn is_split_over<S: Surface>(mesh: &S) -> bool
         IsClosed m → HasEdge m s → result ≡ is_over_limits (split_mesh m s at) }
 {
     are_over(
+        mesh.limits(),
         mesh.vertices() + 1,
         mesh.faces() + 2,
         mesh.next_vertex() + 1,

@@ -73,8 +73,8 @@ module _ (m : Mesh) (s t : Edge) (sound : IsSound m) (beside_s : IsBeside m s) (
   second_live : AreAllLive m t.b t.d t.a t.c
   second_live = record { first = beside_t.b_live; second = beside_t.d_live; third = beside_t.a_live; fourth = beside_t.c_live }
 
-  same_limits : {f f' : ℕ} → f ≡ f' → (p v n : ℕ) → (nat_lt VERTICES_MAX p || nat_lt FACES_MAX f || nat_lt (ID_MAX + 1) v || nat_lt (ID_MAX + 1) n) ≡ (nat_lt VERTICES_MAX p || nat_lt FACES_MAX f' || nat_lt (ID_MAX + 1) v || nat_lt (ID_MAX + 1) n)
-  same_limits e p v n = ap (λ f. nat_lt VERTICES_MAX p || nat_lt FACES_MAX f || nat_lt (ID_MAX + 1) v || nat_lt (ID_MAX + 1) n) e
+  same_limits : {f f' : ℕ} → f ≡ f' → (p v n : ℕ) → (nat_lt m.limits.vertices p || nat_lt m.limits.faces f || nat_lt (ID_MAX + 1) v || nat_lt (ID_MAX + 1) n) ≡ (nat_lt m.limits.vertices p || nat_lt m.limits.faces f' || nat_lt (ID_MAX + 1) v || nat_lt (ID_MAX + 1) n)
+  same_limits e p v n = ap (λ f. nat_lt m.limits.vertices p || nat_lt m.limits.faces f || nat_lt (ID_MAX + 1) v || nat_lt (ID_MAX + 1) n) e
 
   -- one turn, by the rim that stands against the first
   module _ (r0 r1 r2 r3 : ℕ) (r : IsRim r0 r1 r2 r3) (live : AreAllLive m r0 r1 r2 r3) (f0 : AreFar s.b r0 r1 r2 r3) (f1 : AreFar s.c r0 r1 r2 r3) (f2 : AreFar s.a r0 r1 r2 r3) (f3 : AreFar s.d r0 r1 r2 r3) where
@@ -92,7 +92,7 @@ module _ (m : Mesh) (s t : Edge) (sound : IsSound m) (beside_s : IsBeside m s) (
               (may_be_made s.b s.c s.a s.d r0 r1 r2 r3 first_rim r f0 f1 f2 f3 base
               (record { first = first_live.first; second = first_live.second; third = first_live.third; fourth = first_live.fourth })
               (record { first = live.first; second = live.second; third = live.third; fourth = live.fourth })) none;
-          limits = not_over left (same_limits same (finite.len m.points) m.next_vertex left.next_face ∙ fits) sound.limits.vertex_ids.0 (some m.next_face);
+          limits = not_over left (same_limits same (finite.len m.points) m.next_vertex left.next_face ∙ fits) sound.limits.vertex_ids.0 (some m.next_face) sound.limits.greatest;
         }
       where
         some : (n : ℕ) → 1 ≤ n + 1 + 1 + 1 + 1 + 1 + 1 + 1 + 1

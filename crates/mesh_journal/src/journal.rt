@@ -9,7 +9,7 @@ use crate::index::Index;
 use crate::near::near_in;
 use crate::undoable::Undoable;
 use grid_base::{Extent, NoMemory, Point};
-use mesh_base::{AddFault, FaceId, FaceTable, Mark, Surface, VertexId};
+use mesh_base::{AddFault, FaceId, Limits, FaceTable, Mark, Surface, VertexId};
 use std::alloc::Global;
 
 /// A mesh with a journal: the entries by which each change since the last `settle` can be undone. What is dropped is
@@ -175,6 +175,10 @@ impl<B: Undoable> Surface for Journal<B> {
 
     fn next_face(&self) -> u32 {
         self.inner.next_face()
+    }
+
+    fn limits(&self) -> Limits {
+        self.inner.limits()
     }
 
     fn vertex_after(&self, v: u32) -> Option<VertexId> {

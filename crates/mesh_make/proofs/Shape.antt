@@ -1,6 +1,6 @@
 -- The cubes make a mesh within its limits that is closed.
 use Rattle.std.proofs.Common.{◌≡◌, ℕ, zero, suc, ◌+◌, ◌*◌, ◌<◌, ◌≤◌, ◌==◌, ◌&&◌, ◌||◌, Bool, true, false, List, Some, None, map, length, nat_lt, slice_get, refl, sym, ap, subst, ◌∙◌, ⊎_elim, arith}
-use Rattle.std.proofs.Common.{is_some, cond, ◌⊎◌, inl, inr}
+use Rattle.std.proofs.Common.{is_some, cond, ◌⊎◌, inl, inr, lit≤}
 use Rattle.std.specs.Prelude.{◌↔◌}
 use Rattle.std.specs.List.{enumerate_from, flat_map, range_with_len}
 use Rattle.std.specs.FinMap.{get-from_entries}
@@ -177,6 +177,7 @@ cubes_are_sound n row =
       };
       limits = record {
         vertices = few_vertices points faces (below VERTICES_MAX (length points) (omega arith));
+        greatest = (lit≤ tt, lit≤ tt);
         faces = few_faces points faces (below FACES_MAX (length faces) (omega (arith, count-faces n)));
         vertex_ids = omega arith;
         face_ids = omega (arith, count-faces n);

@@ -39,6 +39,7 @@ use Rattle.mesh_measure.proofs.Classing.{IsCounting, counting_none, counting_on,
 use Rattle.mesh_measure.proofs.Meeting.{one_more_face}
 use Rattle.mesh_measure.proofs.ShapeSteps.{kept_fewer}
 use Rattle.mesh_measure.proofs.VolumeSteps.{few_ids}
+use Rattle.mesh_base.proofs.MeshLaws.{few_live_vertices}
 
 -- ---- lists in order that have the same numbers are the same
 around_eq : (a b : ℕ) → (a == b) ≡ (b == a)
@@ -128,7 +129,7 @@ module _ (m : Mesh) (sound : IsSound m) (faces : List ℕ) (live : (f : ℕ) →
           live_listed m q (corner_live m (corners_at m f.0) q (sound.is_mesh.live_corners f.0 (corners_at m f.0) (key_there m f.0 (live f.0 f.1))) (corner_listed (corners_at m f.0) q f.2))
 
 pub few_points : (m : Mesh) → IsSound m → length (finite.keys m.points) ≤ VERTICES_MAX
-few_points m sound = omega (arith, length-keys_of (finite.entries m.points), len-entries m.points, sound.limits.vertices)
+few_points m sound = omega (arith, length-keys_of (finite.entries m.points), len-entries m.points, few_live_vertices m sound)
 
 pub few_vertices : (m : Mesh) → IsSound m → (faces : List ℕ) → length (vertices_of m faces) ≤ VERTICES_MAX
 few_vertices m sound faces =

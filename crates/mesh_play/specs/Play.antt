@@ -3,7 +3,7 @@ use Rattle.std.specs.Prelude.{⊤, ◌≡◌, ◌⊎◌, ℕ, ◌+◌, ◌<◌, 
 use Rattle.std.specs.Prelude.{◌∷◌, ◌++◌, map, take, length, slice_get, slice_index_or, Some}
 use Rattle.std.specs.Option.{unwrap_or, option_map}
 use Rattle.std.specs.FinMap as finite
-use Rattle.grid_base.specs.declared.TheConstants.{VERTICES_MAX, FACES_MAX, ID_MAX}
+use Rattle.grid_base.specs.declared.TheConstants.{ID_MAX}
 use Rattle.grid_base.specs.declared.Point.{Point}
 use Rattle.mesh_base.specs.declared.marks.Mark.{Mark}
 use Rattle.mesh_base.specs.Mesh.{Mesh, IsLiveVertex, IsLiveFace, is_solid}
@@ -51,11 +51,11 @@ seen mesh kept surface marks =
 
 -- whether no vertex can be made
 abbrev pub full_of_vertices : Mesh → Bool
-full_of_vertices m = (finite.len m.points == VERTICES_MAX) || (m.next_vertex == (ID_MAX + 1))
+full_of_vertices m = (finite.len m.points == m.limits.vertices) || (m.next_vertex == (ID_MAX + 1))
 
 -- whether no face can be made
 abbrev pub full_of_faces : Mesh → Bool
-full_of_faces m = (finite.len m.faces == FACES_MAX) || (m.next_face == (ID_MAX + 1))
+full_of_faces m = (finite.len m.faces == m.limits.faces) || (m.next_face == (ID_MAX + 1))
 
 -- a vertex more, where one can be made
 abbrev pub more_vertex : Mesh → Point → Mesh

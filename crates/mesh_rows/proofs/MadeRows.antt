@@ -76,6 +76,19 @@ solids_rise last m (v ∷ vs) h =
     let here = passed _ _ _ h in
     (rises last v _ here.0, solids_rise v (with_solid m v) vs here.1)
 
+-- ---- limits
+limits_by_vertices : (m : Mesh) (rows : List VertexRow) → (with_vertex_rows m rows).limits ≡ m.limits
+limits_by_vertices m [] = refl
+limits_by_vertices m (row ∷ rows) = limits_by_vertices (with_vertex_row m row) rows
+
+limits_by_faces : (m : Mesh) (rows : List FaceRow) → (with_face_rows m rows).limits ≡ m.limits
+limits_by_faces m [] = refl
+limits_by_faces m (row ∷ rows) = limits_by_faces (with_face_row m row) rows
+
+limits_by_solids : (m : Mesh) (vs : List ℕ) → (with_solids m vs).limits ≡ m.limits
+limits_by_solids m [] = refl
+limits_by_solids m (v ∷ vs) = limits_by_solids (with_solid m v) vs
+
 -- ---- all
 module _ (rows : MeshRows) (none : made_fault rows ≡ None) where
   behind_vertices : (vertices_fault rows.next_vertex 1 empty_mesh rows.vertices ≡ None) × (option_or (faces_fault rows.next_face 1 (of_vertices rows) rows.faces) (option_or (solids_fault 0 (of_faces rows) rows.solids) (balance_fault (made_of rows) rows.faces)) ≡ None)
@@ -105,5 +118,9 @@ module _ (rows : MeshRows) (none : made_fault rows ≡ None) where
       solids_put (of_faces rows) rows.solids ∙ ap (λ n. inserted n (map solid_entry rows.solids)) (solids_stay (of_vertices rows) rows.faces ∙ solids_left empty_mesh rows.vertices)
       ∙ inserted_empty 1 (map solid_entry rows.solids) (solids_rise 0 (of_faces rows) rows.solids behind_solids.0)
 
+  limits_are : (made_of rows).limits ≡ (mesh_of_rows rows).limits
+  limits_are =
+      limits_by_solids (of_faces rows) rows.solids ∙ limits_by_faces (of_vertices rows) rows.faces ∙ limits_by_vertices empty_mesh rows.vertices
+
   pub made_is : numbered (made_of rows) rows.next_vertex rows.next_face ≡ mesh_of_rows rows
-  made_is = λ i. record { points = points_are i; faces = faces_are i; solid = solids_are i; next_vertex = rows.next_vertex; next_face = rows.next_face }
+  made_is = λ i. record { points = points_are i; faces = faces_are i; solid = solids_are i; next_vertex = rows.next_vertex; next_face = rows.next_face; limits = limits_are i }

@@ -4,6 +4,7 @@ use Rattle.std.specs.FinMap as finite
 use Rattle.grid_base.specs.declared.Point.{Point}
 use Rattle.mesh_base.specs.declared.ids.Corners.{Corners}
 use Rattle.mesh_base.specs.Mesh.{Mesh}
+use Rattle.mesh_base.specs.Limits.{standard}
 use Rattle.mesh_rows.specs.declared.rows.VertexRow.{VertexRow}
 use Rattle.mesh_rows.specs.declared.rows.FaceRow.{FaceRow}
 use Rattle.mesh_rows.specs.declared.rows.MeshRows.{MeshRows}
@@ -28,4 +29,5 @@ mesh_of_rows rows = record {
   solid = finite.from_entries (map solid_entry rows.solids);
   next_vertex = rows.next_vertex;
   next_face = rows.next_face;
+  limits = standard;
 }

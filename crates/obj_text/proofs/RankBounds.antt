@@ -13,6 +13,7 @@ use Rattle.std.proofs.lemmas.List.Sums.{length-filter, count_by-le-length}
 use Rattle.grid_base.specs.declared.TheConstants.{VERTICES_MAX}
 use Rattle.mesh_base.specs.Mesh.{Mesh, IsLiveVertex, IsSound}
 use Rattle.obj_text.specs.Written.{rank}
+use Rattle.mesh_base.proofs.MeshLaws.{few_live_vertices}
 
 module _ {X : Type 0} (v : ℕ) where
   -- the look-up goes on after an entry of a larger id
@@ -32,4 +33,4 @@ rank_is_some m v live = some_up_to v (finite.entries m.points) (ap is_some (sym 
 pub rank_is_few : (m : Mesh) (v : ℕ) → IsSound m → rank m v ≤ VERTICES_MAX
 rank_is_few m v sound =
     let keys = finite.keys m.points in
-    omega (arith, length-filter (λ u. nat_le u v) keys, count_by-le-length (λ u. nat_le u v) keys, length-map (finite.entries m.points) (λ e. e.0), len-entries m.points, sound.limits.vertices)
+    omega (arith, length-filter (λ u. nat_le u v) keys, count_by-le-length (λ u. nat_le u v) keys, length-map (finite.entries m.points) (λ e. e.0), len-entries m.points, few_live_vertices m sound)

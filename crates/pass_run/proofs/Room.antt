@@ -8,6 +8,7 @@ use Rattle.grid_base.specs.declared.TheConstants.{VERTICES_MAX}
 use Rattle.mesh_base.specs.Mesh.{Mesh, IsSound}
 use Rattle.mesh_base.specs.Pairs.{id_pairs, edges, is_edge}
 use Rattle.edit_base.specs.declared.Asked.{Asked}
+use Rattle.mesh_base.proofs.MeshLaws.{few_live_vertices}
 
 filter_few : {X : Type 0} (p : X → Bool) (xs : List X) → length (filter p xs) ≤ length xs
 filter_few p [] = omega arith
@@ -36,7 +37,7 @@ edges_few m sound =
     let n = length (finite.keys m.points) in
     let entries = length-map (finite.entries m.points) (λ e. e.0) in
     let count = len-entries m.points in
-    let most = sound.limits.vertices in
+    let most = few_live_vertices m sound in
     let live : n ≤ VERTICES_MAX = omega (arith, entries, count, most) in
     let one = filter_few (λ e. is_edge m e.0 e.1) (id_pairs (finite.keys m.points)) in
     let two = pairs_few (finite.keys m.points) in

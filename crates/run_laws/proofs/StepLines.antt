@@ -7,6 +7,7 @@ use Rattle.log_read.specs.Laws.{IsPairInRange}
 use Rattle.run_laws.specs.Names.{IsBlockInRange}
 use Rattle.run_laws.specs.Lines.{MayFollow, StepLinesAreInRange, MeshLinesAreInRange}
 use Rattle.run_laws.proofs.Names.{vertices_in_range}
+use Rattle.mesh_base.proofs.MeshLaws.{few_live_vertices, few_live_faces}
 
 pub step_in_range : StepLinesAreInRange
 step_in_range m k pairs blocks moves how sound number hits grouped live how_good =
@@ -18,4 +19,4 @@ step_in_range m k pairs blocks moves how sound number hits grouped live how_good
     (All-append MayFollow (map (λ p. Hit p) pairs) _ hitting (All-append MayFollow (map (λ ids. Block ids) blocks) _ blocked (All-append MayFollow (map (λ s. Move s) moves) _ moving moved)))
 
 pub mesh_in_range : MeshLinesAreInRange
-mesh_in_range m k sound number = ((number, sound.limits.vertices, sound.limits.faces), tt)
+mesh_in_range m k sound number = ((number, few_live_vertices m sound, few_live_faces m sound), tt)

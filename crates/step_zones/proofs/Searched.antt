@@ -34,6 +34,7 @@ use Rattle.step_zones.proofs.Moved.{failing_live}
 use Rattle.step_zones.proofs.Solid.{solid_stay}
 use Rattle.step_zones.specs.Zones.{alone}
 use Rattle.step_zones.proofs.Rounds.{blocks_left, round_good}
+use Rattle.mesh_base.proofs.MeshLaws.{few_live_vertices}
 
 -- ---- a number that is sought among numbers, one after another
 pub found_first : (test : ℕ → Bool) (from len n : ℕ) → from ≤ n → n < from + len → test n ≡ true → ((k : ℕ) → from ≤ k → k < n → test k ≡ false) → find test (range_with_len from len) ≡ Some n
@@ -126,7 +127,7 @@ module _ (meets : Positions → Bool) (m : Mesh) (asked : Shifts) (depth : ℕ) 
 
 -- ---- sizes and names
 pub vertices_are_few : (m : Mesh) → IsSound m → length (finite.keys m.points) ≤ VERTICES_MAX
-vertices_are_few m sound = let few = sound.limits.vertices in let size = len-entries m.points in let same : length (finite.keys m.points) ≡ length (finite.entries m.points) = length-keys_of (finite.entries m.points) in omega arith
+vertices_are_few m sound = let few = few_live_vertices m sound in let size = len-entries m.points in let same : length (finite.keys m.points) ≡ length (finite.entries m.points) = length-keys_of (finite.entries m.points) in omega arith
 
 pub names_zoned : (m : Mesh) (asked : Shifts) (at : Labels) → map (λ s. s.v) (zone_shifts m asked at) ≡ map (λ s. s.v) asked
 names_zoned m asked at = each asked

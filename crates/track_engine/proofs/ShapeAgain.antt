@@ -1,5 +1,5 @@
 -- The lists of a written mesh are of good shape: its mesh, numbered anew, is sound.
-use Rattle.std.proofs.Common.{◌≡◌, ℕ, zero, suc, ◌+◌, ◌<◌, ◌≤◌, true, ◌==◌, ◌&&◌, T, List, [], ◌∷◌, length, map, Some, None, IsSome, is_some, refl, ap, sym, ◌∙◌, subst, arith, inl, inr}
+use Rattle.std.proofs.Common.{◌≡◌, ℕ, zero, suc, ◌+◌, ◌<◌, ◌≤◌, true, ◌==◌, ◌&&◌, T, List, [], ◌∷◌, length, map, Some, None, IsSome, is_some, refl, ap, sym, ◌∙◌, subst, arith, inl, inr, lit≤}
 use Rattle.std.specs.Prelude.{nat_le, slice_get}
 use Rattle.std.specs.List.{enumerate_from, AllByRecursion}
 use Rattle.std.specs.Ordering.{nat_cmp}
@@ -26,6 +26,7 @@ use Rattle.obj_text.specs.Written.{rank, ranks, ranked_lists}
 use Rattle.obj_text.specs.Laws.{renumbered}
 use Rattle.obj_text.proofs.RankBounds.{rank_is_some}
 use Rattle.obj_text.proofs.Renumbered.{rises_at}
+use Rattle.mesh_base.proofs.MeshLaws.{few_live_vertices, few_live_faces}
 
 -- ---- lists
 -- what holds of each holds of the one at an index
@@ -179,8 +180,8 @@ module _ (m : Mesh) (sound : IsSound m) where
 
   pub sound_again : IsSound again
   sound_again =
-      let few_points = sound.limits.vertices in
-      let few_faces = sound.limits.faces in
+      let few_points = few_live_vertices m sound in
+      let few_faces = few_live_faces m sound in
       let points_length : length points ≡ finite.len m.points = length-map (finite.entries m.points) (λ e. e.1) ∙ sym (len-entries m.points) in
       let faces_length : length faces ≡ finite.len m.faces = length-map (finite.entries m.faces) (λ e. ranks m e.1) ∙ sym (len-entries m.faces) in
       let corners_length : length (map corners_of faces) ≡ length faces = length-map faces corners_of in
@@ -196,6 +197,7 @@ module _ (m : Mesh) (sound : IsSound m) where
           different_faces = faces_different;
         };
         limits = record {
+          greatest = (lit≤ tt, lit≤ tt);
           vertices = omega arith;
           faces = omega arith;
           vertex_ids = omega arith;
