@@ -137,7 +137,7 @@ same_faces (w ∷ vs) n = same_faces vs (without_if_bare n w) ∙ same_faces_onc
 
 same_next : (vs : List ℕ) (n : Mesh) → ((fold without_if_bare n vs).next_vertex ≡ n.next_vertex) × ((fold without_if_bare n vs).next_face ≡ n.next_face) × ((fold without_if_bare n vs).limits ≡ n.limits)
 same_next [] n = (refl, refl, refl)
-same_next (w ∷ vs) n = let rest = same_next vs (without_if_bare n w) in let once = same_next_once n w in (rest.0 ∙ once.0, rest.1.0 ∙ once.1.0, rest.1.1 ∙ once.1.1)
+same_next (w ∷ vs) n = let rest = same_next vs (without_if_bare n w) in let once = same_next_once n w in (rest.0 ∙ once.0, rest.1 ∙ once.1, rest.2 ∙ once.2)
 
 -- whether a vertex has a face stands in the faces alone
 abbrev face_in : finite.FinMap nat_cmp Corners → ℕ → Bool
@@ -369,6 +369,6 @@ module _ (m : Mesh) (a b : ℕ) (sound : IsSound m) (closed : IsClosed m) (apart
       let second = same_next (others_than b near_second) one_by_one in
       let all = dropped_next dropped three in
       let vertex = second.0 ∙ first.0 ∙ sym all.0 in
-      let face = second.1.0 ∙ first.1.0 ∙ sym all.1.0 in
-      let limits = second.1.1 ∙ first.1.1 ∙ sym all.1.1 in
+      let face = second.1 ∙ first.1 ∙ sym all.1 in
+      let limits = second.2 ∙ first.2 ∙ sym all.2 in
       λ i. record { points = points i; faces = faces i; solid = marks i; next_vertex = vertex i; next_face = face i; limits = limits i }

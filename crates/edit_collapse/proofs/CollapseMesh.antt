@@ -225,7 +225,7 @@ module _ (m : Mesh) (a b : ℕ) (at : Point) (sound : IsSound m) (closed : IsClo
     next_ids =
         let ended = placed_next solid (finite.contains_key four.points a) four a at in
         let dropped = dropped_next bare_vertices three in
-        (ended.0 ∙ dropped.0 ∙ stage.next, ended.1.0 ∙ dropped.1.0, ended.1.1 ∙ dropped.1.1 ∙ stage.limits)
+        (ended.0 ∙ dropped.0 ∙ stage.next, ended.1 ∙ dropped.1, ended.2 ∙ dropped.2 ∙ stage.limits)
 
     -- a sound one
     pub collapse_is_sound : doubles_a_face three ≡ false → is_over_limits (collapse_mesh m a b at) ≡ false → IsSound (collapse_mesh m a b at)
@@ -233,7 +233,7 @@ module _ (m : Mesh) (a b : ℕ) (at : Point) (sound : IsSound m) (closed : IsClo
       is_mesh = record {
         vertex_ids = λ v live. subst (λ k. (1 ≤ v) × (v < k)) (sym next_ids.0) (sound.is_mesh.vertex_ids v (subst (λ ps. IsSome (finite.get ps v)) stage.points (dropped_live bare_vertices three v (was_live solid four a at v live))));
         face_ids = λ f live. let old : IsLiveFace three f = subst (λ fs. IsSome (finite.get fs f)) same_faces live in
-            subst (λ k. (1 ≤ f) × (f < k)) (sym next_ids.1.0) (stage.ids f old, stage.below f old);
+            subst (λ k. (1 ≤ f) × (f < k)) (sym next_ids.1) (stage.ids f old, stage.below f old);
         solid_ids = marks_live solid four a at (dropped_solid bare_vertices three (joined_solid m a b sound apart closed));
         live_corners = λ f c there. are_live f c (there_before f c there);
         different_corners = λ f c there. different_left m a b sound apart three stage f c (there_before f c there);
@@ -241,8 +241,8 @@ module _ (m : Mesh) (a b : ℕ) (at : Point) (sound : IsSound m) (closed : IsClo
       };
       limits = not_over (collapse_mesh m a b at) fits
           (subst (λ k. 1 ≤ k) (sym next_ids.0) sound.limits.vertex_ids.0)
-          (subst (λ k. 1 ≤ k) (sym next_ids.1.0) stage.first)
-          (subst (λ (l : Limits). (l.vertices ≤ VERTICES_MAX) × (l.faces ≤ FACES_MAX)) (sym next_ids.1.1) sound.limits.greatest);
+          (subst (λ k. 1 ≤ k) (sym next_ids.1) stage.first)
+          (subst (λ (l : Limits). (l.vertices ≤ VERTICES_MAX) × (l.faces ≤ FACES_MAX)) (sym next_ids.2) sound.limits.greatest);
     }
 
     -- where the corners of its faces stand

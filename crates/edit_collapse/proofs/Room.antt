@@ -41,7 +41,7 @@ next_of m a b at =
     let four = without_bare m b (joined_faces m a b) in
     let ended = placed_next (has_solid_end m a b) (finite.contains_key four.points a) four a at in
     let dropped = dropped_next (bare_list m b (joined_faces m a b)) (joined_faces m a b) in
-    (ended.0 ∙ dropped.0, ended.1.0 ∙ dropped.1.0, ended.1.1 ∙ dropped.1.1)
+    (ended.0 ∙ dropped.0, ended.1 ∙ dropped.1, ended.2 ∙ dropped.2)
 
 last_of : (p q : Bool) → (p || q) ≡ false → q ≡ false
 last_of true q e = cc
@@ -51,7 +51,7 @@ last_of false q e = e
 pub ids_fit : (m : Mesh) (a b : ℕ) → is_full m (collapse_mesh m a b (collapse_point m a b)) ≡ false → (joined_faces m a b).next_face ≤ ID_MAX + 1
 ids_fit m a b fits =
     let r = collapse_mesh m a b (collapse_point m a b) in
-    subst (λ k. k ≤ ID_MAX + 1) (next_of m a b (collapse_point m a b)).1.0
+    subst (λ k. k ≤ ID_MAX + 1) (next_of m a b (collapse_point m a b)).1
     (at_most r.next_face (ID_MAX + 1) (last_of (nat_lt r.limits.vertices (finite.len r.points) || nat_lt r.limits.faces (finite.len r.faces) || nat_lt (ID_MAX + 1) r.next_vertex) (nat_lt (ID_MAX + 1) r.next_face) (last_of (is_over_limits m) (is_over_limits r) fits)))
   where
     at_most : (v n : ℕ) → nat_lt n v ≡ false → v ≤ n
@@ -132,7 +132,7 @@ module _ (m : Mesh) (a b : ℕ) (sound : IsSound m) (apart : a ≢ b) (at : Poin
   three_vertex = (three_cut m a b).next_vertex ∙ ap (λ (n : Mesh). n.next_vertex) (two_is m a b sound apart) ∙ vertex_along a b (only_at m b a) one ∙ next_vertex-without_faces m shared
 
   result_limits : result.limits ≡ m.limits
-  result_limits = (next_of m a b at).1.1 ∙ (three_cut m a b).limits ∙ ap (λ (n : Mesh). n.limits) (two_is m a b sound apart) ∙ limits_along a b (only_at m b a) one ∙ limits-without_faces m shared
+  result_limits = (next_of m a b at).2 ∙ (three_cut m a b).limits ∙ ap (λ (n : Mesh). n.limits) (two_is m a b sound apart) ∙ limits_along a b (only_at m b a) one ∙ limits-without_faces m shared
 
   few_faces : finite.len result.faces ≤ m.limits.faces
   few_faces =
@@ -162,7 +162,7 @@ module _ (m : Mesh) (a b : ℕ) (sound : IsSound m) (apart : a ≢ b) (at : Poin
       (λ i. old_fits i || is_over_limits result)
       ∙ (λ i. are_over (result_limits i) (finite.len result.points) (finite.len result.faces) result.next_vertex result.next_face)
       ∙ (λ i. within m.limits.vertices (finite.len result.points) few_vertices i || within m.limits.faces (finite.len result.faces) few_faces i || ids_of_vertices i || nat_lt (ID_MAX + 1) result.next_face)
-      ∙ ap (nat_lt (ID_MAX + 1)) (next.1.0 ∙ three_next m a b sound apart)
+      ∙ ap (nat_lt (ID_MAX + 1)) (next.1 ∙ three_next m a b sound apart)
     where
       old_fits : is_over_limits m ≡ false
       old_fits = λ i. within m.limits.vertices (finite.len m.points) sound.limits.vertices i || within m.limits.faces (finite.len m.faces) sound.limits.faces i || within (ID_MAX + 1) m.next_vertex sound.limits.vertex_ids.1 i || within (ID_MAX + 1) m.next_face sound.limits.face_ids.1 i
