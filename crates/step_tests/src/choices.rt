@@ -9,8 +9,9 @@ ghost use Rattle.mesh_base.specs.Shifts.{NameLive, end_in_box};
 ghost use Rattle.pair_scan.specs.Solids.{SolidsRest};
 
 use crate::meshes::beside;
+use crate::same::assert_same;
 use grid_base::{DEPTH_MAX, HALVINGS_MAX, NoMemory, Shift, moved};
-use mesh_base::{FaceId, How, PairName, ShiftOf, Shifts, Surface, VertexId, live_vertices};
+use mesh_base::{How, PairName, ShiftOf, Shifts, Surface, VertexId, live_vertices};
 use pair_scan::{all_pass, first_meeting};
 use std::alloc::Global;
 use std::process::Abort;
@@ -58,24 +59,34 @@ pub(crate) fn shifts_of<S: Surface>(
     Ok(by)
 }
 
+// How the step is chosen in a mesh; it has no pairs that fail where both ways to ask for all pairs say that they pass.
+fn chosen_in<S: Surface>(
+    alloc: Global,
+    mesh: &S,
+    xs: &[i32; 8],
+    set: &Settings,
+    rt: &impl Abort,
+) -> Result<Choice, NoMemory> {
+    assert!(rt; set.depth <= DEPTH_MAX && set.passes <= PASSES_MAX && set.halvings <= HALVINGS_MAX);
+    let met = first_meeting(alloc, mesh)?;
+    assert!(rt; met.is_none());
+    let asked = shifts_of(alloc, mesh, xs, rt)?;
+    let pass = all_pass(alloc, mesh, &asked, set.depth)?;
+    let near = all_pass_near(alloc, mesh, &asked, set.depth)?;
+    let choice = choose(alloc, mesh, &asked, set)?;
+    assert_same(rt, &[pass, near], &[choice.hits.len() == 0; 2]);
+    Ok(choice)
+}
+
 fn chosen(
     alloc: Global,
     solid: bool,
     xs: &[i32; 8],
-    set: Settings,
+    set: &Settings,
     rt: &impl Abort,
 ) -> Result<Choice, NoMemory> {
     let mesh = beside(alloc, 0, solid, rt)?;
-    let met = first_meeting(alloc, &mesh)?;
-    assert!(rt; met.is_none());
-    assert!(rt; set.depth <= DEPTH_MAX && set.passes <= PASSES_MAX && set.halvings <= HALVINGS_MAX);
-    let asked = shifts_of(alloc, &mesh, xs, rt)?;
-    let choice = choose(alloc, &mesh, &asked, &set)?;
-    let pass = all_pass(alloc, &mesh, &asked, set.depth)?;
-    assert_eq!(rt; pass, choice.hits.len() == 0);
-    let near = all_pass_near(alloc, &mesh, &asked, set.depth)?;
-    assert_eq!(rt; near, choice.hits.len() == 0);
-    Ok(choice)
+    chosen_in(alloc, &mesh, xs, set, rt)
 }
 
 // By how much each vertex moves along x.
@@ -186,40 +197,47 @@ const CASES: [(bool, [i32; 8], (u8, bool, u8), (How, &[[u32; 3]], [i32; 8])); 8]
     ),
 ];
 
-// How a step is taken, which pairs fail, and by how much each vertex moves along x; where it is by zones, the one block.
-fn assert_choice(rt: &impl Abort, choice: &Choice, how: How, hits: &[[u32; 3]], moves: [i32; 8]) {
-    assert_eq!(rt; choice.how, how);
-    assert_eq!(rt; choice.hits.len(), hits.len());
-    for (hit, [a, b, f]) in choice.hits.as_slice().iter().zip(hits) {
-        let wanted = PairName {
-            a: VertexId(*a),
-            b: VertexId(*b),
-            face: FaceId(*f),
-        };
-        assert_eq!(rt; *hit, wanted);
+// All but the vertex 4.
+const BLOCK: [VertexId; 7] = [
+    VertexId(1),
+    VertexId(2),
+    VertexId(3),
+    VertexId(5),
+    VertexId(6),
+    VertexId(7),
+    VertexId(8),
+];
+
+fn assert_hits(rt: &impl Abort, hits: &[PairName], wanted: &[[u32; 3]]) {
+    assert_same(rt, &hits.len(), &wanted.len());
+    for (hit, ids) in hits.iter().zip(wanted) {
+        assert_same(rt, &[hit.a.0, hit.b.0, hit.face.0], ids);
     }
-    assert_eq!(rt; taken_along(choice), moves);
+}
+
+// Where a step is taken by zones it has the one block, and else none.
+fn assert_blocks(rt: &impl Abort, choice: &Choice) {
     let is_zoned = matches!(&choice.how, How::Zones { .. });
-    assert_eq!(rt; choice.blocks.len(), if is_zoned { 1 } else { 0 });
+    assert_same(rt, &choice.blocks.len(), &if is_zoned { 1 } else { 0 });
     if let Some(block) = choice.blocks.get(0) {
-        assert_eq!(rt;
-            block.as_slice(),
-            [1, 2, 3, 5, 6, 7, 8].map(|v| VertexId(v)).as_slice()
-        );
+        assert!(rt; block.as_slice() == BLOCK.as_slice());
     }
 }
 
 #[test]
 fn a_step_is_taken_by_the_first_way_that_applies(rt: HostRuntime) -> Result<(), Fail> {
-    for (solid, xs, (passes, zones, halvings), (how, hits, moves)) in CASES {
+    for (solid, xs, (passes, zones, halvings), (how, hits, moves)) in &CASES {
         let set = Settings {
             depth: 6,
-            passes,
-            zones,
-            halvings,
+            passes: *passes,
+            zones: *zones,
+            halvings: *halvings,
         };
-        let choice = chosen(rt.alloc(), solid, &xs, set, &rt)?;
-        assert_choice(&rt, &choice, how, hits, moves);
+        let choice = chosen(rt.alloc(), *solid, xs, &set, &rt)?;
+        assert_same(&rt, &choice.how, how);
+        assert_hits(&rt, choice.hits.as_slice(), hits);
+        assert_same(&rt, &taken_along(&choice), moves);
+        assert_blocks(&rt, &choice);
     }
     Ok(())
 }
@@ -227,8 +245,6 @@ fn a_step_is_taken_by_the_first_way_that_applies(rt: HostRuntime) -> Result<(), 
 #[test]
 fn all_ways_are_tried_at_first(rt: HostRuntime) {
     let first = Settings::at_first();
-    assert_eq!(rt;
-        (first.depth, first.passes, first.zones, first.halvings),
-        (6, 3, true, 6)
-    );
+    let found = (first.depth, first.passes, first.zones, first.halvings);
+    assert_same(&rt, &found, &(6, 3, true, 6));
 }

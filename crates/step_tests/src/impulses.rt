@@ -1,8 +1,8 @@
 //! Worked examples: an edge and a triangle, and what the five vertices get.
+use crate::same::assert_same;
 use grid_base::{Point, Shift};
 use mesh_base::VertexId;
 use std::process::Abort;
-use std::test::Fail;
 use step_impulse::axis_impulse;
 
 const IDS: [VertexId; 5] = [
@@ -30,11 +30,10 @@ const ASIDE: [[i32; 3]; 5] = [[0, 0, 0], [0, 4, 0], [8, 0, 8], [8, 4, 8], [9, 2,
 // The shifts along x and upward after an impulse, of these along x and upward.
 fn after(
     places: &[[i32; 3]; 5],
-    fixed: [bool; 5],
-    xs: [i32; 5],
-    zs: [i32; 5],
+    fixed: &[bool; 5],
+    [xs, zs]: [[i32; 5]; 2],
     rt: &impl Abort,
-) -> ([i32; 5], [i32; 5]) {
+) -> [[i32; 5]; 2] {
     let start = places.map(|p| at(p[0], p[1], p[2], rt));
     let mut shifts = [
         by(xs[0], zs[0], rt),
@@ -43,32 +42,39 @@ fn after(
         by(xs[3], zs[3], rt),
         by(xs[4], zs[4], rt),
     ];
-    axis_impulse(&start, &IDS, &fixed, &mut shifts);
-    (shifts.map(|s| s.x), shifts.map(|s| s.z))
+    axis_impulse(&start, &IDS, fixed, &mut shifts);
+    [shifts.map(|s| s.x), shifts.map(|s| s.z)]
 }
 
-// No vertex is fixed.
+// No vertex is fixed; the third is.
 const NONE: [bool; 5] = [false; 5];
 
-#[test]
-fn shares_go_to_the_smallest_ids(rt: HostRuntime) -> Result<(), Fail> {
-    let ones = [1; 5];
-    let sums = [10, 0, -6, 0, 4];
-    assert_eq!(rt;
-        after(&BELOW, NONE, ones, sums, &rt),
-        (ones, [1, 2, 1, 2, 2])
-    );
+const THIRD: [bool; 5] = [false, false, true, false, false];
+
+const ONES: [i32; 5] = [1; 5];
+
+const SUMS: [i32; 5] = [10, 0, -6, 0, 4];
+
+const SHARES: [i32; 5] = [1, 2, 1, 2, 2];
+
+// Where the edge and the triangle stand, which of the vertices are fixed, and the shifts along x and upward before and after.
+const CASES: [(&[[i32; 3]; 5], [bool; 5], [[i32; 5]; 2], [[i32; 5]; 2]); 4] = [
+    (&BELOW, NONE, [ONES, SUMS], [ONES, SHARES]),
     // The sum -2 is five times -1 and 3 more.
-    assert_eq!(rt;
-        after(&BELOW, NONE, ones, [10, 0, -6, 0, -6], &rt),
-        (ones, [-1, 0, -1, 0, 0])
-    );
-    let third = [false, false, true, false, false];
-    assert_eq!(rt; after(&BELOW, third, ones, sums, &rt), (ones, [0; 5]));
+    (
+        &BELOW,
+        NONE,
+        [ONES, [10, 0, -6, 0, -6]],
+        [ONES, [-1, 0, -1, 0, 0]],
+    ),
+    (&BELOW, THIRD, [ONES, SUMS], [ONES, [0; 5]]),
     // Of equal gaps the first axis is taken.
-    assert_eq!(rt;
-        after(&ASIDE, NONE, sums, ones, &rt),
-        ([1, 2, 1, 2, 2], ones)
-    );
-    Ok(())
+    (&ASIDE, NONE, [SUMS, ONES], [SHARES, ONES]),
+];
+
+#[test]
+fn shares_go_to_the_smallest_ids(rt: HostRuntime) {
+    for (places, fixed, before, wanted) in &CASES {
+        assert_same(&rt, &after(places, fixed, *before, &rt), wanted);
+    }
 }

@@ -10,6 +10,8 @@ mod kept_lists;
 #[cfg(test)]
 mod meshes;
 #[cfg(test)]
+mod same;
+#[cfg(test)]
 mod scans;
 #[cfg(test)]
 mod zones;

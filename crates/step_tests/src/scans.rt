@@ -3,8 +3,9 @@ mod all_pairs;
 pub(crate) mod generated;
 
 use crate::meshes::mesh_at;
+use crate::same::assert_same;
 use grid_base::NoMemory;
-use mesh_base::{FaceId, PairName, VertexId};
+use mesh_base::PairName;
 use pair_scan::first_meeting;
 use std::alloc::Global;
 use std::process::Abort;
@@ -65,43 +66,59 @@ fn first_of(
     first_meeting(alloc, &mesh_at(alloc, points, faces, rt)?)
 }
 
-fn pair(ids: [u32; 3]) -> PairName {
-    PairName {
-        a: VertexId(ids[0]),
-        b: VertexId(ids[1]),
-        face: FaceId(ids[2]),
+// Of a pair the ids of the edge's ends and the face.
+fn ids_of(found: Option<PairName>) -> Option<[u32; 3]> {
+    match found {
+        Some(pair) => Some([pair.a.0, pair.b.0, pair.face.0]),
+        None => None,
     }
 }
 
 #[test]
 fn two_tetrahedra_meet_first_where_they_do(rt: HostRuntime) -> Result<(), Fail> {
-    for (second, expected) in SECOND {
-        let [a, b, c, d] = FIRST;
-        let [e, f, g, h] = second;
-        let found = first_of(rt.alloc(), &[a, b, c, d, e, f, g, h], &TWO, &rt)?;
-        assert_eq!(rt; found, expected.map(|ids| pair(ids)));
+    let [a, b, c, d] = FIRST;
+    for ([e, f, g, h], expected) in &SECOND {
+        let found = first_of(rt.alloc(), &[a, b, c, d, *e, *f, *g, *h], &TWO, &rt)?;
+        assert_same(&rt, &ids_of(found), expected);
     }
     Ok(())
 }
 
+// Two tetrahedra that have the vertex 1 in common, and touch there alone.
+const TOUCHING: [[i32; 3]; 7] = [
+    [0, 0, 0],
+    [8, 0, 0],
+    [0, 8, 0],
+    [0, 0, 8],
+    [-8, 0, 0],
+    [0, -8, 0],
+    [0, 0, -8],
+];
+
+const TOUCHING_SIDES: [[u32; 3]; 8] = [
+    [1, 3, 2],
+    [1, 2, 4],
+    [2, 3, 4],
+    [1, 4, 3],
+    [1, 6, 5],
+    [1, 5, 7],
+    [5, 6, 7],
+    [1, 7, 6],
+];
+
 #[test]
 fn a_shared_vertex_is_no_meeting(rt: HostRuntime) -> Result<(), Fail> {
     // One tetrahedron: each edge has an end at each face.
-    let [p, q, r, s] = FIRST;
-    let [f, g, h, i, ..] = TWO;
-    let found = first_of(rt.alloc(), &FIRST, &[f, g, h, i], &rt)?;
-    assert_eq!(rt; found, None);
-    // Two that have the vertex 1 in common, and touch there alone.
-    let points = [p, q, r, s, [-8, 0, 0], [0, -8, 0], [0, 0, -8]];
-    let faces = [f, g, h, i, [1, 6, 5], [1, 5, 7], [5, 6, 7], [1, 7, 6]];
-    let found = first_of(rt.alloc(), &points, &faces, &rt)?;
-    assert_eq!(rt; found, None);
+    let found = first_of(rt.alloc(), &FIRST, &TWO[..4], &rt)?;
+    assert!(rt; found.is_none());
+    let found = first_of(rt.alloc(), &TOUCHING, &TOUCHING_SIDES, &rt)?;
+    assert!(rt; found.is_none());
     Ok(())
 }
 
 #[test]
 fn a_mesh_with_no_face_is_clear(rt: HostRuntime) -> Result<(), Fail> {
     let found = first_of(rt.alloc(), &FIRST, &[], &rt)?;
-    assert_eq!(rt; found, None);
+    assert!(rt; found.is_none());
     Ok(())
 }

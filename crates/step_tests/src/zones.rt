@@ -3,6 +3,7 @@ ghost use Rattle.std.specs.Prelude.{IfOk};
 ghost use Rattle.mesh_base.specs.Shifts.{NameLive};
 
 use crate::meshes::beside;
+use crate::same::assert_same;
 use grid_base::{BOX, NoMemory, Shift};
 use mesh_base::{ShiftOf, Shifts, Surface, VertexId, live_vertices};
 use pair_scan::first_meeting;
@@ -36,18 +37,11 @@ fn shifts_of<S: Surface>(
     Ok(by)
 }
 
-fn zoned(
-    alloc: Global,
-    low: bool,
-    solid: bool,
-    asked: &[[i32; 3]; 8],
-    rt: &impl Abort,
-) -> Result<Option<Zoned>, NoMemory> {
-    let mesh = beside(alloc, if low { BOX as i32 } else { 0 }, solid, rt)?;
-    let met = first_meeting(alloc, &mesh)?;
+fn zoned<S: Surface>(alloc: Global, mesh: &S, rt: &impl Abort) -> Result<Option<Zoned>, NoMemory> {
+    let met = first_meeting(alloc, mesh)?;
     assert!(rt; met.is_none());
-    let asked = shifts_of(alloc, &mesh, asked, rt)?;
-    zones(alloc, &mesh, &asked, 6)
+    let asked = shifts_of(alloc, mesh, &ASKED, rt)?;
+    zones(alloc, mesh, &asked, 6)
 }
 
 // By how much each vertex moves.
@@ -77,25 +71,62 @@ const ASKED: [[i32; 3]; 8] = [
 // The mean of the seven is (-8/7, -1, 0).
 const MEAN: [i32; 3] = [-1, -1, 0];
 
+// All but the vertex 4.
+const BLOCK: [VertexId; 7] = [
+    VertexId(1),
+    VertexId(2),
+    VertexId(3),
+    VertexId(5),
+    VertexId(6),
+    VertexId(7),
+    VertexId(8),
+];
+
+// It is the first round that serves, and the block is its only one.
+fn assert_round(rt: &impl Abort, round: &Zoned) {
+    assert_same(rt, &round.rounds, &1);
+    assert_same(rt, &round.blocks.len(), &1);
+    if let Some(first) = round.blocks.get(0) {
+        assert!(rt; first.as_slice() == BLOCK.as_slice());
+    }
+}
+
+// By how much each vertex moves in a round, of the two tetrahedra so far down, the first vertex solid or not; None, where no round
+// serves.
+fn round_moves(
+    alloc: Global,
+    down: i32,
+    solid: bool,
+    rt: &impl Abort,
+) -> Result<Option<[[i32; 3]; 8]>, NoMemory> {
+    let mesh = beside(alloc, down, solid, rt)?;
+    match zoned(alloc, &mesh, rt)? {
+        Some(round) => {
+            assert_round(rt, &round);
+            Ok(Some(moves(round.taken.as_slice())))
+        }
+        None => Ok(None),
+    }
+}
+
+// How far down the tetrahedra stand, whether the vertex 1 is solid, and by how much each vertex moves.
+const CASES: [(i32, bool, Option<[[i32; 3]; 8]>); 3] = [
+    (
+        0,
+        false,
+        Some([MEAN, MEAN, MEAN, [0, 0, 0], MEAN, MEAN, MEAN, MEAN]),
+    ),
+    // A solid vertex holds its block.
+    (0, true, Some([[0, 0, 0]; 8])),
+    // At the bottom of the box the mean takes the vertex 1 out of it.
+    (BOX as i32, false, None),
+];
+
 #[test]
 fn a_block_has_the_mean_of_its_shifts(rt: HostRuntime) -> Result<(), Fail> {
-    let free = zoned(rt.alloc(), false, false, &ASKED, &rt)?.expect(&rt, "a round that serves");
-    let block = [1, 2, 3, 5, 6, 7, 8].map(|v| VertexId(v));
-    assert_eq!(rt; free.rounds, 1);
-    assert_eq!(rt; free.blocks.len(), 1);
-    if let Some(first) = free.blocks.get(0) {
-        assert_eq!(rt; first.as_slice(), block.as_slice());
+    for (down, solid, wanted) in &CASES {
+        let found = round_moves(rt.alloc(), *down, *solid, &rt)?;
+        assert_same(&rt, &found, wanted);
     }
-    assert_eq!(rt;
-        moves(free.taken.as_slice()),
-        [MEAN, MEAN, MEAN, [0, 0, 0], MEAN, MEAN, MEAN, MEAN]
-    );
-    // A solid vertex holds its block.
-    let held = zoned(rt.alloc(), false, true, &ASKED, &rt)?.expect(&rt, "a round that serves");
-    assert_eq!(rt; held.rounds, 1);
-    assert_eq!(rt; moves(held.taken.as_slice()), [[0, 0, 0]; 8]);
-    // At the bottom of the box the mean takes the vertex 1 out of it.
-    let low = zoned(rt.alloc(), true, false, &ASKED, &rt)?;
-    assert!(rt; low.is_none());
     Ok(())
 }

@@ -1,13 +1,15 @@
 //! The scans against a plain loop over all pairs.
-ghost use Rattle.std.specs.Prelude.{◌≤◌};
+ghost use Rattle.std.specs.Prelude.{◌≤◌, IsTrue};
 ghost use Rattle.grid_base.specs.Meeting.{AreWithin};
 ghost use Rattle.grid_base.specs.declared.TheConstants.{DEPTH_MAX, HALF_MAX};
+ghost use Rattle.mesh_base.specs.Shifts.{NameLive, end_in_box};
 ghost use Rattle.motion_test.specs.Pairs.{positions_of};
 
 use super::generated::{Numbers, Plan, mesh_by, shifts_by};
+use crate::same::{assert_pairs, assert_same};
 use grid_base::{DEPTH_MAX, NoMemory, Point, moved};
 use grid_meets::meets;
-use mesh_base::{FaceId, PairName, ShiftOf, Surface, VertexId, edges_in_order, live_faces};
+use mesh_base::{FaceId, PairName, ShiftOf, Shifts, Surface, VertexId, edges_in_order, live_faces};
 use motion_test::{Pair, passes};
 use pair_scan::{Pairs, failing, first_meeting};
 use std::alloc::Global;
@@ -44,6 +46,33 @@ fn five(points: &[Point; 5]) -> [grid_base::Wide; 5]
     ]
 }
 
+// Where the vertices of an edge and a face begin and end.
+fn pair_of<S: Surface>(
+    mesh: &S,
+    by: &[ShiftOf],
+    edge: [VertexId; 2],
+    corners: [VertexId; 3],
+    rt: &impl Abort,
+) -> Pair
+    ensures start { AreWithin HALF_MAX (positions_of result.start) }
+    ensures end { AreWithin HALF_MAX (positions_of result.end) }
+{
+    let a = way(mesh, by, edge[0], rt);
+    let b = way(mesh, by, edge[1], rt);
+    let c = way(mesh, by, corners[0], rt);
+    let d = way(mesh, by, corners[1], rt);
+    let e = way(mesh, by, corners[2], rt);
+    Pair {
+        start: five(&[a[0], b[0], c[0], d[0], e[0]]),
+        end: five(&[a[1], b[1], c[1], d[1], e[1]]),
+    }
+}
+
+// Whether an end of the edge is a corner of the face.
+fn has_end(name: &PairName, corners: &[VertexId; 3]) -> bool {
+    corners.iter().any(|v| *v == name.a || *v == name.b)
+}
+
 // Puts the pair where it belongs, if it is one.
 fn put<S: Surface>(
     plain: &mut Plain,
@@ -55,29 +84,16 @@ fn put<S: Surface>(
 ) -> Result<(), NoMemory>
     requires depth_fits { depth ≤ DEPTH_MAX }
 {
-    let [c, d, e] = mesh.corners(name.face).expect(rt, "a live face");
-    for v in [c, d, e] {
-        if v == name.a || v == name.b {
-            return Ok(());
-        }
+    let corners = mesh.corners(name.face).expect(rt, "a live face");
+    if has_end(&name, &corners) {
+        return Ok(());
     }
-    let a = way(mesh, by, name.a, rt);
-    let b = way(mesh, by, name.b, rt);
-    let c = way(mesh, by, c, rt);
-    let d = way(mesh, by, d, rt);
-    let e = way(mesh, by, e, rt);
-    let start = five(&[a[0], b[0], c[0], d[0], e[0]]);
-    let end = five(&[a[1], b[1], c[1], d[1], e[1]]);
-    if !passes(&Pair { start, end }, depth) {
+    let pair = pair_of(mesh, by, [name.a, name.b], corners, rt);
+    if !passes(&pair, depth) {
         plain.failing.push(name)?;
     }
-    if meets(
-        a[0].wide(),
-        b[0].wide(),
-        c[0].wide(),
-        d[0].wide(),
-        e[0].wide(),
-    ) {
+    let at = &pair.start;
+    if meets(at[0], at[1], at[2], at[3], at[4]) {
         plain.meeting.push(name)?;
     }
     Ok(())
@@ -153,9 +169,30 @@ const PLANS: [[u32; 6]; 22] = [
     [4, 268_435_456, 30_000_000, 0, 2, 536_870_912],
 ];
 
-// Makes a mesh and its shifts by a plan, and compares the scans with the plain loop. How many pairs fail.
-fn assert_scanned(
+// How many pairs fail, which are those of the plain loop; and so is the first that meets.
+fn assert_found<S: Surface>(
     alloc: Global,
+    mesh: &S,
+    by: &Shifts,
+    depth: u8,
+    rt: &impl Abort,
+) -> Result<usize, NoMemory>
+    requires depth_fits { depth ≤ DEPTH_MAX }
+    requires named { NameLive (S.mesh mesh.now) by.now }
+    requires in_box { IsTrue (end_in_box (S.mesh mesh.now) by.now) }
+{
+    let first = first_meeting(alloc, mesh)?;
+    let plain = plainly(alloc, mesh, by.as_slice(), depth, rt)?;
+    assert_same(rt, &first, &plain.meeting.get(0).copied());
+    let found = failing(alloc, mesh, by, depth)?;
+    assert_pairs(rt, found.as_slice(), plain.failing.as_slice());
+    Ok(found.len())
+}
+
+// Makes shifts by a plan. How many pairs fail.
+fn scanned<S: Surface>(
+    alloc: Global,
+    mesh: &S,
     plan: Plan,
     depth: u8,
     numbers: &mut Numbers,
@@ -163,32 +200,37 @@ fn assert_scanned(
 ) -> Result<usize, NoMemory>
     requires depth_fits { depth ≤ DEPTH_MAX }
 {
+    let by = shifts_by(alloc, mesh, plan, numbers, rt)?;
+    assert_found(alloc, mesh, &by, depth, rt)
+}
+
+// Makes a mesh and its shifts by a plan, and compares the scans with the plain loop. Whether no pair fails.
+fn is_clear(
+    alloc: Global,
+    [bodies, spread, size, step, depth, throw]: [u32; 6],
+    numbers: &mut Numbers,
+    rt: &impl Abort,
+) -> Result<bool, NoMemory> {
+    let plan = Plan {
+        bodies,
+        spread,
+        size,
+        step,
+        throw,
+    };
+    assert!(rt; depth <= u32::from(DEPTH_MAX));
     let mesh = mesh_by(alloc, plan, numbers, rt)?;
-    let by = shifts_by(alloc, &mesh, plan, numbers, rt)?;
-    let plain = plainly(alloc, &mesh, by.as_slice(), depth, rt)?;
-    let found = failing(alloc, &mesh, &by, depth)?;
-    assert_eq!(rt; found.as_slice(), plain.failing.as_slice());
-    let first = first_meeting(alloc, &mesh)?;
-    assert_eq!(rt; first, plain.meeting.get(0).copied());
-    Ok(found.len())
+    let count = scanned(alloc, &mesh, plan, depth as u8, numbers, rt)?;
+    Ok(count == 0)
 }
 
 #[test]
 fn the_scans_find_what_a_loop_over_all_pairs_does(rt: HostRuntime) -> Result<(), Fail> {
     let mut numbers = Numbers::new(2009);
     let mut clear: u32 = 0;
-    for [bodies, spread, size, step, depth, throw] in PLANS {
-        let plan = Plan {
-            bodies,
-            spread,
-            size,
-            step,
-            throw,
-        };
-        let depth = depth as u8;
-        assert!(rt; depth <= DEPTH_MAX);
+    for plan in &PLANS {
         for _ in 0..2 {
-            if assert_scanned(rt.alloc(), plan, depth, &mut numbers, &rt)? == 0 {
+            if is_clear(rt.alloc(), *plan, &mut numbers, &rt)? {
                 clear = clear.wrapping_add(1);
             }
         }
