@@ -2,7 +2,7 @@
 use Rattle.std.proofs.Common.{◌≡◌, ◌+◌, ◌≤◌, false, ◌==◌, [], ◌∷◌, sym, ◌∙◌, arith}
 use Rattle.std.proofs.lemmas.Bool.{eqb-false}
 use Rattle.std.specs.FinMap as finite
-use Rattle.grid_base.specs.declared.TheConstants.{FACES_MAX, ID_MAX}
+use Rattle.grid_base.specs.declared.TheConstants.{ID_MAX}
 use Rattle.mesh_base.specs.Mesh.{Mesh, IsSound, IsLiveFace}
 use Rattle.mesh_base.specs.Sides.{IsClosed}
 use Rattle.mesh_base.specs.Pairs.{is_edge}

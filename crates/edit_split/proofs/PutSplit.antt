@@ -1,7 +1,7 @@
 -- What the changes of a split require, one after another.
 use Rattle.std.proofs.Common.{◌≡◌, ◌+◌, ◌≤◌, false, [], ◌∷◌, is_some, ⊎_elim, sym, ap, arith}
 use Rattle.std.specs.FinMap as finite
-use Rattle.grid_base.specs.declared.TheConstants.{FACES_MAX, ID_MAX}
+use Rattle.grid_base.specs.declared.TheConstants.{ID_MAX}
 use Rattle.grid_base.specs.declared.Point.{Point}
 use Rattle.mesh_base.specs.Mesh.{Mesh, IsSound, IsLiveFace}
 use Rattle.mesh_base.specs.Sides.{IsClosed}

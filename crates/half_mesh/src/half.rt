@@ -4,7 +4,9 @@ ghost use Rattle.half_mesh.specs.States.{AreApart, meshes_of, NoneBuried};
 
 use crate::tables::Tables;
 use grid_base::{Extent, ID_MAX, NoMemory, Point};
-use mesh_base::{AddFault, Corners, FaceId, Limits, Mark, MeshLists, Surface, VertexId, faces_near_of_all};
+use mesh_base::{
+    AddFault, Corners, FaceId, Limits, Mark, MeshLists, Surface, VertexId, faces_near_of_all,
+};
 use std::alloc::Global;
 
 /// A mesh in half-edges: a look-up at a vertex takes time in proportion to its faces. It keeps a copy of the mesh for each
@@ -320,7 +322,9 @@ impl Surface for HalfMesh {
         ensures memory { IsErrOf result AddFault.NoMemory → spare_in self.old ≡ 0 }
         ensures spare { spare_in self.old ≤ spare_in self.new + 1 }
     {
-        if self.now.vertices() >= self.now.limits().vertices as usize || self.now.next_vertex() > ID_MAX {
+        if self.now.vertices() >= self.now.limits().vertices as usize
+            || self.now.next_vertex() > ID_MAX
+        {
             return Err(AddFault::Full);
         }
         match self.now.add_vertex(p) {

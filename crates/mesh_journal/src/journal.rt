@@ -9,7 +9,7 @@ use crate::index::Index;
 use crate::near::near_in;
 use crate::undoable::Undoable;
 use grid_base::{Extent, NoMemory, Point};
-use mesh_base::{AddFault, FaceId, Limits, FaceTable, Mark, Surface, VertexId};
+use mesh_base::{AddFault, FaceId, FaceTable, Limits, Mark, Surface, VertexId};
 use std::alloc::Global;
 
 /// A mesh with a journal: the entries by which each change since the last `settle` can be undone. What is dropped is

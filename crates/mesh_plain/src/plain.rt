@@ -3,7 +3,9 @@ ghost use Rattle.mesh_base.specs.Mesh.{IsSound};
 
 use crate::tables::Tables;
 use grid_base::{Extent, ID_MAX, NoMemory, Point};
-use mesh_base::{AddFault, Corners, FaceId, Limits, Mark, MeshLists, Surface, VertexId, faces_near_of_all};
+use mesh_base::{
+    AddFault, Corners, FaceId, Limits, Mark, MeshLists, Surface, VertexId, faces_near_of_all,
+};
 use std::alloc::Global;
 
 /// A mesh in ordered maps from ids. It keeps a copy of the mesh for each mark.
@@ -160,7 +162,9 @@ impl Surface for PlainMesh {
         ensures marks { BeginsWith (kept_in self.new) (kept_in self.old) }
         ensures err { OnErr result (IsUnchanged self.old self.new) }
     {
-        if self.now.vertices() >= self.now.limits().vertices as usize || self.now.next_vertex() > ID_MAX {
+        if self.now.vertices() >= self.now.limits().vertices as usize
+            || self.now.next_vertex() > ID_MAX
+        {
             return Err(AddFault::Full);
         }
         match self.now.add_vertex(p) {
