@@ -33,7 +33,7 @@ impl Labels {
     }
 
     /// Those of them that are also of the others.
-    pub(crate) fn common(&self, other: &Labels) -> Labels
+    pub fn common(&self, other: &Labels) -> Labels
         ensures { result ≡ common self.now other.now }
     {
         Labels {

@@ -16,6 +16,7 @@ mod walking;
 pub use labelled_box::LabelledBox;
 pub use labels::Labels;
 pub(crate) use node::Node;
+pub use ordering::places_along_curve;
 pub(crate) use question::Question;
 pub use small_box::SmallBox;
 pub use tree::BoxTree;

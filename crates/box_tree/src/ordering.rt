@@ -57,7 +57,7 @@ fn places_of(alloc: Global, keyed: &[(u128, u64)]) -> Result<Vec<u64>, NoMemory>
 }
 
 /// The places of boxes, those at one crowded label together, in the order of their middles along a curve that fills space.
-pub(crate) fn places_along_curve(alloc: Global, boxes: &[LabelledBox]) -> Result<Vec<u64>, NoMemory>
+pub fn places_along_curve(alloc: Global, boxes: &[LabelledBox]) -> Result<Vec<u64>, NoMemory>
     ensures { IfOk result (λ order. HasEachPlace boxes.now order.items) }
 {
     let slots = counts(alloc, boxes)?;

@@ -40,6 +40,10 @@ impl PairTest for BeginNear {
     fn box_of(&self, e: &MovingEdge, _frame: &Frame) -> Extent {
         widened(self.skin, e.first.start.wide(), e.second.start.wide())
     }
+
+    fn is_false_of_parted(&self) -> bool {
+        false
+    }
 }
 
 /// The pairs of these edges and these faces that begin near each other, edge by edge.

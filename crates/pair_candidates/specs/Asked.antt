@@ -6,11 +6,7 @@ use Rattle.std.proofs.Common.{Option}
 use Rattle.grid_base.specs.declared.Extent.{Extent}
 use Rattle.grid_base.specs.Ordered.{IsUnder}
 use Rattle.box_tree.specs.declared.LabelledBox.{LabelledBox}
-use Rattle.box_tree.specs.Overlapping.{LabelledBoxes, overlaps_apart, overlapping, overlapping_apart}
-use Rattle.pair_paths.specs.declared.Frame.{Frame}
-use Rattle.pair_paths.specs.declared.MovingEdge.{MovingEdge}
-use Rattle.pair_paths.specs.declared.MovingFace.{MovingFace}
-use Rattle.pair_candidates.specs.Told.{LeavesOut}
+use Rattle.box_tree.specs.Overlapping.{LabelledBoxes, overlaps_apart, overlapping}
 
 -- the first box has all of the second
 pub record IsAround (outer inner : Extent) : Type 0 where
@@ -26,11 +22,3 @@ pub record IsKept (tree : LabelledBoxes) (boxes : List LabelledBox) (asked : Opt
     (near : List ℕ) : Type 0 where
   pub placed : (i : ℕ) → map.get tree i ≡ slice_get boxes i
   pub answered : IfSome asked (λ at. near ≡ overlapping tree at)
-
--- the places are those of the boxes that are near a box which leaves out no face of which the test
--- is true with the edge, and have no end of it as a label
-pub record AreNear (test : MovingEdge → MovingFace → Bool) (frame : Frame) (tree : LabelledBoxes)
-    (e : MovingEdge) (near : List ℕ) : Type 0 where
-  pub at : Extent
-  pub leaves_out : LeavesOut test frame e at
-  pub found : near ≡ overlapping_apart tree at e.a e.b

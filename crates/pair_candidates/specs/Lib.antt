@@ -1,3 +1,4 @@
 pub mod Told
 pub mod Asked
 pub mod Views
+pub mod Slabs

@@ -2,12 +2,18 @@
 //! each test of pairs: trees of boxes leave out the faces that are far apart from an edge.
 #![tactic(auto)]
 
+mod across;
 mod asked_tree;
 mod frames;
 mod neighbours;
 mod of_mesh;
 mod pair_test;
+mod parting;
+mod range;
 mod scan;
+mod slab_tree;
+mod slabs;
+mod still_faces;
 mod views;
 
 pub use frames::Frames;

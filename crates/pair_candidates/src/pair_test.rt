@@ -4,10 +4,11 @@ use pair_paths::{Frame, MovingEdge, MovingFace};
 
 /// A test of an edge and a face that have no vertex in common, and what is told of those of which it is true.
 pub trait PairTest {
-    ghost use Rattle.std.specs.Prelude.{◌≡◌, Bool};
+    ghost use Rattle.std.specs.Prelude.{◌≡◌, Bool, IsTrue};
     ghost use Rattle.pair_paths.specs.declared.MovingEdge.{MovingEdge};
     ghost use Rattle.pair_paths.specs.declared.MovingFace.{MovingFace};
     ghost use Rattle.pair_candidates.specs.Told.{LeavesOut};
+    ghost use Rattle.pair_candidates.specs.Slabs.{IsFalseOfParted};
 
     /// What is told of an edge and a face.
     type Told: Drop;
@@ -29,4 +30,8 @@ pub trait PairTest {
     /// A box of the edge: of no face whose box in the frame is apart from it is the test true.
     fn box_of(&self, e: &MovingEdge, frame: &Frame) -> Extent
         ensures { LeavesOut (test self.now) frame.now e.now result };
+
+    /// Whether the test is known to be false of each edge and face that move as one and do not meet where they begin.
+    fn is_false_of_parted(&self) -> bool
+        ensures { IsTrue result → IsFalseOfParted (test self.now) };
 }

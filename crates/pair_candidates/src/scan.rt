@@ -1,9 +1,7 @@
 //! The scan: the edges one by one, each with the faces near it.
 ghost use Rattle.std.specs.Prelude.{◌≡◌, ◌++◌, Some, IfOk, OnOk, IsTrue, slice_get};
-ghost use Rattle.pair_paths.specs.Bounds.{AreBoxes};
-ghost use Rattle.pair_paths.specs.FaceBoxes.{IsFaceBoxIn};
 ghost use Rattle.pair_candidates.specs.Told.{is_told, told_with, told_at, told_among, told_along, up_to, IsFull};
-ghost use Rattle.pair_candidates.specs.Views.{AreViews};
+ghost use Rattle.pair_candidates.specs.Views.{IsView, AreViews};
 
 use crate::frames::Frames;
 use crate::neighbours::{Scan, near_edge};
@@ -64,8 +62,7 @@ fn put_told<A: PairTest>(
     Ok(())
 }
 
-// Puts what is told of an edge with all faces at the end. Sets `near` to the places of the faces that have no end of it and whose
-// boxes in the view's frame meet its box.
+// Puts what is told of an edge with all faces at the end. Sets `near` to the places of faces of which something may be told.
 fn put_told_seen<P: Paths, A: PairTest>(
     e: &MovingEdge,
     view: &mut View,
@@ -74,8 +71,8 @@ fn put_told_seen<P: Paths, A: PairTest>(
     near: &mut Vec<u64>,
     found: &mut Items<A::Told>,
 ) -> Result<(), NoMemory>
-    requires boxes { AreBoxes (IsFaceBoxIn view.old.frame) scan.now.faces.now view.old.boxes }
-    ensures boxes { AreBoxes (IsFaceBoxIn view.new.frame) scan.now.faces.now view.new.boxes }
+    requires { IsView scan.now.faces.now view.old }
+    ensures view { IsView scan.now.faces.now view.new }
     ensures found { OnOk result (found.new ≡ found.old
         ++ told_among (A.test scan.now.test.now) A.what e.now scan.now.faces.now) }
 {
@@ -159,6 +156,7 @@ pub fn told_along<P: Paths, A: PairTest>(
 {
     let mut views = views_of(alloc, faces, frames)?;
     let scan = Scan {
+        alloc,
         test,
         paths,
         edges,

@@ -38,6 +38,10 @@ impl PairTest for Meets {
     fn box_of(&self, e: &MovingEdge, frame: &Frame) -> Extent {
         e.bounds_in(frame)
     }
+
+    fn is_false_of_parted(&self) -> bool {
+        true
+    }
 }
 
 // The first pair, if there is one.

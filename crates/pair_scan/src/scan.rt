@@ -41,6 +41,10 @@ impl PairTest for DoNotPass {
     fn box_of(&self, e: &MovingEdge, frame: &Frame) -> Extent {
         e.bounds_in(frame)
     }
+
+    fn is_false_of_parted(&self) -> bool {
+        true
+    }
 }
 
 /// Whether there is no pair.

@@ -3,4 +3,7 @@ use Rattle.pair_paths.proofs.Boxed.{boxes_by_place}
 use Rattle.pair_candidates.proofs.views.view_of.Goals as goal
 
 pub returns : goal.returns
-returns c = boxes_by_place (IsFaceBoxIn c.args.frame) c.args.faces.now c.in_ok-list.list.items c.in_ok-of.field-0 c.in_ok-list.ensures c.in_ok-of.ensures
+returns c = record {
+  boxes = boxes_by_place (IsFaceBoxIn c.args.frame) c.args.faces.now c.in_ok-list.list.items c.in_ok-of.field-0 c.in_ok-list.ensures c.in_ok-of.ensures;
+  still = tt;
+}
