@@ -4,7 +4,7 @@
 The reference is what docs/DEFINITIONS.md and docs/FORMATS.md say, as one plain program, so a change of what a definition means shows here
 without any prover. The jobs are made as random_jobs.py, broken_meshes.py and mutated_texts.py make them: steps of each way, all edits and
 their refusals, groups, fields, fits and grids are tracked, and each log is measured and replayed; meshes are converted to each format and
-back and checked; broken meshes are checked; and spoilt texts are refused. Then it is looked whether reference/README.md names each
+back and checked; broken meshes are checked; and spoilt texts are refused. Then it is looked whether reference/definitions.txt names each
 definition of docs/DEFINITIONS.md, and the reference what it names there. It takes less than a minute on one core. The last line counts the
 jobs alike; at a difference the job is kept and the exit status is 1.
 """
@@ -90,15 +90,15 @@ def text_of(*names):
 
 
 def names_missing(reference):
-    """The definitions that reference/README.md does not name, and what it names that is not in the reference."""
-    told, program = text_of("reference", "README.md"), text_of(reference)
+    """The definitions that reference/definitions.txt does not name, and what it names that is not in the reference."""
+    told, program = text_of("reference", "definitions.txt"), text_of(reference)
     definitions = text_of("docs", "DEFINITIONS.md").partition("\n## The field's terms")[0]
     terms = {re.sub(r"\s+", " ", term) for term in re.findall(r"\*\*(.+?)\*\*", definitions, re.S)}
     plain = re.sub(r"\s+", " ", told).lower()
-    yield from (f"reference/README.md does not name the definition {term!r}" for term in sorted(terms) if term.strip("`").lower() not in plain)
-    for name in re.findall(r"`(\w+)`", told.partition("\n## Where each definition stands")[2].partition("\n## ")[0]):
+    yield from (f"reference/definitions.txt does not name the definition {term!r}" for term in sorted(terms) if term.strip("`").lower() not in plain)
+    for name in re.findall(r"`(\w+)`", told.partition("\n# What of the definitions is not in it")[0]):
         if not re.search(rf"^ *(def|class) {name}\b|^{name}\b", program, re.M):
-            yield f"reference/README.md names `{name}`, which is not in the reference"
+            yield f"reference/definitions.txt names `{name}`, which is not in the reference"
 
 
 def main():
