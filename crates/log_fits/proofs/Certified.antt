@@ -9,9 +9,9 @@ use Rattle.log_text.specs.declared.LogLine.{LogLine}
 use Rattle.log_run.specs.States.{LogState, without_lines}
 use Rattle.log_run.specs.Fits.{LineFits}
 use Rattle.log_run.specs.Motions.{moved_in, PassesWhereMoved}
-use Rattle.track_replay.specs.declared.refusal.LogRefusal.{LogRefusal}
-use Rattle.track_replay.specs.declared.refusal.LogRefusal.TheVariants.{Input, Log, Replay, Proof, Motion}
-use Rattle.track_replay.specs.Taking.{with_lines}
+use Rattle.track_log.specs.declared.refusal.LogRefusal.{LogRefusal}
+use Rattle.track_log.specs.declared.refusal.LogRefusal.TheVariants.{Input, Log, Replay, Proof, Motion}
+use Rattle.track_log.specs.Taking.{with_lines}
 use Rattle.track_prove.specs.Judged.{EndsJudged}
 use Rattle.track_prove.specs.Proving.{MakesVerdict, ProveFinds}
 use Rattle.log_fits.proofs.Reached.{IsAtLine}

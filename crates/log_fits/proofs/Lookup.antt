@@ -12,7 +12,7 @@ use Rattle.log_text.specs.declared.LogLine.{LogLine}
 use Rattle.log_replay.specs.Replay.{Replay, replayed}
 use Rattle.log_run.specs.States.{LogState, with_line}
 use Rattle.log_run.specs.Motions.{MotionAt, moved_in, one_motion, motions_from}
-use Rattle.track_replay.specs.Taking.{with_lines}
+use Rattle.track_log.specs.Taking.{with_lines}
 use Rattle.track_prove.specs.Proving.{IsProofOf, AreProofsOf}
 use Rattle.track_prove.specs.Verifying.{proof_at, beyond}
 

@@ -22,10 +22,10 @@ use Rattle.outside_io.specs.World.{World}
 use Rattle.track_input.specs.Source.{Source, Bytes}
 use Rattle.track_input.specs.Words.{LogNames}
 use Rattle.track_input.specs.Job.{Job, mesh_of_lists, mesh_of_job, mesh_in, mesh_read, met_first}
-use Rattle.track_replay.specs.declared.LogRefusal.{LogRefusal}
-use Rattle.track_replay.specs.LogJob.{LogJob, LogInput, read_of_files, read_of_lists, read_of_shape, read_of_log, input_of_test, input_of_read, input_of}
-use Rattle.track_replay.specs.Taking.{StepPasses, FitsTested, EachFits, AllFit}
-use Rattle.track_replay.specs.Ending.{EndsBy}
+use Rattle.track_log.specs.declared.LogRefusal.{LogRefusal}
+use Rattle.track_log.specs.LogJob.{LogJob, LogInput, read_of_files, read_of_lists, read_of_shape, read_of_log, input_of_test, input_of_read, input_of}
+use Rattle.track_log.specs.Taking.{StepPasses, FitsTested, EachFits, AllFit}
+use Rattle.track_log.specs.Ending.{EndsBy}
 use Rattle.track_measure.specs.Headline.{IsStopped}
 use Rattle.track_engine.specs.Answers.{Answers}
 use Rattle.track_engine.specs.Answered.{Known}

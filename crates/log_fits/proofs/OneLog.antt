@@ -25,7 +25,7 @@ use Rattle.track_engine.proofs.Keeping.{kept_next, kept_start}
 use Rattle.track_run.specs.Answered.{IsInputAnswered}
 use Rattle.track_run.specs.Job.{log_of, log_of_test, log_of_input}
 use Rattle.log_fits.specs.OneLog.{HaveOneAnswer, JobsHaveOneLog}
-use Rattle.track_replay.proofs.ValidInputs.{valid_where_clear}
+use Rattle.track_log.proofs.ValidInputs.{valid_where_clear}
 use Rattle.log_fits.proofs.OneAnswer.{effects_alike}
 
 -- the logs of the others are only compared where the directive is taken

@@ -34,10 +34,10 @@ use Rattle.outside_io.specs.World.{World}
 use Rattle.track_input.specs.Source.{Bytes, IsSource}
 use Rattle.track_input.specs.Words.{LogNames, ProofNames}
 use Rattle.track_input.specs.Job.{Job, mesh_of_lists, mesh_of_job}
-use Rattle.track_replay.specs.declared.LogRefusal.{LogRefusal}
-use Rattle.track_replay.specs.LogJob.{LogJob, IsLogJob, LogInput, input_of, fetched_of, read_of_lists, read_of_shape, read_of_log, input_of_test, input_of_read}
-use Rattle.track_replay.specs.Taking.{with_lines}
-use Rattle.track_replay.proofs.PrepareLemmas.{few_lines}
+use Rattle.track_log.specs.declared.LogRefusal.{LogRefusal}
+use Rattle.track_log.specs.LogJob.{LogJob, IsLogJob, LogInput, input_of, fetched_of, read_of_lists, read_of_shape, read_of_log, input_of_test, input_of_read}
+use Rattle.track_log.specs.Taking.{with_lines}
+use Rattle.track_log.proofs.PrepareLemmas.{few_lines}
 use Rattle.track_engine.specs.Answers.{Answers}
 use Rattle.track_engine.specs.Answered.{Known}
 use Rattle.track_engine.specs.Kept.{LogIsSafe}
@@ -59,7 +59,7 @@ use Rattle.log_fits.specs.Measured.{IsWithLogOf}
 use Rattle.log_fits.specs.Proved.{LogsOfRunsAreProved, ProofsOfRunsAreVerified, log_input_of}
 use Rattle.log_fits.proofs.Certified.{nothing_against, ends_well}
 use Rattle.log_fits.proofs.Jobs.{job_logs_fit}
-use Rattle.track_replay.proofs.ValidInputs.{valid_mesh}
+use Rattle.track_log.proofs.ValidInputs.{valid_mesh}
 use Rattle.log_fits.proofs.Lookup.{IsThere, AreBetween, found_at, between, none_beyond}
 use Rattle.log_fits.proofs.Measured.{given_is, mesh_is}
 use Rattle.log_fits.proofs.Ranged.{moved_is_sound, are_in_range}

@@ -11,7 +11,7 @@ use Rattle.log_run.specs.Fits.{LineFits}
 use Rattle.log_run.specs.Laws.{IsValidState, StepIsClear}
 use Rattle.log_run.specs.Motions.{StepHasNoneFailing}
 use Rattle.log_run.proofs.Surfaces.{fitting_is_safe}
-use Rattle.track_replay.specs.Taking.{with_lines}
+use Rattle.track_log.specs.Taking.{with_lines}
 use Rattle.track_engine.specs.Kept.{LineHolds, LogIsSafe}
 use Rattle.log_fits.specs.Fitting.{LinesFit}
 

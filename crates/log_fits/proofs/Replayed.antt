@@ -13,12 +13,12 @@ use Rattle.outside_io.specs.declared.stop.Stop.TheVariants as stop
 use Rattle.outside_io.specs.World.{World}
 use Rattle.track_input.specs.Words.{ReplayNames}
 use Rattle.track_input.specs.Job.{mesh_of_job, mesh_of_lists}
-use Rattle.track_replay.specs.declared.LogRefusal.{LogRefusal}
-use Rattle.track_replay.specs.declared.LogRefusal.TheVariants as log
-use Rattle.track_replay.specs.LogJob.{LogInput, input_of}
-use Rattle.track_meshes.specs.Wanted.{NamedTexts}
-use Rattle.track_meshes.specs.Headline.{ComesToEnd, IsReplayOf, target_in, texts_stored}
-use Rattle.track_meshes.proofs.WantedLines.{each_wanted}
+use Rattle.track_log.specs.declared.LogRefusal.{LogRefusal}
+use Rattle.track_log.specs.declared.LogRefusal.TheVariants as log
+use Rattle.track_log.specs.LogJob.{LogInput, input_of}
+use Rattle.track_replay.specs.Wanted.{NamedTexts}
+use Rattle.track_replay.specs.Headline.{ComesToEnd, IsReplayOf, target_in, texts_stored}
+use Rattle.track_replay.proofs.WantedLines.{each_wanted}
 use Rattle.track_engine.specs.Answered.{Known}
 use Rattle.track_engine.specs.Saved.{Target, files_of, stored}
 use Rattle.track_run.specs.declared.outcome.Outcome.{Outcome}

@@ -18,12 +18,12 @@ use Rattle.outside_io.specs.Desk.{Files}
 use Rattle.track_input.specs.Job.{mesh_of_lists}
 use Rattle.track_input.specs.Source.{Bytes, IsSource}
 use Rattle.track_input.specs.Words.{LogNames}
-use Rattle.track_replay.specs.declared.LogRefusal.{LogRefusal}
-use Rattle.track_replay.specs.Ending.{EndsBy}
-use Rattle.track_replay.specs.LogJob.{LogJob, LogInput, IsLogJob, fetched_of, read_of_files, read_of_lists, read_of_shape, read_of_log, input_of_test, input_of_read, input_of}
-use Rattle.track_replay.specs.Taking.{FitsTested, AllFit}
-use Rattle.track_replay.proofs.PrepareLemmas.{few_lines}
-use Rattle.track_replay.proofs.ValidInputs.{valid_where_clear}
+use Rattle.track_log.specs.declared.LogRefusal.{LogRefusal}
+use Rattle.track_log.specs.Ending.{EndsBy}
+use Rattle.track_log.specs.LogJob.{LogJob, LogInput, IsLogJob, fetched_of, read_of_files, read_of_lists, read_of_shape, read_of_log, input_of_test, input_of_read, input_of}
+use Rattle.track_log.specs.Taking.{FitsTested, AllFit}
+use Rattle.track_log.proofs.PrepareLemmas.{few_lines}
+use Rattle.track_log.proofs.ValidInputs.{valid_where_clear}
 use Rattle.track_prove.specs.Proving.{AreProofsOf, ProveEnds}
 use Rattle.track_prove.specs.Verifying.{ProofJob, fetched_with_proof, read_with_proof, read_of_bytes, with_proofs, proof_input_of_read, proof_input_of, VerifyEnds}
 use Rattle.log_fits.specs.Logs.{IsLogOf}

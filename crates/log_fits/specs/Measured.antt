@@ -12,7 +12,7 @@ use Rattle.outside_io.specs.World.{World}
 use Rattle.track_input.specs.Source.{Bytes}
 use Rattle.track_input.specs.Words.{LogNames}
 use Rattle.track_input.specs.Job.{Job}
-use Rattle.track_replay.specs.LogJob.{LogJob}
+use Rattle.track_log.specs.LogJob.{LogJob}
 use Rattle.track_engine.specs.Answers.{Answers}
 use Rattle.track_engine.specs.Answered.{Known}
 use Rattle.track_engine.specs.Saved.{Target}

@@ -6,7 +6,7 @@ use Rattle.outside_io.specs.World.{World}
 use Rattle.track_input.specs.Source.{Bytes}
 use Rattle.track_input.specs.Words.{LogNames, ProofNames}
 use Rattle.track_input.specs.Job.{Job, mesh_of_lists}
-use Rattle.track_replay.specs.LogJob.{LogInput}
+use Rattle.track_log.specs.LogJob.{LogInput}
 use Rattle.track_prove.specs.Proving.{IsProofText}
 use Rattle.track_engine.specs.Answers.{Answers}
 use Rattle.track_engine.specs.Answered.{Known}

@@ -8,7 +8,7 @@ use Rattle.outside_io.specs.World.{World}
 use Rattle.track_input.specs.Job.{mesh_of_lists, met_first}
 use Rattle.track_input.specs.Source.{Bytes}
 use Rattle.track_input.specs.Words.{LogNames, ProofNames, ReplayNames}
-use Rattle.track_replay.specs.LogJob.{LogJob, LogInput}
+use Rattle.track_log.specs.LogJob.{LogJob, LogInput}
 use Rattle.track_prove.specs.Proving.{IsProofText}
 use Rattle.track_run.specs.declared.outcome.Outcome.{Outcome}
 use Rattle.track_run.specs.declared.outcome.Outcome.TheVariants.{Done, NoMemory}

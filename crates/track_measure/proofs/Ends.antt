@@ -13,15 +13,15 @@ use Rattle.outside_io.specs.Outside.{Around, StoresNothing, written_of}
 use Rattle.outside_io.specs.Sink.{appended, AppendsPart}
 use Rattle.outside_io.proofs.Outsides.{nothing_done, nothing_then, nothing_whole, nothing_stopped, nothing_unremembered}
 use Rattle.outside_io.proofs.Written.{appended-nil, appended-appended}
-use Rattle.track_replay.specs.declared.refusal.LogRefusal.{LogRefusal}
-use Rattle.track_replay.specs.declared.refusal.LogRefusal.TheVariants as log
-use Rattle.track_replay.specs.LogJob.{LogInput}
-use Rattle.track_replay.specs.Taking.{FitsTested, with_lines, EachFits, IsFirstUnfit, IsUnfitAt, AllFit}
-use Rattle.track_replay.specs.Ending.{EndsBy}
-use Rattle.track_replay.specs.Refused.{refused_text}
-use Rattle.track_replay.specs.Telling.{Tells}
-use Rattle.track_replay.proofs.ToldTexts.{refused_some}
-use Rattle.track_replay.proofs.Endings.{fits_one_more, before_unfit, one_ending}
+use Rattle.track_log.specs.declared.refusal.LogRefusal.{LogRefusal}
+use Rattle.track_log.specs.declared.refusal.LogRefusal.TheVariants as log
+use Rattle.track_log.specs.LogJob.{LogInput}
+use Rattle.track_log.specs.Taking.{FitsTested, with_lines, EachFits, IsFirstUnfit, IsUnfitAt, AllFit}
+use Rattle.track_log.specs.Ending.{EndsBy}
+use Rattle.track_log.specs.Refused.{refused_text}
+use Rattle.track_log.specs.Telling.{Tells}
+use Rattle.track_log.proofs.ToldTexts.{refused_some}
+use Rattle.track_log.proofs.Endings.{fits_one_more, before_unfit, one_ending}
 use Rattle.track_measure.specs.declared.telling.MeshShape.{MeshShape}
 use Rattle.track_measure.specs.declared.telling.MeasureLine.{MeasureLine}
 use Rattle.track_measure.specs.declared.telling.MeasureLine.TheVariants.{End}

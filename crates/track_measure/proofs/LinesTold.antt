@@ -12,9 +12,9 @@ use Rattle.outside_io.specs.Outside.{Around, StoresNothing, written_of}
 use Rattle.outside_io.specs.Sink.{appended, AppendsPart}
 use Rattle.outside_io.proofs.Outsides.{nothing_done, nothing_unremembered, nothing_whole, nothing_stopped}
 use Rattle.outside_io.proofs.Written.{appended-nil}
-use Rattle.track_replay.specs.Taking.{FitsTested}
-use Rattle.track_replay.specs.Telling.{Tells}
-use Rattle.track_replay.proofs.ToldTexts.{line_some}
+use Rattle.track_log.specs.Taking.{FitsTested}
+use Rattle.track_log.specs.Telling.{Tells}
+use Rattle.track_log.proofs.ToldTexts.{line_some}
 use Rattle.track_measure.specs.declared.telling.MeshShape.{MeshShape}
 use Rattle.track_measure.specs.declared.telling.MeasureLine.{MeasureLine}
 use Rattle.track_measure.specs.declared.telling.MeasureLine.TheVariants.{Measure, Change, End}

@@ -10,17 +10,17 @@ use Rattle.outside_io.specs.World.{World, Contents}
 use Rattle.outside_io.proofs.Outsides.{counts_then, counts_stopped}
 use Rattle.outside_io.proofs.Written.{appended-nil}
 use Rattle.track_input.specs.Words.{LogNames}
-use Rattle.track_replay.specs.declared.LogRefusal.{LogRefusal}
-use Rattle.track_replay.specs.declared.Prepared.{Prepared}
-use Rattle.track_replay.specs.declared.Prepared.TheVariants as prepared
-use Rattle.track_replay.specs.LogJob.{LogJob, IsLogJob, LogInput, input_of}
-use Rattle.track_replay.specs.Preparing.{PreparesLog}
-use Rattle.track_replay.specs.Taking.{FitsTested}
-use Rattle.track_replay.specs.Ending.{EndsBy}
-use Rattle.track_replay.specs.Refused.{refused_text}
-use Rattle.track_replay.specs.Telling.{Tells}
-use Rattle.track_replay.proofs.Endings.{one_ending}
-use Rattle.track_replay.proofs.PrepareLemmas.{some_log_job}
+use Rattle.track_log.specs.declared.LogRefusal.{LogRefusal}
+use Rattle.track_log.specs.declared.Prepared.{Prepared}
+use Rattle.track_log.specs.declared.Prepared.TheVariants as prepared
+use Rattle.track_log.specs.LogJob.{LogJob, IsLogJob, LogInput, input_of}
+use Rattle.track_log.specs.Preparing.{PreparesLog}
+use Rattle.track_log.specs.Taking.{FitsTested}
+use Rattle.track_log.specs.Ending.{EndsBy}
+use Rattle.track_log.specs.Refused.{refused_text}
+use Rattle.track_log.specs.Telling.{Tells}
+use Rattle.track_log.proofs.Endings.{one_ending}
+use Rattle.track_log.proofs.PrepareLemmas.{some_log_job}
 use Rattle.track_measure.specs.Measured.{MeasuresLines}
 use Rattle.track_measure.specs.Headline.{text_told, IsToldOf, IsStopped, Measures}
 use Rattle.track_measure.proofs.Ends.{told_some}

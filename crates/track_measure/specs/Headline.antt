@@ -5,12 +5,12 @@ use Rattle.outside_io.specs.Outside.{HasCauses}
 use Rattle.outside_io.specs.Sink.{appended, AppendsPart}
 use Rattle.outside_io.specs.World.{World}
 use Rattle.track_input.specs.Words.{LogNames}
-use Rattle.track_replay.specs.declared.refusal.LogRefusal.{LogRefusal}
-use Rattle.track_replay.specs.declared.refusal.LogRefusal.TheVariants.{Replay}
-use Rattle.track_replay.specs.LogJob.{LogJob, IsLogJob, LogInput, input_of}
-use Rattle.track_replay.specs.Taking.{FitsTested}
-use Rattle.track_replay.specs.Ending.{EndsBy}
-use Rattle.track_replay.specs.Refused.{refused_text}
+use Rattle.track_log.specs.declared.refusal.LogRefusal.{LogRefusal}
+use Rattle.track_log.specs.declared.refusal.LogRefusal.TheVariants.{Replay}
+use Rattle.track_log.specs.LogJob.{LogJob, IsLogJob, LogInput, input_of}
+use Rattle.track_log.specs.Taking.{FitsTested}
+use Rattle.track_log.specs.Ending.{EndsBy}
+use Rattle.track_log.specs.Refused.{refused_text}
 use Rattle.track_measure.specs.MeasureLines.{measure_lines, lines_of_first}
 use Rattle.track_measure.specs.Texts.{text_of_all}
 

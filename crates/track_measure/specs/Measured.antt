@@ -8,9 +8,9 @@ use Rattle.outside_io.specs.Sink.{appended, AppendsPart}
 use Rattle.log_run.specs.Fits.{LineFits}
 use Rattle.log_run.specs.Laws.{IsValidState}
 use Rattle.log_run.specs.States.{LogState, with_line}
-use Rattle.track_replay.specs.declared.refusal.LogRefusal.{LogRefusal}
-use Rattle.track_replay.specs.LogJob.{LogInput}
-use Rattle.track_replay.specs.Taking.{FitsTested}
+use Rattle.track_log.specs.declared.refusal.LogRefusal.{LogRefusal}
+use Rattle.track_log.specs.LogJob.{LogInput}
+use Rattle.track_log.specs.Taking.{FitsTested}
 use Rattle.track_measure.specs.MeasureLines.{shape_of, told}
 use Rattle.track_measure.specs.Texts.{text_of_told}
 use Rattle.track_measure.specs.Headline.{IsToldOf, text_told}

@@ -8,8 +8,8 @@ ghost use Rattle.log_run.specs.Laws.{IsValidState};
 ghost use Rattle.log_run.specs.States.{LogState, with_line, without_lines};
 ghost use Rattle.outside_io.specs.Outside.{Counts};
 ghost use Rattle.track_input.specs.Named.{log_names};
-ghost use Rattle.track_replay.specs.Taking.{FitsTested};
-ghost use Rattle.track_replay.specs.Telling.{Tells};
+ghost use Rattle.track_log.specs.Taking.{FitsTested};
+ghost use Rattle.track_log.specs.Telling.{Tells};
 ghost use Rattle.track_measure.specs.MeasureLines.{shape_of, told};
 ghost use Rattle.track_measure.specs.Texts.{text_of, text_of_told};
 ghost use Rattle.track_measure.specs.Measured.{TellsSome, MeasuresLine, MeasuresLines};
@@ -26,7 +26,7 @@ use mesh_journal::JournalMesh;
 use outside_io::{Outside, Stop};
 use std::alloc::Global;
 use track_input::LogFiles;
-use track_replay::{LogRefusal, Prepared, prepare_log, put_text, refuse, take_tested};
+use track_log::{LogRefusal, Prepared, prepare_log, put_text, refuse, take_tested};
 
 // Writes one line.
 fn tell<O: Outside>(alloc: Global, line: MeasureLine, outside: &mut O) -> Result<(), Stop>

@@ -13,10 +13,10 @@ use Rattle.log_text.specs.declared.LogLine.{LogLine}
 use Rattle.log_run.specs.Fits.{LineFits}
 use Rattle.log_run.specs.Motions.{moved_in}
 use Rattle.log_run.specs.States.{LogState, with_line, without_lines}
-use Rattle.track_replay.specs.declared.refusal.LogRefusal.{LogRefusal}
-use Rattle.track_replay.specs.declared.refusal.LogRefusal.TheVariants.{Input, Log, Proof, Replay, Motion}
-use Rattle.track_replay.specs.LogJob.{LogInput}
-use Rattle.track_replay.specs.Taking.{with_lines}
+use Rattle.track_log.specs.declared.refusal.LogRefusal.{LogRefusal}
+use Rattle.track_log.specs.declared.refusal.LogRefusal.TheVariants.{Input, Log, Proof, Replay, Motion}
+use Rattle.track_log.specs.LogJob.{LogInput}
+use Rattle.track_log.specs.Taking.{with_lines}
 use Rattle.track_prove.specs.Judged.{Stands, EachStands, IsReached, IsUnfitLine, IsBadLine, EndsJudged}
 use Rattle.track_prove.specs.Proving.{MakesVerdict, ProveFinds, ProveEnds}
 use Rattle.track_prove.specs.Verifying.{ProofInput, beyond, IsVerdictOn, FoundOf, VerifyFinds, proof_at, VerifyEnds}

@@ -10,9 +10,9 @@ use Rattle.log_replay.specs.Safe.{LineKeepsTheMesh, LinesKeepTheMesh}
 use Rattle.log_run.specs.Fits.{LineFits}
 use Rattle.log_run.specs.Laws.{IsValidState}
 use Rattle.log_run.specs.States.{LogState, with_line, without_lines}
-use Rattle.track_replay.specs.declared.refusal.LogRefusal.{LogRefusal}
-use Rattle.track_replay.specs.declared.refusal.LogRefusal.TheVariants.{Replay as AtReplay, Motion}
-use Rattle.track_replay.specs.Taking.{with_lines}
+use Rattle.track_log.specs.declared.refusal.LogRefusal.{LogRefusal}
+use Rattle.track_log.specs.declared.refusal.LogRefusal.TheVariants.{Replay as AtReplay, Motion}
+use Rattle.track_log.specs.Taking.{with_lines}
 use Rattle.track_prove.specs.Judged.{Stands, EachStands, AllStand, IsReached, EndsJudged}
 use Rattle.track_prove.specs.Taking.{Goes}
 

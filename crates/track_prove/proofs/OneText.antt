@@ -27,8 +27,8 @@ use Rattle.proof_text.specs.Lines.{text_of}
 use Rattle.proof_text.specs.Plain.{PlainTree, leaf, halves}
 use Rattle.proof_text.specs.Views.{tree_view, entry_view, entries_view, proof_view, proofs_view}
 use Rattle.log_run.specs.Motions.{MotionAt, motions_of}
-use Rattle.track_replay.specs.declared.refusal.LogRefusal.{LogRefusal}
-use Rattle.track_replay.specs.LogJob.{LogInput}
+use Rattle.track_log.specs.declared.refusal.LogRefusal.{LogRefusal}
+use Rattle.track_log.specs.LogJob.{LogInput}
 use Rattle.track_prove.specs.Proving.{IsProofOf, AreProofsOf, IsProvedText, ProveEnds}
 use Rattle.track_prove.specs.Verifying.{ProofInput, verify_text, VerifyEnds}
 use Rattle.track_prove.proofs.Endings.{one_proved, one_verified}

@@ -23,18 +23,18 @@ use Rattle.track_input.specs.Words.{ProofNames}
 use Rattle.track_input.specs.Job.{met_first}
 use Rattle.track_input.proofs.Sources.{some_source}
 use Rattle.track_input.proofs.ReadLemmas.{same_mesh}
-use Rattle.track_replay.specs.declared.FetchedLog.{FetchedLog}
-use Rattle.track_replay.specs.declared.FetchedLog.TheVariants as fetched
-use Rattle.track_replay.specs.declared.Prepared.{Prepared}
-use Rattle.track_replay.specs.declared.Prepared.TheVariants as prepared
-use Rattle.track_replay.specs.declared.Texts.{Texts}
-use Rattle.track_replay.specs.declared.Texts.TheVariants as texts
-use Rattle.track_replay.specs.declared.refusal.LogRefusal.{LogRefusal}
-use Rattle.track_replay.specs.declared.refusal.LogRefusal.TheVariants.{Input, Proof}
-use Rattle.track_replay.specs.Fetching.{FetchesLog, fetched_by}
-use Rattle.track_replay.specs.LogJob.{LogJob, BothTexts, TextsRead, LogInput, fetched_of, input_of_read, input_of_test, read_of_lists}
-use Rattle.track_replay.specs.Preparing.{ReadsTexts, Tests, IsPrepared, read_by}
-use Rattle.track_replay.specs.Preparing.{input_by as log_input_by}
+use Rattle.track_log.specs.declared.FetchedLog.{FetchedLog}
+use Rattle.track_log.specs.declared.FetchedLog.TheVariants as fetched
+use Rattle.track_log.specs.declared.Prepared.{Prepared}
+use Rattle.track_log.specs.declared.Prepared.TheVariants as prepared
+use Rattle.track_log.specs.declared.Texts.{Texts}
+use Rattle.track_log.specs.declared.Texts.TheVariants as texts
+use Rattle.track_log.specs.declared.refusal.LogRefusal.{LogRefusal}
+use Rattle.track_log.specs.declared.refusal.LogRefusal.TheVariants.{Input, Proof}
+use Rattle.track_log.specs.Fetching.{FetchesLog, fetched_by}
+use Rattle.track_log.specs.LogJob.{LogJob, BothTexts, TextsRead, LogInput, fetched_of, input_of_read, input_of_test, read_of_lists}
+use Rattle.track_log.specs.Preparing.{ReadsTexts, Tests, IsPrepared, read_by}
+use Rattle.track_log.specs.Preparing.{input_by as log_input_by}
 use Rattle.track_prove.specs.declared.preparing.Given.{Given}
 use Rattle.track_prove.specs.declared.preparing.Given.TheVariants as given
 use Rattle.track_prove.specs.Verifying.{ProofJob, IsProofJob, ProofBytes, ProofTexts, ProofInput, fetched_with_proof, read_with_proof, read_of_bytes, with_proofs, proof_input_of_read, proof_input_of}

@@ -14,10 +14,10 @@ use Rattle.log_run.specs.Fits.{LineFits}
 use Rattle.log_run.specs.Laws.{IsValidState}
 use Rattle.log_run.specs.Motions.{MotionAt, moved_in, motions_from}
 use Rattle.log_run.specs.States.{LogState, without_lines}
-use Rattle.track_replay.specs.declared.refusal.LogRefusal.{LogRefusal}
-use Rattle.track_replay.specs.declared.refusal.LogRefusal.TheVariants as log
-use Rattle.track_replay.specs.LogJob.{LogInput}
-use Rattle.track_replay.proofs.ToldTexts.{refused_some}
+use Rattle.track_log.specs.declared.refusal.LogRefusal.{LogRefusal}
+use Rattle.track_log.specs.declared.refusal.LogRefusal.TheVariants as log
+use Rattle.track_log.specs.LogJob.{LogInput}
+use Rattle.track_log.proofs.ToldTexts.{refused_some}
 use Rattle.track_prove.specs.declared.taking.Taken.{Taken}
 use Rattle.track_prove.specs.declared.taking.Taken.TheVariants.{Fits, Unfit, Bad}
 use Rattle.track_prove.specs.declared.telling.Report.{Report}

@@ -15,9 +15,9 @@ use Rattle.log_replay.specs.Replay.{Replay, after, at_mesh}
 use Rattle.log_run.specs.Laws.{IsValidState}
 use Rattle.log_run.specs.Motions.{MotionAt, moved_in, one_motion, motions_from, motions_of}
 use Rattle.log_run.specs.States.{LogState, without_lines}
-use Rattle.track_replay.specs.declared.refusal.LogRefusal.{LogRefusal}
-use Rattle.track_replay.specs.declared.refusal.LogRefusal.TheVariants as log
-use Rattle.track_replay.proofs.ToldTexts.{line_some, refused_some}
+use Rattle.track_log.specs.declared.refusal.LogRefusal.{LogRefusal}
+use Rattle.track_log.specs.declared.refusal.LogRefusal.TheVariants as log
+use Rattle.track_log.proofs.ToldTexts.{line_some, refused_some}
 use Rattle.track_prove.specs.declared.taking.Taken.{Taken}
 use Rattle.track_prove.specs.declared.taking.Taken.TheVariants.{Fits, Unfit, Bad}
 use Rattle.track_prove.specs.declared.telling.Report.{Report}

@@ -12,16 +12,16 @@ use Rattle.outside_io.specs.World.{World, Contents}
 use Rattle.outside_io.proofs.Outsides.{counts_then, counts_stopped}
 use Rattle.track_input.specs.Words.{LogNames, ProofNames}
 use Rattle.track_input.proofs.Sources.{some_source}
-use Rattle.track_replay.specs.declared.refusal.LogRefusal.{LogRefusal}
-use Rattle.track_replay.specs.declared.Prepared.{Prepared}
-use Rattle.track_replay.specs.declared.Prepared.TheVariants as prepared
-use Rattle.track_replay.specs.LogJob.{LogJob, IsLogJob, LogInput, input_of}
-use Rattle.track_replay.specs.Preparing.{PreparesLog}
-use Rattle.track_replay.specs.Preparing.{input_by as log_input_by}
-use Rattle.track_replay.specs.Refused.{refused_text}
-use Rattle.track_replay.specs.Telling.{Tells}
-use Rattle.track_replay.proofs.PrepareLemmas.{some_log_job}
-use Rattle.track_replay.proofs.ToldTexts.{refused_some}
+use Rattle.track_log.specs.declared.refusal.LogRefusal.{LogRefusal}
+use Rattle.track_log.specs.declared.Prepared.{Prepared}
+use Rattle.track_log.specs.declared.Prepared.TheVariants as prepared
+use Rattle.track_log.specs.LogJob.{LogJob, IsLogJob, LogInput, input_of}
+use Rattle.track_log.specs.Preparing.{PreparesLog}
+use Rattle.track_log.specs.Preparing.{input_by as log_input_by}
+use Rattle.track_log.specs.Refused.{refused_text}
+use Rattle.track_log.specs.Telling.{Tells}
+use Rattle.track_log.proofs.PrepareLemmas.{some_log_job}
+use Rattle.track_log.proofs.ToldTexts.{refused_some}
 use Rattle.track_prove.specs.declared.preparing.Given.{Given}
 use Rattle.track_prove.specs.declared.preparing.Given.TheVariants as given
 use Rattle.track_prove.specs.declared.telling.Report.{Report}

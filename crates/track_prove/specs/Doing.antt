@@ -13,9 +13,9 @@ use Rattle.proof_text.specs.Views.{proofs_view}
 use Rattle.log_text.specs.declared.LogLine.{LogLine}
 use Rattle.outside_io.specs.Desk.{Files}
 use Rattle.track_input.specs.Words.{LogNames, ProofNames}
-use Rattle.track_replay.specs.declared.refusal.LogRefusal.{LogRefusal}
-use Rattle.track_replay.specs.LogJob.{LogJob, IsLogJob, LogInput, TextsRead, input_of, read_of_lists}
-use Rattle.track_replay.specs.Refused.{refused_text}
+use Rattle.track_log.specs.declared.refusal.LogRefusal.{LogRefusal}
+use Rattle.track_log.specs.LogJob.{LogJob, IsLogJob, LogInput, TextsRead, input_of, read_of_lists}
+use Rattle.track_log.specs.Refused.{refused_text}
 use Rattle.track_prove.specs.declared.telling.Report.{Report}
 use Rattle.track_prove.specs.declared.telling.Report.TheVariants.{Refused, Text}
 use Rattle.track_prove.specs.declared.preparing.Given.{Given}

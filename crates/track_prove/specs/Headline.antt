@@ -7,8 +7,8 @@ use Rattle.outside_io.specs.Outside.{HasCauses}
 use Rattle.outside_io.specs.Sink.{appended, AppendsPart}
 use Rattle.outside_io.specs.World.{World}
 use Rattle.track_input.specs.Words.{LogNames, ProofNames}
-use Rattle.track_replay.specs.declared.refusal.LogRefusal.{LogRefusal}
-use Rattle.track_replay.specs.LogJob.{LogJob, IsLogJob, LogInput, input_of}
+use Rattle.track_log.specs.declared.refusal.LogRefusal.{LogRefusal}
+use Rattle.track_log.specs.LogJob.{LogJob, IsLogJob, LogInput, input_of}
 use Rattle.track_prove.specs.Proving.{ProveEnds}
 use Rattle.track_prove.specs.Verifying.{ProofJob, IsProofJob, ProofInput, proof_input_of, VerifyEnds}
 

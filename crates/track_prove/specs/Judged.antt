@@ -8,9 +8,9 @@ use Rattle.motion_proof.specs.declared.Verdict.TheVariants.{Accepted, NoMotion}
 use Rattle.log_text.specs.declared.LogLine.{LogLine}
 use Rattle.log_run.specs.States.{LogState, with_line, without_lines}
 use Rattle.log_run.specs.Fits.{LineFits}
-use Rattle.track_replay.specs.declared.refusal.LogRefusal.{LogRefusal}
-use Rattle.track_replay.specs.declared.refusal.LogRefusal.TheVariants.{Replay, Motion}
-use Rattle.track_replay.specs.Taking.{with_lines, HasNoLine}
+use Rattle.track_log.specs.declared.refusal.LogRefusal.{LogRefusal}
+use Rattle.track_log.specs.declared.refusal.LogRefusal.TheVariants.{Replay, Motion}
+use Rattle.track_log.specs.Taking.{with_lines, HasNoLine}
 
 -- a line of this number fits where a replay stands, and nothing is against it
 pub record Stands (Finds : ℕ → LogState → LogLine → Verdict → Type 0) (number : ℕ) (s : LogState)

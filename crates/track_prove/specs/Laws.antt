@@ -1,6 +1,6 @@
 -- How often a command ends, and with which text.
 use Rattle.std.specs.Prelude.{◌≡◌, ℕ, List, Option, Result}
-use Rattle.track_replay.specs.declared.refusal.LogRefusal.{LogRefusal}
+use Rattle.track_log.specs.declared.refusal.LogRefusal.{LogRefusal}
 
 -- of what was given there are no two endings
 abbrev pub HasOneEnding : {Input : Type 0} →

@@ -11,9 +11,9 @@ use Rattle.proof_text.specs.Views.{proofs_view}
 use Rattle.log_text.specs.declared.LogLine.{LogLine}
 use Rattle.log_run.specs.States.{LogState}
 use Rattle.log_run.specs.Motions.{MotionAt, moved_in, motions_of, PassesWhereMoved}
-use Rattle.track_replay.specs.declared.refusal.LogRefusal.{LogRefusal}
-use Rattle.track_replay.specs.LogJob.{LogInput}
-use Rattle.track_replay.specs.Refused.{refused_text}
+use Rattle.track_log.specs.declared.refusal.LogRefusal.{LogRefusal}
+use Rattle.track_log.specs.LogJob.{LogInput}
+use Rattle.track_log.specs.Refused.{refused_text}
 use Rattle.track_prove.specs.Judged.{EndsJudged}
 
 -- What is found of a motion, if there is one, where a certificate is to be made of

@@ -21,10 +21,10 @@ use Rattle.log_run.specs.Motions.{moved_in, motions_of}
 use Rattle.outside_io.specs.Desk.{Files}
 use Rattle.track_input.specs.Source.{Source, Bytes, Absent, TooLong, IsSource}
 use Rattle.track_input.specs.Words.{ProofNames}
-use Rattle.track_replay.specs.declared.refusal.LogRefusal.{LogRefusal}
-use Rattle.track_replay.specs.declared.refusal.LogRefusal.TheVariants.{Input, Proof}
-use Rattle.track_replay.specs.LogJob.{LogJob, IsLogJob, BothTexts, TextsRead, LogInput, fetched_of, read_of_lists, input_of_read}
-use Rattle.track_replay.specs.Refused.{refused_text}
+use Rattle.track_log.specs.declared.refusal.LogRefusal.{LogRefusal}
+use Rattle.track_log.specs.declared.refusal.LogRefusal.TheVariants.{Input, Proof}
+use Rattle.track_log.specs.LogJob.{LogJob, IsLogJob, BothTexts, TextsRead, LogInput, fetched_of, read_of_lists, input_of_read}
+use Rattle.track_log.specs.Refused.{refused_text}
 use Rattle.track_prove.specs.Judged.{EndsJudged}
 
 -- ---- what is found of a line

@@ -8,7 +8,7 @@ ghost use Rattle.proof_text.specs.Views.{proofs_view};
 ghost use Rattle.outside_io.specs.Outside.{OnlyLooks};
 ghost use Rattle.track_input.specs.Named.{proof_names};
 ghost use Rattle.track_input.specs.Reading.{AreGood};
-ghost use Rattle.track_replay.specs.LogJob.{read_of_lists};
+ghost use Rattle.track_log.specs.LogJob.{read_of_lists};
 ghost use Rattle.track_prove.specs.Verifying.{read_with_proof};
 ghost use Rattle.track_prove.specs.Doing.{texts_of, GivesInput, PreparesProof};
 
@@ -21,7 +21,7 @@ use outside_io::{Fetched, Outside, Stop};
 use proof_text::{Proofs, read_proof};
 use std::alloc::Global;
 use track_input::{ProofFiles, fetch_text};
-use track_replay::{FetchedLog, LogRefusal, Prepared, Texts, fetch_log, read_texts, test_mesh};
+use track_log::{FetchedLog, LogRefusal, Prepared, Texts, fetch_log, read_texts, test_mesh};
 
 // What is given of which nothing is refused before the lines of the log are taken, or the first refusal that applies.
 #[derive(Drop)]

@@ -26,7 +26,7 @@ use outside_io::{Outside, Stop};
 use proof_text::{ProofAt, Proofs, print_proof};
 use std::alloc::Global;
 use track_input::LogFiles;
-use track_replay::{LogRefusal, Prepared, prepare_log};
+use track_log::{LogRefusal, Prepared, prepare_log};
 
 // Takes a line that fits, and puts the certificate of its motion behind the others.
 fn take_proved(

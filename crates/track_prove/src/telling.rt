@@ -1,11 +1,11 @@
 //! How a command ends, and what it writes.
 ghost use Rattle.std.specs.Prelude.{◌≡◌, ◌<◌, length, IfOk};
-ghost use Rattle.track_replay.specs.Telling.{Tells};
+ghost use Rattle.track_log.specs.Telling.{Tells};
 ghost use Rattle.track_prove.specs.Doing.{ending_of, text_told};
 
 use outside_io::{Outside, Stop};
 use std::alloc::Global;
-use track_replay::{LogRefusal, put_text, refuse};
+use track_log::{LogRefusal, put_text, refuse};
 
 // What a command is to write, and so how it ends.
 #[derive(Drop)]

@@ -30,7 +30,7 @@ use outside_io::{Outside, Stop};
 use proof_text::ProofAt;
 use std::alloc::Global;
 use track_input::ProofFiles;
-use track_replay::LogRefusal;
+use track_log::LogRefusal;
 
 // The first certificate, where it is that of the line with this number.
 fn front_at(proofs: &[ProofAt], number: u32) -> Option<&ProofAt>

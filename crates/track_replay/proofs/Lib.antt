@@ -1,5 +1,7 @@
-pub mod ToldTexts
-pub mod PrepareLemmas
-mod TestedSteps
-pub mod Endings
-pub mod ValidInputs
+mod Storings
+pub mod WantedLines
+mod SoFar
+mod Whole
+mod AllStored
+mod Ended
+mod ValidMeshes

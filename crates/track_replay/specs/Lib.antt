@@ -1,8 +1,5 @@
-pub mod LogJob
-pub mod Taking
-pub mod Ending
-pub mod Refused
-pub mod Telling
-pub mod Passing
-pub mod Fetching
-pub mod Preparing
+pub mod Wanted
+pub mod Texts
+pub mod Storing
+pub mod Headline
+pub mod Laws

@@ -1,13 +1,8 @@
-//! What the commands share that read a log: the mesh and the log are fetched and read, the log's lines are taken one after another,
-//! and each refusal has its line.
+//! The meshes of a log, made again from the mesh that it begins with and its lines alone, and stored as they were saved.
 #![tactic(auto)]
 
-mod following;
-mod preparing;
-mod refusal;
-mod telling;
+pub mod laws;
+mod replaying;
+mod storing;
 
-pub use following::take_tested;
-pub use preparing::{FetchedLog, Prepared, Texts, fetch_log, prepare_log, read_texts, test_mesh};
-pub use refusal::LogRefusal;
-pub use telling::{put_text, refuse};
+pub use replaying::replay;

@@ -19,10 +19,10 @@ use Rattle.track_input.specs.Commands.{IsReadExactly}
 use Rattle.track_input.specs.Job.{Job, IsJob, input_of}
 use Rattle.outside_io.specs.declared.stop.Stop.{Stop}
 use Rattle.outside_io.specs.declared.stop.Stop.TheVariants.{DeskFault}
-use Rattle.track_replay.specs.declared.LogRefusal.{LogRefusal}
+use Rattle.track_log.specs.declared.LogRefusal.{LogRefusal}
 use Rattle.track_measure.specs.Headline.{Measures}
 use Rattle.track_prove.specs.Headline.{Proves, Verifies}
-use Rattle.track_meshes.specs.Headline.{Replays}
+use Rattle.track_replay.specs.Headline.{Replays}
 use Rattle.track_check.specs.Headline.{Checks}
 use Rattle.track_engine.specs.State.{State, standing}
 use Rattle.track_engine.specs.Answers.{Answer, Answers}

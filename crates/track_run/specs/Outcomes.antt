@@ -4,8 +4,8 @@ use Rattle.log_text.specs.declared.Refusal.{Refusal}
 use Rattle.log_text.specs.declared.Refusal.TheVariants as refusal
 use Rattle.outside_io.specs.declared.stop.Stop.{Stop}
 use Rattle.outside_io.specs.declared.stop.Stop.TheVariants.{NoMemory, DeskFault, SinkFault}
-use Rattle.track_replay.specs.declared.LogRefusal.{LogRefusal}
-use Rattle.track_replay.specs.declared.LogRefusal.TheVariants as log
+use Rattle.track_log.specs.declared.LogRefusal.{LogRefusal}
+use Rattle.track_log.specs.declared.LogRefusal.TheVariants as log
 use Rattle.track_run.specs.declared.outcome.Outcome.{Outcome}
 use Rattle.track_run.specs.declared.outcome.Outcome.TheVariants as outcome
 

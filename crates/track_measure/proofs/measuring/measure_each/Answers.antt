@@ -1,6 +1,6 @@
 use Rattle.std.proofs.Common.{Ok, Err, refl, ap, ◌∙◌, arith}
 use Rattle.std.proofs.lemmas.Result.{err_from_is_err_and}
-use Rattle.track_replay.proofs.ToldTexts.{tells_whole, tells_stopped}
+use Rattle.track_log.proofs.ToldTexts.{tells_whole, tells_stopped}
 use Rattle.track_measure.specs.MeasureLines.{shape_of}
 use Rattle.track_measure.proofs.Ends.{measuring_none, measured_nothing, unspent, few, stops_here, refused_here, more_here, no_line_here, end_told}
 use Rattle.track_measure.proofs.measuring.measure_each.Goals as goal

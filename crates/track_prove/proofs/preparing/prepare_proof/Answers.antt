@@ -3,7 +3,7 @@ use Rattle.outside_io.specs.World.{Contents}
 use Rattle.track_input.specs.Fetched.{source_of}
 use Rattle.track_input.specs.Named.{proof_names}
 use Rattle.track_input.specs.Source.{IsSource, Bytes}
-use Rattle.track_replay.specs.Fetching.{fetched_by}
+use Rattle.track_log.specs.Fetching.{fetched_by}
 use Rattle.track_prove.proofs.Prepare.{prepares_no_log, prepares_no_proof, prepares_long_proof, prepares_read}
 use Rattle.track_prove.proofs.preparing.prepare_proof.Goals as goal
 

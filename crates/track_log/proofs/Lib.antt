@@ -1,0 +1,5 @@
+pub mod ToldTexts
+pub mod PrepareLemmas
+mod TestedSteps
+pub mod Endings
+pub mod ValidInputs

@@ -1,0 +1,166 @@
+//! A mesh and a log, fetched and read.
+ghost use Rattle.std.specs.Prelude.{◌≡◌, ◌≤◌, length, None, IfOk};
+ghost use Rattle.grid_base.specs.declared.TheConstants.{TEXT_MAX, DECIMALS_MAX};
+ghost use Rattle.outside_io.specs.Outside.{OnlyLooks};
+ghost use Rattle.track_input.specs.Named.{log_names};
+ghost use Rattle.track_input.specs.Reading.{AreGood};
+ghost use Rattle.track_log.specs.Fetching.{FetchesLog};
+ghost use Rattle.track_log.specs.Preparing.{ReadsLines, ReadsTexts, Tests, ReadsAndTests, PreparesLog};
+
+use crate::refusal::LogRefusal;
+use grid_base::NoMemory;
+use line_text::ReadFault;
+use log_read::read_log;
+use log_text::{Log, Refusal};
+use mesh_base::{FileWord, MeshLists, ShapeRefusal};
+use mesh_journal::JournalMesh;
+use mesh_plain::shape;
+use obj_text::read_obj;
+use outside_io::{Fetched, Outside, Stop};
+use pair_scan::first_meeting;
+use std::alloc::Global;
+use track_input::{LogFiles, fetch_text};
+
+/// The bytes of a mesh file and of the file of a log, or a refusal.
+#[derive(Drop)]
+pub enum FetchedLog {
+    /// The first of the two that is missing or longer than a text may be.
+    No(LogRefusal),
+    /// The bytes of the mesh file, and those of the log.
+    Yes(Vec<u8>, Vec<u8>),
+}
+
+/// What the texts of a mesh and of a log give.
+#[derive(Drop)]
+pub enum Texts {
+    /// The first refusal that applies: the mesh's text, its shape, the log's text.
+    No(LogRefusal),
+    /// Lists of good shape, and the lines of the log.
+    Yes(MeshLists, Log),
+}
+
+/// What is given of which nothing is refused before the lines of the log are taken, or the first refusal that applies.
+#[derive(Drop)]
+pub enum Prepared {
+    /// The first refusal that applies, in the order in which the work is done.
+    No(LogRefusal),
+    /// The mesh, of which no edge meets a face that shares no vertex with it, and the lines of the log.
+    Yes(JournalMesh, Log),
+}
+
+// The text of a log, read after lists of good shape.
+fn read_lines(alloc: Global, lists: MeshLists, log: &[u8]) -> Result<Texts, NoMemory>
+    requires good { AreGood lists }
+    requires log_length { length log.now ≤ TEXT_MAX }
+    ensures { IfOk result (ReadsLines lists log.now) }
+{
+    match read_log(alloc, log) {
+        Ok(lines) => Ok(Texts::Yes(lists, lines)),
+        Err(ReadFault::NoMemory) => Err(NoMemory),
+        Err(ReadFault::Text(fault)) => Ok(Texts::No(LogRefusal::Log(fault))),
+    }
+}
+
+/// Reads the text of a mesh, the points with so many decimals, tests the shape of its lists, and reads the text of a log. NoMemory at any
+/// texts.
+pub fn read_texts(alloc: Global, decimals: u8, mesh: &[u8], log: &[u8]) -> Result<Texts, NoMemory>
+    requires few { decimals ≤ DECIMALS_MAX }
+    requires mesh_length { length mesh.now ≤ TEXT_MAX }
+    requires log_length { length log.now ≤ TEXT_MAX }
+    ensures { IfOk result (ReadsTexts decimals mesh.now log.now) }
+{
+    let lists = match read_obj(alloc, mesh, decimals) {
+        Ok(lists) => lists,
+        Err(ReadFault::NoMemory) => return Err(NoMemory),
+        Err(ReadFault::Text(fault)) => {
+            return Ok(Texts::No(LogRefusal::Input(Refusal::Mesh(fault))));
+        }
+    };
+    match shape(alloc, &lists) {
+        Ok(()) => read_lines(alloc, lists, log),
+        Err(ShapeRefusal::NoMemory) => Err(NoMemory),
+        Err(ShapeRefusal::Shape(fault)) => {
+            Ok(Texts::No(LogRefusal::Input(Refusal::Shape(fault))))
+        }
+    }
+}
+
+/// Tests the mesh of lists for an edge and a face that meet and share no vertex: the refusal of the first of them, or the mesh and the lines.
+/// NoMemory at any lists.
+pub fn test_mesh(alloc: Global, lists: &MeshLists, lines: Log) -> Result<Prepared, NoMemory>
+    requires good { AreGood lists.now }
+    ensures { IfOk result (Tests lists.now lines) }
+{
+    let mesh = JournalMesh::of(alloc, lists)?;
+    match first_meeting(alloc, &mesh)? {
+        None => Ok(Prepared::Yes(mesh, lines)),
+        Some(pair) => Ok(Prepared::No(LogRefusal::Input(Refusal::Meets(pair)))),
+    }
+}
+
+// Reads both texts and tests the mesh.
+fn read_and_test(alloc: Global, decimals: u8, mesh: &[u8], log: &[u8]) -> Result<Prepared, NoMemory>
+    requires few { decimals ≤ DECIMALS_MAX }
+    requires mesh_length { length mesh.now ≤ TEXT_MAX }
+    requires log_length { length log.now ≤ TEXT_MAX }
+    ensures { IfOk result (ReadsAndTests decimals mesh.now log.now) }
+{
+    match read_texts(alloc, decimals, mesh, log)? {
+        Texts::No(why) => Ok(Prepared::No(why)),
+        Texts::Yes(lists, lines) => test_mesh(alloc, &lists, lines),
+    }
+}
+
+/// Fetches a mesh file and then the file of a log, each of at most the greatest length of a text. Nothing is written or stored.
+pub fn fetch_log<O: Outside>(
+    alloc: Global,
+    files: LogFiles<'_>,
+    outside: &mut O,
+) -> Result<FetchedLog, Stop>
+    ensures fetches { let held = (O.around outside.old).world.holds.files in
+        IfOk result (FetchesLog held (log_names files.entry)) }
+    ensures looks { OnlyLooks (O.around outside.old) (O.around outside.new) result }
+{
+    let mesh = match fetch_text(alloc, outside, files.mesh)? {
+        Fetched::Bytes(bytes) => bytes,
+        Fetched::Absent => {
+            return Ok(FetchedLog::No(LogRefusal::Input(Refusal::Missing {
+                file: FileWord::Mesh,
+            })));
+        }
+        Fetched::TooLong(seen) => {
+            return Ok(FetchedLog::No(LogRefusal::Input(Refusal::Long {
+                file: FileWord::Mesh,
+                seen,
+            })));
+        }
+    };
+    match fetch_text(alloc, outside, files.log)? {
+        Fetched::Bytes(log) => Ok(FetchedLog::Yes(mesh, log)),
+        Fetched::Absent => Ok(FetchedLog::No(LogRefusal::Input(Refusal::Missing {
+            file: FileWord::Log,
+        }))),
+        Fetched::TooLong(seen) => Ok(FetchedLog::No(LogRefusal::Input(Refusal::Long {
+            file: FileWord::Log,
+            seen,
+        }))),
+    }
+}
+
+/// Fetches and reads a mesh file and the file of a log, the points with so many decimals, and tests the mesh for an edge and a face that
+/// meet and share no vertex. Both files are fetched before a text is read, the mesh file first. Nothing is written or stored.
+pub fn prepare_log<O: Outside>(
+    alloc: Global,
+    files: LogFiles<'_>,
+    outside: &mut O,
+) -> Result<Prepared, Stop>
+    requires few { files.decimals ≤ DECIMALS_MAX }
+    ensures prepares { let held = (O.around outside.old).world.holds.files in
+        IfOk result (PreparesLog held (log_names files.entry)) }
+    ensures looks { OnlyLooks (O.around outside.old) (O.around outside.new) result }
+{
+    match fetch_log(alloc, files, outside)? {
+        FetchedLog::No(why) => Ok(Prepared::No(why)),
+        FetchedLog::Yes(mesh, log) => Ok(read_and_test(alloc, files.decimals, &mesh, &log)?),
+    }
+}

@@ -1,7 +1,0 @@
-mod Storings
-pub mod WantedLines
-mod SoFar
-mod Whole
-mod AllStored
-mod Ended
-mod ValidMeshes

@@ -1,5 +1,0 @@
-use Rattle.track_meshes.proofs.ValidMeshes.{all_valid}
-use Rattle.track_meshes.proofs.laws.replayed_meshes_are_valid.Goals as goal
-
-pub returns : goal.returns
-returns c = all_valid
