@@ -431,7 +431,8 @@ WAITED = [
     ("a log of a long mesh that is measured", ["measure", "great.obj", "great_log.txt"], None, ["reading great.obj", f"testing {4 * MANY} faces of great.obj at rest"]),
     ("a long mesh that is tracked", ["track", "great.obj", "steps.txt", "open/great"], None,
      [f"testing {4 * MANY} faces of great.obj at rest", "storing open/great-000000.obj", "step 1 of 1, 3 lines of the log", "storing open/great-000001.obj"]),
-    ("long steps", ["track", "mesh.obj", "long_steps.txt", "open/long"], None, ["reading long_steps.txt", "reading 70002 lines of long_steps.txt", "step 1 of 1,"]),
+    ("long steps", ["track", "mesh.obj", "long_steps.txt", "open/long"], None, 
+     ["reading long_steps.txt", "reading: 1 of 2 MiB", "reading: 2 of 2 MiB", f"reading {(2 << 20) + 2} lines of long_steps.txt", "step 1 of 1,"]),
     ("a log that is replayed", ["replay", "mesh.obj", "long_log.txt", "open/long"], None, ["256 of 310 lines of the log are taken (82 %)"]),
     ("a log that is verified", ["verify", "mesh.obj", "long_log.txt", "long_proof.txt"], None, ["256 of 310 lines of the log are taken (82 %)"]),
     ("a job that is made", ["try", "4", "0"], None, ["a job of 4 * 4 * 4 cubes is made and run"]),
@@ -520,7 +521,7 @@ def main():
         long_proof = "topo proof 1\nmotion 8 along\n" + "".join(f"motion {k} along\n" for k in range(12, 310, 3)) + "end\n"
         for name, text in (
             ("log.txt", LOG), ("long_log.txt", LONG_LOG), ("proof.txt", PROVED), ("long_proof.txt", long_proof), ("great.obj", GREAT), ("great.off", off),
-            ("great_log.txt", GREAT_LOG), ("long_steps.txt", 70000 * "\n" + "step\nsave\n"), ("many_steps.txt", MANY_STEPS),
+            ("great_log.txt", GREAT_LOG), ("long_steps.txt", (2 << 20) * "\n" + "step\nsave\n"), ("many_steps.txt", MANY_STEPS),
         ):
             with open(at(name), "w") as out:
                 out.write(text)

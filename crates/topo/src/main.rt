@@ -25,8 +25,8 @@ use std::rt::Env;
 use std::{env, io};
 use track_run::Outcome;
 use user_files::{
-    EndedVertices, LifeLine, LogWatch, Names, SystemDesk, SystemOutput, UserDesk, WatchedSink,
-    Watcher, cubes_of, names_of, output_reason_of, tell_cubes, warnings,
+    EndedVertices, LifeLine, LogWatch, Names, SystemDesk, SystemOutput, UserDesk, WatchedFiles,
+    WatchedSink, Watcher, cubes_of, names_of, output_reason_of, tell_cubes, warnings,
 };
 
 // The words after the program's name.
@@ -154,7 +154,8 @@ fn answer_words(rt: &HostRuntime, words: &[String], names: Option<Names<'_>>) ->
     if let Some(cubes) = cubes_of(alloc, words) {
         tell_cubes(alloc, &life, cubes);
     }
-    let (files, spared) = (FileDesk::new(alloc, rt), FileDesk::new(alloc, rt));
+    let watched = WatchedFiles::new(alloc, rt, &life);
+    let (files, spared) = (FileDesk::new(alloc, &watched), FileDesk::new(alloc, rt));
     let mut desk = UserDesk::new(alloc, rt, names, &life, files, spared);
     let output = SystemOutput::new(rt);
     let mut out = LogWatch::new(alloc, WatchedSink::new(alloc, StdSink::new(&output), &life));
