@@ -431,7 +431,7 @@ WAITED = [
     ("a log of a long mesh that is measured", ["measure", "great.obj", "great_log.txt"], None, ["reading great.obj", f"testing {4 * MANY} faces of great.obj at rest"]),
     ("a long mesh that is tracked", ["track", "great.obj", "steps.txt", "open/great"], None,
      [f"testing {4 * MANY} faces of great.obj at rest", "storing open/great-000000.obj", "step 1 of 1, 3 lines of the log", "storing open/great-000001.obj"]),
-    ("long steps", ["track", "mesh.obj", "long_steps.txt", "open/long"], None, 
+    ("long steps", ["track", "mesh.obj", "long_steps.txt", "open/long"], None,
      ["reading long_steps.txt", "reading: 1 of 2 MiB", "reading: 2 of 2 MiB", f"reading {(2 << 20) + 2} lines of long_steps.txt", "step 1 of 1,"]),
     ("a log that is replayed", ["replay", "mesh.obj", "long_log.txt", "open/long"], None, ["256 of 310 lines of the log are taken (82 %)"]),
     ("a log that is verified", ["verify", "mesh.obj", "long_log.txt", "long_proof.txt"], None, ["256 of 310 lines of the log are taken (82 %)"]),
