@@ -16,6 +16,8 @@ import shutil
 import subprocess
 import sys
 import tempfile
+import threading
+import time
 import tty
 
 from calling import ROOT, TOPO, reader_of, words_of
@@ -33,6 +35,13 @@ JOB = ["track", "mesh.obj", "steps.txt", "t"]
 LOG = "topo log 2\nmesh 0 4 4\nstep 1\n" + "".join(f"move {v} 1 2 3\n" for v in (1, 2, 3, 4)) + "moved whole\nmesh 1 4 4\nend\n"
 # the whole output of a command that writes no log, and a log of which a terminal is told before its end
 WHOLE = {"measure": MEASURED, "prove": PROVED, "verify": "verified 1\n", "replay": "replayed 2\n", "check": "checked 4 4 faults 0\n", "convert": "converted 4 4\n"}
+# a mesh that is long enough to be spoken of on a terminal, its log, and steps that give a long one
+MANY = 1000
+GREAT = "".join(f"v {10 * k} 0 0\nv {10 * k + 4} 0 0\nv {10 * k} 4 0\nv {10 * k} 0 4\n" for k in range(MANY)) + "".join(
+    f"f {p} {p + 2} {p + 1}\nf {p} {p + 1} {p + 3}\nf {p + 1} {p + 2} {p + 3}\nf {p} {p + 3} {p + 2}\n" for p in range(1, 4 * MANY, 4)
+)
+GREAT_LOG = f"topo log 2\nmesh 0 {4 * MANY} {4 * MANY}\nend\n"
+MANY_STEPS = 400 * "shift all 1 0 0\nstep\n" + "save\n"
 LONG_LOG = LOG.removesuffix("end\n") + "".join(f"step {k}\nmove 1 0 0 {1 - 2 * (k % 2)}\nmoved whole\n" for k in range(2, 102)) + "end\n"
 
 
@@ -72,13 +81,19 @@ def small_device(folder):
     return True
 
 
-def on_terminal(words, folder, both):
-    """Runs the words with a terminal for standard error, and for both outputs where that is asked: the status, what standard output had,
-    and what the terminal had."""
+def on_terminal(words, folder, both, given=None):
+    """Runs the words with a terminal for standard error, and for both outputs where that is asked, and with a text that comes by a pipe as
+    standard input, after more than a second, where there is one: the status, what standard output had, and what the terminal had."""
     ours, its = pty.openpty()
     tty.setraw(its)
     out = its if both else subprocess.PIPE
-    ended = subprocess.run(words, cwd=folder, stdout=out, stderr=its, timeout=60, **NOBODY)
+    reading, writing = os.pipe()
+    os.fchmod(reading, 0o666)
+    later = threading.Thread(target=lambda: (time.sleep(1.5 if given else 0), os.write(writing, (given or "").encode()), os.close(writing)))
+    later.start()
+    ended = subprocess.run(words, cwd=folder, stdin=reading, stdout=out, stderr=its, timeout=60, **NOBODY)
+    later.join()
+    os.close(reading)
     os.close(its)
     told = b""
     with contextlib.suppress(OSError):
@@ -193,21 +208,47 @@ TOLD = [
 # under a name is a text, a folder (None), or a link to a name ("link"), a second name of a file ("hard") or a pipe ("pipe"); behind a case None says that
 # there is no file
 LINKS = [
-    ("a log sent to a name that the job stores is lost, and the mesh is whole", ["track", "m", "s", "x", ">", "x-000001.obj"], None, 0, [], ["warning", "x-"],
-     {"m": MESH, "s": STEPS}, {"x-000000.obj": MESH, "x-000001.obj": MOVED}),
-    ("a log sent to the name of the first mesh", ["track", "m", "s", "x", ">", "x-000000.obj"], None, 0, [], ["warning", "x-"],
-     {"m": MESH, "s": STEPS}, {"x-000000.obj": MESH, "x-000001.obj": MOVED}),
-    ("a log added to a name that the job stores is lost, with what stood there", ["track", "m", "s", "x", ">>", "x-000001.obj"], None, 0, [], ["warning", "x-"],
-     {"m": MESH, "s": STEPS, "x-000001.obj": "mine"}, {"x-000001.obj": MOVED}),
-    ("what a replay tells, sent to a name that it stores", ["replay", "m", "l", "x", ">", "x-000001.obj"], None, 0, [], ["warning", "x-"],
-     {"m": MESH, "l": LOG}, {"x-000001.obj": MOVED}),
-    ("a log sent onto the mesh file, which is emptied before", ["track", "m", "s", "t", ">", "m"], None, 6, ['m, line 1: "topo log 2"'], [],
-     {"m": MESH, "s": STEPS}, {"m": "topo log 2\nrefused mesh 1 unknown\n", "t-000000.obj": None}),
-    ("a log sent onto the steps", ["track", "m", "s", "t", ">", "s"], None, 9, ['s, line 1: "topo log 2"'], [],
-     {"m": MESH, "s": STEPS}, {"s": "topo log 2\nrefused steps 1 unknown\n", "t-000000.obj": None}),
-    ("a log that is measured onto itself", ["measure", "m", "l", ">", "l"], None, 13, ["l, line 1"], [], {"m": MESH, "l": LOG}, {}),
-    ("a log sent where a link to a name leads that the job stores", ["track", "m", "s", "x", ">", "log"], None, 0, [], ["warning"],
-     {"m": MESH, "s": STEPS, "x-000001.obj": "", "log": ("link", "x-000001.obj")}, {"log": ("link", "x-000001.obj"), "x-000001.obj": MOVED}),
+    ("a log sent to a name that the job stores", ["track", "m", "s", "x", ">", "x-000001.obj"], None, 3,
+     ["standard output goes to x-000001.obj, a name that this job may store: what it tells would be lost"], [],
+     {"m": MESH, "s": STEPS}, {"x-000000.obj": None, "x-000001.obj": ""}),
+    ("a log sent to the name of the first mesh", ["track", "m", "s", "x", ">", "x-000000.obj"], None, 3, ["standard output goes to x-000000.obj, a name"], [],
+     {"m": MESH, "s": STEPS}, {"x-000000.obj": "", "x-000001.obj": None}),
+    ("a log added to a name that the job stores", ["track", "m", "s", "x", ">>", "x-000001.obj"], None, 3, ["standard output goes to x-000001.obj, a name"], [],
+     {"m": MESH, "s": STEPS, "x-000001.obj": "mine"}, {"x-000000.obj": None, "x-000001.obj": "mine"}),
+    ("a log sent to a mesh of the prefix that the job does not come to", ["track", "m", "s", "x", ">", "x-4294967295.obj"], None, 3,
+     ["standard output goes to x-4294967295.obj, a name"], [], {"m": MESH, "s": STEPS}, {"x-000000.obj": None}),
+    ("a log sent to a mesh in the folder of the prefix", ["track", "m", "s", "./d/x", ">", "d/x-000001.obj"], None, 3,
+     ["standard output goes to ./d/x-000001.obj, a name"], [], {"m": MESH, "s": STEPS, "d/": None}, {"d/x-000000.obj": None, "d/x-000001.obj": ""}),
+    ("a log sent to a name that has too few digits for a mesh", ["track", "m", "s", "x", ">", "x-00001.obj"], None, 0, [], ["warning", "x-"],
+     {"m": MESH, "s": STEPS}, {"x-00001.obj": LOG, "x-000001.obj": MOVED}),
+    ("a log sent to a name behind that of a mesh", ["track", "m", "s", "x", ">", "x-000001.obj.log"], None, 0, [], ["warning", "x-"],
+     {"m": MESH, "s": STEPS}, {"x-000001.obj.log": LOG, "x-000001.obj": MOVED}),
+    ("a log sent to a mesh of another prefix", ["track", "m", "s", "x", ">", "y-000001.obj"], None, 0, [], ["warning", "x-"],
+     {"m": MESH, "s": STEPS}, {"y-000001.obj": LOG, "x-000001.obj": MOVED}),
+    ("what a replay tells, sent to a name that it stores", ["replay", "m", "l", "x", ">", "x-000001.obj"], None, 3, ["standard output goes to x-000001.obj, a name"], [],
+     {"m": MESH, "l": LOG}, {"x-000000.obj": None, "x-000001.obj": ""}),
+    ("what a conversion tells, sent to the name that it stores", ["convert", "m.obj", "c.off", ">", "c.off"], None, 3, ["standard output goes to c.off, a name"], [],
+     {"m.obj": MESH}, {"c.off": ""}),
+    ("what a conversion tells, sent onto what it reads", ["convert", "m.obj", "c.off", ">", "m.obj"], None, 3, ["standard output goes to m.obj, which this job reads"],
+     ["warning"], {"m.obj": MESH}, {"m.obj": "", "c.off": None}),
+    ("a log sent onto the mesh file, which is emptied before", ["track", "m", "s", "t", ">", "m"], None, 3,
+     ["standard output goes to m, which this job reads, and which `>` empties before the job begins"], [], {"m": MESH, "s": STEPS}, {"m": "", "t-000000.obj": None}),
+    ("a log added to the mesh file, which stays", ["track", "m", "s", "t", ">>", "m"], None, 3, ["standard output goes to m, which this job reads"], [],
+     {"m": MESH, "s": STEPS}, {"m": MESH, "t-000000.obj": None}),
+    ("a log sent onto the steps", ["track", "m", "s", "t", ">", "s"], None, 3, ["standard output goes to s, which this job reads"], [],
+     {"m": MESH, "s": STEPS}, {"s": "", "t-000000.obj": None}),
+    ("a log that is measured onto itself", ["measure", "m", "l", ">", "l"], None, 3, ["standard output goes to l, which this job reads"], [], {"m": MESH, "l": LOG}, {"l": ""}),
+    ("a measurement that is added to its log", ["measure", "m", "l", ">>", "l"], None, 3, ["standard output goes to l, which"], [], {"m": MESH, "l": LOG}, {"l": LOG}),
+    ("a proof that is added to its log", ["prove", "m", "l", ">>", "./l"], None, 3, ["standard output goes to l, which"], [], {"m": MESH, "l": LOG}, {"l": LOG}),
+    ("a verdict that is added to its proof", ["verify", "m", "l", "p", ">>", "p"], None, 3, ["standard output goes to p, which"], [],
+     {"m": MESH, "l": LOG, "p": PROVED}, {"p": PROVED}),
+    ("faults that are added to their mesh", ["check", "m.obj", ">>", "m.obj"], None, 3, ["standard output goes to m.obj, which"], [], {"m.obj": MESH}, {"m.obj": MESH}),
+    ("a log sent where a link to a name leads that the job stores", ["track", "m", "s", "x", ">", "log"], None, 3, ["standard output goes to x-000001.obj, a name"], [],
+     {"m": MESH, "s": STEPS, "x-000001.obj": "", "log": ("link", "x-000001.obj")}, {"log": ("link", "x-000001.obj"), "x-000000.obj": None, "x-000001.obj": ""}),
+    ("a log sent where a name leads by a link that the job stores", ["track", "m", "s", "x", ">", "log"], None, 3, ["standard output goes to x-000001.obj, a name"], [],
+     {"m": MESH, "s": STEPS, "log": "", "x-000001.obj": ("link", "log")}, {"x-000001.obj": ("link", "log"), "x-000000.obj": None, "log": ""}),
+    ("a log sent to a second name of a mesh that the job stores", ["track", "m", "s", "x", ">", "log"], None, 3, ["standard output goes to x-000001.obj, a name"], [],
+     {"m": MESH, "s": STEPS, "log": "", "x-000001.obj": ("hard", "log")}, {"x-000000.obj": None, "log": ""}),
     ("a link to a file: the file is replaced and the link stays", ["track", "m", "s", "t"], None, 0, [], ["warning"],
      {"m": MESH, "s": STEPS, "f": "old", "t-000000.obj": ("link", "f")}, {"t-000000.obj": ("link", "f"), "f": MESH}),
     ("a link to a link to a file in another folder", ["track", "m", "s", "t"], None, 0, [], ["warning"],
@@ -239,8 +280,10 @@ LINKS = [
      {"m": MESH, "s": STEPS, "d/": None, "k": ("link", "m"), "l": ("link", "s"), "e": ("link", "d")}, {"d/t-000001.obj": MOVED, "k": ("link", "m")}),
     ("a mesh by a link that leads to no file", ["track", "k", "s", "t"], None, 11, ["there is no file k"], [], {"s": STEPS, "k": ("link", "none")}, {"t-000000.obj": None}),
     ("an ending in capitals to be tracked", ["track", "M.OBJ", "s", "t"], None, 0, [], ["warning"], {"M.OBJ": MESH, "s": STEPS}, {"t-000001.obj": MOVED}),
-    ("an ending in capitals to be looked at", ["check", "M.OBJ"], None, 2, ['"M.OBJ" ends neither in .obj nor in .off nor in .ply'], [], {"M.OBJ": MESH}, {}),
-    ("an ending in capitals to be converted to", ["convert", "m.obj", "M.OFF"], None, 2, ['"M.OFF" ends neither in .obj'], [], {"m.obj": MESH}, {"M.OFF": None}),
+    ("an ending in capitals to be looked at", ["check", "M.OBJ"], None, 2,
+     ['"M.OBJ" ends neither in .obj nor in .off nor in .ply: an ending counts in small letters alone, so rename the file'], [], {"M.OBJ": MESH}, {}),
+    ("an ending in capitals to be converted to", ["convert", "m.obj", "M.Off"], None, 2, ['"M.Off" ends neither in .obj', "small letters"], [], {"m.obj": MESH}, {"M.Off": None}),
+    ("an ending that is none, in capitals or not", ["check", "m.STL"], None, 2, ['"m.STL" ends neither in .obj nor in .off nor in .ply'], ["small letters"], {}, {}),
     ("lines that end with CRLF", ["track", "m", "s", "t"], None, 0, [], ["warning"], {"m": CRLF(MESH), "s": CRLF(STEPS)}, {"t-000000.obj": MESH, "t-000001.obj": MOVED}),
     ("a mesh whose lines end with CRLF onto itself", ["convert", "m.obj", "m.obj"], None, 0, ["it is kept as m.obj.before"], [],
      {"m.obj": CRLF(MESH)}, {"m.obj": MESH, "m.obj.before": CRLF(MESH)}),
@@ -379,6 +422,86 @@ def ends_closed(program):
     return None
 
 
+# what a terminal is told of jobs that may take long: what is asked, its words, what standard input has, and what has to be told
+WAITED = [
+    ("a long mesh that is looked at", ["check", "great.obj"], None, ["reading great.obj", f"looking for what is wrong with {4 * MANY} faces of great.obj"]),
+    ("a long mesh that is converted", ["convert", "great.obj", "open/great.ply"], None,
+     ["reading great.obj", f"converting {4 * MANY} faces of great.obj", "storing open/great.ply"]),
+    ("a long mesh in another format", ["check", "great.off"], None, ["reading great.off", f"looking for what is wrong with {8 * MANY + 2} lines of great.off"]),
+    ("a log of a long mesh that is measured", ["measure", "great.obj", "great_log.txt"], None, ["reading great.obj", f"testing {4 * MANY} faces of great.obj at rest"]),
+    ("a long mesh that is tracked", ["track", "great.obj", "steps.txt", "open/great"], None,
+     ["reading great.obj", f"testing {4 * MANY} faces of great.obj at rest", "storing open/great-000000.obj", "step 1 of 1, 3 lines of the log", "storing open/great-000001.obj"]),
+    ("long steps", ["track", "mesh.obj", "long_steps.txt", "open/long"], None,
+     ["reading long_steps.txt", f"reading: {1 << 20} of {(2 << 20) + 10} bytes", f"reading: {2 << 20} of {(2 << 20) + 10} bytes", f"reading {(2 << 20) + 2} lines of long_steps.txt", "step 1 of 1,"]),
+    ("a log that is replayed", ["replay", "mesh.obj", "long_log.txt", "open/long"], None, ["256 of 310 lines of the log are taken (82 %)"]),
+    ("a log that is verified", ["verify", "mesh.obj", "long_log.txt", "long_proof.txt"], None, ["256 of 310 lines of the log are taken (82 %)"]),
+    ("a job that is made", ["try", "4", "0"], None, ["a job of 4 * 4 * 4 cubes is made and run"]),
+    ("a mesh from a pipe that is slow", ["track", "/dev/stdin", "steps.txt", "open/slow"], MESH, ["reading /dev/stdin", f"reading: {len(MESH)} bytes"]),
+]
+
+
+def told_while_waiting(program, folder):
+    """What is wrong with what a terminal is told of jobs that may take long, a sentence each; none where standard error is no terminal."""
+    wrong = []
+    for what, words, given, due in WAITED:
+        status, wrote, told = on_terminal([program, *words], folder, False, given)
+        told, ends = told.removesuffix("\r\x1b[K"), told.endswith("\r\x1b[K")
+        if status != 0 or not ends or not all(f"\r{text}" in told for text in due) or not told.startswith(f"\r{due[0]}") or "\n" in told:
+            wrong.append(f"{what}: status {status}; {told!r}")
+    status, _, told = on_terminal([program, "check", "great.obj"], folder, True)
+    if status != 0 or "looking" not in told or not told.endswith(f"\r\x1b[Kchecked {4 * MANY} {4 * MANY} faults 0\n"):
+        wrong.append(f"a terminal for both, of a long mesh: {told!r}")
+    ended = subprocess.run([program, "convert", "great.obj", "open/great.ply"], cwd=folder, capture_output=True, timeout=60, **NOBODY)
+    if ended.returncode != 0 or ended.stderr:
+        wrong.append(f"no terminal, of a long mesh: {ended.stderr!r}")
+    return "; ".join(wrong) or None
+
+
+def named_at_status_4(program, folder):
+    """Whether the sentence of status 4 has what the system said; else what is wrong."""
+    shut = lambda: os.open("/dev/null", os.O_RDONLY)
+    for what, to, due in (("full", lambda: os.open("/dev/full", os.O_WRONLY), "No space left"), ("broken", closed_pipe, "Broken pipe"), ("read", shut, "Bad file descriptor")):
+        for words in (JOB, ["measure", "mesh.obj", "log.txt"], ["try", "1", "0"], ["--help"]):
+            out = to()
+            words = [f"open/{it}" if it == "t" else it for it in words]
+            ended = subprocess.run([program, *words], cwd=folder, stdout=out, stderr=subprocess.PIPE, timeout=60, **NOBODY)
+            os.close(out)
+            told = ended.stderr.decode()
+            if ended.returncode != 4 or not told.startswith(f"topo: standard output could not be written ({due}"):
+                return f"{what}: {words[0]}: {told!r}"
+    return None
+
+
+def slow_reader(program, folder):
+    """Whether a pipe that does not block, is small and read late has the whole log; else what is wrong."""
+    reading, writing = os.pipe()
+    fcntl.fcntl(writing, fcntl.F_SETPIPE_SZ, 4096)
+    os.set_blocking(writing, False)
+    with subprocess.Popen([program, "track", "mesh.obj", "many_steps.txt", "open/many"], cwd=folder, stdout=writing, stderr=subprocess.PIPE, **NOBODY) as run:
+        os.close(writing)
+        time.sleep(0.5)
+        wrote = b""
+        while more := os.read(reading, 4096):
+            wrote += more
+        os.close(reading)
+        told = run.stderr.read()
+    if run.returncode != 0 or told or not wrote.endswith(b"step 400\nmove 1 1 0 0\nmove 2 1 0 0\nmove 3 1 0 0\nmove 4 1 0 0\nmoved whole\nmesh 1 4 4\nend\n"):
+        return f"status {run.returncode}; {len(wrote)} bytes; {told!r}"
+    return None
+
+
+def spared_in_vain(program):
+    """Whether of a text that can not be overwritten nothing is told or left as if it were; else what is wrong."""
+    with tempfile.TemporaryDirectory() as folder:
+        os.chmod(folder, 0o777)
+        put(os.path.join(folder, "h.obj"), COMMENTED)
+        os.chmod(os.path.join(folder, "h.obj"), 0o444)
+        ended = subprocess.run([program, "convert", "h.obj", "h.obj"], cwd=folder, capture_output=True, timeout=60, **NOBODY)
+        if ended.returncode != 3 or b"h.obj could not be stored" not in ended.stderr or b"overwritten" in ended.stderr or os.listdir(folder) != ["h.obj"]:
+            return f"status {ended.returncode}; {ended.stderr!r}; {os.listdir(folder)}"
+    return None
+
+
 def main():
     given = words_of(reader_of(__doc__)).program
     program = PROGRAM if given == TOPO else given
@@ -392,7 +515,14 @@ def main():
             out.write(MESH)
         with open(at("steps.txt"), "w") as out:
             out.write(STEPS)
-        for name, text in (("log.txt", LOG), ("long_log.txt", LONG_LOG), ("proof.txt", PROVED)):
+        great = GREAT.splitlines()
+        off = f"OFF\n{4 * MANY} {4 * MANY} 0\n" + "".join(f"{line[2:]}\n" for line in great if line[0] == "v")
+        off += "".join(f"3 {' '.join(str(int(id) - 1) for id in line.split()[1:])}\n" for line in great if line[0] == "f")
+        long_proof = "topo proof 1\nmotion 8 along\n" + "".join(f"motion {k} along\n" for k in range(12, 310, 3)) + "end\n"
+        for name, text in (
+            ("log.txt", LOG), ("long_log.txt", LONG_LOG), ("proof.txt", PROVED), ("long_proof.txt", long_proof), ("great.obj", GREAT), ("great.off", off),
+            ("great_log.txt", GREAT_LOG), ("long_steps.txt", (2 << 20) * "\n" + "step\nsave\n"), ("many_steps.txt", MANY_STEPS),
+        ):
             with open(at(name), "w") as out:
                 out.write(text)
         os.mkdir(at("folder"))
@@ -553,7 +683,7 @@ def main():
             print(("ok     " if good else "FAILED ") + f"{what}: status {ended.returncode}" + ("" if good else f", {status} was due; {last}; {wrote[-200:]!r}; {'files as due' if holds else 'other files'}; {parts(folder)}"))
         job = [at("topo"), "track", "mesh.obj", "steps.txt", "open/t"]
         status, wrote, told = on_terminal(job, folder, False)
-        shown = status == 0 and wrote == LOG and told.startswith("\rstep 1, 3 lines of the log") and told.endswith("\r\x1b[K")
+        shown = status == 0 and wrote == LOG and told.startswith("\rstep 1 of 1, 3 lines of the log") and told.endswith("\r\x1b[K")
         print(("ok     " if shown else "FAILED ") + "a terminal for standard error alone: it tells how far the log has come, and is wiped" + ("" if shown else f"; {told!r}"))
         status, _, told = on_terminal(job, folder, True)
         alone = status == 0 and told == LOG
@@ -561,7 +691,7 @@ def main():
         failed += (not shown) + (not alone)
         job = [at("topo"), "prove", "mesh.obj", "long_log.txt"]
         status, proof, told = on_terminal(job, folder, False)
-        shown = status == 0 and proof.endswith("\nend\n") and told.startswith("\r256 lines of the log are taken") and told.endswith("\r\x1b[K")
+        shown = status == 0 and proof.endswith("\nend\n") and told.startswith("\r256 of 310 lines of the log are taken (82 %)") and told.endswith("\r\x1b[K")
         print(("ok     " if shown else "FAILED ") + "a terminal for standard error alone: it tells how much of a log is proved, and is wiped" + ("" if shown else f"; {told!r}"))
         failed += not shown
         pieces = pieces_of([at("topo"), "track", "mesh.obj", "steps.txt", "open/t"], folder)
@@ -569,6 +699,10 @@ def main():
         print(("ok     " if apart else "FAILED ") + "a pipe that keeps calls apart: each line of the log is written by one" + ("" if apart else f"; {pieces!r}"))
         failed += not apart
         further = [(it[0], said_as_due(at("topo"), it)) for it in TOLD + LINKS]
+        further.append(("jobs that may take long", told_while_waiting(at("topo"), folder)))
+        further.append(("what the system said where standard output could not be written", named_at_status_4(at("topo"), folder)))
+        further.append(("a pipe that does not block", slow_reader(at("topo"), folder)))
+        further.append(("a text that is spared in vain", spared_in_vain(at("topo"))))
         further.append(("files that other runs left or are writing", left_behind(at("topo"))))
         further.append(("a file past the limit of the system", past_the_limit(at("topo"))))
         further.append(("outputs and the input closed", ends_closed(at("topo"))))

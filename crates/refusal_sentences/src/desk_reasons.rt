@@ -2,6 +2,7 @@
 use grid_base::TEXT_MAX;
 use outside_io::{Step, Trouble};
 use std::alloc::{AllocError, Global};
+use std::io::Error;
 
 // What the system was asked to do, as it is said behind `could not`.
 fn doing(step: Step) -> &'static str {
@@ -25,6 +26,14 @@ pub fn trouble_reason(alloc: Global, trouble: Option<&Trouble>) -> Result<String
             let error = trouble.error;
             format!(in alloc; "{name} could not {what} ({error})")
         }
+    }
+}
+
+/// Says that standard output could not be written, and why, where that is known.
+pub fn output_reason(alloc: Global, error: Option<Error>) -> Result<String, AllocError> {
+    match error {
+        None => String::from_str(alloc, "standard output could not be written"),
+        Some(error) => format!(in alloc; "standard output could not be written ({error})"),
     }
 }
 

@@ -24,7 +24,7 @@ mod warnings;
 mod word_reasons;
 
 pub use asked::asks_in_vain;
-pub use desk_reasons::{long_reason, missing_reason, trouble_reason};
+pub use desk_reasons::{long_reason, missing_reason, output_reason, trouble_reason};
 pub use finer_numbers::has_finer_number;
 pub use log_end::log_end_warning;
 pub use log_reasons::{log_text_reason, replay_reason};
@@ -32,7 +32,9 @@ pub use long_numbers::has_long_number;
 pub use manifold::manifold_warning;
 pub use mesh_reasons::mesh_text_reason;
 pub use other_reasons::{off_text_reason, ply_text_reason};
-pub use overwritten::{overwriting_warning, prefix_warning};
+pub use overwritten::{
+    output_read_reason, output_stored_reason, overwriting_warning, prefix_warning,
+};
 pub use proof_reasons::{Unproved, motion_reason, proof_text_reason};
 pub use shape_reasons::{meeting_reason, shape_reason};
 pub use step_reasons::{gone_reason, step_text_reason, use_reason};

@@ -39,3 +39,17 @@ pub fn prefix_warning(
     }
     Ok(None)
 }
+
+/// Says that standard output goes to a file that the job reads.
+pub fn output_read_reason(alloc: Global, name: &str) -> Result<String, AllocError> {
+    format!(in alloc;
+        "standard output goes to {name}, which this job reads, and which `>` empties before the job begins: send it to a name of its own"
+    )
+}
+
+/// Says that standard output goes to a file in whose place the job may store another.
+pub fn output_stored_reason(alloc: Global, name: &str) -> Result<String, AllocError> {
+    format!(in alloc;
+        "standard output goes to {name}, a name that this job may store: what it tells would be lost, so send it to a name of its own"
+    )
+}

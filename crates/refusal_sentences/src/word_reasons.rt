@@ -15,6 +15,14 @@ fn has_format(word: &[u8]) -> bool {
     word.ends_with(b".obj") || word.ends_with(b".off") || word.ends_with(b".ply")
 }
 
+// Whether a word would have such an ending, were its letters small.
+fn has_format_in_capitals(word: &[u8]) -> bool {
+    let (_, ending) = word.split_at(word.len().saturating_sub(4));
+    ending.eq_ignore_ascii_case(b".obj")
+        || ending.eq_ignore_ascii_case(b".off")
+        || ending.eq_ignore_ascii_case(b".ply")
+}
+
 // Whether a word is one digit from 0 to 6.
 fn is_decimals(word: &[u8]) -> bool {
     match word {
@@ -252,6 +260,16 @@ fn wanted_by(command: &str) -> Option<Wanted> {
     }
 }
 
+// Says that the ending of a word picks no format.
+fn ending_reason(alloc: Global, word: &str) -> Result<String, AllocError> {
+    let hint = if has_format_in_capitals(word.as_bytes()) {
+        ": an ending counts in small letters alone, so rename the file"
+    } else {
+        ""
+    };
+    format!(in alloc; "{word:?} ends neither in .obj nor in .off nor in .ply{hint}")
+}
+
 // Says what is wrong with a word as the name of a file, if anything is; so many stand before it.
 fn file_reason(
     alloc: Global,
@@ -278,8 +296,7 @@ fn file_reason(
         return Ok(Some(said));
     }
     if wanted.formats && !has_format(word.as_bytes()) {
-        let said = format!(in alloc; "{word:?} ends neither in .obj nor in .off nor in .ply")?;
-        return Ok(Some(said));
+        return Ok(Some(ending_reason(alloc, word)?));
     }
     Ok(None)
 }

@@ -8,13 +8,15 @@ use motion_proof::Verdict;
 use outside_io::Trouble;
 use refusal_sentences::{
     Unproved, gone_reason, log_text_reason, long_reason, meeting_reason, mesh_text_reason,
-    missing_reason, motion_reason, off_text_reason, ply_text_reason, proof_text_reason,
-    replay_reason, shape_reason, step_text_reason, trouble_reason, use_reason, words_reason,
+    missing_reason, motion_reason, off_text_reason, output_reason, ply_text_reason,
+    proof_text_reason, replay_reason, shape_reason, step_text_reason, trouble_reason, use_reason,
+    words_reason,
 };
 use std::alloc::{AllocError, Global};
+use std::io;
 use track_input::{CUBES_MAX, Format};
 use track_run::Outcome;
-use user_files::{EndedVertices, Names, Texts, lists_in, name_of, rounded};
+use user_files::{EndedVertices, Names, Texts, Work, lists_in, name_of, rounded};
 
 // What is wrong with a line of the mesh file.
 fn mesh_sentence(
@@ -175,12 +177,14 @@ fn was_read(alloc: Global, names: Names<'_>, v: u32, texts: &Texts) -> bool {
     }
 }
 
-/// What a run has seen: the texts that it read, the vertices that its log ended, and the last fault of the system.
+/// What a run has seen: the texts that it read, the vertices that its log ended, the last fault of the system's files, and what standard
+/// output refused.
 #[derive(Clone, Copy)]
 pub(crate) struct Seen<'a> {
     pub(crate) texts: &'a Texts,
     pub(crate) ended: &'a EndedVertices,
     pub(crate) trouble: Option<&'a Trouble>,
+    pub(crate) refused: Option<io::Error>,
 }
 
 /// Says in one sentence why a run for these words ended as it did, where it is not done, from what it has seen.
@@ -195,6 +199,7 @@ pub(crate) fn explain(
         texts,
         ended,
         trouble,
+        refused,
     } = seen;
     let names = names.unwrap_or(Names {
         mesh: "the mesh",
@@ -202,15 +207,17 @@ pub(crate) fn explain(
         proof: "the proof",
         format: Format::Obj,
         prefix: None,
+        to: None,
         stored: Format::Obj,
         decimals: 0,
+        work: Work::Check,
     });
     match outcome {
         Outcome::Done => Ok(String::new(alloc)),
         Outcome::NoMemory => String::from_str(alloc, "there is not enough memory"),
         Outcome::Usage => words_reason(alloc, words, CUBES_MAX),
         Outcome::DeskFault => trouble_reason(alloc, trouble),
-        Outcome::SinkFault => String::from_str(alloc, "standard output could not be written"),
+        Outcome::SinkFault => output_reason(alloc, refused),
         Outcome::TooLong { file, .. } => long_reason(alloc, name_of(names, file)),
         Outcome::MeshText(fault) => mesh_sentence(alloc, names, fault, texts),
         Outcome::MeshShape(fault) => shape_sentence(alloc, names, fault, texts),

@@ -6,9 +6,22 @@ use mesh_base::FileWord;
 use std::alloc::Global;
 use track_input::{Command, Format, LogFiles, MeshFile, command_of};
 
+/// What a command does with its mesh once all is read.
+#[derive(Clone, Copy, PartialEq, Eq)]
+pub enum Work {
+    /// It is tested at rest, and steps are taken.
+    Steps,
+    /// It is tested at rest, and the lines of a log are taken.
+    Log,
+    /// It is stored in another format.
+    Convert,
+    /// It is looked for what is wrong with it.
+    Check,
+}
+
 /// The names of the files that a command reads, the format of its mesh, and the decimals of its points. A command of one file has that as
-/// each, and one without a proof the log or the steps as that. What it stores has the prefix in front or is a mesh of a format, where it
-/// stores meshes.
+/// each, and one without a proof the log or the steps as that: this is the name that is read last. What it stores has the prefix in front,
+/// or is a mesh of a name and a format, where it stores meshes.
 #[derive(Clone, Copy)]
 pub struct Names<'a> {
     pub mesh: &'a str,
@@ -16,8 +29,10 @@ pub struct Names<'a> {
     pub proof: &'a str,
     pub format: Format,
     pub prefix: Option<&'a str>,
+    pub to: Option<&'a str>,
     pub stored: Format,
     pub decimals: u8,
+    pub work: Work,
     ghost few: { decimals ≤ DECIMALS_MAX },
 }
 
@@ -31,23 +46,31 @@ fn log_names<'a>(files: LogFiles<'a>, prefix: Option<&'a str>) -> Names<'a>
         proof: files.log,
         format: Format::Obj,
         prefix,
+        to: None,
         stored: Format::Obj,
         decimals: files.decimals,
+        work: Work::Log,
     }
 }
 
-// The name of a mesh file that is read alone, and in which format it is stored, where it is.
-fn alone(mesh: MeshFile<'_>, stored: Format, decimals: u8) -> Names<'_>
+// The name of a mesh file that is read alone, and where it is stored, where it is.
+fn alone<'a>(mesh: MeshFile<'a>, to: Option<MeshFile<'a>>, decimals: u8) -> Names<'a>
     requires { decimals ≤ DECIMALS_MAX }
 {
+    let (to, stored, work) = match to {
+        Some(to) => (Some(to.name), to.format, Work::Convert),
+        None => (None, mesh.format, Work::Check),
+    };
     Names {
         mesh: mesh.name,
         other: mesh.name,
         proof: mesh.name,
         format: mesh.format,
         prefix: None,
+        to,
         stored,
         decimals,
+        work,
     }
 }
 
@@ -65,10 +88,12 @@ pub fn names_of(alloc: Global, words: &[String]) -> Option<Names<'_>> {
             proof: steps,
             format: Format::Obj,
             prefix: Some(prefix),
+            to: None,
             stored: Format::Obj,
             decimals,
+            work: Work::Steps,
         }),
-        Command::Convert { from, to, decimals } => Some(alone(from, to.format, decimals)),
+        Command::Convert { from, to, decimals } => Some(alone(from, Some(to), decimals)),
         Command::Measure(files) => Some(log_names(files, None)),
         Command::Prove(files) => Some(log_names(files, None)),
         Command::Verify(given) => Some(Names {
@@ -77,12 +102,22 @@ pub fn names_of(alloc: Global, words: &[String]) -> Option<Names<'_>> {
             proof: given.proof,
             format: Format::Obj,
             prefix: None,
+            to: None,
             stored: Format::Obj,
             decimals: given.files.decimals,
+            work: Work::Log,
         }),
         Command::Replay(given) => Some(log_names(given.files, Some(given.prefix))),
-        Command::Check { mesh, decimals } => Some(alone(mesh, mesh.format, decimals)),
+        Command::Check { mesh, decimals } => Some(alone(mesh, None, decimals)),
         Command::Try { .. } => None,
+    }
+}
+
+/// How many cubes along an edge the job has that the words have made, if they ask for one.
+pub fn cubes_of(alloc: Global, words: &[String]) -> Option<u8> {
+    match command_of(alloc, words).ok()?? {
+        Command::Try { cubes, .. } => Some(cubes),
+        _ => None,
     }
 }
 

@@ -6,25 +6,28 @@ ghost use Rattle.user_files.specs.UserDesk.{faults_of_both};
 ghost use Rattle.std.proofs.Common.{arith};
 
 use crate::exact_desk::ExactDesk;
-use crate::names::Names;
+use crate::life_line::LifeLine;
+use crate::names::{Names, Work};
 use crate::rounding::rounded;
+use crate::tellings::{LONG, ended_lines, is_long, lines_of, reading, storing, taking, working};
 use crate::texts::{Text, Texts};
+use crate::watched_files::WatchedFiles;
 use outside_io::{Desk, FetchFault, FileDesk, StoreFault};
 use refusal_sentences::{overwriting_warning, plain};
 use std::alloc::{AllocError, Global};
 use std::fs;
 use std::io::ErrorKind;
-use std::rt::Files;
+use std::rt::{Clock, Files};
 
 /// A desk, as of the files of the system, and a second one, on which is put what would be lost. Before a store takes the place of a text
-/// that was read, that is told on standard error, and the text is kept on the second desk under another name, unless what is stored is the
-/// same, byte for byte.
+/// that was read, the text is kept on the second desk under another name, unless what is stored is the same, byte for byte; and once it is
+/// stored that is told on standard error. Where the store fails the text has its place still, and what was kept is taken away again.
 #[derive(Drop)]
 pub struct UserDesk<'a, 'w, R: Files, D, S> {
     alloc: Global,
     rt: &'a R,
     names: Option<Names<'w>>,
-    is_watched: bool,
+    life: &'a LifeLine<'a, R>,
     pub files: D,
     pub spared: S,
     pub texts: Texts,
@@ -32,7 +35,13 @@ pub struct UserDesk<'a, 'w, R: Files, D, S> {
 }
 
 /// The desk of the program: what would be lost goes to the files of the system too.
-pub type SystemDesk<'a, 'w, R> = UserDesk<'a, 'w, R, FileDesk<'a, R>, FileDesk<'a, R>>;
+pub type SystemDesk<'a, 'w, R> = UserDesk<
+    'a,
+    'w,
+    R,
+    FileDesk<'a, WatchedFiles<'a, R>>,
+    FileDesk<'a, R>,
+>;
 
 // Where a name leads to, if that is a file.
 fn path_of<R: Files>(alloc: Global, rt: &R, name: &str) -> Option<String> {
@@ -56,7 +65,7 @@ fn free_name<R: Files>(alloc: Global, rt: &R, name: &str) -> Result<String, Allo
     Ok(free)
 }
 
-// What is done with a text before a store takes its place: under which name it is kept, if it is, and what is told.
+// What is done with a text before a store takes its place: under which name it is kept, if it is, and what is told behind the store.
 #[derive(Drop)]
 struct Spared {
     kept: Option<String>,
@@ -122,24 +131,14 @@ fn plan_for<R: Files>(
     })
 }
 
-// Tells a warning before the run goes on.
-fn tell(alloc: Global, rt: &impl Eprint, is_watched: bool, warning: &str) {
-    if is_watched {
-        let _ = eprint!(rt; "\r\x1b[K");
-    }
-    if let Ok(warning) = plain(alloc, warning) {
-        let _ = eprintln!(rt; "topo: warning: {warning}");
-    }
-}
-
-impl<'a, 'w, R: Files + Eprint, D: ExactDesk, S: ExactDesk> UserDesk<'a, 'w, R, D, S> {
-    /// These files, and this desk for what would be lost, for a command of these names. A line of progress on standard error is wiped
-    /// before anything else is told there, where the run is watched.
+impl<'a, 'w, R: Files + Eprint + Clock, D: ExactDesk, S: ExactDesk> UserDesk<'a, 'w, R, D, S> {
+    /// These files, and this desk for what would be lost, for a command of these names. What may take long is told on the line of the run,
+    /// which is wiped before anything else is told.
     pub fn new(
         alloc: Global,
         rt: &'a R,
         names: Option<Names<'w>>,
-        is_watched: bool,
+        life: &'a LifeLine<'a, R>,
         files: D,
         spared: S,
     ) -> Self
@@ -150,7 +149,7 @@ impl<'a, 'w, R: Files + Eprint, D: ExactDesk, S: ExactDesk> UserDesk<'a, 'w, R, 
             alloc,
             rt,
             names,
-            is_watched,
+            life,
             files,
             spared,
             texts: Texts::new(alloc),
@@ -167,9 +166,44 @@ impl<'a, 'w, R: Files + Eprint, D: ExactDesk, S: ExactDesk> UserDesk<'a, 'w, R, 
         let _ = self.texts.keep(self.alloc, name, path, bytes);
     }
 
-    // Sees that a text that was read and has this name now is not lost by a store of these bytes: it is told, and the text is kept unless
-    // they are its own.
-    fn spare(&mut self, name: &str, bytes: &[u8]) -> Result<(), StoreFault>
+    // Tells that a file is read, where that may take long.
+    fn tell_fetch(&self, name: &str) {
+        if self.life.is_watched() && is_long(self.rt, name) {
+            self.life.tell(reading(self.alloc, name));
+        }
+    }
+
+    // Tells what is done once the last file is read, where that may take long, and notes how far it has to come.
+    fn tell_fetched(&self, name: &str) {
+        let Some(names) = self.names else {
+            return;
+        };
+        if !self.life.is_watched() || name != names.proof {
+            return;
+        }
+        let (mesh, other) = (self.texts.first(names.mesh), self.texts.last(names.other));
+        match names.work {
+            Work::Steps => self.life.steps.set(lines_of(b"step", other)),
+            Work::Log => self.life.lines.set(ended_lines(other)),
+            Work::Convert | Work::Check => {}
+        }
+        if mesh.len() >= LONG {
+            self.life.tell(working(self.alloc, names, mesh));
+        } else if other.len() >= LONG {
+            self.life.tell(taking(self.alloc, names.other, other));
+        }
+    }
+
+    // Tells that a file is stored, where that may take long.
+    fn tell_store(&self, name: &str, bytes: &[u8]) {
+        if bytes.len() >= LONG {
+            self.life.tell(storing(self.alloc, name));
+        }
+    }
+
+    // Sees that a text that was read and has this name now is not lost by a store of these bytes: it is kept unless they are its own. Says
+    // what was done, where there is such a text.
+    fn spare(&mut self, name: &str, bytes: &[u8]) -> Result<Option<Spared>, StoreFault>
         ensures files { self.new.files ≡ self.old.files }
         ensures later { S.faults self.old.spared ≤ S.faults self.new.spared }
         ensures failed { IsErrOf result StoreFault.Failed →
@@ -178,21 +212,43 @@ impl<'a, 'w, R: Files + Eprint, D: ExactDesk, S: ExactDesk> UserDesk<'a, 'w, R, 
             S.faults self.new.spared ≡ S.faults self.old.spared }
     {
         let Some(path) = path_of(self.alloc, self.rt, name) else {
-            return Ok(());
+            return Ok(None);
         };
         let Some(text) = self.texts.from_path(path.as_str()) else {
-            return Ok(());
+            return Ok(None);
         };
         match plan_for(self.alloc, self.rt, self.names, text, name, bytes) {
             Err(_) => Err(StoreFault::NoMemory),
-            Ok(Spared { kept, warning }) => {
-                if let Some(kept) = kept {
+            Ok(plan) => {
+                if let Some(kept) = &plan.kept {
                     self.spared
                         .store_exactly(kept.as_str(), text.bytes.as_slice())?;
                 }
-                tell(self.alloc, self.rt, self.is_watched, warning.as_str());
-                Ok(())
+                Ok(Some(plan))
             }
+        }
+    }
+
+    // Tells that a text that was read is overwritten.
+    fn tell_spared(&self, spared: &Option<Spared>) {
+        if let Some(spared) = spared {
+            self.life.wipe();
+            if let Ok(warning) = plain(self.alloc, spared.warning.as_str()) {
+                let _ = eprintln!(self.rt; "topo: warning: {warning}");
+            }
+        }
+    }
+
+    // Takes away what was kept of a text that has its place still.
+    fn take_back(&self, spared: &Option<Spared>) {
+        if let Some(
+            Spared {
+                kept: Some(kept),
+                ..
+            },
+        ) = spared
+        {
+            let _ = fs::remove_file(self.rt, kept.as_str());
         }
     }
 
@@ -208,7 +264,8 @@ impl<'a, 'w, R: Files + Eprint, D: ExactDesk, S: ExactDesk> UserDesk<'a, 'w, R, 
     }
 }
 
-impl<'a, 'w, R: Files + Eprint, D: ExactDesk, S: ExactDesk> Desk for UserDesk<'a, 'w, R, D, S> {
+impl<'a, 'w, R: Files + Eprint + Clock, D: ExactDesk, S: ExactDesk> Desk
+    for UserDesk<'a, 'w, R, D, S> {
     ghost files = { λ desk. D.files desk.files };
 
     ghost faults = { λ desk. faults_of_both (D.faults desk.files) (S.faults desk.spared) };
@@ -232,9 +289,11 @@ impl<'a, 'w, R: Files + Eprint, D: ExactDesk, S: ExactDesk> Desk for UserDesk<'a
         ensures none { ¬ IsErrOf result FetchFault.Failed →
             faults_of_both (D.faults self.new.files) (S.faults self.new.spared) ≡ faults_of_both (D.faults self.old.files) (S.faults self.old.spared) }
     {
+        self.tell_fetch(name);
         let result = self.files.fetch_exactly(name, limit, into);
         if result.is_ok() {
             self.keep(name, into.as_slice());
+            self.tell_fetched(name);
         }
         result
     }
@@ -253,10 +312,16 @@ impl<'a, 'w, R: Files + Eprint, D: ExactDesk, S: ExactDesk> Desk for UserDesk<'a
         ensures none { ¬ IsErrOf result StoreFault.Failed →
             faults_of_both (D.faults self.new.files) (S.faults self.new.spared) ≡ faults_of_both (D.faults self.old.files) (S.faults self.old.spared) }
     {
-        self.spare(name, bytes)?;
-        self.files.store_exactly(name, bytes)?;
-        self.note(name);
-        Ok(())
+        let spared = self.spare(name, bytes)?;
+        self.tell_store(name, bytes);
+        let result = self.files.store_exactly(name, bytes);
+        if result.is_ok() {
+            self.note(name);
+            self.tell_spared(&spared);
+        } else {
+            self.take_back(&spared);
+        }
+        result
     }
 
     ghost few = { λ desk. Prim.grind arith };
