@@ -6,6 +6,8 @@ mod motions;
 #[cfg(test)]
 mod near;
 #[cfg(test)]
+mod same;
+#[cfg(test)]
 mod scaffolds;
 #[cfg(test)]
 mod texts;

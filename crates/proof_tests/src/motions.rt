@@ -4,8 +4,9 @@ ghost use Rattle.grid_base.specs.declared.TheConstants.{HALF_MAX};
 ghost use Rattle.grid_base.specs.Triples.{IsWithin};
 ghost use Rattle.motion_proof.specs.Acceptance.{AreWays};
 
+use crate::same::assert_same;
 use grid_base::{HALF_MAX, NoMemory, Point, Wide};
-use mesh_base::{FaceId, MeshLists, PairName, Points, Triangles, VertexId};
+use mesh_base::{FaceId, MeshLists, PairName, Points, Surface, Triangles, VertexId};
 use mesh_plain::{PlainMesh, shape};
 use motion_proof::{
     Certificate, Claim, Entries, Entry, Made, Tree, Verdict, Way, accepts, certify,
@@ -123,12 +124,12 @@ fn point(p: [i32; 3], rt: &impl Abort) -> Point {
     Point::new(p[0], p[1], p[2]).expect(rt, "a point in the box")
 }
 
-fn mesh_at(
+fn lists_at(
     alloc: Global,
     points: &[[i32; 3]],
     faces: &[[u32; 3]],
     rt: &impl Abort,
-) -> Result<PlainMesh, NoMemory> {
+) -> Result<MeshLists, NoMemory> {
     let mut lists = MeshLists {
         points: Points::new(alloc),
         faces: Triangles::new(alloc),
@@ -139,6 +140,16 @@ fn mesh_at(
     for f in faces {
         lists.faces.push(*f)?;
     }
+    Ok(lists)
+}
+
+fn mesh_at(
+    alloc: Global,
+    points: &[[i32; 3]],
+    faces: &[[u32; 3]],
+    rt: &impl Abort,
+) -> Result<PlainMesh, NoMemory> {
+    let lists = lists_at(alloc, points, faces, rt)?;
     let shaped = shape(alloc, &lists);
     assert!(rt; shaped.is_ok());
     PlainMesh::of(alloc, &lists)
@@ -250,160 +261,218 @@ fn has_names(s: &Listing, names: &[[u32; 3]]) -> bool {
     true
 }
 
-// An answer, in words of its own: the failing pair, or whether the names and the nodes are these, and the verdict.
-fn is_certified(
+// Whether a certificate has these names and nodes.
+fn lists(
     alloc: Global,
-    mesh: &PlainMesh,
-    ways: &[Way],
-    claim: Claim,
+    c: &Certificate,
     names: &[[u32; 3]],
     nodes: &[Node],
-) -> Result<bool, NoMemory>
-    requires { AreWays ways.now }
-{
-    match certify(alloc, mesh, ways, claim)? {
-        Made::Proof(c) => {
-            let s = listing_of(alloc, &c)?;
-            let verdict = accepts(alloc, mesh, ways, &c)?;
-            Ok(has_names(&s, names) && s.nodes.as_slice() == nodes && verdict == Verdict::Accepted)
-        }
+) -> Result<bool, NoMemory> {
+    let s = listing_of(alloc, c)?;
+    Ok(has_names(&s, names) && s.nodes.as_slice() == nodes)
+}
+
+// A mesh by its points and faces, how its vertices move, and what is claimed of that.
+#[derive(Clone, Copy)]
+struct Motion<'a> {
+    points: &'a [[i32; 3]],
+    faces: &'a [[u32; 3]],
+    ways: &'a [(u32, [i64; 3], [i64; 3])],
+    claim: Claim,
+}
+
+// Whether the certificate of the motion has these names and nodes, and is accepted.
+fn is_certified_in<S: Surface>(
+    alloc: Global,
+    mesh: &S,
+    motion: &Motion,
+    names: &[[u32; 3]],
+    nodes: &[Node],
+    rt: &impl Abort,
+) -> Result<bool, NoMemory> {
+    let ways = ways_of(alloc, motion.ways, rt)?;
+    match certify(alloc, mesh, ways.as_slice(), motion.claim)? {
+        Made::Proof(c) => Ok(
+            lists(alloc, &c, names, nodes)?
+                && accepts(alloc, mesh, ways.as_slice(), &c)? == Verdict::Accepted,
+        ),
         Made::Fails(_name) => Ok(false),
     }
 }
 
-fn first_failing(
+// The first pair that fails in the motion.
+fn failing_in<S: Surface>(
     alloc: Global,
-    mesh: &PlainMesh,
-    ways: &[Way],
-    claim: Claim,
-) -> Result<Option<PairName>, NoMemory>
-    requires { AreWays ways.now }
-{
-    match certify(alloc, mesh, ways, claim)? {
+    mesh: &S,
+    motion: &Motion,
+    rt: &impl Abort,
+) -> Result<Option<PairName>, NoMemory> {
+    let ways = ways_of(alloc, motion.ways, rt)?;
+    match certify(alloc, mesh, ways.as_slice(), motion.claim)? {
         Made::Proof(_c) => Ok(None),
         Made::Fails(n) => Ok(Some(n)),
     }
 }
 
-#[test]
-fn a_tetrahedron_has_no_pair(rt: HostRuntime) -> Result<(), Fail> {
-    let alloc = rt.alloc();
-    let mesh = mesh_at(alloc, &TETRAHEDRON, &TETRAHEDRON_FACES, &rt)?;
-    let ways = ways_of(
-        alloc,
-        &[
-            (1, [0, 0, 0], [2, 4, 6]),
-            (2, [8, 0, 0], [10, 4, 6]),
-            (3, [0, 8, 0], [2, 12, 6]),
-            (4, [0, 0, 8], [2, 4, 14]),
-        ],
-        &rt,
-    )?;
-    assert!(rt; is_certified(alloc, &mesh, &ways, Claim::Along, &[], &[])?);
+fn assert_certified(
+    rt: &impl Abort,
+    alloc: Global,
+    motion: &Motion,
+    names: &[[u32; 3]],
+    nodes: &[Node],
+) -> Result<(), NoMemory> {
+    let mesh = mesh_at(alloc, motion.points, motion.faces, rt)?;
+    let is_certified = is_certified_in(alloc, &mesh, motion, names, nodes, rt)?;
+    assert!(rt; is_certified);
     Ok(())
 }
+
+fn assert_fails(
+    rt: &impl Abort,
+    alloc: Global,
+    motion: &Motion,
+    wanted: [u32; 3],
+) -> Result<(), NoMemory> {
+    let mesh = mesh_at(alloc, motion.points, motion.faces, rt)?;
+    let failing = failing_in(alloc, &mesh, motion, rt)?;
+    assert_same(rt, &failing, &Some(name(wanted)));
+    Ok(())
+}
+
+const TRANSLATION: Motion = Motion {
+    points: &TETRAHEDRON,
+    faces: &TETRAHEDRON_FACES,
+    ways: &[
+        (1, [0, 0, 0], [2, 4, 6]),
+        (2, [8, 0, 0], [10, 4, 6]),
+        (3, [0, 8, 0], [2, 12, 6]),
+        (4, [0, 0, 8], [2, 4, 14]),
+    ],
+    claim: Claim::Along,
+};
+
+#[test]
+fn a_tetrahedron_has_no_pair(rt: HostRuntime) -> Result<(), Fail> {
+    assert_certified(&rt, rt.alloc(), &TRANSLATION, &[], &[])?;
+    Ok(())
+}
+
+const SPLITTING: Motion = Motion {
+    points: &SPLIT,
+    faces: &SPLIT_FACES,
+    ways: &SPLIT_WAYS,
+    claim: Claim::Along,
+};
 
 #[test]
 fn a_split_has_an_entry_for_each_pair_that_no_axis_keeps_apart(
     rt: HostRuntime,
 ) -> Result<(), Fail> {
-    let alloc = rt.alloc();
-    let mesh = mesh_at(alloc, &SPLIT, &SPLIT_FACES, &rt)?;
-    let ways = ways_of(alloc, &SPLIT_WAYS, &rt)?;
-    assert!(rt;
-        is_certified(
-            alloc,
-            &mesh,
-            &ways,
-            Claim::Along,
-            &SPLIT_NAMES,
-            &SPLIT_NODES
-        )?
-    );
+    assert_certified(&rt, rt.alloc(), &SPLITTING, &SPLIT_NAMES, &SPLIT_NODES)?;
     Ok(())
 }
+
+// The vertex 5 goes away from the face, and into it.
+const AWAY: Motion = Motion {
+    points: &APART,
+    faces: &TWO,
+    ways: &[(5, [16, 4, 4], [18, 4, 4])],
+    claim: Claim::Along,
+};
+
+const INTO: Motion = Motion {
+    points: &APART,
+    faces: &TWO,
+    ways: &[(5, [16, 4, 4], [0, 4, 4])],
+    claim: Claim::Along,
+};
 
 #[test]
 fn an_axis_keeps_a_vertex_apart(rt: HostRuntime) -> Result<(), Fail> {
-    let alloc = rt.alloc();
-    let mesh = mesh_at(alloc, &APART, &TWO, &rt)?;
-    let ways = ways_of(alloc, &[(5, [16, 4, 4], [18, 4, 4])], &rt)?;
-    assert!(rt; is_certified(alloc, &mesh, &ways, Claim::Along, &[], &[])?);
-    let ways = ways_of(alloc, &[(5, [16, 4, 4], [0, 4, 4])], &rt)?;
-    let failing = first_failing(alloc, &mesh, &ways, Claim::Along)?;
-    assert_eq!(rt; failing, Some(name([3, 4, 5])));
+    assert_certified(&rt, rt.alloc(), &AWAY, &[], &[])?;
+    assert_fails(&rt, rt.alloc(), &INTO, [3, 4, 5])?;
     Ok(())
 }
 
+// The corners at the origin part, or come together there.
+const PARTING: &[(u32, [i64; 3], [i64; 3])] = &[
+    (1, [0, 0, 0], [2, 2, 2]),
+    (5, [0, 0, 0], [-2, -2, -2]),
+];
+
+const COMING: &[(u32, [i64; 3], [i64; 3])] = &[
+    (1, [2, 2, 2], [0, 0, 0]),
+    (5, [-2, -2, -2], [0, 0, 0]),
+];
+
+const TOUCHING_NAMES: [[u32; 3]; 18] = [
+    [1, 2, 5],
+    [1, 2, 6],
+    [1, 2, 8],
+    [1, 3, 5],
+    [1, 3, 6],
+    [1, 3, 8],
+    [1, 4, 5],
+    [1, 4, 6],
+    [1, 4, 8],
+    [5, 6, 1],
+    [5, 6, 2],
+    [5, 6, 4],
+    [5, 7, 1],
+    [5, 7, 2],
+    [5, 7, 4],
+    [5, 8, 1],
+    [5, 8, 2],
+    [5, 8, 4],
+];
+
+const TOUCHING_NODES: [Node; 18] = [Node::Leaf([1, 0, 0]); 18];
+
+// What is claimed of them, and whether it holds.
+const CLAIMS: [(&[(u32, [i64; 3], [i64; 3])], Claim, bool); 6] = [
+    (PARTING, Claim::After, true),
+    (COMING, Claim::Before, true),
+    (PARTING, Claim::Along, false),
+    (PARTING, Claim::Before, false),
+    (COMING, Claim::Along, false),
+    (COMING, Claim::After, false),
+];
+
 #[test]
 fn two_that_touch_part_or_come_together(rt: HostRuntime) -> Result<(), Fail> {
-    let alloc = rt.alloc();
-    let mesh = mesh_at(alloc, &TOUCHING, &TWO, &rt)?;
-    let parting = ways_of(
-        alloc,
-        &[(1, [0, 0, 0], [2, 2, 2]), (5, [0, 0, 0], [-2, -2, -2])],
-        &rt,
-    )?;
-    let coming = ways_of(
-        alloc,
-        &[(1, [2, 2, 2], [0, 0, 0]), (5, [-2, -2, -2], [0, 0, 0])],
-        &rt,
-    )?;
-    let names = [
-        [1, 2, 5],
-        [1, 2, 6],
-        [1, 2, 8],
-        [1, 3, 5],
-        [1, 3, 6],
-        [1, 3, 8],
-        [1, 4, 5],
-        [1, 4, 6],
-        [1, 4, 8],
-        [5, 6, 1],
-        [5, 6, 2],
-        [5, 6, 4],
-        [5, 7, 1],
-        [5, 7, 2],
-        [5, 7, 4],
-        [5, 8, 1],
-        [5, 8, 2],
-        [5, 8, 4],
-    ];
-    let nodes = [Node::Leaf([1, 0, 0]); 18];
-    assert!(rt; is_certified(alloc, &mesh, &parting, Claim::After, &names, &nodes)?);
-    assert!(rt; is_certified(alloc, &mesh, &coming, Claim::Before, &names, &nodes)?);
-    for (ways, claim) in [
-        (&parting, Claim::Along),
-        (&parting, Claim::Before),
-        (&coming, Claim::Along),
-        (&coming, Claim::After),
-    ] {
-        let failing = first_failing(alloc, &mesh, ways, claim)?;
-        assert_eq!(rt; failing, Some(name([1, 2, 5])));
+    for (ways, claim, holds) in &CLAIMS {
+        let motion = Motion {
+            points: &TOUCHING,
+            faces: &TWO,
+            ways: *ways,
+            claim: *claim,
+        };
+        if *holds {
+            assert_certified(&rt, rt.alloc(), &motion, &TOUCHING_NAMES, &TOUCHING_NODES)?;
+        } else {
+            assert_fails(&rt, rt.alloc(), &motion, [1, 2, 5])?;
+        }
     }
     Ok(())
 }
 
+const ROUND_A_CORNER: Motion = Motion {
+    points: &SHEETS,
+    faces: &SHEET_FACES,
+    ways: &SHEET_WAYS,
+    claim: Claim::Along,
+};
+
 #[test]
 fn a_sheet_goes_round_a_corner_in_two_halves(rt: HostRuntime) -> Result<(), Fail> {
-    let alloc = rt.alloc();
-    let mesh = mesh_at(alloc, &SHEETS, &SHEET_FACES, &rt)?;
-    let ways = ways_of(alloc, &SHEET_WAYS, &rt)?;
-    assert!(rt;
-        is_certified(
-            alloc,
-            &mesh,
-            &ways,
-            Claim::Along,
-            &SHEET_NAMES,
-            &SHEET_NODES
-        )?
-    );
+    assert_certified(&rt, rt.alloc(), &ROUND_A_CORNER, &SHEET_NAMES, &SHEET_NODES)?;
     Ok(())
 }
 
-// Entries with one leaf each.
-fn leaves(alloc: Global, list: &[([u32; 3], [i64; 3])]) -> Result<Entries, NoMemory> {
+// A pair with one leaf.
+type Leaf = ([u32; 3], [i64; 3]);
+
+fn leaves(alloc: Global, list: &[Leaf]) -> Result<Entries, NoMemory> {
     let mut entries = Entries::new(alloc);
     for (ids, n) in list {
         entries.push(Entry {
@@ -414,47 +483,96 @@ fn leaves(alloc: Global, list: &[([u32; 3], [i64; 3])]) -> Result<Entries, NoMem
     Ok(entries)
 }
 
-// The verdict on these entries for the split; None where they are no certificate.
-fn verdict_on_split(
+fn judged<S: Surface>(
     alloc: Global,
-    list: &[([u32; 3], [i64; 3])],
-    claim: Claim,
+    mesh: &S,
+    c: &Certificate,
     rt: &impl Abort,
-) -> Result<Option<Verdict>, NoMemory> {
-    let mesh = mesh_at(alloc, &SPLIT, &SPLIT_FACES, rt)?;
+) -> Result<Verdict, NoMemory> {
     let ways = ways_of(alloc, &SPLIT_WAYS, rt)?;
-    let entries = leaves(alloc, list)?;
-    match Certificate::of(claim, entries) {
-        Some(c) => Ok(Some(accepts(alloc, &mesh, &ways, &c)?)),
-        None => Ok(None),
-    }
+    accepts(alloc, mesh, ways.as_slice(), c)
 }
+
+fn judged_on_split(alloc: Global, c: &Certificate, rt: &impl Abort) -> Result<Verdict, NoMemory> {
+    let mesh = mesh_at(alloc, &SPLIT, &SPLIT_FACES, rt)?;
+    judged(alloc, &mesh, c, rt)
+}
+
+// The verdict on these entries for the split; None where they are no certificate.
+fn assert_verdict(
+    rt: &impl Abort,
+    alloc: Global,
+    list: &[Leaf],
+    claim: Claim,
+    wanted: Option<Verdict>,
+) -> Result<(), NoMemory> {
+    let found = match Certificate::of(claim, leaves(alloc, list)?) {
+        Some(c) => Some(judged_on_split(alloc, &c, rt)?),
+        None => None,
+    };
+    assert_same(rt, &found, &wanted);
+    Ok(())
+}
+
+// The entries of the split, in their order.
+const A: Leaf = ([1, 3, 4], [2, -2, 3]);
+
+const B: Leaf = ([1, 4, 5], [-16, -4, 16]);
+
+const C: Leaf = ([1, 5, 1], [16, 24, 24]);
+
+const D: Leaf = ([2, 3, 3], [16, 24, 4]);
+
+const E: Leaf = ([2, 4, 6], [-16, 16, -24]);
+
+const F: Leaf = ([2, 5, 2], [-16, 16, 16]);
+
+// The first pair with a direction that does not keep it apart; and the last direction with no pair of the split, and with one that
+// stands too late.
+const INVALID: Leaf = ([1, 3, 4], [1, 0, 0]);
+
+const STRANGER: Leaf = ([3, 4, 1], [-16, 16, 16]);
+
+const UNORDERED: Leaf = ([2, 3, 2], [-16, 16, 16]);
+
+const FIRST: PairName = PairName {
+    a: VertexId(1),
+    b: VertexId(3),
+    face: FaceId(4),
+};
+
+const STRANGE: PairName = PairName {
+    a: VertexId(3),
+    b: VertexId(4),
+    face: FaceId(1),
+};
+
+// Entries, what is claimed, and the verdict; None where they are no certificate.
+const VERDICTS: [(&[Leaf], Claim, Option<Verdict>); 6] = [
+    (&[A, B, C, D, E, F], Claim::Along, Some(Verdict::Accepted)),
+    (
+        &[B, C, D, E, F],
+        Claim::Along,
+        Some(Verdict::Missing(FIRST)),
+    ),
+    (&[], Claim::Before, Some(Verdict::Missing(FIRST))),
+    (
+        &[INVALID, B, C, D, E, F],
+        Claim::Along,
+        Some(Verdict::Invalid(FIRST)),
+    ),
+    (
+        &[INVALID, B, C, D, E, STRANGER],
+        Claim::Along,
+        Some(Verdict::Stranger(STRANGE)),
+    ),
+    (&[INVALID, B, C, D, E, UNORDERED], Claim::Along, None),
+];
 
 #[test]
 fn a_certificate_is_refused_at_the_first_fault(rt: HostRuntime) -> Result<(), Fail> {
-    let alloc = rt.alloc();
-    let mut list = [
-        ([1, 3, 4], [2, -2, 3]),
-        ([1, 4, 5], [-16, -4, 16]),
-        ([1, 5, 1], [16, 24, 24]),
-        ([2, 3, 3], [16, 24, 4]),
-        ([2, 4, 6], [-16, 16, -24]),
-        ([2, 5, 2], [-16, 16, 16]),
-    ];
-    let verdict = verdict_on_split(alloc, &list, Claim::Along, &rt)?;
-    assert_eq!(rt; verdict, Some(Verdict::Accepted));
-    let verdict = verdict_on_split(alloc, &list[1..], Claim::Along, &rt)?;
-    assert_eq!(rt; verdict, Some(Verdict::Missing(name([1, 3, 4]))));
-    let verdict = verdict_on_split(alloc, &[], Claim::Before, &rt)?;
-    assert_eq!(rt; verdict, Some(Verdict::Missing(name([1, 3, 4]))));
-    list[0].1 = [1, 0, 0];
-    let verdict = verdict_on_split(alloc, &list, Claim::Along, &rt)?;
-    assert_eq!(rt; verdict, Some(Verdict::Invalid(name([1, 3, 4]))));
-    list[5].0 = [3, 4, 1];
-    let verdict = verdict_on_split(alloc, &list, Claim::Along, &rt)?;
-    assert_eq!(rt; verdict, Some(Verdict::Stranger(name([3, 4, 1]))));
-    list[5].0 = [2, 3, 2];
-    let verdict = verdict_on_split(alloc, &list, Claim::Along, &rt)?;
-    assert_eq!(rt; verdict, None);
+    for (list, claim, wanted) in &VERDICTS {
+        assert_verdict(&rt, rt.alloc(), list, *claim, *wanted)?;
+    }
     Ok(())
 }

@@ -43,7 +43,27 @@ fn is_judged_alike<S: Surface>(
     Ok(all == near)
 }
 
-// Whether both makers make the same for the claim, and both checks answer the same to that, and to a certificate without entries.
+// Whether two makers made the same, and both checks answer the same to it.
+fn are_judged_alike<S: Surface>(
+    alloc: Global,
+    mesh: &S,
+    ways: &[Way],
+    made: [&Made; 2],
+    fresh_from: u32,
+) -> Result<bool, NoMemory>
+    requires fits { AreWays ways.now }
+    requires clear { IsClearWhereUntouched (S.mesh mesh.now) ways.now fresh_from }
+{
+    match (made[0], made[1]) {
+        (Made::Proof(one), Made::Proof(other)) => Ok(
+            are_alike(alloc, one, other)? && is_judged_alike(alloc, mesh, ways, one, fresh_from)?,
+        ),
+        (Made::Fails(one), Made::Fails(other)) => Ok(*one == *other),
+        _ => Ok(false),
+    }
+}
+
+// Whether both makers make the same for the claim.
 fn is_made_alike<S: Surface>(
     alloc: Global,
     mesh: &S,
@@ -56,18 +76,27 @@ fn is_made_alike<S: Surface>(
 {
     let all = certify(alloc, mesh, ways, claim)?;
     let near = certify_near(alloc, mesh, ways, claim, fresh_from)?;
-    let Some(bare) = Certificate::of(claim, Entries::new(alloc)) else {
-        return Ok(false);
-    };
-    let same = match (&all, &near) {
-        (Made::Proof(one), Made::Proof(other)) => {
-            are_alike(alloc, one, other)? && is_judged_alike(alloc, mesh, ways, one, fresh_from)?
-        }
-        (Made::Fails(one), Made::Fails(other)) => *one == *other,
-        _ => false,
-    };
-    Ok(same && is_judged_alike(alloc, mesh, ways, &bare, fresh_from)?)
+    are_judged_alike(alloc, mesh, ways, [&all, &near], fresh_from)
 }
+
+// Whether both checks answer the same to a certificate without entries.
+fn is_bare_alike<S: Surface>(
+    alloc: Global,
+    mesh: &S,
+    ways: &[Way],
+    claim: Claim,
+    fresh_from: u32,
+) -> Result<bool, NoMemory>
+    requires fits { AreWays ways.now }
+    requires clear { IsClearWhereUntouched (S.mesh mesh.now) ways.now fresh_from }
+{
+    match Certificate::of(claim, Entries::new(alloc)) {
+        Some(bare) => is_judged_alike(alloc, mesh, ways, &bare, fresh_from),
+        None => Ok(false),
+    }
+}
+
+const CLAIMS: [Claim; 3] = [Claim::Along, Claim::After, Claim::Before];
 
 // The same for each claim.
 fn are_made_alike<S: Surface>(
@@ -79,10 +108,14 @@ fn are_made_alike<S: Surface>(
     requires fits { AreWays ways.now }
     requires clear { IsClearWhereUntouched (S.mesh mesh.now) ways.now fresh_from }
 {
-    let along = is_made_alike(alloc, mesh, ways, Claim::Along, fresh_from)?;
-    let after = is_made_alike(alloc, mesh, ways, Claim::After, fresh_from)?;
-    let before = is_made_alike(alloc, mesh, ways, Claim::Before, fresh_from)?;
-    Ok(along && after && before)
+    for claim in &CLAIMS {
+        let made = is_made_alike(alloc, mesh, ways, *claim, fresh_from)?;
+        let bare = is_bare_alike(alloc, mesh, ways, *claim, fresh_from)?;
+        if !(made && bare) {
+            return Ok(false);
+        }
+    }
+    Ok(true)
 }
 
 // The same of the motion on which a done edit is tested.
@@ -102,24 +135,41 @@ fn is_near_as_all<S: Surface>(
     }
 }
 
+// The same of the edit that is asked for; it is done.
+fn is_done_alike<S: Surface>(alloc: Global, mesh: &mut S, what: Asked) -> Result<bool, NoMemory>
+    requires closed { IsClosed (S.mesh mesh.old) }
+    requires clear { IsClearMesh (S.mesh mesh.old) }
+{
+    match change_of(alloc, mesh, what)? {
+        Some(change) => is_near_as_all(alloc, mesh, &change),
+        None => Ok(false),
+    }
+}
+
+const A: VertexId = VertexId(1);
+
+const B: VertexId = VertexId(2);
+
+const EDITS: [(&[u8], Asked); 5] = [
+    (LONG, Asked::Split { a: A, b: B }),
+    (
+        BOXES,
+        Asked::Split {
+            a: A,
+            b: VertexId(3),
+        },
+    ),
+    (FLAT, Asked::Flip { a: A, b: B }),
+    (LONG, Asked::Collapse { a: A, b: B }),
+    (JOINED, Asked::Pinch { v: A }),
+];
+
 #[test]
 fn what_is_near_answers_for_all_pairs(rt: HostRuntime) -> Result<(), Fail> {
-    let alloc = rt.alloc();
-    let a = VertexId(1);
-    let b = VertexId(2);
-    for (text, what) in [
-        (LONG, Asked::Split { a, b }),
-        (BOXES, Asked::Split { a, b: VertexId(3) }),
-        (FLAT, Asked::Flip { a, b }),
-        (LONG, Asked::Collapse { a, b }),
-        (JOINED, Asked::Pinch { v: a }),
-    ] {
-        let mut mesh = mesh_of(alloc, text, &rt)?;
-        let Some(change) = change_of(alloc, &mesh, what)? else {
-            assert!(rt; false);
-            return Ok(());
-        };
-        assert!(rt; is_near_as_all(alloc, &mut mesh, &change)?);
+    for (i, (text, what)) in EDITS.iter().enumerate() {
+        let mut mesh = mesh_of(rt.alloc(), text, &rt)?;
+        let is_alike = is_done_alike(rt.alloc(), &mut mesh, *what)?;
+        assert!(rt; is_alike, "edit {i}");
     }
     Ok(())
 }

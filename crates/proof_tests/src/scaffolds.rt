@@ -156,92 +156,118 @@ fn is_made(
     }
 }
 
-// Whether the mesh itself is made what the change is tested on, and a return gives back the one with this text.
+// Whether the mesh itself is made what the change is tested on, and is then taken back.
 fn is_laid(
     alloc: Global,
     mesh: &mut JournalMesh,
     change: &Change,
     tested: Option<Tested>,
-    before: &[u8],
 ) -> Result<bool, NoMemory>
     requires closed { IsClosed (⟦<JournalMesh as Surface>⟧.mesh mesh.old) }
     requires done { IsDone (⟦<JournalMesh as Surface>⟧.mesh mesh.old) change.now }
 {
-    let next = (mesh.next_vertex(), mesh.next_face());
-    let on_it = match (lay(alloc, mesh, change)?, tested) {
+    match (lay(alloc, mesh, change)?, tested) {
         (Some(laid), Some(t)) => {
             let same = is_tested_on(alloc, mesh, laid.ways.as_slice(), laid.claim, t)?;
             mesh.back_to(laid.mark);
-            same
+            Ok(same)
         }
-        (None, None) => true,
-        _ => false,
-    };
-    let text = obj_of(alloc, mesh, 0)?;
-    Ok(on_it && text.as_slice() == before && (mesh.next_vertex(), mesh.next_face()) == next)
+        (None, None) => Ok(true),
+        _ => Ok(false),
+    }
 }
 
-// That the edit that is asked for is done, and tested on this.
+fn next_ids<S: Surface>(mesh: &S) -> (u32, u32) {
+    (mesh.next_vertex(), mesh.next_face())
+}
+
+// Whether the change is tested on this, in a copy and in the mesh itself, and a return gives the mesh back.
+fn is_tested_so(
+    alloc: Global,
+    mesh: &mut JournalMesh,
+    change: &Change,
+    tested: Option<Tested>,
+) -> Result<bool, NoMemory>
+    requires closed { IsClosed (⟦<JournalMesh as Surface>⟧.mesh mesh.old) }
+    requires done { IsDone (⟦<JournalMesh as Surface>⟧.mesh mesh.old) change.now }
+{
+    let next = next_ids(mesh);
+    let before = obj_of(alloc, mesh, 0)?;
+    let is_so = is_made(alloc, mesh, change, tested)? && is_laid(alloc, mesh, change, tested)?;
+    let after = obj_of(alloc, mesh, 0)?;
+    Ok(is_so && after.as_slice() == before.as_slice() && next_ids(mesh) == next)
+}
+
+// Whether the edit that is asked for is done, and tested on this.
 fn shows(
     alloc: Global,
-    text: &[u8],
+    mesh: &mut JournalMesh,
     what: Asked,
     tested: Option<Tested>,
-    rt: &impl Abort,
-) -> Result<(), Fail> {
-    let mut mesh = mesh_of(alloc, text, rt)?;
-    let before = obj_of(alloc, &mesh, 0)?;
-    let Some(change) = change_of(alloc, &mesh, what)? else {
-        assert!(rt; false);
-        return Ok(());
-    };
-    assert!(rt; is_made(alloc, &mesh, &change, tested)?);
-    assert!(rt; is_laid(alloc, &mut mesh, &change, tested, before.as_slice())?);
-    Ok(())
+) -> Result<bool, NoMemory>
+    requires closed { IsClosed (⟦<JournalMesh as Surface>⟧.mesh mesh.old) }
+    requires clear { IsClearMesh (⟦<JournalMesh as Surface>⟧.mesh mesh.old) }
+{
+    match change_of(alloc, mesh, what)? {
+        Some(change) => is_tested_so(alloc, mesh, &change, tested),
+        None => Ok(false),
+    }
 }
+
+const A: VertexId = VertexId(1);
+
+const B: VertexId = VertexId(2);
+
+const SPLIT: Tested = Tested {
+    text: LONG_SPLIT,
+    next: (6, 9),
+    ways: &[(5, [5, 0, 0], [4, 0, 0])],
+    claim: Claim::Along,
+};
+
+const FLIP: Tested = Tested {
+    text: FLAT_SPLIT,
+    next: (7, 11),
+    ways: &[(6, [24, 0, 0], [24, 12, 0])],
+    claim: Claim::Along,
+};
+
+const COLLAPSE: Tested = Tested {
+    text: LONG,
+    next: (5, 5),
+    ways: &[(1, [0, 0, 0], [4, 0, 0]), (2, [10, 0, 0], [4, 0, 0])],
+    claim: Claim::Before,
+};
+
+const PINCH: Tested = Tested {
+    text: PARTED,
+    next: (9, 12),
+    ways: &[(1, [0, 0, 0], [2, 0, 0]), (8, [0, 0, 0], [-2, 0, 0])],
+    claim: Claim::After,
+};
+
+const ZIP: Asked = Asked::Zip {
+    a: A,
+    b: B,
+    e: VertexId(9),
+    f: VertexId(10),
+};
+
+// A mesh, what is asked of it, and on what that is tested.
+const CASES: [(&[u8], Asked, Option<Tested>); 5] = [
+    (LONG, Asked::Split { a: A, b: B }, Some(SPLIT)),
+    (FLAT, Asked::Flip { a: A, b: B }, Some(FLIP)),
+    (LONG, Asked::Collapse { a: A, b: B }, Some(COLLAPSE)),
+    (JOINED, Asked::Pinch { v: A }, Some(PINCH)),
+    (BOXES, ZIP, None),
+];
 
 #[test]
 fn done_edits_are_tested_on_their_scaffolds(rt: HostRuntime) -> Result<(), Fail> {
-    let a = VertexId(1);
-    let b = VertexId(2);
-    let split = Tested {
-        text: LONG_SPLIT,
-        next: (6, 9),
-        ways: &[(5, [5, 0, 0], [4, 0, 0])],
-        claim: Claim::Along,
-    };
-    let flip = Tested {
-        text: FLAT_SPLIT,
-        next: (7, 11),
-        ways: &[(6, [24, 0, 0], [24, 12, 0])],
-        claim: Claim::Along,
-    };
-    let collapse = Tested {
-        text: LONG,
-        next: (5, 5),
-        ways: &[(1, [0, 0, 0], [4, 0, 0]), (2, [10, 0, 0], [4, 0, 0])],
-        claim: Claim::Before,
-    };
-    let pinch = Tested {
-        text: PARTED,
-        next: (9, 12),
-        ways: &[(1, [0, 0, 0], [2, 0, 0]), (8, [0, 0, 0], [-2, 0, 0])],
-        claim: Claim::After,
-    };
-    let zip = Asked::Zip {
-        a,
-        b,
-        e: VertexId(9),
-        f: VertexId(10),
-    };
-    for (mesh, what, tested) in [
-        (LONG, Asked::Split { a, b }, Some(split)),
-        (FLAT, Asked::Flip { a, b }, Some(flip)),
-        (LONG, Asked::Collapse { a, b }, Some(collapse)),
-        (JOINED, Asked::Pinch { v: a }, Some(pinch)),
-        (BOXES, zip, None),
-    ] {
-        shows(rt.alloc(), mesh, what, tested, &rt)?;
+    for (i, (text, what, tested)) in CASES.iter().enumerate() {
+        let mut mesh = mesh_of(rt.alloc(), text, &rt)?;
+        let is_shown = shows(rt.alloc(), &mut mesh, *what, *tested)?;
+        assert!(rt; is_shown, "case {i}");
     }
     Ok(())
 }

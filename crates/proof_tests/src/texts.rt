@@ -1,5 +1,5 @@
 //! Worked examples: texts that are read and printed again, and texts that are none.
-
+use crate::same::{assert_bytes, assert_same};
 use grid_base::NoMemory;
 use line_text::{ReadFault, TextWhy};
 use proof_text::{print_proof, read_proof};
@@ -42,11 +42,13 @@ fn again(rt: &impl Abort, alloc: Global, text: &[u8]) -> Result<Vec<u8>, NoMemor
     }
 }
 
+const TEXTS: [&[u8]; 5] = [NO_PAIR, SPLIT, GREATEST, NONE, DEEP];
+
 #[test]
 fn texts_are_read_and_printed_again(rt: HostRuntime) -> Result<(), Fail> {
-    for text in [NO_PAIR, SPLIT, GREATEST, NONE, DEEP] {
+    for text in &TEXTS {
         let printed = again(&rt, rt.alloc(), text)?;
-        assert_eq!(rt; printed.as_slice(), text);
+        assert_bytes(&rt, printed.as_slice(), text);
     }
     Ok(())
 }
@@ -61,100 +63,102 @@ fn fault_of(rt: &impl Abort, alloc: Global, text: &[u8]) -> Result<(u32, TextWhy
     }
 }
 
+// A text, the line of its first fault, and the reason.
+const FAULTS: [(&[u8], u32, TextWhy); 36] = [
+    (b"", 1, TextWhy::Order),
+    (b"\n", 1, TextWhy::Unknown),
+    (b"topo", 1, TextWhy::Short),
+    (b"topo log\n", 1, TextWhy::Short),
+    (b"topo log 1\n", 1, TextWhy::Number),
+    (b"topo proof 2\n", 1, TextWhy::Number),
+    (b"topo proof 01\n", 1, TextWhy::Number),
+    (b"topo  proof 1\n", 1, TextWhy::Long),
+    (b"topo proof 1\r\nend\n", 1, TextWhy::Number),
+    (b"end\n", 1, TextWhy::Order),
+    (b"topo proof 1", 1, TextWhy::Short),
+    (b"topo proof 1\n", 2, TextWhy::Order),
+    (b"topo proof 1\nend", 2, TextWhy::Short),
+    (b"topo proof 1\nend \n", 2, TextWhy::Long),
+    (b"topo proof 1\nend\n\n", 3, TextWhy::Unknown),
+    (b"topo proof 1\nend\nend\n", 3, TextWhy::Order),
+    (b"topo proof 1\nend\nmotion 0 along\n", 3, TextWhy::Number),
+    (b"topo proof 1\ntopo proof 1\n", 2, TextWhy::Order),
+    (b"topo proof 1\npair 1 2 3\n", 2, TextWhy::Order),
+    (b"topo proof 1\nmotion 1 always\n", 2, TextWhy::Number),
+    (
+        b"topo proof 1\nmotion 4294967296 along\n",
+        2,
+        TextWhy::Number,
+    ),
+    (
+        b"topo proof 1\nmotion 1 along\nmotion 1 after\n",
+        3,
+        TextWhy::Order,
+    ),
+    (
+        b"topo proof 1\nmotion 1 along\npair 2 1 3\n",
+        3,
+        TextWhy::Number,
+    ),
+    (
+        b"topo proof 1\nmotion 1 along\npair 1 2 2147483649\n",
+        3,
+        TextWhy::Number,
+    ),
+    (
+        b"topo proof 1\nmotion 1 along\npair 1 2 3 4\n",
+        3,
+        TextWhy::Long,
+    ),
+    (b"topo proof 1\nmotion 1 along\nhalf\n", 3, TextWhy::Order),
+    (
+        b"topo proof 1\nmotion 1 along\npair 1 2 3\nend\n",
+        4,
+        TextWhy::Order,
+    ),
+    (
+        b"topo proof 1\nmotion 1 along\npair 1 2 3\nhalf\ndir 1 0 0\npair 1 2 4\n",
+        6,
+        TextWhy::Order,
+    ),
+    (
+        b"topo proof 1\nmotion 1 along\npair 1 2 3\ndir 1 0 0\ndir 1 0 0\n",
+        5,
+        TextWhy::Order,
+    ),
+    (
+        b"topo proof 1\nmotion 1 along\npair 1 2 3\ndir 1 0 0\npair 1 2 3\n",
+        5,
+        TextWhy::Order,
+    ),
+    (
+        b"topo proof 1\nmotion 1 along\npair 1 3 3\ndir 1 0 0\npair 1 2 4\n",
+        5,
+        TextWhy::Order,
+    ),
+    (b"dir 1 -0 0\n", 1, TextWhy::Number),
+    (b"dir 10000000000000000000000000 0 0\n", 1, TextWhy::Number),
+    (b"dir 9999999999999999999999999 0 x\n", 1, TextWhy::Number),
+    (b"dir 2417851639229258349412353 0 0\n", 1, TextWhy::Range),
+    (b"dir 1 0\n", 1, TextWhy::Short),
+];
+
 #[test]
 fn reasons_come_in_order(rt: HostRuntime) -> Result<(), Fail> {
-    let faults: [(&[u8], u32, TextWhy); 36] = [
-        (b"", 1, TextWhy::Order),
-        (b"\n", 1, TextWhy::Unknown),
-        (b"topo", 1, TextWhy::Short),
-        (b"topo log\n", 1, TextWhy::Short),
-        (b"topo log 1\n", 1, TextWhy::Number),
-        (b"topo proof 2\n", 1, TextWhy::Number),
-        (b"topo proof 01\n", 1, TextWhy::Number),
-        (b"topo  proof 1\n", 1, TextWhy::Long),
-        (b"topo proof 1\r\nend\n", 1, TextWhy::Number),
-        (b"end\n", 1, TextWhy::Order),
-        (b"topo proof 1", 1, TextWhy::Short),
-        (b"topo proof 1\n", 2, TextWhy::Order),
-        (b"topo proof 1\nend", 2, TextWhy::Short),
-        (b"topo proof 1\nend \n", 2, TextWhy::Long),
-        (b"topo proof 1\nend\n\n", 3, TextWhy::Unknown),
-        (b"topo proof 1\nend\nend\n", 3, TextWhy::Order),
-        (b"topo proof 1\nend\nmotion 0 along\n", 3, TextWhy::Number),
-        (b"topo proof 1\ntopo proof 1\n", 2, TextWhy::Order),
-        (b"topo proof 1\npair 1 2 3\n", 2, TextWhy::Order),
-        (b"topo proof 1\nmotion 1 always\n", 2, TextWhy::Number),
-        (
-            b"topo proof 1\nmotion 4294967296 along\n",
-            2,
-            TextWhy::Number,
-        ),
-        (
-            b"topo proof 1\nmotion 1 along\nmotion 1 after\n",
-            3,
-            TextWhy::Order,
-        ),
-        (
-            b"topo proof 1\nmotion 1 along\npair 2 1 3\n",
-            3,
-            TextWhy::Number,
-        ),
-        (
-            b"topo proof 1\nmotion 1 along\npair 1 2 2147483649\n",
-            3,
-            TextWhy::Number,
-        ),
-        (
-            b"topo proof 1\nmotion 1 along\npair 1 2 3 4\n",
-            3,
-            TextWhy::Long,
-        ),
-        (b"topo proof 1\nmotion 1 along\nhalf\n", 3, TextWhy::Order),
-        (
-            b"topo proof 1\nmotion 1 along\npair 1 2 3\nend\n",
-            4,
-            TextWhy::Order,
-        ),
-        (
-            b"topo proof 1\nmotion 1 along\npair 1 2 3\nhalf\ndir 1 0 0\npair 1 2 4\n",
-            6,
-            TextWhy::Order,
-        ),
-        (
-            b"topo proof 1\nmotion 1 along\npair 1 2 3\ndir 1 0 0\ndir 1 0 0\n",
-            5,
-            TextWhy::Order,
-        ),
-        (
-            b"topo proof 1\nmotion 1 along\npair 1 2 3\ndir 1 0 0\npair 1 2 3\n",
-            5,
-            TextWhy::Order,
-        ),
-        (
-            b"topo proof 1\nmotion 1 along\npair 1 3 3\ndir 1 0 0\npair 1 2 4\n",
-            5,
-            TextWhy::Order,
-        ),
-        (b"dir 1 -0 0\n", 1, TextWhy::Number),
-        (b"dir 10000000000000000000000000 0 0\n", 1, TextWhy::Number),
-        (b"dir 9999999999999999999999999 0 x\n", 1, TextWhy::Number),
-        (b"dir 2417851639229258349412353 0 0\n", 1, TextWhy::Range),
-        (b"dir 1 0\n", 1, TextWhy::Short),
-    ];
-    for (text, line, why) in faults {
+    for (text, line, why) in &FAULTS {
         let found = fault_of(&rt, rt.alloc(), text)?;
-        assert!(rt; found.0 == line);
-        assert!(rt; found.1 == why);
+        assert_same(&rt, &found, &(*line, *why));
     }
     Ok(())
 }
 
+// A tree with one half more than in the greatest depth.
+const TOO_DEEP: &[u8] = b"topo proof 1\nmotion 1 along\npair 1 2 3\nhalf\nhalf\nhalf\nhalf\n\
+half\nhalf\nhalf\nhalf\nhalf\nhalf\nhalf\n";
+
 #[test]
 fn trees_have_a_greatest_depth(rt: HostRuntime) -> Result<(), Fail> {
-    let mut text = Vec::from_slice(rt.alloc(), b"topo proof 1\nmotion 1 along\npair 1 2 3\n")?;
-    for _ in 0..11 {
-        text.extend_from_slice(b"half\n")?;
-    }
-    assert!(rt; fault_of(&rt, rt.alloc(), text.as_slice())? == (14, TextWhy::Order));
+    let found = fault_of(&rt, rt.alloc(), TOO_DEEP)?;
+    assert_same(&rt, &found, &(14, TextWhy::Order));
     Ok(())
 }
