@@ -53,12 +53,11 @@ impl<'a, F, R: Eprint + Clock> WatchedFile<'a, F, R> {
         self.read = self.read.saturating_add(more as u64);
         if self.read >= self.told.saturating_add(MEBIBYTE) || self.life.is_due() {
             self.told = self.read;
-            let read = self.read / MEBIBYTE;
-            let of = self.of / MEBIBYTE;
-            let said = if self.read > self.of {
-                format!(in self.alloc; "reading: {read} MiB")
+            let (read, of) = (self.read, self.of);
+            let said = if read > of {
+                format!(in self.alloc; "reading: {read} bytes")
             } else {
-                format!(in self.alloc; "reading: {read} of {of} MiB")
+                format!(in self.alloc; "reading: {read} of {of} bytes")
             };
             self.life.tell(said);
         }
