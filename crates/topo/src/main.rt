@@ -6,12 +6,15 @@
 
 mod answering;
 mod band;
+mod cards;
 mod explaining;
 mod help;
 mod shipped;
 
 use answering::{USAGE, answer};
 use band::shipped_band;
+use card_files::{Asked, CardDesk, MarkedSink, without_card};
+use cards::{asked_of, keep_card, other_job};
 use explaining::{Seen, explain};
 use mesh_field::{Fields, no_fields};
 use mesh_sizing::Sizing;
@@ -51,6 +54,24 @@ fn watcher(rt: &HostRuntime) -> Watcher {
     }
 }
 
+// Tells why the job did not end as done, and the status.
+fn tell_end(
+    alloc: Global,
+    rt: &impl Eprint,
+    status: u8,
+    why: Result<String, AllocError>,
+) -> ExitCode {
+    if status != 0 {
+        if let Ok(why) = why {
+            if let Ok(why) = plain(alloc, why.as_str()) {
+                let _ = eprintln!(rt; "topo: {why}");
+            }
+        }
+        let _ = eprintln!(rt; "topo: status {status}");
+    }
+    ExitCode::from(status)
+}
+
 // Tells how the program is called where that is wanted, and why the job did not end as done, and gives the status.
 fn end(
     alloc: Global,
@@ -61,16 +82,7 @@ fn end(
     if outcome == Outcome::Usage {
         let _ = eprint!(rt; "{USAGE}");
     }
-    let status = outcome.status();
-    if status != 0 {
-        if let Ok(why) = why {
-            if let Ok(why) = plain(alloc, why.as_str()) {
-                let _ = eprintln!(rt; "topo: {why}");
-            }
-        }
-        let _ = eprintln!(rt; "topo: status {status}");
-    }
-    ExitCode::from(status)
+    tell_end(alloc, rt, outcome.status(), why)
 }
 
 // Tells what may be amiss, a line each.
@@ -142,8 +154,16 @@ fn finish(
     end(alloc, rt, outcome, why)
 }
 
+// What a run is told beside its words: the names in them, and its card.
+#[derive(Clone, Copy)]
+struct Given<'w> {
+    names: Option<Names<'w>>,
+    card: Option<&'w str>,
+    asked: Asked,
+}
+
 // Answers the words with the real desk and sink, and the shipped fields and sizing.
-fn answer_words(rt: &HostRuntime, words: &[String], names: Option<Names<'_>>) -> ExitCode {
+fn answer_words(rt: &HostRuntime, words: &[String], given: Given<'_>) -> ExitCode {
     let alloc = rt.alloc();
     let fields = match shipped_names() {
         Some(names) => Fields::new(names, REACH, shipped_shift),
@@ -156,30 +176,62 @@ fn answer_words(rt: &HostRuntime, words: &[String], names: Option<Names<'_>>) ->
     }
     let watched = WatchedFiles::new(alloc, rt, &life);
     let (files, spared) = (FileDesk::new(alloc, &watched), FileDesk::new(alloc, rt));
-    let mut desk = UserDesk::new(alloc, rt, names, &life, files, spared);
+    let user = UserDesk::new(alloc, rt, given.names, &life, files, spared);
+    let mut desk = CardDesk::new(user, given.asked);
     let output = SystemOutput::new(rt);
-    let mut out = LogWatch::new(alloc, WatchedSink::new(alloc, StdSink::new(&output), &life));
+    let watch = LogWatch::new(alloc, WatchedSink::new(alloc, StdSink::new(&output), &life));
+    let mut out = MarkedSink::new(watch, given.card.is_some());
     let outcome = answer(alloc, words, &mut desk, &mut out, &fields, &sizing);
+    if let Some(refusal) = other_job(alloc, given.names, given.card, given.asked, desk.part()) {
+        life.wipe();
+        return tell_end(alloc, rt, refusal.status, refusal.why);
+    }
+    let log = out.take_mark();
+    let outcome = keep_card(alloc, given.names, given.card, outcome, &mut desk, log);
     let left = Left {
-        desk: &desk,
-        ended: &out.vertices,
+        desk: &desk.desk,
+        ended: &out.sink.vertices,
         refused: output.refused(),
     };
-    finish(rt, words, names, outcome, &life, left)
+    finish(rt, words, given.names, outcome, &life, left)
 }
 
-// Answers the words, but where standard output goes to a file of the job, which is refused as a file that can not be stored is.
-fn answer_or_refuse(rt: &HostRuntime, words: &[String]) -> ExitCode {
+// Answers the words, but where standard output goes to a file of the job, which is refused as a file that can not be stored is, or where the
+// card is none.
+fn answer_or_refuse(
+    rt: &HostRuntime,
+    words: &[String],
+    names: Option<Names<'_>>,
+    card: Option<&str>,
+) -> ExitCode {
     let alloc = rt.alloc();
-    let names = names_of(alloc, words);
     let refused = match names {
-        Some(names) => output_reason_of(alloc, rt, names),
+        Some(names) => output_reason_of(alloc, rt, names, card),
         None => Ok(None),
     };
     match refused {
-        Ok(None) => answer_words(rt, words, names),
-        Ok(Some(why)) => end(alloc, rt, Outcome::DeskFault, Ok(why)),
-        Err(_) => end(alloc, rt, Outcome::NoMemory, no_memory(alloc)),
+        Ok(None) => {}
+        Ok(Some(why)) => return end(alloc, rt, Outcome::DeskFault, Ok(why)),
+        Err(_) => return end(alloc, rt, Outcome::NoMemory, no_memory(alloc)),
+    }
+    match asked_of(alloc, rt, names, card) {
+        Ok(asked) => answer_words(rt, words, Given { names, card, asked }),
+        Err(refusal) => tell_end(alloc, rt, refusal.status, refusal.why),
+    }
+}
+
+// Answers the words without the option of the card, where they are of a form that has files, and all words else.
+fn answer_all(rt: &HostRuntime, words: &[String]) -> ExitCode {
+    let alloc = rt.alloc();
+    let Ok(given) = without_card(alloc, words) else {
+        return end(alloc, rt, Outcome::NoMemory, no_memory(alloc));
+    };
+    let names = names_of(alloc, given.words.as_slice());
+    match &given.card {
+        Some(card) if names.is_some() => {
+            answer_or_refuse(rt, given.words.as_slice(), names, Some(card.as_str()))
+        }
+        _ => answer_or_refuse(rt, words, names_of(alloc, words), None),
     }
 }
 
@@ -191,7 +243,7 @@ fn no_memory(alloc: Global) -> Result<String, AllocError> {
 fn main(rt: HostRuntime) -> ExitCode {
     let alloc = rt.alloc();
     match words(&rt) {
-        Ok(words) => answer_or_refuse(&rt, words.as_slice()),
+        Ok(words) => answer_all(&rt, words.as_slice()),
         Err(error) if error.kind() == ErrorKind::OutOfMemory => {
             end(alloc, &rt, Outcome::NoMemory, no_memory(alloc))
         }

@@ -1,5 +1,5 @@
 //! Whether standard output goes to a file that the command reads, or to one in whose place it may store another.
-use crate::names::Names;
+use crate::names::{Names, Work};
 use refusal_sentences::{output_read_reason, output_stored_reason};
 use std::alloc::{AllocError, Global};
 use std::fs;
@@ -119,16 +119,30 @@ fn stored_reason<R: Files + Alloc + Clone + Drop>(
     }
 }
 
-/// Says why a command of these names may not be run with standard output where it goes: to a file that the command reads, or to one of a
+// Says that standard output goes to the card.
+fn card_reason(alloc: Global, names: Names<'_>, card: &str) -> Result<String, AllocError> {
+    match names.work {
+        Work::Steps => output_stored_reason(alloc, card),
+        _ => output_read_reason(alloc, card),
+    }
+}
+
+/// Says why a command of these names and of this card, if it has one, may not be run with standard output where it goes: to a file that the command reads, or to one of a
 /// name that it may store, the number of a mesh being any; None where it may.
 pub fn output_reason_of<R: Files + Alloc + Clone + Drop>(
     alloc: Global,
     rt: &R,
     names: Names<'_>,
+    card: Option<&str>,
 ) -> Result<Option<String>, AllocError> {
     let Some(file) = place_of(rt, OUTPUT) else {
         return Ok(None);
     };
+    if let Some(card) = card {
+        if leads_to(rt, card, file) {
+            return Ok(Some(card_reason(alloc, names, card)?));
+        }
+    }
     if let Some(reason) = read_reason(alloc, rt, names, file)? {
         return Ok(Some(reason));
     }

@@ -1,0 +1,5 @@
+pub mod Cuts
+pub mod Lines
+pub mod Written
+pub mod WordLaws
+pub mod Ends

@@ -1,0 +1,5 @@
+pub mod Text
+pub mod Laws
+pub mod Differences
+pub mod Reading
+pub mod Marked
