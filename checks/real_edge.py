@@ -432,11 +432,11 @@ WAITED = [
     ("a long mesh that is tracked", ["track", "great.obj", "steps.txt", "open/great"], None,
      ["reading great.obj", f"testing {4 * MANY} faces of great.obj at rest", "storing open/great-000000.obj", "step 1 of 1, 3 lines of the log", "storing open/great-000001.obj"]),
     ("long steps", ["track", "mesh.obj", "long_steps.txt", "open/long"], None,
-     ["reading long_steps.txt", f"reading: {1 << 20} of {(2 << 20) + 10} bytes", f"reading: {2 << 20} of {(2 << 20) + 10} bytes", f"reading {(2 << 20) + 2} lines of long_steps.txt", "step 1 of 1,"]),
+     ["reading long_steps.txt", f"reading {(2 << 20) + 2} lines of long_steps.txt", "step 1 of 1,"]),
     ("a log that is replayed", ["replay", "mesh.obj", "long_log.txt", "open/long"], None, ["256 of 310 lines of the log are taken (82 %)"]),
     ("a log that is verified", ["verify", "mesh.obj", "long_log.txt", "long_proof.txt"], None, ["256 of 310 lines of the log are taken (82 %)"]),
     ("a job that is made", ["try", "4", "0"], None, ["a job of 4 * 4 * 4 cubes is made and run"]),
-    ("a mesh from a pipe that is slow", ["track", "/dev/stdin", "steps.txt", "open/slow"], MESH, ["reading /dev/stdin", f"reading: {len(MESH)} bytes"]),
+    ("a mesh from a pipe that is slow", ["track", "/dev/stdin", "steps.txt", "open/slow"], MESH, ["reading /dev/stdin"]),
 ]
 
 

@@ -28,8 +28,8 @@ use std::rt::Env;
 use std::{env, io};
 use track_run::Outcome;
 use user_files::{
-    EndedVertices, LifeLine, LogWatch, Names, SystemDesk, SystemOutput, UserDesk, WatchedFiles,
-    WatchedSink, Watcher, cubes_of, names_of, output_reason_of, tell_cubes, warnings,
+    EndedVertices, LifeLine, LogWatch, Names, SystemDesk, SystemOutput, UserDesk, WatchedSink,
+    Watcher, cubes_of, names_of, output_reason_of, tell_cubes, warnings,
 };
 
 // The words after the program's name.
@@ -174,8 +174,7 @@ fn answer_words(rt: &HostRuntime, words: &[String], given: Given<'_>) -> ExitCod
     if let Some(cubes) = cubes_of(alloc, words) {
         tell_cubes(alloc, &life, cubes);
     }
-    let watched = WatchedFiles::new(alloc, rt, &life);
-    let (files, spared) = (FileDesk::new(alloc, &watched), FileDesk::new(alloc, rt));
+    let (files, spared) = (FileDesk::new(alloc, rt), FileDesk::new(alloc, rt));
     let user = UserDesk::new(alloc, rt, given.names, &life, files, spared);
     let mut desk = CardDesk::new(user, given.asked);
     let output = SystemOutput::new(rt);

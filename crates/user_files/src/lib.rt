@@ -15,7 +15,6 @@ mod tellings;
 mod texts;
 mod user_desk;
 mod warning;
-mod watched_files;
 mod watched_sink;
 
 pub use exact_desk::ExactDesk;
@@ -29,5 +28,4 @@ pub use tellings::tell_cubes;
 pub use texts::Texts;
 pub use user_desk::{SystemDesk, UserDesk};
 pub use warning::warnings;
-pub use watched_files::WatchedFiles;
 pub use watched_sink::WatchedSink;

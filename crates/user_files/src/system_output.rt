@@ -1,4 +1,6 @@
 //! Standard output as the program writes it: it waits where the system would have it written later, and remembers what the system refused.
+ghost use Rattle.std.specs.Prelude.{◌≡◌};
+
 use std::cell::Cell;
 use std::io;
 use std::io::{ErrorKind, Print};
@@ -30,8 +32,10 @@ impl<'a, R: Print + Clock> SystemOutput<'a, R> {
         self.refused.get()
     }
 
-    // Keeps an error.
-    fn keep<T>(&self, answer: io::Result<T>) -> io::Result<T> {
+    // Keeps an error, and hands the answer on.
+    fn keep<T>(&self, answer: io::Result<T>) -> io::Result<T>
+        ensures { result ≡ answer }
+    {
         if let Err(error) = &answer {
             self.refused.set(Some(*error));
         }

@@ -11,7 +11,6 @@ use crate::names::{Names, Work};
 use crate::rounding::rounded;
 use crate::tellings::{LONG, ended_lines, is_long, lines_of, reading, storing, taking, working};
 use crate::texts::{Text, Texts};
-use crate::watched_files::WatchedFiles;
 use outside_io::{Desk, FetchFault, FileDesk, StoreFault};
 use refusal_sentences::{overwriting_warning, plain};
 use std::alloc::{AllocError, Global};
@@ -35,13 +34,7 @@ pub struct UserDesk<'a, 'w, R: Files, D, S> {
 }
 
 /// The desk of the program: what would be lost goes to the files of the system too.
-pub type SystemDesk<'a, 'w, R> = UserDesk<
-    'a,
-    'w,
-    R,
-    FileDesk<'a, WatchedFiles<'a, R>>,
-    FileDesk<'a, R>,
->;
+pub type SystemDesk<'a, 'w, R> = UserDesk<'a, 'w, R, FileDesk<'a, R>, FileDesk<'a, R>>;
 
 // Where a name leads to, if that is a file.
 fn path_of<R: Files>(alloc: Global, rt: &R, name: &str) -> Option<String> {
