@@ -1,4 +1,5 @@
 // The card of a run: what is read of it before, and what is stored of it behind.
+use crate::no_memory;
 use card_files::{Asked, CardDesk, card_reason, difference_reason};
 use grid_base::TEXT_MAX;
 use job_card::{Card, FileMark, Part, Version, card_text, read_card};
@@ -15,11 +16,15 @@ const VERSION: Version = Version {
     patch: 0,
 };
 
-// The status of a card that is none, or is that of another job.
+// The statuses of a file that is too long or is missing, and of a card that is none or is that of another job.
+const TOO_LONG: u8 = 5;
+
+const MISSING: u8 = 11;
+
 const OTHER_CARD: u8 = 16;
 
 /// The desk of the program, for a run that may have a card.
-pub(crate) type GuardedDesk<'a, 'w, R> = CardDesk<SystemDesk<'a, 'w, R>>;
+pub(crate) type GuardedDesk<'a, 'l, 'w, R> = CardDesk<SystemDesk<'a, 'l, 'w, R>>;
 
 /// Why a run is refused for its card, and with which status.
 #[derive(Drop)]
@@ -33,26 +38,25 @@ fn unread(
     alloc: Global,
     name: &str,
     fault: FetchFault,
-    why: Result<String, AllocError>,
+    trouble: Result<String, AllocError>,
 ) -> CardRefusal {
-    let (outcome, why) = match fault {
-        FetchFault::NoMemory => (
-            Outcome::NoMemory,
-            String::from_str(alloc, "there is not enough memory"),
-        ),
-        FetchFault::Failed => (Outcome::DeskFault, why),
-        FetchFault::TooLong { .. } => return CardRefusal {
-            status: 5,
+    match fault {
+        FetchFault::NoMemory => CardRefusal {
+            status: Outcome::NoMemory.status(),
+            why: no_memory(alloc),
+        },
+        FetchFault::Failed => CardRefusal {
+            status: Outcome::DeskFault.status(),
+            why: trouble,
+        },
+        FetchFault::TooLong { .. } => CardRefusal {
+            status: TOO_LONG,
             why: long_reason(alloc, name),
         },
-        FetchFault::Missing => return CardRefusal {
-            status: 11,
+        FetchFault::Missing => CardRefusal {
+            status: MISSING,
             why: missing_reason(alloc, name),
         },
-    };
-    CardRefusal {
-        status: outcome.status(),
-        why,
     }
 }
 
@@ -129,7 +133,7 @@ pub(crate) fn keep_card(
     names: Option<Names<'_>>,
     card: Option<&str>,
     outcome: Outcome,
-    desk: &mut GuardedDesk<'_, '_, HostRuntime>,
+    desk: &mut GuardedDesk<'_, '_, '_, HostRuntime>,
     log: Option<FileMark>,
 ) -> Outcome {
     let (Some(names), Some(name)) = (names, card) else {

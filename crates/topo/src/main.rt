@@ -97,7 +97,7 @@ fn warn(alloc: Global, rt: &impl Eprint, warnings: Result<Vec<String>, AllocErro
 }
 
 // What the system refused, at a store or at the text that was to be spared before it.
-fn trouble_of<'d>(desk: &'d SystemDesk<'_, '_, HostRuntime>) -> Option<&'d Trouble> {
+fn trouble_of<'d>(desk: &'d SystemDesk<'_, '_, '_, HostRuntime>) -> Option<&'d Trouble> {
     match desk.spared.trouble() {
         Some(trouble) => Some(trouble),
         None => desk.files.trouble(),
@@ -106,8 +106,8 @@ fn trouble_of<'d>(desk: &'d SystemDesk<'_, '_, HostRuntime>) -> Option<&'d Troub
 
 // What a run has left behind: its desk, the vertices that its log ended, and what standard output refused.
 #[derive(Clone, Copy)]
-struct Left<'l, 'd, 'w> {
-    desk: &'l SystemDesk<'d, 'w, HostRuntime>,
+struct Left<'l, 'd, 'e, 'w> {
+    desk: &'l SystemDesk<'d, 'e, 'w, HostRuntime>,
     ended: &'l EndedVertices,
     refused: Option<io::Error>,
 }
@@ -118,7 +118,7 @@ fn amiss(
     words: &[String],
     names: Option<Names<'_>>,
     outcome: Outcome,
-    desk: &SystemDesk<'_, '_, HostRuntime>,
+    desk: &SystemDesk<'_, '_, '_, HostRuntime>,
 ) -> Result<Vec<String>, AllocError> {
     let alloc = rt.alloc();
     if outcome != Outcome::Done {
@@ -138,7 +138,7 @@ fn finish(
     names: Option<Names<'_>>,
     outcome: Outcome,
     life: &LifeLine<'_, HostRuntime>,
-    left: Left<'_, '_, '_>,
+    left: Left<'_, '_, '_, '_>,
 ) -> ExitCode {
     let alloc = rt.alloc();
     let said = amiss(rt, words, names, outcome, left.desk);
@@ -235,7 +235,7 @@ fn answer_all(rt: &HostRuntime, words: &[String]) -> ExitCode {
 }
 
 // Says that there is no memory.
-fn no_memory(alloc: Global) -> Result<String, AllocError> {
+pub(crate) fn no_memory(alloc: Global) -> Result<String, AllocError> {
     String::from_str(alloc, "there is not enough memory")
 }
 

@@ -22,11 +22,11 @@ use std::rt::{Clock, Files};
 /// that was read, the text is kept on the second desk under another name, unless what is stored is the same, byte for byte; and once it is
 /// stored that is told on standard error. Where the store fails the text has its place still, and what was kept is taken away again.
 #[derive(Drop)]
-pub struct UserDesk<'a, 'w, R: Files, D, S> {
+pub struct UserDesk<'a, 'l, 'w, R: Files, D, S> {
     alloc: Global,
     rt: &'a R,
     names: Option<Names<'w>>,
-    life: &'a LifeLine<'a, R>,
+    life: &'l LifeLine<'a, R>,
     pub files: D,
     pub spared: S,
     pub texts: Texts,
@@ -34,7 +34,7 @@ pub struct UserDesk<'a, 'w, R: Files, D, S> {
 }
 
 /// The desk of the program: what would be lost goes to the files of the system too.
-pub type SystemDesk<'a, 'w, R> = UserDesk<'a, 'w, R, FileDesk<'a, R>, FileDesk<'a, R>>;
+pub type SystemDesk<'a, 'l, 'w, R> = UserDesk<'a, 'l, 'w, R, FileDesk<'a, R>, FileDesk<'a, R>>;
 
 // Where a name leads to, if that is a file.
 fn path_of<R: Files>(alloc: Global, rt: &R, name: &str) -> Option<String> {
@@ -124,14 +124,21 @@ fn plan_for<R: Files>(
     })
 }
 
-impl<'a, 'w, R: Files + Eprint + Clock, D: ExactDesk, S: ExactDesk> UserDesk<'a, 'w, R, D, S> {
+impl<'a, 'l, 'w, R: Files + Eprint + Clock, D: ExactDesk, S: ExactDesk> UserDesk<
+    'a,
+    'l,
+    'w,
+    R,
+    D,
+    S,
+> {
     /// These files, and this desk for what would be lost, for a command of these names. What may take long is told on the line of the run,
     /// which is wiped before anything else is told.
     pub fn new(
         alloc: Global,
         rt: &'a R,
         names: Option<Names<'w>>,
-        life: &'a LifeLine<'a, R>,
+        life: &'l LifeLine<'a, R>,
         files: D,
         spared: S,
     ) -> Self
@@ -257,8 +264,8 @@ impl<'a, 'w, R: Files + Eprint + Clock, D: ExactDesk, S: ExactDesk> UserDesk<'a,
     }
 }
 
-impl<'a, 'w, R: Files + Eprint + Clock, D: ExactDesk, S: ExactDesk> Desk
-    for UserDesk<'a, 'w, R, D, S> {
+impl<'a, 'l, 'w, R: Files + Eprint + Clock, D: ExactDesk, S: ExactDesk> Desk
+    for UserDesk<'a, 'l, 'w, R, D, S> {
     ghost files = { λ desk. D.files desk.files };
 
     ghost faults = { λ desk. faults_of_both (D.faults desk.files) (S.faults desk.spared) };

@@ -17,10 +17,10 @@ const TAKEN: u32 = 256;
 /// Passes all on to another sink, and tells on the line of the run how far that has come. What is passed on is the same whether anybody
 /// watches or not.
 #[derive(Drop)]
-pub struct WatchedSink<'a, K, R> {
+pub struct WatchedSink<'l, 'a, K, R> {
     alloc: Global,
     pub sink: K,
-    life: &'a LifeLine<'a, R>,
+    life: &'l LifeLine<'a, R>,
     tally: TallySink,
     // how many of each were told last
     steps: u64,
@@ -48,9 +48,9 @@ fn taken_so_far(alloc: Global, taken: u64, of: u64) -> Result<String, AllocError
     format!(in alloc; "{taken} of {of} lines of the log are taken ({percent} %)")
 }
 
-impl<'a, K: Sink, R: Eprint + Clock> WatchedSink<'a, K, R> {
+impl<'l, 'a, K: Sink, R: Eprint + Clock> WatchedSink<'l, 'a, K, R> {
     /// A sink that passes all on to this one, and has told nothing.
-    pub fn new(alloc: Global, sink: K, life: &'a LifeLine<'a, R>) -> Self
+    pub fn new(alloc: Global, sink: K, life: &'l LifeLine<'a, R>) -> Self
         ensures { result.sink ≡ sink }
     {
         WatchedSink {
@@ -92,7 +92,7 @@ impl<'a, K: Sink, R: Eprint + Clock> WatchedSink<'a, K, R> {
     }
 }
 
-impl<'a, K: Sink, R: Eprint + Clock> Sink for WatchedSink<'a, K, R> {
+impl<'l, 'a, K: Sink, R: Eprint + Clock> Sink for WatchedSink<'l, 'a, K, R> {
     ghost written = { λ s. K.written s.sink };
 
     ghost faults = { λ s. K.faults s.sink };
