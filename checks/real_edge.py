@@ -9,6 +9,7 @@ standard error: some must be there, and some must not.
 
 import contextlib
 import fcntl
+import hashlib
 import os
 import pty
 import resource
@@ -121,6 +122,16 @@ MOVED = "v 1 2 3\nv 5 2 3\nv 1 6 3\nv 1 2 7\n" + MESH[MESH.index("f") :]
 OFF = "OFF\n4 4 0\n" + "".join(f"{' '.join(line.split()[1:])}\n" for line in MESH.splitlines() if line[0] == "v") + "3 0 2 1\n3 0 1 3\n3 1 2 3\n3 0 3 2\n"
 CRLF = lambda text: text.replace("\n", "\r\n")
 FILES = ["track", "m", "s", "t"]
+
+
+def card_of(mesh=MESH, steps=STEPS, log=LOG, decimals=0, program="0.1.0"):
+    """The text of a card, made without the program."""
+    marks = "".join(f"{name} {len(text)} {hashlib.sha256(text.encode()).hexdigest()}\n" for name, text in (("mesh", mesh), ("steps", steps), ("log", log)))
+    return f"topo card 1\nprogram {program}\ndecimals {decimals}\n{marks}end\n"
+
+
+CARD = card_of()
+CARDED = {"m": MESH, "l": LOG, "c": CARD}
 NUMBERS = ["try", "1", "0"]
 # the sentences: what is asked, its words, what standard input has (through a pipe), its status, what has to be told on standard error,
 # what may not be, the files that are there before it and the files that have to hold a text behind it
@@ -294,6 +305,43 @@ LINKS = [
     ("a byte NUL in the steps", ["track", "m", "s", "t"], None, 9, ["s, line 1"], ["\0"], {"m": MESH, "s": STEPS.replace("3", "3\0")}, {"t-000000.obj": None}),
     ("a byte NUL in a log", ["measure", "m", "l"], None, 12, ["l, line 2"], ["\0"], {"m": MESH, "l": LOG.replace("4 4", "4 4\0", 1)}, {}),
     ("a byte NUL in a proof", ["verify", "m", "l", "p"], None, 14, ["p, line 1"], ["\0"], {"m": MESH, "l": LOG, "p": PROVED.replace("1", "1\0", 1)}, {}),
+    ("a card that is made", [*FILES, "--card", "c"], None, 0, [], ["warning"], {"m": MESH, "s": STEPS}, {"c": CARD, "t-000001.obj": MOVED}),
+    ("a card that is made of decimals", ["track", "--card=c", "--decimals=2", "m", "s", "t"], None, 0, [], ["warning"], {"m": MESH, "s": STEPS},
+     {"c": card_of(log=LOG, decimals=2)}),
+    ("a card of a run that is refused", [*FILES, "--card", "c"], None, 10, ["there is no vertex 5 here"], [], {"m": MESH, "s": "shift 5 1 0 0\n"},
+     {"c": card_of(steps="shift 5 1 0 0\n", log="topo log 2\nmesh 0 4 4\nrefused use 1 vertex 5\n")}),
+    ("no card where the steps are missing", [*FILES, "--card", "c"], None, 11, ["there is no file s"], [], {"m": MESH}, {"c": None}),
+    ("a card in place of the mesh file", [*FILES, "--card", "m"], None, 0, ["m was read and is overwritten: as it was, it is kept as m.before"], [],
+     {"m": MESH, "s": STEPS}, {"m": CARD, "m.before": MESH}),
+    ("a card that can not be stored", [*FILES, "--card", "d"], None, 3, ["d could not be stored"], [], {"m": MESH, "s": STEPS, "d/": None}, {"t-000001.obj": MOVED}),
+    ("a log that is sent to its card", [*FILES, "--card", "c", ">", "c"], None, 3, ["standard output goes to c"], [], {"m": MESH, "s": STEPS}, {"t-000000.obj": None}),
+    ("a log with its card", ["replay", "m", "l", "r", "--card", "c"], None, 0, [], ["warning"], CARDED, {"r-000001.obj": MOVED}),
+    ("a card of another version of the program", ["measure", "--card", "c", "m", "l"], None, 0, [], ["warning"], {**CARDED, "c": card_of(program="7.0.12")}, {}),
+    ("another mesh that is replayed", ["replay", "m", "l", "r", "--card", "c"], None, 16, ["the card c is that of another mesh than m"], [],
+     {**CARDED, "m": MOVED}, {"r-000000.obj": None}),
+    ("another mesh that is verified", ["verify", "m", "l", "p", "--card", "c"], None, 16, ["another mesh than m"], [], {**CARDED, "m": MOVED, "p": PROVED}, {}),
+    ("the mesh with another comment", ["prove", "m", "l", "--card", "c"], None, 16, ["another mesh than m"], [], {**CARDED, "m": COMMENTED}, {}),
+    ("other decimals that are measured", ["measure", "m", "l", "--decimals", "2", "--card", "c"], None, 16, ["other decimals: call it with `--decimals 0`"], [],
+     CARDED, {}),
+    ("a log that was cut", ["measure", "m", "l", "--card", "c"], None, 16, ["the card c is that of another log than l"], ["warning"], {**CARDED, "l": LOG[:-4]}, {}),
+    ("an empty log with a card", ["measure", "m", "l", "--card", "c"], None, 16, ["another log than l"], [], {**CARDED, "l": ""}, {}),
+    ("a card that was cut", ["measure", "m", "l", "--card", "c"], None, 16, ["c, line 5: a card has `steps`"], [], {**CARDED, "c": CARD[: CARD.index("log ") - 9]}, {}),
+    ("a card without its last line feed", ["measure", "m", "l", "--card", "c"], None, 16, ["c, line 7: a card has `end`"], [], {**CARDED, "c": CARD[:-1]}, {}),
+    ("a card with a line too much", ["measure", "m", "l", "--card", "c"], None, 16, ["c, line 8: a card has nothing there"], [], {**CARDED, "c": CARD + "\n"}, {}),
+    ("a card in another format", ["measure", "m", "l", "--card", "c"], None, 16, ["c, line 1: a card has `topo card 1` there"], [],
+     {**CARDED, "c": CARD.replace("card 1", "card 2")}, {}),
+    ("a card whose lines end with CRLF", ["measure", "m", "l", "--card", "c"], None, 16, ["c, line 1: a card has `topo card 1` there"], [], {**CARDED, "c": CRLF(CARD)}, {}),
+    ("a card with great hex digits", ["measure", "m", "l", "--card", "c"], None, 16, ["c, line 4: a card has `mesh`"], [],
+     {**CARDED, "c": CARD.replace(CARD.split()[10], CARD.split()[10].upper())}, {}),
+    ("a card with a needless zero", ["measure", "m", "l", "--card", "c"], None, 16, ["c, line 4: a card has `mesh`"], [], {**CARDED, "c": CARD.replace("mesh ", "mesh 0")}, {}),
+    ("a card of seven decimals", ["measure", "m", "l", "--card", "c"], None, 16, ["c, line 3: a card has `decimals`"], [], {**CARDED, "c": card_of(decimals=7)}, {}),
+    ("a log in place of its card", ["measure", "m", "l", "--card", "l"], None, 16, ["l, line 1: a card has `topo card 1` there"], [], CARDED, {}),
+    ("a card that is missing", ["replay", "m", "l", "r", "--card", "c"], None, 11, ["there is no file c"], [], {"m": MESH, "l": LOG}, {"r-000000.obj": None}),
+    ("a folder in place of the card", ["measure", "m", "l", "--card", "d"], None, 3, ["d could not be"], [], {"m": MESH, "l": LOG, "d/": None}, {}),
+    ("a card without a name", ["measure", "m", "l", "--card"], None, 2, ['"--card"'], [], CARDED, {}),
+    ("two cards", ["measure", "m", "l", "--card", "c", "--card", "c"], None, 2, ['"--card"'], [], CARDED, {}),
+    ("a card behind dashes", ["measure", "--", "m", "l", "--card", "c"], None, 2, ['"--card" stands behind `--`'], [], CARDED, {}),
+    ("a card of a command that has none", ["check", "m.obj", "--card", "c"], None, 2, ['"--card"'], [], {"m.obj": MESH, "c": CARD}, {}),
     ("a pipe that nobody writes, in place of a mesh to be stored", ["convert", "m.obj", "p.off"], None, 3, ["p.off could not be stored", "it is a pipe"], [],
      {"m.obj": MESH, "p.off": ("pipe",)}, {"p.off": ("pipe",)}),
 ]

@@ -4,13 +4,13 @@ use Rattle.std.specs.Prelude.{ℕ, List, [], ◌++◌, codes}
 -- how the program is called
 unfoldable pub usage : List ℕ
 usage =
-    codes "usage: topo track MESH STEPS PREFIX [--decimals N]\n"
+    codes "usage: topo track MESH STEPS PREFIX [--decimals N] [--card FILE]\n"
     ++ codes "       topo convert FROM TO [--decimals N]\n"
     ++ codes "       topo check MESH [--decimals N]\n"
-    ++ codes "       topo measure MESH LOG [--decimals N]\n"
-    ++ codes "       topo prove MESH LOG [--decimals N]\n"
-    ++ codes "       topo verify MESH LOG PROOF [--decimals N]\n"
-    ++ codes "       topo replay MESH LOG PREFIX [--decimals N] [--only K]\n"
+    ++ codes "       topo measure MESH LOG [--decimals N] [--card FILE]\n"
+    ++ codes "       topo prove MESH LOG [--decimals N] [--card FILE]\n"
+    ++ codes "       topo verify MESH LOG PROOF [--decimals N] [--card FILE]\n"
+    ++ codes "       topo replay MESH LOG PREFIX [--decimals N] [--only K] [--card FILE]\n"
     ++ codes "       topo try N KEY\n"
     ++ codes "       topo track --help | convert --help | check --help | measure --help | prove --help | verify --help |\n"
     ++ codes "            replay --help | try --help\n"
@@ -29,6 +29,8 @@ usage =
     ++ codes "\n"
     ++ codes "--decimals N    a unit of the grid is 10 to the power -N (N from 0 to 6; 0 if left out)\n"
     ++ codes "--only K        of the meshes of the log, mesh K alone is stored (K from 0 to 4294967295)\n"
+    ++ codes "--card FILE     `track` stores in FILE of which mesh, steps and decimals its log is, and the others take the log\n"
+    ++ codes "                with no other mesh and decimals\n"
     ++ codes "\n"
     ++ codes "Exit status:\n"
     ++ codes "   0  done\n"
@@ -47,6 +49,7 @@ usage =
     ++ codes "  13  a line of the log does not fit the lines before it\n"
     ++ codes "  14  a line of the proof is outside its grammar\n"
     ++ codes "  15  a motion of the log is not proved\n"
+    ++ codes "  16  the card is none, or is that of another job\n"
 
 -- the line of the version
 unfoldable pub version_line : List ℕ

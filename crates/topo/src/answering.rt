@@ -20,13 +20,13 @@ use track_run::{Outcome, run};
 
 /// How the program is called.
 pub(crate) const USAGE: &str = "\
-usage: topo track MESH STEPS PREFIX [--decimals N]
+usage: topo track MESH STEPS PREFIX [--decimals N] [--card FILE]
        topo convert FROM TO [--decimals N]
        topo check MESH [--decimals N]
-       topo measure MESH LOG [--decimals N]
-       topo prove MESH LOG [--decimals N]
-       topo verify MESH LOG PROOF [--decimals N]
-       topo replay MESH LOG PREFIX [--decimals N] [--only K]
+       topo measure MESH LOG [--decimals N] [--card FILE]
+       topo prove MESH LOG [--decimals N] [--card FILE]
+       topo verify MESH LOG PROOF [--decimals N] [--card FILE]
+       topo replay MESH LOG PREFIX [--decimals N] [--only K] [--card FILE]
        topo try N KEY
        topo track --help | convert --help | check --help | measure --help | prove --help | verify --help |
             replay --help | try --help
@@ -45,6 +45,8 @@ stores no file.
 
 --decimals N    a unit of the grid is 10 to the power -N (N from 0 to 6; 0 if left out)
 --only K        of the meshes of the log, mesh K alone is stored (K from 0 to 4294967295)
+--card FILE     `track` stores in FILE of which mesh, steps and decimals its log is, and the others take the log
+                with no other mesh and decimals
 
 Exit status:
    0  done
@@ -63,6 +65,7 @@ Exit status:
   13  a line of the log does not fit the lines before it
   14  a line of the proof is outside its grammar
   15  a motion of the log is not proved
+  16  the card is none, or is that of another job
 ";
 
 /// The line of the version.

@@ -110,6 +110,8 @@ all that is wrong at most the first million lines:
 
 docs/FORMATS.md has all texts. `topo --help` lists the exit statuses.";
 
+const HELD: &str = "The card of the log: nothing is done with another mesh, log or decimals";
+
 // A word that has to be given.
 fn word<'a>(alloc: Global, name: &'a str, help: &'a str) -> Arg<'a> {
     Arg::new(alloc, name)
@@ -127,6 +129,14 @@ fn decimals<'a>(alloc: Global) -> Arg<'a> {
         .value_parser(DIGITS.as_slice())
 }
 
+fn card<'a>(alloc: Global, help: &'a str) -> Arg<'a> {
+    Arg::new(alloc, "card")
+        .long("card")
+        .value_name("FILE")
+        .help(help)
+        .action(ArgAction::Set)
+}
+
 fn track<'a>(alloc: Global) -> Result<Command<'a>, AllocError> {
     Command::new(alloc, "track")
         .about("Moves and edits a closed triangle mesh, and keeps it free of self-intersections")
@@ -138,7 +148,11 @@ fn track<'a>(alloc: Global) -> Result<Command<'a>, AllocError> {
             "PREFIX",
             "Meshes are stored as PREFIX-000000.obj and so on",
         ))?
-        .arg(decimals(alloc))
+        .arg(decimals(alloc))?
+        .arg(card(
+            alloc,
+            "Of which mesh, steps and decimals the log is, is stored in it",
+        ))
 }
 
 fn convert<'a>(alloc: Global) -> Result<Command<'a>, AllocError> {
@@ -170,19 +184,24 @@ fn of_log<'a>(
 
 fn measure<'a>(alloc: Global) -> Result<Command<'a>, AllocError> {
     let about = "Tells what a log did to volume and shape";
-    of_log(alloc, "measure", about, MEASURES)?.arg(decimals(alloc))
+    of_log(alloc, "measure", about, MEASURES)?
+        .arg(decimals(alloc))?
+        .arg(card(alloc, HELD))
 }
 
 fn prove<'a>(alloc: Global) -> Result<Command<'a>, AllocError> {
     let about = "Writes a proof that nothing meets in the motions of a log";
-    of_log(alloc, "prove", about, PROVES)?.arg(decimals(alloc))
+    of_log(alloc, "prove", about, PROVES)?
+        .arg(decimals(alloc))?
+        .arg(card(alloc, HELD))
 }
 
 fn verify<'a>(alloc: Global) -> Result<Command<'a>, AllocError> {
     let about = "Checks a proof that nothing meets in the motions of a log";
     of_log(alloc, "verify", about, VERIFIES)?
         .arg(word(alloc, "PROOF", "The file of the proof"))?
-        .arg(decimals(alloc))
+        .arg(decimals(alloc))?
+        .arg(card(alloc, HELD))
 }
 
 fn replay<'a>(alloc: Global) -> Result<Command<'a>, AllocError> {
@@ -200,7 +219,8 @@ fn replay<'a>(alloc: Global) -> Result<Command<'a>, AllocError> {
                 .value_name("K")
                 .help("Of the meshes of the log, store mesh K alone")
                 .action(ArgAction::Set),
-        )
+        )?
+        .arg(card(alloc, HELD))
 }
 
 fn check<'a>(alloc: Global) -> Result<Command<'a>, AllocError> {

@@ -127,8 +127,8 @@ fn card_reason(alloc: Global, names: Names<'_>, card: &str) -> Result<String, Al
     }
 }
 
-/// Says why a command of these names and of this card, if it has one, may not be run with standard output where it goes: to a file that the command reads, or to one of a
-/// name that it may store, the number of a mesh being any; None where it may.
+/// Says why a command of these names and of this card, if it has one, may not be run with standard output where it goes: to a file that the
+/// command reads, or to one of a name that it may store, the number of a mesh being any; None where it may.
 pub fn output_reason_of<R: Files + Alloc + Clone + Drop>(
     alloc: Global,
     rt: &R,
