@@ -126,6 +126,47 @@ fn is_whole(outcome: Outcome) -> bool {
     }
 }
 
+// The card of a run, where both its files were read and its log is whole.
+fn made_of(
+    names: Names<'_>,
+    outcome: Outcome,
+    marks: Option<(FileMark, FileMark)>,
+    log: Option<FileMark>,
+) -> Option<Card> {
+    let ((mesh, steps), log) = (marks?, log?);
+    if names.work != Work::Steps || !is_whole(outcome) {
+        return None;
+    }
+    Some(Card {
+        program: VERSION,
+        decimals: names.decimals,
+        mesh,
+        steps,
+        log,
+    })
+}
+
+// Stores a card, and gives the outcome of the run: the one that it had, or why the card was not stored.
+fn store_card(
+    alloc: Global,
+    name: &str,
+    card: &Card,
+    outcome: Outcome,
+    desk: &mut GuardedDesk<'_, '_, '_, HostRuntime>,
+) -> Outcome {
+    let Ok(text) = card_text(alloc, card) else {
+        return Outcome::NoMemory;
+    };
+    let stored = desk.desk.stored.take();
+    let result = desk.desk.store(name, text.as_slice());
+    desk.desk.stored = stored;
+    match result {
+        Ok(()) => outcome,
+        Err(StoreFault::NoMemory) => Outcome::NoMemory,
+        Err(StoreFault::Failed) => Outcome::DeskFault,
+    }
+}
+
 /// Stores the card of a run, where both its files were read and its log is whole, and gives the outcome: that of the run, or why the card
 /// was not stored.
 pub(crate) fn keep_card(
@@ -139,28 +180,8 @@ pub(crate) fn keep_card(
     let (Some(names), Some(name)) = (names, card) else {
         return outcome;
     };
-    let (Some((mesh, steps)), Some(log)) = (desk.marks(), log) else {
-        return outcome;
-    };
-    if names.work != Work::Steps || !is_whole(outcome) {
-        return outcome;
-    }
-    let card = Card {
-        program: VERSION,
-        decimals: names.decimals,
-        mesh,
-        steps,
-        log,
-    };
-    let Ok(text) = card_text(alloc, &card) else {
-        return Outcome::NoMemory;
-    };
-    let stored = desk.desk.stored.take();
-    let result = desk.desk.store(name, text.as_slice());
-    desk.desk.stored = stored;
-    match result {
-        Ok(()) => outcome,
-        Err(StoreFault::NoMemory) => Outcome::NoMemory,
-        Err(StoreFault::Failed) => Outcome::DeskFault,
+    match made_of(names, outcome, desk.marks(), log) {
+        Some(card) => store_card(alloc, name, &card, outcome, desk),
+        None => outcome,
     }
 }

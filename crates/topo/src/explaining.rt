@@ -193,14 +193,14 @@ pub(crate) fn explain(
     words: &[String],
     names: Option<Names<'_>>,
     outcome: Outcome,
-    seen: Seen<'_>,
+    seen: &Seen<'_>,
 ) -> Result<String, AllocError> {
     let Seen {
         texts,
         ended,
         trouble,
         refused,
-    } = seen;
+    } = *seen;
     let names = names.unwrap_or(Names {
         mesh: "the mesh",
         other: "the other file",

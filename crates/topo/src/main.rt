@@ -148,7 +148,7 @@ fn finish(
         trouble: trouble_of(left.desk),
         refused: left.refused,
     };
-    let why = explain(alloc, words, names, outcome, seen);
+    let why = explain(alloc, words, names, outcome, &seen);
     life.wipe();
     warn(alloc, rt, said);
     end(alloc, rt, outcome, why)
