@@ -119,7 +119,7 @@ pub(crate) fn other_job(
 }
 
 // Whether the log of a run that ended so is whole.
-fn is_whole(outcome: Outcome) -> bool {
+fn is_whole(outcome: &Outcome) -> bool {
     match outcome {
         Outcome::NoMemory | Outcome::Usage | Outcome::DeskFault | Outcome::SinkFault => false,
         _ => true,
@@ -129,7 +129,7 @@ fn is_whole(outcome: Outcome) -> bool {
 // The card of a run, where both its files were read and its log is whole.
 fn made_of(
     names: Names<'_>,
-    outcome: Outcome,
+    outcome: &Outcome,
     marks: Option<(FileMark, FileMark)>,
     log: Option<FileMark>,
 ) -> Option<Card> {
@@ -180,7 +180,7 @@ pub(crate) fn keep_card(
     let (Some(names), Some(name)) = (names, card) else {
         return outcome;
     };
-    match made_of(names, outcome, desk.marks(), log) {
+    match made_of(names, &outcome, desk.marks(), log) {
         Some(card) => store_card(alloc, name, &card, outcome, desk),
         None => outcome,
     }

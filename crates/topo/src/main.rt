@@ -117,11 +117,11 @@ fn amiss(
     rt: &HostRuntime,
     words: &[String],
     names: Option<Names<'_>>,
-    outcome: Outcome,
+    outcome: &Outcome,
     desk: &SystemDesk<'_, '_, '_, HostRuntime>,
 ) -> Result<Vec<String>, AllocError> {
     let alloc = rt.alloc();
-    if outcome != Outcome::Done {
+    if *outcome != Outcome::Done {
         return Ok(Vec::new(alloc));
     }
     let stored = match &desk.stored {
@@ -141,7 +141,7 @@ fn finish(
     left: Left<'_, '_, '_, '_>,
 ) -> ExitCode {
     let alloc = rt.alloc();
-    let said = amiss(rt, words, names, outcome, left.desk);
+    let said = amiss(rt, words, names, &outcome, left.desk);
     let seen = Seen {
         texts: &left.desk.texts,
         ended: left.ended,
