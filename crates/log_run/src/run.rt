@@ -37,9 +37,10 @@ impl Model for LogRun {
     ghost use Rattle.log_run.specs.Coded.{state_code};
     ghost use Rattle.grid_base.specs.contracts.Point as point;
     ghost use Rattle.mesh_base.specs.contracts.ids.Corners as corners;
+    ghost use Rattle.mesh_base.specs.contracts.limits.Limits as allowed;
     ghost use Rattle.mesh_base.specs.contracts.steps.ShiftOf as shift;
 
-    ghost coded = { state_code point.the_row.coded corners.the_row.coded shift.the_row.coded };
+    ghost coded = { state_code point.the_row.coded corners.the_row.coded allowed.the_row.coded shift.the_row.coded };
 
     ghost use Rattle.mesh_journal.specs.Journal.{mesh_in, kept_in};
     ghost use Rattle.log_run.specs.Parts.{state_of, HoldsUnless};
