@@ -206,7 +206,7 @@ def main():
     checks = []
     helped = subprocess.run([TOPO, "--help"], stdout=subprocess.PIPE, check=True, timeout=60).stdout.decode()
     told = re.findall(r"(?m)^ +(\d+)  (.+)$", helped)
-    checks.append(("--help tells the statuses 0 to 15", [int(number) for number, _ in told] == list(range(16))))
+    checks.append(("--help tells the statuses 0 to 16", [int(number) for number, _ in told] == list(range(17))))
     checks.append(("docs/FORMATS.md has the statuses of --help", statuses_in(formats) == told))
     forms = re.findall(r"(?m)^(?:usage:|      ) topo (\w+ [A-Z].*)$", helped)
     lacking = [form for form in forms if f"./topo {form}" not in readme]

@@ -1,5 +1,5 @@
 -- How far faces that go with a frame reach where they begin, and what that leaves out of the faces of an edge.
-use Rattle.std.specs.Prelude.{◌≡◌, ℕ, ℤ, ◌≤ℤ◌, ◌<ℤ◌, ◌⊎◌, Bool, true, false, List, Some, slice_get}
+use Rattle.std.specs.Prelude.{◌≡◌, ℕ, ◌≤ℤ◌, ◌<ℤ◌, ◌⊎◌, Bool, true, false, List, Some, slice_get}
 use Rattle.std.proofs.Common.{Option, None}
 use Rattle.std.specs.List.Sorted.{IsStrictlySortedBy}
 use Rattle.std.specs.Ordering.{nat_cmp}
@@ -8,7 +8,6 @@ use Rattle.grid_base.specs.Extents.{IsIn}
 use Rattle.grid_base.specs.Meeting.{MeetAt}
 use Rattle.grid_base.specs.Separation.{MoveTogether}
 use Rattle.grid_base.specs.Triples.{Triple, minus, dot}
-use Rattle.box_tree.specs.declared.Labels.{Labels}
 use Rattle.box_tree.specs.Labels.{has_label}
 use Rattle.pair_paths.specs.declared.Frame.{Frame}
 use Rattle.pair_paths.specs.declared.Path.{Path}
@@ -100,6 +99,7 @@ abbrev pub HasPlaceIf : Option SlabTree → ℕ → Type 0
 HasPlaceIf None i = ⊥
 HasPlaceIf (Some t) i = HasPlace t i
 
+-- the tree is sound, where there is one
 abbrev pub IsSoundIf : Across → List MovingFace → Option SlabTree → Type 0
 IsSoundIf across faces None = Unit {0}
 IsSoundIf across faces (Some t) = IsSound across faces t
