@@ -332,7 +332,7 @@ LINKS = [
      {**CARDED, "c": CARD.replace("card 1", "card 2")}, {}),
     ("a card whose lines end with CRLF", ["measure", "m", "l", "--card", "c"], None, 16, ["c, line 1: a card has `topo card 1` there"], [], {**CARDED, "c": CRLF(CARD)}, {}),
     ("a card with great hex digits", ["measure", "m", "l", "--card", "c"], None, 16, ["c, line 4: a card has `mesh`"], [],
-     {**CARDED, "c": CARD.replace(CARD.split()[10], CARD.split()[10].upper())}, {}),
+     {**CARDED, "c": CARD.replace(CARD.split()[9], CARD.split()[9].upper())}, {}),
     ("a card with a needless zero", ["measure", "m", "l", "--card", "c"], None, 16, ["c, line 4: a card has `mesh`"], [], {**CARDED, "c": CARD.replace("mesh ", "mesh 0")}, {}),
     ("a card of seven decimals", ["measure", "m", "l", "--card", "c"], None, 16, ["c, line 3: a card has `decimals`"], [], {**CARDED, "c": card_of(decimals=7)}, {}),
     ("a log in place of its card", ["measure", "m", "l", "--card", "l"], None, 16, ["l, line 1: a card has `topo card 1` there"], [], CARDED, {}),

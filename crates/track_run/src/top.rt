@@ -29,10 +29,10 @@ use track_check::check;
 use track_convert::convert;
 use track_engine::{Engine, RunTerms, Target, finish};
 use track_input::{Command, Ready, command_of, prepare};
-use track_measure::measure;
-use track_replay::replay;
-use track_prove::{prove, verify};
 use track_log::LogRefusal;
+use track_measure::measure;
+use track_prove::{prove, verify};
+use track_replay::replay;
 use track_try::try_cubes;
 
 // The outcome that the last line of a whole log tells.
