@@ -8,4 +8,6 @@ mod meshes;
 #[cfg(test)]
 mod replays;
 #[cfg(test)]
+mod same;
+#[cfg(test)]
 mod sizings;

@@ -5,12 +5,12 @@ ghost use Rattle.log_run.specs.Fits.{MayBeTried};
 ghost use Rattle.log_tests.specs.Closed.{AreClosed};
 
 use crate::meshes::{APART, BOXES, FLAT, JOINED, LONG, PARTED, TETRAHEDRON, lists_of};
-use grid_base::{NoMemory, Shift};
+use crate::same::assert_same;
+use grid_base::NoMemory;
 use line_text::ReadFault;
 use log_read::read_log;
 use log_run::LogRun;
 use log_text::{Log, LogLine};
-use mesh_base::{ShiftOf, VertexId};
 use mesh_journal::JournalMesh;
 use mesh_plain::shape;
 use obj_text::obj_of;
@@ -101,13 +101,33 @@ fn has_text(alloc: Global, run: &LogRun, text: &[u8]) -> Result<bool, NoMemory> 
     Ok(found.as_slice() == text)
 }
 
+// Whether each line of a log fits, and the mesh has this text at its end.
+fn leads(
+    alloc: Global,
+    run: &mut LogRun,
+    log: &[u8],
+    end: &[u8],
+    rt: &impl Abort,
+) -> Result<bool, Fail>
+    requires unspent { run.old.is_spent ≡ false }
+    requires closed { AreClosed run.old }
+{
+    let misfit = misfit_in(alloc, run, log, rt)?;
+    let same = has_text(alloc, run, end)?;
+    Ok(misfit == 0 && same)
+}
+
 // That each line of a log fits, and what it makes of a mesh.
-fn leads(rt: &impl Abort, alloc: Global, mesh: &[u8], log: &[u8], end: &[u8]) -> Result<(), Fail> {
+fn assert_leads(
+    rt: &impl Abort,
+    alloc: Global,
+    mesh: &[u8],
+    log: &[u8],
+    end: &[u8],
+) -> Result<(), Fail> {
     let mut run = begun(alloc, mesh, rt)?;
-    let misfit = misfit_in(alloc, &mut run, log, rt)?;
-    assert!(rt; misfit == 0);
-    let same = has_text(alloc, &run, end)?;
-    assert!(rt; same);
+    let is_so = leads(alloc, &mut run, log, end, rt)?;
+    assert!(rt; is_so);
     Ok(())
 }
 
@@ -170,19 +190,21 @@ const ALL_SPLIT: &[u8] =
 f 6 3 5\nf 1 7 6\nf 7 4 6\nf 4 7 5\nf 7 1 5\nf 3 8 5\nf 8 2 5\nf 2 9 5\nf 9 4 5\nf 4 9 8\nf 9 2 8\n\
 f 3 10 8\nf 10 4 8\nf 4 10 6\nf 10 3 6\n";
 
+// A mesh, a log, and the mesh at the end of it.
+const LOGS: [(&[u8], &[u8], &[u8]); 7] = [
+    (TETRAHEDRON, MOVE, MOVED),
+    (FLAT, FLIP, FLIPPED),
+    (JOINED, PART, PARTED),
+    (BOXES, ZIP, ZIPPED),
+    (TETRAHEDRON, COLLAPSE, b""),
+    (APART, GROUPS, BESIDE),
+    (TETRAHEDRON, SPLITS, ALL_SPLIT),
+];
+
 #[test]
 fn logs_that_were_written_fit(rt: HostRuntime) -> Result<(), Fail> {
-    let table: [(&[u8], &[u8], &[u8]); 7] = [
-        (TETRAHEDRON, MOVE, MOVED),
-        (FLAT, FLIP, FLIPPED),
-        (JOINED, PART, PARTED),
-        (BOXES, ZIP, ZIPPED),
-        (TETRAHEDRON, COLLAPSE, b""),
-        (APART, GROUPS, BESIDE),
-        (TETRAHEDRON, SPLITS, ALL_SPLIT),
-    ];
-    for (mesh, log, end) in table {
-        leads(&rt, rt.alloc(), mesh, log, end)?;
+    for (mesh, log, end) in &LOGS {
+        assert_leads(&rt, rt.alloc(), mesh, log, end)?;
     }
     Ok(())
 }
@@ -202,10 +224,12 @@ const LOOSE: &[u8] = b"topo log 2\nend\nstep 7\nhit 1 2 3\nmove 2 1 2 3\nblock 1
 pass fit\nmove 4 1 2 3\nno flip 1 2 edge\nmove 3 1 2 3\n\
 refused missing mesh\nend\nmoved zones 2\nmesh 9 4 4\n";
 
+const OTHER_WAYS: [&[u8]; 3] = [OUTER_BACK, INNER_BACK, LOOSE];
+
 #[test]
 fn groups_and_loose_lines_lead_where_the_step_does(rt: HostRuntime) -> Result<(), Fail> {
-    for log in [OUTER_BACK, INNER_BACK, LOOSE] {
-        leads(&rt, rt.alloc(), TETRAHEDRON, log, MOVED)?;
+    for log in &OTHER_WAYS {
+        assert_leads(&rt, rt.alloc(), TETRAHEDRON, log, MOVED)?;
     }
     Ok(())
 }
@@ -258,58 +282,56 @@ const OTHER_MISFITS: [(&[u8], &[u8], usize); 4] = [
     ),
 ];
 
-// That this is the number of the first line of a log that does not fit.
-fn stops(
-    rt: &impl Abort,
-    alloc: Global,
-    mesh: &[u8],
-    log: &[u8],
-    misfit: usize,
-) -> Result<(), Fail> {
+// The number of the first line of a log that does not fit a mesh.
+fn misfit_of(alloc: Global, mesh: &[u8], log: &[u8], rt: &impl Abort) -> Result<usize, Fail> {
     let mut run = begun(alloc, mesh, rt)?;
-    let found = misfit_in(alloc, &mut run, log, rt)?;
-    assert!(rt; found == misfit);
-    Ok(())
+    misfit_in(alloc, &mut run, log, rt)
 }
 
 #[test]
 fn the_first_line_that_does_not_fit_is_found(rt: HostRuntime) -> Result<(), Fail> {
-    for (log, misfit) in MISFITS {
-        stops(&rt, rt.alloc(), TETRAHEDRON, log, misfit)?;
+    for (log, misfit) in &MISFITS {
+        let found = misfit_of(rt.alloc(), TETRAHEDRON, log, &rt)?;
+        assert_same(&rt, &(*log, found), &(*log, *misfit));
     }
-    for (mesh, log, misfit) in OTHER_MISFITS {
-        stops(&rt, rt.alloc(), mesh, log, misfit)?;
+    for (mesh, log, misfit) in &OTHER_MISFITS {
+        let found = misfit_of(rt.alloc(), mesh, log, &rt)?;
+        assert_same(&rt, &(*log, found), &(*log, *misfit));
     }
     Ok(())
 }
 
-fn shifted(v: u32, x: i32, y: i32, z: i32, rt: &impl Abort) -> ShiftOf {
-    ShiftOf {
-        v: VertexId(v),
-        by: Shift::new(x, y, z).expect(rt, "a shift within the limit"),
+// Whether these are the shifts of the step that is begun: each vertex, with its shift.
+fn tells(run: &LogRun, shifts: &[(u32, [i32; 3])]) -> bool {
+    let Some(told) = run.moves() else {
+        return false;
+    };
+    if told.len() != shifts.len() {
+        return false;
     }
+    for (found, wanted) in told.as_slice().iter().zip(shifts) {
+        let by = [found.by.x, found.by.y, found.by.z];
+        if (found.v.0, by) != *wanted {
+            return false;
+        }
+    }
+    true
 }
 
-// Whether these are the shifts of the step that is begun.
-fn tells(run: &LogRun, shifts: &[ShiftOf]) -> bool {
-    match run.moves() {
-        Some(told) => told.as_slice() == shifts,
-        None => false,
-    }
-}
+const STEP: &[u8] = b"topo log 2\nstep 1\nmove 4 0 0 0\nmove 2 1 2 3\n";
+
+const SHIFTS: [(u32, [i32; 3]); 4] = [
+    (1, [0, 0, 0]),
+    (2, [1, 2, 3]),
+    (3, [0, 0, 0]),
+    (4, [0, 0, 0]),
+];
 
 #[test]
 fn a_step_tells_its_shifts_so_far(rt: HostRuntime) -> Result<(), Fail> {
     let mut run = begun(rt.alloc(), TETRAHEDRON, &rt)?;
-    let log: &[u8] = b"topo log 2\nstep 1\nmove 4 0 0 0\nmove 2 1 2 3\n";
-    let misfit = misfit_in(rt.alloc(), &mut run, log, &rt)?;
-    assert!(rt; misfit == 0);
-    let want = [
-        shifted(1, 0, 0, 0, &rt),
-        shifted(2, 1, 2, 3, &rt),
-        shifted(3, 0, 0, 0, &rt),
-        shifted(4, 0, 0, 0, &rt),
-    ];
-    assert!(rt; tells(&run, &want));
+    let misfit = misfit_in(rt.alloc(), &mut run, STEP, &rt)?;
+    assert_same(&rt, &misfit, &0);
+    assert!(rt; tells(&run, &SHIFTS));
     Ok(())
 }

@@ -4,6 +4,7 @@ ghost use Rattle.mesh_base.specs.Placements.{IsClearMesh};
 ghost use Rattle.mesh_base.specs.Sides.{IsClosed};
 
 use crate::meshes::{EVEN, RIGHT, TETRAHEDRON, lists_of};
+use crate::same::{assert_bytes, assert_same};
 use grid_base::Point;
 use mesh_base::Surface;
 use mesh_journal::JournalMesh;
@@ -33,62 +34,67 @@ fn clear_mesh(alloc: Global, text: &[u8], rt: &impl Abort) -> Result<PlainMesh, 
     Ok(mesh)
 }
 
-// What a pass does by the band of the program at the origin: how it ended, and how many vertices and faces there are then.
+// How a pass ended, and how many vertices and faces there are then.
+type Fitted = (Result<PassCount, PassFault>, [u32; 2]);
+
+// What a pass does by the band of the program at the origin.
 fn fitted(
     alloc: Global,
     text: &[u8],
     grouped: bool,
     out: &mut MemorySink,
     rt: &impl Abort,
-) -> Result<(Result<PassCount, PassFault>, u32, u32), Fail> {
+) -> Result<Fitted, Fail> {
     let mut mesh = clear_mesh(alloc, text, rt)?;
     let sizing = Sizing::new(|_: Point| Band { low: 20, high: 60 });
     let count = fit_pass(alloc, &mut mesh, &sizing, 6, grouped, out);
-    Ok((count, mesh.vertices(), mesh.faces()))
+    Ok((count, [mesh.vertices(), mesh.faces()]))
 }
 
-// A pass writes these lines, and leaves so many vertices and faces.
-fn is_fitted(
-    rt: &impl Abort,
-    alloc: Global,
-    text: &[u8],
-    grouped: bool,
-    done: u64,
-    left: (u32, u32),
-    lines: &[u8],
-) -> Result<(), Fail> {
-    let mut out = MemorySink::new(alloc, 1_000, Vec::new(alloc))?;
-    let found = fitted(alloc, text, grouped, &mut out, rt)?;
-    let count = PassCount { done, refused: 0 };
-    assert!(rt; found == (Ok(count), left.0, left.1));
-    assert!(rt; out.bytes() == lines);
+const SIX: PassCount = PassCount {
+    done: 6,
+    refused: 0,
+};
+
+const ONE: PassCount = PassCount {
+    done: 1,
+    refused: 0,
+};
+
+const NONE: PassCount = PassCount {
+    done: 0,
+    refused: 0,
+};
+
+// A mesh, whether its pass is grouped, how that ends, and the lines that it writes.
+const CASES: [(&[u8], bool, Fitted, &[u8]); 3] = [
+    (EVEN, false, (Ok(SIX), [10, 16]), SPLITS),
+    (
+        TETRAHEDRON,
+        false,
+        (Ok(ONE), [0, 0]),
+        b"pass fit\ncollapse 1 2 2 0 0\n",
+    ),
+    (RIGHT, true, (Ok(NONE), [4, 4]), b"pass fit\n"),
+];
+
+#[test]
+fn edges_are_split_collapsed_and_left(rt: HostRuntime) -> Result<(), Fail> {
+    for (text, grouped, wanted, lines) in &CASES {
+        let mut out = MemorySink::new(rt.alloc(), 1_000, Vec::new(rt.alloc()))?;
+        let found = fitted(rt.alloc(), text, *grouped, &mut out, &rt)?;
+        assert_same(&rt, &found, wanted);
+        assert_bytes(&rt, out.bytes(), lines);
+    }
     Ok(())
 }
 
 #[test]
-fn edges_are_split_collapsed_and_left(rt: HostRuntime) -> Result<(), Fail> {
-    let alloc = rt.alloc();
-    is_fitted(&rt, alloc, EVEN, false, 6, (10, 16), SPLITS)?;
-    is_fitted(
-        &rt,
-        alloc,
-        TETRAHEDRON,
-        false,
-        1,
-        (0, 0),
-        b"pass fit\ncollapse 1 2 2 0 0\n",
-    )?;
-    is_fitted(&rt, alloc, RIGHT, true, 0, (4, 4), b"pass fit\n")
-}
-
-#[test]
 fn a_sink_may_fail_in_between(rt: HostRuntime) -> Result<(), Fail> {
-    let alloc = rt.alloc();
-    let mut out = MemorySink::new(alloc, 1_000, vec![in alloc; 3]?)?;
-    let found = fitted(alloc, EVEN, false, &mut out, &rt)?;
-    assert!(rt; found.0 == Err(PassFault::SinkFault));
-    let first: &[u8] = b"pass fit\nsplit 1 2 5 50 0 0\n";
-    assert!(rt; out.bytes() == first);
+    let mut out = MemorySink::new(rt.alloc(), 1_000, vec![in rt.alloc(); 3]?)?;
+    let found = fitted(rt.alloc(), EVEN, false, &mut out, &rt)?;
+    assert_same(&rt, &found.0, &Err(PassFault::SinkFault));
+    assert_bytes(&rt, out.bytes(), b"pass fit\nsplit 1 2 5 50 0 0\n");
     Ok(())
 }
 
@@ -111,21 +117,29 @@ fn full_journal(alloc: Global, rt: &impl Abort) -> Result<JournalMesh, Fail>
     Ok(mesh)
 }
 
+// How many vertices and faces there are, and the ids that come next.
+fn counts<S: Surface>(mesh: &S) -> [u32; 4] {
+    [
+        mesh.vertices(),
+        mesh.faces(),
+        mesh.next_vertex(),
+        mesh.next_face(),
+    ]
+}
+
 #[test]
 fn no_vertex_is_made_where_the_last_id_is_given(rt: HostRuntime) -> Result<(), Fail> {
-    let alloc = rt.alloc();
-    let mut mesh = full_journal(alloc, &rt)?;
+    let mut out = MemorySink::new(rt.alloc(), 1_000, Vec::new(rt.alloc()))?;
+    let mut mesh = full_journal(rt.alloc(), &rt)?;
     let sizing = Sizing::new(|_: Point| Band { low: 20, high: 60 });
-    let mut out = MemorySink::new(alloc, 1_000, Vec::new(alloc))?;
-    let found = fit_pass(alloc, &mut mesh, &sizing, 6, false, &mut out);
+    let found = fit_pass(rt.alloc(), &mut mesh, &sizing, 6, false, &mut out);
     let count = PassCount {
         done: 0,
         refused: 6,
     };
-    assert!(rt; found == Ok(count));
-    assert!(rt; out.bytes() == FULL);
-    assert_eq!(rt; (mesh.vertices(), mesh.faces()), (4, 4));
-    assert_eq!(rt; (mesh.next_vertex(), mesh.next_face()), (2_147_483_649, 5));
+    assert_same(&rt, &found, &Ok(count));
+    assert_bytes(&rt, out.bytes(), FULL);
+    assert_same(&rt, &counts(&mesh), &[4, 4, 2_147_483_649, 5]);
     Ok(())
 }
 
@@ -133,9 +147,9 @@ fn no_vertex_is_made_where_the_last_id_is_given(rt: HostRuntime) -> Result<(), F
 fn an_edge_of_the_given_length_is_left(rt: HostRuntime) -> Result<(), Fail> {
     let sizing = Sizing::new(|_: Point| Band { low: 4, high: 5 });
     let here = Point::new(0, 0, 0).ok_or("a point")?;
-    assert!(rt; sizing.want(here, 15) == Want::Collapse);
-    assert!(rt; sizing.want(here, 16) == Want::Leave);
-    assert!(rt; sizing.want(here, 25) == Want::Leave);
-    assert!(rt; sizing.want(here, 26) == Want::Split);
+    assert_same(&rt, &sizing.want(here, 15), &Want::Collapse);
+    assert_same(&rt, &sizing.want(here, 16), &Want::Leave);
+    assert_same(&rt, &sizing.want(here, 25), &Want::Leave);
+    assert_same(&rt, &sizing.want(here, 26), &Want::Split);
     Ok(())
 }
