@@ -6,10 +6,14 @@ mod conversions;
 #[cfg(test)]
 mod drives;
 #[cfg(test)]
+mod ends;
+#[cfg(test)]
 mod readings;
 #[cfg(test)]
 mod refusals;
 #[cfg(test)]
 mod runs;
+#[cfg(test)]
+mod same;
 #[cfg(test)]
 mod tries;
