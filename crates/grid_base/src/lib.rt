@@ -38,14 +38,20 @@ pub const HALVINGS_MAX: u8 = 27;
 /// The greatest number of decimals of a coordinate that is read or written.
 pub const DECIMALS_MAX: u8 = 6;
 
-/// The greatest number of live vertices.
-pub const VERTICES_MAX: u32 = 65_536;
-/// The greatest number of live faces.
-pub const FACES_MAX: u32 = 131_072;
+/// The greatest number of live vertices of a large mesh.
+pub const VERTICES_MAX: u32 = 4_194_304;
+/// The greatest number of live faces of a large mesh.
+pub const FACES_MAX: u32 = 8_388_608;
+/// The greatest number of live vertices of a mesh, where no large ones are asked for.
+pub const STANDARD_VERTICES: u32 = 65_536;
+/// The greatest number of live faces of a mesh, where no large ones are asked for.
+pub const STANDARD_FACES: u32 = 131_072;
 /// The greatest id of a vertex or a face.
 pub const ID_MAX: u32 = 2_147_483_648;
-/// The greatest length of a text in bytes.
-pub const TEXT_MAX: usize = 67_108_864;
+/// The greatest length of a large text in bytes: its lines can be counted in 32 bits.
+pub const TEXT_MAX: usize = 4_294_967_294;
+/// The greatest length of a text in bytes, where no large ones are asked for.
+pub const STANDARD_TEXT: usize = 67_108_864;
 
 /// The greatest size of a position that time halving makes.
 pub const WIDE_MAX: u64 = (HALF_MAX as u64) << (DEPTH_MAX as u32);

@@ -5,7 +5,10 @@ use Rattle.std.specs.List.{filter}
 use Rattle.std.specs.Map.{keys_of}
 use Rattle.std.specs.FinMap.Entries.{find}
 use Rattle.std.proofs.lemmas.Bool.Decides.{nat_tests}
-use Rattle.grid_base.specs.declared.TheConstants.{VERTICES_MAX, FACES_MAX, ID_MAX}
+use Rattle.grid_base.specs.declared.TheConstants.{VERTICES_MAX, FACES_MAX, ID_MAX, TEXT_MAX}
+use Rattle.mesh_base.specs.declared.limits.Scale.{Scale}
+use Rattle.mesh_base.specs.declared.limits.Scale.TheVariants.{Standard, Large}
+use Rattle.mesh_base.specs.Limits.{limits_of, text_most}
 use Rattle.mesh_base.specs.Sides.{ids_where, faces_at, has_corner}
 use Rattle.std.specs.Cmp.{nat_cmp_total}
 use Rattle.std.specs.FinMap as map
@@ -33,6 +36,19 @@ few_live_vertices m s = omega (arith, s.limits.vertices, s.limits.greatest.0)
 
 pub few_live_faces : (m : Mesh) → IsSound m → map.len m.faces ≤ FACES_MAX
 few_live_faces m s = omega (arith, s.limits.faces, s.limits.greatest.1)
+
+-- no scale goes beyond the greatest limits
+pub few_vertices_of : (scale : Scale) → (limits_of scale).vertices ≤ VERTICES_MAX
+few_vertices_of Standard = omega arith
+few_vertices_of Large = omega arith
+
+pub few_faces_of : (scale : Scale) → (limits_of scale).faces ≤ FACES_MAX
+few_faces_of Standard = omega arith
+few_faces_of Large = omega arith
+
+pub small_texts_of : (scale : Scale) → text_most scale ≤ TEXT_MAX
+small_texts_of Standard = omega arith
+small_texts_of Large = omega arith
 
 is_live : {X : Type 0} (m : map.FinMap nat_cmp X) (k : ℕ) (v : X) → map.get m k ≡ Some v → IsSome (map.get m k)
 is_live m k v h = ap is_some h

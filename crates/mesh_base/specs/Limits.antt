@@ -1,13 +1,30 @@
 -- How many vertices and faces may be live, and whether a mesh would pass a limit.
 use Rattle.std.specs.Prelude.{ℕ, ◌+◌, ◌||◌, Bool, nat_lt}
 use Rattle.std.specs.FinMap as finite
-use Rattle.grid_base.specs.declared.TheConstants.{VERTICES_MAX, FACES_MAX, ID_MAX}
+use Rattle.grid_base.specs.declared.TheConstants.{VERTICES_MAX, FACES_MAX, STANDARD_VERTICES, STANDARD_FACES, ID_MAX}
+use Rattle.grid_base.specs.declared.TheConstants.{TEXT_MAX, STANDARD_TEXT}
 use Rattle.mesh_base.specs.declared.limits.Limits.{Limits}
+use Rattle.mesh_base.specs.declared.limits.Scale.{Scale}
+use Rattle.mesh_base.specs.declared.limits.Scale.TheVariants.{Standard, Large}
 use Rattle.mesh_base.specs.Mesh.{Mesh}
 
--- those of a mesh whose maker asks for no others
+-- those of a mesh whose maker asks for no large ones
 abbrev pub standard : Limits
-standard = record { vertices = VERTICES_MAX; faces = FACES_MAX }
+standard = record { vertices = STANDARD_VERTICES; faces = STANDARD_FACES }
+
+-- the greatest that there are
+abbrev pub large : Limits
+large = record { vertices = VERTICES_MAX; faces = FACES_MAX }
+
+-- the limits of the meshes of a job
+abbrev pub limits_of : Scale → Limits
+limits_of Standard = standard
+limits_of Large = large
+
+-- the greatest length of the texts of a job
+abbrev pub text_most : Scale → ℕ
+text_most Standard = STANDARD_TEXT
+text_most Large = TEXT_MAX
 
 -- the mesh with other limits
 abbrev pub under : Limits → Mesh → Mesh

@@ -19,7 +19,7 @@ mod walk;
 pub use edges::{edges_in_order, sides_in_order};
 pub use faults::{AddFault, ShapeFault, ShapeRefusal};
 pub use ids::{Corners, FaceId, PairName, VertexId};
-pub use limits::Limits;
+pub use limits::{Limits, Scale};
 pub use lists::{Edges, FaceIds, Ids, MeshLists, Points, Shifts, Triangles};
 pub use marks::Mark;
 pub use near::{FaceTable, faces_near_of_all, is_face_near};
