@@ -1,11 +1,10 @@
 -- A text that is read part by part.
-use Rattle.std.proofs.Common.{◌≡◌, ℕ, ◌+◌, ◌<◌, ◌≤◌, ◌^◌, Bool, true, false, eqb, List, [], ◌∷◌, length, Result, Ok, Err, refl, sym, ap, ◌∙◌, arith, lit<}
+use Rattle.std.proofs.Common.{◌≡◌, ℕ, ◌+◌, ◌<◌, ◌≤◌, Bool, true, false, eqb, List, [], ◌∷◌, length, Result, Ok, Err, refl, sym, ap, ◌∙◌, arith, lit<}
 use Rattle.std.specs.Prelude.{codes, if◌then◌else◌}
 use Rattle.std.specs.List.{join_with_byte}
 use Rattle.std.specs.Str.{bytes_eq}
 use Rattle.std.proofs.lemmas.List.Sums.{count_by-le-length}
 use Rattle.std.proofs.lemmas.List.Splits.{length-slice_split}
-use Rattle.grid_base.specs.declared.TheConstants.{TEXT_MAX}
 use Rattle.line_text.specs.declared.TextFault.{TextFault}
 use Rattle.line_text.specs.declared.ReadFault.{ReadFault}
 use Rattle.line_text.specs.declared.ReadFault.TheVariants as faults
@@ -54,10 +53,6 @@ PartsLeft-first scale version bytes e = record { same = ap (λ v. parts_add scal
 module _ (scale : Scale) (version : ℕ) (bytes : List ℕ) (lines : List LogLine) (number : ℕ) (rest part next : List ℕ) (cut : parts_of_text rest ≡ part ∷ parts_of_text next) (h : PartsLeft scale version bytes lines number rest) where
   next_step : (at_line number (line_adds scale version lines true part) >>= λ more. parts_add scale version more (number + 1) (parts_of_text next)) ≡ log_of scale bytes
   next_step = sym (parts_more scale version lines number part (parts_of_text next) (some_parts next)) ∙ ap (λ (t : List (List ℕ)). parts_add scale version lines number t) (sym cut) ∙ h.same
-
-  -- the number of the next line fits
-  pub PartsLeft-fits : length bytes ≤ TEXT_MAX → number + 1 < 2 ^ 32
-  PartsLeft-fits short = omega (arith, ap length cut, h.few, some_parts next, short)
 
   pub PartsLeft-more : (more : List LogLine) → at_line number (line_adds scale version lines true part) ≡ Ok more → PartsLeft scale version bytes more (number + 1) next
   PartsLeft-more more e = record {

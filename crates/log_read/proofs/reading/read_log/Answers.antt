@@ -1,4 +1,4 @@
-use Rattle.log_read.proofs.LogParts.{PartsLeft-first, PartsLeft-fits, PartsLeft-more, PartsLeft-fails}
+use Rattle.log_read.proofs.LogParts.{PartsLeft-first, PartsLeft-more, PartsLeft-fails}
 use Rattle.log_read.proofs.reading.read_log.Goals as goal
 
 pub lines-init : goal.lines-init
@@ -6,9 +6,6 @@ lines-init c = rw c.new-log.ensures (PartsLeft-first c.args.scale c.version_of-v
 
 pub lines-preserved : goal.lines-preserved
 lines-preserved c = PartsLeft-more c.args.scale c.version_of-version.result c.args.bytes.now c.lines.log c.lines.number c.lines.rest.now c.cut_at.result.0.now c.in-Some.next.now (rw c.in-Some.is at c.cut_at.ensures) c.lines.invariant c.add_line.new.log c.in-Ok.ensures
-
-pub overflow_add-number : goal.overflow_add-number
-overflow_add-number c = PartsLeft-fits c.args.scale c.version_of-version.result c.args.bytes.now c.lines.log c.lines.number c.lines.rest.now c.cut_at.result.0.now c.in-Some.next.now (rw c.in-Some.is at c.cut_at.ensures) c.lines.invariant c.requires
 
 pub returns-in-Err : goal.returns-in-Err
 returns-in-Err c = PartsLeft-fails c.args.scale c.version_of-version.result c.args.bytes.now c.lines.log c.lines.number c.lines.rest.now c.cut_at.result.0.now c.in-Some.next.now (rw c.in-Some.is at c.cut_at.ensures) c.lines.invariant c.in-Err.fault c.in-Err.ensures
