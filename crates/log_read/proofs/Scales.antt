@@ -1,5 +1,5 @@
 -- No count of a scale is too great for a word of a line.
-use Rattle.std.proofs.Common.{ℕ, ◌<◌, ◌^◌, arith}
+use Rattle.std.proofs.Common.{◌<◌, ◌^◌, arith}
 use Rattle.mesh_base.specs.declared.Scale.{Scale}
 use Rattle.mesh_base.specs.Limits.{limits_of}
 use Rattle.mesh_base.proofs.MeshLaws.{few_vertices_of, few_faces_of}
