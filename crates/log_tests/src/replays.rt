@@ -26,9 +26,9 @@ fn begun(alloc: Global, mesh: &[u8], rt: &impl Abort) -> Result<LogRun, Fail>
     ensures unspent { IfOk result (λ run. run.is_spent ≡ false) }
 {
     let lists = lists_of(alloc, mesh, rt)?;
-    let shaped = shape(alloc, &lists);
+    let shaped = shape(alloc, Scale::Standard, &lists);
     assert!(rt; shaped.is_ok());
-    let mesh = JournalMesh::of(alloc, &lists)?;
+    let mesh = JournalMesh::of(alloc, Scale::Standard, &lists)?;
     Ok(LogRun::new(alloc, mesh))
 }
 
