@@ -10,12 +10,12 @@ use grid_base::NoMemory;
 use mesh_base::{MeshLists, Scale, ShapeFault};
 use std::alloc::Global;
 
-/// All that keeps lists from making a closed mesh within the limits of a scale, in the order of `ShapeFault`, and of each kind by rising place: too
-/// many points or faces; each corner that is no vertex; each face with a corner twice; each face that a later one equals up to rotation,
-/// with the first such; and each two vertices, the smaller first, between which the faces do not run as often one way as the other. The
-/// first is the one that `shape` of mesh_plain refuses, so there is none exactly where that accepts. Takes time in proportion to the faces
-/// and the logarithm of their number. Refuses only where there is no memory, and where there are 2^32 faces or more, whose numbers a fault
-/// does not tell.
+/// All that keeps lists from making a closed mesh within the limits of a scale, in the order of `ShapeFault`, and of each kind by rising
+/// place: too many points or faces; each corner that is no vertex; each face with a corner twice; each face that a later one equals up to
+/// rotation, with the first such; and each two vertices, the smaller first, between which the faces do not run as often one way as the
+/// other. The first is the one that `shape` of mesh_plain refuses, so there is none exactly where that accepts. Takes time in proportion
+/// to the faces and the logarithm of their number. Refuses only where there is no memory, and where there are 2^32 faces or more, whose
+/// numbers a fault does not tell.
 pub fn shape_faults(
     alloc: Global,
     scale: Scale,

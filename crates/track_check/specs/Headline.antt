@@ -28,8 +28,8 @@ pub record IsCaused (c : Check) (result : Result (Option Refusal) Stop) : Type 0
 abbrev pub IsComplete : Scale → MeshName → ℕ → Result (Option Refusal) Stop → World → World →
     Type 0
 IsComplete scale mesh decimals result old new =
-    (can : IsReadable scale old.holds.files mesh decimals) → ¬ Rose old.desk_faults new.desk_faults →
-    ¬ Rose old.sink_faults new.sink_faults →
+    (can : IsReadable scale old.holds.files mesh decimals) →
+    ¬ Rose old.desk_faults new.desk_faults → ¬ Rose old.sink_faults new.sink_faults →
     (result ≡ Ok (ending_told scale (Ok can.lists))) ⊎ (result ≡ Err NoMemory)
 
 -- The file that the desk held at entry under the name is checked.
