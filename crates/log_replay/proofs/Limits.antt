@@ -12,9 +12,9 @@ use Rattle.mesh_base.specs.Sides.{has_corner, faces_where, faces_at}
 use Rattle.mesh_base.proofs.Moves.{limits-with_moves}
 use Rattle.edit_base.specs.declared.Change.{Change}
 use Rattle.edit_base.specs.declared.Change.TheVariants.{Split, Flip, Collapse, Zip, Pinch}
-use Rattle.edit_base.specs.Edges.{edge_of, faces_beside, without_faces}
+use Rattle.edit_base.specs.Edges.{edge_of, without_faces}
 use Rattle.edit_acts.proofs.Sound.{limits-with_faces}
-use Rattle.edit_split.specs.Split.{split_faces}
+use Rattle.edit_split.specs.Split.{faces_beside, split_faces}
 use Rattle.edit_flip.specs.Flip.{flip_faces}
 use Rattle.edit_collapse.specs.Collapse.{without_shared, joined_faces, without_bare, has_face, has_solid_end, collapse_mesh}
 use Rattle.edit_collapse.proofs.CollapseMesh.{dropped_next, placed_next}
