@@ -5,7 +5,7 @@ ghost use Rattle.half_mesh.specs.States.{AreApart, meshes_of, NoneBuried};
 use crate::tables::Tables;
 use grid_base::{Extent, ID_MAX, NoMemory, Point};
 use mesh_base::{
-    AddFault, Corners, FaceId, Limits, Mark, MeshLists, Surface, VertexId, faces_near_of_all,
+    AddFault, Corners, FaceId, Limits, Mark, MeshLists, Scale, Surface, VertexId, faces_near_of_all,
 };
 use std::alloc::Global;
 
@@ -23,7 +23,7 @@ pub struct HalfMesh {
 
 impl HalfMesh {
     ghost use Rattle.mesh_plain.specs.Shape.{shape_fault};
-    ghost use Rattle.mesh_base.specs.Given.{mesh_of};
+    ghost use Rattle.mesh_base.specs.Given.{mesh_under};
     ghost use Rattle.mesh_plain.specs.Numbered.{MayBeNext, numbered};
     ghost use Rattle.mesh_base.specs.Mesh.{IsLiveFace};
     ghost use Rattle.half_mesh.specs.Across.{across};
@@ -31,14 +31,14 @@ impl HalfMesh {
     ghost use Rattle.half_mesh.specs.States.{none_buried};
     ghost use Rattle.std.specs.Prelude.{ℕ, ◌<◌, Some, None, [], IfOk, length};
 
-    /// The mesh that lists of good shape give, with nothing kept.
-    pub fn of(alloc: Global, lists: &MeshLists) -> Result<HalfMesh, NoMemory>
-        requires { shape_fault (length lists.now.points) lists.now.faces ≡ None }
-        ensures mesh { IfOk result (λ s. mesh_in s ≡ mesh_of lists.now.points lists.now.faces) }
+    /// The mesh that lists of good shape give, with the limits of a scale and with nothing kept.
+    pub fn of(alloc: Global, scale: Scale, lists: &MeshLists) -> Result<HalfMesh, NoMemory>
+        requires { shape_fault scale (length lists.now.points) lists.now.faces ≡ None }
+        ensures mesh { IfOk result (λ s. mesh_in s ≡ mesh_under scale lists.now.points lists.now.faces) }
         ensures buried { IfOk result (λ s. (state_in s).buried ≡ none_buried) }
         ensures kept { IfOk result (λ s. kept_in s ≡ []) }
     {
-        let now = Tables::of(alloc, lists)?;
+        let now = Tables::of(alloc, scale, lists)?;
         Ok(HalfMesh {
             now,
             before: Vec::new(alloc),
@@ -49,20 +49,21 @@ impl HalfMesh {
     /// ids in use, and at most one above `ID_MAX`.
     pub fn of_numbered(
         alloc: Global,
+        scale: Scale,
         lists: &MeshLists,
         next_vertex: u32,
         next_face: u32,
     ) -> Result<HalfMesh, NoMemory>
-        requires shape { shape_fault (length lists.now.points) lists.now.faces ≡ None }
+        requires shape { shape_fault scale (length lists.now.points) lists.now.faces ≡ None }
         requires vertex { MayBeNext (length lists.now.points) next_vertex }
         requires face { MayBeNext (length lists.now.faces) next_face }
         ensures mesh { IfOk result
             (λ s. mesh_in s ≡ numbered
-            (mesh_of lists.now.points lists.now.faces) next_vertex next_face) }
+            (mesh_under scale lists.now.points lists.now.faces) next_vertex next_face) }
         ensures buried { IfOk result (λ s. (state_in s).buried ≡ none_buried) }
         ensures kept { IfOk result (λ s. kept_in s ≡ []) }
     {
-        let mut now = Tables::of(alloc, lists)?;
+        let mut now = Tables::of(alloc, scale, lists)?;
         now.number(next_vertex, next_face);
         Ok(HalfMesh {
             now,

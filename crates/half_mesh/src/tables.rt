@@ -6,7 +6,7 @@ ghost use Rattle.std.specs.FinMap as map;
 ghost use Rattle.mesh_base.specs.Mesh.{IsSound, IsLiveVertex, IsLiveFace, AreLive, AreDifferent, is_solid};
 ghost use Rattle.mesh_base.specs.Changes.{corner_list, with_vertex, with_face, without_face, without_vertex, with_point, with_solid};
 ghost use Rattle.mesh_base.specs.Sides.{above, faces_at, faces_running, runs};
-ghost use Rattle.mesh_base.specs.Given.{mesh_of, empty_mesh};
+ghost use Rattle.mesh_base.specs.Given.{mesh_under};
 ghost use Rattle.mesh_plain.specs.Numbered.{numbered};
 ghost use Rattle.mesh_plain.specs.Shape.{shape_fault};
 ghost use Rattle.half_mesh.specs.Fans.{spokes_at, IsNewest};
@@ -19,7 +19,7 @@ use crate::fans::Fans;
 use crate::row::Vertex;
 use grid_base::{NoMemory, Point};
 use id_table::Rows;
-use mesh_base::{Corners, FaceId, FaceTable, Limits, MeshLists, VertexId};
+use mesh_base::{Corners, FaceId, FaceTable, Limits, MeshLists, Scale, VertexId};
 use std::alloc::Global;
 use std::marker::Model;
 
@@ -73,24 +73,25 @@ impl FaceTable for Tables {
 }
 
 impl Tables {
-    pub(crate) fn new(alloc: Global) -> Tables
-        ensures { result.state ≡ record { mesh = empty_mesh; buried = none_buried } }
+    pub(crate) fn new(alloc: Global, scale: Scale) -> Tables
+        ensures { result.state
+            ≡ record { mesh = mesh_under scale [] []; buried = none_buried } }
     {
         Tables {
             fans: Fans::new(alloc),
             keys: Rows::new(alloc),
             next_vertex: 1,
             next_face: 1,
-            limits: Limits::standard(),
+            limits: scale.limits(),
         }
     }
 
     /// Puts the points of lists into tables that have nothing, numbered from 1.
-    fn add_points(&mut self, lists: &MeshLists) -> Result<(), NoMemory>
-        requires fit { shape_fault (length lists.now.points) lists.now.faces ≡ None }
-        requires nothing { self.old.state ≡ record { mesh = mesh_of [] []; buried = none_buried } }
+    fn add_points(&mut self, scale: Scale, lists: &MeshLists) -> Result<(), NoMemory>
+        requires fit { shape_fault scale (length lists.now.points) lists.now.faces ≡ None }
+        requires nothing { self.old.state ≡ record { mesh = mesh_under scale [] []; buried = none_buried } }
         ensures { OnOk result (self.new.state
-            ≡ record { mesh = mesh_of lists.now.points []; buried = none_buried }) }
+            ≡ record { mesh = mesh_under scale lists.now.points []; buried = none_buried }) }
     {
         for p in lists.points.as_slice() {
             self.add_vertex(*p)?;
@@ -99,12 +100,12 @@ impl Tables {
     }
 
     /// Puts the faces of lists into tables that have their points alone, numbered from 1.
-    fn add_faces(&mut self, lists: &MeshLists) -> Result<(), NoMemory>
-        requires fit { shape_fault (length lists.now.points) lists.now.faces ≡ None }
+    fn add_faces(&mut self, scale: Scale, lists: &MeshLists) -> Result<(), NoMemory>
+        requires fit { shape_fault scale (length lists.now.points) lists.now.faces ≡ None }
         requires points { self.old.state
-            ≡ record { mesh = mesh_of lists.now.points []; buried = none_buried } }
+            ≡ record { mesh = mesh_under scale lists.now.points []; buried = none_buried } }
         ensures { OnOk result (self.new.state
-            ≡ record { mesh = mesh_of lists.now.points lists.now.faces; buried = none_buried }) }
+            ≡ record { mesh = mesh_under scale lists.now.points lists.now.faces; buried = none_buried }) }
     {
         for f in lists.faces.as_slice() {
             self.add_face(VertexId(f[0]), VertexId(f[1]), VertexId(f[2]))?;
@@ -112,16 +113,16 @@ impl Tables {
         Ok(())
     }
 
-    /// The tables of lists, numbered from 1.
-    pub(crate) fn of(alloc: Global, lists: &MeshLists) -> Result<Tables, NoMemory>
-        requires { shape_fault (length lists.now.points) lists.now.faces ≡ None }
+    /// The tables of lists, numbered from 1, with the limits of a scale.
+    pub(crate) fn of(alloc: Global, scale: Scale, lists: &MeshLists) -> Result<Tables, NoMemory>
+        requires { shape_fault scale (length lists.now.points) lists.now.faces ≡ None }
         ensures { IfOk result
             (λ t. t.state ≡
-            record { mesh = mesh_of lists.now.points lists.now.faces; buried = none_buried }) }
+            record { mesh = mesh_under scale lists.now.points lists.now.faces; buried = none_buried }) }
     {
-        let mut tables = Tables::new(alloc);
-        tables.add_points(lists)?;
-        tables.add_faces(lists)?;
+        let mut tables = Tables::new(alloc, scale);
+        tables.add_points(scale, lists)?;
+        tables.add_faces(scale, lists)?;
         Ok(tables)
     }
 

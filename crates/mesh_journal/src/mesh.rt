@@ -5,7 +5,7 @@ use crate::journal::Journal;
 use crate::undoable::Undoable;
 use grid_base::{NoMemory, Point};
 use half_mesh::HalfMesh;
-use mesh_base::{AddFault, FaceId, MeshLists, Surface, VertexId};
+use mesh_base::{AddFault, FaceId, MeshLists, Scale, Surface, VertexId};
 use std::alloc::Global;
 
 /// A mesh in half-edges whose marks take no memory.
@@ -77,18 +77,18 @@ impl Undoable for HalfMesh {
 }
 
 impl Journal<HalfMesh> {
-    ghost use Rattle.mesh_base.specs.Given.{mesh_of};
+    ghost use Rattle.mesh_base.specs.Given.{mesh_under};
     ghost use Rattle.mesh_plain.specs.Shape.{shape_fault};
     ghost use Rattle.mesh_plain.specs.Numbered.{MayBeNext, numbered};
     ghost use Rattle.mesh_journal.specs.Journal.{mesh_in, kept_in};
 
     /// The mesh that lists of good shape give, with an empty journal.
-    pub fn of(alloc: Global, lists: &MeshLists) -> Result<JournalMesh, NoMemory>
-        requires { shape_fault (length lists.now.points) lists.now.faces ≡ None }
-        ensures mesh { IfOk result (λ s. mesh_in s ≡ mesh_of lists.now.points lists.now.faces) }
+    pub fn of(alloc: Global, scale: Scale, lists: &MeshLists) -> Result<JournalMesh, NoMemory>
+        requires { shape_fault scale (length lists.now.points) lists.now.faces ≡ None }
+        ensures mesh { IfOk result (λ s. mesh_in s ≡ mesh_under scale lists.now.points lists.now.faces) }
         ensures kept { IfOk result (λ s. kept_in s ≡ mesh_in s ∷ []) }
     {
-        let mesh = HalfMesh::of(alloc, lists)?;
+        let mesh = HalfMesh::of(alloc, scale, lists)?;
         Ok(Journal::over(alloc, mesh))
     }
 
@@ -96,18 +96,19 @@ impl Journal<HalfMesh> {
     /// ids in use, and at most one above `ID_MAX`.
     pub fn of_numbered(
         alloc: Global,
+        scale: Scale,
         lists: &MeshLists,
         next_vertex: u32,
         next_face: u32,
     ) -> Result<JournalMesh, NoMemory>
-        requires shape { shape_fault (length lists.now.points) lists.now.faces ≡ None }
+        requires shape { shape_fault scale (length lists.now.points) lists.now.faces ≡ None }
         requires vertex { MayBeNext (length lists.now.points) next_vertex }
         requires face { MayBeNext (length lists.now.faces) next_face }
         ensures mesh { IfOk result (λ s. mesh_in s
-            ≡ numbered (mesh_of lists.now.points lists.now.faces) next_vertex next_face) }
+            ≡ numbered (mesh_under scale lists.now.points lists.now.faces) next_vertex next_face) }
         ensures kept { IfOk result (λ s. kept_in s ≡ mesh_in s ∷ []) }
     {
-        let mesh = HalfMesh::of_numbered(alloc, lists, next_vertex, next_face)?;
+        let mesh = HalfMesh::of_numbered(alloc, scale, lists, next_vertex, next_face)?;
         Ok(Journal::over(alloc, mesh))
     }
 }

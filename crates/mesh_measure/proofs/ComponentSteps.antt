@@ -229,5 +229,5 @@ module _ {S : Type 0} (m : Mesh) (met next : HashSet ℕ S) (listed more : List 
 pub listed_all : {S : Type 0} (m : Mesh) (met : HashSet ℕ S) (listed : List Component) (i : ℕ) → IsListing m met listed i → length (finite.keys m.faces) ≤ i → listed ≡ each_component m
 listed_all m met listed i h end = h.are ∙ ap (map (component_of m)) (begun_all m i end)
 
-pub sum_fits : (s : ℤ) (i n : ℕ) → i ≤ n → n ≤ FACES_MAX → unsigned_abs s ≤ i * DETERMINANT_MAX → unsigned_abs s < 2 ^ 104
+pub sum_fits : (s : ℤ) (i n : ℕ) → i ≤ n → n ≤ FACES_MAX → unsigned_abs s ≤ i * DETERMINANT_MAX → unsigned_abs s < 2 ^ 110
 sum_fits s i n low few h = omega (arith, low, few, h)

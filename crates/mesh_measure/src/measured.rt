@@ -54,7 +54,7 @@ fn edges_above<S: Surface>(alloc: Global, mesh: &S, vertices: &[u32]) -> Result<
 fn volume6_of<S: Surface>(mesh: &S, faces: &[u32]) -> i128
     requires { length faces.now ≤ FACES_MAX }
     ensures value { result ≡ volume6_of (S.mesh mesh.now) faces.now }
-    ensures within { unsigned_abs result < 2 ^ 104 }
+    ensures within { unsigned_abs result < 2 ^ 110 }
 {
     let mut sum = 0;
     for f in faces {

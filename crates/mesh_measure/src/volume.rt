@@ -63,7 +63,7 @@ pub(crate) fn face_part<S: Surface>(mesh: &S, f: FaceId) -> i128
 /// no memory.
 pub fn volume6<S: Surface>(mesh: &S) -> i128
     ensures value { result ≡ volume6 (S.mesh mesh.now) }
-    ensures within { unsigned_abs result < 2 ^ 104 }
+    ensures within { unsigned_abs result < 2 ^ 110 }
 {
     let mut sum = 0;
     let mut last = 0;

@@ -11,16 +11,16 @@ use Rattle.std.proofs.lemmas.List.{length-map}
 use Rattle.std.proofs.lemmas.List.Sums.{length-filter}
 use Rattle.std.proofs.lemmas.Bool.{false≢true, eq-eqb}
 use Rattle.std.proofs.lemmas.Bool.Decides.{nat_tests}
-use Rattle.grid_base.specs.declared.TheConstants.{VERTICES_MAX, FACES_MAX}
+use Rattle.mesh_base.specs.declared.limits.Scale.{Scale}
+use Rattle.mesh_base.specs.Limits.{limits_of}
 use Rattle.grid_base.specs.declared.Point.{Point}
 use Rattle.mesh_base.specs.declared.ids.Corners.{Corners}
 use Rattle.mesh_base.specs.declared.faults.ShapeFault.{ShapeFault}
 use Rattle.mesh_base.specs.declared.faults.ShapeFault.TheVariants.{TooManyVertices, TooManyFaces, NoVertex, Repeated, Doubled, Unbalanced}
-use Rattle.mesh_base.proofs.MeshLaws.{few_live_vertices, few_live_faces}
 use Rattle.mesh_base.specs.Mesh.{Mesh, IsSound, IsLiveVertex, AreLive, AreDifferent, HasCorners, equal_up_to_rotation}
 use Rattle.mesh_base.specs.Sides.{follows, runs, IsClosed}
 use Rattle.mesh_base.specs.Changes.{corners_of, corner_list}
-use Rattle.mesh_base.specs.Given.{Faces, mesh_of}
+use Rattle.mesh_base.specs.Given.{Faces, mesh_under}
 use Rattle.mesh_base.proofs.Ordered.{entries-of_sorted}
 use Rattle.mesh_base.proofs.ListLaws.{found_passes}
 use Rattle.mesh_plain.specs.Shape.{is_vertex, bad_corner, no_vertex_from, repeats, repeated_from, doubled_from, runs_in, first_unbalanced, fault_but_balance, shape_fault, Denied, IsAtFault}
@@ -46,8 +46,8 @@ got_mapped g [] i x h = cc
 got_mapped g (y ∷ xs) zero x h = ap (option_map g) h
 got_mapped g (y ∷ xs) (suc i) x h = got_mapped g xs i x h
 
-has_face : (ps : List Point) (fs : Faces) (i : ℕ) (l : List ℕ) → slice_get fs i ≡ Some l → HasCorners (mesh_of ps fs) (i + 1) (corners_of l)
-has_face ps fs i l h =
+has_face : (scale : Scale) (ps : List Point) (fs : Faces) (i : ℕ) (l : List ℕ) → slice_get fs i ≡ Some l → HasCorners (mesh_under scale ps fs) (i + 1) (corners_of l)
+has_face scale ps fs i l h =
     get-from_entries nat_cmp_total (enumerate_from 1 (map corners_of fs)) (i + 1)
     ∙ numbered 1 i (i + 1) (map corners_of fs) (omega arith)
     ∙ got_mapped corners_of fs i l h
@@ -61,9 +61,9 @@ counted k test g (x ∷ xs) = by_test (counted (k + 1) test g xs) (test (g x))
     by_test rest false = rest
 
 -- the faces of the mesh run as often as those of the list
-pub runs_given : (ps : List Point) (fs : Faces) (u v : ℕ) → runs (mesh_of ps fs) u v ≡ runs_in fs u v
-runs_given ps fs u v =
-    length-map (filter (λ e. follows e.1 u v) (finite.entries (mesh_of ps fs).faces)) (λ e. e.0)
+pub runs_given : (scale : Scale) (ps : List Point) (fs : Faces) (u v : ℕ) → runs (mesh_under scale ps fs) u v ≡ runs_in fs u v
+runs_given scale ps fs u v =
+    length-map (filter (λ e. follows e.1 u v) (finite.entries (mesh_under scale ps fs).faces)) (λ e. e.0)
     ∙ ap (λ es. length (filter (λ e. follows e.1 u v) es)) (entries-of_sorted (enumerate_from 1 (map corners_of fs)) (sorted_numbers 1 (map corners_of fs)))
     ∙ counted 1 (λ c. follows c u v) corners_of fs
     ∙ length-filter (λ f. follows (corners_of f) u v) fs
@@ -126,29 +126,29 @@ apart c h = three c.first c.second c.third h.first_second h.second_third h.third
     three a b d h h' h'' = grind (arith, nat_tests)
 
 -- what a fault names is at fault
-pub at_fault : (ps : List Point) (fs : Faces) (fault : ShapeFault) → shape_fault (length ps) fs ≡ Some fault → IsAtFault fault (mesh_of ps fs)
-at_fault ps fs fault h =
+pub at_fault : (scale : Scale) (ps : List Point) (fs : Faces) (fault : ShapeFault) → shape_fault scale (length ps) fs ≡ Some fault → IsAtFault fault (mesh_under scale ps fs)
+at_fault scale ps fs fault h =
     ⊎_elim (λ e0.
-    ⊎_elim (λ e1. let t = tested (nat_lt VERTICES_MAX (length ps)) _ fault e1 in same _ t.1 (sym (len_numbered ps), more_than VERTICES_MAX (length ps) t.0))
-    (λ e1'. ⊎_elim (λ e2. let t = tested (nat_lt FACES_MAX (length fs)) _ fault e2 in same _ t.1 (sym (len_numbered (map corners_of fs) ∙ length-map fs corners_of), more_than FACES_MAX (length fs) t.0))
+    ⊎_elim (λ e1. let t = tested (nat_lt (limits_of scale).vertices (length ps)) _ fault e1 in same _ t.1 (sym (len_numbered ps), more_than (limits_of scale).vertices (length ps) t.0))
+    (λ e1'. ⊎_elim (λ e2. let t = tested (nat_lt (limits_of scale).faces (length fs)) _ fault e2 in same _ t.1 (sym (len_numbered (map corners_of fs) ∙ length-map fs corners_of), more_than (limits_of scale).faces (length fs) t.0))
     (λ e2'. ⊎_elim (λ e3. let t = mapped _ (no_vertex_from (length ps) 1 fs) fault e3 in same _ t.2 (no_vertex t.0 t.1))
     (λ e3'. ⊎_elim (λ e4. let t = mapped _ (repeated_from 1 fs) fault e4 in same _ t.2 (twice t.0 t.1))
     (λ e4'. let t = mapped _ (doubled_from 1 fs) fault e4' in same _ t.2 (double t.0 t.1))
     (some_of (option_map (λ face. Repeated face) (repeated_from 1 fs)) _ fault e3'))
     (some_of (option_map (λ p. NoVertex p.0 p.1) (no_vertex_from (length ps) 1 fs)) _ fault e2'))
-    (some_of (if nat_lt FACES_MAX (length fs) then Some (TooManyFaces (length fs)) else None) _ fault e1'))
-    (some_of (if nat_lt VERTICES_MAX (length ps) then Some (TooManyVertices (length ps)) else None) _ fault e0))
+    (some_of (if nat_lt (limits_of scale).faces (length fs) then Some (TooManyFaces (length fs)) else None) _ fault e1'))
+    (some_of (if nat_lt (limits_of scale).vertices (length ps) then Some (TooManyVertices (length ps)) else None) _ fault e0))
     (λ e0'. let t = mapped _ (first_unbalanced (length ps) fs) fault e0' in same _ t.2 (unbalanced t.0 t.1))
-    (some_of (fault_but_balance (length ps) fs) _ fault h)
+    (some_of (fault_but_balance scale (length ps) fs) _ fault h)
   where
     m : Mesh
-    m = mesh_of ps fs
+    m = mesh_under scale ps fs
 
     same : (g : ShapeFault) → g ≡ fault → IsAtFault g m → IsAtFault fault m
     same g is h = subst (λ x. IsAtFault x m) is h
 
     face_at : (i f : ℕ) (l : List ℕ) → f ≡ 1 + i → slice_get fs i ≡ Some l → HasCorners m f (corners_of l)
-    face_at i f l number e = let turned : i + 1 ≡ f = omega (arith, number) in subst (λ g. HasCorners m g (corners_of l)) turned (has_face ps fs i l e)
+    face_at i f l number e = let turned : i + 1 ≡ f = omega (arith, number) in subst (λ g. HasCorners m g (corners_of l)) turned (has_face scale ps fs i l e)
 
     no_vertex : (p : ℕ × ℕ) → no_vertex_from (length ps) 1 fs ≡ Some p → IsAtFault (NoVertex p.0 p.1) m
     no_vertex p e =
@@ -169,7 +169,7 @@ at_fault ps fs fault h =
     unbalanced : (p : ℕ × ℕ) → first_unbalanced (length ps) fs ≡ Some p → IsAtFault (Unbalanced p.0 p.1) m
     unbalanced p e equal =
         let differ = found_passes (λ q. not (runs_in fs q.0 q.1 == runs_in fs q.1 q.0)) _ p e in
-        let balanced : runs_in fs p.0 p.1 ≡ runs_in fs p.1 p.0 = sym (runs_given ps fs p.0 p.1) ∙ equal ∙ runs_given ps fs p.1 p.0 in
+        let balanced : runs_in fs p.0 p.1 ≡ runs_in fs p.1 p.0 = sym (runs_given scale ps fs p.0 p.1) ∙ equal ∙ runs_given scale ps fs p.1 p.0 in
         false≢true (ap not (sym (eq-eqb _ _ balanced)) ∙ differ)
 
 corner_live : (m : Mesh) (c : Corners) (i v : ℕ) → AreLive m c → slice_get (corner_list c) i ≡ Some v → IsLiveVertex m v
@@ -188,28 +188,28 @@ denied m (Doubled first second) at all = let same = all first second at.0 at.1 a
 denied m (Unbalanced from to) at closed = at (closed from to)
 
 -- lists of good shape make a closed mesh
-pub closed-mesh_of : (ps : List Point) (fs : Faces) → shape_fault (length ps) fs ≡ None → IsClosed (mesh_of ps fs)
-closed-mesh_of ps fs h u v = runs_given ps fs u v ∙ all_balanced (length ps) fs vertices none_found u v ∙ sym (runs_given ps fs v u)
+pub closed-mesh_under : (scale : Scale) (ps : List Point) (fs : Faces) → shape_fault scale (length ps) fs ≡ None → IsClosed (mesh_under scale ps fs)
+closed-mesh_under scale ps fs h u v = runs_given scale ps fs u v ∙ all_balanced (length ps) fs vertices none_found u v ∙ sym (runs_given scale ps fs v u)
   where
     vertices : no_vertex_from (length ps) 1 fs ≡ None
-    vertices = (no_fault_but_balance (length ps) fs (none_of (fault_but_balance (length ps) fs) _ h).0).corners
+    vertices = (no_fault_but_balance scale (length ps) fs (none_of (fault_but_balance scale (length ps) fs) _ h).0).corners
 
     none_found : first_unbalanced (length ps) fs ≡ None
-    none_found = none_mapped _ _ (none_of (fault_but_balance (length ps) fs) _ h).1
+    none_found = none_mapped _ _ (none_of (fault_but_balance scale (length ps) fs) _ h).1
 
 -- all that a fault may deny
 all_hold : (m : Mesh) → IsSound m → IsClosed m → (fault : ShapeFault) → Denied fault m
-all_hold m sound closed (TooManyVertices count) = few_live_vertices m sound
-all_hold m sound closed (TooManyFaces count) = few_live_faces m sound
+all_hold m sound closed (TooManyVertices count) = sound.limits.vertices
+all_hold m sound closed (TooManyFaces count) = sound.limits.faces
 all_hold m sound closed (NoVertex face corner) = sound.is_mesh.live_corners
 all_hold m sound closed (Repeated face) = sound.is_mesh.different_corners
 all_hold m sound closed (Doubled first second) = sound.is_mesh.different_faces
 all_hold m sound closed (Unbalanced from to) = closed
 
 -- lists whose mesh is sound and closed have no fault
-pub no_fault : (ps : List Point) (fs : Faces) → IsSound (mesh_of ps fs) → IsClosed (mesh_of ps fs) → shape_fault (length ps) fs ≡ None
-no_fault ps fs sound closed = by_fault (shape_fault (length ps) fs) refl
+pub no_fault : (scale : Scale) (ps : List Point) (fs : Faces) → IsSound (mesh_under scale ps fs) → IsClosed (mesh_under scale ps fs) → shape_fault scale (length ps) fs ≡ None
+no_fault scale ps fs sound closed = by_fault (shape_fault scale (length ps) fs) refl
   where
-    by_fault : (o : Option ShapeFault) → shape_fault (length ps) fs ≡ o → o ≡ None
+    by_fault : (o : Option ShapeFault) → shape_fault scale (length ps) fs ≡ o → o ≡ None
     by_fault None e = refl
-    by_fault (Some fault) e = absurd (denied (mesh_of ps fs) fault (at_fault ps fs fault e) (all_hold (mesh_of ps fs) sound closed fault))
+    by_fault (Some fault) e = absurd (denied (mesh_under scale ps fs) fault (at_fault scale ps fs fault e) (all_hold (mesh_under scale ps fs) sound closed fault))

@@ -15,17 +15,18 @@ use Rattle.std.proofs.lemmas.Bool.{cases_lt, cases_eq}
 use Rattle.std.proofs.lemmas.Bool.Decides.{nat_tests}
 use Rattle.std.proofs.lemmas.Option.{slice_get_within}
 use Rattle.grid_base.specs.declared.Point.{Point}
-use Rattle.grid_base.specs.declared.TheConstants.{VERTICES_MAX, FACES_MAX}
+use Rattle.mesh_base.specs.declared.limits.Scale.{Scale}
+use Rattle.mesh_base.specs.Limits.{limits_of}
+use Rattle.mesh_base.proofs.MeshLaws.{few_vertices_of, few_faces_of}
 use Rattle.mesh_base.specs.declared.ids.Corners.{Corners}
 use Rattle.mesh_base.specs.declared.faults.ShapeFault.TheVariants.{TooManyVertices, TooManyFaces, NoVertex, Repeated}
 use Rattle.mesh_base.specs.Mesh.{IsSound, AreLive, AreDifferent, HasCorners, equal_up_to_rotation}
-use Rattle.mesh_base.specs.Limits.{standard}
 use Rattle.mesh_base.specs.Given.{Faces}
 use Rattle.mesh_plain.specs.Shape.{bad_corner, no_vertex_from, repeats, repeated_from, doubled_from, is_vertex, fault_but_balance, shape_fault}
 use Rattle.mesh_base.proofs.Finite.{none_in_empty}
 use Rattle.mesh_base.proofs.Ordered.{entries-of_sorted}
 use Rattle.mesh_base.proofs.MeshLaws.{equal_symmetric}
-use Rattle.mesh_base.specs.Given.{mesh_of}
+use Rattle.mesh_base.specs.Given.{mesh_under}
 use Rattle.mesh_base.specs.Changes.{with_vertex, with_face, corners_of}
 
 -- keys of a numbered list begin at the first number
@@ -107,8 +108,8 @@ get_map g (x ∷ xs) zero y h = (x, refl, cc)
 get_map g (x ∷ xs) (suc i) y h = get_map g xs i y h
 
 -- a face of the mesh is one of the list
-face_of : (ps : List Point) (fs : Faces) (f : ℕ) (c : Corners) → HasCorners (mesh_of ps fs) f c → (i : ℕ) × (l : List ℕ) × (f ≡ i + 1) × (slice_get fs i ≡ Some l) × (c ≡ corners_of l)
-face_of ps fs f c h =
+face_of : (scale : Scale) (ps : List Point) (fs : Faces) (f : ℕ) (c : Corners) → HasCorners (mesh_under scale ps fs) f c → (i : ℕ) × (l : List ℕ) × (f ≡ i + 1) × (slice_get fs i ≡ Some l) × (c ≡ corners_of l)
+face_of scale ps fs f c h =
     let at = got_numbered (map corners_of fs) f c h in
     let from = get_map corners_of fs at.0 c at.2 in
     (at.0, from.0, at.1, from.1, from.2)
@@ -180,27 +181,27 @@ pub few : (limit n : ℕ) → nat_lt limit n ≡ false → n ≤ limit
 few limit n h = grind (arith, nat_tests)
 
 -- ---- each part of the laws and the limits
-pub few_vertices : (ps : List Point) (fs : Faces) → nat_lt VERTICES_MAX (length ps) ≡ false → finite.len (mesh_of ps fs).points ≤ VERTICES_MAX
-few_vertices ps fs h = let n = len_numbered ps in let small = few VERTICES_MAX (length ps) h in omega arith
+pub few_vertices : (scale : Scale) (ps : List Point) (fs : Faces) → nat_lt (limits_of scale).vertices (length ps) ≡ false → finite.len (mesh_under scale ps fs).points ≤ (limits_of scale).vertices
+few_vertices scale ps fs h = let n = len_numbered ps in let small = few (limits_of scale).vertices (length ps) h in omega arith
 
-pub few_faces : (ps : List Point) (fs : Faces) → nat_lt FACES_MAX (length fs) ≡ false → finite.len (mesh_of ps fs).faces ≤ FACES_MAX
-few_faces ps fs h = let n = len_numbered (map corners_of fs) in let small = few FACES_MAX (length fs) h in omega (arith, n, length-map fs corners_of)
+pub few_faces : (scale : Scale) (ps : List Point) (fs : Faces) → nat_lt (limits_of scale).faces (length fs) ≡ false → finite.len (mesh_under scale ps fs).faces ≤ (limits_of scale).faces
+few_faces scale ps fs h = let n = len_numbered (map corners_of fs) in let small = few (limits_of scale).faces (length fs) h in omega (arith, n, length-map fs corners_of)
 
-pub corners_live : (ps : List Point) (fs : Faces) → no_vertex_from (length ps) 1 fs ≡ None → (f : ℕ) (c : Corners) → HasCorners (mesh_of ps fs) f c → AreLive (mesh_of ps fs) c
-corners_live ps fs vertices f c e =
-    let at = face_of ps fs f c e in
+pub corners_live : (scale : Scale) (ps : List Point) (fs : Faces) → no_vertex_from (length ps) 1 fs ≡ None → (f : ℕ) (c : Corners) → HasCorners (mesh_under scale ps fs) f c → AreLive (mesh_under scale ps fs) c
+corners_live scale ps fs vertices f c e =
+    let at = face_of scale ps fs f c e in
     let live = all_vertices (length ps) (corners_of at.1) (no_bad_corner (length ps) 1 fs at.0 at.1 vertices at.3) in
-    subst (AreLive (mesh_of ps fs)) (sym at.4) (is_live ps (corners_of at.1).first live.0, is_live ps (corners_of at.1).second live.1, is_live ps (corners_of at.1).third live.2)
+    subst (AreLive (mesh_under scale ps fs)) (sym at.4) (is_live ps (corners_of at.1).first live.0, is_live ps (corners_of at.1).second live.1, is_live ps (corners_of at.1).third live.2)
 
-pub corners_different : (ps : List Point) (fs : Faces) → repeated_from 1 fs ≡ None → (f : ℕ) (c : Corners) → HasCorners (mesh_of ps fs) f c → AreDifferent c
-corners_different ps fs once f c e =
-    let at = face_of ps fs f c e in
+pub corners_different : (scale : Scale) (ps : List Point) (fs : Faces) → repeated_from 1 fs ≡ None → (f : ℕ) (c : Corners) → HasCorners (mesh_under scale ps fs) f c → AreDifferent c
+corners_different scale ps fs once f c e =
+    let at = face_of scale ps fs f c e in
     subst AreDifferent (sym at.4) (different (corners_of at.1) (nowhere (λ l. repeats (corners_of l)) 1 fs at.0 at.1 once at.3))
 
-pub faces_different : (ps : List Point) (fs : Faces) → doubled_from 1 fs ≡ None → (f g : ℕ) (c d : Corners) → HasCorners (mesh_of ps fs) f c → HasCorners (mesh_of ps fs) g d → equal_up_to_rotation c d ≡ true → f ≡ g
-faces_different ps fs single f g c d e e' same =
-    let at = face_of ps fs f c e in
-    let at' = face_of ps fs g d e' in
+pub faces_different : (scale : Scale) (ps : List Point) (fs : Faces) → doubled_from 1 fs ≡ None → (f g : ℕ) (c d : Corners) → HasCorners (mesh_under scale ps fs) f c → HasCorners (mesh_under scale ps fs) g d → equal_up_to_rotation c d ≡ true → f ≡ g
+faces_different scale ps fs single f g c d e e' same =
+    let at = face_of scale ps fs f c e in
+    let at' = face_of scale ps fs g d e' in
     let equal : equal_up_to_rotation (corners_of at.1) (corners_of at'.1) ≡ true = subst (λ x. equal_up_to_rotation x (corners_of at'.1) ≡ true) at.4 (subst (λ x. equal_up_to_rotation c x ≡ true) at'.4 same) in
     ⊎_elim (λ less. absurd (not_both equal (none_doubled 1 fs at.0 at'.0 at.1 at'.1 single less at.3 at'.3)))
     (λ le. ⊎_elim (λ is. at.2 ∙ ap (λ i. i + 1) is ∙ sym at'.2)
@@ -209,17 +210,17 @@ faces_different ps fs single f g c d e e' same =
     (cases_lt at.0 at'.0)
 
 -- what no part denies
-pub record HaveNoFault (n : ℕ) (fs : Faces) : Type 0 where
-  pub vertices : nat_lt VERTICES_MAX n ≡ false
-  pub faces : nat_lt FACES_MAX (length fs) ≡ false
+pub record HaveNoFault (scale : Scale) (n : ℕ) (fs : Faces) : Type 0 where
+  pub vertices : nat_lt (limits_of scale).vertices n ≡ false
+  pub faces : nat_lt (limits_of scale).faces (length fs) ≡ false
   pub corners : no_vertex_from n 1 fs ≡ None
   pub once : repeated_from 1 fs ≡ None
   pub single : doubled_from 1 fs ≡ None
 
-pub no_fault_but_balance : (n : ℕ) (fs : Faces) → fault_but_balance n fs ≡ None → HaveNoFault n fs
-no_fault_but_balance n fs h =
-    let p1 = none_of (if nat_lt VERTICES_MAX n then Some (TooManyVertices n) else None) _ h in
-    let p2 = none_of (if nat_lt FACES_MAX (length fs) then Some (TooManyFaces (length fs)) else None) _ p1.1 in
+pub no_fault_but_balance : (scale : Scale) (n : ℕ) (fs : Faces) → fault_but_balance scale n fs ≡ None → HaveNoFault scale n fs
+no_fault_but_balance scale n fs h =
+    let p1 = none_of (if nat_lt (limits_of scale).vertices n then Some (TooManyVertices n) else None) _ h in
+    let p2 = none_of (if nat_lt (limits_of scale).faces (length fs) then Some (TooManyFaces (length fs)) else None) _ p1.1 in
     let p3 = none_of (option_map (λ p. NoVertex p.0 p.1) (no_vertex_from n 1 fs)) _ p2.1 in
     let p4 = none_of (option_map (λ face. Repeated face) (repeated_from 1 fs)) _ p3.1 in
     record {
@@ -231,24 +232,26 @@ no_fault_but_balance n fs h =
     }
 
 -- lists of good shape make a sound mesh
-pub sound-mesh_of : (ps : List Point) (fs : Faces) → shape_fault (length ps) fs ≡ None → IsSound (mesh_of ps fs)
-sound-mesh_of ps fs h =
-    let none = no_fault_but_balance (length ps) fs (none_of (fault_but_balance (length ps) fs) _ h).0 in
-    let points_few = few VERTICES_MAX (length ps) none.vertices in
-    let faces_few = few FACES_MAX (length fs) none.faces in
+pub sound-mesh_under : (scale : Scale) (ps : List Point) (fs : Faces) → shape_fault scale (length ps) fs ≡ None → IsSound (mesh_under scale ps fs)
+sound-mesh_under scale ps fs h =
+    let none = no_fault_but_balance scale (length ps) fs (none_of (fault_but_balance scale (length ps) fs) _ h).0 in
+    let points_few = few (limits_of scale).vertices (length ps) none.vertices in
+    let faces_few = few (limits_of scale).faces (length fs) none.faces in
+    let most_points = few_vertices_of scale in
+    let most_faces = few_faces_of scale in
     record {
       is_mesh = record {
         vertex_ids = λ v e. of_live ps v e;
         face_ids = λ f e. let ids = of_live (map corners_of fs) f e in omega (arith, ids, length-map fs corners_of);
         solid_ids = λ v h. let none = none_in_empty (Unit {0}) v in cc;
-        live_corners = corners_live ps fs none.corners;
-        different_corners = corners_different ps fs none.once;
-        different_faces = faces_different ps fs none.single;
+        live_corners = corners_live scale ps fs none.corners;
+        different_corners = corners_different scale ps fs none.once;
+        different_faces = faces_different scale ps fs none.single;
       };
       limits = record {
-        vertices = few_vertices ps fs none.vertices;
-        faces = few_faces ps fs none.faces;
-        greatest = (lit≤ tt, lit≤ tt);
+        vertices = few_vertices scale ps fs none.vertices;
+        faces = few_faces scale ps fs none.faces;
+        greatest = (few_vertices_of scale, few_faces_of scale);
         vertex_ids = omega arith;
         face_ids = omega arith;
       };
@@ -259,18 +262,18 @@ map_push g [] x = refl
 map_push g (y ∷ xs) x = ap (λ ys. g y ∷ ys) (map_push g xs x)
 
 -- one more point
-pub mesh_of-point : (ps : List Point) (p : Point) → with_vertex (mesh_of ps []) p ≡ mesh_of (ps ++ p ∷ []) []
-mesh_of-point ps p =
+pub mesh_under-point : (scale : Scale) (ps : List Point) (p : Point) → with_vertex (mesh_under scale ps []) p ≡ mesh_under scale (ps ++ p ∷ []) []
+mesh_under-point scale ps p =
     let more : (length ps + 1) + 1 ≡ length (ps ++ p ∷ []) + 1 = omega (arith, length-append ps (p ∷ [])) in
-    λ i. record { points = sym (pushed ps p) i; faces = finite.from_entries []; solid = finite.empty; next_vertex = more i; next_face = 0 + 1; limits = standard }
+    λ i. record { points = sym (pushed ps p) i; faces = finite.from_entries []; solid = finite.empty; next_vertex = more i; next_face = 0 + 1; limits = limits_of scale }
 
 -- one more face
-pub mesh_of-face : (ps : List Point) (fs : Faces) (l : List ℕ) → with_face (mesh_of ps fs) (corners_of l) ≡ mesh_of ps (fs ++ l ∷ [])
-mesh_of-face ps fs l =
+pub mesh_under-face : (scale : Scale) (ps : List Point) (fs : Faces) (l : List ℕ) → with_face (mesh_under scale ps fs) (corners_of l) ≡ mesh_under scale ps (fs ++ l ∷ [])
+mesh_under-face scale ps fs l =
     let more : (length fs + 1) + 1 ≡ length (fs ++ l ∷ []) + 1 = omega (arith, length-append fs (l ∷ [])) in
     let id : length (map corners_of fs) + 1 ≡ length fs + 1 = ap (λ n. n + 1) (length-map fs corners_of) in
     let faces : finite.insert (finite.from_entries {R = nat_cmp} (enumerate_from 1 (map corners_of fs))) (length fs + 1) (corners_of l) ≡ finite.from_entries (enumerate_from 1 (map corners_of (fs ++ l ∷ []))) =
     ap (λ k. finite.insert (finite.from_entries {R = nat_cmp} (enumerate_from 1 (map corners_of fs))) k (corners_of l)) (sym id)
     ∙ sym (pushed (map corners_of fs) (corners_of l))
     ∙ ap (λ cs. finite.from_entries (enumerate_from 1 cs)) (sym (map_push corners_of fs l)) in
-    λ i. record { points = finite.from_entries (enumerate_from 1 ps); faces = faces i; solid = finite.empty; next_vertex = length ps + 1; next_face = more i; limits = standard }
+    λ i. record { points = finite.from_entries (enumerate_from 1 ps); faces = faces i; solid = finite.empty; next_vertex = length ps + 1; next_face = more i; limits = limits_of scale }

@@ -1,15 +1,16 @@
 -- The mesh of lists is sound with greater next ids.
 use Rattle.std.proofs.Common.{ℕ, List, length, arith}
 use Rattle.grid_base.specs.declared.Point.{Point}
+use Rattle.mesh_base.specs.declared.limits.Scale.{Scale}
 use Rattle.mesh_base.specs.Mesh.{IsSound}
-use Rattle.mesh_base.specs.Given.{Faces, mesh_of}
+use Rattle.mesh_base.specs.Given.{Faces, mesh_under}
 use Rattle.mesh_plain.specs.Numbered.{MayBeNext, numbered}
 use Rattle.mesh_plain.specs.Shape.{HasNoFault}
-use Rattle.mesh_plain.proofs.Lists.{sound-mesh_of}
+use Rattle.mesh_plain.proofs.Lists.{sound-mesh_under}
 
-pub sound-numbered : (points : List Point) (faces : Faces) (v f : ℕ) → HasNoFault points faces → MayBeNext (length points) v → MayBeNext (length faces) f → IsSound (numbered (mesh_of points faces) v f)
-sound-numbered points faces v f good of_v of_f =
-    let s = sound-mesh_of points faces good in
+pub sound-numbered : (scale : Scale) (points : List Point) (faces : Faces) (v f : ℕ) → HasNoFault scale points faces → MayBeNext (length points) v → MayBeNext (length faces) f → IsSound (numbered (mesh_under scale points faces) v f)
+sound-numbered scale points faces v f good of_v of_f =
+    let s = sound-mesh_under scale points faces good in
     let low_v = of_v.above in
     let low_f = of_f.above in
     record {

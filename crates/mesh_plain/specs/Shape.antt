@@ -5,7 +5,8 @@ use Rattle.std.specs.Prelude.{length, nat_lt, nat_le, if◌then◌else◌, count
 use Rattle.std.specs.Option.{option_or, option_map}
 use Rattle.std.specs.List.{position_from, flat_map, range_with_len}
 use Rattle.std.proofs.Common.{Option, Some, None}
-use Rattle.grid_base.specs.declared.TheConstants.{VERTICES_MAX, FACES_MAX}
+use Rattle.mesh_base.specs.declared.limits.Scale.{Scale}
+use Rattle.mesh_base.specs.Limits.{limits_of}
 use Rattle.grid_base.specs.declared.Point.{Point}
 use Rattle.mesh_base.specs.declared.ids.Corners.{Corners}
 use Rattle.mesh_base.specs.declared.faults.ShapeFault.{ShapeFault}
@@ -68,23 +69,24 @@ first_unbalanced n fs =
     (flat_map (λ u. map (λ v. (u, v)) (numbers_to n)) (numbers_to n))
 
 -- the first part but balance that fails, in this order, with its least place
-abbrev pub fault_but_balance : ℕ → Faces → Option ShapeFault
-fault_but_balance n fs =
-    option_or (if nat_lt VERTICES_MAX n then Some (TooManyVertices n) else None)
-    (option_or (if nat_lt FACES_MAX (length fs) then Some (TooManyFaces (length fs)) else None)
+abbrev pub fault_but_balance : Scale → ℕ → Faces → Option ShapeFault
+fault_but_balance scale n fs =
+    option_or (if nat_lt (limits_of scale).vertices n then Some (TooManyVertices n) else None)
+    (option_or
+    (if nat_lt (limits_of scale).faces (length fs) then Some (TooManyFaces (length fs)) else None)
     (option_or (option_map (λ p. NoVertex p.0 p.1) (no_vertex_from n 1 fs))
     (option_or (option_map (λ face. Repeated face) (repeated_from 1 fs))
     (option_map (λ p. Doubled p.0 p.1) (doubled_from 1 fs)))))
 
 -- the first part that fails
-abbrev pub shape_fault : ℕ → Faces → Option ShapeFault
-shape_fault n fs =
-    option_or (fault_but_balance n fs)
+abbrev pub shape_fault : Scale → ℕ → Faces → Option ShapeFault
+shape_fault scale n fs =
+    option_or (fault_but_balance scale n fs)
     (option_map (λ p. Unbalanced p.0 p.1) (first_unbalanced n fs))
 
 -- no part fails
-abbrev pub HasNoFault : List Point → Faces → Type 0
-HasNoFault points faces = shape_fault (length points) faces ≡ None
+abbrev pub HasNoFault : Scale → List Point → Faces → Type 0
+HasNoFault scale points faces = shape_fault scale (length points) faces ≡ None
 
 -- what a refusal says of the fault
 abbrev pub IsRefusal : Option ShapeFault → ShapeRefusal → Type 0
@@ -93,8 +95,8 @@ IsRefusal fault (Shape f) = fault ≡ Some f
 
 -- the part of the laws, the limits and the balance that a fault denies
 abbrev pub Denied : ShapeFault → Mesh → Type 0
-Denied (TooManyVertices count) m = finite.len m.points ≤ VERTICES_MAX
-Denied (TooManyFaces count) m = finite.len m.faces ≤ FACES_MAX
+Denied (TooManyVertices count) m = finite.len m.points ≤ m.limits.vertices
+Denied (TooManyFaces count) m = finite.len m.faces ≤ m.limits.faces
 Denied (NoVertex face corner) m = (f : ℕ) (c : Corners) → HasCorners m f c → AreLive m c
 Denied (Repeated face) m = (f : ℕ) (c : Corners) → HasCorners m f c → AreDifferent c
 Denied (Doubled first second) m = (f g : ℕ) (c d : Corners) → HasCorners m f c → HasCorners m g d →
@@ -112,8 +114,8 @@ part_of (Unbalanced from to) = 6
 
 -- what the fault names is at fault in the mesh
 abbrev pub IsAtFault : ShapeFault → Mesh → Type 0
-IsAtFault (TooManyVertices count) m = (count ≡ finite.len m.points) × (VERTICES_MAX < count)
-IsAtFault (TooManyFaces count) m = (count ≡ finite.len m.faces) × (FACES_MAX < count)
+IsAtFault (TooManyVertices count) m = (count ≡ finite.len m.points) × (m.limits.vertices < count)
+IsAtFault (TooManyFaces count) m = (count ≡ finite.len m.faces) × (m.limits.faces < count)
 IsAtFault (NoVertex face corner) m =
     (c : Corners) × (i : ℕ) × (v : ℕ) × HasCorners m face c × (corner ≡ i + 1)
     × (slice_get (corner_list c) i ≡ Some v) × ¬ (IsLiveVertex m v)

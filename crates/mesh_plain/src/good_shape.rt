@@ -1,34 +1,34 @@
 ghost use Rattle.std.specs.Prelude.{◌≡◌, ◌^◌, ◌<◌, ◌≤◌, ◌+◌, length, IsOk, IfOk, IfErr, None, All, false};
-ghost use Rattle.grid_base.specs.declared.TheConstants.{VERTICES_MAX, FACES_MAX};
+ghost use Rattle.grid_base.specs.declared.TheConstants.{FACES_MAX};
 ghost use Rattle.mesh_base.specs.Mesh.{IsSound};
 ghost use Rattle.mesh_base.specs.Sides.{IsClosed};
 ghost use Rattle.mesh_base.specs.Changes.{corners_of};
-ghost use Rattle.mesh_base.specs.Given.{mesh_of};
+ghost use Rattle.mesh_base.specs.Given.{mesh_under};
 ghost use Rattle.mesh_plain.specs.Shape.{bad_corner, no_vertex_from, repeats, repeated_from, doubled_from, shape_fault, IsRefusal, IsJust, EarlierHold};
 ghost use Rattle.mesh_plain.specs.Balance.{AreSidesOf};
 ghost use Rattle.mesh_plain.specs.Parts.{fault_of_each};
 
 use crate::balance::{Sides, first_unbalanced, run_up_once, sides_in_order};
 use crate::doubled::doubled_by_key;
-use grid_base::{FACES_MAX, NoMemory, VERTICES_MAX};
-use mesh_base::{MeshLists, ShapeFault, ShapeRefusal};
+use grid_base::NoMemory;
+use mesh_base::{MeshLists, Scale, ShapeFault, ShapeRefusal};
 use std::alloc::Global;
 
-/// Whether lists make a closed mesh within the limits. If not, the first fault, in the order of `ShapeFault`, at its
+/// Whether lists make a closed mesh within the limits of a scale. If not, the first fault, in the order of `ShapeFault`, at its
 /// least place: the least face, then corner, or the least two numbers, the first compared first.
-pub fn shape(alloc: Global, lists: &MeshLists) -> Result<(), ShapeRefusal>
+pub fn shape(alloc: Global, scale: Scale, lists: &MeshLists) -> Result<(), ShapeRefusal>
     // Ok: no fault, which is to say a mesh within its limits, and closed.
-    ensures none { IsOk result → shape_fault (length lists.now.points) lists.now.faces ≡ None }
-    ensures sound { IsOk result → IsSound (mesh_of lists.now.points lists.now.faces) }
-    ensures closed { IsOk result → IsClosed (mesh_of lists.now.points lists.now.faces) }
+    ensures none { IsOk result → shape_fault scale (length lists.now.points) lists.now.faces ≡ None }
+    ensures sound { IsOk result → IsSound (mesh_under scale lists.now.points lists.now.faces) }
+    ensures closed { IsOk result → IsClosed (mesh_under scale lists.now.points lists.now.faces) }
 
     // A fault: the first. What it names is at fault, and the parts before the one that it denies hold.
     ensures first { IfErr result
-        (IsRefusal (shape_fault (length lists.now.points) lists.now.faces)) }
-    ensures just { IfErr result (IsJust (mesh_of lists.now.points lists.now.faces)) }
-    ensures earlier { IfErr result (EarlierHold (mesh_of lists.now.points lists.now.faces)) }
+        (IsRefusal (shape_fault scale (length lists.now.points) lists.now.faces)) }
+    ensures just { IfErr result (IsJust (mesh_under scale lists.now.points lists.now.faces)) }
+    ensures earlier { IfErr result (EarlierHold (mesh_under scale lists.now.points lists.now.faces)) }
 {
-    match fault_of(alloc, lists) {
+    match fault_of(alloc, scale, lists) {
         Ok(None) => Ok(()),
         Ok(Some(fault)) => Err(ShapeRefusal::Shape(fault)),
         Err(_) => Err(ShapeRefusal::NoMemory),
@@ -36,10 +36,10 @@ pub fn shape(alloc: Global, lists: &MeshLists) -> Result<(), ShapeRefusal>
 }
 
 /// What is wrong with lists.
-fn fault_of(alloc: Global, lists: &MeshLists) -> Result<Option<ShapeFault>, NoMemory>
-    ensures { IfOk result (λ fault. fault ≡ shape_fault (length lists.now.points) lists.now.faces) }
+fn fault_of(alloc: Global, scale: Scale, lists: &MeshLists) -> Result<Option<ShapeFault>, NoMemory>
+    ensures { IfOk result (λ fault. fault ≡ shape_fault scale (length lists.now.points) lists.now.faces) }
 {
-    if let Some(fault) = fault_of_each(lists) {
+    if let Some(fault) = fault_of_each(scale, lists) {
         return Ok(Some(fault));
     }
     let faces = lists.faces.as_slice();
@@ -123,17 +123,18 @@ fn first_repeated(faces: &[[u32; 3]]) -> Option<u32>
 }
 
 /// What is wrong with how many points and faces there are, or with a face by itself.
-fn fault_of_each(lists: &MeshLists) -> Option<ShapeFault>
-    ensures { result ≡ fault_of_each (length lists.now.points) lists.now.faces }
+fn fault_of_each(scale: Scale, lists: &MeshLists) -> Option<ShapeFault>
+    ensures { result ≡ fault_of_each scale (length lists.now.points) lists.now.faces }
 {
     let points = lists.points.len();
     let faces = lists.faces.as_slice();
-    if points > VERTICES_MAX as usize {
+    let limits = scale.limits();
+    if points > limits.vertices as usize {
         return Some(ShapeFault::TooManyVertices {
             count: points as u64,
         });
     }
-    if faces.len() > FACES_MAX as usize {
+    if faces.len() > limits.faces as usize {
         return Some(ShapeFault::TooManyFaces {
             count: faces.len() as u64,
         });

@@ -4,7 +4,7 @@ ghost use Rattle.mesh_base.specs.Mesh.{IsSound};
 use crate::tables::Tables;
 use grid_base::{Extent, ID_MAX, NoMemory, Point};
 use mesh_base::{
-    AddFault, Corners, FaceId, Limits, Mark, MeshLists, Surface, VertexId, faces_near_of_all,
+    AddFault, Corners, FaceId, Limits, Mark, MeshLists, Scale, Surface, VertexId, faces_near_of_all,
 };
 use std::alloc::Global;
 
@@ -19,18 +19,18 @@ pub struct PlainMesh {
 
 impl PlainMesh {
     ghost use Rattle.mesh_plain.specs.Shape.{shape_fault};
-    ghost use Rattle.mesh_base.specs.Given.{mesh_of};
+    ghost use Rattle.mesh_base.specs.Given.{mesh_under};
     ghost use Rattle.mesh_plain.specs.Numbered.{MayBeNext, numbered};
     ghost use Rattle.mesh_plain.specs.Plain.{mesh_in, kept_in};
     ghost use Rattle.std.specs.Prelude.{None, [], IfOk, length};
 
-    /// The mesh that lists of good shape give, with nothing kept.
-    pub fn of(alloc: Global, lists: &MeshLists) -> Result<PlainMesh, NoMemory>
-        requires { shape_fault (length lists.now.points) lists.now.faces ≡ None }
-        ensures mesh { IfOk result (λ s. mesh_in s ≡ mesh_of lists.now.points lists.now.faces) }
+    /// The mesh that lists of good shape give, with the limits of a scale and with nothing kept.
+    pub fn of(alloc: Global, scale: Scale, lists: &MeshLists) -> Result<PlainMesh, NoMemory>
+        requires { shape_fault scale (length lists.now.points) lists.now.faces ≡ None }
+        ensures mesh { IfOk result (λ s. mesh_in s ≡ mesh_under scale lists.now.points lists.now.faces) }
         ensures kept { IfOk result (λ s. kept_in s ≡ []) }
     {
-        let now = Tables::of(alloc, lists)?;
+        let now = Tables::of(alloc, scale, lists)?;
         Ok(PlainMesh {
             now,
             before: Vec::new(alloc),
@@ -41,18 +41,19 @@ impl PlainMesh {
     /// ids in use, and at most one above `ID_MAX`.
     pub fn of_numbered(
         alloc: Global,
+        scale: Scale,
         lists: &MeshLists,
         next_vertex: u32,
         next_face: u32,
     ) -> Result<PlainMesh, NoMemory>
-        requires shape { shape_fault (length lists.now.points) lists.now.faces ≡ None }
+        requires shape { shape_fault scale (length lists.now.points) lists.now.faces ≡ None }
         requires vertex { MayBeNext (length lists.now.points) next_vertex }
         requires face { MayBeNext (length lists.now.faces) next_face }
-        ensures mesh { let listed = mesh_of lists.now.points lists.now.faces in
+        ensures mesh { let listed = mesh_under scale lists.now.points lists.now.faces in
             IfOk result (λ s. mesh_in s ≡ numbered listed next_vertex next_face) }
         ensures kept { IfOk result (λ s. kept_in s ≡ []) }
     {
-        let mut now = Tables::of(alloc, lists)?;
+        let mut now = Tables::of(alloc, scale, lists)?;
         now.number(next_vertex, next_face);
         Ok(PlainMesh {
             now,

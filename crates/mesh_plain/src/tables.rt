@@ -1,6 +1,6 @@
 //! The ordered maps of one mesh.
 ghost use Rattle.grid_base.specs.declared.TheConstants.{VERTICES_MAX, FACES_MAX};
-ghost use Rattle.mesh_base.specs.Given.{mesh_of, empty_mesh};
+ghost use Rattle.mesh_base.specs.Given.{mesh_under, empty_mesh};
 ghost use Rattle.mesh_base.specs.Limits.{under};
 ghost use Rattle.mesh_plain.specs.Numbered.{numbered};
 ghost use Rattle.std.specs.Prelude.{◌≤◌, ◌≡◌, ◌<◌, ◌+◌, ◌^◌, IfOk, OnOk, OnErr, IsNone, slice_get, length, []};
@@ -12,7 +12,9 @@ ghost use Rattle.mesh_base.specs.Sides.{above, faces_at, faces_running, runs};
 ghost use Rattle.mesh_plain.specs.Copying.{with_vertex_of, with_face_of, with_vertices_of, with_faces_of};
 
 use grid_base::{NoMemory, Point};
-use mesh_base::{Corners, FaceId, FaceTable, Limits, MeshLists, Surface, VertexId, point_of};
+use mesh_base::{
+    Corners, FaceId, FaceTable, Limits, MeshLists, Scale, Surface, VertexId, point_of,
+};
 use std::alloc::Global;
 use std::collections::BTreeMap;
 use std::marker::Model;
@@ -80,17 +82,18 @@ impl Tables {
             solid: BTreeMap::new(alloc),
             next_vertex: 1,
             next_face: 1,
-            limits: Limits::standard(),
+            limits: Scale::Standard.limits(),
         }
     }
 
-    /// The tables of lists, numbered from 1.
-    pub(crate) fn of(alloc: Global, lists: &MeshLists) -> Result<Tables, NoMemory>
+    /// The tables of lists, numbered from 1, with the limits of a scale.
+    pub(crate) fn of(alloc: Global, scale: Scale, lists: &MeshLists) -> Result<Tables, NoMemory>
         requires points { length lists.now.points ≤ VERTICES_MAX }
         requires faces { length lists.now.faces ≤ FACES_MAX }
-        ensures { IfOk result (λ t. t ≡ mesh_of lists.now.points lists.now.faces) }
+        ensures { IfOk result (λ t. t ≡ mesh_under scale lists.now.points lists.now.faces) }
     {
         let mut tables = Tables::new(alloc);
+        tables.allow(scale.limits());
         for p in lists.points.as_slice() {
             tables.add_vertex(*p)?;
         }

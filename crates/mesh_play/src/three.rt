@@ -1,6 +1,6 @@
 //! The same calls of one mesh, kept in three ways.
 ghost use Rattle.std.specs.Prelude.{◌≡◌, None, IfOk, length};
-ghost use Rattle.mesh_base.specs.Given.{mesh_of};
+ghost use Rattle.mesh_base.specs.Given.{mesh_under};
 ghost use Rattle.mesh_plain.specs.Shape.{shape_fault};
 ghost use Rattle.mesh_play.specs.Play.{start_of, answers_of, AreLawful};
 
@@ -8,7 +8,7 @@ use crate::calls::{Answers, Call};
 use crate::playing::play;
 use grid_base::NoMemory;
 use half_mesh::HalfMesh;
-use mesh_base::MeshLists;
+use mesh_base::{MeshLists, Scale};
 use mesh_journal::JournalMesh;
 use mesh_plain::PlainMesh;
 use std::alloc::Global;
@@ -21,24 +21,25 @@ pub struct ThreeAnswers {
     pub journal: Answers,
 }
 
-/// Makes a mesh of lists of good shape in each of the three ways in which meshes are kept, by `PlainMesh::of`,
+/// Makes a mesh of lists of good shape, with the limits of a scale, in each of the three ways in which meshes are kept, by `PlainMesh::of`,
 /// `HalfMesh::of` and `JournalMesh::of`, and makes the calls of each. Whichever it is, the answers are the same. Refuses
 /// only where there is no memory.
 pub fn play_three(
     alloc: Global,
+    scale: Scale,
     lists: &MeshLists,
     calls: &[Call],
 ) -> Result<ThreeAnswers, NoMemory>
-    requires shape { shape_fault (length lists.now.points) lists.now.faces ≡ None }
-    requires lawful { AreLawful (start_of (mesh_of lists.now.points lists.now.faces)) calls.now }
+    requires shape { shape_fault scale (length lists.now.points) lists.now.faces ≡ None }
+    requires lawful { AreLawful (start_of (mesh_under scale lists.now.points lists.now.faces)) calls.now }
     ensures plain { IfOk result (λ told. told.plain
-        ≡ answers_of (start_of (mesh_of lists.now.points lists.now.faces)) calls.now) }
+        ≡ answers_of (start_of (mesh_under scale lists.now.points lists.now.faces)) calls.now) }
     ensures half { IfOk result (λ told. told.half ≡ told.plain) }
     ensures journal { IfOk result (λ told. told.journal ≡ told.plain) }
 {
-    let mut plain = PlainMesh::of(alloc, lists)?;
-    let mut half = HalfMesh::of(alloc, lists)?;
-    let mut journal = JournalMesh::of(alloc, lists)?;
+    let mut plain = PlainMesh::of(alloc, scale, lists)?;
+    let mut half = HalfMesh::of(alloc, scale, lists)?;
+    let mut journal = JournalMesh::of(alloc, scale, lists)?;
     Ok(ThreeAnswers {
         plain: play(alloc, &mut plain, calls)?,
         half: play(alloc, &mut half, calls)?,

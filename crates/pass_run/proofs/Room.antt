@@ -29,10 +29,10 @@ made_few f n few (x ∷ xs) =
 pairs_few : (ids : List ℕ) → length (id_pairs ids) ≤ length ids * length ids
 pairs_few ids = made_few (λ u. map (λ v. (u, v)) (filter (λ v. nat_lt u v) ids)) (length ids) (λ u. let same = length-map {B = ℕ × ℕ} (filter (λ v. nat_lt u v) ids) (λ v. (u, v)) in let few = filter_few (λ v. nat_lt u v) ids in omega (arith, same, few)) ids
 
-square_few : (n : ℕ) → n ≤ VERTICES_MAX → n * n ≤ 2 ^ 32
+square_few : (n : ℕ) → n ≤ VERTICES_MAX → n * n ≤ 2 ^ 44
 square_few n h = grind arith
 
-pub edges_few : (m : Mesh) → IsSound m → length (edges m) ≤ 2 ^ 32
+pub edges_few : (m : Mesh) → IsSound m → length (edges m) ≤ 2 ^ 44
 edges_few m sound =
     let n = length (finite.keys m.points) in
     let entries = length-map (finite.entries m.points) (λ e. e.0) in

@@ -26,6 +26,6 @@ returns c =
     let rings = ap (mapped (corners_at c.new.result.woven.sides)) c.new-2.ensures.buried ∙ mapped-empty (corners_at c.new.result.woven.sides) in
     let marks = ap solid_in c.new.ensures.buried ∙ solid-empty in
     λ i. record {
-      mesh = record { points = points i; faces = faces i; solid = solid i; next_vertex = 1; next_face = 1; limits = c.standard.ensures i };
+      mesh = record { points = points i; faces = faces i; solid = solid i; next_vertex = 1; next_face = 1; limits = c.limits.ensures i };
       buried = record { points = below i; faces = rings i; solid = marks i };
     }

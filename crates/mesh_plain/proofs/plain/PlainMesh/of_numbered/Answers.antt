@@ -10,6 +10,6 @@ invariant_of-result c = record {
   now_sound =
       subst IsSound
       (sym (c.number.ensures ∙ ap (λ m. numbered m c.args.next_vertex c.args.next_face) c.in_ok-now.ensures))
-      (sound-numbered c.args.lists.now.points c.args.lists.now.faces c.args.next_vertex c.args.next_face c.requires.shape c.requires.vertex c.requires.face);
+      (sound-numbered c.args.scale c.args.lists.now.points c.args.lists.now.faces c.args.next_vertex c.args.next_face c.requires.shape c.requires.vertex c.requires.face);
   before_sound = subst (All IsSound) (sym c.new.ensures.items) (All-empty IsSound);
 }

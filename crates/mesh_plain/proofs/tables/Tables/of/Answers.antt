@@ -1,8 +1,8 @@
 use Rattle.std.proofs.Common.{◌≡◌, ◌<◌, length, take, get_or, [], ◌∷◌, ◌++◌, sym, ap, ◌∙◌, arith}
 use Rattle.std.proofs.lemmas.List.{take_more}
-use Rattle.mesh_base.specs.Given.{mesh_of}
+use Rattle.mesh_base.specs.Given.{mesh_under}
 use Rattle.mesh_base.specs.Changes.{with_vertex, with_face, corners_of}
-use Rattle.mesh_plain.proofs.Lists.{mesh_of-point, mesh_of-face}
+use Rattle.mesh_plain.proofs.Lists.{mesh_under-point, mesh_under-face}
 use Rattle.mesh_plain.proofs.tables.Tables.of.Goals as goal
 
 pub loop-p-preserved : goal.loop-p-preserved
@@ -14,8 +14,8 @@ loop-p-preserved c =
     let here : get_or ps i p ≡ p = sym (c.p-item.is ∙ ap (λ xs. get_or xs i p) c.as_slice-p-items.ensures) in
     c.in_ok-add_vertex.ensures.ok
     ∙ ap (λ m. with_vertex m p) c.loop-p.invariant
-    ∙ mesh_of-point (take i ps) p
-    ∙ ap (λ xs. mesh_of xs []) (ap (λ x. take i ps ++ x ∷ []) (sym here) ∙ sym (take_more ps i p inside))
+    ∙ mesh_under-point c.args.scale (take i ps) p
+    ∙ ap (λ xs. mesh_under c.args.scale xs []) (ap (λ x. take i ps ++ x ∷ []) (sym here) ∙ sym (take_more ps i p inside))
 
 pub loop-f-preserved : goal.loop-f-preserved
 loop-f-preserved c =
@@ -27,5 +27,5 @@ loop-f-preserved c =
     c.in_ok-add_face.ensures.ok
     ∙ ap (λ x. with_face c.loop-f.tables x) (c.of.ensures ∙ same)
     ∙ ap (λ m. with_face m (corners_of (get_or fs i []))) c.loop-f.invariant
-    ∙ mesh_of-face ps (take i fs) (get_or fs i [])
-    ∙ ap (mesh_of ps) (sym (take_more fs i [] inside))
+    ∙ mesh_under-face c.args.scale ps (take i fs) (get_or fs i [])
+    ∙ ap (mesh_under c.args.scale ps) (sym (take_more fs i [] inside))
