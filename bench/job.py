@@ -86,6 +86,32 @@ def torus(around, across, radius=40_000_000, tube=15_000_000):
     return points, faces
 
 
+def ball(times, radius=60_000_000):
+    """A sphere: the 20 faces of an icosahedron, each cut in four so many times."""
+    gold = (1 + math.sqrt(5)) / 2
+    points = [(a, b, 0) for a, b in ((-1, gold), (1, gold), (-1, -gold), (1, -gold))]
+    points = points + [(0, x, y) for x, y, _ in points] + [(y, 0, x) for x, y, _ in points]
+    faces = [(1, 12, 6), (1, 6, 2), (1, 2, 8), (1, 8, 11), (1, 11, 12), (2, 6, 10), (6, 12, 5), (12, 11, 3), (11, 8, 7), (8, 2, 9),
+             (4, 10, 5), (4, 5, 3), (4, 3, 7), (4, 7, 9), (4, 9, 10), (5, 10, 6), (3, 5, 12), (7, 3, 11), (9, 7, 8), (10, 9, 2)]
+    on_sphere = lambda p: tuple(x / math.sqrt(sum(y * y for y in p)) for x in p)
+    points = [on_sphere(p) for p in points]
+    for _ in range(times):
+        between, cut = {}, []
+
+        def middle(a, b):
+            ends = (a, b) if a < b else (b, a)
+            if ends not in between:
+                points.append(on_sphere(tuple(x + y for x, y in zip(points[a - 1], points[b - 1]))))
+                between[ends] = len(points)
+            return between[ends]
+
+        for a, b, c in faces:
+            ab, bc, ca = middle(a, b), middle(b, c), middle(c, a)
+            cut += [(a, ab, ca), (b, bc, ab), (c, ca, bc), (ab, bc, ca)]
+        faces = cut
+    return [tuple(round(x * radius) for x in p) for p in points], faces
+
+
 def cubes(n):
     """N * N * N cubes of side 40 at distances of 100."""
     points, faces = [], []

@@ -8,7 +8,7 @@ use edit_base::Why;
 use edit_flip::flip;
 use edit_split::split;
 use grid_base::{ID_MAX, NoMemory};
-use mesh_base::{Surface, VertexId};
+use mesh_base::{Scale, Surface, VertexId};
 use mesh_plain::{PlainMesh, shape};
 use pair_scan::first_meeting;
 use std::alloc::Global;
@@ -29,12 +29,12 @@ fn flat_mesh(
     for _ in 5..vertices {
         lists.points.push(point([0, 0, 0], rt))?;
     }
-    let shaped = shape(alloc, &lists);
+    let shaped = shape(alloc, Scale::Standard, &lists);
     assert!(rt; shaped.is_ok());
     let (next_vertex, next_face) = next;
     assert!(rt; lists.points.len() < next_vertex as usize && next_vertex <= ID_MAX + 1);
     assert!(rt; lists.faces.len() < next_face as usize && next_face <= ID_MAX + 1);
-    let mesh = PlainMesh::of_numbered(alloc, &lists, next_vertex, next_face)?;
+    let mesh = PlainMesh::of_numbered(alloc, Scale::Standard, &lists, next_vertex, next_face)?;
     let found = first_meeting(alloc, &mesh)?;
     assert!(rt; found.is_none());
     Ok(mesh)

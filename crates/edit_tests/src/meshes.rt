@@ -5,7 +5,7 @@ ghost use Rattle.mesh_base.specs.Sides.{IsClosed};
 
 use edit_base::{Edit, Why};
 use grid_base::{NoMemory, Point};
-use mesh_base::{FaceId, MeshLists, Points, Surface, Triangles, VertexId};
+use mesh_base::{FaceId, MeshLists, Points, Scale, Surface, Triangles, VertexId};
 use mesh_plain::{PlainMesh, shape};
 use pair_scan::first_meeting;
 use std::alloc::Global;
@@ -114,9 +114,9 @@ pub(crate) fn any_mesh_at(
     ensures { IfOk result (λ s. IsClosed (⟦<PlainMesh as Surface>⟧.mesh s)) }
 {
     let lists = lists_at(alloc, points, faces, rt)?;
-    let shaped = shape(alloc, &lists);
+    let shaped = shape(alloc, Scale::Standard, &lists);
     assert!(rt; shaped.is_ok());
-    PlainMesh::of(alloc, &lists)
+    PlainMesh::of(alloc, Scale::Standard, &lists)
 }
 
 // The mesh of these lists, which is clear.

@@ -5,7 +5,7 @@ use crate::pinches::{BOTH_SMALL, TWO, TWO_FACES};
 use crate::zips::{FACES, POINTS};
 use edit_base::PassKind;
 use grid_base::NoMemory;
-use mesh_base::{MeshLists, Surface};
+use mesh_base::{MeshLists, Scale, Surface};
 use mesh_plain::{PlainMesh, shape};
 use outside_io::MemorySink;
 use pair_scan::first_meeting;
@@ -94,9 +94,9 @@ fn done(
     out: &mut MemorySink,
     rt: &impl Abort,
 ) -> Result<(Result<PassCount, PassFault>, u32, u32), NoMemory> {
-    let shaped = shape(alloc, lists);
+    let shaped = shape(alloc, Scale::Standard, lists);
     assert!(rt; shaped.is_ok());
-    let mut mesh = PlainMesh::of(alloc, lists)?;
+    let mut mesh = PlainMesh::of(alloc, Scale::Standard, lists)?;
     let meeting = first_meeting(alloc, &mesh)?;
     assert!(rt; meeting.is_none());
     let count = pass(alloc, &mut mesh, kind, 6, grouped, out);

@@ -48,8 +48,8 @@ pub const STANDARD_VERTICES: u32 = 65_536;
 pub const STANDARD_FACES: u32 = 131_072;
 /// The greatest id of a vertex or a face.
 pub const ID_MAX: u32 = 2_147_483_648;
-/// The greatest length of a large text in bytes: its lines can be counted in 32 bits.
-pub const TEXT_MAX: usize = 4_294_967_294;
+/// The greatest length of a large text in bytes: its lines are counted in 31 bits.
+pub const TEXT_MAX: usize = 2_147_483_647;
 /// The greatest length of a text in bytes, where no large ones are asked for.
 pub const STANDARD_TEXT: usize = 67_108_864;
 

@@ -18,6 +18,7 @@ use Rattle.line_text.specs.declared.TextWhy.{TextWhy}
 use Rattle.line_text.specs.declared.TextWhy.TheVariants as why
 use Rattle.line_text.specs.Faults.{◌>>=◌}
 use Rattle.line_text.specs.Spellings.{spelled_at, count_with_end}
+use Rattle.mesh_base.specs.declared.Scale.{Scale}
 use Rattle.log_text.specs.declared.TheConstants.{TURN_MAX, VERSION}
 use Rattle.log_text.specs.declared.LogLine.{LogLine}
 use Rattle.log_text.specs.declared.LogLine.TheVariants as line
@@ -25,7 +26,7 @@ use Rattle.log_read.specs.Fields.{Reader, both}
 use Rattle.log_text.specs.Lines.{line_words, pair_words, point_words, place_words, places_words, pass_words, asked_words, reason_words}
 use Rattle.log_read.specs.Values.{is_latest, edge_at, position_at, place_at, reason_of, reason_at}
 use Rattle.log_read.specs.EditLines.{pass_of, split_of, flip_of, collapse_of, zip_of, reason_with_end, asked_of, no_of, edit_of, at_least, ids_add, block_of, places_add, first_place, pinch_of}
-use Rattle.log_read.specs.Laws.{IsFrom, IsEdgeInRange, IsPassInRange, IsChangeInRange, IsAskedInRange, IsReasonOfVersion, IsInRange}
+use Rattle.log_read.specs.Laws.{IsFrom, IsEdgeInRange, AreRising, IsPassInRange, IsChangeInRange, IsAskedInRange, IsReasonOfVersion}
 use Rattle.line_text.proofs.ReadSteps.{bound, ok_same, picked, picked_if, fault_value}
 use Rattle.log_read.proofs.Exactness.{IsExact, count_with_end-length, count_with_end-of_read, spelled_at-exact}
 use Rattle.log_read.proofs.Spellings.{both-exact, one}
@@ -47,18 +48,18 @@ pub fit_again : pass_of VERSION true (codes "fit" ∷ []) ≡ Ok line.PassFit
 unfolding pass_of
 fit_again = alone_again line.PassFit
 
-pass_back : (version : ℕ) (ended : Bool) (words : List (List ℕ)) (l : LogLine) → pass_of version ended words ≡ Ok l → IsSpelling version ended (codes "pass" ∷ words) l
+pass_back : (scale : Scale) (version : ℕ) (ended : Bool) (words : List (List ℕ)) (l : LogLine) → pass_of version ended words ≡ Ok l → IsSpelling scale version ended (codes "pass" ∷ words) l
 unfolding pass_of
-pass_back version ended [] l h = fault_value why.Short l h
-pass_back version ended (kind ∷ words) l h =
-    let P : List ℕ → Type 0 = λ w. IsSpelling version ended (codes "pass" ∷ w ∷ words) l in
+pass_back scale version ended [] l h = fault_value why.Short l h
+pass_back scale version ended (kind ∷ words) l h =
+    let P : List ℕ → Type 0 = λ w. IsSpelling scale version ended (codes "pass" ∷ w ∷ words) l in
     let front : List ℕ → List (List ℕ) = λ w. codes "pass" ∷ w ∷ [] in
-    picked P kind (codes "split") _ _ (Ok l) (one_spelled version 0 LENGTH_MAX (lit< tt) (λ n. line.Pass (pass.Split n)) (front (codes "split")) (λ n r. (refl, r.1, tt)) ended words l)
-    (picked P kind (codes "collapse") _ _ (Ok l) (one_spelled version 0 LENGTH_MAX (lit< tt) (λ n. line.Pass (pass.Collapse n)) (front (codes "collapse")) (λ n r. (refl, r.1, tt)) ended words l)
-    (picked P kind (codes "flip") _ _ (Ok l) (alone_spelled version (front (codes "flip")) ended (line.Pass pass.Flip) words l refl tt tt)
-    (picked P kind (codes "zip") _ _ (Ok l) (one_spelled version 0 LENGTH_MAX (lit< tt) (λ n. line.Pass (pass.Zip n)) (front (codes "zip")) (λ n r. (refl, r.1, tt)) ended words l)
-    (picked P kind (codes "pinch") _ _ (Ok l) (alone_spelled version (front (codes "pinch")) ended (line.Pass pass.Pinch) words l refl tt tt)
-    (picked_if P kind (codes "fit") (is_latest version) _ _ (Ok l) (λ t. alone_spelled version (front (codes "fit")) ended line.PassFit words l refl tt (eqb-true version VERSION t))
+    picked P kind (codes "split") _ _ (Ok l) (one_spelled scale version 0 LENGTH_MAX (lit< tt) (λ n. line.Pass (pass.Split n)) (front (codes "split")) (λ n r. (refl, r.1, tt)) ended words l)
+    (picked P kind (codes "collapse") _ _ (Ok l) (one_spelled scale version 0 LENGTH_MAX (lit< tt) (λ n. line.Pass (pass.Collapse n)) (front (codes "collapse")) (λ n r. (refl, r.1, tt)) ended words l)
+    (picked P kind (codes "flip") _ _ (Ok l) (alone_spelled scale version (front (codes "flip")) ended (line.Pass pass.Flip) words l refl tt tt)
+    (picked P kind (codes "zip") _ _ (Ok l) (one_spelled scale version 0 LENGTH_MAX (lit< tt) (λ n. line.Pass (pass.Zip n)) (front (codes "zip")) (λ n r. (refl, r.1, tt)) ended words l)
+    (picked P kind (codes "pinch") _ _ (Ok l) (alone_spelled scale version (front (codes "pinch")) ended (line.Pass pass.Pinch) words l refl tt tt)
+    (picked_if P kind (codes "fit") (is_latest version) _ _ (Ok l) (λ t. alone_spelled scale version (front (codes "fit")) ended line.PassFit words l refl tt (eqb-true version VERSION t))
     (fault_value why.Unknown l))))))
     h
 
@@ -107,21 +108,21 @@ pub zip_again : (a b e f turn : ℕ) → IsChangeInRange (change.Zip a b e f tur
 unfolding zip_of
 zip_again a b e f turn r = again (both edge_at (both edge_at (spelled_at 0 TURN_MAX))) (λ (z : Turned). edge_words z.0 ++ (edge_words z.1.0 ++ one z.1.1)) (λ z. EdgeFits z.0 × (EdgeFits z.1.0 × IsFrom 0 TURN_MAX z.1.1)) zip_exact 5 (λ z. refl) zip_made ((a, b), ((e, f), turn)) (r.0, (r.1, (omega arith, r.2)))
 
-split_back : (version : ℕ) (ended : Bool) (words : List (List ℕ)) (l : LogLine) → split_of ended words ≡ Ok l → IsSpelling version ended (codes "split" ∷ words) l
+split_back : (scale : Scale) (version : ℕ) (ended : Bool) (words : List (List ℕ)) (l : LogLine) → split_of ended words ≡ Ok l → IsSpelling scale version ended (codes "split" ∷ words) l
 unfolding split_of
-split_back version ended words l h = spelled (both edge_at place_at) (λ (s : Ends). edge_words s.0 ++ place_words s.1) (λ s. EdgeFits s.0 × PlaceFits s.1) split_exact 6 (λ s. refl) split_made version (codes "split" ∷ []) (λ s r. (refl, r, tt)) ended words l h
+split_back scale version ended words l h = spelled (both edge_at place_at) (λ (s : Ends). edge_words s.0 ++ place_words s.1) (λ s. EdgeFits s.0 × PlaceFits s.1) split_exact 6 (λ s. refl) split_made scale version (codes "split" ∷ []) (λ s r. (refl, r, tt)) ended words l h
 
-flip_back : (version : ℕ) (ended : Bool) (words : List (List ℕ)) (l : LogLine) → flip_of ended words ≡ Ok l → IsSpelling version ended (codes "flip" ∷ words) l
+flip_back : (scale : Scale) (version : ℕ) (ended : Bool) (words : List (List ℕ)) (l : LogLine) → flip_of ended words ≡ Ok l → IsSpelling scale version ended (codes "flip" ∷ words) l
 unfolding flip_of
-flip_back version ended words l h = spelled edge_at edge_words EdgeFits edge_at-exact 2 (λ e. refl) flip_made version (codes "flip" ∷ []) (λ e r. (refl, r, tt)) ended words l h
+flip_back scale version ended words l h = spelled edge_at edge_words EdgeFits edge_at-exact 2 (λ e. refl) flip_made scale version (codes "flip" ∷ []) (λ e r. (refl, r, tt)) ended words l h
 
-collapse_back : (version : ℕ) (ended : Bool) (words : List (List ℕ)) (l : LogLine) → collapse_of ended words ≡ Ok l → IsSpelling version ended (codes "collapse" ∷ words) l
+collapse_back : (scale : Scale) (version : ℕ) (ended : Bool) (words : List (List ℕ)) (l : LogLine) → collapse_of ended words ≡ Ok l → IsSpelling scale version ended (codes "collapse" ∷ words) l
 unfolding collapse_of
-collapse_back version ended words l h = spelled (both edge_at position_at) (λ (c : Edge × Point). edge_words c.0 ++ point_words c.1) (λ c. EdgeFits c.0 × Unit {0}) collapse_exact 5 (λ c. refl) collapse_made version (codes "collapse" ∷ []) (λ c r. (refl, r.0, tt)) ended words l h
+collapse_back scale version ended words l h = spelled (both edge_at position_at) (λ (c : Edge × Point). edge_words c.0 ++ point_words c.1) (λ c. EdgeFits c.0 × Unit {0}) collapse_exact 5 (λ c. refl) collapse_made scale version (codes "collapse" ∷ []) (λ c r. (refl, r.0, tt)) ended words l h
 
-zip_back : (version : ℕ) (ended : Bool) (words : List (List ℕ)) (l : LogLine) → zip_of ended words ≡ Ok l → IsSpelling version ended (codes "zip" ∷ words) l
+zip_back : (scale : Scale) (version : ℕ) (ended : Bool) (words : List (List ℕ)) (l : LogLine) → zip_of ended words ≡ Ok l → IsSpelling scale version ended (codes "zip" ∷ words) l
 unfolding zip_of
-zip_back version ended words l h = spelled (both edge_at (both edge_at (spelled_at 0 TURN_MAX))) (λ (z : Turned). edge_words z.0 ++ (edge_words z.1.0 ++ one z.1.1)) (λ z. EdgeFits z.0 × (EdgeFits z.1.0 × IsFrom 0 TURN_MAX z.1.1)) zip_exact 5 (λ z. refl) zip_made version (codes "zip" ∷ []) (λ z r. (refl, (r.0, r.1.0, r.1.1.1), tt)) ended words l h
+zip_back scale version ended words l h = spelled (both edge_at (both edge_at (spelled_at 0 TURN_MAX))) (λ (z : Turned). edge_words z.0 ++ (edge_words z.1.0 ++ one z.1.1)) (λ z. EdgeFits z.0 × (EdgeFits z.1.0 × IsFrom 0 TURN_MAX z.1.1)) zip_exact 5 (λ z. refl) zip_made scale version (codes "zip" ∷ []) (λ z r. (refl, (r.0, r.1.0, r.1.1.1), tt)) ended words l h
 
 -- ---- edits that are not done
 
@@ -196,15 +197,15 @@ module _ {A : Type 0} (version count : ℕ) (read : Reader A) (wa : A → List (
       let here : AskedSpelled ended words x.value.0 = record { has_end = n.0; same = b.0 ∙ ap (λ (t : List (List ℕ)). (front ++ reason) ++ t) n.1 ∙ append-nil (front ++ reason); fits = b.1.0; reason_fits = b.1.1 } in
       subst (AskedSpelled ended words) (ok_same x.value.0 p x.after) here
 
-  no_spelled : (make : A → Asked) (word : List ℕ) → ((a : A) → asked_words (make a) ≡ word ∷ wa a) → ((a : A) → R a → IsAskedInRange (make a)) → (ended : Bool) (words : List (List ℕ)) (l : LogLine) → (asked_of version ended count read words >>= λ n. Ok (line.No (make n.0) n.1)) ≡ Ok l → IsSpelling version ended (codes "no" ∷ word ∷ words) l
-  no_spelled make word asked_is in_range ended words l h =
+  no_spelled : (scale : Scale) (make : A → Asked) (word : List ℕ) → ((a : A) → asked_words (make a) ≡ word ∷ wa a) → ((a : A) → R a → IsAskedInRange (make a)) → (ended : Bool) (words : List (List ℕ)) (l : LogLine) → (asked_of version ended count read words >>= λ n. Ok (line.No (make n.0) n.1)) ≡ Ok l → IsSpelling scale version ended (codes "no" ∷ word ∷ words) l
+  no_spelled scale make word asked_is in_range ended words l h =
       let b = bound (asked_of version ended count read words) (λ (n : Pair). Ok (line.No (make n.0) n.1)) l h in
       let s = asked_back ended words b.value b.first in
       let reason = reason_words b.value.1 in
       let same : line_words (line.No (make b.value.0) b.value.1) ≡ codes "no" ∷ word ∷ words =
       ap (λ (t : List (List ℕ)). codes "no" ∷ (t ++ reason)) (asked_is b.value.0) ∙ ap (λ (t : List (List ℕ)). codes "no" ∷ word ∷ t) (sym s.same) in
-      let here : IsSpelling version ended (codes "no" ∷ word ∷ words) (line.No (make b.value.0) b.value.1) = record { has_end = s.has_end; same = same; fits = (in_range b.value.0 s.fits, s.reason_fits.0); of_version = s.reason_fits.1 } in
-      subst (IsSpelling version ended (codes "no" ∷ word ∷ words)) (ok_same (line.No (make b.value.0) b.value.1) l b.after) here
+      let here : IsSpelling scale version ended (codes "no" ∷ word ∷ words) (line.No (make b.value.0) b.value.1) = record { has_end = s.has_end; same = same; fits = (in_range b.value.0 s.fits, s.reason_fits.0); of_version = s.reason_fits.1 } in
+      subst (IsSpelling scale version ended (codes "no" ∷ word ∷ words)) (ok_same (line.No (make b.value.0) b.value.1) l b.after) here
 
 abbrev Edges : Type 0
 Edges = Edge × Edge
@@ -232,50 +233,50 @@ no_again version (asked.Collapse a b) w r = ap (no_line (λ (e : Edge). asked.Co
 no_again version (asked.Zip a b e f) w r = ap (no_line (λ (p : Edges). asked.Zip p.0.0 p.0.1 p.1.0 p.1.1)) (asked_again version 4 (both edge_at edge_at) edges_words EdgesFit edges_exact (λ e. refl) ((a, b), (e, f)) w r.0 r.1)
 no_again version (asked.Pinch v) w r = ap (no_line asked.Pinch) (asked_again version 1 (spelled_at 1 ID_MAX) one (IsFrom 1 ID_MAX) vertex_exact (λ v. refl) v w r.0 r.1)
 
-no_back : (version : ℕ) (ended : Bool) (words : List (List ℕ)) (l : LogLine) → no_of version ended words ≡ Ok l → IsSpelling version ended (codes "no" ∷ words) l
+no_back : (scale : Scale) (version : ℕ) (ended : Bool) (words : List (List ℕ)) (l : LogLine) → no_of version ended words ≡ Ok l → IsSpelling scale version ended (codes "no" ∷ words) l
 unfolding no_of
-no_back version ended [] l h = fault_value why.Short l h
-no_back version ended (edit ∷ words) l h =
-    let P : List ℕ → Type 0 = λ w. IsSpelling version ended (codes "no" ∷ w ∷ words) l in
-    picked P edit (codes "split") _ _ (Ok l) (no_spelled version 2 edge_at edge_words EdgeFits edge_at-exact (λ e. refl) (λ (e : Edge). asked.Split e.0 e.1) (codes "split") (λ e. refl) (λ e r. r) ended words l)
-    (picked P edit (codes "flip") _ _ (Ok l) (no_spelled version 2 edge_at edge_words EdgeFits edge_at-exact (λ e. refl) (λ (e : Edge). asked.Flip e.0 e.1) (codes "flip") (λ e. refl) (λ e r. r) ended words l)
-    (picked P edit (codes "collapse") _ _ (Ok l) (no_spelled version 2 edge_at edge_words EdgeFits edge_at-exact (λ e. refl) (λ (e : Edge). asked.Collapse e.0 e.1) (codes "collapse") (λ e. refl) (λ e r. r) ended words l)
-    (picked P edit (codes "zip") _ _ (Ok l) (no_spelled version 4 (both edge_at edge_at) edges_words EdgesFit edges_exact (λ e. refl) (λ (p : Edges). asked.Zip p.0.0 p.0.1 p.1.0 p.1.1) (codes "zip") (λ e. refl) (λ e r. r) ended words l)
-    (picked P edit (codes "pinch") _ _ (Ok l) (no_spelled version 1 (spelled_at 1 ID_MAX) one (IsFrom 1 ID_MAX) vertex_exact (λ v. refl) asked.Pinch (codes "pinch") (λ v. refl) (λ v r. r) ended words l)
+no_back scale version ended [] l h = fault_value why.Short l h
+no_back scale version ended (edit ∷ words) l h =
+    let P : List ℕ → Type 0 = λ w. IsSpelling scale version ended (codes "no" ∷ w ∷ words) l in
+    picked P edit (codes "split") _ _ (Ok l) (no_spelled version 2 edge_at edge_words EdgeFits edge_at-exact (λ e. refl) scale (λ (e : Edge). asked.Split e.0 e.1) (codes "split") (λ e. refl) (λ e r. r) ended words l)
+    (picked P edit (codes "flip") _ _ (Ok l) (no_spelled version 2 edge_at edge_words EdgeFits edge_at-exact (λ e. refl) scale (λ (e : Edge). asked.Flip e.0 e.1) (codes "flip") (λ e. refl) (λ e r. r) ended words l)
+    (picked P edit (codes "collapse") _ _ (Ok l) (no_spelled version 2 edge_at edge_words EdgeFits edge_at-exact (λ e. refl) scale (λ (e : Edge). asked.Collapse e.0 e.1) (codes "collapse") (λ e. refl) (λ e r. r) ended words l)
+    (picked P edit (codes "zip") _ _ (Ok l) (no_spelled version 4 (both edge_at edge_at) edges_words EdgesFit edges_exact (λ e. refl) scale (λ (p : Edges). asked.Zip p.0.0 p.0.1 p.1.0 p.1.1) (codes "zip") (λ e. refl) (λ e r. r) ended words l)
+    (picked P edit (codes "pinch") _ _ (Ok l) (no_spelled version 1 (spelled_at 1 ID_MAX) one (IsFrom 1 ID_MAX) vertex_exact (λ v. refl) scale asked.Pinch (codes "pinch") (λ v. refl) (λ v r. r) ended words l)
     (fault_value why.Unknown l)))))
     h
 
 -- ---- lines by their first word
 
-pub edit_back : (version : ℕ) (ended : Bool) (first : List ℕ) (words : List (List ℕ)) (l : LogLine) → edit_of version ended first words ≡ Ok l → IsSpelling version ended (first ∷ words) l
+pub edit_back : (scale : Scale) (version : ℕ) (ended : Bool) (first : List ℕ) (words : List (List ℕ)) (l : LogLine) → edit_of version ended first words ≡ Ok l → IsSpelling scale version ended (first ∷ words) l
 unfolding edit_of
-edit_back version ended first words l h =
-    let P : List ℕ → Type 0 = λ w. IsSpelling version ended (w ∷ words) l in
-    picked P first (codes "pass") _ _ (Ok l) (pass_back version ended words l)
-    (picked P first (codes "split") _ _ (Ok l) (split_back version ended words l)
-    (picked P first (codes "flip") _ _ (Ok l) (flip_back version ended words l)
-    (picked P first (codes "collapse") _ _ (Ok l) (collapse_back version ended words l)
-    (picked P first (codes "zip") _ _ (Ok l) (zip_back version ended words l)
-    (picked P first (codes "no") _ _ (Ok l) (no_back version ended words l)
+edit_back scale version ended first words l h =
+    let P : List ℕ → Type 0 = λ w. IsSpelling scale version ended (w ∷ words) l in
+    picked P first (codes "pass") _ _ (Ok l) (pass_back scale version ended words l)
+    (picked P first (codes "split") _ _ (Ok l) (split_back scale version ended words l)
+    (picked P first (codes "flip") _ _ (Ok l) (flip_back scale version ended words l)
+    (picked P first (codes "collapse") _ _ (Ok l) (collapse_back scale version ended words l)
+    (picked P first (codes "zip") _ _ (Ok l) (zip_back scale version ended words l)
+    (picked P first (codes "no") _ _ (Ok l) (no_back scale version ended words l)
     (fault_value why.Unknown l))))))
     h
 
 -- ---- blocks
 
-pub block_again : (ids : List ℕ) → IsInRange (line.Block ids) → block_of true (map decimal ids) ≡ Ok (line.Block ids)
+pub block_again : (ids : List ℕ) → (2 ≤ length ids) × AreRising 1 ids → block_of true (map decimal ids) ≡ Ok (line.Block ids)
 unfolding block_of
 block_again ids r = rw (at_least-length 2 (map decimal ids) (omega (arith, length-map ids decimal, r.0)), ids_add-of_written [] 1 ids r.1) refl
 
-pub block_back : (version : ℕ) (ended : Bool) (words : List (List ℕ)) (l : LogLine) → block_of ended words ≡ Ok l → IsSpelling version ended (codes "block" ∷ words) l
+pub block_back : (scale : Scale) (version : ℕ) (ended : Bool) (words : List (List ℕ)) (l : LogLine) → block_of ended words ≡ Ok l → IsSpelling scale version ended (codes "block" ∷ words) l
 unfolding block_of
-block_back version ended words l h =
+block_back scale version ended words l h =
     let c = bound (at_least ended 2 words) (λ (u : Unit {0}). ids_add [] 1 words >>= λ ids. Ok (line.Block ids)) l h in
     let b = bound (ids_add [] 1 words) (λ (ids : List ℕ). Ok (line.Block ids)) l c.after in
     let n = at_least-of_read ended 2 words c.value c.first in
     let i = ids_add-of_read [] 1 words b.value b.first in
     let long : 2 ≤ length i.more = omega (arith, ap length i.same, length-map i.more decimal, n.1) in
-    let here : IsSpelling version ended (codes "block" ∷ words) (line.Block i.more) = record { has_end = n.0; same = ap (λ (t : List (List ℕ)). codes "block" ∷ t) (sym i.same); fits = (long, i.rising); of_version = tt } in
-    subst (IsSpelling version ended (codes "block" ∷ words)) (ap line.Block (sym i.all) ∙ ok_same (line.Block b.value) l b.after) here
+    let here : IsSpelling scale version ended (codes "block" ∷ words) (line.Block i.more) = record { has_end = n.0; same = ap (λ (t : List (List ℕ)). codes "block" ∷ t) (sym i.same); fits = (long, i.rising); of_version = tt } in
+    subst (IsSpelling scale version ended (codes "block" ∷ words)) (ap line.Block (sym i.all) ∙ ok_same (line.Block b.value) l b.after) here
 
 -- ---- pinches
 
@@ -288,7 +289,7 @@ place v at = record { w = v; at = at }
 abbrev pinch_with : CopyAt → List CopyAt → LogLine
 pinch_with first copies = line.Did (change.Pinch first.w first.at copies)
 
-pub pinch_again : (v : ℕ) (at : Point) (copies : List CopyAt) → IsInRange (line.Did (change.Pinch v at copies)) → pinch_of true (places_words (place v at ∷ copies)) ≡ Ok (line.Did (change.Pinch v at copies))
+pub pinch_again : (v : ℕ) (at : Point) (copies : List CopyAt) → IsChangeInRange (change.Pinch v at copies) → pinch_of true (places_words (place v at ∷ copies)) ≡ Ok (line.Did (change.Pinch v at copies))
 unfolding pinch_of
 pinch_again v at copies r =
     ap (λ (found : Result (CopyAt × List (List ℕ)) TextWhy). found >>= λ first. places_add [] first.1 >>= λ copies. Ok (pinch_with first.0 copies)) (first_place-of_written (place v at) copies r.0 r.1)
@@ -298,14 +299,14 @@ some_places : (places : List CopyAt) → 0 < length (places_words places) → 0 
 some_places [] some = absurd (omega arith)
 some_places (place ∷ places) some = omega arith
 
-pub pinch_back : (version : ℕ) (ended : Bool) (words : List (List ℕ)) (l : LogLine) → pinch_of ended words ≡ Ok l → IsSpelling version ended (codes "pinch" ∷ words) l
+pub pinch_back : (scale : Scale) (version : ℕ) (ended : Bool) (words : List (List ℕ)) (l : LogLine) → pinch_of ended words ≡ Ok l → IsSpelling scale version ended (codes "pinch" ∷ words) l
 unfolding pinch_of
-pinch_back version ended words l h =
+pinch_back scale version ended words l h =
     let x = bound (first_place ended words) (λ (first : CopyAt × List (List ℕ)). places_add [] first.1 >>= λ copies. Ok (pinch_with first.0 copies)) l h in
     let y = bound (places_add [] x.value.1) (λ (copies : List CopyAt). Ok (pinch_with x.value.0 copies)) l x.after in
     let f = first_place-of_read ended words x.value.0 x.value.1 x.first in
     let p = places_add-of_read [] x.value.1 y.value y.first in
     let some : 0 < length p.more = some_places p.more (omega (arith, f.some, ap length p.same)) in
     let same : places_words (x.value.0 ∷ p.more) ≡ words = sym (f.same ∙ ap (λ (t : List (List ℕ)). place_words x.value.0 ++ t) p.same) in
-    let here : IsSpelling version ended (codes "pinch" ∷ words) (pinch_with x.value.0 p.more) = record { has_end = f.has_end; same = ap (λ (t : List (List ℕ)). codes "pinch" ∷ t) same; fits = (f.fits, some, All-from_recursion Fits p.more p.fit); of_version = tt } in
-    subst (IsSpelling version ended (codes "pinch" ∷ words)) (ap (pinch_with x.value.0) (sym p.all) ∙ ok_same (pinch_with x.value.0 y.value) l y.after) here
+    let here : IsSpelling scale version ended (codes "pinch" ∷ words) (pinch_with x.value.0 p.more) = record { has_end = f.has_end; same = ap (λ (t : List (List ℕ)). codes "pinch" ∷ t) same; fits = (f.fits, some, All-from_recursion Fits p.more p.fit); of_version = tt } in
+    subst (IsSpelling scale version ended (codes "pinch" ∷ words)) (ap (pinch_with x.value.0) (sym p.all) ∙ ok_same (pinch_with x.value.0 y.value) l y.after) here

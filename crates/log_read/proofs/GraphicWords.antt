@@ -26,18 +26,22 @@ use Rattle.mesh_base.specs.declared.FileWord.TheVariants as file
 use Rattle.mesh_base.specs.declared.How.{How}
 use Rattle.mesh_base.specs.declared.How.TheVariants.{Whole, Impulse, Zones, Halved, Zero}
 use Rattle.mesh_base.specs.declared.PairName.{PairName}
+use Rattle.mesh_base.specs.declared.Scale.{Scale}
 use Rattle.mesh_base.specs.declared.ShapeFault.{ShapeFault}
 use Rattle.mesh_base.specs.declared.ShapeFault.TheVariants as shape
 use Rattle.mesh_base.specs.declared.UseWhy.{UseWhy}
 use Rattle.mesh_base.specs.declared.UseWhy.TheVariants as using
-use Rattle.log_text.specs.declared.TheConstants.{COUNT_MAX, SEEN_MAX, CORNER_MAX, PASSES_MAX, ROUNDS_MAX}
+use Rattle.log_text.specs.declared.TheConstants.{COUNT_MAX, SEEN_MAX, CORNER_MAX, PASSES_MAX}
 use Rattle.log_text.specs.declared.LogLine.{LogLine}
 use Rattle.log_text.specs.declared.LogLine.TheVariants as line
 use Rattle.log_text.specs.declared.Refusal.{Refusal}
 use Rattle.log_text.specs.declared.Refusal.TheVariants as refusal
 use Rattle.log_text.specs.Lines.{line_words, file_word, kept_word, why_word, pair_words, how_words, shape_words, use_words, refusal_words, pass_words, point_words, place_words, places_words, change_words, asked_words, reason_words}
 use Rattle.line_text.specs.Spellings.{spaced_words}
+use Rattle.mesh_base.proofs.MeshLaws.{few_vertices_of, few_faces_of}
+use Rattle.log_read.specs.Reading.{rounds_most}
 use Rattle.log_read.specs.Laws.{IsFrom, IsPairInRange, IsHowInRange, IsShapeInRange, IsUseInRange, IsRefusalInRange, IsEdgeInRange, AreRising, IsPassInRange, IsChangeInRange, IsAskedInRange, IsReasonInRange, IsInRange, IsOfVersion}
+use Rattle.log_read.proofs.Scales.{small_rounds}
 
 -- each byte is above that of a space
 abbrev pub IsGraphic : List ℕ → Type 0
@@ -106,12 +110,12 @@ why_graphic why.Order = text (codes "order") refl
 pub pair_graphic : (p : PairName) → IsPairInRange p → AreGraphic (pair_words p)
 pair_graphic p r = (id p.a r.a, (id p.b r.b, (id p.face r.face, tt)))
 
-how_graphic : (how : How) → IsHowInRange how → AreGraphic (how_words how)
-how_graphic Whole r = (text (codes "whole") refl, tt)
-how_graphic (Impulse n) r = (text (codes "impulse") refl, (up_to 1 PASSES_MAX n (lit< tt) r, tt))
-how_graphic (Zones n) r = (text (codes "zones") refl, (up_to 1 ROUNDS_MAX n (lit< tt) r, tt))
-how_graphic (Halved n) r = (text (codes "halved") refl, (up_to 1 HALVINGS_MAX n (lit< tt) r, tt))
-how_graphic Zero r = (text (codes "zero") refl, tt)
+how_graphic : (scale : Scale) (how : How) → IsHowInRange scale how → AreGraphic (how_words how)
+how_graphic scale Whole r = (text (codes "whole") refl, tt)
+how_graphic scale (Impulse n) r = (text (codes "impulse") refl, (up_to 1 PASSES_MAX n (lit< tt) r, tt))
+how_graphic scale (Zones n) r = (text (codes "zones") refl, (up_to 1 (rounds_most scale) n (small_rounds scale) r, tt))
+how_graphic scale (Halved n) r = (text (codes "halved") refl, (up_to 1 HALVINGS_MAX n (lit< tt) r, tt))
+how_graphic scale Zero r = (text (codes "zero") refl, tt)
 
 shape_graphic : (fault : ShapeFault) → IsShapeInRange fault → AreGraphic (shape_words fault)
 shape_graphic (shape.TooManyVertices n) r = (text (codes "vertices") refl, (seen n r, tt))
@@ -194,23 +198,23 @@ kept_graphic : (kept : Bool) → IsGraphic (kept_word kept)
 kept_graphic true = text (codes "kept") refl
 kept_graphic false = text (codes "undone") refl
 
-pub line_graphic : (version : ℕ) → version < 2 ^ 8 → (l : LogLine) → IsInRange l → IsOfVersion version l → AreGraphic (line_words l)
-line_graphic version small (line.First v) r e = (text (codes "topo") refl, (text (codes "log") refl, (number v (omega (arith, e)), tt)))
-line_graphic version small (line.Mesh k v f) r e = (text (codes "mesh") refl, (number k (omega (arith, r.0)), (number v (omega (arith, r.1)), (number f (omega (arith, r.2)), tt))))
-line_graphic version small (line.Step k) r e = (text (codes "step") refl, (count k r, tt))
-line_graphic version small (line.Hit pair) r e = (text (codes "hit") refl, pair_graphic pair r)
-line_graphic version small (line.Block ids) r e = (text (codes "block") refl, ids_graphic 1 ids r.1)
-line_graphic version small (line.Move s) r e = (text (codes "move") refl, (id s.v r, (shift_part s.by.x s.by.in_range.x_fits, (shift_part s.by.y s.by.in_range.y_fits, (shift_part s.by.z s.by.in_range.z_fits, tt)))))
-line_graphic version small (line.Moved how) r e = (text (codes "moved") refl, how_graphic how r)
-line_graphic version small (line.Pass kind) r e = (text (codes "pass") refl, pass_graphic kind r)
-line_graphic version small line.PassFit r e = (text (codes "pass") refl, (text (codes "fit") refl, tt))
-line_graphic version small (line.Did done) r e = change_graphic done r
-line_graphic version small (line.No what w) r e = (text (codes "no") refl, graphic-append (asked_words what) (reason_words w) (asked_graphic what r.0) (reason_graphic w r.1))
-line_graphic version small (line.Refused w) r e = (text (codes "refused") refl, refusal_graphic w r)
-line_graphic version small (line.Solid v) r e = (text (codes "solid") refl, (id v r, tt))
-line_graphic version small line.Group r e = (text (codes "group") refl, tt)
-line_graphic version small (line.Close kept) r e = (text (codes "close") refl, (kept_graphic kept, tt))
-line_graphic version small line.End r e = (text (codes "end") refl, tt)
+pub line_graphic : (scale : Scale) (version : ℕ) → version < 2 ^ 8 → (l : LogLine) → IsInRange scale l → IsOfVersion version l → AreGraphic (line_words l)
+line_graphic scale version small (line.First v) r e = (text (codes "topo") refl, (text (codes "log") refl, (number v (omega (arith, e)), tt)))
+line_graphic scale version small (line.Mesh k v f) r e = (text (codes "mesh") refl, (number k (omega (arith, r.0)), (number v (omega (arith, r.1, few_vertices_of scale)), (number f (omega (arith, r.2, few_faces_of scale)), tt))))
+line_graphic scale version small (line.Step k) r e = (text (codes "step") refl, (count k r, tt))
+line_graphic scale version small (line.Hit pair) r e = (text (codes "hit") refl, pair_graphic pair r)
+line_graphic scale version small (line.Block ids) r e = (text (codes "block") refl, ids_graphic 1 ids r.1)
+line_graphic scale version small (line.Move s) r e = (text (codes "move") refl, (id s.v r, (shift_part s.by.x s.by.in_range.x_fits, (shift_part s.by.y s.by.in_range.y_fits, (shift_part s.by.z s.by.in_range.z_fits, tt)))))
+line_graphic scale version small (line.Moved how) r e = (text (codes "moved") refl, how_graphic scale how r)
+line_graphic scale version small (line.Pass kind) r e = (text (codes "pass") refl, pass_graphic kind r)
+line_graphic scale version small line.PassFit r e = (text (codes "pass") refl, (text (codes "fit") refl, tt))
+line_graphic scale version small (line.Did done) r e = change_graphic done r
+line_graphic scale version small (line.No what w) r e = (text (codes "no") refl, graphic-append (asked_words what) (reason_words w) (asked_graphic what r.0) (reason_graphic w r.1))
+line_graphic scale version small (line.Refused w) r e = (text (codes "refused") refl, refusal_graphic w r)
+line_graphic scale version small (line.Solid v) r e = (text (codes "solid") refl, (id v r, tt))
+line_graphic scale version small line.Group r e = (text (codes "group") refl, tt)
+line_graphic scale version small (line.Close kept) r e = (text (codes "close") refl, (kept_graphic kept, tt))
+line_graphic scale version small line.End r e = (text (codes "end") refl, tt)
 
 -- ---- words that are joined are cut again
 

@@ -5,6 +5,7 @@ use Rattle.edit_base.specs.declared.Why.TheVariants as reason
 use Rattle.line_text.specs.declared.TextWhy.{TextWhy}
 use Rattle.mesh_base.specs.declared.FileWord.{FileWord}
 use Rattle.mesh_base.specs.declared.FileWord.TheVariants as file
+use Rattle.mesh_base.specs.declared.Scale.{Scale}
 use Rattle.mesh_base.specs.declared.UseWhy.{UseWhy}
 use Rattle.mesh_base.specs.declared.UseWhy.TheVariants as using
 use Rattle.log_text.specs.declared.TheConstants.{VERSION}
@@ -38,12 +39,12 @@ latest_refusal (refusal.Steps fault) r = latest_why fault.why r.1
 latest_refusal (refusal.StepUse at w) r = latest_use w
 latest_refusal _ r = tt
 
-pub latest_line : (l : LogLine) → IsInRange l → NamesNoOther l → IsOfVersion VERSION l
-latest_line (line.First v) r n = n
-latest_line (line.Solid v) r n = refl
-latest_line line.PassFit r n = refl
-latest_line line.Group r n = refl
-latest_line (line.Close kept) r n = refl
-latest_line (line.No what w) r n = latest_reason w
-latest_line (line.Refused w) r n = latest_refusal w r
-latest_line _ r n = tt
+pub latest_line : (scale : Scale) (l : LogLine) → IsInRange scale l → NamesNoOther l → IsOfVersion VERSION l
+latest_line scale (line.First v) r n = n
+latest_line scale (line.Solid v) r n = refl
+latest_line scale line.PassFit r n = refl
+latest_line scale line.Group r n = refl
+latest_line scale (line.Close kept) r n = refl
+latest_line scale (line.No what w) r n = latest_reason w
+latest_line scale (line.Refused w) r n = latest_refusal w r
+latest_line scale _ r n = tt

@@ -1,5 +1,6 @@
 pub mod LogParts
 pub mod CanonicalDigits
+pub mod Scales
 pub mod Exactness
 pub mod Spellings
 pub mod EditSpellings

@@ -9,6 +9,7 @@ use Rattle.line_text.specs.declared.TextFault.{TextFault}
 use Rattle.line_text.specs.declared.ReadFault.{ReadFault}
 use Rattle.line_text.specs.declared.ReadFault.TheVariants as faults
 use Rattle.line_text.specs.Faults.{◌>>=◌, at_line, Fails}
+use Rattle.mesh_base.specs.declared.Scale.{Scale}
 use Rattle.log_text.specs.declared.TheConstants.{VERSION, OLD_VERSION}
 use Rattle.log_text.specs.declared.LogLine.{LogLine}
 use Rattle.log_text.specs.declared.LogLine.TheVariants.{First}
@@ -20,9 +21,9 @@ pub some_parts : (bytes : List ℕ) → 0 < length (parts_of_text bytes)
 some_parts bytes = omega (arith, length-slice_split (λ b. eqb b 10) bytes)
 
 -- a part with others after it is an ended line
-pub parts_more : (version : ℕ) (lines : List LogLine) (number : ℕ) (part : List ℕ) (parts : List (List ℕ)) → 0 < length parts → parts_add version lines number (part ∷ parts) ≡ (at_line number (line_adds version lines true part) >>= λ more. parts_add version more (number + 1) parts)
-parts_more version lines number part [] h = absurd (omega arith)
-parts_more version lines number part (next ∷ parts) h = refl
+pub parts_more : (scale : Scale) (version : ℕ) (lines : List LogLine) (number : ℕ) (part : List ℕ) (parts : List (List ℕ)) → 0 < length parts → parts_add scale version lines number (part ∷ parts) ≡ (at_line number (line_adds scale version lines true part) >>= λ more. parts_add scale version more (number + 1) parts)
+parts_more scale version lines number part [] h = absurd (omega arith)
+parts_more scale version lines number part (next ∷ parts) h = refl
 
 -- the line that names the version that is written
 pub latest_body : body_of (First VERSION) ≡ codes "topo log 2"
@@ -42,26 +43,26 @@ module _ (bytes first : List ℕ) (parts : List (List ℕ)) (cut : parts_of_text
   version_other h = sym (named false h)
 
 -- the lines so far and the parts that are left give what the whole text gives, and the number of the next line stays small
-pub record PartsLeft (version : ℕ) (bytes : List ℕ) (lines : List LogLine) (number : ℕ) (rest : List ℕ) : Type 0 where
-  pub same : parts_add version lines number (parts_of_text rest) ≡ log_of bytes
+pub record PartsLeft (scale : Scale) (version : ℕ) (bytes : List ℕ) (lines : List LogLine) (number : ℕ) (rest : List ℕ) : Type 0 where
+  pub same : parts_add scale version lines number (parts_of_text rest) ≡ log_of scale bytes
   pub few : number + length (parts_of_text rest) ≤ length bytes + 2
 
-pub PartsLeft-first : (version : ℕ) (bytes : List ℕ) → version ≡ version_of bytes → PartsLeft version bytes [] 1 bytes
-PartsLeft-first version bytes e = record { same = ap (λ v. parts_add v [] 1 (parts_of_text bytes)) e; few = omega (arith, length-slice_split (λ b. eqb b 10) bytes, count_by-le-length (λ b. eqb b 10) bytes) }
+pub PartsLeft-first : (scale : Scale) (version : ℕ) (bytes : List ℕ) → version ≡ version_of bytes → PartsLeft scale version bytes [] 1 bytes
+PartsLeft-first scale version bytes e = record { same = ap (λ v. parts_add scale v [] 1 (parts_of_text bytes)) e; few = omega (arith, length-slice_split (λ b. eqb b 10) bytes, count_by-le-length (λ b. eqb b 10) bytes) }
 
-module _ (version : ℕ) (bytes : List ℕ) (lines : List LogLine) (number : ℕ) (rest part next : List ℕ) (cut : parts_of_text rest ≡ part ∷ parts_of_text next) (h : PartsLeft version bytes lines number rest) where
-  next_step : (at_line number (line_adds version lines true part) >>= λ more. parts_add version more (number + 1) (parts_of_text next)) ≡ log_of bytes
-  next_step = sym (parts_more version lines number part (parts_of_text next) (some_parts next)) ∙ ap (λ (t : List (List ℕ)). parts_add version lines number t) (sym cut) ∙ h.same
+module _ (scale : Scale) (version : ℕ) (bytes : List ℕ) (lines : List LogLine) (number : ℕ) (rest part next : List ℕ) (cut : parts_of_text rest ≡ part ∷ parts_of_text next) (h : PartsLeft scale version bytes lines number rest) where
+  next_step : (at_line number (line_adds scale version lines true part) >>= λ more. parts_add scale version more (number + 1) (parts_of_text next)) ≡ log_of scale bytes
+  next_step = sym (parts_more scale version lines number part (parts_of_text next) (some_parts next)) ∙ ap (λ (t : List (List ℕ)). parts_add scale version lines number t) (sym cut) ∙ h.same
 
-  pub PartsLeft-more : (more : List LogLine) → at_line number (line_adds version lines true part) ≡ Ok more → PartsLeft version bytes more (number + 1) next
+  pub PartsLeft-more : (more : List LogLine) → at_line number (line_adds scale version lines true part) ≡ Ok more → PartsLeft scale version bytes more (number + 1) next
   PartsLeft-more more e = record {
-    same = sym (ap (λ (r : Result (List LogLine) TextFault). r >>= λ more. parts_add version more (number + 1) (parts_of_text next)) e) ∙ next_step;
+    same = sym (ap (λ (r : Result (List LogLine) TextFault). r >>= λ more. parts_add scale version more (number + 1) (parts_of_text next)) e) ∙ next_step;
     few = omega (arith, ap length cut, h.few);
   }
 
-  pub PartsLeft-fault : (f : TextFault) → at_line number (line_adds version lines true part) ≡ Err f → log_of bytes ≡ Err f
-  PartsLeft-fault f e = sym next_step ∙ ap (λ (r : Result (List LogLine) TextFault). r >>= λ more. parts_add version more (number + 1) (parts_of_text next)) e
+  pub PartsLeft-fault : (f : TextFault) → at_line number (line_adds scale version lines true part) ≡ Err f → log_of scale bytes ≡ Err f
+  PartsLeft-fault f e = sym next_step ∙ ap (λ (r : Result (List LogLine) TextFault). r >>= λ more. parts_add scale version more (number + 1) (parts_of_text next)) e
 
-  pub PartsLeft-fails : (e : ReadFault) → Fails e (at_line number (line_adds version lines true part)) → Fails e (log_of bytes)
+  pub PartsLeft-fails : (e : ReadFault) → Fails e (at_line number (line_adds scale version lines true part)) → Fails e (log_of scale bytes)
   PartsLeft-fails faults.NoMemory f = tt
   PartsLeft-fails (faults.Text f) e = PartsLeft-fault f e

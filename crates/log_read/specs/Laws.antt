@@ -1,6 +1,6 @@
 -- When the values of a line are in their ranges, and that a line is read exactly from its spelling.
 use Rattle.std.specs.Prelude.{◌≡◌, ◌↔◌, ℕ, Bool, false, ◌+◌, ◌<◌, ◌≤◌, ◌^◌, List, [], ◌∷◌, length, Ok, All, true}
-use Rattle.grid_base.specs.declared.TheConstants.{VERTICES_MAX, FACES_MAX, ID_MAX, HALVINGS_MAX, LENGTH_MAX}
+use Rattle.grid_base.specs.declared.TheConstants.{ID_MAX, HALVINGS_MAX, LENGTH_MAX}
 use Rattle.edit_base.specs.declared.Asked.{Asked}
 use Rattle.edit_base.specs.declared.Asked.TheVariants as asked
 use Rattle.edit_base.specs.declared.Change.{Change}
@@ -16,11 +16,13 @@ use Rattle.mesh_base.specs.declared.FileWord.TheVariants as file
 use Rattle.mesh_base.specs.declared.How.{How}
 use Rattle.mesh_base.specs.declared.How.TheVariants.{Whole, Impulse, Zones, Halved, Zero}
 use Rattle.mesh_base.specs.declared.PairName.{PairName}
+use Rattle.mesh_base.specs.declared.Scale.{Scale}
 use Rattle.mesh_base.specs.declared.ShapeFault.{ShapeFault}
 use Rattle.mesh_base.specs.declared.ShapeFault.TheVariants as shape
 use Rattle.mesh_base.specs.declared.UseWhy.{UseWhy}
 use Rattle.mesh_base.specs.declared.UseWhy.TheVariants as using
-use Rattle.log_text.specs.declared.TheConstants.{COUNT_MAX, SEEN_MAX, CORNER_MAX, PASSES_MAX, ROUNDS_MAX, TURN_MAX, VERSION}
+use Rattle.mesh_base.specs.Limits.{limits_of}
+use Rattle.log_text.specs.declared.TheConstants.{COUNT_MAX, SEEN_MAX, CORNER_MAX, PASSES_MAX, TURN_MAX, VERSION}
 use Rattle.log_text.specs.declared.LogLine.{LogLine}
 use Rattle.log_text.specs.declared.LogLine.TheVariants as line
 use Rattle.log_text.specs.declared.Refusal.{Refusal}
@@ -28,7 +30,7 @@ use Rattle.log_text.specs.declared.Refusal.TheVariants as refusal
 use Rattle.log_text.specs.Lines.{body_of, text_of_lines}
 use Rattle.line_text.specs.Spellings.{spaced_words}
 use Rattle.log_read.specs.Values.{is_latest}
-use Rattle.log_read.specs.Reading.{line_of, version_of, log_of}
+use Rattle.log_read.specs.Reading.{rounds_most, line_of, version_of, log_of}
 
 -- from low to high
 abbrev pub IsFrom : ℕ → ℕ → ℕ → Type 0
@@ -42,12 +44,12 @@ pub record IsPairInRange (p : PairName) : Type 0 where
   pub rising : p.a < p.b
 
 -- the number of passes, rounds or halvings
-abbrev pub IsHowInRange : How → Type 0
-IsHowInRange Whole = Unit {0}
-IsHowInRange (Impulse passes) = IsFrom 1 PASSES_MAX passes
-IsHowInRange (Zones rounds) = IsFrom 1 ROUNDS_MAX rounds
-IsHowInRange (Halved times) = IsFrom 1 HALVINGS_MAX times
-IsHowInRange Zero = Unit {0}
+abbrev pub IsHowInRange : Scale → How → Type 0
+IsHowInRange scale Whole = Unit {0}
+IsHowInRange scale (Impulse passes) = IsFrom 1 PASSES_MAX passes
+IsHowInRange scale (Zones rounds) = IsFrom 1 (rounds_most scale) rounds
+IsHowInRange scale (Halved times) = IsFrom 1 HALVINGS_MAX times
+IsHowInRange scale Zero = Unit {0}
 
 -- counts of what there is too much of, and the numbers of faces, corners and vertices from 1
 abbrev pub IsShapeInRange : ShapeFault → Type 0
@@ -128,25 +130,25 @@ abbrev pub IsReasonInRange : Why → Type 0
 IsReasonInRange (reason.Hit pair) = IsPairInRange pair
 IsReasonInRange _ = Unit {0}
 
--- the values of a line are in their ranges
-abbrev pub IsInRange : LogLine → Type 0
-IsInRange (line.First version) = Unit {0}
-IsInRange (line.Mesh k vertices faces) =
-    (k ≤ COUNT_MAX) × (vertices ≤ VERTICES_MAX) × (faces ≤ FACES_MAX)
-IsInRange (line.Step k) = IsFrom 1 COUNT_MAX k
-IsInRange (line.Solid v) = IsFrom 1 ID_MAX v
-IsInRange (line.Hit pair) = IsPairInRange pair
-IsInRange (line.Block ids) = (2 ≤ length ids) × AreRising 1 ids
-IsInRange (line.Move s) = IsFrom 1 ID_MAX s.v
-IsInRange (line.Moved how) = IsHowInRange how
-IsInRange (line.Pass kind) = IsPassInRange kind
-IsInRange line.PassFit = Unit {0}
-IsInRange (line.Did done) = IsChangeInRange done
-IsInRange (line.No what why) = IsAskedInRange what × IsReasonInRange why
-IsInRange line.Group = Unit {0}
-IsInRange (line.Close kept) = Unit {0}
-IsInRange (line.Refused why) = IsRefusalInRange why
-IsInRange line.End = Unit {0}
+-- the values of a line are in their ranges, where those of a mesh and of rounds go by a scale
+abbrev pub IsInRange : Scale → LogLine → Type 0
+IsInRange scale (line.First version) = Unit {0}
+IsInRange scale (line.Mesh k vertices faces) =
+    (k ≤ COUNT_MAX) × (vertices ≤ (limits_of scale).vertices) × (faces ≤ (limits_of scale).faces)
+IsInRange scale (line.Step k) = IsFrom 1 COUNT_MAX k
+IsInRange scale (line.Solid v) = IsFrom 1 ID_MAX v
+IsInRange scale (line.Hit pair) = IsPairInRange pair
+IsInRange scale (line.Block ids) = (2 ≤ length ids) × AreRising 1 ids
+IsInRange scale (line.Move s) = IsFrom 1 ID_MAX s.v
+IsInRange scale (line.Moved how) = IsHowInRange scale how
+IsInRange scale (line.Pass kind) = IsPassInRange kind
+IsInRange scale line.PassFit = Unit {0}
+IsInRange scale (line.Did done) = IsChangeInRange done
+IsInRange scale (line.No what why) = IsAskedInRange what × IsReasonInRange why
+IsInRange scale line.Group = Unit {0}
+IsInRange scale (line.Close kept) = Unit {0}
+IsInRange scale (line.Refused why) = IsRefusalInRange why
+IsInRange scale line.End = Unit {0}
 
 -- ---- versions
 
@@ -195,30 +197,33 @@ NamesNoOther (line.First v) = v ≡ VERSION
 NamesNoOther _ = Unit {0}
 
 -- the line is in range, and one of this version's lines
-abbrev pub IsLineOf : ℕ → LogLine → Type 0
-IsLineOf version l = IsInRange l × IsOfVersion version l
+abbrev pub IsLineOf : Scale → ℕ → LogLine → Type 0
+IsLineOf scale version l = IsInRange scale l × IsOfVersion version l
 
 -- ---- laws
 
 -- bytes are read as a line exactly where they are its body and it is in range
 abbrev pub LinesAreTheirSpellings : Type 0
-LinesAreTheirSpellings = (version : ℕ) → version < 2 ^ 8 → (body : List ℕ) (l : LogLine) →
-    (line_of version true (spaced_words body) ≡ Ok l)
-    ↔ (IsInRange l × IsOfVersion version l × (body_of l ≡ body))
+LinesAreTheirSpellings = (scale : Scale) (version : ℕ) → version < 2 ^ 8 →
+    (body : List ℕ) (l : LogLine) →
+    (line_of scale version true (spaced_words body) ≡ Ok l)
+    ↔ (IsInRange scale l × IsOfVersion version l × (body_of l ≡ body))
 
 -- no body has LF in it
 abbrev pub BodiesHaveNoEnd : Type 0
-BodiesHaveNoEnd = (version : ℕ) → version < 2 ^ 8 → (l : LogLine) → IsInRange l →
-    IsOfVersion version l → All (λ b. ¬ (b ≡ 10)) (body_of l)
+BodiesHaveNoEnd = (scale : Scale) (version : ℕ) → version < 2 ^ 8 → (l : LogLine) →
+    IsInRange scale l → IsOfVersion version l → All (λ b. ¬ (b ≡ 10)) (body_of l)
 
 -- A text is read as lines exactly where it is their text, and each is in range and of the
 -- version that the first line names.
 abbrev pub LogsAreTheirLines : Type 0
-LogsAreTheirLines = (bytes : List ℕ) (ls : List LogLine) →
-    (log_of bytes ≡ Ok ls) ↔ (All (IsLineOf (version_of bytes)) ls × (text_of_lines ls ≡ bytes))
+LogsAreTheirLines = (scale : Scale) (bytes : List ℕ) (ls : List LogLine) →
+    (log_of scale bytes ≡ Ok ls)
+    ↔ (All (IsLineOf scale (version_of bytes)) ls × (text_of_lines ls ≡ bytes))
 
 -- The text of a log whose first line names the version that is written is read as the log's lines,
 -- where each further one is in range and names no other version.
 abbrev pub WrittenLogsAreRead : Type 0
-WrittenLogsAreRead = (ls : List LogLine) → All (λ l. IsInRange l × NamesNoOther l) ls →
-    log_of (text_of_lines (line.First VERSION ∷ ls)) ≡ Ok (line.First VERSION ∷ ls)
+WrittenLogsAreRead = (scale : Scale) (ls : List LogLine) →
+    All (λ l. IsInRange scale l × NamesNoOther l) ls →
+    log_of scale (text_of_lines (line.First VERSION ∷ ls)) ≡ Ok (line.First VERSION ∷ ls)

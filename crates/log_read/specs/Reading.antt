@@ -1,9 +1,9 @@
 -- The reader's grammar: the line that words spell, or the reason.
-use Rattle.std.specs.Prelude.{ℕ, ◌+◌, Bool, ◌==◌, ◌&&◌, if◌then◌else◌, List, [], ◌∷◌, ◌++◌}
+use Rattle.std.specs.Prelude.{ℕ, ◌+◌, ◌-◌, Bool, ◌==◌, ◌&&◌, if◌then◌else◌, List, [], ◌∷◌, ◌++◌}
 use Rattle.std.specs.Prelude.{length, Option, Some, None, Result, Ok, Err, codes, true, false}
 use Rattle.std.specs.List.{slice_split}
 use Rattle.std.specs.Str.{bytes_eq}
-use Rattle.grid_base.specs.declared.TheConstants.{VERTICES_MAX, FACES_MAX, ID_MAX, HALVINGS_MAX}
+use Rattle.grid_base.specs.declared.TheConstants.{ID_MAX, HALVINGS_MAX}
 use Rattle.line_text.specs.declared.TextWhy.{TextWhy}
 use Rattle.line_text.specs.declared.TextWhy.TheVariants as why
 use Rattle.line_text.specs.declared.TextFault.{TextFault}
@@ -13,7 +13,9 @@ use Rattle.mesh_base.specs.declared.FileWord.TheVariants as file
 use Rattle.mesh_base.specs.declared.How.TheVariants.{Whole, Impulse, Zones, Halved, Zero}
 use Rattle.mesh_base.specs.declared.ShapeFault.TheVariants as shape
 use Rattle.mesh_base.specs.declared.UseWhy.TheVariants as using
-use Rattle.log_text.specs.declared.TheConstants.{COUNT_MAX, SEEN_MAX, CORNER_MAX, PASSES_MAX, ROUNDS_MAX, VERSION, OLD_VERSION}
+use Rattle.mesh_base.specs.declared.Scale.{Scale}
+use Rattle.mesh_base.specs.Limits.{limits_of}
+use Rattle.log_text.specs.declared.TheConstants.{COUNT_MAX, SEEN_MAX, CORNER_MAX, PASSES_MAX, VERSION, OLD_VERSION}
 use Rattle.log_text.specs.declared.LogLine.{LogLine}
 use Rattle.log_text.specs.declared.LogLine.TheVariants as line
 use Rattle.log_text.specs.declared.Refusal.{Refusal}
@@ -23,6 +25,10 @@ use Rattle.log_read.specs.Fields.{both}
 use Rattle.log_text.specs.Lines.{body_of}
 use Rattle.log_read.specs.Values.{is_latest, pair_at, shift_of_at, fault_at, whole, alone}
 use Rattle.log_read.specs.EditLines.{block_of, pinch_of, edit_of}
+
+-- the greatest number of rounds of impact zones: fewer than vertices may live
+abbrev pub rounds_most : Scale → ℕ
+rounds_most scale = (limits_of scale).vertices - 1
 
 -- ---- lines
 
@@ -34,11 +40,11 @@ first_of version ended (name ∷ words) =
     then (whole ended 1 (spelled_at version version) words >>= λ v. Ok (line.First v))
     else Err why.Unknown
 
--- mesh K V F
-unfoldable pub mesh_of : Bool → List (List ℕ) → Result LogLine TextWhy
-mesh_of ended words =
+-- mesh K V F: no more vertices and faces than may live
+unfoldable pub mesh_of : Scale → Bool → List (List ℕ) → Result LogLine TextWhy
+mesh_of scale ended words =
     whole ended 3 (both (spelled_at 0 COUNT_MAX)
-    (both (spelled_at 0 VERTICES_MAX) (spelled_at 0 FACES_MAX))) words
+    (both (spelled_at 0 (limits_of scale).vertices) (spelled_at 0 (limits_of scale).faces))) words
     >>= λ found. Ok (line.Mesh found.0 found.1.0 found.1.1)
 
 -- step K
@@ -54,14 +60,14 @@ unfoldable pub move_of : Bool → List (List ℕ) → Result LogLine TextWhy
 move_of ended words = whole ended 4 shift_of_at words >>= λ s. Ok (line.Move s)
 
 -- moved: how, and the number of passes, rounds or halvings
-unfoldable pub moved_of : Bool → List (List ℕ) → Result LogLine TextWhy
-moved_of ended [] = Err why.Short
-moved_of ended (how ∷ words) =
+unfoldable pub moved_of : Scale → Bool → List (List ℕ) → Result LogLine TextWhy
+moved_of scale ended [] = Err why.Short
+moved_of scale ended (how ∷ words) =
     if bytes_eq how (codes "whole") then alone ended (line.Moved Whole) words
     else if bytes_eq how (codes "impulse")
     then (whole ended 1 (spelled_at 1 PASSES_MAX) words >>= λ n. Ok (line.Moved (Impulse n)))
     else if bytes_eq how (codes "zones")
-    then (whole ended 1 (spelled_at 1 ROUNDS_MAX) words >>= λ n. Ok (line.Moved (Zones n)))
+    then (whole ended 1 (spelled_at 1 (rounds_most scale)) words >>= λ n. Ok (line.Moved (Zones n)))
     else if bytes_eq how (codes "halved")
     then (whole ended 1 (spelled_at 1 HALVINGS_MAX) words >>= λ n. Ok (line.Moved (Halved n)))
     else if bytes_eq how (codes "zero") then alone ended (line.Moved Zero) words
@@ -190,14 +196,14 @@ close_of ended (word ∷ words) =
     else Err why.Unknown
 
 -- the line of any other form than those that end in a list
-unfoldable pub plain_of : ℕ → Bool → List ℕ → List (List ℕ) → Result LogLine TextWhy
-plain_of version ended first words =
+unfoldable pub plain_of : Scale → ℕ → Bool → List ℕ → List (List ℕ) → Result LogLine TextWhy
+plain_of scale version ended first words =
     if bytes_eq first (codes "topo") then first_of version ended words
-    else if bytes_eq first (codes "mesh") then mesh_of ended words
+    else if bytes_eq first (codes "mesh") then mesh_of scale ended words
     else if bytes_eq first (codes "step") then step_of ended words
     else if bytes_eq first (codes "hit") then hit_of ended words
     else if bytes_eq first (codes "move") then move_of ended words
-    else if bytes_eq first (codes "moved") then moved_of ended words
+    else if bytes_eq first (codes "moved") then moved_of scale ended words
     else if bytes_eq first (codes "refused") then refused_of version ended words
     else if bytes_eq first (codes "end") then alone ended line.End words
     else if bytes_eq first (codes "solid") && is_latest version then solid_of ended words
@@ -205,30 +211,30 @@ plain_of version ended first words =
     else if bytes_eq first (codes "close") && is_latest version then close_of ended words
     else edit_of version ended first words
 
--- the line that the words spell by a version, where ended says that LF stands after them
-unfoldable pub line_of : ℕ → Bool → List (List ℕ) → Result LogLine TextWhy
-line_of version ended [] = Err why.Unknown
-line_of version ended (first ∷ words) =
+-- the line that the words spell by a scale and a version, where ended says that LF stands after them
+unfoldable pub line_of : Scale → ℕ → Bool → List (List ℕ) → Result LogLine TextWhy
+line_of scale version ended [] = Err why.Unknown
+line_of scale version ended (first ∷ words) =
     if bytes_eq first (codes "block") then block_of ended words
     else if bytes_eq first (codes "pinch") then pinch_of ended words
-    else plain_of version ended first words
+    else plain_of scale version ended first words
 
 -- ---- texts
 
 -- the lines so far and the one that a part of a text spells
-abbrev pub line_adds : ℕ → List LogLine → Bool → List ℕ → Result (List LogLine) TextWhy
-line_adds version lines ended text =
-    line_of version ended (spaced_words text) >>= λ l. Ok (lines ++ l ∷ [])
+abbrev pub line_adds : Scale → ℕ → List LogLine → Bool → List ℕ → Result (List LogLine) TextWhy
+line_adds scale version lines ended text =
+    line_of scale version ended (spaced_words text) >>= λ l. Ok (lines ++ l ∷ [])
 
 -- the lines so far and then those of the parts between LFs, numbered on: each but the last is
 -- ended, and an empty last one is no line
-abbrev pub parts_add : ℕ → List LogLine → ℕ → List (List ℕ) → Result (List LogLine) TextFault
-parts_add version lines number [] = Ok lines
-parts_add version lines number (last ∷ []) =
-    if length last == 0 then Ok lines else at_line number (line_adds version lines false last)
-parts_add version lines number (part ∷ next ∷ parts) =
-    at_line number (line_adds version lines true part)
-    >>= λ more. parts_add version more (number + 1) (next ∷ parts)
+abbrev pub parts_add : Scale → ℕ → List LogLine → ℕ → List (List ℕ) → Result (List LogLine) TextFault
+parts_add scale version lines number [] = Ok lines
+parts_add scale version lines number (last ∷ []) =
+    if length last == 0 then Ok lines else at_line number (line_adds scale version lines false last)
+parts_add scale version lines number (part ∷ next ∷ parts) =
+    at_line number (line_adds scale version lines true part)
+    >>= λ more. parts_add scale version more (number + 1) (next ∷ parts)
 
 -- the parts of a text between LFs
 abbrev pub parts_of_text : List ℕ → List (List ℕ)
@@ -245,6 +251,6 @@ version_in (first ∷ parts) =
 abbrev pub version_of : List ℕ → ℕ
 version_of bytes = version_in (parts_of_text bytes)
 
--- the lines of a text, or the first that is no spelling
-abbrev pub log_of : List ℕ → Result (List LogLine) TextFault
-log_of bytes = parts_add (version_of bytes) [] 1 (parts_of_text bytes)
+-- the lines of a text, or the first that is no spelling by a scale
+abbrev pub log_of : Scale → List ℕ → Result (List LogLine) TextFault
+log_of scale bytes = parts_add scale (version_of bytes) [] 1 (parts_of_text bytes)

@@ -2,8 +2,8 @@
 
 ghost use Rattle.log_read.specs.Laws.{LinesAreTheirSpellings, BodiesHaveNoEnd, LogsAreTheirLines, WrittenLogsAreRead};
 
-/// Bytes are read as a line exactly where they are its one spelling, its values are in their ranges, and the line is one of
-/// the version's.
+/// Bytes are read as a line, by any scale, exactly where they are its one spelling, its values are in the scale's ranges, and the
+/// line is one of the version's.
 pub fn lines_are_their_spellings()
     ensures { LinesAreTheirSpellings }
 {}

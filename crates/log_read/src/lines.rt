@@ -8,10 +8,10 @@ use crate::edit_lines::edit;
 use crate::listed::{block, pinch};
 use crate::refusals::refused;
 use crate::values::{alone, count_at, only_count, only_pair, shift_of_at};
-use grid_base::{FACES_MAX, HALVINGS_MAX, ID_MAX, VERTICES_MAX};
+use grid_base::{HALVINGS_MAX, ID_MAX};
 use line_text::{Parts, ReadFault, TextFault, TextWhy, count_with_end, is_word};
-use log_text::{COUNT_MAX, LogLine, PASSES_MAX, ROUNDS_MAX, VERSION};
-use mesh_base::{How, VertexId};
+use log_text::{COUNT_MAX, LogLine, PASSES_MAX, VERSION};
+use mesh_base::{How, Scale, VertexId};
 use std::alloc::Global;
 
 #[tactic(auto, unfolding(crate::specs::Reading::first_of))]
@@ -32,14 +32,15 @@ fn first(version: u8, ended: bool, words: Parts<'_>) -> Result<LogLine, TextWhy>
 }
 
 #[tactic(auto, unfolding(crate::specs::Reading::mesh_of))]
-fn mesh(ended: bool, words: Parts<'_>) -> Result<LogLine, TextWhy>
-    ensures { result ≡ spec.mesh_of ended (parts_left words.entry) }
+fn mesh(scale: Scale, ended: bool, words: Parts<'_>) -> Result<LogLine, TextWhy>
+    ensures { result ≡ spec.mesh_of scale ended (parts_left words.entry) }
 {
+    let limits = scale.limits();
     let mut words = words;
     count_with_end(ended, 3, words)?;
     let k = count_at(&mut words, 0, COUNT_MAX)?;
-    let vertices = count_at(&mut words, 0, VERTICES_MAX)?;
-    let faces = count_at(&mut words, 0, FACES_MAX)?;
+    let vertices = count_at(&mut words, 0, limits.vertices)?;
+    let faces = count_at(&mut words, 0, limits.faces)?;
     Ok(LogLine::Mesh { k, vertices, faces })
 }
 
@@ -69,9 +70,16 @@ fn move_line(ended: bool, words: Parts<'_>) -> Result<LogLine, TextWhy>
     Ok(LogLine::Move(s))
 }
 
+// The greatest number of rounds of impact zones.
+fn rounds_most(scale: Scale) -> u32
+    ensures { result ≡ spec.rounds_most scale }
+{
+    scale.limits().vertices.saturating_sub(1)
+}
+
 #[tactic(auto, unfolding(crate::specs::Reading::moved_of))]
-fn moved(ended: bool, words: Parts<'_>) -> Result<LogLine, TextWhy>
-    ensures { result ≡ spec.moved_of ended (parts_left words.entry) }
+fn moved(scale: Scale, ended: bool, words: Parts<'_>) -> Result<LogLine, TextWhy>
+    ensures { result ≡ spec.moved_of scale ended (parts_left words.entry) }
 {
     let mut words = words;
     let Some(how) = words.next() else {
@@ -85,7 +93,7 @@ fn moved(ended: bool, words: Parts<'_>) -> Result<LogLine, TextWhy>
         return Ok(LogLine::Moved(How::Impulse { passes: n as u8 }));
     }
     if is_word(how, b"zones") {
-        let rounds = only_count(ended, 1, ROUNDS_MAX, words)?;
+        let rounds = only_count(ended, 1, rounds_most(scale), words)?;
         return Ok(LogLine::Moved(How::Zones { rounds }));
     }
     if is_word(how, b"halved") {
@@ -124,14 +132,20 @@ fn close(ended: bool, words: Parts<'_>) -> Result<LogLine, TextWhy>
 }
 
 #[tactic(auto, unfolding(crate::specs::Reading::plain_of))]
-fn plain(version: u8, ended: bool, form: &[u8], words: Parts<'_>) -> Result<LogLine, TextWhy>
-    ensures { result ≡ spec.plain_of version ended form.now (parts_left words.entry) }
+fn plain(
+    scale: Scale,
+    version: u8,
+    ended: bool,
+    form: &[u8],
+    words: Parts<'_>,
+) -> Result<LogLine, TextWhy>
+    ensures { result ≡ spec.plain_of scale version ended form.now (parts_left words.entry) }
 {
     if is_word(form, b"topo") {
         return first(version, ended, words);
     }
     if is_word(form, b"mesh") {
-        return mesh(ended, words);
+        return mesh(scale, ended, words);
     }
     if is_word(form, b"step") {
         return step(ended, words);
@@ -143,7 +157,7 @@ fn plain(version: u8, ended: bool, form: &[u8], words: Parts<'_>) -> Result<LogL
         return move_line(ended, words);
     }
     if is_word(form, b"moved") {
-        return moved(ended, words);
+        return moved(scale, ended, words);
     }
     if is_word(form, b"refused") {
         return refused(version, ended, words);
@@ -176,12 +190,13 @@ fn placed(read: Result<LogLine, TextWhy>, number: u32) -> Result<LogLine, ReadFa
 #[tactic(auto, unfolding(crate::specs::Reading::line_of))]
 pub(crate) fn read_line(
     alloc: Global,
+    scale: Scale,
     version: u8,
     ended: bool,
     text: &[u8],
     number: u32,
 ) -> Result<LogLine, ReadFault>
-    ensures { GivesAt number result (spec.line_of version ended (spaced_words text.now)) }
+    ensures { GivesAt number result (spec.line_of scale version ended (spaced_words text.now)) }
 {
     let mut words = Parts::new(b' ', text);
     let Some(form) = words.next() else {
@@ -193,5 +208,5 @@ pub(crate) fn read_line(
     if is_word(form, b"pinch") {
         return pinch(alloc, ended, words, number);
     }
-    placed(plain(version, ended, form, words), number)
+    placed(plain(scale, version, ended, form, words), number)
 }

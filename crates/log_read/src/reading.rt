@@ -7,6 +7,7 @@ use crate::lines::read_line;
 use grid_base::NoMemory;
 use line_text::{ReadFault, cut_at, is_word};
 use log_text::{Log, LogLine, OLD_VERSION, VERSION};
+use mesh_base::Scale;
 use std::alloc::Global;
 
 // Puts the line at the end, or changes nothing. The refusal is put together again, since the checker wants its type named
@@ -24,6 +25,7 @@ fn push_line(log: &mut Log, line: LogLine) -> Result<(), NoMemory>
 // Adds the line that a part of a text spells.
 fn add_line(
     alloc: Global,
+    scale: Scale,
     version: u8,
     log: &mut Log,
     ended: bool,
@@ -31,9 +33,9 @@ fn add_line(
     number: u32,
 ) -> Result<(), ReadFault>
     ensures { Leaves log.new result
-        (at_line number (spec.line_adds version log.old ended text.now)) }
+        (at_line number (spec.line_adds scale version log.old ended text.now)) }
 {
-    let line = read_line(alloc, version, ended, text, number)?;
+    let line = read_line(alloc, scale, version, ended, text, number)?;
     push_line(log, line)?;
     Ok(())
 }
@@ -41,18 +43,19 @@ fn add_line(
 // The log with what stands after its last LF, which is no line where it is empty.
 fn with_last(
     alloc: Global,
+    scale: Scale,
     version: u8,
     log: Log,
     last: &[u8],
     number: u32,
 ) -> Result<Log, ReadFault>
-    ensures { Gives (λ log. log) result (spec.parts_add version log number (last.now ∷ [])) }
+    ensures { Gives (λ log. log) result (spec.parts_add scale version log number (last.now ∷ [])) }
 {
     let mut log = log;
     if last.is_empty() {
         return Ok(log);
     }
-    add_line(alloc, version, &mut log, false, last, number)?;
+    add_line(alloc, scale, version, &mut log, false, last, number)?;
     Ok(log)
 }
 
@@ -68,10 +71,11 @@ fn version_of(bytes: &[u8]) -> u8
 }
 
 /// The lines of a log, or the first of its lines that is no spelling, with the reason. Each line ends with LF. A log whose
-/// first line names `VERSION` is read by this version, and any other by `OLD_VERSION`.
-pub fn read_log(alloc: Global, bytes: &[u8]) -> Result<Log, ReadFault>
+/// first line names `VERSION` is read by this version, and any other by `OLD_VERSION`. A `mesh` line tells of no more vertices
+/// and faces than the limits of the scale, and a `moved` line of fewer rounds than vertices.
+pub fn read_log(alloc: Global, scale: Scale, bytes: &[u8]) -> Result<Log, ReadFault>
     requires { length bytes.now ≤ TEXT_MAX }
-    ensures { Gives (λ log. log) result (spec.log_of bytes.now) }
+    ensures { Gives (λ log. log) result (spec.log_of scale bytes.now) }
 {
     let version = version_of(bytes);
     let mut log = Log::new(alloc);
@@ -80,9 +84,9 @@ pub fn read_log(alloc: Global, bytes: &[u8]) -> Result<Log, ReadFault>
     'lines: loop {
         let (part, more) = cut_at(b'\n', rest);
         match more {
-            None => return with_last(alloc, version, log, part, number),
+            None => return with_last(alloc, scale, version, log, part, number),
             Some(next) => {
-                match add_line(alloc, version, &mut log, true, part, number) {
+                match add_line(alloc, scale, version, &mut log, true, part, number) {
                     Ok(()) => {}
                     Err(fault) => return Err(fault),
                 }

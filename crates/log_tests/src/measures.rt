@@ -3,7 +3,7 @@ use crate::meshes::{JOINED, PARTED, RING, TETRAHEDRON, lists_of};
 use crate::same::assert_same;
 use grid_base::NoMemory;
 use line_text::ReadFault;
-use mesh_base::Surface;
+use mesh_base::{Scale, Surface};
 use mesh_measure::{components, euler, genus, volume6};
 use mesh_plain::{PlainMesh, shape};
 use std::alloc::Global;
@@ -29,9 +29,9 @@ fn measured<S: Surface>(alloc: Global, mesh: &S) -> Result<Measures, NoMemory> {
 
 fn plain_of(alloc: Global, text: &[u8], rt: &impl Abort) -> Result<PlainMesh, ReadFault> {
     let lists = lists_of(alloc, text, rt)?;
-    let shaped = shape(alloc, &lists);
+    let shaped = shape(alloc, Scale::Standard, &lists);
     assert!(rt; shaped.is_ok());
-    let mesh = PlainMesh::of(alloc, &lists)?;
+    let mesh = PlainMesh::of(alloc, Scale::Standard, &lists)?;
     Ok(mesh)
 }
 

@@ -11,6 +11,7 @@ use line_text::ReadFault;
 use log_read::read_log;
 use log_run::LogRun;
 use log_text::{Log, LogLine};
+use mesh_base::Scale;
 use mesh_journal::JournalMesh;
 use mesh_plain::shape;
 use obj_text::obj_of;
@@ -25,15 +26,15 @@ fn begun(alloc: Global, mesh: &[u8], rt: &impl Abort) -> Result<LogRun, Fail>
     ensures unspent { IfOk result (λ run. run.is_spent ≡ false) }
 {
     let lists = lists_of(alloc, mesh, rt)?;
-    let shaped = shape(alloc, &lists);
+    let shaped = shape(alloc, Scale::Standard, &lists);
     assert!(rt; shaped.is_ok());
-    let mesh = JournalMesh::of(alloc, &lists)?;
+    let mesh = JournalMesh::of(alloc, Scale::Standard, &lists)?;
     Ok(LogRun::new(alloc, mesh))
 }
 
 fn lines_of(alloc: Global, text: &[u8], rt: &impl Abort) -> Result<Log, ReadFault> {
     assert!(rt; text.len() < 1_000);
-    read_log(alloc, text)
+    read_log(alloc, Scale::Standard, text)
 }
 
 // That the mesh is clear, where the line is that of an edit.

@@ -6,7 +6,7 @@ ghost use Rattle.mesh_base.specs.Sides.{IsClosed};
 use crate::meshes::{EVEN, RIGHT, TETRAHEDRON, lists_of};
 use crate::same::{assert_bytes, assert_same};
 use grid_base::Point;
-use mesh_base::Surface;
+use mesh_base::{Scale, Surface};
 use mesh_journal::JournalMesh;
 use mesh_plain::{PlainMesh, shape};
 use mesh_sizing::{Band, Sizing, Want};
@@ -26,9 +26,9 @@ fn clear_mesh(alloc: Global, text: &[u8], rt: &impl Abort) -> Result<PlainMesh, 
     ensures clear { IfOk result (λ s. IsClearMesh (⟦<PlainMesh as Surface>⟧.mesh s)) }
 {
     let lists = lists_of(alloc, text, rt)?;
-    let shaped = shape(alloc, &lists);
+    let shaped = shape(alloc, Scale::Standard, &lists);
     assert!(rt; shaped.is_ok());
-    let mesh = PlainMesh::of(alloc, &lists)?;
+    let mesh = PlainMesh::of(alloc, Scale::Standard, &lists)?;
     let meeting = first_meeting(alloc, &mesh)?;
     assert!(rt; meeting.is_none());
     Ok(mesh)
@@ -108,10 +108,10 @@ fn full_journal(alloc: Global, rt: &impl Abort) -> Result<JournalMesh, Fail>
     ensures clear { IfOk result (λ s. IsClearMesh (⟦<JournalMesh as Surface>⟧.mesh s)) }
 {
     let lists = lists_of(alloc, EVEN, rt)?;
-    let shaped = shape(alloc, &lists);
+    let shaped = shape(alloc, Scale::Standard, &lists);
     assert!(rt; shaped.is_ok());
     assert_eq!(rt; (lists.points.len(), lists.faces.len()), (4, 4));
-    let mesh = JournalMesh::of_numbered(alloc, &lists, 2_147_483_649, 5)?;
+    let mesh = JournalMesh::of_numbered(alloc, Scale::Standard, &lists, 2_147_483_649, 5)?;
     let meeting = first_meeting(alloc, &mesh)?;
     assert!(rt; meeting.is_none());
     Ok(mesh)

@@ -21,7 +21,5 @@ pub const SEEN_MAX: u64 = u64::MAX;
 pub const CORNER_MAX: u8 = 3;
 /// The greatest number of impulse passes.
 pub const PASSES_MAX: u8 = 100;
-/// The greatest number of rounds of impact zones: fewer than vertices may live.
-pub const ROUNDS_MAX: u32 = grid_base::VERTICES_MAX - 1;
 /// The greatest number of a turn in which two edges are zipped.
 pub const TURN_MAX: u8 = 3;

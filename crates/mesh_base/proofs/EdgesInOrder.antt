@@ -28,10 +28,10 @@ use Rattle.mesh_base.proofs.ListedPairs.{all_weaker, edge_listed}
 use Rattle.mesh_base.proofs.Counts.{runs-without_face}
 
 -- ---- sides with the same ends
-tied_edges : (u v a b : ℕ) → is_eq (edge_cmp (u, v) (a, b)) ≡ (u == a && v == b)
+pub tied_edges : (u v a b : ℕ) → is_eq (edge_cmp (u, v) (a, b)) ≡ (u == a && v == b)
 tied_edges u v a b = tied_then (nat_cmp u a) (nat_cmp v b) ∙ ap (λ t. t && is_eq (nat_cmp v b)) (unsigned_tied u a) ∙ ap (λ t. (u == a) && t) (unsigned_tied v b)
 
-edge_equiv : IsEquivalence (eq_by_cmp edge_cmp)
+pub edge_equiv : IsEquivalence (eq_by_cmp edge_cmp)
 edge_equiv = eq_by_cmp_equiv edge_total
 
 regrouped : (x y x' y' x'' y'' : Bool) → (((x || y) || (x' || y')) || (x'' || y'')) ≡ ((x || x' || x'') || (y || y' || y''))
@@ -109,7 +109,7 @@ seen_edge m f a b h = by_face (finite.get m.faces f) refl h
 abbrev seen : Mesh → ℕ → ℕ → ℕ → Bool
 seen m a b f = neighbours_in (finite.get m.faces f) a b
 
-edge_seen : (m : Mesh) (a b : ℕ) → IsEdge m a b → list_any (seen m a b) (finite.keys m.faces) ≡ true
+pub edge_seen : (m : Mesh) (a b : ℕ) → IsEdge m a b → list_any (seen m a b) (finite.keys m.faces) ≡ true
 edge_seen m a b edge = ⊎_elim
     (λ some. let face = running_face m a b some in found (face.0).0 (face.0).1 face.2 (or_first (follows (face.0).1 a b) (follows (face.0).1 b a) face.1))
     (λ some. let face = running_face m b a some in found (face.0).0 (face.0).1 face.2 (or_second (follows (face.0).1 a b) (follows (face.0).1 b a) face.1))

@@ -17,3 +17,4 @@ mod EdgesFrom
 pub mod PointOf
 pub mod NearReading
 pub mod Deeper
+pub mod EdgeNumber

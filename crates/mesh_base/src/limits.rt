@@ -17,7 +17,7 @@ pub struct Limits {
 pub enum Scale {
     /// Meshes of 65,536 vertices and 131,072 faces, and texts of 64 MiB.
     Standard,
-    /// Meshes of 4,194,304 vertices and 8,388,608 faces, and texts of 4,294,967,294 bytes.
+    /// Meshes of 4,194,304 vertices and 8,388,608 faces, and texts of 2,147,483,647 bytes.
     Large,
 }
 

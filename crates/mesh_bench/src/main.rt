@@ -23,7 +23,7 @@ mod torus;
 use grid_base::NoMemory;
 use half_mesh::HalfMesh;
 use jobs::{Job, Kind, Work, job_of};
-use mesh_base::Surface;
+use mesh_base::{Scale, Surface};
 use mesh_journal::JournalMesh;
 use mesh_plain::{PlainMesh, shape};
 use playing::Three;
@@ -57,15 +57,30 @@ fn work_on<S: Surface + Drop>(
 /// Does the work on a torus, and answers how much was done; None where it is of no good shape.
 fn work_with(alloc: Global, kind: Kind, torus: Torus, work: Work) -> Result<Option<u64>, NoMemory> {
     let lists = torus.lists(alloc)?;
-    if shape(alloc, &lists).is_err() {
+    if shape(alloc, Scale::Standard, &lists).is_err() {
         return Ok(None);
     }
     let done = match kind {
-        Kind::Plain => work_on(alloc, PlainMesh::of(alloc, &lists)?, torus, work)?,
-        Kind::Half => work_on(alloc, HalfMesh::of(alloc, &lists)?, torus, work)?,
-        Kind::Journal => work_on(alloc, JournalMesh::of(alloc, &lists)?, torus, work)?,
+        Kind::Plain => work_on(
+            alloc,
+            PlainMesh::of(alloc, Scale::Standard, &lists)?,
+            torus,
+            work,
+        )?,
+        Kind::Half => work_on(
+            alloc,
+            HalfMesh::of(alloc, Scale::Standard, &lists)?,
+            torus,
+            work,
+        )?,
+        Kind::Journal => work_on(
+            alloc,
+            JournalMesh::of(alloc, Scale::Standard, &lists)?,
+            torus,
+            work,
+        )?,
         Kind::Indexed => {
-            let mut mesh = JournalMesh::of(alloc, &lists)?;
+            let mut mesh = JournalMesh::of(alloc, Scale::Standard, &lists)?;
             mesh.index();
             work_on(alloc, mesh, torus, work)?
         }

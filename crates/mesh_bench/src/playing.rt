@@ -8,7 +8,7 @@ use crate::lawful::is_lawful;
 use crate::picking::pick_call;
 use grid_base::NoMemory;
 use half_mesh::HalfMesh;
-use mesh_base::{Mark, MeshLists, Surface};
+use mesh_base::{Mark, MeshLists, Scale, Surface};
 use mesh_journal::JournalMesh;
 use mesh_plain::{PlainMesh, shape};
 use mesh_play::{Answer, Call, play_one};
@@ -64,11 +64,11 @@ pub(crate) struct Three {
 impl Three {
     /// The mesh of the lists; None where they are of no good shape.
     pub(crate) fn of(alloc: Global, lists: &MeshLists) -> Result<Option<Three>, NoMemory> {
-        match shape(alloc, lists) {
+        match shape(alloc, Scale::Standard, lists) {
             Ok(()) => Ok(Some(Three {
-                plain: PlainMesh::of(alloc, lists)?,
-                half: HalfMesh::of(alloc, lists)?,
-                journal: JournalMesh::of(alloc, lists)?,
+                plain: PlainMesh::of(alloc, Scale::Standard, lists)?,
+                half: HalfMesh::of(alloc, Scale::Standard, lists)?,
+                journal: JournalMesh::of(alloc, Scale::Standard, lists)?,
             })),
             Err(_) => Ok(None),
         }

@@ -1,10 +1,11 @@
 -- The first of all faults is the one that `shape_fault` names.
 use Rattle.std.proofs.Common.{◌≡◌, ℕ, ◌+◌, ◌==◌, not, Bool, true, false, cond, List, [], ◌∷◌, ◌++◌, Option, Some, None, map, length, nat_lt, slice_get, if◌then◌else◌, option_map, refl, sym, ap, ◌∙◌}
 use Rattle.std.specs.Option.{option_or}
-use Rattle.grid_base.specs.declared.TheConstants.{VERTICES_MAX, FACES_MAX}
 use Rattle.mesh_base.specs.declared.ids.Corners.{Corners}
 use Rattle.mesh_base.specs.declared.faults.ShapeFault.{ShapeFault}
 use Rattle.mesh_base.specs.declared.faults.ShapeFault.TheVariants.{TooManyVertices, TooManyFaces, NoVertex, Repeated, Doubled, Unbalanced}
+use Rattle.mesh_base.specs.declared.limits.Scale.{Scale}
+use Rattle.mesh_base.specs.Limits.{limits_of}
 use Rattle.mesh_base.specs.Changes.{corners_of}
 use Rattle.mesh_base.specs.Given.{Faces}
 use Rattle.mesh_base.specs.Pairs.{id_pairs}
@@ -82,10 +83,10 @@ regroup None None (Some x) d e f = refl
 regroup None None None (Some x) e f = refl
 regroup None None None None e f = refl
 
-pub first_is_shape_fault : (n : ℕ) (fs : Faces) → slice_get (shape_faults n fs) 0 ≡ shape_fault n fs
-first_is_shape_fault n fs =
-    let a : List ShapeFault = one_if (nat_lt VERTICES_MAX n) (TooManyVertices n) in
-    let b : List ShapeFault = one_if (nat_lt FACES_MAX (length fs)) (TooManyFaces (length fs)) in
+pub first_is_shape_fault : (scale : Scale) (n : ℕ) (fs : Faces) → slice_get (shape_faults scale n fs) 0 ≡ shape_fault scale n fs
+first_is_shape_fault scale n fs =
+    let a : List ShapeFault = one_if (nat_lt (limits_of scale).vertices n) (TooManyVertices n) in
+    let b : List ShapeFault = one_if (nat_lt (limits_of scale).faces (length fs)) (TooManyFaces (length fs)) in
     let c : List ShapeFault = no_vertices_from n 1 fs in
     let d : List ShapeFault = all_repeated_from 1 fs in
     let e : List ShapeFault = all_doubled_from 1 fs in
@@ -96,18 +97,18 @@ first_is_shape_fault n fs =
     ∙ ap (λ o. option_or (option_or (option_or o (slice_get d 0)) (slice_get e 0)) (slice_get f 0)) (head_joined (a ++ b) c)
     ∙ ap (λ o. option_or (option_or (option_or (option_or o (slice_get c 0)) (slice_get d 0)) (slice_get e 0)) (slice_get f 0)) (head_joined a b)
     ∙ regroup (slice_get a 0) (slice_get b 0) (slice_get c 0) (slice_get d 0) (slice_get e 0) (slice_get f 0)
-    ∙ six (head_one (nat_lt VERTICES_MAX n) (TooManyVertices n)) (head_one (nat_lt FACES_MAX (length fs)) (TooManyFaces (length fs))) (head_no_vertices n 1 fs) (head_repeated 1 fs) (head_doubled 1 fs) (head_unbalanced n fs)
+    ∙ six (head_one (nat_lt (limits_of scale).vertices n) (TooManyVertices n)) (head_one (nat_lt (limits_of scale).faces (length fs)) (TooManyFaces (length fs))) (head_no_vertices n 1 fs) (head_repeated 1 fs) (head_doubled 1 fs) (head_unbalanced n fs)
   where
     six : {a a' b b' c c' d d' e e' f f' : Option ShapeFault} → a ≡ a' → b ≡ b' → c ≡ c' → d ≡ d' → e ≡ e' → f ≡ f'
         → option_or (option_or a (option_or b (option_or c (option_or d e)))) f ≡ option_or (option_or a' (option_or b' (option_or c' (option_or d' e')))) f'
     six p q r s t u = λ i. option_or (option_or (p i) (option_or (q i) (option_or (r i) (option_or (s i) (t i))))) (u i)
 
 -- ---- they are put into one list, kind by kind
-pub kinds_joined : (n : ℕ) (fs : Faces) (l0 l1 l2 l3 l4 l5 : List ShapeFault) → l0 ≡ [] → l1 ≡ l0 ++ limit_faults n (length fs) → l2 ≡ l1 ++ no_vertices_from n 1 fs → l3 ≡ l2 ++ all_repeated_from 1 fs → l4 ≡ l3 ++ all_doubled_from 1 fs
-    → l5 ≡ l4 ++ map unbalanced_fault (unbalanced_pairs n fs) → l5 ≡ shape_faults n fs
-kinds_joined n fs l0 l1 l2 l3 l4 l5 e0 e1 e2 e3 e4 e5 =
+pub kinds_joined : (scale : Scale) (n : ℕ) (fs : Faces) (l0 l1 l2 l3 l4 l5 : List ShapeFault) → l0 ≡ [] → l1 ≡ l0 ++ limit_faults scale n (length fs) → l2 ≡ l1 ++ no_vertices_from n 1 fs → l3 ≡ l2 ++ all_repeated_from 1 fs → l4 ≡ l3 ++ all_doubled_from 1 fs
+    → l5 ≡ l4 ++ map unbalanced_fault (unbalanced_pairs n fs) → l5 ≡ shape_faults scale n fs
+kinds_joined scale n fs l0 l1 l2 l3 l4 l5 e0 e1 e2 e3 e4 e5 =
     e5
     ∙ ap (λ l. l ++ map unbalanced_fault (unbalanced_pairs n fs)) (e4
     ∙ ap (λ l. l ++ all_doubled_from 1 fs) (e3
     ∙ ap (λ l. l ++ all_repeated_from 1 fs) (e2
-    ∙ ap (λ l. l ++ no_vertices_from n 1 fs) (e1 ∙ ap (λ l. l ++ limit_faults n (length fs)) e0))))
+    ∙ ap (λ l. l ++ no_vertices_from n 1 fs) (e1 ∙ ap (λ l. l ++ limit_faults scale n (length fs)) e0))))

@@ -3,10 +3,11 @@
 use Rattle.std.specs.Prelude.{ℕ, ◌+◌, ◌==◌, Bool, not, List, [], ◌∷◌, ◌++◌, map, length, nat_lt, if◌then◌else◌}
 use Rattle.std.specs.List.{filter, position_from}
 use Rattle.std.proofs.Common.{Option, Some, None}
-use Rattle.grid_base.specs.declared.TheConstants.{VERTICES_MAX, FACES_MAX}
 use Rattle.mesh_base.specs.declared.ids.Corners.{Corners}
 use Rattle.mesh_base.specs.declared.faults.ShapeFault.{ShapeFault}
 use Rattle.mesh_base.specs.declared.faults.ShapeFault.TheVariants.{TooManyVertices, TooManyFaces, NoVertex, Repeated, Doubled, Unbalanced}
+use Rattle.mesh_base.specs.declared.limits.Scale.{Scale}
+use Rattle.mesh_base.specs.Limits.{limits_of}
 use Rattle.mesh_base.specs.Changes.{corners_of}
 use Rattle.mesh_base.specs.Given.{Faces}
 use Rattle.mesh_base.specs.Mesh.{equal_up_to_rotation}
@@ -59,16 +60,16 @@ unbalanced_pairs n fs =
 abbrev pub unbalanced_fault : ℕ × ℕ → ShapeFault
 unbalanced_fault p = Unbalanced p.0 p.1
 
--- too many vertices, too many faces
-abbrev pub limit_faults : ℕ → ℕ → List ShapeFault
-limit_faults n count =
-    one_if (nat_lt VERTICES_MAX n) (TooManyVertices n)
-    ++ one_if (nat_lt FACES_MAX count) (TooManyFaces count)
+-- too many vertices, too many faces for a scale
+abbrev pub limit_faults : Scale → ℕ → ℕ → List ShapeFault
+limit_faults scale n count =
+    one_if (nat_lt (limits_of scale).vertices n) (TooManyVertices n)
+    ++ one_if (nat_lt (limits_of scale).faces count) (TooManyFaces count)
 
--- all faults, of n points and these faces
-abbrev pub shape_faults : ℕ → Faces → List ShapeFault
-shape_faults n fs =
-    limit_faults n (length fs)
+-- all faults, of n points and these faces, at a scale
+abbrev pub shape_faults : Scale → ℕ → Faces → List ShapeFault
+shape_faults scale n fs =
+    limit_faults scale n (length fs)
     ++ no_vertices_from n 1 fs
     ++ all_repeated_from 1 fs
     ++ all_doubled_from 1 fs

@@ -5,8 +5,8 @@ ghost use Rattle.mesh_plain.specs.Shape.{is_vertex, repeats};
 ghost use Rattle.mesh_faults.specs.ShapeFaults.{one_if, no_vertices_in, no_vertices_from, all_repeated_from, limit_faults};
 ghost use Rattle.mesh_faults.specs.Listing.{Adds};
 
-use grid_base::{FACES_MAX, NoMemory, VERTICES_MAX};
-use mesh_base::ShapeFault;
+use grid_base::NoMemory;
+use mesh_base::{Scale, ShapeFault};
 
 /// Puts a fault at the end of the list, where it is one.
 pub(crate) fn put_if(
@@ -97,20 +97,22 @@ pub(crate) fn put_repeated(faces: &[[u32; 3]], faults: &mut Vec<ShapeFault>) -> 
     Ok(())
 }
 
-/// Puts what is beyond the limits at the end of the list.
+/// Puts what is beyond the limits of a scale at the end of the list.
 pub(crate) fn put_limits(
+    scale: Scale,
     points: usize,
     faces: usize,
     faults: &mut Vec<ShapeFault>,
 ) -> Result<(), NoMemory>
-    ensures { Adds result faults.old faults.new (limit_faults points faces) }
+    ensures { Adds result faults.old faults.new (limit_faults scale points faces) }
 {
+    let limits = scale.limits();
     let too_many_vertices = ShapeFault::TooManyVertices {
         count: points as u64,
     };
     let too_many_faces = ShapeFault::TooManyFaces {
         count: faces as u64,
     };
-    put_if(points > VERTICES_MAX as usize, too_many_vertices, faults)?;
-    put_if(faces > FACES_MAX as usize, too_many_faces, faults)
+    put_if(points > limits.vertices as usize, too_many_vertices, faults)?;
+    put_if(faces > limits.faces as usize, too_many_faces, faults)
 }

@@ -11,11 +11,12 @@ use Rattle.mesh_base.specs.declared.ids.Corners.{Corners}
 use Rattle.mesh_base.specs.Mesh.{IsSound, AreDifferent, HasCorners, equal_up_to_rotation}
 use Rattle.mesh_base.specs.Sides.{follows, has_corner}
 use Rattle.mesh_base.specs.Changes.{corners_of, corner_list}
+use Rattle.mesh_base.specs.declared.limits.Scale.TheVariants.{Standard}
 use Rattle.mesh_base.specs.Given.{Faces, mesh_of}
 use Rattle.mesh_base.proofs.Tests.{both_ways}
 use Rattle.mesh_plain.specs.Shape.{runs_in, shape_fault}
-use Rattle.mesh_plain.proofs.Lists.{numbered, sound-mesh_of}
-use Rattle.mesh_plain.proofs.Faults.{runs_given, closed-mesh_of}
+use Rattle.mesh_plain.proofs.Lists.{numbered, sound-mesh_under}
+use Rattle.mesh_plain.proofs.Faults.{runs_given, closed-mesh_under}
 use Rattle.mesh_make.specs.Cubes.{squares, cube_faces}
 
 abbrev pub triangle : ℕ → ℕ → ℕ → Corners
@@ -44,21 +45,21 @@ one_points =
 abbrev one_faces : Faces
 one_faces = map corner_list triangles
 
-one_has_no_fault : shape_fault 8 one_faces ≡ None
+one_has_no_fault : shape_fault Standard 8 one_faces ≡ None
 one_has_no_fault = refl
 
 one_length : length one_points ≡ 8
 unfolding one_points
 one_length = refl
 
-one_faultless : shape_fault (length one_points) one_faces ≡ None
-one_faultless = ap (λ n. shape_fault n one_faces) one_length ∙ one_has_no_fault
+one_faultless : shape_fault Standard (length one_points) one_faces ≡ None
+one_faultless = ap (λ n. shape_fault Standard n one_faces) one_length ∙ one_has_no_fault
 
 one_is_sound : IsSound (mesh_of one_points one_faces)
-one_is_sound = sound-mesh_of one_points one_faces one_faultless
+one_is_sound = sound-mesh_under Standard one_points one_faces one_faultless
 
 one_is_closed : (u v : ℕ) → runs_in one_faces u v ≡ runs_in one_faces v u
-one_is_closed u v = sym (runs_given one_points one_faces u v) ∙ closed-mesh_of one_points one_faces one_faultless u v ∙ runs_given one_points one_faces v u
+one_is_closed u v = sym (runs_given Standard one_points one_faces u v) ∙ closed-mesh_under Standard one_points one_faces one_faultless u v ∙ runs_given Standard one_points one_faces v u
 
 one_has : (k : ℕ) (t : Corners) → slice_get triangles k ≡ Some t → HasCorners (mesh_of one_points one_faces) (k + 1) t
 one_has k t h =

@@ -9,9 +9,10 @@ use Rattle.std.proofs.lemmas.List.{length-map}
 use Rattle.std.proofs.lemmas.List.Sums.{sum_by-append}
 use Rattle.std.proofs.lemmas.Bool.{eqb-true, eq-eqb}
 use Rattle.std.proofs.lemmas.Bool.Decides.{nat_tests}
-use Rattle.grid_base.specs.declared.TheConstants.{VERTICES_MAX, FACES_MAX}
+use Rattle.grid_base.specs.declared.TheConstants.{STANDARD_VERTICES, STANDARD_FACES}
 use Rattle.grid_base.specs.Points.{point_at}
 use Rattle.mesh_base.specs.declared.ids.Corners.{Corners}
+use Rattle.mesh_base.specs.declared.limits.Scale.TheVariants.{Standard}
 use Rattle.mesh_base.specs.Mesh.{IsSound, IsLiveVertex, AreLive, AreDifferent, HasCorners, equal_up_to_rotation}
 use Rattle.mesh_base.specs.Sides.{follows, IsClosed}
 use Rattle.mesh_base.specs.Changes.{corners_of, corner_list}
@@ -176,9 +177,9 @@ cubes_are_sound n row =
         different_faces = faces_different n;
       };
       limits = record {
-        vertices = few_vertices points faces (below VERTICES_MAX (length points) (omega arith));
+        vertices = few_vertices Standard points faces (below STANDARD_VERTICES (length points) (omega arith));
         greatest = (lit≤ tt, lit≤ tt);
-        faces = few_faces points faces (below FACES_MAX (length faces) (omega (arith, count-faces n)));
+        faces = few_faces Standard points faces (below STANDARD_FACES (length faces) (omega (arith, count-faces n)));
         vertex_ids = omega arith;
         face_ids = omega (arith, count-faces n);
       };
@@ -197,10 +198,10 @@ cubes_balance start (suc count) u v =
 pub cubes_are_closed : (n : ℕ) → IsClosed (cubes_mesh n)
 cubes_are_closed n u v =
     let points = map point_at (cubes_lists n).points in
-    runs_given points (cubes_lists n).faces u v ∙ cubes_balance 0 (n * n * n) u v ∙ sym (runs_given points (cubes_lists n).faces v u)
+    runs_given Standard points (cubes_lists n).faces u v ∙ cubes_balance 0 (n * n * n) u v ∙ sym (runs_given Standard points (cubes_lists n).faces v u)
 
-pub cubes_have_no_fault : (n : ℕ) → IsRow n → shape_fault (length (cubes_lists n).points) (cubes_lists n).faces ≡ None
+pub cubes_have_no_fault : (n : ℕ) → IsRow n → shape_fault Standard (length (cubes_lists n).points) (cubes_lists n).faces ≡ None
 cubes_have_no_fault n row =
     let points = map point_at (cubes_lists n).points in
-    ap (λ (k : ℕ). shape_fault k (cubes_lists n).faces) (sym (length-map (cubes_lists n).points point_at))
-    ∙ no_fault points (cubes_lists n).faces (cubes_are_sound n row) (cubes_are_closed n)
+    ap (λ (k : ℕ). shape_fault Standard k (cubes_lists n).faces) (sym (length-map (cubes_lists n).points point_at))
+    ∙ no_fault Standard points (cubes_lists n).faces (cubes_are_sound n row) (cubes_are_closed n)

@@ -1,14 +1,15 @@
 -- What holds of the cubes.
 use Rattle.std.specs.Prelude.{ℕ, ◌≡◌, ◌*◌, ◌↔◌, length, None}
 use Rattle.mesh_base.specs.Mesh.{IsLiveVertex}
+use Rattle.mesh_base.specs.declared.limits.Scale.TheVariants.{Standard}
 use Rattle.mesh_plain.specs.Shape.{shape_fault}
 use Rattle.obj_text.specs.Obj.{Lists}
 use Rattle.step_text.specs.Ranges.{IsFrom}
 use Rattle.mesh_make.specs.Cubes.{cubes_mesh}
 
--- lists are of good shape
+-- lists are of good shape, at the standard scale
 abbrev pub HasNoFault : Lists → Type 0
-HasNoFault lists = shape_fault (length lists.points) lists.faces ≡ None
+HasNoFault lists = shape_fault Standard (length lists.points) lists.faces ≡ None
 
 -- the live vertices are numbered from 1, eight for each cube
 abbrev pub VerticesAreNumbered : Type 0

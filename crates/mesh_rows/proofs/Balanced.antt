@@ -7,6 +7,7 @@ use Rattle.std.specs.FinMap as finite
 use Rattle.std.specs.FinMap.{FinMap, get-from_entries}
 use Rattle.std.specs.FinMap.Entries.{find}
 use Rattle.mesh_base.specs.declared.ids.Corners.{Corners}
+use Rattle.mesh_base.specs.declared.limits.Scale.{Scale}
 use Rattle.mesh_base.specs.Mesh.{Mesh}
 use Rattle.mesh_base.specs.Sides.{follows, runs, IsClosed}
 use Rattle.mesh_base.proofs.Listed.{running_face}
@@ -82,7 +83,7 @@ closed_along m n same closed u v =
     let P : FinMap nat_cmp Corners → Type 0 = λ faces. runs (record m { faces = faces }) u v ≡ runs (record m { faces = faces }) v u in
     subst P same (closed u v)
 
-pub closed_rows : (rows : MeshRows) → made_fault rows ≡ None → IsClosed (mesh_of_rows rows)
-closed_rows rows none =
-    let m = made_of rows in
-    closed_along m (mesh_of_rows rows) (faces_are rows none) (closed_by m (map face_entry rows.faces) (faces_are rows none) (all_even m rows.faces (no_balance_fault rows none)))
+pub closed_rows : (scale : Scale) (rows : MeshRows) → made_fault scale rows ≡ None → IsClosed (mesh_of_rows scale rows)
+closed_rows scale rows none =
+    let m = made_of scale rows in
+    closed_along m (mesh_of_rows scale rows) (faces_are scale rows none) (closed_by m (map face_entry rows.faces) (faces_are scale rows none) (all_even m rows.faces (no_balance_fault scale rows none)))

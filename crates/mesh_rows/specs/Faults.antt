@@ -3,12 +3,13 @@ use Rattle.std.specs.Prelude.{◌≡◌, ℕ, ◌+◌, ◌==◌, ◌&&◌, ⊤, 
 use Rattle.std.specs.Prelude.{nat_lt, nat_le, Option, Some, None, if◌then◌else◌}
 use Rattle.std.specs.Option.{option_or, option_map, option_map_or}
 use Rattle.std.specs.FinMap as finite
-use Rattle.grid_base.specs.declared.TheConstants.{VERTICES_MAX, FACES_MAX, ID_MAX}
+use Rattle.grid_base.specs.declared.TheConstants.{ID_MAX}
 use Rattle.mesh_base.specs.declared.ids.Corners.{Corners}
 use Rattle.mesh_base.specs.Mesh.{Mesh, equal_up_to_rotation}
 use Rattle.mesh_base.specs.Sides.{faces_running, runs}
 use Rattle.mesh_base.specs.Changes.{with_solid}
-use Rattle.mesh_base.specs.Given.{empty_mesh}
+use Rattle.mesh_base.specs.declared.limits.Scale.{Scale}
+use Rattle.mesh_base.specs.Limits.{limits_of}
 use Rattle.mesh_plain.specs.Shape.{repeats}
 use Rattle.mesh_rows.specs.declared.rows.VertexRow.{VertexRow}
 use Rattle.mesh_rows.specs.declared.rows.FaceRow.{FaceRow}
@@ -19,7 +20,7 @@ use Rattle.mesh_rows.specs.declared.faults.RowsFault.TheVariants.{VertexOrder, F
 use Rattle.mesh_rows.specs.declared.faults.RowsFault.TheVariants.{NotSolid, Unbalanced}
 use Rattle.mesh_rows.specs.declared.faults.RowsRefusal.{RowsRefusal}
 use Rattle.mesh_rows.specs.declared.faults.RowsRefusal.TheVariants.{NoMemory, Fault}
-use Rattle.mesh_rows.specs.Making.{with_vertex_row, with_face_row, of_vertices, of_faces, made_of}
+use Rattle.mesh_rows.specs.Making.{with_vertex_row, with_face_row, empty_under, of_vertices, of_faces, made_of}
 
 -- ---- numbers
 
@@ -27,14 +28,15 @@ use Rattle.mesh_rows.specs.Making.{with_vertex_row, with_face_row, of_vertices, 
 abbrev pub is_next : ℕ → Bool
 is_next id = nat_le 1 id && nat_le id (ID_MAX + 1)
 
--- more rows than may live, or a next id that cannot be
-abbrev pub limits_fault : MeshRows → Option RowsFault
-limits_fault rows =
+-- more rows than may live at a scale, or a next id that cannot be
+abbrev pub limits_fault : Scale → MeshRows → Option RowsFault
+limits_fault scale rows =
     option_or
-    (if nat_lt VERTICES_MAX (length rows.vertices)
+    (if nat_lt (limits_of scale).vertices (length rows.vertices)
     then Some (TooManyVertices (length rows.vertices)) else None)
     (option_or
-    (if nat_lt FACES_MAX (length rows.faces) then Some (TooManyFaces (length rows.faces)) else None)
+    (if nat_lt (limits_of scale).faces (length rows.faces)
+    then Some (TooManyFaces (length rows.faces)) else None)
     (option_or
     (if is_next rows.next_vertex then None else Some (NextVertex rows.next_vertex))
     (if is_next rows.next_face then None else Some (NextFace rows.next_face))))
@@ -121,17 +123,17 @@ balance_fault m (row ∷ rows) = option_or (sides_fault m row.corners) (balance_
 -- ---- all
 
 -- the first fault beside the numbers
-abbrev pub made_fault : MeshRows → Option RowsFault
-made_fault rows =
-    option_or (vertices_fault rows.next_vertex 1 empty_mesh rows.vertices)
-    (option_or (faces_fault rows.next_face 1 (of_vertices rows) rows.faces)
-    (option_or (solids_fault 0 (of_faces rows) rows.solids)
-    (balance_fault (made_of rows) rows.faces)))
+abbrev pub made_fault : Scale → MeshRows → Option RowsFault
+made_fault scale rows =
+    option_or (vertices_fault rows.next_vertex 1 (empty_under scale) rows.vertices)
+    (option_or (faces_fault rows.next_face 1 (of_vertices scale rows) rows.faces)
+    (option_or (solids_fault 0 (of_faces scale rows) rows.solids)
+    (balance_fault (made_of scale rows) rows.faces)))
 
 -- The first fault of rows, in this order: the numbers, the vertices, the faces and the solid
--- vertices row by row, a side. None exactly where a mesh can be made of them.
-abbrev pub rows_fault : MeshRows → Option RowsFault
-rows_fault rows = option_or (limits_fault rows) (made_fault rows)
+-- vertices row by row, a side. None exactly where a mesh of the scale can be made.
+abbrev pub rows_fault : Scale → MeshRows → Option RowsFault
+rows_fault scale rows = option_or (limits_fault scale rows) (made_fault scale rows)
 
 -- what a refusal says of the first fault
 abbrev pub IsRefusal : Option RowsFault → RowsRefusal → Type 0

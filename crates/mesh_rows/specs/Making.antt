@@ -2,6 +2,8 @@
 use Rattle.std.specs.Prelude.{ℕ, List, [], ◌∷◌}
 use Rattle.mesh_base.specs.Mesh.{Mesh}
 use Rattle.mesh_base.specs.Changes.{with_vertex, with_face, with_solid}
+use Rattle.mesh_base.specs.declared.limits.Scale.{Scale}
+use Rattle.mesh_base.specs.Limits.{limits_of, under}
 use Rattle.mesh_base.specs.Given.{empty_mesh}
 use Rattle.mesh_plain.specs.Numbered.{numbered}
 use Rattle.mesh_rows.specs.declared.rows.VertexRow.{VertexRow}
@@ -31,14 +33,18 @@ abbrev pub with_solids : Mesh → List ℕ → Mesh
 with_solids m [] = m
 with_solids m (v ∷ vs) = with_solids (with_solid m v) vs
 
+-- a mesh with nothing in it, with the limits of a scale
+abbrev pub empty_under : Scale → Mesh
+empty_under scale = under (limits_of scale) empty_mesh
+
 -- the mesh of the vertices alone
-abbrev pub of_vertices : MeshRows → Mesh
-of_vertices rows = with_vertex_rows empty_mesh rows.vertices
+abbrev pub of_vertices : Scale → MeshRows → Mesh
+of_vertices scale rows = with_vertex_rows (empty_under scale) rows.vertices
 
 -- the mesh of the vertices, with the faces
-abbrev pub of_faces : MeshRows → Mesh
-of_faces rows = with_face_rows (of_vertices rows) rows.faces
+abbrev pub of_faces : Scale → MeshRows → Mesh
+of_faces scale rows = with_face_rows (of_vertices scale rows) rows.faces
 
 -- that with the fixed (solid) vertices
-abbrev pub made_of : MeshRows → Mesh
-made_of rows = with_solids (of_faces rows) rows.solids
+abbrev pub made_of : Scale → MeshRows → Mesh
+made_of scale rows = with_solids (of_faces scale rows) rows.solids

@@ -3,20 +3,19 @@ ghost use Rattle.std.specs.Prelude.{◌≡◌, ◌≤◌, ◌+◌, ◌∷◌, []
 ghost use Rattle.grid_base.specs.declared.TheConstants.{VERTICES_MAX, FACES_MAX, ID_MAX};
 ghost use Rattle.mesh_base.specs.Mesh.{IsSound};
 ghost use Rattle.mesh_base.specs.Sides.{IsClosed};
-ghost use Rattle.mesh_base.specs.Given.{empty_mesh};
 ghost use Rattle.half_mesh.specs.Half.{mesh_in};
 ghost use Rattle.mesh_journal.specs.Journal.{mesh_in as journal_mesh_in, kept_in};
 ghost use Rattle.mesh_rows.specs.Rows.{mesh_of_rows};
-ghost use Rattle.mesh_rows.specs.Making.{with_vertex_row, with_vertex_rows, with_face_row, with_face_rows, with_solids, made_of};
+ghost use Rattle.mesh_rows.specs.Making.{with_vertex_row, with_vertex_rows, with_face_row, with_face_rows, with_solids, empty_under, made_of};
 ghost use Rattle.mesh_rows.specs.Faults.{is_next, may_have, limits_fault, vertices_fault, face_fault, faces_fault, solids_fault, made_fault, rows_fault, IsRefusal};
 
 use crate::balance::balance_fault;
 use crate::checking::face_fault;
 use crate::faults::{RowsFault, RowsRefusal};
 use crate::rows::{FaceRow, MeshRows, VertexRow};
-use grid_base::{FACES_MAX, ID_MAX, NoMemory, VERTICES_MAX};
+use grid_base::{ID_MAX, NoMemory};
 use half_mesh::HalfMesh;
-use mesh_base::{MeshLists, Points, Surface, Triangles, VertexId};
+use mesh_base::{MeshLists, Points, Scale, Surface, Triangles, VertexId};
 use mesh_journal::{Journal, JournalMesh};
 use std::alloc::Global;
 
@@ -142,11 +141,15 @@ fn put_solids(mesh: &mut HalfMesh, solids: &[VertexId]) -> Result<Option<RowsFau
 }
 
 // All rows, or the first fault.
-fn put_rows(mesh: &mut HalfMesh, rows: &MeshRows) -> Result<Option<RowsFault>, NoMemory>
-    requires limits { limits_fault rows.now ≡ None }
-    requires empty { mesh_in mesh.old ≡ empty_mesh }
-    ensures fault { IfOk result (λ fault. fault ≡ made_fault rows.now) }
-    ensures put { result ≡ Ok None → mesh_in mesh.new ≡ made_of rows.now }
+fn put_rows(
+    mesh: &mut HalfMesh,
+    scale: Scale,
+    rows: &MeshRows,
+) -> Result<Option<RowsFault>, NoMemory>
+    requires limits { limits_fault scale rows.now ≡ None }
+    requires empty { mesh_in mesh.old ≡ empty_under scale }
+    ensures fault { IfOk result (λ fault. fault ≡ made_fault scale rows.now) }
+    ensures put { result ≡ Ok None → mesh_in mesh.new ≡ made_of scale rows.now }
     ensures vertex { result ≡ Ok None → (mesh_in mesh.new).next_vertex ≤ rows.now.next_vertex }
     ensures face { result ≡ Ok None → (mesh_in mesh.new).next_face ≤ rows.now.next_face }
 {
@@ -170,17 +173,18 @@ fn is_next(id: u32) -> bool
 }
 
 // What is wrong with the numbers of rows and the next ids.
-fn limits_fault(rows: &MeshRows) -> Option<RowsFault>
-    ensures { result ≡ limits_fault rows.now }
+fn limits_fault(scale: Scale, rows: &MeshRows) -> Option<RowsFault>
+    ensures { result ≡ limits_fault scale rows.now }
 {
+    let limits = scale.limits();
     let vertices = rows.vertices.len();
-    if vertices > VERTICES_MAX as usize {
+    if vertices > limits.vertices as usize {
         return Some(RowsFault::TooManyVertices {
             count: vertices as u64,
         });
     }
     let faces = rows.faces.len();
-    if faces > FACES_MAX as usize {
+    if faces > limits.faces as usize {
         return Some(RowsFault::TooManyFaces {
             count: faces as u64,
         });
@@ -197,33 +201,37 @@ fn limits_fault(rows: &MeshRows) -> Option<RowsFault>
 }
 
 // A mesh with nothing in it.
-fn empty_mesh(alloc: Global) -> Result<HalfMesh, NoMemory>
-    ensures { IfOk result (λ mesh. mesh_in mesh ≡ empty_mesh) }
+fn empty_mesh(alloc: Global, scale: Scale) -> Result<HalfMesh, NoMemory>
+    ensures { IfOk result (λ mesh. mesh_in mesh ≡ empty_under scale) }
 {
     let lists = MeshLists {
         points: Points::new(alloc),
         faces: Triangles::new(alloc),
     };
-    HalfMesh::of(alloc, &lists)
+    HalfMesh::of(alloc, scale, &lists)
 }
 
-/// The mesh of these rows, which is sound and closed, with the ids and the next ids that they tell, and an empty journal; or the
-/// first thing that is wrong with them, in the order of `RowsFault`.
-pub fn mesh_of_rows(alloc: Global, rows: &MeshRows) -> Result<JournalMesh, RowsRefusal>
-    ensures mesh { IfOk result (λ made. journal_mesh_in made ≡ mesh_of_rows rows.now) }
+/// The mesh of these rows, which is sound and closed, with the ids and the next ids that they tell, the limits of the scale, and an
+/// empty journal; or the first thing that is wrong with them, in the order of `RowsFault`.
+pub fn mesh_of_rows(
+    alloc: Global,
+    scale: Scale,
+    rows: &MeshRows,
+) -> Result<JournalMesh, RowsRefusal>
+    ensures mesh { IfOk result (λ made. journal_mesh_in made ≡ mesh_of_rows scale rows.now) }
     ensures kept { IfOk result (λ made. kept_in made ≡ journal_mesh_in made ∷ []) }
-    ensures sound { IsOk result → IsSound (mesh_of_rows rows.now) }
-    ensures closed { IsOk result → IsClosed (mesh_of_rows rows.now) }
-    ensures none { IsOk result → rows_fault rows.now ≡ None }
+    ensures sound { IsOk result → IsSound (mesh_of_rows scale rows.now) }
+    ensures closed { IsOk result → IsClosed (mesh_of_rows scale rows.now) }
+    ensures none { IsOk result → rows_fault scale rows.now ≡ None }
 
     // Refused for a fault: the first.
-    ensures first { IfErr result (IsRefusal (rows_fault rows.now)) }
+    ensures first { IfErr result (IsRefusal (rows_fault scale rows.now)) }
 {
-    if let Some(fault) = limits_fault(rows) {
+    if let Some(fault) = limits_fault(scale, rows) {
         return Err(RowsRefusal::Fault(fault));
     }
-    let mut mesh = empty_mesh(alloc)?;
-    if let Some(fault) = put_rows(&mut mesh, rows)? {
+    let mut mesh = empty_mesh(alloc, scale)?;
+    if let Some(fault) = put_rows(&mut mesh, scale, rows)? {
         return Err(RowsRefusal::Fault(fault));
     }
     mesh.set_next(rows.next_vertex, rows.next_face);

@@ -3,7 +3,7 @@ use crate::meshes::tetrahedron;
 use crate::same::assert_same;
 use grid_base::NoMemory;
 use half_mesh::HalfMesh;
-use mesh_base::{FaceId, Surface};
+use mesh_base::{FaceId, Scale, Surface};
 use mesh_plain::shape;
 use std::alloc::Global;
 use std::process::Abort;
@@ -17,9 +17,9 @@ fn across(
     rt: &impl Abort,
 ) -> Result<Option<(FaceId, u8)>, NoMemory> {
     let lists = tetrahedron(alloc)?;
-    let shaped = shape(alloc, &lists);
+    let shaped = shape(alloc, Scale::Standard, &lists);
     assert!(rt; shaped.is_ok());
-    let mesh = HalfMesh::of(alloc, &lists)?;
+    let mesh = HalfMesh::of(alloc, Scale::Standard, &lists)?;
     assert!(rt; mesh.corners(f).is_some());
     assert!(rt; side < 3);
     Ok(mesh.across(f, side))

@@ -1,6 +1,6 @@
 //! Meshes for the examples.
 use grid_base::{NoMemory, Point};
-use mesh_base::{MeshLists, Points, Triangles};
+use mesh_base::{MeshLists, Points, Scale, Triangles};
 use mesh_plain::{PlainMesh, shape};
 use std::alloc::Global;
 use std::process::Abort;
@@ -42,7 +42,7 @@ pub(crate) fn mesh_at(
     rt: &impl Abort,
 ) -> Result<PlainMesh, NoMemory> {
     let lists = lists_of(alloc, points, faces)?;
-    let shaped = shape(alloc, &lists);
+    let shaped = shape(alloc, Scale::Standard, &lists);
     assert!(rt; shaped.is_ok());
-    PlainMesh::of(alloc, &lists)
+    PlainMesh::of(alloc, Scale::Standard, &lists)
 }

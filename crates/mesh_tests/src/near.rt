@@ -2,7 +2,7 @@
 
 use crate::meshes::tetrahedron;
 use grid_base::{Extent, NoMemory, Point};
-use mesh_base::{FaceId, Surface, faces_near_of_all};
+use mesh_base::{FaceId, Scale, Surface, faces_near_of_all};
 use mesh_journal::JournalMesh;
 use mesh_plain::shape;
 use std::alloc::Global;
@@ -54,9 +54,9 @@ fn are_faces(faces: &[FaceId], ids: &[u32]) -> bool {
 // The tetrahedron.
 fn journal(alloc: Global, rt: &impl Abort) -> Result<JournalMesh, NoMemory> {
     let lists = tetrahedron(alloc)?;
-    let shaped = shape(alloc, &lists);
+    let shaped = shape(alloc, Scale::Standard, &lists);
     assert!(rt; shaped.is_ok());
-    JournalMesh::of(alloc, &lists)
+    JournalMesh::of(alloc, Scale::Standard, &lists)
 }
 
 // The faces near a box are these. Before, the list has another face.

@@ -3,8 +3,8 @@ use crate::meshes::{SIDES, TETRAHEDRON, lists_of};
 use crate::same::assert_same;
 use grid_base::{NoMemory, Point};
 use mesh_base::{
-    AddFault, FaceId, MeshLists, ShapeFault, ShapeRefusal, Surface, VertexId, edges_in_order,
-    sides_in_order,
+    AddFault, FaceId, MeshLists, Scale, ShapeFault, ShapeRefusal, Surface, VertexId,
+    edges_in_order, sides_in_order,
 };
 use mesh_plain::{PlainMesh, shape};
 use std::alloc::Global;
@@ -25,30 +25,41 @@ fn many(alloc: Global, points: u32, faces: u32) -> Result<MeshLists, NoMemory> {
     Ok(lists)
 }
 
-fn mesh_of(alloc: Global, lists: &MeshLists, rt: &impl Abort) -> Result<PlainMesh, NoMemory> {
-    let found = shape(alloc, lists);
+fn mesh_of(
+    alloc: Global,
+    scale: Scale,
+    lists: &MeshLists,
+    rt: &impl Abort,
+) -> Result<PlainMesh, NoMemory> {
+    let found = shape(alloc, scale, lists);
     assert!(rt; found.is_ok());
-    PlainMesh::of(alloc, lists)
+    PlainMesh::of(alloc, scale, lists)
 }
 
-// The fault of lists with these points and faces.
-fn shape_of(
+const SCALES: [Scale; 2] = [Scale::Standard, Scale::Large];
+
+// The faults of lists with these points and faces, at each scale.
+fn shapes_of(
     alloc: Global,
     points: &[[i32; 3]],
     faces: &[[u32; 3]],
-) -> Result<Result<(), ShapeRefusal>, NoMemory> {
+) -> Result<[Result<(), ShapeRefusal>; 2], NoMemory> {
     let lists = lists_of(alloc, points, faces)?;
-    Ok(shape(alloc, &lists))
+    Ok([
+        shape(alloc, SCALES[0], &lists),
+        shape(alloc, SCALES[1], &lists),
+    ])
 }
 
 // The fault of many of them.
 fn shape_of_many(
     alloc: Global,
+    scale: Scale,
     points: u32,
     faces: u32,
 ) -> Result<Result<(), ShapeRefusal>, NoMemory> {
     let lists = many(alloc, points, faces)?;
-    Ok(shape(alloc, &lists))
+    Ok(shape(alloc, scale, &lists))
 }
 
 // Points and faces of good shape.
@@ -98,17 +109,33 @@ const FAULTS: [(&[[u32; 3]], ShapeFault); 8] = [
     (&[[4, 3, 2]], ShapeFault::Unbalanced { from: 2, to: 3 }),
 ];
 
-// How many vertices and faces, and the fault that is told of them.
-const MANY: [(u32, u32, ShapeFault); 3] = [
+// How many vertices and faces, and the fault that is told of them at a scale.
+const MANY: [(Scale, u32, u32, ShapeFault); 4] = [
     (
+        Scale::Standard,
         65_537,
         131_073,
         ShapeFault::TooManyVertices { count: 65_537 },
     ),
-    (3, 131_073, ShapeFault::TooManyFaces { count: 131_073 }),
     (
+        Scale::Standard,
+        3,
+        131_073,
+        ShapeFault::TooManyFaces { count: 131_073 },
+    ),
+    (
+        Scale::Standard,
         65_536,
         131_072,
+        ShapeFault::Doubled {
+            first: 1,
+            second: 2,
+        },
+    ),
+    (
+        Scale::Large,
+        65_537,
+        131_073,
         ShapeFault::Doubled {
             first: 1,
             second: 2,
@@ -119,15 +146,16 @@ const MANY: [(u32, u32, ShapeFault); 3] = [
 #[test]
 fn faults_are_named_at_their_least_place(rt: HostRuntime) -> Result<(), Fail> {
     for (points, faces) in &GOOD {
-        let found = shape_of(rt.alloc(), points, faces)?;
-        assert_same(&rt, &found, &Ok(()));
+        let found = shapes_of(rt.alloc(), points, faces)?;
+        assert_same(&rt, &found, &[Ok(()), Ok(())]);
     }
     for (faces, fault) in &FAULTS {
-        let found = shape_of(rt.alloc(), &TETRAHEDRON, faces)?;
-        assert_same(&rt, &found, &Err(ShapeRefusal::Shape(*fault)));
+        let found = shapes_of(rt.alloc(), &TETRAHEDRON, faces)?;
+        let told = Err(ShapeRefusal::Shape(*fault));
+        assert_same(&rt, &found, &[told, told]);
     }
-    for (points, faces, fault) in &MANY {
-        let found = shape_of_many(rt.alloc(), *points, *faces)?;
+    for (scale, points, faces, fault) in &MANY {
+        let found = shape_of_many(rt.alloc(), *scale, *points, *faces)?;
         assert_same(&rt, &found, &Err(ShapeRefusal::Shape(*fault)));
     }
     Ok(())
@@ -135,7 +163,8 @@ fn faults_are_named_at_their_least_place(rt: HostRuntime) -> Result<(), Fail> {
 
 // The tetrahedron.
 fn tetrahedron(alloc: Global, rt: &impl Abort) -> Result<PlainMesh, NoMemory> {
-    mesh_of(alloc, &lists_of(alloc, &TETRAHEDRON, &SIDES)?, rt)
+    let lists = lists_of(alloc, &TETRAHEDRON, &SIDES)?;
+    mesh_of(alloc, Scale::Standard, &lists, rt)
 }
 
 // Whether these are the faces at a vertex, by rising id. Before, the list has another face.
@@ -214,11 +243,22 @@ fn counts(mesh: &PlainMesh) -> [u32; 4] {
 #[test]
 fn a_full_mesh_takes_no_vertex(rt: HostRuntime) -> Result<(), Fail> {
     let p = Point::new(0, 0, 0).expect(&rt, "a point");
-    let mut mesh = mesh_of(rt.alloc(), &many(rt.alloc(), 65_535, 0)?, &rt)?;
+    let lists = many(rt.alloc(), 65_535, 0)?;
+    let mut mesh = mesh_of(rt.alloc(), Scale::Standard, &lists, &rt)?;
     let added = [mesh.add_vertex(p), mesh.add_vertex(p)];
     assert_same(&rt, &added, &[Ok(VertexId(65_536)), Err(AddFault::Full)]);
     assert_same(&rt, &counts(&mesh), &[65_536, 65_537, 0, 1]);
     assert_same(&rt, &mesh.point(VertexId(65_537)), &None);
     assert_same(&rt, &mesh.vertex_after(65_535), &Some(VertexId(65_536)));
+    Ok(())
+}
+
+#[test]
+fn a_large_mesh_takes_more(rt: HostRuntime) -> Result<(), Fail> {
+    let p = Point::new(0, 0, 0).expect(&rt, "a point");
+    let lists = many(rt.alloc(), 65_536, 0)?;
+    let mut mesh = mesh_of(rt.alloc(), Scale::Large, &lists, &rt)?;
+    assert_same(&rt, &mesh.add_vertex(p), &Ok(VertexId(65_537)));
+    assert_same(&rt, &counts(&mesh), &[65_537, 65_538, 0, 1]);
     Ok(())
 }

@@ -1,6 +1,7 @@
 //! A list of acts, each played on a plain mesh, on half-edges and on a journal, taken back and played again.
 ghost use Rattle.std.specs.Prelude.{◌≡◌, OnOk, IfOk, None, length, true};
 ghost use Rattle.mesh_base.specs.Changes.{IsFresh};
+ghost use Rattle.mesh_base.specs.declared.limits.Scale.TheVariants.{Standard};
 ghost use Rattle.mesh_base.specs.Given.{mesh_of};
 ghost use Rattle.mesh_plain.specs.Shape.{shape_fault};
 ghost use Rattle.mesh_play.specs.Play.{IsAllowed};
@@ -9,7 +10,7 @@ use crate::meshes::tetrahedron;
 use crate::near::{HERE, extent};
 use grid_base::{NoMemory, Point};
 use half_mesh::HalfMesh;
-use mesh_base::{FaceId, FaceIds, MeshLists, Surface, VertexId};
+use mesh_base::{FaceId, FaceIds, MeshLists, Scale, Surface, VertexId};
 use mesh_journal::JournalMesh;
 use mesh_plain::{PlainMesh, shape};
 use mesh_play::{Act, Answer, Answers, Call, Question, ThreeAnswers, play_both, play_three};
@@ -236,11 +237,11 @@ pub(crate) fn is_allowed<S: Surface>(
 
 /// Whether the act surely meets its condition on the mesh that lists give.
 fn is_allowed_at_first(alloc: Global, lists: &MeshLists, act: &Act) -> Result<bool, NoMemory>
-    requires { shape_fault (length lists.now.points) lists.now.faces ≡ None }
+    requires { shape_fault Standard (length lists.now.points) lists.now.faces ≡ None }
     ensures { IfOk result (λ yes. yes ≡ true
         → IsAllowed (mesh_of lists.now.points lists.now.faces) act.now) }
 {
-    let mesh = PlainMesh::of(alloc, lists)?;
+    let mesh = PlainMesh::of(alloc, Scale::Standard, lists)?;
     is_allowed(alloc, &mesh, act)
 }
 
@@ -313,9 +314,9 @@ fn play_rows<S: Surface, T: Surface>(
 #[test]
 fn plain_meshes_and_half_edges_answer_alike(rt: HostRuntime) -> Result<(), Fail> {
     let lists = tetrahedron(rt.alloc())?;
-    assert!(rt; shape(rt.alloc(), &lists).is_ok());
-    let mut plain = PlainMesh::of(rt.alloc(), &lists)?;
-    let mut half = HalfMesh::of(rt.alloc(), &lists)?;
+    assert!(rt; shape(rt.alloc(), Scale::Standard, &lists).is_ok());
+    let mut plain = PlainMesh::of(rt.alloc(), Scale::Standard, &lists)?;
+    let mut half = HalfMesh::of(rt.alloc(), Scale::Standard, &lists)?;
     play_rows(&rt, rt.alloc(), &mut plain, &mut half)?;
     Ok(())
 }
@@ -323,9 +324,9 @@ fn plain_meshes_and_half_edges_answer_alike(rt: HostRuntime) -> Result<(), Fail>
 #[test]
 fn plain_meshes_and_journals_answer_alike(rt: HostRuntime) -> Result<(), Fail> {
     let lists = tetrahedron(rt.alloc())?;
-    assert!(rt; shape(rt.alloc(), &lists).is_ok());
-    let mut plain = PlainMesh::of(rt.alloc(), &lists)?;
-    let mut journal = JournalMesh::of(rt.alloc(), &lists)?;
+    assert!(rt; shape(rt.alloc(), Scale::Standard, &lists).is_ok());
+    let mut plain = PlainMesh::of(rt.alloc(), Scale::Standard, &lists)?;
+    let mut journal = JournalMesh::of(rt.alloc(), Scale::Standard, &lists)?;
     play_rows(&rt, rt.alloc(), &mut plain, &mut journal)?;
     Ok(())
 }
@@ -353,7 +354,7 @@ const BACK: [Want; 11] = [
 
 // The return to the first mark takes both back, and the vertices that were made since.
 fn told_back(alloc: Global, lists: &MeshLists) -> Result<ThreeAnswers, NoMemory>
-    requires { shape_fault (length lists.now.points) lists.now.faces ≡ None }
+    requires { shape_fault Standard (length lists.now.points) lists.now.faces ≡ None }
 {
     let calls = [
         Call::Ask {
@@ -382,13 +383,13 @@ fn told_back(alloc: Global, lists: &MeshLists) -> Result<ThreeAnswers, NoMemory>
             act: Act::AddVertex { p: FAR },
         },
     ];
-    play_three(alloc, lists, &calls)
+    play_three(alloc, Scale::Standard, lists, &calls)
 }
 
 #[test]
 fn a_return_gives_the_ids_back_of_each_mesh(rt: HostRuntime) -> Result<(), Fail> {
     let lists = tetrahedron(rt.alloc())?;
-    assert!(rt; shape(rt.alloc(), &lists).is_ok());
+    assert!(rt; shape(rt.alloc(), Scale::Standard, &lists).is_ok());
     let told = told_back(rt.alloc(), &lists)?;
     assert_all_told(&rt, &told, &BACK);
     Ok(())
@@ -406,7 +407,7 @@ const NEAR: [Want; 7] = [
 
 // A face is dropped and comes back, and the faces near a box are asked for before and after.
 fn told_near(alloc: Global, lists: &MeshLists, rt: &impl Abort) -> Result<ThreeAnswers, NoMemory>
-    requires { shape_fault (length lists.now.points) lists.now.faces ≡ None }
+    requires { shape_fault Standard (length lists.now.points) lists.now.faces ≡ None }
 {
     let act = Act::DropFace { f: FaceId(2) };
     assert!(rt; is_allowed_at_first(alloc, lists, &act)?);
@@ -422,33 +423,33 @@ fn told_near(alloc: Global, lists: &MeshLists, rt: &impl Abort) -> Result<ThreeA
         Call::BackTo { nth: 0 },
         Call::Ask { question: near },
     ];
-    play_three(alloc, lists, &calls)
+    play_three(alloc, Scale::Standard, lists, &calls)
 }
 
 #[test]
 fn faces_near_are_the_same_of_each_mesh_made_ready(rt: HostRuntime) -> Result<(), Fail> {
     let lists = tetrahedron(rt.alloc())?;
-    assert!(rt; shape(rt.alloc(), &lists).is_ok());
+    assert!(rt; shape(rt.alloc(), Scale::Standard, &lists).is_ok());
     let told = told_near(rt.alloc(), &lists, &rt)?;
     assert_all_told(&rt, &told, &NEAR);
     Ok(())
 }
 
 fn play_last_of_half(alloc: Global, lists: &MeshLists, rt: &impl Abort) -> Result<(), NoMemory>
-    requires { shape_fault (length lists.now.points) lists.now.faces ≡ None }
+    requires { shape_fault Standard (length lists.now.points) lists.now.faces ≡ None }
 {
     assert_eq!(rt; (lists.points.len(), lists.faces.len()), (4, 4));
-    let mut plain = PlainMesh::of_numbered(alloc, lists, 2_147_483_649, 5)?;
-    let mut half = HalfMesh::of_numbered(alloc, lists, 2_147_483_649, 5)?;
+    let mut plain = PlainMesh::of_numbered(alloc, Scale::Standard, lists, 2_147_483_649, 5)?;
+    let mut half = HalfMesh::of_numbered(alloc, Scale::Standard, lists, 2_147_483_649, 5)?;
     play_row(rt, alloc, &mut plain, &mut half, &FULL)
 }
 
 fn play_last_of_journal(alloc: Global, lists: &MeshLists, rt: &impl Abort) -> Result<(), NoMemory>
-    requires { shape_fault (length lists.now.points) lists.now.faces ≡ None }
+    requires { shape_fault Standard (length lists.now.points) lists.now.faces ≡ None }
 {
     assert_eq!(rt; (lists.points.len(), lists.faces.len()), (4, 4));
-    let mut plain = PlainMesh::of_numbered(alloc, lists, 2_147_483_649, 5)?;
-    let mut journal = JournalMesh::of_numbered(alloc, lists, 2_147_483_649, 5)?;
+    let mut plain = PlainMesh::of_numbered(alloc, Scale::Standard, lists, 2_147_483_649, 5)?;
+    let mut journal = JournalMesh::of_numbered(alloc, Scale::Standard, lists, 2_147_483_649, 5)?;
     journal.reserve(3)?;
     play_row(rt, alloc, &mut plain, &mut journal, &FULL)
 }
@@ -456,7 +457,7 @@ fn play_last_of_journal(alloc: Global, lists: &MeshLists, rt: &impl Abort) -> Re
 #[test]
 fn the_last_ids_are_given(rt: HostRuntime) -> Result<(), Fail> {
     let lists = tetrahedron(rt.alloc())?;
-    assert!(rt; shape(rt.alloc(), &lists).is_ok());
+    assert!(rt; shape(rt.alloc(), Scale::Standard, &lists).is_ok());
     play_last_of_half(rt.alloc(), &lists, &rt)?;
     play_last_of_journal(rt.alloc(), &lists, &rt)?;
     Ok(())

@@ -9,10 +9,11 @@ use Rattle.grid_base.specs.declared.Point.{Point}
 use Rattle.grid_base.specs.Points.{position_of}
 use Rattle.mesh_base.specs.Mesh.{Mesh}
 use Rattle.mesh_base.specs.Changes.{corners_of}
-use Rattle.mesh_base.specs.Given.{mesh_of}
+use Rattle.mesh_base.specs.declared.limits.Scale.{Scale}
+use Rattle.mesh_base.specs.Given.{mesh_under}
 use Rattle.mesh_base.proofs.Ordered.{entries-of_sorted}
-use Rattle.mesh_plain.specs.Shape.{shape_fault, fault_but_balance, no_vertex_from, bad_corner}
-use Rattle.mesh_plain.proofs.Lists.{none_of, none_mapped, all_vertices, between, no_fault_but_balance, sorted_numbers, sound-mesh_of}
+use Rattle.mesh_plain.specs.Shape.{HasNoFault, fault_but_balance, no_vertex_from, bad_corner}
+use Rattle.mesh_plain.proofs.Lists.{none_of, none_mapped, all_vertices, between, no_fault_but_balance, sorted_numbers, sound-mesh_under}
 use Rattle.obj_text.specs.Obj.{Lists, lists_of}
 use Rattle.obj_text.specs.Written.{rank_among, rank, ranks, mesh_text, ranked_lists}
 use Rattle.obj_text.specs.ListsWritten.{point_line, triangle_line, lists_text}
@@ -44,9 +45,9 @@ places_of_numbered : (k : ℕ) (points : List Point) → map (λ e. position_of 
 places_of_numbered k [] = refl
 places_of_numbered k (p ∷ points) = ap (λ ps. position_of p ∷ ps) (places_of_numbered (k + 1) points)
 
-module _ (points : List Point) (faces : List (List ℕ)) where
+module _ (scale : Scale) (points : List Point) (faces : List (List ℕ)) where
   abbrev made : Mesh
-  made = mesh_of points faces
+  made = mesh_under scale points faces
 
   rank_is : (v : ℕ) → v ≤ length points → rank made v ≡ v
   rank_is v le =
@@ -71,9 +72,9 @@ module _ (points : List Point) (faces : List (List ℕ)) where
       let first : ranks made (corners_of f) ≡ f = ranks_are f sizes.0 (none_mapped _ _ parts.0) in
       ap (λ (g : List ℕ). g ∷ map (λ e. ranks made e.1) (enumerate_from (k + 1) (map corners_of fs))) first ∙ ap (λ (gs : List (List ℕ)). f ∷ gs) (faces_of_numbered (k + 1) (n + 1) fs sizes.1 parts.1)
 
-  ranked_are_given : shape_fault (length points) faces ≡ None → AllByRecursion (λ f. length f ≡ 3) faces → ranked_lists made ≡ record { points = map position_of points; faces = faces }
+  ranked_are_given : HasNoFault scale points faces → AllByRecursion (λ f. length f ≡ 3) faces → ranked_lists made ≡ record { points = map position_of points; faces = faces }
   ranked_are_given good sizes =
-      let none_wrong = no_fault_but_balance (length points) faces (none_of (fault_but_balance (length points) faces) _ good).0 in
+      let none_wrong = no_fault_but_balance scale (length points) faces (none_of (fault_but_balance scale (length points) faces) _ good).0 in
       let there = entries-of_sorted (enumerate_from 1 points) (sorted_numbers 1 points) in
       let sides = entries-of_sorted (enumerate_from 1 (map corners_of faces)) (sorted_numbers 1 (map corners_of faces)) in
       let ps : map (λ e. position_of e.1) (finite.entries made.points) ≡ map position_of points = ap (λ es. map (λ e. position_of e.1) es) there ∙ places_of_numbered 1 points in
@@ -83,11 +84,11 @@ module _ (points : List Point) (faces : List (List ℕ)) where
 -- ---- the laws
 
 pub lists_are_written_as_mesh_lem : ListsAreWrittenAsMesh
-lists_are_written_as_mesh_lem points faces decimals good sizes =
-    ap (lists_text decimals) (sym (ranked_are_given points faces good sizes)) ∙ written_as_lists decimals (mesh_of points faces)
+lists_are_written_as_mesh_lem scale points faces decimals good sizes =
+    ap (lists_text decimals) (sym (ranked_are_given scale points faces good sizes)) ∙ written_as_lists decimals (mesh_under scale points faces)
 
 pub lists_are_read_lem : ListsAreRead
-lists_are_read_lem points faces decimals good sizes places =
-    ap (lists_of decimals) (lists_are_written_as_mesh_lem points faces decimals good sizes)
-    ∙ written_is_read_lem (mesh_of points faces) decimals (sound-mesh_of points faces good) places
-    ∙ ap (λ (l : Lists). Ok l) (ranked_are_given points faces good sizes)
+lists_are_read_lem scale points faces decimals good sizes places =
+    ap (lists_of decimals) (lists_are_written_as_mesh_lem scale points faces decimals good sizes)
+    ∙ written_is_read_lem (mesh_under scale points faces) decimals (sound-mesh_under scale points faces good) places
+    ∙ ap (λ (l : Lists). Ok l) (ranked_are_given scale points faces good sizes)

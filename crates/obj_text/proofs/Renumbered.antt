@@ -18,7 +18,8 @@ use Rattle.grid_base.proofs.PointLaws.{point_at-position_of}
 use Rattle.mesh_base.specs.declared.Corners.{Corners}
 use Rattle.mesh_base.specs.Mesh.{Mesh, IsSound, IsLiveVertex, HasCorners, AreLive}
 use Rattle.mesh_base.specs.Changes.{corners_of}
-use Rattle.mesh_base.specs.Given.{mesh_of}
+use Rattle.mesh_base.specs.declared.limits.Scale.{Scale}
+use Rattle.mesh_base.specs.Given.{mesh_under}
 use Rattle.mesh_base.specs.Sides.{follows, has_corner, runs, IsClosed, IsEdge}
 use Rattle.mesh_base.specs.Pairs.{Pair, IsPair}
 use Rattle.mesh_base.specs.Placements.{rest_positions, position_or_origin, positions, IsClearMesh}
@@ -121,9 +122,9 @@ module _ {X : Type 0} where
 
 -- ---- the renumbered mesh
 
-module _ (m : Mesh) (sound : IsSound m) where
+module _ (scale : Scale) (m : Mesh) (sound : IsSound m) where
   abbrev again : Mesh
-  again = renumbered m
+  again = renumbered scale m
 
   abbrev ranked : Corners → Corners
   ranked c = corners_of (ranks m c)
@@ -180,7 +181,7 @@ module _ (m : Mesh) (sound : IsSound m) where
   runs_again u v live-u live-v =
       let fs = finite.entries m.faces in
       let given = map (λ e. ranks m e.1) fs in
-      runs_given (map (λ e. e.1) (finite.entries m.points)) given (rank m u) (rank m v)
+      runs_given scale (map (λ e. e.1) (finite.entries m.points)) given (rank m u) (rank m v)
       ∙ sym (length-filter (λ f. follows (corners_of f) (rank m u) (rank m v)) given)
       ∙ counts_alike u v live-u live-v fs faces_found
       ∙ sym (length-map (filter (λ e. follows e.1 u v) fs) (λ e. e.0))
@@ -222,7 +223,7 @@ module _ (m : Mesh) (sound : IsSound m) where
   run_ranks a b some =
       let fs = finite.entries m.faces in
       let given = map (λ e. ranks m e.1) fs in
-      let same = runs_given (map (λ e. e.1) (finite.entries m.points)) given a b ∙ sym (length-filter (λ f. follows (corners_of f) a b) given) in
+      let same = runs_given scale (map (λ e. e.1) (finite.entries m.points)) given a b ∙ sym (length-filter (λ f. follows (corners_of f) a b) given) in
       some_side a b fs faces_found (omega (arith, same))
 
   exchanged : (a b : ℕ) → AreRanks a b → AreRanks b a
@@ -334,15 +335,15 @@ entries_back [] = refl
 entries_back (e ∷ es) = ap (λ (q : Point). q ∷ map point_at (map (λ x. position_of x.1) es)) (point_at-position_of e.1) ∙ ap (λ (qs : List Point). e.1 ∷ qs) (entries_back es)
 
 pub lists_give_renumbered_lem : ListsGiveRenumbered
-lists_give_renumbered_lem m decimals points faces sound places read =
+lists_give_renumbered_lem scale m decimals points faces sound places read =
     let given : Lists = record { points = map position_of points; faces = faces } in
     let both : given ≡ ranked_lists m = (let again = written_is_read_lem m decimals sound places in cc) in
     let same-points : points ≡ map (λ e. e.1) (finite.entries m.points) = sym (points_back points) ∙ ap (λ (l : Lists). map point_at l.points) both ∙ entries_back (finite.entries m.points) in
     let same-faces : faces ≡ map (λ e. ranks m e.1) (finite.entries m.faces) = ap (λ (l : Lists). l.faces) both in
-    ap (λ (ps : List Point). mesh_of ps faces) same-points ∙ ap (λ (fs : List (List ℕ)). mesh_of (map (λ e. e.1) (finite.entries m.points)) fs) same-faces
+    ap (λ (ps : List Point). mesh_under scale ps faces) same-points ∙ ap (λ (fs : List (List ℕ)). mesh_under scale (map (λ e. e.1) (finite.entries m.points)) fs) same-faces
 
 pub stays_closed_lem : StaysClosed
-stays_closed_lem m sound closed = closed_again m sound closed
+stays_closed_lem scale m sound closed = closed_again scale m sound closed
 
 pub stays_clear_lem : StaysClear
-stays_clear_lem m sound clear = clear_again m sound clear
+stays_clear_lem scale m sound clear = clear_again scale m sound clear

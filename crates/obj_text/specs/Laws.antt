@@ -7,7 +7,8 @@ use Rattle.grid_base.specs.Points.{position_of}
 use Rattle.mesh_base.specs.Mesh.{Mesh, IsSound}
 use Rattle.mesh_base.specs.Sides.{IsClosed}
 use Rattle.mesh_base.specs.Placements.{IsClearMesh}
-use Rattle.mesh_base.specs.Given.{mesh_of}
+use Rattle.mesh_base.specs.declared.limits.Scale.{Scale}
+use Rattle.mesh_base.specs.Given.{mesh_under}
 use Rattle.obj_text.specs.Obj.{lists_of}
 use Rattle.obj_text.specs.Written.{ranks, mesh_text, ranked_lists}
 
@@ -17,24 +18,26 @@ abbrev pub WrittenIsRead : Type 0
 WrittenIsRead = (m : Mesh) (decimals : ℕ) → IsSound m → decimals ≤ DECIMALS_MAX →
     lists_of decimals (mesh_text decimals m) ≡ Ok (ranked_lists m)
 
--- the live vertices and the live faces numbered from 1 in order, corners by rank
-abbrev pub renumbered : Mesh → Mesh
-renumbered m =
-    mesh_of (map (λ e. e.1) (finite.entries m.points))
+-- the live vertices and the live faces numbered from 1 in order, corners by rank, with the limits
+-- of a scale
+abbrev pub renumbered : Scale → Mesh → Mesh
+renumbered scale m =
+    mesh_under scale (map (λ e. e.1) (finite.entries m.points))
     (map (λ e. ranks m e.1) (finite.entries m.faces))
 
 -- lists that the text gives make this mesh
 abbrev pub ListsGiveRenumbered : Type 0
-ListsGiveRenumbered = (m : Mesh) (decimals : ℕ) (points : List Point) (faces : List (List ℕ)) →
-    IsSound m → decimals ≤ DECIMALS_MAX →
+ListsGiveRenumbered = (scale : Scale) (m : Mesh) (decimals : ℕ) (points : List Point)
+    (faces : List (List ℕ)) → IsSound m → decimals ≤ DECIMALS_MAX →
     lists_of decimals (mesh_text decimals m)
     ≡ Ok (record { points = map position_of points; faces = faces }) →
-    mesh_of points faces ≡ renumbered m
+    mesh_under scale points faces ≡ renumbered scale m
 
 -- it is closed where the mesh is that was written
 abbrev pub StaysClosed : Type 0
-StaysClosed = (m : Mesh) → IsSound m → IsClosed m → IsClosed (renumbered m)
+StaysClosed = (scale : Scale) (m : Mesh) → IsSound m → IsClosed m → IsClosed (renumbered scale m)
 
 -- and clear where that is
 abbrev pub StaysClear : Type 0
-StaysClear = (m : Mesh) → IsSound m → IsClearMesh m → IsClearMesh (renumbered m)
+StaysClear = (scale : Scale) (m : Mesh) → IsSound m → IsClearMesh m →
+    IsClearMesh (renumbered scale m)

@@ -1,5 +1,5 @@
 -- Lists of good shape that are written as OFF are read again.
-use Rattle.std.proofs.Common.{◌≡◌, ℕ, ◌-◌, ◌^◌, ◌<◌, ◌≤◌, false, eqb, List, [], ◌∷◌, ◌++◌, length, map, None, Ok, refl, ap, ◌∙◌, arith}
+use Rattle.std.proofs.Common.{◌≡◌, ℕ, ◌-◌, ◌^◌, ◌<◌, ◌≤◌, false, eqb, List, [], ◌∷◌, ◌++◌, length, map, Ok, refl, ap, ◌∙◌, arith}
 use Rattle.std.specs.Prelude.{codes, decimal}
 use Rattle.std.specs.List.{AllByRecursion, flat_map}
 use Rattle.std.proofs.lemmas.Bool.{ne_eqb}
@@ -8,7 +8,10 @@ use Rattle.std.proofs.lemmas.List.Folds.{flat_map-map}
 use Rattle.grid_base.specs.declared.TheConstants.{VERTICES_MAX, FACES_MAX, DECIMALS_MAX}
 use Rattle.grid_base.specs.declared.Point.{Point}
 use Rattle.grid_base.specs.Points.{position_of}
-use Rattle.mesh_plain.specs.Shape.{shape_fault, fault_but_balance}
+use Rattle.mesh_base.specs.declared.limits.Scale.{Scale}
+use Rattle.mesh_base.specs.Limits.{limits_of}
+use Rattle.mesh_base.proofs.MeshLaws.{few_vertices_of, few_faces_of}
+use Rattle.mesh_plain.specs.Shape.{HasNoFault, fault_but_balance}
 use Rattle.mesh_plain.proofs.Lists.{none_of, few, no_fault_but_balance}
 use Rattle.line_text.specs.Texts.{numbered_lines}
 use Rattle.line_text.specs.WrittenLines.{line_of_words}
@@ -62,11 +65,11 @@ done_gives n lists = refl
 
 -- ---- the whole text
 
-whole : (points : List Point) (faces : List (List ℕ)) (decimals : ℕ) → shape_fault (length points) faces ≡ None → AllByRecursion (λ f. length f ≡ 3) faces → decimals ≤ DECIMALS_MAX → lines_add (words_add decimals) start (numbered_lines 1 (off_text decimals (record { points = map position_of points; faces = faces }))) ≡ Ok (rows_from 0 0 (record { points = map position_of points; faces = faces }))
-whole points faces decimals good sizes places =
-    let none_wrong = no_fault_but_balance (length points) faces (none_of (fault_but_balance (length points) faces) _ good).0 in
-    let few_points : length points ≤ VERTICES_MAX = few VERTICES_MAX (length points) none_wrong.vertices in
-    let few_faces : length faces ≤ FACES_MAX = few FACES_MAX (length faces) none_wrong.faces in
+whole : (scale : Scale) (points : List Point) (faces : List (List ℕ)) (decimals : ℕ) → HasNoFault scale points faces → AllByRecursion (λ f. length f ≡ 3) faces → decimals ≤ DECIMALS_MAX → lines_add (words_add decimals) start (numbered_lines 1 (off_text decimals (record { points = map position_of points; faces = faces }))) ≡ Ok (rows_from 0 0 (record { points = map position_of points; faces = faces }))
+whole scale points faces decimals good sizes places =
+    let none_wrong = no_fault_but_balance scale (length points) faces (none_of (fault_but_balance scale (length points) faces) _ good).0 in
+    let few_points : length points ≤ VERTICES_MAX = omega (arith, few (limits_of scale).vertices (length points) none_wrong.vertices, few_vertices_of scale) in
+    let few_faces : length faces ≤ FACES_MAX = omega (arith, few (limits_of scale).faces (length faces) none_wrong.faces, few_faces_of scale) in
     let v = length points in
     let f = length faces in
     let lists : Lists = record { points = map position_of points; faces = faces } in
@@ -85,4 +88,4 @@ whole points faces decimals good sizes places =
 
 pub off_is_read_lem : OffIsRead
 unfolding lists_of
-off_is_read_lem points faces decimals good sizes places = rw (whole points faces decimals good sizes places) (done_gives _ (record { points = map position_of points; faces = faces }))
+off_is_read_lem scale points faces decimals good sizes places = rw (whole scale points faces decimals good sizes places) (done_gives _ (record { points = map position_of points; faces = faces }))

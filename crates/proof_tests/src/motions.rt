@@ -6,7 +6,7 @@ ghost use Rattle.motion_proof.specs.Acceptance.{AreWays};
 
 use crate::same::assert_same;
 use grid_base::{HALF_MAX, NoMemory, Point, Wide};
-use mesh_base::{FaceId, MeshLists, PairName, Points, Surface, Triangles, VertexId};
+use mesh_base::{FaceId, MeshLists, PairName, Points, Scale, Surface, Triangles, VertexId};
 use mesh_plain::{PlainMesh, shape};
 use motion_proof::{
     Certificate, Claim, Entries, Entry, Made, Tree, Verdict, Way, accepts, certify,
@@ -150,9 +150,9 @@ fn mesh_at(
     rt: &impl Abort,
 ) -> Result<PlainMesh, NoMemory> {
     let lists = lists_at(alloc, points, faces, rt)?;
-    let shaped = shape(alloc, &lists);
+    let shaped = shape(alloc, Scale::Standard, &lists);
     assert!(rt; shaped.is_ok());
-    PlainMesh::of(alloc, &lists)
+    PlainMesh::of(alloc, Scale::Standard, &lists)
 }
 
 fn is_within(p: Wide) -> bool

@@ -10,7 +10,7 @@ use edit_base::{Asked, Change, Edit};
 use edit_scaffold::{lay, scaffold_of};
 use grid_base::{DEPTH_MAX, NoMemory};
 use line_text::ReadFault;
-use mesh_base::{MeshLists, Surface, VertexId};
+use mesh_base::{MeshLists, Scale, Surface, VertexId};
 use mesh_journal::JournalMesh;
 use mesh_plain::{PlainMesh, shape};
 use motion_proof::{Claim, Way};
@@ -74,9 +74,9 @@ pub(crate) fn mesh_of(alloc: Global, text: &[u8], rt: &impl Abort) -> Result<Jou
     ensures clear { IfOk result (λ s. IsClearMesh (⟦<JournalMesh as Surface>⟧.mesh s)) }
 {
     let lists = lists_of(alloc, text, rt)?;
-    let shaped = shape(alloc, &lists);
+    let shaped = shape(alloc, Scale::Standard, &lists);
     assert!(rt; shaped.is_ok());
-    let mesh = JournalMesh::of(alloc, &lists)?;
+    let mesh = JournalMesh::of(alloc, Scale::Standard, &lists)?;
     let found = first_meeting(alloc, &mesh)?;
     assert!(rt; found.is_none());
     Ok(mesh)

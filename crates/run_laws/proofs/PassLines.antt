@@ -3,6 +3,7 @@ use Rattle.std.proofs.Common.{◌≡◌, ℕ, Bool, true, false, cond, List, [],
 use Rattle.std.specs.List.{AllByRecursion}
 use Rattle.std.proofs.lemmas.List.Elements.{All-from_recursion, All-take, recursion_from_All}
 use Rattle.grid_base.specs.declared.Positions.{Positions}
+use Rattle.mesh_base.specs.declared.Scale.{Scale}
 use Rattle.mesh_base.specs.Mesh.{Mesh, IsSound}
 use Rattle.mesh_base.specs.Sides.{IsClosed}
 use Rattle.mesh_base.specs.Pairs.{edges, is_edge}
@@ -36,9 +37,9 @@ record IsGood (m : Mesh) : Type 0 where
   pub closed : IsClosed m
 
 -- the line of an answer
-answer_line : (what : Asked) (edit : Edit) → IsAskedInRange what → IsAnswerInRange edit → MayFollow (line_of what edit)
-answer_line what (Done change) asked answer = (answer, tt)
-answer_line what (No why) asked answer = ((asked, answer), tt)
+answer_line : (scale : Scale) (what : Asked) (edit : Edit) → IsAskedInRange what → IsAnswerInRange edit → MayFollow scale (line_of what edit)
+answer_line scale what (Done change) asked answer = (answer, tt)
+answer_line scale what (No why) asked answer = ((asked, answer), tt)
 
 -- what a kind of pass chooses is its candidate
 kind_chooses : (kind : PassKind) (m : Mesh) (what other : Asked) → choice_in kind m what ≡ Some other → IsAskedInRange what → IsAskedInRange other
@@ -48,7 +49,7 @@ kind_chooses kind m what other e asked = by_test (is_due m kind what) e
     by_test true e = let same : what ≡ other = cc in subst IsAskedInRange same asked
     by_test false e = absurd cc
 
-module _ (rules : PassRules) (chooses : (m : Mesh) (what other : Asked) → rules.choice m what ≡ Some other → IsAskedInRange what → IsAskedInRange other) where
+module _ (scale : Scale) (rules : PassRules) (chooses : (m : Mesh) (what other : Asked) → rules.choice m what ≡ Some other → IsAskedInRange what → IsAskedInRange other) where
   -- the mesh that an answer leaves
   left_good : (m : Mesh) → IsGood m → (what : Asked) (edit : Edit) → answer_by rules m what ≡ edit → IsGood (mesh_after edited m edit)
   left_good m good what (Done change) e = record {
@@ -58,30 +59,30 @@ module _ (rules : PassRules) (chooses : (m : Mesh) (what other : Asked) → rule
   left_good m good what (No why) e = good
 
   -- a candidate, at its turn
-  one_in_range : (m : Mesh) → IsGood m → (what : Asked) → IsAskedInRange what → AllByRecursion MayFollow (lines_of rules m what) × IsGood (mesh_from rules m what)
+  one_in_range : (m : Mesh) → IsGood m → (what : Asked) → IsAskedInRange what → AllByRecursion (MayFollow scale) (lines_of rules m what) × IsGood (mesh_from rules m what)
   one_in_range m good what asked = by_call (rules.choice m what) refl
     where
-      by_call : (call : Option Asked) → rules.choice m what ≡ call → AllByRecursion MayFollow (lines_asked (answer_by rules m) call) × IsGood (mesh_asked (answer_by rules m) m call)
+      by_call : (call : Option Asked) → rules.choice m what ≡ call → AllByRecursion (MayFollow scale) (lines_asked (answer_by rules m) call) × IsGood (mesh_asked (answer_by rules m) m call)
       by_call (Some other) e =
           let inside = chooses m what other e asked in
-          ((answer_line other (answer_by rules m other) inside (answer_in_range rules.meets rules.depth other m good.sound good.closed), tt), left_good m good other (answer_by rules m other) refl)
+          ((answer_line scale other (answer_by rules m other) inside (answer_in_range rules.meets rules.depth other m good.sound good.closed), tt), left_good m good other (answer_by rules m other) refl)
       by_call None e = (tt, good)
 
   -- all candidates
-  all_in_range : (m : Mesh) → IsGood m → (all : List Asked) → AllByRecursion IsAskedInRange all → AllByRecursion MayFollow (lines_from rules m all)
+  all_in_range : (m : Mesh) → IsGood m → (all : List Asked) → AllByRecursion IsAskedInRange all → AllByRecursion (MayFollow scale) (lines_from rules m all)
   all_in_range m good [] asked = tt
   all_in_range m good (what ∷ rest) asked =
       let one = one_in_range m good what asked.0 in
-      all_joined MayFollow (lines_of rules m what) _ one.0
+      all_joined (MayFollow scale) (lines_of rules m what) _ one.0
       (by_test (ends rules.grouped (lines_of rules m what)) (all_in_range (mesh_from rules m what) one.1 rest asked.1))
     where
-      by_test : (b : Bool) → AllByRecursion MayFollow (lines_from rules (mesh_from rules m what) rest) → AllByRecursion MayFollow (cond b [] (lines_from rules (mesh_from rules m what) rest))
+      by_test : (b : Bool) → AllByRecursion (MayFollow scale) (lines_from rules (mesh_from rules m what) rest) → AllByRecursion (MayFollow scale) (cond b [] (lines_from rules (mesh_from rules m what) rest))
       by_test true later = tt
       by_test false later = later
 
 pub pass_in_range : PassLinesAreInRange
-pass_in_range meets terms m sound closed kind = All-from_recursion MayFollow (pass_lines meets terms m)
-    ((kind, tt), all_in_range (rules_of meets terms) (kind_chooses terms.kind) m (record { sound = sound; closed = closed }) (candidates m terms.kind) (asked_in_range m terms.kind sound))
+pass_in_range scale meets terms m sound closed kind = All-from_recursion (MayFollow scale) (pass_lines meets terms m)
+    ((kind, tt), all_in_range scale (rules_of meets terms) (kind_chooses terms.kind) m (record { sound = sound; closed = closed }) (candidates m terms.kind) (asked_in_range m terms.kind sound))
 
 -- ---- a pass by a sizing
 
@@ -105,23 +106,23 @@ sizing_chooses wants m (asked.Collapse a b) other e inside = absurd cc
 sizing_chooses wants m (asked.Zip a b c d) other e inside = absurd cc
 sizing_chooses wants m (asked.Pinch v) other e inside = absurd cc
 
-module _ (meets : Positions → Bool) (wants : ℕ × ℕ → Want) (depth : ℕ) (grouped : Bool) (m : Mesh) (sound : IsSound m) (closed : IsClosed m) where
+module _ (scale : Scale) (meets : Positions → Bool) (wants : ℕ × ℕ → Want) (depth : ℕ) (grouped : Bool) (m : Mesh) (sound : IsSound m) (closed : IsClosed m) where
   -- over edges that are in range
-  edges_fit : (es : List (ℕ × ℕ)) → AllByRecursion IsOrdered es → AreInRange (fit_lines meets wants depth grouped m es)
-  edges_fit es inside = All-from_recursion MayFollow (fit_lines meets wants depth grouped m es)
-      ((tt, tt), all_in_range (fit_rules meets wants depth grouped) (sizing_chooses wants) m (record { sound = sound; closed = closed }) (map turn_of es) (all_mapped IsAskedInRange turn_of es inside))
+  edges_fit : (es : List (ℕ × ℕ)) → AllByRecursion IsOrdered es → AreInRange scale (fit_lines meets wants depth grouped m es)
+  edges_fit es inside = All-from_recursion (MayFollow scale) (fit_lines meets wants depth grouped m es)
+      ((tt, tt), all_in_range scale (fit_rules meets wants depth grouped) (sizing_chooses wants) m (record { sound = sound; closed = closed }) (map turn_of es) (all_mapped IsAskedInRange turn_of es inside))
 
   first_edges : (count : ℕ) → AllByRecursion IsOrdered (take count (edges m))
   first_edges count = recursion_from_All IsOrdered (take count (edges m)) (All-take IsOrdered count (edges m) (All-from_recursion IsOrdered (edges m) (edges_listed m sound)))
 
 pub fit_in_range : FitLinesAreInRange
-fit_in_range meets wants depth grouped m sound closed =
-    (edges_fit meets wants depth grouped m sound closed (edges m) (edges_listed m sound), λ count. edges_fit meets wants depth grouped m sound closed (take count (edges m)) (first_edges meets wants depth grouped m sound closed count))
+fit_in_range scale meets wants depth grouped m sound closed =
+    (edges_fit scale meets wants depth grouped m sound closed (edges m) (edges_listed m sound), λ count. edges_fit scale meets wants depth grouped m sound closed (take count (edges m)) (first_edges scale meets wants depth grouped m sound closed count))
 
 -- ---- edits that are asked for
 itself_asks : (m : Mesh) (what other : Asked) → itself m what ≡ Some other → IsAskedInRange what → IsAskedInRange other
 itself_asks m what other e inside = let same : what ≡ other = cc in subst IsAskedInRange same inside
 
 pub edits_in_range : EditLinesAreInRange
-edits_in_range meets depth grouped m sound closed asked inside = All-from_recursion MayFollow (lines_from (edit_rules meets depth grouped) m asked)
-    (all_in_range (edit_rules meets depth grouped) itself_asks m (record { sound = sound; closed = closed }) asked inside)
+edits_in_range scale meets depth grouped m sound closed asked inside = All-from_recursion (MayFollow scale) (lines_from (edit_rules meets depth grouped) m asked)
+    (all_in_range scale (edit_rules meets depth grouped) itself_asks m (record { sound = sound; closed = closed }) asked inside)

@@ -5,12 +5,15 @@ use Rattle.std.specs.Prelude.{◌==◌, not, IfSome}
 use Rattle.std.specs.List.{AllByRecursion, find, flat_map, position_from, range_with_len}
 use Rattle.std.specs.Option.{option_or, option_map}
 use Rattle.grid_base.specs.declared.TheConstants.{VERTICES_MAX, FACES_MAX}
+use Rattle.mesh_base.specs.declared.Scale.{Scale}
+use Rattle.mesh_base.specs.Limits.{limits_of}
 use Rattle.mesh_base.specs.declared.ids.Corners.{Corners}
 use Rattle.mesh_base.specs.declared.faults.ShapeFault.{ShapeFault}
 use Rattle.mesh_base.specs.declared.faults.ShapeFault.TheVariants.{TooManyVertices, TooManyFaces, NoVertex, Repeated, Doubled, Unbalanced}
 use Rattle.mesh_base.specs.Mesh.{equal_up_to_rotation}
 use Rattle.mesh_base.specs.Changes.{corners_of}
 use Rattle.mesh_base.specs.Given.{Faces}
+use Rattle.mesh_base.proofs.MeshLaws.{few_vertices_of, few_faces_of}
 use Rattle.mesh_base.proofs.ListedPairs.{all_flat_mapped, all_mapped, all_weaker}
 use Rattle.mesh_plain.specs.Shape.{is_vertex, bad_corner, no_vertex_from, repeats, repeated_from, doubled_from, runs_in, numbers_to, first_unbalanced, shape_fault}
 use Rattle.edit_acts.proofs.Found.{found_both}
@@ -136,13 +139,13 @@ module _ (n : ℕ) (fs : Faces) where
   abbrev by_count : Bool → ShapeFault → Option ShapeFault
   by_count over fault = cond over (Some fault) None
 
-  pub shape_in_range : n ≤ SEEN_MAX → length fs ≤ SEEN_MAX → IfSome (shape_fault n fs) IsShapeInRange
-  shape_in_range seen faces_seen = by_vertices (nat_lt VERTICES_MAX n) refl
+  pub shape_in_range : (scale : Scale) → n ≤ SEEN_MAX → length fs ≤ SEEN_MAX → IfSome (shape_fault scale n fs) IsShapeInRange
+  shape_in_range scale seen faces_seen = by_vertices (nat_lt (limits_of scale).vertices n) refl
     where
-      by_faces : (b : Bool) → nat_lt FACES_MAX (length fs) ≡ b → IfSome (option_or (by_count b (TooManyFaces (length fs))) of_faces) IsShapeInRange
+      by_faces : (b : Bool) → nat_lt (limits_of scale).faces (length fs) ≡ b → IfSome (option_or (by_count b (TooManyFaces (length fs))) of_faces) IsShapeInRange
       by_faces true e = faces_seen
-      by_faces false e = of_faces_good (ltb-false FACES_MAX (length fs) e)
+      by_faces false e = of_faces_good (omega (arith, ltb-false (limits_of scale).faces (length fs) e, few_faces_of scale))
 
-      by_vertices : (b : Bool) → nat_lt VERTICES_MAX n ≡ b → IfSome (option_or (option_or (by_count b (TooManyVertices n)) (option_or (by_count (nat_lt FACES_MAX (length fs)) (TooManyFaces (length fs))) of_faces)) unbalanced) IsShapeInRange
+      by_vertices : (b : Bool) → nat_lt (limits_of scale).vertices n ≡ b → IfSome (option_or (option_or (by_count b (TooManyVertices n)) (option_or (by_count (nat_lt (limits_of scale).faces (length fs)) (TooManyFaces (length fs))) of_faces)) unbalanced) IsShapeInRange
       by_vertices true e = seen
-      by_vertices false e = or_later (option_or (by_count (nat_lt FACES_MAX (length fs)) (TooManyFaces (length fs))) of_faces) unbalanced (by_faces (nat_lt FACES_MAX (length fs)) refl) (unbalanced_good (ltb-false VERTICES_MAX n e))
+      by_vertices false e = or_later (option_or (by_count (nat_lt (limits_of scale).faces (length fs)) (TooManyFaces (length fs))) of_faces) unbalanced (by_faces (nat_lt (limits_of scale).faces (length fs)) refl) (unbalanced_good (omega (arith, ltb-false (limits_of scale).vertices n e, few_vertices_of scale)))

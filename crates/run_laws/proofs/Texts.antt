@@ -38,12 +38,12 @@ few_faces n k short few =
     omega (arith, a, short, few)
 
 pub shape_faults_in_range : ShapeFaultsAreInRange
-shape_faults_in_range decimals bytes lists fault short e is =
+shape_faults_in_range scale decimals bytes lists fault short e is =
     let few = few_given decimals bytes lists e in
     let points = few.0 in
     let faces = few.1 in
     let most = few_faces (length bytes) (length (lines bytes)) short (mesh_lines bytes) in
-    subst (λ o. IfSome o IsShapeInRange) is (shape_in_range (length lists.points) lists.faces (omega (arith, points, short)) (omega (arith, faces, most)))
+    subst (λ o. IfSome o IsShapeInRange) is (shape_in_range (length lists.points) lists.faces scale (omega (arith, points, short)) (omega (arith, faces, most)))
 
 few_lines : (bytes : List ℕ) (line : ℕ) → length bytes ≤ TEXT_MAX → IsFrom 1 (line_count bytes) line → IsFrom 1 COUNT_MAX line
 few_lines bytes line short at = counted (line_count bytes) line (omega (arith, short, lines_are_few_lem bytes)) at

@@ -5,12 +5,16 @@ use Rattle.std.specs.List.Sorted.{IsStrictlySortedBy}
 use Rattle.std.specs.Ordering.{nat_cmp}
 use Rattle.std.proofs.Common.{Less}
 use Rattle.std.specs.FinMap as finite
+use Rattle.std.specs.FinMap.{len-entries}
+use Rattle.std.proofs.lemmas.Map.Entries.{length-keys_of}
 use Rattle.std.proofs.lemmas.Bool.Decides.{nat_tests}
 use Rattle.grid_base.specs.declared.Positions.{Positions}
 use Rattle.grid_base.specs.declared.Shift.{Shift}
 use Rattle.grid_base.specs.Points.{shift_by}
 use Rattle.grid_base.specs.SeparationTests.{IsExact}
-use Rattle.grid_base.specs.declared.TheConstants.{VERTICES_MAX}
+use Rattle.mesh_base.specs.declared.Scale.{Scale}
+use Rattle.mesh_base.specs.declared.Limits.{Limits}
+use Rattle.mesh_base.specs.Limits.{limits_of}
 use Rattle.mesh_base.specs.declared.How.TheVariants.{Whole, Impulse, Zones, Halved, Zero}
 use Rattle.mesh_base.specs.declared.steps.ShiftOf.{ShiftOf}
 use Rattle.mesh_base.specs.Mesh.{Mesh, IsSound}
@@ -21,8 +25,8 @@ use Rattle.mesh_base.specs.Failing.{failing}
 use Rattle.step_zones.specs.Zones.{alone, block_at, block_shift, zone_shift, zone_shifts}
 use Rattle.step_zones.specs.Rounds.{hits_before, round_labels, round_shifts, round_hits, IsFirstToServe}
 use Rattle.step_zones.proofs.Rounds.{few_rounds}
-use Rattle.step_zones.proofs.Searched.{rounds_left, vertices_are_few}
-use Rattle.log_text.specs.declared.TheConstants.{ROUNDS_MAX}
+use Rattle.step_zones.proofs.Searched.{rounds_left}
+use Rattle.log_read.specs.Reading.{rounds_most}
 use Rattle.log_read.specs.Laws.{IsFrom}
 use Rattle.run_laws.specs.Lines.{WaysAreInRange}
 use Rattle.run_laws.proofs.Blocks.{above, keys_rising}
@@ -56,6 +60,13 @@ all_alone : (m : Mesh) (asked xs : Shifts) → map (zone_shift m asked alone) xs
 all_alone m asked [] = refl
 all_alone m asked (s ∷ xs) = ap (λ t. t ∷ map (zone_shift m asked alone) xs) (by_itself m asked s) ∙ ap (λ l. s ∷ l) (all_alone m asked xs)
 
+-- a mesh has no more vertices than its limits allow
+vertices_are_few : (m : Mesh) → IsSound m → length (finite.keys m.points) ≤ m.limits.vertices
+vertices_are_few m sound =
+    let size = len-entries m.points in
+    let same : length (finite.keys m.points) ≡ length (finite.entries m.points) = length-keys_of (finite.entries m.points) in
+    omega (arith, sound.limits.vertices)
+
 -- so a round before which none fails serves only where the asked shifts do
 first_round : (meets : Positions → Bool) (m : Mesh) (asked : Shifts) (depth : ℕ) → round_hits meets m asked depth 0 ≡ [] → failing meets m asked depth ≡ []
 unfolding hits_before round_labels round_shifts round_hits
@@ -69,18 +80,19 @@ module _ (meets : Positions → Bool) (m : Mesh) (asked : Shifts) (depth round :
       by_round zero e = absurd (fails (first_round meets m asked depth (ap (round_hits meets m asked depth) (sym e) ∙ none)))
       by_round (suc r) e = omega arith
 
-  round_in_range : IsExact meets → IsSound m → IsClearMesh m → NameLive m asked → ¬ (failing meets m asked depth ≡ []) → IsFirstToServe meets m asked depth round → IsFrom 1 ROUNDS_MAX round
-  round_in_range exact sound clear named fails first =
+  round_in_range : (scale : Scale) → m.limits ≡ limits_of scale → IsExact meets → IsSound m → IsClearMesh m → NameLive m asked → ¬ (failing meets m asked depth ≡ []) → IsFirstToServe meets m asked depth round → IsFrom 1 (rounds_most scale) round
+  round_in_range scale same exact sound clear named fails first =
       let low = later_round fails first.none_fails in
       let most = rounds_left meets m asked depth round exact sound clear named first.each_fails in
       let some : finite.keys m.points ≢ [] = λ none. let e = ap length none in omega arith in
       let high = few_rounds meets m asked depth round exact sound clear named some first.each_fails in
       let few = vertices_are_few m sound in
+      let most_of = ap (λ (l : Limits). l.vertices) same in
       (low, omega arith)
 
 pub ways_in_range : WaysAreInRange
-ways_in_range meets m asked set Whole taken exact sound clear named limits first = tt
-ways_in_range meets m asked set (Impulse passes) taken exact sound clear named limits first = let most = limits.passes in (first.some, omega (arith, first.within))
-ways_in_range meets m asked set (Zones round) taken exact sound clear named limits first = round_in_range meets m asked set.depth round exact sound clear named first.not_whole first.first
-ways_in_range meets m asked set (Halved times) taken exact sound clear named limits first = let most = limits.halvings in (first.some, omega (arith, first.within))
-ways_in_range meets m asked set Zero taken exact sound clear named limits first = tt
+ways_in_range scale meets m asked set Whole taken exact same sound clear named limits first = tt
+ways_in_range scale meets m asked set (Impulse passes) taken exact same sound clear named limits first = let most = limits.passes in (first.some, omega (arith, first.within))
+ways_in_range scale meets m asked set (Zones round) taken exact same sound clear named limits first = round_in_range meets m asked set.depth round scale same exact sound clear named first.not_whole first.first
+ways_in_range scale meets m asked set (Halved times) taken exact same sound clear named limits first = let most = limits.halvings in (first.some, omega (arith, first.within))
+ways_in_range scale meets m asked set Zero taken exact same sound clear named limits first = tt

@@ -1,7 +1,9 @@
 -- What the two files of a job give is in the log's ranges, as statements.
-use Rattle.std.specs.Prelude.{ℕ, ◌+◌, ◌≤◌, List, ◌∷◌, length, Result, Ok, Err}
+use Rattle.std.specs.Prelude.{◌≡◌, ℕ, ◌+◌, ◌≤◌, List, ◌∷◌, length, Result, Ok, Err}
 use Rattle.std.specs.List.{All}
 use Rattle.grid_base.specs.declared.TheConstants.{TEXT_MAX}
+use Rattle.mesh_base.specs.declared.Scale.{Scale}
+use Rattle.mesh_base.specs.Limits.{limits_of}
 use Rattle.mesh_base.specs.Mesh.{Mesh, IsSound}
 use Rattle.mesh_base.specs.Sides.{IsClosed}
 use Rattle.mesh_base.specs.Valid.{IsValidSurface}
@@ -29,25 +31,27 @@ pub record AreCounted (steps : List Placed) : Type 0 where
   pub placed : All IsPlacedInRange steps
   pub few : length steps + 1 ≤ COUNT_MAX
 
--- a sound and closed mesh, and such directives
-pub record IsReadInRange (input : Input) : Type 0 where
-  pub sound : IsSound (mesh_of_lists input.lists)
-  pub closed : IsClosed (mesh_of_lists input.lists)
+-- a sound and closed mesh, by how large it may be, and such directives
+pub record IsReadInRange (scale : Scale) (input : Input) : Type 0 where
+  pub sound : IsSound (mesh_of_lists scale input.lists)
+  pub closed : IsClosed (mesh_of_lists scale input.lists)
   pub steps : AreCounted input.steps
 
 -- that, or the refusal
-abbrev pub IsInputInRange : Result Input Refusal → Type 0
-IsInputInRange (Ok input) = IsReadInRange input
-IsInputInRange (Err why) = IsRefusalInRange why
+abbrev pub IsInputInRange : Scale → Result Input Refusal → Type 0
+IsInputInRange scale (Ok input) = IsReadInRange scale input
+IsInputInRange scale (Err why) = IsRefusalInRange why
 
 -- what a job gives
 abbrev pub InputsAreInRange : Type 0
 InputsAreInRange =
-    (job : Job) → IsSeen job.mesh_file → IsSeen job.step_file → IsInputInRange (input_of job)
+    (job : Job) → IsSeen job.mesh_file → IsSeen job.step_file →
+    IsInputInRange job.scale (input_of job)
 
--- the log of a mesh and directives, from the line of the mesh on,
+-- the log of a mesh with the limits of a scale and of directives, from the line of the mesh on,
 -- whatever is given to the directives
 abbrev pub LogsOfMeshesAreInRange : Type 0
 LogsOfMeshesAreInRange =
-    (answers : Answers) (m : Mesh) (steps : List Placed) → IsValidSurface m → AreCounted steps →
-    AreInRange (mesh_line 0 m ∷ (log_from answers steps (start m)).lines)
+    (scale : Scale) (answers : Answers) (m : Mesh) (steps : List Placed) →
+    m.limits ≡ limits_of scale → IsValidSurface m → AreCounted steps →
+    AreInRange scale (mesh_line 0 m ∷ (log_from answers steps (start m)).lines)

@@ -1,11 +1,13 @@
 -- The lines of a pass, of a step and of a mesh are in the log's ranges, as statements.
-use Rattle.std.specs.Prelude.{ℕ, ◌≤◌, Bool, List, [], ◌∷◌, ◌++◌, map, take}
+use Rattle.std.specs.Prelude.{◌≡◌, ℕ, ◌≤◌, Bool, List, [], ◌∷◌, ◌++◌, map, take}
 use Rattle.std.specs.List.{All, AllByRecursion}
 use Rattle.std.specs.FinMap as finite
 use Rattle.grid_base.specs.declared.Positions.{Positions}
 use Rattle.grid_base.specs.SeparationTests.{IsExact}
+use Rattle.mesh_base.specs.declared.Scale.{Scale}
 use Rattle.mesh_base.specs.declared.How.{How}
 use Rattle.mesh_base.specs.declared.ids.PairName.{PairName}
+use Rattle.mesh_base.specs.Limits.{limits_of}
 use Rattle.mesh_base.specs.Mesh.{Mesh, IsSound, IsLiveVertex}
 use Rattle.mesh_base.specs.Sides.{IsClosed}
 use Rattle.mesh_base.specs.Pairs.{edges}
@@ -29,13 +31,13 @@ use Rattle.pass_run.specs.Fits.{fit_lines}
 use Rattle.run_laws.specs.Names.{IsBlockInRange}
 
 -- The line may stand behind a first line that names the version that is written: it is in its
--- range, and names no other version.
-abbrev pub MayFollow : LogLine → Type 0
-MayFollow l = IsInRange l × NamesNoOther l
+-- range, by how large the meshes of a job may be, and names no other version.
+abbrev pub MayFollow : Scale → LogLine → Type 0
+MayFollow scale l = IsInRange scale l × NamesNoOther l
 
 -- each of the lines may
-abbrev pub AreInRange : List LogLine → Type 0
-AreInRange lines = All MayFollow lines
+abbrev pub AreInRange : Scale → List LogLine → Type 0
+AreInRange scale lines = All (MayFollow scale) lines
 
 -- ---- passes
 
@@ -46,22 +48,23 @@ CandidatesAreInRange =
 
 -- the lines of a pass over a sound and closed mesh
 abbrev pub PassLinesAreInRange : Type 0
-PassLinesAreInRange = (meets : Positions → Bool) (terms : PassTerms) (m : Mesh) → IsSound m →
-    IsClosed m → IsPassInRange terms.kind → AreInRange (pass_lines meets terms m)
+PassLinesAreInRange = (scale : Scale) (meets : Positions → Bool) (terms : PassTerms) (m : Mesh) →
+    IsSound m → IsClosed m → IsPassInRange terms.kind → AreInRange scale (pass_lines meets terms m)
 
 -- the lines of a pass by a sizing over the edges of a sound and closed mesh, or over the first of
 -- them, whatever is wanted of each
 abbrev pub FitLinesAreInRange : Type 0
-FitLinesAreInRange = (meets : Positions → Bool) (wants : ℕ × ℕ → Want) (depth : ℕ) (grouped : Bool)
-    (m : Mesh) → IsSound m → IsClosed m →
-    AreInRange (fit_lines meets wants depth grouped m (edges m))
-    × ((count : ℕ) → AreInRange (fit_lines meets wants depth grouped m (take count (edges m))))
+FitLinesAreInRange = (scale : Scale) (meets : Positions → Bool) (wants : ℕ × ℕ → Want) (depth : ℕ)
+    (grouped : Bool) (m : Mesh) → IsSound m → IsClosed m →
+    AreInRange scale (fit_lines meets wants depth grouped m (edges m))
+    × ((count : ℕ) →
+    AreInRange scale (fit_lines meets wants depth grouped m (take count (edges m))))
 
 -- the lines of edits that are asked for of a sound and closed mesh, where what is asked is in range
 abbrev pub EditLinesAreInRange : Type 0
-EditLinesAreInRange = (meets : Positions → Bool) (depth : ℕ) (grouped : Bool) (m : Mesh) →
-    IsSound m → IsClosed m → (asked : List Asked) → AllByRecursion IsAskedInRange asked →
-    AreInRange (lines_from (edit_rules meets depth grouped) m asked)
+EditLinesAreInRange = (scale : Scale) (meets : Positions → Bool) (depth : ℕ) (grouped : Bool)
+    (m : Mesh) → IsSound m → IsClosed m → (asked : List Asked) → AllByRecursion IsAskedInRange asked →
+    AreInRange scale (lines_from (edit_rules meets depth grouped) m asked)
 
 -- ---- steps
 
@@ -73,23 +76,23 @@ lines_of_step k pairs blocks moves how =
 
 -- they are in range, where the moves are of live vertices
 abbrev pub StepLinesAreInRange : Type 0
-StepLinesAreInRange = (m : Mesh) (k : ℕ) (pairs : List PairName) (blocks : List (List ℕ))
-    (moves : Shifts) (how : How) →
+StepLinesAreInRange = (scale : Scale) (m : Mesh) (k : ℕ) (pairs : List PairName)
+    (blocks : List (List ℕ)) (moves : Shifts) (how : How) →
     IsSound m → IsFrom 1 COUNT_MAX k → All IsPairInRange pairs → All IsBlockInRange blocks →
     All (λ s. IsLiveVertex m s.v) moves →
-    IsHowInRange how → AreInRange (lines_of_step k pairs blocks moves how)
+    IsHowInRange scale how → AreInRange scale (lines_of_step k pairs blocks moves how)
 
--- The way in which a step is taken is in range: how many impulse passes or halvings there
--- were, or which round of impact zones.
+-- The way in which a step of a mesh with the limits of a scale is taken is in range: how many
+-- impulse passes or halvings there were, or which round of impact zones.
 abbrev pub WaysAreInRange : Type 0
-WaysAreInRange = (meets : Positions → Bool) (m : Mesh) (asked : Shifts) (set : Settings)
+WaysAreInRange = (scale : Scale) (meets : Positions → Bool) (m : Mesh) (asked : Shifts) (set : Settings)
     (how : How) (taken : Shifts) →
-    IsExact meets → IsSound m → IsClearMesh m → NameLive m asked → AreWithinLimits set →
-    IsFirstWay meets m asked set how taken → IsHowInRange how
+    IsExact meets → m.limits ≡ limits_of scale → IsSound m → IsClearMesh m → NameLive m asked →
+    AreWithinLimits set → IsFirstWay meets m asked set how taken → IsHowInRange scale how
 
 -- ---- meshes
 
--- the line of a sound mesh, with its live numbers
+-- the line of a sound mesh with the limits of a scale, with its live numbers
 abbrev pub MeshLinesAreInRange : Type 0
-MeshLinesAreInRange = (m : Mesh) (k : ℕ) → IsSound m → k ≤ COUNT_MAX →
-    MayFollow (MeshLine k (finite.len m.points) (finite.len m.faces))
+MeshLinesAreInRange = (scale : Scale) (m : Mesh) (k : ℕ) → m.limits ≡ limits_of scale →
+    IsSound m → k ≤ COUNT_MAX → MayFollow scale (MeshLine k (finite.len m.points) (finite.len m.faces))

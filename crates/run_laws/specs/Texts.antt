@@ -4,6 +4,7 @@ use Rattle.std.specs.Prelude.{◌≡◌, ℕ, ◌≤◌, List, length, Some, Ok,
 use Rattle.std.specs.List.{All}
 use Rattle.grid_base.specs.declared.TheConstants.{TEXT_MAX}
 use Rattle.line_text.specs.declared.fault.TextFault.{TextFault}
+use Rattle.mesh_base.specs.declared.Scale.{Scale}
 use Rattle.mesh_base.specs.declared.faults.ShapeFault.{ShapeFault}
 use Rattle.mesh_plain.specs.Shape.{shape_fault}
 use Rattle.obj_text.specs.Obj.{Lists, lists_of}
@@ -21,9 +22,10 @@ MeshFaultsAreInRange = (decimals : ℕ) (bytes : List ℕ) (fault : TextFault) �
 
 -- lists of a mesh text that are not of good shape
 abbrev pub ShapeFaultsAreInRange : Type 0
-ShapeFaultsAreInRange = (decimals : ℕ) (bytes : List ℕ) (lists : Lists) (fault : ShapeFault) →
+ShapeFaultsAreInRange = (scale : Scale) (decimals : ℕ) (bytes : List ℕ) (lists : Lists)
+    (fault : ShapeFault) →
     length bytes ≤ TEXT_MAX → lists_of decimals bytes ≡ Ok lists →
-    shape_fault (length lists.points) lists.faces ≡ Some fault →
+    shape_fault scale (length lists.points) lists.faces ≡ Some fault →
     IsRefusalInRange (Shape fault)
 
 -- a step text outside its grammar: the line, and a reason that a step text may have

@@ -2,7 +2,7 @@
 use crate::same::assert_bytes;
 use grid_base::{DECIMALS_MAX, NoMemory};
 use line_text::{Parts, ReadFault, TextFault, cut_at};
-use mesh_base::MeshLists;
+use mesh_base::{MeshLists, Scale};
 use mesh_plain::{PlainMesh, shape};
 use obj_text::{obj_of, read_obj};
 use other_text::{off_of, ply_of, read_off, read_ply};
@@ -82,9 +82,9 @@ fn written(
         Format::Off => off_of(alloc, lists, decimals),
         Format::Ply => ply_of(alloc, lists, decimals),
         Format::Obj => {
-            let good = shape(alloc, lists);
+            let good = shape(alloc, Scale::Standard, lists);
             assert!(rt; good.is_ok());
-            let mesh = PlainMesh::of(alloc, lists)?;
+            let mesh = PlainMesh::of(alloc, Scale::Standard, lists)?;
             obj_of(alloc, &mesh, decimals)
         }
     }

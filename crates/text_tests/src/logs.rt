@@ -5,7 +5,9 @@ use grid_base::{NoMemory, Point, Shift};
 use line_text::{Parts, ReadFault, TextFault, TextWhy};
 use log_read::read_log;
 use log_text::{LogLine, Refusal, print_line};
-use mesh_base::{FaceId, FileWord, How, Ids, PairName, ShapeFault, ShiftOf, UseWhy, VertexId};
+use mesh_base::{
+    FaceId, FileWord, How, Ids, PairName, Scale, ShapeFault, ShiftOf, UseWhy, VertexId,
+};
 use std::alloc::Global;
 use std::process::Abort;
 use std::test::Fail;
@@ -436,6 +438,10 @@ move 5 -4 0 0\nmoved halved 1\nend\n";
 const GREATEST: &[u8] = b"moved impulse 100\nmoved zones 65535\nmoved halved 27\nmoved zero\n\
 move 2147483648 -536870912 536870912 0\nmesh 4294967295 65536 131072\n";
 
+// Lines of meshes and of rounds that are too great for the standard limits, and with the greatest values.
+const LARGE: &[u8] =
+    b"mesh 0 65537 131073\nmoved zones 65536\nmesh 1 4194304 8388608\nmoved zones 4194303\n";
+
 // Vertex 1 is solid, a group is taken back, and one is kept around a group that is taken back.
 const SOLID: &[u8] = b"topo log 2\nmesh 0 4 4\nsolid 1\nstep 1\nmove 2 1 0 0\nmove 3 1 0 0\n\
 move 4 1 0 0\nmoved whole\nend\n";
@@ -463,9 +469,14 @@ const TEXTS: [&[u8]; 12] = [
     RUN, REFUSED, LISTS, WHOLE, HALVED, GREATEST, EDITED, SOLID, UNDONE, KEPT, LATEST, b"",
 ];
 
-fn read_and_printed(rt: &impl Abort, alloc: Global, text: &[u8]) -> Result<Vec<u8>, ReadFault> {
+fn read_and_printed(
+    rt: &impl Abort,
+    alloc: Global,
+    scale: Scale,
+    text: &[u8],
+) -> Result<Vec<u8>, ReadFault> {
     assert!(rt; text.len() < 1000);
-    let log = read_log(alloc, text)?;
+    let log = read_log(alloc, scale, text)?;
     let mut again = Vec::new(alloc);
     put(log.as_slice(), &mut again)?;
     Ok(again)
@@ -474,7 +485,11 @@ fn read_and_printed(rt: &impl Abort, alloc: Global, text: &[u8]) -> Result<Vec<u
 #[test]
 fn logs_are_read_and_printed_again(rt: HostRuntime) -> Result<(), Fail> {
     for text in &TEXTS {
-        let again = read_and_printed(&rt, rt.alloc(), text)?;
+        let again = read_and_printed(&rt, rt.alloc(), Scale::Standard, text)?;
+        assert_bytes(&rt, again.as_slice(), text);
+    }
+    for text in &[GREATEST, LARGE] {
+        let again = read_and_printed(&rt, rt.alloc(), Scale::Large, text)?;
         assert_bytes(&rt, again.as_slice(), text);
     }
     Ok(())
@@ -485,7 +500,7 @@ const REFUSED_EDITS: &[u8] = b"pass flip\nno flip 1 2 hit 3 4 5\nno pinch 1 edge
 // How many lines a log has, or its fault.
 fn lines_in(rt: &impl Abort, alloc: Global, text: &[u8]) -> Result<usize, ReadFault> {
     assert!(rt; text.len() < 1000);
-    let log = read_log(alloc, text)?;
+    let log = read_log(alloc, Scale::Standard, text)?;
     Ok(log.len())
 }
 
@@ -577,10 +592,23 @@ const NO_LATEST_LINES: [(TextWhy, &[u8]); 4] = [
     ),
 ];
 
+// Texts of one line, with `|` between them, with a number that is too great for a scale by one.
+const ABOVE: [(Scale, &[u8]); 2] = [
+    (
+        Scale::Standard,
+        b"mesh 0 65537 4\n|mesh 0 4 131073\n|moved zones 65536\n",
+    ),
+    (
+        Scale::Large,
+        b"mesh 0 4194305 4\n|mesh 0 4 8388609\n|moved zones 4194304\n",
+    ),
+];
+
 // The fault of a line behind another.
 fn fault_behind(
     rt: &impl Abort,
     alloc: Global,
+    scale: Scale,
     first: &[u8],
     line: &[u8],
 ) -> Result<Option<ReadFault>, NoMemory> {
@@ -588,7 +616,7 @@ fn fault_behind(
     text.extend_from_slice(first)?;
     text.extend_from_slice(line)?;
     assert!(rt; text.len() < 1000);
-    match read_log(alloc, &text) {
+    match read_log(alloc, scale, &text) {
         Err(ReadFault::NoMemory) => Err(NoMemory),
         read => Ok(read.err()),
     }
@@ -598,12 +626,13 @@ fn fault_behind(
 fn assert_faults(
     rt: &impl Abort,
     alloc: Global,
+    scale: Scale,
     first: &[u8],
     lines: &[u8],
     fault: TextFault,
 ) -> Result<(), NoMemory> {
     for line in Parts::new(b'|', lines) {
-        let found = fault_behind(rt, alloc, first, line)?;
+        let found = fault_behind(rt, alloc, scale, first, line)?;
         assert_same(rt, &(line, found), &(line, Some(ReadFault::Text(fault))));
     }
     Ok(())
@@ -618,12 +647,36 @@ fn each_reason_is_told(rt: HostRuntime) -> Result<(), Fail> {
     each_prefix(&rt, rt.alloc(), HALVED);
     each_prefix(&rt, rt.alloc(), REFUSED_EDITS);
     for (why, lines) in &NO_LOGS {
-        assert_faults(&rt, rt.alloc(), b"", lines, fault(1, *why))?;
+        assert_faults(&rt, rt.alloc(), Scale::Standard, b"", lines, fault(1, *why))?;
     }
     for (why, lines) in &NO_LATEST_LINES {
-        assert_faults(&rt, rt.alloc(), b"topo log 2\n", lines, fault(2, *why))?;
+        assert_faults(
+            &rt,
+            rt.alloc(),
+            Scale::Standard,
+            b"topo log 2\n",
+            lines,
+            fault(2, *why),
+        )?;
+    }
+    for (scale, lines) in &ABOVE {
+        assert_faults(
+            &rt,
+            rt.alloc(),
+            *scale,
+            b"",
+            lines,
+            fault(1, TextWhy::Number),
+        )?;
     }
     let unknown = fault(2, TextWhy::Unknown);
-    assert_faults(&rt, rt.alloc(), b"topo log 1\n", b"solid 1\n", unknown)?;
+    assert_faults(
+        &rt,
+        rt.alloc(),
+        Scale::Standard,
+        b"topo log 1\n",
+        b"solid 1\n",
+        unknown,
+    )?;
     Ok(())
 }

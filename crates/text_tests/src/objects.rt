@@ -2,7 +2,7 @@
 use crate::same::{assert_bytes, assert_same};
 use grid_base::{DECIMALS_MAX, NoMemory, Point};
 use line_text::{ReadFault, TextFault, TextWhy};
-use mesh_base::MeshLists;
+use mesh_base::{MeshLists, Scale};
 use mesh_plain::{PlainMesh, shape};
 use obj_text::{obj_of, read_obj};
 use std::alloc::Global;
@@ -58,9 +58,9 @@ fn written_again(
 ) -> Result<Vec<u8>, NoMemory> {
     assert!(rt; text.len() < 10_000 && decimals <= DECIMALS_MAX);
     let lists = read_obj(alloc, text.as_bytes(), decimals).expect(rt, "a text in the grammar");
-    let good = shape(alloc, &lists);
+    let good = shape(alloc, Scale::Standard, &lists);
     assert!(rt; good.is_ok());
-    let mesh = PlainMesh::of(alloc, &lists)?;
+    let mesh = PlainMesh::of(alloc, Scale::Standard, &lists)?;
     obj_of(alloc, &mesh, decimals)
 }
 

@@ -3,6 +3,7 @@ use Rattle.std.proofs.Common.{◌≡◌, List, [], ◌∷◌, map, length, slice
 use Rattle.std.specs.declared.option.Option.{Option}
 use Rattle.mesh_base.specs.declared.PairName.{PairName}
 use Rattle.mesh_base.specs.declared.ShapeFault.{ShapeFault}
+use Rattle.mesh_base.specs.declared.limits.Scale.{Scale}
 use Rattle.mesh_base.specs.Mesh.{Mesh}
 use Rattle.mesh_plain.specs.Shape.{shape_fault}
 use Rattle.mesh_faults.specs.ShapeFaults.{shape_faults}
@@ -29,9 +30,9 @@ of_faults : (found : List ShapeFault) (m : Mesh) → option_map refusal_of (slic
 of_faults [] m = of_pairs (meeting_pairs m)
 of_faults (f ∷ fs) m = refl
 
-pub ending_of_lists : (lists : Lists) → ending_told (Ok lists) ≡ ending_by (shape_fault (length lists.points) lists.faces) (met_first (mesh_of_lists lists))
-ending_of_lists lists =
-    let m : Mesh = mesh_of_lists lists in
-    of_faults (shape_faults (length lists.points) lists.faces) m
-    ∙ ap (λ o. ending_by o (slice_get (meeting_pairs m) 0)) (first_is_shape_fault (length lists.points) lists.faces)
-    ∙ ap (ending_by (shape_fault (length lists.points) lists.faces)) (first_is_first_meeting m)
+pub ending_of_lists : (scale : Scale) (lists : Lists) → ending_told scale (Ok lists) ≡ ending_by (shape_fault scale (length lists.points) lists.faces) (met_first (mesh_of_lists scale lists))
+ending_of_lists scale lists =
+    let m : Mesh = mesh_of_lists scale lists in
+    of_faults (shape_faults scale (length lists.points) lists.faces) m
+    ∙ ap (λ o. ending_by o (slice_get (meeting_pairs m) 0)) (first_is_shape_fault scale (length lists.points) lists.faces)
+    ∙ ap (ending_by (shape_fault scale (length lists.points) lists.faces)) (first_is_first_meeting m)

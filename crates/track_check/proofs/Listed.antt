@@ -8,7 +8,8 @@ use Rattle.std.proofs.lemmas.List.{append-nil, drop_all, length-map, take-map, n
 use Rattle.grid_base.specs.Points.{position_of}
 use Rattle.mesh_base.specs.declared.MeshLists.{MeshLists}
 use Rattle.mesh_base.specs.declared.ShapeFault.{ShapeFault}
-use Rattle.mesh_base.specs.Given.{mesh_of}
+use Rattle.mesh_base.specs.declared.limits.Scale.{Scale}
+use Rattle.mesh_base.specs.Given.{mesh_under}
 use Rattle.mesh_faults.specs.ShapeFaults.{shape_faults}
 use Rattle.mesh_faults.specs.MeetingPairs.{meeting_pairs}
 use Rattle.obj_text.specs.Views.{lists_view}
@@ -32,27 +33,27 @@ module _ (faults : List Fault) where
   lines_end i text whole h so_far = sym (append-nil text) ∙ ap (λ l. text ++ flat_map fault_line l) (sym (drop_all i faults h)) ∙ so_far
 
 -- ---- what is wrong with lists that were read
-same_faults : (lists : MeshLists) → faults_in (lists_view lists) ≡ faults_by (shape_faults (length lists.points) lists.faces) (mesh_of lists.points lists.faces)
-same_faults lists =
-    ap (λ n. faults_by (shape_faults n lists.faces) (mesh_of_lists (lists_view lists))) (length-map lists.points position_of)
-    ∙ ap (faults_by (shape_faults (length lists.points) lists.faces)) (same_mesh lists)
+same_faults : (scale : Scale) (lists : MeshLists) → faults_in scale (lists_view lists) ≡ faults_by (shape_faults scale (length lists.points) lists.faces) (mesh_under scale lists.points lists.faces)
+same_faults scale lists =
+    ap (λ n. faults_by (shape_faults scale n lists.faces) (mesh_of_lists scale (lists_view lists))) (length-map lists.points position_of)
+    ∙ ap (faults_by (shape_faults scale (length lists.points) lists.faces)) (same_mesh scale lists)
 
 -- the faults of shape, where there is one
-pub with_shape : (lists : MeshLists) (most : ℕ) (found some told : List ShapeFault) → found ≡ shape_faults (length lists.points) lists.faces → 0 < length found → some ≡ take most found → told ≡ some → map shape_as_fault told ≡ take most (faults_in (lists_view lists))
-with_shape lists most found some told is any cut same =
+pub with_shape : (scale : Scale) (lists : MeshLists) (most : ℕ) (found some told : List ShapeFault) → found ≡ shape_faults scale (length lists.points) lists.faces → 0 < length found → some ≡ take most found → told ≡ some → map shape_as_fault told ≡ take most (faults_in scale (lists_view lists))
+with_shape scale lists most found some told is any cut same =
     ap (map shape_as_fault) (same ∙ cut)
     ∙ sym (take-map shape_as_fault most found)
-    ∙ ap (take most) (by_found found any ∙ ap (λ l. faults_by l (mesh_of lists.points lists.faces)) is ∙ sym (same_faults lists))
+    ∙ ap (take most) (by_found found any ∙ ap (λ l. faults_by l (mesh_under scale lists.points lists.faces)) is ∙ sym (same_faults scale lists))
   where
-    by_found : (l : List ShapeFault) → 0 < length l → map shape_as_fault l ≡ faults_by l (mesh_of lists.points lists.faces)
+    by_found : (l : List ShapeFault) → 0 < length l → map shape_as_fault l ≡ faults_by l (mesh_under scale lists.points lists.faces)
     by_found [] h = absurd (omega arith)
     by_found (f ∷ fs) h = refl
 
 -- the pairs, where there is none
-pub with_pairs : (lists : MeshLists) (most : ℕ) (found : List ShapeFault) → found ≡ shape_faults (length lists.points) lists.faces → found ≡ [] → map pair_as_fault (take most (meeting_pairs (mesh_of lists.points lists.faces))) ≡ take most (faults_in (lists_view lists))
-with_pairs lists most found is none =
-    sym (take-map pair_as_fault most (meeting_pairs (mesh_of lists.points lists.faces)))
-    ∙ ap (take most) (ap (λ l. faults_by l (mesh_of lists.points lists.faces)) (sym none ∙ is) ∙ sym (same_faults lists))
+pub with_pairs : (scale : Scale) (lists : MeshLists) (most : ℕ) (found : List ShapeFault) → found ≡ shape_faults scale (length lists.points) lists.faces → found ≡ [] → map pair_as_fault (take most (meeting_pairs (mesh_under scale lists.points lists.faces))) ≡ take most (faults_in scale (lists_view lists))
+with_pairs scale lists most found is none =
+    sym (take-map pair_as_fault most (meeting_pairs (mesh_under scale lists.points lists.faces)))
+    ∙ ap (take most) (ap (λ l. faults_by l (mesh_under scale lists.points lists.faces)) (sym none ∙ is) ∙ sym (same_faults scale lists))
 
 -- ---- by the length that is kept
 pub none_if : {A : Type 0} (xs : List A) (count : ℕ) → count ≡ length xs → (count == 0) ≡ true → xs ≡ []

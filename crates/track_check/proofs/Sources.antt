@@ -2,6 +2,7 @@
 use Rattle.std.proofs.Common.{◌≡◌, ℕ, List, refl, subst}
 use Rattle.std.specs.declared.option.Option.{Option}
 use Rattle.mesh_base.specs.declared.FileWord.TheVariants as file
+use Rattle.mesh_base.specs.declared.limits.Scale.{Scale}
 use Rattle.log_text.specs.declared.Refusal.TheVariants as refusal
 use Rattle.outside_io.specs.Desk.{Files}
 use Rattle.outside_io.specs.declared.outside.Fetched.{Fetched}
@@ -15,29 +16,29 @@ use Rattle.track_check.specs.declared.finding.Found.TheVariants as found
 use Rattle.track_check.specs.Check.{Check, IsCheck}
 use Rattle.track_check.specs.Finding.{Finds, Reads}
 
-module _ (files : Option Files) (mesh : MeshName) (decimals : ℕ) where
+module _ (scale : Scale) (files : Option Files) (mesh : MeshName) (decimals : ℕ) where
   abbrev pub check_of : Source → Check
-  check_of source = record { source = source; format = mesh.format; decimals = decimals }
+  check_of source = record { scale = scale; source = source; format = mesh.format; decimals = decimals }
 
-  pub is_check_of : (source : Source) → IsSource files mesh.name source → IsCheck files mesh decimals (check_of source)
-  is_check_of source h = record { source = h; format_is = refl; decimals_are = refl }
+  pub is_check_of : (source : Source) → IsSource scale files mesh.name source → IsCheck scale files mesh decimals (check_of source)
+  is_check_of source h = record { scale_is = refl; source = h; format_is = refl; decimals_are = refl }
 
   -- each file has a check
-  pub some_check : (c : Check) × IsCheck files mesh decimals c
-  some_check = let s = some_source files mesh.name in (check_of s.0, is_check_of s.0 s.1)
+  pub some_check : (c : Check) × IsCheck scale files mesh decimals c
+  some_check = let s = some_source scale files mesh.name in (check_of s.0, is_check_of s.0 s.1)
 
-  source_at : (f g : Fetched) → f ≡ g → IsSource files mesh.name (source_of f) → IsSource files mesh.name (source_of g)
-  source_at f g e h = let P : Fetched → Type 0 = λ x. IsSource files mesh.name (source_of x) in subst P e h
+  source_at : (f g : Fetched) → f ≡ g → IsSource scale files mesh.name (source_of f) → IsSource scale files mesh.name (source_of g)
+  source_at f g e h = let P : Fetched → Type 0 = λ x. IsSource scale files mesh.name (source_of x) in subst P e h
 
-  pub finds_absent : (f : Fetched) → f ≡ fetched.Absent → IsSource files mesh.name (source_of f) → Finds files mesh decimals (found.No (refusal.Missing file.Mesh))
+  pub finds_absent : (f : Fetched) → f ≡ fetched.Absent → IsSource scale files mesh.name (source_of f) → Finds scale files mesh decimals (found.No (refusal.Missing file.Mesh))
   finds_absent f e h = record { check = check_of Absent; is_check = is_check_of Absent (source_at f fetched.Absent e h); given = refl }
 
-  pub finds_long : (f : Fetched) (seen : ℕ) → f ≡ fetched.TooLong seen → IsSource files mesh.name (source_of f) → Finds files mesh decimals (found.No (refusal.Long file.Mesh seen))
+  pub finds_long : (f : Fetched) (seen : ℕ) → f ≡ fetched.TooLong seen → IsSource scale files mesh.name (source_of f) → Finds scale files mesh decimals (found.No (refusal.Long file.Mesh seen))
   finds_long f seen e h = record { check = check_of (TooLong seen); is_check = is_check_of (TooLong seen) (source_at f (fetched.TooLong seen) e h); given = refl }
 
-  pub finds_read : (f : Fetched) (bytes : List ℕ) → source_of f ≡ Bytes bytes → IsSource files mesh.name (source_of f) → (r : Found) → Reads mesh.format decimals bytes r → Finds files mesh decimals r
+  pub finds_read : (f : Fetched) (bytes : List ℕ) → source_of f ≡ Bytes bytes → IsSource scale files mesh.name (source_of f) → (r : Found) → Reads mesh.format decimals bytes r → Finds scale files mesh decimals r
   finds_read f bytes e h r reads = record {
     check = check_of (Bytes bytes);
-    is_check = is_check_of (Bytes bytes) (let P : Source → Type 0 = λ s. IsSource files mesh.name s in subst P e h);
+    is_check = is_check_of (Bytes bytes) (let P : Source → Type 0 = λ s. IsSource scale files mesh.name s in subst P e h);
     given = reads;
   }

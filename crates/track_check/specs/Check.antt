@@ -7,6 +7,7 @@ use Rattle.line_text.specs.WrittenLines.{line_of_words}
 use Rattle.mesh_base.specs.declared.FileWord.TheVariants as file
 use Rattle.mesh_base.specs.declared.PairName.{PairName}
 use Rattle.mesh_base.specs.declared.ShapeFault.{ShapeFault}
+use Rattle.mesh_base.specs.declared.limits.Scale.{Scale}
 use Rattle.mesh_base.specs.Mesh.{Mesh}
 use Rattle.mesh_faults.specs.ShapeFaults.{shape_faults}
 use Rattle.mesh_faults.specs.MeetingPairs.{meeting_pairs}
@@ -24,16 +25,19 @@ use Rattle.track_convert.specs.Formats.{lists_in}
 use Rattle.track_check.specs.declared.fault.Fault.{Fault}
 use Rattle.track_check.specs.declared.fault.Fault.TheVariants as fault
 
--- what the fetch of a file answers, the format of its text, and the decimals of the points
+-- how large the mesh may be, what the fetch of a file answers, the format of its text, and the
+-- decimals of the points
 pub record Check : Type 0 where
+  pub scale : Scale
   pub source : Source
   pub format : Format
   pub decimals : ℕ
 
 -- the check of a file, where the desk holds these
-pub record IsCheck (files : Option Files) (mesh : MeshName) (decimals : ℕ)
+pub record IsCheck (scale : Scale) (files : Option Files) (mesh : MeshName) (decimals : ℕ)
     (c : Check) : Type 0 where
-  pub source : IsSource files mesh.name c.source
+  pub scale_is : c.scale ≡ scale
+  pub source : IsSource scale files mesh.name c.source
   pub format_is : c.format ≡ mesh.format
   pub decimals_are : c.decimals ≡ decimals
 
@@ -69,13 +73,14 @@ abbrev pub faults_by : List ShapeFault → Mesh → List Fault
 faults_by [] m = map pair_as_fault (meeting_pairs m)
 faults_by (first ∷ others) m = map shape_as_fault (first ∷ others)
 
--- all that is wrong with lists
-abbrev pub faults_in : Lists → List Fault
-faults_in lists = faults_by (shape_faults (length lists.points) lists.faces) (mesh_of_lists lists)
+-- all that is wrong with lists, at a scale
+abbrev pub faults_in : Scale → Lists → List Fault
+faults_in scale lists =
+    faults_by (shape_faults scale (length lists.points) lists.faces) (mesh_of_lists scale lists)
 
 -- those that are told, the first million
-abbrev pub faults_told : Lists → List Fault
-faults_told lists = take 1000000 (faults_in lists)
+abbrev pub faults_told : Scale → Lists → List Fault
+faults_told scale lists = take 1000000 (faults_in scale lists)
 
 -- a fault as the refusal of a run that finds it first
 abbrev pub refusal_of : Fault → Refusal
@@ -104,11 +109,11 @@ abbrev pub report_of : Lists → List Fault → List ℕ
 report_of lists faults = flat_map fault_line faults ++ checked_line lists (length faults)
 
 -- that, or the line of the refusal
-abbrev pub text_told : Result Lists Refusal → List ℕ
-text_told (Ok lists) = report_of lists (faults_told lists)
-text_told (Err why) = text_of_line (Refused why)
+abbrev pub text_told : Scale → Result Lists Refusal → List ℕ
+text_told scale (Ok lists) = report_of lists (faults_told scale lists)
+text_told scale (Err why) = text_of_line (Refused why)
 
 -- the first fault, if there is one, or the refusal
-abbrev pub ending_told : Result Lists Refusal → Option Refusal
-ending_told (Ok lists) = option_map refusal_of (slice_get (faults_in lists) 0)
-ending_told (Err why) = Some why
+abbrev pub ending_told : Scale → Result Lists Refusal → Option Refusal
+ending_told scale (Ok lists) = option_map refusal_of (slice_get (faults_in scale lists) 0)
+ending_told scale (Err why) = Some why

@@ -1,5 +1,6 @@
 -- What the code found, as a check gives it.
 use Rattle.std.specs.Prelude.{◌≡◌, ℕ, List, Option, Result, Ok, Err}
+use Rattle.mesh_base.specs.declared.limits.Scale.{Scale}
 use Rattle.obj_text.specs.Obj.{Lists}
 use Rattle.obj_text.specs.Views.{lists_view}
 use Rattle.log_text.specs.declared.Refusal.{Refusal}
@@ -22,8 +23,8 @@ Reads format decimals bytes found =
     found_of_lists (lists_in format decimals bytes) ≡ found_view found
 
 -- what the file of a name gives
-pub record Finds (files : Option Files) (mesh : MeshName) (decimals : ℕ)
+pub record Finds (scale : Scale) (files : Option Files) (mesh : MeshName) (decimals : ℕ)
     (found : Found) : Type 0 where
   pub check : Check
-  pub is_check : IsCheck files mesh decimals check
+  pub is_check : IsCheck scale files mesh decimals check
   pub given : found_by check ≡ found_view found

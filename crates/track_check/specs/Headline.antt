@@ -1,5 +1,6 @@
 -- The headline: what a check does.
 use Rattle.std.specs.Prelude.{◌≡◌, ◌⊎◌, ℕ, Option, Result, Ok, Err}
+use Rattle.mesh_base.specs.declared.limits.Scale.{Scale}
 use Rattle.log_text.specs.declared.Refusal.{Refusal}
 use Rattle.outside_io.specs.declared.stop.Stop.{Stop}
 use Rattle.outside_io.specs.declared.stop.Stop.TheVariants.{NoMemory}
@@ -24,18 +25,19 @@ pub record IsCaused (c : Check) (result : Result (Option Refusal) Stop) : Type 0
       (result ≡ other) ⊎ IsStopped other ⊎ IsStopped result
 
 -- What can be read is checked, where memory does not want and no count of faults rises.
-abbrev pub IsComplete : MeshName → ℕ → Result (Option Refusal) Stop → World → World → Type 0
-IsComplete mesh decimals result old new =
-    (can : IsReadable old.holds.files mesh decimals) → ¬ Rose old.desk_faults new.desk_faults →
-    ¬ Rose old.sink_faults new.sink_faults →
-    (result ≡ Ok (ending_told (Ok can.lists))) ⊎ (result ≡ Err NoMemory)
+abbrev pub IsComplete : Scale → MeshName → ℕ → Result (Option Refusal) Stop → World → World →
+    Type 0
+IsComplete scale mesh decimals result old new =
+    (can : IsReadable scale old.holds.files mesh decimals) →
+    ¬ Rose old.desk_faults new.desk_faults → ¬ Rose old.sink_faults new.sink_faults →
+    (result ≡ Ok (ending_told scale (Ok can.lists))) ⊎ (result ≡ Err NoMemory)
 
 -- The file that the desk held at entry under the name is checked.
-pub record Checks (mesh : MeshName) (decimals : ℕ) (result : Result (Option Refusal) Stop)
-    (old new : World) : Type 0 where
+pub record Checks (scale : Scale) (mesh : MeshName) (decimals : ℕ)
+    (result : Result (Option Refusal) Stop) (old new : World) : Type 0 where
   pub check : Check
-  pub is_check : IsCheck old.holds.files mesh decimals check
-  pub ends : Ends (found_by check) result old.holds new.holds
+  pub is_check : IsCheck scale old.holds.files mesh decimals check
+  pub ends : Ends scale (found_by check) result old.holds new.holds
   pub caused : IsCaused check result
-  pub complete : IsComplete mesh decimals result old new
+  pub complete : IsComplete scale mesh decimals result old new
   pub faults : HasCauses old new result

@@ -11,7 +11,7 @@ use crate::listing::{faults_told, first_of};
 use crate::report::report_of;
 use log_text::{LogLine, Refusal};
 use log_write::write_line;
-use mesh_base::MeshLists;
+use mesh_base::{MeshLists, Scale};
 use outside_io::{Outside, Stop};
 use std::alloc::Global;
 use track_input::MeshFile;
@@ -19,10 +19,11 @@ use track_input::MeshFile;
 // Writes the line of a refusal.
 fn refuse<O: Outside>(
     alloc: Global,
+    scale: Scale,
     why: &Refusal,
     outside: &mut O,
 ) -> Result<Option<Refusal>, Stop>
-    ensures ends { Ends (Err why.now) result
+    ensures ends { Ends scale (Err why.now) result
         (O.around outside.old).world.holds (O.around outside.new).world.holds }
     ensures counts { Counts (O.around outside.old) (O.around outside.new) result }
 {
@@ -33,14 +34,15 @@ fn refuse<O: Outside>(
 // Writes what is wrong with lists, and answers the first of it. All that takes memory comes before the text.
 fn tell<O: Outside>(
     alloc: Global,
+    scale: Scale,
     lists: &MeshLists,
     outside: &mut O,
 ) -> Result<Option<Refusal>, Stop>
-    ensures ends { Ends (Ok (lists_view lists.now)) result
+    ensures ends { Ends scale (Ok (lists_view lists.now)) result
         (O.around outside.old).world.holds (O.around outside.new).world.holds }
     ensures counts { Counts (O.around outside.old) (O.around outside.new) result }
 {
-    let faults = faults_told(alloc, lists)?;
+    let faults = faults_told(alloc, scale, lists)?;
     let text = report_of(alloc, lists, &faults)?;
     outside.put(&text)?;
     Ok(first_of(&faults))
@@ -51,23 +53,24 @@ fn tell<O: Outside>(
 /// first is looked for; where there is none, one line `meets A B FACE` tells each edge and face that meet and share no vertex, in order;
 /// of all these at most `FAULTS_MAX`. Then one line `checked V F faults M` tells how many points and faces there are, and how many faults
 /// were told. Nothing is stored. Takes time in proportion to the faces and the logarithm of their number, and to the pairs that are near,
-/// up to the edge with which as many meet as are told.
+/// up to the edge with which as many meet as are told. The scale says how long the file and how large the mesh may be.
 ///
 /// Answers the first fault, and None where nothing is wrong; where the file is missing or too long, or its text is outside the grammar, the
 /// refusal, of which the line is written alone. Where memory wants, nothing is written.
 pub fn check<O: Outside>(
     alloc: Global,
+    scale: Scale,
     mesh: MeshFile<'_>,
     decimals: u8,
     outside: &mut O,
 ) -> Result<Option<Refusal>, Stop>
     requires few { decimals ≤ DECIMALS_MAX }
-    ensures headline { Checks (mesh_name mesh.entry) decimals result
+    ensures headline { Checks scale (mesh_name mesh.entry) decimals result
         (O.around outside.old).world (O.around outside.new).world }
     ensures same { (O.around outside.new).sides ≡ (O.around outside.old).sides }
 {
-    match find(alloc, mesh, decimals, outside)? {
-        Found::No(why) => refuse(alloc, &why, outside),
-        Found::Lists(lists) => tell(alloc, &lists, outside),
+    match find(alloc, scale, mesh, decimals, outside)? {
+        Found::No(why) => refuse(alloc, scale, &why, outside),
+        Found::Lists(lists) => tell(alloc, scale, &lists, outside),
     }
 }

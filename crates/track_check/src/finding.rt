@@ -7,7 +7,7 @@ ghost use Rattle.track_check.specs.Finding.{Finds, Reads};
 use grid_base::NoMemory;
 use line_text::ReadFault;
 use log_text::Refusal;
-use mesh_base::{FileWord, MeshLists};
+use mesh_base::{FileWord, MeshLists, Scale};
 use outside_io::{Fetched, Outside, Stop};
 use std::alloc::Global;
 use track_convert::read_lists;
@@ -38,16 +38,17 @@ fn read_all(alloc: Global, format: Format, bytes: &[u8], decimals: u8) -> Result
 // Fetches a mesh file, and reads it, the points with so many decimals.
 pub(crate) fn find<O: Outside>(
     alloc: Global,
+    scale: Scale,
     mesh: MeshFile<'_>,
     decimals: u8,
     outside: &mut O,
 ) -> Result<Found, Stop>
     requires few { decimals ≤ DECIMALS_MAX }
     ensures finds { let files = (O.around outside.old).world.holds.files in
-        IfOk result (Finds files (mesh_name mesh.entry) decimals) }
+        IfOk result (Finds scale files (mesh_name mesh.entry) decimals) }
     ensures looks { OnlyLooks (O.around outside.old) (O.around outside.new) result }
 {
-    let bytes = match fetch_text(alloc, outside, mesh.name)? {
+    let bytes = match fetch_text(alloc, scale, outside, mesh.name)? {
         Fetched::Bytes(bytes) => bytes,
         Fetched::Absent => {
             return Ok(Found::No(Refusal::Missing {

@@ -1,7 +1,7 @@
 //! All that is wrong with lists.
 ghost use Rattle.std.specs.Prelude.{◌≡◌, map, length, take, slice_get, option_map, IfOk, None};
 ghost use Rattle.mesh_plain.specs.Shape.{shape_fault};
-ghost use Rattle.mesh_base.specs.Given.{mesh_of};
+ghost use Rattle.mesh_base.specs.Given.{mesh_under};
 ghost use Rattle.obj_text.specs.Views.{lists_view};
 ghost use Rattle.mesh_faults.specs.MeetingPairs.{meeting_pairs};
 ghost use Rattle.track_check.specs.Check.{refusal_of, shape_as_fault, pair_as_fault, faults_told};
@@ -9,7 +9,7 @@ ghost use Rattle.track_check.specs.Check.{refusal_of, shape_as_fault, pair_as_fa
 use crate::fault::{FAULTS_MAX, Fault, refusal_of};
 use grid_base::NoMemory;
 use log_text::Refusal;
-use mesh_base::{MeshLists, PairName, ShapeFault};
+use mesh_base::{MeshLists, PairName, Scale, ShapeFault};
 use mesh_faults::{meeting_pairs, shape_faults};
 use mesh_journal::JournalMesh;
 use std::alloc::Global;
@@ -37,23 +37,27 @@ fn of_pairs(alloc: Global, found: &[PairName]) -> Result<Vec<Fault>, NoMemory>
 }
 
 // The pairs that meet, of lists of good shape, as far as they are told.
-fn meeting_told(alloc: Global, lists: &MeshLists) -> Result<Vec<Fault>, NoMemory>
-    requires good { shape_fault (length lists.now.points) lists.now.faces ≡ None }
-    ensures { let m = mesh_of lists.now.points lists.now.faces in IfOk result
+fn meeting_told(alloc: Global, scale: Scale, lists: &MeshLists) -> Result<Vec<Fault>, NoMemory>
+    requires good { shape_fault scale (length lists.now.points) lists.now.faces ≡ None }
+    ensures { let m = mesh_under scale lists.now.points lists.now.faces in IfOk result
         (λ faults. faults.items ≡ map pair_as_fault (take FAULTS_MAX (meeting_pairs m))) }
 {
-    let mesh = JournalMesh::of(alloc, lists)?;
+    let mesh = JournalMesh::of(alloc, scale, lists)?;
     let pairs = meeting_pairs(alloc, &mesh, FAULTS_MAX)?;
     of_pairs(alloc, &pairs)
 }
 
 /// What is wrong with lists, as far as it is told.
-pub(crate) fn faults_told(alloc: Global, lists: &MeshLists) -> Result<Vec<Fault>, NoMemory>
-    ensures { IfOk result (λ faults. faults.items ≡ faults_told (lists_view lists.now)) }
+pub(crate) fn faults_told(
+    alloc: Global,
+    scale: Scale,
+    lists: &MeshLists,
+) -> Result<Vec<Fault>, NoMemory>
+    ensures { IfOk result (λ faults. faults.items ≡ faults_told scale (lists_view lists.now)) }
 {
-    let mut found = shape_faults(alloc, lists)?;
+    let mut found = shape_faults(alloc, scale, lists)?;
     if found.is_empty() {
-        return meeting_told(alloc, lists);
+        return meeting_told(alloc, scale, lists);
     }
     found.truncate(FAULTS_MAX);
     of_shape(alloc, &found)

@@ -2,6 +2,7 @@
 use Rattle.std.proofs.Common.{◌≡◌, ℕ, List, refl, subst}
 use Rattle.std.specs.declared.option.Option.{Option}
 use Rattle.mesh_base.specs.declared.FileWord.TheVariants as file
+use Rattle.mesh_base.specs.declared.limits.Scale.{Scale}
 use Rattle.log_text.specs.declared.Refusal.TheVariants as refusal
 use Rattle.outside_io.specs.Desk.{Files}
 use Rattle.outside_io.specs.declared.outside.Fetched.{Fetched}
@@ -15,30 +16,30 @@ use Rattle.track_convert.specs.declared.finding.Found.TheVariants as found
 use Rattle.track_convert.specs.Conversion.{Conversion, IsConversion}
 use Rattle.track_convert.specs.Finding.{Finds, Reads}
 
-module _ (files : Option Files) (from : MeshName) (decimals : ℕ) where
+module _ (scale : Scale) (files : Option Files) (from : MeshName) (decimals : ℕ) where
   abbrev pub conversion_of : Source → Conversion
-  conversion_of source = record { source = source; from = from.format; decimals = decimals }
+  conversion_of source = record { scale = scale; source = source; from = from.format; decimals = decimals }
 
-  pub is_conversion_of : (source : Source) → IsSource files from.name source → IsConversion files from decimals (conversion_of source)
-  is_conversion_of source h = record { source = h; from_is = refl; decimals_are = refl }
+  pub is_conversion_of : (source : Source) → IsSource scale files from.name source → IsConversion scale files from decimals (conversion_of source)
+  is_conversion_of source h = record { scale_is = refl; source = h; from_is = refl; decimals_are = refl }
 
   -- each file has a conversion
-  pub some_conversion : (c : Conversion) × IsConversion files from decimals c
-  some_conversion = let s = some_source files from.name in (conversion_of s.0, is_conversion_of s.0 s.1)
+  pub some_conversion : (c : Conversion) × IsConversion scale files from decimals c
+  some_conversion = let s = some_source scale files from.name in (conversion_of s.0, is_conversion_of s.0 s.1)
 
-  source_at : (f g : Fetched) → f ≡ g → IsSource files from.name (source_of f) → IsSource files from.name (source_of g)
-  source_at f g e h = let P : Fetched → Type 0 = λ x. IsSource files from.name (source_of x) in subst P e h
+  source_at : (f g : Fetched) → f ≡ g → IsSource scale files from.name (source_of f) → IsSource scale files from.name (source_of g)
+  source_at f g e h = let P : Fetched → Type 0 = λ x. IsSource scale files from.name (source_of x) in subst P e h
 
-  pub finds_absent : (f : Fetched) → f ≡ fetched.Absent → IsSource files from.name (source_of f) → Finds files from decimals (found.No (refusal.Missing file.Mesh))
+  pub finds_absent : (f : Fetched) → f ≡ fetched.Absent → IsSource scale files from.name (source_of f) → Finds scale files from decimals (found.No (refusal.Missing file.Mesh))
   finds_absent f e h = record { conversion = conversion_of Absent; is_conversion = is_conversion_of Absent (source_at f fetched.Absent e h); given = refl; good = tt }
 
-  pub finds_long : (f : Fetched) (seen : ℕ) → f ≡ fetched.TooLong seen → IsSource files from.name (source_of f) → Finds files from decimals (found.No (refusal.Long file.Mesh seen))
+  pub finds_long : (f : Fetched) (seen : ℕ) → f ≡ fetched.TooLong seen → IsSource scale files from.name (source_of f) → Finds scale files from decimals (found.No (refusal.Long file.Mesh seen))
   finds_long f seen e h = record { conversion = conversion_of (TooLong seen); is_conversion = is_conversion_of (TooLong seen) (source_at f (fetched.TooLong seen) e h); given = refl; good = tt }
 
-  pub finds_read : (f : Fetched) (bytes : List ℕ) → source_of f ≡ Bytes bytes → IsSource files from.name (source_of f) → (r : Found) → Reads from.format decimals bytes r → Finds files from decimals r
+  pub finds_read : (f : Fetched) (bytes : List ℕ) → source_of f ≡ Bytes bytes → IsSource scale files from.name (source_of f) → (r : Found) → Reads scale from.format decimals bytes r → Finds scale files from decimals r
   finds_read f bytes e h r reads = record {
     conversion = conversion_of (Bytes bytes);
-    is_conversion = is_conversion_of (Bytes bytes) (let P : Source → Type 0 = λ s. IsSource files from.name s in subst P e h);
+    is_conversion = is_conversion_of (Bytes bytes) (let P : Source → Type 0 = λ s. IsSource scale files from.name s in subst P e h);
     given = reads.given;
     good = reads.good;
   }

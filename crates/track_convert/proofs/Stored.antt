@@ -5,6 +5,7 @@ use Rattle.std.specs.declared.option.Option.{Option}
 use Rattle.grid_base.specs.declared.TheConstants.{DECIMALS_MAX}
 use Rattle.grid_base.specs.declared.Point.{Point}
 use Rattle.grid_base.specs.Points.{position_of}
+use Rattle.mesh_base.specs.declared.limits.Scale.{Scale}
 use Rattle.mesh_plain.specs.Shape.{shape_fault}
 use Rattle.obj_text.specs.Obj.{Lists}
 use Rattle.obj_text.proofs.ListsAgain.{lists_are_read_lem}
@@ -22,15 +23,15 @@ pub triangles : (fs : List (List ℕ)) → ((i : ℕ) → i < length fs → leng
 triangles [] h = tt
 triangles (f ∷ fs) h = (h 0 (omega arith), triangles fs (λ i lt. h (suc i) (omega arith)))
 
-module _ (points : List Point) (faces : List (List ℕ)) (decimals : ℕ) (good : shape_fault (length points) faces ≡ None) (sizes : AllByRecursion (λ f. length f ≡ 3) faces) (few : decimals ≤ DECIMALS_MAX) where
+module _ (scale : Scale) (points : List Point) (faces : List (List ℕ)) (decimals : ℕ) (good : shape_fault scale (length points) faces ≡ None) (sizes : AllByRecursion (λ f. length f ≡ 3) faces) (few : decimals ≤ DECIMALS_MAX) where
   abbrev given : Lists
   given = record { points = map position_of points; faces = faces }
 
   -- the text of each format is read again
   again : (to : Format) → lists_in to decimals (text_in to decimals given) ≡ Ok given
-  again format.Obj = lists_are_read_lem points faces decimals good sizes few
-  again format.Off = off_is_read_lem points faces decimals good sizes few
-  again format.Ply = ply_is_read_lem points faces decimals good sizes few
+  again format.Obj = lists_are_read_lem scale points faces decimals good sizes few
+  again format.Off = off_is_read_lem scale points faces decimals good sizes few
+  again format.Ply = ply_is_read_lem scale points faces decimals good sizes few
 
   -- a store of the text
   pub is_stored : (to : MeshName) (text : List ℕ) (old new : Option Files) → text ≡ text_in to.format decimals given → new ≡ with_file old to.name text → IsStored to decimals given old new

@@ -1,8 +1,9 @@
 -- Why a conversion ends as it does.
 use Rattle.std.specs.Prelude.{◌≡◌, ◌≤◌, ℕ, List, length, Option, Some, None, Result, Ok, Err}
 use Rattle.std.specs.FinMap.{get}
-use Rattle.grid_base.specs.declared.TheConstants.{TEXT_MAX}
 use Rattle.mesh_base.specs.declared.FileWord.TheVariants as file
+use Rattle.mesh_base.specs.declared.limits.Scale.{Scale}
+use Rattle.mesh_base.specs.Limits.{text_most}
 use Rattle.mesh_plain.specs.Shape.{shape_fault}
 use Rattle.obj_text.specs.Obj.{Lists}
 use Rattle.log_text.specs.declared.Refusal.{Refusal}
@@ -24,14 +25,15 @@ pub record HasLists (c : Conversion) (lists : Lists) : Type 0 where
 -- before it, so no conversion has two.
 abbrev pub Cause : Conversion → Result (Option Refusal) Stop → Type 0
 Cause c (Ok None) =
-    (lists : Lists) × HasLists c lists × (shape_fault (length lists.points) lists.faces ≡ None)
+    (lists : Lists) × HasLists c lists
+    × (shape_fault c.scale (length lists.points) lists.faces ≡ None)
 Cause c (Ok (Some (refusal.Long file.Mesh seen))) = c.source ≡ TooLong seen
 Cause c (Ok (Some (refusal.Missing file.Mesh))) = c.source ≡ Absent
 Cause c (Ok (Some (refusal.Mesh fault))) =
     (bytes : List ℕ) × (c.source ≡ Bytes bytes) × (lists_in c.from c.decimals bytes ≡ Err fault)
 Cause c (Ok (Some (refusal.Shape fault))) =
     (lists : Lists) × HasLists c lists
-    × (shape_fault (length lists.points) lists.faces ≡ Some fault)
+    × (shape_fault c.scale (length lists.points) lists.faces ≡ Some fault)
 -- no other refusal is told
 Cause c (Ok (Some why)) = ⊥
 -- want of memory and faults stop a conversion, whatever its file
@@ -44,12 +46,13 @@ IsStopped (Err fault) = Unit {0}
 
 -- the desk tells a file of that name, which is no longer than a text may be, within the grammar
 -- of its format, and of good shape
-pub record IsConvertible (files : Option Files) (from : MeshName) (decimals : ℕ) : Type 0 where
+pub record IsConvertible (scale : Scale) (files : Option Files) (from : MeshName)
+    (decimals : ℕ) : Type 0 where
   pub told : Files
   pub files_are : files ≡ Some told
   pub bytes : List ℕ
   pub file : get told from.name ≡ Some bytes
-  pub small : length bytes ≤ TEXT_MAX
+  pub small : length bytes ≤ text_most scale
   pub lists : Lists
   pub read : lists_in from.format decimals bytes ≡ Ok lists
-  pub good : shape_fault (length lists.points) lists.faces ≡ None
+  pub good : shape_fault scale (length lists.points) lists.faces ≡ None

@@ -3,6 +3,7 @@ use Rattle.std.specs.Prelude.{◌≡◌, ℕ, List, [], ◌∷◌, length, codes
 use Rattle.line_text.specs.declared.TextFault.{TextFault}
 use Rattle.line_text.specs.WrittenLines.{line_of_words}
 use Rattle.mesh_base.specs.declared.ShapeFault.{ShapeFault}
+use Rattle.mesh_base.specs.declared.limits.Scale.{Scale}
 use Rattle.mesh_base.specs.declared.FileWord.TheVariants as file
 use Rattle.mesh_plain.specs.Shape.{shape_fault}
 use Rattle.obj_text.specs.Obj.{Lists}
@@ -16,16 +17,19 @@ use Rattle.track_input.specs.Source.{Source, Bytes, Absent, TooLong, IsSource}
 use Rattle.track_input.specs.Words.{MeshName}
 use Rattle.track_convert.specs.Formats.{lists_in}
 
--- what the fetch of a file answers, the format of its text, and the decimals of the points
+-- how large the mesh may be, what the fetch of a file answers, the format of its text, and the
+-- decimals of the points
 pub record Conversion : Type 0 where
+  pub scale : Scale
   pub source : Source
   pub from : Format
   pub decimals : ℕ
 
 -- the conversion of a file, where the desk holds these
-pub record IsConversion (files : Option Files) (from : MeshName) (decimals : ℕ)
+pub record IsConversion (scale : Scale) (files : Option Files) (from : MeshName) (decimals : ℕ)
     (c : Conversion) : Type 0 where
-  pub source : IsSource files from.name c.source
+  pub scale_is : c.scale ≡ scale
+  pub source : IsSource scale files from.name c.source
   pub from_is : c.from ≡ from.format
   pub decimals_are : c.decimals ≡ decimals
 
@@ -38,19 +42,21 @@ found_of_shape lists (Some fault) = Err (refusal.Shape fault)
 found_of_shape lists None = Ok lists
 
 -- what the text of the mesh gives
-abbrev pub found_of_lists : Result Lists TextFault → Result Lists Refusal
-found_of_lists (Err fault) = Err (refusal.Mesh fault)
-found_of_lists (Ok lists) = found_of_shape lists (shape_fault (length lists.points) lists.faces)
+abbrev pub found_of_lists : Scale → Result Lists TextFault → Result Lists Refusal
+found_of_lists scale (Err fault) = Err (refusal.Mesh fault)
+found_of_lists scale (Ok lists) =
+    found_of_shape lists (shape_fault scale (length lists.points) lists.faces)
 
 -- what the file gives
-abbrev pub found_of_file : Format → ℕ → Source → Result Lists Refusal
-found_of_file from decimals (TooLong seen) = Err (refusal.Long file.Mesh seen)
-found_of_file from decimals Absent = Err (refusal.Missing file.Mesh)
-found_of_file from decimals (Bytes bytes) = found_of_lists (lists_in from decimals bytes)
+abbrev pub found_of_file : Scale → Format → ℕ → Source → Result Lists Refusal
+found_of_file scale from decimals (TooLong seen) = Err (refusal.Long file.Mesh seen)
+found_of_file scale from decimals Absent = Err (refusal.Missing file.Mesh)
+found_of_file scale from decimals (Bytes bytes) =
+    found_of_lists scale (lists_in from decimals bytes)
 
 -- what the file of a conversion gives
 abbrev pub found_by : Conversion → Result Lists Refusal
-found_by c = found_of_file c.from c.decimals c.source
+found_by c = found_of_file c.scale c.from c.decimals c.source
 
 -- ---- the one line that is written
 

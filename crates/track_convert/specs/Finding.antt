@@ -1,5 +1,6 @@
 -- What the code found, as a conversion gives it.
 use Rattle.std.specs.Prelude.{◌≡◌, ℕ, List, length, Option, None, Result, Ok, Err}
+use Rattle.mesh_base.specs.declared.limits.Scale.{Scale}
 use Rattle.mesh_plain.specs.Shape.{shape_fault}
 use Rattle.obj_text.specs.Obj.{Lists}
 use Rattle.obj_text.specs.Views.{lists_view}
@@ -18,19 +19,20 @@ found_view (found.No why) = Err why
 found_view (found.Lists lists) = Ok (lists_view lists)
 
 -- lists that were found are of good shape
-abbrev pub IsGood : Found → Type 0
-IsGood (found.No why) = Unit {0}
-IsGood (found.Lists lists) = shape_fault (length lists.points) lists.faces ≡ None
+abbrev pub IsGood : Scale → Found → Type 0
+IsGood scale (found.No why) = Unit {0}
+IsGood scale (found.Lists lists) = shape_fault scale (length lists.points) lists.faces ≡ None
 
 -- what a text gives
-pub record Reads (from : Format) (decimals : ℕ) (bytes : List ℕ) (found : Found) : Type 0 where
-  pub given : found_of_lists (lists_in from decimals bytes) ≡ found_view found
-  pub good : IsGood found
+pub record Reads (scale : Scale) (from : Format) (decimals : ℕ) (bytes : List ℕ)
+    (found : Found) : Type 0 where
+  pub given : found_of_lists scale (lists_in from decimals bytes) ≡ found_view found
+  pub good : IsGood scale found
 
 -- what the file of a name gives
-pub record Finds (files : Option Files) (from : MeshName) (decimals : ℕ)
+pub record Finds (scale : Scale) (files : Option Files) (from : MeshName) (decimals : ℕ)
     (found : Found) : Type 0 where
   pub conversion : Conversion
-  pub is_conversion : IsConversion files from decimals conversion
+  pub is_conversion : IsConversion scale files from decimals conversion
   pub given : found_by conversion ≡ found_view found
-  pub good : IsGood found
+  pub good : IsGood scale found

@@ -1,5 +1,6 @@
 -- The headline: what a conversion does.
 use Rattle.std.specs.Prelude.{◌≡◌, ◌⊎◌, ℕ, Option, None, Result, Ok, Err}
+use Rattle.mesh_base.specs.declared.limits.Scale.{Scale}
 use Rattle.log_text.specs.declared.Refusal.{Refusal}
 use Rattle.outside_io.specs.declared.stop.Stop.{Stop}
 use Rattle.outside_io.specs.declared.stop.Stop.TheVariants.{NoMemory}
@@ -25,18 +26,19 @@ pub record IsCaused (c : Conversion) (result : Result (Option Refusal) Stop) : T
       (result ≡ other) ⊎ IsStopped other ⊎ IsStopped result
 
 -- What can be converted is, where memory does not want and no count of faults rises.
-abbrev pub IsComplete : MeshName → ℕ → Result (Option Refusal) Stop → World → World → Type 0
-IsComplete from decimals result old new =
-    IsConvertible old.holds.files from decimals → ¬ Rose old.desk_faults new.desk_faults →
+abbrev pub IsComplete : Scale → MeshName → ℕ → Result (Option Refusal) Stop → World → World →
+    Type 0
+IsComplete scale from decimals result old new =
+    IsConvertible scale old.holds.files from decimals → ¬ Rose old.desk_faults new.desk_faults →
     ¬ Rose old.sink_faults new.sink_faults →
     (result ≡ Ok None) ⊎ (result ≡ Err NoMemory)
 
 -- The file that the desk held at entry under the one name is converted to the other.
-pub record Converts (from to : MeshName) (decimals : ℕ) (result : Result (Option Refusal) Stop)
-    (old new : World) : Type 0 where
+pub record Converts (scale : Scale) (from to : MeshName) (decimals : ℕ)
+    (result : Result (Option Refusal) Stop) (old new : World) : Type 0 where
   pub conversion : Conversion
-  pub is_conversion : IsConversion old.holds.files from decimals conversion
+  pub is_conversion : IsConversion scale old.holds.files from decimals conversion
   pub ends : Ends to decimals (found_by conversion) result old.holds new.holds
   pub caused : IsCaused conversion result
-  pub complete : IsComplete from decimals result old new
+  pub complete : IsComplete scale from decimals result old new
   pub faults : HasCauses old new result

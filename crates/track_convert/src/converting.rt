@@ -16,7 +16,7 @@ use grid_base::NoMemory;
 use line_text::{Field, put_line};
 use log_text::{LogLine, Refusal};
 use log_write::write_line;
-use mesh_base::MeshLists;
+use mesh_base::{MeshLists, Scale};
 use outside_io::{Outside, Stop};
 use std::alloc::Global;
 use track_input::MeshFile;
@@ -59,13 +59,14 @@ fn refuse<O: Outside>(
 // Stores lists of good shape, and writes the line of a conversion. All that takes memory comes before the store.
 fn store_and_tell<O: Outside>(
     alloc: Global,
+    scale: Scale,
     to: MeshFile<'_>,
     decimals: u8,
     lists: &MeshLists,
     outside: &mut O,
 ) -> Result<Option<Refusal>, Stop>
     requires few { decimals ≤ DECIMALS_MAX }
-    requires good { shape_fault (length lists.now.points) lists.now.faces ≡ None }
+    requires good { shape_fault scale (length lists.now.points) lists.now.faces ≡ None }
     ensures ends { Ends (mesh_name to.entry) decimals (Ok (lists_view lists.now)) result
         (O.around outside.old).world.holds (O.around outside.new).world.holds }
     ensures counts { Counts (O.around outside.old) (O.around outside.new) result }
@@ -80,24 +81,26 @@ fn store_and_tell<O: Outside>(
 
 /// Stores the mesh of a file in another, each in the format that the ending of its name picks, the points with so many decimals: the
 /// file is fetched and read, its lists are found to be of good shape, their text is stored, and one line `converted V F` tells how many
-/// points and faces there are. Nothing else is written, and whether the mesh meets itself is not tested.
+/// points and faces there are. Nothing else is written, and whether the mesh meets itself is not tested. The scale says how long the file
+/// and how large the mesh may be.
 ///
 /// Answers the refusal, of which the line is written, where the file is missing or too long, its text is outside the grammar, or its
 /// lists are not of good shape.
 pub fn convert<O: Outside>(
     alloc: Global,
+    scale: Scale,
     from: MeshFile<'_>,
     to: MeshFile<'_>,
     decimals: u8,
     outside: &mut O,
 ) -> Result<Option<Refusal>, Stop>
     requires few { decimals ≤ DECIMALS_MAX }
-    ensures headline { Converts (mesh_name from.entry) (mesh_name to.entry) decimals result
+    ensures headline { Converts scale (mesh_name from.entry) (mesh_name to.entry) decimals result
         (O.around outside.old).world (O.around outside.new).world }
     ensures same { (O.around outside.new).sides ≡ (O.around outside.old).sides }
 {
-    match find(alloc, from, decimals, outside)? {
+    match find(alloc, scale, from, decimals, outside)? {
         Found::No(why) => refuse(alloc, &why, outside),
-        Found::Lists(lists) => store_and_tell(alloc, to, decimals, &lists, outside),
+        Found::Lists(lists) => store_and_tell(alloc, scale, to, decimals, &lists, outside),
     }
 }

@@ -8,7 +8,7 @@ use crate::formats::read_lists;
 use grid_base::NoMemory;
 use line_text::ReadFault;
 use log_text::Refusal;
-use mesh_base::{FileWord, MeshLists, ShapeRefusal};
+use mesh_base::{FileWord, MeshLists, Scale, ShapeRefusal};
 use mesh_plain::shape;
 use outside_io::{Fetched, Outside, Stop};
 use std::alloc::Global;
@@ -24,17 +24,23 @@ pub(crate) enum Found {
 }
 
 // Reads a text and tests the shape of its lists.
-fn read_all(alloc: Global, format: Format, bytes: &[u8], decimals: u8) -> Result<Found, NoMemory>
+fn read_all(
+    alloc: Global,
+    scale: Scale,
+    format: Format,
+    bytes: &[u8],
+    decimals: u8,
+) -> Result<Found, NoMemory>
     requires few { decimals ≤ DECIMALS_MAX }
     requires small { length bytes.now ≤ TEXT_MAX }
-    ensures { IfOk result (Reads format decimals bytes.now) }
+    ensures { IfOk result (Reads scale format decimals bytes.now) }
 {
     let lists = match read_lists(alloc, format, bytes, decimals) {
         Ok(lists) => lists,
         Err(ReadFault::NoMemory) => return Err(NoMemory),
         Err(ReadFault::Text(fault)) => return Ok(Found::No(Refusal::Mesh(fault))),
     };
-    match shape(alloc, &lists) {
+    match shape(alloc, scale, &lists) {
         Ok(()) => Ok(Found::Lists(lists)),
         Err(ShapeRefusal::NoMemory) => Err(NoMemory),
         Err(ShapeRefusal::Shape(fault)) => Ok(Found::No(Refusal::Shape(fault))),
@@ -44,16 +50,17 @@ fn read_all(alloc: Global, format: Format, bytes: &[u8], decimals: u8) -> Result
 // Fetches a mesh file, reads it, the points with so many decimals, and tests the shape of its lists.
 pub(crate) fn find<O: Outside>(
     alloc: Global,
+    scale: Scale,
     from: MeshFile<'_>,
     decimals: u8,
     outside: &mut O,
 ) -> Result<Found, Stop>
     requires few { decimals ≤ DECIMALS_MAX }
     ensures finds { let files = (O.around outside.old).world.holds.files in
-        IfOk result (Finds files (mesh_name from.entry) decimals) }
+        IfOk result (Finds scale files (mesh_name from.entry) decimals) }
     ensures looks { OnlyLooks (O.around outside.old) (O.around outside.new) result }
 {
-    let bytes = match fetch_text(alloc, outside, from.name)? {
+    let bytes = match fetch_text(alloc, scale, outside, from.name)? {
         Fetched::Bytes(bytes) => bytes,
         Fetched::Absent => {
             return Ok(Found::No(Refusal::Missing {
@@ -67,5 +74,5 @@ pub(crate) fn find<O: Outside>(
             }));
         }
     };
-    Ok(read_all(alloc, from.format, &bytes, decimals)?)
+    Ok(read_all(alloc, scale, from.format, &bytes, decimals)?)
 }

@@ -23,7 +23,7 @@ pub enum MeasureLine {
         k: u32,
         volume6: i128,
         shape: MeshShape,
-        genus: Option<u64>,
+        genus: Option<u32>,
     },
     /// Behind a line of the log the shape is another than before it.
     Change {

@@ -11,6 +11,7 @@ use Rattle.grid_base.specs.declared.grid.Shift.{Shift}
 use Rattle.grid_base.specs.Points.{position_of, point_at}
 use Rattle.grid_base.proofs.PointLaws.{point_at-position_of}
 use Rattle.mesh_base.specs.declared.MeshLists.{MeshLists}
+use Rattle.mesh_base.specs.declared.limits.Scale.TheVariants.{Standard}
 use Rattle.mesh_base.specs.Given.{mesh_of}
 use Rattle.mesh_base.specs.Mesh.{Mesh}
 use Rattle.mesh_base.specs.Valid.{IsValidSurface}
@@ -51,10 +52,10 @@ mesh_is lists n view =
     ap (λ points. mesh_of points lists.faces) (sym (same_points lists.points))
     ∙ ap (λ (l : Lists). mesh_of (map point_at l.points) l.faces) view
 
-pub shape_is : (lists : MeshLists) (n : ℕ) → IsRow n → lists_view lists ≡ cubes_lists n → shape_fault (length lists.points) lists.faces ≡ None
+pub shape_is : (lists : MeshLists) (n : ℕ) → IsRow n → lists_view lists ≡ cubes_lists n → shape_fault Standard (length lists.points) lists.faces ≡ None
 shape_is lists n row view =
-    ap (λ k. shape_fault k lists.faces) (sym (length-map lists.points position_of))
-    ∙ ap (λ (l : Lists). shape_fault (length l.points) l.faces) view
+    ap (λ k. shape_fault Standard k lists.faces) (sym (length-map lists.points position_of))
+    ∙ ap (λ (l : Lists). shape_fault Standard (length l.points) l.faces) view
     ∙ cubes_have_no_fault n row
 
 valid : (n : ℕ) → IsRow n → IsValidSurface (cubes_mesh n)

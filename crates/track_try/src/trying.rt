@@ -9,7 +9,7 @@ ghost use Rattle.track_try.specs.Summary.{summary_of};
 use crate::running::run;
 use crate::summing::summed_up;
 use grid_base::{NoMemory, Point, Shift};
-use mesh_base::Surface;
+use mesh_base::{Scale, Surface};
 use mesh_field::no_fields;
 use mesh_journal::JournalMesh;
 use mesh_make::cubes;
@@ -56,7 +56,7 @@ fn summary(alloc: Global, n: u8, key: u32) -> Result<Vec<u8>, NoMemory>
     ensures { IfOk result (λ text. text.items ≡ summary_of n key) }
 {
     let job = cubes(alloc, n, key)?;
-    let mesh = JournalMesh::of(alloc, &job.mesh)?;
+    let mesh = JournalMesh::of(alloc, Scale::Standard, &job.mesh)?;
     summary_of_run(alloc, n, key, mesh, job.directives.as_slice())
 }
 

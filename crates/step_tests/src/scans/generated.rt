@@ -7,7 +7,9 @@ ghost use Rattle.mesh_base.specs.Placements.{rest_positions};
 ghost use Rattle.mesh_base.specs.Shifts.{NameLive, end_in_box};
 
 use grid_base::{BOX, NoMemory, Point, Shift, moved};
-use mesh_base::{MeshLists, Points, ShiftOf, Shifts, Surface, Triangles, VertexId, live_vertices};
+use mesh_base::{
+    MeshLists, Points, Scale, ShiftOf, Shifts, Surface, Triangles, VertexId, live_vertices,
+};
 use mesh_plain::{PlainMesh, shape};
 use std::alloc::Global;
 use std::process::Abort;
@@ -97,9 +99,9 @@ pub(crate) fn mesh_by(
     for body in 0..plan.bodies {
         put_body(&mut lists, body, plan, numbers, rt)?;
     }
-    let shaped = shape(alloc, &lists);
+    let shaped = shape(alloc, Scale::Standard, &lists);
     assert!(rt; shaped.is_ok());
-    PlainMesh::of(alloc, &lists)
+    PlainMesh::of(alloc, Scale::Standard, &lists)
 }
 
 /// A coordinate so far on, and in the box.

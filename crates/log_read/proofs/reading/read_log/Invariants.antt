@@ -5,7 +5,7 @@ use Rattle.log_read.proofs.LogParts.{PartsLeft}
 use Rattle.log_read.proofs.reading.read_log.Given as goal
 
 abbrev pub invariant-lines : goal.invariant-lines
-invariant-lines l = PartsLeft l.version l.bytes l.log l.number l.rest
+invariant-lines l = PartsLeft l.scale l.version l.bytes l.log l.number l.rest
 
 abbrev pub decreases-lines : goal.decreases-lines
 decreases-lines l = length (slice_split (λ b. b == 10) l.rest)

@@ -11,14 +11,15 @@ use Rattle.mesh_rows.proofs.making.mesh_of_rows.Goals as goal
 
 pub returns-clause-mesh : goal.returns-clause-mesh
 returns-clause-mesh c =
+    let scale = c.args.scale in
     let rows = c.args.rows.now in
-    let none : made_fault rows ≡ None = sym c.in_ok-fault.ensures.fault ∙ c.in_default-2.is in
-    let put : mesh_in c.put_rows.new.mesh ≡ made_of rows = c.in_ok-fault.ensures.put (ap Ok c.in_default-2.is) in
+    let none : made_fault scale rows ≡ None = sym c.in_ok-fault.ensures.fault ∙ c.in_default-2.is in
+    let put : mesh_in c.put_rows.new.mesh ≡ made_of scale rows = c.in_ok-fault.ensures.put (ap Ok c.in_default-2.is) in
     c.over.ensures.mesh ∙ ap (λ (s : State). s.mesh) c.set_next.ensures.state
-    ∙ ap (λ (m : Mesh). numbered m rows.next_vertex rows.next_face) put ∙ made_is rows none
+    ∙ ap (λ (m : Mesh). numbered m rows.next_vertex rows.next_face) put ∙ made_is scale rows none
 
 pub returns-clause-sound : goal.returns-clause-sound
 returns-clause-sound c = λ ok. subst IsSound (sym c.over.ensures.mesh ∙ returns-clause-mesh c) c.set_next.new.self.now_sound
 
 pub returns-clause-closed : goal.returns-clause-closed
-returns-clause-closed c = λ ok. closed_rows c.args.rows.now (sym c.in_ok-fault.ensures.fault ∙ c.in_default-2.is)
+returns-clause-closed c = λ ok. closed_rows c.args.scale c.args.rows.now (sym c.in_ok-fault.ensures.fault ∙ c.in_default-2.is)

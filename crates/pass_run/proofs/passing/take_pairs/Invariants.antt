@@ -16,5 +16,5 @@ invariant-loop-i g l =
     record {
       so_far : SoFar first now l.terms.grouped (pairs_left (exactly l.terms) now.mesh (drop l.i l.edges)) (lines_from (exactly l.terms) first.mesh (candidates first.mesh l.terms.kind)) l.count;
       points : now.mesh.points ≡ first.mesh.points;
-      sum : l.count.done + l.count.refused ≤ l.i * 2 ^ 32;
+      sum : l.count.done + l.count.refused ≤ l.i * 2 ^ 26;
     }

@@ -1,6 +1,6 @@
 use Rattle.std.proofs.Common.{◌≡◌, ◌<◌, [], length, map, take, sym, ◌∙◌}
 use Rattle.std.proofs.lemmas.Result.{IfOk-weaker}
-use Rattle.mesh_base.specs.Given.{mesh_of}
+use Rattle.mesh_base.specs.Given.{mesh_under}
 use Rattle.mesh_faults.specs.MeetingPairs.{meeting_pairs}
 use Rattle.obj_text.specs.Views.{lists_view}
 use Rattle.track_check.specs.Check.{shape_as_fault, pair_as_fault, faults_told}
@@ -13,8 +13,8 @@ returns-then-is_empty c =
     let lists = c.args.lists.now in
     let found = c.in_ok-found.found.items in
     let none : found ≡ [] = none_if found c.in_ok-found.found.len c.in_ok-found.found.ok.0 (sym c.is_empty.ensures ∙ c.if-is_empty.true) in
-    IfOk-weaker c.meeting_told.result (λ faults. faults.items ≡ map pair_as_fault (take FAULTS_MAX (meeting_pairs (mesh_of lists.points lists.faces)))) (λ faults. faults.items ≡ faults_told (lists_view lists))
-    (λ faults e. e ∙ with_pairs lists FAULTS_MAX found c.in_ok-found.ensures.all none)
+    IfOk-weaker c.meeting_told.result (λ faults. faults.items ≡ map pair_as_fault (take FAULTS_MAX (meeting_pairs (mesh_under c.args.scale lists.points lists.faces)))) (λ faults. faults.items ≡ faults_told c.args.scale (lists_view lists))
+    (λ faults e. e ∙ with_pairs c.args.scale lists FAULTS_MAX found c.in_ok-found.ensures.all none)
     c.meeting_told.ensures
 
 pub returns : goal.returns
@@ -22,6 +22,6 @@ returns c =
     let lists = c.args.lists.now in
     let found = c.in_ok-found.found.items in
     let some : 0 < length found = some_if found c.in_ok-found.found.len c.in_ok-found.found.ok.0 (sym c.is_empty.ensures ∙ c.if-is_empty.false) in
-    IfOk-weaker c.of_shape.result (λ faults. faults.items ≡ map shape_as_fault c.deref.result.now) (λ faults. faults.items ≡ faults_told (lists_view lists))
-    (λ faults e. e ∙ with_shape lists FAULTS_MAX found c.truncate.new.self.items c.deref.result.now c.in_ok-found.ensures.all some c.truncate.ensures.items c.deref.ensures.value)
+    IfOk-weaker c.of_shape.result (λ faults. faults.items ≡ map shape_as_fault c.deref.result.now) (λ faults. faults.items ≡ faults_told c.args.scale (lists_view lists))
+    (λ faults e. e ∙ with_shape c.args.scale lists FAULTS_MAX found c.truncate.new.self.items c.deref.result.now c.in_ok-found.ensures.all some c.truncate.ensures.items c.deref.ensures.value)
     c.of_shape.ensures

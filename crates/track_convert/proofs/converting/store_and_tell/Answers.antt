@@ -17,7 +17,7 @@ returns-in_err-put-clause-ends g c =
     let sizes = subst P c.as_slice.ensures c.are_triangles.ensures in
     let line : c.deref-2.result.now ≡ converted_line (lists_view lists) = c.deref-2.ensures.value ∙ c.in_ok-line.ensures in
     let text : c.deref.result.now ≡ text_in c.args.to.format c.args.decimals (lists_view lists) = c.deref.ensures.value ∙ c.in_ok-text.ensures in
-    let stored = is_stored lists.points lists.faces c.args.decimals c.requires.good sizes c.requires.few (mesh_name c.args.to) c.deref.result.now _ _ text c.in_ok-store.ensures.stored in
+    let stored = is_stored c.args.scale lists.points lists.faces c.args.decimals c.requires.good sizes c.requires.few (mesh_name c.args.to) c.deref.result.now _ _ text c.in_ok-store.ensures.stored in
     rw (p.1, p.2) (told_in_part (mesh_name c.args.to) c.args.decimals (lists_view lists) c.deref-2.result.now line (g.O.Outside.around c.args.outside.now) _ _ c.in_ok-store.ensures.written stored _ c.in_err-put.ensures)
 
 pub returns-clause-ends : goal.returns-clause-ends
@@ -27,5 +27,5 @@ returns-clause-ends g c =
     let sizes = subst P c.as_slice.ensures c.are_triangles.ensures in
     let line : c.deref-2.result.now ≡ converted_line (lists_view lists) = c.deref-2.ensures.value ∙ c.in_ok-line.ensures in
     let text : c.deref.result.now ≡ text_in c.args.to.format c.args.decimals (lists_view lists) = c.deref.ensures.value ∙ c.in_ok-text.ensures in
-    let stored = is_stored lists.points lists.faces c.args.decimals c.requires.good sizes c.requires.few (mesh_name c.args.to) c.deref.result.now _ _ text c.in_ok-store.ensures.stored in
+    let stored = is_stored c.args.scale lists.points lists.faces c.args.decimals c.requires.good sizes c.requires.few (mesh_name c.args.to) c.deref.result.now _ _ text c.in_ok-store.ensures.stored in
     told (mesh_name c.args.to) c.args.decimals (lists_view lists) c.deref-2.result.now line (g.O.Outside.around c.args.outside.now) _ _ c.in_ok-store.ensures.written stored c.in_ok-put.ensures
