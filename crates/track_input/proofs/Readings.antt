@@ -14,8 +14,8 @@ use Rattle.clap.specs.Simple.{built}
 use Rattle.clap.specs.Walk.{Rule, takes_values}
 use Rattle.line_text.specs.Spellings.{spelled_number}
 use Rattle.track_input.specs.declared.command.TheConstants.{CUBES_MAX}
-use Rattle.mesh_base.specs.declared.limits.Scale.{Scale}
-use Rattle.mesh_base.specs.declared.limits.Scale.TheVariants.{Standard, Large}
+use Rattle.mesh_base.specs.declared.Scale.{Scale}
+use Rattle.mesh_base.specs.declared.Scale.TheVariants.{Standard, Large}
 use Rattle.track_input.specs.Words.{MeshName, LogNames, Named, Track, Convert, Try, Measure, Prove, Verify, Replay, Check, named_in, track_in, convert_in, try_in, log_in, verify_in, replay_in, check_in, only_in, told_in, options_in, numbers_in, scale_in, after_scale, between, number_in, decimals_in, mesh_name_of, is_file_word, is_decimals}
 use Rattle.track_input.specs.Named.{named_by}
 use Rattle.track_input.specs.declared.command.Command.{Command}
@@ -371,7 +371,7 @@ pub record AreOptions (words : List (List ℕ)) : Type 0 where
   pub plain_number : IfSome number IsPlainWord
 
 -- `--large`, and then the others
-in_order : (scale : Scale) (digit number : Option (List ℕ)) → options_behind scale digit number ≡ scale_words scale ++ digit_words digit ++ number_words number
+in_order : (scale : Scale) (digit number : Option (List ℕ)) → options_behind scale digit number ≡ scale_words scale ++ (digit_words digit ++ number_words number)
 in_order Standard None None = refl
 in_order Standard None (Some k) = refl
 in_order Standard (Some n) None = refl
@@ -531,7 +531,7 @@ module _ (words : List (List ℕ)) (rows : List Row) (from : RowsFrom words rows
   large_among (Some v) e is = elim (first_from words (codes "large") rows v from e) [
     | inl word ↦ absurd (word.0 refl)
     | inr flag ↦ elim flag.1 [
-      | inl no ↦ absurd (let g : Standard ≡ Large = subst (λ (t : List ℕ). scale_of (Some t) ≡ Large) no is in cc)
+      | inl small ↦ absurd (let g : Standard ≡ Large = subst (λ (t : List ℕ). scale_of (Some t) ≡ Large) small is in cc)
       | inr there ↦ there
     ]
   ]

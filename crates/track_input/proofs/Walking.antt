@@ -4,13 +4,13 @@ use Rattle.std.specs.Prelude.{◌&&◌, fold, is_some}
 use Rattle.std.specs.List.{list_all}
 use Rattle.std.proofs.lemmas.Bool.{and_parts}
 use Rattle.std.proofs.lemmas.List.Sums.{fold-append}
-use Rattle.clap.specs.Walk.{Text, Row, Walk, Names, idle, walked, walk_from, nothing_held, finished}
-use Rattle.clap.specs.Simple.{App, Shape, built, names_of, entered, is_simple, matches_of}
-use Rattle.clap.specs.Takes.{takes, walk_passes, turn_passes, settle_passes, default_passes, is_valid, entered_passes}
+use Rattle.clap.specs.Walk.{Text, Row, Walk, Names, idle, walked, walk_from, nothing_held, finished, rows_after}
+use Rattle.clap.specs.Simple.{App, Shape, built, names_of, entered, is_simple, matches_of, argument_words}
+use Rattle.clap.specs.Takes.{takes, built_takes, walk_passes, turn_passes, settle_passes, default_passes, is_valid, entered_passes}
 use Rattle.clap.specs.declared.builder.value_parser.Reading.TheVariants.{AsWritten}
 use Rattle.clap.specs.declared.parser.matches.ValueSource.TheVariants.{CommandLine}
-use Rattle.mesh_base.specs.declared.limits.Scale.{Scale}
-use Rattle.mesh_base.specs.declared.limits.Scale.TheVariants.{Standard, Large}
+use Rattle.mesh_base.specs.declared.Scale.{Scale}
+use Rattle.mesh_base.specs.declared.Scale.TheVariants.{Standard, Large}
 
 -- a walk passes over words, if it does over the first of them and then over the others
 passes_on : (s : Shape) (names : Names) (w : Walk) (xs ys : List Text) → walk_passes s names w xs ≡ true → walk_passes s names w (xs ++ ys) ≡ walk_passes s names (fold (walked s.rules names) w xs) ys
@@ -90,10 +90,11 @@ module _ (app : App) where
     passes = passes_on top names from xs ys first.passes ∙ ap (λ (w : Walk). walk_passes top names w ys) first.ends ∙ second.passes;
   }
 
-  module _ (named : app.top.no_binary_name ≡ false) (zeroth : Text) (words : List Text) (to : Walk) (walks : Walks start words to) where
+  module _ (zeroth : Text) (words : List Text) (behind_name : argument_words app (zeroth ∷ words) ≡ words) (to : Walk) (walks : Walks start words to) where
     pub takes_walked : ends_well to true ≡ true → takes app (zeroth ∷ words) ≡ true
     takes_walked well =
-        rw named (ap (λ (w : Walk). ends_well w (walk_passes top names start words)) walks.ends ∙ ap (λ (p : Bool). ends_well to p) walks.passes ∙ well)
+        ap (λ (ws : List Text). is_simple app && built_takes (built app) nothing_held ws) behind_name
+        ∙ ap (λ (w : Walk). ends_well w (walk_passes top names start words)) walks.ends ∙ ap (λ (p : Bool). ends_well to p) walks.passes ∙ well
 
     pub matches_walked : finished top.rules to.held ≡ matches_of app (zeroth ∷ words)
-    matches_walked = rw named (ap (λ (w : Walk). finished top.rules w.held) (sym walks.ends))
+    matches_walked = ap (λ (w : Walk). finished top.rules w.held) (sym walks.ends) ∙ ap (λ (ws : List Text). rows_after top.rules names ws) (sym behind_name)

@@ -12,8 +12,8 @@ use Rattle.clap.proofs.OnLiterals.{clap_on_literals}
 use Rattle.line_text.specs.Numbers.{number_within, is_digit, begins_with}
 use Rattle.line_text.specs.Spellings.{spelled_number}
 use Rattle.line_text.specs.declared.number.TheConstants.{DIGITS_MAX}
-use Rattle.mesh_base.specs.declared.limits.Scale.{Scale}
-use Rattle.mesh_base.specs.declared.limits.Scale.TheVariants.{Standard, Large}
+use Rattle.mesh_base.specs.declared.Scale.{Scale}
+use Rattle.mesh_base.specs.declared.Scale.TheVariants.{Standard, Large}
 use Rattle.track_input.specs.Words.{is_file_word, is_decimals}
 use Rattle.track_input.specs.Taken.{behind, options_behind}
 use Rattle.track_input.specs.Commands.{scale_of, track_app, convert_app, try_app, log_app, verify_app, replay_app, check_app}
@@ -158,10 +158,10 @@ module _ (a b c : List ℕ) where
     track_walks s n pn = walks_on track_app _ _ _ (a ∷ b ∷ c ∷ []) (behind s n) track_to_files (track_to_end s n pn)
 
     pub track_taken : (zeroth : List ℕ) (s : Scale) (n : Option (List ℕ)) → IfSome n IsPlainWord → takes track_app (zeroth ∷ a ∷ b ∷ c ∷ behind s n) ≡ true
-    track_taken zeroth s n pn = takes_walked track_app refl zeroth _ (track_end s n) (track_walks s n pn) (track_ends_well s n)
+    track_taken zeroth s n pn = takes_walked track_app zeroth _ refl (track_end s n) (track_walks s n pn) (track_ends_well s n)
 
     pub track_found : (zeroth : List ℕ) (s : Scale) (n : Option (List ℕ)) → IfSome n IsPlainWord → FindsTrack (matches_of track_app (zeroth ∷ a ∷ b ∷ c ∷ behind s n)) a b c s n
-    track_found zeroth s n pn = subst (λ (rows : List Row). FindsTrack rows a b c s n) (matches_walked track_app refl zeroth _ (track_end s n) (track_walks s n pn)) (track_told s n)
+    track_found zeroth s n pn = subst (λ (rows : List Row). FindsTrack rows a b c s n) (matches_walked track_app zeroth _ refl (track_end s n) (track_walks s n pn)) (track_told s n)
 
 -- ---- the words of `convert`
 
@@ -201,10 +201,10 @@ module _ (a b : List ℕ) where
     convert_walks s n pn = walks_on convert_app _ _ _ (a ∷ b ∷ []) (behind s n) convert_to_files (convert_to_end s n pn)
 
     pub convert_taken : (zeroth : List ℕ) (s : Scale) (n : Option (List ℕ)) → IfSome n IsPlainWord → takes convert_app (zeroth ∷ a ∷ b ∷ behind s n) ≡ true
-    convert_taken zeroth s n pn = takes_walked convert_app refl zeroth _ (convert_end s n) (convert_walks s n pn) (convert_ends_well s n)
+    convert_taken zeroth s n pn = takes_walked convert_app zeroth _ refl (convert_end s n) (convert_walks s n pn) (convert_ends_well s n)
 
     pub convert_found : (zeroth : List ℕ) (s : Scale) (n : Option (List ℕ)) → IfSome n IsPlainWord → FindsConvert (matches_of convert_app (zeroth ∷ a ∷ b ∷ behind s n)) a b s n
-    convert_found zeroth s n pn = subst (λ (rows : List Row). FindsConvert rows a b s n) (matches_walked convert_app refl zeroth _ (convert_end s n) (convert_walks s n pn)) (convert_told s n)
+    convert_found zeroth s n pn = subst (λ (rows : List Row). FindsConvert rows a b s n) (matches_walked convert_app zeroth _ refl (convert_end s n) (convert_walks s n pn)) (convert_told s n)
 
 -- ---- the words of `measure` and of `prove`
 
@@ -244,10 +244,10 @@ module _ (name : List ℕ) (a b : List ℕ) where
     log_walks s n pn = walks_on (log_app name) _ _ _ (a ∷ b ∷ []) (behind s n) log_to_files (log_to_end s n pn)
 
     pub log_taken : (zeroth : List ℕ) (s : Scale) (n : Option (List ℕ)) → IfSome n IsPlainWord → takes (log_app name) (zeroth ∷ a ∷ b ∷ behind s n) ≡ true
-    log_taken zeroth s n pn = takes_walked (log_app name) refl zeroth _ (log_end s n) (log_walks s n pn) (log_ends_well s n)
+    log_taken zeroth s n pn = takes_walked (log_app name) zeroth _ refl (log_end s n) (log_walks s n pn) (log_ends_well s n)
 
     pub log_found : (zeroth : List ℕ) (s : Scale) (n : Option (List ℕ)) → IfSome n IsPlainWord → FindsLog (matches_of (log_app name) (zeroth ∷ a ∷ b ∷ behind s n)) a b s n
-    log_found zeroth s n pn = subst (λ (rows : List Row). FindsLog rows a b s n) (matches_walked (log_app name) refl zeroth _ (log_end s n) (log_walks s n pn)) (log_told s n)
+    log_found zeroth s n pn = subst (λ (rows : List Row). FindsLog rows a b s n) (matches_walked (log_app name) zeroth _ refl (log_end s n) (log_walks s n pn)) (log_told s n)
 
 -- ---- the words of `verify`
 
@@ -287,10 +287,10 @@ module _ (a b c : List ℕ) where
     verify_walks s n pn = walks_on verify_app _ _ _ (a ∷ b ∷ c ∷ []) (behind s n) verify_to_files (verify_to_end s n pn)
 
     pub verify_taken : (zeroth : List ℕ) (s : Scale) (n : Option (List ℕ)) → IfSome n IsPlainWord → takes verify_app (zeroth ∷ a ∷ b ∷ c ∷ behind s n) ≡ true
-    verify_taken zeroth s n pn = takes_walked verify_app refl zeroth _ (verify_end s n) (verify_walks s n pn) (verify_ends_well s n)
+    verify_taken zeroth s n pn = takes_walked verify_app zeroth _ refl (verify_end s n) (verify_walks s n pn) (verify_ends_well s n)
 
     pub verify_found : (zeroth : List ℕ) (s : Scale) (n : Option (List ℕ)) → IfSome n IsPlainWord → FindsVerify (matches_of verify_app (zeroth ∷ a ∷ b ∷ c ∷ behind s n)) a b c s n
-    verify_found zeroth s n pn = subst (λ (rows : List Row). FindsVerify rows a b c s n) (matches_walked verify_app refl zeroth _ (verify_end s n) (verify_walks s n pn)) (verify_told s n)
+    verify_found zeroth s n pn = subst (λ (rows : List Row). FindsVerify rows a b c s n) (matches_walked verify_app zeroth _ refl (verify_end s n) (verify_walks s n pn)) (verify_told s n)
 
 -- ---- the words of `replay`
 
@@ -353,19 +353,19 @@ module _ (a b c : List ℕ) where
     replay_walks s n pn = walks_on replay_app _ _ _ (a ∷ b ∷ c ∷ []) (behind s n) replay_to_files (replay_to_end s n pn)
 
     pub replay_taken : (zeroth : List ℕ) (s : Scale) (n : Option (List ℕ)) → IfSome n IsPlainWord → takes replay_app (zeroth ∷ a ∷ b ∷ c ∷ behind s n) ≡ true
-    replay_taken zeroth s n pn = takes_walked replay_app refl zeroth _ (replay_end s n) (replay_walks s n pn) (replay_ends_well s n)
+    replay_taken zeroth s n pn = takes_walked replay_app zeroth _ refl (replay_end s n) (replay_walks s n pn) (replay_ends_well s n)
 
     pub replay_found : (zeroth : List ℕ) (s : Scale) (n : Option (List ℕ)) → IfSome n IsPlainWord → FindsReplay (matches_of replay_app (zeroth ∷ a ∷ b ∷ c ∷ behind s n)) a b c s n None
-    replay_found zeroth s n pn = subst (λ (rows : List Row). FindsReplay rows a b c s n None) (matches_walked replay_app refl zeroth _ (replay_end s n) (replay_walks s n pn)) (replay_told s n)
+    replay_found zeroth s n pn = subst (λ (rows : List Row). FindsReplay rows a b c s n None) (matches_walked replay_app zeroth _ refl (replay_end s n) (replay_walks s n pn)) (replay_told s n)
 
     only_walks : (s : Scale) (n : Option (List ℕ)) (k : List ℕ) → IfSome n IsPlainWord → IsPlainWord k → Walks replay_app (start replay_app) (a ∷ b ∷ c ∷ behind s n ++ codes "--only" ∷ k ∷ []) (only_end s n k)
     only_walks s n k pn pk = walks_on replay_app _ _ _ (a ∷ b ∷ c ∷ behind s n) (codes "--only" ∷ k ∷ []) (replay_walks s n pn) (only_to_end s n k pk)
 
     pub only_taken : (zeroth : List ℕ) (s : Scale) (n : Option (List ℕ)) (k : List ℕ) → IfSome n IsPlainWord → IsPlainWord k → takes replay_app (zeroth ∷ a ∷ b ∷ c ∷ behind s n ++ codes "--only" ∷ k ∷ []) ≡ true
-    only_taken zeroth s n k pn pk = takes_walked replay_app refl zeroth _ (only_end s n k) (only_walks s n k pn pk) (only_ends_well s n k)
+    only_taken zeroth s n k pn pk = takes_walked replay_app zeroth _ refl (only_end s n k) (only_walks s n k pn pk) (only_ends_well s n k)
 
     pub only_found : (zeroth : List ℕ) (s : Scale) (n : Option (List ℕ)) (k : List ℕ) → IfSome n IsPlainWord → IsPlainWord k → FindsReplay (matches_of replay_app (zeroth ∷ a ∷ b ∷ c ∷ behind s n ++ codes "--only" ∷ k ∷ [])) a b c s n (Some k)
-    only_found zeroth s n k pn pk = subst (λ (rows : List Row). FindsReplay rows a b c s n (Some k)) (matches_walked replay_app refl zeroth _ (only_end s n k) (only_walks s n k pn pk)) (only_told s n k)
+    only_found zeroth s n k pn pk = subst (λ (rows : List Row). FindsReplay rows a b c s n (Some k)) (matches_walked replay_app zeroth _ refl (only_end s n k) (only_walks s n k pn pk)) (only_told s n k)
 
 -- ---- the words of `check`
 
@@ -405,7 +405,7 @@ module _ (a : List ℕ) where
     check_walks s n pn = walks_on check_app _ _ _ (a ∷ []) (behind s n) check_to_files (check_to_end s n pn)
 
     pub check_taken : (zeroth : List ℕ) (s : Scale) (n : Option (List ℕ)) → IfSome n IsPlainWord → takes check_app (zeroth ∷ a ∷ behind s n) ≡ true
-    check_taken zeroth s n pn = takes_walked check_app refl zeroth _ (check_end s n) (check_walks s n pn) (check_ends_well s n)
+    check_taken zeroth s n pn = takes_walked check_app zeroth _ refl (check_end s n) (check_walks s n pn) (check_ends_well s n)
 
     pub check_found : (zeroth : List ℕ) (s : Scale) (n : Option (List ℕ)) → IfSome n IsPlainWord → FindsCheck (matches_of check_app (zeroth ∷ a ∷ behind s n)) a s n
-    check_found zeroth s n pn = subst (λ (rows : List Row). FindsCheck rows a s n) (matches_walked check_app refl zeroth _ (check_end s n) (check_walks s n pn)) (check_told s n)
+    check_found zeroth s n pn = subst (λ (rows : List Row). FindsCheck rows a s n) (matches_walked check_app zeroth _ refl (check_end s n) (check_walks s n pn)) (check_told s n)

@@ -5,8 +5,8 @@ use Rattle.clap.specs.declared.parser.matches.ArgMatches.{ArgMatches}
 use Rattle.clap.specs.Words.{App, HasMatchesOf, Rule, first_of, matches_of, new_app, new_rule, takes, with_rule}
 use Rattle.std.specs.Option.{option_map}
 use Rattle.std.specs.Str.{bytes_eq}
-use Rattle.mesh_base.specs.declared.limits.Scale.{Scale}
-use Rattle.mesh_base.specs.declared.limits.Scale.TheVariants.{Standard, Large}
+use Rattle.mesh_base.specs.declared.Scale.{Scale}
+use Rattle.mesh_base.specs.declared.Scale.TheVariants.{Standard, Large}
 use Rattle.track_input.specs.Words.{LogNames, Named, Measure, Prove, track_in, convert_in, try_in, log_in, verify_in, replay_in, check_in}
 use Rattle.track_input.specs.Taken.{behind, options_behind}
 

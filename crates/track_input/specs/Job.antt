@@ -7,7 +7,7 @@ use Rattle.mesh_base.specs.declared.PairName.{PairName}
 use Rattle.mesh_base.specs.declared.ShapeFault.{ShapeFault}
 use Rattle.mesh_base.specs.declared.FileWord.TheVariants as file
 use Rattle.mesh_base.specs.Mesh.{Mesh}
-use Rattle.mesh_base.specs.declared.limits.Scale.{Scale}
+use Rattle.mesh_base.specs.declared.Scale.{Scale}
 use Rattle.mesh_base.specs.Given.{mesh_under}
 use Rattle.mesh_base.specs.Placements.{rest_positions}
 use Rattle.mesh_base.specs.Failing.{first_meeting}

@@ -1,6 +1,6 @@
 -- What a fetch of a file answers.
 use Rattle.std.specs.Prelude.{ℕ, ◌≤◌, ◌<◌, List, length, Option}
-use Rattle.mesh_base.specs.declared.limits.Scale.{Scale}
+use Rattle.mesh_base.specs.declared.Scale.{Scale}
 use Rattle.mesh_base.specs.Limits.{text_most}
 use Rattle.log_text.specs.declared.TheConstants.{SEEN_MAX}
 use Rattle.outside_io.specs.Desk.{Files, HoldsFile, HoldsNoFile, HoldsAtLeast}

@@ -5,8 +5,8 @@ use Rattle.std.specs.List.{ends_with}
 use Rattle.std.specs.Option.{option_and_then, option_map}
 use Rattle.std.specs.Str.{bytes_eq}
 use Rattle.grid_base.specs.declared.TheConstants.{DECIMALS_MAX}
-use Rattle.mesh_base.specs.declared.limits.Scale.{Scale}
-use Rattle.mesh_base.specs.declared.limits.Scale.TheVariants.{Standard, Large}
+use Rattle.mesh_base.specs.declared.Scale.{Scale}
+use Rattle.mesh_base.specs.declared.Scale.TheVariants.{Standard, Large}
 use Rattle.line_text.specs.Spellings.{spelled_number}
 use Rattle.track_input.specs.declared.command.TheConstants.{CUBES_MAX}
 use Rattle.track_input.specs.declared.mesh_file.Format.{Format}
