@@ -1,18 +1,20 @@
 -- No edit and no line changes the limits of a mesh.
-use Rattle.std.proofs.Common.{◌≡◌, ℕ, Bool, true, false, ◌&&◌, ◌||◌, ◌==◌, not, List, [], ◌∷◌, drop, refl, ◌∙◌}
+use Rattle.std.proofs.Common.{◌≡◌, ℕ, Bool, true, false, ◌&&◌, ◌||◌, ◌==◌, not, List, [], ◌∷◌, drop, refl, sym, subst, ◌∙◌, arith}
 use Rattle.std.specs.List.{AllByRecursion, filter, zip, flat_map}
 use Rattle.std.specs.FinMap as finite
 use Rattle.grid_base.specs.declared.Point.{Point}
 use Rattle.mesh_base.specs.declared.Limits.{Limits}
+use Rattle.mesh_base.specs.declared.Scale.{Scale}
+use Rattle.mesh_base.specs.Limits.{limits_of}
 use Rattle.mesh_base.specs.Mesh.{Mesh}
 use Rattle.mesh_base.specs.Changes.{with_vertex, with_point}
 use Rattle.mesh_base.specs.Sides.{has_corner, faces_where, faces_at}
 use Rattle.mesh_base.proofs.Moves.{limits-with_moves}
 use Rattle.edit_base.specs.declared.Change.{Change}
 use Rattle.edit_base.specs.declared.Change.TheVariants.{Split, Flip, Collapse, Zip, Pinch}
-use Rattle.edit_base.specs.Edges.{edge_of, faces_beside, without_faces}
+use Rattle.edit_base.specs.Edges.{edge_of, without_faces}
 use Rattle.edit_acts.proofs.Sound.{limits-with_faces}
-use Rattle.edit_split.specs.Split.{split_faces}
+use Rattle.edit_split.specs.Split.{faces_beside, split_faces}
 use Rattle.edit_flip.specs.Flip.{flip_faces}
 use Rattle.edit_collapse.specs.Collapse.{without_shared, joined_faces, without_bare, has_face, has_solid_end, collapse_mesh}
 use Rattle.edit_collapse.proofs.CollapseMesh.{dropped_next, placed_next}
@@ -25,7 +27,7 @@ use Rattle.edit_any.specs.Dispatch.{edited}
 use Rattle.log_text.specs.declared.LogLine.{LogLine}
 use Rattle.log_text.specs.declared.LogLine.TheVariants as line
 use Rattle.log_replay.specs.Replay.{Replay, replayed, closed, after, at_mesh}
-use Rattle.log_replay.specs.Laws.{HasLimits, LimitsStay, MeshesKeepLimits}
+use Rattle.log_replay.specs.Laws.{HaveLimits, LimitsStay, MeshesKeepLimits, IsWithin, LimitsStayWithin, MeshesAreWithin}
 
 -- ---- edits
 limits-collapsed : (m : Mesh) (a b : ℕ) (at : Point) → (collapse_mesh m a b at).limits ≡ m.limits
@@ -55,26 +57,40 @@ limits-edited m (Zip a b e f turn) =
 limits-edited m (Pinch v at copies) = limits-copied v (with_point m v at) (zip (drop 1 (fans m v)) (copy_points copies))
 
 -- ---- lines
-limits-closed : (limits : Limits) (kept : Bool) (stack : List Mesh) (r : Replay) → HasLimits limits r → AllByRecursion (λ m. m.limits ≡ limits) stack → HasLimits limits (closed kept stack r)
-limits-closed limits kept [] r h all = h
-limits-closed limits true (m ∷ outer) r h all = record { mesh = h.mesh; groups = all.1 }
-limits-closed limits false (m ∷ outer) r h all = record { mesh = all.0; groups = all.1 }
+module _ (Are : Limits → Type 0) where
+  limits-closed : (kept : Bool) (stack : List Mesh) (r : Replay) → HaveLimits Are r → AllByRecursion (λ m. Are m.limits) stack → HaveLimits Are (closed kept stack r)
+  limits-closed kept [] r h all = h
+  limits-closed true (m ∷ outer) r h all = record { mesh = h.mesh; groups = all.1 }
+  limits-closed false (m ∷ outer) r h all = record { mesh = all.0; groups = all.1 }
 
--- one line
-pub limits-replayed : (limits : Limits) (r : Replay) (l : LogLine) → HasLimits limits r → HasLimits limits (replayed r l)
-limits-replayed limits r (line.Step k) h = record { mesh = h.mesh; groups = h.groups }
-limits-replayed limits r (line.Solid v) h = record { mesh = h.mesh; groups = h.groups }
-limits-replayed limits r (line.Move s) h = record { mesh = h.mesh; groups = h.groups }
-limits-replayed limits r (line.Moved how) h = record { mesh = limits-with_moves r.mesh r.moves ∙ h.mesh; groups = h.groups }
-limits-replayed limits r (line.Did change) h = record { mesh = limits-edited r.mesh change ∙ h.mesh; groups = h.groups }
-limits-replayed limits r line.Group h = record { mesh = h.mesh; groups = (h.mesh, h.groups) }
-limits-replayed limits r (line.Close kept) h = limits-closed limits kept r.stack r h h.groups
-limits-replayed limits r _ h = h
+  -- one line
+  pub limits-replayed : (r : Replay) (l : LogLine) → HaveLimits Are r → HaveLimits Are (replayed r l)
+  limits-replayed r (line.Step k) h = record { mesh = h.mesh; groups = h.groups }
+  limits-replayed r (line.Solid v) h = record { mesh = h.mesh; groups = h.groups }
+  limits-replayed r (line.Move s) h = record { mesh = h.mesh; groups = h.groups }
+  limits-replayed r (line.Moved how) h = record { mesh = subst Are (sym (limits-with_moves r.mesh r.moves)) h.mesh; groups = h.groups }
+  limits-replayed r (line.Did change) h = record { mesh = subst Are (sym (limits-edited r.mesh change)) h.mesh; groups = h.groups }
+  limits-replayed r line.Group h = record { mesh = h.mesh; groups = (h.mesh, h.groups) }
+  limits-replayed r (line.Close kept) h = limits-closed kept r.stack r h h.groups
+  limits-replayed r _ h = h
 
--- and so several
-pub limits-after : LimitsStay
-limits-after limits r [] h = h
-limits-after limits r (l ∷ ls) h = limits-after limits (replayed r l) ls (limits-replayed limits r l h)
+  -- and so several
+  pub limits-after : (r : Replay) (lines : List LogLine) → HaveLimits Are r → HaveLimits Are (after r lines)
+  limits-after r [] h = h
+  limits-after r (l ∷ ls) h = limits-after (replayed r l) ls (limits-replayed r l h)
+
+pub limits_stay : LimitsStay
+limits_stay limits r lines h = limits-after (λ l. l ≡ limits) r lines h
 
 pub limits-after_lines : MeshesKeepLimits
-limits-after_lines m lines = (limits-after m.limits (at_mesh m) lines (record { mesh = refl; groups = tt })).mesh
+limits-after_lines m lines = (limits-after (λ l. l ≡ m.limits) (at_mesh m) lines (record { mesh = refl; groups = tt })).mesh
+
+-- ---- the limits of a scale
+pub limits_stay_within : LimitsStayWithin
+limits_stay_within scale r lines h = limits-after (IsWithin scale) r lines h
+
+pub within_large : MeshesAreWithin
+within_large m sound = record { vertices = sound.limits.greatest.0; faces = sound.limits.greatest.1 }
+
+pub within_same : (scale : Scale) (limits : Limits) → limits ≡ limits_of scale → IsWithin scale limits
+within_same scale limits same = subst (IsWithin scale) (sym same) (record { vertices = omega arith; faces = omega arith })

@@ -1,8 +1,11 @@
 -- Laws of replays.
-use Rattle.std.specs.Prelude.{◌≡◌, List, ◌++◌}
+use Rattle.std.specs.Prelude.{◌≡◌, ◌≤◌, List, ◌++◌}
 use Rattle.std.specs.List.{AllByRecursion}
 use Rattle.mesh_base.specs.declared.Limits.{Limits}
-use Rattle.mesh_base.specs.Mesh.{Mesh}
+use Rattle.mesh_base.specs.declared.Scale.{Scale}
+use Rattle.mesh_base.specs.declared.Scale.TheVariants.{Large}
+use Rattle.mesh_base.specs.Limits.{limits_of}
+use Rattle.mesh_base.specs.Mesh.{Mesh, IsSound}
 use Rattle.log_text.specs.declared.LogLine.{LogLine}
 use Rattle.log_replay.specs.Replay.{Replay, after, mesh_after_lines}
 use Rattle.log_replay.specs.OfPass.{AreOfPass}
@@ -16,18 +19,32 @@ abbrev pub PassesChangeTheMeshAlone : Type 0
 PassesChangeTheMeshAlone = (r : Replay) (lines : List LogLine) → AreOfPass lines →
     after r lines ≡ record r { mesh = mesh_after_lines r.mesh lines }
 
--- the mesh of a replay, and each at which an open group was opened, may have so many
--- vertices and faces
-pub record HasLimits (limits : Limits) (r : Replay) : Type 0 where
-  pub mesh : r.mesh.limits ≡ limits
-  pub groups : AllByRecursion (λ m. m.limits ≡ limits) r.stack
+-- the limits of each mesh of a replay are such: of the one so far, and of those at which its open
+-- groups were opened
+pub record HaveLimits (Are : Limits → Type 0) (r : Replay) : Type 0 where
+  pub mesh : Are r.mesh.limits
+  pub groups : AllByRecursion (λ m. Are m.limits) r.stack
 
--- no line changes how many vertices and faces there may be
+-- no line changes the limits
 abbrev pub LimitsStay : Type 0
-LimitsStay = (limits : Limits) (r : Replay) (lines : List LogLine) → HasLimits limits r →
-    HasLimits limits (after r lines)
+LimitsStay = (limits : Limits) (r : Replay) (lines : List LogLine) →
+    HaveLimits (λ l. l ≡ limits) r → HaveLimits (λ l. l ≡ limits) (after r lines)
 
 -- so the mesh that lines make of a mesh has its limits
 abbrev pub MeshesKeepLimits : Type 0
 MeshesKeepLimits =
     (m : Mesh) (lines : List LogLine) → (mesh_after_lines m lines).limits ≡ m.limits
+
+-- they allow no more vertices and faces than those of a scale
+pub record IsWithin (scale : Scale) (limits : Limits) : Type 0 where
+  pub vertices : limits.vertices ≤ (limits_of scale).vertices
+  pub faces : limits.faces ≤ (limits_of scale).faces
+
+-- so no line leads beyond the limits of a scale
+abbrev pub LimitsStayWithin : Type 0
+LimitsStayWithin = (scale : Scale) (r : Replay) (lines : List LogLine) →
+    HaveLimits (IsWithin scale) r → HaveLimits (IsWithin scale) (after r lines)
+
+-- every sound mesh is within the greatest limits
+abbrev pub MeshesAreWithin : Type 0
+MeshesAreWithin = (m : Mesh) → IsSound m → IsWithin Large m.limits

@@ -1,4 +1,4 @@
-ghost use Rattle.std.specs.Prelude.{◌≡◌, ◌≤◌, ◌<◌, ◌^◌, length, ◌∷◌, [], IfOk};
+ghost use Rattle.std.specs.Prelude.{◌≡◌, ◌≤◌, ◌^◌, length, ◌∷◌, [], IfOk};
 ghost use Rattle.grid_base.specs.declared.TheConstants.{TEXT_MAX};
 ghost use Rattle.line_text.specs.Faults.{Gives, at_line};
 ghost use Rattle.proof_text.specs.Laws.{AreProofs, IsGood};
@@ -50,7 +50,7 @@ fn with_last(
     last: &[u8],
     number: u32,
 ) -> Result<Proofs, ReadFault>
-    requires few { number < 2 ^ 31 }
+    requires few { number ≤ 2 ^ 31 }
     requires good { IsGood (proofs_view motions) (state_view state) }
     ensures { Gives proofs_view result (spec.parts_add
         (spec.so_far (proofs_view motions) (state_view state)) number (last.now ∷ [])) }

@@ -15,7 +15,6 @@ use Rattle.mesh_base.specs.declared.How.{How}
 use Rattle.mesh_base.specs.declared.How.TheVariants.{Whole, Impulse, Zones, Halved, Zero}
 use Rattle.mesh_base.specs.declared.UseWhy.{UseWhy}
 use Rattle.mesh_base.specs.declared.UseWhy.TheVariants.{ShiftRange, NoField}
-use Rattle.mesh_base.specs.Limits.{limits_of}
 use Rattle.mesh_base.specs.Mesh.{Mesh, IsSound, IsLiveVertex, is_solid}
 use Rattle.mesh_base.specs.Pairs.{edges}
 use Rattle.mesh_base.specs.Shifts.{Shifts}
@@ -36,7 +35,7 @@ use Rattle.log_text.specs.declared.LogLine.{LogLine}
 use Rattle.log_text.specs.declared.LogLine.TheVariants.{Solid, Group as GroupLine, Close, End, Refused as RefusedLine}
 use Rattle.log_text.specs.declared.Refusal.TheVariants.{StepUse}
 use Rattle.log_read.specs.Laws.{IsFrom, IsPairInRange, IsHowInRange, IsUseInRange}
-use Rattle.log_replay.specs.Laws.{HasLimits}
+use Rattle.log_replay.specs.Laws.{HaveLimits, IsWithin}
 use Rattle.log_replay.proofs.Limits.{limits-after}
 use Rattle.pass_run.specs.PassLines.{terms_of}
 use Rattle.run_laws.specs.Names.{IsId, IsBlockInRange}
@@ -157,7 +156,7 @@ module _ (scale : Scale) (s : State) (room : HasRoomFor scale 1 s) where
   unfolding taken
   way_in_range =
       let now = room.kept.now in
-      ways_in_range scale meets_exactly s.mesh s.asked s.set _ _ meets_exactly-is_exact room.scaled.mesh sound now.good.clear now.names room.limits (taken_first s.mesh s.asked s.set sound now.good.clear now.names)
+      ways_in_range scale meets_exactly s.mesh s.asked s.set _ _ meets_exactly-is_exact room.within.mesh sound now.good.clear now.names room.limits (taken_first s.mesh s.asked s.set sound now.good.clear now.names)
 
   lines_of_a_step : first_outside s.mesh s.asked ≡ None → AreInRange scale (step_lines s)
   lines_of_a_step inside =
@@ -211,7 +210,7 @@ module _ (scale : Scale) (s : State) (room : HasRoomFor scale 1 s) where
   effect_good given directive.Fit range = by_fit given
   effect_good given directive.Save range =
       let count = room.saved in
-      (one_line scale (mesh_line s.saved s.mesh) (mesh_in_range scale s.mesh s.saved room.scaled.mesh sound (omega (arith, count))), record { limits = room.limits; steps = omega arith; saved = omega arith })
+      (one_line scale (mesh_line s.saved s.mesh) (mesh_in_range scale s.mesh s.saved room.within.mesh sound (omega (arith, count))), record { limits = room.limits; steps = omega arith; saved = omega arith })
   effect_good given directive.Group range = (one_line scale GroupLine (tt, tt), record { limits = room.limits; steps = omega arith; saved = omega arith })
   effect_good given directive.Close range = by_close s.groups
 
@@ -228,12 +227,12 @@ fewer : (scale : Scale) (n : ℕ) (s : State) → HasRoomFor scale (suc n) s →
 fewer scale n s room =
     let a = room.steps in
     let b = room.saved in
-    record { kept = room.kept; scaled = room.scaled; limits = room.limits; steps = omega (arith, a); saved = omega (arith, b) }
+    record { kept = room.kept; within = room.within; limits = room.limits; steps = omega (arith, a); saved = omega (arith, b) }
 
 -- no line changes the limits of the run's meshes
-scaled_next : (scale : Scale) (given : Answer) (d : Directive) (s next : State) (lines : List LogLine) → HasLimits (limits_of scale) (standing s) → effect_of given d s ≡ Proceeds lines next → HasLimits (limits_of scale) (standing next)
-scaled_next scale given d s next lines scaled goes =
-    subst (HasLimits (limits_of scale)) (effect_replayed given d s next lines goes) (limits-after (limits_of scale) (standing s) lines scaled)
+pub within_next : (scale : Scale) (given : Answer) (d : Directive) (s next : State) (lines : List LogLine) → HaveLimits (IsWithin scale) (standing s) → effect_of given d s ≡ Proceeds lines next → HaveLimits (IsWithin scale) (standing next)
+within_next scale given d s next lines within goes =
+    subst (HaveLimits (IsWithin scale)) (effect_replayed given d s next lines goes) (limits-after (IsWithin scale) (standing s) lines within)
 
 all_good : (scale : Scale) (answers : Answers) (steps : List Placed) (s : State) → HasRoomFor scale (length steps) s → AllByRecursion IsPlacedInRange steps → AreInRange scale (log_from answers steps s).lines
 all_good scale answers [] s room placed = one_line scale End (tt, tt)
@@ -248,7 +247,7 @@ all_good scale answers (one ∷ more) s room placed =
         let c = on.steps in
         let d = on.saved in
         All-append (MayFollow scale) lines (log_from (later answers) more next).lines good.0
-        (others next (record { kept = kept_next (first answers) one.what s next lines room.kept e; scaled = scaled_next scale (first answers) one.what s next lines room.scaled e; limits = on.limits; steps = omega (arith, a, c); saved = omega (arith, b, d) }))
+        (others next (record { kept = kept_next (first answers) one.what s next lines room.kept e; within = within_next scale (first answers) one.what s next lines room.within e; limits = on.limits; steps = omega (arith, a, c); saved = omega (arith, b, d) }))
     by_effect (Refused why) e good others = one_line scale (RefusedLine (StepUse one.line why)) ((placed.0.0, good), tt)
     by_effect (Unanswered lines) e good others = All-append (MayFollow scale) lines [] good (no_lines scale)
 

@@ -57,9 +57,9 @@ pub inputs_in_range : InputsAreInRange
 inputs_in_range job mesh steps = by_files job.scale job.decimals job.mesh_file job.step_file mesh steps
 
 pub mesh_logs_in_range : LogsOfMeshesAreInRange
-mesh_logs_in_range scale answers m steps same good counted =
+mesh_logs_in_range scale answers m steps within good counted =
     let few = counted.few in
-    All-cons (MayFollow scale) (mesh_line 0 m) (log_from answers steps (start m)).lines (mesh_in_range scale m 0 same good.sound (omega arith))
+    All-cons (MayFollow scale) (mesh_line 0 m) (log_from answers steps (start m)).lines (mesh_in_range scale m 0 within good.sound (omega arith))
     (logs_in_range scale answers steps (start m)
-    (record { kept = kept_start m good; scaled = record { mesh = same; groups = tt }; limits = record { depth = omega arith; passes = omega arith; halvings = omega arith }; steps = omega (arith, few); saved = omega (arith, few) })
+    (record { kept = kept_start m good; within = record { mesh = within; groups = tt }; limits = record { depth = omega arith; passes = omega arith; halvings = omega arith }; steps = omega (arith, few); saved = omega (arith, few) })
     counted.placed)

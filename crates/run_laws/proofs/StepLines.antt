@@ -1,7 +1,6 @@
 -- The lines of a step and of a mesh are in range.
-use Rattle.std.proofs.Common.{[], map, ap, arith}
+use Rattle.std.proofs.Common.{[], map, arith}
 use Rattle.std.proofs.lemmas.List.Elements.{All-cons, All-nil, All-append, All-map, All-weaker}
-use Rattle.mesh_base.specs.declared.Limits.{Limits}
 use Rattle.mesh_base.specs.Mesh.{IsLiveVertex}
 use Rattle.log_text.specs.declared.log_line.LogLine.TheVariants.{Step, Hit, Block, Move, Moved}
 use Rattle.log_read.specs.Laws.{IsPairInRange}
@@ -19,7 +18,4 @@ step_in_range scale m k pairs blocks moves how sound number hits grouped live ho
     (All-append (MayFollow scale) (map (λ p. Hit p) pairs) _ hitting (All-append (MayFollow scale) (map (λ ids. Block ids) blocks) _ blocked (All-append (MayFollow scale) (map (λ s. Move s) moves) _ moving moved)))
 
 pub mesh_in_range : MeshLinesAreInRange
-mesh_in_range scale m k same sound number =
-    let vertices = ap (λ (l : Limits). l.vertices) same in
-    let faces = ap (λ (l : Limits). l.faces) same in
-    ((number, omega (arith, sound.limits.vertices, vertices), omega (arith, sound.limits.faces, faces)), tt)
+mesh_in_range scale m k within sound number = ((number, omega (arith, sound.limits.vertices, within.vertices), omega (arith, sound.limits.faces, within.faces)), tt)

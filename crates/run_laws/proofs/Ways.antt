@@ -13,8 +13,6 @@ use Rattle.grid_base.specs.declared.Shift.{Shift}
 use Rattle.grid_base.specs.Points.{shift_by}
 use Rattle.grid_base.specs.SeparationTests.{IsExact}
 use Rattle.mesh_base.specs.declared.Scale.{Scale}
-use Rattle.mesh_base.specs.declared.Limits.{Limits}
-use Rattle.mesh_base.specs.Limits.{limits_of}
 use Rattle.mesh_base.specs.declared.How.TheVariants.{Whole, Impulse, Zones, Halved, Zero}
 use Rattle.mesh_base.specs.declared.steps.ShiftOf.{ShiftOf}
 use Rattle.mesh_base.specs.Mesh.{Mesh, IsSound}
@@ -28,6 +26,7 @@ use Rattle.step_zones.proofs.Rounds.{few_rounds}
 use Rattle.step_zones.proofs.Searched.{rounds_left}
 use Rattle.log_read.specs.Reading.{rounds_most}
 use Rattle.log_read.specs.Laws.{IsFrom}
+use Rattle.log_replay.specs.Laws.{IsWithin}
 use Rattle.run_laws.specs.Lines.{WaysAreInRange}
 use Rattle.run_laws.proofs.Blocks.{above, keys_rising}
 
@@ -80,19 +79,18 @@ module _ (meets : Positions → Bool) (m : Mesh) (asked : Shifts) (depth round :
       by_round zero e = absurd (fails (first_round meets m asked depth (ap (round_hits meets m asked depth) (sym e) ∙ none)))
       by_round (suc r) e = omega arith
 
-  round_in_range : (scale : Scale) → m.limits ≡ limits_of scale → IsExact meets → IsSound m → IsClearMesh m → NameLive m asked → ¬ (failing meets m asked depth ≡ []) → IsFirstToServe meets m asked depth round → IsFrom 1 (rounds_most scale) round
-  round_in_range scale same exact sound clear named fails first =
+  round_in_range : (scale : Scale) → IsWithin scale m.limits → IsExact meets → IsSound m → IsClearMesh m → NameLive m asked → ¬ (failing meets m asked depth ≡ []) → IsFirstToServe meets m asked depth round → IsFrom 1 (rounds_most scale) round
+  round_in_range scale within exact sound clear named fails first =
       let low = later_round fails first.none_fails in
       let most = rounds_left meets m asked depth round exact sound clear named first.each_fails in
       let some : finite.keys m.points ≢ [] = λ none. let e = ap length none in omega arith in
       let high = few_rounds meets m asked depth round exact sound clear named some first.each_fails in
       let few = vertices_are_few m sound in
-      let most_of = ap (λ (l : Limits). l.vertices) same in
-      (low, omega arith)
+      (low, omega (arith, within.vertices))
 
 pub ways_in_range : WaysAreInRange
-ways_in_range scale meets m asked set Whole taken exact same sound clear named limits first = tt
-ways_in_range scale meets m asked set (Impulse passes) taken exact same sound clear named limits first = let most = limits.passes in (first.some, omega (arith, first.within))
-ways_in_range scale meets m asked set (Zones round) taken exact same sound clear named limits first = round_in_range meets m asked set.depth round scale same exact sound clear named first.not_whole first.first
-ways_in_range scale meets m asked set (Halved times) taken exact same sound clear named limits first = let most = limits.halvings in (first.some, omega (arith, first.within))
-ways_in_range scale meets m asked set Zero taken exact same sound clear named limits first = tt
+ways_in_range scale meets m asked set Whole taken exact within sound clear named limits first = tt
+ways_in_range scale meets m asked set (Impulse passes) taken exact within sound clear named limits first = let most = limits.passes in (first.some, omega (arith, first.within))
+ways_in_range scale meets m asked set (Zones round) taken exact within sound clear named limits first = round_in_range meets m asked set.depth round scale within exact sound clear named first.not_whole first.first
+ways_in_range scale meets m asked set (Halved times) taken exact within sound clear named limits first = let most = limits.halvings in (first.some, omega (arith, first.within))
+ways_in_range scale meets m asked set Zero taken exact within sound clear named limits first = tt

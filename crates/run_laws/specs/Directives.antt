@@ -2,14 +2,13 @@
 use Rattle.std.specs.Prelude.{ℕ, ◌+◌, ◌≤◌, List, length}
 use Rattle.std.specs.List.{All}
 use Rattle.mesh_base.specs.declared.Scale.{Scale}
-use Rattle.mesh_base.specs.Limits.{limits_of}
 use Rattle.step_choose.specs.Settings.{AreWithinLimits}
 use Rattle.step_text.specs.declared.Directive.{Directive}
 use Rattle.step_text.specs.declared.Placed.{Placed}
 use Rattle.step_text.specs.Ranges.{IsInRange}
 use Rattle.log_text.specs.declared.TheConstants.{COUNT_MAX}
 use Rattle.log_read.specs.Laws.{IsUseInRange}
-use Rattle.log_replay.specs.Laws.{HasLimits}
+use Rattle.log_replay.specs.Laws.{HaveLimits, IsWithin}
 use Rattle.run_laws.specs.Lines.{AreInRange}
 use Rattle.run_laws.specs.Texts.{IsPlacedInRange}
 use Rattle.track_engine.specs.State.{State, standing}
@@ -17,11 +16,11 @@ use Rattle.track_engine.specs.Answers.{Answer, Answers}
 use Rattle.track_engine.specs.Effects.{Effect, Proceeds, Refused, Unanswered, effect_of, log_from}
 use Rattle.track_engine.specs.Invariant.{IsRunInvariant}
 
--- the run stands as each directive leaves it, its meshes have the limits of a scale, and its numbers
--- have room for so many directives more
+-- the run stands as each directive leaves it, its meshes are within the limits of a scale, and its
+-- numbers have room for so many directives more
 pub record HasRoomFor (scale : Scale) (count : ℕ) (s : State) : Type 0 where
   pub kept : IsRunInvariant s
-  pub scaled : HasLimits (limits_of scale) (standing s)
+  pub within : HaveLimits (IsWithin scale) (standing s)
   pub limits : AreWithinLimits s.set
   pub steps : s.steps + count ≤ COUNT_MAX
   pub saved : s.saved + count ≤ COUNT_MAX

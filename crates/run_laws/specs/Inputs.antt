@@ -1,9 +1,8 @@
 -- What the two files of a job give is in the log's ranges, as statements.
-use Rattle.std.specs.Prelude.{◌≡◌, ℕ, ◌+◌, ◌≤◌, List, ◌∷◌, length, Result, Ok, Err}
+use Rattle.std.specs.Prelude.{ℕ, ◌+◌, ◌≤◌, List, ◌∷◌, length, Result, Ok, Err}
 use Rattle.std.specs.List.{All}
 use Rattle.grid_base.specs.declared.TheConstants.{TEXT_MAX}
 use Rattle.mesh_base.specs.declared.Scale.{Scale}
-use Rattle.mesh_base.specs.Limits.{limits_of}
 use Rattle.mesh_base.specs.Mesh.{Mesh, IsSound}
 use Rattle.mesh_base.specs.Sides.{IsClosed}
 use Rattle.mesh_base.specs.Valid.{IsValidSurface}
@@ -11,6 +10,7 @@ use Rattle.step_text.specs.declared.Placed.{Placed}
 use Rattle.log_text.specs.declared.Refusal.{Refusal}
 use Rattle.log_text.specs.declared.TheConstants.{COUNT_MAX, SEEN_MAX}
 use Rattle.log_read.specs.Laws.{IsRefusalInRange}
+use Rattle.log_replay.specs.Laws.{IsWithin}
 use Rattle.run_laws.specs.Lines.{AreInRange}
 use Rattle.run_laws.specs.Texts.{IsPlacedInRange}
 use Rattle.track_input.specs.Source.{Source, Bytes, Absent, TooLong}
@@ -48,10 +48,10 @@ InputsAreInRange =
     (job : Job) → IsSeen job.mesh_file → IsSeen job.step_file →
     IsInputInRange job.scale (input_of job)
 
--- the log of a mesh with the limits of a scale and of directives, from the line of the mesh on,
+-- the log of a mesh within the limits of a scale and of directives, from the line of the mesh on,
 -- whatever is given to the directives
 abbrev pub LogsOfMeshesAreInRange : Type 0
 LogsOfMeshesAreInRange =
     (scale : Scale) (answers : Answers) (m : Mesh) (steps : List Placed) →
-    m.limits ≡ limits_of scale → IsValidSurface m → AreCounted steps →
+    IsWithin scale m.limits → IsValidSurface m → AreCounted steps →
     AreInRange scale (mesh_line 0 m ∷ (log_from answers steps (start m)).lines)

@@ -1,5 +1,5 @@
 -- The lines of a pass, of a step and of a mesh are in the log's ranges, as statements.
-use Rattle.std.specs.Prelude.{◌≡◌, ℕ, ◌≤◌, Bool, List, [], ◌∷◌, ◌++◌, map, take}
+use Rattle.std.specs.Prelude.{ℕ, ◌≤◌, Bool, List, [], ◌∷◌, ◌++◌, map, take}
 use Rattle.std.specs.List.{All, AllByRecursion}
 use Rattle.std.specs.FinMap as finite
 use Rattle.grid_base.specs.declared.Positions.{Positions}
@@ -7,7 +7,6 @@ use Rattle.grid_base.specs.SeparationTests.{IsExact}
 use Rattle.mesh_base.specs.declared.Scale.{Scale}
 use Rattle.mesh_base.specs.declared.How.{How}
 use Rattle.mesh_base.specs.declared.ids.PairName.{PairName}
-use Rattle.mesh_base.specs.Limits.{limits_of}
 use Rattle.mesh_base.specs.Mesh.{Mesh, IsSound, IsLiveVertex}
 use Rattle.mesh_base.specs.Sides.{IsClosed}
 use Rattle.mesh_base.specs.Pairs.{edges}
@@ -23,6 +22,7 @@ use Rattle.log_text.specs.declared.TheConstants.{COUNT_MAX}
 use Rattle.log_text.specs.declared.log_line.LogLine.{LogLine}
 use Rattle.log_text.specs.declared.log_line.LogLine.TheVariants.{Step, Hit, Block, Move, Moved, Mesh as MeshLine}
 use Rattle.log_read.specs.Laws.{IsFrom, IsPairInRange, IsHowInRange, IsPassInRange, IsAskedInRange, IsInRange, NamesNoOther}
+use Rattle.log_replay.specs.Laws.{IsWithin}
 use Rattle.pass_run.specs.declared.terms.PassTerms.{PassTerms}
 use Rattle.pass_run.specs.Candidates.{candidates}
 use Rattle.pass_run.specs.PassLines.{pass_lines, lines_from}
@@ -82,17 +82,17 @@ StepLinesAreInRange = (scale : Scale) (m : Mesh) (k : ℕ) (pairs : List PairNam
     All (λ s. IsLiveVertex m s.v) moves →
     IsHowInRange scale how → AreInRange scale (lines_of_step k pairs blocks moves how)
 
--- The way in which a step of a mesh with the limits of a scale is taken is in range: how many
+-- The way in which a step of a mesh within the limits of a scale is taken is in range: how many
 -- impulse passes or halvings there were, or which round of impact zones.
 abbrev pub WaysAreInRange : Type 0
 WaysAreInRange = (scale : Scale) (meets : Positions → Bool) (m : Mesh) (asked : Shifts) (set : Settings)
     (how : How) (taken : Shifts) →
-    IsExact meets → m.limits ≡ limits_of scale → IsSound m → IsClearMesh m → NameLive m asked →
+    IsExact meets → IsWithin scale m.limits → IsSound m → IsClearMesh m → NameLive m asked →
     AreWithinLimits set → IsFirstWay meets m asked set how taken → IsHowInRange scale how
 
 -- ---- meshes
 
--- the line of a sound mesh with the limits of a scale, with its live numbers
+-- the line of a sound mesh within the limits of a scale, with its live numbers
 abbrev pub MeshLinesAreInRange : Type 0
-MeshLinesAreInRange = (scale : Scale) (m : Mesh) (k : ℕ) → m.limits ≡ limits_of scale →
+MeshLinesAreInRange = (scale : Scale) (m : Mesh) (k : ℕ) → IsWithin scale m.limits →
     IsSound m → k ≤ COUNT_MAX → MayFollow scale (MeshLine k (finite.len m.points) (finite.len m.faces))
