@@ -1,5 +1,5 @@
 -- The lists of a written mesh are of good shape: its mesh, numbered anew, is sound.
-use Rattle.std.proofs.Common.{◌≡◌, ℕ, zero, suc, ◌+◌, ◌<◌, ◌≤◌, true, ◌==◌, ◌&&◌, T, List, [], ◌∷◌, length, map, Some, None, IsSome, is_some, refl, ap, sym, ◌∙◌, subst, arith, inl, inr, lit≤}
+use Rattle.std.proofs.Common.{◌≡◌, ℕ, zero, suc, ◌+◌, ◌<◌, ◌≤◌, true, ◌==◌, ◌&&◌, T, List, [], ◌∷◌, length, map, Some, None, IsSome, is_some, refl, ap, sym, ◌∙◌, subst, arith, inl, inr}
 use Rattle.std.specs.Prelude.{nat_le, slice_get}
 use Rattle.std.specs.List.{enumerate_from, AllByRecursion}
 use Rattle.std.specs.Ordering.{nat_cmp}
@@ -13,6 +13,7 @@ use Rattle.std.proofs.lemmas.List.Sums.{length-filter, count_by-le-length}
 use Rattle.grid_base.specs.declared.Point.{Point}
 use Rattle.grid_base.specs.Points.{position_of}
 use Rattle.mesh_base.specs.declared.Corners.{Corners}
+use Rattle.mesh_base.specs.declared.Scale.{Scale}
 use Rattle.mesh_base.specs.Mesh.{Mesh, IsSound, IsLiveVertex, HasCorners, AreLive, AreDifferent, equal_up_to_rotation}
 use Rattle.mesh_base.specs.Changes.{corners_of}
 use Rattle.mesh_base.specs.Sides.{IsClosed}
@@ -26,7 +27,8 @@ use Rattle.obj_text.specs.Written.{rank, ranks, ranked_lists}
 use Rattle.obj_text.specs.Laws.{renumbered}
 use Rattle.obj_text.proofs.RankBounds.{rank_is_some}
 use Rattle.obj_text.proofs.Renumbered.{rises_at}
-use Rattle.mesh_base.proofs.MeshLaws.{few_live_vertices, few_live_faces}
+use Rattle.mesh_base.proofs.MeshLaws.{few_live_vertices, few_live_faces, few_vertices_of, few_faces_of}
+use Rattle.track_engine.specs.Kept.{FitsScale}
 
 -- ---- lists
 -- what holds of each holds of the one at an index
@@ -69,9 +71,9 @@ is_number : (n v : ℕ) → 1 ≤ v → v ≤ n → (nat_le 1 v && nat_le v n) �
 is_number n v some few = rw (le-leb 1 v some, le-leb v n few) refl
 
 -- ---- the renumbered mesh
-module _ (m : Mesh) (sound : IsSound m) where
+module _ (scale : Scale) (m : Mesh) (sound : IsSound m) where
   abbrev again : Mesh
-  again = renumbered m
+  again = renumbered scale m
 
   abbrev ranked : Corners → Corners
   ranked c = corners_of (ranks m c)
@@ -178,8 +180,8 @@ module _ (m : Mesh) (sound : IsSound m) where
       let place = one_place (finite.entries m.faces) (entries_sorted m.faces) r.i s.i r.entry s.entry r.at s.at same in
       r.f-is ∙ ap (λ i. i + 1) place ∙ sym s.f-is
 
-  pub sound_again : IsSound again
-  sound_again =
+  pub sound_again : FitsScale scale m → IsSound again
+  sound_again fits =
       let few_points = few_live_vertices m sound in
       let few_faces = few_live_faces m sound in
       let points_length : length points ≡ finite.len m.points = length-map (finite.entries m.points) (λ e. e.1) ∙ sym (len-entries m.points) in
@@ -197,16 +199,16 @@ module _ (m : Mesh) (sound : IsSound m) where
           different_faces = faces_different;
         };
         limits = record {
-          greatest = (lit≤ tt, lit≤ tt);
-          vertices = omega arith;
-          faces = omega arith;
+          greatest = (few_vertices_of scale, few_faces_of scale);
+          vertices = omega (arith, fits.vertices);
+          faces = omega (arith, fits.faces);
           vertex_ids = omega arith;
           face_ids = omega arith;
         };
       }
 
   -- the lists that are written have no fault
-  pub shape_again : IsClosed again → shape_fault (length (ranked_lists m).points) (ranked_lists m).faces ≡ None
-  shape_again closed =
+  pub shape_again : FitsScale scale m → IsClosed again → shape_fault scale (length (ranked_lists m).points) (ranked_lists m).faces ≡ None
+  shape_again fits closed =
       let alike : length (ranked_lists m).points ≡ length points = length-map (finite.entries m.points) (λ e. position_of e.1) ∙ sym (length-map (finite.entries m.points) (λ e. e.1)) in
-      ap (λ n. shape_fault n faces) alike ∙ no_fault points faces sound_again closed
+      ap (λ n. shape_fault scale n faces) alike ∙ no_fault scale points faces (sound_again fits) closed

@@ -1,7 +1,7 @@
 pub mod Sources
 pub mod ReadLemmas
 mod PrepareLemmas
+mod Walking
 pub mod Walks
-mod BothOptions
 pub mod Among
 pub mod Readings

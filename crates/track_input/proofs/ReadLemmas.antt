@@ -5,7 +5,8 @@ use Rattle.grid_base.specs.declared.Point.{Point}
 use Rattle.grid_base.specs.Points.{position_of, point_at}
 use Rattle.grid_base.proofs.PointLaws.{point_at-position_of}
 use Rattle.mesh_base.specs.declared.MeshLists.{MeshLists}
-use Rattle.mesh_base.specs.Given.{mesh_of}
+use Rattle.mesh_base.specs.declared.Scale.{Scale}
+use Rattle.mesh_base.specs.Given.{mesh_under}
 use Rattle.mesh_plain.specs.Shape.{shape_fault}
 use Rattle.obj_text.specs.Obj.{lists_of}
 use Rattle.obj_text.specs.Views.{lists_view}
@@ -21,18 +22,18 @@ same_points [] = refl
 same_points (p ∷ points) = ap (λ q. q ∷ map point_at (map position_of points)) (point_at-position_of p) ∙ ap (λ l. p ∷ l) (same_points points)
 
 -- the mesh of the lists, seen as triples, is theirs
-pub same_mesh : (lists : MeshLists) → mesh_of_lists (lists_view lists) ≡ given lists
-same_mesh lists = ap (λ points. mesh_of points lists.faces) (same_points lists.points)
+pub same_mesh : (scale : Scale) (lists : MeshLists) → mesh_of_lists scale (lists_view lists) ≡ given scale lists
+same_mesh scale lists = ap (λ points. mesh_under scale points lists.faces) (same_points lists.points)
 
 -- as many points, seen as triples
-same_shape : (lists : MeshLists) → shape_fault (length (lists_view lists).points) (lists_view lists).faces ≡ shape_fault (length lists.points) lists.faces
-same_shape lists = ap (λ n. shape_fault n lists.faces) (length-map lists.points position_of)
+same_shape : (scale : Scale) (lists : MeshLists) → shape_fault scale (length (lists_view lists).points) (lists_view lists).faces ≡ shape_fault scale (length lists.points) lists.faces
+same_shape scale lists = ap (λ n. shape_fault scale n lists.faces) (length-map lists.points position_of)
 
-pub reads_yes : (decimals : ℕ) (mesh steps : List ℕ) (lists : MeshLists) (directives : List Placed) → lists_of decimals mesh ≡ Ok (lists_view lists) → AreGood lists → steps_of steps ≡ Ok directives → length directives < 2 ^ 31 → AreInRange directives
-    → Reads decimals mesh steps (ready.Yes lists directives)
-reads_yes decimals mesh steps lists directives read good taken few ranges = record {
-  input = ap (λ r. input_of_lists r steps) read
-      ∙ ap (λ o. input_of_shape (lists_view lists) o steps) (same_shape lists ∙ good)
+pub reads_yes : (scale : Scale) (decimals : ℕ) (mesh steps : List ℕ) (lists : MeshLists) (directives : List Placed) → lists_of decimals mesh ≡ Ok (lists_view lists) → AreGood scale lists → steps_of steps ≡ Ok directives → length directives < 2 ^ 31 → AreInRange directives
+    → Reads scale decimals mesh steps (ready.Yes lists directives)
+reads_yes scale decimals mesh steps lists directives read good taken few ranges = record {
+  input = ap (λ r. input_of_lists scale r steps) read
+      ∙ ap (λ o. input_of_shape (lists_view lists) o steps) (same_shape scale lists ∙ good)
       ∙ ap (input_of_steps (lists_view lists)) taken;
-  ready = record { mesh = sym (same_mesh lists) ∙ sym (ap mesh_read read); good = good; few = few; ranges = ranges };
+  ready = record { mesh = sym (same_mesh scale lists) ∙ sym (ap (mesh_read scale) read); good = good; few = few; ranges = ranges };
 }

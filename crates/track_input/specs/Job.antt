@@ -1,4 +1,5 @@
--- A job: two files and the decimals of the points, and what they give.
+-- A job: two files, the decimals of the points and how large its meshes and texts may be, and
+-- what they give.
 use Rattle.std.specs.Prelude.{◌≡◌, ℕ, List, [], length, map, Option, Some, None, Result, Ok, Err}
 use Rattle.grid_base.specs.Points.{point_at}
 use Rattle.grid_decided.specs.Decided.{meets_exactly}
@@ -6,7 +7,8 @@ use Rattle.mesh_base.specs.declared.PairName.{PairName}
 use Rattle.mesh_base.specs.declared.ShapeFault.{ShapeFault}
 use Rattle.mesh_base.specs.declared.FileWord.TheVariants as file
 use Rattle.mesh_base.specs.Mesh.{Mesh}
-use Rattle.mesh_base.specs.Given.{mesh_of}
+use Rattle.mesh_base.specs.declared.Scale.{Scale}
+use Rattle.mesh_base.specs.Given.{mesh_under}
 use Rattle.mesh_base.specs.Placements.{rest_positions}
 use Rattle.mesh_base.specs.Failing.{first_meeting}
 use Rattle.mesh_plain.specs.Shape.{shape_fault}
@@ -19,36 +21,38 @@ use Rattle.log_text.specs.declared.Refusal.TheVariants as refusal
 use Rattle.outside_io.specs.Desk.{Files}
 use Rattle.track_input.specs.Source.{Source, Bytes, Absent, TooLong, IsSource}
 
--- the two files, and the decimals of the points
+-- the two files, the decimals of the points, and how large its meshes and texts may be
 pub record Job : Type 0 where
   pub mesh_file : Source
   pub step_file : Source
+  pub scale : Scale
   pub decimals : ℕ
 
--- the job of two names and so many decimals, where the desk holds these files
-pub record IsJob (files : Option Files) (mesh_name step_name : List ℕ)
+-- the job of this scale, of two names and so many decimals, where the desk holds these files
+pub record IsJob (scale : Scale) (files : Option Files) (mesh_name step_name : List ℕ)
     (decimals : ℕ) (job : Job) : Type 0 where
-  pub mesh : IsSource files mesh_name job.mesh_file
-  pub steps : IsSource files step_name job.step_file
+  pub mesh : IsSource scale files mesh_name job.mesh_file
+  pub steps : IsSource scale files step_name job.step_file
+  pub scale_is : job.scale ≡ scale
   pub decimals_are : job.decimals ≡ decimals
 
--- the mesh of lists that a text gave
-abbrev pub mesh_of_lists : Lists → Mesh
-mesh_of_lists lists = mesh_of (map point_at lists.points) lists.faces
+-- the mesh of lists that a text gave, with the limits of a scale
+abbrev pub mesh_of_lists : Scale → Lists → Mesh
+mesh_of_lists scale lists = mesh_under scale (map point_at lists.points) lists.faces
 
 -- the mesh of the lists that were read, and the empty one where there was a fault
-abbrev pub mesh_read : Result Lists TextFault → Mesh
-mesh_read (Ok lists) = mesh_of_lists lists
-mesh_read (Err fault) = mesh_of [] []
+abbrev pub mesh_read : Scale → Result Lists TextFault → Mesh
+mesh_read scale (Ok lists) = mesh_of_lists scale lists
+mesh_read scale (Err fault) = mesh_under scale [] []
 
 -- the mesh that a file gives
-abbrev pub mesh_in : ℕ → Source → Mesh
-mesh_in decimals (Bytes bytes) = mesh_read (lists_of decimals bytes)
-mesh_in decimals _ = mesh_of [] []
+abbrev pub mesh_in : Scale → ℕ → Source → Mesh
+mesh_in scale decimals (Bytes bytes) = mesh_read scale (lists_of decimals bytes)
+mesh_in scale decimals _ = mesh_under scale [] []
 
 -- the mesh of a job; the empty one, where its file gives none
 abbrev pub mesh_of_job : Job → Mesh
-mesh_of_job job = mesh_in job.decimals job.mesh_file
+mesh_of_job job = mesh_in job.scale job.decimals job.mesh_file
 
 -- the first edge and face of a mesh that meet where its vertices stand
 abbrev pub met_first : Mesh → Option PairName
@@ -70,19 +74,20 @@ input_of_shape lists (Some fault) steps = Err (refusal.Shape fault)
 input_of_shape lists None steps = input_of_steps lists (steps_of steps)
 
 -- what it gives after the text of the mesh was read
-abbrev pub input_of_lists : Result Lists TextFault → List ℕ → Result Input Refusal
-input_of_lists (Err fault) steps = Err (refusal.Mesh fault)
-input_of_lists (Ok lists) steps =
-    input_of_shape lists (shape_fault (length lists.points) lists.faces) steps
+abbrev pub input_of_lists : Scale → Result Lists TextFault → List ℕ → Result Input Refusal
+input_of_lists scale (Err fault) steps = Err (refusal.Mesh fault)
+input_of_lists scale (Ok lists) steps =
+    input_of_shape lists (shape_fault scale (length lists.points) lists.faces) steps
 
 -- what two files give, or the first refusal
-abbrev pub input_of_files : ℕ → Source → Source → Result Input Refusal
-input_of_files decimals (TooLong seen) steps = Err (refusal.Long file.Mesh seen)
-input_of_files decimals Absent steps = Err (refusal.Missing file.Mesh)
-input_of_files decimals (Bytes mesh) (TooLong seen) = Err (refusal.Long file.Steps seen)
-input_of_files decimals (Bytes mesh) Absent = Err (refusal.Missing file.Steps)
-input_of_files decimals (Bytes mesh) (Bytes steps) = input_of_lists (lists_of decimals mesh) steps
+abbrev pub input_of_files : Scale → ℕ → Source → Source → Result Input Refusal
+input_of_files scale decimals (TooLong seen) steps = Err (refusal.Long file.Mesh seen)
+input_of_files scale decimals Absent steps = Err (refusal.Missing file.Mesh)
+input_of_files scale decimals (Bytes mesh) (TooLong seen) = Err (refusal.Long file.Steps seen)
+input_of_files scale decimals (Bytes mesh) Absent = Err (refusal.Missing file.Steps)
+input_of_files scale decimals (Bytes mesh) (Bytes steps) =
+    input_of_lists scale (lists_of decimals mesh) steps
 
 -- what a job gives, or the first refusal that applies, in the order in which the work is done
 abbrev pub input_of : Job → Result Input Refusal
-input_of job = input_of_files job.decimals job.mesh_file job.step_file
+input_of job = input_of_files job.scale job.decimals job.mesh_file job.step_file

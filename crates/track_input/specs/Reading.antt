@@ -2,7 +2,8 @@
 use Rattle.std.specs.Prelude.{◌≡◌, ◌<◌, ℕ, ◌^◌, List, length, Option, None, Result, Ok, Err}
 use Rattle.mesh_base.specs.declared.MeshLists.{MeshLists}
 use Rattle.mesh_base.specs.Mesh.{Mesh}
-use Rattle.mesh_base.specs.Given.{mesh_of}
+use Rattle.mesh_base.specs.declared.Scale.{Scale}
+use Rattle.mesh_base.specs.Given.{mesh_under}
 use Rattle.mesh_plain.specs.Shape.{shape_fault}
 use Rattle.obj_text.specs.Obj.{lists_of}
 use Rattle.obj_text.specs.Views.{lists_view}
@@ -14,13 +15,13 @@ use Rattle.track_input.specs.declared.reading.Ready.{Ready}
 use Rattle.track_input.specs.declared.reading.Ready.TheVariants as ready
 use Rattle.track_input.specs.Job.{Job, IsJob, Input, input_of, input_of_lists, mesh_of_job, mesh_read}
 
--- the mesh of lists that were read
-abbrev pub given : MeshLists → Mesh
-given lists = mesh_of lists.points lists.faces
+-- the mesh of lists that were read, with the limits of a scale
+abbrev pub given : Scale → MeshLists → Mesh
+given scale lists = mesh_under scale lists.points lists.faces
 
--- the lists are of good shape
-abbrev pub AreGood : MeshLists → Type 0
-AreGood lists = shape_fault (length lists.points) lists.faces ≡ None
+-- the lists are of good shape, and within these limits
+abbrev pub AreGood : Scale → MeshLists → Type 0
+AreGood scale lists = shape_fault scale (length lists.points) lists.faces ≡ None
 
 -- what was read, as a job gives it
 abbrev pub input_by : Ready → Result Input Refusal
@@ -29,27 +30,29 @@ input_by (ready.Yes lists steps) = Ok (record { lists = lists_view lists; steps 
 
 -- The lists are of good shape and make this mesh, and the directives are few
 -- and set nothing beyond its limits.
-pub record IsReadyAt (m : Mesh) (lists : MeshLists) (steps : List Placed) : Type 0 where
-  pub mesh : given lists ≡ m
-  pub good : AreGood lists
+pub record IsReadyAt (scale : Scale) (m : Mesh) (lists : MeshLists)
+    (steps : List Placed) : Type 0 where
+  pub mesh : given scale lists ≡ m
+  pub good : AreGood scale lists
   pub few : length steps < 2 ^ 31
   pub ranges : AreInRange steps
 
 -- what was read without a fault is ready
-abbrev pub IsReady : Mesh → Ready → Type 0
-IsReady m (ready.No why) = Unit {0}
-IsReady m (ready.Yes lists steps) = IsReadyAt m lists steps
+abbrev pub IsReady : Scale → Mesh → Ready → Type 0
+IsReady scale m (ready.No why) = Unit {0}
+IsReady scale m (ready.Yes lists steps) = IsReadyAt scale m lists steps
 
 -- what two texts give
-pub record Reads (decimals : ℕ) (mesh steps : List ℕ) (found : Ready) : Type 0 where
-  pub input : input_of_lists (lists_of decimals mesh) steps ≡ input_by found
-  pub ready : IsReady (mesh_read (lists_of decimals mesh)) found
+pub record Reads (scale : Scale) (decimals : ℕ) (mesh steps : List ℕ)
+    (found : Ready) : Type 0 where
+  pub input : input_of_lists scale (lists_of decimals mesh) steps ≡ input_by found
+  pub ready : IsReady scale (mesh_read scale (lists_of decimals mesh)) found
 
 -- what the files of two names give: what was read is what their job
 -- gives, and its mesh is the job's
-pub record Prepares (files : Option Files) (mesh_name step_name : List ℕ) (decimals : ℕ)
-    (found : Ready) : Type 0 where
+pub record Prepares (scale : Scale) (files : Option Files) (mesh_name step_name : List ℕ)
+    (decimals : ℕ) (found : Ready) : Type 0 where
   pub job : Job
-  pub is_job : IsJob files mesh_name step_name decimals job
+  pub is_job : IsJob scale files mesh_name step_name decimals job
   pub input : input_of job ≡ input_by found
-  pub ready : IsReady (mesh_of_job job) found
+  pub ready : IsReady scale (mesh_of_job job) found

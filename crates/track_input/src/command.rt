@@ -1,9 +1,9 @@
 ghost use Rattle.std.specs.Prelude.{◌≡◌, ◌≤◌, map, option_map, IfOk, IfSome, string_bytes};
 ghost use Rattle.clap.specs.Words.{found_of, first_value};
 ghost use Rattle.grid_base.specs.declared.TheConstants.{DECIMALS_MAX};
-ghost use Rattle.track_input.specs.Words.{is_decimals, decimals_in, number_in, options_in};
-ghost use Rattle.track_input.specs.Taken.{behind, options_behind, IsReading};
-ghost use Rattle.track_input.specs.Commands.{track_read, convert_read, try_read, log_read, measure_read, prove_read, verify_read, replay_read, check_read, track_app, convert_app, try_app, measure_app, prove_app, verify_app, replay_app, check_app, IsReadBy, IsReadExactly};
+ghost use Rattle.track_input.specs.Words.{is_decimals, decimals_in, told_in, number_in, options_in};
+ghost use Rattle.track_input.specs.Taken.{digit_words, behind, options_behind, IsReading};
+ghost use Rattle.track_input.specs.Commands.{scale_of, track_read, convert_read, try_read, log_read, measure_read, prove_read, verify_read, replay_read, check_read, track_app, convert_app, try_app, measure_app, prove_app, verify_app, replay_app, check_app, IsReadBy, IsReadExactly};
 ghost use Rattle.track_input.specs.Named.{named_by, log_names, IsInLimits};
 
 use crate::mesh_file::{MeshFile, is_file_word, mesh_file};
@@ -14,26 +14,29 @@ use crate::taking::{
 use clap::ArgMatches;
 use grid_base::{DECIMALS_MAX, NoMemory};
 use line_text::spelled_number;
+use mesh_base::Scale;
 use std::alloc::Global;
 
-/// The names of a mesh file and of the file of a log that begins with that mesh, and the decimals of the mesh's points.
+/// The names of a mesh file and of the file of a log that begins with that mesh, how large both may be, and the decimals of the mesh's
+/// points.
 #[derive(Clone, Copy)]
 pub struct LogFiles<'a> {
     pub mesh: &'a str,
     pub log: &'a str,
+    pub scale: Scale,
     pub decimals: u8,
 }
 
-/// The names of a mesh file and of the file of a log that begins with that mesh, the decimals of the mesh's points, and the name of the file
-/// of a proof of the log's motions.
+/// The names of a mesh file and of the file of a log that begins with that mesh, with what is told of them, and the name of the file of a
+/// proof of the log's motions.
 #[derive(Clone, Copy)]
 pub struct ProofFiles<'a> {
     pub files: LogFiles<'a>,
     pub proof: &'a str,
 }
 
-/// The names of a mesh file and of the file of a log that begins with that mesh, the decimals of the meshes' points, the prefix under which
-/// the meshes of the log are stored, and the number of the one that is, where it is one alone.
+/// The names of a mesh file and of the file of a log that begins with that mesh, with what is told of them, the prefix under which the
+/// meshes of the log are stored, and the number of the one that is, where it is one alone.
 #[derive(Clone, Copy)]
 pub struct ReplayFiles<'a> {
     pub files: LogFiles<'a>,
@@ -44,18 +47,20 @@ pub struct ReplayFiles<'a> {
 /// What the words of a command line ask for.
 #[derive(Clone, Copy)]
 pub enum Command<'a> {
-    /// A mesh is tracked: the names of its file and of the step file, the prefix under which meshes are stored, and the decimals of
-    /// their points.
+    /// A mesh is tracked: the names of its file and of the step file, the prefix under which meshes are stored, how large files and meshes
+    /// may be, and the decimals of their points.
     Track {
         mesh: &'a str,
         steps: &'a str,
         prefix: &'a str,
+        scale: Scale,
         decimals: u8,
     },
-    /// The mesh of a file is stored in another, and the decimals of its points.
+    /// The mesh of a file is stored in another; how large both may be, and the decimals of its points.
     Convert {
         from: MeshFile<'a>,
         to: MeshFile<'a>,
+        scale: Scale,
         decimals: u8,
     },
     /// A job of so many cubes along an edge is made by a key and run, and its log is summed up.
@@ -71,9 +76,10 @@ pub enum Command<'a> {
     Verify(ProofFiles<'a>),
     /// The meshes of a log are made again and stored.
     Replay(ReplayFiles<'a>),
-    /// It is told what is wrong with the mesh of a file, and the decimals of its points.
+    /// It is told what is wrong with the mesh of a file; how large it may be, and the decimals of its points.
     Check {
         mesh: MeshFile<'a>,
+        scale: Scale,
         decimals: u8,
     },
 }
@@ -89,7 +95,7 @@ fn is_decimals(word: &[u8]) -> bool
 
 // The decimals that N tells, or 0 where there is none.
 fn decimals_of(digit: Option<&str>) -> Option<u8>
-    ensures told { result ≡ decimals_in (behind (option_map (λ s. s.now) digit.entry)) }
+    ensures told { result ≡ decimals_in (digit_words (option_map (λ s. s.now) digit.entry)) }
     ensures few { IfSome result (λ decimals. decimals ≤ DECIMALS_MAX) }
 {
     match digit {
@@ -105,6 +111,26 @@ fn decimals_of(digit: Option<&str>) -> Option<u8>
     }
 }
 
+// The scale that the value of `--large` tells.
+fn scale_of(flag: Option<&str>) -> Scale
+    ensures { result ≡ scale_of (option_map (λ s. s.now) flag.entry) }
+{
+    match flag {
+        Some("true") => Scale::Large,
+        _ => Scale::Standard,
+    }
+}
+
+// The scale that `--large` tells, and the decimals that N tells, or 0 where there is none.
+fn told_of(flag: Option<&str>, digit: Option<&str>) -> Option<(Scale, u8)>
+    ensures told { result ≡ told_in (behind (scale_of (option_map (λ s. s.now) flag.entry))
+        (option_map (λ s. s.now) digit.entry)) }
+    ensures few { IfSome result (λ told. told.1 ≤ DECIMALS_MAX) }
+{
+    let decimals = decimals_of(digit)?;
+    Some((scale_of(flag), decimals))
+}
+
 // The command of the words that were found after `track`.
 fn track_read<'a>(found: &ArgMatches<'a>) -> Option<Command<'a>>
     ensures command { option_map named_by result ≡ track_read (first_value (found_of found.now)) }
@@ -116,12 +142,13 @@ fn track_read<'a>(found: &ArgMatches<'a>) -> Option<Command<'a>>
     if !(is_file_word(mesh) && (is_file_word(steps) && is_file_word(prefix))) {
         return None;
     }
-    let decimals = decimals_of(found.get_str("decimals"))?;
+    let told = told_of(found.get_str("large"), found.get_str("decimals"))?;
     Some(Command::Track {
         mesh,
         steps,
         prefix,
-        decimals,
+        scale: told.0,
+        decimals: told.1,
     })
 }
 
@@ -132,8 +159,13 @@ fn convert_read<'a>(found: &ArgMatches<'a>) -> Option<Command<'a>>
 {
     let from = mesh_file(found.get_str("from")?)?;
     let to = mesh_file(found.get_str("to")?)?;
-    let decimals = decimals_of(found.get_str("decimals"))?;
-    Some(Command::Convert { from, to, decimals })
+    let told = told_of(found.get_str("large"), found.get_str("decimals"))?;
+    Some(Command::Convert {
+        from,
+        to,
+        scale: told.0,
+        decimals: told.1,
+    })
 }
 
 // The number from `low` to `high` that digits write, with no sign and no needless zero in front.
@@ -173,11 +205,12 @@ fn log_read<'a>(found: &ArgMatches<'a>) -> Option<LogFiles<'a>>
     if !(is_file_word(mesh) && is_file_word(log)) {
         return None;
     }
-    let decimals = decimals_of(found.get_str("decimals"))?;
+    let told = told_of(found.get_str("large"), found.get_str("decimals"))?;
     Some(LogFiles {
         mesh,
         log,
-        decimals,
+        scale: told.0,
+        decimals: told.1,
     })
 }
 
@@ -210,27 +243,33 @@ fn verify_read<'a>(found: &ArgMatches<'a>) -> Option<Command<'a>>
     if !(is_file_word(mesh) && (is_file_word(log) && is_file_word(proof))) {
         return None;
     }
-    let decimals = decimals_of(found.get_str("decimals"))?;
+    let told = told_of(found.get_str("large"), found.get_str("decimals"))?;
     let files = LogFiles {
         mesh,
         log,
-        decimals,
+        scale: told.0,
+        decimals: told.1,
     };
     Some(Command::Verify(ProofFiles { files, proof }))
 }
 
-// The decimals that N tells, or 0 where there is none, and the number that K tells, or none.
-fn options_of(digit: Option<&str>, number: Option<&str>) -> Option<(u8, Option<u32>)>
-    ensures told { result ≡ options_in (options_behind
+// The scale that `--large` tells, the decimals that N tells, or 0 where there is none, and the number that K tells, or none.
+fn options_of(
+    flag: Option<&str>,
+    digit: Option<&str>,
+    number: Option<&str>,
+) -> Option<(Scale, u8, Option<u32>)>
+    ensures told { result ≡ options_in (options_behind (scale_of (option_map (λ s. s.now) flag.entry))
         (option_map (λ s. s.now) digit.entry) (option_map (λ s. s.now) number.entry)) }
-    ensures few { IfSome result (λ told. told.0 ≤ DECIMALS_MAX) }
+    ensures few { IfSome result (λ told. told.1 ≤ DECIMALS_MAX) }
 {
     let decimals = decimals_of(digit)?;
+    let scale = scale_of(flag);
     match number {
-        None => Some((decimals, None)),
+        None => Some((scale, decimals, None)),
         Some(word) => {
             let only = number_in(0, u32::MAX, word)?;
-            Some((decimals, Some(only)))
+            Some((scale, decimals, Some(only)))
         }
     }
 }
@@ -246,16 +285,21 @@ fn replay_read<'a>(found: &ArgMatches<'a>) -> Option<Command<'a>>
     if !(is_file_word(mesh) && (is_file_word(log) && is_file_word(prefix))) {
         return None;
     }
-    let told = options_of(found.get_str("decimals"), found.get_str("only"))?;
+    let told = options_of(
+        found.get_str("large"),
+        found.get_str("decimals"),
+        found.get_str("only"),
+    )?;
     let files = LogFiles {
         mesh,
         log,
-        decimals: told.0,
+        scale: told.0,
+        decimals: told.1,
     };
     Some(Command::Replay(ReplayFiles {
         files,
         prefix,
-        only: told.1,
+        only: told.2,
     }))
 }
 
@@ -265,8 +309,12 @@ fn check_read<'a>(found: &ArgMatches<'a>) -> Option<Command<'a>>
     ensures few { IfSome result IsInLimits }
 {
     let mesh = mesh_file(found.get_str("mesh")?)?;
-    let decimals = decimals_of(found.get_str("decimals"))?;
-    Some(Command::Check { mesh, decimals })
+    let told = told_of(found.get_str("large"), found.get_str("decimals"))?;
+    Some(Command::Check {
+        mesh,
+        scale: told.0,
+        decimals: told.1,
+    })
 }
 
 // The command of words whose first is `track`.
@@ -366,11 +414,12 @@ fn check_in<'a>(alloc: Global, words: &'a [String]) -> Result<Option<Command<'a>
 }
 
 /// The command that the words are read as: `track MESH STEPS PREFIX`, `convert FROM TO`, `measure MESH LOG`, `prove MESH LOG`,
-/// `verify MESH LOG PROOF`, `replay MESH LOG PREFIX` or `check MESH`, or one of these and `--decimals N` with one digit N from 0 to 6,
-/// `replay` too with `--only K` after that, or `try N KEY`. A file word is not empty and has no dash in front, and that of `check` and both of
-/// `convert` end in `.obj`, `.off` or `.ply`. N of `try` is 1 to 12, and K and KEY are 0 to 4,294,967,295, digits with no needless zero in
-/// front. Words of no such form are taken as one of the same first word whose words are among them (options may stand before the files, as
-/// `--decimals=N` and `--only=K` too), or they are no command. NoMemory at any words.
+/// `verify MESH LOG PROOF`, `replay MESH LOG PREFIX` or `check MESH`, or one of these and `--large`, which is of large files and meshes,
+/// `--decimals N` with one digit N from 0 to 6, or both in this order, `replay` too with `--only K` after that, or `try N KEY`. A file
+/// word is not empty and has no dash in front, and that of `check` and both of `convert` end in `.obj`, `.off` or `.ply`. N of `try` is 1
+/// to 12, and K and KEY are 0 to 4,294,967,295, digits with no needless zero in front. Words of no such form are taken as one of the same
+/// first word whose words are among them (options may stand before the files and in any order, as `--decimals=N` and `--only=K` too), or
+/// they are no command. NoMemory at any words.
 pub fn command_of<'a>(alloc: Global, words: &'a [String]) -> Result<Option<Command<'a>>, NoMemory>
     ensures read { let texts = map (λ word. string_bytes word) words.entry.now in
         IfOk result (λ found. IsReading texts (option_map named_by found)) }

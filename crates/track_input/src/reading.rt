@@ -7,7 +7,7 @@ use crate::fetching::fetch_text;
 use grid_base::NoMemory;
 use line_text::ReadFault;
 use log_text::Refusal;
-use mesh_base::{FileWord, MeshLists, ShapeRefusal};
+use mesh_base::{FileWord, MeshLists, Scale, ShapeRefusal};
 use mesh_plain::shape;
 use obj_text::read_obj;
 use outside_io::{Fetched, Outside, Stop};
@@ -24,18 +24,24 @@ pub enum Ready {
 }
 
 // Reads both texts.
-fn read_all(alloc: Global, decimals: u8, mesh: &[u8], steps: &[u8]) -> Result<Ready, NoMemory>
+fn read_all(
+    alloc: Global,
+    scale: Scale,
+    decimals: u8,
+    mesh: &[u8],
+    steps: &[u8],
+) -> Result<Ready, NoMemory>
     requires few { decimals ≤ DECIMALS_MAX }
     requires mesh_length { length mesh.now ≤ TEXT_MAX }
     requires step_length { length steps.now ≤ TEXT_MAX }
-    ensures { IfOk result (Reads decimals mesh.now steps.now) }
+    ensures { IfOk result (Reads scale decimals mesh.now steps.now) }
 {
     let lists = match read_obj(alloc, mesh, decimals) {
         Ok(lists) => lists,
         Err(ReadFault::NoMemory) => return Err(NoMemory),
         Err(ReadFault::Text(fault)) => return Ok(Ready::No(Refusal::Mesh(fault))),
     };
-    match shape(alloc, &lists) {
+    match shape(alloc, scale, &lists) {
         Ok(()) => {}
         Err(ShapeRefusal::NoMemory) => return Err(NoMemory),
         Err(ShapeRefusal::Shape(fault)) => return Ok(Ready::No(Refusal::Shape(fault))),
@@ -47,10 +53,11 @@ fn read_all(alloc: Global, decimals: u8, mesh: &[u8], steps: &[u8]) -> Result<Re
     }
 }
 
-/// Fetches and reads a mesh file and a step file, the points with so many decimals. Both files are fetched before a text is read, the
-/// mesh file first. Nothing is written or stored.
+/// Fetches and reads a mesh file and a step file, the points with so many decimals, both files and the mesh within the limits of a scale.
+/// Both files are fetched before a text is read, the mesh file first. Nothing is written or stored.
 pub fn prepare<O: Outside>(
     alloc: Global,
+    scale: Scale,
     mesh_name: &str,
     step_name: &str,
     decimals: u8,
@@ -58,10 +65,10 @@ pub fn prepare<O: Outside>(
 ) -> Result<Ready, Stop>
     requires few { decimals ≤ DECIMALS_MAX }
     ensures prepares { let files = (O.around outside.old).world.holds.files in
-        IfOk result (Prepares files mesh_name.now step_name.now decimals) }
+        IfOk result (Prepares scale files mesh_name.now step_name.now decimals) }
     ensures looks { OnlyLooks (O.around outside.old) (O.around outside.new) result }
 {
-    let mesh = match fetch_text(alloc, outside, mesh_name)? {
+    let mesh = match fetch_text(alloc, scale, outside, mesh_name)? {
         Fetched::Bytes(bytes) => bytes,
         Fetched::Absent => {
             return Ok(Ready::No(Refusal::Missing {
@@ -75,7 +82,7 @@ pub fn prepare<O: Outside>(
             }));
         }
     };
-    let steps = match fetch_text(alloc, outside, step_name)? {
+    let steps = match fetch_text(alloc, scale, outside, step_name)? {
         Fetched::Bytes(bytes) => bytes,
         Fetched::Absent => {
             return Ok(Ready::No(Refusal::Missing {
@@ -89,5 +96,5 @@ pub fn prepare<O: Outside>(
             }));
         }
     };
-    Ok(read_all(alloc, decimals, &mesh, &steps)?)
+    Ok(read_all(alloc, scale, decimals, &mesh, &steps)?)
 }

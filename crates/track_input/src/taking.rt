@@ -1,6 +1,6 @@
 ghost use Rattle.std.specs.Prelude.{◌≡◌, IfOk, false, map, string_bytes};
 ghost use Rattle.clap.specs.Words.{app_of, rule_of};
-ghost use Rattle.track_input.specs.Commands.{given_rule, decimals_rule, only_rule, pair_app, track_app, convert_app, try_app, log_app, verify_app, replay_app, check_app, IsFound};
+ghost use Rattle.track_input.specs.Commands.{given_rule, large_rule, decimals_rule, only_rule, pair_app, with_options, track_app, convert_app, try_app, log_app, verify_app, replay_app, check_app, IsFound};
 
 use clap::error::ErrorKind;
 use clap::{Arg, ArgAction, ArgMatches, Command};
@@ -13,6 +13,16 @@ fn given<'a>(alloc: Global, id: &'a str) -> Arg<'a>
     ensures local { result.global ≡ false }
 {
     Arg::new(alloc, id).required(true).action(ArgAction::Set)
+}
+
+// `--large`.
+fn large<'a>(alloc: Global) -> Arg<'a>
+    ensures rule { rule_of result ≡ large_rule }
+    ensures local { result.global ≡ false }
+{
+    Arg::new(alloc, "large")
+        .long("large")
+        .action(ArgAction::SetTrue)
 }
 
 // `--decimals N`.
@@ -49,20 +59,26 @@ fn pair_command<'a>(
         .arg(given(alloc, second))
 }
 
+// Takes `--large` and `--decimals N` too.
+fn with_options<'a>(alloc: Global, command: Command<'a>) -> Result<Command<'a>, AllocError>
+    ensures { IfOk result (λ whole. app_of whole ≡ with_options (app_of command.entry)) }
+{
+    command.arg(large(alloc))?.arg(decimals(alloc))
+}
+
 // Takes the words of `track`, the first of them included.
 pub(crate) fn track_command<'a>(alloc: Global) -> Result<Command<'a>, AllocError>
     ensures { IfOk result (λ command. app_of command ≡ track_app) }
 {
-    pair_command(alloc, "track", "mesh", "steps")?
-        .arg(given(alloc, "prefix"))?
-        .arg(decimals(alloc))
+    let files = pair_command(alloc, "track", "mesh", "steps")?.arg(given(alloc, "prefix"))?;
+    with_options(alloc, files)
 }
 
 // Takes the words of `convert`, the first of them included.
 pub(crate) fn convert_command<'a>(alloc: Global) -> Result<Command<'a>, AllocError>
     ensures { IfOk result (λ command. app_of command ≡ convert_app) }
 {
-    pair_command(alloc, "convert", "from", "to")?.arg(decimals(alloc))
+    with_options(alloc, pair_command(alloc, "convert", "from", "to")?)
 }
 
 // Takes the words of `try`, the first of them included.
@@ -76,36 +92,33 @@ pub(crate) fn try_command<'a>(alloc: Global) -> Result<Command<'a>, AllocError>
 pub(crate) fn log_command<'a>(alloc: Global, name: &'a str) -> Result<Command<'a>, AllocError>
     ensures { IfOk result (λ command. app_of command ≡ log_app name.entry.now) }
 {
-    pair_command(alloc, name, "mesh", "log")?.arg(decimals(alloc))
+    with_options(alloc, pair_command(alloc, name, "mesh", "log")?)
 }
 
 // Takes the words of `verify`, the first of them included.
 pub(crate) fn verify_command<'a>(alloc: Global) -> Result<Command<'a>, AllocError>
     ensures { IfOk result (λ command. app_of command ≡ verify_app) }
 {
-    pair_command(alloc, "verify", "mesh", "log")?
-        .arg(given(alloc, "proof"))?
-        .arg(decimals(alloc))
+    let files = pair_command(alloc, "verify", "mesh", "log")?.arg(given(alloc, "proof"))?;
+    with_options(alloc, files)
 }
 
 // Takes the words of `replay`, the first of them included.
 pub(crate) fn replay_command<'a>(alloc: Global) -> Result<Command<'a>, AllocError>
     ensures { IfOk result (λ command. app_of command ≡ replay_app) }
 {
-    pair_command(alloc, "replay", "mesh", "log")?
-        .arg(given(alloc, "prefix"))?
-        .arg(decimals(alloc))?
-        .arg(only(alloc))
+    let files = pair_command(alloc, "replay", "mesh", "log")?.arg(given(alloc, "prefix"))?;
+    with_options(alloc, files)?.arg(only(alloc))
 }
 
 // Takes the words of `check`, the first of them included.
 pub(crate) fn check_command<'a>(alloc: Global) -> Result<Command<'a>, AllocError>
     ensures { IfOk result (λ command. app_of command ≡ check_app) }
 {
-    Command::new(alloc, "check")
+    let file = Command::new(alloc, "check")
         .disable_help_flag(true)
-        .arg(given(alloc, "mesh"))?
-        .arg(decimals(alloc))
+        .arg(given(alloc, "mesh"))?;
+    with_options(alloc, file)
 }
 
 // What a command finds of the words; None where it does not take them.

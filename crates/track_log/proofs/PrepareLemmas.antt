@@ -9,12 +9,14 @@ use Rattle.mesh_base.specs.declared.MeshLists.{MeshLists}
 use Rattle.mesh_base.specs.declared.FileWord.TheVariants as file
 use Rattle.mesh_base.specs.declared.PairName.{PairName}
 use Rattle.mesh_base.specs.declared.ShapeFault.{ShapeFault}
+use Rattle.mesh_base.specs.declared.Scale.{Scale}
 use Rattle.mesh_base.specs.Mesh.{Mesh}
 use Rattle.mesh_base.specs.Valid.{IsValidSurface}
 use Rattle.mesh_base.specs.Placements.{IsClearMesh}
+use Rattle.mesh_base.proofs.MeshLaws.{small_texts_of}
 use Rattle.mesh_plain.specs.Shape.{shape_fault}
-use Rattle.mesh_plain.proofs.Lists.{sound-mesh_of}
-use Rattle.mesh_plain.proofs.Faults.{closed-mesh_of}
+use Rattle.mesh_plain.proofs.Lists.{sound-mesh_under}
+use Rattle.mesh_plain.proofs.Faults.{closed-mesh_under}
 use Rattle.mesh_journal.specs.Journal.{mesh_in}
 use Rattle.line_text.specs.declared.TextFault.{TextFault}
 use Rattle.obj_text.specs.Obj.{lists_of}
@@ -53,136 +55,136 @@ few_in_text : (lines : List LogLine) → length lines ≤ length (text_of_lines 
 few_in_text [] = omega arith
 few_in_text (line ∷ lines) = omega (arith, few_in_text lines, text_of_line-some line, length-append (text_of_line line) (text_of_lines lines))
 
-pub few_lines : (log : List ℕ) (lines : List LogLine) → log_of log ≡ Ok lines → length log ≤ TEXT_MAX → length lines < 2 ^ 31
-few_lines log lines e small =
-    let text : text_of_lines lines ≡ log = ((logs_are_their_lines_lem log lines).0 e).1 in
+pub few_lines : (scale : Scale) (log : List ℕ) (lines : List LogLine) → log_of scale log ≡ Ok lines → length log ≤ TEXT_MAX → length lines < 2 ^ 31
+few_lines scale log lines e small =
+    let text : text_of_lines lines ≡ log = ((logs_are_their_lines_lem scale log lines).0 e).1 in
     omega (arith, few_in_text lines, ap length text)
 
 -- ---- the texts
 
-pub reads_lines : (lists : MeshLists) (log : List ℕ) (lines : List LogLine) → AreGood lists → length log ≤ TEXT_MAX → log_of log ≡ Ok lines → ReadsLines lists log (texts.Yes lists lines)
-reads_lines lists log lines good small e = record {
+pub reads_lines : (scale : Scale) (lists : MeshLists) (log : List ℕ) (lines : List LogLine) → AreGood scale lists → length log ≤ TEXT_MAX → log_of scale log ≡ Ok lines → ReadsLines scale lists log (texts.Yes lists lines)
+reads_lines scale lists log lines good small e = record {
   texts = ap (read_of_log (lists_view lists)) e;
-  good = (good, few_lines log lines e small);
+  good = (good, few_lines scale log lines e small);
 }
 
-pub reads_no_lines : (lists : MeshLists) (log : List ℕ) (fault : TextFault) → log_of log ≡ Err fault → ReadsLines lists log (texts.No (Log fault))
-reads_no_lines lists log fault e = record { texts = ap (read_of_log (lists_view lists)) e; good = tt }
+pub reads_no_lines : (scale : Scale) (lists : MeshLists) (log : List ℕ) (fault : TextFault) → log_of scale log ≡ Err fault → ReadsLines scale lists log (texts.No (Log fault))
+reads_no_lines scale lists log fault e = record { texts = ap (read_of_log (lists_view lists)) e; good = tt }
 
 -- as many points, seen as triples
-same_shape : (lists : MeshLists) → shape_fault (length (lists_view lists).points) (lists_view lists).faces ≡ shape_fault (length lists.points) lists.faces
-same_shape lists = ap (λ n. shape_fault n lists.faces) (length-map lists.points position_of)
+same_shape : (scale : Scale) (lists : MeshLists) → shape_fault scale (length (lists_view lists).points) (lists_view lists).faces ≡ shape_fault scale (length lists.points) lists.faces
+same_shape scale lists = ap (λ n. shape_fault scale n lists.faces) (length-map lists.points position_of)
 
-pub reads_no_mesh : (decimals : ℕ) (mesh log : List ℕ) (fault : TextFault) → lists_of decimals mesh ≡ Err fault → ReadsTexts decimals mesh log (texts.No (Input (refusal.Mesh fault)))
-reads_no_mesh decimals mesh log fault e = record { texts = ap (λ r. read_of_lists r log) e; good = tt }
+pub reads_no_mesh : (scale : Scale) (decimals : ℕ) (mesh log : List ℕ) (fault : TextFault) → lists_of decimals mesh ≡ Err fault → ReadsTexts scale decimals mesh log (texts.No (Input (refusal.Mesh fault)))
+reads_no_mesh scale decimals mesh log fault e = record { texts = ap (λ r. read_of_lists scale r log) e; good = tt }
 
-pub reads_no_shape : (decimals : ℕ) (mesh log : List ℕ) (lists : MeshLists) (fault : ShapeFault) → lists_of decimals mesh ≡ Ok (lists_view lists) → shape_fault (length lists.points) lists.faces ≡ Some fault
-    → ReadsTexts decimals mesh log (texts.No (Input (refusal.Shape fault)))
-reads_no_shape decimals mesh log lists fault read e = record {
-  texts = ap (λ r. read_of_lists r log) read ∙ ap (λ o. read_of_shape (lists_view lists) o log) (same_shape lists ∙ e);
+pub reads_no_shape : (scale : Scale) (decimals : ℕ) (mesh log : List ℕ) (lists : MeshLists) (fault : ShapeFault) → lists_of decimals mesh ≡ Ok (lists_view lists) → shape_fault scale (length lists.points) lists.faces ≡ Some fault
+    → ReadsTexts scale decimals mesh log (texts.No (Input (refusal.Shape fault)))
+reads_no_shape scale decimals mesh log lists fault read e = record {
+  texts = ap (λ r. read_of_lists scale r log) read ∙ ap (λ o. read_of_shape scale (lists_view lists) o log) (same_shape scale lists ∙ e);
   good = tt;
 }
 
-pub reads_both : (decimals : ℕ) (mesh log : List ℕ) (lists : MeshLists) (found : Texts) → lists_of decimals mesh ≡ Ok (lists_view lists) → AreGood lists → ReadsLines lists log found → ReadsTexts decimals mesh log found
-reads_both decimals mesh log lists found read good lines = record {
-  texts = ap (λ r. read_of_lists r log) read ∙ ap (λ o. read_of_shape (lists_view lists) o log) (same_shape lists ∙ good) ∙ lines.texts;
+pub reads_both : (scale : Scale) (decimals : ℕ) (mesh log : List ℕ) (lists : MeshLists) (found : Texts) → lists_of decimals mesh ≡ Ok (lists_view lists) → AreGood scale lists → ReadsLines scale lists log found → ReadsTexts scale decimals mesh log found
+reads_both scale decimals mesh log lists found read good lines = record {
+  texts = ap (λ r. read_of_lists scale r log) read ∙ ap (λ o. read_of_shape scale (lists_view lists) o log) (same_shape scale lists ∙ good) ∙ lines.texts;
   good = lines.good;
 }
 
 -- ---- the test of the mesh
 
-tests_clear : (lists : MeshLists) (lines : List LogLine) (mesh : _) → AreGood lists → mesh_in mesh ≡ given lists → met_first (mesh_in mesh) ≡ None → IsClearMesh (mesh_in mesh) → Tests lists lines (prepared.Yes mesh lines)
-tests_clear lists lines mesh good is none clear = record {
+tests_clear : (scale : Scale) (lists : MeshLists) (lines : List LogLine) (mesh : _) → AreGood scale lists → mesh_in mesh ≡ given scale lists → met_first (mesh_in mesh) ≡ None → IsClearMesh (mesh_in mesh) → Tests scale lists lines (prepared.Yes mesh lines)
+tests_clear scale lists lines mesh good is none clear = record {
   input =
       let P : Mesh → Type 0 = λ m. input_of_test m (met_first m) lines ≡ Ok (record { mesh = mesh_in mesh; lines = lines }) in
       subst P is (ap (λ o. input_of_test (mesh_in mesh) o lines) none);
-  ready = λ few. (subst IsValidSurface (sym is) (record { sound = sound-mesh_of lists.points lists.faces good; closed = closed-mesh_of lists.points lists.faces good; clear = subst IsClearMesh is clear }), few);
+  ready = λ few. (subst IsValidSurface (sym is) (record { sound = sound-mesh_under scale lists.points lists.faces good; closed = closed-mesh_under scale lists.points lists.faces good; clear = subst IsClearMesh is clear }), few);
 }
 
-pub tests_none : (lists : MeshLists) (lines : List LogLine) (mesh : _) → AreGood lists → mesh_in mesh ≡ given lists → (o : Option PairName) → o ≡ met_first (mesh_in mesh) → IsNone o ↔ IsClearMesh (mesh_in mesh) → o ≡ None → Tests lists lines (prepared.Yes mesh lines)
-tests_none lists lines mesh good is o first clear none =
+pub tests_none : (scale : Scale) (lists : MeshLists) (lines : List LogLine) (mesh : _) → AreGood scale lists → mesh_in mesh ≡ given scale lists → (o : Option PairName) → o ≡ met_first (mesh_in mesh) → IsNone o ↔ IsClearMesh (mesh_in mesh) → o ≡ None → Tests scale lists lines (prepared.Yes mesh lines)
+tests_none scale lists lines mesh good is o first clear none =
     let P : Option PairName → Type 0 = λ x. IsNone x ↔ IsClearMesh (mesh_in mesh) in
-    tests_clear lists lines mesh good is (sym first ∙ none) ((subst P none clear).0 refl)
+    tests_clear scale lists lines mesh good is (sym first ∙ none) ((subst P none clear).0 refl)
 
-pub tests_meets : (lists : MeshLists) (lines : List LogLine) (m : Mesh) (pair : PairName) → m ≡ given lists → met_first m ≡ Some pair → Tests lists lines (prepared.No (Input (refusal.Meets pair)))
-tests_meets lists lines m pair is some = record {
+pub tests_meets : (scale : Scale) (lists : MeshLists) (lines : List LogLine) (m : Mesh) (pair : PairName) → m ≡ given scale lists → met_first m ≡ Some pair → Tests scale lists lines (prepared.No (Input (refusal.Meets pair)))
+tests_meets scale lists lines m pair is some = record {
   input = (let P : Mesh → Type 0 = λ m. input_of_test m (met_first m) lines ≡ Err (Input (refusal.Meets pair)) in subst P is (ap (λ o. input_of_test m o lines) some));
   ready = λ few. tt;
 }
 
 -- ---- both
 
-pub reads_and_refuses : (decimals : ℕ) (mesh log : List ℕ) (why : LogRefusal) → ReadsTexts decimals mesh log (texts.No why) → ReadsAndTests decimals mesh log (prepared.No why)
-reads_and_refuses decimals mesh log why reads = record { input = ap input_of_read reads.texts; ready = tt }
+pub reads_and_refuses : (scale : Scale) (decimals : ℕ) (mesh log : List ℕ) (why : LogRefusal) → ReadsTexts scale decimals mesh log (texts.No why) → ReadsAndTests scale decimals mesh log (prepared.No why)
+reads_and_refuses scale decimals mesh log why reads = record { input = ap (input_of_read scale) reads.texts; ready = tt }
 
-reads_and_tests : (decimals : ℕ) (mesh log : List ℕ) (lists : MeshLists) (lines : List LogLine) (found : Prepared) → ReadsTexts decimals mesh log (texts.Yes lists lines) → Tests lists lines found → ReadsAndTests decimals mesh log found
-reads_and_tests decimals mesh log lists lines found reads tests = record {
-  input = ap input_of_read reads.texts ∙ ap (λ m. input_of_test m (met_first m) lines) (same_mesh lists) ∙ tests.input;
+reads_and_tests : (scale : Scale) (decimals : ℕ) (mesh log : List ℕ) (lists : MeshLists) (lines : List LogLine) (found : Prepared) → ReadsTexts scale decimals mesh log (texts.Yes lists lines) → Tests scale lists lines found → ReadsAndTests scale decimals mesh log found
+reads_and_tests scale decimals mesh log lists lines found reads tests = record {
+  input = ap (input_of_read scale) reads.texts ∙ ap (λ m. input_of_test m (met_first m) lines) (same_mesh scale lists) ∙ tests.input;
   ready = tests.ready reads.good.1;
 }
 
-pub reads_answer : (decimals : ℕ) (mesh log : List ℕ) (x : Texts) (lists : MeshLists) (lines : List LogLine) (r : Result Prepared NoMemory) → ReadsTexts decimals mesh log x → x ≡ texts.Yes lists lines → IfOk r (Tests lists lines) → IfOk r (ReadsAndTests decimals mesh log)
-reads_answer decimals mesh log x lists lines (Err fault) reads e tests = tt
-reads_answer decimals mesh log x lists lines (Ok found) reads e tests = reads_and_tests decimals mesh log lists lines found (subst (ReadsTexts decimals mesh log) e reads) tests
+pub reads_answer : (scale : Scale) (decimals : ℕ) (mesh log : List ℕ) (x : Texts) (lists : MeshLists) (lines : List LogLine) (r : Result Prepared NoMemory) → ReadsTexts scale decimals mesh log x → x ≡ texts.Yes lists lines → IfOk r (Tests scale lists lines) → IfOk r (ReadsAndTests scale decimals mesh log)
+reads_answer scale decimals mesh log x lists lines (Err fault) reads e tests = tt
+reads_answer scale decimals mesh log x lists lines (Ok found) reads e tests = reads_and_tests scale decimals mesh log lists lines found (subst (ReadsTexts scale decimals mesh log) e reads) tests
 
 -- ---- the files
 
-source_at : (files : Option Files) (name : List ℕ) (f g : Fetched) → f ≡ g → IsSource files name (source_of f) → IsSource files name (source_of g)
-source_at files name f g e h = let P : Fetched → Type 0 = λ x. IsSource files name (source_of x) in subst P e h
+source_at : (scale : Scale) (files : Option Files) (name : List ℕ) (f g : Fetched) → f ≡ g → IsSource scale files name (source_of f) → IsSource scale files name (source_of g)
+source_at scale files name f g e h = let P : Fetched → Type 0 = λ x. IsSource scale files name (source_of x) in subst P e h
 
 module _ (files : Option Files) (names : LogNames) where
   -- each pair of names has a job
   pub some_log_job : (job : LogJob) × IsLogJob files names job
   some_log_job = (
-    record { decimals = names.decimals; mesh_file = (some_source files names.mesh).0; log_file = (some_source files names.log).0 },
-    record { decimals_are = refl; mesh = (some_source files names.mesh).1; log = (some_source files names.log).1 },
+    record { scale = names.scale; decimals = names.decimals; mesh_file = (some_source names.scale files names.mesh).0; log_file = (some_source names.scale files names.log).0 },
+    record { scale_is = refl; decimals_are = refl; mesh = (some_source names.scale files names.mesh).1; log = (some_source names.scale files names.log).1 },
   )
 
   -- ---- what is fetched
 
-  pub fetches_absent : (f : Fetched) → f ≡ found.Absent → IsSource files names.mesh (source_of f) → FetchesLog files names (fetched.No (Input (refusal.Missing file.Mesh)))
+  pub fetches_absent : (f : Fetched) → f ≡ found.Absent → IsSource names.scale files names.mesh (source_of f) → FetchesLog files names (fetched.No (Input (refusal.Missing file.Mesh)))
   fetches_absent f e h = record {
-    job = record { decimals = names.decimals; mesh_file = Absent; log_file = (some_source files names.log).0 };
-    is_job = record { decimals_are = refl; mesh = source_at files names.mesh f found.Absent e h; log = (some_source files names.log).1 };
+    job = record { scale = names.scale; decimals = names.decimals; mesh_file = Absent; log_file = (some_source names.scale files names.log).0 };
+    is_job = record { scale_is = refl; decimals_are = refl; mesh = source_at names.scale files names.mesh f found.Absent e h; log = (some_source names.scale files names.log).1 };
     fetched = refl;
     short = tt;
   }
 
-  pub fetches_long : (f : Fetched) (seen : ℕ) → f ≡ found.TooLong seen → IsSource files names.mesh (source_of f) → FetchesLog files names (fetched.No (Input (refusal.Long file.Mesh seen)))
+  pub fetches_long : (f : Fetched) (seen : ℕ) → f ≡ found.TooLong seen → IsSource names.scale files names.mesh (source_of f) → FetchesLog files names (fetched.No (Input (refusal.Long file.Mesh seen)))
   fetches_long f seen e h = record {
-    job = record { decimals = names.decimals; mesh_file = TooLong seen; log_file = (some_source files names.log).0 };
-    is_job = record { decimals_are = refl; mesh = source_at files names.mesh f (found.TooLong seen) e h; log = (some_source files names.log).1 };
+    job = record { scale = names.scale; decimals = names.decimals; mesh_file = TooLong seen; log_file = (some_source names.scale files names.log).0 };
+    is_job = record { scale_is = refl; decimals_are = refl; mesh = source_at names.scale files names.mesh f (found.TooLong seen) e h; log = (some_source names.scale files names.log).1 };
     fetched = refl;
     short = tt;
   }
 
-  module _ (f g : Fetched) (mesh : Vec ℕ Global) (fe : f ≡ found.Bytes mesh) (fs : IsSource files names.mesh (source_of f)) (gs : IsSource files names.log (source_of g)) where
-    mesh_source : IsSource files names.mesh (Bytes mesh.items)
-    mesh_source = source_at files names.mesh f (found.Bytes mesh) fe fs
+  module _ (f g : Fetched) (mesh : Vec ℕ Global) (fe : f ≡ found.Bytes mesh) (fs : IsSource names.scale files names.mesh (source_of f)) (gs : IsSource names.scale files names.log (source_of g)) where
+    mesh_source : IsSource names.scale files names.mesh (Bytes mesh.items)
+    mesh_source = source_at names.scale files names.mesh f (found.Bytes mesh) fe fs
 
     pub fetches_absent_log : g ≡ found.Absent → FetchesLog files names (fetched.No (Input (refusal.Missing file.Log)))
     fetches_absent_log e = record {
-      job = record { decimals = names.decimals; mesh_file = Bytes mesh.items; log_file = Absent };
-      is_job = record { decimals_are = refl; mesh = mesh_source; log = source_at files names.log g found.Absent e gs };
+      job = record { scale = names.scale; decimals = names.decimals; mesh_file = Bytes mesh.items; log_file = Absent };
+      is_job = record { scale_is = refl; decimals_are = refl; mesh = mesh_source; log = source_at names.scale files names.log g found.Absent e gs };
       fetched = refl;
       short = tt;
     }
 
     pub fetches_long_log : (seen : ℕ) → g ≡ found.TooLong seen → FetchesLog files names (fetched.No (Input (refusal.Long file.Log seen)))
     fetches_long_log seen e = record {
-      job = record { decimals = names.decimals; mesh_file = Bytes mesh.items; log_file = TooLong seen };
-      is_job = record { decimals_are = refl; mesh = mesh_source; log = source_at files names.log g (found.TooLong seen) e gs };
+      job = record { scale = names.scale; decimals = names.decimals; mesh_file = Bytes mesh.items; log_file = TooLong seen };
+      is_job = record { scale_is = refl; decimals_are = refl; mesh = mesh_source; log = source_at names.scale files names.log g (found.TooLong seen) e gs };
       fetched = refl;
       short = tt;
     }
 
     pub fetches_both : (log : Vec ℕ Global) → g ≡ found.Bytes log → FetchesLog files names (fetched.Yes mesh log)
     fetches_both log e =
-        let log_source = source_at files names.log g (found.Bytes log) e gs in record {
-          job = record { decimals = names.decimals; mesh_file = Bytes mesh.items; log_file = Bytes log.items };
-          is_job = record { decimals_are = refl; mesh = mesh_source; log = log_source };
+        let log_source = source_at names.scale files names.log g (found.Bytes log) e gs in record {
+          job = record { scale = names.scale; decimals = names.decimals; mesh_file = Bytes mesh.items; log_file = Bytes log.items };
+          is_job = record { scale_is = refl; decimals_are = refl; mesh = mesh_source; log = log_source };
           fetched = refl;
-          short = (mesh_source.0, log_source.0);
+          short = (omega (arith, mesh_source.0, small_texts_of names.scale), omega (arith, log_source.0, small_texts_of names.scale));
         }
 
   -- ---- what is prepared of it
@@ -191,22 +193,23 @@ module _ (files : Option Files) (names : LogNames) where
   prepares_refused f why e h = record {
     job = h.job;
     is_job = h.is_job;
-    input = ap (λ r. input_of_read (read_of_fetched h.job.decimals r)) (h.fetched ∙ ap fetched_by e);
+    input = ap (λ r. input_of_read h.job.scale (read_of_fetched h.job.scale h.job.decimals r)) (h.fetched ∙ ap fetched_by e);
     ready = tt;
   }
 
   pub short_at : (f : FetchedLog) (mesh log : Vec ℕ Global) → f ≡ fetched.Yes mesh log → FetchesLog files names f → AreShort (fetched.Yes mesh log)
   short_at f mesh log e h = subst AreShort e h.short
 
-  pub prepares_read : (f : FetchedLog) (mesh log : Vec ℕ Global) → f ≡ fetched.Yes mesh log → FetchesLog files names f → (m l : List ℕ) → m ≡ mesh.items → l ≡ log.items → (r : Prepared) → ReadsAndTests names.decimals m l r → PreparesLog files names r
+  pub prepares_read : (f : FetchedLog) (mesh log : Vec ℕ Global) → f ≡ fetched.Yes mesh log → FetchesLog files names f → (m l : List ℕ) → m ≡ mesh.items → l ≡ log.items → (r : Prepared) → ReadsAndTests names.scale names.decimals m l r → PreparesLog files names r
   prepares_read f mesh log e h m l me le r reads = record {
     job = h.job;
     is_job = h.is_job;
     input =
-        ap (λ x. input_of_read (read_of_fetched h.job.decimals x)) (h.fetched ∙ ap fetched_by e)
-        ∙ ap (λ d. input_of_read (read_of_lists (lists_of d mesh.items) log.items)) h.is_job.decimals_are
-        ∙ ap (λ b. input_of_read (read_of_lists (lists_of names.decimals b) log.items)) (sym me)
-        ∙ ap (λ b. input_of_read (read_of_lists (lists_of names.decimals m) b)) (sym le)
+        ap (λ x. input_of_read h.job.scale (read_of_fetched h.job.scale h.job.decimals x)) (h.fetched ∙ ap fetched_by e)
+        ∙ ap (λ s. input_of_read s (read_of_lists s (lists_of h.job.decimals mesh.items) log.items)) h.is_job.scale_is
+        ∙ ap (λ d. input_of_read names.scale (read_of_lists names.scale (lists_of d mesh.items) log.items)) h.is_job.decimals_are
+        ∙ ap (λ b. input_of_read names.scale (read_of_lists names.scale (lists_of names.decimals b) log.items)) (sym me)
+        ∙ ap (λ b. input_of_read names.scale (read_of_lists names.scale (lists_of names.decimals m) b)) (sym le)
         ∙ reads.input;
     ready = reads.ready;
   }

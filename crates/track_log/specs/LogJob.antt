@@ -1,9 +1,10 @@
--- A mesh and a log that is said to begin with it: two files and the decimals
--- of the points, and what they give.
+-- A mesh and a log that is said to begin with it: two files, the decimals of
+-- the points and how large meshes and texts may be, and what they give.
 use Rattle.std.specs.Prelude.{◌≡◌, ℕ, List, length, Option, Some, None, Result, Ok, Err}
 use Rattle.mesh_base.specs.declared.PairName.{PairName}
 use Rattle.mesh_base.specs.declared.ShapeFault.{ShapeFault}
 use Rattle.mesh_base.specs.declared.FileWord.TheVariants as file
+use Rattle.mesh_base.specs.declared.Scale.{Scale}
 use Rattle.mesh_base.specs.Mesh.{Mesh}
 use Rattle.mesh_plain.specs.Shape.{shape_fault}
 use Rattle.line_text.specs.declared.TextFault.{TextFault}
@@ -18,16 +19,18 @@ use Rattle.track_input.specs.Job.{mesh_of_lists, met_first}
 use Rattle.track_log.specs.declared.refusal.LogRefusal.{LogRefusal}
 use Rattle.track_log.specs.declared.refusal.LogRefusal.TheVariants.{Input, Log}
 
--- the two files, and the decimals of the points
+-- the two files, the decimals of the points, and how large meshes and texts may be
 pub record LogJob : Type 0 where
   pub mesh_file : Source
   pub log_file : Source
+  pub scale : Scale
   pub decimals : ℕ
 
 -- the job of these names, where the desk holds these files
 pub record IsLogJob (files : Option Files) (names : LogNames) (job : LogJob) : Type 0 where
-  pub mesh : IsSource files names.mesh job.mesh_file
-  pub log : IsSource files names.log job.log_file
+  pub mesh : IsSource names.scale files names.mesh job.mesh_file
+  pub log : IsSource names.scale files names.log job.log_file
+  pub scale_is : job.scale ≡ names.scale
   pub decimals_are : job.decimals ≡ names.decimals
 
 -- the bytes of a mesh file and of the file of a log
@@ -56,15 +59,15 @@ read_of_log lists (Err fault) = Err (Log fault)
 read_of_log lists (Ok lines) = Ok (record { lists = lists; lines = lines })
 
 -- what is read after the shape was looked at
-abbrev pub read_of_shape : Lists → Option ShapeFault → List ℕ → Result TextsRead LogRefusal
-read_of_shape lists (Some fault) log = Err (Input (refusal.Shape fault))
-read_of_shape lists None log = read_of_log lists (log_of log)
+abbrev pub read_of_shape : Scale → Lists → Option ShapeFault → List ℕ → Result TextsRead LogRefusal
+read_of_shape scale lists (Some fault) log = Err (Input (refusal.Shape fault))
+read_of_shape scale lists None log = read_of_log lists (log_of scale log)
 
 -- what is read after the text of the mesh
-abbrev pub read_of_lists : Result Lists TextFault → List ℕ → Result TextsRead LogRefusal
-read_of_lists (Err fault) log = Err (Input (refusal.Mesh fault))
-read_of_lists (Ok lists) log =
-    read_of_shape lists (shape_fault (length lists.points) lists.faces) log
+abbrev pub read_of_lists : Scale → Result Lists TextFault → List ℕ → Result TextsRead LogRefusal
+read_of_lists scale (Err fault) log = Err (Input (refusal.Mesh fault))
+read_of_lists scale (Ok lists) log =
+    read_of_shape scale lists (shape_fault scale (length lists.points) lists.faces) log
 
 -- the bytes of both files, or the first of the two that is missing or too long
 abbrev pub fetched_of : Source → Source → Result BothTexts LogRefusal
@@ -75,17 +78,18 @@ fetched_of (Bytes mesh) Absent = Err (Input (refusal.Missing file.Log))
 fetched_of (Bytes mesh) (Bytes log) = Ok (record { mesh = mesh; log = log })
 
 -- the texts of bytes that were fetched
-abbrev pub read_of_fetched : ℕ → Result BothTexts LogRefusal → Result TextsRead LogRefusal
-read_of_fetched decimals (Err why) = Err why
-read_of_fetched decimals (Ok both) = read_of_lists (lists_of decimals both.mesh) both.log
+abbrev pub read_of_fetched : Scale → ℕ → Result BothTexts LogRefusal → Result TextsRead LogRefusal
+read_of_fetched scale decimals (Err why) = Err why
+read_of_fetched scale decimals (Ok both) =
+    read_of_lists scale (lists_of decimals both.mesh) both.log
 
 -- the texts of two files
-abbrev pub read_of_files : ℕ → Source → Source → Result TextsRead LogRefusal
-read_of_files decimals mesh log = read_of_fetched decimals (fetched_of mesh log)
+abbrev pub read_of_files : Scale → ℕ → Source → Source → Result TextsRead LogRefusal
+read_of_files scale decimals mesh log = read_of_fetched scale decimals (fetched_of mesh log)
 
 -- the texts of a job
 abbrev pub read_of : LogJob → Result TextsRead LogRefusal
-read_of job = read_of_files job.decimals job.mesh_file job.log_file
+read_of job = read_of_files job.scale job.decimals job.mesh_file job.log_file
 
 -- a mesh and a log, after the mesh was tested
 abbrev pub input_of_test : Mesh → Option PairName → List LogLine → Result LogInput LogRefusal
@@ -93,11 +97,11 @@ input_of_test m (Some pair) lines = Err (Input (refusal.Meets pair))
 input_of_test m None lines = Ok (record { mesh = m; lines = lines })
 
 -- a mesh and a log, of the texts that were read
-abbrev pub input_of_read : Result TextsRead LogRefusal → Result LogInput LogRefusal
-input_of_read (Err why) = Err why
-input_of_read (Ok texts) =
-    let m = mesh_of_lists texts.lists in input_of_test m (met_first m) texts.lines
+abbrev pub input_of_read : Scale → Result TextsRead LogRefusal → Result LogInput LogRefusal
+input_of_read scale (Err why) = Err why
+input_of_read scale (Ok texts) =
+    let m = mesh_of_lists scale texts.lists in input_of_test m (met_first m) texts.lines
 
 -- the mesh and the log of a job
 abbrev pub input_of : LogJob → Result LogInput LogRefusal
-input_of job = input_of_read (read_of job)
+input_of job = input_of_read job.scale (read_of job)

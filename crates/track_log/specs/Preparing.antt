@@ -1,6 +1,7 @@
 -- What is answered where a mesh and a log are fetched and read.
 use Rattle.std.specs.Prelude.{◌≡◌, ◌<◌, ◌^◌, ℕ, List, length, Option, Result, Ok, Err}
 use Rattle.mesh_base.specs.declared.MeshLists.{MeshLists}
+use Rattle.mesh_base.specs.declared.Scale.{Scale}
 use Rattle.mesh_base.specs.Valid.{IsValidSurface}
 use Rattle.mesh_journal.specs.Journal.{mesh_in}
 use Rattle.obj_text.specs.Obj.{lists_of}
@@ -25,19 +26,21 @@ read_by (texts.No why) = Err why
 read_by (texts.Yes lists lines) = Ok (record { lists = lists_view lists; lines = lines })
 
 -- the lists are of good shape, and the lines are few
-abbrev pub AreTextsGood : Texts → Type 0
-AreTextsGood (texts.No why) = Unit {0}
-AreTextsGood (texts.Yes lists lines) = AreGood lists × (length lines < 2 ^ 31)
+abbrev pub AreTextsGood : Scale → Texts → Type 0
+AreTextsGood scale (texts.No why) = Unit {0}
+AreTextsGood scale (texts.Yes lists lines) = AreGood scale lists × (length lines < 2 ^ 31)
 
 -- what the text of a log gives behind lists
-pub record ReadsLines (lists : MeshLists) (log : List ℕ) (found : Texts) : Type 0 where
-  pub texts : read_of_log (lists_view lists) (log_of log) ≡ read_by found
-  pub good : AreTextsGood found
+pub record ReadsLines (scale : Scale) (lists : MeshLists) (log : List ℕ)
+    (found : Texts) : Type 0 where
+  pub texts : read_of_log (lists_view lists) (log_of scale log) ≡ read_by found
+  pub good : AreTextsGood scale found
 
 -- what two texts give
-pub record ReadsTexts (decimals : ℕ) (mesh log : List ℕ) (found : Texts) : Type 0 where
-  pub texts : read_of_lists (lists_of decimals mesh) log ≡ read_by found
-  pub good : AreTextsGood found
+pub record ReadsTexts (scale : Scale) (decimals : ℕ) (mesh log : List ℕ)
+    (found : Texts) : Type 0 where
+  pub texts : read_of_lists scale (lists_of decimals mesh) log ≡ read_by found
+  pub good : AreTextsGood scale found
 
 -- what was prepared, as a job gives it
 abbrev pub input_by : Prepared → Result LogInput LogRefusal
@@ -50,13 +53,17 @@ IsPrepared (prepared.No why) = Unit {0}
 IsPrepared (prepared.Yes mesh lines) = IsValidSurface (mesh_in mesh) × (length lines < 2 ^ 31)
 
 -- what the test of the mesh of lists gives
-pub record Tests (lists : MeshLists) (lines : List LogLine) (found : Prepared) : Type 0 where
-  pub input : input_of_test (given lists) (met_first (given lists)) lines ≡ input_by found
+pub record Tests (scale : Scale) (lists : MeshLists) (lines : List LogLine)
+    (found : Prepared) : Type 0 where
+  pub input :
+      input_of_test (given scale lists) (met_first (given scale lists)) lines ≡ input_by found
   pub ready : length lines < 2 ^ 31 → IsPrepared found
 
 -- what two texts give, the mesh tested
-pub record ReadsAndTests (decimals : ℕ) (mesh log : List ℕ) (found : Prepared) : Type 0 where
-  pub input : input_of_read (read_of_lists (lists_of decimals mesh) log) ≡ input_by found
+pub record ReadsAndTests (scale : Scale) (decimals : ℕ) (mesh log : List ℕ)
+    (found : Prepared) : Type 0 where
+  pub input :
+      input_of_read scale (read_of_lists scale (lists_of decimals mesh) log) ≡ input_by found
   pub ready : IsPrepared found
 
 -- what the files of two names give

@@ -12,7 +12,7 @@ use grid_base::NoMemory;
 use line_text::ReadFault;
 use log_read::read_log;
 use log_text::{Log, Refusal};
-use mesh_base::{FileWord, MeshLists, ShapeRefusal};
+use mesh_base::{FileWord, MeshLists, Scale, ShapeRefusal};
 use mesh_journal::JournalMesh;
 use mesh_plain::shape;
 use obj_text::read_obj;
@@ -49,25 +49,36 @@ pub enum Prepared {
 }
 
 // The text of a log, read after lists of good shape.
-fn read_lines(alloc: Global, lists: MeshLists, log: &[u8]) -> Result<Texts, NoMemory>
-    requires good { AreGood lists }
+fn read_lines(
+    alloc: Global,
+    scale: Scale,
+    lists: MeshLists,
+    log: &[u8],
+) -> Result<Texts, NoMemory>
+    requires good { AreGood scale lists }
     requires log_length { length log.now ≤ TEXT_MAX }
-    ensures { IfOk result (ReadsLines lists log.now) }
+    ensures { IfOk result (ReadsLines scale lists log.now) }
 {
-    match read_log(alloc, log) {
+    match read_log(alloc, scale, log) {
         Ok(lines) => Ok(Texts::Yes(lists, lines)),
         Err(ReadFault::NoMemory) => Err(NoMemory),
         Err(ReadFault::Text(fault)) => Ok(Texts::No(LogRefusal::Log(fault))),
     }
 }
 
-/// Reads the text of a mesh, the points with so many decimals, tests the shape of its lists, and reads the text of a log. NoMemory at any
-/// texts.
-pub fn read_texts(alloc: Global, decimals: u8, mesh: &[u8], log: &[u8]) -> Result<Texts, NoMemory>
+/// Reads the text of a mesh, the points with so many decimals, tests the shape of its lists, and reads the text of a log, each within the
+/// limits of a scale. NoMemory at any texts.
+pub fn read_texts(
+    alloc: Global,
+    scale: Scale,
+    decimals: u8,
+    mesh: &[u8],
+    log: &[u8],
+) -> Result<Texts, NoMemory>
     requires few { decimals ≤ DECIMALS_MAX }
     requires mesh_length { length mesh.now ≤ TEXT_MAX }
     requires log_length { length log.now ≤ TEXT_MAX }
-    ensures { IfOk result (ReadsTexts decimals mesh.now log.now) }
+    ensures { IfOk result (ReadsTexts scale decimals mesh.now log.now) }
 {
     let lists = match read_obj(alloc, mesh, decimals) {
         Ok(lists) => lists,
@@ -76,8 +87,8 @@ pub fn read_texts(alloc: Global, decimals: u8, mesh: &[u8], log: &[u8]) -> Resul
             return Ok(Texts::No(LogRefusal::Input(Refusal::Mesh(fault))));
         }
     };
-    match shape(alloc, &lists) {
-        Ok(()) => read_lines(alloc, lists, log),
+    match shape(alloc, scale, &lists) {
+        Ok(()) => read_lines(alloc, scale, lists, log),
         Err(ShapeRefusal::NoMemory) => Err(NoMemory),
         Err(ShapeRefusal::Shape(fault)) => {
             Ok(Texts::No(LogRefusal::Input(Refusal::Shape(fault))))
@@ -85,13 +96,18 @@ pub fn read_texts(alloc: Global, decimals: u8, mesh: &[u8], log: &[u8]) -> Resul
     }
 }
 
-/// Tests the mesh of lists for an edge and a face that meet and share no vertex: the refusal of the first of them, or the mesh and the lines.
+/// Tests the mesh of lists, with the limits of a scale, for an edge and a face that meet and share no vertex: the refusal of the first of them, or the mesh and the lines.
 /// NoMemory at any lists.
-pub fn test_mesh(alloc: Global, lists: &MeshLists, lines: Log) -> Result<Prepared, NoMemory>
-    requires good { AreGood lists.now }
-    ensures { IfOk result (Tests lists.now lines) }
+pub fn test_mesh(
+    alloc: Global,
+    scale: Scale,
+    lists: &MeshLists,
+    lines: Log,
+) -> Result<Prepared, NoMemory>
+    requires good { AreGood scale lists.now }
+    ensures { IfOk result (Tests scale lists.now lines) }
 {
-    let mesh = JournalMesh::of(alloc, lists)?;
+    let mesh = JournalMesh::of(alloc, scale, lists)?;
     match first_meeting(alloc, &mesh)? {
         None => Ok(Prepared::Yes(mesh, lines)),
         Some(pair) => Ok(Prepared::No(LogRefusal::Input(Refusal::Meets(pair)))),
@@ -99,19 +115,25 @@ pub fn test_mesh(alloc: Global, lists: &MeshLists, lines: Log) -> Result<Prepare
 }
 
 // Reads both texts and tests the mesh.
-fn read_and_test(alloc: Global, decimals: u8, mesh: &[u8], log: &[u8]) -> Result<Prepared, NoMemory>
+fn read_and_test(
+    alloc: Global,
+    scale: Scale,
+    decimals: u8,
+    mesh: &[u8],
+    log: &[u8],
+) -> Result<Prepared, NoMemory>
     requires few { decimals ≤ DECIMALS_MAX }
     requires mesh_length { length mesh.now ≤ TEXT_MAX }
     requires log_length { length log.now ≤ TEXT_MAX }
-    ensures { IfOk result (ReadsAndTests decimals mesh.now log.now) }
+    ensures { IfOk result (ReadsAndTests scale decimals mesh.now log.now) }
 {
-    match read_texts(alloc, decimals, mesh, log)? {
+    match read_texts(alloc, scale, decimals, mesh, log)? {
         Texts::No(why) => Ok(Prepared::No(why)),
-        Texts::Yes(lists, lines) => test_mesh(alloc, &lists, lines),
+        Texts::Yes(lists, lines) => test_mesh(alloc, scale, &lists, lines),
     }
 }
 
-/// Fetches a mesh file and then the file of a log, each of at most the greatest length of a text. Nothing is written or stored.
+/// Fetches a mesh file and then the file of a log, each of at most the greatest length of a text of its scale. Nothing is written or stored.
 pub fn fetch_log<O: Outside>(
     alloc: Global,
     files: LogFiles<'_>,
@@ -121,7 +143,7 @@ pub fn fetch_log<O: Outside>(
         IfOk result (FetchesLog held (log_names files.entry)) }
     ensures looks { OnlyLooks (O.around outside.old) (O.around outside.new) result }
 {
-    let mesh = match fetch_text(alloc, outside, files.mesh)? {
+    let mesh = match fetch_text(alloc, files.scale, outside, files.mesh)? {
         Fetched::Bytes(bytes) => bytes,
         Fetched::Absent => {
             return Ok(FetchedLog::No(LogRefusal::Input(Refusal::Missing {
@@ -135,7 +157,7 @@ pub fn fetch_log<O: Outside>(
             })));
         }
     };
-    match fetch_text(alloc, outside, files.log)? {
+    match fetch_text(alloc, files.scale, outside, files.log)? {
         Fetched::Bytes(log) => Ok(FetchedLog::Yes(mesh, log)),
         Fetched::Absent => Ok(FetchedLog::No(LogRefusal::Input(Refusal::Missing {
             file: FileWord::Log,
@@ -161,6 +183,12 @@ pub fn prepare_log<O: Outside>(
 {
     match fetch_log(alloc, files, outside)? {
         FetchedLog::No(why) => Ok(Prepared::No(why)),
-        FetchedLog::Yes(mesh, log) => Ok(read_and_test(alloc, files.decimals, &mesh, &log)?),
+        FetchedLog::Yes(mesh, log) => Ok(read_and_test(
+            alloc,
+            files.scale,
+            files.decimals,
+            &mesh,
+            &log,
+        )?),
     }
 }

@@ -138,7 +138,7 @@ module _ (names : ProofNames) (a b : Around) where
   pub verifies_stopped : (stop : Stop) → OnlyLooks {T = Report} a b (Err stop) → Verifies names (Err stop) a.world b.world
   verifies_stopped stop looks =
       let some = some_log_job a.world.holds.files names.names in
-      let source = some_source a.world.holds.files names.proof in
+      let source = some_source names.names.scale a.world.holds.files names.proof in
       let job : ProofJob = record { log = some.0; proof_file = source.0 } in
       record {
         job = job;

@@ -1,5 +1,6 @@
 -- What the parts of both commands give, up to the report of which the text is written.
 use Rattle.std.specs.Prelude.{◌≡◌, ◌<◌, ◌^◌, ℕ, List, length, Option, Some, None, Result, Ok, Err}
+use Rattle.mesh_base.specs.declared.Scale.{Scale}
 use Rattle.mesh_base.specs.Mesh.{Mesh}
 use Rattle.mesh_base.specs.Valid.{IsValidSurface}
 use Rattle.mesh_base.specs.declared.MeshLists.{MeshLists}
@@ -86,8 +87,9 @@ IsReady (given.Yes mesh lines proofs) =
     IsValidSurface (mesh_in mesh) × ((length lines < 2 ^ 31) × AreProofs (proofs_view proofs))
 
 -- what a read mesh, a read log and a read proof give
-pub record GivesInput (read : Result ProofTexts LogRefusal) (found : Given) : Type 0 where
-  pub input : proof_input_of_read read ≡ input_by found
+pub record GivesInput (scale : Scale) (read : Result ProofTexts LogRefusal)
+    (found : Given) : Type 0 where
+  pub input : proof_input_of_read scale read ≡ input_by found
   pub ready : IsReady found
 
 -- lists of good shape and the lines of a log, as texts give them

@@ -1,6 +1,7 @@
 -- How `verify` ends, and the text that it writes.
 use Rattle.std.specs.Prelude.{◌≡◌, ℕ, ◌==◌, nat_lt, List, [], ◌∷◌, length, Option, Some, None, option_map, Result, Ok, Err, codes, decimal}
 use Rattle.std.specs.List.{find}
+use Rattle.mesh_base.specs.declared.Scale.{Scale}
 use Rattle.mesh_base.specs.declared.FileWord.TheVariants as file
 use Rattle.line_text.specs.declared.TextFault.{TextFault}
 use Rattle.line_text.specs.WrittenLines.{line_of_words}
@@ -63,7 +64,7 @@ VerifyFinds proofs number s line verdict =
 
 -- ---- what was given
 
--- the mesh, the log and the decimals of a job, and the file of a proof
+-- the mesh, the log, the scale and the decimals of a job, and the file of a proof
 pub record ProofJob : Type 0 where
   pub log : LogJob
   pub proof_file : Source
@@ -71,7 +72,7 @@ pub record ProofJob : Type 0 where
 -- the job of these names, where the desk holds these files
 pub record IsProofJob (files : Option Files) (names : ProofNames) (job : ProofJob) : Type 0 where
   pub log : IsLogJob files names.names job.log
-  pub proof : IsSource files names.proof job.proof_file
+  pub proof : IsSource names.names.scale files names.proof job.proof_file
 
 -- the bytes of the three files
 pub record ProofBytes : Type 0 where
@@ -107,10 +108,11 @@ read_with_proof (Ok texts) (Err fault) = Err (Proof fault)
 read_with_proof (Ok texts) (Ok proofs) = Ok (record { texts = texts; proofs = proofs })
 
 -- what the bytes of the three files are read as
-abbrev pub read_of_bytes : ℕ → Result ProofBytes LogRefusal → Result ProofTexts LogRefusal
-read_of_bytes decimals (Err why) = Err why
-read_of_bytes decimals (Ok bytes) =
-    read_with_proof (read_of_lists (lists_of decimals bytes.both.mesh) bytes.both.log)
+abbrev pub read_of_bytes : Scale → ℕ → Result ProofBytes LogRefusal →
+    Result ProofTexts LogRefusal
+read_of_bytes scale decimals (Err why) = Err why
+read_of_bytes scale decimals (Ok bytes) =
+    read_with_proof (read_of_lists scale (lists_of decimals bytes.both.mesh) bytes.both.log)
     (proofs_of bytes.proof)
 
 -- the certificates beside a mesh and a log
@@ -119,15 +121,17 @@ with_proofs (Err why) proofs = Err why
 with_proofs (Ok log) proofs = Ok (record { log = log; proofs = proofs })
 
 -- a mesh, a log and certificates, after the mesh was tested
-abbrev pub proof_input_of_read : Result ProofTexts LogRefusal → Result ProofInput LogRefusal
-proof_input_of_read (Err why) = Err why
-proof_input_of_read (Ok read) = with_proofs (input_of_read (Ok read.texts)) read.proofs
+abbrev pub proof_input_of_read : Scale → Result ProofTexts LogRefusal →
+    Result ProofInput LogRefusal
+proof_input_of_read scale (Err why) = Err why
+proof_input_of_read scale (Ok read) =
+    with_proofs (input_of_read scale (Ok read.texts)) read.proofs
 
 -- the mesh, the log and the proof of a job
 abbrev pub proof_input_of : ProofJob → Result ProofInput LogRefusal
 proof_input_of job =
     let bytes = fetched_with_proof (fetched_of job.log.mesh_file job.log.log_file) job.proof_file in
-    proof_input_of_read (read_of_bytes job.log.decimals bytes)
+    proof_input_of_read job.log.scale (read_of_bytes job.log.scale job.log.decimals bytes)
 
 -- ---- how it ends
 

@@ -15,7 +15,7 @@ ghost use Rattle.track_prove.specs.Doing.{texts_of, GivesInput, PreparesProof};
 use grid_base::NoMemory;
 use line_text::ReadFault;
 use log_text::{Log, Refusal};
-use mesh_base::{FileWord, MeshLists};
+use mesh_base::{FileWord, MeshLists, Scale};
 use mesh_journal::JournalMesh;
 use outside_io::{Fetched, Outside, Stop};
 use proof_text::{Proofs, read_proof};
@@ -35,17 +35,18 @@ pub(crate) enum Given {
 // The mesh is tested, behind lists, a log and a proof that were read.
 fn test_given(
     alloc: Global,
+    scale: Scale,
     lists: &MeshLists,
     lines: Log,
     proofs: Proofs,
 ) -> Result<Given, NoMemory>
-    requires good { AreGood lists.now }
+    requires good { AreGood scale lists.now }
     requires few { length lines < 2 ^ 31 }
     requires order { AreProofs (proofs_view proofs) }
     ensures { let texts = Ok (texts_of lists.now lines) in
-        IfOk result (GivesInput (read_with_proof texts (Ok (proofs_view proofs)))) }
+        IfOk result (GivesInput scale (read_with_proof texts (Ok (proofs_view proofs)))) }
 {
-    match test_mesh(alloc, lists, lines)? {
+    match test_mesh(alloc, scale, lists, lines)? {
         Prepared::No(why) => Ok(Given::No(why)),
         Prepared::Yes(mesh, lines) => Ok(Given::Yes(mesh, lines, proofs)),
     }
@@ -54,18 +55,19 @@ fn test_given(
 // The text of a proof, read behind lists and a log, and the mesh is tested.
 fn read_proof_of(
     alloc: Global,
+    scale: Scale,
     lists: MeshLists,
     lines: Log,
     proof: &[u8],
 ) -> Result<Given, NoMemory>
-    requires good { AreGood lists }
+    requires good { AreGood scale lists }
     requires few { length lines < 2 ^ 31 }
     requires proof_length { length proof.now ≤ TEXT_MAX }
     ensures { let texts = Ok (texts_of lists lines) in
-        IfOk result (GivesInput (read_with_proof texts (proofs_of proof.now))) }
+        IfOk result (GivesInput scale (read_with_proof texts (proofs_of proof.now))) }
 {
     match read_proof(alloc, proof) {
-        Ok(proofs) => test_given(alloc, &lists, lines, proofs),
+        Ok(proofs) => test_given(alloc, scale, &lists, lines, proofs),
         Err(ReadFault::NoMemory) => Err(NoMemory),
         Err(ReadFault::Text(fault)) => Ok(Given::No(LogRefusal::Proof(fault))),
     }
@@ -74,6 +76,7 @@ fn read_proof_of(
 // Reads the three texts and tests the mesh.
 fn read_all(
     alloc: Global,
+    scale: Scale,
     decimals: u8,
     mesh: &[u8],
     log: &[u8],
@@ -83,12 +86,12 @@ fn read_all(
     requires mesh_length { length mesh.now ≤ TEXT_MAX }
     requires log_length { length log.now ≤ TEXT_MAX }
     requires proof_length { length proof.now ≤ TEXT_MAX }
-    ensures { let texts = read_of_lists (lists_of decimals mesh.now) log.now in
-        IfOk result (GivesInput (read_with_proof texts (proofs_of proof.now))) }
+    ensures { let texts = read_of_lists scale (lists_of decimals mesh.now) log.now in
+        IfOk result (GivesInput scale (read_with_proof texts (proofs_of proof.now))) }
 {
-    match read_texts(alloc, decimals, mesh, log)? {
+    match read_texts(alloc, scale, decimals, mesh, log)? {
         Texts::No(why) => Ok(Given::No(why)),
-        Texts::Yes(lists, lines) => read_proof_of(alloc, lists, lines, proof),
+        Texts::Yes(lists, lines) => read_proof_of(alloc, scale, lists, lines, proof),
     }
 }
 
@@ -108,7 +111,7 @@ pub(crate) fn prepare_proof<O: Outside>(
         FetchedLog::No(why) => return Ok(Given::No(why)),
         FetchedLog::Yes(mesh, log) => (mesh, log),
     };
-    let proof = match fetch_text(alloc, outside, given.proof)? {
+    let proof = match fetch_text(alloc, given.files.scale, outside, given.proof)? {
         Fetched::Bytes(bytes) => bytes,
         Fetched::Absent => {
             return Ok(Given::No(LogRefusal::Input(Refusal::Missing {
@@ -122,5 +125,12 @@ pub(crate) fn prepare_proof<O: Outside>(
             })));
         }
     };
-    Ok(read_all(alloc, given.files.decimals, &mesh, &log, &proof)?)
+    Ok(read_all(
+        alloc,
+        given.files.scale,
+        given.files.decimals,
+        &mesh,
+        &log,
+        &proof,
+    )?)
 }

@@ -1,5 +1,6 @@
 -- When answers are those of the stored fields and the sizing to the directives of a job.
 use Rattle.std.specs.Prelude.{◌≡◌, Bool, is_ok, List, Option, None, Result, Ok, Err}
+use Rattle.mesh_base.specs.declared.Scale.{Scale}
 use Rattle.mesh_base.specs.Mesh.{Mesh}
 use Rattle.step_text.specs.declared.Placed.{Placed}
 use Rattle.log_text.specs.declared.Refusal.{Refusal}
@@ -16,10 +17,10 @@ use Rattle.track_run.specs.Job.{log_of_test}
 
 -- the directives of what was read are answered so, from where they
 -- begin, if no pair of its mesh meets
-abbrev pub IsInputAnswered : Known → Bool → Answers → Result Input Refusal → Type 0
-IsInputAnswered fields whole answers (Err why) = Unit {0}
-IsInputAnswered fields whole answers (Ok input) =
-    let m = mesh_of_lists input.lists in
+abbrev pub IsInputAnswered : Scale → Known → Bool → Answers → Result Input Refusal → Type 0
+IsInputAnswered scale fields whole answers (Err why) = Unit {0}
+IsInputAnswered scale fields whole answers (Ok input) =
+    let m = mesh_of_lists scale input.lists in
     met_first m ≡ None → AreAnswered fields whole answers input.steps (start m)
 
 -- ---- what parts of a run do, as the fields and the sizing answer

@@ -30,10 +30,10 @@ pub record HasLists (job : Job) (lists : Lists) (steps : List ℕ) : Type 0 wher
   pub step_file : job.step_file ≡ Bytes steps
   pub read : lists_of job.decimals mesh ≡ Ok lists
 
--- the lists are of good shape too
+-- the lists are of good shape too, and within the limits of the job
 pub record HasMesh (job : Job) (lists : Lists) (steps : List ℕ) : Type 0 where
   pub lists_read : HasLists job lists steps
-  pub good : shape_fault (length lists.points) lists.faces ≡ None
+  pub good : shape_fault job.scale (length lists.points) lists.faces ≡ None
 
 -- and both texts are read without a fault
 pub record HasSteps (job : Job) (lists : Lists) (directives : List Placed) : Type 0 where
@@ -44,8 +44,8 @@ pub record HasSteps (job : Job) (lists : Lists) (directives : List Placed) : Typ
 -- and no edge of the mesh meets a face that shares no vertex with it
 pub record HasClear (job : Job) (lists : Lists) (directives : List Placed) : Type 0 where
   pub steps_read : HasSteps job lists directives
-  pub clear : met_first (mesh_of_lists lists) ≡ None
-  pub none_meets : IsClearMesh (mesh_of_lists lists)
+  pub clear : met_first (mesh_of_lists job.scale lists) ≡ None
+  pub none_meets : IsClearMesh (mesh_of_lists job.scale lists)
 
 -- the pair is the first that meets: it is a pair of the mesh and meets,
 -- and none that meets comes before it
@@ -84,7 +84,7 @@ pub record IsRefusedAt (answers : Answers) (s : State) (directives : List Placed
 abbrev pub Cause : Job → Answers → Outcome → Type 0
 Cause job answers outcome.Done =
     (lists : Lists) × (directives : List Placed) × HasClear job lists directives × (end : State)
-    × Reaches answers (start (mesh_of_lists lists)) directives end
+    × Reaches answers (start (mesh_of_lists job.scale lists)) directives end
 Cause job answers (outcome.TooLong file.Mesh seen) = job.mesh_file ≡ TooLong seen
 Cause job answers (outcome.TooLong file.Steps seen) =
     IsThere job.mesh_file × (job.step_file ≡ TooLong seen)
@@ -100,15 +100,15 @@ Cause job answers (outcome.MeshText fault) =
     × (lists_of job.decimals bytes ≡ Err fault)
 Cause job answers (outcome.MeshShape fault) =
     (lists : Lists) × (steps : List ℕ) × HasLists job lists steps
-    × (shape_fault (length lists.points) lists.faces ≡ Some fault)
+    × (shape_fault job.scale (length lists.points) lists.faces ≡ Some fault)
 Cause job answers (outcome.StepText fault) =
     (lists : Lists) × (steps : List ℕ) × HasMesh job lists steps × (steps_of steps ≡ Err fault)
 Cause job answers (outcome.StepUse line why) =
     (lists : Lists) × (directives : List Placed) × HasClear job lists directives
-    × IsRefusedAt answers (start (mesh_of_lists lists)) directives line why
+    × IsRefusedAt answers (start (mesh_of_lists job.scale lists)) directives line why
 Cause job answers (outcome.MeshMeets pair) =
     (lists : Lists) × (directives : List Placed) × HasSteps job lists directives
-    × MeetsFirst (mesh_of_lists lists) pair
+    × MeetsFirst (mesh_of_lists job.scale lists) pair
 Cause job answers (outcome.LogText fault) = ⊥
 Cause job answers (outcome.LogUse line) = ⊥
 Cause job answers (outcome.ProofText fault) = ⊥

@@ -1,5 +1,6 @@
 -- The headline: what a run does.
 use Rattle.std.specs.Prelude.{◌≡◌, ◌≤◌, ◌⊎◌, ℕ, List, is_ok, Option, Some, None, Result, Ok, Err}
+use Rattle.mesh_base.specs.declared.Scale.{Scale}
 use Rattle.step_text.specs.declared.Directive.{Directive}
 use Rattle.step_text.specs.declared.Directive.TheVariants as directive
 use Rattle.log_text.specs.declared.LogLine.{LogLine}
@@ -92,7 +93,7 @@ pub record Tracks (fields : Known) (job : Job) (to : Target) (result : Outcome) 
     : Type 0 where
   pub answers : Answers
   pub ended : Result (Option Refusal) Stop
-  pub answered : IsInputAnswered fields (is_ok ended) answers (input_of job)
+  pub answered : IsInputAnswered job.scale fields (is_ok ended) answers (input_of job)
   pub outcome_is : result ≡ outcome_from ended
   pub log : Follows to (replay_of job) (log_of job answers) old new ended
   pub promises : LogPromises job answers
@@ -105,28 +106,29 @@ pub record FaultsAreCounted (old new : World) (result : Outcome) : Type 0 where
   pub desk_fault : result ≡ outcome.DeskFault → Rose old.desk_faults new.desk_faults
   pub sink_fault : result ≡ outcome.SinkFault → Rose old.sink_faults new.sink_faults
 
--- The text of a job's log is read as exactly its lines, so whoever
--- reads the log reads what it promises.
+-- The text of a job's log is read as exactly its lines by a command
+-- of the same scale, so whoever reads the log reads what it promises.
 abbrev pub IsReadBack : Job → Answers → Type 0
 IsReadBack job answers =
-    lines_of_text (text_of_lines (log_of job answers).lines) ≡ Ok (log_of job answers).lines
+    lines_of_text job.scale (text_of_lines (log_of job answers).lines)
+    ≡ Ok (log_of job answers).lines
 
 -- the job of a command, which is what the desk held at entry, is tracked
-pub record TracksCommand (fields : Known) (mesh_name step_name : List ℕ) (to : Target)
-    (result : Outcome) (old new : World) : Type 0 where
+pub record TracksCommand (scale : Scale) (fields : Known) (mesh_name step_name : List ℕ)
+    (to : Target) (result : Outcome) (old new : World) : Type 0 where
   pub job : Job
-  pub is_job : IsJob old.holds.files mesh_name step_name to.decimals job
+  pub is_job : IsJob scale old.holds.files mesh_name step_name to.decimals job
   pub tracks : Tracks fields job to result old.holds new.holds
   pub read_back : IsReadBack job tracks.answers
   pub faults : FaultsAreCounted old new result
 
 -- the mesh of the one file is converted to the other; the parts are
 -- explained where `Converts` stands
-pub record ConvertsCommand (from to : MeshName) (decimals : ℕ) (result : Outcome) (old new : World)
-    : Type 0 where
+pub record ConvertsCommand (scale : Scale) (from to : MeshName) (decimals : ℕ) (result : Outcome)
+    (old new : World) : Type 0 where
   pub ended : Result (Option Refusal) Stop
   pub outcome_is : result ≡ outcome_from ended
-  pub converts : Converts from to decimals ended old new
+  pub converts : Converts scale from to decimals ended old new
 
 -- the text is written whole, or the first of it, perhaps nothing, and not all
 abbrev pub IsWrittenBy : {T E : Type 0} → List ℕ → Result T E → Option (List ℕ) → Option (List ℕ) →
@@ -176,25 +178,27 @@ pub record ReplaysCommand (names : ReplayNames) (result : Outcome) (old new : Wo
   pub replays : Replays names ended old new
 
 -- it is told what is wrong with the mesh of the file; the parts are explained where `Checks` stands
-pub record ChecksCommand (mesh : MeshName) (decimals : ℕ) (result : Outcome)
+pub record ChecksCommand (scale : Scale) (mesh : MeshName) (decimals : ℕ) (result : Outcome)
     (old new : World) : Type 0 where
   pub ended : Result (Option Refusal) Stop
   pub outcome_is : result ≡ outcome_from ended
-  pub checks : Checks mesh decimals ended old new
+  pub checks : Checks scale mesh decimals ended old new
 
 -- a run for a command with these stored fields and this sizing, or for none: then nothing is done
 abbrev pub Runs : Known → Option Named → Outcome → World → World → Type 0
 Runs fields None result old new = (result ≡ outcome.Usage) × (new ≡ old)
-Runs fields (Some (Track mesh steps prefix decimals)) result old new =
-    TracksCommand fields mesh steps (record { prefix = prefix; decimals = decimals }) result old new
-Runs fields (Some (Convert from to decimals)) result old new =
-    ConvertsCommand from to decimals result old new
+Runs fields (Some (Track mesh steps prefix scale decimals)) result old new =
+    let to = record { prefix = prefix; decimals = decimals } in
+    TracksCommand scale fields mesh steps to result old new
+Runs fields (Some (Convert from to scale decimals)) result old new =
+    ConvertsCommand scale from to decimals result old new
 Runs fields (Some (Try cubes key)) result old new = TriesCommand cubes key result old new
 Runs fields (Some (Measure names)) result old new = MeasuresCommand names result old new
 Runs fields (Some (Prove names)) result old new = ProvesCommand names result old new
 Runs fields (Some (Verify names)) result old new = VerifiesCommand names result old new
 Runs fields (Some (Replay names)) result old new = ReplaysCommand names result old new
-Runs fields (Some (Check mesh decimals)) result old new = ChecksCommand mesh decimals result old new
+Runs fields (Some (Check mesh scale decimals)) result old new =
+    ChecksCommand scale mesh decimals result old new
 
 -- a run for what the words are read as: a command, or none where they are of no listed form
 pub record RunsReading (fields : Known) (words : List (List ℕ)) (result : Outcome) (old new : World)
@@ -210,10 +214,10 @@ RunsFor fields words result old new =
     RunsReading fields words result old new ⊎ ((result ≡ outcome.NoMemory) × (new ≡ old))
 
 -- what a job's run writes and stores as the fields and the sizing answer, by how it ended
-pub record TracksJob (fields : Known) (mesh_name step_name : List ℕ) (to : Target)
+pub record TracksJob (scale : Scale) (fields : Known) (mesh_name step_name : List ℕ) (to : Target)
     (old new : Contents) (result : Result (Option Refusal) Stop) : Type 0 where
   pub job : Job
-  pub is_job : IsJob old.files mesh_name step_name to.decimals job
+  pub is_job : IsJob scale old.files mesh_name step_name to.decimals job
   pub answers : Answers
-  pub answered : IsInputAnswered fields (is_ok result) answers (input_of job)
+  pub answered : IsInputAnswered job.scale fields (is_ok result) answers (input_of job)
   pub follows : Follows to (replay_of job) (log_of job answers) old new result

@@ -21,7 +21,7 @@ pub record IsReached (job : Job) (answers : Answers) (s : State) : Type 0 where
   pub front : List Placed
   pub rest : List Placed
   pub split : directives ≡ front ++ rest
-  pub reached : Reaches answers (start (mesh_of_lists lists)) front s
+  pub reached : Reaches answers (start (mesh_of_lists job.scale lists)) front s
 
 -- What holds where a run stands before the directives to come, to which the answers to come are
 -- left: the log is the lines so far and then theirs, the replay of the lines so far stands there

@@ -17,7 +17,7 @@ use crate::outcome::Outcome;
 use grid_base::{Point, Shift};
 use log_text::{LogLine, Refusal, VERSION};
 use log_write::write_line;
-use mesh_base::Surface;
+use mesh_base::{Scale, Surface};
 use mesh_field::Fields;
 use mesh_journal::JournalMesh;
 use mesh_sizing::{Band, Sizing};
@@ -160,6 +160,7 @@ fn test_and_begin<S: Surface + Drop, O: Outside, F: Fn(u8, Point) -> Shift, G: F
 // The whole log of the job of two files.
 fn track<O: Outside, F: Fn(u8, Point) -> Shift, G: Fn(Point) -> Band>(
     alloc: Global,
+    scale: Scale,
     mesh_name: &str,
     step_name: &str,
     terms: &RunTerms<'_, F, G>,
@@ -168,17 +169,24 @@ fn track<O: Outside, F: Fn(u8, Point) -> Shift, G: Fn(Point) -> Band>(
     requires few { terms.now.to.decimals ≤ DECIMALS_MAX }
     requires fields { IsWellKept F.Fn terms.now.fields.now }
     requires sizing { SizesWell G.Fn terms.now.sizing.now }
-    ensures tracks { TracksJob
+    ensures tracks { TracksJob scale
         (known F.Fn terms.now.fields.now G.Fn terms.now.sizing.now)
         mesh_name.now step_name.now (target_of terms.now.to)
         (holds_of (O.around outside.old)) (holds_of (O.around outside.new)) result }
     ensures counts { Counts (O.around outside.old) (O.around outside.new) result }
 {
     write_line(alloc, outside, &LogLine::First { version: VERSION })?;
-    match prepare(alloc, mesh_name, step_name, terms.to.decimals, outside)? {
+    match prepare(
+        alloc,
+        scale,
+        mesh_name,
+        step_name,
+        terms.to.decimals,
+        outside,
+    )? {
         Ready::No(why) => finish(alloc, outside, LogLine::Refused(why)),
         Ready::Yes(lists, steps) => {
-            let mesh = JournalMesh::of(alloc, &lists)?;
+            let mesh = JournalMesh::of(alloc, scale, &lists)?;
             test_and_begin(alloc, terms, mesh, &steps, outside)
         }
     }
@@ -186,8 +194,9 @@ fn track<O: Outside, F: Fn(u8, Point) -> Shift, G: Fn(Point) -> Band>(
 
 /// Tracks, converts or checks a mesh, measures, proves, verifies or replays a log, or tries a job that is made, as the words say:
 /// `track MESH STEPS PREFIX`, `convert FROM TO`, `check MESH`, `measure MESH LOG`, `prove MESH LOG`, `verify MESH LOG PROOF` or
-/// `replay MESH LOG PREFIX`, or one of these and `--decimals N` with one digit N from 0 to 6, `replay` too with `--only K`, or `try N KEY` with N
-/// from 1 to 12 and KEY below 2^32.
+/// `replay MESH LOG PREFIX`, or one of these and `--large`, `--decimals N` with one digit N from 0 to 6, or both, `replay` too with `--only K`,
+/// or `try N KEY` with N from 1 to 12 and KEY below 2^32. With `--large` files, and the meshes in them, may be large: else a file has at most
+/// 67,108,864 bytes, and a mesh 65,536 vertices and 131,072 faces.
 ///
 /// To track a mesh, the mesh and the steps are fetched from the desk and read, the log is written to the sink, a line at a time, and meshes
 /// are stored under the prefix, a dash, a number of at least six digits, and `.obj`. To convert it, the mesh of the one file is stored in
@@ -232,15 +241,21 @@ pub fn run<'a, D: Desk, K: Sink, F: Fn(u8, Point) -> Shift, G: Fn(Point) -> Band
             mesh,
             steps,
             prefix,
+            scale,
             decimals,
         } => {
             let to = Target { prefix, decimals };
             let terms = RunTerms { to, fields, sizing };
-            let ended = track(alloc, mesh, steps, &terms, &mut ends);
+            let ended = track(alloc, scale, mesh, steps, &terms, &mut ends);
             outcome_from(ended)
         }
-        Command::Convert { from, to, decimals } => {
-            let ended = convert(alloc, from, to, decimals, &mut ends);
+        Command::Convert {
+            from,
+            to,
+            scale,
+            decimals,
+        } => {
+            let ended = convert(alloc, scale, from, to, decimals, &mut ends);
             outcome_from(ended)
         }
         Command::Try { cubes, key } => {
@@ -263,8 +278,12 @@ pub fn run<'a, D: Desk, K: Sink, F: Fn(u8, Point) -> Shift, G: Fn(Point) -> Band
             let ended = replay(alloc, given, &mut ends);
             outcome_by_log(ended)
         }
-        Command::Check { mesh, decimals } => {
-            let ended = check(alloc, mesh, decimals, &mut ends);
+        Command::Check {
+            mesh,
+            scale,
+            decimals,
+        } => {
+            let ended = check(alloc, scale, mesh, decimals, &mut ends);
             outcome_from(ended)
         }
     }

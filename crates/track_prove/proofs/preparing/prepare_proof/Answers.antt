@@ -12,19 +12,19 @@ returns-in-No-clause-prepares g c = prepares_no_log (g.O.Outside.around c.args.o
 
 pub returns-in-Absent-clause-prepares : goal.returns-in-Absent-clause-prepares
 returns-in-Absent-clause-prepares g c =
-    let P : Contents → Type 0 = λ holds. IsSource holds.files c.args.given.proof.now (source_of c.in_ok-bytes.field-0) in
+    let P : Contents → Type 0 = λ holds. IsSource c.args.given.files.scale holds.files c.args.given.proof.now (source_of c.in_ok-bytes.field-0) in
     prepares_no_proof (g.O.Outside.around c.args.outside.now).world.holds.files (proof_names c.args.given) c.in_ok-why.field-0 c.in_ok-why.ensures.fetches
     c.in-Yes.mesh.items c.in-Yes.log.items (ap fetched_by c.in-Yes.is) c.in_ok-bytes.field-0 (subst P c.in_ok-why.ensures.looks.kept c.in_ok-bytes.ensures.source) (ap source_of c.in-Absent.is)
 
 pub returns-in-TooLong-clause-prepares : goal.returns-in-TooLong-clause-prepares
 returns-in-TooLong-clause-prepares g c =
-    let P : Contents → Type 0 = λ holds. IsSource holds.files c.args.given.proof.now (source_of c.in_ok-bytes.field-0) in
+    let P : Contents → Type 0 = λ holds. IsSource c.args.given.files.scale holds.files c.args.given.proof.now (source_of c.in_ok-bytes.field-0) in
     prepares_long_proof (g.O.Outside.around c.args.outside.now).world.holds.files (proof_names c.args.given) c.in_ok-why.field-0 c.in_ok-why.ensures.fetches
     c.in-Yes.mesh.items c.in-Yes.log.items (ap fetched_by c.in-Yes.is) c.in_ok-bytes.field-0 (subst P c.in_ok-why.ensures.looks.kept c.in_ok-bytes.ensures.source) c.in-TooLong.seen (ap source_of c.in-TooLong.is)
 
 pub returns-clause-prepares : goal.returns-clause-prepares
 returns-clause-prepares g c =
-    let P : Contents → Type 0 = λ holds. IsSource holds.files c.args.given.proof.now (source_of c.in_ok-bytes.field-0) in
+    let P : Contents → Type 0 = λ holds. IsSource c.args.given.files.scale holds.files c.args.given.proof.now (source_of c.in_ok-bytes.field-0) in
     prepares_read (g.O.Outside.around c.args.outside.now).world.holds.files (proof_names c.args.given) c.in_ok-why.field-0 c.in_ok-why.ensures.fetches
     c.in-Yes.mesh.items c.in-Yes.log.items (ap fetched_by c.in-Yes.is) c.in_ok-bytes.field-0 (subst P c.in_ok-why.ensures.looks.kept c.in_ok-bytes.ensures.source)
     c.in-Bytes.bytes.items (ap source_of c.in-Bytes.is) c.deref.result.now c.deref-2.result.now c.deref-3.result.now c.deref.ensures.value c.deref-2.ensures.value c.deref-3.ensures.value c.in_ok-read_all.field-0 c.in_ok-read_all.ensures
