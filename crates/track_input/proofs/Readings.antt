@@ -22,7 +22,7 @@ use Rattle.track_input.specs.declared.command.Command.{Command}
 use Rattle.track_input.specs.Taken.{scale_words, digit_words, behind, options_behind, AreTakenAs, IsReading}
 use Rattle.track_input.specs.Commands.{scale_of, Values, IsFound, IsReadBy, values_in, track_app, track_of, track_read, convert_app, convert_of, convert_read, try_app, try_of, try_read, log_app, log_of, log_read, measure_app, measure_read, prove_app, prove_read, verify_app, verify_of, verify_read, replay_app, replay_of, replay_read, check_app, check_of, check_read, app_by_name, read_by_name, IsReadExactly}
 use Rattle.track_input.proofs.Walks.{IsPlainWord, plain_word, plain_digit, plain_number, try_taken, try_found, log_taken, log_found, track_taken, track_found, convert_taken, convert_found, verify_taken, verify_found, replay_taken, replay_found, only_taken, only_found, check_taken, check_found}
-use Rattle.track_input.proofs.Among.{AreSafe, FoundLong, IsOption, IsSetRule, IsFlagRule, is_option, named_value, no_option, NotLarge, not_large, RowsFrom, rows_from, first_from, contains_here, contains_later}
+use Rattle.track_input.proofs.Among.{AreSafe, FoundLong, IsOption, IsSetRule, IsFlagRule, is_option, named_value, no_option, not_large, RowsFrom, rows_from, first_from, contains_here, contains_later}
 
 -- ---- the reading
 

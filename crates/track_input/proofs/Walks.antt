@@ -15,7 +15,7 @@ use Rattle.line_text.specs.declared.number.TheConstants.{DIGITS_MAX}
 use Rattle.mesh_base.specs.declared.Scale.{Scale}
 use Rattle.mesh_base.specs.declared.Scale.TheVariants.{Standard, Large}
 use Rattle.track_input.specs.Words.{is_file_word, is_decimals}
-use Rattle.track_input.specs.Taken.{behind, options_behind}
+use Rattle.track_input.specs.Taken.{behind}
 use Rattle.track_input.specs.Commands.{scale_of, track_app, convert_app, try_app, log_app, verify_app, replay_app, check_app}
 use Rattle.track_input.proofs.Walking.{row, behind_files, behind_digit, behind_number, start, ends_well, top, Walks, walks_on, takes_walked, matches_walked}
 
