@@ -1,11 +1,11 @@
 -- What directives give is in range.
-use Rattle.std.proofs.Common.{◌≡◌, ℕ, suc, ◌+◌, ◌≤◌, Bool, true, false, cond, not, is_some, List, [], ◌∷◌, ◌++◌, map, length, take, Option, Some, None, IsSome, Result, Ok, Err, refl, sym, subst, arith}
-use Rattle.std.specs.Prelude.{IfSome, ◌==◌}
-use Rattle.std.specs.List.{All, AllByRecursion, find, filter}
+use Rattle.std.proofs.Common.{◌≡◌, ℕ, suc, ◌+◌, ◌≤◌, Bool, true, false, cond, not, is_some, List, [], ◌∷◌, length, take, Option, Some, None, Result, Ok, Err, refl, sym, subst, arith}
+use Rattle.std.specs.Prelude.{IfSome}
+use Rattle.std.specs.List.{All, AllByRecursion, find}
 use Rattle.std.specs.Option.{option_map}
 use Rattle.std.specs.FinMap as finite
-use Rattle.std.proofs.lemmas.List.Elements.{All-nil, All-cons, All-append, All-filter, recursion_from_All, All-from_recursion}
-use Rattle.grid_base.specs.declared.TheConstants.{ID_MAX, SHIFT_MAX, BOX}
+use Rattle.std.proofs.lemmas.List.Elements.{All-nil, All-cons, All-append, All-filter, recursion_from_All}
+use Rattle.grid_base.specs.declared.TheConstants.{SHIFT_MAX, BOX}
 use Rattle.grid_base.specs.declared.Shift.{Shift}
 use Rattle.grid_base.specs.Points.{is_within}
 use Rattle.grid_decided.specs.Decided.{meets_exactly, meets_exactly-is_exact}
@@ -14,7 +14,7 @@ use Rattle.mesh_base.specs.declared.Scale.{Scale}
 use Rattle.mesh_base.specs.declared.How.{How}
 use Rattle.mesh_base.specs.declared.How.TheVariants.{Whole, Impulse, Zones, Halved, Zero}
 use Rattle.mesh_base.specs.declared.UseWhy.{UseWhy}
-use Rattle.mesh_base.specs.declared.UseWhy.TheVariants.{ShiftRange, NoField}
+use Rattle.mesh_base.specs.declared.UseWhy.TheVariants.{ShiftRange}
 use Rattle.mesh_base.specs.Mesh.{Mesh, IsSound, IsLiveVertex, is_solid}
 use Rattle.mesh_base.specs.Pairs.{edges}
 use Rattle.mesh_base.specs.Shifts.{Shifts}
@@ -30,11 +30,10 @@ use Rattle.step_text.specs.declared.Directive.{Directive}
 use Rattle.step_text.specs.declared.Directive.TheVariants as directive
 use Rattle.step_text.specs.declared.Placed.{Placed}
 use Rattle.step_text.specs.Ranges.{IsInRange, IsPassInRange}
-use Rattle.log_text.specs.declared.TheConstants.{COUNT_MAX}
 use Rattle.log_text.specs.declared.LogLine.{LogLine}
 use Rattle.log_text.specs.declared.LogLine.TheVariants.{Solid, Group as GroupLine, Close, End, Refused as RefusedLine}
 use Rattle.log_text.specs.declared.Refusal.TheVariants.{StepUse}
-use Rattle.log_read.specs.Laws.{IsFrom, IsPairInRange, IsHowInRange, IsUseInRange}
+use Rattle.log_read.specs.Laws.{IsPairInRange, IsHowInRange, IsUseInRange}
 use Rattle.log_replay.specs.Laws.{HaveLimits, IsWithin}
 use Rattle.log_replay.proofs.Limits.{limits-after}
 use Rattle.pass_run.specs.PassLines.{terms_of}
@@ -49,8 +48,7 @@ use Rattle.run_laws.specs.Texts.{IsPlacedInRange}
 use Rattle.run_laws.proofs.Texts.{pass_told}
 use Rattle.track_engine.specs.State.{Group, State, asked_of, is_open, standing}
 use Rattle.track_engine.specs.Answers.{Answer, Nothing, NoSuchField, FieldShifts, Wanted, WantedOfFirst, Answers, first, later}
-use Rattle.track_engine.specs.Effects.{Effect, Proceeds, Refused, Unanswered, ExpectedLog, summed, is_beyond, first_beyond, sum_or_range, sum_of_all, drive_effect, fit_effect, fitted_lines, one_summed, sum_at, sum_of_one, moves, moving, end_of, first_outside, hits, taken, step_lines, after_step, passed_lines, after_pass, shift_effect, step_effect, mesh_line, after_solid, solid_effect, kept_whole, taken_back, close_effect, effect_of, and_then, log_from}
-use Rattle.track_engine.specs.Invariant.{IsRunInvariant}
+use Rattle.track_engine.specs.Effects.{Effect, Proceeds, Refused, Unanswered, summed, is_beyond, first_beyond, sum_or_range, sum_of_all, drive_effect, fit_effect, fitted_lines, one_summed, sum_at, sum_of_one, moves, moving, end_of, first_outside, hits, taken, step_lines, passed_lines, shift_effect, step_effect, mesh_line, solid_effect, kept_whole, taken_back, close_effect, effect_of, and_then, log_from}
 use Rattle.track_engine.specs.Promise.{blocks_moved}
 use Rattle.track_engine.proofs.StepLemmas.{all_inside}
 use Rattle.track_engine.proofs.Promises.{blocks_of_taken}

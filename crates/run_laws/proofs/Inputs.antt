@@ -1,5 +1,5 @@
 -- What the two files of a job give is in range.
-use Rattle.std.proofs.Common.{◌≡◌, ℕ, ◌+◌, ◌≤◌, List, ◌∷◌, map, length, Option, Some, None, Result, Ok, Err, refl, ap, ◌∙◌, arith}
+use Rattle.std.proofs.Common.{◌≡◌, ℕ, ◌≤◌, List, map, length, Option, Some, None, Result, Ok, Err, refl, ap, ◌∙◌, arith}
 use Rattle.std.proofs.lemmas.List.{length-map}
 use Rattle.std.proofs.lemmas.List.Elements.{All-cons}
 use Rattle.grid_base.specs.declared.TheConstants.{TEXT_MAX}
@@ -13,12 +13,11 @@ use Rattle.line_text.specs.declared.TextFault.{TextFault}
 use Rattle.obj_text.specs.Obj.{Lists, lists_of}
 use Rattle.step_text.specs.declared.Placed.{Placed}
 use Rattle.step_text.specs.Steps.{steps_of}
-use Rattle.log_text.specs.declared.TheConstants.{COUNT_MAX}
 use Rattle.run_laws.specs.Lines.{MayFollow}
 use Rattle.run_laws.proofs.StepLines.{mesh_in_range}
 use Rattle.run_laws.proofs.Texts.{mesh_faults_in_range, shape_faults_in_range, step_faults_in_range, directives_in_range, directives_are_few}
 use Rattle.track_input.specs.Source.{Source, Bytes, Absent, TooLong}
-use Rattle.track_input.specs.Job.{Job, input_of_steps, input_of_shape, input_of_lists, input_of_files}
+use Rattle.track_input.specs.Job.{input_of_steps, input_of_shape, input_of_lists, input_of_files}
 use Rattle.track_engine.specs.State.{start}
 use Rattle.track_engine.specs.Effects.{mesh_line, log_from}
 use Rattle.track_engine.proofs.Keeping.{kept_start}

@@ -1,5 +1,5 @@
 -- What the two files of a job give is in the log's ranges, as statements.
-use Rattle.std.specs.Prelude.{ℕ, ◌+◌, ◌≤◌, List, ◌∷◌, length, Result, Ok, Err}
+use Rattle.std.specs.Prelude.{◌+◌, ◌≤◌, List, ◌∷◌, length, Result, Ok, Err}
 use Rattle.std.specs.List.{All}
 use Rattle.grid_base.specs.declared.TheConstants.{TEXT_MAX}
 use Rattle.mesh_base.specs.declared.Scale.{Scale}
