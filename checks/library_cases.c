@@ -52,15 +52,18 @@ static void shapes(void)
     static const struct topo_triangle none[] = {{1, 3, 2}, {1, 2, 9}, {2, 3, 4}, {1, 4, 3}};
     static const struct topo_triangle equal[] = {{1, 3, 2}, {1, 2, 4}, {2, 3, 4}, {1, 4, 3}, {4, 2, 3}};
     static const struct topo_point out[] = {{0, 0, 0}, {40, 0, 0}, {0, 268435457, 0}, {0, 0, 40}};
-    static struct topo_point many[65537];
+    static struct topo_point many[4194305];
+    static struct topo_triangle many_faces[8388609];
     refused("an open tetrahedron", topo_new(four, 4, sides, 3, &t, &fault), TOPO_UNBALANCED, 1, 3, 0);
     refused("two bodies that meet", topo_new(eight, 8, meeting, 8, &t, &fault), TOPO_MEETS, 5, 6, 3);
     refused("a corner twice", topo_new(four, 4, twice, 4, &t, &fault), TOPO_REPEATED, 2, 0, 0);
     refused("a corner that is no point", topo_new(four, 4, none, 4, &t, &fault), TOPO_CORNER, 2, 3, 0);
     refused("two equal faces", topo_new(four, 4, equal, 5, &t, &fault), TOPO_DOUBLED, 3, 5, 0);
     refused("a point outside the box", topo_new(out, 4, sides, 4, &t, &fault), TOPO_OUTSIDE, 3, 0, 0);
-    refused("65,537 points", topo_new(many, 65537, 0, 0, &t, &fault), TOPO_MANY_VERTICES, 65537, 0, 0);
+    refused("4,194,305 points", topo_new(many, 4194305, 0, 0, &t, &fault), TOPO_MANY_VERTICES, 4194305, 0, 0);
+    refused("8,388,609 faces", topo_new(many, 1, many_faces, 8388609, &t, &fault), TOPO_MANY_FACES, 8388609, 0, 0);
     is("none is made", t.live, 0);
+    is("65,537 points", topo_new(many, 65537, 0, 0, &t, &fault), TOPO_DONE);
     is("no point and no face", topo_new(0, 0, 0, 0, &t, &fault), TOPO_DONE);
     is("a tetrahedron in its place", topo_new(four, 4, sides, 4, &t, &fault), TOPO_DONE);
     refused("a refusal empties the handle", topo_new(four, 4, sides, 3, &t, &fault), TOPO_UNBALANCED, 1, 3, 0);
@@ -244,8 +247,8 @@ static void rows_of_four(void)
 
 static void numbered(void)
 {
-    static struct topo_vertex many[65537];
-    static struct topo_face many_faces[131073];
+    static struct topo_vertex many[4194305];
+    static struct topo_face many_faces[8388609];
     uint32_t i;
     rows_of_four();
     is("with ids of their own", again(), TOPO_DONE);
@@ -256,8 +259,8 @@ static void numbered(void)
     rows_of_four(), points[2].y = 268435457;
     refused("a vertex outside the box", again(), TOPO_OUTSIDE, 3, 0, 0);
     is("the handle is empty", topo_pinch(&t, &edits, &fault), TOPO_EMPTY);
-    refused("65,537 vertices", topo_new_numbered(many, 65537, 0, 0, 0, 0, 1, 1, &t, &fault), TOPO_MANY_VERTICES, 65537, 0, 0);
-    refused("131,073 faces", topo_new_numbered(0, 0, many_faces, 131073, 0, 0, 1, 1, &t, &fault), TOPO_MANY_FACES, 131073, 0, 0);
+    refused("4,194,305 vertices", topo_new_numbered(many, 4194305, 0, 0, 0, 0, 1, 1, &t, &fault), TOPO_MANY_VERTICES, 4194305, 0, 0);
+    refused("8,388,609 faces", topo_new_numbered(0, 0, many_faces, 8388609, 0, 0, 1, 1, &t, &fault), TOPO_MANY_FACES, 8388609, 0, 0);
     rows_of_four(), counted.next_vertex = 2147483650u;
     refused("a next vertex beyond 2^31 + 1", again(), TOPO_NEXT_VERTEX, 2147483650u, 0, 0);
     rows_of_four(), counted.next_face = 0;

@@ -240,7 +240,7 @@ def read_mesh(text, decimals):
             faces += zip(ids[:1] * (len(ids) - 2), ids[1:], ids[2:])
         else:
             need(kind in UNREAD, f"{at}: {kind}")
-    need(len(points) <= 65536 and len(faces) <= 131072, "the mesh is too large")
+    need(len(points) <= 2**22 and len(faces) <= 2**23, "the mesh is too large")
     need(all(max(map(abs, p)) <= 2**28 for p in points), "a point is outside the box")
     need(all(len({*c}) == 3 and 0 < min(c) and max(c) <= len(points) for c in faces), "a corner is no vertex, or is there twice")
     runs = Counter(chain(*map(sides, faces)))

@@ -122,8 +122,8 @@ def load(path):
     lacking = [name for name in CALLS if not hasattr(library, name)]
     if lacking:
         raise ImportError(f"{path} is the library of another topo.h: it has no {', '.join(lacking)}")
-    if library.topo_calls() != 1:
-        raise ImportError(f"{path} is the library of another topo.h: its calls have the version {library.topo_calls()}, and not 1")
+    if library.topo_calls() != 2:
+        raise ImportError(f"{path} is the library of another topo.h: its calls have the version {library.topo_calls()}, and not 2")
     if library.topo_version() != 2:
         raise ImportError(f"{path} has another version of the log than 2")
     return library

@@ -9,7 +9,7 @@ ghost use Rattle.edit_check.specs.Untouched.{IsClearWhereUntouched, MoveFits};
 ghost use Rattle.edit_check.specs.Reach.{ReachesTouched};
 ghost use Rattle.edit_check.specs.Checking.{scaffold_by};
 
-use crate::face_pairs::some_touched_fail;
+use crate::face_pairs::none_is_seen_to_fail;
 use crate::moves::Moved;
 use crate::nearby::faces_near;
 use crate::neighbourhood::Neighbourhood;
@@ -49,7 +49,7 @@ fn first_in_reach<S: Surface>(
         faces,
         touched: touched.as_slice(),
     };
-    if !some_touched_fail(&near) {
+    if none_is_seen_to_fail(&near) {
         return Ok(None);
     }
     Ok(first_along(&near))

@@ -1,5 +1,5 @@
 //! Whether sides of touched faces, and of the faces near them, fail to do what is required of them.
-ghost use Rattle.std.specs.Prelude.{◌≡◌, ◌≤◌, nat_lt, true, IsTrue};
+ghost use Rattle.std.specs.Prelude.{◌≡◌, ◌≤◌, nat_lt, true, false, IsTrue};
 ghost use Rattle.std.specs.List.{list_any};
 ghost use Rattle.pair_paths.specs.Pairing.{have_a_vertex_in_common};
 ghost use Rattle.edit_check.specs.FacePairs.{upward, runs_down_beside, is_asked_elsewhere};
@@ -125,7 +125,7 @@ fn fails_with_some(near: &Neighbourhood, f: &BoxedFace) -> bool
 
 /// Whether one of the touched faces and one of the faces near fail so. Where none do, no edge of the faces has a pair that is
 /// not as required.
-pub(crate) fn some_touched_fail(near: &Neighbourhood) -> bool
+fn some_touched_fail(near: &Neighbourhood) -> bool
     ensures { let n = near.now in
         result ≡ some_touched_fail n.terms n.faces.now n.touched.now n.touched.now }
 {
@@ -135,4 +135,18 @@ pub(crate) fn some_touched_fail(near: &Neighbourhood) -> bool
         }
     }
     false
+}
+
+/// Among so many touched faces it takes less time to look for a pair face against face than edge by edge. Only speed depends on it.
+const TOUCHED: usize = 64;
+
+/// Whether it is found so that none fails. Where many are touched, as all round a vertex of high degree that moves, it is not looked.
+pub(crate) fn none_is_seen_to_fail(near: &Neighbourhood) -> bool
+    ensures { let n = near.now in
+        IsTrue result → some_touched_fail n.terms n.faces.now n.touched.now n.touched.now ≡ false }
+{
+    if near.touched.len() > TOUCHED {
+        return false;
+    }
+    !some_touched_fail(near)
 }

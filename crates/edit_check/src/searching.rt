@@ -37,8 +37,9 @@ fn first_near(near: &Neighbourhood, e: &BoxedEdge) -> Option<PairName>
     first_failing_among(t.touch, t.together, t.depth, e, tested)
 }
 
-/// Among so many faces the one that runs an edge's way is sought fast.
-const FEW: usize = 1024;
+/// Among so many faces the one that runs an edge's way is sought fast. Among more, as round a vertex of high degree, it is not sought
+/// for each edge, which would take time in proportion to the square of their number.
+const FEW: usize = 64;
 
 /// An edge is tested with a touched face in no less time than it takes to look whether each of so many faces runs its way.
 const LOOKS_A_TEST: usize = 16;

@@ -18,3 +18,5 @@ pub mod Room
 pub mod Spent
 pub mod Three
 pub mod SolidEnds
+pub mod IdSearch
+pub mod Unlike

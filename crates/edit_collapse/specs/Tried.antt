@@ -1,9 +1,11 @@
 -- When a collapse is tried, and what is left of the faces at its end.
 use Rattle.std.specs.Prelude.{◌≡◌, ◌≢◌, ℕ, zero, suc, ◌+◌, ◌==◌, is_some, if◌then◌else◌}
-use Rattle.std.specs.Prelude.{◌&&◌, not, false, true, List, ◌∷◌, [], slice_get, Bool}
+use Rattle.std.specs.Prelude.{◌&&◌, not, false, true, List, ◌∷◌, [], slice_get, Bool, map}
 use Rattle.std.specs.Option.{option_map, option_map_or, unwrap_or}
 use Rattle.std.proofs.Common.{Option}
 use Rattle.std.specs.List.{filter, filter_map, flat_map, find, list_any}
+use Rattle.std.specs.List.Sorted.{IsStrictlySortedBy}
+use Rattle.std.specs.Ordering.{nat_cmp}
 use Rattle.std.specs.FinMap as finite
 use Rattle.mesh_base.specs.declared.ids.Corners.{Corners}
 use Rattle.mesh_base.specs.Mesh.{Mesh, IsSound}
@@ -94,6 +96,10 @@ without_if_bare m v =
 -- the list has the id
 abbrev pub has_id_in : List (ℕ × Corners) → ℕ → Bool
 has_id_in es f = list_any (λ e. e.0 == f) es
+
+-- the ids rise
+abbrev pub AreRising : List (ℕ × Corners) → Type 0
+AreRising es = IsStrictlySortedBy nat_cmp (map (λ e. e.0) es)
 
 -- a face is dropped, and the next id used up
 abbrev pub with_id_used_up : Mesh → ℕ → Mesh

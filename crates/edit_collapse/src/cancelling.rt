@@ -1,11 +1,14 @@
 //! Lists of faces with their corners: which are equal or opposite, and the third act of a collapse.
 ghost use Rattle.std.specs.Prelude.{◌≡◌, map, IfOk, length};
 ghost use Rattle.std.specs.List.{list_any};
+ghost use Rattle.std.specs.List.Sorted.{IsBinarySearchResult};
+ghost use Rattle.std.specs.Ordering.{nat_cmp};
 ghost use Rattle.mesh_base.specs.Mesh.{equal_up_to_rotation};
 ghost use Rattle.edit_base.specs.Edges.{renamed, has_equal};
 ghost use Rattle.edit_collapse.specs.Collapse.{are_opposite};
-ghost use Rattle.edit_collapse.specs.Tried.{opposite_in, two_in, without_two, cancelled_in, has_id_in};
+ghost use Rattle.edit_collapse.specs.Tried.{opposite_in, two_in, without_two, cancelled_in, has_id_in, AreRising};
 
+use crate::alike::may_be_alike;
 use edit_acts::are_equal;
 use grid_base::{Items, NoMemory};
 use mesh_base::{Corners, FaceId, VertexId};
@@ -38,8 +41,8 @@ fn has_equal_to(faces: &[(FaceId, Corners)], one: &(FaceId, Corners)) -> bool
     false
 }
 
-/// Whether two faces of the list are equal up to rotation.
-pub(crate) fn repeats(faces: &[(FaceId, Corners)]) -> bool
+/// Whether two faces of the list are equal up to rotation, each compared with those behind it.
+fn compares_equal(faces: &[(FaceId, Corners)]) -> bool
     ensures { result ≡ has_equal (map (λ e. e.1) faces.now) }
 {
     for i in 0..faces.len() {
@@ -48,6 +51,17 @@ pub(crate) fn repeats(faces: &[(FaceId, Corners)]) -> bool
         }
     }
     false
+}
+
+/// Whether two faces of the list are equal up to rotation. They are compared only where they may be.
+pub(crate) fn repeats(alloc: Global, faces: &[(FaceId, Corners)]) -> Result<bool, NoMemory>
+    ensures { IfOk result (λ found. found ≡ has_equal (map (λ e. e.1) faces.now)) }
+{
+    let may = may_be_alike(alloc, faces)?;
+    if may {
+        return Ok(compares_equal(faces));
+    }
+    Ok(false)
 }
 
 /// The first face of the list that is opposite to the corners.
@@ -73,6 +87,20 @@ fn two_in(faces: &[(FaceId, Corners)]) -> Option<(FaceId, FaceId)>
         }
     }
     None
+}
+
+/// The same. They are compared only where two of them may be opposite.
+fn next_two(
+    alloc: Global,
+    faces: &[(FaceId, Corners)],
+) -> Result<Option<(FaceId, FaceId)>, NoMemory>
+    ensures { IfOk result (λ two. two ≡ two_in faces.now) }
+{
+    let may = may_be_alike(alloc, faces)?;
+    if may {
+        return Ok(two_in(faces));
+    }
+    Ok(None)
 }
 
 /// The faces of the list but two.
@@ -102,7 +130,8 @@ pub(crate) fn cancelled(alloc: Global, faces: LeftFaces) -> Result<LeftFaces, No
     let mut left = faces;
     while rest > 0 {
         rest -= 1;
-        match two_in(left.as_slice()) {
+        let two = next_two(alloc, left.as_slice())?;
+        match two {
             Some((f, g)) => left = without_two(alloc, left.as_slice(), f, g)?,
             None => return Ok(left),
         }
@@ -110,14 +139,24 @@ pub(crate) fn cancelled(alloc: Global, faces: LeftFaces) -> Result<LeftFaces, No
     Ok(left)
 }
 
-/// Whether the list has the face.
+/// The place of a face in the list, by its id, or where it would stand.
+fn search_id(faces: &[(FaceId, Corners)], f: FaceId) -> Result<usize, usize>
+    ensures { IsBinarySearchResult (λ e. nat_cmp e.0 f) faces.now result }
+{
+    faces.binary_search_by_key(&f.0, |e| (e.0).0)
+}
+
+/// Whether the list, by rising id, has the face. It is searched, so that the faces at a vertex of high degree take no time in
+/// proportion to their square.
 pub(crate) fn has_id(faces: &[(FaceId, Corners)], f: FaceId) -> bool
+    requires { AreRising faces.now }
     ensures { result ≡ has_id_in faces.now f }
 {
-    for e in faces {
-        if e.0 == f {
-            return true;
-        }
+    match search_id(faces, f) {
+        Ok(place) => match faces.get(place) {
+            Some(_e) => true,
+            None => false,
+        },
+        Err(_) => false,
     }
-    false
 }

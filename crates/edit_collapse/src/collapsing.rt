@@ -160,7 +160,7 @@ fn collapse_movable<S: Surface>(
     ensures kept { KeepsOnNo result (S.kept mesh.new) (S.kept mesh.old) }
 {
     let left = left_at(alloc, mesh, a, b)?;
-    let doubled = is_doubled(&left);
+    let doubled = is_doubled(alloc, &left)?;
     if doubled {
         Ok(Edit::No(Why::Doubled))
     } else if is_over(alloc, mesh, a, b)? {

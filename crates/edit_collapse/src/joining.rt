@@ -9,7 +9,7 @@ ghost use Rattle.mesh_base.specs.Kept.{BeginsWith};
 ghost use Rattle.edit_base.specs.Edges.{renamed, corners_at, without_faces};
 ghost use Rattle.edit_collapse.specs.Collapse.{joined_faces, without_bare, has_solid_end, collapse_mesh, collapse_point, placed, placed_if_left};
 ghost use Rattle.edit_base.specs.Reasons.{is_full};
-ghost use Rattle.edit_collapse.specs.Tried.{if_apart, only_at, numbered, joined_at, left_at, MayBeTried, has_id_in, with_id_used_up, with_joined_or_gone, corners_if_live, corners_near, others_than, without_if_bare, TellsDoubled};
+ghost use Rattle.edit_collapse.specs.Tried.{if_apart, only_at, numbered, joined_at, left_at, MayBeTried, has_id_in, with_id_used_up, with_joined_or_gone, corners_if_live, corners_near, others_than, without_if_bare, TellsDoubled, AreRising};
 ghost use Rattle.edit_base.specs.Clauses.{OnOkIs};
 
 use crate::cancelling::{LeftFaces, cancelled, has_id, repeats};
@@ -110,10 +110,10 @@ pub(crate) fn left_at<S: Surface>(
 }
 
 /// Whether two faces would be equal up to rotation after the third act. Only those at the joined vertex can be.
-pub(crate) fn is_doubled(left: &LeftFaces) -> bool
-    ensures { TellsDoubled left.now result }
+pub(crate) fn is_doubled(alloc: Global, left: &LeftFaces) -> Result<bool, NoMemory>
+    ensures { IfOk result (TellsDoubled left.now) }
 {
-    repeats(left.as_slice())
+    repeats(alloc, left.as_slice())
 }
 
 /// Whether a collapse would pass a limit. It makes no count greater, so only the next face id can: it takes one for each
@@ -145,6 +145,7 @@ fn drop_if_there<S: Surface>(mesh: &mut S, f: FaceId) -> Result<(), NoMemory>
 
 /// Drops a face, if it is there, unless it is left.
 fn drop_unless_left<S: Surface>(mesh: &mut S, left: &LeftFaces, f: FaceId) -> Result<(), NoMemory>
+    requires { AreRising left.now }
     ensures made { let m = S.mesh mesh.old in
         OnOk result (S.mesh mesh.new ≡ (if has_id_in left.now f then m else without_face m f)) }
     ensures marks { BeginsWith (S.kept mesh.new) (S.kept mesh.old) }
@@ -163,6 +164,7 @@ fn drop_gone<S: Surface>(
     a: VertexId,
     left: &LeftFaces,
 ) -> Result<(), NoMemory>
+    requires { AreRising left.now }
     ensures made { let m = S.mesh mesh.old in
         let gone = filter (λ f. not (has_id_in left.now f)) (faces_at m a) in
         OnOk result (S.mesh mesh.new ≡ without_faces m gone) }
@@ -213,6 +215,7 @@ fn join_face<S: Surface>(
 ) -> Result<(), NoMemory>
     requires room { (S.mesh mesh.old).next_face ≤ ID_MAX }
     requires ends { a ≢ b }
+    requires rising { AreRising left.now }
     requires fresh { let m = S.mesh mesh.old in IsTrue (has_id_in left.now m.next_face) →
         IsFresh (without_face m f) (renamed b a (corners_at m f)) }
     ensures made { OnOk result

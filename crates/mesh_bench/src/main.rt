@@ -57,30 +57,30 @@ fn work_on<S: Surface + Drop>(
 /// Does the work on a torus, and answers how much was done; None where it is of no good shape.
 fn work_with(alloc: Global, kind: Kind, torus: Torus, work: Work) -> Result<Option<u64>, NoMemory> {
     let lists = torus.lists(alloc)?;
-    if shape(alloc, Scale::Standard, &lists).is_err() {
+    if shape(alloc, Scale::Large, &lists).is_err() {
         return Ok(None);
     }
     let done = match kind {
         Kind::Plain => work_on(
             alloc,
-            PlainMesh::of(alloc, Scale::Standard, &lists)?,
+            PlainMesh::of(alloc, Scale::Large, &lists)?,
             torus,
             work,
         )?,
         Kind::Half => work_on(
             alloc,
-            HalfMesh::of(alloc, Scale::Standard, &lists)?,
+            HalfMesh::of(alloc, Scale::Large, &lists)?,
             torus,
             work,
         )?,
         Kind::Journal => work_on(
             alloc,
-            JournalMesh::of(alloc, Scale::Standard, &lists)?,
+            JournalMesh::of(alloc, Scale::Large, &lists)?,
             torus,
             work,
         )?,
         Kind::Indexed => {
-            let mut mesh = JournalMesh::of(alloc, Scale::Standard, &lists)?;
+            let mut mesh = JournalMesh::of(alloc, Scale::Large, &lists)?;
             mesh.index();
             work_on(alloc, mesh, torus, work)?
         }

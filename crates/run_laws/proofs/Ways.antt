@@ -1,5 +1,5 @@
 -- The way in which a step is taken is in the log's ranges.
-use Rattle.std.proofs.Common.{◌≡◌, ℕ, zero, suc, ◌+◌, ◌<◌, ◌≤◌, ◌≢◌, ◌==◌, Bool, true, false, cond, List, [], ◌∷◌, length, map, nat_lt, refl, sym, ap, ◌∙◌, subst, arith}
+use Rattle.std.proofs.Common.{◌≡◌, ℕ, zero, suc, ◌+◌, ◌≤◌, ◌≢◌, ◌==◌, Bool, true, false, cond, List, [], ◌∷◌, length, map, nat_lt, refl, sym, ap, ◌∙◌, arith}
 use Rattle.std.specs.List.{AllByRecursion, filter}
 use Rattle.std.specs.List.Sorted.{IsStrictlySortedBy}
 use Rattle.std.specs.Ordering.{nat_cmp}
@@ -9,7 +9,6 @@ use Rattle.std.specs.FinMap.{len-entries}
 use Rattle.std.proofs.lemmas.Map.Entries.{length-keys_of}
 use Rattle.std.proofs.lemmas.Bool.Decides.{nat_tests}
 use Rattle.grid_base.specs.declared.Positions.{Positions}
-use Rattle.grid_base.specs.declared.Shift.{Shift}
 use Rattle.grid_base.specs.Points.{shift_by}
 use Rattle.grid_base.specs.SeparationTests.{IsExact}
 use Rattle.mesh_base.specs.declared.Scale.{Scale}
@@ -20,7 +19,7 @@ use Rattle.mesh_base.specs.Pairs.{Pair}
 use Rattle.mesh_base.specs.Placements.{IsClearMesh}
 use Rattle.mesh_base.specs.Shifts.{Shifts, NameLive}
 use Rattle.mesh_base.specs.Failing.{failing}
-use Rattle.step_zones.specs.Zones.{alone, block_at, block_shift, zone_shift, zone_shifts}
+use Rattle.step_zones.specs.Zones.{alone, block_at, block_shift, zone_shift}
 use Rattle.step_zones.specs.Rounds.{hits_before, round_labels, round_shifts, round_hits, IsFirstToServe}
 use Rattle.step_zones.proofs.Rounds.{few_rounds}
 use Rattle.step_zones.proofs.Searched.{rounds_left}

@@ -1,5 +1,5 @@
-//! Laws of a run's log: its lines are in the ranges of what is read back, and what the generated job makes. Each is the
-//! contract of a function that does nothing.
+//! Laws of a run's log: its lines are in the ranges of what is read back, by how large the meshes of a job may be, and what the generated
+//! job makes. Each is the contract of a function that does nothing.
 
 ghost use Rattle.std.specs.Prelude.{ℕ, ◌≡◌, None};
 ghost use Rattle.std.specs.List.{AllByRecursion};
@@ -58,7 +58,7 @@ pub fn asked_edits_are_in_range()
 
 /// The lines of a step are in the log's ranges, where its number is, the pairs that fail, the blocks, and the way in which it is taken,
 /// and where it moves live vertices of a sound mesh. The way in which a step of a clear mesh is taken is, and the line of a sound mesh that
-/// is stored.
+/// is stored, where the mesh is within the limits of the scale.
 pub fn steps_are_in_range()
     ensures step { StepLinesAreInRange }
     ensures way { WaysAreInRange }
@@ -76,16 +76,17 @@ pub fn texts_are_in_range()
     ensures few { DirectivesAreFew }
 {}
 
-/// Where a run stands well and its counts have room, the lines of a directive are in the log's ranges, and so is the reason
-/// against it, whatever is given to it. So are the lines of all directives of a step file, one after the other, and the last line that tells how they ended.
+/// Where a run stands well, within the limits of the scale, and its counts have room, the lines of a directive are in the log's ranges,
+/// and so is the reason against it, whatever is given to it. So are the lines of all directives of a step file, one after the other, and
+/// the last line that tells how they ended.
 pub fn directives_are_in_range()
     ensures effects { EffectsAreInRange }
     ensures logs { LogsAreInRange }
 {}
 
 /// What two files give is in the log's ranges, where each has at most as many bytes as may be read, or is seen to have more, in a number
-/// of the log: the refusal; or a sound and closed mesh and few directives. The log of a mesh that is clear as well, from its own line on,
-/// is in the log's ranges.
+/// of the log: the refusal; or a sound and closed mesh and few directives. The log of a mesh that is clear as well, and within the
+/// limits of the scale, from its own line on, is in the log's ranges.
 pub fn inputs_are_in_range()
     ensures inputs { InputsAreInRange }
     ensures logs { LogsOfMeshesAreInRange }

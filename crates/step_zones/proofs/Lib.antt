@@ -5,6 +5,7 @@ pub mod Means
 pub mod Solid
 pub mod Rounds
 pub mod Ranked
+pub mod Alone
 pub mod Summed
 pub mod Listing
 pub mod Linked

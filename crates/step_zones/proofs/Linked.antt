@@ -1,15 +1,14 @@
 -- Labels in a list are labels of vertices: what is made of the one is made of the other.
-use Rattle.std.proofs.Common.{◌≡◌, ℕ, zero, suc, ◌+◌, ◌<◌, ◌≤◌, ◌==◌, ◌&&◌, ◌||◌, Bool, true, false, cond, nat_lt, IsTrue, List, [], ◌∷◌, map, length, Some, refl, sym, ap, subst, ◌∙◌, ⊎_elim, arith}
+use Rattle.std.proofs.Common.{◌≡◌, ℕ, suc, ◌+◌, ◌==◌, ◌&&◌, ◌||◌, Bool, true, false, cond, nat_lt, List, [], ◌∷◌, map, length, Some, refl, sym, ap, ◌∙◌, arith}
 use Rattle.std.specs.List.{filter, find, fold, list_any, AllByRecursion}
 use Rattle.std.specs.List.Sorted.{IsStrictlySortedBy}
 use Rattle.std.specs.Ordering.{nat_cmp}
 use Rattle.std.specs.declared.cmp.Ordering.TheVariants.{Less}
 use Rattle.std.specs.Option.{option_map, unwrap_or}
-use Rattle.std.specs.FinMap as finite
 use Rattle.std.proofs.lemmas.Bool.{false≢true, eqb-true}
 use Rattle.std.proofs.lemmas.Bool.Decides.{nat_tests}
 use Rattle.std.proofs.lemmas.Map.Keys.{sorted_head, sorted_tail}
-use Rattle.grid_base.specs.Triples.{Triple, plus}
+use Rattle.grid_base.specs.Triples.{plus}
 use Rattle.grid_base.specs.Points.{displacement_of, shift_by}
 use Rattle.mesh_base.specs.declared.steps.ShiftOf.{ShiftOf}
 use Rattle.mesh_base.specs.declared.ids.PairName.{PairName}
@@ -17,12 +16,12 @@ use Rattle.mesh_base.specs.Mesh.{Mesh, is_solid}
 use Rattle.mesh_base.specs.Pairs.{Pair, five_ids}
 use Rattle.mesh_base.specs.Placements.{origin}
 use Rattle.mesh_base.specs.Shifts.{Shifts, NameLive, shift_at}
-use Rattle.mesh_base.proofs.Tests.{or_either, or_first, or_second}
+use Rattle.mesh_base.proofs.Tests.{or_first, or_second}
 use Rattle.pair_scan.specs.Named.{pair_named, pairs_named}
 use Rattle.step_zones.specs.declared.totals.Total.{Total}
 use Rattle.step_zones.specs.Chains.{is_one_of}
-use Rattle.step_zones.specs.Zones.{Labels, joined, block_at, heads, blocks, divided, mean_shift, zone_by, zone_shift, zone_shifts}
-use Rattle.step_zones.specs.Ranks.{label_by, relabelled, joined_in, joined_all, AreNamed}
+use Rattle.step_zones.specs.Zones.{Labels, joined, block_at, blocks, divided, zone_shift, zone_shifts}
+use Rattle.step_zones.specs.Ranks.{label_by, relabelled, joined_in, joined_all}
 use Rattle.step_zones.specs.Totals.{no_total, with_one, total_of, total_by, labelled_shift, labelled_shifts, labelled_blocks}
 use Rattle.step_zones.proofs.Labelled.{each_is, itself}
 

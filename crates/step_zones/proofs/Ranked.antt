@@ -1,7 +1,7 @@
 -- Labels in a list, looked up and joined.
-use Rattle.std.proofs.Common.{◌≡◌, ◌≢◌, ℕ, zero, suc, ◌+◌, ◌<◌, ◌≤◌, ◌==◌, ◌&&◌, ◌||◌, min, Bool, true, false, cond, List, [], ◌∷◌, ◌++◌, take, drop, get_or, length, map, Some, None, refl, sym, ap, subst, ◌∙◌, ⊎_elim, arith, add-one}
-use Rattle.std.specs.Prelude.{slice_get, slice_set}
-use Rattle.std.specs.List.{find, fold, list_all, list_any}
+use Rattle.std.proofs.Common.{◌≡◌, ℕ, zero, suc, ◌+◌, ◌<◌, ◌==◌, min, Bool, true, false, cond, List, [], ◌∷◌, drop, get_or, length, map, Some, None, refl, sym, ap, subst, ◌∙◌, ⊎_elim, arith}
+use Rattle.std.specs.Prelude.{slice_get}
+use Rattle.std.specs.List.{find, list_all}
 use Rattle.std.specs.List.Sorted.{IsStrictlySortedBy}
 use Rattle.std.specs.Ordering.{nat_cmp}
 use Rattle.std.specs.List.{AllByRecursion}
@@ -60,43 +60,6 @@ label_none (s ∷ rest) (l ∷ labels) v e = by_test (label_none rest labels v) 
     by_test others true h e = cc
     by_test others false h e = others e
 
--- ---- labels that are changed one after another
-set_here : {X : Type 0} (f : X → X) (xs : List X) (i : ℕ) (x : X) → i < length xs → x ≡ get_or xs i x → slice_set (map f (take i xs) ++ drop i xs) i (f x) ≡ map f (take (suc i) xs) ++ drop (suc i) xs
-set_here f [] i x h at = absurd (omega arith)
-set_here f (y ∷ xs) zero x h at = ap (λ z. f z ∷ xs) at
-set_here f (y ∷ xs) (suc i) x h at = ap (λ l. f y ∷ l) (set_here f xs i x (omega arith) at)
-
-pub changed_more : (f : ℕ → ℕ) (xs now after : List ℕ) (i x : ℕ) → i < length xs → x ≡ get_or xs i x → now ≡ map f (take i xs) ++ drop i xs → after ≡ slice_set now i (f x) → after ≡ map f (take (i + 1) xs) ++ drop (i + 1) xs
-changed_more f xs now after i x h at e set =
-    set ∙ ap (λ l. slice_set l i (f x)) e ∙ set_here f xs i x h at ∙ ap (λ n. map f (take n xs) ++ drop n xs) (sym (add-one i))
-
--- what stands at the place that comes next is what stood there
-pub next_as_it_was : (f : ℕ → ℕ) (xs now : List ℕ) (i x : ℕ) → i < length xs → now ≡ map f (take i xs) ++ drop i xs → slice_get now i ≡ Some x → x ≡ get_or xs i x
-next_as_it_was f xs now i x h e at = stood xs i h (sym (ap (λ l. slice_get l i) e) ∙ at)
-  where
-    stood : (ys : List ℕ) (j : ℕ) → j < length ys → slice_get (map f (take j ys) ++ drop j ys) j ≡ Some x → x ≡ get_or ys j x
-    stood [] j h e = absurd (omega arith)
-    stood (y ∷ ys) zero h e = cc
-    stood (y ∷ ys) (suc j) h e = stood ys j (omega arith) e
-
-pub changed_length : (f : ℕ → ℕ) (xs now : List ℕ) (i : ℕ) → now ≡ map f (take i xs) ++ drop i xs → length now ≡ length xs
-changed_length f xs now i e = ap length e ∙ kept xs i
-  where
-    kept : (ys : List ℕ) (j : ℕ) → length (map f (take j ys) ++ drop j ys) ≡ length ys
-    kept [] zero = refl
-    kept [] (suc j) = refl
-    kept (y ∷ ys) zero = refl
-    kept (y ∷ ys) (suc j) = ap suc (kept ys j)
-
-pub changed_all : (f : ℕ → ℕ) (xs now : List ℕ) (i : ℕ) → length xs ≤ i → now ≡ map f (take i xs) ++ drop i xs → now ≡ map f xs
-changed_all f xs now i h e = e ∙ whole xs i h
-  where
-    whole : (ys : List ℕ) (j : ℕ) → length ys ≤ j → map f (take j ys) ++ drop j ys ≡ map f ys
-    whole [] zero h = refl
-    whole [] (suc j) h = refl
-    whole (y ∷ ys) zero h = absurd (omega arith)
-    whole (y ∷ ys) (suc j) h = ap (λ l. f y ∷ l) (whole ys j (omega arith))
-
 -- ---- labels that are one already
 one_of_one : (touched : List ℕ) (first l : ℕ) → list_all (λ k. k == first) touched ≡ true → is_one_of touched l ≡ true → l ≡ first
 one_of_one [] first l all is = absurd (false≢true is)
@@ -142,9 +105,3 @@ joined_more m asked names k n labels after all h at made whole =
     ∙ (λ i. joined_all m asked labels (at i ∷ drop (k + 1) names))
     ∙ (λ i. joined_all m asked labels (sym (rest_at names k n h) i))
     ∙ whole
-
--- something stands at each place inside
-pub stands_inside : (xs : List ℕ) (i : ℕ) → i < length xs → slice_get xs i ≡ None → ⊥
-stands_inside [] i h e = omega arith
-stands_inside (x ∷ xs) zero h e = cc
-stands_inside (x ∷ xs) (suc i) h e = stands_inside xs i (omega arith) e

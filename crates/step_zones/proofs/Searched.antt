@@ -1,17 +1,16 @@
 -- The round that a search finds.
-use Rattle.std.proofs.Common.{◌≡◌, ◌≢◌, ℕ, zero, suc, ◌+◌, ◌<◌, ◌≤◌, ◌==◌, ◌&&◌, Bool, true, false, cond, List, [], ◌∷◌, length, map, Option, Some, None, refl, sym, ap, subst, ◌∙◌, ⊎_elim, ◌⊎◌, inl, inr, arith, add-one, eq-eqb, below_more}
+use Rattle.std.proofs.Common.{◌≡◌, ◌≢◌, ℕ, zero, suc, ◌+◌, ◌<◌, ◌≤◌, ◌==◌, ◌&&◌, Bool, true, false, cond, List, [], ◌∷◌, length, map, Some, None, refl, sym, ap, subst, ◌∙◌, ⊎_elim, ◌⊎◌, inl, inr, arith, add-one, eq-eqb, below_more}
 use Rattle.std.proofs.Common.{IsTrue}
 use Rattle.std.specs.List.{find, fold, list_all, range_with_len, AllByRecursion}
 use Rattle.std.specs.List.Sorted.{IsStrictlySortedBy}
 use Rattle.std.specs.Ordering.{nat_cmp}
 use Rattle.std.specs.FinMap as finite
 use Rattle.std.specs.FinMap.{len-entries}
-use Rattle.std.proofs.lemmas.Bool.{false≢true, cases_eq, cases_lt, ne_eqb}
+use Rattle.std.proofs.lemmas.Bool.{cases_eq, cases_lt, ne_eqb}
 use Rattle.std.proofs.lemmas.Map.Entries.{length-keys_of}
 use Rattle.grid_base.specs.declared.TheConstants.{VERTICES_MAX}
 use Rattle.grid_base.specs.declared.Positions.{Positions}
 use Rattle.grid_base.specs.SeparationTests.{IsExact}
-use Rattle.mesh_base.specs.declared.steps.ShiftOf.{ShiftOf}
 use Rattle.grid_decided.specs.Decided.{meets_exactly, meets_exactly-is_exact}
 use Rattle.mesh_base.specs.declared.ids.PairName.{PairName}
 use Rattle.mesh_base.specs.Failing.{failing}
@@ -27,7 +26,7 @@ use Rattle.step_zones.specs.Chains.{is_one_of}
 use Rattle.step_zones.specs.Ranks.{joined_all, AreNamed}
 use Rattle.step_zones.specs.Totals.{labelled_shifts, labelled_blocks}
 use Rattle.step_zones.specs.Zones.{Labels, joined, blocks, zone_shift, zone_shifts}
-use Rattle.step_zones.specs.Rounds.{hits_before, round_labels, round_shifts, round_hits, serves, round_taken, IsFirstToServe, LeavesTheBox, SomeRoundLeaves}
+use Rattle.step_zones.specs.Rounds.{hits_before, round_labels, round_shifts, round_hits, serves, round_taken, IsFirstToServe, SomeRoundLeaves}
 use Rattle.step_zones.proofs.Labelled.{joined_on, AreGood, AreLiveFive, first_of, later_of}
 use Rattle.step_zones.proofs.Linked.{listed, AreNamedFive, all_joined_listed, shifts_listed, blocks_listed}
 use Rattle.step_zones.proofs.Moved.{failing_live}

@@ -1,5 +1,5 @@
 -- Totals of blocks, as they are summed.
-use Rattle.std.proofs.Common.{◌≡◌, ℕ, zero, suc, ◌+◌, ◌*◌, ◌<◌, ◌≤◌, ◌==◌, ◌||◌, Bool, true, false, cond, List, [], ◌∷◌, ◌++◌, take, drop, get_or, length, map, Some, None, ℤ, ◌+ℤ◌, unsigned_abs, refl, sym, ap, subst, ◌∙◌, arith, lit≤}
+use Rattle.std.proofs.Common.{◌≡◌, ℕ, zero, suc, ◌+◌, ◌*◌, ◌<◌, ◌≤◌, ◌==◌, Bool, true, false, cond, List, [], ◌∷◌, ◌++◌, take, get_or, length, map, Some, None, ℤ, ◌+ℤ◌, unsigned_abs, refl, sym, ap, subst, ◌∙◌, arith, lit≤}
 use Rattle.std.specs.Prelude.{slice_get, slice_set}
 use Rattle.std.specs.List.{find, fold, AllByRecursion}
 use Rattle.std.specs.List.Sorted.{IsStrictlySortedBy}
@@ -11,11 +11,9 @@ use Rattle.std.proofs.lemmas.List.{take_more, length-map}
 use Rattle.std.proofs.lemmas.Map.Keys.{sorted_head, sorted_tail}
 use Rattle.std.proofs.lemmas.Option.{slice_get_read}
 use Rattle.grid_base.specs.declared.TheConstants.{SHIFT_MAX, VERTICES_MAX}
-use Rattle.grid_base.specs.Triples.{Triple, IsWithin, plus}
-use Rattle.grid_base.specs.Points.{displacement_of}
+use Rattle.grid_base.specs.Triples.{Triple, IsWithin}
 use Rattle.mesh_base.specs.declared.steps.ShiftOf.{ShiftOf}
 use Rattle.mesh_base.specs.Mesh.{Mesh, is_solid}
-use Rattle.mesh_base.specs.Placements.{origin}
 use Rattle.mesh_base.specs.Shifts.{Shifts}
 use Rattle.step_zones.specs.declared.totals.Total.{Total}
 use Rattle.step_zones.specs.Zones.{Labels}

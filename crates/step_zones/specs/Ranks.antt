@@ -1,7 +1,8 @@
 -- Labels in a list, beside the shifts of the vertices that have them.
-use Rattle.std.specs.Prelude.{ℕ, ◌==◌, List, [], ◌∷◌, map, min, IsTrue, if◌then◌else◌}
+use Rattle.std.specs.Prelude.{ℕ, ◌≡◌, ◌+◌, ◌==◌, List, [], ◌∷◌, map, min, false, Some, slice_get, IsTrue, if◌then◌else◌}
 use Rattle.std.specs.List.{fold, AllByRecursion}
 use Rattle.mesh_base.specs.declared.ids.PairName.{PairName}
+use Rattle.mesh_base.specs.declared.steps.ShiftOf.{ShiftOf}
 use Rattle.mesh_base.specs.Mesh.{Mesh}
 use Rattle.mesh_base.specs.Pairs.{five_ids}
 use Rattle.mesh_base.specs.Shifts.{Shifts}
@@ -33,6 +34,25 @@ joined_in asked labels five = map (relabelled (map (label_by asked labels) five)
 abbrev pub joined_all : Mesh → Shifts → List ℕ → List PairName → List ℕ
 joined_all m asked labels hits =
     fold (λ ls n. joined_in asked ls (five_ids (pair_named m n))) labels hits
+
+-- these labels, where those at these places are joined: the first of them stands at place i
+abbrev pub relabelled_at : List ℕ → List ℕ → ℕ → List ℕ → List ℕ
+relabelled_at touched places i [] = []
+relabelled_at touched places i (l ∷ labels) =
+    (if is_one_of places i then relabelled touched l else l)
+    ∷ relabelled_at touched places (i + 1) labels
+
+-- a vertex whose place is none of these is the label of itself, and of no other
+abbrev pub AreAlone : Shifts → List ℕ → List ℕ → Type 0
+AreAlone asked places labels = (i : ℕ) (s : ShiftOf) → slice_get asked i ≡ Some s →
+    is_one_of places i ≡ false →
+    (slice_get labels i ≡ Some s.v) × ((j : ℕ) → slice_get labels j ≡ Some s.v → j ≡ i)
+
+-- the places are those before and those of some vertices, as far as they have one
+abbrev pub HasPlaces : Shifts → List ℕ → List ℕ → List ℕ → Type 0
+HasPlaces asked vertices before places = (i : ℕ) (s : ShiftOf) → slice_get asked i ≡ Some s →
+    is_one_of places i ≡ false →
+    (is_one_of before i ≡ false) × (is_one_of vertices s.v ≡ false)
 
 -- each label is a vertex that is named
 abbrev pub AreNamed : Shifts → List ℕ → Type 0

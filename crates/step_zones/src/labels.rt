@@ -1,10 +1,10 @@
 //! The labels of vertices, in a list beside the shifts that are asked of them.
-ghost use Rattle.std.specs.Prelude.{◌≡◌, ◌==◌, [], ◌∷◌, map, length, IfOk};
+ghost use Rattle.std.specs.Prelude.{◌≡◌, ◌==◌, [], ◌∷◌, map, length, IfOk, IsOk};
 ghost use Rattle.std.specs.List.{list_all};
 ghost use Rattle.std.specs.List.Sorted.{IsStrictlySortedBy};
 ghost use Rattle.std.specs.Ordering.{nat_cmp};
 ghost use Rattle.step_zones.specs.Chains.{is_one_of};
-ghost use Rattle.step_zones.specs.Ranks.{label_by, least_of, relabelled, joined_in, joined_all};
+ghost use Rattle.step_zones.specs.Ranks.{label_by, least_of, relabelled, relabelled_at, joined_in, joined_all, HasPlaces, AreAlone};
 
 use grid_base::NoMemory;
 use mesh_base::{Ids, ShiftOf, Surface, VertexId};
@@ -88,41 +88,86 @@ fn relabelled(touched: &[VertexId; 5], least: VertexId, l: VertexId) -> VertexId
     if is_one_of(touched, l) { least } else { l }
 }
 
-// Joins the blocks of five labels.
-fn relabel(touched: &[VertexId; 5], labels: &mut Ids)
-    ensures { labels.new ≡ map (relabelled touched.now) labels.old }
+// Joins the blocks of five labels, as far as they stand at some places.
+fn relabel(touched: &[VertexId; 5], places: &[usize], labels: &mut Ids)
+    ensures { labels.new ≡ relabelled_at touched.now places.now 0 labels.old }
 {
     let least = least_of(touched);
-    for i in 0..labels.len() {
-        if let Some(l) = labels.get(i) {
+    for place in places {
+        if let Some(l) = labels.get(*place) {
             let l = relabelled(touched, least, *l);
-            labels.set(i, l);
+            labels.set(*place, l);
         }
     }
 }
 
+// Puts the place of a vertex at the end of the list, where it has one.
+fn put_place(asked: &[ShiftOf], v: VertexId, places: &mut Vec<usize>) -> Result<(), NoMemory>
+    requires rising { IsStrictlySortedBy nat_cmp (map (λ s. s.v) asked.now) }
+    ensures { IsOk result → HasPlaces asked.now (v ∷ []) places.old.items places.new.items }
+{
+    if let Some(place) = place_of(asked, v) {
+        places.push(place)?;
+    }
+    Ok(())
+}
+
+// Puts the places of five vertices at the end of the list.
+fn put_places(
+    asked: &[ShiftOf],
+    five: &[VertexId; 5],
+    places: &mut Vec<usize>,
+) -> Result<(), NoMemory>
+    requires rising { IsStrictlySortedBy nat_cmp (map (λ s. s.v) asked.now) }
+    ensures { IsOk result → HasPlaces asked.now five.now places.old.items places.new.items }
+{
+    for v in five {
+        put_place(asked, *v, places)?;
+    }
+    Ok(())
+}
+
 // Joins the blocks of five vertices. Where they are in one block already nothing is left to do.
-fn join(asked: &[ShiftOf], labels: &mut Ids, five: &[VertexId; 5])
+fn join(
+    asked: &[ShiftOf],
+    labels: &mut Ids,
+    places: &mut Vec<usize>,
+    five: &[VertexId; 5],
+) -> Result<(), NoMemory>
     requires rising { IsStrictlySortedBy nat_cmp (map (λ s. s.v) asked.now) }
     requires each { length labels.old ≡ length asked.now }
-    ensures { labels.new ≡ joined_in asked.now labels.old five.now }
+    requires alone { AreAlone asked.now places.old.items labels.old }
+    ensures joined { IsOk result → labels.new ≡ joined_in asked.now labels.old five.now }
+    ensures alone { IsOk result → AreAlone asked.now places.new.items labels.new }
 {
     let touched = five_labels(asked, labels.as_slice(), five);
     if !are_one(&touched, touched[0]) {
-        relabel(&touched, labels);
+        put_places(asked, five, places)?;
+        relabel(&touched, places.as_slice(), labels);
     }
+    Ok(())
 }
 
-/// Joins the blocks of the vertices of each of the pairs, in order. A pair that joins blocks takes time in proportion to the
-/// number of vertices, and one whose vertices are in one block already does not: as each that joins leaves fewer blocks, all
-/// rounds together have fewer of these than there are vertices.
-pub(crate) fn join_all<S: Surface>(mesh: &S, asked: &[ShiftOf], labels: &mut Ids, hits: &Pairs)
+/// Joins the blocks of the vertices of each of the pairs, in order. `places` has the places of all vertices that were in a block with
+/// others, and more are put at its end. A pair that joins blocks takes time in proportion to these, and one whose vertices are in one
+/// block already does not: as each that joins leaves fewer blocks, all rounds together have fewer of these than there are vertices.
+pub(crate) fn join_all<S: Surface>(
+    mesh: &S,
+    asked: &[ShiftOf],
+    labels: &mut Ids,
+    places: &mut Vec<usize>,
+    hits: &Pairs,
+) -> Result<(), NoMemory>
     requires rising { IsStrictlySortedBy nat_cmp (map (λ s. s.v) asked.now) }
     requires each { length labels.old ≡ length asked.now }
-    ensures { labels.new ≡ joined_all (S.mesh mesh.now) asked.now labels.old hits.now }
+    requires alone { AreAlone asked.now places.old.items labels.old }
+    ensures joined { IsOk result →
+        labels.new ≡ joined_all (S.mesh mesh.now) asked.now labels.old hits.now }
+    ensures alone { IsOk result → AreAlone asked.now places.new.items labels.new }
 {
     for name in hits.as_slice() {
         let five = five_of(mesh, name);
-        join(asked, labels, &five);
+        join(asked, labels, places, &five)?;
     }
+    Ok(())
 }

@@ -69,6 +69,7 @@ pub fn zones_told<S: Surface, T: TellsFailing>(
         (λ z. IfSome z (λ r. SolidsStay (S.mesh mesh.now) asked.now r.taken)) }
 {
     let mut labels = alone(alloc, asked.as_slice())?;
+    let mut places = Vec::new(alloc);
     let mut rounds = 0;
     'round: loop {
         let taken = zone_shifts(alloc, mesh, asked.as_slice(), labels.as_slice())?;
@@ -84,7 +85,7 @@ pub fn zones_told<S: Surface, T: TellsFailing>(
                 blocks,
             }));
         }
-        join_all(mesh, asked.as_slice(), &mut labels, &hits);
+        join_all(mesh, asked.as_slice(), &mut labels, &mut places, &hits)?;
         rounds += 1;
     }
 }

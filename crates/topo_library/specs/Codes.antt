@@ -11,6 +11,7 @@ use Rattle.edit_base.specs.declared.Asked.{Asked}
 use Rattle.mesh_journal.specs.Journal.{mesh_in, kept_in}
 use Rattle.mesh_sizing.specs.declared.sizing.Band.{Band}
 use Rattle.mesh_rows.specs.declared.rows.MeshRows.{MeshRows}
+use Rattle.mesh_base.specs.declared.limits.Scale.TheVariants.{Large}
 use Rattle.mesh_rows.specs.Rows.{mesh_of_rows}
 use Rattle.outside_io.specs.declared.stop.Stop.TheVariants.{NoMemory}
 use Rattle.pass_run.specs.declared.passing.PassCount.{PassCount}
@@ -309,7 +310,7 @@ pub record HasMade (points : List GivenPoint) (faces : List GivenFace) (new : Op
 pub record HasMadeNumbered (points : List NamedPoint) (rows : MeshRows) (new : Option Tracker)
     (before after : TopoFault) (code : ℕ) : Type 0 where
   -- 0: they have no fault, and the handle holds a tracker of their mesh
-  pub made : code ≡ 0 → (numbered_fault points rows ≡ None) × IsMade (mesh_of_rows rows) new
+  pub made : code ≡ 0 → (numbered_fault points rows ≡ None) × IsMade (mesh_of_rows Large rows) new
   -- 2: the fault is the first that they have
   pub refused : code ≡ 2 →
       (why : NumberedFault) × (numbered_fault points rows ≡ Some why) × (after ≡ numbered_place why)

@@ -63,7 +63,7 @@ use telling::{TopoCounted, TopoEdits, TopoWay};
 use track_held::{Event, GivenEdit, GivenFace, GivenPoint, NamedFace, NamedPoint, ToldAnswer};
 
 /// The version of these calls. It rises where what one of them takes or answers changes, and where one is gone.
-pub const CALLS: u32 = 1;
+pub const CALLS: u32 = 2;
 
 /// Makes a tracker of the surface of these points and faces, whose corners number the points from 1, or refuses them for their first fault.
 /// What `out` held is freed first; where no tracker is made, it holds none.

@@ -5,6 +5,7 @@ use Rattle.std.proofs.lemmas.Bool.{le-ltb, lt-ltb}
 use Rattle.std.proofs.lemmas.List.{length-map}
 use Rattle.grid_base.specs.declared.TheConstants.{VERTICES_MAX, FACES_MAX}
 use Rattle.grid_base.specs.declared.Point.{Point}
+use Rattle.mesh_base.specs.declared.limits.Scale.TheVariants.{Large}
 use Rattle.mesh_base.specs.Given.{Faces}
 use Rattle.mesh_base.specs.declared.ShapeFault.TheVariants.{TooManyVertices, TooManyFaces}
 use Rattle.mesh_plain.specs.Shape.{shape_fault}
@@ -30,7 +31,7 @@ module _ (points : List GivenPoint) (faces : List GivenFace) (few : length point
   refused_so r h = let P : Option MakeFault → Type 0 = λ o. IfErr r (IsRefusal o) in subst P (sym of_lists) h
 
 -- few vertices and too many faces have the fault of these
-shape_of_many : (n : ℕ) (fs : Faces) → n ≤ VERTICES_MAX → FACES_MAX < length fs → shape_fault n fs ≡ Some (TooManyFaces (length fs))
+shape_of_many : (n : ℕ) (fs : Faces) → n ≤ VERTICES_MAX → FACES_MAX < length fs → shape_fault Large n fs ≡ Some (TooManyFaces (length fs))
 shape_of_many n fs few many = rw (le-ltb VERTICES_MAX n few, lt-ltb FACES_MAX (length fs) many)
 
 module _ (points : List GivenPoint) (faces : List GivenFace) (few : length points ≤ VERTICES_MAX) (many : FACES_MAX < length faces) where

@@ -4,6 +4,7 @@ use Rattle.std.specs.Prelude.{List, [], ◌∷◌, ◌++◌, map, length}
 use Rattle.std.specs.List.{flat_map}
 use Rattle.grid_base.specs.declared.TheConstants.{TEXT_MAX}
 use Rattle.grid_base.specs.declared.Point.{Point}
+use Rattle.mesh_base.specs.declared.limits.Scale.TheVariants.{Large}
 use Rattle.edit_base.specs.declared.CopyAt.{CopyAt}
 use Rattle.edit_base.specs.declared.Change.{Change}
 use Rattle.edit_base.specs.declared.Change.TheVariants as change
@@ -70,10 +71,10 @@ abbrev pub events_read : Result (List LogLine) TextFault → Result (List Event)
 events_read (Ok lines) = Ok (log_events lines)
 events_read (Err fault) = Err fault
 
--- The events of the text of a log, or its first fault. Bytes are read as lines exactly where they
--- are the lines' text.
+-- The events of the text of a log of a large mesh, or its first fault. Bytes are read as lines
+-- exactly where they are the lines' text.
 abbrev pub events_in : List ℕ → Result (List Event) TextFault
-events_in text = events_read (log_of text)
+events_in text = events_read (log_of Large text)
 
 -- these are they, or why they are not told
 abbrev pub AreEvents : List ℕ → Result (List Event) EventRefusal → Type 0

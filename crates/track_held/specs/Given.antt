@@ -10,7 +10,8 @@ use Rattle.grid_base.specs.Points.{point_at, is_within}
 use Rattle.grid_decided.specs.Decided.{meets_exactly}
 use Rattle.mesh_base.specs.declared.ShapeFault.TheVariants.{TooManyVertices, TooManyFaces}
 use Rattle.mesh_base.specs.Mesh.{Mesh}
-use Rattle.mesh_base.specs.Given.{Faces, mesh_of}
+use Rattle.mesh_base.specs.declared.limits.Scale.TheVariants.{Large}
+use Rattle.mesh_base.specs.Given.{Faces, mesh_under}
 use Rattle.mesh_base.specs.Placements.{rest_positions}
 use Rattle.mesh_base.specs.Failing.{first_meeting}
 use Rattle.mesh_plain.specs.Shape.{shape_fault}
@@ -33,9 +34,9 @@ point_in p = point_at (position_in p)
 abbrev pub face_in : GivenFace → List ℕ
 face_in f = f.a ∷ f.b ∷ f.c ∷ []
 
--- the mesh that points and faces make
+-- the mesh that points and faces make, with the limits of large meshes
 abbrev pub given_mesh : List GivenPoint → List GivenFace → Mesh
-given_mesh points faces = mesh_of (map point_in points) (map face_in faces)
+given_mesh points faces = mesh_under Large (map point_in points) (map face_in faces)
 
 -- whether a point is not in the box
 abbrev pub is_outside : GivenPoint → Bool
@@ -62,8 +63,8 @@ meet_fault m = option_map (λ pair. Meets pair) (first_meeting meets_exactly m (
 -- the first fault of shape of points in the box and faces, or else the first pair that meets
 abbrev pub lists_fault : List Point → Faces → Option MakeFault
 lists_fault points faces =
-    option_or (option_map (λ fault. Shape fault) (shape_fault (length points) faces))
-    (meet_fault (mesh_of points faces))
+    option_or (option_map (λ fault. Shape fault) (shape_fault Large (length points) faces))
+    (meet_fault (mesh_under Large points faces))
 
 -- The first fault of points and faces, in this order: too many points, a point that is not in the
 -- box, another fault of shape, a pair that meets. None exactly where a tracker can be made of them.

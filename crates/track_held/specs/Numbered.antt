@@ -6,6 +6,7 @@ use Rattle.std.specs.List.{position_from}
 use Rattle.grid_base.specs.declared.TheConstants.{VERTICES_MAX}
 use Rattle.grid_decided.specs.Decided.{meets_exactly}
 use Rattle.mesh_base.specs.Mesh.{Mesh}
+use Rattle.mesh_base.specs.declared.limits.Scale.TheVariants.{Large}
 use Rattle.mesh_base.specs.Placements.{rest_positions}
 use Rattle.mesh_base.specs.Failing.{first_meeting}
 use Rattle.mesh_rows.specs.declared.rows.VertexRow.{VertexRow}
@@ -62,10 +63,12 @@ outside_fault points =
 abbrev pub meet_fault : Mesh → Option NumberedFault
 meet_fault m = option_map (λ pair. Meets pair) (first_meeting meets_exactly m (rest_positions m))
 
--- the first fault of rows in the box, or else the first pair that meets
+-- the first fault of rows in the box, by the limits of large meshes, or else the first pair that
+-- meets
 abbrev pub rows_or_meet_fault : MeshRows → Option NumberedFault
 rows_or_meet_fault rows =
-    option_or (option_map (λ fault. Rows fault) (rows_fault rows)) (meet_fault (mesh_of_rows rows))
+    option_or (option_map (λ fault. Rows fault) (rows_fault Large rows))
+    (meet_fault (mesh_of_rows Large rows))
 
 -- The first fault of what is given, in this order: too many vertices, a vertex that is not in the
 -- box, another fault of rows, a pair that meets. None exactly where a tracker can be made of them.

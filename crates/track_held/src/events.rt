@@ -8,6 +8,7 @@ use grid_base::{Items, NoMemory, Point, TEXT_MAX};
 use line_text::{ReadFault, TextFault};
 use log_read::read_log;
 use log_text::{LogLine, VERSION, print_line};
+use mesh_base::Scale;
 use std::alloc::Global;
 
 /// What a line of a log tells that changes the surface or a group: the kind, up to four numbers, and a point or a shift.
@@ -138,7 +139,7 @@ pub enum EventRefusal {
     NoMemory,
     /// What was told is not read as lines, for this first fault, as where it ends within one.
     Torn(TextFault),
-    /// What was told is, with the first line of a log, longer than a log may be that is read.
+    /// What was told is, with the first line of a log, longer than a large log may be that is read.
     Long,
 }
 
@@ -178,7 +179,7 @@ fn events_in(alloc: Global, text: &[u8]) -> Result<Events, EventRefusal>
     if text.len() > TEXT_MAX {
         return Err(EventRefusal::Long);
     }
-    match read_log(alloc, text) {
+    match read_log(alloc, Scale::Large, text) {
         Ok(log) => match events_of(alloc, log.as_slice()) {
             Ok(events) => Ok(events),
             Err(_) => Err(EventRefusal::NoMemory),
@@ -188,7 +189,7 @@ fn events_in(alloc: Global, text: &[u8]) -> Result<Events, EventRefusal>
     }
 }
 
-/// The events of what was told, in order, where that is read as a log behind its first line.
+/// The events of what was told, in order, where that is read as a log of a large mesh behind its first line.
 pub fn told_events(alloc: Global, told: &[u8]) -> Result<Events, EventRefusal>
     ensures { AreEvents (with_first_line told.now) result }
 {

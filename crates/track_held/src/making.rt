@@ -1,7 +1,8 @@
 //! A tracker is made of points and faces.
 ghost use Rattle.std.specs.Prelude.{◌≡◌, ◌≤◌, ◌<◌, true, false, None, map, length, unwrap_or, IfOk, IfErr, IsOk, []};
 ghost use Rattle.grid_base.specs.declared.TheConstants.{VERTICES_MAX, FACES_MAX};
-ghost use Rattle.mesh_base.specs.Given.{mesh_of};
+ghost use Rattle.mesh_base.specs.declared.limits.Scale.TheVariants.{Large};
+ghost use Rattle.mesh_base.specs.Given.{mesh_under};
 ghost use Rattle.mesh_base.specs.Valid.{IsValidSurface};
 ghost use Rattle.mesh_journal.specs.Journal.{mesh_in, kept_in};
 ghost use Rattle.track_engine.specs.Engines.{state_in};
@@ -13,7 +14,7 @@ ghost use Rattle.track_held.specs.declared.making.MakeRefusal.TheVariants as ref
 use crate::given::{GivenFace, GivenPoint};
 use crate::held::Held;
 use grid_base::{BOX, FACES_MAX, NoMemory, Point, VERTICES_MAX};
-use mesh_base::{MeshLists, PairName, Points, ShapeFault, ShapeRefusal, Triangles};
+use mesh_base::{MeshLists, PairName, Points, Scale, ShapeFault, ShapeRefusal, Triangles};
 use mesh_journal::JournalMesh;
 use mesh_plain::shape;
 use pair_scan::first_meeting;
@@ -114,21 +115,21 @@ fn faces_of(alloc: Global, given: &[GivenFace]) -> Result<Triangles, NoMemory>
 // A tracker of the mesh that lists make, or their first fault of shape, or the first pair that meets.
 fn track_lists(alloc: Global, lists: &MeshLists) -> Result<Held<JournalMesh>, MakeRefusal>
     ensures state { IfOk result (λ held. state_in mesh_in kept_in (engine_in held)
-        ≡ unsaved (mesh_of lists.now.points lists.now.faces)) }
+        ≡ unsaved (mesh_under Large lists.now.points lists.now.faces)) }
     ensures goes_on { IfOk result (λ held. goes_on held ≡ true) }
     ensures log { IfOk result (λ held. log_in held ≡ []) }
-    ensures valid { IsOk result → IsValidSurface (mesh_of lists.now.points lists.now.faces) }
+    ensures valid { IsOk result → IsValidSurface (mesh_under Large lists.now.points lists.now.faces) }
     ensures none { IsOk result → lists_fault lists.now.points lists.now.faces ≡ None }
     ensures first { IfErr result (IsRefusal (lists_fault lists.now.points lists.now.faces)) }
 {
-    match shape(alloc, lists) {
+    match shape(alloc, Scale::Large, lists) {
         Ok(()) => {}
         Err(ShapeRefusal::NoMemory) => return Err(MakeRefusal::NoMemory),
         Err(ShapeRefusal::Shape(fault)) => {
             return Err(MakeRefusal::Fault(MakeFault::Shape(fault)));
         }
     }
-    let mesh = JournalMesh::of(alloc, lists)?;
+    let mesh = JournalMesh::of(alloc, Scale::Large, lists)?;
     match first_meeting(alloc, &mesh)? {
         None => Ok(Held::new(alloc, mesh)?),
         Some(pair) => Err(MakeRefusal::Fault(MakeFault::Meets(pair))),
@@ -136,7 +137,8 @@ fn track_lists(alloc: Global, lists: &MeshLists) -> Result<Held<JournalMesh>, Ma
 }
 
 /// A tracker of the surface of these points and faces, whose corners number the points from 1, or the first thing that is wrong with
-/// them. It has told nothing, nothing is asked of its vertices, and its settings are the first.
+/// them. It has told nothing, nothing is asked of its vertices, and its settings are the first. Its mesh has the limits of a large one:
+/// at most 4,194,304 vertices and 8,388,608 faces.
 pub fn track(
     alloc: Global,
     points: &[GivenPoint],

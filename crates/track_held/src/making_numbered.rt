@@ -1,6 +1,7 @@
 //! A tracker is made of vertices and faces that keep the ids that they had.
 ghost use Rattle.std.specs.Prelude.{◌≡◌, ◌≤◌, ◌<◌, true, false, None, map, length, IfOk, IfErr, IsOk, []};
 ghost use Rattle.grid_base.specs.declared.TheConstants.{VERTICES_MAX};
+ghost use Rattle.mesh_base.specs.declared.limits.Scale.TheVariants.{Large};
 ghost use Rattle.mesh_base.specs.Valid.{IsValidSurface};
 ghost use Rattle.mesh_journal.specs.Journal.{mesh_in, kept_in};
 ghost use Rattle.mesh_rows.specs.Rows.{mesh_of_rows};
@@ -15,7 +16,7 @@ use crate::given::{GivenPoint, NamedFace, NamedPoint};
 use crate::held::Held;
 use crate::making::{is_outside, point_of};
 use grid_base::{NoMemory, VERTICES_MAX};
-use mesh_base::{Corners, FaceId, Ids, PairName, VertexId};
+use mesh_base::{Corners, FaceId, Ids, PairName, Scale, VertexId};
 use mesh_journal::JournalMesh;
 use mesh_rows::{
     FaceRow, FaceRows, MeshRows, RowsFault, RowsRefusal, VertexRow, VertexRows, mesh_of_rows,
@@ -125,14 +126,14 @@ fn solids_of(alloc: Global, given: &[u32]) -> Result<Ids, NoMemory>
 // A tracker of the mesh that rows make, or their first fault, or the first pair that meets.
 fn track_rows(alloc: Global, rows: &MeshRows) -> Result<Held<JournalMesh>, NumberedRefusal>
     ensures state { IfOk result (λ held. state_in mesh_in kept_in (engine_in held)
-        ≡ unsaved (mesh_of_rows rows.now)) }
+        ≡ unsaved (mesh_of_rows Large rows.now)) }
     ensures goes_on { IfOk result (λ held. goes_on held ≡ true) }
     ensures log { IfOk result (λ held. log_in held ≡ []) }
-    ensures valid { IsOk result → IsValidSurface (mesh_of_rows rows.now) }
+    ensures valid { IsOk result → IsValidSurface (mesh_of_rows Large rows.now) }
     ensures none { IsOk result → rows_or_meet_fault rows.now ≡ None }
     ensures first { IfErr result (IsRefusal (rows_or_meet_fault rows.now)) }
 {
-    let mesh = match mesh_of_rows(alloc, rows) {
+    let mesh = match mesh_of_rows(alloc, Scale::Large, rows) {
         Ok(mesh) => mesh,
         Err(RowsRefusal::NoMemory) => return Err(NumberedRefusal::NoMemory),
         Err(RowsRefusal::Fault(fault)) => {
@@ -147,7 +148,7 @@ fn track_rows(alloc: Global, rows: &MeshRows) -> Result<Held<JournalMesh>, Numbe
 
 /// A tracker of the surface of these vertices and faces, which keep their ids, of which these vertices are solid, and where the next vertex and
 /// the next face get these ids; or the first thing that is wrong with them. It has told nothing, nothing is asked of its vertices, no step is
-/// taken, and its settings are the first. So a tracker goes on where another was left.
+/// taken, and its settings are the first. So a tracker goes on where another was left. Its mesh has the limits of a large one.
 pub fn track_numbered(
     alloc: Global,
     points: &[NamedPoint],
@@ -158,12 +159,12 @@ pub fn track_numbered(
 ) -> Result<Held<JournalMesh>, NumberedRefusal>
     ensures state { let rows = given_rows points.now faces.now solids.now next_vertex next_face in
         IfOk result (λ held. state_in mesh_in kept_in (engine_in held)
-        ≡ unsaved (mesh_of_rows rows)) }
+        ≡ unsaved (mesh_of_rows Large rows)) }
     ensures goes_on { IfOk result (λ held. goes_on held ≡ true) }
     ensures log { IfOk result (λ held. log_in held ≡ []) }
     // Made: they have no fault, and their mesh is sound, closed and clear.
     ensures valid { let rows = given_rows points.now faces.now solids.now next_vertex next_face in
-        IsOk result → IsValidSurface (mesh_of_rows rows) }
+        IsOk result → IsValidSurface (mesh_of_rows Large rows) }
     ensures none { let rows = given_rows points.now faces.now solids.now next_vertex next_face in
         IsOk result → numbered_fault points.now rows ≡ None }
 

@@ -16,7 +16,7 @@ pub returns-then-doubled-clause-answer : goal.returns-then-doubled-clause-answer
 returns-then-doubled-clause-answer g c =
     let m = g.S.Surface.mesh c.args.mesh.now in
     doubled_is_refused meets_exactly m c.args.a c.args.b c.args.depth c.requires.edge c.requires.may_move
-    (sym (c.is_doubled-doubled.ensures m c.args.a c.args.b (g.met.S.Surface.sound c.args.mesh.now) c.requires.apart c.in_ok-left.ensures) ∙ c.if-doubled.true)
+    (sym (c.in_ok-doubled.ensures m c.args.a c.args.b (g.met.S.Surface.sound c.args.mesh.now) c.requires.apart c.in_ok-left.ensures) ∙ c.if-doubled.true)
 
 pub returns-then-doubled-clause-mesh : goal.returns-then-doubled-clause-mesh
 returns-then-doubled-clause-mesh g c = refl
@@ -28,7 +28,7 @@ pub returns-then-branch-clause-answer : goal.returns-then-branch-clause-answer
 returns-then-branch-clause-answer g c =
     let m = g.S.Surface.mesh c.args.mesh.now in
     let undoubled : doubles_a_face (joined_faces m c.args.a c.args.b) ≡ false =
-    sym (c.is_doubled-doubled.ensures m c.args.a c.args.b (g.met.S.Surface.sound c.args.mesh.now) c.requires.apart c.in_ok-left.ensures) ∙ c.if-doubled.false in
+    sym (c.in_ok-doubled.ensures m c.args.a c.args.b (g.met.S.Surface.sound c.args.mesh.now) c.requires.apart c.in_ok-left.ensures) ∙ c.if-doubled.false in
     full_is_refused meets_exactly m c.args.a c.args.b c.args.depth c.requires.edge c.requires.may_move undoubled (sym c.in_ok-is_over.ensures ∙ c.if-branch.true)
 
 pub returns-then-branch-clause-mesh : goal.returns-then-branch-clause-mesh
@@ -41,11 +41,14 @@ pub collapse_or_leave-requires-clause-tried : goal.collapse_or_leave-requires-cl
 collapse_or_leave-requires-clause-tried g c =
     let m = g.S.Surface.mesh c.args.mesh.now in
     let undoubled : doubles_a_face (joined_faces m c.args.a c.args.b) ≡ false =
-    sym (c.is_doubled-doubled.ensures m c.args.a c.args.b (g.met.S.Surface.sound c.args.mesh.now) c.requires.apart c.in_ok-left.ensures) ∙ c.if-doubled.false in
+    sym (c.in_ok-doubled.ensures m c.args.a c.args.b (g.met.S.Surface.sound c.args.mesh.now) c.requires.apart c.in_ok-left.ensures) ∙ c.if-doubled.false in
     may_be_tried meets_exactly m c.args.a c.args.b c.args.depth c.requires.edge c.requires.may_move undoubled (sym c.in_ok-is_over.ensures ∙ c.if-branch.false)
 
 pub returns-in_err-left-clause-marks : goal.returns-in_err-left-clause-marks
 returns-in_err-left-clause-marks g c = begins_itself (g.S.Surface.kept c.args.mesh.now)
+
+pub returns-in_err-doubled-clause-marks : goal.returns-in_err-doubled-clause-marks
+returns-in_err-doubled-clause-marks g c = begins_itself (g.S.Surface.kept c.args.mesh.now)
 
 pub returns-in_err-is_over-clause-marks : goal.returns-in_err-is_over-clause-marks
 returns-in_err-is_over-clause-marks g c = begins_itself (g.S.Surface.kept c.args.mesh.now)

@@ -3,8 +3,11 @@ use Rattle.std.specs.Prelude.{OnOk}
 use Rattle.mesh_base.specs.Mesh.{Mesh}
 use Rattle.mesh_base.specs.Changes.{without_face}
 use Rattle.mesh_base.proofs.MarksHold.{begins_itself}
-use Rattle.edit_collapse.specs.Tried.{has_id_in}
+use Rattle.edit_collapse.specs.Tried.{has_id_in, AreRising}
 use Rattle.edit_collapse.proofs.joining.drop_unless_left.Goals as goal
+
+pub has_id-requires : goal.has_id-requires
+has_id-requires g c = subst AreRising (sym c.as_slice.ensures) c.requires
 
 pub returns-then-has_id-clause-made : goal.returns-then-has_id-clause-made
 returns-then-has_id-clause-made g c =

@@ -3,11 +3,18 @@ use Rattle.mesh_base.specs.declared.ids.Corners.{Corners}
 use Rattle.mesh_base.specs.Mesh.{Mesh}
 use Rattle.mesh_base.proofs.MarksHold.{begins_along}
 use Rattle.edit_base.specs.Edges.{without_faces}
-use Rattle.edit_collapse.specs.Tried.{only_at, has_id_in, with_joined_or_gone}
+use Rattle.edit_collapse.specs.Tried.{only_at, has_id_in, with_joined_or_gone, AreRising}
 use Rattle.edit_collapse.proofs.Lists.{rest_at, ended}
 use Rattle.edit_collapse.proofs.Halfway.{OnTheWay, gone, begun, goes_on, at_end, has_id, is_fresh}
+use Rattle.edit_collapse.proofs.IdSearch.{left_rise}
 use Rattle.edit_collapse.proofs.Room.{ids_fit, first_is_live}
 use Rattle.edit_collapse.proofs.joining.put_joined.Goals as goal
+
+pub drop_gone-requires : goal.drop_gone-requires
+drop_gone-requires g c = subst AreRising (sym c.requires.left) (left_rise (g.S.Surface.mesh c.args.mesh.now) c.args.a c.args.b)
+
+pub join_face-requires-clause-rising : goal.join_face-requires-clause-rising
+join_face-requires-clause-rising g c = subst AreRising (sym c.requires.left) (left_rise (g.S.Surface.mesh c.args.mesh.now) c.args.a c.args.b)
 
 pub loop-i-init : goal.loop-i-init
 loop-i-init g c =

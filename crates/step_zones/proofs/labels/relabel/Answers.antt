@@ -1,25 +1,27 @@
-use Rattle.std.proofs.Common.{◌≡◌, ◌<◌, ◌≤◌, ℕ, length, get_or, refl, ap, sym, ◌∙◌, subst, arith}
-use Rattle.std.specs.Prelude.{slice_get, slice_set}
-use Rattle.step_zones.specs.Ranks.{relabelled}
-use Rattle.step_zones.proofs.Ranked.{changed_more, changed_all, changed_length, next_as_it_was, stands_inside}
+use Rattle.std.proofs.Common.{take, get_or, ap, sym, ◌∙◌}
+use Rattle.std.specs.Prelude.{slice_set}
+use Rattle.std.proofs.lemmas.List.{take_more, take_all}
+use Rattle.step_zones.specs.Ranks.{relabelled_at}
+use Rattle.step_zones.proofs.Alone.{none_joined, one_more, none_more}
 use Rattle.step_zones.proofs.labels.relabel.Goals as goal
 use Rattle.step_zones.proofs.labels.relabel.Goals.{in-Some, in_default}
 
-pub loop-i-init : goal.loop-i-init
-loop-i-init c = refl
+pub loop-place-init : goal.loop-place-init
+loop-place-init c = none_joined c.args.touched.now 0 c.args.labels.now
 
-pub loop-i-preserved : goal.loop-i-preserved
-loop-i-preserved c =
-    let below : c.loop-i.i < length c.args.labels.now = omega arith in
-    let as_long : length c.loop-i.labels ≡ length c.args.labels.now = changed_length (relabelled c.args.touched.now) c.args.labels.now c.loop-i.labels c.loop-i.i c.loop-i.invariant in
+pub loop-place-preserved : goal.loop-place-preserved
+loop-place-preserved c =
+    let places = c.args.places.now in
+    let k = c.loop-place.place-index in
+    let p = get_or places k 0 in
+    let more = ap (λ ps. relabelled_at c.args.touched.now ps 0 c.args.labels.now) (sym (take_more places k 0 c.loop-place-test.true)) in
     elim c.match-get.branch [
       | in-Some w ↦
-          let stood : w.in-Some.l.now ≡ get_or c.args.labels.now c.loop-i.i w.in-Some.l.now =
-          next_as_it_was (relabelled c.args.touched.now) c.args.labels.now c.loop-i.labels c.loop-i.i w.in-Some.l.now below c.loop-i.invariant (sym w.in-Some.ensures) in
-          changed_more (relabelled c.args.touched.now) c.args.labels.now c.loop-i.labels c.match-get.labels c.loop-i.i w.in-Some.l.now below stood c.loop-i.invariant
-          (w.labels-is ∙ w.set.ensures ∙ ap (slice_set c.loop-i.labels c.loop-i.i) w.relabelled-l.ensures)
-      | in_default w ↦ absurd (stands_inside c.loop-i.labels c.loop-i.i (omega arith) (sym w.in_default.ensures))
+          one_more c.args.touched.now (take k places) c.args.labels.now c.loop-place.labels c.match-get.labels p w.in-Some.l.now c.loop-place.invariant (sym w.in-Some.ensures)
+          (w.labels-is ∙ w.set.ensures ∙ ap (slice_set c.loop-place.labels p) w.relabelled-l.ensures)
+          ∙ more
+      | in_default w ↦ w.labels-is ∙ none_more c.args.touched.now (take k places) c.args.labels.now c.loop-place.labels p c.loop-place.invariant (sym w.in_default.ensures) ∙ more
     ]
 
 pub returns : goal.returns
-returns c = changed_all (relabelled c.args.touched.now) c.args.labels.now c.loop-i.labels c.loop-i.i (omega arith) c.loop-i.invariant
+returns c = c.loop-place.invariant ∙ ap (λ ps. relabelled_at c.args.touched.now ps 0 c.args.labels.now) (take_all c.loop-place.place-index c.args.places.now c.loop-place-test.false)

@@ -1,7 +1,7 @@
-use Rattle.std.proofs.Common.{◌≡◌, ◌++◌, map, take, drop, length}
-use Rattle.step_zones.specs.Ranks.{relabelled}
+use Rattle.std.proofs.Common.{◌≡◌, take}
+use Rattle.step_zones.specs.Ranks.{relabelled_at}
 use Rattle.step_zones.proofs.labels.relabel.Given as goal
 
--- the labels so far are changed
-abbrev pub invariant-loop-i : goal.invariant-loop-i
-invariant-loop-i l = l.labels ≡ map (relabelled l.touched) (take l.i l.fn.labels) ++ drop l.i l.fn.labels
+-- the labels at the places so far are joined
+abbrev pub invariant-loop-place : goal.invariant-loop-place
+invariant-loop-place l = l.labels ≡ relabelled_at l.touched (take l.place-index l.places) 0 l.fn.labels

@@ -1,5 +1,4 @@
-use Rattle.std.proofs.Common.{◌≡◌, ℕ, ◌==◌, Bool, true, false, ap, sym, ◌∙◌}
-use Rattle.mesh_base.specs.Mesh.{Mesh}
+use Rattle.std.proofs.Common.{◌≡◌, ℕ, ◌==◌, Bool, ap, sym, ◌∙◌}
 use Rattle.step_zones.specs.Ranks.{label_by}
 use Rattle.step_zones.proofs.Listing.{kept_more, kept_skip, kept_all}
 use Rattle.step_zones.proofs.Summed.{label_at}

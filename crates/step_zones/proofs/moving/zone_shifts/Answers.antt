@@ -1,10 +1,7 @@
-use Rattle.std.proofs.Common.{◌≡◌, ℕ, ◌*◌, map, length, ap, sym, subst, ◌∙◌, arith}
+use Rattle.std.proofs.Common.{◌≡◌, map, ap, sym, subst, ◌∙◌, arith}
 use Rattle.std.proofs.Common.{IsTrue}
-use Rattle.grid_base.specs.Triples.{IsWithin}
-use Rattle.grid_base.specs.declared.TheConstants.{SHIFT_MAX}
 use Rattle.mesh_base.proofs.ListLaws.{mapped_more}
 use Rattle.mesh_base.specs.declared.steps.ShiftOf.{ShiftOf}
-use Rattle.step_zones.specs.declared.totals.Total.{Total}
 use Rattle.step_zones.specs.Chains.{is_one_of}
 use Rattle.step_zones.specs.Ranks.{label_by}
 use Rattle.step_zones.specs.Totals.{total_of, total_by, labelled_shift}

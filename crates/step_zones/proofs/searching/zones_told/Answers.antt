@@ -1,11 +1,13 @@
-use Rattle.std.proofs.Common.{◌≡◌, ◌≢◌, ℕ, ◌<◌, ◌≤◌, ◌+◌, [], length, map, true, false, Option, Some, None, refl, ap, sym, subst, ◌∙◌, arith}
+use Rattle.std.proofs.Common.{◌≡◌, ℕ, ◌<◌, ◌+◌, map, true, false, Some, refl, ap, sym, subst, ◌∙◌, arith}
 use Rattle.std.specs.Option.{option_map}
-use Rattle.std.specs.FinMap as finite
 use Rattle.grid_decided.specs.Decided.{meets_exactly, meets_exactly-is_exact}
 use Rattle.mesh_base.specs.Shifts.{Shifts, NameLive, end_in_box, shift_at}
 use Rattle.mesh_base.specs.Mesh.{IsSound}
+use Rattle.pair_scan.proofs.Paths.{ids_sorted}
+use Rattle.step_zones.specs.Ranks.{AreAlone}
+use Rattle.step_zones.proofs.Alone.{alone_first}
 use Rattle.step_zones.specs.declared.found.Zoned.{Zoned}
-use Rattle.step_zones.specs.Rounds.{round_shifts, round_hits, round_labels, round_taken, IsFirstToServe, SomeRoundLeaves}
+use Rattle.step_zones.specs.Rounds.{round_shifts, IsFirstToServe, SomeRoundLeaves}
 use Rattle.step_zones.specs.Zoned.{zoned_at}
 use Rattle.step_zones.proofs.Rounds.{fewer_each_round, few_rounds}
 use Rattle.step_zones.proofs.Searched.{ready_as, shifts_as, shifts_named, solids_stay, blocks_as, hits_as, none_as, some_as, labels_as, one_more_fails, one_more_ends, first_is_taken, none_is_taken, rounds_left, vertices_are_few, first_labels}
@@ -16,6 +18,10 @@ round-init g c =
     let m = g.S.Surface.mesh c.args.mesh.now in
     record {
       labels = c.in_ok-labels.ensures ∙ ap (map (λ s. s.v)) c.as_slice.ensures ∙ first_labels m c.args.asked.now c.args.depth;
+      alone =
+          let each = c.in_ok-labels.ensures ∙ ap (map (λ s. s.v)) c.as_slice.ensures in
+          subst (AreAlone c.args.asked.now c.new-places.result.items) (sym each)
+          (subst (λ ps. AreAlone c.args.asked.now ps (map (λ s. s.v) c.args.asked.now)) (sym c.new-places.ensures.items) (alone_first c.args.asked.now (ids_sorted m c.args.asked.now c.requires.named)));
       each_fails = λ q h. absurd (omega arith);
       in_box = λ q h. absurd (omega arith);
     }
@@ -84,7 +90,7 @@ pub join_all-requires : goal.join_all-requires
 join_all-requires g c =
     let m = g.S.Surface.mesh c.args.mesh.now in
     let ready = ready_as m c.args.asked.now c.args.depth c.round.rounds (g.met.S.Surface.sound c.args.mesh.now) c.requires.named c.as_slice-in-round-4.result.now c.round.labels c.as_slice-in-round-4.ensures c.round.invariant.labels in
-    record { rising = ready.rising; each = ready.each }
+    record { rising = ready.rising; each = ready.each; alone = subst (λ a. AreAlone a c.round.places.items c.round.labels) (sym c.as_slice-in-round-4.ensures) c.round.invariant.alone }
 
 pub overflow_add-rounds : goal.overflow_add-rounds
 overflow_add-rounds g c =
@@ -105,7 +111,8 @@ round-preserved g c =
     let ends : end_in_box m (round_shifts meets_exactly m asked c.args.depth c.round.rounds) ≡ true =
     ap (end_in_box m) (sym (c.as_slice-in-round-3.ensures ∙ taken)) ∙ sym c.end_in_box.ensures ∙ c.if-not-end_in_box.false in
     record {
-      labels = labels_as m asked c.args.depth c.round.rounds sound c.requires.named c.as_slice-in-round-4.result.now c.round.labels c.join_all.new.labels c.in_ok-hits.hits c.as_slice-in-round-4.ensures c.round.invariant.labels hits c.join_all.ensures;
+      labels = labels_as m asked c.args.depth c.round.rounds sound c.requires.named c.as_slice-in-round-4.result.now c.round.labels c.join_all.new.labels c.in_ok-hits.hits c.as_slice-in-round-4.ensures c.round.invariant.labels hits (c.in_ok-join_all.ensures.joined refl);
+      alone = subst (λ a. AreAlone a c.join_all.new.places.items c.join_all.new.labels) c.as_slice-in-round-4.ensures (c.in_ok-join_all.ensures.alone refl);
       each_fails = one_more_fails meets_exactly m asked c.args.depth c.round.rounds c.round.invariant.each_fails some;
       in_box = one_more_ends meets_exactly m asked c.args.depth c.round.rounds c.round.invariant.in_box ends;
     }

@@ -1,6 +1,7 @@
 use Rattle.std.proofs.Common.{◌≡◌, ◌≢◌, ℕ, ◌<◌, [], map, true}
 use Rattle.grid_decided.specs.Decided.{meets_exactly}
 use Rattle.mesh_base.specs.Shifts.{end_in_box}
+use Rattle.step_zones.specs.Ranks.{AreAlone}
 use Rattle.step_zones.specs.Rounds.{round_labels, round_shifts, round_hits, round_blocks}
 use Rattle.step_zones.proofs.searching.zones_told.Given as goal
 
@@ -10,6 +11,7 @@ invariant-round g l =
     let m = g.S.Surface.mesh l.mesh in
     record {
       labels : l.labels ≡ map (λ s. round_labels meets_exactly m l.asked l.depth l.rounds s.v) l.asked;
+      alone : AreAlone l.asked l.places.items l.labels;
       each_fails : (q : ℕ) → q < l.rounds → round_hits meets_exactly m l.asked l.depth q ≢ [];
       in_box : (q : ℕ) → q < l.rounds → end_in_box m (round_shifts meets_exactly m l.asked l.depth q) ≡ true;
     }

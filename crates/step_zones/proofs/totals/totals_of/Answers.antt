@@ -1,4 +1,4 @@
-use Rattle.std.proofs.Common.{◌≡◌, map, take, ap, sym, subst, ◌∙◌, length}
+use Rattle.std.proofs.Common.{◌≡◌, map, take, ap, ◌∙◌}
 use Rattle.mesh_base.specs.declared.steps.ShiftOf.{ShiftOf}
 use Rattle.step_zones.specs.declared.totals.Total.{Total}
 use Rattle.step_zones.specs.Ranks.{label_by}
