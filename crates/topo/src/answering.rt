@@ -43,8 +43,7 @@ takes them so and stores the meshes that they save, as `track` did. `try` makes 
 KEY, runs it, and writes a summary of its log (N from 1 to 12, KEY from 0 to 4294967295); it reads and
 stores no file.
 
---large         files may have up to 2147483647 bytes, and meshes up to 4194304 vertices and 8388608 faces; if left
-                out, 67108864 bytes, 65536 vertices and 131072 faces
+--large         files may have up to 2147483647 bytes, and meshes up to 4194304 vertices and 8388608 faces
 --decimals N    a unit of the grid is 10 to the power -N (N from 0 to 6; 0 if left out)
 --only K        of the meshes of the log, mesh K alone is stored (K from 0 to 4294967295)
 --card FILE     `track` stores in FILE of which mesh, steps and decimals its log is, and the others take the log
