@@ -5,6 +5,7 @@ use Rattle.std.proofs.lemmas.List.{length-map, append_assoc, append-nil}
 use Rattle.std.proofs.lemmas.List.Elements.{All-nil, All-cons, All-append}
 use Rattle.grid_decided.specs.Decided.{meets_exactly}
 use Rattle.mesh_base.specs.declared.UseWhy.{UseWhy}
+use Rattle.mesh_base.specs.declared.Scale.{Scale}
 use Rattle.mesh_base.specs.Mesh.{Mesh}
 use Rattle.mesh_base.specs.Valid.{IsValidSurface}
 use Rattle.edit_base.specs.declared.Asked.{Asked}
@@ -21,6 +22,8 @@ use Rattle.log_text.specs.Lines.{text_of_lines}
 use Rattle.log_text.proofs.LineLaws.{text_of_lines-append}
 use Rattle.log_replay.specs.Again.{LineIsAgain, LinesAreAgain}
 use Rattle.log_replay.specs.Replay.{Replay, after, at_mesh}
+use Rattle.log_replay.specs.Laws.{HaveLimits, IsWithin}
+use Rattle.log_replay.proofs.Limits.{limits-after}
 use Rattle.log_replay.proofs.Replaying.{each_then}
 use Rattle.outside_io.specs.Sink.{appended}
 use Rattle.run_laws.specs.Directives.{HasRoomFor, IsEffectInRange}
@@ -47,7 +50,7 @@ use Rattle.log_fits.proofs.Lines.{told, begun_behind, fits_append}
 -- ---- a call
 
 -- what is known of the lines of a call, and of the state behind them
-record IsGood (s next : State) (lines : List LogLine) : Type 0 where
+record IsGood (scale : Scale) (s next : State) (lines : List LogLine) : Type 0 where
   pub kept : IsRunInvariant next
   pub limits : AreWithinLimits next.set
   pub steps : next.steps ≤ s.steps + 1
@@ -57,20 +60,20 @@ record IsGood (s next : State) (lines : List LogLine) : Type 0 where
   pub ends : begun_behind false lines ≡ false
   pub again : LinesAreAgain (standing s) lines
   pub safe : LogIsSafe (standing s) lines
-  pub range : AreInRange lines
+  pub range : AreInRange scale lines
 
-abbrev IsGoodEffect : State → Effect → Type 0
-IsGoodEffect s effect = IsGood s (state_left effect s) (lines_told effect)
+abbrev IsGoodEffect : Scale → State → Effect → Type 0
+IsGoodEffect scale s effect = IsGood scale s (state_left effect s) (lines_told effect)
 
-no_lines : AreInRange []
-no_lines = All-nil MayFollow
+no_lines : (scale : Scale) → AreInRange scale []
+no_lines scale = All-nil (MayFollow scale)
 
-one_line : (l : LogLine) → MayFollow l → AreInRange (l ∷ [])
-one_line l h = All-cons MayFollow l [] h (All-nil MayFollow)
+one_line : (scale : Scale) (l : LogLine) → MayFollow scale l → AreInRange scale (l ∷ [])
+one_line scale l h = All-cons (MayFollow scale) l [] h (All-nil (MayFollow scale))
 
 -- nothing is told, and nothing changes
-nothing : (s : State) → HasRoomFor 1 s → IsGood s s []
-nothing s room = record {
+nothing : (scale : Scale) (s : State) → HasRoomFor scale 1 s → IsGood scale s s []
+nothing scale s room = record {
   kept = room.kept;
   limits = room.limits;
   steps = omega arith;
@@ -80,7 +83,7 @@ nothing s room = record {
   ends = refl;
   again = tt;
   safe = tt;
-  range = no_lines;
+  range = no_lines scale;
 }
 
 -- ---- a directive
@@ -120,12 +123,12 @@ directive_fits given directive.Save s few again = fits_here (length s.groups) s 
 directive_fits given directive.Group s few again = fits_here (length s.groups + 1) s (effect_of given directive.Group s) (effect_fits given directive.Group s few again)
 directive_fits given directive.Close s few again = close_fits_here given s again
 
-directive_good : (given : Answer) (what : Directive) (s : State) → HasRoomFor 1 s → IsInRange what → OpensFew (length s.groups) what → IsGoodEffect s (effect_of given what s)
-directive_good given what s room range few =
+directive_good : (scale : Scale) (given : Answer) (what : Directive) (s : State) → HasRoomFor scale 1 s → IsInRange what → OpensFew (length s.groups) what → IsGoodEffect scale s (effect_of given what s)
+directive_good scale given what s room range few =
     let again = effect_again given what s room.limits room.kept in
-    by_effect (effect_of given what s) refl (directive_fits given what s few again) again (keeps_effect given what s room.kept) (effects_in_range given what s room range)
+    by_effect (effect_of given what s) refl (directive_fits given what s few again) again (keeps_effect given what s room.kept) (effects_in_range scale given what s room range)
   where
-    by_effect : (t : Effect) → effect_of given what s ≡ t → FitsHere s t → IsAgain s t → KeepsEffect s t → IsEffectInRange t → IsGoodEffect s t
+    by_effect : (t : Effect) → effect_of given what s ≡ t → FitsHere s t → IsAgain s t → KeepsEffect s t → IsEffectInRange scale t → IsGoodEffect scale s t
     by_effect (Proceeds lines next) e fit again keeps ranged = record {
       kept = kept_next given what s next lines room.kept e;
       limits = limits_next given what s next lines range room.limits e;
@@ -138,17 +141,17 @@ directive_good given what s room range few =
       safe = keeps.0;
       range = ranged;
     }
-    by_effect (Refused why) e fit again keeps ranged = nothing s room
-    by_effect (Unanswered lines) e fit again keeps ranged = nothing s room
+    by_effect (Refused why) e fit again keeps ranged = nothing scale s room
+    by_effect (Unanswered lines) e fit again keeps ranged = nothing scale s room
 
 -- ---- edits by ids
 
-edits_ranged : (asked : List Asked) (s : State) → HasRoomFor 1 s → AllByRecursion IsAskedInRange asked → AreInRange (edited_lines asked s)
+edits_ranged : (scale : Scale) (asked : List Asked) (s : State) → HasRoomFor scale 1 s → AllByRecursion IsAskedInRange asked → AreInRange scale (edited_lines asked s)
 unfolding edited_lines
-edits_ranged asked s room range = edits_in_range meets_exactly s.set.depth (is_open s.groups) s.mesh room.kept.now.good.sound room.kept.now.good.closed asked range
+edits_ranged scale asked s room range = edits_in_range scale meets_exactly s.set.depth (is_open s.groups) s.mesh room.kept.now.good.sound room.kept.now.good.closed asked range
 
-edits_good : (asked : List Asked) (s : State) → HasRoomFor 1 s → AllByRecursion IsAskedInRange asked → IsGood s (after_edits asked s) (edited_lines asked s)
-edits_good asked s room range =
+edits_good : (scale : Scale) (asked : List Asked) (s : State) → HasRoomFor scale 1 s → AllByRecursion IsAskedInRange asked → IsGood scale s (after_edits asked s) (edited_lines asked s)
+edits_good scale asked s room range =
     let keeps = edits_run asked s room.kept in
     let again = edits_again asked s room.limits in
     let fit = lines_fit (edited_lines asked s) (edited_mesh asked s) s (edits_are asked s) again in
@@ -162,22 +165,22 @@ edits_good asked s room range =
       ends = fit.ends;
       again = again;
       safe = keeps.0;
-      range = edits_ranged asked s room range;
+      range = edits_ranged scale asked s room range;
     }
 
 -- ---- a group that is taken back
 
-undo_good : (s : State) → HasRoomFor 1 s → IsGoodEffect s (undo_effect s.groups s)
-undo_good s room = by_groups s.groups refl
+undo_good : (scale : Scale) (s : State) → HasRoomFor scale 1 s → IsGoodEffect scale s (undo_effect s.groups s)
+undo_good scale s room = by_groups s.groups refl
   where
-    by_groups : (groups : List Group) → s.groups ≡ groups → IsGoodEffect s (undo_effect s.groups s)
-    by_groups [] e = subst (λ gs. IsGoodEffect s (undo_effect gs s)) (sym e) (nothing s room)
+    by_groups : (groups : List Group) → s.groups ≡ groups → IsGoodEffect scale s (undo_effect s.groups s)
+    by_groups [] e = subst (λ gs. IsGoodEffect scale s (undo_effect gs s)) (sym e) (nothing scale s room)
     by_groups (group ∷ outer) e =
         let keeps : KeepsTheRun s (undo_effect (group ∷ outer) s) = subst (λ gs. KeepsTheRun s (undo_effect gs s)) e (undo_run s room.kept) in
         let more : length s.groups ≡ suc (length outer) = ap length e in
         let some : 0 < length s.groups = omega (arith, more) in
         let stacked : 0 < length (standing s).stack = subst (λ n. 0 < n) (sym (length-map s.groups (λ g. g.mesh))) some in
-        let good : IsGood s (taken_back group outer s) (Close false ∷ []) = record {
+        let good : IsGood scale s (taken_back group outer s) (Close false ∷ []) = record {
           kept = keeps.2;
           limits = room.limits;
           steps = omega arith;
@@ -187,17 +190,17 @@ undo_good s room = by_groups s.groups refl
           ends = refl;
           again = (tt, tt);
           safe = keeps.0;
-          range = one_line (Close false) (tt, tt);
+          range = one_line scale (Close false) (tt, tt);
         } in
-        subst (λ gs. IsGoodEffect s (undo_effect gs s)) (sym e) good
+        subst (λ gs. IsGoodEffect scale s (undo_effect gs s)) (sym e) good
 
 -- ---- whichever call it is
 
-call_good : (call : Call) (s : State) → HasRoomFor 1 s → MayBeCalled s call → IsGoodEffect s (effect_of_call call s)
-call_good (Does what given) s room may = directive_good given what s room may.0 may.1
-call_good (Edits asked) s room may = edits_good asked s room may
-call_good Undoes s room may = undo_good s room
-call_good (Sets set) s room may = record {
+call_good : (scale : Scale) (call : Call) (s : State) → HasRoomFor scale 1 s → MayBeCalled s call → IsGoodEffect scale s (effect_of_call call s)
+call_good scale (Does what given) s room may = directive_good scale given what s room may.0 may.1
+call_good scale (Edits asked) s room may = edits_good scale asked s room may
+call_good scale Undoes s room may = undo_good scale s room
+call_good scale (Sets set) s room may = record {
   kept = record { now = room.kept.now; groups = room.kept.groups };
   limits = may;
   steps = omega arith;
@@ -207,20 +210,20 @@ call_good (Sets set) s room may = record {
   ends = refl;
   again = tt;
   safe = tt;
-  range = no_lines;
+  range = no_lines scale;
 }
 
 -- ---- all calls
 
 -- what is known of the lines of all calls, and of the last line behind them
-record AreGood (s : State) (lines : List LogLine) : Type 0 where
+record AreGood (scale : Scale) (s : State) (lines : List LogLine) : Type 0 where
   pub fits : LinesFit (told false (standing s)) lines
   pub again : LinesAreAgain (standing s) lines
   pub safe : LogIsSafe (standing s) lines
-  pub range : AreInRange lines
+  pub range : AreInRange scale lines
 
-join : (s next : State) (lines rest : List LogLine) → IsGood s next lines → AreGood next rest → AreGood s (lines ++ rest)
-join s next lines rest good others =
+join : (scale : Scale) (s next : State) (lines rest : List LogLine) → IsGood scale s next lines → AreGood scale next rest → AreGood scale s (lines ++ rest)
+join scale s next lines rest good others =
     let Fit : Bool → Replay → Type 0 = λ b r. LinesFit (told b r) rest in
     let Again : Replay → Type 0 = λ r. LinesAreAgain r rest in
     let Safe : Replay → Type 0 = λ r. LogIsSafe r rest in
@@ -229,40 +232,41 @@ join s next lines rest good others =
           (subst (λ b. Fit b (after (standing s) lines)) (sym good.ends) (subst (λ r. Fit false r) (sym good.leads) others.fits));
       again = each_then LineIsAgain (standing s) lines rest good.again (subst Again (sym good.leads) others.again);
       safe = each_then LineHolds (standing s) lines rest good.safe (subst Safe (sym good.leads) others.safe);
-      range = All-append MayFollow lines rest good.range others.range;
+      range = All-append (MayFollow scale) lines rest good.range others.range;
     }
 
-calls_good : (calls : List Call) (s : State) → HasRoomFor (length calls) s → MayAllBeCalled calls s → AreGood s (history calls s ++ End ∷ [])
-calls_good [] s room may = record { fits = (tt, tt); again = (tt, tt); safe = (tt, tt); range = one_line End (tt, tt) }
-calls_good (call ∷ calls) s room may =
+calls_good : (scale : Scale) (calls : List Call) (s : State) → HasRoomFor scale (length calls) s → MayAllBeCalled calls s → AreGood scale s (history calls s ++ End ∷ [])
+calls_good scale [] s room may = record { fits = (tt, tt); again = (tt, tt); safe = (tt, tt); range = one_line scale End (tt, tt) }
+calls_good scale (call ∷ calls) s room may =
     let a = room.steps in
     let b = room.saved in
-    let here : HasRoomFor 1 s = record { kept = room.kept; limits = room.limits; steps = omega (arith, a); saved = omega (arith, b) } in
+    let here : HasRoomFor scale 1 s = record { kept = room.kept; within = room.within; limits = room.limits; steps = omega (arith, a); saved = omega (arith, b) } in
     let effect = effect_of_call call s in
     let next = state_left effect s in
-    let good = call_good call s here may.0 in
+    let good = call_good scale call s here may.0 in
     let c = good.steps in
     let d = good.saved in
-    let left : HasRoomFor (length calls) next = record { kept = good.kept; limits = good.limits; steps = omega (arith, a, c); saved = omega (arith, b, d) } in
-    subst (AreGood s) (sym (append_assoc (lines_told effect) (history calls next) (End ∷ [])))
-    (join s next (lines_told effect) (history calls next ++ End ∷ []) good (calls_good calls next left may.1))
+    let within : HaveLimits (IsWithin scale) (standing next) = subst (HaveLimits (IsWithin scale)) good.leads (limits-after (IsWithin scale) (standing s) (lines_told effect) room.within) in
+    let left : HasRoomFor scale (length calls) next = record { kept = good.kept; within = within; limits = good.limits; steps = omega (arith, a, c); saved = omega (arith, b, d) } in
+    subst (AreGood scale s) (sym (append_assoc (lines_told effect) (history calls next) (End ∷ [])))
+    (join scale s next (lines_told effect) (history calls next ++ End ∷ []) good (calls_good scale calls next left may.1))
 
 -- ---- the log
 
-room_at_first : (m : Mesh) (count : ℕ) → IsValidSurface m → count ≤ COUNT_MAX → HasRoomFor count (unsaved m)
-room_at_first m count good few =
+room_at_first : (scale : Scale) (m : Mesh) (count : ℕ) → IsWithin scale m.limits → IsValidSurface m → count ≤ COUNT_MAX → HasRoomFor scale count (unsaved m)
+room_at_first scale m count within good few =
     let kept = kept_start m good in
-    record { kept = record { now = kept.now; groups = kept.groups }; limits = limits_start m; steps = omega (arith, few); saved = omega (arith, few) }
+    record { kept = record { now = kept.now; groups = kept.groups }; within = record { mesh = within; groups = tt }; limits = limits_start m; steps = omega (arith, few); saved = omega (arith, few) }
 
 pub callers_have_logs : CallersHaveLogs
-callers_have_logs m calls good may few =
+callers_have_logs scale m calls within good may few =
     let rest : List LogLine = history calls (unsaved m) ++ End ∷ [] in
-    let all : AreGood (unsaved m) rest = calls_good calls (unsaved m) (room_at_first m (length calls) good few) may in
-    let head : MayFollow (mesh_line 0 m) = mesh_in_range m 0 good.sound (omega arith) in
+    let all : AreGood scale (unsaved m) rest = calls_good scale calls (unsaved m) (room_at_first scale m (length calls) within good few) may in
+    let head : MayFollow scale (mesh_line 0 m) = mesh_in_range scale m 0 within good.sound (omega arith) in
     record {
       rest = mesh_line 0 m ∷ rest;
       lines_are = refl;
-      range = All-cons MayFollow (mesh_line 0 m) rest head all.range;
+      range = All-cons (MayFollow scale) (mesh_line 0 m) rest head all.range;
       fits = (tt, ((refl, refl, refl), all.fits));
       again = (tt, (tt, all.again));
       safe = (tt, (saved_well (at_mesh m) good, all.safe));

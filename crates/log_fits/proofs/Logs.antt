@@ -1,6 +1,8 @@
 -- Logs that were written, and their first lines.
 use Rattle.std.proofs.Common.{◌≡◌, ℕ, zero, suc, ◌<◌, List, [], ◌∷◌, take, Option, Some, None, Result, Ok, Err, refl, ap, sym, ◌∙◌, subst, arith}
 use Rattle.std.proofs.lemmas.List.Elements.{All-nil, All-cons, All-take}
+use Rattle.mesh_base.specs.declared.Scale.{Scale}
+use Rattle.mesh_base.specs.Limits.{limits_of}
 use Rattle.mesh_base.specs.Mesh.{Mesh}
 use Rattle.obj_text.specs.Obj.{Lists}
 use Rattle.step_text.specs.declared.Placed.{Placed}
@@ -10,6 +12,9 @@ use Rattle.log_text.specs.declared.LogLine.TheVariants.{First}
 use Rattle.log_text.specs.Lines.{text_of_lines}
 use Rattle.log_read.specs.Reading.{log_of as lines_of_text}
 use Rattle.log_read.proofs.LogLaws.{written_logs_are_read_lem}
+use Rattle.mesh_base.proofs.MeshLaws.{small_texts_of}
+use Rattle.log_replay.specs.Laws.{IsWithin}
+use Rattle.log_replay.proofs.Limits.{within_same}
 use Rattle.log_replay.specs.Again.{LineIsAgain, LinesAreAgain}
 use Rattle.log_replay.specs.Replay.{Replay, replayed, at_mesh, EachAt}
 use Rattle.log_run.specs.States.{LogState, without_lines, with_line}
@@ -47,9 +52,9 @@ use Rattle.log_fits.proofs.Jobs.{job_logs_fit}
 use Rattle.log_fits.proofs.Measured.{mesh_is}
 
 pub logs_are_read : LogsAreRead
-logs_are_read m lines log =
-    let P : List LogLine → Type 0 = λ ls. lines_of_text (text_of_lines ls) ≡ Ok ls in
-    subst P (sym log.lines_are) (written_logs_are_read_lem log.rest log.range)
+logs_are_read scale m lines log =
+    let P : List LogLine → Type 0 = λ ls. lines_of_text scale (text_of_lines ls) ≡ Ok ls in
+    subst P (sym log.lines_are) (written_logs_are_read_lem scale log.rest log.range)
 
 -- ---- first lines
 
@@ -64,11 +69,11 @@ first_fit s [] (suc count) h = tt
 first_fit s (line ∷ lines) (suc count) h = (h.0, first_fit (with_line s line) lines count h.1)
 
 pub first_parts_are_logs : FirstPartsAreLogs
-first_parts_are_logs m lines zero some log = absurd (omega (arith, some))
-first_parts_are_logs m lines (suc count) some log = record {
+first_parts_are_logs scale m lines zero some log = absurd (omega (arith, some))
+first_parts_are_logs scale m lines (suc count) some log = record {
   rest = take count log.rest;
   lines_are = ap (take (suc count)) log.lines_are;
-  range = All-take MayFollow count log.rest log.range;
+  range = All-take (MayFollow scale) count log.rest log.range;
   fits = first_fit (without_lines m) lines (suc count) log.fits;
   again = each_first LineIsAgain (at_mesh m) lines (suc count) log.again;
   safe = each_first LineHolds (at_mesh m) lines (suc count) log.safe;
@@ -77,40 +82,40 @@ first_parts_are_logs m lines (suc count) some log = record {
 -- ---- runs
 
 -- the only line
-refused_alone : (why : Refusal) → MayFollow (RefusedLine why) → AreInRange (log_of_input [] (Err why)).lines
-refused_alone why h = All-cons MayFollow (RefusedLine why) [] h (All-nil MayFollow)
+refused_alone : (scale : Scale) (why : Refusal) → MayFollow scale (RefusedLine why) → AreInRange scale (log_of_input scale [] (Err why)).lines
+refused_alone scale why h = All-cons (MayFollow scale) (RefusedLine why) [] h (All-nil (MayFollow scale))
 
-test_in_range : (answers : Answers) (m : Mesh) (steps : List Placed) → IsSound m → IsClosed m → AreCounted steps → (o : Option PairName) → met_first m ≡ o → AreInRange (log_of_test answers m steps o).lines
-test_in_range answers m steps sound closed counted (Some pair) e =
+test_in_range : (scale : Scale) (answers : Answers) (m : Mesh) (steps : List Placed) → IsWithin scale m.limits → IsSound m → IsClosed m → AreCounted steps → (o : Option PairName) → met_first m ≡ o → AreInRange scale (log_of_test answers m steps o).lines
+test_in_range scale answers m steps within sound closed counted (Some pair) e =
     let P : Option PairName → Type 0 = λ o. IfSome o IsPairInRange in
-    refused_alone (refusal.Meets pair) (subst P e (meeting_in_range meets_exactly m (rest_positions m) sound), tt)
-test_in_range answers m steps sound closed counted None e =
-    mesh_logs_in_range answers m steps (record { sound = sound; closed = closed; clear = (clear_exactly m None sound (sym e)).0 refl }) counted
+    refused_alone scale (refusal.Meets pair) (subst P e (meeting_in_range meets_exactly m (rest_positions m) sound), tt)
+test_in_range scale answers m steps within sound closed counted None e =
+    mesh_logs_in_range scale answers m steps within (record { sound = sound; closed = closed; clear = (clear_exactly m None sound (sym e)).0 refl }) counted
 
-input_in_range : (answers : Answers) (r : Result Input Refusal) → IsInputInRange r → AreInRange (log_of_input answers r).lines
-input_in_range answers (Err why) h = refused_alone why (h, tt)
-input_in_range answers (Ok input) h = test_in_range answers (mesh_of_lists input.lists) input.steps h.sound h.closed h.steps (met_first (mesh_of_lists input.lists)) refl
+input_in_range : (scale : Scale) (answers : Answers) (r : Result Input Refusal) → IsInputInRange scale r → AreInRange scale (log_of_input scale answers r).lines
+input_in_range scale answers (Err why) h = refused_alone scale why (h, tt)
+input_in_range scale answers (Ok input) h = test_in_range scale answers (mesh_of_lists scale input.lists) input.steps (within_same scale (limits_of scale) refl) h.sound h.closed h.steps (met_first (mesh_of_lists scale input.lists)) refl
 
-seen_of : (files : Told Files) (name : List ℕ) (source : Source) → IsSource files name source → IsSeen source
-seen_of files name (Bytes bytes) is = is.0
-seen_of files name Absent is = tt
-seen_of files name (TooLong seen) is = is.1
+seen_of : (scale : Scale) (files : Told Files) (name : List ℕ) (source : Source) → IsSource scale files name source → IsSeen source
+seen_of scale files name (Bytes bytes) is = omega (arith, is.0, small_texts_of scale)
+seen_of scale files name Absent is = tt
+seen_of scale files name (TooLong seen) is = is.1
 
 -- the lines behind the first of the log of a job whose files a desk held
-job_in_range : (answers : Answers) (files : Told Files) (mesh_name step_name : List ℕ) (decimals : ℕ) (job : Job) → IsJob files mesh_name step_name decimals job → AreInRange (log_of_input answers (input_of job)).lines
-job_in_range answers files mesh_name step_name decimals job is =
-    input_in_range answers (input_of job) (inputs_in_range job (seen_of files mesh_name job.mesh_file is.mesh) (seen_of files step_name job.step_file is.steps))
+job_in_range : (scale : Scale) (answers : Answers) (files : Told Files) (mesh_name step_name : List ℕ) (decimals : ℕ) (job : Job) → IsJob scale files mesh_name step_name decimals job → AreInRange job.scale (log_of_input job.scale answers (input_of job)).lines
+job_in_range scale answers files mesh_name step_name decimals job is =
+    input_in_range job.scale answers (input_of job) (inputs_in_range job (seen_of scale files mesh_name job.mesh_file is.mesh) (seen_of scale files step_name job.step_file is.steps))
 
 pub runs_have_logs : (known : Known) → RunsHaveLogs known
-runs_have_logs known mesh_name step_name to tracked before after track lists directives clear =
+runs_have_logs known scale mesh_name step_name to tracked before after track lists directives clear =
     let job = track.job in
     let answers = track.tracks.answers in
     let lines : List LogLine = (log_of job answers).lines in
-    let same : mesh_of_job job ≡ mesh_of_lists lists = mesh_is job lists directives clear in
+    let same : mesh_of_job job ≡ mesh_of_lists job.scale lists = mesh_is job lists directives clear in
     record {
-      rest = (log_of_input answers (input_of job)).lines;
+      rest = (log_of_input job.scale answers (input_of job)).lines;
       lines_are = refl;
-      range = job_in_range answers before.holds.files mesh_name step_name to.decimals job track.is_job;
+      range = job_in_range scale answers before.holds.files mesh_name step_name to.decimals job track.is_job;
       fits = subst (λ n. LinesFit (without_lines n) lines) same (job_logs_fit job answers);
       again = subst (λ n. LinesAreAgain (at_mesh n) lines) same track.tracks.promises.again;
       safe = subst (λ n. LogIsSafe (at_mesh n) lines) same track.tracks.promises.safe;

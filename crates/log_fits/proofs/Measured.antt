@@ -74,32 +74,33 @@ each_fits s [] fit again = tt
 each_fits s (l ∷ lines) fit again = (record { fits = fit.0; passes = step_passes s.replay l again.0 }, each_fits (with_line s l) lines fit.1 again.1)
 
 -- the mesh of a job whose files were read is that of its lists
-pub mesh_is : (job : Job) (lists : Lists) (directives : List Placed) → HasClear job lists directives → mesh_of_job job ≡ mesh_of_lists lists
-mesh_is job lists directives clear = let files = clear.steps_read.mesh_read.lists_read in ap (mesh_in job.decimals) files.mesh_file ∙ ap mesh_read files.read
+pub mesh_is : (job : Job) (lists : Lists) (directives : List Placed) → HasClear job lists directives → mesh_of_job job ≡ mesh_of_lists job.scale lists
+mesh_is job lists directives clear = let files = clear.steps_read.mesh_read.lists_read in ap (mesh_in job.scale job.decimals) files.mesh_file ∙ ap (mesh_read job.scale) files.read
 
-module _ (job : Job) (lists : Lists) (directives : List Placed) (clear : HasClear job lists directives) (answers : Answers) (read : LogJob) (is : IsWithLogOf job answers read) (back : lines_of_text (text_of_lines (log_of job answers).lines) ≡ Ok (log_of job answers).lines) where
+module _ (job : Job) (lists : Lists) (directives : List Placed) (clear : HasClear job lists directives) (answers : Answers) (read : LogJob) (is : IsWithLogOf job answers read) (back : lines_of_text job.scale (text_of_lines (log_of job answers).lines) ≡ Ok (log_of job answers).lines) where
   abbrev lines : List LogLine
   lines = (log_of job answers).lines
 
   text : List ℕ
   text = text_of_lines lines
 
-  pub given_is : input_of read ≡ Ok (record { mesh = mesh_of_lists lists; lines = lines })
+  pub given_is : input_of read ≡ Ok (record { mesh = mesh_of_lists job.scale lists; lines = lines })
   unfolding text
   given_is =
       let good = clear.steps_read.mesh_read in
       let files = good.lists_read in
-      let m = mesh_of_lists lists in
-      ap input_of_read (
-      ap (λ d. read_of_files d read.mesh_file read.log_file) is.decimals
-      ∙ ap (λ f. read_of_files job.decimals f read.log_file) (is.mesh ∙ files.mesh_file)
-      ∙ ap (λ f. read_of_files job.decimals (Bytes files.mesh) f) is.log
-      ∙ ap (λ r. read_of_lists r text) files.read
-      ∙ ap (λ o. read_of_shape lists o text) good.good
+      let m = mesh_of_lists job.scale lists in
+      ap (λ s. input_of_read s (read_of_files s read.decimals read.mesh_file read.log_file)) is.scale
+      ∙ ap (input_of_read job.scale) (
+      ap (λ d. read_of_files job.scale d read.mesh_file read.log_file) is.decimals
+      ∙ ap (λ f. read_of_files job.scale job.decimals f read.log_file) (is.mesh ∙ files.mesh_file)
+      ∙ ap (λ f. read_of_files job.scale job.decimals (Bytes files.mesh) f) is.log
+      ∙ ap (λ r. read_of_lists job.scale r text) files.read
+      ∙ ap (λ o. read_of_shape job.scale lists o text) good.good
       ∙ ap (read_of_log lists) back
       ) ∙ ap (λ o. input_of_test m o lines) clear.clear
 
-  all_fit : LinesAreAgain (replay_of job) lines → AllFit FitsTested (without_lines (mesh_of_lists lists)) lines
+  all_fit : LinesAreAgain (replay_of job) lines → AllFit FitsTested (without_lines (mesh_of_lists job.scale lists)) lines
   all_fit again = record {
     some = λ none. absurd cc;
     each = (let P : Mesh → Type 0 = λ m. EachFits FitsTested (without_lines m) lines in subst P (mesh_is job lists directives clear) (each_fits (without_lines (mesh_of_job job)) lines (job_logs_fit job answers) again));
@@ -116,6 +117,6 @@ by_end result old new names run none (Err stop.DeskFault) e h = absurd (none.des
 by_end result old new names run none (Err stop.SinkFault) e h = absurd (none.sink (run.measures.faults.sink_fault e))
 
 pub runs_are_measured : (known : Known) → LogsOfRunsAreMeasured known
-runs_are_measured known mesh_name step_name to tracked before after track lists directives clear names result old new run is none =
+runs_are_measured known scale mesh_name step_name to tracked before after track lists directives clear names result old new run is none =
     let ends = ends_well track.job lists directives clear track.tracks.answers run.measures.job is track.read_back track.tracks.promises.again in
     by_end result old new names run none run.ended refl (run.measures.only None ends)

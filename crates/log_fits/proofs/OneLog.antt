@@ -2,6 +2,7 @@
 use Rattle.std.proofs.Common.{◌≡◌, ℕ, Bool, true, false, List, [], ◌∷◌, length, Option, Some, None, Result, Ok, Err, refl, ap, sym, ◌∙◌}
 use Rattle.std.proofs.lemmas.Bool.{false≢true}
 use Rattle.mesh_base.specs.declared.PairName.{PairName}
+use Rattle.mesh_base.specs.declared.Scale.{Scale}
 use Rattle.mesh_base.specs.declared.ShapeFault.{ShapeFault}
 use Rattle.mesh_base.specs.Mesh.{Mesh}
 use Rattle.mesh_base.specs.Valid.{IsValidSurface}
@@ -50,29 +51,29 @@ module _ (fields : Known) (have : HaveOneAnswer fields) where
   tests_alike one other m steps None e valid a b = ap (with_log (mesh_line 0 m ∷ [])) (directives_alike one other steps (start m) (kept_start m (valid refl)) (a refl) (b refl))
 
   -- what was read
-  steps_alike : (one other : Answers) (lists : Lists) → shape_fault (length lists.points) lists.faces ≡ None → (r : Result (List Placed) TextFault) → IsInputAnswered fields true one (input_of_steps lists r) → IsInputAnswered fields true other (input_of_steps lists r)
-      → log_of_input one (input_of_steps lists r) ≡ log_of_input other (input_of_steps lists r)
-  steps_alike one other lists good (Err fault) a b = refl
-  steps_alike one other lists good (Ok steps) a b =
-      let m = mesh_of_lists lists in
-      tests_alike one other m steps (met_first m) refl (λ none. valid_where_clear lists good none) a b
+  steps_alike : (scale : Scale) (one other : Answers) (lists : Lists) → shape_fault scale (length lists.points) lists.faces ≡ None → (r : Result (List Placed) TextFault) → IsInputAnswered scale fields true one (input_of_steps lists r) → IsInputAnswered scale fields true other (input_of_steps lists r)
+      → log_of_input scale one (input_of_steps lists r) ≡ log_of_input scale other (input_of_steps lists r)
+  steps_alike scale one other lists good (Err fault) a b = refl
+  steps_alike scale one other lists good (Ok steps) a b =
+      let m = mesh_of_lists scale lists in
+      tests_alike one other m steps (met_first m) refl (λ none. valid_where_clear scale lists good none) a b
 
-  shapes_alike : (one other : Answers) (lists : Lists) (o : Option ShapeFault) (steps : List ℕ) → shape_fault (length lists.points) lists.faces ≡ o → IsInputAnswered fields true one (input_of_shape lists o steps) → IsInputAnswered fields true other (input_of_shape lists o steps)
-      → log_of_input one (input_of_shape lists o steps) ≡ log_of_input other (input_of_shape lists o steps)
-  shapes_alike one other lists (Some fault) steps e a b = refl
-  shapes_alike one other lists None steps e a b = steps_alike one other lists e (steps_of steps) a b
+  shapes_alike : (scale : Scale) (one other : Answers) (lists : Lists) (o : Option ShapeFault) (steps : List ℕ) → shape_fault scale (length lists.points) lists.faces ≡ o → IsInputAnswered scale fields true one (input_of_shape lists o steps) → IsInputAnswered scale fields true other (input_of_shape lists o steps)
+      → log_of_input scale one (input_of_shape lists o steps) ≡ log_of_input scale other (input_of_shape lists o steps)
+  shapes_alike scale one other lists (Some fault) steps e a b = refl
+  shapes_alike scale one other lists None steps e a b = steps_alike scale one other lists e (steps_of steps) a b
 
-  lists_alike : (one other : Answers) (r : Result Lists TextFault) (steps : List ℕ) → IsInputAnswered fields true one (input_of_lists r steps) → IsInputAnswered fields true other (input_of_lists r steps) → log_of_input one (input_of_lists r steps) ≡ log_of_input other (input_of_lists r steps)
-  lists_alike one other (Err fault) steps a b = refl
-  lists_alike one other (Ok lists) steps a b = shapes_alike one other lists (shape_fault (length lists.points) lists.faces) steps refl a b
+  lists_alike : (scale : Scale) (one other : Answers) (r : Result Lists TextFault) (steps : List ℕ) → IsInputAnswered scale fields true one (input_of_lists scale r steps) → IsInputAnswered scale fields true other (input_of_lists scale r steps) → log_of_input scale one (input_of_lists scale r steps) ≡ log_of_input scale other (input_of_lists scale r steps)
+  lists_alike scale one other (Err fault) steps a b = refl
+  lists_alike scale one other (Ok lists) steps a b = shapes_alike scale one other lists (shape_fault scale (length lists.points) lists.faces) steps refl a b
 
-  pub files_alike : (one other : Answers) (decimals : ℕ) (mesh steps : Source) → IsInputAnswered fields true one (input_of_files decimals mesh steps) → IsInputAnswered fields true other (input_of_files decimals mesh steps)
-      → log_of_input one (input_of_files decimals mesh steps) ≡ log_of_input other (input_of_files decimals mesh steps)
-  files_alike one other decimals (TooLong seen) steps a b = refl
-  files_alike one other decimals Absent steps a b = refl
-  files_alike one other decimals (Bytes mesh) (TooLong seen) a b = refl
-  files_alike one other decimals (Bytes mesh) Absent a b = refl
-  files_alike one other decimals (Bytes mesh) (Bytes steps) a b = lists_alike one other (lists_of decimals mesh) steps a b
+  pub files_alike : (scale : Scale) (one other : Answers) (decimals : ℕ) (mesh steps : Source) → IsInputAnswered scale fields true one (input_of_files scale decimals mesh steps) → IsInputAnswered scale fields true other (input_of_files scale decimals mesh steps)
+      → log_of_input scale one (input_of_files scale decimals mesh steps) ≡ log_of_input scale other (input_of_files scale decimals mesh steps)
+  files_alike scale one other decimals (TooLong seen) steps a b = refl
+  files_alike scale one other decimals Absent steps a b = refl
+  files_alike scale one other decimals (Bytes mesh) (TooLong seen) a b = refl
+  files_alike scale one other decimals (Bytes mesh) Absent a b = refl
+  files_alike scale one other decimals (Bytes mesh) (Bytes steps) a b = lists_alike scale one other (lists_of decimals mesh) steps a b
 
 pub jobs_have_one_log : (fields : Known) → JobsHaveOneLog fields
-jobs_have_one_log fields have job one other a b = ap (with_log (First VERSION ∷ [])) (files_alike fields have one other job.decimals job.mesh_file job.step_file a b)
+jobs_have_one_log fields have job one other a b = ap (with_log (First VERSION ∷ [])) (files_alike fields have job.scale one other job.decimals job.mesh_file job.step_file a b)

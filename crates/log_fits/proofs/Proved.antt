@@ -3,6 +3,7 @@ use Rattle.std.proofs.Common.{◌≡◌, ◌⊎◌, inl, inr, ℕ, suc, ◌+◌,
 use Rattle.std.specs.Prelude.{IfSome}
 use Rattle.mesh_base.specs.Mesh.{Mesh, IsSound}
 use Rattle.mesh_base.specs.Valid.{IsValidSurface}
+use Rattle.mesh_base.proofs.MeshLaws.{small_texts_of}
 use Rattle.edit_base.specs.Scaffold.{Scaffold, motion_of}
 use Rattle.edit_scaffold.specs.Made.{claim_of}
 use Rattle.motion_proof.specs.declared.Verdict.{Verdict}
@@ -133,19 +134,19 @@ module _ (m : Mesh) (lines : List LogLine) (good : IsValidSurface m) (some : lin
 
 -- ---- the log of a job
 
-module _ (job : Job) (lists : Lists) (directives : List Placed) (clear : HasClear job lists directives) (answers : Answers) (back : lines_of_text (text_of_lines (log_of job answers).lines) ≡ Ok (log_of job answers).lines)
+module _ (job : Job) (lists : Lists) (directives : List Placed) (clear : HasClear job lists directives) (answers : Answers) (back : lines_of_text job.scale (text_of_lines (log_of job answers).lines) ≡ Ok (log_of job answers).lines)
     (safe : LogIsSafe (replay_of job) (log_of job answers).lines) (again : LinesAreAgain (replay_of job) (log_of job answers).lines) where
   abbrev lines : List LogLine
   lines = (log_of job answers).lines
 
   abbrev m : Mesh
-  m = mesh_of_lists lists
+  m = mesh_of_lists job.scale lists
 
   same : mesh_of_job job ≡ m
   same = mesh_is job lists directives clear
 
   good : IsValidSurface m
-  good = valid_mesh lists clear.steps_read.mesh_read.good clear.none_meets
+  good = valid_mesh job.scale lists clear.steps_read.mesh_read.good clear.none_meets
 
   has_lines : lines ≡ [] → ⊥
   has_lines none = absurd cc
@@ -176,13 +177,14 @@ module _ (job : Job) (lists : Lists) (directives : List Placed) (clear : HasClea
     given_with =
         let mesh_read = clear.steps_read.mesh_read in
         let files = mesh_read.lists_read in
-        ap proof_input_of_read (
-        ap (λ d. read_of_bytes d (fetched_with_proof (fetched_of read.log.mesh_file read.log.log_file) read.proof_file)) is.decimals
-        ∙ ap (λ f. read_of_bytes job.decimals (fetched_with_proof (fetched_of f read.log.log_file) read.proof_file)) (is.mesh ∙ files.mesh_file)
-        ∙ ap (λ f. read_of_bytes job.decimals (fetched_with_proof (fetched_of (Bytes files.mesh) f) read.proof_file)) is.log
-        ∙ ap (λ f. read_of_bytes job.decimals (fetched_with_proof (fetched_of (Bytes files.mesh) (Bytes text)) f)) file
-        ∙ ap (λ r. read_with_proof (read_of_lists r text) (proofs_of proof)) files.read
-        ∙ ap (λ o. read_with_proof (read_of_shape lists o text) (proofs_of proof)) mesh_read.good
+        ap (λ s. proof_input_of_read s (read_of_bytes s read.log.decimals (fetched_with_proof (fetched_of read.log.mesh_file read.log.log_file) read.proof_file))) is.scale
+        ∙ ap (proof_input_of_read job.scale) (
+        ap (λ d. read_of_bytes job.scale d (fetched_with_proof (fetched_of read.log.mesh_file read.log.log_file) read.proof_file)) is.decimals
+        ∙ ap (λ f. read_of_bytes job.scale job.decimals (fetched_with_proof (fetched_of f read.log.log_file) read.proof_file)) (is.mesh ∙ files.mesh_file)
+        ∙ ap (λ f. read_of_bytes job.scale job.decimals (fetched_with_proof (fetched_of (Bytes files.mesh) f) read.proof_file)) is.log
+        ∙ ap (λ f. read_of_bytes job.scale job.decimals (fetched_with_proof (fetched_of (Bytes files.mesh) (Bytes text)) f)) file
+        ∙ ap (λ r. read_with_proof (read_of_lists job.scale r text) (proofs_of proof)) files.read
+        ∙ ap (λ o. read_with_proof (read_of_shape job.scale lists o text) (proofs_of proof)) mesh_read.good
         ∙ ap (λ r. read_with_proof (read_of_log lists r) (proofs_of proof)) back
         ∙ ap (read_with_proof (Ok (record { lists = lists; lines = lines }))) (read_well m lines good has_lines fit safe_here again_here proofs are few)
         ) ∙ ap (λ o. with_proofs (input_of_test m o lines) (proofs_view proofs)) clear.clear
@@ -193,10 +195,10 @@ module _ (job : Job) (lists : Lists) (directives : List Placed) (clear : HasClea
         verified_well m lines good has_lines fit safe_here again_here proofs are ending there.0
 
 -- a log that is no longer than a text may be has few lines
-job_few : (job : Job) (answers : Answers) → lines_of_text (text_of_lines (log_of job answers).lines) ≡ Ok (log_of job answers).lines → (files : Option Files) (names : LogNames) (read : LogJob) → IsWithLogOf job answers read → IsLogJob files names read → length (log_of job answers).lines ≤ COUNT_MAX
+job_few : (job : Job) (answers : Answers) → lines_of_text job.scale (text_of_lines (log_of job answers).lines) ≡ Ok (log_of job answers).lines → (files : Option Files) (names : LogNames) (read : LogJob) → IsWithLogOf job answers read → IsLogJob files names read → length (log_of job answers).lines ≤ COUNT_MAX
 job_few job answers back files names read is job_is =
-    let there : IsSource files names.log (Bytes (text_of_lines (log_of job answers).lines)) = subst (IsSource files names.log) is.log job_is.log in
-    omega (arith, few_lines (text_of_lines (log_of job answers).lines) (log_of job answers).lines back there.0)
+    let there : IsSource names.scale files names.log (Bytes (text_of_lines (log_of job answers).lines)) = subst (IsSource names.scale files names.log) is.log job_is.log in
+    omega (arith, few_lines job.scale (text_of_lines (log_of job answers).lines) (log_of job answers).lines back (omega (arith, there.0, small_texts_of names.scale)))
 
 -- ---- how a command ends
 
@@ -208,13 +210,13 @@ module _ (Ends : Option LogRefusal → List ℕ → Type 0) (well : (ending : Op
   done_or_no_memory (Err stop.SinkFault) is told at_desk at_sink = absurd (no_sink (at_sink refl))
 
 pub runs_are_proved : (known : Known) → LogsOfRunsAreProved known
-runs_are_proved known mesh_name step_name to tracked before after track lists directives clear names result old new run is none =
+runs_are_proved known scale mesh_name step_name to tracked before after track lists directives clear names result old new run is none =
     let promises = track.tracks.promises in
     done_or_no_memory (ProveEnds (input_of run.proves.job)) (job_proved track.job lists directives clear track.tracks.answers track.read_back promises.safe promises.again run.proves.job is)
     old.holds.written new.holds.written result _ _ none.desk none.sink run.ended run.outcome_is run.proves.told run.proves.faults.desk_fault run.proves.faults.sink_fault
 
 pub proofs_are_verified : (known : Known) → ProofsOfRunsAreVerified known
-proofs_are_verified known mesh_name step_name to tracked before after track lists directives clear text proof names result old new run is file none =
+proofs_are_verified known scale mesh_name step_name to tracked before after track lists directives clear text proof names result old new run is file none =
     let promises = track.tracks.promises in
     done_or_no_memory (VerifyEnds (proof_input_of run.verifies.job))
     (job_verified track.job lists directives clear track.tracks.answers track.read_back promises.safe promises.again run.verifies.job is proof.proofs proof.are (file ∙ ap Bytes proof.text_is) (job_few track.job track.tracks.answers track.read_back old.holds.files names.names run.verifies.job.log is run.verifies.is_job.log))

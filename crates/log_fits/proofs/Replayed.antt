@@ -38,7 +38,7 @@ by_end result old new names run none (Err stop.DeskFault) e h = absurd (none.des
 by_end result old new names run none (Err stop.SinkFault) e h = absurd (none.sink (run.replays.faults.sink_fault e))
 
 pub runs_are_replayed : (known : Known) → LogsOfRunsAreReplayed known
-runs_are_replayed known mesh_name step_name to tracked before after track lists directives clear names result old new run is none =
+runs_are_replayed known scale mesh_name step_name to tracked before after track lists directives clear names result old new run is none =
     let ends = ends_well track.job lists directives clear track.tracks.answers run.replays.job is track.read_back track.tracks.promises.again in
     by_end result old new names run none run.ended refl (run.replays.only None ends)
 
@@ -72,9 +72,9 @@ done_refuses_nothing (Ok (Some why)) e = absurd (refusal_is_not_done why e)
 done_refuses_nothing (Err s) e = absurd (stop_is_not_done s e)
 
 pub meshes_are_stored_again : (known : Known) → MeshesOfRunsAreStoredAgain known
-meshes_are_stored_again known mesh_name step_name to tracked before after track lists directives clear names result old new run is only done =
+meshes_are_stored_again known scale mesh_name step_name to tracked before after track lists directives clear names result old new run is only done =
     let job = track.job in
-    let m = mesh_of_lists lists in
+    let m = mesh_of_lists job.scale lists in
     let lines : List LogLine = (log_of job track.tracks.answers).lines in
     let again : Target = target_in names in
     let ended : run.ended ≡ Ok None = done_refuses_nothing run.ended (sym run.outcome_is ∙ done) in

@@ -2,6 +2,7 @@
 use Rattle.std.proofs.Common.{◌≡◌, ℕ, ◌≤◌, List, [], ◌∷◌, length, Option, Some, None, Result, Ok, Err, refl, ap, sym, ◌∙◌, subst, arith}
 use Rattle.mesh_base.specs.Mesh.{Mesh}
 use Rattle.mesh_base.specs.Valid.{IsValidSurface}
+use Rattle.mesh_base.proofs.MeshLaws.{small_texts_of}
 use Rattle.obj_text.specs.Obj.{Lists}
 use Rattle.proof_text.specs.Lines.{text_of}
 use Rattle.proof_text.specs.Order.{proofs_of}
@@ -35,19 +36,19 @@ use Rattle.log_fits.proofs.Proved.{proved_well, verified_well, read_well, done_o
 
 module _ (read : LogJob) (lists : Lists) (lines : List LogLine) (is : IsOfLog read lists lines) where
   abbrev m : Mesh
-  m = mesh_of_lists lists
+  m = mesh_of_lists read.scale lists
 
   text : List ℕ
   text = text_of_lines lines
 
   good : IsValidSurface m
-  good = valid_where_clear lists is.mesh.shape is.mesh.none_meets
+  good = valid_where_clear read.scale lists is.mesh.shape is.mesh.none_meets
 
-  abbrev log : IsLogOf m lines
+  abbrev log : IsLogOf read.scale m lines
   log = is.log
 
-  log_read : lines_of_text (text_of_lines lines) ≡ Ok lines
-  log_read = logs_are_read m lines is.log
+  log_read : lines_of_text read.scale (text_of_lines lines) ≡ Ok lines
+  log_read = logs_are_read read.scale m lines is.log
 
   has_lines : lines ≡ [] → ⊥
   has_lines none = let first : First VERSION ∷ log.rest ≡ [] = sym log.lines_are ∙ none in absurd cc
@@ -55,11 +56,11 @@ module _ (read : LogJob) (lists : Lists) (lines : List LogLine) (is : IsOfLog re
   given : input_of read ≡ Ok (record { mesh = m; lines = lines })
   unfolding text
   given =
-      ap input_of_read (
-      ap (λ f. read_of_files read.decimals f read.log_file) is.mesh.mesh_file
-      ∙ ap (λ f. read_of_files read.decimals (Bytes is.mesh.bytes) f) is.log_file
-      ∙ ap (λ r. read_of_lists r text) is.mesh.lists_are
-      ∙ ap (λ o. read_of_shape lists o text) is.mesh.shape
+      ap (input_of_read read.scale) (
+      ap (λ f. read_of_files read.scale read.decimals f read.log_file) is.mesh.mesh_file
+      ∙ ap (λ f. read_of_files read.scale read.decimals (Bytes is.mesh.bytes) f) is.log_file
+      ∙ ap (λ r. read_of_lists read.scale r text) is.mesh.lists_are
+      ∙ ap (λ o. read_of_shape read.scale lists o text) is.mesh.shape
       ∙ ap (read_of_log lists) log_read
       ) ∙ ap (λ o. input_of_test m o lines) is.mesh.none_meets
 
@@ -76,15 +77,15 @@ module _ (read : LogJob) (lists : Lists) (lines : List LogLine) (is : IsOfLog re
 
   few_told : (files : Option Files) (names : LogNames) → IsLogJob files names read → length lines ≤ COUNT_MAX
   few_told files names job_is =
-      let there : IsSource files names.log (Bytes (text_of_lines lines)) = subst (IsSource files names.log) is.log_file job_is.log in
-      omega (arith, few_lines (text_of_lines lines) lines log_read there.0)
+      let there : IsSource names.scale files names.log (Bytes (text_of_lines lines)) = subst (IsSource names.scale files names.log) is.log_file job_is.log in
+      omega (arith, few_lines read.scale (text_of_lines lines) lines log_read (omega (arith, there.0, small_texts_of names.scale)))
 
-module _ (read : ProofJob) (lists : Lists) (all : List LogLine) (is : IsOfLog read.log lists all) (proofs : List ProofAt) (are : AreProofsOf (motions_of (mesh_of_lists lists) all) proofs)
+module _ (read : ProofJob) (lists : Lists) (all : List LogLine) (is : IsOfLog read.log lists all) (proofs : List ProofAt) (are : AreProofsOf (motions_of (mesh_of_lists read.log.scale lists) all) proofs)
     (file : read.proof_file ≡ Bytes (text_of (proofs_view proofs))) (few : length all ≤ COUNT_MAX) where
   abbrev n : Mesh
-  n = mesh_of_lists lists
+  n = mesh_of_lists read.log.scale lists
 
-  abbrev those : IsLogOf n all
+  abbrev those : IsLogOf read.log.scale n all
   those = is.log
 
   sound : IsValidSurface n
@@ -102,12 +103,12 @@ module _ (read : ProofJob) (lists : Lists) (all : List LogLine) (is : IsOfLog re
   given_with : proof_input_of read ≡ Ok (record { log = record { mesh = n; lines = all }; proofs = proofs_view proofs })
   unfolding written proof
   given_with =
-      ap proof_input_of_read (
-      ap (λ f. read_of_bytes read.log.decimals (fetched_with_proof (fetched_of f read.log.log_file) read.proof_file)) is.mesh.mesh_file
-      ∙ ap (λ f. read_of_bytes read.log.decimals (fetched_with_proof (fetched_of (Bytes is.mesh.bytes) f) read.proof_file)) is.log_file
-      ∙ ap (λ f. read_of_bytes read.log.decimals (fetched_with_proof (fetched_of (Bytes is.mesh.bytes) (Bytes written)) f)) file
-      ∙ ap (λ r. read_with_proof (read_of_lists r written) (proofs_of proof)) is.mesh.lists_are
-      ∙ ap (λ o. read_with_proof (read_of_shape lists o written) (proofs_of proof)) is.mesh.shape
+      ap (proof_input_of_read read.log.scale) (
+      ap (λ f. read_of_bytes read.log.scale read.log.decimals (fetched_with_proof (fetched_of f read.log.log_file) read.proof_file)) is.mesh.mesh_file
+      ∙ ap (λ f. read_of_bytes read.log.scale read.log.decimals (fetched_with_proof (fetched_of (Bytes is.mesh.bytes) f) read.proof_file)) is.log_file
+      ∙ ap (λ f. read_of_bytes read.log.scale read.log.decimals (fetched_with_proof (fetched_of (Bytes is.mesh.bytes) (Bytes written)) f)) file
+      ∙ ap (λ r. read_with_proof (read_of_lists read.log.scale r written) (proofs_of proof)) is.mesh.lists_are
+      ∙ ap (λ o. read_with_proof (read_of_shape read.log.scale lists o written) (proofs_of proof)) is.mesh.shape
       ∙ ap (λ r. read_with_proof (read_of_log lists r) (proofs_of proof)) (log_read read.log lists all is)
       ∙ ap (read_with_proof (Ok (record { lists = lists; lines = all }))) (read_well n all sound some those.fits those.safe those.again proofs are few)
       ) ∙ ap (λ o. with_proofs (input_of_test n o all) (proofs_view proofs)) is.mesh.none_meets
@@ -131,7 +132,7 @@ logs_are_proved lists lines names result old new run is none =
     old.holds.written new.holds.written result _ _ none.desk none.sink run.ended run.outcome_is run.proves.told run.proves.faults.desk_fault run.proves.faults.sink_fault
 
 pub proofs_are_verified : ProofsAreVerified
-proofs_are_verified lists lines text proof_is names result old new run is file none =
+proofs_are_verified lists lines text names result old new run proof_is is file none =
     done_or_no_memory (VerifyEnds (proof_input_of run.verifies.job))
     (log_verified run.verifies.job lists lines is proof_is.proofs proof_is.are (file ∙ ap Bytes proof_is.text_is) (few_told run.verifies.job.log lists lines is old.holds.files names.names run.verifies.is_job.log))
     old.holds.written new.holds.written result _ _ none.desk none.sink run.ended run.outcome_is run.verifies.told run.verifies.faults.desk_fault run.verifies.faults.sink_fault

@@ -2,6 +2,7 @@
 use Rattle.std.specs.Prelude.{◌≡◌, ◌⊎◌, ⊤, ℕ, ◌+◌, ◌≤◌, ◌<◌, List, [], ◌∷◌, ◌++◌, length, Some, None, Ok}
 use Rattle.std.specs.List.{AllByRecursion}
 use Rattle.mesh_base.specs.declared.UseWhy.{UseWhy}
+use Rattle.mesh_base.specs.declared.Scale.{Scale}
 use Rattle.mesh_base.specs.Mesh.{Mesh}
 use Rattle.mesh_base.specs.Valid.{IsValidSurface}
 use Rattle.edit_base.specs.declared.Asked.{Asked}
@@ -16,6 +17,7 @@ use Rattle.log_text.specs.declared.LogLine.{LogLine}
 use Rattle.log_text.specs.declared.LogLine.TheVariants.{First, End}
 use Rattle.log_read.specs.Laws.{IsAskedInRange}
 use Rattle.log_text.specs.Lines.{text_of_lines}
+use Rattle.log_replay.specs.Laws.{IsWithin}
 use Rattle.track_engine.specs.Answers.{Answer}
 use Rattle.track_engine.specs.Effects.{Effect, Proceeds, Refused, Unanswered, effect_of, edits_effect, undo_effect, set_effect, mesh_line}
 use Rattle.track_engine.specs.Parts.{Writes}
@@ -88,12 +90,12 @@ abbrev pub log_of_calls : Mesh → List Call → List LogLine
 log_of_calls m calls =
     First VERSION ∷ mesh_line 0 m ∷ (history calls (unsaved m) ++ End ∷ [])
 
--- It is a log of the mesh, if that is sound, closed and clear, whatever is asked of the tracker, call
--- after call.
+-- It is a log of the mesh by a scale, if the mesh is within the limits of the scale and sound, closed
+-- and clear, whatever is asked of the tracker, call after call.
 abbrev pub CallersHaveLogs : Type 0
 CallersHaveLogs =
-    (m : Mesh) (calls : List Call) → IsValidSurface m → MayAllBeCalled calls (unsaved m) →
-    length calls ≤ COUNT_MAX → IsLogOf m (log_of_calls m calls)
+    (scale : Scale) (m : Mesh) (calls : List Call) → IsWithin scale m.limits → IsValidSurface m →
+    MayAllBeCalled calls (unsaved m) → length calls ≤ COUNT_MAX → IsLogOf scale m (log_of_calls m calls)
 
 -- ---- what is told call by call
 

@@ -1,5 +1,6 @@
 -- What is known of a log that was written, whoever wrote it, and of its first lines.
 use Rattle.std.specs.Prelude.{◌≡◌, ℕ, ◌<◌, List, ◌∷◌, take, Ok}
+use Rattle.mesh_base.specs.declared.Scale.{Scale}
 use Rattle.mesh_base.specs.Mesh.{Mesh}
 use Rattle.obj_text.specs.Obj.{Lists}
 use Rattle.step_text.specs.declared.Placed.{Placed}
@@ -23,32 +24,33 @@ use Rattle.track_run.specs.Headline.{TracksCommand}
 use Rattle.track_run.specs.Job.{log_of}
 use Rattle.log_fits.specs.Fitting.{LinesFit}
 
--- A log of a mesh: behind the line of the version each line is in its range; each fits the lines
+-- A log of a mesh, by a scale: behind the line of the version each line is in its range; each fits the lines
 -- before it, can be done again by the log alone, and keeps its promise, so that every motion is
 -- clear at each fraction and every line leaves a mesh that is sound, closed and clear.
-pub record IsLogOf (m : Mesh) (lines : List LogLine) : Type 0 where
+pub record IsLogOf (scale : Scale) (m : Mesh) (lines : List LogLine) : Type 0 where
   pub rest : List LogLine
   pub lines_are : lines ≡ First VERSION ∷ rest
-  pub range : AreInRange rest
+  pub range : AreInRange scale rest
   pub fits : LinesFit (without_lines m) lines
   pub again : LinesAreAgain (at_mesh m) lines
   pub safe : LogIsSafe (at_mesh m) lines
 
--- its text is read as its lines
+-- its text is read as its lines by a command of the same scale
 abbrev pub LogsAreRead : Type 0
-LogsAreRead = (m : Mesh) (lines : List LogLine) → IsLogOf m lines →
-    lines_of_text (text_of_lines lines) ≡ Ok lines
+LogsAreRead = (scale : Scale) (m : Mesh) (lines : List LogLine) → IsLogOf scale m lines →
+    lines_of_text scale (text_of_lines lines) ≡ Ok lines
 
 -- Its first lines, so many of them, are such a log too. So is what a run left whose log was cut
 -- where a line ends.
 abbrev pub FirstPartsAreLogs : Type 0
-FirstPartsAreLogs = (m : Mesh) (lines : List LogLine) (count : ℕ) → 0 < count →
-    IsLogOf m lines → IsLogOf m (take count lines)
+FirstPartsAreLogs = (scale : Scale) (m : Mesh) (lines : List LogLine) (count : ℕ) → 0 < count →
+    IsLogOf scale m lines → IsLogOf scale m (take count lines)
 
 -- the log of a job that was tracked, whose files were read without a fault and whose mesh is clear
 abbrev pub RunsHaveLogs : Known → Type 0
 RunsHaveLogs known =
-    (mesh_name step_name : List ℕ) (to : Target) (tracked : Outcome) (before after : World)
-    → (track : TracksCommand known mesh_name step_name to tracked before after)
+    (scale : Scale) (mesh_name step_name : List ℕ) (to : Target) (tracked : Outcome)
+    (before after : World)
+    → (track : TracksCommand scale known mesh_name step_name to tracked before after)
     → (lists : Lists) (directives : List Placed) → HasClear track.job lists directives
-    → IsLogOf (mesh_of_lists lists) (log_of track.job track.tracks.answers).lines
+    → IsLogOf track.job.scale (mesh_of_lists track.job.scale lists) (log_of track.job track.tracks.answers).lines

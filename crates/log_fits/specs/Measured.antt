@@ -1,5 +1,6 @@
 -- Logs of runs, measured.
 use Rattle.std.specs.Prelude.{◌≡◌, ◌⊎◌, ℕ, List}
+use Rattle.mesh_base.specs.declared.Scale.{Scale}
 use Rattle.mesh_base.specs.Mesh.{Mesh}
 use Rattle.std.specs.FinMap as finite
 use Rattle.obj_text.specs.Obj.{Lists}
@@ -23,10 +24,11 @@ use Rattle.track_run.specs.Complete.{NoneFailed}
 use Rattle.track_run.specs.Headline.{TracksCommand, MeasuresCommand}
 use Rattle.track_run.specs.Job.{log_of}
 
--- The same mesh file and decimals, and as the log the text of the whole log of the job, by
+-- The same mesh file, scale and decimals, and as the log the text of the whole log of the job, by
 -- what fields and the sizing answered.
 pub record IsWithLogOf (job : Job) (answers : Answers) (read : LogJob) : Type 0 where
   pub mesh : read.mesh_file ≡ job.mesh_file
+  pub scale : read.scale ≡ job.scale
   pub decimals : read.decimals ≡ job.decimals
   pub log : read.log_file ≡ Bytes (text_of_lines (log_of job answers).lines)
 
@@ -34,8 +36,9 @@ pub record IsWithLogOf (job : Job) (answers : Answers) (read : LogJob) : Type 0 
 -- measured to the end, or there is no memory, unless a side fails.
 abbrev pub LogsOfRunsAreMeasured : Known → Type 0
 LogsOfRunsAreMeasured known =
-    (mesh_name step_name : List ℕ) (to : Target) (tracked : Outcome) (before after : World)
-    → (track : TracksCommand known mesh_name step_name to tracked before after)
+    (scale : Scale) (mesh_name step_name : List ℕ) (to : Target) (tracked : Outcome)
+    (before after : World)
+    → (track : TracksCommand scale known mesh_name step_name to tracked before after)
     → (lists : Lists) (directives : List Placed) → HasClear track.job lists directives
     → (names : LogNames) (result : Outcome) (old new : World)
     → (run : MeasuresCommand names result old new)

@@ -2,6 +2,7 @@
 use Rattle.std.specs.Prelude.{◌≡◌, ℕ, true, List, map, Some, None}
 use Rattle.grid_base.specs.declared.Point.{Point}
 use Rattle.grid_base.specs.declared.Shift.{Shift}
+use Rattle.mesh_base.specs.declared.Scale.{Scale}
 use Rattle.mesh_sizing.specs.declared.sizing.Band.{Band}
 use Rattle.log_text.specs.declared.LogLine.{LogLine}
 use Rattle.log_text.specs.declared.LogLine.TheVariants.{Refused}
@@ -26,8 +27,8 @@ pub record HaveOneAnswer (fields : Known) : Type 0 where
 abbrev pub JobsHaveOneLog : Known → Type 0
 JobsHaveOneLog fields =
     HaveOneAnswer fields → (job : Job) (one other : Answers)
-    → IsInputAnswered fields true one (input_of job)
-    → IsInputAnswered fields true other (input_of job)
+    → IsInputAnswered job.scale fields true one (input_of job)
+    → IsInputAnswered job.scale fields true other (input_of job)
     → log_of job one ≡ log_of job other
 
 -- ---- two jobs of the same files
@@ -53,14 +54,14 @@ unseen_log log = record {
   ending = unseen_ending log.ending;
 }
 
--- Two jobs of the same names where the same files lie, with the same decimals, have one log, but
--- for how much was seen of a file that is too long.
+-- Two jobs of the same names where the same files lie, with the same scale and decimals, have one
+-- log, but for how much was seen of a file that is too long.
 abbrev pub JobsOfTheSameFilesHaveOneLog : Known → Type 0
 JobsOfTheSameFilesHaveOneLog fields =
-    HaveOneAnswer fields → (files : Files) (mesh_name step_name : List ℕ) (decimals : ℕ)
-    (job also : Job) (one other : Answers)
-    → IsJob (Some files) mesh_name step_name decimals job
-    → IsJob (Some files) mesh_name step_name decimals also
-    → IsInputAnswered fields true one (input_of job)
-    → IsInputAnswered fields true other (input_of also)
+    HaveOneAnswer fields → (scale : Scale) (files : Files) (mesh_name step_name : List ℕ)
+    (decimals : ℕ) (job also : Job) (one other : Answers)
+    → IsJob scale (Some files) mesh_name step_name decimals job
+    → IsJob scale (Some files) mesh_name step_name decimals also
+    → IsInputAnswered job.scale fields true one (input_of job)
+    → IsInputAnswered also.scale fields true other (input_of also)
     → unseen_log (log_of job one) ≡ unseen_log (log_of also other)

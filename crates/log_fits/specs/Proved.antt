@@ -1,5 +1,6 @@
 -- Logs of runs, proved, and the proofs of them, verified.
 use Rattle.std.specs.Prelude.{◌≡◌, ◌⊎◌, ℕ, List}
+use Rattle.mesh_base.specs.declared.Scale.{Scale}
 use Rattle.obj_text.specs.Obj.{Lists}
 use Rattle.step_text.specs.declared.Placed.{Placed}
 use Rattle.outside_io.specs.World.{World}
@@ -23,8 +24,9 @@ use Rattle.log_fits.specs.Measured.{IsWithLogOf}
 -- proved, or there is no memory, unless a side fails.
 abbrev pub LogsOfRunsAreProved : Known → Type 0
 LogsOfRunsAreProved known =
-    (mesh_name step_name : List ℕ) (to : Target) (tracked : Outcome) (before after : World)
-    → (track : TracksCommand known mesh_name step_name to tracked before after)
+    (scale : Scale) (mesh_name step_name : List ℕ) (to : Target) (tracked : Outcome)
+    (before after : World)
+    → (track : TracksCommand scale known mesh_name step_name to tracked before after)
     → (lists : Lists) (directives : List Placed) → HasClear track.job lists directives
     → (names : LogNames) (result : Outcome) (old new : World)
     → (run : ProvesCommand names result old new)
@@ -35,14 +37,15 @@ LogsOfRunsAreProved known =
 -- what fields and the sizing answered
 abbrev pub log_input_of : Job → Answers → Lists → LogInput
 log_input_of job answers lists =
-    record { mesh = mesh_of_lists lists; lines = (log_of job answers).lines }
+    record { mesh = mesh_of_lists job.scale lists; lines = (log_of job answers).lines }
 
 -- Then a proof of the log, as `prove` writes it, is verified, or there
 -- is no memory, unless a side fails.
 abbrev pub ProofsOfRunsAreVerified : Known → Type 0
 ProofsOfRunsAreVerified known =
-    (mesh_name step_name : List ℕ) (to : Target) (tracked : Outcome) (before after : World)
-    → (track : TracksCommand known mesh_name step_name to tracked before after)
+    (scale : Scale) (mesh_name step_name : List ℕ) (to : Target) (tracked : Outcome)
+    (before after : World)
+    → (track : TracksCommand scale known mesh_name step_name to tracked before after)
     → (lists : Lists) (directives : List Placed) → HasClear track.job lists directives
     → (text : List ℕ) → IsProofText (log_input_of track.job track.tracks.answers lists) text
     → (names : ProofNames) (result : Outcome) (old new : World)

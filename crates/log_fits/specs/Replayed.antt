@@ -1,5 +1,6 @@
 -- Logs of runs, replayed.
 use Rattle.std.specs.Prelude.{◌≡◌, ◌⊎◌, ℕ, List, None}
+use Rattle.mesh_base.specs.declared.Scale.{Scale}
 use Rattle.obj_text.specs.Obj.{Lists}
 use Rattle.step_text.specs.declared.Placed.{Placed}
 use Rattle.outside_io.specs.World.{World}
@@ -18,8 +19,9 @@ use Rattle.log_fits.specs.Measured.{IsWithLogOf}
 -- replayed to the end, or there is no memory, unless a side fails.
 abbrev pub LogsOfRunsAreReplayed : Known → Type 0
 LogsOfRunsAreReplayed known =
-    (mesh_name step_name : List ℕ) (to : Target) (tracked : Outcome) (before after : World)
-    → (track : TracksCommand known mesh_name step_name to tracked before after)
+    (scale : Scale) (mesh_name step_name : List ℕ) (to : Target) (tracked : Outcome)
+    (before after : World)
+    → (track : TracksCommand scale known mesh_name step_name to tracked before after)
     → (lists : Lists) (directives : List Placed) → HasClear track.job lists directives
     → (names : ReplayNames) (result : Outcome) (old new : World)
     → (run : ReplaysCommand names result old new)
@@ -30,8 +32,9 @@ LogsOfRunsAreReplayed known =
 -- stored, with the same texts, under the prefix of the replay.
 abbrev pub MeshesOfRunsAreStoredAgain : Known → Type 0
 MeshesOfRunsAreStoredAgain known =
-    (mesh_name step_name : List ℕ) (to : Target) (tracked : Outcome) (before after : World)
-    → (track : TracksCommand known mesh_name step_name to tracked before after)
+    (scale : Scale) (mesh_name step_name : List ℕ) (to : Target) (tracked : Outcome)
+    (before after : World)
+    → (track : TracksCommand scale known mesh_name step_name to tracked before after)
     → (lists : Lists) (directives : List Placed) → HasClear track.job lists directives
     → (names : ReplayNames) (result : Outcome) (old new : World)
     → (run : ReplaysCommand names result old new)

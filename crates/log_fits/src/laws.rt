@@ -27,15 +27,15 @@ pub fn mesh_lines_tell()
 {}
 
 /// The whole log that a run wrote of a clear mesh, no longer than a text may be, is measured to its end, from the same mesh and with the
-/// same decimals, whether the run came to its own end or a directive was refused: `measure` is done, or finds no memory, where neither side
-/// fails.
+/// same scale and decimals, whether the run came to its own end or a directive was refused: `measure` is done, or finds no memory, where
+/// neither side fails.
 pub fn logs_of_runs_are_measured<F: Fn(u8, Point) -> Shift, G: Fn(Point) -> Band>()
     ensures { (fields : StoredFields F) (sizing : G) →
         LogsOfRunsAreMeasured (known F.Fn fields G.Fn sizing) }
 {}
 
 /// The whole log that a run wrote of a clear mesh, no longer than a text may be, is proved: `prove` is done with it, from the same mesh
-/// and with the same decimals, or finds no memory, where neither side fails.
+/// and with the same scale and decimals, or finds no memory, where neither side fails.
 pub fn logs_of_runs_are_proved<F: Fn(u8, Point) -> Shift, G: Fn(Point) -> Band>()
     ensures { (fields : StoredFields F) (sizing : G) →
         LogsOfRunsAreProved (known F.Fn fields G.Fn sizing) }
@@ -48,9 +48,9 @@ pub fn proofs_of_runs_are_verified<F: Fn(u8, Point) -> Shift, G: Fn(Point) -> Ba
         ProofsOfRunsAreVerified (known F.Fn fields G.Fn sizing) }
 {}
 
-/// The whole log that a run wrote of a clear mesh, no longer than a text may be, is replayed to its end, from the same mesh and with the same
-/// decimals: `replay` is done, or finds no memory, where neither side fails. The meshes that it then stores, where no one of them is asked
-/// for, are those that the run stored by that log, byte for byte, under the prefix of the replay.
+/// The whole log that a run wrote of a clear mesh, no longer than a text may be, is replayed to its end, from the same mesh and with the
+/// same scale and decimals: `replay` is done, or finds no memory, where neither side fails. The meshes that it then stores, where no one
+/// of them is asked for, are those that the run stored by that log, byte for byte, under the prefix of the replay.
 pub fn logs_of_runs_are_replayed<F: Fn(u8, Point) -> Shift, G: Fn(Point) -> Band>()
     ensures replayed { (fields : StoredFields F) (sizing : G) →
         LogsOfRunsAreReplayed (known F.Fn fields G.Fn sizing) }
@@ -58,10 +58,11 @@ pub fn logs_of_runs_are_replayed<F: Fn(u8, Point) -> Shift, G: Fn(Point) -> Band
         MeshesOfRunsAreStoredAgain (known F.Fn fields G.Fn sizing) }
 {}
 
-/// Whatever is asked of a tracker, call after call: directives, edits by ids, groups that are closed or taken back, settings. Behind the
-/// first two lines of a log file, and before its last, the lines of the calls are a log of the mesh: each is in its range and fits the
-/// lines before it; each motion and each edit that they tell can be done again by the log alone, and is clear at each fraction; and every
-/// line leaves a mesh that is sound, closed and clear. What the calls told, one after another, is the text of these lines.
+/// Whatever is asked of a tracker whose mesh is within the limits of a scale, call after call: directives, edits by ids, groups that are
+/// closed or taken back, settings. Behind the first two lines of a log file, and before its last, the lines of the calls are a log of the
+/// mesh: each is in its range and fits the lines before it; each motion and each edit that they tell can be done again by the log alone,
+/// and is clear at each fraction; and every line leaves a mesh that is sound, closed and clear. What the calls told, one after another, is
+/// the text of these lines.
 pub fn callers_have_logs()
     ensures logs { CallersHaveLogs }
     ensures told { CallersAreTold }
@@ -72,8 +73,8 @@ pub fn runs_have_logs<F: Fn(u8, Point) -> Shift, G: Fn(Point) -> Band>()
     ensures { (fields : StoredFields F) (sizing : G) → RunsHaveLogs (known F.Fn fields G.Fn sizing) }
 {}
 
-/// The text of such a log is read as its lines; and its first lines, however many, are such a log, so that what a run leaves is one
-/// wherever it was cut between two lines.
+/// The text of such a log is read as its lines, by the same scale; and its first lines, however many, are such a log, so that what a run
+/// leaves is one wherever it was cut between two lines.
 pub fn first_parts_are_logs()
     ensures read { LogsAreRead }
     ensures parts { FirstPartsAreLogs }
@@ -96,8 +97,8 @@ pub fn jobs_have_one_log<F: Fn(u8, Point) -> Shift, G: Fn(Point) -> Band>()
         JobsHaveOneLog (known F.Fn fields G.Fn sizing) }
 {}
 
-/// And two jobs of the same names where the same files lie, with the same decimals, have one log, but for how much was seen of a file that
-/// is too long. So what a run writes depends on the files and on these answers alone.
+/// And two jobs of the same names where the same files lie, with the same scale and decimals, have one log, but for how much was seen of a
+/// file that is too long. So what a run writes depends on the files and on these answers alone.
 pub fn jobs_of_the_same_files_have_one_log<F: Fn(u8, Point) -> Shift, G: Fn(Point) -> Band>()
     ensures { (fields : StoredFields F) (sizing : G) →
         JobsOfTheSameFilesHaveOneLog (known F.Fn fields G.Fn sizing) }
