@@ -56,7 +56,7 @@ def program_of(path):
     version, text = said(path, "--version"), said(path, "--help")
     forms = re.findall(r"(?m)^(?:usage:|      ) topo (\w+ [A-Z].*)$", text)
     statuses = re.findall(r"(?m)^ +(\d+)  (.+)$", text.partition("Exit status:\n")[2])
-    options = re.findall(r"(?m)^(--\w+ \w+) +(.+)$", text)
+    options = re.findall(r"(?m)^(--\w+(?: [A-Z]+)?)  +(.+)$", text)
     about = re.search(r"(?ms)^Reads .+?(?=\n\n)", text)
     if not re.fullmatch(r"topo \d+\.\d+\.\d+\n", version) or not forms or not statuses or not options or not about:
         raise OtherHelp("`topo --version` or `topo --help` is laid out in another way")

@@ -1,7 +1,7 @@
 #!/usr/bin/env python3
 """Checks the proof of a log, as somebody would who trusts neither the program that wrote the log nor the one that wrote the proof.
 
-    examples/verify.py MESH LOG PROOF [--decimals N]
+    examples/verify.py MESH LOG PROOF [--large] [--decimals N]
 
 Reads the mesh, sees that it is closed and that no edge meets a face with which it shares no vertex, takes the lines of the log one after
 another, makes each edit anew and tests what it leaves, and looks at the certificate of each motion. Says `verified M`, where M counts the
@@ -211,6 +211,8 @@ EDITS = {"split": (split_or_flip, 2, "along"), "flip": (split_or_flip, 2, "along
 DECIMAL = re.compile(r"[+-]?([0-9]+\.?[0-9]*|\.[0-9]+)([eE][+-]?[0-9]{1,3})?")
 CORNER = re.compile(r"(-?[0-9]{1,10})(/-?[0-9]{1,10}|/(-?[0-9]{1,10})?/-?[0-9]{1,10})?")
 UNREAD = {"vn", "vt", "vp", "o", "g", "s", "usemtl", "mtllib"}
+# how many vertices and faces a mesh may have, and bytes a text, without `--large` and with it
+VERTICES, FACES, TEXT = (2**16, 2**22), (2**17, 2**23), (2**26, 2**31 - 1)
 
 def grid_number(at, word, decimals):
     """A decimal word times a power of ten, rounded to the nearest whole number, halves away from zero."""
@@ -225,7 +227,7 @@ def vertex_of(at, word, read):
     v = int(found[1])
     return v + read + 1 if v < 0 else v
 
-def read_mesh(text, decimals):
+def read_mesh(text, decimals, large):
     points, faces = [], []
     for number, line in enumerate(text.replace("\r\n", "\n").split("\n"), 1):
         at = f"line {number} of the mesh"
@@ -240,7 +242,7 @@ def read_mesh(text, decimals):
             faces += zip(ids[:1] * (len(ids) - 2), ids[1:], ids[2:])
         else:
             need(kind in UNREAD, f"{at}: {kind}")
-    need(len(points) <= 2**22 and len(faces) <= 2**23, "the mesh is too large")
+    need(len(points) <= VERTICES[large] and len(faces) <= FACES[large], "the mesh is too large")
     need(all(max(map(abs, p)) <= 2**28 for p in points), "a point is outside the box")
     need(all(len({*c}) == 3 and 0 < min(c) and max(c) <= len(points) for c in faces), "a corner is no vertex, or is there twice")
     runs = Counter(chain(*map(sides, faces)))
@@ -318,11 +320,11 @@ def replay(mesh, lines, motions):
             mesh = result
     need(not motions, f"motion {min(motions, default=0)} nomotion")
 
-def verify(mesh, log, proof, decimals=0):
+def verify(mesh, log, proof, decimals=0, large=False):
     """How many motions of the log the proof certifies, or Refused. The texts are given as bytes."""
-    need(max(map(len, (mesh, log, proof))) <= 2**26, "a text is too long")
+    need(max(map(len, (mesh, log, proof))) <= TEXT[large], "a text is too long")
     mesh, log, proof = (text.decode("latin-1") for text in (mesh, log, proof))
-    mesh, log, motions = read_mesh(mesh, decimals), log.split("\n"), read_proof(proof.split("\n"))
+    mesh, log, motions = read_mesh(mesh, decimals, large), log.split("\n"), read_proof(proof.split("\n"))
     count = len(motions)
     need_clear(mesh, mesh.faces)
     replay(mesh, log, motions)
@@ -333,11 +335,12 @@ def main():
     parser.add_argument("mesh", metavar="MESH")
     parser.add_argument("log", metavar="LOG")
     parser.add_argument("proof", metavar="PROOF")
+    parser.add_argument("--large", action="store_true", help="meshes of up to 8,388,608 faces, and texts of up to 2 GiB")
     parser.add_argument("--decimals", type=int, choices=range(7), default=0)
     words = parser.parse_args()
     try:
         texts = [open(name, "rb").read() for name in (words.mesh, words.log, words.proof)]
-        print("verified", verify(*texts, words.decimals))
+        print("verified", verify(*texts, words.decimals, words.large))
     except (Refused, OSError, ValueError) as why:
         print("refused", ascii(str(why))[1:-1])
         sys.exit(1)

@@ -1,5 +1,5 @@
 -- Of faces that are unlike none is equal or opposite to another.
-use Rattle.std.proofs.Common.{◌≡◌, ⊎_elim, ℕ, ◌+◌, ◌*◌, ◌^◌, Bool, true, false, cond, ◌&&◌, ◌||◌, ◌==◌, List, [], ◌∷◌, map, slice_get, Option, Some, None, Result, Ok, Err, refl, sym, ap, subst, ◌∙◌, arith}
+use Rattle.std.proofs.Common.{◌≡◌, ⊎_elim, ℕ, ◌+◌, ◌*◌, ◌^◌, Bool, true, false, cond, ◌&&◌, ◌||◌, ◌==◌, List, [], ◌∷◌, map, slice_get, Some, None, Result, Ok, Err, refl, sym, ap, ◌∙◌, arith}
 use Rattle.std.proofs.Math.Nat.{mul_comm}
 use Rattle.std.proofs.lemmas.Bool.{false≢true, or_cases, eqb-true}
 use Rattle.std.proofs.lemmas.Bool.Decides.{nat_tests}
@@ -14,7 +14,7 @@ use Rattle.mesh_base.proofs.Tests.{and_first, and_second}
 use Rattle.mesh_base.proofs.ListedPairs.{all_weaker}
 use Rattle.mesh_base.specs.Mesh.{turned, same_corners, equal_up_to_rotation}
 use Rattle.edit_base.specs.Edges.{corners_from, has_equal}
-use Rattle.edit_collapse.specs.Alike.{corner_rank, is_folded, has_met, met_none, AreUnlike, IsApart}
+use Rattle.edit_collapse.specs.Alike.{corner_rank, is_folded, has_met, met_none, AreUnlike}
 use Rattle.edit_collapse.specs.Collapse.{are_opposite}
 use Rattle.edit_collapse.specs.Tried.{opposite_in, two_in}
 

@@ -1,5 +1,5 @@
 // Why a file could not be had or stored.
-use grid_base::TEXT_MAX;
+use mesh_base::Scale;
 use outside_io::{Step, Trouble};
 use std::alloc::{AllocError, Global};
 use std::io::Error;
@@ -42,7 +42,19 @@ pub fn missing_reason(alloc: Global, name: &str) -> Result<String, AllocError> {
     format!(in alloc; "there is no file {name}")
 }
 
-/// Says that a file is too long.
-pub fn long_reason(alloc: Global, name: &str) -> Result<String, AllocError> {
-    format!(in alloc; "{name} is too long: a file may have up to {TEXT_MAX} bytes")
+/// Says that a file is too long for a job of a scale, and with which option it may be longer, if with one.
+pub fn long_reason(alloc: Global, scale: Scale, name: &str) -> Result<String, AllocError> {
+    let (most, large) = (scale.text_most(), Scale::Large.text_most());
+    if most < large {
+        return format!(in alloc;
+            "{name} is too long: a file may have up to {most} bytes, and with `--large` up to {large}"
+        );
+    }
+    format!(in alloc; "{name} is too long: a file may have up to {most} bytes")
+}
+
+/// Says that the file of a card is too long.
+pub fn long_card_reason(alloc: Global, name: &str) -> Result<String, AllocError> {
+    let most = Scale::Standard.text_most();
+    format!(in alloc; "{name} is too long: a file may have up to {most} bytes")
 }

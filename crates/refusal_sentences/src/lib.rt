@@ -24,7 +24,9 @@ mod warnings;
 mod word_reasons;
 
 pub use asked::asks_in_vain;
-pub use desk_reasons::{long_reason, missing_reason, output_reason, trouble_reason};
+pub use desk_reasons::{
+    long_card_reason, long_reason, missing_reason, output_reason, trouble_reason,
+};
 pub use finer_numbers::has_finer_number;
 pub use log_end::log_end_warning;
 pub use log_reasons::{log_text_reason, replay_reason};

@@ -3,8 +3,7 @@ ghost use Rattle.std.specs.Prelude.{◌≤◌, length};
 ghost use Rattle.grid_base.specs.declared.TheConstants.{TEXT_MAX};
 
 use crate::face_lines::line_of_face;
-use grid_base::{FACES_MAX, VERTICES_MAX};
-use mesh_base::{MeshLists, PairName, ShapeFault};
+use mesh_base::{MeshLists, PairName, Scale, ShapeFault};
 use std::alloc::{AllocError, Global};
 use track_input::Format;
 
@@ -157,9 +156,26 @@ fn doubled_reason(
     format!(in alloc; "{first} and {second} have the same corners in the same order")
 }
 
+// That there are more of something than a mesh may have, and with which option there may be as many, if with one.
+fn many_reason(
+    alloc: Global,
+    count: u64,
+    what: &str,
+    most: u32,
+    most_large: u32,
+) -> Result<String, AllocError> {
+    if most < most_large && count <= u64::from(most_large) {
+        return format!(in alloc;
+            "there are {count} {what}, of at most {most}: with `--large` there may be {most_large}"
+        );
+    }
+    format!(in alloc; "there are {count} {what}, of at most {most}")
+}
+
 // What is wrong with the shape of a mesh.
 fn what_is_wrong(
     alloc: Global,
+    scale: Scale,
     format: Format,
     bytes: &[u8],
     lists: Option<&MeshLists>,
@@ -168,12 +184,14 @@ fn what_is_wrong(
     requires { length bytes.now ≤ TEXT_MAX }
 {
     match fault {
-        ShapeFault::TooManyVertices { count } => format!(in alloc;
-            "there are {count} vertices, of at most {VERTICES_MAX}"
-        ),
-        ShapeFault::TooManyFaces { count } => format!(in alloc;
-            "there are {count} faces, of at most {FACES_MAX}"
-        ),
+        ShapeFault::TooManyVertices { count } => {
+            let (most, large) = (scale.limits(), Scale::Large.limits());
+            many_reason(alloc, count, "vertices", most.vertices, large.vertices)
+        }
+        ShapeFault::TooManyFaces { count } => {
+            let (most, large) = (scale.limits(), Scale::Large.limits());
+            many_reason(alloc, count, "faces", most.faces, large.faces)
+        }
         ShapeFault::NoVertex { face, corner } => corner_reason(alloc, format, bytes, face, corner),
         ShapeFault::Repeated { face } => repeated_reason(alloc, format, bytes, face),
         ShapeFault::Doubled { first, second } => doubled_reason(
@@ -183,10 +201,11 @@ fn what_is_wrong(
     }
 }
 
-/// Says what is wrong with the shape of the mesh of a text in a format, with the lists that it gives where they are had. Faces are triangles, which
-/// count through polygons.
+/// Says what is wrong with the shape of the mesh of a text in a format, by how large it may be, with the lists that it gives where they are
+/// had. Faces are triangles, which count through polygons.
 pub fn shape_reason(
     alloc: Global,
+    scale: Scale,
     name: &str,
     format: Format,
     bytes: &[u8],
@@ -195,7 +214,7 @@ pub fn shape_reason(
 ) -> Result<String, AllocError>
     requires { length bytes.now ≤ TEXT_MAX }
 {
-    let what = what_is_wrong(alloc, format, bytes, lists, fault)?;
+    let what = what_is_wrong(alloc, scale, format, bytes, lists, fault)?;
     format!(in alloc; "{name}; {what}")
 }
 

@@ -64,6 +64,8 @@ enum Awaited {
 enum Taken<'a> {
     // The end of the options, `--`.
     Dashes,
+    // `--large`.
+    Large,
     // An option, whose value is the next word.
     Option(Named),
     // The value of an option: the word behind it, or what stands behind `--decimals=` or `--only=`.
@@ -79,6 +81,9 @@ fn option_or_file(wanted: Wanted, word: &str) -> Taken<'_> {
     let bytes = word.as_bytes();
     if is_word(bytes, b"--") {
         return Taken::Dashes;
+    }
+    if is_word(bytes, b"--large") {
+        return Taken::Large;
     }
     if is_word(bytes, b"--decimals") {
         return Taken::Option(Named::Decimals);
@@ -141,6 +146,14 @@ fn option_word(named: Named) -> &'static str {
     }
 }
 
+// Says that an option is given twice, if it is.
+fn again_reason(alloc: Global, word: &str, again: bool) -> Result<Option<String>, AllocError> {
+    if !again {
+        return Ok(None);
+    }
+    Ok(Some(format!(in alloc; "`{word}` is given twice")?))
+}
+
 // Says what is wrong with the value of an option, if anything is; `again` says that it was given before.
 fn value_reason(
     alloc: Global,
@@ -149,8 +162,7 @@ fn value_reason(
     again: bool,
 ) -> Result<Option<String>, AllocError> {
     if again {
-        let word = option_word(named);
-        return Ok(Some(format!(in alloc; "`{word}` is given twice")?));
+        return again_reason(alloc, option_word(named), again);
     }
     match named {
         Named::Decimals => decimals_reason(alloc, value),
@@ -161,9 +173,9 @@ fn value_reason(
 // Which options a command that takes files has.
 fn options_of(wanted: Wanted) -> &'static str {
     if wanted.only {
-        "the only options are `--decimals N` and `--only K`"
+        "the only options are `--large`, `--decimals N` and `--only K`"
     } else {
-        "the only option is `--decimals N`"
+        "the only options are `--large` and `--decimals N`"
     }
 }
 
@@ -280,9 +292,9 @@ fn file_reason(
     let form = wanted.form;
     if before >= wanted.files {
         let options = if wanted.only {
-            "`--decimals N` and `--only K`"
+            "`--large`, `--decimals N` and `--only K`"
         } else {
-            "`--decimals N`"
+            "`--large` and `--decimals N`"
         };
         let said = format!(in alloc;
             "{word:?} is a word too many: behind the files of `topo {form}` only {options} may stand"
@@ -333,6 +345,7 @@ fn few_files_reason(alloc: Global, wanted: Wanted, files: usize) -> Result<Strin
 fn files_reason(alloc: Global, wanted: Wanted, words: &[String]) -> Result<String, AllocError> {
     let mut awaited = Awaited::Any;
     let mut files: usize = 0;
+    let mut has_large = false;
     let mut has_decimals = false;
     let mut has_only = false;
     for word in words {
@@ -340,6 +353,11 @@ fn files_reason(alloc: Global, wanted: Wanted, words: &[String]) -> Result<Strin
             Taken::Dashes => {
                 awaited = Awaited::File;
                 None
+            }
+            Taken::Large => {
+                let reason = again_reason(alloc, "--large", has_large)?;
+                has_large = true;
+                reason
             }
             Taken::Option(named) => {
                 awaited = Awaited::Value(named);

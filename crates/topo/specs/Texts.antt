@@ -4,13 +4,13 @@ use Rattle.std.specs.Prelude.{ℕ, List, [], ◌++◌, codes}
 -- how the program is called
 unfoldable pub usage : List ℕ
 usage =
-    codes "usage: topo track MESH STEPS PREFIX [--decimals N] [--card FILE]\n"
-    ++ codes "       topo convert FROM TO [--decimals N]\n"
-    ++ codes "       topo check MESH [--decimals N]\n"
-    ++ codes "       topo measure MESH LOG [--decimals N] [--card FILE]\n"
-    ++ codes "       topo prove MESH LOG [--decimals N] [--card FILE]\n"
-    ++ codes "       topo verify MESH LOG PROOF [--decimals N] [--card FILE]\n"
-    ++ codes "       topo replay MESH LOG PREFIX [--decimals N] [--only K] [--card FILE]\n"
+    codes "usage: topo track MESH STEPS PREFIX [--large] [--decimals N] [--card FILE]\n"
+    ++ codes "       topo convert FROM TO [--large] [--decimals N]\n"
+    ++ codes "       topo check MESH [--large] [--decimals N]\n"
+    ++ codes "       topo measure MESH LOG [--large] [--decimals N] [--card FILE]\n"
+    ++ codes "       topo prove MESH LOG [--large] [--decimals N] [--card FILE]\n"
+    ++ codes "       topo verify MESH LOG PROOF [--large] [--decimals N] [--card FILE]\n"
+    ++ codes "       topo replay MESH LOG PREFIX [--large] [--decimals N] [--only K] [--card FILE]\n"
     ++ codes "       topo try N KEY\n"
     ++ codes "       topo track --help | convert --help | check --help | measure --help | prove --help | verify --help |\n"
     ++ codes "            replay --help | try --help\n"
@@ -27,6 +27,7 @@ usage =
     ++ codes "KEY, runs it, and writes a summary of its log (N from 1 to 12, KEY from 0 to 4294967295); it reads and\n"
     ++ codes "stores no file.\n"
     ++ codes "\n"
+    ++ codes "--large         files may have up to 2147483647 bytes, and meshes up to 4194304 vertices and 8388608 faces\n"
     ++ codes "--decimals N    a unit of the grid is 10 to the power -N (N from 0 to 6; 0 if left out)\n"
     ++ codes "--only K        of the meshes of the log, mesh K alone is stored (K from 0 to 4294967295)\n"
     ++ codes "--card FILE     `track` stores in FILE of which mesh, steps and decimals its log is, and the others take the log\n"

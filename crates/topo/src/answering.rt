@@ -20,13 +20,13 @@ use track_run::{Outcome, run};
 
 /// How the program is called.
 pub(crate) const USAGE: &str = "\
-usage: topo track MESH STEPS PREFIX [--decimals N] [--card FILE]
-       topo convert FROM TO [--decimals N]
-       topo check MESH [--decimals N]
-       topo measure MESH LOG [--decimals N] [--card FILE]
-       topo prove MESH LOG [--decimals N] [--card FILE]
-       topo verify MESH LOG PROOF [--decimals N] [--card FILE]
-       topo replay MESH LOG PREFIX [--decimals N] [--only K] [--card FILE]
+usage: topo track MESH STEPS PREFIX [--large] [--decimals N] [--card FILE]
+       topo convert FROM TO [--large] [--decimals N]
+       topo check MESH [--large] [--decimals N]
+       topo measure MESH LOG [--large] [--decimals N] [--card FILE]
+       topo prove MESH LOG [--large] [--decimals N] [--card FILE]
+       topo verify MESH LOG PROOF [--large] [--decimals N] [--card FILE]
+       topo replay MESH LOG PREFIX [--large] [--decimals N] [--only K] [--card FILE]
        topo try N KEY
        topo track --help | convert --help | check --help | measure --help | prove --help | verify --help |
             replay --help | try --help
@@ -43,6 +43,7 @@ takes them so and stores the meshes that they save, as `track` did. `try` makes 
 KEY, runs it, and writes a summary of its log (N from 1 to 12, KEY from 0 to 4294967295); it reads and
 stores no file.
 
+--large         files may have up to 2147483647 bytes, and meshes up to 4194304 vertices and 8388608 faces
 --decimals N    a unit of the grid is 10 to the power -N (N from 0 to 6; 0 if left out)
 --only K        of the meshes of the log, mesh K alone is stored (K from 0 to 4294967295)
 --card FILE     `track` stores in FILE of which mesh, steps and decimals its log is, and the others take the log

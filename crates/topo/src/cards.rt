@@ -1,10 +1,10 @@
 // The card of a run: what is read of it before, and what is stored of it behind.
 use crate::no_memory;
 use card_files::{Asked, CardDesk, card_reason, difference_reason};
-use grid_base::TEXT_MAX;
+use grid_base::STANDARD_TEXT;
 use job_card::{Card, FileMark, Part, Version, card_text, read_card};
 use outside_io::{Desk, FetchFault, FileDesk, StoreFault};
-use refusal_sentences::{long_reason, missing_reason, trouble_reason};
+use refusal_sentences::{long_card_reason, missing_reason, trouble_reason};
 use std::alloc::{AllocError, Global};
 use track_run::Outcome;
 use user_files::{Names, SystemDesk, Work};
@@ -51,7 +51,7 @@ fn unread(
         },
         FetchFault::TooLong { .. } => CardRefusal {
             status: TOO_LONG,
-            why: long_reason(alloc, name),
+            why: long_card_reason(alloc, name),
         },
         FetchFault::Missing => CardRefusal {
             status: MISSING,
@@ -64,7 +64,7 @@ fn unread(
 fn card_of(alloc: Global, rt: &HostRuntime, name: &str) -> Result<Card, CardRefusal> {
     let mut bytes = Vec::new(alloc);
     let mut files = FileDesk::new(alloc, rt);
-    if let Err(fault) = files.fetch(name, TEXT_MAX, &mut bytes) {
+    if let Err(fault) = files.fetch(name, STANDARD_TEXT, &mut bytes) {
         let why = trouble_reason(alloc, files.trouble());
         return Err(unread(alloc, name, fault, why));
     }

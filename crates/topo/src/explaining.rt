@@ -3,7 +3,7 @@ ghost use Rattle.std.specs.Prelude.{◌≤◌, length};
 ghost use Rattle.grid_base.specs.declared.TheConstants.{TEXT_MAX};
 
 use line_text::TextFault;
-use mesh_base::{PairName, ShapeFault, UseWhy};
+use mesh_base::{PairName, Scale, ShapeFault, UseWhy};
 use motion_proof::Verdict;
 use outside_io::Trouble;
 use refusal_sentences::{
@@ -130,6 +130,7 @@ fn shape_sentence(
     let lists = lists_in(alloc, names.format, bytes, names.decimals);
     let said = shape_reason(
         alloc,
+        names.scale,
         names.mesh,
         names.format,
         bytes,
@@ -209,6 +210,7 @@ pub(crate) fn explain(
         prefix: None,
         to: None,
         stored: Format::Obj,
+        scale: Scale::Standard,
         decimals: 0,
         work: Work::Check,
     });
@@ -218,7 +220,7 @@ pub(crate) fn explain(
         Outcome::Usage => words_reason(alloc, words, CUBES_MAX),
         Outcome::DeskFault => trouble_reason(alloc, trouble),
         Outcome::SinkFault => output_reason(alloc, refused),
-        Outcome::TooLong { file, .. } => long_reason(alloc, name_of(names, file)),
+        Outcome::TooLong { file, .. } => long_reason(alloc, names.scale, name_of(names, file)),
         Outcome::MeshText(fault) => mesh_sentence(alloc, names, fault, texts),
         Outcome::MeshShape(fault) => shape_sentence(alloc, names, fault, texts),
         Outcome::MeshMeets(pair) => meeting_sentence(alloc, names, pair, texts),

@@ -121,6 +121,15 @@ fn word<'a>(alloc: Global, name: &'a str, help: &'a str) -> Arg<'a> {
         .action(ArgAction::Set)
 }
 
+fn large<'a>(alloc: Global) -> Arg<'a> {
+    Arg::new(alloc, "large")
+        .long("large")
+        .help(
+            "The files may be longer than 64 MiB, and the mesh have more than 65536 vertices or 131072 faces",
+        )
+        .action(ArgAction::SetTrue)
+}
+
 fn decimals<'a>(alloc: Global) -> Arg<'a> {
     Arg::new(alloc, "decimals")
         .long("decimals")
@@ -148,6 +157,7 @@ fn track<'a>(alloc: Global) -> Result<Command<'a>, AllocError> {
             "PREFIX",
             "Meshes are stored as PREFIX-000000.obj and so on",
         ))?
+        .arg(large(alloc))?
         .arg(decimals(alloc))?
         .arg(card(
             alloc,
@@ -161,6 +171,7 @@ fn convert<'a>(alloc: Global) -> Result<Command<'a>, AllocError> {
         .after_help(FORMATS)
         .arg(word(alloc, "FROM", "The file of the mesh"))?
         .arg(word(alloc, "TO", "The file that it is stored in"))?
+        .arg(large(alloc))?
         .arg(decimals(alloc))
 }
 
@@ -185,6 +196,7 @@ fn of_log<'a>(
 fn measure<'a>(alloc: Global) -> Result<Command<'a>, AllocError> {
     let about = "Tells what a log did to volume and shape";
     of_log(alloc, "measure", about, MEASURES)?
+        .arg(large(alloc))?
         .arg(decimals(alloc))?
         .arg(card(alloc, HELD))
 }
@@ -192,6 +204,7 @@ fn measure<'a>(alloc: Global) -> Result<Command<'a>, AllocError> {
 fn prove<'a>(alloc: Global) -> Result<Command<'a>, AllocError> {
     let about = "Writes a proof that nothing meets in the motions of a log";
     of_log(alloc, "prove", about, PROVES)?
+        .arg(large(alloc))?
         .arg(decimals(alloc))?
         .arg(card(alloc, HELD))
 }
@@ -200,6 +213,7 @@ fn verify<'a>(alloc: Global) -> Result<Command<'a>, AllocError> {
     let about = "Checks a proof that nothing meets in the motions of a log";
     of_log(alloc, "verify", about, VERIFIES)?
         .arg(word(alloc, "PROOF", "The file of the proof"))?
+        .arg(large(alloc))?
         .arg(decimals(alloc))?
         .arg(card(alloc, HELD))
 }
@@ -212,6 +226,7 @@ fn replay<'a>(alloc: Global) -> Result<Command<'a>, AllocError> {
             "PREFIX",
             "Meshes are stored as PREFIX-000000.obj and so on",
         ))?
+        .arg(large(alloc))?
         .arg(decimals(alloc))?
         .arg(
             Arg::new(alloc, "only")
@@ -228,6 +243,7 @@ fn check<'a>(alloc: Global) -> Result<Command<'a>, AllocError> {
         .about("Tells all that is wrong with a mesh")
         .after_help(CHECKS)
         .arg(word(alloc, "MESH", "The file of the mesh"))?
+        .arg(large(alloc))?
         .arg(decimals(alloc))
 }
 

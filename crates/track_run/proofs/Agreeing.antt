@@ -4,8 +4,8 @@ use Rattle.std.proofs.lemmas.List.{length-map}
 use Rattle.grid_base.specs.Points.{point_at}
 use Rattle.mesh_base.specs.Mesh.{Mesh}
 use Rattle.mesh_plain.specs.Shape.{shape_fault}
-use Rattle.mesh_plain.proofs.Lists.{sound-mesh_of}
-use Rattle.mesh_plain.proofs.Faults.{closed-mesh_of}
+use Rattle.mesh_plain.proofs.Lists.{sound-mesh_under}
+use Rattle.mesh_plain.proofs.Faults.{closed-mesh_under}
 use Rattle.step_choose.specs.Settings.{AreWithinLimits}
 use Rattle.step_text.specs.declared.Placed.{Placed}
 use Rattle.step_text.specs.Ranges.{AreInRange}
@@ -39,10 +39,10 @@ reached_kept : (job : Job) (answers : Answers) (s : State) → IsReached job ans
 reached_kept job answers s at =
     let read = at.clear.steps_read in
     let points = map point_at at.lists.points in
-    let none : shape_fault (length points) at.lists.faces ≡ None = ap (λ n. shape_fault n at.lists.faces) (length-map at.lists.points point_at) ∙ read.mesh_read.good in
-    let m : Mesh = mesh_of_lists at.lists in
-    let sound = sound-mesh_of points at.lists.faces none in
-    let good : IsValidSurface m = record { sound = sound; closed = closed-mesh_of points at.lists.faces none; clear = at.clear.none_meets } in
+    let none : shape_fault job.scale (length points) at.lists.faces ≡ None = ap (λ n. shape_fault job.scale n at.lists.faces) (length-map at.lists.points point_at) ∙ read.mesh_read.good in
+    let m : Mesh = mesh_of_lists job.scale at.lists in
+    let sound = sound-mesh_under job.scale points at.lists.faces none in
+    let good : IsValidSurface m = record { sound = sound; closed = closed-mesh_under job.scale points at.lists.faces none; clear = at.clear.none_meets } in
     reaches_kept answers at.front at.rest (start m) s (kept_start m good) at.reached
 
 -- ---- the settings there
@@ -60,7 +60,7 @@ reached_limits : (job : Job) (answers : Answers) (s : State) → IsReached job a
 reached_limits job answers s at =
     let read = at.clear.steps_read in
     let range = (steps_are_in_range_lem read.steps at.directives read.read).0 in
-    reaches_limits answers at.front (start (mesh_of_lists at.lists)) s (first_in_range at.front at.rest (subst AreInRange at.split range)) (limits_start (mesh_of_lists at.lists)) at.reached
+    reaches_limits answers at.front (start (mesh_of_lists job.scale at.lists)) s (first_in_range at.front at.rest (subst AreInRange at.split range)) (limits_start (mesh_of_lists job.scale at.lists)) at.reached
 
 -- ---- the log up to there
 
@@ -83,12 +83,12 @@ lines_to answers (p ∷ front) rest s t reached =
     }
 
 -- the mesh of the job is that of its lists
-mesh_given : (job : Job) (lists : Lists) (steps : List ℕ) → HasLists job lists steps → mesh_in job.decimals job.mesh_file ≡ mesh_of_lists lists
-mesh_given job lists steps h = ap (mesh_in job.decimals) h.mesh_file ∙ ap mesh_read h.read
+mesh_given : (job : Job) (lists : Lists) (steps : List ℕ) → HasLists job lists steps → mesh_in job.scale job.decimals job.mesh_file ≡ mesh_of_lists job.scale lists
+mesh_given job lists steps h = ap (mesh_in job.scale job.decimals) h.mesh_file ∙ ap (mesh_read job.scale) h.read
 
 pub agrees_well : (job : Job) (answers : Answers) (s : State) (there : IsReached job answers s) → AgreesWithReplay job answers s there.rest (answers_after there.front answers)
 agrees_well job answers s there =
-    let m : Mesh = mesh_of_lists there.lists in
+    let m : Mesh = mesh_of_lists job.scale there.lists in
     let opening : List LogLine = First VERSION ∷ mesh_line 0 m ∷ [] in
     let lines = lines_to answers there.front there.rest (start m) s there.reached in
     record {

@@ -3,11 +3,12 @@ use Rattle.std.proofs.Common.{◌≡◌, ℕ, List, [], ◌∷◌, ◌++◌, len
 use Rattle.std.specs.Prelude.{◌⊎◌}
 use Rattle.std.proofs.lemmas.List.{length-map}
 use Rattle.grid_base.specs.Points.{point_at}
+use Rattle.mesh_base.specs.declared.Scale.{Scale}
 use Rattle.mesh_base.specs.Mesh.{IsSound}
 use Rattle.mesh_base.specs.Placements.{IsClearMesh}
 use Rattle.pair_scan.proofs.Clear.{clear_exactly, answer_meets}
 use Rattle.pair_scan.proofs.InOrder.{answer_is_first}
-use Rattle.mesh_plain.proofs.Lists.{sound-mesh_of}
+use Rattle.mesh_plain.proofs.Lists.{sound-mesh_under}
 use Rattle.mesh_base.specs.declared.UseWhy.{UseWhy}
 use Rattle.mesh_base.specs.declared.PairName.{PairName}
 use Rattle.mesh_base.specs.declared.ShapeFault.{ShapeFault}
@@ -77,7 +78,7 @@ abbrev pub CauseOf : Job → Answers → Ending → Type 0
 CauseOf job answers (Ended told) = Cause job answers (outcome_of told)
 CauseOf job answers CutShort = Unit {0}
 
-use_cause : (answers : Answers) (job : Job) (lists : Lists) (directives : List Placed) (o : Ending) → HasClear job lists directives → Ends answers (start (mesh_of_lists lists)) directives o → CauseOf job answers o
+use_cause : (answers : Answers) (job : Job) (lists : Lists) (directives : List Placed) (o : Ending) → HasClear job lists directives → Ends answers (start (mesh_of_lists job.scale lists)) directives o → CauseOf job answers o
 use_cause answers job lists directives (Ended None) read h = (lists, directives, read, h.0, h.1)
 use_cause answers job lists directives (Ended (Some (refusal.StepUse line why))) read h = (lists, directives, read, h)
 use_cause answers job lists directives (Ended (Some (refusal.Long f seen))) read h = absurd h
@@ -89,45 +90,45 @@ use_cause answers job lists directives (Ended (Some (refusal.Steps f))) read h =
 use_cause answers job lists directives CutShort read h = tt
 
 -- lists of good shape give a sound mesh
-lists_sound : (lists : Lists) → shape_fault (length lists.points) lists.faces ≡ None → IsSound (mesh_of_lists lists)
-lists_sound lists good =
+lists_sound : (scale : Scale) (lists : Lists) → shape_fault scale (length lists.points) lists.faces ≡ None → IsSound (mesh_of_lists scale lists)
+lists_sound scale lists good =
     let points = map point_at lists.points in
-    sound-mesh_of points lists.faces (ap (λ n. shape_fault n lists.faces) (length-map lists.points point_at) ∙ good)
+    sound-mesh_under scale points lists.faces (ap (λ n. shape_fault scale n lists.faces) (length-map lists.points point_at) ∙ good)
 
-meeting_cause : (answers : Answers) (job : Job) (lists : Lists) (directives : List Placed) (o : Option PairName) → HasSteps job lists directives → met_first (mesh_of_lists lists) ≡ o → CauseOf job answers (log_of_test answers (mesh_of_lists lists) directives o).ending
+meeting_cause : (answers : Answers) (job : Job) (lists : Lists) (directives : List Placed) (o : Option PairName) → HasSteps job lists directives → met_first (mesh_of_lists job.scale lists) ≡ o → CauseOf job answers (log_of_test answers (mesh_of_lists job.scale lists) directives o).ending
 meeting_cause answers job lists directives (Some pair) h e =
-    let m = mesh_of_lists lists in
-    (lists, directives, h, record { found = e; meets = answer_meets m (Some pair) (sym e); none_before = answer_is_first m (Some pair) (lists_sound lists h.mesh_read.good) (sym e) })
+    let m = mesh_of_lists job.scale lists in
+    (lists, directives, h, record { found = e; meets = answer_meets m (Some pair) (sym e); none_before = answer_is_first m (Some pair) (lists_sound job.scale lists h.mesh_read.good) (sym e) })
 meeting_cause answers job lists directives None h e =
-    let clear : IsClearMesh (mesh_of_lists lists) = (clear_exactly (mesh_of_lists lists) None (lists_sound lists h.mesh_read.good) (sym e)).0 refl in
-    use_cause answers job lists directives (log_of_mesh answers (mesh_of_lists lists) directives).ending (record { steps_read = h; clear = e; none_meets = clear }) (told_ends answers directives (start (mesh_of_lists lists)))
+    let clear : IsClearMesh (mesh_of_lists job.scale lists) = (clear_exactly (mesh_of_lists job.scale lists) None (lists_sound job.scale lists h.mesh_read.good) (sym e)).0 refl in
+    use_cause answers job lists directives (log_of_mesh answers (mesh_of_lists job.scale lists) directives).ending (record { steps_read = h; clear = e; none_meets = clear }) (told_ends answers directives (start (mesh_of_lists job.scale lists)))
 
-steps_cause : (answers : Answers) (job : Job) (lists : Lists) (steps : List ℕ) (r : Result (List Placed) TextFault) → HasMesh job lists steps → steps_of steps ≡ r → CauseOf job answers (log_of_steps answers lists r).ending
+steps_cause : (answers : Answers) (job : Job) (lists : Lists) (steps : List ℕ) (r : Result (List Placed) TextFault) → HasMesh job lists steps → steps_of steps ≡ r → CauseOf job answers (log_of_steps job.scale answers lists r).ending
 steps_cause answers job lists steps (Err fault) h e = (lists, steps, h, e)
 steps_cause answers job lists steps (Ok directives) h e =
-    meeting_cause answers job lists directives (met_first (mesh_of_lists lists)) (record { steps = steps; mesh_read = h; read = e }) refl
+    meeting_cause answers job lists directives (met_first (mesh_of_lists job.scale lists)) (record { steps = steps; mesh_read = h; read = e }) refl
 
-shape_cause : (answers : Answers) (job : Job) (lists : Lists) (steps : List ℕ) (o : Option ShapeFault) → HasLists job lists steps → shape_fault (length lists.points) lists.faces ≡ o → CauseOf job answers (log_of_shape answers lists o steps).ending
+shape_cause : (answers : Answers) (job : Job) (lists : Lists) (steps : List ℕ) (o : Option ShapeFault) → HasLists job lists steps → shape_fault job.scale (length lists.points) lists.faces ≡ o → CauseOf job answers (log_of_shape job.scale answers lists o steps).ending
 shape_cause answers job lists steps (Some fault) h e = (lists, steps, h, e)
 shape_cause answers job lists steps None h e = steps_cause answers job lists steps (steps_of steps) (record { lists_read = h; good = e }) refl
 
-abbrev job_with : ℕ → Source → Source → Job
-job_with decimals mesh steps = record { mesh_file = mesh; step_file = steps; decimals = decimals }
+abbrev job_with : Scale → ℕ → Source → Source → Job
+job_with scale decimals mesh steps = record { mesh_file = mesh; step_file = steps; scale = scale; decimals = decimals }
 
-lists_cause : (answers : Answers) (decimals : ℕ) (mesh steps : List ℕ) (r : Result Lists TextFault) → lists_of decimals mesh ≡ r → CauseOf (job_with decimals (Bytes mesh) (Bytes steps)) answers (log_of_lists answers r steps).ending
-lists_cause answers decimals mesh steps (Err fault) e = (mesh, refl, (steps, refl), e)
-lists_cause answers decimals mesh steps (Ok lists) e =
-    shape_cause answers (job_with decimals (Bytes mesh) (Bytes steps)) lists steps (shape_fault (length lists.points) lists.faces) (record { mesh = mesh; mesh_file = refl; step_file = refl; read = e }) refl
+lists_cause : (scale : Scale) (answers : Answers) (decimals : ℕ) (mesh steps : List ℕ) (r : Result Lists TextFault) → lists_of decimals mesh ≡ r → CauseOf (job_with scale decimals (Bytes mesh) (Bytes steps)) answers (log_of_lists scale answers r steps).ending
+lists_cause scale answers decimals mesh steps (Err fault) e = (mesh, refl, (steps, refl), e)
+lists_cause scale answers decimals mesh steps (Ok lists) e =
+    shape_cause answers (job_with scale decimals (Bytes mesh) (Bytes steps)) lists steps (shape_fault scale (length lists.points) lists.faces) (record { mesh = mesh; mesh_file = refl; step_file = refl; read = e }) refl
 
-files_cause : (answers : Answers) (decimals : ℕ) (mesh steps : Source) → CauseOf (job_with decimals mesh steps) answers (log_of_files answers decimals mesh steps).ending
-files_cause answers decimals (TooLong seen) steps = refl
-files_cause answers decimals Absent steps = refl
-files_cause answers decimals (Bytes mesh) (TooLong seen) = ((mesh, refl), refl)
-files_cause answers decimals (Bytes mesh) Absent = ((mesh, refl), refl)
-files_cause answers decimals (Bytes mesh) (Bytes steps) = lists_cause answers decimals mesh steps (lists_of decimals mesh) refl
+files_cause : (scale : Scale) (answers : Answers) (decimals : ℕ) (mesh steps : Source) → CauseOf (job_with scale decimals mesh steps) answers (log_of_files scale answers decimals mesh steps).ending
+files_cause scale answers decimals (TooLong seen) steps = refl
+files_cause scale answers decimals Absent steps = refl
+files_cause scale answers decimals (Bytes mesh) (TooLong seen) = ((mesh, refl), refl)
+files_cause scale answers decimals (Bytes mesh) Absent = ((mesh, refl), refl)
+files_cause scale answers decimals (Bytes mesh) (Bytes steps) = lists_cause scale answers decimals mesh steps (lists_of decimals mesh) refl
 
 pub log_cause : (answers : Answers) (job : Job) → CauseOf job answers (log_of job answers).ending
-log_cause answers job = files_cause answers job.decimals job.mesh_file job.step_file
+log_cause answers job = files_cause job.scale answers job.decimals job.mesh_file job.step_file
 
 -- ---- and a cause has no other outcome
 
@@ -143,37 +144,37 @@ ends_refused answers (q ∷ front) rest p s state why h e =
     ap (λ t. (and_then q.line t (log_from (later answers) (front ++ p ∷ rest))).ending) h.2 ∙ ends_refused (later answers) front rest p h.1 state why h.3 e
 
 module _ (answers : Answers) (job : Job) where
-  mesh_told : (source : Source) → job.mesh_file ≡ source → log_of_files answers job.decimals job.mesh_file job.step_file ≡ log_of_files answers job.decimals source job.step_file
-  mesh_told source e = ap (λ f. log_of_files answers job.decimals f job.step_file) e
+  mesh_told : (source : Source) → job.mesh_file ≡ source → log_of_files job.scale answers job.decimals job.mesh_file job.step_file ≡ log_of_files job.scale answers job.decimals source job.step_file
+  mesh_told source e = ap (λ f. log_of_files job.scale answers job.decimals f job.step_file) e
 
-  both_told : (mesh : List ℕ) (source : Source) → job.mesh_file ≡ Bytes mesh → job.step_file ≡ source → log_of_files answers job.decimals job.mesh_file job.step_file ≡ log_of_files answers job.decimals (Bytes mesh) source
-  both_told mesh source e f = mesh_told (Bytes mesh) e ∙ ap (λ s. log_of_files answers job.decimals (Bytes mesh) s) f
+  both_told : (mesh : List ℕ) (source : Source) → job.mesh_file ≡ Bytes mesh → job.step_file ≡ source → log_of_files job.scale answers job.decimals job.mesh_file job.step_file ≡ log_of_files job.scale answers job.decimals (Bytes mesh) source
+  both_told mesh source e f = mesh_told (Bytes mesh) e ∙ ap (λ s. log_of_files job.scale answers job.decimals (Bytes mesh) s) f
 
-  lists_told : (lists : Lists) (steps : List ℕ) → HasLists job lists steps → log_of_files answers job.decimals job.mesh_file job.step_file ≡ log_of_shape answers lists (shape_fault (length lists.points) lists.faces) steps
-  lists_told lists steps h = both_told h.mesh (Bytes steps) h.mesh_file h.step_file ∙ ap (λ r. log_of_lists answers r steps) h.read
+  lists_told : (lists : Lists) (steps : List ℕ) → HasLists job lists steps → log_of_files job.scale answers job.decimals job.mesh_file job.step_file ≡ log_of_shape job.scale answers lists (shape_fault job.scale (length lists.points) lists.faces) steps
+  lists_told lists steps h = both_told h.mesh (Bytes steps) h.mesh_file h.step_file ∙ ap (λ r. log_of_lists job.scale answers r steps) h.read
 
-  mesh_good : (lists : Lists) (steps : List ℕ) → HasMesh job lists steps → log_of_files answers job.decimals job.mesh_file job.step_file ≡ log_of_steps answers lists (steps_of steps)
-  mesh_good lists steps h = lists_told lists steps h.lists_read ∙ ap (λ o. log_of_shape answers lists o steps) h.good
+  mesh_good : (lists : Lists) (steps : List ℕ) → HasMesh job lists steps → log_of_files job.scale answers job.decimals job.mesh_file job.step_file ≡ log_of_steps job.scale answers lists (steps_of steps)
+  mesh_good lists steps h = lists_told lists steps h.lists_read ∙ ap (λ o. log_of_shape job.scale answers lists o steps) h.good
 
-  steps_told : (lists : Lists) (directives : List Placed) → HasSteps job lists directives → log_of_files answers job.decimals job.mesh_file job.step_file ≡ log_of_test answers (mesh_of_lists lists) directives (met_first (mesh_of_lists lists))
-  steps_told lists directives h = mesh_good lists h.steps h.mesh_read ∙ ap (log_of_steps answers lists) h.read
+  steps_told : (lists : Lists) (directives : List Placed) → HasSteps job lists directives → log_of_files job.scale answers job.decimals job.mesh_file job.step_file ≡ log_of_test answers (mesh_of_lists job.scale lists) directives (met_first (mesh_of_lists job.scale lists))
+  steps_told lists directives h = mesh_good lists h.steps h.mesh_read ∙ ap (log_of_steps job.scale answers lists) h.read
 
-  pub clear_told : (lists : Lists) (directives : List Placed) → HasClear job lists directives → log_of_files answers job.decimals job.mesh_file job.step_file ≡ log_of_mesh answers (mesh_of_lists lists) directives
-  clear_told lists directives h = steps_told lists directives h.steps_read ∙ ap (log_of_test answers (mesh_of_lists lists) directives) h.clear
+  pub clear_told : (lists : Lists) (directives : List Placed) → HasClear job lists directives → log_of_files job.scale answers job.decimals job.mesh_file job.step_file ≡ log_of_mesh answers (mesh_of_lists job.scale lists) directives
+  clear_told lists directives h = steps_told lists directives h.steps_read ∙ ap (log_of_test answers (mesh_of_lists job.scale lists) directives) h.clear
 
-  ended : (told : ExpectedLog) → log_of_files answers job.decimals job.mesh_file job.step_file ≡ told → (log_of job answers).ending ≡ told.ending
+  ended : (told : ExpectedLog) → log_of_files job.scale answers job.decimals job.mesh_file job.step_file ≡ told → (log_of job answers).ending ≡ told.ending
   ended told e = ap (λ (t : ExpectedLog). t.ending) e
 
   -- its log ends by a last line, which tells that outcome
   abbrev pub EndsAs : Outcome → Type 0
   EndsAs o = (told : Option Refusal) × ((log_of job answers).ending ≡ Ended told) × (outcome_of told ≡ o)
 
-  refused_as : (why : Refusal) → log_of_files answers job.decimals job.mesh_file job.step_file ≡ refused why → EndsAs (outcome_of (Some why))
+  refused_as : (why : Refusal) → log_of_files job.scale answers job.decimals job.mesh_file job.step_file ≡ refused why → EndsAs (outcome_of (Some why))
   refused_as why e = (Some why, ended (refused why) e, refl)
 
   -- a job with a cause ends so, or is stopped
   pub cause_ends : (o : Outcome) → Cause job answers o → EndsAs o ⊎ IsStopped o
-  cause_ends outcome.Done h = inl (None, ended (log_of_mesh answers (mesh_of_lists h.0) h.1) (clear_told h.0 h.1 h.2) ∙ ends_reached answers h.1 (start (mesh_of_lists h.0)) h.3 h.4, refl)
+  cause_ends outcome.Done h = inl (None, ended (log_of_mesh answers (mesh_of_lists job.scale h.0) h.1) (clear_told h.0 h.1 h.2) ∙ ends_reached answers h.1 (start (mesh_of_lists job.scale h.0)) h.3 h.4, refl)
   cause_ends (outcome.TooLong file.Mesh seen) h = inl (refused_as (refusal.Long file.Mesh seen) (mesh_told (TooLong seen) h))
   cause_ends (outcome.TooLong file.Steps seen) h = inl (refused_as (refusal.Long file.Steps seen) (both_told h.0.0 (TooLong seen) h.0.1 h.1))
   cause_ends (outcome.Missing file.Mesh) h = inl (refused_as (refusal.Missing file.Mesh) (mesh_told Absent h))
@@ -182,19 +183,19 @@ module _ (answers : Answers) (job : Job) where
   cause_ends (outcome.TooLong file.Proof seen) h = absurd h
   cause_ends (outcome.Missing file.Log) h = absurd h
   cause_ends (outcome.Missing file.Proof) h = absurd h
-  cause_ends (outcome.MeshText fault) h = inl (refused_as (refusal.Mesh fault) (both_told h.0 (Bytes h.2.0) h.1 h.2.1 ∙ ap (λ r. log_of_lists answers r h.2.0) h.3))
-  cause_ends (outcome.MeshShape fault) h = inl (refused_as (refusal.Shape fault) (lists_told h.0 h.1 h.2 ∙ ap (λ o. log_of_shape answers h.0 o h.1) h.3))
-  cause_ends (outcome.StepText fault) h = inl (refused_as (refusal.Steps fault) (mesh_good h.0 h.1 h.2 ∙ ap (log_of_steps answers h.0) h.3))
+  cause_ends (outcome.MeshText fault) h = inl (refused_as (refusal.Mesh fault) (both_told h.0 (Bytes h.2.0) h.1 h.2.1 ∙ ap (λ r. log_of_lists job.scale answers r h.2.0) h.3))
+  cause_ends (outcome.MeshShape fault) h = inl (refused_as (refusal.Shape fault) (lists_told h.0 h.1 h.2 ∙ ap (λ o. log_of_shape job.scale answers h.0 o h.1) h.3))
+  cause_ends (outcome.StepText fault) h = inl (refused_as (refusal.Steps fault) (mesh_good h.0 h.1 h.2 ∙ ap (log_of_steps job.scale answers h.0) h.3))
   cause_ends (outcome.StepUse line why) h =
       let at = h.3 in
-      let m = mesh_of_lists h.0 in
+      let m = mesh_of_lists job.scale h.0 in
       let ending : (log_of job answers).ending ≡ Ended (Some (refusal.StepUse line why)) =
       ended (log_of_mesh answers m h.1) (clear_told h.0 h.1 h.2)
       ∙ ap (λ l. (log_from answers l (start m)).ending) at.split
       ∙ ends_refused answers at.front at.rest at.placed (start m) at.state why at.reached at.refused
       ∙ ap (λ n. Ended (Some (refusal.StepUse n why))) (sym at.line_is) in
       inl (Some (refusal.StepUse line why), ending, refl)
-  cause_ends (outcome.MeshMeets pair) h = inl (refused_as (refusal.Meets pair) (steps_told h.0 h.1 h.2 ∙ ap (log_of_test answers (mesh_of_lists h.0) h.1) h.3.found))
+  cause_ends (outcome.MeshMeets pair) h = inl (refused_as (refusal.Meets pair) (steps_told h.0 h.1 h.2 ∙ ap (log_of_test answers (mesh_of_lists job.scale h.0) h.1) h.3.found))
   cause_ends (outcome.LogText fault) h = absurd h
   cause_ends (outcome.LogUse line) h = absurd h
   cause_ends (outcome.ProofText fault) h = absurd h

@@ -5,8 +5,9 @@ use Rattle.std.proofs.lemmas.Bool.{false≢true}
 use Rattle.std.proofs.lemmas.List.{length-map}
 use Rattle.grid_base.specs.Points.{point_at}
 use Rattle.mesh_base.specs.declared.PairName.{PairName}
+use Rattle.mesh_base.specs.declared.Scale.{Scale}
 use Rattle.mesh_plain.specs.Shape.{shape_fault}
-use Rattle.mesh_plain.proofs.Lists.{sound-mesh_of}
+use Rattle.mesh_plain.proofs.Lists.{sound-mesh_under}
 use Rattle.pair_scan.proofs.Clear.{clear_exactly}
 use Rattle.obj_text.specs.Obj.{Lists, lists_of}
 use Rattle.outside_io.specs.Desk.{Files}
@@ -34,16 +35,19 @@ none_is None h = refl
 none_is (Some pair) h = absurd (false≢true (sym h))
 
 -- ---- what the files give, where nothing is refused
-module _ (fields : Known) (files : Option Files) (mesh_name step_name : List ℕ) (decimals : ℕ) (lawful : IsLawful fields files mesh_name step_name decimals) (job : Job) (is : IsJob files mesh_name step_name decimals job) where
-  held : (name bytes : List ℕ) → IsHeld files name bytes → (s : Source) → IsSource files name s → s ≡ Bytes bytes
-  held name bytes h s source = let P : Option Files → Type 0 = λ f. IsSource f name s in fetched h.told name bytes s h.file h.small (subst P h.files_are source)
+module _ (scale : Scale) (fields : Known) (files : Option Files) (mesh_name step_name : List ℕ) (decimals : ℕ) (job : Job) (lawful : IsLawful job.scale fields files mesh_name step_name decimals) (is : IsJob scale files mesh_name step_name decimals job) where
+  held : (name bytes : List ℕ) → IsHeld job.scale files name bytes → (s : Source) → IsSource scale files name s → s ≡ Bytes bytes
+  held name bytes h s source =
+      let here : IsSource job.scale files name s = subst (λ (c : Scale). IsSource c files name s) (sym is.scale_is) source in
+      let P : Option Files → Type 0 = λ f. IsSource job.scale f name s in
+      fetched job.scale h.told name bytes s h.file h.small (subst P h.files_are here)
 
-  none_met : met_first (mesh_of_lists lawful.lists) ≡ None
+  none_met : met_first (mesh_of_lists job.scale lawful.lists) ≡ None
   none_met =
       let points = map point_at lawful.lists.points in
-      let m = mesh_of_lists lawful.lists in
-      let shaped : shape_fault (length points) lawful.lists.faces ≡ None = ap (λ n. shape_fault n lawful.lists.faces) (length-map lawful.lists.points point_at) ∙ lawful.good in
-      none_is (met_first m) ((clear_exactly m (met_first m) (sound-mesh_of points lawful.lists.faces shaped) refl).1 lawful.clear)
+      let m = mesh_of_lists job.scale lawful.lists in
+      let shaped : shape_fault job.scale (length points) lawful.lists.faces ≡ None = ap (λ n. shape_fault job.scale n lawful.lists.faces) (length-map lawful.lists.points point_at) ∙ lawful.good in
+      none_is (met_first m) ((clear_exactly m (met_first m) (sound-mesh_under job.scale points lawful.lists.faces shaped) refl).1 lawful.clear)
 
   pub job_is_clear : HasClear job lawful.lists lawful.directives
   job_is_clear = record {
@@ -70,9 +74,9 @@ input_read job lists directives clear =
     let read = clear.steps_read in
     let good = read.mesh_read in
     let files = good.lists_read in
-    ap (λ f. input_of_files job.decimals f job.step_file) files.mesh_file
-    ∙ ap (λ f. input_of_files job.decimals (Bytes files.mesh) f) files.step_file
-    ∙ ap (λ r. input_of_lists r read.steps) files.read
+    ap (λ f. input_of_files job.scale job.decimals f job.step_file) files.mesh_file
+    ∙ ap (λ f. input_of_files job.scale job.decimals (Bytes files.mesh) f) files.step_file
+    ∙ ap (λ r. input_of_lists job.scale r read.steps) files.read
     ∙ ap (λ o. input_of_shape lists o read.steps) good.good
     ∙ ap (input_of_steps lists) read.read
 
@@ -95,9 +99,9 @@ stopped_by (outcome.LogUse line) s = absurd s
 stopped_by (outcome.ProofText fault) s = absurd s
 stopped_by (outcome.ProofBad line verdict) s = absurd s
 
-module _ (fields : Known) (mesh_name step_name : List ℕ) (to : Target) (result : Outcome) (old new : World) (run : TracksCommand fields mesh_name step_name to result old new) (lawful : IsLawful fields old.holds.files mesh_name step_name to.decimals) (none : NoneFailed old new) where
+module _ (fields : Known) (scale : Scale) (mesh_name step_name : List ℕ) (to : Target) (result : Outcome) (old new : World) (run : TracksCommand scale fields mesh_name step_name to result old new) (lawful : IsLawful run.job.scale fields old.holds.files mesh_name step_name to.decimals) (none : NoneFailed old new) where
   clear : HasClear run.job lawful.lists lawful.directives
-  clear = job_is_clear fields old.holds.files mesh_name step_name to.decimals lawful run.job run.is_job
+  clear = job_is_clear scale fields old.holds.files mesh_name step_name to.decimals run.job lawful run.is_job
 
   abbrev IsEnd : Type 0
   IsEnd = (result ≡ outcome.Done) ⊎ (result ≡ outcome.NoMemory)
@@ -121,22 +125,24 @@ module _ (fields : Known) (mesh_name step_name : List ℕ) (to : Target) (result
     | inr (inr stops) ↦ without_faults (stopped_by result stops)
   ]
 
-  at_whole : AreAnswered fields true run.tracks.answers lawful.directives (start (mesh_of_lists lawful.lists)) → IsEnd
+  at_whole : AreAnswered fields true run.tracks.answers lawful.directives (start (mesh_of_lists run.job.scale lawful.lists)) → IsEnd
   at_whole answered =
       let there = lawful.taken run.tracks.answers answered in
       is_done (lawful.lists, lawful.directives, clear, there.0, there.1)
 
-  by_end : (ended : Result (Option Refusal) Stop) → result ≡ outcome_from ended → IsInputAnswered fields (is_ok ended) run.tracks.answers (input_of run.job) → IsEnd
+  by_end : (ended : Result (Option Refusal) Stop) → result ≡ outcome_from ended → IsInputAnswered run.job.scale fields (is_ok ended) run.tracks.answers (input_of run.job) → IsEnd
   by_end (Err s) is answered = without_faults (at_stop s is)
   by_end (Ok ending) is answered =
-      let P : Result Input Refusal → Type 0 = λ r. IsInputAnswered fields true run.tracks.answers r in
+      let P : Result Input Refusal → Type 0 = λ r. IsInputAnswered run.job.scale fields true run.tracks.answers r in
       at_whole (subst P (input_read run.job lawful.lists lawful.directives clear) answered clear.clear)
 
   pub ends_well : IsEnd
   ends_well = by_end run.tracks.ended run.tracks.outcome_is run.tracks.answered
 
 pub lawful_jobs_are_done : (fields : Known) → LawfulJobsAreDone fields
-lawful_jobs_are_done = ends_well
+lawful_jobs_are_done fields scale mesh_name step_name to result old new run lawful none =
+    let P : Scale → Type 0 = λ c. IsLawful c fields old.holds.files mesh_name step_name to.decimals in
+    ends_well fields scale mesh_name step_name to result old new run (subst P (sym run.is_job.scale_is) lawful) none
 
 -- ---- a try
 

@@ -4,12 +4,13 @@ use Rattle.std.proofs.lemmas.List.{length-map}
 use Rattle.grid_base.specs.Points.{point_at}
 use Rattle.mesh_base.specs.declared.PairName.{PairName}
 use Rattle.mesh_base.specs.declared.ShapeFault.{ShapeFault}
+use Rattle.mesh_base.specs.declared.Scale.{Scale}
 use Rattle.mesh_base.specs.Mesh.{Mesh, IsSound}
 use Rattle.mesh_base.specs.Sides.{IsClosed}
 use Rattle.mesh_base.specs.Valid.{IsValidSurface}
 use Rattle.mesh_plain.specs.Shape.{shape_fault}
-use Rattle.mesh_plain.proofs.Lists.{sound-mesh_of}
-use Rattle.mesh_plain.proofs.Faults.{closed-mesh_of}
+use Rattle.mesh_plain.proofs.Lists.{sound-mesh_under}
+use Rattle.mesh_plain.proofs.Faults.{closed-mesh_under}
 use Rattle.pair_scan.proofs.Clear.{clear_exactly}
 use Rattle.line_text.specs.declared.TextFault.{TextFault}
 use Rattle.obj_text.specs.Obj.{Lists, lists_of}
@@ -31,17 +32,17 @@ use Rattle.track_run.specs.Job.{log_of, log_of_input, log_of_test, replay_of}
 
 -- ---- the log of two files, of their texts and of their lists
 
-abbrev pub log_of_steps : Answers → Lists → Result (List Placed) TextFault → ExpectedLog
-log_of_steps answers lists steps = log_of_input answers (input_of_steps lists steps)
+abbrev pub log_of_steps : Scale → Answers → Lists → Result (List Placed) TextFault → ExpectedLog
+log_of_steps scale answers lists steps = log_of_input scale answers (input_of_steps lists steps)
 
-abbrev pub log_of_shape : Answers → Lists → Option ShapeFault → List ℕ → ExpectedLog
-log_of_shape answers lists fault steps = log_of_input answers (input_of_shape lists fault steps)
+abbrev pub log_of_shape : Scale → Answers → Lists → Option ShapeFault → List ℕ → ExpectedLog
+log_of_shape scale answers lists fault steps = log_of_input scale answers (input_of_shape lists fault steps)
 
-abbrev pub log_of_lists : Answers → Result Lists TextFault → List ℕ → ExpectedLog
-log_of_lists answers lists steps = log_of_input answers (input_of_lists lists steps)
+abbrev pub log_of_lists : Scale → Answers → Result Lists TextFault → List ℕ → ExpectedLog
+log_of_lists scale answers lists steps = log_of_input scale answers (input_of_lists scale lists steps)
 
-abbrev pub log_of_files : Answers → ℕ → Source → Source → ExpectedLog
-log_of_files answers decimals mesh steps = log_of_input answers (input_of_files decimals mesh steps)
+abbrev pub log_of_files : Scale → Answers → ℕ → Source → Source → ExpectedLog
+log_of_files scale answers decimals mesh steps = log_of_input scale answers (input_of_files scale decimals mesh steps)
 
 -- ---- it goes on to its end
 
@@ -49,9 +50,9 @@ pub test_left : (answers : Answers) (m : Mesh) (steps : List Placed) (o : Option
 test_left answers m steps (Some pair) = refusal_left (refusal.Meets pair)
 test_left answers m steps None = inl (one_line (mesh_line 0 m) (log_from answers steps (start m)).lines)
 
-pub input_left : (answers : Answers) (r : Result Input Refusal) → GoesOn (log_of_input answers r)
-input_left answers (Err why) = refusal_left why
-input_left answers (Ok input) = test_left answers (mesh_of_lists input.lists) input.steps (met_first (mesh_of_lists input.lists))
+pub input_left : (scale : Scale) (answers : Answers) (r : Result Input Refusal) → GoesOn (log_of_input scale answers r)
+input_left scale answers (Err why) = refusal_left why
+input_left scale answers (Ok input) = test_left answers (mesh_of_lists scale input.lists) input.steps (met_first (mesh_of_lists scale input.lists))
 
 -- ---- its lines keep their promises
 
@@ -61,27 +62,27 @@ keeps_meeting answers m steps None e sound closed =
     let good : IsValidSurface m = record { sound = sound; closed = closed; clear = (clear_exactly m None sound (sym e)).0 refl } in
     (saved_well (at_mesh m) good, keeps_told answers steps (start m) (kept_start m good))
 
-keeps_steps : (answers : Answers) (lists : Lists) (r : Result (List Placed) TextFault) → IsSound (mesh_of_lists lists) → IsClosed (mesh_of_lists lists) → LogIsSafe (at_mesh (mesh_of_lists lists)) (log_of_steps answers lists r).lines
-keeps_steps answers lists (Ok steps) sound closed = keeps_meeting answers (mesh_of_lists lists) steps (met_first (mesh_of_lists lists)) refl sound closed
-keeps_steps answers lists (Err fault) sound closed = (tt, tt)
+keeps_steps : (scale : Scale) (answers : Answers) (lists : Lists) (r : Result (List Placed) TextFault) → IsSound (mesh_of_lists scale lists) → IsClosed (mesh_of_lists scale lists) → LogIsSafe (at_mesh (mesh_of_lists scale lists)) (log_of_steps scale answers lists r).lines
+keeps_steps scale answers lists (Ok steps) sound closed = keeps_meeting answers (mesh_of_lists scale lists) steps (met_first (mesh_of_lists scale lists)) refl sound closed
+keeps_steps scale answers lists (Err fault) sound closed = (tt, tt)
 
-keeps_shape : (answers : Answers) (lists : Lists) (o : Option ShapeFault) (steps : List ℕ) → shape_fault (length lists.points) lists.faces ≡ o → LogIsSafe (at_mesh (mesh_of_lists lists)) (log_of_shape answers lists o steps).lines
-keeps_shape answers lists (Some fault) steps e = (tt, tt)
-keeps_shape answers lists None steps e =
+keeps_shape : (scale : Scale) (answers : Answers) (lists : Lists) (o : Option ShapeFault) (steps : List ℕ) → shape_fault scale (length lists.points) lists.faces ≡ o → LogIsSafe (at_mesh (mesh_of_lists scale lists)) (log_of_shape scale answers lists o steps).lines
+keeps_shape scale answers lists (Some fault) steps e = (tt, tt)
+keeps_shape scale answers lists None steps e =
     let points = map point_at lists.points in
-    let none : shape_fault (length points) lists.faces ≡ None = ap (λ n. shape_fault n lists.faces) (length-map lists.points point_at) ∙ e in
-    keeps_steps answers lists (steps_of steps) (sound-mesh_of points lists.faces none) (closed-mesh_of points lists.faces none)
+    let none : shape_fault scale (length points) lists.faces ≡ None = ap (λ n. shape_fault scale n lists.faces) (length-map lists.points point_at) ∙ e in
+    keeps_steps scale answers lists (steps_of steps) (sound-mesh_under scale points lists.faces none) (closed-mesh_under scale points lists.faces none)
 
-keeps_lists : (answers : Answers) (r : Result Lists TextFault) (steps : List ℕ) → LogIsSafe (at_mesh (mesh_read r)) (log_of_lists answers r steps).lines
-keeps_lists answers (Err fault) steps = (tt, tt)
-keeps_lists answers (Ok lists) steps = keeps_shape answers lists (shape_fault (length lists.points) lists.faces) steps refl
+keeps_lists : (scale : Scale) (answers : Answers) (r : Result Lists TextFault) (steps : List ℕ) → LogIsSafe (at_mesh (mesh_read scale r)) (log_of_lists scale answers r steps).lines
+keeps_lists scale answers (Err fault) steps = (tt, tt)
+keeps_lists scale answers (Ok lists) steps = keeps_shape scale answers lists (shape_fault scale (length lists.points) lists.faces) steps refl
 
-keeps_files : (answers : Answers) (decimals : ℕ) (mesh steps : Source) → LogIsSafe (at_mesh (mesh_in decimals mesh)) (log_of_files answers decimals mesh steps).lines
-keeps_files answers decimals (TooLong seen) steps = (tt, tt)
-keeps_files answers decimals Absent steps = (tt, tt)
-keeps_files answers decimals (Bytes mesh) (TooLong seen) = (tt, tt)
-keeps_files answers decimals (Bytes mesh) Absent = (tt, tt)
-keeps_files answers decimals (Bytes mesh) (Bytes steps) = keeps_lists answers (lists_of decimals mesh) steps
+keeps_files : (scale : Scale) (answers : Answers) (decimals : ℕ) (mesh steps : Source) → LogIsSafe (at_mesh (mesh_in scale decimals mesh)) (log_of_files scale answers decimals mesh steps).lines
+keeps_files scale answers decimals (TooLong seen) steps = (tt, tt)
+keeps_files scale answers decimals Absent steps = (tt, tt)
+keeps_files scale answers decimals (Bytes mesh) (TooLong seen) = (tt, tt)
+keeps_files scale answers decimals (Bytes mesh) Absent = (tt, tt)
+keeps_files scale answers decimals (Bytes mesh) (Bytes steps) = keeps_lists scale answers (lists_of decimals mesh) steps
 
 pub keeps_log : (answers : Answers) (job : Job) → LogIsSafe (replay_of job) (log_of job answers).lines
-keeps_log answers job = (tt, keeps_files answers job.decimals job.mesh_file job.step_file)
+keeps_log answers job = (tt, keeps_files job.scale answers job.decimals job.mesh_file job.step_file)

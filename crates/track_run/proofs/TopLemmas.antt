@@ -4,6 +4,7 @@ use Rattle.std.specs.Prelude.{◌⊎◌, IfSome, option_map}
 use Rattle.std.specs.declared.option.Option.{Option}
 use Rattle.std.specs.declared.option.Option.TheVariants.{None, Some}
 use Rattle.mesh_base.specs.declared.PairName.{PairName}
+use Rattle.mesh_base.specs.declared.Scale.{Scale}
 use Rattle.mesh_base.specs.Mesh.{Mesh}
 use Rattle.mesh_base.specs.declared.MeshLists.{MeshLists}
 use Rattle.step_text.specs.declared.Placed.{Placed}
@@ -66,9 +67,9 @@ unchanged P a b same h = let Q : Option Files → Type 0 = λ files. P (record {
 -- ---- nothing is asked
 
 -- what was read is not begun with
-none_begun : (fields : Known) (r : Result Input Refusal) → IsInputAnswered fields false [] r
-none_begun fields (Err why) = tt
-none_begun fields (Ok input) = λ clear. none_answered fields input.steps (start (mesh_of_lists input.lists))
+none_begun : (scale : Scale) (fields : Known) (r : Result Input Refusal) → IsInputAnswered scale fields false [] r
+none_begun scale fields (Err why) = tt
+none_begun scale fields (Ok input) = λ clear. none_answered fields input.steps (start (mesh_of_lists scale input.lists))
 
 -- ---- the first mesh, and then the directives
 
@@ -144,30 +145,30 @@ module _ (fields : Known) (to : Target) (m : Mesh) (steps : List Placed) where
 -- ---- the whole log
 
 -- the log of what was read
-abbrev log_of_ready : Answers → Ready → ExpectedLog
-log_of_ready answers (ready.No why) = refused why
-log_of_ready answers (ready.Yes lists steps) = log_of_test answers (given lists) steps (met_first (given lists))
+abbrev log_of_ready : Scale → Answers → Ready → ExpectedLog
+log_of_ready scale answers (ready.No why) = refused why
+log_of_ready scale answers (ready.Yes lists steps) = log_of_test answers (given scale lists) steps (met_first (given scale lists))
 
-ready_log : (answers : Answers) (r : Ready) → log_of_input answers (input_by r) ≡ log_of_ready answers r
-ready_log answers (ready.No why) = refl
-ready_log answers (ready.Yes lists steps) = ap (λ m. log_of_test answers m steps (met_first m)) (same_mesh lists)
+ready_log : (scale : Scale) (answers : Answers) (r : Ready) → log_of_input scale answers (input_by r) ≡ log_of_ready scale answers r
+ready_log scale answers (ready.No why) = refl
+ready_log scale answers (ready.Yes lists steps) = ap (λ m. log_of_test answers m steps (met_first m)) (same_mesh scale lists)
 
-module _ (fields : Known) (mesh_name step_name : List ℕ) (to : Target) where
+module _ (scale : Scale) (fields : Known) (mesh_name step_name : List ℕ) (to : Target) where
   any_job : Option Files → Job
-  any_job files = record { decimals = to.decimals; mesh_file = (some_source files mesh_name).0; step_file = (some_source files step_name).0 }
+  any_job files = record { scale = scale; decimals = to.decimals; mesh_file = (some_source scale files mesh_name).0; step_file = (some_source scale files step_name).0 }
 
-  any_is_job : (files : Option Files) → IsJob files mesh_name step_name to.decimals (any_job files)
+  any_is_job : (files : Option Files) → IsJob scale files mesh_name step_name to.decimals (any_job files)
   unfolding any_job
-  any_is_job files = record { decimals_are = refl; mesh = (some_source files mesh_name).1; steps = (some_source files step_name).1 }
+  any_is_job files = record { scale_is = refl; decimals_are = refl; mesh = (some_source scale files mesh_name).1; steps = (some_source scale files step_name).1 }
 
   abbrev pub PreparesTo : Around → Ready → Type 0
-  PreparesTo a found = Prepares (holds_of a).files mesh_name step_name to.decimals found
+  PreparesTo a found = Prepares scale (holds_of a).files mesh_name step_name to.decimals found
 
   pub prepared_at : (a : Around) (found is : Ready) → found ≡ is → PreparesTo a found → PreparesTo a is
   prepared_at a found is e p = let P : Ready → Type 0 = λ x. PreparesTo a x in subst P e p
 
   -- the first line of the log is written before a file is fetched, and is not whole
-  pub tracks_first : (a b : Around) (stop : Stop) → Says {T = Unit {0}} (First VERSION ∷ []) a b (Err stop) → AppendsPart (written_of a) (written_of b) (text_of_line (First VERSION)) → TracksJob fields mesh_name step_name to (holds_of a) (holds_of b) (Err stop)
+  pub tracks_first : (a b : Around) (stop : Stop) → Says {T = Unit {0}} (First VERSION ∷ []) a b (Err stop) → AppendsPart (written_of a) (written_of b) (text_of_line (First VERSION)) → TracksJob scale fields mesh_name step_name to (holds_of a) (holds_of b) (Err stop)
   tracks_first a b stop says part =
       let job = any_job (holds_of a).files in
       let P : Contents → Type 0 = λ w. StopsShort stop to (replay_of job) (log_of job []) (holds_of a) w in
@@ -175,8 +176,8 @@ module _ (fields : Known) (mesh_name step_name : List ℕ) (to : Target) where
         job = job;
         is_job = any_is_job (holds_of a).files;
         answers = [];
-        answered = none_begun fields (input_of job);
-        follows = unchanged P (holds_of a) (holds_of b) says.nothing_stored.files (short_line stop to (replay_of job) (First VERSION) (log_of_input [] (input_of job)) (holds_of a).files (written_of a) (written_of b) part);
+        answered = none_begun job.scale fields (input_of job);
+        follows = unchanged P (holds_of a) (holds_of b) says.nothing_stored.files (short_line stop to (replay_of job) (First VERSION) (log_of_input job.scale [] (input_of job)) (holds_of a).files (written_of a) (written_of b) part);
       }
 
   -- it is written, and then the files are read
@@ -187,34 +188,36 @@ module _ (fields : Known) (mesh_name step_name : List ℕ) (to : Target) where
       files = ap (λ (w : Contents). w.files) looks.kept ∙ first.nothing_stored.files;
     }
 
-    whole_follows : (answers : Answers) (from : Replay) (job : Job) (new : Contents) (r : Result (Option Refusal) Stop) → Follows to from (log_of_input answers (input_of job)) (holds_of c) new r → Follows to from (log_of job answers) (holds_of a) new r
-    whole_follows answers from job new (Ok ending) f = (logs_then to from (First VERSION ∷ []) (log_of_input answers (input_of job)).lines _ _ new (first_logs from) f.0, f.1)
-    whole_follows answers from job new (Err stop) f = short_then stop to from (First VERSION ∷ []) (log_of_input answers (input_of job)) _ _ new (first_logs from) f
+    whole_follows : (answers : Answers) (from : Replay) (job : Job) (new : Contents) (r : Result (Option Refusal) Stop) → Follows to from (log_of_input job.scale answers (input_of job)) (holds_of c) new r → Follows to from (log_of job answers) (holds_of a) new r
+    whole_follows answers from job new (Ok ending) f = (logs_then to from (First VERSION ∷ []) (log_of_input job.scale answers (input_of job)).lines _ _ new (first_logs from) f.0, f.1)
+    whole_follows answers from job new (Err stop) f = short_then stop to from (First VERSION ∷ []) (log_of_input job.scale answers (input_of job)) _ _ new (first_logs from) f
 
     -- nothing after it
-    pub tracks_second : (stop : Stop) → TracksJob fields mesh_name step_name to (holds_of a) (holds_of c) (Err stop)
+    pub tracks_second : (stop : Stop) → TracksJob scale fields mesh_name step_name to (holds_of a) (holds_of c) (Err stop)
     tracks_second stop =
         let job = any_job (holds_of a).files in
         record {
           job = job;
           is_job = any_is_job (holds_of a).files;
           answers = [];
-          answered = none_begun fields (input_of job);
-          follows = whole_follows [] (replay_of job) job (holds_of c) (Err stop) (short_nothing stop to (replay_of job) (log_of_input [] (input_of job)) (holds_of c) (input_left [] (input_of job)));
+          answered = none_begun job.scale fields (input_of job);
+          follows = whole_follows [] (replay_of job) job (holds_of c) (Err stop) (short_nothing stop to (replay_of job) (log_of_input job.scale [] (input_of job)) (holds_of c) (input_left [] (input_of job)));
         }
 
-    tracks_then : (answers : Answers) (found : Ready) → PreparesTo b found → (new : Contents) (r : Result (Option Refusal) Stop) → IsInputAnswered fields (is_ok r) answers (input_by found)
-        → ((job : Job) → IsReady (mesh_of_job job) found → Follows to (replay_of job) (log_of_ready answers found) (holds_of c) new r) → TracksJob fields mesh_name step_name to (holds_of a) new r
+    tracks_then : (answers : Answers) (found : Ready) → PreparesTo b found → (new : Contents) (r : Result (Option Refusal) Stop) → IsInputAnswered scale fields (is_ok r) answers (input_by found)
+        → ((job : Job) → IsReady scale (mesh_of_job job) found → Follows to (replay_of job) (log_of_ready scale answers found) (holds_of c) new r) → TracksJob scale fields mesh_name step_name to (holds_of a) new r
     tracks_then answers found p new r answered f =
         let P : ExpectedLog → Type 0 = λ t. Follows to (replay_of p.job) t (holds_of c) new r in
-        let Q : Result Input Refusal → Type 0 = λ i. IsInputAnswered fields (is_ok r) answers i in
-        let R : Option Files → Type 0 = λ files. IsJob files mesh_name step_name to.decimals p.job in
+        let Q : Result Input Refusal → Type 0 = λ i. IsInputAnswered p.job.scale fields (is_ok r) answers i in
+        let C : Scale → Type 0 = λ c. IsInputAnswered c fields (is_ok r) answers (input_by found) in
+        let R : Option Files → Type 0 = λ files. IsJob scale files mesh_name step_name to.decimals p.job in
         record {
           job = p.job;
           is_job = subst R first.nothing_stored.files p.is_job;
           answers = answers;
-          answered = subst Q (sym p.input) answered;
-          follows = whole_follows answers (replay_of p.job) p.job new r (subst P (sym (ap (log_of_input answers) p.input ∙ ready_log answers found)) (f p.job p.ready));
+          answered = subst Q (sym p.input) (subst C (sym p.is_job.scale_is) answered);
+          follows = whole_follows answers (replay_of p.job) p.job new r
+              (subst P (sym (ap (log_of_input p.job.scale answers) p.input ∙ ap (λ c. log_of_input c answers (input_by found)) p.is_job.scale_is ∙ ready_log scale answers found)) (f p.job p.ready));
         }
 
     -- the refusal that was read is written, as far as it goes
@@ -226,24 +229,24 @@ module _ (fields : Known) (mesh_name step_name : List ℕ) (to : Target) where
         unchanged P (holds_of c) (holds_of d) says.nothing_stored.files (short_line stop to from (RefusedLine why) (record { lines = []; ending = Ended (Some why) }) (holds_of c).files (written_of c) (written_of d) part)
 
     pub tracks_no : (d : Around) (why : Refusal) (r : Result (Option Refusal) Stop) → PreparesTo b (ready.No why) → Says (RefusedLine why ∷ []) c d r → OnErr r (AppendsPart (written_of c) (written_of d) (text_of_line (RefusedLine why))) → IfOk r (λ e. e ≡ Some why)
-        → TracksJob fields mesh_name step_name to (holds_of a) (holds_of d) r
+        → TracksJob scale fields mesh_name step_name to (holds_of a) (holds_of d) r
     tracks_no d why r p says part ending = tracks_then [] (ready.No why) p (holds_of d) r tt (λ job is. refusal_follows d why r (replay_of job) says part ending)
 
     -- a mesh and directives, and nothing is done with them
-    pub tracks_third : (lists : MeshLists) (steps : List Placed) (stop : Stop) → PreparesTo b (ready.Yes lists steps) → TracksJob fields mesh_name step_name to (holds_of a) (holds_of c) (Err stop)
+    pub tracks_third : (lists : MeshLists) (steps : List Placed) (stop : Stop) → PreparesTo b (ready.Yes lists steps) → TracksJob scale fields mesh_name step_name to (holds_of a) (holds_of c) (Err stop)
     tracks_third lists steps stop p =
-        tracks_then [] (ready.Yes lists steps) p (holds_of c) (Err stop) (none_begun fields (input_by (ready.Yes lists steps)))
-        (λ job is. short_nothing stop to (replay_of job) (log_of_test [] (given lists) steps (met_first (given lists))) (holds_of c) (test_left [] (given lists) steps (met_first (given lists))))
+        tracks_then [] (ready.Yes lists steps) p (holds_of c) (Err stop) (none_begun scale fields (input_by (ready.Yes lists steps)))
+        (λ job is. short_nothing stop to (replay_of job) (log_of_test [] (given scale lists) steps (met_first (given scale lists))) (holds_of c) (test_left [] (given scale lists) steps (met_first (given scale lists))))
 
     -- a mesh and directives
     pub tracks_ready : (lists : MeshLists) (steps : List Placed) (m : Mesh) (new : Contents) (r : Result (Option Refusal) Stop) → PreparesTo b (ready.Yes lists steps)
-        → m ≡ given lists → FollowsTest fields to m steps (holds_of c) new r → TracksJob fields mesh_name step_name to (holds_of a) new r
+        → m ≡ given scale lists → FollowsTest fields to m steps (holds_of c) new r → TracksJob scale fields mesh_name step_name to (holds_of a) new r
     tracks_ready lists steps m new r p same f =
         let answers = f.answers in
-        let P : Mesh → Type 0 = λ n. Follows to (at_mesh n) (log_of_test answers (given lists) steps (met_first (given lists))) (holds_of c) new r in
+        let P : Mesh → Type 0 = λ n. Follows to (at_mesh n) (log_of_test answers (given scale lists) steps (met_first (given scale lists))) (holds_of c) new r in
         let Q : Mesh → Type 0 = λ n. Follows to (at_mesh n) (log_of_test answers n steps (met_first n)) (holds_of c) new r in
         let A : Mesh → Type 0 = λ n. met_first n ≡ None → AreAnswered fields (is_ok r) answers steps (start n) in
-        tracks_then answers (ready.Yes lists steps) p new r (subst A (same ∙ sym (same_mesh lists)) f.answered) (λ job is. subst P is.mesh (subst Q same f.follows))
+        tracks_then answers (ready.Yes lists steps) p new r (subst A (same ∙ sym (same_mesh scale lists)) f.answered) (λ job is. subst P is.mesh (subst Q same f.follows))
 
 -- ---- the headline
 
@@ -321,9 +324,9 @@ faults_counted old new (Err stop.NoMemory) h = record { desk = h.desk; sink = h.
 faults_counted old new (Err stop.DeskFault) h = record { desk = h.desk; sink = h.out; desk_fault = λ e. h.desk_fault refl; sink_fault = λ e. absurd cc }
 faults_counted old new (Err stop.SinkFault) h = record { desk = h.desk; sink = h.out; desk_fault = λ e. absurd cc; sink_fault = λ e. h.sink_fault refl }
 
-pub run_ends : (fields : Known) (mesh_name step_name : List ℕ) (to : Target) (old new : World) (result : Outcome) (ended : Result (Option Refusal) Stop) → result ≡ outcome_from ended → HasCauses old new ended
-    → TracksJob fields mesh_name step_name to old.holds new.holds ended → TracksCommand fields mesh_name step_name to result old new
-run_ends fields mesh_name step_name to old new result ended e causes t = record {
+pub run_ends : (scale : Scale) (fields : Known) (mesh_name step_name : List ℕ) (to : Target) (old new : World) (result : Outcome) (ended : Result (Option Refusal) Stop) → result ≡ outcome_from ended → HasCauses old new ended
+    → TracksJob scale fields mesh_name step_name to old.holds new.holds ended → TracksCommand scale fields mesh_name step_name to result old new
+run_ends scale fields mesh_name step_name to old new result ended e causes t = record {
   job = t.job;
   is_job = t.is_job;
   tracks = record {
@@ -335,7 +338,7 @@ run_ends fields mesh_name step_name to old new result ended e causes t = record 
     promises = log_promises t.answers t.job;
     caused = is_caused t.answers t.job to result ended old.holds new.holds e t.follows;
   };
-  read_back = read_back t.answers old.holds.files mesh_name step_name to.decimals t.job t.is_job;
+  read_back = read_back scale t.answers old.holds.files mesh_name step_name to.decimals t.job t.is_job;
   faults = (let P : Outcome → Type 0 = λ o. FaultsAreCounted old new o in subst P (sym e) (faults_counted old new ended causes));
 }
 

@@ -194,21 +194,21 @@ fn track<O: Outside, F: Fn(u8, Point) -> Shift, G: Fn(Point) -> Band>(
 
 /// Tracks, converts or checks a mesh, measures, proves, verifies or replays a log, or tries a job that is made, as the words say:
 /// `track MESH STEPS PREFIX`, `convert FROM TO`, `check MESH`, `measure MESH LOG`, `prove MESH LOG`, `verify MESH LOG PROOF` or
-/// `replay MESH LOG PREFIX`, or one of these and `--large`, `--decimals N` with one digit N from 0 to 6, or both, `replay` too with `--only K`,
-/// or `try N KEY` with N from 1 to 12 and KEY below 2^32. With `--large` files, and the meshes in them, may be large: else a file has at most
-/// 67,108,864 bytes, and a mesh 65,536 vertices and 131,072 faces.
+/// `replay MESH LOG PREFIX`, or one of these and `--large`, `--decimals N` with one digit N from 0 to 6, or both, `replay` too with
+/// `--only K`, or `try N KEY` with N from 1 to 12 and KEY below 2^32. With `--large` files, and the meshes in them, may be large: else a
+/// file has at most 67,108,864 bytes, and a mesh 65,536 vertices and 131,072 faces.
 ///
-/// To track a mesh, the mesh and the steps are fetched from the desk and read, the log is written to the sink, a line at a time, and meshes
-/// are stored under the prefix, a dash, a number of at least six digits, and `.obj`. To convert it, the mesh of the one file is stored in
-/// the other, each in the format of its ending, and one line is written. To check it, a line is written for each thing that is wrong with it,
-/// and then one with their number. To try a job, N * N * N cubes are made and moved as KEY picks, and the log of that is summed up in seven
-/// lines; no file is read or stored.
+/// To track a mesh, the mesh and the steps are fetched from the desk and read, the log is written to the sink, a line at a time, and
+/// meshes are stored under the prefix, a dash, a number of at least six digits, and `.obj`. To convert it, the mesh of the one file is
+/// stored in the other, each in the format of its ending, and one line is written. To check it, a line is written for each thing that is
+/// wrong with it, and then one with their number. To try a job, N * N * N cubes are made and moved as KEY picks, and the log of that is
+/// summed up in seven lines; no file is read or stored.
 ///
 /// To measure a log, its lines are taken one after another, from the mesh on, and it is told what they did to volume and shape, up to the
 /// first that does not fit; nothing is stored. To prove it, its lines are taken so, and a certificate of each motion that they tell is
-/// written; to verify a proof, each of its certificates is checked against the motion of its line, whoever wrote it, and the number of motions
-/// is written, or the first thing that is found against one; nothing is stored. To replay it, its lines are taken so, and the meshes that they
-/// save, or the one with number K, are stored as where a mesh is tracked.
+/// written; to verify a proof, each of its certificates is checked against the motion of its line, whoever wrote it, and the number of
+/// motions is written, or the first thing that is found against one; nothing is stored. To replay it, its lines are taken so, and the
+/// meshes that they save, or the one with number K, are stored as where a mesh is tracked.
 ///
 /// All other words are taken as one of these forms with the same first word whose words are among them, or answered with Usage. A
 /// directive that drives asks the stored field that it names, and one that fits edges asks the sizing.

@@ -40,11 +40,19 @@ fn answer_to(
     out: &mut MemorySink,
 ) -> Result<Answer, NoMemory> {
     let words = words_of(alloc, words)?;
-    let Some(Command::Convert { from, to, decimals }) = command_of(alloc, &words)? else {
+    let Some(
+        Command::Convert {
+            from,
+            to,
+            scale,
+            decimals,
+        },
+    ) = command_of(alloc, &words)?
+    else {
         return Ok(Answer::NoWords);
     };
     let mut ends = Ends { desk, out };
-    Ok(match convert(alloc, from, to, decimals, &mut ends) {
+    Ok(match convert(alloc, scale, from, to, decimals, &mut ends) {
         Ok(None) => Answer::Stored,
         Ok(Some(_)) => Answer::Refused,
         Err(stop) => Answer::Stopped(stop),

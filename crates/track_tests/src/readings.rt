@@ -2,19 +2,33 @@
 use crate::ends::words_of;
 use crate::same::assert_bytes;
 use grid_base::NoMemory;
+use mesh_base::Scale;
 use std::alloc::{AllocError, Global};
 use std::process::Abort;
 use std::test::Fail;
 use track_input::{Command, LogFiles, ProofFiles, ReplayFiles, command_of};
 
+// What stands in front of the decimals.
+fn mark(scale: Scale) -> &'static str {
+    match scale {
+        Scale::Standard => "",
+        Scale::Large => "large ",
+    }
+}
+
 fn measured(alloc: Global, word: &str, files: &LogFiles) -> Result<String, AllocError> {
-    format!(in alloc; "{word} {} {} {}", files.mesh, files.log, files.decimals)
+    let mark = mark(files.scale);
+    format!(in alloc;
+        "{word} {} {} {mark}{}",
+        files.mesh, files.log, files.decimals
+    )
 }
 
 fn verified(alloc: Global, given: &ProofFiles) -> Result<String, AllocError> {
     let files = &given.files;
+    let mark = mark(files.scale);
     format!(in alloc;
-        "verify {} {} {} {}",
+        "verify {} {} {} {mark}{}",
         files.mesh, files.log, given.proof, files.decimals
     )
 }
@@ -23,12 +37,13 @@ fn replayed(alloc: Global, given: &ReplayFiles) -> Result<String, AllocError> {
     let LogFiles {
         mesh,
         log,
+        scale,
         decimals,
     } = given.files;
-    let prefix = given.prefix;
+    let (prefix, mark) = (given.prefix, mark(scale));
     match given.only {
-        None => format!(in alloc; "replay {mesh} {log} {prefix} {decimals}"),
-        Some(k) => format!(in alloc; "replay {mesh} {log} {prefix} {decimals} {k}"),
+        None => format!(in alloc; "replay {mesh} {log} {prefix} {mark}{decimals}"),
+        Some(k) => format!(in alloc; "replay {mesh} {log} {prefix} {mark}{decimals} {k}"),
     }
 }
 
@@ -39,17 +54,34 @@ fn told(alloc: Global, command: &Command) -> Result<String, AllocError> {
             mesh,
             steps,
             prefix,
+            scale,
             decimals,
-        } => format!(in alloc; "track {mesh} {steps} {prefix} {decimals}"),
-        Command::Convert { from, to, decimals } => {
-            format!(in alloc; "convert {} {} {decimals}", from.name, to.name)
+        } => {
+            let mark = mark(*scale);
+            format!(in alloc; "track {mesh} {steps} {prefix} {mark}{decimals}")
+        }
+        Command::Convert {
+            from,
+            to,
+            scale,
+            decimals,
+        } => {
+            let mark = mark(*scale);
+            format!(in alloc; "convert {} {} {mark}{decimals}", from.name, to.name)
         }
         Command::Try { cubes, key } => format!(in alloc; "try {cubes} {key}"),
         Command::Measure(files) => measured(alloc, "measure", files),
         Command::Prove(files) => measured(alloc, "prove", files),
         Command::Verify(given) => verified(alloc, given),
         Command::Replay(given) => replayed(alloc, given),
-        Command::Check { mesh, decimals } => format!(in alloc; "check {} {decimals}", mesh.name),
+        Command::Check {
+            mesh,
+            scale,
+            decimals,
+        } => {
+            let mark = mark(*scale);
+            format!(in alloc; "check {} {mark}{decimals}", mesh.name)
+        }
     }
 }
 
@@ -75,7 +107,7 @@ fn assert_read(
 }
 
 // Words, and what they are read as.
-const COMMANDS: [(&[&str], &str); 22] = [
+const COMMANDS: [(&[&str], &str); 30] = [
     // Listed forms.
     (&["track", "m", "s", "p"], "track m s p 0"),
     (
@@ -111,6 +143,16 @@ const COMMANDS: [(&[&str], &str); 22] = [
     ),
     (&["check", "m.obj"], "check m.obj 0"),
     (&["check", "m.ply", "--decimals", "2"], "check m.ply 2"),
+    (&["track", "m", "s", "p", "--large"], "track m s p large 0"),
+    (
+        &["verify", "m", "l", "p", "--large", "--decimals", "3"],
+        "verify m l p large 3",
+    ),
+    (
+        &["replay", "m", "l", "p", "--large", "--only", "0"],
+        "replay m l p large 0 0",
+    ),
+    (&["check", "m.obj", "--large"], "check m.obj large 0"),
     // Words that are taken as these.
     (
         &["track", "--decimals", "3", "m", "s", "p"],
@@ -127,6 +169,19 @@ const COMMANDS: [(&[&str], &str); 22] = [
     ),
     (&["replay", "--only=7", "m", "l", "p"], "replay m l p 0 7"),
     (&["try", "--", "2", "7"], "try 2 7"),
+    (
+        &["convert", "--large", "m.obj", "n.ply", "--decimals", "2"],
+        "convert m.obj n.ply large 2",
+    ),
+    (&["measure", "m", "--large", "l"], "measure m l large 0"),
+    (
+        &["prove", "--decimals=2", "m", "l", "--large"],
+        "prove m l large 2",
+    ),
+    (
+        &["replay", "--only=7", "m", "--large", "l", "p"],
+        "replay m l p large 0 7",
+    ),
 ];
 
 #[test]
@@ -137,7 +192,7 @@ fn words_are_read_as_commands(rt: HostRuntime) -> Result<(), Fail> {
     Ok(())
 }
 
-const NO_COMMANDS: [&[&str]; 32] = [
+const NO_COMMANDS: [&[&str]; 36] = [
     &[],
     &["track"],
     &["Track", "m", "s", "p"],
@@ -151,6 +206,9 @@ const NO_COMMANDS: [&[&str]; 32] = [
     &["track", "m", "s", "p", "--decimals", "03"],
     &["track", "m", "s", "p", "--decimal", "3"],
     &["track", "m", "s", "p", "--decimals", "3", "--decimals", "3"],
+    &["track", "m", "s", "p", "--large", "--large"],
+    &["track", "m", "s", "p", "--large=true"],
+    &["track", "m", "s", "p", "--", "--large"],
     &["measure", "m"],
     &["measure", "m", "-l"],
     &["measure", "m", "l", "p"],
@@ -170,6 +228,7 @@ const NO_COMMANDS: [&[&str]; 32] = [
     &["try", "2", "-1"],
     &["try", "2", "4294967296"],
     &["try", "2", "7", "7"],
+    &["try", "2", "7", "--large"],
 ];
 
 #[test]

@@ -1,5 +1,5 @@
 //! Files with one line, each with the log that its run writes; edges and triangles that meet, and such that do not; and files at the limits.
-use crate::runs::{MESH, assert_ends};
+use crate::runs::{MESH, assert_ends, assert_ends_of};
 use crate::same::assert_same;
 use grid_base::NoMemory;
 use std::alloc::Global;
@@ -185,6 +185,16 @@ fn files_at_the_limits_are_taken_and_beyond_them_refused(rt: HostRuntime) -> Res
     for (parts, steps, status, end) in &LIMITS {
         assert_text(&rt, rt.alloc(), *parts, steps, (*status, end))?;
     }
+    Ok(())
+}
+
+const LARGE: [&str; 5] = ["track", "mesh.obj", "steps.txt", "t", "--large"];
+
+#[test]
+fn a_vertex_more_is_taken_where_a_large_mesh_is_asked_for(rt: HostRuntime) -> Result<(), Fail> {
+    let mesh = text_of(rt.alloc(), (b"", VERTEX, 65_537, b""))?;
+    let ending = (0, b"mesh 0 65537 0\nend\n".as_slice());
+    assert_ends_of(&rt, rt.alloc(), &LARGE, (mesh.as_slice(), b""), ending)?;
     Ok(())
 }
 

@@ -62,20 +62,31 @@ fn desk_with(alloc: Global, mesh: &[u8], steps: &[u8]) -> Result<MemoryDesk, NoM
     Ok(desk)
 }
 
+// The run of these words and two files has this status, and this stands behind the first line of its log.
+pub(crate) fn assert_ends_of(
+    rt: &impl Abort,
+    alloc: Global,
+    words: &[&str],
+    (mesh, steps): (&[u8], &[u8]),
+    (status, end): (u8, &[u8]),
+) -> Result<(), NoMemory> {
+    let mut desk = desk_with(alloc, mesh, steps)?;
+    let mut out = sink_of(alloc, &[])?;
+    let found = answer(alloc, words, &mut desk, &mut out)?;
+    assert_parts(rt, out.bytes(), b"topo log 2\n", end);
+    assert_same(rt, &found, &status);
+    Ok(())
+}
+
 // The run of these two files has this status, and this stands behind the first line of its log.
 pub(crate) fn assert_ends(
     rt: &impl Abort,
     alloc: Global,
     mesh: &[u8],
     steps: &[u8],
-    (status, end): (u8, &[u8]),
+    ending: (u8, &[u8]),
 ) -> Result<(), NoMemory> {
-    let mut desk = desk_with(alloc, mesh, steps)?;
-    let mut out = sink_of(alloc, &[])?;
-    let found = answer(alloc, &TRACK, &mut desk, &mut out)?;
-    assert_parts(rt, out.bytes(), b"topo log 2\n", end);
-    assert_same(rt, &found, &status);
-    Ok(())
+    assert_ends_of(rt, alloc, &TRACK, (mesh, steps), ending)
 }
 
 // The run of these words and steps has this status and writes this, and both meshes are stored.

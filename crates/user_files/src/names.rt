@@ -2,7 +2,7 @@
 ghost use Rattle.std.specs.Prelude.{◌≤◌};
 ghost use Rattle.grid_base.specs.declared.TheConstants.{DECIMALS_MAX};
 
-use mesh_base::FileWord;
+use mesh_base::{FileWord, Scale};
 use std::alloc::Global;
 use track_input::{Command, Format, LogFiles, MeshFile, command_of};
 
@@ -19,8 +19,8 @@ pub enum Work {
     Check,
 }
 
-/// The names of the files that a command reads, the format of its mesh, and the decimals of its points. A command of one file has that as
-/// each, and one without a proof the log or the steps as that: this is the name that is read last. What it stores has the prefix in front,
+/// The names of the files that a command reads, the format of its mesh, how large both may be, and the decimals of its points. A command of
+/// one file has that as each, and one without a proof the log or the steps as that: this is the name that is read last. What it stores has the prefix in front,
 /// or is a mesh of a name and a format, where it stores meshes.
 #[derive(Clone, Copy)]
 pub struct Names<'a> {
@@ -31,6 +31,7 @@ pub struct Names<'a> {
     pub prefix: Option<&'a str>,
     pub to: Option<&'a str>,
     pub stored: Format,
+    pub scale: Scale,
     pub decimals: u8,
     pub work: Work,
     ghost few: { decimals ≤ DECIMALS_MAX },
@@ -48,13 +49,14 @@ fn log_names<'a>(files: LogFiles<'a>, prefix: Option<&'a str>) -> Names<'a>
         prefix,
         to: None,
         stored: Format::Obj,
+        scale: files.scale,
         decimals: files.decimals,
         work: Work::Log,
     }
 }
 
 // The name of a mesh file that is read alone, and where it is stored, where it is.
-fn alone<'a>(mesh: MeshFile<'a>, to: Option<MeshFile<'a>>, decimals: u8) -> Names<'a>
+fn alone<'a>(mesh: MeshFile<'a>, to: Option<MeshFile<'a>>, scale: Scale, decimals: u8) -> Names<'a>
     requires { decimals ≤ DECIMALS_MAX }
 {
     let (to, stored, work) = match to {
@@ -69,6 +71,7 @@ fn alone<'a>(mesh: MeshFile<'a>, to: Option<MeshFile<'a>>, decimals: u8) -> Name
         prefix: None,
         to,
         stored,
+        scale,
         decimals,
         work,
     }
@@ -81,6 +84,7 @@ pub fn names_of(alloc: Global, words: &[String]) -> Option<Names<'_>> {
             mesh,
             steps,
             prefix,
+            scale,
             decimals,
         } => Some(Names {
             mesh,
@@ -90,10 +94,16 @@ pub fn names_of(alloc: Global, words: &[String]) -> Option<Names<'_>> {
             prefix: Some(prefix),
             to: None,
             stored: Format::Obj,
+            scale,
             decimals,
             work: Work::Steps,
         }),
-        Command::Convert { from, to, decimals } => Some(alone(from, Some(to), decimals)),
+        Command::Convert {
+            from,
+            to,
+            scale,
+            decimals,
+        } => Some(alone(from, Some(to), scale, decimals)),
         Command::Measure(files) => Some(log_names(files, None)),
         Command::Prove(files) => Some(log_names(files, None)),
         Command::Verify(given) => Some(Names {
@@ -104,11 +114,16 @@ pub fn names_of(alloc: Global, words: &[String]) -> Option<Names<'_>> {
             prefix: None,
             to: None,
             stored: Format::Obj,
+            scale: given.files.scale,
             decimals: given.files.decimals,
             work: Work::Log,
         }),
         Command::Replay(given) => Some(log_names(given.files, Some(given.prefix))),
-        Command::Check { mesh, decimals } => Some(alone(mesh, None, decimals)),
+        Command::Check {
+            mesh,
+            scale,
+            decimals,
+        } => Some(alone(mesh, None, scale, decimals)),
         Command::Try { .. } => None,
     }
 }

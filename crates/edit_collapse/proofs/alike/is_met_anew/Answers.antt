@@ -2,7 +2,7 @@ use Rattle.std.proofs.Common.{◌≡◌, Bool, true, false, cond, ◌||◌, ◌=
 use Rattle.std.proofs.lemmas.Bool.{false≢true}
 use Rattle.std.specs.Cmp.{unsigned_tied}
 use Rattle.std.specs.Ordering.{nat_cmp, eq_by_cmp}
-use Rattle.edit_collapse.specs.Alike.{corner_rank, has_met}
+use Rattle.edit_collapse.specs.Alike.{has_met}
 use Rattle.edit_collapse.proofs.alike.is_met_anew.Goals as goal
 
 opened : (a : Bool) → not a ≡ true → a ≡ false

@@ -1,6 +1,6 @@
-use Rattle.std.proofs.Common.{◌≡◌, ℕ, ◌+◌, Bool, ◌∷◌, [], List, drop, sym, subst, ap, ◌∙◌}
+use Rattle.std.proofs.Common.{◌≡◌, ℕ, ◌+◌, Bool, ◌∷◌, List, drop, sym, subst, ap, ◌∙◌}
 use Rattle.mesh_base.specs.declared.ids.Corners.{Corners}
-use Rattle.edit_collapse.specs.Alike.{AreUnlike, corner_rank, has_met, met_none}
+use Rattle.edit_collapse.specs.Alike.{AreUnlike, has_met}
 use Rattle.edit_collapse.proofs.Lists.{rest_at, ended}
 use Rattle.edit_collapse.proofs.Unlike.{none_met}
 use Rattle.edit_collapse.proofs.alike.may_be_alike.Goals as goal
