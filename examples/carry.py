@@ -1,13 +1,13 @@
 #!/usr/bin/env python3
 """Carries what is known of vertices through a log.
 
-    examples/carry.py MESH LOG PREFIX [--decimals N]
+    examples/carry.py MESH LOG PREFIX [--large] [--decimals N]
 
 In the lines `v X Y Z R G B ..` of MESH what stands after the coordinates (three numbers of a colour, say) is carried along, by what docs/FORMATS.md says
 of the ids that each line of the log makes and ends: a new vertex in the middle of an edge gets the mean of its ends, what is left of a collapsed edge the
 mean of its ends, or what is known of the one that is solid, and a copy what is known of its original. At each mesh that the log saves, the stored
 PREFIX-000000.obj, and so on, has to have the points and faces that are due, and PREFIX-000000-carried.obj is written: the same with what is known in
-the lines of its vertices. Says `carried K`, the number of meshes. Exit status 1 where a stored mesh is another.
+the lines of its vertices. Says `carried K`, the number of meshes. `--large` changes nothing. Exit status 1 where a stored mesh is another.
 """
 import argparse
 import sys
@@ -54,6 +54,7 @@ def main():
     parser.add_argument("mesh", metavar="MESH")
     parser.add_argument("log", metavar="LOG")
     parser.add_argument("prefix", metavar="PREFIX")
+    parser.add_argument("--large", action="store_true")
     parser.add_argument("--decimals", type=int, choices=range(7), default=0)
     words = parser.parse_args()
     text, log = read(words.mesh), read(words.log)

@@ -1,10 +1,11 @@
 #!/usr/bin/env python3
 """Makes the meshes of a log again, from the mesh that it began with and the log alone.
 
-    examples/replay.py MESH LOG PREFIX [--decimals N]
+    examples/replay.py MESH LOG PREFIX [--large] [--decimals N]
 
 Writes PREFIX-000000.obj and so on, as `topo track` stored them, and says `replayed K`, the number of meshes. The log is believed: each line
-is done as it says, and nothing is tested. docs/FORMATS.md says how a log is replayed. Exit status 1 where the log can not be of this mesh.
+is done as it says, and nothing is tested, so `--large` changes nothing. docs/FORMATS.md says how a log is replayed. Exit status 1 where the
+log can not be of this mesh.
 """
 import argparse
 import sys
@@ -171,6 +172,7 @@ def main():
     parser.add_argument("mesh", metavar="MESH")
     parser.add_argument("log", metavar="LOG")
     parser.add_argument("prefix", metavar="PREFIX")
+    parser.add_argument("--large", action="store_true")
     parser.add_argument("--decimals", type=int, choices=range(7), default=0)
     words = parser.parse_args()
     count = 0
