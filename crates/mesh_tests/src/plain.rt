@@ -135,7 +135,7 @@ const MANY: [(Scale, u32, u32, ShapeFault); 4] = [
     (
         Scale::Large,
         65_537,
-        131_073,
+        2,
         ShapeFault::Doubled {
             first: 1,
             second: 2,

@@ -49,12 +49,7 @@ pub enum Prepared {
 }
 
 // The text of a log, read after lists of good shape.
-fn read_lines(
-    alloc: Global,
-    scale: Scale,
-    lists: MeshLists,
-    log: &[u8],
-) -> Result<Texts, NoMemory>
+fn read_lines(alloc: Global, scale: Scale, lists: MeshLists, log: &[u8]) -> Result<Texts, NoMemory>
     requires good { AreGood scale lists }
     requires log_length { length log.now ≤ TEXT_MAX }
     ensures { IfOk result (ReadsLines scale lists log.now) }

@@ -201,7 +201,7 @@ module _ (scale : Scale) (fields : Known) (mesh_name step_name : List ℕ) (to :
           is_job = any_is_job (holds_of a).files;
           answers = [];
           answered = none_begun job.scale fields (input_of job);
-          follows = whole_follows [] (replay_of job) job (holds_of c) (Err stop) (short_nothing stop to (replay_of job) (log_of_input job.scale [] (input_of job)) (holds_of c) (input_left [] (input_of job)));
+          follows = whole_follows [] (replay_of job) job (holds_of c) (Err stop) (short_nothing stop to (replay_of job) (log_of_input job.scale [] (input_of job)) (holds_of c) (input_left job.scale [] (input_of job)));
         }
 
     tracks_then : (answers : Answers) (found : Ready) → PreparesTo b found → (new : Contents) (r : Result (Option Refusal) Stop) → IsInputAnswered scale fields (is_ok r) answers (input_by found)

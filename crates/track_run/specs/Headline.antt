@@ -188,7 +188,7 @@ pub record ChecksCommand (scale : Scale) (mesh : MeshName) (decimals : ℕ) (res
 abbrev pub Runs : Known → Option Named → Outcome → World → World → Type 0
 Runs fields None result old new = (result ≡ outcome.Usage) × (new ≡ old)
 Runs fields (Some (Track mesh steps prefix scale decimals)) result old new =
-    let to = record { prefix = prefix; decimals = decimals } in
+    let to : Target = record { prefix = prefix; decimals = decimals } in
     TracksCommand scale fields mesh steps to result old new
 Runs fields (Some (Convert from to scale decimals)) result old new =
     ConvertsCommand scale from to decimals result old new

@@ -1,4 +1,4 @@
-use Rattle.std.proofs.Common.{◌≡◌, ◌++◌, ap, ◌∙◌}
+use Rattle.std.proofs.Common.{◌++◌, ap, ◌∙◌}
 use Rattle.track_engine.specs.Effects.{edited_answers}
 use Rattle.topo_library.specs.Codes.{tracked}
 use Rattle.topo_library.proofs.Answered.{answers_fit}

@@ -1,4 +1,4 @@
-use Rattle.std.proofs.Common.{◌≡◌, ◌≤◌, Some, length, arith}
+use Rattle.std.proofs.Common.{◌≡◌, Some, length, arith}
 use Rattle.track_held.specs.Editing.{edits_asked}
 use Rattle.track_held.proofs.EditRanges.{rows_each}
 use Rattle.topo_library.proofs.editing.ask_rows.Goals as goal
