@@ -1,6 +1,5 @@
 -- The motions of a run's log pass, and so nothing is found against them.
-use Rattle.std.proofs.Common.{◌≡◌, ◌⊎◌, inl, inr, ℕ, suc, List, [], ◌∷◌, ◌++◌, length, Option, Some, None, refl, ap, sym, ◌∙◌, subst}
-use Rattle.std.proofs.lemmas.List.{length-append}
+use Rattle.std.proofs.Common.{◌≡◌, inl, inr, ℕ, suc, List, [], ◌∷◌, ◌++◌, length, Option, Some, None, refl, sym, ◌∙◌, subst}
 use Rattle.mesh_base.specs.Mesh.{Mesh}
 use Rattle.edit_base.specs.Scaffold.{Scaffold}
 use Rattle.motion_proof.specs.declared.Verdict.{Verdict}
@@ -8,12 +7,12 @@ use Rattle.motion_proof.specs.declared.Verdict.TheVariants.{Accepted, NoMotion, 
 use Rattle.log_text.specs.declared.LogLine.{LogLine}
 use Rattle.log_run.specs.States.{LogState, without_lines}
 use Rattle.log_run.specs.Fits.{LineFits}
-use Rattle.log_run.specs.Motions.{moved_in, PassesWhereMoved}
+use Rattle.log_run.specs.Motions.{PassesWhereMoved}
 use Rattle.track_log.specs.declared.refusal.LogRefusal.{LogRefusal}
 use Rattle.track_log.specs.declared.refusal.LogRefusal.TheVariants.{Input, Log, Replay, Proof, Motion}
 use Rattle.track_log.specs.Taking.{with_lines}
 use Rattle.track_prove.specs.Judged.{EndsJudged}
-use Rattle.track_prove.specs.Proving.{MakesVerdict, ProveFinds}
+use Rattle.track_prove.specs.Proving.{MakesVerdict}
 use Rattle.log_fits.proofs.Reached.{IsAtLine}
 
 -- nothing is found against a motion of which each pair passes

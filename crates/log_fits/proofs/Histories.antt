@@ -1,6 +1,6 @@
 -- The log of whatever is asked of a tracker, call after call.
-use Rattle.std.proofs.Common.{◌≡◌, ◌⊎◌, inl, inr, ℕ, suc, ◌+◌, ◌≤◌, ◌<◌, Bool, false, List, [], ◌∷◌, ◌++◌, map, length, Option, Some, None, Result, Ok, Err, refl, ap, sym, ◌∙◌, subst, arith}
-use Rattle.std.specs.List.{All, AllByRecursion}
+use Rattle.std.proofs.Common.{◌≡◌, inl, inr, ℕ, suc, ◌+◌, ◌≤◌, ◌<◌, Bool, false, List, [], ◌∷◌, ◌++◌, length, Some, refl, ap, sym, ◌∙◌, subst, arith}
+use Rattle.std.specs.List.{AllByRecursion}
 use Rattle.std.proofs.lemmas.List.{length-map, append_assoc, append-nil}
 use Rattle.std.proofs.lemmas.List.Elements.{All-nil, All-cons, All-append}
 use Rattle.grid_decided.specs.Decided.{meets_exactly}
@@ -9,14 +9,13 @@ use Rattle.mesh_base.specs.declared.Scale.{Scale}
 use Rattle.mesh_base.specs.Mesh.{Mesh}
 use Rattle.mesh_base.specs.Valid.{IsValidSurface}
 use Rattle.edit_base.specs.declared.Asked.{Asked}
-use Rattle.step_choose.specs.declared.Settings.{Settings}
 use Rattle.step_choose.specs.Settings.{AreWithinLimits}
 use Rattle.step_text.specs.declared.Directive.{Directive}
 use Rattle.step_text.specs.declared.Directive.TheVariants as directive
 use Rattle.step_text.specs.Ranges.{IsInRange, open_behind}
-use Rattle.log_text.specs.declared.TheConstants.{COUNT_MAX, VERSION}
+use Rattle.log_text.specs.declared.TheConstants.{COUNT_MAX}
 use Rattle.log_text.specs.declared.LogLine.{LogLine}
-use Rattle.log_text.specs.declared.LogLine.TheVariants.{First, Close, End}
+use Rattle.log_text.specs.declared.LogLine.TheVariants.{Close, End}
 use Rattle.log_read.specs.Laws.{IsAskedInRange}
 use Rattle.log_text.specs.Lines.{text_of_lines}
 use Rattle.log_text.proofs.LineLaws.{text_of_lines-append}
@@ -32,7 +31,7 @@ use Rattle.run_laws.proofs.Effects.{effects_in_range}
 use Rattle.run_laws.proofs.PassLines.{edits_in_range}
 use Rattle.run_laws.proofs.StepLines.{mesh_in_range}
 use Rattle.track_engine.specs.Answers.{Answer}
-use Rattle.track_engine.specs.Effects.{Effect, Proceeds, Refused, Unanswered, effect_of, close_effect, edits_effect, edited_lines, edited_mesh, after_edits, undo_effect, taken_back, mesh_line}
+use Rattle.track_engine.specs.Effects.{Effect, Proceeds, Refused, Unanswered, effect_of, close_effect, edited_lines, edited_mesh, after_edits, undo_effect, taken_back, mesh_line}
 use Rattle.track_engine.specs.Asking.{KeepsTheRun}
 use Rattle.track_engine.specs.Invariant.{IsRunInvariant}
 use Rattle.track_engine.specs.Kept.{LineHolds, LogIsSafe}
@@ -43,7 +42,7 @@ use Rattle.track_engine.proofs.Limits.{limits_next, steps_next, saved_next, limi
 use Rattle.track_engine.proofs.Passing.{edits_are}
 use Rattle.track_engine.proofs.Replayed.{effect_replayed}
 use Rattle.log_fits.specs.Fitting.{LinesFit}
-use Rattle.log_fits.specs.Histories.{Call, Does, Edits, Undoes, Sets, effect_of_call, state_left, lines_told, history, state_after, OpensFew, MayBeCalled, MayAllBeCalled, log_of_calls, CallersHaveLogs, Took, TookAll, CallersAreTold}
+use Rattle.log_fits.specs.Histories.{Call, Does, Edits, Undoes, Sets, effect_of_call, state_left, lines_told, history, state_after, OpensFew, MayBeCalled, MayAllBeCalled, CallersHaveLogs, Took, CallersAreTold}
 use Rattle.log_fits.proofs.Effects.{EffectFits, effect_fits, lines_fit}
 use Rattle.log_fits.proofs.Lines.{told, begun_behind, fits_append}
 

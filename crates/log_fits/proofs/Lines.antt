@@ -2,16 +2,13 @@
 use Rattle.std.specs.List.{AllByRecursion}
 use Rattle.std.specs.Prelude.{⊤}
 use Rattle.std.proofs.Common.{◌≡◌, ℕ, Bool, true, false, List, [], ◌∷◌, ◌++◌, map, refl, ◌∙◌}
-use Rattle.mesh_base.specs.Mesh.{Mesh}
 use Rattle.mesh_base.specs.declared.PairName.{PairName}
-use Rattle.mesh_base.specs.declared.ShiftOf.{ShiftOf}
 use Rattle.mesh_base.specs.Shifts.{Shifts}
 use Rattle.step_choose.specs.Choice.{Way}
 use Rattle.log_text.specs.declared.LogLine.{LogLine}
 use Rattle.log_text.specs.declared.LogLine.TheVariants.{Hit, Block, Move, Moved, Pass, PassFit, Did, No}
 use Rattle.log_replay.specs.Replay.{Replay, replayed, after}
 use Rattle.log_replay.specs.OfPass.{AreOfPass}
-use Rattle.log_replay.specs.Moves.{MayMove}
 use Rattle.log_replay.specs.Again.{LinesAreAgain}
 use Rattle.log_run.specs.States.{LogState, begun_after}
 use Rattle.track_engine.specs.Effects.{moving, hit_lines, block_lines, move_lines, way_lines, lines_of_step}

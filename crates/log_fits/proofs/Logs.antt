@@ -1,14 +1,11 @@
 -- Logs that were written, and their first lines.
-use Rattle.std.proofs.Common.{◌≡◌, ℕ, zero, suc, ◌<◌, List, [], ◌∷◌, take, Option, Some, None, Result, Ok, Err, refl, ap, sym, ◌∙◌, subst, arith}
+use Rattle.std.proofs.Common.{◌≡◌, ℕ, zero, suc, List, [], ◌∷◌, take, Option, Some, None, Result, Ok, Err, refl, ap, sym, subst, arith}
 use Rattle.std.proofs.lemmas.List.Elements.{All-nil, All-cons, All-take}
 use Rattle.mesh_base.specs.declared.Scale.{Scale}
 use Rattle.mesh_base.specs.Limits.{limits_of}
 use Rattle.mesh_base.specs.Mesh.{Mesh}
-use Rattle.obj_text.specs.Obj.{Lists}
 use Rattle.step_text.specs.declared.Placed.{Placed}
-use Rattle.log_text.specs.declared.TheConstants.{VERSION}
 use Rattle.log_text.specs.declared.LogLine.{LogLine}
-use Rattle.log_text.specs.declared.LogLine.TheVariants.{First}
 use Rattle.log_text.specs.Lines.{text_of_lines}
 use Rattle.log_read.specs.Reading.{log_of as lines_of_text}
 use Rattle.log_read.proofs.LogLaws.{written_logs_are_read_lem}
@@ -18,7 +15,6 @@ use Rattle.log_replay.proofs.Limits.{within_same}
 use Rattle.log_replay.specs.Again.{LineIsAgain, LinesAreAgain}
 use Rattle.log_replay.specs.Replay.{Replay, replayed, at_mesh, EachAt}
 use Rattle.log_run.specs.States.{LogState, without_lines, with_line}
-use Rattle.outside_io.specs.World.{World}
 use Rattle.run_laws.specs.Lines.{MayFollow, AreInRange}
 use Rattle.std.specs.Prelude.{IfSome}
 use Rattle.std.specs.declared.option.Option.{Option as Told}
@@ -41,13 +37,9 @@ use Rattle.track_input.specs.Job.{Job, Input, IsJob, mesh_of_lists, mesh_of_job,
 use Rattle.track_engine.specs.Answers.{Answers}
 use Rattle.track_engine.specs.Answered.{Known}
 use Rattle.track_engine.specs.Kept.{LineHolds, LogIsSafe}
-use Rattle.track_engine.specs.Saved.{Target}
-use Rattle.track_run.specs.declared.outcome.Outcome.{Outcome}
-use Rattle.track_run.specs.Causes.{HasClear}
-use Rattle.track_run.specs.Headline.{TracksCommand}
 use Rattle.track_run.specs.Job.{log_of, log_of_input, log_of_test}
 use Rattle.log_fits.specs.Fitting.{LinesFit}
-use Rattle.log_fits.specs.Logs.{IsLogOf, LogsAreRead, FirstPartsAreLogs, RunsHaveLogs}
+use Rattle.log_fits.specs.Logs.{LogsAreRead, FirstPartsAreLogs, RunsHaveLogs}
 use Rattle.log_fits.proofs.Jobs.{job_logs_fit}
 use Rattle.log_fits.proofs.Measured.{mesh_is}
 

@@ -1,13 +1,10 @@
 -- The logs of runs are measured.
-use Rattle.std.proofs.Common.{◌≡◌, ◌⊎◌, inl, inr, ℕ, Bool, true, false, List, [], ◌∷◌, ◌++◌, length, map, Option, Some, None, Result, Ok, Err, refl, ap, sym, ◌∙◌, subst}
+use Rattle.std.proofs.Common.{◌≡◌, ◌⊎◌, inl, inr, ℕ, Bool, true, false, List, [], ◌∷◌, Option, None, Result, Ok, Err, refl, ap, sym, ◌∙◌, subst}
 use Rattle.std.specs.Prelude.{MatchBool}
 use Rattle.std.specs.FinMap as finite
-use Rattle.grid_base.specs.declared.TheConstants.{DEPTH_MAX}
-use Rattle.mesh_base.specs.declared.How.{How}
 use Rattle.mesh_base.specs.Mesh.{Mesh}
-use Rattle.obj_text.specs.Obj.{Lists, lists_of}
+use Rattle.obj_text.specs.Obj.{Lists}
 use Rattle.step_text.specs.declared.Placed.{Placed}
-use Rattle.log_text.specs.declared.TheConstants.{VERSION}
 use Rattle.log_text.specs.declared.LogLine.{LogLine}
 use Rattle.log_text.specs.declared.LogLine.TheVariants as line
 use Rattle.log_text.specs.Lines.{text_of_lines}
@@ -15,13 +12,12 @@ use Rattle.log_read.specs.Reading.{log_of as lines_of_text}
 use Rattle.log_replay.specs.Replay.{Replay}
 use Rattle.log_replay.specs.Again.{LineIsAgain, LinesAreAgain}
 use Rattle.log_run.specs.States.{LogState, with_line, without_lines}
-use Rattle.log_run.specs.Fits.{LineFits}
 use Rattle.outside_io.specs.declared.stop.Stop.{Stop}
 use Rattle.outside_io.specs.declared.stop.Stop.TheVariants as stop
 use Rattle.outside_io.specs.World.{World}
-use Rattle.track_input.specs.Source.{Source, Bytes}
+use Rattle.track_input.specs.Source.{Bytes}
 use Rattle.track_input.specs.Words.{LogNames}
-use Rattle.track_input.specs.Job.{Job, mesh_of_lists, mesh_of_job, mesh_in, mesh_read, met_first}
+use Rattle.track_input.specs.Job.{Job, mesh_of_lists, mesh_of_job, mesh_in, mesh_read}
 use Rattle.track_log.specs.declared.LogRefusal.{LogRefusal}
 use Rattle.track_log.specs.LogJob.{LogJob, LogInput, read_of_files, read_of_lists, read_of_shape, read_of_log, input_of_test, input_of_read, input_of}
 use Rattle.track_log.specs.Taking.{StepPasses, FitsTested, EachFits, AllFit}
@@ -29,12 +25,11 @@ use Rattle.track_log.specs.Ending.{EndsBy}
 use Rattle.track_measure.specs.Headline.{IsStopped}
 use Rattle.track_engine.specs.Answers.{Answers}
 use Rattle.track_engine.specs.Answered.{Known}
-use Rattle.track_engine.specs.Saved.{Target}
 use Rattle.track_run.specs.declared.outcome.Outcome.{Outcome}
 use Rattle.track_run.specs.declared.outcome.Outcome.TheVariants as outcome
 use Rattle.track_run.specs.Causes.{HasClear}
 use Rattle.track_run.specs.Complete.{NoneFailed}
-use Rattle.track_run.specs.Headline.{TracksCommand, MeasuresCommand}
+use Rattle.track_run.specs.Headline.{MeasuresCommand}
 use Rattle.track_run.specs.Job.{log_of, replay_of}
 use Rattle.track_run.specs.Outcomes.{outcome_by_log}
 use Rattle.log_fits.specs.Fitting.{LinesFit}

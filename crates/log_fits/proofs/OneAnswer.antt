@@ -1,6 +1,6 @@
 -- What a directive does, by the one answer that there is.
-use Rattle.std.proofs.Common.{◌≡◌, ℕ, Bool, true, false, not, ◌||◌, cond, List, [], ◌∷◌, ◌++◌, map, Option, Some, None, Result, Ok, Err, refl, ap, sym, ◌∙◌, subst}
-use Rattle.std.specs.Prelude.{if◌then◌else◌, IsSome, is_some}
+use Rattle.std.proofs.Common.{◌≡◌, ℕ, Bool, true, false, not, ◌||◌, cond, List, [], ◌∷◌, ◌++◌, map, Option, Some, None, Ok, refl, ap, sym, ◌∙◌, subst}
+use Rattle.std.specs.Prelude.{if◌then◌else◌, IsSome}
 use Rattle.std.specs.Option.{option_map}
 use Rattle.std.specs.List.{find, AllByRecursion}
 use Rattle.std.specs.FinMap as finite
@@ -19,20 +19,18 @@ use Rattle.mesh_field.specs.Stored.{place_of}
 use Rattle.mesh_sizing.specs.declared.sizing.Band.{Band}
 use Rattle.mesh_sizing.specs.declared.sizing.Want.{Want}
 use Rattle.mesh_sizing.specs.Sizes.{want_of}
-use Rattle.edit_base.specs.declared.Asked.{Asked}
 use Rattle.edit_any.specs.Dispatch.{answer_to}
 use Rattle.step_text.specs.declared.Directive.{Directive}
 use Rattle.step_text.specs.declared.Directive.TheVariants.{Drive, Fit}
 use Rattle.run_laws.proofs.Names.{live_keys}
-use Rattle.log_text.specs.declared.LogLine.{LogLine}
 use Rattle.log_text.specs.declared.LogLine.TheVariants.{PassFit}
 use Rattle.pass_run.specs.Candidates.{length_squared}
 use Rattle.pass_run.specs.PassLines.{PassRules, lines_asked, mesh_asked, lines_of, mesh_from, ends, lines_from, mesh_after_all}
-use Rattle.pass_run.specs.Fits.{call_of, call_in, choice_by, turn_of, fit_rules, IsWanted, AreWanted, fit_lines, mesh_after_fit}
+use Rattle.pass_run.specs.Fits.{call_of, call_in, choice_by, turn_of, fit_rules, IsWanted, AreWanted}
 use Rattle.track_engine.specs.State.{State, is_open}
 use Rattle.track_engine.specs.Answers.{Answer, Nothing, NoSuchField, FieldShifts, Wanted, WantedOfFirst}
 use Rattle.track_engine.specs.Answered.{Known, AreAnswersOf, IsAnswerOf, IsAnswerToFit, IsAnswer}
-use Rattle.track_engine.specs.Effects.{Effect, Proceeds, summed, is_beyond, first_beyond, summed_unless_solid, all_summed, sum_or_range, sum_of_all, shift_effect, drive_effect, fit_effect, fitted_lines, fitted_mesh, after_lines, effect_of}
+use Rattle.track_engine.specs.Effects.{Proceeds, summed, is_beyond, first_beyond, summed_unless_solid, all_summed, sum_or_range, sum_of_all, shift_effect, drive_effect, fit_effect, fitted_lines, fitted_mesh, after_lines, effect_of}
 use Rattle.track_engine.specs.Invariant.{IsRunInvariant}
 use Rattle.log_fits.specs.OneLog.{HaveOneAnswer}
 

@@ -1,5 +1,5 @@
 -- A job has one log, where fields and sizing have one answer.
-use Rattle.std.proofs.Common.{◌≡◌, ℕ, Bool, true, false, List, [], ◌∷◌, length, Option, Some, None, Result, Ok, Err, refl, ap, sym, ◌∙◌}
+use Rattle.std.proofs.Common.{◌≡◌, ℕ, true, List, [], ◌∷◌, length, Option, Some, None, Result, Ok, Err, refl, ap, sym, ◌∙◌}
 use Rattle.std.proofs.lemmas.Bool.{false≢true}
 use Rattle.mesh_base.specs.declared.PairName.{PairName}
 use Rattle.mesh_base.specs.declared.Scale.{Scale}
@@ -14,17 +14,16 @@ use Rattle.step_text.specs.Steps.{steps_of}
 use Rattle.log_text.specs.declared.TheConstants.{VERSION}
 use Rattle.log_text.specs.declared.LogLine.{LogLine}
 use Rattle.log_text.specs.declared.LogLine.TheVariants.{First}
-use Rattle.log_text.specs.declared.Refusal.{Refusal}
 use Rattle.track_input.specs.Source.{Source, Bytes, Absent, TooLong}
-use Rattle.track_input.specs.Job.{Job, Input, input_of_files, input_of_lists, input_of_shape, input_of_steps, mesh_of_lists, met_first}
+use Rattle.track_input.specs.Job.{input_of_files, input_of_lists, input_of_shape, input_of_steps, mesh_of_lists, met_first}
 use Rattle.track_engine.specs.State.{State, start}
-use Rattle.track_engine.specs.Answers.{Answer, Answers}
+use Rattle.track_engine.specs.Answers.{Answers}
 use Rattle.track_engine.specs.Answered.{Known, AreAnswered}
 use Rattle.track_engine.specs.Effects.{Effect, Proceeds, Refused, Unanswered, ExpectedLog, effect_of, and_then, with_log, log_from, mesh_line}
 use Rattle.track_engine.specs.Invariant.{IsRunInvariant}
 use Rattle.track_engine.proofs.Keeping.{kept_next, kept_start}
 use Rattle.track_run.specs.Answered.{IsInputAnswered}
-use Rattle.track_run.specs.Job.{log_of, log_of_test, log_of_input}
+use Rattle.track_run.specs.Job.{log_of_test, log_of_input}
 use Rattle.log_fits.specs.OneLog.{HaveOneAnswer, JobsHaveOneLog}
 use Rattle.track_log.proofs.ValidInputs.{valid_where_clear}
 use Rattle.log_fits.proofs.OneAnswer.{effects_alike}

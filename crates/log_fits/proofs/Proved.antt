@@ -1,5 +1,5 @@
 -- The logs of runs are proved, and their proofs verified.
-use Rattle.std.proofs.Common.{◌≡◌, ◌⊎◌, inl, inr, ℕ, suc, ◌+◌, ◌≤◌, ◌<◌, ◌^◌, List, [], ◌∷◌, ◌++◌, length, Option, Some, None, Result, Ok, Err, refl, ap, sym, ◌∙◌, subst, arith}
+use Rattle.std.proofs.Common.{◌≡◌, ◌⊎◌, inl, inr, ℕ, suc, ◌≤◌, List, [], ◌∷◌, ◌++◌, length, Option, Some, None, Result, Ok, Err, refl, ap, sym, ◌∙◌, subst, arith}
 use Rattle.std.specs.Prelude.{IfSome}
 use Rattle.mesh_base.specs.Mesh.{Mesh, IsSound}
 use Rattle.mesh_base.specs.Valid.{IsValidSurface}
@@ -16,14 +16,14 @@ use Rattle.proof_text.specs.declared.ProofAt.{ProofAt}
 use Rattle.proof_text.specs.Plain.{PlainProof}
 use Rattle.proof_text.specs.Lines.{text_of}
 use Rattle.proof_text.specs.Order.{proofs_of}
-use Rattle.proof_text.specs.Views.{entries_view, proof_view, proofs_view}
+use Rattle.proof_text.specs.Views.{entries_view, proofs_view}
 use Rattle.proof_text.proofs.TextLaws.{proofs_are_their_texts_lem}
 use Rattle.log_text.specs.declared.LogLine.{LogLine}
 use Rattle.log_text.specs.declared.TheConstants.{COUNT_MAX}
 use Rattle.log_text.specs.Lines.{text_of_lines}
 use Rattle.log_read.specs.Reading.{log_of as lines_of_text}
 use Rattle.log_replay.specs.Again.{LinesAreAgain}
-use Rattle.log_run.specs.States.{LogState, without_lines}
+use Rattle.log_run.specs.States.{without_lines}
 use Rattle.log_run.specs.Laws.{IsValidState}
 use Rattle.log_run.specs.Motions.{moved_in, motions_of}
 use Rattle.log_run.proofs.StepMoves.{none_moves}
@@ -31,33 +31,29 @@ use Rattle.log_run.proofs.MotionLaws.{fitting_passes}
 use Rattle.outside_io.specs.declared.stop.Stop.{Stop}
 use Rattle.outside_io.specs.declared.stop.Stop.TheVariants as stop
 use Rattle.outside_io.specs.Desk.{Files}
-use Rattle.outside_io.specs.World.{World}
 use Rattle.track_input.specs.Source.{Bytes, IsSource}
-use Rattle.track_input.specs.Words.{LogNames, ProofNames}
+use Rattle.track_input.specs.Words.{LogNames}
 use Rattle.track_input.specs.Job.{Job, mesh_of_lists, mesh_of_job}
 use Rattle.track_log.specs.declared.LogRefusal.{LogRefusal}
-use Rattle.track_log.specs.LogJob.{LogJob, IsLogJob, LogInput, input_of, fetched_of, read_of_lists, read_of_shape, read_of_log, input_of_test, input_of_read}
+use Rattle.track_log.specs.LogJob.{LogJob, IsLogJob, input_of, fetched_of, read_of_lists, read_of_shape, read_of_log, input_of_test}
 use Rattle.track_log.specs.Taking.{with_lines}
 use Rattle.track_log.proofs.PrepareLemmas.{few_lines}
 use Rattle.track_engine.specs.Answers.{Answers}
 use Rattle.track_engine.specs.Answered.{Known}
 use Rattle.track_engine.specs.Kept.{LogIsSafe}
-use Rattle.track_engine.specs.Saved.{Target}
 use Rattle.track_prove.specs.Judged.{EndsJudged}
-use Rattle.track_prove.specs.Proving.{IsProofOf, AreProofsOf, IsProofText, ProveEnds, ProveFinds}
-use Rattle.track_prove.specs.Verifying.{FoundOf, IsVerdictOn, proof_at, beyond, ProofJob, ProofInput, fetched_with_proof, read_with_proof, read_of_bytes, with_proofs, proof_input_of_read, proof_input_of, VerifyFinds, VerifyEnds}
+use Rattle.track_prove.specs.Proving.{IsProofOf, AreProofsOf, ProveEnds, ProveFinds}
+use Rattle.track_prove.specs.Verifying.{FoundOf, IsVerdictOn, proof_at, beyond, ProofJob, fetched_with_proof, read_with_proof, read_of_bytes, with_proofs, proof_input_of_read, proof_input_of, VerifyFinds, VerifyEnds}
 use Rattle.track_prove.specs.Headline.{IsToldBy}
 use Rattle.track_prove.proofs.Alike.{one_verdict}
 use Rattle.track_run.specs.declared.outcome.Outcome.{Outcome}
 use Rattle.track_run.specs.declared.outcome.Outcome.TheVariants as outcome
 use Rattle.track_run.specs.Causes.{HasClear}
-use Rattle.track_run.specs.Complete.{NoneFailed}
-use Rattle.track_run.specs.Headline.{TracksCommand, ProvesCommand, VerifiesCommand}
 use Rattle.track_run.specs.Job.{log_of, replay_of}
 use Rattle.track_run.specs.Outcomes.{outcome_by_log}
 use Rattle.log_fits.specs.Fitting.{LinesFit}
 use Rattle.log_fits.specs.Measured.{IsWithLogOf}
-use Rattle.log_fits.specs.Proved.{LogsOfRunsAreProved, ProofsOfRunsAreVerified, log_input_of}
+use Rattle.log_fits.specs.Proved.{LogsOfRunsAreProved, ProofsOfRunsAreVerified}
 use Rattle.log_fits.proofs.Certified.{nothing_against, ends_well}
 use Rattle.log_fits.proofs.Jobs.{job_logs_fit}
 use Rattle.track_log.proofs.ValidInputs.{valid_mesh}

@@ -1,38 +1,32 @@
 -- The certificates of a run's log are in the ranges of a text of certificates, so that their text is read as them.
-use Rattle.std.proofs.Common.{◌≡◌, ℕ, zero, suc, ◌+◌, ◌≤◌, ◌<◌, ◌^◌, List, [], ◌∷◌, ◌++◌, length, map, Option, Some, None, refl, ap, sym, ◌∙◌, subst, arith}
-use Rattle.std.specs.Prelude.{⊤, All}
+use Rattle.std.proofs.Common.{◌≡◌, ℕ, zero, suc, ◌+◌, ◌≤◌, List, [], ◌∷◌, length, map, Option, Some, None, refl, ap, sym, subst, arith}
 use Rattle.std.specs.List.{AllByRecursion}
 use Rattle.std.specs.List.Sorted.{IsStrictlySortedBy}
 use Rattle.std.specs.Ordering.{nat_cmp}
 use Rattle.grid_base.specs.declared.TheConstants.{DEPTH_MAX}
 use Rattle.mesh_base.specs.declared.PairName.{PairName}
 use Rattle.mesh_base.specs.Mesh.{Mesh, IsSound}
-use Rattle.mesh_base.specs.Pairs.{Pair, IsPair, name_cmp}
+use Rattle.mesh_base.specs.Pairs.{name_cmp}
 use Rattle.edit_base.specs.Scaffold.{Scaffold, motion_of}
 use Rattle.edit_scaffold.specs.Made.{claim_of}
 use Rattle.motion_proof.specs.declared.Entry.{Entry}
 use Rattle.motion_proof.specs.declared.Tree.{Tree}
 use Rattle.motion_proof.specs.declared.Tree.TheVariants.{Leaf, Halves'}
-use Rattle.motion_proof.specs.Acceptance.{IsAccepted, NamesPair}
+use Rattle.motion_proof.specs.Acceptance.{NamesPair}
 use Rattle.motion_proof.specs.Trees.{FitsIn}
-use Rattle.motion_proof.specs.Making.{AreByRule}
 use Rattle.motion_proof.proofs.MakeSteps.{by_rule_accepted, made_fits}
 use Rattle.log_text.specs.declared.TheConstants.{COUNT_MAX}
 use Rattle.log_text.specs.declared.LogLine.{LogLine}
-use Rattle.log_read.specs.Laws.{IsFrom, IsPairInRange}
+use Rattle.log_read.specs.Laws.{IsFrom}
 use Rattle.run_laws.proofs.Names.{pairs_in_range}
 use Rattle.proof_text.specs.declared.ProofAt.{ProofAt}
-use Rattle.proof_text.specs.Plain.{PlainTree, PlainEntry, PlainProof}
-use Rattle.proof_text.specs.Views.{tree_view, entry_view, entries_view, proof_view, proofs_view}
+use Rattle.proof_text.specs.Views.{tree_view, entries_view, proof_view, proofs_view}
 use Rattle.proof_text.specs.Laws.{Fits, IsEntry, IsProof, AreProofs}
 use Rattle.std.proofs.lemmas.Bool.Decides.{nat_tests}
 use Rattle.std.proofs.lemmas.List.Elements.{All-from_recursion, recursion_from_All}
 use Rattle.std.specs.Prelude.{IfSome, MatchBool, Bool, true, false}
 use Rattle.std.specs.declared.cmp.Ordering.TheVariants.{Less}
-use Rattle.edit_base.specs.declared.Change.{Change}
 use Rattle.edit_any.specs.Answered.{asked_of, IsAnswered}
-use Rattle.edit_any.specs.Dispatch.{scaffold_of}
-use Rattle.edit_scaffold.specs.Made.{IsDone}
 use Rattle.log_text.specs.declared.LogLine.TheVariants as line
 use Rattle.log_run.specs.States.{LogState, with_line}
 use Rattle.log_run.specs.Fits.{LineFits}

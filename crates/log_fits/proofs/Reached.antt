@@ -1,7 +1,5 @@
 -- Where a replay of a run's log stands before one of its lines.
-use Rattle.std.proofs.Common.{◌≡◌, ℕ, List, [], ◌∷◌, ◌++◌, refl, ap, sym, ◌∙◌, subst}
-use Rattle.grid_base.specs.declared.TheConstants.{DEPTH_MAX}
-use Rattle.mesh_base.specs.Mesh.{Mesh}
+use Rattle.std.proofs.Common.{◌≡◌, List, [], ◌∷◌, ◌++◌, subst}
 use Rattle.log_text.specs.declared.LogLine.{LogLine}
 use Rattle.log_text.specs.declared.LogLine.TheVariants as line
 use Rattle.log_replay.specs.Replay.{Replay}

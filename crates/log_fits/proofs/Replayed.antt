@@ -1,9 +1,6 @@
 -- The logs of runs are replayed.
 use Rattle.std.proofs.Common.{◌≡◌, ◌⊎◌, inl, inr, ℕ, List, Option, Some, None, Result, Ok, Err, refl, ap, sym, ◌∙◌, subst}
 use Rattle.std.specs.Prelude.{IsErr}
-use Rattle.mesh_base.specs.Mesh.{Mesh}
-use Rattle.obj_text.specs.Obj.{Lists}
-use Rattle.step_text.specs.declared.Placed.{Placed}
 use Rattle.log_text.specs.declared.LogLine.{LogLine}
 use Rattle.log_text.specs.declared.Refusal.{Refusal}
 use Rattle.log_text.specs.declared.Refusal.TheVariants as refusal

@@ -1,5 +1,4 @@
 -- The mesh on which a done edit was tested is within the laws and limits of a mesh.
-use Rattle.std.proofs.Common.{◌≡◌, ℕ, refl}
 use Rattle.std.specs.Prelude.{IfSome}
 use Rattle.mesh_base.specs.Mesh.{Mesh, IsSound}
 use Rattle.mesh_base.specs.Sides.{IsClosed}

@@ -1,7 +1,6 @@
 -- Logs of runs, measured.
 use Rattle.std.specs.Prelude.{◌≡◌, ◌⊎◌, ℕ, List}
 use Rattle.mesh_base.specs.declared.Scale.{Scale}
-use Rattle.mesh_base.specs.Mesh.{Mesh}
 use Rattle.std.specs.FinMap as finite
 use Rattle.obj_text.specs.Obj.{Lists}
 use Rattle.step_text.specs.declared.Placed.{Placed}

@@ -1,5 +1,5 @@
 -- When a job has one log, whichever run of it is looked at.
-use Rattle.std.specs.Prelude.{◌≡◌, ℕ, true, List, map, Some, None}
+use Rattle.std.specs.Prelude.{◌≡◌, ℕ, true, List, map, Some}
 use Rattle.grid_base.specs.declared.Point.{Point}
 use Rattle.grid_base.specs.declared.Shift.{Shift}
 use Rattle.mesh_base.specs.declared.Scale.{Scale}
