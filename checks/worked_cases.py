@@ -85,12 +85,11 @@ def fault_of_replay(program, case):
     fault = difference_of_files({**given, **case.stored}, made)
     if fault:
         return f"replay: {fault}"
-    words = [word for word in case.words[1:] if word != "--large"]  # the scripts know no limits
     with tempfile.TemporaryDirectory() as folder:
         put_files(folder, given)
-        ran = subprocess.run([sys.executable, REPLAYER, *words], cwd=folder, stdout=subprocess.PIPE, stderr=subprocess.PIPE, timeout=60)
+        ran = subprocess.run([sys.executable, REPLAYER, *case.words[1:]], cwd=folder, stdout=subprocess.PIPE, stderr=subprocess.PIPE, timeout=60)
         made = files_in(folder)
-        carried = subprocess.run([sys.executable, CARRIER, *words], cwd=folder, stdout=subprocess.PIPE, stderr=subprocess.PIPE, timeout=60)
+        carried = subprocess.run([sys.executable, CARRIER, *case.words[1:]], cwd=folder, stdout=subprocess.PIPE, stderr=subprocess.PIPE, timeout=60)
     for name, ended, said in (("replay", ran, "replayed"), ("carry", carried, "carried")):
         if ended.returncode != 0 or ended.stdout.decode() != f"{said} {len(case.stored)}\n":
             return f"examples/{name}.py ends with {ended.returncode} and says {(ended.stdout + ended.stderr).decode()!r}"
