@@ -1,11 +1,11 @@
 #!/usr/bin/env python3
 """The definitions of `topo` as one plain program: what `track`, `measure`, `check`, `convert` and `replay` have to answer.
 
-    reference/topo.py track MESH STEPS PREFIX [--decimals N]
-    reference/topo.py convert FROM TO [--decimals N]
-    reference/topo.py check MESH [--decimals N]
-    reference/topo.py measure MESH LOG [--decimals N]
-    reference/topo.py replay MESH LOG PREFIX [--decimals N] [--only K]
+    reference/topo.py track MESH STEPS PREFIX [--large] [--decimals N]
+    reference/topo.py convert FROM TO [--large] [--decimals N]
+    reference/topo.py check MESH [--large] [--decimals N]
+    reference/topo.py measure MESH LOG [--large] [--decimals N]
+    reference/topo.py replay MESH LOG PREFIX [--large] [--decimals N] [--only K]
 
 It is written from docs/DEFINITIONS.md and docs/FORMATS.md, in the order of the first, and is there to be read and to be compared with: the
 same status, the same standard output and the same stored meshes as the proved program, byte for byte. It looks at all pairs, in whole numbers,
@@ -18,9 +18,12 @@ from functools import lru_cache
 from itertools import combinations, count
 
 BOX, SHIFT_MAX, LENGTH_MAX = 2**28, 2**29, 2**30
-VERTICES_MAX, FACES_MAX, ID_MAX = 65_536, 131_072, 2**31
+ID_MAX = 2**31
 DEPTH_MAX, HALVINGS_MAX, PASSES_MAX, GROUPS_MAX = 10, 27, 100, 8
-FILE_MAX, FAULTS_MAX, NUMBER_MAX, COUNT_MAX = 2**26, 1_000_000, 2**32 - 1, 2**64 - 1
+FAULTS_MAX, NUMBER_MAX, COUNT_MAX = 1_000_000, 2**32 - 1, 2**64 - 1
+# The "scale" of a job: how many vertices and faces its meshes may have, and bytes a file that is read; `--large` tells the second.
+STANDARD, LARGE = {"vertices": 65_536, "faces": 131_072, "bytes": 2**26}, {"vertices": 2**22, "faces": 2**23, "bytes": 2**31 - 1}
+LIMITS = dict(STANDARD)
 
 class Refused(Exception): """A job ends here: the words behind `refused`, and the exit status."""
 class BadLine(Exception): """A line is outside its grammar: its number and the reason."""
@@ -405,9 +408,9 @@ def text_of_mesh(mesh, decimals):
 def shape_faults(points, faces):
     """All "faults of the shape" of lists, in order."""
     numbered = list(enumerate(faces, 1))
-    if len(points) > VERTICES_MAX:
+    if len(points) > LIMITS["vertices"]:
         yield f"vertices {len(points)}"
-    if len(faces) > FACES_MAX:
+    if len(faces) > LIMITS["faces"]:
         yield f"faces {len(faces)}"
     for f, corners in numbered:
         yield from (f"corner {f} {k}" for k, v in enumerate(corners, 1) if not 1 <= v <= len(points))
@@ -491,17 +494,22 @@ FORMS = {
 ONLY_IN_VERSION_2 = ("solid", "group", "close kept", "close undone", "pass fit",
                      "refused long log", "refused long proof", "refused missing log", "refused missing proof")
 RANGES = {
-    "mesh_number": (0, NUMBER_MAX), "vertices": (0, VERTICES_MAX), "faces": (0, FACES_MAX), "step_number": (1, NUMBER_MAX), "id": (1, ID_MAX),
-    "passes": (1, PASSES_MAX), "rounds": (1, 65_535), "halvings": (1, HALVINGS_MAX), "length": (0, LENGTH_MAX), "turn": (0, 3),
+    "mesh_number": (0, NUMBER_MAX), "step_number": (1, NUMBER_MAX), "id": (1, ID_MAX),
+    "passes": (1, PASSES_MAX), "halvings": (1, HALVINGS_MAX), "length": (0, LENGTH_MAX), "turn": (0, 3),
     "count": (0, COUNT_MAX), "line": (1, NUMBER_MAX), "corner": (1, 3), "coordinate": (-BOX, BOX), "component": (-SHIFT_MAX, SHIFT_MAX),
 }
 REASONS = ("noedge", "crowded", "edge", "shared", "full", "doubled", "onefan", "solid")
 WHYS = ("unknown", "short", "long", "number", "range", "corner", "continuation")
 USES = {"vertex": ["id"], "range": ["id"], "box": ["id"], "solid": ["id"], "field": []}
 
+def range_of(kind):
+    """The least and the greatest number of a kind. Counts of a mesh and rounds of impact zones, which are fewer than vertices, go by the scale."""
+    by_scale = {"vertices": (0, LIMITS["vertices"]), "faces": (0, LIMITS["faces"]), "rounds": (1, LIMITS["vertices"] - 1)}
+    return by_scale[kind] if kind in by_scale else RANGES[kind]
+
 def is_number(word, kind):
     """A number has one spelling, and a range."""
-    low, high = RANGES[kind]
+    low, high = range_of(kind)
     return re.fullmatch("0|-?[1-9][0-9]{0,20}", word) is not None and low <= int(word) <= high
 
 def are_numbers(words, kinds): return len(words) == len(kinds) and all(map(is_number, words, kinds))
@@ -654,7 +662,7 @@ class Replay:
 
 def need_room(mesh):
     """A limit on vertices, on faces or on ids is not exceeded."""
-    is_within = len(mesh.points) <= VERTICES_MAX and len(mesh.faces) <= FACES_MAX
+    is_within = len(mesh.points) <= LIMITS["vertices"] and len(mesh.faces) <= LIMITS["faces"]
     need(is_within and mesh.next_vertex <= ID_MAX + 1 and mesh.next_face <= ID_MAX + 1, NotDone("full"))
 
 # The corner that is no end of the edge.
@@ -1029,10 +1037,10 @@ class Files:
         """The text of a file, a character for each byte."""
         try:
             with open(name, "rb") as it:
-                text = it.read(FILE_MAX + 1).decode("latin-1")
+                text = it.read(LIMITS["bytes"] + 1).decode("latin-1")
         except FileNotFoundError:
             raise Refused(f"missing {word}", 11)
-        need(len(text) <= FILE_MAX, Refused(f"long {word} {len(text)}", 5))
+        need(len(text) <= LIMITS["bytes"], Refused(f"long {word} {len(text)}", 5))
         self.texts.setdefault(os.path.realpath(name), text)
         return text
     def lists(self, grammar, text):
@@ -1160,6 +1168,8 @@ def named_in(command, words):
         option, equals, value = word.partition("=")
         if word == "--" and not only_names:
             only_names = True
+        elif not only_names and word == "--large" and word not in options:
+            options[word] = True
         elif not only_names and option in ("--decimals", "--only") and option not in options:
             options[option] = value if equals else words.pop(0) if words else ""
         else:
@@ -1169,7 +1179,7 @@ def named_in(command, words):
                  and (command not in ("convert", "check") or all(name[-4:] in FORMATS for name in names))
                  and re.fullmatch("[0-6]", decimals) and re.fullmatch("0|[1-9][0-9]{0,9}", only) and int(only) <= NUMBER_MAX
                  and (command == "replay" or "--only" not in options))
-    return (names, int(decimals), int(only) if "--only" in options else None) if is_listed else None
+    return (names, "--large" in options, int(decimals), int(only) if "--only" in options else None) if is_listed else None
 
 def run(words):
     """The exit status of a run."""
@@ -1177,7 +1187,8 @@ def run(words):
     if named is None:
         sys.stderr.write(__doc__)
         return 2
-    names, decimals, only = named
+    names, is_large, decimals, only = named
+    LIMITS.update(LARGE if is_large else STANDARD)
     command, files = COMMANDS[words[0]][0], Files(decimals)
     try:
         return command(files, *names, *([only] if words[0] == "replay" else []))
