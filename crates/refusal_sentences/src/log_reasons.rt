@@ -14,7 +14,7 @@ pub(crate) const HAS_CR: &str =
 fn expected(why: TextWhy) -> &'static str {
     match why {
         TextWhy::Number =>
-            "a number is spelled otherwise than a log spells it: digits without a needless zero in front",
+            "a number is spelled otherwise than a log spells it, digits without a needless zero in front, or is above the limits (a log that was written with `--large` is read with it)",
         TextWhy::Range => "a number is too great",
         TextWhy::Short => "there are too few words, or the last line has no end",
         TextWhy::Long => "there are too many words",
@@ -54,7 +54,7 @@ fn misfit(line: &[u8]) -> &'static str {
         b"moved" => "no step is begun, or a pair of its motion fails",
         b"mesh" => "the mesh has other numbers of vertices and faces here, or a step is begun",
         b"split" | b"collapse" | b"flip" | b"zip" | b"pinch" => {
-            "the edit does not come out so here, or a step is begun"
+            "the edit does not come out so here, as where the log was written with `--large` and is read without it, or a step is begun"
         }
         b"close" => "no group is open, or a step is begun",
         b"topo" => "only the first line names the version",

@@ -201,8 +201,8 @@ fn what_is_wrong(
     }
 }
 
-/// Says what is wrong with the shape of the mesh of a text in a format, by how large it may be, with the lists that it gives where they are
-/// had. Faces are triangles, which count through polygons.
+/// Says what is wrong with the shape of the mesh of a text in a format, by how large it may be, with the lists that it gives where they
+/// are had. Faces are triangles, which count through polygons.
 pub fn shape_reason(
     alloc: Global,
     scale: Scale,

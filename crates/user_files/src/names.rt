@@ -19,9 +19,9 @@ pub enum Work {
     Check,
 }
 
-/// The names of the files that a command reads, the format of its mesh, how large both may be, and the decimals of its points. A command of
-/// one file has that as each, and one without a proof the log or the steps as that: this is the name that is read last. What it stores has the prefix in front,
-/// or is a mesh of a name and a format, where it stores meshes.
+/// The names of the files that a command reads, the format of its mesh, how large both may be, and the decimals of its points. A
+/// command of one file has that as each, and one without a proof the log or the steps as that: this is the name that is read last.
+/// What it stores has the prefix in front, or is a mesh of a name and a format, where it stores meshes.
 #[derive(Clone, Copy)]
 pub struct Names<'a> {
     pub mesh: &'a str,
