@@ -2,6 +2,7 @@ pub mod JobLogs
 mod Again
 mod CauseLemmas
 mod Agreeing
+mod Scaled
 mod ReadBack
 mod TopLemmas
 mod Completeness

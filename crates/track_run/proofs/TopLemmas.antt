@@ -57,6 +57,7 @@ use Rattle.track_run.specs.Headline.{TracksJob, TracksCommand, TriesCommand, IsW
 use Rattle.track_run.proofs.JobLogs.{test_left, input_left, keeps_log}
 use Rattle.track_run.proofs.Again.{log_again}
 use Rattle.track_run.proofs.Agreeing.{agrees_well}
+use Rattle.track_run.proofs.Scaled.{keeps_scale}
 use Rattle.track_run.proofs.ReadBack.{read_back}
 use Rattle.track_run.proofs.CauseLemmas.{CauseOf, EndsAs, log_cause, cause_ends}
 
@@ -295,6 +296,7 @@ log_promises answers job = record {
   again = log_again answers job;
   told = record { steps = step_is_told; replayed = effect_replayed };
   reached = agrees_well job answers;
+  scaled = keeps_scale job;
 }
 
 -- a whole log has no outcome of a fault

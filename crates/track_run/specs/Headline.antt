@@ -1,6 +1,7 @@
 -- The headline: what a run does.
 use Rattle.std.specs.Prelude.{◌≡◌, ◌≤◌, ◌⊎◌, ℕ, List, is_ok, Option, Some, None, Result, Ok, Err}
 use Rattle.mesh_base.specs.declared.Scale.{Scale}
+use Rattle.mesh_base.specs.Limits.{limits_of}
 use Rattle.step_text.specs.declared.Directive.{Directive}
 use Rattle.step_text.specs.declared.Directive.TheVariants as directive
 use Rattle.log_text.specs.declared.LogLine.{LogLine}
@@ -60,7 +61,9 @@ pub record DirectivesAreTold : Type 0 where
 
 -- What the log of a job promises. In every mesh that it saves no edge meets a face that shares no
 -- vertex with it, and the mesh is closed, with the live numbers that its line tells; and its text
--- is read again as that mesh, numbered anew, so that a run takes it as its own. Every motion and
+-- is read again as that mesh, numbered anew, by a job of each scale that has room for it. At each
+-- line the mesh has the limits of the job's scale, so that a run of that scale takes it as its own.
+-- Every motion and
 -- every edit that it tells begins and ends in a mesh that is sound, closed and clear, and is clear
 -- on the way: at every fraction, of a pinch above zero, of a collapse below one; a zip has none.
 -- None moves a solid vertex. All this can be done again by the log alone: each `move` line names a
@@ -73,6 +76,8 @@ pub record DirectivesAreTold : Type 0 where
 -- vertex, and none of a solid one; and the settings are within their limits.
 pub record LogPromises (job : Job) (answers : Answers) : Type 0 where
   pub safe : LogIsSafe (replay_of job) (log_of job answers).lines
+  pub scaled : (lines : List LogLine) →
+      (after (replay_of job) lines).mesh.limits ≡ limits_of job.scale
   pub again : LinesAreAgain (replay_of job) (log_of job answers).lines
   pub told : DirectivesAreTold
   pub reached : (s : State) (there : IsReached job answers s) →
