@@ -1,2 +1,3 @@
 pub mod WrittenLines
 pub mod SaidLines
+pub mod Keeping

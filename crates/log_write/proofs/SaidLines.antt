@@ -1,6 +1,5 @@
 -- Lines that the two sides of a run are told, one after another.
-use Rattle.std.proofs.Common.{◌≡◌, ℕ, List, [], ◌∷◌, ◌++◌, Result, Ok, Err, refl, sym}
-use Rattle.std.specs.declared.option.Option.{Option}
+use Rattle.std.proofs.Common.{◌≡◌, List, [], ◌∷◌, ◌++◌, Result, Ok, Err, refl, sym}
 use Rattle.log_text.specs.Lines.{text_of_line}
 use Rattle.log_text.specs.declared.LogLine.{LogLine}
 use Rattle.outside_io.specs.declared.stop.Stop.{Stop}
@@ -8,7 +7,7 @@ use Rattle.outside_io.specs.declared.stop.Stop.TheVariants.{NoMemory, DeskFault,
 use Rattle.outside_io.specs.Outside.{Around, Puts, StoresNothing}
 use Rattle.outside_io.proofs.Outsides.{nothing_unremembered, nothing_done, nothing_then, nothing_stopped, nothing_whole, nothing_forgotten}
 use Rattle.outside_io.proofs.Written.{appended-nil}
-use Rattle.log_write.specs.Written.{Written, WrittenInPart, Says}
+use Rattle.log_write.specs.Written.{Says}
 use Rattle.log_write.proofs.WrittenLines.{written_nothing, written_part, written_whole, written_line, written_then, part_then, part_more, WrittenSoFar, written_none, written_more, written_more_in_part, written_all}
 
 no_desk_whole : {T : Type 0} (x : T) → ◌≡◌ {A = Result T Stop} (Ok x) (Err DeskFault) → ⊥

@@ -18,9 +18,9 @@ use edit_any::edit;
 use edit_base::{Asked, Edit};
 use grid_base::{DEPTH_MAX, Items, NoMemory};
 use log_text::LogLine;
-use log_write::write_line;
+use log_write::Listener;
 use mesh_base::Surface;
-use outside_io::{Outside, Stop};
+use outside_io::Stop;
 use std::alloc::Global;
 
 /// What edits answer, in order.
@@ -70,7 +70,7 @@ fn line_of_edit<S: Surface>(
 }
 
 /// An edit that is asked for: it is done or not, its line is written, and what came of it is the last of the answers.
-fn take_edit<S: Surface, O: Outside>(
+fn take_edit<S: Surface, O: Listener>(
     alloc: Global,
     mesh: &mut S,
     depth: u8,
@@ -89,7 +89,7 @@ fn take_edit<S: Surface, O: Outside>(
     ensures sum { IfOk result (λ count. count.done + count.refused ≤ 1) }
 {
     let line = line_of_edit(alloc, mesh, depth, what)?;
-    write_line(alloc, outside, &line)?;
+    outside.tell(alloc, &line)?;
     let count = count_of(&line);
     if let Some(answer) = answer_in(line) {
         answers.push(answer)?;
@@ -107,7 +107,7 @@ fn take_edit<S: Surface, O: Outside>(
 /// The mesh stays closed and clear, after a stop too, and earlier marks hold. A stop is one of a pass (`pass_to`): the first lines
 /// are whole, in order, and perhaps a part of the next is there; the mesh is what the whole lines make of it, or what they and the
 /// next one make. Nothing is said of the answers then.
-pub fn edits_to<S: Surface, O: Outside>(
+pub fn edits_to<S: Surface, O: Listener>(
     alloc: Global,
     mesh: &mut S,
     terms: EditTerms,

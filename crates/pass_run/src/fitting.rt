@@ -18,10 +18,10 @@ use crate::terms::Turns;
 use edit_base::{Asked, is_edge};
 use grid_base::{DEPTH_MAX, NoMemory, Point, floor_mid};
 use log_text::LogLine;
-use log_write::write_line;
+use log_write::Listener;
 use mesh_base::{Surface, VertexId, point_of};
 use mesh_sizing::{Band, Sizing, Want};
-use outside_io::{Ends, Outside, Sink, Stop, TallyDesk};
+use outside_io::{Ends, Sink, Stop, TallyDesk};
 use std::alloc::Global;
 
 /// The edit that an edge calls for, if it stands: by its length and what the sizing says at its middle.
@@ -70,7 +70,7 @@ impl<G: Fn(Point) -> Band> Chooses for Sizing<G> {
 ///
 /// All else is as in `pass_to`: a pass that is `grouped` ends with its first `no` line; `depth` is the number of time halvings of the
 /// written test; lengths are compared by exact squares; the mesh stays closed and clear, after a stop too, and earlier marks hold.
-pub fn fit_to<S: Surface, O: Outside, G: Fn(Point) -> Band>(
+pub fn fit_to<S: Surface, O: Listener, G: Fn(Point) -> Band>(
     alloc: Global,
     mesh: &mut S,
     turns: Turns<'_, Sizing<G>>,
@@ -91,7 +91,7 @@ pub fn fit_to<S: Surface, O: Outside, G: Fn(Point) -> Band>(
         let new = stage S.mesh S.kept O.around mesh.new outside.new in
         Keeps old new result }
 {
-    write_line(alloc, outside, &LogLine::PassFit)?;
+    outside.tell(alloc, &LogLine::PassFit)?;
     let edges = splits(alloc, mesh)?;
     take_turns(alloc, mesh, turns, edges.as_slice(), outside)
 }

@@ -23,9 +23,9 @@ use crate::turns::line_of_call;
 use edit_base::{Asked, PassKind};
 use grid_base::DEPTH_MAX;
 use log_text::LogLine;
-use log_write::write_line;
+use log_write::Listener;
 use mesh_base::{Surface, edges_in_order};
-use outside_io::{Ends, Outside, Sink, Stop, TallyDesk};
+use outside_io::{Ends, Sink, Stop, TallyDesk};
 use std::alloc::Global;
 
 /// How many edits of a pass were done and how many were refused, of those that were asked for: of what still stood at its time and
@@ -92,7 +92,7 @@ pub(crate) fn is_over(grouped: bool, count: PassCount) -> bool
 
 /// What is asked, if anything: its edit, its line and its count.
 #[inline(always)]
-fn take_one<S: Surface, O: Outside>(
+fn take_one<S: Surface, O: Listener>(
     alloc: Global,
     mesh: &mut S,
     depth: u8,
@@ -111,14 +111,14 @@ fn take_one<S: Surface, O: Outside>(
         Err(_) => Err(Stop::NoMemory),
         Ok(None) => Ok(no_edit()),
         Ok(Some(line)) => {
-            write_line(alloc, outside, &line)?;
+            outside.tell(alloc, &line)?;
             Ok(count_of(&line))
         }
     }
 }
 
 /// Candidates, each in turn: what is chosen there is asked.
-pub(crate) fn take_turns<S: Surface, O: Outside, C: Chooses>(
+pub(crate) fn take_turns<S: Surface, O: Listener, C: Chooses>(
     alloc: Global,
     mesh: &mut S,
     turns: Turns<'_, C>,
@@ -149,7 +149,7 @@ pub(crate) fn take_turns<S: Surface, O: Outside, C: Chooses>(
 }
 
 /// The candidates of a kind of pass, each in turn.
-fn take_asked<S: Surface, O: Outside>(
+fn take_asked<S: Surface, O: Listener>(
     alloc: Global,
     mesh: &mut S,
     terms: PassTerms,
@@ -173,7 +173,7 @@ fn take_asked<S: Surface, O: Outside>(
 }
 
 /// What a pass over pairs of edges asks: for each edge in order, its pairs with the later edges that are near it.
-fn take_pairs<S: Surface, O: Outside>(
+fn take_pairs<S: Surface, O: Listener>(
     alloc: Global,
     mesh: &mut S,
     terms: PassTerms,
@@ -212,7 +212,7 @@ fn take_pairs<S: Surface, O: Outside>(
 }
 
 /// All that a pass asks.
-fn take_all<S: Surface, O: Outside>(
+fn take_all<S: Surface, O: Listener>(
     alloc: Global,
     mesh: &mut S,
     terms: PassTerms,
@@ -261,7 +261,7 @@ fn take_all<S: Surface, O: Outside>(
 /// the next one make.
 ///
 /// After the mesh passes of El Topo (Brochu and Bridson 2009).
-pub fn pass_to<S: Surface, O: Outside>(
+pub fn pass_to<S: Surface, O: Listener>(
     alloc: Global,
     mesh: &mut S,
     terms: PassTerms,
@@ -281,7 +281,7 @@ pub fn pass_to<S: Surface, O: Outside>(
     ensures motions { let m = S.mesh mesh.old in
         LinesKeepTheMesh (at_mesh m) (pass_lines meets_exactly terms m) }
 {
-    write_line(alloc, outside, &LogLine::Pass(terms.kind))?;
+    outside.tell(alloc, &LogLine::Pass(terms.kind))?;
     take_all(alloc, mesh, terms, outside)
 }
 

@@ -33,10 +33,10 @@ use crate::told::{StepTold, pass_untold, step_untold};
 use edit_base::PassKind;
 use grid_base::{Point, Shift};
 use log_text::LogLine;
-use log_write::write_line;
+use log_write::Listener;
 use mesh_base::{How, Surface, UseWhy};
 use mesh_sizing::Band;
-use outside_io::{Outside, Stop};
+use outside_io::Stop;
 use pass_run::{PassCount, PassTerms, pass_to};
 use std::alloc::Global;
 use step_choose::{Choice, choose_by_hits};
@@ -75,7 +75,7 @@ impl<S: Surface> Engine<S> {
 
     // A step is taken as it was chosen, and the lines of its way are written. One that is not taken whole makes the innermost open
     // group fail. An error may leave the mesh moved.
-    fn take_chosen<O: Outside>(
+    fn take_chosen<O: Listener>(
         &mut self,
         alloc: Global,
         choice: Choice,
@@ -108,7 +108,7 @@ impl<S: Surface> Engine<S> {
     /// do not pass before a way is looked for, so that who reads the log sees that it is under way. What it tells is by what
     /// its lines are written: how it is taken, and how many pairs do not pass. The engine is ready, as one of a sound,
     /// closed and clear mesh is until a directive stops, and one step more can be counted.
-    pub fn step<O: Outside>(
+    pub fn step<O: Listener>(
         &mut self,
         alloc: Global,
         outside: &mut O,
@@ -134,7 +134,7 @@ impl<S: Surface> Engine<S> {
             return Ok(Err(UseWhy::Box { v: v.0 }));
         }
         let k = self.run.steps + 1;
-        write_line(alloc, outside, &LogLine::Step { k })?;
+        outside.tell(alloc, &LogLine::Step { k })?;
         let depth = self.run.set.depth;
         let hits = self.near.asked_hits(alloc, &self.mesh, &asked, depth)?;
         say_hits(alloc, hits.as_slice(), outside)?;
@@ -148,7 +148,7 @@ impl<S: Surface> Engine<S> {
     }
 
     // The same, with nothing told.
-    fn take_step<O: Outside>(
+    fn take_step<O: Listener>(
         &mut self,
         alloc: Global,
         outside: &mut O,
@@ -172,7 +172,7 @@ impl<S: Surface> Engine<S> {
     /// Makes a pass over the mesh, each line of it written. In a group its first `no` line ends it, and makes the group
     /// fail. What it tells is how many of its lines are of done edits, and how many of refused ones. The engine is ready, as
     /// one of a sound, closed and clear mesh is until a directive stops.
-    pub fn pass<O: Outside>(
+    pub fn pass<O: Listener>(
         &mut self,
         alloc: Global,
         kind: PassKind,
@@ -203,7 +203,7 @@ impl<S: Surface> Engine<S> {
     }
 
     // The same, with nothing told.
-    fn take_pass<O: Outside>(
+    fn take_pass<O: Listener>(
         &mut self,
         alloc: Global,
         kind: PassKind,
@@ -224,7 +224,7 @@ impl<S: Surface> Engine<S> {
 
     // Does one directive to which neither a field nor the sizing answers, a drive as one of no field: its lines are written, or it is
     // refused.
-    fn take_plain<O: Outside>(
+    fn take_plain<O: Listener>(
         &mut self,
         alloc: Global,
         what: &Directive,
@@ -290,7 +290,7 @@ impl<S: Surface> Engine<S> {
     /// is taken back. The engine is ready, as one of a sound, closed and clear mesh is until a directive stops; one step and
     /// one saved mesh more can be counted; the numbers of the directive are those that a step text may give; and fields and
     /// sizing may be asked at each point.
-    pub fn advance<O: Outside, F: Fn(u8, Point) -> Shift, G: Fn(Point) -> Band>(
+    pub fn advance<O: Listener, F: Fn(u8, Point) -> Shift, G: Fn(Point) -> Band>(
         &mut self,
         alloc: Global,
         what: &Directive,

@@ -14,8 +14,9 @@ ghost use Rattle.track_engine.specs.Told.{edits_counted, pass_untold};
 use crate::engine::Engine;
 use crate::shifting::only_given;
 use edit_base::Asked;
+use log_write::Listener;
 use mesh_base::{Surface, UseWhy};
-use outside_io::{Outside, Stop};
+use outside_io::Stop;
 use pass_run::{Answers, EditTerms, PassCount, edits_to};
 use std::alloc::Global;
 
@@ -26,7 +27,7 @@ impl<S: Surface> Engine<S> {
     /// until a directive stops. Any edit may be asked for, but the line of a refused one repeats what was asked, and a log is
     /// read again only where each edge has its smaller end first and the ids are those that a log may give: that is for the
     /// caller to see to.
-    pub fn edits<O: Outside>(
+    pub fn edits<O: Listener>(
         &mut self,
         alloc: Global,
         asked: &[Asked],
@@ -61,7 +62,7 @@ impl<S: Surface> Engine<S> {
     /// Takes the innermost open group back, whether it has failed or not: its line is written, and the mesh and what is asked are
     /// again those at its opening. Nothing is done where no group is open. It is never refused. The engine is ready, as one of a
     /// sound, closed and clear mesh is until a directive stops.
-    pub fn undo<O: Outside>(
+    pub fn undo<O: Listener>(
         &mut self,
         alloc: Global,
         outside: &mut O,

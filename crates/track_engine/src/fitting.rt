@@ -13,9 +13,10 @@ use crate::engine::Engine;
 use crate::shifting::only_given;
 use crate::told::pass_untold;
 use grid_base::Point;
+use log_write::Listener;
 use mesh_base::{Surface, UseWhy};
 use mesh_sizing::{Band, Sizing};
-use outside_io::{Outside, Stop};
+use outside_io::Stop;
 use pass_run::{PassCount, Turns, fit_to};
 use std::alloc::Global;
 
@@ -24,7 +25,7 @@ impl<S: Surface> Engine<S> {
     /// the group fail. What it tells is how many of its lines are of done edits, and how many of refused ones. The engine is
     /// ready, as one of a sound, closed and clear mesh is until a directive stops, and the sizing may be asked at each
     /// point.
-    pub fn fit<O: Outside, G: Fn(Point) -> Band>(
+    pub fn fit<O: Listener, G: Fn(Point) -> Band>(
         &mut self,
         alloc: Global,
         sizing: &Sizing<G>,
@@ -53,7 +54,7 @@ impl<S: Surface> Engine<S> {
     }
 
     // The same, with nothing told.
-    pub(crate) fn take_fit<O: Outside, G: Fn(Point) -> Band>(
+    pub(crate) fn take_fit<O: Listener, G: Fn(Point) -> Band>(
         &mut self,
         alloc: Global,
         sizing: &Sizing<G>,

@@ -16,9 +16,10 @@ use crate::lines::finish;
 use crate::terms::RunTerms;
 use grid_base::{Point, Shift};
 use log_text::{LogLine, Refusal};
+use log_write::Listener;
 use mesh_base::Surface;
 use mesh_sizing::Band;
-use outside_io::{Outside, Stop};
+use outside_io::Stop;
 use std::alloc::Global;
 use step_text::Placed;
 
@@ -48,7 +49,7 @@ impl<S: Surface> Engine<S> {
     /// ready, as one of a sound, closed and clear mesh is until a directive stops; as many steps and saved meshes more can
     /// be counted as there are directives; their numbers are those that a step text may give; and fields and sizing may be
     /// asked at each point.
-    pub fn follow<O: Outside, F: Fn(u8, Point) -> Shift, G: Fn(Point) -> Band>(
+    pub fn follow<O: Listener, F: Fn(u8, Point) -> Shift, G: Fn(Point) -> Band>(
         &mut self,
         alloc: Global,
         terms: &RunTerms<'_, F, G>,

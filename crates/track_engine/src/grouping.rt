@@ -13,9 +13,9 @@ use crate::engine::Engine;
 use crate::open_group::OpenGroup;
 use grid_base::NoMemory;
 use log_text::LogLine;
-use log_write::write_line;
+use log_write::Listener;
 use mesh_base::{Surface, UseWhy};
-use outside_io::{Outside, Stop};
+use outside_io::Stop;
 use std::alloc::Global;
 
 // What is kept of a group: a mark of the mesh as it is, and a copy of what is asked.
@@ -44,7 +44,7 @@ fn group_here<S: Surface>(
 
 impl<S: Surface> Engine<S> {
     /// Opens a group: the mesh and what is asked are kept for a return, and its line is written. An error leaves the state as it was.
-    pub(crate) fn open_group<O: Outside>(
+    pub(crate) fn open_group<O: Listener>(
         &mut self,
         alloc: Global,
         outside: &mut O,
@@ -63,7 +63,7 @@ impl<S: Surface> Engine<S> {
     {
         let group = group_here(alloc, &mut self.mesh, &self.run.asked)?;
         self.run.groups.open(group)?;
-        if let Err(stop) = write_line(alloc, outside, &LogLine::Group) {
+        if let Err(stop) = outside.tell(alloc, &LogLine::Group) {
             let _ = self.run.groups.close();
             return Err(stop);
         }
@@ -72,7 +72,7 @@ impl<S: Surface> Engine<S> {
 
     /// Closes the innermost open group: its line is written, and where the group has failed, the mesh and what is asked are again those at
     /// its opening. An error leaves the state as it was. Nothing is done where no group is open.
-    pub(crate) fn close_group<O: Outside>(
+    pub(crate) fn close_group<O: Listener>(
         &mut self,
         alloc: Global,
         outside: &mut O,
@@ -92,7 +92,7 @@ impl<S: Surface> Engine<S> {
         let Some(failed) = self.run.groups.has_failed() else {
             return Ok(None);
         };
-        write_line(alloc, outside, &LogLine::Close { kept: !failed })?;
+        outside.tell(alloc, &LogLine::Close { kept: !failed })?;
         let Some(group) = self.run.groups.close() else {
             unreachable!()
         };

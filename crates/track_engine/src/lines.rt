@@ -6,8 +6,8 @@ ghost use Rattle.log_write.specs.Written.{Says};
 ghost use Rattle.track_engine.specs.Effects.{ending_of};
 
 use log_text::{LogLine, Refusal};
-use log_write::write_line;
-use outside_io::{Outside, Stop};
+use log_write::Listener;
+use outside_io::Stop;
 use std::alloc::Global;
 
 // The refusal that a last line tells, if it tells one.
@@ -21,7 +21,7 @@ fn ending_of(last: &LogLine) -> Option<Refusal>
 }
 
 /// Writes the last line of the log, and answers the refusal that it tells, if it tells one.
-pub fn finish<O: Outside>(
+pub fn finish<O: Listener>(
     alloc: Global,
     outside: &mut O,
     last: LogLine,
@@ -31,6 +31,6 @@ pub fn finish<O: Outside>(
         (written_of (O.around outside.new)) (text_of_line last)) }
     ensures ending { IfOk result (λ ending. ending ≡ ending_of last) }
 {
-    write_line(alloc, outside, &last)?;
+    outside.tell(alloc, &last)?;
     Ok(ending_of(&last))
 }

@@ -13,10 +13,10 @@ use crate::target::Target;
 use grid_base::NoMemory;
 use itoa::Buffer;
 use log_text::LogLine;
-use log_write::write_line;
+use log_write::Listener;
 use mesh_base::Surface;
 use obj_text::obj_of;
-use outside_io::{Outside, Stop};
+use outside_io::Stop;
 use std::alloc::Global;
 
 // What stands before digits that are fewer than six.
@@ -62,7 +62,7 @@ impl<S: Surface> Engine<S> {
 
     /// Saves the mesh: its line is written, and then the mesh is stored. After Ok, one mesh more is saved. One saved mesh
     /// more can be counted, and the decimals are within their limit.
-    pub fn save<O: Outside>(
+    pub fn save<O: Listener>(
         &mut self,
         alloc: Global,
         to: Target<'_>,
@@ -82,7 +82,7 @@ impl<S: Surface> Engine<S> {
     {
         let text = obj_of(alloc, &self.mesh, to.decimals)?;
         let name = file_name(alloc, to.prefix, self.run.saved)?;
-        write_line(alloc, outside, &self.mesh_line())?;
+        outside.tell(alloc, &self.mesh_line())?;
         outside.store(&name, &text)?;
         self.run.saved += 1;
         Ok(())

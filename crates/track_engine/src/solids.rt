@@ -11,14 +11,14 @@ ghost use Rattle.track_engine.specs.Ready.{IsReady};
 
 use crate::engine::Engine;
 use log_text::LogLine;
-use log_write::write_line;
+use log_write::Listener;
 use mesh_base::{Surface, UseWhy, VertexId};
-use outside_io::{Outside, Stop};
+use outside_io::Stop;
 use std::alloc::Global;
 
 impl<S: Surface> Engine<S> {
     /// Makes a vertex solid from here on: nothing is asked of it, and its line is written; or no such vertex lives.
-    pub(crate) fn take_solid<O: Outside>(
+    pub(crate) fn take_solid<O: Listener>(
         &mut self,
         alloc: Global,
         v: u32,
@@ -40,7 +40,7 @@ impl<S: Surface> Engine<S> {
             return Ok(Some(UseWhy::NoVertex { v }));
         }
         self.mesh.make_solid(id)?;
-        write_line(alloc, outside, &LogLine::Solid { v: id })?;
+        outside.tell(alloc, &LogLine::Solid { v: id })?;
         Ok(None)
     }
 }

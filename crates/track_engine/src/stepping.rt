@@ -7,25 +7,25 @@ ghost use Rattle.log_write.specs.Written.{Says};
 use crate::shifting::moves;
 use grid_base::copy_of;
 use log_text::LogLine;
-use log_write::write_line;
+use log_write::Listener;
 use mesh_base::{Ids, PairName, ShiftOf, VertexId};
-use outside_io::{Outside, Stop};
+use outside_io::Stop;
 use std::alloc::Global;
 use step_choose::Choice;
 
 // The line of a shift, where it is not zero.
-fn say_move<O: Outside>(alloc: Global, s: &ShiftOf, outside: &mut O) -> Result<(), Stop>
+fn say_move<O: Listener>(alloc: Global, s: &ShiftOf, outside: &mut O) -> Result<(), Stop>
     ensures { Says (move_lines (s.now ∷ []))
         (O.around outside.old) (O.around outside.new) result }
 {
     if !moves(s) {
         return Ok(());
     }
-    write_line(alloc, outside, &LogLine::Move(*s))
+    outside.tell(alloc, &LogLine::Move(*s))
 }
 
 // A line for each shift that is not zero.
-fn say_moves<O: Outside>(alloc: Global, asked: &[ShiftOf], outside: &mut O) -> Result<(), Stop>
+fn say_moves<O: Listener>(alloc: Global, asked: &[ShiftOf], outside: &mut O) -> Result<(), Stop>
     ensures { Says (move_lines asked.now) (O.around outside.old) (O.around outside.new) result }
 {
     for s in asked {
@@ -35,7 +35,7 @@ fn say_moves<O: Outside>(alloc: Global, asked: &[ShiftOf], outside: &mut O) -> R
 }
 
 /// A line for each pair.
-pub(crate) fn say_hits<O: Outside>(
+pub(crate) fn say_hits<O: Listener>(
     alloc: Global,
     pairs: &[PairName],
     outside: &mut O,
@@ -43,21 +43,21 @@ pub(crate) fn say_hits<O: Outside>(
     ensures { Says (hit_lines pairs.now) (O.around outside.old) (O.around outside.new) result }
 {
     for pair in pairs {
-        write_line(alloc, outside, &LogLine::Hit(*pair))?;
+        outside.tell(alloc, &LogLine::Hit(*pair))?;
     }
     Ok(())
 }
 
 // The line of a block.
-fn say_block<O: Outside>(alloc: Global, ids: &[VertexId], outside: &mut O) -> Result<(), Stop>
+fn say_block<O: Listener>(alloc: Global, ids: &[VertexId], outside: &mut O) -> Result<(), Stop>
     ensures { Says (Block ids.now ∷ []) (O.around outside.old) (O.around outside.new) result }
 {
     let ids = copy_of(alloc, ids)?;
-    write_line(alloc, outside, &LogLine::Block(ids))
+    outside.tell(alloc, &LogLine::Block(ids))
 }
 
 // A line for each block.
-fn say_blocks<O: Outside>(alloc: Global, blocks: &[Ids], outside: &mut O) -> Result<(), Stop>
+fn say_blocks<O: Listener>(alloc: Global, blocks: &[Ids], outside: &mut O) -> Result<(), Stop>
     ensures { Says (block_lines blocks.now) (O.around outside.old) (O.around outside.new) result }
 {
     for block in blocks {
@@ -67,7 +67,7 @@ fn say_blocks<O: Outside>(alloc: Global, blocks: &[Ids], outside: &mut O) -> Res
 }
 
 /// The lines of the blocks, of the shifts that are taken, and of the way.
-pub(crate) fn say_way<O: Outside>(
+pub(crate) fn say_way<O: Listener>(
     alloc: Global,
     choice: &Choice,
     outside: &mut O,
@@ -77,6 +77,6 @@ pub(crate) fn say_way<O: Outside>(
 {
     say_blocks(alloc, choice.blocks.as_slice(), outside)?;
     say_moves(alloc, choice.taken.as_slice(), outside)?;
-    write_line(alloc, outside, &LogLine::Moved(choice.how))?;
+    outside.tell(alloc, &LogLine::Moved(choice.how))?;
     Ok(())
 }

@@ -16,12 +16,12 @@ ghost use Rattle.track_run.specs.Headline.{RunsFor, TracksJob};
 use crate::outcome::Outcome;
 use grid_base::{Point, Shift};
 use log_text::{LogLine, Refusal, VERSION};
-use log_write::write_line;
+use log_write::Listener;
 use mesh_base::{Scale, Surface};
 use mesh_field::Fields;
 use mesh_journal::JournalMesh;
 use mesh_sizing::{Band, Sizing};
-use outside_io::{Desk, Ends, Outside, Sink, Stop};
+use outside_io::{Desk, Ends, Sink, Stop};
 use pair_scan::first_meeting;
 use std::alloc::Global;
 use step_text::Directives;
@@ -107,7 +107,7 @@ fn outcome_by_log(ended: Result<Option<LogRefusal>, Stop>) -> Outcome
 }
 
 // The first mesh, which is sound, closed and clear, is saved, and then the directives are followed.
-fn begin<S: Surface + Drop, O: Outside, F: Fn(u8, Point) -> Shift, G: Fn(Point) -> Band>(
+fn begin<S: Surface + Drop, O: Listener, F: Fn(u8, Point) -> Shift, G: Fn(Point) -> Band>(
     alloc: Global,
     terms: &RunTerms<'_, F, G>,
     mesh: S,
@@ -132,7 +132,7 @@ fn begin<S: Surface + Drop, O: Outside, F: Fn(u8, Point) -> Shift, G: Fn(Point) 
 }
 
 // The mesh is tested, and begun with where no edge meets a face that shares no vertex with it.
-fn test_and_begin<S: Surface + Drop, O: Outside, F: Fn(u8, Point) -> Shift, G: Fn(Point) -> Band>(
+fn test_and_begin<S: Surface + Drop, O: Listener, F: Fn(u8, Point) -> Shift, G: Fn(Point) -> Band>(
     alloc: Global,
     terms: &RunTerms<'_, F, G>,
     mesh: S,
@@ -158,7 +158,7 @@ fn test_and_begin<S: Surface + Drop, O: Outside, F: Fn(u8, Point) -> Shift, G: F
 }
 
 // The whole log of the job of two files.
-fn track<O: Outside, F: Fn(u8, Point) -> Shift, G: Fn(Point) -> Band>(
+fn track<O: Listener, F: Fn(u8, Point) -> Shift, G: Fn(Point) -> Band>(
     alloc: Global,
     scale: Scale,
     mesh_name: &str,
@@ -175,7 +175,7 @@ fn track<O: Outside, F: Fn(u8, Point) -> Shift, G: Fn(Point) -> Band>(
         (holds_of (O.around outside.old)) (holds_of (O.around outside.new)) result }
     ensures counts { Counts (O.around outside.old) (O.around outside.new) result }
 {
-    write_line(alloc, outside, &LogLine::First { version: VERSION })?;
+    outside.tell(alloc, &LogLine::First { version: VERSION })?;
     match prepare(
         alloc,
         scale,
