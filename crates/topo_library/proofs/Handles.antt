@@ -1,5 +1,5 @@
 -- A call on the tracker of a handle, by the call on the tracker.
-use Rattle.std.proofs.Common.{◌≡◌, ℕ, List, Option, Some, refl, sym, subst}
+use Rattle.std.proofs.Common.{◌≡◌, ℕ, Bool, List, Option, Some, refl, sym, subst}
 use Rattle.mesh_sizing.specs.declared.sizing.Band.{Band}
 use Rattle.step_text.specs.declared.Directive.{Directive}
 use Rattle.track_engine.specs.State.{State}
@@ -11,7 +11,7 @@ use Rattle.topo_library.specs.declared.fault.TopoFault.{TopoFault}
 use Rattle.topo_library.specs.declared.telling.TopoEdits.{TopoEdits}
 use Rattle.topo_library.specs.declared.tracker.Tracker.{Tracker}
 use Rattle.step_choose.specs.declared.Settings.{Settings}
-use Rattle.topo_library.specs.Codes.{tracked, HasWritten, HandleHasWritten, HasEdited, HandleHasEdited, HasDone, HandleHasDone, HasTold, HandleHasTold, HasSet, HandleHasSet, HasFitted, HandleHasFitted, HasForgotten, HandleHasForgotten, HasShiftedEach, HandleHasShiftedEach, HasTakenLog, HandleHasTakenLog}
+use Rattle.topo_library.specs.Codes.{tracked, HasWritten, HandleHasWritten, HasEdited, HandleHasEdited, HasDone, HandleHasDone, HasTold, HandleHasTold, HasSet, HandleHasSet, HasFitted, HandleHasFitted, HasForgotten, HandleHasForgotten, HasKept, HandleHasKeptBy, HasShiftedEach, HandleHasShiftedEach, HasTakenLog, HandleHasTakenLog}
 
 module _ (old new : Option Tracker) (s t : Tracker) (held : old ≡ Some s) (holds : new ≡ Some t) where
   pub answers : (what : Directive) (before after : TopoFault) (code : ℕ) → HasDone what s t before after code → HandleHasDone what old new before after code
@@ -34,6 +34,9 @@ module _ (old new : Option Tracker) (s t : Tracker) (held : old ≡ Some s) (hol
 
   pub edited : (rows : List GivenEdit) (into now : List ToldAnswer) (before taken code : ℕ) → HasEdited rows s t into now before taken code → HandleHasEdited rows old new into now before taken code
   edited rows into now before taken code h = let P : Option Tracker → Type 0 = λ o. HandleHasEdited rows o new into now before taken code in subst P (sym held) (t, holds, h)
+
+  pub keeps_by : (on : Bool) → HasKept on s t → HandleHasKeptBy on old new 0
+  keeps_by on h = let P : Option Tracker → Type 0 = λ o. HandleHasKeptBy on o new 0 in subst P (sym held) (refl, (t, holds, h))
 
   pub forgets : HasForgotten s t → HandleHasForgotten old new 0
   forgets h = let P : Option Tracker → Type 0 = λ o. HandleHasForgotten o new 0 in subst P (sym held) (refl, (t, holds, h))

@@ -1,9 +1,8 @@
 -- What the codes say of the calls.
-use Rattle.std.specs.Prelude.{◌≡◌, ◌≢◌, ◌≤◌, ◌<◌, ◌↔◌, ◌⊎◌, ℕ, true, Option, Some, None, Ok, Err}
+use Rattle.std.specs.Prelude.{◌≡◌, ◌≢◌, ◌≤◌, ◌<◌, ◌↔◌, ◌⊎◌, ◌==◌, ℕ, Bool, true, Option, Some, None, Ok, Err}
 use Rattle.std.specs.Prelude.{List, [], ◌∷◌, ◌++◌, length, drop, map}
 use Rattle.std.specs.FinMap as finite
-use Rattle.grid_base.specs.declared.TheConstants.{DEPTH_MAX, HALVINGS_MAX, TEXT_MAX, VERTICES_MAX, FACES_MAX}
-use Rattle.line_text.specs.declared.TextFault.{TextFault}
+use Rattle.grid_base.specs.declared.TheConstants.{DEPTH_MAX, HALVINGS_MAX, VERTICES_MAX, FACES_MAX}
 use Rattle.mesh_base.specs.Mesh.{Mesh}
 use Rattle.mesh_base.specs.Valid.{IsValidSurface}
 use Rattle.mesh_base.specs.declared.UseWhy.{UseWhy}
@@ -13,6 +12,9 @@ use Rattle.mesh_sizing.specs.declared.sizing.Band.{Band}
 use Rattle.mesh_rows.specs.declared.rows.MeshRows.{MeshRows}
 use Rattle.mesh_base.specs.declared.limits.Scale.TheVariants.{Large}
 use Rattle.mesh_rows.specs.Rows.{mesh_of_rows}
+use Rattle.log_text.specs.declared.LogLine.{LogLine}
+use Rattle.log_text.specs.Lines.{text_of_lines}
+use Rattle.log_write.specs.Kept.{lines_where}
 use Rattle.outside_io.specs.declared.stop.Stop.TheVariants.{NoMemory}
 use Rattle.pass_run.specs.declared.passing.PassCount.{PassCount}
 use Rattle.step_choose.specs.declared.TheConstants.{PASSES_MAX}
@@ -31,13 +33,11 @@ use Rattle.track_held.specs.declared.making.MakeFault.{MakeFault}
 use Rattle.track_held.specs.declared.making_numbered.NumberedFault.{NumberedFault}
 use Rattle.track_held.specs.declared.editing_given.GivenEdit.{GivenEdit}
 use Rattle.track_held.specs.declared.editing_given.ToldAnswer.{ToldAnswer}
-use Rattle.track_held.specs.declared.events.Event.{Event}
 use Rattle.track_held.specs.Asking.{CanBeAsked, asking, CanAllBeAsked, asking_all}
 use Rattle.track_held.specs.Editing.{edits_asked, answer_told}
-use Rattle.track_held.specs.Events.{with_first_line, events_in}
 use Rattle.track_held.specs.Fitting.{always}
 use Rattle.track_held.specs.Given.{given_mesh, make_fault}
-use Rattle.track_held.specs.Held.{engine_in, log_in, goes_on}
+use Rattle.track_held.specs.Held.{engine_in, keeps_lines, lines_in, log_in, goes_on}
 use Rattle.track_held.specs.Numbered.{numbered_fault}
 use Rattle.topo_library.specs.Faults.{make_place, numbered_place, use_place}
 use Rattle.topo_library.specs.Tellings.{edits_told}
@@ -50,9 +50,18 @@ use Rattle.topo_library.specs.declared.tracker.Tracker.{Tracker}
 abbrev pub tracked : Tracker → State
 tracked t = state_in mesh_in kept_in (engine_in t.held)
 
--- what it has told since that was last taken
-abbrev pub told : Tracker → List ℕ
+-- the text of the lines that it has told since they were last taken or forgotten, where it keeps
+-- them
+abbrev pub told : Tracker → Option (List ℕ)
 told t = log_in t.held
+
+-- these lines
+abbrev pub lines_told : Tracker → List LogLine
+lines_told t = lines_in t.held
+
+-- whether it keeps the lines that it tells
+abbrev pub keeps : Tracker → Bool
+keeps t = keeps_lines t.held
 
 -- ---- a directive
 
@@ -69,17 +78,17 @@ pub record HasDone (what : Directive) (s t : Tracker) (before after : TopoFault)
     (code : ℕ) : Type 0 where
   -- 0: its lines were told, and the tracker stands in the state after it
   pub done : code ≡ 0 →
-      Writes (effect_of Nothing what (tracked s)) (tracked t) (Some (told s))
-      (Some (told t)) (Ok None)
+      Writes (effect_of Nothing what (tracked s)) (tracked t) (told s)
+      (told t) (Ok None)
   -- 1: there was no memory: nothing was told, or a part of its lines, and the tracker is stopped
   pub memory : code ≡ 1 →
-      Writes (effect_of Nothing what (tracked s)) (tracked t) (Some (told s)) (Some (told t))
+      Writes (effect_of Nothing what (tracked s)) (tracked t) (told s) (told t)
       (Err NoMemory) × ¬ GoesOn t
   -- 2: it was refused, for the reason that the fault tells; the state and
   -- what was told are as they were
   pub refused : code ≡ 2 →
       (why : UseWhy) × (after ≡ use_place why)
-      × Writes (effect_of Nothing what (tracked s)) (tracked t) (Some (told s)) (Some (told t))
+      × Writes (effect_of Nothing what (tracked s)) (tracked t) (told s) (told t)
       (Ok (Some why)) × (tracked t ≡ tracked s)
   -- 5 exactly where the tracker was stopped, and 6 exactly where no more
   -- directive can be taken: nothing is done
@@ -124,10 +133,10 @@ HandleHasTold tell (Some s) before after code = HasTold tell s before after code
 -- is t.
 pub record HasWritten (effect : Effect) (s t : Tracker) (code : ℕ) : Type 0 where
   -- 0: its lines were told, and the tracker stands in the state after it
-  pub done : code ≡ 0 → Writes effect (tracked t) (Some (told s)) (Some (told t)) (Ok None)
+  pub done : code ≡ 0 → Writes effect (tracked t) (told s) (told t) (Ok None)
   -- 1: there was no memory: nothing was told, or a part of its lines, and the tracker is stopped
   pub memory : code ≡ 1 →
-      Writes effect (tracked t) (Some (told s)) (Some (told t)) (Err NoMemory) × ¬ GoesOn t
+      Writes effect (tracked t) (told s) (told t) (Err NoMemory) × ¬ GoesOn t
   -- the rest as of a directive
   pub stopped : code ≡ 5 ↔ ¬ GoesOn s
   pub spent : code ≡ 6 ↔ (GoesOn s × ¬ HasRoomLeft s)
@@ -191,10 +200,10 @@ pub record HasFitted (band : Band) (s t : Tracker) (before after : TopoEdits) (c
   -- the lines are of done edits, and of refused ones
   pub done : code ≡ 0 →
       (count : PassCount) × (after ≡ edits_told count)
-      × FitTells (always band) (tracked s) (tracked t) (Some (told s)) (Some (told t)) (Ok count)
+      × FitTells (always band) (tracked s) (tracked t) (told s) (told t) (Ok count)
   -- 1: there was no memory: nothing was told, or a part of its lines, and the tracker is stopped
   pub memory : code ≡ 1 →
-      FitTells (always band) (tracked s) (tracked t) (Some (told s)) (Some (told t)) (Err NoMemory)
+      FitTells (always band) (tracked s) (tracked t) (told s) (told t) (Err NoMemory)
       × ¬ GoesOn t
   -- but at 0 no number is told
   pub untold : code ≢ 0 → after ≡ before
@@ -234,7 +243,8 @@ pub record HasSet (set : Settings) (s t : Tracker) (code : ℕ) : Type 0 where
   pub stopped : code ≡ 5 ↔ ¬ GoesOn s
   pub idle : code ≡ 5 → t ≡ s
   -- nothing is told of it, and no other code comes
-  pub log : told t ≡ told s
+  pub lines : lines_told t ≡ lines_told s
+  pub keeps_on : keeps t ≡ keeps s
   pub goes_on : goes_on t.held ≡ goes_on s.held
   pub among : (code ≡ 0) ⊎ (code ≡ 5)
 
@@ -279,14 +289,15 @@ HandleHasShiftedEach rows (Some s) new before after code =
 -- ---- making
 
 -- a handle holds a tracker of the mesh, which is sound, closed and clear; nothing has stopped it or
--- is asked of it, and it has told nothing
+-- is asked of it, it has told nothing, and keeps the lines that it tells
 pub record IsMade (m : Mesh) (new : Option Tracker) : Type 0 where
   pub tracker : Tracker
   pub holds : new ≡ Some tracker
   pub state : tracked tracker ≡ unsaved m
   pub valid : IsValidSurface m
   pub goes_on : GoesOn tracker
-  pub log : told tracker ≡ []
+  pub lines : lines_told tracker ≡ []
+  pub keeps_on : keeps tracker ≡ true
 
 -- What a code says of a call that makes a tracker of points and faces.
 pub record HasMade (points : List GivenPoint) (faces : List GivenFace) (new : Option Tracker)
@@ -345,13 +356,13 @@ HandleHasPut rows None new into now before size code =
 HandleHasPut rows (Some t) new into now before size code =
     (new ≡ Some t) × HasPut (rows t) into now before size code
 
--- The log is put into a buffer, and at 0 it is taken: the tracker has told nothing since. It stays
--- in all else. No memory is needed.
+-- The text of the lines is put into a buffer, and at 0 they are taken: the tracker has told nothing
+-- since. It stays in all else.
 pub record HasTakenLog (s t : Tracker) (into now : List ℕ) (before size code : ℕ) : Type 0 where
-  pub puts : HasPut (told s) into now before size code
-  pub needs_none : code ≢ 1
-  pub taken : code ≡ 0 → told t ≡ []
-  pub left : code ≢ 0 → told t ≡ told s
+  pub puts : HasPut (text_of_lines (lines_told s)) into now before size code
+  pub taken : code ≡ 0 → lines_told t ≡ []
+  pub left : code ≢ 0 → lines_told t ≡ lines_told s
+  pub keeps_on : keeps t ≡ keeps s
   pub engine : engine_in t.held ≡ engine_in s.held
   pub goes_on : goes_on t.held ≡ goes_on s.held
 
@@ -363,9 +374,10 @@ HandleHasTakenLog None new into now before size code =
 HandleHasTakenLog (Some s) new into now before size code =
     (t : Tracker) × (new ≡ Some t) × HasTakenLog s t into now before size code
 
--- The log is forgotten. The tracker stays in all else.
+-- The lines are forgotten. The tracker stays in all else.
 pub record HasForgotten (s t : Tracker) : Type 0 where
-  pub log : told t ≡ []
+  pub lines : lines_told t ≡ []
+  pub keeps_on : keeps t ≡ keeps s
   pub engine : engine_in t.held ≡ engine_in s.held
   pub goes_on : goes_on t.held ≡ goes_on s.held
 
@@ -375,32 +387,30 @@ HandleHasForgotten None new code = (code ≡ 4) × (new ≡ None)
 HandleHasForgotten (Some s) new code =
     (code ≡ 0) × ((t : Tracker) × (new ≡ Some t) × HasForgotten s t)
 
--- What a code says of a call that puts into a buffer what a text of a log tells, as numbers.
-pub record HasPutEvents (text : List ℕ) (into now : List Event) (before size code : ℕ)
-    : Type 0 where
-  -- 0 and 3: the text is not too long and is read as lines, whose events are put, or do not fit
-  pub puts : (code ≡ 0) ⊎ (code ≡ 3) →
-      (length text ≤ TEXT_MAX)
-      × ((events : List Event) × (events_in text ≡ Ok events) × HasPut events into now before size code)
-  -- 7: it is too long, or is not read as lines
-  pub unread : code ≡ 7 →
-      (TEXT_MAX < length text) ⊎ ((fault : TextFault) × (events_in text ≡ Err fault))
-  -- 1: there was no memory; then, and at 7, nothing is put or told
-  pub left : (code ≡ 1) ⊎ (code ≡ 7) → (now ≡ into) × (size ≡ before)
-  pub among : (code ≡ 0) ⊎ (code ≡ 1) ⊎ (code ≡ 3) ⊎ (code ≡ 7)
+-- The lines that are told are kept from here on, or none are, and those that were told are
+-- forgotten. The tracker stays in all else.
+pub record HasKept (on : Bool) (s t : Tracker) : Type 0 where
+  pub keeps_on : keeps t ≡ on
+  pub lines : lines_told t ≡ lines_where on (lines_told s)
+  pub engine : engine_in t.held ≡ engine_in s.held
+  pub goes_on : goes_on t.held ≡ goes_on s.held
 
--- the same of what a handle's tracker has told, which stays: 4 where there is none
-abbrev pub HandleHasPutEvents : Option Tracker → Option Tracker
-    → List Event → List Event → ℕ → ℕ → ℕ → Type 0
-HandleHasPutEvents None new into now before size code =
-    (code ≡ 4) × (new ≡ None) × (now ≡ into) × (size ≡ before)
-HandleHasPutEvents (Some t) new into now before size code =
-    (new ≡ Some t) × HasPutEvents (with_first_line (told t)) into now before size code
+-- the same of a handle: 4 where there is none
+abbrev pub HandleHasKeptBy : Bool → Option Tracker → Option Tracker → ℕ → Type 0
+HandleHasKeptBy on None new code = (code ≡ 4) × (new ≡ None)
+HandleHasKeptBy on (Some s) new code =
+    (code ≡ 0) × ((t : Tracker) × (new ≡ Some t) × HasKept on s t)
 
--- the bytes of the log, the live vertices and faces, the ids that come next, and the steps taken
+-- the same, by a number that is 1 where lines are kept, and 0 where none are: 3 where it
+-- is neither, and else 4 where there is no tracker
+abbrev pub HandleHasKept : ℕ → Option Tracker → Option Tracker → ℕ → Type 0
+HandleHasKept on old new code =
+    (1 < on → (code ≡ 3) × (new ≡ old)) × (on ≤ 1 → HandleHasKeptBy (on == 1) old new code)
+
+-- how many lines were told, the live vertices and faces, the ids that come next, and the steps taken
 abbrev pub counts_of : Tracker → TopoCounted
 counts_of t = record {
-  log = length (told t);
+  lines = length (lines_told t);
   vertices = finite.len (tracked t).mesh.points;
   faces = finite.len (tracked t).mesh.faces;
   next_vertex = (tracked t).mesh.next_vertex;

@@ -14,5 +14,3 @@ pub(crate) const EMPTY: u32 = 4;
 pub(crate) const STOPPED: u32 = 5;
 /// So many steps were taken as may be.
 pub(crate) const SPENT: u32 = 6;
-/// What was told is not read: it is no whole lines, or too long.
-pub(crate) const UNREAD: u32 = 7;

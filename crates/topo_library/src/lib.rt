@@ -1,7 +1,7 @@
 //! The tracker for a caller in C or C++: a surface is made of points and faces, and changed by one call after another.
 //! Coordinates, shifts and lengths are in grid units. Each call but three answers a code: done, no memory, refused for the reason
 //! that the fault tells, an argument beyond its limit or a buffer too short, no tracker in the handle, a tracker that is
-//! stopped, one that is spent, or a log that is not read.
+//! stopped, or one that is spent.
 //!
 //! The tracker is that of Brochu and Bridson, "Robust topological operations for dynamic explicit surfaces" (2009).
 #![tactic(auto)]
@@ -18,10 +18,11 @@ ghost use Rattle.step_text.specs.declared.Directive.TheVariants as directive;
 ghost use Rattle.edit_base.specs.declared.PassKind.TheVariants as pass;
 ghost use Rattle.track_engine.specs.Told.{step_told, pass_told};
 ghost use Rattle.track_engine.specs.Effects.{undo_effect};
+ghost use Rattle.track_held.specs.Events.{log_events};
 ghost use Rattle.track_held.specs.Reading.{named_points, named_faces, solid_vertices, star_of, beside_edge};
 ghost use Rattle.track_held.specs.Numbered.{given_rows};
 ghost use Rattle.topo_library.specs.Components.{told_components};
-ghost use Rattle.topo_library.specs.Codes.{tracked, HandleHasDone, HandleHasTold, IsBeyond, AreSettings, HandleHasSet, HandleHasFitted, HandleHasWritten, HandleHasEdited, HandleHasShifted, HandleHasShiftedAll, HandleHasShiftedEach, HasMade, HasMadeNumbered, HandleHasPut, HandleHasPutEvents, HandleHasForgotten, HandleHasTakenLog, HandleHasCounted};
+ghost use Rattle.topo_library.specs.Codes.{tracked, lines_told, HandleHasDone, HandleHasTold, IsBeyond, AreSettings, HandleHasSet, HandleHasFitted, HandleHasWritten, HandleHasEdited, HandleHasShifted, HandleHasShiftedAll, HandleHasShiftedEach, HasMade, HasMadeNumbered, HandleHasPut, HandleHasForgotten, HandleHasKept, HandleHasTakenLog, HandleHasCounted};
 ghost use Rattle.topo_library.specs.Tellings.{way_told, edits_told, closing_of, undone_of, settings_at, band_of};
 
 mod alone;
@@ -53,7 +54,7 @@ use log_text::VERSION;
 use making::make;
 use making_numbered::{NumberedRows, make_numbered};
 use reading::{
-    count, forget_log, read_beside, read_components, read_events, read_faces, read_log,
+    count, forget_log, keep_lines, read_beside, read_components, read_events, read_faces, read_log,
     read_points, read_solids, read_star,
 };
 use settings::{band_of, settings_at};
@@ -63,7 +64,7 @@ use telling::{TopoCounted, TopoEdits, TopoWay};
 use track_held::{Event, GivenEdit, GivenFace, GivenPoint, NamedFace, NamedPoint, ToldAnswer};
 
 /// The version of these calls. It rises where what one of them takes or answers changes, and where one is gone.
-pub const CALLS: u32 = 2;
+pub const CALLS: u32 = 3;
 
 /// Makes a tracker of the surface of these points and faces, whose corners number the points from 1, or refuses them for their first fault.
 /// What `out` held is freed first; where no tracker is made, it holds none.
@@ -509,7 +510,7 @@ pub extern "C" fn topo_components(
 }
 
 /// Puts what was told since the log was last taken or forgotten into a buffer, as numbers, where all of it fits, and tells how
-/// many events they are. It stays told. It is not read where it is no whole lines, or too long.
+/// many events they are. It stays told.
 #[unsafe(no_mangle)]
 pub extern "C" fn topo_events(
     alloc: Global,
@@ -517,10 +518,22 @@ pub extern "C" fn topo_events(
     into: &mut [Event],
     size: &mut usize,
 ) -> u32
-    ensures { HandleHasPutEvents topo.old.owned.value topo.new.owned.value
-        into.old into.new size.old size.new result }
+    ensures { HandleHasPut (λ t. log_events (lines_told t))
+        topo.old.owned.value topo.new.owned.value into.old into.new size.old size.new result }
 {
     read_events(alloc, topo, into, size)
+}
+
+/// Keeps the lines that are told from here on, at 1, or none of them, at 0, and then forgets those that were told. A tracker that is made
+/// keeps them. What is not kept is in no log and no events.
+#[unsafe(no_mangle)]
+pub extern "C" fn topo_keep(alloc: Global, topo: &mut Topo, lines: u32) -> u32
+    ensures { HandleHasKept lines topo.old.owned.value topo.new.owned.value result }
+{
+    if lines > 1 {
+        return RANGE;
+    }
+    keep_lines(alloc, topo, lines == 1)
 }
 
 /// Forgets what was told since the log was last taken.

@@ -1,11 +1,11 @@
 //! The tracker of a handle is read.
 ghost use Rattle.std.specs.Prelude.{◌≡◌, ◌≢◌};
-ghost use Rattle.track_held.specs.Events.{with_first_line};
+ghost use Rattle.track_held.specs.Events.{log_events};
 ghost use Rattle.track_held.specs.Reading.{named_points, named_faces, solid_vertices, star_of, beside_edge};
 ghost use Rattle.topo_library.specs.Components.{told_components};
-ghost use Rattle.topo_library.specs.Codes.{tracked, told, HasPut, HandleHasPut, HasPutEvents, HandleHasPutEvents, HasForgotten, HandleHasForgotten, HasTakenLog, HandleHasTakenLog, counts_of, HandleHasCounted};
+ghost use Rattle.topo_library.specs.Codes.{tracked, lines_told, HasPut, HandleHasPut, HasForgotten, HandleHasForgotten, HasKept, HandleHasKeptBy, HasTakenLog, HandleHasTakenLog, counts_of, HandleHasCounted};
 
-use crate::codes::{DONE, EMPTY, NO_MEMORY, RANGE, UNREAD};
+use crate::codes::{DONE, EMPTY, NO_MEMORY, RANGE};
 use crate::components::{TopoComponent, told_components};
 use crate::handle::Topo;
 use crate::telling::TopoCounted;
@@ -13,8 +13,8 @@ use crate::tracker::Tracker;
 use mesh_base::{Surface, VertexId};
 use std::alloc::Global;
 use track_held::{
-    Event, EventRefusal, NamedFace, NamedPoint, beside_edge, named_faces, named_points, put_rows,
-    solid_vertices, star_of, told_events,
+    Event, NamedFace, NamedPoint, beside_edge, events_of, named_faces, named_points, put_rows,
+    solid_vertices, star_of,
 };
 
 // Puts rows into a buffer, where all of them fit, and tells their number.
@@ -217,14 +217,11 @@ pub(crate) fn read_components(
 
 // Puts what a tracker has told into a buffer, as numbers.
 fn put_events(alloc: Global, tracker: &Tracker, into: &mut [Event], size: &mut usize) -> u32
-    ensures { HasPutEvents (with_first_line (told tracker.now))
-        into.old into.new size.old size.new result }
+    ensures { HasPut (log_events (lines_told tracker.now)) into.old into.new size.old size.new result }
 {
-    match told_events(alloc, tracker.held.log()) {
+    match events_of(alloc, tracker.held.lines()) {
         Ok(events) => put(events.as_slice(), into, size),
-        Err(EventRefusal::NoMemory) => NO_MEMORY,
-        Err(EventRefusal::Torn(_)) => UNREAD,
-        Err(EventRefusal::Long) => UNREAD,
+        Err(_) => NO_MEMORY,
     }
 }
 
@@ -235,8 +232,8 @@ pub(crate) fn read_events(
     into: &mut [Event],
     size: &mut usize,
 ) -> u32
-    ensures { HandleHasPutEvents topo.old.owned.value topo.new.owned.value
-        into.old into.new size.old size.new result }
+    ensures { HandleHasPut (λ t. log_events (lines_told t))
+        topo.old.owned.value topo.new.owned.value into.old into.new size.old size.new result }
 {
     let Some(b) = topo.take(alloc) else {
         return EMPTY;
@@ -244,6 +241,25 @@ pub(crate) fn read_events(
     let code = put_events(alloc, b.as_ref(), into, size);
     topo.give(b);
     code
+}
+
+// Keeps the lines that a tracker tells, or none.
+fn keep(tracker: &mut Tracker, on: bool)
+    ensures { HasKept on tracker.old tracker.new }
+{
+    tracker.held.keep_lines(on);
+}
+
+/// Keeps the lines that are told from here on, or none.
+pub(crate) fn keep_lines(alloc: Global, topo: &mut Topo, on: bool) -> u32
+    ensures { HandleHasKeptBy on topo.old.owned.value topo.new.owned.value result }
+{
+    let Some(mut b) = topo.take(alloc) else {
+        return EMPTY;
+    };
+    keep(b.as_mut(), on);
+    topo.give(b);
+    DONE
 }
 
 // Forgets what a tracker has told.
@@ -269,6 +285,9 @@ pub(crate) fn forget_log(alloc: Global, topo: &mut Topo) -> u32
 fn take_log(tracker: &mut Tracker, into: &mut [u8], size: &mut usize) -> u32
     ensures { HasTakenLog tracker.old tracker.new into.old into.new size.old size.new result }
 {
+    if tracker.held.print_log().is_err() {
+        return NO_MEMORY;
+    }
     let code = put(tracker.held.log(), into, size);
     if code == DONE {
         tracker.held.clear_log();
@@ -295,7 +314,7 @@ fn counts_of(tracker: &Tracker) -> TopoCounted
 {
     let mesh = tracker.held.mesh();
     TopoCounted {
-        log: tracker.held.log().len(),
+        lines: tracker.held.lines().len(),
         vertices: mesh.vertices(),
         faces: mesh.faces(),
         next_vertex: mesh.next_vertex(),
@@ -304,7 +323,7 @@ fn counts_of(tracker: &Tracker) -> TopoCounted
     }
 }
 
-/// How many vertices and faces live, which ids come next, how many steps were taken, and how many bytes the log has.
+/// How many vertices and faces live, which ids come next, how many steps were taken, and how many lines were told.
 pub(crate) fn count(alloc: Global, topo: &mut Topo, counts: &mut TopoCounted) -> u32
     ensures { HandleHasCounted topo.old.owned.value topo.new.owned.value
         counts.old counts.new result }

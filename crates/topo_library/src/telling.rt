@@ -24,12 +24,12 @@ pub struct TopoEdits {
     pub refused: u64,
 }
 
-/// How much there is of a tracker: the bytes of its log since that was last taken, the live vertices and faces, the ids that the next vertex and
+/// How much there is of a tracker: the lines that were told since the log was last taken or forgotten, the live vertices and faces, the ids that the next vertex and
 /// the next face get, and the steps that were taken.
 #[repr(C)]
 #[derive(Clone, Copy, Debug, PartialEq, Eq)]
 pub struct TopoCounted {
-    pub log: usize,
+    pub lines: usize,
     pub vertices: u32,
     pub faces: u32,
     pub next_vertex: u32,

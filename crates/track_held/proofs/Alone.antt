@@ -94,7 +94,3 @@ module _ (fields : Known) (to : Target) (what : Directive) (asks : AsksNothing w
 -- what it writes, from what the engine ensures
 pub told_by : {fields : Known} {to : Target} {what : Directive} {s t : State} {old new : Around} {r : Result (Option UseWhy) Stop} → AsksNothing what → HasAdvanced fields to what s t old new r → Writes (effect_of Nothing what s) t (holds_of old).written (holds_of new).written r
 told_by {fields} {to} {what} {s} {t} {old} {new} {r} asks h = alone fields to what asks s t (holds_of old) (holds_of new) r h.advances
-
--- of a log that is the same
-pub told_at : (effect : Effect) (t : State) (old told same : List ℕ) (r : Result (Option UseWhy) Stop) → told ≡ same → Writes effect t (Some old) (Some same) r → Writes effect t (Some old) (Some told) r
-told_at effect t old told same r e h = let P : List ℕ → Type 0 = λ text. Writes effect t (Some old) (Some text) r in subst P (sym e) h

@@ -15,10 +15,6 @@ use Rattle.track_engine.specs.Answers.{Answer, Nothing, NoSuchField, FieldShifts
 use Rattle.track_engine.specs.Answered.{IsAnswerToFit}
 use Rattle.track_engine.specs.Parts.{FitTells}
 
--- of a log that is the same
-pub fit_at : (may_size : Point → Band → Type 0) (s t : State) (old told same : List ℕ) (r : Result PassCount Stop) → told ≡ same → FitTells may_size s t (Some old) (Some same) r → FitTells may_size s t (Some old) (Some told) r
-fit_at may_size s t old told same r e h = let P : List ℕ → Type 0 = λ text. FitTells may_size s t (Some old) (Some text) r in subst P (sym e) h
-
 -- what one sizing may answer, another may
 module _ (narrow wide : Point → Band → Type 0) (both : (p : Point) (band : Band) → narrow p band → wide p band) where
   wanted_too : (rules : PassRules) (wants : ℕ × ℕ → Want) (m : Mesh) (es : List (ℕ × ℕ)) → AreWanted narrow rules wants m es → AreWanted wide rules wants m es

@@ -1,22 +1,14 @@
 -- What a log tells, as numbers.
-use Rattle.std.specs.Prelude.{◌≡◌, ◌<◌, ◌≤◌, ℕ, pos, Bool, if◌then◌else◌, Result, Ok, Err}
-use Rattle.std.specs.Prelude.{List, [], ◌∷◌, ◌++◌, map, length}
+use Rattle.std.specs.Prelude.{ℕ, pos, Bool, if◌then◌else◌}
+use Rattle.std.specs.Prelude.{List, [], ◌∷◌, map}
 use Rattle.std.specs.List.{flat_map}
-use Rattle.grid_base.specs.declared.TheConstants.{TEXT_MAX}
 use Rattle.grid_base.specs.declared.Point.{Point}
-use Rattle.mesh_base.specs.declared.limits.Scale.TheVariants.{Large}
 use Rattle.edit_base.specs.declared.CopyAt.{CopyAt}
 use Rattle.edit_base.specs.declared.Change.{Change}
 use Rattle.edit_base.specs.declared.Change.TheVariants as change
-use Rattle.line_text.specs.declared.TextFault.{TextFault}
-use Rattle.log_text.specs.declared.TheConstants.{VERSION}
 use Rattle.log_text.specs.declared.LogLine.{LogLine}
 use Rattle.log_text.specs.declared.LogLine.TheVariants as line
-use Rattle.log_text.specs.Lines.{text_of_line}
-use Rattle.log_read.specs.Reading.{log_of}
 use Rattle.track_held.specs.declared.events.Event.{Event}
-use Rattle.track_held.specs.declared.events.EventRefusal.{EventRefusal}
-use Rattle.track_held.specs.declared.events.EventRefusal.TheVariants as refusals
 
 -- an event with no place
 abbrev pub event_of : ℕ → ℕ → ℕ → ℕ → ℕ → Event
@@ -61,24 +53,3 @@ line_events _ = []
 -- all that lines tell, in order
 abbrev pub log_events : List LogLine → List Event
 log_events lines = flat_map line_events lines
-
--- what was told, behind the first line of a log
-abbrev pub with_first_line : List ℕ → List ℕ
-with_first_line told = text_of_line (line.First VERSION) ++ told
-
--- the events of lines that were read
-abbrev pub events_read : Result (List LogLine) TextFault → Result (List Event) TextFault
-events_read (Ok lines) = Ok (log_events lines)
-events_read (Err fault) = Err fault
-
--- The events of the text of a log of a large mesh, or its first fault. Bytes are read as lines
--- exactly where they are the lines' text.
-abbrev pub events_in : List ℕ → Result (List Event) TextFault
-events_in text = events_read (log_of Large text)
-
--- these are they, or why they are not told
-abbrev pub AreEvents : List ℕ → Result (List Event) EventRefusal → Type 0
-AreEvents text (Ok events) = (length text ≤ TEXT_MAX) × (events_in text ≡ Ok events)
-AreEvents text (Err refusals.NoMemory) = Unit {0}
-AreEvents text (Err (refusals.Torn fault)) = (length text ≤ TEXT_MAX) × (events_in text ≡ Err fault)
-AreEvents text (Err refusals.Long) = TEXT_MAX < length text

@@ -1,6 +1,5 @@
 pub mod Asking
 pub mod Given
-pub mod Growing
 pub mod Held
 pub mod Kept
 pub mod Reading

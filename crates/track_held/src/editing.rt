@@ -6,13 +6,13 @@ ghost use Rattle.track_engine.specs.Parts.{Writes};
 ghost use Rattle.track_engine.specs.Engines.{state_in};
 ghost use Rattle.track_engine.specs.Ready.{IsReady};
 ghost use Rattle.track_engine.specs.Told.{edits_counted, pass_untold};
-ghost use Rattle.track_held.specs.Growing.{bytes_in};
+ghost use Rattle.log_write.specs.Kept.{told_in};
 
-use crate::growing::GrowingSink;
 use crate::held::Held;
 use edit_base::Asked;
+use log_write::KeptLines;
 use mesh_base::{Surface, UseWhy};
-use outside_io::{Ends, Stop, TallyDesk};
+use outside_io::Stop;
 use pass_run::{Answers, PassCount};
 use std::alloc::Global;
 use track_engine::Engine;
@@ -23,45 +23,35 @@ fn tell_edits<S: Surface>(
     engine: &mut Engine<S>,
     asked: &[Asked],
     answers: &mut Answers,
-    log: &mut GrowingSink,
+    log: &mut KeptLines,
 ) -> Result<PassCount, Stop>
     requires ready { IsReady S.beyond S.mesh S.kept engine.old }
     ensures tells { let old = state_in S.mesh S.kept engine.old in
         Writes (edits_effect asked.now old) (state_in S.mesh S.kept engine.new)
-        (Some (bytes_in log.old)) (Some (bytes_in log.new)) (pass_untold result) }
+        (told_in log.old) (told_in log.new) (pass_untold result) }
     ensures told { IfOk result
         (λ count. count ≡ edits_counted asked.now (state_in S.mesh S.kept engine.old)) }
     ensures answers { let all = edited_answers asked.now (state_in S.mesh S.kept engine.old) in
         OnOk result (answers.new ≡ answers.old ++ all) }
     ensures ready { IfOk result (λ _. IsReady S.beyond S.mesh S.kept engine.new) }
 {
-    let mut desk = TallyDesk::new();
-    let mut ends = Ends {
-        desk: &mut desk,
-        out: log,
-    };
-    engine.edits(alloc, asked, answers, &mut ends)
+    engine.edits(alloc, asked, answers, log)
 }
 
 // Takes the innermost open group back, whose line is told to the log.
 fn tell_undo<S: Surface>(
     alloc: Global,
     engine: &mut Engine<S>,
-    log: &mut GrowingSink,
+    log: &mut KeptLines,
 ) -> Result<Option<UseWhy>, Stop>
     requires ready { IsReady S.beyond S.mesh S.kept engine.old }
     ensures tells { let old = state_in S.mesh S.kept engine.old in
         Writes (undo_effect old.groups old) (state_in S.mesh S.kept engine.new)
-        (Some (bytes_in log.old)) (Some (bytes_in log.new)) result }
+        (told_in log.old) (told_in log.new) result }
     ensures taken { IfOk result (λ refused. refused ≡ None) }
     ensures ready { IfOk result (λ _. IsReady S.beyond S.mesh S.kept engine.new) }
 {
-    let mut desk = TallyDesk::new();
-    let mut ends = Ends {
-        desk: &mut desk,
-        out: log,
-    };
-    engine.undo(alloc, &mut ends)
+    engine.undo(alloc, log)
 }
 
 impl<S: Surface> Held<S> {
@@ -82,7 +72,7 @@ impl<S: Surface> Held<S> {
         ensures why { IfErr result (λ stop. stop ≡ cause.NoMemory) }
         ensures tells { let old = state_in S.mesh S.kept (engine_in self.old) in
             Writes (edits_effect asked.now old) (state_in S.mesh S.kept (engine_in self.new))
-            (Some (log_in self.old)) (Some (log_in self.new)) (pass_untold result) }
+            (log_in self.old) (log_in self.new) (pass_untold result) }
         ensures told { IfOk result (λ count.
             count ≡ edits_counted asked.now (state_in S.mesh S.kept (engine_in self.old))) }
         ensures answers { let old = state_in S.mesh S.kept (engine_in self.old) in
@@ -110,7 +100,7 @@ impl<S: Surface> Held<S> {
         ensures why { IfErr result (λ stop. stop ≡ cause.NoMemory) }
         ensures tells { let old = state_in S.mesh S.kept (engine_in self.old) in
             Writes (undo_effect old.groups old) (state_in S.mesh S.kept (engine_in self.new))
-            (Some (log_in self.old)) (Some (log_in self.new)) result }
+            (log_in self.old) (log_in self.new) result }
         // It is never refused.
         ensures taken { IfOk result (λ refused. refused ≡ None) }
     {

@@ -1,14 +1,10 @@
 //! What a log tells, as numbers.
-ghost use Rattle.std.specs.Prelude.{◌≡◌, ◌≤◌, ◌++◌, map, IfOk, OnOk};
-ghost use Rattle.track_held.specs.Events.{event_of, event_at, copy_event, edit_events, closing_kind, line_events, log_events, with_first_line, AreEvents};
-ghost use Rattle.track_held.specs.declared.events.EventRefusal.TheVariants as refusals;
+ghost use Rattle.std.specs.Prelude.{◌≡◌, ◌++◌, map, IfOk, OnOk};
+ghost use Rattle.track_held.specs.Events.{event_of, event_at, copy_event, edit_events, closing_kind, line_events, log_events};
 
 use edit_base::{Change, CopyAt};
-use grid_base::{Items, NoMemory, Point, TEXT_MAX};
-use line_text::{ReadFault, TextFault};
-use log_read::read_log;
-use log_text::{LogLine, VERSION, print_line};
-use mesh_base::Scale;
+use grid_base::{Items, NoMemory, Point};
+use log_text::LogLine;
 use std::alloc::Global;
 
 /// What a line of a log tells that changes the surface or a group: the kind, up to four numbers, and a point or a shift.
@@ -132,37 +128,8 @@ fn put_line(line: &LogLine, events: &mut Events) -> Result<(), NoMemory>
     }
 }
 
-/// Why events are not told.
-#[derive(Clone, Copy, Debug, PartialEq, Eq)]
-pub enum EventRefusal {
-    /// There was no memory.
-    NoMemory,
-    /// What was told is not read as lines, for this first fault, as where it ends within one.
-    Torn(TextFault),
-    /// What was told is, with the first line of a log, longer than a large log may be that is read.
-    Long,
-}
-
-impl From<NoMemory> for EventRefusal {
-    ghost from_gives = { λ _ refusal. refusal ≡ refusals.NoMemory };
-
-    fn from(_: NoMemory) -> EventRefusal {
-        EventRefusal::NoMemory
-    }
-}
-
-// The text of a log that begins with its first line and goes on with what was told.
-fn whole_log(alloc: Global, told: &[u8]) -> Result<Vec<u8>, NoMemory>
-    ensures { IfOk result (λ text. text.items ≡ with_first_line told.now) }
-{
-    let mut text = Vec::new(alloc);
-    print_line(&LogLine::First { version: VERSION }, &mut text)?;
-    text.extend_from_slice(told)?;
-    Ok(text)
-}
-
-// The events of lines, in order.
-fn events_of(alloc: Global, lines: &[LogLine]) -> Result<Events, NoMemory>
+/// The events of lines, in order. NoMemory at any lines.
+pub fn events_of(alloc: Global, lines: &[LogLine]) -> Result<Events, NoMemory>
     ensures { IfOk result (λ events. events ≡ log_events lines.now) }
 {
     let mut events = Events::new(alloc);
@@ -170,29 +137,4 @@ fn events_of(alloc: Global, lines: &[LogLine]) -> Result<Events, NoMemory>
         put_line(line, &mut events)?;
     }
     Ok(events)
-}
-
-// The events of the text of a log, in order.
-fn events_in(alloc: Global, text: &[u8]) -> Result<Events, EventRefusal>
-    ensures { AreEvents text.now result }
-{
-    if text.len() > TEXT_MAX {
-        return Err(EventRefusal::Long);
-    }
-    match read_log(alloc, Scale::Large, text) {
-        Ok(log) => match events_of(alloc, log.as_slice()) {
-            Ok(events) => Ok(events),
-            Err(_) => Err(EventRefusal::NoMemory),
-        },
-        Err(ReadFault::NoMemory) => Err(EventRefusal::NoMemory),
-        Err(ReadFault::Text(fault)) => Err(EventRefusal::Torn(fault)),
-    }
-}
-
-/// The events of what was told, in order, where that is read as a log of a large mesh behind its first line.
-pub fn told_events(alloc: Global, told: &[u8]) -> Result<Events, EventRefusal>
-    ensures { AreEvents (with_first_line told.now) result }
-{
-    let text = whole_log(alloc, told)?;
-    events_in(alloc, &text)
 }

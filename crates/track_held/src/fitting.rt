@@ -6,14 +6,14 @@ ghost use Rattle.track_engine.specs.Engines.{state_in};
 ghost use Rattle.track_engine.specs.Parts.{FitTells};
 ghost use Rattle.track_engine.specs.Ready.{IsReady};
 ghost use Rattle.track_held.specs.Fitting.{always};
-ghost use Rattle.track_held.specs.Growing.{bytes_in};
+ghost use Rattle.log_write.specs.Kept.{told_in};
 
-use crate::growing::GrowingSink;
 use crate::held::Held;
 use grid_base::Point;
+use log_write::KeptLines;
 use mesh_base::Surface;
 use mesh_sizing::{Band, Sizing};
-use outside_io::{Ends, Stop, TallyDesk};
+use outside_io::Stop;
 use pass_run::PassCount;
 use std::alloc::Global;
 use track_engine::Engine;
@@ -23,21 +23,16 @@ fn tell_fit<S: Surface, G: Fn(Point) -> Band>(
     alloc: Global,
     engine: &mut Engine<S>,
     sizing: &Sizing<G>,
-    log: &mut GrowingSink,
+    log: &mut KeptLines,
 ) -> Result<PassCount, Stop>
     requires ready { IsReady S.beyond S.mesh S.kept engine.old }
     requires sizing { SizesWell G.Fn sizing.now }
     ensures tells { FitTells (MaySize G.Fn sizing.now)
         (state_in S.mesh S.kept engine.old) (state_in S.mesh S.kept engine.new)
-        (Some (bytes_in log.old)) (Some (bytes_in log.new)) result }
+        (told_in log.old) (told_in log.new) result }
     ensures ready { IfOk result (λ _. IsReady S.beyond S.mesh S.kept engine.new) }
 {
-    let mut desk = TallyDesk::new();
-    let mut ends = Ends {
-        desk: &mut desk,
-        out: log,
-    };
-    engine.fit(alloc, sizing, &mut ends)
+    engine.fit(alloc, sizing, log)
 }
 
 impl<S: Surface> Held<S> {
@@ -55,7 +50,7 @@ impl<S: Surface> Held<S> {
         ensures why { IfErr result (λ stop. stop ≡ cause.NoMemory) }
         ensures tells { FitTells (always band) (state_in S.mesh S.kept (engine_in self.old))
             (state_in S.mesh S.kept (engine_in self.new))
-            (Some (log_in self.old)) (Some (log_in self.new)) result }
+            (log_in self.old) (log_in self.new) result }
     {
         let sizing = Sizing::new(
             move |_at: Point| -> Band

@@ -1,5 +1,5 @@
 //! An engine between two calls.
-ghost use Rattle.std.specs.Prelude.{◌≡◌, ◌≤◌, ◌<◌, ◌↔◌, true, false, [], Some, IfOk, OnErr, IfErr, IsSome, IsTrue};
+ghost use Rattle.std.specs.Prelude.{◌≡◌, ◌≤◌, ◌<◌, ◌↔◌, true, false, [], Some, IfOk, OnOk, OnErr, IfErr, IsSome, IsTrue};
 ghost use Rattle.mesh_base.specs.Valid.{IsValidSurface};
 ghost use Rattle.mesh_field.specs.Stored.{IsWellKept};
 ghost use Rattle.mesh_sizing.specs.Sizes.{IsBand, IsWellKept as SizesWell};
@@ -15,16 +15,18 @@ ghost use Rattle.track_engine.specs.Invariant.{IsRunInvariant, HasRoom};
 ghost use Rattle.track_engine.specs.Ready.{IsReady};
 ghost use Rattle.track_held.specs.Asking.{AsksNothing};
 ghost use Rattle.track_held.specs.Closings.{closing};
-ghost use Rattle.track_held.specs.Growing.{bytes_in};
+ghost use Rattle.log_text.specs.Lines.{text_of_lines};
+ghost use Rattle.log_write.specs.Kept.{told_in, lines_where};
 ghost use Rattle.track_held.specs.Kept.{facts};
 
 use crate::closing::{Closing, closing_by};
-use crate::growing::GrowingSink;
 use grid_base::{NoMemory, Point, Shift};
+use log_text::LogLine;
+use log_write::KeptLines;
 use mesh_base::{Surface, UseWhy};
 use mesh_field::{Fields, no_fields};
 use mesh_sizing::{Band, Sizing};
-use outside_io::{Ends, Stop, TallyDesk};
+use outside_io::Stop;
 use std::alloc::Global;
 use step_choose::Settings;
 use step_text::Directive;
@@ -48,7 +50,7 @@ pub(crate) fn tell<'a, S: Surface, F: Fn(u8, Point) -> Shift, G: Fn(Point) -> Ba
     alloc: Global,
     engine: &mut Engine<S>,
     what: &Directive,
-    log: &mut GrowingSink,
+    log: &mut KeptLines,
     fields: &'a Fields<F>,
     sizing: &'a Sizing<G>,
 ) -> Result<Option<UseWhy>, Stop>
@@ -59,7 +61,7 @@ pub(crate) fn tell<'a, S: Surface, F: Fn(u8, Point) -> Shift, G: Fn(Point) -> Ba
     requires sizing { SizesWell G.Fn sizing.now }
     ensures tells { let old = state_in S.mesh S.kept engine.old in AsksNothing what.now →
         Writes (effect_of Nothing what.now old) (state_in S.mesh S.kept engine.new)
-        (Some (bytes_in log.old)) (Some (bytes_in log.new)) result }
+        (told_in log.old) (told_in log.new) result }
     // A refusal leaves the state as it was.
     ensures left { IfOk result (λ refused. IsSome refused →
         state_in S.mesh S.kept engine.new ≡ state_in S.mesh S.kept engine.old) }
@@ -70,12 +72,7 @@ pub(crate) fn tell<'a, S: Surface, F: Fn(u8, Point) -> Shift, G: Fn(Point) -> Ba
         decimals: 0,
     };
     let terms = RunTerms { to, fields, sizing };
-    let mut desk = TallyDesk::new();
-    let mut ends = Ends {
-        desk: &mut desk,
-        out: log,
-    };
-    engine.advance(alloc, what, &terms, &mut ends)
+    engine.advance(alloc, what, &terms, log)
 }
 
 /// An engine with the log that it has told since that was last taken.
@@ -85,33 +82,34 @@ pub(crate) fn tell<'a, S: Surface, F: Fn(u8, Point) -> Shift, G: Fn(Point) -> Ba
 #[derive(Drop)]
 pub struct Held<S: Surface> {
     pub(crate) engine: Engine<S>,
-    pub(crate) log: GrowingSink,
+    pub(crate) log: KeptLines,
     pub(crate) goes_on: bool,
     ghost ready: { goes_on ≡ true → IsReady S.beyond S.mesh S.kept engine } by { Prim.hlevel facts },
 }
 
 impl<S: Surface + Drop> Held<S> {
-    ghost use Rattle.track_held.specs.Held.{engine_in, log_in, goes_on};
+    ghost use Rattle.track_held.specs.Held.{engine_in, keeps_lines, lines_in, goes_on};
 
     /// An engine of a closed surface that does not meet itself, with an empty log.
     pub fn new(alloc: Global, mesh: S) -> Result<Held<S>, NoMemory>
         requires { IsValidSurface (S.mesh mesh) }
         ensures goes_on { IfOk result (λ held. goes_on held ≡ true) }
-        ensures log { IfOk result (λ held. log_in held ≡ []) }
+        ensures keeps { IfOk result (λ held. keeps_lines held ≡ true) }
+        ensures lines { IfOk result (λ held. lines_in held ≡ []) }
         ensures state { IfOk result (λ held.
             state_in S.mesh S.kept (engine_in held) ≡ unsaved (S.mesh mesh)) }
     {
         let engine = Engine::new(alloc, mesh)?;
         Ok(Held {
             engine,
-            log: GrowingSink::new(alloc),
+            log: KeptLines::new(alloc),
             goes_on: true,
         })
     }
 }
 
 impl<S: Surface> Held<S> {
-    ghost use Rattle.track_held.specs.Held.{engine_in, log_in, goes_on};
+    ghost use Rattle.track_held.specs.Held.{engine_in, keeps_lines, lines_in, log_in, text_in, goes_on};
 
     /// Whether no directive has stopped.
     pub fn goes_on(&self) -> bool
@@ -140,7 +138,8 @@ impl<S: Surface> Held<S> {
     /// Goes by these settings from here on. Nothing is told of that. They are within their limits.
     pub fn set(&mut self, set: Settings)
         requires { AreWithinLimits set }
-        ensures log { log_in self.new ≡ log_in self.old }
+        ensures lines { lines_in self.new ≡ lines_in self.old }
+        ensures keeps { keeps_lines self.new ≡ keeps_lines self.old }
         ensures goes_on { goes_on self.new ≡ goes_on self.old }
         ensures state { let old = state_in S.mesh S.kept (engine_in self.old) in
             state_in S.mesh S.kept (engine_in self.new) ≡ record old { set = set } }
@@ -162,16 +161,45 @@ impl<S: Surface> Held<S> {
         &self.engine.mesh
     }
 
-    /// What was told since it was last cleared.
-    pub fn log(&self) -> &[u8]
-        ensures { result.now ≡ log_in self.now }
+    /// The lines that were told since they were last cleared.
+    pub fn lines(&self) -> &[LogLine]
+        ensures { result.now ≡ lines_in self.now }
     {
-        self.log.bytes()
+        self.log.lines()
+    }
+
+    /// Keeps the lines that are told from here on; or keeps none, and forgets those that were told.
+    pub fn keep_lines(&mut self, keeps: bool)
+        ensures keeps { keeps_lines self.new ≡ keeps }
+        ensures lines { lines_in self.new ≡ lines_where keeps (lines_in self.old) }
+        ensures engine { engine_in self.new ≡ engine_in self.old }
+        ensures goes_on { goes_on self.new ≡ goes_on self.old }
+    {
+        self.log.keep(keeps);
+    }
+
+    /// Makes the text of the lines, each line once. NoMemory leaves all but the text as it was.
+    pub fn print_log(&mut self) -> Result<(), NoMemory>
+        ensures text { OnOk result (text_in self.new ≡ text_of_lines (lines_in self.new)) }
+        ensures keeps { keeps_lines self.new ≡ keeps_lines self.old }
+        ensures lines { lines_in self.new ≡ lines_in self.old }
+        ensures engine { engine_in self.new ≡ engine_in self.old }
+        ensures goes_on { goes_on self.new ≡ goes_on self.old }
+    {
+        self.log.print()
+    }
+
+    /// The text that was made of the lines since they were last cleared: all of it where none was told since it was made.
+    pub fn log(&self) -> &[u8]
+        ensures { result.now ≡ text_in self.now }
+    {
+        self.log.text()
     }
 
     /// Forgets what was told.
     pub fn clear_log(&mut self)
-        ensures log { log_in self.new ≡ [] }
+        ensures keeps { keeps_lines self.new ≡ keeps_lines self.old }
+        ensures lines { lines_in self.new ≡ [] }
         ensures engine { engine_in self.new ≡ engine_in self.old }
         ensures goes_on { goes_on self.new ≡ goes_on self.old }
     {
@@ -192,7 +220,7 @@ impl<S: Surface> Held<S> {
         ensures why { IfErr result (λ stop. stop ≡ cause.NoMemory) }
         ensures tells { let old = state_in S.mesh S.kept (engine_in self.old) in
             Writes (effect_of Nothing what.now old) (state_in S.mesh S.kept (engine_in self.new))
-            (Some (log_in self.old)) (Some (log_in self.new)) result }
+            (log_in self.old) (log_in self.new) result }
         // A refusal leaves the state as it was.
         ensures left { IfOk result (λ refused. IsSome refused →
             state_in S.mesh S.kept (engine_in self.new)

@@ -10,7 +10,6 @@ mod editing_given;
 mod events;
 mod fitting;
 mod given;
-mod growing;
 mod held;
 mod making;
 mod making_numbered;
@@ -23,9 +22,8 @@ pub use editing_given::{
     AskedEdits, GivenEdit, ToldAnswer, answer_told, edit_asked, edits_asked, put_answers,
     rows_ask_in_range,
 };
-pub use events::{Event, EventRefusal, Events, told_events};
+pub use events::{Event, Events, events_of};
 pub use given::{GivenFace, GivenPoint, NamedFace, NamedPoint};
-pub use growing::GrowingSink;
 pub use held::Held;
 pub use making::{MakeFault, MakeRefusal, track};
 pub use making_numbered::{NumberedFault, NumberedRefusal, track_numbered};

@@ -8,7 +8,7 @@ ghost use Rattle.mesh_journal.specs.Journal.{mesh_in, kept_in};
 ghost use Rattle.track_engine.specs.Engines.{state_in};
 ghost use Rattle.track_engine.specs.State.{unsaved};
 ghost use Rattle.track_held.specs.Given.{point_in, face_in, given_mesh, is_outside, box_fault, too_many_faces, lists_fault, make_fault, IsRefusal, IsFaulty};
-ghost use Rattle.track_held.specs.Held.{engine_in, log_in, goes_on};
+ghost use Rattle.track_held.specs.Held.{engine_in, keeps_lines, lines_in, goes_on};
 ghost use Rattle.track_held.specs.declared.making.MakeRefusal.TheVariants as refusals;
 
 use crate::given::{GivenFace, GivenPoint};
@@ -117,7 +117,8 @@ fn track_lists(alloc: Global, lists: &MeshLists) -> Result<Held<JournalMesh>, Ma
     ensures state { IfOk result (λ held. state_in mesh_in kept_in (engine_in held)
         ≡ unsaved (mesh_under Large lists.now.points lists.now.faces)) }
     ensures goes_on { IfOk result (λ held. goes_on held ≡ true) }
-    ensures log { IfOk result (λ held. log_in held ≡ []) }
+    ensures keeps { IfOk result (λ held. keeps_lines held ≡ true) }
+    ensures lines { IfOk result (λ held. lines_in held ≡ []) }
     ensures valid { IsOk result → IsValidSurface (mesh_under Large lists.now.points lists.now.faces) }
     ensures none { IsOk result → lists_fault lists.now.points lists.now.faces ≡ None }
     ensures first { IfErr result (IsRefusal (lists_fault lists.now.points lists.now.faces)) }
@@ -147,7 +148,8 @@ pub fn track(
     ensures state { IfOk result (λ held. state_in mesh_in kept_in (engine_in held)
         ≡ unsaved (given_mesh points.now faces.now)) }
     ensures goes_on { IfOk result (λ held. goes_on held ≡ true) }
-    ensures log { IfOk result (λ held. log_in held ≡ []) }
+    ensures keeps { IfOk result (λ held. keeps_lines held ≡ true) }
+    ensures lines { IfOk result (λ held. lines_in held ≡ []) }
     // Made: they have no fault, and their mesh is sound, closed and clear.
     ensures valid { IsOk result → IsValidSurface (given_mesh points.now faces.now) }
     ensures none { IsOk result → make_fault points.now faces.now ≡ None }

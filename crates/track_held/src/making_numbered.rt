@@ -9,7 +9,7 @@ ghost use Rattle.track_engine.specs.Engines.{state_in};
 ghost use Rattle.track_engine.specs.State.{unsaved};
 ghost use Rattle.track_held.specs.Given.{is_outside};
 ghost use Rattle.track_held.specs.Numbered.{numbered_point, vertex_in, face_row_in, given_rows, outside_fault, rows_or_meet_fault, numbered_fault, IsRefusal, IsFaulty};
-ghost use Rattle.track_held.specs.Held.{engine_in, log_in, goes_on};
+ghost use Rattle.track_held.specs.Held.{engine_in, keeps_lines, lines_in, goes_on};
 ghost use Rattle.track_held.specs.declared.making_numbered.NumberedRefusal.TheVariants as refusals;
 
 use crate::given::{GivenPoint, NamedFace, NamedPoint};
@@ -128,7 +128,8 @@ fn track_rows(alloc: Global, rows: &MeshRows) -> Result<Held<JournalMesh>, Numbe
     ensures state { IfOk result (λ held. state_in mesh_in kept_in (engine_in held)
         ≡ unsaved (mesh_of_rows Large rows.now)) }
     ensures goes_on { IfOk result (λ held. goes_on held ≡ true) }
-    ensures log { IfOk result (λ held. log_in held ≡ []) }
+    ensures keeps { IfOk result (λ held. keeps_lines held ≡ true) }
+    ensures lines { IfOk result (λ held. lines_in held ≡ []) }
     ensures valid { IsOk result → IsValidSurface (mesh_of_rows Large rows.now) }
     ensures none { IsOk result → rows_or_meet_fault rows.now ≡ None }
     ensures first { IfErr result (IsRefusal (rows_or_meet_fault rows.now)) }
@@ -161,7 +162,8 @@ pub fn track_numbered(
         IfOk result (λ held. state_in mesh_in kept_in (engine_in held)
         ≡ unsaved (mesh_of_rows Large rows)) }
     ensures goes_on { IfOk result (λ held. goes_on held ≡ true) }
-    ensures log { IfOk result (λ held. log_in held ≡ []) }
+    ensures keeps { IfOk result (λ held. keeps_lines held ≡ true) }
+    ensures lines { IfOk result (λ held. lines_in held ≡ []) }
     // Made: they have no fault, and their mesh is sound, closed and clear.
     ensures valid { let rows = given_rows points.now faces.now solids.now next_vertex next_face in
         IsOk result → IsValidSurface (mesh_of_rows Large rows) }

@@ -10,13 +10,13 @@ ghost use Rattle.track_engine.specs.Engines.{state_in};
 ghost use Rattle.track_engine.specs.Invariant.{HasRoom};
 ghost use Rattle.track_engine.specs.Ready.{IsReady};
 ghost use Rattle.track_engine.specs.Told.{step_told, pass_told, step_untold, pass_untold};
-ghost use Rattle.track_held.specs.Growing.{bytes_in};
+ghost use Rattle.log_write.specs.Kept.{told_in};
 
-use crate::growing::GrowingSink;
 use crate::held::Held;
 use edit_base::PassKind;
+use log_write::KeptLines;
 use mesh_base::{Surface, UseWhy};
-use outside_io::{Ends, Stop, TallyDesk};
+use outside_io::Stop;
 use pass_run::PassCount;
 use std::alloc::Global;
 use track_engine::{Engine, StepTold};
@@ -25,25 +25,20 @@ use track_engine::{Engine, StepTold};
 fn tell_step<S: Surface>(
     alloc: Global,
     engine: &mut Engine<S>,
-    log: &mut GrowingSink,
+    log: &mut KeptLines,
 ) -> Result<Result<StepTold, UseWhy>, Stop>
     requires ready { IsReady S.beyond S.mesh S.kept engine.old }
     requires room { HasRoom 1 engine.old.run }
     ensures tells { let old = state_in S.mesh S.kept engine.old in
         Writes (effect_of Nothing Step old) (state_in S.mesh S.kept engine.new)
-        (Some (bytes_in log.old)) (Some (bytes_in log.new)) (step_untold result) }
+        (told_in log.old) (told_in log.new) (step_untold result) }
     ensures told { IfOk result (λ taken. IfOk taken
         (λ told. told ≡ step_told (state_in S.mesh S.kept engine.old))) }
     ensures left { IfOk (step_untold result) (λ refused. IsSome refused →
         state_in S.mesh S.kept engine.new ≡ state_in S.mesh S.kept engine.old) }
     ensures ready { IfOk result (λ _. IsReady S.beyond S.mesh S.kept engine.new) }
 {
-    let mut desk = TallyDesk::new();
-    let mut ends = Ends {
-        desk: &mut desk,
-        out: log,
-    };
-    engine.step(alloc, &mut ends)
+    engine.step(alloc, log)
 }
 
 // Makes a pass, whose lines are told to the log.
@@ -51,22 +46,17 @@ fn tell_pass<S: Surface>(
     alloc: Global,
     engine: &mut Engine<S>,
     kind: PassKind,
-    log: &mut GrowingSink,
+    log: &mut KeptLines,
 ) -> Result<PassCount, Stop>
     requires ready { IsReady S.beyond S.mesh S.kept engine.old }
     ensures tells { let old = state_in S.mesh S.kept engine.old in
         Writes (effect_of Nothing (Pass kind) old) (state_in S.mesh S.kept engine.new)
-        (Some (bytes_in log.old)) (Some (bytes_in log.new)) (pass_untold result) }
+        (told_in log.old) (told_in log.new) (pass_untold result) }
     ensures told { IfOk result
         (λ count. count ≡ pass_told kind (state_in S.mesh S.kept engine.old)) }
     ensures ready { IfOk result (λ _. IsReady S.beyond S.mesh S.kept engine.new) }
 {
-    let mut desk = TallyDesk::new();
-    let mut ends = Ends {
-        desk: &mut desk,
-        out: log,
-    };
-    engine.pass(alloc, kind, &mut ends)
+    engine.pass(alloc, kind, log)
 }
 
 impl<S: Surface> Held<S> {
@@ -83,7 +73,7 @@ impl<S: Surface> Held<S> {
         ensures why { IfErr result (λ stop. stop ≡ cause.NoMemory) }
         ensures tells { let old = state_in S.mesh S.kept (engine_in self.old) in
             Writes (effect_of Nothing Step old) (state_in S.mesh S.kept (engine_in self.new))
-            (Some (log_in self.old)) (Some (log_in self.new)) (step_untold result) }
+            (log_in self.old) (log_in self.new) (step_untold result) }
         ensures told { IfOk result (λ taken. IfOk taken
             (λ told. told ≡ step_told (state_in S.mesh S.kept (engine_in self.old)))) }
         // A refusal leaves the state as it was.
@@ -114,7 +104,7 @@ impl<S: Surface> Held<S> {
         ensures why { IfErr result (λ stop. stop ≡ cause.NoMemory) }
         ensures tells { let old = state_in S.mesh S.kept (engine_in self.old) in
             Writes (effect_of Nothing (Pass kind) old) (state_in S.mesh S.kept (engine_in self.new))
-            (Some (log_in self.old)) (Some (log_in self.new)) (pass_untold result) }
+            (log_in self.old) (log_in self.new) (pass_untold result) }
         ensures told { IfOk result (λ count.
             count ≡ pass_told kind (state_in S.mesh S.kept (engine_in self.old))) }
     {
