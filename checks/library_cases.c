@@ -131,8 +131,17 @@ static void groups(void)
     is("and stays", topo_events(&t, event, 16, &size), TOPO_DONE);
     is("it is forgotten", topo_forget(&t), TOPO_DONE);
     is("nothing is told", topo_counts(&t, &counted), TOPO_DONE);
-    is("of eight vertices", (uint32_t)(counted.vertices == 8 && counted.faces == 8 && counted.log == 0), 1);
+    is("of eight vertices", (uint32_t)(counted.vertices == 8 && counted.faces == 8 && counted.lines == 0), 1);
     is("that come from nine on", (uint32_t)(counted.next_vertex == 9 && counted.next_face == 9 && counted.steps == 1), 1);
+    is("a number that says nothing of lines", topo_keep(&t, 2), TOPO_RANGE);
+    is("a line", topo_solid(&t, 1, &fault), TOPO_DONE);
+    is("is kept", topo_keep(&t, 1) == TOPO_DONE && topo_counts(&t, &counted) == TOPO_DONE && counted.lines == 1, 1);
+    is("no lines", topo_keep(&t, 0), TOPO_DONE);
+    is("are kept or told", topo_solid(&t, 2, &fault) == TOPO_DONE && topo_counts(&t, &counted) == TOPO_DONE && counted.lines == 0, 1);
+    is("and there are no events", topo_events(&t, event, 16, &size) == TOPO_DONE && size == 0, 1);
+    is("and no log", topo_log(&t, 0, 0, &size) == TOPO_DONE && size == 0, 1);
+    is("lines again", topo_keep(&t, 1), TOPO_DONE);
+    is("are told", topo_solid(&t, 3, &fault) == TOPO_DONE && topo_events(&t, event, 16, &size) == TOPO_DONE && size == 1 && event[0].a == 3, 1);
     topo_free(&t);
 }
 

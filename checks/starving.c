@@ -141,7 +141,7 @@ static int is_as_wanted(struct topo *t)
     topo_counts(t, &after);
     if (stopped)
         return wanting != STAYS && only_reads(t);
-    return wanting != STOPS && after.log == before.log && after.vertices == before.vertices && after.faces == before.faces
+    return wanting != STOPS && after.lines == before.lines && after.vertices == before.vertices && after.faces == before.faces
         && after.next_vertex == before.next_vertex && after.next_face == before.next_face && topo_step(t, &way, &fault) == TOPO_DONE;
 }
 

@@ -28,7 +28,7 @@ except ImportError:
     numpy = None
 
 u32, i32, size_t, ref = ctypes.c_uint32, ctypes.c_int32, ctypes.c_size_t, ctypes.byref
-DONE, NO_MEMORY, REFUSED, RANGE, EMPTY, STOPPED, SPENT, UNREAD = range(8)
+DONE, NO_MEMORY, REFUSED, RANGE, EMPTY, STOPPED, SPENT = range(7)
 WAYS = ("whole", "impulse", "zones", "halved", "zero")
 GROUPS = ("none", "kept", "taken back")
 EVENTS = ("", "moved", "split", "flipped", "collapsed", "zipped", "pinched", "solid", "opened", "kept", "undone")
@@ -44,7 +44,6 @@ CODES = {
     EMPTY: "there is no tracker, or it was freed",
     STOPPED: "an earlier directive had no memory: the tracker can be read and freed, no more",
     SPENT: "2^32 - 1 steps were taken",
-    UNREAD: "what was told is not read as lines, or is too long",
 }
 REASONS = {
     1: "no live vertex has the id {a}",
@@ -79,7 +78,7 @@ Vertex = struct("Vertex", id=u32, x_y_z=i32)
 Face = struct("Face", id_a_b_c=u32)
 Way = struct("Way", how_times=u32, hits=size_t)
 Edits = struct("Edits", done_refused=ctypes.c_uint64)
-Counted = type("Counted", (ctypes.Structure,), {"_fields_": [("log", size_t)] + [(word, u32) for word in ("vertices", "faces", "next_vertex", "next_face", "steps")]})
+Counted = type("Counted", (ctypes.Structure,), {"_fields_": [("lines", size_t)] + [(word, u32) for word in ("vertices", "faces", "next_vertex", "next_face", "steps")]})
 Event = struct("Event", kind_a_b_c_d=u32, x_y_z=i32)
 ComponentRow = type("ComponentRow", (ctypes.Structure,), {"_fields_": [("vertex", u32), ("faces", u32), ("euler", ctypes.c_int64), ("volume6_low", ctypes.c_uint64),
                                                                       ("volume6_high", ctypes.c_int64)]})
@@ -87,7 +86,7 @@ Asked = struct("Asked", kind_a_b_c_d=u32)
 Answered = struct("Answered", why_a_b_c=u32, x_y_z=i32)
 
 CALLS = ("topo_new topo_new_numbered topo_free topo_shift_each topo_shift_all topo_set topo_step topo_split topo_collapse topo_flip topo_zip topo_pinch topo_fit topo_edit_each "
-         "topo_solid topo_open topo_close topo_undo topo_counts topo_points topo_faces topo_star topo_beside topo_components topo_solids topo_events topo_log topo_forget topo_version topo_calls").split()
+         "topo_solid topo_open topo_close topo_undo topo_counts topo_points topo_faces topo_star topo_beside topo_components topo_solids topo_events topo_log topo_forget topo_keep topo_version topo_calls").split()
 
 Component = collections.namedtuple("Component", "vertex faces euler volume")
 Answer = collections.namedtuple("Answer", "why a b c at")
@@ -122,8 +121,8 @@ def load(path):
     lacking = [name for name in CALLS if not hasattr(library, name)]
     if lacking:
         raise ImportError(f"{path} is the library of another topo.h: it has no {', '.join(lacking)}")
-    if library.topo_calls() != 2:
-        raise ImportError(f"{path} is the library of another topo.h: its calls have the version {library.topo_calls()}, and not 2")
+    if library.topo_calls() != 3:
+        raise ImportError(f"{path} is the library of another topo.h: its calls have the version {library.topo_calls()}, and not 3")
     if library.topo_version() != 2:
         raise ImportError(f"{path} has another version of the log than 2")
     return library
@@ -444,6 +443,10 @@ class Tracker:
     def forget(self):
         self.call("topo_forget")
 
+    def keep(self, lines):
+        """Keeps the lines that are told from here on, or none: then there is no log, and there are no events."""
+        self.call("topo_keep", u32(1 if lines else 0))
+
     # -- reading
 
     def read(self, name, kind, *words):
@@ -471,7 +474,7 @@ class Tracker:
         return [Component(row.vertex, row.faces, row.euler, (row.volume6_high * 2**64 + row.volume6_low) / 6 * self.unit**3) for row in rows[:size]]
 
     def counts(self):
-        """The bytes of the log, the live vertices and faces, the ids that come next, and the steps taken, by name."""
+        """How many lines the log has, the live vertices and faces, the ids that come next, and the steps taken, by name."""
         counted = Counted()
         self.call("topo_counts", ref(counted))
         return {name: getattr(counted, name) for name, _ in Counted._fields_}
