@@ -11,10 +11,10 @@ returns-in_err-line-clause-takes g c =
     let p = err_from_is_err_and c.from_residual.result c.from_residual.ensures.1 in
     rw (p.1, p.2) (wanting _ _ _ c.in_err-line.ensures.left refl c.in_err-line.ensures.closed c.in_err-line.ensures.clear c.in_err-line.ensures.marks)
 
-pub returns-in_err-write_line-clause-takes : goal.returns-in_err-write_line-clause-takes
-returns-in_err-write_line-clause-takes g c =
-    let p = err_from_is_err_and c.from_residual-in_err-write_line.result c.from_residual-in_err-write_line.ensures.1 in
-    let said = c.in_err-write_line.ensures in
+pub returns-in_err-tell-clause-takes : goal.returns-in_err-tell-clause-takes
+returns-in_err-tell-clause-takes g c =
+    let p = err_from_is_err_and c.from_residual-in_err-tell.result c.from_residual-in_err-tell.ensures.1 in
+    let said = c.in_err-tell.ensures in
     let line = c.in_ok-line.ensures in
     rw (p.1, p.2) (part_here c.args.what.now (exact_answer c.args.depth (g.S.Surface.mesh c.args.mesh.now) c.args.what.now) c.in_ok-line.line _ _ _ line.line line.mesh said.part
     (record { closed = line.closed; clear = line.clear; marks = line.marks; nothing_stored = nothing_stopped _ _ _ said.says.nothing_stored }))
@@ -22,7 +22,7 @@ returns-in_err-write_line-clause-takes g c =
 pub returns-in_err-push-clause-takes : goal.returns-in_err-push-clause-takes
 returns-in_err-push-clause-takes g c =
     let p = err_from_is_err_and c.from_residual-in_err-push.result c.from_residual-in_err-push.ensures.1 in
-    let said = c.in_ok-write_line.ensures.says in
+    let said = c.in_ok-tell.ensures.says in
     let line = c.in_ok-line.ensures in
     rw (p.1, p.2) (stopped_behind _ _ _ c.count_of-count.result
     (said_here c.args.what.now (exact_answer c.args.depth (g.S.Surface.mesh c.args.mesh.now) c.args.what.now) c.in_ok-line.line _ _ c.count_of-count.result line.line line.mesh said.written c.count_of-count.ensures.done c.count_of-count.ensures.refused

@@ -11,24 +11,24 @@ use Rattle.pass_run.proofs.Asking.{lines_make}
 use Rattle.pass_run.proofs.Stages.{first_in_part, first_said, still_kept, leads_to}
 use Rattle.pass_run.proofs.passing.pass_to.Goals as goal
 
-pub returns-in_err-write_line-clause-takes : goal.returns-in_err-write_line-clause-takes
-returns-in_err-write_line-clause-takes g c =
+pub returns-in_err-tell-clause-takes : goal.returns-in_err-tell-clause-takes
+returns-in_err-tell-clause-takes g c =
     let p = err_from_is_err_and c.from_residual.result c.from_residual.ensures.1 in
     let m = g.S.Surface.mesh c.args.mesh.now in
-    let said = c.in_err-write_line.ensures in
+    let said = c.in_err-tell.ensures in
     rw (p.1, p.2) (first_in_part (Pass c.args.terms.kind) (lines_from (exactly c.args.terms) m (candidates m c.args.terms.kind)) _ _ _ refl said.part
     (still_kept _ _ _ refl refl c.requires.closed c.requires.clear (nothing_stopped _ _ _ said.says.nothing_stored)))
 
 pub returns-clause-takes : goal.returns-clause-takes
 returns-clause-takes g c =
     let m = g.S.Surface.mesh c.args.mesh.now in
-    let stood = stage g.S.Surface.mesh g.S.Surface.kept g.O.Outside.around c.args.mesh.now c.write_line.new.outside in
-    let said = c.in_ok-write_line.ensures.says in
+    let stood = stage g.S.Surface.mesh g.S.Surface.kept g.O.Outside.around c.args.mesh.now c.tell.new.self in
+    let said = c.in_ok-tell.ensures.says in
     first_said (Pass c.args.terms.kind) (lines_from (exactly c.args.terms) m (candidates m c.args.terms.kind)) _ stood _ _ c.take_all.result refl refl refl said.written
     (still_kept _ stood _ refl refl c.requires.closed c.requires.clear said.nothing_stored) c.take_all.ensures
 
-pub returns-in_err-write_line-clause-motions : goal.returns-in_err-write_line-clause-motions
-returns-in_err-write_line-clause-motions g c = pass_keeps c.args.terms (g.S.Surface.mesh c.args.mesh.now) (g.met.S.Surface.sound c.args.mesh.now) c.requires.closed c.requires.clear
+pub returns-in_err-tell-clause-motions : goal.returns-in_err-tell-clause-motions
+returns-in_err-tell-clause-motions g c = pass_keeps c.args.terms (g.S.Surface.mesh c.args.mesh.now) (g.met.S.Surface.sound c.args.mesh.now) c.requires.closed c.requires.clear
 
 pub returns-clause-motions : goal.returns-clause-motions
 returns-clause-motions g c = pass_keeps c.args.terms (g.S.Surface.mesh c.args.mesh.now) (g.met.S.Surface.sound c.args.mesh.now) c.requires.closed c.requires.clear

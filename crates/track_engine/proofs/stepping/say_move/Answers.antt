@@ -6,4 +6,4 @@ pub returns-then-not-moves : goal.returns-then-not-moves
 returns-then-not-moves g c = none_said _ c.args.s.now (sym c.if-not-moves.ensures)
 
 pub returns : goal.returns
-returns g c = move_said _ _ c.args.s.now c.write_line.result (sym c.if-not-moves.ensures) c.write_line.ensures.says
+returns g c = move_said _ _ c.args.s.now c.tell.result (sym c.if-not-moves.ensures) c.tell.ensures.says

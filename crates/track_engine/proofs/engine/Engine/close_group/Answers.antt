@@ -15,12 +15,12 @@ returns-in_default-clause-writes g c =
     let kept = g.S.Surface.kept c.args.self.now.mesh in
     ([], none_closed kept c.args.self.now.run.groups (state_of (g.S.Surface.mesh c.args.self.now.mesh) kept c.args.self.now.run) (sym c.in_default.is ∙ c.has_failed.ensures), sym (appended-nil _))
 
-pub returns-in_err-write_line-clause-writes : goal.returns-in_err-write_line-clause-writes
-returns-in_err-write_line-clause-writes g c =
+pub returns-in_err-tell-clause-writes : goal.returns-in_err-tell-clause-writes
+returns-in_err-tell-clause-writes g c =
     let p = err_from_is_err_and c.from_residual.result c.from_residual.ensures.1 in
     let kept = g.S.Surface.kept c.args.self.now.mesh in
     let line = close_line kept c.args.self.now.run.groups (state_of (g.S.Surface.mesh c.args.self.now.mesh) kept c.args.self.now.run) c.in-Some.failed c.in-Some.ensures in
-    rw p.1 (inr (Close (not c.in-Some.failed) ∷ [], line.0, line.1, c.in_err-write_line.ensures.says.written))
+    rw p.1 (inr (Close (not c.in-Some.failed) ∷ [], line.0, line.1, c.in_err-tell.ensures.says.written))
 
 pub returns-then-failed-clause-writes : goal.returns-then-failed-clause-writes
 returns-then-failed-clause-writes g c =
@@ -32,7 +32,7 @@ returns-then-failed-clause-writes g c =
     let next = state_back g.S.Surface.beyond (g.S.Surface.mesh c.args.self.now.mesh) kept run group outer c.in-Some-close.ensures c.requires (g.S.Surface.mesh c.back_to.new.self) (g.S.Surface.kept c.back_to.new.self) group.asked c.back_to.ensures.mesh refl c.back_to.ensures.marks in (
       Close (not c.in-Some.failed) ∷ [],
       goes_back kept run.groups s c.in-Some.failed group outer c.in-Some-close.ensures c.in-Some.ensures c.if-failed.true ∙ ap (Proceeds (Close (not c.in-Some.failed) ∷ [])) (sym next),
-      c.in_ok-write_line.ensures.says.written,
+      c.in_ok-tell.ensures.says.written,
     )
 
 pub returns-then-failed-clause-marks : goal.returns-then-failed-clause-marks
@@ -46,7 +46,7 @@ returns-else-failed-clause-writes g c =
     let s = state_of (g.S.Surface.mesh c.args.self.now.mesh) kept run in (
       Close (not c.in-Some.failed) ∷ [],
       stays_open kept run.groups s c.in-Some.failed c.in-Some-close.group c.close.new.self c.in-Some-close.ensures c.in-Some.ensures c.if-failed.false,
-      c.in_ok-write_line.ensures.says.written,
+      c.in_ok-tell.ensures.says.written,
     )
 
 pub returns-else-failed-clause-marks : goal.returns-else-failed-clause-marks
@@ -56,14 +56,14 @@ returns-else-failed-clause-marks g c =
 pub returns-in_default-clause-marks : goal.returns-in_default-clause-marks
 returns-in_default-clause-marks g c = c.requires
 
-pub returns-in_err-write_line-clause-marks : goal.returns-in_err-write_line-clause-marks
-returns-in_err-write_line-clause-marks g c = c.requires
+pub returns-in_err-tell-clause-marks : goal.returns-in_err-tell-clause-marks
+returns-in_err-tell-clause-marks g c = c.requires
 
 pub returns-in_default-clause-begins : goal.returns-in_default-clause-begins
 returns-in_default-clause-begins g c = begins_left (g.S.Surface.kept c.args.self.now.mesh) c.args.self.now.run.groups
 
-pub returns-in_err-write_line-clause-begins : goal.returns-in_err-write_line-clause-begins
-returns-in_err-write_line-clause-begins g c = begins_left (g.S.Surface.kept c.args.self.now.mesh) c.args.self.now.run.groups
+pub returns-in_err-tell-clause-begins : goal.returns-in_err-tell-clause-begins
+returns-in_err-tell-clause-begins g c = begins_left (g.S.Surface.kept c.args.self.now.mesh) c.args.self.now.run.groups
 
 pub returns-else-failed-clause-begins : goal.returns-else-failed-clause-begins
 returns-else-failed-clause-begins g c = begins_left (g.S.Surface.kept c.args.self.now.mesh) c.args.self.now.run.groups
@@ -82,13 +82,13 @@ returns-then-failed-clause-begins g c =
 pub returns-in_default-clause-nothing_stored : goal.returns-in_default-clause-nothing_stored
 returns-in_default-clause-nothing_stored g c = nothing_done (g.O.Outside.around c.args.outside.now) _
 
-pub returns-in_err-write_line-clause-nothing_stored : goal.returns-in_err-write_line-clause-nothing_stored
-returns-in_err-write_line-clause-nothing_stored g c =
+pub returns-in_err-tell-clause-nothing_stored : goal.returns-in_err-tell-clause-nothing_stored
+returns-in_err-tell-clause-nothing_stored g c =
     let p = err_from_is_err_and c.from_residual.result c.from_residual.ensures.1 in
-    rw (p.1, p.2) (nothing_stopped _ _ _ c.in_err-write_line.ensures.says.nothing_stored)
+    rw (p.1, p.2) (nothing_stopped _ _ _ c.in_err-tell.ensures.says.nothing_stored)
 
 pub returns-then-failed-clause-nothing_stored : goal.returns-then-failed-clause-nothing_stored
-returns-then-failed-clause-nothing_stored g c = nothing_whole _ _ _ _ c.in_ok-write_line.ensures.says.nothing_stored
+returns-then-failed-clause-nothing_stored g c = nothing_whole _ _ _ _ c.in_ok-tell.ensures.says.nothing_stored
 
 pub returns-else-failed-clause-nothing_stored : goal.returns-else-failed-clause-nothing_stored
-returns-else-failed-clause-nothing_stored g c = nothing_whole _ _ _ _ c.in_ok-write_line.ensures.says.nothing_stored
+returns-else-failed-clause-nothing_stored g c = nothing_whole _ _ _ _ c.in_ok-tell.ensures.says.nothing_stored

@@ -45,7 +45,7 @@ returns-clause-writes g c =
     let next : opened (state_of m old run) ≡ state_of (g.S.Surface.mesh c.group_here.new.mesh) new (record run { groups = c.open.new.self }) =
     opened_is g.S.Surface.beyond m old new run c.requires made.begins c.in_ok-group.group made.stands made.asked made.failed
     ∙ (λ i. state_of (sym made.mesh i) new (record run { groups = sym pushed i })) in
-    let said : written_of (g.O.Outside.around c.write_line.new.outside) ≡ appended (written_of (g.O.Outside.around c.args.outside.now)) (text_of_lines (Group ∷ [])) = search rules in
+    let said : written_of (g.O.Outside.around c.tell.new.self) ≡ appended (written_of (g.O.Outside.around c.args.outside.now)) (text_of_lines (Group ∷ [])) = search rules in
     (Group ∷ [], ap (Proceeds (Group ∷ [])) next, said)
 
 pub returns-clause-marks : goal.returns-clause-marks
@@ -83,4 +83,4 @@ pub returns-in-Err-clause-nothing_stored : goal.returns-in-Err-clause-nothing_st
 returns-in-Err-clause-nothing_stored g c = nothing_stopped _ _ _ c.in-Err.ensures.says.nothing_stored
 
 pub returns-clause-nothing_stored : goal.returns-clause-nothing_stored
-returns-clause-nothing_stored g c = nothing_whole _ _ _ _ c.write_line.ensures.says.nothing_stored
+returns-clause-nothing_stored g c = nothing_whole _ _ _ _ c.tell.ensures.says.nothing_stored

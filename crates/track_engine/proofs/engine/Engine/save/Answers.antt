@@ -34,41 +34,41 @@ returns-in_err-name-clause-counts g c =
     let p = err_from_is_err_and c.from_residual-in_err-name.result c.from_residual-in_err-name.ensures.1 in
     rw (p.1, p.2) (counts_unremembered (g.O.Outside.around c.args.outside.now))
 
-pub returns-in_err-write_line-clause-saves : goal.returns-in_err-write_line-clause-saves
-returns-in_err-write_line-clause-saves g c =
-    let p = err_from_is_err_and c.from_residual-in_err-write_line.result c.from_residual-in_err-write_line.ensures.1 in
+pub returns-in_err-tell-clause-saves : goal.returns-in_err-tell-clause-saves
+returns-in_err-tell-clause-saves g c =
+    let p = err_from_is_err_and c.from_residual-in_err-tell.result c.from_residual-in_err-tell.ensures.1 in
     let from = standing (state_in g.S.Surface.mesh g.S.Surface.kept c.args.self.now) in
     let a = g.O.Outside.around c.args.outside.now in
-    let b = g.O.Outside.around c.write_line.new.outside in
+    let b = g.O.Outside.around c.tell.new.self in
     let P : LogLine → Type 0 = λ line. AppendsPart (written_of a) (written_of b) (text_of_line line) in
-    rw p.1 (stops_in_line (target_of c.args.to) c.args.self.now.run.saved from p.0 a b c.in_err-write_line.ensures.says.nothing_stored.files (subst P c.mesh_line.ensures c.in_err-write_line.ensures.part))
+    rw p.1 (stops_in_line (target_of c.args.to) c.args.self.now.run.saved from p.0 a b c.in_err-tell.ensures.says.nothing_stored.files (subst P c.mesh_line.ensures c.in_err-tell.ensures.part))
 
-pub returns-in_err-write_line-clause-counts : goal.returns-in_err-write_line-clause-counts
-returns-in_err-write_line-clause-counts g c =
-    let p = err_from_is_err_and c.from_residual-in_err-write_line.result c.from_residual-in_err-write_line.ensures.1 in
-    rw (p.1, p.2) (counts_stopped _ _ _ c.in_err-write_line.ensures.says.nothing_stored.counts)
+pub returns-in_err-tell-clause-counts : goal.returns-in_err-tell-clause-counts
+returns-in_err-tell-clause-counts g c =
+    let p = err_from_is_err_and c.from_residual-in_err-tell.result c.from_residual-in_err-tell.ensures.1 in
+    rw (p.1, p.2) (counts_stopped _ _ _ c.in_err-tell.ensures.says.nothing_stored.counts)
 
 pub returns-in_err-store-clause-saves : goal.returns-in_err-store-clause-saves
 returns-in_err-store-clause-saves g c =
     let p = err_from_is_err_and c.from_residual-in_err-store.result c.from_residual-in_err-store.ensures.1 in
     let from = standing (state_in g.S.Surface.mesh g.S.Surface.kept c.args.self.now) in
     let a = g.O.Outside.around c.args.outside.now in
-    let b = g.O.Outside.around c.write_line.new.outside in
-    let P : LogLine → Type 0 = λ line. Says {T = Unit {0}} (line ∷ []) a b (Ok c.in_ok-write_line.field-0) in
-    rw (p.1, p.2) (stops_at_store (target_of c.args.to) c.args.self.now.run.saved from a b (g.O.Outside.around c.store.new.self) _ (subst P c.mesh_line.ensures c.in_ok-write_line.ensures.says) c.deref.result.now c.deref-2.result.now (c.deref.ensures ∙ c.in_ok-name.ensures) _ c.in_err-store.ensures)
+    let b = g.O.Outside.around c.tell.new.self in
+    let P : LogLine → Type 0 = λ line. Says {T = Unit {0}} (line ∷ []) a b (Ok c.in_ok-tell.field-0) in
+    rw (p.1, p.2) (stops_at_store (target_of c.args.to) c.args.self.now.run.saved from a b (g.O.Outside.around c.store.new.self) _ (subst P c.mesh_line.ensures c.in_ok-tell.ensures.says) c.deref.result.now c.deref-2.result.now (c.deref.ensures ∙ c.in_ok-name.ensures) _ c.in_err-store.ensures)
 
 pub returns-in_err-store-clause-counts : goal.returns-in_err-store-clause-counts
 returns-in_err-store-clause-counts g c =
     let p = err_from_is_err_and c.from_residual-in_err-store.result c.from_residual-in_err-store.ensures.1 in
-    rw (p.1, p.2) (counts_stopped _ _ _ (counts_then _ _ _ _ _ c.in_ok-write_line.ensures.says.nothing_stored.counts c.in_err-store.ensures.counts))
+    rw (p.1, p.2) (counts_stopped _ _ _ (counts_then _ _ _ _ _ c.in_ok-tell.ensures.says.nothing_stored.counts c.in_err-store.ensures.counts))
 
 pub returns-clause-saves : goal.returns-clause-saves
 returns-clause-saves g c =
     let from = standing (state_in g.S.Surface.mesh g.S.Surface.kept c.args.self.now) in
     let a = g.O.Outside.around c.args.outside.now in
-    let b = g.O.Outside.around c.write_line.new.outside in
-    let P : LogLine → Type 0 = λ line. Says {T = Unit {0}} (line ∷ []) a b (Ok c.in_ok-write_line.field-0) in
-    saves_whole (target_of c.args.to) c.args.self.now.run.saved from a b (g.O.Outside.around c.store.new.self) _ (subst P c.mesh_line.ensures c.in_ok-write_line.ensures.says) c.deref.result.now c.deref-2.result.now (c.deref.ensures ∙ c.in_ok-name.ensures) _ (c.deref-2.ensures.value ∙ c.in_ok-text.ensures) c.in_ok-store.ensures
+    let b = g.O.Outside.around c.tell.new.self in
+    let P : LogLine → Type 0 = λ line. Says {T = Unit {0}} (line ∷ []) a b (Ok c.in_ok-tell.field-0) in
+    saves_whole (target_of c.args.to) c.args.self.now.run.saved from a b (g.O.Outside.around c.store.new.self) _ (subst P c.mesh_line.ensures c.in_ok-tell.ensures.says) c.deref.result.now c.deref-2.result.now (c.deref.ensures ∙ c.in_ok-name.ensures) _ (c.deref-2.ensures.value ∙ c.in_ok-text.ensures) c.in_ok-store.ensures
 
 pub returns-clause-counts : goal.returns-clause-counts
-returns-clause-counts g c = counts_whole _ _ _ _ (counts_then _ _ _ _ _ c.in_ok-write_line.ensures.says.nothing_stored.counts c.in_ok-store.ensures.counts)
+returns-clause-counts g c = counts_whole _ _ _ _ (counts_then _ _ _ _ _ c.in_ok-tell.ensures.says.nothing_stored.counts c.in_ok-store.ensures.counts)

@@ -78,18 +78,18 @@ choose_by_hits-requires-clause-in_box g c =
 pub returns-in-Some-clause-nothing_stored : goal.returns-in-Some-clause-nothing_stored
 returns-in-Some-clause-nothing_stored g c = nothing_done (g.O.Outside.around c.args.outside.now) _
 
-pub returns-in_err-write_line-clause-takes : goal.returns-in_err-write_line-clause-takes
-returns-in_err-write_line-clause-takes g c =
-    let p = err_from_is_err_and c.from_residual-in_err-write_line.result c.from_residual-in_err-write_line.ensures.1 in
+pub returns-in_err-tell-clause-takes : goal.returns-in_err-tell-clause-takes
+returns-in_err-tell-clause-takes g c =
+    let p = err_from_is_err_and c.from_residual-in_err-tell.result c.from_residual-in_err-tell.ensures.1 in
     let m = g.S.Surface.mesh c.args.self.now.mesh in
     let inside : first_outside m (asked_in m c.args.self.now.run.asked) ≡ None = ap (first_outside m) (sym (c.as_slice.ensures ∙ c.in_ok-asked.ensures)) ∙ sym c.first_outside.ensures ∙ c.in_default.is in
     let s = state_of m (g.S.Surface.kept c.args.self.now.mesh) c.args.self.now.run in
-    rw p.1 (step_begins_in_part s inside s p.0 _ _ c.in_err-write_line.ensures.says.written)
+    rw p.1 (step_begins_in_part s inside s p.0 _ _ c.in_err-tell.ensures.says.written)
 
-pub returns-in_err-write_line-clause-nothing_stored : goal.returns-in_err-write_line-clause-nothing_stored
-returns-in_err-write_line-clause-nothing_stored g c =
-    let p = err_from_is_err_and c.from_residual-in_err-write_line.result c.from_residual-in_err-write_line.ensures.1 in
-    rw (p.1, p.2) (nothing_stopped _ _ _ c.in_err-write_line.ensures.says.nothing_stored)
+pub returns-in_err-tell-clause-nothing_stored : goal.returns-in_err-tell-clause-nothing_stored
+returns-in_err-tell-clause-nothing_stored g c =
+    let p = err_from_is_err_and c.from_residual-in_err-tell.result c.from_residual-in_err-tell.ensures.1 in
+    rw (p.1, p.2) (nothing_stopped _ _ _ c.in_err-tell.ensures.says.nothing_stored)
 
 pub returns-in_err-hits-clause-takes : goal.returns-in_err-hits-clause-takes
 returns-in_err-hits-clause-takes g c =
@@ -97,12 +97,12 @@ returns-in_err-hits-clause-takes g c =
     let m = g.S.Surface.mesh c.args.self.now.mesh in
     let inside : first_outside m (asked_in m c.args.self.now.run.asked) ≡ None = ap (first_outside m) (sym (c.as_slice.ensures ∙ c.in_ok-asked.ensures)) ∙ sym c.first_outside.ensures ∙ c.in_default.is in
     let s = state_of m (g.S.Surface.kept c.args.self.now.mesh) c.args.self.now.run in
-    rw p.1 (step_begins s inside s p.0 _ _ c.in_ok-write_line.ensures.says.written)
+    rw p.1 (step_begins s inside s p.0 _ _ c.in_ok-tell.ensures.says.written)
 
 pub returns-in_err-hits-clause-nothing_stored : goal.returns-in_err-hits-clause-nothing_stored
 returns-in_err-hits-clause-nothing_stored g c =
     let p = err_from_is_err_and c.from_residual-in_err-hits.result c.from_residual-in_err-hits.ensures.1 in
-    rw (p.1, p.2) (nothing_forgotten _ _ _ c.in_ok-write_line.ensures.says.nothing_stored)
+    rw (p.1, p.2) (nothing_forgotten _ _ _ c.in_ok-tell.ensures.says.nothing_stored)
 
 pub returns-in_err-hits-clause-marks : goal.returns-in_err-hits-clause-marks
 returns-in_err-hits-clause-marks g c = c.requires.ready.marks
@@ -116,12 +116,12 @@ returns-in_err-say_hits-clause-takes g c =
     let m = g.S.Surface.mesh c.args.self.now.mesh in
     let inside : first_outside m (asked_in m c.args.self.now.run.asked) ≡ None = ap (first_outside m) (sym (c.as_slice.ensures ∙ c.in_ok-asked.ensures)) ∙ sym c.first_outside.ensures ∙ c.in_default.is in
     let s = state_of m (g.S.Surface.kept c.args.self.now.mesh) c.args.self.now.run in
-    rw p.1 (step_hits_in_part s inside c.as_slice-2.result.now (c.as_slice-2.ensures ∙ c.in_ok-hits.ensures ∙ ap (λ (a : Shifts). failing meets_exactly (g.S.Surface.mesh c.args.self.now.mesh) a c.args.self.now.run.set.depth) c.in_ok-asked.ensures) s p.0 _ _ _ c.in_ok-write_line.ensures.says.written c.in_err-say_hits.ensures.written)
+    rw p.1 (step_hits_in_part s inside c.as_slice-2.result.now (c.as_slice-2.ensures ∙ c.in_ok-hits.ensures ∙ ap (λ (a : Shifts). failing meets_exactly (g.S.Surface.mesh c.args.self.now.mesh) a c.args.self.now.run.set.depth) c.in_ok-asked.ensures) s p.0 _ _ _ c.in_ok-tell.ensures.says.written c.in_err-say_hits.ensures.written)
 
 pub returns-in_err-say_hits-clause-nothing_stored : goal.returns-in_err-say_hits-clause-nothing_stored
 returns-in_err-say_hits-clause-nothing_stored g c =
     let p = err_from_is_err_and c.from_residual-in_err-say_hits.result c.from_residual-in_err-say_hits.ensures.1 in
-    rw (p.1, p.2) (nothing_stopped _ _ _ (nothing_then _ _ _ _ _ c.in_ok-write_line.ensures.says.nothing_stored c.in_err-say_hits.ensures.nothing_stored))
+    rw (p.1, p.2) (nothing_stopped _ _ _ (nothing_then _ _ _ _ _ c.in_ok-tell.ensures.says.nothing_stored c.in_err-say_hits.ensures.nothing_stored))
 
 pub returns-in_err-say_hits-clause-marks : goal.returns-in_err-say_hits-clause-marks
 returns-in_err-say_hits-clause-marks g c = c.requires.ready.marks
@@ -135,12 +135,12 @@ returns-in_err-choice-clause-takes g c =
     let m = g.S.Surface.mesh c.args.self.now.mesh in
     let inside : first_outside m (asked_in m c.args.self.now.run.asked) ≡ None = ap (first_outside m) (sym (c.as_slice.ensures ∙ c.in_ok-asked.ensures)) ∙ sym c.first_outside.ensures ∙ c.in_default.is in
     let s = state_of m (g.S.Surface.kept c.args.self.now.mesh) c.args.self.now.run in
-    rw p.1 (step_hits s inside c.as_slice-2.result.now (c.as_slice-2.ensures ∙ c.in_ok-hits.ensures ∙ ap (λ (a : Shifts). failing meets_exactly (g.S.Surface.mesh c.args.self.now.mesh) a c.args.self.now.run.set.depth) c.in_ok-asked.ensures) s p.0 _ _ _ c.in_ok-write_line.ensures.says.written c.in_ok-say_hits.ensures.written)
+    rw p.1 (step_hits s inside c.as_slice-2.result.now (c.as_slice-2.ensures ∙ c.in_ok-hits.ensures ∙ ap (λ (a : Shifts). failing meets_exactly (g.S.Surface.mesh c.args.self.now.mesh) a c.args.self.now.run.set.depth) c.in_ok-asked.ensures) s p.0 _ _ _ c.in_ok-tell.ensures.says.written c.in_ok-say_hits.ensures.written)
 
 pub returns-in_err-choice-clause-nothing_stored : goal.returns-in_err-choice-clause-nothing_stored
 returns-in_err-choice-clause-nothing_stored g c =
     let p = err_from_is_err_and c.from_residual-in_err-choice.result c.from_residual-in_err-choice.ensures.1 in
-    rw (p.1, p.2) (nothing_forgotten _ _ _ (nothing_then _ _ _ _ _ c.in_ok-write_line.ensures.says.nothing_stored c.in_ok-say_hits.ensures.nothing_stored))
+    rw (p.1, p.2) (nothing_forgotten _ _ _ (nothing_then _ _ _ _ _ c.in_ok-tell.ensures.says.nothing_stored c.in_ok-say_hits.ensures.nothing_stored))
 
 pub returns-in_err-choice-clause-marks : goal.returns-in_err-choice-clause-marks
 returns-in_err-choice-clause-marks g c = c.requires.ready.marks
@@ -158,12 +158,12 @@ returns-in_err-take_chosen-clause-takes g c =
     let inside : first_outside m (asked_in m c.args.self.now.run.asked) ≡ None = ap (first_outside m) (sym (c.as_slice.ensures ∙ c.in_ok-asked.ensures)) ∙ sym c.first_outside.ensures ∙ c.in_default.is in
     let s = state_of m (g.S.Surface.kept c.args.self.now.mesh) c.args.self.now.run in
     let t = state_of (g.S.Surface.mesh c.take_chosen.new.self.mesh) (g.S.Surface.kept c.take_chosen.new.self.mesh) c.take_chosen.new.self.run in
-    rw p.1 (step_in_part s c.in_ok-choice.choice inside (c.in_ok-choice.ensures.hits ∙ ap (λ (a : Shifts). failing meets_exactly (g.S.Surface.mesh c.args.self.now.mesh) a c.args.self.now.run.set.depth) c.in_ok-asked.ensures) (c.in_ok-choice.ensures.way ∙ ap (λ (a : Shifts). way_taken meets_exactly (g.S.Surface.mesh c.args.self.now.mesh) a c.args.self.now.run.set) c.in_ok-asked.ensures) t p.0 _ _ _ _ c.in_ok-write_line.ensures.says.written (c.in_ok-say_hits.ensures.written ∙ ap (λ (l : List PairName). appended (written_of (g.O.Outside.around c.write_line.new.outside)) (text_of_lines (hit_lines l))) (c.as_slice-2.ensures ∙ c.in_ok-hits.ensures ∙ sym c.in_ok-choice.ensures.hits)) c.in_err-take_chosen.ensures.says.written)
+    rw p.1 (step_in_part s c.in_ok-choice.choice inside (c.in_ok-choice.ensures.hits ∙ ap (λ (a : Shifts). failing meets_exactly (g.S.Surface.mesh c.args.self.now.mesh) a c.args.self.now.run.set.depth) c.in_ok-asked.ensures) (c.in_ok-choice.ensures.way ∙ ap (λ (a : Shifts). way_taken meets_exactly (g.S.Surface.mesh c.args.self.now.mesh) a c.args.self.now.run.set) c.in_ok-asked.ensures) t p.0 _ _ _ _ c.in_ok-tell.ensures.says.written (c.in_ok-say_hits.ensures.written ∙ ap (λ (l : List PairName). appended (written_of (g.O.Outside.around c.tell.new.self)) (text_of_lines (hit_lines l))) (c.as_slice-2.ensures ∙ c.in_ok-hits.ensures ∙ sym c.in_ok-choice.ensures.hits)) c.in_err-take_chosen.ensures.says.written)
 
 pub returns-in_err-take_chosen-clause-nothing_stored : goal.returns-in_err-take_chosen-clause-nothing_stored
 returns-in_err-take_chosen-clause-nothing_stored g c =
     let p = err_from_is_err_and c.from_residual-in_err-take_chosen.result c.from_residual-in_err-take_chosen.ensures.1 in
-    rw (p.1, p.2) (nothing_stopped _ _ _ (nothing_then _ _ _ _ _ (nothing_then _ _ _ _ _ c.in_ok-write_line.ensures.says.nothing_stored c.in_ok-say_hits.ensures.nothing_stored) c.in_err-take_chosen.ensures.says.nothing_stored))
+    rw (p.1, p.2) (nothing_stopped _ _ _ (nothing_then _ _ _ _ _ (nothing_then _ _ _ _ _ c.in_ok-tell.ensures.says.nothing_stored c.in_ok-say_hits.ensures.nothing_stored) c.in_err-take_chosen.ensures.says.nothing_stored))
 
 pub returns-clause-takes : goal.returns-clause-takes
 returns-clause-takes g c =
@@ -177,10 +177,10 @@ returns-clause-takes g c =
     let failed = groups_failed_along g.S.Surface.beyond kept (g.S.Surface.kept c.args.self.now.mesh) fails run.groups c.take_chosen.ensures.begins c.requires.ready.marks in
     let still = rest_is s c.in_ok-choice.choice inside (c.in_ok-choice.ensures.hits ∙ ap (λ (a : Shifts). failing meets_exactly (g.S.Surface.mesh c.args.self.now.mesh) a c.args.self.now.run.set.depth) c.in_ok-asked.ensures) (c.in_ok-choice.ensures.way ∙ ap (λ (a : Shifts). way_taken meets_exactly (g.S.Surface.mesh c.args.self.now.mesh) a c.args.self.now.run.set) c.in_ok-asked.ensures) c.requires.ready.invariant moved c.in_ok-take_chosen.ensures.moved in
     let P : RunState → Type 0 = λ now. StepTakes s (state_of moved kept now) (written_of (g.O.Outside.around c.args.outside.now)) (written_of (g.O.Outside.around c.take_chosen.new.outside)) (Ok None) in
-    subst P (sym c.in_ok-take_chosen.ensures.run) (step_taken s c.in_ok-choice.choice inside (c.in_ok-choice.ensures.hits ∙ ap (λ (a : Shifts). failing meets_exactly (g.S.Surface.mesh c.args.self.now.mesh) a c.args.self.now.run.set.depth) c.in_ok-asked.ensures) (c.in_ok-choice.ensures.way ∙ ap (λ (a : Shifts). way_taken meets_exactly (g.S.Surface.mesh c.args.self.now.mesh) a c.args.self.now.run.set) c.in_ok-asked.ensures) moved (asked_in moved []) (groups_of kept (failed_if fails run.groups)) _ _ _ _ c.in_ok-take_chosen.ensures.moved still failed c.in_ok-write_line.ensures.says.written (c.in_ok-say_hits.ensures.written ∙ ap (λ (l : List PairName). appended (written_of (g.O.Outside.around c.write_line.new.outside)) (text_of_lines (hit_lines l))) (c.as_slice-2.ensures ∙ c.in_ok-hits.ensures ∙ sym c.in_ok-choice.ensures.hits)) c.in_ok-take_chosen.ensures.says.written)
+    subst P (sym c.in_ok-take_chosen.ensures.run) (step_taken s c.in_ok-choice.choice inside (c.in_ok-choice.ensures.hits ∙ ap (λ (a : Shifts). failing meets_exactly (g.S.Surface.mesh c.args.self.now.mesh) a c.args.self.now.run.set.depth) c.in_ok-asked.ensures) (c.in_ok-choice.ensures.way ∙ ap (λ (a : Shifts). way_taken meets_exactly (g.S.Surface.mesh c.args.self.now.mesh) a c.args.self.now.run.set) c.in_ok-asked.ensures) moved (asked_in moved []) (groups_of kept (failed_if fails run.groups)) _ _ _ _ c.in_ok-take_chosen.ensures.moved still failed c.in_ok-tell.ensures.says.written (c.in_ok-say_hits.ensures.written ∙ ap (λ (l : List PairName). appended (written_of (g.O.Outside.around c.tell.new.self)) (text_of_lines (hit_lines l))) (c.as_slice-2.ensures ∙ c.in_ok-hits.ensures ∙ sym c.in_ok-choice.ensures.hits)) c.in_ok-take_chosen.ensures.says.written)
 
 pub returns-clause-nothing_stored : goal.returns-clause-nothing_stored
-returns-clause-nothing_stored g c = nothing_whole _ _ _ _ (nothing_then _ _ _ _ _ (nothing_then _ _ _ _ _ c.in_ok-write_line.ensures.says.nothing_stored c.in_ok-say_hits.ensures.nothing_stored) c.in_ok-take_chosen.ensures.says.nothing_stored)
+returns-clause-nothing_stored g c = nothing_whole _ _ _ _ (nothing_then _ _ _ _ _ (nothing_then _ _ _ _ _ c.in_ok-tell.ensures.says.nothing_stored c.in_ok-say_hits.ensures.nothing_stored) c.in_ok-take_chosen.ensures.says.nothing_stored)
 
 pub returns-in-Some-clause-marks : goal.returns-in-Some-clause-marks
 returns-in-Some-clause-marks g c = c.requires.ready.marks
@@ -188,11 +188,11 @@ returns-in-Some-clause-marks g c = c.requires.ready.marks
 pub returns-in-Some-clause-begins : goal.returns-in-Some-clause-begins
 returns-in-Some-clause-begins g c = begins_itself (g.S.Surface.kept c.args.self.now.mesh)
 
-pub returns-in_err-write_line-clause-marks : goal.returns-in_err-write_line-clause-marks
-returns-in_err-write_line-clause-marks g c = c.requires.ready.marks
+pub returns-in_err-tell-clause-marks : goal.returns-in_err-tell-clause-marks
+returns-in_err-tell-clause-marks g c = c.requires.ready.marks
 
-pub returns-in_err-write_line-clause-begins : goal.returns-in_err-write_line-clause-begins
-returns-in_err-write_line-clause-begins g c = begins_itself (g.S.Surface.kept c.args.self.now.mesh)
+pub returns-in_err-tell-clause-begins : goal.returns-in_err-tell-clause-begins
+returns-in_err-tell-clause-begins g c = begins_itself (g.S.Surface.kept c.args.self.now.mesh)
 
 pub returns-in_err-take_chosen-clause-marks : goal.returns-in_err-take_chosen-clause-marks
 returns-in_err-take_chosen-clause-marks g c = c.take_chosen.ensures.marks
