@@ -11,7 +11,8 @@ returns-in-Ok-new c = record {
       state = c.in-Ok.ensures.state;
       valid = c.in-Ok.ensures.valid refl;
       goes_on = c.in-Ok.ensures.goes_on;
-      log = c.in-Ok.ensures.log;
+      lines = c.in-Ok.ensures.lines;
+      keeps_on = c.in-Ok.ensures.keeps;
     },
   );
   refused = λ h. absurd (omega (arith, h));
