@@ -14,7 +14,7 @@ returns-then-is_empty c =
     let found = c.in_ok-found.found.items in
     let none : found ≡ [] = none_if found c.in_ok-found.found.len c.in_ok-found.found.ok.0 (sym c.is_empty.ensures ∙ c.if-is_empty.true) in
     IfOk-weaker c.meeting_told.result (λ faults. faults.items ≡ map pair_as_fault (take FAULTS_MAX (meeting_pairs (mesh_under c.args.scale lists.points lists.faces)))) (λ faults. faults.items ≡ faults_told c.args.scale (lists_view lists))
-    (λ faults e. e ∙ with_pairs c.args.scale lists FAULTS_MAX found c.in_ok-found.ensures.all none)
+    (λ faults e. e ∙ with_pairs c.args.scale lists FAULTS_MAX found (omega arith) c.in_ok-found.ensures.found none)
     c.meeting_told.ensures
 
 pub returns : goal.returns
@@ -23,5 +23,5 @@ returns c =
     let found = c.in_ok-found.found.items in
     let some : 0 < length found = some_if found c.in_ok-found.found.len c.in_ok-found.found.ok.0 (sym c.is_empty.ensures ∙ c.if-is_empty.false) in
     IfOk-weaker c.of_shape.result (λ faults. faults.items ≡ map shape_as_fault c.deref.result.now) (λ faults. faults.items ≡ faults_told c.args.scale (lists_view lists))
-    (λ faults e. e ∙ with_shape c.args.scale lists FAULTS_MAX found c.truncate.new.self.items c.deref.result.now c.in_ok-found.ensures.all some c.truncate.ensures.items c.deref.ensures.value)
+    (λ faults e. e ∙ with_shape c.args.scale lists FAULTS_MAX found c.deref.result.now c.in_ok-found.ensures.found some c.deref.ensures.value)
     c.of_shape.ensures
