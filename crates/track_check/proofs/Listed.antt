@@ -55,16 +55,20 @@ with_shape scale lists most found told is any same =
     by_found [] h = absurd (omega arith)
     by_found (f ∷ fs) h = refl
 
--- the pairs, where there is none
-pub with_pairs : (scale : Scale) (lists : MeshLists) (most : ℕ) (found : List ShapeFault) → 0 < most → found ≡ take most (shape_faults scale (length lists.points) lists.faces) → found ≡ [] → map pair_as_fault (take most (meeting_pairs (mesh_under scale lists.points lists.faces))) ≡ take most (faults_in scale (lists_view lists))
-with_pairs scale lists most found some is none =
-    sym (take-map pair_as_fault most (meeting_pairs (mesh_under scale lists.points lists.faces)))
-    ∙ ap (take most) (ap (λ l. faults_by l (mesh_under scale lists.points lists.faces)) (sym (none_of most (shape_faults scale (length lists.points) lists.faces) some (sym is ∙ none))) ∙ sym (same_faults scale lists))
+-- where none is among the first, there is none
+pub none_taken : (n : ℕ) (found all : List ShapeFault) → 0 < n → found ≡ take n all → found ≡ [] → all ≡ []
+none_taken n found all some is none = none_of n all some (sym is ∙ none)
   where
     none_of : (n : ℕ) (l : List ShapeFault) → 0 < n → take n l ≡ [] → l ≡ []
     none_of zero l h e = absurd (omega arith)
     none_of (suc n) [] h e = refl
     none_of (suc n) (f ∷ fs) h e = let count = ap length e in absurd (omega (arith, count))
+
+-- the pairs, where there is none
+pub with_pairs : (scale : Scale) (lists : MeshLists) (most : ℕ) (found : List ShapeFault) → 0 < most → found ≡ take most (shape_faults scale (length lists.points) lists.faces) → found ≡ [] → map pair_as_fault (take most (meeting_pairs (mesh_under scale lists.points lists.faces))) ≡ take most (faults_in scale (lists_view lists))
+with_pairs scale lists most found some is none =
+    sym (take-map pair_as_fault most (meeting_pairs (mesh_under scale lists.points lists.faces)))
+    ∙ ap (take most) (ap (λ l. faults_by l (mesh_under scale lists.points lists.faces)) (sym (none_taken most found (shape_faults scale (length lists.points) lists.faces) some is none)) ∙ sym (same_faults scale lists))
 
 -- ---- by the length that is kept
 pub none_if : {A : Type 0} (xs : List A) (count : ℕ) → count ≡ length xs → (count == 0) ≡ true → xs ≡ []
