@@ -20,7 +20,7 @@ fn wanted(line: u32) -> &'static str {
 pub fn card_reason(alloc: Global, name: &str, fault: CardFault) -> Result<String, AllocError> {
     let (line, wanted) = (fault.line, wanted(fault.line));
     format!(in alloc;
-        "{name}, line {line}: a card has {wanted} there, with one space between words and a line feed behind each line"
+        "{name}, line {line}: a card has {wanted} there, with one space between words and a line feed after each line"
     )
 }
 

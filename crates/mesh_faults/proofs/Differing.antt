@@ -129,7 +129,7 @@ past_both s t ss ts u v is = both (cond {A = ℕ} (same_ends s (u, v)) 1 0) (tim
     both : (k a b c d : ℕ) → c ≡ k + a → d ≡ k + b → not (a == b) ≡ not (c == d)
     both k a b c d e e' = grind (arith, nat_tests)
 
-has_one : (list : List (ℕ × ℕ)) (s : ℕ × ℕ) (u v : ℕ) → has_side (list ++ s ∷ []) u v ≡ (has_side list u v || same_ends s (u, v))
+pub has_one : (list : List (ℕ × ℕ)) (s : ℕ × ℕ) (u v : ℕ) → has_side (list ++ s ∷ []) u v ≡ (has_side list u v || same_ends s (u, v))
 has_one list s u v = has_joined list (s ∷ []) u v ∙ ap (λ b. has_side list u v || b) (last (eq_by_cmp edge_cmp (u, v) s) ∙ sym (is_side s u v))
   where
     last : (b : Bool) → (b || false) ≡ b
@@ -162,7 +162,7 @@ module _ (one other : List (ℕ × ℕ)) (i j : ℕ) (d e : ℕ × ℕ) (in_one 
   from_other : drop j other ≡ t ∷ drop (j + 1) other
   from_other = drop-cons other j e in_other ∙ ap (λ n. t ∷ drop n other) (sym (add-one j))
 
-  pub walks_one : (rank rank' : ℕ) → rank ≡ side_rank s → rank' ≡ side_rank t → rank < rank' → new ≡ old ++ s ∷ [] → Walks one other i j old new (i + 1, j)
+  pub walks_one : (rank rank' : ℕ) → rank ≡ side_rank s → rank' ≡ side_rank t → rank < rank' → ((u v : ℕ) → has_side new u v ≡ (has_side old u v || same_ends s (u, v))) → Walks one other i j old new (i + 1, j)
   walks_one rank rank' is is' lower put =
       let less : side_rank s < side_rank t = omega (arith, is, is', lower) in
       let gone = not_behind other j s e ordered'.rises in_other less in
@@ -171,13 +171,12 @@ module _ (one other : List (ℕ × ℕ)) (i j : ℕ) (d e : ℕ × ℕ) (in_one 
         in_one = omega arith;
         in_other = omega arith;
         same = λ u v.
-            ap (λ l. has_side l u v || differs (drop (i + 1) one) (drop j other) u v) put
-            ∙ ap (λ b. b || differs (drop (i + 1) one) (drop j other) u v) (has_one old s u v)
+            ap (λ b. b || differs (drop (i + 1) one) (drop j other) u v) (put u v)
             ∙ past_first (has_side old u v) s (drop (i + 1) one) (drop j other) u v gone
             ∙ ap (λ l. has_side old u v || differs l (drop j other) u v) (sym from_one);
       }
 
-  pub walks_other : (rank' rank : ℕ) → rank' ≡ side_rank t → rank ≡ side_rank s → rank' < rank → new ≡ old ++ t ∷ [] → Walks one other i j old new (i, j + 1)
+  pub walks_other : (rank' rank : ℕ) → rank' ≡ side_rank t → rank ≡ side_rank s → rank' < rank → ((u v : ℕ) → has_side new u v ≡ (has_side old u v || same_ends t (u, v))) → Walks one other i j old new (i, j + 1)
   walks_other rank' rank is' is lower put =
       let less : side_rank t < side_rank s = omega (arith, is, is', lower) in
       let gone = not_behind one i t d ordered.rises in_one less in
@@ -186,8 +185,7 @@ module _ (one other : List (ℕ × ℕ)) (i j : ℕ) (d e : ℕ × ℕ) (in_one 
         in_one = omega arith;
         in_other = omega arith;
         same = λ u v.
-            ap (λ l. has_side l u v || differs (drop i one) (drop (j + 1) other) u v) put
-            ∙ ap (λ b. b || differs (drop i one) (drop (j + 1) other) u v) (has_one old t u v)
+            ap (λ b. b || differs (drop i one) (drop (j + 1) other) u v) (put u v)
             ∙ ap (λ b. (has_side old u v || same_ends t (u, v)) || b) (either_differs (drop i one) (drop (j + 1) other) u v)
             ∙ past_first (has_side old u v) t (drop (j + 1) other) (drop i one) u v gone
             ∙ ap (λ l. has_side old u v || differs l (drop i one) u v) (sym from_other)
@@ -231,20 +229,38 @@ one_left ss ts u v (inr none) =
     ∙ sym (last (has_side ss u v))
     ∙ ap (λ l. has_side ss u v || has_side l u v) (sym none)
 
+-- each of some sides is put at the end
+pub each_more : (sides list new : List (ℕ × ℕ)) (i : ℕ) (d : ℕ × ℕ) (u v : ℕ) (all : Bool) → i < length sides → has_side new u v ≡ (has_side list u v || same_ends (get_or sides i d) (u, v))
+    → (has_side list u v || has_side (drop i sides) u v) ≡ all → (has_side new u v || has_side (drop (i + 1) sides) u v) ≡ all
+each_more sides list new i d u v all h put so_far =
+    let s : ℕ × ℕ = get_or sides i d in
+    let ss : List (ℕ × ℕ) = drop (i + 1) sides in
+    ap (λ b. b || has_side ss u v) put
+    ∙ grouped (has_side list u v) (same_ends s (u, v)) (has_side ss u v)
+    ∙ ap (λ b. has_side list u v || (b || has_side ss u v)) (is_side s u v)
+    ∙ ap (λ l. has_side list u v || has_side l u v) (sym (drop-cons sides i d h ∙ ap (λ n. s ∷ drop n sides) (sym (add-one i))))
+    ∙ so_far
+  where
+    grouped : (a b c : Bool) → ((a || b) || c) ≡ (a || (b || c))
+    grouped true b c = refl
+    grouped false b c = refl
+
+pub each_end : (sides list : List (ℕ × ℕ)) (i u v : ℕ) (all : Bool) → length sides ≤ i → (has_side list u v || has_side (drop i sides) u v) ≡ all → has_side list u v ≡ all
+each_end sides list i u v all h so_far = sym (last (has_side list u v)) ∙ ap (λ l. has_side list u v || has_side l u v) (sym (drop_all i sides h)) ∙ so_far
+
 tail_of : (xs : List (ℕ × ℕ)) (i : ℕ) → take (length xs - i) (drop i xs) ≡ drop i xs
 tail_of xs i = let left = length-drop i xs in take_all (length xs - i) (drop i xs) (omega arith)
 
 -- both tails are put at the end
-pub tails_put : (one other list middle whole : List (ℕ × ℕ)) (i j : ℕ) → middle ≡ list ++ take (length one - i) (drop i one) → whole ≡ middle ++ take (length other - j) (drop j other) → whole ≡ (list ++ drop i one) ++ drop j other
-tails_put one other list middle whole i j first second =
-    second ∙ ap (λ l. middle ++ l) (tail_of other j) ∙ ap (λ l. l ++ drop j other) (first ∙ ap (λ l. list ++ l) (tail_of one i))
+pub tails_put : (one other list middle whole : List (ℕ × ℕ)) (i j : ℕ) (u v : ℕ) → has_side middle u v ≡ (has_side list u v || has_side (take (length one - i) (drop i one)) u v)
+    → has_side whole u v ≡ (has_side middle u v || has_side (take (length other - j) (drop j other)) u v) → has_side whole u v ≡ ((has_side list u v || has_side (drop i one) u v) || has_side (drop j other) u v)
+tails_put one other list middle whole i j u v first second =
+    second ∙ ap (λ l. has_side middle u v || has_side l u v) (tail_of other j) ∙ ap (λ b. b || has_side (drop j other) u v) (first ∙ ap (λ l. has_side list u v || has_side l u v) (tail_of one i))
 
-pub walked_through : (one other list whole : List (ℕ × ℕ)) (i j : ℕ) (all : Bool) (u v : ℕ) → (length one ≤ i) ⊎ (length other ≤ j) → whole ≡ (list ++ drop i one) ++ drop j other
+pub walked_through : (one other list whole : List (ℕ × ℕ)) (i j : ℕ) (all : Bool) (u v : ℕ) → (length one ≤ i) ⊎ (length other ≤ j) → has_side whole u v ≡ ((has_side list u v || has_side (drop i one) u v) || has_side (drop j other) u v)
     → (has_side list u v || differs (drop i one) (drop j other) u v) ≡ all → has_side whole u v ≡ all
 walked_through one other list whole i j all u v through made so_far =
-    ap (λ l. has_side l u v) made
-    ∙ has_joined (list ++ drop i one) (drop j other) u v
-    ∙ ap (λ b. b || has_side (drop j other) u v) (has_joined list (drop i one) u v)
+    made
     ∙ grouped (has_side list u v) (has_side (drop i one) u v) (has_side (drop j other) u v)
     ∙ ap (λ b. has_side list u v || b) (sym (one_left (drop i one) (drop j other) u v (⊎_elim (λ h. inl (drop_all i one h)) (λ h. inr (drop_all j other h)) through)))
     ∙ so_far

@@ -1,5 +1,5 @@
 -- The first of all faults is the one that `shape_fault` names.
-use Rattle.std.proofs.Common.{◌≡◌, ℕ, ◌+◌, ◌==◌, not, Bool, true, false, cond, List, [], ◌∷◌, ◌++◌, Option, Some, None, map, length, nat_lt, slice_get, if◌then◌else◌, option_map, refl, sym, ap, ◌∙◌}
+use Rattle.std.proofs.Common.{◌≡◌, ℕ, ◌+◌, ◌==◌, not, Bool, true, false, cond, List, [], ◌∷◌, ◌++◌, Option, Some, None, map, length, take, nat_lt, slice_get, if◌then◌else◌, option_map, refl, sym, ap, ◌∙◌}
 use Rattle.std.specs.Option.{option_or}
 use Rattle.mesh_base.specs.declared.ids.Corners.{Corners}
 use Rattle.mesh_base.specs.declared.faults.ShapeFault.{ShapeFault}
@@ -12,6 +12,7 @@ use Rattle.mesh_base.specs.Pairs.{id_pairs}
 use Rattle.mesh_plain.specs.Shape.{is_vertex, bad_corner, no_vertex_from, repeats, repeated_from, doubled_from, runs_in, numbers_to, first_unbalanced, shape_fault}
 use Rattle.mesh_faults.specs.ShapeFaults.{one_if, no_vertices_in, no_vertices_from, all_repeated_from, first_equal, doubled_by, all_doubled_from, unbalanced_fault, unbalanced_pairs, limit_faults, shape_faults}
 use Rattle.pair_scan.proofs.Lists.{head_filtered}
+use Rattle.mesh_faults.proofs.Prefixes.{same_before}
 use Rattle.mesh_faults.proofs.Firsts.{first_pair}
 
 abbrev head : {A : Type 0} → List A → Option A
@@ -104,11 +105,17 @@ first_is_shape_fault scale n fs =
     six p q r s t u = λ i. option_or (option_or (p i) (option_or (q i) (option_or (r i) (option_or (s i) (t i))))) (u i)
 
 -- ---- they are put into one list, kind by kind
-pub kinds_joined : (scale : Scale) (n : ℕ) (fs : Faces) (l0 l1 l2 l3 l4 l5 : List ShapeFault) → l0 ≡ [] → l1 ≡ l0 ++ limit_faults scale n (length fs) → l2 ≡ l1 ++ no_vertices_from n 1 fs → l3 ≡ l2 ++ all_repeated_from 1 fs → l4 ≡ l3 ++ all_doubled_from 1 fs
-    → l5 ≡ l4 ++ map unbalanced_fault (unbalanced_pairs n fs) → l5 ≡ shape_faults scale n fs
-kinds_joined scale n fs l0 l1 l2 l3 l4 l5 e0 e1 e2 e3 e4 e5 =
-    e5
-    ∙ ap (λ l. l ++ map unbalanced_fault (unbalanced_pairs n fs)) (e4
-    ∙ ap (λ l. l ++ all_doubled_from 1 fs) (e3
-    ∙ ap (λ l. l ++ all_repeated_from 1 fs) (e2
-    ∙ ap (λ l. l ++ no_vertices_from n 1 fs) (e1 ∙ ap (λ l. l ++ limit_faults scale n (length fs)) e0))))
+pub kinds_joined : (scale : Scale) (n : ℕ) (fs : Faces) (most : ℕ) (l0 l1 l2 l3 l4 l5 : List ShapeFault) → l0 ≡ [] → take most l1 ≡ take most (l0 ++ limit_faults scale n (length fs)) → take most l2 ≡ take most (l1 ++ no_vertices_from n 1 fs)
+    → take most l3 ≡ take most (l2 ++ all_repeated_from 1 fs) → take most l4 ≡ take most (l3 ++ all_doubled_from 1 fs) → take most l5 ≡ take most (l4 ++ map unbalanced_fault (unbalanced_pairs n fs))
+    → take most l5 ≡ take most (shape_faults scale n fs)
+kinds_joined scale n fs most l0 l1 l2 l3 l4 l5 e0 e1 e2 e3 e4 e5 =
+    let a : List ShapeFault = limit_faults scale n (length fs) in
+    let b : List ShapeFault = no_vertices_from n 1 fs in
+    let c : List ShapeFault = all_repeated_from 1 fs in
+    let d : List ShapeFault = all_doubled_from 1 fs in
+    let e : List ShapeFault = map unbalanced_fault (unbalanced_pairs n fs) in
+    let f1 : take most l1 ≡ take most a = e1 ∙ ap (λ l. take most (l ++ a)) e0 in
+    let f2 : take most l2 ≡ take most (a ++ b) = e2 ∙ same_before most l1 a b f1 in
+    let f3 : take most l3 ≡ take most ((a ++ b) ++ c) = e3 ∙ same_before most l2 (a ++ b) c f2 in
+    let f4 : take most l4 ≡ take most (((a ++ b) ++ c) ++ d) = e4 ∙ same_before most l3 ((a ++ b) ++ c) d f3 in
+    e5 ∙ same_before most l4 (((a ++ b) ++ c) ++ d) e f4

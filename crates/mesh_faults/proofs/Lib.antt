@@ -1,3 +1,4 @@
+pub mod Prefixes
 pub mod Steps
 pub mod Firsts
 pub mod Heads

@@ -1,11 +1,10 @@
 -- Two faces have one key exactly where they are equal up to rotation.
-use Rattle.std.proofs.Common.{◌≡◌, ◌⊎◌, ℕ, ◌+◌, ◌*◌, ◌^◌, ◌<◌, ◌≤◌, ◌||◌, min, Bool, true, false, cond, List, [], ◌∷◌, ◌++◌, reverse, Option, Some, None, length, drop, get_or, add-one, refl, sym, ap, subst, ◌∙◌, inl, inr, ⊎_elim, arith}
+use Rattle.std.proofs.Common.{◌≡◌, ◌⊎◌, ℕ, ◌+◌, ◌*◌, ◌^◌, ◌<◌, ◌≤◌, ◌||◌, min, Bool, true, false, cond, List, [], ◌∷◌, ◌++◌, take, Some, length, drop, get_or, add-one, refl, sym, ap, subst, ◌∙◌, inl, inr, ⊎_elim, arith}
 use Rattle.std.specs.Prelude.{nat_eq}
 use Rattle.std.specs.List.{position_from, AllByRecursion}
 use Rattle.std.specs.HashMap.{HashMap, get}
 use Rattle.std.proofs.Math.Seq.{drop-cons}
 use Rattle.std.proofs.lemmas.Bool.Decides.{nat_tests}
-use Rattle.std.proofs.lemmas.List.{reverse-append}
 use Rattle.mesh_base.specs.declared.ids.Corners.{Corners}
 use Rattle.mesh_base.specs.declared.faults.ShapeFault.{ShapeFault}
 use Rattle.mesh_base.specs.Mesh.{turned, same_corners, equal_up_to_rotation}
@@ -13,6 +12,7 @@ use Rattle.mesh_base.specs.Changes.{corners_of}
 use Rattle.mesh_base.specs.Given.{Faces}
 use Rattle.mesh_base.proofs.Tests.{or_either, both_ways}
 use Rattle.mesh_plain.proofs.DoubledKeys.{same_from_facts, same_itself}
+use Rattle.mesh_faults.proofs.Prefixes.{behind_taken}
 use Rattle.mesh_faults.specs.ShapeFaults.{first_equal, doubled_by, all_doubled_from}
 use Rattle.mesh_faults.specs.Doubled.{rank_of, turn_key, HasSmallCorners, has_turn_key, IsSeen, HasFirsts}
 
@@ -147,20 +147,15 @@ module _ (faces : Faces) (i : ℕ) (d : List ℕ) (h : i < length faces) where
       ∙ ap (position_from (has_turn_key q) (i + 1)) (sym from_here)
 
   -- and it is put before those behind it, where the map has one with its key
-  pub doubled_more : {S : Type 0} (seen : HashMap ℕ ℕ S) (old new : List ShapeFault) → HasFirsts seen (i + 1 + 1) behind → AreSmallFaces behind → HasSmallCorners (corners_of f) → reverse old ≡ all_doubled_from (i + 1 + 1) behind
-      → new ≡ old ++ doubled_by (i + 1) (get nat_eq seen (turn_key (corners_of f))) → reverse new ≡ all_doubled_from (i + 1) (drop i faces)
-  doubled_more seen old new firsts rest here so_far put =
-      ap reverse put
-      ∙ reverse-append old (doubled_by (i + 1) (get nat_eq seen (turn_key (corners_of f))))
-      ∙ ap (λ l. reverse (doubled_by (i + 1) (get nat_eq seen (turn_key (corners_of f)))) ++ l) so_far
-      ∙ ap (λ l. l ++ all_doubled_from (i + 1 + 1) behind) (one_or_none (get nat_eq seen (turn_key (corners_of f))))
-      ∙ ap (λ o. doubled_by (i + 1) o ++ all_doubled_from (i + 1 + 1) behind) second
-      ∙ ap (all_doubled_from (i + 1)) (sym from_here)
+  pub doubled_more : {S : Type 0} (most : ℕ) (seen : HashMap ℕ ℕ S) (old new : List ShapeFault) → HasFirsts seen (i + 1 + 1) behind → AreSmallFaces behind → HasSmallCorners (corners_of f) → old ≡ take most (all_doubled_from (i + 1 + 1) behind)
+      → new ≡ take most (doubled_by (i + 1) (get nat_eq seen (turn_key (corners_of f))) ++ old) → new ≡ take most (all_doubled_from (i + 1) (drop i faces))
+  doubled_more most seen old new firsts rest here so_far put =
+      put
+      ∙ ap (λ l. take most (doubled_by (i + 1) (get nat_eq seen (turn_key (corners_of f))) ++ l)) so_far
+      ∙ behind_taken most (doubled_by (i + 1) (get nat_eq seen (turn_key (corners_of f)))) (all_doubled_from (i + 1 + 1) behind)
+      ∙ ap (λ o. take most (doubled_by (i + 1) o ++ all_doubled_from (i + 1 + 1) behind)) second
+      ∙ ap (λ l. take most (all_doubled_from (i + 1) l)) (sym from_here)
     where
-      one_or_none : (o : Option ℕ) → reverse (doubled_by (i + 1) o) ≡ doubled_by (i + 1) o
-      one_or_none None = refl
-      one_or_none (Some k) = refl
-
       second : get nat_eq seen (turn_key (corners_of f)) ≡ first_equal (i + 1 + 1) f behind
       second = firsts (turn_key (corners_of f)) ∙ position_same (λ g. HasSmallCorners (corners_of g)) (has_turn_key (turn_key (corners_of f))) (λ g. equal_up_to_rotation (corners_of f) (corners_of g)) (λ g small. same_tests f g here small) (i + 1 + 1) behind rest
 
@@ -176,9 +171,9 @@ module _ (faces : Faces) (behind_at i number : ℕ) (d : List ℕ) (is : i + 1 �
   firsts_back old new firsts seen =
       firsts_more faces i d inside old new (subst (λ n. HasFirsts old (n + 1) (drop n faces)) (sym is) firsts) (subst (λ n. IsSeen (turn_key (corners_of (get_or faces i d))) n old new) numbered seen)
 
-  pub doubled_back : {S : Type 0} (seen : HashMap ℕ ℕ S) (old new : List ShapeFault) → HasFirsts seen (behind_at + 1) (drop behind_at faces) → AreSmallFaces (drop behind_at faces) → HasSmallCorners (corners_of (get_or faces i d)) → reverse old ≡ all_doubled_from (behind_at + 1) (drop behind_at faces)
-      → new ≡ old ++ doubled_by number (get nat_eq seen (turn_key (corners_of (get_or faces i d)))) → reverse new ≡ all_doubled_from (i + 1) (drop i faces)
-  doubled_back seen old new firsts rest here so_far put =
-      doubled_more faces i d inside seen old new (subst (λ n. HasFirsts seen (n + 1) (drop n faces)) (sym is) firsts) (subst (λ n. AreSmallFaces (drop n faces)) (sym is) rest) here
-      (so_far ∙ ap (λ n. all_doubled_from (n + 1) (drop n faces)) (sym is))
-      (put ∙ ap (λ n. old ++ doubled_by n (get nat_eq seen (turn_key (corners_of (get_or faces i d))))) numbered)
+  pub doubled_back : {S : Type 0} (most : ℕ) (seen : HashMap ℕ ℕ S) (old new : List ShapeFault) → HasFirsts seen (behind_at + 1) (drop behind_at faces) → AreSmallFaces (drop behind_at faces) → HasSmallCorners (corners_of (get_or faces i d)) → old ≡ take most (all_doubled_from (behind_at + 1) (drop behind_at faces))
+      → new ≡ take most (doubled_by number (get nat_eq seen (turn_key (corners_of (get_or faces i d)))) ++ old) → new ≡ take most (all_doubled_from (i + 1) (drop i faces))
+  doubled_back most seen old new firsts rest here so_far put =
+      doubled_more faces i d inside most seen old new (subst (λ n. HasFirsts seen (n + 1) (drop n faces)) (sym is) firsts) (subst (λ n. AreSmallFaces (drop n faces)) (sym is) rest) here
+      (so_far ∙ ap (λ n. take most (all_doubled_from (n + 1) (drop n faces))) (sym is))
+      (put ∙ ap (λ n. take most (doubled_by n (get nat_eq seen (turn_key (corners_of (get_or faces i d)))) ++ old)) numbered)

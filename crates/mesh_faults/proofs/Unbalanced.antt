@@ -1,5 +1,5 @@
 -- The sides that run more often one way than the other are the unbalanced pairs.
-use Rattle.std.proofs.Common.{◌≡◌, ℕ, ◌+◌, ◌^◌, ◌<◌, ◌≤◌, ◌==◌, ◌&&◌, ◌||◌, not, Bool, true, false, cond, List, [], ◌∷◌, ◌++◌, map, nat_lt, length, drop, get_or, zero, suc, add-one, append_assoc, if◌then◌else◌, refl, sym, ap, subst, ◌∙◌, arith}
+use Rattle.std.proofs.Common.{◌≡◌, ℕ, ◌+◌, ◌^◌, ◌<◌, ◌≤◌, ◌==◌, ◌&&◌, ◌||◌, not, Bool, true, false, cond, List, [], ◌∷◌, ◌++◌, map, nat_lt, length, take, drop, get_or, zero, suc, add-one, append_assoc, if◌then◌else◌, refl, sym, ap, subst, ◌∙◌, arith}
 use Rattle.std.specs.List.{filter}
 use Rattle.std.specs.List.Sorted.{IsNonDecreasingBy, IsStrictlySortedBy}
 use Rattle.std.proofs.Math.Seq.{drop-cons}
@@ -18,6 +18,7 @@ use Rattle.mesh_plain.specs.Balance.{same_ends, times, HasRuns}
 use Rattle.mesh_plain.specs.Shape.{is_vertex, runs_in, numbers_to}
 use Rattle.mesh_faults.specs.Balance.{AreSmall, IsInOrder, differs, are_vertices, HasUnbalanced}
 use Rattle.mesh_faults.specs.ShapeFaults.{one_if, unbalanced_fault, unbalanced_pairs}
+use Rattle.mesh_faults.proofs.Prefixes.{same_before}
 use Rattle.mesh_faults.proofs.Differing.{has_joined, is_side, same_side, some_times}
 use Rattle.mesh_faults.proofs.Numbered.{numbered_pairs_sorted, has_numbered, has_chosen}
 
@@ -108,7 +109,7 @@ between_vertices n fs sides sorted has =
         ∙ sym (has_chosen (λ p. not (runs_in fs p.0 p.1 == runs_in fs p.1 p.0)) (id_pairs (numbers_to n)) u v ∙ ap (λ b. not (runs_in fs u v == runs_in fs v u) && b) (has_numbered n u v))
 
 -- ---- one side more is put at the end, where it is between vertices
-module _ (n : ℕ) (sides : List (ℕ × ℕ)) where
+module _ (most n : ℕ) (sides : List (ℕ × ℕ)) where
   abbrev rest : List (ℕ × ℕ) → List ShapeFault
   rest ss = map unbalanced_fault (filter (are_vertices n) ss)
 
@@ -119,15 +120,17 @@ module _ (n : ℕ) (sides : List (ℕ × ℕ)) where
       by_test true = refl
       by_test false = refl
 
-  pub between_more : (i : ℕ) (d : ℕ × ℕ) (old new whole : List ShapeFault) → i < length sides → old ++ rest (drop i sides) ≡ whole → new ≡ old ++ one_if (are_vertices n (get_or sides i d)) (unbalanced_fault (get_or sides i d)) → new ++ rest (drop (i + 1) sides) ≡ whole
+  pub between_more : (i : ℕ) (d : ℕ × ℕ) (old new whole : List ShapeFault) → i < length sides → take most (old ++ rest (drop i sides)) ≡ whole → take most new ≡ take most (old ++ one_if (are_vertices n (get_or sides i d)) (unbalanced_fault (get_or sides i d))) → take most (new ++ rest (drop (i + 1) sides)) ≡ whole
   between_more i d old new whole h so_far put =
       let s : ℕ × ℕ = get_or sides i d in
-      ap (λ l. l ++ rest (drop (i + 1) sides)) put
-      ∙ append_assoc old (one_if (are_vertices n s) (unbalanced_fault s)) (rest (drop (i + 1) sides))
+      let whole_of : (old ++ one_if (are_vertices n s) (unbalanced_fault s)) ++ rest (drop (i + 1) sides) ≡ old ++ rest (drop i sides) =
+      append_assoc old (one_if (are_vertices n s) (unbalanced_fault s)) (rest (drop (i + 1) sides))
       ∙ ap (λ l. old ++ l) (sym (next_side s (drop (i + 1) sides)))
       ∙ ap (λ k. old ++ rest (s ∷ drop k sides)) (add-one i)
-      ∙ ap (λ l. old ++ rest l) (sym (drop-cons sides i d h))
+      ∙ ap (λ l. old ++ rest l) (sym (drop-cons sides i d h)) in
+      same_before most new (old ++ one_if (are_vertices n s) (unbalanced_fault s)) (rest (drop (i + 1) sides)) put
+      ∙ ap (take most) whole_of
       ∙ so_far
 
-  pub between_end : (i : ℕ) (list whole : List ShapeFault) → length sides ≤ i → list ++ rest (drop i sides) ≡ whole → list ≡ whole
-  between_end i list whole h so_far = sym (append-nil list) ∙ ap (λ l. list ++ rest l) (sym (drop_all i sides h)) ∙ so_far
+  pub between_end : (i : ℕ) (list whole : List ShapeFault) → length sides ≤ i → take most (list ++ rest (drop i sides)) ≡ whole → take most list ≡ whole
+  between_end i list whole h so_far = ap (take most) (sym (append-nil list) ∙ ap (λ l. list ++ rest l) (sym (drop_all i sides h))) ∙ so_far

@@ -1,12 +1,12 @@
 //! The two vertices between which faces do not run as often one way as the other.
-ghost use Rattle.std.specs.Prelude.{ℕ, ◌≡◌, ◌≤◌, ◌<◌, ◌+◌, ◌==◌, ◌&&◌, ◌||◌, not, length, drop, map, IsOk, IfOk};
+ghost use Rattle.std.specs.Prelude.{ℕ, ◌≡◌, ◌≤◌, ◌<◌, ◌+◌, ◌==◌, ◌&&◌, ◌||◌, not, length, drop, map, IsOk, OnOk, IfOk};
 ghost use Rattle.std.specs.List.{filter};
 ghost use Rattle.std.specs.List.Sorted.{IsNonDecreasingBy, IsStrictlySortedBy};
 ghost use Rattle.mesh_base.specs.Sides.{follows};
 ghost use Rattle.mesh_base.specs.SideList.{edge_cmp, side_rank, has_side, HasSmallEnds};
 ghost use Rattle.mesh_base.specs.Changes.{corners_of};
 ghost use Rattle.mesh_plain.specs.Shape.{runs_in};
-ghost use Rattle.mesh_plain.specs.Balance.{times, HasRuns, AddsRuns};
+ghost use Rattle.mesh_plain.specs.Balance.{same_ends, times, HasRuns, AddsRuns};
 ghost use Rattle.mesh_faults.specs.ShapeFaults.{unbalanced_fault, unbalanced_pairs};
 ghost use Rattle.mesh_faults.specs.Listing.{Adds};
 ghost use Rattle.mesh_faults.specs.Balance.{AreSmall, IsInOrder, differs, Walks, are_vertices, HasUnbalanced};
@@ -95,6 +95,28 @@ fn put_in_order(sides: &mut Vec<Side>)
     sides.sort_unstable_by_key(|side| rank(*side));
 }
 
+// Puts a side at the end of the list, unless it is the last there.
+fn put_new(side: Side, list: &mut Vec<Side>) -> Result<(), NoMemory>
+    ensures { OnOk result ((u v : ℕ) →
+        has_side list.new.items u v ≡ (has_side list.old.items u v || same_ends side (u, v))) }
+{
+    if list.last() != Some(&side) {
+        list.push(side)?;
+    }
+    Ok(())
+}
+
+// Puts each of the sides at the end of the list that is not the one before it.
+fn put_each(sides: &[Side], list: &mut Vec<Side>) -> Result<(), NoMemory>
+    ensures { OnOk result ((u v : ℕ) →
+        has_side list.new.items u v ≡ (has_side list.old.items u v || has_side sides.now u v)) }
+{
+    for side in sides {
+        put_new(*side, list)?;
+    }
+    Ok(())
+}
+
 // Walks two lists in order one step: past the earlier of their next sides, which is put at the end of the list, or past both where they
 // are the same.
 fn walk(
@@ -112,11 +134,11 @@ fn walk(
 {
     let (s, t) = (one[i], other[j]);
     if rank(s) < rank(t) {
-        list.push(s)?;
+        put_new(s, list)?;
         return Ok((i + 1, j));
     }
     if rank(t) < rank(s) {
-        list.push(t)?;
+        put_new(t, list)?;
         return Ok((i, j + 1));
     }
     Ok((i + 1, j + 1))
@@ -137,8 +159,8 @@ fn differing(alloc: Global, one: &[Side], other: &[Side]) -> Result<Vec<Side>, N
         i = next_i;
         j = next_j;
     }
-    list.extend_from_slice(&one[i..])?;
-    list.extend_from_slice(&other[j..])?;
+    put_each(&one[i..], &mut list)?;
+    put_each(&other[j..], &mut list)?;
     Ok(list)
 }
 
@@ -182,12 +204,22 @@ fn unbalanced_fault(side: Side) -> ShapeFault
 }
 
 // Puts those of the sides whose ends are vertices, of `n`, at the end of the list.
-fn put_between(n: usize, sides: &[Side], faults: &mut Vec<ShapeFault>) -> Result<(), NoMemory>
-    ensures { Adds result faults.old faults.new
+fn put_between(
+    n: usize,
+    sides: &[Side],
+    most: usize,
+    faults: &mut Vec<ShapeFault>,
+) -> Result<(), NoMemory>
+    ensures { Adds most result faults.old faults.new
         (map unbalanced_fault (filter (are_vertices n) sides.now)) }
 {
     for side in sides {
-        put_if(are_vertices(n, *side), unbalanced_fault(*side), faults)?;
+        put_if(
+            are_vertices(n, *side),
+            unbalanced_fault(*side),
+            most,
+            faults,
+        )?;
     }
     Ok(())
 }
@@ -197,11 +229,15 @@ pub(crate) fn put_unbalanced(
     alloc: Global,
     n: usize,
     faces: &[[u32; 3]],
+    most: usize,
     faults: &mut Vec<ShapeFault>,
 ) -> Result<(), NoMemory>
-    ensures { Adds result faults.old faults.new
+    ensures { Adds most result faults.old faults.new
         (map unbalanced_fault (unbalanced_pairs n faces.now)) }
 {
+    if most <= faults.len() {
+        return Ok(());
+    }
     let sides = unbalanced(alloc, faces)?;
-    put_between(n, &sides, faults)
+    put_between(n, &sides, most, faults)
 }

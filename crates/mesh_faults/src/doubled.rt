@@ -1,5 +1,5 @@
 //! The faces that a later one equals up to rotation.
-ghost use Rattle.std.specs.Prelude.{◌≡◌, nat_eq, min, reverse, OnOk, IfOk};
+ghost use Rattle.std.specs.Prelude.{◌≡◌, ◌++◌, nat_eq, min, take, OnOk, IfOk};
 ghost use Rattle.std.specs.HashMap.{get};
 ghost use Rattle.mesh_base.specs.Changes.{corners_of};
 ghost use Rattle.mesh_faults.specs.ShapeFaults.{all_doubled_from, doubled_by};
@@ -10,7 +10,7 @@ use crate::listing::face_number;
 use grid_base::NoMemory;
 use mesh_base::ShapeFault;
 use std::alloc::Global;
-use std::collections::HashMap;
+use std::collections::{HashMap, VecDeque};
 
 fn least(a: u128, b: u128) -> u128
     ensures { result ≡ min a b }
@@ -34,35 +34,41 @@ fn turn_key(f: &[u32; 3]) -> u128
     least(least(rank(a, b, c), rank(b, c, a)), rank(c, a, b))
 }
 
-// Sees a face: it is now the first with its key. If there was one before, the two are put at the end of the list.
+// Sees a face: it is now the first with its key. If there was one before, the two are put before the others; the first `most` are kept.
 fn put_face(
     face: u32,
     f: &[u32; 3],
+    most: usize,
     seen: &mut HashMap<u128, u32>,
-    faults: &mut Vec<ShapeFault>,
+    faults: &mut VecDeque<ShapeFault>,
 ) -> Result<(), NoMemory>
     ensures seen { OnOk result (IsSeen (turn_key (corners_of f.now)) face seen.old seen.new) }
-    ensures faults { Adds result faults.old faults.new
-        (doubled_by face (get nat_eq seen.old (turn_key (corners_of f.now)))) }
+    ensures faults { OnOk result (faults.new.items ≡ take most
+        (doubled_by face (get nat_eq seen.old (turn_key (corners_of f.now))) ++ faults.old.items)) }
     ensures small { HasSmallCorners (corners_of f.now) }
 {
     if let Some(second) = seen.insert(turn_key(f), face)? {
         let first = face;
-        faults.push(ShapeFault::Doubled { first, second })?;
+        faults.push_front(ShapeFault::Doubled { first, second })?;
     }
+    faults.truncate(most);
     Ok(())
 }
 
-// The faces that a later one equals up to rotation, each with the first such, the last of them first.
-fn doubled_backward(alloc: Global, faces: &[[u32; 3]]) -> Result<Vec<ShapeFault>, NoMemory>
-    ensures { IfOk result (λ list. reverse list.items ≡ all_doubled_from 1 faces.now) }
+// The first `most` of the faces that a later one equals up to rotation, each with the first such, found from the last face on.
+fn doubled_backward(
+    alloc: Global,
+    faces: &[[u32; 3]],
+    most: usize,
+) -> Result<VecDeque<ShapeFault>, NoMemory>
+    ensures { IfOk result (λ list. list.items ≡ take most (all_doubled_from 1 faces.now)) }
 {
     let mut seen = HashMap::new(alloc);
-    let mut list = Vec::new(alloc);
+    let mut list = VecDeque::new(alloc);
     let mut i = faces.len();
     while i > 0 {
         i -= 1;
-        put_face(face_number(i)?, &faces[i], &mut seen, &mut list)?;
+        put_face(face_number(i)?, &faces[i], most, &mut seen, &mut list)?;
     }
     Ok(list)
 }
@@ -71,12 +77,15 @@ fn doubled_backward(alloc: Global, faces: &[[u32; 3]]) -> Result<Vec<ShapeFault>
 pub(crate) fn put_doubled(
     alloc: Global,
     faces: &[[u32; 3]],
+    most: usize,
     faults: &mut Vec<ShapeFault>,
 ) -> Result<(), NoMemory>
-    ensures { Adds result faults.old faults.new (all_doubled_from 1 faces.now) }
+    ensures { Adds most result faults.old faults.new (all_doubled_from 1 faces.now) }
 {
-    let mut list = doubled_backward(alloc, faces)?;
-    list.as_mut_slice().reverse();
-    faults.extend_from_slice(&list)?;
+    if most <= faults.len() {
+        return Ok(());
+    }
+    let mut list = doubled_backward(alloc, faces, most)?;
+    faults.extend_from_slice(list.make_contiguous())?;
     Ok(())
 }

@@ -1,5 +1,5 @@
 //! All faults of the shape of lists.
-ghost use Rattle.std.specs.Prelude.{◌≡◌, length, slice_get, IfOk};
+ghost use Rattle.std.specs.Prelude.{◌≡◌, length, take, slice_get, IfOk};
 ghost use Rattle.mesh_plain.specs.Shape.{shape_fault};
 ghost use Rattle.mesh_faults.specs.ShapeFaults.{shape_faults};
 
@@ -10,29 +10,32 @@ use grid_base::NoMemory;
 use mesh_base::{MeshLists, Scale, ShapeFault};
 use std::alloc::Global;
 
-/// All that keeps lists from making a closed mesh within the limits of a scale, in the order of `ShapeFault`, and of each kind by rising
-/// place: too many points or faces; each corner that is no vertex; each face with a corner twice; each face that a later one equals up to
-/// rotation, with the first such; and each two vertices, the smaller first, between which the faces do not run as often one way as the
-/// other. The first is the one that `shape` of mesh_plain refuses, so there is none exactly where that accepts. Takes time in proportion
-/// to the faces and the logarithm of their number. Refuses only where there is no memory, and where there are 2^32 faces or more, whose
-/// numbers a fault does not tell.
+/// What keeps lists from making a closed mesh within the limits of a scale, the first so many of it at most, in the order of `ShapeFault`,
+/// and of each kind by rising place: too many points or faces; each corner that is no vertex; each face with a corner twice; each face
+/// that a later one equals up to rotation, with the first such; and each two vertices, the smaller first, between which the faces do not
+/// run as often one way as the other. The first is the one that `shape` of mesh_plain refuses, so there is none exactly where that
+/// accepts. Takes time in proportion to the faces and the logarithm of their number, and beside what it answers at most some 40 bytes of
+/// memory a face. Refuses only where there is no memory, and where there are 2^32 faces or more, whose numbers a fault does not tell.
 pub fn shape_faults(
     alloc: Global,
     scale: Scale,
     lists: &MeshLists,
+    most: usize,
 ) -> Result<Vec<ShapeFault>, NoMemory>
-    ensures all { IfOk result
-        (λ found. found.items ≡ shape_faults scale (length lists.now.points) lists.now.faces) }
-    ensures first { IfOk result (λ found.
-        slice_get found.items 0 ≡ shape_fault scale (length lists.now.points) lists.now.faces) }
+    ensures found { IfOk result (λ found.
+        found.items ≡ take most (shape_faults scale (length lists.now.points) lists.now.faces)) }
+    // The first of all of them is the one that a test for one finds.
+    ensures first { slice_get (shape_faults scale (length lists.now.points) lists.now.faces) 0
+        ≡ shape_fault scale (length lists.now.points) lists.now.faces }
 {
     let n = lists.points.len();
     let faces = lists.faces.as_slice();
     let mut faults = Vec::new(alloc);
-    put_limits(scale, n, faces.len(), &mut faults)?;
-    put_no_vertices(n, faces, &mut faults)?;
-    put_repeated(faces, &mut faults)?;
-    put_doubled(alloc, faces, &mut faults)?;
-    put_unbalanced(alloc, n, faces, &mut faults)?;
+    put_limits(scale, n, faces.len(), most, &mut faults)?;
+    put_no_vertices(n, faces, most, &mut faults)?;
+    put_repeated(faces, most, &mut faults)?;
+    put_doubled(alloc, faces, most, &mut faults)?;
+    put_unbalanced(alloc, n, faces, most, &mut faults)?;
+    faults.truncate(most);
     Ok(faults)
 }

@@ -1,4 +1,4 @@
-//! Faults that are put at the end of a list.
+//! Faults that are put at the end of a list, of which the first so many are kept.
 ghost use Rattle.std.specs.Prelude.{◌≡◌, ◌+◌, length, not, IfOk};
 ghost use Rattle.mesh_base.specs.Changes.{corners_of};
 ghost use Rattle.mesh_plain.specs.Shape.{is_vertex, repeats};
@@ -8,15 +8,16 @@ ghost use Rattle.mesh_faults.specs.Listing.{Adds};
 use grid_base::NoMemory;
 use mesh_base::{Scale, ShapeFault};
 
-/// Puts a fault at the end of the list, where it is one.
+/// Puts a fault at the end of the list, where it is one and there is room among the first `most`.
 pub(crate) fn put_if(
     is: bool,
     fault: ShapeFault,
+    most: usize,
     faults: &mut Vec<ShapeFault>,
 ) -> Result<(), NoMemory>
-    ensures { Adds result faults.old faults.new (one_if is fault) }
+    ensures { Adds most result faults.old faults.new (one_if is fault) }
 {
-    if is {
+    if is && faults.len() < most {
         faults.push(fault)?;
     }
     Ok(())
@@ -45,23 +46,27 @@ fn put_no_vertices_in(
     n: usize,
     face: u32,
     f: &[u32; 3],
+    most: usize,
     faults: &mut Vec<ShapeFault>,
 ) -> Result<(), NoMemory>
-    ensures { Adds result faults.old faults.new (no_vertices_in n face (corners_of f.now)) }
+    ensures { Adds most result faults.old faults.new (no_vertices_in n face (corners_of f.now)) }
 {
     put_if(
         !is_vertex(n, f[0]),
         ShapeFault::NoVertex { face, corner: 1 },
+        most,
         faults,
     )?;
     put_if(
         !is_vertex(n, f[1]),
         ShapeFault::NoVertex { face, corner: 2 },
+        most,
         faults,
     )?;
     put_if(
         !is_vertex(n, f[2]),
         ShapeFault::NoVertex { face, corner: 3 },
+        most,
         faults,
     )
 }
@@ -70,12 +75,13 @@ fn put_no_vertices_in(
 pub(crate) fn put_no_vertices(
     n: usize,
     faces: &[[u32; 3]],
+    most: usize,
     faults: &mut Vec<ShapeFault>,
 ) -> Result<(), NoMemory>
-    ensures { Adds result faults.old faults.new (no_vertices_from n 1 faces.now) }
+    ensures { Adds most result faults.old faults.new (no_vertices_from n 1 faces.now) }
 {
     for (i, f) in faces.iter().enumerate() {
-        put_no_vertices_in(n, face_number(i)?, f, faults)?;
+        put_no_vertices_in(n, face_number(i)?, f, most, faults)?;
     }
     Ok(())
 }
@@ -87,12 +93,16 @@ fn repeats(f: &[u32; 3]) -> bool
 }
 
 /// Puts the faces with a corner twice at the end of the list.
-pub(crate) fn put_repeated(faces: &[[u32; 3]], faults: &mut Vec<ShapeFault>) -> Result<(), NoMemory>
-    ensures { Adds result faults.old faults.new (all_repeated_from 1 faces.now) }
+pub(crate) fn put_repeated(
+    faces: &[[u32; 3]],
+    most: usize,
+    faults: &mut Vec<ShapeFault>,
+) -> Result<(), NoMemory>
+    ensures { Adds most result faults.old faults.new (all_repeated_from 1 faces.now) }
 {
     for (i, f) in faces.iter().enumerate() {
         let face = face_number(i)?;
-        put_if(repeats(f), ShapeFault::Repeated { face }, faults)?;
+        put_if(repeats(f), ShapeFault::Repeated { face }, most, faults)?;
     }
     Ok(())
 }
@@ -102,9 +112,10 @@ pub(crate) fn put_limits(
     scale: Scale,
     points: usize,
     faces: usize,
+    most: usize,
     faults: &mut Vec<ShapeFault>,
 ) -> Result<(), NoMemory>
-    ensures { Adds result faults.old faults.new (limit_faults scale points faces) }
+    ensures { Adds most result faults.old faults.new (limit_faults scale points faces) }
 {
     let limits = scale.limits();
     let too_many_vertices = ShapeFault::TooManyVertices {
@@ -113,6 +124,11 @@ pub(crate) fn put_limits(
     let too_many_faces = ShapeFault::TooManyFaces {
         count: faces as u64,
     };
-    put_if(points > limits.vertices as usize, too_many_vertices, faults)?;
-    put_if(faces > limits.faces as usize, too_many_faces, faults)
+    put_if(
+        points > limits.vertices as usize,
+        too_many_vertices,
+        most,
+        faults,
+    )?;
+    put_if(faces > limits.faces as usize, too_many_faces, most, faults)
 }

@@ -27,7 +27,7 @@ fn expected_off(line: &[u8], why: TextWhy) -> &'static str {
     match why {
         TextWhy::Unknown => other_off(line),
         TextWhy::Short =>
-            "there are too few words: behind OFF come the counts V F E, V lines X Y Z, and F lines that begin with how many corners there are, and have them",
+            "there are too few words: after OFF come the counts V F E, V lines X Y Z, and F lines that begin with how many corners there are, and have them",
         _ => expected_row(why),
     }
 }
@@ -55,7 +55,7 @@ fn other_head(line: &[u8]) -> &'static str {
         (b"format", b"ascii") => "the second line of the head is `format ascii 1.0`",
         (b"format", _) => "binary PLY is not read: store the file as ASCII PLY",
         (b"element", name) if !is_known_element(name) =>
-            "elements other than `vertex` and, behind it, `face` are not read: store the file without them",
+            "elements other than `vertex` and, after it, `face` are not read: store the file without them",
         (b"property", b"list") =>
             "the one list that is read is `property list TYPE TYPE vertex_indices`, the first property of a face",
         (b"property", _) =>

@@ -50,6 +50,6 @@ pub fn output_read_reason(alloc: Global, name: &str) -> Result<String, AllocErro
 /// Says that standard output goes to a file in whose place the job may store another.
 pub fn output_stored_reason(alloc: Global, name: &str) -> Result<String, AllocError> {
     format!(in alloc;
-        "standard output goes to {name}, a name that this job may store: what it tells would be lost, so send it to a name of its own"
+        "standard output goes to {name}, a name that this job may store: what is written there would be lost, so send it to a name of its own"
     )
 }

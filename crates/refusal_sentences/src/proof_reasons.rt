@@ -17,7 +17,7 @@ fn expected(why: TextWhy) -> &'static str {
         TextWhy::Short => "there are too few words, or the last line has no end",
         TextWhy::Long => "there are too many words",
         TextWhy::Order =>
-            "no such line can stand here: motions rise by their lines and pairs by their numbers, behind each pair stands its tree, and the last line is `end`",
+            "no such line can stand here: motions rise by their lines and pairs by their numbers, after each pair stands its tree, and the last line is `end`",
         _ => "a line of a proof begins with topo, motion, pair, dir, half or end",
     }
 }

@@ -119,14 +119,14 @@ fn what_is_refused(alloc: Global, why: UseWhy) -> Result<String, AllocError> {
             "there is no vertex {v} here: it was not made yet, or an edit has taken it away"
         ),
         UseWhy::ShiftRange { v } => format!(in alloc;
-            "what is asked of vertex {v} in all is above {SHIFT_MAX} in size"
+            "what is requested of vertex {v} in all is above {SHIFT_MAX} in size"
         ),
         UseWhy::Box { v } => format!(in alloc;
             "vertex {v} would leave the box, whose coordinates are at most {BOX} in size"
         ),
         UseWhy::NoField => String::from_str(alloc, "there is no field of this name"),
         UseWhy::Solid { v } => format!(in alloc;
-            "vertex {v} is solid, and no shift may be asked of it"
+            "vertex {v} is solid, and no shift may be requested of it"
         ),
     }
 }

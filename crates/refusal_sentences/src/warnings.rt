@@ -71,7 +71,7 @@ pub fn rounding_warning(
             return Ok(None);
         }
         let said = format!(in alloc;
-            "digits behind decimal {fine_decimals} of the coordinates were rounded; no grid that holds the mesh keeps them"
+            "digits after decimal {fine_decimals} of the coordinates were rounded; no grid that holds the mesh keeps them"
         )?;
         return Ok(Some(said));
     }
@@ -80,7 +80,7 @@ pub fn rounding_warning(
     let keeps = decimals_that_keep(fine, fine_decimals, decimals);
     if is_finer {
         let said = format!(in alloc;
-            "{count} of {all} coordinates were rounded by up to {most}; --decimals {fine_decimals} keeps them to that decimal, and what is behind it no grid that holds the mesh keeps"
+            "{count} of {all} coordinates were rounded by up to {most}; --decimals {fine_decimals} keeps them to that decimal, and what is after it no grid that holds the mesh keeps"
         )?;
         return Ok(Some(said));
     }

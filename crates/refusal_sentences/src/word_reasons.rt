@@ -182,7 +182,7 @@ fn options_of(wanted: Wanted) -> &'static str {
 // Says that there is no such option.
 fn unknown_reason(alloc: Global, wanted: Wanted, word: &str) -> Result<String, AllocError> {
     if is_word(word.as_bytes(), b"--help") || is_word(word.as_bytes(), b"-h") {
-        return format!(in alloc; "{word} stands alone, or alone behind a command");
+        return format!(in alloc; "{word} stands alone, or alone after a command");
     }
     let options = options_of(wanted);
     format!(in alloc; "{word:?} has a dash in front, so it is no name of a file, and {options}")
@@ -297,7 +297,7 @@ fn file_reason(
             "`--large` and `--decimals N`"
         };
         let said = format!(in alloc;
-            "{word:?} is a word too many: behind the files of `topo {form}` only {options} may stand"
+            "{word:?} is a word too many: after the files of `topo {form}` only {options} may stand"
         )?;
         return Ok(Some(said));
     }
@@ -322,7 +322,7 @@ fn behind_dashes_reason(
 ) -> Result<Option<String>, AllocError> {
     if word.starts_with('-') {
         let said = format!(in alloc;
-            "{word:?} stands behind `--`, where names of files stand alone, and it has a dash in front"
+            "{word:?} stands after `--`, where names of files stand alone, and it has a dash in front"
         )?;
         return Ok(Some(said));
     }

@@ -1,5 +1,5 @@
 -- Lists of faults, and their lines.
-use Rattle.std.proofs.Common.{◌≡◌, ℕ, suc, ◌+◌, ◌<◌, ◌≤◌, ◌==◌, true, false, List, [], ◌∷◌, ◌++◌, length, map, take, drop, get_or, slice_get, add-one, append_assoc, refl, sym, ap, ◌∙◌, arith}
+use Rattle.std.proofs.Common.{◌≡◌, ℕ, zero, suc, ◌+◌, ◌<◌, ◌≤◌, ◌==◌, true, false, List, [], ◌∷◌, ◌++◌, length, map, take, drop, get_or, slice_get, add-one, append_assoc, refl, sym, ap, subst, ◌∙◌, arith}
 use Rattle.std.specs.List.{flat_map}
 use Rattle.std.proofs.Math.Seq.{drop-cons}
 use Rattle.std.proofs.lemmas.Bool.{eqb-true}
@@ -39,21 +39,36 @@ same_faults scale lists =
     ∙ ap (faults_by (shape_faults scale (length lists.points) lists.faces)) (same_mesh scale lists)
 
 -- the faults of shape, where there is one
-pub with_shape : (scale : Scale) (lists : MeshLists) (most : ℕ) (found some told : List ShapeFault) → found ≡ shape_faults scale (length lists.points) lists.faces → 0 < length found → some ≡ take most found → told ≡ some → map shape_as_fault told ≡ take most (faults_in scale (lists_view lists))
-with_shape scale lists most found some told is any cut same =
-    ap (map shape_as_fault) (same ∙ cut)
-    ∙ sym (take-map shape_as_fault most found)
-    ∙ ap (take most) (by_found found any ∙ ap (λ l. faults_by l (mesh_under scale lists.points lists.faces)) is ∙ sym (same_faults scale lists))
+pub with_shape : (scale : Scale) (lists : MeshLists) (most : ℕ) (found told : List ShapeFault) → found ≡ take most (shape_faults scale (length lists.points) lists.faces) → 0 < length found → told ≡ found → map shape_as_fault told ≡ take most (faults_in scale (lists_view lists))
+with_shape scale lists most found told is any same =
+    let all : List ShapeFault = shape_faults scale (length lists.points) lists.faces in
+    ap (map shape_as_fault) (same ∙ is)
+    ∙ sym (take-map shape_as_fault most all)
+    ∙ ap (take most) (by_found all (some_of most all (subst (λ l. 0 < length l) is any)) ∙ sym (same_faults scale lists))
   where
+    some_of : (n : ℕ) (l : List ShapeFault) → 0 < length (take n l) → 0 < length l
+    some_of zero l h = absurd (omega arith)
+    some_of (suc n) [] h = absurd (omega arith)
+    some_of (suc n) (f ∷ fs) h = omega arith
+
     by_found : (l : List ShapeFault) → 0 < length l → map shape_as_fault l ≡ faults_by l (mesh_under scale lists.points lists.faces)
     by_found [] h = absurd (omega arith)
     by_found (f ∷ fs) h = refl
 
+-- where none is among the first, there is none
+pub none_taken : (n : ℕ) (found all : List ShapeFault) → 0 < n → found ≡ take n all → found ≡ [] → all ≡ []
+none_taken n found all some is none = none_of n all some (sym is ∙ none)
+  where
+    none_of : (n : ℕ) (l : List ShapeFault) → 0 < n → take n l ≡ [] → l ≡ []
+    none_of zero l h e = absurd (omega arith)
+    none_of (suc n) [] h e = refl
+    none_of (suc n) (f ∷ fs) h e = let count = ap length e in absurd (omega (arith, count))
+
 -- the pairs, where there is none
-pub with_pairs : (scale : Scale) (lists : MeshLists) (most : ℕ) (found : List ShapeFault) → found ≡ shape_faults scale (length lists.points) lists.faces → found ≡ [] → map pair_as_fault (take most (meeting_pairs (mesh_under scale lists.points lists.faces))) ≡ take most (faults_in scale (lists_view lists))
-with_pairs scale lists most found is none =
+pub with_pairs : (scale : Scale) (lists : MeshLists) (most : ℕ) (found : List ShapeFault) → 0 < most → found ≡ take most (shape_faults scale (length lists.points) lists.faces) → found ≡ [] → map pair_as_fault (take most (meeting_pairs (mesh_under scale lists.points lists.faces))) ≡ take most (faults_in scale (lists_view lists))
+with_pairs scale lists most found some is none =
     sym (take-map pair_as_fault most (meeting_pairs (mesh_under scale lists.points lists.faces)))
-    ∙ ap (take most) (ap (λ l. faults_by l (mesh_under scale lists.points lists.faces)) (sym none ∙ is) ∙ sym (same_faults scale lists))
+    ∙ ap (take most) (ap (λ l. faults_by l (mesh_under scale lists.points lists.faces)) (sym (none_taken most found (shape_faults scale (length lists.points) lists.faces) some is none)) ∙ sym (same_faults scale lists))
 
 -- ---- by the length that is kept
 pub none_if : {A : Type 0} (xs : List A) (count : ℕ) → count ≡ length xs → (count == 0) ≡ true → xs ≡ []

@@ -55,11 +55,10 @@ pub(crate) fn faults_told(
 ) -> Result<Vec<Fault>, NoMemory>
     ensures { IfOk result (λ faults. faults.items ≡ faults_told scale (lists_view lists.now)) }
 {
-    let mut found = shape_faults(alloc, scale, lists)?;
+    let found = shape_faults(alloc, scale, lists, FAULTS_MAX)?;
     if found.is_empty() {
         return meeting_told(alloc, scale, lists);
     }
-    found.truncate(FAULTS_MAX);
     of_shape(alloc, &found)
 }
 

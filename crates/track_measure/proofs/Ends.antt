@@ -31,6 +31,10 @@ use Rattle.track_measure.specs.Measured.{line_text, MeasuresLine, MeasuresLines}
 use Rattle.track_measure.specs.Headline.{text_told, IsToldOf}
 use Rattle.track_measure.proofs.LinesTold.{measure_some}
 
+-- what a line told from where nothing has changed
+pub told_since : (number : ℕ) (s : LogState) (line : LogLine) (old mid new : Around) (result : Result Bool Stop) → mid ≡ old → MeasuresLine number s line mid new result → MeasuresLine number s line old new result
+told_since number s line old mid new result same measured = subst (λ w. MeasuresLine number s line w new result) same measured
+
 -- ---- lists
 
 take_front : (xs rest : List ℕ) → take (length xs) (xs ++ rest) ≡ xs

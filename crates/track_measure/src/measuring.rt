@@ -120,6 +120,7 @@ fn measure_each<O: Outside>(
     let mut number: u32 = 0;
     for line in lines {
         number += 1;
+        outside.progress(number);
         if !measure_line(alloc, run, number, line, &mut shape, outside)? {
             return refuse(alloc, &LogRefusal::Replay { line: number }, outside);
         }

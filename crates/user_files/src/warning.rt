@@ -51,11 +51,11 @@ fn steps_warnings(alloc: Global, bytes: &[u8], into: &mut Vec<String>) -> Result
         )?;
     }
     if end.is_unsaved {
-        let unsaved = "what is done behind the last `save` is stored in no mesh";
+        let unsaved = "what is done after the last `save` is stored in no mesh";
         warn(alloc, unsaved, into)?;
     }
     if asks_in_vain(alloc, bytes, &end)? {
-        let vain = "shifts are asked behind the last `step`, and nothing takes them";
+        let vain = "shifts are requested after the last `step`, and nothing takes them";
         warn(alloc, vain, into)?;
     }
     Ok(())

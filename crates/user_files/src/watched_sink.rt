@@ -64,12 +64,16 @@ impl<'l, 'a, K: Sink, R: Eprint + Clock> WatchedSink<'l, 'a, K, R> {
         }
     }
 
-    // Counts what was written, and tells it where a step more has begun, many lines more were written, or nothing was told for long.
+    // Counts what was written, and tells it where a step more has begun, many lines more were written, or nothing was told for long; but not
+    // where the lines of a log are taken, which are told instead.
     fn count(&mut self, bytes: &[u8])
         ensures { self.new.sink ≡ self.old.sink }
     {
         let _ = self.tally.write(bytes);
         let (steps, lines) = (self.tally.steps(), self.tally.lines());
+        if self.life.lines.get() > 0 {
+            return;
+        }
         let is_far = steps > self.steps || lines >= self.lines.saturating_add(WRITTEN);
         if is_far || self.life.is_due() {
             self.steps = steps;

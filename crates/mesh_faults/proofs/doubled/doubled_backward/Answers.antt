@@ -14,5 +14,5 @@ loop-i-preserved c =
       within = omega arith;
       small = small_back faces at (at - 1) c.in_ok-face_number.field-0 _ is inv.within number inv.small c.in_ok-put_face.ensures.small;
       firsts = firsts_back faces at (at - 1) c.in_ok-face_number.field-0 _ is inv.within number c.loop-i.seen c.put_face.new.seen inv.firsts (c.in_ok-put_face.ensures.seen);
-      found = doubled_back faces at (at - 1) c.in_ok-face_number.field-0 _ is inv.within number c.loop-i.seen c.loop-i.list.items c.put_face.new.faults.items inv.firsts inv.small c.in_ok-put_face.ensures.small inv.found c.in_ok-put_face.ensures.faults;
+      found = doubled_back faces at (at - 1) c.in_ok-face_number.field-0 _ is inv.within number c.args.most c.loop-i.seen c.loop-i.list.items c.put_face.new.faults.items inv.firsts inv.small c.in_ok-put_face.ensures.small inv.found c.in_ok-put_face.ensures.faults;
     }

@@ -1,4 +1,4 @@
-use Rattle.std.proofs.Common.{◌≡◌, ◌≤◌, ◌+◌, length, drop, reverse}
+use Rattle.std.proofs.Common.{◌≡◌, ◌≤◌, ◌+◌, length, take, drop}
 use Rattle.mesh_faults.specs.Doubled.{HasFirsts}
 use Rattle.mesh_faults.specs.ShapeFaults.{all_doubled_from}
 use Rattle.mesh_faults.proofs.Turns.{AreSmallFaces}
@@ -10,7 +10,7 @@ invariant-loop-i l = record {
   within : l.i ≤ length l.faces;
   small : AreSmallFaces (drop l.i l.faces);
   firsts : HasFirsts l.seen (l.i + 1) (drop l.i l.faces);
-  found : reverse l.list.items ≡ all_doubled_from (l.i + 1) (drop l.i l.faces);
+  found : l.list.items ≡ take l.most (all_doubled_from (l.i + 1) (drop l.i l.faces));
 }
 
 abbrev pub decreases-loop-i : goal.decreases-loop-i

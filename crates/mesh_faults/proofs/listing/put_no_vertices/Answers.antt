@@ -6,8 +6,8 @@ use Rattle.mesh_faults.proofs.listing.put_no_vertices.Goals as goal
 
 pub loop-i-preserved : goal.loop-i-preserved
 loop-i-preserved c =
-    piece_more (λ k f. no_vertices_in c.args.n k (corners_of f)) (no_vertices_from c.args.n) (λ k f fs. refl) (λ k. refl) c.args.faces.now c.loop-i.i c.in_ok-face_number.field-0 _ c.loop-i.faults.items c.put_no_vertices_in.new.faults.items _
+    piece_more c.args.most (λ k f. no_vertices_in c.args.n k (corners_of f)) (no_vertices_from c.args.n) (λ k f fs. refl) (λ k. refl) c.args.faces.now c.loop-i.i c.in_ok-face_number.field-0 _ c.loop-i.faults.items c.put_no_vertices_in.new.faults.items _
     c.loop-i-test.true c.in_ok-face_number.ensures c.loop-i.invariant c.in_ok-put_no_vertices_in.ensures
 
 pub returns : goal.returns
-returns c = pieces_end (λ k f. no_vertices_in c.args.n k (corners_of f)) (no_vertices_from c.args.n) (λ k f fs. refl) (λ k. refl) c.args.faces.now c.loop-i.i c.loop-i.faults.items _ c.loop-i-test.false c.loop-i.invariant
+returns c = pieces_end c.args.most (λ k f. no_vertices_in c.args.n k (corners_of f)) (no_vertices_from c.args.n) (λ k f fs. refl) (λ k. refl) c.args.faces.now c.loop-i.i c.loop-i.faults.items _ c.loop-i-test.false c.loop-i.invariant
