@@ -1,21 +1,9 @@
-//! Worked examples on the five edits, and on passes of them.
+//! Worked examples on the five edits.
 #![tactic(auto)]
 
 #[cfg(test)]
-mod checks;
-#[cfg(test)]
-mod collapses;
-#[cfg(test)]
-mod flips;
+mod edits;
 #[cfg(test)]
 mod limits;
 #[cfg(test)]
 mod meshes;
-#[cfg(test)]
-mod passes;
-#[cfg(test)]
-mod pinches;
-#[cfg(test)]
-mod splits;
-#[cfg(test)]
-mod zips;

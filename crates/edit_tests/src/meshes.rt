@@ -16,18 +16,6 @@ pub(crate) const TETRAHEDRON: [[i32; 3]; 4] = [[0, 0, 0], [4, 0, 0], [0, 4, 0], 
 
 pub(crate) const TETRAHEDRON_FACES: [[u32; 3]; 4] = [[1, 3, 2], [1, 2, 4], [2, 3, 4], [1, 4, 3]];
 
-// The faces of two tetrahedra, with the vertices 1 to 4 and 5 to 8.
-pub(crate) const TWO_TETRAHEDRA: [[u32; 3]; 8] = [
-    [1, 3, 2],
-    [1, 2, 4],
-    [2, 3, 4],
-    [1, 4, 3],
-    [5, 7, 6],
-    [5, 6, 8],
-    [6, 7, 8],
-    [5, 8, 7],
-];
-
 // A flat double pyramid over the triangle 1 2 3, in which 4 and 5 stand near the edge 1 2.
 pub(crate) const FLAT: [[i32; 3]; 5] = [
     [0, 0, 0],
@@ -44,36 +32,6 @@ pub(crate) const FLAT_FACES: [[u32; 3]; 6] = [
     [2, 1, 5],
     [3, 2, 5],
     [1, 3, 5],
-];
-
-// Two tetrahedra with the edge 1 2 in common, one where y and z are 0 or more and the other where they are 0 or less; and a third
-// far from them.
-pub(crate) const JOINED: [[i32; 3]; 10] = [
-    [0, 0, 0],
-    [8, 0, 0],
-    [0, 8, 0],
-    [0, 0, 8],
-    [0, -8, 0],
-    [0, 0, -8],
-    [50, 0, 0],
-    [58, 0, 0],
-    [50, 8, 0],
-    [50, 0, 8],
-];
-
-pub(crate) const JOINED_FACES: [[u32; 3]; 12] = [
-    [1, 3, 2],
-    [1, 2, 4],
-    [2, 3, 4],
-    [1, 4, 3],
-    [1, 5, 2],
-    [1, 2, 6],
-    [2, 5, 6],
-    [1, 6, 5],
-    [7, 9, 8],
-    [7, 8, 10],
-    [8, 9, 10],
-    [7, 10, 9],
 ];
 
 // Ends the test where what is found is not what is wanted. One call costs the prover less than an assertion in its place.
@@ -104,21 +62,6 @@ pub(crate) fn lists_at(
     Ok(lists)
 }
 
-// The mesh of these lists, which may meet itself.
-pub(crate) fn any_mesh_at(
-    alloc: Global,
-    points: &[[i32; 3]],
-    faces: &[[u32; 3]],
-    rt: &impl Abort,
-) -> Result<PlainMesh, NoMemory>
-    ensures { IfOk result (λ s. IsClosed (⟦<PlainMesh as Surface>⟧.mesh s)) }
-{
-    let lists = lists_at(alloc, points, faces, rt)?;
-    let shaped = shape(alloc, Scale::Standard, &lists);
-    assert!(rt; shaped.is_ok());
-    PlainMesh::of(alloc, Scale::Standard, &lists)
-}
-
 // The mesh of these lists, which is clear.
 pub(crate) fn mesh_at(
     alloc: Global,
@@ -129,7 +72,10 @@ pub(crate) fn mesh_at(
     ensures closed { IfOk result (λ s. IsClosed (⟦<PlainMesh as Surface>⟧.mesh s)) }
     ensures clear { IfOk result (λ s. IsClearMesh (⟦<PlainMesh as Surface>⟧.mesh s)) }
 {
-    let mesh = any_mesh_at(alloc, points, faces, rt)?;
+    let lists = lists_at(alloc, points, faces, rt)?;
+    let shaped = shape(alloc, Scale::Standard, &lists);
+    assert!(rt; shaped.is_ok());
+    let mesh = PlainMesh::of(alloc, Scale::Standard, &lists)?;
     let found = first_meeting(alloc, &mesh)?;
     assert!(rt; found.is_none());
     Ok(mesh)

@@ -1,8 +1,6 @@
-//! Worked examples on the pairs of an edge and a face, and on how a step is taken.
+//! Worked examples on impulses, and on lists that are kept from step to step.
 #![tactic(auto)]
 
-#[cfg(test)]
-mod choices;
 #[cfg(test)]
 mod impulses;
 #[cfg(test)]
@@ -11,7 +9,3 @@ mod kept_lists;
 mod meshes;
 #[cfg(test)]
 mod same;
-#[cfg(test)]
-mod scans;
-#[cfg(test)]
-mod zones;

@@ -1,6 +1,6 @@
 //! Meshes for the examples.
 use grid_base::{NoMemory, Point};
-use mesh_base::{MeshLists, Points, Scale, Surface, Triangles, VertexId};
+use mesh_base::{MeshLists, Points, Scale, Triangles};
 use mesh_plain::{PlainMesh, shape};
 use std::alloc::Global;
 use std::process::Abort;
@@ -35,42 +35,52 @@ fn lists_of(alloc: Global, points: &[[i32; 3]], faces: &[[u32; 3]]) -> Result<Me
         points: Points::new(alloc),
         faces: Triangles::new(alloc),
     };
+    put(&mut lists, points, faces, [0; 2])?;
+    Ok(lists)
+}
+
+// Puts points to the lists, so far to the side and up, and faces by the numbers that their corners have among these.
+fn put(
+    lists: &mut MeshLists,
+    points: &[[i32; 3]],
+    faces: &[[u32; 3]],
+    [x, y]: [i32; 2],
+) -> Result<(), NoMemory> {
+    let before = lists.points.len() as u32;
     for p in points {
-        if let Some(point) = Point::new(p[0], p[1], p[2]) {
+        if let Some(point) = Point::new(p[0].wrapping_add(x), p[1].wrapping_add(y), p[2]) {
             lists.points.push(point)?;
         }
     }
     for f in faces {
-        lists.faces.push(*f)?;
+        lists.faces.push(f.map(|v| v.wrapping_add(before)))?;
     }
-    Ok(lists)
+    Ok(())
 }
 
 // A mesh of good shape.
-pub(crate) fn mesh_at(
-    alloc: Global,
-    points: &[[i32; 3]],
-    faces: &[[u32; 3]],
-    rt: &impl Abort,
-) -> Result<PlainMesh, NoMemory> {
-    let lists = lists_of(alloc, points, faces)?;
-    let shaped = shape(alloc, Scale::Standard, &lists);
+fn mesh_of(alloc: Global, lists: &MeshLists, rt: &impl Abort) -> Result<PlainMesh, NoMemory> {
+    let shaped = shape(alloc, Scale::Standard, lists);
     assert!(rt; shaped.is_ok());
-    PlainMesh::of(alloc, Scale::Standard, &lists)
+    PlainMesh::of(alloc, Scale::Standard, lists)
 }
 
-// The two tetrahedra beside each other, so far down, the first vertex solid or not.
-pub(crate) fn beside(
-    alloc: Global,
-    down: i32,
-    solid: bool,
-    rt: &impl Abort,
-) -> Result<PlainMesh, NoMemory> {
-    let points = BESIDE.map(|p| [p[0], p[1].wrapping_sub(down), p[2]]);
-    let mut mesh = mesh_at(alloc, &points, &BESIDE_SIDES, rt)?;
-    if solid {
-        assert!(rt; mesh.point(VertexId(1)).is_some());
-        mesh.make_solid(VertexId(1))?;
+// The two tetrahedra beside each other.
+pub(crate) fn beside(alloc: Global, rt: &impl Abort) -> Result<PlainMesh, NoMemory> {
+    let lists = lists_of(alloc, &BESIDE, &BESIDE_SIDES)?;
+    mesh_of(alloc, &lists, rt)
+}
+
+const TETRAHEDRON: [[i32; 3]; 4] = [[0, 0, 0], [48, 0, 0], [0, 48, 0], [0, 0, 48]];
+
+const SIDES: [[u32; 3]; 4] = [[1, 3, 2], [1, 2, 4], [2, 3, 4], [1, 4, 3]];
+
+// So many tetrahedra, in rows of eight.
+pub(crate) fn many(alloc: Global, count: i32, rt: &impl Abort) -> Result<PlainMesh, NoMemory> {
+    let mut lists = lists_of(alloc, &[], &[])?;
+    for k in 0..count {
+        let at = [(k % 8).wrapping_mul(100), (k / 8).wrapping_mul(100)];
+        put(&mut lists, &TETRAHEDRON, &SIDES, at)?;
     }
-    Ok(mesh)
+    mesh_of(alloc, &lists, rt)
 }

@@ -1,7 +1,7 @@
 use Rattle.std.proofs.Common.{◌≡◌, [], ◌∷◌, map, sym, ◌∙◌}
 use Rattle.std.specs.FinMap as finite
 use Rattle.pair_scan.proofs.Lists.{made_all, each_once}
-use Rattle.step_tests.proofs.scans.generated.shifts_by.Goals as goal
+use Rattle.step_tests.proofs.kept_lists.shifts_of.Goals as goal
 
 pub returns-clause-named : goal.returns-clause-named
 returns-clause-named g c =
