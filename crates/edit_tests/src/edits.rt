@@ -3,7 +3,8 @@ ghost use Rattle.mesh_base.specs.Placements.{IsClearMesh};
 ghost use Rattle.mesh_base.specs.Sides.{IsClosed};
 
 use crate::meshes::{
-    FLAT, FLAT_FACES, TETRAHEDRON, TETRAHEDRON_FACES, assert_same, counts, has_faces, mesh_at,
+    FLAT, FLAT_FACES, TETRAHEDRON, TETRAHEDRON_FACES, assert_same, counts, has_faces, lists_at,
+    mesh_of,
 };
 use edit_any::edit;
 use edit_base::{Asked, Edit};
@@ -797,11 +798,24 @@ const CASES: [Case; 16] = [
     (&POINTS, &FACES, &OF_BOXES),
 ];
 
+fn assert_case(
+    rt: &impl Abort,
+    alloc: Global,
+    points: &[[i32; 3]],
+    faces: &[[u32; 3]],
+    steps: &[Step],
+) -> Result<(), NoMemory> {
+    let lists = lists_at(alloc, points, faces, rt)?;
+    let next_vertex = (points.len() as u32).wrapping_add(1);
+    let next_face = (faces.len() as u32).wrapping_add(1);
+    let mut mesh = mesh_of(alloc, &lists, next_vertex, next_face, rt)?;
+    assert_steps(rt, alloc, &mut mesh, steps)
+}
+
 #[test]
 fn edits_are_done_or_refused_and_leave_the_mesh(rt: HostRuntime) -> Result<(), Fail> {
     for (points, faces, steps) in &CASES {
-        let mut mesh = mesh_at(rt.alloc(), points, faces, &rt)?;
-        assert_steps(&rt, rt.alloc(), &mut mesh, steps)?;
+        assert_case(&rt, rt.alloc(), points, faces, steps)?;
     }
     Ok(())
 }

@@ -4,7 +4,7 @@ ghost use Rattle.mesh_base.specs.Placements.{IsClearMesh};
 ghost use Rattle.mesh_base.specs.Sides.{IsClosed};
 
 use edit_base::{Edit, Why};
-use grid_base::{NoMemory, Point};
+use grid_base::{ID_MAX, NoMemory, Point};
 use mesh_base::{FaceId, MeshLists, Points, Scale, Surface, Triangles, VertexId};
 use mesh_plain::{PlainMesh, shape};
 use pair_scan::first_meeting;
@@ -39,7 +39,7 @@ pub(crate) fn assert_same<T: PartialEq + Debug>(rt: &impl Abort, found: &T, want
     assert_eq!(rt; found, wanted);
 }
 
-pub(crate) fn point(p: [i32; 3], rt: &impl Abort) -> Point {
+fn point(p: [i32; 3], rt: &impl Abort) -> Point {
     Point::new(p[0], p[1], p[2]).expect(rt, "a point in the box")
 }
 
@@ -62,20 +62,22 @@ pub(crate) fn lists_at(
     Ok(lists)
 }
 
-// The mesh of these lists, which is clear.
-pub(crate) fn mesh_at(
+// The mesh of these lists, which is clear, with these next ids.
+pub(crate) fn mesh_of(
     alloc: Global,
-    points: &[[i32; 3]],
-    faces: &[[u32; 3]],
+    lists: &MeshLists,
+    next_vertex: u32,
+    next_face: u32,
     rt: &impl Abort,
 ) -> Result<PlainMesh, NoMemory>
     ensures closed { IfOk result (λ s. IsClosed (⟦<PlainMesh as Surface>⟧.mesh s)) }
     ensures clear { IfOk result (λ s. IsClearMesh (⟦<PlainMesh as Surface>⟧.mesh s)) }
 {
-    let lists = lists_at(alloc, points, faces, rt)?;
-    let shaped = shape(alloc, Scale::Standard, &lists);
+    let shaped = shape(alloc, Scale::Standard, lists);
     assert!(rt; shaped.is_ok());
-    let mesh = PlainMesh::of(alloc, Scale::Standard, &lists)?;
+    assert!(rt; lists.points.len() < next_vertex as usize && next_vertex <= ID_MAX + 1);
+    assert!(rt; lists.faces.len() < next_face as usize && next_face <= ID_MAX + 1);
+    let mesh = PlainMesh::of_numbered(alloc, Scale::Standard, lists, next_vertex, next_face)?;
     let found = first_meeting(alloc, &mesh)?;
     assert!(rt; found.is_none());
     Ok(mesh)
