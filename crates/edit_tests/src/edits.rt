@@ -798,6 +798,14 @@ const CASES: [Case; 16] = [
     (&POINTS, &FACES, &OF_BOXES),
 ];
 
+// The id that comes next after so many.
+fn next_after(count: usize) -> u32 {
+    match u32::try_from(count) {
+        Ok(count) => count.wrapping_add(1),
+        Err(_) => 0,
+    }
+}
+
 fn assert_case(
     rt: &impl Abort,
     alloc: Global,
@@ -806,9 +814,13 @@ fn assert_case(
     steps: &[Step],
 ) -> Result<(), NoMemory> {
     let lists = lists_at(alloc, points, faces, rt)?;
-    let next_vertex = (points.len() as u32).wrapping_add(1);
-    let next_face = (faces.len() as u32).wrapping_add(1);
-    let mut mesh = mesh_of(alloc, &lists, next_vertex, next_face, rt)?;
+    let mut mesh = mesh_of(
+        alloc,
+        &lists,
+        next_after(points.len()),
+        next_after(faces.len()),
+        rt,
+    )?;
     assert_steps(rt, alloc, &mut mesh, steps)
 }
 

@@ -181,7 +181,7 @@ fn assert_steps<S: Surface>(alloc: Global, mesh: &mut S, rt: &impl Abort) -> Res
 
 #[test]
 fn a_list_is_kept_from_step_to_step(rt: HostRuntime) -> Result<(), Fail> {
-    let mut mesh = many(rt.alloc(), 130, &rt)?;
+    let mut mesh = many(rt.alloc(), &rt)?;
     assert_steps(rt.alloc(), &mut mesh, &rt)?;
     Ok(())
 }

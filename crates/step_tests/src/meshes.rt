@@ -35,18 +35,18 @@ fn lists_of(alloc: Global, points: &[[i32; 3]], faces: &[[u32; 3]]) -> Result<Me
         points: Points::new(alloc),
         faces: Triangles::new(alloc),
     };
-    put(&mut lists, points, faces, [0; 2])?;
+    put(&mut lists, points, faces, [0; 2], 0)?;
     Ok(lists)
 }
 
-// Puts points to the lists, so far to the side and up, and faces by the numbers that their corners have among these.
+// Puts points to the lists, so far to the side and up, behind so many, and faces by the numbers of their corners among these.
 fn put(
     lists: &mut MeshLists,
     points: &[[i32; 3]],
     faces: &[[u32; 3]],
     [x, y]: [i32; 2],
+    before: u32,
 ) -> Result<(), NoMemory> {
-    let before = lists.points.len() as u32;
     for p in points {
         if let Some(point) = Point::new(p[0].wrapping_add(x), p[1].wrapping_add(y), p[2]) {
             lists.points.push(point)?;
@@ -75,12 +75,16 @@ const TETRAHEDRON: [[i32; 3]; 4] = [[0, 0, 0], [48, 0, 0], [0, 48, 0], [0, 0, 48
 
 const SIDES: [[u32; 3]; 4] = [[1, 3, 2], [1, 2, 4], [2, 3, 4], [1, 4, 3]];
 
-// So many tetrahedra, in rows of eight.
-pub(crate) fn many(alloc: Global, count: i32, rt: &impl Abort) -> Result<PlainMesh, NoMemory> {
+// Seventeen rows of eight tetrahedra.
+pub(crate) fn many(alloc: Global, rt: &impl Abort) -> Result<PlainMesh, NoMemory> {
     let mut lists = lists_of(alloc, &[], &[])?;
-    for k in 0..count {
-        let at = [(k % 8).wrapping_mul(100), (k / 8).wrapping_mul(100)];
-        put(&mut lists, &TETRAHEDRON, &SIDES, at)?;
+    let mut before: u32 = 0;
+    for row in 0..17_i32 {
+        for column in 0..8_i32 {
+            let at = [column.wrapping_mul(100), row.wrapping_mul(100)];
+            put(&mut lists, &TETRAHEDRON, &SIDES, at, before)?;
+            before = before.wrapping_add(4);
+        }
     }
     mesh_of(alloc, &lists, rt)
 }
