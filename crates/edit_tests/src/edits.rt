@@ -3,8 +3,8 @@ ghost use Rattle.mesh_base.specs.Placements.{IsClearMesh};
 ghost use Rattle.mesh_base.specs.Sides.{IsClosed};
 
 use crate::meshes::{
-    FLAT, FLAT_FACES, TETRAHEDRON, TETRAHEDRON_FACES, assert_same, counts, has_faces, lists_at,
-    mesh_of,
+    FLAT, FLAT_FACES, TETRAHEDRON, TETRAHEDRON_FACES, assert_bytes, assert_same, counts, has_faces,
+    lists_at, mesh_of,
 };
 use edit_any::edit;
 use edit_base::{Asked, Edit};
@@ -363,10 +363,6 @@ fn told<S: Surface>(alloc: Global, mesh: &mut S, step: &Step) -> Result<Vec<u8>,
 {
     let done = edit(alloc, mesh, 6, asked(step))?;
     line_of(alloc, asked(step), done)
-}
-
-fn assert_bytes(rt: &impl Abort, found: &[u8], wanted: &[u8]) {
-    assert_eq!(rt; found, wanted);
 }
 
 fn assert_step<S: Surface>(

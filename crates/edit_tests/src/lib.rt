@@ -1,4 +1,4 @@
-//! Worked examples on the five edits.
+//! Worked examples on the five edits, and on passes of them.
 #![tactic(auto)]
 
 #[cfg(test)]
@@ -7,3 +7,5 @@ mod edits;
 mod limits;
 #[cfg(test)]
 mod meshes;
+#[cfg(test)]
+mod passes;

@@ -3,8 +3,10 @@ ghost use Rattle.std.specs.Prelude.{◌≡◌, true, IsTrue, IfOk};
 ghost use Rattle.grid_base.specs.declared.TheConstants.{BOX};
 ghost use Rattle.grid_base.specs.Points.{displacement_of, is_within};
 ghost use Rattle.grid_base.specs.Triples.{plus};
-ghost use Rattle.mesh_base.specs.Placements.{rest_positions};
+ghost use Rattle.mesh_base.specs.Mesh.{is_solid};
+ghost use Rattle.mesh_base.specs.Placements.{origin, rest_positions};
 ghost use Rattle.mesh_base.specs.Shifts.{NameLive, end_in_box};
+ghost use Rattle.pair_scan.specs.Solids.{SolidsRest};
 
 use crate::meshes::{beside, many};
 use crate::same::assert_same;
@@ -16,13 +18,15 @@ use std::process::Abort;
 use std::test::Fail;
 use step_lists::{KeptList, StepLists};
 
-// A shift of a vertex along x.
+// A shift of a vertex along x, and none of a solid one.
 fn shift_of<S: Surface>(mesh: &S, v: VertexId, x: i32, rt: &impl Abort) -> ShiftOf
     ensures named { result.v ≡ v }
     ensures in_box { is_within BOX
         (plus (rest_positions (S.mesh mesh.now) v) (displacement_of result.by)) ≡ true }
+    ensures solid { is_solid (S.mesh mesh.now) v ≡ true → displacement_of result.by ≡ origin }
 {
     let from = mesh.point(v).expect(rt, "a live vertex");
+    let x = if mesh.solid(v) { 0 } else { x };
     let by = Shift::new(x, 0, 0).expect(rt, "a shift within the limit");
     assert!(rt; moved(from, by).is_some());
     ShiftOf { v, by }
@@ -33,7 +37,7 @@ fn along(xs: &[i32; 8], v: VertexId) -> i32 {
     xs[(v.0 % 8) as usize]
 }
 
-fn shifts_of<S: Surface>(
+pub(crate) fn shifts_of<S: Surface>(
     alloc: Global,
     mesh: &S,
     xs: &[i32; 8],
@@ -41,6 +45,7 @@ fn shifts_of<S: Surface>(
 ) -> Result<Shifts, NoMemory>
     ensures named { IfOk result (NameLive (S.mesh mesh.now)) }
     ensures in_box { IfOk result (λ by. IsTrue (end_in_box (S.mesh mesh.now) by)) }
+    ensures solid { IfOk result (SolidsRest (S.mesh mesh.now)) }
 {
     let ids = live_vertices(alloc, mesh)?;
     let mut by = Shifts::new(alloc);

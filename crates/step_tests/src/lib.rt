@@ -1,6 +1,8 @@
-//! Worked examples on impulses, and on lists that are kept from step to step.
+//! Worked examples on how a step is taken, and on lists that are kept from step to step.
 #![tactic(auto)]
 
+#[cfg(test)]
+mod choices;
 #[cfg(test)]
 mod impulses;
 #[cfg(test)]
