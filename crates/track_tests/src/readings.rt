@@ -33,7 +33,7 @@ fn options_of(command: &Command) -> Options {
             decimals,
             ..
         } => (*scale, *decimals, None),
-        Command::Try { cubes, key } => (Scale::Standard, *cubes as u8, Some(*key)),
+        Command::Try { cubes, key } => (Scale::Standard, *cubes, Some(*key)),
         Command::Measure(files) | Command::Prove(files) => of_files(files, None),
         Command::Verify(given) => of_files(&given.files, None),
         Command::Replay(given) => of_files(&given.files, given.only),
