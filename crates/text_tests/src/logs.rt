@@ -134,7 +134,8 @@ const NO_LOG_NUMBER: &[u8] =
 |flip 1 2147483649\n|flip 2 2\n|collapse 0 2 0 0 0\n|collapse 1 2 00 0 0\n|zip 1 2 3 4 4\n\
 |zip 1 2 4 3 0\n|no flip 1 2 jump\n|no flip 1 2 jump 3 4\n|no flip 2 1 edge\n\
 |no pinch 1 hit 2 1 3\n|no zip 1 2 3 4 Edge\n|no split 1 2 solid\n|no pinch 1 solid 1\n\
-|refused use 3 solid 1\n|refused use 3 solid 1 2 3\n|refused steps 3 nesting\n|refused mesh 3 nesting\n|block 2 1\n|block 1 2 2\n|block 0 1\n\
+|refused use 3 solid 1\n\
+|refused use 3 solid 1 2 3\n|refused steps 3 nesting\n|refused mesh 3 nesting\n|block 2 1\n|block 1 2 2\n|block 0 1\n\
 |block 1 2 \n|block 1 2147483649\n|pinch 1 0 0 0 2 0 0 268435457\n|pinch 1 0 0 -0 2 0 0 0\n";
 
 // Second lines, with `|` between them, by the reason why they are no line of the version that is written.

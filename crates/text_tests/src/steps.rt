@@ -6,7 +6,9 @@ use std::test::Fail;
 use step_text::read_steps;
 
 const FORMS: &[u8] =
-    b"set depth 0\nset passes 100\nset zones 0\n\n# slower\r\nset halvings 27\n\tshift all -40 0 7 # all\nshift 2147483648 -40 -0 07\nstep\nsplit 0\nsplit 1073741824\nflip # edges\ncollapse 7\nzip 0\npinch\nsave\nsolid 12\ngroup\n group # inner\nclose\nclose\nfit # all";
+    b"set depth 0\nset passes 100\nset zones 0\n\n# slower\r\nset halvings 27\n\tshift all -40 0 7 # all\n\
+shift 2147483648 -40 -0 07\nstep\nsplit 0\nsplit 1073741824\nflip # edges\ncollapse 7\nzip 0\n\
+pinch\nsave\nsolid 12\ngroup\n group # inner\nclose\nclose\nfit # all";
 
 // Its lines, and the words in which what they ask for is told.
 const TOLD: &[u8] = b"1 SetDepth(0)\n2 SetPasses(100)\n3 SetZones(false)\n6 SetHalvings(27)\n\
